@@ -1,0 +1,6 @@
+pub mod Chains
+pub mod Rows
+pub mod Words
+pub mod Steps
+pub mod Reading
+pub mod OneAnswer

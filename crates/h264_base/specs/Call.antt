@@ -1,0 +1,26 @@
+-- What a sink is told.
+use Rattle.std.specs.Prelude.{◌≡◌, ℕ, ℤ, List, [], ◌∷◌, ◌++◌}
+use Rattle.h264_base.specs.declared.element_name.ElementName.{ElementName}
+use Rattle.h264_base.specs.declared.mode.SliceType.{SliceType}
+
+-- a call of a sink
+pub data Call : Type 0 where
+  -- a unit: the byte of the stream where it begins, nal_unit_type, nal_ref_idc, and its length in bytes
+  OfUnit : ℕ → ℕ → ℕ → ℕ → Call
+  -- a slice: the byte where its unit begins, first_mb_in_slice, its type, frame_num, and the picture's order count
+  OfSlice : ℕ → ℕ → SliceType → ℕ → ℤ → Call
+  -- an element: its name, the stream bit where it begins, and its value
+  OfElement : ElementName → ℕ → ℤ → Call
+  -- a frame: its order count, its width and height in luma samples, and the rows of Y, then Cb, then Cr
+  OfFrame : ℤ → ℕ → ℕ → List ℕ → Call
+
+-- from old to new a sink took these calls, whatever it had taken before
+pub record Tells {S : Type 0} (took : S → List Call → Type 0) (old new : S) (calls : List Call) : Type 0 where
+  pub told : (before : List Call) → took old before → took new (before ++ calls)
+
+-- the sink took only the first of these calls
+pub record TellsFront {S : Type 0} (took : S → List Call → Type 0) (old new : S) (calls : List Call) : Type 0 where
+  pub front : List Call
+  pub rest : List Call
+  pub whole : calls ≡ front ++ rest
+  pub tells : Tells took old new front

@@ -1,0 +1,10 @@
+pub mod Rule
+pub mod ElementName
+pub mod Feature
+pub mod Call
+pub mod Body
+pub mod Table
+pub mod Word
+pub mod Grammar
+pub mod Run
+pub mod Meets
