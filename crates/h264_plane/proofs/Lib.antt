@@ -1,0 +1,4 @@
+pub mod Places
+pub mod Runs
+pub mod Blocks
+pub mod Frames

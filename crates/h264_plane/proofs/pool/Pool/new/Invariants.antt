@@ -1,0 +1,9 @@
+use Rattle.std.proofs.Common.{◌≡◌, ℕ, ◌<◌, length}
+use Rattle.h264_plane.specs.Frames.{frame_at, IsFrame}
+use Rattle.h264_plane.proofs.pool.Pool.new.Given as goal
+
+abbrev pub invariant-loop : goal.invariant-loop
+invariant-loop l = record {
+  count : length l.frames.items ≡ l.counter;
+  size : (k : ℕ) → k < l.counter → IsFrame (frame_at l.frames.items k) l.width l.height;
+}
