@@ -33,8 +33,7 @@ impl Model for Splitter {
 }
 
 impl Splitter {
-    ghost use Rattle.std.specs.Prelude.{◌≡◌, ◌+◌, ◌<◌, ◌≤◌, ◌↔◌, length, IsOk, OnOk, IfOk, IfErr, IfSome, IfNone, IsSome, IsTrue, IsFalse, Ok, Err, None};
-    ghost use Rattle.h264_units.specs.Stream.{input_limit};
+    ghost use Rattle.std.specs.Prelude.{◌≡◌, ◌+◌, ◌<◌, ◌↔◌, length, OnOk, IfOk, IfErr, IfSome, IfNone, IsSome, IsTrue, IsFalse, Ok, Err, None};
     ghost use Rattle.h264_units.specs.Splitting.{at_start, IsWithin, Pushed, TakesNone, PushStops, Taken, Finished, FinishStops};
 
     /// A splitter before the first byte. It takes no memory.

@@ -1,0 +1,122 @@
+-- What the row at the front of the next bits says of the word that stands there.
+use Rattle.std.proofs.Common.{◌≡◌, ℕ, ◌+◌, ◌*◌, ◌-◌, ◌/◌, ◌^◌, ◌<◌, ◌≤◌, pos, Bool, true, false, List, [], ◌∷◌, length, Option, Some, None, refl, ap, sym, ◌∙◌, arith, if◌then◌else◌, inl, inr}
+use Rattle.std.proofs.lemmas.Bool.{eqb-true, eq-eqb, le-leb, cases_lt}
+use Rattle.std.proofs.lemmas.Nat.{shr-shr}
+use Rattle.std.specs.Option.{option_map}
+use Rattle.h264_base.specs.Table.{Row, IsRow, is_prefix}
+use Rattle.h264_base.specs.Word.{Words, number_at, rows_at, value_at}
+use Rattle.h264_base.proofs.Rows.{row-found, found-row}
+use Rattle.h264_base.proofs.Chains.{map-some}
+use Rattle.h264_tables.specs.declared.front.Entry.{Entry}
+use Rattle.h264_tables.specs.Entry.{entry_of}
+use Rattle.h264_tables.specs.Front.{begins, front_of}
+use Rattle.h264_tables.specs.declared.table.Table.{Table}
+use Rattle.h264_tables.specs.Table.{rows_of, rows_of-free, code_table}
+use Rattle.h264_tables.proofs.Rows.{rows_of-words, IsShort, row-short, front-row}
+use Rattle.h264_tables.proofs.Prefixes.{one-row}
+use Rattle.h264_bits.specs.Peek.{peek_at}
+use Rattle.h264_bits.proofs.Peeks.{peek-top, number-inside, number-outside}
+
+some-same : (a b : ℕ) → ◌≡◌ {A = Option ℕ} (Some a) (Some b) → a ≡ b
+some-same a b e = cc
+
+-- bits that begin with a word of the bytes spell it
+begins-stands : (r : Row) (bytes : List ℕ) (i : ℕ) → r.length ≤ 16 → i + r.length ≤ 8 * length bytes → begins 16 r (peek_at 16 bytes i) ≡ true → number_at r.length bytes i ≡ Some r.bits
+unfolding begins
+begins-stands r bytes i few inside e =
+    let b : peek_at 16 bytes i / 2 ^ (16 - r.length) ≡ r.bits = eqb-true _ _ e in
+    number-inside r.length bytes i inside ∙ ap Some (sym (peek-top r.length 16 bytes i few) ∙ b)
+
+-- a word that stands there stands in the bytes, and the bits begin with it
+stands-within : (r : Row) (bytes : List ℕ) (i : ℕ) → i ≤ 8 * length bytes → number_at r.length bytes i ≡ Some r.bits → i + r.length ≤ 8 * length bytes
+stands-within r bytes i start e = elim (cases_lt (8 * length bytes) (i + r.length)) [
+  | inl past ↦ absurd (let z : ◌≡◌ {A = Option ℕ} (Some r.bits) None = sym e ∙ number-outside r.length bytes i start past in cc)
+  | inr inside ↦ inside
+]
+
+stands-begins : (r : Row) (bytes : List ℕ) (i : ℕ) → r.length ≤ 16 → i ≤ 8 * length bytes → number_at r.length bytes i ≡ Some r.bits → begins 16 r (peek_at 16 bytes i) ≡ true
+unfolding begins
+stands-begins r bytes i few start e =
+    let inside = stands-within r bytes i start e in
+    eq-eqb _ _ (peek-top r.length 16 bytes i few ∙ some-same _ _ (sym (number-inside r.length bytes i inside) ∙ e))
+
+-- no row of the bits, no row at all
+front-none : (rows : List Row) (y : ℕ) (r : Row) → front_of 16 rows y ≡ None → IsRow rows r → begins 16 r y ≡ true → ⊥
+unfolding front_of
+front-none [] y r e m b = m
+front-none (q ∷ rows) y r e (inl same) b = let f : begins 16 q y ≡ true = ap (λ (p : Row). begins 16 p y) same ∙ b in let g : ◌≡◌ {A = Option Row} (Some q) None = (rw f at e) in cc
+front-none (q ∷ rows) y r e (inr m) b = go (begins 16 q y) refl e (λ g. front-none rows y r g m b)
+  where
+    go : (c : Bool) → begins 16 q y ≡ c → (if c then Some q else front_of 16 rows y) ≡ None → (front_of 16 rows y ≡ None → ⊥) → ⊥
+    go true f g more = let h : ◌≡◌ {A = Option Row} (Some q) None = g in cc
+    go false f g more = more g
+
+-- of two words that the bits begin with the shorter is the first part of the other
+shorter : (r q : Row) (y : ℕ) → r.length ≤ 16 → q.length ≤ r.length → begins 16 r y ≡ true → begins 16 q y ≡ true → is_prefix q r ≡ true
+unfolding begins is_prefix
+shorter r q y few less e f =
+    let a : y / 2 ^ (16 - r.length) ≡ r.bits = eqb-true _ _ e in
+    let b : y / 2 ^ (16 - q.length) ≡ q.bits = eqb-true _ _ f in
+    let m : 16 - q.length ≡ 16 - r.length + (r.length - q.length) = omega arith in
+    rw (le-leb q.length r.length less) (eq-eqb _ _ (rw (← a, shr-shr, ← m) b))
+
+nothing : (rows : List Row) (bytes : List ℕ) (i : ℕ) → ((q : Row) → IsRow rows q → number_at q.length bytes i ≡ Some q.bits → ⊥) → rows_at rows bytes i ≡ None
+nothing rows bytes i h = go (rows_at rows bytes i) refl
+  where
+    go : (o : Option (ℕ × ℕ)) → rows_at rows bytes i ≡ o → rows_at rows bytes i ≡ None
+    go None e = e
+    go (Some x) e = let f = found-row rows bytes i x.0 x.1 e in absurd (h f.row f.is_row f.stands)
+
+module _ (table : Table) (bytes : List ℕ) (i : ℕ) where
+  short : (r : Row) → IsRow (rows_of table) r → IsShort r
+  short r m = row-short (rows_of table) r (rows_of-words table) m
+
+  no_value : rows_at (rows_of table) bytes i ≡ None → value_at (Words (code_table table)) bytes i ≡ None
+  unfolding value_at
+  no_value e = rw e refl
+
+  -- the row's word stands there
+  pub word-inside : (r : Row) → front_of 16 (rows_of table) (peek_at 16 bytes i) ≡ Some r → i + r.length ≤ 8 * length bytes → value_at (Words (code_table table)) bytes i ≡ Some (pos r.value, i + r.length)
+  unfolding value_at
+  word-inside r e inside =
+      let f = front-row 16 (rows_of table) (peek_at 16 bytes i) r e in
+      let few = (short r f.0).few in
+      rw (row-found (rows_of table) r bytes i (rows_of-free table) f.0 (begins-stands r bytes i few inside f.1)) refl
+
+  -- the bytes end in it
+  pub word-outside : (r : Row) → front_of 16 (rows_of table) (peek_at 16 bytes i) ≡ Some r → i ≤ 8 * length bytes → 8 * length bytes < i + r.length → value_at (Words (code_table table)) bytes i ≡ None
+  word-outside r e start past =
+      let f = front-row 16 (rows_of table) (peek_at 16 bytes i) r e in
+      let few = (short r f.0).few in
+      no_value (nothing (rows_of table) bytes i (λ q m stands.
+      let inside = stands-within q bytes i start stands in
+      let b = stands-begins q bytes i (short q m).few start stands in
+      let same = one-row (rows_of table) q r (rows_of-free table) m f.0 (shorter r q (peek_at 16 bytes i) few (omega arith) f.1 b) in
+      let e = ap (λ (p : Row). p.length) same in
+      absurd (omega arith)))
+
+  -- no row's word stands there
+  pub word-none : front_of 16 (rows_of table) (peek_at 16 bytes i) ≡ None → i ≤ 8 * length bytes → value_at (Words (code_table table)) bytes i ≡ None
+  word-none e start = no_value (nothing (rows_of table) bytes i (λ q m stands. front-none (rows_of table) (peek_at 16 bytes i) q e m (stands-begins q bytes i (short q m).few start stands)))
+
+-- the same by what was found
+module _ (table : Table) (bytes : List ℕ) (i y : ℕ) (is : y ≡ peek_at 16 bytes i) where
+  pub entry-inside : (e : Entry) → Some e ≡ option_map entry_of (front_of 16 (rows_of table) y) → i + e.length ≤ 8 * length bytes → value_at (Words (code_table table)) bytes i ≡ Some (pos e.value, i + e.length)
+  entry-inside e f inside =
+      let r = map-some entry_of (front_of 16 (rows_of table) y) e (sym f) in
+      let l : r.0.length ≡ e.length = ap (λ (x : Entry). x.length) r.2 in
+      let v : r.0.value ≡ e.value = ap (λ (x : Entry). x.value) r.2 in
+      word-inside table bytes i r.0 (sym (ap (λ k. front_of 16 (rows_of table) k) is) ∙ r.1) (omega arith) ∙ ap (λ (x : Entry). Some (pos x.value, i + x.length)) r.2
+
+  pub entry-outside : (e : Entry) → Some e ≡ option_map entry_of (front_of 16 (rows_of table) y) → i ≤ 8 * length bytes → 8 * length bytes < i + e.length → value_at (Words (code_table table)) bytes i ≡ None
+  entry-outside e f start past =
+      let r = map-some entry_of (front_of 16 (rows_of table) y) e (sym f) in
+      let l : r.0.length ≡ e.length = ap (λ (x : Entry). x.length) r.2 in
+      word-outside table bytes i r.0 (sym (ap (λ k. front_of 16 (rows_of table) k) is) ∙ r.1) start (omega arith)
+
+  pub entry-none : None ≡ option_map entry_of (front_of 16 (rows_of table) y) → i ≤ 8 * length bytes → value_at (Words (code_table table)) bytes i ≡ None
+  entry-none f start = word-none table bytes i (sym (ap (λ k. front_of 16 (rows_of table) k) is) ∙ none (front_of 16 (rows_of table) y) f) start
+    where
+      none : (o : Option Row) → None ≡ option_map entry_of o → o ≡ None
+      none None e = refl
+      none (Some r) e = absurd (cc)

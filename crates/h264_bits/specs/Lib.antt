@@ -1,0 +1,7 @@
+pub mod Peek
+pub mod Taken
+pub mod Truncated
+pub mod Seen
+pub mod Supports
+pub mod Forms
+pub mod Chunk

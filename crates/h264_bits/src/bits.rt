@@ -1,0 +1,272 @@
+//! The bits of an RBSP, read one code word after another.
+#![tactic(auto)]
+
+ghost use Rattle.std.specs.Prelude.{◌≡◌, ℕ, ℤ, pos, neg_ℤ, ◌+◌, ◌-◌, ◌*◌, ◌<◌, ◌≤◌, ◌≤ℤ◌, ◌^◌, length, OnOk, OnErr, IfOk, Option, None};
+ghost use Rattle.std.specs.Option.{option_map};
+ghost use Rattle.h264_base.specs.Body.{Body, place};
+ghost use Rattle.h264_base.specs.Word.{Fixed, Unsigned, Signed, Words, Reads, no_zero_at, padding};
+ghost use Rattle.h264_base.specs.Grammar.{HasMore, IsClosed, IsPadded, bytes_at};
+ghost use Rattle.h264_base.specs.Meets.{Reader};
+ghost use Rattle.h264_bits.specs.Chunk.{IsSteady};
+ghost use Rattle.h264_bits.specs.Peek.{IsLastOne};
+ghost use Rattle.h264_bits.specs.Taken.{HasNoWord};
+ghost use Rattle.h264_bits.specs.Truncated.{truncated};
+ghost use Rattle.h264_tables.specs.Greatest.{greatest_value};
+ghost use Rattle.h264_tables.specs.Table.{code_table};
+
+use crate::chunk::{CHUNK, shift_of};
+use crate::codes::{first_set, fixed, golomb, last_one, table_word};
+use h264_rbsp::Rbsp;
+use h264_tables::Table;
+use std::marker::Model;
+
+/// No word of the code stands there, or the RBSP ends in it.
+#[derive(Clone, Copy, Debug, PartialEq, Eq)]
+pub struct NoWord;
+
+/// An RBSP, and the bit of it that is read next: bit 0 is the highest of its first byte.
+#[derive(Drop)]
+pub struct Bits<'a> {
+    rbsp: &'a Rbsp,
+    bytes: &'a [u8],
+    last_one: usize,
+    at: usize,
+    chunk: usize,
+    shift: u64,
+}
+
+impl<'a> Model for Bits<'a> {
+    ghost Value = { Reader };
+
+    ghost view = { λ r. record { body = r.rbsp.now; at = r.at } };
+
+    ghost invariant = { λ r. (r.bytes.now ≡ r.rbsp.now.bytes) × (r.at ≤ 8 * length r.bytes.now) × (length r.bytes.now ≤ 2 ^ 28) × IsLastOne r.bytes.now r.last_one × IsSteady r.rbsp.now r.chunk r.shift };
+}
+
+impl<'a> Bits<'a> {
+    /// All bits of an RBSP, from its first.
+    pub fn new(rbsp: &'a Rbsp) -> Bits<'a>
+        ensures { result ≡ record { body = rbsp.now; at = 0 } }
+    {
+        let bytes = rbsp.bytes();
+        let last_one = last_one(bytes);
+        Bits {
+            rbsp,
+            bytes,
+            last_one,
+            at: 0,
+            chunk: usize::MAX,
+            shift: 0,
+        }
+    }
+
+    /// The stream bit of the bit that is read next; at the end that of the first bit after the unit.
+    #[inline]
+    pub fn stream_bit(&self) -> u64
+        ensures { result ≡ place self.now.body self.now.at }
+    {
+        if self.at / CHUNK == self.chunk {
+            self.at as u64 + self.shift
+        } else {
+            self.rbsp.stream_bit(self.at)
+        }
+    }
+
+    /// The same, of the element that is read next. What it takes to find it is kept for those that follow.
+    #[inline]
+    pub(crate) fn element_bit(&mut self) -> u64
+        ensures bit { result ≡ place self.old.body self.old.at }
+        ensures kept { self.new ≡ self.old }
+    {
+        let chunk = self.at / CHUNK;
+        if chunk == self.chunk {
+            return self.at as u64 + self.shift;
+        }
+        match shift_of(self.rbsp, chunk) {
+            Some(shift) => {
+                self.chunk = chunk;
+                self.shift = shift;
+                self.at as u64 + shift
+            }
+            None => self.rbsp.stream_bit(self.at),
+        }
+    }
+
+    /// The stream bit of the first bit after the unit.
+    pub(crate) fn last_bit(&self) -> u64
+        ensures { result ≡ place self.now.body (8 * length self.now.body.bytes) }
+    {
+        self.rbsp.stream_bit(8 * self.bytes.len())
+    }
+
+    /// more_rbsp_data(): false where the rest is a 1 followed by 0s only (7.2).
+    #[inline]
+    pub fn more(&self) -> bool
+        ensures { HasMore self.now.body.bytes self.now.at result }
+    {
+        self.at != self.last_one
+    }
+
+    /// Reads u(n): `n` bits as a number, the first the highest (7.2).
+    #[inline]
+    pub fn u_width(&mut self, n: u32) -> Result<u32, NoWord>
+        requires { n ≤ 32 }
+        ensures word { IfOk result (λ v. Reads (Fixed n) self.old.body.bytes self.old.at (pos v) self.new.at) }
+        ensures body { self.new.body ≡ self.old.body }
+        ensures small { IfOk result (λ v. v < 2 ^ n) }
+        ensures none { OnErr result (HasNoWord (Fixed n) self.old.body.bytes self.old.at) }
+        ensures kept { OnErr result (self.new ≡ self.old) }
+    {
+        let Some((value, next)) = fixed(self.bytes, self.at, n) else {
+            return Err(NoWord);
+        };
+        self.at = next;
+        Ok(value)
+    }
+
+    /// Reads u(N), as `u_width`.
+    #[inline]
+    pub fn u<const N: u32>(&mut self) -> Result<u32, NoWord>
+        requires { N ≤ 32 }
+        ensures word { IfOk result (λ v. Reads (Fixed N) self.old.body.bytes self.old.at (pos v) self.new.at) }
+        ensures body { self.new.body ≡ self.old.body }
+        ensures small { IfOk result (λ v. v < 2 ^ N) }
+        ensures none { OnErr result (HasNoWord (Fixed N) self.old.body.bytes self.old.at) }
+        ensures kept { OnErr result (self.new ≡ self.old) }
+    {
+        self.u_width(N)
+    }
+
+    /// Reads ue(v): an Exp-Golomb word of at most 31 zeros before its 1, as its codeNum (9.1).
+    #[inline]
+    pub fn ue(&mut self) -> Result<u32, NoWord>
+        ensures word { IfOk result (λ v. Reads Unsigned self.old.body.bytes self.old.at (pos v) self.new.at) }
+        ensures body { self.new.body ≡ self.old.body }
+        ensures small { IfOk result (λ v. v < 2 ^ 32 - 1) }
+        ensures none { OnErr result (HasNoWord Unsigned self.old.body.bytes self.old.at) }
+        ensures kept { OnErr result (self.new ≡ self.old) }
+    {
+        let Some((value, next)) = golomb(self.bytes, self.at) else {
+            return Err(NoWord);
+        };
+        self.at = next;
+        Ok(value)
+    }
+
+    /// Reads se(v): an Exp-Golomb word as a signed number (9.1.1).
+    #[inline]
+    pub fn se(&mut self) -> Result<i32, NoWord>
+        ensures word { IfOk result (λ v. Reads Signed self.old.body.bytes self.old.at v self.new.at) }
+        ensures body { self.new.body ≡ self.old.body }
+        ensures low { IfOk result (λ v. neg_ℤ (pos (2 ^ 31 - 1)) ≤ℤ v) }
+        ensures high { IfOk result (λ v. v ≤ℤ pos (2 ^ 31 - 1)) }
+        ensures none { OnErr result (HasNoWord Signed self.old.body.bytes self.old.at) }
+        ensures kept { OnErr result (self.new ≡ self.old) }
+    {
+        let code = self.ue()?;
+        if code % 2 == 0 {
+            Ok(-((code / 2) as i32))
+        } else {
+            Ok((code / 2 + 1) as i32)
+        }
+    }
+
+    /// Reads a word of a table, as ce(v) and me(v), as its value.
+    #[inline]
+    pub fn word(&mut self, table: Table) -> Result<u8, NoWord>
+        ensures word { IfOk result (λ v. Reads (Words (code_table table)) self.old.body.bytes self.old.at (pos v) self.new.at) }
+        ensures body { self.new.body ≡ self.old.body }
+        ensures small { IfOk result (λ v. v ≤ greatest_value table) }
+        ensures none { OnErr result (HasNoWord (Words (code_table table)) self.old.body.bytes self.old.at) }
+        ensures kept { OnErr result (self.new ≡ self.old) }
+    {
+        let Some((value, next)) = table_word(self.bytes, self.at, table) else {
+            return Err(NoWord);
+        };
+        self.at = next;
+        Ok(value)
+    }
+
+    /// Reads te(v) of an element that lies in 0 to `range` (9.1). A value above `range` is no error here.
+    #[inline]
+    pub fn te(&mut self, range: u32) -> Result<u32, NoWord>
+        requires { 0 < range }
+        ensures word { IfOk result (λ v. Reads (truncated range) self.old.body.bytes self.old.at (pos v) self.new.at) }
+        ensures body { self.new.body ≡ self.old.body }
+        ensures small { IfOk result (λ v. v < 2 ^ 32 - 1) }
+        ensures none { OnErr result (HasNoWord (truncated range) self.old.body.bytes self.old.at) }
+        ensures kept { OnErr result (self.new ≡ self.old) }
+    {
+        if range != 1 {
+            return self.ue();
+        }
+        match self.word(Table::InvertedBit) {
+            Ok(value) => Ok(value as u32),
+            Err(NoWord) => Err(NoWord),
+        }
+    }
+
+    /// Takes `n` bytes from the next bit on, which is the first of a byte (7.3.5).
+    pub fn bytes(&mut self, n: usize) -> Result<&'a [u8], NoWord>
+        requires { n ≤ 2 ^ 28 }
+        ensures taken { IfOk result (λ s. s.now ≡ bytes_at n self.old.body.bytes self.old.at) }
+        ensures count { IfOk result (λ s. length s.now ≡ n) }
+        ensures fits { OnOk result (self.old.at + 8 * n ≤ 8 * length self.old.body.bytes) }
+        ensures end { OnOk result (self.new ≡ record { body = self.old.body; at = self.old.at + 8 * n }) }
+        ensures none { OnErr result (8 * length self.old.body.bytes < self.old.at + 8 * n) }
+        ensures kept { OnErr result (self.new ≡ self.old) }
+    {
+        let next = self.at + 8 * n;
+        if next > 8 * self.bytes.len() {
+            return Err(NoWord);
+        }
+        let first = self.at / 8;
+        let bytes = self.bytes;
+        self.at = next;
+        Ok(&bytes[first..first + n])
+    }
+
+    /// The stream bit of the first bit up to the next byte that is not a 0.
+    pub(crate) fn first_set(&self) -> Option<u64>
+        ensures { result ≡ option_map (λ j. place self.now.body j) (no_zero_at (padding self.now.at) self.now.body.bytes self.now.at) }
+    {
+        let set = first_set(self.bytes, self.at)?;
+        Some(self.rbsp.stream_bit(set))
+    }
+
+    /// Passes the bits up to the next byte.
+    pub(crate) fn to_byte(&mut self)
+        ensures { self.new ≡ record { body = self.old.body; at = self.old.at + padding self.old.at } }
+    {
+        self.at += (8 - self.at % 8) % 8;
+    }
+
+    /// Reads the zero bits up to the next byte, of which there may be none (7.3.5).
+    pub fn align(&mut self) -> Result<(), NoWord>
+        ensures zeros { OnOk result (IsPadded self.old.body.bytes self.old.at) }
+        ensures end { OnOk result (self.new ≡ record { body = self.old.body; at = self.old.at + padding self.old.at }) }
+        ensures none { OnErr result (IsPadded self.old.body.bytes self.old.at → ⊥) }
+        ensures kept { OnErr result (self.new ≡ self.old) }
+    {
+        if first_set(self.bytes, self.at).is_some() {
+            return Err(NoWord);
+        }
+        self.to_byte();
+        Ok(())
+    }
+
+    /// Reads the trailing bits: a 1, and 0s up to the end of its byte, which is the last (7.3.2.11).
+    pub fn trailing(&mut self) -> Result<(), NoWord>
+        ensures stand { OnOk result (IsClosed self.old.body.bytes self.old.at) }
+        ensures end { OnOk result (self.new ≡ record { body = self.old.body; at = 8 * length self.old.body.bytes }) }
+        ensures none { OnErr result (IsClosed self.old.body.bytes self.old.at → ⊥) }
+        ensures kept { OnErr result (self.new ≡ self.old) }
+    {
+        let end = 8 * self.bytes.len();
+        if self.more() || self.at + 8 < end {
+            return Err(NoWord);
+        }
+        self.at = end;
+        Ok(())
+    }
+}

@@ -1,0 +1,322 @@
+//! Syntax elements, each read and told to a sink (7.2, 7.3).
+#![tactic(auto)]
+
+ghost use Rattle.std.specs.Prelude.{◌≡◌, ℕ, ℤ, pos, neg_ℤ, ◌-◌, ◌<◌, ◌≤◌, ◌≤ℤ◌, ◌^◌, length, OnOk, IfOk, Ok};
+ghost use Rattle.h264_base.specs.Word.{Fixed, Unsigned, Signed, Words};
+ghost use Rattle.h264_base.specs.Grammar.{read_word as word_form, element, residual_element, more, align, raw_bytes, trailing};
+ghost use Rattle.h264_base.specs.Meets.{Meets, Is, Checks};
+ghost use Rattle.h264_bits.specs.Seen.{seen_unsigned, seen_signed, seen_flag, seen_ahead};
+ghost use Rattle.h264_bits.specs.Supports.{Supports};
+ghost use Rattle.h264_bits.specs.Truncated.{truncated};
+ghost use Rattle.h264_tables.specs.Greatest.{greatest_value};
+ghost use Rattle.h264_tables.specs.Table.{code_table};
+
+use crate::bits::{Bits, NoWord};
+use h264_base::{ElementName, Elements, Feature, Rule, Stop};
+use h264_tables::Table;
+
+/// An element that was read.
+#[derive(Clone, Copy, Debug, PartialEq, Eq)]
+pub struct Found<T> {
+    /// The stream bit of its first bit.
+    pub bit: u64,
+    /// Its value.
+    pub value: T,
+}
+
+/// Whether more data follow.
+#[derive(Clone, Copy, Debug, PartialEq, Eq)]
+pub struct Ahead {
+    /// The stream bit that is next.
+    pub bit: u64,
+    /// more_rbsp_data().
+    pub follows: bool,
+}
+
+/// Names a rule at a stream bit where it does not hold.
+#[inline]
+pub fn check(holds: bool, rule: Rule, bit: u64) -> Result<(), Stop>
+    ensures { Checks rule bit holds result }
+{
+    if holds {
+        Ok(())
+    } else {
+        Err(Stop::No { bit, rule })
+    }
+}
+
+/// Names a feature at a stream bit where what is judged does not reach.
+#[inline]
+pub fn support(holds: bool, feature: Feature, bit: u64) -> Result<(), Stop>
+    ensures { Supports feature bit holds result }
+{
+    if holds {
+        Ok(())
+    } else {
+        Err(Stop::Outside { bit, feature })
+    }
+}
+
+/// Reads an element in u(`n`), and names the rule where its word is missing.
+#[inline]
+fn read_fixed<S: Elements>(
+    bits: &mut Bits,
+    rule: Rule,
+    name: ElementName,
+    n: u32,
+    sink: &mut S,
+) -> Result<Found<u32>, Stop>
+    requires width { n ≤ 32 }
+    requires room { S.failures sink.old < 2 ^ 64 - 1 }
+    ensures meets { Meets S.took S.failures (Is seen_unsigned) (word_form rule name (Fixed n)) bits.old bits.new sink.old sink.new result }
+    ensures small { IfOk result (λ f. f.value < 2 ^ n) }
+    ensures quiet { OnOk result (S.failures sink.new ≡ S.failures sink.old) }
+{
+    let bit = bits.element_bit();
+    let Ok(value) = bits.u_width(n) else {
+        return Err(Stop::No { bit, rule });
+    };
+    match sink.element(name, bit, value as i64) {
+        Ok(()) => Ok(Found { bit, value }),
+        Err(_) => Err(Stop::Write),
+    }
+}
+
+/// Reads an element in u(`n`). A missing word is CodeWord.
+#[inline]
+pub fn read_bits<S: Elements>(
+    bits: &mut Bits,
+    name: ElementName,
+    n: u32,
+    sink: &mut S,
+) -> Result<Found<u32>, Stop>
+    requires width { n ≤ 32 }
+    requires room { S.failures sink.old < 2 ^ 64 - 1 }
+    ensures meets { Meets S.took S.failures (Is seen_unsigned) (element name (Fixed n)) bits.old bits.new sink.old sink.new result }
+    ensures small { IfOk result (λ f. f.value < 2 ^ n) }
+    ensures quiet { OnOk result (S.failures sink.new ≡ S.failures sink.old) }
+{
+    read_fixed(bits, Rule::CodeWord, name, n, sink)
+}
+
+/// Reads an element of a residual block in u(`n`). A missing word is ResidualWord.
+#[inline]
+pub fn read_residual_bits<S: Elements>(
+    bits: &mut Bits,
+    name: ElementName,
+    n: u32,
+    sink: &mut S,
+) -> Result<Found<u32>, Stop>
+    requires width { n ≤ 32 }
+    requires room { S.failures sink.old < 2 ^ 64 - 1 }
+    ensures meets { Meets S.took S.failures (Is seen_unsigned) (residual_element name (Fixed n)) bits.old bits.new sink.old sink.new result }
+    ensures small { IfOk result (λ f. f.value < 2 ^ n) }
+    ensures quiet { OnOk result (S.failures sink.new ≡ S.failures sink.old) }
+{
+    read_fixed(bits, Rule::ResidualWord, name, n, sink)
+}
+
+/// Reads an element in u(`N`). A missing word is CodeWord.
+#[inline]
+pub fn read_u<const N: u32, S: Elements>(
+    bits: &mut Bits,
+    name: ElementName,
+    sink: &mut S,
+) -> Result<Found<u32>, Stop>
+    requires width { N ≤ 32 }
+    requires room { S.failures sink.old < 2 ^ 64 - 1 }
+    ensures meets { Meets S.took S.failures (Is seen_unsigned) (element name (Fixed N)) bits.old bits.new sink.old sink.new result }
+    ensures small { IfOk result (λ f. f.value < 2 ^ N) }
+    ensures quiet { OnOk result (S.failures sink.new ≡ S.failures sink.old) }
+{
+    read_bits(bits, name, N, sink)
+}
+
+/// Reads an element in u(1) as a flag. A missing word is CodeWord.
+#[inline]
+pub fn read_flag<S: Elements>(
+    bits: &mut Bits,
+    name: ElementName,
+    sink: &mut S,
+) -> Result<Found<bool>, Stop>
+    requires room { S.failures sink.old < 2 ^ 64 - 1 }
+    ensures meets { Meets S.took S.failures (Is seen_flag) (element name (Fixed 1)) bits.old bits.new sink.old sink.new result }
+    ensures quiet { OnOk result (S.failures sink.new ≡ S.failures sink.old) }
+{
+    let bit = bits.element_bit();
+    let Ok(value) = bits.u::<1>() else {
+        return Err(Stop::No {
+            bit,
+            rule: Rule::CodeWord,
+        });
+    };
+    match sink.element(name, bit, value as i64) {
+        Ok(()) => Ok(Found {
+            bit,
+            value: value == 1,
+        }),
+        Err(_) => Err(Stop::Write),
+    }
+}
+
+/// Reads an element in ue(v). A missing word is CodeWord.
+#[inline]
+pub fn read_ue<S: Elements>(
+    bits: &mut Bits,
+    name: ElementName,
+    sink: &mut S,
+) -> Result<Found<u32>, Stop>
+    requires room { S.failures sink.old < 2 ^ 64 - 1 }
+    ensures meets { Meets S.took S.failures (Is seen_unsigned) (element name Unsigned) bits.old bits.new sink.old sink.new result }
+    ensures small { IfOk result (λ f. f.value < 2 ^ 32 - 1) }
+    ensures quiet { OnOk result (S.failures sink.new ≡ S.failures sink.old) }
+{
+    let bit = bits.element_bit();
+    let Ok(value) = bits.ue() else {
+        return Err(Stop::No {
+            bit,
+            rule: Rule::CodeWord,
+        });
+    };
+    match sink.element(name, bit, value as i64) {
+        Ok(()) => Ok(Found { bit, value }),
+        Err(_) => Err(Stop::Write),
+    }
+}
+
+/// Reads an element in se(v). A missing word is CodeWord.
+#[inline]
+pub fn read_se<S: Elements>(
+    bits: &mut Bits,
+    name: ElementName,
+    sink: &mut S,
+) -> Result<Found<i32>, Stop>
+    requires room { S.failures sink.old < 2 ^ 64 - 1 }
+    ensures meets { Meets S.took S.failures (Is seen_signed) (element name Signed) bits.old bits.new sink.old sink.new result }
+    ensures low { IfOk result (λ f. neg_ℤ (pos (2 ^ 31 - 1)) ≤ℤ f.value) }
+    ensures high { IfOk result (λ f. f.value ≤ℤ pos (2 ^ 31 - 1)) }
+    ensures quiet { OnOk result (S.failures sink.new ≡ S.failures sink.old) }
+{
+    let bit = bits.element_bit();
+    let Ok(value) = bits.se() else {
+        return Err(Stop::No {
+            bit,
+            rule: Rule::CodeWord,
+        });
+    };
+    match sink.element(name, bit, value as i64) {
+        Ok(()) => Ok(Found { bit, value }),
+        Err(_) => Err(Stop::Write),
+    }
+}
+
+/// Reads an element in te(v) that lies in 0 to `range`. A missing word is CodeWord; a value above `range` is no error here.
+#[inline]
+pub fn read_te<S: Elements>(
+    bits: &mut Bits,
+    name: ElementName,
+    range: u32,
+    sink: &mut S,
+) -> Result<Found<u32>, Stop>
+    requires some { 0 < range }
+    requires room { S.failures sink.old < 2 ^ 64 - 1 }
+    ensures meets { Meets S.took S.failures (Is seen_unsigned) (element name (truncated range)) bits.old bits.new sink.old sink.new result }
+    ensures small { IfOk result (λ f. f.value < 2 ^ 32 - 1) }
+    ensures quiet { OnOk result (S.failures sink.new ≡ S.failures sink.old) }
+{
+    let bit = bits.element_bit();
+    let Ok(value) = bits.te(range) else {
+        return Err(Stop::No {
+            bit,
+            rule: Rule::CodeWord,
+        });
+    };
+    match sink.element(name, bit, value as i64) {
+        Ok(()) => Ok(Found { bit, value }),
+        Err(_) => Err(Stop::Write),
+    }
+}
+
+/// Reads an element by a table of words: me(v) with CodeWord for a missing word, ce(v) of a residual block with ResidualWord.
+/// What it tells the sink and gives is the word's value.
+#[inline]
+pub fn read_word<S: Elements>(
+    bits: &mut Bits,
+    rule: Rule,
+    name: ElementName,
+    table: Table,
+    sink: &mut S,
+) -> Result<Found<u8>, Stop>
+    requires room { S.failures sink.old < 2 ^ 64 - 1 }
+    ensures meets { Meets S.took S.failures (Is seen_unsigned) (word_form rule name (Words (code_table table))) bits.old bits.new sink.old sink.new result }
+    ensures small { IfOk result (λ f. f.value ≤ greatest_value table) }
+    ensures quiet { OnOk result (S.failures sink.new ≡ S.failures sink.old) }
+{
+    let bit = bits.element_bit();
+    let Ok(value) = bits.word(table) else {
+        return Err(Stop::No { bit, rule });
+    };
+    match sink.element(name, bit, value as i64) {
+        Ok(()) => Ok(Found { bit, value }),
+        Err(_) => Err(Stop::Write),
+    }
+}
+
+/// Takes `n` bytes, as those of a PCM macroblock, which the sink is not told. The bit that is next is the first of a byte.
+/// Missing bytes are CodeWord at the first bit after the unit.
+pub fn read_bytes<'a, S: Elements>(
+    bits: &mut Bits<'a>,
+    n: usize,
+    sink: &S,
+) -> Result<&'a [u8], Stop>
+    requires { n ≤ 2 ^ 28 }
+    ensures meets { Meets S.took S.failures (Is (λ s. s.now)) (raw_bytes n) bits.old bits.new sink.now sink.now result }
+    ensures count { IfOk result (λ s. length s.now ≡ n) }
+{
+    match bits.bytes(n) {
+        Ok(bytes) => Ok(bytes),
+        Err(NoWord) => Err(Stop::No {
+            bit: bits.last_bit(),
+            rule: Rule::CodeWord,
+        }),
+    }
+}
+
+/// Looks whether more data follow; nothing is read or told.
+#[inline]
+pub fn look<S: Elements>(bits: &Bits, sink: &S) -> Ahead
+    ensures { Meets S.took S.failures (Is seen_ahead) more bits.now bits.now sink.now sink.now (Ok result) }
+{
+    Ahead {
+        bit: bits.stream_bit(),
+        follows: bits.more(),
+    }
+}
+
+/// Reads the zero bits up to the next byte, which the sink is not told. A 1 among them is CodeWord at that bit.
+pub fn read_align<S: Elements>(bits: &mut Bits, sink: &S) -> Result<(), Stop>
+    ensures { Meets S.took S.failures (Is (λ x. x)) align bits.old bits.new sink.now sink.now result }
+{
+    if let Some(bit) = bits.first_set() {
+        return Err(Stop::No {
+            bit,
+            rule: Rule::CodeWord,
+        });
+    }
+    bits.to_byte();
+    Ok(())
+}
+
+/// Reads the trailing bits, which end the RBSP and which the sink is not told. Where they do not stand there it is Trailing.
+pub fn read_trailing<S: Elements>(bits: &mut Bits, sink: &S) -> Result<(), Stop>
+    ensures { Meets S.took S.failures (Is (λ x. x)) trailing bits.old bits.new sink.now sink.now result }
+{
+    let bit = bits.stream_bit();
+    match bits.trailing() {
+        Ok(()) => Ok(()),
+        Err(NoWord) => Err(Stop::No {
+            bit,
+            rule: Rule::Trailing,
+        }),
+    }
+}

@@ -1,0 +1,22 @@
+//! Reading the code words of a unit's RBSP (7.2, 9.1), and the syntax elements that they stand for (7.3).
+//!
+//! `Bits` reads u(n), ue(v), se(v), alignment and trailing bits: each read gives the word that stands at the bit that is
+//! next, and an error only where none stands there; then nothing has moved.
+//! The readers of elements also tell a sink what they read, and each meets the grammar of one element, so that a function
+//! that reads a syntax structure meets that structure's grammar by its steps.
+//! Which elements a structure has, and which values they may have, is not decided here.
+#![tactic(auto)]
+
+pub mod bits;
+mod chunk;
+mod codes;
+pub mod element;
+pub mod forms;
+pub mod laws;
+mod window;
+
+pub use bits::{Bits, NoWord};
+pub use element::{
+    Ahead, Found, check, look, read_align, read_bits, read_bytes, read_flag, read_residual_bits,
+    read_se, read_te, read_trailing, read_u, read_ue, read_word, support,
+};

@@ -1,0 +1,6 @@
+pub mod Faults
+pub mod Told
+pub mod Places
+pub mod Unescapes
+pub mod Sizes
+pub mod Placed

@@ -1,0 +1,3 @@
+pub mod Emulation
+pub mod Rbsp
+pub mod Found

@@ -1,0 +1,108 @@
+//! Units whose RBSP and places are worked out by hand.
+
+use crate::{Rbsp, check_emulation, laws};
+use h264_base::{Rule, Stop};
+use h264_units::{NalUnit, Splitter};
+use std::alloc::Global;
+use std::test::Fail;
+
+/// The unit of these bytes, behind the start code that an input begins with.
+fn unit_of(alloc: Global, bytes: &[u8]) -> Result<NalUnit, Stop> {
+    let mut splitter = Splitter::new(alloc);
+    splitter.push(b"\0\0\x01")?;
+    splitter.push(bytes)?;
+    if !splitter.waiting() {
+        splitter.finish()?;
+    }
+    splitter.take_unit().ok_or(Stop::Read)
+}
+
+#[test]
+fn checks_emulation(rt: HostRuntime) -> Result<(), Fail> {
+    let table: [(&[u8], Option<u64>); 12] = [
+        (b"\x65", None),
+        (b"\x65\0\x02\0\x03\x04", None),
+        (b"\x65\0\0\x04\x03", None),
+        (b"\x65\0\0\x03\x03\0\0\x03\0\x01", None),
+        (b"\x65\0\0\x03\0\0\x03\x01\0\0\x03\x02", None),
+        (b"\0\0\x02", Some(40)),
+        (b"\x65\0\0\x02\0\0\x02", Some(48)),
+        (b"\x06\x05\0\0\x03\x04\x80", Some(64)),
+        (b"\x65\0\0\x03", Some(48)),
+        (b"\x65\0\0\x03\0\0\x03", Some(72)),
+        (b"\x65\0\0\x03\0\0\x03\xFF", Some(80)),
+        (b"\x65\0\0\x03\0\0\x04\x65\x65\x65\0\0\x02", Some(120)),
+    ];
+    for (bytes, want) in table {
+        let unit = unit_of(rt.alloc(), bytes)?;
+        let told = match check_emulation(&unit) {
+            Err(
+                Stop::No {
+                    bit,
+                    rule: Rule::Emulation,
+                },
+            ) => Some(bit),
+            _ => None,
+        };
+        assert_eq!(rt; told, want);
+        assert_eq!(rt; check_emulation(&unit).is_ok(), want.is_none());
+    }
+    Ok(())
+}
+
+#[test]
+fn drops_and_places(rt: HostRuntime) -> Result<(), Fail> {
+    let unit = unit_of(rt.alloc(), b"\x65\0\0\x03\x01\x02\0\0\x03\0\0\x03\x80")?;
+    // Where growth is refused (`--fail-alloc 2`), a second try succeeds once there is memory.
+    let made = match Rbsp::of(rt.alloc(), &unit) {
+        Err(Stop::Memory) => Rbsp::of(rt.alloc(), &unit),
+        made => made,
+    };
+    let rbsp = made?;
+    assert_eq!(rt; rbsp.bytes(), b"\0\0\x01\x02\0\0\0\0\x80".as_slice());
+    for (bit, want) in [
+        (0, 32),
+        (15, 47),
+        (16, 56),
+        (47, 87),
+        (48, 96),
+        (63, 111),
+        (64, 120),
+        (71, 127),
+        (72, 128),
+    ] {
+        assert_eq!(rt; rbsp.stream_bit(bit), want);
+    }
+    Ok(())
+}
+
+#[test]
+fn drops_many(rt: HostRuntime) -> Result<(), Fail> {
+    let mut bytes = Vec::new(rt.alloc());
+    bytes.push(0x65)?;
+    for _ in 0..20u8 {
+        bytes.extend_from_slice(b"\0\0\x03")?;
+    }
+    bytes.push(0x01)?;
+    let unit = unit_of(rt.alloc(), bytes.as_slice())?;
+    let rbsp = Rbsp::of(rt.alloc(), &unit)?;
+    assert_eq!(rt; rbsp.bytes().len(), 41);
+    assert_eq!(rt; rbsp.stream_bit(159), 263);
+    assert_eq!(rt; rbsp.stream_bit(320), 512);
+    assert_eq!(rt; rbsp.stream_bit(328), 520);
+    Ok(())
+}
+
+#[test]
+fn a_header_alone_has_no_bytes(rt: HostRuntime) -> Result<(), Fail> {
+    let rbsp = Rbsp::of(rt.alloc(), &unit_of(rt.alloc(), b"\x09")?)?;
+    assert!(rt; rbsp.bytes().is_empty());
+    assert_eq!(rt; rbsp.stream_bit(0), 32);
+    Ok(())
+}
+
+#[test]
+fn states_its_laws() {
+    laws::placed_bytes();
+    laws::checked_bytes();
+}

@@ -1,0 +1,3 @@
+pub mod Residual
+pub mod Dc
+pub mod Fours

@@ -1,0 +1,11 @@
+use Rattle.std.proofs.Common.{rules, refl, sym, ap, ◌≡◌, ◌∙◌, List, Option, None}
+use Rattle.h264_sps.specs.declared.sps.Sps.{Sps}
+use Rattle.h264_pps.specs.declared.Pps.{Pps}
+use Rattle.h264_sets.specs.Sets.{Maps, no_sets}
+use Rattle.h264_sets.proofs.Sets.new.Goals as goal
+
+both : (s t : List (Option Sps)) (p q : List (Option Pps)) → s ≡ t → p ≡ q → (let m : Maps = record { sps = s; pps = p } in m) ≡ record { sps = t; pps = q }
+both s t p q e f = cc
+
+pub returns : goal.returns
+returns c = both _ _ _ _ (c.in_ok-sps.ensures.items_if_clones_equal (λ y h. search rules)) (c.in_ok-pps.ensures.items_if_clones_equal (λ y h. search rules))

@@ -1,0 +1,8 @@
+use Rattle.h264_base.proofs.OneAnswer.{answers}
+use Rattle.h264_sps.proofs.read.read_sps.Goals as goal
+
+pub returns-clause-answers : goal.returns-clause-answers
+returns-clause-answers g c = answers c.sps_steps.ensures.meets
+
+pub returns-clause-meets : goal.returns-clause-meets
+returns-clause-meets g c = c.sps_steps.ensures.meets

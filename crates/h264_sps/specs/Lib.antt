@@ -1,0 +1,5 @@
+pub mod Counting
+pub mod Hrd
+pub mod Vui
+pub mod Sps
+pub mod Seen

@@ -1,0 +1,268 @@
+//! Reading a sequence parameter set (7.3.2.1.1).
+#![tactic(auto)]
+
+ghost use Rattle.std.specs.Prelude.{◌≡◌, ℕ, ◌+◌, ◌*◌, ◌-◌, ◌<◌, ◌≤◌, ◌^◌, IfOk};
+ghost use Rattle.h264_base.specs.Meets.{Meets, Is, Answers};
+ghost use Rattle.h264_base.specs.declared.element_name.ElementName.TheVariants.{FrameCroppingFlag, VuiParametersPresentFlag};
+ghost use Rattle.h264_bits.specs.Forms.{flag};
+ghost use Rattle.h264_sps.specs.Vui.{flagged, vui};
+ghost use Rattle.h264_sps.specs.Seen.{level_seen, front_seen};
+ghost use Rattle.h264_sps.specs.Sps.{constraint_set_flags, level, profile_and_level, frame_size, frame_cropping, max_dpb_frames as max_dpb_frames_of, is_judged_profile, is_level_6, sps};
+
+use crate::count_type::read_count_type;
+use crate::sps::{ConstraintSetFlags, FrameCropping, FrameSize, Sps};
+use crate::vui::{Vui, read_vui};
+use h264_base::{ElementName, Elements, Feature, Rule, Stop};
+use h264_bits::forms::{flag_value, u_must_be, u_value, ue_up_to};
+use h264_bits::{Bits, check, read_trailing, read_u, read_ue, support};
+use h264_tables::{Limits, limits};
+
+/// level_idc, and what the level allows.
+#[derive(Clone, Copy)]
+pub(crate) struct Level {
+    level_idc: u32,
+    limits: Limits,
+}
+
+/// What stands before the set's id.
+#[derive(Clone, Copy)]
+pub(crate) struct Front {
+    profile_idc: u32,
+    flags: ConstraintSetFlags,
+    reserved: u32,
+    level: Level,
+}
+
+fn is_judged_profile(profile_idc: u32, set0: bool) -> bool
+    ensures { result ≡ is_judged_profile profile_idc set0 }
+{
+    profile_idc == 66 || (profile_idc == 77 || profile_idc == 88) && set0
+}
+
+fn is_level_6(level_idc: u32) -> bool
+    ensures { result ≡ is_level_6 level_idc }
+{
+    level_idc == 60 || level_idc == 61 || level_idc == 62
+}
+
+/// The six flags.
+fn read_flags<S: Elements>(bits: &mut Bits, sink: &mut S) -> Result<ConstraintSetFlags, Stop>
+    requires { S.failures sink.old < 2 ^ 64 - 1 }
+    ensures { Meets S.took S.failures (Is (λ x. x)) constraint_set_flags bits.old bits.new sink.old sink.new result }
+{
+    let set0 = flag_value(bits, ElementName::ConstraintSet0Flag, sink)?;
+    let set1 = flag_value(bits, ElementName::ConstraintSet1Flag, sink)?;
+    let set2 = flag_value(bits, ElementName::ConstraintSet2Flag, sink)?;
+    let set3 = flag_value(bits, ElementName::ConstraintSet3Flag, sink)?;
+    let set4 = flag_value(bits, ElementName::ConstraintSet4Flag, sink)?;
+    let set5 = flag_value(bits, ElementName::ConstraintSet5Flag, sink)?;
+    Ok(ConstraintSetFlags {
+        set0,
+        set1,
+        set2,
+        set3,
+        set4,
+        set5,
+    })
+}
+
+/// level_idc: a level that is judged.
+fn read_level<S: Elements>(set3: bool, bits: &mut Bits, sink: &mut S) -> Result<Level, Stop>
+    requires { S.failures sink.old < 2 ^ 64 - 1 }
+    ensures { Meets S.took S.failures (Is level_seen) (level set3) bits.old bits.new sink.old sink.new result }
+{
+    let level = read_u::<8, S>(bits, ElementName::LevelIdc, sink)?;
+    support(!is_level_6(level.value), Feature::Level6, level.bit)?;
+    match limits(level.value as u8, set3) {
+        Some(limits) => Ok(Level {
+            level_idc: level.value,
+            limits,
+        }),
+        None => Err(Stop::No {
+            bit: level.bit,
+            rule: Rule::Range,
+        }),
+    }
+}
+
+/// The profile, the flags and the level.
+fn read_front<S: Elements>(bits: &mut Bits, sink: &mut S) -> Result<Front, Stop>
+    requires { S.failures sink.old < 2 ^ 64 - 1 }
+    ensures { Meets S.took S.failures (Is front_seen) profile_and_level bits.old bits.new sink.old sink.new result }
+{
+    let profile = read_u::<8, S>(bits, ElementName::ProfileIdc, sink)?;
+    let flags = read_flags(bits, sink)?;
+    check(
+        is_judged_profile(profile.value, flags.set0),
+        Rule::Profile,
+        profile.bit,
+    )?;
+    let reserved = u_value::<2, S>(bits, ElementName::ReservedZero2bits, sink)?;
+    let level = read_level(flags.set3, bits, sink)?;
+    Ok(Front {
+        profile_idc: profile.value,
+        flags,
+        reserved,
+        level,
+    })
+}
+
+/// MaxDpbFrames: how many frames of this size the level's picture buffer holds (A.3.1).
+pub fn max_dpb_frames(limits: Limits, frame_size: FrameSize) -> u32
+    requires width { 0 < frame_size.width }
+    requires height { 0 < frame_size.height }
+    requires fits { frame_size.width * frame_size.height < 2 ^ 32 }
+    ensures { result ≡ max_dpb_frames_of limits frame_size }
+{
+    (limits.max_dpb_mbs / (frame_size.width * frame_size.height)).min(16)
+}
+
+/// The size of a frame, which fits the level, as do the reference frames.
+fn read_frame_size<S: Elements>(
+    limits: Limits,
+    max_num_ref_frames: u32,
+    bits: &mut Bits,
+    sink: &mut S,
+) -> Result<FrameSize, Stop>
+    requires { S.failures sink.old < 2 ^ 64 - 1 }
+    ensures meets { Meets S.took S.failures (Is (λ x. x)) (frame_size limits max_num_ref_frames) bits.old bits.new sink.old sink.new result }
+    ensures some { IfOk result (λ s. (0 < s.width) × (0 < s.height)) }
+    ensures fits { IfOk result (λ s. s.width * s.height ≤ limits.max_fs) }
+{
+    let width_minus1 = read_ue(bits, ElementName::PicWidthInMbsMinus1, sink)?;
+    let height_minus1 = read_ue(bits, ElementName::PicHeightInMapUnitsMinus1, sink)?;
+    let bit = height_minus1.bit;
+    let width = width_minus1.value as u64 + 1;
+    let height = height_minus1.value as u64 + 1;
+    check(width * height <= limits.max_fs as u64, Rule::FrameSize, bit)?;
+    check(
+        width * width <= 8 * limits.max_fs as u64,
+        Rule::FrameSize,
+        bit,
+    )?;
+    check(
+        height * height <= 8 * limits.max_fs as u64,
+        Rule::FrameSize,
+        bit,
+    )?;
+    let size = FrameSize {
+        width: width as u32,
+        height: height as u32,
+    };
+    check(
+        max_num_ref_frames <= max_dpb_frames(limits, size),
+        Rule::FrameSize,
+        bit,
+    )?;
+    Ok(size)
+}
+
+/// The cropping offsets, which leave some samples.
+fn read_cropping<S: Elements>(
+    size: FrameSize,
+    bits: &mut Bits,
+    sink: &mut S,
+) -> Result<FrameCropping, Stop>
+    requires { S.failures sink.old < 2 ^ 64 - 1 }
+    ensures { Meets S.took S.failures (Is (λ x. x)) (frame_cropping size) bits.old bits.new sink.old sink.new result }
+{
+    let left = read_ue(bits, ElementName::FrameCropLeftOffset, sink)?;
+    let right = read_ue(bits, ElementName::FrameCropRightOffset, sink)?;
+    let across = 2 * (left.value as u64 + right.value as u64);
+    check(across < 16 * size.width as u64, Rule::Crop, right.bit)?;
+    let top = read_ue(bits, ElementName::FrameCropTopOffset, sink)?;
+    let bottom = read_ue(bits, ElementName::FrameCropBottomOffset, sink)?;
+    let down = 2 * (top.value as u64 + bottom.value as u64);
+    check(down < 16 * size.height as u64, Rule::Crop, bottom.bit)?;
+    Ok(FrameCropping {
+        left: left.value,
+        right: right.value,
+        top: top.value,
+        bottom: bottom.value,
+    })
+}
+
+/// The cropping offsets, where they are present.
+fn read_crop_info<S: Elements>(
+    size: FrameSize,
+    bits: &mut Bits,
+    sink: &mut S,
+) -> Result<Option<FrameCropping>, Stop>
+    requires { S.failures sink.old < 2 ^ 64 - 1 }
+    ensures { Meets S.took S.failures (Is (λ x. x)) (flagged (flag FrameCroppingFlag) (frame_cropping size)) bits.old bits.new sink.old sink.new result }
+{
+    let present = flag_value(bits, ElementName::FrameCroppingFlag, sink)?;
+    if !present {
+        return Ok(None);
+    }
+    let part = read_cropping(size, bits, sink)?;
+    Ok(Some(part))
+}
+
+/// The usability information, where it is present.
+fn read_vui_info<S: Elements>(
+    max_num_ref_frames: u32,
+    max_dpb_frames: u32,
+    bits: &mut Bits,
+    sink: &mut S,
+) -> Result<Option<Vui>, Stop>
+    requires { S.failures sink.old < 2 ^ 64 - 1 }
+    ensures { Meets S.took S.failures (Is (λ x. x)) (flagged (flag VuiParametersPresentFlag) (vui max_num_ref_frames max_dpb_frames)) bits.old bits.new sink.old sink.new result }
+{
+    let present = flag_value(bits, ElementName::VuiParametersPresentFlag, sink)?;
+    if !present {
+        return Ok(None);
+    }
+    let part = read_vui(max_num_ref_frames, max_dpb_frames, bits, sink)?;
+    Ok(Some(part))
+}
+
+/// The set, element by element.
+fn sps_steps<S: Elements>(bits: &mut Bits, sink: &mut S) -> Result<Sps, Stop>
+    requires { S.failures sink.old < 2 ^ 64 - 1 }
+    ensures meets { Meets S.took S.failures (Is (λ x. x)) sps bits.old bits.new sink.old sink.new result }
+    ensures id { IfOk result (λ s. s.seq_parameter_set_id ≤ 31) }
+{
+    let front = read_front(bits, sink)?;
+    let id = ue_up_to(bits, ElementName::SeqParameterSetId, 31, sink)?;
+    let log2_minus4 = ue_up_to(bits, ElementName::Log2MaxFrameNumMinus4, 12, sink)?;
+    let count_type = read_count_type(bits, sink)?;
+    let refs = ue_up_to(bits, ElementName::MaxNumRefFrames, 16, sink)?;
+    let gaps = flag_value(bits, ElementName::GapsInFrameNumValueAllowedFlag, sink)?;
+    let size = read_frame_size(front.level.limits, refs, bits, sink)?;
+    u_must_be::<1, S>(bits, ElementName::FrameMbsOnlyFlag, 1, sink)?;
+    let direct = flag_value(bits, ElementName::Direct8x8InferenceFlag, sink)?;
+    let crop = read_crop_info(size, bits, sink)?;
+    let buffer = max_dpb_frames(front.level.limits, size);
+    let usability = read_vui_info(refs, buffer, bits, sink)?;
+    read_trailing(bits, sink)?;
+    Ok(Sps {
+        profile_idc: front.profile_idc,
+        constraint_set_flags: front.flags,
+        reserved_zero_2bits: front.reserved,
+        level_idc: front.level.level_idc,
+        seq_parameter_set_id: id,
+        log2_max_frame_num: log2_minus4 + 4,
+        count_type,
+        max_num_ref_frames: refs,
+        gaps_in_frame_num_value_allowed_flag: gaps,
+        frame_size: size,
+        direct_8x8_inference_flag: direct,
+        frame_cropping: crop,
+        vui: usability,
+    })
+}
+
+/// Reads a sequence parameter set, which is all of the unit's RBSP.
+///
+/// Ok: the set; the elements that the sink was told are its one derivation, with every rule met.
+/// No: the first rule that it breaks, at its stream bit. Outside: its level is one that is not judged. Write: the sink failed.
+/// After an Err the reader may have moved.
+pub fn read_sps<S: Elements>(bits: &mut Bits, sink: &mut S) -> Result<Sps, Stop>
+    requires { S.failures sink.old < 2 ^ 64 - 1 }
+    ensures answers { Answers S.took S.failures (Is (λ x. x)) sps bits.old bits.new sink.old sink.new result }
+    ensures meets { Meets S.took S.failures (Is (λ x. x)) sps bits.old bits.new sink.old sink.new result }
+    ensures id { IfOk result (λ s. s.seq_parameter_set_id ≤ 31) }
+{
+    sps_steps(bits, sink)
+}

@@ -1,0 +1,5 @@
+pub mod Entries
+pub mod Columns
+pub mod Rows
+pub mod Prefixes
+pub mod Within

@@ -1,0 +1,15 @@
+use Rattle.std.proofs.Common.{rules, arith, refl}
+use Rattle.h264_tables.specs.declared.coeff_token.TheConstants.{NC2_ENTRY_LENGTHS, NC2_ENTRY_VALUES}
+use Rattle.h264_tables.specs.CoeffToken.{coeff_token_nc2}
+use Rattle.h264_tables.proofs.Entries.{agrees, entry_fits, entries_fit, shift_of, place_of, are_words, index-fits, entry-found}
+use Rattle.h264_tables.proofs.coeff_token.coeff_token_nc2_entry.Goals as goal
+
+pub bounds-entry : goal.bounds-entry
+bounds-entry c = index-fits 14 3 c.args.bits c.saturating_sub-shift.result (omega arith) (omega arith) (omega arith) (search rules)
+
+pub bounds-entry-2 : goal.bounds-entry-2
+bounds-entry-2 c = index-fits 14 3 c.args.bits c.saturating_sub-shift.result (omega arith) (omega arith) (omega arith) (search rules)
+
+pub returns : goal.returns
+unfolding agrees entry_fits entries_fit shift_of place_of are_words coeff_token_nc2
+returns c = entry-found 14 3 c.args.bits c.saturating_sub-shift.result NC2_ENTRY_LENGTHS NC2_ENTRY_VALUES coeff_token_nc2 refl refl (omega arith) (omega arith) (omega arith) (omega arith) (search rules)

@@ -1,0 +1,16 @@
+pub mod Level
+pub mod Front
+pub mod Entry
+pub mod CodeWord
+pub mod Columns
+pub mod CoeffToken
+pub mod TotalZeros
+pub mod RunBefore
+pub mod CodedBlockPattern
+pub mod InvertedBit
+pub mod LevelPrefix
+pub mod Table
+pub mod ChromaQp
+pub mod Thresholds
+pub mod Choice
+pub mod Greatest

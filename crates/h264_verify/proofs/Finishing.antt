@@ -1,0 +1,99 @@
+-- The end of the input.
+use Rattle.std.proofs.Common.{◌≡◌, ℕ, ◌+◌, ◌*◌, ◌≤◌, ◌↔◌, Bool, true, false, IsTrue, IsFalse, List, [], ◌∷◌, ◌++◌, length, Option, Some, None, Result, Ok, Err, refl, ap, sym, ◌∙◌, subst}
+use Rattle.std.proofs.lemmas.List.{append-nil}
+use Rattle.h264_base.specs.declared.stop.Stop.{Stop}
+use Rattle.h264_base.specs.declared.stop.Stop.TheVariants.{No, Outside, Memory, Read, Write}
+use Rattle.h264_base.specs.Call.{Call, Tells, TellsFront}
+use Rattle.h264_units.specs.Stream.{NalUnit, Next, past, Tail, Zeros, Stray, Bare, Long, Cut, HasTail, Splits, tail_stop}
+use Rattle.h264_units.specs.Splitting.{Splitting, Taken, Finished, FinishStops}
+use Rattle.h264_units.proofs.Streams.{same-units}
+use Rattle.h264_verify.specs.Outcome.{Outcome, ◌>>=◌, answers, Plays, IsNamed}
+use Rattle.h264_verify.specs.Judging.{Judging, tail_outcome, units_outcome, Comes}
+use Rattle.h264_verify.specs.Session.{Standing, ToCome, Finishes}
+use Rattle.h264_verify.proofs.Tellings.{tells-none}
+use Rattle.h264_verify.proofs.Feeding.{tail-answer, tail-stops, first-judged}
+use Rattle.h264_verify.proofs.Playing.{plays-stops, plays-on, plays-not-read, plays-write}
+
+nothing-more : {State Summary : Type 0} (j : Judging State Summary) (p : Standing State) (o : Outcome Summary) → ToCome j p [] o → Comes j p.split.at p.state p.split.rest o
+nothing-more j p o c = subst (λ l. Comes j p.split.at p.state l o) (append-nil p.split.rest) c
+
+tail-named : (tail : Tail) (stop : Stop) → tail_stop tail ≡ Some stop → IsNamed stop
+tail-named tail (No bit rule) e = tt
+tail-named tail (Outside bit feature) e = tt
+tail-named Zeros Memory e = cc
+tail-named (Stray p) Memory e = cc
+tail-named (Bare p) Memory e = cc
+tail-named (Long p) Memory e = cc
+tail-named Cut Memory e = cc
+tail-named Zeros Read e = cc
+tail-named (Stray p) Read e = cc
+tail-named (Bare p) Read e = cc
+tail-named (Long p) Read e = cc
+tail-named Cut Read e = cc
+tail-named Zeros Write e = cc
+tail-named (Stray p) Write e = cc
+tail-named (Bare p) Write e = cc
+tail-named (Long p) Write e = cc
+tail-named Cut Write e = cc
+
+answers-plays : {X S : Type 0} (took : S → List Call → Type 0) (failures : S → ℕ) (stop : Stop) (s : S) → IsNamed stop → Plays {X = X} took failures (λ (x : X). x) (answers (Err stop)) s s (Err stop)
+answers-plays took failures (No bit rule) s n = record { plays = (refl, tells-none took s, refl) }
+answers-plays took failures (Outside bit feature) s n = record { plays = (refl, tells-none took s, refl) }
+answers-plays took failures Memory s n = absurd n
+answers-plays took failures Read s n = absurd n
+answers-plays took failures Write s n = absurd n
+
+pub finish-stops : {State Summary : Type 0} (j : Judging State Summary) {S : Type 0} (took : S → List Call → Type 0) (failures : S → ℕ) (old new : Splitting) (state : State) (s : S) (stop : Stop) → FinishStops old new stop → Finishes j took failures (record { split = old; state = state }) s s (Err stop)
+finish-stops {Summary} j took failures old new state s stop f =
+    let p : Plays {X = Summary} took failures (λ (x : Summary). x) (answers (Err stop)) s s (Err stop) = answers-plays took failures stop s (tail-named f.tail stop f.stop_is) in
+    record {
+      finishes = λ o c.
+          let e = tail-answer j old.at state old.rest f.tail o f.stands (nothing-more j (record { split = old; state = state }) o c) ∙ tail-stops j state f.tail stop _ f.stop_is in
+          subst (λ r. Plays {X = Summary} took failures (λ (x : Summary). x) r s s (Err stop)) (sym e) p;
+      no_read = plays-not-read took failures (λ (x : Summary). x) _ s s (Err stop) p;
+      write = plays-write took failures (λ (x : Summary). x) _ s s (Err stop) p;
+    }
+
+pub finish-end : {State Summary : Type 0} (j : Judging State Summary) {S : Type 0} (took : S → List Call → Type 0) (failures : S → ℕ) (old mid new : Splitting) (state : State) (s s' : S) (end : ℕ) (r : Result Summary Stop) → Finished old mid → IsFalse mid.waiting → new ≡ mid → end ≡ new.at + length new.rest → Plays took failures (λ (x : Summary). x) (j.end state (8 * end)) s s' r → Finishes j took failures (record { split = old; state = state }) s s' r
+finish-end {Summary} j took failures old mid new state s s' end r f w m n p = record {
+  finishes = λ o c.
+      let e = tail-answer j old.at state old.rest Zeros o (f.zeros w) (nothing-more j (record { split = old; state = state }) o c) in
+      let k = n ∙ ap (λ (z : Splitting). z.at + length z.rest) m ∙ ap (λ a. a + length mid.rest) f.at_is ∙ ap (λ l. old.at + length l) f.rest_is in
+      subst (λ r'. Plays took failures (λ (x : Summary). x) r' s s' r) (ap (λ z. j.end state (8 * z)) k ∙ sym e) p;
+  no_read = plays-not-read took failures (λ (x : Summary). x) _ s s' r p;
+  write = plays-write took failures (λ (x : Summary). x) _ s s' r p;
+}
+
+last-judged : {State Summary : Type 0} (j : Judging State Summary) (old mid new : Splitting) (state : State) (unit : NalUnit) (o : Outcome Summary) → Finished old mid → Taken mid new unit → ToCome j (record { split = old; state = state }) [] o → o ≡ (j.unit state unit >>= λ s. j.end s (8 * (new.at + length new.rest)))
+last-judged j old mid new state unit o f t c =
+    let first = subst (λ a. Next a old.rest unit new.rest) f.at_is (subst (λ l. Next mid.at l unit new.rest) f.rest_is t.next) in
+    let k = first-judged j old.at state old.rest unit new.rest o first (nothing-more j (record { split = old; state = state }) o c) in
+    let z = subst (λ a. HasTail a new.rest Zeros) t.at_is (t.last f.ended_is) in
+    let same = same-units (past unit) new.rest k.units [] k.tail Zeros k.splits z in
+    k.is ∙ ap (λ us. j.unit state unit >>= λ s. units_outcome j s us k.tail (past unit + length new.rest)) same.units_are
+    ∙ ap (λ tail. j.unit state unit >>= λ s. tail_outcome j s tail (past unit + length new.rest)) same.tail_is
+    ∙ ap (λ a. j.unit state unit >>= λ s. j.end s (8 * (a + length new.rest))) (sym t.at_is)
+
+err-same : {X Y : Type 0} (stop other : Stop) → (let r : Result X Stop = Err stop in r ≡ Err other) → (let r : Result Y Stop = Err stop in r ≡ Err other)
+err-same stop other e = let f : stop ≡ other = cc in ap Err f
+
+pub finish-unit-stops : {State Summary : Type 0} (j : Judging State Summary) {S X : Type 0} (took : S → List Call → Type 0) (failures : S → ℕ) (view : X → State) (old mid new : Splitting) (state : State) (unit : NalUnit) (s s' : S) (stop : Stop) → Finished old mid → Taken mid new unit → Plays {X = X} took failures view (j.unit state unit) s s' (Err stop) → Finishes j took failures (record { split = old; state = state }) s s' (Err stop)
+finish-unit-stops {Summary} j {X} took failures view old mid new state unit s s' stop f t p = record {
+  finishes = λ o c.
+      subst (λ r. Plays {X = Summary} took failures (λ (x : Summary). x) r s s' (Err stop)) (sym (last-judged j old mid new state unit o f t c)) (plays-stops took failures view (λ (x : Summary). x) (j.unit state unit) _ s s' stop p);
+  no_read = λ e. plays-not-read {X = X} took failures view _ s s' (Err stop) p (err-same {X = Summary} {Y = X} stop Read e);
+  write = λ e. plays-write {X = X} took failures view _ s s' (Err stop) p (err-same {X = Summary} {Y = X} stop Write e);
+}
+
+pub finish-unit : {State Summary : Type 0} (j : Judging State Summary) {S X : Type 0} (took : S → List Call → Type 0) (failures : S → ℕ) (view : X → State) (old mid new : Splitting) (state : State) (unit : NalUnit) (s s' s'' : S) (end : ℕ) (x : X) (r : Result Summary Stop) → Finished old mid → Taken mid new unit → Plays took failures view (j.unit state unit) s s' (Ok x) → end ≡ new.at + length new.rest → Plays took failures (λ (x : Summary). x) (j.end (view x) (8 * end)) s' s'' r → Finishes j took failures (record { split = old; state = state }) s s'' r
+finish-unit {Summary} j took failures view old mid new state unit s s' s'' end x r f t p n q = record {
+  finishes = λ o c.
+      subst (λ w. Plays took failures (λ (x : Summary). x) w s s'' r) (sym (last-judged j old mid new state unit o f t c))
+      (plays-on took failures view (λ (x : Summary). x) (j.unit state unit) (λ s. j.end s (8 * (new.at + length new.rest))) s s' s'' x r p (subst (λ z. Plays took failures (λ (x : Summary). x) (j.end (view x) (8 * z)) s' s'' r) n q));
+  no_read = plays-not-read took failures (λ (x : Summary). x) _ s' s'' r q;
+  write = λ e. plays-write took failures (λ (x : Summary). x) _ s' s'' r q e ∙ ap (λ n. n + 1) p.plays.2;
+}
+
+pub not-waiting : (b : Bool) → ((false ≡ true) ↔ (b ≡ true)) → b ≡ false
+not-waiting true h = let e : false ≡ true = h.1 refl in cc
+not-waiting false h = refl

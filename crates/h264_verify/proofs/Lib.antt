@@ -1,0 +1,5 @@
+pub mod Tellings
+pub mod Playing
+pub mod Feeding
+pub mod Finishing
+pub mod Sources

@@ -1,0 +1,30 @@
+use Rattle.std.proofs.Common.{rules, arith, refl, ap, ◌∙◌, ◌≡◌, ◌+◌}
+use Rattle.std.proofs.lemmas.Result.{err_from_is_err_and}
+use Rattle.h264_verify.specs.UnitRules.{judging, start}
+use Rattle.h264_verify.proofs.Sources.{fed-none, fed-read, fed-ends, judges-memory, not-more}
+use Rattle.h264_verify.proofs.running.run.Goals as goal
+
+pub returns-in_err-session-clause-verdict : goal.returns-in_err-session-clause-verdict
+returns-in_err-session-clause-verdict g c = let p = err_from_is_err_and c.from_residual.result c.from_residual.ensures.1 in rw (p.1, p.2, c.in_err-session.ensures.err) (λ bytes h. judges-memory judging start _ _ bytes _)
+
+pub loop-init : goal.loop-init
+loop-init g c = record {
+  fed = λ bytes h. rw c.in_ok-session.ensures.ok (fed-none judging _ _ bytes _ _ h);
+  runs = rw c.in_ok-session.ensures.ok refl;
+  kept = refl;
+  quiet = refl;
+  turns = λ n r. let e : n + 0 ≡ n = omega arith in rw e r;
+}
+
+pub returns-then-not-branch-clause-write : goal.returns-then-not-branch-clause-write
+returns-then-not-branch-clause-write g c = λ h.
+    let first = (c.finish.ensures.finishes c.in_ok-turn.ensures.kept.0).write h in
+    first ∙ ap (λ n. n + 1) (c.in_ok-turn.ensures.kept.1 ∙ c.loop.invariant.kept)
+
+pub returns-then-not-branch-clause-verdict : goal.returns-then-not-branch-clause-verdict
+returns-then-not-branch-clause-verdict g c = λ bytes h.
+    let e = c.in_ok-turn.ensures.end c.if-not-branch.true in
+    fed-ends judging start _ _ _ bytes _ _ _ _ _ _ _ (ap (λ s. s.standing) e.0) e.1 e.2 (c.loop.invariant.fed bytes h) c.loop.invariant.kept (c.finish.ensures.finishes c.in_ok-turn.ensures.kept.0)
+
+pub returns-clause-verdict : goal.returns-clause-verdict
+returns-clause-verdict g c = λ bytes h. fed-read judging start _ _ _ bytes _ _ _ (c.loop.invariant.fed bytes h) c.loop.invariant.kept

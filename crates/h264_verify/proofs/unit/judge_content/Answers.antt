@@ -1,0 +1,17 @@
+use Rattle.std.proofs.Common.{rules}
+use Rattle.std.proofs.lemmas.Bool.{ne_eqb}
+use Rattle.h264_verify.specs.UnitRules.{content_outcome}
+use Rattle.h264_verify.proofs.Playing.{gives-plays}
+use Rattle.h264_verify.proofs.unit.judge_content.Goals as goal
+
+pub returns-then-kind-eq7-clause-plays : goal.returns-then-kind-eq7-clause-plays
+unfolding content_outcome
+returns-then-kind-eq7-clause-plays g c = rw c.if-kind-eq7.true c.judge_sps.ensures.plays
+
+pub returns-then-kind-eq8-clause-plays : goal.returns-then-kind-eq8-clause-plays
+unfolding content_outcome
+returns-then-kind-eq8-clause-plays g c = rw c.if-kind-eq8.true c.judge_pps.ensures.plays
+
+pub returns-clause-plays : goal.returns-clause-plays
+unfolding content_outcome
+returns-clause-plays g c = rw (ne_eqb _ _ c.if-kind-eq7.false, ne_eqb _ _ c.if-kind-eq8.false) (gives-plays _ _ _ _ _)

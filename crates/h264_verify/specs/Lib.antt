@@ -1,0 +1,5 @@
+pub mod Outcome
+pub mod Judging
+pub mod Session
+pub mod UnitRules
+pub mod Progress

@@ -1,0 +1,75 @@
+-- A stream judged in pieces: what comes of a session, however its input goes on.
+use Rattle.std.specs.Prelude.{◌≡◌, ℕ, ◌+◌, List, [], ◌++◌, Option, Some, None, Result, Ok, Err}
+use Rattle.h264_base.specs.declared.stop.Stop.{Stop}
+use Rattle.h264_base.specs.declared.stop.Stop.TheVariants.{No, Outside, Memory, Read, Write}
+use Rattle.h264_base.specs.Call.{Call, Tells, TellsFront}
+use Rattle.h264_units.specs.Splitting.{Splitting, at_start}
+use Rattle.h264_verify.specs.Outcome.{Outcome, with_calls, Plays}
+use Rattle.h264_verify.specs.Judging.{Judging, Comes}
+
+-- where a session stands: what its splitter holds, and the state that the units taken left
+pub record Standing (State : Type 0) : Type 0 where
+  pub split : Splitting
+  pub state : State
+
+-- these bytes still come, and then the input ends
+abbrev pub ToCome : {State Summary : Type 0} → Judging State Summary → Standing State → List ℕ → Outcome Summary → Type 0
+ToCome j p bytes o = Comes j p.split.at p.state (p.split.rest ++ bytes) o
+
+-- However the input goes on, what comes of old is these calls and what comes of new.
+pub record Goes {State Summary S : Type 0} (j : Judging State Summary) (took : S → List Call → Type 0) (old new : Standing State) (piece left : List ℕ) (s s' : S) : Type 0 where
+  pub calls : List Call
+  pub tells : Tells took s s' calls
+  pub after : (more : List ℕ) (o : Outcome Summary) → ToCome j old (piece ++ more) o → (later : Outcome Summary) × ToCome j new (left ++ more) later × (o ≡ with_calls calls later)
+
+-- However the input goes on, it comes to these calls and this stop.
+pub record Ends {State Summary S : Type 0} (j : Judging State Summary) (took : S → List Call → Type 0) (old : Standing State) (piece : List ℕ) (s s' : S) (stop : Stop) : Type 0 where
+  pub calls : List Call
+  pub tells : Tells took s s' calls
+  pub after : (more : List ℕ) (o : Outcome Summary) → ToCome j old (piece ++ more) o → o ≡ record { calls = calls; answer = Err stop }
+
+-- However the input goes on, these are its first calls.
+pub record Begins {State Summary S : Type 0} (j : Judging State Summary) (took : S → List Call → Type 0) (old : Standing State) (piece : List ℕ) (s s' : S) : Type 0 where
+  pub calls : List Call
+  pub tells : Tells took s s' calls
+  pub after : (more : List ℕ) (o : Outcome Summary) → ToCome j old (piece ++ more) o → (rest : List Call) × (o.calls ≡ calls ++ rest)
+
+abbrev pub StopsBy : {State Summary S : Type 0} → Judging State Summary → (S → List Call → Type 0) → (S → ℕ) → Standing State → List ℕ → S → S → Stop → Type 0
+StopsBy j took failures old piece s s' (No bit rule) = Ends j took old piece s s' (No bit rule) × (failures s' ≡ failures s)
+StopsBy j took failures old piece s s' (Outside bit feature) = Ends j took old piece s s' (Outside bit feature) × (failures s' ≡ failures s)
+StopsBy j took failures old piece s s' Memory = Begins j took old piece s s' × (failures s' ≡ failures s)
+StopsBy j took failures old piece s s' Read = ⊥
+StopsBy j took failures old piece s s' Write = Begins j took old piece s s' × (failures s' ≡ failures s + 1)
+
+-- The stop is the stream's, however it goes on; or the sink failed, or memory was refused, when only its first calls were made.
+pub record Stops {State Summary S : Type 0} (j : Judging State Summary) (took : S → List Call → Type 0) (failures : S → ℕ) (old : Standing State) (piece : List ℕ) (s s' : S) (stop : Stop) : Type 0 where
+  pub stops : StopsBy j took failures old piece s s' stop
+
+-- The input ends here, and this is told and answered of it.
+pub record Finishes {State Summary S : Type 0} (j : Judging State Summary) (took : S → List Call → Type 0) (failures : S → ℕ) (old : Standing State) (s s' : S) (result : Result Summary Stop) : Type 0 where
+  pub finishes : (o : Outcome Summary) → ToCome j old [] o → Plays took failures (λ (x : Summary). x) o s s' result
+  pub no_read : result ≡ Err Read → ⊥
+  pub write : result ≡ Err Write → failures s' ≡ failures s + 1
+
+-- the calls of these bytes' outcome up to here, of which the source may still have the last
+pub record Fed {State Summary S : Type 0} (j : Judging State Summary) (took : S → List Call → Type 0) (known : Option (List ℕ)) (bytes : List ℕ) (old new : Standing State) (s s' : S) : Type 0 where
+  pub fed : List ℕ
+  pub left : List ℕ
+  pub known_is : known ≡ Some left
+  pub whole : bytes ≡ fed ++ left
+  pub goes : Goes j took old new fed [] s s'
+
+-- As an outcome, or the source failed when only the first calls were made.
+abbrev pub RansBy : {Summary S : Type 0} → (S → List Call → Type 0) → (S → ℕ) → Outcome Summary → S → S → Result Summary Stop → Type 0
+RansBy took failures o s s' (Err Read) = TellsFront took s s' o.calls × (failures s' ≡ failures s)
+RansBy {Summary} took failures o s s' (Ok x) = Plays took failures (λ (x : Summary). x) o s s' (Ok x)
+RansBy {Summary} took failures o s s' (Err (No bit rule)) = Plays {X = Summary} took failures (λ (x : Summary). x) o s s' (Err (No bit rule))
+RansBy {Summary} took failures o s s' (Err (Outside bit feature)) = Plays {X = Summary} took failures (λ (x : Summary). x) o s s' (Err (Outside bit feature))
+RansBy {Summary} took failures o s s' (Err Memory) = Plays {X = Summary} took failures (λ (x : Summary). x) o s s' (Err Memory)
+RansBy {Summary} took failures o s s' (Err Write) = Plays {X = Summary} took failures (λ (x : Summary). x) o s s' (Err Write)
+
+-- What was told and answered of these bytes, the whole input.
+pub record Judges {State Summary S : Type 0} (j : Judging State Summary) (start : State) (took : S → List Call → Type 0) (failures : S → ℕ) (bytes : List ℕ) (s s' : S) (result : Result Summary Stop) : Type 0 where
+  pub outcome : Outcome Summary
+  pub comes : Comes j 0 start bytes outcome
+  pub ran : RansBy took failures outcome s s' result

@@ -1,0 +1,24 @@
+//! The verdict on a stream: what `run` and a `Session` tell a sink, and whether the stream is legal.
+//!
+//! A `Session` takes the bytes in pieces of any size; `run` reads a `Source` to its end. Each unit is judged as soon as its end
+//! is known, in the stated order of checks, and the sink is told each unit and each syntax element.
+//!
+//! Promised, for every byte string and every cutting of it: the answer and the sink's calls are those of the definition in
+//! `specs/`, of which each stream has exactly one; a stopped session repeats its stop and touches no sink; Write comes only
+//! where the sink failed, Read only where the source failed or was read 2^41 times.
+//! Not promised: that memory suffices.
+#![tactic(auto)]
+
+pub mod judge;
+pub mod laws;
+pub mod running;
+pub mod session;
+pub mod sink;
+pub mod source;
+mod unit;
+
+pub use judge::Summary;
+pub use running::run;
+pub use session::Session;
+pub use sink::FrameSink;
+pub use source::Source;

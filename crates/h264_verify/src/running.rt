@@ -1,0 +1,102 @@
+//! A source judged to its end.
+#![tactic(auto)]
+
+ghost use Rattle.std.specs.Prelude.{◌≡◌, ℕ, ◌+◌, ◌-◌, ◌*◌, ◌<◌, ◌≤◌, ◌^◌, ◌⊎◌, List, [], ◌∷◌, ◌++◌, length, take, OnOk, OnErr, IfOk, IfErr, Ok, Err, None, Some, IsErrOf, IsTrue, IsFalse};
+ghost use Rattle.std.specs.List.{flat_map};
+ghost use Rattle.h264_verify.specs.Session.{Judges, Fed};
+ghost use Rattle.h264_verify.specs.UnitRules.{judging, start};
+ghost use Rattle.h264_verify.specs.Progress.{fresh};
+
+use crate::judge::Summary;
+use crate::session::Session;
+use crate::sink::FrameSink;
+use crate::source::Source;
+use h264_base::{Mode, Stop, Target};
+use std::alloc::Global;
+
+/// How many bytes are asked of a source at a time.
+const PIECE: usize = 4096;
+
+fn front(piece: &[u8], n: usize) -> &[u8]
+    requires { n ≤ length piece.now }
+    ensures { result.now ≡ take n piece.now }
+{
+    &piece[..n]
+}
+
+/// One read, and what it gave; whether there may be more.
+fn turn<R: Source, S: FrameSink>(
+    source: &mut R,
+    session: &mut Session,
+    piece: &mut [u8],
+    sink: &mut S,
+) -> Result<bool, Stop>
+    requires sink { S.failures sink.old < 2 ^ 64 - 1 }
+    requires source { R.failures source.old < 2 ^ 64 - 1 }
+    requires room { 0 < length piece.old }
+    requires runs { session.old.stop ≡ None }
+    ensures more { IfOk result (λ more. IsTrue more → (bytes : List ℕ) (first : _) → Fed judging S.took (R.left source.old) bytes fresh.standing session.old.standing first sink.old → Fed judging S.took (R.left source.new) bytes fresh.standing session.new.standing first sink.new) }
+    ensures end { IfOk result (λ more. IsFalse more → (session.new ≡ session.old) × (sink.new ≡ sink.old) × ((left : List ℕ) → R.left source.old ≡ Some left → left ≡ [])) }
+    ensures stops { IfErr result (λ stop. (bytes : List ℕ) (first : _) → Fed judging S.took (R.left source.old) bytes fresh.standing session.old.standing first sink.old → S.failures sink.old ≡ S.failures first → Judges judging start S.took S.failures bytes first sink.new (Err stop)) }
+    ensures kept { OnOk result ((session.new.stop ≡ None) × (S.failures sink.new ≡ S.failures sink.old) × (R.failures source.new ≡ R.failures source.old)) }
+    ensures again { (n : ℕ) → R.was_read source.old n → R.was_read source.new (n + 1) }
+    ensures read { IsErrOf result Stop.Read → R.failures source.new ≡ R.failures source.old + 1 }
+    ensures write { IsErrOf result Stop.Write → S.failures sink.new ≡ S.failures sink.old + 1 }
+    ensures piece { length piece.new ≡ length piece.old }
+{
+    match source.read(piece) {
+        Err(_) => Err(Stop::Read),
+        Ok(None) => Ok(true),
+        Ok(Some(n)) => {
+            if n == 0 {
+                return Ok(false);
+            }
+            session.feed(front(piece, n), sink)?;
+            Ok(true)
+        }
+    }
+}
+
+/// The verdict on the stream that a source gives, read in pieces of 4,096 bytes. An interrupted read is tried again.
+///
+/// Ok: the stream is legal. No: the first rule that it breaks, and where. Outside: the first feature that is not judged.
+/// Memory: a growth was refused. Read: the source failed, or was read 2^41 times. Write: the sink failed.
+pub fn run<R: Source, S: FrameSink>(
+    alloc: Global,
+    source: &mut R,
+    sink: &mut S,
+    mode: Mode,
+) -> Result<Summary, Stop>
+    requires sink { S.failures sink.old < 2 ^ 64 - 1 }
+    requires source { R.failures source.old < 2 ^ 64 - 1 }
+    // Yes, no and outside are those of the stream, with the calls up to there; memory, read and write come with the first calls.
+    ensures verdict { (bytes : List ℕ) → R.left source.old ≡ Some bytes → Judges judging start S.took S.failures bytes sink.old sink.new result }
+    ensures read { IsErrOf result Stop.Read → (R.failures source.new ≡ R.failures source.old + 1) ⊎ ((n : ℕ) → R.was_read source.old n → R.was_read source.new (n + 2 ^ 41)) }
+    ensures write { IsErrOf result Stop.Write → S.failures sink.new ≡ S.failures sink.old + 1 }
+{
+    let mut session = Session::new(alloc, mode, Target::Baseline)?;
+    let mut piece = [0u8; PIECE];
+    for _ in 0..2_199_023_255_552u64 {
+        if !turn(source, &mut session, &mut piece, sink)? {
+            return session.finish(sink);
+        }
+    }
+    Err(Stop::Read)
+}
+
+/// The verdict on a stream that comes in these pieces: that of their bytes, however they were cut.
+pub fn run_pieces<S: FrameSink>(
+    alloc: Global,
+    pieces: &[Vec<u8>],
+    sink: &mut S,
+    mode: Mode,
+) -> Result<Summary, Stop>
+    requires { S.failures sink.old < 2 ^ 64 - 1 }
+    ensures { Judges judging start S.took S.failures (flat_map (λ piece. piece.items) pieces.now) sink.old sink.new result }
+{
+    let mut session = Session::new(alloc, mode, Target::Baseline)?;
+    for piece in pieces {
+        session.feed(piece.as_slice(), sink)?;
+    }
+    session.finish(sink)
+}

@@ -1,0 +1,175 @@
+//! A session over a stream.
+#![tactic(auto)]
+
+ghost use Rattle.std.specs.Prelude.{◌≡◌, ℕ, ◌+◌, ◌-◌, ◌*◌, ◌<◌, ◌≤◌, ◌^◌, List, [], ◌∷◌, ◌++◌, length, OnOk, OnErr, IfOk, IfErr, Ok, Err, None, drop, IsFalse, IfSome, Some, IsErrOf};
+ghost use Rattle.h264_verify.specs.Session.{Goes, Stops, Finishes};
+ghost use Rattle.h264_verify.specs.UnitRules.{judging};
+ghost use Rattle.h264_verify.specs.Progress.{fresh};
+
+use crate::judge::{State, Summary};
+use crate::sink::FrameSink;
+use crate::unit::{judge_end, judge_unit};
+use h264_base::{Mode, Stop, Target};
+use h264_sets::Sets;
+use h264_units::Splitter;
+use std::alloc::Global;
+use std::marker::Model;
+
+/// Bytes up to the end of a unit, and the unit.
+fn feed_some<S: FrameSink>(
+    alloc: Global,
+    splitter: &mut Splitter,
+    state: &mut State,
+    piece: &[u8],
+    sink: &mut S,
+) -> Result<usize, Stop>
+    requires count { S.failures sink.old < 2 ^ 64 - 1 }
+    requires some { 0 < length piece.now }
+    requires runs { (splitter.old.stop ≡ None) × IsFalse splitter.old.waiting × IsFalse splitter.old.ended }
+    requires counted { state.old.units ≤ splitter.old.at }
+    ensures within { IfOk result (λ n. (0 < n) × (n ≤ length piece.now)) }
+    ensures goes { IfOk result (λ n. Goes judging S.took (record { split = splitter.old; state = state.old }) (record { split = splitter.new; state = state.new }) piece.now (drop n piece.now) sink.old sink.new) }
+    ensures runs { OnOk result ((splitter.new.stop ≡ None) × IsFalse splitter.new.waiting × IsFalse splitter.new.ended) }
+    ensures counted { OnOk result (state.new.units ≤ splitter.new.at) }
+    ensures kept { OnOk result (S.failures sink.new ≡ S.failures sink.old) }
+    ensures stops { IfErr result (Stops judging S.took S.failures (record { split = splitter.old; state = state.old }) piece.now sink.old sink.new) }
+{
+    let n = splitter.push(piece)?;
+    match splitter.take_unit() {
+        None => Ok(n),
+        Some(unit) => {
+            judge_unit(alloc, state, &unit, sink)?;
+            Ok(n)
+        }
+    }
+}
+
+fn after(piece: &[u8], n: usize) -> &[u8]
+    requires { n ≤ length piece.now }
+    ensures { result.now ≡ drop n piece.now }
+{
+    &piece[n..]
+}
+
+/// All of a piece.
+fn feed_all<S: FrameSink>(
+    alloc: Global,
+    splitter: &mut Splitter,
+    state: &mut State,
+    piece: &[u8],
+    sink: &mut S,
+) -> Result<(), Stop>
+    requires count { S.failures sink.old < 2 ^ 64 - 1 }
+    requires runs { (splitter.old.stop ≡ None) × IsFalse splitter.old.waiting × IsFalse splitter.old.ended }
+    requires counted { state.old.units ≤ splitter.old.at }
+    ensures goes { OnOk result (Goes judging S.took (record { split = splitter.old; state = state.old }) (record { split = splitter.new; state = state.new }) piece.now [] sink.old sink.new) }
+    ensures runs { OnOk result ((splitter.new.stop ≡ None) × IsFalse splitter.new.waiting × IsFalse splitter.new.ended) }
+    ensures counted { OnOk result (state.new.units ≤ splitter.new.at) }
+    ensures kept { OnOk result (S.failures sink.new ≡ S.failures sink.old) }
+    ensures stops { IfErr result (Stops judging S.took S.failures (record { split = splitter.old; state = state.old }) piece.now sink.old sink.new) }
+{
+    let mut rest = piece;
+    while !rest.is_empty() {
+        let n = feed_some(alloc, splitter, state, rest, sink)?;
+        rest = after(rest, n);
+    }
+    Ok(())
+}
+
+/// What is left at the end of the input.
+fn finish_all<S: FrameSink>(
+    alloc: Global,
+    splitter: &mut Splitter,
+    state: &mut State,
+    sink: &mut S,
+) -> Result<Summary, Stop>
+    requires count { S.failures sink.old < 2 ^ 64 - 1 }
+    requires runs { (splitter.old.stop ≡ None) × IsFalse splitter.old.waiting × IsFalse splitter.old.ended }
+    requires counted { state.old.units ≤ splitter.old.at }
+    ensures { Finishes judging S.took S.failures (record { split = splitter.old; state = state.old }) sink.old sink.new result }
+{
+    splitter.finish()?;
+    match splitter.take_unit() {
+        None => judge_end(state, sink),
+        Some(unit) => {
+            judge_unit(alloc, state, &unit, sink)?;
+            judge_end(state, sink)
+        }
+    }
+}
+
+/// A stream that is judged as it comes.
+#[derive(Drop)]
+pub struct Session {
+    alloc: Global,
+    splitter: Splitter,
+    state: State,
+    stop: Option<Stop>,
+}
+
+impl Model for Session {
+    ghost use Rattle.h264_verify.specs.Progress.{Progress, IsSession};
+
+    ghost Value = { Progress };
+
+    ghost view = { λ s. record { standing = record { split = s.splitter; state = s.state }; stop = s.stop } };
+
+    ghost invariant = { λ s. IsSession s.stop s.splitter s.state };
+}
+
+impl Session {
+    /// A session before the first byte. It takes the places of the parameter sets: Memory where they are refused.
+    pub fn new(alloc: Global, _mode: Mode, _target: Target) -> Result<Session, Stop>
+        ensures ok { IfOk result (λ s. s ≡ fresh) }
+        ensures err { IfErr result (λ e. e ≡ Stop.Memory) }
+    {
+        let Ok(sets) = Sets::new(alloc) else {
+            return Err(Stop::Memory);
+        };
+        Ok(Session {
+            alloc,
+            splitter: Splitter::new(alloc),
+            state: State { units: 0, sets },
+            stop: None,
+        })
+    }
+
+    /// Judges the next piece of the input.
+    pub fn feed<S: FrameSink>(&mut self, piece: &[u8], sink: &mut S) -> Result<(), Stop>
+        requires { S.failures sink.old < 2 ^ 64 - 1 }
+        // However the input goes on, what comes is what the sink was told now and what comes later.
+        ensures goes { self.old.stop ≡ None → OnOk result (Goes judging S.took self.old.standing self.new.standing piece.now [] sink.old sink.new) }
+        ensures going { OnOk result (self.new.stop ≡ None) }
+        ensures kept { OnOk result (S.failures sink.new ≡ S.failures sink.old) }
+        // The stop is the stream's, or the sink failed, or memory was refused.
+        ensures stops { self.old.stop ≡ None → IfErr result (Stops judging S.took S.failures self.old.standing piece.now sink.old sink.new) }
+        ensures stopped { IfErr result (λ stop. self.new.stop ≡ Some stop) }
+        // A stopped session repeats its stop, and touches no sink.
+        ensures again { IfSome self.old.stop (λ stop. (result ≡ Err stop) × (self.new ≡ self.old) × (sink.new ≡ sink.old)) }
+    {
+        if let Some(stop) = self.stop {
+            return Err(stop);
+        }
+        match feed_all(self.alloc, &mut self.splitter, &mut self.state, piece, sink) {
+            Ok(()) => Ok(()),
+            Err(stop) => {
+                self.stop = Some(stop);
+                Err(stop)
+            }
+        }
+    }
+
+    /// Judges the end of the input.
+    pub fn finish<S: FrameSink>(self, sink: &mut S) -> Result<Summary, Stop>
+        requires { S.failures sink.old < 2 ^ 64 - 1 }
+        ensures finishes { self.stop ≡ None → Finishes judging S.took S.failures self.standing sink.old sink.new result }
+        ensures again { IfSome self.stop (λ stop. (result ≡ Err stop) × (sink.new ≡ sink.old)) }
+    {
+        if let Some(stop) = self.stop {
+            return Err(stop);
+        }
+        let mut splitter = self.splitter;
+        let mut state = self.state;
+        finish_all(self.alloc, &mut splitter, &mut state, sink)
+    }
+}

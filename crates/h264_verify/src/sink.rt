@@ -1,0 +1,25 @@
+//! What takes the units of a stream, beside its elements.
+#![tactic(auto)]
+
+ghost use Rattle.std.specs.Prelude.{ℕ, ◌≡◌, ◌+◌, ◌-◌, ◌<◌, ◌^◌, [], ◌∷◌, OnOk, OnErr};
+ghost use Rattle.h264_base.specs.Call.{OfUnit, Tells};
+
+use h264_base::{Elements, Failed};
+
+/// Takes what a stream consists of, in order.
+pub trait FrameSink: Elements {
+    /// A unit whose rules are met: the byte of the input where it begins, its nal_unit_type and nal_ref_idc, and its length in
+    /// bytes, the header and emulation prevention bytes among them.
+    fn unit(
+        &mut self,
+        byte: u64,
+        nal_unit_type: u8,
+        nal_ref_idc: u8,
+        length: u64,
+    ) -> Result<(), Failed>
+        requires { Self.failures self.old < 2 ^ 64 - 1 }
+        ensures ok { OnOk result (Tells Self.took self.old self.new (OfUnit byte nal_unit_type nal_ref_idc length ∷ [])) }
+        ensures kept { OnOk result (Self.failures self.new ≡ Self.failures self.old) }
+        ensures refused { OnErr result (Tells Self.took self.old self.new []) }
+        ensures failed { OnErr result (Self.failures self.new ≡ Self.failures self.old + 1) };
+}

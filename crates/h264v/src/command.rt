@@ -1,0 +1,100 @@
+//! The command line.
+#![tactic(auto)]
+
+use crate::files::{Opener, ReadSource};
+use h264_base::{Mode, Stop};
+use h264_report::{LineSink, verdict_line};
+use h264_verify::{Summary, run};
+use std::alloc::Global;
+use std::io::Write;
+
+/// What the words ask for.
+enum Request<'a> {
+    /// The units and parameter sets of this file.
+    Units(&'a str),
+    /// Nothing that there is.
+    Fault,
+}
+
+/// The text on standard error for a fault of the words.
+const USAGE: &str = "usage: h264v units FILE\n";
+
+/// The exit status of a fault of the words, and of a failed device.
+const FAULT: u8 = 64;
+
+const DEVICE: u8 = 4;
+
+const MEMORY: u8 = 3;
+
+fn asked<'a>(words: &'a [String]) -> Request<'a> {
+    match words {
+        [_, command, file] => {
+            if command.as_str() == "units" {
+                Request::Units(file.as_str())
+            } else {
+                Request::Fault
+            }
+        }
+        _ => Request::Fault,
+    }
+}
+
+/// The exit status of a verdict.
+fn status(verdict: &Result<Summary, Stop>) -> u8 {
+    match verdict {
+        Ok(_) => 0,
+        Err(Stop::No { .. }) => 1,
+        Err(Stop::Outside { .. }) => 2,
+        Err(Stop::Memory) => MEMORY,
+        Err(Stop::Read | Stop::Write) => DEVICE,
+    }
+}
+
+/// Writes a line and its end, and all that was held back; the exit status is the one given where that was possible.
+fn put_last<W: Write>(line: &str, out: &mut W, status: u8) -> u8 {
+    let written = out.write_all(line.as_bytes()).is_ok()
+        && out.write_all(b"\n").is_ok()
+        && out.flush().is_ok();
+    if written { status } else { DEVICE }
+}
+
+/// Writes the last line of a verdict.
+fn put_verdict<W: Write>(alloc: Global, verdict: Result<Summary, Stop>, out: &mut W) -> u8 {
+    match verdict_line(alloc, verdict) {
+        Ok(line) => put_last(line.as_str(), out, status(&verdict)),
+        Err(_) => put_last("memory", out, MEMORY),
+    }
+}
+
+/// Judges the units and parameter sets of a file.
+fn units<O: Opener, W: Write>(alloc: Global, file: &str, opener: &mut O, out: &mut W) -> u8 {
+    let Ok(reader) = opener.open(file) else {
+        return put_verdict(alloc, Err(Stop::Read), out);
+    };
+    let mut source = ReadSource::new(reader);
+    let mut sink = LineSink::new(alloc, out);
+    let verdict = run(alloc, &mut source, &mut sink, Mode::Units);
+    let short = sink.short_of_memory();
+    if short {
+        return put_verdict(alloc, Err(Stop::Memory), out);
+    }
+    put_verdict(alloc, verdict, out)
+}
+
+/// Does what the words ask, the program's name first among them, and gives the exit status: 0 yes, 1 no, 2 outside, 3 memory,
+/// 4 a device failed, 64 a fault of the words, whose text goes to `err`.
+pub fn command<O: Opener, W: Write, E: Write>(
+    alloc: Global,
+    words: &[String],
+    opener: &mut O,
+    out: &mut W,
+    err: &mut E,
+) -> u8 {
+    match asked(words) {
+        Request::Units(file) => units(alloc, file, opener, out),
+        Request::Fault => {
+            let _ = err.write_all(USAGE.as_bytes());
+            FAULT
+        }
+    }
+}

@@ -1,0 +1,59 @@
+//! The program `h264v`: whether an H.264 stream is legal.
+//!
+//! `main` hands the arguments, the files and the standard streams to `command`, and its status to the system.
+#![tactic(auto)]
+
+mod command;
+mod files;
+#[cfg(test)]
+mod set_tests;
+#[cfg(test)]
+mod tests;
+
+use command::command;
+use files::Opener;
+use std::alloc::Global;
+use std::fs::File;
+use std::io::BufWriter;
+use std::process::ExitCode;
+use std::{env, fs, io};
+
+/// The files of the system.
+#[derive(Drop)]
+struct SystemFiles<'a> {
+    rt: &'a HostRuntime,
+}
+
+impl Opener for SystemFiles<'_> {
+    type File = File;
+
+    fn open(&mut self, name: &str) -> io::Result<File> {
+        fs::open(self.rt, name)
+    }
+}
+
+/// The arguments, the program's name first.
+fn words(rt: &HostRuntime) -> io::Result<Vec<String>> {
+    let mut words: Vec<String> = Vec::new(rt.alloc());
+    for word in env::args(rt)? {
+        words.push(word)?;
+    }
+    Ok(words)
+}
+
+/// Runs the command that the arguments ask for. Want of memory before that is status 3.
+fn status(rt: &HostRuntime) -> io::Result<u8> {
+    let words = words(rt)?;
+    let alloc: Global = rt.alloc();
+    let mut out = BufWriter::new(alloc, io::writer(rt))?;
+    let mut err = rt.stderr();
+    let mut files = SystemFiles { rt };
+    Ok(command(rt.alloc(), words.as_slice(), &mut files, &mut out, &mut err))
+}
+
+fn main(rt: HostRuntime) -> ExitCode {
+    match status(&rt) {
+        Ok(status) => ExitCode::from(status),
+        Err(_) => ExitCode::from(3),
+    }
+}
