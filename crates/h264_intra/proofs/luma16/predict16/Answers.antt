@@ -1,0 +1,35 @@
+use Rattle.std.proofs.Common.{pos}
+use Rattle.h264_intra.proofs.Whole.{vertical16, horizontal16, plane_whole16, flat16}
+use Rattle.h264_intra.proofs.luma16.predict16.Goals as goal
+
+pub returns-in-Vertical : goal.returns-in-Vertical
+returns-in-Vertical c =
+    let n = c.args.neighbours.now in
+    let left = c.unwrap_or-left in
+    let above = c.unwrap_or-above in
+    rw c.in-Vertical.is (vertical16 n left.result above.result _ c.fill.result 0 (pos 0) (pos 0) (pos 0) (rw c.in-Vertical.is at c.requires) above.ensures c.fill.ensures)
+
+pub returns-in-Horizontal : goal.returns-in-Horizontal
+returns-in-Horizontal c =
+    let n = c.args.neighbours.now in
+    let left = c.unwrap_or-left in
+    let above = c.unwrap_or-above in
+    rw c.in-Horizontal.is (horizontal16 n left.result above.result _ c.fill-in-Horizontal.result 0 (pos 0) (pos 0) (pos 0) (rw c.in-Horizontal.is at c.requires) left.ensures c.fill-in-Horizontal.ensures)
+
+pub returns-in-Dc : goal.returns-in-Dc
+returns-in-Dc c =
+    let n = c.args.neighbours.now in
+    let left = c.unwrap_or-left in
+    let above = c.unwrap_or-above in
+    rw c.in-Dc.is (flat16 n left.result above.result c.fill-in-Dc.result c.mean_of_sides.result (pos 0) (pos 0) (pos 0) c.mean_of_sides.ensures c.fill-in-Dc.ensures)
+
+pub returns-in-Plane : goal.returns-in-Plane
+returns-in-Plane c =
+    let n = c.args.neighbours.now in
+    let left = c.unwrap_or-left in
+    let above = c.unwrap_or-above in
+    let corner = c.unwrap_or-corner in
+    let there = rw c.in-Plane.is at c.requires in
+    let p = c.new in
+    rw c.in-Plane.is (plane_whole16 n left.result above.result _ c.fill-in-Plane.result corner.result 0 p.result.a p.result.b p.result.c
+    there.0 there.1 there.2 left.ensures above.ensures corner.ensures p.ensures.a p.ensures.b p.ensures.c c.fill-in-Plane.ensures)

@@ -1,0 +1,42 @@
+-- Prediction of the 16x16 luma samples of a macroblock (8.3.3).
+use Rattle.std.specs.Prelude.{ℕ, ◌+◌, ◌==◌, if◌then◌else◌, List, slice_index, is_some, IsTrue, ℤ, pos}
+use Rattle.h264_intra.specs.Filters.{total, mean}
+use Rattle.h264_intra.specs.Sides.{Sides, beside}
+use Rattle.h264_intra.specs.Slope.{plane, plane_sample}
+use Rattle.h264_intra.specs.declared.luma16.Neighbours16.{Neighbours16}
+use Rattle.h264_intra.specs.declared.luma16.Intra16x16PredMode.{Intra16x16PredMode}
+use Rattle.h264_intra.specs.declared.luma16.Intra16x16PredMode.TheVariants.{Vertical, Horizontal, Dc, Plane}
+
+-- the sides that a mode needs
+abbrev pub IsPossible16 : Intra16x16PredMode → Sides → Type 0
+IsPossible16 Vertical s = IsTrue s.above
+IsPossible16 Horizontal s = IsTrue s.left
+IsPossible16 Dc s = Unit {0}
+IsPossible16 Plane s = IsTrue s.above × IsTrue s.left × IsTrue s.corner
+
+-- the value of DC (8.3.3.3)
+abbrev pub dc16 : Sides → (ℕ → ℕ → ℕ) → ℕ
+dc16 s p = mean 16 s.left s.above (total 16 (λ k. p 0 (k + 1))) (total 16 (λ k. p (k + 1) 0))
+
+-- the predicted sample at column x of row y
+unfoldable pub predicted16 : Intra16x16PredMode → Sides → (ℕ → ℕ → ℕ) → ℕ → ℕ → ℕ
+predicted16 Vertical s p x y = p (x + 1) 0
+predicted16 Horizontal s p x y = p 0 (y + 1)
+predicted16 Dc s p x y = dc16 s p
+predicted16 Plane s p x y = plane 8 (pos 5) p x y
+
+-- ---- the neighbours that the code is given
+
+abbrev pub sides16 : Neighbours16 → Sides
+sides16 n = record { left = is_some n.left; above = is_some n.above; corner = is_some n.corner }
+
+abbrev pub around16 : Neighbours16 → ℕ → ℕ → ℕ
+around16 n = beside n.left n.above n.corner
+
+-- what the code chooses by the mode's number (table 8-4)
+abbrev pub chosen16 : ℕ → List ℕ → List ℕ → ℕ → ℤ → ℤ → ℤ → ℕ → ℕ → ℕ
+chosen16 m left above flat a b c x y =
+    if m == 0 then slice_index above x
+    else if m == 1 then slice_index left y
+    else if m == 2 then flat
+    else plane_sample 8 a b c x y
