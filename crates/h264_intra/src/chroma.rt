@@ -1,4 +1,4 @@
-ghost use Rattle.std.specs.Prelude.{◌≡◌, ℕ, ◌+◌, ◌*◌, ◌<◌, ◌≤◌, length, slice_index};
+ghost use Rattle.std.specs.Prelude.{◌≡◌, ◌+◌, ◌*◌, ◌<◌, ◌≤◌, slice_index};
 ghost use Rattle.h264_intra.specs.Filters.{total, HasSamples};
 ghost use Rattle.h264_intra.specs.Sides.{IsGentle};
 ghost use Rattle.h264_intra.specs.Chroma.{IsPossibleChroma, block_dc, predicted_chroma, sides_chroma, around_chroma, chosen_chroma};

@@ -1,4 +1,4 @@
-ghost use Rattle.std.specs.Prelude.{◌≡◌, ℕ, ◌+◌, ◌*◌, ◌<◌, ◌≤◌, length, slice_index};
+ghost use Rattle.std.specs.Prelude.{◌≡◌, ◌<◌, ◌≤◌, slice_index};
 ghost use Rattle.h264_intra.specs.Filters.{total, HasSamples};
 ghost use Rattle.h264_intra.specs.Sides.{IsGentle};
 ghost use Rattle.h264_intra.specs.Luma16.{IsPossible16, dc16, predicted16, sides16, around16, chosen16};

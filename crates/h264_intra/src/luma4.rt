@@ -1,5 +1,5 @@
-ghost use Rattle.std.specs.Prelude.{◌≡◌, ℕ, ◌+◌, ◌-◌, ◌*◌, ◌<◌, ◌≤◌, length, slice_index};
-ghost use Rattle.h264_intra.specs.Filters.{f3 as f3_of, f2 as f2_of, total, mean, HasSamples};
+ghost use Rattle.std.specs.Prelude.{◌≡◌, ◌<◌, ◌≤◌, slice_index};
+ghost use Rattle.h264_intra.specs.Filters.{f3 as f3_of, f2 as f2_of, total, HasSamples};
 ghost use Rattle.h264_intra.specs.Luma4.{from_border, diagonal_down_left as diagonal_down_left_of, diagonal_down_right as diagonal_down_right_of, vertical_right as vertical_right_of, horizontal_down as horizontal_down_of, vertical_left as vertical_left_of, horizontal_up as horizontal_up_of, directed, mode_of, filled, dc, sides4, around4, SameRound4, IsPossible4, predicted4};
 
 /// How a 4x4 luma block is predicted (table 8-2).

@@ -1,4 +1,4 @@
-ghost use Rattle.std.specs.Prelude.{◌≡◌, ◌≢◌, ◌⊎◌, ℕ, ◌+◌, ◌-◌, ◌*◌, ◌<◌, ◌≤◌, length, slice_index, ℤ, pos, ◌+ℤ◌, ◌*ℤ◌, ◌-ℤ◌};
+ghost use Rattle.std.specs.Prelude.{◌≡◌, ◌+◌, ◌-◌, ◌*◌, ◌<◌, ◌≤◌, length, slice_index, ℤ, pos, ◌*ℤ◌, ◌-ℤ◌};
 ghost use Rattle.h264_intra.specs.Slope.{gradient as gradient_of, slope as slope_of, clip1 as clip1_of, plane_sample};
 ghost use Rattle.h264_intra.specs.Sides.{with_corner, IsIn, IsGentle};
 

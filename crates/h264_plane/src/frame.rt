@@ -1,7 +1,7 @@
-ghost use Rattle.std.specs.Prelude.{◌≡◌, ℕ, ◌+◌, ◌*◌, ◌/◌, ◌%◌, ◌<◌, ◌≤◌, length, slice_index, IfOk};
+ghost use Rattle.std.specs.Prelude.{◌≡◌, ℕ, ◌+◌, ◌*◌, ◌%◌, ◌<◌, ◌≤◌, length, slice_index, IfOk};
 ghost use Rattle.std.specs.Borrow.{sem};
 ghost use Rattle.h264_plane.specs.Samples.{at, with_block, IsBlank};
-ghost use Rattle.h264_plane.specs.Frames.{plane_of, with_plane, IsFrame, IsWritten, LendsPlane, no_frame};
+ghost use Rattle.h264_plane.specs.Frames.{plane_of, IsFrame, IsWritten, LendsPlane, no_frame};
 
 use crate::plane::{MAX_SIDE, Plane};
 use std::alloc::{AllocError, Global};

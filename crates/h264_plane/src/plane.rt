@@ -1,4 +1,4 @@
-ghost use Rattle.std.specs.Prelude.{◌≡◌, ◌≢◌, ◌⊎◌, ℕ, ◌+◌, ◌*◌, ◌<◌, ◌≤◌, length, slice_index, slice_range, IfOk};
+ghost use Rattle.std.specs.Prelude.{◌≡◌, ℕ, ◌+◌, ◌*◌, ◌<◌, ◌≤◌, length, slice_index, IfOk};
 ghost use Rattle.h264_plane.specs.Samples.{Samples, at, no_samples, IsSized, IsBlank, IsSet, IsPut, with_run, with_block, Holds, look, size_along, size_across};
 
 use std::alloc::{AllocError, Global};

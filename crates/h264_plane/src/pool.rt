@@ -1,10 +1,10 @@
-ghost use Rattle.std.specs.Prelude.{◌≡◌, ℕ, ◌+◌, ◌*◌, ◌%◌, ◌<◌, ◌≤◌, List, length, slice_set, IfOk};
+ghost use Rattle.std.specs.Prelude.{◌≡◌, ◌↔◌, IsTrue, [], ℕ, ◌%◌, ◌<◌, ◌≤◌, List, length, slice_set, IfOk};
 ghost use Rattle.std.specs.Borrow.{sem};
 ghost use Rattle.h264_plane.specs.Lending.{LendsFrame};
 ghost use Rattle.h264_plane.specs.Frames.{no_frame, frame_at, IsFrame, KeepsOtherFrames};
 
 use crate::frame::Frame;
-use crate::plane::{MAX_SIDE, Plane};
+use crate::plane::MAX_SIDE;
 use std::alloc::{AllocError, Global};
 use std::marker::Model;
 use std::mem;
@@ -50,6 +50,13 @@ impl Pool {
         ensures { result ≡ length self.now }
     {
         self.frames.len()
+    }
+
+    /// Whether it has no frame.
+    pub fn is_empty(&self) -> bool
+        ensures { IsTrue result ↔ (self.now ≡ []) }
+    {
+        self.frames.is_empty()
     }
 
     /// The frame at a place.

@@ -68,6 +68,7 @@ fn a_frame_has_three_planes(rt: HostRuntime) -> Result<(), AllocError> {
 fn one_frame_is_written_while_another_is_read(rt: HostRuntime) -> Result<(), AllocError> {
     let mut pool = Pool::new(rt.alloc(), 3, 16, 16)?;
     assert_eq!(rt; pool.len(), 3);
+    assert_eq!(rt; pool.is_empty(), false);
     pool.frame_mut(2).plane_mut(Component::Y).set(0, 0, 6);
     let mut current = pool.take(1);
     let reference = pool.frame(2);

@@ -5,7 +5,7 @@ use Rattle.h264_scale.specs.Residual.{fits16, all_entries, coefficient, level_sc
 
 -- ---- Intra 16x16 (8.5.10)
 
--- the matrix of the transform (8-328)
+-- the matrix of the transform
 abbrev pub hadamard : ℕ → ℕ → ℤ
 hadamard i j =
     let one = pos 1 in let less = negsuc 0 in
@@ -15,11 +15,11 @@ hadamard i j =
 abbrev pub product4 : (ℕ → ℕ → ℤ) → (ℕ → ℕ → ℤ) → ℕ → ℕ → ℤ
 product4 a b i j = a i 0 *ℤ b 0 j +ℤ a i 1 *ℤ b 1 j +ℤ a i 2 *ℤ b 2 j +ℤ a i 3 *ℤ b 3 j
 
--- f (8-328)
+-- f
 abbrev pub f16_of : List ℤ → ℕ → ℕ → ℤ
 f16_of levels = product4 (product4 hadamard (coefficient levels)) hadamard
 
--- dcY of an entry of f (8-329, 8-330)
+-- dcY of an entry of f
 unfoldable pub scaled_dc16 : ℕ → ℤ → ℤ
 scaled_dc16 qp f =
     if nat_le 36 qp then f *ℤ pos (level_scale (qp % 6) 0 0) *ℤ pos (2 ^ (qp / 6 - 6))
@@ -34,7 +34,7 @@ dc16_fits levels qp = all_entries fits16 (f16_of levels) && all_entries fits16 (
 
 -- ---- chroma (8.5.11)
 
--- c (8-326): the levels row by row
+-- c: the levels row by row
 abbrev pub chroma_coefficient : List ℤ → ℕ → ℕ → ℤ
 chroma_coefficient levels i j = get_or levels (2 * i + j) (pos 0)
 
@@ -44,11 +44,11 @@ hadamard2 i j = let one = pos 1 in get_or (one ∷ get_or (one ∷ negsuc 0 ∷ 
 abbrev pub product2 : (ℕ → ℕ → ℤ) → (ℕ → ℕ → ℤ) → ℕ → ℕ → ℤ
 product2 a b i j = a i 0 *ℤ b 0 j +ℤ a i 1 *ℤ b 1 j
 
--- f (8-331)
+-- f
 abbrev pub f2_of : List ℤ → ℕ → ℕ → ℤ
 f2_of levels = product2 (product2 hadamard2 (chroma_coefficient levels)) hadamard2
 
--- dcC of an entry of f (8-332)
+-- dcC of an entry of f
 unfoldable pub scaled_dc2 : ℕ → ℤ → ℤ
 scaled_dc2 qp f = int_shr (f *ℤ pos (level_scale (qp % 6) 0 0) *ℤ pos (2 ^ (qp / 6))) 5
 

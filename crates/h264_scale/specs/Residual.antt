@@ -30,7 +30,7 @@ all_entries p m = all4 (λ i. all4 (λ j. p (m i j)))
 
 -- ---- levels to coefficients: the zig-zag scan (8.5.6)
 
--- the entry, as 4 * row + column, at each place of the scan (table 8-2)
+-- the entry, as 4 * row + column, at each place of the scan
 abbrev pub zigzag : List ℕ
 zigzag = 0 ∷ 1 ∷ 4 ∷ 8 ∷ 5 ∷ 2 ∷ 3 ∷ 6 ∷ 9 ∷ 12 ∷ 13 ∷ 10 ∷ 7 ∷ 11 ∷ 14 ∷ 15 ∷ []
 
@@ -44,7 +44,7 @@ coefficient levels i j = get_or levels (place_of i j) (pos 0)
 
 -- ---- scaling (8.5.9, 8.5.12.1)
 
--- the three columns of v (8-314)
+-- the three columns of v
 abbrev pub v0 : List ℕ
 v0 = 10 ∷ 11 ∷ 13 ∷ 14 ∷ 16 ∷ 18 ∷ []
 
@@ -54,7 +54,7 @@ v1 = 16 ∷ 18 ∷ 20 ∷ 23 ∷ 25 ∷ 29 ∷ []
 abbrev pub v2 : List ℕ
 v2 = 13 ∷ 14 ∷ 16 ∷ 18 ∷ 20 ∷ 23 ∷ []
 
--- normAdjust4x4 (8-315)
+-- normAdjust4x4
 abbrev pub norm_adjust : ℕ → ℕ → ℕ → ℕ
 norm_adjust m i j =
     if i % 2 == 0 && j % 2 == 0 then slice_index v0 m
@@ -65,7 +65,7 @@ norm_adjust m i j =
 abbrev pub level_scale : ℕ → ℕ → ℕ → ℕ
 level_scale m i j = 16 * norm_adjust m i j
 
--- d of an entry (8-336, 8-337)
+-- d of an entry
 unfoldable pub scaled : ℕ → ℕ → ℕ → ℤ → ℤ
 scaled qp i j c =
     if nat_le 24 qp then c *ℤ pos (level_scale (qp % 6) i j) *ℤ pos (2 ^ (qp / 6 - 4))
@@ -85,21 +85,21 @@ d_with_dc dc levels qp i j = if i == 0 && j == 0 then dc else scaled qp i j (coe
 abbrev pub pick : ℕ → ℤ → ℤ → ℤ → ℤ → ℤ
 pick k x0 x1 x2 x3 = get_or (x0 ∷ x1 ∷ x2 ∷ x3 ∷ []) k (pos 0)
 
--- rows: e and f (8-338 to 8-345)
+-- rows: e and f
 abbrev pub e_of : (ℕ → ℕ → ℤ) → ℕ → ℕ → ℤ
 e_of d i j = pick j (d i 0 +ℤ d i 2) (d i 0 -ℤ d i 2) (int_shr (d i 1) 1 -ℤ d i 3) (d i 1 +ℤ int_shr (d i 3) 1)
 
 abbrev pub f_of : (ℕ → ℕ → ℤ) → ℕ → ℕ → ℤ
 f_of e i j = pick j (e i 0 +ℤ e i 3) (e i 1 +ℤ e i 2) (e i 1 -ℤ e i 2) (e i 0 -ℤ e i 3)
 
--- columns: g and h (8-346 to 8-353)
+-- columns: g and h
 abbrev pub g_of : (ℕ → ℕ → ℤ) → ℕ → ℕ → ℤ
 g_of f i j = pick i (f 0 j +ℤ f 2 j) (f 0 j -ℤ f 2 j) (int_shr (f 1 j) 1 -ℤ f 3 j) (f 1 j +ℤ int_shr (f 3 j) 1)
 
 abbrev pub h_of : (ℕ → ℕ → ℤ) → ℕ → ℕ → ℤ
 h_of g i j = pick i (g 0 j +ℤ g 3 j) (g 1 j +ℤ g 2 j) (g 1 j -ℤ g 2 j) (g 0 j -ℤ g 3 j)
 
--- r (8-354)
+-- r
 unfoldable pub residual_at : (ℕ → ℕ → ℤ) → ℕ → ℕ → ℤ
 residual_at d i j = int_shr (h_of (g_of (f_of (e_of d))) i j +ℤ pos 32) 6
 

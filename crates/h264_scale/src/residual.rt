@@ -1,4 +1,4 @@
-ghost use Rattle.std.specs.Prelude.{◌≡◌, ◌↔◌, ◌+◌, ◌*◌, ◌/◌, ◌%◌, ◌^◌, ◌<◌, ◌≤◌, IsTrue, IsOk, IfOk, ℤ, pos, [], ◌∷◌, ◌*ℤ◌};
+ghost use Rattle.std.specs.Prelude.{◌≡◌, ◌↔◌, ◌*◌, ◌/◌, ◌^◌, ◌≤◌, IsTrue, IsOk, IfOk, ℤ, pos, ◌∷◌, ◌*ℤ◌};
 ghost use Rattle.h264_scale.specs.Residual.{AreIn, coefficient, d_of, d_with_dc, residual_at, residual_fits, HasEntries};
 ghost use Rattle.h264_scale.specs.Fours.{four, held, block_of, scaled_block};
 

@@ -1,5 +1,4 @@
-ghost use Rattle.std.specs.Prelude.{◌≡◌, codes, Some, false, true, MatchResult, IfOk, ℤ, pos, ◌+ℤ◌};
-ghost use Rattle.std.specs.Int.{int_shr};
+ghost use Rattle.std.specs.Prelude.{◌≡◌, codes, Some, false, true, MatchResult, IfOk};
 ghost use Rattle.h264_scale.specs.Residual.{IsIn, AreIn};
 ghost use Rattle.h264_scale.specs.Fours.{IsShort, IsShortBlock, rounded, rounded_block, block_residual_fits, block_residual};
 
