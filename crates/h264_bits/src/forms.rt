@@ -21,8 +21,8 @@ pub fn u_value<const N: u32, S: Elements>(
     ensures meets { Meets S.took S.failures (Is (λ x. x)) (bits_form name N) bits.old bits.new sink.old sink.new result }
     ensures small { IfOk result (λ v. v < 2 ^ N) }
 {
-    let found = read_u::<N, S>(bits, name, sink)?;
-    Ok(found.value)
+    let number = read_u::<N, S>(bits, name, sink)?;
+    Ok(number.value)
 }
 
 /// Reads a flag, u(1): whether it is 1.
@@ -43,8 +43,8 @@ pub fn ue_value<S: Elements>(bits: &mut Bits, name: ElementName, sink: &mut S) -
     requires { S.failures sink.old < 2 ^ 64 - 1 }
     ensures { Meets S.took S.failures (Is (λ x. x)) (unsigned name) bits.old bits.new sink.old sink.new result }
 {
-    let found = read_ue(bits, name, sink)?;
-    Ok(found.value)
+    let code_num = read_ue(bits, name, sink)?;
+    Ok(code_num.value)
 }
 
 /// Reads ue(v) of at most `max`; a greater value breaks Range.
@@ -58,9 +58,9 @@ pub fn ue_up_to<S: Elements>(
     ensures meets { Meets S.took S.failures (Is (λ x. x)) (unsigned_to name max) bits.old bits.new sink.old sink.new result }
     ensures within { IfOk result (λ v. v ≤ max) }
 {
-    let found = read_ue(bits, name, sink)?;
-    check(found.value <= max, Rule::Range, found.bit)?;
-    Ok(found.value)
+    let code = read_ue(bits, name, sink)?;
+    check(code.value <= max, Rule::Range, code.bit)?;
+    Ok(code.value)
 }
 
 /// Reads se(v): its value.
@@ -68,8 +68,8 @@ pub fn se_value<S: Elements>(bits: &mut Bits, name: ElementName, sink: &mut S) -
     requires { S.failures sink.old < 2 ^ 64 - 1 }
     ensures { Meets S.took S.failures (Is (λ x. x)) (signed name) bits.old bits.new sink.old sink.new result }
 {
-    let found = read_se(bits, name, sink)?;
-    Ok(found.value)
+    let signed = read_se(bits, name, sink)?;
+    Ok(signed.value)
 }
 
 /// Reads se(v) from `min` to `max`; any other value breaks Range.

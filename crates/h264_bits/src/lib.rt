@@ -13,6 +13,8 @@ mod codes;
 pub mod element;
 pub mod forms;
 pub mod laws;
+#[cfg(test)]
+mod tests;
 mod window;
 
 pub use bits::{Bits, NoWord};

@@ -14,7 +14,7 @@ use command::command;
 use files::Opener;
 use std::alloc::Global;
 use std::fs::File;
-use std::io::BufWriter;
+use std::io::{BufWriter, Write};
 use std::process::ExitCode;
 use std::{env, fs, io};
 
@@ -51,9 +51,17 @@ fn status(rt: &HostRuntime) -> io::Result<u8> {
     Ok(command(rt.alloc(), words.as_slice(), &mut files, &mut out, &mut err))
 }
 
+/// Says that memory is wanting, which takes none itself: the exit status.
+fn want_of_memory(rt: &HostRuntime) -> u8 {
+    match io::writer(rt).write_all(b"memory\n") {
+        Ok(()) => 3,
+        Err(_) => 4,
+    }
+}
+
 fn main(rt: HostRuntime) -> ExitCode {
     match status(&rt) {
         Ok(status) => ExitCode::from(status),
-        Err(_) => ExitCode::from(3),
+        Err(_) => ExitCode::from(want_of_memory(&rt)),
     }
 }

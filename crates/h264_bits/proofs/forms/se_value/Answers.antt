@@ -7,10 +7,10 @@ use Rattle.h264_base.proofs.Steps.{bind, stop, done, checked}
 use Rattle.h264_bits.specs.Forms.{signed}
 use Rattle.h264_bits.proofs.forms.se_value.Goals as goal
 
-pub returns-in_err-found : goal.returns-in_err-found
+pub returns-in_err-signed : goal.returns-in_err-signed
 unfolding signed
-returns-in_err-found g c = let p = err_from_is_err_and c.from_residual.result c.from_residual.ensures.1 in rw (p.1, p.2) (stop _ c.in_err-found.ensures.meets)
+returns-in_err-signed g c = let p = err_from_is_err_and c.from_residual.result c.from_residual.ensures.1 in rw (p.1, p.2) (stop _ c.in_err-signed.ensures.meets)
 
 pub returns : goal.returns
 unfolding signed
-returns g c = let fits : SFits w32 c.in_ok-found.found.value = search rules in bind _ c.in_ok-found.ensures.meets (done _ _ _ _ _ _ _ (simp to_z-of_z refl))
+returns g c = let fits : SFits w32 c.in_ok-signed.signed.value = search rules in bind _ c.in_ok-signed.ensures.meets (done _ _ _ _ _ _ _ (simp to_z-of_z refl))

@@ -4,10 +4,10 @@ use Rattle.h264_base.proofs.Steps.{bind, stop, done, checked}
 use Rattle.h264_bits.specs.Forms.{unsigned}
 use Rattle.h264_bits.proofs.forms.ue_value.Goals as goal
 
-pub returns-in_err-found : goal.returns-in_err-found
+pub returns-in_err-code_num : goal.returns-in_err-code_num
 unfolding unsigned
-returns-in_err-found g c = let p = err_from_is_err_and c.from_residual.result c.from_residual.ensures.1 in rw (p.1, p.2) (stop _ c.in_err-found.ensures.meets)
+returns-in_err-code_num g c = let p = err_from_is_err_and c.from_residual.result c.from_residual.ensures.1 in rw (p.1, p.2) (stop _ c.in_err-code_num.ensures.meets)
 
 pub returns : goal.returns
 unfolding unsigned
-returns g c = bind _ c.in_ok-found.ensures.meets (done _ _ _ _ _ _ _ refl)
+returns g c = bind _ c.in_ok-code_num.ensures.meets (done _ _ _ _ _ _ _ refl)

@@ -1,0 +1,414 @@
+//! What no clause says: code words and places worked by hand, and each call once.
+#![tactic(auto)]
+
+use crate::{
+    Bits, Found, NoWord, check, look, read_align, read_bits, read_bytes, read_flag,
+    read_residual_bits, read_se, read_te, read_trailing, read_u, read_ue, read_word, support,
+};
+use h264_base::{ElementName, Elements, Failed, Feature, Rule, Stop};
+use h264_rbsp::Rbsp;
+use h264_tables::Table;
+use h264_units::Splitter;
+use std::alloc::Global;
+use std::test::Fail;
+
+/// Keeps the last element, and how many there were.
+#[derive(Drop)]
+struct Last {
+    count: u32,
+    bit: u64,
+    value: i64,
+}
+
+impl Elements for Last {
+    ghost took = { λ _ _. Unit {0} };
+
+    ghost failures = { λ _. 0 };
+
+    fn element(&mut self, _name: ElementName, bit: u64, value: i64) -> Result<(), Failed> {
+        self.count = self.count.saturating_add(1);
+        self.bit = bit;
+        self.value = value;
+        Ok(())
+    }
+}
+
+/// Takes nothing.
+#[derive(Drop)]
+struct Full {
+    failed: u64,
+}
+
+impl Elements for Full {
+    ghost took = { λ _ _. Unit {0} };
+
+    ghost failures = { λ s. s.failed };
+
+    fn element(&mut self, _name: ElementName, _bit: u64, _value: i64) -> Result<(), Failed> {
+        self.failed += 1;
+        Err(Failed)
+    }
+}
+
+fn untold() -> Last {
+    Last {
+        count: 0,
+        bit: 0,
+        value: 0,
+    }
+}
+
+/// The RBSP of the unit of a stream that has one.
+fn rbsp(alloc: Global, stream: &[u8]) -> Result<Rbsp, Stop> {
+    let mut splitter = Splitter::new(alloc);
+    let _taken = splitter.push(stream)?;
+    if !splitter.waiting() {
+        splitter.finish()?;
+    }
+    let Some(unit) = splitter.take_unit() else {
+        return Err(Stop::Read);
+    };
+    Rbsp::of(alloc, &unit)
+}
+
+/// Whether fields of so many bits stand there, each with this value, at this place.
+fn fields_are(bits: &mut Bits, sink: &mut Last, fields: &[(u32, u32, u64)]) -> Result<bool, Stop> {
+    for (width, value, bit) in fields {
+        let found = read_bits(bits, ElementName::LevelIdc, *width & 31, sink)?;
+        if found.value != *value || found.bit != *bit {
+            return Ok(false);
+        }
+    }
+    Ok(true)
+}
+
+/// Whether Exp-Golomb words stand there, each of this value, at this place.
+fn numbers_are(bits: &mut Bits, sink: &mut Last, numbers: &[(u32, u64)]) -> Result<bool, Stop> {
+    for (value, bit) in numbers {
+        let found = read_ue(bits, ElementName::MbType, sink)?;
+        if found.value != *value || found.bit != *bit {
+            return Ok(false);
+        }
+    }
+    Ok(true)
+}
+
+/// The same for words of signed numbers.
+fn signed_are(bits: &mut Bits, sink: &mut Last, numbers: &[(i32, u64)]) -> Result<bool, Stop> {
+    for (value, bit) in numbers {
+        let found = read_se(bits, ElementName::MvdL0, sink)?;
+        if found.value != *value || found.bit != *bit {
+            return Ok(false);
+        }
+    }
+    Ok(true)
+}
+
+/// The same for words of tables.
+fn words_are(bits: &mut Bits, sink: &mut Last, words: &[(Table, u8, u64)]) -> Result<bool, Stop> {
+    for (table, value, bit) in words {
+        let found = read_word(
+            bits,
+            Rule::ResidualWord,
+            ElementName::CoeffToken,
+            *table,
+            sink,
+        )?;
+        if found.value != *value || found.bit != *bit {
+            return Ok(false);
+        }
+    }
+    Ok(true)
+}
+
+/// The sequence parameter set of one macroblock at level 1: its unit begins at byte 4, its RBSP at bit 40.
+const SET: [u8; 10] = [0, 0, 0, 1, 0x67, 0x42, 0xC0, 0x0A, 0xDA, 0x71];
+
+#[test]
+fn a_parameter_set_reads(rt: HostRuntime) -> Result<(), Fail> {
+    let rbsp = rbsp(rt.alloc(), &SET)?;
+    let mut bits = Bits::new(&rbsp);
+    let mut sink = untold();
+    let fields = [
+        (8, 66, 40),
+        (1, 1, 48),
+        (1, 1, 49),
+        (4, 0, 50),
+        (2, 0, 54),
+        (8, 10, 56),
+    ];
+    assert!(rt; fields_are(&mut bits, &mut sink, &fields)?);
+    assert!(rt; numbers_are(&mut bits, &mut sink, &[(0, 64), (0, 65), (2, 66), (1, 69)])?);
+    assert_eq!(rt; sink.count, 10);
+    assert_eq!(rt; sink.bit, 69);
+    assert_eq!(rt; sink.value, 1);
+    Ok(())
+}
+
+#[test]
+fn a_parameter_set_ends(rt: HostRuntime) -> Result<(), Fail> {
+    let rbsp = rbsp(rt.alloc(), &SET)?;
+    let mut bits = Bits::new(&rbsp);
+    let mut sink = untold();
+    let _first = bits.u::<32>();
+    let rest = read_u::<7, Last>(&mut bits, ElementName::LevelSuffix, &mut sink)?;
+    assert_eq!(rt; rest, Found { bit: 72, value: 56 });
+    let ahead = look(&bits, &sink);
+    assert_eq!(rt; ahead.bit, 79);
+    assert!(rt; !ahead.follows);
+    read_trailing(&mut bits, &sink)?;
+    assert_eq!(rt; bits.stream_bit(), 80);
+    Ok(())
+}
+
+#[test]
+fn nothing_stands_behind_the_end(rt: HostRuntime) -> Result<(), Fail> {
+    let rbsp = rbsp(rt.alloc(), &SET)?;
+    let mut bits = Bits::new(&rbsp);
+    let mut sink = untold();
+    let _all = bits.bytes(5);
+    let word = Stop::No {
+        bit: 80,
+        rule: Rule::CodeWord,
+    };
+    assert_eq!(rt;
+        read_flag(&mut bits, ElementName::FrameMbsOnlyFlag, &mut sink),
+        Err(word)
+    );
+    assert_eq!(rt;
+        read_te(&mut bits, ElementName::RefIdxL0, 1, &mut sink),
+        Err(word)
+    );
+    let residual = Stop::No {
+        bit: 80,
+        rule: Rule::ResidualWord,
+    };
+    assert_eq!(rt;
+        read_residual_bits(&mut bits, ElementName::LevelSuffix, 1, &mut sink),
+        Err(residual)
+    );
+    let trailing = Stop::No {
+        bit: 80,
+        rule: Rule::Trailing,
+    };
+    assert_eq!(rt; read_trailing(&mut bits, &sink), Err(trailing));
+    assert_eq!(rt; sink.count, 0);
+    Ok(())
+}
+
+#[test]
+fn exp_golomb_words(rt: HostRuntime) -> Result<(), Fail> {
+    // 1, 010, 011, 00100, 00101, 0001000, and a 1 behind them
+    let body = [
+        0,
+        0,
+        1,
+        0x67,
+        0b1010_0110,
+        0b0100_0010,
+        0b1000_1000,
+        0b1000_0000,
+    ];
+    let rbsp = rbsp(rt.alloc(), &body)?;
+    let mut sink = untold();
+    let mut bits = Bits::new(&rbsp);
+    assert!(rt;
+        numbers_are(
+            &mut bits,
+            &mut sink,
+            &[(0, 32), (1, 33), (2, 36), (3, 39), (4, 44), (7, 49)]
+        )?
+    );
+    assert!(rt; !bits.more());
+    let mut bits = Bits::new(&rbsp);
+    assert!(rt;
+        signed_are(
+            &mut bits,
+            &mut sink,
+            &[(0, 32), (1, 33), (-1, 36), (2, 39), (-2, 44), (4, 49)]
+        )?
+    );
+    let mut bits = Bits::new(&rbsp);
+    assert_eq!(rt; bits.te(2), Ok(0));
+    assert_eq!(rt; bits.te(2), Ok(1));
+    Ok(())
+}
+
+#[test]
+fn the_longest_word(rt: HostRuntime) -> Result<(), Fail> {
+    // 31 zeros and 32 ones; emulation prevention put in the 03
+    let rbsp = rbsp(
+        rt.alloc(),
+        &[0, 0, 1, 0x67, 0, 0, 3, 0, 1, 0xFF, 0xFF, 0xFF, 0xFF],
+    )?;
+    let mut bits = Bits::new(&rbsp);
+    assert_eq!(rt; bits.ue(), Ok(4294967294));
+    assert_eq!(rt; bits.stream_bit(), 103);
+    let mut bits = Bits::new(&rbsp);
+    assert_eq!(rt; bits.se(), Ok(-2147483647));
+    Ok(())
+}
+
+#[test]
+fn one_zero_more_is_no_word(rt: HostRuntime) -> Result<(), Fail> {
+    let rbsp = rbsp(
+        rt.alloc(),
+        &[0, 0, 1, 0x67, 0, 0, 3, 0, 0, 0xFF, 0xFF, 0xFF, 0xFF, 0xFF],
+    )?;
+    let mut bits = Bits::new(&rbsp);
+    assert_eq!(rt; bits.ue(), Err(NoWord));
+    assert_eq!(rt; bits.se(), Err(NoWord));
+    assert_eq!(rt; bits.stream_bit(), 32);
+    assert_eq!(rt; bits.u::<32>(), Ok(0));
+    assert_eq!(rt; bits.stream_bit(), 72);
+    assert_eq!(rt; bits.u_width(31), Ok(2147483647));
+    Ok(())
+}
+
+#[test]
+fn words_of_tables(rt: HostRuntime) -> Result<(), Fail> {
+    // coeff_token 00011, run_before 001, two inverted bits, total_zeros 110, and 000
+    let rbsp = rbsp(rt.alloc(), &[0, 0, 1, 0x65, 0b0001_1001, 0b0111_0000])?;
+    let mut bits = Bits::new(&rbsp);
+    let mut sink = untold();
+    let words = [
+        (Table::CoeffTokenNc0, 15, 32),
+        (Table::RunBefore4, 3, 37),
+        (Table::InvertedBit, 1, 40),
+        (Table::InvertedBit, 0, 41),
+        (Table::TotalZeros2, 1, 42),
+    ];
+    assert!(rt; words_are(&mut bits, &mut sink, &words)?);
+    assert_eq!(rt; sink.count, 5);
+    assert_eq!(rt; sink.value, 1);
+    assert_eq!(rt;
+        words_are(&mut bits, &mut sink, &[(Table::LevelPrefix, 0, 0)]),
+        Err(Stop::No {
+            bit: 45,
+            rule: Rule::ResidualWord
+        })
+    );
+    assert_eq!(rt; bits.stream_bit(), 45);
+    assert_eq!(rt; bits.word(Table::CoeffTokenNc0), Err(NoWord));
+    Ok(())
+}
+
+#[test]
+fn zero_bits_up_to_a_byte(rt: HostRuntime) -> Result<(), Fail> {
+    let rbsp = rbsp(rt.alloc(), &[0, 0, 1, 0x65, 0b1010_0000, 0x80])?;
+    let mut bits = Bits::new(&rbsp);
+    let sink = untold();
+    assert_eq!(rt; bits.u::<1>(), Ok(1));
+    assert_eq!(rt;
+        read_align(&mut bits, &sink),
+        Err(Stop::No {
+            bit: 34,
+            rule: Rule::CodeWord
+        })
+    );
+    assert_eq!(rt; bits.align(), Err(NoWord));
+    assert_eq!(rt; bits.u::<2>(), Ok(1));
+    read_align(&mut bits, &sink)?;
+    assert_eq!(rt; bits.stream_bit(), 40);
+    assert_eq!(rt; bits.align(), Ok(()));
+    assert_eq!(rt; bits.stream_bit(), 40);
+    Ok(())
+}
+
+#[test]
+fn bytes_as_they_are(rt: HostRuntime) -> Result<(), Fail> {
+    let rbsp = rbsp(rt.alloc(), &[0, 0, 1, 0x65, 7, 8, 9, 0x80])?;
+    let mut bits = Bits::new(&rbsp);
+    let sink = untold();
+    let bytes = read_bytes(&mut bits, 3, &sink)?;
+    assert_eq!(rt; bytes.len(), 3);
+    assert_eq!(rt; bytes.first().copied(), Some(7));
+    assert_eq!(rt; bytes.last().copied(), Some(9));
+    assert!(rt; bits.bytes(2).is_err());
+    let missing = read_bytes(&mut bits, 2, &sink).err();
+    assert_eq!(rt;
+        missing,
+        Some(Stop::No {
+            bit: 64,
+            rule: Rule::CodeWord
+        })
+    );
+    assert_eq!(rt; bits.trailing(), Ok(()));
+    Ok(())
+}
+
+#[test]
+fn more_data_and_trailing_bits(rt: HostRuntime) -> Result<(), Fail> {
+    // 1, and then 1 and zeros
+    let rbsp = rbsp(rt.alloc(), &[0, 0, 1, 0x65, 0b1100_0000])?;
+    let mut bits = Bits::new(&rbsp);
+    assert!(rt; bits.more());
+    assert_eq!(rt; bits.trailing(), Err(NoWord));
+    assert_eq!(rt; bits.u::<1>(), Ok(1));
+    assert!(rt; !bits.more());
+    assert_eq!(rt; bits.trailing(), Ok(()));
+    // the rest is empty, and no 1 begins it
+    assert!(rt; bits.more());
+    Ok(())
+}
+
+#[test]
+fn places_over_dropped_bytes(rt: HostRuntime) -> Result<(), Fail> {
+    // each 03 behind 00 00 is dropped, so that the bits behind it stand one byte further on
+    let rbsp = rbsp(
+        rt.alloc(),
+        &[0, 0, 1, 0x65, 0xAA, 0, 0, 3, 1, 0, 0, 3, 1, 0x80],
+    )?;
+    let mut bits = Bits::new(&rbsp);
+    let mut sink = untold();
+    let fields = [
+        (8, 170, 32),
+        (8, 0, 40),
+        (8, 0, 48),
+        (8, 1, 64),
+        (8, 0, 72),
+        (8, 0, 80),
+        (8, 1, 96),
+    ];
+    assert!(rt; fields_are(&mut bits, &mut sink, &fields)?);
+    assert_eq!(rt; bits.stream_bit(), 104);
+    Ok(())
+}
+
+#[test]
+fn a_sink_that_fails(rt: HostRuntime) -> Result<(), Fail> {
+    let rbsp = rbsp(rt.alloc(), &SET)?;
+    let mut bits = Bits::new(&rbsp);
+    let mut sink = Full { failed: 0 };
+    assert_eq!(rt;
+        read_ue(&mut bits, ElementName::ProfileIdc, &mut sink),
+        Err(Stop::Write)
+    );
+    assert_eq!(rt; sink.failed, 1);
+    assert_eq!(rt;
+        read_se(&mut bits, ElementName::ProfileIdc, &mut sink),
+        Err(Stop::Write)
+    );
+    assert_eq!(rt; sink.failed, 2);
+    Ok(())
+}
+
+#[test]
+fn checks_name_their_rule(rt: HostRuntime) {
+    assert_eq!(rt; check(true, Rule::Range, 5), Ok(()));
+    assert_eq!(rt;
+        check(false, Rule::Range, 5),
+        Err(Stop::No {
+            bit: 5,
+            rule: Rule::Range
+        })
+    );
+    assert_eq!(rt; support(true, Feature::Level6, 5), Ok(()));
+    assert_eq!(rt;
+        support(false, Feature::Level6, 5),
+        Err(Stop::Outside {
+            bit: 5,
+            feature: Feature::Level6
+        })
+    );
+}
