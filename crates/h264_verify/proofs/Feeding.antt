@@ -1,5 +1,5 @@
 -- How a stream that comes in pieces is judged.
-use Rattle.std.proofs.Common.{◌≡◌, ℕ, ◌+◌, ◌*◌, ◌<◌, ◌≤◌, Bool, true, false, IsTrue, IsFalse, List, [], ◌∷◌, ◌++◌, length, take, drop, Option, Some, None, Result, Ok, Err, refl, ap, sym, ◌∙◌, subst, arith, append_assoc, length-append}
+use Rattle.std.proofs.Common.{◌≡◌, ℕ, ◌+◌, ◌*◌, IsFalse, List, [], ◌∷◌, ◌++◌, length, take, drop, Some, Result, Ok, Err, refl, ap, sym, ◌∙◌, subst, append_assoc}
 use Rattle.std.proofs.lemmas.List.{append-nil, take-append-drop}
 use Rattle.h264_base.specs.declared.stop.Stop.{Stop}
 use Rattle.h264_base.specs.declared.stop.Stop.TheVariants.{No, Outside, Memory, Read, Write}
@@ -134,7 +134,7 @@ stops-unit {State} {Summary} j {S} {X} took failures view old new state unit lef
     by Read p = absurd p
     by Write p = record { stops = (front p.0, p.1) }
 
-with-both : {A : Type 0} (xs ys : List Call) (o : Outcome A) → with_calls (xs ++ ys) o ≡ with_calls xs (with_calls ys o)
+pub with-both : {A : Type 0} (xs ys : List Call) (o : Outcome A) → with_calls (xs ++ ys) o ≡ with_calls xs (with_calls ys o)
 with-both {A} xs ys o = ap (λ (l : List Call). let q : Outcome A = record { calls = l; answer = o.answer } in q) (append_assoc xs ys o.calls)
 
 pub goes-both : {State Summary : Type 0} {j : Judging State Summary} {S : Type 0} {took : S → List Call → Type 0} {old mid new : Standing State} {piece left last : List ℕ} {s0 s1 s2 : S} → Goes j took old mid piece left s0 s1 → Goes j took mid new left last s1 s2 → Goes j took old new piece last s0 s2

@@ -1,10 +1,10 @@
 -- The end of the input.
-use Rattle.std.proofs.Common.{◌≡◌, ℕ, ◌+◌, ◌*◌, ◌≤◌, ◌↔◌, Bool, true, false, IsTrue, IsFalse, List, [], ◌∷◌, ◌++◌, length, Option, Some, None, Result, Ok, Err, refl, ap, sym, ◌∙◌, subst}
+use Rattle.std.proofs.Common.{◌≡◌, ℕ, ◌+◌, ◌*◌, ◌↔◌, Bool, true, false, IsFalse, List, [], length, Some, Result, Ok, Err, refl, ap, sym, ◌∙◌, subst}
 use Rattle.std.proofs.lemmas.List.{append-nil}
 use Rattle.h264_base.specs.declared.stop.Stop.{Stop}
 use Rattle.h264_base.specs.declared.stop.Stop.TheVariants.{No, Outside, Memory, Read, Write}
-use Rattle.h264_base.specs.Call.{Call, Tells, TellsFront}
-use Rattle.h264_units.specs.Stream.{NalUnit, Next, past, Tail, Zeros, Stray, Bare, Long, Cut, HasTail, Splits, tail_stop}
+use Rattle.h264_base.specs.Call.{Call}
+use Rattle.h264_units.specs.Stream.{NalUnit, Next, past, Tail, Zeros, Stray, Bare, Long, Cut, HasTail, tail_stop}
 use Rattle.h264_units.specs.Splitting.{Splitting, Taken, Finished, FinishStops}
 use Rattle.h264_units.proofs.Streams.{same-units}
 use Rattle.h264_verify.specs.Outcome.{Outcome, ◌>>=◌, answers, Plays, IsNamed}

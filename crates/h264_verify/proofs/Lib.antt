@@ -3,3 +3,4 @@ pub mod Playing
 pub mod Feeding
 pub mod Finishing
 pub mod Sources
+pub mod Verdicts

@@ -1,5 +1,5 @@
 -- A whole source, and pieces one after another.
-use Rattle.std.proofs.Common.{◌≡◌, ℕ, ◌+◌, ◌*◌, ◌≤◌, Bool, true, false, not, List, [], ◌∷◌, ◌++◌, length, take, drop, Option, Some, None, Result, Ok, Err, refl, ap, sym, ◌∙◌, subst, arith, append_assoc, zero, suc, ◌<◌, get_or}
+use Rattle.std.proofs.Common.{◌≡◌, ℕ, ◌+◌, Bool, true, false, not, List, [], ◌∷◌, ◌++◌, length, take, drop, Option, Some, Result, Ok, Err, refl, ap, sym, ◌∙◌, subst, arith, append_assoc, zero, suc, ◌<◌, get_or}
 use Rattle.std.specs.List.{flat_map}
 use Rattle.std.proofs.Math.Seq.{take-length}
 use Rattle.std.proofs.lemmas.List.{append-nil}
@@ -9,7 +9,7 @@ use Rattle.h264_base.specs.Call.{Call, Tells, TellsFront}
 use Rattle.h264_units.specs.Splitting.{at_start}
 use Rattle.h264_units.proofs.Streams.{same-units}
 use Rattle.h264_units.proofs.Total.{some-split}
-use Rattle.h264_verify.specs.Outcome.{Outcome, with_calls, Plays, PlaysBy}
+use Rattle.h264_verify.specs.Outcome.{Outcome, with_calls, PlaysBy}
 use Rattle.h264_verify.specs.Judging.{Judging, units_outcome, Comes}
 use Rattle.h264_verify.specs.Session.{Standing, ToCome, Goes, Stops, StopsBy, Finishes, Fed, RansBy, Judges}
 use Rattle.h264_verify.proofs.Tellings.{tells-none, tells-both, front-after}
@@ -64,7 +64,7 @@ fed-on j took known known' bytes piece n old mid new s0 s1 s2 r f g =
       goes = goes-then f.goes g;
     }
 
-stops-plays : {State Summary : Type 0} (j : Judging State Summary) {S : Type 0} (took : S → List Call → Type 0) (failures : S → ℕ) (old : Standing State) (piece more : List ℕ) (s s' : S) (stop : Stop) (o : Outcome Summary) → StopsBy j took failures old piece s s' stop → ToCome j old (piece ++ more) o → RansBy {Summary = Summary} took failures o s s' (Err stop)
+pub stops-plays : {State Summary : Type 0} (j : Judging State Summary) {S : Type 0} (took : S → List Call → Type 0) (failures : S → ℕ) (old : Standing State) (piece more : List ℕ) (s s' : S) (stop : Stop) (o : Outcome Summary) → StopsBy j took failures old piece s s' stop → ToCome j old (piece ++ more) o → RansBy {Summary = Summary} took failures o s s' (Err stop)
 stops-plays j took failures old piece more s s' (No bit rule) o p c = let e = p.0.after more o c in record { plays = (ap (λ r. Outcome.answer r) e, subst (Tells took s s') (sym (ap (λ r. Outcome.calls r) e)) p.0.tells, p.1) }
 stops-plays j took failures old piece more s s' (Outside bit feature) o p c = let e = p.0.after more o c in record { plays = (ap (λ r. Outcome.answer r) e, subst (Tells took s s') (sym (ap (λ r. Outcome.calls r) e)) p.0.tells, p.1) }
 stops-plays j took failures old piece more s s' Memory o p c = let e = p.0.after more o c in record { plays = (record { front = p.0.calls; rest = e.0; whole = e.1; tells = p.0.tells }, p.1) }

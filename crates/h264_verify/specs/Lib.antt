@@ -3,3 +3,5 @@ pub mod Judging
 pub mod Session
 pub mod UnitRules
 pub mod Progress
+pub mod Verdict
+pub mod Feeding

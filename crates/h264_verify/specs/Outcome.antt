@@ -1,7 +1,6 @@
 -- What a sink is told, and what is answered.
 use Rattle.std.specs.Prelude.{◌≡◌, ℕ, ◌+◌, Bool, List, [], ◌∷◌, ◌++◌, map, Result, Ok, Err, if◌then◌else◌}
 use Rattle.h264_base.specs.declared.rule.Rule.{Rule}
-use Rattle.h264_base.specs.declared.stop.Feature.{Feature}
 use Rattle.h264_base.specs.declared.stop.Stop.{Stop}
 use Rattle.h264_base.specs.declared.stop.Stop.TheVariants.{No, Outside, Memory, Read, Write}
 use Rattle.h264_base.specs.Call.{Call, Tells, TellsFront}

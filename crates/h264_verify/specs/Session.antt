@@ -1,9 +1,9 @@
 -- A stream judged in pieces: what comes of a session, however its input goes on.
-use Rattle.std.specs.Prelude.{◌≡◌, ℕ, ◌+◌, List, [], ◌++◌, Option, Some, None, Result, Ok, Err}
+use Rattle.std.specs.Prelude.{◌≡◌, ℕ, ◌+◌, List, [], ◌++◌, Option, Some, Result, Ok, Err}
 use Rattle.h264_base.specs.declared.stop.Stop.{Stop}
 use Rattle.h264_base.specs.declared.stop.Stop.TheVariants.{No, Outside, Memory, Read, Write}
 use Rattle.h264_base.specs.Call.{Call, Tells, TellsFront}
-use Rattle.h264_units.specs.Splitting.{Splitting, at_start}
+use Rattle.h264_units.specs.Splitting.{Splitting}
 use Rattle.h264_verify.specs.Outcome.{Outcome, with_calls, Plays}
 use Rattle.h264_verify.specs.Judging.{Judging, Comes}
 

@@ -1,19 +1,20 @@
 //! What the definitions imply. Nothing here runs.
 #![tactic(auto)]
 
-ghost use Rattle.std.specs.Prelude.{◌≡◌, ℕ, List};
+ghost use Rattle.std.specs.Prelude.{◌≡◌, ℕ, List, Result};
+ghost use Rattle.h264_base.specs.declared.stop.Stop.{Stop};
+ghost use Rattle.h264_base.specs.Call.{Call};
 ghost use Rattle.h264_verify.specs.declared.judge.Summary.{Summary};
-ghost use Rattle.h264_verify.specs.Outcome.{Outcome};
-ghost use Rattle.h264_verify.specs.Judging.{Comes};
-ghost use Rattle.h264_verify.specs.UnitRules.{judging, start};
+ghost use Rattle.h264_verify.specs.Verdict.{Verdict};
 
-/// A stream has one outcome: the same calls, and the same yes, or no with its rule and bit, or feature with its bit.
-pub fn one_outcome()
-    ensures { (bytes : List ℕ) (one other : Outcome Summary) →
-        Comes judging 0 start bytes one → Comes judging 0 start bytes other → one ≡ other }
+/// A stream has one verdict: a derivation that meets every rule, a first broken rule with its bit, and a feature with its bit
+/// exclude one another, and so do two of a kind. What a sink is told up to there is one list of calls.
+pub fn one_verdict()
+    ensures { (bytes : List ℕ) (calls others : List Call) (one other : Result Summary Stop) →
+        Verdict bytes calls one → Verdict bytes others other → (calls ≡ others) × (one ≡ other) }
 {}
 
-/// Each stream has an outcome.
-pub fn some_outcome()
-    ensures { (bytes : List ℕ) → (o : Outcome Summary) × Comes judging 0 start bytes o }
+/// Each stream has a verdict.
+pub fn some_verdict()
+    ensures { (bytes : List ℕ) → (calls : List Call) × (answer : Result Summary Stop) × Verdict bytes calls answer }
 {}

@@ -5,6 +5,7 @@ ghost use Rattle.std.specs.Prelude.{◌≡◌, ℕ, ◌+◌, ◌-◌, ◌*◌, �
 ghost use Rattle.std.specs.List.{flat_map};
 ghost use Rattle.h264_verify.specs.Session.{Judges, Fed};
 ghost use Rattle.h264_verify.specs.UnitRules.{judging, start};
+ghost use Rattle.h264_verify.specs.Verdict.{Judged};
 ghost use Rattle.h264_verify.specs.Progress.{fresh};
 
 use crate::judge::Summary;
@@ -51,7 +52,7 @@ fn turn<R: Source, S: FrameSink>(
             if n == 0 {
                 return Ok(false);
             }
-            session.feed(front(piece, n), sink)?;
+            session.advance(front(piece, n), sink)?;
             Ok(true)
         }
     }
@@ -70,7 +71,7 @@ pub fn run<R: Source, S: FrameSink>(
     requires sink { S.failures sink.old < 2 ^ 64 - 1 }
     requires source { R.failures source.old < 2 ^ 64 - 1 }
     // Yes, no and outside are those of the stream, with the calls up to there; memory, read and write come with the first calls.
-    ensures verdict { (bytes : List ℕ) → R.left source.old ≡ Some bytes → Judges judging start S.took S.failures bytes sink.old sink.new result }
+    ensures verdict { (bytes : List ℕ) → R.left source.old ≡ Some bytes → Judged S.took S.failures bytes [] sink.old sink.new result }
     ensures read { IsErrOf result Stop.Read → (R.failures source.new ≡ R.failures source.old + 1) ⊎ ((n : ℕ) → R.was_read source.old n → R.was_read source.new (n + 2 ^ 41)) }
     ensures write { IsErrOf result Stop.Write → S.failures sink.new ≡ S.failures sink.old + 1 }
 {
@@ -78,7 +79,7 @@ pub fn run<R: Source, S: FrameSink>(
     let mut piece = [0u8; PIECE];
     for _ in 0..2_199_023_255_552u64 {
         if !turn(source, &mut session, &mut piece, sink)? {
-            return session.finish(sink);
+            return session.conclude(sink);
         }
     }
     Err(Stop::Read)
@@ -92,11 +93,11 @@ pub fn run_pieces<S: FrameSink>(
     mode: Mode,
 ) -> Result<Summary, Stop>
     requires { S.failures sink.old < 2 ^ 64 - 1 }
-    ensures { Judges judging start S.took S.failures (flat_map (λ piece. piece.items) pieces.now) sink.old sink.new result }
+    ensures { Judged S.took S.failures (flat_map (λ piece. piece.items) pieces.now) [] sink.old sink.new result }
 {
     let mut session = Session::new(alloc, mode, Target::Baseline)?;
     for piece in pieces {
-        session.feed(piece.as_slice(), sink)?;
+        session.advance(piece.as_slice(), sink)?;
     }
-    session.finish(sink)
+    session.conclude(sink)
 }

@@ -5,6 +5,9 @@ ghost use Rattle.std.specs.Prelude.{◌≡◌, ℕ, ◌+◌, ◌-◌, ◌*◌, �
 ghost use Rattle.h264_verify.specs.Session.{Goes, Stops, Finishes};
 ghost use Rattle.h264_verify.specs.UnitRules.{judging};
 ghost use Rattle.h264_verify.specs.Progress.{fresh};
+ghost use Rattle.h264_base.specs.Call.{Call};
+ghost use Rattle.h264_verify.specs.Feeding.{WasFed, IsFed};
+ghost use Rattle.h264_verify.specs.Verdict.{Judged};
 
 use crate::judge::{State, Summary};
 use crate::sink::FrameSink;
@@ -121,6 +124,7 @@ impl Session {
     /// A session before the first byte. It takes the places of the parameter sets: Memory where they are refused.
     pub fn new(alloc: Global, _mode: Mode, _target: Target) -> Result<Session, Stop>
         ensures ok { IfOk result (λ s. s ≡ fresh) }
+        ensures fed { IfOk result (λ s. WasFed s [] []) }
         ensures err { IfErr result (λ e. e ≡ Stop.Memory) }
     {
         let Ok(sets) = Sets::new(alloc) else {
@@ -134,22 +138,18 @@ impl Session {
         })
     }
 
-    /// Judges the next piece of the input.
-    pub fn feed<S: FrameSink>(&mut self, piece: &[u8], sink: &mut S) -> Result<(), Stop>
-        requires { S.failures sink.old < 2 ^ 64 - 1 }
+    /// Judges the next piece of the input, where this has not stopped.
+    pub(crate) fn advance<S: FrameSink>(&mut self, piece: &[u8], sink: &mut S) -> Result<(), Stop>
+        requires count { S.failures sink.old < 2 ^ 64 - 1 }
+        requires runs { self.old.stop ≡ None }
         // However the input goes on, what comes is what the sink was told now and what comes later.
-        ensures goes { self.old.stop ≡ None → OnOk result (Goes judging S.took self.old.standing self.new.standing piece.now [] sink.old sink.new) }
+        ensures goes { OnOk result (Goes judging S.took self.old.standing self.new.standing piece.now [] sink.old sink.new) }
         ensures going { OnOk result (self.new.stop ≡ None) }
         ensures kept { OnOk result (S.failures sink.new ≡ S.failures sink.old) }
         // The stop is the stream's, or the sink failed, or memory was refused.
-        ensures stops { self.old.stop ≡ None → IfErr result (Stops judging S.took S.failures self.old.standing piece.now sink.old sink.new) }
+        ensures stops { IfErr result (Stops judging S.took S.failures self.old.standing piece.now sink.old sink.new) }
         ensures stopped { IfErr result (λ stop. self.new.stop ≡ Some stop) }
-        // A stopped session repeats its stop, and touches no sink.
-        ensures again { IfSome self.old.stop (λ stop. (result ≡ Err stop) × (self.new ≡ self.old) × (sink.new ≡ sink.old)) }
     {
-        if let Some(stop) = self.stop {
-            return Err(stop);
-        }
         match feed_all(self.alloc, &mut self.splitter, &mut self.state, piece, sink) {
             Ok(()) => Ok(()),
             Err(stop) => {
@@ -159,17 +159,47 @@ impl Session {
         }
     }
 
-    /// Judges the end of the input.
+    /// Judges the end of the input, where this has not stopped.
+    pub(crate) fn conclude<S: FrameSink>(self, sink: &mut S) -> Result<Summary, Stop>
+        requires count { S.failures sink.old < 2 ^ 64 - 1 }
+        requires runs { self.stop ≡ None }
+        ensures { Finishes judging S.took S.failures self.standing sink.old sink.new result }
+    {
+        let mut splitter = self.splitter;
+        let mut state = self.state;
+        finish_all(self.alloc, &mut splitter, &mut state, sink)
+    }
+
+    /// Judges the next piece of the input. Err: the stop of the stream, Memory where a growth was refused, Write where the
+    /// sink failed; from then on each call answers it again.
+    pub fn feed<S: FrameSink>(&mut self, piece: &[u8], sink: &mut S) -> Result<(), Stop>
+        requires { S.failures sink.old < 2 ^ 64 - 1 }
+        // It was then fed the piece too.
+        ensures fed { (bytes : List ℕ) (calls : List Call) → WasFed self.old bytes calls → OnOk result (IsFed S.took S.failures self.new (bytes ++ piece.now) calls sink.old sink.new) }
+        // However the input goes on, this is its verdict.
+        ensures stops { (bytes : List ℕ) (calls : List Call) → WasFed self.old bytes calls → IfErr result (λ stop. (later : List ℕ) → Judged S.took S.failures ((bytes ++ piece.now) ++ later) calls sink.old sink.new (Err stop)) }
+        ensures stopped { IfErr result (λ stop. self.new.stop ≡ Some stop) }
+        ensures no_read { self.old.stop ≡ None → IsErrOf result Stop.Read → ⊥ }
+        // A stopped session repeats its stop, and touches no sink.
+        ensures again { IfSome self.old.stop (λ stop. (result ≡ Err stop) × (self.new ≡ self.old) × (sink.new ≡ sink.old)) }
+    {
+        match self.stop {
+            Some(stop) => Err(stop),
+            None => self.advance(piece, sink),
+        }
+    }
+
+    /// Judges the end of the input. Err as for `feed`.
     pub fn finish<S: FrameSink>(self, sink: &mut S) -> Result<Summary, Stop>
         requires { S.failures sink.old < 2 ^ 64 - 1 }
-        ensures finishes { self.stop ≡ None → Finishes judging S.took S.failures self.standing sink.old sink.new result }
+        // The verdict on all that it was fed.
+        ensures verdict { (bytes : List ℕ) (calls : List Call) → WasFed self bytes calls → Judged S.took S.failures bytes calls sink.old sink.new result }
+        ensures no_read { self.stop ≡ None → IsErrOf result Stop.Read → ⊥ }
         ensures again { IfSome self.stop (λ stop. (result ≡ Err stop) × (sink.new ≡ sink.old)) }
     {
         if let Some(stop) = self.stop {
             return Err(stop);
         }
-        let mut splitter = self.splitter;
-        let mut state = self.state;
-        finish_all(self.alloc, &mut splitter, &mut state, sink)
+        self.conclude(sink)
     }
 }

@@ -1,17 +1,16 @@
-use Rattle.std.proofs.Common.{rules, arith, refl, ◌∙◌}
 use Rattle.std.proofs.lemmas.Result.{err_from_is_err_and}
 use Rattle.h264_verify.specs.UnitRules.{judging, start}
 use Rattle.h264_verify.proofs.Sources.{fed-stops, fed-on, fed-same, fed-read}
 use Rattle.h264_verify.proofs.running.turn.Goals as goal
 
-pub returns-in_err-feed-in-Ok-Some-clause-stops : goal.returns-in_err-feed-in-Ok-Some-clause-stops
-returns-in_err-feed-in-Ok-Some-clause-stops g c = let p = err_from_is_err_and c.from_residual.result c.from_residual.ensures.1 in rw (p.1, p.2) (λ bytes first f k. fed-stops judging start _ _ (g.R.Source.left c.args.source.now) (g.R.Source.left c.read.new.self) bytes c.read.new.piece c.in-Ok-Some.n c.args.session.now.standing first _ _ _ (rw c.in-Ok-Some.field-0-is at c.in-Ok-Some.ensures.bytes) f k (rw c.front.ensures at (c.in_err-feed-in-Ok-Some.ensures.stops c.requires.runs)))
+pub returns-in_err-advance-in-Ok-Some-clause-stops : goal.returns-in_err-advance-in-Ok-Some-clause-stops
+returns-in_err-advance-in-Ok-Some-clause-stops g c = let p = err_from_is_err_and c.from_residual.result c.from_residual.ensures.1 in rw (p.1, p.2) (λ bytes first f k. fed-stops judging start _ _ (g.R.Source.left c.args.source.now) (g.R.Source.left c.read.new.self) bytes c.read.new.piece c.in-Ok-Some.n c.args.session.now.standing first _ _ _ (rw c.in-Ok-Some.field-0-is at c.in-Ok-Some.ensures.bytes) f k (rw c.front.ensures at c.in_err-advance-in-Ok-Some.ensures.stops))
 
 pub returns-in-Err-clause-stops : goal.returns-in-Err-clause-stops
 returns-in-Err-clause-stops g c = λ bytes first f k. fed-read judging start _ _ _ bytes _ first _ f k
 
-pub returns-in_ok-feed-in-Ok-Some-clause-more : goal.returns-in_ok-feed-in-Ok-Some-clause-more
-returns-in_ok-feed-in-Ok-Some-clause-more g c = λ h bytes first f. fed-on judging _ (g.R.Source.left c.args.source.now) _ bytes c.read.new.piece c.in-Ok-Some.n _ c.args.session.now.standing _ first _ _ (rw c.in-Ok-Some.field-0-is at c.in-Ok-Some.ensures.bytes) f (rw c.front.ensures at (c.in_ok-feed-in-Ok-Some.ensures.goes c.requires.runs))
+pub returns-in_ok-advance-in-Ok-Some-clause-more : goal.returns-in_ok-advance-in-Ok-Some-clause-more
+returns-in_ok-advance-in-Ok-Some-clause-more g c = λ h bytes first f. fed-on judging _ (g.R.Source.left c.args.source.now) _ bytes c.read.new.piece c.in-Ok-Some.n _ c.args.session.now.standing _ first _ _ (rw c.in-Ok-Some.field-0-is at c.in-Ok-Some.ensures.bytes) f (rw c.front.ensures at c.in_ok-advance-in-Ok-Some.ensures.goes)
 
 pub returns-in-Ok-None-clause-more : goal.returns-in-Ok-None-clause-more
 returns-in-Ok-None-clause-more g c = λ h bytes first f. fed-same judging _ (g.R.Source.left c.args.source.now) _ bytes _ _ first _ (rw c.in-Ok-None.field-0-is at c.in-Ok-None.ensures.interrupted) f

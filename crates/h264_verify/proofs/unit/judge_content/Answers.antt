@@ -1,4 +1,3 @@
-use Rattle.std.proofs.Common.{rules}
 use Rattle.std.proofs.lemmas.Bool.{ne_eqb}
 use Rattle.h264_verify.specs.UnitRules.{content_outcome}
 use Rattle.h264_verify.proofs.Playing.{gives-plays}

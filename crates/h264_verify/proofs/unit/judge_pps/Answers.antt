@@ -1,4 +1,3 @@
-use Rattle.std.proofs.Common.{rules, refl, ap, sym}
 use Rattle.std.proofs.lemmas.Result.{err_from_is_err_and}
 use Rattle.h264_pps.specs.Pps.{pps}
 use Rattle.h264_verify.specs.UnitRules.{pps_outcome}

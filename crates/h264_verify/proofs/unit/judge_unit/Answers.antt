@@ -1,4 +1,4 @@
-use Rattle.std.proofs.Common.{rules, arith, ap, sym}
+use Rattle.std.proofs.Common.{ap, sym}
 use Rattle.std.proofs.lemmas.Result.{err_from_is_err_and}
 use Rattle.h264_verify.specs.Outcome.{answers}
 use Rattle.h264_verify.specs.UnitRules.{unit_outcome}
