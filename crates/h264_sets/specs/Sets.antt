@@ -1,23 +1,28 @@
 -- The sets by id.
 use Rattle.std.specs.Prelude.{◌≡◌, ◌≢◌, ℕ, List, Option, Some, None, replicate, slice_set, slice_get}
-use Rattle.std.specs.Option.{option_and_then}
+use Rattle.std.specs.Option.{option_map, option_and_then}
 use Rattle.h264_sps.specs.declared.sps.Sps.{Sps}
 use Rattle.h264_pps.specs.declared.Pps.{Pps}
+use Rattle.h264_sets.specs.declared.SetPair.{SetPair}
 
--- two finite maps, as lists: at place id the set of that id, if there was one
+-- Two finite maps, as lists: at place id the set of that id, if there was one. And the sets that were activated last, with the content that they had then.
 pub record Maps : Type 0 where
   pub sps : List (Option Sps)
   pub pps : List (Option Pps)
+  pub active : Option SetPair
 
 abbrev pub no_sets : Maps
-no_sets = record { sps = replicate 32 None; pps = replicate 256 None }
+no_sets = record { sps = replicate 32 None; pps = replicate 256 None; active = None }
 
 -- the set of an id
+abbrev pub set_at : {T : Type 0} → List (Option T) → ℕ → Option T
+set_at sets id = option_and_then (λ s. s) (slice_get sets id)
+
 abbrev pub sps_of : Maps → ℕ → Option Sps
-sps_of m id = option_and_then (λ s. s) (slice_get m.sps id)
+sps_of m id = set_at m.sps id
 
 abbrev pub pps_of : Maps → ℕ → Option Pps
-pps_of m id = option_and_then (λ s. s) (slice_get m.pps id)
+pps_of m id = set_at m.pps id
 
 -- a set in the place of the one that had its id
 abbrev pub with_sps : Maps → Sps → Maps
@@ -36,3 +41,18 @@ pub record IsPutPps (old new : Maps) (pps : Pps) : Type 0 where
   pub put : pps_of new pps.pic_parameter_set_id ≡ Some pps
   pub others : (id : ℕ) → id ≢ pps.pic_parameter_set_id → pps_of new id ≡ pps_of old id
   pub sps_kept : (id : ℕ) → sps_of new id ≡ sps_of old id
+
+-- a picture parameter set with the sequence parameter set that it names, if both are there
+abbrev pub with_sps_of : Maps → Pps → Option SetPair
+with_sps_of m pps = option_map (λ sps. record { pps = pps; sps = sps }) (sps_of m pps.seq_parameter_set_id)
+
+abbrev pub pair_of : Maps → ℕ → Option SetPair
+pair_of m id = option_and_then (with_sps_of m) (pps_of m id)
+
+-- this pair in the place of the active one
+abbrev pub with_active : Maps → SetPair → Maps
+with_active m pair = record m { active = Some pair }
+
+-- the active sequence parameter set has this content, its id among it
+abbrev pub IsActive : Maps → Sps → Type 0
+IsActive m sps = option_map (λ p. SetPair.sps p) m.active ≡ Some sps

@@ -1,14 +1,22 @@
 //! The parameter sets that a stream has given so far (7.4.1.2.1): sequence parameter sets by seq_parameter_set_id, and picture
 //! parameter sets by pic_parameter_set_id.
 //!
-//! A set replaces the earlier one of its id, and no other. All memory is taken by `Sets::new`; nothing else takes any.
-//! What a set means, and which sets are active, is not decided here.
+//! A set replaces the earlier one of its id, and no other. `activate` makes the sets that a slice names the active ones, and
+//! refuses a sequence parameter set that has changed where no IDR picture begins. All memory is taken by `Sets::new`; nothing
+//! else takes any. What a set means is not decided here.
 #![tactic(auto)]
 
-ghost use Rattle.std.specs.Prelude.{◌≡◌, ℕ, ◌<◌, ◌≤◌, IfOk, Option};
+ghost use Rattle.std.specs.Prelude.{◌≡◌, ℕ, ◌<◌, ◌≤◌, ◌↔◌, ◌⊎◌, IsTrue, IsFalse, IfOk, OnErr, Option, Some, None, Ok, Err};
 ghost use Rattle.std.specs.Option.{option_copied};
-ghost use Rattle.h264_sets.specs.Sets.{no_sets, with_sps, with_pps, sps_of, pps_of, IsPutSps, IsPutPps};
+ghost use Rattle.h264_sets.specs.Sets.{set_at, no_sets, with_sps, with_pps, sps_of, pps_of, pair_of, with_active, IsActive, IsPutSps, IsPutPps};
+ghost use Rattle.h264_base.specs.declared.rule.Rule.TheVariants.{NoSet, SetChanged};
+ghost use Rattle.h264_base.specs.declared.stop.Stop.TheVariants.{No};
+ghost use Rattle.h264_sets.specs.declared.SetPair.{SetPair};
 
+#[cfg(test)]
+mod tests;
+
+use h264_base::{Rule, Stop};
 use h264_pps::Pps;
 use h264_sps::sps::Sps;
 use std::alloc::{AllocError, Global};
@@ -19,11 +27,39 @@ const SPS_IDS: usize = 32;
 
 const PPS_IDS: usize = 256;
 
-/// The sets by id.
+/// The set in a place, if there is one.
+fn pps_at(sets: &[Option<Pps>], id: u32) -> Option<Pps>
+    ensures { result ≡ set_at sets.now id }
+{
+    if id as usize >= sets.len() {
+        return None;
+    }
+    sets[id as usize]
+}
+
+/// The set in a place, if there is one.
+fn sps_at(sets: &[Option<Sps>], id: u32) -> Option<Sps>
+    ensures { result ≡ set_at sets.now id }
+{
+    if id as usize >= sets.len() {
+        return None;
+    }
+    sets[id as usize]
+}
+
+/// A picture parameter set, and the sequence parameter set that it names.
+#[derive(Clone, Copy, Debug, PartialEq, Eq)]
+pub struct SetPair {
+    pub pps: Pps,
+    pub sps: Sps,
+}
+
+/// The sets by id, and the active pair.
 #[derive(Drop)]
 pub struct Sets {
     sps: Vec<Option<Sps>>,
     pps: Vec<Option<Pps>>,
+    active: Option<SetPair>,
 }
 
 impl Model for Sets {
@@ -32,7 +68,7 @@ impl Model for Sets {
 
     ghost Value = { Maps };
 
-    ghost view = { λ s. record { sps = s.sps.items; pps = s.pps.items } };
+    ghost view = { λ s. record { sps = s.sps.items; pps = s.pps.items; active = s.active } };
 
     ghost invariant = { λ s. (length s.sps.items ≡ 32) × (length s.pps.items ≡ 256) };
 }
@@ -44,7 +80,11 @@ impl Sets {
     {
         let sps = vec![in alloc; None; SPS_IDS]?;
         let pps = vec![in alloc; None; PPS_IDS]?;
-        Ok(Sets { sps, pps })
+        Ok(Sets {
+            sps,
+            pps,
+            active: None,
+        })
     }
 
     /// Keeps a sequence parameter set in the place of the one that had its id.
@@ -79,5 +119,58 @@ impl Sets {
         ensures { option_copied result ≡ pps_of self.now pic_parameter_set_id }
     {
         self.pps[pic_parameter_set_id as usize].as_ref()
+    }
+
+    /// The pair that was activated last.
+    pub fn active(&self) -> Option<&SetPair>
+        ensures { option_copied result ≡ self.now.active }
+    {
+        self.active.as_ref()
+    }
+
+    /// The picture parameter set of this id with the sequence parameter set that it names, if both are there.
+    pub fn pair(&self, pic_parameter_set_id: u32) -> Option<SetPair>
+        ensures { result ≡ pair_of self.now pic_parameter_set_id }
+    {
+        let pps = pps_at(self.pps.as_slice(), pic_parameter_set_id)?;
+        let sps = sps_at(self.sps.as_slice(), pps.seq_parameter_set_id)?;
+        Some(SetPair { pps, sps })
+    }
+
+    /// Whether this is the content of the active sequence parameter set.
+    fn is_active(&self, sps: &Sps) -> bool
+        ensures { IsTrue result ↔ IsActive self.now sps.now }
+    {
+        match &self.active {
+            Some(pair) => pair.sps == *sps,
+            None => false,
+        }
+    }
+
+    /// Makes the sets of a slice the active ones. `idr`: the slice begins an IDR picture, which may change the sequence
+    /// parameter set; any other slice needs one of the active one's id and content.
+    ///
+    /// No: SetChanged at `bit`, that of the slice's pic_parameter_set_id, or NoSet there where a set is missing. Nothing has
+    /// changed then.
+    pub fn activate(&mut self, pic_parameter_set_id: u32, bit: u64, idr: bool) -> Result<(), Stop>
+        ensures missing { pair_of self.old pic_parameter_set_id ≡ None → result ≡ Err (No bit NoSet) }
+        ensures ok { (pair : SetPair) → pair_of self.old pic_parameter_set_id ≡ Some pair → (IsTrue idr ⊎ IsActive self.old pair.sps) → (result ≡ Ok tt) × (self.new ≡ with_active self.old pair) }
+        ensures changed { (pair : SetPair) → pair_of self.old pic_parameter_set_id ≡ Some pair → IsFalse idr → (IsActive self.old pair.sps → ⊥) → result ≡ Err (No bit SetChanged) }
+        ensures kept { OnErr result (self.new ≡ self.old) }
+    {
+        let Some(pair) = self.pair(pic_parameter_set_id) else {
+            return Err(Stop::No {
+                bit,
+                rule: Rule::NoSet,
+            });
+        };
+        if !idr && !self.is_active(&pair.sps) {
+            return Err(Stop::No {
+                bit,
+                rule: Rule::SetChanged,
+            });
+        }
+        self.active = Some(pair);
+        Ok(())
     }
 }

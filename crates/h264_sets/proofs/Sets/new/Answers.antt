@@ -4,7 +4,7 @@ use Rattle.h264_pps.specs.declared.Pps.{Pps}
 use Rattle.h264_sets.specs.Sets.{Maps, no_sets}
 use Rattle.h264_sets.proofs.Sets.new.Goals as goal
 
-both : (s t : List (Option Sps)) (p q : List (Option Pps)) → s ≡ t → p ≡ q → (let m : Maps = record { sps = s; pps = p } in m) ≡ record { sps = t; pps = q }
+both : (s t : List (Option Sps)) (p q : List (Option Pps)) → s ≡ t → p ≡ q → (let m : Maps = record { sps = s; pps = p; active = None } in m) ≡ record { sps = t; pps = q; active = None }
 both s t p q e f = cc
 
 pub returns : goal.returns

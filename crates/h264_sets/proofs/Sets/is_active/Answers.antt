@@ -1,0 +1,14 @@
+use Rattle.std.proofs.Common.{◌≡◌, Option, Some, ap, sym, ◌∙◌}
+use Rattle.h264_sps.specs.declared.sps.Sps.{Sps}
+use Rattle.h264_sets.specs.Sets.{Maps}
+use Rattle.h264_sets.proofs.Content.{decides-sps}
+use Rattle.h264_sets.proofs.Sets.is_active.Goals as goal
+
+some-same : (s t : Sps) → Some s ≡ Some t → s ≡ t
+some-same s t e = cc
+
+pub returns-in-Some : goal.returns-in-Some
+returns-in-Some c =
+    let d = decides-sps c.in-Some.pair.sps c.args.sps.now in
+    let active = ap (λ (m : Maps). m.active) (sym c.self.view_is) ∙ c.in-Some.is in
+    (λ t. rw active (ap Some (d.0 (sym c.eq.ensures ∙ t))), λ h. c.eq.ensures ∙ d.1 (some-same _ _ (rw active at h)))
