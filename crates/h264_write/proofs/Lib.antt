@@ -1,0 +1,5 @@
+pub mod Spelled
+pub mod Stands
+pub mod Bytes
+pub mod Tables
+pub mod Escapes

@@ -1,0 +1,383 @@
+//! What no clause says: words and units worked by hand, and what is written read back.
+#![tactic(auto)]
+
+ghost use Rattle.std.specs.Prelude.{◌<◌, ◌≤◌};
+
+use crate::{WriteError, Writer, unit};
+use h264_base::{ElementName, Elements, Failed, Stop};
+use h264_bits::Bits;
+use h264_cavlc::block;
+use h264_rbsp::{Rbsp, check_emulation};
+use h264_tables::Table;
+use h264_units::Splitter;
+use std::alloc::Global;
+use std::test::Fail;
+
+/// Is told what is read, and keeps nothing.
+#[derive(Drop)]
+struct Deaf;
+
+impl Elements for Deaf {
+    ghost took = { λ _ _. Unit {0} };
+
+    ghost failures = { λ _. 0 };
+
+    fn element(&mut self, _name: ElementName, _bit: u64, _value: i64) -> Result<(), Failed> {
+        Ok(())
+    }
+}
+
+/// The RBSP of a unit with these bytes.
+fn rbsp(alloc: Global, body: &[u8]) -> Result<Rbsp, Stop> {
+    let mut splitter = Splitter::new(alloc);
+    let _code = splitter.push(&[0, 0, 1])?;
+    let _taken = splitter.push(body)?;
+    if !splitter.waiting() {
+        splitter.finish()?;
+    }
+    let Some(unit) = splitter.take_unit() else {
+        return Err(Stop::Read);
+    };
+    check_emulation(&unit)?;
+    Rbsp::of(alloc, &unit)
+}
+
+#[test]
+fn words_by_hand(rt: HostRuntime) -> Result<(), Fail> {
+    // 1, 010, 011, 00100, 010, 011, 101, 1, 0, and the trailing 1
+    let mut writer = Writer::new(rt.alloc());
+    writer.ue(0)?;
+    writer.ue(1)?;
+    writer.ue(2)?;
+    writer.ue(3)?;
+    writer.se(1)?;
+    writer.se(-1)?;
+    writer.u(3, 5)?;
+    writer.te(1, 0)?;
+    writer.te(1, 1)?;
+    writer.trailing()?;
+    let bytes = writer.bytes(rt.alloc())?;
+    assert_eq!(rt; bytes.as_slice(), [0xA6, 0x44, 0xED].as_slice());
+    writer.trailing()?;
+    let bytes = writer.bytes(rt.alloc())?;
+    assert_eq!(rt; bytes.as_slice(), [0xA6, 0x44, 0xED, 0x80].as_slice());
+    Ok(())
+}
+
+#[test]
+fn the_longest_words(rt: HostRuntime) -> Result<(), Fail> {
+    // 31 zeros and 32 ones, and the trailing 1
+    let mut writer = Writer::new(rt.alloc());
+    writer.ue(4294967294)?;
+    writer.trailing()?;
+    let bytes = writer.bytes(rt.alloc())?;
+    assert_eq!(rt;
+        bytes.as_slice(),
+        [0, 0, 0, 1, 0xFF, 0xFF, 0xFF, 0xFF].as_slice()
+    );
+    let mut writer = Writer::new(rt.alloc());
+    writer.se(-2147483647)?;
+    writer.u(32, 2147483649)?;
+    let bytes = writer.bytes(rt.alloc())?;
+    // 31 zeros, 32 ones, then 1, 30 zeros, 1, and one 0 more
+    assert_eq!(rt;
+        bytes.as_slice(),
+        [0, 0, 0, 1, 0xFF, 0xFF, 0xFF, 0xFF, 0, 0, 0, 2].as_slice()
+    );
+    Ok(())
+}
+
+#[test]
+fn a_unit_by_hand(rt: HostRuntime) -> Result<(), Fail> {
+    let bytes = [0, 0, 0, 1, 0, 0, 3, 0, 0, 4];
+    let body = unit(rt.alloc(), 0x65, &bytes)?;
+    assert_eq!(rt;
+        body.as_slice(),
+        [0x65, 0, 0, 3, 0, 1, 0, 0, 3, 3, 0, 0, 4].as_slice()
+    );
+    let rbsp = rbsp(rt.alloc(), &body)?;
+    assert_eq!(rt; rbsp.bytes(), bytes.as_slice());
+    Ok(())
+}
+
+// The first block that is worked in I. Richardson's text on CAVLC.
+#[test]
+fn a_published_block(rt: HostRuntime) -> Result<(), Fail> {
+    let mut writer = Writer::new(rt.alloc());
+    let words = [
+        (Table::CoeffTokenNc0, 23),
+        (Table::InvertedBit, 1),
+        (Table::InvertedBit, 0),
+        (Table::InvertedBit, 0),
+        (Table::LevelPrefix, 0),
+        (Table::LevelPrefix, 2),
+        (Table::InvertedBit, 1),
+        (Table::TotalZeros5, 3),
+        (Table::RunBefore3, 1),
+        (Table::RunBefore2, 0),
+        (Table::RunBefore2, 0),
+        (Table::RunBefore2, 1),
+    ];
+    for (table, value) in &words {
+        assert_eq!(rt; writer.word(*table, *value), Ok(()));
+    }
+    let bytes = writer.bytes(rt.alloc())?;
+    assert_eq!(rt; bytes.as_slice(), [0x08, 0xE5, 0xED].as_slice());
+    let body = unit(rt.alloc(), 0x65, &[0x08, 0xE5, 0xED])?;
+    let rbsp = rbsp(rt.alloc(), &body)?;
+    let levels = block::<16, Deaf>(&mut Bits::new(&rbsp), 0, &mut Deaf)?;
+    assert_eq!(rt;
+        levels.by_place,
+        [0, 3, 0, 1, -1, -1, 0, 1, 0, 0, 0, 0, 0, 0, 0, 0]
+    );
+    Ok(())
+}
+
+#[test]
+fn values_without_a_word(rt: HostRuntime) -> Result<(), Fail> {
+    let mut writer = Writer::new(rt.alloc());
+    assert_eq!(rt; writer.word(Table::TotalZeros15, 1), Ok(()));
+    assert_eq!(rt;
+        writer.word(Table::TotalZeros15, 2),
+        Err(WriteError::NoWord)
+    );
+    assert_eq!(rt;
+        writer.word(Table::CoeffTokenChromaDc, 20),
+        Err(WriteError::NoWord)
+    );
+    assert_eq!(rt; writer.word(Table::CoeffTokenChromaDc, 19), Ok(()));
+    let bytes = writer.bytes(rt.alloc())?;
+    assert_eq!(rt; bytes.as_slice(), [0x80].as_slice());
+    Ok(())
+}
+
+/// A number that looks random, from the one before.
+fn next(seed: u32) -> u32 {
+    seed.wrapping_mul(1_664_525).wrapping_add(1_013_904_223)
+}
+
+/// Writes one element of each kind, with values from a number below 65536.
+fn write_elements(writer: &mut Writer, number: u32) -> Result<(), Fail>
+    requires { number < 65536 }
+{
+    writer.u(16, number)?;
+    writer.ue(number)?;
+    writer.se(number as i32 - 30000)?;
+    writer.te(1, number % 2)?;
+    writer.te(5, number % 6)?;
+    writer.word(Table::CodedBlockPatternIntra, (number % 48) as u8)?;
+    writer.word(Table::LevelPrefix, (number % 16) as u8)?;
+    Ok(())
+}
+
+/// Whether these elements stand there.
+fn elements_stand(bits: &mut Bits, number: u32) -> bool
+    requires { number < 65536 }
+{
+    bits.u::<16>() == Ok(number)
+        && bits.ue() == Ok(number)
+        && bits.se() == Ok(number as i32 - 30000)
+        && bits.te(1) == Ok(number % 2)
+        && bits.te(5) == Ok(number % 6)
+        && bits.word(Table::CodedBlockPatternIntra) == Ok((number % 48) as u8)
+        && bits.word(Table::LevelPrefix) == Ok((number % 16) as u8)
+}
+
+#[test]
+fn elements_read_back(rt: HostRuntime) -> Result<(), Fail> {
+    let mut writer = Writer::new(rt.alloc());
+    let mut seed = 264;
+    for _ in 0..300 {
+        seed = next(seed);
+        write_elements(&mut writer, seed / 65536)?;
+    }
+    writer.trailing()?;
+    let bytes = writer.bytes(rt.alloc())?;
+    assert!(rt; bytes.len() > 0);
+    assert_ne!(rt; bytes[bytes.len() - 1], 0);
+    let body = unit(rt.alloc(), 0x41, &bytes)?;
+    let rbsp = rbsp(rt.alloc(), &body)?;
+    assert_eq!(rt; rbsp.bytes(), bytes.as_slice());
+    let mut bits = Bits::new(&rbsp);
+    let mut seed = 264;
+    for _ in 0..300 {
+        seed = next(seed);
+        assert!(rt; elements_stand(&mut bits, seed / 65536));
+    }
+    assert_eq!(rt; bits.trailing(), Ok(()));
+    Ok(())
+}
+
+/// Writes the last `n` bits of a number.
+fn write_bits(writer: &mut Writer, n: u32, number: u32) -> Result<(), Fail>
+    requires { n ≤ 32 }
+{
+    for i in 0..n {
+        writer.u(1, (number >> (n - 1 - i)) % 2)?;
+    }
+    Ok(())
+}
+
+/// Writes level_prefix and level_suffix of a levelCode (9.2.2.1).
+fn write_level_code(writer: &mut Writer, code: u32, suffix_length: u32) -> Result<(), Fail> {
+    let length = suffix_length.min(6);
+    let prefix = code >> length;
+    if length == 0 && code >= 14 && code < 30 {
+        writer.word(Table::LevelPrefix, 14)?;
+        return write_bits(writer, 4, code - 14);
+    }
+    if length == 0 && code >= 30 {
+        writer.word(Table::LevelPrefix, 15)?;
+        return write_bits(writer, 12, code - 30);
+    }
+    if prefix < 15 {
+        writer.word(Table::LevelPrefix, prefix as u8)?;
+        return write_bits(writer, length, code);
+    }
+    writer.word(Table::LevelPrefix, 15)?;
+    write_bits(writer, 12, code.wrapping_sub(15 << length))
+}
+
+/// levelCode of a level.
+fn level_code(level: i32, never_one: bool) -> u32 {
+    let doubled = level.unsigned_abs().wrapping_mul(2);
+    let code = doubled.wrapping_sub(if level > 0 { 2 } else { 1 });
+    if never_one {
+        code.wrapping_sub(2)
+    } else {
+        code
+    }
+}
+
+/// Writes the levels, from the highest place down, of which the first `ones` are trailing ones.
+fn write_levels(writer: &mut Writer, levels: &[(u8, i32)], ones: usize) -> Result<(), Fail> {
+    let mut suffix_length = u32::from(levels.len() > 10 && ones < 3);
+    for (k, (_place, level)) in levels.iter().enumerate() {
+        if k < ones {
+            writer.u(1, u32::from(*level < 0))?;
+        } else {
+            let never_one = k == ones && ones < 3;
+            write_level_code(writer, level_code(*level, never_one), suffix_length)?;
+            let length = suffix_length.max(1).min(6);
+            let raised = level.unsigned_abs() > 3 << (length - 1);
+            suffix_length = if raised { length + 1 } else { length };
+        }
+    }
+    Ok(())
+}
+
+/// Writes total_zeros and the runs of levels with their places, from the highest down.
+fn write_zeros(writer: &mut Writer, levels: &[(u8, i32)], total: u8) -> Result<(), Fail> {
+    let Some((highest, _level)) = levels.first() else {
+        return Ok(());
+    };
+    let mut left = highest.wrapping_add(1).wrapping_sub(total);
+    if total > 0 && total < 16 {
+        writer.word(Table::total_zeros(total), left)?;
+    }
+    let mut above = *highest;
+    for (k, (place, _level)) in levels.iter().enumerate() {
+        if k > 0 && left > 0 {
+            let run = above.wrapping_sub(*place).wrapping_sub(1);
+            writer.word(Table::run_before(left), run)?;
+            left = left.wrapping_sub(run);
+        }
+        above = *place;
+    }
+    Ok(())
+}
+
+/// Writes a block of 16 (7.3.5.3.2).
+fn write_block(
+    alloc: Global,
+    writer: &mut Writer,
+    nc: u8,
+    by_place: &[i32; 16],
+) -> Result<(), Fail> {
+    let mut levels = Vec::new(alloc);
+    let mut place = 16u8;
+    let mut total = 0u8;
+    let mut ones = 0u8;
+    let mut only_ones = true;
+    for level in by_place.iter().rev() {
+        place = place.wrapping_sub(1);
+        if *level != 0 {
+            levels.push((place, *level))?;
+            total = total.wrapping_add(1);
+            only_ones = only_ones && level.unsigned_abs() == 1;
+            ones = if only_ones {
+                ones.wrapping_add(1)
+            } else {
+                ones
+            };
+        }
+    }
+    let ones = ones.min(3);
+    writer.word(Table::coeff_token(nc), total.wrapping_mul(4) | ones)?;
+    write_levels(writer, &levels, usize::from(ones))?;
+    write_zeros(writer, &levels, total)
+}
+
+/// A block of levels up to `most` that looks random: each is 0 unless its number is a multiple of `rare`.
+fn random_block(seed: u32, rare: u32, most: u32) -> [i32; 16]
+    requires rare { 0 < rare }
+    requires most { 0 < most }
+    requires small { most < 3000 }
+{
+    let mut by_place = [0; 16];
+    let mut number = seed;
+    for level in by_place.iter_mut() {
+        number = next(number);
+        if number / 65536 % rare == 0 {
+            let magnitude = (number / 256 % most) as i32;
+            *level = if number / 128 % 2 == 0 {
+                magnitude
+            } else {
+                -magnitude
+            };
+        }
+    }
+    by_place
+}
+
+/// The rarity and the greatest level of block `i`.
+fn shape_of(i: u32) -> (u32, u32)
+    ensures rare { 0 < result.0 }
+    ensures most { 0 < result.1 }
+    ensures small { result.1 < 3000 }
+{
+    (
+        i % 4 + 1,
+        if i % 3 == 0 {
+            2
+        } else if i % 3 == 1 {
+            40
+        } else {
+            2000
+        },
+    )
+}
+
+#[test]
+fn blocks_read_back(rt: HostRuntime) -> Result<(), Fail> {
+    let mut writer = Writer::new(rt.alloc());
+    for i in 0..200u32 {
+        let (rare, most) = shape_of(i);
+        let by_place = random_block(i, rare, most);
+        write_block(rt.alloc(), &mut writer, (i % 10) as u8, &by_place)?;
+    }
+    writer.trailing()?;
+    let bytes = writer.bytes(rt.alloc())?;
+    assert!(rt; bytes.len() > 0);
+    assert_ne!(rt; bytes[bytes.len() - 1], 0);
+    let body = unit(rt.alloc(), 0x41, &bytes)?;
+    let rbsp = rbsp(rt.alloc(), &body)?;
+    let mut bits = Bits::new(&rbsp);
+    for i in 0..200u32 {
+        let (rare, most) = shape_of(i);
+        let levels = block::<16, Deaf>(&mut bits, (i % 10) as u8, &mut Deaf)?;
+        assert_eq!(rt; levels.by_place, random_block(i, rare, most));
+    }
+    assert_eq!(rt; bits.trailing(), Ok(()));
+    Ok(())
+}
