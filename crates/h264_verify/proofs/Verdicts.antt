@@ -1,5 +1,5 @@
 -- The fold over the units says what the verdict's relation says, and nothing else does.
-use Rattle.std.proofs.Common.{OnOk, IfErr, ◌≡◌, ℕ, ◌+◌, ◌*◌, ◌⊎◌, inl, inr, Bool, true, false, suc, IsTrue, IsFalse, not, List, [], ◌∷◌, ◌++◌, map, length, None, Result, Ok, Err, refl, ap, sym, ◌∙◌, subst, arith, append_assoc, ◌==◌, if◌then◌else◌, MatchResult}
+use Rattle.std.proofs.Common.{OnOk, IfErr, Option, Some, ◌≡◌, ℕ, ◌+◌, ◌*◌, ◌⊎◌, inl, inr, Bool, true, false, IsTrue, IsFalse, not, List, [], ◌∷◌, ◌++◌, map, length, None, Result, Ok, Err, refl, ap, sym, ◌∙◌, subst, append_assoc, ◌==◌, if◌then◌else◌, MatchResult}
 use Rattle.std.proofs.lemmas.List.{append-nil}
 use Rattle.h264_base.specs.declared.rule.Rule.{Rule}
 use Rattle.h264_base.specs.declared.rule.Rule.TheVariants.{Emulation, ForbiddenBit, RefIdc, Partition}
@@ -17,18 +17,20 @@ use Rattle.h264_rbsp.specs.Rbsp.{body_of}
 use Rattle.h264_rbsp.proofs.Told.{is-checked, none-checked, some-checked}
 use Rattle.h264_sps.specs.Sps.{sps}
 use Rattle.h264_pps.specs.Pps.{pps}
-use Rattle.h264_sets.specs.Sets.{with_sps, with_pps}
-use Rattle.h264_verify.specs.declared.judge.State.{State}
+use Rattle.h264_verify.specs.declared.judge.Content.{Content}
+use Rattle.h264_verify.specs.declared.judge.Content.TheVariants as contents
+use Rattle.h264_verify.specs.History.{History, ReadUnit, Keeps}
 use Rattle.h264_verify.specs.declared.judge.Summary.{Summary}
 use Rattle.h264_verify.specs.Outcome.{Outcome, ◌>>=◌, with_calls, answers, gives, holds, tells, value_of, structure_outcome, Plays}
 use Rattle.h264_verify.specs.Judging.{unless, units_outcome, Comes}
-use Rattle.h264_verify.specs.Session.{Standing, ToCome, Goes, Stops, StopsBy, Finishes, Judges, RansBy}
+use Rattle.h264_verify.specs.Session.{ToCome, Stops, Finishes, Judges, RansBy}
 use Rattle.h264_verify.specs.Progress.{Progress, fresh}
-use Rattle.h264_verify.specs.Feeding.{WasFed, IsFed}
-use Rattle.h264_verify.specs.UnitRules.{forbidden_zero_bit, nal_ref_idc, nal_unit_type, fits_kind, is_partition, header_outcome, unit_call, one_more, sps_outcome, pps_outcome, content_outcome, unit_outcome, end_outcome, judging, start}
-use Rattle.h264_verify.specs.Verdict.{Demand, AreMet, IsFirstUnmet, header_of, header_demands, IsSound, Content, OfSps, OfPps, Passed, content, Elements, told, IsLegal, IsStop, AtUnit, AtElements, ReadUnit, units_of, AreLegal, Holds, IsStopAmong, StopsAt, Verdict, Whole, Front, JudgedBy, Judged}
+use Rattle.h264_verify.specs.Feeding.{behind, GoesOn, FedOn, WasFed, IsFed}
+use Rattle.h264_verify.specs.UnitRules.{forbidden_zero_bit, nal_ref_idc, nal_unit_type, fits_kind, is_partition, header_outcome, unit_call, sps_outcome, pps_outcome, content_outcome, unit_outcome, end_outcome, judging}
+use Rattle.h264_verify.specs.Verdict.{Demand, AreMet, IsFirstUnmet, header_of, header_demands, IsSound, content, Elements, told, IsLegal, IsStop, AtUnit, AtElements, in_order, AreLegal, Holds, IsStopAmong, StopsAt, Verdict, Whole, Front, JudgedBy, Judged}
 use Rattle.h264_verify.proofs.Feeding.{with-both}
-use Rattle.h264_verify.proofs.Sources.{one-outcome, some-outcome, stops-plays}
+use Rattle.h264_verify.proofs.Sources.{one-outcome, some-outcome, stops-plays, fed-none, fed-ends}
+use Rattle.h264_units.specs.Splitting.{at_start}
 
 -- rules one after another
 demanded : List Demand → Outcome (Unit {0})
@@ -77,110 +79,71 @@ header-demanded : (from header : ℕ) → demanded (header_demands (8 * from) he
 unfolding demanded header_outcome
 header-demanded from header = three-demands ForbiddenBit RefIdc Partition (8 * from) (forbidden_zero_bit header == 0) (fits_kind (nal_unit_type header) (nal_ref_idc header)) (not (is_partition (nal_unit_type header)))
 
--- what a unit's content leaves of the state
-abbrev pub left_by : State → Content → State
-left_by s (OfSps set) = record s { sets = with_sps s.sets set }
-left_by s (OfPps set) = record s { sets = with_pps s.sets set }
-left_by s Passed = s
-
-abbrev pub next_state : State → Content → State
-next_state s c = one_more (left_by s c)
-
 abbrev run_outcome : {A : Type 0} → Body → Run A → Outcome A
 run_outcome body r = record { calls = map (call_of body) r.elements; answer = value_of r.answer }
 
 -- a structure whose value is seen as a content
-module _ {A : Type 0} (body : Body) (f : A → Content) (m : A → State) (s : State) (same : (x : A) → m x ≡ left_by s (f x)) where
-  as-content : (es : List Element) (a : Result (A × ℕ) Stop) → (let r : Run A = record { elements = es; answer = a } in (run_outcome body r >>= λ x. gives (m x)) >>= (λ s'. gives (one_more s')) ≡ (run_outcome body (then_run r (λ x j. run (Done (f x)) body j)) >>= λ c. gives (next_state s c)))
+module _ {A : Type 0} (body : Body) (f : A → Content) where
+  as-content : (es : List Element) (a : Result (A × ℕ) Stop) → (let r : Run A = record { elements = es; answer = a } in (run_outcome body r >>= λ x. gives (f x)) ≡ run_outcome body (then_run r (λ x j. run (Done (f x)) body j)))
   unfolding ◌>>=◌ run
-  as-content es (Ok x) =
-      let p = append-nil (map (call_of body) es ++ []) in
-      let q = ap (map (call_of body)) (append-nil es) in
-      ap (λ (w : State). let o : Outcome State = record { calls = (map (call_of body) es ++ []) ++ []; answer = Ok (one_more w) } in o) (same x.0)
-      ∙ ap (λ (l : List Call). let o : Outcome State = record { calls = l ++ []; answer = Ok (next_state s (f x.0)) } in o) (append-nil (map (call_of body) es) ∙ sym q)
+  as-content es (Ok x) = ap (λ (l : List Call). let o : Outcome Content = record { calls = l; answer = Ok (f x.0) } in o) (append-nil (map (call_of body) es) ∙ sym (ap (map (call_of body)) (append-nil es)))
   as-content es (Err e) = refl
 
-structure-content : {A : Type 0} (g : Grammar A) (body : Body) (f : A → Content) (m : A → State) (s : State) → ((x : A) → m x ≡ left_by s (f x)) → ((structure_outcome g body >>= λ x. gives (m x)) >>= λ s'. gives (one_more s')) ≡ (structure_outcome (◌bind◌ g (λ x. Done (f x))) body >>= λ c. gives (next_state s c))
-structure-content g body f m s same = as-content body f m s same (run g body 0).elements (run g body 0).answer ∙ ap (λ r. run_outcome body r >>= λ c. gives (next_state s c)) (sym (run-bind g (λ x. Done (f x)) body 0))
+structure-content : {A : Type 0} (g : Grammar A) (body : Body) (f : A → Content) → (structure_outcome g body >>= λ x. gives (f x)) ≡ structure_outcome (◌bind◌ g (λ x. Done (f x))) body
+structure-content g body f = as-content body f (run g body 0).elements (run g body 0).answer ∙ ap (λ r. run_outcome body r) (sym (run-bind g (λ x. Done (f x)) body 0))
 
 -- by the type of the unit
 choice-is : {A : Type 0} (b c : Bool) (x y : A) → b ≡ c → (if b then x else y) ≡ (if c then x else y)
 choice-is b c x y e = ap (λ d. if d then x else y) e
 
-content-sps : (kind : ℕ) (s : State) (unit : NalUnit) → (kind == 7) ≡ true → content_outcome kind s unit ≡ (structure_outcome sps (body_of unit) >>= λ set. gives (record s { sets = with_sps s.sets set }))
-unfolding content_outcome sps_outcome
-content-sps kind s unit e = choice-is (kind == 7) true _ _ e
+none-passed : (body : Body) → gives contents.Passed ≡ structure_outcome (Done contents.Passed) body
+unfolding run
+none-passed body = refl
 
-content-pps : (kind : ℕ) (s : State) (unit : NalUnit) → (kind == 7) ≡ false → (kind == 8) ≡ true → content_outcome kind s unit ≡ (structure_outcome pps (body_of unit) >>= λ set. gives (record s { sets = with_pps s.sets set }))
-unfolding content_outcome pps_outcome
-content-pps kind s unit e h = choice-is (kind == 7) false _ _ e ∙ choice-is (kind == 8) true _ _ h
-
-content-none : (kind : ℕ) (s : State) (unit : NalUnit) → (kind == 7) ≡ false → (kind == 8) ≡ false → content_outcome kind s unit ≡ gives s
-unfolding content_outcome
-content-none kind s unit e h = choice-is (kind == 7) false _ _ e ∙ choice-is (kind == 8) false _ _ h
-
-grammar-sps : (kind : ℕ) → (kind == 7) ≡ true → content kind ≡ ◌bind◌ sps (λ set. Done (OfSps set))
-unfolding content
-grammar-sps kind e = choice-is (kind == 7) true _ _ e
-
-grammar-pps : (kind : ℕ) → (kind == 7) ≡ false → (kind == 8) ≡ true → content kind ≡ ◌bind◌ pps (λ set. Done (OfPps set))
-unfolding content
-grammar-pps kind e h = choice-is (kind == 7) false _ _ e ∙ choice-is (kind == 8) true _ _ h
-
-grammar-none : (kind : ℕ) → (kind == 7) ≡ false → (kind == 8) ≡ false → content kind ≡ Done Passed
-unfolding content
-grammar-none kind e h = choice-is (kind == 7) false _ _ e ∙ choice-is (kind == 8) false _ _ h
-
-none-passed : (s : State) (body : Body) → (gives s >>= λ s'. gives (one_more s')) ≡ (structure_outcome (Done Passed) body >>= λ c. gives (next_state s c))
-unfolding ◌>>=◌ run
-none-passed s body = refl
-
-content-is : (kind : ℕ) (s : State) (unit : NalUnit) → (content_outcome kind s unit >>= λ s'. gives (one_more s')) ≡ (structure_outcome (content kind) (body_of unit) >>= λ c. gives (next_state s c))
-content-is kind s unit = by (kind == 7) (kind == 8) refl refl
+content-is : (kind : ℕ) (unit : NalUnit) → content_outcome kind unit ≡ structure_outcome (content kind) (body_of unit)
+unfolding content_outcome sps_outcome pps_outcome content
+content-is kind unit = by (kind == 7) (kind == 8) refl refl
   where
-    Same : Type 0
-    Same = (content_outcome kind s unit >>= λ s'. gives (one_more s')) ≡ (structure_outcome (content kind) (body_of unit) >>= λ c. gives (next_state s c))
+    by : (a b : Bool) → (kind == 7) ≡ a → (kind == 8) ≡ b → content_outcome kind unit ≡ structure_outcome (content kind) (body_of unit)
+    by true b e h = choice-is (kind == 7) true _ _ e ∙ structure-content sps (body_of unit) contents.OfSps ∙ ap (λ g. structure_outcome g (body_of unit)) (sym (choice-is (kind == 7) true _ _ e))
+    by false true e h = choice-is (kind == 7) false _ _ e ∙ choice-is (kind == 8) true _ _ h ∙ structure-content pps (body_of unit) contents.OfPps ∙ ap (λ g. structure_outcome g (body_of unit)) (sym (choice-is (kind == 7) false _ _ e ∙ choice-is (kind == 8) true _ _ h))
+    by false false e h = choice-is (kind == 7) false _ _ e ∙ choice-is (kind == 8) false _ _ h ∙ none-passed (body_of unit) ∙ ap (λ g. structure_outcome g (body_of unit)) (sym (choice-is (kind == 7) false _ _ e ∙ choice-is (kind == 8) false _ _ h))
 
-    by : (a b : Bool) → (kind == 7) ≡ a → (kind == 8) ≡ b → Same
-    by true b e h = rw (content-sps kind s unit e, grammar-sps kind e) (structure-content sps (body_of unit) OfSps (λ set. record s { sets = with_sps s.sets set }) s (λ x. refl))
-    by false true e h = rw (content-pps kind s unit e h, grammar-pps kind e h) (structure-content pps (body_of unit) OfPps (λ set. record s { sets = with_pps s.sets set }) s (λ x. refl))
-    by false false e h = rw (content-none kind s unit e h, grammar-none kind e h) (none-passed s (body_of unit))
-
-unit-as : (s : State) (unit : NalUnit) → unit_outcome s unit ≡ (answers (emulation_checked unit.from unit.body) >>= λ _. header_outcome unit.from (header_of unit) >>= λ _. tells (unit_call unit.from (header_of unit) (length unit.body)) >>= λ _. structure_outcome (content (nal_unit_type (header_of unit))) (body_of unit) >>= λ c. gives (next_state s c))
+unit-as : (before : History) (unit : NalUnit) → unit_outcome before unit ≡ (answers (emulation_checked unit.from unit.body) >>= λ _. header_outcome unit.from (header_of unit) >>= λ _. tells (unit_call unit.from (header_of unit) (length unit.body)) >>= λ _. structure_outcome (content (nal_unit_type (header_of unit))) (body_of unit) >>= λ c. gives (record { unit = unit; content = c } ∷ before))
 unfolding unit_outcome
-unit-as s unit = ap (λ (o : Outcome State). answers (emulation_checked unit.from unit.body) >>= λ _. header_outcome unit.from (header_of unit) >>= λ _. tells (unit_call unit.from (header_of unit) (length unit.body)) >>= λ _. o) (content-is (nal_unit_type (header_of unit)) s unit)
+unit-as before unit = ap (λ (o : Outcome Content). answers (emulation_checked unit.from unit.body) >>= λ _. header_outcome unit.from (header_of unit) >>= λ _. tells (unit_call unit.from (header_of unit) (length unit.body)) >>= λ _. o >>= λ c. gives (record { unit = unit; content = c } ∷ before)) (content-is (nal_unit_type (header_of unit)) unit)
 
 -- what comes of a unit, by what its rules and its content give
-by-parts : (s : State) (unit : NalUnit) (e : Result (Unit {0}) Stop) (h : Outcome (Unit {0})) (r : Run Content) → emulation_checked unit.from unit.body ≡ e → header_outcome unit.from (header_of unit) ≡ h → run (content (nal_unit_type (header_of unit))) (body_of unit) 0 ≡ r → unit_outcome s unit ≡ (answers e >>= λ _. h >>= λ _. tells (unit_call unit.from (header_of unit) (length unit.body)) >>= λ _. run_outcome (body_of unit) r >>= λ c. gives (next_state s c))
-by-parts s unit e h r p q w =
-    unit-as s unit
-    ∙ ap (λ e'. answers e' >>= λ _. header_outcome unit.from (header_of unit) >>= λ _. tells (unit_call unit.from (header_of unit) (length unit.body)) >>= λ _. structure_outcome (content (nal_unit_type (header_of unit))) (body_of unit) >>= λ c. gives (next_state s c)) p
-    ∙ ap (λ h'. answers e >>= λ _. h' >>= λ _. tells (unit_call unit.from (header_of unit) (length unit.body)) >>= λ _. structure_outcome (content (nal_unit_type (header_of unit))) (body_of unit) >>= λ c. gives (next_state s c)) q
-    ∙ ap (λ r'. answers e >>= λ _. h >>= λ _. tells (unit_call unit.from (header_of unit) (length unit.body)) >>= λ _. run_outcome (body_of unit) r' >>= λ c. gives (next_state s c)) w
+by-parts : (before : History) (unit : NalUnit) (e : Result (Unit {0}) Stop) (h : Outcome (Unit {0})) (r : Run Content) → emulation_checked unit.from unit.body ≡ e → header_outcome unit.from (header_of unit) ≡ h → run (content (nal_unit_type (header_of unit))) (body_of unit) 0 ≡ r → unit_outcome before unit ≡ (answers e >>= λ _. h >>= λ _. tells (unit_call unit.from (header_of unit) (length unit.body)) >>= λ _. run_outcome (body_of unit) r >>= λ c. gives (record { unit = unit; content = c } ∷ before))
+by-parts before unit e h r p q w =
+    unit-as before unit
+    ∙ ap (λ e'. answers e' >>= λ _. header_outcome unit.from (header_of unit) >>= λ _. tells (unit_call unit.from (header_of unit) (length unit.body)) >>= λ _. structure_outcome (content (nal_unit_type (header_of unit))) (body_of unit) >>= λ c. gives (record { unit = unit; content = c } ∷ before)) p
+    ∙ ap (λ h'. answers e >>= λ _. h' >>= λ _. tells (unit_call unit.from (header_of unit) (length unit.body)) >>= λ _. structure_outcome (content (nal_unit_type (header_of unit))) (body_of unit) >>= λ c. gives (record { unit = unit; content = c } ∷ before)) q
+    ∙ ap (λ r'. answers e >>= λ _. h >>= λ _. tells (unit_call unit.from (header_of unit) (length unit.body)) >>= λ _. run_outcome (body_of unit) r' >>= λ c. gives (record { unit = unit; content = c } ∷ before)) w
 
-sound-parts : (s : State) (unit : NalUnit) (es : List Element) (a : Result (Content × ℕ) Stop) → IsSound unit → Elements unit es a → (let r : Run Content = record { elements = es; answer = a } in unit_outcome s unit ≡ (tells (unit_call unit.from (header_of unit) (length unit.body)) >>= λ _. run_outcome (body_of unit) r >>= λ c. gives (next_state s c)))
+sound-parts : (before : History) (unit : NalUnit) (es : List Element) (a : Result (Content × ℕ) Stop) → IsSound unit → Elements unit es a → (let r : Run Content = record { elements = es; answer = a } in unit_outcome before unit ≡ (tells (unit_call unit.from (header_of unit) (length unit.body)) >>= λ _. run_outcome (body_of unit) r >>= λ c. gives (record { unit = unit; content = c } ∷ before)))
 unfolding ◌>>=◌
-sound-parts s unit es a sound h = by-parts s unit (Ok tt) (gives tt) (record { elements = es; answer = a }) (sym (none-checked unit.from unit.body sound.emulation)) (sym (header-demanded unit.from (header_of unit)) ∙ demanded-met _ sound.header) (run-one (content (nal_unit_type (header_of unit))) (body_of unit) 0 es a h)
+sound-parts before unit es a sound h = by-parts before unit (Ok tt) (gives tt) (record { elements = es; answer = a }) (sym (none-checked unit.from unit.body sound.emulation)) (sym (header-demanded unit.from (header_of unit)) ∙ demanded-met _ sound.header) (run-one (content (nal_unit_type (header_of unit))) (body_of unit) 0 es a h)
 
-legal-unit : (s : State) (unit : NalUnit) (c : Content) (calls : List Call) → IsLegal unit c calls → unit_outcome s unit ≡ record { calls = calls; answer = Ok (next_state s c) }
+legal-unit : (before : History) (r : ReadUnit) (calls : List Call) → IsLegal r calls → unit_outcome before r.unit ≡ record { calls = calls; answer = Ok (r ∷ before) }
 unfolding ◌>>=◌
-legal-unit s unit c calls l =
-    sound-parts s unit l.elements (Ok (c, l.end)) l.sound l.derives
-    ∙ ap (λ (w : List Call). let o : Outcome State = record { calls = w; answer = Ok (next_state s c) } in o) (ap (λ w. unit_call unit.from (header_of unit) (length unit.body) ∷ w) (append-nil (map (call_of (body_of unit)) l.elements)) ∙ sym l.calls_are)
+legal-unit before r calls l =
+    sound-parts before r.unit l.elements (Ok (r.content, l.end)) l.sound l.derives
+    ∙ ap (λ (w : List Call). let o : Outcome History = record { calls = w; answer = Ok (r ∷ before) } in o) (ap (λ w. unit_call r.unit.from (header_of r.unit) (length r.unit.body) ∷ w) (append-nil (map (call_of (body_of r.unit)) l.elements)) ∙ sym l.calls_are)
 
-stop-unit : (s : State) (unit : NalUnit) (stop : Stop) (calls : List Call) → IsStop unit stop calls → unit_outcome s unit ≡ record { calls = calls; answer = Err stop }
+stop-unit : (before : History) (unit : NalUnit) (stop : Stop) (calls : List Call) → IsStop unit stop calls → unit_outcome before unit ≡ record { calls = calls; answer = Err stop }
 unfolding ◌>>=◌
-stop-unit s unit stop calls (AtUnit rule bit (inl u) e n) =
-    by-parts s unit (Err (No (8 * (unit.from + u.0)) Emulation)) _ _ (sym (some-checked unit.from unit.body u.0 u.1)) refl refl
+stop-unit before unit stop calls (AtUnit rule bit (inl u) e n) =
+    by-parts before unit (Err (No (8 * (unit.from + u.0)) Emulation)) _ _ (sym (some-checked unit.from unit.body u.0 u.1)) refl refl
     ∙ rw (e, n, u.2, u.3) refl
-stop-unit s unit stop calls (AtUnit rule bit (inr u) e n) =
-    by-parts s unit (Ok tt) (answers (Err (No bit rule))) _ (sym (none-checked unit.from unit.body u.0)) (sym (header-demanded unit.from (header_of unit)) ∙ demanded-unmet _ rule bit u.1) refl
+stop-unit before unit stop calls (AtUnit rule bit (inr u) e n) =
+    by-parts before unit (Ok tt) (answers (Err (No bit rule))) _ (sym (none-checked unit.from unit.body u.0)) (sym (header-demanded unit.from (header_of unit)) ∙ demanded-unmet _ rule bit u.1) refl
     ∙ rw (e, n) refl
-stop-unit s unit stop calls (AtElements sound es says n) = sound-parts s unit es (Err stop) sound says ∙ rw n refl
+stop-unit before unit stop calls (AtElements sound es says n) = sound-parts before unit es (Err stop) sound says ∙ rw n refl
 
 -- a unit is legal, or the verdict falls at it
 pub data Either (unit : NalUnit) : Type 0 where
-  Legal : (c : Content) (calls : List Call) → IsLegal unit c calls → Either unit
+  Legal : (c : Content) (calls : List Call) → IsLegal (record { unit = unit; content = c }) calls → Either unit
   Fails : (stop : Stop) (calls : List Call) → IsStop unit stop calls → Either unit
 
 either : (unit : NalUnit) → Either unit
@@ -201,92 +164,68 @@ either unit = by (emulation_checked unit.from unit.body) (is-checked unit.from u
     by (Ok x) f = header f (demanded-either (header_demands (8 * unit.from) (header_of unit)))
     by (Err stop) f = Fails stop [] (AtUnit Emulation (8 * (unit.from + f.0)) (inl (f.0, f.2, refl, refl)) f.1 refl)
 
--- the state behind these units
-state_after : State → List ReadUnit → State
-state_after s [] = s
-state_after s (r ∷ rs) = state_after (next_state s r.content) rs
-
-legal-units : (s : State) (rs : List ReadUnit) (units : List NalUnit) (tail : Tail) (end : ℕ) (calls : List Call) → AreLegal rs calls → units_outcome judging s (units_of rs ++ units) tail end ≡ with_calls calls (units_outcome judging (state_after s rs) units tail end)
-unfolding ◌>>=◌ state_after
-legal-units s [] units tail end calls l = rw l refl
-legal-units s (r ∷ rs) units tail end calls l =
-    ap (λ (o : Outcome State). o >>= λ s'. units_outcome judging s' (units_of rs ++ units) tail end) (legal-unit s r.unit r.content l.0 l.2)
-    ∙ ap (with_calls l.0) (legal-units (next_state s r.content) rs units tail end l.1 l.3)
-    ∙ sym (with-both l.0 l.1 (units_outcome judging (state_after s (r ∷ rs)) units tail end))
-    ∙ ap (λ c. with_calls c (units_outcome judging (state_after s (r ∷ rs)) units tail end)) (sym l.4)
-
-units-counted : (s : State) (rs : List ReadUnit) → (state_after s rs).units ≡ s.units + length rs
-unfolding state_after
-units-counted s [] = omega arith
-units-counted s (r ∷ rs) = units-counted (next_state s r.content) rs ∙ one s.units (length rs) (next-units r.content)
-  where
-    next-units : (c : Content) → (next_state s c).units ≡ s.units + 1
-    next-units (OfSps set) = refl
-    next-units (OfPps set) = refl
-    next-units Passed = refl
-
-    one : (n k : ℕ) → (next_state s r.content).units ≡ n + 1 → (next_state s r.content).units + k ≡ n + suc k
-    one n k e = omega arith
-
-from-none : {k : ℕ} (n : ℕ) → k ≡ start.units + n → k ≡ n
-from-none n e = omega arith
+legal-units : (reads : History) (units : List NalUnit) (tail : Tail) (end : ℕ) (calls : List Call) → AreLegal reads calls → units_outcome judging [] (in_order reads units) tail end ≡ with_calls calls (units_outcome judging reads units tail end)
+unfolding ◌>>=◌
+legal-units [] units tail end calls l = rw l refl
+legal-units (r ∷ before) units tail end calls l =
+    legal-units before (r.unit ∷ units) tail end l.0 l.2
+    ∙ ap (λ (o : Outcome History). with_calls l.0 (o >>= λ after. units_outcome judging after units tail end)) (legal-unit before r l.1 l.3)
+    ∙ sym (with-both l.0 l.1 (units_outcome judging (r ∷ before) units tail end))
+    ∙ ap (λ c. with_calls c (units_outcome judging (r ∷ before) units tail end)) (sym l.4)
 
 -- What the relation says is what comes of the stream.
-holds-comes : (bytes : List ℕ) (calls : List Call) (summary : Summary) → Holds bytes calls summary → Comes judging 0 start bytes (record { calls = calls; answer = Ok summary })
+holds-comes : (bytes : List ℕ) (calls : List Call) (summary : Summary) → Holds bytes calls summary → Comes judging 0 [] bytes (record { calls = calls; answer = Ok summary })
 holds-comes bytes calls summary h = record {
-  units = units_of h.units;
+  units = in_order h.units [];
   tail = Zeros;
   splits = h.stream;
   is = sym (
-      ap (λ us. units_outcome judging start us Zeros (0 + length bytes)) (sym (append-nil (units_of h.units)))
-      ∙ legal-units start h.units [] Zeros (0 + length bytes) calls h.legal
-      ∙ ap (λ (n : ℕ). with_calls calls (gives (let w : Summary = record { units = n; pictures = 0; frames = 0 } in w))) (from-none (length h.units) (units-counted start h.units))
+      legal-units h.units [] Zeros (0 + length bytes) calls h.legal
       ∙ ap (λ (c : List Call). let o : Outcome Summary = record { calls = c; answer = Ok (record { units = length h.units; pictures = 0; frames = 0 }) } in o) (append-nil calls)
       ∙ ap (λ (w : Summary). let o : Outcome Summary = record { calls = calls; answer = Ok w } in o) (sym h.summary_is)
       );
 }
 
-stop-among : (s : State) (units : List NalUnit) (tail : Tail) (end : ℕ) (stop : Stop) (calls : List Call) → IsStopAmong units tail stop calls → units_outcome judging s units tail end ≡ record { calls = calls; answer = Err stop }
+stop-among : (before : History) (units : List NalUnit) (tail : Tail) (end : ℕ) (stop : Stop) (calls : List Call) → IsStopAmong units tail stop calls → units_outcome judging before units tail end ≡ record { calls = calls; answer = Err stop }
 unfolding ◌>>=◌
-stop-among s [] tail end stop calls h = ap (λ o. unless o (end_outcome s (8 * end))) h.0 ∙ rw h.1 refl
-stop-among s (unit ∷ units) tail end stop calls h = ap (λ (o : Outcome State). o >>= λ s'. units_outcome judging s' units tail end) (stop-unit s unit stop calls h)
+stop-among before [] tail end stop calls h = ap (λ o. unless o (end_outcome before (8 * end))) h.0 ∙ rw h.1 refl
+stop-among before (unit ∷ units) tail end stop calls h = ap (λ (o : Outcome History). o >>= λ s'. units_outcome judging s' units tail end) (stop-unit before unit stop calls h)
 
-stops-comes : (bytes : List ℕ) (calls : List Call) (stop : Stop) → StopsAt bytes calls stop → Comes judging 0 start bytes (record { calls = calls; answer = Err stop })
+stops-comes : (bytes : List ℕ) (calls : List Call) (stop : Stop) → StopsAt bytes calls stop → Comes judging 0 [] bytes (record { calls = calls; answer = Err stop })
 stops-comes bytes calls stop h = record {
-  units = units_of h.before ++ h.units;
+  units = in_order h.before h.units;
   tail = h.tail;
   splits = h.stream;
   is = sym (
-      legal-units start h.before h.units h.tail (0 + length bytes) h.first h.legal
-      ∙ ap (with_calls h.first) (stop-among (state_after start h.before) h.units h.tail (0 + length bytes) stop h.last h.stops)
+      legal-units h.before h.units h.tail (0 + length bytes) h.first h.legal
+      ∙ ap (with_calls h.first) (stop-among h.before h.units h.tail (0 + length bytes) stop h.last h.stops)
       ∙ ap (λ (c : List Call). let o : Outcome Summary = record { calls = c; answer = Err stop } in o) (sym h.calls_are)
       );
 }
 
-pub verdict-comes : (bytes : List ℕ) (calls : List Call) (answer : Result Summary Stop) → Verdict bytes calls answer → Comes judging 0 start bytes (record { calls = calls; answer = answer })
+pub verdict-comes : (bytes : List ℕ) (calls : List Call) (answer : Result Summary Stop) → Verdict bytes calls answer → Comes judging 0 [] bytes (record { calls = calls; answer = answer })
 verdict-comes bytes calls (Ok summary) h = holds-comes bytes calls summary h
 verdict-comes bytes calls (Err stop) h = stops-comes bytes calls stop h
 
 -- all units are legal and 00 bytes follow, or the verdict falls somewhere
 data Among (units : List NalUnit) (tail : Tail) : Type 0 where
-  AllLegal : (reads : List ReadUnit) (calls : List Call) → units ≡ units_of reads → tail ≡ Zeros → AreLegal reads calls → Among units tail
-  Falls : (before : List ReadUnit) (rest : List NalUnit) (first last : List Call) (stop : Stop) → units ≡ units_of before ++ rest → AreLegal before first → IsStopAmong rest tail stop last → Among units tail
+  AllLegal : (reads : History) (calls : List Call) → units ≡ in_order reads [] → tail ≡ Zeros → AreLegal reads calls → Among units tail
+  Falls : (before : History) (rest : List NalUnit) (first last : List Call) (stop : Stop) → units ≡ in_order before rest → AreLegal before first → IsStopAmong rest tail stop last → Among units tail
 
-among-tail : (tail : Tail) → Among [] tail
-among-tail Zeros = AllLegal [] [] refl refl refl
-among-tail (Stray place) = Falls [] [] [] [] _ refl refl (refl, refl)
-among-tail (Bare place) = Falls [] [] [] [] _ refl refl (refl, refl)
-among-tail (Long place) = Falls [] [] [] [] _ refl refl (refl, refl)
-among-tail Cut = Falls [] [] [] [] _ refl refl (refl, refl)
+among-tail : (before : History) (earlier : List Call) → AreLegal before earlier → (tail : Tail) → Among (in_order before []) tail
+among-tail before earlier l Zeros = AllLegal before earlier refl refl l
+among-tail before earlier l (Stray place) = Falls before [] earlier [] _ refl l (refl, refl)
+among-tail before earlier l (Bare place) = Falls before [] earlier [] _ refl l (refl, refl)
+among-tail before earlier l (Long place) = Falls before [] earlier [] _ refl l (refl, refl)
+among-tail before earlier l Cut = Falls before [] earlier [] _ refl l (refl, refl)
 
-among : (units : List NalUnit) (tail : Tail) → Among units tail
-among [] tail = among-tail tail
-among (unit ∷ units) tail = by (either unit) (among units tail)
+among : (before : History) (earlier : List Call) → AreLegal before earlier → (units : List NalUnit) (tail : Tail) → Among (in_order before units) tail
+among before earlier l [] tail = among-tail before earlier l tail
+among before earlier l (unit ∷ units) tail = by (either unit) (λ c calls h. among (record { unit = unit; content = c } ∷ before) (earlier ++ calls) (earlier, calls, l, h, refl) units tail)
   where
-    by : Either unit → Among units tail → Among (unit ∷ units) tail
-    by (Fails stop calls h) rest = Falls [] (unit ∷ units) [] calls stop refl refl h
-    by (Legal c calls h) (AllLegal reads later e t l) = AllLegal (record { unit = unit; content = c } ∷ reads) (calls ++ later) (ap (λ us. unit ∷ us) e) t (calls, later, h, l, refl)
-    by (Legal c calls h) (Falls before rest first last stop e l f) = Falls (record { unit = unit; content = c } ∷ before) rest (calls ++ first) last stop (ap (λ us. unit ∷ us) e) (calls, first, h, l, refl) f
+    by : Either unit → ((c : Content) (calls : List Call) → IsLegal (record { unit = unit; content = c }) calls → Among (in_order before (unit ∷ units)) tail) → Among (in_order before (unit ∷ units)) tail
+    by (Fails stop calls h) next = Falls before (unit ∷ units) earlier calls stop refl l h
+    by (Legal c calls h) next = next c calls h
 
 -- some verdict, with its calls
 pub record SomeVerdict (bytes : List ℕ) : Type 0 where
@@ -307,18 +246,18 @@ of-split bytes units tail s (Falls before rest first last stop e l f) = record {
 }
 
 -- What comes of the stream is what the relation says.
-pub comes-verdict : (bytes : List ℕ) (o : Outcome Summary) → Comes judging 0 start bytes o → Verdict bytes o.calls o.answer
+pub comes-verdict : (bytes : List ℕ) (o : Outcome Summary) → Comes judging 0 [] bytes o → Verdict bytes o.calls o.answer
 comes-verdict bytes o c =
-    let v = of-split bytes c.units c.tail c.splits (among c.units c.tail) in
-    let e = one-outcome judging start bytes (record { calls = v.calls; answer = v.answer }) o (verdict-comes bytes v.calls v.answer v.verdict) c in
+    let v = of-split bytes c.units c.tail c.splits (among [] [] refl c.units c.tail) in
+    let e = one-outcome judging [] bytes (record { calls = v.calls; answer = v.answer }) o (verdict-comes bytes v.calls v.answer v.verdict) c in
     subst (λ (w : Outcome Summary). Verdict bytes w.calls w.answer) e v.verdict
 
 pub some-verdict : (bytes : List ℕ) → SomeVerdict bytes
-some-verdict bytes = let o = some-outcome judging start bytes in of-split bytes o.1.units o.1.tail o.1.splits (among o.1.units o.1.tail)
+some-verdict bytes = let o = some-outcome judging [] bytes in of-split bytes o.1.units o.1.tail o.1.splits (among [] [] refl o.1.units o.1.tail)
 
 pub one-verdict : (bytes : List ℕ) (calls others : List Call) (one other : Result Summary Stop) → Verdict bytes calls one → Verdict bytes others other → (calls ≡ others) × (one ≡ other)
 one-verdict bytes calls others one other a b =
-    let e = one-outcome judging start bytes (record { calls = calls; answer = one }) (record { calls = others; answer = other }) (verdict-comes bytes calls one a) (verdict-comes bytes others other b) in
+    let e = one-outcome judging [] bytes (record { calls = calls; answer = one }) (record { calls = others; answer = other }) (verdict-comes bytes calls one a) (verdict-comes bytes others other b) in
     (ap (λ (o : Outcome Summary). o.calls) e, ap (λ (o : Outcome Summary). o.answer) e)
 
 -- What was played of the stream's outcome, behind what a sink was told before, is its verdict.
@@ -344,7 +283,7 @@ module _ {S : Type 0} (took : S → List Call → Type 0) (failures : S → ℕ)
   judged-by (Err Write) p = (front p.plays.0, p.plays.1)
 
 -- what was judged by the fold has this verdict
-pub judges-judged : {S : Type 0} (took : S → List Call → Type 0) (failures : S → ℕ) (bytes : List ℕ) (s s' : S) (result : Result Summary Stop) → Judges judging start took failures bytes s s' result → Judged took failures bytes [] s s' result
+pub judges-judged : {S : Type 0} (took : S → List Call → Type 0) (failures : S → ℕ) (bytes : List ℕ) (s s' : S) (result : Result Summary Stop) → Judges judging [] took failures bytes s s' result → Judged took failures bytes [] s s' result
 judges-judged took failures bytes s s' result j = record { judged = judged-by took failures bytes [] j.outcome s s' (λ answer e. subst (Verdict bytes j.outcome.calls) e (comes-verdict bytes j.outcome j.comes)) result j.ran }
 
 plays-rans : {S : Type 0} (took : S → List Call → Type 0) (failures : S → ℕ) (o : Outcome Summary) (s s' : S) (r : Result Summary Stop) → Plays took failures (λ (x : Summary). x) o s s' r → RansBy took failures o s s' r
@@ -357,53 +296,63 @@ plays-rans took failures o s s' (Err Write) p = p
 
 -- before the first byte
 pub fed-nothing : WasFed fresh [] []
-fed-nothing = record { runs = refl; goes = λ more o c. (o, c, refl) }
+fed-nothing = record { runs = refl; before = []; keeps = record { units = refl; sets = refl }; goes = λ more o c. (o, c, refl) }
 
-fed-later : (session : Progress) (bytes : List ℕ) (calls : List Call) (more : List ℕ) (o : Outcome Summary) → WasFed session bytes calls → Comes judging 0 start (bytes ++ more) o → (later : Outcome Summary) × ToCome judging session.standing more later × ((answer : Result Summary Stop) → later.answer ≡ answer → Verdict (bytes ++ more) (calls ++ later.calls) answer)
-fed-later session bytes calls more o w c =
+fed-later : {session : Progress} {bytes : List ℕ} {calls : List Call} (w : WasFed session bytes calls) (more : List ℕ) (o : Outcome Summary) → Comes judging 0 [] (bytes ++ more) o → (later : Outcome Summary) × ToCome judging (behind session.split w.before) more later × ((answer : Result Summary Stop) → later.answer ≡ answer → Verdict (bytes ++ more) (calls ++ later.calls) answer)
+fed-later {session} {bytes} {calls} w more o c =
     let f = w.goes more o c in
     (f.0, f.1, λ answer e. subst (Verdict (bytes ++ more) (calls ++ f.0.calls)) e (subst (λ (q : Outcome Summary). Verdict (bytes ++ more) q.calls q.answer) f.2 (comes-verdict (bytes ++ more) o c)))
 
 -- a piece more
-pub fed-piece : {S : Type 0} (took : S → List Call → Type 0) (failures : S → ℕ) (old new : Progress) (bytes piece : List ℕ) (calls : List Call) (s s' : S) → WasFed old bytes calls → new.stop ≡ None → Goes judging took old.standing new.standing piece [] s s' → failures s' ≡ failures s → IsFed took failures new (bytes ++ piece) calls s s'
-fed-piece took failures old new bytes piece calls s s' w runs g k = record {
-  more = g.calls;
-  tells = g.tells;
-  fed = record {
-    runs = runs;
-    goes = λ more o c.
-        let f = w.goes (piece ++ more) o (subst (λ l. Comes judging 0 start l o) (append_assoc bytes piece more) c) in
-        let n = g.after more f.0 f.1 in
-        (n.0, n.1, f.2 ∙ ap (with_calls calls) n.2 ∙ sym (with-both calls g.calls n.0));
-  };
-  kept = k;
-}
+fed-piece : {S : Type 0} (took : S → List Call → Type 0) (failures : S → ℕ) (old new : Progress) (bytes piece : List ℕ) (calls : List Call) (s s' : S) (w : WasFed old bytes calls) → new.stop ≡ None → GoesOn took (behind old.split w.before) new.split new.state piece [] s s' → failures s' ≡ failures s → IsFed took failures new (bytes ++ piece) calls s s'
+fed-piece took failures old new bytes piece calls s s' w runs on k =
+    let g = on.goes in
+    record {
+      more = g.calls;
+      tells = g.tells;
+      fed = record {
+        runs = runs;
+        before = on.after;
+        keeps = on.keeps;
+        goes = λ more o c.
+            let f = w.goes (piece ++ more) o (subst (λ l. Comes judging 0 [] l o) (append_assoc bytes piece more) c) in
+            let n = g.after more f.0 f.1 in
+            (n.0, n.1, f.2 ∙ ap (with_calls calls) n.2 ∙ sym (with-both calls g.calls n.0));
+      };
+      kept = k;
+    }
 
 -- a stop, however the input goes on
-pub fed-stop : {S : Type 0} (took : S → List Call → Type 0) (failures : S → ℕ) (old : Progress) (bytes piece : List ℕ) (calls : List Call) (s s' : S) (stop : Stop) → WasFed old bytes calls → Stops judging took failures old.standing piece s s' stop → (later : List ℕ) → Judged took failures ((bytes ++ piece) ++ later) calls s s' (Err stop)
+fed-stop : {S : Type 0} (took : S → List Call → Type 0) (failures : S → ℕ) (old : Progress) (bytes piece : List ℕ) (calls : List Call) (s s' : S) (stop : Stop) (w : WasFed old bytes calls) → Stops judging took failures (behind old.split w.before) piece s s' stop → (later : List ℕ) → Judged took failures ((bytes ++ piece) ++ later) calls s s' (Err stop)
 fed-stop took failures old bytes piece calls s s' stop w p later =
-    let o = some-outcome judging start (bytes ++ (piece ++ later)) in
-    let f = fed-later old bytes calls (piece ++ later) o.0 w o.1 in
+    let o = some-outcome judging [] (bytes ++ (piece ++ later)) in
+    let f = fed-later w (piece ++ later) o.0 o.1 in
     subst (λ l. Judged took failures l calls s s' (Err stop)) (sym (append_assoc bytes piece later))
-    (record { judged = judged-by took failures (bytes ++ (piece ++ later)) calls f.0 s s' f.2 (Err stop) (stops-plays judging took failures old.standing piece later s s' stop f.0 p.stops f.1) })
+    (record { judged = judged-by took failures (bytes ++ (piece ++ later)) calls f.0 s s' f.2 (Err stop) (stops-plays judging took failures (behind old.split w.before) piece later s s' stop f.0 p.stops f.1) })
 
 -- the end of the input
-pub fed-end : {S : Type 0} (took : S → List Call → Type 0) (failures : S → ℕ) (session : Progress) (bytes : List ℕ) (calls : List Call) (s s' : S) (r : Result Summary Stop) → WasFed session bytes calls → Finishes judging took failures session.standing s s' r → Judged took failures bytes calls s s' r
+pub fed-end : {S : Type 0} (took : S → List Call → Type 0) (failures : S → ℕ) (session : Progress) (bytes : List ℕ) (calls : List Call) (s s' : S) (r : Result Summary Stop) (w : WasFed session bytes calls) → Finishes judging took failures (behind session.split w.before) s s' r → Judged took failures bytes calls s s' r
 fed-end took failures session bytes calls s s' r w p =
-    let o = some-outcome judging start (bytes ++ []) in
-    let f = fed-later session bytes calls [] o.0 w o.1 in
+    let o = some-outcome judging [] (bytes ++ []) in
+    let f = fed-later w [] o.0 o.1 in
     subst (λ l. Judged took failures l calls s s' r) (append-nil bytes)
     (record { judged = judged-by took failures (bytes ++ []) calls f.0 s s' f.2 r (plays-rans took failures f.0 s s' r (p.finishes f.0 f.1)) })
 
--- no call of a session answers that a source failed
-pub stops-not-read : {S : Type 0} (took : S → List Call → Type 0) (failures : S → ℕ) (old : Standing State) (piece : List ℕ) (s s' : S) (stop : Stop) → Stops judging took failures old piece s s' stop → stop ≡ Read → ⊥
-stops-not-read took failures old piece s s' stop p e = subst (λ x. StopsBy judging took failures old piece s s' x) e p.stops
-
 -- as the answer of a call
-pub fed-ok : {S : Type 0} (took : S → List Call → Type 0) (failures : S → ℕ) (old new : Progress) (bytes piece : List ℕ) (calls : List Call) (s s' : S) (r : Result (Unit {0}) Stop) → WasFed old bytes calls → OnOk r (new.stop ≡ None) → OnOk r (Goes judging took old.standing new.standing piece [] s s') → OnOk r (failures s' ≡ failures s) → OnOk r (IsFed took failures new (bytes ++ piece) calls s s')
+pub fed-ok : {S : Type 0} (took : S → List Call → Type 0) (failures : S → ℕ) (old new : Progress) (bytes piece : List ℕ) (calls : List Call) (s s' : S) (r : Result (Unit {0}) Stop) (w : WasFed old bytes calls) → OnOk r (new.stop ≡ None) → OnOk r (GoesOn took (behind old.split w.before) new.split new.state piece [] s s') → OnOk r (failures s' ≡ failures s) → OnOk r (IsFed took failures new (bytes ++ piece) calls s s')
 fed-ok took failures old new bytes piece calls s s' (Ok x) w runs g k = fed-piece took failures old new bytes piece calls s s' w runs g k
 fed-ok took failures old new bytes piece calls s s' (Err e) w runs g k = tt
 
-pub fed-err : {S : Type 0} (took : S → List Call → Type 0) (failures : S → ℕ) (old : Progress) (bytes piece : List ℕ) (calls : List Call) (s s' : S) (r : Result (Unit {0}) Stop) → WasFed old bytes calls → IfErr r (λ stop. Stops judging took failures old.standing piece s s' stop) → IfErr r (λ stop. (later : List ℕ) → Judged took failures ((bytes ++ piece) ++ later) calls s s' (Err stop))
+pub fed-err : {S : Type 0} (took : S → List Call → Type 0) (failures : S → ℕ) (old : Progress) (bytes piece : List ℕ) (calls : List Call) (s s' : S) (r : Result (Unit {0}) Stop) (w : WasFed old bytes calls) → IfErr r (λ stop. Stops judging took failures (behind old.split w.before) piece s s' stop) → IfErr r (λ stop. (later : List ℕ) → Judged took failures ((bytes ++ piece) ++ later) calls s s' (Err stop))
 fed-err took failures old bytes piece calls s s' (Ok x) w p = tt
 fed-err took failures old bytes piece calls s s' (Err stop) w p = fed-stop took failures old bytes piece calls s s' stop w p
+
+-- a source before its first read
+pub fed-first : {S : Type 0} (took : S → List Call → Type 0) (known : Option (List ℕ)) (bytes : List ℕ) (s : S) → known ≡ Some bytes → FedOn took known bytes fresh s s
+fed-first took known bytes s h = record { after = []; keeps = record { units = refl; sets = refl }; fed = fed-none judging took known bytes (behind at_start []) s h }
+
+-- a source that has no more bytes
+pub fed-last : {S : Type 0} (took : S → List Call → Type 0) (failures : S → ℕ) (known : Option (List ℕ)) (bytes : List ℕ) (old new : Progress) (s0 s1 s1' s2 : S) (r : Result Summary Stop) → new ≡ old → s1' ≡ s1 → ((left : List ℕ) → known ≡ Some left → left ≡ []) → FedOn took known bytes old s0 s1 → failures s1 ≡ failures s0 → ((before : History) → Keeps before new.state → Finishes judging took failures (behind new.split before) s1' s2 r) → Judges judging [] took failures bytes s0 s2 r
+fed-last took failures known bytes old new s0 s1 s1' s2 r e d none f k p =
+    let keeps = subst (λ (w : Progress). Keeps f.after w.state) (sym e) f.keeps in
+    fed-ends judging [] took failures known bytes (behind old.split f.after) (behind new.split f.after) s0 s1 s1' s2 r (ap (λ (w : Progress). behind w.split f.after) e) d none f.fed k (p f.after keeps)

@@ -2,23 +2,28 @@
 use Rattle.std.specs.Prelude.{◌≡◌, ◌≤◌, IsFalse, Option, Some, None}
 use Rattle.h264_base.specs.declared.stop.Stop.{Stop}
 use Rattle.h264_units.specs.Splitting.{Splitting, at_start}
+use Rattle.h264_sets.specs.Sets.{no_sets}
 use Rattle.h264_verify.specs.declared.judge.State.{State}
-use Rattle.h264_verify.specs.Session.{Standing}
-use Rattle.h264_verify.specs.UnitRules.{start}
+use Rattle.h264_verify.specs.History.{History, Keeps}
 
--- where it stands, and whether it has stopped
+-- what its splitter holds, what is kept of the units taken, and whether it has stopped
 pub record Progress : Type 0 where
-  pub standing : Standing State
+  pub split : Splitting
+  pub state : State
   pub stop : Option Stop
 
--- between two calls no unit waits, and each unit so far had a byte of the input
+-- between two calls no unit waits, each unit so far had a byte of the input, and there are units whose this is kept
 abbrev pub IsReady : Splitting → State → Type 0
-IsReady split state = ((split.stop ≡ None) × IsFalse split.waiting × IsFalse split.ended) × (state.units ≤ split.at)
+IsReady split state = ((split.stop ≡ None) × IsFalse split.waiting × IsFalse split.ended) × (state.units ≤ split.at) × ((before : History) × Keeps before state)
 
 abbrev pub IsSession : Option Stop → Splitting → State → Type 0
 IsSession None split state = IsReady split state
 IsSession (Some stop) split state = Unit {0}
 
+-- before the first unit
+abbrev pub start : State
+start = record { units = 0; sets = no_sets }
+
 -- before the first byte
 abbrev pub fresh : Progress
-fresh = record { standing = record { split = at_start; state = start }; stop = None }
+fresh = record { split = at_start; state = start; stop = None }

@@ -1,5 +1,5 @@
 -- The rules of one unit, and what is told of it.
-use Rattle.std.specs.Prelude.{ℕ, ◌+◌, ◌*◌, ◌/◌, ◌%◌, Bool, true, not, length, slice_index, nat_le, ◌==◌, ◌&&◌, ◌||◌, if◌then◌else◌}
+use Rattle.std.specs.Prelude.{ℕ, ◌*◌, ◌/◌, ◌%◌, Bool, true, not, ◌∷◌, length, slice_index, nat_le, ◌==◌, ◌&&◌, ◌||◌, if◌then◌else◌}
 use Rattle.h264_base.specs.declared.rule.Rule.TheVariants.{ForbiddenBit, RefIdc, Partition}
 use Rattle.h264_base.specs.Call.{Call, OfUnit}
 use Rattle.h264_units.specs.Stream.{NalUnit}
@@ -7,11 +7,12 @@ use Rattle.h264_rbsp.specs.Emulation.{emulation_checked}
 use Rattle.h264_rbsp.specs.Rbsp.{body_of}
 use Rattle.h264_sps.specs.Sps.{sps}
 use Rattle.h264_pps.specs.Pps.{pps}
-use Rattle.h264_sets.specs.Sets.{no_sets, with_sps, with_pps}
-use Rattle.h264_verify.specs.declared.judge.State.{State}
+use Rattle.h264_verify.specs.declared.judge.Content.{Content}
+use Rattle.h264_verify.specs.declared.judge.Content.TheVariants as contents
 use Rattle.h264_verify.specs.declared.judge.Summary.{Summary}
 use Rattle.h264_verify.specs.Outcome.{Outcome, ◌>>=◌, answers, gives, tells, holds, structure_outcome}
 use Rattle.h264_verify.specs.Judging.{Judging}
+use Rattle.h264_verify.specs.History.{History}
 
 -- the parts of a unit's first byte (7.3.1)
 abbrev pub forbidden_zero_bit : ℕ → ℕ
@@ -48,38 +49,32 @@ header_outcome from header = do
 abbrev pub unit_call : ℕ → ℕ → ℕ → Call
 unit_call from header length = OfUnit from (nal_unit_type header) (nal_ref_idc header) length
 
-abbrev pub one_more : State → State
-one_more s = record s { units = s.units + 1 }
-
--- a parameter set is read, and kept in the place of the one that had its id
-unfoldable pub sps_outcome : State → NalUnit → Outcome State
-sps_outcome s unit = do
+-- a parameter set is read
+unfoldable pub sps_outcome : NalUnit → Outcome Content
+sps_outcome unit = do
   set ← structure_outcome sps (body_of unit)
-  gives (record s { sets = with_sps s.sets set })
+  gives (contents.OfSps set)
 
-unfoldable pub pps_outcome : State → NalUnit → Outcome State
-pps_outcome s unit = do
+unfoldable pub pps_outcome : NalUnit → Outcome Content
+pps_outcome unit = do
   set ← structure_outcome pps (body_of unit)
-  gives (record s { sets = with_pps s.sets set })
+  gives (contents.OfPps set)
 
 -- what is in a unit of this type: parameter sets are read, and all others passed over
-unfoldable pub content_outcome : ℕ → State → NalUnit → Outcome State
-content_outcome kind s unit = if kind == 7 then sps_outcome s unit else (if kind == 8 then pps_outcome s unit else gives s)
+unfoldable pub content_outcome : ℕ → NalUnit → Outcome Content
+content_outcome kind unit = if kind == 7 then sps_outcome unit else (if kind == 8 then pps_outcome unit else gives contents.Passed)
 
-unfoldable pub unit_outcome : State → NalUnit → Outcome State
-unit_outcome s unit = do
+unfoldable pub unit_outcome : History → NalUnit → Outcome History
+unit_outcome before unit = do
   _ ← answers (emulation_checked unit.from unit.body)
   _ ← header_outcome unit.from (slice_index unit.body 0)
   _ ← tells (unit_call unit.from (slice_index unit.body 0) (length unit.body))
-  s' ← content_outcome (nal_unit_type (slice_index unit.body 0)) s unit
-  gives (one_more s')
+  found ← content_outcome (nal_unit_type (slice_index unit.body 0)) unit
+  gives (record { unit = unit; content = found } ∷ before)
 
 -- the end of the input, at this bit
-abbrev pub end_outcome : State → ℕ → Outcome Summary
-end_outcome s bit = gives (record { units = s.units; pictures = 0; frames = 0 })
+abbrev pub end_outcome : History → ℕ → Outcome Summary
+end_outcome before bit = gives (record { units = length before; pictures = 0; frames = 0 })
 
-abbrev pub judging : Judging State Summary
+abbrev pub judging : Judging History Summary
 judging = record { unit = unit_outcome; end = end_outcome }
-
-abbrev pub start : State
-start = record { units = 0; sets = no_sets }

@@ -12,11 +12,12 @@ use Rattle.h264_base.specs.Run.{call_of}
 use Rattle.h264_units.specs.Stream.{NalUnit, Tail, Zeros, Splits, tail_stop}
 use Rattle.h264_rbsp.specs.Emulation.{IsFault, IsFirstFault}
 use Rattle.h264_rbsp.specs.Rbsp.{body_of}
-use Rattle.h264_sps.specs.declared.sps.Sps.{Sps}
 use Rattle.h264_sps.specs.Sps.{sps}
-use Rattle.h264_pps.specs.declared.Pps.{Pps}
 use Rattle.h264_pps.specs.Pps.{pps}
+use Rattle.h264_verify.specs.declared.judge.Content.{Content}
+use Rattle.h264_verify.specs.declared.judge.Content.TheVariants as contents
 use Rattle.h264_verify.specs.declared.judge.Summary.{Summary}
+use Rattle.h264_verify.specs.History.{History, ReadUnit}
 use Rattle.h264_verify.specs.UnitRules.{forbidden_zero_bit, nal_ref_idc, nal_unit_type, fits_kind, is_partition, unit_call}
 
 -- a rule that is checked: the stream bit that it names, and whether it is met
@@ -57,16 +58,9 @@ IsUnsound unit rule bit =
     ((place : ℕ) × IsFirstFault unit.body place × (rule ≡ Emulation) × (bit ≡ 8 * (unit.from + place)))
     ⊎ (((place : ℕ) → IsFault unit.body place → ⊥) × IsFirstUnmet (header_demands (8 * unit.from) (header_of unit)) rule bit)
 
--- what stands in a unit
-pub data Content : Type 0 where
-  OfSps : Sps → Content
-  OfPps : Pps → Content
-  -- what is passed over
-  Passed : Content
-
 -- The syntax structure in a unit of this type (7.3.1, table 7-1).
 unfoldable pub content : ℕ → Grammar Content
-content kind = if kind == 7 then sps >>= (λ set. Done (OfSps set)) else (if kind == 8 then pps >>= (λ set. Done (OfPps set)) else Done Passed)
+content kind = if kind == 7 then sps >>= (λ set. Done (contents.OfSps set)) else (if kind == 8 then pps >>= (λ set. Done (contents.OfPps set)) else Done contents.Passed)
 
 -- what its elements say of a unit: its content and the bit behind it, or the stop that they lead to
 abbrev pub Elements : NalUnit → List Element → Result (Content × ℕ) Stop → Type 0
@@ -77,12 +71,12 @@ abbrev pub told : NalUnit → List Element → List Call
 told unit es = unit_call unit.from (header_of unit) (length unit.body) ∷ map (call_of (body_of unit)) es
 
 -- A unit that meets every rule, with the derivation of its content.
-pub record IsLegal (unit : NalUnit) (content : Content) (calls : List Call) : Type 0 where
-  pub sound : IsSound unit
+pub record IsLegal (r : ReadUnit) (calls : List Call) : Type 0 where
+  pub sound : IsSound r.unit
   pub elements : List Element
   pub end : ℕ
-  pub derives : Elements unit elements (Ok (content, end))
-  pub calls_are : calls ≡ told unit elements
+  pub derives : Elements r.unit elements (Ok (r.content, end))
+  pub calls_are : calls ≡ told r.unit elements
 
 -- A unit at which the verdict falls, with what was told of it before.
 pub data IsStop (unit : NalUnit) (stop : Stop) (calls : List Call) : Type 0 where
@@ -91,24 +85,21 @@ pub data IsStop (unit : NalUnit) (stop : Stop) (calls : List Call) : Type 0 wher
   -- its elements lead to a broken rule or a feature that is not judged
   AtElements : IsSound unit → (es : List Element) → Elements unit es (Err stop) → calls ≡ told unit es → IsStop unit stop calls
 
--- a unit and its content
-pub record ReadUnit : Type 0 where
-  pub unit : NalUnit
-  pub content : Content
-
-abbrev pub units_of : List ReadUnit → List NalUnit
-units_of reads = map (λ r. r.unit) reads
-
--- All of these units are legal, and the sink is told of each in turn.
-abbrev pub AreLegal : List ReadUnit → List Call → Type 0
+-- All of these units are legal, and the sink is told of each in turn. The last one stands first.
+abbrev pub AreLegal : History → List Call → Type 0
 AreLegal [] calls = calls ≡ []
-AreLegal (r ∷ rs) calls = (first : List Call) × (later : List Call) × IsLegal r.unit r.content first × AreLegal rs later × (calls ≡ first ++ later)
+AreLegal (r ∷ before) calls = (earlier : List Call) × (last : List Call) × AreLegal before earlier × IsLegal r last × (calls ≡ earlier ++ last)
+
+-- the units in their order, and these behind them
+abbrev pub in_order : History → List NalUnit → List NalUnit
+in_order [] units = units
+in_order (r ∷ before) units = in_order before (r.unit ∷ units)
 
 -- The bytes are a byte stream, and all its units are legal: there is a derivation that meets every rule, and no feature
 -- that is not judged.
 pub record Holds (bytes : List ℕ) (calls : List Call) (summary : Summary) : Type 0 where
-  pub units : List ReadUnit
-  pub stream : Splits 0 bytes (units_of units) Zeros
+  pub units : History
+  pub stream : Splits 0 bytes (in_order units []) Zeros
   pub legal : AreLegal units calls
   pub summary_is : summary ≡ record { units = length units; pictures = 0; frames = 0 }
 
@@ -119,10 +110,10 @@ IsStopAmong (unit ∷ units) tail stop calls = IsStop unit stop calls
 
 -- The units before are legal, and then the verdict falls.
 pub record StopsAt (bytes : List ℕ) (calls : List Call) (stop : Stop) : Type 0 where
-  pub before : List ReadUnit
+  pub before : History
   pub units : List NalUnit
   pub tail : Tail
-  pub stream : Splits 0 bytes (units_of before ++ units) tail
+  pub stream : Splits 0 bytes (in_order before units) tail
   pub first : List Call
   pub last : List Call
   pub legal : AreLegal before first

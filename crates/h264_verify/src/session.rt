@@ -2,11 +2,12 @@
 #![tactic(auto)]
 
 ghost use Rattle.std.specs.Prelude.{◌≡◌, ℕ, ◌+◌, ◌-◌, ◌*◌, ◌<◌, ◌≤◌, ◌^◌, List, [], ◌∷◌, ◌++◌, length, OnOk, OnErr, IfOk, IfErr, Ok, Err, None, drop, IsFalse, IfSome, Some, IsErrOf};
-ghost use Rattle.h264_verify.specs.Session.{Goes, Stops, Finishes};
+ghost use Rattle.h264_verify.specs.Session.{Stops, Finishes};
 ghost use Rattle.h264_verify.specs.UnitRules.{judging};
 ghost use Rattle.h264_verify.specs.Progress.{fresh};
 ghost use Rattle.h264_base.specs.Call.{Call};
-ghost use Rattle.h264_verify.specs.Feeding.{WasFed, IsFed};
+ghost use Rattle.h264_verify.specs.History.{History, Keeps};
+ghost use Rattle.h264_verify.specs.Feeding.{behind, GoesOn, WasFed, IsFed};
 ghost use Rattle.h264_verify.specs.Verdict.{Judged};
 
 use crate::judge::{State, Summary};
@@ -31,11 +32,11 @@ fn feed_some<S: FrameSink>(
     requires runs { (splitter.old.stop ≡ None) × IsFalse splitter.old.waiting × IsFalse splitter.old.ended }
     requires counted { state.old.units ≤ splitter.old.at }
     ensures within { IfOk result (λ n. (0 < n) × (n ≤ length piece.now)) }
-    ensures goes { IfOk result (λ n. Goes judging S.took (record { split = splitter.old; state = state.old }) (record { split = splitter.new; state = state.new }) piece.now (drop n piece.now) sink.old sink.new) }
+    ensures goes { (before : History) → Keeps before state.old → IfOk result (λ n. GoesOn S.took (behind splitter.old before) splitter.new state.new piece.now (drop n piece.now) sink.old sink.new) }
     ensures runs { OnOk result ((splitter.new.stop ≡ None) × IsFalse splitter.new.waiting × IsFalse splitter.new.ended) }
     ensures counted { OnOk result (state.new.units ≤ splitter.new.at) }
     ensures kept { OnOk result (S.failures sink.new ≡ S.failures sink.old) }
-    ensures stops { IfErr result (Stops judging S.took S.failures (record { split = splitter.old; state = state.old }) piece.now sink.old sink.new) }
+    ensures stops { (before : History) → Keeps before state.old → IfErr result (Stops judging S.took S.failures (behind splitter.old before) piece.now sink.old sink.new) }
 {
     let n = splitter.push(piece)?;
     match splitter.take_unit() {
@@ -65,11 +66,11 @@ fn feed_all<S: FrameSink>(
     requires count { S.failures sink.old < 2 ^ 64 - 1 }
     requires runs { (splitter.old.stop ≡ None) × IsFalse splitter.old.waiting × IsFalse splitter.old.ended }
     requires counted { state.old.units ≤ splitter.old.at }
-    ensures goes { OnOk result (Goes judging S.took (record { split = splitter.old; state = state.old }) (record { split = splitter.new; state = state.new }) piece.now [] sink.old sink.new) }
+    ensures goes { (before : History) → Keeps before state.old → OnOk result (GoesOn S.took (behind splitter.old before) splitter.new state.new piece.now [] sink.old sink.new) }
     ensures runs { OnOk result ((splitter.new.stop ≡ None) × IsFalse splitter.new.waiting × IsFalse splitter.new.ended) }
     ensures counted { OnOk result (state.new.units ≤ splitter.new.at) }
     ensures kept { OnOk result (S.failures sink.new ≡ S.failures sink.old) }
-    ensures stops { IfErr result (Stops judging S.took S.failures (record { split = splitter.old; state = state.old }) piece.now sink.old sink.new) }
+    ensures stops { (before : History) → Keeps before state.old → IfErr result (Stops judging S.took S.failures (behind splitter.old before) piece.now sink.old sink.new) }
 {
     let mut rest = piece;
     while !rest.is_empty() {
@@ -89,7 +90,7 @@ fn finish_all<S: FrameSink>(
     requires count { S.failures sink.old < 2 ^ 64 - 1 }
     requires runs { (splitter.old.stop ≡ None) × IsFalse splitter.old.waiting × IsFalse splitter.old.ended }
     requires counted { state.old.units ≤ splitter.old.at }
-    ensures { Finishes judging S.took S.failures (record { split = splitter.old; state = state.old }) sink.old sink.new result }
+    ensures { (before : History) → Keeps before state.old → Finishes judging S.took S.failures (behind splitter.old before) sink.old sink.new result }
 {
     splitter.finish()?;
     match splitter.take_unit() {
@@ -115,7 +116,7 @@ impl Model for Session {
 
     ghost Value = { Progress };
 
-    ghost view = { λ s. record { standing = record { split = s.splitter; state = s.state }; stop = s.stop } };
+    ghost view = { λ s. record { split = s.splitter; state = s.state; stop = s.stop } };
 
     ghost invariant = { λ s. IsSession s.stop s.splitter s.state };
 }
@@ -143,12 +144,14 @@ impl Session {
         requires count { S.failures sink.old < 2 ^ 64 - 1 }
         requires runs { self.old.stop ≡ None }
         // However the input goes on, what comes is what the sink was told now and what comes later.
-        ensures goes { OnOk result (Goes judging S.took self.old.standing self.new.standing piece.now [] sink.old sink.new) }
+        ensures goes { (before : History) → Keeps before self.old.state → OnOk result (GoesOn S.took (behind self.old.split before) self.new.split self.new.state piece.now [] sink.old sink.new) }
         ensures going { OnOk result (self.new.stop ≡ None) }
         ensures kept { OnOk result (S.failures sink.new ≡ S.failures sink.old) }
         // The stop is the stream's, or the sink failed, or memory was refused.
-        ensures stops { IfErr result (Stops judging S.took S.failures self.old.standing piece.now sink.old sink.new) }
+        ensures stops { (before : History) → Keeps before self.old.state → IfErr result (Stops judging S.took S.failures (behind self.old.split before) piece.now sink.old sink.new) }
         ensures stopped { IfErr result (λ stop. self.new.stop ≡ Some stop) }
+        ensures write { IsErrOf result Stop.Write → S.failures sink.new ≡ S.failures sink.old + 1 }
+        ensures no_read { IsErrOf result Stop.Read → ⊥ }
     {
         match feed_all(self.alloc, &mut self.splitter, &mut self.state, piece, sink) {
             Ok(()) => Ok(()),
@@ -163,7 +166,9 @@ impl Session {
     pub(crate) fn conclude<S: FrameSink>(self, sink: &mut S) -> Result<Summary, Stop>
         requires count { S.failures sink.old < 2 ^ 64 - 1 }
         requires runs { self.stop ≡ None }
-        ensures { Finishes judging S.took S.failures self.standing sink.old sink.new result }
+        ensures finishes { (before : History) → Keeps before self.state → Finishes judging S.took S.failures (behind self.split before) sink.old sink.new result }
+        ensures write { IsErrOf result Stop.Write → S.failures sink.new ≡ S.failures sink.old + 1 }
+        ensures no_read { IsErrOf result Stop.Read → ⊥ }
     {
         let mut splitter = self.splitter;
         let mut state = self.state;

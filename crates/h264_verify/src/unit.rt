@@ -1,12 +1,14 @@
 //! One unit.
 #![tactic(auto)]
 
-ghost use Rattle.std.specs.Prelude.{◌≡◌, ℕ, ◌+◌, ◌-◌, ◌*◌, ◌<◌, ◌≤◌, ◌^◌, length, OnOk, IfErr, Ok, Err, slice_index, if◌then◌else◌};
+ghost use Rattle.std.specs.Prelude.{◌≡◌, ℕ, ◌+◌, ◌-◌, ◌*◌, ◌<◌, ◌≤◌, ◌^◌, length, OnOk, IfOk, IfErr, Ok, Err, slice_index, if◌then◌else◌};
 ghost use Rattle.h264_units.specs.Stream.{past};
 ghost use Rattle.h264_verify.specs.Outcome.{Plays, IsNamed, tells, answers};
+ghost use Rattle.h264_verify.specs.History.{History, Keeps, IsKeepable};
+ghost use Rattle.h264_verify.specs.Feeding.{Turns};
 ghost use Rattle.h264_verify.specs.UnitRules.{is_partition, is_always_reference, is_never_reference, fits_kind, header_outcome, unit_call, sps_outcome, pps_outcome, content_outcome, unit_outcome, end_outcome};
 
-use crate::judge::{State, Summary};
+use crate::judge::{Content, State, Summary};
 use crate::sink::FrameSink;
 use h264_base::{Failed, Rule, Stop};
 use h264_bits::Bits;
@@ -81,61 +83,48 @@ fn tell_unit<S: FrameSink>(from: u64, header: u8, length: u64, sink: &mut S) -> 
     }
 }
 
-/// Reads a sequence parameter set and keeps it.
-fn judge_sps<S: FrameSink>(
-    alloc: Global,
-    state: &mut State,
-    unit: &NalUnit,
-    sink: &mut S,
-) -> Result<(), Stop>
+/// Reads a sequence parameter set.
+fn read_sps_unit<S: FrameSink>(alloc: Global, unit: &NalUnit, sink: &mut S) -> Result<Content, Stop>
     requires { S.failures sink.old < 2 ^ 64 - 1 }
-    ensures plays { Plays S.took S.failures (λ x. state.new) (sps_outcome state.old unit.now) sink.old sink.new result }
-    ensures units { state.new.units ≡ state.old.units }
+    ensures plays { Plays S.took S.failures (λ x. x) (sps_outcome unit.now) sink.old sink.new result }
+    ensures keepable { IfOk result IsKeepable }
 {
     let rbsp = Rbsp::of(alloc, unit)?;
     let mut bits = Bits::new(&rbsp);
     let set = read_sps(&mut bits, sink)?;
-    state.sets.put_sps(set);
-    Ok(())
+    Ok(Content::OfSps(set))
 }
 
-/// Reads a picture parameter set and keeps it.
-fn judge_pps<S: FrameSink>(
-    alloc: Global,
-    state: &mut State,
-    unit: &NalUnit,
-    sink: &mut S,
-) -> Result<(), Stop>
+/// Reads a picture parameter set.
+fn read_pps_unit<S: FrameSink>(alloc: Global, unit: &NalUnit, sink: &mut S) -> Result<Content, Stop>
     requires { S.failures sink.old < 2 ^ 64 - 1 }
-    ensures plays { Plays S.took S.failures (λ x. state.new) (pps_outcome state.old unit.now) sink.old sink.new result }
-    ensures units { state.new.units ≡ state.old.units }
+    ensures plays { Plays S.took S.failures (λ x. x) (pps_outcome unit.now) sink.old sink.new result }
+    ensures keepable { IfOk result IsKeepable }
 {
     let rbsp = Rbsp::of(alloc, unit)?;
     let mut bits = Bits::new(&rbsp);
     let set = read_pps(&mut bits, sink)?;
-    state.sets.put_pps(set);
-    Ok(())
+    Ok(Content::OfPps(set))
 }
 
 /// What is in a unit of this type.
-fn judge_content<S: FrameSink>(
+fn read_content<S: FrameSink>(
     alloc: Global,
     kind: u8,
-    state: &mut State,
     unit: &NalUnit,
     sink: &mut S,
-) -> Result<(), Stop>
+) -> Result<Content, Stop>
     requires { S.failures sink.old < 2 ^ 64 - 1 }
-    ensures plays { Plays S.took S.failures (λ x. state.new) (content_outcome kind state.old unit.now) sink.old sink.new result }
-    ensures units { state.new.units ≡ state.old.units }
+    ensures plays { Plays S.took S.failures (λ x. x) (content_outcome kind unit.now) sink.old sink.new result }
+    ensures keepable { IfOk result IsKeepable }
 {
     if kind == 7 {
-        return judge_sps(alloc, state, unit, sink);
+        return read_sps_unit(alloc, unit, sink);
     }
     if kind == 8 {
-        return judge_pps(alloc, state, unit, sink);
+        return read_pps_unit(alloc, unit, sink);
     }
-    Ok(())
+    Ok(Content::Passed)
 }
 
 /// What comes of a unit.
@@ -147,8 +136,9 @@ pub(crate) fn judge_unit<S: FrameSink>(
 ) -> Result<(), Stop>
     requires count { S.failures sink.old < 2 ^ 64 - 1 }
     requires units { state.old.units ≤ 2 ^ 40 }
-    ensures plays { Plays S.took S.failures (λ x. state.new) (unit_outcome state.old unit.now) sink.old sink.new result }
+    ensures turns { (before : History) → Keeps before state.old → Turns S.took S.failures before unit.now state.new sink.old sink.new result }
     ensures counts { OnOk result (state.new.units ≡ state.old.units + 1) }
+    ensures kept { OnOk result (S.failures sink.new ≡ S.failures sink.old) }
 {
     check_emulation(unit)?;
     let from = unit.from();
@@ -156,14 +146,14 @@ pub(crate) fn judge_unit<S: FrameSink>(
     let header = body[0];
     check_header(from, header)?;
     tell_unit(from, header, body.len() as u64, sink)?;
-    judge_content(alloc, header % 32, state, unit, sink)?;
-    state.units += 1;
+    let content = read_content(alloc, header % 32, unit, sink)?;
+    state.keep(content);
     Ok(())
 }
 
 /// What comes of the end of the input.
 pub(crate) fn judge_end<S: FrameSink>(state: &State, sink: &S) -> Result<Summary, Stop>
-    ensures { (bit : ℕ) → Plays S.took S.failures (λ x. x) (end_outcome state.now bit) sink.now sink.now result }
+    ensures { (before : History) (bit : ℕ) → Keeps before state.now → Plays S.took S.failures (λ x. x) (end_outcome before bit) sink.now sink.now result }
 {
     Ok(Summary {
         units: state.units,
