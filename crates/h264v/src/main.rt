@@ -8,6 +8,8 @@ mod files;
 #[cfg(test)]
 mod set_tests;
 #[cfg(test)]
+mod stream_tests;
+#[cfg(test)]
 mod tests;
 
 use command::command;

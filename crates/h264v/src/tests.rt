@@ -1,5 +1,5 @@
-//! The program's answers to small inputs, whole, byte by byte and at every cut, and what no contract says of it: its texts, its
-//! statuses, and reads and writes that fail in turn.
+//! The program's answers to small inputs, whole, byte by byte and at every cut, and what no contract says of it: its texts
+//! and its statuses.
 #![tactic(auto)]
 
 use crate::command::command;
@@ -42,10 +42,10 @@ impl Read for Pieces<'_> {
 /// Opens the one file that there is.
 #[derive(Drop)]
 pub struct OneFile<'a> {
-    bytes: &'a [u8],
-    first: usize,
-    size: usize,
-    failing: usize,
+    pub bytes: &'a [u8],
+    pub first: usize,
+    pub size: usize,
+    pub failing: usize,
 }
 
 impl<'a> Opener for OneFile<'a> {
@@ -129,7 +129,7 @@ pub fn whole(bytes: &[u8]) -> OneFile<'_> {
 }
 
 /// That the answer to these bytes is this one, whole, byte by byte and at every cut.
-fn check(
+pub fn check(
     rt: &(impl Abort + AllocGlobal),
     bytes: &[u8],
     text: &str,
@@ -429,37 +429,6 @@ fn prefixes_of_one_frame(rt: HostRuntime) -> Result<(), Fail> {
             }
         };
         assert!(rt; answer.text.as_str().ends_with(ends.as_str()), "{length}");
-    }
-    Ok(())
-}
-
-/// A failed read is told, whichever it is.
-#[test]
-fn each_read_fails(rt: HostRuntime) -> Result<(), Fail> {
-    for failing in 0..=ONE_FRAME.len() {
-        let file = OneFile {
-            bytes: ONE_FRAME,
-            first: 1,
-            size: 1,
-            failing,
-        };
-        let answer = units(rt.alloc(), file, usize::MAX)?;
-        assert!(rt; answer.text.as_str().ends_with("read failed\n"));
-        assert_eq!(rt; answer.status, 4);
-    }
-    Ok(())
-}
-
-/// A failed write is told where that is still possible, and is never a yes or a no.
-#[test]
-fn each_write_fails(rt: HostRuntime) -> Result<(), Fail> {
-    for failing in 0..8usize {
-        let answer = units(rt.alloc(), whole(ONE_FRAME), failing)?;
-        assert_eq!(rt; answer.status, 4);
-        assert!(rt; !answer.text.as_str().ends_with("yes: units 3\n"));
-        if failing < 6 {
-            assert!(rt; answer.text.as_str().ends_with("write failed\n"));
-        }
     }
     Ok(())
 }

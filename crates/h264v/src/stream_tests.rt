@@ -1,0 +1,103 @@
+//! The program's answers to streams with slices, whole, byte by byte and at every cut, and with each read and each write failing.
+#![tactic(auto)]
+
+use crate::tests::{OneFile, check, units, whole};
+use std::process::Abort;
+use std::test::Fail;
+
+/// The lines of the units that each of these streams begins with.
+const SETS: &str = "unit 4 type 7 ref 3 bytes 6\nunit 14 type 8 ref 3 bytes 4\n";
+
+const ONE_FRAME: &[u8] = &[
+    0x00, 0x00, 0x00, 0x01, 0x67, 0x42, 0xC0, 0x0A, 0xDA, 0x71, 0x00, 0x00, 0x00, 0x01, 0x68, 0xCE,
+    0x38, 0x80, 0x00, 0x00, 0x01, 0x65, 0x88, 0x84, 0x93, 0xC0,
+];
+
+/// The second frame is a skipped macroblock.
+const TWO_FRAMES: &[u8] = &[
+    0x00, 0x00, 0x00, 0x01, 0x67, 0x42, 0xC0, 0x0A, 0xDA, 0x71, 0x00, 0x00, 0x00, 0x01, 0x68, 0xCE,
+    0x38, 0x80, 0x00, 0x00, 0x01, 0x65, 0x88, 0x84, 0x93, 0xC0, 0x00, 0x00, 0x01, 0x61, 0x9A, 0x22,
+    0xA0,
+];
+
+/// The second picture leaves a gap in frame_num, which this command does not look at.
+const GAP: &[u8] = &[
+    0x00, 0x00, 0x00, 0x01, 0x67, 0x42, 0xC0, 0x0A, 0xDA, 0x71, 0x00, 0x00, 0x00, 0x01, 0x68, 0xCE,
+    0x38, 0x80, 0x00, 0x00, 0x01, 0x65, 0x88, 0x84, 0x93, 0xC0, 0x00, 0x00, 0x01, 0x61, 0x9A, 0x42,
+    0xA0,
+];
+
+/// One frame of two macroblocks.
+const WIDE_FRAME: &[u8] = &[
+    0x00, 0x00, 0x00, 0x01, 0x67, 0x42, 0xC0, 0x0A, 0xDA, 0x2C, 0x40, 0x00, 0x00, 0x00, 0x01, 0x68,
+    0xCE, 0x38, 0x80, 0x00, 0x00, 0x01, 0x65, 0x88, 0x84, 0x93, 0x93, 0x14, 0x38,
+];
+
+/// Two such frames, the second with a vector.
+const WIDE_FRAMES: &[u8] = &[
+    0x00, 0x00, 0x00, 0x01, 0x67, 0x42, 0xC0, 0x0A, 0xDA, 0x2C, 0x40, 0x00, 0x00, 0x00, 0x01, 0x68,
+    0xCE, 0x38, 0x80, 0x00, 0x00, 0x01, 0x65, 0x88, 0x84, 0x93, 0x93, 0x14, 0x38, 0x00, 0x00, 0x01,
+    0x61, 0x9A, 0x23, 0x80, 0x80, 0xD4,
+];
+
+const STREAMS: [&[u8]; 5] = [ONE_FRAME, TWO_FRAMES, GAP, WIDE_FRAME, WIDE_FRAMES];
+
+#[test]
+fn two_frames(rt: HostRuntime) -> Result<(), Fail> {
+    let text = format!(in rt.alloc();
+        "{SETS}unit 21 type 5 ref 3 bytes 5\nunit 29 type 1 ref 3 bytes 4\nyes: units 4\n"
+    )?;
+    check(&rt, TWO_FRAMES, text.as_str(), 0)?;
+    check(&rt, GAP, text.as_str(), 0)
+}
+
+#[test]
+fn wide_frames(rt: HostRuntime) -> Result<(), Fail> {
+    let sets =
+        "unit 4 type 7 ref 3 bytes 7\nunit 15 type 8 ref 3 bytes 4\nunit 22 type 5 ref 3 bytes 7\n";
+    let one = format!(in rt.alloc(); "{sets}yes: units 3\n")?;
+    check(&rt, WIDE_FRAME, one.as_str(), 0)?;
+    let two = format!(in rt.alloc(); "{sets}unit 32 type 1 ref 3 bytes 6\nyes: units 4\n")?;
+    check(&rt, WIDE_FRAMES, two.as_str(), 0)
+}
+
+/// Whichever read fails, that is told, and what was printed before is a front of the whole answer.
+#[test]
+fn each_read_fails(rt: HostRuntime) -> Result<(), Fail> {
+    for bytes in STREAMS {
+        let all = units(rt.alloc(), whole(bytes), usize::MAX)?;
+        for failing in 0..=bytes.len() {
+            let file = OneFile {
+                bytes,
+                first: 1,
+                size: 1,
+                failing,
+            };
+            let answer = units(rt.alloc(), file, usize::MAX)?;
+            assert_eq!(rt; answer.status, 4);
+            let front = answer.text.as_str().strip_suffix("read failed\n");
+            assert!(rt; front.is_some_and(|front| all.text.as_str().starts_with(front)));
+        }
+    }
+    Ok(())
+}
+
+/// Whichever write fails, the status tells it, no verdict stands in its place, and where there is still a line to write it is
+/// told too. A line is written in two parts.
+#[test]
+fn each_write_fails(rt: HostRuntime) -> Result<(), Fail> {
+    for bytes in STREAMS {
+        let all = units(rt.alloc(), whole(bytes), usize::MAX)?;
+        let writes = all.text.as_str().lines().count().saturating_mul(2);
+        for failing in 0..writes {
+            let answer = units(rt.alloc(), whole(bytes), failing)?;
+            assert_eq!(rt; answer.status, 4);
+            assert!(rt; !answer.text.as_str().ends_with("yes: units 3\n"));
+            assert!(rt; !answer.text.as_str().ends_with("yes: units 4\n"));
+            let told = answer.text.as_str().ends_with("write failed\n");
+            assert!(rt; told || writes <= failing.saturating_add(2));
+        }
+        assert_eq!(rt; units(rt.alloc(), whole(bytes), writes)?.status, 0);
+    }
+    Ok(())
+}
