@@ -1,0 +1,96 @@
+-- The entries of a list that a code ends: their turns, and what other codes are.
+use Rattle.std.proofs.Common.{◌≡◌, ◌≢◌, ℕ, zero, suc, ◌+◌, ◌-◌, ◌<◌, ◌≤◌, ◌==◌, Bool, true, false, List, [], ◌∷◌, ◌++◌, Option, Some, None, Result, Ok, Err, refl, ap, sym, ◌∙◌, subst, arith}
+use Rattle.h264_base.specs.declared.stop.Stop.{Stop}
+use Rattle.h264_base.specs.Call.{Call}
+use Rattle.h264_base.specs.Word.{digit}
+use Rattle.h264_base.specs.Grammar.{Grammar, Done, ◌>>=◌}
+use Rattle.h264_base.specs.Meets.{Reader, Meets, Is}
+use Rattle.h264_base.proofs.Steps.{Leads, leads-starts, leads-then, leads-on, reads_is, stop, done, finish}
+use Rattle.h264_header.specs.Listed.{listed, goes_on}
+use Rattle.h264_header.specs.Header.{deblocking_of}
+use Rattle.std.proofs.Common.{IsTrue, length, not}
+use Rattle.std.proofs.lemmas.Bool.Decides.{nat_tests}
+use Rattle.h264_header.specs.declared.header.MarkingOperation.{MarkingOperation}
+use Rattle.h264_header.specs.Marking.{operands, is_repeated, is_operation_allowed}
+use Rattle.h264_header.specs.RefList.{command, is_command_allowed}
+
+-- a flag as a digit
+pub digit-is : (b : Bool) → (digit b == 1) ≡ b
+digit-is true = refl
+digit-is false = refl
+
+-- codes without operands
+pub operands-other : (n : ℕ) → n ≢ 1 → n ≢ 2 → n ≢ 3 → n ≢ 4 → n ≢ 5 → n ≢ 6 → operands n ≡ Done None
+unfolding operands
+operands-other zero a b c d e f = refl
+operands-other (suc zero) a b c d e f = absurd (a refl)
+operands-other (suc (suc zero)) a b c d e f = absurd (b refl)
+operands-other (suc (suc (suc zero))) a b c d e f = absurd (c refl)
+operands-other (suc (suc (suc (suc zero)))) a b c d e f = absurd (d refl)
+operands-other (suc (suc (suc (suc (suc zero))))) a b c d e f = absurd (e refl)
+operands-other (suc (suc (suc (suc (suc (suc zero)))))) a b c d e f = absurd (f refl)
+operands-other (suc (suc (suc (suc (suc (suc (suc n))))))) a b c d e f = refl
+
+pub command-other : (m n : ℕ) → n ≢ 0 → n ≢ 1 → n ≢ 2 → command m n ≡ Done None
+unfolding command
+command-other m zero a b c = absurd (a refl)
+command-other m (suc zero) a b c = absurd (b refl)
+command-other m (suc (suc zero)) a b c = absurd (c refl)
+command-other m (suc (suc (suc n))) a b c = refl
+
+module _ {A S : Type 0} {took : S → List Call → Type 0} {failures : S → ℕ} where
+  -- before the first entry
+  pub listed-starts : (entry : List A → Grammar (Option A)) (n : ℕ) (before : List A) (old : Reader) (s : S) → before ≡ [] → Leads took failures (listed entry n []) (listed entry (n - 0) before) old old s s
+  listed-starts entry n before old s e =
+      let whole : n - 0 ≡ n = omega arith in
+      rw (whole, e) (leads-starts took failures (listed entry n []) old s)
+
+  -- one more entry
+  pub listed-next : {g : Grammar (List A)} {old now mid : Reader} {s s' s'' : S} {x : A} (entry : List A → Grammar (Option A)) (n i : ℕ) (before after : List A) → i < n → after ≡ before ++ x ∷ [] → Leads took failures g (listed entry (n - i) before) old now s s' → Meets took failures (Is (λ (o : Option A). o)) (entry before) now mid s' s'' (Ok (Some x)) → Leads took failures g (listed entry (n - (i + 1)) after) old mid s s''
+  unfolding listed
+  listed-next {g} {old} {now} {mid} {s} {s'} {s''} entry n i before after h e l m =
+      let k : n - i ≡ suc (n - (i + 1)) = omega arith in
+      let P : ℕ → Type 0 = λ k. Leads took failures g (listed entry k before) old now s s' in
+      rw e (leads-on (goes_on (listed entry (n - (i + 1))) before) (subst P k l) m)
+
+  -- an entry stops
+  pub listed-stop : {g : Grammar (List A)} {Y : Type 0} {R : Y → List A → Type 0} {old now mid : Reader} {s s' s'' : S} {e : Stop} (entry : List A → Grammar (Option A)) (n i : ℕ) (before : List A) → i < n → Leads took failures g (listed entry (n - i) before) old now s s' → Meets took failures (Is (λ (o : Option A). o)) (entry before) now mid s' s'' (Err e) → Meets {X = Y} took failures R g old mid s s'' (Err e)
+  unfolding listed
+  listed-stop {g} {old = old} {now} {s = s} {s'} entry n i before h l m =
+      let k : n - i ≡ suc (n - (i + 1)) = omega arith in
+      let P : ℕ → Type 0 = λ k. Leads took failures g (listed entry k before) old now s s' in
+      finish (subst P k l) (stop (goes_on (listed entry (n - (i + 1))) before) m)
+
+  -- the end
+  pub listed-ends : {g : Grammar (List A)} {Y : Type 0} {R : Y → List A → Type 0} {old now mid : Reader} {s s' s'' : S} (entry : List A → Grammar (Option A)) (n i : ℕ) (before : List A) (y : Y) → i < n → R y before → Leads took failures g (listed entry (n - i) before) old now s s' → Meets took failures (Is (λ (o : Option A). o)) (entry before) now mid s' s'' (Ok None) → Meets took failures R g old mid s s'' (Ok y)
+  unfolding listed
+  listed-ends {g} {R = R} {old} {now} {mid} {s} {s'} {s''} entry n i before y h r l m =
+      let k : n - i ≡ suc (n - (i + 1)) = omega arith in
+      let P : ℕ → Type 0 = λ k. Leads took failures g (listed entry k before) old now s s' in
+      finish (leads-on (goes_on (listed entry (n - (i + 1))) before) (subst P k l) m) (done took failures R before mid s'' y r)
+
+  -- no turn is left
+  pub listed-over : {g : Grammar (List A)} {Y : Type 0} {R : Y → List A → Type 0} {old now : Reader} {s s' : S} (entry : List A → Grammar (Option A)) (n i : ℕ) (before : List A) (y : Y) → n ≤ i → R y before → Leads took failures g (listed entry (n - i) before) old now s s' → Meets took failures R g old now s s' (Ok y)
+  unfolding listed
+  listed-over {g} {R = R} {old} {now} {s} {s'} entry n i before y h r l =
+      let k : n - i ≡ 0 = omega arith in
+      let P : ℕ → Type 0 = λ k. Leads took failures g (listed entry k before) old now s s' in
+      finish (subst P k l) (done took failures R before now s' y r)
+
+-- what may stand behind others and does not end them has room
+pub command-room : (active before idc : ℕ) → idc ≢ 3 → IsTrue (is_command_allowed active before idc) → before < active
+command-room active before idc h t = grind (arith, nat_tests)
+
+pub operation-room : (before : List MarkingOperation) (number : ℕ) → number ≢ 0 → IsTrue (is_operation_allowed before number) → length before < 36
+operation-room before number h t = grind (arith, nat_tests)
+
+-- the code's own test of a repetition
+pub allowed-by : (before : List MarkingOperation) (number : ℕ) → number ≢ 0 → number ≤ 6 → length before < 36 → is_operation_allowed before number ≡ not (is_repeated before number)
+allowed-by before number h k l = grind (arith, nat_tests)
+
+-- values of disable_deblocking_filter_idc other than 0 and 1
+pub deblocking-other : (n : ℕ) → n ≢ 0 → n ≢ 1 → deblocking_of n ≡ deblocking_of 2
+unfolding deblocking_of
+deblocking-other zero a b = absurd (a refl)
+deblocking-other (suc zero) a b = absurd (b refl)
+deblocking-other (suc (suc n)) a b = refl

@@ -1,0 +1,11 @@
+use Rattle.std.proofs.Common.{◌≡◌, ℕ, ◌+◌, ◌-◌, ◌<◌, ◌≤◌, ◌^◌, [], length}
+use Rattle.h264_base.proofs.Steps.{Leads}
+use Rattle.h264_header.specs.Listed.{listed}
+use Rattle.h264_header.specs.Marking.{operation}
+use Rattle.h264_header.proofs.marking.read_operations.Given as goal
+
+abbrev pub invariant-loop-turn : goal.invariant-loop-turn
+invariant-loop-turn g l = record {
+  rest : Leads g.S.Elements.took g.S.Elements.failures (listed operation 37 []) (listed operation (37 - l._turn) l.operations.items) l.fn.bits l.bits l.fn.sink l.sink;
+  room : g.S.Elements.failures l.sink < 2 ^ 64 - 1;
+}

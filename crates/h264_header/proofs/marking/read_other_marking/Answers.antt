@@ -1,0 +1,18 @@
+use Rattle.std.proofs.Common.{Ok, Err, refl, rules}
+use Rattle.std.proofs.lemmas.Result.{err_from_is_err_and}
+use Rattle.h264_base.proofs.Steps.{bind, bind_as, stop, done, checked}
+use Rattle.h264_header.proofs.Entries.{digit-is}
+use Rattle.h264_header.specs.Marking.{other_marking}
+use Rattle.h264_header.proofs.marking.read_other_marking.Goals as goal
+
+pub returns-in_err-adaptive : goal.returns-in_err-adaptive
+unfolding other_marking
+returns-in_err-adaptive g c = let p = err_from_is_err_and c.from_residual.result c.from_residual.ensures.1 in rw (p.1, p.2) (stop _ c.in_err-adaptive.ensures.meets)
+
+pub returns-in_err-marking : goal.returns-in_err-marking
+unfolding other_marking
+returns-in_err-marking g c = let p = err_from_is_err_and c.from_residual-in_err-marking.result c.from_residual-in_err-marking.ensures.1 in rw (p.1, p.2) (bind _ c.in_ok-adaptive.ensures.meets (rw (digit-is c.in_ok-adaptive.adaptive.value) (stop _ c.in_err-marking.ensures)))
+
+pub returns : goal.returns
+unfolding other_marking
+returns g c = bind _ c.in_ok-adaptive.ensures.meets (rw (digit-is c.in_ok-adaptive.adaptive.value) (bind _ c.in_ok-marking.ensures (done _ _ _ _ _ _ _ refl)))

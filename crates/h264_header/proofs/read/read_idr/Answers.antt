@@ -1,0 +1,17 @@
+use Rattle.std.proofs.Common.{Ok, Err, refl}
+use Rattle.std.proofs.lemmas.Result.{err_from_is_err_and}
+use Rattle.h264_base.proofs.Steps.{bind, stop, done}
+use Rattle.h264_bits.specs.Forms.{optional}
+use Rattle.h264_header.proofs.read.read_idr.Goals as goal
+
+pub returns-then-not-idr : goal.returns-then-not-idr
+unfolding optional
+returns-then-not-idr g c = rw c.if-not-idr.true (done _ _ _ _ _ _ _ refl)
+
+pub returns-in_err-part : goal.returns-in_err-part
+unfolding optional
+returns-in_err-part g c = let p = err_from_is_err_and c.from_residual.result c.from_residual.ensures.1 in rw (p.1, p.2, c.if-not-idr.false) (stop _ c.in_err-part.ensures)
+
+pub returns : goal.returns
+unfolding optional
+returns g c = rw c.if-not-idr.false (bind _ c.in_ok-part.ensures (done _ _ _ _ _ _ _ refl))

@@ -1,0 +1,34 @@
+use Rattle.std.proofs.Common.{Ok, Err, Option, None, refl}
+use Rattle.h264_header.specs.declared.header.Modification.{Modification}
+use Rattle.std.proofs.lemmas.Result.{err_from_is_err_and}
+use Rattle.h264_base.proofs.Steps.{bind, stop, done, checked}
+use Rattle.h264_header.specs.RefList.{modification, command}
+use Rattle.h264_header.proofs.Entries.{command-room}
+use Rattle.h264_header.proofs.ref_list.read_modification.Goals as goal
+
+pub returns-in_err-idc-clause-meets : goal.returns-in_err-idc-clause-meets
+unfolding modification
+returns-in_err-idc-clause-meets g c = let p = err_from_is_err_and c.from_residual.result c.from_residual.ensures.1 in rw (p.1, p.2) (stop _ c.in_err-idc.ensures.meets)
+
+pub returns-in_err-check-clause-meets : goal.returns-in_err-check-clause-meets
+unfolding modification
+returns-in_err-check-clause-meets g c = let p = err_from_is_err_and c.from_residual-in_err-check.result c.from_residual-in_err-check.ensures.1 in let allowed = rw (c.is_command_allowed.ensures, c.len.ensures.value) at c.in_err-check.ensures in rw (p.1, p.2) (bind _ c.in_ok-idc.ensures.meets (stop _ (checked _ _ _ _ allowed)))
+
+pub returns-then-idc-eq-END-clause-meets : goal.returns-then-idc-eq-END-clause-meets
+unfolding modification command
+returns-then-idc-eq-END-clause-meets g c = let allowed = rw (c.is_command_allowed.ensures, c.len.ensures.value) at c.in_ok-check.ensures in bind _ c.in_ok-idc.ensures.meets (bind _ (checked _ _ _ _ allowed) (rw c.if-idc-eq-END.true (bind {view = λ (o : Option Modification). o} _ (done _ _ _ None _ _ None refl) (done _ _ _ _ _ _ _ refl))))
+
+pub returns-in_err-command-clause-meets : goal.returns-in_err-command-clause-meets
+unfolding modification
+returns-in_err-command-clause-meets g c = let p = err_from_is_err_and c.from_residual-in_err-command.result c.from_residual-in_err-command.ensures.1 in let allowed = rw (c.is_command_allowed.ensures, c.len.ensures.value) at c.in_ok-check.ensures in rw (p.1, p.2) (bind _ c.in_ok-idc.ensures.meets (bind _ (checked _ _ _ _ allowed) (stop _ c.in_err-command.ensures)))
+
+pub returns-in-Some-clause-meets : goal.returns-in-Some-clause-meets
+unfolding modification
+returns-in-Some-clause-meets g c = let allowed = rw (c.is_command_allowed.ensures, c.len.ensures.value) at c.in_ok-check.ensures in bind _ c.in_ok-idc.ensures.meets (bind _ (checked _ _ _ _ allowed) (bind _ c.in_ok-command.ensures (rw c.in-Some.is (done _ _ _ _ _ _ _ refl))))
+
+pub returns-in-Some-clause-room : goal.returns-in-Some-clause-room
+returns-in-Some-clause-room g c = let allowed = rw (c.is_command_allowed.ensures, c.len.ensures.value) at c.in_ok-check.ensures in command-room c.args.active _ c.in_ok-idc.idc.value c.if-idc-eq-END.false allowed.checks
+
+pub returns-in-None-clause-meets : goal.returns-in-None-clause-meets
+unfolding modification
+returns-in-None-clause-meets g c = let allowed = rw (c.is_command_allowed.ensures, c.len.ensures.value) at c.in_ok-check.ensures in bind _ c.in_ok-idc.ensures.meets (bind _ (checked _ _ _ _ allowed) (bind _ c.in_ok-command.ensures (rw c.in-None.is (done _ _ _ _ _ _ _ refl))))

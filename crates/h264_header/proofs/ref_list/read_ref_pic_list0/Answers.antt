@@ -1,0 +1,21 @@
+use Rattle.std.proofs.Common.{Ok, Err, refl, rules}
+use Rattle.std.proofs.lemmas.Result.{err_from_is_err_and}
+use Rattle.h264_base.proofs.Steps.{bind, bind_as, stop, done, checked}
+use Rattle.h264_header.specs.RefList.{ref_pic_list0}
+use Rattle.h264_header.proofs.ref_list.read_ref_pic_list0.Goals as goal
+
+pub returns-in_err-active : goal.returns-in_err-active
+unfolding ref_pic_list0
+returns-in_err-active g c = let p = err_from_is_err_and c.from_residual.result c.from_residual.ensures.1 in rw (p.1, p.2) (stop _ c.in_err-active.ensures.meets)
+
+pub returns-in_err-modified : goal.returns-in_err-modified
+unfolding ref_pic_list0
+returns-in_err-modified g c = let p = err_from_is_err_and c.from_residual-in_err-modified.result c.from_residual-in_err-modified.ensures.1 in rw (p.1, p.2) (bind _ c.in_ok-active.ensures.meets (stop _ c.in_err-modified.ensures))
+
+pub returns-in_err-commands : goal.returns-in_err-commands
+unfolding ref_pic_list0
+returns-in_err-commands g c = let p = err_from_is_err_and c.from_residual-in_err-commands.result c.from_residual-in_err-commands.ensures.1 in rw (p.1, p.2) (bind _ c.in_ok-active.ensures.meets (bind _ c.in_ok-modified.ensures (stop _ (rw c.max_frame_num_of-max_frame_num.ensures at c.in_err-commands.ensures))))
+
+pub returns : goal.returns
+unfolding ref_pic_list0
+returns g c = bind _ c.in_ok-active.ensures.meets (bind _ c.in_ok-modified.ensures (bind _ (rw c.max_frame_num_of-max_frame_num.ensures at c.in_ok-commands.ensures) (done _ _ _ _ _ _ _ refl)))

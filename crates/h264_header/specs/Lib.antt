@@ -1,0 +1,6 @@
+pub mod Layout
+pub mod Listed
+pub mod RefList
+pub mod Marking
+pub mod Header
+pub mod Picture

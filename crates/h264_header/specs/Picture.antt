@@ -1,0 +1,52 @@
+-- Where a picture begins (7.4.1.2.4).
+use Rattle.std.specs.Prelude.{ℕ, ℤ, ◌==◌, ◌||◌, ◌&&◌, not, Bool, true, false, Option, Some, None}
+use Rattle.h264_bits.specs.declared.element.Found.{Found}
+use Rattle.h264_header.specs.declared.header.PicOrderCnt.{PicOrderCnt}
+use Rattle.h264_header.specs.declared.header.PicOrderCnt.TheVariants.{Lsb, Deltas, DecodingOrder}
+use Rattle.h264_header.specs.declared.header.Header.{Header}
+use Rattle.std.specs.Ordering.{int_eq}
+use Rattle.std.specs.Option.{is_some}
+
+-- pic_order_cnt_type is 0 for both, and pic_order_cnt_lsb or delta_pic_order_cnt_bottom differs
+abbrev pub lsb_differs : PicOrderCnt → PicOrderCnt → Bool
+lsb_differs (Lsb lsb bottom) (Lsb lsb' bottom') = not (lsb == lsb') || not (int_eq bottom bottom')
+lsb_differs (Lsb lsb bottom) (Deltas top' bottom') = false
+lsb_differs (Lsb lsb bottom) DecodingOrder = false
+lsb_differs (Deltas top bottom) other = false
+lsb_differs DecodingOrder other = false
+
+-- pic_order_cnt_type is 1 for both, and delta_pic_order_cnt[0] or delta_pic_order_cnt[1] differs
+abbrev pub deltas_differ : PicOrderCnt → PicOrderCnt → Bool
+deltas_differ (Lsb lsb bottom) other = false
+deltas_differ (Deltas top bottom) (Lsb lsb' bottom') = false
+deltas_differ (Deltas top bottom) (Deltas top' bottom') = not (int_eq top top') || not (int_eq bottom bottom')
+deltas_differ (Deltas top bottom) DecodingOrder = false
+deltas_differ DecodingOrder other = false
+
+-- both are slices of IDR pictures, and idr_pic_id differs
+abbrev pub idr_pic_ids_differ : Option (Found ℕ) → Option (Found ℕ) → Bool
+idr_pic_ids_differ None other = false
+idr_pic_ids_differ (Some id) None = false
+idr_pic_ids_differ (Some id) (Some id') = not (id.value == id'.value)
+
+-- IdrPicFlag differs
+abbrev pub idr_differs : Option (Found ℕ) → Option (Found ℕ) → Bool
+idr_differs None None = false
+idr_differs None (Some id') = true
+idr_differs (Some id) None = true
+idr_differs (Some id) (Some id') = false
+
+-- nal_ref_idc differs, and is 0 for one of them
+abbrev pub reference_differs : ℕ → ℕ → Bool
+reference_differs idc idc' = not (idc == idc') && (idc == 0 || idc' == 0)
+
+-- The second slice is the first of a picture, where the first slice is the one before it.
+abbrev pub begins_picture : Header → Header → Bool
+begins_picture old new =
+    not (old.frame_num.value == new.frame_num.value)
+    || not (old.pic_parameter_set_id.value == new.pic_parameter_set_id.value)
+    || reference_differs old.nal_ref_idc new.nal_ref_idc
+    || lsb_differs old.pic_order_cnt new.pic_order_cnt
+    || deltas_differ old.pic_order_cnt new.pic_order_cnt
+    || idr_differs old.idr_pic_id new.idr_pic_id
+    || idr_pic_ids_differ old.idr_pic_id new.idr_pic_id

@@ -1,0 +1,254 @@
+//! Reading the marking of reference pictures (7.3.3.3).
+#![tactic(auto)]
+
+ghost use Rattle.std.specs.Prelude.{◌≡◌, ℕ, ◌==◌, ◌-◌, ◌<◌, ◌^◌, [], IfOk, OnSome};
+ghost use Rattle.std.specs.List.{list_any};
+ghost use Rattle.arrayvec.specs.ArrayVec.{array_vec_len};
+ghost use Rattle.h264_base.specs.Meets.{Meets, Is};
+ghost use Rattle.h264_bits.specs.Forms.{optional};
+ghost use Rattle.h264_header.specs.Marking.{number_of, operands, is_repeated, is_operation_allowed, operation, operations, idr_marking, marking_mode, other_marking, dec_ref_pic_marking};
+
+use crate::header::{Marking, MarkingOperation, Operation};
+use arrayvec::ArrayVec;
+use h264_base::{ElementName, Elements, Rule, Stop};
+use h264_bits::forms::{flag_value, ue_value};
+use h264_bits::{Bits, Found, check, read_flag, read_ue};
+
+/// How many operations there may be.
+const MOST: usize = 36;
+
+/// memory_management_control_operation of an operation.
+fn number_of(operation: Operation) -> u32
+    ensures { result ≡ number_of operation }
+{
+    match operation {
+        Operation::UnmarkShortTerm { .. } => 1,
+        Operation::UnmarkLongTerm { .. } => 2,
+        Operation::MakeLongTerm { .. } => 3,
+        Operation::LimitLongTerm { .. } => 4,
+        Operation::UnmarkAll => 5,
+        Operation::MakeCurrentLongTerm { .. } => 6,
+    }
+}
+
+/// The operand of operation 1.
+fn read_unmark_short<S: Elements>(bits: &mut Bits, sink: &mut S) -> Result<Option<Operation>, Stop>
+    requires { S.failures sink.old < 2 ^ 64 - 1 }
+    ensures { Meets S.took S.failures (Is (λ x. x)) (operands 1) bits.old bits.new sink.old sink.new result }
+{
+    let difference = ue_value(bits, ElementName::DifferenceOfPicNumsMinus1, sink)?;
+    Ok(Some(Operation::UnmarkShortTerm {
+        difference_of_pic_nums_minus1: difference,
+    }))
+}
+
+/// The operand of operation 2.
+fn read_unmark_long<S: Elements>(bits: &mut Bits, sink: &mut S) -> Result<Option<Operation>, Stop>
+    requires { S.failures sink.old < 2 ^ 64 - 1 }
+    ensures { Meets S.took S.failures (Is (λ x. x)) (operands 2) bits.old bits.new sink.old sink.new result }
+{
+    let number = ue_value(bits, ElementName::LongTermPicNum, sink)?;
+    Ok(Some(Operation::UnmarkLongTerm {
+        long_term_pic_num: number,
+    }))
+}
+
+/// The operands of operation 3.
+fn read_make_long<S: Elements>(bits: &mut Bits, sink: &mut S) -> Result<Option<Operation>, Stop>
+    requires { S.failures sink.old < 2 ^ 64 - 1 }
+    ensures { Meets S.took S.failures (Is (λ x. x)) (operands 3) bits.old bits.new sink.old sink.new result }
+{
+    let difference = ue_value(bits, ElementName::DifferenceOfPicNumsMinus1, sink)?;
+    let index = ue_value(bits, ElementName::LongTermFrameIdx, sink)?;
+    Ok(Some(Operation::MakeLongTerm {
+        difference_of_pic_nums_minus1: difference,
+        long_term_frame_idx: index,
+    }))
+}
+
+/// The operand of operation 4.
+fn read_limit<S: Elements>(bits: &mut Bits, sink: &mut S) -> Result<Option<Operation>, Stop>
+    requires { S.failures sink.old < 2 ^ 64 - 1 }
+    ensures { Meets S.took S.failures (Is (λ x. x)) (operands 4) bits.old bits.new sink.old sink.new result }
+{
+    let greatest = ue_value(bits, ElementName::MaxLongTermFrameIdxPlus1, sink)?;
+    Ok(Some(Operation::LimitLongTerm {
+        max_long_term_frame_idx_plus1: greatest,
+    }))
+}
+
+/// The operand of operation 6.
+fn read_make_current<S: Elements>(bits: &mut Bits, sink: &mut S) -> Result<Option<Operation>, Stop>
+    requires { S.failures sink.old < 2 ^ 64 - 1 }
+    ensures { Meets S.took S.failures (Is (λ x. x)) (operands 6) bits.old bits.new sink.old sink.new result }
+{
+    let chosen = ue_value(bits, ElementName::LongTermFrameIdx, sink)?;
+    Ok(Some(Operation::MakeCurrentLongTerm {
+        long_term_frame_idx: chosen,
+    }))
+}
+
+/// The operation of this number with its operands; 0 is none.
+fn read_operands<S: Elements>(
+    number: u32,
+    bits: &mut Bits,
+    sink: &mut S,
+) -> Result<Option<Operation>, Stop>
+    requires { S.failures sink.old < 2 ^ 64 - 1 }
+    ensures { Meets S.took S.failures (Is (λ x. x)) (operands number) bits.old bits.new sink.old sink.new result }
+{
+    match number {
+        1 => read_unmark_short(bits, sink),
+        2 => read_unmark_long(bits, sink),
+        3 => read_make_long(bits, sink),
+        4 => read_limit(bits, sink),
+        5 => Ok(Some(Operation::UnmarkAll)),
+        6 => read_make_current(bits, sink),
+        _ => Ok(None),
+    }
+}
+
+/// Whether one of these operations has this number.
+fn has_number(before: &[MarkingOperation], number: u32) -> bool
+    ensures { result ≡ list_any (λ m. number_of m.operation == number) before.now }
+{
+    before.iter().any(|m| number_of(m.operation) == number)
+}
+
+/// Whether an operation of this number may stand behind these.
+fn is_operation_allowed(before: &[MarkingOperation], number: u32) -> bool
+    ensures { result ≡ is_operation_allowed before.now number }
+{
+    if number == 0 {
+        return true;
+    }
+    if number > 6 || before.len() >= MOST {
+        return false;
+    }
+    !(number >= 4 && has_number(before, number))
+}
+
+/// One more operation, or the end.
+fn read_operation<S: Elements>(
+    before: &ArrayVec<MarkingOperation, 36>,
+    bits: &mut Bits,
+    sink: &mut S,
+) -> Result<Option<MarkingOperation>, Stop>
+    requires { S.failures sink.old < 2 ^ 64 - 1 }
+    ensures meets { Meets S.took S.failures (Is (λ x. x)) (operation before.now.items) bits.old bits.new sink.old sink.new result }
+    ensures room { IfOk result (λ m. OnSome m (array_vec_len before.now < 36)) }
+{
+    let number = read_ue(bits, ElementName::MemoryManagementControlOperation, sink)?;
+    check(
+        is_operation_allowed(before.as_slice(), number.value),
+        Rule::Range,
+        number.bit,
+    )?;
+    if number.value == 0 {
+        return Ok(None);
+    }
+    let found = read_operands(number.value, bits, sink)?;
+    match found {
+        Some(operation) => Ok(Some(MarkingOperation {
+            bit: number.bit,
+            operation,
+        })),
+        None => Ok(None),
+    }
+}
+
+/// The operations up to the 0 that ends them.
+fn read_operations<S: Elements>(
+    bits: &mut Bits,
+    sink: &mut S,
+) -> Result<ArrayVec<MarkingOperation, 36>, Stop>
+    requires { S.failures sink.old < 2 ^ 64 - 1 }
+    ensures { Meets S.took S.failures (Is (λ x. x.items)) operations bits.old bits.new sink.old sink.new result }
+{
+    let mut operations = ArrayVec::new();
+    for _turn in 0..MOST + 1 {
+        let next = read_operation(&operations, bits, sink)?;
+        match next {
+            Some(operation) => operations.push(operation),
+            None => return Ok(operations),
+        }
+    }
+    Ok(operations)
+}
+
+/// The marking of an IDR picture.
+fn read_idr_marking<S: Elements>(bits: &mut Bits, sink: &mut S) -> Result<Found<Marking>, Stop>
+    requires { S.failures sink.old < 2 ^ 64 - 1 }
+    ensures { Meets S.took S.failures (Is (λ x. x)) idr_marking bits.old bits.new sink.old sink.new result }
+{
+    let no_output = read_flag(bits, ElementName::NoOutputOfPriorPicsFlag, sink)?;
+    let long_term = flag_value(bits, ElementName::LongTermReferenceFlag, sink)?;
+    Ok(Found {
+        bit: no_output.bit,
+        value: Marking::Idr {
+            no_output_of_prior_pics_flag: no_output.value,
+            long_term_reference_flag: long_term,
+        },
+    })
+}
+
+/// What the adaptive flag says.
+fn read_marking_mode<S: Elements>(
+    adaptive: bool,
+    bits: &mut Bits,
+    sink: &mut S,
+) -> Result<Marking, Stop>
+    requires { S.failures sink.old < 2 ^ 64 - 1 }
+    ensures { Meets S.took S.failures (Is (λ x. x)) (marking_mode adaptive) bits.old bits.new sink.old sink.new result }
+{
+    if !adaptive {
+        return Ok(Marking::SlidingWindow);
+    }
+    let operations = read_operations(bits, sink)?;
+    Ok(Marking::Adaptive(operations))
+}
+
+/// The marking of another picture.
+fn read_other_marking<S: Elements>(bits: &mut Bits, sink: &mut S) -> Result<Found<Marking>, Stop>
+    requires { S.failures sink.old < 2 ^ 64 - 1 }
+    ensures { Meets S.took S.failures (Is (λ x. x)) other_marking bits.old bits.new sink.old sink.new result }
+{
+    let adaptive = read_flag(bits, ElementName::AdaptiveRefPicMarkingModeFlag, sink)?;
+    let marking = read_marking_mode(adaptive.value, bits, sink)?;
+    Ok(Found {
+        bit: adaptive.bit,
+        value: marking,
+    })
+}
+
+/// The marking of a picture.
+fn read_dec_ref_pic_marking<S: Elements>(
+    idr: bool,
+    bits: &mut Bits,
+    sink: &mut S,
+) -> Result<Found<Marking>, Stop>
+    requires { S.failures sink.old < 2 ^ 64 - 1 }
+    ensures { Meets S.took S.failures (Is (λ x. x)) (dec_ref_pic_marking idr) bits.old bits.new sink.old sink.new result }
+{
+    if idr {
+        return read_idr_marking(bits, sink);
+    }
+    read_other_marking(bits, sink)
+}
+
+/// The marking, where the picture is a reference.
+pub(crate) fn read_marking<S: Elements>(
+    reference: bool,
+    idr: bool,
+    bits: &mut Bits,
+    sink: &mut S,
+) -> Result<Option<Found<Marking>>, Stop>
+    requires { S.failures sink.old < 2 ^ 64 - 1 }
+    ensures { Meets S.took S.failures (Is (λ x. x)) (optional reference (dec_ref_pic_marking idr)) bits.old bits.new sink.old sink.new result }
+{
+    if !reference {
+        return Ok(None);
+    }
+    let part = read_dec_ref_pic_marking(idr, bits, sink)?;
+    Ok(Some(part))
+}

@@ -1,0 +1,306 @@
+//! Reading a slice header (7.3.3).
+#![tactic(auto)]
+
+ghost use Rattle.std.specs.Prelude.{◌≡◌, ℕ, ◌-◌, ◌<◌, ◌≤◌, ◌^◌, true, IfOk};
+ghost use Rattle.h264_base.specs.Meets.{Meets, Is, Answers};
+ghost use Rattle.h264_base.specs.declared.element_name.ElementName.TheVariants.{DeltaPicOrderCntBottom, DeltaPicOrderCnt};
+ghost use Rattle.h264_bits.specs.Forms.{optional, signed};
+ghost use Rattle.h264_header.specs.Layout.{sets_of, IsShort, IsShortCount};
+ghost use Rattle.h264_header.specs.Listed.{or_0};
+ghost use Rattle.h264_header.specs.Header.{is_judged_type, type_of, stated_type, named_sets, idr_pic_id, lsb_count, delta_count, pic_order_cnt, filter_offsets, deblocking_of, deblocking, header};
+
+use crate::header::{Deblocking, FilterOffsets, Header, PicOrderCnt, SliceUnit};
+use crate::layout::{CountElements, Layout, named_layout};
+use crate::marking::read_marking;
+use crate::ref_list::read_slice_kind;
+use h264_base::{ElementName, Elements, Rule, SliceType, Stop};
+use h264_bits::forms::{se_value, se_within, ue_up_to};
+use h264_bits::{Bits, Found, check, read_bits, read_se, read_ue};
+use h264_sets::Sets;
+
+/// What slice_type says.
+#[derive(Clone, Copy)]
+pub(crate) struct StatedType {
+    bit: u64,
+    slice_type: SliceType,
+    /// All slices of the picture have the type.
+    same_in_picture: bool,
+}
+
+/// pic_parameter_set_id, and what the sets say of the rest of the header.
+#[derive(Clone, Copy)]
+pub(crate) struct NamedSets {
+    id: Found<u32>,
+    layout: Layout,
+}
+
+fn is_judged_type(value: u32) -> bool
+    ensures { result ≡ is_judged_type value }
+{
+    value % 5 == 0 || value % 5 == 2
+}
+
+fn type_of(value: u32) -> SliceType
+    ensures { result ≡ type_of value }
+{
+    if value % 5 == 0 {
+        SliceType::P
+    } else {
+        SliceType::I
+    }
+}
+
+/// slice_type.
+fn read_stated_type<S: Elements>(bits: &mut Bits, sink: &mut S) -> Result<StatedType, Stop>
+    requires { S.failures sink.old < 2 ^ 64 - 1 }
+    ensures { Meets S.took S.failures (Is (λ x. x)) stated_type bits.old bits.new sink.old sink.new result }
+{
+    let stated = read_ue(bits, ElementName::SliceType, sink)?;
+    check(stated.value <= 9, Rule::Range, stated.bit)?;
+    check(is_judged_type(stated.value), Rule::Tool, stated.bit)?;
+    Ok(StatedType {
+        bit: stated.bit,
+        slice_type: type_of(stated.value),
+        same_in_picture: stated.value >= 5,
+    })
+}
+
+/// pic_parameter_set_id, whose sets are there.
+fn read_named_sets<S: Elements>(
+    sets: &Sets,
+    bits: &mut Bits,
+    sink: &mut S,
+) -> Result<NamedSets, Stop>
+    requires { S.failures sink.old < 2 ^ 64 - 1 }
+    ensures meets { Meets S.took S.failures (Is (λ x. x)) (named_sets (sets_of sets.now)) bits.old bits.new sink.old sink.new result }
+    ensures short { IfOk result (λ n. IsShort n.layout) }
+{
+    let id = read_ue(bits, ElementName::PicParameterSetId, sink)?;
+    check(id.value <= 255, Rule::Range, id.bit)?;
+    match named_layout(sets, id.value) {
+        Some(layout) => Ok(NamedSets { id, layout }),
+        None => Err(Stop::No {
+            bit: id.bit,
+            rule: Rule::NoSet,
+        }),
+    }
+}
+
+/// idr_pic_id.
+fn read_idr_pic_id<S: Elements>(bits: &mut Bits, sink: &mut S) -> Result<Found<u32>, Stop>
+    requires { S.failures sink.old < 2 ^ 64 - 1 }
+    ensures { Meets S.took S.failures (Is (λ x. x)) idr_pic_id bits.old bits.new sink.old sink.new result }
+{
+    let id = read_ue(bits, ElementName::IdrPicId, sink)?;
+    check(id.value <= 65535, Rule::Range, id.bit)?;
+    Ok(id)
+}
+
+/// idr_pic_id, where the picture is an IDR picture.
+fn read_idr<S: Elements>(
+    idr: bool,
+    bits: &mut Bits,
+    sink: &mut S,
+) -> Result<Option<Found<u32>>, Stop>
+    requires { S.failures sink.old < 2 ^ 64 - 1 }
+    ensures { Meets S.took S.failures (Is (λ x. x)) (optional idr idr_pic_id) bits.old bits.new sink.old sink.new result }
+{
+    if !idr {
+        return Ok(None);
+    }
+    let part = read_idr_pic_id(bits, sink)?;
+    Ok(Some(part))
+}
+
+/// delta_pic_order_cnt_bottom, or 0.
+fn read_lsb_bottom<S: Elements>(present: bool, bits: &mut Bits, sink: &mut S) -> Result<i32, Stop>
+    requires { S.failures sink.old < 2 ^ 64 - 1 }
+    ensures { Meets S.took S.failures (Is (λ x. x)) (or_0 present (signed DeltaPicOrderCntBottom)) bits.old bits.new sink.old sink.new result }
+{
+    if !present {
+        return Ok(0);
+    }
+    se_value(bits, ElementName::DeltaPicOrderCntBottom, sink)
+}
+
+/// delta_pic_order_cnt[1], or 0.
+fn read_delta_bottom<S: Elements>(present: bool, bits: &mut Bits, sink: &mut S) -> Result<i32, Stop>
+    requires { S.failures sink.old < 2 ^ 64 - 1 }
+    ensures { Meets S.took S.failures (Is (λ x. x)) (or_0 present (signed DeltaPicOrderCnt)) bits.old bits.new sink.old sink.new result }
+{
+    if !present {
+        return Ok(0);
+    }
+    se_value(bits, ElementName::DeltaPicOrderCnt, sink)
+}
+
+/// The elements of type 0.
+fn read_lsb_count<S: Elements>(
+    length: u32,
+    has_bottom: bool,
+    bits: &mut Bits,
+    sink: &mut S,
+) -> Result<PicOrderCnt, Stop>
+    requires short { length ≤ 32 }
+    requires room { S.failures sink.old < 2 ^ 64 - 1 }
+    ensures { Meets S.took S.failures (Is (λ x. x)) (lsb_count length has_bottom) bits.old bits.new sink.old sink.new result }
+{
+    let lsb = read_bits(bits, ElementName::PicOrderCntLsb, length, sink)?;
+    let bottom = read_lsb_bottom(has_bottom, bits, sink)?;
+    Ok(PicOrderCnt::Lsb {
+        pic_order_cnt_lsb: lsb.value,
+        delta_pic_order_cnt_bottom: bottom,
+    })
+}
+
+/// The elements of type 1.
+fn read_delta_count<S: Elements>(
+    has_bottom: bool,
+    bits: &mut Bits,
+    sink: &mut S,
+) -> Result<PicOrderCnt, Stop>
+    requires { S.failures sink.old < 2 ^ 64 - 1 }
+    ensures { Meets S.took S.failures (Is (λ x. x)) (delta_count has_bottom) bits.old bits.new sink.old sink.new result }
+{
+    let top = se_value(bits, ElementName::DeltaPicOrderCnt, sink)?;
+    let bottom = read_delta_bottom(has_bottom, bits, sink)?;
+    Ok(PicOrderCnt::Deltas { top, bottom })
+}
+
+/// The elements of the picture order count.
+fn read_pic_order_cnt<S: Elements>(
+    count: CountElements,
+    has_bottom: bool,
+    bits: &mut Bits,
+    sink: &mut S,
+) -> Result<PicOrderCnt, Stop>
+    requires short { IsShortCount count }
+    requires room { S.failures sink.old < 2 ^ 64 - 1 }
+    ensures { Meets S.took S.failures (Is (λ x. x)) (pic_order_cnt count has_bottom) bits.old bits.new sink.old sink.new result }
+{
+    match count {
+        CountElements::Lsb { length } => read_lsb_count(length, has_bottom, bits, sink),
+        CountElements::Deltas => read_delta_count(has_bottom, bits, sink),
+        CountElements::ZeroDeltas => Ok(PicOrderCnt::Deltas { top: 0, bottom: 0 }),
+        CountElements::DecodingOrder => Ok(PicOrderCnt::DecodingOrder),
+    }
+}
+
+/// The two offsets.
+fn read_filter_offsets<S: Elements>(bits: &mut Bits, sink: &mut S) -> Result<FilterOffsets, Stop>
+    requires { S.failures sink.old < 2 ^ 64 - 1 }
+    ensures { Meets S.took S.failures (Is (λ x. x)) filter_offsets bits.old bits.new sink.old sink.new result }
+{
+    let alpha = se_within(bits, ElementName::SliceAlphaC0OffsetDiv2, -6, 6, sink)?;
+    let beta = se_within(bits, ElementName::SliceBetaOffsetDiv2, -6, 6, sink)?;
+    Ok(FilterOffsets {
+        slice_alpha_c0_offset_div2: alpha,
+        slice_beta_offset_div2: beta,
+    })
+}
+
+/// What goes with disable_deblocking_filter_idc 0.
+fn read_all_edges<S: Elements>(bits: &mut Bits, sink: &mut S) -> Result<Deblocking, Stop>
+    requires { S.failures sink.old < 2 ^ 64 - 1 }
+    ensures { Meets S.took S.failures (Is (λ x. x)) (deblocking_of 0) bits.old bits.new sink.old sink.new result }
+{
+    let offsets = read_filter_offsets(bits, sink)?;
+    Ok(Deblocking::AllEdges(offsets))
+}
+
+/// What goes with disable_deblocking_filter_idc 2.
+fn read_within_slice<S: Elements>(bits: &mut Bits, sink: &mut S) -> Result<Deblocking, Stop>
+    requires { S.failures sink.old < 2 ^ 64 - 1 }
+    ensures { Meets S.took S.failures (Is (λ x. x)) (deblocking_of 2) bits.old bits.new sink.old sink.new result }
+{
+    let offsets = read_filter_offsets(bits, sink)?;
+    Ok(Deblocking::WithinSlice(offsets))
+}
+
+/// disable_deblocking_filter_idc, and what goes with it.
+fn read_idc<S: Elements>(bits: &mut Bits, sink: &mut S) -> Result<Deblocking, Stop>
+    requires { S.failures sink.old < 2 ^ 64 - 1 }
+    ensures { Meets S.took S.failures (Is (λ x. x)) (deblocking true) bits.old bits.new sink.old sink.new result }
+{
+    let idc = ue_up_to(bits, ElementName::DisableDeblockingFilterIdc, 2, sink)?;
+    match idc {
+        0 => read_all_edges(bits, sink),
+        1 => Ok(Deblocking::Off),
+        _ => read_within_slice(bits, sink),
+    }
+}
+
+/// The control of the deblocking filter, where it is present.
+fn read_deblocking<S: Elements>(
+    present: bool,
+    bits: &mut Bits,
+    sink: &mut S,
+) -> Result<Deblocking, Stop>
+    requires { S.failures sink.old < 2 ^ 64 - 1 }
+    ensures { Meets S.took S.failures (Is (λ x. x)) (deblocking present) bits.old bits.new sink.old sink.new result }
+{
+    if present {
+        return read_idc(bits, sink);
+    }
+    Ok(Deblocking::AllEdges(FilterOffsets {
+        slice_alpha_c0_offset_div2: 0,
+        slice_beta_offset_div2: 0,
+    }))
+}
+
+/// The header, element by element.
+fn header_steps<S: Elements>(
+    bits: &mut Bits,
+    sets: &Sets,
+    unit: SliceUnit,
+    sink: &mut S,
+) -> Result<Header, Stop>
+    requires { S.failures sink.old < 2 ^ 64 - 1 }
+    ensures { Meets S.took S.failures (Is (λ x. x)) (header (sets_of sets.now) unit) bits.old bits.new sink.old sink.new result }
+{
+    let first_mb = read_ue(bits, ElementName::FirstMbInSlice, sink)?;
+    let stated = read_stated_type(bits, sink)?;
+    let named = read_named_sets(sets, bits, sink)?;
+    let layout = named.layout;
+    let frame_num = read_bits(bits, ElementName::FrameNum, layout.frame_num_length, sink)?;
+    let idr = read_idr(unit.idr_pic_flag, bits, sink)?;
+    let order = read_pic_order_cnt(layout.count, layout.has_bottom, bits, sink)?;
+    let kind = read_slice_kind(layout, stated.slice_type, bits, sink)?;
+    let marking = read_marking(unit.nal_ref_idc > 0, unit.idr_pic_flag, bits, sink)?;
+    let qp = read_se(bits, ElementName::SliceQpDelta, sink)?;
+    let filter = read_deblocking(layout.has_deblocking_control, bits, sink)?;
+    Ok(Header {
+        nal_ref_idc: unit.nal_ref_idc,
+        first_mb_in_slice: first_mb,
+        kind: Found {
+            bit: stated.bit,
+            value: kind,
+        },
+        same_type_in_picture: stated.same_in_picture,
+        pic_parameter_set_id: named.id,
+        frame_num,
+        idr_pic_id: idr,
+        pic_order_cnt: order,
+        marking,
+        slice_qp_delta: qp,
+        deblocking: filter,
+    })
+}
+
+/// Reads the header of a slice, up to the bit at which its data begin.
+///
+/// Ok: the header; the elements that the sink was told are its one derivation, with every rule on its own elements met.
+/// No: the first rule that it breaks, at its stream bit; NoSet where the picture parameter set of its id, or the sequence
+/// parameter set that this one names, is not there. Write: the sink failed. After an Err the reader may have moved.
+pub fn read_header<S: Elements>(
+    bits: &mut Bits,
+    sets: &Sets,
+    unit: SliceUnit,
+    sink: &mut S,
+) -> Result<Header, Stop>
+    requires { S.failures sink.old < 2 ^ 64 - 1 }
+    ensures answers { Answers S.took S.failures (Is (λ x. x)) (header (sets_of sets.now) unit) bits.old bits.new sink.old sink.new result }
+    ensures meets { Meets S.took S.failures (Is (λ x. x)) (header (sets_of sets.now) unit) bits.old bits.new sink.old sink.new result }
+{
+    header_steps(bits, sets, unit, sink)
+}

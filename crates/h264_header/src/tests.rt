@@ -1,0 +1,602 @@
+//! What no clause says: headers worked by hand from the standard's tables, and each range's ends.
+#![tactic(auto)]
+
+use crate::{
+    Deblocking, FilterOffsets, Header, Marking, MarkingOperation, Modification, Operation,
+    PicNumModification, PicOrderCnt, SliceKind, SliceUnit, begins_picture, read_header,
+};
+use h264_base::{ElementName, Elements, Failed, Rule, Stop};
+use h264_bits::{Bits, Found};
+use h264_pps::{Pps, read_pps};
+use h264_rbsp::Rbsp;
+use h264_sets::Sets;
+use h264_sps::count_type::{CountType, Cycle};
+use h264_sps::read::read_sps;
+use h264_sps::sps::{ConstraintSetFlags, FrameSize, Sps};
+use h264_units::Splitter;
+use std::alloc::Global;
+use std::test::Fail;
+
+/// Takes any element.
+#[derive(Drop)]
+struct Heard {
+    count: u32,
+}
+
+impl Elements for Heard {
+    ghost took = { λ _ _. Unit {0} };
+
+    ghost failures = { λ _. 0 };
+
+    fn element(&mut self, _name: ElementName, _bit: u64, _value: i64) -> Result<(), Failed> {
+        self.count = self.count.saturating_add(1);
+        Ok(())
+    }
+}
+
+/// The RBSP of the unit of a stream that has one.
+fn rbsp(alloc: Global, stream: &[u8]) -> Result<Rbsp, Stop> {
+    let mut splitter = Splitter::new(alloc);
+    let _taken = splitter.push(stream)?;
+    if !splitter.waiting() {
+        splitter.finish()?;
+    }
+    let Some(unit) = splitter.take_unit() else {
+        return Err(Stop::Read);
+    };
+    Rbsp::of(alloc, &unit)
+}
+
+/// The sets of two units, each with its start code.
+fn sets_read(alloc: Global, sps: &[u8], pps: &[u8]) -> Result<Sets, Fail> {
+    let mut sets = Sets::new(alloc)?;
+    let mut sink = Heard { count: 0 };
+    let body = rbsp(alloc, sps)?;
+    let sps = read_sps(&mut Bits::new(&body), &mut sink)?;
+    sets.put_sps(sps);
+    let body = rbsp(alloc, pps)?;
+    let pps = read_pps(&mut Bits::new(&body), &mut sink)?;
+    sets.put_pps(pps);
+    Ok(sets)
+}
+
+/// A sequence parameter set of one macroblock, with frame_num of 4 bits.
+fn sps(count_type: CountType) -> Sps {
+    Sps {
+        profile_idc: 66,
+        constraint_set_flags: ConstraintSetFlags {
+            set0: true,
+            set1: true,
+            set2: false,
+            set3: false,
+            set4: false,
+            set5: false,
+        },
+        reserved_zero_2bits: 0,
+        level_idc: 10,
+        seq_parameter_set_id: 0,
+        log2_max_frame_num: 4,
+        count_type,
+        max_num_ref_frames: 1,
+        gaps_in_frame_num_value_allowed_flag: false,
+        frame_size: FrameSize {
+            width: 1,
+            height: 1,
+        },
+        direct_8x8_inference_flag: false,
+        frame_cropping: None,
+        vui: None,
+    }
+}
+
+/// A picture parameter set without what is optional.
+fn pps(default_active_minus1: u32, has_bottom: bool, has_control: bool) -> Pps {
+    Pps {
+        pic_parameter_set_id: 0,
+        seq_parameter_set_id: 0,
+        bottom_field_pic_order_in_frame_present_flag: has_bottom,
+        num_ref_idx_l0_default_active_minus1: default_active_minus1,
+        num_ref_idx_l1_default_active_minus1: 0,
+        pic_init_qp_minus26: 0,
+        pic_init_qs_minus26: 0,
+        chroma_qp_index_offset: 0,
+        deblocking_filter_control_present_flag: has_control,
+        constrained_intra_pred_flag: false,
+    }
+}
+
+/// Both sets under id 0.
+fn sets_of(alloc: Global, sps: &Sps, pps: &Pps) -> Result<Sets, Fail> {
+    let mut sets = Sets::new(alloc)?;
+    if sps.seq_parameter_set_id <= 31 {
+        sets.put_sps(*sps);
+    }
+    if pps.pic_parameter_set_id <= 255 {
+        sets.put_pps(*pps);
+    }
+    Ok(sets)
+}
+
+/// Adds a byte to a unit, with an emulation prevention byte before it where one is due.
+fn push_byte(bytes: &mut Vec<u8>, zeros: u32, byte: u8) -> Result<u32, Fail> {
+    let mut run = zeros;
+    if run >= 2 && byte <= 3 {
+        bytes.push(3)?;
+        run = 0;
+    }
+    bytes.push(byte)?;
+    Ok(if byte == 0 { run.saturating_add(1) } else { 0 })
+}
+
+/// The stream of a unit whose RBSP has these bits, written as 0 and 1, and a stop bit.
+fn stream(alloc: Global, text: &str) -> Result<Vec<u8>, Fail> {
+    let mut bytes = vec![in alloc; 0u8, 0, 1, 0x61]?;
+    let mut zeros = 0u32;
+    let mut byte = 0u32;
+    let mut count = 0u32;
+    for digit in text.as_bytes() {
+        if *digit == b' ' {
+            continue;
+        }
+        byte = byte % 128 * 2 + if *digit == b'1' { 1 } else { 0 };
+        count = count % 8 + 1;
+        if count == 8 {
+            zeros = push_byte(&mut bytes, zeros, (byte % 256) as u8)?;
+            byte = 0;
+        }
+    }
+    byte = byte % 128 * 2 + 1;
+    for _ in 0..7 - count % 8 {
+        byte = byte % 128 * 2;
+    }
+    let _zeros = push_byte(&mut bytes, zeros, (byte % 256) as u8)?;
+    Ok(bytes)
+}
+
+/// The header that stands in a stream of one unit.
+fn header_in(
+    alloc: Global,
+    sets: &Sets,
+    idr: bool,
+    nal_ref_idc: u32,
+    stream: &[u8],
+) -> Result<Header, Stop> {
+    let body = rbsp(alloc, stream)?;
+    let unit = SliceUnit {
+        idr_pic_flag: idr,
+        nal_ref_idc,
+    };
+    read_header(&mut Bits::new(&body), sets, unit, &mut Heard { count: 0 })
+}
+
+/// The rule that a header breaks, and its bit in the RBSP; of a header without a fault none.
+fn refusal(alloc: Global, sets: &Sets, idr: bool, text: &str) -> Result<Option<(u64, Rule)>, Fail> {
+    let stream = stream(alloc, text)?;
+    match header_in(alloc, sets, idr, 1, stream.as_slice()) {
+        Err(Stop::No { bit, rule }) => Ok(Some((bit.saturating_sub(32), rule))),
+        Err(stop) => Err(stop)?,
+        Ok(_) => Ok(None),
+    }
+}
+
+/// Whether each of these headers of P slices is refused so, or not at all.
+fn refusals_are(
+    alloc: Global,
+    sets: &Sets,
+    cases: &[(&str, Option<(u64, Rule)>)],
+) -> Result<bool, Fail> {
+    for (text, expected) in cases {
+        if refusal(alloc, sets, false, text)? != *expected {
+            return Ok(false);
+        }
+    }
+    Ok(true)
+}
+
+const RANGE: Rule = Rule::Range;
+
+/// slice_type, pic_parameter_set_id and frame_num; a P slice of type 5 else.
+#[test]
+fn front(rt: HostRuntime) -> Result<(), Fail> {
+    let alloc = rt.alloc();
+    let sets = sets_of(alloc, &sps(CountType::DecodingOrder), &pps(0, false, false))?;
+    let cases = [
+        ("1 1 1 0001 0 0 0 1", None),
+        ("1 011 1 0001 0 1", None),
+        ("1 00110 1 0001 0 0 0 1", None),
+        ("1 0001000 1 0001 0 1", None),
+        ("1 010 1", Some((1, Rule::Tool))),
+        ("1 00100 1", Some((1, Rule::Tool))),
+        ("1 00101 1", Some((1, Rule::Tool))),
+        ("1 00111 1", Some((1, Rule::Tool))),
+        ("1 0001001 1", Some((1, Rule::Tool))),
+        ("1 0001010 1", Some((1, Rule::Tool))),
+        ("1 0001011 1", Some((1, RANGE))),
+        ("1 00110 000000010000000 0", Some((6, Rule::NoSet))),
+        ("1 00110 00000000100000000", Some((6, Rule::NoSet))),
+        ("1 00110 00000000100000001", Some((6, RANGE))),
+        ("1 00110 1", Some((7, Rule::CodeWord))),
+        ("1 00110 1 0001 0 0 0 0", Some((14, Rule::CodeWord))),
+    ];
+    assert!(rt; refusals_are(alloc, &sets, cases.as_slice())?);
+    Ok(())
+}
+
+/// What goes with a reference picture list, of one place and MaxFrameNum 16 unless said otherwise.
+#[test]
+fn list(rt: HostRuntime) -> Result<(), Fail> {
+    let alloc = rt.alloc();
+    let sets = sets_of(alloc, &sps(CountType::DecodingOrder), &pps(0, false, false))?;
+    let cases = [
+        ("1 00110 1 0001 1 000010000 0 0 1", None),
+        ("1 00110 1 0001 1 000010001 0 0 1", Some((12, RANGE))),
+        ("1 00110 1 0001 0 1 00100 0 1", Some((13, RANGE))),
+        ("1 00110 1 0001 0 1 00101 0 1", Some((13, RANGE))),
+        ("1 00110 1 0001 0 1 1 000010000 00100 0 1", None),
+        (
+            "1 00110 1 0001 0 1 1 000010001 00100 0 1",
+            Some((14, RANGE)),
+        ),
+        (
+            "1 00110 1 0001 0 1 010 000010001 00100 0 1",
+            Some((16, RANGE)),
+        ),
+        ("1 00110 1 0001 0 1 011 000010001 00100 0 1", None),
+        ("1 00110 1 0001 0 1 1 1 1 1 00100 0 1", Some((15, RANGE))),
+        ("1 00110 1 0001 1 010 0 1 1 1 1 00100 0 1", None),
+        ("1 00110 1 0001 1 010 1 1 1 1 1 00100 0 1", None),
+        (
+            "1 00110 1 0001 1 010 1 1 1 1 1 1 1 00100 0 1",
+            Some((20, RANGE)),
+        ),
+    ];
+    assert!(rt; refusals_are(alloc, &sets, cases.as_slice())?);
+    let long = sets_of(
+        alloc,
+        &sps(CountType::DecodingOrder),
+        &pps(16, false, false),
+    )?;
+    let cases = [
+        ("1 00110 1 0001 0 0 0 1", Some((11, RANGE))),
+        ("1 00110 1 0001 1 1 0 0 1", None),
+    ];
+    assert!(rt; refusals_are(alloc, &long, cases.as_slice())?);
+    let full = sets_of(
+        alloc,
+        &sps(CountType::DecodingOrder),
+        &pps(15, false, false),
+    )?;
+    let cases = [("1 00110 1 0001 0 0 0 1", None)];
+    assert!(rt; refusals_are(alloc, &full, cases.as_slice())?);
+    Ok(())
+}
+
+/// Marking operations.
+#[test]
+fn marking(rt: HostRuntime) -> Result<(), Fail> {
+    let alloc = rt.alloc();
+    let sets = sets_of(alloc, &sps(CountType::DecodingOrder), &pps(0, false, false))?;
+    let cases = [
+        ("1 00110 1 0001 0 0 1 1 1", None),
+        ("1 00110 1 0001 0 0 1 0001000 1", Some((14, RANGE))),
+        (
+            "1 00110 1 0001 0 0 1 00101 1 00101 1 1 1",
+            Some((20, RANGE)),
+        ),
+        ("1 00110 1 0001 0 0 1 00110 00110 1 1", Some((19, RANGE))),
+        (
+            "1 00110 1 0001 0 0 1 00111 1 00111 1 1 1",
+            Some((20, RANGE)),
+        ),
+        (
+            "1 00110 1 0001 0 0 1 00101 1 00110 00111 1 010 1 011 1 00100 1 1 1 1",
+            None,
+        ),
+    ];
+    assert!(rt; refusals_are(alloc, &sets, cases.as_slice())?);
+    Ok(())
+}
+
+/// 36 operations may stand before the 0, and not 37.
+#[test]
+fn number_of_operations(rt: HostRuntime) -> Result<(), Fail> {
+    let alloc = rt.alloc();
+    let sets = sets_of(alloc, &sps(CountType::DecodingOrder), &pps(0, false, false))?;
+    let mut text = String::from_str(alloc, "1 00110 1 0001 0 0 1")?;
+    for _ in 0..36 {
+        text.push_str(" 010 1")?;
+    }
+    let mut most = text.clone()?;
+    most.push_str(" 1 1")?;
+    assert!(rt; refusal(alloc, &sets, false, most.as_str())?.is_none());
+    text.push_str(" 010 1 1 1")?;
+    assert!(rt; refusal(alloc, &sets, false, text.as_str())? == Some((158, RANGE)));
+    Ok(())
+}
+
+/// IDR pictures.
+#[test]
+fn idr(rt: HostRuntime) -> Result<(), Fail> {
+    let alloc = rt.alloc();
+    let sets = sets_of(alloc, &sps(CountType::DecodingOrder), &pps(0, false, false))?;
+    let greatest = "1 011 1 0000 0000000000000000 1 0000000000000000 1 0 1";
+    assert!(rt; refusal(alloc, &sets, true, greatest)?.is_none());
+    let beyond = "1 011 1 0000 0000000000000000 1 0000000000000001 1 0 1";
+    assert!(rt; refusal(alloc, &sets, true, beyond)? == Some((9, RANGE)));
+    Ok(())
+}
+
+/// The deblocking filter's control.
+#[test]
+fn deblocking(rt: HostRuntime) -> Result<(), Fail> {
+    let alloc = rt.alloc();
+    let sets = sets_of(alloc, &sps(CountType::DecodingOrder), &pps(0, false, true))?;
+    let cases = [
+        ("1 011 1 0001 0 1 1 0001100 0001101", None),
+        ("1 011 1 0001 0 1 010", None),
+        ("1 011 1 0001 0 1 011 0001101 0001100", None),
+        ("1 011 1 0001 0 1 00100 1 1", Some((11, RANGE))),
+        ("1 011 1 0001 0 1 1 0001110 1", Some((12, RANGE))),
+        ("1 011 1 0001 0 1 1 0001111 1", Some((12, RANGE))),
+        ("1 011 1 0001 0 1 1 1 0001110", Some((13, RANGE))),
+        ("1 011 1 0001 0 1 1 1 0001111", Some((13, RANGE))),
+    ];
+    assert!(rt; refusals_are(alloc, &sets, cases.as_slice())?);
+    Ok(())
+}
+
+/// The header in a stream of one unit, where its parameter sets are those of these streams.
+fn header_after(
+    alloc: Global,
+    sps: &[u8],
+    pps: &[u8],
+    slice: &[u8],
+    idr: bool,
+    nal_ref_idc: u32,
+) -> Result<Header, Fail> {
+    let sets = sets_read(alloc, sps, pps)?;
+    Ok(header_in(alloc, &sets, idr, nal_ref_idc, slice)?)
+}
+
+const SPS: &[u8] = &[0, 0, 1, 0x67, 0x42, 0xC0, 0x0A, 0xDA, 0x71];
+
+const PPS: &[u8] = &[0, 0, 1, 0x68, 0xCE, 0x38, 0x80];
+
+const IDR: &[u8] = &[0, 0, 1, 0x65, 0x88, 0x84, 0x93, 0xC0];
+
+/// The IDR slice of one_frame.264: 1 0001000 1 0000 1 0 0 1.
+#[test]
+fn idr_slice(rt: HostRuntime) -> Result<(), Fail> {
+    let header = header_after(rt.alloc(), SPS, PPS, IDR, true, 3)?;
+    assert_eq!(rt; header.nal_ref_idc, 3);
+    assert!(rt; header.first_mb_in_slice == Found { bit: 32, value: 0 });
+    assert_eq!(rt; header.kind.bit, 33);
+    assert!(rt; header.kind.value == SliceKind::I);
+    assert!(rt; header.same_type_in_picture);
+    assert!(rt; header.pic_parameter_set_id == Found { bit: 40, value: 0 });
+    assert!(rt; header.frame_num == Found { bit: 41, value: 0 });
+    assert!(rt; header.idr_pic_id == Some(Found { bit: 45, value: 0 }));
+    assert!(rt; header.pic_order_cnt == PicOrderCnt::DecodingOrder);
+    assert!(rt; header.slice_qp_delta == Found { bit: 48, value: 0 });
+    match &header.marking {
+        Some(marking) => {
+            assert_eq!(rt; marking.bit, 46);
+            assert!(rt; is_idr_marking(&marking.value, false, false));
+        }
+        None => assert!(rt; false),
+    }
+    Ok(())
+}
+
+fn is_idr_marking(marking: &Marking, no_output: bool, long_term: bool) -> bool {
+    match marking {
+        Marking::Idr {
+            no_output_of_prior_pics_flag,
+            long_term_reference_flag,
+        } => {
+            *no_output_of_prior_pics_flag == no_output && *long_term_reference_flag == long_term
+        }
+        _ => false,
+    }
+}
+
+/// The header of a P slice with SPS and PPS.
+fn p_slice(alloc: Global, slice: &[u8]) -> Result<Header, Fail> {
+    header_after(alloc, SPS, PPS, slice, false, 3)
+}
+
+/// The marking operations of a header; none also where it has no marking.
+fn operations(header: &Header) -> &[MarkingOperation] {
+    match &header.marking {
+        Some(
+            Found {
+                value: Marking::Adaptive(operations),
+                ..
+            },
+        ) => operations.as_slice(),
+        _ => &[],
+    }
+}
+
+/// The modifications of a header; none also where it has no list.
+fn modifications(header: &Header) -> &[PicNumModification] {
+    match &header.kind.value {
+        SliceKind::P(list) => list.modifications.as_slice(),
+        SliceKind::I => &[],
+    }
+}
+
+/// The length of a P slice's list.
+fn active(header: &Header) -> u32 {
+    match &header.kind.value {
+        SliceKind::P(list) => list.num_ref_idx_l0_active,
+        SliceKind::I => 0,
+    }
+}
+
+/// 1 00110 1 0001 0 0 0 1, and with frame_num 2 or 0; then 1 00110 1 0001 1 010 0 0 1.
+#[test]
+fn p_slices(rt: HostRuntime) -> Result<(), Fail> {
+    let alloc = rt.alloc();
+    let next = p_slice(alloc, &[0, 0, 1, 0x61, 0x9A, 0x22, 0xA0])?;
+    assert!(rt; next.same_type_in_picture);
+    assert_eq!(rt; next.kind.bit, 33);
+    assert_eq!(rt; active(&next), 1);
+    assert!(rt; next.frame_num == Found { bit: 39, value: 1 });
+    assert!(rt; next.idr_pic_id == None);
+    assert!(rt; next.slice_qp_delta == Found { bit: 46, value: 0 });
+    assert!(rt; next.deblocking == Deblocking::AllEdges(NO_OFFSETS));
+    assert!(rt; modifications(&next).is_empty());
+    let gap = p_slice(alloc, &[0, 0, 1, 0x61, 0x9A, 0x42, 0xA0])?;
+    assert_eq!(rt; gap.frame_num.value, 2);
+    let same = p_slice(alloc, &[0, 0, 1, 0x61, 0x9A, 0x02, 0xA0])?;
+    assert_eq!(rt; same.frame_num.value, 0);
+    let two = p_slice(alloc, &[0, 0, 1, 0x61, 0x9A, 0x34, 0x77, 0x80])?;
+    assert_eq!(rt; active(&two), 2);
+    assert_eq!(rt; two.slice_qp_delta.bit, 49);
+    Ok(())
+}
+
+const NO_OFFSETS: FilterOffsets = FilterOffsets {
+    slice_alpha_c0_offset_div2: 0,
+    slice_beta_offset_div2: 0,
+};
+
+/// Operation 1 with difference 2 and 1; operations 4, 3 and 2.
+#[test]
+fn p_slices_that_mark(rt: HostRuntime) -> Result<(), Fail> {
+    let alloc = rt.alloc();
+    let absent = p_slice(alloc, &[0, 0, 1, 0x61, 0x9A, 0x25, 0x2D, 0x40])?;
+    let expected = [MarkingOperation {
+        bit: 46,
+        operation: Operation::UnmarkShortTerm {
+            difference_of_pic_nums_minus1: 1,
+        },
+    }];
+    assert!(rt; operations(&absent) == expected.as_slice());
+    assert_eq!(rt; absent.slice_qp_delta.bit, 53);
+    let named = p_slice(alloc, &[0, 0, 1, 0x61, 0x9A, 0x25, 0x75])?;
+    let expected = [MarkingOperation {
+        bit: 46,
+        operation: Operation::UnmarkShortTerm {
+            difference_of_pic_nums_minus1: 0,
+        },
+    }];
+    assert!(rt; operations(&named) == expected.as_slice());
+    let long = p_slice(alloc, &[0, 0, 1, 0x61, 0x9A, 0x24, 0xA8, 0x9B, 0xEA])?;
+    let expected = [
+        MarkingOperation {
+            bit: 46,
+            operation: Operation::LimitLongTerm {
+                max_long_term_frame_idx_plus1: 1,
+            },
+        },
+        MarkingOperation {
+            bit: 54,
+            operation: Operation::MakeLongTerm {
+                difference_of_pic_nums_minus1: 0,
+                long_term_frame_idx: 0,
+            },
+        },
+        MarkingOperation {
+            bit: 61,
+            operation: Operation::UnmarkLongTerm {
+                long_term_pic_num: 0,
+            },
+        },
+    ];
+    assert!(rt; operations(&long) == expected.as_slice());
+    assert_eq!(rt; long.slice_qp_delta.bit, 66);
+    Ok(())
+}
+
+/// modification_of_pic_nums_idc 0 with difference 2, then the end.
+#[test]
+fn p_slice_that_modifies(rt: HostRuntime) -> Result<(), Fail> {
+    let header = p_slice(rt.alloc(), &[0, 0, 1, 0x61, 0x9A, 0x2D, 0x11, 0x50])?;
+    let expected = [PicNumModification {
+        bit: 45,
+        modification: Modification::Subtract {
+            abs_diff_pic_num_minus1: 1,
+        },
+    }];
+    assert!(rt; modifications(&header) == expected.as_slice());
+    assert_eq!(rt; header.slice_qp_delta.bit, 55);
+    Ok(())
+}
+
+/// pic_order_cnt_type 0 with an lsb of 4 bits: an IDR slice, and one of no reference picture.
+#[test]
+fn lsb_slices(rt: HostRuntime) -> Result<(), Fail> {
+    let alloc = rt.alloc();
+    let sps = [
+        0, 0, 1, 0x67, 0x42, 0xC0, 0x0A, 0xF4, 0xE4, 0x03, 0xF4, 0xA0,
+    ];
+    let first = [0, 0, 1, 0x65, 0x88, 0x84, 0x09, 0x3C];
+    let header = header_after(alloc, sps.as_slice(), PPS, first.as_slice(), true, 3)?;
+    let zero = PicOrderCnt::Lsb {
+        pic_order_cnt_lsb: 0,
+        delta_pic_order_cnt_bottom: 0,
+    };
+    assert!(rt; header.pic_order_cnt == zero);
+    assert_eq!(rt; header.slice_qp_delta.bit, 52);
+    let second = [0, 0, 1, 0x01, 0x9A, 0x30, 0x54];
+    let later = header_after(alloc, sps.as_slice(), PPS, second.as_slice(), false, 0)?;
+    let eight = PicOrderCnt::Lsb {
+        pic_order_cnt_lsb: 8,
+        delta_pic_order_cnt_bottom: 0,
+    };
+    assert!(rt; later.pic_order_cnt == eight);
+    assert!(rt; later.marking == None);
+    assert_eq!(rt; later.slice_qp_delta.bit, 49);
+    assert!(rt; begins_picture(&header, &later));
+    assert!(rt; !begins_picture(&later, &later));
+    Ok(())
+}
+
+/// The header of an I slice that is no reference.
+fn i_slice(alloc: Global, sets: &Sets, text: &str) -> Result<Header, Fail> {
+    let stream = stream(alloc, text)?;
+    Ok(header_in(alloc, sets, false, 0, stream.as_slice())?)
+}
+
+/// delta_pic_order_cnt_bottom, delta_pic_order_cnt[0] and delta_pic_order_cnt[1], where they are there.
+#[test]
+fn deltas(rt: HostRuntime) -> Result<(), Fail> {
+    let alloc = rt.alloc();
+    let lsb = CountType::Lsb {
+        log2_max_pic_order_cnt_lsb: 5,
+    };
+    let sets = sets_of(alloc, &sps(lsb), &pps(0, true, false))?;
+    let header = i_slice(alloc, &sets, "1 011 1 0001 10001 00101 1")?;
+    let expected = PicOrderCnt::Lsb {
+        pic_order_cnt_lsb: 17,
+        delta_pic_order_cnt_bottom: -2,
+    };
+    assert!(rt; header.pic_order_cnt == expected);
+    let sets = sets_of(alloc, &sps(cycle(false)), &pps(0, true, false))?;
+    let header = i_slice(alloc, &sets, "1 011 1 0001 010 00110 1")?;
+    assert!(rt; header.pic_order_cnt == PicOrderCnt::Deltas { top: 1, bottom: 3 });
+    let sets = sets_of(alloc, &sps(cycle(false)), &pps(0, false, false))?;
+    let header = i_slice(alloc, &sets, "1 011 1 0001 00110 011")?;
+    assert!(rt; header.pic_order_cnt == PicOrderCnt::Deltas { top: 3, bottom: 0 });
+    assert!(rt; header.slice_qp_delta == Found { bit: 46, value: -1 });
+    let sets = sets_of(alloc, &sps(cycle(true)), &pps(0, true, false))?;
+    let header = i_slice(alloc, &sets, "1 011 1 0001 010")?;
+    assert!(rt; header.pic_order_cnt == PicOrderCnt::Deltas { top: 0, bottom: 0 });
+    assert!(rt; header.slice_qp_delta == Found { bit: 41, value: 1 });
+    Ok(())
+}
+
+/// Type 1 without offsets.
+fn cycle(delta_pic_order_always_zero_flag: bool) -> CountType {
+    CountType::Cycle {
+        delta_pic_order_always_zero_flag,
+        offset_for_non_ref_pic: 0,
+        offset_for_top_to_bottom_field: 0,
+        cycle: Cycle {
+            offset_for_ref_frame: [0; 255],
+            length: 0,
+        },
+    }
+}
