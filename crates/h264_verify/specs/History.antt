@@ -1,10 +1,9 @@
--- The units so far, and what they leave (7.4.1.2.1).
-use Rattle.std.specs.Prelude.{◌≡◌, ◌≤◌, List, [], ◌∷◌, length}
+-- The units so far, and the parameter sets that they leave (7.4.1.2.1).
+use Rattle.std.specs.Prelude.{List, [], ◌∷◌}
 use Rattle.h264_units.specs.Stream.{NalUnit}
 use Rattle.h264_sets.specs.Sets.{Maps, no_sets, with_sps, with_pps}
 use Rattle.h264_verify.specs.declared.judge.Content.{Content}
 use Rattle.h264_verify.specs.declared.judge.Content.TheVariants as contents
-use Rattle.h264_verify.specs.declared.judge.State.{State}
 
 -- a unit and what stands in it
 pub record ReadUnit : Type 0 where
@@ -19,20 +18,10 @@ History = List ReadUnit
 abbrev pub maps_with : Maps → Content → Maps
 maps_with maps (contents.OfSps set) = with_sps maps set
 maps_with maps (contents.OfPps set) = with_pps maps set
+maps_with maps (contents.OfSlice h) = maps
 maps_with maps contents.Passed = maps
 
 -- the parameter sets by id: each id names the last set that had it
 abbrev pub maps_of : History → Maps
 maps_of [] = no_sets
 maps_of (r ∷ before) = maps_with (maps_of before) r.content
-
--- what is kept of the units so far
-pub record Keeps (before : History) (state : State) : Type 0 where
-  pub units : state.units ≡ length before
-  pub sets : state.sets ≡ maps_of before
-
--- its id is one of those that there are
-abbrev pub IsKeepable : Content → Type 0
-IsKeepable (contents.OfSps set) = set.seq_parameter_set_id ≤ 31
-IsKeepable (contents.OfPps set) = set.pic_parameter_set_id ≤ 255
-IsKeepable contents.Passed = Unit {0}

@@ -1,6 +1,8 @@
 //! What is kept from unit to unit, and what is known of a whole stream.
 #![tactic(auto)]
 
+use crate::slices::Slices;
+use h264_header::Header;
 use h264_pps::Pps;
 use h264_sets::Sets;
 use h264_sps::sps::Sps;
@@ -23,6 +25,8 @@ pub struct State {
     pub(crate) units: u64,
     /// The parameter sets that they gave.
     pub(crate) sets: Sets,
+    /// The slices that were read.
+    pub(crate) slices: Slices,
 }
 
 /// What stands in a unit.
@@ -30,27 +34,7 @@ pub struct State {
 pub enum Content {
     OfSps(Sps),
     OfPps(Pps),
+    OfSlice(Header),
     /// What is passed over.
     Passed,
-}
-
-impl State {
-    ghost use Rattle.std.specs.Prelude.{◌≡◌, ℕ, ◌+◌, ◌<◌, ◌≤◌, ◌^◌, ◌∷◌};
-    ghost use Rattle.h264_verify.specs.History.{Keeps, ReadUnit, IsKeepable, History};
-    ghost use Rattle.h264_units.specs.Stream.{NalUnit};
-
-    /// Keeps what a unit gave.
-    pub(crate) fn keep(&mut self, content: Content)
-        requires units { self.old.units < 2 ^ 41 }
-        requires keepable { IsKeepable content }
-        ensures kept { (before : History) (unit : NalUnit) → Keeps before self.old → Keeps (record { unit = unit; content = content } ∷ before) self.new }
-        ensures units { self.new.units ≡ self.old.units + 1 }
-    {
-        match content {
-            Content::OfSps(set) => self.sets.put_sps(set),
-            Content::OfPps(set) => self.sets.put_pps(set),
-            Content::Passed => (),
-        }
-        self.units += 1;
-    }
 }
