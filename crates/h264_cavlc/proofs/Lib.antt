@@ -1,0 +1,4 @@
+pub mod Tokens
+pub mod Sizes
+pub mod Places
+pub mod Loops

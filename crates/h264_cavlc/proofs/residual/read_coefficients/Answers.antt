@@ -1,0 +1,21 @@
+use Rattle.std.proofs.Common.{refl}
+use Rattle.std.proofs.lemmas.Result.{err_from_is_err_and}
+use Rattle.h264_base.proofs.Steps.{bind, bind_as, stop, done}
+use Rattle.h264_cavlc.specs.Block.{coefficients}
+use Rattle.h264_cavlc.proofs.residual.read_coefficients.Goals as goal
+
+pub returns-in_err-levels-clause-meets : goal.returns-in_err-levels-clause-meets
+unfolding coefficients
+returns-in_err-levels-clause-meets g c = let p = err_from_is_err_and c.from_residual.result c.from_residual.ensures.1 in rw (p.1, p.2) (stop _ c.in_err-levels.ensures)
+
+pub returns-in_err-zeros-clause-meets : goal.returns-in_err-zeros-clause-meets
+unfolding coefficients
+returns-in_err-zeros-clause-meets g c = let p = err_from_is_err_and c.from_residual-in_err-zeros.result c.from_residual-in_err-zeros.ensures.1 in rw (p.1, p.2) (bind_as _ c.in_ok-levels.ensures (λ v e. stop _ c.in_err-zeros.ensures.meets))
+
+pub returns-in_err-by_place-clause-meets : goal.returns-in_err-by_place-clause-meets
+unfolding coefficients
+returns-in_err-by_place-clause-meets g c = let p = err_from_is_err_and c.from_residual-in_err-by_place.result c.from_residual-in_err-by_place.ensures.1 in rw (p.1, p.2) (bind_as _ c.in_ok-levels.ensures (λ v e. bind _ c.in_ok-zeros.ensures.meets (stop _ c.in_err-by_place.ensures)))
+
+pub returns-clause-meets : goal.returns-clause-meets
+unfolding coefficients
+returns-clause-meets g c = bind_as _ c.in_ok-levels.ensures (λ v e. bind _ c.in_ok-zeros.ensures.meets (bind_as _ c.in_ok-by_place.ensures (λ w f. done _ _ _ _ _ _ _ (rw (e, f) refl))))

@@ -1,0 +1,164 @@
+//! The levels that are no trailing ones (9.2.2, 9.2.2.1).
+#![tactic(auto)]
+
+ghost use Rattle.std.specs.Prelude.{◌≡◌, ℕ, ℤ, ◌+◌, ◌-◌, ◌<◌, ◌≤◌, ◌^◌, IfOk, take};
+ghost use Rattle.h264_base.specs.Meets.{Meets, Is};
+ghost use Rattle.h264_cavlc.specs.Level as syntax;
+
+use crate::token::Token;
+use h264_base::{ElementName, Elements, Rule, Stop};
+use h264_bits::{Bits, read_residual_bits, read_word};
+use h264_tables::Table;
+
+/// suffixLength of the first level.
+#[tactic(auto, unfolding(crate::specs::Level::first_suffix_length))]
+#[inline]
+fn first_suffix_length(token: Token) -> u32
+    ensures length { result ≡ syntax.first_suffix_length token }
+    ensures short { result ≤ 6 }
+{
+    if token.total > 10 && token.ones < 3 {
+        1
+    } else {
+        0
+    }
+}
+
+/// suffixLength of the level behind this one.
+#[tactic(auto, unfolding(crate::specs::Level::next_suffix_length))]
+#[inline]
+fn next_suffix_length(suffix_length: u32, level: i32) -> u32
+    requires { suffix_length ≤ 6 }
+    ensures length { result ≡ syntax.next_suffix_length suffix_length level }
+    ensures short { result ≤ 6 }
+{
+    let used = suffix_length.max(1);
+    if level.unsigned_abs() > 3 << (used - 1) && used < 6 {
+        used + 1
+    } else {
+        used
+    }
+}
+
+/// How many bits level_suffix has.
+#[tactic(auto, unfolding(crate::specs::Level::suffix_size))]
+#[inline]
+fn suffix_size(prefix: u32, suffix_length: u32) -> u32
+    requires { suffix_length ≤ 6 }
+    ensures size { result ≡ syntax.suffix_size prefix suffix_length }
+    ensures few { result ≤ 12 }
+{
+    if prefix == 14 && suffix_length == 0 {
+        4
+    } else if prefix == 15 {
+        12
+    } else {
+        suffix_length
+    }
+}
+
+/// levelCode.
+#[tactic(auto, unfolding(crate::specs::Level::level_code))]
+#[inline]
+fn level_code(prefix: u32, suffix_length: u32, suffix: u32, never_one: bool) -> u32
+    requires prefix { prefix ≤ 15 }
+    requires length { suffix_length ≤ 6 }
+    requires suffix { suffix < 4096 }
+    ensures code { result ≡ syntax.level_code prefix suffix_length suffix never_one }
+    ensures small { result < 8192 }
+{
+    let escape = if prefix == 15 && suffix_length == 0 {
+        15
+    } else {
+        0
+    };
+    let raised = if never_one { 2 } else { 0 };
+    (prefix << suffix_length) + suffix + escape + raised
+}
+
+/// The level that levelCode stands for.
+#[tactic(auto, unfolding(crate::specs::Level::level_value))]
+#[inline]
+fn level_value(code: u32) -> i32
+    requires { code < 8192 }
+    ensures { result ≡ syntax.level_value code }
+{
+    if code % 2 == 0 {
+        ((code + 2) / 2) as i32
+    } else {
+        -(((code + 1) / 2) as i32)
+    }
+}
+
+/// Reads level_suffix of `size` bits.
+#[inline]
+fn read_level_suffix<S: Elements>(bits: &mut Bits, size: u32, sink: &mut S) -> Result<u32, Stop>
+    requires few { size ≤ 12 }
+    requires room { S.failures sink.old < 2 ^ 64 - 1 }
+    ensures meets { Meets S.took S.failures (Is (λ x. x)) (syntax.level_suffix size) bits.old bits.new sink.old sink.new result }
+    ensures small { IfOk result (λ v. v < 4096) }
+{
+    if size == 0 {
+        return Ok(0);
+    }
+    let suffix = read_residual_bits(bits, ElementName::LevelSuffix, size, sink)?;
+    Ok(suffix.value)
+}
+
+/// Reads a level.
+#[inline]
+fn read_level<S: Elements>(
+    bits: &mut Bits,
+    suffix_length: u32,
+    never_one: bool,
+    sink: &mut S,
+) -> Result<i32, Stop>
+    requires length { suffix_length ≤ 6 }
+    requires room { S.failures sink.old < 2 ^ 64 - 1 }
+    ensures { Meets S.took S.failures (Is (λ x. x)) (syntax.level suffix_length never_one) bits.old bits.new sink.old sink.new result }
+{
+    let found = read_word(
+        bits,
+        Rule::ResidualWord,
+        ElementName::LevelPrefix,
+        Table::LevelPrefix,
+        sink,
+    )?;
+    let prefix = u32::from(found.value);
+    let size = suffix_size(prefix, suffix_length);
+    let suffix = read_level_suffix(bits, size, sink)?;
+    let code = level_code(prefix, suffix_length, suffix, never_one);
+    Ok(level_value(code))
+}
+
+/// Whether level `k` is the first behind fewer than three trailing ones.
+#[tactic(auto, unfolding(crate::specs::Level::is_never_one))]
+#[inline]
+fn is_never_one(ones: u8, k: u8) -> bool
+    ensures { result ≡ syntax.is_never_one ones k }
+{
+    k == ones && ones < 3
+}
+
+/// Reads the levels behind the trailing ones.
+#[inline]
+pub(crate) fn read_more_levels<S: Elements>(
+    bits: &mut Bits,
+    token: Token,
+    levels: &mut [i32; 16],
+    sink: &mut S,
+) -> Result<(), Stop>
+    requires few { token.total ≤ 16 }
+    requires within { token.ones ≤ token.total }
+    requires room { S.failures sink.old < 2 ^ 64 - 1 }
+    ensures { Meets S.took S.failures (λ _ l. l ≡ take token.total levels.new) (syntax.more_levels token.ones (take token.ones levels.old) (syntax.first_suffix_length token) (token.total - token.ones)) bits.old bits.new sink.old sink.new result }
+{
+    let mut suffix_length = first_suffix_length(token);
+    for k in token.ones..token.total {
+        let never_one = is_never_one(token.ones, k);
+        let level = read_level(bits, suffix_length, never_one, sink)?;
+        levels[usize::from(k)] = level;
+        suffix_length = next_suffix_length(suffix_length, level);
+    }
+    Ok(())
+}

@@ -1,0 +1,88 @@
+//! Residual blocks (7.3.5.3.2).
+#![tactic(auto)]
+
+ghost use Rattle.std.specs.Prelude.{◌≡◌, ℕ, ℤ, ◌-◌, ◌<◌, ◌≤◌, ◌^◌, IfOk, OnOk, take};
+ghost use Rattle.h264_base.specs.Meets.{Meets, Is, Answers};
+ghost use Rattle.h264_cavlc.specs.Block.{all_levels, coefficients as coefficients_form, residual_block};
+
+use crate::level::read_more_levels;
+use crate::token::{Token, read_token, read_trailing_ones};
+use crate::zeros::{read_places, read_total_zeros};
+use h264_base::{Elements, Stop};
+use h264_bits::Bits;
+
+/// The levels of a residual block of `N` coefficients.
+#[derive(Clone, Copy, Debug, PartialEq, Eq)]
+pub struct Levels<const N: usize> {
+    /// The level at each place of the scan, the lowest frequency first. A block of 15 begins at the second place of a 4x4 block's scan.
+    pub by_place: [i32; N],
+    /// How many of them are not 0: TotalCoeff.
+    pub total: u8,
+}
+
+/// The levels, the first at the highest place.
+#[inline]
+fn read_levels<S: Elements>(bits: &mut Bits, token: Token, sink: &mut S) -> Result<[i32; 16], Stop>
+    requires few { token.total ≤ 16 }
+    requires within { token.ones ≤ token.total }
+    requires room { S.failures sink.old < 2 ^ 64 - 1 }
+    ensures { Meets S.took S.failures (λ x l. l ≡ take token.total x) (all_levels token) bits.old bits.new sink.old sink.new result }
+{
+    let mut levels = [0i32; 16];
+    read_trailing_ones(bits, usize::from(token.ones), &mut levels, sink)?;
+    read_more_levels(bits, token, &mut levels, sink)?;
+    Ok(levels)
+}
+
+/// What follows the token of a block that has coefficients.
+#[inline]
+fn read_coefficients<const N: usize, S: Elements>(
+    bits: &mut Bits,
+    token: Token,
+    sink: &mut S,
+) -> Result<Levels<N>, Stop>
+    requires some { 0 < token.total }
+    requires fits { token.total ≤ N }
+    requires few { N ≤ 16 }
+    requires within { token.ones ≤ token.total }
+    requires room { S.failures sink.old < 2 ^ 64 - 1 }
+    ensures meets { Meets S.took S.failures (Is (λ b. record { by_place = b.by_place; total = b.total })) (coefficients_form N token) bits.old bits.new sink.old sink.new result }
+    ensures total { IfOk result (λ b. b.total ≤ N) }
+    ensures quiet { OnOk result (S.failures sink.new ≡ S.failures sink.old) }
+{
+    let levels = read_levels(bits, token, sink)?;
+    let zeros = read_total_zeros(bits, N, token.total, sink)?;
+    let by_place = read_places::<N, S>(bits, &levels, token.total, zeros, sink)?;
+    Ok(Levels {
+        by_place,
+        total: token.total,
+    })
+}
+
+/// Reads a residual block of `N` coefficients: 16, 15 or 4. A block of 4 is chroma DC, and has the table of these whatever `nc` is;
+/// for the others `nc` is nC. A block without coefficients costs one look into a table.
+///
+/// Ok: the levels; the elements that the sink was told are the block's one derivation, with every rule met.
+/// No: the first rule that it breaks, ResidualWord or BlockSize, at its element's stream bit. Write: the sink failed.
+/// After an Err the reader may have moved.
+pub fn block<const N: usize, S: Elements>(
+    bits: &mut Bits,
+    nc: u8,
+    sink: &mut S,
+) -> Result<Levels<N>, Stop>
+    requires size { N ≤ 16 }
+    requires room { S.failures sink.old < 2 ^ 64 - 1 }
+    ensures answers { Answers S.took S.failures (Is (λ b. record { by_place = b.by_place; total = b.total })) (residual_block N nc) bits.old bits.new sink.old sink.new result }
+    ensures meets { Meets S.took S.failures (Is (λ b. record { by_place = b.by_place; total = b.total })) (residual_block N nc) bits.old bits.new sink.old sink.new result }
+    ensures total { IfOk result (λ b. b.total ≤ N) }
+    ensures quiet { OnOk result (S.failures sink.new ≡ S.failures sink.old) }
+{
+    let token = read_token(bits, N, nc, sink)?;
+    if token.total == 0 {
+        return Ok(Levels {
+            by_place: [0; N],
+            total: 0,
+        });
+    }
+    read_coefficients::<N, S>(bits, token, sink)
+}

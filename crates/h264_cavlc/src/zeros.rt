@@ -1,0 +1,121 @@
+//! total_zeros and run_before (9.2.3), and where the levels stand (9.2.4).
+#![tactic(auto)]
+
+ghost use Rattle.std.specs.Prelude.{◌≡◌, ℕ, ℤ, ◌+◌, ◌-◌, ◌<◌, ◌≤◌, ◌^◌, [], IfOk, take};
+ghost use Rattle.h264_base.specs.Meets.{Meets, Is};
+ghost use Rattle.h264_cavlc.specs.Zeros as syntax;
+ghost use Rattle.h264_cavlc.specs.Place.{by_place as standing};
+
+use h264_base::{ElementName, Elements, Rule, Stop};
+use h264_bits::{Bits, check, read_word};
+use h264_tables::Table;
+
+/// The table of total_zeros.
+#[tactic(auto, unfolding(crate::specs::Zeros::total_zeros_table))]
+#[inline]
+fn total_zeros_table(size: usize, total: u8) -> Table
+    requires some { 0 < total }
+    requires less { total < size }
+    requires few { size ≤ 16 }
+    ensures { result ≡ syntax.total_zeros_table size total }
+{
+    if size == 4 {
+        Table::total_zeros_chroma_dc(total)
+    } else {
+        Table::total_zeros(total)
+    }
+}
+
+/// Reads total_zeros of a block that has `total` coefficients.
+#[inline]
+pub(crate) fn read_total_zeros<S: Elements>(
+    bits: &mut Bits,
+    size: usize,
+    total: u8,
+    sink: &mut S,
+) -> Result<u8, Stop>
+    requires some { 0 < total }
+    requires fits { total ≤ size }
+    requires few { size ≤ 16 }
+    requires room { S.failures sink.old < 2 ^ 64 - 1 }
+    ensures meets { Meets S.took S.failures (Is (λ x. x)) (syntax.total_zeros size total) bits.old bits.new sink.old sink.new result }
+    ensures fits { IfOk result (λ z. total + z ≤ size) }
+{
+    if usize::from(total) >= size {
+        return Ok(0);
+    }
+    let table = total_zeros_table(size, total);
+    let found = read_word(
+        bits,
+        Rule::ResidualWord,
+        ElementName::TotalZeros,
+        table,
+        sink,
+    )?;
+    let zeros = found.value;
+    check(
+        usize::from(total) + usize::from(zeros) <= size,
+        Rule::BlockSize,
+        found.bit,
+    )?;
+    Ok(zeros)
+}
+
+/// The table of run_before.
+#[tactic(auto, unfolding(crate::specs::Zeros::run_before_table))]
+#[inline]
+fn run_before_table(zeros_left: u8) -> Table
+    requires { 0 < zeros_left }
+    ensures { result ≡ syntax.run_before_table zeros_left }
+{
+    Table::run_before(zeros_left)
+}
+
+/// Reads run_before.
+#[inline]
+fn read_run_before<S: Elements>(bits: &mut Bits, zeros_left: u8, sink: &mut S) -> Result<u8, Stop>
+    requires { S.failures sink.old < 2 ^ 64 - 1 }
+    ensures meets { Meets S.took S.failures (Is (λ x. x)) (syntax.run_before zeros_left) bits.old bits.new sink.old sink.new result }
+    ensures within { IfOk result (λ r. r ≤ zeros_left) }
+{
+    if zeros_left == 0 {
+        return Ok(0);
+    }
+    let table = run_before_table(zeros_left);
+    let found = read_word(
+        bits,
+        Rule::ResidualWord,
+        ElementName::RunBefore,
+        table,
+        sink,
+    )?;
+    let run = found.value;
+    check(run <= zeros_left, Rule::BlockSize, found.bit)?;
+    Ok(run)
+}
+
+/// Reads the runs, and puts the first `total` of `levels` to their places.
+#[inline]
+pub(crate) fn read_places<const N: usize, S: Elements>(
+    bits: &mut Bits,
+    levels: &[i32; 16],
+    total: u8,
+    zeros: u8,
+    sink: &mut S,
+) -> Result<[i32; N], Stop>
+    requires some { 0 < total }
+    requires few { total ≤ 16 }
+    requires fits { total + zeros ≤ N }
+    requires room { S.failures sink.old < 2 ^ 64 - 1 }
+    ensures { Meets S.took S.failures (λ x runs. x ≡ standing N (take total levels.now) zeros runs) (syntax.runs_before [] zeros (total - 1)) bits.old bits.new sink.old sink.new result }
+{
+    let mut by_place = [0i32; N];
+    let mut left = zeros;
+    for k in 0..total - 1 {
+        by_place[usize::from(total - 1 - k) + usize::from(left)] = levels[usize::from(k)];
+        let run = read_run_before(bits, left, sink)?;
+        left -= run;
+    }
+    by_place[usize::from(left)] = levels[usize::from(total - 1)];
+    Ok(by_place)
+}

@@ -1,0 +1,4 @@
+pub mod Within
+pub mod Lsb
+pub mod Cycle
+pub mod Counts
