@@ -32,22 +32,24 @@ pub record GoesOn {S : Type 0} (mode : Mode) (took : S → List Call → Type 0)
   pub goes : Goes (judging mode) took old (behind split after) piece left s s'
 
 -- The source gave these bytes so far, less those that are left.
-pub record FedOn {S : Type 0} (took : S → List Call → Type 0) (known : Option (List ℕ)) (bytes : List ℕ) (session : Progress) (s s' : S) : Type 0 where
+pub record FedOn {S : Type 0} (mode : Mode) (took : S → List Call → Type 0) (known : Option (List ℕ)) (bytes : List ℕ) (session : Progress) (s s' : S) : Type 0 where
+  pub mode_is : session.mode ≡ mode
   pub after : History
   pub keeps : Keeps after session.state
-  pub fed : Fed (judging session.mode) took known bytes (behind at_start []) (behind session.split after) s s'
+  pub fed : Fed (judging mode) took known bytes (behind at_start []) (behind session.split after) s s'
 
 -- The session was fed these bytes, and sinks were told these calls of them: however the input goes on, what comes of the
 -- whole is these calls, and then what comes of where the session stands.
-pub record WasFed (session : Progress) (bytes : List ℕ) (calls : List Call) : Type 0 where
+pub record WasFed (mode : Mode) (session : Progress) (bytes : List ℕ) (calls : List Call) : Type 0 where
+  pub mode_is : session.mode ≡ mode
   pub runs : session.stop ≡ None
   pub before : History
   pub keeps : Keeps before session.state
-  pub goes : (more : List ℕ) (o : Outcome Summary) → Comes (judging session.mode) 0 [] (bytes ++ more) o → (later : Outcome Summary) × ToCome (judging session.mode) (behind session.split before) more later × (o ≡ with_calls calls later)
+  pub goes : (more : List ℕ) (o : Outcome Summary) → Comes (judging mode) 0 [] (bytes ++ more) o → (later : Outcome Summary) × ToCome (judging mode) (behind session.split before) more later × (o ≡ with_calls calls later)
 
 -- The session was then fed these bytes, and the sink was told what comes of them behind these calls.
-pub record IsFed {S : Type 0} (took : S → List Call → Type 0) (failures : S → ℕ) (session : Progress) (bytes : List ℕ) (calls : List Call) (s s' : S) : Type 0 where
+pub record IsFed {S : Type 0} (mode : Mode) (took : S → List Call → Type 0) (failures : S → ℕ) (session : Progress) (bytes : List ℕ) (calls : List Call) (s s' : S) : Type 0 where
   pub more : List Call
   pub tells : Tells took s s' more
-  pub fed : WasFed session bytes (calls ++ more)
+  pub fed : WasFed mode session bytes (calls ++ more)
   pub kept : failures s' ≡ failures s

@@ -1,5 +1,5 @@
 -- The slices so far, the pictures that they are cut into, and the rules that a slice meets beside its own syntax (7.4.1.2, 7.4.3, 8.2.1).
-use Rattle.std.specs.Prelude.{ℕ, ◌+◌, ◌*◌, ◌^◌, nat_le, ◌==◌, ◌&&◌, ◌||◌, not, Bool, true, false, Option, Some, None, List, [], ◌∷◌, ◌++◌, ℤ, pos, ◌+ℤ◌, int_le, if◌then◌else◌}
+use Rattle.std.specs.Prelude.{ℕ, ◌*◌, ◌^◌, nat_le, ◌==◌, ◌&&◌, ◌||◌, not, Bool, true, false, Option, Some, None, List, [], ◌∷◌, ◌++◌, ℤ, pos, ◌+ℤ◌, int_le, if◌then◌else◌}
 use Rattle.std.specs.Bool.{beq}
 use Rattle.std.specs.Int.{int_min}
 use Rattle.std.specs.Option.{is_some}
@@ -32,7 +32,7 @@ use Rattle.h264_verify.specs.declared.judge.Content.TheVariants as contents
 use Rattle.h264_verify.specs.declared.slices.IdrFlags.{IdrFlags}
 use Rattle.h264_verify.specs.Demands.{Demand}
 use Rattle.h264_verify.specs.UnitHeader.{header_of, nal_unit_type}
-use Rattle.h264_verify.specs.History.{ReadUnit, History, maps_of}
+use Rattle.h264_verify.specs.History.{History, maps_of}
 
 -- units of types 6 to 11 end the picture before them (7.4.1.2.3)
 abbrev pub ends_picture : ℕ → Bool

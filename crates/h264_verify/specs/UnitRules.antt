@@ -1,5 +1,5 @@
 -- What comes of one unit behind those before it, and of the end of the input.
-use Rattle.std.specs.Prelude.{ℕ, ◌+◌, ◌*◌, Bool, true, false, not, List, [], ◌∷◌, length, Err, ◌==◌, ◌||◌, if◌then◌else◌}
+use Rattle.std.specs.Prelude.{ℕ, ◌*◌, Bool, true, false, List, [], ◌∷◌, length, Err, ◌==◌, if◌then◌else◌}
 use Rattle.h264_base.specs.declared.mode.Mode.{Mode}
 use Rattle.h264_base.specs.declared.mode.Mode.TheVariants as modes
 use Rattle.h264_base.specs.declared.rule.Rule.TheVariants.{NoPicture}
@@ -23,7 +23,7 @@ use Rattle.h264_verify.specs.Outcome.{Outcome, ◌>>=◌, answers, gives, tells,
 use Rattle.h264_verify.specs.Judging.{Judging}
 use Rattle.h264_verify.specs.Demands.{Demand, judged}
 use Rattle.h264_verify.specs.UnitHeader.{header_of, nal_unit_type, nal_ref_idc, header_demands}
-use Rattle.h264_verify.specs.History.{History, ReadUnit, maps_of}
+use Rattle.h264_verify.specs.History.{History, maps_of}
 use Rattle.h264_verify.specs.Slices.{pictures_of, slice_demands, slice_call}
 
 abbrev pub unit_call : ℕ → ℕ → ℕ → Call

@@ -1,6 +1,6 @@
 -- The verdict on a stream: a yes with its derivation, a no with the first rule that is broken and its bit, or the first
 -- feature that is not judged (7.3, 7.4, 8.2.1, B.1).
-use Rattle.std.specs.Prelude.{◌≡◌, ℕ, ◌+◌, ◌*◌, ◌⊎◌, Bool, true, false, List, [], ◌∷◌, ◌++◌, map, length, Some, ◌==◌, if◌then◌else◌, Result, Ok, Err}
+use Rattle.std.specs.Prelude.{◌≡◌, ℕ, ◌+◌, ◌*◌, ◌⊎◌, false, List, [], ◌∷◌, ◌++◌, map, length, Some, ◌==◌, if◌then◌else◌, Result, Ok, Err}
 use Rattle.h264_base.specs.declared.mode.Mode.{Mode}
 use Rattle.h264_base.specs.declared.mode.Mode.TheVariants as modes
 use Rattle.h264_base.specs.declared.rule.Rule.{Rule}
@@ -10,7 +10,7 @@ use Rattle.h264_base.specs.declared.stop.Feature.TheVariants.{Pending}
 use Rattle.h264_base.specs.declared.stop.Stop.{Stop}
 use Rattle.h264_base.specs.declared.stop.Stop.TheVariants.{No, Outside, Memory, Read, Write}
 use Rattle.h264_base.specs.Call.{Call, Tells}
-use Rattle.h264_base.specs.Grammar.{Grammar, ◌>>=◌, Done, Support, Element, Says, Derives}
+use Rattle.h264_base.specs.Grammar.{Grammar, ◌>>=◌, Done, Support, Element, Says}
 use Rattle.h264_base.specs.Run.{call_of}
 use Rattle.h264_units.specs.Stream.{NalUnit, Tail, Zeros, Splits, tail_stop}
 use Rattle.h264_rbsp.specs.Emulation.{IsFault, IsFirstFault}

@@ -3,6 +3,7 @@
 
 ghost use Rattle.std.specs.Prelude.{◌≡◌, ℕ, ◌+◌, ◌-◌, ◌*◌, ◌<◌, ◌≤◌, ◌^◌, ◌⊎◌, List, [], ◌∷◌, ◌++◌, length, take, OnOk, OnErr, IfOk, IfErr, Ok, Err, None, Some, IsErrOf, IsTrue, IsFalse};
 ghost use Rattle.std.specs.List.{flat_map};
+ghost use Rattle.h264_base.specs.declared.mode.Mode.{Mode};
 ghost use Rattle.h264_verify.specs.Session.{Judges};
 ghost use Rattle.h264_verify.specs.Feeding.{FedOn};
 ghost use Rattle.h264_verify.specs.UnitRules.{judging};
@@ -36,11 +37,10 @@ fn turn<R: Source, S: FrameSink>(
     requires source { R.failures source.old < 2 ^ 64 - 1 }
     requires room { 0 < length piece.old }
     requires runs { session.old.stop ≡ None }
-    ensures more { IfOk result (λ more. IsTrue more → (bytes : List ℕ) (first : _) → FedOn S.took (R.left source.old) bytes session.old first sink.old → FedOn S.took (R.left source.new) bytes session.new first sink.new) }
+    ensures more { IfOk result (λ more. IsTrue more → (mode : Mode) (bytes : List ℕ) (first : _) → FedOn mode S.took (R.left source.old) bytes session.old first sink.old → FedOn mode S.took (R.left source.new) bytes session.new first sink.new) }
     ensures end { IfOk result (λ more. IsFalse more → (session.new ≡ session.old) × (sink.new ≡ sink.old) × ((left : List ℕ) → R.left source.old ≡ Some left → left ≡ [])) }
-    ensures stops { IfErr result (λ stop. (bytes : List ℕ) (first : _) → FedOn S.took (R.left source.old) bytes session.old first sink.old → S.failures sink.old ≡ S.failures first → Judges (judging session.old.mode) [] S.took S.failures bytes first sink.new (Err stop)) }
+    ensures stops { IfErr result (λ stop. (mode : Mode) (bytes : List ℕ) (first : _) → FedOn mode S.took (R.left source.old) bytes session.old first sink.old → S.failures sink.old ≡ S.failures first → Judges (judging mode) [] S.took S.failures bytes first sink.new (Err stop)) }
     ensures kept { OnOk result ((session.new.stop ≡ None) × (S.failures sink.new ≡ S.failures sink.old) × (R.failures source.new ≡ R.failures source.old)) }
-    ensures mode { session.new.mode ≡ session.old.mode }
     ensures again { (n : ℕ) → R.was_read source.old n → R.was_read source.new (n + 1) }
     ensures read { IsErrOf result Stop.Read → R.failures source.new ≡ R.failures source.old + 1 }
     ensures write { IsErrOf result Stop.Write → S.failures sink.new ≡ S.failures sink.old + 1 }

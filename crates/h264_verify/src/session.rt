@@ -5,6 +5,7 @@ ghost use Rattle.std.specs.Prelude.{◌≡◌, ℕ, ◌+◌, ◌-◌, ◌*◌, �
 ghost use Rattle.h264_verify.specs.Session.{Stops, Finishes};
 ghost use Rattle.h264_verify.specs.UnitRules.{judging};
 ghost use Rattle.h264_verify.specs.Progress.{IsFresh};
+ghost use Rattle.h264_base.specs.declared.mode.Mode.{Mode};
 ghost use Rattle.h264_base.specs.Call.{Call};
 ghost use Rattle.h264_verify.specs.History.{History};
 ghost use Rattle.h264_verify.specs.Keeping.{Keeps};
@@ -136,8 +137,7 @@ impl Session {
     /// A session before the first byte. It takes the places of the parameter sets: Memory where they are refused.
     pub fn new(alloc: Global, mode: Mode, _target: Target) -> Result<Session, Stop>
         ensures fresh { IfOk result (λ s. IsFresh s mode) }
-        ensures mode { IfOk result (λ s. s.mode ≡ mode) }
-        ensures fed { IfOk result (λ s. WasFed s [] []) }
+        ensures fed { IfOk result (λ s. WasFed mode s [] []) }
         ensures err { IfErr result (λ e. e ≡ Stop.Memory) }
     {
         let Ok(sets) = Sets::new(alloc) else {
@@ -171,7 +171,14 @@ impl Session {
         ensures write { IsErrOf result Stop.Write → S.failures sink.new ≡ S.failures sink.old + 1 }
         ensures no_read { IsErrOf result Stop.Read → ⊥ }
     {
-        match feed_all(self.alloc, self.mode, &mut self.splitter, &mut self.state, piece, sink) {
+        match feed_all(
+            self.alloc,
+            self.mode,
+            &mut self.splitter,
+            &mut self.state,
+            piece,
+            sink,
+        ) {
             Ok(()) => Ok(()),
             Err(stop) => {
                 self.stop = Some(stop);
@@ -198,9 +205,9 @@ impl Session {
     pub fn feed<S: FrameSink>(&mut self, piece: &[u8], sink: &mut S) -> Result<(), Stop>
         requires { S.failures sink.old < 2 ^ 64 - 1 }
         // It was then fed the piece too.
-        ensures fed { (bytes : List ℕ) (calls : List Call) → WasFed self.old bytes calls → OnOk result (IsFed S.took S.failures self.new (bytes ++ piece.now) calls sink.old sink.new) }
+        ensures fed { (mode : Mode) (bytes : List ℕ) (calls : List Call) → WasFed mode self.old bytes calls → OnOk result (IsFed mode S.took S.failures self.new (bytes ++ piece.now) calls sink.old sink.new) }
         // However the input goes on, this is its verdict.
-        ensures stops { (bytes : List ℕ) (calls : List Call) → WasFed self.old bytes calls → IfErr result (λ stop. (later : List ℕ) → Judged self.old.mode S.took S.failures ((bytes ++ piece.now) ++ later) calls sink.old sink.new (Err stop)) }
+        ensures stops { (mode : Mode) (bytes : List ℕ) (calls : List Call) → WasFed mode self.old bytes calls → IfErr result (λ stop. (later : List ℕ) → Judged mode S.took S.failures ((bytes ++ piece.now) ++ later) calls sink.old sink.new (Err stop)) }
         ensures stopped { IfErr result (λ stop. self.new.stop ≡ Some stop) }
         ensures no_read { self.old.stop ≡ None → IsErrOf result Stop.Read → ⊥ }
         ensures mode { self.new.mode ≡ self.old.mode }
@@ -217,7 +224,7 @@ impl Session {
     pub fn finish<S: FrameSink>(self, sink: &mut S) -> Result<Summary, Stop>
         requires { S.failures sink.old < 2 ^ 64 - 1 }
         // The verdict on all that it was fed.
-        ensures verdict { (bytes : List ℕ) (calls : List Call) → WasFed self bytes calls → Judged self.mode S.took S.failures bytes calls sink.old sink.new result }
+        ensures verdict { (mode : Mode) (bytes : List ℕ) (calls : List Call) → WasFed mode self bytes calls → Judged mode S.took S.failures bytes calls sink.old sink.new result }
         ensures no_read { self.stop ≡ None → IsErrOf result Stop.Read → ⊥ }
         ensures again { IfSome self.stop (λ stop. (result ≡ Err stop) × (sink.new ≡ sink.old)) }
     {

@@ -1,7 +1,7 @@
 //! The slices so far, the pictures that they begin, and the rules that a slice meets beside its own syntax.
 #![tactic(auto)]
 
-ghost use Rattle.std.specs.Prelude.{◌≡◌, ℕ, ◌+◌, ◌-◌, ◌*◌, ◌<◌, ◌≤◌, ◌^◌, true, Some, None, List, [], ◌∷◌, if◌then◌else◌, Ok, Err, OnOk, OnErr, IfErr, IfSome, IfOk};
+ghost use Rattle.std.specs.Prelude.{◌≡◌, ℕ, ◌+◌, ◌-◌, ◌*◌, ◌<◌, ◌≤◌, ◌^◌, true, Some, None, List, [], ◌∷◌, if◌then◌else◌, Ok, Err, pos, ◌+ℤ◌, OnOk, OnErr, IfErr, IfSome, IfOk};
 ghost use Rattle.std.specs.Option.{option_map, option_and_then};
 ghost use Rattle.h264_base.specs.declared.stop.Stop.TheVariants.{No};
 ghost use Rattle.h264_base.specs.Call.{OfSlice};
@@ -11,7 +11,7 @@ ghost use Rattle.h264_poc.specs.Counts.{Keeps as KeepsCounts};
 ghost use Rattle.h264_verify.specs.Outcome.{Plays, tells};
 ghost use Rattle.h264_verify.specs.Demands.{judged};
 ghost use Rattle.h264_verify.specs.History.{History, maps_of};
-ghost use Rattle.h264_verify.specs.Keeping.{KeepsSlices, HoldsSlices, HoldsOpen};
+ghost use Rattle.h264_verify.specs.Keeping.{KeepsSlices, HoldsSlices, IsLeft};
 ghost use Rattle.h264_verify.specs.UnitRules.{header_judged};
 ghost use Rattle.h264_verify.specs.declared.judge.Content.TheVariants as contents;
 ghost use Rattle.h264_verify.specs.Slices.{is_i, type_of, order_of, picture_of, begins_after, idr_id, flags_by, flags_of, first_flags, same_flags, changes_id, bit_of_id, bit_of_marking, is_qp, start_demands, count_demand, rest_demands, frame_count, newest_count, last_of, slices_behind, ends_picture};
@@ -36,7 +36,7 @@ pub struct IdrFlags {
 
 /// The picture to which more slices may come.
 #[derive(Drop)]
-pub struct Open {
+pub struct OpenPicture {
     /// The header of its last slice.
     pub(crate) last: Header,
     /// The marking of its first slice.
@@ -46,7 +46,7 @@ pub struct Open {
 /// What is kept of the slices so far.
 #[derive(Drop)]
 pub struct Slices {
-    pub(crate) open: Option<Open>,
+    pub(crate) picture: Option<OpenPicture>,
     /// idr_pic_id of the newest picture, where it is an IDR picture.
     pub(crate) newest_idr: Option<u32>,
     pub(crate) counts: Counts,
@@ -86,12 +86,12 @@ fn type_of(kind: &SliceKind) -> SliceType
 }
 
 /// Whether a slice is the first of a picture, behind the slices of this one.
-fn begins(open: &Option<Open>, header: &Header) -> bool
-    ensures { result ≡ begins_after (option_map (λ o. o.last) open.now) header.now }
+fn begins(picture: &Option<OpenPicture>, header: &Header) -> bool
+    ensures { result ≡ begins_after (option_map (λ o. o.last) picture.now) header.now }
 {
-    match open {
+    match picture {
         None => true,
-        Some(open) => begins_picture(&open.last, header),
+        Some(picture) => begins_picture(&picture.last, header),
     }
 }
 
@@ -228,11 +228,18 @@ fn same_flags(first: Option<IdrFlags>, flags: Option<IdrFlags>) -> bool
     }
 }
 
-/// Whether 26 + pic_init_qp_minus26 + slice_qp_delta lies in 0 to 51.
+/// SliceQPY (7.4.3).
+fn slice_qp(init: i32, delta: i32) -> i64
+    ensures { result ≡ (pos 26 +ℤ init) +ℤ delta }
+{
+    26 + init as i64 + delta as i64
+}
+
+/// Whether SliceQPY lies in 0 to 51.
 fn is_qp(init: i32, delta: i32) -> bool
     ensures { result ≡ is_qp init delta }
 {
-    let qp = 26 + init as i64 + delta as i64;
+    let qp = slice_qp(init, delta);
     0 <= qp && qp <= 51
 }
 
@@ -247,19 +254,22 @@ fn check_start(
 {
     let idr = header.idr_pic_id.is_some();
     let may_be_p = !(idr || sps.max_num_ref_frames == 0);
-    check(is_i(&header.kind.value) || may_be_p, Rule::SliceType, header.kind.bit)?;
-    check(!idr || header.frame_num.value == 0, Rule::FrameNum, header.frame_num.bit)?;
+    check(
+        is_i(&header.kind.value) || may_be_p,
+        Rule::SliceType,
+        header.kind.bit,
+    )?;
+    check(
+        !idr || header.frame_num.value == 0,
+        Rule::FrameNum,
+        header.frame_num.bit,
+    )?;
     let changes = !begins || changes_id(newest_idr, header.idr_pic_id);
     check(changes, Rule::IdrPicId, bit_of_id(header.idr_pic_id))
 }
 
 /// The rules on a slice's QP and marking.
-fn check_rest(
-    begins: bool,
-    first: Option<IdrFlags>,
-    pps: &Pps,
-    header: &Header,
-) -> Result<(), Stop>
+fn check_rest(begins: bool, first: Option<IdrFlags>, pps: &Pps, header: &Header) -> Result<(), Stop>
     ensures { result ≡ judged (rest_demands begins first pps.now header.now) }
 {
     let qp = is_qp(pps.pic_init_qp_minus26, header.slice_qp_delta.value);
@@ -291,12 +301,12 @@ fn count_picture(
 }
 
 /// The marking of the first slice of the picture that may go on.
-fn first_flags(open: &Option<Open>) -> Option<IdrFlags>
-    ensures { result ≡ option_and_then (λ o. o.flags) open.now }
+fn first_flags(picture: &Option<OpenPicture>) -> Option<IdrFlags>
+    ensures { result ≡ option_and_then (λ o. o.flags) picture.now }
 {
-    match open {
+    match picture {
         None => None,
-        Some(open) => open.flags,
+        Some(picture) => picture.flags,
     }
 }
 
@@ -312,7 +322,13 @@ fn tell_slice<S: FrameSink>(
 {
     let count = frame_count(count);
     let mb = header.first_mb_in_slice.value;
-    match sink.slice(byte, mb, type_of(&header.kind.value), header.frame_num.value, count) {
+    match sink.slice(
+        byte,
+        mb,
+        type_of(&header.kind.value),
+        header.frame_num.value,
+        count,
+    ) {
         Ok(()) => Ok(()),
         Err(Failed) => Err(Stop::Write),
     }
@@ -331,7 +347,7 @@ fn frame_count(count: Option<Count>) -> i32
 /// What a slice leaves that begins a picture, or goes on with one.
 fn enter(slices: &mut Slices, begins: bool, header: Header)
     requires { slices.old.pictures < 2 ^ 42 }
-    ensures slices { (before : List Header) → HoldsSlices before slices.old.open → begins ≡ begins_after (last_of before) header → HoldsSlices (slices_behind (contents.OfSlice header) 5 before) slices.new.open }
+    ensures slices { (before : List Header) → HoldsSlices before slices.old.picture → begins ≡ begins_after (last_of before) header → HoldsSlices (slices_behind (contents.OfSlice header) 5 before) slices.new.picture }
     ensures newest { slices.new.newest_idr ≡ (if begins then idr_id header.idr_pic_id else slices.old.newest_idr) }
     ensures pictures { slices.new.pictures ≡ (if begins then slices.old.pictures + 1 else slices.old.pictures) }
     ensures counts { slices.new.counts ≡ slices.old.counts }
@@ -341,14 +357,14 @@ fn enter(slices: &mut Slices, begins: bool, header: Header)
         slices.pictures += 1;
         slices.newest_idr = idr_id(header.idr_pic_id);
         let flags = flags_of(&header.marking);
-        slices.open = Some(Open {
+        slices.picture = Some(OpenPicture {
             last: header,
             flags,
         });
         return;
     }
-    let flags = first_flags(&slices.open);
-    slices.open = Some(Open {
+    let flags = first_flags(&slices.picture);
+    slices.picture = Some(OpenPicture {
         last: header,
         flags,
     });
@@ -377,10 +393,17 @@ pub(crate) fn judge_slice<S: FrameSink>(
         });
     };
     let from = unit.from();
-    let begins = begins(&slices.open, &header);
+    let begins = begins(&slices.picture, &header);
     check_start(begins, slices.newest_idr, named.1, &header)?;
-    count_picture(begins, named.1, &header, 8 * from, &mut slices.counts, &mut slices.count)?;
-    check_rest(begins, first_flags(&slices.open), named.0, &header)?;
+    count_picture(
+        begins,
+        named.1,
+        &header,
+        8 * from,
+        &mut slices.counts,
+        &mut slices.count,
+    )?;
+    check_rest(begins, first_flags(&slices.picture), named.0, &header)?;
     tell_slice(from, &header, slices.count, sink)?;
     enter(slices, begins, header);
     Ok(())
@@ -391,7 +414,7 @@ pub(crate) fn no_slices() -> Slices
     ensures { KeepsSlices [] result }
 {
     Slices {
-        open: None,
+        picture: None,
         newest_idr: None,
         counts: Counts::new(),
         count: None,
@@ -401,10 +424,10 @@ pub(crate) fn no_slices() -> Slices
 
 /// A unit that is no slice ends the picture before it, or does not.
 pub(crate) fn pass_by(slices: &mut Slices, kind: u8)
-    ensures open { HoldsOpen (ends_picture kind) slices.old.open slices.new.open }
-    ensures others { slices.new ≡ record slices.old { open = slices.new.open } }
+    ensures picture { IsLeft (ends_picture kind) slices.old.picture slices.new.picture }
+    ensures others { slices.new ≡ record slices.old { picture = slices.new.picture } }
 {
     if 6 <= kind && kind <= 11 {
-        slices.open = None;
+        slices.picture = None;
     }
 }

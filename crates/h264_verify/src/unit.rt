@@ -1,15 +1,16 @@
 //! One unit.
 #![tactic(auto)]
 
-ghost use Rattle.std.specs.Prelude.{◌≡◌, ℕ, ◌+◌, ◌-◌, ◌*◌, ◌<◌, ◌≤◌, ◌^◌, ◌∷◌, length, OnOk, IfOk, IfErr, Ok, Err, slice_index, if◌then◌else◌};
+ghost use Rattle.std.specs.Prelude.{◌≡◌, ℕ, ◌+◌, ◌-◌, ◌*◌, ◌<◌, ◌≤◌, ◌^◌, List, ◌∷◌, length, OnOk, IfOk, IfErr, Ok, Err, slice_index, if◌then◌else◌};
 ghost use Rattle.h264_units.specs.Stream.{past};
+ghost use Rattle.h264_poc.specs.declared.picture.Picture.{Picture};
 ghost use Rattle.h264_verify.specs.Outcome.{Plays, tells, answers};
 ghost use Rattle.h264_verify.specs.Demands.{judged};
 ghost use Rattle.h264_verify.specs.UnitHeader.{header_of, nal_unit_type, nal_ref_idc, is_partition, is_always_reference, is_never_reference, fits_kind, header_demands};
 ghost use Rattle.h264_verify.specs.History.{History, maps_of};
 ghost use Rattle.h264_verify.specs.Keeping.{Keeps, IsKeepable};
 ghost use Rattle.h264_verify.specs.Feeding.{Turns};
-ghost use Rattle.h264_verify.specs.UnitRules.{unit_call, sps_outcome, pps_outcome, slice_outcome, other_outcome, content_outcome, content_judged, unit_outcome, end_outcome};
+ghost use Rattle.h264_verify.specs.UnitRules.{unit_call, has_pictures, sps_outcome, pps_outcome, slice_outcome, other_outcome, content_outcome, content_judged, unit_outcome, end_outcome};
 
 use crate::judge::{Content, State, Summary};
 use crate::sink::FrameSink;
@@ -112,6 +113,7 @@ fn read_slice_unit<S: FrameSink>(
     requires { S.failures sink.old < 2 ^ 64 - 1 }
     ensures plays { (before : History) → sets.now ≡ maps_of before → reference ≡ nal_ref_idc (header_of unit.now) → Plays S.took S.failures (λ x. x) (slice_outcome before unit.now) sink.old sink.new result }
     ensures keepable { IfOk result IsKeepable }
+    ensures kept { OnOk result (S.failures sink.new ≡ S.failures sink.old) }
 {
     let rbsp = Rbsp::of(alloc, unit)?;
     let mut bits = Bits::new(&rbsp);
@@ -135,6 +137,7 @@ fn read_other<S: FrameSink>(
     requires { S.failures sink.old < 2 ^ 64 - 1 }
     ensures plays { (before : History) → sets.now ≡ maps_of before → header ≡ header_of unit.now → Plays S.took S.failures (λ x. x) (other_outcome mode (nal_unit_type header) before unit.now) sink.old sink.new result }
     ensures keepable { IfOk result IsKeepable }
+    ensures kept { OnOk result (S.failures sink.new ≡ S.failures sink.old) }
 {
     match mode {
         Mode::Units => Ok(Content::Passed),
@@ -165,6 +168,7 @@ fn read_content<S: FrameSink>(
     requires { S.failures sink.old < 2 ^ 64 - 1 }
     ensures plays { (before : History) → sets.now ≡ maps_of before → header ≡ header_of unit.now → Plays S.took S.failures (λ x. x) (content_outcome mode (nal_unit_type header) before unit.now) sink.old sink.new result }
     ensures keepable { IfOk result IsKeepable }
+    ensures kept { OnOk result (S.failures sink.new ≡ S.failures sink.old) }
 {
     if header % 32 == 7 {
         return read_sps_unit(alloc, unit, sink);
@@ -246,6 +250,16 @@ pub(crate) fn judge_unit<S: FrameSink>(
     judge_content(state, header % 32, unit, content, sink)
 }
 
+/// Whether a stream that is judged so has the pictures that it must have.
+fn has_pictures(mode: Mode, pictures: u64) -> bool
+    ensures { (of : List Picture) → pictures ≡ length of → result ≡ has_pictures mode of }
+{
+    match mode {
+        Mode::Units => true,
+        Mode::Headers => pictures != 0,
+    }
+}
+
 /// What comes of the end of the input, at this bit.
 pub(crate) fn judge_end<S: FrameSink>(
     mode: Mode,
@@ -255,15 +269,11 @@ pub(crate) fn judge_end<S: FrameSink>(
 ) -> Result<Summary, Stop>
     ensures { (before : History) → Keeps before state.now → Plays S.took S.failures (λ x. x) (end_outcome mode before bit) sink.now sink.now result }
 {
-    if mode == Mode::Headers && state.slices.pictures == 0 {
-        return Err(Stop::No {
-            bit,
-            rule: Rule::NoPicture,
-        });
-    }
+    let pictures = state.slices.pictures;
+    check(has_pictures(mode, pictures), Rule::NoPicture, bit)?;
     Ok(Summary {
         units: state.units,
-        pictures: state.slices.pictures,
+        pictures,
         frames: 0,
     })
 }

@@ -4,7 +4,7 @@ use Rattle.h264_verify.proofs.running.run.Given as goal
 
 abbrev pub invariant-loop : goal.invariant-loop
 invariant-loop g l = record {
-  fed : (bytes : List ℕ) → g.R.Source.left l.initial.source ≡ Some bytes → FedOn g.S.Elements.took (g.R.Source.left l.source) bytes l.session l.initial.sink l.sink;
+  fed : (bytes : List ℕ) → g.R.Source.left l.initial.source ≡ Some bytes → FedOn l.initial.session.mode g.S.Elements.took (g.R.Source.left l.source) bytes l.session l.initial.sink l.sink;
   runs : l.session.stop ≡ None;
   kept : g.S.Elements.failures l.sink ≡ g.S.Elements.failures l.initial.sink;
   quiet : g.R.Source.failures l.source ≡ g.R.Source.failures l.initial.source;

@@ -6,7 +6,8 @@ use Rattle.h264_verify.proofs.running.run_pieces.Given as goal
 
 abbrev pub invariant-loop-piece : goal.invariant-loop-piece
 invariant-loop-piece g l = record {
-  goes : GoesOn g.S.Elements.took (behind at_start []) l.session.split l.session.state (flat_map (λ piece. piece.items) (take l.piece-index l.pieces)) [] l.initial.sink l.sink;
+  goes : GoesOn l.initial.session.mode g.S.Elements.took (behind at_start []) l.session.split l.session.state (flat_map (λ piece. piece.items) (take l.piece-index l.pieces)) [] l.initial.sink l.sink;
   runs : l.session.stop ≡ None;
+  mode_is : l.session.mode ≡ l.initial.session.mode;
   kept : g.S.Elements.failures l.sink ≡ g.S.Elements.failures l.initial.sink;
 }
