@@ -6,6 +6,8 @@
 pub enum Mode {
     /// The byte stream, its units, and the parameter sets. Slices are passed over.
     Units,
+    /// These, and slice headers with the order of frames that they give.
+    Headers,
 }
 
 /// The kind of decoder that the stream has to suit.

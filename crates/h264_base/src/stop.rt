@@ -13,6 +13,8 @@ pub enum Feature {
     UnitTooLong,
     /// An input of more than 2^40 bytes.
     InputTooLong,
+    /// A slice of a picture that is no IDR picture, whose marking is not judged yet.
+    Pending,
 }
 
 impl Feature {
@@ -28,6 +30,7 @@ impl Feature {
             Feature::Level6 => "Level6",
             Feature::UnitTooLong => "UnitTooLong",
             Feature::InputTooLong => "InputTooLong",
+            Feature::Pending => "Pending",
         }
     }
 }

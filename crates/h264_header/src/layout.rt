@@ -1,7 +1,7 @@
 //! What the parameter sets say of the elements of a slice header.
 #![tactic(auto)]
 
-ghost use Rattle.std.specs.Prelude.{◌≡◌, ◌≤◌, IfSome};
+ghost use Rattle.std.specs.Prelude.{◌≡◌, ◌≤◌, IfSome, IfNone, Some, None, true};
 ghost use Rattle.std.specs.Option.{option_map};
 ghost use Rattle.h264_header.specs.Layout.{sets_of, layout_of, count_elements_of, has_lengths, IsShort};
 
@@ -90,11 +90,12 @@ fn layout_of(pps: &Pps, sps: &Sps) -> Layout
     }
 }
 
-/// What the sets of this pic_parameter_set_id say, if both are there.
-pub(crate) fn named_layout(sets: &Sets, pic_parameter_set_id: u32) -> Option<Layout>
+/// The picture parameter set of this pic_parameter_set_id and the sequence parameter set that it names, if both are there.
+pub fn named_sets<'a>(sets: &'a Sets, pic_parameter_set_id: u32) -> Option<(&'a Pps, &'a Sps)>
     requires { pic_parameter_set_id ≤ 255 }
-    ensures is { result ≡ option_map layout_of (sets_of sets.now pic_parameter_set_id) }
-    ensures short { IfSome result IsShort }
+    ensures some { IfSome result (λ named. sets_of sets.now pic_parameter_set_id ≡ Some (named.0.now, named.1.now)) }
+    ensures none { IfNone result (sets_of sets.now pic_parameter_set_id ≡ None) }
+    ensures lengths { IfSome result (λ named. has_lengths named.1.now ≡ true) }
 {
     let pps = sets.pps(pic_parameter_set_id)?;
     if pps.seq_parameter_set_id > 31 {
@@ -104,5 +105,15 @@ pub(crate) fn named_layout(sets: &Sets, pic_parameter_set_id: u32) -> Option<Lay
     if !has_lengths(sps) {
         return None;
     }
-    Some(layout_of(pps, sps))
+    Some((pps, sps))
+}
+
+/// What the sets of this pic_parameter_set_id say, if both are there.
+pub(crate) fn named_layout(sets: &Sets, pic_parameter_set_id: u32) -> Option<Layout>
+    requires { pic_parameter_set_id ≤ 255 }
+    ensures is { result ≡ option_map layout_of (sets_of sets.now pic_parameter_set_id) }
+    ensures short { IfSome result IsShort }
+{
+    let named = named_sets(sets, pic_parameter_set_id)?;
+    Some(layout_of(named.0, named.1))
 }

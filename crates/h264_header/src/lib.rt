@@ -20,5 +20,6 @@ pub use header::{
     Deblocking, FilterOffsets, Header, Marking, MarkingOperation, Modification, Operation,
     PicNumModification, PicOrderCnt, RefPicList0, SliceKind, SliceUnit,
 };
+pub use layout::named_sets;
 pub use picture::begins_picture;
 pub use read::read_header;

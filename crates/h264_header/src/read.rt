@@ -74,6 +74,7 @@ fn read_named_sets<S: Elements>(
     requires { S.failures sink.old < 2 ^ 64 - 1 }
     ensures meets { Meets S.took S.failures (Is (λ x. x)) (named_sets (sets_of sets.now)) bits.old bits.new sink.old sink.new result }
     ensures short { IfOk result (λ n. IsShort n.layout) }
+    ensures id { IfOk result (λ n. n.id.value ≤ 255) }
 {
     let id = read_ue(bits, ElementName::PicParameterSetId, sink)?;
     check(id.value <= 255, Rule::Range, id.bit)?;
@@ -256,7 +257,8 @@ fn header_steps<S: Elements>(
     sink: &mut S,
 ) -> Result<Header, Stop>
     requires { S.failures sink.old < 2 ^ 64 - 1 }
-    ensures { Meets S.took S.failures (Is (λ x. x)) (header (sets_of sets.now) unit) bits.old bits.new sink.old sink.new result }
+    ensures meets { Meets S.took S.failures (Is (λ x. x)) (header (sets_of sets.now) unit) bits.old bits.new sink.old sink.new result }
+    ensures id { IfOk result (λ h. h.pic_parameter_set_id.value ≤ 255) }
 {
     let first_mb = read_ue(bits, ElementName::FirstMbInSlice, sink)?;
     let stated = read_stated_type(bits, sink)?;
@@ -301,6 +303,7 @@ pub fn read_header<S: Elements>(
     requires { S.failures sink.old < 2 ^ 64 - 1 }
     ensures answers { Answers S.took S.failures (Is (λ x. x)) (header (sets_of sets.now) unit) bits.old bits.new sink.old sink.new result }
     ensures meets { Meets S.took S.failures (Is (λ x. x)) (header (sets_of sets.now) unit) bits.old bits.new sink.old sink.new result }
+    ensures id { IfOk result (λ h. h.pic_parameter_set_id.value ≤ 255) }
 {
     header_steps(bits, sets, unit, sink)
 }

@@ -1,6 +1,10 @@
 -- The lines' texts, in ASCII and without a line end.
-use Rattle.std.specs.Prelude.{ℕ, List, ◌++◌, codes, Result, Ok, Err}
-use Rattle.std.specs.Fmt.{decimal}
+use Rattle.std.specs.Prelude.{ℕ, ℤ, List, ◌++◌, codes, Result, Ok, Err}
+use Rattle.std.specs.Fmt.{decimal, signed_decimal}
+use Rattle.h264_base.specs.declared.mode.Mode.{Mode}
+use Rattle.h264_base.specs.declared.mode.Mode.TheVariants as modes
+use Rattle.h264_base.specs.declared.mode.SliceType.{SliceType}
+use Rattle.h264_base.specs.declared.mode.SliceType.TheVariants as slice_type
 use Rattle.h264_base.specs.declared.rule.Rule.{Rule}
 use Rattle.h264_base.specs.declared.stop.Feature.{Feature}
 use Rattle.h264_base.specs.declared.stop.Stop.{Stop}
@@ -13,9 +17,19 @@ use Rattle.h264_verify.specs.declared.judge.Summary.{Summary}
 abbrev pub unit_text : ℕ → ℕ → ℕ → ℕ → List ℕ
 unit_text byte kind reference length = codes "unit " ++ (decimal byte ++ (codes " type " ++ (decimal kind ++ (codes " ref " ++ (decimal reference ++ (codes " bytes " ++ decimal length))))))
 
--- yes: units U
-abbrev pub yes_text : ℕ → List ℕ
-yes_text units = codes "yes: units " ++ decimal units
+-- P or I
+abbrev pub type_text : SliceType → List ℕ
+type_text slice_type.P = codes "P"
+type_text slice_type.I = codes "I"
+
+-- slice BYTE mb F type P|I frame N count C
+abbrev pub slice_text : ℕ → ℕ → SliceType → ℕ → ℤ → List ℕ
+slice_text byte mb kind frame_num count = codes "slice " ++ (decimal byte ++ (codes " mb " ++ (decimal mb ++ (codes " type " ++ (type_text kind ++ (codes " frame " ++ (decimal frame_num ++ (codes " count " ++ signed_decimal count))))))))
+
+-- yes: units U, and the pictures where slices were read
+abbrev pub yes_text : Mode → Summary → List ℕ
+yes_text modes.Units summary = codes "yes: units " ++ decimal summary.units
+yes_text modes.Headers summary = codes "yes: units " ++ (decimal summary.units ++ (codes " pictures " ++ decimal summary.pictures))
 
 -- no: bit N: LABEL (clause C)
 abbrev pub no_text : ℕ → Rule → List ℕ
@@ -26,10 +40,10 @@ abbrev pub outside_text : ℕ → Feature → List ℕ
 outside_text bit feature = codes "outside: bit " ++ (decimal bit ++ (codes ": " ++ text_of feature))
 
 -- the last line
-abbrev pub verdict_text : Result Summary Stop → List ℕ
-verdict_text (Ok summary) = yes_text summary.units
-verdict_text (Err (No bit rule)) = no_text bit rule
-verdict_text (Err (Outside bit feature)) = outside_text bit feature
-verdict_text (Err Memory) = codes "memory"
-verdict_text (Err Read) = codes "read failed"
-verdict_text (Err Write) = codes "write failed"
+abbrev pub verdict_text : Mode → Result Summary Stop → List ℕ
+verdict_text mode (Ok summary) = yes_text mode summary
+verdict_text mode (Err (No bit rule)) = no_text bit rule
+verdict_text mode (Err (Outside bit feature)) = outside_text bit feature
+verdict_text mode (Err Memory) = codes "memory"
+verdict_text mode (Err Read) = codes "read failed"
+verdict_text mode (Err Write) = codes "write failed"

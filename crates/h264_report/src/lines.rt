@@ -2,9 +2,9 @@
 #![tactic(auto)]
 
 ghost use Rattle.std.specs.Prelude.{◌≡◌, IfOk, string_bytes};
-ghost use Rattle.h264_report.specs.Lines.{unit_text, yes_text, no_text, outside_text, verdict_text};
+ghost use Rattle.h264_report.specs.Lines.{unit_text, type_text, slice_text, yes_text, no_text, outside_text, verdict_text};
 
-use h264_base::{Feature, Rule, Stop};
+use h264_base::{Feature, Mode, Rule, SliceType, Stop};
 use h264_verify::Summary;
 use std::alloc::{AllocError, Global};
 
@@ -21,10 +21,41 @@ pub fn unit_line(
     format!(in alloc; "unit {byte} type {nal_unit_type} ref {nal_ref_idc} bytes {length}")
 }
 
-fn yes_line(alloc: Global, units: u64) -> Result<String, AllocError>
-    ensures { IfOk result (λ s. string_bytes s ≡ yes_text units) }
+/// The letter of a slice's type.
+fn type_text(slice_type: SliceType) -> &'static str
+    ensures { result.now ≡ type_text slice_type }
 {
-    format!(in alloc; "yes: units {units}")
+    match slice_type {
+        SliceType::P => "P",
+        SliceType::I => "I",
+    }
+}
+
+/// The line of a slice: the byte of the input where its unit begins, first_mb_in_slice, its type, frame_num, and the picture
+/// order count of its frame.
+pub fn slice_line(
+    alloc: Global,
+    byte: u64,
+    first_mb_in_slice: u32,
+    slice_type: SliceType,
+    frame_num: u32,
+    count: i32,
+) -> Result<String, AllocError>
+    ensures { IfOk result (λ s. string_bytes s ≡ slice_text byte first_mb_in_slice slice_type frame_num count) }
+{
+    let kind = type_text(slice_type);
+    format!(in alloc; "slice {byte} mb {first_mb_in_slice} type {kind} frame {frame_num} count {count}")
+}
+
+fn yes_line(alloc: Global, mode: Mode, summary: Summary) -> Result<String, AllocError>
+    ensures { IfOk result (λ s. string_bytes s ≡ yes_text mode summary) }
+{
+    let units = summary.units;
+    let pictures = summary.pictures;
+    match mode {
+        Mode::Units => format!(in alloc; "yes: units {units}"),
+        Mode::Headers => format!(in alloc; "yes: units {units} pictures {pictures}"),
+    }
 }
 
 fn no_line(alloc: Global, bit: u64, rule: Rule) -> Result<String, AllocError>
@@ -48,12 +79,16 @@ fn plain_line(alloc: Global, text: &str) -> Result<String, AllocError>
     format!(in alloc; "{text}")
 }
 
-/// The last line: the verdict on a stream's units and parameter sets.
-pub fn verdict_line(alloc: Global, verdict: Result<Summary, Stop>) -> Result<String, AllocError>
-    ensures { IfOk result (λ s. string_bytes s ≡ verdict_text verdict) }
+/// The last line: the verdict on a stream that was judged so far.
+pub fn verdict_line(
+    alloc: Global,
+    mode: Mode,
+    verdict: Result<Summary, Stop>,
+) -> Result<String, AllocError>
+    ensures { IfOk result (λ s. string_bytes s ≡ verdict_text mode verdict) }
 {
     match verdict {
-        Ok(summary) => yes_line(alloc, summary.units),
+        Ok(summary) => yes_line(alloc, mode, summary),
         Err(Stop::No { bit, rule }) => no_line(alloc, bit, rule),
         Err(Stop::Outside { bit, feature }) => outside_line(alloc, bit, feature),
         Err(Stop::Memory) => plain_line(alloc, "memory"),

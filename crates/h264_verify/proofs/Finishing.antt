@@ -36,7 +36,7 @@ tail-named (Bare p) Write e = cc
 tail-named (Long p) Write e = cc
 tail-named Cut Write e = cc
 
-answers-plays : {X S : Type 0} (took : S → List Call → Type 0) (failures : S → ℕ) (stop : Stop) (s : S) → IsNamed stop → Plays {X = X} took failures (λ (x : X). x) (answers (Err stop)) s s (Err stop)
+pub answers-plays : {X S : Type 0} (took : S → List Call → Type 0) (failures : S → ℕ) (stop : Stop) (s : S) → IsNamed stop → Plays {X = X} took failures (λ (x : X). x) (answers (Err stop)) s s (Err stop)
 answers-plays took failures (No bit rule) s n = record { plays = (refl, tells-none took s, refl) }
 answers-plays took failures (Outside bit feature) s n = record { plays = (refl, tells-none took s, refl) }
 answers-plays took failures Memory s n = absurd n

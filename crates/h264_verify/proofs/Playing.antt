@@ -117,3 +117,8 @@ meets-plays took failures view g body old new s s' r e m a =
     let m' = subst (λ o. Meets took failures (Is view) g o new s s' r) e m in
     let a' = subst (λ o. Answers took failures (Is view) g o new s s' r) e a in
     record { plays = by-meets took failures view g body new.at s s' r m'.meets a' }
+
+-- a value given behind what was played
+pub plays-then : {A S : Type 0} (took : S → List Call → Type 0) (failures : S → ℕ) (o : Outcome (Unit {0})) (y : A) (s s' : S) (r : Result (Unit {0}) Stop) → Plays took failures (λ (x : Unit {0}). x) o s s' r → Plays took failures (λ (x : Unit {0}). y) (o >>= λ _. gives y) s s' r
+plays-then took failures o y s s' (Ok x) p = plays-on took failures (λ (x : Unit {0}). x) (λ (x : Unit {0}). y) o (λ _. gives y) s s' s' x (Ok x) p (gives-plays took failures (λ (x : Unit {0}). y) x s')
+plays-then took failures o y s s' (Err e) p = plays-stops took failures (λ (x : Unit {0}). x) (λ (x : Unit {0}). y) o (λ _. gives y) s s' e p

@@ -1,22 +1,55 @@
 -- What a session was fed.
-use Rattle.std.specs.Prelude.{◌≡◌, ℕ, List, ◌++◌, None}
+use Rattle.std.specs.Prelude.{◌≡◌, ℕ, List, [], ◌++◌, None, Option, OnOk, Result}
+use Rattle.h264_base.specs.declared.mode.Mode.{Mode}
+use Rattle.h264_base.specs.declared.stop.Stop.{Stop}
 use Rattle.h264_base.specs.Call.{Call, Tells}
+use Rattle.h264_units.specs.Stream.{NalUnit}
+use Rattle.h264_units.specs.Splitting.{Splitting, at_start}
+use Rattle.h264_verify.specs.declared.judge.State.{State}
 use Rattle.h264_verify.specs.declared.judge.Summary.{Summary}
-use Rattle.h264_verify.specs.Outcome.{Outcome, with_calls}
+use Rattle.h264_verify.specs.Outcome.{Outcome, with_calls, Plays}
 use Rattle.h264_verify.specs.Judging.{Comes}
-use Rattle.h264_verify.specs.Session.{ToCome}
-use Rattle.h264_verify.specs.UnitRules.{judging, start}
+use Rattle.h264_verify.specs.History.{History}
+use Rattle.h264_verify.specs.Keeping.{Keeps}
+use Rattle.h264_verify.specs.Session.{Standing, ToCome, Goes, Fed}
+use Rattle.h264_verify.specs.UnitRules.{judging, unit_outcome}
 use Rattle.h264_verify.specs.Progress.{Progress}
+
+-- where a session stands behind these units
+abbrev pub behind : Splitting → History → Standing History
+behind split before = record { split = split; state = before }
+
+-- Behind these units a unit was judged, and the sink was told what comes of it.
+pub record Turns {S X : Type 0} (mode : Mode) (took : S → List Call → Type 0) (failures : S → ℕ) (before : History) (unit : NalUnit) (new : State) (s s' : S) (result : Result X Stop) : Type 0 where
+  pub after : History
+  pub plays : Plays took failures (λ (x : X). after) (unit_outcome mode before unit) s s' result
+  pub keeps : OnOk result (Keeps after new)
+
+-- However the input goes on, what comes of old is what the sink was told and what comes of where the session stands.
+pub record GoesOn {S : Type 0} (mode : Mode) (took : S → List Call → Type 0) (old : Standing History) (split : Splitting) (state : State) (piece left : List ℕ) (s s' : S) : Type 0 where
+  pub after : History
+  pub keeps : Keeps after state
+  pub goes : Goes (judging mode) took old (behind split after) piece left s s'
+
+-- The source gave these bytes so far, less those that are left.
+pub record FedOn {S : Type 0} (mode : Mode) (took : S → List Call → Type 0) (known : Option (List ℕ)) (bytes : List ℕ) (session : Progress) (s s' : S) : Type 0 where
+  pub mode_is : session.mode ≡ mode
+  pub after : History
+  pub keeps : Keeps after session.state
+  pub fed : Fed (judging mode) took known bytes (behind at_start []) (behind session.split after) s s'
 
 -- The session was fed these bytes, and sinks were told these calls of them: however the input goes on, what comes of the
 -- whole is these calls, and then what comes of where the session stands.
-pub record WasFed (session : Progress) (bytes : List ℕ) (calls : List Call) : Type 0 where
+pub record WasFed (mode : Mode) (session : Progress) (bytes : List ℕ) (calls : List Call) : Type 0 where
+  pub mode_is : session.mode ≡ mode
   pub runs : session.stop ≡ None
-  pub goes : (more : List ℕ) (o : Outcome Summary) → Comes judging 0 start (bytes ++ more) o → (later : Outcome Summary) × ToCome judging session.standing more later × (o ≡ with_calls calls later)
+  pub before : History
+  pub keeps : Keeps before session.state
+  pub goes : (more : List ℕ) (o : Outcome Summary) → Comes (judging mode) 0 [] (bytes ++ more) o → (later : Outcome Summary) × ToCome (judging mode) (behind session.split before) more later × (o ≡ with_calls calls later)
 
 -- The session was then fed these bytes, and the sink was told what comes of them behind these calls.
-pub record IsFed {S : Type 0} (took : S → List Call → Type 0) (failures : S → ℕ) (session : Progress) (bytes : List ℕ) (calls : List Call) (s s' : S) : Type 0 where
+pub record IsFed {S : Type 0} (mode : Mode) (took : S → List Call → Type 0) (failures : S → ℕ) (session : Progress) (bytes : List ℕ) (calls : List Call) (s s' : S) : Type 0 where
   pub more : List Call
   pub tells : Tells took s s' more
-  pub fed : WasFed session bytes (calls ++ more)
+  pub fed : WasFed mode session bytes (calls ++ more)
   pub kept : failures s' ≡ failures s

@@ -1,7 +1,12 @@
 pub mod Outcome
 pub mod Judging
 pub mod Session
+pub mod Demands
+pub mod UnitHeader
+pub mod History
+pub mod Slices
+pub mod Keeping
 pub mod UnitRules
 pub mod Progress
-pub mod Verdict
 pub mod Feeding
+pub mod Verdict

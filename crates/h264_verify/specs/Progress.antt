@@ -1,24 +1,30 @@
 -- What a session is to its callers.
-use Rattle.std.specs.Prelude.{◌≡◌, ◌≤◌, IsFalse, Option, Some, None}
+use Rattle.std.specs.Prelude.{◌≡◌, ◌≤◌, IsFalse, Option, Some, None, []}
+use Rattle.h264_base.specs.declared.mode.Mode.{Mode}
 use Rattle.h264_base.specs.declared.stop.Stop.{Stop}
 use Rattle.h264_units.specs.Splitting.{Splitting, at_start}
 use Rattle.h264_verify.specs.declared.judge.State.{State}
-use Rattle.h264_verify.specs.Session.{Standing}
-use Rattle.h264_verify.specs.UnitRules.{start}
+use Rattle.h264_verify.specs.History.{History}
+use Rattle.h264_verify.specs.Keeping.{Keeps}
 
--- where it stands, and whether it has stopped
+-- what its splitter holds, what is kept of the units taken, and whether it has stopped
 pub record Progress : Type 0 where
-  pub standing : Standing State
+  pub mode : Mode
+  pub split : Splitting
+  pub state : State
   pub stop : Option Stop
 
--- between two calls no unit waits, and each unit so far had a byte of the input
+-- between two calls no unit waits, each unit so far had a byte of the input, and there are units whose this is kept
 abbrev pub IsReady : Splitting → State → Type 0
-IsReady split state = ((split.stop ≡ None) × IsFalse split.waiting × IsFalse split.ended) × (state.units ≤ split.at)
+IsReady split state = ((split.stop ≡ None) × IsFalse split.waiting × IsFalse split.ended) × (state.units ≤ split.at) × (state.slices.pictures ≤ state.units) × ((before : History) × Keeps before state)
 
 abbrev pub IsSession : Option Stop → Splitting → State → Type 0
 IsSession None split state = IsReady split state
 IsSession (Some stop) split state = Unit {0}
 
--- before the first byte
-abbrev pub fresh : Progress
-fresh = record { standing = record { split = at_start; state = start }; stop = None }
+-- before the first byte nothing was kept
+pub record IsFresh (session : Progress) (mode : Mode) : Type 0 where
+  pub mode_is : session.mode ≡ mode
+  pub split : session.split ≡ at_start
+  pub keeps : Keeps [] session.state
+  pub stop : session.stop ≡ None

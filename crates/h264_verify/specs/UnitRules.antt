@@ -1,85 +1,100 @@
--- The rules of one unit, and what is told of it.
-use Rattle.std.specs.Prelude.{ℕ, ◌+◌, ◌*◌, ◌/◌, ◌%◌, Bool, true, not, length, slice_index, nat_le, ◌==◌, ◌&&◌, ◌||◌, if◌then◌else◌}
-use Rattle.h264_base.specs.declared.rule.Rule.TheVariants.{ForbiddenBit, RefIdc, Partition}
+-- What comes of one unit behind those before it, and of the end of the input.
+use Rattle.std.specs.Prelude.{ℕ, ◌*◌, Bool, true, false, List, [], ◌∷◌, length, Err, ◌==◌, if◌then◌else◌}
+use Rattle.h264_base.specs.declared.mode.Mode.{Mode}
+use Rattle.h264_base.specs.declared.mode.Mode.TheVariants as modes
+use Rattle.h264_base.specs.declared.rule.Rule.TheVariants.{NoPicture}
+use Rattle.h264_base.specs.declared.stop.Feature.TheVariants.{Pending}
+use Rattle.h264_base.specs.declared.stop.Stop.TheVariants.{Outside}
 use Rattle.h264_base.specs.Call.{Call, OfUnit}
 use Rattle.h264_units.specs.Stream.{NalUnit}
 use Rattle.h264_rbsp.specs.Emulation.{emulation_checked}
 use Rattle.h264_rbsp.specs.Rbsp.{body_of}
 use Rattle.h264_sps.specs.Sps.{sps}
 use Rattle.h264_pps.specs.Pps.{pps}
-use Rattle.h264_sets.specs.Sets.{no_sets, with_sps, with_pps}
-use Rattle.h264_verify.specs.declared.judge.State.{State}
+use Rattle.h264_header.specs.declared.header.SliceUnit.{SliceUnit}
+use Rattle.h264_header.specs.declared.header.Header.{Header}
+use Rattle.h264_header.specs.Layout.{sets_of}
+use Rattle.h264_header.specs.Header.{header}
+use Rattle.h264_poc.specs.declared.picture.Picture.{Picture}
+use Rattle.h264_verify.specs.declared.judge.Content.{Content}
+use Rattle.h264_verify.specs.declared.judge.Content.TheVariants as contents
 use Rattle.h264_verify.specs.declared.judge.Summary.{Summary}
-use Rattle.h264_verify.specs.Outcome.{Outcome, ◌>>=◌, answers, gives, tells, holds, structure_outcome}
+use Rattle.h264_verify.specs.Outcome.{Outcome, ◌>>=◌, answers, gives, tells, structure_outcome}
 use Rattle.h264_verify.specs.Judging.{Judging}
-
--- the parts of a unit's first byte (7.3.1)
-abbrev pub forbidden_zero_bit : ℕ → ℕ
-forbidden_zero_bit header = header / 128
-
-abbrev pub nal_ref_idc : ℕ → ℕ
-nal_ref_idc header = header / 32 % 4
-
-abbrev pub nal_unit_type : ℕ → ℕ
-nal_unit_type header = header % 32
-
--- a slice data partition A, B or C
-abbrev pub is_partition : ℕ → Bool
-is_partition kind = nat_le 2 kind && nat_le kind 4
-
--- IDR slices and parameter sets
-abbrev pub is_always_reference : ℕ → Bool
-is_always_reference kind = kind == 5 || kind == 7 || kind == 8
-
--- SEI, access unit delimiters, ends of sequence and of stream, filler data
-abbrev pub is_never_reference : ℕ → Bool
-is_never_reference kind = kind == 6 || nat_le 9 kind && nat_le kind 12
-
--- nal_ref_idc fits nal_unit_type (7.4.1)
-abbrev pub fits_kind : ℕ → ℕ → Bool
-fits_kind kind reference = if is_always_reference kind then not (reference == 0) else (if is_never_reference kind then reference == 0 else true)
-
-unfoldable pub header_outcome : ℕ → ℕ → Outcome (Unit {0})
-header_outcome from header = do
-  _ ← holds ForbiddenBit (8 * from) (forbidden_zero_bit header == 0)
-  _ ← holds RefIdc (8 * from) (fits_kind (nal_unit_type header) (nal_ref_idc header))
-  holds Partition (8 * from) (not (is_partition (nal_unit_type header)))
+use Rattle.h264_verify.specs.Demands.{Demand, judged}
+use Rattle.h264_verify.specs.UnitHeader.{header_of, nal_unit_type, nal_ref_idc, header_demands}
+use Rattle.h264_verify.specs.History.{History, maps_of}
+use Rattle.h264_verify.specs.Slices.{pictures_of, slice_demands, slice_call}
 
 abbrev pub unit_call : ℕ → ℕ → ℕ → Call
 unit_call from header length = OfUnit from (nal_unit_type header) (nal_ref_idc header) length
 
-abbrev pub one_more : State → State
-one_more s = record s { units = s.units + 1 }
-
--- a parameter set is read, and kept in the place of the one that had its id
-unfoldable pub sps_outcome : State → NalUnit → Outcome State
-sps_outcome s unit = do
+-- a parameter set is read
+unfoldable pub sps_outcome : NalUnit → Outcome Content
+sps_outcome unit = do
   set ← structure_outcome sps (body_of unit)
-  gives (record s { sets = with_sps s.sets set })
+  gives (contents.OfSps set)
 
-unfoldable pub pps_outcome : State → NalUnit → Outcome State
-pps_outcome s unit = do
+unfoldable pub pps_outcome : NalUnit → Outcome Content
+pps_outcome unit = do
   set ← structure_outcome pps (body_of unit)
-  gives (record s { sets = with_pps s.sets set })
+  gives (contents.OfPps set)
 
--- what is in a unit of this type: parameter sets are read, and all others passed over
-unfoldable pub content_outcome : ℕ → State → NalUnit → Outcome State
-content_outcome kind s unit = if kind == 7 then sps_outcome s unit else (if kind == 8 then pps_outcome s unit else gives s)
+-- the slice header in a unit of type 5
+abbrev pub idr_unit : NalUnit → SliceUnit
+idr_unit unit = record { idr_pic_flag = true; nal_ref_idc = nal_ref_idc (header_of unit) }
 
-unfoldable pub unit_outcome : State → NalUnit → Outcome State
-unit_outcome s unit = do
+unfoldable pub slice_outcome : History → NalUnit → Outcome Content
+slice_outcome before unit = do
+  h ← structure_outcome (header (sets_of (maps_of before)) (idr_unit unit)) (body_of unit)
+  gives (contents.OfSlice h)
+
+-- what is in a unit that is no parameter set: slices are read unless they are passed over
+unfoldable pub other_outcome : Mode → ℕ → History → NalUnit → Outcome Content
+other_outcome modes.Units kind before unit = gives contents.Passed
+other_outcome modes.Headers kind before unit = if kind == 5 then slice_outcome before unit else (if kind == 1 then answers (Err (Outside (8 * unit.from) Pending)) else gives contents.Passed)
+
+unfoldable pub content_outcome : Mode → ℕ → History → NalUnit → Outcome Content
+content_outcome mode kind before unit = if kind == 7 then sps_outcome unit else (if kind == 8 then pps_outcome unit else other_outcome mode kind before unit)
+
+-- the rules of a slice, and what is told of it
+unfoldable pub header_judged : History → NalUnit → Header → Outcome (Unit {0})
+header_judged before unit h = do
+  _ ← answers (judged (slice_demands before unit h))
+  tells (slice_call before unit h)
+
+abbrev pub content_judged : History → NalUnit → Content → Outcome (Unit {0})
+content_judged before unit (contents.OfSps set) = gives tt
+content_judged before unit (contents.OfPps set) = gives tt
+content_judged before unit (contents.OfSlice h) = header_judged before unit h
+content_judged before unit contents.Passed = gives tt
+
+unfoldable pub unit_outcome : Mode → History → NalUnit → Outcome History
+unit_outcome mode before unit = do
   _ ← answers (emulation_checked unit.from unit.body)
-  _ ← header_outcome unit.from (slice_index unit.body 0)
-  _ ← tells (unit_call unit.from (slice_index unit.body 0) (length unit.body))
-  s' ← content_outcome (nal_unit_type (slice_index unit.body 0)) s unit
-  gives (one_more s')
+  _ ← answers (judged (header_demands (8 * unit.from) (header_of unit)))
+  _ ← tells (unit_call unit.from (header_of unit) (length unit.body))
+  found ← content_outcome mode (nal_unit_type (header_of unit)) before unit
+  _ ← content_judged before unit found
+  gives (record { unit = unit; content = found } ∷ before)
+
+-- a stream whose slices are read has a picture
+abbrev pub has_pictures : Mode → List Picture → Bool
+has_pictures modes.Units pictures = true
+has_pictures modes.Headers [] = false
+has_pictures modes.Headers (p ∷ pictures) = true
+
+abbrev pub end_demands : Mode → History → ℕ → List Demand
+end_demands mode before bit = record { rule = NoPicture; bit = bit; met = has_pictures mode (pictures_of before) } ∷ []
+
+abbrev pub summary_of : History → Summary
+summary_of before = record { units = length before; pictures = length (pictures_of before); frames = 0 }
 
 -- the end of the input, at this bit
-abbrev pub end_outcome : State → ℕ → Outcome Summary
-end_outcome s bit = gives (record { units = s.units; pictures = 0; frames = 0 })
+unfoldable pub end_outcome : Mode → History → ℕ → Outcome Summary
+end_outcome mode before bit = do
+  _ ← answers (judged (end_demands mode before bit))
+  gives (summary_of before)
 
-abbrev pub judging : Judging State Summary
-judging = record { unit = unit_outcome; end = end_outcome }
-
-abbrev pub start : State
-start = record { units = 0; sets = no_sets }
+abbrev pub judging : Mode → Judging History Summary
+judging mode = record { unit = unit_outcome mode; end = end_outcome mode }

@@ -1,50 +1,32 @@
 -- The verdict on a stream: a yes with its derivation, a no with the first rule that is broken and its bit, or the first
--- feature that is not judged (7.3, 7.4, B.1).
-use Rattle.std.specs.Prelude.{◌≡◌, ℕ, ◌+◌, ◌*◌, ◌⊎◌, Bool, IsTrue, IsFalse, not, List, [], ◌∷◌, ◌++◌, map, length, slice_index, Some, ◌==◌, if◌then◌else◌, Result, Ok, Err}
+-- feature that is not judged (7.3, 7.4, 8.2.1, B.1).
+use Rattle.std.specs.Prelude.{◌≡◌, ℕ, ◌+◌, ◌*◌, ◌⊎◌, false, List, [], ◌∷◌, ◌++◌, map, length, Some, ◌==◌, if◌then◌else◌, Result, Ok, Err}
+use Rattle.h264_base.specs.declared.mode.Mode.{Mode}
+use Rattle.h264_base.specs.declared.mode.Mode.TheVariants as modes
 use Rattle.h264_base.specs.declared.rule.Rule.{Rule}
-use Rattle.h264_base.specs.declared.rule.Rule.TheVariants.{Emulation, ForbiddenBit, RefIdc, Partition}
+use Rattle.h264_base.specs.declared.rule.Rule.TheVariants.{Emulation}
 use Rattle.h264_base.specs.declared.stop.Feature.{Feature}
+use Rattle.h264_base.specs.declared.stop.Feature.TheVariants.{Pending}
 use Rattle.h264_base.specs.declared.stop.Stop.{Stop}
 use Rattle.h264_base.specs.declared.stop.Stop.TheVariants.{No, Outside, Memory, Read, Write}
 use Rattle.h264_base.specs.Call.{Call, Tells}
-use Rattle.h264_base.specs.Grammar.{Grammar, ◌>>=◌, Done, Element, Says}
+use Rattle.h264_base.specs.Grammar.{Grammar, ◌>>=◌, Done, Support, Element, Says}
 use Rattle.h264_base.specs.Run.{call_of}
 use Rattle.h264_units.specs.Stream.{NalUnit, Tail, Zeros, Splits, tail_stop}
 use Rattle.h264_rbsp.specs.Emulation.{IsFault, IsFirstFault}
 use Rattle.h264_rbsp.specs.Rbsp.{body_of}
-use Rattle.h264_sps.specs.declared.sps.Sps.{Sps}
 use Rattle.h264_sps.specs.Sps.{sps}
-use Rattle.h264_pps.specs.declared.Pps.{Pps}
 use Rattle.h264_pps.specs.Pps.{pps}
+use Rattle.h264_header.specs.Layout.{sets_of}
+use Rattle.h264_header.specs.Header.{header}
+use Rattle.h264_verify.specs.declared.judge.Content.{Content}
+use Rattle.h264_verify.specs.declared.judge.Content.TheVariants as contents
 use Rattle.h264_verify.specs.declared.judge.Summary.{Summary}
-use Rattle.h264_verify.specs.UnitRules.{forbidden_zero_bit, nal_ref_idc, nal_unit_type, fits_kind, is_partition, unit_call}
-
--- a rule that is checked: the stream bit that it names, and whether it is met
-pub record Demand : Type 0 where
-  pub rule : Rule
-  pub bit : ℕ
-  pub met : Bool
-
-abbrev pub AreMet : List Demand → Type 0
-AreMet [] = Unit {0}
-AreMet (d ∷ ds) = IsTrue d.met × AreMet ds
-
--- All before it are met, and it is not.
-abbrev pub IsFirstUnmet : List Demand → Rule → ℕ → Type 0
-IsFirstUnmet [] rule bit = ⊥
-IsFirstUnmet (d ∷ ds) rule bit = (IsFalse d.met × (rule ≡ d.rule) × (bit ≡ d.bit)) ⊎ (IsTrue d.met × IsFirstUnmet ds rule bit)
-
--- a unit's first byte (7.3.1)
-abbrev pub header_of : NalUnit → ℕ
-header_of unit = slice_index unit.body 0
-
--- the rules of that byte, at the unit's first bit (7.4.1, A.2)
-abbrev pub header_demands : ℕ → ℕ → List Demand
-header_demands bit header =
-    record { rule = ForbiddenBit; bit = bit; met = forbidden_zero_bit header == 0 }
-    ∷ record { rule = RefIdc; bit = bit; met = fits_kind (nal_unit_type header) (nal_ref_idc header) }
-    ∷ record { rule = Partition; bit = bit; met = not (is_partition (nal_unit_type header)) }
-    ∷ []
+use Rattle.h264_verify.specs.Demands.{Demand, AreMet, IsFirstUnmet}
+use Rattle.h264_verify.specs.UnitHeader.{header_of, nal_unit_type, header_demands}
+use Rattle.h264_verify.specs.History.{History, ReadUnit, maps_of}
+use Rattle.h264_verify.specs.Slices.{slice_demands, slice_call}
+use Rattle.h264_verify.specs.UnitRules.{unit_call, idr_unit, end_demands, summary_of}
 
 -- A unit meets the rules of units (7.4.1).
 pub record IsSound (unit : NalUnit) : Type 0 where
@@ -57,114 +39,134 @@ IsUnsound unit rule bit =
     ((place : ℕ) × IsFirstFault unit.body place × (rule ≡ Emulation) × (bit ≡ 8 * (unit.from + place)))
     ⊎ (((place : ℕ) → IsFault unit.body place → ⊥) × IsFirstUnmet (header_demands (8 * unit.from) (header_of unit)) rule bit)
 
--- what stands in a unit
-pub data Content : Type 0 where
-  OfSps : Sps → Content
-  OfPps : Pps → Content
-  -- what is passed over
-  Passed : Content
+-- the syntax structure in a unit that is no parameter set; slices of pictures that are no IDR pictures are not judged yet
+abbrev pub other_content : Mode → ℕ → History → NalUnit → Grammar Content
+other_content modes.Units kind before unit = Done contents.Passed
+other_content modes.Headers kind before unit =
+    if kind == 5 then header (sets_of (maps_of before)) (idr_unit unit) >>= (λ h. Done (contents.OfSlice h))
+    else (if kind == 1 then Support Pending (8 * unit.from) false (Done contents.Passed)
+    else Done contents.Passed)
 
--- The syntax structure in a unit of this type (7.3.1, table 7-1).
-unfoldable pub content : ℕ → Grammar Content
-content kind = if kind == 7 then sps >>= (λ set. Done (OfSps set)) else (if kind == 8 then pps >>= (λ set. Done (OfPps set)) else Done Passed)
+-- The syntax structure in a unit of this type, behind these units (7.3.1, table 7-1).
+unfoldable pub content : Mode → ℕ → History → NalUnit → Grammar Content
+content mode kind before unit =
+    if kind == 7 then sps >>= (λ set. Done (contents.OfSps set))
+    else (if kind == 8 then pps >>= (λ set. Done (contents.OfPps set))
+    else other_content mode kind before unit)
 
 -- what its elements say of a unit: its content and the bit behind it, or the stop that they lead to
-abbrev pub Elements : NalUnit → List Element → Result (Content × ℕ) Stop → Type 0
-Elements unit es answer = Says (content (nal_unit_type (header_of unit))) (body_of unit) 0 es answer
+abbrev pub Elements : Mode → History → NalUnit → List Element → Result (Content × ℕ) Stop → Type 0
+Elements mode before unit es answer = Says (content mode (nal_unit_type (header_of unit)) before unit) (body_of unit) 0 es answer
 
 -- what the sink is told of a unit: that it is there, and its elements
 abbrev pub told : NalUnit → List Element → List Call
 told unit es = unit_call unit.from (header_of unit) (length unit.body) ∷ map (call_of (body_of unit)) es
 
--- A unit that meets every rule, with the derivation of its content.
-pub record IsLegal (unit : NalUnit) (content : Content) (calls : List Call) : Type 0 where
-  pub sound : IsSound unit
+-- the rules on what is in a unit, beside its own syntax
+abbrev pub content_demands : History → NalUnit → Content → List Demand
+content_demands before unit (contents.OfSps set) = []
+content_demands before unit (contents.OfPps set) = []
+content_demands before unit (contents.OfSlice h) = slice_demands before unit h
+content_demands before unit contents.Passed = []
+
+-- what the sink is told once they are met
+abbrev pub content_calls : History → NalUnit → Content → List Call
+content_calls before unit (contents.OfSps set) = []
+content_calls before unit (contents.OfPps set) = []
+content_calls before unit (contents.OfSlice h) = slice_call before unit h ∷ []
+content_calls before unit contents.Passed = []
+
+-- A unit behind these that meets every rule, with the derivation of its content.
+pub record IsLegal (mode : Mode) (before : History) (r : ReadUnit) (calls : List Call) : Type 0 where
+  pub sound : IsSound r.unit
   pub elements : List Element
   pub end : ℕ
-  pub derives : Elements unit elements (Ok (content, end))
-  pub calls_are : calls ≡ told unit elements
+  pub derives : Elements mode before r.unit elements (Ok (r.content, end))
+  pub met : AreMet (content_demands before r.unit r.content)
+  pub calls_are : calls ≡ told r.unit elements ++ content_calls before r.unit r.content
 
--- A unit at which the verdict falls, with what was told of it before.
-pub data IsStop (unit : NalUnit) (stop : Stop) (calls : List Call) : Type 0 where
+-- A unit behind these at which the verdict falls, with what was told of it before.
+pub data IsStop (mode : Mode) (before : History) (unit : NalUnit) (stop : Stop) (calls : List Call) : Type 0 where
   -- a rule of units is broken: nothing is told
-  AtUnit : (rule : Rule) (bit : ℕ) → IsUnsound unit rule bit → stop ≡ No bit rule → calls ≡ [] → IsStop unit stop calls
+  AtUnit : (rule : Rule) (bit : ℕ) → IsUnsound unit rule bit → stop ≡ No bit rule → calls ≡ [] → IsStop mode before unit stop calls
   -- its elements lead to a broken rule or a feature that is not judged
-  AtElements : IsSound unit → (es : List Element) → Elements unit es (Err stop) → calls ≡ told unit es → IsStop unit stop calls
+  AtElements : IsSound unit → (es : List Element) → Elements mode before unit es (Err stop) → calls ≡ told unit es → IsStop mode before unit stop calls
+  -- a rule on what is in it is broken
+  AtContent : IsSound unit → (es : List Element) (found : Content) (end : ℕ) → Elements mode before unit es (Ok (found, end)) → (rule : Rule) (bit : ℕ) → IsFirstUnmet (content_demands before unit found) rule bit → stop ≡ No bit rule → calls ≡ told unit es → IsStop mode before unit stop calls
 
--- a unit and its content
-pub record ReadUnit : Type 0 where
-  pub unit : NalUnit
-  pub content : Content
+-- All of these units are legal, and the sink is told of each in turn. The last one stands first.
+abbrev pub AreLegal : Mode → History → List Call → Type 0
+AreLegal mode [] calls = calls ≡ []
+AreLegal mode (r ∷ before) calls = (earlier : List Call) × (last : List Call) × AreLegal mode before earlier × IsLegal mode before r last × (calls ≡ earlier ++ last)
 
-abbrev pub units_of : List ReadUnit → List NalUnit
-units_of reads = map (λ r. r.unit) reads
+-- the units in their order, and these behind them
+abbrev pub in_order : History → List NalUnit → List NalUnit
+in_order [] units = units
+in_order (r ∷ before) units = in_order before (r.unit ∷ units)
 
--- All of these units are legal, and the sink is told of each in turn.
-abbrev pub AreLegal : List ReadUnit → List Call → Type 0
-AreLegal [] calls = calls ≡ []
-AreLegal (r ∷ rs) calls = (first : List Call) × (later : List Call) × IsLegal r.unit r.content first × AreLegal rs later × (calls ≡ first ++ later)
+-- The bytes are a byte stream, all its units are legal, and so is its end: there is a derivation that meets every rule, and no
+-- feature that is not judged.
+pub record Holds (mode : Mode) (bytes : List ℕ) (calls : List Call) (summary : Summary) : Type 0 where
+  pub units : History
+  pub stream : Splits 0 bytes (in_order units []) Zeros
+  pub legal : AreLegal mode units calls
+  pub end : AreMet (end_demands mode units (8 * length bytes))
+  pub summary_is : summary ≡ summary_of units
 
--- The bytes are a byte stream, and all its units are legal: there is a derivation that meets every rule, and no feature
--- that is not judged.
-pub record Holds (bytes : List ℕ) (calls : List Call) (summary : Summary) : Type 0 where
-  pub units : List ReadUnit
-  pub stream : Splits 0 bytes (units_of units) Zeros
-  pub legal : AreLegal units calls
-  pub summary_is : summary ≡ record { units = length units; pictures = 0; frames = 0 }
-
--- Behind the units so far the verdict falls at the next, or behind the last unit.
-abbrev pub IsStopAmong : List NalUnit → Tail → Stop → List Call → Type 0
-IsStopAmong [] tail stop calls = (tail_stop tail ≡ Some stop) × (calls ≡ [])
-IsStopAmong (unit ∷ units) tail stop calls = IsStop unit stop calls
+-- Behind the legal units the verdict falls at the next, or at what follows the last, or at the end of the input.
+pub data IsStopBehind (mode : Mode) (before : History) (units : List NalUnit) (tail : Tail) (end : ℕ) (stop : Stop) (calls : List Call) : Type 0 where
+  AtNext : (unit : NalUnit) (later : List NalUnit) → units ≡ unit ∷ later → IsStop mode before unit stop calls → IsStopBehind mode before units tail end stop calls
+  AtTail : units ≡ [] → tail_stop tail ≡ Some stop → calls ≡ [] → IsStopBehind mode before units tail end stop calls
+  AtEnd : units ≡ [] → tail ≡ Zeros → (rule : Rule) (bit : ℕ) → IsFirstUnmet (end_demands mode before (8 * end)) rule bit → stop ≡ No bit rule → calls ≡ [] → IsStopBehind mode before units tail end stop calls
 
 -- The units before are legal, and then the verdict falls.
-pub record StopsAt (bytes : List ℕ) (calls : List Call) (stop : Stop) : Type 0 where
-  pub before : List ReadUnit
+pub record StopsAt (mode : Mode) (bytes : List ℕ) (calls : List Call) (stop : Stop) : Type 0 where
+  pub before : History
   pub units : List NalUnit
   pub tail : Tail
-  pub stream : Splits 0 bytes (units_of before ++ units) tail
+  pub stream : Splits 0 bytes (in_order before units) tail
   pub first : List Call
   pub last : List Call
-  pub legal : AreLegal before first
-  pub stops : IsStopAmong units tail stop last
+  pub legal : AreLegal mode before first
+  pub stops : IsStopBehind mode before units tail (length bytes) stop last
   pub calls_are : calls ≡ first ++ last
 
 -- All rules before this one are met, it fails, and this is its bit.
-abbrev pub Breaks : List ℕ → List Call → ℕ → Rule → Type 0
-Breaks bytes calls bit rule = StopsAt bytes calls (No bit rule)
+abbrev pub Breaks : Mode → List ℕ → List Call → ℕ → Rule → Type 0
+Breaks mode bytes calls bit rule = StopsAt mode bytes calls (No bit rule)
 
 -- All rules before are met, and here stands a feature that is not judged.
-abbrev pub MayStop : List ℕ → List Call → ℕ → Feature → Type 0
-MayStop bytes calls bit feature = StopsAt bytes calls (Outside bit feature)
+abbrev pub MayStop : Mode → List ℕ → List Call → ℕ → Feature → Type 0
+MayStop mode bytes calls bit feature = StopsAt mode bytes calls (Outside bit feature)
 
 -- what is said of a stream, and what a sink is told of it up to there
-abbrev pub Verdict : List ℕ → List Call → Result Summary Stop → Type 0
-Verdict bytes calls (Ok summary) = Holds bytes calls summary
-Verdict bytes calls (Err stop) = StopsAt bytes calls stop
+abbrev pub Verdict : Mode → List ℕ → List Call → Result Summary Stop → Type 0
+Verdict mode bytes calls (Ok summary) = Holds mode bytes calls summary
+Verdict mode bytes calls (Err stop) = StopsAt mode bytes calls stop
 
 -- A sink that took some of a stream's calls has taken some more, and they are all that the stream has up to this verdict.
-pub record Whole {S : Type 0} (took : S → List Call → Type 0) (bytes : List ℕ) (calls : List Call) (s s' : S) (answer : Result Summary Stop) : Type 0 where
+pub record Whole {S : Type 0} (mode : Mode) (took : S → List Call → Type 0) (bytes : List ℕ) (calls : List Call) (s s' : S) (answer : Result Summary Stop) : Type 0 where
   pub more : List Call
   pub tells : Tells took s s' more
-  pub verdict : Verdict bytes (calls ++ more) answer
+  pub verdict : Verdict mode bytes (calls ++ more) answer
 
 -- They are the first of those that the stream has.
-pub record Front {S : Type 0} (took : S → List Call → Type 0) (bytes : List ℕ) (calls : List Call) (s s' : S) : Type 0 where
+pub record Front {S : Type 0} (mode : Mode) (took : S → List Call → Type 0) (bytes : List ℕ) (calls : List Call) (s s' : S) : Type 0 where
   pub more : List Call
   pub tells : Tells took s s' more
   pub rest : List Call
   pub answer : Result Summary Stop
-  pub verdict : Verdict bytes ((calls ++ more) ++ rest) answer
+  pub verdict : Verdict mode bytes ((calls ++ more) ++ rest) answer
 
-abbrev pub JudgedBy : {S : Type 0} → (S → List Call → Type 0) → (S → ℕ) → List ℕ → List Call → S → S → Result Summary Stop → Type 0
-JudgedBy took failures bytes calls s s' (Ok summary) = Whole took bytes calls s s' (Ok summary) × (failures s' ≡ failures s)
-JudgedBy took failures bytes calls s s' (Err (No bit rule)) = Whole took bytes calls s s' (Err (No bit rule)) × (failures s' ≡ failures s)
-JudgedBy took failures bytes calls s s' (Err (Outside bit feature)) = Whole took bytes calls s s' (Err (Outside bit feature)) × (failures s' ≡ failures s)
-JudgedBy took failures bytes calls s s' (Err Memory) = Front took bytes calls s s' × (failures s' ≡ failures s)
-JudgedBy took failures bytes calls s s' (Err Read) = Front took bytes calls s s' × (failures s' ≡ failures s)
-JudgedBy took failures bytes calls s s' (Err Write) = Front took bytes calls s s' × (failures s' ≡ failures s + 1)
+abbrev pub JudgedBy : {S : Type 0} → Mode → (S → List Call → Type 0) → (S → ℕ) → List ℕ → List Call → S → S → Result Summary Stop → Type 0
+JudgedBy mode took failures bytes calls s s' (Ok summary) = Whole mode took bytes calls s s' (Ok summary) × (failures s' ≡ failures s)
+JudgedBy mode took failures bytes calls s s' (Err (No bit rule)) = Whole mode took bytes calls s s' (Err (No bit rule)) × (failures s' ≡ failures s)
+JudgedBy mode took failures bytes calls s s' (Err (Outside bit feature)) = Whole mode took bytes calls s s' (Err (Outside bit feature)) × (failures s' ≡ failures s)
+JudgedBy mode took failures bytes calls s s' (Err Memory) = Front mode took bytes calls s s' × (failures s' ≡ failures s)
+JudgedBy mode took failures bytes calls s s' (Err Read) = Front mode took bytes calls s s' × (failures s' ≡ failures s)
+JudgedBy mode took failures bytes calls s s' (Err Write) = Front mode took bytes calls s s' × (failures s' ≡ failures s + 1)
 
 -- Of this stream, of which a sink has taken these calls, a yes has Holds, a no Breaks, an outside MayStop, and the sink has
 -- then taken exactly the calls up to there; memory, read and write come with the first of them.
-pub record Judged {S : Type 0} (took : S → List Call → Type 0) (failures : S → ℕ) (bytes : List ℕ) (calls : List Call) (s s' : S) (answer : Result Summary Stop) : Type 0 where
-  pub judged : JudgedBy took failures bytes calls s s' answer
+pub record Judged {S : Type 0} (mode : Mode) (took : S → List Call → Type 0) (failures : S → ℕ) (bytes : List ℕ) (calls : List Call) (s s' : S) (answer : Result Summary Stop) : Type 0 where
+  pub judged : JudgedBy mode took failures bytes calls s s' answer

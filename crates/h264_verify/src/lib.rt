@@ -14,6 +14,7 @@ pub mod laws;
 pub mod running;
 pub mod session;
 pub mod sink;
+pub mod slices;
 pub mod source;
 mod unit;
 

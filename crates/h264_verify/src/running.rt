@@ -3,10 +3,11 @@
 
 ghost use Rattle.std.specs.Prelude.{◌≡◌, ℕ, ◌+◌, ◌-◌, ◌*◌, ◌<◌, ◌≤◌, ◌^◌, ◌⊎◌, List, [], ◌∷◌, ◌++◌, length, take, OnOk, OnErr, IfOk, IfErr, Ok, Err, None, Some, IsErrOf, IsTrue, IsFalse};
 ghost use Rattle.std.specs.List.{flat_map};
-ghost use Rattle.h264_verify.specs.Session.{Judges, Fed};
-ghost use Rattle.h264_verify.specs.UnitRules.{judging, start};
+ghost use Rattle.h264_base.specs.declared.mode.Mode.{Mode};
+ghost use Rattle.h264_verify.specs.Session.{Judges};
+ghost use Rattle.h264_verify.specs.Feeding.{FedOn};
+ghost use Rattle.h264_verify.specs.UnitRules.{judging};
 ghost use Rattle.h264_verify.specs.Verdict.{Judged};
-ghost use Rattle.h264_verify.specs.Progress.{fresh};
 
 use crate::judge::Summary;
 use crate::session::Session;
@@ -36,9 +37,9 @@ fn turn<R: Source, S: FrameSink>(
     requires source { R.failures source.old < 2 ^ 64 - 1 }
     requires room { 0 < length piece.old }
     requires runs { session.old.stop ≡ None }
-    ensures more { IfOk result (λ more. IsTrue more → (bytes : List ℕ) (first : _) → Fed judging S.took (R.left source.old) bytes fresh.standing session.old.standing first sink.old → Fed judging S.took (R.left source.new) bytes fresh.standing session.new.standing first sink.new) }
+    ensures more { IfOk result (λ more. IsTrue more → (mode : Mode) (bytes : List ℕ) (first : _) → FedOn mode S.took (R.left source.old) bytes session.old first sink.old → FedOn mode S.took (R.left source.new) bytes session.new first sink.new) }
     ensures end { IfOk result (λ more. IsFalse more → (session.new ≡ session.old) × (sink.new ≡ sink.old) × ((left : List ℕ) → R.left source.old ≡ Some left → left ≡ [])) }
-    ensures stops { IfErr result (λ stop. (bytes : List ℕ) (first : _) → Fed judging S.took (R.left source.old) bytes fresh.standing session.old.standing first sink.old → S.failures sink.old ≡ S.failures first → Judges judging start S.took S.failures bytes first sink.new (Err stop)) }
+    ensures stops { IfErr result (λ stop. (mode : Mode) (bytes : List ℕ) (first : _) → FedOn mode S.took (R.left source.old) bytes session.old first sink.old → S.failures sink.old ≡ S.failures first → Judges (judging mode) [] S.took S.failures bytes first sink.new (Err stop)) }
     ensures kept { OnOk result ((session.new.stop ≡ None) × (S.failures sink.new ≡ S.failures sink.old) × (R.failures source.new ≡ R.failures source.old)) }
     ensures again { (n : ℕ) → R.was_read source.old n → R.was_read source.new (n + 1) }
     ensures read { IsErrOf result Stop.Read → R.failures source.new ≡ R.failures source.old + 1 }
@@ -71,7 +72,7 @@ pub fn run<R: Source, S: FrameSink>(
     requires sink { S.failures sink.old < 2 ^ 64 - 1 }
     requires source { R.failures source.old < 2 ^ 64 - 1 }
     // Yes, no and outside are those of the stream, with the calls up to there; memory, read and write come with the first calls.
-    ensures verdict { (bytes : List ℕ) → R.left source.old ≡ Some bytes → Judged S.took S.failures bytes [] sink.old sink.new result }
+    ensures verdict { (bytes : List ℕ) → R.left source.old ≡ Some bytes → Judged mode S.took S.failures bytes [] sink.old sink.new result }
     ensures read { IsErrOf result Stop.Read → (R.failures source.new ≡ R.failures source.old + 1) ⊎ ((n : ℕ) → R.was_read source.old n → R.was_read source.new (n + 2 ^ 41)) }
     ensures write { IsErrOf result Stop.Write → S.failures sink.new ≡ S.failures sink.old + 1 }
 {
@@ -93,7 +94,7 @@ pub fn run_pieces<S: FrameSink>(
     mode: Mode,
 ) -> Result<Summary, Stop>
     requires { S.failures sink.old < 2 ^ 64 - 1 }
-    ensures { Judged S.took S.failures (flat_map (λ piece. piece.items) pieces.now) [] sink.old sink.new result }
+    ensures { Judged mode S.took S.failures (flat_map (λ piece. piece.items) pieces.now) [] sink.old sink.new result }
 {
     let mut session = Session::new(alloc, mode, Target::Baseline)?;
     for piece in pieces {

@@ -2,15 +2,19 @@
 #![tactic(auto)]
 
 ghost use Rattle.std.specs.Prelude.{◌≡◌, ℕ, ◌+◌, ◌-◌, ◌*◌, ◌<◌, ◌≤◌, ◌^◌, List, [], ◌∷◌, ◌++◌, length, OnOk, OnErr, IfOk, IfErr, Ok, Err, None, drop, IsFalse, IfSome, Some, IsErrOf};
-ghost use Rattle.h264_verify.specs.Session.{Goes, Stops, Finishes};
+ghost use Rattle.h264_verify.specs.Session.{Stops, Finishes};
 ghost use Rattle.h264_verify.specs.UnitRules.{judging};
-ghost use Rattle.h264_verify.specs.Progress.{fresh};
+ghost use Rattle.h264_verify.specs.Progress.{IsFresh};
+ghost use Rattle.h264_base.specs.declared.mode.Mode.{Mode};
 ghost use Rattle.h264_base.specs.Call.{Call};
-ghost use Rattle.h264_verify.specs.Feeding.{WasFed, IsFed};
+ghost use Rattle.h264_verify.specs.History.{History};
+ghost use Rattle.h264_verify.specs.Keeping.{Keeps};
+ghost use Rattle.h264_verify.specs.Feeding.{behind, GoesOn, WasFed, IsFed};
 ghost use Rattle.h264_verify.specs.Verdict.{Judged};
 
 use crate::judge::{State, Summary};
 use crate::sink::FrameSink;
+use crate::slices::no_slices;
 use crate::unit::{judge_end, judge_unit};
 use h264_base::{Mode, Stop, Target};
 use h264_sets::Sets;
@@ -21,6 +25,7 @@ use std::marker::Model;
 /// Bytes up to the end of a unit, and the unit.
 fn feed_some<S: FrameSink>(
     alloc: Global,
+    mode: Mode,
     splitter: &mut Splitter,
     state: &mut State,
     piece: &[u8],
@@ -30,18 +35,20 @@ fn feed_some<S: FrameSink>(
     requires some { 0 < length piece.now }
     requires runs { (splitter.old.stop ≡ None) × IsFalse splitter.old.waiting × IsFalse splitter.old.ended }
     requires counted { state.old.units ≤ splitter.old.at }
+    requires pictures { state.old.slices.pictures ≤ state.old.units }
     ensures within { IfOk result (λ n. (0 < n) × (n ≤ length piece.now)) }
-    ensures goes { IfOk result (λ n. Goes judging S.took (record { split = splitter.old; state = state.old }) (record { split = splitter.new; state = state.new }) piece.now (drop n piece.now) sink.old sink.new) }
+    ensures goes { (before : History) → Keeps before state.old → IfOk result (λ n. GoesOn mode S.took (behind splitter.old before) splitter.new state.new piece.now (drop n piece.now) sink.old sink.new) }
     ensures runs { OnOk result ((splitter.new.stop ≡ None) × IsFalse splitter.new.waiting × IsFalse splitter.new.ended) }
     ensures counted { OnOk result (state.new.units ≤ splitter.new.at) }
+    ensures pictures { OnOk result (state.new.slices.pictures ≤ state.new.units) }
     ensures kept { OnOk result (S.failures sink.new ≡ S.failures sink.old) }
-    ensures stops { IfErr result (Stops judging S.took S.failures (record { split = splitter.old; state = state.old }) piece.now sink.old sink.new) }
+    ensures stops { (before : History) → Keeps before state.old → IfErr result (Stops (judging mode) S.took S.failures (behind splitter.old before) piece.now sink.old sink.new) }
 {
     let n = splitter.push(piece)?;
     match splitter.take_unit() {
         None => Ok(n),
         Some(unit) => {
-            judge_unit(alloc, state, &unit, sink)?;
+            judge_unit(alloc, mode, state, &unit, sink)?;
             Ok(n)
         }
     }
@@ -57,6 +64,7 @@ fn after(piece: &[u8], n: usize) -> &[u8]
 /// All of a piece.
 fn feed_all<S: FrameSink>(
     alloc: Global,
+    mode: Mode,
     splitter: &mut Splitter,
     state: &mut State,
     piece: &[u8],
@@ -65,15 +73,17 @@ fn feed_all<S: FrameSink>(
     requires count { S.failures sink.old < 2 ^ 64 - 1 }
     requires runs { (splitter.old.stop ≡ None) × IsFalse splitter.old.waiting × IsFalse splitter.old.ended }
     requires counted { state.old.units ≤ splitter.old.at }
-    ensures goes { OnOk result (Goes judging S.took (record { split = splitter.old; state = state.old }) (record { split = splitter.new; state = state.new }) piece.now [] sink.old sink.new) }
+    requires pictures { state.old.slices.pictures ≤ state.old.units }
+    ensures goes { (before : History) → Keeps before state.old → OnOk result (GoesOn mode S.took (behind splitter.old before) splitter.new state.new piece.now [] sink.old sink.new) }
     ensures runs { OnOk result ((splitter.new.stop ≡ None) × IsFalse splitter.new.waiting × IsFalse splitter.new.ended) }
     ensures counted { OnOk result (state.new.units ≤ splitter.new.at) }
+    ensures pictures { OnOk result (state.new.slices.pictures ≤ state.new.units) }
     ensures kept { OnOk result (S.failures sink.new ≡ S.failures sink.old) }
-    ensures stops { IfErr result (Stops judging S.took S.failures (record { split = splitter.old; state = state.old }) piece.now sink.old sink.new) }
+    ensures stops { (before : History) → Keeps before state.old → IfErr result (Stops (judging mode) S.took S.failures (behind splitter.old before) piece.now sink.old sink.new) }
 {
     let mut rest = piece;
     while !rest.is_empty() {
-        let n = feed_some(alloc, splitter, state, rest, sink)?;
+        let n = feed_some(alloc, mode, splitter, state, rest, sink)?;
         rest = after(rest, n);
     }
     Ok(())
@@ -82,6 +92,7 @@ fn feed_all<S: FrameSink>(
 /// What is left at the end of the input.
 fn finish_all<S: FrameSink>(
     alloc: Global,
+    mode: Mode,
     splitter: &mut Splitter,
     state: &mut State,
     sink: &mut S,
@@ -89,14 +100,15 @@ fn finish_all<S: FrameSink>(
     requires count { S.failures sink.old < 2 ^ 64 - 1 }
     requires runs { (splitter.old.stop ≡ None) × IsFalse splitter.old.waiting × IsFalse splitter.old.ended }
     requires counted { state.old.units ≤ splitter.old.at }
-    ensures { Finishes judging S.took S.failures (record { split = splitter.old; state = state.old }) sink.old sink.new result }
+    requires pictures { state.old.slices.pictures ≤ state.old.units }
+    ensures { (before : History) → Keeps before state.old → Finishes (judging mode) S.took S.failures (behind splitter.old before) sink.old sink.new result }
 {
     splitter.finish()?;
     match splitter.take_unit() {
-        None => judge_end(state, sink),
+        None => judge_end(mode, state, 8 * splitter.length(), sink),
         Some(unit) => {
-            judge_unit(alloc, state, &unit, sink)?;
-            judge_end(state, sink)
+            judge_unit(alloc, mode, state, &unit, sink)?;
+            judge_end(mode, state, 8 * splitter.length(), sink)
         }
     }
 }
@@ -105,6 +117,7 @@ fn finish_all<S: FrameSink>(
 #[derive(Drop)]
 pub struct Session {
     alloc: Global,
+    mode: Mode,
     splitter: Splitter,
     state: State,
     stop: Option<Stop>,
@@ -115,16 +128,16 @@ impl Model for Session {
 
     ghost Value = { Progress };
 
-    ghost view = { λ s. record { standing = record { split = s.splitter; state = s.state }; stop = s.stop } };
+    ghost view = { λ s. record { mode = s.mode; split = s.splitter; state = s.state; stop = s.stop } };
 
     ghost invariant = { λ s. IsSession s.stop s.splitter s.state };
 }
 
 impl Session {
     /// A session before the first byte. It takes the places of the parameter sets: Memory where they are refused.
-    pub fn new(alloc: Global, _mode: Mode, _target: Target) -> Result<Session, Stop>
-        ensures ok { IfOk result (λ s. s ≡ fresh) }
-        ensures fed { IfOk result (λ s. WasFed s [] []) }
+    pub fn new(alloc: Global, mode: Mode, _target: Target) -> Result<Session, Stop>
+        ensures fresh { IfOk result (λ s. IsFresh s mode) }
+        ensures fed { IfOk result (λ s. WasFed mode s [] []) }
         ensures err { IfErr result (λ e. e ≡ Stop.Memory) }
     {
         let Ok(sets) = Sets::new(alloc) else {
@@ -132,8 +145,13 @@ impl Session {
         };
         Ok(Session {
             alloc,
+            mode,
             splitter: Splitter::new(alloc),
-            state: State { units: 0, sets },
+            state: State {
+                units: 0,
+                sets,
+                slices: no_slices(),
+            },
             stop: None,
         })
     }
@@ -143,14 +161,24 @@ impl Session {
         requires count { S.failures sink.old < 2 ^ 64 - 1 }
         requires runs { self.old.stop ≡ None }
         // However the input goes on, what comes is what the sink was told now and what comes later.
-        ensures goes { OnOk result (Goes judging S.took self.old.standing self.new.standing piece.now [] sink.old sink.new) }
+        ensures goes { (before : History) → Keeps before self.old.state → OnOk result (GoesOn self.old.mode S.took (behind self.old.split before) self.new.split self.new.state piece.now [] sink.old sink.new) }
         ensures going { OnOk result (self.new.stop ≡ None) }
         ensures kept { OnOk result (S.failures sink.new ≡ S.failures sink.old) }
         // The stop is the stream's, or the sink failed, or memory was refused.
-        ensures stops { IfErr result (Stops judging S.took S.failures self.old.standing piece.now sink.old sink.new) }
+        ensures stops { (before : History) → Keeps before self.old.state → IfErr result (Stops (judging self.old.mode) S.took S.failures (behind self.old.split before) piece.now sink.old sink.new) }
         ensures stopped { IfErr result (λ stop. self.new.stop ≡ Some stop) }
+        ensures mode { self.new.mode ≡ self.old.mode }
+        ensures write { IsErrOf result Stop.Write → S.failures sink.new ≡ S.failures sink.old + 1 }
+        ensures no_read { IsErrOf result Stop.Read → ⊥ }
     {
-        match feed_all(self.alloc, &mut self.splitter, &mut self.state, piece, sink) {
+        match feed_all(
+            self.alloc,
+            self.mode,
+            &mut self.splitter,
+            &mut self.state,
+            piece,
+            sink,
+        ) {
             Ok(()) => Ok(()),
             Err(stop) => {
                 self.stop = Some(stop);
@@ -163,11 +191,13 @@ impl Session {
     pub(crate) fn conclude<S: FrameSink>(self, sink: &mut S) -> Result<Summary, Stop>
         requires count { S.failures sink.old < 2 ^ 64 - 1 }
         requires runs { self.stop ≡ None }
-        ensures { Finishes judging S.took S.failures self.standing sink.old sink.new result }
+        ensures finishes { (before : History) → Keeps before self.state → Finishes (judging self.mode) S.took S.failures (behind self.split before) sink.old sink.new result }
+        ensures write { IsErrOf result Stop.Write → S.failures sink.new ≡ S.failures sink.old + 1 }
+        ensures no_read { IsErrOf result Stop.Read → ⊥ }
     {
         let mut splitter = self.splitter;
         let mut state = self.state;
-        finish_all(self.alloc, &mut splitter, &mut state, sink)
+        finish_all(self.alloc, self.mode, &mut splitter, &mut state, sink)
     }
 
     /// Judges the next piece of the input. Err: the stop of the stream, Memory where a growth was refused, Write where the
@@ -175,11 +205,12 @@ impl Session {
     pub fn feed<S: FrameSink>(&mut self, piece: &[u8], sink: &mut S) -> Result<(), Stop>
         requires { S.failures sink.old < 2 ^ 64 - 1 }
         // It was then fed the piece too.
-        ensures fed { (bytes : List ℕ) (calls : List Call) → WasFed self.old bytes calls → OnOk result (IsFed S.took S.failures self.new (bytes ++ piece.now) calls sink.old sink.new) }
+        ensures fed { (mode : Mode) (bytes : List ℕ) (calls : List Call) → WasFed mode self.old bytes calls → OnOk result (IsFed mode S.took S.failures self.new (bytes ++ piece.now) calls sink.old sink.new) }
         // However the input goes on, this is its verdict.
-        ensures stops { (bytes : List ℕ) (calls : List Call) → WasFed self.old bytes calls → IfErr result (λ stop. (later : List ℕ) → Judged S.took S.failures ((bytes ++ piece.now) ++ later) calls sink.old sink.new (Err stop)) }
+        ensures stops { (mode : Mode) (bytes : List ℕ) (calls : List Call) → WasFed mode self.old bytes calls → IfErr result (λ stop. (later : List ℕ) → Judged mode S.took S.failures ((bytes ++ piece.now) ++ later) calls sink.old sink.new (Err stop)) }
         ensures stopped { IfErr result (λ stop. self.new.stop ≡ Some stop) }
         ensures no_read { self.old.stop ≡ None → IsErrOf result Stop.Read → ⊥ }
+        ensures mode { self.new.mode ≡ self.old.mode }
         // A stopped session repeats its stop, and touches no sink.
         ensures again { IfSome self.old.stop (λ stop. (result ≡ Err stop) × (self.new ≡ self.old) × (sink.new ≡ sink.old)) }
     {
@@ -193,7 +224,7 @@ impl Session {
     pub fn finish<S: FrameSink>(self, sink: &mut S) -> Result<Summary, Stop>
         requires { S.failures sink.old < 2 ^ 64 - 1 }
         // The verdict on all that it was fed.
-        ensures verdict { (bytes : List ℕ) (calls : List Call) → WasFed self bytes calls → Judged S.took S.failures bytes calls sink.old sink.new result }
+        ensures verdict { (mode : Mode) (bytes : List ℕ) (calls : List Call) → WasFed mode self bytes calls → Judged mode S.took S.failures bytes calls sink.old sink.new result }
         ensures no_read { self.stop ≡ None → IsErrOf result Stop.Read → ⊥ }
         ensures again { IfSome self.stop (λ stop. (result ≡ Err stop) × (sink.new ≡ sink.old)) }
     {

@@ -2,9 +2,9 @@
 #![tactic(auto)]
 
 ghost use Rattle.std.specs.Prelude.{ℕ, ◌≡◌, ◌+◌, ◌-◌, ◌<◌, ◌^◌, [], ◌∷◌, OnOk, OnErr};
-ghost use Rattle.h264_base.specs.Call.{OfUnit, Tells};
+ghost use Rattle.h264_base.specs.Call.{OfUnit, OfSlice, Tells};
 
-use h264_base::{Elements, Failed};
+use h264_base::{Elements, Failed, SliceType};
 
 /// Takes what a stream consists of, in order.
 pub trait FrameSink: Elements {
@@ -19,6 +19,22 @@ pub trait FrameSink: Elements {
     ) -> Result<(), Failed>
         requires { Self.failures self.old < 2 ^ 64 - 1 }
         ensures ok { OnOk result (Tells Self.took self.old self.new (OfUnit byte nal_unit_type nal_ref_idc length ∷ [])) }
+        ensures kept { OnOk result (Self.failures self.new ≡ Self.failures self.old) }
+        ensures refused { OnErr result (Tells Self.took self.old self.new []) }
+        ensures failed { OnErr result (Self.failures self.new ≡ Self.failures self.old + 1) };
+
+    /// A slice whose rules are met: the byte of the input where its unit begins, first_mb_in_slice, its type, frame_num, and the
+    /// picture order count of its frame.
+    fn slice(
+        &mut self,
+        byte: u64,
+        first_mb_in_slice: u32,
+        slice_type: SliceType,
+        frame_num: u32,
+        count: i32,
+    ) -> Result<(), Failed>
+        requires { Self.failures self.old < 2 ^ 64 - 1 }
+        ensures ok { OnOk result (Tells Self.took self.old self.new (OfSlice byte first_mb_in_slice slice_type frame_num count ∷ [])) }
         ensures kept { OnOk result (Self.failures self.new ≡ Self.failures self.old) }
         ensures refused { OnErr result (Tells Self.took self.old self.new []) }
         ensures failed { OnErr result (Self.failures self.new ≡ Self.failures self.old + 1) };

@@ -1,31 +1,29 @@
 //! One unit.
 #![tactic(auto)]
 
-ghost use Rattle.std.specs.Prelude.{◌≡◌, ℕ, ◌+◌, ◌-◌, ◌*◌, ◌<◌, ◌≤◌, ◌^◌, length, OnOk, IfErr, Ok, Err, slice_index, if◌then◌else◌};
+ghost use Rattle.std.specs.Prelude.{◌≡◌, ℕ, ◌+◌, ◌-◌, ◌*◌, ◌<◌, ◌≤◌, ◌^◌, List, ◌∷◌, length, OnOk, IfOk, IfErr, Ok, Err, slice_index, if◌then◌else◌};
 ghost use Rattle.h264_units.specs.Stream.{past};
-ghost use Rattle.h264_verify.specs.Outcome.{Plays, IsNamed, tells, answers};
-ghost use Rattle.h264_verify.specs.UnitRules.{is_partition, is_always_reference, is_never_reference, fits_kind, header_outcome, unit_call, sps_outcome, pps_outcome, content_outcome, unit_outcome, end_outcome};
+ghost use Rattle.h264_poc.specs.declared.picture.Picture.{Picture};
+ghost use Rattle.h264_verify.specs.Outcome.{Plays, tells, answers};
+ghost use Rattle.h264_verify.specs.Demands.{judged};
+ghost use Rattle.h264_verify.specs.UnitHeader.{header_of, nal_unit_type, nal_ref_idc, is_partition, is_always_reference, is_never_reference, fits_kind, header_demands};
+ghost use Rattle.h264_verify.specs.History.{History, maps_of};
+ghost use Rattle.h264_verify.specs.Keeping.{Keeps, IsKeepable};
+ghost use Rattle.h264_verify.specs.Feeding.{Turns};
+ghost use Rattle.h264_verify.specs.UnitRules.{unit_call, has_pictures, sps_outcome, pps_outcome, slice_outcome, other_outcome, content_outcome, content_judged, unit_outcome, end_outcome};
 
-use crate::judge::{State, Summary};
+use crate::judge::{Content, State, Summary};
 use crate::sink::FrameSink;
-use h264_base::{Failed, Rule, Stop};
+use crate::slices::{check, judge_slice, pass_by};
+use h264_base::{Failed, Feature, Mode, Rule, Stop};
 use h264_bits::Bits;
+use h264_header::{SliceUnit, read_header};
 use h264_pps::read_pps;
 use h264_rbsp::{Rbsp, check_emulation};
+use h264_sets::Sets;
 use h264_sps::read::read_sps;
 use h264_units::NalUnit;
 use std::alloc::Global;
-
-/// Names a rule that is not met.
-fn check(holds: bool, rule: Rule, bit: u64) -> Result<(), Stop>
-    ensures { result ≡ (if holds then Ok tt else Err (Stop.No bit rule)) }
-{
-    if holds {
-        Ok(())
-    } else {
-        Err(Stop::No { bit, rule })
-    }
-}
 
 fn is_partition(kind: u8) -> bool
     ensures { result ≡ is_partition kind }
@@ -61,8 +59,7 @@ fn fits_kind(kind: u8, reference: u8) -> bool
 /// The rules of a unit's first byte.
 fn check_header(from: u64, header: u8) -> Result<(), Stop>
     requires { from ≤ 2 ^ 40 }
-    ensures answers { header_outcome from header ≡ answers result }
-    ensures named { IfErr result IsNamed }
+    ensures { result ≡ judged (header_demands (8 * from) header) }
 {
     let bit = 8 * from;
     let kind = header % 32;
@@ -81,74 +78,167 @@ fn tell_unit<S: FrameSink>(from: u64, header: u8, length: u64, sink: &mut S) -> 
     }
 }
 
-/// Reads a sequence parameter set and keeps it.
-fn judge_sps<S: FrameSink>(
-    alloc: Global,
-    state: &mut State,
-    unit: &NalUnit,
-    sink: &mut S,
-) -> Result<(), Stop>
+/// Reads a sequence parameter set.
+fn read_sps_unit<S: FrameSink>(alloc: Global, unit: &NalUnit, sink: &mut S) -> Result<Content, Stop>
     requires { S.failures sink.old < 2 ^ 64 - 1 }
-    ensures plays { Plays S.took S.failures (λ x. state.new) (sps_outcome state.old unit.now) sink.old sink.new result }
-    ensures units { state.new.units ≡ state.old.units }
+    ensures plays { Plays S.took S.failures (λ x. x) (sps_outcome unit.now) sink.old sink.new result }
+    ensures keepable { IfOk result IsKeepable }
 {
     let rbsp = Rbsp::of(alloc, unit)?;
     let mut bits = Bits::new(&rbsp);
     let set = read_sps(&mut bits, sink)?;
-    state.sets.put_sps(set);
-    Ok(())
+    Ok(Content::OfSps(set))
 }
 
-/// Reads a picture parameter set and keeps it.
-fn judge_pps<S: FrameSink>(
-    alloc: Global,
-    state: &mut State,
-    unit: &NalUnit,
-    sink: &mut S,
-) -> Result<(), Stop>
+/// Reads a picture parameter set.
+fn read_pps_unit<S: FrameSink>(alloc: Global, unit: &NalUnit, sink: &mut S) -> Result<Content, Stop>
     requires { S.failures sink.old < 2 ^ 64 - 1 }
-    ensures plays { Plays S.took S.failures (λ x. state.new) (pps_outcome state.old unit.now) sink.old sink.new result }
-    ensures units { state.new.units ≡ state.old.units }
+    ensures plays { Plays S.took S.failures (λ x. x) (pps_outcome unit.now) sink.old sink.new result }
+    ensures keepable { IfOk result IsKeepable }
 {
     let rbsp = Rbsp::of(alloc, unit)?;
     let mut bits = Bits::new(&rbsp);
     let set = read_pps(&mut bits, sink)?;
-    state.sets.put_pps(set);
-    Ok(())
+    Ok(Content::OfPps(set))
+}
+
+/// Reads the header of a slice of an IDR picture.
+fn read_slice_unit<S: FrameSink>(
+    alloc: Global,
+    reference: u8,
+    sets: &Sets,
+    unit: &NalUnit,
+    sink: &mut S,
+) -> Result<Content, Stop>
+    requires { S.failures sink.old < 2 ^ 64 - 1 }
+    ensures plays { (before : History) → sets.now ≡ maps_of before → reference ≡ nal_ref_idc (header_of unit.now) → Plays S.took S.failures (λ x. x) (slice_outcome before unit.now) sink.old sink.new result }
+    ensures keepable { IfOk result IsKeepable }
+    ensures kept { OnOk result (S.failures sink.new ≡ S.failures sink.old) }
+{
+    let rbsp = Rbsp::of(alloc, unit)?;
+    let mut bits = Bits::new(&rbsp);
+    let slice_unit = SliceUnit {
+        idr_pic_flag: true,
+        nal_ref_idc: reference as u32,
+    };
+    let header = read_header(&mut bits, sets, slice_unit, sink)?;
+    Ok(Content::OfSlice(header))
+}
+
+/// What is in a unit that is no parameter set.
+fn read_other<S: FrameSink>(
+    alloc: Global,
+    mode: Mode,
+    header: u8,
+    sets: &Sets,
+    unit: &NalUnit,
+    sink: &mut S,
+) -> Result<Content, Stop>
+    requires { S.failures sink.old < 2 ^ 64 - 1 }
+    ensures plays { (before : History) → sets.now ≡ maps_of before → header ≡ header_of unit.now → Plays S.took S.failures (λ x. x) (other_outcome mode (nal_unit_type header) before unit.now) sink.old sink.new result }
+    ensures keepable { IfOk result IsKeepable }
+    ensures kept { OnOk result (S.failures sink.new ≡ S.failures sink.old) }
+{
+    match mode {
+        Mode::Units => Ok(Content::Passed),
+        Mode::Headers => {
+            if header % 32 == 5 {
+                return read_slice_unit(alloc, header / 32 % 4, sets, unit, sink);
+            }
+            if header % 32 == 1 {
+                return Err(Stop::Outside {
+                    bit: 8 * unit.from(),
+                    feature: Feature::Pending,
+                });
+            }
+            Ok(Content::Passed)
+        }
+    }
 }
 
 /// What is in a unit of this type.
-fn judge_content<S: FrameSink>(
+fn read_content<S: FrameSink>(
     alloc: Global,
-    kind: u8,
-    state: &mut State,
+    mode: Mode,
+    header: u8,
+    sets: &Sets,
     unit: &NalUnit,
     sink: &mut S,
-) -> Result<(), Stop>
+) -> Result<Content, Stop>
     requires { S.failures sink.old < 2 ^ 64 - 1 }
-    ensures plays { Plays S.took S.failures (λ x. state.new) (content_outcome kind state.old unit.now) sink.old sink.new result }
-    ensures units { state.new.units ≡ state.old.units }
+    ensures plays { (before : History) → sets.now ≡ maps_of before → header ≡ header_of unit.now → Plays S.took S.failures (λ x. x) (content_outcome mode (nal_unit_type header) before unit.now) sink.old sink.new result }
+    ensures keepable { IfOk result IsKeepable }
+    ensures kept { OnOk result (S.failures sink.new ≡ S.failures sink.old) }
 {
-    if kind == 7 {
-        return judge_sps(alloc, state, unit, sink);
+    if header % 32 == 7 {
+        return read_sps_unit(alloc, unit, sink);
     }
-    if kind == 8 {
-        return judge_pps(alloc, state, unit, sink);
+    if header % 32 == 8 {
+        return read_pps_unit(alloc, unit, sink);
     }
-    Ok(())
+    read_other(alloc, mode, header, sets, unit, sink)
+}
+
+/// The rules on what is in a unit, and what it leaves.
+fn judge_content<S: FrameSink>(
+    state: &mut State,
+    kind: u8,
+    unit: &NalUnit,
+    content: Content,
+    sink: &mut S,
+) -> Result<(), Stop>
+    requires room { S.failures sink.old < 2 ^ 64 - 1 }
+    requires units { state.old.units ≤ 2 ^ 40 }
+    requires pictures { state.old.slices.pictures ≤ state.old.units }
+    requires keepable { IsKeepable content }
+    requires kind { kind ≡ nal_unit_type (header_of unit.now) }
+    ensures plays { (before : History) → Keeps before state.old → Plays S.took S.failures (λ x. x) (content_judged before unit.now content) sink.old sink.new result }
+    ensures keeps { (before : History) → Keeps before state.old → OnOk result (Keeps (record { unit = unit.now; content = content } ∷ before) state.new) }
+    ensures counts { OnOk result (state.new.units ≡ state.old.units + 1) }
+    ensures pictures { OnOk result (state.new.slices.pictures ≤ state.new.units) }
+    ensures kept { OnOk result (S.failures sink.new ≡ S.failures sink.old) }
+{
+    match content {
+        Content::OfSps(set) => {
+            state.sets.put_sps(set);
+            pass_by(&mut state.slices, kind);
+            state.units += 1;
+            Ok(())
+        }
+        Content::OfPps(set) => {
+            state.sets.put_pps(set);
+            pass_by(&mut state.slices, kind);
+            state.units += 1;
+            Ok(())
+        }
+        Content::OfSlice(header) => {
+            judge_slice(&mut state.slices, &state.sets, unit, header, sink)?;
+            state.units += 1;
+            Ok(())
+        }
+        Content::Passed => {
+            pass_by(&mut state.slices, kind);
+            state.units += 1;
+            Ok(())
+        }
+    }
 }
 
 /// What comes of a unit.
 pub(crate) fn judge_unit<S: FrameSink>(
     alloc: Global,
+    mode: Mode,
     state: &mut State,
     unit: &NalUnit,
     sink: &mut S,
 ) -> Result<(), Stop>
     requires count { S.failures sink.old < 2 ^ 64 - 1 }
     requires units { state.old.units ≤ 2 ^ 40 }
-    ensures plays { Plays S.took S.failures (λ x. state.new) (unit_outcome state.old unit.now) sink.old sink.new result }
+    requires pictures { state.old.slices.pictures ≤ state.old.units }
+    ensures turns { (before : History) → Keeps before state.old → Turns mode S.took S.failures before unit.now state.new sink.old sink.new result }
     ensures counts { OnOk result (state.new.units ≡ state.old.units + 1) }
+    ensures pictures { OnOk result (state.new.slices.pictures ≤ state.new.units) }
+    ensures kept { OnOk result (S.failures sink.new ≡ S.failures sink.old) }
 {
     check_emulation(unit)?;
     let from = unit.from();
@@ -156,18 +246,34 @@ pub(crate) fn judge_unit<S: FrameSink>(
     let header = body[0];
     check_header(from, header)?;
     tell_unit(from, header, body.len() as u64, sink)?;
-    judge_content(alloc, header % 32, state, unit, sink)?;
-    state.units += 1;
-    Ok(())
+    let content = read_content(alloc, mode, header, &state.sets, unit, sink)?;
+    judge_content(state, header % 32, unit, content, sink)
 }
 
-/// What comes of the end of the input.
-pub(crate) fn judge_end<S: FrameSink>(state: &State, sink: &S) -> Result<Summary, Stop>
-    ensures { (bit : ℕ) → Plays S.took S.failures (λ x. x) (end_outcome state.now bit) sink.now sink.now result }
+/// Whether a stream that is judged so has the pictures that it must have.
+fn has_pictures(mode: Mode, pictures: u64) -> bool
+    ensures { (of : List Picture) → pictures ≡ length of → result ≡ has_pictures mode of }
 {
+    match mode {
+        Mode::Units => true,
+        Mode::Headers => pictures != 0,
+    }
+}
+
+/// What comes of the end of the input, at this bit.
+pub(crate) fn judge_end<S: FrameSink>(
+    mode: Mode,
+    state: &State,
+    bit: u64,
+    sink: &S,
+) -> Result<Summary, Stop>
+    ensures { (before : History) → Keeps before state.now → Plays S.took S.failures (λ x. x) (end_outcome mode before bit) sink.now sink.now result }
+{
+    let pictures = state.slices.pictures;
+    check(has_pictures(mode, pictures), Rule::NoPicture, bit)?;
     Ok(Summary {
         units: state.units,
-        pictures: 0,
+        pictures,
         frames: 0,
     })
 }

@@ -10,14 +10,14 @@ use std::io::Write;
 
 /// What the words ask for.
 enum Request<'a> {
-    /// The units and parameter sets of this file.
-    Units(&'a str),
+    /// To judge this file so far.
+    Judge(Mode, &'a str),
     /// Nothing that there is.
     Fault,
 }
 
 /// The text on standard error for a fault of the words.
-const USAGE: &str = "usage: h264v units FILE\n";
+const USAGE: &str = "usage: h264v units|headers FILE\n";
 
 /// The exit status of a fault of the words, and of a failed device.
 const FAULT: u8 = 64;
@@ -30,7 +30,9 @@ fn asked<'a>(words: &'a [String]) -> Request<'a> {
     match words {
         [_, command, file] => {
             if command.as_str() == "units" {
-                Request::Units(file.as_str())
+                Request::Judge(Mode::Units, file.as_str())
+            } else if command.as_str() == "headers" {
+                Request::Judge(Mode::Headers, file.as_str())
             } else {
                 Request::Fault
             }
@@ -59,26 +61,37 @@ fn put_last<W: Write>(line: &str, out: &mut W, status: u8) -> u8 {
 }
 
 /// Writes the last line of a verdict.
-fn put_verdict<W: Write>(alloc: Global, verdict: Result<Summary, Stop>, out: &mut W) -> u8 {
-    match verdict_line(alloc, verdict) {
+fn put_verdict<W: Write>(
+    alloc: Global,
+    mode: Mode,
+    verdict: Result<Summary, Stop>,
+    out: &mut W,
+) -> u8 {
+    match verdict_line(alloc, mode, verdict) {
         Ok(line) => put_last(line.as_str(), out, status(&verdict)),
         Err(_) => put_last("memory", out, MEMORY),
     }
 }
 
-/// Judges the units and parameter sets of a file.
-fn units<O: Opener, W: Write>(alloc: Global, file: &str, opener: &mut O, out: &mut W) -> u8 {
+/// Judges a file so far.
+fn judge<O: Opener, W: Write>(
+    alloc: Global,
+    mode: Mode,
+    file: &str,
+    opener: &mut O,
+    out: &mut W,
+) -> u8 {
     let Ok(reader) = opener.open(file) else {
-        return put_verdict(alloc, Err(Stop::Read), out);
+        return put_verdict(alloc, mode, Err(Stop::Read), out);
     };
     let mut source = ReadSource::new(reader);
-    let mut sink = LineSink::new(alloc, out);
-    let verdict = run(alloc, &mut source, &mut sink, Mode::Units);
+    let mut sink = LineSink::new(alloc, mode, out);
+    let verdict = run(alloc, &mut source, &mut sink, mode);
     let short = sink.short_of_memory();
     if short {
-        return put_verdict(alloc, Err(Stop::Memory), out);
+        return put_verdict(alloc, mode, Err(Stop::Memory), out);
     }
-    put_verdict(alloc, verdict, out)
+    put_verdict(alloc, mode, verdict, out)
 }
 
 /// Does what the words ask, the program's name first among them, and gives the exit status: 0 yes, 1 no, 2 outside, 3 memory,
@@ -91,7 +104,7 @@ pub fn command<O: Opener, W: Write, E: Write>(
     err: &mut E,
 ) -> u8 {
     match asked(words) {
-        Request::Units(file) => units(alloc, file, opener, out),
+        Request::Judge(mode, file) => judge(alloc, mode, file, opener, out),
         Request::Fault => {
             let _ = err.write_all(USAGE.as_bytes());
             FAULT

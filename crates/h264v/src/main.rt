@@ -6,6 +6,8 @@
 mod command;
 mod files;
 #[cfg(test)]
+mod header_tests;
+#[cfg(test)]
 mod set_tests;
 #[cfg(test)]
 mod stream_tests;

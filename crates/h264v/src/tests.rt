@@ -105,8 +105,18 @@ fn words(alloc: Global, given: &[&str]) -> Result<Vec<String>, Fail> {
 }
 
 /// `units` on bytes that come so, where the read and the write of these numbers fail.
-pub fn units(alloc: Global, mut file: OneFile, failing_write: usize) -> Result<Answer, Fail> {
-    let words = words(alloc, &["h264v", "units", "stream"])?;
+pub fn units(alloc: Global, file: OneFile, failing_write: usize) -> Result<Answer, Fail> {
+    answer_of(alloc, "units", file, failing_write)
+}
+
+/// The same of any command.
+pub fn answer_of(
+    alloc: Global,
+    command_word: &str,
+    mut file: OneFile,
+    failing_write: usize,
+) -> Result<Answer, Fail> {
+    let words = words(alloc, &["h264v", command_word, "stream"])?;
     let mut out = FailsAt {
         text: Vec::new(alloc),
         calls: 0,
@@ -128,16 +138,27 @@ pub fn whole(bytes: &[u8]) -> OneFile<'_> {
     }
 }
 
-/// That the answer to these bytes is this one, whole, byte by byte and at every cut.
+/// That the answer of `units` to these bytes is this one, whole, byte by byte and at every cut.
 pub fn check(
     rt: &(impl Abort + AllocGlobal),
     bytes: &[u8],
     text: &str,
     status: u8,
 ) -> Result<(), Fail> {
-    let answer = units(rt.alloc(), whole(bytes), usize::MAX)?;
-    assert_eq!(rt; answer.text.as_str(), text);
-    assert_eq!(rt; answer.status, status);
+    check_command(rt, "units", bytes, text, status)
+}
+
+/// The same of any command.
+pub fn check_command(
+    rt: &(impl Abort + AllocGlobal),
+    command_word: &str,
+    bytes: &[u8],
+    text: &str,
+    status: u8,
+) -> Result<(), Fail> {
+    let all = answer_of(rt.alloc(), command_word, whole(bytes), usize::MAX)?;
+    assert_eq!(rt; all.text.as_str(), text);
+    assert_eq!(rt; all.status, status);
     for first in 1..bytes.len() {
         for size in [1usize, 4096] {
             let file = OneFile {
@@ -146,9 +167,9 @@ pub fn check(
                 size,
                 failing: usize::MAX,
             };
-            let answer = units(rt.alloc(), file, usize::MAX)?;
-            assert_eq!(rt; answer.text.as_str(), text);
-            assert_eq!(rt; answer.status, status);
+            let cut = answer_of(rt.alloc(), command_word, file, usize::MAX)?;
+            assert_eq!(rt; cut.text.as_str(), text);
+            assert_eq!(rt; cut.status, status);
         }
     }
     Ok(())
@@ -456,7 +477,10 @@ fn faults_of_the_words(rt: HostRuntime) -> Result<(), Fail> {
         );
         assert_eq!(rt; status, 64);
         assert!(rt; out.is_empty());
-        assert_eq!(rt; err.as_slice(), b"usage: h264v units FILE\n".as_slice());
+        assert_eq!(rt;
+            err.as_slice(),
+            b"usage: h264v units|headers FILE\n".as_slice()
+        );
     }
     Ok(())
 }

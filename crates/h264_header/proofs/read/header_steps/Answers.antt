@@ -4,46 +4,46 @@ use Rattle.h264_base.proofs.Steps.{bind, bind_as, stop, done, checked}
 use Rattle.h264_header.specs.Header.{header}
 use Rattle.h264_header.proofs.read.header_steps.Goals as goal
 
-pub returns-in_err-first_mb : goal.returns-in_err-first_mb
+pub returns-in_err-first_mb-clause-meets : goal.returns-in_err-first_mb-clause-meets
 unfolding header
-returns-in_err-first_mb g c = let p = err_from_is_err_and c.from_residual.result c.from_residual.ensures.1 in rw (p.1, p.2) (stop _ c.in_err-first_mb.ensures.meets)
+returns-in_err-first_mb-clause-meets g c = let p = err_from_is_err_and c.from_residual.result c.from_residual.ensures.1 in rw (p.1, p.2) (stop _ c.in_err-first_mb.ensures.meets)
 
-pub returns-in_err-stated : goal.returns-in_err-stated
+pub returns-in_err-stated-clause-meets : goal.returns-in_err-stated-clause-meets
 unfolding header
-returns-in_err-stated g c = let p = err_from_is_err_and c.from_residual-in_err-stated.result c.from_residual-in_err-stated.ensures.1 in rw (p.1, p.2) (bind _ c.in_ok-first_mb.ensures.meets (stop _ c.in_err-stated.ensures))
+returns-in_err-stated-clause-meets g c = let p = err_from_is_err_and c.from_residual-in_err-stated.result c.from_residual-in_err-stated.ensures.1 in rw (p.1, p.2) (bind _ c.in_ok-first_mb.ensures.meets (stop _ c.in_err-stated.ensures))
 
-pub returns-in_err-named : goal.returns-in_err-named
+pub returns-in_err-named-clause-meets : goal.returns-in_err-named-clause-meets
 unfolding header
-returns-in_err-named g c = let p = err_from_is_err_and c.from_residual-in_err-named.result c.from_residual-in_err-named.ensures.1 in rw (p.1, p.2) (bind _ c.in_ok-first_mb.ensures.meets (bind _ c.in_ok-stated.ensures (stop _ c.in_err-named.ensures.meets)))
+returns-in_err-named-clause-meets g c = let p = err_from_is_err_and c.from_residual-in_err-named.result c.from_residual-in_err-named.ensures.1 in rw (p.1, p.2) (bind _ c.in_ok-first_mb.ensures.meets (bind _ c.in_ok-stated.ensures (stop _ c.in_err-named.ensures.meets)))
 
-pub returns-in_err-frame_num : goal.returns-in_err-frame_num
+pub returns-in_err-frame_num-clause-meets : goal.returns-in_err-frame_num-clause-meets
 unfolding header
-returns-in_err-frame_num g c = let p = err_from_is_err_and c.from_residual-in_err-frame_num.result c.from_residual-in_err-frame_num.ensures.1 in rw (p.1, p.2) (bind _ c.in_ok-first_mb.ensures.meets (bind _ c.in_ok-stated.ensures (bind _ c.in_ok-named.ensures.meets (stop _ c.in_err-frame_num.ensures.meets))))
+returns-in_err-frame_num-clause-meets g c = let p = err_from_is_err_and c.from_residual-in_err-frame_num.result c.from_residual-in_err-frame_num.ensures.1 in rw (p.1, p.2) (bind _ c.in_ok-first_mb.ensures.meets (bind _ c.in_ok-stated.ensures (bind _ c.in_ok-named.ensures.meets (stop _ c.in_err-frame_num.ensures.meets))))
 
-pub returns-in_err-idr : goal.returns-in_err-idr
+pub returns-in_err-idr-clause-meets : goal.returns-in_err-idr-clause-meets
 unfolding header
-returns-in_err-idr g c = let p = err_from_is_err_and c.from_residual-in_err-idr.result c.from_residual-in_err-idr.ensures.1 in rw (p.1, p.2) (bind _ c.in_ok-first_mb.ensures.meets (bind _ c.in_ok-stated.ensures (bind _ c.in_ok-named.ensures.meets (bind _ c.in_ok-frame_num.ensures.meets (stop _ c.in_err-idr.ensures)))))
+returns-in_err-idr-clause-meets g c = let p = err_from_is_err_and c.from_residual-in_err-idr.result c.from_residual-in_err-idr.ensures.1 in rw (p.1, p.2) (bind _ c.in_ok-first_mb.ensures.meets (bind _ c.in_ok-stated.ensures (bind _ c.in_ok-named.ensures.meets (bind _ c.in_ok-frame_num.ensures.meets (stop _ c.in_err-idr.ensures)))))
 
-pub returns-in_err-order : goal.returns-in_err-order
+pub returns-in_err-order-clause-meets : goal.returns-in_err-order-clause-meets
 unfolding header
-returns-in_err-order g c = let p = err_from_is_err_and c.from_residual-in_err-order.result c.from_residual-in_err-order.ensures.1 in rw (p.1, p.2) (bind _ c.in_ok-first_mb.ensures.meets (bind _ c.in_ok-stated.ensures (bind _ c.in_ok-named.ensures.meets (bind _ c.in_ok-frame_num.ensures.meets (bind _ c.in_ok-idr.ensures (stop _ c.in_err-order.ensures))))))
+returns-in_err-order-clause-meets g c = let p = err_from_is_err_and c.from_residual-in_err-order.result c.from_residual-in_err-order.ensures.1 in rw (p.1, p.2) (bind _ c.in_ok-first_mb.ensures.meets (bind _ c.in_ok-stated.ensures (bind _ c.in_ok-named.ensures.meets (bind _ c.in_ok-frame_num.ensures.meets (bind _ c.in_ok-idr.ensures (stop _ c.in_err-order.ensures))))))
 
-pub returns-in_err-kind : goal.returns-in_err-kind
+pub returns-in_err-kind-clause-meets : goal.returns-in_err-kind-clause-meets
 unfolding header
-returns-in_err-kind g c = let p = err_from_is_err_and c.from_residual-in_err-kind.result c.from_residual-in_err-kind.ensures.1 in rw (p.1, p.2) (bind _ c.in_ok-first_mb.ensures.meets (bind _ c.in_ok-stated.ensures (bind _ c.in_ok-named.ensures.meets (bind _ c.in_ok-frame_num.ensures.meets (bind _ c.in_ok-idr.ensures (bind _ c.in_ok-order.ensures (stop _ c.in_err-kind.ensures)))))))
+returns-in_err-kind-clause-meets g c = let p = err_from_is_err_and c.from_residual-in_err-kind.result c.from_residual-in_err-kind.ensures.1 in rw (p.1, p.2) (bind _ c.in_ok-first_mb.ensures.meets (bind _ c.in_ok-stated.ensures (bind _ c.in_ok-named.ensures.meets (bind _ c.in_ok-frame_num.ensures.meets (bind _ c.in_ok-idr.ensures (bind _ c.in_ok-order.ensures (stop _ c.in_err-kind.ensures)))))))
 
-pub returns-in_err-marking : goal.returns-in_err-marking
+pub returns-in_err-marking-clause-meets : goal.returns-in_err-marking-clause-meets
 unfolding header
-returns-in_err-marking g c = let p = err_from_is_err_and c.from_residual-in_err-marking.result c.from_residual-in_err-marking.ensures.1 in rw (p.1, p.2) (bind _ c.in_ok-first_mb.ensures.meets (bind _ c.in_ok-stated.ensures (bind _ c.in_ok-named.ensures.meets (bind _ c.in_ok-frame_num.ensures.meets (bind _ c.in_ok-idr.ensures (bind _ c.in_ok-order.ensures (bind _ c.in_ok-kind.ensures (stop _ c.in_err-marking.ensures))))))))
+returns-in_err-marking-clause-meets g c = let p = err_from_is_err_and c.from_residual-in_err-marking.result c.from_residual-in_err-marking.ensures.1 in rw (p.1, p.2) (bind _ c.in_ok-first_mb.ensures.meets (bind _ c.in_ok-stated.ensures (bind _ c.in_ok-named.ensures.meets (bind _ c.in_ok-frame_num.ensures.meets (bind _ c.in_ok-idr.ensures (bind _ c.in_ok-order.ensures (bind _ c.in_ok-kind.ensures (stop _ c.in_err-marking.ensures))))))))
 
-pub returns-in_err-qp : goal.returns-in_err-qp
+pub returns-in_err-qp-clause-meets : goal.returns-in_err-qp-clause-meets
 unfolding header
-returns-in_err-qp g c = let p = err_from_is_err_and c.from_residual-in_err-qp.result c.from_residual-in_err-qp.ensures.1 in rw (p.1, p.2) (bind _ c.in_ok-first_mb.ensures.meets (bind _ c.in_ok-stated.ensures (bind _ c.in_ok-named.ensures.meets (bind _ c.in_ok-frame_num.ensures.meets (bind _ c.in_ok-idr.ensures (bind _ c.in_ok-order.ensures (bind _ c.in_ok-kind.ensures (bind _ c.in_ok-marking.ensures (stop _ c.in_err-qp.ensures.meets)))))))))
+returns-in_err-qp-clause-meets g c = let p = err_from_is_err_and c.from_residual-in_err-qp.result c.from_residual-in_err-qp.ensures.1 in rw (p.1, p.2) (bind _ c.in_ok-first_mb.ensures.meets (bind _ c.in_ok-stated.ensures (bind _ c.in_ok-named.ensures.meets (bind _ c.in_ok-frame_num.ensures.meets (bind _ c.in_ok-idr.ensures (bind _ c.in_ok-order.ensures (bind _ c.in_ok-kind.ensures (bind _ c.in_ok-marking.ensures (stop _ c.in_err-qp.ensures.meets)))))))))
 
-pub returns-in_err-filter : goal.returns-in_err-filter
+pub returns-in_err-filter-clause-meets : goal.returns-in_err-filter-clause-meets
 unfolding header
-returns-in_err-filter g c = let p = err_from_is_err_and c.from_residual-in_err-filter.result c.from_residual-in_err-filter.ensures.1 in rw (p.1, p.2) (bind _ c.in_ok-first_mb.ensures.meets (bind _ c.in_ok-stated.ensures (bind _ c.in_ok-named.ensures.meets (bind _ c.in_ok-frame_num.ensures.meets (bind _ c.in_ok-idr.ensures (bind _ c.in_ok-order.ensures (bind _ c.in_ok-kind.ensures (bind _ c.in_ok-marking.ensures (bind _ c.in_ok-qp.ensures.meets (stop _ c.in_err-filter.ensures))))))))))
+returns-in_err-filter-clause-meets g c = let p = err_from_is_err_and c.from_residual-in_err-filter.result c.from_residual-in_err-filter.ensures.1 in rw (p.1, p.2) (bind _ c.in_ok-first_mb.ensures.meets (bind _ c.in_ok-stated.ensures (bind _ c.in_ok-named.ensures.meets (bind _ c.in_ok-frame_num.ensures.meets (bind _ c.in_ok-idr.ensures (bind _ c.in_ok-order.ensures (bind _ c.in_ok-kind.ensures (bind _ c.in_ok-marking.ensures (bind _ c.in_ok-qp.ensures.meets (stop _ c.in_err-filter.ensures))))))))))
 
-pub returns : goal.returns
+pub returns-clause-meets : goal.returns-clause-meets
 unfolding header
-returns g c = bind _ c.in_ok-first_mb.ensures.meets (bind _ c.in_ok-stated.ensures (bind _ c.in_ok-named.ensures.meets (bind _ c.in_ok-frame_num.ensures.meets (bind _ c.in_ok-idr.ensures (bind _ c.in_ok-order.ensures (bind _ c.in_ok-kind.ensures (bind _ c.in_ok-marking.ensures (bind _ c.in_ok-qp.ensures.meets (bind _ c.in_ok-filter.ensures (done _ _ _ _ _ _ _ refl))))))))))
+returns-clause-meets g c = bind _ c.in_ok-first_mb.ensures.meets (bind _ c.in_ok-stated.ensures (bind _ c.in_ok-named.ensures.meets (bind _ c.in_ok-frame_num.ensures.meets (bind _ c.in_ok-idr.ensures (bind _ c.in_ok-order.ensures (bind _ c.in_ok-kind.ensures (bind _ c.in_ok-marking.ensures (bind _ c.in_ok-qp.ensures.meets (bind _ c.in_ok-filter.ensures (done _ _ _ _ _ _ _ refl))))))))))

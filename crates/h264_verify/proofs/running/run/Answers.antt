@@ -1,20 +1,20 @@
-use Rattle.std.proofs.Common.{arith, refl, ap, ◌∙◌, ◌≡◌, ◌+◌}
+use Rattle.std.proofs.Common.{[], sym, arith, refl, ap, ◌∙◌, ◌≡◌, ◌+◌}
 use Rattle.std.proofs.lemmas.Result.{err_from_is_err_and}
-use Rattle.h264_verify.specs.UnitRules.{judging, start}
-use Rattle.h264_verify.proofs.Sources.{fed-none, fed-read, fed-ends, judges-memory}
-use Rattle.h264_verify.proofs.Verdicts.{judges-judged}
+use Rattle.h264_verify.specs.UnitRules.{judging}
+use Rattle.h264_verify.proofs.Sources.{fed-read, judges-memory}
+use Rattle.h264_verify.proofs.Verdicts.{judges-judged, fed-first, fed-last, fed-as}
 use Rattle.h264_verify.proofs.running.run.Goals as goal
 
 pub returns-in_err-session-clause-verdict : goal.returns-in_err-session-clause-verdict
-returns-in_err-session-clause-verdict g c = let p = err_from_is_err_and c.from_residual.result c.from_residual.ensures.1 in rw (p.1, p.2, c.in_err-session.ensures.err) (λ bytes h. judges-judged _ _ bytes _ _ _ (judges-memory judging start _ _ bytes _))
+returns-in_err-session-clause-verdict g c = let p = err_from_is_err_and c.from_residual.result c.from_residual.ensures.1 in rw (p.1, p.2, c.in_err-session.ensures.err) (λ bytes h. judges-judged c.args.mode _ _ bytes _ _ _ (judges-memory (judging c.args.mode) [] _ _ bytes _))
 
 pub returns-in_err-turn-clause-verdict : goal.returns-in_err-turn-clause-verdict
-returns-in_err-turn-clause-verdict g c = let p = err_from_is_err_and c.from_residual-in_err-turn.result c.from_residual-in_err-turn.ensures.1 in rw (p.1, p.2) (λ bytes h. judges-judged _ _ bytes _ _ _ (c.in_err-turn.ensures.stops bytes _ (c.loop.invariant.fed bytes h) c.loop.invariant.kept))
+returns-in_err-turn-clause-verdict g c = let p = err_from_is_err_and c.from_residual-in_err-turn.result c.from_residual-in_err-turn.ensures.1 in rw (p.1, p.2) (λ bytes h. judges-judged c.args.mode _ _ bytes _ _ _ (c.in_err-turn.ensures.stops c.args.mode bytes _ (fed-as c.in_ok-session.ensures.fresh.mode_is (c.loop.invariant.fed bytes h)) c.loop.invariant.kept))
 
 pub loop-init : goal.loop-init
 loop-init g c = record {
-  fed = λ bytes h. rw c.in_ok-session.ensures.ok (fed-none judging _ _ bytes _ _ h);
-  runs = rw c.in_ok-session.ensures.ok refl;
+  fed = λ bytes h. fed-as (sym c.in_ok-session.ensures.fresh.mode_is) (fed-first c.args.mode _ _ bytes _ _ c.in_ok-session.ensures.fresh h);
+  runs = c.in_ok-session.ensures.fresh.stop;
   kept = refl;
   quiet = refl;
   turns = λ n r. let e : n + 0 ≡ n = omega arith in rw e r;
@@ -28,7 +28,16 @@ returns-then-not-branch-clause-write g c = λ h.
 pub returns-then-not-branch-clause-verdict : goal.returns-then-not-branch-clause-verdict
 returns-then-not-branch-clause-verdict g c = λ bytes h.
     let e = c.in_ok-turn.ensures.end c.if-not-branch.true in
-    judges-judged _ _ bytes _ _ _ (fed-ends judging start _ _ _ bytes _ _ _ _ _ _ _ (ap (λ s. s.standing) e.0) e.1 e.2 (c.loop.invariant.fed bytes h) c.loop.invariant.kept c.conclude.ensures)
+    judges-judged c.args.mode _ _ bytes _ _ _ (fed-last c.args.mode _ _ _ bytes _ _ _ _ _ _ _ e.0 e.1 e.2 (fed-as c.in_ok-session.ensures.fresh.mode_is (c.loop.invariant.fed bytes h)) c.loop.invariant.kept c.conclude.ensures.finishes)
 
 pub returns-clause-verdict : goal.returns-clause-verdict
-returns-clause-verdict g c = λ bytes h. judges-judged _ _ bytes _ _ _ (fed-read judging start _ _ _ bytes _ _ _ (c.loop.invariant.fed bytes h) c.loop.invariant.kept)
+returns-clause-verdict g c = λ bytes h. judges-judged c.args.mode _ _ bytes _ _ _ (fed-read (judging c.args.mode) [] _ _ _ bytes _ _ _ (fed-as c.in_ok-session.ensures.fresh.mode_is (c.loop.invariant.fed bytes h)).fed c.loop.invariant.kept)
+
+pub loop-preserved : goal.loop-preserved
+loop-preserved g c = record {
+  fed = λ bytes h. c.in_ok-turn.ensures.more c.if-not-branch.false c.in_ok-session.session.mode bytes _ (c.loop.invariant.fed bytes h);
+  runs = c.in_ok-turn.ensures.kept.0;
+  kept = c.in_ok-turn.ensures.kept.1 ∙ c.loop.invariant.kept;
+  quiet = c.in_ok-turn.ensures.kept.2 ∙ c.loop.invariant.quiet;
+  turns = λ n r. let e : (n + c.loop.counter) + 1 ≡ n + (c.loop.counter + 1) = omega arith in rw (← e) (c.in_ok-turn.ensures.again (n + c.loop.counter) (c.loop.invariant.turns n r));
+}

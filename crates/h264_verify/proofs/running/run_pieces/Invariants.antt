@@ -1,13 +1,13 @@
 use Rattle.std.proofs.Common.{◌≡◌, None, [], take}
 use Rattle.std.specs.List.{flat_map}
-use Rattle.h264_verify.specs.Session.{Goes}
-use Rattle.h264_verify.specs.UnitRules.{judging}
-use Rattle.h264_verify.specs.Progress.{fresh}
+use Rattle.h264_units.specs.Splitting.{at_start}
+use Rattle.h264_verify.specs.Feeding.{behind, GoesOn}
 use Rattle.h264_verify.proofs.running.run_pieces.Given as goal
 
 abbrev pub invariant-loop-piece : goal.invariant-loop-piece
 invariant-loop-piece g l = record {
-  goes : Goes judging g.S.Elements.took fresh.standing l.session.standing (flat_map (λ piece. piece.items) (take l.piece-index l.pieces)) [] l.initial.sink l.sink;
+  goes : GoesOn l.initial.session.mode g.S.Elements.took (behind at_start []) l.session.split l.session.state (flat_map (λ piece. piece.items) (take l.piece-index l.pieces)) [] l.initial.sink l.sink;
   runs : l.session.stop ≡ None;
+  mode_is : l.session.mode ≡ l.initial.session.mode;
   kept : g.S.Elements.failures l.sink ≡ g.S.Elements.failures l.initial.sink;
 }

@@ -1,45 +1,49 @@
-use Rattle.std.proofs.Common.{ap, sym}
+use Rattle.std.proofs.Common.{ap, sym, [], ◌∷◌, refl, ◌*◌}
 use Rattle.std.proofs.lemmas.Result.{err_from_is_err_and}
 use Rattle.h264_verify.specs.Outcome.{answers}
+use Rattle.h264_verify.specs.UnitHeader.{header_of, header_demands}
 use Rattle.h264_verify.specs.UnitRules.{unit_outcome}
-use Rattle.h264_verify.proofs.Playing.{answer-stops, answer-on, plays-stops, plays-on, gives-plays, named-by}
+use Rattle.h264_verify.proofs.Playing.{answer-stops, answer-on, plays-stops, plays-on, plays-then, named-by}
+use Rattle.h264_verify.proofs.Slicing.{err-named}
 use Rattle.h264_verify.proofs.unit.judge_unit.Goals as goal
 
-pub returns-in_err-check_emulation-clause-plays : goal.returns-in_err-check_emulation-clause-plays
+pub returns-in_err-check_emulation-clause-turns : goal.returns-in_err-check_emulation-clause-turns
 unfolding unit_outcome
-returns-in_err-check_emulation-clause-plays g c =
+returns-in_err-check_emulation-clause-turns g c =
     let p = err_from_is_err_and c.from_residual.result c.from_residual.ensures.1 in
     let n = c.in_err-check_emulation.ensures.err in
-    rw (p.1, p.2) (answer-stops _ _ _ _ _ _ _ (ap answers (sym c.in_err-check_emulation.ensures.value)) (named-by _ _ _ n.1))
+    rw (p.1, p.2) (λ before k. record { after = []; plays = answer-stops _ _ _ _ _ _ _ (ap answers (sym c.in_err-check_emulation.ensures.value)) (named-by _ _ _ n.1); keeps = tt })
 
-pub returns-in_err-check_header-clause-plays : goal.returns-in_err-check_header-clause-plays
+pub returns-in_err-check_header-clause-turns : goal.returns-in_err-check_header-clause-turns
 unfolding unit_outcome
-returns-in_err-check_header-clause-plays g c =
+returns-in_err-check_header-clause-turns g c =
     let p = err_from_is_err_and c.from_residual-in_err-check_header.result c.from_residual-in_err-check_header.ensures.1 in
-    let header = rw (c.from-from.ensures.value, c.body-body.ensures.value) at c.in_err-check_header.ensures.answers in
-    rw (p.1, p.2) (answer-on _ _ _ _ _ _ _ _ _ (ap answers (sym c.in_ok-check_emulation.ensures.value)) (answer-stops _ _ _ _ _ _ _ header c.in_err-check_header.ensures.named))
+    let header = rw (c.from-from.ensures.value, c.body-body.ensures.value) at c.in_err-check_header.ensures in
+    rw (p.1, p.2) (λ before k. record { after = []; plays = answer-on _ _ _ _ _ _ _ _ _ (ap answers (sym c.in_ok-check_emulation.ensures.value)) (answer-stops _ _ _ _ _ _ _ (ap answers (sym header)) (err-named (header_demands (8 * c.args.unit.now.from) (header_of c.args.unit.now)) _ (sym header))); keeps = tt })
 
-pub returns-in_err-tell_unit-clause-plays : goal.returns-in_err-tell_unit-clause-plays
+pub returns-in_err-tell_unit-clause-turns : goal.returns-in_err-tell_unit-clause-turns
 unfolding unit_outcome
-returns-in_err-tell_unit-clause-plays g c =
+returns-in_err-tell_unit-clause-turns g c =
     let p = err_from_is_err_and c.from_residual-in_err-tell_unit.result c.from_residual-in_err-tell_unit.ensures.1 in
-    let header = rw (c.from-from.ensures.value, c.body-body.ensures.value) at c.in_ok-check_header.ensures.answers in
+    let header = rw (c.from-from.ensures.value, c.body-body.ensures.value) at c.in_ok-check_header.ensures in
     let told = rw (c.from-from.ensures.value, c.body-body.ensures.value) at c.in_err-tell_unit.ensures in
-    rw (p.1, p.2) (answer-on _ _ _ _ _ _ _ _ _ (ap answers (sym c.in_ok-check_emulation.ensures.value)) (answer-on _ _ _ _ _ _ _ _ _ header (plays-stops _ _ (λ x. x) _ _ _ _ _ _ told)))
+    rw (p.1, p.2) (λ before k. record { after = []; plays = answer-on _ _ _ _ _ _ _ _ _ (ap answers (sym c.in_ok-check_emulation.ensures.value)) (answer-on _ _ _ _ _ _ _ _ _ (ap answers (sym header)) (plays-stops _ _ (λ x. x) _ _ _ _ _ _ told)); keeps = tt })
 
-pub returns-in_err-judge_content-clause-plays : goal.returns-in_err-judge_content-clause-plays
+pub returns-in_err-content-clause-turns : goal.returns-in_err-content-clause-turns
 unfolding unit_outcome
-returns-in_err-judge_content-clause-plays g c =
-    let p = err_from_is_err_and c.from_residual-in_err-judge_content.result c.from_residual-in_err-judge_content.ensures.1 in
-    let header = rw (c.from-from.ensures.value, c.body-body.ensures.value) at c.in_ok-check_header.ensures.answers in
+returns-in_err-content-clause-turns g c =
+    let p = err_from_is_err_and c.from_residual-in_err-content.result c.from_residual-in_err-content.ensures.1 in
+    let header = rw (c.from-from.ensures.value, c.body-body.ensures.value) at c.in_ok-check_header.ensures in
     let told = rw (c.from-from.ensures.value, c.body-body.ensures.value) at c.in_ok-tell_unit.ensures in
-    let content = rw (c.body-body.ensures.value) at c.in_err-judge_content.ensures.plays in
-    rw (p.1, p.2) (answer-on _ _ _ _ _ _ _ _ _ (ap answers (sym c.in_ok-check_emulation.ensures.value)) (answer-on _ _ _ _ _ _ _ _ _ header (plays-on _ _ (λ x. x) _ _ _ _ _ _ _ _ told (plays-stops _ _ (λ x. c.judge_content.new.state) _ _ _ _ _ _ content))))
+    rw (p.1, p.2) (λ before k. let content = rw (c.body-body.ensures.value) at (c.in_err-content.ensures.plays before k.sets (rw c.body-body.ensures.value refl)) in record { after = []; plays = answer-on _ _ _ _ _ _ _ _ _ (ap answers (sym c.in_ok-check_emulation.ensures.value)) (answer-on _ _ _ _ _ _ _ _ _ (ap answers (sym header)) (plays-on _ _ (λ x. x) _ _ _ _ _ _ _ _ told (plays-stops _ _ (λ x. x) _ _ _ _ _ _ content))); keeps = tt })
 
-pub returns-clause-plays : goal.returns-clause-plays
+pub returns-clause-turns : goal.returns-clause-turns
 unfolding unit_outcome
-returns-clause-plays g c =
-    let header = rw (c.from-from.ensures.value, c.body-body.ensures.value) at c.in_ok-check_header.ensures.answers in
+returns-clause-turns g c =
+    let header = rw (c.from-from.ensures.value, c.body-body.ensures.value) at c.in_ok-check_header.ensures in
     let told = rw (c.from-from.ensures.value, c.body-body.ensures.value) at c.in_ok-tell_unit.ensures in
-    let content = rw (c.body-body.ensures.value) at c.in_ok-judge_content.ensures.plays in
-    answer-on _ _ _ _ _ _ _ _ _ (ap answers (sym c.in_ok-check_emulation.ensures.value)) (answer-on _ _ _ _ _ _ _ _ _ header (plays-on _ _ (λ x. x) _ _ _ _ _ _ _ _ told (plays-on _ _ (λ x. c.judge_content.new.state) _ _ _ _ _ _ _ _ content (gives-plays _ _ _ _ _))))
+    λ before k. let content = rw (c.body-body.ensures.value) at (c.in_ok-content.ensures.plays before k.sets (rw c.body-body.ensures.value refl)) in record {
+      after = record { unit = c.args.unit.now; content = c.in_ok-content.content } ∷ before;
+      plays = answer-on _ _ _ _ _ _ _ _ _ (ap answers (sym c.in_ok-check_emulation.ensures.value)) (answer-on _ _ _ _ _ _ _ _ _ (ap answers (sym header)) (plays-on _ _ (λ x. x) _ _ _ _ _ _ _ _ told (plays-on _ _ (λ x. x) _ _ _ _ _ _ _ _ content (plays-then _ _ _ _ _ _ _ (c.judge_content.ensures.plays before k)))));
+      keeps = c.judge_content.ensures.keeps before k;
+    }
