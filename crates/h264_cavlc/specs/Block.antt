@@ -1,5 +1,5 @@
 -- residual_block_cavlc() (7.3.5.3.2), with the rules on its size (9.2).
-use Rattle.std.specs.Prelude.{ℕ, ◌-◌, ◌==◌, if◌then◌else◌, List, [], replicate, ℤ, pos}
+use Rattle.std.specs.Prelude.{ℕ, ◌-◌, ◌==◌, if◌then◌else◌, List, [], replicate, ℤ, pos, nat_lt, unsigned_abs, count_by}
 use Rattle.h264_base.specs.Grammar.{Grammar, Done, ◌>>=◌}
 use Rattle.h264_bits.specs.Forms.{repeated}
 use Rattle.h264_cavlc.specs.declared.token.Token.{Token}
@@ -12,6 +12,10 @@ use Rattle.h264_cavlc.specs.Place.{by_place}
 pub record Block : Type 0 where
   pub by_place : List ℤ
   pub total : ℕ
+
+-- how many levels are not 0
+unfoldable pub nonzero_count : List ℤ → ℕ
+nonzero_count levels = count_by (λ level. nat_lt 0 (unsigned_abs level)) levels
 
 -- the levels, the first at the highest place
 unfoldable pub all_levels : Token → Grammar (List ℤ)

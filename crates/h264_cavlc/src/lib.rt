@@ -11,7 +11,7 @@ mod level;
 pub mod residual;
 #[cfg(test)]
 mod tests;
-pub mod token;
+mod token;
 mod zeros;
 
 pub use residual::{Levels, block};

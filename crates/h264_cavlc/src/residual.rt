@@ -1,9 +1,9 @@
 //! Residual blocks (7.3.5.3.2).
 #![tactic(auto)]
 
-ghost use Rattle.std.specs.Prelude.{◌≡◌, ℕ, ℤ, ◌-◌, ◌<◌, ◌≤◌, ◌^◌, IfOk, OnOk, take};
+ghost use Rattle.std.specs.Prelude.{◌≡◌, ℕ, ℤ, ◌-◌, ◌*◌, ◌<◌, ◌≤◌, ◌^◌, IfOk, OnOk, length, take};
 ghost use Rattle.h264_base.specs.Meets.{Meets, Is, Answers};
-ghost use Rattle.h264_cavlc.specs.Block.{all_levels, coefficients as coefficients_form, residual_block};
+ghost use Rattle.h264_cavlc.specs.Block.{nonzero_count, all_levels, coefficients as coefficients_form, residual_block};
 
 use crate::level::read_more_levels;
 use crate::token::{Token, read_token, read_trailing_ones};
@@ -48,6 +48,8 @@ fn read_coefficients<const N: usize, S: Elements>(
     requires room { S.failures sink.old < 2 ^ 64 - 1 }
     ensures meets { Meets S.took S.failures (Is (λ b. record { by_place = b.by_place; total = b.total })) (coefficients_form N token) bits.old bits.new sink.old sink.new result }
     ensures total { IfOk result (λ b. b.total ≤ N) }
+    ensures nonzero { IfOk result (λ b. nonzero_count b.by_place ≡ b.total) }
+    ensures inside { bits.old.at ≤ 8 * length bits.old.body.bytes → OnOk result (bits.new.at ≤ 8 * length bits.new.body.bytes) }
     ensures quiet { OnOk result (S.failures sink.new ≡ S.failures sink.old) }
 {
     let levels = read_levels(bits, token, sink)?;
@@ -75,6 +77,8 @@ pub fn block<const N: usize, S: Elements>(
     ensures answers { Answers S.took S.failures (Is (λ b. record { by_place = b.by_place; total = b.total })) (residual_block N nc) bits.old bits.new sink.old sink.new result }
     ensures meets { Meets S.took S.failures (Is (λ b. record { by_place = b.by_place; total = b.total })) (residual_block N nc) bits.old bits.new sink.old sink.new result }
     ensures total { IfOk result (λ b. b.total ≤ N) }
+    ensures nonzero { IfOk result (λ b. nonzero_count b.by_place ≡ b.total) }
+    ensures inside { OnOk result (bits.new.at ≤ 8 * length bits.new.body.bytes) }
     ensures quiet { OnOk result (S.failures sink.new ≡ S.failures sink.old) }
 {
     let token = read_token(bits, N, nc, sink)?;

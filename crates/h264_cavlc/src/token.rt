@@ -1,7 +1,7 @@
 //! coeff_token and the trailing ones (9.2.1, 9.2.2).
 #![tactic(auto)]
 
-ghost use Rattle.std.specs.Prelude.{◌≡◌, ℕ, ℤ, ◌+◌, ◌-◌, ◌<◌, ◌≤◌, ◌^◌, [], IfOk, take};
+ghost use Rattle.std.specs.Prelude.{◌≡◌, ℕ, ℤ, ◌+◌, ◌-◌, ◌*◌, ◌<◌, ◌≤◌, ◌^◌, [], IfOk, OnOk, length, take};
 ghost use Rattle.h264_base.specs.Meets.{Meets, Is};
 ghost use Rattle.h264_bits.specs.Forms.{repeated};
 ghost use Rattle.h264_cavlc.specs.Token as syntax;
@@ -45,6 +45,7 @@ pub(crate) fn read_token<S: Elements>(
     ensures fits { IfOk result (λ t. t.total ≤ size) }
     ensures few { IfOk result (λ t. t.ones ≤ 3) }
     ensures within { IfOk result (λ t. t.ones ≤ t.total) }
+    ensures inside { OnOk result (bits.new.at ≤ 8 * length bits.new.body.bytes) }
 {
     let table = coeff_token_table(size, nc);
     let found = read_word(

@@ -60,6 +60,11 @@ pub struct PicNumModification {
 
 /// What an unused place of a list of modifications holds.
 impl Default for PicNumModification {
+    ghost use Rattle.std.specs.Prelude.{◌≡◌};
+    ghost use Rattle.h264_header.specs.declared.header.Modification.TheVariants.{LongTerm};
+
+    ghost is_default = { λ m. m ≡ record { bit = 0; modification = LongTerm 0 } };
+
     fn default() -> Self {
         PicNumModification {
             bit: 0,

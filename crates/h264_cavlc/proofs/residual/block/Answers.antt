@@ -5,6 +5,7 @@ use Rattle.h264_base.proofs.OneAnswer.{answers}
 use Rattle.h264_cavlc.specs.Block.{residual_block}
 use Rattle.h264_cavlc.proofs.Sizes.{unequal}
 use Rattle.h264_cavlc.proofs.Loops.{quiet-after}
+use Rattle.h264_cavlc.proofs.Counts.{count-none}
 use Rattle.h264_cavlc.proofs.residual.block.Goals as goal
 
 pub returns-in_err-token-clause-meets : goal.returns-in_err-token-clause-meets
@@ -30,3 +31,9 @@ returns-clause-answers g c = answers (returns-clause-meets g c)
 
 pub returns-clause-quiet : goal.returns-clause-quiet
 returns-clause-quiet g c = quiet-after c.read_coefficients.result _ _ _ (kept c.in_ok-token.ensures.meets) c.read_coefficients.ensures.quiet
+
+pub returns-then-token-eq0-clause-nonzero : goal.returns-then-token-eq0-clause-nonzero
+returns-then-token-eq0-clause-nonzero g c = count-none g.row.N
+
+pub returns-clause-inside : goal.returns-clause-inside
+returns-clause-inside g c = c.read_coefficients.ensures.inside c.in_ok-token.ensures.inside

@@ -2,6 +2,9 @@ use Rattle.std.proofs.Common.{refl}
 use Rattle.std.proofs.lemmas.Result.{err_from_is_err_and}
 use Rattle.h264_base.proofs.Steps.{bind, bind_as, stop, done}
 use Rattle.h264_cavlc.specs.Block.{coefficients}
+use Rattle.h264_cavlc.proofs.Gives.{gives-met}
+use Rattle.h264_cavlc.proofs.Counts.{HasCount, gives-count}
+use Rattle.h264_cavlc.proofs.Ends.{met-within}
 use Rattle.h264_cavlc.proofs.residual.read_coefficients.Goals as goal
 
 pub returns-in_err-levels-clause-meets : goal.returns-in_err-levels-clause-meets
@@ -19,3 +22,9 @@ returns-in_err-by_place-clause-meets g c = let p = err_from_is_err_and c.from_re
 pub returns-clause-meets : goal.returns-clause-meets
 unfolding coefficients
 returns-clause-meets g c = bind_as _ c.in_ok-levels.ensures (λ v e. bind _ c.in_ok-zeros.ensures.meets (bind_as _ c.in_ok-by_place.ensures (λ w f. done _ _ _ _ _ _ _ (rw (e, f) refl))))
+
+pub returns-clause-nonzero : goal.returns-clause-nonzero
+returns-clause-nonzero g c = gives-met HasCount (gives-count g.row.N c.args.token c.requires.fits c.requires.within) (returns-clause-meets g c)
+
+pub returns-clause-inside : goal.returns-clause-inside
+returns-clause-inside g c h = met-within h (returns-clause-meets g c)

@@ -3,6 +3,7 @@ use Rattle.std.proofs.lemmas.Result.{err_from_is_err_and}
 use Rattle.h264_base.proofs.Steps.{bind, stop, done, checked}
 use Rattle.h264_cavlc.specs.Token.{coeff_token}
 use Rattle.h264_cavlc.proofs.Tokens.{ones-within}
+use Rattle.h264_cavlc.proofs.Ends.{word-met-within}
 use Rattle.h264_cavlc.proofs.token.read_token.Goals as goal
 
 pub returns-in_err-found-clause-meets : goal.returns-in_err-found-clause-meets
@@ -19,3 +20,6 @@ returns-clause-meets g c = let m = rw c.coeff_token_table-table.ensures at c.in_
 
 pub returns-clause-within : goal.returns-clause-within
 returns-clause-within g c = ones-within _ _ _ c.args.size c.args.nc c.coeff_token_table-table.ensures c.in_ok-found.ensures.meets
+
+pub returns-clause-inside : goal.returns-clause-inside
+returns-clause-inside g c = word-met-within _ _ _ c.in_ok-found.ensures.meets

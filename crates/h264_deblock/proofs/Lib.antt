@@ -1,0 +1,4 @@
+pub mod Signed
+pub mod Lines
+pub mod Groups
+pub mod Local
