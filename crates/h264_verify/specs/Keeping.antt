@@ -9,7 +9,7 @@ use Rattle.h264_header.specs.declared.header.Header.{Header}
 use Rattle.h264_verify.specs.declared.slices.Slices.{Slices}
 use Rattle.h264_verify.specs.declared.slices.OpenPicture.{OpenPicture}
 use Rattle.h264_verify.specs.History.{History, maps_of}
-use Rattle.h264_verify.specs.Slices.{open_slices, last_of, first_flags, newest_idr_of, pictures_of, newest_count}
+use Rattle.h264_verify.specs.Slices.{open_slices, last_of, first_flags, is_idr_due, newest_idr_of, pictures_of, newest_count}
 
 -- the last of these slices, and the marking of the first
 pub record HoldsSlices (slices : List Header) (picture : Option OpenPicture) : Type 0 where
@@ -23,6 +23,7 @@ IsLeft false old new = new ≡ old
 
 pub record KeepsSlices (before : History) (slices : Slices) : Type 0 where
   pub picture : HoldsSlices (open_slices before) slices.picture
+  pub due : slices.due ≡ is_idr_due before
   pub newest_idr : slices.newest_idr ≡ newest_idr_of before
   pub counts : KeepsCounts (pictures_of before) slices.counts
   pub count : slices.count ≡ newest_count (pictures_of before)

@@ -12,7 +12,10 @@ use Rattle.h264_units.specs.Stream.{NalUnit}
 use Rattle.h264_sps.specs.declared.sps.Sps.{Sps}
 use Rattle.h264_sps.specs.declared.count_type.CountType.{CountType}
 use Rattle.h264_sps.specs.declared.count_type.CountType.TheVariants as count_type
+use Rattle.h264_sps.specs.contracts.sps.SpsPartialEq.TheImpl as eq_sps
 use Rattle.h264_pps.specs.declared.Pps.{Pps}
+use Rattle.h264_sets.specs.Sets.{Maps}
+use Rattle.h264_sets.specs.declared.SetPair.{SetPair}
 use Rattle.h264_header.specs.declared.header.Header.{Header}
 use Rattle.h264_header.specs.declared.header.PicOrderCnt.{PicOrderCnt}
 use Rattle.h264_header.specs.declared.header.PicOrderCnt.TheVariants as elements
@@ -180,6 +183,33 @@ changes_id (Some newest) (Some id) = not (newest == id.value)
 abbrev pub is_qp : ℤ → ℤ → Bool
 is_qp init delta = int_le (pos 0) ((pos 26 +ℤ init) +ℤ delta) && int_le ((pos 26 +ℤ init) +ℤ delta) (pos 51)
 
+-- An IDR picture is due at the beginning, and behind an end of sequence or of stream (7.4.1.2.1).
+abbrev pub due_behind : Content → ℕ → Bool → Bool
+due_behind (contents.OfSlice h) kind due = false
+due_behind (contents.OfSps set) kind due = (kind == 10 || kind == 11) || due
+due_behind (contents.OfPps set) kind due = (kind == 10 || kind == 11) || due
+due_behind contents.Passed kind due = (kind == 10 || kind == 11) || due
+
+abbrev pub is_idr_due : History → Bool
+is_idr_due [] = true
+is_idr_due (r ∷ before) = due_behind r.content (nal_unit_type (header_of r.unit)) (is_idr_due before)
+
+-- the sequence parameter set of a pair has this content
+abbrev pub has_content : Sps → Option SetPair → Bool
+has_content sps None = false
+has_content sps (Some pair) = eq_sps.ghosts.eq pair.sps sps
+
+-- that of the pair that the last slice named
+abbrev pub is_active : Maps → Sps → Bool
+is_active maps sps = has_content sps maps.active
+
+-- An IDR picture comes where one is due; only a picture that is an IDR picture changes the sequence parameter set (7.4.1.2.1).
+abbrev pub begin_demands : Bool → Bool → Maps → Sps → ℕ → Header → List Demand
+begin_demands begins due maps sps bit h =
+    record { rule = rule.FirstPicture; bit = bit; met = (not begins || not due) || is_idr h }
+    ∷ record { rule = rule.SetChanged; bit = h.pic_parameter_set_id.bit; met = (begins && is_idr h) || is_active maps sps }
+    ∷ []
+
 -- IDR slices, and all where there are no reference frames, are I; frame_num of an IDR picture is 0 (7.4.3)
 abbrev pub start_demands : Bool → Option ℕ → Sps → Header → List Demand
 start_demands begins newest_idr sps h =
@@ -206,9 +236,14 @@ rules_of begins newest_idr first pictures sets bit h =
     ++ count_demand begins (picture_of sets.1 h ∷ pictures) bit
     ∷ rest_demands begins first sets.0 h
 
+-- the rules on where it stands, which need its sets
+abbrev pub first_demands : Option (Pps × Sps) → Bool → Bool → Maps → ℕ → Header → List Demand
+first_demands None begins due maps bit h = record { rule = rule.NoSet; bit = h.pic_parameter_set_id.bit; met = false } ∷ []
+first_demands (Some sets) begins due maps bit h = begin_demands begins due maps sets.1 bit h
+
 abbrev pub demands_by : Option (Pps × Sps) → History → NalUnit → Header → List Demand
 demands_by None before unit h = record { rule = rule.NoSet; bit = h.pic_parameter_set_id.bit; met = false } ∷ []
-demands_by (Some sets) before unit h = rules_of (begins_at before h) (newest_idr_of before) (first_flags (open_slices before)) (pictures_of before) sets (8 * unit.from) h
+demands_by (Some sets) before unit h = begin_demands (begins_at before h) (is_idr_due before) (maps_of before) sets.1 (8 * unit.from) h ++ rules_of (begins_at before h) (newest_idr_of before) (first_flags (open_slices before)) (pictures_of before) sets (8 * unit.from) h
 
 -- The rules of a slice behind these units, in their order.
 abbrev pub slice_demands : History → NalUnit → Header → List Demand

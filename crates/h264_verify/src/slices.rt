@@ -1,20 +1,20 @@
 //! The slices so far, the pictures that they begin, and the rules that a slice meets beside its own syntax.
 #![tactic(auto)]
 
-ghost use Rattle.std.specs.Prelude.{◌≡◌, ℕ, ◌+◌, ◌-◌, ◌*◌, ◌<◌, ◌≤◌, ◌^◌, true, Some, None, List, [], ◌∷◌, if◌then◌else◌, Ok, Err, pos, ◌+ℤ◌, OnOk, OnErr, IfErr, IfSome, IfOk};
-ghost use Rattle.std.specs.Option.{option_map, option_and_then};
+ghost use Rattle.std.specs.Prelude.{◌≡◌, ℕ, not, ◌&&◌, false, ◌==◌, ◌||◌, ◌+◌, ◌-◌, ◌*◌, ◌<◌, ◌≤◌, ◌^◌, true, Some, None, List, [], ◌∷◌, if◌then◌else◌, Ok, Err, pos, ◌+ℤ◌, OnOk, OnErr, IfErr, IfSome, IfOk};
+ghost use Rattle.std.specs.Option.{is_some, option_map, option_and_then};
 ghost use Rattle.h264_base.specs.declared.stop.Stop.TheVariants.{No};
 ghost use Rattle.h264_base.specs.Call.{OfSlice};
-ghost use Rattle.h264_header.specs.Layout.{has_lengths, has_count_lengths};
+ghost use Rattle.h264_header.specs.Layout.{sets_of, has_lengths, has_count_lengths};
 ghost use Rattle.h264_poc.specs.declared.picture.Picture.{Picture};
 ghost use Rattle.h264_poc.specs.Counts.{Keeps as KeepsCounts};
 ghost use Rattle.h264_verify.specs.Outcome.{Plays, tells};
 ghost use Rattle.h264_verify.specs.Demands.{judged};
-ghost use Rattle.h264_verify.specs.History.{History, maps_of};
+ghost use Rattle.h264_verify.specs.History.{History, maps_with, maps_of};
 ghost use Rattle.h264_verify.specs.Keeping.{KeepsSlices, HoldsSlices, IsLeft};
 ghost use Rattle.h264_verify.specs.UnitRules.{header_judged};
 ghost use Rattle.h264_verify.specs.declared.judge.Content.TheVariants as contents;
-ghost use Rattle.h264_verify.specs.Slices.{is_i, type_of, order_of, picture_of, begins_after, idr_id, flags_by, flags_of, first_flags, same_flags, changes_id, bit_of_id, bit_of_marking, is_qp, start_demands, count_demand, rest_demands, frame_count, newest_count, last_of, slices_behind, ends_picture};
+ghost use Rattle.h264_verify.specs.Slices.{is_i, type_of, order_of, picture_of, begins_after, idr_id, flags_by, flags_of, first_flags, same_flags, changes_id, bit_of_id, bit_of_marking, is_qp, first_demands, start_demands, count_demand, rest_demands, frame_count, newest_count, last_of, slices_behind, ends_picture};
 
 use crate::sink::FrameSink;
 use h264_base::{Failed, Rule, SliceType, Stop};
@@ -47,6 +47,8 @@ pub struct OpenPicture {
 #[derive(Drop)]
 pub struct Slices {
     pub(crate) picture: Option<OpenPicture>,
+    /// An IDR picture is due.
+    pub(crate) due: bool,
     /// idr_pic_id of the newest picture, where it is an IDR picture.
     pub(crate) newest_idr: Option<u32>,
     pub(crate) counts: Counts,
@@ -243,6 +245,50 @@ fn is_qp(init: i32, delta: i32) -> bool
     0 <= qp && qp <= 51
 }
 
+/// Whether the sets of this pic_parameter_set_id are there.
+fn has_sets(sets: &Sets, pic_parameter_set_id: u32) -> bool
+    requires { pic_parameter_set_id ≤ 255 }
+    ensures { result ≡ is_some (sets_of sets.now pic_parameter_set_id) }
+{
+    match named_sets(sets, pic_parameter_set_id) {
+        Some(_) => true,
+        None => false,
+    }
+}
+
+/// Whether a slice may stand where an IDR picture is due or not.
+fn may_begin(begins: bool, due: bool, idr: bool) -> bool
+    ensures { result ≡ ((not begins || not due) || idr) }
+{
+    !begins || !due || idr
+}
+
+/// Whether a slice begins a picture that may change the sequence parameter set.
+fn renews(begins: bool, idr: bool) -> bool
+    ensures { result ≡ (begins && idr) }
+{
+    begins && idr
+}
+
+/// The rules on where a slice stands: whether it may begin a picture here, and with these sets, which become the active ones.
+fn check_begin(
+    begins: bool,
+    due: bool,
+    sets: &mut Sets,
+    bit: u64,
+    header: &Header,
+) -> Result<(), Stop>
+    requires { header.now.pic_parameter_set_id.value ≤ 255 }
+    ensures judged { result ≡ judged (first_demands (sets_of sets.old header.now.pic_parameter_set_id.value) begins due sets.old bit header.now) }
+    ensures activated { OnOk result (sets.new ≡ maps_with sets.old (contents.OfSlice header.now)) }
+{
+    let id = header.pic_parameter_set_id;
+    check(has_sets(sets, id.value), Rule::NoSet, id.bit)?;
+    let idr = header.idr_pic_id.is_some();
+    check(may_begin(begins, due, idr), Rule::FirstPicture, bit)?;
+    sets.activate(id.value, id.bit, renews(begins, idr))
+}
+
 /// The rules on a slice's type, frame_num and idr_pic_id.
 fn check_start(
     begins: bool,
@@ -350,9 +396,11 @@ fn enter(slices: &mut Slices, begins: bool, header: Header)
     ensures slices { (before : List Header) → HoldsSlices before slices.old.picture → begins ≡ begins_after (last_of before) header → HoldsSlices (slices_behind (contents.OfSlice header) 5 before) slices.new.picture }
     ensures newest { slices.new.newest_idr ≡ (if begins then idr_id header.idr_pic_id else slices.old.newest_idr) }
     ensures pictures { slices.new.pictures ≡ (if begins then slices.old.pictures + 1 else slices.old.pictures) }
+    ensures due { slices.new.due ≡ false }
     ensures counts { slices.new.counts ≡ slices.old.counts }
     ensures count { slices.new.count ≡ slices.old.count }
 {
+    slices.due = false;
     if begins {
         slices.pictures += 1;
         slices.newest_idr = idr_id(header.idr_pic_id);
@@ -373,7 +421,7 @@ fn enter(slices: &mut Slices, begins: bool, header: Header)
 /// A slice behind those so far: its rules, what the sink is told of it, and what it leaves.
 pub(crate) fn judge_slice<S: FrameSink>(
     slices: &mut Slices,
-    sets: &Sets,
+    sets: &mut Sets,
     unit: &NalUnit,
     header: Header,
     sink: &mut S,
@@ -381,30 +429,32 @@ pub(crate) fn judge_slice<S: FrameSink>(
     requires room { S.failures sink.old < 2 ^ 64 - 1 }
     requires id { header.pic_parameter_set_id.value ≤ 255 }
     requires pictures { slices.old.pictures < 2 ^ 42 }
-    ensures plays { (before : History) → KeepsSlices before slices.old → sets.now ≡ maps_of before → Plays S.took S.failures (λ x. x) (header_judged before unit.now header) sink.old sink.new result }
-    ensures keeps { (before : History) → KeepsSlices before slices.old → sets.now ≡ maps_of before → OnOk result (KeepsSlices (record { unit = unit.now; content = contents.OfSlice header } ∷ before) slices.new) }
+    ensures plays { (before : History) → KeepsSlices before slices.old → sets.old ≡ maps_of before → Plays S.took S.failures (λ x. x) (header_judged before unit.now header) sink.old sink.new result }
+    ensures keeps { (before : History) → KeepsSlices before slices.old → sets.old ≡ maps_of before → OnOk result (KeepsSlices (record { unit = unit.now; content = contents.OfSlice header } ∷ before) slices.new) }
+    ensures sets { OnOk result (sets.new ≡ maps_with sets.old (contents.OfSlice header)) }
     ensures pictures { OnOk result (slices.new.pictures ≤ slices.old.pictures + 1) }
     ensures kept { OnOk result (S.failures sink.new ≡ S.failures sink.old) }
 {
+    let bit = 8 * unit.from();
+    let begins = begins(&slices.picture, &header);
+    check_begin(begins, slices.due, sets, bit, &header)?;
     let Some(named) = named_sets(sets, header.pic_parameter_set_id.value) else {
         return Err(Stop::No {
             bit: header.pic_parameter_set_id.bit,
             rule: Rule::NoSet,
         });
     };
-    let from = unit.from();
-    let begins = begins(&slices.picture, &header);
     check_start(begins, slices.newest_idr, named.1, &header)?;
     count_picture(
         begins,
         named.1,
         &header,
-        8 * from,
+        bit,
         &mut slices.counts,
         &mut slices.count,
     )?;
     check_rest(begins, first_flags(&slices.picture), named.0, &header)?;
-    tell_slice(from, &header, slices.count, sink)?;
+    tell_slice(unit.from(), &header, slices.count, sink)?;
     enter(slices, begins, header);
     Ok(())
 }
@@ -415,6 +465,7 @@ pub(crate) fn no_slices() -> Slices
 {
     Slices {
         picture: None,
+        due: true,
         newest_idr: None,
         counts: Counts::new(),
         count: None,
@@ -422,11 +473,15 @@ pub(crate) fn no_slices() -> Slices
     }
 }
 
-/// A unit that is no slice ends the picture before it, or does not.
+/// A unit that is no slice ends the picture before it, or does not; behind the end of a sequence an IDR picture is due.
 pub(crate) fn pass_by(slices: &mut Slices, kind: u8)
     ensures picture { IsLeft (ends_picture kind) slices.old.picture slices.new.picture }
-    ensures others { slices.new ≡ record slices.old { picture = slices.new.picture } }
+    ensures due { slices.new.due ≡ ((kind == 10 || kind == 11) || slices.old.due) }
+    ensures others { slices.new ≡ record slices.old { picture = slices.new.picture; due = slices.new.due } }
 {
+    if kind == 10 || kind == 11 {
+        slices.due = true;
+    }
     if 6 <= kind && kind <= 11 {
         slices.picture = None;
     }

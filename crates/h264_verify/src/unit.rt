@@ -212,7 +212,7 @@ fn judge_content<S: FrameSink>(
             Ok(())
         }
         Content::OfSlice(header) => {
-            judge_slice(&mut state.slices, &state.sets, unit, header, sink)?;
+            judge_slice(&mut state.slices, &mut state.sets, unit, header, sink)?;
             state.units += 1;
             Ok(())
         }
