@@ -1,7 +1,7 @@
 #!/usr/bin/env bash
 # kernels.sh [RUNS]: times inter prediction (h264_inter) and the filter of edges (h264_deblock) beside the same algorithms in plain Rust at -O3,
 # for the same processor, in alternating runs, and prints the best time of each kernel, the ratio, and whether both wrote the same samples.
-# The program that calls our kernels (kernels/main.rt) is no crate of the repository: it is proved and built in a throwaway copy.
+# The program that calls our kernels (kernels/main.rt.txt) is no crate of the repository: it is proved and built in a throwaway copy.
 set -eu
 top=$(cd "$(dirname "$0")/.." && pwd)
 work=$(mktemp -d)
@@ -13,7 +13,7 @@ for crate in h264_base h264_tables h264_plane h264_inter h264_deblock; do
     grep "^$crate:" "$top/crates.txt" >> "$work/crates.txt"
 done
 echo "kernels: h264_plane h264_tables h264_inter h264_deblock" >> "$work/crates.txt"
-cp "$top/bench/kernels/main.rt" "$work/crates/kernels/src/main.rt"
+cp "$top/bench/kernels/main.rt.txt" "$work/crates/kernels/src/main.rt"
 (cd "$work/crates/kernels" && rt run > /dev/null)
 rustc -C opt-level=3 -C target-cpu=x86-64-v2 "$top/bench/kernels/kernels.rs" -o "$work/rust"
 python3 - "$work/crates/kernels/out/kernels" "$work/rust" "${1:-5}" <<'PYTHON'
