@@ -44,7 +44,9 @@ pub fn slice_line(
     ensures { IfOk result (λ s. string_bytes s ≡ slice_text byte first_mb_in_slice slice_type frame_num count) }
 {
     let kind = type_text(slice_type);
-    format!(in alloc; "slice {byte} mb {first_mb_in_slice} type {kind} frame {frame_num} count {count}")
+    format!(in alloc;
+        "slice {byte} mb {first_mb_in_slice} type {kind} frame {frame_num} count {count}"
+    )
 }
 
 fn yes_line(alloc: Global, mode: Mode, summary: Summary) -> Result<String, AllocError>

@@ -16,6 +16,8 @@ pub mod session;
 pub mod sink;
 pub mod slices;
 pub mod source;
+#[cfg(test)]
+mod tests;
 mod unit;
 
 pub use judge::Summary;
