@@ -57,7 +57,7 @@ impl FrameSink for Counter {
     }
 }
 
-fn counter() -> Counter {
+fn nothing_told() -> Counter {
     Counter {
         units: 0,
         slices: 0,
@@ -73,7 +73,7 @@ const SUMMARY: Summary = Summary {
 
 #[test]
 fn a_session(rt: HostRuntime) -> Result<(), Fail> {
-    let mut sink = counter();
+    let mut sink = nothing_told();
     let mut session = Session::new(rt.alloc(), Mode::Headers, Target::Baseline)?;
     session.feed(&STREAM[..15], &mut sink)?;
     session.feed(&STREAM[15..], &mut sink)?;
@@ -92,7 +92,7 @@ fn pieces(rt: HostRuntime) -> Result<(), Fail> {
     for piece in [&STREAM[..2], &STREAM[2..30], &STREAM[30..]] {
         pieces.push(Vec::from_slice(alloc, piece)?)?;
     }
-    let mut sink = counter();
+    let mut sink = nothing_told();
     let summary = run_pieces(alloc, pieces.as_slice(), &mut sink, Mode::Headers)?;
     assert_eq!(rt; summary, SUMMARY);
     assert_eq!(rt; sink.slices, 2);
@@ -106,6 +106,8 @@ struct Bytes {
 }
 
 impl Source for Bytes {
+    ghost use Rattle.std.specs.Prelude.{None};
+
     ghost left = { λ _. None };
 
     ghost was_read = { λ _ _. Unit {0} };
@@ -124,7 +126,7 @@ impl Source for Bytes {
 
 #[test]
 fn a_source(rt: HostRuntime) -> Result<(), Fail> {
-    let mut sink = counter();
+    let mut sink = nothing_told();
     let summary = run(rt.alloc(), &mut Bytes { at: 0 }, &mut sink, Mode::Headers)?;
     assert_eq!(rt; summary, SUMMARY);
     let units = run(rt.alloc(), &mut Bytes { at: 0 }, &mut sink, Mode::Units)?;
