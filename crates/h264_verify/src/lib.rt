@@ -1,11 +1,12 @@
 //! The verdict on a stream: what `run` and a `Session` tell a sink, and whether the stream is legal.
 //!
 //! A `Session` takes the bytes in pieces of any size; `run` reads a `Source` to its end. Each unit is judged as soon as its end
-//! is known, in the stated order of checks, and the sink is told each unit and each syntax element.
+//! is known, in the stated order of checks, by the mode: its own rules and the parameter sets, or slice headers too, with the
+//! pictures and counts that they give. The sink is told each unit, each syntax element and each slice.
 //!
-//! Promised, for every byte string and every cutting of it: the answer and the sink's calls are those of the definition in
-//! `specs/`, of which each stream has exactly one; a stopped session repeats its stop and touches no sink; Write comes only
-//! where the sink failed, Read only where the source failed or was read 2^41 times.
+//! Promised, for every byte string and every cutting of it: a yes, a no or an outside is the verdict of `specs/Verdict.antt`, of
+//! which each stream has exactly one, and the sink was told exactly its calls; a stopped session repeats its stop and touches no
+//! sink; Write comes only where the sink failed, Read only where the source failed or was read 2^41 times.
 //! Not promised: that memory suffices.
 #![tactic(auto)]
 
