@@ -1,5 +1,5 @@
 #!/usr/bin/env bash
-# compare.sh STREAM..: builds h264v, and prints for each stream the time of `h264v units` beside those of `md5sum` and `cat` on the same file:
+# compare.sh STREAM..: builds h264v, and prints for each stream the times of `h264v units` and `h264v headers` beside those of `md5sum` and `cat` on the same file:
 # the best of five runs each, the ratios, and h264v's peak memory. Where ffmpeg is installed its single-threaded decoding time is added.
 set -eu
 top=$(cd "$(dirname "$0")/.." && pwd)
@@ -20,10 +20,12 @@ def best(words):
 
 program, *streams = sys.argv[1:]
 for stream in streams:
-    ours, memory = best([program, "units", stream])
     md5, _ = best(["md5sum", stream])
     cat, _ = best(["cat", stream])
-    line = f"{stream}: {os.path.getsize(stream)} bytes, h264v units {ours:.3f} s, {ours / md5:.2f} of md5sum ({md5:.3f} s), {ours / cat:.2f} of cat ({cat:.3f} s), peak {memory} KB"
+    line = f"{stream}: {os.path.getsize(stream)} bytes, md5sum {md5:.3f} s, cat {cat:.3f} s"
+    for mode in ["units", "headers"]:
+        ours, memory = best([program, mode, stream])
+        line += f", h264v {mode} {ours:.3f} s: {ours / md5:.2f} of md5sum, peak {memory} KB"
     if shutil.which("ffmpeg"):
         other, _ = best(["ffmpeg", "-threads", "1", "-i", stream, "-f", "null", "-"])
         line += f", ffmpeg -threads 1 {other:.3f} s"

@@ -13,7 +13,7 @@ pub enum Feature {
     UnitTooLong,
     /// An input of more than 2^40 bytes.
     InputTooLong,
-    /// A slice of a picture that is no IDR picture, whose marking is not judged yet.
+    /// What is read and not judged yet. It stands nowhere in the modes that there are.
     Pending,
 }
 

@@ -42,11 +42,11 @@ stated_type = do
   _ ← check Tool e.bit (is_judged_type (natural e.value))
   Done (record { bit = e.bit; slice_type = type_of (natural e.value); same_in_picture = nat_le 5 (natural e.value) })
 
--- pic_parameter_set_id, and what the sets that it names say of the header
+-- pic_parameter_set_id, and what the sets that it names say of the header; no set has an id above 255
 unfoldable pub named_sets : (ℕ → Option (Pps × Sps)) → Grammar NamedSets
 named_sets sets = do
   e ← element name.PicParameterSetId Unsigned
-  _ ← check Range e.bit (nat_le (natural e.value) 255)
+  _ ← check NoSet e.bit (nat_le (natural e.value) 255)
   _ ← check NoSet e.bit (is_some (option_map layout_of (sets (natural e.value))))
   Done (record { id = found_unsigned e; layout = unwrap_or (option_map layout_of (sets (natural e.value))) no_layout })
 

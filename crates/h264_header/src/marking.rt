@@ -157,7 +157,8 @@ fn read_operation<S: Elements>(
     }
 }
 
-/// The operations up to the 0 that ends them.
+/// The operations up to the 0 that ends them. Apart, so that a header without any does not fill their places.
+#[inline(never)]
 fn read_operations<S: Elements>(
     bits: &mut Bits,
     sink: &mut S,

@@ -77,7 +77,7 @@ fn read_named_sets<S: Elements>(
     ensures id { IfOk result (λ n. n.id.value ≤ 255) }
 {
     let id = read_ue(bits, ElementName::PicParameterSetId, sink)?;
-    check(id.value <= 255, Rule::Range, id.bit)?;
+    check(id.value <= 255, Rule::NoSet, id.bit)?;
     match named_layout(sets, id.value) {
         Some(layout) => Ok(NamedSets { id, layout }),
         None => Err(Stop::No {

@@ -174,7 +174,8 @@ fn read_modification<S: Elements>(
     }
 }
 
-/// The commands up to the one that ends them.
+/// The commands up to the one that ends them. Apart, so that a header without any does not fill their places.
+#[inline(never)]
 fn read_commands<S: Elements>(
     max_frame_num: u32,
     active: u32,

@@ -214,7 +214,7 @@ fn front(rt: HostRuntime) -> Result<(), Fail> {
         ("1 0001011 1", Some((1, RANGE))),
         ("1 00110 000000010000000 0", Some((6, Rule::NoSet))),
         ("1 00110 00000000100000000", Some((6, Rule::NoSet))),
-        ("1 00110 00000000100000001", Some((6, RANGE))),
+        ("1 00110 00000000100000001", Some((6, Rule::NoSet))),
         ("1 00110 1", Some((7, Rule::CodeWord))),
         ("1 00110 1 0001 0 0 0 0", Some((14, Rule::CodeWord))),
     ];

@@ -5,3 +5,5 @@ pub mod Finishing
 pub mod Sources
 pub mod Slicing
 pub mod Verdicts
+pub mod Entering
+pub mod Gaps

@@ -1,6 +1,6 @@
--- How a slice is judged, and what it leaves.
-use Rattle.std.proofs.Common.{OnOk, IsTrue, IsFalse, not, ◌&&◌, ◌⊎◌, inl, inr, IfNone, ◌≡◌, ℕ, ◌+◌, ◌*◌, Bool, true, false, List, [], ◌∷◌, ◌++◌, length, Option, Some, None, Result, Ok, Err, refl, ap, sym, ◌∙◌, subst, arith, suc, ◌==◌, ◌||◌, if◌then◌else◌}
-use Rattle.std.specs.Option.{is_some, option_map, option_and_then}
+-- How a slice is judged.
+use Rattle.std.proofs.Common.{OnOk, IsTrue, IsFalse, not, ◌&&◌, ◌⊎◌, inl, inr, IfNone, ◌≡◌, ℕ, ◌*◌, Bool, true, false, List, [], ◌∷◌, ◌++◌, map, Option, Some, None, Result, Ok, Err, refl, ap, sym, ◌∙◌, subst, ◌||◌, if◌then◌else◌}
+use Rattle.std.specs.Option.{is_some, option_map}
 use Rattle.h264_base.specs.declared.rule.Rule.TheVariants.{NoSet, FirstPicture, SetChanged}
 use Rattle.h264_base.specs.declared.stop.Stop.{Stop}
 use Rattle.h264_base.specs.declared.stop.Stop.TheVariants.{No}
@@ -15,17 +15,17 @@ use Rattle.h264_sets.specs.declared.SetPair.{SetPair}
 use Rattle.h264_header.specs.declared.header.Header.{Header}
 use Rattle.h264_header.specs.Layout.{sets_of}
 use Rattle.h264_poc.specs.declared.picture.Count.{Count}
-use Rattle.h264_poc.specs.Counts.{Keeps as KeepsCounts}
-use Rattle.h264_verify.specs.declared.judge.Content.{Content}
+use Rattle.h264_marking.specs.Frames.{References}
 use Rattle.h264_verify.specs.declared.judge.Content.TheVariants as contents
 use Rattle.h264_verify.specs.declared.slices.Slices.{Slices}
-use Rattle.h264_verify.specs.declared.slices.OpenPicture.{OpenPicture}
+use Rattle.h264_verify.specs.declared.picture.OpenPicture.{OpenPicture}
+use Rattle.h264_verify.specs.declared.picture.Types.{Types}
 use Rattle.h264_verify.specs.Outcome.{answers, tells, Plays, IsNamed}
 use Rattle.h264_verify.specs.Demands.{Demand, judged}
-use Rattle.h264_verify.specs.UnitHeader.{header_of, nal_unit_type}
 use Rattle.h264_verify.specs.History.{History, with_pair, maps_with, maps_of}
-use Rattle.h264_verify.specs.Keeping.{HoldsSlices, IsLeft, KeepsSlices}
-use Rattle.h264_verify.specs.Slices.{has_content, is_active, is_idr, is_idr_due, begin_demands, first_demands, ends_picture, open_slices, begins_after, begins_at, sets_at, picture_of, pictures_of, pictures_with, newest_count, newest_idr_of, idr_id, first_flags, start_demands, count_demand, rest_demands, rules_of, demands_by, slice_demands, frame_count, type_of, slice_call}
+use Rattle.h264_verify.specs.Keeping.{HoldsSlices, KeepsSlices, last_slice, types_by, marking_by, first_of, held_by}
+use Rattle.h264_verify.specs.Pictures.{CodedPicture, is_idr, is_reference, begins_after, begins_at, last_of, open_slices, sets_at, coded_of, coded_with, counted, picture_of, numbering_of, prev_ref_of, entered, closing_demands}
+use Rattle.h264_verify.specs.Slices.{has_content, is_active, is_idr_due, begin_demands, first_demands, newest_count, newest_idr_of, newest_marking, types_of, type_demands, frame_num_demands, id_demand, count_demand, qp_demand, list_of, list_demand, mark_differs_demand, held_before, held_for, rules_of, demands_by, slice_demands, frame_count, type_of, slice_call}
 use Rattle.h264_verify.specs.UnitRules.{header_judged}
 use Rattle.h264_verify.proofs.Playing.{answer-stops, answer-on}
 
@@ -78,99 +78,183 @@ sets-kept maps (Some pair) id = refl
 pub sets-after : (maps new : Maps) (h : Header) (o : Option (Pps × Sps)) → new ≡ maps_with maps (contents.OfSlice h) → sets_of new h.pic_parameter_set_id.value ≡ o → sets_of maps h.pic_parameter_set_id.value ≡ o
 sets-after maps new h o e f = sym (sets-kept maps (pair_of maps h.pic_parameter_set_id.value) h.pic_parameter_set_id.value) ∙ ap (λ m. sets_of m h.pic_parameter_set_id.value) (sym e) ∙ f
 
--- What is kept of the units before a slice.
-module _ (before : History) (unit : NalUnit) (h : Header) (slices : Slices) (maps : Maps) (begins : Bool) (keeps : KeepsSlices before slices) (same : maps ≡ maps_of before) (b : begins ≡ begins_after (option_map (λ o. o.last) slices.picture) h) where
-  pub begins-is : begins ≡ begins_at before h
-  begins-is = b ∙ ap (λ l. begins_after l h) keeps.picture.last
+-- rules at the front of others: the first that is not met, or the answer of the others
+pub stop-at : (ds es : List Demand) (e : Stop) → Err e ≡ judged ds → Err e ≡ judged (ds ++ es)
+stop-at ds es e h = sym (front-err ds es e (sym h))
+
+pub pass-by : (ds es : List Demand) (x : Unit {0}) (r : Result (Unit {0}) Stop) → Ok x ≡ judged ds → r ≡ judged es → r ≡ judged (ds ++ es)
+pass-by ds es x r h k = k ∙ sym (front-ok ds es x (sym h))
+
+-- the picture that may go on, as it is kept
+pub last-is : (slices : List Header) (pictures : List CodedPicture) (o : Option OpenPicture) → HoldsSlices slices pictures o → option_map last_slice o ≡ last_of slices
+last-is slices pictures None h = ap last_of (sym h)
+last-is slices pictures (Some o) h = sym h.last
+
+pub types-are : (slices : List Header) (pictures : List CodedPicture) (o : Option OpenPicture) → HoldsSlices slices pictures o → types_by o ≡ types_of slices
+types-are slices pictures None h = ap types_of (sym h)
+types-are slices pictures (Some o) h = h.types
+
+some-header : (x y : Header) → Some x ≡ Some y → x ≡ y
+some-header x y e = cc
+
+marking-is : (pictures : List CodedPicture) (first : Header) → first_of pictures ≡ Some first → newest_marking pictures ≡ first.marking
+marking-is [] first e = cc
+marking-is (p ∷ pictures) first e = ap (λ h. h.marking) (some-header p.first first e)
+
+differs-as : (begins : Bool) (slices : List Header) (pictures : List CodedPicture) (o : Option OpenPicture) (h : Header) → HoldsSlices slices pictures o → begins ≡ begins_after (last_of slices) h → mark_differs_demand begins (marking_by o) h ≡ mark_differs_demand begins (newest_marking pictures) h
+differs-as begins slices pictures None h e b =
+    let t : begins ≡ true = b ∙ ap (λ s. begins_after (last_of s) h) e in
+    ap (λ x. mark_differs_demand x None h) t ∙ sym (ap (λ x. mark_differs_demand x (newest_marking pictures) h) t)
+differs-as begins slices pictures (Some o) h e b = ap (λ m. mark_differs_demand begins m h) (sym (marking-is pictures o.first e.first))
+
+held-before : (begins : Bool) (slices : List Header) (pictures : List CodedPicture) (h : Header) → begins ≡ begins_after (last_of slices) h → held_by begins slices pictures ≡ held_before begins pictures
+held-before true [] pictures h b = refl
+held-before false [] pictures h b = cc
+held-before true (s ∷ slices) pictures h b = refl
+held-before false (s ∷ slices) pictures h b = refl
+
+held-for : (begins : Bool) (pps : Pps) (sps : Sps) (h : Header) (pictures : List CodedPicture) → (if begins then entered (is_idr h) (prev_ref_of pictures) (numbering_of sps h) (held_before begins pictures) else held_before begins pictures) ≡ held_for begins (pps, sps) h pictures
+held-for true pps sps h pictures = refl
+held-for false pps sps h pictures = refl
+
+-- it begins a picture, as the code finds it
+pub begins-as : (before : History) (h : Header) (slices : Slices) (begins : Bool) → KeepsSlices before false slices → begins ≡ begins_after (option_map last_slice slices.picture) h → begins ≡ begins_at before h
+begins-as before h slices begins keeps b = b ∙ ap (λ l. begins_after l h) (last-is (open_slices before) (coded_of before) slices.picture keeps.picture)
+
+-- the end of the picture before breaks a rule
+pub closes-first : (before : History) (unit : NalUnit) (h : Header) (begins : Bool) (e : Stop) → begins ≡ begins_at before h → Err e ≡ judged (if begins then closing_demands before else []) → judged (slice_demands before unit h) ≡ Err e
+closes-first before unit h begins e b p = front-err (if begins_at before h then closing_demands before else []) (demands_by (sets_at before h) before unit h) e (ap (λ x. judged (if x then closing_demands before else [])) (sym b) ∙ sym p)
+
+-- the rules of a slice from its type on, with what is kept before it
+module _ (before : History) (h : Header) (slices : Slices) (begins : Bool) (pps : Pps) (sps : Sps) (bit : ℕ) (keeps : KeepsSlices before begins slices) (b : begins ≡ begins_at before h) where
+  pub held-is : slices.held ≡ held_before begins (coded_of before)
+  held-is = keeps.held ∙ held-before begins (open_slices before) (coded_of before) h b
+
+  pub held-entered : (if begins then entered (is_idr h) slices.prev_ref_frame_num (numbering_of sps h) slices.held else slices.held) ≡ held_for begins (pps, sps) h (coded_of before)
+  held-entered =
+      ap (λ n. if begins then entered (is_idr h) n (numbering_of sps h) slices.held else slices.held) keeps.prev_ref
+      ∙ ap (λ (w : References). if begins then entered (is_idr h) (prev_ref_of (coded_of before)) (numbering_of sps h) w else w) held-is
+      ∙ held-for begins pps sps h (coded_of before)
+
+  abbrev kept_rest : Option ℕ → References → Option OpenPicture → List Demand
+  kept_rest newest_idr held o =
+      id_demand begins newest_idr h ∷ count_demand begins (picture_of sps h ∷ map counted (coded_of before)) bit ∷ qp_demand pps h ∷ list_demand (list_of h.kind.value (numbering_of sps h) held) ∷ mark_differs_demand begins (marking_by o) h ∷ []
+
+  -- they are those of the definition
+  pub rules-are : (types : Types) (held : References) → types ≡ types_by slices.picture → held ≡ (if begins then entered (is_idr h) slices.prev_ref_frame_num (numbering_of sps h) slices.held else slices.held) → judged (type_demands begins types sps h ++ frame_num_demands begins (is_idr h) (is_reference h) sps.gaps_in_frame_num_value_allowed_flag h.frame_num.bit slices.prev_ref_frame_num (numbering_of sps h) slices.held ++ kept_rest slices.newest_idr held slices.picture) ≡ judged (rules_of begins (open_slices before) (coded_of before) (pps, sps) bit h)
+  rules-are types held t k =
+      ap (λ x. judged (type_demands begins x sps h ++ frame_num_demands begins (is_idr h) (is_reference h) sps.gaps_in_frame_num_value_allowed_flag h.frame_num.bit slices.prev_ref_frame_num (numbering_of sps h) slices.held ++ kept_rest slices.newest_idr held slices.picture)) (t ∙ types-are (open_slices before) (coded_of before) slices.picture keeps.picture)
+      ∙ ap (λ x. judged (type_demands begins (types_of (open_slices before)) sps h ++ frame_num_demands begins (is_idr h) (is_reference h) sps.gaps_in_frame_num_value_allowed_flag h.frame_num.bit x (numbering_of sps h) slices.held ++ kept_rest slices.newest_idr held slices.picture)) keeps.prev_ref
+      ∙ ap (λ x. judged (type_demands begins (types_of (open_slices before)) sps h ++ frame_num_demands begins (is_idr h) (is_reference h) sps.gaps_in_frame_num_value_allowed_flag h.frame_num.bit (prev_ref_of (coded_of before)) (numbering_of sps h) x ++ kept_rest slices.newest_idr held slices.picture)) held-is
+      ∙ ap (λ x. judged (type_demands begins (types_of (open_slices before)) sps h ++ frame_num_demands begins (is_idr h) (is_reference h) sps.gaps_in_frame_num_value_allowed_flag h.frame_num.bit (prev_ref_of (coded_of before)) (numbering_of sps h) (held_before begins (coded_of before)) ++ kept_rest x held slices.picture)) keeps.newest_idr
+      ∙ ap (λ x. judged (type_demands begins (types_of (open_slices before)) sps h ++ frame_num_demands begins (is_idr h) (is_reference h) sps.gaps_in_frame_num_value_allowed_flag h.frame_num.bit (prev_ref_of (coded_of before)) (numbering_of sps h) (held_before begins (coded_of before)) ++ kept_rest (newest_idr_of (coded_of before)) x slices.picture)) (k ∙ held-entered)
+      ∙ ap (λ d. judged (type_demands begins (types_of (open_slices before)) sps h ++ frame_num_demands begins (is_idr h) (is_reference h) sps.gaps_in_frame_num_value_allowed_flag h.frame_num.bit (prev_ref_of (coded_of before)) (numbering_of sps h) (held_before begins (coded_of before)) ++ id_demand begins (newest_idr_of (coded_of before)) h ∷ count_demand begins (picture_of sps h ∷ map counted (coded_of before)) bit ∷ qp_demand pps h ∷ list_demand (list_of h.kind.value (numbering_of sps h) (held_for begins (pps, sps) h (coded_of before))) ∷ d ∷ [])) (differs-as begins (open_slices before) (coded_of before) slices.picture h keeps.picture b)
+
+  -- the first of them that is not met, or the answer of the last
+  abbrev is_judged : Result (Unit {0}) Stop → Type 0
+  is_judged r = r ≡ judged (rules_of begins (open_slices before) (coded_of before) (pps, sps) bit h)
+
+  abbrev frame_num_rules : List Demand
+  frame_num_rules = frame_num_demands begins (is_idr h) (is_reference h) sps.gaps_in_frame_num_value_allowed_flag h.frame_num.bit slices.prev_ref_frame_num (numbering_of sps h) slices.held
+
+  abbrev held_now : References
+  held_now = if begins then entered (is_idr h) slices.prev_ref_frame_num (numbering_of sps h) slices.held else slices.held
+
+  abbrev marking_rule : List Demand
+  marking_rule = mark_differs_demand begins (marking_by slices.picture) h ∷ []
+
+  abbrev list_rules : References → List Demand
+  list_rules held = list_demand (list_of h.kind.value (numbering_of sps h) held) ∷ marking_rule
+
+  abbrev qp_rules : References → List Demand
+  qp_rules held = qp_demand pps h ∷ list_rules held
+
+  abbrev count_rule : Demand
+  count_rule = count_demand begins (picture_of sps h ∷ map counted (coded_of before)) bit
+
+  module _ (types : Types) (t : types ≡ types_by slices.picture) where
+    pub at-type : (e : Stop) → Err e ≡ judged (type_demands begins types sps h) → is_judged (Err e)
+    at-type e p = stop-at (type_demands begins types sps h) (frame_num_rules ++ kept_rest slices.newest_idr held_now slices.picture) e p ∙ rules-are types held_now t refl
+
+    module _ (x : Unit {0}) (typed : Ok x ≡ judged (type_demands begins types sps h)) where
+      pub at-frame-num : (e : Stop) → Err e ≡ judged frame_num_rules → is_judged (Err e)
+      at-frame-num e p = pass-by (type_demands begins types sps h) (frame_num_rules ++ kept_rest slices.newest_idr held_now slices.picture) x (Err e) typed (stop-at frame_num_rules (kept_rest slices.newest_idr held_now slices.picture) e p) ∙ rules-are types held_now t refl
+
+      module _ (y : Unit {0}) (numbered : Ok y ≡ judged frame_num_rules) (held : References) (now : held ≡ held_now) where
+        at-rest : (r : Result (Unit {0}) Stop) → r ≡ judged (kept_rest slices.newest_idr held slices.picture) → is_judged r
+        at-rest r p = pass-by (type_demands begins types sps h) (frame_num_rules ++ kept_rest slices.newest_idr held slices.picture) x r typed (pass-by frame_num_rules (kept_rest slices.newest_idr held slices.picture) y r numbered p) ∙ rules-are types held t now
+
+        pub at-id : (e : Stop) → Err e ≡ judged (id_demand begins slices.newest_idr h ∷ []) → is_judged (Err e)
+        at-id e p = at-rest (Err e) (stop-at (id_demand begins slices.newest_idr h ∷ []) (count_rule ∷ qp_rules held) e p)
+
+        module _ (z : Unit {0}) (changed : Ok z ≡ judged (id_demand begins slices.newest_idr h ∷ [])) where
+          at-counts : (r : Result (Unit {0}) Stop) → r ≡ judged (count_rule ∷ qp_rules held) → is_judged r
+          at-counts r p = at-rest r (pass-by (id_demand begins slices.newest_idr h ∷ []) (count_rule ∷ qp_rules held) z r changed p)
+
+          pub at-count : (e : Stop) → Err e ≡ judged (count_rule ∷ []) → is_judged (Err e)
+          at-count e p = at-counts (Err e) (stop-at (count_rule ∷ []) (qp_rules held) e p)
+
+          module _ (w : Unit {0}) (in-range : Ok w ≡ judged (count_rule ∷ [])) where
+            at-qps : (r : Result (Unit {0}) Stop) → r ≡ judged (qp_rules held) → is_judged r
+            at-qps r p = at-counts r (pass-by (count_rule ∷ []) (qp_rules held) w r in-range p)
+
+            pub at-qp : (e : Stop) → Err e ≡ judged (qp_demand pps h ∷ []) → is_judged (Err e)
+            at-qp e p = at-qps (Err e) (stop-at (qp_demand pps h ∷ []) (list_rules held) e p)
+
+            module _ (v : Unit {0}) (has-qp : Ok v ≡ judged (qp_demand pps h ∷ [])) where
+              at-lists : (r : Result (Unit {0}) Stop) → r ≡ judged (list_rules held) → is_judged r
+              at-lists r p = at-qps r (pass-by (qp_demand pps h ∷ []) (list_rules held) v r has-qp p)
+
+              pub at-list : (e : Stop) → Err e ≡ judged (list_demand (list_of h.kind.value (numbering_of sps h) held) ∷ []) → is_judged (Err e)
+              at-list e p = at-lists (Err e) (stop-at (list_demand (list_of h.kind.value (numbering_of sps h) held) ∷ []) marking_rule e p)
+
+              pub at-marking : (u : Unit {0}) (r : Result (Unit {0}) Stop) → Ok u ≡ judged (list_demand (list_of h.kind.value (numbering_of sps h) held) ∷ []) → r ≡ judged marking_rule → is_judged r
+              at-marking u r p q = at-lists r (pass-by (list_demand (list_of h.kind.value (numbering_of sps h) held) ∷ []) marking_rule u r p q)
+
+-- What is kept before a slice, once the picture before it has ended where it begins one.
+module _ (before : History) (unit : NalUnit) (h : Header) (slices : Slices) (maps : Maps) (begins : Bool) (closed : Unit {0}) (keeps : KeepsSlices before begins slices) (same : maps ≡ maps_of before) (b : begins ≡ begins_at before h) (ends : Ok closed ≡ judged (if begins then closing_demands before else [])) where
+  -- the picture before has ended
+  behind-end : judged (slice_demands before unit h) ≡ judged (demands_by (sets_at before h) before unit h)
+  behind-end = front-ok (if begins_at before h then closing_demands before else []) (demands_by (sets_at before h) before unit h) closed (ap (λ x. judged (if x then closing_demands before else [])) (sym b) ∙ sym ends)
 
   -- its sets are not there
   pub no-set : sets_of maps h.pic_parameter_set_id.value ≡ None → judged (slice_demands before unit h) ≡ Err (No h.pic_parameter_set_id.bit NoSet)
-  no-set e = ap (λ o. judged (demands_by o before unit h)) (ap (λ m. sets_of m h.pic_parameter_set_id.value) (sym same) ∙ e)
+  no-set e = behind-end ∙ ap (λ o. judged (demands_by o before unit h)) (ap (λ m. sets_of m h.pic_parameter_set_id.value) (sym same) ∙ e)
 
   first-as : (o : Option (Pps × Sps)) → sets_of maps h.pic_parameter_set_id.value ≡ o → first_demands (sets_of maps h.pic_parameter_set_id.value) begins slices.due maps (8 * unit.from) h ≡ first_demands o (begins_at before h) (is_idr_due before) (maps_of before) (8 * unit.from) h
   first-as o e =
       ap (λ x. first_demands x begins slices.due maps (8 * unit.from) h) e
-      ∙ ap (λ x. first_demands o x slices.due maps (8 * unit.from) h) begins-is
+      ∙ ap (λ x. first_demands o x slices.due maps (8 * unit.from) h) b
       ∙ ap (λ x. first_demands o (begins_at before h) x maps (8 * unit.from) h) keeps.due
       ∙ ap (λ x. first_demands o (begins_at before h) (is_idr_due before) x (8 * unit.from) h) same
 
-  at-first-by : (o : Option (Pps × Sps)) → sets_at before h ≡ o → (e : Stop) → judged (first_demands o (begins_at before h) (is_idr_due before) (maps_of before) (8 * unit.from) h) ≡ Err e → judged (slice_demands before unit h) ≡ Err e
+  at-first-by : (o : Option (Pps × Sps)) → sets_at before h ≡ o → (e : Stop) → judged (first_demands o (begins_at before h) (is_idr_due before) (maps_of before) (8 * unit.from) h) ≡ Err e → judged (demands_by (sets_at before h) before unit h) ≡ Err e
   at-first-by None n e p = ap (λ o. judged (demands_by o before unit h)) n ∙ p
-  at-first-by (Some sets) n e p = ap (λ o. judged (demands_by o before unit h)) n ∙ front-err (begin_demands (begins_at before h) (is_idr_due before) (maps_of before) sets.1 (8 * unit.from) h) (rules_of (begins_at before h) (newest_idr_of before) (first_flags (open_slices before)) (pictures_of before) sets (8 * unit.from) h) e p
+  at-first-by (Some sets) n e p = ap (λ o. judged (demands_by o before unit h)) n ∙ front-err (begin_demands (begins_at before h) (is_idr_due before) (maps_of before) sets.1 (8 * unit.from) h) (rules_of (begins_at before h) (open_slices before) (coded_of before) sets (8 * unit.from) h) e p
 
   -- where it stands is against a rule
   pub at-first : (e : Stop) → Err e ≡ judged (first_demands (sets_of maps h.pic_parameter_set_id.value) begins slices.due maps (8 * unit.from) h) → judged (slice_demands before unit h) ≡ Err e
-  at-first e p = at-first-by (sets_of maps h.pic_parameter_set_id.value) (ap (λ m. sets_of m h.pic_parameter_set_id.value) (sym same)) e (sym (ap judged (first-as (sets_of maps h.pic_parameter_set_id.value) refl)) ∙ sym p)
+  at-first e p = behind-end ∙ at-first-by (sets_of maps h.pic_parameter_set_id.value) (ap (λ m. sets_of m h.pic_parameter_set_id.value) (sym same)) e (sym (ap judged (first-as (sets_of maps h.pic_parameter_set_id.value) refl)) ∙ sym p)
 
-  module _ (pps : Pps) (sps : Sps) (named : sets_of maps h.pic_parameter_set_id.value ≡ Some (pps, sps)) (first : Unit {0}) (ok : Ok first ≡ judged (first_demands (sets_of maps h.pic_parameter_set_id.value) begins slices.due maps (8 * unit.from) h)) where
-    named-at : sets_at before h ≡ Some (pps, sps)
+  module _ (pps : Pps) (sps : Sps) (named : sets_of maps h.pic_parameter_set_id.value ≡ Some (pps, sps)) where
+    pub named-at : sets_at before h ≡ Some (pps, sps)
     named-at = ap (λ m. sets_of m h.pic_parameter_set_id.value) (sym same) ∙ named
 
-    rules-are : judged (slice_demands before unit h) ≡ judged (rules_of begins slices.newest_idr (option_and_then (λ o. o.flags) slices.picture) (pictures_of before) (pps, sps) (8 * unit.from) h)
-    rules-are =
-        ap (λ o. judged (demands_by o before unit h)) named-at
-        ∙ front-ok (begin_demands (begins_at before h) (is_idr_due before) (maps_of before) sps (8 * unit.from) h) (rules_of (begins_at before h) (newest_idr_of before) (first_flags (open_slices before)) (pictures_of before) (pps, sps) (8 * unit.from) h) first (sym (ap judged (first-as (Some (pps, sps)) named)) ∙ sym ok)
-        ∙ ap (λ x. judged (rules_of x (newest_idr_of before) (first_flags (open_slices before)) (pictures_of before) (pps, sps) (8 * unit.from) h)) (sym begins-is)
-        ∙ ap (λ x. judged (rules_of begins x (first_flags (open_slices before)) (pictures_of before) (pps, sps) (8 * unit.from) h)) (sym keeps.newest_idr)
-        ∙ ap (λ x. judged (rules_of begins slices.newest_idr x (pictures_of before) (pps, sps) (8 * unit.from) h)) (sym keeps.picture.flags)
+    -- where it stands is right
+    pub at-rules : (first : Unit {0}) (r : Result (Unit {0}) Stop) → Ok first ≡ judged (first_demands (sets_of maps h.pic_parameter_set_id.value) begins slices.due maps (8 * unit.from) h) → r ≡ judged (rules_of begins (open_slices before) (coded_of before) (pps, sps) (8 * unit.from) h) → judged (slice_demands before unit h) ≡ r
+    at-rules first r ok p =
+        behind-end
+        ∙ ap (λ o. judged (demands_by o before unit h)) named-at
+        ∙ front-ok (begin_demands (begins_at before h) (is_idr_due before) (maps_of before) sps (8 * unit.from) h) (rules_of (begins_at before h) (open_slices before) (coded_of before) (pps, sps) (8 * unit.from) h) first (sym (ap judged (first-as (Some (pps, sps)) named)) ∙ sym ok)
+        ∙ ap (λ x. judged (rules_of x (open_slices before) (coded_of before) (pps, sps) (8 * unit.from) h)) (sym b)
+        ∙ sym p
 
-    pub at-start : (e : Stop) → Err e ≡ judged (start_demands begins slices.newest_idr sps h) → judged (slice_demands before unit h) ≡ Err e
-    at-start e p = rules-are ∙ front-err (start_demands begins slices.newest_idr sps h) (count_demand begins (picture_of sps h ∷ pictures_of before) (8 * unit.from) ∷ rest_demands begins (option_and_then (λ o. o.flags) slices.picture) pps h) e (sym p)
+    -- the pictures with its own
+    pub coded-are : coded_with begins (Some (pps, sps)) h (coded_of before) ≡ coded_of (record { unit = unit; content = contents.OfSlice h } ∷ before)
+    coded-are = ap (λ x. coded_with x (Some (pps, sps)) h (coded_of before)) b ∙ ap (λ o. coded_with (begins_at before h) o h (coded_of before)) (sym named-at)
 
-    pub at-count : (x : Unit {0}) (e : Stop) → Ok x ≡ judged (start_demands begins slices.newest_idr sps h) → Err e ≡ judged (count_demand begins (picture_of sps h ∷ pictures_of before) (8 * unit.from) ∷ []) → judged (slice_demands before unit h) ≡ Err e
-    at-count x e p q = rules-are ∙ front-ok (start_demands begins slices.newest_idr sps h) (count_demand begins (picture_of sps h ∷ pictures_of before) (8 * unit.from) ∷ rest_demands begins (option_and_then (λ o. o.flags) slices.picture) pps h) x (sym p) ∙ front-err (count_demand begins (picture_of sps h ∷ pictures_of before) (8 * unit.from) ∷ []) (rest_demands begins (option_and_then (λ o. o.flags) slices.picture) pps h) e (sym q)
-
-    pub at-rest : (x y : Unit {0}) (r : Result (Unit {0}) Stop) → Ok x ≡ judged (start_demands begins slices.newest_idr sps h) → Ok y ≡ judged (count_demand begins (picture_of sps h ∷ pictures_of before) (8 * unit.from) ∷ []) → r ≡ judged (rest_demands begins (option_and_then (λ o. o.flags) slices.picture) pps h) → judged (slice_demands before unit h) ≡ r
-    at-rest x y r p q w = rules-are ∙ front-ok (start_demands begins slices.newest_idr sps h) (count_demand begins (picture_of sps h ∷ pictures_of before) (8 * unit.from) ∷ rest_demands begins (option_and_then (λ o. o.flags) slices.picture) pps h) x (sym p) ∙ front-ok (count_demand begins (picture_of sps h ∷ pictures_of before) (8 * unit.from) ∷ []) (rest_demands begins (option_and_then (λ o. o.flags) slices.picture) pps h) y (sym q) ∙ sym w
-
-    pub pictures-are : (if begins then picture_of sps h ∷ pictures_of before else pictures_of before) ≡ pictures_of (record { unit = unit; content = contents.OfSlice h } ∷ before)
-    pictures-are = ap (λ x. if x then picture_of sps h ∷ pictures_of before else pictures_of before) begins-is ∙ ap (λ o. pictures_with (begins_at before h) o h (pictures_of before)) (sym named-at)
-
-    pub call-is : (newest : Option Count) → newest ≡ newest_count (if begins then picture_of sps h ∷ pictures_of before else pictures_of before) → OfSlice unit.from h.first_mb_in_slice.value (type_of h.kind.value) h.frame_num.value (frame_count newest) ≡ slice_call before unit h
-    call-is newest e = ap (λ o. OfSlice unit.from h.first_mb_in_slice.value (type_of h.kind.value) h.frame_num.value (frame_count o)) (e ∙ ap newest_count pictures-are)
-
-    pub slice-keeps : (new : Slices) → HoldsSlices (open_slices (record { unit = unit; content = contents.OfSlice h } ∷ before)) new.picture → new.due ≡ false → new.newest_idr ≡ (if begins then idr_id h.idr_pic_id else slices.newest_idr) → KeepsCounts (if begins then picture_of sps h ∷ pictures_of before else pictures_of before) new.counts → new.count ≡ newest_count (if begins then picture_of sps h ∷ pictures_of before else pictures_of before) → new.pictures ≡ (if begins then slices.pictures + 1 else slices.pictures) → KeepsSlices (record { unit = unit; content = contents.OfSlice h } ∷ before) new
-    slice-keeps new o due id counts count n = record {
-      picture = o;
-      due = due;
-      newest_idr = id ∙ ap (λ x. if begins then idr_id h.idr_pic_id else x) keeps.newest_idr ∙ ap (λ x. if x then idr_id h.idr_pic_id else newest_idr_of before) begins-is;
-      counts = subst (λ ps. KeepsCounts ps new.counts) pictures-are counts;
-      count = count ∙ ap newest_count pictures-are;
-      pictures = n ∙ ap (λ x. if begins then x + 1 else x) keeps.pictures ∙ counted begins ∙ ap length pictures-are;
-    }
-      where
-        one : (k : ℕ) → k + 1 ≡ suc k
-        one k = omega arith
-
-        counted : (x : Bool) → (if x then length (pictures_of before) + 1 else length (pictures_of before)) ≡ length (if x then picture_of sps h ∷ pictures_of before else pictures_of before)
-        counted true = one (length (pictures_of before))
-        counted false = refl
-
--- a unit that is no slice
-abbrev pub IsNoSlice : Content → Type 0
-IsNoSlice (contents.OfSps set) = Unit {0}
-IsNoSlice (contents.OfPps set) = Unit {0}
-IsNoSlice (contents.OfSlice h) = ⊥
-IsNoSlice contents.Passed = Unit {0}
-
-left-holds : (b : Bool) (slices : List Header) (old new : Option OpenPicture) → HoldsSlices slices old → IsLeft b old new → HoldsSlices (if b then [] else slices) new
-left-holds true slices old new h e = rw e (record { last = refl; flags = refl })
-left-holds false slices old new h e = rw e h
-
-pub passed-keeps : (before : History) (unit : NalUnit) (c : Content) (kind : ℕ) (old new : Slices) → IsNoSlice c → kind ≡ nal_unit_type (header_of unit) → KeepsSlices before old → IsLeft (ends_picture kind) old.picture new.picture → new.due ≡ ((kind == 10 || kind == 11) || old.due) → new ≡ record old { picture = new.picture; due = new.due } → KeepsSlices (record { unit = unit; content = c } ∷ before) new
-passed-keeps before unit c kind old new n k keeps left due same = by c n
-  where
-    held : HoldsSlices (if ends_picture (nal_unit_type (header_of unit)) then [] else open_slices before) new.picture
-    held = subst (λ x. HoldsSlices (if ends_picture x then [] else open_slices before) new.picture) k (left-holds (ends_picture kind) (open_slices before) old.picture new.picture keeps.picture left)
-
-    is-due : new.due ≡ ((nal_unit_type (header_of unit) == 10 || nal_unit_type (header_of unit) == 11) || is_idr_due before)
-    is-due = due ∙ ap (λ x. (x == 10 || x == 11) || old.due) k ∙ ap (λ x. (nal_unit_type (header_of unit) == 10 || nal_unit_type (header_of unit) == 11) || x) keeps.due
-
-    by : (c : Content) → IsNoSlice c → KeepsSlices (record { unit = unit; content = c } ∷ before) new
-    by (contents.OfSps set) n = record { picture = held; due = is-due; newest_idr = ap (λ (s : Slices). s.newest_idr) same ∙ keeps.newest_idr; counts = subst (λ (s : Slices). KeepsCounts (pictures_of before) s.counts) (sym same) keeps.counts; count = ap (λ (s : Slices). s.count) same ∙ keeps.count; pictures = ap (λ (s : Slices). s.pictures) same ∙ keeps.pictures }
-    by (contents.OfPps set) n = record { picture = held; due = is-due; newest_idr = ap (λ (s : Slices). s.newest_idr) same ∙ keeps.newest_idr; counts = subst (λ (s : Slices). KeepsCounts (pictures_of before) s.counts) (sym same) keeps.counts; count = ap (λ (s : Slices). s.count) same ∙ keeps.count; pictures = ap (λ (s : Slices). s.pictures) same ∙ keeps.pictures }
-    by (contents.OfSlice h) n = absurd n
-    by contents.Passed n = record { picture = held; due = is-due; newest_idr = ap (λ (s : Slices). s.newest_idr) same ∙ keeps.newest_idr; counts = subst (λ (s : Slices). KeepsCounts (pictures_of before) s.counts) (sym same) keeps.counts; count = ap (λ (s : Slices). s.count) same ∙ keeps.count; pictures = ap (λ (s : Slices). s.pictures) same ∙ keeps.pictures }
+    pub call-is : (newest : Option Count) → newest ≡ newest_count (map counted (coded_with begins (Some (pps, sps)) h (coded_of before))) → OfSlice unit.from h.first_mb_in_slice.value (type_of h.kind.value) h.frame_num.value (frame_count newest) ≡ slice_call before unit h
+    call-is newest e = ap (λ o. OfSlice unit.from h.first_mb_in_slice.value (type_of h.kind.value) h.frame_num.value (frame_count o)) (e ∙ ap (λ l. newest_count (map counted l)) coded-are)
 
 -- what a None ensures, where there is no Some
 pub none-holds : {A : Type 0} {P : Type 0} (o : Option A) → IfNone o P → ((x : A) → o ≡ Some x → ⊥) → P

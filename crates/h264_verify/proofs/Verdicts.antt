@@ -5,12 +5,11 @@ use Rattle.h264_base.specs.declared.mode.Mode.{Mode}
 use Rattle.h264_base.specs.declared.mode.Mode.TheVariants as modes
 use Rattle.h264_base.specs.declared.rule.Rule.{Rule}
 use Rattle.h264_base.specs.declared.rule.Rule.TheVariants.{Emulation}
-use Rattle.h264_base.specs.declared.stop.Feature.TheVariants.{Pending}
 use Rattle.h264_base.specs.declared.stop.Stop.{Stop}
 use Rattle.h264_base.specs.declared.stop.Stop.TheVariants.{No, Outside, Memory, Read, Write}
 use Rattle.h264_base.specs.Call.{Call, Tells, TellsFront}
 use Rattle.h264_base.specs.Body.{Body}
-use Rattle.h264_base.specs.Grammar.{Grammar, ◌>>=◌ as ◌bind◌, Done, Support, Element}
+use Rattle.h264_base.specs.Grammar.{Grammar, ◌>>=◌ as ◌bind◌, Done, Element}
 use Rattle.h264_base.specs.Run.{Run, run, call_of}
 use Rattle.h264_base.proofs.Steps.{then_run, run-bind}
 use Rattle.h264_base.proofs.OneAnswer.{run-says, run-one}
@@ -34,11 +33,12 @@ use Rattle.h264_verify.specs.Demands.{Demand, AreMet, IsFirstUnmet, judged}
 use Rattle.h264_verify.specs.UnitHeader.{header_of, nal_unit_type, header_demands}
 use Rattle.h264_verify.specs.History.{History, ReadUnit, maps_of}
 use Rattle.h264_verify.specs.Keeping.{Keeps}
+use Rattle.h264_verify.specs.Pictures.{closing_at}
 use Rattle.h264_verify.specs.Slices.{slice_demands, slice_call}
-use Rattle.h264_verify.specs.UnitRules.{unit_call, idr_unit, sps_outcome, pps_outcome, slice_outcome, other_outcome, content_outcome, header_judged, content_judged, unit_outcome, end_demands, summary_of, end_outcome, judging}
+use Rattle.h264_verify.specs.UnitRules.{unit_call, is_slice, slice_unit, sps_outcome, pps_outcome, slice_outcome, other_outcome, content_outcome, header_judged, content_judged, unit_outcome, end_demands, summary_of, end_outcome, judging}
 use Rattle.h264_verify.specs.Progress.{Progress, IsFresh}
 use Rattle.h264_verify.specs.Feeding.{behind, GoesOn, FedOn, WasFed, IsFed}
-use Rattle.h264_verify.specs.Verdict.{IsSound, other_content, content, Elements, told, content_demands, content_calls, IsLegal, IsStop, AtUnit, AtElements, AtContent, in_order, AreLegal, Holds, IsStopBehind, AtNext, AtTail, AtEnd, StopsAt, Verdict, Whole, Front, JudgedBy, Judged}
+use Rattle.h264_verify.specs.Verdict.{IsSound, other_content, content, Elements, told, content_demands, content_calls, IsLegal, IsStop, AtUnit, AtPictureEnd, AtElements, AtContent, in_order, AreLegal, Holds, IsStopBehind, AtNext, AtTail, AtEnd, StopsAt, Verdict, Whole, Front, JudgedBy, Judged}
 use Rattle.h264_verify.proofs.Feeding.{with-both, goes-none}
 use Rattle.h264_verify.proofs.Sources.{one-outcome, some-outcome, stops-plays, fed-none, fed-ends}
 
@@ -91,19 +91,14 @@ none-passed : (body : Body) → gives contents.Passed ≡ structure_outcome (Don
 unfolding run
 none-passed body = refl
 
-pending-stops : (bit : ℕ) (body : Body) → (let o : Outcome Content = answers (Err (Outside bit Pending)) in o ≡ structure_outcome (Support Pending bit false (Done contents.Passed)) body)
-unfolding run
-pending-stops bit body = refl
-
 other-is : (mode : Mode) (kind : ℕ) (before : History) (unit : NalUnit) → other_outcome mode kind before unit ≡ structure_outcome (other_content mode kind before unit) (body_of unit)
 unfolding other_outcome slice_outcome
 other-is modes.Units kind before unit = none-passed (body_of unit)
-other-is modes.Headers kind before unit = by (kind == 5) (kind == 1) refl refl
+other-is modes.Headers kind before unit = by (is_slice kind) refl
   where
-    by : (a b : Bool) → (kind == 5) ≡ a → (kind == 1) ≡ b → other_outcome modes.Headers kind before unit ≡ structure_outcome (other_content modes.Headers kind before unit) (body_of unit)
-    by true b e h = choice-is (kind == 5) true _ _ e ∙ structure-content (header (sets_of (maps_of before)) (idr_unit unit)) (body_of unit) contents.OfSlice ∙ ap (λ g. structure_outcome g (body_of unit)) (sym (choice-is (kind == 5) true _ _ e))
-    by false true e h = choice-is (kind == 5) false _ _ e ∙ choice-is (kind == 1) true _ _ h ∙ pending-stops (8 * unit.from) (body_of unit) ∙ ap (λ g. structure_outcome g (body_of unit)) (sym (choice-is (kind == 5) false _ _ e ∙ choice-is (kind == 1) true _ _ h))
-    by false false e h = choice-is (kind == 5) false _ _ e ∙ choice-is (kind == 1) false _ _ h ∙ none-passed (body_of unit) ∙ ap (λ g. structure_outcome g (body_of unit)) (sym (choice-is (kind == 5) false _ _ e ∙ choice-is (kind == 1) false _ _ h))
+    by : (a : Bool) → is_slice kind ≡ a → other_outcome modes.Headers kind before unit ≡ structure_outcome (other_content modes.Headers kind before unit) (body_of unit)
+    by true e = choice-is (is_slice kind) true _ _ e ∙ structure-content (header (sets_of (maps_of before)) (slice_unit unit)) (body_of unit) contents.OfSlice ∙ ap (λ g. structure_outcome g (body_of unit)) (sym (choice-is (is_slice kind) true _ _ e))
+    by false e = choice-is (is_slice kind) false _ _ e ∙ none-passed (body_of unit) ∙ ap (λ g. structure_outcome g (body_of unit)) (sym (choice-is (is_slice kind) false _ _ e))
 
 content-is : (mode : Mode) (kind : ℕ) (before : History) (unit : NalUnit) → content_outcome mode kind before unit ≡ structure_outcome (content mode kind before unit) (body_of unit)
 unfolding content_outcome sps_outcome pps_outcome content
@@ -119,16 +114,17 @@ abbrev after_elements : History → NalUnit → Run Content → Outcome History
 after_elements before unit r = run_outcome (body_of unit) r >>= λ c. content_judged before unit c >>= λ _. gives (record { unit = unit; content = c } ∷ before)
 
 -- what comes of a unit, by what its rules and its content give
-by-parts : (mode : Mode) (before : History) (unit : NalUnit) (e h : Result (Unit {0}) Stop) (r : Run Content) → emulation_checked unit.from unit.body ≡ e → judged (header_demands (8 * unit.from) (header_of unit)) ≡ h → run (content mode (nal_unit_type (header_of unit)) before unit) (body_of unit) 0 ≡ r → unit_outcome mode before unit ≡ (answers e >>= λ _. answers h >>= λ _. tells (unit_call unit.from (header_of unit) (length unit.body)) >>= λ _. after_elements before unit r)
+by-parts : (mode : Mode) (before : History) (unit : NalUnit) (e h k : Result (Unit {0}) Stop) (r : Run Content) → emulation_checked unit.from unit.body ≡ e → judged (header_demands (8 * unit.from) (header_of unit)) ≡ h → judged (closing_at (nal_unit_type (header_of unit)) before) ≡ k → run (content mode (nal_unit_type (header_of unit)) before unit) (body_of unit) 0 ≡ r → unit_outcome mode before unit ≡ (answers e >>= λ _. answers h >>= λ _. tells (unit_call unit.from (header_of unit) (length unit.body)) >>= λ _. answers k >>= λ _. after_elements before unit r)
 unfolding unit_outcome
-by-parts mode before unit e h r p q w =
-    ap (λ e'. answers e' >>= λ _. answers (judged (header_demands (8 * unit.from) (header_of unit))) >>= λ _. tells (unit_call unit.from (header_of unit) (length unit.body)) >>= λ _. content_outcome mode (nal_unit_type (header_of unit)) before unit >>= λ c. content_judged before unit c >>= λ _. gives (record { unit = unit; content = c } ∷ before)) p
-    ∙ ap (λ h'. answers e >>= λ _. answers h' >>= λ _. tells (unit_call unit.from (header_of unit) (length unit.body)) >>= λ _. content_outcome mode (nal_unit_type (header_of unit)) before unit >>= λ c. content_judged before unit c >>= λ _. gives (record { unit = unit; content = c } ∷ before)) q
-    ∙ ap (λ (o : Outcome Content). answers e >>= λ _. answers h >>= λ _. tells (unit_call unit.from (header_of unit) (length unit.body)) >>= λ _. o >>= λ c. content_judged before unit c >>= λ _. gives (record { unit = unit; content = c } ∷ before)) (content-is mode (nal_unit_type (header_of unit)) before unit ∙ ap (λ r'. run_outcome (body_of unit) r') w)
+by-parts mode before unit e h k r p q v w =
+    ap (λ e'. answers e' >>= λ _. answers (judged (header_demands (8 * unit.from) (header_of unit))) >>= λ _. tells (unit_call unit.from (header_of unit) (length unit.body)) >>= λ _. answers (judged (closing_at (nal_unit_type (header_of unit)) before)) >>= λ _. content_outcome mode (nal_unit_type (header_of unit)) before unit >>= λ c. content_judged before unit c >>= λ _. gives (record { unit = unit; content = c } ∷ before)) p
+    ∙ ap (λ h'. answers e >>= λ _. answers h' >>= λ _. tells (unit_call unit.from (header_of unit) (length unit.body)) >>= λ _. answers (judged (closing_at (nal_unit_type (header_of unit)) before)) >>= λ _. content_outcome mode (nal_unit_type (header_of unit)) before unit >>= λ c. content_judged before unit c >>= λ _. gives (record { unit = unit; content = c } ∷ before)) q
+    ∙ ap (λ k'. answers e >>= λ _. answers h >>= λ _. tells (unit_call unit.from (header_of unit) (length unit.body)) >>= λ _. answers k' >>= λ _. content_outcome mode (nal_unit_type (header_of unit)) before unit >>= λ c. content_judged before unit c >>= λ _. gives (record { unit = unit; content = c } ∷ before)) v
+    ∙ ap (λ (o : Outcome Content). answers e >>= λ _. answers h >>= λ _. tells (unit_call unit.from (header_of unit) (length unit.body)) >>= λ _. answers k >>= λ _. o >>= λ c. content_judged before unit c >>= λ _. gives (record { unit = unit; content = c } ∷ before)) (content-is mode (nal_unit_type (header_of unit)) before unit ∙ ap (λ r'. run_outcome (body_of unit) r') w)
 
-sound-parts : (mode : Mode) (before : History) (unit : NalUnit) (es : List Element) (a : Result (Content × ℕ) Stop) → IsSound unit → Elements mode before unit es a → (let r : Run Content = record { elements = es; answer = a } in unit_outcome mode before unit ≡ (tells (unit_call unit.from (header_of unit) (length unit.body)) >>= λ _. after_elements before unit r))
+sound-parts : (mode : Mode) (before : History) (unit : NalUnit) (es : List Element) (a : Result (Content × ℕ) Stop) → IsSound unit → AreMet (closing_at (nal_unit_type (header_of unit)) before) → Elements mode before unit es a → (let r : Run Content = record { elements = es; answer = a } in unit_outcome mode before unit ≡ (tells (unit_call unit.from (header_of unit) (length unit.body)) >>= λ _. after_elements before unit r))
 unfolding ◌>>=◌
-sound-parts mode before unit es a sound h = by-parts mode before unit (Ok tt) (Ok tt) (record { elements = es; answer = a }) (sym (none-checked unit.from unit.body sound.emulation)) (judged-met (header_demands (8 * unit.from) (header_of unit)) sound.header) (run-one (content mode (nal_unit_type (header_of unit)) before unit) (body_of unit) 0 es a h)
+sound-parts mode before unit es a sound closed h = by-parts mode before unit (Ok tt) (Ok tt) (Ok tt) (record { elements = es; answer = a }) (sym (none-checked unit.from unit.body sound.emulation)) (judged-met (header_demands (8 * unit.from) (header_of unit)) sound.header) (judged-met (closing_at (nal_unit_type (header_of unit)) before) closed) (run-one (content mode (nal_unit_type (header_of unit)) before unit) (body_of unit) 0 es a h)
 
 -- the rules on a content that are met, and what is told then
 met-content : (before : History) (unit : NalUnit) (c : Content) → AreMet (content_demands before unit c) → content_judged before unit c ≡ record { calls = content_calls before unit c; answer = Ok tt }
@@ -152,7 +148,7 @@ after-content before unit es c end o e = ap (λ (q : Outcome (Unit {0})). with_c
 legal-unit : (mode : Mode) (before : History) (r : ReadUnit) (calls : List Call) → IsLegal mode before r calls → unit_outcome mode before r.unit ≡ record { calls = calls; answer = Ok (r ∷ before) }
 unfolding ◌>>=◌
 legal-unit mode before r calls l =
-    sound-parts mode before r.unit l.elements (Ok (r.content, l.end)) l.sound l.derives
+    sound-parts mode before r.unit l.elements (Ok (r.content, l.end)) l.sound l.closed l.derives
     ∙ ap (λ (o : Outcome History). tells (unit_call r.unit.from (header_of r.unit) (length r.unit.body)) >>= λ _. o) (after-content before r.unit l.elements r.content l.end _ (met-content before r.unit r.content l.met))
     ∙ ap (λ (w : List Call). let o : Outcome History = record { calls = unit_call r.unit.from (header_of r.unit) (length r.unit.body) ∷ (map (call_of (body_of r.unit)) l.elements ++ w); answer = Ok (r ∷ before) } in o) (append-nil (content_calls before r.unit r.content))
     ∙ ap (λ (w : List Call). let o : Outcome History = record { calls = w; answer = Ok (r ∷ before) } in o) (sym l.calls_are)
@@ -160,14 +156,17 @@ legal-unit mode before r calls l =
 stop-unit : (mode : Mode) (before : History) (unit : NalUnit) (stop : Stop) (calls : List Call) → IsStop mode before unit stop calls → unit_outcome mode before unit ≡ record { calls = calls; answer = Err stop }
 unfolding ◌>>=◌
 stop-unit mode before unit stop calls (AtUnit rule bit (inl u) e n) =
-    by-parts mode before unit (Err (No (8 * (unit.from + u.0)) Emulation)) _ _ (sym (some-checked unit.from unit.body u.0 u.1)) refl refl
+    by-parts mode before unit (Err (No (8 * (unit.from + u.0)) Emulation)) _ _ _ (sym (some-checked unit.from unit.body u.0 u.1)) refl refl refl
     ∙ rw (e, n, u.2, u.3) refl
 stop-unit mode before unit stop calls (AtUnit rule bit (inr u) e n) =
-    by-parts mode before unit (Ok tt) (Err (No bit rule)) _ (sym (none-checked unit.from unit.body u.0)) (judged-unmet (header_demands (8 * unit.from) (header_of unit)) rule bit u.1) refl
+    by-parts mode before unit (Ok tt) (Err (No bit rule)) _ _ (sym (none-checked unit.from unit.body u.0)) (judged-unmet (header_demands (8 * unit.from) (header_of unit)) rule bit u.1) refl refl
     ∙ rw (e, n) refl
-stop-unit mode before unit stop calls (AtElements sound es says n) = sound-parts mode before unit es (Err stop) sound says ∙ rw n refl
-stop-unit mode before unit stop calls (AtContent sound es found end says rule bit u e n) =
-    sound-parts mode before unit es (Ok (found, end)) sound says
+stop-unit mode before unit stop calls (AtPictureEnd sound rule bit u e n) =
+    by-parts mode before unit (Ok tt) (Ok tt) (Err (No bit rule)) _ (sym (none-checked unit.from unit.body sound.emulation)) (judged-met (header_demands (8 * unit.from) (header_of unit)) sound.header) (judged-unmet (closing_at (nal_unit_type (header_of unit)) before) rule bit u) refl
+    ∙ rw (e, n) refl
+stop-unit mode before unit stop calls (AtElements sound closed es says n) = sound-parts mode before unit es (Err stop) sound closed says ∙ rw n refl
+stop-unit mode before unit stop calls (AtContent sound closed es found end says rule bit u e n) =
+    sound-parts mode before unit es (Ok (found, end)) sound closed says
     ∙ ap (λ (o : Outcome History). tells (unit_call unit.from (header_of unit) (length unit.body)) >>= λ _. o) (after-content before unit es found end _ (unmet-content before unit found rule bit u))
     ∙ rw (e, n, append-nil (map (call_of (body_of unit)) es)) refl
 
@@ -182,16 +181,20 @@ either mode before unit = by (emulation_checked unit.from unit.body) (is-checked
     run_of : Run Content
     run_of = run (content mode (nal_unit_type (header_of unit)) before unit) (body_of unit) 0
 
-    found : IsSound unit → (x : Content × ℕ) → Elements mode before unit run_of.elements (Ok x) → AreMet (content_demands before unit x.0) ⊎ ((rule : Rule) × (bit : ℕ) × IsFirstUnmet (content_demands before unit x.0) rule bit) → Either mode before unit
-    found sound x says (inl h) = Legal x.0 (told unit run_of.elements ++ content_calls before unit x.0) (record { sound = sound; elements = run_of.elements; end = x.1; derives = says; met = h; calls_are = refl })
-    found sound x says (inr h) = Fails (No h.1 h.0) (told unit run_of.elements) (AtContent sound run_of.elements x.0 x.1 says h.0 h.1 h.2 refl refl)
+    found : IsSound unit → AreMet (closing_at (nal_unit_type (header_of unit)) before) → (x : Content × ℕ) → Elements mode before unit run_of.elements (Ok x) → AreMet (content_demands before unit x.0) ⊎ ((rule : Rule) × (bit : ℕ) × IsFirstUnmet (content_demands before unit x.0) rule bit) → Either mode before unit
+    found sound closed x says (inl h) = Legal x.0 (told unit run_of.elements ++ content_calls before unit x.0) (record { sound = sound; closed = closed; elements = run_of.elements; end = x.1; derives = says; met = h; calls_are = refl })
+    found sound closed x says (inr h) = Fails (No h.1 h.0) (told unit run_of.elements) (AtContent sound closed run_of.elements x.0 x.1 says h.0 h.1 h.2 refl refl)
 
-    elements : IsSound unit → (a : Result (Content × ℕ) Stop) → run_of.answer ≡ a → Either mode before unit
-    elements sound (Ok x) e = found sound x (subst (λ a. Elements mode before unit run_of.elements a) e (run-says (content mode (nal_unit_type (header_of unit)) before unit) (body_of unit) 0)) (met-either (content_demands before unit x.0))
-    elements sound (Err stop) e = Fails stop (told unit run_of.elements) (AtElements sound run_of.elements (subst (λ a. Elements mode before unit run_of.elements a) e (run-says (content mode (nal_unit_type (header_of unit)) before unit) (body_of unit) 0)) refl)
+    elements : IsSound unit → AreMet (closing_at (nal_unit_type (header_of unit)) before) → (a : Result (Content × ℕ) Stop) → run_of.answer ≡ a → Either mode before unit
+    elements sound closed (Ok x) e = found sound closed x (subst (λ a. Elements mode before unit run_of.elements a) e (run-says (content mode (nal_unit_type (header_of unit)) before unit) (body_of unit) 0)) (met-either (content_demands before unit x.0))
+    elements sound closed (Err stop) e = Fails stop (told unit run_of.elements) (AtElements sound closed run_of.elements (subst (λ a. Elements mode before unit run_of.elements a) e (run-says (content mode (nal_unit_type (header_of unit)) before unit) (body_of unit) 0)) refl)
+
+    closes : IsSound unit → AreMet (closing_at (nal_unit_type (header_of unit)) before) ⊎ ((rule : Rule) × (bit : ℕ) × IsFirstUnmet (closing_at (nal_unit_type (header_of unit)) before) rule bit) → Either mode before unit
+    closes sound (inl h) = elements sound h run_of.answer refl
+    closes sound (inr h) = Fails (No h.1 h.0) (told unit []) (AtPictureEnd sound h.0 h.1 h.2 refl refl)
 
     header : ((place : ℕ) → IsFault unit.body place → ⊥) → AreMet (header_demands (8 * unit.from) (header_of unit)) ⊎ ((rule : Rule) × (bit : ℕ) × IsFirstUnmet (header_demands (8 * unit.from) (header_of unit)) rule bit) → Either mode before unit
-    header f (inl h) = elements (record { emulation = f; header = h }) run_of.answer refl
+    header f (inl h) = closes (record { emulation = f; header = h }) (met-either (closing_at (nal_unit_type (header_of unit)) before))
     header f (inr h) = Fails (No h.1 h.0) [] (AtUnit h.0 h.1 (inr (f, h.2)) refl refl)
 
     by : (r : Result (Unit {0}) Stop) → MatchResult r (λ _. (place : ℕ) → IsFault unit.body place → ⊥) (λ stop. (place : ℕ) × (stop ≡ No (8 * (unit.from + place)) Emulation) × IsFirstFault unit.body place) → Either mode before unit

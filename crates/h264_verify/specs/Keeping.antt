@@ -1,42 +1,89 @@
 -- What is kept of the units so far.
-use Rattle.std.specs.Prelude.{◌≡◌, ◌≤◌, List, length, Option, None, Bool, true, false}
-use Rattle.std.specs.Option.{option_map, option_and_then}
+use Rattle.std.specs.Prelude.{◌≡◌, ◌≤◌, ℕ, List, [], ◌∷◌, length, Option, Some, None, Bool, true, false, if◌then◌else◌}
+use Rattle.h264_bits.specs.declared.element.Found.{Found}
+use Rattle.h264_marking.specs.declared.frame.Numbering.{Numbering}
+use Rattle.h264_marking.specs.Frames.{References}
 use Rattle.h264_poc.specs.Counts.{Keeps as KeepsCounts}
 use Rattle.h264_verify.specs.declared.judge.Content.{Content}
 use Rattle.h264_verify.specs.declared.judge.Content.TheVariants as contents
 use Rattle.h264_verify.specs.declared.judge.State.{State}
 use Rattle.h264_header.specs.declared.header.Header.{Header}
 use Rattle.h264_verify.specs.declared.slices.Slices.{Slices}
-use Rattle.h264_verify.specs.declared.slices.OpenPicture.{OpenPicture}
+use Rattle.h264_verify.specs.declared.picture.OpenPicture.{OpenPicture}
+use Rattle.h264_verify.specs.declared.picture.Types.{Types}
+use Rattle.h264_header.specs.declared.header.Marking.{Marking}
 use Rattle.h264_verify.specs.History.{History, maps_of}
-use Rattle.h264_verify.specs.Slices.{open_slices, last_of, first_flags, is_idr_due, newest_idr_of, pictures_of, newest_count}
+use Rattle.h264_verify.specs.Pictures.{CodedPicture, open_slices, last_of, ends_picture, coded_of, pictures_of, numbering_of, prev_ref_of, held_after, held_in}
+use Rattle.h264_verify.specs.Slices.{types_of, is_idr_due, newest_idr_of, newest_count}
 
--- the last of these slices, and the marking of the first
-pub record HoldsSlices (slices : List Header) (picture : Option OpenPicture) : Type 0 where
-  pub last : option_map (λ o. o.last) picture ≡ last_of slices
-  pub flags : option_and_then (λ o. o.flags) picture ≡ first_flags slices
+-- the last slice of a picture that may go on
+abbrev pub last_by : Header → Option Header → Header
+last_by first None = first
+last_by first (Some last) = last
+
+abbrev pub last_slice : OpenPicture → Header
+last_slice o = last_by o.first o.last
+
+abbrev pub types_by : Option OpenPicture → Types
+types_by None = types_of []
+types_by (Some o) = o.types
+
+-- the marking that its first slice gives
+abbrev pub marking_by : Option OpenPicture → Option (Found Marking)
+marking_by None = None
+marking_by (Some o) = o.first.marking
+
+abbrev pub first_of : List CodedPicture → Option Header
+first_of [] = None
+first_of (p ∷ pictures) = Some p.first
+
+abbrev pub newest_numbering : List CodedPicture → Option Numbering
+newest_numbering [] = None
+newest_numbering (p ∷ pictures) = Some (numbering_of p.sps p.first)
+
+-- the picture to which these slices belong is the newest of these
+pub record HoldsPicture (slices : List Header) (pictures : List CodedPicture) (o : OpenPicture) : Type 0 where
+  pub last : last_of slices ≡ Some (last_slice o)
+  pub types : o.types ≡ types_of slices
+  pub first : first_of pictures ≡ Some o.first
+  pub numbering : newest_numbering pictures ≡ Some o.numbering
+
+abbrev pub HoldsSlices : List Header → List CodedPicture → Option OpenPicture → Type 0
+HoldsSlices slices pictures None = slices ≡ []
+HoldsSlices slices pictures (Some o) = HoldsPicture slices pictures o
 
 -- nothing is left of a picture that has ended
 abbrev pub IsLeft : Bool → Option OpenPicture → Option OpenPicture → Type 0
 IsLeft true old new = new ≡ None
 IsLeft false old new = new ≡ old
 
-pub record KeepsSlices (before : History) (slices : Slices) : Type 0 where
-  pub picture : HoldsSlices (open_slices before) slices.picture
+-- what is held: while a picture may go on, and once it has ended
+abbrev pub held_by : Bool → List Header → List CodedPicture → References
+held_by ended [] pictures = held_after pictures
+held_by ended (h ∷ slices) pictures = if ended then held_after pictures else held_in pictures
+
+-- what is kept; the picture that may go on has ended, or not
+pub record KeepsSlices (before : History) (ended : Bool) (slices : Slices) : Type 0 where
+  pub picture : HoldsSlices (open_slices before) (coded_of before) slices.picture
   pub due : slices.due ≡ is_idr_due before
-  pub newest_idr : slices.newest_idr ≡ newest_idr_of before
+  pub newest_idr : slices.newest_idr ≡ newest_idr_of (coded_of before)
   pub counts : KeepsCounts (pictures_of before) slices.counts
   pub count : slices.count ≡ newest_count (pictures_of before)
-  pub pictures : slices.pictures ≡ length (pictures_of before)
+  pub pictures : slices.pictures ≡ length (coded_of before)
+  pub prev_ref : slices.prev_ref_frame_num ≡ prev_ref_of (coded_of before)
+  pub held : slices.held ≡ held_by ended (open_slices before) (coded_of before)
 
-pub record Keeps (before : History) (state : State) : Type 0 where
+pub record KeepsWithin (before : History) (ended : Bool) (state : State) : Type 0 where
   pub units : state.units ≡ length before
   pub sets : state.sets ≡ maps_of before
-  pub slices : KeepsSlices before state.slices
+  pub slices : KeepsSlices before ended state.slices
 
--- its id is one of those that there are
-abbrev pub IsKeepable : Content → Type 0
-IsKeepable (contents.OfSps set) = set.seq_parameter_set_id ≤ 31
-IsKeepable (contents.OfPps set) = set.pic_parameter_set_id ≤ 255
-IsKeepable (contents.OfSlice h) = h.pic_parameter_set_id.value ≤ 255
-IsKeepable contents.Passed = Unit {0}
+abbrev pub Keeps : History → State → Type 0
+Keeps before state = KeepsWithin before false state
+
+-- its id is one of those that there are, and a slice stands in a unit that does not end a picture before its elements
+abbrev pub IsKeepable : ℕ → Content → Type 0
+IsKeepable kind (contents.OfSps set) = set.seq_parameter_set_id ≤ 31
+IsKeepable kind (contents.OfPps set) = set.pic_parameter_set_id ≤ 255
+IsKeepable kind (contents.OfSlice h) = (h.pic_parameter_set_id.value ≤ 255) × (ends_picture kind ≡ false)
+IsKeepable kind contents.Passed = Unit {0}

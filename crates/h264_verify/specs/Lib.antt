@@ -4,8 +4,10 @@ pub mod Session
 pub mod Demands
 pub mod UnitHeader
 pub mod History
+pub mod Pictures
 pub mod Slices
 pub mod Keeping
+pub mod Entering
 pub mod UnitRules
 pub mod Progress
 pub mod Feeding

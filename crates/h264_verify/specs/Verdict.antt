@@ -1,16 +1,15 @@
 -- The verdict on a stream: a yes with its derivation, a no with the first rule that is broken and its bit, or the first
 -- feature that is not judged (7.3, 7.4, 8.2.1, B.1).
-use Rattle.std.specs.Prelude.{◌≡◌, ℕ, ◌+◌, ◌*◌, ◌⊎◌, false, List, [], ◌∷◌, ◌++◌, map, length, Some, ◌==◌, if◌then◌else◌, Result, Ok, Err}
+use Rattle.std.specs.Prelude.{◌≡◌, ℕ, ◌+◌, ◌*◌, ◌⊎◌, List, [], ◌∷◌, ◌++◌, map, length, Some, ◌==◌, if◌then◌else◌, Result, Ok, Err}
 use Rattle.h264_base.specs.declared.mode.Mode.{Mode}
 use Rattle.h264_base.specs.declared.mode.Mode.TheVariants as modes
 use Rattle.h264_base.specs.declared.rule.Rule.{Rule}
 use Rattle.h264_base.specs.declared.rule.Rule.TheVariants.{Emulation}
 use Rattle.h264_base.specs.declared.stop.Feature.{Feature}
-use Rattle.h264_base.specs.declared.stop.Feature.TheVariants.{Pending}
 use Rattle.h264_base.specs.declared.stop.Stop.{Stop}
 use Rattle.h264_base.specs.declared.stop.Stop.TheVariants.{No, Outside, Memory, Read, Write}
 use Rattle.h264_base.specs.Call.{Call, Tells}
-use Rattle.h264_base.specs.Grammar.{Grammar, ◌>>=◌, Done, Support, Element, Says}
+use Rattle.h264_base.specs.Grammar.{Grammar, ◌>>=◌, Done, Element, Says}
 use Rattle.h264_base.specs.Run.{call_of}
 use Rattle.h264_units.specs.Stream.{NalUnit, Tail, Zeros, Splits, tail_stop}
 use Rattle.h264_rbsp.specs.Emulation.{IsFault, IsFirstFault}
@@ -25,8 +24,9 @@ use Rattle.h264_verify.specs.declared.judge.Summary.{Summary}
 use Rattle.h264_verify.specs.Demands.{Demand, AreMet, IsFirstUnmet}
 use Rattle.h264_verify.specs.UnitHeader.{header_of, nal_unit_type, header_demands}
 use Rattle.h264_verify.specs.History.{History, ReadUnit, maps_of}
+use Rattle.h264_verify.specs.Pictures.{closing_at}
 use Rattle.h264_verify.specs.Slices.{slice_demands, slice_call}
-use Rattle.h264_verify.specs.UnitRules.{unit_call, idr_unit, end_demands, summary_of}
+use Rattle.h264_verify.specs.UnitRules.{unit_call, is_slice, slice_unit, end_demands, summary_of}
 
 -- A unit meets the rules of units (7.4.1).
 pub record IsSound (unit : NalUnit) : Type 0 where
@@ -39,13 +39,12 @@ IsUnsound unit rule bit =
     ((place : ℕ) × IsFirstFault unit.body place × (rule ≡ Emulation) × (bit ≡ 8 * (unit.from + place)))
     ⊎ (((place : ℕ) → IsFault unit.body place → ⊥) × IsFirstUnmet (header_demands (8 * unit.from) (header_of unit)) rule bit)
 
--- the syntax structure in a unit that is no parameter set; slices of pictures that are no IDR pictures are not judged yet
+-- the syntax structure in a unit that is no parameter set
 abbrev pub other_content : Mode → ℕ → History → NalUnit → Grammar Content
 other_content modes.Units kind before unit = Done contents.Passed
 other_content modes.Headers kind before unit =
-    if kind == 5 then header (sets_of (maps_of before)) (idr_unit unit) >>= (λ h. Done (contents.OfSlice h))
-    else (if kind == 1 then Support Pending (8 * unit.from) false (Done contents.Passed)
-    else Done contents.Passed)
+    if is_slice kind then header (sets_of (maps_of before)) (slice_unit unit) >>= (λ h. Done (contents.OfSlice h))
+    else Done contents.Passed
 
 -- The syntax structure in a unit of this type, behind these units (7.3.1, table 7-1).
 unfoldable pub content : Mode → ℕ → History → NalUnit → Grammar Content
@@ -79,6 +78,7 @@ content_calls before unit contents.Passed = []
 -- A unit behind these that meets every rule, with the derivation of its content.
 pub record IsLegal (mode : Mode) (before : History) (r : ReadUnit) (calls : List Call) : Type 0 where
   pub sound : IsSound r.unit
+  pub closed : AreMet (closing_at (nal_unit_type (header_of r.unit)) before)
   pub elements : List Element
   pub end : ℕ
   pub derives : Elements mode before r.unit elements (Ok (r.content, end))
@@ -89,10 +89,12 @@ pub record IsLegal (mode : Mode) (before : History) (r : ReadUnit) (calls : List
 pub data IsStop (mode : Mode) (before : History) (unit : NalUnit) (stop : Stop) (calls : List Call) : Type 0 where
   -- a rule of units is broken: nothing is told
   AtUnit : (rule : Rule) (bit : ℕ) → IsUnsound unit rule bit → stop ≡ No bit rule → calls ≡ [] → IsStop mode before unit stop calls
+  -- it ends a picture, whose end breaks a rule
+  AtPictureEnd : IsSound unit → (rule : Rule) (bit : ℕ) → IsFirstUnmet (closing_at (nal_unit_type (header_of unit)) before) rule bit → stop ≡ No bit rule → calls ≡ told unit [] → IsStop mode before unit stop calls
   -- its elements lead to a broken rule or a feature that is not judged
-  AtElements : IsSound unit → (es : List Element) → Elements mode before unit es (Err stop) → calls ≡ told unit es → IsStop mode before unit stop calls
+  AtElements : IsSound unit → AreMet (closing_at (nal_unit_type (header_of unit)) before) → (es : List Element) → Elements mode before unit es (Err stop) → calls ≡ told unit es → IsStop mode before unit stop calls
   -- a rule on what is in it is broken
-  AtContent : IsSound unit → (es : List Element) (found : Content) (end : ℕ) → Elements mode before unit es (Ok (found, end)) → (rule : Rule) (bit : ℕ) → IsFirstUnmet (content_demands before unit found) rule bit → stop ≡ No bit rule → calls ≡ told unit es → IsStop mode before unit stop calls
+  AtContent : IsSound unit → AreMet (closing_at (nal_unit_type (header_of unit)) before) → (es : List Element) (found : Content) (end : ℕ) → Elements mode before unit es (Ok (found, end)) → (rule : Rule) (bit : ℕ) → IsFirstUnmet (content_demands before unit found) rule bit → stop ≡ No bit rule → calls ≡ told unit es → IsStop mode before unit stop calls
 
 -- All of these units are legal, and the sink is told of each in turn. The last one stands first.
 abbrev pub AreLegal : Mode → History → List Call → Type 0

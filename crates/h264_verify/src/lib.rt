@@ -10,8 +10,12 @@
 //! Not promised: that memory suffices.
 #![tactic(auto)]
 
+mod frame_num;
 pub mod judge;
 pub mod laws;
+mod marking;
+pub mod picture;
+mod rules;
 pub mod running;
 pub mod session;
 pub mod sink;

@@ -1,21 +1,22 @@
 //! One unit.
 #![tactic(auto)]
 
-ghost use Rattle.std.specs.Prelude.{◌≡◌, ℕ, ◌+◌, ◌-◌, ◌*◌, ◌<◌, ◌≤◌, ◌^◌, List, ◌∷◌, length, OnOk, IfOk, IfErr, Ok, Err, slice_index, if◌then◌else◌};
+ghost use Rattle.std.specs.Prelude.{◌≡◌, true, ℕ, ◌+◌, ◌-◌, ◌*◌, ◌<◌, ◌≤◌, ◌^◌, List, ◌∷◌, length, OnOk, IfOk, IfErr, Ok, Err, slice_index, if◌then◌else◌};
 ghost use Rattle.h264_units.specs.Stream.{past};
-ghost use Rattle.h264_poc.specs.declared.picture.Picture.{Picture};
 ghost use Rattle.h264_verify.specs.Outcome.{Plays, tells, answers};
 ghost use Rattle.h264_verify.specs.Demands.{judged};
 ghost use Rattle.h264_verify.specs.UnitHeader.{header_of, nal_unit_type, nal_ref_idc, is_partition, is_always_reference, is_never_reference, fits_kind, header_demands};
 ghost use Rattle.h264_verify.specs.History.{History, maps_of};
-ghost use Rattle.h264_verify.specs.Keeping.{Keeps, IsKeepable};
+ghost use Rattle.h264_verify.specs.Keeping.{Keeps, KeepsWithin, IsKeepable};
+ghost use Rattle.h264_verify.specs.Pictures.{CodedPicture, ends_picture};
 ghost use Rattle.h264_verify.specs.Feeding.{Turns};
-ghost use Rattle.h264_verify.specs.UnitRules.{unit_call, has_pictures, sps_outcome, pps_outcome, slice_outcome, other_outcome, content_outcome, content_judged, unit_outcome, end_outcome};
+ghost use Rattle.h264_verify.specs.UnitRules.{unit_call, is_slice, has_pictures, sps_outcome, pps_outcome, slice_outcome, other_outcome, content_outcome, content_judged, unit_outcome, end_outcome};
 
 use crate::judge::{Content, State, Summary};
+use crate::rules::check;
 use crate::sink::FrameSink;
-use crate::slices::{check, judge_slice, pass_by};
-use h264_base::{Failed, Feature, Mode, Rule, Stop};
+use crate::slices::{end_if, ends_picture, judge_slice, pass_by};
+use h264_base::{Failed, Mode, Rule, Stop};
 use h264_bits::Bits;
 use h264_header::{SliceUnit, read_header};
 use h264_pps::read_pps;
@@ -78,11 +79,12 @@ fn tell_unit<S: FrameSink>(from: u64, header: u8, length: u64, sink: &mut S) -> 
     }
 }
 
-/// Reads a sequence parameter set.
+/// Reads a sequence parameter set. Apart, so that a slice does not pay for the place of a set.
+#[inline(never)]
 fn read_sps_unit<S: FrameSink>(alloc: Global, unit: &NalUnit, sink: &mut S) -> Result<Content, Stop>
     requires { S.failures sink.old < 2 ^ 64 - 1 }
     ensures plays { Plays S.took S.failures (λ x. x) (sps_outcome unit.now) sink.old sink.new result }
-    ensures keepable { IfOk result IsKeepable }
+    ensures keepable { (kind : ℕ) → IfOk result (IsKeepable kind) }
 {
     let rbsp = Rbsp::of(alloc, unit)?;
     let mut bits = Bits::new(&rbsp);
@@ -94,7 +96,7 @@ fn read_sps_unit<S: FrameSink>(alloc: Global, unit: &NalUnit, sink: &mut S) -> R
 fn read_pps_unit<S: FrameSink>(alloc: Global, unit: &NalUnit, sink: &mut S) -> Result<Content, Stop>
     requires { S.failures sink.old < 2 ^ 64 - 1 }
     ensures plays { Plays S.took S.failures (λ x. x) (pps_outcome unit.now) sink.old sink.new result }
-    ensures keepable { IfOk result IsKeepable }
+    ensures keepable { (kind : ℕ) → IfOk result (IsKeepable kind) }
 {
     let rbsp = Rbsp::of(alloc, unit)?;
     let mut bits = Bits::new(&rbsp);
@@ -102,27 +104,34 @@ fn read_pps_unit<S: FrameSink>(alloc: Global, unit: &NalUnit, sink: &mut S) -> R
     Ok(Content::OfPps(set))
 }
 
-/// Reads the header of a slice of an IDR picture.
+/// Reads the header of a slice.
 fn read_slice_unit<S: FrameSink>(
     alloc: Global,
-    reference: u8,
+    header: u8,
     sets: &Sets,
     unit: &NalUnit,
     sink: &mut S,
 ) -> Result<Content, Stop>
-    requires { S.failures sink.old < 2 ^ 64 - 1 }
-    ensures plays { (before : History) → sets.now ≡ maps_of before → reference ≡ nal_ref_idc (header_of unit.now) → Plays S.took S.failures (λ x. x) (slice_outcome before unit.now) sink.old sink.new result }
-    ensures keepable { IfOk result IsKeepable }
+    requires room { S.failures sink.old < 2 ^ 64 - 1 }
+    requires slice { is_slice (nal_unit_type header) ≡ true }
+    ensures plays { (before : History) → sets.now ≡ maps_of before → header ≡ header_of unit.now → Plays S.took S.failures (λ x. x) (slice_outcome before unit.now) sink.old sink.new result }
+    ensures keepable { IfOk result (IsKeepable (nal_unit_type header)) }
     ensures kept { OnOk result (S.failures sink.new ≡ S.failures sink.old) }
 {
     let rbsp = Rbsp::of(alloc, unit)?;
     let mut bits = Bits::new(&rbsp);
     let slice_unit = SliceUnit {
-        idr_pic_flag: true,
-        nal_ref_idc: reference as u32,
+        idr_pic_flag: header % 32 == 5,
+        nal_ref_idc: (header / 32 % 4) as u32,
     };
     let header = read_header(&mut bits, sets, slice_unit, sink)?;
     Ok(Content::OfSlice(header))
+}
+
+fn is_slice(kind: u8) -> bool
+    ensures { result ≡ is_slice kind }
+{
+    kind == 1 || kind == 5
 }
 
 /// What is in a unit that is no parameter set.
@@ -136,20 +145,14 @@ fn read_other<S: FrameSink>(
 ) -> Result<Content, Stop>
     requires { S.failures sink.old < 2 ^ 64 - 1 }
     ensures plays { (before : History) → sets.now ≡ maps_of before → header ≡ header_of unit.now → Plays S.took S.failures (λ x. x) (other_outcome mode (nal_unit_type header) before unit.now) sink.old sink.new result }
-    ensures keepable { IfOk result IsKeepable }
+    ensures keepable { IfOk result (IsKeepable (nal_unit_type header)) }
     ensures kept { OnOk result (S.failures sink.new ≡ S.failures sink.old) }
 {
     match mode {
         Mode::Units => Ok(Content::Passed),
         Mode::Headers => {
-            if header % 32 == 5 {
-                return read_slice_unit(alloc, header / 32 % 4, sets, unit, sink);
-            }
-            if header % 32 == 1 {
-                return Err(Stop::Outside {
-                    bit: 8 * unit.from(),
-                    feature: Feature::Pending,
-                });
+            if is_slice(header % 32) {
+                return read_slice_unit(alloc, header, sets, unit, sink);
             }
             Ok(Content::Passed)
         }
@@ -167,7 +170,7 @@ fn read_content<S: FrameSink>(
 ) -> Result<Content, Stop>
     requires { S.failures sink.old < 2 ^ 64 - 1 }
     ensures plays { (before : History) → sets.now ≡ maps_of before → header ≡ header_of unit.now → Plays S.took S.failures (λ x. x) (content_outcome mode (nal_unit_type header) before unit.now) sink.old sink.new result }
-    ensures keepable { IfOk result IsKeepable }
+    ensures keepable { IfOk result (IsKeepable (nal_unit_type header)) }
     ensures kept { OnOk result (S.failures sink.new ≡ S.failures sink.old) }
 {
     if header % 32 == 7 {
@@ -190,10 +193,10 @@ fn judge_content<S: FrameSink>(
     requires room { S.failures sink.old < 2 ^ 64 - 1 }
     requires units { state.old.units ≤ 2 ^ 40 }
     requires pictures { state.old.slices.pictures ≤ state.old.units }
-    requires keepable { IsKeepable content }
+    requires keepable { IsKeepable kind content }
     requires kind { kind ≡ nal_unit_type (header_of unit.now) }
-    ensures plays { (before : History) → Keeps before state.old → Plays S.took S.failures (λ x. x) (content_judged before unit.now content) sink.old sink.new result }
-    ensures keeps { (before : History) → Keeps before state.old → OnOk result (Keeps (record { unit = unit.now; content = content } ∷ before) state.new) }
+    ensures plays { (before : History) → KeepsWithin before (ends_picture kind) state.old → Plays S.took S.failures (λ x. x) (content_judged before unit.now content) sink.old sink.new result }
+    ensures keeps { (before : History) → KeepsWithin before (ends_picture kind) state.old → OnOk result (Keeps (record { unit = unit.now; content = content } ∷ before) state.new) }
     ensures counts { OnOk result (state.new.units ≡ state.old.units + 1) }
     ensures pictures { OnOk result (state.new.slices.pictures ≤ state.new.units) }
     ensures kept { OnOk result (S.failures sink.new ≡ S.failures sink.old) }
@@ -246,13 +249,14 @@ pub(crate) fn judge_unit<S: FrameSink>(
     let header = body[0];
     check_header(from, header)?;
     tell_unit(from, header, body.len() as u64, sink)?;
+    end_if(ends_picture(header % 32), &mut state.slices)?;
     let content = read_content(alloc, mode, header, &state.sets, unit, sink)?;
     judge_content(state, header % 32, unit, content, sink)
 }
 
 /// Whether a stream that is judged so has the pictures that it must have.
 fn has_pictures(mode: Mode, pictures: u64) -> bool
-    ensures { (of : List Picture) → pictures ≡ length of → result ≡ has_pictures mode of }
+    ensures { (of : List CodedPicture) → pictures ≡ length of → result ≡ has_pictures mode of }
 {
     match mode {
         Mode::Units => true,
@@ -263,12 +267,13 @@ fn has_pictures(mode: Mode, pictures: u64) -> bool
 /// What comes of the end of the input, at this bit.
 pub(crate) fn judge_end<S: FrameSink>(
     mode: Mode,
-    state: &State,
+    state: &mut State,
     bit: u64,
     sink: &S,
 ) -> Result<Summary, Stop>
-    ensures { (before : History) → Keeps before state.now → Plays S.took S.failures (λ x. x) (end_outcome mode before bit) sink.now sink.now result }
+    ensures { (before : History) → Keeps before state.old → Plays S.took S.failures (λ x. x) (end_outcome mode before bit) sink.now sink.now result }
 {
+    end_if(true, &mut state.slices)?;
     let pictures = state.slices.pictures;
     check(has_pictures(mode, pictures), Rule::NoPicture, bit)?;
     Ok(Summary {

@@ -1,7 +1,7 @@
 //! The program's answers to streams with slices, whole, byte by byte and at every cut, and with each read and each write failing.
 #![tactic(auto)]
 
-use crate::tests::{OneFile, check, units, whole};
+use crate::tests::{OneFile, answer_of, check, whole};
 use std::process::Abort;
 use std::test::Fail;
 
@@ -20,7 +20,7 @@ const TWO_FRAMES: &[u8] = &[
     0xA0,
 ];
 
-/// The second picture leaves a gap in frame_num, which this command does not look at.
+/// The second picture leaves a gap in frame_num, which `units` does not look at, and `headers` refuses.
 const GAP: &[u8] = &[
     0x00, 0x00, 0x00, 0x01, 0x67, 0x42, 0xC0, 0x0A, 0xDA, 0x71, 0x00, 0x00, 0x00, 0x01, 0x68, 0xCE,
     0x38, 0x80, 0x00, 0x00, 0x01, 0x65, 0x88, 0x84, 0x93, 0xC0, 0x00, 0x00, 0x01, 0x61, 0x9A, 0x42,
@@ -40,7 +40,23 @@ const WIDE_FRAMES: &[u8] = &[
     0x61, 0x9A, 0x23, 0x80, 0x80, 0xD4,
 ];
 
-const STREAMS: [&[u8]; 5] = [ONE_FRAME, TWO_FRAMES, GAP, WIDE_FRAME, WIDE_FRAMES];
+/// Two pictures, the second with operations 4, 3 and 2.
+const OPERATIONS: &[u8] = &[
+    0x00, 0x00, 0x00, 0x01, 0x67, 0x42, 0xC0, 0x0A, 0xDA, 0x71, 0x00, 0x00, 0x00, 0x01, 0x68, 0xCE,
+    0x38, 0x80, 0x00, 0x00, 0x01, 0x65, 0x88, 0x84, 0x93, 0xC0, 0x00, 0x00, 0x01, 0x61, 0x9A, 0x24,
+    0xA8, 0x9B, 0xEA,
+];
+
+const STREAMS: [&[u8]; 6] = [
+    ONE_FRAME,
+    TWO_FRAMES,
+    GAP,
+    WIDE_FRAME,
+    WIDE_FRAMES,
+    OPERATIONS,
+];
+
+const COMMANDS: [&str; 2] = ["units", "headers"];
 
 #[test]
 fn two_frames(rt: HostRuntime) -> Result<(), Fail> {
@@ -64,40 +80,45 @@ fn wide_frames(rt: HostRuntime) -> Result<(), Fail> {
 /// Whichever read fails, that is told, and what was printed before is a front of the whole answer.
 #[test]
 fn each_read_fails(rt: HostRuntime) -> Result<(), Fail> {
-    for bytes in STREAMS {
-        let all = units(rt.alloc(), whole(bytes), usize::MAX)?;
-        for failing in 0..=bytes.len() {
-            let file = OneFile {
-                bytes,
-                first: 1,
-                size: 1,
-                failing,
-            };
-            let answer = units(rt.alloc(), file, usize::MAX)?;
-            assert_eq!(rt; answer.status, 4);
-            let front = answer.text.as_str().strip_suffix("read failed\n");
-            assert!(rt; front.is_some_and(|front| all.text.as_str().starts_with(front)));
+    for word in COMMANDS {
+        for bytes in STREAMS {
+            let all = answer_of(rt.alloc(), word, whole(bytes), usize::MAX)?;
+            for failing in 0..=bytes.len() {
+                let file = OneFile {
+                    bytes,
+                    first: 1,
+                    size: 1,
+                    failing,
+                };
+                let answer = answer_of(rt.alloc(), word, file, usize::MAX)?;
+                assert_eq!(rt; answer.status, 4);
+                let front = answer.text.as_str().strip_suffix("read failed\n");
+                assert!(rt; front.is_some_and(|front| all.text.as_str().starts_with(front)));
+            }
         }
     }
     Ok(())
 }
 
-/// Whichever write fails, the status tells it, no verdict stands in its place, and where there is still a line to write it is
-/// told too. A line is written in two parts.
+/// Whichever write fails, the status tells it, the verdict does not stand in its place, and where there is still a line to write
+/// it is told too. A line is written in two parts.
 #[test]
 fn each_write_fails(rt: HostRuntime) -> Result<(), Fail> {
-    for bytes in STREAMS {
-        let all = units(rt.alloc(), whole(bytes), usize::MAX)?;
-        let writes = all.text.as_str().lines().count().saturating_mul(2);
-        for failing in 0..writes {
-            let answer = units(rt.alloc(), whole(bytes), failing)?;
-            assert_eq!(rt; answer.status, 4);
-            assert!(rt; !answer.text.as_str().ends_with("yes: units 3\n"));
-            assert!(rt; !answer.text.as_str().ends_with("yes: units 4\n"));
-            let told = answer.text.as_str().ends_with("write failed\n");
-            assert!(rt; told || writes <= failing.saturating_add(2));
+    for word in COMMANDS {
+        for bytes in STREAMS {
+            let all = answer_of(rt.alloc(), word, whole(bytes), usize::MAX)?;
+            let writes = all.text.as_str().lines().count().saturating_mul(2);
+            for failing in 0..writes {
+                let answer = answer_of(rt.alloc(), word, whole(bytes), failing)?;
+                assert_eq!(rt; answer.status, 4);
+                assert!(rt; answer.text.as_str() != all.text.as_str());
+                let told = answer.text.as_str().ends_with("write failed\n");
+                assert!(rt; told || writes <= failing.saturating_add(2));
+            }
+            let answer = answer_of(rt.alloc(), word, whole(bytes), writes)?;
+            assert_eq!(rt; answer.status, all.status);
+            assert_eq!(rt; answer.text.as_str(), all.text.as_str());
         }
-        assert_eq!(rt; units(rt.alloc(), whole(bytes), writes)?.status, 0);
     }
     Ok(())
 }

@@ -1,0 +1,307 @@
+//! What no clause says: lists worked by hand from 8.2.4.1, 8.2.4.2.1 and 8.2.4.3, where MaxFrameNum is 16.
+#![tactic(auto)]
+
+use crate::build;
+use crate::list::list_of;
+use crate::slot::RefSlot;
+use arrayvec::ArrayVec;
+use h264_base::{Rule, Stop};
+use h264_header::{Modification, PicNumModification, RefPicList0};
+use h264_marking::{Held, Numbering, ReferenceFrame, Term};
+use std::test::Fail;
+
+/// A short-term frame whose picture has the number of its frame_num.
+fn short(frame_num: u32) -> ReferenceFrame {
+    ReferenceFrame {
+        picture: Some(frame_num as u64),
+        frame_num,
+        term: Term::Short,
+    }
+}
+
+/// A long-term frame.
+fn long(long_term_frame_idx: u32) -> ReferenceFrame {
+    ReferenceFrame {
+        picture: Some(100),
+        frame_num: 3,
+        term: Term::Long {
+            long_term_frame_idx,
+        },
+    }
+}
+
+/// frame_num of the current picture.
+fn at(frame_num: u32) -> Numbering {
+    Numbering {
+        frame_num,
+        max_frame_num: 16,
+        max_num_ref_frames: 16,
+    }
+}
+
+/// Command 0 with this difference, at bit 40.
+fn subtract(abs_diff_pic_num_minus1: u32) -> PicNumModification {
+    PicNumModification {
+        bit: 40,
+        modification: Modification::Subtract {
+            abs_diff_pic_num_minus1,
+        },
+    }
+}
+
+/// Command 1 with this difference, at bit 50.
+fn add(abs_diff_pic_num_minus1: u32) -> PicNumModification {
+    PicNumModification {
+        bit: 50,
+        modification: Modification::Add {
+            abs_diff_pic_num_minus1,
+        },
+    }
+}
+
+/// Command 2, at bit 60.
+fn long_term(long_term_pic_num: u32) -> PicNumModification {
+    PicNumModification {
+        bit: 60,
+        modification: Modification::LongTerm { long_term_pic_num },
+    }
+}
+
+/// A list of so many places, with these modifications.
+fn list(places: u32, commands: &[PicNumModification]) -> Result<RefPicList0, Fail> {
+    let mut modifications = ArrayVec::new();
+    modifications.try_extend_from_slice(commands)?;
+    Ok(RefPicList0 {
+        num_ref_idx_l0_active: places,
+        modifications,
+    })
+}
+
+/// Whether these held frames give a list of these frames, and then so many places without a picture. The current frame_num is 3.
+fn gives(
+    held: &[ReferenceFrame],
+    places: u32,
+    commands: &[PicNumModification],
+    frames: &[ReferenceFrame],
+    rest: usize,
+) -> Result<bool, Fail> {
+    if held.len() > 16 {
+        return Ok(false);
+    }
+    let found = list_of(held, &at(3), &list(places, commands)?)?;
+    if found.len() != frames.len().saturating_add(rest) {
+        return Ok(false);
+    }
+    for (i, slot) in found.as_slice().iter().enumerate() {
+        let wanted = match frames.get(i) {
+            Some(frame) => RefSlot::Held(*frame),
+            None => RefSlot::NoPicture,
+        };
+        if *slot != wanted {
+            return Ok(false);
+        }
+    }
+    Ok(true)
+}
+
+/// Whether a modification of these is refused at this bit. The current frame_num is 3.
+fn refuses(
+    held: &[ReferenceFrame],
+    commands: &[PicNumModification],
+    bit: u64,
+) -> Result<bool, Fail> {
+    if held.len() > 16 {
+        return Ok(false);
+    }
+    let refused = Err(Stop::No {
+        bit,
+        rule: Rule::ListCommand,
+    });
+    Ok(list_of(held, &at(3), &list(4, commands)?) == refused)
+}
+
+/// At frame_num 3 the frames 14 and 15 have PicNum -2 and -1, and frame 3 has PicNum 3.
+#[test]
+fn initial_order(rt: HostRuntime) -> Result<(), Fail> {
+    let held = [
+        short(14),
+        short(3),
+        long(2),
+        short(15),
+        short(1),
+        long(0),
+        short(2),
+    ];
+    let order = [
+        short(3),
+        short(2),
+        short(1),
+        short(15),
+        short(14),
+        long(0),
+        long(2),
+    ];
+    assert!(rt; gives(held.as_slice(), 7, [].as_slice(), order.as_slice(), 0)?);
+    assert!(rt; gives(held.as_slice(), 4, [].as_slice(), &order[..4], 0)?);
+    assert!(rt; gives(held.as_slice(), 9, [].as_slice(), order.as_slice(), 2)?);
+    assert!(rt; gives([].as_slice(), 2, [].as_slice(), [].as_slice(), 2)?);
+    Ok(())
+}
+
+/// Frames of PicNum 2, 1, 0, -1 and -2, in this order.
+const HELD: [ReferenceFrame; 5] = [
+    ReferenceFrame {
+        picture: Some(14),
+        frame_num: 14,
+        term: Term::Short,
+    },
+    ReferenceFrame {
+        picture: Some(15),
+        frame_num: 15,
+        term: Term::Short,
+    },
+    ReferenceFrame {
+        picture: Some(0),
+        frame_num: 0,
+        term: Term::Short,
+    },
+    ReferenceFrame {
+        picture: Some(1),
+        frame_num: 1,
+        term: Term::Short,
+    },
+    ReferenceFrame {
+        picture: Some(2),
+        frame_num: 2,
+        term: Term::Short,
+    },
+];
+
+/// From 3: 3 - 2 = 1; 3 - 3 = 0; 3 - 4 = -1, which wraps to 15, and that is above 3: PicNum -1.
+#[test]
+fn subtracted(rt: HostRuntime) -> Result<(), Fail> {
+    let held = HELD.as_slice();
+    let first = [short(1), short(2), short(0), short(15), short(14)];
+    assert!(rt; gives(held, 5, [subtract(1)].as_slice(), first.as_slice(), 0)?);
+    let zero = [short(0), short(2), short(1), short(15), short(14)];
+    assert!(rt; gives(held, 5, [subtract(2)].as_slice(), zero.as_slice(), 0)?);
+    let wrapped = [short(15), short(2), short(1), short(0), short(14)];
+    assert!(rt; gives(held, 5, [subtract(3)].as_slice(), wrapped.as_slice(), 0)?);
+    Ok(())
+}
+
+/// From 3: 3 + 12 = 15, PicNum -1; 3 + 13 = 16, which wraps to 0; 3 + 14 = 17, which wraps to 1.
+#[test]
+fn added(rt: HostRuntime) -> Result<(), Fail> {
+    let held = HELD.as_slice();
+    let below = [short(15), short(2), short(1), short(0), short(14)];
+    assert!(rt; gives(held, 5, [add(11)].as_slice(), below.as_slice(), 0)?);
+    let at_most = [short(0), short(2), short(1), short(15), short(14)];
+    assert!(rt; gives(held, 5, [add(12)].as_slice(), at_most.as_slice(), 0)?);
+    let above = [short(1), short(2), short(0), short(15), short(14)];
+    assert!(rt; gives(held, 5, [add(13)].as_slice(), above.as_slice(), 0)?);
+    Ok(())
+}
+
+/// The predictor goes on: 3 - 2 = 1, and 1 - 2 = -1, which is 15; then 15 + 1 = 16, which is 0. A long-term command leaves it.
+#[test]
+fn in_turn(rt: HostRuntime) -> Result<(), Fail> {
+    let held = HELD.as_slice();
+    let three = [subtract(1), subtract(1), add(0)];
+    let frames = [short(1), short(15), short(0), short(2), short(14)];
+    assert!(rt; gives(held, 5, three.as_slice(), frames.as_slice(), 0)?);
+    let mixed = [short(1), long(4), short(2), long(2)];
+    let commands = [subtract(0), long_term(4), subtract(0)];
+    let frames = [short(2), long(4), short(1), long(2)];
+    assert!(rt;
+        gives(
+            mixed.as_slice(),
+            4,
+            commands.as_slice(),
+            frames.as_slice(),
+            0
+        )?
+    );
+    Ok(())
+}
+
+/// A frame that is named at index 0 and at index 1 stands in both: 3 - 1 = 2, and 2 - 16 = -14, which wraps to 2.
+#[test]
+fn named_twice(rt: HostRuntime) -> Result<(), Fail> {
+    let held = HELD.as_slice();
+    let twice = [short(2), short(2), short(1), short(0)];
+    let commands = [subtract(0), subtract(15)];
+    assert!(rt; gives(held, 4, commands.as_slice(), twice.as_slice(), 0)?);
+    Ok(())
+}
+
+/// A frame that the cut list does not hold comes in, and the last place goes; a place without a picture stays behind.
+#[test]
+fn outside_the_list(rt: HostRuntime) -> Result<(), Fail> {
+    let cut = [short(14), short(2)];
+    assert!(rt;
+        gives(
+            HELD.as_slice(),
+            2,
+            [subtract(4)].as_slice(),
+            cut.as_slice(),
+            0
+        )?
+    );
+    let held = [short(1), short(2), long(0)];
+    let filled = [long(0), short(2), short(1)];
+    assert!(rt;
+        gives(
+            held.as_slice(),
+            5,
+            [long_term(0)].as_slice(),
+            filled.as_slice(),
+            2
+        )?
+    );
+    Ok(())
+}
+
+/// The first modification that names no held frame is refused at its bit.
+#[test]
+fn absent(rt: HostRuntime) -> Result<(), Fail> {
+    let held = [short(1), short(2), long(1)];
+    assert!(rt; refuses(held.as_slice(), [subtract(2)].as_slice(), 40)?);
+    assert!(rt; refuses(held.as_slice(), [long_term(2)].as_slice(), 60)?);
+    let second = [subtract(0), add(0), long_term(2)];
+    assert!(rt; refuses(held.as_slice(), second.as_slice(), 50)?);
+    let none = build(&Held::new(), &at(3), &list(1, [long_term(0)].as_slice())?);
+    assert!(rt; none.is_err());
+    Ok(())
+}
+
+/// The frame of a gap has no picture, and may be named.
+#[test]
+fn of_a_gap(rt: HostRuntime) -> Result<(), Fail> {
+    let missing = ReferenceFrame {
+        picture: None,
+        frame_num: 1,
+        term: Term::Short,
+    };
+    let held = [missing, short(2)];
+    let frames = [missing, short(2)];
+    assert!(rt;
+        gives(
+            held.as_slice(),
+            2,
+            [subtract(1)].as_slice(),
+            frames.as_slice(),
+            0
+        )?
+    );
+    Ok(())
+}
+
+/// Where nothing is held no place has a picture.
+#[test]
+fn nothing_held(rt: HostRuntime) -> Result<(), Fail> {
+    let found = build(&Held::new(), &at(3), &list(2, [].as_slice())?)?;
+    let wanted = [RefSlot::NoPicture, RefSlot::NoPicture];
+    assert!(rt; found.as_slice() == wanted.as_slice());
+    Ok(())
+}

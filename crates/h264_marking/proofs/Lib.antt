@@ -1,0 +1,4 @@
+pub mod Least
+pub mod Kept
+pub mod Turns
+pub mod Room

@@ -1,0 +1,87 @@
+-- No more frames are held than there are places.
+use Rattle.std.proofs.Common.{◌≡◌, ℕ, ◌+◌, ◌<◌, ◌≤◌, Bool, true, false, Option, Some, None, Result, Ok, Err, List, [], ◌∷◌, ◌++◌, length, nat_lt, ℤ, refl, ap, sym, ◌∙◌, cond, arith, length-append}
+use Rattle.std.proofs.lemmas.Bool.Decides.{nat_tests}
+use Rattle.std.specs.Bool.{then_some}
+use Rattle.std.specs.Option.{option_map, option_and_then, ok_or}
+use Rattle.h264_header.specs.declared.header.Marking.{Marking}
+use Rattle.h264_header.specs.declared.header.Marking.TheVariants as mode
+use Rattle.h264_marking.specs.declared.frame.ReferenceFrame.{ReferenceFrame}
+use Rattle.h264_marking.specs.declared.frame.Numbering.{Numbering}
+use Rattle.h264_marking.specs.Frames.{References, frame_places, without_pic_num}
+use Rattle.h264_marking.specs.Window.{least_pic_num, slide, with_missing, missing_frame, filled}
+use Rattle.h264_marking.specs.Operations.{Marks, marks_of, with_frames, all_operated}
+use Rattle.h264_marking.specs.Held.{with_own, own_frame, idr_references, slid_and_joined, joined, marked}
+use Rattle.h264_marking.proofs.Kept.{slid-fewer}
+
+abbrev frames_or : List ReferenceFrame → Option References → List ReferenceFrame
+frames_or d None = d
+frames_or d (Some refs) = refs.frames
+
+-- where the frames have places, the window makes room for one more
+slid-by : (c : Numbering) (xs ys : List ReferenceFrame) (free : Bool) (least : Option ℤ) → nat_lt (length xs) (frame_places c.max_num_ref_frames) ≡ free → least_pic_num c xs ≡ least → length xs ≤ frame_places c.max_num_ref_frames → cond free (Some xs) (option_map (λ n. without_pic_num c n xs) least) ≡ Some ys → length ys < frame_places c.max_num_ref_frames
+slid-by c xs ys true least f l few is = let same : xs ≡ ys = cc in let lt : length xs < frame_places c.max_num_ref_frames = grind (arith, nat_tests) in omega (arith, ap length same)
+slid-by c xs ys false None f l few is = cc
+slid-by c xs ys false (Some n) f l few is = let same : without_pic_num c n xs ≡ ys = cc in let fewer = slid-fewer c n xs l in omega (arith, ap length same)
+
+slid-room : (c : Numbering) (xs ys : List ReferenceFrame) → length xs ≤ frame_places c.max_num_ref_frames → slide c xs ≡ Some ys → length ys < frame_places c.max_num_ref_frames
+slid-room c xs ys few is = slid-by c xs ys _ _ refl refl few is
+
+missing-by : (n : ℕ) (ys zs : List ReferenceFrame) (held : Bool) → (let o : Option (List ReferenceFrame) = cond held None (Some (ys ++ missing_frame n ∷ [])) in o) ≡ Some zs → length zs ≡ length ys + 1
+missing-by n ys zs true is = cc
+missing-by n ys zs false is = let same : ys ++ missing_frame n ∷ [] ≡ zs = cc in sym (ap length same) ∙ length-append ys (missing_frame n ∷ [])
+
+filled-by : (m : Numbering) (refs next : References) (o : Option (List ReferenceFrame)) → slide m refs.frames ≡ o → length refs.frames ≤ frame_places m.max_num_ref_frames → option_map (λ frames. record refs { frames = frames }) (option_and_then (with_missing m.frame_num) o) ≡ Some next → length next.frames ≤ frame_places m.max_num_ref_frames
+filled-by m refs next None s few is = cc
+filled-by m refs next (Some ys) s few is =
+    let by : (p : Option (List ReferenceFrame)) → with_missing m.frame_num ys ≡ p → option_map (λ frames. let r : References = record refs { frames = frames } in r) p ≡ Some next → length next.frames ≤ frame_places m.max_num_ref_frames =
+    λ p. elim p as (λ p. with_missing m.frame_num ys ≡ p → option_map (λ frames. let r : References = record refs { frames = frames } in r) p ≡ Some next → length next.frames ≤ frame_places m.max_num_ref_frames) [
+      | None ↦ λ w e. cc
+      | Some zs ↦ λ w e. (
+          let same : zs ≡ next.frames = ap (λ (o : Option References). frames_or zs o) e in
+          let more = missing-by m.frame_num ys zs _ w in
+          let room = slid-room m refs.frames ys few s in
+          omega (arith, ap length same))
+    ]
+    in by (with_missing m.frame_num ys) refl is
+
+pub filled-room : (m : Numbering) (refs next : References) → filled m refs ≡ Some next → length refs.frames ≤ frame_places m.max_num_ref_frames → length next.frames ≤ frame_places m.max_num_ref_frames
+unfolding filled
+filled-room m refs next is few = filled-by m refs next (slide m refs.frames) refl few is
+
+with_own-by : (c : Numbering) (picture : ℕ) (marks : Marks) (next : References) (free : Bool) → nat_lt (length marks.held.frames) (frame_places c.max_num_ref_frames) ≡ free → cond free (Some (record marks.held { frames = marks.held.frames ++ own_frame c picture marks ∷ [] })) None ≡ Some next → length next.frames ≤ frame_places c.max_num_ref_frames
+with_own-by c picture marks next false f is = cc
+with_own-by c picture marks next true f is =
+    let lt : length marks.held.frames < frame_places c.max_num_ref_frames = grind (arith, nat_tests) in
+    let same : marks.held.frames ++ own_frame c picture marks ∷ [] ≡ next.frames = ap (λ (o : Option References). frames_or [] o) is in
+    let more = length-append marks.held.frames (own_frame c picture marks ∷ []) in
+    omega (arith, ap length same)
+
+own-room : (c : Numbering) (picture : ℕ) (marks : Marks) (next : References) → with_own c picture marks ≡ Some next → length next.frames ≤ frame_places c.max_num_ref_frames
+own-room c picture marks next is = with_own-by c picture marks next _ refl is
+
+slid-own-room : (c : Numbering) (picture : ℕ) (refs next : References) (o : Option (List ReferenceFrame)) → option_and_then (λ frames. with_own c picture (with_frames (marks_of refs) frames)) o ≡ Some next → length next.frames ≤ frame_places c.max_num_ref_frames
+slid-own-room c picture refs next None is = cc
+slid-own-room c picture refs next (Some frames) is = own-room c picture (with_frames (marks_of refs) frames) next is
+
+from-ok : (o : Option References) (bit : ℕ) (next : References) → ok_or o bit ≡ Ok next → o ≡ Some next
+from-ok None bit next is = cc
+from-ok (Some refs) bit next is = cc
+
+joined-room : (c : Numbering) (picture bit : ℕ) (r : Result Marks ℕ) (next : References) → joined c picture bit r ≡ Ok next → length next.frames ≤ frame_places c.max_num_ref_frames
+joined-room c picture bit (Err at) next is = cc
+joined-room c picture bit (Ok marks) next is = own-room c picture marks next (from-ok (with_own c picture marks) bit next is)
+
+pub marked-room : (c : Numbering) (picture bit : ℕ) (marking : Marking) (refs next : References) → marked c picture bit marking refs ≡ Ok next → length next.frames ≤ frame_places c.max_num_ref_frames
+unfolding marked
+marked-room c picture bit (mode.Idr no_output long_term) refs next is = let same : idr_references c picture long_term ≡ next = cc in (let one = ap (λ (r : References). length r.frames) same in omega arith)
+marked-room c picture bit mode.SlidingWindow refs next is = slid-own-room c picture refs next (slide c refs.frames) (from-ok (slid_and_joined c picture refs) bit next is)
+marked-room c picture bit (mode.Adaptive operations) refs next is = joined-room c picture bit (all_operated c operations.items (marks_of refs)) next is
+
+-- what the code of a gap leaves, and what it refuses
+pub filled-as : (m : Numbering) (refs now : References) (places left : List ReferenceFrame) (r : Bool) → refs ≡ now → places ≡ refs.frames → r ≡ true → then_some r left ≡ option_and_then (with_missing m.frame_num) (slide m places) → Some (record refs { frames = left }) ≡ filled m now
+unfolding filled
+filled-as m refs now places left r e p t is = rw (← e, ← p, ← is, t) refl
+
+pub filled-not : (m : Numbering) (refs now : References) (places left : List ReferenceFrame) (r : Bool) → refs ≡ now → places ≡ refs.frames → r ≡ false → then_some r left ≡ option_and_then (with_missing m.frame_num) (slide m places) → (let o : Option References = None in o) ≡ filled m now
+unfolding filled
+filled-not m refs now places left r e p t is = rw (← e, ← p, ← is, t) refl

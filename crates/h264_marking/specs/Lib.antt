@@ -1,0 +1,4 @@
+pub mod Frames
+pub mod Window
+pub mod Operations
+pub mod Held

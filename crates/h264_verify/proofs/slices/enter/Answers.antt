@@ -1,0 +1,10 @@
+use Rattle.std.proofs.Common.{sym, subst, ◌∙◌}
+use Rattle.h264_verify.specs.Keeping.{HoldsSlices}
+use Rattle.h264_verify.proofs.Entering.{begun-holds, gone-holds}
+use Rattle.h264_verify.proofs.slices.enter.Goals as goal
+
+pub returns-then-begins-clause-picture : goal.returns-then-begins-clause-picture
+returns-then-begins-clause-picture c = λ of pictures sets h b n. begun-holds c.args.begins of pictures sets c.args.header c.begun.result b c.if-begins.true (c.begun.ensures pictures sets.1 n)
+
+pub returns-in-Some-clause-picture : goal.returns-in-Some-clause-picture
+returns-in-Some-clause-picture c = λ of pictures sets h b n. gone-holds c.args.begins of pictures sets c.args.header c.gone_on.result b c.if-begins.false (c.gone_on.ensures of pictures (subst (HoldsSlices of pictures) (sym c.take.ensures.value ∙ c.in-Some.is) h))

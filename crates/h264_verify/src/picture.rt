@@ -1,0 +1,194 @@
+//! The picture to which more slices may come.
+#![tactic(auto)]
+
+ghost use Rattle.std.specs.Prelude.{◌≡◌, ◌-◌, ◌^◌, ◌||◌, ◌==◌, not, List, [], ◌∷◌, Option, Some, None, true};
+ghost use Rattle.std.specs.List.{list_any};
+ghost use Rattle.std.specs.Option.{option_map};
+ghost use Rattle.std.specs.Result.{result_unwrap_or};
+ghost use Rattle.h264_header.specs.Layout.{has_lengths};
+ghost use Rattle.h264_header.specs.Marking.{number_of};
+ghost use Rattle.h264_marking.specs.Held.{mark_answer};
+ghost use Rattle.h264_verify.specs.Pictures.{CodedPicture, begins_after, numbering_of, ended, resets, resets_by};
+ghost use Rattle.h264_verify.specs.Slices.{is_i, types_of, agrees};
+ghost use Rattle.h264_verify.specs.Keeping.{HoldsPicture, last_slice, types_by};
+
+use h264_base::Stop;
+use h264_bits::Found;
+use h264_header::{Header, Marking, MarkingOperation, Operation, SliceKind, begins_picture};
+use h264_marking::{Held, Numbering};
+use h264_sps::sps::Sps;
+
+/// Which types the slices of a picture have.
+#[derive(Clone, Copy, Debug, PartialEq, Eq)]
+pub struct Types {
+    pub(crate) i: bool,
+    pub(crate) p: bool,
+    /// One says that all have its type.
+    pub(crate) stated: bool,
+}
+
+/// The picture to which more slices may come.
+#[derive(Drop)]
+pub struct OpenPicture {
+    /// The header of its first slice.
+    pub(crate) first: Header,
+    /// That of its last slice, where it is another.
+    pub(crate) last: Option<Header>,
+    pub(crate) types: Types,
+    pub(crate) numbering: Numbering,
+}
+
+pub(crate) fn is_i(kind: &SliceKind) -> bool
+    ensures { result ≡ is_i kind.now }
+{
+    match kind {
+        SliceKind::I => true,
+        SliceKind::P(_) => false,
+    }
+}
+
+fn last_slice(picture: &OpenPicture) -> &Header
+    ensures { result.now ≡ last_slice picture.now }
+{
+    match &picture.last {
+        None => &picture.first,
+        Some(last) => last,
+    }
+}
+
+/// Whether a slice is the first of a picture, behind the slices of this one.
+pub(crate) fn begins(picture: &Option<OpenPicture>, header: &Header) -> bool
+    ensures { result ≡ begins_after (option_map last_slice picture.now) header.now }
+{
+    match picture {
+        None => true,
+        Some(picture) => begins_picture(last_slice(picture), header),
+    }
+}
+
+/// The types of the slices of a picture that may go on.
+pub(crate) fn seen_types(picture: &Option<OpenPicture>) -> Types
+    ensures { result ≡ types_by picture.now }
+{
+    match picture {
+        None => Types {
+            i: false,
+            p: false,
+            stated: false,
+        },
+        Some(picture) => picture.types,
+    }
+}
+
+/// The types with that of one more slice.
+fn types_with(types: Types, header: &Header) -> Types
+    ensures { (slices : List Header) → types ≡ types_of slices → result ≡ types_of (header.now ∷ slices) }
+{
+    let i = is_i(&header.kind.value);
+    Types {
+        i: i || types.i,
+        p: !i || types.p,
+        stated: header.same_type_in_picture || types.stated,
+    }
+}
+
+/// Whether the type of one more slice agrees with those of a picture.
+pub(crate) fn agrees(types: Types, header: &Header) -> bool
+    ensures { result ≡ agrees types header.now }
+{
+    let other = if is_i(&header.kind.value) {
+        types.p
+    } else {
+        types.i
+    };
+    !(header.same_type_in_picture || types.stated) || !other
+}
+
+/// What the numbers of frames go by in a slice.
+pub(crate) fn numbering_of(sps: &Sps, header: &Header) -> Numbering
+    requires { has_lengths sps.now ≡ true }
+    ensures { result ≡ numbering_of sps.now header.now }
+{
+    Numbering {
+        frame_num: header.frame_num.value,
+        max_frame_num: 1 << sps.log2_max_frame_num,
+        max_num_ref_frames: sps.max_num_ref_frames,
+    }
+}
+
+/// Whether an operation makes all frames unused.
+fn is_reset(operation: Operation) -> bool
+    ensures { result ≡ (number_of operation == 5) }
+{
+    match operation {
+        Operation::UnmarkAll => true,
+        _ => false,
+    }
+}
+
+fn has_reset(operations: &[MarkingOperation]) -> bool
+    ensures { result ≡ list_any (λ o. number_of o.operation == 5) operations.now }
+{
+    operations.iter().any(|o| is_reset(o.operation))
+}
+
+fn resets_by(marking: &Marking) -> bool
+    ensures { result ≡ resets_by marking.now }
+{
+    match marking {
+        Marking::Idr { .. } => false,
+        Marking::SlidingWindow => false,
+        Marking::Adaptive(operations) => has_reset(operations.as_slice()),
+    }
+}
+
+/// Whether operation 5 is among a slice's marking.
+pub(crate) fn resets(marking: &Option<Found<Marking>>) -> bool
+    ensures { result ≡ resets marking.now }
+{
+    match marking {
+        None => false,
+        Some(found) => resets_by(&found.value),
+    }
+}
+
+/// Marks at the end of a picture that has this number, where it is a reference.
+pub(crate) fn mark_end(
+    marking: &Option<Found<Marking>>,
+    numbering: &Numbering,
+    number: u64,
+    held: &mut Held,
+) -> Result<(), Stop>
+    ensures answer { result ≡ mark_answer (ended marking.now numbering.now number held.old) }
+    ensures held { held.new ≡ result_unwrap_or (ended marking.now numbering.now number held.old) held.old }
+{
+    match marking {
+        None => Ok(()),
+        Some(marking) => held.mark(numbering, number, marking),
+    }
+}
+
+/// A picture that has begun with this slice.
+pub(crate) fn begun(header: Header, numbering: Numbering) -> OpenPicture
+    ensures { (pictures : List CodedPicture) (sps : Sps) → numbering ≡ numbering_of sps header → HoldsPicture (header ∷ []) (record { first = header; sps = sps } ∷ pictures) result }
+{
+    let types = types_with(seen_types(&None), &header);
+    OpenPicture {
+        first: header,
+        last: None,
+        types,
+        numbering,
+    }
+}
+
+/// A picture with one more slice.
+pub(crate) fn gone_on(picture: OpenPicture, header: Header) -> OpenPicture
+    ensures { (slices : List Header) (pictures : List CodedPicture) → HoldsPicture slices pictures picture → HoldsPicture (header ∷ slices) pictures result }
+{
+    let types = types_with(picture.types, &header);
+    OpenPicture {
+        last: Some(header),
+        types,
+        ..picture
+    }
+}

@@ -1,0 +1,194 @@
+//! The rules that a slice meets one after another.
+#![tactic(auto)]
+
+ghost use Rattle.std.specs.Prelude.{◌≡◌, not, ◌&&◌, ◌||◌, ◌∷◌, [], ◌≤◌, pos, ◌+ℤ◌, OnOk, Ok, Err, if◌then◌else◌};
+ghost use Rattle.std.specs.Option.{is_some};
+ghost use Rattle.h264_base.specs.declared.stop.Stop.TheVariants.{No};
+ghost use Rattle.h264_header.specs.Layout.{sets_of};
+ghost use Rattle.h264_verify.specs.Demands.{judged};
+ghost use Rattle.h264_verify.specs.History.{maps_with};
+ghost use Rattle.h264_verify.specs.declared.judge.Content.TheVariants as contents;
+ghost use Rattle.h264_verify.specs.Keeping.{marking_by};
+ghost use Rattle.h264_verify.specs.Slices.{idr_id, changes_id, bit_of_id, bit_of_marking, is_qp, first_demands, type_demands, id_demand, qp_demand, list_of, list_demand, same_marking, mark_differs_demand};
+
+use crate::marking::same_marking;
+use crate::picture::{OpenPicture, Types, agrees, is_i};
+use h264_base::{Rule, Stop};
+use h264_bits::Found;
+use h264_header::{Header, Marking, SliceKind, named_sets};
+use h264_lists::build;
+use h264_marking::{Held, Numbering};
+use h264_pps::Pps;
+use h264_sets::Sets;
+use h264_sps::sps::Sps;
+
+/// Names a rule that is not met.
+pub(crate) fn check(holds: bool, rule: Rule, bit: u64) -> Result<(), Stop>
+    ensures { result ≡ (if holds then Ok tt else Err (No bit rule)) }
+{
+    if holds {
+        Ok(())
+    } else {
+        Err(Stop::No { bit, rule })
+    }
+}
+
+/// Whether the sets of this pic_parameter_set_id are there.
+fn has_sets(sets: &Sets, pic_parameter_set_id: u32) -> bool
+    requires { pic_parameter_set_id ≤ 255 }
+    ensures { result ≡ is_some (sets_of sets.now pic_parameter_set_id) }
+{
+    match named_sets(sets, pic_parameter_set_id) {
+        Some(_) => true,
+        None => false,
+    }
+}
+
+/// Whether a slice may stand where an IDR picture is due or not.
+fn may_begin(begins: bool, due: bool, idr: bool) -> bool
+    ensures { result ≡ ((not begins || not due) || idr) }
+{
+    !begins || !due || idr
+}
+
+/// Whether a slice begins a picture that may change the sequence parameter set.
+fn renews(begins: bool, idr: bool) -> bool
+    ensures { result ≡ (begins && idr) }
+{
+    begins && idr
+}
+
+/// The rules on where a slice stands: whether it may begin a picture here, and with these sets, which become the active ones.
+pub(crate) fn check_begin(
+    begins: bool,
+    due: bool,
+    sets: &mut Sets,
+    bit: u64,
+    header: &Header,
+) -> Result<(), Stop>
+    requires { header.now.pic_parameter_set_id.value ≤ 255 }
+    ensures judged { result ≡ judged (first_demands (sets_of sets.old header.now.pic_parameter_set_id.value) begins due sets.old bit header.now) }
+    ensures activated { OnOk result (sets.new ≡ maps_with sets.old (contents.OfSlice header.now)) }
+{
+    let id = header.pic_parameter_set_id;
+    check(has_sets(sets, id.value), Rule::NoSet, id.bit)?;
+    let idr = header.idr_pic_id.is_some();
+    check(may_begin(begins, due, idr), Rule::FirstPicture, bit)?;
+    sets.activate(id.value, id.bit, renews(begins, idr))
+}
+
+/// The rules on a slice's type.
+pub(crate) fn check_type(begins: bool, types: Types, sps: &Sps, header: &Header) -> Result<(), Stop>
+    ensures { result ≡ judged (type_demands begins types sps.now header.now) }
+{
+    let idr = header.idr_pic_id.is_some();
+    let may_be_p = !(idr || sps.max_num_ref_frames == 0);
+    let bit = header.kind.bit;
+    check(is_i(&header.kind.value) || may_be_p, Rule::SliceType, bit)?;
+    check(begins || agrees(types, header), Rule::SliceType, bit)
+}
+
+/// The bit of an idr_pic_id that may not be there.
+fn bit_of_id(id: Option<Found<u32>>) -> u64
+    ensures { result ≡ bit_of_id id }
+{
+    match id {
+        None => 0,
+        Some(found) => found.bit,
+    }
+}
+
+/// Whether idr_pic_id differs from that of the IDR picture directly before.
+fn changes_id(newest: Option<u32>, id: Option<Found<u32>>) -> bool
+    ensures { result ≡ changes_id newest id }
+{
+    match (newest, id) {
+        (Some(newest), Some(id)) => newest != id.value,
+        _ => true,
+    }
+}
+
+pub(crate) fn idr_id(id: Option<Found<u32>>) -> Option<u32>
+    ensures { result ≡ idr_id id }
+{
+    match id {
+        None => None,
+        Some(found) => Some(found.value),
+    }
+}
+
+/// The rule on idr_pic_id.
+pub(crate) fn check_id(begins: bool, newest_idr: Option<u32>, header: &Header) -> Result<(), Stop>
+    ensures { result ≡ judged (id_demand begins newest_idr header.now ∷ []) }
+{
+    let changes = !begins || changes_id(newest_idr, header.idr_pic_id);
+    check(changes, Rule::IdrPicId, bit_of_id(header.idr_pic_id))
+}
+
+/// SliceQPY (7.4.3).
+fn slice_qp(init: i32, delta: i32) -> i64
+    ensures { result ≡ (pos 26 +ℤ init) +ℤ delta }
+{
+    26 + init as i64 + delta as i64
+}
+
+/// Whether SliceQPY lies in 0 to 51.
+fn is_qp(init: i32, delta: i32) -> bool
+    ensures { result ≡ is_qp init delta }
+{
+    let qp = slice_qp(init, delta);
+    0 <= qp && qp <= 51
+}
+
+/// The rule on a slice's QP.
+pub(crate) fn check_qp(pps: &Pps, header: &Header) -> Result<(), Stop>
+    ensures { result ≡ judged (qp_demand pps.now header.now ∷ []) }
+{
+    let qp = is_qp(pps.pic_init_qp_minus26, header.slice_qp_delta.value);
+    check(qp, Rule::Qp, header.slice_qp_delta.bit)
+}
+
+/// The rule on the modifications of a slice's list.
+pub(crate) fn check_list(kind: &SliceKind, numbering: &Numbering, held: &Held) -> Result<(), Stop>
+    ensures { result ≡ judged (list_demand (list_of kind.now numbering.now held.now) ∷ []) }
+{
+    match kind {
+        SliceKind::I => Ok(()),
+        SliceKind::P(list) => {
+            build(held, numbering, list)?;
+            Ok(())
+        }
+    }
+}
+
+/// The bit of a marking that may not be there.
+fn bit_of_marking(marking: &Option<Found<Marking>>) -> u64
+    ensures { result ≡ bit_of_marking marking.now }
+{
+    match marking {
+        None => 0,
+        Some(found) => found.bit,
+    }
+}
+
+/// Whether a picture that may go on has this marking.
+fn has_marking(picture: &Option<OpenPicture>, marking: &Option<Found<Marking>>) -> bool
+    ensures { result ≡ same_marking (marking_by picture.now) marking.now }
+{
+    match picture {
+        None => same_marking(&None, marking),
+        Some(picture) => same_marking(&picture.first.marking, marking),
+    }
+}
+
+/// The rule on the marking of a picture's later slices.
+pub(crate) fn check_marking(
+    begins: bool,
+    picture: &Option<OpenPicture>,
+    header: &Header,
+) -> Result<(), Stop>
+    ensures { result ≡ judged (mark_differs_demand begins (marking_by picture.now) header.now ∷ []) }
+{
+    let same = begins || has_marking(picture, &header.marking);
+    check(same, Rule::MarkDiffers, bit_of_marking(&header.marking))
+}
