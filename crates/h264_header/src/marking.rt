@@ -1,7 +1,7 @@
 //! Reading the marking of reference pictures (7.3.3.3).
 #![tactic(auto)]
 
-ghost use Rattle.std.specs.Prelude.{◌≡◌, ℕ, ◌==◌, ◌-◌, ◌<◌, ◌^◌, [], IfOk, OnSome};
+ghost use Rattle.std.specs.Prelude.{◌≡◌, ℕ, ◌==◌, ◌-◌, ◌<◌, ◌^◌, true, [], Some, None, IfOk, OnSome};
 ghost use Rattle.std.specs.List.{list_any};
 ghost use Rattle.arrayvec.specs.ArrayVec.{array_vec_len};
 ghost use Rattle.h264_base.specs.Meets.{Meets, Is};
@@ -157,8 +157,7 @@ fn read_operation<S: Elements>(
     }
 }
 
-/// The operations up to the 0 that ends them. Apart, so that a header without any does not fill their places.
-#[inline(never)]
+/// The operations up to the 0 that ends them.
 fn read_operations<S: Elements>(
     bits: &mut Bits,
     sink: &mut S,
@@ -178,78 +177,111 @@ fn read_operations<S: Elements>(
 }
 
 /// The marking of an IDR picture.
-fn read_idr_marking<S: Elements>(bits: &mut Bits, sink: &mut S) -> Result<Found<Marking>, Stop>
+fn read_idr_marking<S: Elements>(
+    marking: &mut Option<Found<Marking>>,
+    bits: &mut Bits,
+    sink: &mut S,
+) -> Result<(), Stop>
     requires { S.failures sink.old < 2 ^ 64 - 1 }
-    ensures { Meets S.took S.failures (Is (λ x. x)) idr_marking bits.old bits.new sink.old sink.new result }
+    ensures { Meets S.took S.failures (λ _ m. marking.new ≡ Some m) idr_marking bits.old bits.new sink.old sink.new result }
 {
     let no_output = read_flag(bits, ElementName::NoOutputOfPriorPicsFlag, sink)?;
     let long_term = flag_value(bits, ElementName::LongTermReferenceFlag, sink)?;
-    Ok(Found {
+    *marking = Some(Found {
         bit: no_output.bit,
         value: Marking::Idr {
             no_output_of_prior_pics_flag: no_output.value,
             long_term_reference_flag: long_term,
         },
-    })
+    });
+    Ok(())
 }
 
-/// What the adaptive flag says.
-fn read_marking_mode<S: Elements>(
-    adaptive: bool,
+/// An adaptive marking, whose flag stands at this bit. Apart, so that another marking does not fill the operations' places.
+#[inline(never)]
+fn read_adaptive<S: Elements>(
+    bit: u64,
+    marking: &mut Option<Found<Marking>>,
     bits: &mut Bits,
     sink: &mut S,
-) -> Result<Marking, Stop>
+) -> Result<(), Stop>
     requires { S.failures sink.old < 2 ^ 64 - 1 }
-    ensures { Meets S.took S.failures (Is (λ x. x)) (marking_mode adaptive) bits.old bits.new sink.old sink.new result }
+    ensures { Meets S.took S.failures (λ _ m. marking.new ≡ Some (record { bit = bit; value = m })) (marking_mode true) bits.old bits.new sink.old sink.new result }
 {
-    if !adaptive {
-        return Ok(Marking::SlidingWindow);
-    }
     let operations = read_operations(bits, sink)?;
-    Ok(Marking::Adaptive(operations))
+    *marking = Some(Found {
+        bit,
+        value: Marking::Adaptive(operations),
+    });
+    Ok(())
+}
+
+/// What the adaptive flag says, which stands at this bit.
+fn read_marking_mode<S: Elements>(
+    bit: u64,
+    adaptive: bool,
+    marking: &mut Option<Found<Marking>>,
+    bits: &mut Bits,
+    sink: &mut S,
+) -> Result<(), Stop>
+    requires { S.failures sink.old < 2 ^ 64 - 1 }
+    ensures { Meets S.took S.failures (λ _ m. marking.new ≡ Some (record { bit = bit; value = m })) (marking_mode adaptive) bits.old bits.new sink.old sink.new result }
+{
+    if adaptive {
+        return read_adaptive(bit, marking, bits, sink);
+    }
+    *marking = Some(Found {
+        bit,
+        value: Marking::SlidingWindow,
+    });
+    Ok(())
 }
 
 /// The marking of another picture.
-fn read_other_marking<S: Elements>(bits: &mut Bits, sink: &mut S) -> Result<Found<Marking>, Stop>
+fn read_other_marking<S: Elements>(
+    marking: &mut Option<Found<Marking>>,
+    bits: &mut Bits,
+    sink: &mut S,
+) -> Result<(), Stop>
     requires { S.failures sink.old < 2 ^ 64 - 1 }
-    ensures { Meets S.took S.failures (Is (λ x. x)) other_marking bits.old bits.new sink.old sink.new result }
+    ensures { Meets S.took S.failures (λ _ m. marking.new ≡ Some m) other_marking bits.old bits.new sink.old sink.new result }
 {
     let adaptive = read_flag(bits, ElementName::AdaptiveRefPicMarkingModeFlag, sink)?;
-    let marking = read_marking_mode(adaptive.value, bits, sink)?;
-    Ok(Found {
-        bit: adaptive.bit,
-        value: marking,
-    })
+    read_marking_mode(adaptive.bit, adaptive.value, marking, bits, sink)?;
+    Ok(())
 }
 
 /// The marking of a picture.
 fn read_dec_ref_pic_marking<S: Elements>(
     idr: bool,
+    marking: &mut Option<Found<Marking>>,
     bits: &mut Bits,
     sink: &mut S,
-) -> Result<Found<Marking>, Stop>
+) -> Result<(), Stop>
     requires { S.failures sink.old < 2 ^ 64 - 1 }
-    ensures { Meets S.took S.failures (Is (λ x. x)) (dec_ref_pic_marking idr) bits.old bits.new sink.old sink.new result }
+    ensures { Meets S.took S.failures (λ _ m. marking.new ≡ Some m) (dec_ref_pic_marking idr) bits.old bits.new sink.old sink.new result }
 {
     if idr {
-        return read_idr_marking(bits, sink);
+        return read_idr_marking(marking, bits, sink);
     }
-    read_other_marking(bits, sink)
+    read_other_marking(marking, bits, sink)
 }
 
-/// The marking, where the picture is a reference.
+/// The marking, where the picture is a reference, in a place of the caller that holds none: it is large to move.
 pub(crate) fn read_marking<S: Elements>(
     reference: bool,
     idr: bool,
+    marking: &mut Option<Found<Marking>>,
     bits: &mut Bits,
     sink: &mut S,
-) -> Result<Option<Found<Marking>>, Stop>
-    requires { S.failures sink.old < 2 ^ 64 - 1 }
-    ensures { Meets S.took S.failures (Is (λ x. x)) (optional reference (dec_ref_pic_marking idr)) bits.old bits.new sink.old sink.new result }
+) -> Result<(), Stop>
+    requires none { marking.old ≡ None }
+    requires room { S.failures sink.old < 2 ^ 64 - 1 }
+    ensures { Meets S.took S.failures (Is (λ _. marking.new)) (optional reference (dec_ref_pic_marking idr)) bits.old bits.new sink.old sink.new result }
 {
     if !reference {
-        return Ok(None);
+        return Ok(());
     }
-    let part = read_dec_ref_pic_marking(idr, bits, sink)?;
-    Ok(Some(part))
+    read_dec_ref_pic_marking(idr, marking, bits, sink)?;
+    Ok(())
 }

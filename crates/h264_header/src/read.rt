@@ -12,7 +12,8 @@ ghost use Rattle.h264_header.specs.Header.{is_judged_type, type_of, stated_type,
 use crate::header::{Deblocking, FilterOffsets, Header, PicOrderCnt, SliceUnit};
 use crate::layout::{CountElements, Layout, named_layout};
 use crate::marking::read_marking;
-use crate::ref_list::read_slice_kind;
+use crate::ref_list::{kind_of, read_slice_kind};
+use arrayvec::ArrayVec;
 use h264_base::{ElementName, Elements, Rule, SliceType, Stop};
 use h264_bits::forms::{se_value, se_within, ue_up_to};
 use h264_bits::{Bits, Found, check, read_bits, read_se, read_ue};
@@ -267,8 +268,11 @@ fn header_steps<S: Elements>(
     let frame_num = read_bits(bits, ElementName::FrameNum, layout.frame_num_length, sink)?;
     let idr = read_idr(unit.idr_pic_flag, bits, sink)?;
     let order = read_pic_order_cnt(layout.count, layout.has_bottom, bits, sink)?;
-    let kind = read_slice_kind(layout, stated.slice_type, bits, sink)?;
-    let marking = read_marking(unit.nal_ref_idc > 0, unit.idr_pic_flag, bits, sink)?;
+    let mut modifications = ArrayVec::new();
+    let active = read_slice_kind(layout, stated.slice_type, &mut modifications, bits, sink)?;
+    let mut marking = None;
+    let reference = unit.nal_ref_idc > 0;
+    read_marking(reference, unit.idr_pic_flag, &mut marking, bits, sink)?;
     let qp = read_se(bits, ElementName::SliceQpDelta, sink)?;
     let filter = read_deblocking(layout.has_deblocking_control, bits, sink)?;
     Ok(Header {
@@ -276,7 +280,7 @@ fn header_steps<S: Elements>(
         first_mb_in_slice: first_mb,
         kind: Found {
             bit: stated.bit,
-            value: kind,
+            value: kind_of(active, modifications),
         },
         same_type_in_picture: stated.same_in_picture,
         pic_parameter_set_id: named.id,

@@ -5,7 +5,7 @@ ghost use Rattle.std.specs.Prelude.{◌≡◌, ℕ, ◌+◌, ◌-◌, ◌<◌, �
 ghost use Rattle.arrayvec.specs.ArrayVec.{array_vec_len};
 ghost use Rattle.h264_base.specs.Meets.{Meets, Is};
 ghost use Rattle.h264_header.specs.Listed.{listed};
-ghost use Rattle.h264_header.specs.RefList.{num_ref_idx_l0_active, active_of, abs_diff, command, is_command_allowed, modification, modifications_if, ref_pic_list0, slice_kind};
+ghost use Rattle.h264_header.specs.RefList.{num_ref_idx_l0_active, active_of, abs_diff, command, is_command_allowed, modification, modifications_if, ref_pic_list0, kind_of, slice_kind};
 
 use crate::header::{Modification, PicNumModification, RefPicList0, SliceKind};
 use crate::layout::Layout;
@@ -174,45 +174,47 @@ fn read_modification<S: Elements>(
     }
 }
 
-/// The commands up to the one that ends them. Apart, so that a header without any does not fill their places.
-#[inline(never)]
+/// The commands up to the one that ends them, into an empty list.
 fn read_commands<S: Elements>(
     max_frame_num: u32,
     active: u32,
+    commands: &mut ArrayVec<PicNumModification, 16>,
     bits: &mut Bits,
     sink: &mut S,
-) -> Result<ArrayVec<PicNumModification, 16>, Stop>
+) -> Result<(), Stop>
     requires few { active ≤ 16 }
+    requires empty { commands.old.items ≡ [] }
     requires room { S.failures sink.old < 2 ^ 64 - 1 }
-    ensures { Meets S.took S.failures (Is (λ x. x.items)) (listed (modification max_frame_num active) (active + 1) []) bits.old bits.new sink.old sink.new result }
+    ensures { Meets S.took S.failures (Is (λ _. commands.new.items)) (listed (modification max_frame_num active) (active + 1) []) bits.old bits.new sink.old sink.new result }
 {
-    let mut commands = ArrayVec::new();
     for _turn in 0..active + 1 {
-        let next = read_modification(max_frame_num, active, &commands, bits, sink)?;
+        let next = read_modification(max_frame_num, active, commands, bits, sink)?;
         match next {
             Some(command) => commands.push(command),
-            None => return Ok(commands),
+            None => return Ok(()),
         }
     }
-    Ok(commands)
+    Ok(())
 }
 
-/// The commands, of which there are none where the flag is 0.
+/// The commands, of which there are none where the flag is 0, into an empty list.
 fn read_modifications<S: Elements>(
     max_frame_num: u32,
     active: u32,
     modified: bool,
+    commands: &mut ArrayVec<PicNumModification, 16>,
     bits: &mut Bits,
     sink: &mut S,
-) -> Result<ArrayVec<PicNumModification, 16>, Stop>
+) -> Result<(), Stop>
     requires few { active ≤ 16 }
+    requires empty { commands.old.items ≡ [] }
     requires room { S.failures sink.old < 2 ^ 64 - 1 }
-    ensures { Meets S.took S.failures (Is (λ x. x.items)) (modifications_if max_frame_num active modified) bits.old bits.new sink.old sink.new result }
+    ensures { Meets S.took S.failures (Is (λ _. commands.new.items)) (modifications_if max_frame_num active modified) bits.old bits.new sink.old sink.new result }
 {
     if !modified {
-        return Ok(ArrayVec::new());
+        return Ok(());
     }
-    read_commands(max_frame_num, active, bits, sink)
+    read_commands(max_frame_num, active, commands, bits, sink)
 }
 
 /// MaxFrameNum.
@@ -223,42 +225,60 @@ fn max_frame_num_of(frame_num_length: u32) -> u32
     1 << frame_num_length
 }
 
-/// The list's length and its modifications.
+/// The list's length, with its modifications in an empty list.
 fn read_ref_pic_list0<S: Elements>(
     layout: Layout,
+    commands: &mut ArrayVec<PicNumModification, 16>,
     bits: &mut Bits,
     sink: &mut S,
-) -> Result<RefPicList0, Stop>
+) -> Result<u32, Stop>
     requires short { layout.frame_num_length ≤ 16 }
+    requires empty { commands.old.items ≡ [] }
     requires room { S.failures sink.old < 2 ^ 64 - 1 }
-    ensures { Meets S.took S.failures (Is (λ x. x)) (ref_pic_list0 layout) bits.old bits.new sink.old sink.new result }
+    ensures { Meets S.took S.failures (Is (λ active. record { num_ref_idx_l0_active = active; modifications = commands.new })) (ref_pic_list0 layout) bits.old bits.new sink.old sink.new result }
 {
     let active = read_override(layout.default_active_minus1, bits, sink)?;
     let modified = flag_value(bits, ElementName::RefPicListModificationFlagL0, sink)?;
     let max_frame_num = max_frame_num_of(layout.frame_num_length);
-    let commands = read_modifications(max_frame_num, active, modified, bits, sink)?;
-    Ok(RefPicList0 {
-        num_ref_idx_l0_active: active,
-        modifications: commands,
-    })
+    read_modifications(max_frame_num, active, modified, commands, bits, sink)?;
+    Ok(active)
 }
 
-/// What only slices of this type have.
+/// What only slices of this type have: the length of a P slice's list, with its modifications in an empty list of the
+/// caller, which is large to move.
 pub(crate) fn read_slice_kind<S: Elements>(
     layout: Layout,
     slice_type: SliceType,
+    commands: &mut ArrayVec<PicNumModification, 16>,
     bits: &mut Bits,
     sink: &mut S,
-) -> Result<SliceKind, Stop>
+) -> Result<Option<u32>, Stop>
     requires short { layout.frame_num_length ≤ 16 }
+    requires empty { commands.old.items ≡ [] }
     requires room { S.failures sink.old < 2 ^ 64 - 1 }
-    ensures { Meets S.took S.failures (Is (λ x. x)) (slice_kind layout slice_type) bits.old bits.new sink.old sink.new result }
+    ensures { Meets S.took S.failures (Is (λ active. kind_of active commands.new.items)) (slice_kind layout slice_type) bits.old bits.new sink.old sink.new result }
 {
     match slice_type {
         SliceType::P => {
-            let list = read_ref_pic_list0(layout, bits, sink)?;
-            Ok(SliceKind::P(list))
+            let active = read_ref_pic_list0(layout, commands, bits, sink)?;
+            Ok(Some(active))
         }
-        SliceType::I => Ok(SliceKind::I),
+        SliceType::I => Ok(None),
+    }
+}
+
+/// The kind of a slice, by the length of its list, if it has one, and the list's modifications.
+pub(crate) fn kind_of(
+    active: Option<u32>,
+    modifications: ArrayVec<PicNumModification, 16>,
+) -> SliceKind
+    ensures { result ≡ kind_of active modifications.items }
+{
+    match active {
+        Some(num_ref_idx_l0_active) => SliceKind::P(RefPicList0 {
+            num_ref_idx_l0_active,
+            modifications,
+        }),
+        None => SliceKind::I,
     }
 }

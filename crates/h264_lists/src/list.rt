@@ -5,7 +5,7 @@ ghost use Rattle.std.specs.Prelude.{◌≡◌, ◌≤◌, length};
 ghost use Rattle.h264_lists.specs.Built.{built, list_answer};
 
 use crate::initial::initial;
-use crate::modified::modified;
+use crate::modified::modify;
 use crate::slot::RefSlot;
 use arrayvec::ArrayVec;
 use h264_base::Stop;
@@ -22,8 +22,9 @@ pub(crate) fn list_of(
     ensures { result ≡ list_answer (built current.now list.now frames.now) }
 {
     let places = list.num_ref_idx_l0_active.min(16) as usize;
-    let slots = initial(current, places, frames);
-    modified(current, frames, list.modifications.as_slice(), slots)
+    let mut slots = initial(current, places, frames);
+    modify(current, frames, list.modifications.as_slice(), &mut slots)?;
+    Ok(slots)
 }
 
 /// RefPicList0 of a P slice: as many places as it has active, at most 16.

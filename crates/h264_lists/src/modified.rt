@@ -3,16 +3,15 @@
 
 ghost use Rattle.std.specs.Prelude.{◌≡◌, ℕ, ◌+◌, ◌-◌, ◌<◌, ◌≤◌, ◌++◌, pos, length, take, drop, remove, position};
 ghost use Rattle.std.specs.List.{find};
-ghost use Rattle.h264_marking.specs.Frames.{has_pic_num, has_index};
+ghost use Rattle.std.specs.Result.{result_map_both};
 ghost use Rattle.h264_lists.specs.Modified.{IsWithin, lowered, raised, pred_after, pic_num_of, is_named, is_in, without_first, put_at, modified};
 ghost use Rattle.h264_lists.specs.Built.{list_answer};
 
-use crate::initial::frame_num_wrap;
 use crate::slot::RefSlot;
 use arrayvec::ArrayVec;
 use h264_base::{Rule, Stop};
 use h264_header::{Modification, PicNumModification};
-use h264_marking::{Numbering, ReferenceFrame, Term};
+use h264_marking::{Numbering, ReferenceFrame};
 
 /// picNumL0NoWrap of command 0.
 fn lowered(current: &Numbering, pred: i64, abs_diff_pic_num_minus1: u32) -> i64
@@ -68,28 +67,6 @@ fn pic_num_of(current: &Numbering, no_wrap: i64) -> i64
     no_wrap
 }
 
-/// Whether a frame is a short-term one with this PicNum.
-fn has_pic_num(current: &Numbering, number: i64, frame: &ReferenceFrame) -> bool
-    ensures { result ≡ has_pic_num current.now number frame.now }
-{
-    match frame.term {
-        Term::Short => frame_num_wrap(current, frame.frame_num) == number,
-        Term::Long { .. } => false,
-    }
-}
-
-/// Whether a frame is a long-term one with this LongTermPicNum.
-fn has_index(index: u32, frame: &ReferenceFrame) -> bool
-    ensures { result ≡ has_index index frame.now }
-{
-    match frame.term {
-        Term::Short => false,
-        Term::Long {
-            long_term_frame_idx,
-        } => long_term_frame_idx == index,
-    }
-}
-
 /// Whether a modification names a frame, where picNumL0NoWrap is so.
 fn is_named(
     current: &Numbering,
@@ -102,9 +79,9 @@ fn is_named(
 {
     match modification {
         Modification::Subtract { .. } | Modification::Add { .. } => {
-            has_pic_num(current, pic_num_of(current, no_wrap), frame)
+            frame.has_pic_num(current, pic_num_of(current, no_wrap))
         }
-        Modification::LongTerm { long_term_pic_num } => has_index(long_term_pic_num, frame),
+        Modification::LongTerm { long_term_pic_num } => frame.has_index(long_term_pic_num),
     }
 }
 
@@ -190,15 +167,17 @@ fn put_at(
     slots.insert(k, RefSlot::Held(frame));
 }
 
-/// The list once the modifications are made in turn, the first at index 0.
-pub(crate) fn modified(
+/// Makes the modifications of the list in turn, the first at index 0.
+///
+/// No: a modification names a frame that is not held; the rule is ListCommand, at the modification's bit.
+pub(crate) fn modify(
     current: &Numbering,
     frames: &[ReferenceFrame],
     modifications: &[PicNumModification],
-    mut slots: ArrayVec<RefSlot, 16>,
-) -> Result<ArrayVec<RefSlot, 16>, Stop>
+    slots: &mut ArrayVec<RefSlot, 16>,
+) -> Result<(), Stop>
     requires { length modifications.now ≤ 16 }
-    ensures { result ≡ list_answer (modified current.now (length slots.items) frames.now 0 (pos current.now.frame_num) modifications.now slots.items) }
+    ensures { result_map_both (λ _. slots.new) (λ stop. stop) result ≡ list_answer (modified current.now (length slots.old.items) frames.now 0 (pos current.now.frame_num) modifications.now slots.old.items) }
 {
     let mut no_wrap = current.frame_num as i64;
     for (k, command) in modifications.iter().enumerate() {
@@ -209,7 +188,7 @@ pub(crate) fn modified(
                 rule: Rule::ListCommand,
             });
         };
-        put_at(current, no_wrap, command.modification, frame, k, &mut slots);
+        put_at(current, no_wrap, command.modification, frame, k, slots);
     }
-    Ok(slots)
+    Ok(())
 }

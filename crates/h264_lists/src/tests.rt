@@ -6,7 +6,10 @@ use crate::list::list_of;
 use crate::slot::RefSlot;
 use arrayvec::ArrayVec;
 use h264_base::{Rule, Stop};
-use h264_header::{Modification, PicNumModification, RefPicList0};
+use h264_bits::Found;
+use h264_header::{
+    Marking, MarkingOperation, Modification, Operation, PicNumModification, RefPicList0,
+};
 use h264_marking::{Held, Numbering, ReferenceFrame, Term};
 use std::test::Fail;
 
@@ -303,5 +306,97 @@ fn nothing_held(rt: HostRuntime) -> Result<(), Fail> {
     let found = build(&Held::new(), &at(3), &list(2, [].as_slice())?)?;
     let wanted = [RefSlot::NoPicture, RefSlot::NoPicture];
     assert!(rt; found.as_slice() == wanted.as_slice());
+    Ok(())
+}
+
+/// Marks the picture with the number of its frame_num.
+fn mark(held: &mut Held, current: &Numbering, value: Marking) -> Result<(), Stop> {
+    held.mark(current, current.frame_num as u64, &Found { bit: 0, value })
+}
+
+/// The first picture, an IDR picture.
+const IDR: Marking = Marking::Idr {
+    no_output_of_prior_pics_flag: false,
+    long_term_reference_flag: false,
+};
+
+/// The frame with PicNum 0 gets the only long-term index, where frame_num is 2: picNumX is 2 - 2.
+fn first_made_long() -> Result<Marking, Fail> {
+    let mut operations = ArrayVec::new();
+    operations.try_extend_from_slice([
+        MarkingOperation {
+            bit: 1,
+            operation: Operation::LimitLongTerm {
+                max_long_term_frame_idx_plus1: 1,
+            },
+        },
+        MarkingOperation {
+            bit: 2,
+            operation: Operation::MakeLongTerm {
+                difference_of_pic_nums_minus1: 1,
+                long_term_frame_idx: 0,
+            },
+        },
+    ]
+    .as_slice())?;
+    Ok(Marking::Adaptive(operations))
+}
+
+/// Frame 0, which is a long-term one, the frames 1 and 2, and that of the missing frame_num 3. From 4 on command 0 names 4 - 2.
+#[test]
+fn after_markings(rt: HostRuntime) -> Result<(), Fail> {
+    let mut held = Held::new();
+    mark(&mut held, &at(0), IDR)?;
+    mark(&mut held, &at(1), Marking::SlidingWindow)?;
+    mark(&mut held, &at(2), first_made_long()?)?;
+    held.fill_gap(&at(3), 0)?;
+    let missing = RefSlot::Held(ReferenceFrame {
+        picture: None,
+        frame_num: 3,
+        term: Term::Short,
+    });
+    let first = RefSlot::Held(ReferenceFrame {
+        picture: Some(0),
+        frame_num: 0,
+        term: Term::Long {
+            long_term_frame_idx: 0,
+        },
+    });
+    let second = RefSlot::Held(short(1));
+    let third = RefSlot::Held(short(2));
+    let whole = build(&held, &at(4), &list(5, [].as_slice())?)?;
+    let order = [missing, third, second, first, RefSlot::NoPicture];
+    assert!(rt; whole.as_slice() == order.as_slice());
+    let cut = build(&held, &at(4), &list(2, [].as_slice())?)?;
+    assert!(rt; cut.as_slice() == [missing, third].as_slice());
+    let commands = [long_term(0), subtract(1)];
+    let moved = build(&held, &at(4), &list(5, commands.as_slice())?)?;
+    let order = [first, third, missing, second, RefSlot::NoPicture];
+    assert!(rt; moved.as_slice() == order.as_slice());
+    Ok(())
+}
+
+/// Frames 13 to 15 in three places: at frame_num 0 they have PicNum -3 to -1, and command 0 names 0 - 3; frame 12 has gone.
+#[test]
+fn after_a_wrap(rt: HostRuntime) -> Result<(), Fail> {
+    let mut held = Held::new();
+    mark(&mut held, &at(0), IDR)?;
+    for frame_num in 1..16 {
+        let mut current = at(frame_num);
+        current.max_num_ref_frames = 3;
+        mark(&mut held, &current, Marking::SlidingWindow)?;
+    }
+    let found = build(&held, &at(0), &list(3, [].as_slice())?)?;
+    let last = RefSlot::Held(short(15));
+    let middle = RefSlot::Held(short(14));
+    let least = RefSlot::Held(short(13));
+    assert!(rt; found.as_slice() == [last, middle, least].as_slice());
+    let moved = build(&held, &at(0), &list(3, [subtract(2)].as_slice())?)?;
+    assert!(rt; moved.as_slice() == [least, last, middle].as_slice());
+    let refused = Err(Stop::No {
+        bit: 40,
+        rule: Rule::ListCommand,
+    });
+    assert!(rt; build(&held, &at(0), &list(3, [subtract(3)].as_slice())?) == refused);
     Ok(())
 }

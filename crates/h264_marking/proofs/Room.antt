@@ -1,8 +1,12 @@
 -- No more frames are held than there are places.
 use Rattle.std.proofs.Common.{◌≡◌, ℕ, ◌+◌, ◌<◌, ◌≤◌, Bool, true, false, Option, Some, None, Result, Ok, Err, List, [], ◌∷◌, ◌++◌, length, nat_lt, ℤ, refl, ap, sym, ◌∙◌, cond, arith, length-append}
 use Rattle.std.proofs.lemmas.Bool.Decides.{nat_tests}
-use Rattle.std.specs.Bool.{then_some}
-use Rattle.std.specs.Option.{option_map, option_and_then, ok_or}
+use Rattle.std.specs.Prelude.{unwrap_or, OnOk}
+use Rattle.std.specs.Option.{is_some, option_map, option_and_then, ok_or}
+use Rattle.std.specs.Result.{result_unwrap_or}
+use Rattle.h264_base.specs.declared.rule.Rule.TheVariants.{MarkCommand}
+use Rattle.h264_base.specs.declared.stop.Stop.{Stop}
+use Rattle.h264_base.specs.declared.stop.Stop.TheVariants.{No}
 use Rattle.h264_header.specs.declared.header.Marking.{Marking}
 use Rattle.h264_header.specs.declared.header.Marking.TheVariants as mode
 use Rattle.h264_marking.specs.declared.frame.ReferenceFrame.{ReferenceFrame}
@@ -10,7 +14,7 @@ use Rattle.h264_marking.specs.declared.frame.Numbering.{Numbering}
 use Rattle.h264_marking.specs.Frames.{References, frame_places, without_pic_num}
 use Rattle.h264_marking.specs.Window.{least_pic_num, slide, with_missing, missing_frame, filled}
 use Rattle.h264_marking.specs.Operations.{Marks, marks_of, with_frames, all_operated}
-use Rattle.h264_marking.specs.Held.{with_own, own_frame, idr_references, slid_and_joined, joined, marked}
+use Rattle.h264_marking.specs.Held.{with_own, own_frame, idr_references, slid_and_joined, joined, marked, mark_answer}
 use Rattle.h264_marking.proofs.Kept.{slid-fewer}
 
 abbrev frames_or : List ReferenceFrame → Option References → List ReferenceFrame
@@ -77,11 +81,47 @@ marked-room c picture bit (mode.Idr no_output long_term) refs next is = let same
 marked-room c picture bit mode.SlidingWindow refs next is = slid-own-room c picture refs next (slide c refs.frames) (from-ok (slid_and_joined c picture refs) bit next is)
 marked-room c picture bit (mode.Adaptive operations) refs next is = joined-room c picture bit (all_operated c operations.items (marks_of refs)) next is
 
--- what the code of a gap leaves, and what it refuses
-pub filled-as : (m : Numbering) (refs now : References) (places left : List ReferenceFrame) (r : Bool) → refs ≡ now → places ≡ refs.frames → r ≡ true → then_some r left ≡ option_and_then (with_missing m.frame_num) (slide m places) → Some (record refs { frames = left }) ≡ filled m now
-unfolding filled
-filled-as m refs now places left r e p t is = rw (← e, ← p, ← is, t) refl
+-- what the code of a gap answers, and what it leaves
+some-mapped : {A B : Type 0} (f : A → B) (o : Option A) → is_some (option_map f o) ≡ is_some o
+some-mapped f None = refl
+some-mapped f (Some x) = refl
 
-pub filled-not : (m : Numbering) (refs now : References) (places left : List ReferenceFrame) (r : Bool) → refs ≡ now → places ≡ refs.frames → r ≡ false → then_some r left ≡ option_and_then (with_missing m.frame_num) (slide m places) → (let o : Option References = None in o) ≡ filled m now
+frames-left : (refs : References) (o : Option (List ReferenceFrame)) → (let r : References = record refs { frames = unwrap_or o refs.frames } in r) ≡ unwrap_or (option_map (λ frames. let r : References = record refs { frames = frames } in r) o) refs
+frames-left refs None = refl
+frames-left refs (Some frames) = refl
+
+pub filled-some : (m : Numbering) (refs now : References) (r : Bool) → refs ≡ now → r ≡ is_some (option_and_then (with_missing m.frame_num) (slide m refs.frames)) → is_some (filled m now) ≡ r
 unfolding filled
-filled-not m refs now places left r e p t is = rw (← e, ← p, ← is, t) refl
+filled-some m refs now r e is = rw (← e, is) (some-mapped _ (option_and_then (with_missing m.frame_num) (slide m refs.frames)))
+
+pub filled-left : (m : Numbering) (refs now : References) (left : List ReferenceFrame) → refs ≡ now → left ≡ unwrap_or (option_and_then (with_missing m.frame_num) (slide m refs.frames)) refs.frames → (let r : References = record refs { frames = left } in r) ≡ unwrap_or (filled m now) now
+unfolding filled
+filled-left m refs now left e is = rw (← e, is) (frames-left refs (option_and_then (with_missing m.frame_num) (slide m refs.frames)))
+
+filled-kept-by : (m : Numbering) (now left : References) (o : Option References) → filled m now ≡ o → left ≡ unwrap_or o now → length now.frames ≤ frame_places m.max_num_ref_frames → length left.frames ≤ frame_places m.max_num_ref_frames
+filled-kept-by m now left None f is few = rw is few
+filled-kept-by m now left (Some next) f is few = rw is (filled-room m now next f few)
+
+pub filled-kept : (m : Numbering) (now left : References) → left ≡ unwrap_or (filled m now) now → length now.frames ≤ frame_places m.max_num_ref_frames → length left.frames ≤ frame_places m.max_num_ref_frames
+filled-kept m now left is few = filled-kept-by m now left (filled m now) refl is few
+
+-- what a marking leaves
+marked-kept-by : (c : Numbering) (picture bit : ℕ) (marking : Marking) (refs left : References) (result : Result (Unit {0}) Stop) (r : Result References ℕ) → marked c picture bit marking refs ≡ r → result ≡ mark_answer r → left ≡ result_unwrap_or r refs → OnOk result (length left.frames ≤ frame_places c.max_num_ref_frames)
+marked-kept-by c picture bit marking refs left result (Ok next) m answer is = rw (answer, is) (marked-room c picture bit marking refs next m)
+marked-kept-by c picture bit marking refs left result (Err at) m answer is = rw answer tt
+
+pub marked-kept : (c : Numbering) (picture bit : ℕ) (marking : Marking) (refs left : References) (result : Result (Unit {0}) Stop) → result ≡ mark_answer (marked c picture bit marking refs) → left ≡ result_unwrap_or (marked c picture bit marking refs) refs → OnOk result (length left.frames ≤ frame_places c.max_num_ref_frames)
+marked-kept c picture bit marking refs left result answer is = marked-kept-by c picture bit marking refs left result (marked c picture bit marking refs) refl answer is
+
+-- what the code of the sliding window answers, and what it leaves
+pub met-answer : (o : Option References) (bit : ℕ) (r : Bool) → r ≡ is_some o → r ≡ true → (let done : Result (Unit {0}) Stop = Ok tt in done) ≡ mark_answer (ok_or o bit)
+met-answer None bit r is t = cc
+met-answer (Some refs) bit r is t = refl
+
+pub unmet-answer : (o : Option References) (bit : ℕ) (r : Bool) (stop : Stop) → r ≡ is_some o → r ≡ false → stop ≡ No bit MarkCommand → (let refused : Result (Unit {0}) Stop = Err stop in refused) ≡ mark_answer (ok_or o bit)
+unmet-answer None bit r stop is f e = rw e refl
+unmet-answer (Some refs) bit r stop is f e = cc
+
+pub joined-left : (o : Option References) (bit : ℕ) (refs left : References) → left ≡ unwrap_or o refs → left ≡ result_unwrap_or (ok_or o bit) refs
+joined-left None bit refs left is = is
+joined-left (Some next) bit refs left is = is

@@ -2,12 +2,14 @@
 #![tactic(auto)]
 
 ghost use Rattle.std.specs.Prelude.{◌≡◌};
-ghost use Rattle.h264_marking.specs.Held.{own_frame, with_own, idr_term, idr_references};
+ghost use Rattle.h264_base.specs.declared.rule.Rule.TheVariants as rule;
+ghost use Rattle.h264_base.specs.declared.stop.Stop.TheVariants.{No};
+ghost use Rattle.h264_marking.specs.Held.{own_frame, idr_term};
 
 use crate::frame::{Numbering, ReferenceFrame, Term};
-use crate::numbers::{Places, copied, frame_places};
-use crate::operations::{Marks, operated_all};
-use crate::window::{fill, slide};
+use crate::numbers::{Places, copied, frame_places, has_place, remove_pic_num};
+use crate::operations::{Marks, operate_all};
+use crate::window::{count_others, fill, least_pic_num};
 use arrayvec::ArrayVec;
 use h264_base::{Rule, Stop};
 use h264_bits::Found;
@@ -38,7 +40,7 @@ impl Held {
     ghost use Rattle.h264_base.specs.declared.stop.Stop.TheVariants.{No};
     ghost use Rattle.h264_marking.specs.Frames.{frame_places};
     ghost use Rattle.h264_marking.specs.Window.{filled};
-    ghost use Rattle.h264_marking.specs.Held.{no_references, marked, mark_answer, slid_and_joined, joined};
+    ghost use Rattle.h264_marking.specs.Held.{no_references, marked, mark_answer, idr_references, slid_and_joined, joined};
     ghost use Rattle.h264_marking.specs.Operations.{marks_of, all_operated};
 
     /// No frame yet.
@@ -68,16 +70,13 @@ impl Held {
         ensures held { self.new ≡ unwrap_or (filled missing.now self.old) self.old }
         ensures bounded { length self.old.frames ≤ frame_places missing.now.max_num_ref_frames → length self.new.frames ≤ frame_places missing.now.max_num_ref_frames }
     {
-        match self.filled(missing) {
-            Some(next) => {
-                *self = next;
-                Ok(())
-            }
-            None => Err(Stop::No {
+        if !fill(missing, &mut self.frames) {
+            return Err(Stop::No {
                 bit,
                 rule: Rule::FrameNum,
-            }),
+            });
         }
+        Ok(())
     }
 
     /// Marks at the end of a reference picture of this number, as its first slice says (8.2.5.1). `marking` has the bit of its
@@ -95,67 +94,91 @@ impl Held {
         ensures held { self.new ≡ result_unwrap_or (marked current.now picture marking.now.bit marking.now.value self.old) self.old }
         ensures bounded { OnOk result (length self.new.frames ≤ frame_places current.now.max_num_ref_frames) }
     {
-        match self.marked(current, picture, marking) {
-            Ok(next) => {
-                *self = next;
-                Ok(())
-            }
-            Err(at) => Err(Stop::No {
-                bit: at,
-                rule: Rule::MarkCommand,
-            }),
-        }
-    }
-
-    /// What is held once the frame of a missing frame_num has joined, if it can.
-    fn filled(&self, missing: &Numbering) -> Option<Held>
-        ensures { result ≡ filled missing.now self.now }
-    {
-        let mut places = copied(&self.frames);
-        if !fill(missing, &mut places) {
-            return None;
-        }
-        Some(Held {
-            frames: places,
-            max_long_term_frame_idx_plus1: self.max_long_term_frame_idx_plus1,
-        })
-    }
-
-    /// What is held once the picture is marked, or the bit of what cannot be met.
-    fn marked(
-        &self,
-        current: &Numbering,
-        picture: u64,
-        marking: &Found<Marking>,
-    ) -> Result<Held, u64>
-        ensures { result ≡ marked current.now picture marking.now.bit marking.now.value self.now }
-    {
         match &marking.value {
             Marking::Idr {
                 long_term_reference_flag,
                 ..
-            } => Ok(idr_references(current, picture, *long_term_reference_flag)),
-            Marking::SlidingWindow => self.slid(current, picture).ok_or(marking.bit),
+            } => {
+                self.restart(current, picture, *long_term_reference_flag);
+                Ok(())
+            }
+            Marking::SlidingWindow => {
+                if !self.slide_and_join(current, picture) {
+                    return Err(unmet(marking.bit));
+                }
+                Ok(())
+            }
             Marking::Adaptive(operations) => {
-                self.operated(current, picture, marking.bit, operations.as_slice())
+                self.operate(current, picture, marking.bit, operations.as_slice())
             }
         }
     }
 
-    /// The operations in turn, and then the picture's own frame joins; where there is no place for it, the bit is the marking's.
-    fn operated(
-        &self,
+    /// After an IDR picture its frame alone is held.
+    fn restart(&mut self, current: &Numbering, picture: u64, long_term: bool)
+        ensures { self.new ≡ idr_references current.now picture long_term }
+    {
+        self.frames.clear();
+        self.frames.push(ReferenceFrame {
+            picture: Some(picture),
+            frame_num: current.frame_num,
+            term: idr_term(long_term),
+        });
+        self.max_long_term_frame_idx_plus1 = u32::from(long_term);
+    }
+
+    /// The window slides, and the picture's own frame joins. False where the window cannot, or does not make room; then nothing
+    /// has changed.
+    fn slide_and_join(&mut self, current: &Numbering, picture: u64) -> bool
+        ensures met { result ≡ is_some (slid_and_joined current.now picture self.old) }
+        ensures held { self.new ≡ unwrap_or (slid_and_joined current.now picture self.old) self.old }
+    {
+        let own = ReferenceFrame {
+            picture: Some(picture),
+            frame_num: current.frame_num,
+            term: Term::Short,
+        };
+        if has_place(current, &self.frames) {
+            self.frames.push(own);
+            return true;
+        }
+        let Some(least) = least_pic_num(current, self.frames()) else {
+            return false;
+        };
+        let others = count_others(current, least, self.frames());
+        if others >= frame_places(current.max_num_ref_frames) as usize {
+            return false;
+        }
+        remove_pic_num(current, least, &mut self.frames);
+        self.frames.push(own);
+        true
+    }
+
+    /// The operations in turn, and then the picture's own frame joins.
+    ///
+    /// No: an operation cannot be met, at its bit; or there is no place for the frame, at `bit`. Nothing has changed then.
+    fn operate(
+        &mut self,
         current: &Numbering,
         picture: u64,
         bit: u64,
         operations: &[MarkingOperation],
-    ) -> Result<Held, u64>
-        ensures { result ≡ joined current.now picture bit (all_operated current.now operations.now (marks_of self.now)) }
+    ) -> Result<(), Stop>
+        ensures answer { result ≡ mark_answer (joined current.now picture bit (all_operated current.now operations.now (marks_of self.old))) }
+        ensures held { self.new ≡ result_unwrap_or (joined current.now picture bit (all_operated current.now operations.now (marks_of self.old))) self.old }
     {
-        match operated_all(self.marks(), current, operations) {
-            Ok(marks) => with_own(current, picture, marks).ok_or(bit),
-            Err(at) => Err(at),
+        let mut marks = self.marks();
+        if let Err(at) = operate_all(&mut marks, current, operations) {
+            return Err(unmet(at));
         }
+        if !has_place(current, &marks.places) {
+            return Err(unmet(bit));
+        }
+        let own = own_frame(current, picture, &marks);
+        self.frames = marks.places;
+        self.frames.push(own);
+        self.max_long_term_frame_idx_plus1 = marks.max_long_term_frame_idx_plus1;
+        Ok(())
     }
 
     /// Before the first operation.
@@ -169,16 +192,15 @@ impl Held {
             resets: false,
         }
     }
+}
 
-    /// The window slides, and the picture's own frame joins.
-    fn slid(&self, current: &Numbering, picture: u64) -> Option<Held>
-        ensures { result ≡ slid_and_joined current.now picture self.now }
-    {
-        let mut marks = self.marks();
-        if !slide(current, &mut marks.places) {
-            return None;
-        }
-        with_own(current, picture, marks)
+/// What refuses a marking at this bit.
+fn unmet(bit: u64) -> Stop
+    ensures { result ≡ No bit rule.MarkCommand }
+{
+    Stop::No {
+        bit,
+        rule: Rule::MarkCommand,
     }
 }
 
@@ -193,38 +215,7 @@ fn own_frame(current: &Numbering, picture: u64, marks: &Marks) -> ReferenceFrame
     }
 }
 
-/// The picture's own frame joins, if a place is left.
-fn with_own(current: &Numbering, picture: u64, marks: Marks) -> Option<Held>
-    ensures { result ≡ with_own current.now picture marks }
-{
-    if marks.places.len() >= frame_places(current.max_num_ref_frames) as usize {
-        return None;
-    }
-    let own = own_frame(current, picture, &marks);
-    let mut frames = marks.places;
-    frames.push(own);
-    Some(Held {
-        frames,
-        max_long_term_frame_idx_plus1: marks.max_long_term_frame_idx_plus1,
-    })
-}
-
-/// What is held after an IDR picture: its frame alone.
-fn idr_references(current: &Numbering, picture: u64, long_term: bool) -> Held
-    ensures { result ≡ idr_references current.now picture long_term }
-{
-    let mut frames = ArrayVec::new();
-    frames.push(ReferenceFrame {
-        picture: Some(picture),
-        frame_num: current.frame_num,
-        term: idr_term(long_term),
-    });
-    Held {
-        frames,
-        max_long_term_frame_idx_plus1: if long_term { 1 } else { 0 },
-    }
-}
-
+/// How an IDR picture's frame is marked.
 fn idr_term(long_term: bool) -> Term
     ensures { result ≡ idr_term long_term }
 {

@@ -3,13 +3,12 @@
 
 ghost use Rattle.std.specs.Prelude.{◌≡◌, ◌&&◌, map};
 ghost use Rattle.std.specs.List.{filter, list_any};
+ghost use Rattle.std.specs.Result.{result_map_both};
 ghost use Rattle.h264_marking.specs.Frames.{has_pic_num, is_existing, long_term_num};
 ghost use Rattle.h264_marking.specs.Operations.{pic_num_x, is_below, made_long, all_operated};
 
 use crate::frame::{Numbering, ReferenceFrame, Term};
-use crate::numbers::{
-    Places, has_pic_num, is_index, remove_index, remove_pic_num, some_has_index, some_has_pic_num,
-};
+use crate::numbers::{Places, remove_index, remove_pic_num, some_has_index, some_has_pic_num};
 use h264_header::{MarkingOperation, Operation};
 use std::marker::Model;
 
@@ -65,14 +64,14 @@ fn some_existing_has_pic_num(current: &Numbering, number: i64, frames: &[Referen
 {
     frames
         .iter()
-        .any(|f| has_pic_num(current, number, f) && f.picture.is_some())
+        .any(|f| f.has_pic_num(current, number) && f.picture.is_some())
 }
 
 /// The frame, with the index if it is a short-term frame with the PicNum.
 fn made_long(current: &Numbering, number: i64, index: u32, frame: ReferenceFrame) -> ReferenceFrame
     ensures { result ≡ made_long current.now number index frame }
 {
-    if !has_pic_num(current, number, &frame) {
+    if !frame.has_pic_num(current, number) {
         return frame;
     }
     ReferenceFrame {
@@ -124,7 +123,7 @@ impl Marks {
     {
         some_existing_has_pic_num(current, number, self.places.as_slice())
             && index < self.max_long_term_frame_idx_plus1
-            && !is_index(index, self.current)
+            && !self.current.has_index(index)
     }
 
     /// 3: a held short-term frame gets the index.
@@ -208,17 +207,17 @@ impl Marks {
 }
 
 /// The operations in turn, or the bit of the first that cannot be met.
-pub(crate) fn operated_all(
-    mut marks: Marks,
+pub(crate) fn operate_all(
+    marks: &mut Marks,
     current: &Numbering,
     operations: &[MarkingOperation],
-) -> Result<Marks, u64>
-    ensures { result ≡ all_operated current.now operations.now marks }
+) -> Result<(), u64>
+    ensures { result_map_both (λ _. marks.new) (λ bit. bit) result ≡ all_operated current.now operations.now marks.old }
 {
     for o in operations {
         if !marks.operate(current, o.operation) {
             return Err(o.bit);
         }
     }
-    Ok(marks)
+    Ok(())
 }

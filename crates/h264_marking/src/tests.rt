@@ -212,7 +212,19 @@ fn window_of_one(rt: HostRuntime) -> Result<(), Fail> {
     Ok(())
 }
 
-/// The frames of missing numbers join by the window, also where frame_num wraps.
+/// Where more frames are held than there are places, one that goes does not make room.
+#[test]
+fn window_without_room(rt: HostRuntime) -> Result<(), Fail> {
+    let mut held = after(3, 4)?;
+    assert!(rt; slide(&mut held, at(4, 2)) == refused(MARKING));
+    assert_eq!(rt;
+        held.frames(),
+        [short(0), short(1), short(2), short(3)].as_slice()
+    );
+    Ok(())
+}
+
+/// The frames of missing numbers join by the window, also where frame_num wraps; in one place also that of the number that goes.
 #[test]
 fn gaps(rt: HostRuntime) -> Result<(), Fail> {
     let mut held = after(2, 4)?;
@@ -231,6 +243,9 @@ fn gaps(rt: HostRuntime) -> Result<(), Fail> {
     assert_eq!(rt; held.frames(), [short(15), gap(0)].as_slice());
     held.fill_gap(&at(1, 2), 0)?;
     assert_eq!(rt; held.frames(), [gap(0), gap(1)].as_slice());
+    let mut held = after(1, 1)?;
+    held.fill_gap(&at(1, 1), 0)?;
+    assert_eq!(rt; held.frames(), [gap(1)].as_slice());
     Ok(())
 }
 
@@ -239,11 +254,12 @@ const UNFILLED: Result<(), Stop> = Err(Stop::No {
     rule: Rule::FrameNum,
 });
 
-/// A number that a short-term frame has, and places that long-term frames take.
+/// A number that a short-term frame has, also once the window has slid, and places that long-term frames take.
 #[test]
 fn gaps_refused(rt: HostRuntime) -> Result<(), Fail> {
     let mut held = after(2, 4)?;
     assert!(rt; held.fill_gap(&at(1, 4), 7) == UNFILLED);
+    assert!(rt; held.fill_gap(&at(1, 3), 7) == UNFILLED);
     assert_eq!(rt; held.frames(), [short(0), short(1), short(2)].as_slice());
     let mut held = Held::new();
     idr(&mut held, 1, true)?;

@@ -8,7 +8,7 @@ use Rattle.h264_poc.specs.declared.lsb.Prev.{Prev}
 use Rattle.h264_poc.specs.declared.within.FieldCounts.{FieldCounts}
 use Rattle.h264_poc.specs.declared.step.History.{History}
 use Rattle.h264_poc.specs.Lsb.{no_prev, msb_of, lsb_counts, prev_after}
-use Rattle.h264_poc.specs.Cycle.{offsets_of, cycle_counts}
+use Rattle.h264_poc.specs.Cycle.{cycle_counts}
 use Rattle.h264_poc.specs.Within.{count_within}
 
 -- an IDR picture starts anew
@@ -67,7 +67,7 @@ order_counts idr reference number = record { top = decoding_order_count idr refe
 abbrev pub field_counts_by : Order → Picture → Prev → ℕ → FieldCounts
 field_counts_by (order.Lsb max lsb delta_bottom) p start offset = lsb_counts (msb_of start lsb max) lsb delta_bottom
 field_counts_by (order.Cycle non_ref top_to_bottom cycle delta_top delta_bottom) p start offset =
-    cycle_counts (offsets_of cycle) p.reference (offset + p.frame_num) (record { offset_for_non_ref_pic = non_ref; offset_for_top_to_bottom_field = top_to_bottom; top = delta_top; bottom = delta_bottom })
+    cycle_counts cycle p.reference (offset + p.frame_num) (record { offset_for_non_ref_pic = non_ref; offset_for_top_to_bottom_field = top_to_bottom; top = delta_top; bottom = delta_bottom })
 field_counts_by order.DecodingOrder p start offset =
     order_counts p.idr p.reference (offset + p.frame_num)
 

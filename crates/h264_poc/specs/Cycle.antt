@@ -1,12 +1,7 @@
 -- pic_order_cnt_type 1 (8.2.1.2).
 use Rattle.std.specs.Prelude.{ℕ, ◌+◌, ◌-◌, ◌/◌, ◌%◌, ◌==◌, ◌^◌, ◌⊎◌, neg_ℤ, ◌≤ℤ◌, Bool, true, false, List, [], ◌∷◌, length, take, ℤ, pos, ◌+ℤ◌, ◌*ℤ◌, if◌then◌else◌}
-use Rattle.h264_poc.specs.declared.picture.Cycle.{Cycle}
 use Rattle.h264_poc.specs.declared.cycle.Deltas.{Deltas}
 use Rattle.h264_poc.specs.declared.within.FieldCounts.{FieldCounts}
-
--- the offsets of the cycle
-abbrev pub offsets_of : Cycle → List ℤ
-offsets_of cycle = take cycle.length cycle.offset_for_ref_frame
 
 abbrev pub sum_of : List ℤ → ℤ
 sum_of [] = pos 0

@@ -2,7 +2,7 @@
 #![tactic(auto)]
 
 ghost use Rattle.std.specs.Prelude.{◌≡◌, ℕ, ◌+◌, ◌-◌, ◌*◌, ◌^◌, ◌<◌, ◌≤◌, ◌≤ℤ◌, neg_ℤ, pos, length, IfSome, IfNone};
-ghost use Rattle.h264_poc.specs.Cycle.{sum_of, abs_frame_num, expected, offsets_of, with_non_ref, counts_from, cycle_counts, IsFar};
+ghost use Rattle.h264_poc.specs.Cycle.{sum_of, abs_frame_num, expected, with_non_ref, counts_from, cycle_counts, IsFar};
 ghost use Rattle.h264_poc.specs.Within.{count_within};
 
 use crate::picture::{Count, Cycle};
@@ -69,14 +69,6 @@ fn expected(offsets: &[i32], abs: u64) -> Option<i64>
     Some(cycles + begun)
 }
 
-/// The offsets of the cycle.
-fn offsets_of(cycle: &Cycle) -> &[i32]
-    ensures is { result.now ≡ offsets_of cycle.now }
-    ensures short { length result.now ≤ 255 }
-{
-    &cycle.offset_for_ref_frame[..(cycle.length as usize).min(255)]
-}
-
 /// The elements of type 1 beside the cycle.
 #[derive(Clone, Copy)]
 pub(crate) struct Deltas {
@@ -121,9 +113,9 @@ pub(crate) fn cycle_count(
     deltas: Deltas,
 ) -> Option<Count>
     requires { number < 2 ^ 63 }
-    ensures { result ≡ count_within (cycle_counts (offsets_of cycle.now) reference number deltas) }
+    ensures { result ≡ count_within (cycle_counts cycle.now reference number deltas) }
 {
-    let offsets = offsets_of(cycle);
+    let offsets = cycle.offsets();
     let abs = abs_frame_num(offsets, reference, number);
     let Some(base) = expected(offsets, abs) else {
         return None;

@@ -139,16 +139,16 @@ fn counted(picture: &Picture, start: Prev, offset: u64) -> Option<WithPrev>
     ensures small { IfSome result (λ c. IsSmallPrev c.prev) }
 {
     let number = offset + picture.frame_num as u64;
-    match picture.order {
+    match &picture.order {
         Order::Lsb {
             max_pic_order_cnt_lsb,
             pic_order_cnt_lsb,
             delta_pic_order_cnt_bottom,
         } => lsb_counted(
             start,
-            max_pic_order_cnt_lsb,
-            pic_order_cnt_lsb,
-            delta_pic_order_cnt_bottom,
+            *max_pic_order_cnt_lsb,
+            *pic_order_cnt_lsb,
+            *delta_pic_order_cnt_bottom,
             picture.resets,
         ),
         Order::Cycle {
@@ -159,12 +159,12 @@ fn counted(picture: &Picture, start: Prev, offset: u64) -> Option<WithPrev>
             delta_bottom,
         } => {
             let deltas = Deltas {
-                offset_for_non_ref_pic,
-                offset_for_top_to_bottom_field,
-                top: delta_top,
-                bottom: delta_bottom,
+                offset_for_non_ref_pic: *offset_for_non_ref_pic,
+                offset_for_top_to_bottom_field: *offset_for_top_to_bottom_field,
+                top: *delta_top,
+                bottom: *delta_bottom,
             };
-            leaving_nothing(cycle_count(&cycle, picture.reference, number, deltas))
+            leaving_nothing(cycle_count(cycle, picture.reference, number, deltas))
         }
         Order::DecodingOrder => {
             leaving_nothing(order_count(picture.idr, picture.reference, number))

@@ -6,7 +6,7 @@ use h264_base::{Rule, Stop};
 use std::test::Fail;
 
 /// A picture of type 0 with MaxPicOrderCntLsb 16.
-fn lsb(idr: bool, reference: bool, lsb: u32, delta_bottom: i32) -> Picture {
+fn lsb(idr: bool, reference: bool, lsb: u32, delta_bottom: i32) -> Picture<'static> {
     Picture {
         idr,
         reference,
@@ -21,12 +21,23 @@ fn lsb(idr: bool, reference: bool, lsb: u32, delta_bottom: i32) -> Picture {
     }
 }
 
-/// A picture of type 1 with MaxFrameNum 16 and these offsets; delta_pic_order_cnt is 0 and -1.
-fn cycle(idr: bool, reference: bool, frame_num: u32, offsets: [i32; 3], length: u32) -> Picture {
+/// Three offsets, and no more.
+fn three(offsets: [i32; 3]) -> [i32; 255] {
     let mut offset_for_ref_frame = [0; 255];
     offset_for_ref_frame[0] = offsets[0];
     offset_for_ref_frame[1] = offsets[1];
     offset_for_ref_frame[2] = offsets[2];
+    offset_for_ref_frame
+}
+
+/// A picture of type 1 with MaxFrameNum 16 and these offsets; delta_pic_order_cnt is 0 and -1.
+fn cycle(
+    idr: bool,
+    reference: bool,
+    frame_num: u32,
+    offsets: &[i32; 255],
+    length: u32,
+) -> Picture<'_> {
     Picture {
         idr,
         reference,
@@ -36,10 +47,7 @@ fn cycle(idr: bool, reference: bool, frame_num: u32, offsets: [i32; 3], length: 
         order: Order::Cycle {
             offset_for_non_ref_pic: -3,
             offset_for_top_to_bottom_field: 5,
-            cycle: Cycle {
-                offset_for_ref_frame,
-                length,
-            },
+            cycle: Cycle::new(offsets, length),
             delta_top: 0,
             delta_bottom: -1,
         },
@@ -47,7 +55,7 @@ fn cycle(idr: bool, reference: bool, frame_num: u32, offsets: [i32; 3], length: 
 }
 
 /// A picture of type 2 with MaxFrameNum 16.
-fn ordered(idr: bool, reference: bool, frame_num: u32) -> Picture {
+fn ordered(idr: bool, reference: bool, frame_num: u32) -> Picture<'static> {
     Picture {
         idr,
         reference,
@@ -133,17 +141,17 @@ fn lsb_after_a_reset(rt: HostRuntime) -> Result<(), Fail> {
 /// Offsets 2, 3 and 4, of which a whole cycle adds 9; a non-reference picture is counted one frame earlier, and 3 less.
 #[test]
 fn cycle_of_three(rt: HostRuntime) -> Result<(), Fail> {
-    let offsets = [2, 3, 4];
+    let offsets = three([2, 3, 4]);
     let cases = [
-        (cycle(true, true, 0, offsets, 3), 0, 4),
-        (cycle(false, true, 1, offsets, 3), 2, 6),
-        (cycle(false, true, 2, offsets, 3), 5, 9),
-        (cycle(false, false, 3, offsets, 3), 2, 6),
-        (cycle(false, true, 3, offsets, 3), 9, 13),
-        (cycle(false, true, 4, offsets, 3), 11, 15),
-        (cycle(false, false, 5, offsets, 3), 8, 12),
-        (cycle(false, true, 15, offsets, 3), 45, 49),
-        (cycle(false, true, 0, offsets, 3), 47, 51),
+        (cycle(true, true, 0, &offsets, 3), 0, 4),
+        (cycle(false, true, 1, &offsets, 3), 2, 6),
+        (cycle(false, true, 2, &offsets, 3), 5, 9),
+        (cycle(false, false, 3, &offsets, 3), 2, 6),
+        (cycle(false, true, 3, &offsets, 3), 9, 13),
+        (cycle(false, true, 4, &offsets, 3), 11, 15),
+        (cycle(false, false, 5, &offsets, 3), 8, 12),
+        (cycle(false, true, 15, &offsets, 3), 45, 49),
+        (cycle(false, true, 0, &offsets, 3), 47, 51),
     ];
     assert!(rt; counts_are(cases.as_slice())?);
     Ok(())
@@ -152,12 +160,12 @@ fn cycle_of_three(rt: HostRuntime) -> Result<(), Fail> {
 /// Without a cycle only the deltas and offset_for_non_ref_pic count.
 #[test]
 fn cycle_of_none(rt: HostRuntime) -> Result<(), Fail> {
-    let offsets = [2, 3, 4];
+    let offsets = three([2, 3, 4]);
     let cases = [
-        (cycle(true, true, 0, offsets, 0), 0, 4),
-        (cycle(false, true, 1, offsets, 0), 0, 4),
-        (cycle(false, false, 2, offsets, 0), -3, 1),
-        (cycle(false, true, 2, offsets, 0), 0, 4),
+        (cycle(true, true, 0, &offsets, 0), 0, 4),
+        (cycle(false, true, 1, &offsets, 0), 0, 4),
+        (cycle(false, false, 2, &offsets, 0), -3, 1),
+        (cycle(false, true, 2, &offsets, 0), 0, 4),
     ];
     assert!(rt; counts_are(cases.as_slice())?);
     Ok(())
@@ -205,16 +213,16 @@ fn two_non_reference_pictures(rt: HostRuntime) -> Result<(), Fail> {
 /// A cycle of one offset 2^30: counts of 2^30, and then 2^31, which is one too many.
 #[test]
 fn past_the_range(rt: HostRuntime) -> Result<(), Fail> {
-    let offsets = [1 << 30, 0, 0];
+    let offsets = three([1 << 30, 0, 0]);
     let mut counts = Counts::new();
-    let _first = counts.next(&cycle(true, true, 0, offsets, 1), 0)?;
-    let count = counts.next(&cycle(false, true, 1, offsets, 1), 0)?;
+    let _first = counts.next(&cycle(true, true, 0, &offsets, 1), 0)?;
+    let count = counts.next(&cycle(false, true, 1, &offsets, 1), 0)?;
     assert_eq!(rt; count.top, 1 << 30);
-    assert!(rt; counts.next(&cycle(false, true, 2, offsets, 1), 7) == REFUSED);
-    let edge = [i32::MAX - 4, 0, 0];
+    assert!(rt; counts.next(&cycle(false, true, 2, &offsets, 1), 7) == REFUSED);
+    let edge = three([i32::MAX - 4, 0, 0]);
     let mut counts = Counts::new();
-    let _first = counts.next(&cycle(true, true, 0, edge, 1), 0)?;
-    let count = counts.next(&cycle(false, true, 1, edge, 1), 0)?;
+    let _first = counts.next(&cycle(true, true, 0, &edge, 1), 0)?;
+    let count = counts.next(&cycle(false, true, 1, &edge, 1), 0)?;
     assert_eq!(rt;
         count,
         Count {
@@ -222,7 +230,7 @@ fn past_the_range(rt: HostRuntime) -> Result<(), Fail> {
             bottom: i32::MAX
         }
     );
-    let beyond = [i32::MAX - 3, 0, 0];
-    assert!(rt; counts.next(&cycle(false, true, 1, beyond, 1), 7) == REFUSED);
+    let beyond = three([i32::MAX - 3, 0, 0]);
+    assert!(rt; counts.next(&cycle(false, true, 1, &beyond, 1), 7) == REFUSED);
     Ok(())
 }

@@ -8,6 +8,13 @@ use h264_base::{Feature, Mode, Rule, SliceType, Stop};
 use h264_verify::Summary;
 use std::alloc::{AllocError, Global};
 
+/// The greatest length of a unit's line: 23 bytes of words, two numbers of at most 20 digits, and two of at most 3.
+const LONGEST_UNIT_LINE: usize = 23 + 2 * 20 + 2 * 3;
+
+/// The greatest length of a slice's line: 30 bytes of words, the letter of the type, a number of at most 20 digits, two of
+/// at most 10, and one of at most 10 with a sign.
+const LONGEST_SLICE_LINE: usize = 30 + 1 + 20 + 2 * 10 + 11;
+
 /// The line of a unit: the byte of the input where it begins, its nal_unit_type and nal_ref_idc, and its length in bytes.
 pub fn unit_line(
     alloc: Global,
@@ -18,7 +25,12 @@ pub fn unit_line(
 ) -> Result<String, AllocError>
     ensures { IfOk result (λ s. string_bytes s ≡ unit_text byte nal_unit_type nal_ref_idc length) }
 {
-    format!(in alloc; "unit {byte} type {nal_unit_type} ref {nal_ref_idc} bytes {length}")
+    let mut line = String::with_capacity(alloc, LONGEST_UNIT_LINE)?;
+    write!(
+        line,
+        "unit {byte} type {nal_unit_type} ref {nal_ref_idc} bytes {length}"
+    )?;
+    Ok(line)
 }
 
 /// The letter of a slice's type.
@@ -44,9 +56,12 @@ pub fn slice_line(
     ensures { IfOk result (λ s. string_bytes s ≡ slice_text byte first_mb_in_slice slice_type frame_num count) }
 {
     let kind = type_text(slice_type);
-    format!(in alloc;
+    let mut line = String::with_capacity(alloc, LONGEST_SLICE_LINE)?;
+    write!(
+        line,
         "slice {byte} mb {first_mb_in_slice} type {kind} frame {frame_num} count {count}"
-    )
+    )?;
+    Ok(line)
 }
 
 fn yes_line(alloc: Global, mode: Mode, summary: Summary) -> Result<String, AllocError>

@@ -53,6 +53,10 @@ pair_of m id = option_and_then (with_sps_of m) (pps_of m id)
 abbrev pub with_active : Maps → SetPair → Maps
 with_active m pair = record m { active = Some pair }
 
+-- the pair with another picture parameter set
+abbrev pub naming : Pps → SetPair → SetPair
+naming pps pair = record pair { pps = pps }
+
 -- the active sequence parameter set has this content, its id among it
 abbrev pub IsActive : Maps → Sps → Type 0
 IsActive m sps = option_map (λ p. SetPair.sps p) m.active ≡ Some sps

@@ -7,8 +7,8 @@
 #![tactic(auto)]
 
 ghost use Rattle.std.specs.Prelude.{◌≡◌, ℕ, ◌<◌, ◌≤◌, ◌↔◌, ◌⊎◌, IsTrue, IsFalse, IfOk, OnErr, Option, Some, None, Ok, Err};
-ghost use Rattle.std.specs.Option.{option_copied};
-ghost use Rattle.h264_sets.specs.Sets.{set_at, no_sets, with_sps, with_pps, sps_of, pps_of, pair_of, with_active, IsActive, IsPutSps, IsPutPps};
+ghost use Rattle.std.specs.Option.{option_copied, option_map};
+ghost use Rattle.h264_sets.specs.Sets.{set_at, no_sets, with_sps, with_pps, sps_of, pps_of, pair_of, with_active, naming, IsActive, IsPutSps, IsPutPps};
 ghost use Rattle.h264_base.specs.declared.rule.Rule.TheVariants.{NoSet, SetChanged};
 ghost use Rattle.h264_base.specs.declared.stop.Stop.TheVariants.{No};
 ghost use Rattle.h264_sets.specs.declared.SetPair.{SetPair};
@@ -38,13 +38,13 @@ fn pps_at(sets: &[Option<Pps>], id: u32) -> Option<Pps>
 }
 
 /// The set in a place, if there is one.
-fn sps_at(sets: &[Option<Sps>], id: u32) -> Option<Sps>
-    ensures { result ≡ set_at sets.now id }
+fn sps_at(sets: &[Option<Sps>], id: u32) -> Option<&Sps>
+    ensures { option_copied result ≡ set_at sets.now id }
 {
     if id as usize >= sets.len() {
         return None;
     }
-    sets[id as usize]
+    sets[id as usize].as_ref()
 }
 
 /// A picture parameter set, and the sequence parameter set that it names.
@@ -52,6 +52,15 @@ fn sps_at(sets: &[Option<Sps>], id: u32) -> Option<Sps>
 pub struct SetPair {
     pub pps: Pps,
     pub sps: Sps,
+}
+
+/// Another picture parameter set goes with the active sequence parameter set, which is not copied again.
+fn name_pps(active: &mut Option<SetPair>, pps: Pps)
+    ensures { active.new ≡ option_map (naming pps) active.old }
+{
+    if let Some(pair) = active {
+        pair.pps = pps;
+    }
 }
 
 /// The sets by id, and the active pair.
@@ -134,7 +143,7 @@ impl Sets {
     {
         let pps = pps_at(self.pps.as_slice(), pic_parameter_set_id)?;
         let sps = sps_at(self.sps.as_slice(), pps.seq_parameter_set_id)?;
-        Some(SetPair { pps, sps })
+        Some(SetPair { pps, sps: *sps })
     }
 
     /// Whether this is the content of the active sequence parameter set.
@@ -158,19 +167,27 @@ impl Sets {
         ensures changed { (pair : SetPair) → pair_of self.old pic_parameter_set_id ≡ Some pair → IsFalse idr → (IsActive self.old pair.sps → ⊥) → result ≡ Err (No bit SetChanged) }
         ensures kept { OnErr result (self.new ≡ self.old) }
     {
-        let Some(pair) = self.pair(pic_parameter_set_id) else {
-            return Err(Stop::No {
-                bit,
-                rule: Rule::NoSet,
-            });
+        let missing = Stop::No {
+            bit,
+            rule: Rule::NoSet,
         };
-        if !idr && !self.is_active(&pair.sps) {
+        let Some(pps) = pps_at(self.pps.as_slice(), pic_parameter_set_id) else {
+            return Err(missing);
+        };
+        let Some(sps) = sps_at(self.sps.as_slice(), pps.seq_parameter_set_id) else {
+            return Err(missing);
+        };
+        if self.is_active(sps) {
+            name_pps(&mut self.active, pps);
+            return Ok(());
+        }
+        if !idr {
             return Err(Stop::No {
                 bit,
                 rule: Rule::SetChanged,
             });
         }
-        self.active = Some(pair);
+        self.active = Some(SetPair { pps, sps: *sps });
         Ok(())
     }
 }

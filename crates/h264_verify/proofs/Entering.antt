@@ -9,8 +9,8 @@ use Rattle.h264_poc.specs.Counts.{Keeps as KeepsCounts}
 use Rattle.h264_marking.specs.declared.frame.Numbering.{Numbering}
 use Rattle.h264_marking.specs.Frames.{References}
 use Rattle.h264_marking.specs.Held.{mark_answer}
-use Rattle.h264_verify.specs.declared.judge.Content.{Content}
-use Rattle.h264_verify.specs.declared.judge.Content.TheVariants as contents
+use Rattle.h264_verify.specs.Content.{Content}
+use Rattle.h264_verify.specs.Content as contents
 use Rattle.h264_verify.specs.declared.judge.State.{State}
 use Rattle.h264_verify.specs.declared.slices.Slices.{Slices}
 use Rattle.h264_verify.specs.declared.picture.OpenPicture.{OpenPicture}

@@ -6,4 +6,5 @@ pub mod Sources
 pub mod Slicing
 pub mod Verdicts
 pub mod Entering
+pub mod Joining
 pub mod Gaps

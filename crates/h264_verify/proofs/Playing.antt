@@ -119,6 +119,11 @@ meets-plays took failures view g body old new s s' r e m a =
     record { plays = by-meets took failures view g body new.at s s' r m'.meets a' }
 
 -- a value given behind what was played
+-- what is played is wrapped
+pub plays-gives : {A B S : Type 0} (took : S → List Call → Type 0) (failures : S → ℕ) (view : A → B) (o : Outcome A) (s s' : S) (r : Result A Stop) → Plays took failures (λ (x : A). x) o s s' r → Plays took failures view (o >>= λ x. gives (view x)) s s' r
+plays-gives {A} took failures view o s s' (Ok x) p = plays-on took failures (λ (x : A). x) view o (λ x. gives (view x)) s s' s' x (Ok x) p (gives-plays took failures view x s')
+plays-gives {A} took failures view o s s' (Err e) p = plays-stops took failures (λ (x : A). x) view o (λ x. gives (view x)) s s' e p
+
 pub plays-then : {A S : Type 0} (took : S → List Call → Type 0) (failures : S → ℕ) (o : Outcome (Unit {0})) (y : A) (s s' : S) (r : Result (Unit {0}) Stop) → Plays took failures (λ (x : Unit {0}). x) o s s' r → Plays took failures (λ (x : Unit {0}). y) (o >>= λ _. gives y) s s' r
 plays-then took failures o y s s' (Ok x) p = plays-on took failures (λ (x : Unit {0}). x) (λ (x : Unit {0}). y) o (λ _. gives y) s s' s' x (Ok x) p (gives-plays took failures (λ (x : Unit {0}). y) x s')
 plays-then took failures o y s s' (Err e) p = plays-stops took failures (λ (x : Unit {0}). x) (λ (x : Unit {0}). y) o (λ _. gives y) s s' e p

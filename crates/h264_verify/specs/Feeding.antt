@@ -9,10 +9,11 @@ use Rattle.h264_verify.specs.declared.judge.State.{State}
 use Rattle.h264_verify.specs.declared.judge.Summary.{Summary}
 use Rattle.h264_verify.specs.Outcome.{Outcome, with_calls, Plays}
 use Rattle.h264_verify.specs.Judging.{Comes}
+use Rattle.h264_verify.specs.Content.{Content}
 use Rattle.h264_verify.specs.History.{History}
 use Rattle.h264_verify.specs.Keeping.{Keeps}
 use Rattle.h264_verify.specs.Session.{Standing, ToCome, Goes, Fed}
-use Rattle.h264_verify.specs.UnitRules.{judging, unit_outcome}
+use Rattle.h264_verify.specs.UnitRules.{judging, joined, unit_outcome}
 use Rattle.h264_verify.specs.Progress.{Progress}
 
 -- where a session stands behind these units
@@ -23,6 +24,12 @@ behind split before = record { split = split; state = before }
 pub record Turns {S X : Type 0} (mode : Mode) (took : S → List Call → Type 0) (failures : S → ℕ) (before : History) (unit : NalUnit) (new : State) (s s' : S) (result : Result X Stop) : Type 0 where
   pub after : History
   pub plays : Plays took failures (λ (x : X). after) (unit_outcome mode before unit) s s' result
+  pub keeps : OnOk result (Keeps after new)
+
+-- What is in a unit behind these was read and judged, and the sink was told what comes of it.
+pub record Joins {S X : Type 0} (took : S → List Call → Type 0) (failures : S → ℕ) (before : History) (unit : NalUnit) (content : Outcome Content) (new : State) (s s' : S) (result : Result X Stop) : Type 0 where
+  pub after : History
+  pub plays : Plays took failures (λ (x : X). after) (joined before unit content) s s' result
   pub keeps : OnOk result (Keeps after new)
 
 -- However the input goes on, what comes of old is what the sink was told and what comes of where the session stands.

@@ -3,8 +3,8 @@ use Rattle.std.specs.Prelude.{Option, Some, None, List, [], ◌∷◌}
 use Rattle.h264_units.specs.Stream.{NalUnit}
 use Rattle.h264_sets.specs.Sets.{Maps, no_sets, with_sps, with_pps, pair_of, with_active}
 use Rattle.h264_sets.specs.declared.SetPair.{SetPair}
-use Rattle.h264_verify.specs.declared.judge.Content.{Content}
-use Rattle.h264_verify.specs.declared.judge.Content.TheVariants as contents
+use Rattle.h264_verify.specs.Content.{Content}
+use Rattle.h264_verify.specs.Content as contents
 
 -- a unit and what stands in it
 pub record ReadUnit : Type 0 where

@@ -4,8 +4,8 @@ use Rattle.h264_bits.specs.declared.element.Found.{Found}
 use Rattle.h264_marking.specs.declared.frame.Numbering.{Numbering}
 use Rattle.h264_marking.specs.Frames.{References}
 use Rattle.h264_poc.specs.Counts.{Keeps as KeepsCounts}
-use Rattle.h264_verify.specs.declared.judge.Content.{Content}
-use Rattle.h264_verify.specs.declared.judge.Content.TheVariants as contents
+use Rattle.h264_verify.specs.Content.{Content}
+use Rattle.h264_verify.specs.Content as contents
 use Rattle.h264_verify.specs.declared.judge.State.{State}
 use Rattle.h264_header.specs.declared.header.Header.{Header}
 use Rattle.h264_verify.specs.declared.slices.Slices.{Slices}
@@ -80,10 +80,3 @@ pub record KeepsWithin (before : History) (ended : Bool) (state : State) : Type 
 
 abbrev pub Keeps : History → State → Type 0
 Keeps before state = KeepsWithin before false state
-
--- its id is one of those that there are, and a slice stands in a unit that does not end a picture before its elements
-abbrev pub IsKeepable : ℕ → Content → Type 0
-IsKeepable kind (contents.OfSps set) = set.seq_parameter_set_id ≤ 31
-IsKeepable kind (contents.OfPps set) = set.pic_parameter_set_id ≤ 255
-IsKeepable kind (contents.OfSlice h) = (h.pic_parameter_set_id.value ≤ 255) × (ends_picture kind ≡ false)
-IsKeepable kind contents.Passed = Unit {0}

@@ -3,6 +3,7 @@ pub mod Judging
 pub mod Session
 pub mod Demands
 pub mod UnitHeader
+pub mod Content
 pub mod History
 pub mod Pictures
 pub mod Slices

@@ -1,5 +1,5 @@
 -- The pictures so far, and the reference frames that they leave (7.4.1.2.4, 7.4.3, 8.2.5).
-use Rattle.std.specs.Prelude.{ℕ, zero, suc, ◌+◌, ◌-◌, ◌%◌, ◌^◌, nat_le, ◌&&◌, ◌||◌, ◌==◌, not, Bool, true, false, Option, Some, None, unwrap_or, Result, Ok, Err, List, [], ◌∷◌, map, length, if◌then◌else◌}
+use Rattle.std.specs.Prelude.{take, ℕ, zero, suc, ◌+◌, ◌-◌, ◌%◌, ◌^◌, nat_le, ◌&&◌, ◌||◌, ◌==◌, not, Bool, true, false, Option, Some, None, unwrap_or, Result, Ok, Err, List, [], ◌∷◌, map, length, if◌then◌else◌}
 use Rattle.std.specs.List.{list_any}
 use Rattle.std.specs.Option.{is_some, option_and_then}
 use Rattle.std.specs.Result.{result_unwrap_or}
@@ -24,8 +24,8 @@ use Rattle.h264_marking.specs.declared.frame.Numbering.{Numbering}
 use Rattle.h264_marking.specs.Frames.{References}
 use Rattle.h264_marking.specs.Window.{filled}
 use Rattle.h264_marking.specs.Held.{no_references, marked}
-use Rattle.h264_verify.specs.declared.judge.Content.{Content}
-use Rattle.h264_verify.specs.declared.judge.Content.TheVariants as contents
+use Rattle.h264_verify.specs.Content.{Content}
+use Rattle.h264_verify.specs.Content as contents
 use Rattle.h264_verify.specs.Demands.{Demand}
 use Rattle.h264_verify.specs.UnitHeader.{header_of, nal_unit_type}
 use Rattle.h264_verify.specs.History.{History, maps_of}
@@ -110,7 +110,7 @@ order_of (count_type.Lsb length) (elements.Deltas top bottom) = order.DecodingOr
 order_of (count_type.Lsb length) elements.DecodingOrder = order.DecodingOrder
 order_of (count_type.Cycle always_zero non_ref top_to_bottom cycle) (elements.Lsb lsb bottom) = order.DecodingOrder
 order_of (count_type.Cycle always_zero non_ref top_to_bottom cycle) (elements.Deltas top bottom) =
-    order.Cycle non_ref top_to_bottom (record { offset_for_ref_frame = cycle.offset_for_ref_frame; length = cycle.length }) top bottom
+    order.Cycle non_ref top_to_bottom (take cycle.length cycle.offset_for_ref_frame) top bottom
 order_of (count_type.Cycle always_zero non_ref top_to_bottom cycle) elements.DecodingOrder = order.DecodingOrder
 order_of count_type.DecodingOrder e = order.DecodingOrder
 

@@ -29,8 +29,8 @@ use Rattle.h264_marking.specs.declared.frame.Numbering.{Numbering}
 use Rattle.h264_marking.specs.Frames.{References, has_frame_num}
 use Rattle.h264_lists.specs.declared.slot.RefSlot.{RefSlot}
 use Rattle.h264_lists.specs.Built.{built}
-use Rattle.h264_verify.specs.declared.judge.Content.{Content}
-use Rattle.h264_verify.specs.declared.judge.Content.TheVariants as contents
+use Rattle.h264_verify.specs.Content.{Content}
+use Rattle.h264_verify.specs.Content as contents
 use Rattle.h264_verify.specs.declared.picture.Types.{Types}
 use Rattle.h264_verify.specs.Demands.{Demand}
 use Rattle.h264_verify.specs.UnitHeader.{header_of, nal_unit_type}

@@ -13,8 +13,8 @@ use Rattle.h264_header.specs.declared.header.SliceUnit.{SliceUnit}
 use Rattle.h264_header.specs.declared.header.Header.{Header}
 use Rattle.h264_header.specs.Layout.{sets_of}
 use Rattle.h264_header.specs.Header.{header}
-use Rattle.h264_verify.specs.declared.judge.Content.{Content}
-use Rattle.h264_verify.specs.declared.judge.Content.TheVariants as contents
+use Rattle.h264_verify.specs.Content.{Content}
+use Rattle.h264_verify.specs.Content as contents
 use Rattle.h264_verify.specs.declared.judge.Summary.{Summary}
 use Rattle.h264_verify.specs.Outcome.{Outcome, ◌>>=◌, answers, gives, tells, structure_outcome}
 use Rattle.h264_verify.specs.Judging.{Judging}
@@ -71,15 +71,20 @@ content_judged before unit (contents.OfPps set) = gives tt
 content_judged before unit (contents.OfSlice h) = header_judged before unit h
 content_judged before unit contents.Passed = gives tt
 
+-- what is in a unit is judged, and belongs to the history then
+abbrev pub joined : History → NalUnit → Outcome Content → Outcome History
+joined before unit content = do
+  found ← content
+  _ ← content_judged before unit found
+  gives (record { unit = unit; content = found } ∷ before)
+
 unfoldable pub unit_outcome : Mode → History → NalUnit → Outcome History
 unit_outcome mode before unit = do
   _ ← answers (emulation_checked unit.from unit.body)
   _ ← answers (judged (header_demands (8 * unit.from) (header_of unit)))
   _ ← tells (unit_call unit.from (header_of unit) (length unit.body))
   _ ← answers (judged (closing_at (nal_unit_type (header_of unit)) before))
-  found ← content_outcome mode (nal_unit_type (header_of unit)) before unit
-  _ ← content_judged before unit found
-  gives (record { unit = unit; content = found } ∷ before)
+  joined before unit (content_outcome mode (nal_unit_type (header_of unit)) before unit)
 
 -- a stream whose slices are read has a picture
 abbrev pub has_pictures : Mode → List CodedPicture → Bool

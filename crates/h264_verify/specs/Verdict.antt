@@ -18,8 +18,8 @@ use Rattle.h264_sps.specs.Sps.{sps}
 use Rattle.h264_pps.specs.Pps.{pps}
 use Rattle.h264_header.specs.Layout.{sets_of}
 use Rattle.h264_header.specs.Header.{header}
-use Rattle.h264_verify.specs.declared.judge.Content.{Content}
-use Rattle.h264_verify.specs.declared.judge.Content.TheVariants as contents
+use Rattle.h264_verify.specs.Content.{Content}
+use Rattle.h264_verify.specs.Content as contents
 use Rattle.h264_verify.specs.declared.judge.Summary.{Summary}
 use Rattle.h264_verify.specs.Demands.{Demand, AreMet, IsFirstUnmet}
 use Rattle.h264_verify.specs.UnitHeader.{header_of, nal_unit_type, header_demands}

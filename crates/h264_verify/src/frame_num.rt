@@ -15,7 +15,7 @@ use crate::picture::{numbering_of, resets};
 use crate::rules::check;
 use h264_base::{Rule, Stop};
 use h264_header::Header;
-use h264_marking::{Held, Numbering, ReferenceFrame, Term};
+use h264_marking::{Held, Numbering, ReferenceFrame};
 use h264_sps::sps::Sps;
 
 /// How many numbers are missing before a picture.
@@ -65,20 +65,11 @@ fn fill_gaps(
     Ok(last)
 }
 
-fn has_frame_num(frame: &ReferenceFrame, frame_num: u32) -> bool
-    ensures { result ≡ has_frame_num frame_num frame.now }
-{
-    match frame.term {
-        Term::Short => frame.frame_num == frame_num,
-        Term::Long { .. } => false,
-    }
-}
-
 /// Whether one of these short-term frames has a frame_num.
 fn has_short(frames: &[ReferenceFrame], frame_num: u32) -> bool
     ensures { result ≡ list_any (has_frame_num frame_num) frames.now }
 {
-    frames.iter().any(|f| has_frame_num(f, frame_num))
+    frames.iter().any(|f| f.has_frame_num(frame_num))
 }
 
 /// Whether a reference picture may have a frame_num.

@@ -2,10 +2,7 @@
 #![tactic(auto)]
 
 use crate::slices::Slices;
-use h264_header::Header;
-use h264_pps::Pps;
 use h264_sets::Sets;
-use h264_sps::sps::Sps;
 
 /// What a whole stream has, where it is legal.
 #[derive(Clone, Copy, Debug, PartialEq, Eq)]
@@ -27,14 +24,4 @@ pub struct State {
     pub(crate) sets: Sets,
     /// The slices that were read.
     pub(crate) slices: Slices,
-}
-
-/// What stands in a unit.
-#[derive(Drop)]
-pub enum Content {
-    OfSps(Sps),
-    OfPps(Pps),
-    OfSlice(Header),
-    /// What is passed over.
-    Passed,
 }

@@ -181,14 +181,10 @@ pub(crate) fn begun(header: Header, numbering: Numbering) -> OpenPicture
     }
 }
 
-/// A picture with one more slice.
-pub(crate) fn gone_on(picture: OpenPicture, header: Header) -> OpenPicture
-    ensures { (slices : List Header) (pictures : List CodedPicture) → HoldsPicture slices pictures picture → HoldsPicture (header ∷ slices) pictures result }
+/// One more slice comes to a picture.
+pub(crate) fn go_on(picture: &mut OpenPicture, header: Header)
+    ensures { (slices : List Header) (pictures : List CodedPicture) → HoldsPicture slices pictures picture.old → HoldsPicture (header ∷ slices) pictures picture.new }
 {
-    let types = types_with(picture.types, &header);
-    OpenPicture {
-        last: Some(header),
-        types,
-        ..picture
-    }
+    picture.types = types_with(picture.types, &header);
+    picture.last = Some(header);
 }

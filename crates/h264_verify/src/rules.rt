@@ -7,7 +7,7 @@ ghost use Rattle.h264_base.specs.declared.stop.Stop.TheVariants.{No};
 ghost use Rattle.h264_header.specs.Layout.{sets_of};
 ghost use Rattle.h264_verify.specs.Demands.{judged};
 ghost use Rattle.h264_verify.specs.History.{maps_with};
-ghost use Rattle.h264_verify.specs.declared.judge.Content.TheVariants as contents;
+ghost use Rattle.h264_verify.specs.Content as contents;
 ghost use Rattle.h264_verify.specs.Keeping.{marking_by};
 ghost use Rattle.h264_verify.specs.Slices.{idr_id, changes_id, bit_of_id, bit_of_marking, is_qp, first_demands, type_demands, id_demand, qp_demand, list_of, list_demand, same_marking, mark_differs_demand};
 

@@ -13,14 +13,14 @@ ghost use Rattle.h264_verify.specs.Demands.{judged};
 ghost use Rattle.h264_verify.specs.History.{History, maps_with, maps_of};
 ghost use Rattle.h264_verify.specs.Keeping.{KeepsSlices, HoldsSlices, IsLeft};
 ghost use Rattle.h264_verify.specs.UnitRules.{header_judged};
-ghost use Rattle.h264_verify.specs.declared.judge.Content.TheVariants as contents;
+ghost use Rattle.h264_verify.specs.Content as contents;
 ghost use Rattle.h264_verify.specs.Pictures.{CodedPicture, order_of, picture_of, counted, coded_of, coded_with, numbering_of, begins_at, open_slices, last_of, begins_after, slices_behind, ends_picture, closing_demands, prev_ref_behind, resets};
 ghost use Rattle.h264_verify.specs.Slices.{type_of, idr_id, changes_id, bit_of_id, bit_of_marking, is_qp, first_demands, type_demands, id_demand, count_demand, qp_demand, list_of, list_demand, mark_differs_demand, rules_of, frame_count, newest_count};
 ghost use Rattle.h264_verify.specs.Entering.{Entered};
 
 use crate::frame_num::check_frame_num;
 use crate::picture::{
-    OpenPicture, begins, begun, gone_on, mark_end, numbering_of, resets, seen_types,
+    OpenPicture, begins, begun, go_on, mark_end, numbering_of, resets, seen_types,
 };
 use crate::rules::{
     check_begin, check_id, check_list, check_marking, check_qp, check_type, idr_id,
@@ -65,7 +65,7 @@ fn type_of(kind: &SliceKind) -> SliceType
 }
 
 /// What the picture order count of a slice's picture comes from (8.2.1).
-fn order_of(count_type: &CountType, elements: PicOrderCnt) -> Order
+fn order_of(count_type: &CountType, elements: PicOrderCnt) -> Order<'_>
     requires { has_count_lengths count_type.now ≡ true }
     ensures { result ≡ order_of count_type.now elements }
 {
@@ -94,10 +94,7 @@ fn order_of(count_type: &CountType, elements: PicOrderCnt) -> Order
         ) => Order::Cycle {
             offset_for_non_ref_pic: *offset_for_non_ref_pic,
             offset_for_top_to_bottom_field: *offset_for_top_to_bottom_field,
-            cycle: Cycle {
-                offset_for_ref_frame: cycle.offset_for_ref_frame,
-                length: cycle.length,
-            },
+            cycle: Cycle::new(&cycle.offset_for_ref_frame, cycle.length),
             delta_top: top,
             delta_bottom: bottom,
         },
@@ -106,7 +103,7 @@ fn order_of(count_type: &CountType, elements: PicOrderCnt) -> Order
 }
 
 /// The picture that a slice begins, as its counts see it.
-fn picture_of(sps: &Sps, header: &Header) -> Picture
+fn picture_of<'a>(sps: &'a Sps, header: &Header) -> Picture<'a>
     requires { has_lengths sps.now ≡ true }
     ensures { result ≡ picture_of sps.now header.now }
 {
@@ -257,8 +254,8 @@ fn enter(slices: &mut Slices, begins: bool, header: Header, numbering: Numbering
         slices.picture = Some(begun(header, numbering));
         return;
     }
-    if let Some(picture) = slices.picture.take() {
-        slices.picture = Some(gone_on(picture, header));
+    if let Some(picture) = &mut slices.picture {
+        go_on(picture, header);
     }
 }
 

@@ -1,28 +1,30 @@
 //! One unit.
 #![tactic(auto)]
 
-ghost use Rattle.std.specs.Prelude.{◌≡◌, true, ℕ, ◌+◌, ◌-◌, ◌*◌, ◌<◌, ◌≤◌, ◌^◌, List, ◌∷◌, length, OnOk, IfOk, IfErr, Ok, Err, slice_index, if◌then◌else◌};
-ghost use Rattle.h264_units.specs.Stream.{past};
+ghost use Rattle.std.specs.Prelude.{◌≡◌, true, false, IsTrue, ℕ, ◌+◌, ◌-◌, ◌*◌, ◌<◌, ◌≤◌, ◌^◌, List, ◌∷◌, length, ◌==◌, ◌||◌, OnOk, IfOk, IfErr, Ok, Err, slice_index, if◌then◌else◌};
+ghost use Rattle.h264_units.specs.Stream.{past, NalUnit as UnitView};
 ghost use Rattle.h264_verify.specs.Outcome.{Plays, tells, answers};
 ghost use Rattle.h264_verify.specs.Demands.{judged};
 ghost use Rattle.h264_verify.specs.UnitHeader.{header_of, nal_unit_type, nal_ref_idc, is_partition, is_always_reference, is_never_reference, fits_kind, header_demands};
 ghost use Rattle.h264_verify.specs.History.{History, maps_of};
-ghost use Rattle.h264_verify.specs.Keeping.{Keeps, KeepsWithin, IsKeepable};
+ghost use Rattle.h264_verify.specs.Content as contents;
+ghost use Rattle.h264_verify.specs.Keeping.{Keeps, KeepsWithin, IsLeft};
 ghost use Rattle.h264_verify.specs.Pictures.{CodedPicture, ends_picture};
-ghost use Rattle.h264_verify.specs.Feeding.{Turns};
-ghost use Rattle.h264_verify.specs.UnitRules.{unit_call, is_slice, has_pictures, sps_outcome, pps_outcome, slice_outcome, other_outcome, content_outcome, content_judged, unit_outcome, end_outcome};
+ghost use Rattle.h264_verify.specs.Feeding.{Turns, Joins};
+ghost use Rattle.h264_verify.specs.UnitRules.{unit_call, is_slice, has_pictures, sps_outcome, pps_outcome, slice_outcome, other_outcome, content_outcome, unit_outcome, end_outcome};
 
-use crate::judge::{Content, State, Summary};
+use crate::judge::{State, Summary};
 use crate::rules::check;
 use crate::sink::FrameSink;
 use crate::slices::{end_if, ends_picture, judge_slice, pass_by};
 use h264_base::{Failed, Mode, Rule, Stop};
 use h264_bits::Bits;
-use h264_header::{SliceUnit, read_header};
-use h264_pps::read_pps;
+use h264_header::{Header, SliceUnit, read_header};
+use h264_pps::{Pps, read_pps};
 use h264_rbsp::{Rbsp, check_emulation};
 use h264_sets::Sets;
 use h264_sps::read::read_sps;
+use h264_sps::sps::Sps;
 use h264_units::NalUnit;
 use std::alloc::Global;
 
@@ -81,27 +83,27 @@ fn tell_unit<S: FrameSink>(from: u64, header: u8, length: u64, sink: &mut S) -> 
 
 /// Reads a sequence parameter set. Apart, so that a slice does not pay for the place of a set.
 #[inline(never)]
-fn read_sps_unit<S: FrameSink>(alloc: Global, unit: &NalUnit, sink: &mut S) -> Result<Content, Stop>
+fn read_sps_unit<S: FrameSink>(alloc: Global, unit: &NalUnit, sink: &mut S) -> Result<Sps, Stop>
     requires { S.failures sink.old < 2 ^ 64 - 1 }
-    ensures plays { Plays S.took S.failures (λ x. x) (sps_outcome unit.now) sink.old sink.new result }
-    ensures keepable { (kind : ℕ) → IfOk result (IsKeepable kind) }
+    ensures plays { Plays S.took S.failures contents.OfSps (sps_outcome unit.now) sink.old sink.new result }
+    ensures id { IfOk result (λ set. set.seq_parameter_set_id ≤ 31) }
+    ensures kept { OnOk result (S.failures sink.new ≡ S.failures sink.old) }
 {
     let rbsp = Rbsp::of(alloc, unit)?;
     let mut bits = Bits::new(&rbsp);
-    let set = read_sps(&mut bits, sink)?;
-    Ok(Content::OfSps(set))
+    read_sps(&mut bits, sink)
 }
 
 /// Reads a picture parameter set.
-fn read_pps_unit<S: FrameSink>(alloc: Global, unit: &NalUnit, sink: &mut S) -> Result<Content, Stop>
+fn read_pps_unit<S: FrameSink>(alloc: Global, unit: &NalUnit, sink: &mut S) -> Result<Pps, Stop>
     requires { S.failures sink.old < 2 ^ 64 - 1 }
-    ensures plays { Plays S.took S.failures (λ x. x) (pps_outcome unit.now) sink.old sink.new result }
-    ensures keepable { (kind : ℕ) → IfOk result (IsKeepable kind) }
+    ensures plays { Plays S.took S.failures contents.OfPps (pps_outcome unit.now) sink.old sink.new result }
+    ensures id { IfOk result (λ set. set.pic_parameter_set_id ≤ 255) }
+    ensures kept { OnOk result (S.failures sink.new ≡ S.failures sink.old) }
 {
     let rbsp = Rbsp::of(alloc, unit)?;
     let mut bits = Bits::new(&rbsp);
-    let set = read_pps(&mut bits, sink)?;
-    Ok(Content::OfPps(set))
+    read_pps(&mut bits, sink)
 }
 
 /// Reads the header of a slice.
@@ -111,11 +113,10 @@ fn read_slice_unit<S: FrameSink>(
     sets: &Sets,
     unit: &NalUnit,
     sink: &mut S,
-) -> Result<Content, Stop>
-    requires room { S.failures sink.old < 2 ^ 64 - 1 }
-    requires slice { is_slice (nal_unit_type header) ≡ true }
-    ensures plays { (before : History) → sets.now ≡ maps_of before → header ≡ header_of unit.now → Plays S.took S.failures (λ x. x) (slice_outcome before unit.now) sink.old sink.new result }
-    ensures keepable { IfOk result (IsKeepable (nal_unit_type header)) }
+) -> Result<Header, Stop>
+    requires { S.failures sink.old < 2 ^ 64 - 1 }
+    ensures plays { (before : History) → sets.now ≡ maps_of before → header ≡ header_of unit.now → Plays S.took S.failures contents.OfSlice (slice_outcome before unit.now) sink.old sink.new result }
+    ensures id { IfOk result (λ h. h.pic_parameter_set_id.value ≤ 255) }
     ensures kept { OnOk result (S.failures sink.new ≡ S.failures sink.old) }
 {
     let rbsp = Rbsp::of(alloc, unit)?;
@@ -124,107 +125,169 @@ fn read_slice_unit<S: FrameSink>(
         idr_pic_flag: header % 32 == 5,
         nal_ref_idc: (header / 32 % 4) as u32,
     };
-    let header = read_header(&mut bits, sets, slice_unit, sink)?;
-    Ok(Content::OfSlice(header))
+    read_header(&mut bits, sets, slice_unit, sink)
 }
 
-fn is_slice(kind: u8) -> bool
-    ensures { result ≡ is_slice kind }
+/// A unit that is no slice joins those before it.
+fn pass(state: &mut State, kind: u8)
+    requires { state.old.units ≤ 2 ^ 40 }
+    ensures units { state.new.units ≡ state.old.units + 1 }
+    ensures sets { state.new.sets ≡ state.old.sets }
+    ensures picture { IsLeft (ends_picture kind) state.old.slices.picture state.new.slices.picture }
+    ensures due { state.new.slices.due ≡ ((kind == 10 || kind == 11) || state.old.slices.due) }
+    ensures others { state.new.slices ≡ record state.old.slices { picture = state.new.slices.picture; due = state.new.slices.due } }
 {
-    kind == 1 || kind == 5
+    pass_by(&mut state.slices, kind);
+    state.units += 1;
 }
 
-/// What is in a unit that is no parameter set.
-fn read_other<S: FrameSink>(
+/// A sequence parameter set is read, and kept.
+fn join_sps<S: FrameSink>(
     alloc: Global,
-    mode: Mode,
-    header: u8,
-    sets: &Sets,
-    unit: &NalUnit,
-    sink: &mut S,
-) -> Result<Content, Stop>
-    requires { S.failures sink.old < 2 ^ 64 - 1 }
-    ensures plays { (before : History) → sets.now ≡ maps_of before → header ≡ header_of unit.now → Plays S.took S.failures (λ x. x) (other_outcome mode (nal_unit_type header) before unit.now) sink.old sink.new result }
-    ensures keepable { IfOk result (IsKeepable (nal_unit_type header)) }
-    ensures kept { OnOk result (S.failures sink.new ≡ S.failures sink.old) }
-{
-    match mode {
-        Mode::Units => Ok(Content::Passed),
-        Mode::Headers => {
-            if is_slice(header % 32) {
-                return read_slice_unit(alloc, header, sets, unit, sink);
-            }
-            Ok(Content::Passed)
-        }
-    }
-}
-
-/// What is in a unit of this type.
-fn read_content<S: FrameSink>(
-    alloc: Global,
-    mode: Mode,
-    header: u8,
-    sets: &Sets,
-    unit: &NalUnit,
-    sink: &mut S,
-) -> Result<Content, Stop>
-    requires { S.failures sink.old < 2 ^ 64 - 1 }
-    ensures plays { (before : History) → sets.now ≡ maps_of before → header ≡ header_of unit.now → Plays S.took S.failures (λ x. x) (content_outcome mode (nal_unit_type header) before unit.now) sink.old sink.new result }
-    ensures keepable { IfOk result (IsKeepable (nal_unit_type header)) }
-    ensures kept { OnOk result (S.failures sink.new ≡ S.failures sink.old) }
-{
-    if header % 32 == 7 {
-        return read_sps_unit(alloc, unit, sink);
-    }
-    if header % 32 == 8 {
-        return read_pps_unit(alloc, unit, sink);
-    }
-    read_other(alloc, mode, header, sets, unit, sink)
-}
-
-/// The rules on what is in a unit, and what it leaves.
-fn judge_content<S: FrameSink>(
     state: &mut State,
     kind: u8,
     unit: &NalUnit,
-    content: Content,
     sink: &mut S,
 ) -> Result<(), Stop>
     requires room { S.failures sink.old < 2 ^ 64 - 1 }
     requires units { state.old.units ≤ 2 ^ 40 }
     requires pictures { state.old.slices.pictures ≤ state.old.units }
-    requires keepable { IsKeepable kind content }
     requires kind { kind ≡ nal_unit_type (header_of unit.now) }
-    ensures plays { (before : History) → KeepsWithin before (ends_picture kind) state.old → Plays S.took S.failures (λ x. x) (content_judged before unit.now content) sink.old sink.new result }
-    ensures keeps { (before : History) → KeepsWithin before (ends_picture kind) state.old → OnOk result (Keeps (record { unit = unit.now; content = content } ∷ before) state.new) }
+    ensures joins { (before : History) → KeepsWithin before (ends_picture kind) state.old → Joins S.took S.failures before unit.now (sps_outcome unit.now) state.new sink.old sink.new result }
     ensures counts { OnOk result (state.new.units ≡ state.old.units + 1) }
     ensures pictures { OnOk result (state.new.slices.pictures ≤ state.new.units) }
     ensures kept { OnOk result (S.failures sink.new ≡ S.failures sink.old) }
 {
-    match content {
-        Content::OfSps(set) => {
-            state.sets.put_sps(set);
-            pass_by(&mut state.slices, kind);
-            state.units += 1;
+    let set = read_sps_unit(alloc, unit, sink)?;
+    state.sets.put_sps(set);
+    pass(state, kind);
+    Ok(())
+}
+
+/// A picture parameter set is read, and kept.
+fn join_pps<S: FrameSink>(
+    alloc: Global,
+    state: &mut State,
+    kind: u8,
+    unit: &NalUnit,
+    sink: &mut S,
+) -> Result<(), Stop>
+    requires room { S.failures sink.old < 2 ^ 64 - 1 }
+    requires units { state.old.units ≤ 2 ^ 40 }
+    requires pictures { state.old.slices.pictures ≤ state.old.units }
+    requires kind { kind ≡ nal_unit_type (header_of unit.now) }
+    ensures joins { (before : History) → KeepsWithin before (ends_picture kind) state.old → Joins S.took S.failures before unit.now (pps_outcome unit.now) state.new sink.old sink.new result }
+    ensures counts { OnOk result (state.new.units ≡ state.old.units + 1) }
+    ensures pictures { OnOk result (state.new.slices.pictures ≤ state.new.units) }
+    ensures kept { OnOk result (S.failures sink.new ≡ S.failures sink.old) }
+{
+    let set = read_pps_unit(alloc, unit, sink)?;
+    state.sets.put_pps(set);
+    pass(state, kind);
+    Ok(())
+}
+
+/// The header of a slice is read and judged, and the slice joins those before it.
+fn join_slice<S: FrameSink>(
+    alloc: Global,
+    state: &mut State,
+    header: u8,
+    unit: &NalUnit,
+    sink: &mut S,
+) -> Result<(), Stop>
+    requires room { S.failures sink.old < 2 ^ 64 - 1 }
+    requires units { state.old.units ≤ 2 ^ 40 }
+    requires pictures { state.old.slices.pictures ≤ state.old.units }
+    requires goes_on { ends_picture (nal_unit_type header) ≡ false }
+    requires header { header ≡ header_of unit.now }
+    ensures joins { (before : History) → KeepsWithin before (ends_picture (nal_unit_type header)) state.old → Joins S.took S.failures before unit.now (slice_outcome before unit.now) state.new sink.old sink.new result }
+    ensures counts { OnOk result (state.new.units ≡ state.old.units + 1) }
+    ensures pictures { OnOk result (state.new.slices.pictures ≤ state.new.units) }
+    ensures kept { OnOk result (S.failures sink.new ≡ S.failures sink.old) }
+{
+    let found = read_slice_unit(alloc, header, &state.sets, unit, sink)?;
+    judge_slice(&mut state.slices, &mut state.sets, unit, found, sink)?;
+    state.units += 1;
+    Ok(())
+}
+
+/// A unit that is passed over joins those before it.
+fn join_passed(state: &mut State, kind: u8)
+    requires units { state.old.units ≤ 2 ^ 40 }
+    requires pictures { state.old.slices.pictures ≤ state.old.units }
+    ensures keeps { (before : History) (unit : UnitView) → kind ≡ nal_unit_type (header_of unit) → KeepsWithin before (ends_picture kind) state.old → Keeps (record { unit = unit; content = contents.Passed } ∷ before) state.new }
+    ensures counts { state.new.units ≡ state.old.units + 1 }
+    ensures pictures { state.new.slices.pictures ≤ state.new.units }
+{
+    pass(state, kind);
+}
+
+/// Whether a unit of this type is a slice, at which no picture ends before its elements.
+fn is_slice(kind: u8) -> bool
+    ensures value { result ≡ is_slice kind }
+    ensures goes_on { IsTrue result → ends_picture kind ≡ false }
+{
+    kind == 1 || kind == 5
+}
+
+/// A unit that is no parameter set joins those before it.
+fn join_other<S: FrameSink>(
+    alloc: Global,
+    mode: Mode,
+    state: &mut State,
+    header: u8,
+    unit: &NalUnit,
+    sink: &mut S,
+) -> Result<(), Stop>
+    requires room { S.failures sink.old < 2 ^ 64 - 1 }
+    requires units { state.old.units ≤ 2 ^ 40 }
+    requires pictures { state.old.slices.pictures ≤ state.old.units }
+    requires header { header ≡ header_of unit.now }
+    ensures joins { (before : History) → KeepsWithin before (ends_picture (nal_unit_type header)) state.old → Joins S.took S.failures before unit.now (other_outcome mode (nal_unit_type header) before unit.now) state.new sink.old sink.new result }
+    ensures counts { OnOk result (state.new.units ≡ state.old.units + 1) }
+    ensures pictures { OnOk result (state.new.slices.pictures ≤ state.new.units) }
+    ensures kept { OnOk result (S.failures sink.new ≡ S.failures sink.old) }
+{
+    match mode {
+        Mode::Units => {
+            join_passed(state, header % 32);
             Ok(())
         }
-        Content::OfPps(set) => {
-            state.sets.put_pps(set);
-            pass_by(&mut state.slices, kind);
-            state.units += 1;
-            Ok(())
-        }
-        Content::OfSlice(header) => {
-            judge_slice(&mut state.slices, &mut state.sets, unit, header, sink)?;
-            state.units += 1;
-            Ok(())
-        }
-        Content::Passed => {
-            pass_by(&mut state.slices, kind);
-            state.units += 1;
+        Mode::Headers => {
+            if is_slice(header % 32) {
+                return join_slice(alloc, state, header, unit, sink);
+            }
+            join_passed(state, header % 32);
             Ok(())
         }
     }
+}
+
+/// A unit of this type is read and judged, and joins those before it.
+fn join<S: FrameSink>(
+    alloc: Global,
+    mode: Mode,
+    state: &mut State,
+    header: u8,
+    unit: &NalUnit,
+    sink: &mut S,
+) -> Result<(), Stop>
+    requires room { S.failures sink.old < 2 ^ 64 - 1 }
+    requires units { state.old.units ≤ 2 ^ 40 }
+    requires pictures { state.old.slices.pictures ≤ state.old.units }
+    requires header { header ≡ header_of unit.now }
+    ensures joins { (before : History) → KeepsWithin before (ends_picture (nal_unit_type header)) state.old → Joins S.took S.failures before unit.now (content_outcome mode (nal_unit_type header) before unit.now) state.new sink.old sink.new result }
+    ensures counts { OnOk result (state.new.units ≡ state.old.units + 1) }
+    ensures pictures { OnOk result (state.new.slices.pictures ≤ state.new.units) }
+    ensures kept { OnOk result (S.failures sink.new ≡ S.failures sink.old) }
+{
+    if header % 32 == 7 {
+        return join_sps(alloc, state, header % 32, unit, sink);
+    }
+    if header % 32 == 8 {
+        return join_pps(alloc, state, header % 32, unit, sink);
+    }
+    join_other(alloc, mode, state, header, unit, sink)
 }
 
 /// What comes of a unit.
@@ -250,8 +313,7 @@ pub(crate) fn judge_unit<S: FrameSink>(
     check_header(from, header)?;
     tell_unit(from, header, body.len() as u64, sink)?;
     end_if(ends_picture(header % 32), &mut state.slices)?;
-    let content = read_content(alloc, mode, header, &state.sets, unit, sink)?;
-    judge_content(state, header % 32, unit, content, sink)
+    join(alloc, mode, state, header, unit, sink)
 }
 
 /// Whether a stream that is judged so has the pictures that it must have.

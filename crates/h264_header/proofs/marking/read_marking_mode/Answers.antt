@@ -1,17 +1,12 @@
-use Rattle.std.proofs.Common.{Ok, Err, refl}
-use Rattle.std.proofs.lemmas.Result.{err_from_is_err_and}
-use Rattle.h264_base.proofs.Steps.{bind, stop, done}
+use Rattle.std.proofs.Common.{refl}
+use Rattle.h264_base.proofs.Steps.{done}
 use Rattle.h264_header.specs.Marking.{marking_mode}
 use Rattle.h264_header.proofs.marking.read_marking_mode.Goals as goal
 
-pub returns-then-not-adaptive : goal.returns-then-not-adaptive
+pub returns-then-adaptive : goal.returns-then-adaptive
 unfolding marking_mode
-returns-then-not-adaptive g c = rw c.if-not-adaptive.true (done _ _ _ _ _ _ _ refl)
-
-pub returns-in_err-operations : goal.returns-in_err-operations
-unfolding marking_mode
-returns-in_err-operations g c = let p = err_from_is_err_and c.from_residual.result c.from_residual.ensures.1 in rw (p.1, p.2, c.if-not-adaptive.false) (stop _ c.in_err-operations.ensures)
+returns-then-adaptive g c = rw c.if-adaptive.true c.read_adaptive.ensures
 
 pub returns : goal.returns
 unfolding marking_mode
-returns g c = rw c.if-not-adaptive.false (bind _ c.in_ok-operations.ensures (done _ _ _ _ _ _ _ refl))
+returns g c = rw c.if-adaptive.false (done _ _ _ _ _ _ _ refl)

@@ -28,22 +28,22 @@ pub returns-in_err-order-clause-meets : goal.returns-in_err-order-clause-meets
 unfolding header
 returns-in_err-order-clause-meets g c = let p = err_from_is_err_and c.from_residual-in_err-order.result c.from_residual-in_err-order.ensures.1 in rw (p.1, p.2) (bind _ c.in_ok-first_mb.ensures.meets (bind _ c.in_ok-stated.ensures (bind _ c.in_ok-named.ensures.meets (bind _ c.in_ok-frame_num.ensures.meets (bind _ c.in_ok-idr.ensures (stop _ c.in_err-order.ensures))))))
 
-pub returns-in_err-kind-clause-meets : goal.returns-in_err-kind-clause-meets
+pub returns-in_err-active-clause-meets : goal.returns-in_err-active-clause-meets
 unfolding header
-returns-in_err-kind-clause-meets g c = let p = err_from_is_err_and c.from_residual-in_err-kind.result c.from_residual-in_err-kind.ensures.1 in rw (p.1, p.2) (bind _ c.in_ok-first_mb.ensures.meets (bind _ c.in_ok-stated.ensures (bind _ c.in_ok-named.ensures.meets (bind _ c.in_ok-frame_num.ensures.meets (bind _ c.in_ok-idr.ensures (bind _ c.in_ok-order.ensures (stop _ c.in_err-kind.ensures)))))))
+returns-in_err-active-clause-meets g c = let p = err_from_is_err_and c.from_residual-in_err-active.result c.from_residual-in_err-active.ensures.1 in rw (p.1, p.2) (bind _ c.in_ok-first_mb.ensures.meets (bind _ c.in_ok-stated.ensures (bind _ c.in_ok-named.ensures.meets (bind _ c.in_ok-frame_num.ensures.meets (bind _ c.in_ok-idr.ensures (bind _ c.in_ok-order.ensures (stop _ c.in_err-active.ensures)))))))
 
-pub returns-in_err-marking-clause-meets : goal.returns-in_err-marking-clause-meets
+pub returns-in_err-read_marking-clause-meets : goal.returns-in_err-read_marking-clause-meets
 unfolding header
-returns-in_err-marking-clause-meets g c = let p = err_from_is_err_and c.from_residual-in_err-marking.result c.from_residual-in_err-marking.ensures.1 in rw (p.1, p.2) (bind _ c.in_ok-first_mb.ensures.meets (bind _ c.in_ok-stated.ensures (bind _ c.in_ok-named.ensures.meets (bind _ c.in_ok-frame_num.ensures.meets (bind _ c.in_ok-idr.ensures (bind _ c.in_ok-order.ensures (bind _ c.in_ok-kind.ensures (stop _ c.in_err-marking.ensures))))))))
+returns-in_err-read_marking-clause-meets g c = let p = err_from_is_err_and c.from_residual-in_err-read_marking.result c.from_residual-in_err-read_marking.ensures.1 in rw (p.1, p.2) (bind _ c.in_ok-first_mb.ensures.meets (bind _ c.in_ok-stated.ensures (bind _ c.in_ok-named.ensures.meets (bind _ c.in_ok-frame_num.ensures.meets (bind _ c.in_ok-idr.ensures (bind _ c.in_ok-order.ensures (bind _ c.in_ok-active.ensures (stop _ c.in_err-read_marking.ensures))))))))
 
 pub returns-in_err-qp-clause-meets : goal.returns-in_err-qp-clause-meets
 unfolding header
-returns-in_err-qp-clause-meets g c = let p = err_from_is_err_and c.from_residual-in_err-qp.result c.from_residual-in_err-qp.ensures.1 in rw (p.1, p.2) (bind _ c.in_ok-first_mb.ensures.meets (bind _ c.in_ok-stated.ensures (bind _ c.in_ok-named.ensures.meets (bind _ c.in_ok-frame_num.ensures.meets (bind _ c.in_ok-idr.ensures (bind _ c.in_ok-order.ensures (bind _ c.in_ok-kind.ensures (bind _ c.in_ok-marking.ensures (stop _ c.in_err-qp.ensures.meets)))))))))
+returns-in_err-qp-clause-meets g c = let p = err_from_is_err_and c.from_residual-in_err-qp.result c.from_residual-in_err-qp.ensures.1 in rw (p.1, p.2) (bind _ c.in_ok-first_mb.ensures.meets (bind _ c.in_ok-stated.ensures (bind _ c.in_ok-named.ensures.meets (bind _ c.in_ok-frame_num.ensures.meets (bind _ c.in_ok-idr.ensures (bind _ c.in_ok-order.ensures (bind _ c.in_ok-active.ensures (bind _ c.in_ok-read_marking.ensures (stop _ c.in_err-qp.ensures.meets)))))))))
 
 pub returns-in_err-filter-clause-meets : goal.returns-in_err-filter-clause-meets
 unfolding header
-returns-in_err-filter-clause-meets g c = let p = err_from_is_err_and c.from_residual-in_err-filter.result c.from_residual-in_err-filter.ensures.1 in rw (p.1, p.2) (bind _ c.in_ok-first_mb.ensures.meets (bind _ c.in_ok-stated.ensures (bind _ c.in_ok-named.ensures.meets (bind _ c.in_ok-frame_num.ensures.meets (bind _ c.in_ok-idr.ensures (bind _ c.in_ok-order.ensures (bind _ c.in_ok-kind.ensures (bind _ c.in_ok-marking.ensures (bind _ c.in_ok-qp.ensures.meets (stop _ c.in_err-filter.ensures))))))))))
+returns-in_err-filter-clause-meets g c = let p = err_from_is_err_and c.from_residual-in_err-filter.result c.from_residual-in_err-filter.ensures.1 in rw (p.1, p.2) (bind _ c.in_ok-first_mb.ensures.meets (bind _ c.in_ok-stated.ensures (bind _ c.in_ok-named.ensures.meets (bind _ c.in_ok-frame_num.ensures.meets (bind _ c.in_ok-idr.ensures (bind _ c.in_ok-order.ensures (bind _ c.in_ok-active.ensures (bind _ c.in_ok-read_marking.ensures (bind _ c.in_ok-qp.ensures.meets (stop _ c.in_err-filter.ensures))))))))))
 
 pub returns-clause-meets : goal.returns-clause-meets
 unfolding header
-returns-clause-meets g c = bind _ c.in_ok-first_mb.ensures.meets (bind _ c.in_ok-stated.ensures (bind _ c.in_ok-named.ensures.meets (bind _ c.in_ok-frame_num.ensures.meets (bind _ c.in_ok-idr.ensures (bind _ c.in_ok-order.ensures (bind _ c.in_ok-kind.ensures (bind _ c.in_ok-marking.ensures (bind _ c.in_ok-qp.ensures.meets (bind _ c.in_ok-filter.ensures (done _ _ _ _ _ _ _ refl))))))))))
+returns-clause-meets g c = bind _ c.in_ok-first_mb.ensures.meets (bind _ c.in_ok-stated.ensures (bind _ c.in_ok-named.ensures.meets (bind _ c.in_ok-frame_num.ensures.meets (bind _ c.in_ok-idr.ensures (bind _ c.in_ok-order.ensures (bind _ c.in_ok-active.ensures (bind _ c.in_ok-read_marking.ensures (bind _ c.in_ok-qp.ensures.meets (bind _ c.in_ok-filter.ensures (done _ _ _ _ _ _ _ (rw c.kind_of.ensures refl)))))))))))

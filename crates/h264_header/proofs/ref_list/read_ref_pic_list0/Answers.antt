@@ -12,10 +12,10 @@ pub returns-in_err-modified : goal.returns-in_err-modified
 unfolding ref_pic_list0
 returns-in_err-modified g c = let p = err_from_is_err_and c.from_residual-in_err-modified.result c.from_residual-in_err-modified.ensures.1 in rw (p.1, p.2) (bind _ c.in_ok-active.ensures.meets (stop _ c.in_err-modified.ensures))
 
-pub returns-in_err-commands : goal.returns-in_err-commands
+pub returns-in_err-read_modifications : goal.returns-in_err-read_modifications
 unfolding ref_pic_list0
-returns-in_err-commands g c = let p = err_from_is_err_and c.from_residual-in_err-commands.result c.from_residual-in_err-commands.ensures.1 in rw (p.1, p.2) (bind _ c.in_ok-active.ensures.meets (bind _ c.in_ok-modified.ensures (stop _ (rw c.max_frame_num_of-max_frame_num.ensures at c.in_err-commands.ensures))))
+returns-in_err-read_modifications g c = let p = err_from_is_err_and c.from_residual-in_err-read_modifications.result c.from_residual-in_err-read_modifications.ensures.1 in rw (p.1, p.2) (bind _ c.in_ok-active.ensures.meets (bind _ c.in_ok-modified.ensures (stop _ (rw c.max_frame_num_of-max_frame_num.ensures at c.in_err-read_modifications.ensures))))
 
 pub returns : goal.returns
 unfolding ref_pic_list0
-returns g c = bind _ c.in_ok-active.ensures.meets (bind _ c.in_ok-modified.ensures (bind _ (rw c.max_frame_num_of-max_frame_num.ensures at c.in_ok-commands.ensures) (done _ _ _ _ _ _ _ refl)))
+returns g c = bind _ c.in_ok-active.ensures.meets (bind _ c.in_ok-modified.ensures (bind _ (rw c.max_frame_num_of-max_frame_num.ensures at c.in_ok-read_modifications.ensures) (done _ _ _ _ _ _ _ refl)))

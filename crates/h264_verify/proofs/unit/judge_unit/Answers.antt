@@ -39,14 +39,6 @@ returns-in_err-end_if-clause-turns g c =
     let told = rw (c.from-from.ensures.value, c.body-body.ensures.value) at c.in_ok-tell_unit.ensures in
     rw (p.1, p.2) (λ before k. let closed = rw (c.ends_picture.ensures, c.body-body.ensures.value) at (c.in_err-end_if.ensures.judged before k.slices) in record { after = []; plays = answer-on _ _ _ _ _ _ _ _ _ (ap answers (sym c.in_ok-check_emulation.ensures.value)) (answer-on _ _ _ _ _ _ _ _ _ (ap answers (sym header)) (plays-on _ _ (λ x. x) _ _ _ _ _ _ _ _ told (answer-stops _ _ _ _ _ _ _ (ap answers (sym closed)) (err-named (closing_at (nal_unit_type (header_of c.args.unit.now)) before) _ (sym closed))))); keeps = tt })
 
-pub returns-in_err-content-clause-turns : goal.returns-in_err-content-clause-turns
-unfolding unit_outcome
-returns-in_err-content-clause-turns g c =
-    let p = err_from_is_err_and c.from_residual-in_err-content.result c.from_residual-in_err-content.ensures.1 in
-    let header = rw (c.from-from.ensures.value, c.body-body.ensures.value) at c.in_ok-check_header.ensures in
-    let told = rw (c.from-from.ensures.value, c.body-body.ensures.value) at c.in_ok-tell_unit.ensures in
-    rw (p.1, p.2) (λ before k. let closed = rw (c.ends_picture.ensures, c.body-body.ensures.value) at (c.in_ok-end_if.ensures.judged before k.slices) in let content = rw (c.body-body.ensures.value) at (c.in_err-content.ensures.plays before k.sets (rw c.body-body.ensures.value refl)) in record { after = []; plays = answer-on _ _ _ _ _ _ _ _ _ (ap answers (sym c.in_ok-check_emulation.ensures.value)) (answer-on _ _ _ _ _ _ _ _ _ (ap answers (sym header)) (plays-on _ _ (λ x. x) _ _ _ _ _ _ _ _ told (answer-on _ _ _ _ _ _ _ _ _ (ap answers (sym closed)) (plays-stops _ _ (λ x. x) _ _ _ _ _ _ content)))); keeps = tt })
-
 pub returns-clause-turns : goal.returns-clause-turns
 unfolding unit_outcome
 returns-clause-turns g c =
@@ -55,8 +47,8 @@ returns-clause-turns g c =
     λ before k.
     let closed = rw (c.ends_picture.ensures, c.body-body.ensures.value) at (c.in_ok-end_if.ensures.judged before k.slices) in
     let kept = within c.args.state.now c.end_if.new.slices k (rw c.ends_picture.ensures at (c.in_ok-end_if.ensures.ended before k.slices)) in
-    let content = rw (c.body-body.ensures.value) at (c.in_ok-content.ensures.plays before k.sets (rw c.body-body.ensures.value refl)) in record {
-      after = record { unit = c.args.unit.now; content = c.in_ok-content.content } ∷ before;
-      plays = answer-on _ _ _ _ _ _ _ _ _ (ap answers (sym c.in_ok-check_emulation.ensures.value)) (answer-on _ _ _ _ _ _ _ _ _ (ap answers (sym header)) (plays-on _ _ (λ x. x) _ _ _ _ _ _ _ _ told (answer-on _ _ _ _ _ _ _ _ _ (ap answers (sym closed)) (plays-on _ _ (λ x. x) _ _ _ _ _ _ _ _ content (plays-then _ _ _ _ _ _ _ (c.judge_content.ensures.plays before kept))))));
-      keeps = c.judge_content.ensures.keeps before kept;
+    let j = rw c.body-body.ensures.value at (c.join.ensures.joins before kept) in record {
+      after = j.after;
+      plays = answer-on _ _ _ _ _ _ _ _ _ (ap answers (sym c.in_ok-check_emulation.ensures.value)) (answer-on _ _ _ _ _ _ _ _ _ (ap answers (sym header)) (plays-on _ _ (λ x. x) _ _ _ _ _ _ _ _ told (answer-on _ _ _ _ _ _ _ _ _ (ap answers (sym closed)) j.plays)));
+      keeps = j.keeps;
     }
