@@ -1,11 +1,11 @@
 -- The entries of a list that a code ends: their turns, and what other codes are.
-use Rattle.std.proofs.Common.{◌≡◌, ◌≢◌, ℕ, zero, suc, ◌+◌, ◌-◌, ◌<◌, ◌≤◌, ◌==◌, Bool, true, false, List, [], ◌∷◌, ◌++◌, Option, Some, None, Result, Ok, Err, refl, ap, sym, ◌∙◌, subst, arith}
+use Rattle.std.proofs.Common.{◌≡◌, ◌≢◌, ℕ, zero, suc, ◌+◌, ◌-◌, ◌<◌, ◌≤◌, ◌==◌, Bool, true, false, List, [], ◌∷◌, ◌++◌, Option, Some, None, Ok, Err, refl, subst, arith}
 use Rattle.h264_base.specs.declared.stop.Stop.{Stop}
 use Rattle.h264_base.specs.Call.{Call}
 use Rattle.h264_base.specs.Word.{digit}
-use Rattle.h264_base.specs.Grammar.{Grammar, Done, ◌>>=◌}
+use Rattle.h264_base.specs.Grammar.{Grammar, Done}
 use Rattle.h264_base.specs.Meets.{Reader, Meets, Is}
-use Rattle.h264_base.proofs.Steps.{Leads, leads-starts, leads-then, leads-on, reads_is, stop, done, finish}
+use Rattle.h264_base.proofs.Steps.{Leads, leads-starts, leads-on, stop, done, finish}
 use Rattle.h264_header.specs.Listed.{listed, goes_on}
 use Rattle.h264_header.specs.Header.{deblocking_of}
 use Rattle.std.proofs.Common.{IsTrue, length, not}

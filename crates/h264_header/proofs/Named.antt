@@ -1,5 +1,5 @@
 -- The sets that a header names are a pair of the sets by id.
-use Rattle.std.proofs.Common.{◌≡◌, ℕ, Bool, true, false, Option, Some, None, nat_le, refl, if◌then◌else◌}
+use Rattle.std.proofs.Common.{◌≡◌, ℕ, Bool, true, false, Option, Some, None, nat_le, if◌then◌else◌}
 use Rattle.std.specs.Option.{option_map, option_and_then}
 use Rattle.h264_pps.specs.declared.Pps.{Pps}
 use Rattle.h264_sps.specs.declared.sps.Sps.{Sps}

@@ -1,5 +1,5 @@
 -- slice_header() (7.3.3), with the rules on its values (7.4.3, A.2.1).
-use Rattle.std.specs.Prelude.{ℕ, zero, suc, ◌%◌, ◌==◌, ◌||◌, nat_le, nat_lt, negsuc, pos, ℤ, Bool, true, false, Option, Some, None, unwrap_or, if◌then◌else◌}
+use Rattle.std.specs.Prelude.{ℕ, zero, suc, ◌%◌, ◌==◌, ◌||◌, nat_le, nat_lt, negsuc, pos, Bool, true, false, Option, unwrap_or, if◌then◌else◌}
 use Rattle.std.specs.Option.{is_some, option_map}
 use Rattle.h264_base.specs.declared.element_name.ElementName.TheVariants as name
 use Rattle.h264_base.specs.declared.rule.Rule.TheVariants.{Range, Tool, NoSet}
@@ -20,7 +20,6 @@ use Rattle.h264_header.specs.declared.header.Deblocking.TheVariants.{AllEdges, O
 use Rattle.h264_header.specs.declared.header.Header.{Header}
 use Rattle.h264_header.specs.declared.layout.CountElements.{CountElements}
 use Rattle.h264_header.specs.declared.layout.CountElements.TheVariants as elements
-use Rattle.h264_header.specs.declared.layout.Layout.{Layout}
 use Rattle.h264_header.specs.declared.read.StatedType.{StatedType}
 use Rattle.h264_header.specs.declared.read.NamedSets.{NamedSets}
 use Rattle.h264_header.specs.Layout.{layout_of, no_layout}

@@ -1,7 +1,6 @@
 -- dec_ref_pic_marking() (7.3.3.3), with the rules on its values (7.4.3.3).
 use Rattle.std.specs.Prelude.{ℕ, zero, suc, ◌==◌, ◌&&◌, ◌||◌, nat_le, nat_lt, not, Bool, true, false, Option, Some, None, List, [], length}
 use Rattle.std.specs.List.{list_any}
-use Rattle.arrayvec.specs.ArrayVec.{ArrayVec}
 use Rattle.h264_base.specs.declared.element_name.ElementName.TheVariants.{NoOutputOfPriorPicsFlag, LongTermReferenceFlag, AdaptiveRefPicMarkingModeFlag, MemoryManagementControlOperation, DifferenceOfPicNumsMinus1, LongTermPicNum, LongTermFrameIdx, MaxLongTermFrameIdxPlus1}
 use Rattle.h264_base.specs.declared.rule.Rule.TheVariants.{Range}
 use Rattle.h264_base.specs.Word.{Fixed, Unsigned}

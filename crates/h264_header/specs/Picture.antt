@@ -1,11 +1,10 @@
 -- Where a picture begins (7.4.1.2.4).
-use Rattle.std.specs.Prelude.{ℕ, ℤ, ◌==◌, ◌||◌, ◌&&◌, not, Bool, true, false, Option, Some, None}
+use Rattle.std.specs.Prelude.{ℕ, ◌==◌, ◌||◌, ◌&&◌, not, Bool, true, false, Option, Some, None}
 use Rattle.h264_bits.specs.declared.element.Found.{Found}
 use Rattle.h264_header.specs.declared.header.PicOrderCnt.{PicOrderCnt}
 use Rattle.h264_header.specs.declared.header.PicOrderCnt.TheVariants.{Lsb, Deltas, DecodingOrder}
 use Rattle.h264_header.specs.declared.header.Header.{Header}
 use Rattle.std.specs.Ordering.{int_eq}
-use Rattle.std.specs.Option.{is_some}
 
 -- pic_order_cnt_type is 0 for both, and pic_order_cnt_lsb or delta_pic_order_cnt_bottom differs
 abbrev pub lsb_differs : PicOrderCnt → PicOrderCnt → Bool

@@ -1,6 +1,5 @@
 -- What a P slice says of its reference picture list: num_ref_idx_active_override_flag and ref_pic_list_modification() (7.3.3, 7.3.3.1).
-use Rattle.std.specs.Prelude.{◌≡◌, ℕ, zero, suc, ◌+◌, ◌==◌, ◌^◌, ◌&&◌, nat_le, nat_lt, Bool, true, false, Option, Some, None, List, [], ◌∷◌, length, if◌then◌else◌}
-use Rattle.arrayvec.specs.ArrayVec.{ArrayVec}
+use Rattle.std.specs.Prelude.{ℕ, zero, suc, ◌+◌, ◌==◌, ◌^◌, ◌&&◌, nat_le, nat_lt, Bool, true, false, Option, Some, None, List, [], length, if◌then◌else◌}
 use Rattle.h264_base.specs.declared.element_name.ElementName.TheVariants.{NumRefIdxActiveOverrideFlag, NumRefIdxL0ActiveMinus1, RefPicListModificationFlagL0, ModificationOfPicNumsIdc, AbsDiffPicNumMinus1, LongTermPicNum}
 use Rattle.h264_base.specs.declared.rule.Rule.TheVariants.{Range}
 use Rattle.h264_base.specs.declared.mode.SliceType.{SliceType}

@@ -1,12 +1,11 @@
 -- What is kept stands for the list of pictures.
-use Rattle.std.proofs.Common.{◌≡◌, ℕ, ◌+◌, Bool, true, false, List, ◌∷◌, Option, refl, ap, sym, ◌∙◌, subst}
+use Rattle.std.proofs.Common.{◌≡◌, List, ◌∷◌, Option, refl, ap, sym, subst}
 use Rattle.std.specs.Option.{ok_or}
 use Rattle.h264_base.specs.declared.stop.Stop.{Stop}
 use Rattle.h264_poc.specs.declared.picture.Count.{Count}
 use Rattle.h264_poc.specs.declared.picture.Picture.{Picture}
-use Rattle.h264_poc.specs.declared.lsb.Prev.{Prev}
 use Rattle.h264_poc.specs.declared.step.History.{History}
-use Rattle.h264_poc.specs.Counts.{prev_of, prev_frame_num, prev_frame_num_offset, follows_non_reference, frame_num_offset, start_of, prev_by, count_with, count_of, offset_of, history_after, Keeps}
+use Rattle.h264_poc.specs.Counts.{prev_of, prev_frame_num, prev_frame_num_offset, follows_non_reference, start_of, prev_by, count_with, count_of, offset_of, history_after, Keeps}
 
 pub answered : (o r : Option Count) (s : Stop) → o ≡ r → ok_or o s ≡ ok_or r s
 answered o r s e = ap (λ (x : Option Count). ok_or x s) e

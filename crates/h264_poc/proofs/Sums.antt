@@ -1,13 +1,13 @@
 -- Sums of offsets, and counts that are far out of range.
-use Rattle.std.proofs.Common.{◌≡◌, ℕ, zero, suc, ◌+◌, ◌*◌, ◌-◌, ◌<◌, ◌≤◌, ◌^◌, ◌⊎◌, inl, inr, Bool, true, false, Option, None, List, [], ◌∷◌, ◌++◌, take, length, get_or, ℤ, pos, neg_ℤ, ◌+ℤ◌, ◌≤ℤ◌, ◌<ℤ◌, ◌*ℤ◌, refl, ap, sym, ◌∙◌, arith}
+use Rattle.std.proofs.Common.{◌≡◌, ℕ, ◌+◌, ◌-◌, ◌<◌, ◌^◌, ◌⊎◌, inl, inr, Bool, true, false, None, List, [], ◌∷◌, ◌++◌, take, length, get_or, ℤ, pos, neg_ℤ, ◌+ℤ◌, ◌≤ℤ◌, ◌<ℤ◌, ◌*ℤ◌, refl, ap, arith}
 use Rattle.std.proofs.lemmas.List.{take_more}
-use Rattle.std.specs.Prelude.{int_le, negsuc}
+use Rattle.std.specs.Prelude.{int_le}
 use Rattle.std.proofs.lemmas.Int.{ints, by_lt_z, to_z_pos, to_z-of_z}
 use Rattle.std.specs.Int.{w32, w64}
 use mir.Val.{SFits, to_z, of_z}
 use Rattle.h264_poc.specs.declared.cycle.Deltas.{Deltas}
 use Rattle.h264_poc.specs.declared.within.FieldCounts.{FieldCounts}
-use Rattle.h264_poc.specs.Within.{is_in_range, count_within}
+use Rattle.h264_poc.specs.Within.{count_within}
 use Rattle.h264_poc.specs.Cycle.{sum_of, with_non_ref, counts_from, IsFar}
 
 pub sum_of-append : (xs ys : List ℤ) → sum_of (xs ++ ys) ≡ sum_of xs +ℤ sum_of ys

@@ -1,5 +1,5 @@
 -- pic_order_cnt_type 0 (8.2.1.1).
-use Rattle.std.specs.Prelude.{ℕ, ◌+◌, ◌-◌, ◌/◌, nat_lt, nat_le, ◌&&◌, Bool, true, false, ℤ, pos, ◌+ℤ◌, ◌-ℤ◌, if◌then◌else◌}
+use Rattle.std.specs.Prelude.{ℕ, ◌-◌, ◌/◌, nat_lt, nat_le, ◌&&◌, Bool, ℤ, pos, ◌+ℤ◌, ◌-ℤ◌, if◌then◌else◌}
 use Rattle.std.specs.Int.{int_gap, int_min}
 use Rattle.h264_poc.specs.declared.lsb.Prev.{Prev}
 use Rattle.h264_poc.specs.declared.within.FieldCounts.{FieldCounts}

@@ -1,5 +1,5 @@
 -- The range of counts (8.2.1).
-use Rattle.std.specs.Prelude.{ℕ, ◌-◌, ◌^◌, ◌&&◌, Bool, Option, Some, None, ℤ, pos, neg_ℤ, int_le, if◌then◌else◌}
+use Rattle.std.specs.Prelude.{◌-◌, ◌^◌, ◌&&◌, Bool, Option, Some, None, ℤ, pos, neg_ℤ, int_le, if◌then◌else◌}
 use Rattle.h264_poc.specs.declared.picture.Count.{Count}
 use Rattle.h264_poc.specs.declared.within.FieldCounts.{FieldCounts}
 

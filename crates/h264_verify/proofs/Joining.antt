@@ -1,19 +1,19 @@
 -- How a unit joins those before it.
-use Rattle.std.proofs.Common.{◌≡◌, ℕ, ◌+◌, ◌==◌, ◌||◌, ◌∷◌, [], List, Result, Ok, Err, OnOk, sym, ap, ◌∙◌, length}
+use Rattle.std.proofs.Common.{◌≡◌, ℕ, ◌+◌, ◌==◌, ◌||◌, ◌∷◌, [], List, Result, Ok, Err, OnOk, ap, ◌∙◌, length}
 use native.Mathlib.Numerals.{unary_clauses}
 use Rattle.h264_base.specs.declared.stop.Stop.{Stop}
 use Rattle.h264_base.specs.Call.{Call}
 use Rattle.h264_units.specs.Stream.{NalUnit}
 use Rattle.h264_verify.specs.declared.judge.State.{State}
-use Rattle.h264_verify.specs.Outcome.{Outcome, ◌>>=◌, gives, Plays}
+use Rattle.h264_verify.specs.Outcome.{Outcome, Plays}
 use Rattle.h264_verify.specs.Content.{Content}
 use Rattle.h264_verify.specs.History.{History, ReadUnit, maps_of, maps_with}
 use Rattle.h264_verify.specs.UnitHeader.{header_of, nal_unit_type}
 use Rattle.h264_verify.specs.Pictures.{ends_picture}
 use Rattle.h264_verify.specs.Keeping.{Keeps, KeepsWithin, IsLeft}
-use Rattle.h264_verify.specs.UnitRules.{content_judged, joined}
+use Rattle.h264_verify.specs.UnitRules.{content_judged}
 use Rattle.h264_verify.specs.Feeding.{Joins}
-use Rattle.h264_verify.proofs.Playing.{plays-stops, plays-on, plays-then, gives-plays}
+use Rattle.h264_verify.proofs.Playing.{plays-stops, plays-on, plays-then}
 use Rattle.h264_verify.proofs.Entering.{IsNoSlice, passed-keeps}
 
 module _ {S : Type 0} (took : S → List Call → Type 0) (failures : S → ℕ) (before : History) (unit : NalUnit) (content : Outcome Content) (new : State) where

@@ -1,11 +1,9 @@
 -- What is kept of the units so far.
-use Rattle.std.specs.Prelude.{◌≡◌, ◌≤◌, ℕ, List, [], ◌∷◌, length, Option, Some, None, Bool, true, false, if◌then◌else◌}
+use Rattle.std.specs.Prelude.{◌≡◌, List, [], ◌∷◌, length, Option, Some, None, Bool, true, false, if◌then◌else◌}
 use Rattle.h264_bits.specs.declared.element.Found.{Found}
 use Rattle.h264_marking.specs.declared.frame.Numbering.{Numbering}
 use Rattle.h264_marking.specs.Frames.{References}
 use Rattle.h264_poc.specs.Counts.{Keeps as KeepsCounts}
-use Rattle.h264_verify.specs.Content.{Content}
-use Rattle.h264_verify.specs.Content as contents
 use Rattle.h264_verify.specs.declared.judge.State.{State}
 use Rattle.h264_header.specs.declared.header.Header.{Header}
 use Rattle.h264_verify.specs.declared.slices.Slices.{Slices}
@@ -13,7 +11,7 @@ use Rattle.h264_verify.specs.declared.picture.OpenPicture.{OpenPicture}
 use Rattle.h264_verify.specs.declared.picture.Types.{Types}
 use Rattle.h264_header.specs.declared.header.Marking.{Marking}
 use Rattle.h264_verify.specs.History.{History, maps_of}
-use Rattle.h264_verify.specs.Pictures.{CodedPicture, open_slices, last_of, ends_picture, coded_of, pictures_of, numbering_of, prev_ref_of, held_after, held_in}
+use Rattle.h264_verify.specs.Pictures.{CodedPicture, open_slices, last_of, coded_of, pictures_of, numbering_of, prev_ref_of, held_after, held_in}
 use Rattle.h264_verify.specs.Slices.{types_of, is_idr_due, newest_idr_of, newest_count}
 
 -- the last slice of a picture that may go on

@@ -1,4 +1,4 @@
-use Rattle.std.proofs.Common.{Ok, Err, refl, sym}
+use Rattle.std.proofs.Common.{sym}
 use Rattle.std.proofs.lemmas.Result.{err_from_is_err_and}
 use Rattle.h264_base.proofs.Steps.{bind_as, stop, done}
 use Rattle.h264_bits.specs.Forms.{optional}

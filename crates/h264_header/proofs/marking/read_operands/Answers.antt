@@ -1,4 +1,4 @@
-use Rattle.std.proofs.Common.{rules, Ok, Err, refl}
+use Rattle.std.proofs.Common.{rules, refl}
 use Rattle.h264_base.proofs.Steps.{done}
 use Rattle.h264_header.specs.Marking.{operands}
 use Rattle.h264_header.proofs.Entries.{operands-other}

@@ -1,4 +1,4 @@
-use Rattle.std.proofs.Common.{Ok, Err, Option, None, refl}
+use Rattle.std.proofs.Common.{Option, None, refl}
 use Rattle.h264_header.specs.declared.header.Operation.{Operation}
 use Rattle.std.proofs.lemmas.Result.{err_from_is_err_and}
 use Rattle.h264_base.proofs.Steps.{bind, stop, done, checked}

@@ -1,4 +1,4 @@
-use Rattle.std.proofs.Common.{◌≡◌, ℕ, ◌+◌, ◌-◌, ◌<◌, ◌≤◌, ◌^◌, [], length}
+use Rattle.std.proofs.Common.{◌-◌, ◌<◌, ◌^◌, []}
 use Rattle.h264_base.proofs.Steps.{Leads}
 use Rattle.h264_header.specs.Listed.{listed}
 use Rattle.h264_header.specs.Marking.{operation}

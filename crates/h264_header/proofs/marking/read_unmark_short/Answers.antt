@@ -1,6 +1,6 @@
-use Rattle.std.proofs.Common.{Ok, Err, refl, rules}
+use Rattle.std.proofs.Common.{refl}
 use Rattle.std.proofs.lemmas.Result.{err_from_is_err_and}
-use Rattle.h264_base.proofs.Steps.{bind, bind_as, stop, done, checked}
+use Rattle.h264_base.proofs.Steps.{bind, stop, done}
 use Rattle.h264_header.specs.Marking.{operands}
 use Rattle.h264_header.proofs.marking.read_unmark_short.Goals as goal
 

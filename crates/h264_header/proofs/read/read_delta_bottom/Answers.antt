@@ -1,4 +1,4 @@
-use Rattle.std.proofs.Common.{Ok, Err, refl}
+use Rattle.std.proofs.Common.{refl}
 use Rattle.h264_base.proofs.Steps.{done}
 use Rattle.h264_header.specs.Listed.{or_0}
 use Rattle.h264_header.proofs.read.read_delta_bottom.Goals as goal

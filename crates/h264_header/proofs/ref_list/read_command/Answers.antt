@@ -1,4 +1,4 @@
-use Rattle.std.proofs.Common.{rules, Ok, Err, refl}
+use Rattle.std.proofs.Common.{rules, refl}
 use Rattle.h264_base.proofs.Steps.{done}
 use Rattle.h264_header.proofs.Entries.{command-other}
 use Rattle.h264_header.proofs.ref_list.read_command.Goals as goal

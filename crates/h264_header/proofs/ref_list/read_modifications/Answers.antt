@@ -1,4 +1,4 @@
-use Rattle.std.proofs.Common.{Ok, Err, refl, sym}
+use Rattle.std.proofs.Common.{sym}
 use Rattle.h264_base.proofs.Steps.{done}
 use Rattle.h264_header.specs.RefList.{modifications_if}
 use Rattle.h264_header.proofs.ref_list.read_modifications.Goals as goal

@@ -1,6 +1,5 @@
-use Rattle.std.proofs.Common.{Ok, Err, refl, rules}
 use Rattle.std.proofs.lemmas.Result.{err_from_is_err_and}
-use Rattle.h264_base.proofs.Steps.{bind, bind_as, stop, done, checked}
+use Rattle.h264_base.proofs.Steps.{bind, stop}
 use Rattle.h264_header.proofs.Entries.{digit-is}
 use Rattle.h264_header.specs.RefList.{num_ref_idx_l0_active}
 use Rattle.h264_header.proofs.ref_list.read_override.Goals as goal

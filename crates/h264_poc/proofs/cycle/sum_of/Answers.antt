@@ -1,8 +1,7 @@
-use Rattle.std.proofs.Common.{◌≡◌, ◌+◌, ◌*◌, ◌<◌, ◌^◌, get_or, take, length, pos, ◌+ℤ◌, arith, rules}
+use Rattle.std.proofs.Common.{◌<◌, get_or, length, pos, arith, rules}
 use Rattle.std.proofs.lemmas.Int.{ints}
 use Rattle.std.specs.Int.{w32}
 use mir.Val.{SFits}
-use Rattle.h264_poc.specs.Cycle.{sum_of}
 use Rattle.h264_poc.proofs.Sums.{sum_of-more}
 use Rattle.h264_poc.proofs.cycle.sum_of.Goals as goal
 

@@ -1,4 +1,4 @@
-use Rattle.std.proofs.Common.{◌≡◌, Option, Some, ap, sym, ◌∙◌}
+use Rattle.std.proofs.Common.{◌≡◌, Some, ap, sym, ◌∙◌}
 use Rattle.h264_sps.specs.declared.sps.Sps.{Sps}
 use Rattle.h264_sets.specs.Sets.{Maps}
 use Rattle.h264_sets.proofs.Content.{decides-sps}

@@ -1,7 +1,7 @@
-use Rattle.std.proofs.Common.{rules, refl, sym, ap, ◌≡◌, ◌∙◌, List, Option, None}
+use Rattle.std.proofs.Common.{rules, ◌≡◌, List, Option, None}
 use Rattle.h264_sps.specs.declared.sps.Sps.{Sps}
 use Rattle.h264_pps.specs.declared.Pps.{Pps}
-use Rattle.h264_sets.specs.Sets.{Maps, no_sets}
+use Rattle.h264_sets.specs.Sets.{Maps}
 use Rattle.h264_sets.proofs.Sets.new.Goals as goal
 
 both : (s t : List (Option Sps)) (p q : List (Option Pps)) → s ≡ t → p ≡ q → (let m : Maps = record { sps = s; pps = p; active = None } in m) ≡ record { sps = t; pps = q; active = None }

@@ -1,4 +1,4 @@
-use Rattle.std.proofs.Common.{sym, subst, ◌∙◌}
+use Rattle.std.proofs.Common.{subst}
 use Rattle.h264_verify.specs.Keeping.{HoldsSlices}
 use Rattle.h264_verify.proofs.Entering.{begun-holds, gone-holds}
 use Rattle.h264_verify.proofs.slices.enter.Goals as goal

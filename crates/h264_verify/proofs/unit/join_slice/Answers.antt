@@ -1,4 +1,4 @@
-use Rattle.std.proofs.Common.{subst, sym, ◌∙◌, ap, refl}
+use Rattle.std.proofs.Common.{subst, ◌∙◌, ap, refl}
 use Rattle.std.proofs.lemmas.Result.{err_from_is_err_and}
 use Rattle.h264_verify.specs.Content as contents
 use Rattle.h264_verify.specs.History.{maps_with}

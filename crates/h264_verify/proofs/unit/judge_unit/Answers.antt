@@ -1,10 +1,10 @@
-use Rattle.std.proofs.Common.{ap, sym, [], ◌∷◌, refl, ◌*◌}
+use Rattle.std.proofs.Common.{ap, sym, [], ◌*◌}
 use Rattle.std.proofs.lemmas.Result.{err_from_is_err_and}
 use Rattle.h264_verify.specs.Outcome.{answers}
 use Rattle.h264_verify.specs.UnitHeader.{header_of, nal_unit_type, header_demands}
 use Rattle.h264_verify.specs.Pictures.{closing_at}
 use Rattle.h264_verify.specs.UnitRules.{unit_outcome}
-use Rattle.h264_verify.proofs.Playing.{answer-stops, answer-on, plays-stops, plays-on, plays-then, named-by}
+use Rattle.h264_verify.proofs.Playing.{answer-stops, answer-on, plays-stops, plays-on, named-by}
 use Rattle.h264_verify.proofs.Entering.{within}
 use Rattle.h264_verify.proofs.Slicing.{err-named}
 use Rattle.h264_verify.proofs.unit.judge_unit.Goals as goal
