@@ -185,3 +185,26 @@ pub struct Header {
     pub slice_qp_delta: Found<i32>,
     pub deblocking: Deblocking,
 }
+
+impl Header {
+    /// A place for a header, before one is read into it: no element is there, and every number is 0.
+    pub fn unread() -> Header {
+        let nothing = Found { bit: 0, value: 0 };
+        Header {
+            nal_ref_idc: 0,
+            first_mb_in_slice: nothing,
+            kind: Found {
+                bit: 0,
+                value: SliceKind::I,
+            },
+            same_type_in_picture: false,
+            pic_parameter_set_id: nothing,
+            frame_num: nothing,
+            idr_pic_id: None,
+            pic_order_cnt: PicOrderCnt::DecodingOrder,
+            marking: None,
+            slice_qp_delta: Found { bit: 0, value: 0 },
+            deblocking: Deblocking::Off,
+        }
+    }
+}

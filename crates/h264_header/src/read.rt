@@ -1,13 +1,14 @@
 //! Reading a slice header (7.3.3).
 #![tactic(auto)]
 
-ghost use Rattle.std.specs.Prelude.{◌≡◌, ℕ, ◌-◌, ◌<◌, ◌≤◌, ◌^◌, true, IfOk};
+ghost use Rattle.std.specs.Prelude.{◌≡◌, ℕ, ◌-◌, ◌<◌, ◌≤◌, ◌^◌, true, IfOk, OnOk};
 ghost use Rattle.h264_base.specs.Meets.{Meets, Is, Answers};
 ghost use Rattle.h264_base.specs.declared.element_name.ElementName.TheVariants.{DeltaPicOrderCntBottom, DeltaPicOrderCnt};
 ghost use Rattle.h264_bits.specs.Forms.{optional, signed};
 ghost use Rattle.h264_header.specs.Layout.{sets_of, IsShort, IsShortCount};
 ghost use Rattle.h264_header.specs.Listed.{or_0};
-ghost use Rattle.h264_header.specs.Header.{is_judged_type, type_of, stated_type, named_sets, idr_pic_id, lsb_count, delta_count, pic_order_cnt, filter_offsets, deblocking_of, deblocking, header};
+ghost use Rattle.h264_header.specs.Header.{is_judged_type, type_of, stated_type, named_sets, idr_pic_id, lsb_count, delta_count, pic_order_cnt, filter_offsets, deblocking_of, deblocking};
+ghost use Rattle.h264_header.specs.Header.{header as header_of};
 
 use crate::header::{Deblocking, FilterOffsets, Header, PicOrderCnt, SliceUnit};
 use crate::layout::{CountElements, Layout, named_layout};
@@ -255,59 +256,54 @@ fn header_steps<S: Elements>(
     bits: &mut Bits,
     sets: &Sets,
     unit: SliceUnit,
+    header: &mut Header,
     sink: &mut S,
-) -> Result<Header, Stop>
+) -> Result<(), Stop>
     requires { S.failures sink.old < 2 ^ 64 - 1 }
-    ensures meets { Meets S.took S.failures (Is (λ x. x)) (header (sets_of sets.now) unit) bits.old bits.new sink.old sink.new result }
-    ensures id { IfOk result (λ h. h.pic_parameter_set_id.value ≤ 255) }
+    ensures meets { Meets S.took S.failures (Is (λ _. header.new)) (header_of (sets_of sets.now) unit) bits.old bits.new sink.old sink.new result }
+    ensures id { OnOk result (header.new.pic_parameter_set_id.value ≤ 255) }
 {
-    let first_mb = read_ue(bits, ElementName::FirstMbInSlice, sink)?;
+    header.nal_ref_idc = unit.nal_ref_idc;
+    header.first_mb_in_slice = read_ue(bits, ElementName::FirstMbInSlice, sink)?;
     let stated = read_stated_type(bits, sink)?;
+    header.same_type_in_picture = stated.same_in_picture;
     let named = read_named_sets(sets, bits, sink)?;
+    header.pic_parameter_set_id = named.id;
     let layout = named.layout;
-    let frame_num = read_bits(bits, ElementName::FrameNum, layout.frame_num_length, sink)?;
-    let idr = read_idr(unit.idr_pic_flag, bits, sink)?;
-    let order = read_pic_order_cnt(layout.count, layout.has_bottom, bits, sink)?;
+    header.frame_num = read_bits(bits, ElementName::FrameNum, layout.frame_num_length, sink)?;
+    header.idr_pic_id = read_idr(unit.idr_pic_flag, bits, sink)?;
+    header.pic_order_cnt = read_pic_order_cnt(layout.count, layout.has_bottom, bits, sink)?;
     let mut modifications = ArrayVec::new();
     let active = read_slice_kind(layout, stated.slice_type, &mut modifications, bits, sink)?;
-    let mut marking = None;
+    header.kind = Found {
+        bit: stated.bit,
+        value: kind_of(active, modifications),
+    };
+    header.marking = None;
     let reference = unit.nal_ref_idc > 0;
-    read_marking(reference, unit.idr_pic_flag, &mut marking, bits, sink)?;
-    let qp = read_se(bits, ElementName::SliceQpDelta, sink)?;
-    let filter = read_deblocking(layout.has_deblocking_control, bits, sink)?;
-    Ok(Header {
-        nal_ref_idc: unit.nal_ref_idc,
-        first_mb_in_slice: first_mb,
-        kind: Found {
-            bit: stated.bit,
-            value: kind_of(active, modifications),
-        },
-        same_type_in_picture: stated.same_in_picture,
-        pic_parameter_set_id: named.id,
-        frame_num,
-        idr_pic_id: idr,
-        pic_order_cnt: order,
-        marking,
-        slice_qp_delta: qp,
-        deblocking: filter,
-    })
+    read_marking(reference, unit.idr_pic_flag, &mut header.marking, bits, sink)?;
+    header.slice_qp_delta = read_se(bits, ElementName::SliceQpDelta, sink)?;
+    header.deblocking = read_deblocking(layout.has_deblocking_control, bits, sink)?;
+    Ok(())
 }
 
-/// Reads the header of a slice, up to the bit at which its data begin.
+/// Reads the header of a slice, up to the bit at which its data begin, into a place of the caller: it is large to move.
 ///
 /// Ok: the header; the elements that the sink was told are its one derivation, with every rule on its own elements met.
 /// No: the first rule that it breaks, at its stream bit; NoSet where the picture parameter set of its id, or the sequence
-/// parameter set that this one names, is not there. Write: the sink failed. After an Err the reader may have moved.
+/// parameter set that this one names, is not there. Write: the sink failed. After an Err the reader may have moved, and the
+/// place holds some elements of this header and some of what it held.
 pub fn read_header<S: Elements>(
     bits: &mut Bits,
     sets: &Sets,
     unit: SliceUnit,
+    header: &mut Header,
     sink: &mut S,
-) -> Result<Header, Stop>
+) -> Result<(), Stop>
     requires { S.failures sink.old < 2 ^ 64 - 1 }
-    ensures answers { Answers S.took S.failures (Is (λ x. x)) (header (sets_of sets.now) unit) bits.old bits.new sink.old sink.new result }
-    ensures meets { Meets S.took S.failures (Is (λ x. x)) (header (sets_of sets.now) unit) bits.old bits.new sink.old sink.new result }
-    ensures id { IfOk result (λ h. h.pic_parameter_set_id.value ≤ 255) }
+    ensures answers { Answers S.took S.failures (Is (λ _. header.new)) (header_of (sets_of sets.now) unit) bits.old bits.new sink.old sink.new result }
+    ensures meets { Meets S.took S.failures (Is (λ _. header.new)) (header_of (sets_of sets.now) unit) bits.old bits.new sink.old sink.new result }
+    ensures id { OnOk result (header.new.pic_parameter_set_id.value ≤ 255) }
 {
-    header_steps(bits, sets, unit, sink)
+    header_steps(bits, sets, unit, header, sink)
 }

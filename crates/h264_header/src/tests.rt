@@ -166,7 +166,9 @@ fn header_in(
         idr_pic_flag: idr,
         nal_ref_idc,
     };
-    read_header(&mut Bits::new(&body), sets, unit, &mut Heard { count: 0 })
+    let mut header = Header::unread();
+    read_header(&mut Bits::new(&body), sets, unit, &mut header, &mut Heard { count: 0 })?;
+    Ok(header)
 }
 
 /// The rule that a header breaks, and its bit in the RBSP; of a header without a fault none.

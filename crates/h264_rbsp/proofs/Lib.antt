@@ -1,3 +1,4 @@
+pub mod Searches
 pub mod Faults
 pub mod Told
 pub mod Places

@@ -1,8 +1,31 @@
 //! A fast search for what emulation prevention is about.
 #![tactic(auto)]
 
-ghost use Rattle.std.specs.Prelude.{ℕ, ◌+◌, ◌<◌, ◌≤◌, length};
+ghost use Rattle.std.specs.Prelude.{ℕ, ◌+◌, ◌<◌, ◌≤◌, IsFalse, IsTrue, length};
 ghost use Rattle.h264_rbsp.specs.Found.{IsFound};
+
+/// The first of the places `start`, `start + 3` and so on at which no byte above 03 stands.
+fn behind_high(bytes: &[u8], start: usize) -> usize
+    requires start { (2 ≤ start) × (start ≤ length bytes.now + 2) }
+    ensures from { (start ≤ result) × (result ≤ length bytes.now + 2) }
+    ensures none { (least place : ℕ) → start ≤ place → place < result → IsFound bytes.now least place → ⊥ }
+{
+    let mut place = start;
+    while place < bytes.len() && bytes[place] > 3 {
+        place += 3;
+    }
+    place
+}
+
+/// Whether a byte from `least` to 03 stands at this place, behind two 00 bytes.
+fn is_found(bytes: &[u8], place: usize, least: u8) -> bool
+    requires { (2 ≤ place) × (place < length bytes.now) }
+    ensures found { IsTrue result → IsFound bytes.now least place }
+    ensures other { IsFalse result → IsFound bytes.now least place → ⊥ }
+{
+    let byte = bytes[place];
+    byte <= 3 && least <= byte && bytes[place - 1] == 0 && bytes[place - 2] == 0
+}
 
 /// The first place at which a byte from `least` to 03 stands behind two 00 bytes that stand at `start` or later, or the number
 /// of bytes. `least` is not 0.
@@ -13,17 +36,14 @@ pub(crate) fn next_behind_zeros(bytes: &[u8], start: usize, least: u8) -> usize
     ensures found { result < length bytes.now → (start + 2 ≤ result) × IsFound bytes.now least result }
     ensures none { (place : ℕ) → start + 2 ≤ place → place < result → IsFound bytes.now least place → ⊥ }
 {
-    let mut place = start + 2;
+    let mut place = behind_high(bytes, start + 2);
     while place < bytes.len() {
-        let byte = bytes[place];
-        if byte == 0 {
-            place += 1;
-        } else if least <= byte && byte <= 3 && bytes[place - 1] == 0 && bytes[place - 2] == 0 {
+        if is_found(bytes, place, least) {
             return place;
-        } else {
-            // None of the next three places has this byte, which is not 00, at the third and two 00 bytes before.
-            place += 3;
         }
+        // None of the next three places has a byte that is not 00 at the third and two 00 bytes before.
+        let step = if bytes[place] == 0 { 1 } else { 3 };
+        place = behind_high(bytes, place + step);
     }
     bytes.len()
 }

@@ -63,6 +63,14 @@ fn name_pps(active: &mut Option<SetPair>, pps: Pps)
     }
 }
 
+/// Another pair becomes the active one. Apart, so that a slice that keeps it does not pay for the place of a set.
+#[inline(never)]
+fn replace_pair(active: &mut Option<SetPair>, pps: Pps, sps: Sps)
+    ensures { active.new ≡ Some (record { pps = pps; sps = sps }) }
+{
+    *active = Some(SetPair { pps, sps });
+}
+
 /// The sets by id, and the active pair.
 #[derive(Drop)]
 pub struct Sets {
@@ -187,7 +195,8 @@ impl Sets {
                 rule: Rule::SetChanged,
             });
         }
-        self.active = Some(SetPair { pps, sps: *sps });
+        let sps = *sps;
+        replace_pair(&mut self.active, pps, sps);
         Ok(())
     }
 }

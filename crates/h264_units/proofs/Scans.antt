@@ -11,15 +11,33 @@ pub inner-append : (a b : List ℕ) → IsInner a → IsInner b → IsInner (a +
 inner-append [] b p q = q
 inner-append (x ∷ a) b p q = (inner-more x a b p.0, inner-append a b p.1 q)
 
-ends-first : (x : ℕ) (l : List ℕ) → EndsUnit (x ∷ l) → x ≡ 0
-ends-first x [] p = p
-ends-first x (y ∷ []) p = p.0
-ends-first x (y ∷ z ∷ l) p = p.0
+pub take-both : (i n : ℕ) (l : List ℕ) → take (i + n) l ≡ take i l ++ take n (drop i l)
+take-both i n l =
+    sym (take-append-drop i (take (i + n) l))
+    ∙ ap (λ t. t ++ drop i (take (i + n) l)) (take-take i (i + n) l (omega arith))
+    ∙ ap (λ t. take i l ++ t) (drop-take i n l)
 
--- no unit ends where no 00 stands
-pub inner-others : (l : List ℕ) → ((k : ℕ) → k < length l → get_or l k 0 ≢ 0) → IsInner l
-inner-others [] h = tt
-inner-others (x ∷ l) h = (λ p. h 0 (omega arith) (ends-first x l p), inner-others l (λ k lt. h (suc k) (omega arith)))
+above-one : (a b c : ℕ) → 1 < c → IsInner (a ∷ b ∷ c ∷ [])
+above-one a b c high =
+    (λ p. let e : c < 2 = p.2 in omega arith, (λ p. let e : c ≡ 0 = p.1 in omega arith, (λ p. let e : c ≡ 0 = p in omega arith, tt)))
+
+-- three more bytes, the last of which ends no unit
+pub inner-three : (l : List ℕ) (n : ℕ) → IsInner (take n l) → n + 2 < length l → 1 < get_or l (n + 2) 0 → IsInner (take (n + 3) l)
+inner-three l zero p more high = by l more high
+  where
+    by : (l : List ℕ) → 2 < length l → 1 < get_or l 2 0 → IsInner (take 3 l)
+    by [] m h = absurd (omega (arith, m))
+    by (a ∷ []) m h = absurd (omega (arith, m))
+    by (a ∷ b ∷ []) m h = absurd (omega (arith, m))
+    by (a ∷ b ∷ c ∷ l) m h = above-one a b c h
+inner-three [] (suc n) p more high = absurd (omega (arith, more))
+inner-three (x ∷ l) (suc n) p more high =
+    let e : suc (n + 3) ≡ suc n + 3 = omega arith in
+    let inside : (EndsUnit (x ∷ take n l) → ⊥) × IsInner (take n l) = p in
+    let first : EndsUnit (x ∷ take (n + 3) l) → ⊥ = subst (λ t. EndsUnit (x ∷ t) → ⊥) (sym (take-both n 3 l)) (inner-more x (take n l) (take 3 (drop n l)) inside.0) in
+    let place : suc (n + 2) ≡ suc n + 2 = omega arith in
+    let above : 1 < get_or l (n + 2) 0 = subst (λ k. 1 < get_or (x ∷ l) k 0) (sym place) high in
+    subst (λ m. IsInner (take m (x ∷ l))) e (first, inner-three l n inside.1 (omega arith) above)
 
 -- zeros that were held back, and a byte that makes them the unit's
 pub inner-zeros : (zeros byte : ℕ) → zeros < 3 → byte ≢ 0 → (byte < 2 → zeros ≢ 2) → IsInner (replicate zeros 0 ++ byte ∷ [])
@@ -31,12 +49,6 @@ inner-zeros (suc (suc (suc n))) byte p q r = absurd (omega arith)
 pub gained-some : (held : ℕ) (piece : List ℕ) (n : ℕ) → 0 < n → gained held piece n ≡ replicate held 0 ++ take n piece
 gained-some held piece zero h = absurd (omega arith)
 gained-some held piece (suc n) h = refl
-
-pub take-both : (i n : ℕ) (l : List ℕ) → take (i + n) l ≡ take i l ++ take n (drop i l)
-take-both i n l =
-    sym (take-append-drop i (take (i + n) l))
-    ∙ ap (λ t. t ++ drop i (take (i + n) l)) (take-take i (i + n) l (omega arith))
-    ∙ ap (λ t. take i l ++ t) (drop-take i n l)
 
 third-byte : (byte : ℕ) → byte < 2 → third (nat_eq byte 1) ≡ byte
 third-byte zero h = refl
@@ -74,15 +86,15 @@ module _ (held : ℕ) (piece : List ℕ) (i : ℕ) (byte : ℕ) (more : i < leng
         inner = subst (λ n. IsInner (gained held piece n)) (sym k) s.inner;
       }
 
-  pub scans-others : (zeros run : ℕ) → Scans held piece i (Inside zeros) → byte ≢ 0 → (byte < 2 → zeros ≢ 2) → i + 1 + run ≤ length piece → ((k : ℕ) → i + 1 ≤ k → k < i + 1 + run → get_or piece k 0 ≢ 0) → Scans held piece (i + 1 + run) (Inside 0)
-  scans-others zeros run s other code within others =
+  pub scans-others : (zeros run : ℕ) → Scans held piece i (Inside zeros) → byte ≢ 0 → (byte < 2 → zeros ≢ 2) → i + 1 + run ≤ length piece → IsInner (take run (drop (i + 1) piece)) → Scans held piece (i + 1 + run) (Inside 0)
+  scans-others zeros run s other code within inner =
       let some = gained-some held piece (i + 1 + run) (omega arith) in
       let k : i + 1 + run - 0 ≡ i + 1 + run = omega arith in
       record {
         within = within;
         in_unit = omega arith;
         whole = append-nil (gained held piece (i + 1 + run - 0)) ∙ ap (gained held piece) k ∙ some;
-        inner = subst IsInner (sym (ap (gained held piece) k ∙ some ∙ parts)) (inner-append (gained held piece (i - zeros)) (replicate zeros 0 ++ byte ∷ tail) s.inner (subst IsInner (append_assoc (replicate zeros 0) (byte ∷ []) tail) (inner-append (replicate zeros 0 ++ byte ∷ []) tail (inner-zeros zeros byte s.in_unit other code) (inner-others tail in-tail))));
+        inner = subst IsInner (sym (ap (gained held piece) k ∙ some ∙ parts)) (inner-append (gained held piece (i - zeros)) (replicate zeros 0 ++ byte ∷ tail) s.inner (subst IsInner (append_assoc (replicate zeros 0) (byte ∷ []) tail) (inner-append (replicate zeros 0 ++ byte ∷ []) tail (inner-zeros zeros byte s.in_unit other code) inner)));
       }
     where
       tail : List ℕ
@@ -95,9 +107,3 @@ module _ (held : ℕ) (piece : List ℕ) (i : ℕ) (byte : ℕ) (more : i < leng
           ∙ ap (λ l. l ++ tail) (one-more ∙ ap (λ l. l ++ byte ∷ []) (sym s.whole))
           ∙ append_assoc (gained held piece (i - zeros) ++ replicate zeros 0) (byte ∷ []) tail
           ∙ append_assoc (gained held piece (i - zeros)) (replicate zeros 0) (byte ∷ tail)
-
-      in-tail : (k : ℕ) → k < length tail → get_or tail k 0 ≢ 0
-      in-tail k lt e =
-          let n = length-take run (drop (i + 1) piece) in
-          let m : k < run = omega arith in
-          others (i + 1 + k) (omega arith) (omega arith) (sym (get_or-drop (i + 1) piece k 0) ∙ sym (get_or-take run (drop (i + 1) piece) k 0 m) ∙ e)

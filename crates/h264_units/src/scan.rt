@@ -1,7 +1,8 @@
 //! How a piece of the input reads on.
 #![tactic(auto)]
 
-ghost use Rattle.std.specs.Prelude.{◌≡◌, ◌≢◌, ℕ, ◌+◌, ◌<◌, ◌≤◌, length, slice_index};
+ghost use Rattle.std.specs.Prelude.{◌≡◌, ◌≢◌, ℕ, ◌+◌, ◌<◌, ◌≤◌, drop, length, slice_index, take};
+ghost use Rattle.h264_units.specs.Stream.{IsInner};
 ghost use Rattle.h264_units.specs.Scanned.{Scans, IsOpen};
 
 /// How far the input was read.
@@ -33,17 +34,18 @@ pub(crate) fn zero_run(piece: &[u8]) -> usize
     piece.len()
 }
 
-/// How many other bytes than 00 stand in the piece from this place on.
-fn other_run(piece: &[u8], start: usize) -> usize
+/// How many bytes of the piece, from this place on, are passed over three at a time, since no unit ends in them: the third
+/// byte of each three is above 01.
+fn inner_run(piece: &[u8], start: usize) -> usize
     requires { start ≤ length piece.now }
     ensures within { start + result ≤ length piece.now }
-    ensures others { (k : ℕ) → start ≤ k → k < start + result → slice_index piece.now k ≢ 0 }
+    ensures inner { IsInner (take result (drop start piece.now)) }
 {
-    let mut i = start;
-    while i < piece.len() && piece[i] != 0 {
-        i += 1;
+    let mut end = start;
+    while end + 2 < piece.len() && piece[end + 2] > 1 {
+        end += 3;
     }
-    i - start
+    end - start
 }
 
 /// Reads on in a unit, with some 00 bytes held back, to its end or that of the piece: how many bytes that are.
@@ -65,7 +67,7 @@ pub(crate) fn scan_unit(held: u8, piece: &[u8]) -> (usize, Phase)
             zeros += 1;
         } else {
             zeros = 0;
-            i += other_run(piece, i);
+            i += inner_run(piece, i);
         }
     }
     (i, Phase::Inside(zeros))

@@ -118,12 +118,12 @@ meets-plays took failures view g body old new s s' r e m a =
     let a' = subst (λ o. Answers took failures (Is view) g o new s s' r) e a in
     record { plays = by-meets took failures view g body new.at s s' r m'.meets a' }
 
--- a value given behind what was played
 -- what is played is wrapped
-pub plays-gives : {A B S : Type 0} (took : S → List Call → Type 0) (failures : S → ℕ) (view : A → B) (o : Outcome A) (s s' : S) (r : Result A Stop) → Plays took failures (λ (x : A). x) o s s' r → Plays took failures view (o >>= λ x. gives (view x)) s s' r
-plays-gives {A} took failures view o s s' (Ok x) p = plays-on took failures (λ (x : A). x) view o (λ x. gives (view x)) s s' s' x (Ok x) p (gives-plays took failures view x s')
-plays-gives {A} took failures view o s s' (Err e) p = plays-stops took failures (λ (x : A). x) view o (λ x. gives (view x)) s s' e p
+pub plays-gives : {A B S X : Type 0} (took : S → List Call → Type 0) (failures : S → ℕ) (found : X → A) (view : A → B) (o : Outcome A) (s s' : S) (r : Result X Stop) → Plays took failures found o s s' r → Plays took failures (λ x. view (found x)) (o >>= λ x. gives (view x)) s s' r
+plays-gives took failures found view o s s' (Ok x) p = plays-on took failures found (λ x. view (found x)) o (λ x. gives (view x)) s s' s' x (Ok x) p (gives-plays took failures (λ x. view (found x)) x s')
+plays-gives took failures found view o s s' (Err e) p = plays-stops took failures found (λ x. view (found x)) o (λ x. gives (view x)) s s' e p
 
+-- a value given behind what was played
 pub plays-then : {A S : Type 0} (took : S → List Call → Type 0) (failures : S → ℕ) (o : Outcome (Unit {0})) (y : A) (s s' : S) (r : Result (Unit {0}) Stop) → Plays took failures (λ (x : Unit {0}). x) o s s' r → Plays took failures (λ (x : Unit {0}). y) (o >>= λ _. gives y) s s' r
 plays-then took failures o y s s' (Ok x) p = plays-on took failures (λ (x : Unit {0}). x) (λ (x : Unit {0}). y) o (λ _. gives y) s s' s' x (Ok x) p (gives-plays took failures (λ (x : Unit {0}). y) x s')
 plays-then took failures o y s s' (Err e) p = plays-stops took failures (λ (x : Unit {0}). x) (λ (x : Unit {0}). y) o (λ _. gives y) s s' e p

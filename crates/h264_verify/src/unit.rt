@@ -106,17 +106,18 @@ fn read_pps_unit<S: FrameSink>(alloc: Global, unit: &NalUnit, sink: &mut S) -> R
     read_pps(&mut bits, sink)
 }
 
-/// Reads the header of a slice.
+/// Reads the header of a slice into a place of the caller.
 fn read_slice_unit<S: FrameSink>(
     alloc: Global,
     header: u8,
     sets: &Sets,
     unit: &NalUnit,
+    found: &mut Header,
     sink: &mut S,
-) -> Result<Header, Stop>
+) -> Result<(), Stop>
     requires { S.failures sink.old < 2 ^ 64 - 1 }
-    ensures plays { (before : History) → sets.now ≡ maps_of before → header ≡ header_of unit.now → Plays S.took S.failures contents.OfSlice (slice_outcome before unit.now) sink.old sink.new result }
-    ensures id { IfOk result (λ h. h.pic_parameter_set_id.value ≤ 255) }
+    ensures plays { (before : History) → sets.now ≡ maps_of before → header ≡ header_of unit.now → Plays S.took S.failures (λ _. contents.OfSlice found.new) (slice_outcome before unit.now) sink.old sink.new result }
+    ensures id { OnOk result (found.new.pic_parameter_set_id.value ≤ 255) }
     ensures kept { OnOk result (S.failures sink.new ≡ S.failures sink.old) }
 {
     let rbsp = Rbsp::of(alloc, unit)?;
@@ -125,7 +126,7 @@ fn read_slice_unit<S: FrameSink>(
         idr_pic_flag: header % 32 == 5,
         nal_ref_idc: (header / 32 % 4) as u32,
     };
-    read_header(&mut bits, sets, slice_unit, sink)
+    read_header(&mut bits, sets, slice_unit, found, sink)
 }
 
 /// A unit that is no slice joins those before it.
@@ -205,7 +206,8 @@ fn join_slice<S: FrameSink>(
     ensures pictures { OnOk result (state.new.slices.pictures ≤ state.new.units) }
     ensures kept { OnOk result (S.failures sink.new ≡ S.failures sink.old) }
 {
-    let found = read_slice_unit(alloc, header, &state.sets, unit, sink)?;
+    let mut found = Header::unread();
+    read_slice_unit(alloc, header, &state.sets, unit, &mut found, sink)?;
     judge_slice(&mut state.slices, &mut state.sets, unit, found, sink)?;
     state.units += 1;
     Ok(())

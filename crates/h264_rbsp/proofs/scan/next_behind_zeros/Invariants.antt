@@ -5,8 +5,9 @@ use Rattle.h264_rbsp.proofs.scan.next_behind_zeros.Given as goal
 abbrev pub invariant-loop-place : goal.invariant-loop-place
 invariant-loop-place l = record {
   low : l.start + 2 ≤ l.place;
+  high : l.place ≤ length l.bytes + 2;
   none : (place : ℕ) → l.start + 2 ≤ place → place < l.place → IsFound l.bytes l.least place → ⊥;
 }
 
 abbrev pub decreases-loop-place : goal.decreases-loop-place
-decreases-loop-place l = length l.bytes - l.place
+decreases-loop-place l = length l.bytes + 2 - l.place

@@ -10,4 +10,4 @@ returns-in_err-rbsp-clause-plays g c = let p = err_from_is_err_and c.from_residu
 
 pub returns-clause-plays : goal.returns-clause-plays
 unfolding sps_outcome
-returns-clause-plays g c = rw (← c.in_ok-rbsp.ensures.ok) (plays-gives _ _ contents.OfSps _ _ _ _ (meets-plays _ _ _ sps _ _ _ _ _ _ c.new-bits.ensures c.read_sps.ensures.meets c.read_sps.ensures.answers))
+returns-clause-plays g c = rw (← c.in_ok-rbsp.ensures.ok) (plays-gives _ _ (λ x. x) contents.OfSps _ _ _ _ (meets-plays _ _ _ sps _ _ _ _ _ _ c.new-bits.ensures c.read_sps.ensures.meets c.read_sps.ensures.answers))
