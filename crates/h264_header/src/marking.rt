@@ -267,7 +267,7 @@ fn read_dec_ref_pic_marking<S: Elements>(
     read_other_marking(marking, bits, sink)
 }
 
-/// The marking, where the picture is a reference, in a place of the caller that holds none: it is large to move.
+/// The marking, where the picture is a reference, else none, in a place of the caller: it is large to move.
 pub(crate) fn read_marking<S: Elements>(
     reference: bool,
     idr: bool,
@@ -275,11 +275,11 @@ pub(crate) fn read_marking<S: Elements>(
     bits: &mut Bits,
     sink: &mut S,
 ) -> Result<(), Stop>
-    requires none { marking.old ≡ None }
-    requires room { S.failures sink.old < 2 ^ 64 - 1 }
+    requires { S.failures sink.old < 2 ^ 64 - 1 }
     ensures { Meets S.took S.failures (Is (λ _. marking.new)) (optional reference (dec_ref_pic_marking idr)) bits.old bits.new sink.old sink.new result }
 {
     if !reference {
+        *marking = None;
         return Ok(());
     }
     read_dec_ref_pic_marking(idr, marking, bits, sink)?;

@@ -279,7 +279,6 @@ fn header_steps<S: Elements>(
         bit: stated.bit,
         value: kind_of(active, modifications),
     };
-    header.marking = None;
     let reference = unit.nal_ref_idc > 0;
     read_marking(reference, unit.idr_pic_flag, &mut header.marking, bits, sink)?;
     header.slice_qp_delta = read_se(bits, ElementName::SliceQpDelta, sink)?;

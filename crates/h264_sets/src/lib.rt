@@ -63,14 +63,6 @@ fn name_pps(active: &mut Option<SetPair>, pps: Pps)
     }
 }
 
-/// Another pair becomes the active one. Apart, so that a slice that keeps it does not pay for the place of a set.
-#[inline(never)]
-fn replace_pair(active: &mut Option<SetPair>, pps: Pps, sps: Sps)
-    ensures { active.new ≡ Some (record { pps = pps; sps = sps }) }
-{
-    *active = Some(SetPair { pps, sps });
-}
-
 /// The sets by id, and the active pair.
 #[derive(Drop)]
 pub struct Sets {
@@ -164,6 +156,15 @@ impl Sets {
         }
     }
 
+    /// The pair of this pic_parameter_set_id becomes the active one. Apart, so that a slice that keeps the active pair does not
+    /// pay for the place of another.
+    #[inline(never)]
+    fn replace(&mut self, pic_parameter_set_id: u32)
+        ensures { self.new ≡ record self.old { active = pair_of self.old pic_parameter_set_id } }
+    {
+        self.active = self.pair(pic_parameter_set_id);
+    }
+
     /// Makes the sets of a slice the active ones. `idr`: the slice begins an IDR picture, which may change the sequence
     /// parameter set; any other slice needs one of the active one's id and content.
     ///
@@ -195,8 +196,7 @@ impl Sets {
                 rule: Rule::SetChanged,
             });
         }
-        let sps = *sps;
-        replace_pair(&mut self.active, pps, sps);
+        self.replace(pic_parameter_set_id);
         Ok(())
     }
 }

@@ -134,10 +134,10 @@ passed-keeps before unit c kind old new n k keeps left due same = by c n
     by contents.Passed n = record { picture = picture; due = is-due; newest_idr = newest_idr; counts = counts; count = ap (λ (s : Slices). s.count) same ∙ keeps.count; pictures = ap (λ (s : Slices). s.pictures) same ∙ keeps.pictures; prev_ref = ap (λ (s : Slices). s.prev_ref_frame_num) same ∙ keeps.prev_ref; held = held }
 
 -- a picture that begins with a slice, or goes on with it
-pub begun-holds : (begins : Bool) (slices : List Header) (pictures : List CodedPicture) (sets : Pps × Sps) (h : Header) (o : OpenPicture) → begins ≡ begins_after (last_of slices) h → begins ≡ true → HoldsPicture (h ∷ []) (record { first = h; sps = sets.1 } ∷ pictures) o → HoldsPicture (slices_behind (contents.OfSlice h) 5 slices) (coded_with begins (Some sets) h pictures) o
+pub begun-holds : (begins : Bool) (slices : List Header) (pictures : List CodedPicture) (sets : Pps × Sps) (h : Header) (o : Option OpenPicture) → begins ≡ begins_after (last_of slices) h → begins ≡ true → HoldsSlices (h ∷ []) (record { first = h; sps = sets.1 } ∷ pictures) o → HoldsSlices (slices_behind (contents.OfSlice h) 5 slices) (coded_with begins (Some sets) h pictures) o
 begun-holds begins slices pictures sets h o b t p =
-    subst (λ x. HoldsPicture (if x then h ∷ [] else h ∷ slices) (coded_with begins (Some sets) h pictures) o) b
-    (subst (λ x. HoldsPicture (if x then h ∷ [] else h ∷ slices) (coded_with x (Some sets) h pictures) o) (sym t) p)
+    subst (λ x. HoldsSlices (if x then h ∷ [] else h ∷ slices) (coded_with begins (Some sets) h pictures) o) b
+    (subst (λ x. HoldsSlices (if x then h ∷ [] else h ∷ slices) (coded_with x (Some sets) h pictures) o) (sym t) p)
 
 pub gone-holds : (begins : Bool) (slices : List Header) (pictures : List CodedPicture) (sets : Pps × Sps) (h : Header) (o : OpenPicture) → begins ≡ begins_after (last_of slices) h → begins ≡ false → HoldsPicture (h ∷ slices) pictures o → HoldsPicture (slices_behind (contents.OfSlice h) 5 slices) (coded_with begins (Some sets) h pictures) o
 gone-holds begins slices pictures sets h o b t p =

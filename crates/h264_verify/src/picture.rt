@@ -10,7 +10,7 @@ ghost use Rattle.h264_header.specs.Marking.{number_of};
 ghost use Rattle.h264_marking.specs.Held.{mark_answer};
 ghost use Rattle.h264_verify.specs.Pictures.{CodedPicture, begins_after, numbering_of, ended, resets, resets_by};
 ghost use Rattle.h264_verify.specs.Slices.{is_i, types_of, agrees};
-ghost use Rattle.h264_verify.specs.Keeping.{HoldsPicture, last_slice, types_by};
+ghost use Rattle.h264_verify.specs.Keeping.{HoldsPicture, HoldsSlices, last_slice, types_by};
 
 use h264_base::Stop;
 use h264_bits::Found;
@@ -169,7 +169,7 @@ pub(crate) fn mark_end(
 }
 
 /// A picture that has begun with this slice.
-pub(crate) fn begun(header: Header, numbering: Numbering) -> OpenPicture
+fn begun(header: Header, numbering: Numbering) -> OpenPicture
     ensures { (pictures : List CodedPicture) (sps : Sps) → numbering ≡ numbering_of sps header → HoldsPicture (header ∷ []) (record { first = header; sps = sps } ∷ pictures) result }
 {
     let types = types_with(seen_types(&None), &header);
@@ -178,6 +178,26 @@ pub(crate) fn begun(header: Header, numbering: Numbering) -> OpenPicture
         last: None,
         types,
         numbering,
+    }
+}
+
+/// A picture that begins with this slice, in the place of the one before.
+fn restart(picture: &mut OpenPicture, header: Header, numbering: Numbering)
+    ensures { (pictures : List CodedPicture) (sps : Sps) → numbering ≡ numbering_of sps header → HoldsPicture (header ∷ []) (record { first = header; sps = sps } ∷ pictures) picture.new }
+{
+    picture.types = types_with(seen_types(&None), &header);
+    picture.first = header;
+    picture.last = None;
+    picture.numbering = numbering;
+}
+
+/// A picture begins with this slice, where another may have gone on.
+pub(crate) fn begin(picture: &mut Option<OpenPicture>, header: Header, numbering: Numbering)
+    ensures { (pictures : List CodedPicture) (sps : Sps) → numbering ≡ numbering_of sps header → HoldsSlices (header ∷ []) (record { first = header; sps = sps } ∷ pictures) picture.new }
+{
+    match picture {
+        None => *picture = Some(begun(header, numbering)),
+        Some(picture) => restart(picture, header, numbering),
     }
 }
 

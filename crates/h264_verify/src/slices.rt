@@ -20,7 +20,7 @@ ghost use Rattle.h264_verify.specs.Entering.{Entered};
 
 use crate::frame_num::check_frame_num;
 use crate::picture::{
-    OpenPicture, begins, begun, go_on, mark_end, numbering_of, resets, seen_types,
+    OpenPicture, begin, begins, go_on, mark_end, numbering_of, resets, seen_types,
 };
 use crate::rules::{
     check_begin, check_id, check_list, check_marking, check_qp, check_type, idr_id,
@@ -251,7 +251,7 @@ fn enter(slices: &mut Slices, begins: bool, header: Header, numbering: Numbering
     if begins {
         slices.pictures += 1;
         slices.newest_idr = idr_id(header.idr_pic_id);
-        slices.picture = Some(begun(header, numbering));
+        begin(&mut slices.picture, header, numbering);
         return;
     }
     if let Some(picture) = &mut slices.picture {

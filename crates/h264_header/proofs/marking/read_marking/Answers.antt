@@ -1,4 +1,4 @@
-use Rattle.std.proofs.Common.{sym}
+use Rattle.std.proofs.Common.{refl, sym}
 use Rattle.std.proofs.lemmas.Result.{err_from_is_err_and}
 use Rattle.h264_base.proofs.Steps.{bind_as, stop, done}
 use Rattle.h264_bits.specs.Forms.{optional}
@@ -6,7 +6,7 @@ use Rattle.h264_header.proofs.marking.read_marking.Goals as goal
 
 pub returns-then-not-reference : goal.returns-then-not-reference
 unfolding optional
-returns-then-not-reference g c = rw c.if-not-reference.true (done _ _ _ _ _ _ _ (sym c.requires.none))
+returns-then-not-reference g c = rw c.if-not-reference.true (done _ _ _ _ _ _ _ refl)
 
 pub returns-in_err-read_dec_ref_pic_marking : goal.returns-in_err-read_dec_ref_pic_marking
 unfolding optional

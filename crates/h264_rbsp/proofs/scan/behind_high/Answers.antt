@@ -1,4 +1,4 @@
-use Rattle.std.proofs.Common.{◌≡◌, ◌+◌, ◌<◌, ◌≤◌, inl, inr, length, get_or, arith}
+use Rattle.std.proofs.Common.{◌<◌, ◌≤◌, inl, inr, length, arith}
 use Rattle.std.proofs.lemmas.Bool.{cases_lt}
 use Rattle.h264_rbsp.proofs.Searches.{behind-high}
 use Rattle.h264_rbsp.proofs.scan.behind_high.Goals as goal
