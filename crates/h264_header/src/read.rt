@@ -280,7 +280,13 @@ fn header_steps<S: Elements>(
         value: kind_of(active, modifications),
     };
     let reference = unit.nal_ref_idc > 0;
-    read_marking(reference, unit.idr_pic_flag, &mut header.marking, bits, sink)?;
+    read_marking(
+        reference,
+        unit.idr_pic_flag,
+        &mut header.marking,
+        bits,
+        sink,
+    )?;
     header.slice_qp_delta = read_se(bits, ElementName::SliceQpDelta, sink)?;
     header.deblocking = read_deblocking(layout.has_deblocking_control, bits, sink)?;
     Ok(())

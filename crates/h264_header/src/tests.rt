@@ -167,7 +167,13 @@ fn header_in(
         nal_ref_idc,
     };
     let mut header = Header::unread();
-    read_header(&mut Bits::new(&body), sets, unit, &mut header, &mut Heard { count: 0 })?;
+    read_header(
+        &mut Bits::new(&body),
+        sets,
+        unit,
+        &mut header,
+        &mut Heard { count: 0 },
+    )?;
     Ok(header)
 }
 

@@ -1,6 +1,6 @@
 -- What a scan has found, some bytes further.
 use Rattle.std.proofs.Common.{◌≡◌, ◌≢◌, ℕ, zero, suc, ◌+◌, ◌-◌, ◌<◌, ◌≤◌, nat_eq, List, [], ◌∷◌, ◌++◌, length, replicate, take, drop, get_or, refl, ap, sym, ◌∙◌, subst, arith, append_assoc}
-use Rattle.std.proofs.lemmas.List.{append-nil, take_more, take-take, drop-take, take-append-drop, length-take, get_or-take, get_or-drop, replicate_more}
+use Rattle.std.proofs.lemmas.List.{append-nil, take_more, take-take, drop-take, take-append-drop, replicate_more}
 use Rattle.h264_units.specs.declared.scan.Phase.TheVariants.{Inside, Waiting}
 use Rattle.h264_units.specs.Stream.{EndsUnit, IsInner}
 use Rattle.h264_units.specs.Scanned.{third, gained, Scans}

@@ -1,11 +1,11 @@
 //! The slices so far, the pictures that they begin, and the rules that a slice meets beside its own syntax.
 #![tactic(auto)]
 
-ghost use Rattle.std.specs.Prelude.{◌≡◌, ℕ, not, ◌&&◌, false, ◌==◌, ◌||◌, ◌+◌, ◌-◌, ◌*◌, ◌<◌, ◌≤◌, ◌^◌, true, Some, None, List, [], ◌∷◌, map, length, if◌then◌else◌, Ok, Err, pos, ◌+ℤ◌, OnOk, OnErr, IfErr, IfSome, IfOk};
-ghost use Rattle.std.specs.Option.{is_some, option_map, option_and_then};
+ghost use Rattle.std.specs.Prelude.{◌≡◌, ℕ, not, ◌&&◌, false, ◌==◌, ◌||◌, ◌+◌, ◌-◌, ◌*◌, ◌<◌, ◌≤◌, ◌^◌, true, Some, None, List, [], ◌∷◌, length, if◌then◌else◌, Ok, Err, OnOk};
+ghost use Rattle.std.specs.Option.{is_some};
 ghost use Rattle.h264_base.specs.declared.stop.Stop.TheVariants.{No};
 ghost use Rattle.h264_base.specs.Call.{OfSlice};
-ghost use Rattle.h264_header.specs.Layout.{sets_of, has_lengths, has_count_lengths};
+ghost use Rattle.h264_header.specs.Layout.{has_lengths, has_count_lengths};
 ghost use Rattle.h264_poc.specs.declared.picture.Picture.{Picture};
 ghost use Rattle.h264_poc.specs.Counts.{Keeps as KeepsCounts};
 ghost use Rattle.h264_verify.specs.Outcome.{Plays, tells};
@@ -14,8 +14,8 @@ ghost use Rattle.h264_verify.specs.History.{History, maps_with, maps_of};
 ghost use Rattle.h264_verify.specs.Keeping.{KeepsSlices, HoldsSlices, IsLeft};
 ghost use Rattle.h264_verify.specs.UnitRules.{header_judged};
 ghost use Rattle.h264_verify.specs.Content as contents;
-ghost use Rattle.h264_verify.specs.Pictures.{CodedPicture, order_of, picture_of, counted, coded_of, coded_with, numbering_of, begins_at, open_slices, last_of, begins_after, slices_behind, ends_picture, closing_demands, prev_ref_behind, resets};
-ghost use Rattle.h264_verify.specs.Slices.{type_of, idr_id, changes_id, bit_of_id, bit_of_marking, is_qp, first_demands, type_demands, id_demand, count_demand, qp_demand, list_of, list_demand, mark_differs_demand, rules_of, frame_count, newest_count};
+ghost use Rattle.h264_verify.specs.Pictures.{CodedPicture, order_of, picture_of, coded_of, coded_with, numbering_of, begins_at, open_slices, last_of, begins_after, slices_behind, ends_picture, closing_demands, resets};
+ghost use Rattle.h264_verify.specs.Slices.{type_of, idr_id, count_demand, rules_of, frame_count, newest_count};
 ghost use Rattle.h264_verify.specs.Entering.{Entered};
 
 use crate::frame_num::check_frame_num;

@@ -1,9 +1,9 @@
 //! One unit.
 #![tactic(auto)]
 
-ghost use Rattle.std.specs.Prelude.{◌≡◌, true, false, IsTrue, ℕ, ◌+◌, ◌-◌, ◌*◌, ◌<◌, ◌≤◌, ◌^◌, List, ◌∷◌, length, ◌==◌, ◌||◌, OnOk, IfOk, IfErr, Ok, Err, slice_index, if◌then◌else◌};
-ghost use Rattle.h264_units.specs.Stream.{past, NalUnit as UnitView};
-ghost use Rattle.h264_verify.specs.Outcome.{Plays, tells, answers};
+ghost use Rattle.std.specs.Prelude.{◌≡◌, true, false, IsTrue, ℕ, ◌+◌, ◌-◌, ◌*◌, ◌<◌, ◌≤◌, ◌^◌, List, ◌∷◌, length, ◌==◌, ◌||◌, OnOk, IfOk, Ok, Err, if◌then◌else◌};
+ghost use Rattle.h264_units.specs.Stream.{NalUnit as UnitView};
+ghost use Rattle.h264_verify.specs.Outcome.{Plays, tells};
 ghost use Rattle.h264_verify.specs.Demands.{judged};
 ghost use Rattle.h264_verify.specs.UnitHeader.{header_of, nal_unit_type, nal_ref_idc, is_partition, is_always_reference, is_never_reference, fits_kind, header_demands};
 ghost use Rattle.h264_verify.specs.History.{History, maps_of};
@@ -11,7 +11,7 @@ ghost use Rattle.h264_verify.specs.Content as contents;
 ghost use Rattle.h264_verify.specs.Keeping.{Keeps, KeepsWithin, IsLeft};
 ghost use Rattle.h264_verify.specs.Pictures.{CodedPicture, ends_picture};
 ghost use Rattle.h264_verify.specs.Feeding.{Turns, Joins};
-ghost use Rattle.h264_verify.specs.UnitRules.{unit_call, is_slice, has_pictures, sps_outcome, pps_outcome, slice_outcome, other_outcome, content_outcome, unit_outcome, end_outcome};
+ghost use Rattle.h264_verify.specs.UnitRules.{unit_call, is_slice, has_pictures, sps_outcome, pps_outcome, slice_outcome, other_outcome, content_outcome, end_outcome};
 
 use crate::judge::{State, Summary};
 use crate::rules::check;

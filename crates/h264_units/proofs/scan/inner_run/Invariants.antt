@@ -1,4 +1,4 @@
-use Rattle.std.proofs.Common.{length, ◌-◌, ℕ, ◌≤◌, drop, take}
+use Rattle.std.proofs.Common.{length, ◌-◌, ◌≤◌, drop, take}
 use Rattle.h264_units.specs.Stream.{IsInner}
 use Rattle.h264_units.proofs.scan.inner_run.Given as goal
 
