@@ -1,12 +1,21 @@
 #!/usr/bin/env bash
-# compare.sh STREAM..: builds h264v, and prints for each stream the times of `h264v units` and `h264v headers` beside those of `md5sum` and `cat` on the same file:
-# the best of five runs each, the ratios, and h264v's peak memory. Where ffmpeg is installed its single-threaded decoding time is added.
+# compare.sh [STREAM..]: builds h264v, and prints for each stream the times of `h264v units` and `h264v headers` beside those of `md5sum` and `cat` on the same file:
+# the best of seven runs each, taken in turn, the ratios, and h264v's peak memory. Where ffmpeg is installed its single-threaded decoding time is added.
+# With no STREAM it makes three streams of 100 MB by slices.py, of slices of 250, 1,000 and 5,000 bytes.
 set -eu
 top=$(cd "$(dirname "$0")/.." && pwd)
 (cd "$top/crates/h264v" && rt run -- units "$top/samples/one_frame.264" > /dev/null)
 program=$top/crates/h264v/out/h264v
-exec python3 - "$program" "$@" <<'PYTHON'
-import os, resource, shutil, subprocess, sys, time
+if [ $# -eq 0 ]; then
+    made=$(mktemp -d)
+    trap 'rm -r "$made"' EXIT
+    for size in 250 1000 5000; do
+        python3 "$top/bench/slices.py" "$size" 100000000 > "$made/slices_of_$size.264"
+    done
+    set -- "$made"/*.264
+fi
+python3 - "$program" "$@" <<'PYTHON'
+import os, shutil, sys, time
 
 def run(words):
     start = time.perf_counter()
@@ -14,20 +23,21 @@ def run(words):
     usage = os.wait4(pid, 0)[2]
     return time.perf_counter() - start, usage.ru_maxrss
 
-def best(words):
-    runs = [run(words) for _ in range(5)]
-    return min(t for t, _ in runs), max(m for _, m in runs)
+def best(commands):
+    """The least time of each command, and its greatest memory, over seven rounds of all."""
+    rounds = [[run(words) for words in commands] for _ in range(7)]
+    return [(min(t for t, _ in runs), max(m for _, m in runs)) for runs in zip(*rounds)]
 
 program, *streams = sys.argv[1:]
 for stream in streams:
-    md5, _ = best(["md5sum", stream])
-    cat, _ = best(["cat", stream])
-    line = f"{stream}: {os.path.getsize(stream)} bytes, md5sum {md5:.3f} s, cat {cat:.3f} s"
-    for mode in ["units", "headers"]:
-        ours, memory = best([program, mode, stream])
-        line += f", h264v {mode} {ours:.3f} s: {ours / md5:.2f} of md5sum, peak {memory} KB"
+    commands = [["md5sum", stream], ["cat", stream], [program, "units", stream], [program, "headers", stream]]
     if shutil.which("ffmpeg"):
-        other, _ = best(["ffmpeg", "-threads", "1", "-i", stream, "-f", "null", "-"])
-        line += f", ffmpeg -threads 1 {other:.3f} s"
+        commands.append(["ffmpeg", "-threads", "1", "-i", stream, "-f", "null", "-"])
+    (md5, _), (cat, _), *ours = best(commands)
+    line = f"{stream}: {os.path.getsize(stream)} bytes, md5sum {md5:.3f} s, cat {cat:.3f} s"
+    for mode, (time_taken, memory) in zip(["units", "headers"], ours):
+        line += f", h264v {mode} {time_taken:.3f} s: {time_taken / md5:.2f} of md5sum, peak {memory} KB"
+    if len(ours) > 2:
+        line += f", ffmpeg -threads 1 {ours[2][0]:.3f} s"
     print(line)
 PYTHON
