@@ -15,29 +15,45 @@ if [ $# -eq 0 ]; then
     set -- "$made"/*.264
 fi
 python3 - "$program" "$@" <<'PYTHON'
-import os, shutil, sys, time
+import os, shutil, subprocess, sys, time
+
+def start(words):
+    return subprocess.Popen(words, stdout=subprocess.DEVNULL, stderr=subprocess.DEVNULL)
 
 def run(words):
-    start = time.perf_counter()
-    pid = os.posix_spawnp(words[0], words, os.environ, file_actions=[(os.POSIX_SPAWN_OPEN, 1, "/dev/null", os.O_WRONLY, 0), (os.POSIX_SPAWN_OPEN, 2, "/dev/null", os.O_WRONLY, 0)])
-    usage = os.wait4(pid, 0)[2]
-    return time.perf_counter() - start, usage.ru_maxrss
+    begun = time.perf_counter()
+    start(words).wait()
+    return time.perf_counter() - begun
 
 def best(commands):
-    """The least time of each command, and its greatest memory, over seven rounds of all."""
-    rounds = [[run(words) for words in commands] for _ in range(7)]
-    return [(min(t for t, _ in runs), max(m for _, m in runs)) for runs in zip(*rounds)]
+    """The least time of each command over seven rounds of all."""
+    return [min(times) for times in zip(*[[run(words) for words in commands] for _ in range(7)])]
+
+def held(pid, program):
+    """The greatest memory that the process has held so far, in KB; 0 where it runs no longer, or not yet."""
+    try:
+        with open(f"/proc/{pid}/status") as status:
+            lines = [line for line in status if line.startswith("VmHWM")]
+        return int(lines[0].split()[1]) if lines and os.readlink(f"/proc/{pid}/exe") == program else 0
+    except OSError:
+        return 0
+
+def peak(words):
+    process, most = start(words), 0
+    while process.poll() is None:
+        most = max(most, held(process.pid, words[0]))
+    return most
 
 program, *streams = sys.argv[1:]
 for stream in streams:
     commands = [["md5sum", stream], ["cat", stream], [program, "units", stream], [program, "headers", stream]]
     if shutil.which("ffmpeg"):
         commands.append(["ffmpeg", "-threads", "1", "-i", stream, "-f", "null", "-"])
-    (md5, _), (cat, _), *ours = best(commands)
+    md5, cat, *ours = best(commands)
     line = f"{stream}: {os.path.getsize(stream)} bytes, md5sum {md5:.3f} s, cat {cat:.3f} s"
-    for mode, (time_taken, memory) in zip(["units", "headers"], ours):
-        line += f", h264v {mode} {time_taken:.3f} s: {time_taken / md5:.2f} of md5sum, peak {memory} KB"
+    for mode, time_taken in zip(["units", "headers"], ours):
+        line += f", h264v {mode} {time_taken:.3f} s: {time_taken / md5:.2f} of md5sum, peak {peak([program, mode, stream])} KB"
     if len(ours) > 2:
-        line += f", ffmpeg -threads 1 {ours[2][0]:.3f} s"
+        line += f", ffmpeg -threads 1 {ours[2]:.3f} s"
     print(line)
 PYTHON
