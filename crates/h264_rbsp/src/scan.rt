@@ -1,7 +1,7 @@
 //! A fast search for what emulation prevention is about.
 #![tactic(auto)]
 
-ghost use Rattle.std.specs.Prelude.{ℕ, ◌+◌, ◌<◌, ◌≤◌, IsFalse, IsTrue, length};
+ghost use Rattle.std.specs.Prelude.{ℕ, ◌+◌, ◌<◌, ◌≤◌, IsFalse, IsTrue, length, slice_index};
 ghost use Rattle.h264_rbsp.specs.Found.{IsFound};
 
 /// The first of the places `start`, `start + 3` and so on at which no byte above 03 stands.
@@ -9,6 +9,7 @@ fn behind_high(bytes: &[u8], start: usize) -> usize
     requires start { (2 ≤ start) × (start ≤ length bytes.now + 2) }
     ensures from { (start ≤ result) × (result ≤ length bytes.now + 2) }
     ensures none { (least place : ℕ) → start ≤ place → place < result → IsFound bytes.now least place → ⊥ }
+    ensures stops { result < length bytes.now → slice_index bytes.now result ≤ 3 }
 {
     let mut place = start;
     while place < bytes.len() && bytes[place] > 3 {

@@ -40,6 +40,7 @@ fn inner_run(piece: &[u8], start: usize) -> usize
     requires { start ≤ length piece.now }
     ensures within { start + result ≤ length piece.now }
     ensures inner { IsInner (take result (drop start piece.now)) }
+    ensures stops { start + result + 2 < length piece.now → slice_index piece.now (start + result + 2) ≤ 1 }
 {
     let mut end = start;
     while end + 2 < piece.len() && piece[end + 2] > 1 {
