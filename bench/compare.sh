@@ -1,7 +1,7 @@
 #!/usr/bin/env bash
 # compare.sh [STREAM..]: builds h264v, and prints for each stream the times of `h264v units` and `h264v headers` beside those of `md5sum` and `cat` on the same file:
 # the best of seven runs each, taken in turn, the ratios, and h264v's peak memory. Where ffmpeg is installed its single-threaded decoding time is added.
-# With no STREAM it makes three streams of 100 MB by slices.py, of slices of 250, 1,000 and 5,000 bytes.
+# With no STREAM it makes four streams of 100 MB by slices.py, of slices of 100, 250, 1,000 and 5,000 bytes.
 set -eu
 top=$(cd "$(dirname "$0")/.." && pwd)
 (cd "$top/crates/h264v" && rt run -- units "$top/samples/one_frame.264" > /dev/null)
@@ -9,7 +9,7 @@ program=$top/crates/h264v/out/h264v
 if [ $# -eq 0 ]; then
     made=$(mktemp -d)
     trap 'rm -r "$made"' EXIT
-    for size in 250 1000 5000; do
+    for size in 100 250 1000 5000; do
         python3 "$top/bench/slices.py" "$size" 100000000 > "$made/slices_of_$size.264"
     done
     set -- "$made"/*.264
