@@ -4,6 +4,7 @@ use Rattle.h264_bits.specs.declared.element.Found.{Found}
 use Rattle.h264_header.specs.declared.header.PicOrderCnt.{PicOrderCnt}
 use Rattle.h264_header.specs.declared.header.PicOrderCnt.TheVariants.{Lsb, Deltas, DecodingOrder}
 use Rattle.h264_header.specs.declared.header.Header.{Header}
+use Rattle.h264_header.specs.declared.header.PictureElements.{PictureElements}
 use Rattle.std.specs.Ordering.{int_eq}
 
 -- pic_order_cnt_type is 0 for both, and pic_order_cnt_lsb or delta_pic_order_cnt_bottom differs
@@ -39,11 +40,21 @@ idr_differs (Some id) (Some id') = false
 abbrev pub reference_differs : ℕ → ℕ → Bool
 reference_differs idc idc' = not (idc == idc') && (idc == 0 || idc' == 0)
 
+-- the elements of a slice that are compared
+abbrev pub picture_elements : Header → PictureElements
+picture_elements h = record {
+  nal_ref_idc = h.nal_ref_idc;
+  pic_parameter_set_id = h.pic_parameter_set_id.value;
+  frame_num = h.frame_num.value;
+  idr_pic_id = h.idr_pic_id;
+  pic_order_cnt = h.pic_order_cnt;
+}
+
 -- The second slice is the first of a picture, where the first slice is the one before it.
-abbrev pub begins_picture : Header → Header → Bool
+abbrev pub begins_picture : PictureElements → PictureElements → Bool
 begins_picture old new =
-    not (old.frame_num.value == new.frame_num.value)
-    || not (old.pic_parameter_set_id.value == new.pic_parameter_set_id.value)
+    not (old.frame_num == new.frame_num)
+    || not (old.pic_parameter_set_id == new.pic_parameter_set_id)
     || reference_differs old.nal_ref_idc new.nal_ref_idc
     || lsb_differs old.pic_order_cnt new.pic_order_cnt
     || deltas_differ old.pic_order_cnt new.pic_order_cnt

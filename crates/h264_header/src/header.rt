@@ -162,6 +162,17 @@ pub enum Deblocking {
     WithinSlice(FilterOffsets),
 }
 
+/// The elements of a slice header by which a picture begins with a slice, or not (7.4.1.2.4).
+#[derive(Clone, Copy, Debug, PartialEq, Eq)]
+pub struct PictureElements {
+    pub nal_ref_idc: u32,
+    pub pic_parameter_set_id: u32,
+    pub frame_num: u32,
+    /// There exactly in IDR pictures.
+    pub idr_pic_id: Option<Found<u32>>,
+    pub pic_order_cnt: PicOrderCnt,
+}
+
 /// A slice header.
 #[derive(Debug, PartialEq, Eq, Drop)]
 pub struct Header {

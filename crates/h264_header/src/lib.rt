@@ -3,7 +3,8 @@
 //! `read_header` takes the RBSP of a unit of nal_unit_type 1 or 5, with the parameter sets that are there, up to the end of
 //! the header, and gives each value in it with the bits at which later rules are named, or the first rule that it breaks.
 //! It promises that the header derives in the grammar of `specs/Header.antt`; the sink is told each element as soon as its
-//! code word was read. `begins_picture` is the standard's comparison of two headers.
+//! code word was read. `begins_picture` is the standard's comparison of the `picture_elements` of two
+//! headers.
 //! Rules that look at other slices or at held pictures are not judged here.
 #![tactic(auto)]
 
@@ -18,8 +19,8 @@ mod tests;
 
 pub use header::{
     Deblocking, FilterOffsets, Header, Marking, MarkingOperation, Modification, Operation,
-    PicNumModification, PicOrderCnt, RefPicList0, SliceKind, SliceUnit,
+    PicNumModification, PicOrderCnt, PictureElements, RefPicList0, SliceKind, SliceUnit,
 };
 pub use layout::named_sets;
-pub use picture::begins_picture;
+pub use picture::{begins_picture, picture_elements};
 pub use read::read_header;

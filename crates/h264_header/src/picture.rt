@@ -2,9 +2,9 @@
 #![tactic(auto)]
 
 ghost use Rattle.std.specs.Prelude.{◌≡◌};
-ghost use Rattle.h264_header.specs.Picture.{begins_picture, lsb_differs, deltas_differ, idr_differs, idr_pic_ids_differ, reference_differs};
+ghost use Rattle.h264_header.specs.Picture.{begins_picture, picture_elements, lsb_differs, deltas_differ, idr_differs, idr_pic_ids_differ, reference_differs};
 
-use crate::header::{Header, PicOrderCnt};
+use crate::header::{Header, PicOrderCnt, PictureElements};
 use h264_bits::Found;
 
 /// Whether nal_ref_idc differs, and is 0 for one of them.
@@ -69,12 +69,25 @@ fn idr_pic_ids_differ(old: Option<Found<u32>>, new: Option<Found<u32>>) -> bool
     }
 }
 
-/// Whether a slice is the first of a picture, by its header and that of the slice before it.
-pub fn begins_picture(old: &Header, new: &Header) -> bool
+/// The elements of a slice header by which a picture begins.
+pub fn picture_elements(header: &Header) -> PictureElements
+    ensures { result ≡ picture_elements header.now }
+{
+    PictureElements {
+        nal_ref_idc: header.nal_ref_idc,
+        pic_parameter_set_id: header.pic_parameter_set_id.value,
+        frame_num: header.frame_num.value,
+        idr_pic_id: header.idr_pic_id,
+        pic_order_cnt: header.pic_order_cnt,
+    }
+}
+
+/// Whether a slice is the first of a picture, by these elements of the slice before it and its own.
+pub fn begins_picture(old: &PictureElements, new: &PictureElements) -> bool
     ensures { result ≡ begins_picture old.now new.now }
 {
-    let frame_num = old.frame_num.value != new.frame_num.value;
-    let set = old.pic_parameter_set_id.value != new.pic_parameter_set_id.value;
+    let frame_num = old.frame_num != new.frame_num;
+    let set = old.pic_parameter_set_id != new.pic_parameter_set_id;
     let reference = reference_differs(old.nal_ref_idc, new.nal_ref_idc);
     let lsb = lsb_differs(old.pic_order_cnt, new.pic_order_cnt);
     let deltas = deltas_differ(old.pic_order_cnt, new.pic_order_cnt);

@@ -3,7 +3,8 @@
 
 use crate::{
     Deblocking, FilterOffsets, Header, Marking, MarkingOperation, Modification, Operation,
-    PicNumModification, PicOrderCnt, SliceKind, SliceUnit, begins_picture, read_header,
+    PicNumModification, PicOrderCnt, SliceKind, SliceUnit, begins_picture, picture_elements,
+    read_header,
 };
 use h264_base::{ElementName, Elements, Failed, Rule, Stop};
 use h264_bits::{Bits, Found};
@@ -557,7 +558,8 @@ fn lsb_slices(rt: HostRuntime) -> Result<(), Fail> {
     assert!(rt; later.pic_order_cnt == eight);
     assert!(rt; later.marking == None);
     assert_eq!(rt; later.slice_qp_delta.bit, 49);
-    assert!(rt; begins_picture(&header, &later));
+    let (elements, later) = (picture_elements(&header), picture_elements(&later));
+    assert!(rt; begins_picture(&elements, &later));
     assert!(rt; !begins_picture(&later, &later));
     Ok(())
 }

@@ -1,36 +1,30 @@
 //! The texts of the lines.
 #![tactic(auto)]
 
-ghost use Rattle.std.specs.Prelude.{◌≡◌, IfOk, string_bytes};
+ghost use Rattle.std.specs.Prelude.{◌≡◌, IfOk, OnOk, string_bytes};
 ghost use Rattle.h264_report.specs.Lines.{unit_text, type_text, slice_text, yes_text, no_text, outside_text, verdict_text};
 
 use h264_base::{Feature, Mode, Rule, SliceType, Stop};
 use h264_verify::Summary;
 use std::alloc::{AllocError, Global};
 
-/// The greatest length of a unit's line: 23 bytes of words, two numbers of at most 20 digits, and two of at most 3.
-const LONGEST_UNIT_LINE: usize = 23 + 2 * 20 + 2 * 3;
-
-/// The greatest length of a slice's line: 30 bytes of words, the letter of the type, a number of at most 20 digits, two of
-/// at most 10, and one of at most 10 with a sign.
-const LONGEST_SLICE_LINE: usize = 30 + 1 + 20 + 2 * 10 + 11;
-
-/// The line of a unit: the byte of the input where it begins, its nal_unit_type and nal_ref_idc, and its length in bytes.
+/// Makes a line that of a unit: the byte of the input where it begins, its nal_unit_type and nal_ref_idc, and its length in
+/// bytes. After an error the line is a part of it.
 pub fn unit_line(
-    alloc: Global,
+    line: &mut String,
     byte: u64,
     nal_unit_type: u8,
     nal_ref_idc: u8,
     length: u64,
-) -> Result<String, AllocError>
-    ensures { IfOk result (λ s. string_bytes s ≡ unit_text byte nal_unit_type nal_ref_idc length) }
+) -> Result<(), AllocError>
+    ensures { OnOk result (string_bytes line.new ≡ unit_text byte nal_unit_type nal_ref_idc length) }
 {
-    let mut line = String::with_capacity(alloc, LONGEST_UNIT_LINE)?;
+    line.clear();
     write!(
         line,
         "unit {byte} type {nal_unit_type} ref {nal_ref_idc} bytes {length}"
     )?;
-    Ok(line)
+    Ok(())
 }
 
 /// The letter of a slice's type.
@@ -43,25 +37,25 @@ fn type_text(slice_type: SliceType) -> &'static str
     }
 }
 
-/// The line of a slice: the byte of the input where its unit begins, first_mb_in_slice, its type, frame_num, and the picture
-/// order count of its frame.
+/// Makes a line that of a slice: the byte of the input where its unit begins, first_mb_in_slice, its type, frame_num, and the
+/// picture order count of its frame. After an error the line is a part of it.
 pub fn slice_line(
-    alloc: Global,
+    line: &mut String,
     byte: u64,
     first_mb_in_slice: u32,
     slice_type: SliceType,
     frame_num: u32,
     count: i32,
-) -> Result<String, AllocError>
-    ensures { IfOk result (λ s. string_bytes s ≡ slice_text byte first_mb_in_slice slice_type frame_num count) }
+) -> Result<(), AllocError>
+    ensures { OnOk result (string_bytes line.new ≡ slice_text byte first_mb_in_slice slice_type frame_num count) }
 {
     let kind = type_text(slice_type);
-    let mut line = String::with_capacity(alloc, LONGEST_SLICE_LINE)?;
+    line.clear();
     write!(
         line,
         "slice {byte} mb {first_mb_in_slice} type {kind} frame {frame_num} count {count}"
     )?;
-    Ok(line)
+    Ok(())
 }
 
 fn yes_line(alloc: Global, mode: Mode, summary: Summary) -> Result<String, AllocError>

@@ -13,11 +13,12 @@ use std::io::Write;
 #[derive(Drop)]
 pub struct LineSink<'a, W: Write> {
     out: &'a mut W,
-    alloc: Global,
     mode: Mode,
     /// How many calls failed.
     pub failures: u64,
     short_of_memory: bool,
+    /// The newest line, in whose memory the next one is made.
+    line: String,
 }
 
 impl<'a, W: Write> LineSink<'a, W> {
@@ -27,10 +28,10 @@ impl<'a, W: Write> LineSink<'a, W> {
     {
         LineSink {
             out,
-            alloc,
             mode,
             failures: 0,
             short_of_memory: false,
+            line: String::new(alloc),
         }
     }
 
@@ -39,25 +40,18 @@ impl<'a, W: Write> LineSink<'a, W> {
         self.short_of_memory
     }
 
-    /// Writes a line and its end; whether that was possible.
-    fn put(&mut self, line: &str) -> bool
-        ensures { self.new.failures ≡ self.old.failures }
-    {
-        self.out.write_all(line.as_bytes()).is_ok() && self.out.write_all(b"\n").is_ok()
-    }
-
-    /// Writes a line, where there was memory for it; a failure is counted.
-    fn put_line(&mut self, line: Result<String, AllocError>) -> Result<(), Failed>
+    /// Writes the line that was made, and its end, where there was memory for them; a failure is counted.
+    fn put_line(&mut self, made: Result<(), AllocError>) -> Result<(), Failed>
         requires { self.old.failures < 2 ^ 64 - 1 }
         ensures kept { OnOk result (self.new.failures ≡ self.old.failures) }
         ensures failed { OnErr result (self.new.failures ≡ self.old.failures + 1) }
     {
-        let Ok(line) = line else {
+        if made.is_err() || self.line.push('\n').is_err() {
             self.short_of_memory = true;
             self.failures += 1;
             return Err(Failed);
-        };
-        if !self.put(line.as_str()) {
+        }
+        if self.out.write_all(self.line.as_bytes()).is_err() {
             self.failures += 1;
             return Err(Failed);
         }
@@ -86,8 +80,8 @@ impl<'a, W: Write> FrameSink for LineSink<'a, W> {
         if self.mode != Mode::Units {
             return Ok(());
         }
-        let line = unit_line(self.alloc, byte, nal_unit_type, nal_ref_idc, length);
-        self.put_line(line)
+        let made = unit_line(&mut self.line, byte, nal_unit_type, nal_ref_idc, length);
+        self.put_line(made)
     }
 
     fn slice(
@@ -98,14 +92,14 @@ impl<'a, W: Write> FrameSink for LineSink<'a, W> {
         frame_num: u32,
         count: i32,
     ) -> Result<(), Failed> {
-        let line = slice_line(
-            self.alloc,
+        let made = slice_line(
+            &mut self.line,
             byte,
             first_mb_in_slice,
             slice_type,
             frame_num,
             count,
         );
-        self.put_line(line)
+        self.put_line(made)
     }
 }

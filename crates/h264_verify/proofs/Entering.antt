@@ -17,18 +17,16 @@ use Rattle.h264_verify.specs.declared.picture.OpenPicture.{OpenPicture}
 use Rattle.h264_verify.specs.Demands.{judged}
 use Rattle.h264_verify.specs.UnitHeader.{header_of, nal_unit_type}
 use Rattle.h264_verify.specs.History.{History}
-use Rattle.h264_verify.specs.Keeping.{HoldsSlices, HoldsPicture, IsLeft, Keeps, KeepsWithin, KeepsSlices, first_of, newest_numbering, held_by}
+use Rattle.h264_verify.specs.Keeping.{HoldsSlices, HoldsPicture, IsLeft, Keeps, KeepsWithin, KeepsSlices, first_marking, newest_numbering, held_by}
 use Rattle.h264_verify.specs.Entering.{Entered}
 use Rattle.h264_verify.specs.Pictures.{CodedPicture, begins_after, last_of, slices_behind, ends_picture, open_slices, coded_of, coded_with, counted, numbering_of, prev_ref_of, ended, ended_by, held_in, mark_demand, end_if_any, closing_demands}
+use Rattle.h264_verify.proofs.Slicing.{some-marking}
 use Rattle.h264_verify.specs.Slices.{idr_id, is_idr_due, newest_idr_of, newest_count}
 
 -- the end of the picture that may go on
 mark-judged : (r : Result References ℕ) → mark_answer r ≡ judged (mark_demand r ∷ [])
 mark-judged (Ok refs) = refl
 mark-judged (Err bit) = refl
-
-some-header : (x y : Header) → Some x ≡ Some y → x ≡ y
-some-header x y e = cc
 
 some-numbering : (x y : Numbering) → Some x ≡ Some y → x ≡ y
 some-numbering x y e = cc
@@ -37,22 +35,22 @@ less-one : (n m : ℕ) → n ≡ suc m → n - 1 ≡ m
 less-one n m e = omega arith
 
 -- as the code has it, and as the list of pictures has it
-ended-as : (p : CodedPicture) (ps : List CodedPicture) (o : OpenPicture) (held : References) (n : ℕ) → first_of (p ∷ ps) ≡ Some o.first → newest_numbering (p ∷ ps) ≡ Some o.numbering → held ≡ held_in (p ∷ ps) → n ≡ length (p ∷ ps) → ended o.first.marking o.numbering (n - 1) held ≡ ended_by p (length ps) (held_in (p ∷ ps))
+ended-as : (p : CodedPicture) (ps : List CodedPicture) (o : OpenPicture) (held : References) (n : ℕ) → first_marking (p ∷ ps) ≡ Some o.marking → newest_numbering (p ∷ ps) ≡ Some o.numbering → held ≡ held_in (p ∷ ps) → n ≡ length (p ∷ ps) → ended o.marking o.numbering (n - 1) held ≡ ended_by p (length ps) (held_in (p ∷ ps))
 ended-as p ps o held n f g k l =
-    ap (λ h. ended h.marking o.numbering (n - 1) held) (sym (some-header p.first o.first f))
+    ap (λ m. ended m o.numbering (n - 1) held) (sym (some-marking p.first.marking o.marking f))
     ∙ ap (λ x. ended p.first.marking x (n - 1) held) (sym (some-numbering (numbering_of p.sps p.first) o.numbering g))
     ∙ ap (λ x. ended p.first.marking (numbering_of p.sps p.first) x held) (less-one n (length ps) l)
     ∙ ap (λ x. ended p.first.marking (numbering_of p.sps p.first) (length ps) x) k
 
-end-judged-by : (slices : List Header) (pictures : List CodedPicture) (o : OpenPicture) (held : References) (n : ℕ) → HoldsPicture slices pictures o → held ≡ held_by false slices pictures → n ≡ length pictures → mark_answer (ended o.first.marking o.numbering (n - 1) held) ≡ judged (end_if_any slices pictures)
+end-judged-by : (slices : List Header) (pictures : List CodedPicture) (o : OpenPicture) (held : References) (n : ℕ) → HoldsPicture slices pictures o → held ≡ held_by false slices pictures → n ≡ length pictures → mark_answer (ended o.marking o.numbering (n - 1) held) ≡ judged (end_if_any slices pictures)
 end-judged-by [] pictures o held n h k l = let e = h.last in cc
-end-judged-by (s ∷ slices) [] o held n h k l = let e = h.first in cc
-end-judged-by (s ∷ slices) (p ∷ ps) o held n h k l = ap mark_answer (ended-as p ps o held n h.first h.numbering k l) ∙ mark-judged (ended_by p (length ps) (held_in (p ∷ ps)))
+end-judged-by (s ∷ slices) [] o held n h k l = let e = h.marking in cc
+end-judged-by (s ∷ slices) (p ∷ ps) o held n h k l = ap mark_answer (ended-as p ps o held n h.marking h.numbering k l) ∙ mark-judged (ended_by p (length ps) (held_in (p ∷ ps)))
 
-end-held-by : (slices : List Header) (pictures : List CodedPicture) (o : OpenPicture) (held : References) (n : ℕ) → HoldsPicture slices pictures o → held ≡ held_by false slices pictures → n ≡ length pictures → result_unwrap_or (ended o.first.marking o.numbering (n - 1) held) held ≡ held_by true slices pictures
+end-held-by : (slices : List Header) (pictures : List CodedPicture) (o : OpenPicture) (held : References) (n : ℕ) → HoldsPicture slices pictures o → held ≡ held_by false slices pictures → n ≡ length pictures → result_unwrap_or (ended o.marking o.numbering (n - 1) held) held ≡ held_by true slices pictures
 end-held-by [] pictures o held n h k l = let e = h.last in cc
-end-held-by (s ∷ slices) [] o held n h k l = let e = h.first in cc
-end-held-by (s ∷ slices) (p ∷ ps) o held n h k l = ap (λ r. result_unwrap_or r held) (ended-as p ps o held n h.first h.numbering k l) ∙ ap (result_unwrap_or (ended_by p (length ps) (held_in (p ∷ ps)))) k
+end-held-by (s ∷ slices) [] o held n h k l = let e = h.marking in cc
+end-held-by (s ∷ slices) (p ∷ ps) o held n h k l = ap (λ r. result_unwrap_or r held) (ended-as p ps o held n h.marking h.numbering k l) ∙ ap (result_unwrap_or (ended_by p (length ps) (held_in (p ∷ ps)))) k
 
 none-held : (slices : List Header) (pictures : List CodedPicture) → slices ≡ [] → held_by false slices pictures ≡ held_by true slices pictures
 none-held slices pictures e = ap (λ s. held_by false s pictures) e ∙ sym (ap (λ s. held_by true s pictures) e)
@@ -78,10 +76,10 @@ module _ (before : History) (old new : Slices) (keeps : KeepsSlices before false
   }
 
   -- there is one
-  pub end-judged : (o : OpenPicture) → old.picture ≡ Some o → mark_answer (ended o.first.marking o.numbering (old.pictures - 1) old.held) ≡ judged (closing_demands before)
+  pub end-judged : (o : OpenPicture) → old.picture ≡ Some o → mark_answer (ended o.marking o.numbering (old.pictures - 1) old.held) ≡ judged (closing_demands before)
   end-judged o e = end-judged-by (open_slices before) (coded_of before) o old.held old.pictures (holds (Some o) e) keeps.held keeps.pictures
 
-  pub end-ended : (o : OpenPicture) → old.picture ≡ Some o → new ≡ record old { held = new.held } → new.held ≡ result_unwrap_or (ended o.first.marking o.numbering (old.pictures - 1) old.held) old.held → KeepsSlices before true new
+  pub end-ended : (o : OpenPicture) → old.picture ≡ Some o → new ≡ record old { held = new.held } → new.held ≡ result_unwrap_or (ended o.marking o.numbering (old.pictures - 1) old.held) old.held → KeepsSlices before true new
   end-ended o e same k = record {
     picture = subst (HoldsSlices (open_slices before) (coded_of before)) (sym (ap (λ (s : Slices). s.picture) same)) keeps.picture;
     due = ap (λ (s : Slices). s.due) same ∙ keeps.due;

@@ -1,11 +1,13 @@
 -- How a slice is judged.
-use Rattle.std.proofs.Common.{OnOk, IsTrue, IsFalse, not, ◌&&◌, ◌⊎◌, inl, inr, IfNone, ◌≡◌, ℕ, ◌*◌, Bool, true, false, List, [], ◌∷◌, ◌++◌, map, Option, Some, None, Result, Ok, Err, refl, ap, sym, ◌∙◌, subst, ◌||◌, if◌then◌else◌}
+use Rattle.std.proofs.Common.{pos, length, ◌==◌, OnOk, IsTrue, IsFalse, not, ◌&&◌, ◌⊎◌, inl, inr, IfNone, ◌≡◌, ℕ, ◌*◌, Bool, true, false, List, [], ◌∷◌, ◌++◌, map, Option, Some, None, Result, Ok, Err, refl, ap, sym, ◌∙◌, subst, ◌||◌, if◌then◌else◌}
+use Rattle.std.proofs.lemmas.Bool.{eqb-true}
 use Rattle.std.specs.Option.{is_some, option_map}
 use Rattle.h264_base.specs.declared.rule.Rule.TheVariants.{NoSet, FirstPicture, SetChanged}
 use Rattle.h264_base.specs.declared.stop.Stop.{Stop}
 use Rattle.h264_base.specs.declared.stop.Stop.TheVariants.{No}
 use Rattle.h264_base.specs.Call.{Call, OfSlice}
 use Rattle.h264_units.specs.Stream.{NalUnit}
+use Rattle.h264_bits.specs.declared.element.Found.{Found}
 use Rattle.h264_sps.specs.declared.sps.Sps.{Sps}
 use Rattle.h264_pps.specs.declared.Pps.{Pps}
 use Rattle.h264_sets.specs.Sets.{Maps, pair_of, with_active, IsActive}
@@ -13,7 +15,16 @@ use Rattle.h264_sets.proofs.Content.{decides-sps}
 use Rattle.h264_header.proofs.Named.{named-pair}
 use Rattle.h264_sets.specs.declared.SetPair.{SetPair}
 use Rattle.h264_header.specs.declared.header.Header.{Header}
+use Rattle.h264_header.specs.declared.header.Marking.{Marking}
+use Rattle.h264_header.specs.declared.header.PicNumModification.{PicNumModification}
+use Rattle.h264_header.specs.declared.header.RefPicList0.{RefPicList0}
 use Rattle.h264_header.specs.Layout.{sets_of}
+use Rattle.h264_marking.specs.declared.frame.ReferenceFrame.{ReferenceFrame}
+use Rattle.h264_marking.specs.declared.frame.Numbering.{Numbering}
+use Rattle.h264_lists.specs.declared.slot.RefSlot.{RefSlot}
+use Rattle.h264_lists.specs.Initial.{list_places, initial}
+use Rattle.h264_lists.specs.Modified.{modified}
+use Rattle.h264_lists.specs.Built.{built}
 use Rattle.h264_poc.specs.declared.picture.Count.{Count}
 use Rattle.h264_marking.specs.Frames.{References}
 use Rattle.h264_verify.specs.Content as contents
@@ -23,7 +34,7 @@ use Rattle.h264_verify.specs.declared.picture.Types.{Types}
 use Rattle.h264_verify.specs.Outcome.{answers, tells, Plays, IsNamed}
 use Rattle.h264_verify.specs.Demands.{Demand, judged}
 use Rattle.h264_verify.specs.History.{History, with_pair, maps_with, maps_of}
-use Rattle.h264_verify.specs.Keeping.{HoldsSlices, KeepsSlices, last_slice, types_by, marking_by, first_of, held_by}
+use Rattle.h264_verify.specs.Keeping.{HoldsSlices, KeepsSlices, last_by, types_by, marking_by, first_marking, held_by}
 use Rattle.h264_verify.specs.Pictures.{CodedPicture, is_idr, is_reference, begins_after, begins_at, last_of, open_slices, sets_at, coded_of, coded_with, counted, picture_of, numbering_of, prev_ref_of, entered, closing_demands}
 use Rattle.h264_verify.specs.Slices.{has_content, is_active, is_idr_due, begin_demands, first_demands, newest_count, newest_idr_of, newest_marking, types_of, type_demands, frame_num_demands, id_demand, count_demand, qp_demand, list_of, list_demand, mark_differs_demand, held_before, held_for, rules_of, demands_by, slice_demands, frame_count, type_of, slice_call}
 use Rattle.h264_verify.specs.UnitRules.{header_judged}
@@ -86,7 +97,7 @@ pub pass-by : (ds es : List Demand) (x : Unit {0}) (r : Result (Unit {0}) Stop) 
 pass-by ds es x r h k = k ∙ sym (front-ok ds es x (sym h))
 
 -- the picture that may go on, as it is kept
-pub last-is : (slices : List Header) (pictures : List CodedPicture) (o : Option OpenPicture) → HoldsSlices slices pictures o → option_map last_slice o ≡ last_of slices
+pub last-is : (slices : List Header) (pictures : List CodedPicture) (o : Option OpenPicture) → HoldsSlices slices pictures o → last_by o ≡ last_of slices
 last-is slices pictures None h = ap last_of (sym h)
 last-is slices pictures (Some o) h = sym h.last
 
@@ -94,18 +105,18 @@ pub types-are : (slices : List Header) (pictures : List CodedPicture) (o : Optio
 types-are slices pictures None h = ap types_of (sym h)
 types-are slices pictures (Some o) h = h.types
 
-some-header : (x y : Header) → Some x ≡ Some y → x ≡ y
-some-header x y e = cc
+pub some-marking : (x y : Option (Found Marking)) → (let kept : Option (Option (Found Marking)) = Some x in kept ≡ Some y) → x ≡ y
+some-marking x y e = cc
 
-marking-is : (pictures : List CodedPicture) (first : Header) → first_of pictures ≡ Some first → newest_marking pictures ≡ first.marking
-marking-is [] first e = cc
-marking-is (p ∷ pictures) first e = ap (λ h. h.marking) (some-header p.first first e)
+marking-is : (pictures : List CodedPicture) (marking : Option (Found Marking)) → first_marking pictures ≡ Some marking → newest_marking pictures ≡ marking
+marking-is [] marking e = cc
+marking-is (p ∷ pictures) marking e = some-marking p.first.marking marking e
 
 differs-as : (begins : Bool) (slices : List Header) (pictures : List CodedPicture) (o : Option OpenPicture) (h : Header) → HoldsSlices slices pictures o → begins ≡ begins_after (last_of slices) h → mark_differs_demand begins (marking_by o) h ≡ mark_differs_demand begins (newest_marking pictures) h
 differs-as begins slices pictures None h e b =
     let t : begins ≡ true = b ∙ ap (λ s. begins_after (last_of s) h) e in
     ap (λ x. mark_differs_demand x None h) t ∙ sym (ap (λ x. mark_differs_demand x (newest_marking pictures) h) t)
-differs-as begins slices pictures (Some o) h e b = ap (λ m. mark_differs_demand begins m h) (sym (marking-is pictures o.first e.first))
+differs-as begins slices pictures (Some o) h e b = ap (λ m. mark_differs_demand begins m h) (sym (marking-is pictures o.marking e.marking))
 
 held-before : (begins : Bool) (slices : List Header) (pictures : List CodedPicture) (h : Header) → begins ≡ begins_after (last_of slices) h → held_by begins slices pictures ≡ held_before begins pictures
 held-before true [] pictures h b = refl
@@ -118,7 +129,7 @@ held-for true pps sps h pictures = refl
 held-for false pps sps h pictures = refl
 
 -- it begins a picture, as the code finds it
-pub begins-as : (before : History) (h : Header) (slices : Slices) (begins : Bool) → KeepsSlices before false slices → begins ≡ begins_after (option_map last_slice slices.picture) h → begins ≡ begins_at before h
+pub begins-as : (before : History) (h : Header) (slices : Slices) (begins : Bool) → KeepsSlices before false slices → begins ≡ begins_after (last_by slices.picture) h → begins ≡ begins_at before h
 begins-as before h slices begins keeps b = b ∙ ap (λ l. begins_after l h) (last-is (open_slices before) (coded_of before) slices.picture keeps.picture)
 
 -- the end of the picture before breaks a rule
@@ -324,3 +335,13 @@ some-of (Some x) h = (x, refl)
 pub ok-true : (b : Bool) (x : Unit {0}) (e : Stop) → (let r : Result (Unit {0}) Stop = Ok x in r ≡ (if b then Ok tt else Err e)) → b ≡ true
 ok-true true x e h = refl
 ok-true false x e h = cc
+
+-- a list without modifications can be built
+unmodified-by : (n : Numbering) (places : ℕ) (frames : List ReferenceFrame) (slots : List RefSlot) (ms : List PicNumModification) → length ms ≡ 0 → Ok tt ≡ judged (list_demand (modified n places frames 0 (pos n.frame_num) ms slots) ∷ [])
+unfolding modified
+unmodified-by n places frames slots [] e = refl
+unmodified-by n places frames slots (m ∷ ms) e = absurd (cc)
+
+pub unmodified : (n : Numbering) (list : RefPicList0) (frames : List ReferenceFrame) → (length list.modifications.items == 0) ≡ true → Ok tt ≡ judged (list_demand (built n list frames) ∷ [])
+unfolding built
+unmodified n list frames e = unmodified-by n (list_places list.num_ref_idx_l0_active) frames (initial n (list_places list.num_ref_idx_l0_active) frames) list.modifications.items (eqb-true (length list.modifications.items) 0 e)

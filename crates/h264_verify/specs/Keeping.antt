@@ -6,6 +6,7 @@ use Rattle.h264_marking.specs.Frames.{References}
 use Rattle.h264_poc.specs.Counts.{Keeps as KeepsCounts}
 use Rattle.h264_verify.specs.declared.judge.State.{State}
 use Rattle.h264_header.specs.declared.header.Header.{Header}
+use Rattle.h264_header.specs.declared.header.PictureElements.{PictureElements}
 use Rattle.h264_verify.specs.declared.slices.Slices.{Slices}
 use Rattle.h264_verify.specs.declared.picture.OpenPicture.{OpenPicture}
 use Rattle.h264_verify.specs.declared.picture.Types.{Types}
@@ -14,26 +15,23 @@ use Rattle.h264_verify.specs.History.{History, maps_of}
 use Rattle.h264_verify.specs.Pictures.{CodedPicture, open_slices, last_of, coded_of, pictures_of, numbering_of, prev_ref_of, held_after, held_in}
 use Rattle.h264_verify.specs.Slices.{types_of, is_idr_due, newest_idr_of, newest_count}
 
--- the last slice of a picture that may go on
-abbrev pub last_by : Header → Option Header → Header
-last_by first None = first
-last_by first (Some last) = last
-
-abbrev pub last_slice : OpenPicture → Header
-last_slice o = last_by o.first o.last
+-- the elements of the last slice of a picture that may go on
+abbrev pub last_by : Option OpenPicture → Option PictureElements
+last_by None = None
+last_by (Some o) = Some o.last
 
 abbrev pub types_by : Option OpenPicture → Types
 types_by None = types_of []
 types_by (Some o) = o.types
 
--- the marking that its first slice gives
+-- the marking that the first slice gives
 abbrev pub marking_by : Option OpenPicture → Option (Found Marking)
 marking_by None = None
-marking_by (Some o) = o.first.marking
+marking_by (Some o) = o.marking
 
-abbrev pub first_of : List CodedPicture → Option Header
-first_of [] = None
-first_of (p ∷ pictures) = Some p.first
+abbrev pub first_marking : List CodedPicture → Option (Option (Found Marking))
+first_marking [] = None
+first_marking (p ∷ pictures) = Some p.first.marking
 
 abbrev pub newest_numbering : List CodedPicture → Option Numbering
 newest_numbering [] = None
@@ -41,9 +39,9 @@ newest_numbering (p ∷ pictures) = Some (numbering_of p.sps p.first)
 
 -- the picture to which these slices belong is the newest of these
 pub record HoldsPicture (slices : List Header) (pictures : List CodedPicture) (o : OpenPicture) : Type 0 where
-  pub last : last_of slices ≡ Some (last_slice o)
+  pub last : last_of slices ≡ Some o.last
   pub types : o.types ≡ types_of slices
-  pub first : first_of pictures ≡ Some o.first
+  pub marking : first_marking pictures ≡ Some o.marking
   pub numbering : newest_numbering pictures ≡ Some o.numbering
 
 abbrev pub HoldsSlices : List Header → List CodedPicture → Option OpenPicture → Type 0

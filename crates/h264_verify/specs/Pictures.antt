@@ -11,12 +11,13 @@ use Rattle.h264_sps.specs.declared.count_type.CountType.TheVariants as count_typ
 use Rattle.h264_pps.specs.declared.Pps.{Pps}
 use Rattle.h264_header.specs.declared.header.Header.{Header}
 use Rattle.h264_header.specs.declared.header.PicOrderCnt.{PicOrderCnt}
+use Rattle.h264_header.specs.declared.header.PictureElements.{PictureElements}
 use Rattle.h264_header.specs.declared.header.PicOrderCnt.TheVariants as elements
 use Rattle.h264_header.specs.declared.header.Marking.{Marking}
 use Rattle.h264_header.specs.declared.header.Marking.TheVariants as marking
 use Rattle.h264_header.specs.Layout.{sets_of}
 use Rattle.h264_header.specs.Marking.{number_of}
-use Rattle.h264_header.specs.Picture.{begins_picture}
+use Rattle.h264_header.specs.Picture.{begins_picture, picture_elements}
 use Rattle.h264_poc.specs.declared.picture.Picture.{Picture}
 use Rattle.h264_poc.specs.declared.picture.Order.{Order}
 use Rattle.h264_poc.specs.declared.picture.Order.TheVariants as order
@@ -34,15 +35,15 @@ use Rattle.h264_verify.specs.History.{History, maps_of}
 abbrev pub ends_picture : ℕ → Bool
 ends_picture kind = nat_le 6 kind && nat_le kind 11
 
--- the last of these slices
-abbrev pub last_of : List Header → Option Header
+-- the elements of the last of these slices by which the next one begins a picture
+abbrev pub last_of : List Header → Option PictureElements
 last_of [] = None
-last_of (last ∷ slices) = Some last
+last_of (last ∷ slices) = Some (picture_elements last)
 
--- The slice of this header is the first of a picture, where this is the last slice of a picture that may go on (7.4.1.2.4).
-abbrev pub begins_after : Option Header → Header → Bool
+-- The slice of this header is the first of a picture, where the last slice of a picture that may go on has these elements (7.4.1.2.4).
+abbrev pub begins_after : Option PictureElements → Header → Bool
 begins_after None h = true
-begins_after (Some last) h = begins_picture last h
+begins_after (Some last) h = begins_picture last (picture_elements h)
 
 -- the slices of a picture that may go on, the last one first, where this content comes behind these
 abbrev pub slices_behind : Content → ℕ → List Header → List Header

@@ -2,6 +2,7 @@
 #![tactic(auto)]
 
 use crate::slices::Slices;
+use h264_header::Header;
 use h264_sets::Sets;
 
 /// What a whole stream has, where it is legal.
@@ -24,4 +25,6 @@ pub struct State {
     pub(crate) sets: Sets,
     /// The slices that were read.
     pub(crate) slices: Slices,
+    /// The place into which the header of a slice is read: it is large to move.
+    pub(crate) header: Header,
 }

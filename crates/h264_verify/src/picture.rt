@@ -1,22 +1,26 @@
 //! The picture to which more slices may come.
 #![tactic(auto)]
 
-ghost use Rattle.std.specs.Prelude.{◌≡◌, ◌-◌, ◌||◌, ◌==◌, List, [], ◌∷◌, Option, Some, None, true};
+ghost use Rattle.std.specs.Prelude.{◌≡◌, ◌-◌, ◌||◌, ◌==◌, List, [], ◌∷◌, Option, Some, None, true, IsTrue};
 ghost use Rattle.std.specs.List.{list_any};
-ghost use Rattle.std.specs.Option.{option_map};
 ghost use Rattle.std.specs.Result.{result_unwrap_or};
 ghost use Rattle.h264_header.specs.Layout.{has_lengths};
 ghost use Rattle.h264_header.specs.Marking.{number_of};
+ghost use Rattle.h264_header.specs.declared.header.Marking.TheVariants.{SlidingWindow};
 ghost use Rattle.h264_marking.specs.Held.{mark_answer};
 ghost use Rattle.h264_verify.specs.Pictures.{CodedPicture, begins_after, numbering_of, ended, resets, resets_by};
 ghost use Rattle.h264_verify.specs.Slices.{is_i, types_of, agrees};
-ghost use Rattle.h264_verify.specs.Keeping.{HoldsPicture, HoldsSlices, last_slice, types_by};
+ghost use Rattle.h264_verify.specs.Keeping.{HoldsPicture, HoldsSlices, last_by, types_by};
 
 use h264_base::Stop;
 use h264_bits::Found;
-use h264_header::{Header, Marking, MarkingOperation, Operation, SliceKind, begins_picture};
+use h264_header::{
+    Header, Marking, MarkingOperation, Operation, PictureElements, SliceKind, begins_picture,
+    picture_elements,
+};
 use h264_marking::{Held, Numbering};
 use h264_sps::sps::Sps;
+use std::mem;
 
 /// Which types the slices of a picture have.
 #[derive(Clone, Copy, Debug, PartialEq, Eq)]
@@ -30,10 +34,10 @@ pub struct Types {
 /// The picture to which more slices may come.
 #[derive(Drop)]
 pub struct OpenPicture {
-    /// The header of its first slice.
-    pub(crate) first: Header,
-    /// That of its last slice, where it is another.
-    pub(crate) last: Option<Header>,
+    /// The marking that its first slice gives.
+    pub(crate) marking: Option<Found<Marking>>,
+    /// The elements of its last slice by which the next one begins a picture.
+    pub(crate) last: PictureElements,
     pub(crate) types: Types,
     pub(crate) numbering: Numbering,
 }
@@ -47,22 +51,13 @@ pub(crate) fn is_i(kind: &SliceKind) -> bool
     }
 }
 
-fn last_slice(picture: &OpenPicture) -> &Header
-    ensures { result.now ≡ last_slice picture.now }
-{
-    match &picture.last {
-        None => &picture.first,
-        Some(last) => last,
-    }
-}
-
 /// Whether a slice is the first of a picture, behind the slices of this one.
 pub(crate) fn begins(picture: &Option<OpenPicture>, header: &Header) -> bool
-    ensures { result ≡ begins_after (option_map last_slice picture.now) header.now }
+    ensures { result ≡ begins_after (last_by picture.now) header.now }
 {
     match picture {
         None => true,
-        Some(picture) => begins_picture(last_slice(picture), header),
+        Some(picture) => begins_picture(&picture.last, &picture_elements(header)),
     }
 }
 
@@ -132,6 +127,13 @@ fn has_reset(operations: &[MarkingOperation]) -> bool
     operations.iter().any(|o| is_reset(o.operation))
 }
 
+/// Whether the sliding window marks.
+fn is_window(marking: &Marking) -> bool
+    ensures { IsTrue result → marking.now ≡ SlidingWindow }
+{
+    matches!(marking, Marking::SlidingWindow)
+}
+
 fn resets_by(marking: &Marking) -> bool
     ensures { result ≡ resets_by marking.now }
 {
@@ -168,32 +170,46 @@ pub(crate) fn mark_end(
     }
 }
 
-/// A picture that has begun with this slice.
-fn begun(header: Header, numbering: Numbering) -> OpenPicture
-    ensures { (pictures : List CodedPicture) (sps : Sps) → numbering ≡ numbering_of sps header → HoldsPicture (header ∷ []) (record { first = header; sps = sps } ∷ pictures) result }
+/// Keeps the marking of a picture's first slice in place of another: a sliding window, the most frequent one, by its bit alone.
+fn keep_marking(kept: &mut Option<Found<Marking>>, marking: &mut Option<Found<Marking>>)
+    ensures { kept.new ≡ marking.old }
 {
-    let types = types_with(seen_types(&None), &header);
+    if let (Some(old), Some(new)) = (&mut *kept, &*marking) {
+        if is_window(&old.value) && is_window(&new.value) {
+            old.bit = new.bit;
+            return;
+        }
+    }
+    mem::swap(kept, marking);
+}
+
+/// A picture that has begun with this slice.
+#[inline(never)]
+fn begun(header: &mut Header, numbering: Numbering) -> OpenPicture
+    ensures { (pictures : List CodedPicture) (sps : Sps) → numbering ≡ numbering_of sps header.old → HoldsPicture (header.old ∷ []) (record { first = header.old; sps = sps } ∷ pictures) result }
+{
+    let types = types_with(seen_types(&None), header);
     OpenPicture {
-        first: header,
-        last: None,
+        marking: mem::replace(&mut header.marking, None),
+        last: picture_elements(header),
         types,
         numbering,
     }
 }
 
 /// A picture that begins with this slice, in the place of the one before.
-fn restart(picture: &mut OpenPicture, header: Header, numbering: Numbering)
-    ensures { (pictures : List CodedPicture) (sps : Sps) → numbering ≡ numbering_of sps header → HoldsPicture (header ∷ []) (record { first = header; sps = sps } ∷ pictures) picture.new }
+fn restart(picture: &mut OpenPicture, header: &mut Header, numbering: Numbering)
+    ensures { (pictures : List CodedPicture) (sps : Sps) → numbering ≡ numbering_of sps header.old → HoldsPicture (header.old ∷ []) (record { first = header.old; sps = sps } ∷ pictures) picture.new }
 {
-    picture.types = types_with(seen_types(&None), &header);
-    picture.first = header;
-    picture.last = None;
+    picture.types = types_with(seen_types(&None), header);
+    picture.last = picture_elements(header);
+    keep_marking(&mut picture.marking, &mut header.marking);
     picture.numbering = numbering;
 }
 
 /// A picture begins with this slice, where another may have gone on.
-pub(crate) fn begin(picture: &mut Option<OpenPicture>, header: Header, numbering: Numbering)
-    ensures { (pictures : List CodedPicture) (sps : Sps) → numbering ≡ numbering_of sps header → HoldsSlices (header ∷ []) (record { first = header; sps = sps } ∷ pictures) picture.new }
+pub(crate) fn begin(picture: &mut Option<OpenPicture>, header: &mut Header, numbering: Numbering)
+    ensures { (pictures : List CodedPicture) (sps : Sps) → numbering ≡ numbering_of sps header.old → HoldsSlices (header.old ∷ []) (record { first = header.old; sps = sps } ∷ pictures) picture.new }
 {
     match picture {
         None => *picture = Some(begun(header, numbering)),
@@ -202,9 +218,9 @@ pub(crate) fn begin(picture: &mut Option<OpenPicture>, header: Header, numbering
 }
 
 /// One more slice comes to a picture.
-pub(crate) fn go_on(picture: &mut OpenPicture, header: Header)
-    ensures { (slices : List Header) (pictures : List CodedPicture) → HoldsPicture slices pictures picture.old → HoldsPicture (header ∷ slices) pictures picture.new }
+pub(crate) fn go_on(picture: &mut OpenPicture, header: &Header)
+    ensures { (slices : List Header) (pictures : List CodedPicture) → HoldsPicture slices pictures picture.old → HoldsPicture (header.now ∷ slices) pictures picture.new }
 {
-    picture.types = types_with(picture.types, &header);
-    picture.last = Some(header);
+    picture.types = types_with(picture.types, header);
+    picture.last = picture_elements(header);
 }

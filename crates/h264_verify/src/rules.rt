@@ -5,6 +5,7 @@ ghost use Rattle.std.specs.Prelude.{◌≡◌, not, ◌&&◌, ◌||◌, ◌∷�
 ghost use Rattle.std.specs.Option.{is_some};
 ghost use Rattle.h264_base.specs.declared.stop.Stop.TheVariants.{No};
 ghost use Rattle.h264_header.specs.Layout.{sets_of};
+ghost use Rattle.h264_lists.specs.Built.{built};
 ghost use Rattle.h264_verify.specs.Demands.{judged};
 ghost use Rattle.h264_verify.specs.History.{maps_with};
 ghost use Rattle.h264_verify.specs.Content as contents;
@@ -15,7 +16,7 @@ use crate::marking::same_marking;
 use crate::picture::{OpenPicture, Types, agrees, is_i};
 use h264_base::{Rule, Stop};
 use h264_bits::Found;
-use h264_header::{Header, Marking, SliceKind, named_sets};
+use h264_header::{Header, Marking, RefPicList0, SliceKind, named_sets};
 use h264_lists::build;
 use h264_marking::{Held, Numbering};
 use h264_pps::Pps;
@@ -148,16 +149,32 @@ pub(crate) fn check_qp(pps: &Pps, header: &Header) -> Result<(), Stop>
     check(qp, Rule::Qp, header.slice_qp_delta.bit)
 }
 
+/// Whether the list can be built. Apart, so that a list without modifications does not pay for its places.
+#[inline(never)]
+fn check_build(list: &RefPicList0, numbering: &Numbering, held: &Held) -> Result<(), Stop>
+    ensures { result ≡ judged (list_demand (built numbering.now list.now held.now.frames) ∷ []) }
+{
+    build(held, numbering, list)?;
+    Ok(())
+}
+
+/// The rule on the modifications of a P slice's list: without any, each list can be built.
+fn check_modifications(list: &RefPicList0, numbering: &Numbering, held: &Held) -> Result<(), Stop>
+    ensures { result ≡ judged (list_demand (built numbering.now list.now held.now.frames) ∷ []) }
+{
+    if list.modifications.is_empty() {
+        return Ok(());
+    }
+    check_build(list, numbering, held)
+}
+
 /// The rule on the modifications of a slice's list.
 pub(crate) fn check_list(kind: &SliceKind, numbering: &Numbering, held: &Held) -> Result<(), Stop>
     ensures { result ≡ judged (list_demand (list_of kind.now numbering.now held.now) ∷ []) }
 {
     match kind {
         SliceKind::I => Ok(()),
-        SliceKind::P(list) => {
-            build(held, numbering, list)?;
-            Ok(())
-        }
+        SliceKind::P(list) => check_modifications(list, numbering, held),
     }
 }
 
@@ -177,7 +194,7 @@ fn has_marking(picture: &Option<OpenPicture>, marking: &Option<Found<Marking>>) 
 {
     match picture {
         None => same_marking(&None, marking),
-        Some(picture) => same_marking(&picture.first.marking, marking),
+        Some(picture) => same_marking(&picture.marking, marking),
     }
 }
 

@@ -17,6 +17,7 @@ use crate::sink::FrameSink;
 use crate::slices::no_slices;
 use crate::unit::{judge_end, judge_unit};
 use h264_base::{Mode, Stop, Target};
+use h264_header::Header;
 use h264_sets::Sets;
 use h264_units::Splitter;
 use std::alloc::Global;
@@ -151,6 +152,7 @@ impl Session {
                 units: 0,
                 sets,
                 slices: no_slices(),
+                header: Header::unread(),
             },
             stop: None,
         })

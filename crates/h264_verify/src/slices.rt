@@ -184,7 +184,7 @@ fn end_picture(slices: &mut Slices) -> Result<(), Stop>
     match &slices.picture {
         None => Ok(()),
         Some(picture) => mark_end(
-            &picture.first.marking,
+            &picture.marking,
             &picture.numbering,
             slices.pictures.saturating_sub(1),
             &mut slices.held,
@@ -238,11 +238,11 @@ fn frame_count(count: Option<Count>) -> i32
     }
 }
 
-/// What a slice leaves that begins a picture, or goes on with one.
-fn enter(slices: &mut Slices, begins: bool, header: Header, numbering: Numbering)
+/// What a slice leaves that begins a picture, or goes on with one. Its header changes places with one that is kept no longer.
+fn enter(slices: &mut Slices, begins: bool, header: &mut Header, numbering: Numbering)
     requires { slices.old.pictures < 2 ^ 42 }
-    ensures picture { (of : List Header) (pictures : List CodedPicture) (sets : Pps × Sps) → HoldsSlices of pictures slices.old.picture → begins ≡ begins_after (last_of of) header → numbering ≡ numbering_of sets.1 header → HoldsSlices (slices_behind (contents.OfSlice header) 5 of) (coded_with begins (Some sets) header pictures) slices.new.picture }
-    ensures newest { slices.new.newest_idr ≡ (if begins then idr_id header.idr_pic_id else slices.old.newest_idr) }
+    ensures picture { (of : List Header) (pictures : List CodedPicture) (sets : Pps × Sps) → HoldsSlices of pictures slices.old.picture → begins ≡ begins_after (last_of of) header.old → numbering ≡ numbering_of sets.1 header.old → HoldsSlices (slices_behind (contents.OfSlice header.old) 5 of) (coded_with begins (Some sets) header.old pictures) slices.new.picture }
+    ensures newest { slices.new.newest_idr ≡ (if begins then idr_id header.old.idr_pic_id else slices.old.newest_idr) }
     ensures pictures { slices.new.pictures ≡ (if begins then slices.old.pictures + 1 else slices.old.pictures) }
     ensures due { slices.new.due ≡ false }
     ensures others { slices.new ≡ record slices.old { picture = slices.new.picture; newest_idr = slices.new.newest_idr; pictures = slices.new.pictures; due = slices.new.due } }
@@ -259,36 +259,37 @@ fn enter(slices: &mut Slices, begins: bool, header: Header, numbering: Numbering
     }
 }
 
-/// A slice behind those so far: its rules, what the sink is told of it, and what it leaves.
+/// A slice behind those so far: its rules, what the sink is told of it, and what it leaves. At Ok its header is kept, and its
+/// place holds one that is kept no longer.
 pub(crate) fn judge_slice<S: FrameSink>(
     slices: &mut Slices,
     sets: &mut Sets,
     unit: &NalUnit,
-    header: Header,
+    header: &mut Header,
     sink: &mut S,
 ) -> Result<(), Stop>
     requires room { S.failures sink.old < 2 ^ 64 - 1 }
-    requires id { header.pic_parameter_set_id.value ≤ 255 }
+    requires id { header.old.pic_parameter_set_id.value ≤ 255 }
     requires pictures { slices.old.pictures < 2 ^ 42 }
-    ensures plays { (before : History) → KeepsSlices before false slices.old → sets.old ≡ maps_of before → Plays S.took S.failures (λ x. x) (header_judged before unit.now header) sink.old sink.new result }
-    ensures keeps { (before : History) → KeepsSlices before false slices.old → sets.old ≡ maps_of before → OnOk result (KeepsSlices (record { unit = unit.now; content = contents.OfSlice header } ∷ before) false slices.new) }
-    ensures sets { OnOk result (sets.new ≡ maps_with sets.old (contents.OfSlice header)) }
+    ensures plays { (before : History) → KeepsSlices before false slices.old → sets.old ≡ maps_of before → Plays S.took S.failures (λ x. x) (header_judged before unit.now header.old) sink.old sink.new result }
+    ensures keeps { (before : History) → KeepsSlices before false slices.old → sets.old ≡ maps_of before → OnOk result (KeepsSlices (record { unit = unit.now; content = contents.OfSlice header.old } ∷ before) false slices.new) }
+    ensures sets { OnOk result (sets.new ≡ maps_with sets.old (contents.OfSlice header.old)) }
     ensures pictures { OnOk result (slices.new.pictures ≤ slices.old.pictures + 1) }
     ensures kept { OnOk result (S.failures sink.new ≡ S.failures sink.old) }
 {
     let bit = 8 * unit.from();
-    let begins = begins(&slices.picture, &header);
+    let begins = begins(&slices.picture, header);
     end_if(begins, slices)?;
-    check_begin(begins, slices.due, sets, bit, &header)?;
+    check_begin(begins, slices.due, sets, bit, header)?;
     let Some(named) = named_sets(sets, header.pic_parameter_set_id.value) else {
         return Err(Stop::No {
             bit: header.pic_parameter_set_id.bit,
             rule: Rule::NoSet,
         });
     };
-    check_rules(slices, begins, named.0, named.1, &header, bit)?;
-    tell_slice(unit.from(), &header, slices.count, sink)?;
-    let numbering = numbering_of(named.1, &header);
+    check_rules(slices, begins, named.0, named.1, header, bit)?;
+    tell_slice(unit.from(), header, slices.count, sink)?;
+    let numbering = numbering_of(named.1, header);
     enter(slices, begins, header, numbering);
     Ok(())
 }

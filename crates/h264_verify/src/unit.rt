@@ -206,9 +206,14 @@ fn join_slice<S: FrameSink>(
     ensures pictures { OnOk result (state.new.slices.pictures ≤ state.new.units) }
     ensures kept { OnOk result (S.failures sink.new ≡ S.failures sink.old) }
 {
-    let mut found = Header::unread();
-    read_slice_unit(alloc, header, &state.sets, unit, &mut found, sink)?;
-    judge_slice(&mut state.slices, &mut state.sets, unit, found, sink)?;
+    read_slice_unit(alloc, header, &state.sets, unit, &mut state.header, sink)?;
+    judge_slice(
+        &mut state.slices,
+        &mut state.sets,
+        unit,
+        &mut state.header,
+        sink,
+    )?;
     state.units += 1;
     Ok(())
 }

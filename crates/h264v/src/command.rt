@@ -88,6 +88,7 @@ fn judge<O: Opener, W: Write>(
     let mut sink = LineSink::new(alloc, mode, out);
     let verdict = run(alloc, &mut source, &mut sink, mode);
     let short = sink.short_of_memory();
+    drop(sink);
     if short {
         return put_verdict(alloc, mode, Err(Stop::Memory), out);
     }

@@ -1,5 +1,5 @@
-use Rattle.std.proofs.Common.{ap, sym, refl, Some, []}
+use Rattle.std.proofs.Common.{ap, sym, Some, []}
 use Rattle.h264_verify.proofs.picture.begun.Goals as goal
 
 pub returns : goal.returns
-returns c = λ pictures sps n. record { last = refl; types = c.types_with-types.ensures [] c.seen_types.ensures; first = refl; numbering = ap Some (sym n) }
+returns c = λ pictures sps n. record { last = ap Some (sym c.picture_elements.ensures); types = c.types_with-types.ensures [] c.seen_types.ensures; marking = ap Some (sym c.replace.ensures.value); numbering = ap Some (sym n) }
