@@ -129,7 +129,8 @@ fn has_reset(operations: &[MarkingOperation]) -> bool
 
 /// Whether the sliding window marks.
 fn is_window(marking: &Marking) -> bool
-    ensures { IsTrue result → marking.now ≡ SlidingWindow }
+    ensures window { IsTrue result → marking.now ≡ SlidingWindow }
+    ensures other { marking.now ≡ SlidingWindow → IsTrue result }
 {
     matches!(marking, Marking::SlidingWindow)
 }
