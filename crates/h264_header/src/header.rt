@@ -165,8 +165,11 @@ pub enum Deblocking {
 /// The elements of a slice header by which a picture begins with a slice, or not (7.4.1.2.4).
 #[derive(Clone, Copy, Debug, PartialEq, Eq)]
 pub struct PictureElements {
+    /// 0 to 3, of the slice's unit.
     pub nal_ref_idc: u32,
+    /// 0 to 255.
     pub pic_parameter_set_id: u32,
+    /// Below MaxFrameNum.
     pub frame_num: u32,
     /// There exactly in IDR pictures.
     pub idr_pic_id: Option<Found<u32>>,

@@ -9,7 +9,7 @@ use h264_verify::Summary;
 use std::alloc::{AllocError, Global};
 
 /// Makes a line that of a unit: the byte of the input where it begins, its nal_unit_type and nal_ref_idc, and its length in
-/// bytes. After an error the line is a part of it.
+/// bytes. AllocError where there is no memory for it; the line is then a part of it.
 pub fn unit_line(
     line: &mut String,
     byte: u64,
@@ -38,7 +38,7 @@ fn type_text(slice_type: SliceType) -> &'static str
 }
 
 /// Makes a line that of a slice: the byte of the input where its unit begins, first_mb_in_slice, its type, frame_num, and the
-/// picture order count of its frame. After an error the line is a part of it.
+/// picture order count of its frame. AllocError where there is no memory for it; the line is then a part of it.
 pub fn slice_line(
     line: &mut String,
     byte: u64,

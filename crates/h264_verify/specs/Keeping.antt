@@ -29,6 +29,7 @@ abbrev pub marking_by : Option OpenPicture → Option (Found Marking)
 marking_by None = None
 marking_by (Some o) = o.marking
 
+-- the marking that the first slice of the newest picture gives
 abbrev pub first_marking : List CodedPicture → Option (Option (Found Marking))
 first_marking [] = None
 first_marking (p ∷ pictures) = Some p.first.marking

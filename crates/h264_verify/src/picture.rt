@@ -171,7 +171,8 @@ pub(crate) fn mark_end(
     }
 }
 
-/// Keeps the marking of a picture's first slice in place of another: a sliding window, the most frequent one, by its bit alone.
+/// Keeps the marking of a picture's first slice in place of another, which goes to its place; from one sliding window, the
+/// most frequent marking, to the next the bit alone changes.
 fn keep_marking(kept: &mut Option<Found<Marking>>, marking: &mut Option<Found<Marking>>)
     ensures { kept.new ≡ marking.old }
 {

@@ -238,7 +238,7 @@ fn frame_count(count: Option<Count>) -> i32
     }
 }
 
-/// What a slice leaves that begins a picture, or goes on with one. Its header changes places with one that is kept no longer.
+/// What a slice leaves that begins a picture, or goes on with one. What is kept of its header may leave its place.
 fn enter(slices: &mut Slices, begins: bool, header: &mut Header, numbering: Numbering)
     requires { slices.old.pictures < 2 ^ 42 }
     ensures picture { (of : List Header) (pictures : List CodedPicture) (sets : Pps × Sps) → HoldsSlices of pictures slices.old.picture → begins ≡ begins_after (last_of of) header.old → numbering ≡ numbering_of sets.1 header.old → HoldsSlices (slices_behind (contents.OfSlice header.old) 5 of) (coded_with begins (Some sets) header.old pictures) slices.new.picture }
@@ -259,8 +259,8 @@ fn enter(slices: &mut Slices, begins: bool, header: &mut Header, numbering: Numb
     }
 }
 
-/// A slice behind those so far: its rules, what the sink is told of it, and what it leaves. At Ok its header is kept, and its
-/// place holds one that is kept no longer.
+/// A slice behind those so far: its rules, what the sink is told of it, and what it leaves. The header's
+/// place is to be read into anew behind it.
 pub(crate) fn judge_slice<S: FrameSink>(
     slices: &mut Slices,
     sets: &mut Sets,
