@@ -11,14 +11,15 @@ use Rattle.h264_verify.specs.History.{History, ReadUnit, maps_of, maps_with}
 use Rattle.h264_verify.specs.UnitHeader.{header_of, nal_unit_type}
 use Rattle.h264_verify.specs.Pictures.{ends_picture}
 use Rattle.h264_verify.specs.Keeping.{Keeps, KeepsWithin, IsLeft}
-use Rattle.h264_verify.specs.UnitRules.{content_judged}
+use Rattle.h264_verify.specs.Units.{content_steps}
+use Rattle.h264_verify.specs.UnitOutcome.{steps_outcome}
 use Rattle.h264_verify.specs.Feeding.{Joins}
 use Rattle.h264_verify.proofs.Playing.{plays-stops, plays-on, plays-then}
 use Rattle.h264_verify.proofs.Entering.{IsNoSlice, passed-keeps}
 
 module _ {S : Type 0} (took : S → List Call → Type 0) (failures : S → ℕ) (before : History) (unit : NalUnit) (content : Outcome Content) (new : State) where
   -- what was read is judged
-  pub joins-on : {X : Type 0} (view : X → Content) (s s1 s2 : S) (x : X) (r : Result (Unit {0}) Stop) → Plays took failures view content s s1 (Ok x) → Plays took failures (λ (u : Unit {0}). u) (content_judged before unit (view x)) s1 s2 r → OnOk r (Keeps (record { unit = unit; content = view x } ∷ before) new) → Joins took failures before unit content new s s2 r
+  pub joins-on : {X : Type 0} (view : X → Content) (s s1 s2 : S) (x : X) (r : Result (Unit {0}) Stop) → Plays took failures view content s s1 (Ok x) → Plays took failures (λ (u : Unit {0}). u) (steps_outcome (content_steps before unit (view x))) s1 s2 r → OnOk r (Keeps (record { unit = unit; content = view x } ∷ before) new) → Joins took failures before unit content new s s2 r
   joins-on view s s1 s2 x r p q k = record {
     after = record { unit = unit; content = view x } ∷ before;
     plays = plays-on took failures view (λ (u : Unit {0}). record { unit = unit; content = view x } ∷ before) content _ s s1 s2 x r p (plays-then took failures _ _ s1 s2 r q);
@@ -42,5 +43,5 @@ pub passed-joins : (before : History) (unit : NalUnit) (c : Content) (kind : ℕ
 passed-joins before unit c kind old new n k keeps units sets left due same = record {
   units = units-with before (record { unit = unit; content = c }) old.units new.units units keeps.units;
   sets = sets;
-  slices = passed-keeps before unit c kind old.slices new.slices n k keeps.slices left due same;
+  slices = passed-keeps before unit kind old.slices new.slices k keeps.slices left due same c n;
 }

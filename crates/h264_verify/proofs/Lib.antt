@@ -3,8 +3,10 @@ pub mod Playing
 pub mod Feeding
 pub mod Finishing
 pub mod Sources
+pub mod Stepping
+pub mod Gaps
 pub mod Slicing
-pub mod Verdicts
 pub mod Entering
 pub mod Joining
-pub mod Gaps
+pub mod Courses
+pub mod Verdicts

@@ -1,205 +1,68 @@
 -- The fold over the units says what the verdict's relation says, and nothing else does.
-use Rattle.std.proofs.Common.{OnOk, IfErr, Option, Some, None, ◌≡◌, ℕ, ◌+◌, ◌*◌, ◌⊎◌, inl, inr, Bool, true, false, IsTrue, IsFalse, List, [], ◌∷◌, ◌++◌, map, length, Result, Ok, Err, refl, ap, sym, ◌∙◌, subst, arith, append_assoc, ◌==◌, if◌then◌else◌, MatchResult}
+use Rattle.std.proofs.Common.{OnOk, IfErr, Option, Some, None, ◌≡◌, ℕ, ◌+◌, ◌*◌, ◌⊎◌, inl, inr, List, [], ◌∷◌, ◌++◌, length, Result, Ok, Err, refl, ap, sym, ◌∙◌, subst, arith, append_assoc, MatchResult}
 use Rattle.std.proofs.lemmas.List.{append-nil}
 use Rattle.h264_base.specs.declared.mode.Mode.{Mode}
-use Rattle.h264_base.specs.declared.mode.Mode.TheVariants as modes
-use Rattle.h264_base.specs.declared.rule.Rule.{Rule}
 use Rattle.h264_base.specs.declared.rule.Rule.TheVariants.{Emulation}
 use Rattle.h264_base.specs.declared.stop.Stop.{Stop}
 use Rattle.h264_base.specs.declared.stop.Stop.TheVariants.{No, Outside, Memory, Read, Write}
 use Rattle.h264_base.specs.Call.{Call, Tells, TellsFront}
-use Rattle.h264_base.specs.Body.{Body}
-use Rattle.h264_base.specs.Grammar.{Grammar, ◌>>=◌ as ◌bind◌, Done, Element}
-use Rattle.h264_base.specs.Run.{Run, run, call_of}
-use Rattle.h264_base.proofs.Steps.{then_run, run-bind}
-use Rattle.h264_base.proofs.OneAnswer.{run-says, run-one}
 use Rattle.h264_units.specs.Stream.{NalUnit, Tail, Zeros, Stray, Bare, Long, Cut, Splits}
 use Rattle.h264_units.specs.Splitting.{Splitting, at_start}
 use Rattle.h264_rbsp.specs.Emulation.{IsFault, IsFirstFault, emulation_checked}
 use Rattle.h264_rbsp.specs.Rbsp.{body_of}
 use Rattle.h264_rbsp.proofs.Told.{is-checked, none-checked, some-checked}
-use Rattle.h264_sps.specs.Sps.{sps}
-use Rattle.h264_pps.specs.Pps.{pps}
-use Rattle.h264_header.specs.Layout.{sets_of}
-use Rattle.h264_header.specs.Header.{header}
 use Rattle.h264_verify.specs.declared.judge.State.{State}
-use Rattle.h264_verify.specs.Content.{Content}
-use Rattle.h264_verify.specs.Content as contents
 use Rattle.h264_verify.specs.declared.judge.Summary.{Summary}
-use Rattle.h264_verify.specs.Outcome.{Outcome, ◌>>=◌, with_calls, answers, gives, tells, value_of, structure_outcome, Plays}
+use Rattle.h264_verify.specs.Content.{Content}
+use Rattle.h264_verify.specs.Outcome.{Outcome, ◌>>=◌, with_calls, answers, gives, Plays}
 use Rattle.h264_verify.specs.Judging.{unless, tail_outcome, units_outcome, Comes}
 use Rattle.h264_verify.specs.Session.{Standing, ToCome, Goes, Stops, Finishes, Fed, Judges, RansBy}
-use Rattle.h264_verify.specs.Demands.{Demand, AreMet, IsFirstUnmet, judged}
-use Rattle.h264_verify.specs.UnitHeader.{header_of, nal_unit_type, header_demands}
-use Rattle.h264_verify.specs.History.{History, ReadUnit, maps_of}
+use Rattle.h264_verify.specs.Steps.{AreMet, IsFirstStop, Runs}
+use Rattle.h264_verify.specs.History.{History, ReadUnit}
 use Rattle.h264_verify.specs.Keeping.{Keeps}
-use Rattle.h264_verify.specs.Pictures.{closing_at}
-use Rattle.h264_verify.specs.Slices.{slice_demands, slice_call}
-use Rattle.h264_verify.specs.UnitRules.{unit_call, is_slice, slice_unit, sps_outcome, pps_outcome, slice_outcome, other_outcome, content_outcome, header_judged, content_judged, unit_outcome, end_demands, summary_of, end_outcome, judging}
+use Rattle.h264_verify.specs.Units.{unit_course, end_steps, summary_of}
+use Rattle.h264_verify.specs.UnitOutcome.{steps_outcome, course_outcome, unit_outcome, end_outcome, judging}
 use Rattle.h264_verify.specs.Progress.{Progress, IsFresh}
 use Rattle.h264_verify.specs.Feeding.{behind, GoesOn, FedOn, WasFed, IsFed}
-use Rattle.h264_verify.specs.Verdict.{IsSound, other_content, content, Elements, told, content_demands, content_calls, IsLegal, IsStop, AtUnit, AtPictureEnd, AtElements, AtContent, in_order, AreLegal, Holds, IsStopBehind, AtNext, AtTail, AtEnd, StopsAt, Verdict, Whole, Front, JudgedBy, Judged}
+use Rattle.h264_verify.specs.Verdict.{IsSound, IsLegal, IsStop, AtBytes, InCourse, in_order, AreLegal, Holds, IsStopBehind, AtNext, AtTail, AtEnd, StopsAt, Verdict, Whole, Front, JudgedBy, Judged}
 use Rattle.h264_verify.proofs.Feeding.{with-both, goes-none}
 use Rattle.h264_verify.proofs.Sources.{one-outcome, some-outcome, stops-plays, fed-none, fed-ends}
+use Rattle.h264_verify.proofs.Stepping.{outcome, met-is, stop-is, either, bound, bind-stop, runs-outcome, SomeRun, some-run}
+use Rattle.h264_verify.proofs.Stepping as stepping
 
--- rules one after another, as a relation and as an answer
-choice-met : {A : Type 0} (b : Bool) (x y : A) → IsTrue b → (if b then x else y) ≡ x
-choice-met true x y h = refl
-choice-met false x y h = cc
-
-choice-unmet : {A : Type 0} (b : Bool) (x y : A) → IsFalse b → (if b then x else y) ≡ y
-choice-unmet true x y h = cc
-choice-unmet false x y h = refl
-
-judged-met : (ds : List Demand) → AreMet ds → judged ds ≡ Ok tt
-judged-met [] h = refl
-judged-met (d ∷ ds) h = choice-met d.met _ _ h.0 ∙ judged-met ds h.1
-
-judged-unmet : (ds : List Demand) (rule : Rule) (bit : ℕ) → IsFirstUnmet ds rule bit → judged ds ≡ Err (No bit rule)
-judged-unmet [] rule bit h = absurd h
-judged-unmet (d ∷ ds) rule bit (inl h) = choice-unmet d.met _ _ h.0 ∙ rw (h.1, h.2) refl
-judged-unmet (d ∷ ds) rule bit (inr h) = choice-met d.met _ _ h.0 ∙ judged-unmet ds rule bit h.1
-
--- they are met, or there is a first that is not
-met-either : (ds : List Demand) → AreMet ds ⊎ ((rule : Rule) × (bit : ℕ) × IsFirstUnmet ds rule bit)
-met-either [] = inl tt
-met-either (d ∷ ds) = by d.met refl (met-either ds)
-  where
-    by : (met : Bool) → d.met ≡ met → AreMet ds ⊎ ((rule : Rule) × (bit : ℕ) × IsFirstUnmet ds rule bit) → AreMet (d ∷ ds) ⊎ ((rule : Rule) × (bit : ℕ) × IsFirstUnmet (d ∷ ds) rule bit)
-    by false e h = inr (d.rule, d.bit, inl (e, refl, refl))
-    by true e (inl h) = inl (e, h)
-    by true e (inr h) = inr (h.0, h.1, inr (e, h.2))
-
-abbrev run_outcome : {A : Type 0} → Body → Run A → Outcome A
-run_outcome body r = record { calls = map (call_of body) r.elements; answer = value_of r.answer }
-
--- a structure whose value is seen as a content
-module _ {A : Type 0} (body : Body) (f : A → Content) where
-  as-content : (es : List Element) (a : Result (A × ℕ) Stop) → (let r : Run A = record { elements = es; answer = a } in (run_outcome body r >>= λ x. gives (f x)) ≡ run_outcome body (then_run r (λ x j. run (Done (f x)) body j)))
-  unfolding ◌>>=◌ run
-  as-content es (Ok x) = ap (λ (l : List Call). let o : Outcome Content = record { calls = l; answer = Ok (f x.0) } in o) (append-nil (map (call_of body) es) ∙ sym (ap (map (call_of body)) (append-nil es)))
-  as-content es (Err e) = refl
-
-structure-content : {A : Type 0} (g : Grammar A) (body : Body) (f : A → Content) → (structure_outcome g body >>= λ x. gives (f x)) ≡ structure_outcome (◌bind◌ g (λ x. Done (f x))) body
-structure-content g body f = as-content body f (run g body 0).elements (run g body 0).answer ∙ ap (λ r. run_outcome body r) (sym (run-bind g (λ x. Done (f x)) body 0))
-
--- by the type of the unit
-choice-is : {A : Type 0} (b c : Bool) (x y : A) → b ≡ c → (if b then x else y) ≡ (if c then x else y)
-choice-is b c x y e = ap (λ d. if d then x else y) e
-
-none-passed : (body : Body) → gives contents.Passed ≡ structure_outcome (Done contents.Passed) body
-unfolding run
-none-passed body = refl
-
-other-is : (mode : Mode) (kind : ℕ) (before : History) (unit : NalUnit) → other_outcome mode kind before unit ≡ structure_outcome (other_content mode kind before unit) (body_of unit)
-unfolding other_outcome slice_outcome
-other-is modes.Units kind before unit = none-passed (body_of unit)
-other-is modes.Headers kind before unit = by (is_slice kind) refl
-  where
-    by : (a : Bool) → is_slice kind ≡ a → other_outcome modes.Headers kind before unit ≡ structure_outcome (other_content modes.Headers kind before unit) (body_of unit)
-    by true e = choice-is (is_slice kind) true _ _ e ∙ structure-content (header (sets_of (maps_of before)) (slice_unit unit)) (body_of unit) contents.OfSlice ∙ ap (λ g. structure_outcome g (body_of unit)) (sym (choice-is (is_slice kind) true _ _ e))
-    by false e = choice-is (is_slice kind) false _ _ e ∙ none-passed (body_of unit) ∙ ap (λ g. structure_outcome g (body_of unit)) (sym (choice-is (is_slice kind) false _ _ e))
-
-content-is : (mode : Mode) (kind : ℕ) (before : History) (unit : NalUnit) → content_outcome mode kind before unit ≡ structure_outcome (content mode kind before unit) (body_of unit)
-unfolding content_outcome sps_outcome pps_outcome content
-content-is mode kind before unit = by (kind == 7) (kind == 8) refl refl
-  where
-    by : (a b : Bool) → (kind == 7) ≡ a → (kind == 8) ≡ b → content_outcome mode kind before unit ≡ structure_outcome (content mode kind before unit) (body_of unit)
-    by true b e h = choice-is (kind == 7) true _ _ e ∙ structure-content sps (body_of unit) contents.OfSps ∙ ap (λ g. structure_outcome g (body_of unit)) (sym (choice-is (kind == 7) true _ _ e))
-    by false true e h = choice-is (kind == 7) false _ _ e ∙ choice-is (kind == 8) true _ _ h ∙ structure-content pps (body_of unit) contents.OfPps ∙ ap (λ g. structure_outcome g (body_of unit)) (sym (choice-is (kind == 7) false _ _ e ∙ choice-is (kind == 8) true _ _ h))
-    by false false e h = choice-is (kind == 7) false _ _ e ∙ choice-is (kind == 8) false _ _ h ∙ other-is mode kind before unit ∙ ap (λ g. structure_outcome g (body_of unit)) (sym (choice-is (kind == 7) false _ _ e ∙ choice-is (kind == 8) false _ _ h))
-
--- what comes of a unit once its elements gave this
-abbrev after_elements : History → NalUnit → Run Content → Outcome History
-after_elements before unit r = run_outcome (body_of unit) r >>= λ c. content_judged before unit c >>= λ _. gives (record { unit = unit; content = c } ∷ before)
-
--- what comes of a unit, by what its rules and its content give
-by-parts : (mode : Mode) (before : History) (unit : NalUnit) (e h k : Result (Unit {0}) Stop) (r : Run Content) → emulation_checked unit.from unit.body ≡ e → judged (header_demands (8 * unit.from) (header_of unit)) ≡ h → judged (closing_at (nal_unit_type (header_of unit)) before) ≡ k → run (content mode (nal_unit_type (header_of unit)) before unit) (body_of unit) 0 ≡ r → unit_outcome mode before unit ≡ (answers e >>= λ _. answers h >>= λ _. tells (unit_call unit.from (header_of unit) (length unit.body)) >>= λ _. answers k >>= λ _. after_elements before unit r)
+-- A legal unit comes to its calls, and joins those before it.
+pub legal-unit : (mode : Mode) (before : History) (r : ReadUnit) (calls : List Call) → IsLegal mode before r calls → unit_outcome mode before r.unit ≡ outcome calls (Ok (r ∷ before))
 unfolding unit_outcome
-by-parts mode before unit e h k r p q v w =
-    ap (λ e'. answers e' >>= λ _. answers (judged (header_demands (8 * unit.from) (header_of unit))) >>= λ _. tells (unit_call unit.from (header_of unit) (length unit.body)) >>= λ _. answers (judged (closing_at (nal_unit_type (header_of unit)) before)) >>= λ _. content_outcome mode (nal_unit_type (header_of unit)) before unit >>= λ c. content_judged before unit c >>= λ _. gives (record { unit = unit; content = c } ∷ before)) p
-    ∙ ap (λ h'. answers e >>= λ _. answers h' >>= λ _. tells (unit_call unit.from (header_of unit) (length unit.body)) >>= λ _. answers (judged (closing_at (nal_unit_type (header_of unit)) before)) >>= λ _. content_outcome mode (nal_unit_type (header_of unit)) before unit >>= λ c. content_judged before unit c >>= λ _. gives (record { unit = unit; content = c } ∷ before)) q
-    ∙ ap (λ k'. answers e >>= λ _. answers h >>= λ _. tells (unit_call unit.from (header_of unit) (length unit.body)) >>= λ _. answers k' >>= λ _. content_outcome mode (nal_unit_type (header_of unit)) before unit >>= λ c. content_judged before unit c >>= λ _. gives (record { unit = unit; content = c } ∷ before)) v
-    ∙ ap (λ (o : Outcome Content). answers e >>= λ _. answers h >>= λ _. tells (unit_call unit.from (header_of unit) (length unit.body)) >>= λ _. answers k >>= λ _. o >>= λ c. content_judged before unit c >>= λ _. gives (record { unit = unit; content = c } ∷ before)) (content-is mode (nal_unit_type (header_of unit)) before unit ∙ ap (λ r'. run_outcome (body_of unit) r') w)
-
-sound-parts : (mode : Mode) (before : History) (unit : NalUnit) (es : List Element) (a : Result (Content × ℕ) Stop) → IsSound unit → AreMet (closing_at (nal_unit_type (header_of unit)) before) → Elements mode before unit es a → (let r : Run Content = record { elements = es; answer = a } in unit_outcome mode before unit ≡ (tells (unit_call unit.from (header_of unit) (length unit.body)) >>= λ _. after_elements before unit r))
-unfolding ◌>>=◌
-sound-parts mode before unit es a sound closed h = by-parts mode before unit (Ok tt) (Ok tt) (Ok tt) (record { elements = es; answer = a }) (sym (none-checked unit.from unit.body sound.emulation)) (judged-met (header_demands (8 * unit.from) (header_of unit)) sound.header) (judged-met (closing_at (nal_unit_type (header_of unit)) before) closed) (run-one (content mode (nal_unit_type (header_of unit)) before unit) (body_of unit) 0 es a h)
-
--- the rules on a content that are met, and what is told then
-met-content : (before : History) (unit : NalUnit) (c : Content) → AreMet (content_demands before unit c) → content_judged before unit c ≡ record { calls = content_calls before unit c; answer = Ok tt }
-unfolding header_judged ◌>>=◌
-met-content before unit (contents.OfSps set) h = refl
-met-content before unit (contents.OfPps set) h = refl
-met-content before unit (contents.OfSlice slice) h = ap (λ r. answers r >>= λ _. tells (slice_call before unit slice)) (judged-met (slice_demands before unit slice) h)
-met-content before unit contents.Passed h = refl
-
-unmet-content : (before : History) (unit : NalUnit) (c : Content) (rule : Rule) (bit : ℕ) → IsFirstUnmet (content_demands before unit c) rule bit → content_judged before unit c ≡ answers (Err (No bit rule))
-unfolding header_judged ◌>>=◌
-unmet-content before unit (contents.OfSps set) rule bit h = absurd h
-unmet-content before unit (contents.OfPps set) rule bit h = absurd h
-unmet-content before unit (contents.OfSlice slice) rule bit h = ap (λ r. answers r >>= λ _. tells (slice_call before unit slice)) (judged-unmet (slice_demands before unit slice) rule bit h)
-unmet-content before unit contents.Passed rule bit h = absurd h
-
-after-content : (before : History) (unit : NalUnit) (es : List Element) (c : Content) (end : ℕ) (o : Outcome (Unit {0})) → content_judged before unit c ≡ o → (let r : Run Content = record { elements = es; answer = Ok (c, end) } in after_elements before unit r ≡ with_calls (map (call_of (body_of unit)) es) (o >>= λ _. gives (record { unit = unit; content = c } ∷ before)))
-unfolding ◌>>=◌
-after-content before unit es c end o e = ap (λ (q : Outcome (Unit {0})). with_calls (map (call_of (body_of unit)) es) (q >>= λ _. gives (record { unit = unit; content = c } ∷ before))) e
-
-legal-unit : (mode : Mode) (before : History) (r : ReadUnit) (calls : List Call) → IsLegal mode before r calls → unit_outcome mode before r.unit ≡ record { calls = calls; answer = Ok (r ∷ before) }
-unfolding ◌>>=◌
 legal-unit mode before r calls l =
-    sound-parts mode before r.unit l.elements (Ok (r.content, l.end)) l.sound l.closed l.derives
-    ∙ ap (λ (o : Outcome History). tells (unit_call r.unit.from (header_of r.unit) (length r.unit.body)) >>= λ _. o) (after-content before r.unit l.elements r.content l.end _ (met-content before r.unit r.content l.met))
-    ∙ ap (λ (w : List Call). let o : Outcome History = record { calls = unit_call r.unit.from (header_of r.unit) (length r.unit.body) ∷ (map (call_of (body_of r.unit)) l.elements ++ w); answer = Ok (r ∷ before) } in o) (append-nil (content_calls before r.unit r.content))
-    ∙ ap (λ (w : List Call). let o : Outcome History = record { calls = w; answer = Ok (r ∷ before) } in o) (sym l.calls_are)
+    bound (answers (emulation_checked r.unit.from r.unit.body)) _ [] tt _ (ap (λ (x : Result (Unit {0}) Stop). answers x) (sym (none-checked r.unit.from r.unit.body l.sound)))
+    (bound (course_outcome (body_of r.unit) (unit_course mode before r.unit)) _ calls r.content _ (runs-outcome (body_of r.unit) (unit_course mode before r.unit) calls (Ok r.content) l.runs) refl)
+    ∙ ap (λ c. outcome c (Ok (r ∷ before))) (append-nil calls)
 
-stop-unit : (mode : Mode) (before : History) (unit : NalUnit) (stop : Stop) (calls : List Call) → IsStop mode before unit stop calls → unit_outcome mode before unit ≡ record { calls = calls; answer = Err stop }
-unfolding ◌>>=◌
-stop-unit mode before unit stop calls (AtUnit rule bit (inl u) e n) =
-    by-parts mode before unit (Err (No (8 * (unit.from + u.0)) Emulation)) _ _ _ (sym (some-checked unit.from unit.body u.0 u.1)) refl refl refl
-    ∙ rw (e, n, u.2, u.3) refl
-stop-unit mode before unit stop calls (AtUnit rule bit (inr u) e n) =
-    by-parts mode before unit (Ok tt) (Err (No bit rule)) _ _ (sym (none-checked unit.from unit.body u.0)) (judged-unmet (header_demands (8 * unit.from) (header_of unit)) rule bit u.1) refl refl
+-- A unit at which the verdict falls comes to the calls up to there.
+stop-unit : (mode : Mode) (before : History) (unit : NalUnit) (stop : Stop) (calls : List Call) → IsStop mode before unit stop calls → unit_outcome mode before unit ≡ outcome calls (Err stop)
+unfolding unit_outcome
+stop-unit mode before unit stop calls (AtBytes place fault e n) =
+    bind-stop (answers (emulation_checked unit.from unit.body)) _ [] (No (8 * (unit.from + place)) Emulation) (ap (λ (x : Result (Unit {0}) Stop). answers x) (sym (some-checked unit.from unit.body place fault)))
     ∙ rw (e, n) refl
-stop-unit mode before unit stop calls (AtPictureEnd sound rule bit u e n) =
-    by-parts mode before unit (Ok tt) (Ok tt) (Err (No bit rule)) _ (sym (none-checked unit.from unit.body sound.emulation)) (judged-met (header_demands (8 * unit.from) (header_of unit)) sound.header) (judged-unmet (closing_at (nal_unit_type (header_of unit)) before) rule bit u) refl
-    ∙ rw (e, n) refl
-stop-unit mode before unit stop calls (AtElements sound closed es says n) = sound-parts mode before unit es (Err stop) sound closed says ∙ rw n refl
-stop-unit mode before unit stop calls (AtContent sound closed es found end says rule bit u e n) =
-    sound-parts mode before unit es (Ok (found, end)) sound closed says
-    ∙ ap (λ (o : Outcome History). tells (unit_call unit.from (header_of unit) (length unit.body)) >>= λ _. o) (after-content before unit es found end _ (unmet-content before unit found rule bit u))
-    ∙ rw (e, n, append-nil (map (call_of (body_of unit)) es)) refl
+stop-unit mode before unit stop calls (InCourse sound runs) =
+    bound (answers (emulation_checked unit.from unit.body)) _ [] tt _ (ap (λ (x : Result (Unit {0}) Stop). answers x) (sym (none-checked unit.from unit.body sound)))
+    (bind-stop (course_outcome (body_of unit) (unit_course mode before unit)) _ calls stop (runs-outcome (body_of unit) (unit_course mode before unit) calls (Err stop) runs))
 
 -- a unit is legal, or the verdict falls at it
 data Either (mode : Mode) (before : History) (unit : NalUnit) : Type 0 where
   Legal : (c : Content) (calls : List Call) → IsLegal mode before (record { unit = unit; content = c }) calls → Either mode before unit
   Fails : (stop : Stop) (calls : List Call) → IsStop mode before unit stop calls → Either mode before unit
 
-either : (mode : Mode) (before : History) (unit : NalUnit) → Either mode before unit
-either mode before unit = by (emulation_checked unit.from unit.body) (is-checked unit.from unit.body)
+either-unit : (mode : Mode) (before : History) (unit : NalUnit) → Either mode before unit
+either-unit mode before unit = by (emulation_checked unit.from unit.body) (is-checked unit.from unit.body)
   where
-    run_of : Run Content
-    run_of = run (content mode (nal_unit_type (header_of unit)) before unit) (body_of unit) 0
-
-    found : IsSound unit → AreMet (closing_at (nal_unit_type (header_of unit)) before) → (x : Content × ℕ) → Elements mode before unit run_of.elements (Ok x) → AreMet (content_demands before unit x.0) ⊎ ((rule : Rule) × (bit : ℕ) × IsFirstUnmet (content_demands before unit x.0) rule bit) → Either mode before unit
-    found sound closed x says (inl h) = Legal x.0 (told unit run_of.elements ++ content_calls before unit x.0) (record { sound = sound; closed = closed; elements = run_of.elements; end = x.1; derives = says; met = h; calls_are = refl })
-    found sound closed x says (inr h) = Fails (No h.1 h.0) (told unit run_of.elements) (AtContent sound closed run_of.elements x.0 x.1 says h.0 h.1 h.2 refl refl)
-
-    elements : IsSound unit → AreMet (closing_at (nal_unit_type (header_of unit)) before) → (a : Result (Content × ℕ) Stop) → run_of.answer ≡ a → Either mode before unit
-    elements sound closed (Ok x) e = found sound closed x (subst (λ a. Elements mode before unit run_of.elements a) e (run-says (content mode (nal_unit_type (header_of unit)) before unit) (body_of unit) 0)) (met-either (content_demands before unit x.0))
-    elements sound closed (Err stop) e = Fails stop (told unit run_of.elements) (AtElements sound closed run_of.elements (subst (λ a. Elements mode before unit run_of.elements a) e (run-says (content mode (nal_unit_type (header_of unit)) before unit) (body_of unit) 0)) refl)
-
-    closes : IsSound unit → AreMet (closing_at (nal_unit_type (header_of unit)) before) ⊎ ((rule : Rule) × (bit : ℕ) × IsFirstUnmet (closing_at (nal_unit_type (header_of unit)) before) rule bit) → Either mode before unit
-    closes sound (inl h) = elements sound h run_of.answer refl
-    closes sound (inr h) = Fails (No h.1 h.0) (told unit []) (AtPictureEnd sound h.0 h.1 h.2 refl refl)
-
-    header : ((place : ℕ) → IsFault unit.body place → ⊥) → AreMet (header_demands (8 * unit.from) (header_of unit)) ⊎ ((rule : Rule) × (bit : ℕ) × IsFirstUnmet (header_demands (8 * unit.from) (header_of unit)) rule bit) → Either mode before unit
-    header f (inl h) = closes (record { emulation = f; header = h }) (met-either (closing_at (nal_unit_type (header_of unit)) before))
-    header f (inr h) = Fails (No h.1 h.0) [] (AtUnit h.0 h.1 (inr (f, h.2)) refl refl)
+    course : IsSound unit → (calls : List Call) (a : Result Content Stop) → Runs (body_of unit) (unit_course mode before unit) calls a → Either mode before unit
+    course sound calls (Ok found) runs = Legal found calls (record { sound = sound; runs = runs })
+    course sound calls (Err stop) runs = Fails stop calls (InCourse sound runs)
 
     by : (r : Result (Unit {0}) Stop) → MatchResult r (λ _. (place : ℕ) → IsFault unit.body place → ⊥) (λ stop. (place : ℕ) × (stop ≡ No (8 * (unit.from + place)) Emulation) × IsFirstFault unit.body place) → Either mode before unit
-    by (Ok x) f = header f (met-either (header_demands (8 * unit.from) (header_of unit)))
-    by (Err stop) f = Fails stop [] (AtUnit Emulation (8 * (unit.from + f.0)) (inl (f.0, f.2, refl, refl)) f.1 refl)
+    by (Ok x) f = let r : SomeRun (body_of unit) (unit_course mode before unit) = some-run (body_of unit) (unit_course mode before unit) in course f r.calls r.answer r.runs
+    by (Err stop) f = Fails stop [] (AtBytes f.0 f.2 f.1 refl)
 
 legal-units : (mode : Mode) (reads : History) (units : List NalUnit) (tail : Tail) (end : ℕ) (calls : List Call) → AreLegal mode reads calls → units_outcome (judging mode) [] (in_order reads units) tail end ≡ with_calls calls (units_outcome (judging mode) reads units tail end)
 unfolding ◌>>=◌
@@ -211,13 +74,13 @@ legal-units mode (r ∷ before) units tail end calls l =
     ∙ ap (λ c. with_calls c (units_outcome (judging mode) (r ∷ before) units tail end)) (sym l.4)
 
 -- the end of the input
-met-end : (mode : Mode) (before : History) (bit : ℕ) → AreMet (end_demands mode before bit) → end_outcome mode before bit ≡ gives (summary_of before)
-unfolding end_outcome ◌>>=◌
-met-end mode before bit h = ap (λ r. answers r >>= λ _. gives (summary_of before)) (judged-met (end_demands mode before bit) h)
+met-end : (mode : Mode) (before : History) (bit : ℕ) (calls : List Call) → AreMet (end_steps mode before bit) calls → end_outcome mode before bit ≡ outcome calls (Ok (summary_of before))
+unfolding end_outcome
+met-end mode before bit calls h = bound (steps_outcome (end_steps mode before bit)) _ calls tt _ (met-is (end_steps mode before bit) calls h) refl ∙ ap (λ l. outcome l (Ok (summary_of before))) (append-nil calls)
 
-unmet-end : (mode : Mode) (before : History) (bit : ℕ) (rule : Rule) (at : ℕ) → IsFirstUnmet (end_demands mode before bit) rule at → end_outcome mode before bit ≡ answers (Err (No at rule))
-unfolding end_outcome ◌>>=◌
-unmet-end mode before bit rule at h = ap (λ r. answers r >>= λ _. gives (summary_of before)) (judged-unmet (end_demands mode before bit) rule at h)
+unmet-end : (mode : Mode) (before : History) (bit : ℕ) (calls : List Call) (stop : Stop) → IsFirstStop (end_steps mode before bit) calls stop → end_outcome mode before bit ≡ outcome calls (Err stop)
+unfolding end_outcome
+unmet-end mode before bit calls stop h = bind-stop (steps_outcome (end_steps mode before bit)) _ calls stop (stop-is (end_steps mode before bit) calls stop h)
 
 -- What the relation says is what comes of the stream.
 holds-comes : (mode : Mode) (bytes : List ℕ) (calls : List Call) (summary : Summary) → Holds mode bytes calls summary → Comes (judging mode) 0 [] bytes (record { calls = calls; answer = Ok summary })
@@ -226,9 +89,9 @@ holds-comes mode bytes calls summary h = record {
   tail = Zeros;
   splits = h.stream;
   is = sym (
-      legal-units mode h.units [] Zeros (0 + length bytes) calls h.legal
-      ∙ ap (with_calls calls) (at-length (length bytes) ∙ met-end mode h.units (8 * length bytes) h.end)
-      ∙ ap (λ (c : List Call). let o : Outcome Summary = record { calls = c; answer = Ok (summary_of h.units) } in o) (append-nil calls)
+      legal-units mode h.units [] Zeros (0 + length bytes) h.first h.legal
+      ∙ ap (with_calls h.first) (at-length (length bytes) ∙ met-end mode h.units (8 * length bytes) h.last h.end)
+      ∙ ap (λ (c : List Call). let o : Outcome Summary = record { calls = c; answer = Ok (summary_of h.units) } in o) (sym h.calls_are)
       ∙ ap (λ (w : Summary). let o : Outcome Summary = record { calls = calls; answer = Ok w } in o) (sym h.summary_is)
       );
 }
@@ -245,11 +108,10 @@ stop-behind mode before units tail end stop calls (AtTail e h n) =
     ap (λ us. units_outcome (judging mode) before us tail end) e
     ∙ ap (λ o. unless o (end_outcome mode before (8 * end))) h
     ∙ ap (λ (c : List Call). let o : Outcome Summary = record { calls = c; answer = Err stop } in o) (sym n)
-stop-behind mode before units tail end stop calls (AtEnd e t rule bit h s n) =
+stop-behind mode before units tail end stop calls (AtEnd e t h) =
     ap (λ us. units_outcome (judging mode) before us tail end) e
     ∙ ap (λ z. tail_outcome (judging mode) before z end) t
-    ∙ unmet-end mode before (8 * end) rule bit h
-    ∙ rw (s, n) refl
+    ∙ unmet-end mode before (8 * end) calls stop h
 
 stops-comes : (mode : Mode) (bytes : List ℕ) (calls : List Call) (stop : Stop) → StopsAt mode bytes calls stop → Comes (judging mode) 0 [] bytes (record { calls = calls; answer = Err stop })
 stops-comes mode bytes calls stop h = record {
@@ -272,15 +134,15 @@ verdict-comes mode bytes calls (Err stop) h = stops-comes mode bytes calls stop 
 
 -- all is legal, or the verdict falls somewhere
 data Among (mode : Mode) (units : List NalUnit) (tail : Tail) (end : ℕ) : Type 0 where
-  AllLegal : (reads : History) (calls : List Call) → units ≡ in_order reads [] → tail ≡ Zeros → AreLegal mode reads calls → AreMet (end_demands mode reads (8 * end)) → Among mode units tail end
+  AllLegal : (reads : History) (first last : List Call) → units ≡ in_order reads [] → tail ≡ Zeros → AreLegal mode reads first → AreMet (end_steps mode reads (8 * end)) last → Among mode units tail end
   Falls : (before : History) (rest : List NalUnit) (first last : List Call) (stop : Stop) → units ≡ in_order before rest → AreLegal mode before first → IsStopBehind mode before rest tail end stop last → Among mode units tail end
 
-among-end : (mode : Mode) (before : History) (earlier : List Call) (end : ℕ) → AreLegal mode before earlier → AreMet (end_demands mode before (8 * end)) ⊎ ((rule : Rule) × (bit : ℕ) × IsFirstUnmet (end_demands mode before (8 * end)) rule bit) → Among mode (in_order before []) Zeros end
-among-end mode before earlier end l (inl h) = AllLegal before earlier refl refl l h
-among-end mode before earlier end l (inr h) = Falls before [] earlier [] (No h.1 h.0) refl l (AtEnd refl refl h.0 h.1 h.2 refl refl)
+among-end : (mode : Mode) (before : History) (earlier : List Call) (end : ℕ) → AreLegal mode before earlier → stepping.Either (end_steps mode before (8 * end)) → Among mode (in_order before []) Zeros end
+among-end mode before earlier end l (inl h) = AllLegal before earlier h.0 refl refl l h.1
+among-end mode before earlier end l (inr h) = Falls before [] earlier h.0 h.1 refl l (AtEnd refl refl h.2)
 
 among-tail : (mode : Mode) (before : History) (earlier : List Call) (end : ℕ) → AreLegal mode before earlier → (tail : Tail) → Among mode (in_order before []) tail end
-among-tail mode before earlier end l Zeros = among-end mode before earlier end l (met-either (end_demands mode before (8 * end)))
+among-tail mode before earlier end l Zeros = among-end mode before earlier end l (either (end_steps mode before (8 * end)))
 among-tail mode before earlier end l (Stray place) = Falls before [] earlier [] _ refl l (AtTail refl refl refl)
 among-tail mode before earlier end l (Bare place) = Falls before [] earlier [] _ refl l (AtTail refl refl refl)
 among-tail mode before earlier end l (Long place) = Falls before [] earlier [] _ refl l (AtTail refl refl refl)
@@ -288,7 +150,7 @@ among-tail mode before earlier end l Cut = Falls before [] earlier [] _ refl l (
 
 among : (mode : Mode) (before : History) (earlier : List Call) (end : ℕ) → AreLegal mode before earlier → (units : List NalUnit) (tail : Tail) → Among mode (in_order before units) tail end
 among mode before earlier end l [] tail = among-tail mode before earlier end l tail
-among mode before earlier end l (unit ∷ units) tail = by (either mode before unit) (λ c calls h. among mode (record { unit = unit; content = c } ∷ before) (earlier ++ calls) end (earlier, calls, l, h, refl) units tail)
+among mode before earlier end l (unit ∷ units) tail = by (either-unit mode before unit) (λ c calls h. among mode (record { unit = unit; content = c } ∷ before) (earlier ++ calls) end (earlier, calls, l, h, refl) units tail)
   where
     by : Either mode before unit → ((c : Content) (calls : List Call) → IsLegal mode before (record { unit = unit; content = c }) calls → Among mode (in_order before (unit ∷ units)) tail end) → Among mode (in_order before (unit ∷ units)) tail end
     by (Fails stop calls h) next = Falls before (unit ∷ units) earlier calls stop refl l (AtNext unit units refl h)
@@ -301,10 +163,10 @@ pub record SomeVerdict (mode : Mode) (bytes : List ℕ) : Type 0 where
   pub verdict : Verdict mode bytes calls answer
 
 of-split : (mode : Mode) (bytes : List ℕ) (units : List NalUnit) (tail : Tail) → Splits 0 bytes units tail → Among mode units tail (length bytes) → SomeVerdict mode bytes
-of-split mode bytes units tail s (AllLegal reads calls e t l h) = record {
-  calls = calls;
+of-split mode bytes units tail s (AllLegal reads first last e t l h) = record {
+  calls = first ++ last;
   answer = Ok (summary_of reads);
-  verdict = record { units = reads; stream = subst (λ us. Splits 0 bytes us Zeros) e (subst (Splits 0 bytes units) t s); legal = l; end = h; summary_is = refl };
+  verdict = record { units = reads; stream = subst (λ us. Splits 0 bytes us Zeros) e (subst (Splits 0 bytes units) t s); first = first; last = last; legal = l; end = h; calls_are = refl; summary_is = refl };
 }
 of-split mode bytes units tail s (Falls before rest first last stop e l f) = record {
   calls = first ++ last;

@@ -10,16 +10,7 @@ pub record Demand : Type 0 where
   pub bit : ℕ
   pub met : Bool
 
-abbrev pub AreMet : List Demand → Type 0
-AreMet [] = Unit {0}
-AreMet (d ∷ ds) = IsTrue d.met × AreMet ds
-
--- All before it are met, and it is not.
-abbrev pub IsFirstUnmet : List Demand → Rule → ℕ → Type 0
-IsFirstUnmet [] rule bit = ⊥
-IsFirstUnmet (d ∷ ds) rule bit = (IsFalse d.met × (rule ≡ d.rule) × (bit ≡ d.bit)) ⊎ (IsTrue d.met × IsFirstUnmet ds rule bit)
-
--- the same as an answer
+-- The first of these rules that is not met, as an answer.
 abbrev pub judged : List Demand → Result (Unit {0}) Stop
 judged [] = Ok tt
 judged (d ∷ ds) = if d.met then judged ds else Err (No d.bit d.rule)

@@ -1,4 +1,4 @@
--- What a session was fed.
+-- What a session was fed. A working form.
 use Rattle.std.specs.Prelude.{◌≡◌, ℕ, List, [], ◌++◌, None, Option, OnOk, Result}
 use Rattle.h264_base.specs.declared.mode.Mode.{Mode}
 use Rattle.h264_base.specs.declared.stop.Stop.{Stop}
@@ -13,7 +13,7 @@ use Rattle.h264_verify.specs.Content.{Content}
 use Rattle.h264_verify.specs.History.{History}
 use Rattle.h264_verify.specs.Keeping.{Keeps}
 use Rattle.h264_verify.specs.Session.{Standing, ToCome, Goes, Fed}
-use Rattle.h264_verify.specs.UnitRules.{judging, joined, unit_outcome}
+use Rattle.h264_verify.specs.UnitOutcome.{judging, joined, unit_outcome}
 use Rattle.h264_verify.specs.Progress.{Progress}
 
 -- where a session stands behind these units

@@ -24,7 +24,7 @@ with_pair maps (Some pair) = with_active maps pair
 abbrev pub maps_with : Maps → Content → Maps
 maps_with maps (contents.OfSps set) = with_sps maps set
 maps_with maps (contents.OfPps set) = with_pps maps set
-maps_with maps (contents.OfSlice h) = with_pair maps (pair_of maps h.pic_parameter_set_id.value)
+maps_with maps (contents.OfSlice h macroblocks) = with_pair maps (pair_of maps h.pic_parameter_set_id.value)
 maps_with maps contents.Passed = maps
 
 -- the parameter sets by id: each id names the last set that had it; and the pair that the last slice named

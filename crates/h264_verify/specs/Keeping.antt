@@ -1,74 +1,84 @@
--- What is kept of the units so far.
-use Rattle.std.specs.Prelude.{◌≡◌, List, [], ◌∷◌, length, Option, Some, None, Bool, true, false, if◌then◌else◌}
+-- What is kept of the units so far. A working form: it ties values of the program to the list of units.
+use Rattle.std.specs.Prelude.{◌≡◌, ℕ, not, ◌||◌, List, [], ◌∷◌, ◌++◌, map, length, Option, Some, None, Bool, true, false, if◌then◌else◌}
 use Rattle.h264_bits.specs.declared.element.Found.{Found}
 use Rattle.h264_marking.specs.declared.frame.Numbering.{Numbering}
 use Rattle.h264_marking.specs.Frames.{References}
+use Rattle.h264_poc.specs.declared.picture.Picture.{Picture}
 use Rattle.h264_poc.specs.Counts.{Keeps as KeepsCounts}
-use Rattle.h264_verify.specs.declared.judge.State.{State}
+use Rattle.h264_pps.specs.declared.Pps.{Pps}
+use Rattle.h264_sps.specs.declared.sps.Sps.{Sps}
 use Rattle.h264_header.specs.declared.header.Header.{Header}
+use Rattle.h264_header.specs.declared.header.Marking.{Marking}
 use Rattle.h264_header.specs.declared.header.PictureElements.{PictureElements}
+use Rattle.h264_header.specs.Picture.{begins_picture, picture_elements}
+use Rattle.h264_sets.specs.Sets.{Maps}
+use Rattle.h264_verify.specs.declared.judge.State.{State}
 use Rattle.h264_verify.specs.declared.slices.Slices.{Slices}
 use Rattle.h264_verify.specs.declared.picture.OpenPicture.{OpenPicture}
 use Rattle.h264_verify.specs.declared.picture.Types.{Types}
-use Rattle.h264_header.specs.declared.header.Marking.{Marking}
+use Rattle.h264_base.specs.declared.rule.Rule.TheVariants.{SliceType, NoSet}
+use Rattle.h264_verify.specs.Demands.{Demand}
 use Rattle.h264_verify.specs.History.{History, maps_of}
-use Rattle.h264_verify.specs.Pictures.{CodedPicture, open_slices, last_of, coded_of, pictures_of, numbering_of, prev_ref_of, held_after, held_in}
-use Rattle.h264_verify.specs.Slices.{types_of, is_idr_due, newest_idr_of, newest_count}
+use Rattle.h264_verify.specs.Pictures.{CodedSlice, CodedPicture, last_slice, goes_on, open_of, joined_to, runs_of, counted, is_idr, is_reference, picture_of, numbering_of, entered, prev_ref_frame_num_of, held_after, held_in}
+use Rattle.h264_verify.specs.Slices.{is_i, has_i, has_p, states_type, is_idr_due, newest_idr_of, newest_count, first_slice_rules, later_slice_rules, idr_demand, set_demand, type_demand, same_type_demand, idr_num_demand, gap_demands, id_demand, count_demand, qp_demand, list_of, list_demand, marking_demand}
 
--- the elements of the last slice of a picture that may go on
-abbrev pub last_by : Option OpenPicture → Option PictureElements
-last_by None = None
-last_by (Some o) = Some o.last
+-- which types these slices have, and whether one says that all have its type
+abbrev pub types_of : List CodedSlice → Types
+types_of slices = record { i = has_i slices; p = has_p slices; stated = states_type slices }
+
+-- what is kept of this picture, to which more slices may come
+pub record HoldsPicture (p : CodedPicture) (o : OpenPicture) : Type 0 where
+  pub last : o.last ≡ picture_elements (last_slice p).header
+  pub types : o.types ≡ types_of (p.later ++ p.first ∷ [])
+  pub marking : o.marking ≡ p.first.header.marking
+  pub numbering : o.numbering ≡ numbering_of p.first.sps p.first.header
+
+abbrev pub HoldsOpen : Option CodedPicture → Option OpenPicture → Type 0
+HoldsOpen None None = Unit {0}
+HoldsOpen None (Some o) = ⊥
+HoldsOpen (Some p) None = ⊥
+HoldsOpen (Some p) (Some o) = HoldsPicture p o
+
+-- whether a slice begins a picture, by what is kept
+abbrev pub begins_by : Option OpenPicture → Header → Bool
+begins_by None h = true
+begins_by (Some o) h = begins_picture o.last (picture_elements h)
+
+abbrev pub marking_by : Option OpenPicture → Option (Found Marking)
+marking_by None = None
+marking_by (Some o) = o.marking
 
 abbrev pub types_by : Option OpenPicture → Types
 types_by None = types_of []
 types_by (Some o) = o.types
 
--- the marking that the first slice gives
-abbrev pub marking_by : Option OpenPicture → Option (Found Marking)
-marking_by None = None
-marking_by (Some o) = o.marking
-
--- the marking that the first slice of the newest picture gives
-abbrev pub first_marking : List CodedPicture → Option (Option (Found Marking))
-first_marking [] = None
-first_marking (p ∷ pictures) = Some p.first.marking
-
-abbrev pub newest_numbering : List CodedPicture → Option Numbering
-newest_numbering [] = None
-newest_numbering (p ∷ pictures) = Some (numbering_of p.sps p.first)
-
--- the picture to which these slices belong is the newest of these
-pub record HoldsPicture (slices : List Header) (pictures : List CodedPicture) (o : OpenPicture) : Type 0 where
-  pub last : last_of slices ≡ Some o.last
-  pub types : o.types ≡ types_of slices
-  pub marking : first_marking pictures ≡ Some o.marking
-  pub numbering : newest_numbering pictures ≡ Some o.numbering
-
-abbrev pub HoldsSlices : List Header → List CodedPicture → Option OpenPicture → Type 0
-HoldsSlices slices pictures None = slices ≡ []
-HoldsSlices slices pictures (Some o) = HoldsPicture slices pictures o
+-- where one says so, slices of these types and this one have one type
+abbrev pub agrees_by : Types → Header → Bool
+agrees_by types h = not (h.same_type_in_picture || types.stated) || not (if is_i h.kind.value then types.p else types.i)
 
 -- nothing is left of a picture that has ended
 abbrev pub IsLeft : Bool → Option OpenPicture → Option OpenPicture → Type 0
 IsLeft true old new = new ≡ None
 IsLeft false old new = new ≡ old
 
--- what is held: while a picture may go on, and once it has ended
-abbrev pub held_by : Bool → List Header → List CodedPicture → References
-held_by ended [] pictures = held_after pictures
-held_by ended (h ∷ slices) pictures = if ended then held_after pictures else held_in pictures
+-- what is held: while the newest of these pictures may go on, and once it has ended
+abbrev pub held_by : Bool → Bool → List CodedPicture → References
+held_by ended on pictures = if on then (if ended then held_after pictures else held_in pictures) else held_after pictures
 
--- what is kept; the picture that may go on has ended, or not
+-- What is kept of these pictures: more slices may come to the newest, or not; it has ended, or not.
+pub record KeepsPictures (on ended : Bool) (pictures : List CodedPicture) (slices : Slices) : Type 0 where
+  pub picture : HoldsOpen (open_of on pictures) slices.picture
+  pub newest_idr : slices.newest_idr ≡ newest_idr_of pictures
+  pub counts : KeepsCounts (map counted pictures) slices.counts
+  pub count : slices.count ≡ newest_count (map counted pictures)
+  pub pictures_are : slices.pictures ≡ length pictures
+  pub prev_ref : slices.prev_ref_frame_num ≡ prev_ref_frame_num_of pictures
+  pub held : slices.held ≡ held_by ended on pictures
+
+-- what is kept of the slices of these units
 pub record KeepsSlices (before : History) (ended : Bool) (slices : Slices) : Type 0 where
-  pub picture : HoldsSlices (open_slices before) (coded_of before) slices.picture
   pub due : slices.due ≡ is_idr_due before
-  pub newest_idr : slices.newest_idr ≡ newest_idr_of (coded_of before)
-  pub counts : KeepsCounts (pictures_of before) slices.counts
-  pub count : slices.count ≡ newest_count (pictures_of before)
-  pub pictures : slices.pictures ≡ length (coded_of before)
-  pub prev_ref : slices.prev_ref_frame_num ≡ prev_ref_of (coded_of before)
-  pub held : slices.held ≡ held_by ended (open_slices before) (coded_of before)
+  pub kept : KeepsPictures (goes_on before) ended (runs_of before) slices
 
 pub record KeepsWithin (before : History) (ended : Bool) (state : State) : Type 0 where
   pub units : state.units ≡ length before
@@ -77,3 +87,55 @@ pub record KeepsWithin (before : History) (ended : Bool) (state : State) : Type 
 
 abbrev pub Keeps : History → State → Type 0
 Keeps before state = KeepsWithin before false state
+
+-- The rules of a picture's first slice from its type on, by what is kept of the pictures before it.
+abbrev pub first_by : Slices → List Picture → Pps → Sps → Header → ℕ → List Demand
+first_by slices pictures pps sps h bit =
+    type_demand sps h
+    ∷ idr_num_demand h
+    ∷ gap_demands (is_idr h) (is_reference h) sps.gaps_in_frame_num_value_allowed_flag h.frame_num.bit slices.prev_ref_frame_num (numbering_of sps h) slices.held
+    ++ id_demand slices.newest_idr h
+    ∷ count_demand (picture_of sps h ∷ pictures) bit
+    ∷ qp_demand pps h
+    ∷ list_demand (list_of h.kind.value (numbering_of sps h) (entered (is_idr h) slices.prev_ref_frame_num (numbering_of sps h) slices.held))
+    ∷ []
+
+-- where one says so, the slices of the picture that may go on have one type
+abbrev pub same_type_by : Option OpenPicture → Header → Demand
+same_type_by o h = record { rule = SliceType; bit = h.kind.bit; met = agrees_by (types_by o) h }
+
+-- The rules of a later slice from its type on, by what is kept of its picture.
+abbrev pub later_by : Slices → Pps → Sps → Header → List Demand
+later_by slices pps sps h =
+    type_demand sps h
+    ∷ same_type_by slices.picture h
+    ∷ idr_num_demand h
+    ∷ qp_demand pps h
+    ∷ list_demand (list_of h.kind.value (numbering_of sps h) slices.held)
+    ∷ marking_demand (marking_by slices.picture) h
+    ∷ []
+
+-- What is kept once the rules of a slice are met, before it is entered: the open picture, the newest idr_pic_id and the number of
+-- pictures are those before it; counts and held frames are those of the pictures with it.
+pub record Entered (before : History) (begins : Bool) (slice : CodedSlice) (slices : Slices) : Type 0 where
+  pub picture : HoldsOpen (open_of (goes_on before) (runs_of before)) slices.picture
+  pub newest_idr : slices.newest_idr ≡ newest_idr_of (runs_of before)
+  pub pictures_are : slices.pictures ≡ length (runs_of before)
+  pub counts : KeepsCounts (map counted (joined_to begins slice (runs_of before))) slices.counts
+  pub count : slices.count ≡ newest_count (map counted (joined_to begins slice (runs_of before)))
+  pub prev_ref : slices.prev_ref_frame_num ≡ prev_ref_frame_num_of (joined_to begins slice (runs_of before))
+  pub held : slices.held ≡ held_in (joined_to begins slice (runs_of before))
+
+-- The rules on where a slice stands and with which sets, where its sets are there.
+abbrev pub standing_by : Bool → Sps → Bool → Maps → ℕ → Header → List Demand
+standing_by true sps due maps bit h = idr_demand due bit h ∷ set_demand (is_idr h) maps sps h ∷ []
+standing_by false sps due maps bit h = set_demand false maps sps h ∷ []
+
+abbrev pub standing_demands : Bool → Option (Pps × Sps) → Bool → Maps → ℕ → Header → List Demand
+standing_demands begins None due maps bit h = record { rule = NoSet; bit = h.pic_parameter_set_id.bit; met = false } ∷ []
+standing_demands begins (Some sets) due maps bit h = standing_by begins sets.1 due maps bit h
+
+-- The rules behind these, by the pictures.
+abbrev pub slice_rules : Bool → List CodedPicture → CodedSlice → List Demand
+slice_rules true pictures s = first_slice_rules pictures s
+slice_rules false pictures s = later_slice_rules pictures s

@@ -4,12 +4,13 @@ pub mod Session
 pub mod Demands
 pub mod UnitHeader
 pub mod Content
+pub mod Steps
 pub mod History
 pub mod Pictures
 pub mod Slices
 pub mod Keeping
-pub mod Entering
-pub mod UnitRules
+pub mod Units
+pub mod UnitOutcome
 pub mod Progress
 pub mod Feeding
 pub mod Verdict

@@ -1,7 +1,7 @@
--- The pictures so far, and the reference frames that they leave (7.4.1.2.4, 7.4.3, 8.2.5).
+-- The pictures so far, and the reference frames that they leave (7.4.1.2.4, 7.4.3, 8.2.5). To be read beside the standard.
 use Rattle.std.specs.Prelude.{take, ℕ, zero, suc, ◌+◌, ◌-◌, ◌%◌, ◌^◌, nat_le, ◌&&◌, ◌||◌, ◌==◌, not, Bool, true, false, Option, Some, None, unwrap_or, Result, Ok, Err, List, [], ◌∷◌, map, length, if◌then◌else◌}
 use Rattle.std.specs.List.{list_any}
-use Rattle.std.specs.Option.{is_some, option_and_then}
+use Rattle.std.specs.Option.{is_some, option_and_then, option_map}
 use Rattle.std.specs.Result.{result_unwrap_or}
 use Rattle.h264_base.specs.declared.rule.Rule.TheVariants.{MarkCommand}
 use Rattle.h264_bits.specs.declared.element.Found.{Found}
@@ -25,7 +25,9 @@ use Rattle.h264_marking.specs.declared.frame.Numbering.{Numbering}
 use Rattle.h264_marking.specs.Frames.{References}
 use Rattle.h264_marking.specs.Window.{filled}
 use Rattle.h264_marking.specs.Held.{no_references, marked}
-use Rattle.h264_verify.specs.Content.{Content}
+use Rattle.h264_units.specs.Stream.{NalUnit}
+use Rattle.h264_sets.specs.Sets.{Maps}
+use Rattle.h264_verify.specs.Content.{Content, Macroblock}
 use Rattle.h264_verify.specs.Content as contents
 use Rattle.h264_verify.specs.Demands.{Demand}
 use Rattle.h264_verify.specs.UnitHeader.{header_of, nal_unit_type}
@@ -35,34 +37,81 @@ use Rattle.h264_verify.specs.History.{History, maps_of}
 abbrev pub ends_picture : ℕ → Bool
 ends_picture kind = nat_le 6 kind && nat_le kind 11
 
--- the elements of the last of these slices by which the next one begins a picture
-abbrev pub last_of : List Header → Option PictureElements
-last_of [] = None
-last_of (last ∷ slices) = Some (picture_elements last)
+-- A slice: the unit in which it stands, its header and its macroblocks, and the parameter sets that it names.
+pub record CodedSlice : Type 0 where
+  pub unit : NalUnit
+  pub header : Header
+  pub macroblocks : List Macroblock
+  pub pps : Pps
+  pub sps : Sps
 
--- The slice of this header is the first of a picture, where the last slice of a picture that may go on has these elements (7.4.1.2.4).
-abbrev pub begins_after : Option PictureElements → Header → Bool
-begins_after None h = true
-begins_after (Some last) h = begins_picture last (picture_elements h)
+-- A picture: its first slice, and the others, the last one first.
+pub record CodedPicture : Type 0 where
+  pub first : CodedSlice
+  pub later : List CodedSlice
 
--- the slices of a picture that may go on, the last one first, where this content comes behind these
-abbrev pub slices_behind : Content → ℕ → List Header → List Header
-slices_behind (contents.OfSlice h) kind slices = if begins_after (last_of slices) h then h ∷ [] else h ∷ slices
-slices_behind (contents.OfSps set) kind slices = if ends_picture kind then [] else slices
-slices_behind (contents.OfPps set) kind slices = if ends_picture kind then [] else slices
-slices_behind contents.Passed kind slices = if ends_picture kind then [] else slices
+-- the last of these slices, the last one first
+abbrev pub last_in : CodedSlice → List CodedSlice → CodedSlice
+last_in first [] = first
+last_in first (slice ∷ later) = slice
 
--- The slices of the picture that may go on behind these units.
-abbrev pub open_slices : History → List Header
-open_slices [] = []
-open_slices (r ∷ before) = slices_behind r.content (nal_unit_type (header_of r.unit)) (open_slices before)
-
-abbrev pub begins_at : History → Header → Bool
-begins_at before h = begins_after (last_of (open_slices before)) h
+abbrev pub last_slice : CodedPicture → CodedSlice
+last_slice p = last_in p.first p.later
 
 -- the parameter sets that a slice names
 abbrev pub sets_at : History → Header → Option (Pps × Sps)
 sets_at before h = sets_of (maps_of before) h.pic_parameter_set_id.value
+
+abbrev pub with_sets : NalUnit → Header → List Macroblock → Pps × Sps → CodedSlice
+with_sets unit h macroblocks sets = record { unit = unit; header = h; macroblocks = macroblocks; pps = sets.0; sps = sets.1 }
+
+-- the slice that stands in a unit, if it is one
+abbrev pub slice_in : Maps → NalUnit → Content → Option CodedSlice
+slice_in maps unit (contents.OfSps set) = None
+slice_in maps unit (contents.OfPps set) = None
+slice_in maps unit (contents.OfSlice h macroblocks) = option_map (with_sets unit h macroblocks) (sets_of maps h.pic_parameter_set_id.value)
+slice_in maps unit contents.Passed = None
+
+-- whether more slices may come to the newest picture behind this unit
+abbrev pub goes_on_behind : Content → ℕ → Bool → Bool
+goes_on_behind (contents.OfSps set) kind on = not (ends_picture kind) && on
+goes_on_behind (contents.OfPps set) kind on = not (ends_picture kind) && on
+goes_on_behind (contents.OfSlice h macroblocks) kind on = true
+goes_on_behind contents.Passed kind on = not (ends_picture kind) && on
+
+-- There is a slice behind which no unit ended its picture.
+abbrev pub goes_on : History → Bool
+goes_on [] = false
+goes_on (r ∷ before) = goes_on_behind r.content (nal_unit_type (header_of r.unit)) (goes_on before)
+
+-- the newest of these pictures, if more slices may come to it
+abbrev pub open_of : Bool → List CodedPicture → Option CodedPicture
+open_of on [] = None
+open_of on (p ∷ pictures) = if on then Some p else None
+
+-- The slice of this header is the first of a picture, where this one may go on (7.4.1.2.4).
+abbrev pub begins_after : Option CodedPicture → Header → Bool
+begins_after None h = true
+begins_after (Some p) h = begins_picture (picture_elements (last_slice p).header) (picture_elements h)
+
+-- a slice begins a picture, or belongs to the newest
+abbrev pub joined_to : Bool → CodedSlice → List CodedPicture → List CodedPicture
+joined_to true slice pictures = record { first = slice; later = [] } ∷ pictures
+joined_to false slice [] = []
+joined_to false slice (p ∷ pictures) = record p { later = slice ∷ p.later } ∷ pictures
+
+abbrev pub joined_by : Option CodedSlice → Bool → List CodedPicture → List CodedPicture
+joined_by None on pictures = pictures
+joined_by (Some slice) on pictures = joined_to (begins_after (open_of on pictures) slice.header) slice pictures
+
+-- The slices of these units, cut into pictures; the newest stands first (7.4.1.2.4).
+abbrev pub runs_of : History → List CodedPicture
+runs_of [] = []
+runs_of (r ∷ before) = joined_by (slice_in (maps_of before) r.unit r.content) (goes_on before) (runs_of before)
+
+-- whether a slice begins a picture behind these units
+abbrev pub begins_at : History → Header → Bool
+begins_at before h = begins_after (open_of (goes_on before) (runs_of before)) h
 
 abbrev pub is_idr : Header → Bool
 is_idr h = is_some h.idr_pic_id
@@ -79,30 +128,6 @@ resets_by (marking.Adaptive operations) = list_any (λ o. number_of o.operation 
 abbrev pub resets : Option (Found Marking) → Bool
 resets None = false
 resets (Some found) = resets_by found.value
-
--- A picture: the header of its first slice, and the sequence parameter set that it names.
-pub record CodedPicture : Type 0 where
-  pub first : Header
-  pub sps : Sps
-
-abbrev pub coded_by : Option (Pps × Sps) → Header → List CodedPicture → List CodedPicture
-coded_by None h pictures = pictures
-coded_by (Some sets) h pictures = record { first = h; sps = sets.1 } ∷ pictures
-
--- the pictures with this slice's, the newest first
-abbrev pub coded_with : Bool → Option (Pps × Sps) → Header → List CodedPicture → List CodedPicture
-coded_with begins sets h pictures = if begins then coded_by sets h pictures else pictures
-
-abbrev pub coded_behind : Content → History → List CodedPicture → List CodedPicture
-coded_behind (contents.OfSlice h) before pictures = coded_with (begins_at before h) (sets_at before h) h pictures
-coded_behind (contents.OfSps set) before pictures = pictures
-coded_behind (contents.OfPps set) before pictures = pictures
-coded_behind contents.Passed before pictures = pictures
-
--- The pictures that have begun, the newest first.
-abbrev pub coded_of : History → List CodedPicture
-coded_of [] = []
-coded_of (r ∷ before) = coded_behind r.content before (coded_of before)
 
 -- what a picture order count comes from (8.2.1)
 abbrev pub order_of : CountType → PicOrderCnt → Order
@@ -127,10 +152,10 @@ picture_of sps h = record {
 }
 
 abbrev pub counted : CodedPicture → Picture
-counted p = picture_of p.sps p.first
+counted p = picture_of p.first.sps p.first.header
 
 abbrev pub pictures_of : History → List Picture
-pictures_of before = map counted (coded_of before)
+pictures_of before = map counted (runs_of before)
 
 -- what the numbers of frames go by in a slice
 abbrev pub numbering_of : Sps → Header → Numbering
@@ -145,9 +170,9 @@ numbers_from (suc n) number max_frame_num = number ∷ numbers_from n ((number +
 abbrev pub gap_before : Bool → ℕ → Numbering → ℕ
 gap_before idr prev n = if idr || n.frame_num == prev then 0 else (n.frame_num + n.max_frame_num - (prev + 1)) % n.max_frame_num
 
--- The numbers that are missing before a picture, behind PrevRefFrameNum (7.4.3).
-abbrev pub missing : Bool → ℕ → Numbering → List ℕ
-missing idr prev n = numbers_from (gap_before idr prev n) ((prev + 1) % n.max_frame_num) n.max_frame_num
+-- The values of UnusedShortTermFrameNum before a picture: the numbers behind PrevRefFrameNum that are missing (7.4.3).
+abbrev pub unused_short_term_frame_nums : Bool → ℕ → Numbering → List ℕ
+unused_short_term_frame_nums idr prev n = numbers_from (gap_before idr prev n) ((prev + 1) % n.max_frame_num) n.max_frame_num
 
 abbrev pub last_or : ℕ → List ℕ → ℕ
 last_or prev [] = prev
@@ -155,15 +180,15 @@ last_or prev (n ∷ ns) = last_or n ns
 
 -- PrevRefFrameNum behind a picture: its frame_num, or 0 after operation 5, where it is a reference; else that of the last missing
 -- frame, where there was one.
-abbrev pub prev_ref_behind : Bool → Bool → Bool → Numbering → ℕ → ℕ
-prev_ref_behind idr reference resets n prev = if reference then (if resets then 0 else n.frame_num) else last_or prev (missing idr prev n)
+abbrev pub prev_ref_frame_num_behind : Bool → Bool → Bool → Numbering → ℕ → ℕ
+prev_ref_frame_num_behind idr reference resets n prev = if reference then (if resets then 0 else n.frame_num) else last_or prev (unused_short_term_frame_nums idr prev n)
 
-abbrev pub prev_ref_by : CodedPicture → ℕ → ℕ
-prev_ref_by p prev = prev_ref_behind (is_idr p.first) (is_reference p.first) (resets p.first.marking) (numbering_of p.sps p.first) prev
+abbrev pub prev_ref_frame_num_by : CodedPicture → ℕ → ℕ
+prev_ref_frame_num_by p prev = prev_ref_frame_num_behind (is_idr p.first.header) (is_reference p.first.header) (resets p.first.header.marking) (numbering_of p.first.sps p.first.header) prev
 
-abbrev pub prev_ref_of : List CodedPicture → ℕ
-prev_ref_of [] = 0
-prev_ref_of (p ∷ ps) = prev_ref_by p (prev_ref_of ps)
+abbrev pub prev_ref_frame_num_of : List CodedPicture → ℕ
+prev_ref_frame_num_of [] = 0
+prev_ref_frame_num_of (p ∷ ps) = prev_ref_frame_num_by p (prev_ref_frame_num_of ps)
 
 -- the frames of these missing numbers, one after another
 abbrev pub all_filled : Numbering → List ℕ → References → Option References
@@ -172,10 +197,10 @@ all_filled n (number ∷ numbers) refs = option_and_then (all_filled n numbers) 
 
 -- what is held once the gap before a picture is filled
 abbrev pub entered : Bool → ℕ → Numbering → References → References
-entered idr prev n refs = unwrap_or (all_filled n (missing idr prev n) refs) refs
+entered idr prev n refs = unwrap_or (all_filled n (unused_short_term_frame_nums idr prev n) refs) refs
 
 abbrev pub entered_by : CodedPicture → ℕ → References → References
-entered_by p prev refs = entered (is_idr p.first) prev (numbering_of p.sps p.first) refs
+entered_by p prev refs = entered (is_idr p.first.header) prev (numbering_of p.first.sps p.first.header) refs
 
 -- the end of a picture, which has this number: what is held then, or the bit of what cannot be met
 abbrev pub ended : Option (Found Marking) → Numbering → ℕ → References → Result References ℕ
@@ -183,7 +208,7 @@ ended None n number refs = Ok refs
 ended (Some found) n number refs = marked n number found.bit found.value refs
 
 abbrev pub ended_by : CodedPicture → ℕ → References → Result References ℕ
-ended_by p number refs = ended p.first.marking (numbering_of p.sps p.first) number refs
+ended_by p number refs = ended p.first.header.marking (numbering_of p.first.sps p.first.header) number refs
 
 -- what is held once it has ended
 abbrev pub held_behind : CodedPicture → ℕ → References → References
@@ -192,12 +217,12 @@ held_behind p number refs = result_unwrap_or (ended_by p number refs) refs
 -- What is held once all these pictures have ended; the newest stands first, and the pictures are numbered in decoding order.
 abbrev pub held_after : List CodedPicture → References
 held_after [] = no_references
-held_after (p ∷ ps) = held_behind p (length ps) (entered_by p (prev_ref_of ps) (held_after ps))
+held_after (p ∷ ps) = held_behind p (length ps) (entered_by p (prev_ref_frame_num_of ps) (held_after ps))
 
 -- What is held while the newest is decoded.
 abbrev pub held_in : List CodedPicture → References
 held_in [] = no_references
-held_in (p ∷ ps) = entered_by p (prev_ref_of ps) (held_after ps)
+held_in (p ∷ ps) = entered_by p (prev_ref_frame_num_of ps) (held_after ps)
 
 -- the bit of what cannot be met, if there is such a thing
 abbrev pub bit_of : {A : Type 0} → Result A ℕ → ℕ
@@ -216,13 +241,9 @@ abbrev pub end_of_picture : List CodedPicture → List Demand
 end_of_picture [] = []
 end_of_picture (p ∷ ps) = mark_demand (ended_by p (length ps) (held_in (p ∷ ps))) ∷ []
 
-abbrev pub end_if_any : List Header → List CodedPicture → List Demand
-end_if_any [] pictures = []
-end_if_any (h ∷ slices) pictures = end_of_picture pictures
-
 -- The rules at the end of the picture that may go on behind these units, if there is one.
 abbrev pub closing_demands : History → List Demand
-closing_demands before = end_if_any (open_slices before) (coded_of before)
+closing_demands before = if goes_on before then end_of_picture (runs_of before) else []
 
 -- those before the content of a unit of this type
 abbrev pub closing_at : ℕ → History → List Demand

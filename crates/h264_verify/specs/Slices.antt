@@ -1,4 +1,4 @@
--- The rules that a slice meets beside its own syntax (7.4.1.2, 7.4.3, 8.2.1, 8.2.4).
+-- The rules that a slice meets beside its own syntax (7.4.1.2, 7.4.3, 8.2.1, 8.2.4). To be read beside the standard.
 use Rattle.std.specs.Prelude.{ℕ, ◌*◌, ◌==◌, ◌&&◌, ◌||◌, not, Bool, true, false, Option, Some, None, Result, Ok, List, [], ◌∷◌, ◌++◌, map, ℤ, pos, ◌+ℤ◌, int_le, if◌then◌else◌}
 use Rattle.std.specs.Bool.{beq}
 use Rattle.std.specs.Int.{int_min}
@@ -31,11 +31,12 @@ use Rattle.h264_lists.specs.declared.slot.RefSlot.{RefSlot}
 use Rattle.h264_lists.specs.Built.{built}
 use Rattle.h264_verify.specs.Content.{Content}
 use Rattle.h264_verify.specs.Content as contents
-use Rattle.h264_verify.specs.declared.picture.Types.{Types}
+use Rattle.h264_verify.specs.Steps.{Step, needs}
+use Rattle.h264_verify.specs.Steps as step
 use Rattle.h264_verify.specs.Demands.{Demand}
 use Rattle.h264_verify.specs.UnitHeader.{header_of, nal_unit_type}
 use Rattle.h264_verify.specs.History.{History, maps_of}
-use Rattle.h264_verify.specs.Pictures.{CodedPicture, open_slices, begins_at, sets_at, is_idr, is_reference, coded_of, coded_with, coded_behind, picture_of, numbering_of, gap_before, missing, all_filled, entered, prev_ref_of, held_after, held_in, bit_of, is_met, counted, closing_demands}
+use Rattle.h264_verify.specs.Pictures.{CodedSlice, CodedPicture, sets_at, with_sets, goes_on, joined_to, runs_of, begins_at, is_idr, is_reference, picture_of, numbering_of, gap_before, unused_short_term_frame_nums, all_filled, entered, prev_ref_frame_num_of, held_after, held_in, bit_of, is_met, counted, closing_demands}
 
 abbrev pub is_i : SliceKind → Bool
 is_i kinds.I = true
@@ -57,7 +58,7 @@ idr_id (Some found) = Some found.value
 
 abbrev pub newest_idr_of : List CodedPicture → Option ℕ
 newest_idr_of [] = None
-newest_idr_of (p ∷ pictures) = idr_id p.first.idr_pic_id
+newest_idr_of (p ∷ pictures) = idr_id p.first.header.idr_pic_id
 
 -- two operations with the same operands
 abbrev pub same_operations : List MarkingOperation → List MarkingOperation → Bool
@@ -87,7 +88,7 @@ same_marking (Some a) (Some b) = same_values a.value b.value
 -- the marking of the newest picture, which its first slice gives
 abbrev pub newest_marking : List CodedPicture → Option (Found Marking)
 newest_marking [] = None
-newest_marking (p ∷ pictures) = p.first.marking
+newest_marking (p ∷ pictures) = p.first.header.marking
 
 -- the bit of an element that may not be there
 abbrev pub bit_of_id : Option (Found ℕ) → ℕ
@@ -110,7 +111,7 @@ is_qp init delta = int_le (pos 0) ((pos 26 +ℤ init) +ℤ delta) && int_le ((po
 
 -- An IDR picture is due at the beginning, and behind an end of sequence or of stream (7.4.1.2.1).
 abbrev pub due_behind : Content → ℕ → Bool → Bool
-due_behind (contents.OfSlice h) kind due = false
+due_behind (contents.OfSlice h macroblocks) kind due = false
 due_behind (contents.OfSps set) kind due = (kind == 10 || kind == 11) || due
 due_behind (contents.OfPps set) kind due = (kind == 10 || kind == 11) || due
 due_behind contents.Passed kind due = (kind == 10 || kind == 11) || due
@@ -128,101 +129,119 @@ has_content sps (Some pair) = eq_sps.ghosts.eq pair.sps sps
 abbrev pub is_active : Maps → Sps → Bool
 is_active maps sps = has_content sps maps.active
 
--- An IDR picture comes where one is due; only a picture that is an IDR picture changes the sequence parameter set (7.4.1.2.1).
-abbrev pub begin_demands : Bool → Bool → Maps → Sps → ℕ → Header → List Demand
-begin_demands begins due maps sps bit h =
-    record { rule = rule.FirstPicture; bit = bit; met = (not begins || not due) || is_idr h }
-    ∷ record { rule = rule.SetChanged; bit = h.pic_parameter_set_id.bit; met = (begins && is_idr h) || is_active maps sps }
-    ∷ []
+-- where a slice says that all slices of its picture have one type, those of this list have it (7.4.3)
+abbrev pub has_i : List CodedSlice → Bool
+has_i slices = list_any (λ s. is_i s.header.kind.value) slices
 
--- which types these slices have, and whether one says that all have its type
-abbrev pub types_of : List Header → Types
-types_of slices = record {
-  i = list_any (λ s. is_i s.kind.value) slices;
-  p = list_any (λ s. not (is_i s.kind.value)) slices;
-  stated = list_any (λ s. s.same_type_in_picture) slices;
-}
+abbrev pub has_p : List CodedSlice → Bool
+has_p slices = list_any (λ s. not (is_i s.header.kind.value)) slices
 
--- where a slice or one before it says that all slices of the picture have its type, none of these has the other type
-abbrev pub agrees : Types → Header → Bool
-agrees types h = not (h.same_type_in_picture || types.stated) || not (if is_i h.kind.value then types.p else types.i)
+abbrev pub states_type : List CodedSlice → Bool
+states_type slices = list_any (λ s. s.header.same_type_in_picture) slices
 
--- IDR slices, and all where there are no reference frames, are I; the types of a picture's slices agree (7.4.3)
-abbrev pub type_demands : Bool → Types → Sps → Header → List Demand
-type_demands begins types sps h =
-    record { rule = rule.SliceType; bit = h.kind.bit; met = is_i h.kind.value || not (is_idr h || sps.max_num_ref_frames == 0) }
-    ∷ record { rule = rule.SliceType; bit = h.kind.bit; met = begins || agrees types h }
-    ∷ []
+abbrev pub agrees : List CodedSlice → Header → Bool
+agrees slices h = not (h.same_type_in_picture || states_type slices) || not (if is_i h.kind.value then has_p slices else has_i slices)
 
 -- a reference picture has neither PrevRefFrameNum nor the frame_num of a held short-term frame
 abbrev pub is_new_num : ℕ → ℕ → References → Bool
 is_new_num prev frame_num refs = not (frame_num == prev) && not (list_any (has_frame_num frame_num) refs.frames)
 
--- frame_num of an IDR picture is 0. That of another follows PrevRefFrameNum, or there is a gap, where the sequence allows
--- gaps; the gap can be filled; and then it is a new number, if the picture is a reference (7.4.3, 8.2.5.2).
-abbrev pub frame_num_demands : Bool → Bool → Bool → Bool → ℕ → ℕ → Numbering → References → List Demand
-frame_num_demands begins idr reference gaps_allowed bit prev n refs =
-    record { rule = rule.FrameNum; bit = bit; met = not idr || n.frame_num == 0 }
-    ∷ record { rule = rule.FrameNum; bit = bit; met = not begins || gap_before idr prev n == 0 || gaps_allowed }
-    ∷ record { rule = rule.FrameNum; bit = bit; met = not begins || is_some (all_filled n (missing idr prev n) refs) }
-    ∷ record { rule = rule.FrameNum; bit = bit; met = not begins || idr || not reference || is_new_num prev n.frame_num (entered idr prev n refs) }
+-- An IDR picture comes where one is due (7.4.1.2.1).
+abbrev pub idr_demand : Bool → ℕ → Header → Demand
+idr_demand due bit h = record { rule = rule.FirstPicture; bit = bit; met = not due || is_idr h }
+
+-- Only a picture that is an IDR picture changes the sequence parameter set (7.4.1.2.1).
+abbrev pub set_demand : Bool → Maps → Sps → Header → Demand
+set_demand renews maps sps h = record { rule = rule.SetChanged; bit = h.pic_parameter_set_id.bit; met = renews || is_active maps sps }
+
+-- IDR slices, and all where there are no reference frames, are I (7.4.3).
+abbrev pub type_demand : Sps → Header → Demand
+type_demand sps h = record { rule = rule.SliceType; bit = h.kind.bit; met = is_i h.kind.value || not (is_idr h || sps.max_num_ref_frames == 0) }
+
+-- Where one says so, the slices of a picture have one type (7.4.3).
+abbrev pub same_type_demand : List CodedSlice → Header → Demand
+same_type_demand slices h = record { rule = rule.SliceType; bit = h.kind.bit; met = agrees slices h }
+
+-- frame_num of an IDR picture is 0 (7.4.3).
+abbrev pub idr_num_demand : Header → Demand
+idr_num_demand h = record { rule = rule.FrameNum; bit = h.frame_num.bit; met = not (is_idr h) || h.frame_num.value == 0 }
+
+-- frame_num of another picture follows PrevRefFrameNum, or there is a gap, where the sequence allows gaps; the gap can be
+-- filled; and then it is a new number, if the picture is a reference (7.4.3, 8.2.5.2).
+abbrev pub gap_demands : Bool → Bool → Bool → ℕ → ℕ → Numbering → References → List Demand
+gap_demands idr reference gaps_allowed bit prev n refs =
+    record { rule = rule.FrameNum; bit = bit; met = gap_before idr prev n == 0 || gaps_allowed }
+    ∷ record { rule = rule.FrameNum; bit = bit; met = is_some (all_filled n (unused_short_term_frame_nums idr prev n) refs) }
+    ∷ record { rule = rule.FrameNum; bit = bit; met = idr || not reference || is_new_num prev n.frame_num (entered idr prev n refs) }
     ∷ []
 
-abbrev pub id_demand : Bool → Option ℕ → Header → Demand
-id_demand begins newest_idr h = record { rule = rule.IdrPicId; bit = bit_of_id h.idr_pic_id; met = not begins || changes_id newest_idr h.idr_pic_id }
+-- An IDR picture that directly follows an IDR picture has another idr_pic_id (7.4.3).
+abbrev pub id_demand : Option ℕ → Header → Demand
+id_demand newest_idr h = record { rule = rule.IdrPicId; bit = bit_of_id h.idr_pic_id; met = changes_id newest_idr h.idr_pic_id }
 
--- the counts of a picture that begins are in range (8.2.1)
-abbrev pub count_demand : Bool → List Picture → ℕ → Demand
-count_demand begins pictures bit = record { rule = rule.Count; bit = bit; met = not begins || is_some (newest_count pictures) }
+-- The counts of the newest of these pictures are in range (8.2.1).
+abbrev pub count_demand : List Picture → ℕ → Demand
+count_demand pictures bit = record { rule = rule.Count; bit = bit; met = is_some (newest_count pictures) }
 
+-- SliceQPY is in range (7.4.3).
 abbrev pub qp_demand : Pps → Header → Demand
 qp_demand pps h = record { rule = rule.Qp; bit = h.slice_qp_delta.bit; met = is_qp pps.pic_init_qp_minus26 h.slice_qp_delta.value }
 
--- the reference picture list of a slice, which an I slice does not have, or the bit of a modification that cannot be met
+-- the list of a slice; an I slice has none
 abbrev pub list_of : SliceKind → Numbering → References → Result (List RefSlot) ℕ
 list_of kinds.I n refs = Ok []
 list_of (kinds.P list) n refs = built n list refs.frames
 
--- the modifications of the list name held frames (8.2.4.3)
+-- The modifications of the list name held frames (8.2.4.3).
 abbrev pub list_demand : Result (List RefSlot) ℕ → Demand
 list_demand r = record { rule = rule.ListCommand; bit = bit_of r; met = is_met r }
 
--- later slices of a picture are marked as the first is (7.4.3.3)
-abbrev pub mark_differs_demand : Bool → Option (Found Marking) → Header → Demand
-mark_differs_demand begins first h = record { rule = rule.MarkDiffers; bit = bit_of_marking h.marking; met = begins || same_marking first h.marking }
+-- Later slices of a picture are marked as the first is (7.4.3.3).
+abbrev pub marking_demand : Option (Found Marking) → Header → Demand
+marking_demand first h = record { rule = rule.MarkDiffers; bit = bit_of_marking h.marking; met = same_marking first h.marking }
 
--- what is held before a slice: once the picture before it has ended, or while its own is decoded
-abbrev pub held_before : Bool → List CodedPicture → References
-held_before begins pictures = if begins then held_after pictures else held_in pictures
+-- the slices of the newest picture, the last one first
+abbrev pub newest_slices : List CodedPicture → List CodedSlice
+newest_slices [] = []
+newest_slices (p ∷ pictures) = p.later ++ p.first ∷ []
 
--- what is held while the picture of a slice is decoded
-abbrev pub held_for : Bool → Pps × Sps → Header → List CodedPicture → References
-held_for begins sets h pictures = held_in (coded_with begins (Some sets) h pictures)
+-- the first bit of a slice's unit
+abbrev pub first_bit : CodedSlice → ℕ
+first_bit s = 8 * s.unit.from
 
--- the rules of a slice, from the slices of its picture before it and the pictures so far
-abbrev pub rules_of : Bool → List Header → List CodedPicture → Pps × Sps → ℕ → Header → List Demand
-rules_of begins slices pictures sets bit h =
-    type_demands begins (types_of slices) sets.1 h
-    ++ frame_num_demands begins (is_idr h) (is_reference h) sets.1.gaps_in_frame_num_value_allowed_flag h.frame_num.bit (prev_ref_of pictures) (numbering_of sets.1 h) (held_before begins pictures)
-    ++ id_demand begins (newest_idr_of pictures) h
-    ∷ count_demand begins (picture_of sets.1 h ∷ map counted pictures) bit
-    ∷ qp_demand sets.0 h
-    ∷ list_demand (list_of h.kind.value (numbering_of sets.1 h) (held_for begins sets h pictures))
-    ∷ mark_differs_demand begins (newest_marking pictures) h
+-- The rules of a picture's first slice behind these pictures, the newest of which has ended, from its type on.
+abbrev pub first_slice_rules : List CodedPicture → CodedSlice → List Demand
+first_slice_rules pictures s =
+    type_demand s.sps s.header
+    ∷ idr_num_demand s.header
+    ∷ gap_demands (is_idr s.header) (is_reference s.header) s.sps.gaps_in_frame_num_value_allowed_flag s.header.frame_num.bit (prev_ref_frame_num_of pictures) (numbering_of s.sps s.header) (held_after pictures)
+    ++ id_demand (newest_idr_of pictures) s.header
+    ∷ count_demand (picture_of s.sps s.header ∷ map counted pictures) (first_bit s)
+    ∷ qp_demand s.pps s.header
+    ∷ list_demand (list_of s.header.kind.value (numbering_of s.sps s.header) (held_in (joined_to true s pictures)))
     ∷ []
 
--- the rules on where it stands, which need its sets
-abbrev pub first_demands : Option (Pps × Sps) → Bool → Bool → Maps → ℕ → Header → List Demand
-first_demands None begins due maps bit h = record { rule = rule.NoSet; bit = h.pic_parameter_set_id.bit; met = false } ∷ []
-first_demands (Some sets) begins due maps bit h = begin_demands begins due maps sets.1 bit h
+-- Those of a later slice of the newest of these pictures.
+abbrev pub later_slice_rules : List CodedPicture → CodedSlice → List Demand
+later_slice_rules pictures s =
+    type_demand s.sps s.header
+    ∷ same_type_demand (newest_slices pictures) s.header
+    ∷ idr_num_demand s.header
+    ∷ qp_demand s.pps s.header
+    ∷ list_demand (list_of s.header.kind.value (numbering_of s.sps s.header) (held_in pictures))
+    ∷ marking_demand (newest_marking pictures) s.header
+    ∷ []
 
-abbrev pub demands_by : Option (Pps × Sps) → History → NalUnit → Header → List Demand
-demands_by None before unit h = record { rule = rule.NoSet; bit = h.pic_parameter_set_id.bit; met = false } ∷ []
-demands_by (Some sets) before unit h = begin_demands (begins_at before h) (is_idr_due before) (maps_of before) sets.1 (8 * unit.from) h ++ rules_of (begins_at before h) (open_slices before) (coded_of before) sets (8 * unit.from) h
+-- All rules of a picture's first slice, and of a later slice.
+abbrev pub first_slice_demands : Bool → Maps → List CodedPicture → CodedSlice → List Demand
+first_slice_demands due maps pictures s = idr_demand due (first_bit s) s.header ∷ set_demand (is_idr s.header) maps s.sps s.header ∷ first_slice_rules pictures s
 
--- The rules of a slice behind these units, in their order: where it begins a picture, the one before it ends first.
-abbrev pub slice_demands : History → NalUnit → Header → List Demand
-slice_demands before unit h = (if begins_at before h then closing_demands before else []) ++ demands_by (sets_at before h) before unit h
+abbrev pub later_slice_demands : Maps → List CodedPicture → CodedSlice → List Demand
+later_slice_demands maps pictures s = set_demand false maps s.sps s.header ∷ later_slice_rules pictures s
+
+abbrev pub rules_of : Bool → Bool → Maps → List CodedPicture → CodedSlice → List Demand
+rules_of true due maps pictures s = first_slice_demands due maps pictures s
+rules_of false due maps pictures s = later_slice_demands maps pictures s
 
 -- the count of a frame is the lesser of its fields'
 abbrev pub frame_count : Option Count → ℤ
@@ -230,5 +249,16 @@ frame_count None = pos 0
 frame_count (Some count) = int_min count.top count.bottom
 
 -- what the sink is told of a slice: the byte where its unit begins, first_mb_in_slice, its type, frame_num, and its picture's count
-abbrev pub slice_call : History → NalUnit → Header → Call
-slice_call before unit h = OfSlice unit.from h.first_mb_in_slice.value (type_of h.kind.value) h.frame_num.value (frame_count (newest_count (map counted (coded_behind (contents.OfSlice h) before (coded_of before)))))
+abbrev pub slice_call : List CodedPicture → CodedSlice → Call
+slice_call pictures s = OfSlice s.unit.from s.header.first_mb_in_slice.value (type_of s.header.kind.value) s.header.frame_num.value (frame_count (newest_count (map counted pictures)))
+
+abbrev pub steps_by : Option (Pps × Sps) → History → NalUnit → Header → List Step
+steps_by None before unit h = needs (record { rule = rule.NoSet; bit = h.pic_parameter_set_id.bit; met = false } ∷ [])
+steps_by (Some sets) before unit h =
+    needs (rules_of (begins_at before h) (is_idr_due before) (maps_of before) (runs_of before) (with_sets unit h [] sets))
+    ++ step.Tells (slice_call (joined_to (begins_at before h) (with_sets unit h [] sets) (runs_of before)) (with_sets unit h [] sets))
+    ∷ []
+
+-- A slice behind these units: where it begins a picture, the one before it ends first; then come its rules, and it is told.
+abbrev pub slice_steps : History → NalUnit → Header → List Step
+slice_steps before unit h = needs (if begins_at before h then closing_demands before else []) ++ steps_by (sets_at before h) before unit h

@@ -1,100 +1,36 @@
--- The verdict on a stream: a yes with its derivation, a no with the first rule that is broken and its bit, or the first
--- feature that is not judged (7.3, 7.4, 8.2.1, B.1).
-use Rattle.std.specs.Prelude.{◌≡◌, ℕ, ◌+◌, ◌*◌, ◌⊎◌, List, [], ◌∷◌, ◌++◌, map, length, Some, ◌==◌, if◌then◌else◌, Result, Ok, Err}
+-- To be read beside the standard. The verdict on a stream: a yes with its derivation, a no with the first rule that is broken and its
+-- bit, or the first feature that is not judged (7.3, 7.4, 8.2.1, B.1).
+use Rattle.std.specs.Prelude.{◌≡◌, ℕ, ◌+◌, ◌*◌, List, [], ◌∷◌, ◌++◌, length, Some, Result, Ok, Err}
 use Rattle.h264_base.specs.declared.mode.Mode.{Mode}
-use Rattle.h264_base.specs.declared.mode.Mode.TheVariants as modes
 use Rattle.h264_base.specs.declared.rule.Rule.{Rule}
 use Rattle.h264_base.specs.declared.rule.Rule.TheVariants.{Emulation}
 use Rattle.h264_base.specs.declared.stop.Feature.{Feature}
 use Rattle.h264_base.specs.declared.stop.Stop.{Stop}
 use Rattle.h264_base.specs.declared.stop.Stop.TheVariants.{No, Outside, Memory, Read, Write}
 use Rattle.h264_base.specs.Call.{Call, Tells}
-use Rattle.h264_base.specs.Grammar.{Grammar, ◌>>=◌, Done, Element, Says}
-use Rattle.h264_base.specs.Run.{call_of}
-use Rattle.h264_units.specs.Stream.{NalUnit, Tail, Zeros, Splits, tail_stop}
+use Rattle.h264_units.specs.Stream.{NalUnit, Next, past, IsUndecided, Tail, Zeros, Splits, tail_stop}
 use Rattle.h264_rbsp.specs.Emulation.{IsFault, IsFirstFault}
 use Rattle.h264_rbsp.specs.Rbsp.{body_of}
-use Rattle.h264_sps.specs.Sps.{sps}
-use Rattle.h264_pps.specs.Pps.{pps}
-use Rattle.h264_header.specs.Layout.{sets_of}
-use Rattle.h264_header.specs.Header.{header}
-use Rattle.h264_verify.specs.Content.{Content}
-use Rattle.h264_verify.specs.Content as contents
 use Rattle.h264_verify.specs.declared.judge.Summary.{Summary}
-use Rattle.h264_verify.specs.Demands.{Demand, AreMet, IsFirstUnmet}
-use Rattle.h264_verify.specs.UnitHeader.{header_of, nal_unit_type, header_demands}
-use Rattle.h264_verify.specs.History.{History, ReadUnit, maps_of}
-use Rattle.h264_verify.specs.Pictures.{closing_at}
-use Rattle.h264_verify.specs.Slices.{slice_demands, slice_call}
-use Rattle.h264_verify.specs.UnitRules.{unit_call, is_slice, slice_unit, end_demands, summary_of}
+use Rattle.h264_verify.specs.Steps.{AreMet, IsFirstStop, Runs}
+use Rattle.h264_verify.specs.History.{History, ReadUnit}
+use Rattle.h264_verify.specs.Units.{unit_course, end_steps, summary_of}
 
--- A unit meets the rules of units (7.4.1).
-pub record IsSound (unit : NalUnit) : Type 0 where
-  pub emulation : (place : ℕ) → IsFault unit.body place → ⊥
-  pub header : AreMet (header_demands (8 * unit.from) (header_of unit))
+-- The bytes of a unit break no rule of emulation prevention (7.4.1).
+abbrev pub IsSound : NalUnit → Type 0
+IsSound unit = (place : ℕ) → IsFault unit.body place → ⊥
 
--- It breaks one, and this is the first.
-abbrev pub IsUnsound : NalUnit → Rule → ℕ → Type 0
-IsUnsound unit rule bit =
-    ((place : ℕ) × IsFirstFault unit.body place × (rule ≡ Emulation) × (bit ≡ 8 * (unit.from + place)))
-    ⊎ (((place : ℕ) → IsFault unit.body place → ⊥) × IsFirstUnmet (header_demands (8 * unit.from) (header_of unit)) rule bit)
-
--- the syntax structure in a unit that is no parameter set
-abbrev pub other_content : Mode → ℕ → History → NalUnit → Grammar Content
-other_content modes.Units kind before unit = Done contents.Passed
-other_content modes.Headers kind before unit =
-    if is_slice kind then header (sets_of (maps_of before)) (slice_unit unit) >>= (λ h. Done (contents.OfSlice h))
-    else Done contents.Passed
-
--- The syntax structure in a unit of this type, behind these units (7.3.1, table 7-1).
-unfoldable pub content : Mode → ℕ → History → NalUnit → Grammar Content
-content mode kind before unit =
-    if kind == 7 then sps >>= (λ set. Done (contents.OfSps set))
-    else (if kind == 8 then pps >>= (λ set. Done (contents.OfPps set))
-    else other_content mode kind before unit)
-
--- what its elements say of a unit: its content and the bit behind it, or the stop that they lead to
-abbrev pub Elements : Mode → History → NalUnit → List Element → Result (Content × ℕ) Stop → Type 0
-Elements mode before unit es answer = Says (content mode (nal_unit_type (header_of unit)) before unit) (body_of unit) 0 es answer
-
--- what the sink is told of a unit: that it is there, and its elements
-abbrev pub told : NalUnit → List Element → List Call
-told unit es = unit_call unit.from (header_of unit) (length unit.body) ∷ map (call_of (body_of unit)) es
-
--- the rules on what is in a unit, beside its own syntax
-abbrev pub content_demands : History → NalUnit → Content → List Demand
-content_demands before unit (contents.OfSps set) = []
-content_demands before unit (contents.OfPps set) = []
-content_demands before unit (contents.OfSlice h) = slice_demands before unit h
-content_demands before unit contents.Passed = []
-
--- what the sink is told once they are met
-abbrev pub content_calls : History → NalUnit → Content → List Call
-content_calls before unit (contents.OfSps set) = []
-content_calls before unit (contents.OfPps set) = []
-content_calls before unit (contents.OfSlice h) = slice_call before unit h ∷ []
-content_calls before unit contents.Passed = []
-
--- A unit behind these that meets every rule, with the derivation of its content.
+-- A unit behind these whose course comes to its end: with every rule met, no feature among them, and a derivation of its content.
 pub record IsLegal (mode : Mode) (before : History) (r : ReadUnit) (calls : List Call) : Type 0 where
   pub sound : IsSound r.unit
-  pub closed : AreMet (closing_at (nal_unit_type (header_of r.unit)) before)
-  pub elements : List Element
-  pub end : ℕ
-  pub derives : Elements mode before r.unit elements (Ok (r.content, end))
-  pub met : AreMet (content_demands before r.unit r.content)
-  pub calls_are : calls ≡ told r.unit elements ++ content_calls before r.unit r.content
+  pub runs : Runs (body_of r.unit) (unit_course mode before r.unit) calls (Ok r.content)
 
 -- A unit behind these at which the verdict falls, with what was told of it before.
 pub data IsStop (mode : Mode) (before : History) (unit : NalUnit) (stop : Stop) (calls : List Call) : Type 0 where
-  -- a rule of units is broken: nothing is told
-  AtUnit : (rule : Rule) (bit : ℕ) → IsUnsound unit rule bit → stop ≡ No bit rule → calls ≡ [] → IsStop mode before unit stop calls
-  -- it ends a picture, whose end breaks a rule
-  AtPictureEnd : IsSound unit → (rule : Rule) (bit : ℕ) → IsFirstUnmet (closing_at (nal_unit_type (header_of unit)) before) rule bit → stop ≡ No bit rule → calls ≡ told unit [] → IsStop mode before unit stop calls
-  -- its elements lead to a broken rule or a feature that is not judged
-  AtElements : IsSound unit → AreMet (closing_at (nal_unit_type (header_of unit)) before) → (es : List Element) → Elements mode before unit es (Err stop) → calls ≡ told unit es → IsStop mode before unit stop calls
-  -- a rule on what is in it is broken
-  AtContent : IsSound unit → AreMet (closing_at (nal_unit_type (header_of unit)) before) → (es : List Element) (found : Content) (end : ℕ) → Elements mode before unit es (Ok (found, end)) → (rule : Rule) (bit : ℕ) → IsFirstUnmet (content_demands before unit found) rule bit → stop ≡ No bit rule → calls ≡ told unit es → IsStop mode before unit stop calls
+  -- its bytes break emulation prevention: nothing is told
+  AtBytes : (place : ℕ) → IsFirstFault unit.body place → stop ≡ No (8 * (unit.from + place)) Emulation → calls ≡ [] → IsStop mode before unit stop calls
+  -- its course stops
+  InCourse : IsSound unit → Runs (body_of unit) (unit_course mode before unit) calls (Err stop) → IsStop mode before unit stop calls
 
 -- All of these units are legal, and the sink is told of each in turn. The last one stands first.
 abbrev pub AreLegal : Mode → History → List Call → Type 0
@@ -111,15 +47,18 @@ in_order (r ∷ before) units = in_order before (r.unit ∷ units)
 pub record Holds (mode : Mode) (bytes : List ℕ) (calls : List Call) (summary : Summary) : Type 0 where
   pub units : History
   pub stream : Splits 0 bytes (in_order units []) Zeros
-  pub legal : AreLegal mode units calls
-  pub end : AreMet (end_demands mode units (8 * length bytes))
+  pub first : List Call
+  pub last : List Call
+  pub legal : AreLegal mode units first
+  pub end : AreMet (end_steps mode units (8 * length bytes)) last
+  pub calls_are : calls ≡ first ++ last
   pub summary_is : summary ≡ summary_of units
 
 -- Behind the legal units the verdict falls at the next, or at what follows the last, or at the end of the input.
 pub data IsStopBehind (mode : Mode) (before : History) (units : List NalUnit) (tail : Tail) (end : ℕ) (stop : Stop) (calls : List Call) : Type 0 where
   AtNext : (unit : NalUnit) (later : List NalUnit) → units ≡ unit ∷ later → IsStop mode before unit stop calls → IsStopBehind mode before units tail end stop calls
   AtTail : units ≡ [] → tail_stop tail ≡ Some stop → calls ≡ [] → IsStopBehind mode before units tail end stop calls
-  AtEnd : units ≡ [] → tail ≡ Zeros → (rule : Rule) (bit : ℕ) → IsFirstUnmet (end_demands mode before (8 * end)) rule bit → stop ≡ No bit rule → calls ≡ [] → IsStopBehind mode before units tail end stop calls
+  AtEnd : units ≡ [] → tail ≡ Zeros → IsFirstStop (end_steps mode before (8 * end)) calls stop → IsStopBehind mode before units tail end stop calls
 
 -- The units before are legal, and then the verdict falls.
 pub record StopsAt (mode : Mode) (bytes : List ℕ) (calls : List Call) (stop : Stop) : Type 0 where
@@ -132,6 +71,11 @@ pub record StopsAt (mode : Mode) (bytes : List ℕ) (calls : List Call) (stop : 
   pub legal : AreLegal mode before first
   pub stops : IsStopBehind mode before units tail (length bytes) stop last
   pub calls_are : calls ≡ first ++ last
+
+-- From this place on these bytes have these units, each with its end whatever follows, and behind them stands this rest.
+abbrev pub Show : ℕ → List ℕ → List NalUnit → ℕ → List ℕ → Type 0
+Show at bytes [] end rest = (end ≡ at) × (rest ≡ bytes)
+Show at bytes (unit ∷ units) end rest = (left : List ℕ) × ((more : List ℕ) → Next at (bytes ++ more) unit (left ++ more)) × Show (past unit) left units end rest
 
 -- All rules before this one are met, it fails, and this is its bit.
 abbrev pub Breaks : Mode → List ℕ → List Call → ℕ → Rule → Type 0

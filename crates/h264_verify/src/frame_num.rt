@@ -1,15 +1,15 @@
 //! frame_num of a slice, and the frames that are missing before its picture (7.4.3, 8.2.5.2).
 #![tactic(auto)]
 
-ghost use Rattle.std.specs.Prelude.{◌≡◌, ℕ, ◌+◌, ◌%◌, ◌<◌, ◌≤◌, ◌^◌, ◌&&◌, not, ◌==◌, true, Some, None, Ok, Err, OnOk, IfOk, IfErr, if◌then◌else◌};
+ghost use Rattle.std.specs.Prelude.{◌≡◌, ℕ, ◌+◌, ◌%◌, ◌<◌, ◌≤◌, ◌^◌, ◌&&◌, not, ◌==◌, true, [], ◌∷◌, Some, None, Ok, Err, OnOk, IfOk, IfErr, if◌then◌else◌};
 ghost use Rattle.std.specs.List.{list_any};
 ghost use Rattle.h264_base.specs.declared.rule.Rule.TheVariants as rule;
 ghost use Rattle.h264_base.specs.declared.stop.Stop.TheVariants.{No};
 ghost use Rattle.h264_header.specs.Layout.{has_lengths};
 ghost use Rattle.h264_marking.specs.Frames.{has_frame_num};
 ghost use Rattle.h264_verify.specs.Demands.{judged};
-ghost use Rattle.h264_verify.specs.Pictures.{is_idr, is_reference, resets, numbering_of, gap_before, numbers_from, missing, last_or, all_filled, entered, prev_ref_behind};
-ghost use Rattle.h264_verify.specs.Slices.{is_new_num, frame_num_demands};
+ghost use Rattle.h264_verify.specs.Pictures.{is_idr, is_reference, resets, numbering_of, gap_before, numbers_from, unused_short_term_frame_nums, last_or, all_filled, entered, prev_ref_frame_num_behind};
+ghost use Rattle.h264_verify.specs.Slices.{is_new_num, idr_num_demand, gap_demands};
 
 use crate::picture::{numbering_of, resets};
 use crate::rules::check;
@@ -93,28 +93,31 @@ fn prev_ref_behind(reference: bool, resets: bool, frame_num: u32, last: u32) -> 
     frame_num
 }
 
-/// The rules on frame_num, and what a picture that begins leaves of the numbers before it: the gap is filled.
-pub(crate) fn check_frame_num(
-    begins: bool,
+/// The rule on frame_num of an IDR picture's slices.
+pub(crate) fn check_idr_num(header: &Header) -> Result<(), Stop>
+    ensures { result ≡ judged (idr_num_demand header.now ∷ []) }
+{
+    let fits = header.idr_pic_id.is_none() || header.frame_num.value == 0;
+    check(fits, Rule::FrameNum, header.frame_num.bit)
+}
+
+/// The rules on a picture's frame_num, and what the picture leaves of the numbers before it: the gap is filled.
+pub(crate) fn check_gap(
     sps: &Sps,
     header: &Header,
     prev_ref_frame_num: &mut u32,
     held: &mut Held,
 ) -> Result<(), Stop>
     requires { has_lengths sps.now ≡ true }
-    ensures judged { result ≡ judged (frame_num_demands begins (is_idr header.now) (is_reference header.now) sps.now.gaps_in_frame_num_value_allowed_flag header.now.frame_num.bit prev_ref_frame_num.old (numbering_of sps.now header.now) held.old) }
-    ensures held { OnOk result (held.new ≡ (if begins then entered (is_idr header.now) prev_ref_frame_num.old (numbering_of sps.now header.now) held.old else held.old)) }
-    ensures prev { OnOk result (prev_ref_frame_num.new ≡ (if begins then prev_ref_behind (is_idr header.now) (is_reference header.now) (resets header.now.marking) (numbering_of sps.now header.now) prev_ref_frame_num.old else prev_ref_frame_num.old)) }
+    ensures judged { result ≡ judged (gap_demands (is_idr header.now) (is_reference header.now) sps.now.gaps_in_frame_num_value_allowed_flag header.now.frame_num.bit prev_ref_frame_num.old (numbering_of sps.now header.now) held.old) }
+    ensures held { OnOk result (held.new ≡ entered (is_idr header.now) prev_ref_frame_num.old (numbering_of sps.now header.now) held.old) }
+    ensures prev { OnOk result (prev_ref_frame_num.new ≡ prev_ref_frame_num_behind (is_idr header.now) (is_reference header.now) (resets header.now.marking) (numbering_of sps.now header.now) prev_ref_frame_num.old) }
 {
     let idr = header.idr_pic_id.is_some();
     let reference = header.nal_ref_idc != 0;
     let bit = header.frame_num.bit;
     let prev = *prev_ref_frame_num;
     let numbering = numbering_of(sps, header);
-    check(!idr || numbering.frame_num == 0, Rule::FrameNum, bit)?;
-    if !begins {
-        return Ok(());
-    }
     let gap = gap_before(idr, prev, &numbering);
     let may_miss = gap == 0 || sps.gaps_in_frame_num_value_allowed_flag;
     check(may_miss, Rule::FrameNum, bit)?;

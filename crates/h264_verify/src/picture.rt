@@ -8,9 +8,9 @@ ghost use Rattle.h264_header.specs.Layout.{has_lengths};
 ghost use Rattle.h264_header.specs.Marking.{number_of};
 ghost use Rattle.h264_header.specs.declared.header.Marking.TheVariants.{SlidingWindow};
 ghost use Rattle.h264_marking.specs.Held.{mark_answer};
-ghost use Rattle.h264_verify.specs.Pictures.{CodedPicture, begins_after, numbering_of, ended, resets, resets_by};
-ghost use Rattle.h264_verify.specs.Slices.{is_i, types_of, agrees};
-ghost use Rattle.h264_verify.specs.Keeping.{HoldsPicture, HoldsSlices, last_by, types_by};
+ghost use Rattle.h264_verify.specs.Pictures.{CodedSlice, CodedPicture, numbering_of, ended, resets, resets_by};
+ghost use Rattle.h264_verify.specs.Slices.{is_i};
+ghost use Rattle.h264_verify.specs.Keeping.{types_of, HoldsPicture, HoldsOpen, begins_by, types_by, agrees_by};
 
 use h264_base::Stop;
 use h264_bits::Found;
@@ -53,7 +53,7 @@ pub(crate) fn is_i(kind: &SliceKind) -> bool
 
 /// Whether a slice is the first of a picture, behind the slices of this one.
 pub(crate) fn begins(picture: &Option<OpenPicture>, header: &Header) -> bool
-    ensures { result ≡ begins_after (last_by picture.now) header.now }
+    ensures { result ≡ begins_by picture.now header.now }
 {
     match picture {
         None => true,
@@ -77,7 +77,7 @@ pub(crate) fn seen_types(picture: &Option<OpenPicture>) -> Types
 
 /// The types with that of one more slice.
 fn types_with(types: Types, header: &Header) -> Types
-    ensures { (slices : List Header) → types ≡ types_of slices → result ≡ types_of (header.now ∷ slices) }
+    ensures { (slices : List CodedSlice) (slice : CodedSlice) → slice.header ≡ header.now → types ≡ types_of slices → result ≡ types_of (slice ∷ slices) }
 {
     let i = is_i(&header.kind.value);
     Types {
@@ -89,7 +89,7 @@ fn types_with(types: Types, header: &Header) -> Types
 
 /// Whether the type of one more slice agrees with those of a picture.
 pub(crate) fn agrees(types: Types, header: &Header) -> bool
-    ensures { result ≡ agrees types header.now }
+    ensures { result ≡ agrees_by types header.now }
 {
     let other = if is_i(&header.kind.value) {
         types.p
@@ -188,7 +188,7 @@ fn keep_marking(kept: &mut Option<Found<Marking>>, marking: &mut Option<Found<Ma
 /// A picture that has begun with this slice.
 #[inline(never)]
 fn begun(header: &mut Header, numbering: Numbering) -> OpenPicture
-    ensures { (pictures : List CodedPicture) (sps : Sps) → numbering ≡ numbering_of sps header.old → HoldsPicture (header.old ∷ []) (record { first = header.old; sps = sps } ∷ pictures) result }
+    ensures { (slice : CodedSlice) → slice.header ≡ header.old → numbering ≡ numbering_of slice.sps slice.header → HoldsPicture (record { first = slice; later = [] }) result }
 {
     let types = types_with(seen_types(&None), header);
     OpenPicture {
@@ -201,7 +201,7 @@ fn begun(header: &mut Header, numbering: Numbering) -> OpenPicture
 
 /// A picture that begins with this slice, in the place of the one before.
 fn restart(picture: &mut OpenPicture, header: &mut Header, numbering: Numbering)
-    ensures { (pictures : List CodedPicture) (sps : Sps) → numbering ≡ numbering_of sps header.old → HoldsPicture (header.old ∷ []) (record { first = header.old; sps = sps } ∷ pictures) picture.new }
+    ensures { (slice : CodedSlice) → slice.header ≡ header.old → numbering ≡ numbering_of slice.sps slice.header → HoldsPicture (record { first = slice; later = [] }) picture.new }
 {
     picture.types = types_with(seen_types(&None), header);
     picture.last = picture_elements(header);
@@ -211,7 +211,7 @@ fn restart(picture: &mut OpenPicture, header: &mut Header, numbering: Numbering)
 
 /// A picture begins with this slice, where another may have gone on.
 pub(crate) fn begin(picture: &mut Option<OpenPicture>, header: &mut Header, numbering: Numbering)
-    ensures { (pictures : List CodedPicture) (sps : Sps) → numbering ≡ numbering_of sps header.old → HoldsSlices (header.old ∷ []) (record { first = header.old; sps = sps } ∷ pictures) picture.new }
+    ensures { (slice : CodedSlice) → slice.header ≡ header.old → numbering ≡ numbering_of slice.sps slice.header → HoldsOpen (Some (record { first = slice; later = [] })) picture.new }
 {
     match picture {
         None => *picture = Some(begun(header, numbering)),
@@ -221,7 +221,7 @@ pub(crate) fn begin(picture: &mut Option<OpenPicture>, header: &mut Header, numb
 
 /// One more slice comes to a picture.
 pub(crate) fn go_on(picture: &mut OpenPicture, header: &Header)
-    ensures { (slices : List Header) (pictures : List CodedPicture) → HoldsPicture slices pictures picture.old → HoldsPicture (header.now ∷ slices) pictures picture.new }
+    ensures { (p : CodedPicture) (slice : CodedSlice) → slice.header ≡ header.now → HoldsPicture p picture.old → HoldsPicture (record p { later = slice ∷ p.later }) picture.new }
 {
     picture.types = types_with(picture.types, header);
     picture.last = picture_elements(header);

@@ -1,7 +1,7 @@
 //! The rules that a slice meets one after another.
 #![tactic(auto)]
 
-ghost use Rattle.std.specs.Prelude.{◌≡◌, not, ◌&&◌, ◌||◌, ◌∷◌, [], ◌≤◌, pos, ◌+ℤ◌, OnOk, Ok, Err, if◌then◌else◌};
+ghost use Rattle.std.specs.Prelude.{◌≡◌, ℕ, Bool, true, false, not, ◌&&◌, ◌||◌, ◌∷◌, [], ◌≤◌, pos, ◌+ℤ◌, OnOk, Ok, Err, IsErrOf, if◌then◌else◌};
 ghost use Rattle.std.specs.Option.{is_some};
 ghost use Rattle.h264_base.specs.declared.stop.Stop.TheVariants.{No};
 ghost use Rattle.h264_header.specs.Layout.{sets_of};
@@ -9,11 +9,11 @@ ghost use Rattle.h264_lists.specs.Built.{built};
 ghost use Rattle.h264_verify.specs.Demands.{judged};
 ghost use Rattle.h264_verify.specs.History.{maps_with};
 ghost use Rattle.h264_verify.specs.Content as contents;
-ghost use Rattle.h264_verify.specs.Keeping.{marking_by};
-ghost use Rattle.h264_verify.specs.Slices.{idr_id, changes_id, bit_of_id, bit_of_marking, is_qp, first_demands, type_demands, id_demand, qp_demand, list_of, list_demand, same_marking, mark_differs_demand};
+ghost use Rattle.h264_verify.specs.Keeping.{marking_by, same_type_by, standing_demands};
+ghost use Rattle.h264_verify.specs.Slices.{idr_id, changes_id, bit_of_id, bit_of_marking, is_qp, type_demand, id_demand, qp_demand, list_of, list_demand, same_marking, marking_demand};
 
 use crate::marking::same_marking;
-use crate::picture::{OpenPicture, Types, agrees, is_i};
+use crate::picture::{OpenPicture, agrees, is_i, seen_types};
 use h264_base::{Rule, Stop};
 use h264_bits::Found;
 use h264_header::{Header, Marking, RefPicList0, SliceKind, named_sets};
@@ -45,48 +45,60 @@ fn has_sets(sets: &Sets, pic_parameter_set_id: u32) -> bool
     }
 }
 
-/// Whether a slice may stand where an IDR picture is due or not.
-fn may_begin(begins: bool, due: bool, idr: bool) -> bool
-    ensures { result ≡ ((not begins || not due) || idr) }
+/// Whether a picture may begin where an IDR picture is due or not.
+fn may_begin(due: bool, idr: bool) -> bool
+    ensures { result ≡ (not due || idr) }
 {
-    !begins || !due || idr
+    !due || idr
 }
 
-/// Whether a slice begins a picture that may change the sequence parameter set.
-fn renews(begins: bool, idr: bool) -> bool
-    ensures { result ≡ (begins && idr) }
-{
-    begins && idr
-}
-
-/// The rules on where a slice stands: whether it may begin a picture here, and with these sets, which become the active ones.
-pub(crate) fn check_begin(
-    begins: bool,
+/// The rules on where the first slice of a picture stands, and with which sets, which become the active ones.
+pub(crate) fn check_first(
     due: bool,
     sets: &mut Sets,
     bit: u64,
     header: &Header,
 ) -> Result<(), Stop>
     requires { header.now.pic_parameter_set_id.value ≤ 255 }
-    ensures judged { result ≡ judged (first_demands (sets_of sets.old header.now.pic_parameter_set_id.value) begins due sets.old bit header.now) }
-    ensures activated { OnOk result (sets.new ≡ maps_with sets.old (contents.OfSlice header.now)) }
+    ensures judged { result ≡ judged (standing_demands true (sets_of sets.old header.now.pic_parameter_set_id.value) due sets.old bit header.now) }
+    ensures activated { OnOk result (sets.new ≡ maps_with sets.old (contents.OfSlice header.now [])) }
+    ensures no_memory { IsErrOf result Stop.Memory → ⊥ }
 {
     let id = header.pic_parameter_set_id;
     check(has_sets(sets, id.value), Rule::NoSet, id.bit)?;
     let idr = header.idr_pic_id.is_some();
-    check(may_begin(begins, due, idr), Rule::FirstPicture, bit)?;
-    sets.activate(id.value, id.bit, renews(begins, idr))
+    check(may_begin(due, idr), Rule::FirstPicture, bit)?;
+    sets.activate(id.value, id.bit, idr)
 }
 
-/// The rules on a slice's type.
-pub(crate) fn check_type(begins: bool, types: Types, sps: &Sps, header: &Header) -> Result<(), Stop>
-    ensures { result ≡ judged (type_demands begins types sps.now header.now) }
+/// The rules on the sets of a later slice.
+pub(crate) fn check_later(sets: &mut Sets, header: &Header) -> Result<(), Stop>
+    requires { header.now.pic_parameter_set_id.value ≤ 255 }
+    ensures judged { (due : Bool) (bit : ℕ) → result ≡ judged (standing_demands false (sets_of sets.old header.now.pic_parameter_set_id.value) due sets.old bit header.now) }
+    ensures activated { OnOk result (sets.new ≡ maps_with sets.old (contents.OfSlice header.now [])) }
+    ensures no_memory { IsErrOf result Stop.Memory → ⊥ }
+{
+    let id = header.pic_parameter_set_id;
+    check(has_sets(sets, id.value), Rule::NoSet, id.bit)?;
+    sets.activate(id.value, id.bit, false)
+}
+
+/// The rule on the type of any slice.
+pub(crate) fn check_type(sps: &Sps, header: &Header) -> Result<(), Stop>
+    ensures { result ≡ judged (type_demand sps.now header.now ∷ []) }
 {
     let idr = header.idr_pic_id.is_some();
     let may_be_p = !(idr || sps.max_num_ref_frames == 0);
-    let bit = header.kind.bit;
-    check(is_i(&header.kind.value) || may_be_p, Rule::SliceType, bit)?;
-    check(begins || agrees(types, header), Rule::SliceType, bit)
+    let fits = is_i(&header.kind.value) || may_be_p;
+    check(fits, Rule::SliceType, header.kind.bit)
+}
+
+/// The rule on the types of a picture's slices.
+pub(crate) fn check_same_type(picture: &Option<OpenPicture>, header: &Header) -> Result<(), Stop>
+    ensures { result ≡ judged (same_type_by picture.now header.now ∷ []) }
+{
+    let agrees = agrees(seen_types(picture), header);
+    check(agrees, Rule::SliceType, header.kind.bit)
 }
 
 /// The bit of an idr_pic_id that may not be there.
@@ -119,10 +131,10 @@ pub(crate) fn idr_id(id: Option<Found<u32>>) -> Option<u32>
 }
 
 /// The rule on idr_pic_id.
-pub(crate) fn check_id(begins: bool, newest_idr: Option<u32>, header: &Header) -> Result<(), Stop>
-    ensures { result ≡ judged (id_demand begins newest_idr header.now ∷ []) }
+pub(crate) fn check_id(newest_idr: Option<u32>, header: &Header) -> Result<(), Stop>
+    ensures { result ≡ judged (id_demand newest_idr header.now ∷ []) }
 {
-    let changes = !begins || changes_id(newest_idr, header.idr_pic_id);
+    let changes = changes_id(newest_idr, header.idr_pic_id);
     check(changes, Rule::IdrPicId, bit_of_id(header.idr_pic_id))
 }
 
@@ -199,13 +211,9 @@ fn has_marking(picture: &Option<OpenPicture>, marking: &Option<Found<Marking>>) 
 }
 
 /// The rule on the marking of a picture's later slices.
-pub(crate) fn check_marking(
-    begins: bool,
-    picture: &Option<OpenPicture>,
-    header: &Header,
-) -> Result<(), Stop>
-    ensures { result ≡ judged (mark_differs_demand begins (marking_by picture.now) header.now ∷ []) }
+pub(crate) fn check_marking(picture: &Option<OpenPicture>, header: &Header) -> Result<(), Stop>
+    ensures { result ≡ judged (marking_demand (marking_by picture.now) header.now ∷ []) }
 {
-    let same = begins || has_marking(picture, &header.marking);
+    let same = has_marking(picture, &header.marking);
     check(same, Rule::MarkDiffers, bit_of_marking(&header.marking))
 }

@@ -6,7 +6,7 @@ ghost use Rattle.std.specs.List.{flat_map};
 ghost use Rattle.h264_base.specs.declared.mode.Mode.{Mode};
 ghost use Rattle.h264_verify.specs.Session.{Judges};
 ghost use Rattle.h264_verify.specs.Feeding.{FedOn};
-ghost use Rattle.h264_verify.specs.UnitRules.{judging};
+ghost use Rattle.h264_verify.specs.UnitOutcome.{judging};
 ghost use Rattle.h264_verify.specs.Verdict.{Judged};
 
 use crate::judge::Summary;

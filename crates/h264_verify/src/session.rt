@@ -3,7 +3,7 @@
 
 ghost use Rattle.std.specs.Prelude.{◌≡◌, ℕ, ◌+◌, ◌-◌, ◌*◌, ◌<◌, ◌≤◌, ◌^◌, List, [], ◌∷◌, ◌++◌, length, OnOk, OnErr, IfOk, IfErr, Ok, Err, None, drop, IsFalse, IfSome, Some, IsErrOf};
 ghost use Rattle.h264_verify.specs.Session.{Stops, Finishes};
-ghost use Rattle.h264_verify.specs.UnitRules.{judging};
+ghost use Rattle.h264_verify.specs.UnitOutcome.{judging};
 ghost use Rattle.h264_verify.specs.Progress.{IsFresh};
 ghost use Rattle.h264_base.specs.declared.mode.Mode.{Mode};
 ghost use Rattle.h264_base.specs.Call.{Call};

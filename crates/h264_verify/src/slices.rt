@@ -1,29 +1,28 @@
 //! The slices so far, the pictures that they begin, and the rules that a slice meets beside its own syntax.
 #![tactic(auto)]
 
-ghost use Rattle.std.specs.Prelude.{◌≡◌, ℕ, not, ◌&&◌, false, ◌==◌, ◌||◌, ◌+◌, ◌-◌, ◌*◌, ◌<◌, ◌≤◌, ◌^◌, true, Some, None, List, [], ◌∷◌, length, if◌then◌else◌, Ok, Err, OnOk};
+ghost use Rattle.std.specs.Prelude.{◌≡◌, ℕ, not, ◌&&◌, Bool, false, ◌==◌, ◌||◌, ◌+◌, ◌-◌, ◌*◌, ◌<◌, ◌≤◌, ◌^◌, true, Some, None, List, [], ◌∷◌, length, if◌then◌else◌, Ok, Err, OnOk};
 ghost use Rattle.std.specs.Option.{is_some};
 ghost use Rattle.h264_base.specs.declared.stop.Stop.TheVariants.{No};
 ghost use Rattle.h264_base.specs.Call.{OfSlice};
-ghost use Rattle.h264_header.specs.Layout.{has_lengths, has_count_lengths};
+ghost use Rattle.h264_header.specs.Layout.{sets_of, has_lengths, has_count_lengths};
 ghost use Rattle.h264_poc.specs.declared.picture.Picture.{Picture};
 ghost use Rattle.h264_poc.specs.Counts.{Keeps as KeepsCounts};
 ghost use Rattle.h264_verify.specs.Outcome.{Plays, tells};
 ghost use Rattle.h264_verify.specs.Demands.{judged};
 ghost use Rattle.h264_verify.specs.History.{History, maps_with, maps_of};
-ghost use Rattle.h264_verify.specs.Keeping.{KeepsSlices, HoldsSlices, IsLeft};
-ghost use Rattle.h264_verify.specs.UnitRules.{header_judged};
+ghost use Rattle.h264_verify.specs.Keeping.{KeepsSlices, HoldsOpen, IsLeft, first_by, later_by, standing_demands, slice_rules, Entered};
+ghost use Rattle.h264_verify.specs.UnitOutcome.{steps_outcome};
+ghost use Rattle.h264_units.specs.Stream.{NalUnit as UnitView};
 ghost use Rattle.h264_verify.specs.Content as contents;
-ghost use Rattle.h264_verify.specs.Pictures.{CodedPicture, order_of, picture_of, coded_of, coded_with, numbering_of, begins_at, open_slices, last_of, begins_after, slices_behind, ends_picture, closing_demands, resets};
-ghost use Rattle.h264_verify.specs.Slices.{type_of, idr_id, count_demand, rules_of, frame_count, newest_count};
-ghost use Rattle.h264_verify.specs.Entering.{Entered};
+ghost use Rattle.h264_verify.specs.Pictures.{CodedSlice, CodedPicture, open_of, joined_to, runs_of, with_sets, order_of, picture_of, numbering_of, is_idr, is_reference, entered, prev_ref_frame_num_behind, begins_at, begins_after, ends_picture, closing_demands, resets};
+ghost use Rattle.h264_verify.specs.Slices.{type_of, idr_id, count_demand, slice_steps, frame_count, newest_count};
 
-use crate::frame_num::check_frame_num;
-use crate::picture::{
-    OpenPicture, begin, begins, go_on, mark_end, numbering_of, resets, seen_types,
-};
+use crate::frame_num::{check_gap, check_idr_num};
+use crate::picture::{OpenPicture, begin, begins, go_on, mark_end, numbering_of, resets};
 use crate::rules::{
-    check_begin, check_id, check_list, check_marking, check_qp, check_type, idr_id,
+    check_first, check_id, check_later, check_list, check_marking, check_qp, check_same_type,
+    check_type, idr_id,
 };
 use crate::sink::FrameSink;
 use h264_base::{Failed, Rule, SliceType, Stop};
@@ -117,9 +116,8 @@ fn picture_of<'a>(sps: &'a Sps, header: &Header) -> Picture<'a>
     }
 }
 
-/// The counts of a slice's picture, where it begins one.
+/// The counts of a picture.
 fn count_picture(
-    begins: bool,
     sps: &Sps,
     header: &Header,
     bit: u64,
@@ -127,19 +125,73 @@ fn count_picture(
     count: &mut Option<Count>,
 ) -> Result<(), Stop>
     requires { has_lengths sps.now ≡ true }
-    ensures judged { (pictures : List Picture) → KeepsCounts pictures counts.old → result ≡ judged (count_demand begins (picture_of sps.now header.now ∷ pictures) bit ∷ []) }
-    ensures kept { (pictures : List Picture) → KeepsCounts pictures counts.old → OnOk result (KeepsCounts (if begins then picture_of sps.now header.now ∷ pictures else pictures) counts.new) }
-    ensures count { (pictures : List Picture) → KeepsCounts pictures counts.old → count.old ≡ newest_count pictures → OnOk result (count.new ≡ newest_count (if begins then picture_of sps.now header.now ∷ pictures else pictures)) }
+    ensures judged { (pictures : List Picture) → KeepsCounts pictures counts.old → result ≡ judged (count_demand (picture_of sps.now header.now ∷ pictures) bit ∷ []) }
+    ensures kept { (pictures : List Picture) → KeepsCounts pictures counts.old → OnOk result (KeepsCounts (picture_of sps.now header.now ∷ pictures) counts.new) }
+    ensures count { (pictures : List Picture) → KeepsCounts pictures counts.old → OnOk result (count.new ≡ newest_count (picture_of sps.now header.now ∷ pictures)) }
 {
-    if !begins {
-        return Ok(());
-    }
     let next = counts.next(&picture_of(sps, header), bit)?;
     *count = Some(next);
     Ok(())
 }
 
-/// The rules of a slice from its type on, where the picture before has ended; and what a picture that begins leaves.
+/// The rules of a picture's first slice from its type on, where the picture before has ended; and what the picture leaves.
+fn check_first_slice(
+    slices: &mut Slices,
+    pps: &Pps,
+    sps: &Sps,
+    header: &Header,
+    bit: u64,
+) -> Result<(), Stop>
+    requires { has_lengths sps.now ≡ true }
+    ensures judged { (pictures : List Picture) → KeepsCounts pictures slices.old.counts → result ≡ judged (first_by slices.old pictures pps.now sps.now header.now bit) }
+    ensures counts { (pictures : List Picture) → KeepsCounts pictures slices.old.counts → OnOk result (KeepsCounts (picture_of sps.now header.now ∷ pictures) slices.new.counts) }
+    ensures count { (pictures : List Picture) → KeepsCounts pictures slices.old.counts → OnOk result (slices.new.count ≡ newest_count (picture_of sps.now header.now ∷ pictures)) }
+    ensures held { OnOk result (slices.new.held ≡ entered (is_idr header.now) slices.old.prev_ref_frame_num (numbering_of sps.now header.now) slices.old.held) }
+    ensures prev { OnOk result (slices.new.prev_ref_frame_num ≡ prev_ref_frame_num_behind (is_idr header.now) (is_reference header.now) (resets header.now.marking) (numbering_of sps.now header.now) slices.old.prev_ref_frame_num) }
+    ensures others { slices.new ≡ record slices.old { counts = slices.new.counts; count = slices.new.count; prev_ref_frame_num = slices.new.prev_ref_frame_num; held = slices.new.held } }
+{
+    check_type(sps, header)?;
+    check_idr_num(header)?;
+    check_gap(sps, header, &mut slices.prev_ref_frame_num, &mut slices.held)?;
+    check_id(slices.newest_idr, header)?;
+    count_picture(sps, header, bit, &mut slices.counts, &mut slices.count)?;
+    check_qp(pps, header)?;
+    check_list(&header.kind.value, &numbering_of(sps, header), &slices.held)
+}
+
+/// The rules of a picture's later slice from its type on.
+fn check_later_slice(slices: &Slices, pps: &Pps, sps: &Sps, header: &Header) -> Result<(), Stop>
+    requires { has_lengths sps.now ≡ true }
+    ensures { result ≡ judged (later_by slices.now pps.now sps.now header.now) }
+{
+    check_type(sps, header)?;
+    check_same_type(&slices.picture, header)?;
+    check_idr_num(header)?;
+    check_qp(pps, header)?;
+    check_list(&header.kind.value, &numbering_of(sps, header), &slices.held)?;
+    check_marking(&slices.picture, header)
+}
+
+/// The rules on where a slice stands, and with which sets, which become the active ones.
+fn check_standing(
+    begins: bool,
+    due: bool,
+    sets: &mut Sets,
+    bit: u64,
+    header: &Header,
+) -> Result<(), Stop>
+    requires { header.now.pic_parameter_set_id.value ≤ 255 }
+    ensures judged { result ≡ judged (standing_demands begins (sets_of sets.old header.now.pic_parameter_set_id.value) due sets.old bit header.now) }
+    ensures activated { OnOk result (sets.new ≡ maps_with sets.old (contents.OfSlice header.now [])) }
+{
+    if begins {
+        check_first(due, sets, bit, header)
+    } else {
+        check_later(sets, header)
+    }
+}
+
+/// The rules of a slice from its type on, and what a picture that begins leaves.
 fn check_rules(
     slices: &mut Slices,
     begins: bool,
@@ -149,30 +201,15 @@ fn check_rules(
     bit: u64,
 ) -> Result<(), Stop>
     requires { has_lengths sps.now ≡ true }
-    ensures judged { (before : History) → KeepsSlices before begins slices.old → begins ≡ begins_at before header.now → result ≡ judged (rules_of begins (open_slices before) (coded_of before) (pps.now, sps.now) bit header.now) }
-    ensures entered { (before : History) → KeepsSlices before begins slices.old → begins ≡ begins_at before header.now → OnOk result (Entered before begins (pps.now, sps.now) header.now slices.new) }
+    ensures judged { (before : History) (unit : UnitView) → bit ≡ 8 * unit.from → KeepsSlices before begins slices.old → begins ≡ begins_at before header.now → result ≡ judged (slice_rules begins (runs_of before) (with_sets unit header.now [] (pps.now, sps.now))) }
+    ensures entered { (before : History) (unit : UnitView) → bit ≡ 8 * unit.from → KeepsSlices before begins slices.old → begins ≡ begins_at before header.now → OnOk result (Entered before begins (with_sets unit header.now [] (pps.now, sps.now)) slices.new) }
     ensures pictures { slices.new.pictures ≡ slices.old.pictures }
 {
-    check_type(begins, seen_types(&slices.picture), sps, header)?;
-    check_frame_num(
-        begins,
-        sps,
-        header,
-        &mut slices.prev_ref_frame_num,
-        &mut slices.held,
-    )?;
-    check_id(begins, slices.newest_idr, header)?;
-    count_picture(
-        begins,
-        sps,
-        header,
-        bit,
-        &mut slices.counts,
-        &mut slices.count,
-    )?;
-    check_qp(pps, header)?;
-    check_list(&header.kind.value, &numbering_of(sps, header), &slices.held)?;
-    check_marking(begins, &slices.picture, header)
+    if begins {
+        check_first_slice(slices, pps, sps, header, bit)
+    } else {
+        check_later_slice(slices, pps, sps, header)
+    }
 }
 
 /// The end of the picture that may go on, if there is one.
@@ -241,7 +278,7 @@ fn frame_count(count: Option<Count>) -> i32
 /// What a slice leaves that begins a picture, or goes on with one. What is kept of its header may leave its place.
 fn enter(slices: &mut Slices, begins: bool, header: &mut Header, numbering: Numbering)
     requires { slices.old.pictures < 2 ^ 42 }
-    ensures picture { (of : List Header) (pictures : List CodedPicture) (sets : Pps × Sps) → HoldsSlices of pictures slices.old.picture → begins ≡ begins_after (last_of of) header.old → numbering ≡ numbering_of sets.1 header.old → HoldsSlices (slices_behind (contents.OfSlice header.old) 5 of) (coded_with begins (Some sets) header.old pictures) slices.new.picture }
+    ensures picture { (on : Bool) (pictures : List CodedPicture) (slice : CodedSlice) → slice.header ≡ header.old → HoldsOpen (open_of on pictures) slices.old.picture → begins ≡ begins_after (open_of on pictures) header.old → numbering ≡ numbering_of slice.sps slice.header → HoldsOpen (open_of true (joined_to begins slice pictures)) slices.new.picture }
     ensures newest { slices.new.newest_idr ≡ (if begins then idr_id header.old.idr_pic_id else slices.old.newest_idr) }
     ensures pictures { slices.new.pictures ≡ (if begins then slices.old.pictures + 1 else slices.old.pictures) }
     ensures due { slices.new.due ≡ false }
@@ -271,16 +308,16 @@ pub(crate) fn judge_slice<S: FrameSink>(
     requires room { S.failures sink.old < 2 ^ 64 - 1 }
     requires id { header.old.pic_parameter_set_id.value ≤ 255 }
     requires pictures { slices.old.pictures < 2 ^ 42 }
-    ensures plays { (before : History) → KeepsSlices before false slices.old → sets.old ≡ maps_of before → Plays S.took S.failures (λ x. x) (header_judged before unit.now header.old) sink.old sink.new result }
-    ensures keeps { (before : History) → KeepsSlices before false slices.old → sets.old ≡ maps_of before → OnOk result (KeepsSlices (record { unit = unit.now; content = contents.OfSlice header.old } ∷ before) false slices.new) }
-    ensures sets { OnOk result (sets.new ≡ maps_with sets.old (contents.OfSlice header.old)) }
+    ensures plays { (before : History) → KeepsSlices before false slices.old → sets.old ≡ maps_of before → Plays S.took S.failures (λ x. x) (steps_outcome (slice_steps before unit.now header.old)) sink.old sink.new result }
+    ensures keeps { (before : History) → KeepsSlices before false slices.old → sets.old ≡ maps_of before → OnOk result (KeepsSlices (record { unit = unit.now; content = contents.OfSlice header.old [] } ∷ before) false slices.new) }
+    ensures sets { OnOk result (sets.new ≡ maps_with sets.old (contents.OfSlice header.old [])) }
     ensures pictures { OnOk result (slices.new.pictures ≤ slices.old.pictures + 1) }
     ensures kept { OnOk result (S.failures sink.new ≡ S.failures sink.old) }
 {
     let bit = 8 * unit.from();
     let begins = begins(&slices.picture, header);
     end_if(begins, slices)?;
-    check_begin(begins, slices.due, sets, bit, header)?;
+    check_standing(begins, slices.due, sets, bit, header)?;
     let Some(named) = named_sets(sets, header.pic_parameter_set_id.value) else {
         return Err(Stop::No {
             bit: header.pic_parameter_set_id.bit,

@@ -1,7 +1,7 @@
 //! One unit.
 #![tactic(auto)]
 
-ghost use Rattle.std.specs.Prelude.{◌≡◌, true, false, IsTrue, ℕ, ◌+◌, ◌-◌, ◌*◌, ◌<◌, ◌≤◌, ◌^◌, List, ◌∷◌, length, ◌==◌, ◌||◌, OnOk, IfOk, Ok, Err, if◌then◌else◌};
+ghost use Rattle.std.specs.Prelude.{◌≡◌, true, false, IsTrue, ℕ, ◌+◌, ◌-◌, ◌*◌, ◌<◌, ◌≤◌, ◌^◌, List, [], ◌∷◌, length, ◌==◌, ◌||◌, OnOk, IfOk, Ok, Err, if◌then◌else◌};
 ghost use Rattle.h264_units.specs.Stream.{NalUnit as UnitView};
 ghost use Rattle.h264_verify.specs.Outcome.{Plays, tells};
 ghost use Rattle.h264_verify.specs.Demands.{judged};
@@ -11,7 +11,8 @@ ghost use Rattle.h264_verify.specs.Content as contents;
 ghost use Rattle.h264_verify.specs.Keeping.{Keeps, KeepsWithin, IsLeft};
 ghost use Rattle.h264_verify.specs.Pictures.{CodedPicture, ends_picture};
 ghost use Rattle.h264_verify.specs.Feeding.{Turns, Joins};
-ghost use Rattle.h264_verify.specs.UnitRules.{unit_call, is_slice, has_pictures, sps_outcome, pps_outcome, slice_outcome, other_outcome, content_outcome, end_outcome};
+ghost use Rattle.h264_verify.specs.Units.{unit_call, is_slice, has_pictures};
+ghost use Rattle.h264_verify.specs.UnitOutcome.{sps_outcome, pps_outcome, slice_outcome, other_outcome, content_outcome, end_outcome};
 
 use crate::judge::{State, Summary};
 use crate::rules::check;
@@ -116,7 +117,7 @@ fn read_slice_unit<S: FrameSink>(
     sink: &mut S,
 ) -> Result<(), Stop>
     requires { S.failures sink.old < 2 ^ 64 - 1 }
-    ensures plays { (before : History) → sets.now ≡ maps_of before → header ≡ header_of unit.now → Plays S.took S.failures (λ _. contents.OfSlice found.new) (slice_outcome before unit.now) sink.old sink.new result }
+    ensures plays { (before : History) → sets.now ≡ maps_of before → header ≡ header_of unit.now → Plays S.took S.failures (λ _. contents.OfSlice found.new []) (slice_outcome before unit.now) sink.old sink.new result }
     ensures id { OnOk result (found.new.pic_parameter_set_id.value ≤ 255) }
     ensures kept { OnOk result (S.failures sink.new ≡ S.failures sink.old) }
 {

@@ -1,5 +1,6 @@
-use Rattle.std.proofs.Common.{ap, sym, Some, []}
+use Rattle.std.proofs.Common.{ap, sym, ◌∙◌, []}
+use Rattle.h264_header.specs.Picture.{picture_elements}
 use Rattle.h264_verify.proofs.picture.restart.Goals as goal
 
 pub returns : goal.returns
-returns c = λ pictures sps n. record { last = ap Some (sym c.picture_elements-picture.ensures); types = c.types_with-picture.ensures [] c.seen_types.ensures; marking = ap Some (sym c.keep_marking.ensures); numbering = ap Some (sym n) }
+returns c = λ slice e n. record { last = c.picture_elements-picture.ensures ∙ ap picture_elements (sym e); types = c.types_with-picture.ensures [] slice e c.seen_types.ensures; marking = c.keep_marking.ensures ∙ ap (λ h. h.marking) (sym e); numbering = n }

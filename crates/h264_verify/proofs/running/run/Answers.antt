@@ -1,6 +1,6 @@
 use Rattle.std.proofs.Common.{[], sym, arith, refl, ap, ◌∙◌, ◌≡◌, ◌+◌}
 use Rattle.std.proofs.lemmas.Result.{err_from_is_err_and}
-use Rattle.h264_verify.specs.UnitRules.{judging}
+use Rattle.h264_verify.specs.UnitOutcome.{judging}
 use Rattle.h264_verify.proofs.Sources.{fed-read, judges-memory}
 use Rattle.h264_verify.proofs.Verdicts.{judges-judged, fed-first, fed-last, fed-as}
 use Rattle.h264_verify.proofs.running.run.Goals as goal

@@ -1,6 +1,6 @@
 use Rattle.std.proofs.Common.{sym, arith, refl, ◌∙◌, ◌≡◌, length, []}
 use Rattle.std.proofs.lemmas.Result.{err_from_is_err_and}
-use Rattle.h264_verify.specs.UnitRules.{judging}
+use Rattle.h264_verify.specs.UnitOutcome.{judging}
 use Rattle.h264_verify.proofs.Sources.{pieces-split-at, goes-all, goes-piece, pieces-stop, pieces-finish, judges-memory}
 use Rattle.h264_verify.proofs.Verdicts.{judges-judged, pieces-first, goes-as, stops-as, finishes-as}
 use Rattle.h264_verify.proofs.running.run_pieces.Goals as goal

@@ -1,7 +1,7 @@
 use Rattle.std.proofs.Common.{[], ◌∙◌}
 use Rattle.h264_verify.proofs.Verdicts.{goes-as, stops-as}
 use Rattle.std.proofs.lemmas.Result.{err_from_is_err_and}
-use Rattle.h264_verify.specs.UnitRules.{judging}
+use Rattle.h264_verify.specs.UnitOutcome.{judging}
 use Rattle.h264_verify.proofs.Sources.{fed-stops, fed-on, fed-same, fed-read}
 use Rattle.h264_verify.proofs.running.turn.Goals as goal
 

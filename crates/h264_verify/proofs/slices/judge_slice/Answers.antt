@@ -1,26 +1,29 @@
+use Rattle.std.proofs.Common.{refl, ap, sym, ◌∙◌, [], ◌*◌, if◌then◌else◌}
 use Rattle.std.proofs.lemmas.Result.{err_from_is_err_and}
-use Rattle.h264_verify.specs.Pictures.{open_slices, coded_of}
-use Rattle.h264_verify.proofs.Slicing.{slice-refused, slice-told, no-set, at-first, at-rules, coded-are, call-is, closes-first, begins-as, none-holds, sets-after}
-use Rattle.h264_verify.proofs.Entering.{slice-keeps}
+use Rattle.h264_header.specs.Layout.{sets_of}
+use Rattle.h264_verify.specs.Pictures.{goes_on, runs_of, with_sets, closing_demands}
+use Rattle.h264_verify.specs.Slices.{slice_steps}
+use Rattle.h264_verify.specs.Keeping.{standing_demands, slice_rules}
+use Rattle.h264_verify.proofs.Slicing.{refused, at-end, at-standing, at-rules, at-telling, err-named, sets-after}
+use Rattle.h264_verify.proofs.Entering.{begins-as, slice-keeps}
 use Rattle.h264_verify.proofs.slices.judge_slice.Goals as goal
 
 pub returns-in_err-end_if-clause-plays : goal.returns-in_err-end_if-clause-plays
 returns-in_err-end_if-clause-plays g c =
     let p = err_from_is_err_and c.from_residual.result c.from_residual.ensures.1 in
-    rw (p.1, p.2) (λ before k m. slice-refused _ _ (λ x. x) before _ _ _ _ (closes-first before c.args.unit.now c.args.header.now c.begins-begins.result _ (begins-as before c.args.header.now c.args.slices.now _ k c.begins-begins.ensures) (c.in_err-end_if.ensures.judged before k)))
-
-pub returns-in_err-check_begin-clause-plays : goal.returns-in_err-check_begin-clause-plays
-returns-in_err-check_begin-clause-plays g c =
-    let p = err_from_is_err_and c.from_residual-in_err-check_begin.result c.from_residual-in_err-check_begin.ensures.1 in
     rw (p.1, p.2) (λ before k m.
     let b = begins-as before c.args.header.now c.args.slices.now _ k c.begins-begins.ensures in
-    let first = rw c.from-bit.ensures.value at c.in_err-check_begin.ensures.judged in
-    slice-refused _ _ (λ x. x) before _ _ _ _ (at-first before c.args.unit.now c.args.header.now c.end_if.new.slices c.args.sets.now c.begins-begins.result _ (c.in_ok-end_if.ensures.ended before k) m b (c.in_ok-end_if.ensures.judged before k) _ first))
+    let broken = c.in_err-end_if.ensures.judged before k in
+    refused g.S.Elements.took g.S.Elements.failures (slice_steps before c.args.unit.now c.args.header.now) _ _ (at-end before c.args.unit.now c.args.header.now c.begins-begins.result b _ broken) (err-named (if c.begins-begins.result then closing_demands before else []) _ (sym broken)))
 
-pub returns-in_default-clause-plays : goal.returns-in_default-clause-plays
-returns-in_default-clause-plays g c = λ before k m.
+pub returns-in_err-check_standing-clause-plays : goal.returns-in_err-check_standing-clause-plays
+returns-in_err-check_standing-clause-plays g c =
+    let p = err_from_is_err_and c.from_residual-in_err-check_standing.result c.from_residual-in_err-check_standing.ensures.1 in
+    rw (p.1, p.2) (λ before k m.
     let b = begins-as before c.args.header.now c.args.slices.now _ k c.begins-begins.ensures in
-    slice-refused _ _ (λ x. x) before _ _ _ _ (no-set before c.args.unit.now c.args.header.now c.end_if.new.slices c.args.sets.now c.begins-begins.result _ (c.in_ok-end_if.ensures.ended before k) m b (c.in_ok-end_if.ensures.judged before k) (sets-after c.args.sets.now _ c.args.header.now _ c.in_ok-check_begin.ensures.activated (none-holds _ c.named_sets.ensures.none c.in_default.not-Some)))
+    let kept = c.in_ok-end_if.ensures.ended before k in
+    let broken = rw c.from-bit.ensures.value at c.in_err-check_standing.ensures.judged in
+    refused g.S.Elements.took g.S.Elements.failures (slice_steps before c.args.unit.now c.args.header.now) _ _ (at-standing before c.args.unit.now c.args.header.now c.begins-begins.result b _ (c.in_ok-end_if.ensures.judged before k) _ c.args.sets.now kept.due m _ refl _ broken) (err-named (standing_demands c.begins-begins.result (sets_of c.args.sets.now c.args.header.now.pic_parameter_set_id.value) c.end_if.new.slices.due c.args.sets.now (8 * c.args.unit.now.from) c.args.header.now) _ (sym broken)))
 
 pub returns-in_err-check_rules-clause-plays : goal.returns-in_err-check_rules-clause-plays
 returns-in_err-check_rules-clause-plays g c =
@@ -28,10 +31,10 @@ returns-in_err-check_rules-clause-plays g c =
     rw (p.1, p.2) (λ before k m.
     let b = begins-as before c.args.header.now c.args.slices.now _ k c.begins-begins.ensures in
     let kept = c.in_ok-end_if.ensures.ended before k in
-    let first = rw c.from-bit.ensures.value at c.in_ok-check_begin.ensures.judged in
-    let named = sets-after c.args.sets.now _ c.args.header.now _ c.in_ok-check_begin.ensures.activated c.in-Some.ensures.some in
-    let rules = rw c.from-bit.ensures.value at (c.in_err-check_rules.ensures.judged before kept b) in
-    slice-refused _ _ (λ x. x) before _ _ _ _ (at-rules before c.args.unit.now c.args.header.now c.end_if.new.slices c.args.sets.now c.begins-begins.result _ kept m b (c.in_ok-end_if.ensures.judged before k) _ _ named _ _ first rules))
+    let stands = rw c.from-bit.ensures.value at c.in_ok-check_standing.ensures.judged in
+    let named = sets-after c.args.sets.now _ c.args.header.now _ c.in_ok-check_standing.ensures.activated c.in-Some.ensures.some in
+    let broken = c.in_err-check_rules.ensures.judged before c.args.unit.now (ap (λ x. 8 * x) c.from-bit.ensures.value) kept b in
+    refused g.S.Elements.took g.S.Elements.failures (slice_steps before c.args.unit.now c.args.header.now) _ _ (at-rules before c.args.unit.now c.args.header.now c.begins-begins.result b _ (c.in_ok-end_if.ensures.judged before k) _ c.args.sets.now kept.due m _ named _ stands _ broken) (err-named (slice_rules c.begins-begins.result (runs_of before) (with_sets c.args.unit.now c.args.header.now [] (c.in-Some.named.0.now, c.in-Some.named.1.now))) _ (sym broken)))
 
 pub returns-in_err-tell_slice-clause-plays : goal.returns-in_err-tell_slice-clause-plays
 returns-in_err-tell_slice-clause-plays g c =
@@ -39,26 +42,26 @@ returns-in_err-tell_slice-clause-plays g c =
     rw (p.1, p.2) (λ before k m.
     let b = begins-as before c.args.header.now c.args.slices.now _ k c.begins-begins.ensures in
     let kept = c.in_ok-end_if.ensures.ended before k in
-    let first = rw c.from-bit.ensures.value at c.in_ok-check_begin.ensures.judged in
-    let named = sets-after c.args.sets.now _ c.args.header.now _ c.in_ok-check_begin.ensures.activated c.in-Some.ensures.some in
-    let rules = rw c.from-bit.ensures.value at (c.in_ok-check_rules.ensures.judged before kept b) in
-    let told = rw c.from.ensures.value at c.in_err-tell_slice.ensures in
-    slice-told _ _ (λ x. x) before _ _ _ _ _ _ (at-rules before c.args.unit.now c.args.header.now c.end_if.new.slices c.args.sets.now c.begins-begins.result _ kept m b (c.in_ok-end_if.ensures.judged before k) _ _ named _ _ first rules) (call-is before c.args.unit.now c.args.header.now c.end_if.new.slices c.args.sets.now c.begins-begins.result _ kept m b (c.in_ok-end_if.ensures.judged before k) _ _ named _ (c.in_ok-check_rules.ensures.entered before kept b).count) told)
+    let stands = rw c.from-bit.ensures.value at c.in_ok-check_standing.ensures.judged in
+    let named = sets-after c.args.sets.now _ c.args.header.now _ c.in_ok-check_standing.ensures.activated c.in-Some.ensures.some in
+    let met = c.in_ok-check_rules.ensures.judged before c.args.unit.now (ap (λ x. 8 * x) c.from-bit.ensures.value) kept b in
+    let entered = c.in_ok-check_rules.ensures.entered before c.args.unit.now (ap (λ x. 8 * x) c.from-bit.ensures.value) kept b in
+    rw (at-telling before c.args.unit.now c.args.header.now c.begins-begins.result b _ (c.in_ok-end_if.ensures.judged before k) _ c.args.sets.now kept.due m _ named _ stands _ met, ← entered.count, ← c.from.ensures.value) c.in_err-tell_slice.ensures)
 
 pub returns-clause-plays : goal.returns-clause-plays
 returns-clause-plays g c = λ before k m.
     let b = begins-as before c.args.header.now c.args.slices.now _ k c.begins-begins.ensures in
     let kept = c.in_ok-end_if.ensures.ended before k in
-    let first = rw c.from-bit.ensures.value at c.in_ok-check_begin.ensures.judged in
-    let named = sets-after c.args.sets.now _ c.args.header.now _ c.in_ok-check_begin.ensures.activated c.in-Some.ensures.some in
-    let rules = rw c.from-bit.ensures.value at (c.in_ok-check_rules.ensures.judged before kept b) in
-    let told = rw c.from.ensures.value at c.in_ok-tell_slice.ensures in
-    slice-told _ _ (λ x. x) before _ _ _ _ _ _ (at-rules before c.args.unit.now c.args.header.now c.end_if.new.slices c.args.sets.now c.begins-begins.result _ kept m b (c.in_ok-end_if.ensures.judged before k) _ _ named _ _ first rules) (call-is before c.args.unit.now c.args.header.now c.end_if.new.slices c.args.sets.now c.begins-begins.result _ kept m b (c.in_ok-end_if.ensures.judged before k) _ _ named _ (c.in_ok-check_rules.ensures.entered before kept b).count) told
+    let stands = rw c.from-bit.ensures.value at c.in_ok-check_standing.ensures.judged in
+    let named = sets-after c.args.sets.now _ c.args.header.now _ c.in_ok-check_standing.ensures.activated c.in-Some.ensures.some in
+    let met = c.in_ok-check_rules.ensures.judged before c.args.unit.now (ap (λ x. 8 * x) c.from-bit.ensures.value) kept b in
+    let entered = c.in_ok-check_rules.ensures.entered before c.args.unit.now (ap (λ x. 8 * x) c.from-bit.ensures.value) kept b in
+    rw (at-telling before c.args.unit.now c.args.header.now c.begins-begins.result b _ (c.in_ok-end_if.ensures.judged before k) _ c.args.sets.now kept.due m _ named _ stands _ met, ← entered.count, ← c.from.ensures.value) c.in_ok-tell_slice.ensures
 
 pub returns-clause-keeps : goal.returns-clause-keeps
 returns-clause-keeps g c = λ before k m.
     let b = begins-as before c.args.header.now c.args.slices.now _ k c.begins-begins.ensures in
     let kept = c.in_ok-end_if.ensures.ended before k in
-    let named = sets-after c.args.sets.now _ c.args.header.now _ c.in_ok-check_begin.ensures.activated c.in-Some.ensures.some in
-    let entered = c.in_ok-check_rules.ensures.entered before kept b in
-    slice-keeps before c.args.unit.now c.args.header.now c.check_rules.new.slices c.enter.new.slices c.begins-begins.result _ _ (coded-are before c.args.unit.now c.args.header.now c.end_if.new.slices c.args.sets.now c.begins-begins.result _ kept m b (c.in_ok-end_if.ensures.judged before k) _ _ named) entered (c.enter.ensures.picture (open_slices before) (coded_of before) (c.in-Some.named.0.now, c.in-Some.named.1.now) entered.picture b c.numbering_of-numbering.ensures) c.enter.ensures.due c.enter.ensures.newest c.enter.ensures.pictures c.enter.ensures.others
+    let named = sets-after c.args.sets.now _ c.args.header.now _ c.in_ok-check_standing.ensures.activated c.in-Some.ensures.some in
+    let entered = c.in_ok-check_rules.ensures.entered before c.args.unit.now (ap (λ x. 8 * x) c.from-bit.ensures.value) kept b in
+    slice-keeps before c.args.unit.now c.args.header.now c.args.sets.now c.check_rules.new.slices c.enter.new.slices c.begins-begins.result _ b m named entered (c.enter.ensures.picture (goes_on before) (runs_of before) (with_sets c.args.unit.now c.args.header.now [] (c.in-Some.named.0.now, c.in-Some.named.1.now)) refl entered.picture b c.numbering_of-numbering.ensures) c.enter.ensures.due c.enter.ensures.newest c.enter.ensures.pictures c.enter.ensures.others

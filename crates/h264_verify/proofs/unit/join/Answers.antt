@@ -1,5 +1,5 @@
 use Rattle.std.proofs.lemmas.Bool.{ne_eqb}
-use Rattle.h264_verify.specs.UnitRules.{content_outcome}
+use Rattle.h264_verify.specs.UnitOutcome.{content_outcome}
 use Rattle.h264_verify.proofs.unit.join.Goals as goal
 
 pub returns-then-header-eq7-clause-joins : goal.returns-then-header-eq7-clause-joins

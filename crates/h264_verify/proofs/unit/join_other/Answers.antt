@@ -1,6 +1,6 @@
 use Rattle.std.proofs.Common.{sym, ◌∙◌, refl}
 use Rattle.h264_verify.specs.Content as contents
-use Rattle.h264_verify.specs.UnitRules.{other_outcome}
+use Rattle.h264_verify.specs.UnitOutcome.{other_outcome}
 use Rattle.h264_verify.proofs.Playing.{gives-plays}
 use Rattle.h264_verify.proofs.Joining.{joins-on}
 use Rattle.h264_verify.proofs.unit.join_other.Goals as goal

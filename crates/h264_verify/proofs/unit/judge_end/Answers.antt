@@ -1,32 +1,34 @@
-use Rattle.std.proofs.Common.{ap, sym, ℕ, List, [], ◌∷◌}
+use Rattle.std.proofs.Common.{◌∙◌, ap, sym, ℕ, List, [], ◌∷◌}
 use Rattle.std.proofs.lemmas.Result.{err_from_is_err_and}
 use Rattle.h264_base.specs.declared.mode.Mode.{Mode}
 use Rattle.h264_base.specs.declared.rule.Rule.TheVariants.{NoPicture}
 use Rattle.h264_verify.specs.History.{History}
 use Rattle.h264_verify.specs.Demands.{Demand}
-use Rattle.h264_verify.specs.Pictures.{coded_of, closing_demands}
+use Rattle.h264_verify.specs.Pictures.{runs_of, closing_demands}
 use Rattle.h264_verify.specs.Outcome.{answers}
-use Rattle.h264_verify.specs.UnitRules.{has_pictures, end_demands, end_outcome}
+use Rattle.h264_verify.specs.Units.{has_pictures, end_demands}
+use Rattle.h264_verify.specs.UnitOutcome.{end_outcome}
 use Rattle.h264_verify.proofs.Playing.{answer-stops, answer-on, gives-plays}
 use Rattle.h264_verify.proofs.Slicing.{err-named, stop-at, pass-by}
+use Rattle.h264_verify.proofs.Stepping.{needs-judged}
 use Rattle.h264_verify.proofs.unit.judge_end.Goals as goal
 
 -- the rule on the end itself
 abbrev at-end : Mode → History → ℕ → List Demand
-at-end mode before bit = record { rule = NoPicture; bit = bit; met = has_pictures mode (coded_of before) } ∷ []
+at-end mode before bit = record { rule = NoPicture; bit = bit; met = has_pictures mode (runs_of before) } ∷ []
 
 pub returns-in_err-end_if : goal.returns-in_err-end_if
 unfolding end_outcome
 returns-in_err-end_if g c =
     let p = err_from_is_err_and c.from_residual.result c.from_residual.ensures.1 in
-    rw (p.1, p.2) (λ before k. let h = stop-at (closing_demands before) (at-end c.args.mode before c.args.bit) _ (c.in_err-end_if.ensures.judged before k.slices) in answer-stops _ _ (λ x. x) _ _ _ _ (ap answers (sym h)) (err-named (end_demands c.args.mode before c.args.bit) _ (sym h)))
+    rw (p.1, p.2) (λ before k. let h = stop-at (closing_demands before) (at-end c.args.mode before c.args.bit) _ (c.in_err-end_if.ensures.judged before k.slices) in answer-stops _ _ (λ x. x) _ _ _ _ (needs-judged (end_demands c.args.mode before c.args.bit) ∙ ap answers (sym h)) (err-named (end_demands c.args.mode before c.args.bit) _ (sym h)))
 
 pub returns-in_err-check : goal.returns-in_err-check
 unfolding end_outcome
 returns-in_err-check g c =
     let p = err_from_is_err_and c.from_residual-in_err-check.result c.from_residual-in_err-check.ensures.1 in
-    rw (p.1, p.2) (λ before k. let met = rw (c.has_pictures.ensures (coded_of before) (c.in_ok-end_if.ensures.ended before k.slices).pictures) at c.in_err-check.ensures in let h = pass-by (closing_demands before) (at-end c.args.mode before c.args.bit) _ _ (c.in_ok-end_if.ensures.judged before k.slices) met in answer-stops _ _ (λ x. x) _ _ _ _ (ap answers (sym h)) (err-named (end_demands c.args.mode before c.args.bit) _ (sym h)))
+    rw (p.1, p.2) (λ before k. let met = rw (c.has_pictures.ensures (runs_of before) (c.in_ok-end_if.ensures.ended before k.slices).kept.pictures_are) at c.in_err-check.ensures in let h = pass-by (closing_demands before) (at-end c.args.mode before c.args.bit) _ _ (c.in_ok-end_if.ensures.judged before k.slices) met in answer-stops _ _ (λ x. x) _ _ _ _ (needs-judged (end_demands c.args.mode before c.args.bit) ∙ ap answers (sym h)) (err-named (end_demands c.args.mode before c.args.bit) _ (sym h)))
 
 pub returns : goal.returns
 unfolding end_outcome
-returns g c = λ before k. let ended = c.in_ok-end_if.ensures.ended before k.slices in let met = rw (c.has_pictures.ensures (coded_of before) ended.pictures) at c.in_ok-check.ensures in let h = pass-by (closing_demands before) (at-end c.args.mode before c.args.bit) _ _ (c.in_ok-end_if.ensures.judged before k.slices) met in answer-on _ _ (λ x. x) _ _ _ _ _ _ (ap answers (sym h)) (rw (k.units, ended.pictures) (gives-plays _ _ (λ x. x) _ _))
+returns g c = λ before k. let ended = c.in_ok-end_if.ensures.ended before k.slices in let met = rw (c.has_pictures.ensures (runs_of before) ended.kept.pictures_are) at c.in_ok-check.ensures in let h = pass-by (closing_demands before) (at-end c.args.mode before c.args.bit) _ _ (c.in_ok-end_if.ensures.judged before k.slices) met in answer-on _ _ (λ x. x) _ _ _ _ _ _ (needs-judged (end_demands c.args.mode before c.args.bit) ∙ ap answers (sym h)) (rw (k.units, ended.kept.pictures_are) (gives-plays _ _ (λ x. x) _ _))

@@ -1,7 +1,7 @@
 use Rattle.std.proofs.lemmas.Result.{err_from_is_err_and}
 use Rattle.h264_pps.specs.Pps.{pps}
 use Rattle.h264_verify.specs.Content as contents
-use Rattle.h264_verify.specs.UnitRules.{pps_outcome}
+use Rattle.h264_verify.specs.UnitOutcome.{pps_outcome}
 use Rattle.h264_verify.proofs.Playing.{plays-gives, memory-plays, meets-plays}
 use Rattle.h264_verify.proofs.unit.read_pps_unit.Goals as goal
 

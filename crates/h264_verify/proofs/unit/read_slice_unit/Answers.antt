@@ -1,8 +1,9 @@
+use Rattle.std.proofs.Common.{[]}
 use Rattle.std.proofs.lemmas.Result.{err_from_is_err_and}
 use Rattle.h264_header.specs.Layout.{sets_of}
 use Rattle.h264_header.specs.Header.{header}
 use Rattle.h264_verify.specs.Content as contents
-use Rattle.h264_verify.specs.UnitRules.{slice_outcome}
+use Rattle.h264_verify.specs.UnitOutcome.{slice_outcome}
 use Rattle.h264_verify.proofs.Playing.{plays-gives, memory-plays, meets-plays}
 use Rattle.h264_verify.proofs.unit.read_slice_unit.Goals as goal
 
@@ -11,4 +12,4 @@ returns-in_err-rbsp-clause-plays g c = let p = err_from_is_err_and c.from_residu
 
 pub returns-clause-plays : goal.returns-clause-plays
 unfolding slice_outcome
-returns-clause-plays g c = λ before m h. rw (← c.in_ok-rbsp.ensures.ok, ← m, ← h) (plays-gives _ _ (λ _. c.read_header.new.header) contents.OfSlice _ _ _ _ (meets-plays _ _ _ (header (sets_of c.args.sets.now) _) _ _ _ _ _ _ c.new-bits.ensures c.read_header.ensures.meets c.read_header.ensures.answers))
+returns-clause-plays g c = λ before m h. rw (← c.in_ok-rbsp.ensures.ok, ← m, ← h) (plays-gives _ _ (λ _. c.read_header.new.header) (λ h. contents.OfSlice h []) _ _ _ _ (meets-plays _ _ _ (header (sets_of c.args.sets.now) _) _ _ _ _ _ _ c.new-bits.ensures c.read_header.ensures.meets c.read_header.ensures.answers))

@@ -1,7 +1,7 @@
 use Rattle.std.proofs.lemmas.Result.{err_from_is_err_and}
 use Rattle.h264_sps.specs.Sps.{sps}
 use Rattle.h264_verify.specs.Content as contents
-use Rattle.h264_verify.specs.UnitRules.{sps_outcome}
+use Rattle.h264_verify.specs.UnitOutcome.{sps_outcome}
 use Rattle.h264_verify.proofs.Playing.{plays-gives, memory-plays, meets-plays}
 use Rattle.h264_verify.proofs.unit.read_sps_unit.Goals as goal
 

@@ -1,0 +1,99 @@
+-- What comes of one unit behind those before it, and of the end of the input. A working form of `Units`, which the code is proved against.
+use Rattle.std.specs.Prelude.{ℕ, ◌*◌, Bool, true, false, List, [], ◌∷◌, ◌++◌, map, length, ◌==◌, Result, Ok, Err, if◌then◌else◌}
+use Rattle.h264_base.specs.declared.mode.Mode.{Mode}
+use Rattle.h264_base.specs.declared.mode.Mode.TheVariants as modes
+use Rattle.h264_base.specs.declared.stop.Stop.TheVariants.{No, Outside}
+use Rattle.h264_base.specs.Body.{Body}
+use Rattle.h264_base.specs.Grammar.{Grammar}
+use Rattle.h264_base.specs.Run.{run, call_of}
+use Rattle.h264_units.specs.Stream.{NalUnit}
+use Rattle.h264_rbsp.specs.Emulation.{emulation_checked}
+use Rattle.h264_rbsp.specs.Rbsp.{body_of}
+use Rattle.h264_sps.specs.Sps.{sps}
+use Rattle.h264_pps.specs.Pps.{pps}
+use Rattle.h264_header.specs.Layout.{sets_of}
+use Rattle.h264_header.specs.Header.{header}
+use Rattle.h264_verify.specs.declared.judge.Summary.{Summary}
+use Rattle.h264_verify.specs.Content.{Content}
+use Rattle.h264_verify.specs.Content as contents
+use Rattle.h264_verify.specs.Demands.{judged}
+use Rattle.h264_verify.specs.Outcome.{Outcome, ◌>>=◌, with_calls, answers, gives, tells, structure_outcome}
+use Rattle.h264_verify.specs.Judging.{Judging}
+use Rattle.h264_verify.specs.Steps.{Step, Needs, Pends, Tells, Course, Takes, Reads, Ends}
+use Rattle.h264_verify.specs.UnitHeader.{header_of, nal_unit_type, header_demands}
+use Rattle.h264_verify.specs.History.{History, maps_of}
+use Rattle.h264_verify.specs.Pictures.{closing_at}
+use Rattle.h264_verify.specs.Units.{unit_call, is_slice, slice_unit, content_steps, unit_course, end_steps, summary_of}
+
+-- steps, one after another
+abbrev pub steps_outcome : List Step → Outcome (Unit {0})
+steps_outcome [] = gives tt
+steps_outcome (Needs d ∷ steps) = if d.met then steps_outcome steps else answers (Err (No d.bit d.rule))
+steps_outcome (Pends feature bit ∷ steps) = answers (Err (Outside bit feature))
+steps_outcome (Tells call ∷ steps) = with_calls (call ∷ []) (steps_outcome steps)
+
+-- a syntax structure from a bit on, and the bit behind it
+abbrev pub structure_from : {A : Type 0} → Grammar A → Body → ℕ → Outcome (A × ℕ)
+structure_from g body bit = record { calls = map (call_of body) (run g body bit).elements; answer = (run g body bit).answer }
+
+-- the course of a unit
+unfoldable pub course_outcome : Body → Course → Outcome Content
+course_outcome body (Ends found) = gives found
+course_outcome body (Takes steps course) = steps_outcome steps >>= λ _. course_outcome body course
+course_outcome body (Reads g bit next) = structure_from g body bit >>= λ x. course_outcome body (next x.0 x.1)
+
+-- a parameter set is read
+unfoldable pub sps_outcome : NalUnit → Outcome Content
+sps_outcome unit = do
+  set ← structure_outcome sps (body_of unit)
+  gives (contents.OfSps set)
+
+unfoldable pub pps_outcome : NalUnit → Outcome Content
+pps_outcome unit = do
+  set ← structure_outcome pps (body_of unit)
+  gives (contents.OfPps set)
+
+unfoldable pub slice_outcome : History → NalUnit → Outcome Content
+slice_outcome before unit = do
+  h ← structure_outcome (header (sets_of (maps_of before)) (slice_unit unit)) (body_of unit)
+  gives (contents.OfSlice h [])
+
+-- what is in a unit that is no parameter set: slices are read unless they are passed over
+unfoldable pub other_outcome : Mode → ℕ → History → NalUnit → Outcome Content
+other_outcome modes.Units kind before unit = gives contents.Passed
+other_outcome modes.Headers kind before unit = if is_slice kind then slice_outcome before unit else gives contents.Passed
+
+unfoldable pub content_outcome : Mode → ℕ → History → NalUnit → Outcome Content
+content_outcome mode kind before unit = if kind == 7 then sps_outcome unit else (if kind == 8 then pps_outcome unit else other_outcome mode kind before unit)
+
+-- what is in a unit is judged, and belongs to the history then
+abbrev pub joined : History → NalUnit → Outcome Content → Outcome History
+joined before unit content = do
+  found ← content
+  _ ← steps_outcome (content_steps before unit found)
+  gives (record { unit = unit; content = found } ∷ before)
+
+-- the course of a unit step by step
+unfoldable pub unit_by_steps : Mode → History → NalUnit → Outcome History
+unit_by_steps mode before unit = do
+  _ ← answers (emulation_checked unit.from unit.body)
+  _ ← answers (judged (header_demands (8 * unit.from) (header_of unit)))
+  _ ← tells (unit_call unit.from (header_of unit) (length unit.body))
+  _ ← answers (judged (closing_at (nal_unit_type (header_of unit)) before))
+  joined before unit (content_outcome mode (nal_unit_type (header_of unit)) before unit)
+
+-- what comes of a unit: it joins those before it, once its course has come to its end
+unfoldable pub unit_outcome : Mode → History → NalUnit → Outcome History
+unit_outcome mode before unit = do
+  _ ← answers (emulation_checked unit.from unit.body)
+  found ← course_outcome (body_of unit) (unit_course mode before unit)
+  gives (record { unit = unit; content = found } ∷ before)
+
+-- the end of the input, at this bit: the picture that may go on ends, and then the stream
+unfoldable pub end_outcome : Mode → History → ℕ → Outcome Summary
+end_outcome mode before bit = do
+  _ ← steps_outcome (end_steps mode before bit)
+  gives (summary_of before)
+
+abbrev pub judging : Mode → Judging History Summary
+judging mode = record { unit = unit_outcome mode; end = end_outcome mode }
