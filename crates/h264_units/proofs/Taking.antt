@@ -1,12 +1,12 @@
 -- A unit that waits is the first of the bytes that are left.
-use Rattle.std.proofs.Common.{◌≡◌, ℕ, zero, suc, ◌+◌, ◌*◌, ◌<◌, ◌≤◌, min, Bool, true, false, List, [], ◌∷◌, ◌++◌, length, replicate, Option, Some, None, refl, ap, sym, ◌∙◌, subst, arith, append_assoc, length-append}
+use Rattle.std.proofs.Common.{◌≡◌, ℕ, zero, suc, ◌+◌, ◌*◌, ◌<◌, ◌≤◌, min, inl, inr, Bool, true, false, List, [], ◌∷◌, ◌++◌, length, replicate, Option, Some, None, refl, ap, sym, ◌∙◌, subst, arith, append_assoc, length-append}
 use Rattle.std.proofs.lemmas.List.{length-replicate}
 use Rattle.h264_base.specs.declared.rule.Rule.TheVariants.{EmptyUnit}
 use Rattle.h264_base.specs.declared.stop.Stop.{Stop}
 use Rattle.h264_base.specs.declared.stop.Stop.TheVariants.{No}
 use Rattle.h264_units.specs.declared.scan.Phase.{Phase}
 use Rattle.h264_units.specs.declared.scan.Phase.TheVariants.{Inside, Waiting, Last}
-use Rattle.h264_units.specs.Stream.{NalUnit, EndsUnit, IsBody, started, past, unit_limit, input_limit, Next, Bare}
+use Rattle.h264_units.specs.Stream.{NalUnit, EndsUnit, IsBody, started, past, unit_limit, input_limit, Next, Bare, IsUndecided}
 use Rattle.h264_units.specs.Splitting.{Splitting, Taken, FinishStops, stopped_by}
 use Rattle.h264_units.specs.Scanned.{third, rest_of, waits, has_ended, IsKept, IsLive}
 use Rattle.h264_units.proofs.Streams.{started-append, length-started}
@@ -30,6 +30,11 @@ live-last : (stop : Option Stop) (held : ℕ) → IsLive stop (Last held) → st
 live-last None held h = refl
 live-last (Some stop) held h = absurd h
 
+-- what is left behind a unit shows no other
+code-undecided : (code : Bool) → IsUndecided (0 ∷ 0 ∷ third code ∷ [])
+code-undecided true = inr (record { zeros = 0; body = []; held = 0; whole = refl; inner = tt; fits = omega arith; few = omega arith })
+code-undecided false = inl (3, refl)
+
 pub taken-waiting : (at lead : ℕ) (body : List ℕ) (stop : Option Stop) (code : Bool) (new : Splitting) (unit : NalUnit) → IsKept (Waiting code) at lead body → IsLive stop (Waiting code) →
     unit ≡ record { from = at + lead + 3; body = body } → new.at ≡ at + lead + 3 + length body → new.rest ≡ 0 ∷ 0 ∷ third code ∷ [] → new.waiting ≡ false → new.ended ≡ false → new.stop ≡ stop →
     Taken (splitting (Waiting code) at lead body stop) new unit
@@ -48,6 +53,7 @@ taken-waiting at lead body stop code new unit k live u a r w e s =
       last = λ ended. cc;
       at_is = a ∙ ap past (sym u);
       waits_no_more = w;
+      undecided = subst IsUndecided (sym r) (code-undecided code);
       ended_is = e;
       stop_is = s ∙ live-none stop code live;
     }
@@ -73,6 +79,7 @@ taken-last at lead body stop zeros new unit k live u a r w e s =
       last = λ ended. (zeros, r, omega arith);
       at_is = a ∙ ap past (sym u);
       waits_no_more = w;
+      undecided = inl (zeros, r);
       ended_is = e;
       stop_is = s ∙ live-last stop zeros live;
     }

@@ -61,6 +61,8 @@ pub record Taken (old new : Splitting) (unit : NalUnit) : Type 0 where
   pub last : IsTrue old.ended → HasTail new.at new.rest Zeros
   pub at_is : new.at ≡ past unit
   pub waits_no_more : IsFalse new.waiting
+  -- no whole unit is left behind
+  pub undecided : IsUndecided new.rest
   pub ended_is : new.ended ≡ old.ended
   pub stop_is : new.stop ≡ None
 

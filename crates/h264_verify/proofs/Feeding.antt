@@ -11,6 +11,7 @@ use Rattle.h264_verify.specs.Outcome.{Outcome, ◌>>=◌, answers, with_calls, g
 use Rattle.h264_verify.specs.Judging.{Judging, unless, tail_outcome, units_outcome, Comes}
 use Rattle.h264_verify.specs.Session.{Standing, ToCome, Goes, Ends, Begins, Stops, StopsBy}
 use Rattle.h264_verify.proofs.Tellings.{tells-none, tells-both}
+use Rattle.h264_verify.proofs.Ways.{way-none, way-push, way-unit, way-both}
 
 -- the same bytes
 pub comes-along : {State Summary : Type 0} (j : Judging State Summary) (at : ℕ) (s : State) (a b : List ℕ) (o : Outcome Summary) → a ≡ b → Comes j at s a o → Comes j at s b o
@@ -20,6 +21,7 @@ pub goes-push : {State Summary : Type 0} (j : Judging State Summary) {S : Type 0
 goes-push j took old new state piece n s p = record {
   calls = [];
   tells = tells-none took s;
+  way = way-push j old new state piece n p;
   after = λ more o c. (o, subst (λ l. Comes j l state (new.rest ++ (drop n piece ++ more)) o) (sym p.at_is) (comes-along j old.at state _ _ o (cut more) c), refl);
 }
   where
@@ -87,6 +89,7 @@ unfolding ◌>>=◌
 goes-unit j took failures view old new state unit left s s' x t live p = record {
   calls = (j.unit state unit).calls;
   tells = p.plays.1;
+  way = way-unit j old new state (view x) unit left t live p.plays.0;
   after = λ more o c.
       let f = taken-judged j old new state unit (left ++ more) o t live c in (
         units_outcome j (view x) f.units f.tail (past unit + length (new.rest ++ (left ++ more))),
@@ -141,6 +144,7 @@ pub goes-both : {State Summary : Type 0} {j : Judging State Summary} {S : Type 0
 goes-both a b = record {
   calls = a.calls ++ b.calls;
   tells = tells-both a.tells b.tells;
+  way = way-both a.way b.way;
   after = λ more o c.
       let first = a.after more o c in
       let second = b.after more first.0 first.1 in
@@ -148,7 +152,7 @@ goes-both a b = record {
 }
 
 pub goes-none : {State Summary : Type 0} (j : Judging State Summary) {S : Type 0} (took : S → List Call → Type 0) (old : Standing State) (piece : List ℕ) (s : S) → Goes j took old old piece piece s s
-goes-none j took old piece s = record { calls = []; tells = tells-none took s; after = λ more o c. (o, c, refl) }
+goes-none j took old piece s = record { calls = []; tells = tells-none took s; way = way-none j old piece; after = λ more o c. (o, c, refl) }
 
 -- the input goes on, and then the session stops
 pub stops-after : {State Summary : Type 0} (j : Judging State Summary) {S : Type 0} (took : S → List Call → Type 0) (failures : S → ℕ) (old mid : Standing State) (piece left : List ℕ) (s0 s1 s2 : S) (stop : Stop) → Goes j took old mid piece left s0 s1 → failures s1 ≡ failures s0 → Stops j took failures mid left s1 s2 stop → Stops j took failures old piece s0 s2 stop

@@ -1,5 +1,6 @@
 pub mod Tellings
 pub mod Playing
+pub mod Ways
 pub mod Feeding
 pub mod Finishing
 pub mod Sources

@@ -11,6 +11,7 @@ use Rattle.h264_units.proofs.Streams.{same-units}
 use Rattle.h264_units.proofs.Total.{some-split}
 use Rattle.h264_verify.specs.Outcome.{Outcome, with_calls, PlaysBy}
 use Rattle.h264_verify.specs.Judging.{Judging, units_outcome, Comes}
+use Rattle.h264_verify.proofs.Ways.{way-more}
 use Rattle.h264_verify.specs.Session.{Standing, ToCome, Goes, Stops, StopsBy, Finishes, Fed, RansBy, Judges}
 use Rattle.h264_verify.proofs.Tellings.{tells-none, tells-both, front-after}
 use Rattle.h264_verify.proofs.Feeding.{goes-both, stops-after, goes-none}
@@ -39,6 +40,7 @@ pub goes-more : {State Summary : Type 0} {j : Judging State Summary} {S : Type 0
 goes-more {j} {old} {a} b g = record {
   calls = g.calls;
   tells = g.tells;
+  way = way-more b g.way;
   after = λ more o c. g.after (b ++ more) o (subst (λ l. ToCome j old l o) (append_assoc a b more) c);
 }
 

@@ -6,7 +6,7 @@ use Rattle.h264_base.specs.declared.rule.Rule.TheVariants.{Emulation}
 use Rattle.h264_base.specs.declared.stop.Stop.{Stop}
 use Rattle.h264_base.specs.declared.stop.Stop.TheVariants.{No, Outside, Memory, Read, Write}
 use Rattle.h264_base.specs.Call.{Call, Tells, TellsFront}
-use Rattle.h264_units.specs.Stream.{NalUnit, Tail, Zeros, Stray, Bare, Long, Cut, Splits}
+use Rattle.h264_units.specs.Stream.{NalUnit, IsUndecided, Tail, Zeros, Stray, Bare, Long, Cut, Splits}
 use Rattle.h264_units.specs.Splitting.{Splitting, at_start}
 use Rattle.h264_rbsp.specs.Emulation.{IsFault, IsFirstFault, emulation_checked}
 use Rattle.h264_rbsp.specs.Rbsp.{body_of}
@@ -16,7 +16,7 @@ use Rattle.h264_verify.specs.declared.judge.Summary.{Summary}
 use Rattle.h264_verify.specs.Content.{Content}
 use Rattle.h264_verify.specs.Outcome.{Outcome, ◌>>=◌, with_calls, answers, gives, Plays}
 use Rattle.h264_verify.specs.Judging.{unless, tail_outcome, units_outcome, Comes}
-use Rattle.h264_verify.specs.Session.{Standing, ToCome, Goes, Stops, Finishes, Fed, Judges, RansBy}
+use Rattle.h264_verify.specs.Session.{Standing, ToCome, Shows, Leads, Goes, Stops, Finishes, Fed, Judges, RansBy}
 use Rattle.h264_verify.specs.Steps.{AreMet, IsFirstStop, Runs}
 use Rattle.h264_verify.specs.History.{History, ReadUnit}
 use Rattle.h264_verify.specs.Keeping.{Keeps}
@@ -29,6 +29,7 @@ use Rattle.h264_verify.proofs.Feeding.{with-both, goes-none}
 use Rattle.h264_verify.proofs.Sources.{one-outcome, some-outcome, stops-plays, fed-none, fed-ends}
 use Rattle.h264_verify.proofs.Stepping.{outcome, met-is, stop-is, either, bound, bind-stop, runs-outcome, SomeRun, some-run}
 use Rattle.h264_verify.proofs.Stepping as stepping
+use Rattle.h264_verify.proofs.Ways.{shows-as, shows-both, shows-more}
 
 -- A legal unit comes to its calls, and joins those before it.
 pub legal-unit : (mode : Mode) (before : History) (r : ReadUnit) (calls : List Call) → IsLegal mode before r calls → unit_outcome mode before r.unit ≡ outcome calls (Ok (r ∷ before))
@@ -48,6 +49,12 @@ stop-unit mode before unit stop calls (InCourse sound runs) =
     bound (answers (emulation_checked unit.from unit.body)) _ [] tt _ (ap (λ (x : Result (Unit {0}) Stop). answers x) (sym (none-checked unit.from unit.body sound)))
     (bind-stop (course_outcome (body_of unit) (unit_course mode before unit)) _ calls stop (runs-outcome (body_of unit) (unit_course mode before unit) calls (Err stop) runs))
 
+stopped-not : (a b : List Call) (stop : Stop) (h : History) → outcome a (Err stop) ≡ outcome b (Ok h) → ⊥
+stopped-not a b stop h e = let f : Err stop ≡ Ok h = ap (λ (o : Outcome History). o.answer) e in cc
+
+ok-same : (a b : History) → (let r : Result History Stop = Ok a in r ≡ Ok b) → a ≡ b
+ok-same a b e = cc
+
 -- a unit is legal, or the verdict falls at it
 data Either (mode : Mode) (before : History) (unit : NalUnit) : Type 0 where
   Legal : (c : Content) (calls : List Call) → IsLegal mode before (record { unit = unit; content = c }) calls → Either mode before unit
@@ -63,6 +70,28 @@ either-unit mode before unit = by (emulation_checked unit.from unit.body) (is-ch
     by : (r : Result (Unit {0}) Stop) → MatchResult r (λ _. (place : ℕ) → IsFault unit.body place → ⊥) (λ stop. (place : ℕ) × (stop ≡ No (8 * (unit.from + place)) Emulation) × IsFirstFault unit.body place) → Either mode before unit
     by (Ok x) f = let r : SomeRun (body_of unit) (unit_course mode before unit) = some-run (body_of unit) (unit_course mode before unit) in course f r.calls r.answer r.runs
     by (Err stop) f = Fails stop [] (AtBytes f.0 f.2 f.1 refl)
+
+-- units that lead somewhere are legal, with their calls
+module _ (mode : Mode) (after : History) where
+  abbrev IsLed : History → List NalUnit → List Call → List Call → Type 0
+  IsLed before units calls earlier = AreLegal mode after (earlier ++ calls) × (in_order after [] ≡ in_order before units)
+
+  led-unit : (before : History) (unit : NalUnit) (units : List NalUnit) (calls earlier : List Call) → AreLegal mode before earlier → (l : Leads (judging mode) before (unit ∷ units) calls after) → ((cs : List Call) → Leads (judging mode) l.0 units l.2 after → AreLegal mode l.0 (earlier ++ cs) → IsLed l.0 units l.2 (earlier ++ cs)) → Either mode before unit → IsLed before (unit ∷ units) calls earlier
+  led-unit before unit units calls earlier legal l next (Fails stop cs h) = let e : outcome cs (Err stop) ≡ outcome l.1 (Ok l.0) = sym (stop-unit mode before unit stop cs h) ∙ l.3 in absurd (stopped-not cs l.1 stop l.0 e)
+  led-unit before unit units calls earlier legal l next (Legal c cs h) =
+      let r : ReadUnit = record { unit = unit; content = c } in
+      let e : outcome cs (Ok (r ∷ before)) ≡ outcome l.1 (Ok l.0) = sym (legal-unit mode before r cs h) ∙ l.3 in
+      let first : cs ≡ l.1 = ap (λ (o : Outcome History). o.calls) e in
+      let mid : r ∷ before ≡ l.0 = ok-same (r ∷ before) l.0 (ap (λ (o : Outcome History). o.answer) e) in
+      let rest = next cs l.4 (subst (λ m. AreLegal mode m (earlier ++ cs)) mid (earlier, cs, legal, h, refl)) in
+      (
+        subst (AreLegal mode after) (append_assoc earlier cs l.2 ∙ ap (λ c. earlier ++ (c ++ l.2)) first ∙ ap (λ c. earlier ++ c) (sym l.5)) rest.0,
+        rest.1 ∙ ap (λ m. in_order m units) (sym mid),
+      )
+
+  pub leads-legal : (before : History) (units : List NalUnit) (calls earlier : List Call) → Leads (judging mode) before units calls after → AreLegal mode before earlier → IsLed before units calls earlier
+  leads-legal before [] calls earlier l legal = (subst (λ h. AreLegal mode h (earlier ++ calls)) (sym l.1) (subst (AreLegal mode before) (sym (append-nil earlier) ∙ ap (λ c. earlier ++ c) (sym l.0)) legal), ap (λ h. in_order h []) l.1)
+  leads-legal before (unit ∷ units) calls earlier l legal = led-unit before unit units calls earlier legal l (λ cs rest before-legal. leads-legal l.0 units l.2 (earlier ++ cs) rest before-legal) (either-unit mode before unit)
 
 legal-units : (mode : Mode) (reads : History) (units : List NalUnit) (tail : Tail) (end : ℕ) (calls : List Call) → AreLegal mode reads calls → units_outcome (judging mode) [] (in_order reads units) tail end ≡ with_calls calls (units_outcome (judging mode) reads units tail end)
 unfolding ◌>>=◌
@@ -230,6 +259,9 @@ fed-nothing mode session f = record {
   runs = f.stop;
   before = [];
   keeps = f.keeps;
+  shown = subst (λ (split : Splitting). Shows 0 [] [] split.at split.rest) (sym f.split) (refl, refl);
+  undecided = subst (λ (split : Splitting). IsUndecided split.rest) (sym f.split) (inl (0, refl));
+  legal = refl;
   goes = λ more o c. (o, subst (λ split. ToCome (judging mode) (behind split []) more o) (sym f.split) c, refl);
 }
 
@@ -239,9 +271,10 @@ fed-later {mode} {session} {bytes} {calls} w more o c =
     (f.0, f.1, λ answer e. subst (Verdict mode (bytes ++ more) (calls ++ f.0.calls)) e (subst (λ (q : Outcome Summary). Verdict mode (bytes ++ more) q.calls q.answer) f.2 (comes-verdict mode (bytes ++ more) o c)))
 
 -- a piece more
-fed-piece : {S : Type 0} (mode : Mode) (took : S → List Call → Type 0) (failures : S → ℕ) (old new : Progress) (bytes piece : List ℕ) (calls : List Call) (s s' : S) (w : WasFed mode old bytes calls) → new.mode ≡ old.mode → new.stop ≡ None → GoesOn mode took (behind old.split w.before) new.split new.state piece [] s s' → failures s' ≡ failures s → IsFed mode took failures new (bytes ++ piece) calls s s'
-fed-piece mode took failures old new bytes piece calls s s' w m runs on k =
+fed-piece : {S : Type 0} (mode : Mode) (took : S → List Call → Type 0) (failures : S → ℕ) (old new : Progress) (bytes piece : List ℕ) (calls : List Call) (s s' : S) (w : WasFed mode old bytes calls) → new.mode ≡ old.mode → new.stop ≡ None → IsUndecided new.split.rest → GoesOn mode took (behind old.split w.before) new.split new.state piece [] s s' → failures s' ≡ failures s → IsFed mode took failures new (bytes ++ piece) calls s s'
+fed-piece mode took failures old new bytes piece calls s s' w m runs u on k =
     let g = on.goes in
+    let legal = leads-legal mode on.after w.before g.way.units g.calls calls g.way.led w.legal in
     record {
       more = g.calls;
       tells = g.tells;
@@ -250,6 +283,9 @@ fed-piece mode took failures old new bytes piece calls s s' w m runs on k =
         runs = runs;
         before = on.after;
         keeps = on.keeps;
+        shown = subst (λ us. Shows 0 (bytes ++ piece) us new.split.at new.split.rest) (sym legal.1) (shown-on g.way.units w.shown g.way.shown);
+        undecided = u;
+        legal = legal.0;
         goes = λ more o c.
             let f = w.goes (piece ++ more) o (subst (λ l. Comes (judging mode) 0 [] l o) (append_assoc bytes piece more) c) in
             let n = g.after more f.0 f.1 in
@@ -257,6 +293,16 @@ fed-piece mode took failures old new bytes piece calls s s' w m runs on k =
       };
       kept = k;
     }
+
+  where
+    in-order : (h : History) (us : List NalUnit) → in_order h us ≡ in_order h [] ++ us
+    in-order [] us = refl
+    in-order (r ∷ h) us = in-order h (r.unit ∷ us) ∙ sym (append_assoc (in_order h []) (r.unit ∷ []) us) ∙ ap (λ l. l ++ us) (sym (in-order h (r.unit ∷ [])))
+
+    shown-on : (units : List NalUnit) → Shows 0 bytes (in_order w.before []) old.split.at old.split.rest → Shows old.split.at (old.split.rest ++ piece) units new.split.at (new.split.rest ++ []) → Shows 0 (bytes ++ piece) (in_order w.before units) new.split.at new.split.rest
+    shown-on units a b =
+        subst (λ us. Shows 0 (bytes ++ piece) us new.split.at new.split.rest) (sym (in-order w.before units))
+        (shows-both 0 (bytes ++ piece) (in_order w.before []) units old.split.at new.split.at (old.split.rest ++ piece) new.split.rest (shows-more 0 bytes (in_order w.before []) old.split.at old.split.rest piece a) (shows-as old.split.at new.split.at units _ _ _ _ refl (append-nil new.split.rest) b))
 
 -- a stop, however the input goes on
 fed-stop : {S : Type 0} (mode : Mode) (took : S → List Call → Type 0) (failures : S → ℕ) (old : Progress) (bytes piece : List ℕ) (calls : List Call) (s s' : S) (stop : Stop) (w : WasFed mode old bytes calls) → Stops (judging mode) took failures (behind old.split w.before) piece s s' stop → (later : List ℕ) → Judged mode took failures ((bytes ++ piece) ++ later) calls s s' (Err stop)
@@ -276,9 +322,9 @@ fed-end mode took failures session bytes calls s s' r w q =
     (record { judged = judged-by mode took failures (bytes ++ []) calls f.0 s s' f.2 r (plays-rans took failures f.0 s s' r (p.finishes f.0 f.1)) })
 
 -- as the answer of a call
-pub fed-ok : {S : Type 0} (mode : Mode) (took : S → List Call → Type 0) (failures : S → ℕ) (old new : Progress) (bytes piece : List ℕ) (calls : List Call) (s s' : S) (r : Result (Unit {0}) Stop) (w : WasFed mode old bytes calls) → new.mode ≡ old.mode → OnOk r (new.stop ≡ None) → OnOk r (GoesOn old.mode took (behind old.split w.before) new.split new.state piece [] s s') → OnOk r (failures s' ≡ failures s) → OnOk r (IsFed mode took failures new (bytes ++ piece) calls s s')
-fed-ok mode took failures old new bytes piece calls s s' (Ok x) w m runs g k = fed-piece mode took failures old new bytes piece calls s s' w m runs (subst (λ m. GoesOn m took (behind old.split w.before) new.split new.state piece [] s s') w.mode_is g) k
-fed-ok mode took failures old new bytes piece calls s s' (Err e) w m runs g k = tt
+pub fed-ok : {S : Type 0} (mode : Mode) (took : S → List Call → Type 0) (failures : S → ℕ) (old new : Progress) (bytes piece : List ℕ) (calls : List Call) (s s' : S) (r : Result (Unit {0}) Stop) (w : WasFed mode old bytes calls) → new.mode ≡ old.mode → OnOk r (new.stop ≡ None) → OnOk r (IsUndecided old.split.rest → IsUndecided new.split.rest) → OnOk r (GoesOn old.mode took (behind old.split w.before) new.split new.state piece [] s s') → OnOk r (failures s' ≡ failures s) → OnOk r (IsFed mode took failures new (bytes ++ piece) calls s s')
+fed-ok mode took failures old new bytes piece calls s s' (Ok x) w m runs u g k = fed-piece mode took failures old new bytes piece calls s s' w m runs (u w.undecided) (subst (λ m. GoesOn m took (behind old.split w.before) new.split new.state piece [] s s') w.mode_is g) k
+fed-ok mode took failures old new bytes piece calls s s' (Err e) w m runs u g k = tt
 
 pub fed-err : {S : Type 0} (mode : Mode) (took : S → List Call → Type 0) (failures : S → ℕ) (old : Progress) (bytes piece : List ℕ) (calls : List Call) (s s' : S) (r : Result (Unit {0}) Stop) (w : WasFed mode old bytes calls) → IfErr r (λ stop. Stops (judging old.mode) took failures (behind old.split w.before) piece s s' stop) → IfErr r (λ stop. (later : List ℕ) → Judged mode took failures ((bytes ++ piece) ++ later) calls s s' (Err stop))
 fed-err mode took failures old bytes piece calls s s' (Ok x) w p = tt

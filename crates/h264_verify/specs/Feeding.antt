@@ -3,7 +3,7 @@ use Rattle.std.specs.Prelude.{◌≡◌, ℕ, List, [], ◌++◌, None, Option, 
 use Rattle.h264_base.specs.declared.mode.Mode.{Mode}
 use Rattle.h264_base.specs.declared.stop.Stop.{Stop}
 use Rattle.h264_base.specs.Call.{Call, Tells}
-use Rattle.h264_units.specs.Stream.{NalUnit}
+use Rattle.h264_units.specs.Stream.{NalUnit, IsUndecided}
 use Rattle.h264_units.specs.Splitting.{Splitting, at_start}
 use Rattle.h264_verify.specs.declared.judge.State.{State}
 use Rattle.h264_verify.specs.declared.judge.Summary.{Summary}
@@ -12,7 +12,8 @@ use Rattle.h264_verify.specs.Judging.{Comes}
 use Rattle.h264_verify.specs.Content.{Content}
 use Rattle.h264_verify.specs.History.{History}
 use Rattle.h264_verify.specs.Keeping.{Keeps}
-use Rattle.h264_verify.specs.Session.{Standing, ToCome, Goes, Fed}
+use Rattle.h264_verify.specs.Session.{Standing, ToCome, Shows, Goes, Fed}
+use Rattle.h264_verify.specs.Verdict.{in_order, AreLegal}
 use Rattle.h264_verify.specs.UnitOutcome.{judging, joined, unit_outcome}
 use Rattle.h264_verify.specs.Progress.{Progress}
 
@@ -45,13 +46,17 @@ pub record FedOn {S : Type 0} (mode : Mode) (took : S → List Call → Type 0) 
   pub keeps : Keeps after session.state
   pub fed : Fed (judging mode) took known bytes (behind at_start []) (behind session.split after) s s'
 
--- The session was fed these bytes, and sinks were told these calls of them: however the input goes on, what comes of the
--- whole is these calls, and then what comes of where the session stands.
+-- The session was fed these bytes, and sinks were told these calls of them. They are those of all units whose ends these bytes
+-- show, and these units are legal; and however the input goes on, what comes of the whole is these calls, and then what comes of
+-- where the session stands.
 pub record WasFed (mode : Mode) (session : Progress) (bytes : List ℕ) (calls : List Call) : Type 0 where
   pub mode_is : session.mode ≡ mode
   pub runs : session.stop ≡ None
   pub before : History
   pub keeps : Keeps before session.state
+  pub shown : Shows 0 bytes (in_order before []) session.split.at session.split.rest
+  pub undecided : IsUndecided session.split.rest
+  pub legal : AreLegal mode before calls
   pub goes : (more : List ℕ) (o : Outcome Summary) → Comes (judging mode) 0 [] (bytes ++ more) o → (later : Outcome Summary) × ToCome (judging mode) (behind session.split before) more later × (o ≡ with_calls calls later)
 
 -- The session was then fed these bytes, and the sink was told what comes of them behind these calls.

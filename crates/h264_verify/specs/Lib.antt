@@ -12,5 +12,5 @@ pub mod Keeping
 pub mod Units
 pub mod UnitOutcome
 pub mod Progress
-pub mod Feeding
 pub mod Verdict
+pub mod Feeding

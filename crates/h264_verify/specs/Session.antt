@@ -1,8 +1,9 @@
--- A stream judged in pieces: what comes of a session, however its input goes on.
-use Rattle.std.specs.Prelude.{◌≡◌, ℕ, ◌+◌, List, [], ◌++◌, Option, Some, Result, Ok, Err}
+-- A stream judged in pieces: what comes of a session, however its input goes on. A working form.
+use Rattle.std.specs.Prelude.{◌≡◌, ℕ, ◌+◌, List, [], ◌∷◌, ◌++◌, Option, Some, Result, Ok, Err}
 use Rattle.h264_base.specs.declared.stop.Stop.{Stop}
 use Rattle.h264_base.specs.declared.stop.Stop.TheVariants.{No, Outside, Memory, Read, Write}
 use Rattle.h264_base.specs.Call.{Call, Tells, TellsFront}
+use Rattle.h264_units.specs.Stream.{NalUnit, Next, past}
 use Rattle.h264_units.specs.Splitting.{Splitting}
 use Rattle.h264_verify.specs.Outcome.{Outcome, with_calls, Plays}
 use Rattle.h264_verify.specs.Judging.{Judging, Comes}
@@ -16,10 +17,27 @@ pub record Standing (State : Type 0) : Type 0 where
 abbrev pub ToCome : {State Summary : Type 0} → Judging State Summary → Standing State → List ℕ → Outcome Summary → Type 0
 ToCome j p bytes o = Comes j p.split.at p.state (p.split.rest ++ bytes) o
 
+-- From this place on these bytes show these units, each with its end whatever follows, and behind them stands this rest.
+abbrev pub Shows : ℕ → List ℕ → List NalUnit → ℕ → List ℕ → Type 0
+Shows at bytes [] end rest = (end ≡ at) × (rest ≡ bytes)
+Shows at bytes (unit ∷ units) end rest = (left : List ℕ) × ((more : List ℕ) → Next at (bytes ++ more) unit (left ++ more)) × Shows (past unit) left units end rest
+
+-- These units, judged one after another, lead from a state to another, with these calls.
+abbrev pub Leads : {State Summary : Type 0} → Judging State Summary → State → List NalUnit → List Call → State → Type 0
+Leads j old [] calls new = (calls ≡ []) × (new ≡ old)
+Leads {State} j old (unit ∷ units) calls new = (mid : State) × (first : List Call) × (later : List Call) × (let o : Outcome State = record { calls = first; answer = Ok mid } in j.unit old unit ≡ o) × Leads j mid units later new × (calls ≡ first ++ later)
+
+-- The units that were taken, with their calls.
+pub record Way {State Summary : Type 0} (j : Judging State Summary) (old new : Standing State) (piece left : List ℕ) (calls : List Call) : Type 0 where
+  pub units : List NalUnit
+  pub shown : Shows old.split.at (old.split.rest ++ piece) units new.split.at (new.split.rest ++ left)
+  pub led : Leads j old.state units calls new.state
+
 -- However the input goes on, what comes of old is these calls and what comes of new.
 pub record Goes {State Summary S : Type 0} (j : Judging State Summary) (took : S → List Call → Type 0) (old new : Standing State) (piece left : List ℕ) (s s' : S) : Type 0 where
   pub calls : List Call
   pub tells : Tells took s s' calls
+  pub way : Way j old new piece left calls
   pub after : (more : List ℕ) (o : Outcome Summary) → ToCome j old (piece ++ more) o → (later : Outcome Summary) × ToCome j new (left ++ more) later × (o ≡ with_calls calls later)
 
 -- However the input goes on, it comes to these calls and this stop.

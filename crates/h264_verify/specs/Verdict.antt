@@ -8,7 +8,7 @@ use Rattle.h264_base.specs.declared.stop.Feature.{Feature}
 use Rattle.h264_base.specs.declared.stop.Stop.{Stop}
 use Rattle.h264_base.specs.declared.stop.Stop.TheVariants.{No, Outside, Memory, Read, Write}
 use Rattle.h264_base.specs.Call.{Call, Tells}
-use Rattle.h264_units.specs.Stream.{NalUnit, Next, past, IsUndecided, Tail, Zeros, Splits, tail_stop}
+use Rattle.h264_units.specs.Stream.{NalUnit, Tail, Zeros, Splits, tail_stop}
 use Rattle.h264_rbsp.specs.Emulation.{IsFault, IsFirstFault}
 use Rattle.h264_rbsp.specs.Rbsp.{body_of}
 use Rattle.h264_verify.specs.declared.judge.Summary.{Summary}
@@ -71,11 +71,6 @@ pub record StopsAt (mode : Mode) (bytes : List ℕ) (calls : List Call) (stop : 
   pub legal : AreLegal mode before first
   pub stops : IsStopBehind mode before units tail (length bytes) stop last
   pub calls_are : calls ≡ first ++ last
-
--- From this place on these bytes have these units, each with its end whatever follows, and behind them stands this rest.
-abbrev pub Show : ℕ → List ℕ → List NalUnit → ℕ → List ℕ → Type 0
-Show at bytes [] end rest = (end ≡ at) × (rest ≡ bytes)
-Show at bytes (unit ∷ units) end rest = (left : List ℕ) × ((more : List ℕ) → Next at (bytes ++ more) unit (left ++ more)) × Show (past unit) left units end rest
 
 -- All rules before this one are met, it fails, and this is its bit.
 abbrev pub Breaks : Mode → List ℕ → List Call → ℕ → Rule → Type 0

@@ -2,6 +2,7 @@
 #![tactic(auto)]
 
 ghost use Rattle.std.specs.Prelude.{◌≡◌, ℕ, ◌+◌, ◌-◌, ◌*◌, ◌<◌, ◌≤◌, ◌^◌, List, [], ◌∷◌, ◌++◌, length, OnOk, OnErr, IfOk, IfErr, Ok, Err, None, drop, IsFalse, IfSome, Some, IsErrOf};
+ghost use Rattle.h264_units.specs.Stream.{IsUndecided};
 ghost use Rattle.h264_verify.specs.Session.{Stops, Finishes};
 ghost use Rattle.h264_verify.specs.UnitOutcome.{judging};
 ghost use Rattle.h264_verify.specs.Progress.{IsFresh};
@@ -42,6 +43,7 @@ fn feed_some<S: FrameSink>(
     ensures runs { OnOk result ((splitter.new.stop ≡ None) × IsFalse splitter.new.waiting × IsFalse splitter.new.ended) }
     ensures counted { OnOk result (state.new.units ≤ splitter.new.at) }
     ensures pictures { OnOk result (state.new.slices.pictures ≤ state.new.units) }
+    ensures undecided { OnOk result (IsUndecided splitter.new.rest) }
     ensures kept { OnOk result (S.failures sink.new ≡ S.failures sink.old) }
     ensures stops { (before : History) → Keeps before state.old → IfErr result (Stops (judging mode) S.took S.failures (behind splitter.old before) piece.now sink.old sink.new) }
 {
@@ -79,6 +81,7 @@ fn feed_all<S: FrameSink>(
     ensures runs { OnOk result ((splitter.new.stop ≡ None) × IsFalse splitter.new.waiting × IsFalse splitter.new.ended) }
     ensures counted { OnOk result (state.new.units ≤ splitter.new.at) }
     ensures pictures { OnOk result (state.new.slices.pictures ≤ state.new.units) }
+    ensures undecided { OnOk result (IsUndecided splitter.old.rest → IsUndecided splitter.new.rest) }
     ensures kept { OnOk result (S.failures sink.new ≡ S.failures sink.old) }
     ensures stops { (before : History) → Keeps before state.old → IfErr result (Stops (judging mode) S.took S.failures (behind splitter.old before) piece.now sink.old sink.new) }
 {
@@ -164,6 +167,7 @@ impl Session {
         requires runs { self.old.stop ≡ None }
         // However the input goes on, what comes is what the sink was told now and what comes later.
         ensures goes { (before : History) → Keeps before self.old.state → OnOk result (GoesOn self.old.mode S.took (behind self.old.split before) self.new.split self.new.state piece.now [] sink.old sink.new) }
+        ensures undecided { OnOk result (IsUndecided self.old.split.rest → IsUndecided self.new.split.rest) }
         ensures going { OnOk result (self.new.stop ≡ None) }
         ensures kept { OnOk result (S.failures sink.new ≡ S.failures sink.old) }
         // The stop is the stream's, or the sink failed, or memory was refused.
