@@ -1,7 +1,7 @@
 //! frame_num of a slice, and the frames that are missing before its picture (7.4.3, 8.2.5.2).
 #![tactic(auto)]
 
-ghost use Rattle.std.specs.Prelude.{◌≡◌, ℕ, ◌+◌, ◌%◌, ◌<◌, ◌≤◌, ◌^◌, ◌&&◌, not, ◌==◌, true, [], ◌∷◌, Some, None, Ok, Err, OnOk, IfOk, IfErr, if◌then◌else◌};
+ghost use Rattle.std.specs.Prelude.{◌≡◌, ℕ, ◌+◌, ◌%◌, ◌<◌, ◌≤◌, ◌^◌, ◌&&◌, not, ◌==◌, true, [], ◌∷◌, Some, None, Ok, Err, OnOk, IfOk, IfErr, IsErrOf, if◌then◌else◌};
 ghost use Rattle.std.specs.List.{list_any};
 ghost use Rattle.h264_base.specs.declared.rule.Rule.TheVariants as rule;
 ghost use Rattle.h264_base.specs.declared.stop.Stop.TheVariants.{No};
@@ -112,6 +112,7 @@ pub(crate) fn check_gap(
     ensures judged { result ≡ judged (gap_demands (is_idr header.now) (is_reference header.now) sps.now.gaps_in_frame_num_value_allowed_flag header.now.frame_num.bit prev_ref_frame_num.old (numbering_of sps.now header.now) held.old) }
     ensures held { OnOk result (held.new ≡ entered (is_idr header.now) prev_ref_frame_num.old (numbering_of sps.now header.now) held.old) }
     ensures prev { OnOk result (prev_ref_frame_num.new ≡ prev_ref_frame_num_behind (is_idr header.now) (is_reference header.now) (resets header.now.marking) (numbering_of sps.now header.now) prev_ref_frame_num.old) }
+    ensures no_memory { IsErrOf result Stop.Memory → ⊥ }
 {
     let idr = header.idr_pic_id.is_some();
     let reference = header.nal_ref_idc != 0;

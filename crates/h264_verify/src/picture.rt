@@ -1,7 +1,7 @@
 //! The picture to which more slices may come.
 #![tactic(auto)]
 
-ghost use Rattle.std.specs.Prelude.{◌≡◌, ◌-◌, ◌||◌, ◌==◌, List, [], ◌∷◌, Option, Some, None, true, IsTrue};
+ghost use Rattle.std.specs.Prelude.{IsErrOf, ◌≡◌, ◌-◌, ◌||◌, ◌==◌, List, [], ◌∷◌, Option, Some, None, true, IsTrue};
 ghost use Rattle.std.specs.List.{list_any};
 ghost use Rattle.std.specs.Result.{result_unwrap_or};
 ghost use Rattle.h264_header.specs.Layout.{has_lengths};
@@ -164,6 +164,7 @@ pub(crate) fn mark_end(
 ) -> Result<(), Stop>
     ensures answer { result ≡ mark_answer (ended marking.now numbering.now number held.old) }
     ensures held { held.new ≡ result_unwrap_or (ended marking.now numbering.now number held.old) held.old }
+    ensures no_memory { IsErrOf result Stop.Memory → ⊥ }
 {
     match marking {
         None => Ok(()),

@@ -209,7 +209,7 @@ impl Session {
     /// Judges the next piece of the input. Err: the stop of the stream, Memory where a growth was refused, Write where the
     /// sink failed; from then on each call answers it again.
     pub fn feed<S: FrameSink>(&mut self, piece: &[u8], sink: &mut S) -> Result<(), Stop>
-        requires { S.failures sink.old < 2 ^ 64 - 1 }
+        requires { self.old.stop ≡ None → S.failures sink.old < 2 ^ 64 - 1 }
         // It was then fed the piece too.
         ensures fed { (mode : Mode) (bytes : List ℕ) (calls : List Call) → WasFed mode self.old bytes calls → OnOk result (IsFed mode S.took S.failures self.new (bytes ++ piece.now) calls sink.old sink.new) }
         // However the input goes on, this is its verdict.
@@ -228,7 +228,7 @@ impl Session {
 
     /// Judges the end of the input. Err as for `feed`.
     pub fn finish<S: FrameSink>(self, sink: &mut S) -> Result<Summary, Stop>
-        requires { S.failures sink.old < 2 ^ 64 - 1 }
+        requires { self.stop ≡ None → S.failures sink.old < 2 ^ 64 - 1 }
         // The verdict on all that it was fed.
         ensures verdict { (mode : Mode) (bytes : List ℕ) (calls : List Call) → WasFed mode self bytes calls → Judged mode S.took S.failures bytes calls sink.old sink.new result }
         ensures no_read { self.stop ≡ None → IsErrOf result Stop.Read → ⊥ }

@@ -1,7 +1,7 @@
 //! The slices so far, the pictures that they begin, and the rules that a slice meets beside its own syntax.
 #![tactic(auto)]
 
-ghost use Rattle.std.specs.Prelude.{◌≡◌, ℕ, not, ◌&&◌, Bool, false, ◌==◌, ◌||◌, ◌+◌, ◌-◌, ◌*◌, ◌<◌, ◌≤◌, ◌^◌, true, Some, None, List, [], ◌∷◌, length, if◌then◌else◌, Ok, Err, OnOk};
+ghost use Rattle.std.specs.Prelude.{◌≡◌, ℕ, not, ◌&&◌, Bool, false, ◌==◌, ◌||◌, ◌+◌, ◌-◌, ◌*◌, ◌<◌, ◌≤◌, ◌^◌, true, Some, None, List, [], ◌∷◌, length, if◌then◌else◌, Ok, Err, OnOk, IsErrOf};
 ghost use Rattle.std.specs.Option.{is_some};
 ghost use Rattle.h264_base.specs.declared.stop.Stop.TheVariants.{No};
 ghost use Rattle.h264_base.specs.Call.{OfSlice};
@@ -128,6 +128,7 @@ fn count_picture(
     ensures judged { (pictures : List Picture) → KeepsCounts pictures counts.old → result ≡ judged (count_demand (picture_of sps.now header.now ∷ pictures) bit ∷ []) }
     ensures kept { (pictures : List Picture) → KeepsCounts pictures counts.old → OnOk result (KeepsCounts (picture_of sps.now header.now ∷ pictures) counts.new) }
     ensures count { (pictures : List Picture) → KeepsCounts pictures counts.old → OnOk result (count.new ≡ newest_count (picture_of sps.now header.now ∷ pictures)) }
+    ensures no_memory { IsErrOf result Stop.Memory → ⊥ }
 {
     let next = counts.next(&picture_of(sps, header), bit)?;
     *count = Some(next);
@@ -149,6 +150,7 @@ fn check_first_slice(
     ensures held { OnOk result (slices.new.held ≡ entered (is_idr header.now) slices.old.prev_ref_frame_num (numbering_of sps.now header.now) slices.old.held) }
     ensures prev { OnOk result (slices.new.prev_ref_frame_num ≡ prev_ref_frame_num_behind (is_idr header.now) (is_reference header.now) (resets header.now.marking) (numbering_of sps.now header.now) slices.old.prev_ref_frame_num) }
     ensures others { slices.new ≡ record slices.old { counts = slices.new.counts; count = slices.new.count; prev_ref_frame_num = slices.new.prev_ref_frame_num; held = slices.new.held } }
+    ensures no_memory { IsErrOf result Stop.Memory → ⊥ }
 {
     check_type(sps, header)?;
     check_idr_num(header)?;
@@ -162,7 +164,8 @@ fn check_first_slice(
 /// The rules of a picture's later slice from its type on.
 fn check_later_slice(slices: &Slices, pps: &Pps, sps: &Sps, header: &Header) -> Result<(), Stop>
     requires { has_lengths sps.now ≡ true }
-    ensures { result ≡ judged (later_by slices.now pps.now sps.now header.now) }
+    ensures judged { result ≡ judged (later_by slices.now pps.now sps.now header.now) }
+    ensures no_memory { IsErrOf result Stop.Memory → ⊥ }
 {
     check_type(sps, header)?;
     check_same_type(&slices.picture, header)?;
@@ -183,6 +186,7 @@ fn check_standing(
     requires { header.now.pic_parameter_set_id.value ≤ 255 }
     ensures judged { result ≡ judged (standing_demands begins (sets_of sets.old header.now.pic_parameter_set_id.value) due sets.old bit header.now) }
     ensures activated { OnOk result (sets.new ≡ maps_with sets.old (contents.OfSlice header.now [])) }
+    ensures no_memory { IsErrOf result Stop.Memory → ⊥ }
 {
     if begins {
         check_first(due, sets, bit, header)
@@ -204,6 +208,7 @@ fn check_rules(
     ensures judged { (before : History) (unit : UnitView) → bit ≡ 8 * unit.from → KeepsSlices before begins slices.old → begins ≡ begins_at before header.now → result ≡ judged (slice_rules begins (runs_of before) (with_sets unit header.now [] (pps.now, sps.now))) }
     ensures entered { (before : History) (unit : UnitView) → bit ≡ 8 * unit.from → KeepsSlices before begins slices.old → begins ≡ begins_at before header.now → OnOk result (Entered before begins (with_sets unit header.now [] (pps.now, sps.now)) slices.new) }
     ensures pictures { slices.new.pictures ≡ slices.old.pictures }
+    ensures no_memory { IsErrOf result Stop.Memory → ⊥ }
 {
     if begins {
         check_first_slice(slices, pps, sps, header, bit)
@@ -217,6 +222,7 @@ fn end_picture(slices: &mut Slices) -> Result<(), Stop>
     ensures judged { (before : History) → KeepsSlices before false slices.old → result ≡ judged (closing_demands before) }
     ensures ended { (before : History) → KeepsSlices before false slices.old → OnOk result (KeepsSlices before true slices.new) }
     ensures others { slices.new ≡ record slices.old { held = slices.new.held } }
+    ensures no_memory { IsErrOf result Stop.Memory → ⊥ }
 {
     match &slices.picture {
         None => Ok(()),
@@ -234,6 +240,7 @@ pub(crate) fn end_if(ends: bool, slices: &mut Slices) -> Result<(), Stop>
     ensures judged { (before : History) → KeepsSlices before false slices.old → result ≡ judged (if ends then closing_demands before else []) }
     ensures ended { (before : History) → KeepsSlices before false slices.old → OnOk result (KeepsSlices before ends slices.new) }
     ensures others { slices.new ≡ record slices.old { held = slices.new.held } }
+    ensures no_memory { IsErrOf result Stop.Memory → ⊥ }
 {
     if ends {
         return end_picture(slices);
@@ -249,7 +256,8 @@ fn tell_slice<S: FrameSink>(
     sink: &mut S,
 ) -> Result<(), Stop>
     requires { S.failures sink.old < 2 ^ 64 - 1 }
-    ensures { Plays S.took S.failures (λ x. x) (tells (OfSlice byte header.now.first_mb_in_slice.value (type_of header.now.kind.value) header.now.frame_num.value (frame_count count))) sink.old sink.new result }
+    ensures plays { Plays S.took S.failures (λ x. x) (tells (OfSlice byte header.now.first_mb_in_slice.value (type_of header.now.kind.value) header.now.frame_num.value (frame_count count))) sink.old sink.new result }
+    ensures no_memory { IsErrOf result Stop.Memory → ⊥ }
 {
     let count = frame_count(count);
     let mb = header.first_mb_in_slice.value;
@@ -313,6 +321,7 @@ pub(crate) fn judge_slice<S: FrameSink>(
     ensures sets { OnOk result (sets.new ≡ maps_with sets.old (contents.OfSlice header.old [])) }
     ensures pictures { OnOk result (slices.new.pictures ≤ slices.old.pictures + 1) }
     ensures kept { OnOk result (S.failures sink.new ≡ S.failures sink.old) }
+    ensures no_memory { IsErrOf result Stop.Memory → ⊥ }
 {
     let bit = 8 * unit.from();
     let begins = begins(&slices.picture, header);

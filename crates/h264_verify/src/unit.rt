@@ -1,7 +1,7 @@
 //! One unit.
 #![tactic(auto)]
 
-ghost use Rattle.std.specs.Prelude.{◌≡◌, true, false, IsTrue, ℕ, ◌+◌, ◌-◌, ◌*◌, ◌<◌, ◌≤◌, ◌^◌, List, [], ◌∷◌, length, ◌==◌, ◌||◌, OnOk, IfOk, Ok, Err, if◌then◌else◌};
+ghost use Rattle.std.specs.Prelude.{◌≡◌, true, false, IsTrue, ℕ, ◌+◌, ◌-◌, ◌*◌, ◌<◌, ◌≤◌, ◌^◌, List, [], ◌∷◌, length, ◌==◌, ◌||◌, OnOk, IfOk, IsErrOf, Ok, Err, if◌then◌else◌};
 ghost use Rattle.h264_units.specs.Stream.{NalUnit as UnitView};
 ghost use Rattle.h264_verify.specs.Outcome.{Plays, tells};
 ghost use Rattle.h264_verify.specs.Demands.{judged};
@@ -74,7 +74,8 @@ fn check_header(from: u64, header: u8) -> Result<(), Stop>
 
 fn tell_unit<S: FrameSink>(from: u64, header: u8, length: u64, sink: &mut S) -> Result<(), Stop>
     requires { S.failures sink.old < 2 ^ 64 - 1 }
-    ensures { Plays S.took S.failures (λ x. x) (tells (unit_call from header length)) sink.old sink.new result }
+    ensures plays { Plays S.took S.failures (λ x. x) (tells (unit_call from header length)) sink.old sink.new result }
+    ensures no_memory { IsErrOf result Stop.Memory → ⊥ }
 {
     match sink.unit(from, header % 32, header / 32 % 4, length) {
         Ok(()) => Ok(()),
@@ -341,7 +342,8 @@ pub(crate) fn judge_end<S: FrameSink>(
     bit: u64,
     sink: &S,
 ) -> Result<Summary, Stop>
-    ensures { (before : History) → Keeps before state.old → Plays S.took S.failures (λ x. x) (end_outcome mode before bit) sink.now sink.now result }
+    ensures plays { (before : History) → Keeps before state.old → Plays S.took S.failures (λ x. x) (end_outcome mode before bit) sink.now sink.now result }
+    ensures no_memory { IsErrOf result Stop.Memory → ⊥ }
 {
     end_if(true, &mut state.slices)?;
     let pictures = state.slices.pictures;

@@ -46,7 +46,7 @@ returns-in_err-tell_slice-clause-plays g c =
     let named = sets-after c.args.sets.now _ c.args.header.now _ c.in_ok-check_standing.ensures.activated c.in-Some.ensures.some in
     let met = c.in_ok-check_rules.ensures.judged before c.args.unit.now (ap (λ x. 8 * x) c.from-bit.ensures.value) kept b in
     let entered = c.in_ok-check_rules.ensures.entered before c.args.unit.now (ap (λ x. 8 * x) c.from-bit.ensures.value) kept b in
-    rw (at-telling before c.args.unit.now c.args.header.now c.begins-begins.result b _ (c.in_ok-end_if.ensures.judged before k) _ c.args.sets.now kept.due m _ named _ stands _ met, ← entered.count, ← c.from.ensures.value) c.in_err-tell_slice.ensures)
+    rw (at-telling before c.args.unit.now c.args.header.now c.begins-begins.result b _ (c.in_ok-end_if.ensures.judged before k) _ c.args.sets.now kept.due m _ named _ stands _ met, ← entered.count, ← c.from.ensures.value) c.in_err-tell_slice.ensures.plays)
 
 pub returns-clause-plays : goal.returns-clause-plays
 returns-clause-plays g c = λ before k m.
@@ -56,7 +56,7 @@ returns-clause-plays g c = λ before k m.
     let named = sets-after c.args.sets.now _ c.args.header.now _ c.in_ok-check_standing.ensures.activated c.in-Some.ensures.some in
     let met = c.in_ok-check_rules.ensures.judged before c.args.unit.now (ap (λ x. 8 * x) c.from-bit.ensures.value) kept b in
     let entered = c.in_ok-check_rules.ensures.entered before c.args.unit.now (ap (λ x. 8 * x) c.from-bit.ensures.value) kept b in
-    rw (at-telling before c.args.unit.now c.args.header.now c.begins-begins.result b _ (c.in_ok-end_if.ensures.judged before k) _ c.args.sets.now kept.due m _ named _ stands _ met, ← entered.count, ← c.from.ensures.value) c.in_ok-tell_slice.ensures
+    rw (at-telling before c.args.unit.now c.args.header.now c.begins-begins.result b _ (c.in_ok-end_if.ensures.judged before k) _ c.args.sets.now kept.due m _ named _ stands _ met, ← entered.count, ← c.from.ensures.value) c.in_ok-tell_slice.ensures.plays
 
 pub returns-clause-keeps : goal.returns-clause-keeps
 returns-clause-keeps g c = λ before k m.

@@ -29,7 +29,7 @@ unfolding unit_by_steps
 returns-in_err-tell_unit-clause-turns g c =
     let p = err_from_is_err_and c.from_residual-in_err-tell_unit.result c.from_residual-in_err-tell_unit.ensures.1 in
     let header = rw (c.from-from.ensures.value, c.body-body.ensures.value) at c.in_ok-check_header.ensures in
-    let told = rw (c.from-from.ensures.value, c.body-body.ensures.value) at c.in_err-tell_unit.ensures in
+    let told = rw (c.from-from.ensures.value, c.body-body.ensures.value) at c.in_err-tell_unit.ensures.plays in
     rw (p.1, p.2) (λ before k. record { after = []; plays = plays-course _ _ _ _ before _ _ _ _ (answer-on _ _ _ _ _ _ _ _ _ (ap answers (sym c.in_ok-check_emulation.ensures.value)) (answer-on _ _ _ _ _ _ _ _ _ (ap answers (sym header)) (plays-stops _ _ (λ x. x) _ _ _ _ _ _ told))); keeps = tt })
 
 pub returns-in_err-end_if-clause-turns : goal.returns-in_err-end_if-clause-turns
@@ -37,14 +37,14 @@ unfolding unit_by_steps
 returns-in_err-end_if-clause-turns g c =
     let p = err_from_is_err_and c.from_residual-in_err-end_if.result c.from_residual-in_err-end_if.ensures.1 in
     let header = rw (c.from-from.ensures.value, c.body-body.ensures.value) at c.in_ok-check_header.ensures in
-    let told = rw (c.from-from.ensures.value, c.body-body.ensures.value) at c.in_ok-tell_unit.ensures in
+    let told = rw (c.from-from.ensures.value, c.body-body.ensures.value) at c.in_ok-tell_unit.ensures.plays in
     rw (p.1, p.2) (λ before k. let closed = rw (c.ends_picture.ensures, c.body-body.ensures.value) at (c.in_err-end_if.ensures.judged before k.slices) in record { after = []; plays = plays-course _ _ _ _ before _ _ _ _ (answer-on _ _ _ _ _ _ _ _ _ (ap answers (sym c.in_ok-check_emulation.ensures.value)) (answer-on _ _ _ _ _ _ _ _ _ (ap answers (sym header)) (plays-on _ _ (λ x. x) _ _ _ _ _ _ _ _ told (answer-stops _ _ _ _ _ _ _ (ap answers (sym closed)) (err-named (closing_at (nal_unit_type (header_of c.args.unit.now)) before) _ (sym closed)))))); keeps = tt })
 
 pub returns-clause-turns : goal.returns-clause-turns
 unfolding unit_by_steps
 returns-clause-turns g c =
     let header = rw (c.from-from.ensures.value, c.body-body.ensures.value) at c.in_ok-check_header.ensures in
-    let told = rw (c.from-from.ensures.value, c.body-body.ensures.value) at c.in_ok-tell_unit.ensures in
+    let told = rw (c.from-from.ensures.value, c.body-body.ensures.value) at c.in_ok-tell_unit.ensures.plays in
     λ before k.
     let closed = rw (c.ends_picture.ensures, c.body-body.ensures.value) at (c.in_ok-end_if.ensures.judged before k.slices) in
     let kept = within c.args.state.now c.end_if.new.slices k (rw c.ends_picture.ensures at (c.in_ok-end_if.ensures.ended before k.slices)) in
