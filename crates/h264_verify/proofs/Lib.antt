@@ -11,3 +11,4 @@ pub mod Entering
 pub mod Joining
 pub mod Courses
 pub mod Verdicts
+pub mod Unused

@@ -7,6 +7,7 @@ pub mod Content
 pub mod Steps
 pub mod History
 pub mod Pictures
+pub mod Unused
 pub mod Slices
 pub mod Keeping
 pub mod Units
