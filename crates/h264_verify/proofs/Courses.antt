@@ -67,7 +67,6 @@ content-is mode kind before unit = by (kind == 7) (kind == 8) refl refl
     by false true e h = choice-is (kind == 7) false _ _ e ∙ choice-is (kind == 8) true _ _ h ∙ structure-content pps (body_of unit) contents.OfPps ∙ ap (λ g. structure_outcome g (body_of unit)) (sym (choice-is (kind == 7) false _ _ e ∙ choice-is (kind == 8) true _ _ h))
     by false false e h = choice-is (kind == 7) false _ _ e ∙ choice-is (kind == 8) false _ _ h ∙ other-is mode kind before unit ∙ ap (λ g. structure_outcome g (body_of unit)) (sym (choice-is (kind == 7) false _ _ e ∙ choice-is (kind == 8) false _ _ h))
 
-
 -- what was read is judged, and nothing is read behind it
 module _ (body : Body) (steps : Content → List Step) (A : Type 0) (next : Content → A) where
   judged-read : (told : List Call) (found : Content) (calls : List Call) (a : Result (Unit {0}) Stop) → (with_calls told (outcome calls a >>= λ _. gives found) >>= λ c. gives (next c)) ≡ with_calls told (outcome calls a >>= λ _. gives (next found))

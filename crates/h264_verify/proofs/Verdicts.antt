@@ -83,8 +83,7 @@ module _ (mode : Mode) (after : History) where
       let e : outcome cs (Ok (r ∷ before)) ≡ outcome l.1 (Ok l.0) = sym (legal-unit mode before r cs h) ∙ l.3 in
       let first : cs ≡ l.1 = ap (λ (o : Outcome History). o.calls) e in
       let mid : r ∷ before ≡ l.0 = ok-same (r ∷ before) l.0 (ap (λ (o : Outcome History). o.answer) e) in
-      let rest = next cs l.4 (subst (λ m. AreLegal mode m (earlier ++ cs)) mid (earlier, cs, legal, h, refl)) in
-      (
+      let rest = next cs l.4 (subst (λ m. AreLegal mode m (earlier ++ cs)) mid (earlier, cs, legal, h, refl)) in (
         subst (AreLegal mode after) (append_assoc earlier cs l.2 ∙ ap (λ c. earlier ++ (c ++ l.2)) first ∙ ap (λ c. earlier ++ c) (sym l.5)) rest.0,
         rest.1 ∙ ap (λ m. in_order m units) (sym mid),
       )
@@ -293,7 +292,6 @@ fed-piece mode took failures old new bytes piece calls s s' w m runs u on k =
       };
       kept = k;
     }
-
   where
     in-order : (h : History) (us : List NalUnit) → in_order h us ≡ in_order h [] ++ us
     in-order [] us = refl

@@ -53,12 +53,7 @@ fn may_begin(due: bool, idr: bool) -> bool
 }
 
 /// The rules on where the first slice of a picture stands, and with which sets, which become the active ones.
-pub(crate) fn check_first(
-    due: bool,
-    sets: &mut Sets,
-    bit: u64,
-    header: &Header,
-) -> Result<(), Stop>
+pub(crate) fn check_first(due: bool, sets: &mut Sets, bit: u64, header: &Header) -> Result<(), Stop>
     requires { header.now.pic_parameter_set_id.value ≤ 255 }
     ensures judged { result ≡ judged (standing_demands true (sets_of sets.old header.now.pic_parameter_set_id.value) due sets.old bit header.now) }
     ensures activated { OnOk result (sets.new ≡ maps_with sets.old (contents.OfSlice header.now [])) }

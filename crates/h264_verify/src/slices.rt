@@ -154,7 +154,12 @@ fn check_first_slice(
 {
     check_type(sps, header)?;
     check_idr_num(header)?;
-    check_gap(sps, header, &mut slices.prev_ref_frame_num, &mut slices.held)?;
+    check_gap(
+        sps,
+        header,
+        &mut slices.prev_ref_frame_num,
+        &mut slices.held,
+    )?;
     check_id(slices.newest_idr, header)?;
     count_picture(sps, header, bit, &mut slices.counts, &mut slices.count)?;
     check_qp(pps, header)?;

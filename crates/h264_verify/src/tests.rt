@@ -1,9 +1,11 @@
 //! Each public call once, on a stream of two IDR pictures in pieces.
 #![tactic(auto)]
 
+ghost use Rattle.std.specs.Prelude.{◌≡◌, ◌<◌, drop, length};
+
 use crate::running::run_pieces;
 use crate::{FrameSink, Session, Source, Summary, laws, run};
-use h264_base::{ElementName, Elements, Failed, Mode, SliceType, Target};
+use h264_base::{ElementName, Elements, Failed, Mode, SliceType, Stop, Target};
 use std::test::Fail;
 
 /// Two parameter sets, and two IDR pictures of one macroblock with different idr_pic_id.
@@ -99,40 +101,150 @@ fn pieces(rt: HostRuntime) -> Result<(), Fail> {
     Ok(())
 }
 
-/// Gives a byte at a time.
-#[derive(Drop)]
-struct Bytes {
-    at: usize,
+/// A unit that was told.
+#[derive(Clone, Copy)]
+struct Told {
+    byte: u64,
+    nal_unit_type: u8,
+    nal_ref_idc: u8,
+    length: u64,
 }
 
-impl Source for Bytes {
-    ghost use Rattle.std.specs.Prelude.{None};
+/// Keeps the units that it is told, and refuses all else.
+#[derive(Drop)]
+struct Units {
+    told: Vec<Told>,
+    failures: u64,
+}
 
-    ghost left = { λ _. None };
+impl Elements for Units {
+    ghost use Rattle.std.specs.Prelude.{◌≡◌, map};
+    ghost use Rattle.h264_base.specs.Call.{OfUnit};
 
-    ghost was_read = { λ _ _. Unit {0} };
+    ghost took = { λ s calls. calls ≡ map (λ u. OfUnit u.byte u.nal_unit_type u.nal_ref_idc u.length) s.told.items };
+
+    ghost failures = { λ s. s.failures };
+
+    fn element(&mut self, _name: ElementName, _bit: u64, _value: i64) -> Result<(), Failed> {
+        self.failures += 1;
+        Err(Failed)
+    }
+}
+
+impl FrameSink for Units {
+    fn unit(
+        &mut self,
+        byte: u64,
+        nal_unit_type: u8,
+        nal_ref_idc: u8,
+        length: u64,
+    ) -> Result<(), Failed> {
+        let told = Told {
+            byte,
+            nal_unit_type,
+            nal_ref_idc,
+            length,
+        };
+        if self.told.push(told).is_err() {
+            self.failures += 1;
+            return Err(Failed);
+        }
+        Ok(())
+    }
+
+    fn slice(
+        &mut self,
+        _byte: u64,
+        _first_mb_in_slice: u32,
+        _slice_type: SliceType,
+        _frame_num: u32,
+        _count: i32,
+    ) -> Result<(), Failed> {
+        self.failures += 1;
+        Err(Failed)
+    }
+}
+
+/// Two access unit delimiters and an end of sequence.
+const DELIMITERS: &[u8] = &[
+    0x00, 0x00, 0x01, 0x09, 0x10, 0x00, 0x00, 0x01, 0x09, 0x30, 0x00, 0x00, 0x00, 0x01, 0x0A,
+];
+
+/// Gives bytes one at a time, and counts how often it was read.
+#[derive(Drop)]
+struct Bytes<'a> {
+    left: &'a [u8],
+    reads: u64,
+}
+
+impl<'a> Source for Bytes<'a> {
+    ghost use Rattle.std.specs.Prelude.{◌≡◌, Some, min};
+
+    ghost left = { λ s. Some s.left.now };
+
+    ghost was_read = { λ s n. s.reads ≡ min n 18446744073709551615 };
 
     ghost failures = { λ _. 0 };
 
     fn read(&mut self, piece: &mut [u8]) -> Result<Option<usize>, Failed> {
-        if self.at >= STREAM.len() {
+        self.reads = self.reads.saturating_add(1);
+        if self.left.is_empty() {
             return Ok(Some(0));
         }
-        piece[0] = STREAM[self.at];
-        self.at = self.at.saturating_add(1);
+        piece[0] = self.left[0];
+        self.left = behind_first(self.left);
         Ok(Some(1))
     }
+}
+
+fn behind_first(bytes: &[u8]) -> &[u8]
+    requires { 0 < length bytes.now }
+    ensures { result.now ≡ drop 1 bytes.now }
+{
+    &bytes[1..]
+}
+
+fn source_of(left: &[u8]) -> Bytes<'_> {
+    Bytes { left, reads: 0 }
 }
 
 #[test]
 fn a_source(rt: HostRuntime) -> Result<(), Fail> {
     let mut sink = nothing_told();
-    let summary = run(rt.alloc(), &mut Bytes { at: 0 }, &mut sink, Mode::Headers)?;
+    let mut source = source_of(STREAM);
+    let summary = run(rt.alloc(), &mut source, &mut sink, Mode::Headers)?;
     assert_eq!(rt; summary, SUMMARY);
-    let units = run(rt.alloc(), &mut Bytes { at: 0 }, &mut sink, Mode::Units)?;
+    assert_eq!(rt; source.reads, 35);
+    let units = run(rt.alloc(), &mut source_of(STREAM), &mut sink, Mode::Units)?;
     assert_eq!(rt; units.pictures, 0);
     assert_eq!(rt; sink.units, 8);
     laws::one_verdict();
     laws::some_verdict();
+    laws::unused_numbers();
+    Ok(())
+}
+
+#[test]
+fn units_kept(rt: HostRuntime) -> Result<(), Fail> {
+    let alloc = rt.alloc();
+    let mut sink = Units {
+        told: Vec::new(alloc),
+        failures: 0,
+    };
+    let summary = run(alloc, &mut source_of(DELIMITERS), &mut sink, Mode::Units)?;
+    assert_eq!(rt; summary.units, 3);
+    assert_eq!(rt; sink.told.len(), 3);
+    assert_eq!(rt; sink.told[1].byte, 8);
+    assert_eq!(rt; sink.told[2].nal_unit_type, 10);
+    assert_eq!(rt; sink.told[2].length, 1);
+    let mut other = Units {
+        told: Vec::new(alloc),
+        failures: 0,
+    };
+    // the first element is refused
+    let stop = run(alloc, &mut source_of(STREAM), &mut other, Mode::Units).err();
+    assert!(rt; matches!(stop, Some(Stop::Write)));
+    assert_eq!(rt; other.told.len(), 1);
+    assert_eq!(rt; other.failures, 1);
     Ok(())
 }
