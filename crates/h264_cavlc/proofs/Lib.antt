@@ -5,3 +5,4 @@ pub mod Loops
 pub mod Gives
 pub mod Counts
 pub mod Ends
+pub mod Handed

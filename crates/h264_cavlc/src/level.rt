@@ -27,13 +27,13 @@ fn first_suffix_length(token: Token) -> u32
 /// suffixLength of the level behind this one.
 #[tactic(auto, unfolding(crate::specs::Level::next_suffix_length))]
 #[inline]
-fn next_suffix_length(suffix_length: u32, level: i32) -> u32
+fn next_suffix_length(suffix_length: u32, level: i16) -> u32
     requires { suffix_length ≤ 6 }
     ensures length { result ≡ syntax.next_suffix_length suffix_length level }
     ensures short { result ≤ 6 }
 {
     let used = suffix_length.max(1);
-    if level.unsigned_abs() > 3 << (used - 1) && used < 6 {
+    if u32::from(level.unsigned_abs()) > 3 << (used - 1) && used < 6 {
         used + 1
     } else {
         used
@@ -79,14 +79,14 @@ fn level_code(prefix: u32, suffix_length: u32, suffix: u32, never_one: bool) -> 
 /// The level that levelCode stands for.
 #[tactic(auto, unfolding(crate::specs::Level::level_value))]
 #[inline]
-fn level_value(code: u32) -> i32
+fn level_value(code: u32) -> i16
     requires { code < 8192 }
     ensures { result ≡ syntax.level_value code }
 {
     if code % 2 == 0 {
-        ((code + 2) / 2) as i32
+        ((code + 2) / 2) as i16
     } else {
-        -(((code + 1) / 2) as i32)
+        -(((code + 1) / 2) as i16)
     }
 }
 
@@ -112,7 +112,7 @@ fn read_level<S: Elements>(
     suffix_length: u32,
     never_one: bool,
     sink: &mut S,
-) -> Result<i32, Stop>
+) -> Result<i16, Stop>
     requires length { suffix_length ≤ 6 }
     requires room { S.failures sink.old < 2 ^ 64 - 1 }
     ensures { Meets S.took S.failures (Is (λ x. x)) (syntax.level suffix_length never_one) bits.old bits.new sink.old sink.new result }
@@ -145,7 +145,7 @@ fn is_never_one(ones: u8, k: u8) -> bool
 pub(crate) fn read_more_levels<S: Elements>(
     bits: &mut Bits,
     token: Token,
-    levels: &mut [i32; 16],
+    levels: &mut [i16; 16],
     sink: &mut S,
 ) -> Result<(), Stop>
     requires few { token.total ≤ 16 }

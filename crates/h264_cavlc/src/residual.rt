@@ -1,7 +1,7 @@
 //! Residual blocks (7.3.5.3.2).
 #![tactic(auto)]
 
-ghost use Rattle.std.specs.Prelude.{◌≡◌, ℕ, ℤ, ◌-◌, ◌*◌, ◌<◌, ◌≤◌, ◌^◌, IfOk, OnOk, length, take};
+ghost use Rattle.std.specs.Prelude.{◌≡◌, ℕ, ℤ, ◌-◌, ◌*◌, ◌<◌, ◌≤◌, ◌^◌, IfOk, OnOk, length, take, replicate, pos};
 ghost use Rattle.h264_base.specs.Meets.{Meets, Is, Answers};
 ghost use Rattle.h264_cavlc.specs.Block.{nonzero_count, all_levels, coefficients as coefficients_form, residual_block};
 
@@ -15,20 +15,20 @@ use h264_bits::Bits;
 #[derive(Clone, Copy, Debug, PartialEq, Eq)]
 pub struct Levels<const N: usize> {
     /// The level at each place of the scan, the lowest frequency first. A block of 15 begins at the second place of a 4x4 block's scan.
-    pub by_place: [i32; N],
+    pub by_place: [i16; N],
     /// How many of them are not 0: TotalCoeff.
     pub total: u8,
 }
 
 /// The levels, the first at the highest place.
 #[inline]
-fn read_levels<S: Elements>(bits: &mut Bits, token: Token, sink: &mut S) -> Result<[i32; 16], Stop>
+fn read_levels<S: Elements>(bits: &mut Bits, token: Token, sink: &mut S) -> Result<[i16; 16], Stop>
     requires few { token.total ≤ 16 }
     requires within { token.ones ≤ token.total }
     requires room { S.failures sink.old < 2 ^ 64 - 1 }
     ensures { Meets S.took S.failures (λ x l. l ≡ take token.total x) (all_levels token) bits.old bits.new sink.old sink.new result }
 {
-    let mut levels = [0i32; 16];
+    let mut levels = [0i16; 16];
     read_trailing_ones(bits, usize::from(token.ones), &mut levels, sink)?;
     read_more_levels(bits, token, &mut levels, sink)?;
     Ok(levels)
@@ -39,34 +39,59 @@ fn read_levels<S: Elements>(bits: &mut Bits, token: Token, sink: &mut S) -> Resu
 fn read_coefficients<const N: usize, S: Elements>(
     bits: &mut Bits,
     token: Token,
+    by_place: &mut [i16; N],
     sink: &mut S,
-) -> Result<Levels<N>, Stop>
+) -> Result<(), Stop>
     requires some { 0 < token.total }
     requires fits { token.total ≤ N }
     requires few { N ≤ 16 }
     requires within { token.ones ≤ token.total }
     requires room { S.failures sink.old < 2 ^ 64 - 1 }
-    ensures meets { Meets S.took S.failures (Is (λ b. record { by_place = b.by_place; total = b.total })) (coefficients_form N token) bits.old bits.new sink.old sink.new result }
-    ensures total { IfOk result (λ b. b.total ≤ N) }
-    ensures nonzero { IfOk result (λ b. nonzero_count b.by_place ≡ b.total) }
+    ensures meets { Meets S.took S.failures (Is (λ _. record { by_place = by_place.new; total = token.total })) (coefficients_form N token) bits.old bits.new sink.old sink.new result }
+    ensures nonzero { OnOk result (nonzero_count by_place.new ≡ token.total) }
     ensures inside { bits.old.at ≤ 8 * length bits.old.body.bytes → OnOk result (bits.new.at ≤ 8 * length bits.new.body.bytes) }
     ensures quiet { OnOk result (S.failures sink.new ≡ S.failures sink.old) }
 {
     let levels = read_levels(bits, token, sink)?;
     let zeros = read_total_zeros(bits, N, token.total, sink)?;
-    let by_place = read_places::<N, S>(bits, &levels, token.total, zeros, sink)?;
-    Ok(Levels {
-        by_place,
-        total: token.total,
-    })
+    read_places::<N, S>(bits, &levels, token.total, zeros, by_place, sink)?;
+    Ok(())
 }
 
 /// Reads a residual block of `N` coefficients: 16, 15 or 4. A block of 4 is chroma DC, and has the table of these whatever `nc` is;
 /// for the others `nc` is nC. A block without coefficients costs one look into a table.
 ///
-/// Ok: the levels; the elements that the sink was told are the block's one derivation, with every rule met.
+/// Ok: how many levels are not 0; `by_place` has the level at each place of the scan, whatever it had before, and the elements that
+/// the sink was told are the block's one derivation, with every rule met.
 /// No: the first rule that it breaks, ResidualWord or BlockSize, at its element's stream bit. Write: the sink failed.
-/// After an Err the reader may have moved.
+/// After an Err the reader may have moved and some levels may be written.
+pub fn block_into<const N: usize, S: Elements>(
+    bits: &mut Bits,
+    nc: u8,
+    by_place: &mut [i16; N],
+    sink: &mut S,
+) -> Result<u8, Stop>
+    requires size { N ≤ 16 }
+    requires room { S.failures sink.old < 2 ^ 64 - 1 }
+    ensures answers { Answers S.took S.failures (Is (λ total. record { by_place = by_place.new; total = total })) (residual_block N nc) bits.old bits.new sink.old sink.new result }
+    ensures meets { Meets S.took S.failures (Is (λ total. record { by_place = by_place.new; total = total })) (residual_block N nc) bits.old bits.new sink.old sink.new result }
+    ensures total { IfOk result (λ total. total ≤ N) }
+    ensures nonzero { IfOk result (λ total. nonzero_count by_place.new ≡ total) }
+    ensures none { IfOk result (λ total. total ≡ 0 → by_place.new ≡ replicate N (pos 0)) }
+    ensures inside { OnOk result (bits.new.at ≤ 8 * length bits.new.body.bytes) }
+    ensures quiet { OnOk result (S.failures sink.new ≡ S.failures sink.old) }
+{
+    let token = read_token(bits, N, nc, sink)?;
+    if token.total == 0 {
+        let none = [0i16; N];
+        *by_place = none;
+        return Ok(0);
+    }
+    read_coefficients::<N, S>(bits, token, by_place, sink)?;
+    Ok(token.total)
+}
+
+/// The same as `block_into`, with the levels in the answer.
 pub fn block<const N: usize, S: Elements>(
     bits: &mut Bits,
     nc: u8,
@@ -78,15 +103,11 @@ pub fn block<const N: usize, S: Elements>(
     ensures meets { Meets S.took S.failures (Is (λ b. record { by_place = b.by_place; total = b.total })) (residual_block N nc) bits.old bits.new sink.old sink.new result }
     ensures total { IfOk result (λ b. b.total ≤ N) }
     ensures nonzero { IfOk result (λ b. nonzero_count b.by_place ≡ b.total) }
+    ensures none { IfOk result (λ b. b.total ≡ 0 → b.by_place ≡ replicate N (pos 0)) }
     ensures inside { OnOk result (bits.new.at ≤ 8 * length bits.new.body.bytes) }
     ensures quiet { OnOk result (S.failures sink.new ≡ S.failures sink.old) }
 {
-    let token = read_token(bits, N, nc, sink)?;
-    if token.total == 0 {
-        return Ok(Levels {
-            by_place: [0; N],
-            total: 0,
-        });
-    }
-    read_coefficients::<N, S>(bits, token, sink)
+    let mut by_place = [0; N];
+    let total = block_into::<N, S>(bits, nc, &mut by_place, sink)?;
+    Ok(Levels { by_place, total })
 }

@@ -9,7 +9,33 @@ use h264_bits::Bits;
 use h264_rbsp::Rbsp;
 use h264_units::Splitter;
 use std::alloc::{AllocError, Global};
+use std::process::Abort;
 use std::test::Fail;
+
+#[test]
+fn blocks(rt: HostRuntime) -> Result<(), Fail> {
+    published_blocks(&rt)?;
+    each_element_is_told(&rt)?;
+    no_coefficients(&rt)?;
+    full_blocks_of_15_and_4(&rt)?;
+    zeros_of_chroma_dc(&rt)
+}
+
+#[test]
+fn levels(rt: HostRuntime) -> Result<(), Fail> {
+    levels_of_suffix_length_0(&rt)?;
+    a_level_after_three_ones(&rt)?;
+    a_full_block_of_16(&rt)?;
+    prefix_15_of_suffix_length_1(&rt)
+}
+
+#[test]
+fn faults(rt: HostRuntime) -> Result<(), Fail> {
+    blocks_of_whole_pictures(&rt)?;
+    blocks_too_large(&rt)?;
+    words_that_are_missing(&rt)?;
+    a_sink_that_fails(&rt)
+}
 
 /// Keeps what it is told.
 #[derive(Drop)]
@@ -131,7 +157,7 @@ fn block_of_4(alloc: Global, text: &str) -> Result<(Levels<4>, u64), Stop> {
 }
 
 /// A block with one level, at the lowest place.
-fn single(level: i32) -> Levels<16> {
+fn single(level: i16) -> Levels<16> {
     let mut by_place = [0; 16];
     by_place[0] = level;
     Levels { by_place, total: 1 }
@@ -142,8 +168,7 @@ fn no<T>(bit: u64, rule: Rule) -> Result<T, Stop> {
 }
 
 // The three blocks that are worked in I. Richardson's text on CAVLC.
-#[test]
-fn published_blocks(rt: HostRuntime) -> Result<(), Fail> {
+fn published_blocks(rt: &(impl Abort + AllocGlobal)) -> Result<(), Fail> {
     let first = block_of_16(rt.alloc(), 0, "000010001110010111101101")?;
     assert_eq!(rt;
         first.0.by_place,
@@ -169,8 +194,7 @@ fn published_blocks(rt: HostRuntime) -> Result<(), Fail> {
 }
 
 // The first of them, element by element.
-#[test]
-fn each_element_is_told(rt: HostRuntime) -> Result<(), Fail> {
+fn each_element_is_told(rt: &(impl Abort + AllocGlobal)) -> Result<(), Fail> {
     let bytes = stream(rt.alloc(), "000010001110010111101101")?;
     let rbsp = rbsp(rt.alloc(), &bytes)?;
     let mut bits = Bits::new(&rbsp);
@@ -197,8 +221,7 @@ fn each_element_is_told(rt: HostRuntime) -> Result<(), Fail> {
     Ok(())
 }
 
-#[test]
-fn no_coefficients(rt: HostRuntime) -> Result<(), Fail> {
+fn no_coefficients(rt: &(impl Abort + AllocGlobal)) -> Result<(), Fail> {
     let none = Levels {
         by_place: [0; 16],
         total: 0,
@@ -216,8 +239,7 @@ fn no_coefficients(rt: HostRuntime) -> Result<(), Fail> {
 }
 
 // One level behind no trailing one, of suffixLength 0: coeff_token 000101, the level, total_zeros 1.
-#[test]
-fn levels_of_suffix_length_0(rt: HostRuntime) -> Result<(), Fail> {
+fn levels_of_suffix_length_0(rt: &(impl Abort + AllocGlobal)) -> Result<(), Fail> {
     let two = block_of_16(rt.alloc(), 0, "000101 1 1")?;
     assert_eq!(rt; two, (single(2), 40));
     let minus_two = block_of_16(rt.alloc(), 0, "000101 01 1 1")?;
@@ -236,8 +258,7 @@ fn levels_of_suffix_length_0(rt: HostRuntime) -> Result<(), Fail> {
 }
 
 // After three trailing ones a level may be 1: coeff_token 000011 has 4 coefficients and 3 ones, total_zeros 00011 no zeros.
-#[test]
-fn a_level_after_three_ones(rt: HostRuntime) -> Result<(), Fail> {
+fn a_level_after_three_ones(rt: &(impl Abort + AllocGlobal)) -> Result<(), Fail> {
     let levels = block_of_16(rt.alloc(), 0, "000011 000 1 00011 1")?;
     assert_eq!(rt;
         levels.0.by_place,
@@ -253,8 +274,7 @@ fn a_level_after_three_ones(rt: HostRuntime) -> Result<(), Fail> {
 }
 
 // suffixLength from 1 to 6, and at 6 the greatest levelCode, 960 + 4095.
-#[test]
-fn a_full_block_of_16(rt: HostRuntime) -> Result<(), Fail> {
+fn a_full_block_of_16(rt: &(impl Abort + AllocGlobal)) -> Result<(), Fail> {
     let text =
         "111100 001 0 01 01 0001 00 0001 000 01 0110 0001 0000 0001 00001 0001 000110 0000000000000001 111111111111 1000000 1000000 1000000 1000000 1000000 1000000 1000000 1";
     let levels = block_of_16(rt.alloc(), 8, text)?;
@@ -268,8 +288,7 @@ fn a_full_block_of_16(rt: HostRuntime) -> Result<(), Fail> {
 }
 
 // More than ten levels with fewer than three ones begin with suffixLength 1: 11 levels, of which the first has levelCode 30 + 3 + 2.
-#[test]
-fn prefix_15_of_suffix_length_1(rt: HostRuntime) -> Result<(), Fail> {
+fn prefix_15_of_suffix_length_1(rt: &(impl Abort + AllocGlobal)) -> Result<(), Fail> {
     let text =
         "101000 0000000000000001 000000000011 100 100 100 100 100 100 100 100 100 100 011 000 1";
     let levels = block_of_16(rt.alloc(), 8, text)?;
@@ -280,8 +299,7 @@ fn prefix_15_of_suffix_length_1(rt: HostRuntime) -> Result<(), Fail> {
     Ok(())
 }
 
-#[test]
-fn full_blocks_of_15_and_4(rt: HostRuntime) -> Result<(), Fail> {
+fn full_blocks_of_15_and_4(rt: &(impl Abort + AllocGlobal)) -> Result<(), Fail> {
     let text = "111011 010 1 10 10 10 10 10 10 10 10 10 10 10 1";
     let levels = block_of_15(rt.alloc(), 9, text)?;
     assert_eq!(rt;
@@ -304,8 +322,7 @@ fn full_blocks_of_15_and_4(rt: HostRuntime) -> Result<(), Fail> {
     Ok(())
 }
 
-#[test]
-fn zeros_of_chroma_dc(rt: HostRuntime) -> Result<(), Fail> {
+fn zeros_of_chroma_dc(rt: &(impl Abort + AllocGlobal)) -> Result<(), Fail> {
     let one = block_of_4(rt.alloc(), "1 0 000 1")?;
     assert_eq!(rt; one.0.by_place, [0, 0, 0, 1]);
     assert_eq!(rt; one.1, 37);
@@ -318,8 +335,7 @@ fn zeros_of_chroma_dc(rt: HostRuntime) -> Result<(), Fail> {
 }
 
 // The slice data of three pictures of one macroblock: level_prefix of 16 zeros, level 17 by prefix 15, and 16 coefficients of 15.
-#[test]
-fn blocks_of_whole_pictures(rt: HostRuntime) -> Result<(), Fail> {
+fn blocks_of_whole_pictures(rt: &(impl Abort + AllocGlobal)) -> Result<(), Fail> {
     let of_16_zeros = rbsp(
         rt.alloc(),
         &[0, 0, 1, 0x65, 0x88, 0x84, 0x93, 0x14, 0, 3, 0x80],
@@ -355,8 +371,7 @@ fn blocks_of_whole_pictures(rt: HostRuntime) -> Result<(), Fail> {
     Ok(())
 }
 
-#[test]
-fn blocks_too_large(rt: HostRuntime) -> Result<(), Fail> {
+fn blocks_too_large(rt: &(impl Abort + AllocGlobal)) -> Result<(), Fail> {
     // 16 coefficients, with three ones
     let total = block_of_15(rt.alloc(), 8, "111111 000 1");
     assert_eq!(rt; total, no(32, Rule::BlockSize));
@@ -379,8 +394,7 @@ fn blocks_too_large(rt: HostRuntime) -> Result<(), Fail> {
     Ok(())
 }
 
-#[test]
-fn words_that_are_missing(rt: HostRuntime) -> Result<(), Fail> {
+fn words_that_are_missing(rt: &(impl Abort + AllocGlobal)) -> Result<(), Fail> {
     // coeff_token: sixteen zeros
     let token = block_of_16(rt.alloc(), 0, "00000000 00000000 1");
     assert_eq!(rt; token, no(32, Rule::ResidualWord));
@@ -402,8 +416,7 @@ fn words_that_are_missing(rt: HostRuntime) -> Result<(), Fail> {
     Ok(())
 }
 
-#[test]
-fn a_sink_that_fails(rt: HostRuntime) -> Result<(), Fail> {
+fn a_sink_that_fails(rt: &(impl Abort + AllocGlobal)) -> Result<(), Fail> {
     let bytes = stream(rt.alloc(), "000010001110010111101101")?;
     let rbsp = rbsp(rt.alloc(), &bytes)?;
     let mut bits = Bits::new(&rbsp);

@@ -65,7 +65,7 @@ pub(crate) fn read_token<S: Elements>(
 
 /// Reads the sign of a trailing one: its level.
 #[inline]
-fn read_trailing_one<S: Elements>(bits: &mut Bits, sink: &mut S) -> Result<i32, Stop>
+fn read_trailing_one<S: Elements>(bits: &mut Bits, sink: &mut S) -> Result<i16, Stop>
     requires { S.failures sink.old < 2 ^ 64 - 1 }
     ensures { Meets S.took S.failures (Is (λ x. x)) syntax.trailing_one bits.old bits.new sink.old sink.new result }
 {
@@ -78,7 +78,7 @@ fn read_trailing_one<S: Elements>(bits: &mut Bits, sink: &mut S) -> Result<i32, 
 pub(crate) fn read_trailing_ones<S: Elements>(
     bits: &mut Bits,
     ones: usize,
-    levels: &mut [i32; 16],
+    levels: &mut [i16; 16],
     sink: &mut S,
 ) -> Result<(), Stop>
     requires few { ones ≤ 16 }

@@ -94,22 +94,24 @@ fn read_run_before<S: Elements>(bits: &mut Bits, zeros_left: u8, sink: &mut S) -
     Ok(run)
 }
 
-/// Reads the runs, and puts the first `total` of `levels` to their places.
+/// Reads the runs, and puts the first `total` of `levels` to their places, and 0 to all others.
 #[inline]
 pub(crate) fn read_places<const N: usize, S: Elements>(
     bits: &mut Bits,
-    levels: &[i32; 16],
+    levels: &[i16; 16],
     total: u8,
     zeros: u8,
+    by_place: &mut [i16; N],
     sink: &mut S,
-) -> Result<[i32; N], Stop>
+) -> Result<(), Stop>
     requires some { 0 < total }
     requires few { total ≤ 16 }
     requires fits { total + zeros ≤ N }
     requires room { S.failures sink.old < 2 ^ 64 - 1 }
-    ensures { Meets S.took S.failures (λ x runs. x ≡ standing N (take total levels.now) zeros runs) (syntax.runs_before [] zeros (total - 1)) bits.old bits.new sink.old sink.new result }
+    ensures { Meets S.took S.failures (λ _ runs. by_place.new ≡ standing N (take total levels.now) zeros runs) (syntax.runs_before [] zeros (total - 1)) bits.old bits.new sink.old sink.new result }
 {
-    let mut by_place = [0i32; N];
+    let none = [0i16; N];
+    *by_place = none;
     let mut left = zeros;
     for k in 0..total - 1 {
         by_place[usize::from(total - 1 - k) + usize::from(left)] = levels[usize::from(k)];
@@ -117,5 +119,5 @@ pub(crate) fn read_places<const N: usize, S: Elements>(
         left -= run;
     }
     by_place[usize::from(left)] = levels[usize::from(total - 1)];
-    Ok(by_place)
+    Ok(())
 }

@@ -1,22 +1,26 @@
 -- A prediction depends on the sides alone that are available, for whoever hands in samples of a whole picture.
-use Rattle.std.proofs.Common.{◌≡◌, ℕ, zero, suc, ◌+◌, ◌-◌, ◌*◌, ◌/◌, ◌<◌, ◌≤◌, arith, refl, sym, ap, ◌∙◌, ⊎_elim, add-one, eqb, Bool, true, false, IsTrue, cond, ℤ, pos, ◌+ℤ◌, ◌-ℤ◌, ◌*ℤ◌}
+use Rattle.std.proofs.Common.{◌≡◌, ℕ, zero, suc, ◌+◌, ◌-◌, ◌*◌, ◌/◌, ◌<◌, ◌≤◌, arith, refl, sym, ap, ◌∙◌, ⊎_elim, add-one, eqb, Bool, true, false, ◌&&◌, IsTrue, cond, ℤ, pos, ◌+ℤ◌, ◌-ℤ◌, ◌*ℤ◌}
 use Rattle.std.proofs.lemmas.Bool.{cases_Bool, cases_lt, cases_eq, cond-true, cond-false, lt-ltb}
 use Rattle.std.proofs.lemmas.Bool.Decides.{nat_tests}
 use Rattle.std.specs.Int.{int_shr}
 use Rattle.h264_intra.specs.Filters.{total, mean}
 use Rattle.h264_intra.specs.Sides.{Sides, SameSides}
 use Rattle.h264_intra.specs.Slope.{total_z, difference, gradient, slope, plane}
-use Rattle.h264_intra.specs.Luma4.{diagonal_down_left, vertical_left, horizontal_up, dc, filled, predicted4, Sides4, SameSides4, SameRound4, IsPossible4}
+use Rattle.h264_intra.specs.Luma4.{diagonal_down_left, vertical_left, horizontal_up, dc, filled, predicted4, Sides4, SameSides4, SameRound4, is_possible4}
 use Rattle.h264_intra.specs.declared.luma4.Intra4x4PredMode.{Intra4x4PredMode}
 use Rattle.h264_intra.specs.declared.luma4.Intra4x4PredMode.TheVariants.{Vertical, Horizontal, Dc, DiagonalDownLeft, DiagonalDownRight, VerticalRight, HorizontalDown, VerticalLeft, HorizontalUp}
-use Rattle.h264_intra.specs.Luma16.{predicted16, IsPossible16}
+use Rattle.h264_intra.specs.Luma16.{predicted16, is_possible16}
 use Rattle.h264_intra.specs.declared.luma16.Intra16x16PredMode.{Intra16x16PredMode}
 use Rattle.h264_intra.specs.declared.luma16.Intra16x16PredMode.TheVariants as luma
-use Rattle.h264_intra.specs.Chroma.{block_dc, predicted_chroma, IsPossibleChroma}
+use Rattle.h264_intra.specs.Chroma.{block_dc, predicted_chroma, is_possible_chroma}
 use Rattle.h264_intra.specs.declared.chroma.IntraChromaPredMode.{IntraChromaPredMode}
 use Rattle.h264_intra.specs.declared.chroma.IntraChromaPredMode.TheVariants as chroma
 use Rattle.h264_intra.proofs.Totals.{total_same}
 use Rattle.h264_intra.proofs.Same4.{directed_same}
+
+-- both sides and the corner
+pub all_three : (a b c : Bool) → (a && b && c) ≡ true → (a ≡ true) × (b ≡ true) × (c ≡ true)
+all_three a b c e = grind arith
 
 -- ---- the mean
 
@@ -97,16 +101,16 @@ up_same p q x y a b column =
 filled_left : (s : Sides4) (p q : ℕ → ℕ → ℕ) → SameSides4 s p q → IsTrue s.left → (k : ℕ) → 0 < k → k ≤ 4 → filled s p 0 k ≡ filled s q 0 k
 filled_left s p q h l k i j = filled_column s p k ∙ near_column s p q h l k i j ∙ sym (filled_column s q k)
 
-pub predicted4_same : (mode : Intra4x4PredMode) (s : Sides4) (p q : ℕ → ℕ → ℕ) (x y : ℕ) → IsPossible4 mode s → x < 4 → y < 4 → SameSides4 s p q →
+pub predicted4_same : (mode : Intra4x4PredMode) (s : Sides4) (p q : ℕ → ℕ → ℕ) (x y : ℕ) → IsTrue (is_possible4 mode s) → x < 4 → y < 4 → SameSides4 s p q →
     predicted4 mode s p x y ≡ predicted4 mode s q x y
 unfolding predicted4
 predicted4_same Vertical s p q x y n a b h = filled_row s p q h n (x + 1) (omega arith) (omega arith)
 predicted4_same Horizontal s p q x y n a b h = filled_left s p q h n (y + 1) (omega arith) (omega arith)
 predicted4_same Dc s p q x y n a b h = dc_same s p q h
 predicted4_same DiagonalDownLeft s p q x y n a b h = down_left_same (filled s p) (filled s q) x y a b (filled_row s p q h n)
-predicted4_same DiagonalDownRight s p q x y n a b h = directed_same DiagonalDownRight 0 (filled s p) (filled s q) x y a b (round_same s p q h n.0 n.1 n.2)
-predicted4_same VerticalRight s p q x y n a b h = directed_same VerticalRight 0 (filled s p) (filled s q) x y a b (round_same s p q h n.0 n.1 n.2)
-predicted4_same HorizontalDown s p q x y n a b h = directed_same HorizontalDown 0 (filled s p) (filled s q) x y a b (round_same s p q h n.0 n.1 n.2)
+predicted4_same DiagonalDownRight s p q x y n a b h = directed_same DiagonalDownRight 0 (filled s p) (filled s q) x y a b (round_same s p q h (all_three s.above s.left s.corner n).0 (all_three s.above s.left s.corner n).1 (all_three s.above s.left s.corner n).2)
+predicted4_same VerticalRight s p q x y n a b h = directed_same VerticalRight 0 (filled s p) (filled s q) x y a b (round_same s p q h (all_three s.above s.left s.corner n).0 (all_three s.above s.left s.corner n).1 (all_three s.above s.left s.corner n).2)
+predicted4_same HorizontalDown s p q x y n a b h = directed_same HorizontalDown 0 (filled s p) (filled s q) x y a b (round_same s p q h (all_three s.above s.left s.corner n).0 (all_three s.above s.left s.corner n).1 (all_three s.above s.left s.corner n).2)
 predicted4_same VerticalLeft s p q x y n a b h = left_same (filled s p) (filled s q) x y a b (filled_row s p q h n)
 predicted4_same HorizontalUp s p q x y n a b h = up_same (filled s p) (filled s q) x y a b (filled_left s p q h n)
 
@@ -141,13 +145,13 @@ whole_column : (n : ℕ) (s : Sides) (p q : ℕ → ℕ → ℕ) → SameSides n
 whole_column n s p q h l c zero i = h.corner c
 whole_column n s p q h l c (suc k) i = rw (← add-one k) (h.left l k (omega arith))
 
-pub predicted16_same : (mode : Intra16x16PredMode) (s : Sides) (p q : ℕ → ℕ → ℕ) (x y : ℕ) → IsPossible16 mode s → x < 16 → y < 16 → SameSides 16 s p q →
+pub predicted16_same : (mode : Intra16x16PredMode) (s : Sides) (p q : ℕ → ℕ → ℕ) (x y : ℕ) → IsTrue (is_possible16 mode s) → x < 16 → y < 16 → SameSides 16 s p q →
     predicted16 mode s p x y ≡ predicted16 mode s q x y
 unfolding predicted16
 predicted16_same luma.Vertical s p q x y n a b h = h.above n x a
 predicted16_same luma.Horizontal s p q x y n a b h = h.left n y b
 predicted16_same luma.Dc s p q x y n a b h = means_same 16 s.left s.above _ _ _ _ (λ l. total_same 16 _ _ (h.left l)) (λ t. total_same 16 _ _ (h.above t))
-predicted16_same luma.Plane s p q x y n a b h = plane_same 8 (pos 5) p q x y (whole_row 16 s p q h n.0 n.2) (whole_column 16 s p q h n.1 n.2)
+predicted16_same luma.Plane s p q x y n a b h = plane_same 8 (pos 5) p q x y (whole_row 16 s p q h (all_three s.above s.left s.corner n).0 (all_three s.above s.left s.corner n).2) (whole_column 16 s p q h (all_three s.above s.left s.corner n).1 (all_three s.above s.left s.corner n).2)
 
 part_left : (s : Sides) (p q : ℕ → ℕ → ℕ) → SameSides 8 s p q → (j : ℕ) → j < 2 → IsTrue s.left → total 4 (λ k. p 0 (4 * j + k + 1)) ≡ total 4 (λ k. q 0 (4 * j + k + 1))
 part_left s p q h j i l = total_same 4 _ _ (λ k m. h.left l (4 * j + k) (omega arith))
@@ -172,10 +176,10 @@ block_dc_same s p q i j m n h =
     either_same (eqb i j) _ _ _ _ (means_same 4 s.left s.above _ _ _ _ left above)
     (either_same (eqb j 0) _ _ _ _ (first_same s.above s.left _ _ _ _ above left) (first_same s.left s.above _ _ _ _ left above))
 
-pub predicted_chroma_same : (mode : IntraChromaPredMode) (s : Sides) (p q : ℕ → ℕ → ℕ) (x y : ℕ) → IsPossibleChroma mode s → x < 8 → y < 8 → SameSides 8 s p q →
+pub predicted_chroma_same : (mode : IntraChromaPredMode) (s : Sides) (p q : ℕ → ℕ → ℕ) (x y : ℕ) → IsTrue (is_possible_chroma mode s) → x < 8 → y < 8 → SameSides 8 s p q →
     predicted_chroma mode s p x y ≡ predicted_chroma mode s q x y
 unfolding predicted_chroma
 predicted_chroma_same chroma.Dc s p q x y n a b h = block_dc_same s p q (x / 4) (y / 4) (omega arith) (omega arith) h
 predicted_chroma_same chroma.Horizontal s p q x y n a b h = h.left n y b
 predicted_chroma_same chroma.Vertical s p q x y n a b h = h.above n x a
-predicted_chroma_same chroma.Plane s p q x y n a b h = plane_same 4 (pos 34) p q x y (whole_row 8 s p q h n.0 n.2) (whole_column 8 s p q h n.1 n.2)
+predicted_chroma_same chroma.Plane s p q x y n a b h = plane_same 4 (pos 34) p q x y (whole_row 8 s p q h (all_three s.above s.left s.corner n).0 (all_three s.above s.left s.corner n).2) (whole_column 8 s p q h (all_three s.above s.left s.corner n).1 (all_three s.above s.left s.corner n).2)

@@ -1,5 +1,5 @@
 -- Prediction of the 8x8 samples of a chroma plane of a macroblock (8.3.4).
-use Rattle.std.specs.Prelude.{ℕ, ◌+◌, ◌*◌, ◌/◌, ◌==◌, if◌then◌else◌, List, slice_index, is_some, IsTrue, ℤ, pos}
+use Rattle.std.specs.Prelude.{ℕ, ◌+◌, ◌*◌, ◌/◌, Bool, true, ◌==◌, ◌&&◌, if◌then◌else◌, List, slice_index, is_some, ℤ, pos}
 use Rattle.h264_intra.specs.Filters.{total, mean}
 use Rattle.h264_intra.specs.Sides.{Sides, beside}
 use Rattle.h264_intra.specs.Slope.{plane, plane_sample}
@@ -7,12 +7,26 @@ use Rattle.h264_intra.specs.declared.chroma.NeighboursChroma.{NeighboursChroma}
 use Rattle.h264_intra.specs.declared.chroma.IntraChromaPredMode.{IntraChromaPredMode}
 use Rattle.h264_intra.specs.declared.chroma.IntraChromaPredMode.TheVariants.{Dc, Horizontal, Vertical, Plane}
 
--- the sides that a mode needs
-abbrev pub IsPossibleChroma : IntraChromaPredMode → Sides → Type 0
-IsPossibleChroma Dc s = Unit {0}
-IsPossibleChroma Horizontal s = IsTrue s.left
-IsPossibleChroma Vertical s = IsTrue s.above
-IsPossibleChroma Plane s = IsTrue s.above × IsTrue s.left × IsTrue s.corner
+-- ---- modes by number (table 8-5)
+
+abbrev pub number_chroma : IntraChromaPredMode → ℕ
+number_chroma Dc = 0
+number_chroma Horizontal = 1
+number_chroma Vertical = 2
+number_chroma Plane = 3
+
+-- the mode of a number; one above 3, which no mode has, counts as 3
+abbrev pub mode_chroma_of : ℕ → IntraChromaPredMode
+mode_chroma_of k = if k == 0 then Dc else if k == 1 then Horizontal else if k == 2 then Vertical else Plane
+
+-- ---- the modes
+
+-- whether there are the sides that a mode needs
+abbrev pub is_possible_chroma : IntraChromaPredMode → Sides → Bool
+is_possible_chroma Dc s = true
+is_possible_chroma Horizontal s = s.left
+is_possible_chroma Vertical s = s.above
+is_possible_chroma Plane s = s.above && s.left && s.corner
 
 -- the value of DC of the 4x4 block at column i and row j of blocks (8.3.4.1 to 8.3.4.3)
 abbrev pub block_dc : Sides → (ℕ → ℕ → ℕ) → ℕ → ℕ → ℕ

@@ -1,5 +1,5 @@
 -- Prediction of the 16x16 luma samples of a macroblock (8.3.3).
-use Rattle.std.specs.Prelude.{ℕ, ◌+◌, ◌==◌, if◌then◌else◌, List, slice_index, is_some, IsTrue, ℤ, pos}
+use Rattle.std.specs.Prelude.{ℕ, ◌+◌, Bool, true, ◌==◌, ◌&&◌, if◌then◌else◌, List, slice_index, is_some, ℤ, pos}
 use Rattle.h264_intra.specs.Filters.{total, mean}
 use Rattle.h264_intra.specs.Sides.{Sides, beside}
 use Rattle.h264_intra.specs.Slope.{plane, plane_sample}
@@ -7,12 +7,26 @@ use Rattle.h264_intra.specs.declared.luma16.Neighbours16.{Neighbours16}
 use Rattle.h264_intra.specs.declared.luma16.Intra16x16PredMode.{Intra16x16PredMode}
 use Rattle.h264_intra.specs.declared.luma16.Intra16x16PredMode.TheVariants.{Vertical, Horizontal, Dc, Plane}
 
--- the sides that a mode needs
-abbrev pub IsPossible16 : Intra16x16PredMode → Sides → Type 0
-IsPossible16 Vertical s = IsTrue s.above
-IsPossible16 Horizontal s = IsTrue s.left
-IsPossible16 Dc s = Unit {0}
-IsPossible16 Plane s = IsTrue s.above × IsTrue s.left × IsTrue s.corner
+-- ---- modes by number (table 8-4)
+
+abbrev pub number16 : Intra16x16PredMode → ℕ
+number16 Vertical = 0
+number16 Horizontal = 1
+number16 Dc = 2
+number16 Plane = 3
+
+-- the mode of a number; one above 3, which no mode has, counts as 3
+abbrev pub mode16_of : ℕ → Intra16x16PredMode
+mode16_of k = if k == 0 then Vertical else if k == 1 then Horizontal else if k == 2 then Dc else Plane
+
+-- ---- the modes
+
+-- whether there are the sides that a mode needs
+abbrev pub is_possible16 : Intra16x16PredMode → Sides → Bool
+is_possible16 Vertical s = s.above
+is_possible16 Horizontal s = s.left
+is_possible16 Dc s = true
+is_possible16 Plane s = s.above && s.left && s.corner
 
 -- the value of DC (8.3.3.3)
 abbrev pub dc16 : Sides → (ℕ → ℕ → ℕ) → ℕ

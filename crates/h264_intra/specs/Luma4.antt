@@ -1,9 +1,30 @@
 -- Prediction of a 4x4 luma block (8.3.1.2).
-use Rattle.std.specs.Prelude.{◌<◌, ◌≡◌, ℕ, ◌+◌, ◌-◌, ◌*◌, ◌/◌, ◌%◌, ◌≤◌, Bool, ◌==◌, ◌&&◌, if◌then◌else◌, nat_lt, List, [], slice_index, unwrap_or, is_some, IsTrue}
+use Rattle.std.specs.Prelude.{◌<◌, ◌≡◌, ℕ, ◌+◌, ◌-◌, ◌*◌, ◌/◌, ◌%◌, ◌≤◌, Bool, true, ◌==◌, ◌&&◌, if◌then◌else◌, nat_lt, List, [], slice_index, unwrap_or, is_some, IsTrue}
+pub use Rattle.h264_intra.specs.declared.sides.Sides4.{Sides4}
 use Rattle.h264_intra.specs.Filters.{f3, f2, total, mean}
 use Rattle.h264_intra.specs.declared.luma4.Neighbours4.{Neighbours4}
 use Rattle.h264_intra.specs.declared.luma4.Intra4x4PredMode.{Intra4x4PredMode}
 use Rattle.h264_intra.specs.declared.luma4.Intra4x4PredMode.TheVariants.{Vertical, Horizontal, Dc, DiagonalDownLeft, DiagonalDownRight, VerticalRight, HorizontalDown, VerticalLeft, HorizontalUp}
+
+-- ---- modes by number (table 8-2)
+
+abbrev pub number4 : Intra4x4PredMode → ℕ
+number4 Vertical = 0
+number4 Horizontal = 1
+number4 Dc = 2
+number4 DiagonalDownLeft = 3
+number4 DiagonalDownRight = 4
+number4 VerticalRight = 5
+number4 HorizontalDown = 6
+number4 VerticalLeft = 7
+number4 HorizontalUp = 8
+
+-- the mode of a number; one above 8, which no mode has, counts as 8
+abbrev pub mode4_of : ℕ → Intra4x4PredMode
+mode4_of k =
+    if k == 0 then Vertical else if k == 1 then Horizontal else if k == 2 then Dc else if k == 3 then DiagonalDownLeft
+    else if k == 4 then DiagonalDownRight else if k == 5 then VerticalRight else if k == 6 then HorizontalDown
+    else if k == 7 then VerticalLeft else HorizontalUp
 
 -- ---- the nine modes, over the samples p (8.3.1.2.1 to 8.3.1.2.9)
 
@@ -59,13 +80,6 @@ horizontal_up p x y =
 
 -- ---- the samples that there are
 
--- which sides of a block are available
-pub record Sides4 : Type 0 where
-  pub left : Bool
-  pub above : Bool
-  pub above_right : Bool
-  pub corner : Bool
-
 -- where the samples above and to the right are not available, the last one above stands for them
 abbrev pub filled : Sides4 → (ℕ → ℕ → ℕ) → ℕ → ℕ → ℕ
 filled s p x y = if s.above_right then p x y else if y == 0 && nat_lt 4 x then p 4 0 else p x y
@@ -73,17 +87,17 @@ filled s p x y = if s.above_right then p x y else if y == 0 && nat_lt 4 x then p
 abbrev pub dc : Sides4 → (ℕ → ℕ → ℕ) → ℕ
 dc s p = mean 4 s.left s.above (total 4 (λ k. p 0 (k + 1))) (total 4 (λ k. p (k + 1) 0))
 
--- the sides that a mode needs (8.3.1.2)
-abbrev pub IsPossible4 : Intra4x4PredMode → Sides4 → Type 0
-IsPossible4 Vertical s = IsTrue s.above
-IsPossible4 Horizontal s = IsTrue s.left
-IsPossible4 Dc s = Unit {0}
-IsPossible4 DiagonalDownLeft s = IsTrue s.above
-IsPossible4 DiagonalDownRight s = IsTrue s.above × IsTrue s.left × IsTrue s.corner
-IsPossible4 VerticalRight s = IsTrue s.above × IsTrue s.left × IsTrue s.corner
-IsPossible4 HorizontalDown s = IsTrue s.above × IsTrue s.left × IsTrue s.corner
-IsPossible4 VerticalLeft s = IsTrue s.above
-IsPossible4 HorizontalUp s = IsTrue s.left
+-- whether there are the sides that a mode needs (8.3.1.2)
+abbrev pub is_possible4 : Intra4x4PredMode → Sides4 → Bool
+is_possible4 Vertical s = s.above
+is_possible4 Horizontal s = s.left
+is_possible4 Dc s = true
+is_possible4 DiagonalDownLeft s = s.above
+is_possible4 DiagonalDownRight s = s.above && s.left && s.corner
+is_possible4 VerticalRight s = s.above && s.left && s.corner
+is_possible4 HorizontalDown s = s.above && s.left && s.corner
+is_possible4 VerticalLeft s = s.above
+is_possible4 HorizontalUp s = s.left
 
 -- a mode over samples that are filled, where flat is the value of DC
 abbrev pub directed : Intra4x4PredMode → ℕ → (ℕ → ℕ → ℕ) → ℕ → ℕ → ℕ
@@ -118,13 +132,6 @@ around4 n x y =
 
 abbrev pub from_border : List ℕ → ℕ → ℕ → ℕ
 from_border b x y = slice_index b (4 + x - y)
-
--- the mode of a number (table 8-2)
-abbrev pub mode_of : ℕ → Intra4x4PredMode
-mode_of k =
-    if k == 0 then Vertical else if k == 1 then Horizontal else if k == 2 then Dc else if k == 3 then DiagonalDownLeft
-    else if k == 4 then DiagonalDownRight else if k == 5 then VerticalRight else if k == 6 then HorizontalDown
-    else if k == 7 then VerticalLeft else HorizontalUp
 
 -- two functions agree on the samples round a 4x4 block
 pub record SameRound4 (p q : ℕ → ℕ → ℕ) : Type 0 where

@@ -1,11 +1,6 @@
--- The sides of a macroblock.
-use Rattle.std.specs.Prelude.{◌≡◌, ◌+◌, ◌<◌, IsTrue, ℕ, ◌-◌, Bool, ◌==◌, if◌then◌else◌, List, [], slice_index, Option, unwrap_or, ℤ, pos, neg_ℤ, ◌≤ℤ◌}
-
--- which of them are available
-pub record Sides : Type 0 where
-  pub left : Bool
-  pub above : Bool
-  pub corner : Bool
+-- The sides of a macroblock: which of them are available (Sides), and the samples there.
+pub use Rattle.h264_intra.specs.declared.sides.Sides.{Sides}
+use Rattle.std.specs.Prelude.{◌≡◌, ◌+◌, ◌<◌, IsTrue, ℕ, ◌-◌, ◌==◌, if◌then◌else◌, List, [], slice_index, Option, unwrap_or, ℤ, pos, neg_ℤ, ◌≤ℤ◌}
 
 -- a side with the corner before it
 abbrev pub with_corner : ℕ → List ℕ → ℕ → ℕ

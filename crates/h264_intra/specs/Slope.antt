@@ -1,6 +1,7 @@
 -- Plane prediction (8.3.3.4, 8.3.4.4), of a block of twice `half` rows and columns.
-use Rattle.std.specs.Prelude.{ℕ, zero, suc, ◌+◌, ◌-◌, ◌*◌, min, ℤ, pos, negsuc, ◌+ℤ◌, ◌-ℤ◌, ◌*ℤ◌}
+use Rattle.std.specs.Prelude.{ℕ, zero, suc, ◌+◌, ◌-◌, ◌*◌, ℤ, pos, ◌+ℤ◌, ◌-ℤ◌, ◌*ℤ◌}
 use Rattle.std.specs.Int.{int_shr}
+use Rattle.h264_plane.specs.Clip.{clip1}
 
 -- the sum of f 0 to f (n - 1)
 unfoldable pub total_z : ℕ → (ℕ → ℤ) → ℤ
@@ -17,11 +18,6 @@ gradient half q = total_z half (difference half q)
 -- b, and c
 abbrev pub slope : ℕ → ℤ → (ℕ → ℕ) → ℤ
 slope half weight q = int_shr (weight *ℤ gradient half q +ℤ pos 32) 6
-
--- Clip1
-abbrev pub clip1 : ℤ → ℕ
-clip1 (pos n) = min n 255
-clip1 (negsuc n) = 0
 
 -- the sample at (x, y), by a, b and c
 abbrev pub plane_sample : ℕ → ℤ → ℤ → ℤ → ℕ → ℕ → ℕ

@@ -1,8 +1,9 @@
-ghost use Rattle.std.specs.Prelude.{◌≡◌, ◌+◌, ◌*◌, ◌<◌, ◌≤◌, slice_index};
+ghost use Rattle.std.specs.Prelude.{◌≡◌, ◌+◌, ◌*◌, ◌<◌, ◌≤◌, IsTrue, slice_index};
 ghost use Rattle.h264_intra.specs.Filters.{total, HasSamples};
 ghost use Rattle.h264_intra.specs.Sides.{IsGentle};
-ghost use Rattle.h264_intra.specs.Chroma.{IsPossibleChroma, block_dc, predicted_chroma, sides_chroma, around_chroma, chosen_chroma};
+ghost use Rattle.h264_intra.specs.Chroma.{is_possible_chroma, number_chroma, mode_chroma_of, block_dc, predicted_chroma, sides_chroma, around_chroma, chosen_chroma};
 
+use crate::sides::Sides;
 use crate::slope::Plane;
 
 /// How the chroma samples of a macroblock are predicted (table 8-5).
@@ -12,6 +13,40 @@ pub enum IntraChromaPredMode {
     Horizontal,
     Vertical,
     Plane,
+}
+
+impl IntraChromaPredMode {
+    /// The mode of a number of table 8-5, 0 to 3. A number above 3 counts as 3.
+    pub fn of_number(number: u8) -> IntraChromaPredMode
+        ensures { result ≡ mode_chroma_of number }
+    {
+        match number {
+            0 => IntraChromaPredMode::Dc,
+            1 => IntraChromaPredMode::Horizontal,
+            2 => IntraChromaPredMode::Vertical,
+            _ => IntraChromaPredMode::Plane,
+        }
+    }
+
+    /// Its number in table 8-5.
+    pub fn number(self) -> u8
+        ensures number { result ≡ number_chroma self }
+        ensures back { mode_chroma_of result ≡ self }
+    {
+        self as u8
+    }
+
+    /// Whether there are the sides that it needs (8.3.4).
+    pub fn is_possible(self, sides: Sides) -> bool
+        ensures { result ≡ is_possible_chroma self sides }
+    {
+        match self {
+            IntraChromaPredMode::Dc => true,
+            IntraChromaPredMode::Horizontal => sides.left,
+            IntraChromaPredMode::Vertical => sides.above,
+            IntraChromaPredMode::Plane => sides.above && sides.left && sides.corner,
+        }
+    }
 }
 
 /// The samples of a chroma plane beside a macroblock, before the deblocking filter; a side that is not available is `None`.
@@ -102,11 +137,10 @@ fn fill<const MODE: u8>(left: &[u8; 8], above: &[u8; 8], flats: &[u8; 4], plane:
     out
 }
 
-/// The prediction of the samples of a chroma plane of a macroblock, row by row (8.3.4). The sides that the mode needs are there. Touches
-/// 17 samples beside the macroblock and 64 in it.
+/// The prediction of the samples of a chroma plane of a macroblock, row by row (8.3.4), where there are the sides that the mode needs.
+/// Touches 17 samples beside the macroblock and 64 in it.
 pub fn predict_chroma(mode: IntraChromaPredMode, neighbours: &NeighboursChroma) -> [u8; 64]
-    requires { IsPossibleChroma mode (sides_chroma neighbours.now) }
-    ensures { HasSamples 8 result (predicted_chroma mode (sides_chroma neighbours.now) (around_chroma neighbours.now)) }
+    ensures { IsTrue (is_possible_chroma mode (sides_chroma neighbours.now)) → HasSamples 8 result (predicted_chroma mode (sides_chroma neighbours.now) (around_chroma neighbours.now)) }
 {
     let left = neighbours.left.unwrap_or([0; 8]);
     let above = neighbours.above.unwrap_or([0; 8]);

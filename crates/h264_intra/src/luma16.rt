@@ -1,8 +1,9 @@
-ghost use Rattle.std.specs.Prelude.{◌≡◌, ◌<◌, ◌≤◌, slice_index};
+ghost use Rattle.std.specs.Prelude.{◌≡◌, ◌<◌, ◌≤◌, IsTrue, slice_index};
 ghost use Rattle.h264_intra.specs.Filters.{total, HasSamples};
 ghost use Rattle.h264_intra.specs.Sides.{IsGentle};
-ghost use Rattle.h264_intra.specs.Luma16.{IsPossible16, dc16, predicted16, sides16, around16, chosen16};
+ghost use Rattle.h264_intra.specs.Luma16.{is_possible16, number16, mode16_of, dc16, predicted16, sides16, around16, chosen16};
 
+use crate::sides::Sides;
 use crate::slope::Plane;
 
 /// How the luma samples of a macroblock are predicted (table 8-4).
@@ -12,6 +13,40 @@ pub enum Intra16x16PredMode {
     Horizontal,
     Dc,
     Plane,
+}
+
+impl Intra16x16PredMode {
+    /// The mode of a number of table 8-4, 0 to 3. A number above 3 counts as 3.
+    pub fn of_number(number: u8) -> Intra16x16PredMode
+        ensures { result ≡ mode16_of number }
+    {
+        match number {
+            0 => Intra16x16PredMode::Vertical,
+            1 => Intra16x16PredMode::Horizontal,
+            2 => Intra16x16PredMode::Dc,
+            _ => Intra16x16PredMode::Plane,
+        }
+    }
+
+    /// Its number in table 8-4.
+    pub fn number(self) -> u8
+        ensures number { result ≡ number16 self }
+        ensures back { mode16_of result ≡ self }
+    {
+        self as u8
+    }
+
+    /// Whether there are the sides that it needs (8.3.3).
+    pub fn is_possible(self, sides: Sides) -> bool
+        ensures { result ≡ is_possible16 self sides }
+    {
+        match self {
+            Intra16x16PredMode::Vertical => sides.above,
+            Intra16x16PredMode::Horizontal => sides.left,
+            Intra16x16PredMode::Dc => true,
+            Intra16x16PredMode::Plane => sides.above && sides.left && sides.corner,
+        }
+    }
 }
 
 /// The luma samples beside a macroblock, before the deblocking filter; a side that is not available is `None`.
@@ -89,11 +124,10 @@ fn fill<const MODE: u8>(left: &[u8; 16], above: &[u8; 16], flat: u8, plane: Plan
     out
 }
 
-/// The prediction of the luma samples of a macroblock, row by row (8.3.3). The sides that the mode needs are there. Touches 33 samples
-/// beside the macroblock and 256 in it.
+/// The prediction of the luma samples of a macroblock, row by row (8.3.3), where there are the sides that the mode needs. Touches 33
+/// samples beside the macroblock and 256 in it.
 pub fn predict16(mode: Intra16x16PredMode, neighbours: &Neighbours16) -> [u8; 256]
-    requires { IsPossible16 mode (sides16 neighbours.now) }
-    ensures { HasSamples 16 result (predicted16 mode (sides16 neighbours.now) (around16 neighbours.now)) }
+    ensures { IsTrue (is_possible16 mode (sides16 neighbours.now)) → HasSamples 16 result (predicted16 mode (sides16 neighbours.now) (around16 neighbours.now)) }
 {
     let left = neighbours.left.unwrap_or([0; 16]);
     let above = neighbours.above.unwrap_or([0; 16]);

@@ -1,6 +1,8 @@
-ghost use Rattle.std.specs.Prelude.{◌≡◌, ◌<◌, ◌≤◌, slice_index};
+ghost use Rattle.std.specs.Prelude.{◌≡◌, ◌<◌, ◌≤◌, IsTrue, slice_index};
 ghost use Rattle.h264_intra.specs.Filters.{f3 as f3_of, f2 as f2_of, total, HasSamples};
-ghost use Rattle.h264_intra.specs.Luma4.{from_border, diagonal_down_left as diagonal_down_left_of, diagonal_down_right as diagonal_down_right_of, vertical_right as vertical_right_of, horizontal_down as horizontal_down_of, vertical_left as vertical_left_of, horizontal_up as horizontal_up_of, directed, mode_of, filled, dc, sides4, around4, SameRound4, IsPossible4, predicted4};
+ghost use Rattle.h264_intra.specs.Luma4.{from_border, diagonal_down_left as diagonal_down_left_of, diagonal_down_right as diagonal_down_right_of, vertical_right as vertical_right_of, horizontal_down as horizontal_down_of, vertical_left as vertical_left_of, horizontal_up as horizontal_up_of, directed, filled, dc, sides4, around4, SameRound4, is_possible4, number4, mode4_of, predicted4};
+
+use crate::sides::Sides4;
 
 /// How a 4x4 luma block is predicted (table 8-2).
 #[derive(Clone, Copy, Debug, PartialEq, Eq)]
@@ -14,6 +16,51 @@ pub enum Intra4x4PredMode {
     HorizontalDown,
     VerticalLeft,
     HorizontalUp,
+}
+
+impl Intra4x4PredMode {
+    /// The mode of a number of table 8-2, 0 to 8. A number above 8 counts as 8.
+    pub fn of_number(number: u8) -> Intra4x4PredMode
+        ensures { result ≡ mode4_of number }
+    {
+        match number {
+            0 => Intra4x4PredMode::Vertical,
+            1 => Intra4x4PredMode::Horizontal,
+            2 => Intra4x4PredMode::Dc,
+            3 => Intra4x4PredMode::DiagonalDownLeft,
+            4 => Intra4x4PredMode::DiagonalDownRight,
+            5 => Intra4x4PredMode::VerticalRight,
+            6 => Intra4x4PredMode::HorizontalDown,
+            7 => Intra4x4PredMode::VerticalLeft,
+            _ => Intra4x4PredMode::HorizontalUp,
+        }
+    }
+
+    /// Its number in table 8-2.
+    pub fn number(self) -> u8
+        ensures number { result ≡ number4 self }
+        ensures back { mode4_of result ≡ self }
+    {
+        self as u8
+    }
+
+    /// Whether there are the sides that it needs (8.3.1.2).
+    pub fn is_possible(self, sides: Sides4) -> bool
+        ensures { result ≡ is_possible4 self sides }
+    {
+        let corner = sides.above && sides.left && sides.corner;
+        match self {
+            Intra4x4PredMode::Vertical => sides.above,
+            Intra4x4PredMode::Horizontal => sides.left,
+            Intra4x4PredMode::Dc => true,
+            Intra4x4PredMode::DiagonalDownLeft => sides.above,
+            Intra4x4PredMode::DiagonalDownRight => corner,
+            Intra4x4PredMode::VerticalRight => corner,
+            Intra4x4PredMode::HorizontalDown => corner,
+            Intra4x4PredMode::VerticalLeft => sides.above,
+            Intra4x4PredMode::HorizontalUp => sides.left,
+        }
+    }
 }
 
 /// The samples beside a 4x4 block, before the deblocking filter; a side that is not available is `None`.
@@ -198,7 +245,7 @@ fn mean_of_sides(n: &Neighbours4) -> u8
 #[inline(always)]
 fn sample<const MODE: u8>(b: &[u8; 13], flat: u8, x: usize, y: usize) -> u8
     requires { (x < 4) × (y < 4) }
-    ensures { result ≡ directed (mode_of MODE) flat (from_border b.now) x y }
+    ensures { result ≡ directed (mode4_of MODE) flat (from_border b.now) x y }
 {
     if MODE == 0 {
         row(b, x + 1)
@@ -224,7 +271,7 @@ fn sample<const MODE: u8>(b: &[u8; 13], flat: u8, x: usize, y: usize) -> u8
 /// The block of a mode.
 #[inline(always)]
 fn fill<const MODE: u8>(b: &[u8; 13], flat: u8) -> [u8; 16]
-    ensures { HasSamples 4 result (directed (mode_of MODE) flat (from_border b.now)) }
+    ensures { HasSamples 4 result (directed (mode4_of MODE) flat (from_border b.now)) }
 {
     let mut out = [0; 16];
     for y in 0..4 {
@@ -235,11 +282,10 @@ fn fill<const MODE: u8>(b: &[u8; 13], flat: u8) -> [u8; 16]
     out
 }
 
-/// The prediction of a 4x4 block, row by row (8.3.1.2). The sides that the mode needs are there; where those above and to the right are
-/// not, the last sample above stands for them. Touches 13 samples beside the block and 16 in it.
+/// The prediction of a 4x4 block, row by row (8.3.1.2), where there are the sides that the mode needs. Where those above and to the
+/// right are missing, the last sample above stands for them. Touches 13 samples beside the block and 16 in it.
 pub fn predict4(mode: Intra4x4PredMode, neighbours: &Neighbours4) -> [u8; 16]
-    requires { IsPossible4 mode (sides4 neighbours.now) }
-    ensures { HasSamples 4 result (predicted4 mode (sides4 neighbours.now) (around4 neighbours.now)) }
+    ensures { IsTrue (is_possible4 mode (sides4 neighbours.now)) → HasSamples 4 result (predicted4 mode (sides4 neighbours.now) (around4 neighbours.now)) }
 {
     let b = border(neighbours);
     match mode {

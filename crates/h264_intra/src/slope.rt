@@ -1,6 +1,8 @@
 ghost use Rattle.std.specs.Prelude.{◌≡◌, ◌+◌, ◌-◌, ◌*◌, ◌<◌, ◌≤◌, length, slice_index, ℤ, pos, ◌*ℤ◌, ◌-ℤ◌};
-ghost use Rattle.h264_intra.specs.Slope.{gradient as gradient_of, slope as slope_of, clip1 as clip1_of, plane_sample};
+ghost use Rattle.h264_intra.specs.Slope.{gradient as gradient_of, slope as slope_of, plane_sample};
 ghost use Rattle.h264_intra.specs.Sides.{with_corner, IsIn, IsGentle};
+
+use h264_plane::clip1;
 
 /// A weighted difference of two samples.
 #[inline(always)]
@@ -49,20 +51,6 @@ fn rise<const HALF: usize>(slope: i32, x: usize) -> i32
     ensures bound { IsIn 130560 result }
 {
     slope * (x as i32 - (HALF as i32 - 1))
-}
-
-/// Clip1 (5.7).
-#[inline(always)]
-fn clip1(z: i32) -> u8
-    ensures { result ≡ clip1_of z }
-{
-    if z < 0 {
-        0
-    } else if z > 255 {
-        255
-    } else {
-        z as u8
-    }
 }
 
 /// a, b and c of plane prediction (8.3.3.4, 8.3.4.4).

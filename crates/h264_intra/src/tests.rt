@@ -1,7 +1,67 @@
 use crate::{
     Intra4x4PredMode, Intra16x16PredMode, IntraChromaPredMode, Neighbours4, Neighbours16,
-    NeighboursChroma, predict_chroma, predict4, predict16,
+    NeighboursChroma, Sides, Sides4, predict_chroma, predict4, predict16,
 };
+use std::process::Abort;
+
+#[test]
+fn blocks_4x4(rt: HostRuntime) {
+    vertical(&rt);
+    horizontal(&rt);
+    dc(&rt);
+    diagonal_down_left(&rt);
+    diagonal_down_right(&rt);
+    vertical_right(&rt);
+    horizontal_down(&rt);
+    vertical_left(&rt);
+    horizontal_up(&rt);
+    the_upper_right_is_filled(&rt);
+    dc_of_the_sides_that_there_are(&rt);
+}
+
+#[test]
+fn macroblocks(rt: HostRuntime) {
+    luma16_directions(&rt);
+    luma16_dc(&rt);
+    luma16_plane(&rt);
+    luma16_plane_is_clipped(&rt);
+    chroma_dc(&rt);
+    chroma_directions_and_plane(&rt);
+}
+
+// A mode by its number, and where it is possible.
+#[test]
+fn modes(rt: HostRuntime) {
+    assert_eq!(rt;
+        Intra4x4PredMode::of_number(5),
+        Intra4x4PredMode::VerticalRight
+    );
+    assert_eq!(rt; Intra4x4PredMode::HorizontalUp.number(), 8);
+    assert_eq!(rt; Intra16x16PredMode::of_number(2), Intra16x16PredMode::Dc);
+    assert_eq!(rt; Intra16x16PredMode::Plane.number(), 3);
+    assert_eq!(rt;
+        IntraChromaPredMode::of_number(2),
+        IntraChromaPredMode::Vertical
+    );
+    assert_eq!(rt; IntraChromaPredMode::Dc.number(), 0);
+    let above = Sides4 {
+        left: false,
+        above: true,
+        above_right: false,
+        corner: false,
+    };
+    assert!(rt; Intra4x4PredMode::DiagonalDownLeft.is_possible(above));
+    assert!(rt; !Intra4x4PredMode::HorizontalUp.is_possible(above));
+    let both = Sides {
+        left: true,
+        above: true,
+        corner: false,
+    };
+    assert!(rt; Intra16x16PredMode::Horizontal.is_possible(both));
+    assert!(rt; !Intra16x16PredMode::Plane.is_possible(both));
+    assert!(rt; !IntraChromaPredMode::Plane.is_possible(both));
+    assert!(rt; IntraChromaPredMode::Dc.is_possible(both));
+}
 
 /// Each side there: L0 to L3, A0 to A7 and M.
 const ALL_ROUND: Neighbours4 = Neighbours4 {
@@ -12,8 +72,7 @@ const ALL_ROUND: Neighbours4 = Neighbours4 {
 };
 
 // Each row is A0 to A3.
-#[test]
-fn vertical(rt: HostRuntime) {
+fn vertical(rt: &impl Abort) {
     let block = [
         10, 20, 31, 40, 10, 20, 31, 40, 10, 20, 31, 40, 10, 20, 31, 40,
     ];
@@ -21,8 +80,7 @@ fn vertical(rt: HostRuntime) {
 }
 
 // Each column is L0 to L3.
-#[test]
-fn horizontal(rt: HostRuntime) {
+fn horizontal(rt: &impl Abort) {
     let block = [
         12, 12, 12, 12, 25, 25, 25, 25, 36, 36, 36, 36, 49, 49, 49, 49,
     ];
@@ -30,8 +88,7 @@ fn horizontal(rt: HostRuntime) {
 }
 
 // (101 + 122 + 4) >> 3 is 28.
-#[test]
-fn dc(rt: HostRuntime) {
+fn dc(rt: &impl Abort) {
     let block = [
         28, 28, 28, 28, 28, 28, 28, 28, 28, 28, 28, 28, 28, 28, 28, 28,
     ];
@@ -39,8 +96,7 @@ fn dc(rt: HostRuntime) {
 }
 
 // (10 + 2 * 20 + 31 + 2) >> 2 is 20, and (72 + 3 * 80 + 2) >> 2 is 78.
-#[test]
-fn diagonal_down_left(rt: HostRuntime) {
+fn diagonal_down_left(rt: &impl Abort) {
     let block = [
         20, 31, 41, 52, 31, 41, 52, 61, 41, 52, 61, 71, 52, 61, 71, 78,
     ];
@@ -51,8 +107,7 @@ fn diagonal_down_left(rt: HostRuntime) {
 }
 
 // (12 + 2 * 5 + 10 + 2) >> 2 is 8 on the diagonal, (25 + 2 * 12 + 5 + 2) >> 2 is 14 below it.
-#[test]
-fn diagonal_down_right(rt: HostRuntime) {
+fn diagonal_down_right(rt: &impl Abort) {
     let block = [8, 11, 20, 31, 14, 8, 11, 20, 25, 14, 8, 11, 37, 25, 14, 8];
     assert_eq!(rt;
         predict4(Intra4x4PredMode::DiagonalDownRight, &ALL_ROUND),
@@ -61,8 +116,7 @@ fn diagonal_down_right(rt: HostRuntime) {
 }
 
 // (5 + 10 + 1) >> 1 is 8 at (0, 0) and at (1, 2), (25 + 2 * 12 + 5 + 2) >> 2 is 14 at (0, 2).
-#[test]
-fn vertical_right(rt: HostRuntime) {
+fn vertical_right(rt: &impl Abort) {
     let block = [8, 15, 26, 36, 8, 11, 20, 31, 14, 8, 15, 26, 25, 8, 11, 20];
     assert_eq!(rt;
         predict4(Intra4x4PredMode::VerticalRight, &ALL_ROUND),
@@ -71,8 +125,7 @@ fn vertical_right(rt: HostRuntime) {
 }
 
 // (5 + 12 + 1) >> 1 is 9 at (0, 0) and at (2, 1), (20 + 2 * 10 + 5 + 2) >> 2 is 11 at (2, 0).
-#[test]
-fn horizontal_down(rt: HostRuntime) {
+fn horizontal_down(rt: &impl Abort) {
     let block = [9, 8, 11, 20, 19, 14, 9, 8, 31, 25, 19, 14, 43, 37, 31, 25];
     assert_eq!(rt;
         predict4(Intra4x4PredMode::HorizontalDown, &ALL_ROUND),
@@ -81,8 +134,7 @@ fn horizontal_down(rt: HostRuntime) {
 }
 
 // (10 + 20 + 1) >> 1 is 15 at (0, 0), (10 + 2 * 20 + 31 + 2) >> 2 is 20 at (0, 1).
-#[test]
-fn vertical_left(rt: HostRuntime) {
+fn vertical_left(rt: &impl Abort) {
     let block = [
         15, 26, 36, 47, 20, 31, 41, 52, 26, 36, 47, 57, 31, 41, 52, 61,
     ];
@@ -90,8 +142,7 @@ fn vertical_left(rt: HostRuntime) {
 }
 
 // (12 + 25 + 1) >> 1 is 19 at (0, 0), (36 + 3 * 49 + 2) >> 2 is 46 at (3, 1), then 49.
-#[test]
-fn horizontal_up(rt: HostRuntime) {
+fn horizontal_up(rt: &impl Abort) {
     let block = [
         19, 25, 31, 37, 31, 37, 43, 46, 43, 46, 49, 49, 49, 49, 49, 49,
     ];
@@ -99,8 +150,7 @@ fn horizontal_up(rt: HostRuntime) {
 }
 
 // A3, 40, stands for A4 to A7.
-#[test]
-fn the_upper_right_is_filled(rt: HostRuntime) {
+fn the_upper_right_is_filled(rt: &impl Abort) {
     let n = Neighbours4 {
         left: None,
         above: Some([10, 20, 31, 40]),
@@ -118,8 +168,7 @@ fn the_upper_right_is_filled(rt: HostRuntime) {
 }
 
 // (122 + 2) >> 2 is 31, (101 + 2) >> 2 is 25.
-#[test]
-fn dc_of_the_sides_that_there_are(rt: HostRuntime) {
+fn dc_of_the_sides_that_there_are(rt: &impl Abort) {
     let mut n = Neighbours4 {
         left: Some([12, 25, 36, 49]),
         above: None,
@@ -136,8 +185,7 @@ fn dc_of_the_sides_that_there_are(rt: HostRuntime) {
 /// 4, 8, 12, .. on both sides: the plane through them is 4 * (x + 1) + 4 * (y + 1).
 const RAMP: [u8; 16] = [4, 8, 12, 16, 20, 24, 28, 32, 36, 40, 44, 48, 52, 56, 60, 64];
 
-#[test]
-fn luma16_directions(rt: HostRuntime) {
+fn luma16_directions(rt: &impl Abort) {
     let n = Neighbours16 {
         left: Some([9; 16]),
         above: Some(RAMP),
@@ -154,8 +202,7 @@ fn luma16_directions(rt: HostRuntime) {
 }
 
 // (16 * 10 + 16 * 21 + 16) >> 5 is 16.
-#[test]
-fn luma16_dc(rt: HostRuntime) {
+fn luma16_dc(rt: &impl Abort) {
     let mut n = Neighbours16 {
         left: Some([10; 16]),
         above: Some([21; 16]),
@@ -171,8 +218,7 @@ fn luma16_dc(rt: HostRuntime) {
 }
 
 // H and V are 8 * 204, b and c are 128, a is 16 * 128.
-#[test]
-fn luma16_plane(rt: HostRuntime) {
+fn luma16_plane(rt: &impl Abort) {
     let n = Neighbours16 {
         left: Some(RAMP),
         above: Some(RAMP),
@@ -187,8 +233,7 @@ fn luma16_plane(rt: HostRuntime) {
 }
 
 // H and V are -255 * 36, b and c are -717, a is 0: 314 at (0, 0), (-717 * 8 + 717 * 7 + 16) >> 5 at (15, 0).
-#[test]
-fn luma16_plane_is_clipped(rt: HostRuntime) {
+fn luma16_plane_is_clipped(rt: &impl Abort) {
     let side = [
         255, 255, 255, 255, 255, 255, 255, 255, 0, 0, 0, 0, 0, 0, 0, 0,
     ];
@@ -210,8 +255,7 @@ fn of_blocks(c: [u8; 64]) -> [u8; 4] {
 }
 
 // (40 + 120 + 4) >> 3 is 20, (80 + 200 + 4) >> 3 is 35.
-#[test]
-fn chroma_dc(rt: HostRuntime) {
+fn chroma_dc(rt: &impl Abort) {
     let mut n = NeighboursChroma {
         left: Some([30, 30, 30, 30, 50, 50, 50, 50]),
         above: Some([10, 10, 10, 10, 20, 20, 20, 20]),
@@ -239,8 +283,7 @@ fn chroma_dc(rt: HostRuntime) {
 }
 
 // H and V are 8 * 30, b and c are 128, a is 16 * 64.
-#[test]
-fn chroma_directions_and_plane(rt: HostRuntime) {
+fn chroma_directions_and_plane(rt: &impl Abort) {
     let ramp = [4, 8, 12, 16, 20, 24, 28, 32];
     let n = NeighboursChroma {
         left: Some(ramp),

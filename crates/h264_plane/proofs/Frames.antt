@@ -1,7 +1,7 @@
 use Rattle.std.proofs.Common.{◌≡◌, ℕ, ◌+◌, ◌<◌, List, [], ◌∷◌, ◌++◌, length, arith, below_more, ◌∙◌}
 use Rattle.std.proofs.lemmas.List.{get_or_append_left, get_or_push}
-use Rattle.h264_plane.specs.Samples.{Samples, IsSized, Holds}
-use Rattle.h264_plane.specs.Frames.{frame_at, no_frame, IsFrame, IsWritten}
+use Rattle.h264_plane.specs.Samples.{Samples, IsSized, IsBlank, Holds}
+use Rattle.h264_plane.specs.Frames.{plane_of, frame_at, no_frame, IsFrame, IsWritten}
 use Rattle.h264_plane.specs.declared.frame.Component.{Component}
 use Rattle.h264_plane.specs.declared.frame.Component.TheVariants.{Y, Cb, Cr}
 use Rattle.h264_plane.specs.declared.frame.Frame.{Frame}
@@ -12,6 +12,13 @@ pub frames_push : (xs : List Frame) (f : Frame) (n w h : ℕ) → length xs ≡ 
 frames_push xs f n w h e each last = below_more _ _
     (λ k p. let inside : k < length xs = omega arith in rw get_or_append_left (each k p))
     (rw (get_or_push xs f no_frame n e) last)
+
+-- the same of frames that are blank
+pub blank_push : (xs : List Frame) (f : Frame) (n : ℕ) → length xs ≡ n → ((k : ℕ) → k < n → (c : Component) → IsBlank (plane_of c (frame_at xs k))) → ((c : Component) → IsBlank (plane_of c f)) →
+    (k : ℕ) → k < n + 1 → (c : Component) → IsBlank (plane_of c (frame_at (xs ++ f ∷ []) k))
+blank_push xs f n e each last = below_more _ _
+    (λ k p c. let inside : k < length xs = omega arith in rw get_or_append_left (each k p c))
+    (λ c. rw (get_or_push xs f no_frame n e) (last c))
 
 sized_kept : (old new : Samples) (w h : ℕ) (s : ℕ → ℕ → ℕ) → Holds old new s → IsSized old w h → IsSized new w h
 sized_kept old new w h s held size = record { columns = held.width ∙ size.columns; rows = held.height ∙ size.rows }

@@ -1,3 +1,6 @@
 pub mod Samples
 pub mod Frames
 pub mod Lending
+pub mod Clip
+pub mod Places
+pub mod Rows

@@ -1,14 +1,16 @@
-//! Planes of samples, frames of three planes, and a pool of frames.
+//! Planes of samples, frames of three planes, a pool of frames, and Clip1.
 //!
 //! A frame is a decoded picture in 4:2:0 (6.2): luma, and two chroma planes of half its width and height.
 //! Contracts see a plane by its samples at (column, row), and each write says what every sample of the plane is afterwards.
 //! No call reads or writes outside its plane, and only `new` takes memory. Nothing here knows what the samples mean.
 #![tactic(auto)]
 
+mod clip;
 mod frame;
 mod plane;
 mod pool;
 
+pub use clip::clip1;
 pub use frame::{Component, Frame};
 pub use plane::{MAX_SIDE, Plane};
 pub use pool::Pool;

@@ -1,7 +1,8 @@
 ghost use Rattle.std.specs.Prelude.{◌≡◌, ◌↔◌, IsTrue, [], ℕ, ◌%◌, ◌<◌, ◌≤◌, List, length, slice_set, IfOk};
 ghost use Rattle.std.specs.Borrow.{sem};
+ghost use Rattle.h264_plane.specs.Samples.{IsBlank};
 ghost use Rattle.h264_plane.specs.Lending.{LendsFrame};
-ghost use Rattle.h264_plane.specs.Frames.{no_frame, frame_at, IsFrame, KeepsOtherFrames};
+ghost use Rattle.h264_plane.specs.Frames.{plane_of, no_frame, frame_at, IsFrame, KeepsOtherFrames};
 
 use crate::frame::Frame;
 use crate::plane::MAX_SIDE;
@@ -29,7 +30,7 @@ impl Model for Pool {
 }
 
 impl Pool {
-    /// `n` frames of `width` times `height` luma samples, with all the memory that they will need.
+    /// `n` frames of zeros, of `width` times `height` luma samples, with all the memory that they will need.
     pub fn new(alloc: Global, n: usize, width: usize, height: usize) -> Result<Pool, AllocError>
         requires wide { width ≤ MAX_SIDE }
         requires tall { height ≤ MAX_SIDE }
@@ -37,12 +38,22 @@ impl Pool {
         requires rows { height % 16 ≡ 0 }
         ensures count { IfOk result (λ p. length p ≡ n) }
         ensures size { IfOk result (λ p. (k : ℕ) → k < n → IsFrame (frame_at p k) width height) }
+        ensures blank { IfOk result (λ p. (k : ℕ) → k < n → (c : _) → IsBlank (plane_of c (frame_at p k))) }
     {
         let mut frames = Vec::with_capacity(alloc, n)?;
         for _ in 0..n {
             frames.push(Frame::new(alloc, width, height)?)?;
         }
         Ok(Pool { frames })
+    }
+
+    /// A pool without frames, which takes no memory.
+    pub fn none(alloc: Global) -> Pool
+        ensures { result ≡ [] }
+    {
+        Pool {
+            frames: Vec::new(alloc),
+        }
     }
 
     /// How many frames there are.

@@ -1,5 +1,19 @@
 use crate::{Component, Frame, Plane, Pool};
 use std::alloc::AllocError;
+use std::process::Abort;
+
+#[test]
+fn planes(rt: HostRuntime) -> Result<(), AllocError> {
+    a_new_plane_is_zero(&rt)?;
+    writes_stay_in_their_rows(&rt)?;
+    edges_run_both_ways(&rt)
+}
+
+#[test]
+fn frames(rt: HostRuntime) -> Result<(), AllocError> {
+    a_frame_has_three_planes(&rt)?;
+    one_frame_is_written_while_another_is_read(&rt)
+}
 
 /// The samples of a row as a number in base 10, each sample being a digit.
 fn digits(row: &[u8]) -> u64 {
@@ -10,8 +24,7 @@ fn digits(row: &[u8]) -> u64 {
     all
 }
 
-#[test]
-fn a_new_plane_is_zero(rt: HostRuntime) -> Result<(), AllocError> {
+fn a_new_plane_is_zero(rt: &(impl Abort + AllocGlobal)) -> Result<(), AllocError> {
     let p = Plane::new(rt.alloc(), 3, 2)?;
     assert_eq!(rt; p.width(), 3);
     assert_eq!(rt; p.height(), 2);
@@ -22,8 +35,7 @@ fn a_new_plane_is_zero(rt: HostRuntime) -> Result<(), AllocError> {
     Ok(())
 }
 
-#[test]
-fn writes_stay_in_their_rows(rt: HostRuntime) -> Result<(), AllocError> {
+fn writes_stay_in_their_rows(rt: &(impl Abort + AllocGlobal)) -> Result<(), AllocError> {
     let mut p = Plane::new(rt.alloc(), 5, 4)?;
     p.put_run(1, 0, &[1, 2, 3]);
     p.set(4, 1, 9);
@@ -36,8 +48,7 @@ fn writes_stay_in_their_rows(rt: HostRuntime) -> Result<(), AllocError> {
     Ok(())
 }
 
-#[test]
-fn edges_run_both_ways(rt: HostRuntime) -> Result<(), AllocError> {
+fn edges_run_both_ways(rt: &(impl Abort + AllocGlobal)) -> Result<(), AllocError> {
     let mut p = Plane::new(rt.alloc(), 4, 3)?;
     p.put::<true>(2, 1, 7);
     p.put::<false>(3, 0, 8);
@@ -49,8 +60,7 @@ fn edges_run_both_ways(rt: HostRuntime) -> Result<(), AllocError> {
     Ok(())
 }
 
-#[test]
-fn a_frame_has_three_planes(rt: HostRuntime) -> Result<(), AllocError> {
+fn a_frame_has_three_planes(rt: &(impl Abort + AllocGlobal)) -> Result<(), AllocError> {
     let mut f = Frame::new(rt.alloc(), 32, 16)?;
     assert_eq!(rt; f.width(), 32);
     assert_eq!(rt; f.height(), 16);
@@ -64,8 +74,10 @@ fn a_frame_has_three_planes(rt: HostRuntime) -> Result<(), AllocError> {
     Ok(())
 }
 
-#[test]
-fn one_frame_is_written_while_another_is_read(rt: HostRuntime) -> Result<(), AllocError> {
+fn one_frame_is_written_while_another_is_read(
+    rt: &(impl Abort + AllocGlobal),
+) -> Result<(), AllocError> {
+    assert_eq!(rt; Pool::none(rt.alloc()).len(), 0);
     let mut pool = Pool::new(rt.alloc(), 3, 16, 16)?;
     assert_eq!(rt; pool.len(), 3);
     assert_eq!(rt; pool.is_empty(), false);

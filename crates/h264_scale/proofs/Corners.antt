@@ -1,36 +1,15 @@
-use Rattle.std.proofs.Common.{◌≡◌, ◌↔◌, ◌+◌, ◌*◌, ◌/◌, ◌%◌, ◌^◌, ℤ, ℕ, zero, suc, ◌<◌, refl, sym, ap, ◌∙◌, arith, pos, negsuc, neg_ℤ, ◌*ℤ◌, ◌+ℤ◌, ◌-ℤ◌, Bool, true, false, ◌&&◌, List, [], get_or, Result, Ok, Err, MatchResult, IfOk, IsOk, IsTrue}
+use Rattle.std.proofs.Common.{◌≡◌, ◌↔◌, ◌+◌, ◌*◌, ◌/◌, ◌%◌, ◌^◌, ℤ, ℕ, zero, suc, ◌<◌, refl, sym, ap, ◌∙◌, arith, pos, negsuc, neg_ℤ, ◌*ℤ◌, ◌+ℤ◌, ◌-ℤ◌, true, false, List, [], get_or, Result, Ok, Err, MatchResult, IfOk, IsOk, IsTrue}
 use Rattle.std.proofs.lemmas.Int.{ints}
-use Rattle.std.proofs.lemmas.Bool.{false_from_ne_true, both_ways, false≢true}
+use Rattle.std.proofs.lemmas.Bool.{false≢true}
 use Rattle.std.specs.Int.{int_shr}
 use Rattle.h264_scale.specs.Residual.{fits16, norm_adjust}
 use Rattle.h264_scale.specs.Dc.{hadamard2, product2, chroma_coefficient, f2_of, scaled_dc2, dc2_at, dc2_fits, all_entries2, HasEntries2}
-use Rattle.h264_scale.specs.Fours.{IsShortFour, four_fits, matrix_four, corners, dc2_scaled, dc2_four, four_dc_fits, four_dc, row_then, factor_at}
+use Rattle.h264_scale.specs.Fours.{four_fits, matrix_four, corners, dc2_scaled, dc2_four, four_dc_fits, four_dc, row_then, factor_at}
 use Rattle.h264_scale.specs.declared.fours.Four.{Four}
 use Rattle.h264_scale.specs.declared.transform.TransformRange.{TransformRange}
-use Rattle.h264_scale.proofs.Fits.{four_in, short_four_fits}
 use Rattle.h264_scale.proofs.Scaled.{times_times}
-use Rattle.h264_scale.proofs.Products.{one_times, less_times, times_one, times_less, shr_multiple, and_is, four_of}
-
--- ---- a matrix that does not fit is out of range
-
-corners_short : (v : Four) → IsShortFour (corners v) → IsShortFour v
-corners_short v h = record {
-  a = record { low = omega (arith, ints); high = omega (arith, ints) };
-  b = record { low = omega (arith, ints); high = omega (arith, ints) };
-  c = record { low = omega (arith, ints); high = omega (arith, ints) };
-  d = record { low = omega (arith, ints); high = omega (arith, ints) };
-}
-
-and_first : (a b : Bool) → (a && b) ≡ true → a ≡ true
-and_first a b e = grind arith
-
-dc2_fits_first : (factor : ℕ) (v : Four) → four_dc_fits factor v ≡ true → four_fits (corners v) ≡ true
-unfolding four_dc_fits
-dc2_fits_first factor v e = and_first _ _ e
-
-pub dc2_out_of_range : (factor : ℕ) (v : Four) → four_fits v ≡ false → four_dc_fits factor v ≡ false
-dc2_out_of_range factor v e =
-    false_from_ne_true _ (λ q. both_ways _ e (short_four_fits v (corners_short v (four_in (corners v) (dc2_fits_first factor v q)))))
+use Rattle.h264_scale.proofs.Products.{one_times, less_times, times_one, times_less, shr_multiple, and_is}
+use Rattle.h264_scale.proofs.Within.{four_of}
 
 -- ---- the sums are the product of matrices
 

@@ -13,7 +13,7 @@ fits_last_in : (z : ℤ) → fits_last z ≡ true → IsShort z
 unfolding fits_last
 fits_last_in z e = record { low = grind (arith, ints); high = grind (arith, ints) }
 
-all_four : (a b c d : Bool) → (a && b && c && d) ≡ true → (a ≡ true) × (b ≡ true) × (c ≡ true) × (d ≡ true)
+pub all_four : (a b c d : Bool) → (a && b && c && d) ≡ true → (a ≡ true) × (b ≡ true) × (c ≡ true) × (d ≡ true)
 all_four a b c d e = grind arith
 
 -- what the tests say
@@ -64,7 +64,7 @@ short_fits : (z : ℤ) → IsShort z → fits16 z ≡ true
 unfolding fits16
 short_fits z h = grind (arith, ints)
 
-four_true : (a b c d : Bool) → a ≡ true → b ≡ true → c ≡ true → d ≡ true → (a && b && c && d) ≡ true
+pub four_true : (a b c d : Bool) → a ≡ true → b ≡ true → c ≡ true → d ≡ true → (a && b && c && d) ≡ true
 four_true a b c d p q r s = grind arith
 
 pub short_four_fits : (v : Four) → IsShortFour v → four_fits v ≡ true

@@ -3,6 +3,7 @@ pub mod Within
 pub mod Rounded
 pub mod Scaled
 pub mod Blocks
-pub mod Hadamard
+pub mod Small
 pub mod Products
 pub mod Corners
+pub mod Whole

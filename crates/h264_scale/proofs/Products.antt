@@ -7,19 +7,13 @@ use lib.Signed.{shr_z}
 use Rattle.h264_scale.specs.Residual.{coefficient, norm_adjust, HasEntries}
 use Rattle.h264_scale.specs.Dc.{hadamard, product4, f16_of, scaled_dc16, dc16_at, dc16_fits}
 use Rattle.h264_scale.specs.Fours.{four, block_of, block_fits, transposed, summed, hadamard_block, dc_scaled, dc_block, rows_of, block_dc_fits, block_dc, factor_at}
-use Rattle.h264_scale.specs.declared.fours.Four.{Four}
 use Rattle.h264_scale.specs.declared.fours.Block.{Block}
 use Rattle.h264_scale.specs.declared.transform.TransformRange.{TransformRange}
 use Rattle.h264_scale.proofs.Scaled.{times_times, shr_times}
-use Rattle.h264_scale.proofs.Blocks.{block_is, by_four, block_fits_is}
+use Rattle.h264_scale.proofs.Blocks.{rows_of_block, block_is, by_four, block_fits_is}
+use Rattle.h264_scale.proofs.Within.{four_of}
 
 -- ---- the sums are the product of matrices
-
-abbrev rows : Four → Four → Four → Four → Block
-rows a b c d = record { r0 = a; r1 = b; r2 = c; r3 = d }
-
-pub four_of : {a b c d a' b' c' d' : ℤ} → a ≡ a' → b ≡ b' → c ≡ c' → d ≡ d' → four a b c d ≡ four a' b' c' d'
-four_of p q r s = rw (p, q, r, s) refl
 
 pub one_times : (z : ℤ) → pos 1 *ℤ z ≡ z
 one_times (pos n) = omega (arith, ints)
@@ -60,9 +54,6 @@ row2 a b c d = rw (times_one a, times_less b, times_less c, times_one d) (omega 
 
 row3 : (a b c d : ℤ) → (a -ℤ b) +ℤ (c -ℤ d) ≡ a *ℤ pos 1 +ℤ b *ℤ negsuc 0 +ℤ c *ℤ pos 1 +ℤ d *ℤ negsuc 0
 row3 a b c d = rw (times_one a, times_less b, times_one c, times_less d) (omega (arith, ints))
-
-rows_of_block : {a b c d a' b' c' d' : Four} → a ≡ a' → b ≡ b' → c ≡ c' → d ≡ d' → rows a b c d ≡ rows a' b' c' d'
-rows_of_block p q r s = rw (p, q, r, s) refl
 
 columns_are : (m : ℕ → ℕ → ℤ) → summed (block_of m) ≡ block_of (product4 hadamard m)
 columns_are m =

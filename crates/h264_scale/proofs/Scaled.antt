@@ -4,23 +4,8 @@ use Rattle.std.proofs.lemmas.Nat.{pow-add, pow_pos, div-mul-add}
 use Rattle.std.proofs.lemmas.Bool.{cases_Bool, cond-true, cond-false, leb-true, leb-false}
 use Rattle.std.specs.Int.{int_shr}
 use lib.Signed.{shr_z}
-use Rattle.h264_scale.specs.Residual.{fits16, scaled, norm_adjust}
-use Rattle.h264_scale.specs.Fours.{held, factor_at}
-
-out : fits16 (pos 32768) ≡ false
-unfolding fits16
-out = refl
-
-pub held_fits : (z : ℤ) → fits16 (held z) ≡ fits16 z
-unfolding held
-held_fits z = ⊎_elim
-    (λ (e : fits16 z ≡ true). ap fits16 (cond-true (fits16 z) z (pos 32768) e))
-    (λ (e : fits16 z ≡ false). ap fits16 (cond-false (fits16 z) z (pos 32768) e) ∙ out ∙ sym e)
-    (cases_Bool (fits16 z))
-
-pub held_is : (z : ℤ) → fits16 z ≡ true → held z ≡ z
-unfolding held
-held_is z e = cond-true (fits16 z) z (pos 32768) e
+use Rattle.h264_scale.specs.Residual.{scaled, norm_adjust}
+use Rattle.h264_scale.specs.Fours.{factor_at}
 
 -- ---- products
 

@@ -8,11 +8,11 @@ use Rattle.h264_scale.specs.declared.fours.Four.{Four}
 use Rattle.h264_scale.specs.declared.fours.Block.{Block}
 
 -- half of z, rounded down, for omega
-half_low : (z : ℤ) → up (shr_z z 2) + up (shr_z z 2) + down z ≤ up z + down (shr_z z 2) + down (shr_z z 2)
+pub half_low : (z : ℤ) → up (shr_z z 2) + up (shr_z z 2) + down z ≤ up z + down (shr_z z 2) + down (shr_z z 2)
 half_low (pos n) = omega arith
 half_low (negsuc n) = omega arith
 
-half_high : (z : ℤ) → up z + down (shr_z z 2) + down (shr_z z 2) ≤ up (shr_z z 2) + up (shr_z z 2) + down z + 1
+pub half_high : (z : ℤ) → up z + down (shr_z z 2) + down (shr_z z 2) ≤ up (shr_z z 2) + up (shr_z z 2) + down z + 1
 half_high (pos n) = omega arith
 half_high (negsuc n) = omega arith
 
@@ -40,7 +40,7 @@ within_minus m n v w p q = record { a = in_difference m n v.a w.a p.a q.a; b = i
 pub within_half : (n : ℕ) (v : Four) → IsWithin n v → IsWithin n (half v)
 within_half n v p = record { a = in_half n v.a p.a; b = in_half n v.b p.b; c = in_half n v.c p.c; d = in_half n v.d p.d }
 
-four_of : {a b c d a' b' c' d' : ℤ} → a ≡ a' → b ≡ b' → c ≡ c' → d ≡ d' → four a b c d ≡ four a' b' c' d'
+pub four_of : {a b c d a' b' c' d' : ℤ} → a ≡ a' → b ≡ b' → c ≡ c' → d ≡ d' → four a b c d ≡ four a' b' c' d'
 four_of p q r s = rw (p, q, r, s) refl
 
 -- two rows with the same parts are one

@@ -1,5 +1,5 @@
 -- Matrices as the code keeps them: four rows of four numbers.
-use Rattle.std.specs.Prelude.{Bool, ◌&&◌, if◌then◌else◌, ℕ, ◌*◌, ◌/◌, ◌%◌, ◌^◌, List, [], ◌∷◌, ℤ, pos, negsuc, ◌+ℤ◌, ◌-ℤ◌, ◌*ℤ◌, ◌≤ℤ◌}
+use Rattle.std.specs.Prelude.{Bool, ◌&&◌, ℕ, ◌*◌, ◌/◌, ◌%◌, ◌^◌, List, [], ◌∷◌, ℤ, pos, negsuc, ◌+ℤ◌, ◌-ℤ◌, ◌*ℤ◌, ◌≤ℤ◌, int_le}
 use Rattle.std.specs.Int.{int_shr}
 use Rattle.h264_scale.specs.Residual.{IsIn, fits16, fits_last, norm_adjust}
 use Rattle.h264_scale.specs.declared.fours.Four.{Four}
@@ -7,6 +7,16 @@ use Rattle.h264_scale.specs.declared.fours.Block.{Block}
 
 abbrev pub four : ℤ → ℤ → ℤ → ℤ → Four
 four a b c d = record { a = a; b = b; c = c; d = d }
+
+-- a matrix of one entry, the DC
+abbrev pub dc_only : ℤ → Block
+dc_only z =
+    let none = four (pos 0) (pos 0) (pos 0) (pos 0) in
+    record { r0 = four z (pos 0) (pos 0) (pos 0); r1 = none; r2 = none; r3 = none }
+
+-- a block with another DC
+abbrev pub with_dc : ℤ → Block → Block
+with_dc z b = record b { r0 = record b.r0 { a = z } }
 
 abbrev pub block_of : (ℕ → ℕ → ℤ) → Block
 block_of m = record {
@@ -61,6 +71,16 @@ four_fits_last v = fits_last v.a && fits_last v.b && fits_last v.c && fits_last 
 
 unfoldable pub block_fits_last : Block → Bool
 block_fits_last m = four_fits_last m.r0 && four_fits_last m.r1 && four_fits_last m.r2 && four_fits_last m.r3
+
+-- a scaled coefficient so small that no later value leaves its range
+unfoldable pub is_small : ℤ → Bool
+is_small z = int_le (negsuc 2047) z && int_le z (pos 2048)
+
+unfoldable pub four_small : Four → Bool
+four_small v = is_small v.a && is_small v.b && is_small v.c && is_small v.d
+
+unfoldable pub block_small : Block → Bool
+block_small m = four_small m.r0 && four_small m.r1 && four_small m.r2 && four_small m.r3
 
 -- ---- sums, column by column
 
@@ -124,16 +144,12 @@ block_residual d = rounded_block (joined (halves (block_f (block_e d))))
 
 -- ---- scaling
 
--- a number that is out of range stands as another such number
-unfoldable pub held : ℤ → ℤ
-held z = if fits16 z then z else pos 32768
-
 -- what a coefficient is multiplied by
 abbrev pub factor_at : ℕ → ℕ → ℕ → ℕ
 factor_at qp i j = norm_adjust (qp % 6) i j * 2 ^ (qp / 6)
 
 abbrev pub scaled_row : ℕ → ℕ → Four → Four
-scaled_row qp i v = four (held (v.a *ℤ pos (factor_at qp i 0))) (held (v.b *ℤ pos (factor_at qp i 1))) (held (v.c *ℤ pos (factor_at qp i 2))) (held (v.d *ℤ pos (factor_at qp i 3)))
+scaled_row qp i v = four (v.a *ℤ pos (factor_at qp i 0)) (v.b *ℤ pos (factor_at qp i 1)) (v.c *ℤ pos (factor_at qp i 2)) (v.d *ℤ pos (factor_at qp i 3))
 
 abbrev pub scaled_block : ℕ → Block → Block
 scaled_block qp m = record { r0 = scaled_row qp 0 m.r0; r1 = scaled_row qp 1 m.r1; r2 = scaled_row qp 2 m.r2; r3 = scaled_row qp 3 m.r3 }

@@ -1,3 +1,4 @@
 pub mod Residual
 pub mod Dc
 pub mod Fours
+pub mod Macroblock

@@ -4,7 +4,7 @@ ghost use Rattle.h264_scale.specs.Dc.{dc16_at, dc16_fits, chroma_coefficient, dc
 ghost use Rattle.h264_scale.specs.Fours.{IsShort, IsShortFour, IsShortBlock, dc_scaled, dc_four, dc_block as dc_block_of, block_dc_fits, block_dc, dc2_scaled, dc2_four, four_dc_fits, four_dc, matrix_four};
 
 use crate::fours::{Block, Four};
-use crate::residual::{V0, coefficients, factor};
+use crate::residual::{V0, coefficients, factor, four_at};
 use crate::transform::TransformRange;
 
 /// A DC coefficient of Intra 16x16 luma, scaled (8.5.10).
@@ -49,13 +49,10 @@ fn scaled_block(f: Block, factor: u32) -> Block
 #[tactic(auto, unfolding(crate::specs::Fours::block_dc_fits, crate::specs::Fours::block_dc))]
 #[inline(always)]
 fn transformed(c: Block, factor: u32) -> Result<[i16; 16], TransformRange>
-    requires { factor ≤ 7424 }
+    requires factor { factor ≤ 7424 }
+    requires range { IsShortBlock c }
     ensures { MatchResult result (λ r. (block_dc_fits factor c ≡ true) × (r ≡ block_dc factor c)) (λ _. block_dc_fits factor c ≡ false) }
 {
-    // A coefficient that does not fit leaves some sum that does not fit.
-    if !c.fits() {
-        return Err(TransformRange);
-    }
     let f = c.hadamard();
     if !f.fits() {
         return Err(TransformRange);
@@ -69,7 +66,7 @@ fn transformed(c: Block, factor: u32) -> Result<[i16; 16], TransformRange>
 
 /// The scaled DC coefficients of the 4x4 blocks of Intra 16x16 luma, row by row of blocks, from their levels by place of the scan (8.5.10).
 /// Touches 16 coefficients.
-pub fn dc16(levels: &[i32; 16], qp: u8) -> Result<[i16; 16], TransformRange>
+pub fn dc16(levels: &[i16; 16], qp: u8) -> Result<[i16; 16], TransformRange>
     requires { qp ≤ 51 }
     ensures range { IsOk result ↔ IsTrue (dc16_fits levels.now qp) }
     ensures scaled { IfOk result (λ r. HasEntries r (dc16_at levels.now qp)) }
@@ -105,40 +102,33 @@ fn scaled_corners(f: Four, factor: u32) -> Four
 #[tactic(auto, unfolding(crate::specs::Fours::four_dc_fits, crate::specs::Fours::four_dc))]
 #[inline(always)]
 fn transformed2(c: Four, factor: u32) -> Result<[i16; 4], TransformRange>
-    requires { factor ≤ 7424 }
+    requires factor { factor ≤ 7424 }
+    requires range { IsShortFour c }
     ensures { MatchResult result (λ r. (four_dc_fits factor c ≡ true) × (r ≡ four_dc factor c)) (λ _. four_dc_fits factor c ≡ false) }
 {
-    // A coefficient that does not fit leaves some sum that does not fit.
-    if !c.fits() {
-        return Err(TransformRange);
-    }
     let f = c.corners();
     if !f.fits() {
         return Err(TransformRange);
     }
-    let dc = scaled_corners(f, factor);
-    if !dc.fits() {
+    let scaled = scaled_corners(f, factor);
+    if !scaled.fits() {
         return Err(TransformRange);
     }
-    Ok(dc.row())
+    Ok(scaled.row())
 }
 
 /// The DC coefficients of a chroma plane, row by row.
 #[inline(always)]
-fn chroma_coefficients(levels: &[i32; 4]) -> Four
-    ensures { result ≡ matrix_four (chroma_coefficient levels.now) }
+fn chroma_coefficients(levels: &[i16; 4]) -> Four
+    ensures value { result ≡ matrix_four (chroma_coefficient levels.now) }
+    ensures range { IsShortFour result }
 {
-    Four {
-        a: levels[0],
-        b: levels[1],
-        c: levels[2],
-        d: levels[3],
-    }
+    four_at(levels, 0, 1, 2, 3)
 }
 
 /// The scaled DC coefficients of the 4x4 blocks of a chroma plane, row by row of blocks, from their four levels (8.5.11). `qp` is that of
 /// chroma. Touches 4 coefficients.
-pub fn dc2(levels: &[i32; 4], qp: u8) -> Result<[i16; 4], TransformRange>
+pub fn dc2(levels: &[i16; 4], qp: u8) -> Result<[i16; 4], TransformRange>
     requires { qp ≤ 51 }
     ensures range { IsOk result ↔ IsTrue (dc2_fits levels.now qp) }
     ensures scaled { IfOk result (λ r. HasEntries2 r (dc2_at levels.now qp)) }

@@ -1,9 +1,9 @@
-ghost use Rattle.std.specs.Prelude.{◌≡◌, ◌↔◌, ◌*◌, ◌/◌, ◌^◌, ◌≤◌, IsTrue, IsOk, IfOk, ℤ, pos, ◌∷◌, ◌*ℤ◌};
+ghost use Rattle.std.specs.Prelude.{◌≡◌, ◌↔◌, ℕ, ◌*◌, ◌/◌, ◌^◌, ◌<◌, ◌≤◌, IsTrue, IsOk, IfOk, length, get_or, ℤ, pos, ◌∷◌, ◌*ℤ◌};
 ghost use Rattle.h264_scale.specs.Residual.{AreIn, coefficient, d_of, d_with_dc, residual_at, residual_fits, HasEntries};
-ghost use Rattle.h264_scale.specs.Fours.{four, held, block_of, scaled_block};
+ghost use Rattle.h264_scale.specs.Fours.{IsShort, IsShortFour, IsShortBlock, four, block_of, with_dc, scaled_block};
 
 use crate::fours::{Block, Four};
-use crate::transform::{TransformRange, residual};
+use crate::transform::{TransformRange, flat, residual};
 
 /// The three columns of v, by qp % 6 (8.5.9).
 pub const V0: [u8; 6] = [10, 11, 13, 14, 16, 18];
@@ -23,19 +23,14 @@ pub fn factor(v: u8, qp: u8) -> u32
     u32::from(v) << (qp / 6)
 }
 
-/// A scaled coefficient. One that is out of the range of the transform stands as 32768, which is out of it too.
-#[tactic(auto, unfolding(crate::specs::Fours::held, crate::specs::Residual::fits16))]
+/// A scaled coefficient.
 #[inline(always)]
 fn scaled_entry(c: i32, factor: u32) -> i32
-    requires { factor ≤ 7424 }
-    ensures { result ≡ held (c *ℤ pos factor) }
+    requires factor { factor ≤ 7424 }
+    requires range { IsShort c }
+    ensures { result ≡ c *ℤ pos factor }
 {
-    let d = i64::from(c) * i64::from(factor);
-    if -32768 <= d && d <= 32767 {
-        d as i32
-    } else {
-        32768
-    }
+    c * (factor as i32)
 }
 
 /// A row of scaled coefficients, whose columns are multiplied by two factors in turn.
@@ -43,7 +38,8 @@ fn scaled_entry(c: i32, factor: u32) -> i32
 fn scaled_row(v: Four, left: u32, right: u32) -> Four
     requires left { left ≤ 7424 }
     requires right { right ≤ 7424 }
-    ensures { result ≡ four (held (v.a *ℤ pos left)) (held (v.b *ℤ pos right)) (held (v.c *ℤ pos left)) (held (v.d *ℤ pos right)) }
+    requires range { IsShortFour v }
+    ensures { result ≡ four (v.a *ℤ pos left) (v.b *ℤ pos right) (v.c *ℤ pos left) (v.d *ℤ pos right) }
 {
     Four {
         a: scaled_entry(v.a, left),
@@ -56,7 +52,8 @@ fn scaled_row(v: Four, left: u32, right: u32) -> Four
 /// The scaled coefficients (8.5.12.1).
 #[inline(always)]
 fn scaled(c: Block, qp: u8) -> Block
-    requires { qp ≤ 51 }
+    requires qp { qp ≤ 51 }
+    requires range { IsShortBlock c }
     ensures { result ≡ scaled_block qp c }
 {
     let m = usize::from(qp % 6);
@@ -71,89 +68,91 @@ fn scaled(c: Block, qp: u8) -> Block
     }
 }
 
+/// The levels at four places.
+#[inline(always)]
+pub fn four_at(levels: &[i16], a: usize, b: usize, c: usize, d: usize) -> Four
+    requires a { a < length levels.now }
+    requires b { b < length levels.now }
+    requires c { c < length levels.now }
+    requires d { d < length levels.now }
+    ensures value { result ≡ four (get_or levels.now a (pos 0)) (get_or levels.now b (pos 0)) (get_or levels.now c (pos 0)) (get_or levels.now d (pos 0)) }
+    ensures range { IsShortFour result }
+{
+    Four {
+        a: i32::from(levels[a]),
+        b: i32::from(levels[b]),
+        c: i32::from(levels[c]),
+        d: i32::from(levels[d]),
+    }
+}
+
 /// The coefficients of 16 levels, by row and column (8.5.6).
 #[inline(always)]
-pub fn coefficients(l: &[i32; 16]) -> Block
-    ensures { result ≡ block_of (coefficient l.now) }
+pub fn coefficients(levels: &[i16; 16]) -> Block
+    ensures value { result ≡ block_of (coefficient levels.now) }
+    ensures range { IsShortBlock result }
 {
     Block {
-        r0: Four {
-            a: l[0],
-            b: l[1],
-            c: l[5],
-            d: l[6],
-        },
-        r1: Four {
-            a: l[2],
-            b: l[4],
-            c: l[7],
-            d: l[12],
-        },
-        r2: Four {
-            a: l[3],
-            b: l[8],
-            c: l[11],
-            d: l[13],
-        },
-        r3: Four {
-            a: l[9],
-            b: l[10],
-            c: l[14],
-            d: l[15],
-        },
+        r0: four_at(levels, 0, 1, 5, 6),
+        r1: four_at(levels, 2, 4, 7, 12),
+        r2: four_at(levels, 3, 8, 11, 13),
+        r3: four_at(levels, 9, 10, 14, 15),
     }
 }
 
-/// The coefficients of the 15 levels after the first place of the scan, with 0 there.
+/// The coefficients of the 15 levels after the first place of the scan, with the first of them also at that place, where no level stands.
 #[inline(always)]
-fn coefficients_after_dc(l: &[i32; 15]) -> Block
-    ensures { result ≡ block_of (coefficient (pos 0 ∷ l.now)) }
+fn coefficients_after_dc(levels: &[i16; 15]) -> Block
+    ensures value { with_dc (pos 0) result ≡ block_of (coefficient (pos 0 ∷ levels.now)) }
+    ensures range { IsShortBlock result }
 {
     Block {
-        r0: Four {
-            a: 0,
-            b: l[0],
-            c: l[4],
-            d: l[5],
-        },
-        r1: Four {
-            a: l[1],
-            b: l[3],
-            c: l[6],
-            d: l[11],
-        },
-        r2: Four {
-            a: l[2],
-            b: l[7],
-            c: l[10],
-            d: l[12],
-        },
-        r3: Four {
-            a: l[8],
-            b: l[9],
-            c: l[13],
-            d: l[14],
-        },
+        r0: four_at(levels, 0, 0, 4, 5),
+        r1: four_at(levels, 1, 3, 6, 11),
+        r2: four_at(levels, 2, 7, 10, 12),
+        r3: four_at(levels, 8, 9, 13, 14),
     }
 }
 
-/// The residual of a 4x4 block, row by row, from its 16 levels by place of the scan (8.5.12). Touches 16 samples.
-pub fn residual4(levels: &[i32; 16], qp: u8) -> Result<[i16; 16], TransformRange>
+/// Whether all levels are 0.
+#[inline(always)]
+fn are_zero(levels: &[i16]) -> bool
+    requires { length levels.now ≤ 16 }
+    ensures { IsTrue result → (k : ℕ) → k < length levels.now → get_or levels.now k (pos 0) ≡ pos 0 }
+{
+    let mut sum: u32 = 0;
+    for level in levels {
+        sum += u32::from(level.unsigned_abs());
+    }
+    sum == 0
+}
+
+/// The residual of a 4x4 block, row by row, from its 16 levels by place of the scan (8.5.12). A block of a DC alone, or of nothing,
+/// costs one look at its levels. Touches 16 samples.
+pub fn residual4(levels: &[i16; 16], qp: u8) -> Result<[i16; 16], TransformRange>
     requires { qp ≤ 51 }
     ensures range { IsOk result ↔ IsTrue (residual_fits (d_of levels.now qp)) }
     ensures residual { IfOk result (λ r. HasEntries r (residual_at (d_of levels.now qp))) }
     ensures bound { IfOk result (AreIn 512) }
 {
+    if are_zero(&levels[1..]) {
+        let dc = scaled_entry(i32::from(levels[0]), factor(V0[usize::from(qp % 6)], qp));
+        return flat(dc);
+    }
     residual(scaled(coefficients(levels), qp))
 }
 
-/// The residual of a 4x4 block, row by row, from its scaled DC coefficient and its 15 levels from the second place of the scan on. Touches 16 samples.
-pub fn residual4_with_dc(dc: i16, levels: &[i32; 15], qp: u8) -> Result<[i16; 16], TransformRange>
+/// The residual of a 4x4 block, row by row, from its scaled DC coefficient and its 15 levels from the second place of the scan on. Where
+/// these are 0 it costs one look at them. Touches 16 samples.
+pub fn residual4_with_dc(dc: i16, levels: &[i16; 15], qp: u8) -> Result<[i16; 16], TransformRange>
     requires { qp ≤ 51 }
     ensures range { IsOk result ↔ IsTrue (residual_fits (d_with_dc dc levels.now qp)) }
     ensures residual { IfOk result (λ r. HasEntries r (residual_at (d_with_dc dc levels.now qp))) }
     ensures bound { IfOk result (AreIn 512) }
 {
+    if are_zero(levels) {
+        return flat(i32::from(dc));
+    }
     let mut d = scaled(coefficients_after_dc(levels), qp);
     d.r0.a = i32::from(dc);
     residual(d)

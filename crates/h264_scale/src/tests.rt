@@ -1,7 +1,76 @@
-use crate::{TransformRange, dc2, dc16, residual4, residual4_with_dc};
+use crate::{
+    ChromaLevels, ChromaWithDc, Levels, LumaLevels, LumaWithDc, TransformRange, dc2, dc16,
+    residual4, residual4_with_dc, residuals,
+};
+use std::process::Abort;
+
+#[test]
+fn blocks(rt: HostRuntime) {
+    a_dc_is_flat(&rt);
+    the_second_place_is_a_column(&rt);
+    rows_come_first(&rt);
+    one_level_of_a_macroblock(&rt);
+    fifteen_levels_begin_at_the_second_place(&rt);
+    dc16_by_place(&rt);
+    dc2_by_place(&rt);
+}
+
+#[test]
+fn ranges(rt: HostRuntime) {
+    the_range_is_exact(&rt);
+    extreme_levels(&rt);
+}
+
+/// Luma of one Intra 16x16 level, 17, at QP 26; Cb of one DC level at QP 30; nothing in Cr.
+const ONE_OF_EACH: Levels = Levels {
+    luma: LumaLevels::WithDc(LumaWithDc {
+        dc: [17, 0, 0, 0, 0, 0, 0, 0, 0, 0, 0, 0, 0, 0, 0, 0],
+        ac: [[0; 15]; 16],
+    }),
+    cb: ChromaLevels::WithDc(ChromaWithDc {
+        dc: [1, 0, 0, 0],
+        ac: [[0; 15]; 4],
+    }),
+    cr: ChromaLevels::NotCoded,
+    qp: 26,
+    qp_cb: 30,
+    qp_cr: 30,
+};
+
+// (884 + 32) >> 6 is 14, (160 + 32) >> 6 is 3. Of 16 blocks the last alone has a level, 13 << 4 at its second place, as above; 10 at
+// its first, at QP 51, is out of range.
+#[test]
+fn macroblocks(rt: HostRuntime) {
+    let mut levels = ONE_OF_EACH;
+    match residuals(&levels) {
+        Ok(r) => {
+            assert_eq!(rt; r.y, [14; 256]);
+            assert_eq!(rt; r.cb, [3; 64]);
+            assert_eq!(rt; r.cr, [0; 64]);
+        }
+        Err(TransformRange) => assert!(rt; false),
+    }
+    let mut blocks = [[0; 16]; 16];
+    blocks[15] = one_level(1, 1);
+    levels.luma = LumaLevels::Blocks(blocks);
+    levels.qp = 24;
+    match residuals(&levels) {
+        Ok(r) => {
+            assert_eq!(rt; r.y[16 * 12 + 11], 0);
+            assert_eq!(rt; r.y[16 * 12 + 12], 3);
+            assert_eq!(rt; r.y[16 * 12 + 13], 2);
+            assert_eq!(rt; r.y[255], -3);
+        }
+        Err(TransformRange) => assert!(rt; false),
+    }
+    blocks[15] = one_level(0, 10);
+    levels.luma = LumaLevels::Blocks(blocks);
+    levels.qp = 51;
+    assert!(rt; residuals(&levels).is_err());
+}
 
 /// The levels with one of them not 0.
-fn one_level(place: usize, level: i32) -> [i32; 16] {
+fn one_level(place: usize, level: i16) -> [i16; 16] {
     let mut levels = [0; 16];
     if place < 16 {
         levels[place] = level;
@@ -10,14 +79,12 @@ fn one_level(place: usize, level: i32) -> [i32; 16] {
 }
 
 // At QP 28 the DC is scaled by 16 << 4, and each entry is (256 + 32) >> 6.
-#[test]
-fn a_dc_is_flat(rt: HostRuntime) {
+fn a_dc_is_flat(rt: &impl Abort) {
     assert_eq!(rt; residual4(&one_level(0, 1), 28), Ok([4; 16]));
 }
 
 // 13 << 4 at the second place: a row of 208, 104, -104, -208, rounded.
-#[test]
-fn the_second_place_is_a_column(rt: HostRuntime) {
+fn the_second_place_is_a_column(rt: &impl Abort) {
     let row = [3, 2, -2, -3, 3, 2, -2, -3, 3, 2, -2, -3, 3, 2, -2, -3];
     assert_eq!(rt; residual4(&one_level(1, 1), 24), Ok(row));
     let column = [3, 3, 3, 3, 2, 2, 2, 2, -2, -2, -2, -2, -3, -3, -3, -3];
@@ -26,8 +93,7 @@ fn the_second_place_is_a_column(rt: HostRuntime) {
 
 // At QP 1 three entries of -126, at (0, 1), (1, 0) and (1, 1). The rows become -126, -63, 63, 126 and -252, -189, -63, 0, and in the
 // second column half of -189 is -95. With the columns first entries of the second and the third row would be others.
-#[test]
-fn rows_come_first(rt: HostRuntime) {
+fn rows_come_first(rt: &impl Abort) {
     let mut levels = [0; 16];
     levels[1] = -9;
     levels[2] = -9;
@@ -37,8 +103,7 @@ fn rows_come_first(rt: HostRuntime) {
 }
 
 // A macroblock of one Intra 16x16 level: 17 at QP 26 makes 128 to 142, at QP 0 to 129.
-#[test]
-fn one_level_of_a_macroblock(rt: HostRuntime) {
+fn one_level_of_a_macroblock(rt: &impl Abort) {
     let none = [0; 15];
     assert_eq!(rt; dc16(&one_level(0, 17), 26), Ok([884; 16]));
     assert_eq!(rt; residual4_with_dc(884, &none, 26), Ok([14; 16]));
@@ -47,8 +112,7 @@ fn one_level_of_a_macroblock(rt: HostRuntime) {
 }
 
 // The second place of the scan is the first of the 15 levels.
-#[test]
-fn fifteen_levels_begin_at_the_second_place(rt: HostRuntime) {
+fn fifteen_levels_begin_at_the_second_place(rt: &impl Abort) {
     let mut levels = [0; 15];
     levels[0] = 1;
     let row = [3, 2, -2, -3, 3, 2, -2, -3, 3, 2, -2, -3, 3, 2, -2, -3];
@@ -56,8 +120,7 @@ fn fifteen_levels_begin_at_the_second_place(rt: HostRuntime) {
 }
 
 // The last place of the scan changes sign in each column and each row.
-#[test]
-fn dc16_by_place(rt: HostRuntime) {
+fn dc16_by_place(rt: &impl Abort) {
     let second = [
         10, 10, -10, -10, 10, 10, -10, -10, 10, 10, -10, -10, 10, 10, -10, -10,
     ];
@@ -69,8 +132,7 @@ fn dc16_by_place(rt: HostRuntime) {
 }
 
 // At QP 1, 176 / 32 is 5.5, rounded down on both sides of 0.
-#[test]
-fn dc2_by_place(rt: HostRuntime) {
+fn dc2_by_place(rt: &impl Abort) {
     assert_eq!(rt; dc2(&[1, 0, 0, 0], 30), Ok([160; 4]));
     assert_eq!(rt; dc2(&[0, 1, 0, 0], 30), Ok([160, -160, 160, -160]));
     assert_eq!(rt; dc2(&[0, 0, 1, 0], 30), Ok([160, 160, -160, -160]));
@@ -78,8 +140,7 @@ fn dc2_by_place(rt: HostRuntime) {
 }
 
 // At QP 51 a DC is scaled by 14 << 8, at QP 1 by 11: 11 * 2976 is 32736, to which 32 can't be added.
-#[test]
-fn the_range_is_exact(rt: HostRuntime) {
+fn the_range_is_exact(rt: &impl Abort) {
     assert_eq!(rt; residual4(&one_level(0, 9), 51), Ok([504; 16]));
     assert_eq!(rt; residual4(&one_level(0, 10), 51), Err(TransformRange));
     assert_eq!(rt; residual4(&one_level(0, 2975), 1), Ok([511; 16]));
@@ -88,24 +149,23 @@ fn the_range_is_exact(rt: HostRuntime) {
     assert_eq!(rt; residual4(&one_level(0, -2979), 1), Err(TransformRange));
 }
 
-#[test]
-fn extreme_levels(rt: HostRuntime) {
+fn extreme_levels(rt: &impl Abort) {
     for qp in [0, 51] {
         for place in [0, 5, 15] {
             assert_eq!(rt;
-                residual4(&one_level(place, i32::MAX), qp),
+                residual4(&one_level(place, i16::MAX), qp),
                 Err(TransformRange)
             );
             assert_eq!(rt;
-                residual4(&one_level(place, i32::MIN), qp),
+                residual4(&one_level(place, i16::MIN), qp),
                 Err(TransformRange)
             );
-            assert_eq!(rt; dc16(&one_level(place, i32::MAX), qp), Err(TransformRange));
-            assert_eq!(rt; dc16(&one_level(place, i32::MIN), qp), Err(TransformRange));
+            assert_eq!(rt; dc16(&one_level(place, i16::MAX), qp), Err(TransformRange));
+            assert_eq!(rt; dc16(&one_level(place, i16::MIN), qp), Err(TransformRange));
         }
-        assert_eq!(rt; dc2(&[i32::MIN; 4], qp), Err(TransformRange));
+        assert_eq!(rt; dc2(&[i16::MIN; 4], qp), Err(TransformRange));
         assert_eq!(rt;
-            residual4_with_dc(i16::MIN, &[i32::MAX; 15], qp),
+            residual4_with_dc(i16::MIN, &[i16::MAX; 15], qp),
             Err(TransformRange)
         );
         assert_eq!(rt; residual4_with_dc(i16::MIN, &[0; 15], qp), Ok([-512; 16]));

@@ -239,8 +239,8 @@ fn write_level_code(writer: &mut Writer, code: u32, suffix_length: u32) -> Resul
 }
 
 /// levelCode of a level.
-fn level_code(level: i32, never_one: bool) -> u32 {
-    let doubled = level.unsigned_abs().wrapping_mul(2);
+fn level_code(level: i16, never_one: bool) -> u32 {
+    let doubled = u32::from(level.unsigned_abs()).wrapping_mul(2);
     let code = doubled.wrapping_sub(if level > 0 { 2 } else { 1 });
     if never_one {
         code.wrapping_sub(2)
@@ -250,7 +250,7 @@ fn level_code(level: i32, never_one: bool) -> u32 {
 }
 
 /// Writes the levels, from the highest place down, of which the first `ones` are trailing ones.
-fn write_levels(writer: &mut Writer, levels: &[(u8, i32)], ones: usize) -> Result<(), Fail> {
+fn write_levels(writer: &mut Writer, levels: &[(u8, i16)], ones: usize) -> Result<(), Fail> {
     let mut suffix_length = u32::from(levels.len() > 10 && ones < 3);
     for (k, (_place, level)) in levels.iter().enumerate() {
         if k < ones {
@@ -259,7 +259,7 @@ fn write_levels(writer: &mut Writer, levels: &[(u8, i32)], ones: usize) -> Resul
             let never_one = k == ones && ones < 3;
             write_level_code(writer, level_code(*level, never_one), suffix_length)?;
             let length = suffix_length.max(1).min(6);
-            let raised = level.unsigned_abs() > 3 << (length - 1);
+            let raised = u32::from(level.unsigned_abs()) > 3 << (length - 1);
             suffix_length = if raised { length + 1 } else { length };
         }
     }
@@ -267,7 +267,7 @@ fn write_levels(writer: &mut Writer, levels: &[(u8, i32)], ones: usize) -> Resul
 }
 
 /// Writes total_zeros and the runs of levels with their places, from the highest down.
-fn write_zeros(writer: &mut Writer, levels: &[(u8, i32)], total: u8) -> Result<(), Fail> {
+fn write_zeros(writer: &mut Writer, levels: &[(u8, i16)], total: u8) -> Result<(), Fail> {
     let Some((highest, _level)) = levels.first() else {
         return Ok(());
     };
@@ -292,7 +292,7 @@ fn write_block(
     alloc: Global,
     writer: &mut Writer,
     nc: u8,
-    by_place: &[i32; 16],
+    by_place: &[i16; 16],
 ) -> Result<(), Fail> {
     let mut levels = Vec::new(alloc);
     let mut place = 16u8;
@@ -319,7 +319,7 @@ fn write_block(
 }
 
 /// A block of levels up to `most` that looks random: each is 0 unless its number is a multiple of `rare`.
-fn random_block(seed: u32, rare: u32, most: u32) -> [i32; 16]
+fn random_block(seed: u32, rare: u32, most: u32) -> [i16; 16]
     requires rare { 0 < rare }
     requires most { 0 < most }
     requires small { most < 3000 }
@@ -329,7 +329,7 @@ fn random_block(seed: u32, rare: u32, most: u32) -> [i32; 16]
     for level in by_place.iter_mut() {
         number = next(number);
         if number / 65536 % rare == 0 {
-            let magnitude = (number / 256 % most) as i32;
+            let magnitude = (number / 256 % most) as i16;
             *level = if number / 128 % 2 == 0 {
                 magnitude
             } else {

@@ -2,7 +2,7 @@ use Rattle.std.proofs.Common.{rules, arith, ◌≡◌, ◌∙◌, take, refl, ap
 use Rattle.std.proofs.lemmas.List.{take_more_set, length-take-le}
 use Rattle.std.proofs.lemmas.Result.{err_from_is_err_and}
 use Rattle.std.proofs.lemmas.Int.{to_z-of_z}
-use Rattle.std.specs.Int.{w32}
+use Rattle.std.specs.Int.{w16}
 use mir.Val.{SFits}
 use Rattle.h264_base.proofs.Steps.{kept}
 use Rattle.h264_cavlc.proofs.Loops.{levels-start, levels-next, levels-stop, levels-over}
@@ -26,8 +26,8 @@ returns-in_err-level g c =
 
 pub loop-k-preserved : goal.loop-k-preserved
 loop-k-preserved g c =
-    let fits : SFits w32 c.in_ok-level.level = search rules in
-    let same = to_z-of_z w32 c.in_ok-level.level fits in
+    let fits : SFits w16 c.in_ok-level.level = search rules in
+    let same = to_z-of_z w16 c.in_ok-level.level fits in
     let next = rw same at c.next_suffix_length-suffix_length.ensures.length in
     let n = c.loop-k.invariant.sized in
     let t = c.loop-k-test.true in

@@ -1,39 +1,17 @@
-use Rattle.std.proofs.Common.{eq-eqb, refl}
+use Rattle.std.proofs.Common.{refl}
 use Rattle.std.proofs.lemmas.Result.{err_from_is_err_and}
-use Rattle.h264_base.proofs.Steps.{bind, stop, done, kept}
 use Rattle.h264_base.proofs.OneAnswer.{answers}
-use Rattle.h264_cavlc.specs.Block.{residual_block}
-use Rattle.h264_cavlc.proofs.Sizes.{unequal}
-use Rattle.h264_cavlc.proofs.Loops.{quiet-after}
-use Rattle.h264_cavlc.proofs.Counts.{count-none}
+use Rattle.h264_cavlc.proofs.Handed.{refused-as, given-as}
 use Rattle.h264_cavlc.proofs.residual.block.Goals as goal
 
-pub returns-in_err-token-clause-meets : goal.returns-in_err-token-clause-meets
-unfolding residual_block
-returns-in_err-token-clause-meets g c = let p = err_from_is_err_and c.from_residual.result c.from_residual.ensures.1 in rw (p.1, p.2) (stop _ c.in_err-token.ensures.meets)
+pub returns-in_err-total-clause-meets : goal.returns-in_err-total-clause-meets
+returns-in_err-total-clause-meets g c = let p = err_from_is_err_and c.from_residual.result c.from_residual.ensures.1 in rw (p.1, p.2) (refused-as c.in_err-total.ensures.meets)
 
-pub returns-in_err-token-clause-answers : goal.returns-in_err-token-clause-answers
-returns-in_err-token-clause-answers g c = answers (returns-in_err-token-clause-meets g c)
-
-pub returns-then-token-eq0-clause-meets : goal.returns-then-token-eq0-clause-meets
-unfolding residual_block
-returns-then-token-eq0-clause-meets g c = let e = eq-eqb c.in_ok-token.token.total 0 c.if-token-eq0.true in bind _ c.in_ok-token.ensures.meets (rw e (done _ _ _ _ _ _ _ refl))
-
-pub returns-then-token-eq0-clause-answers : goal.returns-then-token-eq0-clause-answers
-returns-then-token-eq0-clause-answers g c = answers (returns-then-token-eq0-clause-meets g c)
+pub returns-in_err-total-clause-answers : goal.returns-in_err-total-clause-answers
+returns-in_err-total-clause-answers g c = answers (returns-in_err-total-clause-meets g c)
 
 pub returns-clause-meets : goal.returns-clause-meets
-unfolding residual_block
-returns-clause-meets g c = let e = unequal c.in_ok-token.token.total 0 c.if-token-eq0.false in bind _ c.in_ok-token.ensures.meets (rw e c.read_coefficients.ensures.meets)
+returns-clause-meets g c = given-as c.in_ok-total.ensures.meets refl
 
 pub returns-clause-answers : goal.returns-clause-answers
 returns-clause-answers g c = answers (returns-clause-meets g c)
-
-pub returns-clause-quiet : goal.returns-clause-quiet
-returns-clause-quiet g c = quiet-after c.read_coefficients.result _ _ _ (kept c.in_ok-token.ensures.meets) c.read_coefficients.ensures.quiet
-
-pub returns-then-token-eq0-clause-nonzero : goal.returns-then-token-eq0-clause-nonzero
-returns-then-token-eq0-clause-nonzero g c = count-none g.row.N
-
-pub returns-clause-inside : goal.returns-clause-inside
-returns-clause-inside g c = c.read_coefficients.ensures.inside c.in_ok-token.ensures.inside

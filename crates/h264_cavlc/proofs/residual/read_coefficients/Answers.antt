@@ -15,13 +15,13 @@ pub returns-in_err-zeros-clause-meets : goal.returns-in_err-zeros-clause-meets
 unfolding coefficients
 returns-in_err-zeros-clause-meets g c = let p = err_from_is_err_and c.from_residual-in_err-zeros.result c.from_residual-in_err-zeros.ensures.1 in rw (p.1, p.2) (bind_as _ c.in_ok-levels.ensures (λ v e. stop _ c.in_err-zeros.ensures.meets))
 
-pub returns-in_err-by_place-clause-meets : goal.returns-in_err-by_place-clause-meets
+pub returns-in_err-read_places-clause-meets : goal.returns-in_err-read_places-clause-meets
 unfolding coefficients
-returns-in_err-by_place-clause-meets g c = let p = err_from_is_err_and c.from_residual-in_err-by_place.result c.from_residual-in_err-by_place.ensures.1 in rw (p.1, p.2) (bind_as _ c.in_ok-levels.ensures (λ v e. bind _ c.in_ok-zeros.ensures.meets (stop _ c.in_err-by_place.ensures)))
+returns-in_err-read_places-clause-meets g c = let p = err_from_is_err_and c.from_residual-in_err-read_places.result c.from_residual-in_err-read_places.ensures.1 in rw (p.1, p.2) (bind_as _ c.in_ok-levels.ensures (λ v e. bind _ c.in_ok-zeros.ensures.meets (stop _ c.in_err-read_places.ensures)))
 
 pub returns-clause-meets : goal.returns-clause-meets
 unfolding coefficients
-returns-clause-meets g c = bind_as _ c.in_ok-levels.ensures (λ v e. bind _ c.in_ok-zeros.ensures.meets (bind_as _ c.in_ok-by_place.ensures (λ w f. done _ _ _ _ _ _ _ (rw (e, f) refl))))
+returns-clause-meets g c = bind_as _ c.in_ok-levels.ensures (λ v e. bind _ c.in_ok-zeros.ensures.meets (bind_as _ c.in_ok-read_places.ensures (λ w f. done _ _ _ _ _ _ _ (rw (e, f) refl))))
 
 pub returns-clause-nonzero : goal.returns-clause-nonzero
 returns-clause-nonzero g c = gives-met HasCount (gives-count g.row.N c.args.token c.requires.fits c.requires.within) (returns-clause-meets g c)

@@ -2,7 +2,7 @@ use Rattle.std.proofs.Common.{rules, arith, ◌≡◌, ◌∙◌, take, refl, ap
 use Rattle.std.proofs.lemmas.List.{take_more_set}
 use Rattle.std.proofs.lemmas.Result.{err_from_is_err_and}
 use Rattle.std.proofs.lemmas.Int.{to_z-of_z}
-use Rattle.std.specs.Int.{w32}
+use Rattle.std.specs.Int.{w16}
 use mir.Val.{SFits}
 use Rattle.h264_base.proofs.Steps.{kept}
 use Rattle.h264_bits.proofs.Repeated.{repeated-starts, repeated-next, repeated-stop, repeated-over}
@@ -17,12 +17,12 @@ returns-in_err-one g c = let p = err_from_is_err_and c.from_residual.result c.fr
 
 pub loop-k-preserved : goal.loop-k-preserved
 loop-k-preserved g c =
-    let fits : SFits w32 c.in_ok-one.one = search rules in
+    let fits : SFits w16 c.in_ok-one.one = search rules in
     let n = c.loop-k.invariant.sized in
     let t = c.loop-k-test.true in
     let few = c.requires.few in
     record {
-      rest = repeated-next trailing_one c.args.ones c.loop-k.k (take c.loop-k.k c.loop-k.levels) _ t (rw (to_z-of_z w32 c.in_ok-one.one) (take_more_set c.loop-k.levels c.loop-k.k c.in_ok-one.one (omega arith))) c.loop-k.invariant.rest c.in_ok-one.ensures;
+      rest = repeated-next trailing_one c.args.ones c.loop-k.k (take c.loop-k.k c.loop-k.levels) _ t (rw (to_z-of_z w16 c.in_ok-one.one) (take_more_set c.loop-k.levels c.loop-k.k c.in_ok-one.one (omega arith))) c.loop-k.invariant.rest c.in_ok-one.ensures;
       sized = length-set c.loop-k.levels c.loop-k.k _ ∙ n;
       room = let k = kept c.in_ok-one.ensures in let r = c.loop-k.invariant.room in rw k r;
     }

@@ -3,7 +3,7 @@ use Rattle.std.proofs.lemmas.List.{get_or-take, length-take-le, length-replicate
 use Rattle.std.proofs.lemmas.List.Sums.{sum_by-append}
 use Rattle.std.proofs.lemmas.Result.{err_from_is_err_and}
 use Rattle.std.proofs.lemmas.Int.{to_z-of_z}
-use Rattle.std.specs.Int.{w32}
+use Rattle.std.specs.Int.{w16}
 use mir.Val.{SFits}
 use Rattle.h264_base.proofs.Steps.{kept}
 use Rattle.h264_cavlc.proofs.Loops.{runs-start, runs-next, runs-stop, runs-over}
@@ -34,7 +34,7 @@ loop-k-preserved g c =
     let i = c.loop-k.invariant in
     let t = c.loop-k-test.true in
     let level = get_or c.args.levels.now c.from.result (pos 0) in
-    let fits : SFits w32 level = search rules in
+    let fits : SFits w16 level = search rules in
     let f = c.requires.fits in
     record {
       sized = length-set c.loop-k.by_place (c.from-in-loop-k.result + c.from-in-loop-k-2.result) _ ∙ i.sized;
@@ -46,7 +46,7 @@ loop-k-preserved g c =
       placed = placed-run (c.loop-k.k + 1) c.args.total c.args.zeros c.in_ok-run.run' _ i.runs _ (let m = i.count in omega arith)
           (placed-more c.loop-k.k (c.loop-k.k + 1) c.args.total c.args.zeros _ (take c.args.total c.args.levels.now) i.runs c.loop-k.by_place _ (omega arith) refl (let m = i.sized in omega arith)
           (let e = place-next c.args.total c.args.zeros i.runs c.loop-k.k i.count in let l = i.left in let a = c.from-in-loop-k.ensures in let b = c.from-in-loop-k-2.ensures in omega arith)
-          (to_z-of_z w32 level fits ∙ ap (λ n. get_or c.args.levels.now n (pos 0)) c.from.ensures ∙ sym (get_or-take c.args.total c.args.levels.now c.loop-k.k (pos 0) (omega arith)))
+          (to_z-of_z w16 level fits ∙ ap (λ n. get_or c.args.levels.now n (pos 0)) c.from.ensures ∙ sym (get_or-take c.args.total c.args.levels.now c.loop-k.k (pos 0) (omega arith)))
           i.placed);
     }
 
@@ -64,7 +64,7 @@ returns g c =
     let b = c.from-3.ensures in
     let last : c.loop-k.k + 1 ≡ c.args.total = omega arith in
     let level = get_or c.args.levels.now c.from-2.result (pos 0) in
-    let fits : SFits w32 level = search rules in
+    let fits : SFits w16 level = search rules in
     let e = place-next c.args.total c.args.zeros i.runs c.loop-k.k m in
     let at : c.from-2.result ≡ c.loop-k.k = omega arith in
     let sixteen = c.told-levels in
@@ -72,6 +72,6 @@ returns g c =
     (all-placed c.args.total c.args.zeros g.row.N (take c.args.total c.args.levels.now) i.runs _ (length-set c.loop-k.by_place c.from-3.result _ ∙ n) (length-take-le c.args.total c.args.levels.now (omega arith))
     (placed-more c.loop-k.k c.args.total c.args.total c.args.zeros _ (take c.args.total c.args.levels.now) i.runs c.loop-k.by_place _ (omega arith) (omega arith) (omega arith)
     (omega arith)
-    (to_z-of_z w32 level fits ∙ ap (λ n. get_or c.args.levels.now n (pos 0)) at ∙ sym (get_or-take c.args.total c.args.levels.now c.loop-k.k (pos 0) (omega arith)))
+    (to_z-of_z w16 level fits ∙ ap (λ n. get_or c.args.levels.now n (pos 0)) at ∙ sym (get_or-take c.args.total c.args.levels.now c.loop-k.k (pos 0) (omega arith)))
     i.placed))
     i.rest

@@ -1,9 +1,10 @@
-use Rattle.std.proofs.Common.{[], pos}
+use Rattle.std.proofs.Common.{[], pos, is_some}
 use Rattle.h264_intra.proofs.Whole.{vertical_chroma, horizontal_chroma, plane_whole_chroma, flat_chroma}
+use Rattle.h264_intra.proofs.Depends.{all_three}
 use Rattle.h264_intra.proofs.chroma.predict_chroma.Goals as goal
 
 pub returns-in-Dc : goal.returns-in-Dc
-returns-in-Dc c =
+returns-in-Dc c = λ possible.
     let n = c.args.neighbours.now in
     let left = c.unwrap_or-left in
     let above = c.unwrap_or-above in
@@ -11,26 +12,26 @@ returns-in-Dc c =
     c.mean_of_block.ensures c.mean_of_block-in-Dc.ensures c.mean_of_block-in-Dc-2.ensures c.mean_of_block-in-Dc-3.ensures c.fill.ensures)
 
 pub returns-in-Horizontal : goal.returns-in-Horizontal
-returns-in-Horizontal c =
+returns-in-Horizontal c = λ possible.
     let n = c.args.neighbours.now in
     let left = c.unwrap_or-left in
     let above = c.unwrap_or-above in
-    rw c.in-Horizontal.is (horizontal_chroma n left.result above.result _ c.fill-in-Horizontal.result [] (pos 0) (pos 0) (pos 0) (rw c.in-Horizontal.is at c.requires) left.ensures c.fill-in-Horizontal.ensures)
+    rw c.in-Horizontal.is (horizontal_chroma n left.result above.result _ c.fill-in-Horizontal.result [] (pos 0) (pos 0) (pos 0) (rw c.in-Horizontal.is at possible) left.ensures c.fill-in-Horizontal.ensures)
 
 pub returns-in-Vertical : goal.returns-in-Vertical
-returns-in-Vertical c =
+returns-in-Vertical c = λ possible.
     let n = c.args.neighbours.now in
     let left = c.unwrap_or-left in
     let above = c.unwrap_or-above in
-    rw c.in-Vertical.is (vertical_chroma n left.result above.result _ c.fill-in-Vertical.result [] (pos 0) (pos 0) (pos 0) (rw c.in-Vertical.is at c.requires) above.ensures c.fill-in-Vertical.ensures)
+    rw c.in-Vertical.is (vertical_chroma n left.result above.result _ c.fill-in-Vertical.result [] (pos 0) (pos 0) (pos 0) (rw c.in-Vertical.is at possible) above.ensures c.fill-in-Vertical.ensures)
 
 pub returns-in-Plane : goal.returns-in-Plane
-returns-in-Plane c =
+returns-in-Plane c = λ possible.
     let n = c.args.neighbours.now in
     let left = c.unwrap_or-left in
     let above = c.unwrap_or-above in
     let corner = c.unwrap_or-corner in
-    let there = rw c.in-Plane.is at c.requires in
+    let there = all_three (is_some n.above) (is_some n.left) (is_some n.corner) (rw c.in-Plane.is at possible) in
     let p = c.new in
     rw c.in-Plane.is (plane_whole_chroma n left.result above.result _ c.fill-in-Plane.result corner.result [] p.result.a p.result.b p.result.c
     there.0 there.1 there.2 left.ensures above.ensures corner.ensures p.ensures.a p.ensures.b p.ensures.c c.fill-in-Plane.ensures)

@@ -1,19 +1,8 @@
-use Rattle.std.proofs.Common.{◌≡◌, true, false, arith}
+use Rattle.std.proofs.Common.{◌≡◌, true, arith}
 use Rattle.std.proofs.lemmas.Grind.{common_steps}
 use Rattle.h264_scale.specs.Fours.{block_fits}
 use Rattle.h264_scale.proofs.Fits.{block_in}
-use Rattle.h264_scale.proofs.Hadamard.{dc_out_of_range}
 use Rattle.h264_scale.proofs.dc.transformed.Goals as goal
-
-pub returns-then-not-fits : goal.returns-then-not-fits
-returns-then-not-fits c =
-    let out : block_fits c.args.c ≡ false = grind (arith, common_steps) in
-    dc_out_of_range c.args.factor c.args.c out
-
-pub hadamard-f-requires : goal.hadamard-f-requires
-hadamard-f-requires c =
-    let fits : block_fits c.args.c ≡ true = grind (arith, common_steps) in
-    block_in c.args.c fits
 
 pub scaled_block-dc-requires-clause-range : goal.scaled_block-dc-requires-clause-range
 scaled_block-dc-requires-clause-range c =

@@ -1,7 +1,7 @@
 use Rattle.std.proofs.Common.{◌≡◌, ◌-◌, ◌+ℤ◌, ◌*ℤ◌, ◌-ℤ◌, pos, ap, ◌∙◌, arith, to_z, of_z, w32}
 use Rattle.std.proofs.lemmas.Int.{ints}
 use Rattle.std.specs.Int.{int_shr}
-use Rattle.h264_intra.specs.Slope.{clip1}
+use Rattle.h264_plane.specs.Clip.{clip1}
 use Rattle.h264_intra.proofs.Bounds.{shifted_is}
 use Rattle.h264_intra.proofs.slope.Plane.sample.Goals as goal
 

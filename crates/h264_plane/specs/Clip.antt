@@ -1,0 +1,6 @@
+-- Clip1 for samples of 8 bits (5.7).
+use Rattle.std.specs.Prelude.{ℕ, min, ℤ, pos, negsuc}
+
+abbrev pub clip1 : ℤ → ℕ
+clip1 (pos n) = min n 255
+clip1 (negsuc n) = 0

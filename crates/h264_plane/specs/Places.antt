@@ -1,0 +1,40 @@
+-- Places of a plane by macroblocks of n columns and rows, w to a row, in raster order (6.4.1). A macroblock is named by its column c and its row r.
+use Rattle.std.specs.Prelude.{◌≡◌, ◌⊎◌, ℕ, ◌+◌, ◌*◌, ◌/◌, ◌%◌, ◌<◌, ◌≤◌, ◌&&◌, nat_le, nat_lt, if◌then◌else◌}
+use Rattle.h264_plane.specs.declared.frame.Component.{Component}
+use Rattle.h264_plane.specs.declared.frame.Component.TheVariants.{Y, Cb, Cr}
+
+-- how many columns and rows of a plane a macroblock has in 4:2:0 (6.2): 16, or MbWidthC and MbHeightC
+abbrev pub side : Component → ℕ
+side Y = 16
+side Cb = 8
+side Cr = 8
+
+-- the place (x, y) is one of a macroblock before this one
+abbrev pub Before : ℕ → ℕ → ℕ → ℕ → ℕ → Type 0
+Before n c r x y = (y < n * r) ⊎ ((y < n * r + n) × (x < n * c))
+
+-- the place (x, y) is one of this macroblock or of a later one
+abbrev pub After : ℕ → ℕ → ℕ → ℕ → ℕ → Type 0
+After n c r x y = (n * r ≤ y) × ((n * r + n ≤ y) ⊎ (n * c ≤ x))
+
+-- s and t agree at the places of the macroblocks before this one
+pub record Agree (n w c r : ℕ) (s t : ℕ → ℕ → ℕ) : Type 0 where
+  pub each : (x y : ℕ) → x < n * w → Before n c r x y → s x y ≡ t x y
+
+-- the samples s with those of u at this macroblock
+unfoldable pub with_own : ℕ → ℕ → ℕ → (ℕ → ℕ → ℕ) → (ℕ → ℕ → ℕ) → ℕ → ℕ → ℕ
+with_own n c r u s x y =
+    if nat_le (n * c) x && nat_lt x (n * c + n) && nat_le (n * r) y && nat_lt y (n * r + n) then u x y else s x y
+
+-- ---- 4x4 blocks of a luma macroblock, by their column x and row y of blocks
+
+-- the number of a block in decoding order (6.4.13.1, figure 6-10)
+abbrev pub index_of : ℕ → ℕ → ℕ
+index_of x y = 8 * (y / 2) + 4 * (x / 2) + 2 * (y % 2) + x % 2
+
+-- the column and the row of the block of this number (6.4.3)
+abbrev pub column_of : ℕ → ℕ
+column_of b = 2 * (b / 4 % 2) + b % 2
+
+abbrev pub row_of : ℕ → ℕ
+row_of b = 2 * (b / 8) + b / 2 % 2
