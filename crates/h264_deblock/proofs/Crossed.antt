@@ -14,13 +14,13 @@ use Rattle.h264_deblock.proofs.Lines.{lines_more, lines_beyond, one_line, same_t
 run_test : (x y n u : ℕ) → x ≤ u → u < x + n → (y == y && nat_le x u && nat_lt u (x + n)) ≡ true
 run_test x y n u p q = grind (arith, nat_tests)
 
-run_at : (x y : ℕ) (run : List ℕ) (s : ℕ → ℕ → ℕ) (u c : ℕ) → c < length run → u ≡ x + c → with_run x y run s u y ≡ slice_index run c
+pub run_at : (x y : ℕ) (run : List ℕ) (s : ℕ → ℕ → ℕ) (u c : ℕ) → c < length run → u ≡ x + c → with_run x y run s u y ≡ slice_index run c
 unfolding with_run
 run_at x y run s u c p e =
     let place : u - x ≡ c = omega arith in
     rw (run_test x y (length run) u (omega arith) (omega arith)) (ap (slice_index run) place)
 
-run_beside : (x y : ℕ) (run : List ℕ) (s : ℕ → ℕ → ℕ) (u v : ℕ) → (v ≢ y) ⊎ ((u < x) ⊎ (x + length run ≤ u)) → with_run x y run s u v ≡ s u v
+pub run_beside : (x y : ℕ) (run : List ℕ) (s : ℕ → ℕ → ℕ) (u v : ℕ) → (v ≢ y) ⊎ ((u < x) ⊎ (x + length run ≤ u)) → with_run x y run s u v ≡ s u v
 unfolding with_run
 run_beside x y run s u v p = grind (arith, nat_tests)
 

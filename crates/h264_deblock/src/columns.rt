@@ -24,7 +24,7 @@ pub fn riffled<const N: usize>(x: &[u8; N]) -> [u8; N]
 
 /// Eight samples of a row.
 #[inline(always)]
-fn read_eight(plane: &Plane, x: usize, y: usize) -> [u8; 8]
+pub fn read_eight(plane: &Plane, x: usize, y: usize) -> [u8; 8]
     requires small { x < 65536 }
     requires columns { x + 8 ≤ plane.now.width }
     requires row { y < plane.now.height }
