@@ -160,7 +160,7 @@ fn normal(l: Line, alpha: u8, beta: u8, t: u8) -> Line
 }
 
 /// The nearest samples after the filters of these numbers.
-#[inline(always)]
+#[inline(never)]
 pub fn normal_nearest(r: &Inner, alpha: u8, beta: u8, tc0: &[u8; 8]) -> Nearest
     ensures { IsFilteredInner r.now result (λ n. record { alpha = alpha; beta = beta; filter = filter_by_of (slice_index tc0.now n) }) }
 {
@@ -206,7 +206,7 @@ fn strong(l: Line, alpha: u8, beta: u8) -> Line
 }
 
 /// The nearest samples after the filter of bS 4.
-#[inline(always)]
+#[inline(never)]
 pub fn strong_nearest(r: &Inner, alpha: u8, beta: u8) -> Nearest
     ensures { IsFilteredInner r.now result (λ _. record { alpha = alpha; beta = beta; filter = Strong }) }
 {
