@@ -6,6 +6,7 @@ ghost use Rattle.h264_deblock.specs.declared.line.Line.{Line};
 
 use crate::rows::Rows;
 use h264_plane::Plane;
+use std::simd::prelude::*;
 
 /// The first half of a list between the places of the second half, as two halves of a pack of cards.
 #[inline(always)]
@@ -36,28 +37,55 @@ pub fn read_eight(plane: &Plane, x: usize, y: usize) -> [u8; 8]
     samples
 }
 
-/// The samples of 16 rows, eight to a row.
+/// The samples of two lists in turn.
+#[inline(always)]
+pub fn woven(a: [u8; 8], b: [u8; 8]) -> [u8; 16]
+    ensures first { (n : ℕ) → n < 8 → slice_index result (2 * n) ≡ slice_index a n }
+    ensures second { (n : ℕ) → n < 8 → slice_index result (2 * n + 1) ≡ slice_index b n }
+{
+    u8x8::from_array(a)
+        .shuffle(
+            u8x8::from_array(b),
+            [0, 8, 1, 9, 2, 10, 3, 11, 4, 12, 5, 13, 6, 14, 7, 15],
+        )
+        .to_array()
+}
+
+/// Eight samples of a row in turn with those of the row `APART` below it.
+#[inline(always)]
+pub fn read_pair<const APART: usize>(plane: &Plane, x: usize, y: usize) -> [u8; 16]
+    requires small { x < 65536 }
+    requires low { y ≤ 65544 }
+    requires columns { x + 8 ≤ plane.now.width }
+    requires rows { y + APART < plane.now.height }
+    requires apart { APART ≤ 8 }
+    ensures { (u : ℕ) → u < 16 → slice_index result u ≡ at plane.now (x + u / 2) (y + u % 2 * APART) }
+{
+    woven(read_eight(plane, x, y), read_eight(plane, x, y + APART))
+}
+
+/// The samples of 16 rows, eight to a row, each of the first eight in turn with its row of the last eight.
 #[inline(always)]
 fn read_block(plane: &Plane, x: usize, y: usize) -> [u8; 128]
     requires small { (x < 65536) × (y < 65536) }
     requires columns { x + 8 ≤ plane.now.width }
     requires rows { y + 16 ≤ plane.now.height }
-    ensures { (v : ℕ) → v < 16 → (u : ℕ) → u < 8 → slice_index result (8 * v + u) ≡ at plane.now (x + u) (y + v) }
+    ensures { (v : ℕ) → v < 8 → (u : ℕ) → u < 16 → slice_index result (16 * v + u) ≡ at plane.now (x + u / 2) (y + v + u % 2 * 8) }
 {
     let mut samples = [0u8; 128];
-    for v in 0..16usize {
-        let row = read_eight(plane, x, y + v);
-        samples[8 * v..8 * v + 8].copy_from_slice(&row);
+    for v in 0..8usize {
+        let pair = read_pair::<8>(plane, x, y + v);
+        samples[16 * v..16 * v + 16].copy_from_slice(&pair);
     }
     samples
 }
 
-/// Rows of eight as rows of sixteen.
+/// Pairs of rows of eight as rows of sixteen.
 #[inline(always)]
 fn turned(x: &[u8; 128]) -> [u8; 128]
-    ensures { (v : ℕ) → v < 16 → (u : ℕ) → u < 8 → slice_index result (16 * u + v) ≡ slice_index x.now (8 * v + u) }
+    ensures { (v : ℕ) → v < 16 → (u : ℕ) → u < 8 → slice_index result (16 * u + v) ≡ slice_index x.now (16 * (v % 8) + (2 * u + v / 8)) }
 {
-    riffled(&riffled(&riffled(&riffled(x))))
+    riffled(&riffled(&riffled(x)))
 }
 
 /// Rows of sixteen as rows of eight.

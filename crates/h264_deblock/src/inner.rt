@@ -1,4 +1,4 @@
-ghost use Rattle.std.specs.Prelude.{◌≡◌, ℕ, ◌+◌, ◌*◌, ◌/◌, ◌<◌, ◌≤◌, slice_index, get_or, true, false, IfSome};
+ghost use Rattle.std.specs.Prelude.{◌≡◌, ℕ, ◌+◌, ◌*◌, ◌/◌, ◌%◌, ◌<◌, ◌≤◌, slice_index, get_or, true, false, IfSome};
 ghost use Rattle.h264_plane.specs.Samples.{at, look, size_along, size_across};
 ghost use Rattle.h264_deblock.specs.Line.{filtered as filtered_of};
 ghost use Rattle.h264_deblock.specs.Edge.{filter_of};
@@ -7,7 +7,7 @@ ghost use Rattle.h264_deblock.specs.Inner.{inner_of, HasInner, IsFilteredInner, 
 ghost use Rattle.h264_deblock.specs.declared.line.Filter.TheVariants.{Strong};
 ghost use Rattle.h264_deblock.specs.declared.edge_parameters.BoundaryStrength.TheVariants.{Zero};
 
-use crate::columns::{read_eight, riffled};
+use crate::columns::{read_eight, read_pair, riffled, woven};
 use crate::edge_parameters::BoundaryStrength;
 use crate::line::{Filter, Limits, Line, moved};
 use crate::rows::{either, is_on, is_within, kept, tc0_of};
@@ -49,28 +49,28 @@ impl Inner {
     }
 }
 
-/// The samples of 8 rows, eight to a row.
+/// The samples of 8 rows, eight to a row, each of the first four in turn with its row of the last four.
 #[inline(always)]
 fn read_square(plane: &Plane, x: usize, y: usize) -> [u8; 64]
     requires small { (x < 65536) × (y < 65536) }
     requires columns { x + 8 ≤ plane.now.width }
     requires rows { y + 8 ≤ plane.now.height }
-    ensures { (v : ℕ) → v < 8 → (u : ℕ) → u < 8 → slice_index result (8 * v + u) ≡ at plane.now (x + u) (y + v) }
+    ensures { (v : ℕ) → v < 4 → (u : ℕ) → u < 16 → slice_index result (16 * v + u) ≡ at plane.now (x + u / 2) (y + v + u % 2 * 4) }
 {
     let mut samples = [0u8; 64];
-    for v in 0..8usize {
-        let row = read_eight(plane, x, y + v);
-        samples[8 * v..8 * v + 8].copy_from_slice(&row);
+    for v in 0..4usize {
+        let pair = read_pair::<4>(plane, x, y + v);
+        samples[16 * v..16 * v + 16].copy_from_slice(&pair);
     }
     samples
 }
 
-/// Rows as columns.
+/// Pairs of rows as columns.
 #[inline(always)]
 fn turned(x: &[u8; 64]) -> [u8; 64]
-    ensures { (v : ℕ) → v < 8 → (u : ℕ) → u < 8 → slice_index result (8 * u + v) ≡ slice_index x.now (8 * v + u) }
+    ensures { (v : ℕ) → v < 8 → (u : ℕ) → u < 8 → slice_index result (8 * u + v) ≡ slice_index x.now (16 * (v % 4) + (2 * u + v / 4)) }
 {
-    riffled(&riffled(&riffled(x)))
+    riffled(&riffled(x))
 }
 
 /// Eight of the samples.
@@ -237,20 +237,6 @@ pub fn tc0_of_lines(index_a: u8, strengths: &[BoundaryStrength; 4]) -> Option<[u
     Some(lanes)
 }
 
-/// The samples of p0 and q0 in turn.
-#[inline(always)]
-fn in_turn(r: &Nearest) -> [u8; 16]
-    ensures p0 { (n : ℕ) → n < 8 → slice_index result (2 * n) ≡ slice_index r.now.p0 n }
-    ensures q0 { (n : ℕ) → n < 8 → slice_index result (2 * n + 1) ≡ slice_index r.now.q0 n }
-{
-    let mut pairs = [0u8; 16];
-    for k in 0..8usize {
-        pairs[2 * k] = r.p0[k];
-        pairs[2 * k + 1] = r.q0[k];
-    }
-    pairs
-}
-
 /// Two of the samples.
 #[inline(always)]
 fn two(x: &[u8; 16], place: usize) -> [u8; 2]
@@ -271,7 +257,7 @@ fn write_columns(plane: &mut Plane, x: usize, y: usize, r: &Nearest)
     requires rows { y + 8 ≤ plane.old.height }
     ensures { AreNearestWritten true plane.old plane.new y x r.now }
 {
-    let pairs = in_turn(r);
+    let pairs = woven(r.p0, r.q0);
     for n in 0..8usize {
         plane.put_run(x - 1, y + n, &two(&pairs, 2 * n));
     }
