@@ -1,4 +1,4 @@
-ghost use Rattle.std.specs.Prelude.{◌≡◌, ℕ, ◌+◌, ◌-◌, ◌*◌, ◌/◌, ◌%◌, ◌<◌, ◌≤◌, length, slice_index, true};
+ghost use Rattle.std.specs.Prelude.{◌≡◌, ℕ, ◌+◌, ◌-◌, ◌*◌, ◌/◌, ◌%◌, ◌<◌, ◌≤◌, length, slice_index, get_or, true};
 ghost use Rattle.h264_plane.specs.Samples.{at, look};
 ghost use Rattle.h264_deblock.specs.Edge.{taps, IsLinePut};
 ghost use Rattle.h264_deblock.specs.Rows.{line_of, HasLine, AreWritten};
@@ -37,17 +37,33 @@ pub fn read_eight(plane: &Plane, x: usize, y: usize) -> [u8; 8]
     samples
 }
 
-/// The samples of two lists in turn.
+/// Eight samples of a row, as lanes.
 #[inline(always)]
-pub fn woven(a: [u8; 8], b: [u8; 8]) -> [u8; 16]
-    ensures first { (n : ℕ) → n < 8 → slice_index result (2 * n) ≡ slice_index a n }
-    ensures second { (n : ℕ) → n < 8 → slice_index result (2 * n + 1) ≡ slice_index b n }
+fn eight_lanes(plane: &Plane, x: usize, y: usize) -> u8x8
+    requires small { x < 65536 }
+    requires columns { x + 8 ≤ plane.now.width }
+    requires row { y < plane.now.height }
+    ensures { (n : ℕ) → n < 8 → get_or result n 0 ≡ at plane.now (x + n) y }
 {
-    u8x8::from_array(a)
-        .shuffle(
-            u8x8::from_array(b),
-            [0, 8, 1, 9, 2, 10, 3, 11, 4, 12, 5, 13, 6, 14, 7, 15],
-        )
+    lanes_of(plane.row(y), x)
+}
+
+/// Eight samples of a list, as lanes.
+#[inline(always)]
+pub fn lanes_of(samples: &[u8], place: usize) -> u8x8
+    requires { place + 8 ≤ length samples.now }
+    ensures { (n : ℕ) → n < 8 → get_or result n 0 ≡ slice_index samples.now (place + n) }
+{
+    u8x8::from_slice(&samples[place..])
+}
+
+/// The lanes of two vectors in turn.
+#[inline(always)]
+pub fn woven(a: u8x8, b: u8x8) -> [u8; 16]
+    ensures first { (n : ℕ) → n < 8 → slice_index result (2 * n) ≡ get_or a n 0 }
+    ensures second { (n : ℕ) → n < 8 → slice_index result (2 * n + 1) ≡ get_or b n 0 }
+{
+    a.shuffle(b, [0, 8, 1, 9, 2, 10, 3, 11, 4, 12, 5, 13, 6, 14, 7, 15])
         .to_array()
 }
 
@@ -61,7 +77,7 @@ pub fn read_pair<const APART: usize>(plane: &Plane, x: usize, y: usize) -> [u8; 
     requires apart { APART ≤ 8 }
     ensures { (u : ℕ) → u < 16 → slice_index result u ≡ at plane.now (x + u / 2) (y + u % 2 * APART) }
 {
-    woven(read_eight(plane, x, y), read_eight(plane, x, y + APART))
+    woven(eight_lanes(plane, x, y), eight_lanes(plane, x, y + APART))
 }
 
 /// The samples of 16 rows, eight to a row, each of the first eight in turn with its row of the last eight.

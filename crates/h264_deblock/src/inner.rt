@@ -7,7 +7,7 @@ ghost use Rattle.h264_deblock.specs.Inner.{inner_of, HasInner, IsFilteredInner, 
 ghost use Rattle.h264_deblock.specs.declared.line.Filter.TheVariants.{Strong};
 ghost use Rattle.h264_deblock.specs.declared.edge_parameters.BoundaryStrength.TheVariants.{Zero};
 
-use crate::columns::{read_eight, read_pair, riffled, woven};
+use crate::columns::{lanes_of, read_eight, read_pair, riffled, woven};
 use crate::edge_parameters::BoundaryStrength;
 use crate::line::{Filter, Limits, Line, moved};
 use crate::rows::{either, is_on, is_within, kept, tc0_of};
@@ -257,7 +257,7 @@ fn write_columns(plane: &mut Plane, x: usize, y: usize, r: &Nearest)
     requires rows { y + 8 ≤ plane.old.height }
     ensures { AreNearestWritten true plane.old plane.new y x r.now }
 {
-    let pairs = woven(r.p0, r.q0);
+    let pairs = woven(lanes_of(&r.p0, 0), lanes_of(&r.q0, 0));
     for n in 0..8usize {
         plane.put_run(x - 1, y + n, &two(&pairs, 2 * n));
     }

@@ -12,10 +12,10 @@ returns g c u i =
     (λ even.
     let place : u ≡ 2 * (u / 2) = omega (arith, even) in
     let row : c.args.y ≡ c.args.y + u % 2 * g.row.APART = rw even (omega arith) in
-    ap (slice_index r) place ∙ c.woven.ensures.first (u / 2) half ∙ c.read_eight.ensures (u / 2) half ∙ ap (at p (c.args.x + u / 2)) row)
+    ap (slice_index r) place ∙ c.woven.ensures.first (u / 2) half ∙ c.eight_lanes.ensures (u / 2) half ∙ ap (at p (c.args.x + u / 2)) row)
     (λ odd.
     let one : u % 2 ≡ 1 = omega (arith, odd) in
     let place : u ≡ 2 * (u / 2) + 1 = omega (arith, odd) in
     let row : c.args.y + g.row.APART ≡ c.args.y + u % 2 * g.row.APART = rw one (omega arith) in
-    ap (slice_index r) place ∙ c.woven.ensures.second (u / 2) half ∙ c.read_eight-2.ensures (u / 2) half ∙ ap (at p (c.args.x + u / 2)) row)
+    ap (slice_index r) place ∙ c.woven.ensures.second (u / 2) half ∙ c.eight_lanes-2.ensures (u / 2) half ∙ ap (at p (c.args.x + u / 2)) row)
     (cases_eq (u % 2) 0)
