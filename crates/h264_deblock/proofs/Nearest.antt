@@ -1,0 +1,95 @@
+-- Lines of chroma, of which one sample on each side is written.
+use Rattle.std.proofs.Common.{◌≡◌, ◌≢◌, ◌⊎◌, ℕ, ◌+◌, ◌-◌, ◌*◌, ◌/◌, ◌<◌, ◌≤◌, Bool, true, false, cond, ◌==◌, List, length, slice_index, arith, refl, sym, ap, ◌∙◌, ⊎_elim, inl, inr}
+use Rattle.std.proofs.lemmas.Bool.Decides.{nat_tests}
+use Rattle.std.proofs.lemmas.Bool.{cases_eq, cases_lt}
+use Rattle.h264_plane.specs.Samples.{Samples, at, look, size_along, size_across, Holds, with_run}
+use Rattle.h264_deblock.specs.Line.{filtered}
+use Rattle.h264_deblock.specs.Edge.{taps, replaced, limits, lines_after, edge_after, Shows, IsLinePut, KeepsOuter}
+use Rattle.h264_deblock.specs.Inner.{inner_of, HasInner, AreNearest, IsFilteredInner, AreNearestWritten}
+use Rattle.h264_deblock.specs.declared.line.Line.{Line}
+use Rattle.h264_deblock.specs.declared.line.Limits.{Limits}
+use Rattle.h264_deblock.specs.declared.inner.Inner.{Inner}
+use Rattle.h264_deblock.specs.declared.inner.Nearest.{Nearest}
+use Rattle.h264_deblock.specs.declared.edge_parameters.EdgeParameters.{EdgeParameters}
+use Rattle.h264_deblock.proofs.Groups.{edge_shown}
+use Rattle.h264_deblock.proofs.Lines.{lines_at, lines_beyond, inside_or_not, same_taps}
+use Rattle.h264_deblock.proofs.Local.{filtered_inner, outer, replaced_inner}
+use Rattle.h264_deblock.proofs.Beside.{run_inside, run_outside}
+use Rattle.h264_deblock.proofs.Crossed.{run_at, run_beside, line_written}
+
+-- the two samples of a line in a row of their own
+run_here : (x y : ℕ) (run : List ℕ) (l : Line) (s : ℕ → ℕ → ℕ) (w : ℕ) → 4 ≤ x → length run ≡ 2 →
+    slice_index run 0 ≡ l.p0 → slice_index run 1 ≡ l.q0 → with_run (x - 1) y run s w y ≡ cond (w + 1 == x) l.p0 (cond (w == x) l.q0 (s w y))
+run_here x y run l s w b n e0 e1 =
+    ⊎_elim (λ i. run_at (x - 1) y run s w 0 (omega arith) (omega arith) ∙ e0 ∙ (grind (arith, nat_tests)))
+    (λ n0. ⊎_elim (λ i. run_at (x - 1) y run s w 1 (omega arith) (omega arith) ∙ e1 ∙ (grind (arith, nat_tests)))
+    (λ n1. run_beside (x - 1) y run s w y (inr (⊎_elim (λ i. inl i) (λ i. inr (omega arith)) (cases_lt w (x - 1)))) ∙ (grind (arith, nat_tests)))
+    (cases_eq w x)) (cases_eq (w + 1) x)
+
+pub pair_put : (p q : Samples) (x y : ℕ) (run : List ℕ) (l : Line) → 4 ≤ x → y < p.height → length run ≡ 2 →
+    slice_index run 0 ≡ l.p0 → slice_index run 1 ≡ l.q0 → KeepsOuter (taps (look true p y) x) l →
+    Holds p q (with_run (x - 1) y run (at p)) → IsLinePut true p q y x l
+pair_put p q x y run l b i n e0 e1 keeps put = record {
+  width = put.width;
+  height = put.height;
+  here = λ w j. put.samples w y j i ∙ run_here x y run l (at p) w b n e0 e1 ∙ sym (replaced_inner l (look true p y) x w b keeps);
+  kept = λ u w j k other. put.samples w u k j ∙ run_beside (x - 1) y run (at p) w u (inl other);
+}
+
+-- one more line of an edge that is written
+pub pair_written : (p q r : Samples) (k : ℕ → Limits) (n y x : ℕ) (run : List ℕ) → 4 ≤ x → x + 4 ≤ p.width → y + n < p.height → length run ≡ 2 →
+    slice_index run 0 ≡ (filtered true (k n) (taps (look true p (y + n)) x)).p0 → slice_index run 1 ≡ (filtered true (k n) (taps (look true p (y + n)) x)).q0 →
+    Shows true p q (lines_after true k n y x (look true p)) → Holds q r (with_run (x - 1) (y + n) run (at q)) →
+    Shows true p r (lines_after true k (n + 1) y x (look true p))
+pair_written p q r k n y x run b c i len e0 e1 before put =
+    let old : (w : ℕ) → w < p.width → look true q (y + n) w ≡ look true p (y + n) w =
+    λ w j. before.samples (y + n) w i j ∙ lines_beyond true k n y x (look true p) (y + n) w (inr (omega arith)) in
+    let taps_same : taps (look true q (y + n)) x ≡ taps (look true p (y + n)) x =
+    same_taps (look true q (y + n)) (look true p (y + n)) x b (λ w e f. old w (omega arith)) in
+    let keeps : KeepsOuter (taps (look true q (y + n)) x) (filtered true (k n) (taps (look true p (y + n)) x)) = rw taps_same (outer (k n) (taps (look true p (y + n)) x)) in
+    line_written true true p q r k n y x (filtered true (k n) (taps (look true p (y + n)) x)) b c i refl before
+    (pair_put q r x (y + n) run _ b (omega (arith, before.height)) len e0 e1 keeps put)
+
+-- two rows that are written
+rows_here : (y w a b c d s : ℕ) → 4 ≤ y → a ≡ cond (w == y) d b → b ≡ cond (w == y - 1) c s → a ≡ cond (w + 1 == y) c (cond (w == y) d s)
+rows_here y w a b c d s i e f = grind (arith, nat_tests)
+
+pub nearest_rows : (p q r : Samples) (x y : ℕ) (near : Nearest) → 4 ≤ y → length near.p0 ≡ 8 → length near.q0 ≡ 8 →
+    Holds p q (with_run x (y - 1) near.p0 (at p)) → Holds q r (with_run x y near.q0 (at q)) → AreNearestWritten false p r x y near
+nearest_rows p q r x y near b m n f g = record {
+  lines = λ k near_are. record {
+    width = g.width ∙ f.width;
+    height = g.height ∙ f.height;
+    samples = λ u w i j.
+        let e1 = f.samples u w i j in
+        let e2 = g.samples u w (omega (arith, f.width)) (omega (arith, f.height)) in
+        ⊎_elim
+        (λ here.
+        let z : u - x < 8 = omega (arith, here.0, here.1) in
+        let place : x + (u - x) ≡ u = omega (arith, here.0) in
+        let l = filtered true (k (u - x)) (taps (look false p u) y) in
+        let a = near_are.p0 (u - x) z ∙ ap (λ c. (filtered true (k (u - x)) (taps (look false p c) y)).p0) place in
+        let d = near_are.q0 (u - x) z ∙ ap (λ c. (filtered true (k (u - x)) (taps (look false p c) y)).q0) place in
+        rows_here y w _ _ _ _ _ b (e2 ∙ run_inside 8 x y near.q0 (at q) u w n here.0 here.1) (e1 ∙ run_inside 8 x (y - 1) near.p0 (at p) u w m here.0 here.1)
+        ∙ ap (λ c. cond (w + 1 == y) c (cond (w == y) (slice_index near.q0 (u - x)) (at p u w))) a
+        ∙ ap (λ c. cond (w + 1 == y) l.p0 (cond (w == y) c (at p u w))) d
+        ∙ sym (replaced_inner l (look false p u) y w b (outer (k (u - x)) (taps (look false p u) y)))
+        ∙ sym (lines_at true k 8 x y (look false p) u w here.0 here.1))
+        (λ away. e2 ∙ run_outside 8 x y near.q0 (at q) u w n away ∙ e1 ∙ run_outside 8 x (y - 1) near.p0 (at p) u w m away
+        ∙ sym (lines_beyond true k 8 x y (look false p) u w away))
+        (inside_or_not x 8 u);
+  };
+}
+
+-- the lines of an edge that are read, filtered and written
+pub edge_by_nearest : (v : Bool) (p q : Samples) (e : EdgeParameters) (along across : ℕ) (k : ℕ → Limits) (before : Inner) (after : Nearest) →
+    HasInner v p along across before → IsFilteredInner before after k → ((n : ℕ) → n < 8 → k n ≡ limits e (n / 2)) →
+    AreNearestWritten v p q along across after → Holds p q (edge_after v true e along across (at p))
+edge_by_nearest v p q e along across k before after read filtering same put =
+    edge_shown v true p q e 4 along across refl
+    (put.lines (λ n. limits e (n / 2)) (record {
+      p0 = λ n i. filtering.p0 n i ∙ (filtered_inner (k n) (inner_of before n) (taps (look v p (along + n)) across) (read n i)).p0
+          ∙ ap (λ l. (filtered true l (taps (look v p (along + n)) across)).p0) (same n i);
+      q0 = λ n i. filtering.q0 n i ∙ (filtered_inner (k n) (inner_of before n) (taps (look v p (along + n)) across) (read n i)).q0
+          ∙ ap (λ l. (filtered true l (taps (look v p (along + n)) across)).q0) (same n i);
+    }))

@@ -1,0 +1,23 @@
+-- Two lists of eight in turn.
+use Rattle.std.proofs.Common.{◌≡◌, ℕ, ◌+◌, ◌*◌, ◌<◌, List, length, get_or, slice_index, ◌++◌, [], ◌∷◌, arith, below_more, ◌∙◌, refl}
+use Rattle.std.proofs.lemmas.List.{get_or_append_left, get_or-append_right}
+use lib.Lanes.{pick_l}
+
+below_8 : (P : ℕ → Type 0) → P 0 → P 1 → P 2 → P 3 → P 4 → P 5 → P 6 → P 7 → (n : ℕ) → n < 8 → P n
+below_8 P a b c d e f g h =
+    below_more P 7 (below_more P 6 (below_more P 5 (below_more P 4 (below_more P 3 (below_more P 2 (below_more P 1 (below_more P 0 (λ n i. absurd (let no : ⊥ = omega arith in no)) a) b) c) d) e) f) g) h
+
+abbrev places : List ℕ
+places = 0 ∷ 8 ∷ 1 ∷ 9 ∷ 2 ∷ 10 ∷ 3 ∷ 11 ∷ 4 ∷ 12 ∷ 5 ∷ 13 ∷ 6 ∷ 14 ∷ 7 ∷ 15 ∷ []
+
+pub first_in_turn : (a b : List ℕ) → length a ≡ 8 → (n : ℕ) → n < 8 → slice_index (pick_l 0 (a ++ b) places) (2 * n) ≡ slice_index a n
+first_in_turn a b e =
+    below_8 _
+    (get_or_append_left a b 0 0 (omega arith)) (get_or_append_left a b 0 1 (omega arith)) (get_or_append_left a b 0 2 (omega arith)) (get_or_append_left a b 0 3 (omega arith))
+    (get_or_append_left a b 0 4 (omega arith)) (get_or_append_left a b 0 5 (omega arith)) (get_or_append_left a b 0 6 (omega arith)) (get_or_append_left a b 0 7 (omega arith))
+
+pub second_in_turn : (a b : List ℕ) → length a ≡ 8 → (n : ℕ) → n < 8 → slice_index (pick_l 0 (a ++ b) places) (2 * n + 1) ≡ slice_index b n
+second_in_turn a b e =
+    below_8 _
+    (get_or-append_right a b 8 8 0 e (omega arith)) (get_or-append_right a b 8 9 0 e (omega arith)) (get_or-append_right a b 8 10 0 e (omega arith)) (get_or-append_right a b 8 11 0 e (omega arith))
+    (get_or-append_right a b 8 12 0 e (omega arith)) (get_or-append_right a b 8 13 0 e (omega arith)) (get_or-append_right a b 8 14 0 e (omega arith)) (get_or-append_right a b 8 15 0 e (omega arith))

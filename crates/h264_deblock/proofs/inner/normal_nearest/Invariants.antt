@@ -1,0 +1,16 @@
+use Rattle.std.proofs.Common.{◌≡◌, ℕ, ◌<◌, true, length, slice_index}
+use Rattle.h264_deblock.specs.Line.{filtered}
+use Rattle.h264_deblock.specs.Rows.{filter_by}
+use Rattle.h264_deblock.specs.Inner.{inner_of}
+use Rattle.h264_deblock.specs.declared.line.Line.{Line}
+use Rattle.h264_deblock.proofs.inner.normal_nearest.Given as goal
+
+abbrev pub invariant-loop-n : goal.invariant-loop-n
+invariant-loop-n l =
+    let f : ℕ → Line = λ m. filtered true (record { alpha = l.alpha; beta = l.beta; filter = filter_by (slice_index l.tc0 m) }) (inner_of l.r m) in
+    record {
+      p0_size : length l.p0 ≡ 8;
+      q0_size : length l.q0 ≡ 8;
+      p0 : (m : ℕ) → m < l.n → slice_index l.p0 m ≡ (f m).p0;
+      q0 : (m : ℕ) → m < l.n → slice_index l.q0 m ≡ (f m).q0;
+    }

@@ -1,0 +1,27 @@
+use Rattle.std.proofs.Common.{◌≡◌, ℕ, ◌+◌, ◌*◌, ◌<◌, slice_index, arith, refl, ap, ◌∙◌, rules}
+use Rattle.h264_deblock.proofs.Lines.{lines_none}
+use Rattle.h264_deblock.proofs.Nearest.{pair_written}
+use Rattle.h264_deblock.proofs.inner.write_columns.Goals as goal
+
+pub loop-n-init : goal.loop-n-init
+loop-n-init c = record { width = refl; height = refl; lines = λ k lines. lines_none _ _ c.args.plane.now k c.args.y c.args.x }
+
+pub loop-n-preserved : goal.loop-n-preserved
+loop-n-preserved c =
+    let a = c.args in
+    let n = c.loop-n.n in
+    let put = c.put_run.ensures in
+    let from : 0 + n ≡ n = omega arith in
+    let of = λ (m j : ℕ) (b : m < 2) (e : 2 * n + m ≡ j). c.two.ensures m b ∙ ap (slice_index c.woven-pairs.result) e in
+    record {
+      width = put.width ∙ c.loop-n.invariant.width;
+      height = put.height ∙ c.loop-n.invariant.height;
+      lines = λ k lines.
+          pair_written a.plane.now c.loop-n.plane c.put_run.new.self k n a.y a.x c.two.result c.requires.before c.requires.behind (omega arith) (search rules)
+          (of 0 (2 * n) (omega arith) (omega arith) ∙ c.woven-pairs.ensures.first n c.loop-n-test.true ∙ c.lanes_of.ensures n c.loop-n-test.true ∙ ap (slice_index a.r.now.p0) from ∙ lines.p0 n c.loop-n-test.true)
+          (of 1 (2 * n + 1) (omega arith) (omega arith) ∙ c.woven-pairs.ensures.second n c.loop-n-test.true ∙ c.lanes_of-2.ensures n c.loop-n-test.true ∙ ap (slice_index a.r.now.q0) from ∙ lines.q0 n c.loop-n-test.true)
+          (c.loop-n.invariant.lines k lines) put;
+    }
+
+pub returns : goal.returns
+returns c = record { lines = λ k near. let all : c.loop-n.n ≡ 8 = omega arith in rw all at (c.loop-n.invariant.lines k near) }

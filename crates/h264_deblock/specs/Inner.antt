@@ -1,0 +1,46 @@
+-- The lines of an edge of chroma: the filter reads two samples on each side of it and changes one (8.7.2).
+use Rattle.std.specs.Prelude.{◌≡◌, ℕ, ◌+◌, ◌-◌, ◌<◌, Bool, true, slice_index}
+use Rattle.h264_plane.specs.Samples.{Samples, look}
+use Rattle.h264_deblock.specs.Line.{filtered}
+use Rattle.h264_deblock.specs.Edge.{taps, lines_after, Shows}
+use Rattle.h264_deblock.specs.declared.line.Line.{Line}
+use Rattle.h264_deblock.specs.declared.line.Limits.{Limits}
+use Rattle.h264_deblock.specs.declared.inner.Inner.{Inner}
+use Rattle.h264_deblock.specs.declared.inner.Nearest.{Nearest}
+
+-- line n, with no samples beyond
+abbrev pub inner_of : Inner → ℕ → Line
+inner_of r n = record {
+  p3 = 0;
+  p2 = 0;
+  p1 = slice_index r.p1 n;
+  p0 = slice_index r.p0 n;
+  q0 = slice_index r.q0 n;
+  q1 = slice_index r.q1 n;
+  q2 = 0;
+  q3 = 0;
+}
+
+-- two lines have the same samples p1 to q1
+pub record SameInner (l m : Line) : Type 0 where
+  pub p1 : l.p1 ≡ m.p1
+  pub p0 : l.p0 ≡ m.p0
+  pub q0 : l.q0 ≡ m.q0
+  pub q1 : l.q1 ≡ m.q1
+
+-- the lines are those of the plane
+abbrev pub HasInner : Bool → Samples → ℕ → ℕ → Inner → Type 0
+HasInner vertical p along across r = (n : ℕ) → n < 8 → SameInner (inner_of r n) (taps (look vertical p (along + n)) across)
+
+-- the samples p0 and q0 are those of the filtered lines
+pub record AreNearest (r : Nearest) (f : ℕ → Line) : Type 0 where
+  pub p0 : (n : ℕ) → n < 8 → slice_index r.p0 n ≡ (f n).p0
+  pub q0 : (n : ℕ) → n < 8 → slice_index r.q0 n ≡ (f n).q0
+
+abbrev pub IsFilteredInner : Inner → Nearest → (ℕ → Limits) → Type 0
+IsFilteredInner old new k = AreNearest new (λ n. filtered true (k n) (inner_of old n))
+
+-- the samples are written: where they are those of filtered lines, so are the plane's
+pub record AreNearestWritten (vertical : Bool) (old new : Samples) (along across : ℕ) (r : Nearest) : Type 0 where
+  pub lines : (k : ℕ → Limits) → AreNearest r (λ n. filtered true (k n) (taps (look vertical old (along + n)) across)) →
+      Shows vertical old new (lines_after true k 8 along across (look vertical old))

@@ -1,0 +1,298 @@
+ghost use Rattle.std.specs.Prelude.{◌≡◌, ℕ, ◌+◌, ◌*◌, ◌/◌, ◌%◌, ◌<◌, ◌≤◌, slice_index, get_or, true, false, IfSome};
+ghost use Rattle.h264_plane.specs.Samples.{at, look, size_along, size_across};
+ghost use Rattle.h264_deblock.specs.Line.{filtered as filtered_of};
+ghost use Rattle.h264_deblock.specs.Edge.{filter_of};
+ghost use Rattle.h264_deblock.specs.Rows.{filter_by as filter_by_of};
+ghost use Rattle.h264_deblock.specs.Inner.{inner_of, HasInner, IsFilteredInner, AreNearestWritten};
+ghost use Rattle.h264_deblock.specs.declared.line.Filter.TheVariants.{Strong};
+ghost use Rattle.h264_deblock.specs.declared.edge_parameters.BoundaryStrength.TheVariants.{Zero};
+
+use crate::columns::{lanes_of, read_eight, read_pair, riffled, woven};
+use crate::edge_parameters::BoundaryStrength;
+use crate::line::{Filter, Limits, Line, moved};
+use crate::rows::{either, is_on, is_within, kept, tc0_of};
+use h264_plane::Plane;
+
+/// The samples that the filter of an edge of chroma reads, of 8 lines.
+#[derive(Clone, Copy)]
+pub struct Inner {
+    pub p1: [u8; 8],
+    pub p0: [u8; 8],
+    pub q0: [u8; 8],
+    pub q1: [u8; 8],
+}
+
+/// The samples that it writes.
+#[derive(Clone, Copy)]
+pub struct Nearest {
+    pub p0: [u8; 8],
+    pub q0: [u8; 8],
+}
+
+impl Inner {
+    /// A line, with no samples beyond.
+    #[inline(always)]
+    fn line(&self, n: usize) -> Line
+        requires { n < 8 }
+        ensures { result ≡ inner_of self.now n }
+    {
+        Line {
+            p3: 0,
+            p2: 0,
+            p1: self.p1[n],
+            p0: self.p0[n],
+            q0: self.q0[n],
+            q1: self.q1[n],
+            q2: 0,
+            q3: 0,
+        }
+    }
+}
+
+/// The samples of 8 rows, eight to a row, each of the first four in turn with its row of the last four.
+#[inline(always)]
+fn read_square(plane: &Plane, x: usize, y: usize) -> [u8; 64]
+    requires small { (x < 65536) × (y < 65536) }
+    requires columns { x + 8 ≤ plane.now.width }
+    requires rows { y + 8 ≤ plane.now.height }
+    ensures { (v : ℕ) → v < 4 → (u : ℕ) → u < 16 → slice_index result (16 * v + u) ≡ at plane.now (x + u / 2) (y + v + u % 2 * 4) }
+{
+    let mut samples = [0u8; 64];
+    for v in 0..4usize {
+        let pair = read_pair::<4>(plane, x, y + v);
+        samples[16 * v..16 * v + 16].copy_from_slice(&pair);
+    }
+    samples
+}
+
+/// Pairs of rows as columns.
+#[inline(always)]
+fn turned(x: &[u8; 64]) -> [u8; 64]
+    ensures { (v : ℕ) → v < 8 → (u : ℕ) → u < 8 → slice_index result (8 * u + v) ≡ slice_index x.now (16 * (v % 4) + (2 * u + v / 4)) }
+{
+    riffled(&riffled(x))
+}
+
+/// Eight of the samples.
+#[inline(always)]
+fn eight(x: &[u8; 64], place: usize) -> [u8; 8]
+    requires { place + 8 ≤ 64 }
+    ensures { (n : ℕ) → n < 8 → slice_index result n ≡ slice_index x.now (place + n) }
+{
+    let mut samples = [0u8; 8];
+    samples.copy_from_slice(&x[place..place + 8]);
+    samples
+}
+
+/// The lines of a vertical edge whose first q0 stands at column `x` of row `y`.
+#[inline(always)]
+fn read_columns(plane: &Plane, x: usize, y: usize) -> Inner
+    requires small { (x < 65536) × (y < 65536) }
+    requires before { 4 ≤ x }
+    requires behind { x + 4 ≤ plane.now.width }
+    requires rows { y + 8 ≤ plane.now.height }
+    ensures { HasInner true plane.now y x result }
+{
+    let samples = turned(&read_square(plane, x - 4, y));
+    Inner {
+        p1: eight(&samples, 16),
+        p0: eight(&samples, 24),
+        q0: eight(&samples, 32),
+        q1: eight(&samples, 40),
+    }
+}
+
+/// The lines of a horizontal edge whose first q0 stands at column `x` of row `y`.
+#[inline(always)]
+fn read_rows(plane: &Plane, x: usize, y: usize) -> Inner
+    requires small { (x < 65536) × (y < 65536) }
+    requires columns { x + 8 ≤ plane.now.width }
+    requires before { 4 ≤ y }
+    requires behind { y + 4 ≤ plane.now.height }
+    ensures { HasInner false plane.now x y result }
+{
+    Inner {
+        p1: read_eight(plane, x, y - 2),
+        p0: read_eight(plane, x, y - 1),
+        q0: read_eight(plane, x, y),
+        q1: read_eight(plane, x, y + 1),
+    }
+}
+
+/// The lines of an edge of chroma.
+#[inline(always)]
+pub fn read_inner<const VERTICAL: bool>(plane: &Plane, along: usize, across: usize) -> Inner
+    requires small { (along < 65536) × (across < 65536) }
+    requires along { along + 8 ≤ size_along VERTICAL plane.now }
+    requires before { 4 ≤ across }
+    requires behind { across + 4 ≤ size_across VERTICAL plane.now }
+    ensures { HasInner VERTICAL plane.now along across result }
+{
+    if VERTICAL {
+        read_columns(plane, across, along)
+    } else {
+        read_rows(plane, along, across)
+    }
+}
+
+/// A line after the filter of this number. A limit of 0 leaves the samples as they are, so that 8 lines take the same steps.
+#[inline(always)]
+fn normal(l: Line, alpha: u8, beta: u8, t: u8) -> Line
+    ensures { result ≡ filtered_of true (record { alpha = alpha; beta = beta; filter = filter_by_of t }) l }
+{
+    let k = Limits {
+        alpha,
+        beta,
+        filter: Filter::Off,
+    };
+    let on = is_on(l, k, t);
+    let delta = l.delta(kept(on, t) + u8::from(on));
+    Line {
+        p3: l.p3,
+        p2: l.p2,
+        p1: l.p1,
+        p0: moved(l.p0, delta),
+        q0: moved(l.q0, -delta),
+        q1: l.q1,
+        q2: l.q2,
+        q3: l.q3,
+    }
+}
+
+/// The nearest samples after the filters of these numbers.
+#[inline(never)]
+pub fn normal_nearest(r: &Inner, alpha: u8, beta: u8, tc0: &[u8; 8]) -> Nearest
+    ensures { IsFilteredInner r.now result (λ n. record { alpha = alpha; beta = beta; filter = filter_by_of (slice_index tc0.now n) }) }
+{
+    let mut p0 = [0u8; 8];
+    let mut q0 = [0u8; 8];
+    for n in 0..8usize {
+        let l = normal(r.line(n), alpha, beta, tc0[n]);
+        p0[n] = l.p0;
+        q0[n] = l.q0;
+    }
+    Nearest { p0, q0 }
+}
+
+/// p0 where bS is 4.
+#[inline(always)]
+fn weak(l: Line) -> u8
+    ensures { result ≡ (2 * l.p1 + l.p0 + l.q1 + 2) / 4 }
+{
+    ((2 * u16::from(l.p1) + u16::from(l.p0) + u16::from(l.q1) + 2) >> 2) as u8
+}
+
+/// A line after the filter of bS 4.
+#[inline(always)]
+fn strong(l: Line, alpha: u8, beta: u8) -> Line
+    ensures { result ≡ filtered_of true (record { alpha = alpha; beta = beta; filter = Strong }) l }
+{
+    let k = Limits {
+        alpha,
+        beta,
+        filter: Filter::Strong,
+    };
+    let on = is_within(l, k);
+    Line {
+        p3: l.p3,
+        p2: l.p2,
+        p1: l.p1,
+        p0: either(on, weak(l), l.p0),
+        q0: either(on, weak(l.turned()), l.q0),
+        q1: l.q1,
+        q2: l.q2,
+        q3: l.q3,
+    }
+}
+
+/// The nearest samples after the filter of bS 4.
+#[inline(never)]
+pub fn strong_nearest(r: &Inner, alpha: u8, beta: u8) -> Nearest
+    ensures { IsFilteredInner r.now result (λ _. record { alpha = alpha; beta = beta; filter = Strong }) }
+{
+    let mut p0 = [0u8; 8];
+    let mut q0 = [0u8; 8];
+    for n in 0..8usize {
+        let l = strong(r.line(n), alpha, beta);
+        p0[n] = l.p0;
+        q0[n] = l.q0;
+    }
+    Nearest { p0, q0 }
+}
+
+/// The numbers of the filters of 8 lines, where each bS is below 4.
+#[inline(always)]
+pub fn tc0_of_lines(index_a: u8, strengths: &[BoundaryStrength; 4]) -> Option<[u8; 8]>
+    requires { index_a ≤ 51 }
+    ensures { IfSome result (λ t. (n : ℕ) → n < 8 → filter_by_of (slice_index t n) ≡ filter_of index_a (get_or strengths.now (n / 2) Zero)) }
+{
+    let mut quarters = [0u8; 4];
+    for k in 0..4usize {
+        quarters[k] = tc0_of(index_a, strengths[k])?;
+    }
+    let mut lanes = [0u8; 8];
+    for n in 0..8usize {
+        lanes[n] = quarters[n / 2];
+    }
+    Some(lanes)
+}
+
+/// Two of the samples.
+#[inline(always)]
+fn two(x: &[u8; 16], place: usize) -> [u8; 2]
+    requires { place + 2 ≤ 16 }
+    ensures { (n : ℕ) → n < 2 → slice_index result n ≡ slice_index x.now (place + n) }
+{
+    let mut samples = [0u8; 2];
+    samples.copy_from_slice(&x[place..place + 2]);
+    samples
+}
+
+/// Writes the sample on each side of the lines of a vertical edge.
+#[inline(always)]
+fn write_columns(plane: &mut Plane, x: usize, y: usize, r: &Nearest)
+    requires small { (x < 65536) × (y < 65536) }
+    requires before { 4 ≤ x }
+    requires behind { x + 4 ≤ plane.old.width }
+    requires rows { y + 8 ≤ plane.old.height }
+    ensures { AreNearestWritten true plane.old plane.new y x r.now }
+{
+    let pairs = woven(lanes_of(&r.p0, 0), lanes_of(&r.q0, 0));
+    for n in 0..8usize {
+        plane.put_run(x - 1, y + n, &two(&pairs, 2 * n));
+    }
+}
+
+/// Writes the row on each side of a horizontal edge.
+#[inline(always)]
+fn write_rows(plane: &mut Plane, x: usize, y: usize, r: &Nearest)
+    requires small { (x < 65536) × (y < 65536) }
+    requires columns { x + 8 ≤ plane.old.width }
+    requires before { 4 ≤ y }
+    requires behind { y + 4 ≤ plane.old.height }
+    ensures { AreNearestWritten false plane.old plane.new x y r.now }
+{
+    plane.put_run(x, y - 1, &r.p0);
+    plane.put_run(x, y, &r.q0);
+}
+
+/// Writes the sample on each side of the lines of an edge of chroma.
+#[inline(always)]
+pub fn write_nearest<const VERTICAL: bool>(
+    plane: &mut Plane,
+    along: usize,
+    across: usize,
+    r: &Nearest,
+)
+    requires small { (along < 65536) × (across < 65536) }
+    requires along { along + 8 ≤ size_along VERTICAL plane.old }
+    requires before { 4 ≤ across }
+    requires behind { across + 4 ≤ size_across VERTICAL plane.old }
+    ensures { AreNearestWritten VERTICAL plane.old plane.new along across r.now }
+{
+    if VERTICAL {
+        write_columns(plane, across, along, r);
+    } else {
+        write_rows(plane, along, across, r);
+    }
+}
