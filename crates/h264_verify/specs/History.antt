@@ -1,4 +1,4 @@
--- The units so far, and the parameter sets that they leave (7.4.1.2.1).
+-- The units so far, and the parameter sets that they leave (7.4.1.2.1). To be read beside the standard.
 use Rattle.std.specs.Prelude.{Option, Some, None, List, [], ◌∷◌}
 use Rattle.h264_units.specs.Stream.{NalUnit}
 use Rattle.h264_sets.specs.Sets.{Maps, no_sets, with_sps, with_pps, pair_of, with_active}

@@ -1,4 +1,4 @@
--- A stream judged unit by unit, whatever is judged of a unit.
+-- A stream judged unit by unit, whatever is judged of a unit. A working form.
 use Rattle.std.specs.Prelude.{◌≡◌, ℕ, ◌+◌, ◌*◌, List, [], ◌∷◌, length, Option, Some, None, Err}
 use Rattle.h264_base.specs.declared.stop.Stop.{Stop}
 use Rattle.h264_units.specs.Stream.{NalUnit, Tail, Splits, tail_stop}

@@ -1,4 +1,4 @@
--- What a sink is told, and what is answered.
+-- What a sink is told, and what is answered. A working form.
 use Rattle.std.specs.Prelude.{◌≡◌, ℕ, ◌+◌, Bool, List, [], ◌∷◌, ◌++◌, map, Result, Ok, Err, if◌then◌else◌}
 use Rattle.h264_base.specs.declared.rule.Rule.{Rule}
 use Rattle.h264_base.specs.declared.stop.Stop.{Stop}

@@ -1,4 +1,4 @@
--- What a session is to its callers.
+-- What a session is to its callers. A working form.
 use Rattle.std.specs.Prelude.{◌≡◌, ◌≤◌, IsFalse, Option, Some, None, []}
 use Rattle.h264_base.specs.declared.mode.Mode.{Mode}
 use Rattle.h264_base.specs.declared.stop.Stop.{Stop}

@@ -1,4 +1,4 @@
--- What a unit goes through, in order: rules that must be met, features that are not judged, and what a sink is told.
+-- What a unit goes through, in order: rules that must be met, features that are not judged, and what a sink is told. To be read beside the standard.
 use Rattle.std.specs.Prelude.{◌≡◌, ℕ, ◌⊎◌, IsTrue, IsFalse, List, [], ◌∷◌, ◌++◌, map, Result, Ok, Err, if◌then◌else◌}
 use Rattle.h264_base.specs.declared.stop.Feature.{Feature}
 use Rattle.h264_base.specs.declared.stop.Stop.{Stop}
