@@ -10,6 +10,7 @@ use h264_rbsp::Rbsp;
 use h264_tables::Table;
 use h264_units::Splitter;
 use std::alloc::Global;
+use std::process::Abort;
 use std::test::Fail;
 
 /// Keeps the last element, and how many there were.
@@ -124,8 +125,7 @@ fn words_are(bits: &mut Bits, sink: &mut Last, words: &[(Table, u8, u64)]) -> Re
 /// The sequence parameter set of one macroblock at level 1: its unit begins at byte 4, its RBSP at bit 40.
 const SET: [u8; 10] = [0, 0, 0, 1, 0x67, 0x42, 0xC0, 0x0A, 0xDA, 0x71];
 
-#[test]
-fn a_parameter_set_reads(rt: HostRuntime) -> Result<(), Fail> {
+fn a_parameter_set_reads(rt: &(impl Abort + AllocGlobal)) -> Result<(), Fail> {
     let rbsp = rbsp(rt.alloc(), &SET)?;
     let mut bits = Bits::new(&rbsp);
     let mut sink = untold();
@@ -145,8 +145,7 @@ fn a_parameter_set_reads(rt: HostRuntime) -> Result<(), Fail> {
     Ok(())
 }
 
-#[test]
-fn a_parameter_set_ends(rt: HostRuntime) -> Result<(), Fail> {
+fn a_parameter_set_ends(rt: &(impl Abort + AllocGlobal)) -> Result<(), Fail> {
     let rbsp = rbsp(rt.alloc(), &SET)?;
     let mut bits = Bits::new(&rbsp);
     let mut sink = untold();
@@ -161,8 +160,7 @@ fn a_parameter_set_ends(rt: HostRuntime) -> Result<(), Fail> {
     Ok(())
 }
 
-#[test]
-fn nothing_stands_behind_the_end(rt: HostRuntime) -> Result<(), Fail> {
+fn nothing_stands_behind_the_end(rt: &(impl Abort + AllocGlobal)) -> Result<(), Fail> {
     let rbsp = rbsp(rt.alloc(), &SET)?;
     let mut bits = Bits::new(&rbsp);
     let mut sink = untold();
@@ -196,8 +194,7 @@ fn nothing_stands_behind_the_end(rt: HostRuntime) -> Result<(), Fail> {
     Ok(())
 }
 
-#[test]
-fn exp_golomb_words(rt: HostRuntime) -> Result<(), Fail> {
+fn exp_golomb_words(rt: &(impl Abort + AllocGlobal)) -> Result<(), Fail> {
     // 1, 010, 011, 00100, 00101, 0001000, and a 1 behind them
     let body = [
         0,
@@ -234,8 +231,7 @@ fn exp_golomb_words(rt: HostRuntime) -> Result<(), Fail> {
     Ok(())
 }
 
-#[test]
-fn the_longest_word(rt: HostRuntime) -> Result<(), Fail> {
+fn the_longest_word(rt: &(impl Abort + AllocGlobal)) -> Result<(), Fail> {
     // 31 zeros and 32 ones; emulation prevention put in the 03
     let rbsp = rbsp(
         rt.alloc(),
@@ -249,8 +245,7 @@ fn the_longest_word(rt: HostRuntime) -> Result<(), Fail> {
     Ok(())
 }
 
-#[test]
-fn one_zero_more_is_no_word(rt: HostRuntime) -> Result<(), Fail> {
+fn one_zero_more_is_no_word(rt: &(impl Abort + AllocGlobal)) -> Result<(), Fail> {
     let rbsp = rbsp(
         rt.alloc(),
         &[0, 0, 1, 0x67, 0, 0, 3, 0, 0, 0xFF, 0xFF, 0xFF, 0xFF, 0xFF],
@@ -265,8 +260,7 @@ fn one_zero_more_is_no_word(rt: HostRuntime) -> Result<(), Fail> {
     Ok(())
 }
 
-#[test]
-fn words_of_tables(rt: HostRuntime) -> Result<(), Fail> {
+fn words_of_tables(rt: &(impl Abort + AllocGlobal)) -> Result<(), Fail> {
     // coeff_token 00011, run_before 001, two inverted bits, total_zeros 110, and 000
     let rbsp = rbsp(rt.alloc(), &[0, 0, 1, 0x65, 0b0001_1001, 0b0111_0000])?;
     let mut bits = Bits::new(&rbsp);
@@ -293,8 +287,7 @@ fn words_of_tables(rt: HostRuntime) -> Result<(), Fail> {
     Ok(())
 }
 
-#[test]
-fn zero_bits_up_to_a_byte(rt: HostRuntime) -> Result<(), Fail> {
+fn zero_bits_up_to_a_byte(rt: &(impl Abort + AllocGlobal)) -> Result<(), Fail> {
     let rbsp = rbsp(rt.alloc(), &[0, 0, 1, 0x65, 0b1010_0000, 0x80])?;
     let mut bits = Bits::new(&rbsp);
     let sink = untold();
@@ -315,8 +308,7 @@ fn zero_bits_up_to_a_byte(rt: HostRuntime) -> Result<(), Fail> {
     Ok(())
 }
 
-#[test]
-fn bytes_as_they_are(rt: HostRuntime) -> Result<(), Fail> {
+fn bytes_as_they_are(rt: &(impl Abort + AllocGlobal)) -> Result<(), Fail> {
     let rbsp = rbsp(rt.alloc(), &[0, 0, 1, 0x65, 7, 8, 9, 0x80])?;
     let mut bits = Bits::new(&rbsp);
     let sink = untold();
@@ -337,8 +329,7 @@ fn bytes_as_they_are(rt: HostRuntime) -> Result<(), Fail> {
     Ok(())
 }
 
-#[test]
-fn more_data_and_trailing_bits(rt: HostRuntime) -> Result<(), Fail> {
+fn more_data_and_trailing_bits(rt: &(impl Abort + AllocGlobal)) -> Result<(), Fail> {
     // 1, and then 1 and zeros
     let rbsp = rbsp(rt.alloc(), &[0, 0, 1, 0x65, 0b1100_0000])?;
     let mut bits = Bits::new(&rbsp);
@@ -352,8 +343,7 @@ fn more_data_and_trailing_bits(rt: HostRuntime) -> Result<(), Fail> {
     Ok(())
 }
 
-#[test]
-fn places_over_dropped_bytes(rt: HostRuntime) -> Result<(), Fail> {
+fn places_over_dropped_bytes(rt: &(impl Abort + AllocGlobal)) -> Result<(), Fail> {
     // each 03 behind 00 00 is dropped, so that the bits behind it stand one byte further on
     let rbsp = rbsp(
         rt.alloc(),
@@ -375,8 +365,7 @@ fn places_over_dropped_bytes(rt: HostRuntime) -> Result<(), Fail> {
     Ok(())
 }
 
-#[test]
-fn a_sink_that_fails(rt: HostRuntime) -> Result<(), Fail> {
+fn a_sink_that_fails(rt: &(impl Abort + AllocGlobal)) -> Result<(), Fail> {
     let rbsp = rbsp(rt.alloc(), &SET)?;
     let mut bits = Bits::new(&rbsp);
     let mut sink = Full { failed: 0 };
@@ -393,8 +382,7 @@ fn a_sink_that_fails(rt: HostRuntime) -> Result<(), Fail> {
     Ok(())
 }
 
-#[test]
-fn checks_name_their_rule(rt: HostRuntime) {
+fn checks_name_their_rule(rt: &impl Abort) {
     assert_eq!(rt; check(true, Rule::Range, 5), Ok(()));
     assert_eq!(rt;
         check(false, Rule::Range, 5),
@@ -411,4 +399,30 @@ fn checks_name_their_rule(rt: HostRuntime) {
             feature: Feature::Level6
         })
     );
+}
+
+#[test]
+fn elements_of_a_set(rt: HostRuntime) -> Result<(), Fail> {
+    a_parameter_set_reads(&rt)?;
+    a_parameter_set_ends(&rt)?;
+    nothing_stands_behind_the_end(&rt)?;
+    a_sink_that_fails(&rt)?;
+    checks_name_their_rule(&rt);
+    Ok(())
+}
+
+#[test]
+fn words(rt: HostRuntime) -> Result<(), Fail> {
+    exp_golomb_words(&rt)?;
+    the_longest_word(&rt)?;
+    one_zero_more_is_no_word(&rt)?;
+    words_of_tables(&rt)
+}
+
+#[test]
+fn places_and_ends(rt: HostRuntime) -> Result<(), Fail> {
+    zero_bits_up_to_a_byte(&rt)?;
+    bytes_as_they_are(&rt)?;
+    more_data_and_trailing_bits(&rt)?;
+    places_over_dropped_bytes(&rt)
 }

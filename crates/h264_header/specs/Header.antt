@@ -1,5 +1,5 @@
 -- slice_header() (7.3.3), with the rules on its values (7.4.3, A.2.1).
-use Rattle.std.specs.Prelude.{ℕ, zero, suc, ◌%◌, ◌==◌, ◌||◌, nat_le, nat_lt, negsuc, pos, Bool, true, false, Option, unwrap_or, if◌then◌else◌}
+use Rattle.std.specs.Prelude.{ℕ, zero, suc, ◌%◌, ◌==◌, ◌||◌, nat_le, nat_lt, negsuc, pos, Bool, true, false, Option, None, unwrap_or, if◌then◌else◌}
 use Rattle.std.specs.Option.{is_some, option_map}
 use Rattle.h264_base.specs.declared.element_name.ElementName.TheVariants as name
 use Rattle.h264_base.specs.declared.rule.Rule.TheVariants.{Range, Tool, NoSet}
@@ -14,6 +14,7 @@ use Rattle.h264_pps.specs.declared.Pps.{Pps}
 use Rattle.h264_header.specs.declared.header.SliceUnit.{SliceUnit}
 use Rattle.h264_header.specs.declared.header.PicOrderCnt.{PicOrderCnt}
 use Rattle.h264_header.specs.declared.header.PicOrderCnt.TheVariants as count
+use Rattle.h264_header.specs.declared.header.SliceKind.TheVariants as kinds
 use Rattle.h264_header.specs.declared.header.FilterOffsets.{FilterOffsets}
 use Rattle.h264_header.specs.declared.header.Deblocking.{Deblocking}
 use Rattle.h264_header.specs.declared.header.Deblocking.TheVariants.{AllEdges, Off, WithinSlice}
@@ -124,3 +125,19 @@ header sets unit = do
     slice_qp_delta = found_signed qp;
     deblocking = filter;
   })
+
+-- A place for a header into which none was read: no element is there that need not be, and every number is 0.
+abbrev pub unread_header : Header
+unread_header = record {
+  nal_ref_idc = 0;
+  first_mb_in_slice = record { bit = 0; value = 0 };
+  kind = record { bit = 0; value = kinds.I };
+  same_type_in_picture = false;
+  pic_parameter_set_id = record { bit = 0; value = 0 };
+  frame_num = record { bit = 0; value = 0 };
+  idr_pic_id = None;
+  pic_order_cnt = count.DecodingOrder;
+  marking = None;
+  slice_qp_delta = record { bit = 0; value = pos 0 };
+  deblocking = Off;
+}

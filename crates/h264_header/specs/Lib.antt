@@ -4,3 +4,4 @@ pub mod RefList
 pub mod Marking
 pub mod Header
 pub mod Picture
+pub mod Accepted

@@ -201,8 +201,13 @@ pub struct Header {
 }
 
 impl Header {
+    ghost use Rattle.std.specs.Prelude.{◌≡◌};
+    ghost use Rattle.h264_header.specs.Header.{unread_header};
+
     /// A place for a header, before one is read into it: no element is there, and every number is 0.
-    pub fn unread() -> Header {
+    pub fn unread() -> Header
+        ensures { result ≡ unread_header }
+    {
         let nothing = Found { bit: 0, value: 0 };
         Header {
             nal_ref_idc: 0,

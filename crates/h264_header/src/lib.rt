@@ -9,6 +9,7 @@
 #![tactic(auto)]
 
 pub mod header;
+pub mod laws;
 mod layout;
 mod marking;
 mod picture;

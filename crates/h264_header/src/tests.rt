@@ -16,6 +16,7 @@ use h264_sps::read::read_sps;
 use h264_sps::sps::{ConstraintSetFlags, FrameSize, Sps};
 use h264_units::Splitter;
 use std::alloc::Global;
+use std::process::Abort;
 use std::test::Fail;
 
 /// Takes any element.
@@ -205,8 +206,7 @@ fn refusals_are(
 const RANGE: Rule = Rule::Range;
 
 /// slice_type, pic_parameter_set_id and frame_num; a P slice of type 5 else.
-#[test]
-fn front(rt: HostRuntime) -> Result<(), Fail> {
+fn front(rt: &(impl Abort + AllocGlobal)) -> Result<(), Fail> {
     let alloc = rt.alloc();
     let sets = sets_of(alloc, &sps(CountType::DecodingOrder), &pps(0, false, false))?;
     let cases = [
@@ -232,8 +232,7 @@ fn front(rt: HostRuntime) -> Result<(), Fail> {
 }
 
 /// What goes with a reference picture list, of one place and MaxFrameNum 16 unless said otherwise.
-#[test]
-fn list(rt: HostRuntime) -> Result<(), Fail> {
+fn list(rt: &(impl Abort + AllocGlobal)) -> Result<(), Fail> {
     let alloc = rt.alloc();
     let sets = sets_of(alloc, &sps(CountType::DecodingOrder), &pps(0, false, false))?;
     let cases = [
@@ -281,8 +280,7 @@ fn list(rt: HostRuntime) -> Result<(), Fail> {
 }
 
 /// Marking operations.
-#[test]
-fn marking(rt: HostRuntime) -> Result<(), Fail> {
+fn marking(rt: &(impl Abort + AllocGlobal)) -> Result<(), Fail> {
     let alloc = rt.alloc();
     let sets = sets_of(alloc, &sps(CountType::DecodingOrder), &pps(0, false, false))?;
     let cases = [
@@ -307,8 +305,7 @@ fn marking(rt: HostRuntime) -> Result<(), Fail> {
 }
 
 /// 36 operations may stand before the 0, and not 37.
-#[test]
-fn number_of_operations(rt: HostRuntime) -> Result<(), Fail> {
+fn number_of_operations(rt: &(impl Abort + AllocGlobal)) -> Result<(), Fail> {
     let alloc = rt.alloc();
     let sets = sets_of(alloc, &sps(CountType::DecodingOrder), &pps(0, false, false))?;
     let mut text = String::from_str(alloc, "1 00110 1 0001 0 0 1")?;
@@ -324,8 +321,7 @@ fn number_of_operations(rt: HostRuntime) -> Result<(), Fail> {
 }
 
 /// IDR pictures.
-#[test]
-fn idr(rt: HostRuntime) -> Result<(), Fail> {
+fn idr(rt: &(impl Abort + AllocGlobal)) -> Result<(), Fail> {
     let alloc = rt.alloc();
     let sets = sets_of(alloc, &sps(CountType::DecodingOrder), &pps(0, false, false))?;
     let greatest = "1 011 1 0000 0000000000000000 1 0000000000000000 1 0 1";
@@ -336,8 +332,7 @@ fn idr(rt: HostRuntime) -> Result<(), Fail> {
 }
 
 /// The deblocking filter's control.
-#[test]
-fn deblocking(rt: HostRuntime) -> Result<(), Fail> {
+fn deblocking(rt: &(impl Abort + AllocGlobal)) -> Result<(), Fail> {
     let alloc = rt.alloc();
     let sets = sets_of(alloc, &sps(CountType::DecodingOrder), &pps(0, false, true))?;
     let cases = [
@@ -374,8 +369,7 @@ const PPS: &[u8] = &[0, 0, 1, 0x68, 0xCE, 0x38, 0x80];
 const IDR: &[u8] = &[0, 0, 1, 0x65, 0x88, 0x84, 0x93, 0xC0];
 
 /// The IDR slice of one_frame.264: 1 0001000 1 0000 1 0 0 1.
-#[test]
-fn idr_slice(rt: HostRuntime) -> Result<(), Fail> {
+fn idr_slice(rt: &(impl Abort + AllocGlobal)) -> Result<(), Fail> {
     let header = header_after(rt.alloc(), SPS, PPS, IDR, true, 3)?;
     assert_eq!(rt; header.nal_ref_idc, 3);
     assert!(rt; header.first_mb_in_slice == Found { bit: 32, value: 0 });
@@ -444,8 +438,7 @@ fn active(header: &Header) -> u32 {
 }
 
 /// 1 00110 1 0001 0 0 0 1, and with frame_num 2 or 0; then 1 00110 1 0001 1 010 0 0 1.
-#[test]
-fn p_slices(rt: HostRuntime) -> Result<(), Fail> {
+fn p_slices(rt: &(impl Abort + AllocGlobal)) -> Result<(), Fail> {
     let alloc = rt.alloc();
     let next = p_slice(alloc, &[0, 0, 1, 0x61, 0x9A, 0x22, 0xA0])?;
     assert!(rt; next.same_type_in_picture);
@@ -472,8 +465,7 @@ const NO_OFFSETS: FilterOffsets = FilterOffsets {
 };
 
 /// Operation 1 with difference 2 and 1; operations 4, 3 and 2.
-#[test]
-fn p_slices_that_mark(rt: HostRuntime) -> Result<(), Fail> {
+fn p_slices_that_mark(rt: &(impl Abort + AllocGlobal)) -> Result<(), Fail> {
     let alloc = rt.alloc();
     let absent = p_slice(alloc, &[0, 0, 1, 0x61, 0x9A, 0x25, 0x2D, 0x40])?;
     let expected = [MarkingOperation {
@@ -520,8 +512,7 @@ fn p_slices_that_mark(rt: HostRuntime) -> Result<(), Fail> {
 }
 
 /// modification_of_pic_nums_idc 0 with difference 2, then the end.
-#[test]
-fn p_slice_that_modifies(rt: HostRuntime) -> Result<(), Fail> {
+fn p_slice_that_modifies(rt: &(impl Abort + AllocGlobal)) -> Result<(), Fail> {
     let header = p_slice(rt.alloc(), &[0, 0, 1, 0x61, 0x9A, 0x2D, 0x11, 0x50])?;
     let expected = [PicNumModification {
         bit: 45,
@@ -535,8 +526,7 @@ fn p_slice_that_modifies(rt: HostRuntime) -> Result<(), Fail> {
 }
 
 /// pic_order_cnt_type 0 with an lsb of 4 bits: an IDR slice, and one of no reference picture.
-#[test]
-fn lsb_slices(rt: HostRuntime) -> Result<(), Fail> {
+fn lsb_slices(rt: &(impl Abort + AllocGlobal)) -> Result<(), Fail> {
     let alloc = rt.alloc();
     let sps = [
         0, 0, 1, 0x67, 0x42, 0xC0, 0x0A, 0xF4, 0xE4, 0x03, 0xF4, 0xA0,
@@ -571,8 +561,7 @@ fn i_slice(alloc: Global, sets: &Sets, text: &str) -> Result<Header, Fail> {
 }
 
 /// delta_pic_order_cnt_bottom, delta_pic_order_cnt[0] and delta_pic_order_cnt[1], where they are there.
-#[test]
-fn deltas(rt: HostRuntime) -> Result<(), Fail> {
+fn deltas(rt: &(impl Abort + AllocGlobal)) -> Result<(), Fail> {
     let alloc = rt.alloc();
     let lsb = CountType::Lsb {
         log2_max_pic_order_cnt_lsb: 5,
@@ -609,4 +598,24 @@ fn cycle(delta_pic_order_always_zero_flag: bool) -> CountType {
             length: 0,
         },
     }
+}
+
+#[test]
+fn edges_of_each_part(rt: HostRuntime) -> Result<(), Fail> {
+    front(&rt)?;
+    list(&rt)?;
+    marking(&rt)?;
+    number_of_operations(&rt)?;
+    idr(&rt)?;
+    deblocking(&rt)
+}
+
+#[test]
+fn whole_headers(rt: HostRuntime) -> Result<(), Fail> {
+    idr_slice(&rt)?;
+    p_slices(&rt)?;
+    p_slices_that_mark(&rt)?;
+    p_slice_that_modifies(&rt)?;
+    lsb_slices(&rt)?;
+    deltas(&rt)
 }

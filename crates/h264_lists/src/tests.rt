@@ -11,6 +11,7 @@ use h264_header::{
     Marking, MarkingOperation, Modification, Operation, PicNumModification, RefPicList0,
 };
 use h264_marking::{Held, Numbering, ReferenceFrame, Term};
+use std::process::Abort;
 use std::test::Fail;
 
 /// A short-term frame whose picture has the number of its frame_num.
@@ -124,8 +125,7 @@ fn refuses(
 }
 
 /// At frame_num 3 the frames 14 and 15 have PicNum -2 and -1, and frame 3 has PicNum 3.
-#[test]
-fn initial_order(rt: HostRuntime) -> Result<(), Fail> {
+fn initial_order(rt: &impl Abort) -> Result<(), Fail> {
     let held = [
         short(14),
         short(3),
@@ -181,8 +181,7 @@ const HELD: [ReferenceFrame; 5] = [
 ];
 
 /// From 3: 3 - 2 = 1; 3 - 3 = 0; 3 - 4 = -1, which wraps to 15, and that is above 3: PicNum -1.
-#[test]
-fn subtracted(rt: HostRuntime) -> Result<(), Fail> {
+fn subtracted(rt: &impl Abort) -> Result<(), Fail> {
     let held = HELD.as_slice();
     let first = [short(1), short(2), short(0), short(15), short(14)];
     assert!(rt; gives(held, 5, [subtract(1)].as_slice(), first.as_slice(), 0)?);
@@ -194,8 +193,7 @@ fn subtracted(rt: HostRuntime) -> Result<(), Fail> {
 }
 
 /// From 3: 3 + 12 = 15, PicNum -1; 3 + 13 = 16, which wraps to 0; 3 + 14 = 17, which wraps to 1.
-#[test]
-fn added(rt: HostRuntime) -> Result<(), Fail> {
+fn added(rt: &impl Abort) -> Result<(), Fail> {
     let held = HELD.as_slice();
     let below = [short(15), short(2), short(1), short(0), short(14)];
     assert!(rt; gives(held, 5, [add(11)].as_slice(), below.as_slice(), 0)?);
@@ -207,8 +205,7 @@ fn added(rt: HostRuntime) -> Result<(), Fail> {
 }
 
 /// The predictor goes on: 3 - 2 = 1, and 1 - 2 = -1, which is 15; then 15 + 1 = 16, which is 0. A long-term command leaves it.
-#[test]
-fn in_turn(rt: HostRuntime) -> Result<(), Fail> {
+fn in_turn(rt: &impl Abort) -> Result<(), Fail> {
     let held = HELD.as_slice();
     let three = [subtract(1), subtract(1), add(0)];
     let frames = [short(1), short(15), short(0), short(2), short(14)];
@@ -229,8 +226,7 @@ fn in_turn(rt: HostRuntime) -> Result<(), Fail> {
 }
 
 /// A frame that is named at index 0 and at index 1 stands in both: 3 - 1 = 2, and 2 - 16 = -14, which wraps to 2.
-#[test]
-fn named_twice(rt: HostRuntime) -> Result<(), Fail> {
+fn named_twice(rt: &impl Abort) -> Result<(), Fail> {
     let held = HELD.as_slice();
     let twice = [short(2), short(2), short(1), short(0)];
     let commands = [subtract(0), subtract(15)];
@@ -239,8 +235,7 @@ fn named_twice(rt: HostRuntime) -> Result<(), Fail> {
 }
 
 /// A frame that the cut list does not hold comes in, and the last place goes; a place without a picture stays behind.
-#[test]
-fn outside_the_list(rt: HostRuntime) -> Result<(), Fail> {
+fn outside_the_list(rt: &impl Abort) -> Result<(), Fail> {
     let cut = [short(14), short(2)];
     assert!(rt;
         gives(
@@ -266,8 +261,7 @@ fn outside_the_list(rt: HostRuntime) -> Result<(), Fail> {
 }
 
 /// The first modification that names no held frame is refused at its bit.
-#[test]
-fn absent(rt: HostRuntime) -> Result<(), Fail> {
+fn absent(rt: &impl Abort) -> Result<(), Fail> {
     let held = [short(1), short(2), long(1)];
     assert!(rt; refuses(held.as_slice(), [subtract(2)].as_slice(), 40)?);
     assert!(rt; refuses(held.as_slice(), [long_term(2)].as_slice(), 60)?);
@@ -279,8 +273,7 @@ fn absent(rt: HostRuntime) -> Result<(), Fail> {
 }
 
 /// The frame of a gap has no picture, and may be named.
-#[test]
-fn of_a_gap(rt: HostRuntime) -> Result<(), Fail> {
+fn of_a_gap(rt: &impl Abort) -> Result<(), Fail> {
     let missing = ReferenceFrame {
         picture: None,
         frame_num: 1,
@@ -301,8 +294,7 @@ fn of_a_gap(rt: HostRuntime) -> Result<(), Fail> {
 }
 
 /// Where nothing is held no place has a picture.
-#[test]
-fn nothing_held(rt: HostRuntime) -> Result<(), Fail> {
+fn nothing_held(rt: &impl Abort) -> Result<(), Fail> {
     let found = build(&Held::new(), &at(3), &list(2, [].as_slice())?)?;
     let wanted = [RefSlot::NoPicture, RefSlot::NoPicture];
     assert!(rt; found.as_slice() == wanted.as_slice());
@@ -343,8 +335,7 @@ fn first_made_long() -> Result<Marking, Fail> {
 }
 
 /// Frame 0, which is a long-term one, the frames 1 and 2, and that of the missing frame_num 3. From 4 on command 0 names 4 - 2.
-#[test]
-fn after_markings(rt: HostRuntime) -> Result<(), Fail> {
+fn after_markings(rt: &impl Abort) -> Result<(), Fail> {
     let mut held = Held::new();
     mark(&mut held, &at(0), IDR)?;
     mark(&mut held, &at(1), Marking::SlidingWindow)?;
@@ -377,8 +368,7 @@ fn after_markings(rt: HostRuntime) -> Result<(), Fail> {
 }
 
 /// Frames 13 to 15 in three places: at frame_num 0 they have PicNum -3 to -1, and command 0 names 0 - 3; frame 12 has gone.
-#[test]
-fn after_a_wrap(rt: HostRuntime) -> Result<(), Fail> {
+fn after_a_wrap(rt: &impl Abort) -> Result<(), Fail> {
     let mut held = Held::new();
     mark(&mut held, &at(0), IDR)?;
     for frame_num in 1..16 {
@@ -399,4 +389,23 @@ fn after_a_wrap(rt: HostRuntime) -> Result<(), Fail> {
     });
     assert!(rt; build(&held, &at(0), &list(3, [subtract(3)].as_slice())?) == refused);
     Ok(())
+}
+
+#[test]
+fn initial_lists(rt: HostRuntime) -> Result<(), Fail> {
+    initial_order(&rt)?;
+    nothing_held(&rt)?;
+    after_markings(&rt)?;
+    after_a_wrap(&rt)
+}
+
+#[test]
+fn modified_lists(rt: HostRuntime) -> Result<(), Fail> {
+    subtracted(&rt)?;
+    added(&rt)?;
+    in_turn(&rt)?;
+    named_twice(&rt)?;
+    outside_the_list(&rt)?;
+    absent(&rt)?;
+    of_a_gap(&rt)
 }

@@ -159,13 +159,12 @@ fn stays(
 }
 
 /// Its frame alone is held: a short-term one, or one with index 0, which is then the only index.
-#[test]
-fn idr_pictures(rt: HostRuntime) -> Result<(), Fail> {
+fn idr_pictures(rt: &(impl Abort + AllocGlobal)) -> Result<(), Fail> {
     let mut held = after(3, 4)?;
     idr(&mut held, 4, true)?;
     assert_eq!(rt; held.frames(), [long(0, 0)].as_slice());
     stays(
-        &rt,
+        rt,
         held,
         at(1, 4),
         [make_current_long(1)].as_slice(),
@@ -176,7 +175,7 @@ fn idr_pictures(rt: HostRuntime) -> Result<(), Fail> {
     idr(&mut held, 4, false)?;
     assert_eq!(rt; held.frames(), [short(0)].as_slice());
     stays(
-        &rt,
+        rt,
         held,
         at(1, 4),
         [make_current_long(0)].as_slice(),
@@ -187,8 +186,7 @@ fn idr_pictures(rt: HostRuntime) -> Result<(), Fail> {
 }
 
 /// The least FrameNumWrap goes: at frame_num 1 those of 14, 15 and 0 are -2, -1 and 0.
-#[test]
-fn window_slides(rt: HostRuntime) -> Result<(), Fail> {
+fn window_slides(rt: &impl Abort) -> Result<(), Fail> {
     let held = after(2, 3)?;
     assert_eq!(rt; held.frames(), [short(0), short(1), short(2)].as_slice());
     let mut held = after(15, 3)?;
@@ -201,8 +199,7 @@ fn window_slides(rt: HostRuntime) -> Result<(), Fail> {
 }
 
 /// max_num_ref_frames 0 leaves one place, and long-term frames do not slide.
-#[test]
-fn window_of_one(rt: HostRuntime) -> Result<(), Fail> {
+fn window_of_one(rt: &impl Abort) -> Result<(), Fail> {
     let held = after(1, 0)?;
     assert_eq!(rt; held.frames(), [short(1)].as_slice());
     let mut held = Held::new();
@@ -213,8 +210,7 @@ fn window_of_one(rt: HostRuntime) -> Result<(), Fail> {
 }
 
 /// Where more frames are held than there are places, one that goes does not make room.
-#[test]
-fn window_without_room(rt: HostRuntime) -> Result<(), Fail> {
+fn window_without_room(rt: &impl Abort) -> Result<(), Fail> {
     let mut held = after(3, 4)?;
     assert!(rt; slide(&mut held, at(4, 2)) == refused(MARKING));
     assert_eq!(rt;
@@ -225,8 +221,7 @@ fn window_without_room(rt: HostRuntime) -> Result<(), Fail> {
 }
 
 /// The frames of missing numbers join by the window, also where frame_num wraps; in one place also that of the number that goes.
-#[test]
-fn gaps(rt: HostRuntime) -> Result<(), Fail> {
+fn gaps(rt: &impl Abort) -> Result<(), Fail> {
     let mut held = after(2, 4)?;
     held.fill_gap(&at(3, 4), 0)?;
     assert_eq!(rt;
@@ -255,8 +250,7 @@ const UNFILLED: Result<(), Stop> = Err(Stop::No {
 });
 
 /// A number that a short-term frame has, also once the window has slid, and places that long-term frames take.
-#[test]
-fn gaps_refused(rt: HostRuntime) -> Result<(), Fail> {
+fn gaps_refused(rt: &impl Abort) -> Result<(), Fail> {
     let mut held = after(2, 4)?;
     assert!(rt; held.fill_gap(&at(1, 4), 7) == UNFILLED);
     assert!(rt; held.fill_gap(&at(1, 3), 7) == UNFILLED);
@@ -269,8 +263,7 @@ fn gaps_refused(rt: HostRuntime) -> Result<(), Fail> {
 }
 
 /// picNumX is 4 - 2 of frame 2, and 0 - 2 of frame 14 once frame_num has wrapped.
-#[test]
-fn operation_1(rt: HostRuntime) -> Result<(), Fail> {
+fn operation_1(rt: &impl Abort) -> Result<(), Fail> {
     let mut held = after(3, 4)?;
     operate(&mut held, at(4, 4), [unmark_short(1)].as_slice())?;
     assert_eq!(rt;
@@ -284,12 +277,11 @@ fn operation_1(rt: HostRuntime) -> Result<(), Fail> {
 }
 
 /// No frame has -1; frame 1 has an index; the second operation finds what the first has left.
-#[test]
-fn operation_1_refused(rt: HostRuntime) -> Result<(), Fail> {
+fn operation_1_refused(rt: &(impl Abort + AllocGlobal)) -> Result<(), Fail> {
     let frames = [short(0), short(1), short(2)];
     let held = after(2, 4)?;
     stays(
-        &rt,
+        rt,
         held,
         at(3, 4),
         [unmark_short(3)].as_slice(),
@@ -299,7 +291,7 @@ fn operation_1_refused(rt: HostRuntime) -> Result<(), Fail> {
     let held = after(2, 4)?;
     let twice = [unmark_short(0), unmark_short(0)];
     stays(
-        &rt,
+        rt,
         held,
         at(3, 4),
         twice.as_slice(),
@@ -309,7 +301,7 @@ fn operation_1_refused(rt: HostRuntime) -> Result<(), Fail> {
     let frames = [long(0, 0), long(1, 1), short(2)];
     let held = with_long()?;
     stays(
-        &rt,
+        rt,
         held,
         at(3, 4),
         [unmark_short(1)].as_slice(),
@@ -320,15 +312,14 @@ fn operation_1_refused(rt: HostRuntime) -> Result<(), Fail> {
 }
 
 /// The frame with index 0 goes; none has index 2.
-#[test]
-fn operation_2(rt: HostRuntime) -> Result<(), Fail> {
+fn operation_2(rt: &(impl Abort + AllocGlobal)) -> Result<(), Fail> {
     let mut held = with_long()?;
     operate(&mut held, at(3, 4), [unmark_long(0)].as_slice())?;
     assert_eq!(rt; held.frames(), [long(1, 1), short(2), short(3)].as_slice());
     let frames = [long(0, 0), long(1, 1), short(2)];
     let held = with_long()?;
     stays(
-        &rt,
+        rt,
         held,
         at(3, 4),
         [unmark_long(2)].as_slice(),
@@ -339,8 +330,7 @@ fn operation_2(rt: HostRuntime) -> Result<(), Fail> {
 }
 
 /// Frame 2 gets a free index, or that of frame 1, which is then unused.
-#[test]
-fn operation_3(rt: HostRuntime) -> Result<(), Fail> {
+fn operation_3(rt: &impl Abort) -> Result<(), Fail> {
     let mut held = with_long()?;
     operate(&mut held, at(3, 4), [make_long(0, 2)].as_slice())?;
     assert_eq!(rt;
@@ -357,12 +347,11 @@ fn operation_3(rt: HostRuntime) -> Result<(), Fail> {
 }
 
 /// There are the indices 0 to 2; no frame has PicNum 1; the frame of a gap does not exist; without operation 4 there is no index.
-#[test]
-fn operation_3_refused(rt: HostRuntime) -> Result<(), Fail> {
+fn operation_3_refused(rt: &(impl Abort + AllocGlobal)) -> Result<(), Fail> {
     let frames = [long(0, 0), long(1, 1), short(2)];
     let held = with_long()?;
     stays(
-        &rt,
+        rt,
         held,
         at(3, 4),
         [make_long(0, 3)].as_slice(),
@@ -371,7 +360,7 @@ fn operation_3_refused(rt: HostRuntime) -> Result<(), Fail> {
     );
     let held = with_long()?;
     stays(
-        &rt,
+        rt,
         held,
         at(3, 4),
         [make_long(1, 2)].as_slice(),
@@ -382,7 +371,7 @@ fn operation_3_refused(rt: HostRuntime) -> Result<(), Fail> {
     held.fill_gap(&at(3, 4), 0)?;
     let frames = [long(0, 0), long(1, 1), short(2), gap(3)];
     stays(
-        &rt,
+        rt,
         held,
         at(4, 4),
         [make_long(0, 2)].as_slice(),
@@ -392,7 +381,7 @@ fn operation_3_refused(rt: HostRuntime) -> Result<(), Fail> {
     let held = after(1, 4)?;
     let frames = [short(0), short(1)];
     stays(
-        &rt,
+        rt,
         held,
         at(2, 4),
         [make_long(0, 0)].as_slice(),
@@ -403,8 +392,7 @@ fn operation_3_refused(rt: HostRuntime) -> Result<(), Fail> {
 }
 
 /// One index leaves frame 0, and none leaves no long-term frame and no index; four are as many as there may be.
-#[test]
-fn operation_4(rt: HostRuntime) -> Result<(), Fail> {
+fn operation_4(rt: &(impl Abort + AllocGlobal)) -> Result<(), Fail> {
     let mut held = with_long()?;
     operate(&mut held, at(3, 4), [limit(1)].as_slice())?;
     assert_eq!(rt; held.frames(), [long(0, 0), short(2), short(3)].as_slice());
@@ -412,7 +400,7 @@ fn operation_4(rt: HostRuntime) -> Result<(), Fail> {
     assert_eq!(rt; held.frames(), [short(2), short(3), short(4)].as_slice());
     let frames = [short(2), short(3), short(4)];
     stays(
-        &rt,
+        rt,
         held,
         at(5, 4),
         [make_current_long(0)].as_slice(),
@@ -428,7 +416,7 @@ fn operation_4(rt: HostRuntime) -> Result<(), Fail> {
     let frames = [long(0, 0), long(1, 1), short(2)];
     let held = with_long()?;
     stays(
-        &rt,
+        rt,
         held,
         at(3, 4),
         [limit(5)].as_slice(),
@@ -439,8 +427,7 @@ fn operation_4(rt: HostRuntime) -> Result<(), Fail> {
 }
 
 /// The picture has frame_num 0 then, and there is no index before operation 4.
-#[test]
-fn operation_5(rt: HostRuntime) -> Result<(), Fail> {
+fn operation_5(rt: &(impl Abort + AllocGlobal)) -> Result<(), Fail> {
     let mut own = short(3);
     own.frame_num = 0;
     let mut held = with_long()?;
@@ -457,7 +444,7 @@ fn operation_5(rt: HostRuntime) -> Result<(), Fail> {
     let held = with_long()?;
     let two = [Operation::UnmarkAll, make_current_long(0)];
     stays(
-        &rt,
+        rt,
         held,
         at(3, 4),
         two.as_slice(),
@@ -468,8 +455,7 @@ fn operation_5(rt: HostRuntime) -> Result<(), Fail> {
 }
 
 /// Frame 3 gets a free index, or that of frame 1; there is no index 3.
-#[test]
-fn operation_6(rt: HostRuntime) -> Result<(), Fail> {
+fn operation_6(rt: &(impl Abort + AllocGlobal)) -> Result<(), Fail> {
     let mut held = with_long()?;
     operate(&mut held, at(3, 4), [make_current_long(2)].as_slice())?;
     assert_eq!(rt;
@@ -485,7 +471,7 @@ fn operation_6(rt: HostRuntime) -> Result<(), Fail> {
     let frames = [long(0, 0), long(1, 1), short(2)];
     let held = with_long()?;
     stays(
-        &rt,
+        rt,
         held,
         at(3, 4),
         [make_current_long(3)].as_slice(),
@@ -496,8 +482,7 @@ fn operation_6(rt: HostRuntime) -> Result<(), Fail> {
 }
 
 /// No other operation takes the index, or the marking, from the picture's own frame.
-#[test]
-fn own_index_stays(rt: HostRuntime) -> Result<(), Fail> {
+fn own_index_stays(rt: &(impl Abort + AllocGlobal)) -> Result<(), Fail> {
     let frames = [long(0, 0), long(1, 1), short(2)];
     for second in [
         unmark_long(1),
@@ -508,7 +493,7 @@ fn own_index_stays(rt: HostRuntime) -> Result<(), Fail> {
         let held = with_long()?;
         let both = [make_current_long(1), second];
         stays(
-            &rt,
+            rt,
             held,
             at(3, 4),
             both.as_slice(),
@@ -530,12 +515,11 @@ fn own_index_stays(rt: HostRuntime) -> Result<(), Fail> {
 }
 
 /// Operations make room, or the marking is refused as a whole.
-#[test]
-fn more_than_the_places(rt: HostRuntime) -> Result<(), Fail> {
+fn more_than_the_places(rt: &(impl Abort + AllocGlobal)) -> Result<(), Fail> {
     let frames = [short(0), short(1), short(2), short(3)];
     let held = after(3, 4)?;
     stays(
-        &rt,
+        rt,
         held,
         at(4, 4),
         [].as_slice(),
@@ -544,7 +528,7 @@ fn more_than_the_places(rt: HostRuntime) -> Result<(), Fail> {
     );
     let held = after(3, 4)?;
     stays(
-        &rt,
+        rt,
         held,
         at(4, 4),
         [limit(2), make_long(0, 0)].as_slice(),
@@ -562,4 +546,28 @@ fn more_than_the_places(rt: HostRuntime) -> Result<(), Fail> {
         [short(0), short(1), long(2, 0), short(4)].as_slice()
     );
     Ok(())
+}
+
+#[test]
+fn idr_window_and_gaps(rt: HostRuntime) -> Result<(), Fail> {
+    idr_pictures(&rt)?;
+    window_slides(&rt)?;
+    window_of_one(&rt)?;
+    window_without_room(&rt)?;
+    gaps(&rt)?;
+    gaps_refused(&rt)
+}
+
+#[test]
+fn operations(rt: HostRuntime) -> Result<(), Fail> {
+    operation_1(&rt)?;
+    operation_1_refused(&rt)?;
+    operation_2(&rt)?;
+    operation_3(&rt)?;
+    operation_3_refused(&rt)?;
+    operation_4(&rt)?;
+    operation_5(&rt)?;
+    operation_6(&rt)?;
+    own_index_stays(&rt)?;
+    more_than_the_places(&rt)
 }

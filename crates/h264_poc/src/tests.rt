@@ -3,6 +3,7 @@
 
 use crate::{Count, Counts, Cycle, Order, Picture};
 use h264_base::{Rule, Stop};
+use std::process::Abort;
 use std::test::Fail;
 
 /// A picture of type 0 with MaxPicOrderCntLsb 16.
@@ -84,8 +85,7 @@ fn counts_are(cases: &[(Picture, i32, i32)]) -> Result<bool, Fail> {
 }
 
 /// The lsb wraps upwards (12, then 2 with Msb 16), downwards (2, then 14 with Msb 0), and upwards by exactly a half.
-#[test]
-fn lsb_wraps(rt: HostRuntime) -> Result<(), Fail> {
+fn lsb_wraps(rt: &impl Abort) -> Result<(), Fail> {
     let cases = [
         (lsb(true, true, 0, 0), 0, 0),
         (lsb(false, true, 6, 1), 6, 7),
@@ -103,8 +103,7 @@ fn lsb_wraps(rt: HostRuntime) -> Result<(), Fail> {
 }
 
 /// After operation 5 the Msb before is 0, and the lsb before is what is left of the top count: 24 - 18 = 6, and -4 + 16 = 12.
-#[test]
-fn lsb_after_a_reset(rt: HostRuntime) -> Result<(), Fail> {
+fn lsb_after_a_reset(rt: &impl Abort) -> Result<(), Fail> {
     let mut reset = lsb(false, true, 8, -6);
     reset.resets = true;
     let cases = [
@@ -139,8 +138,7 @@ fn lsb_after_a_reset(rt: HostRuntime) -> Result<(), Fail> {
 }
 
 /// Offsets 2, 3 and 4, of which a whole cycle adds 9; a non-reference picture is counted one frame earlier, and 3 less.
-#[test]
-fn cycle_of_three(rt: HostRuntime) -> Result<(), Fail> {
+fn cycle_of_three(rt: &impl Abort) -> Result<(), Fail> {
     let offsets = three([2, 3, 4]);
     let cases = [
         (cycle(true, true, 0, &offsets, 3), 0, 4),
@@ -158,8 +156,7 @@ fn cycle_of_three(rt: HostRuntime) -> Result<(), Fail> {
 }
 
 /// Without a cycle only the deltas and offset_for_non_ref_pic count.
-#[test]
-fn cycle_of_none(rt: HostRuntime) -> Result<(), Fail> {
+fn cycle_of_none(rt: &impl Abort) -> Result<(), Fail> {
     let offsets = three([2, 3, 4]);
     let cases = [
         (cycle(true, true, 0, &offsets, 0), 0, 4),
@@ -172,8 +169,7 @@ fn cycle_of_none(rt: HostRuntime) -> Result<(), Fail> {
 }
 
 /// Twice the frame number, one less for a non-reference picture; frame_num wraps, and operation 5 starts anew.
-#[test]
-fn decoding_order(rt: HostRuntime) -> Result<(), Fail> {
+fn decoding_order(rt: &impl Abort) -> Result<(), Fail> {
     let mut reset = ordered(false, true, 1);
     reset.resets = true;
     let cases = [
@@ -197,8 +193,7 @@ const REFUSED: Result<Count, Stop> = Err(Stop::No {
 });
 
 /// A second non-reference picture of type 2 is refused, and nothing has changed then.
-#[test]
-fn two_non_reference_pictures(rt: HostRuntime) -> Result<(), Fail> {
+fn two_non_reference_pictures(rt: &impl Abort) -> Result<(), Fail> {
     let mut counts = Counts::new();
     let _first = counts.next(&ordered(true, true, 0), 0)?;
     let _second = counts.next(&ordered(false, false, 1), 0)?;
@@ -211,8 +206,7 @@ fn two_non_reference_pictures(rt: HostRuntime) -> Result<(), Fail> {
 }
 
 /// A cycle of one offset 2^30: counts of 2^30, and then 2^31, which is one too many.
-#[test]
-fn past_the_range(rt: HostRuntime) -> Result<(), Fail> {
+fn past_the_range(rt: &impl Abort) -> Result<(), Fail> {
     let offsets = three([1 << 30, 0, 0]);
     let mut counts = Counts::new();
     let _first = counts.next(&cycle(true, true, 0, &offsets, 1), 0)?;
@@ -233,4 +227,19 @@ fn past_the_range(rt: HostRuntime) -> Result<(), Fail> {
     let beyond = three([i32::MAX - 3, 0, 0]);
     assert!(rt; counts.next(&cycle(false, true, 1, &beyond, 1), 7) == REFUSED);
     Ok(())
+}
+
+#[test]
+fn lsb_counts(rt: HostRuntime) -> Result<(), Fail> {
+    lsb_wraps(&rt)?;
+    lsb_after_a_reset(&rt)
+}
+
+#[test]
+fn cycles_and_decoding_order(rt: HostRuntime) -> Result<(), Fail> {
+    cycle_of_three(&rt)?;
+    cycle_of_none(&rt)?;
+    decoding_order(&rt)?;
+    two_non_reference_pictures(&rt)?;
+    past_the_range(&rt)
 }

@@ -4,6 +4,7 @@ use crate::{Rbsp, check_emulation, laws};
 use h264_base::{Rule, Stop};
 use h264_units::{NalUnit, Splitter};
 use std::alloc::Global;
+use std::process::Abort;
 use std::test::Fail;
 
 /// The unit of these bytes, behind the start code that an input begins with.
@@ -50,8 +51,7 @@ fn checks_emulation(rt: HostRuntime) -> Result<(), Fail> {
     Ok(())
 }
 
-#[test]
-fn drops_and_places(rt: HostRuntime) -> Result<(), Fail> {
+fn drops_between_bytes(rt: &(impl Abort + AllocGlobal)) -> Result<(), Fail> {
     let unit = unit_of(rt.alloc(), b"\x65\0\0\x03\x01\x02\0\0\x03\0\0\x03\x80")?;
     // Where growth is refused (`--fail-alloc 2`), a second try succeeds once there is memory.
     let made = match Rbsp::of(rt.alloc(), &unit) {
@@ -76,8 +76,7 @@ fn drops_and_places(rt: HostRuntime) -> Result<(), Fail> {
     Ok(())
 }
 
-#[test]
-fn drops_many(rt: HostRuntime) -> Result<(), Fail> {
+fn drops_many(rt: &(impl Abort + AllocGlobal)) -> Result<(), Fail> {
     let mut bytes = Vec::new(rt.alloc());
     bytes.push(0x65)?;
     for _ in 0..20u8 {
@@ -93,16 +92,23 @@ fn drops_many(rt: HostRuntime) -> Result<(), Fail> {
     Ok(())
 }
 
-#[test]
-fn a_header_alone_has_no_bytes(rt: HostRuntime) -> Result<(), Fail> {
+fn a_header_alone_has_no_bytes(rt: &(impl Abort + AllocGlobal)) -> Result<(), Fail> {
     let rbsp = Rbsp::of(rt.alloc(), &unit_of(rt.alloc(), b"\x09")?)?;
     assert!(rt; rbsp.bytes().is_empty());
     assert_eq!(rt; rbsp.stream_bit(0), 32);
     Ok(())
 }
 
-#[test]
 fn states_its_laws() {
     laws::placed_bytes();
     laws::checked_bytes();
+}
+
+#[test]
+fn drops_and_places(rt: HostRuntime) -> Result<(), Fail> {
+    drops_between_bytes(&rt)?;
+    drops_many(&rt)?;
+    a_header_alone_has_no_bytes(&rt)?;
+    states_its_laws();
+    Ok(())
 }

@@ -4,6 +4,7 @@
 use crate::{
     Entry, Limits, Strength, Table, alpha, beta, chroma_qp, code_word, limits, lookup, tc0,
 };
+use std::process::Abort;
 
 /// Each table, and how many rows it has.
 fn tables() -> [(Table, usize); 34] {
@@ -58,8 +59,7 @@ fn bits(text: &str) -> u16 {
     (all & 0xffff) as u16
 }
 
-#[test]
-fn each_row_is_found(rt: HostRuntime) {
+fn each_row_is_found(rt: &impl Abort) {
     for (table, rows) in tables() {
         for i in 0..rows {
             let Some(word) = code_word(table, i) else {
@@ -80,8 +80,7 @@ fn each_row_is_found(rt: HostRuntime) {
     }
 }
 
-#[test]
-fn words_are_those_of_the_standard(rt: HostRuntime) {
+fn words_are_those_of_the_standard(rt: &impl Abort) {
     for (table, text, value) in [
         (Table::CoeffTokenNc0, "1", 0),
         (Table::CoeffTokenNc0, "00011", 15),
@@ -123,8 +122,7 @@ fn words_are_those_of_the_standard(rt: HostRuntime) {
     }
 }
 
-#[test]
-fn other_bits_are_no_word(rt: HostRuntime) {
+fn other_bits_are_no_word(rt: &impl Abort) {
     for (table, text) in [
         (Table::CoeffTokenNc0, "0000000000000001"),
         (Table::CoeffTokenNc0, "0000000000000000"),
@@ -142,8 +140,7 @@ fn other_bits_are_no_word(rt: HostRuntime) {
     }
 }
 
-#[test]
-fn tables_are_chosen(rt: HostRuntime) {
+fn tables_are_chosen(rt: &impl Abort) {
     assert_eq!(rt; Table::coeff_token(1), Table::CoeffTokenNc0);
     assert_eq!(rt; Table::coeff_token(2), Table::CoeffTokenNc2);
     assert_eq!(rt; Table::coeff_token(7), Table::CoeffTokenNc4);
@@ -155,8 +152,7 @@ fn tables_are_chosen(rt: HostRuntime) {
     assert_eq!(rt; Table::run_before(14), Table::RunBefore7);
 }
 
-#[test]
-fn levels_have_their_limits(rt: HostRuntime) {
+fn levels_have_their_limits(rt: &impl Abort) {
     let of = |max_fs, max_dpb_mbs, max_vector| Some(Limits {
         max_fs,
         max_dpb_mbs,
@@ -177,8 +173,7 @@ fn levels_have_their_limits(rt: HostRuntime) {
     }
 }
 
-#[test]
-fn values_are_those_of_the_standard(rt: HostRuntime) {
+fn values_are_those_of_the_standard(rt: &impl Abort) {
     for (qp, offset, want) in [
         (0, -12, 0),
         (26, 0, 26),
@@ -215,4 +210,18 @@ fn values_are_those_of_the_standard(rt: HostRuntime) {
         assert_eq!(rt; tc0(index, Strength::Two), two, "at {index}");
         assert_eq!(rt; tc0(index, Strength::Three), three, "at {index}");
     }
+}
+
+#[test]
+fn code_words(rt: HostRuntime) {
+    each_row_is_found(&rt);
+    words_are_those_of_the_standard(&rt);
+    other_bits_are_no_word(&rt);
+}
+
+#[test]
+fn choices_and_values(rt: HostRuntime) {
+    tables_are_chosen(&rt);
+    levels_have_their_limits(&rt);
+    values_are_those_of_the_standard(&rt);
 }

@@ -6,6 +6,7 @@ use crate::{Splitter, laws};
 use h264_base::Stop;
 use std::alloc::{AllocError, Global};
 use std::fmt::Write;
+use std::process::Abort;
 use std::test::Fail;
 
 /// Takes the unit that waits, if one does, and tells its place and its bytes.
@@ -109,8 +110,7 @@ fn splits_in_every_way(rt: HostRuntime) -> Result<(), Fail> {
     Ok(())
 }
 
-#[test]
-fn repeats_a_stop(rt: HostRuntime) {
+fn repeats_a_stop(rt: &(impl Abort + AllocGlobal)) {
     let mut splitter = Splitter::new(rt.alloc());
     let stop = splitter.push(b"\0\0\x02");
     assert!(rt; stop.is_err());
@@ -122,8 +122,7 @@ fn repeats_a_stop(rt: HostRuntime) {
 }
 
 /// Where the growth is refused (`--fail-alloc 1`), the same push succeeds once there is memory.
-#[test]
-fn goes_on_after_want_of_memory(rt: HostRuntime) {
+fn goes_on_after_want_of_memory(rt: &(impl Abort + AllocGlobal)) {
     let mut splitter = Splitter::new(rt.alloc());
     let mut taken = splitter.push(b"\0\0\x01\x65\0\0\x01");
     if taken == Err(Stop::Memory) {
@@ -135,11 +134,17 @@ fn goes_on_after_want_of_memory(rt: HostRuntime) {
     assert_eq!(rt; splitter.length(), 7);
 }
 
-#[test]
 fn states_its_laws() {
     laws::one_split();
     laws::some_split();
     laws::all_units();
     laws::judged_stream();
     laws::longest_part();
+}
+
+#[test]
+fn stops_memory_and_laws(rt: HostRuntime) {
+    repeats_a_stop(&rt);
+    goes_on_after_want_of_memory(&rt);
+    states_its_laws();
 }

@@ -11,6 +11,7 @@ use h264_rbsp::{Rbsp, check_emulation};
 use h264_tables::Table;
 use h264_units::Splitter;
 use std::alloc::Global;
+use std::process::Abort;
 use std::test::Fail;
 
 /// Is told what is read, and keeps nothing.
@@ -42,8 +43,7 @@ fn rbsp(alloc: Global, body: &[u8]) -> Result<Rbsp, Stop> {
     Rbsp::of(alloc, &unit)
 }
 
-#[test]
-fn words_by_hand(rt: HostRuntime) -> Result<(), Fail> {
+fn words_by_hand(rt: &(impl Abort + AllocGlobal)) -> Result<(), Fail> {
     // 1, 010, 011, 00100, 010, 011, 101, 1, 0, and the trailing 1
     let mut writer = Writer::new(rt.alloc());
     writer.ue(0)?;
@@ -64,8 +64,7 @@ fn words_by_hand(rt: HostRuntime) -> Result<(), Fail> {
     Ok(())
 }
 
-#[test]
-fn the_longest_words(rt: HostRuntime) -> Result<(), Fail> {
+fn the_longest_words(rt: &(impl Abort + AllocGlobal)) -> Result<(), Fail> {
     // 31 zeros and 32 ones, and the trailing 1
     let mut writer = Writer::new(rt.alloc());
     writer.ue(4294967294)?;
@@ -87,8 +86,7 @@ fn the_longest_words(rt: HostRuntime) -> Result<(), Fail> {
     Ok(())
 }
 
-#[test]
-fn a_unit_by_hand(rt: HostRuntime) -> Result<(), Fail> {
+fn a_unit_by_hand(rt: &(impl Abort + AllocGlobal)) -> Result<(), Fail> {
     let bytes = [0, 0, 0, 1, 0, 0, 3, 0, 0, 4];
     let body = unit(rt.alloc(), 0x65, &bytes)?;
     assert_eq!(rt;
@@ -101,8 +99,7 @@ fn a_unit_by_hand(rt: HostRuntime) -> Result<(), Fail> {
 }
 
 // The first block that is worked in I. Richardson's text on CAVLC.
-#[test]
-fn a_published_block(rt: HostRuntime) -> Result<(), Fail> {
+fn a_published_block(rt: &(impl Abort + AllocGlobal)) -> Result<(), Fail> {
     let mut writer = Writer::new(rt.alloc());
     let words = [
         (Table::CoeffTokenNc0, 23),
@@ -133,8 +130,7 @@ fn a_published_block(rt: HostRuntime) -> Result<(), Fail> {
     Ok(())
 }
 
-#[test]
-fn values_without_a_word(rt: HostRuntime) -> Result<(), Fail> {
+fn values_without_a_word(rt: &(impl Abort + AllocGlobal)) -> Result<(), Fail> {
     let mut writer = Writer::new(rt.alloc());
     assert_eq!(rt; writer.word(Table::TotalZeros15, 1), Ok(()));
     assert_eq!(rt;
@@ -183,8 +179,7 @@ fn elements_stand(bits: &mut Bits, number: u32) -> bool
         && bits.word(Table::LevelPrefix) == Ok((number % 16) as u8)
 }
 
-#[test]
-fn elements_read_back(rt: HostRuntime) -> Result<(), Fail> {
+fn elements_read_back(rt: &(impl Abort + AllocGlobal)) -> Result<(), Fail> {
     let mut writer = Writer::new(rt.alloc());
     let mut seed = 264;
     for _ in 0..300 {
@@ -358,8 +353,7 @@ fn shape_of(i: u32) -> (u32, u32)
     )
 }
 
-#[test]
-fn blocks_read_back(rt: HostRuntime) -> Result<(), Fail> {
+fn blocks_read_back(rt: &(impl Abort + AllocGlobal)) -> Result<(), Fail> {
     let mut writer = Writer::new(rt.alloc());
     for i in 0..200u32 {
         let (rare, most) = shape_of(i);
@@ -380,4 +374,19 @@ fn blocks_read_back(rt: HostRuntime) -> Result<(), Fail> {
     }
     assert_eq!(rt; bits.trailing(), Ok(()));
     Ok(())
+}
+
+#[test]
+fn written_by_hand(rt: HostRuntime) -> Result<(), Fail> {
+    words_by_hand(&rt)?;
+    the_longest_words(&rt)?;
+    a_unit_by_hand(&rt)?;
+    a_published_block(&rt)?;
+    values_without_a_word(&rt)
+}
+
+#[test]
+fn read_back(rt: HostRuntime) -> Result<(), Fail> {
+    elements_read_back(&rt)?;
+    blocks_read_back(&rt)
 }

@@ -19,6 +19,9 @@ enum Request<'a> {
 /// The text on standard error for a fault of the words.
 const USAGE: &str = "usage: h264v units|headers FILE\n";
 
+/// What comes before it where a word is no text.
+const NOT_TEXT: &str = "h264v: a word is not UTF-8\n";
+
 /// The exit status of a fault of the words, and of a failed device.
 const FAULT: u8 = 64;
 
@@ -95,6 +98,18 @@ fn judge<O: Opener, W: Write>(
     put_verdict(alloc, mode, verdict, out)
 }
 
+/// Says that a word is no text, where no file has a name that can be opened: the exit status of a fault of the words.
+pub fn not_text<E: Write>(err: &mut E) -> u8 {
+    let _ = err.write_all(NOT_TEXT.as_bytes());
+    fault(err)
+}
+
+/// Says how the program is called: the exit status of a fault of the words.
+fn fault<E: Write>(err: &mut E) -> u8 {
+    let _ = err.write_all(USAGE.as_bytes());
+    FAULT
+}
+
 /// Does what the words ask, the program's name first among them, and gives the exit status: 0 yes, 1 no, 2 outside, 3 memory,
 /// 4 a device failed, 64 a fault of the words, whose text goes to `err`.
 pub fn command<O: Opener, W: Write, E: Write>(
@@ -106,9 +121,6 @@ pub fn command<O: Opener, W: Write, E: Write>(
 ) -> u8 {
     match asked(words) {
         Request::Judge(mode, file) => judge(alloc, mode, file, opener, out),
-        Request::Fault => {
-            let _ = err.write_all(USAGE.as_bytes());
-            FAULT
-        }
+        Request::Fault => fault(err),
     }
 }

@@ -13,14 +13,16 @@ mod set_tests;
 mod stream_tests;
 #[cfg(test)]
 mod tests;
+mod words;
 
-use command::command;
+use command::{command, not_text};
 use files::Opener;
 use std::alloc::Global;
 use std::fs::File;
 use std::io::{BufWriter, Write};
 use std::process::ExitCode;
-use std::{env, fs, io};
+use std::{fs, io};
+use words::words_of;
 
 /// The files of the system.
 #[derive(Drop)]
@@ -36,23 +38,16 @@ impl Opener for SystemFiles<'_> {
     }
 }
 
-/// The arguments, the program's name first.
-fn words(rt: &HostRuntime) -> io::Result<Vec<String>> {
-    let mut words: Vec<String> = Vec::new(rt.alloc());
-    for word in env::args(rt)? {
-        words.push(word)?;
-    }
-    Ok(words)
-}
-
 /// Runs the command that the arguments ask for. Want of memory before that is status 3.
 fn status(rt: &HostRuntime) -> io::Result<u8> {
-    let words = words(rt)?;
     let alloc: Global = rt.alloc();
-    let mut out = BufWriter::new(alloc, io::writer(rt))?;
     let mut err = rt.stderr();
+    let Some(words) = words_of(rt, alloc)? else {
+        return Ok(not_text(&mut err));
+    };
+    let mut out = BufWriter::new(alloc, io::writer(rt))?;
     let mut files = SystemFiles { rt };
-    Ok(command(rt.alloc(), words.as_slice(), &mut files, &mut out, &mut err))
+    Ok(command(alloc, words.as_slice(), &mut files, &mut out, &mut err))
 }
 
 /// Says that memory is wanting, which takes none itself: the exit status.

@@ -349,21 +349,9 @@ fn check(rt: &(impl Abort + AllocGlobal), cases: &[Case]) -> Result<(), Fail> {
 }
 
 #[test]
-fn sets_0(rt: HostRuntime) -> Result<(), Fail> {
-    check(&rt, &CASES_0)
-}
-
-#[test]
-fn sets_1(rt: HostRuntime) -> Result<(), Fail> {
-    check(&rt, &CASES_1)
-}
-
-#[test]
-fn sets_2(rt: HostRuntime) -> Result<(), Fail> {
-    check(&rt, &CASES_2)
-}
-
-#[test]
-fn sets_3(rt: HostRuntime) -> Result<(), Fail> {
+fn sets_bit_by_bit(rt: HostRuntime) -> Result<(), Fail> {
+    check(&rt, &CASES_0)?;
+    check(&rt, &CASES_1)?;
+    check(&rt, &CASES_2)?;
     check(&rt, &CASES_3)
 }

@@ -58,28 +58,25 @@ const STREAMS: [&[u8]; 6] = [
 
 const COMMANDS: [&str; 2] = ["units", "headers"];
 
-#[test]
-fn two_frames(rt: HostRuntime) -> Result<(), Fail> {
+fn two_frames(rt: &(impl Abort + AllocGlobal)) -> Result<(), Fail> {
     let text = format!(in rt.alloc();
         "{SETS}unit 21 type 5 ref 3 bytes 5\nunit 29 type 1 ref 3 bytes 4\nyes: units 4\n"
     )?;
-    check(&rt, TWO_FRAMES, text.as_str(), 0)?;
-    check(&rt, GAP, text.as_str(), 0)
+    check(rt, "units", "two frames", TWO_FRAMES, text.as_str(), 0)?;
+    check(rt, "units", "gap", GAP, text.as_str(), 0)
 }
 
-#[test]
-fn wide_frames(rt: HostRuntime) -> Result<(), Fail> {
+fn wide_frames(rt: &(impl Abort + AllocGlobal)) -> Result<(), Fail> {
     let sets =
         "unit 4 type 7 ref 3 bytes 7\nunit 15 type 8 ref 3 bytes 4\nunit 22 type 5 ref 3 bytes 7\n";
     let one = format!(in rt.alloc(); "{sets}yes: units 3\n")?;
-    check(&rt, WIDE_FRAME, one.as_str(), 0)?;
+    check(rt, "units", "wide frame", WIDE_FRAME, one.as_str(), 0)?;
     let two = format!(in rt.alloc(); "{sets}unit 32 type 1 ref 3 bytes 6\nyes: units 4\n")?;
-    check(&rt, WIDE_FRAMES, two.as_str(), 0)
+    check(rt, "units", "wide frames", WIDE_FRAMES, two.as_str(), 0)
 }
 
 /// Whichever read fails, that is told, and what was printed before is a front of the whole answer.
-#[test]
-fn each_read_fails(rt: HostRuntime) -> Result<(), Fail> {
+fn each_read_fails(rt: &(impl Abort + AllocGlobal)) -> Result<(), Fail> {
     for word in COMMANDS {
         for bytes in STREAMS {
             let all = answer_of(rt.alloc(), word, whole(bytes), usize::MAX)?;
@@ -102,8 +99,7 @@ fn each_read_fails(rt: HostRuntime) -> Result<(), Fail> {
 
 /// Whichever write fails, the status tells it, the verdict does not stand in its place, and where there is still a line to write
 /// it is told too. The last line is written in two parts.
-#[test]
-fn each_write_fails(rt: HostRuntime) -> Result<(), Fail> {
+fn each_write_fails(rt: &(impl Abort + AllocGlobal)) -> Result<(), Fail> {
     for word in COMMANDS {
         for bytes in STREAMS {
             let all = answer_of(rt.alloc(), word, whole(bytes), usize::MAX)?;
@@ -121,4 +117,16 @@ fn each_write_fails(rt: HostRuntime) -> Result<(), Fail> {
         }
     }
     Ok(())
+}
+
+#[test]
+fn streams_with_slices(rt: HostRuntime) -> Result<(), Fail> {
+    two_frames(&rt)?;
+    wide_frames(&rt)
+}
+
+#[test]
+fn each_device_fails(rt: HostRuntime) -> Result<(), Fail> {
+    each_read_fails(&rt)?;
+    each_write_fails(&rt)
 }

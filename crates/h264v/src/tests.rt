@@ -2,9 +2,11 @@
 //! and its statuses.
 #![tactic(auto)]
 
-use crate::command::command;
+use crate::command::{command, not_text};
 use crate::files::Opener;
+use crate::words::words_of;
 use std::alloc::Global;
+use std::env::{Env, FillError};
 use std::io;
 use std::io::{ErrorKind, Read, Write};
 use std::process::Abort;
@@ -138,27 +140,26 @@ pub fn whole(bytes: &[u8]) -> OneFile<'_> {
     }
 }
 
-/// That the answer of `units` to these bytes is this one, whole, byte by byte and at every cut.
-pub fn check(
-    rt: &(impl Abort + AllocGlobal),
-    bytes: &[u8],
-    text: &str,
-    status: u8,
-) -> Result<(), Fail> {
-    check_command(rt, "units", bytes, text, status)
+/// A stream in hexadecimal digits, and what is printed of it.
+pub struct Case {
+    pub name: &'static str,
+    pub stream: &'static str,
+    pub text: &'static str,
+    pub status: u8,
 }
 
-/// The same of any command.
-pub fn check_command(
+/// That the answer of a command to these bytes is this one, whole, byte by byte and at every cut.
+pub fn check(
     rt: &(impl Abort + AllocGlobal),
     command_word: &str,
+    name: &str,
     bytes: &[u8],
     text: &str,
     status: u8,
 ) -> Result<(), Fail> {
     let all = answer_of(rt.alloc(), command_word, whole(bytes), usize::MAX)?;
-    assert_eq!(rt; all.text.as_str(), text);
-    assert_eq!(rt; all.status, status);
+    assert_eq!(rt; all.text.as_str(), text, "{name}");
+    assert_eq!(rt; all.status, status, "{name}");
     for first in 1..bytes.len() {
         for size in [1usize, 4096] {
             let file = OneFile {
@@ -168,255 +169,198 @@ pub fn check_command(
                 failing: usize::MAX,
             };
             let cut = answer_of(rt.alloc(), command_word, file, usize::MAX)?;
-            assert_eq!(rt; cut.text.as_str(), text);
-            assert_eq!(rt; cut.status, status);
+            assert_eq!(rt; cut.text.as_str(), text, "{name}");
+            assert_eq!(rt; cut.status, status, "{name}");
         }
     }
     Ok(())
 }
 
-#[test]
-fn nothing(rt: HostRuntime) -> Result<(), Fail> {
-    let bytes: &[u8] = &[];
-    check(&rt, bytes, "yes: units 0\n", 0)
+/// That the answers of a command are those of these cases.
+pub fn check_cases(
+    rt: &(impl Abort + AllocGlobal),
+    command_word: &str,
+    cases: &[Case],
+) -> Result<(), Fail> {
+    for case in cases {
+        let stream = hex::decode(rt.alloc(), case.stream)?;
+        check(
+            rt,
+            command_word,
+            case.name,
+            stream.as_slice(),
+            case.text,
+            case.status,
+        )?;
+    }
+    Ok(())
 }
 
-#[test]
-fn one_frame(rt: HostRuntime) -> Result<(), Fail> {
-    let bytes: &[u8] = &[
-        0x00, 0x00, 0x00, 0x01, 0x67, 0x42, 0xC0, 0x0A, 0xDA, 0x71, 0x00, 0x00, 0x00, 0x01, 0x68,
-        0xCE, 0x38, 0x80, 0x00, 0x00, 0x01, 0x65, 0x88, 0x84, 0x93, 0xC0,
-    ];
-    check(
-        &rt,
-        bytes,
-        "unit 4 type 7 ref 3 bytes 6\nunit 14 type 8 ref 3 bytes 4\nunit 21 type 5 ref 3 bytes 5\nyes: units 3\n",
-        0,
-    )
-}
+/// Streams and the headers of their units, of which `units` judges nothing more.
+const STREAMS: [Case; 10] = [
+    Case {
+        name: "nothing",
+        stream: "",
+        text: "yes: units 0\n",
+        status: 0,
+    },
+    Case {
+        name: "one frame",
+        stream: "000000016742c00ada710000000168ce388000000165888493c0",
+        text: "unit 4 type 7 ref 3 bytes 6\nunit 14 type 8 ref 3 bytes 4\nunit 21 type 5 ref 3 bytes 5\nyes: units 3\n",
+        status: 0,
+    },
+    Case {
+        name: "emulation broken",
+        stream: "000000016742c00ada710000000168ce388000000165888493c000000106050000030480",
+        text: "unit 4 type 7 ref 3 bytes 6\nunit 14 type 8 ref 3 bytes 4\nunit 21 type 5 ref 3 bytes 5\nno: bit 272: Emulation (clause 7.4.1)\n",
+        status: 1,
+    },
+    Case {
+        name: "stray byte",
+        stream: "000002",
+        text: "no: bit 16: ByteStream (clause B.1)\n",
+        status: 1,
+    },
+    Case {
+        name: "bare start code",
+        stream: "000001",
+        text: "no: bit 24: EmptyUnit (clause B.1)\n",
+        status: 1,
+    },
+    Case {
+        name: "bare start code and zeros",
+        stream: "000001000000",
+        text: "no: bit 24: EmptyUnit (clause B.1)\n",
+        status: 1,
+    },
+    Case {
+        name: "header rules",
+        stream: "000001e7",
+        text: "no: bit 24: ForbiddenBit (clause 7.4.1)\n",
+        status: 1,
+    },
+    Case {
+        name: "set that is no reference",
+        stream: "00000107",
+        text: "no: bit 24: RefIdc (clause 7.4.1)\n",
+        status: 1,
+    },
+    Case {
+        name: "delimiter that is a reference",
+        stream: "00000129",
+        text: "no: bit 24: RefIdc (clause 7.4.1)\n",
+        status: 1,
+    },
+    Case {
+        name: "partition",
+        stream: "00000142",
+        text: "no: bit 24: Partition (clause A.2)\n",
+        status: 1,
+    },
+];
 
-#[test]
-fn emulation_broken(rt: HostRuntime) -> Result<(), Fail> {
-    let bytes: &[u8] = &[
-        0x00, 0x00, 0x00, 0x01, 0x67, 0x42, 0xC0, 0x0A, 0xDA, 0x71, 0x00, 0x00, 0x00, 0x01, 0x68,
-        0xCE, 0x38, 0x80, 0x00, 0x00, 0x01, 0x65, 0x88, 0x84, 0x93, 0xC0, 0x00, 0x00, 0x01, 0x06,
-        0x05, 0x00, 0x00, 0x03, 0x04, 0x80,
-    ];
-    check(
-        &rt,
-        bytes,
-        "unit 4 type 7 ref 3 bytes 6\nunit 14 type 8 ref 3 bytes 4\nunit 21 type 5 ref 3 bytes 5\nno: bit 272: Emulation (clause 7.4.1)\n",
-        1,
-    )
-}
-
-#[test]
-fn frame_too_large(rt: HostRuntime) -> Result<(), Fail> {
-    let bytes: &[u8] = &[
-        0x00, 0x00, 0x00, 0x01, 0x67, 0x42, 0xC0, 0x0A, 0xDA, 0x0C, 0x13, 0x10,
-    ];
-    check(
-        &rt,
-        bytes,
-        "unit 4 type 7 ref 3 bytes 8\nno: bit 80: FrameSize (clause A.3)\n",
-        1,
-    )
-}
-
-#[test]
-fn frame_that_fits(rt: HostRuntime) -> Result<(), Fail> {
-    let bytes: &[u8] = &[
-        0x00, 0x00, 0x00, 0x01, 0x67, 0x42, 0xC0, 0x0A, 0xDA, 0x0B, 0x13, 0x10,
-    ];
-    check(&rt, bytes, "unit 4 type 7 ref 3 bytes 8\nyes: units 1\n", 0)
-}
-
-#[test]
-fn level_6(rt: HostRuntime) -> Result<(), Fail> {
-    let bytes: &[u8] = &[0x00, 0x00, 0x00, 0x01, 0x67, 0x42, 0xC0, 0x3C, 0xDA, 0x71];
-    check(
-        &rt,
-        bytes,
-        "unit 4 type 7 ref 3 bytes 6\noutside: bit 56: Level6\n",
-        2,
-    )
-}
-
-#[test]
-fn stray_byte(rt: HostRuntime) -> Result<(), Fail> {
-    let bytes: &[u8] = &[0x00, 0x00, 0x02];
-    check(&rt, bytes, "no: bit 16: ByteStream (clause B.1)\n", 1)
-}
-
-#[test]
-fn bare_start_code(rt: HostRuntime) -> Result<(), Fail> {
-    let bytes: &[u8] = &[0x00, 0x00, 0x01];
-    check(&rt, bytes, "no: bit 24: EmptyUnit (clause B.1)\n", 1)
-}
-
-#[test]
-fn bare_start_code_and_zeros(rt: HostRuntime) -> Result<(), Fail> {
-    let bytes: &[u8] = &[0x00, 0x00, 0x01, 0x00, 0x00, 0x00];
-    check(&rt, bytes, "no: bit 24: EmptyUnit (clause B.1)\n", 1)
-}
-
-#[test]
-fn buffer_of_the_vui(rt: HostRuntime) -> Result<(), Fail> {
-    let bytes: &[u8] = &[
-        0x00, 0x00, 0x00, 0x01, 0x67, 0x42, 0xC0, 0x0A, 0xDA, 0x72, 0x01, 0xE3, 0x06, 0x54, 0x00,
-        0x00, 0x00, 0x01, 0x68, 0xCE, 0x38, 0x80, 0x00, 0x00, 0x01, 0x65, 0x88, 0x84, 0x93, 0xC0,
-    ];
-    check(
-        &rt,
-        bytes,
-        "unit 4 type 7 ref 3 bytes 10\nunit 18 type 8 ref 3 bytes 4\nunit 25 type 5 ref 3 bytes 5\nyes: units 3\n",
-        0,
-    )
-}
-
-#[test]
-fn buffer_below_the_references(rt: HostRuntime) -> Result<(), Fail> {
-    let bytes: &[u8] = &[
-        0x00, 0x00, 0x00, 0x01, 0x67, 0x42, 0xC0, 0x0A, 0xDA, 0x72, 0x01, 0xE3, 0x06, 0x70, 0x00,
-        0x00, 0x00, 0x01, 0x68, 0xCE, 0x38, 0x80, 0x00, 0x00, 0x01, 0x65, 0x88, 0x84, 0x93, 0xC0,
-    ];
-    check(
-        &rt,
-        bytes,
-        "unit 4 type 7 ref 3 bytes 10\nno: bit 106: Vui (clause E.2)\n",
-        1,
-    )
-}
-
-#[test]
-fn header_rules(rt: HostRuntime) -> Result<(), Fail> {
-    let bytes: &[u8] = &[0x00, 0x00, 0x01, 0xE7];
-    check(&rt, bytes, "no: bit 24: ForbiddenBit (clause 7.4.1)\n", 1)
-}
-
-#[test]
-fn set_that_is_no_reference(rt: HostRuntime) -> Result<(), Fail> {
-    let bytes: &[u8] = &[0x00, 0x00, 0x01, 0x07];
-    check(&rt, bytes, "no: bit 24: RefIdc (clause 7.4.1)\n", 1)
-}
-
-#[test]
-fn delimiter_that_is_a_reference(rt: HostRuntime) -> Result<(), Fail> {
-    let bytes: &[u8] = &[0x00, 0x00, 0x01, 0x29];
-    check(&rt, bytes, "no: bit 24: RefIdc (clause 7.4.1)\n", 1)
-}
-
-#[test]
-fn partition(rt: HostRuntime) -> Result<(), Fail> {
-    let bytes: &[u8] = &[0x00, 0x00, 0x01, 0x42];
-    check(&rt, bytes, "no: bit 24: Partition (clause A.2)\n", 1)
-}
-
-#[test]
-fn level_idc_9(rt: HostRuntime) -> Result<(), Fail> {
-    let bytes: &[u8] = &[
-        0x00, 0x00, 0x00, 0x01, 0x67, 0x42, 0xC0, 0x09, 0xDA, 0x0B, 0x13, 0x10,
-    ];
-    check(&rt, bytes, "unit 4 type 7 ref 3 bytes 8\nyes: units 1\n", 0)
-}
-
-#[test]
-fn level_idc_10(rt: HostRuntime) -> Result<(), Fail> {
-    let bytes: &[u8] = &[
-        0x00, 0x00, 0x00, 0x01, 0x67, 0x42, 0xC0, 0x0A, 0xDA, 0x0B, 0x13, 0x10,
-    ];
-    check(&rt, bytes, "unit 4 type 7 ref 3 bytes 8\nyes: units 1\n", 0)
-}
-
-#[test]
-fn level_idc_52(rt: HostRuntime) -> Result<(), Fail> {
-    let bytes: &[u8] = &[
-        0x00, 0x00, 0x00, 0x01, 0x67, 0x42, 0xC0, 0x34, 0xDA, 0x0B, 0x13, 0x10,
-    ];
-    check(&rt, bytes, "unit 4 type 7 ref 3 bytes 8\nyes: units 1\n", 0)
-}
-
-#[test]
-fn level_idc_99(rt: HostRuntime) -> Result<(), Fail> {
-    let bytes: &[u8] = &[
-        0x00, 0x00, 0x00, 0x01, 0x67, 0x42, 0xC0, 0x63, 0xDA, 0x0B, 0x13, 0x10,
-    ];
-    check(
-        &rt,
-        bytes,
-        "unit 4 type 7 ref 3 bytes 8\nno: bit 56: Range (clause 7.4)\n",
-        1,
-    )
-}
-
-#[test]
-fn level_idc_62(rt: HostRuntime) -> Result<(), Fail> {
-    let bytes: &[u8] = &[
-        0x00, 0x00, 0x00, 0x01, 0x67, 0x42, 0xC0, 0x3E, 0xDA, 0x0B, 0x13, 0x10,
-    ];
-    check(
-        &rt,
-        bytes,
-        "unit 4 type 7 ref 3 bytes 8\noutside: bit 56: Level6\n",
-        2,
-    )
-}
-
-#[test]
-fn level_11(rt: HostRuntime) -> Result<(), Fail> {
-    let bytes: &[u8] = &[
-        0x00, 0x00, 0x00, 0x01, 0x67, 0x42, 0xC0, 0x0B, 0xDA, 0x0C, 0x13, 0x10,
-    ];
-    check(&rt, bytes, "unit 4 type 7 ref 3 bytes 8\nyes: units 1\n", 0)
-}
-
-#[test]
-fn level_1b_by_its_flag(rt: HostRuntime) -> Result<(), Fail> {
-    let bytes: &[u8] = &[
-        0x00, 0x00, 0x00, 0x01, 0x67, 0x42, 0xD0, 0x0B, 0xDA, 0x0C, 0x13, 0x10,
-    ];
-    check(
-        &rt,
-        bytes,
-        "unit 4 type 7 ref 3 bytes 8\nno: bit 80: FrameSize (clause A.3)\n",
-        1,
-    )
-}
-
-#[test]
-fn main_profile_alone(rt: HostRuntime) -> Result<(), Fail> {
-    let bytes: &[u8] = &[0x00, 0x00, 0x00, 0x01, 0x67, 0x4D, 0x00, 0x0A, 0xDA, 0x71];
-    check(
-        &rt,
-        bytes,
-        "unit 4 type 7 ref 3 bytes 6\nno: bit 40: Profile (clause A.2)\n",
-        1,
-    )
-}
-
-#[test]
-fn main_profile_with_its_flag(rt: HostRuntime) -> Result<(), Fail> {
-    let bytes: &[u8] = &[0x00, 0x00, 0x00, 0x01, 0x67, 0x4D, 0x80, 0x0A, 0xDA, 0x71];
-    check(&rt, bytes, "unit 4 type 7 ref 3 bytes 6\nyes: units 1\n", 0)
-}
-
-/// Two sets whose VUI gives buffers of one frame and of two.
-#[test]
-fn buffers_of_one_and_two_frames(rt: HostRuntime) -> Result<(), Fail> {
-    let text = "unit 4 type 7 ref 3 bytes 9\nunit 17 type 7 ref 3 bytes 9\nyes: units 2\n";
-    let bytes: &[u8] = &[
-        0x00, 0x00, 0x00, 0x01, 0x67, 0x42, 0xC0, 0x0A, 0xF4, 0xE4, 0x03, 0xF4, 0xA0, 0x00, 0x00,
-        0x00, 0x01, 0x67, 0x42, 0xC0, 0x0A, 0xF4, 0xE4, 0x03, 0xF4, 0xE0,
-    ];
-    check(&rt, bytes, text, 0)
-}
-
-/// A set that allows gaps in frame_num, with two reference frames.
-#[test]
-fn set_that_allows_gaps(rt: HostRuntime) -> Result<(), Fail> {
-    let bytes: &[u8] = &[0x00, 0x00, 0x00, 0x01, 0x67, 0x42, 0xC0, 0x0A, 0xDB, 0xF1];
-    check(&rt, bytes, "unit 4 type 7 ref 3 bytes 6\nyes: units 1\n", 0)
-}
+/// Levels, profiles, sizes and buffers of sequence parameter sets.
+const SETS: [Case; 16] = [
+    Case {
+        name: "frame too large",
+        stream: "000000016742c00ada0c1310",
+        text: "unit 4 type 7 ref 3 bytes 8\nno: bit 80: FrameSize (clause A.3)\n",
+        status: 1,
+    },
+    Case {
+        name: "frame that fits",
+        stream: "000000016742c00ada0b1310",
+        text: "unit 4 type 7 ref 3 bytes 8\nyes: units 1\n",
+        status: 0,
+    },
+    Case {
+        name: "level 6",
+        stream: "000000016742c03cda71",
+        text: "unit 4 type 7 ref 3 bytes 6\noutside: bit 56: Level6\n",
+        status: 2,
+    },
+    Case {
+        name: "buffer of the vui",
+        stream: "000000016742c00ada7201e306540000000168ce388000000165888493c0",
+        text: "unit 4 type 7 ref 3 bytes 10\nunit 18 type 8 ref 3 bytes 4\nunit 25 type 5 ref 3 bytes 5\nyes: units 3\n",
+        status: 0,
+    },
+    Case {
+        name: "buffer below the references",
+        stream: "000000016742c00ada7201e306700000000168ce388000000165888493c0",
+        text: "unit 4 type 7 ref 3 bytes 10\nno: bit 106: Vui (clause E.2)\n",
+        status: 1,
+    },
+    Case {
+        name: "level idc 9",
+        stream: "000000016742c009da0b1310",
+        text: "unit 4 type 7 ref 3 bytes 8\nyes: units 1\n",
+        status: 0,
+    },
+    Case {
+        name: "level idc 10",
+        stream: "000000016742c00ada0b1310",
+        text: "unit 4 type 7 ref 3 bytes 8\nyes: units 1\n",
+        status: 0,
+    },
+    Case {
+        name: "level idc 52",
+        stream: "000000016742c034da0b1310",
+        text: "unit 4 type 7 ref 3 bytes 8\nyes: units 1\n",
+        status: 0,
+    },
+    Case {
+        name: "level idc 99",
+        stream: "000000016742c063da0b1310",
+        text: "unit 4 type 7 ref 3 bytes 8\nno: bit 56: Range (clause 7.4)\n",
+        status: 1,
+    },
+    Case {
+        name: "level idc 62",
+        stream: "000000016742c03eda0b1310",
+        text: "unit 4 type 7 ref 3 bytes 8\noutside: bit 56: Level6\n",
+        status: 2,
+    },
+    Case {
+        name: "level 11",
+        stream: "000000016742c00bda0c1310",
+        text: "unit 4 type 7 ref 3 bytes 8\nyes: units 1\n",
+        status: 0,
+    },
+    Case {
+        name: "level 1b by its flag",
+        stream: "000000016742d00bda0c1310",
+        text: "unit 4 type 7 ref 3 bytes 8\nno: bit 80: FrameSize (clause A.3)\n",
+        status: 1,
+    },
+    Case {
+        name: "main profile alone",
+        stream: "00000001674d000ada71",
+        text: "unit 4 type 7 ref 3 bytes 6\nno: bit 40: Profile (clause A.2)\n",
+        status: 1,
+    },
+    Case {
+        name: "main profile with its flag",
+        stream: "00000001674d800ada71",
+        text: "unit 4 type 7 ref 3 bytes 6\nyes: units 1\n",
+        status: 0,
+    },
+    // Two sets whose VUI gives buffers of one frame and of two.
+    Case {
+        name: "buffers of one and two frames",
+        stream: "000000016742c00af4e403f4a0000000016742c00af4e403f4e0",
+        text: "unit 4 type 7 ref 3 bytes 9\nunit 17 type 7 ref 3 bytes 9\nyes: units 2\n",
+        status: 0,
+    },
+    // A set that allows gaps in frame_num, with two reference frames.
+    Case {
+        name: "set that allows gaps",
+        stream: "000000016742c00adbf1",
+        text: "unit 4 type 7 ref 3 bytes 6\nyes: units 1\n",
+        status: 0,
+    },
+];
 
 const ONE_FRAME: &[u8] = &[
     0x00, 0x00, 0x00, 0x01, 0x67, 0x42, 0xC0, 0x0A, 0xDA, 0x71, 0x00, 0x00, 0x00, 0x01, 0x68, 0xCE,
@@ -424,8 +368,7 @@ const ONE_FRAME: &[u8] = &[
 ];
 
 /// The bit that each prefix of the stream of one frame breaks a rule at, and the rule; None where it breaks none.
-#[test]
-fn prefixes_of_one_frame(rt: HostRuntime) -> Result<(), Fail> {
+fn prefixes_of_one_frame(rt: &(impl Abort + AllocGlobal)) -> Result<(), Fail> {
     for length in 0..ONE_FRAME.len() {
         let answer = units(rt.alloc(), whole(&ONE_FRAME[..length]), usize::MAX)?;
         let rule = match length {
@@ -455,8 +398,7 @@ fn prefixes_of_one_frame(rt: HostRuntime) -> Result<(), Fail> {
 }
 
 /// Words that ask for nothing that there is: a text on standard error, and nothing on standard output.
-#[test]
-fn faults_of_the_words(rt: HostRuntime) -> Result<(), Fail> {
+fn faults_of_the_words(rt: &(impl Abort + AllocGlobal)) -> Result<(), Fail> {
     let alloc = rt.alloc();
     let faults: [&[&str]; 4] = [
         &["h264v"],
@@ -486,8 +428,7 @@ fn faults_of_the_words(rt: HostRuntime) -> Result<(), Fail> {
 }
 
 /// A file that cannot be opened cannot be read.
-#[test]
-fn no_such_file(rt: HostRuntime) -> Result<(), Fail> {
+fn no_such_file(rt: &(impl Abort + AllocGlobal)) -> Result<(), Fail> {
     let alloc = rt.alloc();
     let words = words(alloc, &["h264v", "units", "other"])?;
     let mut out: Vec<u8> = Vec::new(alloc);
@@ -502,4 +443,78 @@ fn no_such_file(rt: HostRuntime) -> Result<(), Fail> {
     assert_eq!(rt; status, 4);
     assert_eq!(rt; out.as_slice(), b"read failed\n".as_slice());
     Ok(())
+}
+
+/// Arguments of which the first is `h264v`, and the second is these bytes.
+#[derive(Drop)]
+struct Arguments<'a> {
+    second: &'a [u8],
+}
+
+impl Arguments<'_> {
+    fn bytes(&self, i: usize) -> Result<&[u8], FillError> {
+        match i {
+            0 => Ok(b"h264v"),
+            1 => Ok(self.second),
+            _ => Err(FillError::NotPresent),
+        }
+    }
+}
+
+impl Env for Arguments<'_> {
+    fn arg(&self, i: usize, buf: &mut [u8]) -> Result<usize, FillError> {
+        let bytes = self.bytes(i)?;
+        if bytes.len() > buf.len() {
+            return Err(FillError::TooLong);
+        }
+        buf[..bytes.len()].copy_from_slice(bytes);
+        Ok(bytes.len())
+    }
+
+    fn var(&self, _name: &str, _buf: &mut [u8]) -> Result<usize, FillError> {
+        Err(FillError::NotPresent)
+    }
+
+    fn var_at(&self, _i: usize, _buf: &mut [u8]) -> Result<usize, FillError> {
+        Err(FillError::NotPresent)
+    }
+}
+
+/// A word that is not UTF-8 is a fault of the words, and not a want of memory.
+fn word_that_is_no_text(rt: &(impl Abort + AllocGlobal)) -> Result<(), Fail> {
+    let alloc = rt.alloc();
+    let found = words_of(&Arguments { second: b"units" }, alloc)?;
+    assert!(rt; found.is_some_and(|found| found.len() == 2 && found[1].as_str() == "units"));
+    let refused = words_of(
+        &Arguments {
+            second: b"a\xFF.264",
+        },
+        alloc,
+    )?;
+    assert!(rt; refused.is_none());
+    let mut err: Vec<u8> = Vec::new(alloc);
+    assert_eq!(rt; not_text(&mut err), 64);
+    assert_eq!(rt;
+        err.as_slice(),
+        b"h264v: a word is not UTF-8\nusage: h264v units|headers FILE\n".as_slice()
+    );
+    Ok(())
+}
+
+#[test]
+fn streams(rt: HostRuntime) -> Result<(), Fail> {
+    check_cases(&rt, "units", &STREAMS)?;
+    prefixes_of_one_frame(&rt)
+}
+
+#[test]
+fn sets(rt: HostRuntime) -> Result<(), Fail> {
+    check_cases(&rt, "units", &SETS)
+}
+
+#[test]
+fn words_and_files(rt: HostRuntime) -> Result<(), Fail> {
+    faults_of_the_words(&rt)?;
+    word_that_is_no_text(&rt)?;
+    no_such_file(&rt)
 }
