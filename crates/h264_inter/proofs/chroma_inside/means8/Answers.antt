@@ -1,4 +1,4 @@
-use Rattle.std.proofs.Common.{◌≡◌, ◌+◌, ◌*◌, ◌/◌, ap, ◌∙◌, get_or, slice_index, refl}
+use Rattle.std.proofs.Common.{◌∙◌, refl}
 use Rattle.h264_inter.proofs.Weights.{mean_of_lanes}
 use Rattle.h264_inter.proofs.chroma_inside.means8.Goals as goal
 
