@@ -60,7 +60,7 @@ abbrev pub newest_idr_of : List CodedPicture → Option ℕ
 newest_idr_of [] = None
 newest_idr_of (p ∷ pictures) = idr_id p.first.header.idr_pic_id
 
--- two operations with the same operands
+-- the same operations with the same operands: their equality is decided (laws of h264_header)
 abbrev pub same_operations : List MarkingOperation → List MarkingOperation → Bool
 same_operations [] [] = true
 same_operations [] (o ∷ os) = false
