@@ -1,7 +1,7 @@
 //! Reading a slice header (7.3.3).
 #![tactic(auto)]
 
-ghost use Rattle.std.specs.Prelude.{◌≡◌, ℕ, ◌-◌, ◌<◌, ◌≤◌, ◌^◌, true, IfOk, OnOk};
+ghost use Rattle.std.specs.Prelude.{◌≡◌, ℕ, ◌-◌, ◌<◌, ◌≤◌, ◌^◌, true, IfOk, OnOk, is_some};
 ghost use Rattle.h264_base.specs.Meets.{Meets, Is, Answers};
 ghost use Rattle.h264_base.specs.declared.element_name.ElementName.TheVariants.{DeltaPicOrderCntBottom, DeltaPicOrderCnt};
 ghost use Rattle.h264_bits.specs.Forms.{optional, signed};
@@ -77,6 +77,7 @@ fn read_named_sets<S: Elements>(
     ensures meets { Meets S.took S.failures (Is (λ x. x)) (named_sets (sets_of sets.now)) bits.old bits.new sink.old sink.new result }
     ensures short { IfOk result (λ n. IsShort n.layout) }
     ensures id { IfOk result (λ n. n.id.value ≤ 255) }
+    ensures named { IfOk result (λ n. is_some (sets_of sets.now n.id.value) ≡ true) }
 {
     let id = read_ue(bits, ElementName::PicParameterSetId, sink)?;
     check(id.value <= 255, Rule::NoSet, id.bit)?;
@@ -262,6 +263,7 @@ fn header_steps<S: Elements>(
     requires { S.failures sink.old < 2 ^ 64 - 1 }
     ensures meets { Meets S.took S.failures (Is (λ _. header.new)) (header_of (sets_of sets.now) unit) bits.old bits.new sink.old sink.new result }
     ensures id { OnOk result (header.new.pic_parameter_set_id.value ≤ 255) }
+    ensures named { OnOk result (is_some (sets_of sets.now header.new.pic_parameter_set_id.value) ≡ true) }
 {
     header.nal_ref_idc = unit.nal_ref_idc;
     header.first_mb_in_slice = read_ue(bits, ElementName::FirstMbInSlice, sink)?;
@@ -309,6 +311,7 @@ pub fn read_header<S: Elements>(
     ensures answers { Answers S.took S.failures (Is (λ _. header.new)) (header_of (sets_of sets.now) unit) bits.old bits.new sink.old sink.new result }
     ensures meets { Meets S.took S.failures (Is (λ _. header.new)) (header_of (sets_of sets.now) unit) bits.old bits.new sink.old sink.new result }
     ensures id { OnOk result (header.new.pic_parameter_set_id.value ≤ 255) }
+    ensures named { OnOk result (is_some (sets_of sets.now header.new.pic_parameter_set_id.value) ≡ true) }
 {
     header_steps(bits, sets, unit, header, sink)
 }

@@ -38,7 +38,7 @@ use Rattle.h264_verify.specs.Slices.{has_content, is_active, set_demand, list_de
 use Rattle.h264_verify.specs.Steps.{Step, Tells, needs}
 use Rattle.h264_verify.specs.UnitOutcome.{steps_outcome}
 use Rattle.h264_verify.specs.Pictures.{CodedPicture, CodedSlice, with_sets, sets_at, begins_at, goes_on, open_of, joined_to, runs_of, counted, closing_demands}
-use Rattle.h264_verify.specs.Keeping.{KeepsSlices, Entered, standing_by, standing_demands, slice_rules}
+use Rattle.h264_verify.specs.Keeping.{standing_demands, slice_rules}
 use Rattle.h264_verify.proofs.Finishing.{answers-plays}
 use Rattle.h264_verify.proofs.Stepping.{needs-first, needs-ok, needs-err, behind_rules}
 
@@ -190,14 +190,14 @@ module _ (before : History) (unit : NalUnit) (h : Header) (begins : Bool) (b : b
       abbrev call : Pps × Sps → Call
       call sets = slice_call (joined_to begins (slice sets) (runs_of before)) (slice sets)
 
-      standing-rest : (begins : Bool) (sets : Pps × Sps) (ts : List Step) → needs (rules_of begins due maps (runs_of before) (slice sets)) ++ ts ≡ needs (standing_by begins sets.1 due maps (8 * unit.from) h) ++ (needs (slice_rules begins (runs_of before) (slice sets)) ++ ts)
+      standing-rest : (begins : Bool) (sets : Pps × Sps) (ts : List Step) → needs (rules_of begins due maps (runs_of before) (slice sets)) ++ ts ≡ needs (standing_demands begins sets.1 due maps (8 * unit.from) h) ++ (needs (slice_rules begins (runs_of before) (slice sets)) ++ ts)
       standing-rest true sets ts = refl
       standing-rest false sets ts = refl
 
       sets-are : (o : Option (Pps × Sps)) → sets_of maps h.pic_parameter_set_id.value ≡ o → sets_at before h ≡ o
       sets-are o e = ap (λ m. sets_of m h.pic_parameter_set_id.value) (sym maps-are) ∙ e
 
-      with-sets : (sets : Pps × Sps) → sets_of maps h.pic_parameter_set_id.value ≡ Some sets → steps_outcome steps ≡ behind_rules (judged (standing_by begins sets.1 due maps (8 * unit.from) h)) (needs (slice_rules begins (runs_of before) (slice sets)) ++ Tells (call sets) ∷ [])
+      with-sets : (sets : Pps × Sps) → sets_of maps h.pic_parameter_set_id.value ≡ Some sets → steps_outcome steps ≡ behind_rules (judged (standing_demands begins sets.1 due maps (8 * unit.from) h)) (needs (slice_rules begins (runs_of before) (slice sets)) ++ Tells (call sets) ∷ [])
       with-sets sets e =
           behind-end
           ∙ ap (λ o. steps_outcome (steps_by o before unit h)) (sets-are (Some sets) e)
@@ -205,20 +205,15 @@ module _ (before : History) (unit : NalUnit) (h : Header) (begins : Bool) (b : b
           ∙ ap (λ x. steps_outcome (needs (rules_of begins x (maps_of before) (runs_of before) (slice sets)) ++ Tells (call sets) ∷ [])) (sym due-is)
           ∙ ap (λ m. steps_outcome (needs (rules_of begins due m (runs_of before) (slice sets)) ++ Tells (call sets) ∷ [])) (sym maps-are)
           ∙ ap steps_outcome (standing-rest begins sets (Tells (call sets) ∷ []))
-          ∙ needs-first (standing_by begins sets.1 due maps (8 * unit.from) h) (needs (slice_rules begins (runs_of before) (slice sets)) ++ Tells (call sets) ∷ [])
-
-      -- its sets are not there
-      pub no-set : sets_of maps h.pic_parameter_set_id.value ≡ None → steps_outcome steps ≡ answers (Err (No h.pic_parameter_set_id.bit NoSet))
-      no-set e = behind-end ∙ ap (λ o. steps_outcome (steps_by o before unit h)) (sets-are None e)
+          ∙ needs-first (standing_demands begins sets.1 due maps (8 * unit.from) h) (needs (slice_rules begins (runs_of before) (slice sets)) ++ Tells (call sets) ∷ [])
 
       -- where it stands is against a rule
-      pub at-standing : (o : Option (Pps × Sps)) → sets_of maps h.pic_parameter_set_id.value ≡ o → (e : Stop) → Err e ≡ judged (standing_demands begins o due maps (8 * unit.from) h) → steps_outcome steps ≡ answers (Err e)
-      at-standing None n e p = no-set n ∙ ap (λ (r : Result (Unit {0}) Stop). answers r) (sym p)
-      at-standing (Some sets) n e p = with-sets sets n ∙ ap (λ r. behind_rules r (needs (slice_rules begins (runs_of before) (slice sets)) ++ Tells (call sets) ∷ [])) (sym p)
+      pub at-standing : (sets : Pps × Sps) → sets_of maps h.pic_parameter_set_id.value ≡ Some sets → (e : Stop) → Err e ≡ judged (standing_demands begins sets.1 due maps (8 * unit.from) h) → steps_outcome steps ≡ answers (Err e)
+      at-standing sets n e p = with-sets sets n ∙ ap (λ r. behind_rules r (needs (slice_rules begins (runs_of before) (slice sets)) ++ Tells (call sets) ∷ [])) (sym p)
 
-      module _ (sets : Pps × Sps) (named : sets_of maps h.pic_parameter_set_id.value ≡ Some sets) (x : Unit {0}) (stands : Ok x ≡ judged (standing_demands begins (sets_of maps h.pic_parameter_set_id.value) due maps (8 * unit.from) h)) where
+      module _ (sets : Pps × Sps) (named : sets_of maps h.pic_parameter_set_id.value ≡ Some sets) (x : Unit {0}) (stands : Ok x ≡ judged (standing_demands begins sets.1 due maps (8 * unit.from) h)) where
         behind-standing : steps_outcome steps ≡ steps_outcome (needs (slice_rules begins (runs_of before) (slice sets)) ++ Tells (call sets) ∷ [])
-        behind-standing = with-sets sets named ∙ ap (λ r. behind_rules r (needs (slice_rules begins (runs_of before) (slice sets)) ++ Tells (call sets) ∷ [])) (sym (stands ∙ ap (λ o. judged (standing_demands begins o due maps (8 * unit.from) h)) named))
+        behind-standing = with-sets sets named ∙ ap (λ r. behind_rules r (needs (slice_rules begins (runs_of before) (slice sets)) ++ Tells (call sets) ∷ [])) (sym stands)
 
         -- another rule is broken
         pub at-rules : (e : Stop) → Err e ≡ judged (slice_rules begins (runs_of before) (slice sets)) → steps_outcome steps ≡ answers (Err e)

@@ -16,7 +16,7 @@ use Rattle.h264_verify.specs.declared.judge.State.{State}
 use Rattle.h264_verify.specs.declared.slices.Slices.{Slices}
 use Rattle.h264_verify.specs.declared.picture.OpenPicture.{OpenPicture}
 use Rattle.h264_verify.specs.declared.picture.Types.{Types}
-use Rattle.h264_base.specs.declared.rule.Rule.TheVariants.{SliceType, NoSet}
+use Rattle.h264_base.specs.declared.rule.Rule.TheVariants.{SliceType}
 use Rattle.h264_verify.specs.Demands.{Demand}
 use Rattle.h264_verify.specs.History.{History, maps_of}
 use Rattle.h264_verify.specs.Pictures.{CodedSlice, CodedPicture, last_slice, goes_on, open_of, joined_to, runs_of, counted, is_idr, is_reference, picture_of, numbering_of, entered, prev_ref_frame_num_of, held_after, held_in}
@@ -126,14 +126,10 @@ pub record Entered (before : History) (begins : Bool) (slice : CodedSlice) (slic
   pub prev_ref : slices.prev_ref_frame_num ≡ prev_ref_frame_num_of (joined_to begins slice (runs_of before))
   pub held : slices.held ≡ held_in (joined_to begins slice (runs_of before))
 
--- The rules on where a slice stands and with which sets, where its sets are there.
-abbrev pub standing_by : Bool → Sps → Bool → Maps → ℕ → Header → List Demand
-standing_by true sps due maps bit h = idr_demand due bit h ∷ set_demand (is_idr h) maps sps h ∷ []
-standing_by false sps due maps bit h = set_demand false maps sps h ∷ []
-
-abbrev pub standing_demands : Bool → Option (Pps × Sps) → Bool → Maps → ℕ → Header → List Demand
-standing_demands begins None due maps bit h = record { rule = NoSet; bit = h.pic_parameter_set_id.bit; met = false } ∷ []
-standing_demands begins (Some sets) due maps bit h = standing_by begins sets.1 due maps bit h
+-- The rules on where a slice stands and with which sets.
+abbrev pub standing_demands : Bool → Sps → Bool → Maps → ℕ → Header → List Demand
+standing_demands true sps due maps bit h = idr_demand due bit h ∷ set_demand (is_idr h) maps sps h ∷ []
+standing_demands false sps due maps bit h = set_demand false maps sps h ∷ []
 
 -- The rules behind these, by the pictures.
 abbrev pub slice_rules : Bool → List CodedPicture → CodedSlice → List Demand

@@ -252,8 +252,9 @@ frame_count (Some count) = int_min count.top count.bottom
 abbrev pub slice_call : List CodedPicture → CodedSlice → Call
 slice_call pictures s = OfSlice s.unit.from s.header.first_mb_in_slice.value (type_of s.header.kind.value) s.header.frame_num.value (frame_count (newest_count (map counted pictures)))
 
+-- the steps of a slice with its sets; a header that was read has them
 abbrev pub steps_by : Option (Pps × Sps) → History → NalUnit → Header → List Step
-steps_by None before unit h = needs (record { rule = rule.NoSet; bit = h.pic_parameter_set_id.bit; met = false } ∷ [])
+steps_by None before unit h = []
 steps_by (Some sets) before unit h =
     needs (rules_of (begins_at before h) (is_idr_due before) (maps_of before) (runs_of before) (with_sets unit h [] sets))
     ++ step.Tells (slice_call (joined_to (begins_at before h) (with_sets unit h [] sets) (runs_of before)) (with_sets unit h [] sets))

@@ -1,7 +1,7 @@
 //! The rules that a slice meets one after another.
 #![tactic(auto)]
 
-ghost use Rattle.std.specs.Prelude.{◌≡◌, ℕ, Bool, true, false, not, ◌&&◌, ◌||◌, ◌∷◌, [], ◌≤◌, pos, ◌+ℤ◌, OnOk, Ok, Err, IsErrOf, if◌then◌else◌};
+ghost use Rattle.std.specs.Prelude.{◌≡◌, ℕ, Bool, true, false, Some, not, ◌&&◌, ◌||◌, ◌∷◌, [], ◌≤◌, pos, ◌+ℤ◌, OnOk, Ok, Err, IsErrOf, if◌then◌else◌};
 ghost use Rattle.std.specs.Option.{is_some};
 ghost use Rattle.h264_base.specs.declared.stop.Stop.TheVariants.{No};
 ghost use Rattle.h264_header.specs.Layout.{sets_of};
@@ -16,7 +16,7 @@ use crate::marking::same_marking;
 use crate::picture::{OpenPicture, agrees, is_i, seen_types};
 use h264_base::{Rule, Stop};
 use h264_bits::Found;
-use h264_header::{Header, Marking, RefPicList0, SliceKind, named_sets};
+use h264_header::{Header, Marking, RefPicList0, SliceKind};
 use h264_lists::build;
 use h264_marking::{Held, Numbering};
 use h264_pps::Pps;
@@ -34,17 +34,6 @@ pub(crate) fn check(holds: bool, rule: Rule, bit: u64) -> Result<(), Stop>
     }
 }
 
-/// Whether the sets of this pic_parameter_set_id are there.
-fn has_sets(sets: &Sets, pic_parameter_set_id: u32) -> bool
-    requires { pic_parameter_set_id ≤ 255 }
-    ensures { result ≡ is_some (sets_of sets.now pic_parameter_set_id) }
-{
-    match named_sets(sets, pic_parameter_set_id) {
-        Some(_) => true,
-        None => false,
-    }
-}
-
 /// Whether a picture may begin where an IDR picture is due or not.
 fn may_begin(due: bool, idr: bool) -> bool
     ensures { result ≡ (not due || idr) }
@@ -54,27 +43,27 @@ fn may_begin(due: bool, idr: bool) -> bool
 
 /// The rules on where the first slice of a picture stands, and with which sets, which become the active ones.
 pub(crate) fn check_first(due: bool, sets: &mut Sets, bit: u64, header: &Header) -> Result<(), Stop>
-    requires { header.now.pic_parameter_set_id.value ≤ 255 }
-    ensures judged { result ≡ judged (standing_demands true (sets_of sets.old header.now.pic_parameter_set_id.value) due sets.old bit header.now) }
+    requires id { header.now.pic_parameter_set_id.value ≤ 255 }
+    requires named { is_some (sets_of sets.old header.now.pic_parameter_set_id.value) ≡ true }
+    ensures judged { (named : Pps × Sps) → sets_of sets.old header.now.pic_parameter_set_id.value ≡ Some named → result ≡ judged (standing_demands true named.1 due sets.old bit header.now) }
     ensures activated { OnOk result (sets.new ≡ maps_with sets.old (contents.OfSlice header.now [])) }
     ensures no_memory { IsErrOf result Stop.Memory → ⊥ }
 {
     let id = header.pic_parameter_set_id;
-    check(has_sets(sets, id.value), Rule::NoSet, id.bit)?;
     let idr = header.idr_pic_id.is_some();
     check(may_begin(due, idr), Rule::FirstPicture, bit)?;
     sets.activate(id.value, id.bit, idr)
 }
 
-/// The rules on the sets of a later slice.
+/// The rule on the sets of a later slice.
 pub(crate) fn check_later(sets: &mut Sets, header: &Header) -> Result<(), Stop>
-    requires { header.now.pic_parameter_set_id.value ≤ 255 }
-    ensures judged { (due : Bool) (bit : ℕ) → result ≡ judged (standing_demands false (sets_of sets.old header.now.pic_parameter_set_id.value) due sets.old bit header.now) }
+    requires id { header.now.pic_parameter_set_id.value ≤ 255 }
+    requires named { is_some (sets_of sets.old header.now.pic_parameter_set_id.value) ≡ true }
+    ensures judged { (named : Pps × Sps) (due : Bool) (bit : ℕ) → sets_of sets.old header.now.pic_parameter_set_id.value ≡ Some named → result ≡ judged (standing_demands false named.1 due sets.old bit header.now) }
     ensures activated { OnOk result (sets.new ≡ maps_with sets.old (contents.OfSlice header.now [])) }
     ensures no_memory { IsErrOf result Stop.Memory → ⊥ }
 {
     let id = header.pic_parameter_set_id;
-    check(has_sets(sets, id.value), Rule::NoSet, id.bit)?;
     sets.activate(id.value, id.bit, false)
 }
 

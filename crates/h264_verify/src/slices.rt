@@ -25,7 +25,7 @@ use crate::rules::{
     check_type, idr_id,
 };
 use crate::sink::FrameSink;
-use h264_base::{Failed, Rule, SliceType, Stop};
+use h264_base::{Failed, SliceType, Stop};
 use h264_header::{Header, PicOrderCnt, SliceKind, named_sets};
 use h264_marking::{Held, Numbering};
 use h264_poc::{Count, Counts, Cycle, Order, Picture};
@@ -188,8 +188,9 @@ fn check_standing(
     bit: u64,
     header: &Header,
 ) -> Result<(), Stop>
-    requires { header.now.pic_parameter_set_id.value ≤ 255 }
-    ensures judged { result ≡ judged (standing_demands begins (sets_of sets.old header.now.pic_parameter_set_id.value) due sets.old bit header.now) }
+    requires id { header.now.pic_parameter_set_id.value ≤ 255 }
+    requires named { is_some (sets_of sets.old header.now.pic_parameter_set_id.value) ≡ true }
+    ensures judged { (named : Pps × Sps) → sets_of sets.old header.now.pic_parameter_set_id.value ≡ Some named → result ≡ judged (standing_demands begins named.1 due sets.old bit header.now) }
     ensures activated { OnOk result (sets.new ≡ maps_with sets.old (contents.OfSlice header.now [])) }
     ensures no_memory { IsErrOf result Stop.Memory → ⊥ }
 {
@@ -320,6 +321,7 @@ pub(crate) fn judge_slice<S: FrameSink>(
 ) -> Result<(), Stop>
     requires room { S.failures sink.old < 2 ^ 64 - 1 }
     requires id { header.old.pic_parameter_set_id.value ≤ 255 }
+    requires named { is_some (sets_of sets.old header.old.pic_parameter_set_id.value) ≡ true }
     requires pictures { slices.old.pictures < 2 ^ 42 }
     ensures plays { (before : History) → KeepsSlices before false slices.old → sets.old ≡ maps_of before → Plays S.took S.failures (λ x. x) (steps_outcome (slice_steps before unit.now header.old)) sink.old sink.new result }
     ensures keeps { (before : History) → KeepsSlices before false slices.old → sets.old ≡ maps_of before → OnOk result (KeepsSlices (record { unit = unit.now; content = contents.OfSlice header.old [] } ∷ before) false slices.new) }
@@ -333,10 +335,7 @@ pub(crate) fn judge_slice<S: FrameSink>(
     end_if(begins, slices)?;
     check_standing(begins, slices.due, sets, bit, header)?;
     let Some(named) = named_sets(sets, header.pic_parameter_set_id.value) else {
-        return Err(Stop::No {
-            bit: header.pic_parameter_set_id.bit,
-            rule: Rule::NoSet,
-        });
+        unreachable!()
     };
     check_rules(slices, begins, named.0, named.1, header, bit)?;
     tell_slice(unit.from(), header, slices.count, sink)?;

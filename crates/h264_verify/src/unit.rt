@@ -2,6 +2,8 @@
 #![tactic(auto)]
 
 ghost use Rattle.std.specs.Prelude.{◌≡◌, true, false, IsTrue, ℕ, ◌+◌, ◌-◌, ◌*◌, ◌<◌, ◌≤◌, ◌^◌, List, [], ◌∷◌, length, ◌==◌, ◌||◌, OnOk, IfOk, IsErrOf, Ok, Err, if◌then◌else◌};
+ghost use Rattle.std.specs.Option.{is_some};
+ghost use Rattle.h264_header.specs.Layout.{sets_of};
 ghost use Rattle.h264_units.specs.Stream.{NalUnit as UnitView};
 ghost use Rattle.h264_verify.specs.Outcome.{Plays, tells};
 ghost use Rattle.h264_verify.specs.Demands.{judged};
@@ -120,6 +122,7 @@ fn read_slice_unit<S: FrameSink>(
     requires { S.failures sink.old < 2 ^ 64 - 1 }
     ensures plays { (before : History) → sets.now ≡ maps_of before → header ≡ header_of unit.now → Plays S.took S.failures (λ _. contents.OfSlice found.new []) (slice_outcome before unit.now) sink.old sink.new result }
     ensures id { OnOk result (found.new.pic_parameter_set_id.value ≤ 255) }
+    ensures named { OnOk result (is_some (sets_of sets.now found.new.pic_parameter_set_id.value) ≡ true) }
     ensures kept { OnOk result (S.failures sink.new ≡ S.failures sink.old) }
 {
     let rbsp = Rbsp::of(alloc, unit)?;

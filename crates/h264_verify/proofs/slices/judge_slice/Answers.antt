@@ -1,10 +1,9 @@
 use Rattle.std.proofs.Common.{refl, ap, sym, ◌∙◌, [], ◌*◌, if◌then◌else◌}
 use Rattle.std.proofs.lemmas.Result.{err_from_is_err_and}
-use Rattle.h264_header.specs.Layout.{sets_of}
 use Rattle.h264_verify.specs.Pictures.{goes_on, runs_of, with_sets, closing_demands}
 use Rattle.h264_verify.specs.Slices.{slice_steps}
 use Rattle.h264_verify.specs.Keeping.{standing_demands, slice_rules}
-use Rattle.h264_verify.proofs.Slicing.{refused, at-end, at-standing, at-rules, at-telling, err-named, sets-after}
+use Rattle.h264_verify.proofs.Slicing.{some-of, refused, at-end, at-standing, at-rules, at-telling, err-named, sets-after}
 use Rattle.h264_verify.proofs.Entering.{begins-as, slice-keeps}
 use Rattle.h264_verify.proofs.slices.judge_slice.Goals as goal
 
@@ -22,8 +21,9 @@ returns-in_err-check_standing-clause-plays g c =
     rw (p.1, p.2) (λ before k m.
     let b = begins-as before c.args.header.now c.args.slices.now _ k c.begins-begins.ensures in
     let kept = c.in_ok-end_if.ensures.ended before k in
-    let broken = rw c.from-bit.ensures.value at c.in_err-check_standing.ensures.judged in
-    refused g.S.Elements.took g.S.Elements.failures (slice_steps before c.args.unit.now c.args.header.now) _ _ (at-standing before c.args.unit.now c.args.header.now c.begins-begins.result b _ (c.in_ok-end_if.ensures.judged before k) _ c.args.sets.now kept.due m _ refl _ broken) (err-named (standing_demands c.begins-begins.result (sets_of c.args.sets.now c.args.header.now.pic_parameter_set_id.value) c.end_if.new.slices.due c.args.sets.now (8 * c.args.unit.now.from) c.args.header.now) _ (sym broken)))
+    let some = some-of _ c.requires.named in
+    let broken = rw c.from-bit.ensures.value at (c.in_err-check_standing.ensures.judged some.0 some.1) in
+    refused g.S.Elements.took g.S.Elements.failures (slice_steps before c.args.unit.now c.args.header.now) _ _ (at-standing before c.args.unit.now c.args.header.now c.begins-begins.result b _ (c.in_ok-end_if.ensures.judged before k) _ c.args.sets.now kept.due m some.0 some.1 _ broken) (err-named (standing_demands c.begins-begins.result some.0.1 c.end_if.new.slices.due c.args.sets.now (8 * c.args.unit.now.from) c.args.header.now) _ (sym broken)))
 
 pub returns-in_err-check_rules-clause-plays : goal.returns-in_err-check_rules-clause-plays
 returns-in_err-check_rules-clause-plays g c =
@@ -31,8 +31,8 @@ returns-in_err-check_rules-clause-plays g c =
     rw (p.1, p.2) (λ before k m.
     let b = begins-as before c.args.header.now c.args.slices.now _ k c.begins-begins.ensures in
     let kept = c.in_ok-end_if.ensures.ended before k in
-    let stands = rw c.from-bit.ensures.value at c.in_ok-check_standing.ensures.judged in
     let named = sets-after c.args.sets.now _ c.args.header.now _ c.in_ok-check_standing.ensures.activated c.in-Some.ensures.some in
+    let stands = rw c.from-bit.ensures.value at (c.in_ok-check_standing.ensures.judged _ named) in
     let broken = c.in_err-check_rules.ensures.judged before c.args.unit.now (ap (λ x. 8 * x) c.from-bit.ensures.value) kept b in
     refused g.S.Elements.took g.S.Elements.failures (slice_steps before c.args.unit.now c.args.header.now) _ _ (at-rules before c.args.unit.now c.args.header.now c.begins-begins.result b _ (c.in_ok-end_if.ensures.judged before k) _ c.args.sets.now kept.due m _ named _ stands _ broken) (err-named (slice_rules c.begins-begins.result (runs_of before) (with_sets c.args.unit.now c.args.header.now [] (c.in-Some.named.0.now, c.in-Some.named.1.now))) _ (sym broken)))
 
@@ -42,8 +42,8 @@ returns-in_err-tell_slice-clause-plays g c =
     rw (p.1, p.2) (λ before k m.
     let b = begins-as before c.args.header.now c.args.slices.now _ k c.begins-begins.ensures in
     let kept = c.in_ok-end_if.ensures.ended before k in
-    let stands = rw c.from-bit.ensures.value at c.in_ok-check_standing.ensures.judged in
     let named = sets-after c.args.sets.now _ c.args.header.now _ c.in_ok-check_standing.ensures.activated c.in-Some.ensures.some in
+    let stands = rw c.from-bit.ensures.value at (c.in_ok-check_standing.ensures.judged _ named) in
     let met = c.in_ok-check_rules.ensures.judged before c.args.unit.now (ap (λ x. 8 * x) c.from-bit.ensures.value) kept b in
     let entered = c.in_ok-check_rules.ensures.entered before c.args.unit.now (ap (λ x. 8 * x) c.from-bit.ensures.value) kept b in
     rw (at-telling before c.args.unit.now c.args.header.now c.begins-begins.result b _ (c.in_ok-end_if.ensures.judged before k) _ c.args.sets.now kept.due m _ named _ stands _ met, ← entered.count, ← c.from.ensures.value) c.in_err-tell_slice.ensures.plays)
@@ -52,8 +52,8 @@ pub returns-clause-plays : goal.returns-clause-plays
 returns-clause-plays g c = λ before k m.
     let b = begins-as before c.args.header.now c.args.slices.now _ k c.begins-begins.ensures in
     let kept = c.in_ok-end_if.ensures.ended before k in
-    let stands = rw c.from-bit.ensures.value at c.in_ok-check_standing.ensures.judged in
     let named = sets-after c.args.sets.now _ c.args.header.now _ c.in_ok-check_standing.ensures.activated c.in-Some.ensures.some in
+    let stands = rw c.from-bit.ensures.value at (c.in_ok-check_standing.ensures.judged _ named) in
     let met = c.in_ok-check_rules.ensures.judged before c.args.unit.now (ap (λ x. 8 * x) c.from-bit.ensures.value) kept b in
     let entered = c.in_ok-check_rules.ensures.entered before c.args.unit.now (ap (λ x. 8 * x) c.from-bit.ensures.value) kept b in
     rw (at-telling before c.args.unit.now c.args.header.now c.begins-begins.result b _ (c.in_ok-end_if.ensures.judged before k) _ c.args.sets.now kept.due m _ named _ stands _ met, ← entered.count, ← c.from.ensures.value) c.in_ok-tell_slice.ensures.plays
