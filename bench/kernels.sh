@@ -1,21 +1,26 @@
 #!/usr/bin/env bash
-# kernels.sh [RUNS]: times inter prediction (h264_inter) and the filter of edges (h264_deblock) beside the same algorithms in plain Rust at -O3,
-# for the same processor, in alternating runs, and prints the best time of each kernel, the ratio, and whether both wrote the same samples.
-# The program that calls our kernels (kernels/main.rt.txt) is no crate of the repository: it is proved and built in a throwaway copy.
+# kernels.sh [RUNS]: times inter prediction (h264_inter), the filter of edges (h264_deblock), residuals (h264_scale) and blocks of levels
+# (h264_cavlc) beside their plain forms (sample by sample, element by element) in Rust at -O3, for the same processor, in alternating runs, and prints
+# the best time of each kernel, the ratio, and whether both gave the same numbers.
+# The program that calls our kernels (kernels/*.rt.txt) is no crate of the repository: it is proved and built in a throwaway copy.
 set -eu
 top=$(cd "$(dirname "$0")/.." && pwd)
 work=$(mktemp -d)
 trap 'rm -rf "$work"' EXIT
 mkdir -p "$work/crates/kernels/src"
-for crate in h264_base h264_tables h264_plane h264_inter h264_deblock; do
+for crate in h264_base h264_units h264_tables h264_rbsp h264_bits h264_cavlc h264_write h264_plane h264_scale h264_inter h264_deblock; do
     cp -r "$top/crates/$crate" "$work/crates/"
     rm -rf "$work/crates/$crate/must-fail"
     grep "^$crate:" "$top/crates.txt" >> "$work/crates.txt"
 done
-echo "kernels: h264_plane h264_tables h264_inter h264_deblock" >> "$work/crates.txt"
-cp "$top/bench/kernels/main.rt.txt" "$work/crates/kernels/src/main.rt"
+echo "kernels: h264_base h264_units h264_tables h264_rbsp h264_bits h264_cavlc h264_write h264_plane h264_scale h264_inter h264_deblock" >> "$work/crates.txt"
+for module in main blocks; do
+    cp "$top/bench/kernels/$module.rt.txt" "$work/crates/kernels/src/$module.rt"
+done
 (cd "$work/crates/kernels" && rt run > /dev/null)
-rustc -C opt-level=3 -C target-cpu=x86-64-v2 "$top/bench/kernels/kernels.rs" -o "$work/rust"
+cp "$top/bench/kernels/kernels.rs" "$top/bench/kernels/blocks.rs" "$work/"
+python3 "$top/bench/kernels/tables.py" "$top/crates/h264_tables" > "$work/tables.rs"
+rustc --edition 2021 -C opt-level=3 -C target-cpu=x86-64-v2 "$work/kernels.rs" -o "$work/rust"
 python3 - "$work/crates/kernels/out/kernels" "$work/rust" "${1:-5}" <<'PYTHON'
 import subprocess, sys
 
@@ -28,6 +33,6 @@ for _ in range(runs):
             best[i][name] = min(best[i].get(name, 10**12), int(time))
             sums[i][name] = digest
 for name, ours in best[0].items():
-    same = "the same samples" if sums[0][name] == sums[1][name] else "OTHER SAMPLES"
+    same = "the same numbers" if sums[0][name] == sums[1][name] else "OTHER NUMBERS"
     print(f"{name:18} ours {ours:7} us, Rust {best[1][name]:7} us, ratio {ours / best[1][name]:.2f}, {same}")
 PYTHON

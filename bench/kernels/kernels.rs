@@ -1,5 +1,9 @@
-// The kernels of main.rt, the same algorithms in plain Rust, with the same digests. rustc -C opt-level=3 -C target-cpu=x86-64-v2 kernels.rs
+// The kernels of main.rt in plain Rust, sample by sample, with the same digests. rustc --edition 2021 -C opt-level=3 -C target-cpu=x86-64-v2 kernels.rs
 use std::time::Instant;
+
+mod blocks;
+#[allow(dead_code)]
+mod tables;
 
 struct Plane {
     width: usize,
@@ -444,6 +448,7 @@ fn interpolated<const N: usize>(plane: &Plane, out: &mut [u8], call: impl Fn(&Pl
 }
 
 fn main() {
+    blocks::all();
     let mut plane = Plane::new(1920, 1088);
     fill(&mut plane);
     let mut out = [0u8; 256];

@@ -8,6 +8,8 @@ pub enum Mode {
     Units,
     /// These, and slice headers with the order of frames that they give.
     Headers,
+    /// These, and slice data.
+    Full,
 }
 
 /// The kind of decoder that the stream has to suit.

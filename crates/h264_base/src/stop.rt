@@ -13,7 +13,7 @@ pub enum Feature {
     UnitTooLong,
     /// An input of more than 2^40 bytes.
     InputTooLong,
-    /// What is read and not judged yet. It stands nowhere in the modes that there are.
+    /// The end of a picture whose slice data are read: its samples, and what comes behind them, are not judged yet.
     Pending,
 }
 

@@ -1,4 +1,5 @@
 pub mod Peeks
+pub mod Upcomings
 pub mod Clear
 pub mod Readings
 pub mod Tables

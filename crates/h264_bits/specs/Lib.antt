@@ -1,4 +1,5 @@
 pub mod Peek
+pub mod Upcoming
 pub mod Taken
 pub mod Truncated
 pub mod Seen

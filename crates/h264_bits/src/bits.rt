@@ -1,23 +1,27 @@
 //! The bits of an RBSP, read one code word after another.
 #![tactic(auto)]
 
-ghost use Rattle.std.specs.Prelude.{◌≡◌, ℕ, ℤ, pos, neg_ℤ, ◌+◌, ◌-◌, ◌*◌, ◌<◌, ◌≤◌, ◌≤ℤ◌, ◌^◌, length, OnOk, OnErr, IfOk, Option, None};
+ghost use Rattle.std.specs.Prelude.{◌≡◌, ℕ, ℤ, pos, neg_ℤ, ◌+◌, ◌-◌, ◌*◌, ◌<◌, ◌≤◌, ◌≤ℤ◌, ◌^◌, length, OnOk, OnErr, IfOk, IfSome, Option, None};
 ghost use Rattle.std.specs.Option.{option_map};
 ghost use Rattle.h264_base.specs.Body.{Body, place};
 ghost use Rattle.h264_base.specs.Word.{Fixed, Unsigned, Signed, Words, Reads, no_zero_at, padding};
 ghost use Rattle.h264_base.specs.Grammar.{HasMore, IsClosed, IsPadded, bytes_at};
 ghost use Rattle.h264_base.specs.Meets.{Reader};
 ghost use Rattle.h264_bits.specs.Chunk.{IsSteady};
-ghost use Rattle.h264_bits.specs.Peek.{IsLastOne};
+ghost use Rattle.h264_bits.specs.Peek.{IsLastOne, peek_at};
 ghost use Rattle.h264_bits.specs.Taken.{HasNoWord};
 ghost use Rattle.h264_bits.specs.Truncated.{truncated};
+ghost use Rattle.h264_bits.specs.Upcoming.{IsUpcoming};
 ghost use Rattle.h264_tables.specs.Greatest.{greatest_value};
-ghost use Rattle.h264_tables.specs.Table.{code_table};
+ghost use Rattle.h264_tables.specs.Entry.{entry_of};
+ghost use Rattle.h264_tables.specs.Front.{front_of};
+ghost use Rattle.h264_tables.specs.Table.{code_table, rows_of};
 
 use crate::chunk::{CHUNK, shift_of};
 use crate::codes::{first_set, fixed, golomb, last_one, table_word};
+use crate::window::{Upcoming, behind, first_of, none_upcoming, refilled};
 use h264_rbsp::Rbsp;
-use h264_tables::Table;
+use h264_tables::{Entry, Table, lookup};
 use std::marker::Model;
 
 /// No word of the code stands there, or the RBSP ends in it.
@@ -33,6 +37,7 @@ pub struct Bits<'a> {
     at: usize,
     chunk: usize,
     shift: u64,
+    upcoming: Upcoming,
 }
 
 impl<'a> Model for Bits<'a> {
@@ -40,7 +45,7 @@ impl<'a> Model for Bits<'a> {
 
     ghost view = { λ r. record { body = r.rbsp.now; at = r.at } };
 
-    ghost invariant = { λ r. (r.bytes.now ≡ r.rbsp.now.bytes) × (r.at ≤ 8 * length r.bytes.now) × (length r.bytes.now ≤ 2 ^ 28) × IsLastOne r.bytes.now r.last_one × IsSteady r.rbsp.now r.chunk r.shift };
+    ghost invariant = { λ r. (r.bytes.now ≡ r.rbsp.now.bytes) × (r.at ≤ 8 * length r.bytes.now) × (length r.bytes.now ≤ 2 ^ 28) × IsLastOne r.bytes.now r.last_one × IsSteady r.rbsp.now r.chunk r.shift × IsUpcoming r.bytes.now r.at r.upcoming };
 }
 
 impl<'a> Bits<'a> {
@@ -57,6 +62,23 @@ impl<'a> Bits<'a> {
             at: 0,
             chunk: usize::MAX,
             shift: 0,
+            upcoming: none_upcoming(),
+        }
+    }
+
+    /// A reader of the same RBSP at the same bit. One that no reference leads to is read faster.
+    #[inline(always)]
+    pub fn again(&self) -> Bits<'a>
+        ensures { result ≡ self.now }
+    {
+        Bits {
+            rbsp: self.rbsp,
+            bytes: self.bytes,
+            last_one: self.last_one,
+            at: self.at,
+            chunk: self.chunk,
+            shift: self.shift,
+            upcoming: self.upcoming,
         }
     }
 
@@ -73,7 +95,7 @@ impl<'a> Bits<'a> {
     }
 
     /// The same, of the element that is read next. What it takes to find it is kept for those that follow.
-    #[inline]
+    #[inline(always)]
     pub(crate) fn element_bit(&mut self) -> u64
         ensures bit { result ≡ place self.old.body self.old.at }
         ensures kept { self.new ≡ self.old }
@@ -108,7 +130,7 @@ impl<'a> Bits<'a> {
     }
 
     /// Reads u(n): `n` bits as a number, the first the highest (7.2).
-    #[inline]
+    #[inline(always)]
     pub fn u_width(&mut self, n: u32) -> Result<u32, NoWord>
         requires { n ≤ 32 }
         ensures word { IfOk result (λ v. Reads (Fixed n) self.old.body.bytes self.old.at (pos v) self.new.at) }
@@ -117,9 +139,12 @@ impl<'a> Bits<'a> {
         ensures none { OnErr result (HasNoWord (Fixed n) self.old.body.bytes self.old.at) }
         ensures kept { OnErr result (self.new ≡ self.old) }
     {
-        let Some((value, next)) = fixed(self.bytes, self.at, n) else {
+        self.upcoming = refilled(self.upcoming, self.bytes, self.at, n);
+        let number = first_of(self.upcoming, n);
+        let Some((value, next)) = fixed(self.bytes, self.at, n, number) else {
             return Err(NoWord);
         };
+        self.upcoming = behind(self.upcoming, next - self.at);
         self.at = next;
         Ok(value)
     }
@@ -149,6 +174,7 @@ impl<'a> Bits<'a> {
         let Some((value, next)) = golomb(self.bytes, self.at) else {
             return Err(NoWord);
         };
+        self.upcoming = behind(self.upcoming, next - self.at);
         self.at = next;
         Ok(value)
     }
@@ -172,7 +198,7 @@ impl<'a> Bits<'a> {
     }
 
     /// Reads a word of a table, as ce(v) and me(v), as its value.
-    #[inline]
+    #[inline(always)]
     pub fn word(&mut self, table: Table) -> Result<u8, NoWord>
         ensures word { IfOk result (λ v. Reads (Words (code_table table)) self.old.body.bytes self.old.at (pos v) self.new.at) }
         ensures body { self.new.body ≡ self.old.body }
@@ -180,9 +206,35 @@ impl<'a> Bits<'a> {
         ensures none { OnErr result (HasNoWord (Words (code_table table)) self.old.body.bytes self.old.at) }
         ensures kept { OnErr result (self.new ≡ self.old) }
     {
-        let Some((value, next)) = table_word(self.bytes, self.at, table) else {
+        let front = self.next_16();
+        self.entry(table, lookup(table, front))
+    }
+
+    /// The next 16 bits, with zeros past the end of the RBSP.
+    #[inline(always)]
+    pub fn next_16(&mut self) -> u16
+        ensures value { result ≡ peek_at 16 self.old.body.bytes self.old.at }
+        ensures kept { self.new ≡ self.old }
+    {
+        self.upcoming = refilled(self.upcoming, self.bytes, self.at, 16);
+        first_of(self.upcoming, 16) as u16
+    }
+
+    /// Reads a word of a table, as `word`, which the next 16 bits were seen to begin with.
+    #[inline(always)]
+    pub fn entry(&mut self, table: Table, entry: Option<Entry>) -> Result<u8, NoWord>
+        requires word { entry ≡ option_map entry_of (front_of 16 (rows_of table) (peek_at 16 self.old.body.bytes self.old.at)) }
+        requires known { IfSome entry (λ e. e.value ≤ greatest_value table) }
+        ensures word { IfOk result (λ v. Reads (Words (code_table table)) self.old.body.bytes self.old.at (pos v) self.new.at) }
+        ensures body { self.new.body ≡ self.old.body }
+        ensures small { IfOk result (λ v. v ≤ greatest_value table) }
+        ensures none { OnErr result (HasNoWord (Words (code_table table)) self.old.body.bytes self.old.at) }
+        ensures kept { OnErr result (self.new ≡ self.old) }
+    {
+        let Some((value, next)) = table_word(self.bytes, self.at, table, entry) else {
             return Err(NoWord);
         };
+        self.upcoming = behind(self.upcoming, next - self.at);
         self.at = next;
         Ok(value)
     }
@@ -222,6 +274,7 @@ impl<'a> Bits<'a> {
         }
         let first = self.at / 8;
         let bytes = self.bytes;
+        self.upcoming = none_upcoming();
         self.at = next;
         Ok(&bytes[first..first + n])
     }
@@ -238,6 +291,7 @@ impl<'a> Bits<'a> {
     pub(crate) fn to_byte(&mut self)
         ensures { self.new ≡ record { body = self.old.body; at = self.old.at + padding self.old.at } }
     {
+        self.upcoming = none_upcoming();
         self.at += (8 - self.at % 8) % 8;
     }
 
@@ -266,6 +320,7 @@ impl<'a> Bits<'a> {
         if self.more() || self.at + 8 < end {
             return Err(NoWord);
         }
+        self.upcoming = none_upcoming();
         self.at = end;
         Ok(())
     }

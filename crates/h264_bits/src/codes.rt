@@ -3,20 +3,25 @@
 
 ghost use Rattle.std.specs.Prelude.{◌≡◌, ℕ, pos, ◌+◌, ◌-◌, ◌*◌, ◌%◌, ◌<◌, ◌≤◌, ◌^◌, length, IfSome};
 ghost use Rattle.h264_base.specs.Word.{Fixed, Unsigned, Words, no_zero_at, padding};
-ghost use Rattle.h264_bits.specs.Peek.{FindsBy, IsLastOne};
+ghost use Rattle.h264_bits.specs.Peek.{peek_at, FindsBy, IsLastOne};
 ghost use Rattle.h264_tables.specs.Greatest.{greatest_value};
-ghost use Rattle.h264_tables.specs.Table.{code_table};
+ghost use Rattle.std.specs.Option.{option_map};
+ghost use Rattle.h264_tables.specs.Entry.{entry_of};
+ghost use Rattle.h264_tables.specs.Front.{front_of};
+ghost use Rattle.h264_tables.specs.Table.{code_table, rows_of};
 
 use crate::window::window;
-use h264_tables::{Table, lookup};
+use h264_tables::{Entry, Table};
 
-/// The number of `n` bits at bit `i`, and the bit after them.
-#[inline]
-pub fn fixed(bytes: &[u8], i: usize, n: u32) -> Option<(u32, usize)>
+/// The number of `n` bits at bit `i`, which is given, and the bit after them.
+#[inline(always)]
+pub fn fixed(bytes: &[u8], i: usize, n: u32, number: u64) -> Option<(u32, usize)>
     requires width { n ≤ 32 }
+    requires number { number ≡ peek_at n bytes.now i }
     requires short { length bytes.now ≤ 2 ^ 28 }
     requires start { i ≤ 8 * length bytes.now }
     ensures value { FindsBy (λ v. pos v) (Fixed n) bytes.now i result }
+    ensures forward { IfSome result (λ p. i ≤ p.1) }
     ensures small { IfSome result (λ p. p.0 < 2 ^ n) }
     ensures inside { IfSome result (λ p. p.1 ≤ 8 * length bytes.now) }
 {
@@ -24,7 +29,7 @@ pub fn fixed(bytes: &[u8], i: usize, n: u32) -> Option<(u32, usize)>
     if next > 8 * bytes.len() {
         return None;
     }
-    Some(((window(bytes, i) >> (57 - n)) as u32, next))
+    Some((number as u32, next))
 }
 
 /// An Exp-Golomb word of more than 28 zeros at bit `i`: its codeNum, and the bit after it.
@@ -33,6 +38,7 @@ fn golomb_long(bytes: &[u8], i: usize) -> Option<(u32, usize)>
     requires short { length bytes.now ≤ 2 ^ 28 }
     requires start { i ≤ 8 * length bytes.now }
     ensures value { FindsBy (λ v. pos v) Unsigned bytes.now i result }
+    ensures forward { IfSome result (λ p. i ≤ p.1) }
     ensures small { IfSome result (λ p. p.0 < 2 ^ 32 - 1) }
     ensures inside { IfSome result (λ p. p.1 ≤ 8 * length bytes.now) }
 {
@@ -54,6 +60,7 @@ pub fn golomb(bytes: &[u8], i: usize) -> Option<(u32, usize)>
     requires short { length bytes.now ≤ 2 ^ 28 }
     requires start { i ≤ 8 * length bytes.now }
     ensures value { FindsBy (λ v. pos v) Unsigned bytes.now i result }
+    ensures forward { IfSome result (λ p. i ≤ p.1) }
     ensures small { IfSome result (λ p. p.0 < 2 ^ 32 - 1) }
     ensures inside { IfSome result (λ p. p.1 ≤ 8 * length bytes.now) }
 {
@@ -69,16 +76,19 @@ pub fn golomb(bytes: &[u8], i: usize) -> Option<(u32, usize)>
     Some((((bits >> (56 - 2 * zeros)) - 1) as u32, next))
 }
 
-/// A word of the table at bit `i`: its value, and the bit after it.
-#[inline]
-pub fn table_word(bytes: &[u8], i: usize, table: Table) -> Option<(u8, usize)>
+/// A word of the table at bit `i`, which was looked up: its value, and the bit after it.
+#[inline(always)]
+pub fn table_word(bytes: &[u8], i: usize, table: Table, entry: Option<Entry>) -> Option<(u8, usize)>
+    requires word { entry ≡ option_map entry_of (front_of 16 (rows_of table) (peek_at 16 bytes.now i)) }
+    requires known { IfSome entry (λ e. e.value ≤ greatest_value table) }
     requires short { length bytes.now ≤ 2 ^ 28 }
     requires start { i ≤ 8 * length bytes.now }
     ensures value { FindsBy (λ v. pos v) (Words (code_table table)) bytes.now i result }
+    ensures forward { IfSome result (λ p. i ≤ p.1) }
     ensures small { IfSome result (λ p. p.0 ≤ greatest_value table) }
     ensures inside { IfSome result (λ p. p.1 ≤ 8 * length bytes.now) }
 {
-    let entry = lookup(table, (window(bytes, i) >> 41) as u16)?;
+    let entry = entry?;
     let next = i + entry.length as usize;
     if next > 8 * bytes.len() {
         return None;

@@ -1,19 +1,23 @@
 //! Syntax elements, each read and told to a sink (7.2, 7.3).
 #![tactic(auto)]
 
-ghost use Rattle.std.specs.Prelude.{◌≡◌, ℕ, ℤ, pos, neg_ℤ, ◌-◌, ◌<◌, ◌≤◌, ◌≤ℤ◌, ◌^◌, length, OnOk, IfOk, Ok};
+ghost use Rattle.std.specs.Prelude.{◌≡◌, ℕ, ℤ, pos, neg_ℤ, ◌-◌, ◌<◌, ◌≤◌, ◌≤ℤ◌, ◌^◌, length, OnOk, IfOk, IfSome, Option, Ok};
 ghost use Rattle.h264_base.specs.Word.{Fixed, Unsigned, Signed, Words};
 ghost use Rattle.h264_base.specs.Grammar.{read_word as word_form, element, residual_element, more, align, raw_bytes, trailing};
 ghost use Rattle.h264_base.specs.Meets.{Meets, Is, Checks};
+ghost use Rattle.std.specs.Option.{option_map};
+ghost use Rattle.h264_bits.specs.Peek.{peek_at};
 ghost use Rattle.h264_bits.specs.Seen.{seen_unsigned, seen_signed, seen_flag, seen_ahead};
 ghost use Rattle.h264_bits.specs.Supports.{Supports};
 ghost use Rattle.h264_bits.specs.Truncated.{truncated};
 ghost use Rattle.h264_tables.specs.Greatest.{greatest_value};
-ghost use Rattle.h264_tables.specs.Table.{code_table};
+ghost use Rattle.h264_tables.specs.Entry.{entry_of};
+ghost use Rattle.h264_tables.specs.Front.{front_of};
+ghost use Rattle.h264_tables.specs.Table.{code_table, rows_of};
 
 use crate::bits::{Bits, NoWord};
 use h264_base::{ElementName, Elements, Feature, Rule, Stop};
-use h264_tables::Table;
+use h264_tables::{Entry, Table};
 
 /// An element that was read.
 #[derive(Clone, Copy, Debug, PartialEq, Eq)]
@@ -34,7 +38,7 @@ pub struct Ahead {
 }
 
 /// Names a rule at a stream bit where it does not hold.
-#[inline]
+#[inline(always)]
 pub fn check(holds: bool, rule: Rule, bit: u64) -> Result<(), Stop>
     ensures { Checks rule bit holds result }
 {
@@ -58,7 +62,7 @@ pub fn support(holds: bool, feature: Feature, bit: u64) -> Result<(), Stop>
 }
 
 /// Reads an element in u(`n`), and names the rule where its word is missing.
-#[inline]
+#[inline(always)]
 fn read_fixed<S: Elements>(
     bits: &mut Bits,
     rule: Rule,
@@ -100,7 +104,7 @@ pub fn read_bits<S: Elements>(
 }
 
 /// Reads an element of a residual block in u(`n`). A missing word is ResidualWord.
-#[inline]
+#[inline(always)]
 pub fn read_residual_bits<S: Elements>(
     bits: &mut Bits,
     name: ElementName,
@@ -239,7 +243,7 @@ pub fn read_te<S: Elements>(
 
 /// Reads an element by a table of words: me(v) with CodeWord for a missing word, ce(v) of a residual block with ResidualWord.
 /// What it tells the sink and gives is the word's value.
-#[inline]
+#[inline(always)]
 pub fn read_word<S: Elements>(
     bits: &mut Bits,
     rule: Rule,
@@ -254,6 +258,33 @@ pub fn read_word<S: Elements>(
 {
     let bit = bits.element_bit();
     let Ok(value) = bits.word(table) else {
+        return Err(Stop::No { bit, rule });
+    };
+    match sink.element(name, bit, value as i64) {
+        Ok(()) => Ok(Found { bit, value }),
+        Err(_) => Err(Stop::Write),
+    }
+}
+
+/// Reads an element by a table of words, as `read_word`, of which the word was looked up in the next 16 bits.
+#[inline(always)]
+pub fn read_entry<S: Elements>(
+    bits: &mut Bits,
+    rule: Rule,
+    name: ElementName,
+    table: Table,
+    entry: Option<Entry>,
+    sink: &mut S,
+) -> Result<Found<u8>, Stop>
+    requires word { entry ≡ option_map entry_of (front_of 16 (rows_of table) (peek_at 16 bits.old.body.bytes bits.old.at)) }
+    requires known { IfSome entry (λ e. e.value ≤ greatest_value table) }
+    requires room { S.failures sink.old < 2 ^ 64 - 1 }
+    ensures meets { Meets S.took S.failures (Is seen_unsigned) (word_form rule name (Words (code_table table))) bits.old bits.new sink.old sink.new result }
+    ensures small { IfOk result (λ f. f.value ≤ greatest_value table) }
+    ensures quiet { OnOk result (S.failures sink.new ≡ S.failures sink.old) }
+{
+    let bit = bits.element_bit();
+    let Ok(value) = bits.entry(table, entry) else {
         return Err(Stop::No { bit, rule });
     };
     match sink.element(name, bit, value as i64) {

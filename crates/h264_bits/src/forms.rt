@@ -3,7 +3,7 @@
 //! Each reads one element, tells it to the sink, and answers its value, or the rule that it breaks at its first bit.
 #![tactic(auto)]
 
-ghost use Rattle.std.specs.Prelude.{◌≡◌, ℕ, ◌-◌, ◌<◌, ◌≤◌, ◌^◌, IfOk};
+ghost use Rattle.std.specs.Prelude.{◌≡◌, ℕ, ◌-◌, ◌<◌, ◌≤◌, ◌≤ℤ◌, ◌^◌, IfOk};
 ghost use Rattle.h264_base.specs.Meets.{Meets, Is};
 ghost use Rattle.h264_bits.specs.Forms.{bits as bits_form, unsigned, flag, unsigned_to, signed, signed_within, bits_must_be, unsigned_must_be_0};
 
@@ -81,7 +81,9 @@ pub fn se_within<S: Elements>(
     sink: &mut S,
 ) -> Result<i32, Stop>
     requires { S.failures sink.old < 2 ^ 64 - 1 }
-    ensures { Meets S.took S.failures (Is (λ x. x)) (signed_within name min max) bits.old bits.new sink.old sink.new result }
+    ensures meets { Meets S.took S.failures (Is (λ x. x)) (signed_within name min max) bits.old bits.new sink.old sink.new result }
+    ensures low { IfOk result (λ v. min ≤ℤ v) }
+    ensures high { IfOk result (λ v. v ≤ℤ max) }
 {
     let found = read_se(bits, name, sink)?;
     check(min <= found.value, Rule::Range, found.bit)?;

@@ -1,8 +1,9 @@
 //! The bits of a place as one number.
 #![tactic(auto)]
 
-ghost use Rattle.std.specs.Prelude.{◌≡◌, ◌*◌, ◌<◌, ◌^◌};
+ghost use Rattle.std.specs.Prelude.{◌≡◌, ℕ, ◌+◌, ◌-◌, ◌*◌, ◌/◌, ◌<◌, ◌≤◌, ◌^◌, List};
 ghost use Rattle.h264_bits.specs.Peek.{peek_at};
+ghost use Rattle.h264_bits.specs.Upcoming.{IsUpcoming};
 
 /// The 64 bits from byte `k` on, near the end of the bytes.
 #[cold]
@@ -47,4 +48,65 @@ pub fn window(bytes: &[u8], i: usize) -> u64
     ensures { result ≡ peek_at 57 bytes.now i }
 {
     (load(bytes, i / 8) << (i % 8)) >> 7
+}
+
+/// The bits that come next, as far as they were loaded: so many, in the highest places of the number.
+#[derive(Clone, Copy)]
+pub struct Upcoming {
+    pub number: u64,
+    pub count: u32,
+}
+
+/// None of them.
+#[inline(always)]
+pub fn none_upcoming() -> Upcoming
+    ensures { (bytes : List ℕ) (i : ℕ) → IsUpcoming bytes i result }
+{
+    Upcoming {
+        number: 0,
+        count: 0,
+    }
+}
+
+/// At least `n` bits from bit `i` on.
+#[inline(always)]
+pub fn refilled(k: Upcoming, bytes: &[u8], i: usize, n: u32) -> Upcoming
+    requires few { n ≤ 57 }
+    requires place { i < 2 ^ 35 }
+    requires before { IsUpcoming bytes.now i k }
+    ensures after { IsUpcoming bytes.now i result }
+    ensures enough { n ≤ result.count }
+{
+    if k.count >= n {
+        return k;
+    }
+    Upcoming {
+        number: load(bytes, i / 8) << (i % 8),
+        count: 64 - (i % 8) as u32,
+    }
+}
+
+/// The first `n` of the bits as a number.
+#[inline(always)]
+pub fn first_of(k: Upcoming, n: u32) -> u64
+    requires { n ≤ 57 }
+    ensures { result ≡ k.number / 2 ^ (64 - n) }
+{
+    (k.number >> 1) >> (63 - n)
+}
+
+/// Those behind the first `n` bits.
+#[inline(always)]
+pub fn behind(k: Upcoming, n: usize) -> Upcoming
+    requires { k.count ≤ 64 }
+    ensures { (bytes : List ℕ) (i : ℕ) → IsUpcoming bytes i k → IsUpcoming bytes (i + n) result }
+{
+    if n < k.count as usize {
+        Upcoming {
+            number: k.number << n,
+            count: k.count - n as u32,
+        }
+    } else {
+        none_upcoming()
+    }
 }

@@ -6,3 +6,4 @@ pub mod Gives
 pub mod Counts
 pub mod Ends
 pub mod Handed
+pub mod ShortWords

@@ -12,7 +12,7 @@ use h264_tables::Table;
 
 /// suffixLength of the first level.
 #[tactic(auto, unfolding(crate::specs::Level::first_suffix_length))]
-#[inline]
+#[inline(always)]
 fn first_suffix_length(token: Token) -> u32
     ensures length { result ≡ syntax.first_suffix_length token }
     ensures short { result ≤ 6 }
@@ -26,7 +26,7 @@ fn first_suffix_length(token: Token) -> u32
 
 /// suffixLength of the level behind this one.
 #[tactic(auto, unfolding(crate::specs::Level::next_suffix_length))]
-#[inline]
+#[inline(always)]
 fn next_suffix_length(suffix_length: u32, level: i16) -> u32
     requires { suffix_length ≤ 6 }
     ensures length { result ≡ syntax.next_suffix_length suffix_length level }
@@ -42,7 +42,7 @@ fn next_suffix_length(suffix_length: u32, level: i16) -> u32
 
 /// How many bits level_suffix has.
 #[tactic(auto, unfolding(crate::specs::Level::suffix_size))]
-#[inline]
+#[inline(always)]
 fn suffix_size(prefix: u32, suffix_length: u32) -> u32
     requires { suffix_length ≤ 6 }
     ensures size { result ≡ syntax.suffix_size prefix suffix_length }
@@ -59,7 +59,7 @@ fn suffix_size(prefix: u32, suffix_length: u32) -> u32
 
 /// levelCode.
 #[tactic(auto, unfolding(crate::specs::Level::level_code))]
-#[inline]
+#[inline(always)]
 fn level_code(prefix: u32, suffix_length: u32, suffix: u32, never_one: bool) -> u32
     requires prefix { prefix ≤ 15 }
     requires length { suffix_length ≤ 6 }
@@ -78,20 +78,17 @@ fn level_code(prefix: u32, suffix_length: u32, suffix: u32, never_one: bool) -> 
 
 /// The level that levelCode stands for.
 #[tactic(auto, unfolding(crate::specs::Level::level_value))]
-#[inline]
+#[inline(always)]
 fn level_value(code: u32) -> i16
     requires { code < 8192 }
     ensures { result ≡ syntax.level_value code }
 {
-    if code % 2 == 0 {
-        ((code + 2) / 2) as i16
-    } else {
-        -(((code + 1) / 2) as i16)
-    }
+    let size = (code / 2 + 1) as i16;
+    if code % 2 == 0 { size } else { -size }
 }
 
 /// Reads level_suffix of `size` bits.
-#[inline]
+#[inline(always)]
 fn read_level_suffix<S: Elements>(bits: &mut Bits, size: u32, sink: &mut S) -> Result<u32, Stop>
     requires few { size ≤ 12 }
     requires room { S.failures sink.old < 2 ^ 64 - 1 }
@@ -106,7 +103,7 @@ fn read_level_suffix<S: Elements>(bits: &mut Bits, size: u32, sink: &mut S) -> R
 }
 
 /// Reads a level.
-#[inline]
+#[inline(always)]
 fn read_level<S: Elements>(
     bits: &mut Bits,
     suffix_length: u32,
@@ -133,7 +130,7 @@ fn read_level<S: Elements>(
 
 /// Whether level `k` is the first behind fewer than three trailing ones.
 #[tactic(auto, unfolding(crate::specs::Level::is_never_one))]
-#[inline]
+#[inline(always)]
 fn is_never_one(ones: u8, k: u8) -> bool
     ensures { result ≡ syntax.is_never_one ones k }
 {
@@ -141,7 +138,7 @@ fn is_never_one(ones: u8, k: u8) -> bool
 }
 
 /// Reads the levels behind the trailing ones.
-#[inline]
+#[inline(always)]
 pub(crate) fn read_more_levels<S: Elements>(
     bits: &mut Bits,
     token: Token,

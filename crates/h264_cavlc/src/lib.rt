@@ -9,6 +9,7 @@
 
 mod level;
 pub mod residual;
+mod runs;
 #[cfg(test)]
 mod tests;
 mod token;

@@ -20,22 +20,26 @@ pub struct Levels<const N: usize> {
     pub total: u8,
 }
 
-/// The levels, the first at the highest place.
-#[inline]
-fn read_levels<S: Elements>(bits: &mut Bits, token: Token, sink: &mut S) -> Result<[i16; 16], Stop>
+/// Reads the levels, the first at the highest place, into the first places of `levels`.
+#[inline(always)]
+fn read_levels<S: Elements>(
+    bits: &mut Bits,
+    token: Token,
+    levels: &mut [i16; 16],
+    sink: &mut S,
+) -> Result<(), Stop>
     requires few { token.total ≤ 16 }
     requires within { token.ones ≤ token.total }
     requires room { S.failures sink.old < 2 ^ 64 - 1 }
-    ensures { Meets S.took S.failures (λ x l. l ≡ take token.total x) (all_levels token) bits.old bits.new sink.old sink.new result }
+    ensures { Meets S.took S.failures (λ _ l. l ≡ take token.total levels.new) (all_levels token) bits.old bits.new sink.old sink.new result }
 {
-    let mut levels = [0i16; 16];
-    read_trailing_ones(bits, usize::from(token.ones), &mut levels, sink)?;
-    read_more_levels(bits, token, &mut levels, sink)?;
-    Ok(levels)
+    read_trailing_ones(bits, usize::from(token.ones), levels, sink)?;
+    read_more_levels(bits, token, levels, sink)?;
+    Ok(())
 }
 
 /// What follows the token of a block that has coefficients.
-#[inline]
+#[inline(always)]
 fn read_coefficients<const N: usize, S: Elements>(
     bits: &mut Bits,
     token: Token,
@@ -52,10 +56,38 @@ fn read_coefficients<const N: usize, S: Elements>(
     ensures inside { bits.old.at ≤ 8 * length bits.old.body.bytes → OnOk result (bits.new.at ≤ 8 * length bits.new.body.bytes) }
     ensures quiet { OnOk result (S.failures sink.new ≡ S.failures sink.old) }
 {
-    let levels = read_levels(bits, token, sink)?;
+    let mut levels = [0i16; 16];
+    read_levels(bits, token, &mut levels, sink)?;
     let zeros = read_total_zeros(bits, N, token.total, sink)?;
     read_places::<N, S>(bits, &levels, token.total, zeros, by_place, sink)?;
     Ok(())
+}
+
+/// The same as `block_into`.
+#[inline(always)]
+fn read_block<const N: usize, S: Elements>(
+    bits: &mut Bits,
+    nc: u8,
+    by_place: &mut [i16; N],
+    sink: &mut S,
+) -> Result<u8, Stop>
+    requires size { N ≤ 16 }
+    requires room { S.failures sink.old < 2 ^ 64 - 1 }
+    ensures meets { Meets S.took S.failures (Is (λ total. record { by_place = by_place.new; total = total })) (residual_block N nc) bits.old bits.new sink.old sink.new result }
+    ensures total { IfOk result (λ total. total ≤ N) }
+    ensures nonzero { IfOk result (λ total. nonzero_count by_place.new ≡ total) }
+    ensures none { IfOk result (λ total. total ≡ 0 → by_place.new ≡ replicate N (pos 0)) }
+    ensures inside { OnOk result (bits.new.at ≤ 8 * length bits.new.body.bytes) }
+    ensures quiet { OnOk result (S.failures sink.new ≡ S.failures sink.old) }
+{
+    let token = read_token(bits, N, nc, sink)?;
+    if token.total == 0 {
+        let none = [0i16; N];
+        *by_place = none;
+        return Ok(0);
+    }
+    read_coefficients::<N, S>(bits, token, by_place, sink)?;
+    Ok(token.total)
 }
 
 /// Reads a residual block of `N` coefficients: 16, 15 or 4. A block of 4 is chroma DC, and has the table of these whatever `nc` is;
@@ -81,14 +113,10 @@ pub fn block_into<const N: usize, S: Elements>(
     ensures inside { OnOk result (bits.new.at ≤ 8 * length bits.new.body.bytes) }
     ensures quiet { OnOk result (S.failures sink.new ≡ S.failures sink.old) }
 {
-    let token = read_token(bits, N, nc, sink)?;
-    if token.total == 0 {
-        let none = [0i16; N];
-        *by_place = none;
-        return Ok(0);
-    }
-    read_coefficients::<N, S>(bits, token, by_place, sink)?;
-    Ok(token.total)
+    let mut near = bits.again();
+    let total = read_block::<N, S>(&mut near, nc, by_place, sink);
+    *bits = near;
+    total
 }
 
 /// The same as `block_into`, with the levels in the answer.

@@ -21,7 +21,7 @@ pub struct Token {
 
 /// The table of coeff_token.
 #[tactic(auto, unfolding(crate::specs::Token::coeff_token_table))]
-#[inline]
+#[inline(always)]
 fn coeff_token_table(size: usize, nc: u8) -> Table
     ensures { result ≡ syntax.coeff_token_table size nc }
 {
@@ -33,7 +33,7 @@ fn coeff_token_table(size: usize, nc: u8) -> Table
 }
 
 /// Reads coeff_token of a block of `size` coefficients.
-#[inline]
+#[inline(always)]
 pub(crate) fn read_token<S: Elements>(
     bits: &mut Bits,
     size: usize,
@@ -64,7 +64,7 @@ pub(crate) fn read_token<S: Elements>(
 }
 
 /// Reads the sign of a trailing one: its level.
-#[inline]
+#[inline(always)]
 fn read_trailing_one<S: Elements>(bits: &mut Bits, sink: &mut S) -> Result<i16, Stop>
     requires { S.failures sink.old < 2 ^ 64 - 1 }
     ensures { Meets S.took S.failures (Is (λ x. x)) syntax.trailing_one bits.old bits.new sink.old sink.new result }
@@ -74,7 +74,7 @@ fn read_trailing_one<S: Elements>(bits: &mut Bits, sink: &mut S) -> Result<i16, 
 }
 
 /// Reads the trailing ones into the first places of `levels`.
-#[inline]
+#[inline(always)]
 pub(crate) fn read_trailing_ones<S: Elements>(
     bits: &mut Bits,
     ones: usize,

@@ -6,13 +6,14 @@ ghost use Rattle.h264_base.specs.Meets.{Meets, Is};
 ghost use Rattle.h264_cavlc.specs.Zeros as syntax;
 ghost use Rattle.h264_cavlc.specs.Place.{by_place as standing};
 
+use crate::runs::run_before_word;
 use h264_base::{ElementName, Elements, Rule, Stop};
-use h264_bits::{Bits, check, read_word};
+use h264_bits::{Bits, check, read_entry, read_word};
 use h264_tables::Table;
 
 /// The table of total_zeros.
 #[tactic(auto, unfolding(crate::specs::Zeros::total_zeros_table))]
-#[inline]
+#[inline(always)]
 fn total_zeros_table(size: usize, total: u8) -> Table
     requires some { 0 < total }
     requires less { total < size }
@@ -27,7 +28,7 @@ fn total_zeros_table(size: usize, total: u8) -> Table
 }
 
 /// Reads total_zeros of a block that has `total` coefficients.
-#[inline]
+#[inline(always)]
 pub(crate) fn read_total_zeros<S: Elements>(
     bits: &mut Bits,
     size: usize,
@@ -63,7 +64,7 @@ pub(crate) fn read_total_zeros<S: Elements>(
 
 /// The table of run_before.
 #[tactic(auto, unfolding(crate::specs::Zeros::run_before_table))]
-#[inline]
+#[inline(always)]
 fn run_before_table(zeros_left: u8) -> Table
     requires { 0 < zeros_left }
     ensures { result ≡ syntax.run_before_table zeros_left }
@@ -72,7 +73,7 @@ fn run_before_table(zeros_left: u8) -> Table
 }
 
 /// Reads run_before.
-#[inline]
+#[inline(always)]
 fn read_run_before<S: Elements>(bits: &mut Bits, zeros_left: u8, sink: &mut S) -> Result<u8, Stop>
     requires { S.failures sink.old < 2 ^ 64 - 1 }
     ensures meets { Meets S.took S.failures (Is (λ x. x)) (syntax.run_before zeros_left) bits.old bits.new sink.old sink.new result }
@@ -82,11 +83,13 @@ fn read_run_before<S: Elements>(bits: &mut Bits, zeros_left: u8, sink: &mut S) -
         return Ok(0);
     }
     let table = run_before_table(zeros_left);
-    let found = read_word(
+    let entry = run_before_word(zeros_left, bits.next_16());
+    let found = read_entry(
         bits,
         Rule::ResidualWord,
         ElementName::RunBefore,
         table,
+        entry,
         sink,
     )?;
     let run = found.value;
@@ -95,7 +98,7 @@ fn read_run_before<S: Elements>(bits: &mut Bits, zeros_left: u8, sink: &mut S) -
 }
 
 /// Reads the runs, and puts the first `total` of `levels` to their places, and 0 to all others.
-#[inline]
+#[inline(always)]
 pub(crate) fn read_places<const N: usize, S: Elements>(
     bits: &mut Bits,
     levels: &[i16; 16],

@@ -1,8 +1,7 @@
 ghost use Rattle.std.specs.Prelude.{◌≡◌, ℕ, ◌+◌, ◌-◌, ◌*◌, ◌/◌, ◌%◌, ◌<◌, ◌≤◌, length, slice_index, get_or, true};
 ghost use Rattle.h264_plane.specs.Samples.{at, look};
-ghost use Rattle.h264_deblock.specs.Edge.{taps, IsLinePut};
+ghost use Rattle.h264_deblock.specs.Edge.{taps};
 ghost use Rattle.h264_deblock.specs.Rows.{line_of, HasLine, AreWritten};
-ghost use Rattle.h264_deblock.specs.declared.line.Line.{Line};
 
 use crate::rows::Rows;
 use h264_plane::Plane;
@@ -155,46 +154,35 @@ fn put_sixteen(samples: &mut [u8; 128], place: usize, row: &[u8; 16])
     samples[place..place + 16].copy_from_slice(row);
 }
 
-/// The samples of the lines, eight to a line, but for p3 and q3.
+/// The samples of the lines, eight to a line.
 #[inline(always)]
 fn line_by_line(r: &Rows) -> [u8; 128]
     ensures { (n : ℕ) → n < 16 → HasLine result (8 * n) (line_of r.now n) }
 {
     let mut samples = [0u8; 128];
+    put_sixteen(&mut samples, 0, &r.p3);
     put_sixteen(&mut samples, 16, &r.p2);
     put_sixteen(&mut samples, 32, &r.p1);
     put_sixteen(&mut samples, 48, &r.p0);
     put_sixteen(&mut samples, 64, &r.q0);
     put_sixteen(&mut samples, 80, &r.q1);
     put_sixteen(&mut samples, 96, &r.q2);
+    put_sixteen(&mut samples, 112, &r.q3);
     turned_back(&samples)
 }
 
-/// Six of the samples.
+/// Eight of the samples.
 #[inline(always)]
-fn six(x: &[u8; 128], place: usize) -> [u8; 6]
-    requires { place + 6 ≤ 128 }
-    ensures { (n : ℕ) → n < 6 → slice_index result n ≡ slice_index x.now (place + n) }
+fn eight(x: &[u8; 128], place: usize) -> [u8; 8]
+    requires { place + 8 ≤ 128 }
+    ensures { (n : ℕ) → n < 8 → slice_index result n ≡ slice_index x.now (place + n) }
 {
-    let mut samples = [0u8; 6];
-    samples.copy_from_slice(&x[place..place + 6]);
+    let mut samples = [0u8; 8];
+    samples.copy_from_slice(&x[place..place + 8]);
     samples
 }
 
-/// Writes the three samples on each side of a line.
-#[inline(always)]
-fn write_line(plane: &mut Plane, x: usize, y: usize, samples: &[u8; 128], place: usize)
-    requires small { x < 65536 }
-    requires before { 4 ≤ x }
-    requires behind { x + 4 ≤ plane.old.width }
-    requires row { y < plane.old.height }
-    requires line { place + 8 ≤ 128 }
-    ensures { (l : Line) → HasLine samples.now place l → IsLinePut true plane.old plane.new y x l }
-{
-    plane.put_run(x - 3, y, &six(samples, place + 1));
-}
-
-/// Writes the lines of a vertical edge.
+/// Writes the lines of a vertical edge, where the first and the last sample of each stay as they are.
 #[inline(always)]
 pub fn write_columns(plane: &mut Plane, x: usize, y: usize, r: &Rows)
     requires small { (x < 65536) × (y < 65536) }
@@ -205,6 +193,6 @@ pub fn write_columns(plane: &mut Plane, x: usize, y: usize, r: &Rows)
 {
     let samples = line_by_line(r);
     for n in 0..16usize {
-        write_line(plane, x, y + n, &samples, 8 * n);
+        plane.put_run(x - 4, y + n, &eight(&samples, 8 * n));
     }
 }

@@ -2,3 +2,5 @@ pub mod Frames
 pub mod Window
 pub mod Operations
 pub mod Held
+pub mod Gaps
+pub mod Unused

@@ -3,11 +3,13 @@
 //! `Held` keeps the frames of a sequence in sixteen places. `fill_gap` takes a frame_num that is missing, `mark` the marking of
 //! a picture: that of an IDR picture, the sliding window, or memory management control operations. Both promise what
 //! `specs/Held.antt` and `specs/Window.antt` define on the list of held frames, and refuse exactly what cannot be met; then
-//! nothing has changed. Which frame_num is missing, and what a picture predicts from, is not decided here.
+//! nothing has changed. `gaps` has the numbers that are missing before a picture. What a picture predicts from is not decided here.
 #![tactic(auto)]
 
 pub mod frame;
+pub mod gaps;
 pub mod held;
+pub mod laws;
 mod numbers;
 mod operations;
 #[cfg(test)]

@@ -1,7 +1,7 @@
 //! What no clause says: markings worked by hand from 8.2.5, with MaxFrameNum 16.
 #![tactic(auto)]
 
-use crate::{Held, Numbering, ReferenceFrame, Term};
+use crate::{Held, Numbering, ReferenceFrame, Term, laws};
 use arrayvec::ArrayVec;
 use h264_base::{Rule, Stop};
 use h264_bits::Found;
@@ -555,6 +555,7 @@ fn idr_window_and_gaps(rt: HostRuntime) -> Result<(), Fail> {
     window_of_one(&rt)?;
     window_without_room(&rt)?;
     gaps(&rt)?;
+    laws::unused_numbers();
     gaps_refused(&rt)
 }
 

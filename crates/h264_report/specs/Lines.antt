@@ -26,10 +26,11 @@ type_text slice_type.I = codes "I"
 abbrev pub slice_text : ℕ → ℕ → SliceType → ℕ → ℤ → List ℕ
 slice_text byte mb kind frame_num count = codes "slice " ++ (decimal byte ++ (codes " mb " ++ (decimal mb ++ (codes " type " ++ (type_text kind ++ (codes " frame " ++ (decimal frame_num ++ (codes " count " ++ signed_decimal count))))))))
 
--- yes: units U, and the pictures where slices were read
+-- yes: units U, the pictures where slices were read, and the frames where slice data were
 abbrev pub yes_text : Mode → Summary → List ℕ
 yes_text modes.Units summary = codes "yes: units " ++ decimal summary.units
 yes_text modes.Headers summary = codes "yes: units " ++ (decimal summary.units ++ (codes " pictures " ++ decimal summary.pictures))
+yes_text modes.Full summary = codes "yes: units " ++ (decimal summary.units ++ (codes " pictures " ++ (decimal summary.pictures ++ (codes " frames " ++ decimal summary.frames))))
 
 -- no: bit N: LABEL (clause C)
 abbrev pub no_text : ℕ → Rule → List ℕ

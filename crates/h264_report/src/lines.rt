@@ -63,9 +63,13 @@ fn yes_line(alloc: Global, mode: Mode, summary: Summary) -> Result<String, Alloc
 {
     let units = summary.units;
     let pictures = summary.pictures;
+    let frames = summary.frames;
     match mode {
         Mode::Units => format!(in alloc; "yes: units {units}"),
         Mode::Headers => format!(in alloc; "yes: units {units} pictures {pictures}"),
+        Mode::Full => {
+            format!(in alloc; "yes: units {units} pictures {pictures} frames {frames}")
+        }
     }
 }
 

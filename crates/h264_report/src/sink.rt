@@ -92,6 +92,9 @@ impl<'a, W: Write> FrameSink for LineSink<'a, W> {
         frame_num: u32,
         count: i32,
     ) -> Result<(), Failed> {
+        if self.mode != Mode::Headers {
+            return Ok(());
+        }
         let made = slice_line(
             &mut self.line,
             byte,

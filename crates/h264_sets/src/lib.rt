@@ -48,7 +48,7 @@ fn sps_at(sets: &[Option<Sps>], id: u32) -> Option<&Sps>
 }
 
 /// A picture parameter set, and the sequence parameter set that it names.
-#[derive(Clone, Copy, Debug, PartialEq, Eq)]
+#[derive(Clone, Copy, PartialEq, Eq)]
 pub struct SetPair {
     pub pps: Pps,
     pub sps: Sps,

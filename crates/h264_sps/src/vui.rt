@@ -18,7 +18,7 @@ use h264_bits::{Bits, check, read_ue};
 const EXTENDED_SAR: u32 = 255;
 
 /// The shape of a sample.
-#[derive(Clone, Copy, Debug, PartialEq, Eq)]
+#[derive(Clone, Copy, PartialEq, Eq)]
 pub struct SampleAspectRatio {
     pub aspect_ratio_idc: u32,
     /// The width and the height, where aspect_ratio_idc is 255.
@@ -26,14 +26,14 @@ pub struct SampleAspectRatio {
 }
 
 /// sar_width and sar_height.
-#[derive(Clone, Copy, Debug, PartialEq, Eq)]
+#[derive(Clone, Copy, PartialEq, Eq)]
 pub struct ExtendedRatio {
     pub sar_width: u32,
     pub sar_height: u32,
 }
 
 /// The kind of video signal.
-#[derive(Clone, Copy, Debug, PartialEq, Eq)]
+#[derive(Clone, Copy, PartialEq, Eq)]
 pub struct VideoSignalType {
     pub video_format: u32,
     pub video_full_range_flag: bool,
@@ -41,7 +41,7 @@ pub struct VideoSignalType {
 }
 
 /// How colours are meant.
-#[derive(Clone, Copy, Debug, PartialEq, Eq)]
+#[derive(Clone, Copy, PartialEq, Eq)]
 pub struct ColourDescription {
     pub colour_primaries: u32,
     pub transfer_characteristics: u32,
@@ -49,14 +49,14 @@ pub struct ColourDescription {
 }
 
 /// Where chroma samples lie.
-#[derive(Clone, Copy, Debug, PartialEq, Eq)]
+#[derive(Clone, Copy, PartialEq, Eq)]
 pub struct ChromaLocation {
     pub top_field: u32,
     pub bottom_field: u32,
 }
 
 /// The rate of pictures.
-#[derive(Clone, Copy, Debug, PartialEq, Eq)]
+#[derive(Clone, Copy, PartialEq, Eq)]
 pub struct Timing {
     pub num_units_in_tick: u32,
     pub time_scale: u32,
@@ -64,7 +64,7 @@ pub struct Timing {
 }
 
 /// What a stream restricts itself to.
-#[derive(Clone, Copy, Debug, PartialEq, Eq)]
+#[derive(Clone, Copy, PartialEq, Eq)]
 pub struct BitstreamRestriction {
     pub motion_vectors_over_pic_boundaries_flag: bool,
     pub max_bytes_per_pic_denom: u32,
@@ -78,7 +78,7 @@ pub struct BitstreamRestriction {
 }
 
 /// Video usability information. Values but those of the buffer are kept, and not judged.
-#[derive(Clone, Copy, Debug, PartialEq, Eq)]
+#[derive(Clone, Copy, PartialEq, Eq)]
 pub struct Vui {
     pub sample_aspect_ratio: Option<SampleAspectRatio>,
     pub overscan_appropriate_flag: Option<bool>,

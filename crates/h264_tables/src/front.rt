@@ -40,7 +40,7 @@ pub struct Entry {
 }
 
 /// The length and the value of the word that 16 bits begin with, or 0 and 0.
-#[inline]
+#[inline(always)]
 fn found(table: Table, bits: u16) -> (u8, u8)
     ensures { result ≡ found_of (front_of 16 (rows_of table) bits) }
 {
@@ -83,7 +83,7 @@ fn found(table: Table, bits: u16) -> (u8, u8)
 }
 
 /// The word of the table that 16 bits begin with, the first of them the highest. None where they begin with no word of it.
-#[inline]
+#[inline(always)]
 pub fn lookup(table: Table, bits: u16) -> Option<Entry>
     ensures word { result ≡ option_map entry_of (front_of 16 (rows_of table) bits) }
     ensures small { IfSome result (λ e. e.value ≤ greatest_value table) }

@@ -1,5 +1,5 @@
 -- The course of a unit, and the same step by step.
-use Rattle.std.proofs.Common.{◌≡◌, ℕ, ◌*◌, Bool, true, false, List, [], ◌∷◌, ◌++◌, map, length, Result, Ok, Err, refl, ap, sym, ◌∙◌, subst, ◌==◌, if◌then◌else◌}
+use Rattle.std.proofs.Common.{◌≡◌, ℕ, ◌*◌, Bool, true, false, List, [], ◌∷◌, ◌++◌, map, length, Result, Ok, Err, refl, ap, sym, ◌∙◌, subst, append_assoc, ◌==◌, if◌then◌else◌}
 use Rattle.std.proofs.lemmas.List.{append-nil}
 use Rattle.h264_base.specs.declared.mode.Mode.{Mode}
 use Rattle.h264_base.specs.declared.mode.Mode.TheVariants as modes
@@ -12,111 +12,162 @@ use Rattle.h264_base.proofs.Steps.{then_run, run-bind}
 use Rattle.h264_units.specs.Stream.{NalUnit}
 use Rattle.h264_rbsp.specs.Emulation.{emulation_checked}
 use Rattle.h264_rbsp.specs.Rbsp.{body_of}
+use Rattle.h264_sps.specs.declared.sps.Sps.{Sps}
+use Rattle.h264_pps.specs.declared.Pps.{Pps}
+use Rattle.h264_header.specs.declared.header.Header.{Header}
 use Rattle.h264_sps.specs.Sps.{sps}
 use Rattle.h264_pps.specs.Pps.{pps}
 use Rattle.h264_header.specs.Layout.{sets_of}
 use Rattle.h264_header.specs.Header.{header}
 use Rattle.h264_verify.specs.Content.{Content}
 use Rattle.h264_verify.specs.Content as contents
-use Rattle.h264_verify.specs.Outcome.{Outcome, ◌>>=◌, with_calls, answers, gives, tells, value_of, structure_outcome, Plays}
+use Rattle.h264_verify.specs.Outcome.{Outcome, ◌>>=◌, with_calls, goes_on, answers, gives, tells, value_of, structure_outcome, Plays}
 use Rattle.h264_verify.specs.Demands.{judged}
 use Rattle.h264_verify.specs.Steps.{Step, Tells, needs, Takes, Reads, Ends}
 use Rattle.h264_verify.specs.UnitHeader.{header_of, nal_unit_type, header_demands}
 use Rattle.h264_verify.specs.History.{History, maps_of}
-use Rattle.h264_verify.specs.Pictures.{closing_at}
-use Rattle.h264_verify.specs.Units.{unit_call, is_slice, slice_unit, other_content, content, content_steps, content_course, unit_course}
-use Rattle.h264_verify.specs.UnitOutcome.{steps_outcome, structure_from, course_outcome, sps_outcome, pps_outcome, slice_outcome, other_outcome, content_outcome, joined, unit_by_steps, unit_outcome}
+use Rattle.h264_verify.specs.Pictures.{whole_at, closing_at}
+use Rattle.h264_verify.specs.Units.{unit_call, is_slice, slice_unit, other_content, content, content_steps, data_course, content_course, unit_course}
+use Rattle.h264_verify.specs.UnitOutcome.{steps_outcome, structure_from, course_outcome, sps_outcome, pps_outcome, slice_outcome, header_content, whole_slice, joined, joined_on, joined_other, joined_by, unit_by_steps, unit_outcome}
 use Rattle.h264_verify.proofs.Stepping.{outcome, needs-judged}
 
-abbrev run_outcome : {A : Type 0} → Body → Run A → Outcome A
-run_outcome body r = record { calls = map (call_of body) r.elements; answer = value_of r.answer }
+-- one part after another, in either bracketing
+bind-calls : {A B : Type 0} (calls : List Call) (o : Outcome A) (g : A → Outcome B) → (with_calls calls o >>= g) ≡ with_calls calls (o >>= g)
+unfolding ◌>>=◌
+bind-calls {A} {B} calls o g = by o.calls o.answer
+  where
+    by : (later : List Call) (a : Result A Stop) → goes_on (calls ++ later) g a ≡ with_calls calls (goes_on later g a)
+    by later (Ok y) = ap (λ (l : List Call). outcome l (g y).answer) (append_assoc calls later (g y).calls)
+    by later (Err e) = refl
 
--- a structure whose value is seen as a content
-module _ {A : Type 0} (body : Body) (f : A → Content) where
-  as-content : (es : List Element) (a : Result (A × ℕ) Stop) → (let r : Run A = record { elements = es; answer = a } in (run_outcome body r >>= λ x. gives (f x)) ≡ run_outcome body (then_run r (λ x j. run (Done (f x)) body j)))
-  unfolding ◌>>=◌ run
-  as-content es (Ok x) = ap (λ (l : List Call). let o : Outcome Content = record { calls = l; answer = Ok (f x.0) } in o) (append-nil (map (call_of body) es) ∙ sym (ap (map (call_of body)) (append-nil es)))
-  as-content es (Err e) = refl
+pub bind-assoc : {A B C : Type 0} (o : Outcome A) (f : A → Outcome B) (g : B → Outcome C) → ((o >>= f) >>= g) ≡ (o >>= λ x. f x >>= g)
+unfolding ◌>>=◌
+bind-assoc {A} {B} {C} o f g = by o.answer
+  where
+    by : (a : Result A Stop) → (goes_on o.calls f a >>= g) ≡ goes_on o.calls (λ x. f x >>= g) a
+    by (Ok x) = bind-calls o.calls (f x) g
+    by (Err e) = refl
 
-structure-content : {A : Type 0} (g : Grammar A) (body : Body) (f : A → Content) → (structure_outcome g body >>= λ x. gives (f x)) ≡ structure_outcome (◌bind◌ g (λ x. Done (f x))) body
-structure-content g body f = as-content body f (run g body 0).elements (run g body 0).answer ∙ ap (λ r. run_outcome body r) (sym (run-bind g (λ x. Done (f x)) body 0))
+-- the same behind each value
+pub bind-same : {A B : Type 0} (o : Outcome A) (f g : A → Outcome B) → ((x : A) → f x ≡ g x) → (o >>= f) ≡ (o >>= g)
+unfolding ◌>>=◌
+bind-same {A} {B} o f g h = by o.answer
+  where
+    by : (a : Result A Stop) → goes_on o.calls f a ≡ goes_on o.calls g a
+    by (Ok x) = ap (with_calls o.calls) (h x)
+    by (Err e) = refl
+
+-- a structure whose value is seen otherwise
+abbrev pub seen : {A B : Type 0} → (A → B) → Result (A × ℕ) Stop → Result (B × ℕ) Stop
+seen f (Ok x) = Ok (f x.0, x.1)
+seen f (Err e) = Err e
+
+module _ {A B : Type 0} (body : Body) (f : A → B) where
+  as-seen : (es : List Element) (a : Result (A × ℕ) Stop) → (let r : Run B = then_run (record { elements = es; answer = a }) (λ x j. run (Done (f x)) body j) in outcome (map (call_of body) r.elements) r.answer ≡ outcome (map (call_of body) es) (seen f a))
+  unfolding run
+  as-seen es (Ok x) = ap (λ (l : List Element). outcome (map (call_of body) l) (let r : Result (B × ℕ) Stop = Ok (f x.0, x.1) in r)) (append-nil es)
+  as-seen es (Err e) = refl
+
+  pub structure-seen : (g : Grammar A) (i : ℕ) → structure_from (◌bind◌ g (λ x. Done (f x))) body i ≡ outcome (structure_from g body i).calls (seen f (structure_from g body i).answer)
+  structure-seen g i = ap (λ (r : Run B). outcome (map (call_of body) r.elements) r.answer) (run-bind g (λ x. Done (f x)) body i) ∙ as-seen (run g body i).elements (run g body i).answer
+
+-- what was read is judged, and nothing is read behind it
+module _ {A : Type 0} (mode : Mode) (before : History) (unit : NalUnit) (f : A → Content) (none : (x : A) (bit : ℕ) → course_outcome (body_of unit) (data_course mode before unit (f x) bit) ≡ gives (f x)) where
+  abbrev one_more : Content → History
+  one_more found = record { unit = unit; content = found } ∷ before
+
+  plain-by : (told : List Call) (a : Result (A × ℕ) Stop) → joined_on mode before unit (outcome told (seen f a)) ≡ joined mode before unit (outcome told (value_of a) >>= λ x. gives (f x))
+  unfolding ◌>>=◌
+  plain-by told (Ok x) =
+      ap (λ (o : Outcome Content). with_calls told (steps_outcome (content_steps mode before unit (f x.0)) >>= λ _. o >>= λ found. gives (one_more found))) (none x.0 x.1)
+      ∙ ap (λ (l : List Call). with_calls l (steps_outcome (content_steps mode before unit (f x.0)) >>= λ _. gives (one_more (f x.0)))) (sym (append-nil told))
+  plain-by told (Err e) = refl
+
+  plain : (g : Grammar A) → joined_on mode before unit (structure_from (◌bind◌ g (λ x. Done (f x))) (body_of unit) 0) ≡ joined mode before unit (structure_outcome g (body_of unit) >>= λ x. gives (f x))
+  plain g = ap (λ (o : Outcome (Content × ℕ)). joined_on mode before unit o) (structure-seen (body_of unit) f g 0) ∙ plain-by (structure_from g (body_of unit) 0).calls (structure_from g (body_of unit) 0).answer
 
 -- by the type of the unit
 choice-is : {A : Type 0} (b c : Bool) (x y : A) → b ≡ c → (if b then x else y) ≡ (if c then x else y)
 choice-is b c x y e = ap (λ d. if d then x else y) e
 
-none-passed : (body : Body) → gives contents.Passed ≡ structure_outcome (Done contents.Passed) body
-unfolding run
-none-passed body = refl
+module _ (before : History) (unit : NalUnit) where
+  abbrev on : Mode → Grammar Content → Outcome History
+  on mode g = joined_on mode before unit (structure_from g (body_of unit) 0)
 
-other-is : (mode : Mode) (kind : ℕ) (before : History) (unit : NalUnit) → other_outcome mode kind before unit ≡ structure_outcome (other_content mode kind before unit) (body_of unit)
-unfolding other_outcome slice_outcome
-other-is modes.Units kind before unit = none-passed (body_of unit)
-other-is modes.Headers kind before unit = by (is_slice kind) refl
-  where
-    by : (a : Bool) → is_slice kind ≡ a → other_outcome modes.Headers kind before unit ≡ structure_outcome (other_content modes.Headers kind before unit) (body_of unit)
-    by true e = choice-is (is_slice kind) true _ _ e ∙ structure-content (header (sets_of (maps_of before)) (slice_unit unit)) (body_of unit) (λ h. contents.OfSlice h []) ∙ ap (λ g. structure_outcome g (body_of unit)) (sym (choice-is (is_slice kind) true _ _ e))
-    by false e = choice-is (is_slice kind) false _ _ e ∙ none-passed (body_of unit) ∙ ap (λ g. structure_outcome g (body_of unit)) (sym (choice-is (is_slice kind) false _ _ e))
+  passed-is : (mode : Mode) → on mode (Done contents.Passed) ≡ joined mode before unit (gives contents.Passed)
+  unfolding ◌>>=◌ run course_outcome
+  passed-is mode = refl
 
-pub content-is : (mode : Mode) (kind : ℕ) (before : History) (unit : NalUnit) → content_outcome mode kind before unit ≡ structure_outcome (content mode kind before unit) (body_of unit)
-unfolding content_outcome sps_outcome pps_outcome content
-content-is mode kind before unit = by (kind == 7) (kind == 8) refl refl
-  where
-    by : (a b : Bool) → (kind == 7) ≡ a → (kind == 8) ≡ b → content_outcome mode kind before unit ≡ structure_outcome (content mode kind before unit) (body_of unit)
-    by true b e h = choice-is (kind == 7) true _ _ e ∙ structure-content sps (body_of unit) contents.OfSps ∙ ap (λ g. structure_outcome g (body_of unit)) (sym (choice-is (kind == 7) true _ _ e))
-    by false true e h = choice-is (kind == 7) false _ _ e ∙ choice-is (kind == 8) true _ _ h ∙ structure-content pps (body_of unit) contents.OfPps ∙ ap (λ g. structure_outcome g (body_of unit)) (sym (choice-is (kind == 7) false _ _ e ∙ choice-is (kind == 8) true _ _ h))
-    by false false e h = choice-is (kind == 7) false _ _ e ∙ choice-is (kind == 8) false _ _ h ∙ other-is mode kind before unit ∙ ap (λ g. structure_outcome g (body_of unit)) (sym (choice-is (kind == 7) false _ _ e ∙ choice-is (kind == 8) false _ _ h))
+  none-sps : (mode : Mode) (set : Sps) (bit : ℕ) → course_outcome (body_of unit) (data_course mode before unit (contents.OfSps set) bit) ≡ gives (contents.OfSps set)
+  unfolding course_outcome
+  none-sps mode set bit = refl
 
--- what was read is judged, and nothing is read behind it
-module _ (body : Body) (steps : Content → List Step) (A : Type 0) (next : Content → A) where
-  judged-read : (told : List Call) (found : Content) (calls : List Call) (a : Result (Unit {0}) Stop) → (with_calls told (outcome calls a >>= λ _. gives found) >>= λ c. gives (next c)) ≡ with_calls told (outcome calls a >>= λ _. gives (next found))
-  unfolding ◌>>=◌
-  judged-read told found calls (Ok x) = ap (λ l. outcome l (Ok (next found))) (append-nil (told ++ (calls ++ [])))
-  judged-read told found calls (Err e) = refl
+  none-pps : (mode : Mode) (set : Pps) (bit : ℕ) → course_outcome (body_of unit) (data_course mode before unit (contents.OfPps set) bit) ≡ gives (contents.OfPps set)
+  unfolding course_outcome
+  none-pps mode set bit = refl
 
-  read-judged : (told : List Call) (a : Result (Content × ℕ) Stop) → ((outcome told a >>= λ x. course_outcome body (Takes (steps x.0) (Reads (Done x.0) x.1 (λ whole end. Ends whole)))) >>= λ c. gives (next c)) ≡ (outcome told (value_of a) >>= λ c. steps_outcome (steps c) >>= λ _. gives (next c))
-  unfolding ◌>>=◌ course_outcome run
-  read-judged told (Ok x) = judged-read told x.0 (steps_outcome (steps x.0)).calls (steps_outcome (steps x.0)).answer
-  read-judged told (Err e) = refl
+  none-header : (h : Header) (bit : ℕ) → course_outcome (body_of unit) (data_course modes.Headers before unit (contents.OfSlice h []) bit) ≡ gives (contents.OfSlice h [])
+  unfolding course_outcome
+  none-header h bit = refl
 
--- what is in a unit, by its course and by its parts
-content-joined : (mode : Mode) (before : History) (unit : NalUnit) → (course_outcome (body_of unit) (content_course mode before unit) >>= λ found. gives (record { unit = unit; content = found } ∷ before)) ≡ joined before unit (content_outcome mode (nal_unit_type (header_of unit)) before unit)
-unfolding course_outcome
-content-joined mode before unit =
-    let r : Run Content = run (content mode (nal_unit_type (header_of unit)) before unit) (body_of unit) 0 in
-    read-judged (body_of unit) (content_steps before unit) History (λ found. record { unit = unit; content = found } ∷ before) (map (call_of (body_of unit)) r.elements) r.answer
-    ∙ ap (λ (o : Outcome Content). o >>= λ c. steps_outcome (content_steps before unit c) >>= λ _. gives (record { unit = unit; content = c } ∷ before)) (sym (content-is mode (nal_unit_type (header_of unit)) before unit))
+  sps-is : (mode : Mode) → on mode (◌bind◌ sps (λ set. Done (contents.OfSps set))) ≡ joined mode before unit (sps_outcome unit)
+  unfolding sps_outcome
+  sps-is mode = plain mode before unit contents.OfSps (none-sps mode) sps
 
--- the parts before it
-module _ {A : Type 0} (call : Call) (next : Content → A) (calls : List Call) where
-  abbrev turns : Result (Unit {0}) Stop → Result (Unit {0}) Stop → Result Content Stop → Type 0
-  turns h k a = ((answers h >>= λ _. tells call >>= λ _. answers k >>= λ _. outcome calls a) >>= λ c. gives (next c)) ≡ (answers h >>= λ _. tells call >>= λ _. answers k >>= λ _. outcome calls a >>= λ c. gives (next c))
+  pps-is : (mode : Mode) → on mode (◌bind◌ pps (λ set. Done (contents.OfPps set))) ≡ joined mode before unit (pps_outcome unit)
+  unfolding pps_outcome
+  pps-is mode = plain mode before unit contents.OfPps (none-pps mode) pps
 
-  in-turn : (h k : Result (Unit {0}) Stop) (a : Result Content Stop) → turns h k a
-  unfolding ◌>>=◌
-  in-turn (Err e) k a = refl
-  in-turn (Ok x) (Err e) a = refl
-  in-turn (Ok x) (Ok y) (Ok found) = refl
-  in-turn (Ok x) (Ok y) (Err e) = refl
+  header-is : on modes.Headers (header_content before unit) ≡ joined modes.Headers before unit (slice_outcome before unit)
+  unfolding slice_outcome
+  header-is = plain modes.Headers before unit (λ h. contents.OfSlice h []) none-header (header (sets_of (maps_of before)) (slice_unit unit))
+
+  whole-is : on modes.Full (header_content before unit) ≡ whole_slice before unit
+  unfolding whole_slice
+  whole-is = refl
+
+  other-by : (b : Bool) (mode : Mode) (slice : Outcome History) → on mode (header_content before unit) ≡ slice → on mode (if b then header_content before unit else Done contents.Passed) ≡ (if b then slice else joined mode before unit (gives contents.Passed))
+  other-by true mode slice e = e
+  other-by false mode slice e = passed-is mode
+
+  other-is : (mode : Mode) (kind : ℕ) → on mode (other_content mode kind before unit) ≡ joined_other mode kind before unit
+  unfolding joined_other
+  other-is modes.Units kind = passed-is modes.Units
+  other-is modes.Headers kind = other-by (is_slice kind) modes.Headers (joined modes.Headers before unit (slice_outcome before unit)) header-is
+  other-is modes.Full kind = other-by (is_slice kind) modes.Full (whole_slice before unit) whole-is
+
+  content-by : (a b : Bool) (mode : Mode) (kind : ℕ) → on mode (if a then ◌bind◌ sps (λ set. Done (contents.OfSps set)) else (if b then ◌bind◌ pps (λ set. Done (contents.OfPps set)) else other_content mode kind before unit)) ≡ (if a then joined mode before unit (sps_outcome unit) else (if b then joined mode before unit (pps_outcome unit) else joined_other mode kind before unit))
+  content-by true b mode kind = sps-is mode
+  content-by false true mode kind = pps-is mode
+  content-by false false mode kind = other-is mode kind
+
+  content-is : (mode : Mode) (kind : ℕ) → on mode (content mode kind before unit) ≡ joined_by mode kind before unit
+  unfolding content joined_by
+  content-is mode kind = content-by (kind == 7) (kind == 8) mode kind
+
+  -- what is in a unit, by its course and by its parts
+  content-joined : (mode : Mode) → (course_outcome (body_of unit) (content_course mode before unit) >>= λ found. gives (record { unit = unit; content = found } ∷ before)) ≡ joined_by mode (nal_unit_type (header_of unit)) before unit
+  unfolding course_outcome
+  content-joined mode =
+      let join : Content → Outcome History = λ found. gives (record { unit = unit; content = found } ∷ before) in
+      let read = structure_from (content mode (nal_unit_type (header_of unit)) before unit) (body_of unit) 0 in
+      bind-assoc read (λ x. steps_outcome (content_steps mode before unit x.0) >>= λ _. course_outcome (body_of unit) (data_course mode before unit x.0 x.1)) join
+      ∙ bind-same read (λ x. (steps_outcome (content_steps mode before unit x.0) >>= λ _. course_outcome (body_of unit) (data_course mode before unit x.0 x.1)) >>= join) (λ x. steps_outcome (content_steps mode before unit x.0) >>= λ _. course_outcome (body_of unit) (data_course mode before unit x.0 x.1) >>= join) (λ x. bind-assoc (steps_outcome (content_steps mode before unit x.0)) (λ _. course_outcome (body_of unit) (data_course mode before unit x.0 x.1)) join)
+      ∙ content-is mode (nal_unit_type (header_of unit))
 
 -- What comes of a unit, step by step.
 pub by-steps : (mode : Mode) (before : History) (unit : NalUnit) → unit_outcome mode before unit ≡ unit_by_steps mode before unit
-unfolding unit_outcome unit_by_steps ◌>>=◌ course_outcome
+unfolding unit_outcome unit_by_steps course_outcome
 by-steps mode before unit =
     let call = unit_call unit.from (header_of unit) (length unit.body) in
     let hs = header_demands (8 * unit.from) (header_of unit) in
-    let cs = closing_at (nal_unit_type (header_of unit)) before in
+    let cs = whole_at mode (nal_unit_type (header_of unit)) before ++ needs (closing_at (nal_unit_type (header_of unit)) before) in
     let o = course_outcome (body_of unit) (content_course mode before unit) in
-    let join : Content → History = λ found. record { unit = unit; content = found } ∷ before in
+    let join : Content → Outcome History = λ found. gives (record { unit = unit; content = found } ∷ before) in
     ap (λ (q : Outcome History). answers (emulation_checked unit.from unit.body) >>= λ _. q)
-    (ap (λ (q : Outcome Content). q >>= λ found. gives (join found)) (course-parts (needs hs) (needs cs) call (judged hs) (judged cs) o (needs-judged hs) (needs-judged cs))
-    ∙ in-turn call join o.calls (judged hs) (judged cs) o.answer
-    ∙ ap (λ (q : Outcome History). answers (judged hs) >>= λ _. tells call >>= λ _. answers (judged cs) >>= λ _. q) (content-joined mode before unit))
-  where
-    course-parts : (hs cs : List Step) (call : Call) (h k : Result (Unit {0}) Stop) (o : Outcome Content) → steps_outcome hs ≡ answers h → steps_outcome cs ≡ answers k → (steps_outcome hs >>= λ _. steps_outcome (Tells call ∷ []) >>= λ _. steps_outcome cs >>= λ _. o) ≡ (answers h >>= λ _. tells call >>= λ _. answers k >>= λ _. o)
-    course-parts hs cs call h k o e f =
-        ap (λ (q : Outcome (Unit {0})). q >>= λ _. steps_outcome (Tells call ∷ []) >>= λ _. steps_outcome cs >>= λ _. o) e
-        ∙ ap (λ (q : Outcome (Unit {0})). answers h >>= λ _. tells call >>= λ _. q >>= λ _. o) f
+    (bind-assoc (steps_outcome (needs hs)) (λ _. tells call >>= λ _. steps_outcome cs >>= λ _. o) join
+    ∙ ap (λ (q : Outcome History). steps_outcome (needs hs) >>= λ _. q) (bind-assoc (tells call) (λ _. steps_outcome cs >>= λ _. o) join ∙ ap (λ (q : Outcome History). tells call >>= λ _. q) (bind-assoc (steps_outcome cs) (λ _. o) join ∙ ap (λ (q : Outcome History). steps_outcome cs >>= λ _. q) (content-joined before unit mode)))
+    ∙ ap (λ (q : Outcome (Unit {0})). q >>= λ _. tells call >>= λ _. steps_outcome cs >>= λ _. joined_by mode (nal_unit_type (header_of unit)) before unit) (needs-judged hs))
 
 pub plays-course : {S X : Type 0} (took : S → List Call → Type 0) (failures : S → ℕ) (view : X → History) (mode : Mode) (before : History) (unit : NalUnit) (s s' : S) (r : Result X Stop) → Plays took failures view (unit_by_steps mode before unit) s s' r → Plays took failures view (unit_outcome mode before unit) s s' r
 plays-course took failures view mode before unit s s' r p = subst (λ o. Plays took failures view o s s' r) (sym (by-steps mode before unit)) p

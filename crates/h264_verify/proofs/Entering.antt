@@ -17,8 +17,10 @@ use Rattle.h264_verify.specs.declared.slices.Slices.{Slices}
 use Rattle.h264_verify.specs.declared.picture.OpenPicture.{OpenPicture}
 use Rattle.h264_verify.specs.UnitHeader.{header_of, nal_unit_type}
 use Rattle.h264_verify.specs.History.{History, maps_of}
-use Rattle.h264_verify.specs.Keeping.{HoldsOpen, IsLeft, Keeps, KeepsWithin, KeepsPictures, KeepsSlices, Entered, held_by, begins_by}
-use Rattle.h264_verify.specs.Pictures.{CodedSlice, CodedPicture, with_sets, goes_on, open_of, begins_after, begins_at, joined_to, joined_by, runs_of, ends_picture, counted, prev_ref_frame_num_of, held_after, held_in}
+use Rattle.h264_base.specs.declared.mode.Mode.{Mode}
+use Rattle.h264_near.specs.Coded.{CodedMacroblock}
+use Rattle.h264_verify.specs.Keeping.{EndsAt, HoldsOpen, IsLeft, Keeps, KeepsWithin, KeepsPictures, KeepsSlices, Entered, held_by, begins_by}
+use Rattle.h264_verify.specs.Pictures.{CodedSlice, CodedPicture, with_sets, goes_on, open_of, begins_after, begins_at, joined_to, joined_by, runs_of, ends_picture, bit_behind, counted, prev_ref_frame_num_of, held_after, held_in}
 use Rattle.h264_verify.specs.Slices.{idr_id, is_idr_due, newest_idr_of, newest_count}
 
 -- it begins a picture, as the code finds it
@@ -59,6 +61,7 @@ module _ (before : History) (unit : NalUnit) (kind : ℕ) (old new : Slices) (n 
     counts = subst (λ (s : Slices). KeepsCounts (map counted (runs_of before)) s.counts) (sym same) keeps.kept.counts;
     count = ap (λ (s : Slices). s.count) same ∙ keeps.kept.count;
     pictures_are = ap (λ (s : Slices). s.pictures) same ∙ keeps.kept.pictures_are;
+    behind = subst (λ (s : Slices). EndsAt (runs_of before) s.behind) (sym same) keeps.kept.behind;
     prev_ref = ap (λ (s : Slices). s.prev_ref_frame_num) same ∙ keeps.kept.prev_ref;
     held = ap (λ (s : Slices). s.held) same ∙ keeps.kept.held ∙ left-held (ends_picture kind) (goes_on before) (runs_of before) ∙ ap (λ x. held_by false (not (ends_picture x) && goes_on before) (runs_of before)) n;
   }
@@ -70,30 +73,35 @@ module _ (before : History) (unit : NalUnit) (kind : ℕ) (old new : Slices) (n 
   passed-keeps contents.Passed h = record { due = is-due; kept = kept }
 
 -- What a slice leaves: a later slice of a picture changes none of counts, marking and numbers.
-module _ (before : History) (unit : NalUnit) (h : Header) (maps : Maps) (old new : Slices) (begins : Bool) (sets : Pps × Sps) (b : begins ≡ begins_at before h) (maps-are : maps ≡ maps_of before) (named : sets_of maps h.pic_parameter_set_id.value ≡ Some sets) (entered : Entered before begins (with_sets unit h [] sets) old) where
+module _ (before : History) (unit : NalUnit) (h : Header) (ms : List CodedMacroblock) (maps : Maps) (old new : Slices) (begins : Bool) (sets : Pps × Sps) (b : begins ≡ begins_at before h) (maps-are : maps ≡ maps_of before) (named : sets_of maps h.pic_parameter_set_id.value ≡ Some sets) (entered : Entered before begins (with_sets unit h ms sets) old) where
   abbrev slice : CodedSlice
-  slice = with_sets unit h [] sets
+  slice = with_sets unit h ms sets
 
   abbrev pictures : List CodedPicture
   pictures = joined_to begins slice (runs_of before)
 
-  runs-are : pictures ≡ runs_of (record { unit = unit; content = contents.OfSlice h [] } ∷ before)
+  runs-are : pictures ≡ runs_of (record { unit = unit; content = contents.OfSlice h ms } ∷ before)
   runs-are =
       ap (λ x. joined_to x slice (runs_of before)) b
-      ∙ ap (λ o. joined_by (option_map (with_sets unit h []) o) (goes_on before) (runs_of before)) (sym named ∙ ap (λ m. sets_of m h.pic_parameter_set_id.value) maps-are)
+      ∙ ap (λ o. joined_by (option_map (with_sets unit h ms) o) (goes_on before) (runs_of before)) (sym named ∙ ap (λ m. sets_of m h.pic_parameter_set_id.value) maps-are)
 
   newest : (x : Bool) (ps : List CodedPicture) → (if x then idr_id h.idr_pic_id else newest_idr_of ps) ≡ newest_idr_of (joined_to x slice ps)
   newest true ps = refl
   newest false [] = refl
   newest false (p ∷ ps) = refl
 
+  last-behind : (x : Bool) (ps : List CodedPicture) (bit : ℕ) → bit ≡ bit_behind unit → EndsAt (joined_to x slice ps) bit
+  last-behind true ps bit e = e
+  last-behind false [] bit e = tt
+  last-behind false (p ∷ ps) bit e = e
+
   one-more : (x : Bool) (ps : List CodedPicture) → (if x then length ps + 1 else length ps) ≡ length (joined_to x slice ps)
   one-more true ps = omega arith
   one-more false [] = refl
   one-more false (p ∷ ps) = refl
 
-  pub slice-keeps : HoldsOpen (open_of true pictures) new.picture → new.due ≡ false → new.newest_idr ≡ (if begins then idr_id h.idr_pic_id else old.newest_idr) → new.pictures ≡ (if begins then old.pictures + 1 else old.pictures) → new ≡ record old { picture = new.picture; newest_idr = new.newest_idr; pictures = new.pictures; due = new.due } → KeepsSlices (record { unit = unit; content = contents.OfSlice h [] } ∷ before) false new
-  slice-keeps picture due id n same = record {
+  pub slice-keeps : HoldsOpen (open_of true pictures) new.picture → new.due ≡ false → new.newest_idr ≡ (if begins then idr_id h.idr_pic_id else old.newest_idr) → new.pictures ≡ (if begins then old.pictures + 1 else old.pictures) → new.behind ≡ bit_behind unit → new ≡ record old { picture = new.picture; newest_idr = new.newest_idr; pictures = new.pictures; due = new.due; behind = new.behind } → KeepsSlices (record { unit = unit; content = contents.OfSlice h ms } ∷ before) false new
+  slice-keeps picture due id n bit same = record {
     due = due;
     kept = subst (λ ps. KeepsPictures true false ps new) runs-are (record {
       picture = picture;
@@ -101,11 +109,12 @@ module _ (before : History) (unit : NalUnit) (h : Header) (maps : Maps) (old new
       counts = subst (λ (s : Slices). KeepsCounts (map counted pictures) s.counts) (sym same) entered.counts;
       count = ap (λ (s : Slices). s.count) same ∙ entered.count;
       pictures_are = n ∙ ap (λ x. if begins then x + 1 else x) entered.pictures_are ∙ one-more begins (runs_of before);
+      behind = last-behind begins (runs_of before) new.behind bit;
       prev_ref = ap (λ (s : Slices). s.prev_ref_frame_num) same ∙ entered.prev_ref;
       held = ap (λ (s : Slices). s.held) same ∙ entered.held;
     });
   }
 
 -- the rest of what is kept stays
-pub within : {before : History} {ended : Bool} (state : State) (slices : Slices) → Keeps before state → KeepsSlices before ended slices → KeepsWithin before ended (record state { slices = slices })
-within state slices k s = record { units = k.units; sets = k.sets; slices = s }
+pub within : {mode : Mode} {before : History} {ended : Bool} (state : State) (slices : Slices) → Keeps mode before state → KeepsSlices before ended slices → KeepsWithin mode before ended (record state { slices = slices })
+within state slices k s = record { units = k.units; sets = k.sets; slices = s; work = k.work }

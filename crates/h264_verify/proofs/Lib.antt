@@ -5,10 +5,9 @@ pub mod Feeding
 pub mod Finishing
 pub mod Sources
 pub mod Stepping
-pub mod Gaps
 pub mod Slicing
 pub mod Entering
 pub mod Joining
 pub mod Courses
+pub mod Reading
 pub mod Verdicts
-pub mod Unused

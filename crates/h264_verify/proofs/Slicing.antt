@@ -27,6 +27,8 @@ use Rattle.h264_lists.specs.Modified.{modified}
 use Rattle.h264_lists.specs.Built.{built}
 use Rattle.h264_poc.specs.declared.picture.Count.{Count}
 use Rattle.h264_marking.specs.Frames.{References}
+use Rattle.h264_base.specs.declared.mode.Mode.{Mode}
+use Rattle.h264_base.specs.declared.mode.Mode.TheVariants as modes
 use Rattle.h264_verify.specs.Content as contents
 use Rattle.h264_verify.specs.declared.slices.Slices.{Slices}
 use Rattle.h264_verify.specs.declared.picture.OpenPicture.{OpenPicture}
@@ -34,13 +36,13 @@ use Rattle.h264_verify.specs.declared.picture.Types.{Types}
 use Rattle.h264_verify.specs.Outcome.{Outcome, answers, tells, Plays, IsNamed}
 use Rattle.h264_verify.specs.Demands.{Demand, judged}
 use Rattle.h264_verify.specs.History.{History, with_pair, maps_with, maps_of}
-use Rattle.h264_verify.specs.Slices.{has_content, is_active, set_demand, list_demand, is_idr_due, newest_count, rules_of, slice_call, steps_by, slice_steps}
+use Rattle.h264_verify.specs.Slices.{has_content, is_active, set_demand, list_demand, first_mb_demands, is_idr_due, newest_count, rules_of, slice_call, steps_by, slice_steps}
 use Rattle.h264_verify.specs.Steps.{Step, Tells, needs}
 use Rattle.h264_verify.specs.UnitOutcome.{steps_outcome}
-use Rattle.h264_verify.specs.Pictures.{CodedPicture, CodedSlice, with_sets, sets_at, begins_at, goes_on, open_of, joined_to, runs_of, counted, closing_demands}
-use Rattle.h264_verify.specs.Keeping.{standing_demands, slice_rules}
+use Rattle.h264_verify.specs.Pictures.{CodedPicture, CodedSlice, with_sets, sets_at, begins_at, goes_on, open_of, joined_to, runs_of, counted, whole_steps, closing_demands}
+use Rattle.h264_verify.specs.Keeping.{standing_demands, slice_rules, coded_before}
 use Rattle.h264_verify.proofs.Finishing.{answers-plays}
-use Rattle.h264_verify.proofs.Stepping.{needs-first, needs-ok, needs-err, behind_rules}
+use Rattle.h264_verify.proofs.Stepping.{needs-first, needs-ok, needs-err, steps-ok, steps-err, behind_rules}
 
 -- one rule before others: met, or not
 one-met : (d : Demand) (r : Result (Unit {0}) Stop) → d.met ≡ true → (if d.met then r else Err (No d.bit d.rule)) ≡ r
@@ -80,6 +82,9 @@ sets-kept maps (Some pair) id = refl
 
 pub sets-after : (maps new : Maps) (h : Header) (o : Option (Pps × Sps)) → new ≡ maps_with maps (contents.OfSlice h []) → sets_of new h.pic_parameter_set_id.value ≡ o → sets_of maps h.pic_parameter_set_id.value ≡ o
 sets-after maps new h o e f = sym (sets-kept maps (pair_of maps h.pic_parameter_set_id.value) h.pic_parameter_set_id.value) ∙ ap (λ m. sets_of m h.pic_parameter_set_id.value) (sym e) ∙ f
+
+pub sets-before : (maps new : Maps) (h : Header) (o : Option (Pps × Sps)) → new ≡ maps_with maps (contents.OfSlice h []) → sets_of maps h.pic_parameter_set_id.value ≡ o → sets_of new h.pic_parameter_set_id.value ≡ o
+sets-before maps new h o e f = ap (λ m. sets_of m h.pic_parameter_set_id.value) e ∙ sets-kept maps (pair_of maps h.pic_parameter_set_id.value) h.pic_parameter_set_id.value ∙ f
 
 -- rules at the front of others: the first that is not met, or the answer of the others
 pub stop-at : (ds es : List Demand) (e : Stop) → Err e ≡ judged ds → Err e ≡ judged (ds ++ es)
@@ -170,55 +175,81 @@ pub refused : {S : Type 0} (took : S → List Call → Type 0) (failures : S →
 refused took failures steps s e h n = subst (λ (o : Outcome (Unit {0})). Plays took failures (λ (x : Unit {0}). x) o s s (Err e)) (sym h) (answers-plays took failures e s n)
 
 -- The steps of a slice, behind what is kept of the units before it.
-module _ (before : History) (unit : NalUnit) (h : Header) (begins : Bool) (b : begins ≡ begins_at before h) where
+module _ (mode : Mode) (before : History) (unit : NalUnit) (h : Header) (begins : Bool) (b : begins ≡ begins_at before h) where
   abbrev steps : List Step
-  steps = slice_steps before unit h
+  steps = slice_steps mode before unit h
 
-  -- the end of the picture before it breaks a rule
-  pub at-end : (e : Stop) → Err e ≡ judged (if begins then closing_demands before else []) → steps_outcome steps ≡ answers (Err e)
-  at-end e p = needs-err (if begins_at before h then closing_demands before else []) (steps_by (sets_at before h) before unit h) e (ap (λ x. judged (if x then closing_demands before else [])) (sym b) ∙ sym p)
+  -- the picture before it is not whole, or not judged
+  pub at-data : (e : Stop) → answers (Err e) ≡ steps_outcome (if begins then whole_steps mode before else []) → steps_outcome steps ≡ answers (Err e)
+  at-data e p = steps-err (if begins_at before h then whole_steps mode before else []) (needs (if begins_at before h then closing_demands before else []) ++ steps_by mode (sets_at before h) before unit h) e (p ∙ ap (λ x. steps_outcome (if x then whole_steps mode before else [])) b)
 
-  module _ (closed : Unit {0}) (ends : Ok closed ≡ judged (if begins then closing_demands before else [])) where
-    behind-end : steps_outcome steps ≡ steps_outcome (steps_by (sets_at before h) before unit h)
-    behind-end = needs-ok (if begins_at before h then closing_demands before else []) (steps_by (sets_at before h) before unit h) closed (ap (λ x. judged (if x then closing_demands before else [])) (sym b) ∙ sym ends)
+  module _ (told : Unit {0}) (whole : answers (Ok told) ≡ steps_outcome (if begins then whole_steps mode before else [])) where
+    behind-data : steps_outcome steps ≡ steps_outcome (needs (if begins_at before h then closing_demands before else []) ++ steps_by mode (sets_at before h) before unit h)
+    behind-data = steps-ok (if begins_at before h then whole_steps mode before else []) (needs (if begins_at before h then closing_demands before else []) ++ steps_by mode (sets_at before h) before unit h) told (whole ∙ ap (λ x. steps_outcome (if x then whole_steps mode before else [])) b)
 
-    module _ (due : Bool) (maps : Maps) (due-is : due ≡ is_idr_due before) (maps-are : maps ≡ maps_of before) where
-      abbrev slice : Pps × Sps → CodedSlice
-      slice sets = with_sets unit h [] sets
+    -- the end of the picture before it breaks a rule
+    pub at-end : (e : Stop) → Err e ≡ judged (if begins then closing_demands before else []) → steps_outcome steps ≡ answers (Err e)
+    at-end e p = behind-data ∙ needs-err (if begins_at before h then closing_demands before else []) (steps_by mode (sets_at before h) before unit h) e (ap (λ x. judged (if x then closing_demands before else [])) (sym b) ∙ sym p)
 
-      -- what the sink is told of the slice
-      abbrev call : Pps × Sps → Call
-      call sets = slice_call (joined_to begins (slice sets) (runs_of before)) (slice sets)
+    module _ (closed : Unit {0}) (ends : Ok closed ≡ judged (if begins then closing_demands before else [])) where
+      behind-end : steps_outcome steps ≡ steps_outcome (steps_by mode (sets_at before h) before unit h)
+      behind-end = behind-data ∙ needs-ok (if begins_at before h then closing_demands before else []) (steps_by mode (sets_at before h) before unit h) closed (ap (λ x. judged (if x then closing_demands before else [])) (sym b) ∙ sym ends)
 
-      standing-rest : (begins : Bool) (sets : Pps × Sps) (ts : List Step) → needs (rules_of begins due maps (runs_of before) (slice sets)) ++ ts ≡ needs (standing_demands begins sets.1 due maps (8 * unit.from) h) ++ (needs (slice_rules begins (runs_of before) (slice sets)) ++ ts)
-      standing-rest true sets ts = refl
-      standing-rest false sets ts = refl
+      module _ (due : Bool) (maps : Maps) (due-is : due ≡ is_idr_due before) (maps-are : maps ≡ maps_of before) where
+        abbrev slice : Pps × Sps → CodedSlice
+        slice sets = with_sets unit h [] sets
 
-      sets-are : (o : Option (Pps × Sps)) → sets_of maps h.pic_parameter_set_id.value ≡ o → sets_at before h ≡ o
-      sets-are o e = ap (λ m. sets_of m h.pic_parameter_set_id.value) (sym maps-are) ∙ e
+        -- what the sink is told of the slice
+        abbrev call : Pps × Sps → Call
+        call sets = slice_call (joined_to begins (slice sets) (runs_of before)) (slice sets)
 
-      with-sets : (sets : Pps × Sps) → sets_of maps h.pic_parameter_set_id.value ≡ Some sets → steps_outcome steps ≡ behind_rules (judged (standing_demands begins sets.1 due maps (8 * unit.from) h)) (needs (slice_rules begins (runs_of before) (slice sets)) ++ Tells (call sets) ∷ [])
-      with-sets sets e =
-          behind-end
-          ∙ ap (λ o. steps_outcome (steps_by o before unit h)) (sets-are (Some sets) e)
-          ∙ ap (λ x. steps_outcome (needs (rules_of x (is_idr_due before) (maps_of before) (runs_of before) (slice sets)) ++ Tells (slice_call (joined_to x (slice sets) (runs_of before)) (slice sets)) ∷ [])) (sym b)
-          ∙ ap (λ x. steps_outcome (needs (rules_of begins x (maps_of before) (runs_of before) (slice sets)) ++ Tells (call sets) ∷ [])) (sym due-is)
-          ∙ ap (λ m. steps_outcome (needs (rules_of begins due m (runs_of before) (slice sets)) ++ Tells (call sets) ∷ [])) (sym maps-are)
-          ∙ ap steps_outcome (standing-rest begins sets (Tells (call sets) ∷ []))
-          ∙ needs-first (standing_demands begins sets.1 due maps (8 * unit.from) h) (needs (slice_rules begins (runs_of before) (slice sets)) ++ Tells (call sets) ∷ [])
+        abbrev place : List Demand
+        place = first_mb_demands mode (coded_before begins (runs_of before)) h
 
-      -- where it stands is against a rule
-      pub at-standing : (sets : Pps × Sps) → sets_of maps h.pic_parameter_set_id.value ≡ Some sets → (e : Stop) → Err e ≡ judged (standing_demands begins sets.1 due maps (8 * unit.from) h) → steps_outcome steps ≡ answers (Err e)
-      at-standing sets n e p = with-sets sets n ∙ ap (λ r. behind_rules r (needs (slice_rules begins (runs_of before) (slice sets)) ++ Tells (call sets) ∷ [])) (sym p)
+        abbrev rest : Pps × Sps → List Step
+        rest sets = needs (slice_rules begins (runs_of before) (slice sets)) ++ Tells (call sets) ∷ []
 
-      module _ (sets : Pps × Sps) (named : sets_of maps h.pic_parameter_set_id.value ≡ Some sets) (x : Unit {0}) (stands : Ok x ≡ judged (standing_demands begins sets.1 due maps (8 * unit.from) h)) where
-        behind-standing : steps_outcome steps ≡ steps_outcome (needs (slice_rules begins (runs_of before) (slice sets)) ++ Tells (call sets) ∷ [])
-        behind-standing = with-sets sets named ∙ ap (λ r. behind_rules r (needs (slice_rules begins (runs_of before) (slice sets)) ++ Tells (call sets) ∷ [])) (sym stands)
+        standing-rest : (mode : Mode) (begins : Bool) (sets : Pps × Sps) (ts : List Step) → needs (rules_of mode begins due maps (runs_of before) (slice sets)) ++ ts ≡ needs (standing_demands begins sets.1 due maps (8 * unit.from) h) ++ (needs (first_mb_demands mode (coded_before begins (runs_of before)) h) ++ (needs (slice_rules begins (runs_of before) (slice sets)) ++ ts))
+        standing-rest modes.Units true sets ts = refl
+        standing-rest modes.Units false sets ts = refl
+        standing-rest modes.Headers true sets ts = refl
+        standing-rest modes.Headers false sets ts = refl
+        standing-rest modes.Full true sets ts = refl
+        standing-rest modes.Full false sets ts = refl
 
-        -- another rule is broken
-        pub at-rules : (e : Stop) → Err e ≡ judged (slice_rules begins (runs_of before) (slice sets)) → steps_outcome steps ≡ answers (Err e)
-        at-rules e p = behind-standing ∙ needs-err (slice_rules begins (runs_of before) (slice sets)) (Tells (call sets) ∷ []) e (sym p)
+        sets-are : (o : Option (Pps × Sps)) → sets_of maps h.pic_parameter_set_id.value ≡ o → sets_at before h ≡ o
+        sets-are o e = ap (λ m. sets_of m h.pic_parameter_set_id.value) (sym maps-are) ∙ e
 
-        -- all are met, and it is told
-        pub at-telling : (y : Unit {0}) → Ok y ≡ judged (slice_rules begins (runs_of before) (slice sets)) → steps_outcome steps ≡ tells (call sets)
-        at-telling y p = behind-standing ∙ needs-ok (slice_rules begins (runs_of before) (slice sets)) (Tells (call sets) ∷ []) y (sym p)
+        with-sets : (sets : Pps × Sps) → sets_of maps h.pic_parameter_set_id.value ≡ Some sets → steps_outcome steps ≡ behind_rules (judged (standing_demands begins sets.1 due maps (8 * unit.from) h)) (needs place ++ rest sets)
+        with-sets sets e =
+            behind-end
+            ∙ ap (λ o. steps_outcome (steps_by mode o before unit h)) (sets-are (Some sets) e)
+            ∙ ap (λ x. steps_outcome (needs (rules_of mode x (is_idr_due before) (maps_of before) (runs_of before) (slice sets)) ++ Tells (slice_call (joined_to x (slice sets) (runs_of before)) (slice sets)) ∷ [])) (sym b)
+            ∙ ap (λ x. steps_outcome (needs (rules_of mode begins x (maps_of before) (runs_of before) (slice sets)) ++ Tells (call sets) ∷ [])) (sym due-is)
+            ∙ ap (λ m. steps_outcome (needs (rules_of mode begins due m (runs_of before) (slice sets)) ++ Tells (call sets) ∷ [])) (sym maps-are)
+            ∙ ap steps_outcome (standing-rest mode begins sets (Tells (call sets) ∷ []))
+            ∙ needs-first (standing_demands begins sets.1 due maps (8 * unit.from) h) (needs place ++ rest sets)
+
+        -- where it stands is against a rule
+        pub at-standing : (sets : Pps × Sps) → sets_of maps h.pic_parameter_set_id.value ≡ Some sets → (e : Stop) → Err e ≡ judged (standing_demands begins sets.1 due maps (8 * unit.from) h) → steps_outcome steps ≡ answers (Err e)
+        at-standing sets n e p = with-sets sets n ∙ ap (λ r. behind_rules r (needs place ++ rest sets)) (sym p)
+
+        module _ (sets : Pps × Sps) (named : sets_of maps h.pic_parameter_set_id.value ≡ Some sets) (x : Unit {0}) (stands : Ok x ≡ judged (standing_demands begins sets.1 due maps (8 * unit.from) h)) where
+          behind-standing : steps_outcome steps ≡ steps_outcome (needs place ++ rest sets)
+          behind-standing = with-sets sets named ∙ ap (λ r. behind_rules r (needs place ++ rest sets)) (sym stands)
+
+          -- it does not begin where the macroblocks so far end
+          pub at-place : (e : Stop) → Err e ≡ judged place → steps_outcome steps ≡ answers (Err e)
+          at-place e p = behind-standing ∙ needs-err place (rest sets) e (sym p)
+
+          module _ (y : Unit {0}) (placed : Ok y ≡ judged place) where
+            behind-place : steps_outcome steps ≡ steps_outcome (rest sets)
+            behind-place = behind-standing ∙ needs-ok place (rest sets) y (sym placed)
+
+            -- another rule is broken
+            pub at-rules : (e : Stop) → Err e ≡ judged (slice_rules begins (runs_of before) (slice sets)) → steps_outcome steps ≡ answers (Err e)
+            at-rules e p = behind-place ∙ needs-err (slice_rules begins (runs_of before) (slice sets)) (Tells (call sets) ∷ []) e (sym p)
+
+            -- all are met, and it is told
+            pub at-telling : (z : Unit {0}) → Ok z ≡ judged (slice_rules begins (runs_of before) (slice sets)) → steps_outcome steps ≡ tells (call sets)
+            at-telling z p = behind-place ∙ needs-ok (slice_rules begins (runs_of before) (slice sets)) (Tells (call sets) ∷ []) z (sym p)

@@ -9,7 +9,7 @@ use Rattle.h264_base.specs.Grammar.{Grammar, Element, Says}
 use Rattle.h264_base.specs.Run.{Run, run, call_of}
 use Rattle.h264_base.proofs.OneAnswer.{run-says, run-one}
 use Rattle.h264_verify.specs.Content.{Content}
-use Rattle.h264_verify.specs.Outcome.{Outcome, ◌>>=◌, with_calls, answers, gives}
+use Rattle.h264_verify.specs.Outcome.{Outcome, ◌>>=◌, with_calls, goes_on, answers, gives}
 use Rattle.h264_verify.specs.Demands.{Demand, judged}
 use Rattle.h264_verify.specs.Steps.{Step, Needs, Pends, Tells, needs, AreMet, IsFirstStop, Course, Takes, Reads, Ends, told, Runs}
 use Rattle.h264_verify.specs.UnitOutcome.{steps_outcome, structure_from, course_outcome}
@@ -86,6 +86,35 @@ needs-ok ds steps x h = needs-first ds steps ∙ ap (λ r. behind_rules r steps)
 pub needs-err : (ds : List Demand) (steps : List Step) (e : Stop) → judged ds ≡ Err e → steps_outcome (needs ds ++ steps) ≡ answers (Err e)
 needs-err ds steps e h = needs-first ds steps ∙ ap (λ r. behind_rules r steps) h
 
+-- steps before others
+more-by : (call : Call) (next : Outcome (Unit {0})) (calls : List Call) (a : Result (Unit {0}) Stop) → with_calls (call ∷ []) (goes_on calls (λ _. next) a) ≡ goes_on (call ∷ calls) (λ _. next) a
+more-by call next calls (Ok x) = refl
+more-by call next calls (Err e) = refl
+
+with-more : (call : Call) (o : Outcome (Unit {0})) (next : Outcome (Unit {0})) → with_calls (call ∷ []) (o >>= λ _. next) ≡ (with_calls (call ∷ []) o >>= λ _. next)
+unfolding ◌>>=◌
+with-more call o next = more-by call next o.calls o.answer
+
+append-need : (d : Demand) (ss ts : List Step) (b : Bool) → steps_outcome (ss ++ ts) ≡ (steps_outcome ss >>= λ _. steps_outcome ts) → (if b then steps_outcome (ss ++ ts) else answers (Err (No d.bit d.rule))) ≡ ((if b then steps_outcome ss else answers (Err (No d.bit d.rule))) >>= λ _. steps_outcome ts)
+unfolding ◌>>=◌
+append-need d ss ts true h = h
+append-need d ss ts false h = refl
+
+pub steps-append : (ss ts : List Step) → steps_outcome (ss ++ ts) ≡ (steps_outcome ss >>= λ _. steps_outcome ts)
+unfolding ◌>>=◌
+steps-append [] ts = refl
+steps-append (Needs d ∷ ss) ts = append-need d ss ts d.met (steps-append ss ts)
+steps-append (Pends feature bit ∷ ss) ts = refl
+steps-append (Tells call ∷ ss) ts = ap (λ (o : Outcome (Unit {0})). with_calls (call ∷ []) o) (steps-append ss ts) ∙ with-more call (steps_outcome ss) (steps_outcome ts)
+
+pub steps-ok : (ss ts : List Step) (x : Unit {0}) → answers (Ok x) ≡ steps_outcome ss → steps_outcome (ss ++ ts) ≡ steps_outcome ts
+unfolding ◌>>=◌
+steps-ok ss ts x h = steps-append ss ts ∙ ap (λ (o : Outcome (Unit {0})). o >>= λ _. steps_outcome ts) (sym h)
+
+pub steps-err : (ss ts : List Step) (e : Stop) → answers (Err e) ≡ steps_outcome ss → steps_outcome (ss ++ ts) ≡ answers (Err e)
+unfolding ◌>>=◌
+steps-err ss ts e h = steps-append ss ts ∙ ap (λ (o : Outcome (Unit {0})). o >>= λ _. steps_outcome ts) (sym h)
+
 -- a part that is answered, and then the rest; a part that stops
 pub bound : {A B : Type 0} (o : Outcome A) (next : A → Outcome B) (calls : List Call) (x : A) (later : Outcome B) → o ≡ outcome calls (Ok x) → next x ≡ later → (o >>= next) ≡ with_calls calls later
 unfolding ◌>>=◌
@@ -126,3 +155,10 @@ pub some-run : (body : Body) (course : Course) → SomeRun body course
 some-run body (Ends found) = record { calls = []; answer = Ok found; runs = (refl, refl) }
 some-run body (Takes steps course) = takes-run body steps course (either steps) (some-run body course)
 some-run body (Reads g bit next) = reads-run body g bit next (run g body bit).elements (run g body bit).answer (run-says g body bit) (λ found end. some-run body (next found end))
+
+-- steps and then rules alone: the steps stop, or the rules answer
+pub closing-data : (ss : List Step) (ds : List Demand) (e : Stop) → answers (Err e) ≡ steps_outcome ss → steps_outcome (ss ++ needs ds) ≡ answers (Err e)
+closing-data ss ds e h = steps-err ss (needs ds) e h
+
+pub closing-end : (ss : List Step) (ds : List Demand) (x : Unit {0}) (r : Result (Unit {0}) Stop) → answers (Ok x) ≡ steps_outcome ss → r ≡ judged ds → steps_outcome (ss ++ needs ds) ≡ answers r
+closing-end ss ds x r h k = steps-ok ss (needs ds) x h ∙ needs-judged ds ∙ ap (λ (q : Result (Unit {0}) Stop). answers q) (sym k)

@@ -269,6 +269,10 @@ fed-later {mode} {session} {bytes} {calls} w more o c =
     let f = w.goes more o c in
     (f.0, f.1, λ answer e. subst (Verdict mode (bytes ++ more) (calls ++ f.0.calls)) e (subst (λ (q : Outcome Summary). Verdict mode (bytes ++ more) q.calls q.answer) f.2 (comes-verdict mode (bytes ++ more) o c)))
 
+-- the same mode
+pub keeps-as : {before : History} {state : State} {m m' : Mode} → m ≡ m' → Keeps m before state → Keeps m' before state
+keeps-as {before} {state} e k = subst (λ m. Keeps m before state) e k
+
 -- a piece more
 fed-piece : {S : Type 0} (mode : Mode) (took : S → List Call → Type 0) (failures : S → ℕ) (old new : Progress) (bytes piece : List ℕ) (calls : List Call) (s s' : S) (w : WasFed mode old bytes calls) → new.mode ≡ old.mode → new.stop ≡ None → IsUndecided new.split.rest → GoesOn mode took (behind old.split w.before) new.split new.state piece [] s s' → failures s' ≡ failures s → IsFed mode took failures new (bytes ++ piece) calls s s'
 fed-piece mode took failures old new bytes piece calls s s' w m runs u on k =
@@ -281,7 +285,7 @@ fed-piece mode took failures old new bytes piece calls s s' w m runs u on k =
         mode_is = m ∙ w.mode_is;
         runs = runs;
         before = on.after;
-        keeps = on.keeps;
+        keeps = keeps-as (sym (m ∙ w.mode_is)) on.keeps;
         shown = subst (λ us. Shows 0 (bytes ++ piece) us new.split.at new.split.rest) (sym legal.1) (shown-on g.way.units w.shown g.way.shown);
         undecided = u;
         legal = legal.0;
@@ -338,9 +342,9 @@ fed-first mode took known bytes session s f h = record {
 }
 
 -- a source that has no more bytes
-pub fed-last : {S : Type 0} (mode : Mode) (took : S → List Call → Type 0) (failures : S → ℕ) (known : Option (List ℕ)) (bytes : List ℕ) (old new : Progress) (s0 s1 s1' s2 : S) (r : Result Summary Stop) → new ≡ old → s1' ≡ s1 → ((left : List ℕ) → known ≡ Some left → left ≡ []) → FedOn mode took known bytes old s0 s1 → failures s1 ≡ failures s0 → ((before : History) → Keeps before new.state → Finishes (judging new.mode) took failures (behind new.split before) s1' s2 r) → Judges (judging mode) [] took failures bytes s0 s2 r
+pub fed-last : {S : Type 0} (mode : Mode) (took : S → List Call → Type 0) (failures : S → ℕ) (known : Option (List ℕ)) (bytes : List ℕ) (old new : Progress) (s0 s1 s1' s2 : S) (r : Result Summary Stop) → new ≡ old → s1' ≡ s1 → ((left : List ℕ) → known ≡ Some left → left ≡ []) → FedOn mode took known bytes old s0 s1 → failures s1 ≡ failures s0 → ((before : History) → Keeps new.mode before new.state → Finishes (judging new.mode) took failures (behind new.split before) s1' s2 r) → Judges (judging mode) [] took failures bytes s0 s2 r
 fed-last mode took failures known bytes old new s0 s1 s1' s2 r e d none f k p =
-    let keeps = subst (λ (w : Progress). Keeps f.after w.state) (sym e) f.keeps in
+    let keeps = subst (λ (w : Progress). Keeps w.mode f.after w.state) (sym e) f.keeps in
     let m : new.mode ≡ mode = ap (λ (w : Progress). w.mode) e ∙ f.mode_is in
     let q = subst (λ m. Finishes (judging m) took failures (behind new.split f.after) s1' s2 r) m (p f.after keeps) in
     fed-ends (judging mode) [] took failures known bytes (behind old.split f.after) (behind new.split f.after) s0 s1 s1' s2 r (ap (λ (w : Progress). behind w.split f.after) e) d none f.fed k q
@@ -349,7 +353,7 @@ fed-last mode took failures known bytes old new s0 s1 s1' s2 r e d none f k p =
 pub pieces-first : {S : Type 0} (mode : Mode) (took : S → List Call → Type 0) (session : Progress) (s : S) → IsFresh session mode → GoesOn mode took (behind at_start []) session.split session.state [] [] s s
 pieces-first mode took session s f = record {
   after = [];
-  keeps = f.keeps;
+  keeps = subst (λ m. Keeps m [] session.state) f.mode_is f.keeps;
   goes = subst (λ split. Goes (judging mode) took (behind at_start []) (behind split []) [] [] s s) (sym f.split) (goes-none (judging mode) took (behind at_start []) [] s);
 }
 

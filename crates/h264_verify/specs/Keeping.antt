@@ -3,6 +3,7 @@ use Rattle.std.specs.Prelude.{◌≡◌, ℕ, not, ◌||◌, List, [], ◌∷◌
 use Rattle.h264_bits.specs.declared.element.Found.{Found}
 use Rattle.h264_marking.specs.declared.frame.Numbering.{Numbering}
 use Rattle.h264_marking.specs.Frames.{References}
+use Rattle.h264_marking.specs.Gaps.{entered}
 use Rattle.h264_poc.specs.declared.picture.Picture.{Picture}
 use Rattle.h264_poc.specs.Counts.{Keeps as KeepsCounts}
 use Rattle.h264_pps.specs.declared.Pps.{Pps}
@@ -16,10 +17,14 @@ use Rattle.h264_verify.specs.declared.judge.State.{State}
 use Rattle.h264_verify.specs.declared.slices.Slices.{Slices}
 use Rattle.h264_verify.specs.declared.picture.OpenPicture.{OpenPicture}
 use Rattle.h264_verify.specs.declared.picture.Types.{Types}
+use Rattle.h264_base.specs.declared.mode.Mode.{Mode}
+use Rattle.h264_base.specs.declared.mode.Mode.TheVariants as modes
 use Rattle.h264_base.specs.declared.rule.Rule.TheVariants.{SliceType}
+use Rattle.h264_picture.specs.declared.work.Work.{Work}
+use Rattle.h264_picture.specs.Holds.{Holds}
 use Rattle.h264_verify.specs.Demands.{Demand}
 use Rattle.h264_verify.specs.History.{History, maps_of}
-use Rattle.h264_verify.specs.Pictures.{CodedSlice, CodedPicture, last_slice, goes_on, open_of, joined_to, runs_of, counted, is_idr, is_reference, picture_of, numbering_of, entered, prev_ref_frame_num_of, held_after, held_in}
+use Rattle.h264_verify.specs.Pictures.{CodedSlice, CodedPicture, last_slice, coded_of, picture_size, bit_behind, goes_on, open_of, joined_to, runs_of, counted, is_idr, is_reference, picture_of, numbering_of, prev_ref_frame_num_of, held_after, held_in}
 use Rattle.h264_verify.specs.Slices.{is_i, has_i, has_p, states_type, is_idr_due, newest_idr_of, newest_count, first_slice_rules, later_slice_rules, idr_demand, set_demand, type_demand, same_type_demand, idr_num_demand, gap_demands, id_demand, count_demand, qp_demand, list_of, list_demand, marking_demand}
 
 -- which types these slices have, and whether one says that all have its type
@@ -65,6 +70,11 @@ IsLeft false old new = new ≡ old
 abbrev pub held_by : Bool → Bool → List CodedPicture → References
 held_by ended on pictures = if on then (if ended then held_after pictures else held_in pictures) else held_after pictures
 
+-- the first bit behind the last slice of the newest picture
+abbrev pub EndsAt : List CodedPicture → ℕ → Type 0
+EndsAt [] bit = Unit {0}
+EndsAt (p ∷ pictures) bit = bit ≡ bit_behind (last_slice p).unit
+
 -- What is kept of these pictures: more slices may come to the newest, or not; it has ended, or not.
 pub record KeepsPictures (on ended : Bool) (pictures : List CodedPicture) (slices : Slices) : Type 0 where
   pub picture : HoldsOpen (open_of on pictures) slices.picture
@@ -72,6 +82,7 @@ pub record KeepsPictures (on ended : Bool) (pictures : List CodedPicture) (slice
   pub counts : KeepsCounts (map counted pictures) slices.counts
   pub count : slices.count ≡ newest_count (map counted pictures)
   pub pictures_are : slices.pictures ≡ length pictures
+  pub behind : EndsAt pictures slices.behind
   pub prev_ref : slices.prev_ref_frame_num ≡ prev_ref_frame_num_of pictures
   pub held : slices.held ≡ held_by ended on pictures
 
@@ -80,13 +91,30 @@ pub record KeepsSlices (before : History) (ended : Bool) (slices : Slices) : Typ
   pub due : slices.due ≡ is_idr_due before
   pub kept : KeepsPictures (goes_on before) ended (runs_of before) slices
 
-pub record KeepsWithin (before : History) (ended : Bool) (state : State) : Type 0 where
+-- where slice data are read, what is kept of the macroblocks of the picture that may go on
+abbrev pub HoldsCoded : Option CodedPicture → Work → Type 0
+HoldsCoded None work = Unit {0}
+HoldsCoded (Some p) work = Holds p.first.sps.frame_size.width (picture_size p.first.sps) (last_slice p).macroblocks work
+
+-- what is kept of the macroblocks of the newest picture, behind which a slice begins a picture or not
+abbrev pub HoldsNewest : Bool → List CodedPicture → Work → Type 0
+HoldsNewest true pictures work = Unit {0}
+HoldsNewest false [] work = ⊥
+HoldsNewest false (p ∷ pictures) work = HoldsCoded (Some p) work
+
+unfoldable pub KeepsWork : Mode → Option CodedPicture → Work → Type 0
+KeepsWork modes.Units picture work = Unit {0}
+KeepsWork modes.Headers picture work = Unit {0}
+KeepsWork modes.Full picture work = HoldsCoded picture work
+
+pub record KeepsWithin (mode : Mode) (before : History) (ended : Bool) (state : State) : Type 0 where
   pub units : state.units ≡ length before
   pub sets : state.sets ≡ maps_of before
   pub slices : KeepsSlices before ended state.slices
+  pub work : KeepsWork mode (open_of (goes_on before) (runs_of before)) state.work
 
-abbrev pub Keeps : History → State → Type 0
-Keeps before state = KeepsWithin before false state
+abbrev pub Keeps : Mode → History → State → Type 0
+Keeps mode before state = KeepsWithin mode before false state
 
 -- The rules of a picture's first slice from its type on, by what is kept of the pictures before it.
 abbrev pub first_by : Slices → List Picture → Pps → Sps → Header → ℕ → List Demand
@@ -135,3 +163,8 @@ standing_demands false sps due maps bit h = set_demand false maps sps h ∷ []
 abbrev pub slice_rules : Bool → List CodedPicture → CodedSlice → List Demand
 slice_rules true pictures s = first_slice_rules pictures s
 slice_rules false pictures s = later_slice_rules pictures s
+
+-- how many macroblocks are coded before a slice
+abbrev pub coded_before : Bool → List CodedPicture → ℕ
+coded_before true pictures = 0
+coded_before false pictures = length (coded_of pictures)

@@ -7,8 +7,8 @@ pub mod Content
 pub mod Steps
 pub mod History
 pub mod Pictures
-pub mod Unused
 pub mod Slices
+pub mod Data
 pub mod Keeping
 pub mod Units
 pub mod UnitOutcome

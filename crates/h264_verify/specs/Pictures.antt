@@ -1,9 +1,12 @@
 -- The pictures so far, and the reference frames that they leave (7.4.1.2.4, 7.4.3, 8.2.5). To be read beside the standard.
-use Rattle.std.specs.Prelude.{take, ℕ, zero, suc, ◌+◌, ◌-◌, ◌%◌, ◌^◌, nat_le, ◌&&◌, ◌||◌, ◌==◌, not, Bool, true, false, Option, Some, None, unwrap_or, Result, Ok, Err, List, [], ◌∷◌, map, length, if◌then◌else◌}
+use Rattle.std.specs.Prelude.{take, ℕ, zero, suc, ◌+◌, ◌*◌, ◌^◌, nat_le, ◌&&◌, ◌||◌, ◌==◌, not, Bool, true, false, Option, Some, None, unwrap_or, Result, Ok, Err, List, [], ◌∷◌, map, length, if◌then◌else◌}
 use Rattle.std.specs.List.{list_any}
 use Rattle.std.specs.Option.{is_some, option_and_then, option_map}
 use Rattle.std.specs.Result.{result_unwrap_or}
-use Rattle.h264_base.specs.declared.rule.Rule.TheVariants.{MarkCommand}
+use Rattle.h264_base.specs.declared.mode.Mode.{Mode}
+use Rattle.h264_base.specs.declared.mode.Mode.TheVariants as modes
+use Rattle.h264_base.specs.declared.rule.Rule.TheVariants.{Incomplete, MarkCommand}
+use Rattle.h264_base.specs.declared.stop.Feature.TheVariants.{Pending}
 use Rattle.h264_bits.specs.declared.element.Found.{Found}
 use Rattle.h264_sps.specs.declared.sps.Sps.{Sps}
 use Rattle.h264_sps.specs.declared.count_type.CountType.{CountType}
@@ -23,13 +26,15 @@ use Rattle.h264_poc.specs.declared.picture.Order.{Order}
 use Rattle.h264_poc.specs.declared.picture.Order.TheVariants as order
 use Rattle.h264_marking.specs.declared.frame.Numbering.{Numbering}
 use Rattle.h264_marking.specs.Frames.{References}
-use Rattle.h264_marking.specs.Window.{filled}
+use Rattle.h264_marking.specs.Gaps.{last_or, unused_short_term_frame_nums, entered}
 use Rattle.h264_marking.specs.Held.{no_references, marked}
-use Rattle.h264_units.specs.Stream.{NalUnit}
+use Rattle.h264_units.specs.Stream.{NalUnit, past}
 use Rattle.h264_sets.specs.Sets.{Maps}
-use Rattle.h264_verify.specs.Content.{Content, Macroblock}
+use Rattle.h264_near.specs.Coded.{CodedMacroblock}
+use Rattle.h264_verify.specs.Content.{Content}
 use Rattle.h264_verify.specs.Content as contents
 use Rattle.h264_verify.specs.Demands.{Demand}
+use Rattle.h264_verify.specs.Steps.{Step, Needs, Pends}
 use Rattle.h264_verify.specs.UnitHeader.{header_of, nal_unit_type}
 use Rattle.h264_verify.specs.History.{History, maps_of}
 
@@ -37,11 +42,12 @@ use Rattle.h264_verify.specs.History.{History, maps_of}
 abbrev pub ends_picture : ℕ → Bool
 ends_picture kind = nat_le 6 kind && nat_le kind 11
 
--- A slice: the unit in which it stands, its header and its macroblocks, and the parameter sets that it names.
+-- A slice: the unit in which it stands, its header, the macroblocks of its picture up to its end, and the parameter sets that it
+-- names.
 pub record CodedSlice : Type 0 where
   pub unit : NalUnit
   pub header : Header
-  pub macroblocks : List Macroblock
+  pub macroblocks : List CodedMacroblock
   pub pps : Pps
   pub sps : Sps
 
@@ -58,11 +64,24 @@ last_in first (slice ∷ later) = slice
 abbrev pub last_slice : CodedPicture → CodedSlice
 last_slice p = last_in p.first p.later
 
+-- the macroblocks of the newest of these pictures
+abbrev pub coded_of : List CodedPicture → List CodedMacroblock
+coded_of [] = []
+coded_of (p ∷ pictures) = (last_slice p).macroblocks
+
+-- how many macroblocks a picture has (7.4.2.1.1)
+abbrev pub picture_size : Sps → ℕ
+picture_size sps = sps.frame_size.width * sps.frame_size.height
+
+-- the first stream bit behind a unit
+abbrev pub bit_behind : NalUnit → ℕ
+bit_behind unit = 8 * past unit
+
 -- the parameter sets that a slice names
 abbrev pub sets_at : History → Header → Option (Pps × Sps)
 sets_at before h = sets_of (maps_of before) h.pic_parameter_set_id.value
 
-abbrev pub with_sets : NalUnit → Header → List Macroblock → Pps × Sps → CodedSlice
+abbrev pub with_sets : NalUnit → Header → List CodedMacroblock → Pps × Sps → CodedSlice
 with_sets unit h macroblocks sets = record { unit = unit; header = h; macroblocks = macroblocks; pps = sets.0; sps = sets.1 }
 
 -- the slice that stands in a unit, if it is one
@@ -161,23 +180,6 @@ pictures_of before = map counted (runs_of before)
 abbrev pub numbering_of : Sps → Header → Numbering
 numbering_of sps h = record { frame_num = h.frame_num.value; max_frame_num = 2 ^ sps.log2_max_frame_num; max_num_ref_frames = sps.max_num_ref_frames }
 
--- so many numbers from this one on, modulo MaxFrameNum
-abbrev pub numbers_from : ℕ → ℕ → ℕ → List ℕ
-numbers_from zero number max_frame_num = []
-numbers_from (suc n) number max_frame_num = number ∷ numbers_from n ((number + 1) % max_frame_num) max_frame_num
-
--- how many numbers lie between PrevRefFrameNum and frame_num, modulo MaxFrameNum; none where they are the same
-abbrev pub gap_before : Bool → ℕ → Numbering → ℕ
-gap_before idr prev n = if idr || n.frame_num == prev then 0 else (n.frame_num + n.max_frame_num - (prev + 1)) % n.max_frame_num
-
--- The values of UnusedShortTermFrameNum before a picture: the numbers behind PrevRefFrameNum that are missing (7.4.3).
-abbrev pub unused_short_term_frame_nums : Bool → ℕ → Numbering → List ℕ
-unused_short_term_frame_nums idr prev n = numbers_from (gap_before idr prev n) ((prev + 1) % n.max_frame_num) n.max_frame_num
-
-abbrev pub last_or : ℕ → List ℕ → ℕ
-last_or prev [] = prev
-last_or prev (n ∷ ns) = last_or n ns
-
 -- PrevRefFrameNum behind a picture: its frame_num, or 0 after operation 5, where it is a reference; else that of the last missing
 -- frame, where there was one.
 abbrev pub prev_ref_frame_num_behind : Bool → Bool → Bool → Numbering → ℕ → ℕ
@@ -189,15 +191,6 @@ prev_ref_frame_num_by p prev = prev_ref_frame_num_behind (is_idr p.first.header)
 abbrev pub prev_ref_frame_num_of : List CodedPicture → ℕ
 prev_ref_frame_num_of [] = 0
 prev_ref_frame_num_of (p ∷ ps) = prev_ref_frame_num_by p (prev_ref_frame_num_of ps)
-
--- the frames of these missing numbers, one after another
-abbrev pub all_filled : Numbering → List ℕ → References → Option References
-all_filled n [] refs = Some refs
-all_filled n (number ∷ numbers) refs = option_and_then (all_filled n numbers) (filled (record n { frame_num = number }) refs)
-
--- what is held once the gap before a picture is filled
-abbrev pub entered : Bool → ℕ → Numbering → References → References
-entered idr prev n refs = unwrap_or (all_filled n (unused_short_term_frame_nums idr prev n) refs) refs
 
 abbrev pub entered_by : CodedPicture → ℕ → References → References
 entered_by p prev refs = entered (is_idr p.first.header) prev (numbering_of p.first.sps p.first.header) refs
@@ -244,6 +237,23 @@ end_of_picture (p ∷ ps) = mark_demand (ended_by p (length ps) (held_in (p ∷ 
 -- The rules at the end of the picture that may go on behind these units, if there is one.
 abbrev pub closing_demands : History → List Demand
 closing_demands before = if goes_on before then end_of_picture (runs_of before) else []
+
+-- At the end of a picture all its macroblocks are coded. Its samples, and what comes behind them, are not judged yet.
+abbrev pub whole_picture : List CodedPicture → List Step
+whole_picture [] = []
+whole_picture (p ∷ pictures) =
+    Needs (record { rule = Incomplete; bit = bit_behind (last_slice p).unit; met = length (last_slice p).macroblocks == picture_size p.first.sps })
+    ∷ Pends Pending (bit_behind (last_slice p).unit)
+    ∷ []
+
+-- Before the rules at the end of the picture that may go on, where slice data are read.
+abbrev pub whole_steps : Mode → History → List Step
+whole_steps modes.Units before = []
+whole_steps modes.Headers before = []
+whole_steps modes.Full before = if goes_on before then whole_picture (runs_of before) else []
+
+abbrev pub whole_at : Mode → ℕ → History → List Step
+whole_at mode kind before = if ends_picture kind then whole_steps mode before else []
 
 -- those before the content of a unit of this type
 abbrev pub closing_at : ℕ → History → List Demand

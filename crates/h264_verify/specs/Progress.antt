@@ -15,16 +15,16 @@ pub record Progress : Type 0 where
   pub stop : Option Stop
 
 -- between two calls no unit waits, each unit so far had a byte of the input, and there are units whose this is kept
-abbrev pub IsReady : Splitting → State → Type 0
-IsReady split state = ((split.stop ≡ None) × IsFalse split.waiting × IsFalse split.ended) × (state.units ≤ split.at) × (state.slices.pictures ≤ state.units) × ((before : History) × Keeps before state)
+abbrev pub IsReady : Mode → Splitting → State → Type 0
+IsReady mode split state = ((split.stop ≡ None) × IsFalse split.waiting × IsFalse split.ended) × (state.units ≤ split.at) × (state.slices.pictures ≤ state.units) × ((before : History) × Keeps mode before state)
 
-abbrev pub IsSession : Option Stop → Splitting → State → Type 0
-IsSession None split state = IsReady split state
-IsSession (Some stop) split state = Unit {0}
+abbrev pub IsSession : Mode → Option Stop → Splitting → State → Type 0
+IsSession mode None split state = IsReady mode split state
+IsSession mode (Some stop) split state = Unit {0}
 
 -- before the first byte nothing was kept
 pub record IsFresh (session : Progress) (mode : Mode) : Type 0 where
   pub mode_is : session.mode ≡ mode
   pub split : session.split ≡ at_start
-  pub keeps : Keeps [] session.state
+  pub keeps : Keeps session.mode [] session.state
   pub stop : session.stop ≡ None

@@ -1,10 +1,12 @@
 -- The rules that a slice meets beside its own syntax (7.4.1.2, 7.4.3, 8.2.1, 8.2.4). To be read beside the standard.
-use Rattle.std.specs.Prelude.{ℕ, ◌*◌, ◌==◌, ◌&&◌, ◌||◌, not, Bool, true, false, Option, Some, None, Result, Ok, List, [], ◌∷◌, ◌++◌, map, ℤ, pos, ◌+ℤ◌, int_le, if◌then◌else◌}
+use Rattle.std.specs.Prelude.{ℕ, ◌*◌, ◌==◌, ◌&&◌, ◌||◌, not, Bool, true, false, Option, Some, None, Result, Ok, List, [], ◌∷◌, ◌++◌, map, length, ℤ, pos, ◌+ℤ◌, int_le, if◌then◌else◌}
 use Rattle.std.specs.Bool.{beq}
 use Rattle.std.specs.Int.{int_min}
 use Rattle.std.specs.List.{list_any}
 use Rattle.std.specs.Option.{is_some}
 use Rattle.h264_base.specs.declared.rule.Rule.TheVariants as rule
+use Rattle.h264_base.specs.declared.mode.Mode.{Mode}
+use Rattle.h264_base.specs.declared.mode.Mode.TheVariants as modes
 use Rattle.h264_base.specs.declared.mode.SliceType.{SliceType}
 use Rattle.h264_base.specs.declared.mode.SliceType.TheVariants as slice_type
 use Rattle.h264_base.specs.Call.{Call, OfSlice}
@@ -26,7 +28,8 @@ use Rattle.h264_poc.specs.declared.picture.Picture.{Picture}
 use Rattle.h264_poc.specs.declared.picture.Count.{Count}
 use Rattle.h264_poc.specs.Counts.{count_of}
 use Rattle.h264_marking.specs.declared.frame.Numbering.{Numbering}
-use Rattle.h264_marking.specs.Frames.{References, has_frame_num}
+use Rattle.h264_marking.specs.Frames.{References}
+use Rattle.h264_marking.specs.Gaps.{is_new_num, gap_before, unused_short_term_frame_nums, all_filled, entered}
 use Rattle.h264_lists.specs.declared.slot.RefSlot.{RefSlot}
 use Rattle.h264_lists.specs.Built.{built}
 use Rattle.h264_verify.specs.Content.{Content}
@@ -36,7 +39,7 @@ use Rattle.h264_verify.specs.Steps as step
 use Rattle.h264_verify.specs.Demands.{Demand}
 use Rattle.h264_verify.specs.UnitHeader.{header_of, nal_unit_type}
 use Rattle.h264_verify.specs.History.{History, maps_of}
-use Rattle.h264_verify.specs.Pictures.{CodedSlice, CodedPicture, sets_at, with_sets, goes_on, joined_to, runs_of, begins_at, is_idr, is_reference, picture_of, numbering_of, gap_before, unused_short_term_frame_nums, all_filled, entered, prev_ref_frame_num_of, held_after, held_in, bit_of, is_met, counted, closing_demands}
+use Rattle.h264_verify.specs.Pictures.{CodedSlice, CodedPicture, sets_at, with_sets, goes_on, joined_to, runs_of, begins_at, is_idr, is_reference, picture_of, numbering_of, prev_ref_frame_num_of, held_after, held_in, bit_of, is_met, counted, coded_of, whole_steps, closing_demands}
 
 abbrev pub is_i : SliceKind → Bool
 is_i kinds.I = true
@@ -142,10 +145,6 @@ states_type slices = list_any (λ s. s.header.same_type_in_picture) slices
 abbrev pub agrees : List CodedSlice → Header → Bool
 agrees slices h = not (h.same_type_in_picture || states_type slices) || not (if is_i h.kind.value then has_p slices else has_i slices)
 
--- a reference picture has neither PrevRefFrameNum nor the frame_num of a held short-term frame
-abbrev pub is_new_num : ℕ → ℕ → References → Bool
-is_new_num prev frame_num refs = not (frame_num == prev) && not (list_any (has_frame_num frame_num) refs.frames)
-
 -- An IDR picture comes where one is due (7.4.1.2.1).
 abbrev pub idr_demand : Bool → ℕ → Header → Demand
 idr_demand due bit h = record { rule = rule.FirstPicture; bit = bit; met = not due || is_idr h }
@@ -153,6 +152,12 @@ idr_demand due bit h = record { rule = rule.FirstPicture; bit = bit; met = not d
 -- Only a picture that is an IDR picture changes the sequence parameter set (7.4.1.2.1).
 abbrev pub set_demand : Bool → Maps → Sps → Header → Demand
 set_demand renews maps sps h = record { rule = rule.SetChanged; bit = h.pic_parameter_set_id.bit; met = renews || is_active maps sps }
+
+-- first_mb_in_slice is the number of macroblocks that are already coded in the picture (7.4.3). Slice data tell it.
+abbrev pub first_mb_demands : Mode → ℕ → Header → List Demand
+first_mb_demands modes.Units coded h = []
+first_mb_demands modes.Headers coded h = []
+first_mb_demands modes.Full coded h = record { rule = rule.FirstMb; bit = h.first_mb_in_slice.bit; met = h.first_mb_in_slice.value == coded } ∷ []
 
 -- IDR slices, and all where there are no reference frames, are I (7.4.3).
 abbrev pub type_demand : Sps → Header → Demand
@@ -233,15 +238,22 @@ later_slice_rules pictures s =
     ∷ []
 
 -- All rules of a picture's first slice, and of a later slice.
-abbrev pub first_slice_demands : Bool → Maps → List CodedPicture → CodedSlice → List Demand
-first_slice_demands due maps pictures s = idr_demand due (first_bit s) s.header ∷ set_demand (is_idr s.header) maps s.sps s.header ∷ first_slice_rules pictures s
+abbrev pub first_slice_demands : Mode → Bool → Maps → List CodedPicture → CodedSlice → List Demand
+first_slice_demands mode due maps pictures s =
+    idr_demand due (first_bit s) s.header
+    ∷ set_demand (is_idr s.header) maps s.sps s.header
+    ∷ first_mb_demands mode 0 s.header
+    ++ first_slice_rules pictures s
 
-abbrev pub later_slice_demands : Maps → List CodedPicture → CodedSlice → List Demand
-later_slice_demands maps pictures s = set_demand false maps s.sps s.header ∷ later_slice_rules pictures s
+abbrev pub later_slice_demands : Mode → Maps → List CodedPicture → CodedSlice → List Demand
+later_slice_demands mode maps pictures s =
+    set_demand false maps s.sps s.header
+    ∷ first_mb_demands mode (length (coded_of pictures)) s.header
+    ++ later_slice_rules pictures s
 
-abbrev pub rules_of : Bool → Bool → Maps → List CodedPicture → CodedSlice → List Demand
-rules_of true due maps pictures s = first_slice_demands due maps pictures s
-rules_of false due maps pictures s = later_slice_demands maps pictures s
+abbrev pub rules_of : Mode → Bool → Bool → Maps → List CodedPicture → CodedSlice → List Demand
+rules_of mode true due maps pictures s = first_slice_demands mode due maps pictures s
+rules_of mode false due maps pictures s = later_slice_demands mode maps pictures s
 
 -- the count of a frame is the lesser of its fields'
 abbrev pub frame_count : Option Count → ℤ
@@ -253,13 +265,16 @@ abbrev pub slice_call : List CodedPicture → CodedSlice → Call
 slice_call pictures s = OfSlice s.unit.from s.header.first_mb_in_slice.value (type_of s.header.kind.value) s.header.frame_num.value (frame_count (newest_count (map counted pictures)))
 
 -- the steps of a slice with its sets; a header that was read has them
-abbrev pub steps_by : Option (Pps × Sps) → History → NalUnit → Header → List Step
-steps_by None before unit h = []
-steps_by (Some sets) before unit h =
-    needs (rules_of (begins_at before h) (is_idr_due before) (maps_of before) (runs_of before) (with_sets unit h [] sets))
+abbrev pub steps_by : Mode → Option (Pps × Sps) → History → NalUnit → Header → List Step
+steps_by mode None before unit h = []
+steps_by mode (Some sets) before unit h =
+    needs (rules_of mode (begins_at before h) (is_idr_due before) (maps_of before) (runs_of before) (with_sets unit h [] sets))
     ++ step.Tells (slice_call (joined_to (begins_at before h) (with_sets unit h [] sets) (runs_of before)) (with_sets unit h [] sets))
     ∷ []
 
 -- A slice behind these units: where it begins a picture, the one before it ends first; then come its rules, and it is told.
-abbrev pub slice_steps : History → NalUnit → Header → List Step
-slice_steps before unit h = needs (if begins_at before h then closing_demands before else []) ++ steps_by (sets_at before h) before unit h
+abbrev pub slice_steps : Mode → History → NalUnit → Header → List Step
+slice_steps mode before unit h =
+    (if begins_at before h then whole_steps mode before else [])
+    ++ (needs (if begins_at before h then closing_demands before else [])
+    ++ steps_by mode (sets_at before h) before unit h)

@@ -4,7 +4,7 @@ use Rattle.h264_base.specs.declared.mode.Mode.{Mode}
 use Rattle.h264_base.specs.declared.mode.Mode.TheVariants as modes
 use Rattle.h264_base.specs.declared.stop.Stop.TheVariants.{No, Outside}
 use Rattle.h264_base.specs.Body.{Body}
-use Rattle.h264_base.specs.Grammar.{Grammar}
+use Rattle.h264_base.specs.Grammar.{Grammar, Done, ◌>>=◌ as ◌bind◌}
 use Rattle.h264_base.specs.Run.{run, call_of}
 use Rattle.h264_units.specs.Stream.{NalUnit}
 use Rattle.h264_rbsp.specs.Emulation.{emulation_checked}
@@ -19,11 +19,11 @@ use Rattle.h264_verify.specs.Content as contents
 use Rattle.h264_verify.specs.Demands.{judged}
 use Rattle.h264_verify.specs.Outcome.{Outcome, ◌>>=◌, with_calls, answers, gives, tells, structure_outcome}
 use Rattle.h264_verify.specs.Judging.{Judging}
-use Rattle.h264_verify.specs.Steps.{Step, Needs, Pends, Tells, Course, Takes, Reads, Ends}
+use Rattle.h264_verify.specs.Steps.{Step, Needs, Pends, Tells, needs, Course, Takes, Reads, Ends}
 use Rattle.h264_verify.specs.UnitHeader.{header_of, nal_unit_type, header_demands}
 use Rattle.h264_verify.specs.History.{History, maps_of}
-use Rattle.h264_verify.specs.Pictures.{closing_at}
-use Rattle.h264_verify.specs.Units.{unit_call, is_slice, slice_unit, content_steps, unit_course, end_steps, summary_of}
+use Rattle.h264_verify.specs.Pictures.{whole_at, closing_at}
+use Rattle.h264_verify.specs.Units.{unit_call, is_slice, slice_unit, content_steps, data_course, unit_course, end_steps, summary_of}
 
 -- steps, one after another
 abbrev pub steps_outcome : List Step → Outcome (Unit {0})
@@ -58,20 +58,39 @@ slice_outcome before unit = do
   h ← structure_outcome (header (sets_of (maps_of before)) (slice_unit unit)) (body_of unit)
   gives (contents.OfSlice h [])
 
--- what is in a unit that is no parameter set: slices are read unless they are passed over
-unfoldable pub other_outcome : Mode → ℕ → History → NalUnit → Outcome Content
-other_outcome modes.Units kind before unit = gives contents.Passed
-other_outcome modes.Headers kind before unit = if is_slice kind then slice_outcome before unit else gives contents.Passed
-
-unfoldable pub content_outcome : Mode → ℕ → History → NalUnit → Outcome Content
-content_outcome mode kind before unit = if kind == 7 then sps_outcome unit else (if kind == 8 then pps_outcome unit else other_outcome mode kind before unit)
-
 -- what is in a unit is judged, and belongs to the history then
-abbrev pub joined : History → NalUnit → Outcome Content → Outcome History
-joined before unit content = do
+abbrev pub joined : Mode → History → NalUnit → Outcome Content → Outcome History
+joined mode before unit content = do
   found ← content
-  _ ← steps_outcome (content_steps before unit found)
+  _ ← steps_outcome (content_steps mode before unit found)
   gives (record { unit = unit; content = found } ∷ before)
+
+-- what is in a unit is judged with what stands behind it, and belongs to the history then
+abbrev pub joined_on : Mode → History → NalUnit → Outcome (Content × ℕ) → Outcome History
+joined_on mode before unit content = do
+  x ← content
+  _ ← steps_outcome (content_steps mode before unit x.0)
+  found ← course_outcome (body_of unit) (data_course mode before unit x.0 x.1)
+  gives (record { unit = unit; content = found } ∷ before)
+
+-- a slice with its slice data
+abbrev pub header_content : History → NalUnit → Grammar Content
+header_content before unit = ◌bind◌ (header (sets_of (maps_of before)) (slice_unit unit)) (λ h. Done (contents.OfSlice h []))
+
+unfoldable pub whole_slice : History → NalUnit → Outcome History
+whole_slice before unit = joined_on modes.Full before unit (structure_from (header_content before unit) (body_of unit) 0)
+
+-- a unit that is no parameter set: slices are read unless they are passed over
+unfoldable pub joined_other : Mode → ℕ → History → NalUnit → Outcome History
+joined_other modes.Units kind before unit = joined modes.Units before unit (gives contents.Passed)
+joined_other modes.Headers kind before unit = if is_slice kind then joined modes.Headers before unit (slice_outcome before unit) else joined modes.Headers before unit (gives contents.Passed)
+joined_other modes.Full kind before unit = if is_slice kind then whole_slice before unit else joined modes.Full before unit (gives contents.Passed)
+
+unfoldable pub joined_by : Mode → ℕ → History → NalUnit → Outcome History
+joined_by mode kind before unit =
+    if kind == 7 then joined mode before unit (sps_outcome unit)
+    else (if kind == 8 then joined mode before unit (pps_outcome unit)
+    else joined_other mode kind before unit)
 
 -- the course of a unit step by step
 unfoldable pub unit_by_steps : Mode → History → NalUnit → Outcome History
@@ -79,8 +98,8 @@ unit_by_steps mode before unit = do
   _ ← answers (emulation_checked unit.from unit.body)
   _ ← answers (judged (header_demands (8 * unit.from) (header_of unit)))
   _ ← tells (unit_call unit.from (header_of unit) (length unit.body))
-  _ ← answers (judged (closing_at (nal_unit_type (header_of unit)) before))
-  joined before unit (content_outcome mode (nal_unit_type (header_of unit)) before unit)
+  _ ← steps_outcome (whole_at mode (nal_unit_type (header_of unit)) before ++ needs (closing_at (nal_unit_type (header_of unit)) before))
+  joined_by mode (nal_unit_type (header_of unit)) before unit
 
 -- what comes of a unit: it joins those before it, once its course has come to its end
 unfoldable pub unit_outcome : Mode → History → NalUnit → Outcome History

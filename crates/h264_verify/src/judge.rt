@@ -3,6 +3,7 @@
 
 use crate::slices::Slices;
 use h264_header::Header;
+use h264_picture::Work;
 use h264_sets::Sets;
 
 /// What a whole stream has, where it is legal.
@@ -27,4 +28,6 @@ pub struct State {
     pub(crate) slices: Slices,
     /// The place into which the header of a slice is read: it is large to move.
     pub(crate) header: Header,
+    /// The picture whose slice data are read.
+    pub(crate) work: Work,
 }

@@ -10,6 +10,7 @@
 //! Not promised: that memory suffices.
 #![tactic(auto)]
 
+mod data;
 mod frame_num;
 pub mod judge;
 pub mod laws;

@@ -23,7 +23,7 @@ use h264_sps::sps::Sps;
 use std::mem;
 
 /// Which types the slices of a picture have.
-#[derive(Clone, Copy, Debug, PartialEq, Eq)]
+#[derive(Clone, Copy)]
 pub struct Types {
     pub(crate) i: bool,
     pub(crate) p: bool,
@@ -189,7 +189,8 @@ fn keep_marking(kept: &mut Option<Found<Marking>>, marking: &mut Option<Found<Ma
 /// A picture that has begun with this slice.
 #[inline(never)]
 fn begun(header: &mut Header, numbering: Numbering) -> OpenPicture
-    ensures { (slice : CodedSlice) → slice.header ≡ header.old → numbering ≡ numbering_of slice.sps slice.header → HoldsPicture (record { first = slice; later = [] }) result }
+    ensures holds { (slice : CodedSlice) → slice.header ≡ header.old → numbering ≡ numbering_of slice.sps slice.header → HoldsPicture (record { first = slice; later = [] }) result }
+    ensures header { header.new ≡ record header.old { marking = header.new.marking } }
 {
     let types = types_with(seen_types(&None), header);
     OpenPicture {
@@ -202,7 +203,8 @@ fn begun(header: &mut Header, numbering: Numbering) -> OpenPicture
 
 /// A picture that begins with this slice, in the place of the one before.
 fn restart(picture: &mut OpenPicture, header: &mut Header, numbering: Numbering)
-    ensures { (slice : CodedSlice) → slice.header ≡ header.old → numbering ≡ numbering_of slice.sps slice.header → HoldsPicture (record { first = slice; later = [] }) picture.new }
+    ensures holds { (slice : CodedSlice) → slice.header ≡ header.old → numbering ≡ numbering_of slice.sps slice.header → HoldsPicture (record { first = slice; later = [] }) picture.new }
+    ensures header { header.new ≡ record header.old { marking = header.new.marking } }
 {
     picture.types = types_with(seen_types(&None), header);
     picture.last = picture_elements(header);
@@ -212,7 +214,8 @@ fn restart(picture: &mut OpenPicture, header: &mut Header, numbering: Numbering)
 
 /// A picture begins with this slice, where another may have gone on.
 pub(crate) fn begin(picture: &mut Option<OpenPicture>, header: &mut Header, numbering: Numbering)
-    ensures { (slice : CodedSlice) → slice.header ≡ header.old → numbering ≡ numbering_of slice.sps slice.header → HoldsOpen (Some (record { first = slice; later = [] })) picture.new }
+    ensures holds { (slice : CodedSlice) → slice.header ≡ header.old → numbering ≡ numbering_of slice.sps slice.header → HoldsOpen (Some (record { first = slice; later = [] })) picture.new }
+    ensures header { header.new ≡ record header.old { marking = header.new.marking } }
 {
     match picture {
         None => *picture = Some(begun(header, numbering)),

@@ -19,6 +19,7 @@ use crate::slices::no_slices;
 use crate::unit::{judge_end, judge_unit};
 use h264_base::{Mode, Stop, Target};
 use h264_header::Header;
+use h264_picture::Work;
 use h264_sets::Sets;
 use h264_units::Splitter;
 use std::alloc::Global;
@@ -39,13 +40,13 @@ fn feed_some<S: FrameSink>(
     requires counted { state.old.units ≤ splitter.old.at }
     requires pictures { state.old.slices.pictures ≤ state.old.units }
     ensures within { IfOk result (λ n. (0 < n) × (n ≤ length piece.now)) }
-    ensures goes { (before : History) → Keeps before state.old → IfOk result (λ n. GoesOn mode S.took (behind splitter.old before) splitter.new state.new piece.now (drop n piece.now) sink.old sink.new) }
+    ensures goes { (before : History) → Keeps mode before state.old → IfOk result (λ n. GoesOn mode S.took (behind splitter.old before) splitter.new state.new piece.now (drop n piece.now) sink.old sink.new) }
     ensures runs { OnOk result ((splitter.new.stop ≡ None) × IsFalse splitter.new.waiting × IsFalse splitter.new.ended) }
     ensures counted { OnOk result (state.new.units ≤ splitter.new.at) }
     ensures pictures { OnOk result (state.new.slices.pictures ≤ state.new.units) }
     ensures undecided { OnOk result (IsUndecided splitter.new.rest) }
     ensures kept { OnOk result (S.failures sink.new ≡ S.failures sink.old) }
-    ensures stops { (before : History) → Keeps before state.old → IfErr result (Stops (judging mode) S.took S.failures (behind splitter.old before) piece.now sink.old sink.new) }
+    ensures stops { (before : History) → Keeps mode before state.old → IfErr result (Stops (judging mode) S.took S.failures (behind splitter.old before) piece.now sink.old sink.new) }
 {
     let n = splitter.push(piece)?;
     match splitter.take_unit() {
@@ -77,13 +78,13 @@ fn feed_all<S: FrameSink>(
     requires runs { (splitter.old.stop ≡ None) × IsFalse splitter.old.waiting × IsFalse splitter.old.ended }
     requires counted { state.old.units ≤ splitter.old.at }
     requires pictures { state.old.slices.pictures ≤ state.old.units }
-    ensures goes { (before : History) → Keeps before state.old → OnOk result (GoesOn mode S.took (behind splitter.old before) splitter.new state.new piece.now [] sink.old sink.new) }
+    ensures goes { (before : History) → Keeps mode before state.old → OnOk result (GoesOn mode S.took (behind splitter.old before) splitter.new state.new piece.now [] sink.old sink.new) }
     ensures runs { OnOk result ((splitter.new.stop ≡ None) × IsFalse splitter.new.waiting × IsFalse splitter.new.ended) }
     ensures counted { OnOk result (state.new.units ≤ splitter.new.at) }
     ensures pictures { OnOk result (state.new.slices.pictures ≤ state.new.units) }
     ensures undecided { OnOk result (IsUndecided splitter.old.rest → IsUndecided splitter.new.rest) }
     ensures kept { OnOk result (S.failures sink.new ≡ S.failures sink.old) }
-    ensures stops { (before : History) → Keeps before state.old → IfErr result (Stops (judging mode) S.took S.failures (behind splitter.old before) piece.now sink.old sink.new) }
+    ensures stops { (before : History) → Keeps mode before state.old → IfErr result (Stops (judging mode) S.took S.failures (behind splitter.old before) piece.now sink.old sink.new) }
 {
     let mut rest = piece;
     while !rest.is_empty() {
@@ -105,7 +106,7 @@ fn finish_all<S: FrameSink>(
     requires runs { (splitter.old.stop ≡ None) × IsFalse splitter.old.waiting × IsFalse splitter.old.ended }
     requires counted { state.old.units ≤ splitter.old.at }
     requires pictures { state.old.slices.pictures ≤ state.old.units }
-    ensures { (before : History) → Keeps before state.old → Finishes (judging mode) S.took S.failures (behind splitter.old before) sink.old sink.new result }
+    ensures { (before : History) → Keeps mode before state.old → Finishes (judging mode) S.took S.failures (behind splitter.old before) sink.old sink.new result }
 {
     splitter.finish()?;
     match splitter.take_unit() {
@@ -134,11 +135,11 @@ impl Model for Session {
 
     ghost view = { λ s. record { mode = s.mode; split = s.splitter; state = s.state; stop = s.stop } };
 
-    ghost invariant = { λ s. IsSession s.stop s.splitter s.state };
+    ghost invariant = { λ s. IsSession s.mode s.stop s.splitter s.state };
 }
 
 impl Session {
-    /// A session before the first byte. It takes the places of the parameter sets: Memory where they are refused.
+    /// A session before the first byte. It takes the places of the parameter sets and a first place of contexts: Memory where they are refused.
     pub fn new(alloc: Global, mode: Mode, _target: Target) -> Result<Session, Stop>
         ensures fresh { IfOk result (λ s. IsFresh s mode) }
         ensures fed { IfOk result (λ s. WasFed mode s [] []) }
@@ -147,6 +148,7 @@ impl Session {
         let Ok(sets) = Sets::new(alloc) else {
             return Err(Stop::Memory);
         };
+        let work = Work::new(alloc)?;
         Ok(Session {
             alloc,
             mode,
@@ -156,6 +158,7 @@ impl Session {
                 sets,
                 slices: no_slices(),
                 header: Header::unread(),
+                work,
             },
             stop: None,
         })
@@ -166,12 +169,12 @@ impl Session {
         requires count { S.failures sink.old < 2 ^ 64 - 1 }
         requires runs { self.old.stop ≡ None }
         // However the input goes on, what comes is what the sink was told now and what comes later.
-        ensures goes { (before : History) → Keeps before self.old.state → OnOk result (GoesOn self.old.mode S.took (behind self.old.split before) self.new.split self.new.state piece.now [] sink.old sink.new) }
+        ensures goes { (before : History) → Keeps self.old.mode before self.old.state → OnOk result (GoesOn self.old.mode S.took (behind self.old.split before) self.new.split self.new.state piece.now [] sink.old sink.new) }
         ensures undecided { OnOk result (IsUndecided self.old.split.rest → IsUndecided self.new.split.rest) }
         ensures going { OnOk result (self.new.stop ≡ None) }
         ensures kept { OnOk result (S.failures sink.new ≡ S.failures sink.old) }
         // The stop is the stream's, or the sink failed, or memory was refused.
-        ensures stops { (before : History) → Keeps before self.old.state → IfErr result (Stops (judging self.old.mode) S.took S.failures (behind self.old.split before) piece.now sink.old sink.new) }
+        ensures stops { (before : History) → Keeps self.old.mode before self.old.state → IfErr result (Stops (judging self.old.mode) S.took S.failures (behind self.old.split before) piece.now sink.old sink.new) }
         ensures stopped { IfErr result (λ stop. self.new.stop ≡ Some stop) }
         ensures mode { self.new.mode ≡ self.old.mode }
         ensures write { IsErrOf result Stop.Write → S.failures sink.new ≡ S.failures sink.old + 1 }
@@ -197,7 +200,7 @@ impl Session {
     pub(crate) fn conclude<S: FrameSink>(self, sink: &mut S) -> Result<Summary, Stop>
         requires count { S.failures sink.old < 2 ^ 64 - 1 }
         requires runs { self.stop ≡ None }
-        ensures finishes { (before : History) → Keeps before self.state → Finishes (judging self.mode) S.took S.failures (behind self.split before) sink.old sink.new result }
+        ensures finishes { (before : History) → Keeps self.mode before self.state → Finishes (judging self.mode) S.took S.failures (behind self.split before) sink.old sink.new result }
         ensures write { IsErrOf result Stop.Write → S.failures sink.new ≡ S.failures sink.old + 1 }
         ensures no_read { IsErrOf result Stop.Read → ⊥ }
     {

@@ -1,33 +1,39 @@
 //! The slices so far, the pictures that they begin, and the rules that a slice meets beside its own syntax.
 #![tactic(auto)]
 
-ghost use Rattle.std.specs.Prelude.{◌≡◌, ℕ, not, ◌&&◌, Bool, false, ◌==◌, ◌||◌, ◌+◌, ◌-◌, ◌*◌, ◌<◌, ◌≤◌, ◌^◌, true, Some, None, List, [], ◌∷◌, length, if◌then◌else◌, Ok, Err, OnOk, IsErrOf};
+ghost use Rattle.std.specs.Prelude.{◌≡◌, ℕ, not, ◌&&◌, Bool, false, ◌==◌, ◌||◌, ◌+◌, ◌-◌, ◌*◌, ◌<◌, ◌≤◌, ◌^◌, true, Some, None, List, [], ◌∷◌, length, if◌then◌else◌, Ok, Err, OnOk, IfErr, IsErrOf};
 ghost use Rattle.std.specs.Option.{is_some};
 ghost use Rattle.h264_base.specs.declared.stop.Stop.TheVariants.{No};
 ghost use Rattle.h264_base.specs.Call.{OfSlice};
 ghost use Rattle.h264_header.specs.Layout.{sets_of, has_lengths, has_count_lengths};
+ghost use Rattle.h264_base.specs.declared.mode.Mode.TheVariants as modes;
+ghost use Rattle.h264_header.specs.declared.header.Header.{Header};
+ghost use Rattle.h264_marking.specs.Gaps.{entered};
+ghost use Rattle.h264_near.specs.Coded.{CodedMacroblock};
 ghost use Rattle.h264_poc.specs.declared.picture.Picture.{Picture};
 ghost use Rattle.h264_poc.specs.Counts.{Keeps as KeepsCounts};
-ghost use Rattle.h264_verify.specs.Outcome.{Plays, tells};
+ghost use Rattle.h264_verify.specs.Outcome.{Plays, IsNamed, answers, tells};
 ghost use Rattle.h264_verify.specs.Demands.{judged};
 ghost use Rattle.h264_verify.specs.History.{History, maps_with, maps_of};
-ghost use Rattle.h264_verify.specs.Keeping.{KeepsSlices, HoldsOpen, IsLeft, first_by, later_by, standing_demands, slice_rules, Entered};
+ghost use Rattle.h264_verify.specs.Keeping.{KeepsSlices, KeepsWork, HoldsCoded, HoldsOpen, IsLeft, begins_by, coded_before, first_by, later_by, standing_demands, slice_rules, Entered};
 ghost use Rattle.h264_verify.specs.UnitOutcome.{steps_outcome};
 ghost use Rattle.h264_units.specs.Stream.{NalUnit as UnitView};
 ghost use Rattle.h264_verify.specs.Content as contents;
-ghost use Rattle.h264_verify.specs.Pictures.{CodedSlice, CodedPicture, open_of, joined_to, runs_of, with_sets, order_of, picture_of, numbering_of, is_idr, is_reference, entered, prev_ref_frame_num_behind, begins_at, begins_after, ends_picture, closing_demands, resets};
-ghost use Rattle.h264_verify.specs.Slices.{type_of, idr_id, count_demand, slice_steps, frame_count, newest_count};
+ghost use Rattle.h264_verify.specs.Pictures.{CodedSlice, CodedPicture, open_of, joined_to, runs_of, with_sets, order_of, picture_of, numbering_of, is_idr, is_reference, goes_on, bit_behind, whole_steps, prev_ref_frame_num_behind, begins_at, begins_after, ends_picture, closing_demands, resets};
+ghost use Rattle.h264_verify.specs.Slices.{type_of, idr_id, first_mb_demands, count_demand, slice_steps, frame_count, newest_count};
 
 use crate::frame_num::{check_gap, check_idr_num};
-use crate::picture::{OpenPicture, begin, begins, go_on, mark_end, numbering_of, resets};
+use crate::data::{check_first_mb, end_data_if};
+use crate::picture::{OpenPicture, begin, go_on, mark_end, numbering_of, resets};
 use crate::rules::{
     check_first, check_id, check_later, check_list, check_marking, check_qp, check_same_type,
     check_type, idr_id,
 };
 use crate::sink::FrameSink;
-use h264_base::{Failed, SliceType, Stop};
+use h264_base::{Failed, Mode, SliceType, Stop};
 use h264_header::{Header, PicOrderCnt, SliceKind, named_sets};
 use h264_marking::{Held, Numbering};
+use h264_picture::Work;
 use h264_poc::{Count, Counts, Cycle, Order, Picture};
 use h264_pps::Pps;
 use h264_sets::Sets;
@@ -48,6 +54,8 @@ pub struct Slices {
     pub(crate) count: Option<Count>,
     /// How many pictures have begun.
     pub(crate) pictures: u64,
+    /// The first stream bit behind the last slice's unit.
+    pub(crate) behind: u64,
     /// PrevRefFrameNum behind the newest picture.
     pub(crate) prev_ref_frame_num: u32,
     /// The reference frames.
@@ -212,7 +220,7 @@ fn check_rules(
 ) -> Result<(), Stop>
     requires { has_lengths sps.now ≡ true }
     ensures judged { (before : History) (unit : UnitView) → bit ≡ 8 * unit.from → KeepsSlices before begins slices.old → begins ≡ begins_at before header.now → result ≡ judged (slice_rules begins (runs_of before) (with_sets unit header.now [] (pps.now, sps.now))) }
-    ensures entered { (before : History) (unit : UnitView) → bit ≡ 8 * unit.from → KeepsSlices before begins slices.old → begins ≡ begins_at before header.now → OnOk result (Entered before begins (with_sets unit header.now [] (pps.now, sps.now)) slices.new) }
+    ensures entered { (before : History) (unit : UnitView) (macroblocks : List CodedMacroblock) → bit ≡ 8 * unit.from → KeepsSlices before begins slices.old → begins ≡ begins_at before header.now → OnOk result (Entered before begins (with_sets unit header.now macroblocks (pps.now, sps.now)) slices.new) }
     ensures pictures { slices.new.pictures ≡ slices.old.pictures }
     ensures no_memory { IsErrOf result Stop.Memory → ⊥ }
 {
@@ -254,6 +262,13 @@ pub(crate) fn end_if(ends: bool, slices: &mut Slices) -> Result<(), Stop>
     Ok(())
 }
 
+/// The first stream bit behind a unit.
+fn bit_behind(unit: &NalUnit) -> u64
+    ensures { result ≡ bit_behind unit.now }
+{
+    8 * (unit.from() + unit.body().len() as u64)
+}
+
 /// Tells a slice of a picture with these counts.
 fn tell_slice<S: FrameSink>(
     byte: u64,
@@ -289,16 +304,26 @@ fn frame_count(count: Option<Count>) -> i32
     }
 }
 
-/// What a slice leaves that begins a picture, or goes on with one. What is kept of its header may leave its place.
-fn enter(slices: &mut Slices, begins: bool, header: &mut Header, numbering: Numbering)
+/// What a slice leaves that begins a picture, or goes on with one, where its unit ends before this bit. The marking may leave the
+/// header's place.
+fn enter(
+    slices: &mut Slices,
+    begins: bool,
+    header: &mut Header,
+    numbering: Numbering,
+    behind: u64,
+)
     requires { slices.old.pictures < 2 ^ 42 }
     ensures picture { (on : Bool) (pictures : List CodedPicture) (slice : CodedSlice) → slice.header ≡ header.old → HoldsOpen (open_of on pictures) slices.old.picture → begins ≡ begins_after (open_of on pictures) header.old → numbering ≡ numbering_of slice.sps slice.header → HoldsOpen (open_of true (joined_to begins slice pictures)) slices.new.picture }
     ensures newest { slices.new.newest_idr ≡ (if begins then idr_id header.old.idr_pic_id else slices.old.newest_idr) }
     ensures pictures { slices.new.pictures ≡ (if begins then slices.old.pictures + 1 else slices.old.pictures) }
     ensures due { slices.new.due ≡ false }
-    ensures others { slices.new ≡ record slices.old { picture = slices.new.picture; newest_idr = slices.new.newest_idr; pictures = slices.new.pictures; due = slices.new.due } }
+    ensures behind { slices.new.behind ≡ behind }
+    ensures others { slices.new ≡ record slices.old { picture = slices.new.picture; newest_idr = slices.new.newest_idr; pictures = slices.new.pictures; due = slices.new.due; behind = slices.new.behind } }
+    ensures header { header.new ≡ record header.old { marking = header.new.marking } }
 {
     slices.due = false;
+    slices.behind = behind;
     if begins {
         slices.pictures += 1;
         slices.newest_idr = idr_id(header.idr_pic_id);
@@ -313,34 +338,43 @@ fn enter(slices: &mut Slices, begins: bool, header: &mut Header, numbering: Numb
 /// A slice behind those so far: its rules, what the sink is told of it, and what it leaves. The header's
 /// place is to be read into anew behind it.
 pub(crate) fn judge_slice<S: FrameSink>(
+    mode: Mode,
+    begins: bool,
     slices: &mut Slices,
     sets: &mut Sets,
+    work: &Work,
     unit: &NalUnit,
     header: &mut Header,
     sink: &mut S,
 ) -> Result<(), Stop>
     requires room { S.failures sink.old < 2 ^ 64 - 1 }
+    requires begins { begins ≡ begins_by slices.old.picture header.old }
     requires id { header.old.pic_parameter_set_id.value ≤ 255 }
     requires named { is_some (sets_of sets.old header.old.pic_parameter_set_id.value) ≡ true }
     requires pictures { slices.old.pictures < 2 ^ 42 }
-    ensures plays { (before : History) → KeepsSlices before false slices.old → sets.old ≡ maps_of before → Plays S.took S.failures (λ x. x) (steps_outcome (slice_steps before unit.now header.old)) sink.old sink.new result }
-    ensures keeps { (before : History) → KeepsSlices before false slices.old → sets.old ≡ maps_of before → OnOk result (KeepsSlices (record { unit = unit.now; content = contents.OfSlice header.old [] } ∷ before) false slices.new) }
+    ensures plays { (before : History) → KeepsSlices before false slices.old → sets.old ≡ maps_of before → KeepsWork mode (open_of (goes_on before) (runs_of before)) work.now → Plays S.took S.failures (λ x. x) (steps_outcome (slice_steps mode before unit.now header.old)) sink.old sink.new result }
+    ensures keeps { (before : History) (macroblocks : List CodedMacroblock) → KeepsSlices before false slices.old → sets.old ≡ maps_of before → OnOk result (KeepsSlices (record { unit = unit.now; content = contents.OfSlice header.old macroblocks } ∷ before) false slices.new) }
+    ensures header { OnOk result (header.new ≡ record header.old { marking = header.new.marking }) }
+    ensures place { (before : History) → KeepsSlices before false slices.old → KeepsWork mode (open_of (goes_on before) (runs_of before)) work.now → OnOk result (Ok tt ≡ judged (first_mb_demands mode (coded_before begins (runs_of before)) header.old)) }
     ensures sets { OnOk result (sets.new ≡ maps_with sets.old (contents.OfSlice header.old [])) }
+    ensures named { OnOk result (is_some (sets_of sets.new header.new.pic_parameter_set_id.value) ≡ true) }
+    ensures id { OnOk result (header.new.pic_parameter_set_id.value ≤ 255) }
     ensures pictures { OnOk result (slices.new.pictures ≤ slices.old.pictures + 1) }
     ensures kept { OnOk result (S.failures sink.new ≡ S.failures sink.old) }
     ensures no_memory { IsErrOf result Stop.Memory → ⊥ }
 {
     let bit = 8 * unit.from();
-    let begins = begins(&slices.picture, header);
+    end_data_if(mode, begins, slices, work)?;
     end_if(begins, slices)?;
     check_standing(begins, slices.due, sets, bit, header)?;
+    check_first_mb(mode, begins, work, header)?;
     let Some(named) = named_sets(sets, header.pic_parameter_set_id.value) else {
         unreachable!()
     };
     check_rules(slices, begins, named.0, named.1, header, bit)?;
     tell_slice(unit.from(), header, slices.count, sink)?;
     let numbering = numbering_of(named.1, header);
-    enter(slices, begins, header, numbering);
+    enter(slices, begins, header, numbering, bit_behind(unit));
     Ok(())
 }
 
@@ -355,6 +389,7 @@ pub(crate) fn no_slices() -> Slices
         counts: Counts::new(),
         count: None,
         pictures: 0,
+        behind: 0,
         prev_ref_frame_num: 0,
         held: Held::new(),
     }

@@ -220,7 +220,6 @@ fn a_source(rt: HostRuntime) -> Result<(), Fail> {
     assert_eq!(rt; sink.units, 8);
     laws::one_verdict();
     laws::some_verdict();
-    laws::unused_numbers();
     Ok(())
 }
 

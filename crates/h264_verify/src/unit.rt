@@ -13,12 +13,16 @@ ghost use Rattle.h264_verify.specs.Content as contents;
 ghost use Rattle.h264_verify.specs.Keeping.{Keeps, KeepsWithin, IsLeft};
 ghost use Rattle.h264_verify.specs.Pictures.{CodedPicture, ends_picture};
 ghost use Rattle.h264_verify.specs.Feeding.{Turns, Joins};
-ghost use Rattle.h264_verify.specs.Units.{unit_call, is_slice, has_pictures};
-ghost use Rattle.h264_verify.specs.UnitOutcome.{sps_outcome, pps_outcome, slice_outcome, other_outcome, content_outcome, end_outcome};
+ghost use Rattle.h264_verify.specs.Units.{unit_call, is_slice, slice_unit_of, has_pictures};
+ghost use Rattle.h264_verify.specs.UnitOutcome.{sps_outcome, pps_outcome, slice_outcome, whole_slice, joined, joined_other, joined_by, end_outcome};
+ghost use Rattle.h264_base.specs.declared.mode.Mode.{Mode};
+ghost use Rattle.h264_base.specs.declared.mode.Mode.TheVariants as modes;
 
 use crate::judge::{State, Summary};
 use crate::rules::check;
 use crate::sink::FrameSink;
+use crate::data::{end_data_if, read_data};
+use crate::picture::begins;
 use crate::slices::{end_if, ends_picture, judge_slice, pass_by};
 use h264_base::{Failed, Mode, Rule, Stop};
 use h264_bits::Bits;
@@ -110,6 +114,16 @@ fn read_pps_unit<S: FrameSink>(alloc: Global, unit: &NalUnit, sink: &mut S) -> R
     read_pps(&mut bits, sink)
 }
 
+/// What a unit's first byte says of the slice in it.
+fn slice_unit(header: u8) -> SliceUnit
+    ensures { result ≡ slice_unit_of header }
+{
+    SliceUnit {
+        idr_pic_flag: header % 32 == 5,
+        nal_ref_idc: (header / 32 % 4) as u32,
+    }
+}
+
 /// Reads the header of a slice into a place of the caller.
 fn read_slice_unit<S: FrameSink>(
     alloc: Global,
@@ -127,10 +141,7 @@ fn read_slice_unit<S: FrameSink>(
 {
     let rbsp = Rbsp::of(alloc, unit)?;
     let mut bits = Bits::new(&rbsp);
-    let slice_unit = SliceUnit {
-        idr_pic_flag: header % 32 == 5,
-        nal_ref_idc: (header / 32 % 4) as u32,
-    };
+    let slice_unit = slice_unit(header);
     read_header(&mut bits, sets, slice_unit, found, sink)
 }
 
@@ -141,6 +152,7 @@ fn pass(state: &mut State, kind: u8)
     ensures sets { state.new.sets ≡ state.old.sets }
     ensures picture { IsLeft (ends_picture kind) state.old.slices.picture state.new.slices.picture }
     ensures due { state.new.slices.due ≡ ((kind == 10 || kind == 11) || state.old.slices.due) }
+    ensures work { state.new.work ≡ state.old.work }
     ensures others { state.new.slices ≡ record state.old.slices { picture = state.new.slices.picture; due = state.new.slices.due } }
 {
     pass_by(&mut state.slices, kind);
@@ -150,6 +162,7 @@ fn pass(state: &mut State, kind: u8)
 /// A sequence parameter set is read, and kept.
 fn join_sps<S: FrameSink>(
     alloc: Global,
+    mode: Mode,
     state: &mut State,
     kind: u8,
     unit: &NalUnit,
@@ -159,7 +172,7 @@ fn join_sps<S: FrameSink>(
     requires units { state.old.units ≤ 2 ^ 40 }
     requires pictures { state.old.slices.pictures ≤ state.old.units }
     requires kind { kind ≡ nal_unit_type (header_of unit.now) }
-    ensures joins { (before : History) → KeepsWithin before (ends_picture kind) state.old → Joins S.took S.failures before unit.now (sps_outcome unit.now) state.new sink.old sink.new result }
+    ensures joins { (before : History) → KeepsWithin mode before (ends_picture kind) state.old → Joins mode S.took S.failures (joined mode before unit.now (sps_outcome unit.now)) state.new sink.old sink.new result }
     ensures counts { OnOk result (state.new.units ≡ state.old.units + 1) }
     ensures pictures { OnOk result (state.new.slices.pictures ≤ state.new.units) }
     ensures kept { OnOk result (S.failures sink.new ≡ S.failures sink.old) }
@@ -173,6 +186,7 @@ fn join_sps<S: FrameSink>(
 /// A picture parameter set is read, and kept.
 fn join_pps<S: FrameSink>(
     alloc: Global,
+    mode: Mode,
     state: &mut State,
     kind: u8,
     unit: &NalUnit,
@@ -182,7 +196,7 @@ fn join_pps<S: FrameSink>(
     requires units { state.old.units ≤ 2 ^ 40 }
     requires pictures { state.old.slices.pictures ≤ state.old.units }
     requires kind { kind ≡ nal_unit_type (header_of unit.now) }
-    ensures joins { (before : History) → KeepsWithin before (ends_picture kind) state.old → Joins S.took S.failures before unit.now (pps_outcome unit.now) state.new sink.old sink.new result }
+    ensures joins { (before : History) → KeepsWithin mode before (ends_picture kind) state.old → Joins mode S.took S.failures (joined mode before unit.now (pps_outcome unit.now)) state.new sink.old sink.new result }
     ensures counts { OnOk result (state.new.units ≡ state.old.units + 1) }
     ensures pictures { OnOk result (state.new.slices.pictures ≤ state.new.units) }
     ensures kept { OnOk result (S.failures sink.new ≡ S.failures sink.old) }
@@ -206,17 +220,73 @@ fn join_slice<S: FrameSink>(
     requires pictures { state.old.slices.pictures ≤ state.old.units }
     requires goes_on { ends_picture (nal_unit_type header) ≡ false }
     requires header { header ≡ header_of unit.now }
-    ensures joins { (before : History) → KeepsWithin before (ends_picture (nal_unit_type header)) state.old → Joins S.took S.failures before unit.now (slice_outcome before unit.now) state.new sink.old sink.new result }
+    ensures joins { (before : History) → KeepsWithin modes.Headers before (ends_picture (nal_unit_type header)) state.old → Joins modes.Headers S.took S.failures (joined modes.Headers before unit.now (slice_outcome before unit.now)) state.new sink.old sink.new result }
     ensures counts { OnOk result (state.new.units ≡ state.old.units + 1) }
     ensures pictures { OnOk result (state.new.slices.pictures ≤ state.new.units) }
     ensures kept { OnOk result (S.failures sink.new ≡ S.failures sink.old) }
 {
     read_slice_unit(alloc, header, &state.sets, unit, &mut state.header, sink)?;
+    let begins = begins(&state.slices.picture, &state.header);
     judge_slice(
+        Mode::Headers,
+        begins,
         &mut state.slices,
         &mut state.sets,
+        &state.work,
         unit,
         &mut state.header,
+        sink,
+    )?;
+    state.units += 1;
+    Ok(())
+}
+
+/// A slice with its slice data is read and judged, and joins those before it.
+fn join_whole_slice<S: FrameSink>(
+    alloc: Global,
+    state: &mut State,
+    header: u8,
+    unit: &NalUnit,
+    sink: &mut S,
+) -> Result<(), Stop>
+    requires room { S.failures sink.old < 2 ^ 64 - 1 }
+    requires units { state.old.units ≤ 2 ^ 40 }
+    requires pictures { state.old.slices.pictures ≤ state.old.units }
+    requires goes_on { ends_picture (nal_unit_type header) ≡ false }
+    requires header { header ≡ header_of unit.now }
+    ensures joins { (before : History) → KeepsWithin modes.Full before (ends_picture (nal_unit_type header)) state.old → Joins modes.Full S.took S.failures (whole_slice before unit.now) state.new sink.old sink.new result }
+    ensures counts { OnOk result (state.new.units ≡ state.old.units + 1) }
+    ensures pictures { OnOk result (state.new.slices.pictures ≤ state.new.units) }
+    ensures kept { OnOk result (S.failures sink.new ≡ S.failures sink.old) }
+{
+    let rbsp = Rbsp::of(alloc, unit)?;
+    let mut bits = Bits::new(&rbsp);
+    let slice_unit = slice_unit(header);
+    read_header(
+        &mut bits,
+        &state.sets,
+        slice_unit,
+        &mut state.header,
+        sink,
+    )?;
+    let begins = begins(&state.slices.picture, &state.header);
+    judge_slice(
+        Mode::Full,
+        begins,
+        &mut state.slices,
+        &mut state.sets,
+        &state.work,
+        unit,
+        &mut state.header,
+        sink,
+    )?;
+    read_data(
+        begins,
+        &state.slices.held,
+        &state.sets,
+        &state.header,
+        &mut state.work,
+        &mut bits,
         sink,
     )?;
     state.units += 1;
@@ -227,7 +297,7 @@ fn join_slice<S: FrameSink>(
 fn join_passed(state: &mut State, kind: u8)
     requires units { state.old.units ≤ 2 ^ 40 }
     requires pictures { state.old.slices.pictures ≤ state.old.units }
-    ensures keeps { (before : History) (unit : UnitView) → kind ≡ nal_unit_type (header_of unit) → KeepsWithin before (ends_picture kind) state.old → Keeps (record { unit = unit; content = contents.Passed } ∷ before) state.new }
+    ensures keeps { (mode : Mode) (before : History) (unit : UnitView) → kind ≡ nal_unit_type (header_of unit) → KeepsWithin mode before (ends_picture kind) state.old → Keeps mode (record { unit = unit; content = contents.Passed } ∷ before) state.new }
     ensures counts { state.new.units ≡ state.old.units + 1 }
     ensures pictures { state.new.slices.pictures ≤ state.new.units }
 {
@@ -255,23 +325,22 @@ fn join_other<S: FrameSink>(
     requires units { state.old.units ≤ 2 ^ 40 }
     requires pictures { state.old.slices.pictures ≤ state.old.units }
     requires header { header ≡ header_of unit.now }
-    ensures joins { (before : History) → KeepsWithin before (ends_picture (nal_unit_type header)) state.old → Joins S.took S.failures before unit.now (other_outcome mode (nal_unit_type header) before unit.now) state.new sink.old sink.new result }
+    ensures joins { (before : History) → KeepsWithin mode before (ends_picture (nal_unit_type header)) state.old → Joins mode S.took S.failures (joined_other mode (nal_unit_type header) before unit.now) state.new sink.old sink.new result }
     ensures counts { OnOk result (state.new.units ≡ state.old.units + 1) }
     ensures pictures { OnOk result (state.new.slices.pictures ≤ state.new.units) }
     ensures kept { OnOk result (S.failures sink.new ≡ S.failures sink.old) }
 {
+    if !is_slice(header % 32) {
+        join_passed(state, header % 32);
+        return Ok(());
+    }
     match mode {
         Mode::Units => {
             join_passed(state, header % 32);
             Ok(())
         }
-        Mode::Headers => {
-            if is_slice(header % 32) {
-                return join_slice(alloc, state, header, unit, sink);
-            }
-            join_passed(state, header % 32);
-            Ok(())
-        }
+        Mode::Headers => join_slice(alloc, state, header, unit, sink),
+        Mode::Full => join_whole_slice(alloc, state, header, unit, sink),
     }
 }
 
@@ -288,16 +357,16 @@ fn join<S: FrameSink>(
     requires units { state.old.units ≤ 2 ^ 40 }
     requires pictures { state.old.slices.pictures ≤ state.old.units }
     requires header { header ≡ header_of unit.now }
-    ensures joins { (before : History) → KeepsWithin before (ends_picture (nal_unit_type header)) state.old → Joins S.took S.failures before unit.now (content_outcome mode (nal_unit_type header) before unit.now) state.new sink.old sink.new result }
+    ensures joins { (before : History) → KeepsWithin mode before (ends_picture (nal_unit_type header)) state.old → Joins mode S.took S.failures (joined_by mode (nal_unit_type header) before unit.now) state.new sink.old sink.new result }
     ensures counts { OnOk result (state.new.units ≡ state.old.units + 1) }
     ensures pictures { OnOk result (state.new.slices.pictures ≤ state.new.units) }
     ensures kept { OnOk result (S.failures sink.new ≡ S.failures sink.old) }
 {
     if header % 32 == 7 {
-        return join_sps(alloc, state, header % 32, unit, sink);
+        return join_sps(alloc, mode, state, header % 32, unit, sink);
     }
     if header % 32 == 8 {
-        return join_pps(alloc, state, header % 32, unit, sink);
+        return join_pps(alloc, mode, state, header % 32, unit, sink);
     }
     join_other(alloc, mode, state, header, unit, sink)
 }
@@ -313,7 +382,7 @@ pub(crate) fn judge_unit<S: FrameSink>(
     requires count { S.failures sink.old < 2 ^ 64 - 1 }
     requires units { state.old.units ≤ 2 ^ 40 }
     requires pictures { state.old.slices.pictures ≤ state.old.units }
-    ensures turns { (before : History) → Keeps before state.old → Turns mode S.took S.failures before unit.now state.new sink.old sink.new result }
+    ensures turns { (before : History) → Keeps mode before state.old → Turns mode S.took S.failures before unit.now state.new sink.old sink.new result }
     ensures counts { OnOk result (state.new.units ≡ state.old.units + 1) }
     ensures pictures { OnOk result (state.new.slices.pictures ≤ state.new.units) }
     ensures kept { OnOk result (S.failures sink.new ≡ S.failures sink.old) }
@@ -324,7 +393,9 @@ pub(crate) fn judge_unit<S: FrameSink>(
     let header = body[0];
     check_header(from, header)?;
     tell_unit(from, header, body.len() as u64, sink)?;
-    end_if(ends_picture(header % 32), &mut state.slices)?;
+    let ends = ends_picture(header % 32);
+    end_data_if(mode, ends, &state.slices, &state.work)?;
+    end_if(ends, &mut state.slices)?;
     join(alloc, mode, state, header, unit, sink)
 }
 
@@ -335,6 +406,7 @@ fn has_pictures(mode: Mode, pictures: u64) -> bool
     match mode {
         Mode::Units => true,
         Mode::Headers => pictures != 0,
+        Mode::Full => pictures != 0,
     }
 }
 
@@ -345,9 +417,10 @@ pub(crate) fn judge_end<S: FrameSink>(
     bit: u64,
     sink: &S,
 ) -> Result<Summary, Stop>
-    ensures plays { (before : History) → Keeps before state.old → Plays S.took S.failures (λ x. x) (end_outcome mode before bit) sink.now sink.now result }
+    ensures plays { (before : History) → Keeps mode before state.old → Plays S.took S.failures (λ x. x) (end_outcome mode before bit) sink.now sink.now result }
     ensures no_memory { IsErrOf result Stop.Memory → ⊥ }
 {
+    end_data_if(mode, true, &state.slices, &state.work)?;
     end_if(true, &mut state.slices)?;
     let pictures = state.slices.pictures;
     check(has_pictures(mode, pictures), Rule::NoPicture, bit)?;

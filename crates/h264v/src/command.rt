@@ -17,7 +17,7 @@ enum Request<'a> {
 }
 
 /// The text on standard error for a fault of the words.
-const USAGE: &str = "usage: h264v units|headers FILE\n";
+const USAGE: &str = "usage: h264v check|units|headers FILE\n";
 
 /// What comes before it where a word is no text.
 const NOT_TEXT: &str = "h264v: a word is not UTF-8\n";
@@ -32,7 +32,9 @@ const MEMORY: u8 = 3;
 fn asked<'a>(words: &'a [String]) -> Request<'a> {
     match words {
         [_, command, file] => {
-            if command.as_str() == "units" {
+            if command.as_str() == "check" {
+                Request::Judge(Mode::Full, file.as_str())
+            } else if command.as_str() == "units" {
                 Request::Judge(Mode::Units, file.as_str())
             } else if command.as_str() == "headers" {
                 Request::Judge(Mode::Headers, file.as_str())

@@ -6,6 +6,8 @@
 mod command;
 mod files;
 #[cfg(test)]
+mod check_tests;
+#[cfg(test)]
 mod header_tests;
 #[cfg(test)]
 mod set_tests;

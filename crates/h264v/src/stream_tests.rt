@@ -56,7 +56,7 @@ const STREAMS: [&[u8]; 6] = [
     OPERATIONS,
 ];
 
-const COMMANDS: [&str; 2] = ["units", "headers"];
+const COMMANDS: [&str; 3] = ["units", "headers", "check"];
 
 fn two_frames(rt: &(impl Abort + AllocGlobal)) -> Result<(), Fail> {
     let text = format!(in rt.alloc();

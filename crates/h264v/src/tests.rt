@@ -421,7 +421,7 @@ fn faults_of_the_words(rt: &(impl Abort + AllocGlobal)) -> Result<(), Fail> {
         assert!(rt; out.is_empty());
         assert_eq!(rt;
             err.as_slice(),
-            b"usage: h264v units|headers FILE\n".as_slice()
+            b"usage: h264v check|units|headers FILE\n".as_slice()
         );
     }
     Ok(())
@@ -496,7 +496,7 @@ fn word_that_is_no_text(rt: &(impl Abort + AllocGlobal)) -> Result<(), Fail> {
     assert_eq!(rt; not_text(&mut err), 64);
     assert_eq!(rt;
         err.as_slice(),
-        b"h264v: a word is not UTF-8\nusage: h264v units|headers FILE\n".as_slice()
+        b"h264v: a word is not UTF-8\nusage: h264v check|units|headers FILE\n".as_slice()
     );
     Ok(())
 }

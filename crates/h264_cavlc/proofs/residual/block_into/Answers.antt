@@ -1,45 +1,5 @@
-use Rattle.std.proofs.Common.{eq-eqb, refl}
-use Rattle.std.proofs.lemmas.Result.{err_from_is_err_and}
-use Rattle.h264_base.proofs.Steps.{bind, stop, done}
 use Rattle.h264_base.proofs.OneAnswer.{answers}
-use Rattle.h264_cavlc.specs.Block.{residual_block}
-use Rattle.h264_cavlc.proofs.Sizes.{unequal}
-use Rattle.h264_cavlc.proofs.Handed.{refused-as, given-as}
-use Rattle.h264_cavlc.proofs.Counts.{count-none}
 use Rattle.h264_cavlc.proofs.residual.block_into.Goals as goal
 
-pub returns-in_err-token-clause-meets : goal.returns-in_err-token-clause-meets
-unfolding residual_block
-returns-in_err-token-clause-meets g c = let p = err_from_is_err_and c.from_residual.result c.from_residual.ensures.1 in rw (p.1, p.2) (stop _ c.in_err-token.ensures.meets)
-
-pub returns-in_err-token-clause-answers : goal.returns-in_err-token-clause-answers
-returns-in_err-token-clause-answers g c = answers (returns-in_err-token-clause-meets g c)
-
-pub returns-then-token-eq0-clause-meets : goal.returns-then-token-eq0-clause-meets
-unfolding residual_block
-returns-then-token-eq0-clause-meets g c = let e = eq-eqb c.in_ok-token.token.total 0 c.if-token-eq0.true in bind _ c.in_ok-token.ensures.meets (rw e (done _ _ _ _ _ _ _ refl))
-
-pub returns-then-token-eq0-clause-answers : goal.returns-then-token-eq0-clause-answers
-returns-then-token-eq0-clause-answers g c = answers (returns-then-token-eq0-clause-meets g c)
-
-pub returns-in_err-read_coefficients-clause-meets : goal.returns-in_err-read_coefficients-clause-meets
-unfolding residual_block
-returns-in_err-read_coefficients-clause-meets g c =
-    let p = err_from_is_err_and c.from_residual-in_err-read_coefficients.result c.from_residual-in_err-read_coefficients.ensures.1 in
-    let e = unequal c.in_ok-token.token.total 0 c.if-token-eq0.false in
-    rw (p.1, p.2) (bind _ c.in_ok-token.ensures.meets (rw e (refused-as c.in_err-read_coefficients.ensures.meets)))
-
-pub returns-in_err-read_coefficients-clause-answers : goal.returns-in_err-read_coefficients-clause-answers
-returns-in_err-read_coefficients-clause-answers g c = answers (returns-in_err-read_coefficients-clause-meets g c)
-
-pub returns-clause-meets : goal.returns-clause-meets
-unfolding residual_block
-returns-clause-meets g c =
-    let e = unequal c.in_ok-token.token.total 0 c.if-token-eq0.false in
-    bind _ c.in_ok-token.ensures.meets (rw e (given-as c.in_ok-read_coefficients.ensures.meets refl))
-
 pub returns-clause-answers : goal.returns-clause-answers
-returns-clause-answers g c = answers (returns-clause-meets g c)
-
-pub returns-then-token-eq0-clause-nonzero : goal.returns-then-token-eq0-clause-nonzero
-returns-then-token-eq0-clause-nonzero g c = count-none g.row.N
+returns-clause-answers g c = answers (rw c.again-near.ensures at c.read_block-total.ensures.meets)

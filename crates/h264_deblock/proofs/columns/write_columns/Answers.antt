@@ -1,7 +1,7 @@
-use Rattle.std.proofs.Common.{arith, refl, ◌∙◌}
+use Rattle.std.proofs.Common.{ℕ, ◌*◌, ◌+◌, ◌<◌, ◌≡◌, arith, refl, ◌∙◌, rules, slice_index, ap}
 use Rattle.h264_deblock.specs.Rows.{line_of}
 use Rattle.h264_deblock.proofs.Lines.{lines_none}
-use Rattle.h264_deblock.proofs.Crossed.{line_written}
+use Rattle.h264_deblock.proofs.Crossed.{run_written}
 use Rattle.h264_deblock.proofs.columns.write_columns.Goals as goal
 
 pub loop-n-init : goal.loop-n-init
@@ -11,11 +11,26 @@ pub loop-n-preserved : goal.loop-n-preserved
 loop-n-preserved c =
     let a = c.args in
     let n = c.loop-n.n in
-    let put = c.write_line.ensures (line_of a.r.now n) (c.line_by_line-samples.ensures n c.loop-n-test.true) in
+    let i = c.loop-n-test.true in
+    let put = c.put_run.ensures in
+    let has = c.line_by_line-samples.ensures n i in
     record {
       width = put.width ∙ c.loop-n.invariant.width;
       height = put.height ∙ c.loop-n.invariant.height;
       lines = λ k lines.
-          line_written _ _ a.plane.now c.loop-n.plane c.write_line.new.plane k n a.y a.x (line_of a.r.now n) c.requires.before c.requires.behind (omega arith)
-          (lines n c.loop-n-test.true) (c.loop-n.invariant.lines k lines) put;
+          run_written a.plane.now c.loop-n.plane c.put_run.new.self k n a.y a.x c.eight.result (line_of a.r.now n) c.requires.before c.requires.behind (omega arith)
+          (record {
+            count = search rules;
+            line = record {
+              p3 = c.eight.ensures 0 (omega arith) ∙ has.p3;
+              p2 = c.eight.ensures 1 (omega arith) ∙ has.p2;
+              p1 = c.eight.ensures 2 (omega arith) ∙ has.p1;
+              p0 = c.eight.ensures 3 (omega arith) ∙ has.p0;
+              q0 = c.eight.ensures 4 (omega arith) ∙ has.q0;
+              q1 = c.eight.ensures 5 (omega arith) ∙ has.q1;
+              q2 = c.eight.ensures 6 (omega arith) ∙ has.q2;
+              q3 = c.eight.ensures 7 (omega arith) ∙ has.q3;
+            };
+          })
+          (lines n i) (c.loop-n.invariant.lines k lines) put;
     }

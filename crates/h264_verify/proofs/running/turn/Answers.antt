@@ -1,5 +1,5 @@
-use Rattle.std.proofs.Common.{[], ◌∙◌}
-use Rattle.h264_verify.proofs.Verdicts.{goes-as, stops-as}
+use Rattle.std.proofs.Common.{[], ◌∙◌, sym}
+use Rattle.h264_verify.proofs.Verdicts.{keeps-as, goes-as, stops-as}
 use Rattle.std.proofs.lemmas.Result.{err_from_is_err_and}
 use Rattle.h264_verify.specs.UnitOutcome.{judging}
 use Rattle.h264_verify.proofs.Sources.{fed-stops, fed-on, fed-same, fed-read}
@@ -15,7 +15,7 @@ pub returns-in_ok-advance-in-Ok-Some-clause-more : goal.returns-in_ok-advance-in
 returns-in_ok-advance-in-Ok-Some-clause-more g c = λ h mode bytes first f.
     let q = rw c.front.ensures at (c.in_ok-advance-in-Ok-Some.ensures.goes f.after f.keeps) in
     let n = goes-as f.mode_is q in
-    record { mode_is = c.in_ok-advance-in-Ok-Some.ensures.mode ∙ f.mode_is; after = n.after; keeps = n.keeps; fed = fed-on (judging mode) _ (g.R.Source.left c.args.source.now) _ bytes c.read.new.piece c.in-Ok-Some.n _ _ _ first _ _ (rw c.in-Ok-Some.field-0-is at c.in-Ok-Some.ensures.bytes) f.fed n.goes }
+    record { mode_is = c.in_ok-advance-in-Ok-Some.ensures.mode ∙ f.mode_is; after = n.after; keeps = keeps-as (sym (c.in_ok-advance-in-Ok-Some.ensures.mode ∙ f.mode_is)) n.keeps; fed = fed-on (judging mode) _ (g.R.Source.left c.args.source.now) _ bytes c.read.new.piece c.in-Ok-Some.n _ _ _ first _ _ (rw c.in-Ok-Some.field-0-is at c.in-Ok-Some.ensures.bytes) f.fed n.goes }
 
 pub returns-in-Ok-None-clause-more : goal.returns-in-Ok-None-clause-more
 returns-in-Ok-None-clause-more g c = λ h mode bytes first f. record { mode_is = f.mode_is; after = f.after; keeps = f.keeps; fed = fed-same (judging mode) _ (g.R.Source.left c.args.source.now) _ bytes _ _ first _ (rw c.in-Ok-None.field-0-is at c.in-Ok-None.ensures.interrupted) f.fed }

@@ -12,4 +12,4 @@ returns-in_err-rbsp-clause-plays g c = let p = err_from_is_err_and c.from_residu
 
 pub returns-clause-plays : goal.returns-clause-plays
 unfolding slice_outcome
-returns-clause-plays g c = λ before m h. rw (← c.in_ok-rbsp.ensures.ok, ← m, ← h) (plays-gives _ _ (λ _. c.read_header.new.header) (λ h. contents.OfSlice h []) _ _ _ _ (meets-plays _ _ _ (header (sets_of c.args.sets.now) _) _ _ _ _ _ _ c.new-bits.ensures c.read_header.ensures.meets c.read_header.ensures.answers))
+returns-clause-plays g c = λ before m h. rw (← c.in_ok-rbsp.ensures.ok, ← m, ← h, ← c.slice_unit-slice_unit.ensures) (plays-gives _ _ (λ _. c.read_header.new.header) (λ h. contents.OfSlice h []) _ _ _ _ (meets-plays _ _ _ (header (sets_of c.args.sets.now) _) _ _ _ _ _ _ c.new-bits.ensures c.read_header.ensures.meets c.read_header.ensures.answers))

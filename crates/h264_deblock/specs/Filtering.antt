@@ -1,0 +1,87 @@
+-- The edges of a macroblock of n columns and rows in one plane, one after another (8.7): the vertical ones from left to right and then the
+-- horizontal ones from top to bottom, each 4 samples from the one before. A luma macroblock has 16 columns and four edges of each direction,
+-- one of a chroma plane 8 columns and two.
+use Rattle.std.specs.Prelude.{◌≡◌, ℕ, zero, suc, ◌+◌, ◌*◌, ◌/◌, ◌%◌, ◌<◌, Bool, true, false, IsTrue, List, get_or, Option, Some, None, is_some}
+use Rattle.h264_plane.specs.Samples.{Samples, at, IsSized}
+use Rattle.h264_plane.specs.Frames.{plane_of}
+use Rattle.h264_plane.specs.Places.{side, Before}
+use Rattle.h264_plane.specs.declared.frame.Component.{Component}
+use Rattle.h264_plane.specs.declared.frame.Component.TheVariants.{Y, Cb, Cr}
+use Rattle.h264_plane.specs.declared.frame.Frame.{Frame}
+use Rattle.h264_deblock.specs.Edge.{edge_after}
+use Rattle.h264_deblock.specs.declared.edge_parameters.EdgeParameters.{EdgeParameters}
+use Rattle.h264_deblock.specs.declared.filtering.LumaEdges.{LumaEdges}
+use Rattle.h264_deblock.specs.declared.filtering.ChromaEdges.{ChromaEdges}
+use Rattle.h264_deblock.specs.declared.filtering.Edges.{Edges}
+
+-- ---- the edges of a macroblock
+
+-- those of a plane; an edge that is not filtered is None
+pub record PlaneEdges : Type 0 where
+  pub vertical : List (Option EdgeParameters)
+  pub horizontal : List (Option EdgeParameters)
+
+abbrev pub luma_edges : LumaEdges → PlaneEdges
+luma_edges e = record { vertical = e.vertical; horizontal = e.horizontal }
+
+abbrev pub chroma_edges : ChromaEdges → PlaneEdges
+chroma_edges e = record { vertical = e.vertical; horizontal = e.horizontal }
+
+abbrev pub edges_of : Edges → Component → PlaneEdges
+edges_of e Y = luma_edges e.y
+edges_of e Cb = chroma_edges e.cb
+edges_of e Cr = chroma_edges e.cr
+
+-- whether a plane is filtered as chroma (chromaStyleFilteringFlag)
+abbrev pub is_chroma : Component → Bool
+is_chroma Y = false
+is_chroma Cb = true
+is_chroma Cr = true
+
+-- samples after an edge that may be filtered
+unfoldable pub edge_or : Option EdgeParameters → Bool → Bool → ℕ → ℕ → (ℕ → ℕ → ℕ) → ℕ → ℕ → ℕ
+edge_or None vertical chroma along across s x y = s x y
+edge_or (Some e) vertical chroma along across s x y = edge_after vertical chroma e along across s x y
+
+-- samples after the first k edges of a direction, of which the first begins at these places along and across it
+unfoldable pub edges_after : ℕ → Bool → Bool → List (Option EdgeParameters) → ℕ → ℕ → (ℕ → ℕ → ℕ) → ℕ → ℕ → ℕ
+edges_after zero vertical chroma es along across s x y = s x y
+edges_after (suc k) vertical chroma es along across s x y =
+    edge_or (get_or es k None) vertical chroma along (across + 4 * k) (edges_after k vertical chroma es along across s) x y
+
+-- and after all of the macroblock at column c and row r of macroblocks
+unfoldable pub edges_done : ℕ → Bool → PlaneEdges → ℕ → ℕ → (ℕ → ℕ → ℕ) → ℕ → ℕ → ℕ
+edges_done n chroma e c r s =
+    edges_after (n / 4) false chroma e.horizontal (n * c) (n * r) (edges_after (n / 4) true chroma e.vertical (n * r) (n * c) s)
+
+-- ---- the picture
+
+-- samples of a plane after the filter of the first m macroblocks of a picture, `across` to a row, by their edges
+unfoldable pub filtered_by : ℕ → ℕ → ℕ → Bool → (ℕ → PlaneEdges) → (ℕ → ℕ → ℕ) → ℕ → ℕ → ℕ
+filtered_by zero across n chroma edges s x y = s x y
+filtered_by (suc m) across n chroma edges s x y = edges_done n chroma (edges m) (m % across) (m / across) (filtered_by m across n chroma edges s) x y
+
+-- no edge at the border of the picture is filtered
+abbrev pub IsInside : Bool → ℕ → ℕ → List (Option EdgeParameters) → Type 0
+IsInside true c r es = IsTrue (is_some (get_or es 0 None)) → 0 < c
+IsInside false c r es = IsTrue (is_some (get_or es 0 None)) → 0 < r
+
+pub record AreInside (c r : ℕ) (e : PlaneEdges) : Type 0 where
+  pub vertical : IsInside true c r e.vertical
+  pub horizontal : IsInside false c r e.horizontal
+
+-- the edges of each macroblock of a picture of w by h, by its address, lie in it
+pub record Fits (w h : ℕ) (edges : ℕ → PlaneEdges) : Type 0 where
+  pub each : (c r : ℕ) → c < w → r < h → AreInside c r (edges (r * w + c))
+
+-- of the edges of a picture's macroblocks by plane and address, those of the macroblock at column c and row r are e
+abbrev pub AreEdges : ℕ → (Component → ℕ → PlaneEdges) → Edges → ℕ → ℕ → Type 0
+AreEdges across all e c r = (p : Component) → all p (r * across + c) ≡ edges_of e p
+
+-- a frame of so many macroblocks across and down
+abbrev pub IsOf : ℕ → ℕ → Frame → Type 0
+IsOf across down f = (p : Component) → IsSized (plane_of p f) (side p * across) (side p * down)
+
+-- a plane holds what the filter makes of u with the macroblocks before the one at column c and row r, at the places of these
+pub record IsReached (w n : ℕ) (chroma : Bool) (edges : ℕ → PlaneEdges) (u : ℕ → ℕ → ℕ) (c r : ℕ) (p : Samples) : Type 0 where
+  pub each : (x y : ℕ) → x < n * w → Before n c r x y → at p x y ≡ filtered_by (r * w + c) w n chroma edges u x y

@@ -1,0 +1,12 @@
+pub mod Out
+pub mod Tellings
+pub mod Steps
+pub mod Room
+pub mod Bounded
+pub mod Turns
+pub mod Stored
+pub mod Rows
+pub mod Renaming
+pub mod Rising
+pub mod Taken
+pub mod InUse

@@ -1,0 +1,112 @@
+use crate::bumping::{empty, store};
+use crate::entry::{Entry, Picture, Placed};
+use crate::frame_store::FrameStore;
+use crate::places::free_place;
+use crate::sink::FrameOut;
+use arrayvec::ArrayVec;
+use h264_base::Stop;
+use std::marker::Model;
+
+/// The frames that wait for output or are used for reference, in decoding order.
+#[derive(Drop)]
+pub struct Buffer {
+    entries: ArrayVec<Entry<Placed>, 16>,
+    /// How many frames that do not exist take places.
+    missing: usize,
+    /// How many places there are.
+    size: usize,
+}
+
+impl Model for Buffer {
+    ghost use Rattle.std.specs.Prelude.{◌≤◌};
+    ghost use Rattle.h264_dpb.specs.declared.entry.Placed.{Placed};
+    ghost use Rattle.h264_dpb.specs.Buffered.{Buffered};
+
+    ghost Value = { Buffered Placed };
+
+    ghost view = { λ b. record { entries = b.entries.items; missing = b.missing; size = b.size } };
+
+    ghost invariant = { λ b. b.size ≤ 16 };
+}
+
+impl Buffer {
+    ghost use Rattle.std.specs.Prelude.{◌≡◌, ◌+◌, ◌-◌, ◌<◌, ◌≤◌, ◌^◌, IsTrue, false, is_some, length, [], OnOk, IfSome};
+    ghost use Rattle.h264_dpb.specs.Numbered.{is_taken};
+    ghost use Rattle.h264_dpb.specs.Bumping.{flushed};
+    ghost use Rattle.h264_dpb.specs.Buffered.{AreReady, Steps, HasRoomBy, StaysWithin, stored_by, missing_by, IsShownBy};
+
+    /// A buffer of one place, which is free.
+    pub fn new() -> Buffer
+        ensures { result ≡ record { entries = []; missing = 0; size = 1 } }
+    {
+        Buffer {
+            entries: ArrayVec::new(),
+            missing: 0,
+            size: 1,
+        }
+    }
+
+    /// The frames in decoding order.
+    pub fn entries(&self) -> &[Entry<Placed>]
+        ensures { result.now ≡ self.now.entries }
+    {
+        self.entries.as_slice()
+    }
+
+    /// The first of `count` places from `first` on at which no frame of the buffer stands. Where the buffer has fewer frames than there are places,
+    /// there is one.
+    pub fn free_place(&self, first: usize, count: usize) -> Option<usize>
+        requires small { first + count < 2 ^ 32 }
+        ensures free { IfSome result (λ place. (first ≤ place) × (place < first + count) × (is_taken self.now.entries place ≡ false)) }
+        ensures some { length self.now.entries < count → IsTrue (is_some result) }
+    {
+        free_place(self.entries.as_slice(), first, count)
+    }
+
+    /// Takes a picture that has ended and is marked, or the frame of a missing frame_num, and writes what has to leave first.
+    ///
+    /// Write: the sink failed, and nothing is said of the places.
+    pub fn store<F: FrameStore, S: FrameOut>(
+        &mut self,
+        frames: &F,
+        picture: &Picture,
+        sink: &mut S,
+    ) -> Result<(), Stop>
+        requires room { S.failures sink.old < 2 ^ 64 - 1 }
+        requires ready { AreReady (F.lent frames.now) self.old.entries }
+        requires own { IsShownBy picture.now.kind (F.lent frames.now) picture.now }
+        requires few { HasRoomBy picture.now.kind picture.now self.old }
+        ensures steps { Steps S.took S.failures (F.lent frames.now) (stored_by picture.now.kind picture.now self.old) self.new.entries sink.old sink.new result }
+        ensures missing { OnOk result (self.new.missing ≡ missing_by picture.now.kind picture.now self.old) }
+        ensures size { self.new.size ≡ self.old.size }
+        ensures within { StaysWithin self.old → OnOk result (StaysWithin self.new) }
+        ensures ready { OnOk result (AreReady (F.lent frames.now) self.new.entries) }
+    {
+        let (size, missing) = (self.size, self.missing);
+        self.missing = store(size, missing, picture, &mut self.entries, frames, sink)?;
+        Ok(())
+    }
+
+    /// Writes all that waits, or drops it, and empties the buffer, which has `size` places then.
+    ///
+    /// Write: the sink failed, and nothing is said of the places.
+    pub fn flush<F: FrameStore, S: FrameOut>(
+        &mut self,
+        frames: &F,
+        write: bool,
+        size: usize,
+        sink: &mut S,
+    ) -> Result<(), Stop>
+        requires room { S.failures sink.old < 2 ^ 64 - 1 }
+        requires ready { AreReady (F.lent frames.now) self.old.entries }
+        requires some { 0 < size }
+        requires few { size ≤ 16 }
+        ensures steps { Steps S.took S.failures (F.lent frames.now) (flushed write self.old.entries) self.new.entries sink.old sink.new result }
+        ensures emptied { OnOk result (self.new ≡ record { entries = []; missing = 0; size = size }) }
+    {
+        empty(write, &mut self.entries, frames, sink)?;
+        self.missing = 0;
+        self.size = size;
+        Ok(())
+    }
+}

@@ -1,0 +1,141 @@
+-- What was read is what the macroblock holds.
+use Rattle.std.proofs.Common.{◌≡◌, ℕ, suc, ◌+◌, ◌<◌, ◌≤◌, Bool, true, false, List, map, length, take, replicate, get_or, ℤ, pos, Option, Some, None, Result, refl, ap, sym, ◌∙◌, subst, arith}
+use Rattle.std.proofs.lemmas.List.{get_or-replicate}
+use Rattle.std.proofs.lemmas.Option.{slice_get-get_or}
+use Rattle.h264_cavlc.specs.Block.{Block}
+use Rattle.h264_near.specs.declared.motion.Motion.{Motion}
+use Rattle.h264_near.specs.declared.context.Contexts.{Contexts}
+use Rattle.h264_near.specs.Coded.{CodedMacroblock, Prediction, Intra4x4, Intra16x16, Pcm, Inter}
+use Rattle.h264_near.specs.Keeps.{Shows}
+use Rattle.h264_mbsyntax.specs.declared.macroblock.Kind.{Kind}
+use Rattle.h264_mbsyntax.specs.declared.macroblock.Kind.TheVariants as kind
+use Rattle.h264_mbsyntax.specs.declared.macroblock.Macroblock.{Macroblock}
+use Rattle.h264_mbsyntax.specs.Residual.{Coefficients, no_block, no_coefficients, no_chroma}
+use Rattle.h264_mbsyntax.specs.Stored.{Stored, StoredChroma, StoredCoefficients, StoredCoefficients16, shown}
+use Rattle.h264_mbsyntax.specs.Holds.{Levels, Holds}
+use Rattle.h264_base.specs.declared.mode.SliceType.{SliceType}
+use Rattle.h264_base.specs.declared.mode.SliceType.TheVariants as slice_type
+use Rattle.h264_base.specs.declared.stop.Stop.{Stop}
+use Rattle.h264_base.specs.Call.{Call}
+use Rattle.h264_base.specs.Meets.{Reader, Meets}
+use Rattle.h264_vectors.specs.declared.slice.SliceContext.{SliceContext}
+use Rattle.h264_near.specs.declared.motion.Vector.{Vector}
+use Rattle.h264_mbsyntax.specs.Macroblock.{coded, pcm_of, by_type, predicted_qp}
+use Rattle.h264_vectors.specs.Derived.{motion_of}
+use Rattle.h264_mbsyntax.specs.Slice.{skipped_of}
+use Rattle.h264_mbsyntax.proofs.Loops.{whole, stored-blank}
+use Rattle.std.specs.Option.{is_some, option_map}
+use Rattle.std.proofs.Math.ListN as math
+use Rattle.h264_vectors.specs.Derived.{Derived}
+use Rattle.h264_vectors.specs.Agrees.{Agrees}
+
+-- an intra macroblock has no references
+pub no-motion : (motions : List (Option Motion)) (n : ℕ) → motions ≡ replicate 16 None → n < 16 → ◌≡◌ {A = Option (Option Motion)} (Some None) (Some (get_or motions n None))
+no-motion motions n e h = rw e (ap Some (sym (get_or-replicate 16 n None None h)))
+
+pub holds-intra4x4 : (mb : Macroblock) (slice chroma : ℕ) (modes : List ℕ) (c : Coefficients) → mb.kind ≡ kind.Intra4x4 → mb.contexts.modes ≡ modes → mb.chroma_mode ≡ chroma → mb.contexts.slice ≡ slice → mb.contexts.intra ≡ true → mb.contexts.qp ≡ mb.qp → mb.contexts.motions ≡ replicate 16 None → mb.residual.luma_dc_total ≡ 0 → length mb.contexts.totals ≡ 16 → length mb.contexts.chroma_totals ≡ 8 → length modes ≡ 16 → StoredCoefficients mb.qp mb.contexts.totals mb.residual.luma mb.contexts.chroma_totals mb.residual.chroma_ac mb.residual.chroma_dc_totals mb.residual.chroma_dc c → Holds mb (coded slice (Intra4x4 modes chroma) c)
+unfolding coded no_block
+holds-intra4x4 mb slice chroma modes c ek em ec es ei eq ev ed nt nc nm s = record {
+  contexts = record {
+    slice = sym es;
+    intra = sym ei;
+    qp = s.qp ∙ sym eq;
+    totals = s.luma.counted ∙ whole mb.contexts.totals 16 (omega arith);
+    chroma_totals = s.chroma.ac.counted ∙ whole mb.contexts.chroma_totals 8 (omega arith);
+    modes = λ n h. rw em (slice_get-get_or modes n 0 (omega arith));
+    motions = λ n h. no-motion mb.contexts.motions n ev h;
+  };
+  qp = s.qp;
+  prediction = rw (ek, em, ec) refl;
+  luma = rw ek (record { each = s.luma.each }, ap (λ (b : Block). b.by_place) s.luma_dc ∙ rw ed refl);
+  chroma = rw ek (record { each = s.chroma.dc.each }, record { each = s.chroma.ac.each });
+}
+
+pub holds-intra16x16 : (mb : Macroblock) (slice chroma mode : ℕ) (c : Coefficients) → mb.kind ≡ kind.Intra16x16 mode → mb.contexts.modes ≡ replicate 16 2 → mb.chroma_mode ≡ chroma → mb.contexts.slice ≡ slice → mb.contexts.intra ≡ true → mb.contexts.qp ≡ mb.qp → mb.contexts.motions ≡ replicate 16 None → length mb.contexts.totals ≡ 16 → length mb.contexts.chroma_totals ≡ 8 → StoredCoefficients16 mb.qp mb.residual.luma_dc_total mb.residual.luma_dc mb.contexts.totals mb.residual.luma_ac mb.contexts.chroma_totals mb.residual.chroma_ac mb.residual.chroma_dc_totals mb.residual.chroma_dc c → Holds mb (coded slice (Intra16x16 mode chroma) c)
+unfolding coded
+holds-intra16x16 mb slice chroma mode c ek em ec es ei eq ev nt nc s = record {
+  contexts = record {
+    slice = sym es;
+    intra = sym ei;
+    qp = s.qp ∙ sym eq;
+    totals = s.luma.counted ∙ whole mb.contexts.totals 16 (omega arith);
+    chroma_totals = s.chroma.ac.counted ∙ whole mb.contexts.chroma_totals 8 (omega arith);
+    modes = λ n h. rw em (ap Some (sym (get_or-replicate 16 n 2 0 h)));
+    motions = λ n h. no-motion mb.contexts.motions n ev h;
+  };
+  qp = s.qp;
+  prediction = rw (ek, ec) refl;
+  luma = rw ek (record { each = s.luma.each }, s.luma_dc);
+  chroma = rw ek (record { each = s.chroma.dc.each }, record { each = s.chroma.ac.each });
+}
+
+pub holds-pcm : (mb : Macroblock) (slice : ℕ) (samples : List ℕ) → mb.kind ≡ kind.Pcm → mb.pcm ≡ samples → mb.contexts.slice ≡ slice → mb.contexts.intra ≡ true → mb.contexts.qp ≡ 0 → mb.contexts.totals ≡ replicate 16 16 → mb.contexts.chroma_totals ≡ replicate 8 16 → mb.contexts.modes ≡ replicate 16 2 → mb.contexts.motions ≡ replicate 16 None → Holds mb (pcm_of slice mb.qp samples)
+unfolding pcm_of
+holds-pcm mb slice samples ek ep es ei eq et ec em ev = record {
+  contexts = record {
+    slice = sym es;
+    intra = sym ei;
+    qp = sym eq;
+    totals = sym et;
+    chroma_totals = sym ec;
+    modes = λ n h. rw em (ap Some (sym (get_or-replicate 16 n 2 0 h)));
+    motions = λ n h. no-motion mb.contexts.motions n ev h;
+  };
+  qp = refl;
+  prediction = rw (ek, ep) refl;
+  luma = rw ek tt;
+  chroma = rw ek tt;
+}
+
+-- a macroblock by the type of its slice
+pub typed : {X S : Type 0} {took : S → List Call → Type 0} {failures : S → ℕ} {R : X → CodedMacroblock → Type 0} {old new : Reader} {s s' : S} {r : Result X Stop} (t want : SliceType) (width : ℕ) (slice : SliceContext) (picture : List CodedMacroblock) (bit kind : ℕ) → t ≡ want → Meets took failures R (by_type want width slice picture bit kind) old new s s' r → Meets took failures R (by_type t width slice picture bit kind) old new s s' r
+typed t want width slice picture bit kind e m = rw e m
+
+some-at : (m : Option Motion) → is_some m ≡ true → option_map (λ x. Some x) m ≡ Some m
+some-at None e = absurd (cc)
+some-at (Some x) e = refl
+
+-- every block of an inter macroblock has its reference and vector
+pub all-derived : (motions : List (Option Motion)) (n : ℕ) → map is_some motions ≡ replicate 16 true → n < 16 → option_map (λ x. Some x) (get_or motions n None) ≡ Some (get_or motions n None)
+all-derived motions n e h = some-at (get_or motions n None) (sym (math.get_or-map is_some motions n None) ∙ (ap (λ l. get_or l n false) e ∙ get_or-replicate 16 n true false h))
+
+pub holds-inter : (mb : Macroblock) (slice : ℕ) (d : Derived) (within : Bool) (c : Coefficients) → mb.kind ≡ kind.Inter → Agrees within mb.contexts.motions (replicate 16 true) d → within ≡ true → mb.contexts.modes ≡ replicate 16 2 → mb.contexts.slice ≡ slice → mb.contexts.intra ≡ false → mb.contexts.qp ≡ mb.qp → mb.residual.luma_dc_total ≡ 0 → length mb.contexts.totals ≡ 16 → length mb.contexts.chroma_totals ≡ 8 → StoredCoefficients mb.qp mb.contexts.totals mb.residual.luma mb.contexts.chroma_totals mb.residual.chroma_ac mb.residual.chroma_dc_totals mb.residual.chroma_dc c → Holds mb (coded slice (Inter d.motions) c)
+unfolding coded no_block
+holds-inter mb slice d within c ek a w em es ei eq ed nt nc s = record {
+  contexts = record {
+    slice = sym es;
+    intra = sym ei;
+    qp = s.qp ∙ sym eq;
+    totals = s.luma.counted ∙ whole mb.contexts.totals 16 (omega arith);
+    chroma_totals = s.chroma.ac.counted ∙ whole mb.contexts.chroma_totals 8 (omega arith);
+    modes = λ n h. rw em (ap Some (sym (get_or-replicate 16 n 2 0 h)));
+    motions = λ n h. rw (a.same w) (all-derived d.motions n a.derived h);
+  };
+  qp = s.qp;
+  prediction = rw ek (ap Inter (sym (a.same w)));
+  luma = rw ek (record { each = s.luma.each }, ap (λ (b : Block). b.by_place) s.luma_dc ∙ rw ed refl);
+  chroma = rw ek (record { each = s.chroma.dc.each }, record { each = s.chroma.ac.each });
+}
+
+-- a skipped macroblock
+pub shows-skipped : (c : Contexts) (slice qp : ℕ) (m : Motion) → c.motions ≡ replicate 16 (Some m) → c.modes ≡ replicate 16 2 → c.slice ≡ slice → c.intra ≡ false → c.qp ≡ qp → c.totals ≡ replicate 16 0 → c.chroma_totals ≡ replicate 8 0 → Shows c (coded slice (Inter (replicate 16 (Some m))) (no_coefficients qp))
+unfolding coded no_coefficients no_chroma no_block
+shows-skipped c slice qp m ev em es ei eq et ec = record {
+  slice = sym es;
+  intra = sym ei;
+  qp = sym eq;
+  totals = sym et;
+  chroma_totals = sym ec;
+  modes = λ n h. rw em (ap Some (sym (get_or-replicate 16 n 2 0 h)));
+  motions = λ n h. rw ev (all-derived (replicate 16 (Some m)) n refl h);
+}
+
+pub holds-skipped : (mb : Macroblock) (slice : SliceContext) (picture : List CodedMacroblock) (v : Vector) → mb.kind ≡ kind.Inter → mb.contexts.motions ≡ replicate 16 (Some (motion_of slice 0 v)) → mb.contexts.modes ≡ replicate 16 2 → mb.contexts.slice ≡ slice.number → mb.contexts.intra ≡ false → mb.contexts.qp ≡ mb.qp → mb.contexts.totals ≡ replicate 16 0 → mb.contexts.chroma_totals ≡ replicate 8 0 → mb.residual.luma_dc_total ≡ 0 → mb.residual.chroma_dc_totals ≡ replicate 2 0 → mb.qp ≡ predicted_qp slice picture → Holds mb (skipped_of slice picture v)
+unfolding skipped_of coded no_coefficients no_chroma no_block
+holds-skipped mb slice picture v ek ev em es ei eq et ec ed eh p = record {
+  contexts = shows-skipped mb.contexts slice.number (predicted_qp slice picture) (motion_of slice 0 v) ev em es ei (eq ∙ p) et ec;
+  qp = sym p;
+  prediction = rw ek (ap Inter (sym ev));
+  luma = rw ek (record { each = (stored-blank 16 16 mb.contexts.totals mb.residual.luma et).each }, rw ed refl);
+  chroma = rw ek (record { each = (stored-blank 4 2 mb.residual.chroma_dc_totals mb.residual.chroma_dc eh).each }, record { each = (stored-blank 15 8 mb.contexts.chroma_totals mb.residual.chroma_ac ec).each });
+}

@@ -1,0 +1,175 @@
+-- Turns of the loops over modes and over blocks, and how blocks lie in their arrays.
+use Rattle.std.proofs.Common.{◌≡◌, ◌≢◌, ℕ, zero, suc, ◌+◌, ◌-◌, ◌<◌, ◌≤◌, Bool, true, false, nat_lt, List, [], ◌∷◌, ◌++◌, length, take, map, replicate, get_or, slice_set, ℤ, pos, negsuc, unsigned_abs, Option, Some, None, Result, Ok, Err, OnOk, refl, ap, sym, ◌∙◌, subst, arith, lt-ltb, inl, inr, ◌⊎◌, length-append, if◌then◌else◌}
+use Rattle.std.proofs.Common.{get_or-set_other, get_or-set_same, length-set}
+use Rattle.std.specs.List.{slice_get}
+use Rattle.std.proofs.lemmas.List.{take_more_set, map-append}
+use Rattle.std.proofs.lemmas.Bool.Decides.{nat_tests}
+use Rattle.h264_base.specs.declared.stop.Stop.{Stop}
+use Rattle.h264_base.specs.Call.{Call}
+use Rattle.h264_base.specs.Grammar.{Grammar}
+use Rattle.h264_base.specs.Meets.{Reader, Meets, Is}
+use Rattle.h264_base.proofs.Steps.{Leads, leads-starts, leads-on, stop, done, finish}
+use Rattle.h264_cavlc.specs.Block.{Block, residual_block}
+use Rattle.h264_near.specs.declared.samples.Samples.{Samples}
+use Rattle.h264_near.specs.Coded.{CodedMacroblock}
+use Rattle.h264_near.specs.Intra.{predicted_mode, block_samples, luma_nc, chroma_nc}
+use Rattle.h264_near.proofs.Places.{front, seam}
+use Rattle.h264_mbsyntax.specs.Intra.{block_mode, block_modes}
+use Rattle.h264_mbsyntax.specs.Residual.{block_if, is_coded, blocks_by, luma_block, chroma_block, no_block, totals_of, levels_of}
+use Rattle.h264_mbsyntax.specs.Stored.{Stored, kept, shown, IsBlank}
+
+module _ {S : Type 0} {took : S → List Call → Type 0} {failures : S → ℕ} where
+  -- one more mode
+  pub modes-next : {g : Grammar (List ℕ)} {old now mid : Reader} {s s' s'' : S} {x : ℕ} (width : ℕ) (picture : List CodedMacroblock) (slice : ℕ) (constrained : Bool) (b predicted : ℕ) (samples : Samples) (modes later : List ℕ) → b < 16 → predicted ≡ predicted_mode width picture slice constrained modes → samples ≡ block_samples width picture slice constrained modes → later ≡ modes ++ x ∷ [] → Leads took failures g (block_modes width picture slice constrained (16 - b) modes) old now s s' → Meets took failures (Is (λ (t : ℕ). t)) (block_mode predicted samples) now mid s' s'' (Ok x) → Leads took failures g (block_modes width picture slice constrained (16 - (b + 1)) later) old mid s s''
+  unfolding block_modes
+  modes-next {g} {old} {now} {mid} {s} {s'} {s''} {x} width picture slice constrained b predicted samples modes later h p q e l m =
+      let n : 16 - b ≡ suc (16 - (b + 1)) = omega arith in
+      let P : ℕ → Type 0 = λ k. Leads took failures g (block_modes width picture slice constrained k modes) old now s s' in
+      let M : ℕ → Type 0 = λ p. Meets took failures (Is (λ (t : ℕ). t)) (block_mode p samples) now mid s' s'' (Ok x) in
+      let N : Samples → Type 0 = λ q. Meets took failures (Is (λ (t : ℕ). t)) (block_mode (predicted_mode width picture slice constrained modes) q) now mid s' s'' (Ok x) in
+      rw e (leads-on (λ t. block_modes width picture slice constrained (16 - (b + 1)) (modes ++ t ∷ [])) (subst P n l) (subst N q (subst M p m)))
+
+  pub modes-stop : {X : Type 0} {R : X → List ℕ → Type 0} {g : Grammar (List ℕ)} {old now mid : Reader} {s s' s'' : S} {e : Stop} (width : ℕ) (picture : List CodedMacroblock) (slice : ℕ) (constrained : Bool) (b predicted : ℕ) (samples : Samples) (modes : List ℕ) → b < 16 → predicted ≡ predicted_mode width picture slice constrained modes → samples ≡ block_samples width picture slice constrained modes → Leads took failures g (block_modes width picture slice constrained (16 - b) modes) old now s s' → Meets {X = ℕ} took failures (Is (λ (t : ℕ). t)) (block_mode predicted samples) now mid s' s'' (Err e) → Meets took failures R g old mid s s'' (Err e)
+  unfolding block_modes
+  modes-stop {R = R} {g} {old} {now} {mid} {s} {s'} {s''} {e} width picture slice constrained b predicted samples modes h p q l m =
+      let n : 16 - b ≡ suc (16 - (b + 1)) = omega arith in
+      let P : ℕ → Type 0 = λ k. Leads took failures g (block_modes width picture slice constrained k modes) old now s s' in
+      let M : ℕ → Type 0 = λ p. Meets {X = ℕ} took failures (Is (λ (t : ℕ). t)) (block_mode p samples) now mid s' s'' (Err e) in
+      let N : Samples → Type 0 = λ q. Meets {X = ℕ} took failures (Is (λ (t : ℕ). t)) (block_mode (predicted_mode width picture slice constrained modes) q) now mid s' s'' (Err e) in
+      finish (subst P n l) (stop (λ t. block_modes width picture slice constrained (16 - (b + 1)) (modes ++ t ∷ [])) (subst N q (subst M p m)))
+
+  pub modes-over : {g : Grammar (List ℕ)} {old now : Reader} {s s' : S} (width : ℕ) (picture : List CodedMacroblock) (slice : ℕ) (constrained : Bool) (b : ℕ) (modes all : List ℕ) → 16 ≤ b → modes ≡ all → Leads took failures g (block_modes width picture slice constrained (16 - b) modes) old now s s' → Meets took failures (Is (λ (t : List ℕ). t)) g old now s s' (Ok all)
+  unfolding block_modes
+  modes-over {g} {old} {now} {s} {s'} width picture slice constrained b modes all h e l =
+      let n : 16 - b ≡ 0 = omega arith in
+      let P : ℕ → Type 0 = λ k. Leads took failures g (block_modes width picture slice constrained k modes) old now s s' in
+      finish (subst P n l) (done took failures (Is (λ t. t)) modes now s' all e)
+
+  -- one more block
+  pub blocks-next : {X : Type 0} {view : X → Block} {g : Grammar (List Block)} {old now mid : Reader} {s s' s'' : S} {x : X} (part : List Block → Grammar Block) (n b : ℕ) (blocks : List Block) → b < n → Leads took failures g (blocks_by part (n - b) blocks) old now s s' → Meets took failures (Is view) (part blocks) now mid s' s'' (Ok x) → Leads took failures g (blocks_by part (n - (b + 1)) (blocks ++ view x ∷ [])) old mid s s''
+  unfolding blocks_by
+  blocks-next {g = g} {old} {now} {mid} {s} {s'} part n b blocks h l m =
+      let e : n - b ≡ suc (n - (b + 1)) = omega arith in
+      let P : ℕ → Type 0 = λ k. Leads took failures g (blocks_by part k blocks) old now s s' in
+      leads-on (λ t. blocks_by part (n - (b + 1)) (blocks ++ t ∷ [])) (subst P e l) m
+
+  pub blocks-stop : {X Y : Type 0} {view : X → Block} {R : Y → List Block → Type 0} {g : Grammar (List Block)} {old now mid : Reader} {s s' s'' : S} {e : Stop} (part : List Block → Grammar Block) (n b : ℕ) (blocks : List Block) → b < n → Leads took failures g (blocks_by part (n - b) blocks) old now s s' → Meets {X = X} took failures (Is view) (part blocks) now mid s' s'' (Err e) → Meets {X = Y} took failures R g old mid s s'' (Err e)
+  unfolding blocks_by
+  blocks-stop {R = R} {g} {old} {now} {mid} {s} {s'} part n b blocks h l m =
+      let e : n - b ≡ suc (n - (b + 1)) = omega arith in
+      let P : ℕ → Type 0 = λ k. Leads took failures g (blocks_by part k blocks) old now s s' in
+      finish (subst P e l) (stop (λ t. blocks_by part (n - (b + 1)) (blocks ++ t ∷ [])) m)
+
+  pub blocks-over : {Y : Type 0} {R : Y → List Block → Type 0} {g : Grammar (List Block)} {old now : Reader} {s s' : S} (part : List Block → Grammar Block) (n b : ℕ) (blocks : List Block) (y : Y) → n ≤ b → R y blocks → Leads took failures g (blocks_by part (n - b) blocks) old now s s' → Meets took failures R g old now s s' (Ok y)
+  unfolding blocks_by
+  blocks-over {R = R} {g} {old} {now} {s} {s'} part n b blocks y h r l =
+      let e : n - b ≡ 0 = omega arith in
+      let P : ℕ → Type 0 = λ k. Leads took failures g (blocks_by part k blocks) old now s s' in
+      finish (subst P e l) (done took failures R blocks now s' y r)
+
+  -- the block that was read is the one behind those before
+  pub luma-met : {X : Type 0} {view : X → Block} {now mid : Reader} {s s' : S} {r : Result X Stop} (width : ℕ) (picture : List CodedMacroblock) (slice size pattern b nc : ℕ) (coded : Bool) (totals : List ℕ) (blocks : List Block) → length blocks ≡ b → totals_of blocks ≡ totals → coded ≡ is_coded pattern b → nc ≡ luma_nc width picture slice totals → Meets took failures (Is view) (block_if coded size nc) now mid s s' r → Meets took failures (Is view) (luma_block width picture slice size pattern blocks) now mid s s' r
+  unfolding luma_block
+  luma-met width picture slice size pattern b nc coded totals blocks n t p q m = rw (n, t, sym p, sym q) m
+
+  pub chroma-met : {X : Type 0} {view : X → Block} {now mid : Reader} {s s' : S} {r : Result X Stop} (width : ℕ) (picture : List CodedMacroblock) (slice nc : ℕ) (totals : List ℕ) (blocks : List Block) → totals_of blocks ≡ totals → nc ≡ chroma_nc width picture slice totals → Meets took failures (Is view) (block_if true 15 nc) now mid s s' r → Meets took failures (Is view) (chroma_block width picture slice blocks) now mid s s' r
+  unfolding chroma_block
+  chroma-met width picture slice nc totals blocks t q m = rw (t, sym q) m
+
+pub whole : {A : Type 0} (xs : List A) (n : ℕ) → length xs ≤ n → take n xs ≡ xs
+whole [] zero h = refl
+whole [] (suc n) h = refl
+whole (x ∷ xs) zero h = absurd (omega arith)
+whole (x ∷ xs) (suc n) h = ap (λ l. x ∷ l) (whole xs n (omega arith))
+
+-- the arrays keep their lengths
+pub kept-length : (levels : List (List ℤ)) (b total : ℕ) (by_place : List ℤ) → length (kept levels b total by_place) ≡ length levels
+unfolding kept
+kept-length levels b zero by_place = refl
+kept-length levels b (suc t) by_place = length-set levels b by_place
+
+kept-other : (levels : List (List ℤ)) (b k total : ℕ) (by_place d : List ℤ) → k ≢ b → get_or (kept levels b total by_place) k d ≡ get_or levels k d
+unfolding kept
+kept-other levels b k zero by_place d h = refl
+kept-other levels b k (suc t) by_place d h = get_or-set_other levels b k by_place d h
+
+kept-same : (size : ℕ) (levels : List (List ℤ)) (b total : ℕ) (by_place d : List ℤ) → b < length levels → IsBlank size by_place total → by_place ≡ shown size total (get_or (kept levels b total by_place) b d)
+unfolding kept
+kept-same size levels b zero by_place d h z = z refl
+kept-same size levels b (suc t) by_place d h z = sym (get_or-set_same levels b by_place d h)
+
+-- no block is there yet
+pub stored-none : (size : ℕ) (totals : List ℕ) (levels : List (List ℤ)) → Stored size 0 totals levels []
+stored-none size totals levels = record { count = refl; counted = refl; each = λ k h. absurd (omega arith) }
+
+-- one more block
+pub stored-next : (size b : ℕ) (totals : List ℕ) (levels : List (List ℤ)) (blocks : List Block) (v : Block) → b < length totals → b < length levels → IsBlank size v.by_place v.total → Stored size b totals levels blocks → Stored size (b + 1) (slice_set totals b v.total) (kept levels b v.total v.by_place) (blocks ++ v ∷ [])
+stored-next size b totals levels blocks v ht hl z s = record {
+  count = length-append blocks (v ∷ []) ∙ ap (λ n. n + 1) s.count;
+  counted = map-append (λ (x : Block). x.total) blocks (v ∷ []) ∙ ap (λ t. t ++ v.total ∷ []) s.counted ∙ sym (take_more_set totals b v.total ht);
+  each = λ k h. go k h (apart k b h);
+}
+  where
+    apart : (k b : ℕ) → k < b + 1 → (k < b) ⊎ (k ≡ b)
+    apart k b h = grind arith
+
+    lengths : length (levels_of blocks) ≡ b
+    lengths = map-length blocks ∙ s.count
+      where
+        map-length : (xs : List Block) → length (levels_of xs) ≡ length xs
+        map-length [] = refl
+        map-length (x ∷ xs) = ap suc (map-length xs)
+
+    go : (k : ℕ) → k < b + 1 → (k < b) ⊎ (k ≡ b) → slice_get (levels_of (blocks ++ v ∷ [])) k ≡ Some (shown size (get_or (slice_set totals b v.total) k 0) (get_or (kept levels b v.total v.by_place) k (replicate size (pos 0))))
+    go k h (inl l) =
+        let differs : k ≢ b = λ e. absurd (omega arith) in
+        rw (map-append (λ (x : Block). x.by_place) blocks (v ∷ []), get_or-set_other totals b k v.total 0 differs, kept-other levels b k v.total v.by_place (replicate size (pos 0)) differs)
+        (front (levels_of blocks) (v.by_place ∷ []) k (let n = lengths in omega arith) ∙ s.each k l)
+    go k h (inr e) =
+        rw (e, map-append (λ (x : Block). x.by_place) blocks (v ∷ []), get_or-set_same totals b v.total 0 ht)
+        (seam (levels_of blocks) v.by_place [] b (sym lengths) ∙ ap Some (kept-same size levels b v.total v.by_place (replicate size (pos 0)) hl z))
+
+-- no block is coded
+pub stored-blank : (size n : ℕ) (totals : List ℕ) (levels : List (List ℤ)) → totals ≡ replicate n 0 → Stored size n totals levels (replicate n (no_block size))
+unfolding no_block
+stored-blank size n totals levels e = record { count = tally n; counted = zeros n ∙ sym (ap (take n) e ∙ taken n); each = λ k h. one n k h ∙ ap Some (rw e (shown-none n k h)) }
+  where
+    tally : (n : ℕ) → length (replicate n (no_block size)) ≡ n
+    tally zero = refl
+    tally (suc n) = ap suc (tally n)
+
+    zeros : (n : ℕ) → totals_of (replicate n (no_block size)) ≡ replicate n 0
+    zeros zero = refl
+    zeros (suc n) = ap (λ l. 0 ∷ l) (zeros n)
+
+    taken : (n : ℕ) → take {A = ℕ} n (replicate n 0) ≡ replicate n 0
+    taken zero = refl
+    taken (suc n) = ap (λ l. 0 ∷ l) (taken n)
+
+    one : (n k : ℕ) → k < n → slice_get (levels_of (replicate n (no_block size))) k ≡ Some (replicate size (pos 0))
+    one zero k h = absurd (omega arith)
+    one (suc n) zero h = refl
+    one (suc n) (suc k) h = one n k (omega arith)
+
+    none_at : (n k : ℕ) → ◌≡◌ {A = ℕ} (get_or (replicate n 0) k 0) 0
+    none_at zero k = refl
+    none_at (suc n) zero = refl
+    none_at (suc n) (suc k) = none_at n k
+
+    shown-none : (n k : ℕ) → k < n → replicate size (pos 0) ≡ shown size (get_or (replicate n 0) k 0) (get_or levels k (replicate size (pos 0)))
+    shown-none n k h = rw (none_at n k) refl
+
+pub kept-some : (levels : List (List ℤ)) (b total : ℕ) (by_place : List ℤ) → 0 < total → slice_set levels b by_place ≡ kept levels b total by_place
+unfolding kept
+kept-some levels b zero by_place h = absurd (omega arith)
+kept-some levels b (suc t) by_place h = refl
+
+pub kept-none : (levels : List (List ℤ)) (b total : ℕ) (by_place : List ℤ) → total ≡ 0 → levels ≡ kept levels b total by_place
+unfolding kept
+kept-none levels b zero by_place h = refl
+kept-none levels b (suc t) by_place h = absurd (omega arith)
+
+-- one block that was kept
+pub shown-of : (size total : ℕ) (by_place stands : List ℤ) → IsBlank size by_place total → (0 < total → stands ≡ by_place) → by_place ≡ shown size total stands
+shown-of size zero by_place stands z h = z refl
+shown-of size (suc t) by_place stands z h = sym (h (omega arith))

@@ -1,0 +1,454 @@
+//! Macroblocks (7.3.5).
+#![tactic(auto)]
+
+ghost use Rattle.std.specs.Prelude.{◌≡◌, ℕ, ◌+◌, ◌-◌, ◌*◌, ◌/◌, ◌%◌, ◌<◌, ◌≤◌, ◌^◌, List, [], replicate, None, true, false, OnOk};
+ghost use Rattle.h264_base.specs.Meets.{Meets, Is, Answers};
+ghost use Rattle.h264_near.specs.Coded.{CodedMacroblock};
+ghost use Rattle.h264_near.specs.Keeps.{Keeps};
+ghost use Rattle.h264_mbsyntax.specs.Macroblock as syntax;
+ghost use Rattle.h264_base.specs.declared.mode.SliceType.TheVariants as slice_type;
+ghost use Rattle.h264_vectors.specs.Agrees.{Usable};
+ghost use Rattle.h264_mbsyntax.specs.Holds.{Holds, IsPlaced};
+ghost use Rattle.h264_mbsyntax.specs.Possible.{IsRead};
+
+use crate::intra::{fits_luma, read_block_modes, read_chroma_mode};
+use crate::residual::{Residual, read_coefficients, read_coefficients16};
+use h264_base::{ElementName, Elements, Rule, SliceType, Stop};
+use h264_bits::{Bits, check, read_align, read_bytes, read_ue, read_word};
+use h264_near::{Contexts, Motion, Near};
+use h264_tables::Table;
+use h264_vectors::{SliceContext, read_motions};
+
+/// How a macroblock is predicted.
+#[derive(Clone, Copy)]
+pub enum Kind {
+    /// I_4x4: the modes are the contexts'.
+    Intra4x4,
+    /// Intra 16x16.
+    Intra16x16 { mode: u8 },
+    /// I_PCM.
+    Pcm,
+    /// P: references and vectors are the contexts'.
+    Inter,
+}
+
+/// What a macroblock says. It is used again for the next one, so that levels and samples that this one does not have are older ones.
+#[derive(Clone, Copy)]
+pub struct Macroblock {
+    pub kind: Kind,
+    pub contexts: Contexts,
+    /// intra_chroma_pred_mode, in I_4x4 and Intra 16x16.
+    pub chroma_mode: u8,
+    /// QP_Y.
+    pub qp: u8,
+    /// The samples of I_PCM: 256 of Y, 64 of Cb and 64 of Cr.
+    pub pcm: [u8; 384],
+    pub residual: Residual,
+}
+
+impl Macroblock {
+    /// A place for macroblocks, before one is read into it.
+    pub fn none() -> Macroblock
+        ensures { result.qp ≡ 0 }
+    {
+        Macroblock {
+            kind: Kind::Pcm,
+            contexts: intra_contexts(0, 0, [0; 16], [0; 8], [2; 16]),
+            chroma_mode: 0,
+            qp: 0,
+            pcm: [0; 384],
+            residual: Residual {
+                luma_dc_total: 0,
+                luma_dc: [0; 16],
+                luma: [[0; 16]; 16],
+                luma_ac: [[0; 15]; 16],
+                chroma_dc_totals: [0; 2],
+                chroma_dc: [[0; 4]; 2],
+                chroma_ac: [[0; 15]; 8],
+            },
+        }
+    }
+}
+
+/// The contexts of an intra macroblock.
+#[inline]
+fn intra_contexts(
+    slice: u32,
+    qp: u8,
+    totals: [u8; 16],
+    chroma_totals: [u8; 8],
+    modes: [u8; 16],
+) -> Contexts
+    ensures slice { result.slice ≡ slice }
+    ensures intra { result.intra ≡ true }
+    ensures qp { result.qp ≡ qp }
+    ensures totals { result.totals ≡ totals }
+    ensures chroma_totals { result.chroma_totals ≡ chroma_totals }
+    ensures modes { result.modes ≡ modes }
+    ensures motions { result.motions ≡ replicate 16 None }
+{
+    Contexts {
+        slice,
+        intra: true,
+        qp,
+        totals,
+        chroma_totals,
+        modes,
+        motions: [None; 16],
+    }
+}
+
+/// The contexts of an inter macroblock.
+#[inline]
+pub(crate) fn inter_contexts(
+    slice: u32,
+    qp: u8,
+    totals: [u8; 16],
+    chroma_totals: [u8; 8],
+    motions: [Option<Motion>; 16],
+) -> Contexts
+    ensures slice { result.slice ≡ slice }
+    ensures intra { result.intra ≡ false }
+    ensures qp { result.qp ≡ qp }
+    ensures totals { result.totals ≡ totals }
+    ensures chroma_totals { result.chroma_totals ≡ chroma_totals }
+    ensures modes { result.modes ≡ replicate 16 2 }
+    ensures motions { result.motions ≡ motions }
+{
+    Contexts {
+        slice,
+        intra: false,
+        qp,
+        totals,
+        chroma_totals,
+        modes: [2; 16],
+        motions,
+    }
+}
+
+/// Reads what follows mb_type of an I_4x4 macroblock. `qp` is QP_Y,PRED.
+fn read_intra4x4<S: Elements>(
+    bits: &mut Bits,
+    near: &Near,
+    slice: &SliceContext,
+    qp: u8,
+    mb: &mut Macroblock,
+    sink: &mut S,
+) -> Result<(), Stop>
+    requires qp { qp ≤ 51 }
+    requires room { S.failures sink.old < 2 ^ 64 - 1 }
+    ensures meets { (width : ℕ) (picture : List CodedMacroblock) → Keeps width picture near.now → qp ≡ syntax.predicted_qp slice.now picture → Meets S.took S.failures (λ _ m. Holds mb.new m) (syntax.intra4x4 width slice.now picture) bits.old bits.new sink.old sink.new result }
+    ensures quiet { OnOk result (S.failures sink.new ≡ S.failures sink.old) }
+    ensures within { OnOk result (mb.new.qp ≤ 51) }
+    ensures same { OnOk result (mb.new.contexts.slice ≡ slice.now.number) }
+{
+    let modes = read_block_modes(bits, near, slice.number, slice.constrained_intra, sink)?;
+    let samples = near.samples(slice.number, slice.constrained_intra, &[0; 16], 0);
+    let chroma_mode = read_chroma_mode(bits, samples, sink)?;
+    let pattern = read_word(
+        bits,
+        Rule::CodeWord,
+        ElementName::CodedBlockPattern,
+        Table::CodedBlockPatternIntra,
+        sink,
+    )?;
+    let mut totals = [0u8; 16];
+    let mut chroma_totals = [0u8; 8];
+    let after = read_coefficients(
+        bits,
+        near,
+        slice.number,
+        qp,
+        pattern.value,
+        &mut totals,
+        &mut chroma_totals,
+        &mut mb.residual,
+        sink,
+    )?;
+    mb.kind = Kind::Intra4x4;
+    mb.chroma_mode = chroma_mode;
+    mb.qp = after;
+    mb.residual.luma_dc_total = 0;
+    mb.contexts = intra_contexts(slice.number, after, totals, chroma_totals, modes);
+    Ok(())
+}
+
+/// Reads the samples of I_PCM. `qp` is QP_Y,PRED, which stays.
+fn read_pcm<S: Elements>(
+    bits: &mut Bits,
+    slice: &SliceContext,
+    qp: u8,
+    mb: &mut Macroblock,
+    sink: &mut S,
+) -> Result<(), Stop>
+    requires { qp ≤ 51 }
+    ensures meets { (picture : List CodedMacroblock) → qp ≡ syntax.predicted_qp slice.now picture → Meets S.took S.failures (λ _ m. Holds mb.new m) (syntax.pcm slice.now picture) bits.old bits.new sink.old sink.new result }
+    ensures within { OnOk result (mb.new.qp ≤ 51) }
+    ensures quiet { OnOk result (S.failures sink.new ≡ S.failures sink.old) }
+    ensures same { OnOk result (mb.new.contexts.slice ≡ slice.now.number) }
+{
+    read_align(bits, sink)?;
+    let samples = read_bytes(bits, 384, sink)?;
+    mb.kind = Kind::Pcm;
+    mb.qp = qp;
+    mb.pcm.copy_from_slice(samples);
+    mb.contexts = intra_contexts(slice.number, 0, [16; 16], [16; 8], [2; 16]);
+    Ok(())
+}
+
+/// The pattern that mb_type of an Intra 16x16 macroblock says.
+#[tactic(auto, unfolding(crate::specs::Macroblock::pattern_of))]
+#[inline]
+fn pattern_of(kind: u32) -> u8
+    requires some { 0 < kind }
+    requires few { kind < 25 }
+    ensures { result ≡ syntax.pattern_of kind }
+{
+    if kind < 13 {
+        return ((kind - 1) / 4 % 3 * 16) as u8;
+    }
+    ((kind - 1) / 4 % 3 * 16 + 15) as u8
+}
+
+/// Reads what follows mb_type of an Intra 16x16 macroblock. `qp` is QP_Y,PRED.
+fn read_intra16x16<S: Elements>(
+    bits: &mut Bits,
+    near: &Near,
+    slice: &SliceContext,
+    qp: u8,
+    bit: u64,
+    kind: u32,
+    mb: &mut Macroblock,
+    sink: &mut S,
+) -> Result<(), Stop>
+    requires some { 0 < kind }
+    requires few { kind < 25 }
+    requires qp { qp ≤ 51 }
+    requires room { S.failures sink.old < 2 ^ 64 - 1 }
+    ensures meets { (width : ℕ) (picture : List CodedMacroblock) → Keeps width picture near.now → qp ≡ syntax.predicted_qp slice.now picture → Meets S.took S.failures (λ _ m. Holds mb.new m) (syntax.intra16x16 width slice.now picture bit kind) bits.old bits.new sink.old sink.new result }
+    ensures quiet { OnOk result (S.failures sink.new ≡ S.failures sink.old) }
+    ensures within { OnOk result (mb.new.qp ≤ 51) }
+    ensures same { OnOk result (mb.new.contexts.slice ≡ slice.now.number) }
+{
+    let samples = near.samples(slice.number, slice.constrained_intra, &[0; 16], 0);
+    let mode = ((kind - 1) % 4) as u8;
+    check(fits_luma(mode, samples), Rule::IntraMode, bit)?;
+    let chroma_mode = read_chroma_mode(bits, samples, sink)?;
+    let pattern = pattern_of(kind);
+    let mut totals = [0u8; 16];
+    let mut chroma_totals = [0u8; 8];
+    let after = read_coefficients16(
+        bits,
+        near,
+        slice.number,
+        qp,
+        pattern,
+        &mut totals,
+        &mut chroma_totals,
+        &mut mb.residual,
+        sink,
+    )?;
+    mb.kind = Kind::Intra16x16 { mode };
+    mb.chroma_mode = chroma_mode;
+    mb.qp = after;
+    mb.contexts = intra_contexts(slice.number, after, totals, chroma_totals, [2; 16]);
+    Ok(())
+}
+
+/// Reads an intra macroblock by its mb_type in I slices, 0 to 25. `qp` is QP_Y,PRED.
+fn read_intra<S: Elements>(
+    bits: &mut Bits,
+    near: &Near,
+    slice: &SliceContext,
+    qp: u8,
+    bit: u64,
+    kind: u32,
+    mb: &mut Macroblock,
+    sink: &mut S,
+) -> Result<(), Stop>
+    requires few { kind ≤ 25 }
+    requires qp { qp ≤ 51 }
+    requires room { S.failures sink.old < 2 ^ 64 - 1 }
+    ensures meets { (width : ℕ) (picture : List CodedMacroblock) → Keeps width picture near.now → qp ≡ syntax.predicted_qp slice.now picture → Meets S.took S.failures (λ _ m. Holds mb.new m) (syntax.intra width slice.now picture bit kind) bits.old bits.new sink.old sink.new result }
+    ensures quiet { OnOk result (S.failures sink.new ≡ S.failures sink.old) }
+    ensures within { OnOk result (mb.new.qp ≤ 51) }
+    ensures same { OnOk result (mb.new.contexts.slice ≡ slice.now.number) }
+{
+    if kind == 0 {
+        return read_intra4x4(bits, near, slice, qp, mb, sink);
+    }
+    if kind == 25 {
+        return read_pcm(bits, slice, qp, mb, sink);
+    }
+    read_intra16x16(bits, near, slice, qp, bit, kind, mb, sink)
+}
+
+/// Reads an inter macroblock by its mb_type in P slices, 0 to 4. `qp` is QP_Y,PRED.
+fn read_inter<S: Elements>(
+    bits: &mut Bits,
+    near: &Near,
+    slice: &SliceContext,
+    qp: u8,
+    bit: u64,
+    kind: u32,
+    mb: &mut Macroblock,
+    sink: &mut S,
+) -> Result<(), Stop>
+    requires qp { qp ≤ 51 }
+    requires usable { Usable slice.now }
+    requires room { S.failures sink.old < 2 ^ 64 - 1 }
+    ensures meets { (width : ℕ) (picture : List CodedMacroblock) → Keeps width picture near.now → qp ≡ syntax.predicted_qp slice.now picture → Meets S.took S.failures (λ _ m. Holds mb.new m) (syntax.inter width slice.now picture bit kind) bits.old bits.new sink.old sink.new result }
+    ensures quiet { OnOk result (S.failures sink.new ≡ S.failures sink.old) }
+    ensures within { OnOk result (mb.new.qp ≤ 51) }
+    ensures same { OnOk result (mb.new.contexts.slice ≡ slice.now.number) }
+{
+    let mut motions = [None; 16];
+    let fits = read_motions(bits, near, slice, bit, kind, &mut motions, sink)?;
+    let pattern = read_word(
+        bits,
+        Rule::CodeWord,
+        ElementName::CodedBlockPattern,
+        Table::CodedBlockPatternInter,
+        sink,
+    )?;
+    let mut totals = [0u8; 16];
+    let mut chroma_totals = [0u8; 8];
+    let after = read_coefficients(
+        bits,
+        near,
+        slice.number,
+        qp,
+        pattern.value,
+        &mut totals,
+        &mut chroma_totals,
+        &mut mb.residual,
+        sink,
+    )?;
+    check(fits, Rule::VectorRange, bit)?;
+    mb.kind = Kind::Inter;
+    mb.qp = after;
+    mb.residual.luma_dc_total = 0;
+    mb.contexts = inter_contexts(slice.number, after, totals, chroma_totals, motions);
+    Ok(())
+}
+
+/// Reads a macroblock of an I slice by its mb_type. `qp` is QP_Y,PRED.
+fn read_of_i<S: Elements>(
+    bits: &mut Bits,
+    near: &Near,
+    slice: &SliceContext,
+    qp: u8,
+    bit: u64,
+    kind: u32,
+    mb: &mut Macroblock,
+    sink: &mut S,
+) -> Result<(), Stop>
+    requires qp { qp ≤ 51 }
+    requires room { S.failures sink.old < 2 ^ 64 - 1 }
+    ensures meets { (width : ℕ) (picture : List CodedMacroblock) → Keeps width picture near.now → qp ≡ syntax.predicted_qp slice.now picture → Meets S.took S.failures (λ _ m. Holds mb.new m) (syntax.by_type slice_type.I width slice.now picture bit kind) bits.old bits.new sink.old sink.new result }
+    ensures quiet { OnOk result (S.failures sink.new ≡ S.failures sink.old) }
+    ensures within { OnOk result (mb.new.qp ≤ 51) }
+    ensures same { OnOk result (mb.new.contexts.slice ≡ slice.now.number) }
+{
+    check(kind <= 25, Rule::Range, bit)?;
+    read_intra(bits, near, slice, qp, bit, kind, mb, sink)
+}
+
+/// Reads a macroblock of a P slice by its mb_type. `qp` is QP_Y,PRED.
+fn read_of_p<S: Elements>(
+    bits: &mut Bits,
+    near: &Near,
+    slice: &SliceContext,
+    qp: u8,
+    bit: u64,
+    kind: u32,
+    mb: &mut Macroblock,
+    sink: &mut S,
+) -> Result<(), Stop>
+    requires qp { qp ≤ 51 }
+    requires usable { Usable slice.now }
+    requires room { S.failures sink.old < 2 ^ 64 - 1 }
+    ensures meets { (width : ℕ) (picture : List CodedMacroblock) → Keeps width picture near.now → qp ≡ syntax.predicted_qp slice.now picture → Meets S.took S.failures (λ _ m. Holds mb.new m) (syntax.by_type slice_type.P width slice.now picture bit kind) bits.old bits.new sink.old sink.new result }
+    ensures quiet { OnOk result (S.failures sink.new ≡ S.failures sink.old) }
+    ensures within { OnOk result (mb.new.qp ≤ 51) }
+    ensures same { OnOk result (mb.new.contexts.slice ≡ slice.now.number) }
+{
+    check(kind <= 30, Rule::Range, bit)?;
+    if kind < 5 {
+        return read_inter(bits, near, slice, qp, bit, kind, mb, sink);
+    }
+    read_intra(bits, near, slice, qp, bit, kind - 5, mb, sink)
+}
+
+/// Reads a macroblock by its mb_type and the type of its slice. `qp` is QP_Y,PRED.
+fn read_by_type<S: Elements>(
+    bits: &mut Bits,
+    near: &Near,
+    slice: &SliceContext,
+    qp: u8,
+    bit: u64,
+    kind: u32,
+    mb: &mut Macroblock,
+    sink: &mut S,
+) -> Result<(), Stop>
+    requires qp { qp ≤ 51 }
+    requires usable { Usable slice.now }
+    requires room { S.failures sink.old < 2 ^ 64 - 1 }
+    ensures meets { (width : ℕ) (picture : List CodedMacroblock) → Keeps width picture near.now → qp ≡ syntax.predicted_qp slice.now picture → Meets S.took S.failures (λ _ m. Holds mb.new m) (syntax.by_type slice.now.slice_type width slice.now picture bit kind) bits.old bits.new sink.old sink.new result }
+    ensures quiet { OnOk result (S.failures sink.new ≡ S.failures sink.old) }
+    ensures within { OnOk result (mb.new.qp ≤ 51) }
+    ensures same { OnOk result (mb.new.contexts.slice ≡ slice.now.number) }
+{
+    match slice.slice_type {
+        SliceType::I => read_of_i(bits, near, slice, qp, bit, kind, mb, sink),
+        SliceType::P => read_of_p(bits, near, slice, qp, bit, kind, mb, sink),
+    }
+}
+
+/// Reads mb_type and what follows: the stream bit of mb_type. `qp` is QP_Y,PRED.
+fn read_placed<S: Elements>(
+    bits: &mut Bits,
+    near: &Near,
+    slice: &SliceContext,
+    qp: u8,
+    mb: &mut Macroblock,
+    sink: &mut S,
+) -> Result<u64, Stop>
+    requires qp { qp ≤ 51 }
+    requires usable { Usable slice.now }
+    requires room { S.failures sink.old < 2 ^ 64 - 1 }
+    ensures meets { (width : ℕ) (picture : List CodedMacroblock) → Keeps width picture near.now → qp ≡ syntax.predicted_qp slice.now picture → Meets S.took S.failures (IsPlaced mb.new) (syntax.macroblock width slice.now picture) bits.old bits.new sink.old sink.new result }
+    ensures quiet { OnOk result (S.failures sink.new ≡ S.failures sink.old) }
+    ensures within { OnOk result (mb.new.qp ≤ 51) }
+    ensures same { OnOk result (mb.new.contexts.slice ≡ slice.now.number) }
+{
+    let kind = read_ue(bits, ElementName::MbType, sink)?;
+    read_by_type(bits, near, slice, qp, kind.bit, kind.value, mb, sink)?;
+    Ok(kind.bit)
+}
+
+/// Reads a macroblock into `mb`, which has the contexts of those before it in `near`: the stream bit of its mb_type.
+/// `qp` is QP_Y,PRED, 0 to 51.
+///
+/// Ok: the elements that the sink was told are its one derivation, with every rule met but that on the range of the transform;
+/// `mb` holds it, and what it refers to is there. No: the first rule that it breaks, at its stream bit. Write: the sink failed.
+/// After an Err the reader may have moved, and nothing is said of `mb`.
+pub fn read_macroblock<S: Elements>(
+    bits: &mut Bits,
+    near: &Near,
+    slice: &SliceContext,
+    qp: u8,
+    mb: &mut Macroblock,
+    sink: &mut S,
+) -> Result<u64, Stop>
+    requires qp { qp ≤ 51 }
+    requires usable { Usable slice.now }
+    requires room { S.failures sink.old < 2 ^ 64 - 1 }
+    ensures answers { (width : ℕ) (picture : List CodedMacroblock) → Keeps width picture near.now → qp ≡ syntax.predicted_qp slice.now picture → Answers S.took S.failures (IsRead width slice.now picture mb.new) (syntax.macroblock width slice.now picture) bits.old bits.new sink.old sink.new result }
+    ensures meets { (width : ℕ) (picture : List CodedMacroblock) → Keeps width picture near.now → qp ≡ syntax.predicted_qp slice.now picture → Meets S.took S.failures (IsRead width slice.now picture mb.new) (syntax.macroblock width slice.now picture) bits.old bits.new sink.old sink.new result }
+    ensures quiet { OnOk result (S.failures sink.new ≡ S.failures sink.old) }
+    ensures within { OnOk result (mb.new.qp ≤ 51) }
+    ensures same { OnOk result (mb.new.contexts.slice ≡ slice.now.number) }
+{
+    read_placed(bits, near, slice, qp, mb, sink)
+}

@@ -1,0 +1,383 @@
+//! mb_qp_delta and the blocks of a residual (7.3.5, 7.3.5.3).
+#![tactic(auto)]
+
+ghost use Rattle.std.specs.Prelude.{◌≡◌, ℕ, ℤ, pos, neg_ℤ, ◌≤ℤ◌, ◌+ℤ◌, ◌+◌, ◌-◌, ◌*◌, ◌/◌, ◌<◌, ◌≤◌, ◌^◌, List, [], OnOk, IfOk, get_or, take, length};
+ghost use Rattle.h264_base.specs.Meets.{Meets, Is};
+ghost use Rattle.h264_bits.specs.Forms.{natural};
+ghost use Rattle.h264_cavlc.specs.Block.{Block};
+ghost use Rattle.h264_near.specs.Coded.{CodedMacroblock};
+ghost use Rattle.h264_near.specs.Keeps.{Keeps};
+ghost use Rattle.h264_mbsyntax.specs.Residual as syntax;
+ghost use Rattle.h264_mbsyntax.specs.Stored as stored;
+
+use h264_base::{ElementName, Elements, Rule, Stop};
+use h264_bits::{Bits, check, read_se};
+use h264_cavlc::{Levels, block};
+use h264_near::Near;
+
+/// The levels of a macroblock, by block and by place of the scan. Those of a block without coefficients are what stood there before:
+/// whoever reads them looks at the totals first.
+#[derive(Clone, Copy)]
+pub struct Residual {
+    pub luma_dc_total: u8,
+    /// Intra16x16DCLevel.
+    pub luma_dc: [i16; 16],
+    /// LumaLevel4x4, by block number.
+    pub luma: [[i16; 16]; 16],
+    /// Intra16x16ACLevel, by block number.
+    pub luma_ac: [[i16; 15]; 16],
+    pub chroma_dc_totals: [u8; 2],
+    /// ChromaDCLevel of Cb and of Cr.
+    pub chroma_dc: [[i16; 4]; 2],
+    /// ChromaACLevel: four blocks of Cb, then of Cr.
+    pub chroma_ac: [[i16; 15]; 8],
+}
+
+/// The sum that is QP_Y modulo 52.
+#[inline]
+fn qp_sum(predicted: u8, delta: i32) -> u32
+    requires predicted { predicted ≤ 51 }
+    requires low { neg_ℤ (pos 26) ≤ℤ delta }
+    requires high { delta ≤ℤ pos 25 }
+    ensures { result ≡ natural (pos (predicted + 52) +ℤ delta) }
+{
+    (predicted as i32 + 52 + delta) as u32
+}
+
+/// QP_Y from QP_Y,PRED.
+#[tactic(auto, unfolding(crate::specs::Residual::qp_after))]
+#[inline]
+fn qp_after(predicted: u8, delta: i32) -> u8
+    requires predicted { predicted ≤ 51 }
+    requires low { neg_ℤ (pos 26) ≤ℤ delta }
+    requires high { delta ≤ℤ pos 25 }
+    ensures here { result ≡ syntax.qp_after predicted delta }
+    ensures within { result ≤ 51 }
+{
+    (qp_sum(predicted, delta) % 52) as u8
+}
+
+/// Reads mb_qp_delta: QP_Y.
+pub(crate) fn read_qp_delta<S: Elements>(
+    bits: &mut Bits,
+    predicted: u8,
+    sink: &mut S,
+) -> Result<u8, Stop>
+    requires predicted { predicted ≤ 51 }
+    requires room { S.failures sink.old < 2 ^ 64 - 1 }
+    ensures meets { Meets S.took S.failures (Is (λ x. x)) (syntax.qp_delta predicted) bits.old bits.new sink.old sink.new result }
+    ensures within { IfOk result (λ q. q ≤ 51) }
+{
+    let delta = read_se(bits, ElementName::MbQpDelta, sink)?;
+    check(-26 <= delta.value, Rule::Range, delta.bit)?;
+    check(delta.value <= 25, Rule::Range, delta.bit)?;
+    Ok(qp_after(predicted, delta.value))
+}
+
+/// Whether the pattern has the bit of a luma block's 8x8 block.
+#[tactic(auto, unfolding(crate::specs::Residual::is_coded))]
+#[inline]
+fn is_coded(pattern: u8, b: usize) -> bool
+    requires { b < 16 }
+    ensures { result ≡ syntax.is_coded pattern b }
+{
+    pattern / (1 << (b / 4)) % 2 == 1
+}
+
+/// Reads a block, if it is coded.
+#[inline]
+fn read_block_if<const N: usize, S: Elements>(
+    bits: &mut Bits,
+    coded: bool,
+    nc: u8,
+    sink: &mut S,
+) -> Result<Levels<N>, Stop>
+    requires size { N ≤ 16 }
+    requires room { S.failures sink.old < 2 ^ 64 - 1 }
+    ensures meets { Meets S.took S.failures (Is (λ b. record { by_place = b.by_place; total = b.total })) (syntax.block_if coded N nc) bits.old bits.new sink.old sink.new result }
+    ensures zeros { IfOk result (λ b. stored.IsBlank N b.by_place b.total) }
+{
+    if coded {
+        let read = block::<N, S>(bits, nc, sink)?;
+        return Ok(read);
+    }
+    Ok(Levels {
+        by_place: [0; N],
+        total: 0,
+    })
+}
+
+/// Keeps the levels of a block that has some.
+#[inline]
+fn keep<const N: usize, const M: usize>(levels: &mut [[i16; N]; M], b: usize, read: &Levels<N>)
+    requires { b < M }
+    ensures { levels.new ≡ stored.kept levels.old b read.now.total read.now.by_place }
+{
+    if read.total > 0 {
+        levels[b] = read.by_place;
+    }
+}
+
+/// Reads the luma blocks of size `N`, 16 or 15, into the places of their numbers.
+pub(crate) fn read_luma<const N: usize, S: Elements>(
+    bits: &mut Bits,
+    near: &Near,
+    slice: u32,
+    pattern: u8,
+    totals: &mut [u8; 16],
+    levels: &mut [[i16; N]; 16],
+    sink: &mut S,
+) -> Result<(), Stop>
+    requires size { N ≤ 16 }
+    requires room { S.failures sink.old < 2 ^ 64 - 1 }
+    ensures meets { (width : ℕ) (picture : List CodedMacroblock) → Keeps width picture near.now → Meets S.took S.failures (λ _ blocks. stored.Stored N 16 totals.new levels.new blocks) (syntax.luma_blocks width picture slice N pattern) bits.old bits.new sink.old sink.new result }
+    ensures quiet { OnOk result (S.failures sink.new ≡ S.failures sink.old) }
+{
+    for b in 0..16 {
+        let nc = near.nc(slice, totals, b);
+        let read = read_block_if::<N, S>(bits, is_coded(pattern, b), nc, sink)?;
+        totals[b] = read.total;
+        keep::<N, 16>(levels, b, &read);
+    }
+    Ok(())
+}
+
+/// Reads the DC blocks of Cb and Cr.
+fn read_both_dc<S: Elements>(
+    bits: &mut Bits,
+    totals: &mut [u8; 2],
+    levels: &mut [[i16; 4]; 2],
+    sink: &mut S,
+) -> Result<(), Stop>
+    requires { S.failures sink.old < 2 ^ 64 - 1 }
+    ensures { Meets S.took S.failures (λ _ blocks. stored.Stored 4 2 totals.new levels.new blocks) syntax.both_dc bits.old bits.new sink.old sink.new result }
+{
+    let cb = read_block_if::<4, S>(bits, true, 0, sink)?;
+    totals[0] = cb.total;
+    keep::<4, 2>(levels, 0, &cb);
+    let cr = read_block_if::<4, S>(bits, true, 0, sink)?;
+    totals[1] = cr.total;
+    keep::<4, 2>(levels, 1, &cr);
+    Ok(())
+}
+
+/// Reads the DC blocks of Cb and Cr, if they are coded.
+fn read_chroma_dc<S: Elements>(
+    bits: &mut Bits,
+    coded: bool,
+    totals: &mut [u8; 2],
+    levels: &mut [[i16; 4]; 2],
+    sink: &mut S,
+) -> Result<(), Stop>
+    requires { S.failures sink.old < 2 ^ 64 - 1 }
+    ensures { Meets S.took S.failures (λ _ blocks. stored.Stored 4 2 totals.new levels.new blocks) (syntax.chroma_dc_if coded) bits.old bits.new sink.old sink.new result }
+{
+    if coded {
+        return read_both_dc(bits, totals, levels, sink);
+    }
+    *totals = [0; 2];
+    Ok(())
+}
+
+/// Reads the AC blocks of Cb and Cr.
+fn read_all_ac<S: Elements>(
+    bits: &mut Bits,
+    near: &Near,
+    slice: u32,
+    totals: &mut [u8; 8],
+    levels: &mut [[i16; 15]; 8],
+    sink: &mut S,
+) -> Result<(), Stop>
+    requires { S.failures sink.old < 2 ^ 64 - 1 }
+    ensures meets { (width : ℕ) (picture : List CodedMacroblock) → Keeps width picture near.now → Meets S.took S.failures (λ _ blocks. stored.Stored 15 8 totals.new levels.new blocks) (syntax.chroma_blocks width picture slice) bits.old bits.new sink.old sink.new result }
+    ensures quiet { OnOk result (S.failures sink.new ≡ S.failures sink.old) }
+{
+    for b in 0..8 {
+        let nc = near.chroma_nc(slice, totals, b);
+        let read = read_block_if::<15, S>(bits, true, nc, sink)?;
+        totals[b] = read.total;
+        keep::<15, 8>(levels, b, &read);
+    }
+    Ok(())
+}
+
+/// Reads the AC blocks of Cb and Cr, if they are coded.
+fn read_chroma_ac<S: Elements>(
+    bits: &mut Bits,
+    near: &Near,
+    slice: u32,
+    coded: bool,
+    totals: &mut [u8; 8],
+    levels: &mut [[i16; 15]; 8],
+    sink: &mut S,
+) -> Result<(), Stop>
+    requires { S.failures sink.old < 2 ^ 64 - 1 }
+    ensures meets { (width : ℕ) (picture : List CodedMacroblock) → Keeps width picture near.now → Meets S.took S.failures (λ _ blocks. stored.Stored 15 8 totals.new levels.new blocks) (syntax.chroma_ac_if width picture slice coded) bits.old bits.new sink.old sink.new result }
+    ensures quiet { OnOk result (S.failures sink.new ≡ S.failures sink.old) }
+{
+    if coded {
+        return read_all_ac(bits, near, slice, totals, levels, sink);
+    }
+    *totals = [0; 8];
+    Ok(())
+}
+
+/// Reads the chroma blocks by CodedBlockPatternChroma.
+fn read_chroma<S: Elements>(
+    bits: &mut Bits,
+    near: &Near,
+    slice: u32,
+    pattern: u8,
+    totals: &mut [u8; 8],
+    residual: &mut Residual,
+    sink: &mut S,
+) -> Result<(), Stop>
+    requires { S.failures sink.old < 2 ^ 64 - 1 }
+    ensures meets { (width : ℕ) (picture : List CodedMacroblock) → Keeps width picture near.now → Meets S.took S.failures (λ _ v. stored.StoredChroma totals.new residual.new.chroma_ac residual.new.chroma_dc_totals residual.new.chroma_dc v) (syntax.chroma width picture slice pattern) bits.old bits.new sink.old sink.new result }
+    ensures luma { residual.new.luma ≡ residual.old.luma }
+    ensures luma_ac { residual.new.luma_ac ≡ residual.old.luma_ac }
+    ensures luma_dc { residual.new.luma_dc ≡ residual.old.luma_dc }
+    ensures luma_dc_total { residual.new.luma_dc_total ≡ residual.old.luma_dc_total }
+    ensures quiet { OnOk result (S.failures sink.new ≡ S.failures sink.old) }
+{
+    read_chroma_dc(
+        bits,
+        0 < pattern,
+        &mut residual.chroma_dc_totals,
+        &mut residual.chroma_dc,
+        sink,
+    )?;
+    read_chroma_ac(
+        bits,
+        near,
+        slice,
+        pattern == 2,
+        totals,
+        &mut residual.chroma_ac,
+        sink,
+    )?;
+    Ok(())
+}
+
+/// Reads mb_qp_delta and the blocks where coded_block_pattern is not 0: QP_Y.
+fn read_coded<S: Elements>(
+    bits: &mut Bits,
+    near: &Near,
+    slice: u32,
+    predicted_qp: u8,
+    pattern: u8,
+    totals: &mut [u8; 16],
+    chroma_totals: &mut [u8; 8],
+    residual: &mut Residual,
+    sink: &mut S,
+) -> Result<u8, Stop>
+    requires predicted { predicted_qp ≤ 51 }
+    requires room { S.failures sink.old < 2 ^ 64 - 1 }
+    ensures meets { (width : ℕ) (picture : List CodedMacroblock) → Keeps width picture near.now → Meets S.took S.failures (λ qp v. stored.StoredCoefficients qp totals.new residual.new.luma chroma_totals.new residual.new.chroma_ac residual.new.chroma_dc_totals residual.new.chroma_dc v) (syntax.coded_coefficients width picture slice predicted_qp pattern) bits.old bits.new sink.old sink.new result }
+    ensures within { IfOk result (λ q. q ≤ 51) }
+    ensures quiet { OnOk result (S.failures sink.new ≡ S.failures sink.old) }
+{
+    let qp = read_qp_delta(bits, predicted_qp, sink)?;
+    read_luma::<16, S>(bits, near, slice, pattern, totals, &mut residual.luma, sink)?;
+    read_chroma(
+        bits,
+        near,
+        slice,
+        pattern / 16,
+        chroma_totals,
+        residual,
+        sink,
+    )?;
+    Ok(qp)
+}
+
+/// Reads mb_qp_delta and the blocks of a macroblock that is not Intra 16x16, if coded_block_pattern is not 0: QP_Y.
+pub(crate) fn read_coefficients<S: Elements>(
+    bits: &mut Bits,
+    near: &Near,
+    slice: u32,
+    predicted_qp: u8,
+    pattern: u8,
+    totals: &mut [u8; 16],
+    chroma_totals: &mut [u8; 8],
+    residual: &mut Residual,
+    sink: &mut S,
+) -> Result<u8, Stop>
+    requires predicted { predicted_qp ≤ 51 }
+    requires room { S.failures sink.old < 2 ^ 64 - 1 }
+    ensures meets { (width : ℕ) (picture : List CodedMacroblock) → Keeps width picture near.now → Meets S.took S.failures (λ qp v. stored.StoredCoefficients qp totals.new residual.new.luma chroma_totals.new residual.new.chroma_ac residual.new.chroma_dc_totals residual.new.chroma_dc v) (syntax.coefficients width picture slice predicted_qp pattern) bits.old bits.new sink.old sink.new result }
+    ensures within { IfOk result (λ q. q ≤ 51) }
+    ensures quiet { OnOk result (S.failures sink.new ≡ S.failures sink.old) }
+{
+    if pattern == 0 {
+        *totals = [0; 16];
+        *chroma_totals = [0; 8];
+        residual.chroma_dc_totals = [0; 2];
+        return Ok(predicted_qp);
+    }
+    read_coded(
+        bits,
+        near,
+        slice,
+        predicted_qp,
+        pattern,
+        totals,
+        chroma_totals,
+        residual,
+        sink,
+    )
+}
+
+/// Keeps the levels of the DC block, if it has some.
+#[inline]
+fn keep_dc(levels: &mut [i16; 16], read: &Levels<16>)
+    ensures { 0 < read.now.total → levels.new ≡ read.now.by_place }
+{
+    if read.total > 0 {
+        *levels = read.by_place;
+    }
+}
+
+/// Reads mb_qp_delta and the blocks of an Intra 16x16 macroblock: QP_Y.
+pub(crate) fn read_coefficients16<S: Elements>(
+    bits: &mut Bits,
+    near: &Near,
+    slice: u32,
+    predicted_qp: u8,
+    pattern: u8,
+    totals: &mut [u8; 16],
+    chroma_totals: &mut [u8; 8],
+    residual: &mut Residual,
+    sink: &mut S,
+) -> Result<u8, Stop>
+    requires predicted { predicted_qp ≤ 51 }
+    requires room { S.failures sink.old < 2 ^ 64 - 1 }
+    ensures meets { (width : ℕ) (picture : List CodedMacroblock) → Keeps width picture near.now → Meets S.took S.failures (λ qp v. stored.StoredCoefficients16 qp residual.new.luma_dc_total residual.new.luma_dc totals.new residual.new.luma_ac chroma_totals.new residual.new.chroma_ac residual.new.chroma_dc_totals residual.new.chroma_dc v) (syntax.coefficients16 width picture slice predicted_qp pattern) bits.old bits.new sink.old sink.new result }
+    ensures within { IfOk result (λ q. q ≤ 51) }
+    ensures quiet { OnOk result (S.failures sink.new ≡ S.failures sink.old) }
+{
+    let qp = read_qp_delta(bits, predicted_qp, sink)?;
+    let nc = near.nc(slice, totals, 0);
+    let dc = read_block_if::<16, S>(bits, true, nc, sink)?;
+    residual.luma_dc_total = dc.total;
+    keep_dc(&mut residual.luma_dc, &dc);
+    read_luma::<15, S>(
+        bits,
+        near,
+        slice,
+        pattern,
+        totals,
+        &mut residual.luma_ac,
+        sink,
+    )?;
+    read_chroma(
+        bits,
+        near,
+        slice,
+        pattern / 16,
+        chroma_totals,
+        residual,
+        sink,
+    )?;
+    Ok(qp)
+}

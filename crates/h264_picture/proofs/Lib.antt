@@ -1,0 +1,4 @@
+pub mod Tables
+pub mod FromRead
+pub mod Steps
+pub mod Limits

@@ -1,0 +1,79 @@
+-- What the work holds behind one macroblock more.
+use Rattle.std.proofs.Common.{Bool, true, false, ◌==◌, Option, nat_lt, if◌then◌else◌, Result, Ok, Err, IsErrOf, ◌≡◌, ℕ, suc, ◌+◌, ◌-◌, ◌<◌, ◌≤◌, List, [], ◌∷◌, ◌++◌, length, Some, None, refl, ap, sym, ◌∙◌, arith, length-append, subst}
+use Rattle.std.specs.List.{slice_get}
+use Rattle.h264_near.specs.Coded.{CodedMacroblock}
+use Rattle.h264_near.specs.declared.motion.Vector.{Vector}
+use Rattle.h264_near.specs.Keeps.{Keeps}
+use Rattle.h264_near.proofs.Places.{seam}
+use Rattle.h264_vectors.specs.declared.slice.SliceContext.{SliceContext}
+use Rattle.std.proofs.lemmas.Bool.{eqb-true}
+use Rattle.h264_base.specs.declared.stop.Stop.{Stop}
+use Rattle.h264_base.specs.declared.stop.Stop.TheVariants.{No, Outside, Memory, Read, Write}
+use Rattle.h264_base.specs.Call.{Call}
+use Rattle.h264_base.specs.Grammar.{Grammar}
+use Rattle.h264_base.specs.Meets.{Reader, Answers, Meets}
+use Rattle.h264_base.proofs.OneAnswer.{answers}
+use Rattle.h264_mbsyntax.specs.Macroblock.{predicted_qp, qp_of, coded}
+use Rattle.h264_mbsyntax.specs.Slice.{skipped_of, macroblocks}
+use Rattle.h264_mbsyntax.proofs.Quantiser.{predicted-next}
+use Rattle.h264_picture.specs.declared.work.Work.{Work}
+use Rattle.h264_mbsyntax.specs.declared.slice.Standing.{Standing}
+use Rattle.h264_picture.specs.Holds.{Holds, Reads, IsPast, IsWithin}
+
+past-next : (slice : SliceContext) (picture : List CodedMacroblock) (m : CodedMacroblock) → m.slice ≡ slice.number → slice.number ≤ length picture → IsPast (picture ++ m ∷ [])
+past-next slice picture m e f x g =
+    let l = length-append picture (m ∷ []) in
+    let last : slice_get (picture ++ m ∷ []) (length (picture ++ m ∷ []) - 1) ≡ Some m = seam picture m [] _ (omega arith) in
+    let same : x ≡ m = cc in
+    rw same (omega arith)
+
+-- one macroblock more
+pub kept-on : (width size : ℕ) (slice : SliceContext) (picture : List CodedMacroblock) (m : CodedMacroblock) (old new : Work) → Holds width size picture old → slice.number ≤ length picture → Keeps width (picture ++ m ∷ []) new.near → m.qp ≡ new.mb.qp → m.slice ≡ slice.number → new.size ≡ old.size → new.next ≡ old.next + 1 → Reads width size slice (picture ++ m ∷ []) new
+kept-on width size slice picture m old new h f k q e s n =
+    let l = length-append picture (m ∷ []) in
+    record {
+      holds = record { keeps = k; macroblocks = s ∙ h.macroblocks; next = (let x = h.next in omega arith); past = past-next slice picture m e f };
+      first = omega arith;
+      predicted = sym q ∙ predicted-next slice picture m e;
+    }
+
+-- another macroblock in its place changes nothing of that
+pub moved : (width size : ℕ) (picture : List CodedMacroblock) (old new : Work) → Holds width size picture old → new.near ≡ old.near → new.size ≡ old.size → new.next ≡ old.next → Holds width size picture new
+moved width size picture old new h a b c = record { keeps = subst (Keeps width picture) (sym a) h.keeps; macroblocks = b ∙ h.macroblocks; next = c ∙ h.next; past = h.past }
+
+pub skipped-slice : (slice : SliceContext) (picture : List CodedMacroblock) (v : Vector) → (skipped_of slice picture v).slice ≡ slice.number
+unfolding skipped_of coded
+skipped-slice slice picture v = refl
+
+pub within-on : (a b : ℕ) (s : Standing) → a ≡ b → IsWithin a s → IsWithin b s
+within-on a b s e h = rw (sym e) h
+
+-- the first macroblock of a slice is predicted from SliceQP_Y
+pub qp-first : (slice : SliceContext) (picture : List CodedMacroblock) → slice.number ≡ length picture → IsPast picture → slice.qp ≡ predicted_qp slice picture
+unfolding predicted_qp
+qp-first slice picture n p = go (nat_lt 0 (length picture)) (slice_get picture (length picture - 1)) refl
+  where
+    other : (m : CodedMacroblock) (t : Bool) → (m.slice == slice.number) ≡ t → m.slice < length picture → slice.qp ≡ (if m.slice == slice.number then m.qp else slice.qp)
+    other m true e l = absurd (let x = eqb-true m.slice slice.number e in omega arith)
+    other m false e l = rw e refl
+
+    go : (t : Bool) (o : Option CodedMacroblock) → slice_get picture (length picture - 1) ≡ o → slice.qp ≡ qp_of slice (if t then o else None)
+    go false o e = refl
+    go true None e = refl
+    go true (Some m) e = other m (m.slice == slice.number) refl (p m e)
+
+none : {X A S : Type 0} (took : S → List Call → Type 0) (failures : S → ℕ) (R : X → A → Type 0) (g : Grammar A) (old new : Reader) (s s' : S) (r : Result X Stop) → Answers took failures R g old new s s' r → IsErrOf r Memory → ⊥
+none took failures R g old new s s' (Ok x) a e = absurd (cc)
+none took failures R g old new s s' (Err (No bit rule)) a e = absurd (cc)
+none took failures R g old new s s' (Err (Outside bit feature)) a e = absurd (cc)
+none took failures R g old new s s' (Err Memory) a e = a
+none took failures R g old new s s' (Err Read) a e = a
+none took failures R g old new s s' (Err Write) a e = absurd (cc)
+
+-- an answer is no want of memory
+pub no-memory : {X A S : Type 0} {took : S → List Call → Type 0} {failures : S → ℕ} {R : X → A → Type 0} {g : Grammar A} {old new : Reader} {s s' : S} {r : Result X Stop} → Meets took failures R g old new s s' r → IsErrOf r Memory → ⊥
+no-memory {took = took} {failures = failures} {R = R} {g = g} {old = old} {new = new} {s = s} {s' = s'} {r = r} m e = none took failures R g old new s s' r (answers m) e
+
+-- so many macroblocks are left
+pub left-is : {X S : Type 0} {took : S → List Call → Type 0} {failures : S → ℕ} {R : X → List CodedMacroblock → Type 0} {old new : Reader} {s s' : S} {r : Result X Stop} (a b : ℕ) (fits : CodedMacroblock → Bool) (width : ℕ) (slice : SliceContext) (standing : Standing) (picture : List CodedMacroblock) → a ≡ b → Meets took failures R (macroblocks fits width slice b standing picture) old new s s' r → Meets took failures R (macroblocks fits width slice a standing picture) old new s s' r
+left-is a b fits width slice standing picture e m = rw e m

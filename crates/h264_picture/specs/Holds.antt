@@ -1,0 +1,46 @@
+-- What the work holds of a picture.
+use Rattle.std.specs.Prelude.{◌≡◌, ℕ, ◌+◌, ◌-◌, ◌*◌, ◌<◌, ◌≤◌, nat_lt, nat_le, ◌&&◌, Bool, List, length, Option, Some, None, slice_get}
+use Rattle.h264_near.specs.Coded.{CodedMacroblock}
+use Rattle.h264_near.specs.Keeps.{Keeps, width_of}
+use Rattle.h264_sps.specs.declared.sps.FrameSize.{FrameSize}
+use Rattle.h264_vectors.specs.declared.slice.SliceContext.{SliceContext}
+use Rattle.h264_mbsyntax.specs.declared.slice.Standing.{Standing}
+use Rattle.h264_mbsyntax.specs.declared.slice.Standing.TheVariants.{Next, Skipping}
+use Rattle.h264_mbsyntax.specs.Macroblock.{predicted_qp}
+use Rattle.h264_picture.specs.declared.work.Work.{Work}
+
+-- a frame of some macroblocks, of no more than the greatest MaxFS (A.3.1)
+abbrev pub is_frame_size : FrameSize → Bool
+is_frame_size s = nat_lt 0 s.width && (nat_lt 0 s.height && nat_le (s.width * s.height) 36864)
+
+-- It has room for pictures that are so many macroblocks wide and have so many macroblocks.
+pub record Serves (width size : ℕ) (work : Work) : Type 0 where
+  pub row : width_of work.near ≡ width
+  pub macroblocks : work.size ≡ size
+
+-- the last of these macroblocks is of a slice that began before their end
+abbrev pub IsPast : List CodedMacroblock → Type 0
+IsPast picture = (m : CodedMacroblock) → slice_get picture (length picture - 1) ≡ Some m → m.slice < length picture
+
+-- It holds these macroblocks of a picture.
+pub record Holds (width size : ℕ) (picture : List CodedMacroblock) (work : Work) : Type 0 where
+  pub keeps : Keeps width picture work.near
+  pub macroblocks : work.size ≡ size
+  pub next : work.next ≡ length picture
+  pub past : IsPast picture
+
+-- So it does between two macroblocks of a slice, and has QP_Y,PRED of the next one.
+pub record Reads (width size : ℕ) (slice : SliceContext) (picture : List CodedMacroblock) (work : Work) : Type 0 where
+  pub holds : Holds width size picture work
+  pub first : slice.number ≤ length picture
+  pub predicted : work.mb.qp ≡ predicted_qp slice picture
+
+-- so many macroblocks are left for the rest of a run
+abbrev pub IsWithin : ℕ → Standing → Type 0
+IsWithin left Next = Unit {0}
+IsWithin left (Skipping bit more) = more ≤ left
+
+-- how many macroblocks there are after a step, where so many were left before it
+abbrev pub Moves : ℕ → ℕ → ℕ → Option Standing → Type 0
+Moves left old new None = new ≡ old
+Moves left old new (Some standing) = (0 < left) × (new ≡ old + 1) × IsWithin (left - 1) standing

@@ -1,0 +1,4 @@
+pub mod Table
+pub mod Levels
+pub mod Context
+pub mod Holds

@@ -1,0 +1,19 @@
+//! A picture from its slices (7.3.4, 8).
+//!
+//! `Work` holds the macroblocks of a picture so far, as far as the next ones need them. `slice` reads the slice data of one
+//! slice more, and promises that they are a derivation, or the first rule that they break, as the grammar `slice_data` of
+//! h264_mbsyntax says it with the range of the transform by h264_scale; no call in a slice takes memory.
+//! `slice_context` is what macroblocks take from the slice's header, its parameter sets and its reference list.
+//! No samples are made here.
+#![tactic(auto)]
+
+pub mod context;
+mod levels;
+mod run;
+mod step;
+#[cfg(test)]
+mod tests;
+pub mod work;
+
+pub use context::slice_context;
+pub use work::Work;

@@ -1,0 +1,238 @@
+//! The next macroblock of a slice (7.3.4).
+#![tactic(auto)]
+
+ghost use Rattle.std.specs.Prelude.{◌≡◌, ◌==◌, ◌||◌};
+ghost use Rattle.h264_vectors.specs.Derived.{has_picture as has_picture_of};
+
+use crate::levels::transform_fits;
+use crate::work::Work;
+use h264_base::{ElementName, Elements, Rule, SliceType, Stop};
+use h264_bits::{Bits, check, look, read_ue};
+use h264_mbsyntax::{Standing, read_macroblock, skip_macroblock};
+use h264_vectors::{SliceContext, has_picture, skip_vector, vector_fits};
+
+/// Whether a run of skipped macroblocks has its picture.
+#[inline]
+fn has_reference(slice: &SliceContext, run: u32) -> bool
+    ensures { result ≡ (run == 0 || has_picture_of slice.now 0) }
+{
+    if run == 0 {
+        return true;
+    }
+    has_picture(slice, 0)
+}
+
+impl Work {
+    ghost use Rattle.std.specs.Prelude.{◌≡◌, ℕ, ◌+◌, ◌-◌, ◌<◌, ◌≤◌, ◌^◌, List, [], ◌∷◌, ◌++◌, length, OnOk, IfOk};
+    ghost use Rattle.h264_base.specs.Meets.{Meets};
+    ghost use Rattle.h264_base.specs.declared.mode.SliceType.TheVariants as slice_type;
+    ghost use Rattle.h264_near.specs.Coded.{CodedMacroblock};
+    ghost use Rattle.h264_vectors.specs.Agrees.{Usable};
+    ghost use Rattle.h264_vectors.specs.declared.slice.SliceContext.{SliceContext as Context};
+    ghost use Rattle.h264_mbsyntax.specs.declared.slice.Standing.TheVariants as standings;
+    ghost use Rattle.h264_mbsyntax.specs.Holds.{Holds as HoldsMacroblock};
+    ghost use Rattle.h264_mbsyntax.specs.Slice as syntax;
+    ghost use Rattle.h264_picture.specs.Levels.{transform_fits};
+    ghost use Rattle.h264_picture.specs.Holds.{Holds, Reads, IsWithin, Moves};
+
+    /// The macroblock in its place becomes the last one of the picture.
+    #[inline]
+    fn keep(&mut self)
+        requires { self.old.next < self.old.size }
+        ensures reads { (width size : ℕ) (slice : Context) (picture : List CodedMacroblock) (coded : CodedMacroblock) → Holds width size picture self.old → slice.number ≤ length picture → HoldsMacroblock self.old.mb coded → coded.slice ≡ slice.number → Reads width size slice (picture ++ coded ∷ []) self.new }
+        ensures next { self.new.next ≡ self.old.next + 1 }
+        ensures size { self.new.size ≡ self.old.size }
+        ensures mb { self.new.mb ≡ self.old.mb }
+    {
+        self.near.push(&self.mb.contexts);
+        self.next += 1;
+    }
+
+    /// Reads a macroblock that is not skipped.
+    fn read_unskipped<S: Elements>(
+        &mut self,
+        bits: &mut Bits,
+        slice: &SliceContext,
+        left: u32,
+        sink: &mut S,
+    ) -> Result<Option<Standing>, Stop>
+        requires qp { self.old.mb.qp ≤ 51 }
+        requires left { self.old.next + left ≤ self.old.size }
+        requires usable { Usable slice.now }
+        requires room { S.failures sink.old < 2 ^ 64 - 1 }
+        ensures meets { (width size : ℕ) (picture : List CodedMacroblock) → Reads width size slice.now picture self.old → Meets S.took S.failures (syntax.Goes (λ p. Reads width size slice.now p self.new) picture) (syntax.unskipped (transform_fits slice.now) width slice.now left picture) bits.old bits.new sink.old sink.new result }
+        ensures quiet { OnOk result (S.failures sink.new ≡ S.failures sink.old) }
+        ensures within { OnOk result (self.new.mb.qp ≤ 51) }
+        ensures moves { IfOk result (Moves left self.old.next self.new.next) }
+        ensures size { self.new.size ≡ self.old.size }
+    {
+        let ahead = look(bits, sink);
+        check(0 < left, Rule::MbPast, ahead.bit)?;
+        let qp = self.mb.qp;
+        let bit = read_macroblock(bits, &self.near, slice, qp, &mut self.mb, sink)?;
+        let fits = transform_fits(slice, &self.mb);
+        check(fits, Rule::TransformRange, bit)?;
+        self.keep();
+        Ok(Some(Standing::Next))
+    }
+
+    /// Derives a skipped macroblock, by the mb_skip_run at this stream bit; so many more follow.
+    fn skip<S: Elements>(
+        &mut self,
+        bits: &Bits,
+        slice: &SliceContext,
+        bit: u64,
+        more: u32,
+        left: u32,
+        sink: &S,
+    ) -> Result<Option<Standing>, Stop>
+        requires qp { self.old.mb.qp ≤ 51 }
+        requires some { more < left }
+        requires left { self.old.next + left ≤ self.old.size }
+        requires usable { Usable slice.now }
+        ensures meets { (width size : ℕ) (picture : List CodedMacroblock) → Reads width size slice.now picture self.old → Meets S.took S.failures (syntax.Goes (λ p. Reads width size slice.now p self.new) picture) (syntax.skip width slice.now picture bit more) bits.now bits.now sink.now sink.now result }
+        ensures within { OnOk result (self.new.mb.qp ≤ 51) }
+        ensures moves { IfOk result (Moves left self.old.next self.new.next) }
+        ensures size { self.new.size ≡ self.old.size }
+    {
+        let vector = skip_vector(&self.near, slice.number);
+        let fits = vector_fits(slice.vector_limit, vector);
+        check(fits, Rule::VectorRange, bit)?;
+        skip_macroblock(slice, vector, &mut self.mb);
+        self.keep();
+        Ok(Some(Standing::Skipping { bit, more }))
+    }
+
+    /// Reads mb_skip_run, and the first macroblock of it or the one behind it.
+    fn read_run<S: Elements>(
+        &mut self,
+        bits: &mut Bits,
+        slice: &SliceContext,
+        left: u32,
+        sink: &mut S,
+    ) -> Result<Option<Standing>, Stop>
+        requires qp { self.old.mb.qp ≤ 51 }
+        requires left { self.old.next + left ≤ self.old.size }
+        requires usable { Usable slice.now }
+        requires room { S.failures sink.old < 2 ^ 64 - 1 }
+        ensures meets { (width size : ℕ) (picture : List CodedMacroblock) → Reads width size slice.now picture self.old → Meets S.took S.failures (syntax.Goes (λ p. Reads width size slice.now p self.new) picture) (syntax.run_of_skips (transform_fits slice.now) width slice.now left picture) bits.old bits.new sink.old sink.new result }
+        ensures quiet { OnOk result (S.failures sink.new ≡ S.failures sink.old) }
+        ensures within { OnOk result (self.new.mb.qp ≤ 51) }
+        ensures moves { IfOk result (Moves left self.old.next self.new.next) }
+        ensures size { self.new.size ≡ self.old.size }
+    {
+        let run = read_ue(bits, ElementName::MbSkipRun, sink)?;
+        check(run.value <= left, Rule::Range, run.bit)?;
+        check(has_reference(slice, run.value), Rule::NoReference, run.bit)?;
+        if run.value == 0 {
+            return self.read_unskipped(bits, slice, left, sink);
+        }
+        self.skip(bits, slice, run.bit, run.value - 1, left, sink)
+    }
+
+    /// Reads on where more data follow.
+    fn read_by_slice_type<S: Elements>(
+        &mut self,
+        bits: &mut Bits,
+        slice: &SliceContext,
+        left: u32,
+        sink: &mut S,
+    ) -> Result<Option<Standing>, Stop>
+        requires qp { self.old.mb.qp ≤ 51 }
+        requires left { self.old.next + left ≤ self.old.size }
+        requires usable { Usable slice.now }
+        requires room { S.failures sink.old < 2 ^ 64 - 1 }
+        ensures meets { (width size : ℕ) (picture : List CodedMacroblock) → Reads width size slice.now picture self.old → Meets S.took S.failures (syntax.Goes (λ p. Reads width size slice.now p self.new) picture) (syntax.by_slice_type slice.now.slice_type (transform_fits slice.now) width slice.now left picture) bits.old bits.new sink.old sink.new result }
+        ensures quiet { OnOk result (S.failures sink.new ≡ S.failures sink.old) }
+        ensures within { OnOk result (self.new.mb.qp ≤ 51) }
+        ensures moves { IfOk result (Moves left self.old.next self.new.next) }
+        ensures size { self.new.size ≡ self.old.size }
+    {
+        match slice.slice_type {
+            SliceType::I => self.read_unskipped(bits, slice, left, sink),
+            SliceType::P => self.read_run(bits, slice, left, sink),
+        }
+    }
+
+    /// Reads the next macroblock, if there is one.
+    fn read_at_next<S: Elements>(
+        &mut self,
+        bits: &mut Bits,
+        slice: &SliceContext,
+        left: u32,
+        sink: &mut S,
+    ) -> Result<Option<Standing>, Stop>
+        requires qp { self.old.mb.qp ≤ 51 }
+        requires left { self.old.next + left ≤ self.old.size }
+        requires usable { Usable slice.now }
+        requires room { S.failures sink.old < 2 ^ 64 - 1 }
+        ensures meets { (width size : ℕ) (picture : List CodedMacroblock) → Reads width size slice.now picture self.old → Meets S.took S.failures (syntax.Goes (λ p. Reads width size slice.now p self.new) picture) (syntax.next (transform_fits slice.now) width slice.now left picture standings.Next) bits.old bits.new sink.old sink.new result }
+        ensures quiet { OnOk result (S.failures sink.new ≡ S.failures sink.old) }
+        ensures within { OnOk result (self.new.mb.qp ≤ 51) }
+        ensures moves { IfOk result (Moves left self.old.next self.new.next) }
+        ensures size { self.new.size ≡ self.old.size }
+    {
+        let ahead = look(bits, sink);
+        if !ahead.follows {
+            return Ok(None);
+        }
+        self.read_by_slice_type(bits, slice, left, sink)
+    }
+
+    /// Reads the macroblock behind a run of skipped ones, if there is one.
+    fn read_behind_skips<S: Elements>(
+        &mut self,
+        bits: &mut Bits,
+        slice: &SliceContext,
+        bit: u64,
+        left: u32,
+        sink: &mut S,
+    ) -> Result<Option<Standing>, Stop>
+        requires qp { self.old.mb.qp ≤ 51 }
+        requires left { self.old.next + left ≤ self.old.size }
+        requires usable { Usable slice.now }
+        requires room { S.failures sink.old < 2 ^ 64 - 1 }
+        ensures meets { (width size : ℕ) (picture : List CodedMacroblock) → Reads width size slice.now picture self.old → Meets S.took S.failures (syntax.Goes (λ p. Reads width size slice.now p self.new) picture) (syntax.next (transform_fits slice.now) width slice.now left picture (standings.Skipping bit 0)) bits.old bits.new sink.old sink.new result }
+        ensures quiet { OnOk result (S.failures sink.new ≡ S.failures sink.old) }
+        ensures within { OnOk result (self.new.mb.qp ≤ 51) }
+        ensures moves { IfOk result (Moves left self.old.next self.new.next) }
+        ensures size { self.new.size ≡ self.old.size }
+    {
+        let ahead = look(bits, sink);
+        if !ahead.follows {
+            return Ok(None);
+        }
+        self.read_unskipped(bits, slice, left, sink)
+    }
+
+    /// Goes on by how slice data stand.
+    pub(crate) fn read_next<S: Elements>(
+        &mut self,
+        bits: &mut Bits,
+        slice: &SliceContext,
+        left: u32,
+        standing: Standing,
+        sink: &mut S,
+    ) -> Result<Option<Standing>, Stop>
+        requires qp { self.old.mb.qp ≤ 51 }
+        requires left { self.old.next + left ≤ self.old.size }
+        requires standing { IsWithin left standing }
+        requires usable { Usable slice.now }
+        requires room { S.failures sink.old < 2 ^ 64 - 1 }
+        ensures meets { (width size : ℕ) (picture : List CodedMacroblock) → Reads width size slice.now picture self.old → Meets S.took S.failures (syntax.Goes (λ p. Reads width size slice.now p self.new) picture) (syntax.next (transform_fits slice.now) width slice.now left picture standing) bits.old bits.new sink.old sink.new result }
+        ensures quiet { OnOk result (S.failures sink.new ≡ S.failures sink.old) }
+        ensures within { OnOk result (self.new.mb.qp ≤ 51) }
+        ensures moves { IfOk result (Moves left self.old.next self.new.next) }
+        ensures size { self.new.size ≡ self.old.size }
+    {
+        match standing {
+            Standing::Next => self.read_at_next(bits, slice, left, sink),
+            Standing::Skipping { bit, more } => {
+                if more == 0 {
+                    return self.read_behind_skips(bits, slice, bit, left, sink);
+                }
+                self.skip(bits, slice, bit, more - 1, left, sink)
+            }
+        }
+    }
+}

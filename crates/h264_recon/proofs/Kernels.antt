@@ -1,0 +1,92 @@
+-- What the code constructs meets the equations.
+use Rattle.std.proofs.Common.{◌≡◌, ℕ, ◌+◌, ◌*◌, ◌/◌, ◌%◌, ◌<◌, Bool, true, false, List, slice_index, get_or, ℤ, pos, ◌+ℤ◌, arith, refl, sym, ap, ◌∙◌}
+use Rattle.h264_plane.specs.declared.frame.Component.{Component}
+use Rattle.h264_plane.specs.declared.frame.Component.TheVariants.{Y, Cb, Cr}
+use Rattle.h264_intra.specs.Filters.{HasSamples}
+use Rattle.h264_intra.specs.Luma4.{predicted4}
+use Rattle.h264_intra.specs.Luma16.{predicted16}
+use Rattle.h264_intra.specs.Chroma.{predicted_chroma}
+use Rattle.h264_intra.specs.declared.luma4.Intra4x4PredMode.{Intra4x4PredMode}
+use Rattle.h264_intra.specs.declared.luma16.Intra16x16PredMode.{Intra16x16PredMode}
+use Rattle.h264_plane.specs.Clip.{clip1}
+use Rattle.h264_recon.specs.Blocks.{sides_of, sides4_of}
+use Rattle.h264_scale.specs.Macroblock.{residual, IsResidual}
+use Rattle.h264_recon.specs.Inter.{Setting}
+use Rattle.h264_recon.specs.Constructed.{block_window, mode_at, predicted_luma, predicted_intra, pcm_sample, made_by, made, Coded}
+use Rattle.h264_recon.specs.Lines.{local, IsMadeFrom, IsLumaMade, chroma_plane, pcm_list}
+use Rattle.h264_recon.specs.Blocks4.{place4, AreMade4}
+use Rattle.h264_scale.specs.declared.levels.Levels.{Levels}
+use Rattle.h264_recon.specs.declared.macroblock.Available.{Available}
+use Rattle.h264_recon.specs.declared.macroblock.IntraLuma.{IntraLuma}
+use Rattle.h264_recon.specs.declared.macroblock.IntraLuma.TheVariants.{Blocks, Whole}
+use Rattle.h264_recon.specs.declared.macroblock.IntraModes.{IntraModes}
+use Rattle.h264_recon.specs.declared.macroblock.PcmSamples.{PcmSamples}
+use Rattle.h264_recon.specs.declared.macroblock.Prediction.TheVariants.{Intra, Pcm}
+use Rattle.h264_recon.specs.declared.store.Store.{Store}
+
+made_intra : (k : Setting) (c r : ℕ) (m : Coded) (p : Component) (s : ℕ → ℕ → ℕ) (x y : ℕ) (modes : IntraModes) → m.prediction ≡ Intra modes →
+    made k c r m p s x y ≡ clip1 (pos (predicted_intra modes m.available p s x y) +ℤ residual m.levels p x y)
+unfolding made_by
+made_intra k c r m p s x y modes e = rw e refl
+
+made_pcm : (k : Setting) (c r : ℕ) (m : Coded) (p : Component) (s : ℕ → ℕ → ℕ) (x y : ℕ) (bytes : PcmSamples) → m.prediction ≡ Pcm bytes →
+    made k c r m p s x y ≡ pcm_sample bytes p x y
+unfolding made_by
+made_pcm k c r m p s x y bytes e = rw e refl
+
+-- Intra_4x4
+pub blocks_made : (luma : IntraLuma) (modes : List Intra4x4PredMode) (a : Available) (levels : Levels) (c : ℕ) (l : Store) (res : List ℤ) (own : List ℕ) → luma ≡ Blocks modes → IsResidual levels Y res →
+    AreMade4 16 modes a res l c own → IsLumaMade luma a levels c l own
+unfolding predicted_luma
+blocks_made luma modes a levels c l res own e is made = record {
+  each = λ x y i j.
+      let place : place4 (x / 4) (y / 4) (x % 4) (y % 4) ≡ 16 * y + x = omega arith in
+      rw e (ap (λ n. slice_index own n) (sym place)
+      ∙ made.each (x / 4) (y / 4) (x % 4) (y % 4) (omega arith) (omega arith) (omega arith) (omega arith) (omega arith)
+      ∙ ap (λ n. clip1 (pos (predicted4 (mode_at modes (x / 4) (y / 4)) (sides4_of a (x / 4) (y / 4)) (block_window (local 16 l c own) (x / 4) (y / 4)) (x % 4) (y % 4)) +ℤ get_or res n (pos 0))) place
+      ∙ ap (λ z. clip1 (pos (predicted4 (mode_at modes (x / 4) (y / 4)) (sides4_of a (x / 4) (y / 4)) (block_window (local 16 l c own) (x / 4) (y / 4)) (x % 4) (y % 4)) +ℤ z)) (is.each x y i j));
+}
+
+-- Intra_16x16
+pub whole_made : (luma : IntraLuma) (mode : Intra16x16PredMode) (a : Available) (levels : Levels) (c : ℕ) (l : Store) (predicted own : List ℕ) (res : List ℤ) → luma ≡ Whole mode → IsResidual levels Y res →
+    HasSamples 16 predicted (predicted16 mode (sides_of a) (local 16 l c own)) →
+    ((k : ℕ) → k < 256 → slice_index own k ≡ clip1 (pos (slice_index predicted k) +ℤ get_or res k (pos 0))) → IsLumaMade luma a levels c l own
+unfolding predicted_luma
+whole_made luma mode a levels c l predicted own res e is has sum = record {
+  each = λ x y i j. rw e (sum (16 * y + x) (omega arith)
+      ∙ ap (λ n. clip1 (pos n +ℤ get_or res (16 * y + x) (pos 0))) (has.each x y i j)
+      ∙ ap (λ z. clip1 (pos (predicted16 mode (sides_of a) (local 16 l c own) x y) +ℤ z)) (is.each x y i j));
+}
+
+pub luma_made : (k : Setting) (c r : ℕ) (m : Coded) (l : Store) (own : List ℕ) (modes : IntraModes) → m.prediction ≡ Intra modes → IsLumaMade modes.luma m.available m.levels c l own → IsMadeFrom k c r m Y l own
+unfolding predicted_intra
+luma_made k c r m l own modes e made = record {
+  each = λ x y i j. made.each x y i j ∙ sym (made_intra k c r m Y (local 16 l c own) x y modes e);
+}
+
+-- chroma
+pub chroma_made : (b : Bool) (k : Setting) (c r : ℕ) (m : Coded) (l : Store) (predicted own : List ℕ) (res : List ℤ) (modes : IntraModes) → m.prediction ≡ Intra modes →
+    IsResidual m.levels (chroma_plane b) res → HasSamples 8 predicted (predicted_chroma modes.chroma (sides_of m.available) (local 8 l c own)) →
+    ((k : ℕ) → k < 64 → slice_index own k ≡ clip1 (pos (slice_index predicted k) +ℤ get_or res k (pos 0))) → IsMadeFrom k c r m (chroma_plane b) l own
+unfolding predicted_intra
+chroma_made true k c r m l predicted own res modes e is has sum = record {
+  each = λ x y i j. sum (8 * y + x) (omega arith)
+      ∙ ap (λ n. clip1 (pos n +ℤ get_or res (8 * y + x) (pos 0))) (has.each x y i j)
+      ∙ ap (λ z. clip1 (pos (predicted_chroma modes.chroma (sides_of m.available) (local 8 l c own) x y) +ℤ z)) (is.each x y i j)
+      ∙ sym (made_intra k c r m Cr (local 8 l c own) x y modes e);
+}
+chroma_made false k c r m l predicted own res modes e is has sum = record {
+  each = λ x y i j. sum (8 * y + x) (omega arith)
+      ∙ ap (λ n. clip1 (pos n +ℤ get_or res (8 * y + x) (pos 0))) (has.each x y i j)
+      ∙ ap (λ z. clip1 (pos (predicted_chroma modes.chroma (sides_of m.available) (local 8 l c own) x y) +ℤ z)) (is.each x y i j)
+      ∙ sym (made_intra k c r m Cb (local 8 l c own) x y modes e);
+}
+
+-- I_PCM
+pub luma_pcm : (k : Setting) (c r : ℕ) (m : Coded) (l : Store) (bytes : PcmSamples) → m.prediction ≡ Pcm bytes → IsMadeFrom k c r m Y l bytes.y
+luma_pcm k c r m l bytes e = record { each = λ x y i j. sym (made_pcm k c r m Y (local 16 l c bytes.y) x y bytes e) }
+
+pub chroma_pcm : (b : Bool) (k : Setting) (c r : ℕ) (m : Coded) (l : Store) (bytes : PcmSamples) (own : List ℕ) → m.prediction ≡ Pcm bytes → own ≡ pcm_list b bytes →
+    IsMadeFrom k c r m (chroma_plane b) l own
+chroma_pcm true k c r m l bytes own e is = rw is (record { each = λ x y i j. sym (made_pcm k c r m Cr (local 8 l c bytes.cr) x y bytes e) })
+chroma_pcm false k c r m l bytes own e is = rw is (record { each = λ x y i j. sym (made_pcm k c r m Cb (local 8 l c bytes.cb) x y bytes e) })

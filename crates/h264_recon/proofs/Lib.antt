@@ -1,0 +1,12 @@
+pub mod Sides
+pub mod Unique
+pub mod Local
+pub mod Blocks4
+pub mod Beside
+pub mod Kernels
+pub mod Step
+pub mod Runs
+pub mod Parts
+pub mod Pool
+pub mod References
+pub mod Existence

@@ -1,0 +1,88 @@
+-- Prediction from the frames of a pool.
+use Rattle.std.proofs.Common.{Bool, true, false, ◌≡◌, ℕ, ◌+◌, ◌*◌, ◌/◌, ◌<◌, ◌≤◌, List, slice_index, get_or, ℤ, pos, ◌+ℤ◌, arith, refl, sym, ap, ◌∙◌}
+use Rattle.std.proofs.lemmas.Nat.{mul-le}
+use Rattle.h264_plane.specs.Samples.{Samples}
+use Rattle.h264_plane.specs.Frames.{plane_of, frame_at}
+use Rattle.h264_plane.specs.declared.frame.Component.{Component}
+use Rattle.h264_plane.specs.declared.frame.Component.TheVariants.{Y, Cb, Cr}
+use Rattle.h264_plane.specs.declared.frame.Frame.{Frame}
+use Rattle.h264_plane.specs.Clip.{clip1}
+use Rattle.h264_inter.proofs.Depends.{luma_depends, chroma_depends}
+use Rattle.h264_plane.specs.Places.{side}
+use Rattle.h264_scale.specs.Macroblock.{residual, IsResidual}
+use Rattle.h264_recon.specs.Inter.{Setting, predicted_from, predicted_at, motion_at, no_motion}
+use Rattle.h264_recon.specs.Constructed.{predicted_inter, made_by, made, Coded}
+use Rattle.h264_recon.specs.Lines.{local, IsMadeFrom, chroma_plane}
+use Rattle.h264_recon.specs.Pool.{HasRoom, IsShown, AreShown, of_frames, from_pool}
+use Rattle.h264_recon.specs.declared.macroblock.Motion.{Motion}
+use Rattle.h264_recon.specs.declared.macroblock.Prediction.TheVariants.{Inter}
+use Rattle.h264_recon.specs.declared.store.Store.{Store}
+
+-- ---- the frame shows the reference picture
+
+pub shown_at : (p : Component) (k : Setting) (frames : List Frame) (m : Motion) (x y : ℕ) → IsShown k frames m.picture → 0 < side p * k.across → 0 < side p * k.down →
+    of_frames p frames m x y ≡ predicted_at k m p x y
+unfolding predicted_from
+shown_at Y k frames m x y shown a b =
+    rw ((shown.size Y).columns, (shown.size Y).rows) (luma_depends _ _ _ _ m.vector x y a b (shown.samples Y))
+shown_at Cb k frames m x y shown a b =
+    rw ((shown.size Cb).columns, (shown.size Cb).rows) (chroma_depends _ _ _ _ m.vector x y a b (shown.samples Cb))
+shown_at Cr k frames m x y shown a b =
+    rw ((shown.size Cr).columns, (shown.size Cr).rows) (chroma_depends _ _ _ _ m.vector x y a b (shown.samples Cr))
+
+-- the room that a chroma plane has
+pub chroma_room : (t : Bool) (frames : List Frame) (c r n : ℕ) (f : Frame) (q : Samples) → HasRoom frames c r n → f ≡ frame_at frames n → q ≡ plane_of (chroma_plane t) f →
+    (8 * c + 8 ≤ q.width) × (8 * r + 8 ≤ q.height)
+chroma_room true frames c r n f q room ef eq = rw (eq, ef) room.cr
+chroma_room false frames c r n f q room ef eq = rw (eq, ef) room.cb
+
+-- ---- the samples
+
+made_inter : (k : Setting) (c r : ℕ) (m : Coded) (p : Component) (s : ℕ → ℕ → ℕ) (x y : ℕ) (motion : List Motion) → m.prediction ≡ Inter motion →
+    made k c r m p s x y ≡ clip1 (pos (predicted_inter k c r motion p x y) +ℤ residual m.levels p x y)
+unfolding made_by
+made_inter k c r m p s x y motion e = rw e refl
+
+pub motion_inside : (p : Component) (x y : ℕ) → x < side p → y < side p → 4 * (4 * y / side p) + 4 * x / side p < 16
+motion_inside Y x y i j = omega arith
+motion_inside Cb x y i j = omega arith
+motion_inside Cr x y i j = omega arith
+
+side_some : (p : Component) → 0 < side p
+side_some Y = omega arith
+side_some Cb = omega arith
+side_some Cr = omega arith
+
+-- a macroblock of a picture makes it some samples wide and high
+pub inside_some : (p : Component) (c w : ℕ) → c < w → 0 < side p * w
+inside_some p c w a = let least = mul-le 1 1 (side p) w (side_some p) (omega arith) in omega (arith, least)
+
+-- a prediction from the pool is that of the equations
+pub inter_is : (k : Setting) (frames : List Frame) (c r : ℕ) (motion : List Motion) (p : Component) (x y : ℕ) → c < k.across → r < k.down → ((n : ℕ) → n < 16 → IsShown k frames (get_or motion n no_motion).picture) →
+    x < side p → y < side p → from_pool frames motion c r p x y ≡ predicted_inter k c r motion p x y
+unfolding predicted_inter
+inter_is k frames c r motion p x y a b shown i j =
+    shown_at p k frames (motion_at motion p x y) (side p * c + x) (side p * r + y) (shown _ (motion_inside p x y i j))
+    (inside_some p c k.across a) (inside_some p r k.down b)
+
+pub inter_made : (k : Setting) (frames : List Frame) (c r : ℕ) (m : Coded) (p : Component) (l : Store) (motion : List Motion) (predicted own : List ℕ) (res : List ℤ) → c < k.across → r < k.down →
+    m.prediction ≡ Inter motion → AreShown k frames m.prediction → IsResidual m.levels p res →
+    ((x y : ℕ) → x < side p → y < side p → slice_index predicted (side p * y + x) ≡ from_pool frames motion c r p x y) →
+    ((x y : ℕ) → x < side p → y < side p → slice_index own (side p * y + x) ≡ clip1 (pos (slice_index predicted (side p * y + x)) +ℤ get_or res (side p * y + x) (pos 0))) → IsMadeFrom k c r m p l own
+inter_made k frames c r m p l motion predicted own res a b e shown is has sum =
+    let there : AreShown k frames (Inter motion) = rw e at shown in
+    record {
+      each = λ x y i j. sum x y i j
+          ∙ ap (λ n. clip1 (pos n +ℤ get_or res (side p * y + x) (pos 0))) (has x y i j ∙ inter_is k frames c r motion p x y a b there i j)
+          ∙ ap (λ z. clip1 (pos (predicted_inter k c r motion p x y) +ℤ z)) (is.each x y i j)
+          ∙ sym (made_inter k c r m p (local (side p) l c own) x y motion e);
+    }
+
+pub chroma_inter : (t : Bool) (k : Setting) (frames : List Frame) (c r : ℕ) (m : Coded) (l : Store) (motion : List Motion) (predicted own : List ℕ) (res : List ℤ) → c < k.across → r < k.down →
+    m.prediction ≡ Inter motion → AreShown k frames m.prediction → IsResidual m.levels (chroma_plane t) res →
+    ((x y : ℕ) → x < 8 → y < 8 → slice_index predicted (8 * y + x) ≡ from_pool frames motion c r (chroma_plane t) x y) →
+    ((n : ℕ) → n < 64 → slice_index own n ≡ clip1 (pos (slice_index predicted n) +ℤ get_or res n (pos 0))) → IsMadeFrom k c r m (chroma_plane t) l own
+chroma_inter true k frames c r m l motion predicted own res a b e shown is has sum =
+    inter_made k frames c r m Cr l motion predicted own res a b e shown is has (λ x y i j. sum (8 * y + x) (omega arith))
+chroma_inter false k frames c r m l motion predicted own res a b e shown is has sum =
+    inter_made k frames c r m Cb l motion predicted own res a b e shown is has (λ x y i j. sum (8 * y + x) (omega arith))

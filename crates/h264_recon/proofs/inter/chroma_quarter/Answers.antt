@@ -1,0 +1,35 @@
+use Rattle.std.proofs.Common.{◌+◌, ◌*◌, ◌/◌, ◌%◌, arith, ap, refl, ◌∙◌}
+use denote.Param.{number}
+use Rattle.h264_plane.specs.Frames.{frame_at}
+use Rattle.h264_recon.specs.Lines.{chroma_plane}
+use Rattle.h264_recon.specs.Pool.{from_pool}
+use Rattle.h264_recon.specs.contracts.inter.chroma_quarter.{CR-type}
+use Rattle.h264_recon.proofs.Parts.{parts_more, parts4, part_from, chroma_place, chroma_alike, chroma_part}
+use Rattle.h264_recon.proofs.inter.chroma_quarter.Goals as goal
+
+pub returns-then-is_quarter : goal.returns-then-is_quarter
+returns-then-is_quarter g c =
+    let a = c.args in
+    let t = CR-type (number g.row.CR) in
+    chroma_part t 4 a.pool.now a.motion.now a.column a.row (4 * a.x) (4 * a.y) _ _ c.motion_of-m.result c.frame.result.now c.plane_of-plane.result.now c.chroma.new.out (omega arith) (omega arith)
+    (c.frame.ensures ∙ ap (λ z. frame_at a.pool.now z) c.from.ensures) c.plane_of-plane.ensures
+    (λ i j p q. chroma_alike t a.motion.now c.motion_of-m.result a.x a.y i j p q (c.if-is_quarter.ensures refl) c.motion_of-m.ensures) c.chroma.ensures
+
+pub loop-k-preserved : goal.loop-k-preserved
+loop-k-preserved g c =
+    let a = c.args in
+    let t = CR-type (number g.row.CR) in
+    let k = c.loop-k.k in
+    let f = from_pool a.pool.now a.motion.now a.column a.row (chroma_plane t) in
+    record {
+      size = c.type_inv.out;
+      made = parts_more 4 2 k (λ i j. f (4 * a.x + i) (4 * a.y + j)) c.loop-k.out c.put2.new.out c.chroma-in-loop-k.new.out (omega arith) c.loop-k.invariant.made c.put2.ensures
+          (part_from 2 (4 * a.x) (4 * a.y) (2 * (k % 2)) (2 * (k / 2)) f c.chroma-in-loop-k.new.out
+          (chroma_part t 2 a.pool.now a.motion.now a.column a.row (4 * a.x + 2 * (k % 2)) (4 * a.y + 2 * (k / 2)) _ _ c.motion_of-m-in-loop-k.result c.frame-in-loop-k.result.now
+          c.plane_of-plane-in-loop-k.result.now c.chroma-in-loop-k.new.out
+          (omega arith) (omega arith) (c.frame-in-loop-k.ensures ∙ ap (λ z. frame_at a.pool.now z) c.from-in-loop-k.ensures) c.plane_of-plane-in-loop-k.ensures
+          (λ i j p q. chroma_place t a.motion.now c.motion_of-m-in-loop-k.result a.x a.y k i j c.requires.place.0 c.requires.place.1 (omega arith) p q c.motion_of-m-in-loop-k.ensures) c.chroma-in-loop-k.ensures));
+    }
+
+pub returns : goal.returns
+returns g c = parts4 c.loop-k.k (4 * c.args.x) (4 * c.args.y) _ c.loop-k.out (omega arith) c.loop-k.invariant.made

@@ -1,0 +1,9 @@
+pub mod Blocks
+pub mod Inter
+pub mod Constructed
+pub mod Around
+pub mod Lines
+pub mod Blocks4
+pub mod Parts
+pub mod Step
+pub mod Pool

@@ -1,0 +1,66 @@
+-- What is kept of the macroblocks before this one, as they were constructed.
+use Rattle.std.specs.Prelude.{◌≡◌, ℕ, ◌+◌, ◌-◌, ◌*◌, ◌<◌, ◌≤◌, ◌==◌, if◌then◌else◌, List, slice_index, vec_len, pos, ◌+ℤ◌, Bool, true, false}
+use Rattle.h264_plane.specs.declared.frame.Component.{Component}
+use Rattle.h264_plane.specs.declared.frame.Component.TheVariants.{Y, Cb, Cr}
+use Rattle.h264_plane.specs.Clip.{clip1}
+use Rattle.h264_plane.specs.Places.{side}
+use Rattle.h264_scale.specs.Macroblock.{residual}
+use Rattle.h264_scale.specs.declared.levels.Levels.{Levels}
+use Rattle.h264_recon.specs.Inter.{Setting}
+use Rattle.h264_recon.specs.Constructed.{Coded, made, predicted_luma}
+use Rattle.h264_recon.specs.declared.macroblock.Available.{Available}
+use Rattle.h264_recon.specs.declared.macroblock.IntraLuma.{IntraLuma}
+use Rattle.h264_recon.specs.declared.macroblock.PcmSamples.{PcmSamples}
+use Rattle.h264_recon.specs.declared.store.Store.{Store}
+use Rattle.h264_recon.specs.declared.store.Lines.{Lines}
+
+-- the samples round the macroblock of n columns and rows at column c, of which the store has the sides and a list, row by row, its own
+unfoldable pub local : ℕ → Store → ℕ → List ℕ → ℕ → ℕ → ℕ
+local n l c own x y =
+    if y == 0 then (if x == 0 then l.corner else slice_index l.above.items (n * c + (x - 1)))
+    else if x == 0 then slice_index l.left (y - 1)
+    else slice_index own (n * (y - 1) + (x - 1))
+
+-- a list has the samples of the macroblock m at column c and row r, which are constructed from the store
+pub record IsMadeFrom (k : Setting) (c r : ℕ) (m : Coded) (p : Component) (l : Store) (own : List ℕ) : Type 0 where
+  pub each : (x y : ℕ) → x < side p → y < side p → slice_index own (side p * y + x) ≡ made k c r m p (local (side p) l c own) x y
+
+-- the store after the macroblock at column c, which has these samples
+pub record IsSaved (n c : ℕ) (old new : Store) (own : List ℕ) : Type 0 where
+  pub size : vec_len new.above ≡ vec_len old.above
+  pub bottom : (k : ℕ) → k < n → slice_index new.above.items (n * c + k) ≡ slice_index own (n * (n - 1) + k)
+  pub before : (k : ℕ) → k < n * c → slice_index new.above.items k ≡ slice_index old.above.items k
+  pub after : (k : ℕ) → n * c + n ≤ k → slice_index new.above.items k ≡ slice_index old.above.items k
+  pub right : (k : ℕ) → k < n → slice_index new.left k ≡ slice_index own (n * k + (n - 1))
+  pub corner : new.corner ≡ slice_index old.above.items (n * c + (n - 1))
+
+-- the store holds u, not filtered, round the macroblock at column c and row r, of w to a row
+pub record Stored (n w c r : ℕ) (u : ℕ → ℕ → ℕ) (l : Store) : Type 0 where
+  pub size : vec_len l.above ≡ n * w
+  pub above : 0 < r → (k : ℕ) → n * c ≤ k → k < n * w → slice_index l.above.items k ≡ u k (n * r - 1)
+  pub bottoms : (k : ℕ) → k < n * c → slice_index l.above.items k ≡ u k (n * r + n - 1)
+  pub left : 0 < c → (k : ℕ) → k < n → slice_index l.left k ≡ u (n * c - 1) (n * r + k)
+  pub corner : 0 < c → 0 < r → l.corner ≡ u (n * c - 1) (n * r - 1)
+
+abbrev pub store_of : Component → Lines → Store
+store_of Y l = l.y
+store_of Cb l = l.cb
+store_of Cr l = l.cr
+
+-- the stores of all planes do
+abbrev pub AreStored : ℕ → ℕ → ℕ → (Component → ℕ → ℕ → ℕ) → Lines → Type 0
+AreStored w c r u l = (p : Component) → Stored (side p) w c r (u p) (store_of p l)
+
+-- a chroma plane
+abbrev pub chroma_plane : Bool → Component
+chroma_plane true = Cr
+chroma_plane false = Cb
+
+abbrev pub pcm_list : Bool → PcmSamples → List ℕ
+pcm_list true b = b.cr
+pcm_list false b = b.cb
+
+-- a list has the luma samples of an intra macroblock of these modes at column c, which are constructed from the store
+pub record IsLumaMade (modes : IntraLuma) (a : Available) (levels : Levels) (c : ℕ) (l : Store) (own : List ℕ) : Type 0 where
+  pub each : (x y : ℕ) → x < 16 → y < 16 →
+      slice_index own (16 * y + x) ≡ clip1 (pos (predicted_luma modes a (local 16 l c own) x y) +ℤ residual levels Y x y)

@@ -1,0 +1,251 @@
+ghost use Rattle.std.specs.Prelude.{◌≡◌, ℕ, ◌+◌, ◌*◌, ◌<◌, ◌≤◌, IsTrue, slice_index, get_or};
+ghost use Rattle.h264_plane.specs.declared.frame.Component.TheVariants.{Y};
+ghost use Rattle.h264_plane.specs.Frames.{plane_of as plane_of_frame};
+ghost use Rattle.h264_inter.specs.Reference.{HasBlock};
+ghost use Rattle.h264_recon.specs.Inter.{no_motion};
+ghost use Rattle.h264_recon.specs.Lines.{chroma_plane};
+ghost use Rattle.h264_recon.specs.Parts.{IsPut, AreEqual, HasPart};
+ghost use Rattle.h264_recon.specs.Pool.{HaveRoom, from_pool};
+
+use crate::macroblock::Motion;
+use crate::run::put_run;
+use h264_inter::{chroma, luma};
+use h264_plane::{Frame, Plane, Pool};
+
+/// The motion of a place.
+#[inline(always)]
+fn motion_of(motion: &[Motion; 16], n: usize) -> Motion
+    requires { n < 16 }
+    ensures { result ≡ get_or motion.now n no_motion }
+{
+    motion[n]
+}
+
+/// Whether two places move alike.
+#[inline(always)]
+fn is_same(a: Motion, b: Motion) -> bool
+    ensures { IsTrue result → b ≡ a }
+{
+    if a.picture != b.picture {
+        return false;
+    }
+    if a.vector.x != b.vector.x {
+        return false;
+    }
+    a.vector.y == b.vector.y
+}
+
+/// Whether four places move alike.
+#[inline(always)]
+fn are_same(a: Motion, b: Motion, c: Motion, d: Motion) -> bool
+    ensures { IsTrue result → (b ≡ a) × (c ≡ a) × (d ≡ a) }
+{
+    if !is_same(a, b) {
+        return false;
+    }
+    if !is_same(a, c) {
+        return false;
+    }
+    is_same(a, d)
+}
+
+/// Whether the four places of a quarter of the macroblock move alike.
+#[inline(always)]
+fn is_quarter(motion: &[Motion; 16], x: usize, y: usize) -> bool
+    requires { (x < 2) × (y < 2) }
+    ensures { IsTrue result → AreEqual 2 (2 * x) (2 * y) motion.now }
+{
+    let n = 8 * y + 2 * x;
+    are_same(
+        motion_of(motion, n),
+        motion_of(motion, n + 1),
+        motion_of(motion, n + 4),
+        motion_of(motion, n + 5),
+    )
+}
+
+/// Whether all places do.
+#[inline(always)]
+fn is_whole(motion: &[Motion; 16]) -> bool
+    ensures { IsTrue result → AreEqual 4 0 0 motion.now }
+{
+    let first = motion_of(motion, 0);
+    for n in 1..16 {
+        if !is_same(first, motion_of(motion, n)) {
+            return false;
+        }
+    }
+    true
+}
+
+/// Puts a quarter into a macroblock of luma.
+#[inline(always)]
+fn put8(out: &mut [u8; 256], x: usize, y: usize, block: &[u8; 64])
+    requires { (x < 2) × (y < 2) }
+    ensures { IsPut 16 8 out.old out.new x y block.now }
+{
+    for j in 0..8 {
+        put_run(out, 16 * (8 * y + j) + 8 * x, &block[8 * j..8 * j + 8]);
+    }
+}
+
+/// Puts a quarter into one of 64 samples.
+#[inline(always)]
+fn put4(out: &mut [u8; 64], x: usize, y: usize, block: &[u8; 16])
+    requires { (x < 2) × (y < 2) }
+    ensures { IsPut 8 4 out.old out.new x y block.now }
+{
+    for j in 0..4 {
+        put_run(out, 8 * (4 * y + j) + 4 * x, &block[4 * j..4 * j + 4]);
+    }
+}
+
+/// Puts a quarter into one of 16 samples.
+#[inline(always)]
+fn put2(out: &mut [u8; 16], x: usize, y: usize, block: &[u8; 4])
+    requires { (x < 2) × (y < 2) }
+    ensures { IsPut 4 2 out.old out.new x y block.now }
+{
+    for j in 0..2 {
+        put_run(out, 4 * (2 * y + j) + 2 * x, &block[2 * j..2 * j + 2]);
+    }
+}
+
+/// The predicted luma samples of a quarter of the macroblock at this column and row, the one at column `x` and row `y` of quarters.
+fn luma_quarter(
+    motion: &[Motion; 16],
+    pool: &Pool,
+    column: usize,
+    row: usize,
+    x: usize,
+    y: usize,
+) -> [u8; 64]
+    requires place { (x < 2) × (y < 2) }
+    requires small { (column < 1024) × (row < 1024) }
+    requires room { HaveRoom pool.now column row motion.now }
+    ensures { HasPart 8 result (8 * x) (8 * y) (from_pool pool.now motion.now column row Y) }
+{
+    let mut out = [0; 64];
+    if is_quarter(motion, x, y) {
+        let m = motion_of(motion, 8 * y + 2 * x);
+        let plane = &pool.frame(usize::from(m.picture)).y;
+        luma::<8, 8>(
+            plane,
+            16 * column + 8 * x,
+            16 * row + 8 * y,
+            m.vector,
+            &mut out,
+        );
+        return out;
+    }
+    for k in 0..4 {
+        let m = motion_of(motion, 4 * (2 * y + k / 2) + (2 * x + k % 2));
+        let plane = &pool.frame(usize::from(m.picture)).y;
+        let mut block = [0; 16];
+        luma::<4, 4>(
+            plane,
+            16 * column + (8 * x + 4 * (k % 2)),
+            16 * row + (8 * y + 4 * (k / 2)),
+            m.vector,
+            &mut block,
+        );
+        put4(&mut out, k % 2, k / 2, &block);
+    }
+    out
+}
+
+/// The predicted luma samples of the macroblock at this column and row.
+pub fn predicted_luma(motion: &[Motion; 16], pool: &Pool, column: usize, row: usize) -> [u8; 256]
+    requires small { (column < 1024) × (row < 1024) }
+    requires room { HaveRoom pool.now column row motion.now }
+    ensures { HasBlock 16 16 result (from_pool pool.now motion.now column row Y) }
+{
+    let mut out = [0; 256];
+    if is_whole(motion) {
+        let m = motion_of(motion, 0);
+        let plane = &pool.frame(usize::from(m.picture)).y;
+        luma::<16, 16>(plane, 16 * column, 16 * row, m.vector, &mut out);
+        return out;
+    }
+    for k in 0..4 {
+        let quarter = luma_quarter(motion, pool, column, row, k % 2, k / 2);
+        put8(&mut out, k % 2, k / 2, &quarter);
+    }
+    out
+}
+
+/// A chroma plane of a frame.
+#[inline(always)]
+fn plane_of<const CR: bool>(frame: &Frame) -> &Plane
+    ensures { result.now ≡ plane_of_frame (chroma_plane CR) frame.now }
+{
+    if CR { &frame.cr } else { &frame.cb }
+}
+
+/// The predicted samples of a quarter of a chroma plane of the macroblock at this column and row.
+fn chroma_quarter<const CR: bool>(
+    motion: &[Motion; 16],
+    pool: &Pool,
+    column: usize,
+    row: usize,
+    x: usize,
+    y: usize,
+) -> [u8; 16]
+    requires place { (x < 2) × (y < 2) }
+    requires small { (column < 1024) × (row < 1024) }
+    requires room { HaveRoom pool.now column row motion.now }
+    ensures { HasPart 4 result (4 * x) (4 * y) (from_pool pool.now motion.now column row (chroma_plane CR)) }
+{
+    let mut out = [0; 16];
+    if is_quarter(motion, x, y) {
+        let m = motion_of(motion, 8 * y + 2 * x);
+        let plane = plane_of::<CR>(pool.frame(usize::from(m.picture)));
+        chroma::<4, 4>(
+            plane,
+            8 * column + 4 * x,
+            8 * row + 4 * y,
+            m.vector,
+            &mut out,
+        );
+        return out;
+    }
+    for k in 0..4 {
+        let m = motion_of(motion, 4 * (2 * y + k / 2) + (2 * x + k % 2));
+        let plane = plane_of::<CR>(pool.frame(usize::from(m.picture)));
+        let mut block = [0; 4];
+        chroma::<2, 2>(
+            plane,
+            8 * column + (4 * x + 2 * (k % 2)),
+            8 * row + (4 * y + 2 * (k / 2)),
+            m.vector,
+            &mut block,
+        );
+        put2(&mut out, k % 2, k / 2, &block);
+    }
+    out
+}
+
+/// The predicted samples of a chroma plane of the macroblock at this column and row.
+pub fn predicted_chroma<const CR: bool>(
+    motion: &[Motion; 16],
+    pool: &Pool,
+    column: usize,
+    row: usize,
+) -> [u8; 64]
+    requires small { (column < 1024) × (row < 1024) }
+    requires room { HaveRoom pool.now column row motion.now }
+    ensures { HasBlock 8 8 result (from_pool pool.now motion.now column row (chroma_plane CR)) }
+{
+    let mut out = [0; 64];
+    if is_whole(motion) {
+        let m = motion_of(motion, 0);
+        let plane = plane_of::<CR>(pool.frame(usize::from(m.picture)));
+        chroma::<8, 8>(plane, 8 * column, 8 * row, m.vector, &mut out);
+        return out;
+    }
+    for k in 0..4 {
+        let quarter = chroma_quarter::<CR>(motion, pool, column, row, k % 2, k / 2);
+        put4(&mut out, k % 2, k / 2, &quarter);
+    }
+    out
+}

@@ -1,0 +1,26 @@
+//! Construction of macroblocks (8.3, 8.4.2, 8.5): prediction and residual, or the samples of I_PCM, in place in a frame.
+//!
+//! Takes how a macroblock is predicted, its residual, and what was kept of the macroblocks before it, and writes its samples into the
+//! frame. The samples beside it come from line stores, since those in the frame may already be filtered. Each plane meets one system of
+//! equations over the whole picture (`specs/Constructed.antt`), which has at most one solution (`laws`). Which macroblocks are available,
+//! which modes are allowed there, the range of the transform and the deblocking filter are the caller's matter.
+#![tactic(auto)]
+
+mod blocks;
+mod in_place;
+mod inter;
+mod intra;
+pub mod laws;
+mod macroblock;
+mod run;
+mod store;
+mod sum;
+
+pub use in_place::construct;
+pub use macroblock::{
+    Available, IntraLuma, IntraModes, Macroblock, Motion, PcmSamples, Prediction,
+};
+pub use store::{Lines, Store};
+
+#[cfg(test)]
+mod tests;

@@ -1,0 +1,59 @@
+use h264_inter::MotionVector;
+use h264_intra::{Intra4x4PredMode, Intra16x16PredMode, IntraChromaPredMode};
+
+/// Which of the macroblocks beside this one intra prediction may use (6.4.9, 8.3.1.2).
+#[derive(Clone, Copy)]
+pub struct Available {
+    pub left: bool,
+    pub above: bool,
+    pub above_right: bool,
+    pub corner: bool,
+}
+
+/// How the luma samples of an intra macroblock are predicted.
+#[derive(Clone, Copy)]
+pub enum IntraLuma {
+    /// Intra_4x4, with the mode of each block by its number (6.4.3).
+    Blocks([Intra4x4PredMode; 16]),
+    /// Intra_16x16.
+    Whole(Intra16x16PredMode),
+}
+
+/// The modes of an intra macroblock.
+#[derive(Clone, Copy)]
+pub struct IntraModes {
+    pub luma: IntraLuma,
+    pub chroma: IntraChromaPredMode,
+}
+
+/// The reference picture and the vector of a 4x4 place.
+#[derive(Clone, Copy)]
+pub struct Motion {
+    /// Its place in the pool of frames.
+    pub picture: u8,
+    pub vector: MotionVector,
+}
+
+/// The samples of an I_PCM macroblock, row by row (7.3.5).
+#[derive(Clone, Copy)]
+pub struct PcmSamples {
+    pub y: [u8; 256],
+    pub cb: [u8; 64],
+    pub cr: [u8; 64],
+}
+
+/// How a macroblock is predicted.
+#[derive(Clone, Copy)]
+pub enum Prediction {
+    Intra(IntraModes),
+    /// With the motion of each 4x4 place, row by row.
+    Inter([Motion; 16]),
+    Pcm(PcmSamples),
+}
+
+/// What constructs the samples of a macroblock, beside its residual.
+#[derive(Clone, Copy)]
+pub struct Macroblock {
+    pub available: Available,
+    pub prediction: Prediction,
+}

@@ -1,0 +1,81 @@
+ghost use Rattle.std.specs.Prelude.{◌≡◌, ℕ, ◌+◌, ◌*◌, ◌<◌, ◌≤◌, length, slice_index, vec_len, IfOk};
+ghost use Rattle.h264_recon.specs.Lines.{IsSaved};
+
+use crate::run::put_run;
+use std::alloc::{AllocError, Global};
+
+/// What is kept of a plane's macroblocks before this one, as they were constructed.
+#[derive(Drop)]
+pub struct Store {
+    /// Bottom rows: those of this row of macroblocks up to the one before, and from there on those of the row above.
+    pub above: Vec<u8>,
+    /// The right column of the macroblock before, of chroma in the first 8 places.
+    pub left: [u8; 16],
+    /// The sample above that column.
+    pub corner: u8,
+}
+
+impl Store {
+    /// A store of this many columns.
+    pub fn new(alloc: Global, columns: usize) -> Result<Store, AllocError>
+        ensures { IfOk result (λ s. vec_len s.above ≡ columns) }
+    {
+        Ok(Store {
+            above: vec![in alloc; 0; columns]?,
+            left: [0; 16],
+            corner: 0,
+        })
+    }
+
+    /// Keeps the border of the luma macroblock at this column.
+    pub fn save_luma(&mut self, column: usize, own: &[u8; 256])
+        requires columns { 16 * column + 16 ≤ vec_len self.old.above }
+        requires small { column < 1024 }
+        ensures { IsSaved 16 column self.old self.new own.now }
+    {
+        let start = 16 * column;
+        self.corner = self.above[start + 15];
+        for k in 0..16 {
+            self.left[k] = own[16 * k + 15];
+        }
+        put_run(self.above.as_mut_slice(), start, &own[240..256]);
+    }
+
+    /// Keeps the border of the chroma macroblock at this column.
+    pub fn save_chroma(&mut self, column: usize, own: &[u8; 64])
+        requires columns { 8 * column + 8 ≤ vec_len self.old.above }
+        requires small { column < 1024 }
+        ensures { IsSaved 8 column self.old self.new own.now }
+    {
+        let start = 8 * column;
+        self.corner = self.above[start + 7];
+        for k in 0..8 {
+            self.left[k] = own[8 * k + 7];
+        }
+        put_run(self.above.as_mut_slice(), start, &own[56..64]);
+    }
+}
+
+/// What is kept of all planes.
+#[derive(Drop)]
+pub struct Lines {
+    pub y: Store,
+    pub cb: Store,
+    pub cr: Store,
+}
+
+impl Lines {
+    /// Lines for pictures of this many macroblocks to a row. The only error is want of memory.
+    pub fn new(alloc: Global, width: usize) -> Result<Lines, AllocError>
+        requires small { width ≤ 1024 }
+        ensures y { IfOk result (λ l. vec_len l.y.above ≡ 16 * width) }
+        ensures cb { IfOk result (λ l. vec_len l.cb.above ≡ 8 * width) }
+        ensures cr { IfOk result (λ l. vec_len l.cr.above ≡ 8 * width) }
+    {
+        Ok(Lines {
+            y: Store::new(alloc, 16 * width)?,
+            cb: Store::new(alloc, 8 * width)?,
+            cr: Store::new(alloc, 8 * width)?,
+        })
+    }
+}

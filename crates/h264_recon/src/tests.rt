@@ -1,0 +1,282 @@
+ghost use Rattle.std.specs.Prelude.{◌≡◌, ◌<◌, ◌≤◌, vec_len, length};
+
+use crate::{
+    Available, IntraLuma, IntraModes, Lines, Macroblock, Motion, PcmSamples, Prediction, construct,
+};
+use h264_inter::MotionVector;
+use h264_intra::{Intra4x4PredMode, Intra16x16PredMode, IntraChromaPredMode};
+use h264_plane::{Frame, Plane, Pool};
+use h264_scale::Residuals;
+use std::alloc::AllocError;
+use std::process::Abort;
+
+const NO_SIDE: Available = Available {
+    left: false,
+    above: false,
+    above_right: false,
+    corner: false,
+};
+
+fn zero() -> Residuals {
+    Residuals {
+        y: [0; 256],
+        cb: [0; 64],
+        cr: [0; 64],
+    }
+}
+
+/// Samples of I_PCM: luma counts from 0 to 255, Cb is 100, and Cr counts by 2.
+fn counting() -> PcmSamples {
+    let mut samples = PcmSamples {
+        y: [0; 256],
+        cb: [100; 64],
+        cr: [0; 64],
+    };
+    for k in 0..256 {
+        samples.y[k] = k as u8;
+    }
+    for k in 0..64 {
+        samples.cr[k] = (2 * k) as u8;
+    }
+    samples
+}
+
+/// The lines and the frame of a picture of two macroblocks by two.
+#[derive(Drop)]
+struct Canvas {
+    lines: Lines,
+    frame: Frame,
+}
+
+/// Asks whether a macroblock at this column and row lies in the canvas.
+fn assert_room(rt: &impl Abort, canvas: &Canvas, column: usize, row: usize)
+    ensures place { (column < 2) × (row < 2) }
+    ensures columns { (canvas.now.frame.y.width ≡ 32) × (canvas.now.frame.cb.width ≡ 16) × (canvas.now.frame.cr.width ≡ 16) }
+    ensures rows { (canvas.now.frame.y.height ≡ 32) × (canvas.now.frame.cb.height ≡ 16) × (canvas.now.frame.cr.height ≡ 16) }
+    ensures lines { (36 ≤ vec_len canvas.now.lines.y.above) × (16 ≤ vec_len canvas.now.lines.cb.above) × (16 ≤ vec_len canvas.now.lines.cr.above) }
+{
+    assert!(rt; column < 2);
+    assert!(rt; row < 2);
+    assert_eq!(rt; canvas.frame.y.width(), 32);
+    assert_eq!(rt; canvas.frame.y.height(), 32);
+    assert_eq!(rt; canvas.frame.cb.width(), 16);
+    assert_eq!(rt; canvas.frame.cb.height(), 16);
+    assert_eq!(rt; canvas.frame.cr.width(), 16);
+    assert_eq!(rt; canvas.frame.cr.height(), 16);
+    assert!(rt; canvas.lines.y.above.len() >= 36);
+    assert!(rt; canvas.lines.cb.above.len() >= 16);
+    assert!(rt; canvas.lines.cr.above.len() >= 16);
+}
+
+/// Constructs an I_PCM macroblock.
+fn put_samples(
+    rt: &impl Abort,
+    canvas: &mut Canvas,
+    pool: &Pool,
+    samples: PcmSamples,
+    column: usize,
+    row: usize,
+) {
+    assert_room(rt, canvas, column, row);
+    let m = Macroblock {
+        available: NO_SIDE,
+        prediction: Prediction::Pcm(samples),
+    };
+    construct(
+        &mut canvas.lines,
+        &mut canvas.frame,
+        &m,
+        &zero(),
+        pool,
+        column,
+        row,
+    );
+}
+
+/// Constructs an intra macroblock, with a residual of luma.
+fn put_intra(
+    rt: &impl Abort,
+    canvas: &mut Canvas,
+    pool: &Pool,
+    available: Available,
+    modes: IntraModes,
+    y: [i16; 256],
+    column: usize,
+    row: usize,
+) {
+    assert_room(rt, canvas, column, row);
+    let m = Macroblock {
+        available,
+        prediction: Prediction::Intra(modes),
+    };
+    let residuals = Residuals { y, ..zero() };
+    construct(
+        &mut canvas.lines,
+        &mut canvas.frame,
+        &m,
+        &residuals,
+        pool,
+        column,
+        row,
+    );
+}
+
+/// Constructs an inter macroblock from the picture at place 1 of the pool.
+fn put_inter(
+    rt: &impl Abort,
+    canvas: &mut Canvas,
+    pool: &Pool,
+    vector: MotionVector,
+    column: usize,
+    row: usize,
+) {
+    assert_room(rt, canvas, column, row);
+    assert_eq!(rt; pool.len(), 2);
+    let reference = pool.frame(1);
+    assert_eq!(rt; reference.y.width(), 32);
+    assert_eq!(rt; reference.y.height(), 32);
+    assert_eq!(rt; reference.cb.width(), 16);
+    assert_eq!(rt; reference.cb.height(), 16);
+    assert_eq!(rt; reference.cr.width(), 16);
+    assert_eq!(rt; reference.cr.height(), 16);
+    let motion = Motion { picture: 1, vector };
+    let m = Macroblock {
+        available: NO_SIDE,
+        prediction: Prediction::Inter([motion; 16]),
+    };
+    construct(
+        &mut canvas.lines,
+        &mut canvas.frame,
+        &m,
+        &zero(),
+        pool,
+        column,
+        row,
+    );
+}
+
+/// Writes one sample.
+fn set(rt: &impl Abort, plane: &mut Plane, x: usize, y: usize, sample: u8) {
+    assert!(rt; x < plane.width());
+    assert!(rt; y < plane.height());
+    plane.set(x, y, sample);
+}
+
+/// A plane that rises by so much from column to column and from row to row.
+fn rising(
+    rt: &(impl Abort + AllocGlobal),
+    side: usize,
+    across: u8,
+    down: u8,
+) -> Result<Plane, AllocError>
+    requires { side ≤ 32 }
+{
+    let mut plane = Plane::new(rt.alloc(), side, side)?;
+    for y in 0..side {
+        for x in 0..side {
+            let sample = across
+                .wrapping_mul(x as u8)
+                .wrapping_add(down.wrapping_mul(y as u8));
+            set(rt, &mut plane, x, y, sample);
+        }
+    }
+    Ok(plane)
+}
+
+/// One sample.
+fn get(rt: &impl Abort, plane: &Plane, x: usize, y: usize) -> u8 {
+    assert!(rt; x < plane.width());
+    assert!(rt; y < plane.height());
+    plane.get(x, y)
+}
+
+/// A row of luma.
+fn row<'a>(rt: &impl Abort, canvas: &'a Canvas, y: usize) -> &'a [u8]
+    ensures { length result.now ≡ 32 }
+{
+    assert_eq!(rt; canvas.frame.y.width(), 32);
+    assert!(rt; y < canvas.frame.y.height());
+    canvas.frame.y.row(y)
+}
+
+/// A picture of two macroblocks by two that is not constructed yet, and a pool whose second picture rises to the right and below.
+fn begin(rt: &(impl Abort + AllocGlobal)) -> Result<(Canvas, Pool), AllocError> {
+    let mut pool = Pool::new(rt.alloc(), 2, 32, 32)?;
+    let frame = Frame {
+        y: rising(rt, 32, 3, 5)?,
+        cb: rising(rt, 16, 7, 1)?,
+        cr: rising(rt, 16, 1, 9)?,
+    };
+    assert_eq!(rt; pool.len(), 2);
+    pool.put_back(1, frame);
+    let canvas = Canvas {
+        lines: Lines::new(rt.alloc(), 3)?,
+        frame: Frame::new(rt.alloc(), 32, 32)?,
+    };
+    Ok((canvas, pool))
+}
+
+// Macroblock 0 is I_PCM. Macroblock 1 goes on from its right column. Before macroblock 2 the frame is spoilt where the filter would write, so
+// that only the lines have the samples above: 240 to 255, then 255 from macroblock 1. Its block 5 looks to the upper right, into macroblock 1.
+// Macroblock 3 is two luma samples to the left and one above: one chroma sample, and half of one.
+#[test]
+fn macroblocks(rt: HostRuntime) -> Result<(), AllocError> {
+    let (mut canvas, pool) = begin(&rt)?;
+    put_samples(&rt, &mut canvas, &pool, counting(), 0, 0);
+    let left = Available {
+        left: true,
+        ..NO_SIDE
+    };
+    let whole = IntraModes {
+        luma: IntraLuma::Whole(Intra16x16PredMode::Horizontal),
+        chroma: IntraChromaPredMode::Horizontal,
+    };
+    put_intra(&rt, &mut canvas, &pool, left, whole, [0; 256], 1, 0);
+    assert_eq!(rt; get(&rt, &canvas.frame.y, 7, 9), 151);
+    assert_eq!(rt; get(&rt, &canvas.frame.y, 31, 9), 159);
+    assert_eq!(rt; get(&rt, &canvas.frame.cb, 15, 7), 100);
+    assert_eq!(rt; get(&rt, &canvas.frame.cr, 8, 3), 62);
+
+    for x in 0..32 {
+        set(&rt, &mut canvas.frame.y, x, 15, 1);
+    }
+    let mut modes = [Intra4x4PredMode::Vertical; 16];
+    modes[5] = Intra4x4PredMode::DiagonalDownLeft;
+    let blocks = IntraModes {
+        luma: IntraLuma::Blocks(modes),
+        chroma: IntraChromaPredMode::Vertical,
+    };
+    let above = Available {
+        above: true,
+        above_right: true,
+        ..NO_SIDE
+    };
+    let mut residual = [0; 256];
+    residual[16 * 5 + 2] = 7;
+    put_intra(&rt, &mut canvas, &pool, above, blocks, residual, 0, 1);
+    assert_eq!(rt;
+        &row(&rt, &canvas, 16)[..4],
+        [240, 241, 242, 243].as_slice()
+    );
+    assert_eq!(rt;
+        &row(&rt, &canvas, 21)[..4],
+        [240, 241, 249, 243].as_slice()
+    );
+    assert_eq!(rt;
+        &row(&rt, &canvas, 22)[..4],
+        [240, 241, 242, 243].as_slice()
+    );
+    assert_eq!(rt;
+        &row(&rt, &canvas, 16)[12..16],
+        [253, 254, 255, 255].as_slice()
+    );
+    assert_eq!(rt; get(&rt, &canvas.frame.cr, 3, 15), 118);
+
+    put_inter(&rt, &mut canvas, &pool, MotionVector { x: -8, y: -4 }, 1, 1);
+    assert_eq!(rt; get(&rt, &canvas.frame.y, 16, 16), 117);
+    assert_eq!(rt; get(&rt, &canvas.frame.y, 31, 31), 237);
+    assert_eq!(rt; get(&rt, &canvas.frame.cb, 8, 8), 57);
+    assert_eq!(rt; get(&rt, &canvas.frame.cr, 8, 8), 75);
+    assert_eq!(rt; get(&rt, &canvas.frame.cb, 15, 15), 113);
+    Ok(())
+}

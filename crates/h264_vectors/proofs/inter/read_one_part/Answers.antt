@@ -1,0 +1,18 @@
+use Rattle.std.proofs.Common.{false}
+use Rattle.std.proofs.lemmas.Result.{err_from_is_err_and}
+use Rattle.h264_base.proofs.Steps.{bind, stop}
+use Rattle.std.proofs.Common.{replicate}
+use Rattle.h264_vectors.proofs.Parts.{starts}
+use Rattle.h264_near.specs.Coded.{column_of, row_of}
+use Rattle.h264_vectors.specs.Agrees.{places_with}
+use Rattle.h264_vectors.specs.Inter.{one_part}
+use Rattle.h264_vectors.specs.Derived.{none_yet}
+use Rattle.h264_vectors.proofs.inter.read_one_part.Goals as goal
+
+pub returns-in_err-i-clause-meets : goal.returns-in_err-i-clause-meets
+unfolding one_part places_with column_of row_of
+returns-in_err-i-clause-meets g c width picture k = let p = err_from_is_err_and c.from_residual.result c.from_residual.ensures.1 in rw (p.1, p.2) (stop _ (c.in_err-i.ensures.meets))
+
+pub returns-clause-meets : goal.returns-clause-meets
+unfolding one_part places_with column_of row_of
+returns-clause-meets g c width picture k = bind _ (c.in_ok-i.ensures.meets) (c.read_part.ensures.meets width picture (replicate 16 false) none_yet k (starts _ c.requires.none))

@@ -1,0 +1,33 @@
+-- What the code has of the references and vectors of a macroblock's blocks.
+use Rattle.std.specs.Prelude.{◌≡◌, ◌≤◌, Bool, true, false, List, [], ◌∷◌, map, Option, Some, None, if◌then◌else◌}
+use Rattle.std.specs.Option.{is_some}
+use Rattle.std.specs.List.{range_with_len}
+use Rattle.std.proofs.Common.{get_or}
+use Rattle.h264_near.specs.declared.motion.Motion.{Motion}
+use Rattle.h264_vectors.specs.declared.part.Part.{Part}
+use Rattle.h264_vectors.specs.declared.slice.SliceContext.{SliceContext}
+use Rattle.h264_vectors.specs.Derived.{Derived, is_inside}
+
+-- which blocks are derived, and which ones after these parts
+unfoldable pub places_with : List Bool → Part → List Bool
+places_with places p = map (λ n. if is_inside p n then true else get_or places n false) (range_with_len 0 16)
+
+abbrev pub places_after : List Bool → List Part → List Bool
+places_after places [] = places
+places_after places (p ∷ parts) = places_after (places_with places p) parts
+
+-- Whether all vectors lie in their range, and if so the references and vectors. Once one does not, only that is known.
+pub record Agrees (within : Bool) (blocks : List (Option Motion)) (places : List Bool) (d : Derived) : Type 0 where
+  pub fits : within ≡ d.fit
+  pub same : within ≡ true → blocks ≡ d.motions
+  pub derived : map is_some d.motions ≡ places
+
+-- a vector of its prediction and its difference, if it lies in its range
+abbrev pub if_fits : {A : Type 0} → Bool → A → Option A
+if_fits true v = Some v
+if_fits false v = None
+
+-- what a slice of the profile says
+pub record Usable (slice : SliceContext) : Type 0 where
+  pub few : slice.active ≤ 16
+  pub limit : slice.vector_limit ≤ 8192

@@ -1,0 +1,4 @@
+pub mod Vectors
+pub mod Derived
+pub mod Agrees
+pub mod Inter

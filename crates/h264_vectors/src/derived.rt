@@ -1,0 +1,113 @@
+//! References and vectors of the blocks of a macroblock, part by part (8.4.1).
+#![tactic(auto)]
+
+ghost use Rattle.std.specs.Prelude.{◌≡◌, ℕ, ◌+◌, ◌<◌, ◌≤◌, Bool, List};
+ghost use Rattle.h264_near.specs.Coded.{CodedMacroblock};
+ghost use Rattle.h264_near.specs.Keeps.{Keeps};
+ghost use Rattle.h264_vectors.specs.Derived as derived;
+ghost use Rattle.h264_vectors.specs.Derived.{Derived};
+ghost use Rattle.h264_vectors.specs.Agrees.{Agrees, Usable, places_with};
+
+use crate::part::Part;
+use crate::predicted::predicted_vector;
+use crate::range::moved;
+use crate::slice::{SliceContext, motion_of};
+use h264_near::block::{column, row};
+use h264_near::{Motion, Near};
+
+/// Whether k lies from `from` on in so many places.
+#[inline(always)]
+fn lies(from: usize, size: usize, k: usize) -> bool
+    requires { from + size ≤ 4 }
+    ensures { result ≡ derived.lies from size k }
+{
+    if k < from {
+        return false;
+    }
+    k < from + size
+}
+
+/// What a block is predicted from after a part is derived.
+#[inline(always)]
+fn after_part(part: Part, n: usize, motion: Motion, old: Option<Motion>) -> Option<Motion>
+    requires columns { part.x + part.wide ≤ 4 }
+    requires rows { part.y + part.high ≤ 4 }
+    requires block { n < 16 }
+    ensures { result ≡ derived.in_part part n motion old }
+{
+    if !lies(part.x, part.wide, column(n)) {
+        return old;
+    }
+    if !lies(part.y, part.high, row(n)) {
+        return old;
+    }
+    Some(motion)
+}
+
+/// Keeps what the blocks of a part are predicted from.
+#[inline]
+fn fill(motions: &mut [Option<Motion>; 16], part: Part, motion: Motion)
+    requires columns { part.x + part.wide ≤ 4 }
+    requires rows { part.y + part.high ≤ 4 }
+    ensures { motions.new ≡ derived.with_part motions.old part motion }
+{
+    *motions = [
+        after_part(part, 0, motion, motions[0]),
+        after_part(part, 1, motion, motions[1]),
+        after_part(part, 2, motion, motions[2]),
+        after_part(part, 3, motion, motions[3]),
+        after_part(part, 4, motion, motions[4]),
+        after_part(part, 5, motion, motions[5]),
+        after_part(part, 6, motion, motions[6]),
+        after_part(part, 7, motion, motions[7]),
+        after_part(part, 8, motion, motions[8]),
+        after_part(part, 9, motion, motions[9]),
+        after_part(part, 10, motion, motions[10]),
+        after_part(part, 11, motion, motions[11]),
+        after_part(part, 12, motion, motions[12]),
+        after_part(part, 13, motion, motions[13]),
+        after_part(part, 14, motion, motions[14]),
+        after_part(part, 15, motion, motions[15]),
+    ];
+}
+
+/// Derives what a part is predicted from, by mvd_l0: whether all vectors up to it lie in their range. Once one does not,
+/// `motions` stay as they are.
+pub fn derive(
+    near: &Near,
+    slice: &SliceContext,
+    part: Part,
+    index: u32,
+    across: i32,
+    down: i32,
+    fits: bool,
+    motions: &mut [Option<Motion>; 16],
+) -> bool
+    requires columns { part.x + part.wide ≤ 4 }
+    requires rows { part.y + part.high ≤ 4 }
+    requires high { 0 < part.high }
+    requires index { index < 16 }
+    requires usable { Usable slice.now }
+    ensures { (width : ℕ) (picture : List CodedMacroblock) (places : List Bool) (d : Derived) → Keeps width picture near.now → Agrees fits motions.old places d → Agrees result motions.new (places_with places part) (derived.derive width slice.now picture d part index across down) }
+{
+    if !fits {
+        return false;
+    }
+    let predicted = predicted_vector(
+        near,
+        slice.number,
+        motions,
+        part.direction,
+        index as u8,
+        part.x,
+        part.y,
+        part.wide,
+    );
+    match moved(slice.vector_limit, predicted, across, down) {
+        None => false,
+        Some(vector) => {
+            fill(motions, part, motion_of(slice, index, vector));
+            true
+        }
+    }
+}

@@ -1,0 +1,167 @@
+//! Slice data, where they are read: what they ask of a slice's header, and the end of their picture.
+#![tactic(auto)]
+
+ghost use Rattle.std.specs.Prelude.{◌≡◌, ℕ, ◌-◌, ◌<◌, ◌≤◌, ◌^◌, ◌==◌, Bool, true, false, Ok, Err, Some, List, [], length, IsTrue, OnOk, OnErr, IfOk, IfErr, IsErrOf, if◌then◌else◌};
+ghost use Rattle.std.specs.Option.{is_some};
+ghost use Rattle.std.specs.Result.{result_unwrap_or};
+ghost use Rattle.h264_base.specs.declared.mode.Mode.TheVariants as modes;
+ghost use Rattle.h264_header.specs.declared.header.Header.{Header};
+ghost use Rattle.h264_header.specs.Layout.{sets_of};
+ghost use Rattle.h264_near.specs.Coded.{CodedMacroblock};
+ghost use Rattle.h264_picture.specs.Holds.{Holds, is_frame_size};
+ghost use Rattle.h264_verify.specs.Demands.{judged};
+ghost use Rattle.h264_verify.specs.Outcome.{IsNamed, answers};
+ghost use Rattle.h264_verify.specs.History.{History};
+ghost use Rattle.h264_verify.specs.Pictures.{CodedSlice, CodedPicture, open_of, joined_to, runs_of, goes_on, numbering_of, begins_after, whole_steps, picture_size, held_in};
+ghost use Rattle.h264_verify.specs.Slices.{first_mb_demands, list_of};
+ghost use Rattle.h264_verify.specs.Data.{picture_set, coded_so_far, data_in};
+ghost use Rattle.h264_verify.specs.Keeping.{KeepsSlices, KeepsWork, HoldsCoded, HoldsNewest, coded_before};
+ghost use Rattle.h264_verify.specs.UnitOutcome.{steps_outcome, structure_from};
+ghost use Rattle.h264_verify.specs.Feeding.{ReadsData};
+
+use crate::picture::numbering_of;
+use crate::rules::check;
+use crate::slices::Slices;
+use arrayvec::ArrayVec;
+use h264_base::{Elements, Feature, Mode, Rule, Stop};
+use h264_bits::Bits;
+use h264_header::{Header, SliceKind, named_sets};
+use h264_lists::{RefSlot, build};
+use h264_marking::{Held, Numbering};
+use h264_picture::{Work, slice_context};
+use h264_sets::Sets;
+use h264_sps::sps::{FrameSize, Sps};
+
+/// The end of the slice data of the picture that may go on, if there is one: all its macroblocks are coded. Its samples are not judged.
+fn end_data(slices: &Slices, work: &Work) -> Result<(), Stop>
+    ensures judged { (before : History) → KeepsSlices before false slices.now → HoldsCoded (open_of (goes_on before) (runs_of before)) work.now → answers result ≡ steps_outcome (whole_steps modes.Full before) }
+    ensures named { IfErr result IsNamed }
+{
+    match slices.picture {
+        None => Ok(()),
+        Some(_) => {
+            check(work.is_whole(), Rule::Incomplete, slices.behind)?;
+            Err(Stop::Outside {
+                bit: slices.behind,
+                feature: Feature::Pending,
+            })
+        }
+    }
+}
+
+/// The same where slice data are read and the picture ends here.
+#[tactic(auto, unfolding(crate::specs::Keeping::KeepsWork))]
+pub(crate) fn end_data_if(
+    mode: Mode,
+    ends: bool,
+    slices: &Slices,
+    work: &Work,
+) -> Result<(), Stop>
+    ensures judged { (before : History) → KeepsSlices before false slices.now → KeepsWork mode (open_of (goes_on before) (runs_of before)) work.now → answers result ≡ steps_outcome (if ends then whole_steps mode before else []) }
+    ensures named { IfErr result IsNamed }
+{
+    if !ends {
+        return Ok(());
+    }
+    match mode {
+        Mode::Units => Ok(()),
+        Mode::Headers => Ok(()),
+        Mode::Full => end_data(slices, work),
+    }
+}
+
+/// How many macroblocks are coded before a slice.
+fn coded_before(begins: bool, work: &Work) -> u32
+    ensures { (on : Bool) (pictures : List CodedPicture) (h : Header) → HoldsCoded (open_of on pictures) work.now → begins ≡ begins_after (open_of on pictures) h → result ≡ coded_before begins pictures }
+{
+    if begins {
+        return 0;
+    }
+    work.next_mb()
+}
+
+/// Whether a slice begins where its picture's macroblocks so far end.
+fn check_place(begins: bool, work: &Work, header: &Header) -> Result<(), Stop>
+    ensures no_memory { IsErrOf result Stop.Memory → ⊥ }
+    ensures judged { (on : Bool) (pictures : List CodedPicture) → HoldsCoded (open_of on pictures) work.now → begins ≡ begins_after (open_of on pictures) header.now → result ≡ judged (first_mb_demands modes.Full (coded_before begins pictures) header.now) }
+{
+    let coded = coded_before(begins, work);
+    let first_mb = header.first_mb_in_slice;
+    check(first_mb.value == coded, Rule::FirstMb, first_mb.bit)
+}
+
+/// The same where slice data are read.
+#[tactic(auto, unfolding(crate::specs::Keeping::KeepsWork))]
+pub(crate) fn check_first_mb(mode: Mode, begins: bool, work: &Work, header: &Header) -> Result<(), Stop>
+    ensures judged { (on : Bool) (pictures : List CodedPicture) → KeepsWork mode (open_of on pictures) work.now → begins ≡ begins_after (open_of on pictures) header.now → result ≡ judged (first_mb_demands mode (coded_before begins pictures) header.now) }
+    ensures no_memory { IsErrOf result Stop.Memory → ⊥ }
+{
+    match mode {
+        Mode::Units => Ok(()),
+        Mode::Headers => Ok(()),
+        Mode::Full => check_place(begins, work, header),
+    }
+}
+
+/// The reference list of a slice whose rules are met; an I slice has none (8.2.4).
+fn list_of(kind: &SliceKind, numbering: &Numbering, held: &Held) -> ArrayVec<RefSlot, 16>
+    ensures { result.items ≡ result_unwrap_or (list_of kind.now numbering.now held.now) [] }
+{
+    match kind {
+        SliceKind::I => ArrayVec::new(),
+        SliceKind::P(list) => match build(held, numbering, list) {
+            Ok(list) => list,
+            Err(_) => ArrayVec::new(),
+        },
+    }
+}
+
+/// Whether a frame has some macroblocks, and no more than the greatest MaxFS (A.3.1). Each set that was accepted has.
+fn is_frame_size(size: FrameSize) -> bool
+    ensures { result ≡ is_frame_size size }
+{
+    if size.width == 0 || size.height == 0 {
+        return false;
+    }
+    size.width as u64 * size.height as u64 <= 36864
+}
+
+/// A picture that begins takes its places: Memory where they are refused.
+fn begin_if(begins: bool, sps: &Sps, work: &mut Work) -> Result<(), Stop>
+    ensures holds { (pictures : List CodedPicture) (s : CodedSlice) → s.sps ≡ sps.now → HoldsNewest begins pictures work.old → OnOk result (Holds (picture_set begins s pictures).frame_size.width (picture_size (picture_set begins s pictures)) (coded_so_far begins pictures) work.new) }
+    ensures err { IfErr result (λ e. e ≡ Stop.Memory) }
+{
+    if !begins {
+        return Ok(());
+    }
+    if !is_frame_size(sps.frame_size) {
+        return Err(Stop::Memory);
+    }
+    work.activate(sps)
+}
+
+/// Reads the slice data behind a header whose rules are met.
+pub(crate) fn read_data<S: Elements>(
+    begins: bool,
+    held: &Held,
+    sets: &Sets,
+    header: &Header,
+    work: &mut Work,
+    bits: &mut Bits,
+    sink: &mut S,
+) -> Result<(), Stop>
+    requires room { S.failures sink.old < 2 ^ 64 - 1 }
+    requires id { header.now.pic_parameter_set_id.value ≤ 255 }
+    requires named { is_some (sets_of sets.now header.now.pic_parameter_set_id.value) ≡ true }
+    ensures reads { (pictures : List CodedPicture) (s : CodedSlice) → sets_of sets.now s.header.pic_parameter_set_id.value ≡ Some (s.pps, s.sps) → header.now ≡ record s.header { marking = header.now.marking } → held.now ≡ held_in (joined_to begins s pictures) → s.header.first_mb_in_slice.value ≡ length (coded_so_far begins pictures) → HoldsNewest begins pictures work.old → ReadsData S.took S.failures (structure_from (data_in begins pictures s) bits.old.body bits.old.at) (picture_set begins s pictures).frame_size.width (picture_size (picture_set begins s pictures)) work.new sink.old sink.new result }
+    ensures kept { OnOk result (S.failures sink.new ≡ S.failures sink.old) }
+{
+    let Some((pps, sps)) = named_sets(sets, header.pic_parameter_set_id.value) else {
+        unreachable!()
+    };
+    begin_if(begins, sps, work)?;
+    let numbering = numbering_of(sps, header);
+    let list = list_of(&header.kind.value, &numbering, held);
+    let slice = slice_context(pps, sps, header, list.as_slice());
+    work.slice(bits, &slice, sink)
+}

@@ -1,0 +1,136 @@
+//! What `check` answers, whole, byte by byte and at every cut, up to the end of the first picture. The expected bits are counted
+//! from the lengths of the elements before.
+#![tactic(auto)]
+
+use crate::tests::{Case, check, check_cases};
+use std::process::Abort;
+use std::test::Fail;
+
+/// Slice data of one picture.
+const SLICE_DATA: [Case; 14] = [
+    // No slice at all.
+    Case {
+        name: "no picture",
+        stream: "",
+        text: "no: bit 0: NoPicture (clause 7.4.1)\n",
+        status: 1,
+    },
+    // A picture of one macroblock: its samples are not judged.
+    Case {
+        name: "one picture",
+        stream: "000000016742c00ada710000000168ce388000000165888493c0",
+        text: "outside: bit 208: Pending\n",
+        status: 2,
+    },
+    // The stop bit is read as mb_qp_delta, and no coeff_token follows.
+    Case {
+        name: "picture cut",
+        stream: "000000016742c00ada710000000168ce388000000165888493",
+        text: "no: bit 200: ResidualWord (clause 9.2)\n",
+        status: 1,
+    },
+    // level_prefix 16.
+    Case {
+        name: "level prefix 16",
+        stream: "000000016742c00ada710000000168ce38800000016588849314000380",
+        text: "no: bit 206: ResidualWord (clause 9.2)\n",
+        status: 1,
+    },
+    // level_prefix 15, which is allowed.
+    Case {
+        name: "level prefix 15",
+        stream: "000000016742c00ada710000000168ce3880000001658884931400040030",
+        text: "outside: bit 240: Pending\n",
+        status: 2,
+    },
+    // QP 51 and mb_qp_delta 1.
+    Case {
+        name: "qp wraps",
+        stream: "000000016742c00ada710000000168ce38800000016588840644a140004003",
+        text: "outside: bit 248: Pending\n",
+        status: 2,
+    },
+    // total_coeff 16 in a block of 15.
+    Case {
+        name: "total 16 of 15",
+        stream: "000000016742c00ada710000000168ce388000000165888484380024",
+        text: "no: bit 205: BlockSize (clause 9.2)\n",
+        status: 1,
+    },
+    // A second slice begins at macroblock 0 again.
+    Case {
+        name: "slice again",
+        stream: "000000016742c00ada710000000168ce388000000165888493c000000165888493c0",
+        text: "no: bit 240: FirstMb (clause 7.4.3)\n",
+        status: 1,
+    },
+    // A delimiter ends the first picture.
+    Case {
+        name: "picture again",
+        stream: "000000016742c00ada710000000168ce388000000165888493c0000001091000000165888493c0",
+        text: "outside: bit 208: Pending\n",
+        status: 2,
+    },
+    // A picture that wants a macroblock.
+    Case {
+        name: "one macroblock of two",
+        stream: "000000016742c00ada2c400000000168ce388000000165888493c0",
+        text: "no: bit 216: Incomplete (clause 7.4.1)\n",
+        status: 1,
+    },
+    // A picture of two macroblocks.
+    Case {
+        name: "two macroblocks",
+        stream: "000000016742c00ada2c400000000168ce388000000165888493931438",
+        text: "outside: bit 232: Pending\n",
+        status: 2,
+    },
+    // A macroblock too many.
+    Case {
+        name: "two macroblocks of one",
+        stream: "000000016742c00ada710000000168ce388000000165888493931438",
+        text: "no: bit 201: MbPast (clause 7.3.4)\n",
+        status: 1,
+    },
+    // A P picture is not reached.
+    Case {
+        name: "reference without picture",
+        stream: "000000016742c00ada710000000168ce388000000165888493c0000001619a347780",
+        text: "outside: bit 208: Pending\n",
+        status: 2,
+    },
+    // The bytes of a unit are judged before the unit ends the picture.
+    Case {
+        name: "unit behind a picture broken",
+        stream: "000000016742c00ada710000000168ce388000000165888493c000000106050000030480",
+        text: "no: bit 272: Emulation (clause 7.4.1)\n",
+        status: 1,
+    },
+];
+
+/// Parameter sets, and the first bytes of a picture whose macroblock is I_PCM.
+const PCM: &[u8] = &[
+    0x00, 0x00, 0x00, 0x01, 0x67, 0x42, 0xC0, 0x0A, 0xDA, 0x71, 0x00, 0x00, 0x00, 0x01, 0x68, 0xCE,
+    0x38, 0x80, 0x00, 0x00, 0x01, 0x65, 0x88, 0x84, 0x86, 0x80,
+];
+
+/// An I_PCM macroblock, whole and cut within its samples.
+fn samples(rt: &(impl Abort + AllocGlobal)) -> Result<(), Fail> {
+    let mut stream: Vec<u8> = Vec::new(rt.alloc());
+    stream.extend_from_slice(PCM)?;
+    for i in 0..383u32 {
+        stream.push((i % 255 + 1) as u8)?;
+    }
+    let cut = "no: bit 3272: CodeWord (clause 9.1)\n";
+    check(rt, "check", "samples cut", stream.as_slice(), cut, 1)?;
+    stream.push(129)?;
+    stream.push(0x80)?;
+    let text = "outside: bit 3288: Pending\n";
+    check(rt, "check", "samples", stream.as_slice(), text, 2)
+}
+
+#[test]
+fn slice_data(rt: HostRuntime) -> Result<(), Fail> {
+    check_cases(&rt, "check", &SLICE_DATA)?;
+    samples(&rt)
+}
