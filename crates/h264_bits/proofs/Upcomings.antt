@@ -24,8 +24,8 @@ moved : (bytes : List ℕ) (i n m r w : ℕ) → m + (r + n) ≡ 64 → w / 2 ^ 
 moved bytes i n m r w e is =
     let split = peek-split n m (n + m) bytes i refl in
     let parts : w ≡ (peek_at n bytes i * 2 ^ m + peek_at m bytes (i + n)) * 2 ^ r + w % 2 ^ r =
-        (let d = div-add-mod w (2 ^ r) in let c : 2 ^ r * (w / 2 ^ r) ≡ w / 2 ^ r * 2 ^ r = grind arith in
-        rw (← split, ← is) (omega arith)) in
+    (let d = div-add-mod w (2 ^ r) in let c : 2 ^ r * (w / 2 ^ r) ≡ w / 2 ^ r * 2 ^ r = grind arith in
+    rw (← split, ← is) (omega arith)) in
     rw (← powers m r n e, pow-add 2 r n)
     (middle (peek_at n bytes i) (peek_at m bytes (i + n)) (w % 2 ^ r) (2 ^ r) (2 ^ n) (2 ^ m) w (peek-below m bytes (i + n)) (mod-lt w (pow_pos r)) (pow_pos n) parts)
 

@@ -37,7 +37,7 @@ run_here : (x y : ℕ) (run : List ℕ) (l : Line) (s : ℕ → ℕ → ℕ) (w 
 run_here x y run l s w b is e3 f3 =
     let n = is.count in
     ⊎_elim (λ i. let at_w : w ≡ x - 4 = omega arith in
-        run_at (x - 4) y run s w 0 (omega arith) (omega arith) ∙ is.line.p3 ∙ e3 ∙ ap (λ z. s z y) (sym at_w) ∙ (grind (arith, nat_tests)))
+    run_at (x - 4) y run s w 0 (omega arith) (omega arith) ∙ is.line.p3 ∙ e3 ∙ ap (λ z. s z y) (sym at_w) ∙ (grind (arith, nat_tests)))
     (λ n0. ⊎_elim (λ i. run_at (x - 4) y run s w 1 (omega arith) (omega arith) ∙ is.line.p2 ∙ (grind (arith, nat_tests)))
     (λ n1. ⊎_elim (λ i. run_at (x - 4) y run s w 2 (omega arith) (omega arith) ∙ is.line.p1 ∙ (grind (arith, nat_tests)))
     (λ n2. ⊎_elim (λ i. run_at (x - 4) y run s w 3 (omega arith) (omega arith) ∙ is.line.p0 ∙ (grind (arith, nat_tests)))

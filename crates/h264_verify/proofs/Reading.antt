@@ -130,6 +130,7 @@ data-same begins pictures s sets header pps sps n held items named names h ns hs
     ∙ ap (λ (x : Header). slice_syntax width size s.pps s.sps x items coded) h
     ∙ syntax-same width size s.pps s.sps s.header header.marking items coded
     ∙ ap (λ (l : List RefSlot). slice_syntax width size s.pps s.sps s.header l coded) (list ∙ sym (ap (λ (r : Result (List RefSlot) ℕ). result_unwrap_or r []) listed))
+
 pub named-set : (sets : Maps) (header : Header) (s : CodedSlice) (pps : Pps) (sps : Sps) → sets_of sets header.pic_parameter_set_id.value ≡ Some (pps, sps) → sets_of sets s.header.pic_parameter_set_id.value ≡ Some (s.pps, s.sps) → header ≡ record s.header { marking = header.marking } → sps ≡ s.sps
 named-set sets header s pps sps named names h = some-second pps s.pps sps s.sps (sym named ∙ ap (λ (x : Header). sets_of sets x.pic_parameter_set_id.value) h ∙ names)
 

@@ -38,7 +38,7 @@ slice_syntax width size pps sps h list picture = slice_data (transform_fits (sli
 abbrev pub data_in : Bool → List CodedPicture → CodedSlice → Grammar (List CodedMacroblock)
 data_in begins pictures s =
     slice_syntax (picture_set begins s pictures).frame_size.width (picture_size (picture_set begins s pictures)) s.pps s.sps s.header
-      (list_in (joined_to begins s pictures) s) (coded_so_far begins pictures)
+    (list_in (joined_to begins s pictures) s) (coded_so_far begins pictures)
 
 abbrev pub data_by : Option (Pps × Sps) → History → NalUnit → Header → Grammar (List CodedMacroblock)
 data_by None before unit h = Done []

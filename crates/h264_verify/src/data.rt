@@ -51,12 +51,7 @@ fn end_data(slices: &Slices, work: &Work) -> Result<(), Stop>
 
 /// The same where slice data are read and the picture ends here.
 #[tactic(auto, unfolding(crate::specs::Keeping::KeepsWork))]
-pub(crate) fn end_data_if(
-    mode: Mode,
-    ends: bool,
-    slices: &Slices,
-    work: &Work,
-) -> Result<(), Stop>
+pub(crate) fn end_data_if(mode: Mode, ends: bool, slices: &Slices, work: &Work) -> Result<(), Stop>
     ensures judged { (before : History) → KeepsSlices before false slices.now → KeepsWork mode (open_of (goes_on before) (runs_of before)) work.now → answers result ≡ steps_outcome (if ends then whole_steps mode before else []) }
     ensures named { IfErr result IsNamed }
 {
@@ -92,7 +87,12 @@ fn check_place(begins: bool, work: &Work, header: &Header) -> Result<(), Stop>
 
 /// The same where slice data are read.
 #[tactic(auto, unfolding(crate::specs::Keeping::KeepsWork))]
-pub(crate) fn check_first_mb(mode: Mode, begins: bool, work: &Work, header: &Header) -> Result<(), Stop>
+pub(crate) fn check_first_mb(
+    mode: Mode,
+    begins: bool,
+    work: &Work,
+    header: &Header,
+) -> Result<(), Stop>
     ensures judged { (on : Bool) (pictures : List CodedPicture) → KeepsWork mode (open_of on pictures) work.now → begins ≡ begins_after (open_of on pictures) header.now → result ≡ judged (first_mb_demands mode (coded_before begins pictures) header.now) }
     ensures no_memory { IsErrOf result Stop.Memory → ⊥ }
 {

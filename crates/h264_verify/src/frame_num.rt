@@ -12,8 +12,8 @@ use crate::picture::{numbering_of, resets};
 use crate::rules::check;
 use h264_base::{Rule, Stop};
 use h264_header::Header;
-use h264_marking::gaps::{fill_gaps, gap_before, is_new_num};
 use h264_marking::Held;
+use h264_marking::gaps::{fill_gaps, gap_before, is_new_num};
 use h264_sps::sps::Sps;
 
 /// PrevRefFrameNum behind a picture, where `last` is the last missing number, or the one before.

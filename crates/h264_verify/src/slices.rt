@@ -22,8 +22,8 @@ ghost use Rattle.h264_verify.specs.Content as contents;
 ghost use Rattle.h264_verify.specs.Pictures.{CodedSlice, CodedPicture, open_of, joined_to, runs_of, with_sets, order_of, picture_of, numbering_of, is_idr, is_reference, goes_on, bit_behind, whole_steps, prev_ref_frame_num_behind, begins_at, begins_after, ends_picture, closing_demands, resets};
 ghost use Rattle.h264_verify.specs.Slices.{type_of, idr_id, first_mb_demands, count_demand, slice_steps, frame_count, newest_count};
 
-use crate::frame_num::{check_gap, check_idr_num};
 use crate::data::{check_first_mb, end_data_if};
+use crate::frame_num::{check_gap, check_idr_num};
 use crate::picture::{OpenPicture, begin, go_on, mark_end, numbering_of, resets};
 use crate::rules::{
     check_first, check_id, check_later, check_list, check_marking, check_qp, check_same_type,
@@ -306,13 +306,7 @@ fn frame_count(count: Option<Count>) -> i32
 
 /// What a slice leaves that begins a picture, or goes on with one, where its unit ends before this bit. The marking may leave the
 /// header's place.
-fn enter(
-    slices: &mut Slices,
-    begins: bool,
-    header: &mut Header,
-    numbering: Numbering,
-    behind: u64,
-)
+fn enter(slices: &mut Slices, begins: bool, header: &mut Header, numbering: Numbering, behind: u64)
     requires { slices.old.pictures < 2 ^ 42 }
     ensures picture { (on : Bool) (pictures : List CodedPicture) (slice : CodedSlice) → slice.header ≡ header.old → HoldsOpen (open_of on pictures) slices.old.picture → begins ≡ begins_after (open_of on pictures) header.old → numbering ≡ numbering_of slice.sps slice.header → HoldsOpen (open_of true (joined_to begins slice pictures)) slices.new.picture }
     ensures newest { slices.new.newest_idr ≡ (if begins then idr_id header.old.idr_pic_id else slices.old.newest_idr) }

@@ -18,11 +18,11 @@ ghost use Rattle.h264_verify.specs.UnitOutcome.{sps_outcome, pps_outcome, slice_
 ghost use Rattle.h264_base.specs.declared.mode.Mode.{Mode};
 ghost use Rattle.h264_base.specs.declared.mode.Mode.TheVariants as modes;
 
+use crate::data::{end_data_if, read_data};
 use crate::judge::{State, Summary};
+use crate::picture::begins;
 use crate::rules::check;
 use crate::sink::FrameSink;
-use crate::data::{end_data_if, read_data};
-use crate::picture::begins;
 use crate::slices::{end_if, ends_picture, judge_slice, pass_by};
 use h264_base::{Failed, Mode, Rule, Stop};
 use h264_bits::Bits;
@@ -262,13 +262,7 @@ fn join_whole_slice<S: FrameSink>(
     let rbsp = Rbsp::of(alloc, unit)?;
     let mut bits = Bits::new(&rbsp);
     let slice_unit = slice_unit(header);
-    read_header(
-        &mut bits,
-        &state.sets,
-        slice_unit,
-        &mut state.header,
-        sink,
-    )?;
+    read_header(&mut bits, &state.sets, slice_unit, &mut state.header, sink)?;
     let begins = begins(&state.slices.picture, &state.header);
     judge_slice(
         Mode::Full,

@@ -3,10 +3,10 @@
 //! `main` hands the arguments, the files and the standard streams to `command`, and its status to the system.
 #![tactic(auto)]
 
-mod command;
-mod files;
 #[cfg(test)]
 mod check_tests;
+mod command;
+mod files;
 #[cfg(test)]
 mod header_tests;
 #[cfg(test)]
