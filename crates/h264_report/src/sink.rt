@@ -5,6 +5,8 @@ ghost use Rattle.std.specs.Prelude.{◌≡◌, ℕ, ◌+◌, ◌-◌, ◌<◌, �
 
 use crate::lines::{slice_line, unit_line};
 use h264_base::{ElementName, Elements, Failed, Mode, SliceType};
+use h264_dpb::{FrameOut, Rectangle};
+use h264_plane::Frame;
 use h264_verify::FrameSink;
 use std::alloc::{AllocError, Global};
 use std::io::Write;
@@ -65,6 +67,12 @@ impl<'a, W: Write> Elements for LineSink<'a, W> {
     ghost failures = { λ s. s.failures };
 
     fn element(&mut self, _name: ElementName, _bit: u64, _value: i64) -> Result<(), Failed> {
+        Ok(())
+    }
+}
+
+impl<'a, W: Write> FrameOut for LineSink<'a, W> {
+    fn frame(&mut self, _count: i32, _frame: &Frame, _rectangle: Rectangle) -> Result<(), Failed> {
         Ok(())
     }
 }

@@ -1,13 +1,14 @@
-//! What takes the units of a stream, beside its elements.
+//! What takes the units of a stream, beside its elements and its frames.
 #![tactic(auto)]
 
 ghost use Rattle.std.specs.Prelude.{ℕ, ◌≡◌, ◌+◌, ◌-◌, ◌<◌, ◌^◌, [], ◌∷◌, OnOk, OnErr};
 ghost use Rattle.h264_base.specs.Call.{OfUnit, OfSlice, Tells};
 
-use h264_base::{Elements, Failed, SliceType};
+use h264_base::{Failed, SliceType};
+use h264_dpb::FrameOut;
 
 /// Takes what a stream consists of, in order.
-pub trait FrameSink: Elements {
+pub trait FrameSink: FrameOut {
     /// A unit whose rules are met: the byte of the input where it begins, its nal_unit_type and nal_ref_idc, and its length in
     /// bytes, the header and emulation prevention bytes among them.
     fn unit(

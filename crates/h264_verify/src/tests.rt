@@ -6,6 +6,8 @@ ghost use Rattle.std.specs.Prelude.{◌≡◌, ◌<◌, drop, length};
 use crate::running::run_pieces;
 use crate::{FrameSink, Session, Source, Summary, laws, run};
 use h264_base::{ElementName, Elements, Failed, Mode, SliceType, Stop, Target};
+use h264_dpb::{FrameOut, Rectangle};
+use h264_plane::Frame;
 use std::test::Fail;
 
 /// Two parameter sets, and two IDR pictures of one macroblock with different idr_pic_id.
@@ -30,6 +32,12 @@ impl Elements for Counter {
 
     fn element(&mut self, _name: ElementName, _bit: u64, _value: i64) -> Result<(), Failed> {
         self.elements = self.elements.saturating_add(1);
+        Ok(())
+    }
+}
+
+impl FrameOut for Counter {
+    fn frame(&mut self, _count: i32, _frame: &Frame, _rectangle: Rectangle) -> Result<(), Failed> {
         Ok(())
     }
 }
@@ -126,6 +134,13 @@ impl Elements for Units {
     ghost failures = { λ s. s.failures };
 
     fn element(&mut self, _name: ElementName, _bit: u64, _value: i64) -> Result<(), Failed> {
+        self.failures += 1;
+        Err(Failed)
+    }
+}
+
+impl FrameOut for Units {
+    fn frame(&mut self, _count: i32, _frame: &Frame, _rectangle: Rectangle) -> Result<(), Failed> {
         self.failures += 1;
         Err(Failed)
     }
