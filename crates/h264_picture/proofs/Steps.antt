@@ -16,9 +16,9 @@ use Rattle.h264_base.proofs.OneAnswer.{answers}
 use Rattle.h264_mbsyntax.specs.Macroblock.{predicted_qp, qp_of, coded}
 use Rattle.h264_mbsyntax.specs.Slice.{skipped_of, macroblocks}
 use Rattle.h264_mbsyntax.proofs.Quantiser.{predicted-next}
-use Rattle.h264_picture.specs.declared.work.Work.{Work}
+use Rattle.h264_picture.specs.declared.sequence.Sequence.{Sequence}
 use Rattle.h264_mbsyntax.specs.declared.slice.Standing.{Standing}
-use Rattle.h264_picture.specs.Holds.{Holds, Reads, IsPast, IsWithin}
+use Rattle.h264_picture.specs.Holds.{HoldsIn, Reads, IsPast, IsWithin, KeepsPlace}
 
 past-next : (slice : SliceContext) (picture : List CodedMacroblock) (m : CodedMacroblock) → m.slice ≡ slice.number → slice.number ≤ length picture → IsPast (picture ++ m ∷ [])
 past-next slice picture m e f x g =
@@ -28,18 +28,18 @@ past-next slice picture m e f x g =
     rw same (omega arith)
 
 -- one macroblock more
-pub kept-on : (width size : ℕ) (slice : SliceContext) (picture : List CodedMacroblock) (m : CodedMacroblock) (old new : Work) → Holds width size picture old → slice.number ≤ length picture → Keeps width (picture ++ m ∷ []) new.near → m.qp ≡ new.mb.qp → m.slice ≡ slice.number → new.size ≡ old.size → new.next ≡ old.next + 1 → Reads width size slice (picture ++ m ∷ []) new
-kept-on width size slice picture m old new h f k q e s n =
+pub kept-on : (width size : ℕ) (slice : SliceContext) (picture : List CodedMacroblock) (m : CodedMacroblock) (old new : Sequence) → HoldsIn width size picture old → new.across ≡ old.across → slice.number ≤ length picture → Keeps width (picture ++ m ∷ []) new.near → m.qp ≡ new.mb.qp → m.slice ≡ slice.number → new.size ≡ old.size → new.next ≡ old.next + 1 → Reads width size slice (picture ++ m ∷ []) new
+kept-on width size slice picture m old new h w f k q e s n =
     let l = length-append picture (m ∷ []) in
     record {
-      holds = record { keeps = k; macroblocks = s ∙ h.macroblocks; next = (let x = h.next in omega arith); past = past-next slice picture m e f };
+      holds = record { keeps = k; columns = w ∙ h.columns; macroblocks = s ∙ h.macroblocks; next = (let x = h.next in omega arith); past = past-next slice picture m e f };
       first = omega arith;
       predicted = sym q ∙ predicted-next slice picture m e;
     }
 
 -- another macroblock in its place changes nothing of that
-pub moved : (width size : ℕ) (picture : List CodedMacroblock) (old new : Work) → Holds width size picture old → new.near ≡ old.near → new.size ≡ old.size → new.next ≡ old.next → Holds width size picture new
-moved width size picture old new h a b c = record { keeps = subst (Keeps width picture) (sym a) h.keeps; macroblocks = b ∙ h.macroblocks; next = c ∙ h.next; past = h.past }
+pub moved : (width size : ℕ) (picture : List CodedMacroblock) (old new : Sequence) → HoldsIn width size picture old → new.near ≡ old.near → new.across ≡ old.across → new.size ≡ old.size → new.next ≡ old.next → HoldsIn width size picture new
+moved width size picture old new h a w b c = record { keeps = subst (Keeps width picture) (sym a) h.keeps; columns = w ∙ h.columns; macroblocks = b ∙ h.macroblocks; next = c ∙ h.next; past = h.past }
 
 pub skipped-slice : (slice : SliceContext) (picture : List CodedMacroblock) (v : Vector) → (skipped_of slice picture v).slice ≡ slice.number
 unfolding skipped_of coded
@@ -77,3 +77,10 @@ no-memory {took = took} {failures = failures} {R = R} {g = g} {old = old} {new =
 -- so many macroblocks are left
 pub left-is : {X S : Type 0} {took : S → List Call → Type 0} {failures : S → ℕ} {R : X → List CodedMacroblock → Type 0} {old new : Reader} {s s' : S} {r : Result X Stop} (a b : ℕ) (fits : CodedMacroblock → Bool) (width : ℕ) (slice : SliceContext) (standing : Standing) (picture : List CodedMacroblock) → a ≡ b → Meets took failures R (macroblocks fits width slice b standing picture) old new s s' r → Meets took failures R (macroblocks fits width slice a standing picture) old new s s' r
 left-is a b fits width slice standing picture e m = rw e m
+
+-- the frames stand where they stood
+pub same-place : (s : Sequence) → KeepsPlace s s
+same-place s = record { across = refl; down = refl; pool = refl; place = refl; begun = refl }
+
+pub both-places : (a b c : Sequence) → KeepsPlace a b → KeepsPlace b c → KeepsPlace a c
+both-places a b c h k = record { across = k.across ∙ h.across; down = k.down ∙ h.down; pool = k.pool ∙ h.pool; place = k.place ∙ h.place; begun = k.begun ∙ h.begun }

@@ -7,33 +7,63 @@ use Rattle.h264_vectors.specs.declared.slice.SliceContext.{SliceContext}
 use Rattle.h264_mbsyntax.specs.declared.slice.Standing.{Standing}
 use Rattle.h264_mbsyntax.specs.declared.slice.Standing.TheVariants.{Next, Skipping}
 use Rattle.h264_mbsyntax.specs.Macroblock.{predicted_qp}
+use Rattle.h264_picture.specs.declared.sequence.Sequence.{Sequence}
 use Rattle.h264_picture.specs.declared.work.Work.{Work}
 
--- a frame of some macroblocks, of no more than the greatest MaxFS (A.3.1)
+-- a frame of some macroblocks, of no more than the greatest MaxFS, in rows and columns of no more than Sqrt(8 * MaxFS) (A.3.1)
 abbrev pub is_frame_size : FrameSize → Bool
-is_frame_size s = nat_lt 0 s.width && (nat_lt 0 s.height && nat_le (s.width * s.height) 36864)
-
--- It has room for pictures that are so many macroblocks wide and have so many macroblocks.
-pub record Serves (width size : ℕ) (work : Work) : Type 0 where
-  pub row : width_of work.near ≡ width
-  pub macroblocks : work.size ≡ size
+is_frame_size s = nat_lt 0 s.width && (nat_lt 0 s.height && (nat_le (s.width * s.height) 36864 && (nat_le s.width 543 && nat_le s.height 543)))
 
 -- the last of these macroblocks is of a slice that began before their end
 abbrev pub IsPast : List CodedMacroblock → Type 0
 IsPast picture = (m : CodedMacroblock) → slice_get picture (length picture - 1) ≡ Some m → m.slice < length picture
 
+-- ---- a sequence
+
+-- It has room for pictures that are so many macroblocks wide and have so many macroblocks.
+pub record ServesIn (width size : ℕ) (sequence : Sequence) : Type 0 where
+  pub row : width_of sequence.near ≡ width
+  pub columns : sequence.across ≡ width
+  pub macroblocks : sequence.size ≡ size
+
 -- It holds these macroblocks of a picture.
-pub record Holds (width size : ℕ) (picture : List CodedMacroblock) (work : Work) : Type 0 where
-  pub keeps : Keeps width picture work.near
-  pub macroblocks : work.size ≡ size
-  pub next : work.next ≡ length picture
+pub record HoldsIn (width size : ℕ) (picture : List CodedMacroblock) (sequence : Sequence) : Type 0 where
+  pub keeps : Keeps width picture sequence.near
+  pub columns : sequence.across ≡ width
+  pub macroblocks : sequence.size ≡ size
+  pub next : sequence.next ≡ length picture
   pub past : IsPast picture
 
 -- So it does between two macroblocks of a slice, and has QP_Y,PRED of the next one.
-pub record Reads (width size : ℕ) (slice : SliceContext) (picture : List CodedMacroblock) (work : Work) : Type 0 where
-  pub holds : Holds width size picture work
+pub record Reads (width size : ℕ) (slice : SliceContext) (picture : List CodedMacroblock) (sequence : Sequence) : Type 0 where
+  pub holds : HoldsIn width size picture sequence
   pub first : slice.number ≤ length picture
-  pub predicted : work.mb.qp ≡ predicted_qp slice picture
+  pub predicted : sequence.mb.qp ≡ predicted_qp slice picture
+
+-- pictures are as wide and high as they were, and the frames stand as they stood
+pub record KeepsPlace (old new : Sequence) : Type 0 where
+  pub across : new.across ≡ old.across
+  pub down : new.down ≡ old.down
+  pub pool : new.frames.pool ≡ old.frames.pool
+  pub place : new.frames.place ≡ old.frames.place
+  pub begun : new.frames.begun ≡ old.frames.begun
+
+-- ---- the work
+
+-- a sequence is active, of which this holds
+abbrev pub IsActive : (Sequence → Type 0) → Option Sequence → Type 0
+IsActive P None = ⊥
+IsActive P (Some sequence) = P sequence
+
+-- It has room for pictures that are so many macroblocks wide and have so many macroblocks.
+abbrev pub Serves : ℕ → ℕ → Work → Type 0
+Serves width size work = IsActive (ServesIn width size) work.active
+
+-- It holds these macroblocks of a picture.
+abbrev pub Holds : ℕ → ℕ → List CodedMacroblock → Work → Type 0
+Holds width size picture work = IsActive (HoldsIn width size picture) work.active
+
+-- ---- steps
 
 -- so many macroblocks are left for the rest of a run
 abbrev pub IsWithin : ℕ → Standing → Type 0

@@ -45,7 +45,7 @@ fn slice_qp(pps: &Pps, header: &Header) -> u8
 }
 
 /// What the level of a sequence allows, if it is one that is judged here.
-fn limits_of(sps: &Sps) -> Option<Limits>
+pub(crate) fn limits_of(sps: &Sps) -> Option<Limits>
     ensures here { result ≡ limits_of sps.now.level_idc sps.now.constraint_set_flags.set3 }
     ensures within { IfSome result (λ l. l.max_vector ≤ 512) }
 {

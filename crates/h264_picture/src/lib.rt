@@ -7,13 +7,21 @@
 //! No samples are made here.
 #![tactic(auto)]
 
+mod buffer;
 pub mod context;
+mod frames;
 mod levels;
+mod places;
 mod run;
+mod samples;
+mod sequence;
 mod step;
 #[cfg(test)]
 mod tests;
 pub mod work;
 
+pub use buffer::buffer_size;
 pub use context::slice_context;
+pub use frames::PLACES;
+pub use samples::{Deblocking, SliceFilter, SliceSamples, slice_samples};
 pub use work::Work;

@@ -1,11 +1,11 @@
 //! The next macroblock of a slice (7.3.4).
 #![tactic(auto)]
 
-ghost use Rattle.std.specs.Prelude.{◌≡◌, ◌==◌, ◌||◌};
+ghost use Rattle.std.specs.Prelude.{◌≡◌, ◌+◌, ◌*◌, ◌<◌, ◌≤◌, ◌==◌, ◌||◌};
 ghost use Rattle.h264_vectors.specs.Derived.{has_picture as has_picture_of};
 
 use crate::levels::transform_fits;
-use crate::work::Work;
+use crate::sequence::Sequence;
 use h264_base::{ElementName, Elements, Rule, SliceType, Stop};
 use h264_bits::{Bits, check, look, read_ue};
 use h264_mbsyntax::{Standing, read_macroblock, skip_macroblock};
@@ -22,7 +22,21 @@ fn has_reference(slice: &SliceContext, run: u32) -> bool
     has_picture(slice, 0)
 }
 
-impl Work {
+/// The column and the row of the macroblock behind one, where so many stand in a row.
+#[inline]
+fn place_behind(across: usize, column: usize, row: usize) -> (usize, usize)
+    requires column { column < across }
+    requires small { (across ≤ 1024) × (row ≤ 1024) }
+    ensures column { result.0 < across }
+    ensures next { result.1 * across + result.0 ≡ row * across + column + 1 }
+{
+    if column + 1 < across {
+        return (column + 1, row);
+    }
+    (0, row + 1)
+}
+
+impl Sequence {
     ghost use Rattle.std.specs.Prelude.{◌≡◌, ℕ, ◌+◌, ◌-◌, ◌<◌, ◌≤◌, ◌^◌, List, [], ◌∷◌, ◌++◌, length, OnOk, IfOk};
     ghost use Rattle.h264_base.specs.Meets.{Meets};
     ghost use Rattle.h264_base.specs.declared.mode.SliceType.TheVariants as slice_type;
@@ -33,19 +47,23 @@ impl Work {
     ghost use Rattle.h264_mbsyntax.specs.Holds.{Holds as HoldsMacroblock};
     ghost use Rattle.h264_mbsyntax.specs.Slice as syntax;
     ghost use Rattle.h264_picture.specs.Levels.{transform_fits};
-    ghost use Rattle.h264_picture.specs.Holds.{Holds, Reads, IsWithin, Moves};
+    ghost use Rattle.h264_picture.specs.Holds.{HoldsIn, Reads, IsWithin, Moves, KeepsPlace};
 
     /// The macroblock in its place becomes the last one of the picture.
     #[inline]
     fn keep(&mut self)
         requires { self.old.next < self.old.size }
-        ensures reads { (width size : ℕ) (slice : Context) (picture : List CodedMacroblock) (coded : CodedMacroblock) → Holds width size picture self.old → slice.number ≤ length picture → HoldsMacroblock self.old.mb coded → coded.slice ≡ slice.number → Reads width size slice (picture ++ coded ∷ []) self.new }
+        ensures reads { (width size : ℕ) (slice : Context) (picture : List CodedMacroblock) (coded : CodedMacroblock) → HoldsIn width size picture self.old → slice.number ≤ length picture → HoldsMacroblock self.old.mb coded → coded.slice ≡ slice.number → Reads width size slice (picture ++ coded ∷ []) self.new }
         ensures next { self.new.next ≡ self.old.next + 1 }
         ensures size { self.new.size ≡ self.old.size }
+        ensures same { KeepsPlace self.old self.new }
         ensures mb { self.new.mb ≡ self.old.mb }
     {
         self.near.push(&self.mb.contexts);
         self.next += 1;
+        let (column, row) = place_behind(self.across, self.column, self.row);
+        self.column = column;
+        self.row = row;
     }
 
     /// Reads a macroblock that is not skipped.
@@ -65,6 +83,7 @@ impl Work {
         ensures within { OnOk result (self.new.mb.qp ≤ 51) }
         ensures moves { IfOk result (Moves left self.old.next self.new.next) }
         ensures size { self.new.size ≡ self.old.size }
+        ensures same { KeepsPlace self.old self.new }
     {
         let ahead = look(bits, sink);
         check(0 < left, Rule::MbPast, ahead.bit)?;
@@ -94,6 +113,7 @@ impl Work {
         ensures within { OnOk result (self.new.mb.qp ≤ 51) }
         ensures moves { IfOk result (Moves left self.old.next self.new.next) }
         ensures size { self.new.size ≡ self.old.size }
+        ensures same { KeepsPlace self.old self.new }
     {
         let vector = skip_vector(&self.near, slice.number);
         let fits = vector_fits(slice.vector_limit, vector);
@@ -120,6 +140,7 @@ impl Work {
         ensures within { OnOk result (self.new.mb.qp ≤ 51) }
         ensures moves { IfOk result (Moves left self.old.next self.new.next) }
         ensures size { self.new.size ≡ self.old.size }
+        ensures same { KeepsPlace self.old self.new }
     {
         let run = read_ue(bits, ElementName::MbSkipRun, sink)?;
         check(run.value <= left, Rule::Range, run.bit)?;
@@ -147,6 +168,7 @@ impl Work {
         ensures within { OnOk result (self.new.mb.qp ≤ 51) }
         ensures moves { IfOk result (Moves left self.old.next self.new.next) }
         ensures size { self.new.size ≡ self.old.size }
+        ensures same { KeepsPlace self.old self.new }
     {
         match slice.slice_type {
             SliceType::I => self.read_unskipped(bits, slice, left, sink),
@@ -171,6 +193,7 @@ impl Work {
         ensures within { OnOk result (self.new.mb.qp ≤ 51) }
         ensures moves { IfOk result (Moves left self.old.next self.new.next) }
         ensures size { self.new.size ≡ self.old.size }
+        ensures same { KeepsPlace self.old self.new }
     {
         let ahead = look(bits, sink);
         if !ahead.follows {
@@ -197,6 +220,7 @@ impl Work {
         ensures within { OnOk result (self.new.mb.qp ≤ 51) }
         ensures moves { IfOk result (Moves left self.old.next self.new.next) }
         ensures size { self.new.size ≡ self.old.size }
+        ensures same { KeepsPlace self.old self.new }
     {
         let ahead = look(bits, sink);
         if !ahead.follows {
@@ -224,6 +248,7 @@ impl Work {
         ensures within { OnOk result (self.new.mb.qp ≤ 51) }
         ensures moves { IfOk result (Moves left self.old.next self.new.next) }
         ensures size { self.new.size ≡ self.old.size }
+        ensures same { KeepsPlace self.old self.new }
     {
         match standing {
             Standing::Next => self.read_at_next(bits, slice, left, sink),

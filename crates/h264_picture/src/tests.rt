@@ -5,7 +5,7 @@ ghost use Rattle.h264_vectors.specs.Agrees.{Usable};
 ghost use Rattle.std.specs.Prelude.{◌≡◌, ◌≤◌, true};
 ghost use Rattle.h264_picture.specs.Holds.{is_frame_size};
 
-use crate::{Work, slice_context};
+use crate::{Deblocking, SliceFilter, SliceSamples, Work, slice_context};
 use arrayvec::ArrayVec;
 use h264_base::{ElementName, Elements, Failed, Rule, SliceType, Stop};
 use h264_bits::{Bits, Found};
@@ -110,7 +110,24 @@ fn read(alloc: Global, work: &mut Work, slice: &SliceContext, text: &str) -> Res
         return Err(Stop::Memory);
     };
     let rbsp = rbsp(alloc, &bytes)?;
-    work.slice(&mut Bits::new(&rbsp), slice, &mut Heard { count: 0 })
+    let samples = SliceSamples {
+        places: [0; 16],
+        filter: SliceFilter {
+            deblocking: Deblocking::AllEdges,
+            filter_offset_a: 0,
+            filter_offset_b: 0,
+            chroma_qp_index_offset: 0,
+        },
+    };
+    let mut heard = Heard { count: 0 };
+    work.slice(&mut Bits::new(&rbsp), slice, &samples, &mut heard)
+}
+
+/// Begins a picture at the first place.
+fn begin(work: &mut Work) {
+    if 0 < work.places() {
+        work.begin(work.first_place());
+    }
 }
 
 /// A sequence of pictures so many macroblocks wide, and of one row.
@@ -148,22 +165,29 @@ const GREY: &str = "00100 1 1 1";
 fn pictures(rt: HostRuntime) -> Result<(), Fail> {
     let alloc = rt.alloc();
     let i = slice(0, SliceType::I);
-    let mut work = Work::new(alloc)?;
-    assert_eq!(rt; work.next_mb(), 0);
+    let mut work = Work::new(alloc);
+    assert_eq!(rt; (work.next_mb(), work.places()), (0, 0));
+    work.activate(&sps(1, 10, false))?;
+    assert_eq!(rt; (work.first_place(), work.places()), (17, 17));
+    begin(&mut work);
     read(alloc, &mut work, &i, GREY)?;
     assert!(rt; work.is_whole());
-    work.begin();
+    begin(&mut work);
     assert_eq!(rt; read(alloc, &mut work, &i, ""), no(32, Rule::SliceEmpty));
-    work.begin();
+    begin(&mut work);
     let two = "00100 1 1 1 00100 1 1 1";
     assert_eq!(rt; read(alloc, &mut work, &i, two), no(40, Rule::MbPast));
-    work.begin();
+    begin(&mut work);
     assert_eq!(rt;
         read(alloc, &mut work, &i, FAR_LEVEL),
         no(32, Rule::TransformRange)
     );
     // Two macroblocks in a row, by two slices: the second one moves by (64, 0).
+    work.end();
     work.activate(&sps(2, 10, false))?;
+    assert_eq!(rt; (work.first_place(), work.places()), (0, 17));
+    work.release();
+    begin(&mut work);
     read(alloc, &mut work, &i, GREY)?;
     assert_eq!(rt; (work.next_mb(), work.is_whole()), (1, false));
     read(
@@ -174,7 +198,7 @@ fn pictures(rt: HostRuntime) -> Result<(), Fail> {
     )?;
     assert!(rt; work.is_whole());
     // A skipped macroblock behind one that moves.
-    work.begin();
+    begin(&mut work);
     let p = slice(0, SliceType::P);
     read(alloc, &mut work, &p, "1 1 000000010000000 1 1 010")?;
     assert!(rt; work.is_whole());

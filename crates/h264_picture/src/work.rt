@@ -1,121 +1,178 @@
-//! What is kept of a picture while it is decoded.
+//! The place in which pictures are decoded.
 #![tactic(auto)]
 
-ghost use Rattle.std.specs.Prelude.{◌≤◌};
+ghost use Rattle.std.specs.Prelude.{◌≡◌, ◌%◌, ◌≤◌};
+ghost use Rattle.std.specs.Option.{option_map};
+ghost use Rattle.h264_picture.specs.declared.sequence.Sequence.{Sequence as SequenceModel};
 
-use h264_base::{Elements, Rule, Stop};
-use h264_bits::{Bits, check, look};
-use h264_mbsyntax::Macroblock;
-use h264_near::Near;
-use h264_sps::sps::{FrameSize, Sps};
+use crate::frames::{Frames, PLACES};
+use crate::samples::SliceSamples;
+use crate::sequence::Sequence;
+use h264_base::{Elements, Stop};
+use h264_bits::Bits;
+use h264_dpb::FrameStore;
+use h264_plane::Frame;
+use h264_sps::sps::Sps;
 use h264_vectors::SliceContext;
 use std::alloc::Global;
+use std::mem;
 
 /// The place in which pictures are decoded, one after another.
+///
+/// The frames of a sequence have the places from 0 on or from 17 on, by turns, so that a place names the same frame until the frames of its
+/// sequence are released.
 #[derive(Drop)]
 pub struct Work {
     alloc: Global,
-    /// The contexts of the macroblocks above and to the left of the next one.
-    pub(crate) near: Near,
-    /// How many macroblocks a picture has.
-    pub(crate) size: u32,
-    /// The address of the next macroblock of the picture.
-    pub(crate) next: u32,
-    /// The last macroblock, and the place of the next.
-    pub(crate) mb: Macroblock,
+    /// The first place of the active sequence: 0 or 17.
+    pub(crate) base: usize,
+    pub(crate) active: Option<Sequence>,
+    /// The frames of the sequence before it, until they are released.
+    pub(crate) older: Option<Frames>,
 
-    ghost within: { next ≤ size },
+    ghost within: { (base ≤ 17) × (base % 17 ≡ 0) },
+}
+
+/// The frames of a sequence.
+fn frames_of(active: Option<Sequence>) -> Option<Frames>
+    ensures { result ≡ option_map (λ (s : SequenceModel). s.frames) active }
+{
+    match active {
+        None => None,
+        Some(sequence) => Some(sequence.frames),
+    }
 }
 
 impl Work {
-    ghost use Rattle.std.specs.Prelude.{◌≡◌, ℕ, ◌-◌, ◌*◌, ◌==◌, ◌<◌, ◌≤◌, ◌^◌, List, [], length, true, OnOk, IfOk, IfErr, IsErrOf};
+    ghost use Rattle.std.specs.Prelude.{◌≢◌, ℕ, ◌+◌, ◌-◌, ◌*◌, ◌==◌, ◌<◌, ◌^◌, List, [], length, true, None, Some, OnOk, IfOk, IfErr, IsErrOf};
     ghost use Rattle.h264_base.specs.Meets.{Meets, Answers};
     ghost use Rattle.h264_near.specs.Coded.{CodedMacroblock};
     ghost use Rattle.h264_vectors.specs.Agrees.{Usable};
     ghost use Rattle.h264_mbsyntax.specs.Slice.{slice_data};
+    ghost use Rattle.h264_picture.specs.Buffer.{buffer_size};
     ghost use Rattle.h264_picture.specs.Levels.{transform_fits};
     ghost use Rattle.h264_picture.specs.Holds.{is_frame_size, Serves, Holds};
+    ghost use Rattle.h264_picture.specs.Places.{first_place, is_active_place, places as places_of, lent, IsReleased, HasBegun, HasSize, KeepsOthers, KeepsFrames, IsFrameOf};
 
-    /// A place for pictures of one macroblock. Memory: it was refused.
-    pub fn new(alloc: Global) -> Result<Work, Stop>
-        ensures serves { IfOk result (Serves 1 1) }
-        ensures holds { IfOk result (Holds 1 1 []) }
-        ensures err { IfErr result (λ e. e ≡ Stop.Memory) }
+    /// A place for no pictures yet, which takes no memory.
+    pub fn new(alloc: Global) -> Work
+        ensures none { (p : ℕ) → lent result p ≡ None }
+        ensures released { IsReleased result }
     {
-        let Ok(near) = Near::new(alloc, 1) else {
-            return Err(Stop::Memory);
-        };
-        Ok(Work {
+        Work {
             alloc,
-            near,
-            size: 1,
-            next: 0,
-            mb: Macroblock::none(),
-        })
+            base: 0,
+            active: None,
+            older: None,
+        }
     }
 
-    /// Takes all memory that the pictures of a sequence need, and holds no macroblock. Memory: it was refused, and all is as
-    /// before.
+    /// Takes all memory of the pictures of a sequence: contexts, lines, and a frame more than its picture buffer holds. The frames that there were
+    /// keep their places until they are released; those that were not released before go. Memory: it was refused, and all is as before.
     pub fn activate(&mut self, sps: &Sps) -> Result<(), Stop>
         requires { is_frame_size sps.now.frame_size ≡ true }
         ensures serves { OnOk result (Serves sps.now.frame_size.width (sps.now.frame_size.width * sps.now.frame_size.height) self.new) }
-        ensures holds { OnOk result (Holds sps.now.frame_size.width (sps.now.frame_size.width * sps.now.frame_size.height) [] self.new) }
+        ensures places { OnOk result (places_of self.new ≡ buffer_size sps.now + 1) }
+        ensures size { OnOk result (HasSize sps.now.frame_size.width sps.now.frame_size.height self.new) }
+        ensures kept { OnOk result (IsReleased self.old → KeepsFrames self.old self.new) }
         ensures err { IfErr result (λ e. (e ≡ Stop.Memory) × (self.new ≡ self.old)) }
     {
-        let width = sps.frame_size.width as usize;
-        if self.near.width() == width {
-            self.near.clear();
-        } else {
-            let Ok(near) = Near::new(self.alloc, width) else {
-                return Err(Stop::Memory);
-            };
-            self.near = near;
-        }
-        self.next = 0;
-        self.size = sps.frame_size.width * sps.frame_size.height;
+        let Ok(sequence) = Sequence::new(self.alloc, sps) else {
+            return Err(Stop::Memory);
+        };
+        self.older = frames_of(mem::replace(&mut self.active, Some(sequence)));
+        self.base = PLACES - self.base;
         Ok(())
     }
 
-    /// Begins a picture: holds no macroblock.
-    pub fn begin(&mut self)
-        ensures { (width size : ℕ) → Serves width size self.old → Holds width size [] self.new }
+    /// Lets go of the frames of the sequence before the active one.
+    pub fn release(&mut self)
+        ensures released { IsReleased self.new }
+        ensures kept { (p : ℕ) → is_active_place (first_place self.old) p ≡ true → lent self.new p ≡ lent self.old p }
+        ensures first { first_place self.new ≡ first_place self.old }
+        ensures places { places_of self.new ≡ places_of self.old }
+        ensures size { (width height : ℕ) → HasSize width height self.old → HasSize width height self.new }
+        ensures begun { (place : ℕ) → HasBegun place self.old → HasBegun place self.new }
+        ensures serves { (width size : ℕ) → Serves width size self.old → Serves width size self.new }
+        ensures holds { (width size : ℕ) (picture : List CodedMacroblock) → Holds width size picture self.old → Holds width size picture self.new }
     {
-        self.near.clear();
-        self.next = 0;
+        self.older = None;
+    }
+
+    /// The first place of the active sequence.
+    pub fn first_place(&self) -> usize
+        ensures value { result ≡ first_place self.now }
+        ensures bound { result ≤ 17 }
+    {
+        self.base
+    }
+
+    /// How many places it has; none before the first.
+    pub fn places(&self) -> usize
+        ensures value { result ≡ places_of self.now }
+        ensures bound { result ≤ 17 }
+    {
+        match &self.active {
+            None => 0,
+            Some(sequence) => sequence.frames.len(),
+        }
+    }
+
+    /// Begins a picture in the frame at this place: holds no macroblock.
+    pub fn begin(&mut self, place: usize)
+        requires from { first_place self.old ≤ place }
+        requires to { place < first_place self.old + places_of self.old }
+        ensures holds { (width size : ℕ) → Serves width size self.old → Holds width size [] self.new }
+        ensures begun { HasBegun place self.new }
+        ensures none { lent self.new place ≡ None }
+        ensures kept { KeepsOthers place self.old self.new }
+        ensures first { first_place self.new ≡ first_place self.old }
+        ensures places { places_of self.new ≡ places_of self.old }
+        ensures size { (width height : ℕ) → HasSize width height self.old → HasSize width height self.new }
+        ensures released { IsReleased self.old → IsReleased self.new }
+    {
+        let k = place - self.base;
+        match &mut self.active {
+            None => {}
+            Some(sequence) => sequence.begin(self.alloc, k),
+        }
+    }
+
+    /// Ends the picture: its frame is lent again.
+    pub fn end(&mut self)
+        ensures kept { KeepsFrames self.old self.new }
+        ensures ended { (width height place : ℕ) → HasSize width height self.old → HasBegun place self.old → IsFrameOf width height (lent self.new place) }
+        ensures holds { (width size : ℕ) (picture : List CodedMacroblock) → Holds width size picture self.old → Serves width size self.new }
+        ensures serves { (width size : ℕ) → Serves width size self.old → Serves width size self.new }
+        ensures first { first_place self.new ≡ first_place self.old }
+        ensures places { places_of self.new ≡ places_of self.old }
+        ensures size { (width height : ℕ) → HasSize width height self.old → HasSize width height self.new }
+        ensures released { IsReleased self.old → IsReleased self.new }
+    {
+        match &mut self.active {
+            None => {}
+            Some(sequence) => sequence.end(),
+        }
     }
 
     /// The address of the next macroblock of the picture, which is how many it holds.
     pub fn next_mb(&self) -> u32
         ensures { (width size : ℕ) (picture : List CodedMacroblock) → Holds width size picture self.now → result ≡ length picture }
     {
-        self.next
+        match &self.active {
+            None => 0,
+            Some(sequence) => sequence.next,
+        }
     }
 
     /// Whether it holds all macroblocks of the picture.
     pub fn is_whole(&self) -> bool
         ensures { (width size : ℕ) (picture : List CodedMacroblock) → Holds width size picture self.now → result ≡ (length picture == size) }
     {
-        self.next == self.size
-    }
-
-    /// What stands behind the header of a slice.
-    fn read_slice_data<S: Elements>(
-        &mut self,
-        bits: &mut Bits,
-        slice: &SliceContext,
-        sink: &mut S,
-    ) -> Result<(), Stop>
-        requires usable { Usable slice.now }
-        requires qp { slice.now.qp ≤ 51 }
-        requires room { S.failures sink.old < 2 ^ 64 - 1 }
-        ensures meets { (width size : ℕ) (picture : List CodedMacroblock) → Holds width size picture self.old → slice.now.number ≡ length picture → Meets S.took S.failures (λ _ after. Holds width size after self.new) (slice_data (transform_fits slice.now) width size slice.now picture) bits.old bits.new sink.old sink.new result }
-        ensures quiet { OnOk result (S.failures sink.new ≡ S.failures sink.old) }
-    {
-        let ahead = look(bits, sink);
-        check(ahead.follows, Rule::SliceEmpty, ahead.bit)?;
-        self.mb.qp = slice.qp;
-        let left = self.size - self.next;
-        self.read_macroblocks(bits, slice, left, sink)
+        match &self.active {
+            None => false,
+            Some(sequence) => sequence.next == sequence.size,
+        }
     }
 
     /// Reads the slice data of a slice from this bit on, behind the macroblocks that it holds (7.3.4).
@@ -127,6 +184,7 @@ impl Work {
         &mut self,
         bits: &mut Bits,
         slice: &SliceContext,
+        samples: &SliceSamples,
         sink: &mut S,
     ) -> Result<(), Stop>
         requires usable { Usable slice.now }
@@ -136,7 +194,38 @@ impl Work {
         ensures meets { (width size : ℕ) (picture : List CodedMacroblock) → Holds width size picture self.old → slice.now.number ≡ length picture → Meets S.took S.failures (λ _ after. Holds width size after self.new) (slice_data (transform_fits slice.now) width size slice.now picture) bits.old bits.new sink.old sink.new result }
         ensures no_memory { (width size : ℕ) (picture : List CodedMacroblock) → Holds width size picture self.old → slice.now.number ≡ length picture → IsErrOf result Stop.Memory → ⊥ }
         ensures quiet { OnOk result (S.failures sink.new ≡ S.failures sink.old) }
+        ensures kept { (place : ℕ) → HasBegun place self.old → KeepsFrames self.old self.new }
+        ensures begun { (place : ℕ) → HasBegun place self.old → HasBegun place self.new }
+        ensures first { first_place self.new ≡ first_place self.old }
+        ensures places { places_of self.new ≡ places_of self.old }
+        ensures size { (width height : ℕ) → HasSize width height self.old → HasSize width height self.new }
+        ensures released { IsReleased self.old → IsReleased self.new }
     {
-        self.read_slice_data(bits, slice, sink)
+        let base = self.base;
+        match &mut self.active {
+            None => Err(Stop::Memory),
+            Some(sequence) => sequence.slice(bits, slice, samples, base, sink),
+        }
+    }
+}
+
+impl FrameStore for Work {
+    ghost use Rattle.h264_picture.specs.Places.{lent as lent_by_work};
+
+    ghost lent = { lent_by_work };
+
+    fn frame(&self, place: usize) -> &Frame {
+        match &self.active {
+            None => {}
+            Some(sequence) => {
+                if self.base <= place && place - self.base < sequence.frames.len() {
+                    return sequence.frames.frame(place - self.base);
+                }
+            }
+        }
+        match &self.older {
+            None => unreachable!(),
+            Some(frames) => frames.frame(place - (PLACES - self.base)),
+        }
     }
 }

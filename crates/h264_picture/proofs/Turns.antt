@@ -1,0 +1,36 @@
+-- The frames of two sequences take turns at the places.
+use Rattle.std.proofs.Common.{◌≡◌, ◌≢◌, ℕ, ◌+◌, ◌-◌, ◌%◌, ◌<◌, ◌≤◌, Bool, true, false, ◌&&◌, Option, Some, None, length, refl, ap, sym, ◌∙◌, arith, if◌then◌else◌, ◌⊎◌, inl, inr}
+use Rattle.std.specs.Prelude.{nat_le, nat_lt}
+use Rattle.std.specs.Option.{option_map}
+use Rattle.std.proofs.lemmas.Bool.Decides.{nat_tests}
+use Rattle.h264_plane.specs.declared.frame.Frame.{Frame}
+use Rattle.h264_picture.specs.declared.frames.Frames.{Frames}
+use Rattle.h264_picture.specs.Lent.{lent_in}
+use Rattle.h264_picture.specs.Places.{is_active_place}
+
+-- the frame that is lent, of the frames of two sequences
+abbrev pub lent_of : ℕ → Option Frames → Option Frames → ℕ → Option Frame
+lent_of base active older p = if is_active_place base p then lent_in active (p - base) else lent_in older (p - (17 - base))
+
+turns : (base : ℕ) → base ≤ 17 → base % 17 ≡ 0 → (base ≡ 0) ⊎ (base ≡ 17)
+turns base low turn = by (nat_lt base 17) refl
+  where
+    by : (t : Bool) → nat_lt base 17 ≡ t → (base ≡ 0) ⊎ (base ≡ 17)
+    by true e = let l : base < 17 = grind (arith, nat_tests) in inl (omega arith)
+    by false e = let l : 17 ≤ base = grind (arith, nat_tests) in inr (omega arith)
+
+-- no place is one of both
+apart : (base p : ℕ) → (base ≡ 0) ⊎ (base ≡ 17) → is_active_place base p ≡ true → is_active_place (17 - base) p ≡ false
+apart base p (inl z) e = let l : p < 17 = grind (arith, nat_tests) in grind (arith, nat_tests)
+apart base p (inr z) e = let l : 17 ≤ p = grind (arith, nat_tests) in grind (arith, nat_tests)
+
+-- the frames of the active sequence become the older ones
+pub turned : (base : ℕ) (active new : Option Frames) (p : ℕ) → base ≤ 17 → base % 17 ≡ 0 → lent_of base active None p ≢ None → lent_of (17 - base) new active p ≡ lent_of base active None p
+turned base active new p low turn some = by (is_active_place base p) refl
+  where
+    by : (t : Bool) → is_active_place base p ≡ t → lent_of (17 - base) new active p ≡ lent_of base active None p
+    by true e =
+        let o : is_active_place (17 - base) p ≡ false = apart base p (turns base low turn) e in
+        let b : 17 - (17 - base) ≡ base = omega arith in
+        ap (λ t. if t then lent_in new (p - (17 - base)) else lent_in active (p - (17 - (17 - base)))) o ∙ ap (λ n. lent_in active (p - n)) b ∙ sym (ap (λ t. if t then lent_in active (p - base) else None) e)
+    by false e = absurd (some (ap (λ t. if t then lent_in active (p - base) else None) e))

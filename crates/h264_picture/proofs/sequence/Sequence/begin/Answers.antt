@@ -1,0 +1,6 @@
+use Rattle.std.proofs.Common.{◌∙◌}
+use Rattle.h264_picture.proofs.Sound.{begun}
+use Rattle.h264_picture.proofs.sequence.Sequence.begin.Goals as goal
+
+pub invariant_of-self-clause-sound : goal.invariant_of-self-clause-sound
+invariant_of-self-clause-sound c = let p = c.begin.ensures.place in begun _ _ _ _ _ _ _ c.args.self.now.frames c.begin.new.self _ c.another_than-self.result (c.begin.ensures.size _ _ c.args.self.now.sound.frames) c.begin.ensures.count c.another_than-self.ensures.low (λ e. c.another_than-self.ensures.other (e ∙ p)) c.args.self.now.sound

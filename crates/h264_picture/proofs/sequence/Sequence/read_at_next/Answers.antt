@@ -1,0 +1,12 @@
+use Rattle.h264_base.proofs.Steps.{bind, done}
+use Rattle.h264_mbsyntax.specs.Slice.{next}
+use Rattle.h264_mbsyntax.proofs.Quantiser.{is-true, is-false}
+use Rattle.h264_picture.proofs.sequence.Sequence.read_at_next.Goals as goal
+
+pub returns-then-not-ahead-clause-meets : goal.returns-then-not-ahead-clause-meets
+unfolding next
+returns-then-not-ahead-clause-meets g c width size picture k = bind _ c.look-ahead.ensures (rw (is-false _ c.if-not-ahead.true) (done _ _ _ _ _ _ _ k))
+
+pub returns-clause-meets : goal.returns-clause-meets
+unfolding next
+returns-clause-meets g c width size picture k = bind _ c.look-ahead.ensures (rw (is-true _ c.if-not-ahead.false) (c.read_by_slice_type.ensures.meets width size picture k))

@@ -1,6 +1,0 @@
-use Rattle.std.proofs.Common.{refl}
-use Rattle.h264_picture.proofs.Steps.{kept-on}
-use Rattle.h264_picture.proofs.work.Work.keep.Goals as goal
-
-pub returns-clause-reads : goal.returns-clause-reads
-returns-clause-reads c width size slice picture coded h f m e = kept-on width size slice picture coded c.args.self.now _ h f (c.push.ensures width picture coded h.keeps m.contexts) m.qp e refl refl

@@ -1,0 +1,44 @@
+//! The places of reference pictures among the frames of a sequence.
+#![tactic(auto)]
+
+ghost use Rattle.std.specs.Prelude.{◌≡◌, ◌≢◌, ℕ, ◌-◌, ◌<◌, ◌≤◌, get_or, length};
+ghost use Rattle.h264_picture.specs.Sound.{IsPlace, ArePlaces};
+
+use crate::frames::Frames;
+
+/// A place that is not this one.
+pub(crate) fn another_than(place: usize) -> u8
+    ensures other { result ≢ place }
+    ensures low { result < 2 }
+{
+    if place == 0 {
+        return 1;
+    }
+    0
+}
+
+/// The place of a frame that can be read, by its number from `base` on; of one that can't, any that can.
+fn place_within(frames: &Frames, place: u8, base: usize) -> u8
+    requires { 1 < length frames.now.pool }
+    ensures stands { IsPlace frames.now result }
+    ensures value { base ≤ place → IsPlace frames.now (place - base) → result ≡ place - base }
+{
+    let place = place as usize;
+    if base <= place && place - base < frames.pool.len() && place - base != frames.place {
+        return (place - base) as u8;
+    }
+    another_than(frames.place)
+}
+
+/// Those of sixteen frames.
+pub(crate) fn places_within(frames: &Frames, places: &[u8; 16], base: usize) -> [u8; 16]
+    requires { 1 < length frames.now.pool }
+    ensures stand { ArePlaces frames.now result }
+    ensures values { (n : ℕ) → n < 16 → base ≤ get_or places.now n 0 → IsPlace frames.now (get_or places.now n 0 - base) → get_or result n 0 ≡ get_or places.now n 0 - base }
+{
+    let mut own = [0; 16];
+    for n in 0..16 {
+        own[n] = place_within(frames, places[n], base);
+    }
+    own
+}
