@@ -1,4 +1,3 @@
 pub mod Tables
-pub mod FromRead
 pub mod Steps
 pub mod Limits

@@ -1,5 +1,5 @@
 -- The levels of a macroblock that was read are those of the coded macroblock.
-use Rattle.std.proofs.Common.{◌≡◌, ℕ, ◌+◌, ◌*◌, ◌≤◌, ◌&&◌, List, [], get_or, take, drop, replicate, ℤ, pos, refl, ap, sym, ◌∙◌, arith}
+use Rattle.std.proofs.Common.{◌≡◌, ℕ, ◌+◌, ◌*◌, ◌≤◌, ◌&&◌, Bool, List, [], get_or, take, drop, replicate, ℤ, pos, refl, ap, sym, ◌∙◌, arith}
 use Rattle.h264_tables.specs.ChromaQp.{chroma_qp_of}
 use Rattle.h264_near.specs.Coded as coded
 use Rattle.h264_near.specs.Coded.{CodedMacroblock}
@@ -10,9 +10,13 @@ use Rattle.h264_scale.specs.declared.levels.LumaLevels.TheVariants as luma
 use Rattle.h264_scale.specs.declared.levels.ChromaLevels.{ChromaLevels}
 use Rattle.h264_scale.specs.declared.levels.ChromaLevels.TheVariants as chroma
 use Rattle.h264_scale.specs.declared.levels.Levels.{Levels}
-use Rattle.h264_picture.specs.Table.{table}
-use Rattle.h264_picture.specs.Levels.{blocks_from, luma_blocks, luma_levels, chroma_blocks, chroma_levels, levels_of}
-use Rattle.h264_picture.proofs.Tables.{table-ext, element}
+use Rattle.h264_recon.specs.Constructed.{Coded}
+use Rattle.h264_recon.specs.Given.{available, prediction_of, given}
+use Rattle.h264_recon.specs.Table.{table}
+use Rattle.h264_recon.specs.declared.macroblock.Available.{Available}
+use Rattle.h264_recon.specs.declared.macroblock.Prediction.{Prediction}
+use Rattle.h264_recon.specs.Levels.{blocks_from, luma_blocks, luma_levels, chroma_blocks, chroma_levels, levels_of}
+use Rattle.h264_recon.proofs.Tables.{table-ext, element}
 
 pub blocks : (size b n most : ℕ) (totals : List ℕ) (stands ls : List (List ℤ)) → b + n ≤ most → holds.Levels size most totals stands ls →
     table n (λ k. shown size (get_or totals (b + k) 0) (get_or stands (b + k) (replicate size (pos 0)))) ≡ blocks_from b n ls
@@ -77,3 +81,13 @@ levels-are offset m l cb cr qp qc a b d q e =
     let cb' = chroma_levels 0 m.prediction m.chroma_totals m.residual in
     let cr' = chroma_levels 1 m.prediction m.chroma_totals m.residual in
     ap (λ z. bundle z cb cr qp qc) a ∙ ap (λ z. bundle l' z cr qp qc) b ∙ ap (λ z. bundle l' cb' z qp qc) d ∙ ap (λ z. bundle l' cb' cr' z qc) (sym q) ∙ ap (λ z. bundle l' cb' cr' m.qp z) f
+
+-- ---- the whole macroblock
+
+abbrev assembled : Available → Prediction → Levels → Coded
+assembled a p l = record { available = a; prediction = p; levels = l }
+
+pub given-is : (w : ℕ) (xs : List CodedMacroblock) (place : ℕ → ℕ) (constrained : Bool) (offset : ℤ) (m : CodedMacroblock) (a : Available) (p : Prediction) → a ≡ available w xs m.slice constrained → p ≡ prediction_of place m.prediction →
+    assembled a p (levels_of offset m) ≡ given w xs place constrained offset m
+unfolding given
+given-is w xs place constrained offset m a p e f = ap (λ z. assembled z p (levels_of offset m)) e ∙ ap (λ z. assembled (available w xs m.slice constrained) z (levels_of offset m)) f

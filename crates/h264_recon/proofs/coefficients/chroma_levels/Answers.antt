@@ -1,8 +1,8 @@
 use Rattle.std.proofs.Common.{◌*◌, ◌∙◌, sym, subst, arith, []}
 use Rattle.h264_mbsyntax.specs.Holds.{IsPrediction, HasChroma}
-use Rattle.h264_picture.proofs.Tables.{element}
-use Rattle.h264_picture.proofs.FromRead.{blocks, chroma-4x4, chroma-16x16, chroma-inter, chroma-pcm}
-use Rattle.h264_picture.proofs.levels.chroma_levels.Goals as goal
+use Rattle.h264_recon.proofs.Tables.{element}
+use Rattle.h264_recon.proofs.FromRead.{blocks, chroma-4x4, chroma-16x16, chroma-inter, chroma-pcm}
+use Rattle.h264_recon.proofs.coefficients.chroma_levels.Goals as goal
 
 pub returns-in-Pcm : goal.returns-in-Pcm
 returns-in-Pcm c m h = let p = subst (λ z. IsPrediction z c.args.mb.now m.prediction) c.in-Pcm.is h.prediction in chroma-pcm c.args.c m.prediction m.residual _ _ p

@@ -1,8 +1,8 @@
 use Rattle.std.proofs.lemmas.Int.{ints}
 use Rattle.std.proofs.Common.{rules, SFits, w32, to_z, of_z, ◌≡◌, ◌∙◌, ap, arith}
 use Rattle.h264_tables.specs.ChromaQp.{chroma_qp_of}
-use Rattle.h264_picture.proofs.FromRead.{levels-are}
-use Rattle.h264_picture.proofs.levels.levels.Goals as goal
+use Rattle.h264_recon.proofs.FromRead.{levels-are}
+use Rattle.h264_recon.proofs.coefficients.levels.Goals as goal
 
 pub returns-clause-here : goal.returns-clause-here
 returns-clause-here c m h =

@@ -1,7 +1,7 @@
 use Rattle.std.proofs.Common.{◌∙◌, sym, subst}
 use Rattle.h264_mbsyntax.specs.Holds.{IsPrediction, HasLuma}
-use Rattle.h264_picture.proofs.FromRead.{all-blocks, luma-4x4, luma-16x16, luma-inter, luma-pcm}
-use Rattle.h264_picture.proofs.levels.luma_levels.Goals as goal
+use Rattle.h264_recon.proofs.FromRead.{all-blocks, luma-4x4, luma-16x16, luma-inter, luma-pcm}
+use Rattle.h264_recon.proofs.coefficients.luma_levels.Goals as goal
 
 pub returns-in-Intra16x16 : goal.returns-in-Intra16x16
 returns-in-Intra16x16 c m h = let p = subst (λ z. IsPrediction z c.args.mb.now m.prediction) c.in-Intra16x16.is h.prediction in let l = subst (λ z. HasLuma z c.args.mb.now m) c.in-Intra16x16.is h.luma in luma-16x16 m.prediction m.residual _ _ _ _ _ p (c.shown16.ensures ∙ sym l.1) (c.luma_ac.ensures ∙ all-blocks 15 16 _ _ _ l.0)

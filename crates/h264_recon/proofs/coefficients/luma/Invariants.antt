@@ -1,6 +1,6 @@
 use Rattle.std.proofs.Common.{◌≡◌, ℕ, ◌<◌, [], get_or, length, replicate, pos}
 use Rattle.h264_mbsyntax.specs.Stored.{shown}
-use Rattle.h264_picture.proofs.levels.luma.Given as goal
+use Rattle.h264_recon.proofs.coefficients.luma.Given as goal
 
 abbrev pub invariant-loop-k : goal.invariant-loop-k
 invariant-loop-k l = record {
