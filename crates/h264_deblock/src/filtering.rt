@@ -32,6 +32,21 @@ pub struct Edges {
     pub cr: ChromaEdges,
 }
 
+const NO_CHROMA_EDGES: ChromaEdges = ChromaEdges {
+    vertical: [None; 2],
+    horizontal: [None; 2],
+};
+
+/// No edge is filtered.
+pub(crate) const NO_EDGES: Edges = Edges {
+    y: LumaEdges {
+        vertical: [None; 4],
+        horizontal: [None; 4],
+    },
+    cb: NO_CHROMA_EDGES,
+    cr: NO_CHROMA_EDGES,
+};
+
 /// Filters the edges of a direction of a macroblock, one after another. The first begins at the place `along`, with its samples q0 at `across`.
 #[inline(always)]
 fn direction<const VERTICAL: bool, const CHROMA: bool, const N: usize>(

@@ -1,5 +1,4 @@
 pub mod Tables
-pub mod FromRead
 pub mod Steps
 pub mod Limits
 pub mod Sound

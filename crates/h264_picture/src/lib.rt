@@ -23,5 +23,5 @@ pub mod work;
 pub use buffer::buffer_size;
 pub use context::slice_context;
 pub use frames::PLACES;
-pub use samples::{Deblocking, SliceFilter, SliceSamples, slice_samples};
+pub use samples::{SliceSamples, slice_samples};
 pub use work::Work;

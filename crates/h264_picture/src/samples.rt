@@ -1,31 +1,9 @@
 //! What the samples of a slice depend on beside its macroblocks.
 #![tactic(auto)]
 
+use h264_deblock::{Deblocking, SliceFilter};
 use h264_header::{Deblocking as HeaderDeblocking, FilterOffsets, Header};
 use h264_pps::Pps;
-
-/// Which edges of its macroblocks a slice has filtered: disable_deblocking_filter_idc (7.4.3).
-#[derive(Clone, Copy)]
-pub enum Deblocking {
-    /// 0: all.
-    AllEdges,
-    /// 1: none.
-    Off,
-    /// 2: not those between slices.
-    WithinSlice,
-}
-
-/// What the filter of a slice's macroblocks depends on.
-#[derive(Clone, Copy)]
-pub struct SliceFilter {
-    pub deblocking: Deblocking,
-    /// FilterOffsetA, -12 to 12.
-    pub filter_offset_a: i8,
-    /// FilterOffsetB, -12 to 12.
-    pub filter_offset_b: i8,
-    /// -12 to 12.
-    pub chroma_qp_index_offset: i32,
-}
 
 /// What the samples of a slice depend on beside its macroblocks.
 #[derive(Clone, Copy)]

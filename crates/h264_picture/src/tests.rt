@@ -5,10 +5,11 @@ ghost use Rattle.h264_vectors.specs.Agrees.{Usable};
 ghost use Rattle.std.specs.Prelude.{◌≡◌, ◌≤◌, true};
 ghost use Rattle.h264_picture.specs.Holds.{is_frame_size};
 
-use crate::{Deblocking, SliceFilter, SliceSamples, Work, slice_context};
+use crate::{SliceSamples, Work, slice_context};
 use arrayvec::ArrayVec;
 use h264_base::{ElementName, Elements, Failed, Rule, SliceType, Stop};
 use h264_bits::{Bits, Found};
+use h264_deblock::{Deblocking, SliceFilter};
 use h264_header::{Header, RefPicList0, SliceKind};
 use h264_lists::RefSlot;
 use h264_marking::{ReferenceFrame, Term};

@@ -10,3 +10,8 @@ pub mod Parts
 pub mod Pool
 pub mod References
 pub mod Existence
+pub mod Tables
+pub mod FromRead
+pub mod FromPrediction
+pub mod Within
+pub mod Placed

@@ -7,3 +7,7 @@ pub mod Blocks4
 pub mod Parts
 pub mod Step
 pub mod Pool
+pub mod Table
+pub mod Levels
+pub mod Given
+pub mod Placed

@@ -1,0 +1,365 @@
+-- The edges of a macroblock, from what is kept of it and of the macroblocks beside it.
+use Rattle.std.proofs.Common.{◌≡◌, ⊎_elim, ℕ, zero, suc, ◌+◌, ◌-◌, ◌*◌, ◌/◌, ◌%◌, ◌<◌, ◌≤◌, ◌==◌, Bool, true, false, IsTrue, ◌&&◌, ◌||◌, List, [], ◌∷◌, length, get_or, nat_lt, Option, Some, None, is_some, ℤ, pos, ◌-ℤ◌, ◌+ℤ◌, unsigned_abs, refl, ap, sym, ◌∙◌, arith, eq-eqb, if◌then◌else◌, min}
+use Rattle.std.specs.Ordering.{int_eq}
+use Rattle.std.specs.List.{list_all}
+use Rattle.std.specs.Option.{option_map, option_and_then}
+use Rattle.std.proofs.lemmas.Bool.{eqb-true, cases_lt}
+use Rattle.std.proofs.lemmas.Int.{ints}
+use Rattle.std.proofs.lemmas.List.{get_or_past}
+use Rattle.std.proofs.lemmas.Bool.Decides.{nat_tests, Decides-int_eq}
+use Rattle.h264_tables.specs.declared.thresholds.Strength.TheVariants.{Three}
+use Rattle.h264_plane.specs.declared.frame.Component.{Component}
+use Rattle.h264_plane.specs.declared.frame.Component.TheVariants.{Y, Cb, Cr}
+use Rattle.h264_near.specs.Coded.{CodedMacroblock, Prediction, is_intra, motion_in, number_of, chroma_number_of, column_of, row_of}
+use Rattle.h264_near.specs.Keeps.{Shows, IsEdge, filter_qp_of}
+use Rattle.h264_near.specs.Raster.{last_in, last_left}
+use Rattle.h264_near.specs.Strength.{side_part, far, moves_apart, strength_of, strength_between}
+use Rattle.h264_near.specs.declared.context.Contexts.{Contexts}
+use Rattle.h264_near.specs.declared.context.Edge.{Edge}
+use Rattle.h264_near.specs.declared.motion.Motion.{Motion}
+use Rattle.h264_near.specs.declared.motion.Vector.{Vector}
+use Rattle.h264_near.specs.declared.sides.Side.{Side}
+use Rattle.h264_near.proofs.Edges.{side-is}
+use Rattle.h264_near.proofs.Neighbours.{last-above}
+use Rattle.h264_near.proofs.Places.{quotient, remainder}
+use Rattle.h264_deblock.specs.Filtering.{is_chroma, PlaneEdges, edges_of}
+use Rattle.h264_deblock.specs.declared.filtering.Edges.{Edges}
+use Rattle.h264_deblock.specs.declared.filtering.LumaEdges.{LumaEdges}
+use Rattle.h264_deblock.specs.declared.filtering.ChromaEdges.{ChromaEdges}
+use Rattle.h264_deblock.specs.declared.slice_filter.Deblocking.TheVariants.{Off}
+use Rattle.h264_deblock.specs.declared.coded.Border.{Border}
+use Rattle.h264_deblock.specs.declared.edge_parameters.EdgeParameters.{EdgeParameters}
+use Rattle.h264_deblock.specs.declared.edge_parameters.BoundaryStrength.{BoundaryStrength}
+use Rattle.h264_deblock.specs.declared.edge_parameters.BoundaryStrength.TheVariants.{Zero, BelowFour, Four}
+use Rattle.h264_deblock.specs.declared.slice_filter.SliceFilter.{SliceFilter}
+use Rattle.h264_deblock.specs.CodedEdges.{named, named_if, block_at, strength_at, strengths, plane_qp, edge_of, filters, border, inner, edges_along, coded_edges}
+use Rattle.h264_deblock.specs.Steps.{IsBeside, block_beside, inner_lines, alike, are_blank, are_alike, side_qp, parameters, border_of, border_edge, inner_edge}
+
+-- ---- blocks
+
+column-is : (x y : ℕ) → x < 4 → y < 4 → column_of (number_of x y) ≡ x
+unfolding column_of number_of
+column-is x y h k = omega arith
+
+row-is : (x y : ℕ) → x < 4 → y < 4 → row_of (number_of x y) ≡ y
+unfolding row_of number_of
+row-is x y h k = omega arith
+
+few : (x y : ℕ) → x < 4 → y < 4 → number_of x y < 16
+unfolding number_of
+few x y h k = omega arith
+
+placed : (x y b : ℕ) (m : CodedMacroblock) (r : Side) → x < 4 → y < 4 → b ≡ number_of x y → side_part (column_of b) (row_of b) m ≡ Some r → side_part x y m ≡ Some r
+placed x y b m r h k e s = rw (e, column-is x y h k, row-is x y h k) at s
+
+pub block-vertical : (v : Bool) (line k b : ℕ) (m : CodedMacroblock) (r : Side) → v ≡ true → line < 4 → k < 4 → b ≡ number_of line k → side_part (column_of b) (row_of b) m ≡ Some r → block_at v line k m ≡ Some r
+unfolding block_at
+block-vertical v line k b m r is h g e s = rw is (placed line k b m r h g e s)
+
+pub block-horizontal : (v : Bool) (line k b : ℕ) (m : CodedMacroblock) (r : Side) → v ≡ false → line < 4 → k < 4 → b ≡ number_of k line → side_part (column_of b) (row_of b) m ≡ Some r → block_at v line k m ≡ Some r
+unfolding block_at
+block-horizontal v line k b m r is h g e s = rw is (placed k line b m r g h e s)
+
+beside-block : (v : Bool) (e : Edge) (m : CodedMacroblock) (k : ℕ) → k < 4 → IsBeside v e m → block_at v 3 k m ≡ Some (block_beside e k)
+unfolding block_at
+beside-block true e m k h i = sym (side-is (λ k. number_of 3 k) (λ c k. chroma_number_of c 1 k) 3 k k (Some e) (Some m) h refl i)
+beside-block false e m k h i = sym (side-is (λ k. number_of k 3) (λ c k. chroma_number_of c k 1) k 3 k (Some e) (Some m) h refl i)
+
+pub beside-slice : (v : Bool) (e : Edge) (m : CodedMacroblock) → IsBeside v e m → m.slice ≡ e.slice
+beside-slice true e m i = i.slice
+beside-slice false e m i = i.slice
+
+pub beside-intra : (v : Bool) (e : Edge) (m : CodedMacroblock) → IsBeside v e m → is_intra m.prediction ≡ e.intra
+beside-intra true e m i = i.intra
+beside-intra false e m i = i.intra
+
+beside-qp : (v : Bool) (e : Edge) (m : CodedMacroblock) → IsBeside v e m → filter_qp_of m.prediction m.qp ≡ e.qp
+beside-qp true e m i = i.qp
+beside-qp false e m i = i.qp
+
+-- ---- bS
+
+pub inner-is : (v : Bool) (line k : ℕ) (m : CodedMacroblock) (p q : Side) (n : BoundaryStrength) → 0 < line → line < 4 → block_at v (line - 1) k m ≡ Some p → block_at v line k m ≡ Some q → n ≡ named (strength_of false p q) → n ≡ strength_at v line m m k
+unfolding strength_at
+inner-is v line k m p q n some h a b e =
+    let l : (line + 3) % 4 ≡ line - 1 = omega arith in
+    let z : (line == 0) ≡ false = grind (arith, nat_tests) in
+    rw (l, z, a, b) e
+
+pub outer-is : (v : Bool) (k : ℕ) (e : Edge) (p q : CodedMacroblock) (s : Side) (n : BoundaryStrength) → k < 4 → IsBeside v e p → block_at v 0 k q ≡ Some s → n ≡ named (strength_of true (block_beside e k) s) → n ≡ strength_at v 0 p q k
+unfolding strength_at
+outer-is v k e p q s n h i b is = rw (beside-block v e p k h i, b) is
+
+pub four : (v : Bool) (line : ℕ) (p q : CodedMacroblock) (a b c d : BoundaryStrength) → a ≡ strength_at v line p q 0 → b ≡ strength_at v line p q 1 → c ≡ strength_at v line p q 2 → d ≡ strength_at v line p q 3 → a ∷ b ∷ c ∷ d ∷ [] ≡ strengths v line p q
+unfolding strengths
+four v line p q a b c d e f g h = rw (e, f, g, h) refl
+
+pub three : (v : Bool) (q : CodedMacroblock) (a b c : List BoundaryStrength) → a ≡ strengths v 1 q q → b ≡ strengths v 2 q q → c ≡ strengths v 3 q q → a ∷ b ∷ c ∷ [] ≡ inner_lines v q
+unfolding inner_lines
+three v q a b c e f g = rw (e, f, g) refl
+
+-- ---- intra
+
+or-true : (b : Bool) → (b || true) ≡ true
+or-true true = refl
+or-true false = refl
+
+strong-outer : (v : Bool) (k : ℕ) (p q : CodedMacroblock) → (is_intra p.prediction || is_intra q.prediction) ≡ true → Four ≡ strength_at v 0 p q k
+unfolding strength_at block_at side_part strength_of
+strong-outer true k p q e = rw e refl
+strong-outer false k p q e = rw e refl
+
+strong-inner : (v : Bool) (line k : ℕ) (q : CodedMacroblock) → is_intra q.prediction ≡ true → BelowFour Three ≡ strength_at v (suc line) q q k
+unfolding strength_at block_at side_part strength_of
+strong-inner true line k q e = let z : (suc line == 0) ≡ false = grind (arith, nat_tests) in rw (e, z) refl
+strong-inner false line k q e = let z : (suc line == 0) ≡ false = grind (arith, nat_tests) in rw (e, z) refl
+
+strong-border : (v : Bool) (p q : CodedMacroblock) → (is_intra p.prediction || is_intra q.prediction) ≡ true → Four ∷ Four ∷ Four ∷ Four ∷ [] ≡ strengths v 0 p q
+strong-border v p q e = four v 0 p q Four Four Four Four (strong-outer v 0 p q e) (strong-outer v 1 p q e) (strong-outer v 2 p q e) (strong-outer v 3 p q e)
+
+pub strong-by-p : (v : Bool) (p q : CodedMacroblock) (b : Bool) → is_intra p.prediction ≡ b → b ≡ true → Four ∷ Four ∷ Four ∷ Four ∷ [] ≡ strengths v 0 p q
+strong-by-p v p q b e t = strong-border v p q (rw (e, t) refl)
+
+pub strong-by-q : (v : Bool) (p q : CodedMacroblock) (b : Bool) → is_intra q.prediction ≡ b → b ≡ true → Four ∷ Four ∷ Four ∷ Four ∷ [] ≡ strengths v 0 p q
+strong-by-q v p q b e t = strong-border v p q (rw (e, t) (or-true (is_intra p.prediction)))
+
+strong-line : (v : Bool) (line : ℕ) (q : CodedMacroblock) → is_intra q.prediction ≡ true → BelowFour Three ∷ BelowFour Three ∷ BelowFour Three ∷ BelowFour Three ∷ [] ≡ strengths v (suc line) q q
+strong-line v line q e = four v (suc line) q q _ _ _ _ (strong-inner v line 0 q e) (strong-inner v line 1 q e) (strong-inner v line 2 q e) (strong-inner v line 3 q e)
+
+abbrev threes : List BoundaryStrength
+threes = BelowFour Three ∷ BelowFour Three ∷ BelowFour Three ∷ BelowFour Three ∷ []
+
+pub strong-lines : (v : Bool) (q : CodedMacroblock) (b : Bool) → is_intra q.prediction ≡ b → b ≡ true → threes ∷ threes ∷ threes ∷ [] ≡ inner_lines v q
+strong-lines v q b e t = three v q threes threes threes (strong-line v 0 q (e ∙ t)) (strong-line v 1 q (e ∙ t)) (strong-line v 2 q (e ∙ t))
+
+-- ---- a macroblock whose blocks nothing tells apart
+
+both : (a b : Bool) → (a && b) ≡ true → (a ≡ true) × (b ≡ true)
+both true true e = (refl, refl)
+both true false e = absurd (cc)
+both false b e = absurd (cc)
+
+at-all : {A : Type 0} (p : A → Bool) (xs : List A) (n : ℕ) (d : A) → list_all p xs ≡ true → n < length xs → p (get_or xs n d) ≡ true
+at-all p [] n d e h = absurd (omega arith)
+at-all p (x ∷ xs) zero d e h = (both (p x) (list_all p xs) e).0
+at-all p (x ∷ xs) (suc n) d e h = at-all p xs n d (both (p x) (list_all p xs) e).1 (omega arith)
+
+blank : (totals : List ℕ) (n : ℕ) → are_blank totals ≡ true → n < length totals → nat_lt 0 (get_or totals n 0) ≡ false
+blank totals n e h = let z : get_or totals n 0 ≡ 0 = eqb-true (get_or totals n 0) 0 (at-all (λ t. t == 0) totals n 0 e h) in rw z refl
+
+self-far : (v : Vector) → far v v ≡ false
+self-far v = let x : v.x -ℤ v.x ≡ pos 0 = omega (arith, ints) in let y : v.y -ℤ v.y ≡ pos 0 = omega (arith, ints) in rw (x, y) refl
+
+same-far : (a b f : Vector) → int_eq a.x f.x ≡ true → int_eq a.y f.y ≡ true → int_eq b.x f.x ≡ true → int_eq b.y f.y ≡ true → far a b ≡ false
+same-far a b f p q r s =
+    let x : a.x ≡ f.x = (Decides-int_eq a.x f.x).0 p in let y : a.y ≡ f.y = (Decides-int_eq a.y f.y).0 q in
+    let z : b.x ≡ f.x = (Decides-int_eq b.x f.x).0 r in let w : b.y ≡ f.y = (Decides-int_eq b.y f.y).0 s in
+    rw (x, y, z, w) (self-far f)
+
+same-moves : (a b f : Option Motion) → alike a f ≡ true → alike b f ≡ true → moves_apart a b ≡ false
+same-moves None b f e g = refl
+same-moves (Some a) None f e g = refl
+same-moves (Some a) (Some b) None e g = absurd (cc)
+same-moves (Some a) (Some b) (Some f) e g =
+    let p = both (a.picture == f.picture && int_eq a.vector.x f.vector.x) (int_eq a.vector.y f.vector.y) e in
+    let v = both (a.picture == f.picture) (int_eq a.vector.x f.vector.x) p.0 in
+    let q = both (b.picture == f.picture && int_eq b.vector.x f.vector.x) (int_eq b.vector.y f.vector.y) g in
+    let w = both (b.picture == f.picture) (int_eq b.vector.x f.vector.x) q.0 in
+    let x : a.picture ≡ f.picture = eqb-true a.picture f.picture v.0 in
+    let y : b.picture ≡ f.picture = eqb-true b.picture f.picture w.0 in
+    let z : (a.picture == b.picture) ≡ true = rw (x, y) (eq-eqb f.picture f.picture refl) in
+    rw (z, same-far a.vector b.vector f.vector v.1 p.1 w.1 q.1) refl
+
+even-side : (c : Contexts) (m : CodedMacroblock) (x y : ℕ) → Shows c m → length c.totals ≡ 16 → c.intra ≡ false → are_blank c.totals ≡ true → x < 4 → y < 4 → side_part x y m ≡ Some (record { intra = false; coded = false; motion = get_or c.motions (number_of x y) None })
+unfolding side_part
+even-side c m x y s l i b h k =
+    let n = few x y h k in
+    let z : nat_lt 0 (get_or m.totals (number_of x y) 0) ≡ false = rw s.totals (blank c.totals (number_of x y) b (omega arith)) in
+    rw (s.intra, i, z, s.motions (number_of x y) n) refl
+
+still-left : (a b : Option Motion) → a ≡ None → moves_apart a b ≡ false
+still-left a b e = rw e refl
+
+still-right : (a b : Option Motion) → b ≡ None → moves_apart a b ≡ false
+still-right None b e = refl
+still-right (Some a) b e = rw e refl
+
+no-moves : (xs : List (Option Motion)) (i j : ℕ) → are_alike xs ≡ true → moves_apart (get_or xs i None) (get_or xs j None) ≡ false
+no-moves xs i j a = ⊎_elim
+    (λ (h : i < length xs). ⊎_elim
+    (λ (k : j < length xs). let p : Option Motion → Bool = λ m. alike m (get_or xs 0 None) in same-moves (get_or xs i None) (get_or xs j None) (get_or xs 0 None) (at-all p xs i None a h) (at-all p xs j None a k))
+    (λ (k : length xs ≤ j). still-right (get_or xs i None) (get_or xs j None) (get_or_past xs j None k))
+    (cases_lt j (length xs)))
+    (λ (h : length xs ≤ i). still-left (get_or xs i None) (get_or xs j None) (get_or_past xs i None h))
+    (cases_lt i (length xs))
+
+abbrev even : Option Motion → Side
+even motion = record { intra = false; coded = false; motion = motion }
+
+even-strength : (a b : Option Motion) → moves_apart a b ≡ false → strength_of false (even a) (even b) ≡ 0
+unfolding strength_of
+even-strength a b e = rw e refl
+
+-- the number of a block
+abbrev numbered : Bool → ℕ → ℕ → ℕ
+numbered true line k = number_of line k
+numbered false line k = number_of k line
+
+even-block : (v : Bool) (c : Contexts) (m : CodedMacroblock) (line k : ℕ) → Shows c m → length c.totals ≡ 16 → c.intra ≡ false → are_blank c.totals ≡ true → line < 4 → k < 4 → block_at v line k m ≡ Some (even (get_or c.motions (numbered v line k) None))
+unfolding block_at
+even-block true c m line k s l i b h g = even-side c m line k s l i b h g
+even-block false c m line k s l i b h g = even-side c m k line s l i b g h
+
+module _ (v : Bool) (c : Contexts) (m : CodedMacroblock) (s : Shows c m) (l : length c.totals ≡ 16) (i : c.intra ≡ false) (b : are_blank c.totals ≡ true) (a : are_alike c.motions ≡ true) where
+  even-at : (line k : ℕ) → 0 < line → line < 4 → k < 4 → Zero ≡ strength_at v line m m k
+  even-at line k some h g =
+      let p = get_or c.motions (numbered v (line - 1) k) None in
+      let q = get_or c.motions (numbered v line k) None in
+      inner-is v line k m (even p) (even q) Zero some h (even-block v c m (line - 1) k s l i b (omega arith) g) (even-block v c m line k s l i b h g) (ap named (sym (even-strength p q (no-moves c.motions (numbered v (line - 1) k) (numbered v line k) a))))
+
+  even-line : (line : ℕ) → 0 < line → line < 4 → Zero ∷ Zero ∷ Zero ∷ Zero ∷ [] ≡ strengths v line m m
+  even-line line some h = four v line m m Zero Zero Zero Zero (even-at line 0 some h (omega arith)) (even-at line 1 some h (omega arith)) (even-at line 2 some h (omega arith)) (even-at line 3 some h (omega arith))
+
+  pub even-lines : (Zero ∷ Zero ∷ Zero ∷ Zero ∷ []) ∷ (Zero ∷ Zero ∷ Zero ∷ Zero ∷ []) ∷ (Zero ∷ Zero ∷ Zero ∷ Zero ∷ []) ∷ [] ≡ inner_lines v m
+  even-lines = three v m _ _ _ (even-line 1 (omega arith) (omega arith)) (even-line 2 (omega arith) (omega arith)) (even-line 3 (omega arith) (omega arith))
+
+-- ---- the border
+
+abbrev pub border-with : ℕ → List BoundaryStrength → Border
+border-with qp strengths = record { qp = qp; strengths = strengths }
+
+pub border-at-0 : (f : SliceFilter) (v : Bool) (p : Option CodedMacroblock) (q : CodedMacroblock) → p ≡ None → None ≡ border_of f v p q
+unfolding border_of
+border-at-0 f v p q e = rw e refl
+
+pub border-none : (f : SliceFilter) (v : Bool) (o : Option Edge) (p : Option CodedMacroblock) (q : CodedMacroblock) → o ≡ None → IsEdge (IsBeside v) o p → None ≡ border_of f v p q
+unfolding border_of
+border-none f v None None q e i = refl
+border-none f v None (Some p) q e i = absurd i
+border-none f v (Some o) p q e i = absurd (cc)
+
+pub border-some : (f : SliceFilter) (v : Bool) (o : Option Edge) (e : Edge) (slice : ℕ) (p : Option CodedMacroblock) (q : CodedMacroblock) (b : List BoundaryStrength) → o ≡ Some e → IsEdge (IsBeside v) o p → q.slice ≡ slice →
+    ((m : CodedMacroblock) → IsBeside v e m → b ≡ strengths v 0 m q) → filters f.deblocking (e.slice == slice) ≡ true → Some (border-with e.qp b) ≡ border_of f v p q
+unfolding border_of
+border-some f v o e slice None q b is i n s t = absurd (rw is at i)
+border-some f v o e slice (Some p) q b is i n s t =
+    let j : IsBeside v e p = rw is at i in
+    let t' : filters f.deblocking (p.slice == q.slice) ≡ true = rw (beside-slice v e p j, n) t in
+    rw t' (ap (λ z. Some (border-with z b)) (sym (beside-qp v e p j)) ∙ ap (λ z. Some (border-with (filter_qp_of p.prediction p.qp) z)) (s p j))
+
+pub border-skip : (f : SliceFilter) (v : Bool) (o : Option Edge) (e : Edge) (slice : ℕ) (p : Option CodedMacroblock) (q : CodedMacroblock) → o ≡ Some e → IsEdge (IsBeside v) o p → q.slice ≡ slice →
+    filters f.deblocking (e.slice == slice) ≡ false → None ≡ border_of f v p q
+unfolding border_of
+border-skip f v o e slice None q is i n t = refl
+border-skip f v o e slice (Some p) q is i n t =
+    let j : IsBeside v e p = rw is at i in
+    let t' : filters f.deblocking (p.slice == q.slice) ≡ false = rw (beside-slice v e p j, n) t in
+    rw t' refl
+
+-- ---- planes
+
+pub qp-is : (slices : ℕ → SliceFilter) (plane : Component) (m : CodedMacroblock) (c : Bool) (n : ℕ) (o : ℤ) → is_chroma plane ≡ c → filter_qp_of m.prediction m.qp ≡ n → (slices m.slice).chroma_qp_index_offset ≡ o → plane_qp slices plane m ≡ side_qp c n o
+unfolding plane_qp
+qp-is slices Y m c n o e f g = rw (sym e) f
+qp-is slices Cb m c n o e f g = rw (sym e, f, g) refl
+qp-is slices Cr m c n o e f g = rw (sym e, f, g) refl
+
+module _ (slices : ℕ → SliceFilter) (plane : Component) (v : Bool) (q : CodedMacroblock) (f : SliceFilter) (c : Bool) (qp : ℕ) (is : slices q.slice ≡ f) (own : plane_qp slices plane q ≡ qp) where
+  edge-is : (line : ℕ) (p : CodedMacroblock) (a : ℕ) → plane_qp slices plane p ≡ a → parameters a qp f (strengths v line p q) ≡ edge_of slices plane v line p q
+  unfolding edge_of
+  edge-is line p a e = rw (sym e, sym own, sym is) refl
+
+  pub border-in : (p : Option CodedMacroblock) → is_chroma plane ≡ c → ((n : ℕ) → (slices n).chroma_qp_index_offset ≡ f.chroma_qp_index_offset) → border_edge c qp f (border_of f v p q) ≡ border slices plane v p q
+  unfolding border border_of
+  border-in None e o = refl
+  border-in (Some p) e o = go (filters f.deblocking (p.slice == q.slice)) refl
+    where
+      go : (t : Bool) → filters f.deblocking (p.slice == q.slice) ≡ t → border_edge c qp f (if filters f.deblocking (p.slice == q.slice) then Some (border-with (filter_qp_of p.prediction p.qp) (strengths v 0 p q)) else None) ≡ (if filters (slices q.slice).deblocking (p.slice == q.slice) then Some (edge_of slices plane v 0 p q) else None)
+      go true t = rw (is, t) (ap Some (edge-is 0 p _ (qp-is slices plane p c _ f.chroma_qp_index_offset e refl (o p.slice))))
+      go false t = rw (is, t) refl
+
+  pub inner-in : (line : ℕ) → inner_edge qp f (strengths v line q q) ≡ inner slices plane v line q
+  unfolding inner
+  inner-in line = go (filters f.deblocking true) refl
+    where
+      go : (t : Bool) → filters f.deblocking true ≡ t → (if filters f.deblocking true then Some (parameters qp qp f (strengths v line q q)) else None) ≡ (if filters (slices q.slice).deblocking true then Some (edge_of slices plane v line q q) else None)
+      go true t = rw (is, t) (ap Some (edge-is line q qp own))
+      go false t = rw (is, t) refl
+
+-- ---- a direction
+
+module _ (slices : ℕ → SliceFilter) (v : Bool) (p : Option CodedMacroblock) (q : CodedMacroblock) (f : SliceFilter) (qp : ℕ) (b : Option Border) (lines : List (List BoundaryStrength)) (is : slices q.slice ≡ f) (o : (n : ℕ) → (slices n).chroma_qp_index_offset ≡ f.chroma_qp_index_offset)
+    (eb : b ≡ border_of f v p q) (el : lines ≡ inner_lines v q) where
+  pub luma-list : plane_qp slices Y q ≡ qp → border_edge false qp f b ∷ inner_edge qp f (get_or lines 0 []) ∷ inner_edge qp f (get_or lines 1 []) ∷ inner_edge qp f (get_or lines 2 []) ∷ [] ≡ edges_along slices Y v p q
+  unfolding edges_along inner_lines
+  luma-list own = rw (eb, el, border-in slices Y v q f false qp is own p refl o, inner-in slices Y v q f false qp is own 1, inner-in slices Y v q f false qp is own 2, inner-in slices Y v q f false qp is own 3) refl
+
+  pub chroma-list : (plane : Component) → is_chroma plane ≡ true → plane_qp slices plane q ≡ qp → border_edge true qp f b ∷ inner_edge qp f (get_or lines 1 []) ∷ [] ≡ edges_along slices plane v p q
+  unfolding edges_along inner_lines
+  chroma-list Y c own = absurd (cc)
+  chroma-list Cb c own = rw (eb, el, border-in slices Cb v q f true qp is own p refl o, inner-in slices Cb v q f true qp is own 2) refl
+  chroma-list Cr c own = rw (eb, el, border-in slices Cr v q f true qp is own p refl o, inner-in slices Cr v q f true qp is own 2) refl
+
+abbrev pair : List (Option EdgeParameters) → List (Option EdgeParameters) → PlaneEdges
+pair v h = record { vertical = v; horizontal = h }
+
+pub pair-is : (slices : ℕ → SliceFilter) (width : ℕ) (picture : List CodedMacroblock) (q : CodedMacroblock) (plane : Component) (v h : List (Option EdgeParameters)) →
+    v ≡ edges_along slices plane true (last_left width picture) q → h ≡ edges_along slices plane false (last_in width picture (length picture % width)) q → pair v h ≡ coded_edges slices width picture q plane
+unfolding coded_edges
+pair-is slices width picture q plane v h e f = ap (λ z. pair z h) e ∙ ap (pair (edges_along slices plane true (last_left width picture) q)) f
+
+-- ---- no edge is filtered
+
+none-border : (slices : ℕ → SliceFilter) (plane : Component) (v : Bool) (p : Option CodedMacroblock) (q : CodedMacroblock) → ((same : Bool) → filters (slices q.slice).deblocking same ≡ false) → None ≡ border slices plane v p q
+unfolding border
+none-border slices plane v None q t = refl
+none-border slices plane v (Some p) q t = rw (t (p.slice == q.slice)) refl
+
+none-inner : (slices : ℕ → SliceFilter) (plane : Component) (v : Bool) (line : ℕ) (q : CodedMacroblock) → ((same : Bool) → filters (slices q.slice).deblocking same ≡ false) → None ≡ inner slices plane v line q
+unfolding inner
+none-inner slices plane v line q t = rw (t true) refl
+
+none-luma : (slices : ℕ → SliceFilter) (v : Bool) (p : Option CodedMacroblock) (q : CodedMacroblock) → ((same : Bool) → filters (slices q.slice).deblocking same ≡ false) → None ∷ None ∷ None ∷ None ∷ [] ≡ edges_along slices Y v p q
+unfolding edges_along
+none-luma slices v p q t = rw (sym (none-border slices Y v p q t), sym (none-inner slices Y v 1 q t), sym (none-inner slices Y v 2 q t), sym (none-inner slices Y v 3 q t)) refl
+
+none-chroma : (slices : ℕ → SliceFilter) (plane : Component) (v : Bool) (p : Option CodedMacroblock) (q : CodedMacroblock) → is_chroma plane ≡ true → ((same : Bool) → filters (slices q.slice).deblocking same ≡ false) → None ∷ None ∷ [] ≡ edges_along slices plane v p q
+unfolding edges_along
+none-chroma slices Y v p q c t = absurd (cc)
+none-chroma slices Cb v p q c t = rw (sym (none-border slices Cb v p q t), sym (none-inner slices Cb v 2 q t)) refl
+none-chroma slices Cr v p q c t = rw (sym (none-border slices Cr v p q t), sym (none-inner slices Cr v 2 q t)) refl
+
+abbrev no_chroma : ChromaEdges
+no_chroma = record { vertical = None ∷ None ∷ []; horizontal = None ∷ None ∷ [] }
+
+abbrev no_edges : Edges
+no_edges = record { y = record { vertical = None ∷ None ∷ None ∷ None ∷ []; horizontal = None ∷ None ∷ None ∷ None ∷ [] }; cb = no_chroma; cr = no_chroma }
+
+off : (slices : ℕ → SliceFilter) (q : CodedMacroblock) (f : SliceFilter) → slices q.slice ≡ f → f.deblocking ≡ Off → (same : Bool) → filters (slices q.slice).deblocking same ≡ false
+off slices q f is e same = ap (λ z. filters z.deblocking same) is ∙ ap (λ z. filters z same) e
+
+pub none-is : (slices : ℕ → SliceFilter) (width : ℕ) (picture : List CodedMacroblock) (q : CodedMacroblock) (f : SliceFilter) → slices q.slice ≡ f → f.deblocking ≡ Off → (p : Component) → edges_of no_edges p ≡ coded_edges slices width picture q p
+none-is slices width picture q f is e Y = pair-is slices width picture q Y _ _ (none-luma slices true _ q (off slices q f is e)) (none-luma slices false _ q (off slices q f is e))
+none-is slices width picture q f is e Cb = pair-is slices width picture q Cb _ _ (none-chroma slices Cb true _ q refl (off slices q f is e)) (none-chroma slices Cb false _ q refl (off slices q f is e))
+none-is slices width picture q f is e Cr = pair-is slices width picture q Cr _ _ (none-chroma slices Cr true _ q refl (off slices q f is e)) (none-chroma slices Cr false _ q refl (off slices q f is e))
+
+-- ---- the picture's border
+
+pub left-none : (width : ℕ) (picture : List CodedMacroblock) (c r : ℕ) → length picture ≡ r * width + c → c < width → c ≡ 0 → last_left width picture ≡ None
+unfolding last_left
+left-none width picture c r e h z = rw (remainder (length picture) width r c h e, z) refl
+
+pub above-none : (width : ℕ) (picture : List CodedMacroblock) (c r : ℕ) → length picture ≡ r * width + c → c < width → r ≡ 0 → last_in width picture (length picture % width) ≡ None
+above-none width picture c r e h z = last-above width picture (length picture % width) (omega arith) ∙ rw (quotient (length picture) width r c h e, z) refl
+
+some-map : {A B : Type 0} (g : A → B) (o : Option A) → IsTrue (is_some (option_map g o)) → IsTrue (is_some o)
+some-map g None h = h
+some-map g (Some x) h = refl
+
+pub inside : (n : ℕ) (list es : List (Option EdgeParameters)) (chroma : Bool) (qp : ℕ) (f : SliceFilter) (b : Option Border) → list ≡ border_edge chroma qp f b ∷ es → (IsTrue (is_some b) → 0 < n) → IsTrue (is_some (get_or list 0 None)) → 0 < n
+inside n list es chroma qp f b e h t = h (some-map (λ (e : Border). parameters (side_qp chroma e.qp f.chroma_qp_index_offset) qp f e.strengths) b (rw e at t))
+
+pub by-plane : (P : Component → Type 0) → P Y → P Cb → P Cr → (p : Component) → P p
+by-plane P a b c Y = a
+by-plane P a b c Cb = b
+by-plane P a b c Cr = c

@@ -1,0 +1,62 @@
+-- What the code has of the edges of a macroblock before it knows the plane.
+use Rattle.std.specs.Prelude.{◌≡◌, ℕ, ◌==◌, ◌&&◌, ◌<◌, Bool, true, false, IsTrue, if◌then◌else◌, List, [], ◌∷◌, get_or, nat_lt, Option, Some, None, is_some, ℤ}
+use Rattle.std.specs.Ordering.{int_eq}
+use Rattle.std.specs.List.{list_all}
+use Rattle.std.specs.Option.{option_map}
+use Rattle.h264_tables.specs.ChromaQp.{chroma_qp_of}
+use Rattle.h264_plane.specs.declared.frame.Component.{Component}
+use Rattle.h264_near.specs.Coded.{CodedMacroblock}
+use Rattle.h264_near.specs.Keeps.{Lower, Right, filter_qp_of}
+use Rattle.h264_near.specs.declared.context.Edge.{Edge}
+use Rattle.h264_near.specs.declared.motion.Motion.{Motion}
+use Rattle.h264_near.specs.declared.sides.Side.{Side}
+use Rattle.h264_deblock.specs.declared.coded.Border.{Border}
+use Rattle.h264_deblock.specs.declared.edge_parameters.EdgeParameters.{EdgeParameters}
+use Rattle.h264_deblock.specs.declared.edge_parameters.BoundaryStrength.{BoundaryStrength}
+use Rattle.h264_deblock.specs.declared.slice_filter.SliceFilter.{SliceFilter}
+use Rattle.h264_deblock.specs.CodedEdges.{filters, strengths}
+
+-- an edge lies along the right column, or the lower row, of the macroblock beside
+abbrev pub IsBeside : Bool → Edge → CodedMacroblock → Type 0
+IsBeside true e m = Right e m
+IsBeside false e m = Lower e m
+
+-- one of its blocks
+abbrev pub block_beside : Edge → ℕ → Side
+block_beside e k = record { intra = e.intra; coded = nat_lt 0 (get_or e.totals k 0); motion = get_or e.motions k None }
+
+-- the strengths of the inner edges of a direction
+unfoldable pub inner_lines : Bool → CodedMacroblock → List (List BoundaryStrength)
+inner_lines vertical q = strengths vertical 1 q q ∷ strengths vertical 2 q q ∷ strengths vertical 3 q q ∷ []
+
+-- one picture and one vector
+abbrev pub alike : Option Motion → Option Motion → Bool
+alike (Some a) (Some b) = a.picture == b.picture && int_eq a.vector.x b.vector.x && int_eq a.vector.y b.vector.y
+alike (Some a) None = false
+alike None (Some b) = false
+alike None None = true
+
+abbrev pub are_blank : List ℕ → Bool
+are_blank totals = list_all (λ t. t == 0) totals
+
+abbrev pub are_alike : List (Option Motion) → Bool
+are_alike motions = list_all (λ m. alike m (get_or motions 0 None)) motions
+
+-- the quantisation parameter of luma or of chroma
+abbrev pub side_qp : Bool → ℕ → ℤ → ℕ
+side_qp chroma qp offset = if chroma then chroma_qp_of qp offset else qp
+
+abbrev pub parameters : ℕ → ℕ → SliceFilter → List BoundaryStrength → EdgeParameters
+parameters qp_p qp_q filter strengths = record { qp_p = qp_p; qp_q = qp_q; filter_offset_a = filter.filter_offset_a; filter_offset_b = filter.filter_offset_b; strengths = strengths }
+
+-- the edge to the macroblock p, whatever the plane
+unfoldable pub border_of : SliceFilter → Bool → Option CodedMacroblock → CodedMacroblock → Option Border
+border_of filter vertical None q = None
+border_of filter vertical (Some p) q = if filters filter.deblocking (p.slice == q.slice) then Some (record { qp = filter_qp_of p.prediction p.qp; strengths = strengths vertical 0 p q }) else None
+
+-- and in a plane
+abbrev pub border_edge : Bool → ℕ → SliceFilter → Option Border → Option EdgeParameters
+border_edge chroma qp filter b = option_map (λ (e : Border). parameters (side_qp chroma e.qp filter.chroma_qp_index_offset) qp filter e.strengths) b
+
+abbrev pub inner_edge : ℕ → SliceFilter → List BoundaryStrength → Option EdgeParameters
+inner_edge qp filter strengths = if filters filter.deblocking true then Some (parameters qp qp filter strengths) else None

@@ -1,0 +1,204 @@
+//! The edges of a macroblock of the coded picture (8.7).
+#![tactic(auto)]
+
+ghost use Rattle.std.specs.Prelude.{◌≡◌, ℕ, ◌+◌, ◌*◌, ◌<◌, ◌≤◌, ◌==◌, Bool, true, false, IsTrue, List, [], ◌∷◌, length, get_or, Option, Some, None, is_some};
+ghost use Rattle.h264_tables.specs.ChromaQp.{chroma_qp_of, clip_51};
+ghost use Rattle.h264_plane.specs.declared.frame.Component.{Component};
+ghost use Rattle.h264_near.specs.Coded.{CodedMacroblock};
+ghost use Rattle.h264_near.specs.Keeps.{Keeps, Shows, IsEdge};
+ghost use Rattle.h264_deblock.specs.Filtering.{edges_of, AreInside};
+ghost use Rattle.h264_deblock.specs.declared.slice_filter.SliceFilter.{SliceFilter as Filter};
+ghost use Rattle.h264_deblock.specs.CodedEdges.{coded_edges as edges_of_coded};
+ghost use Rattle.h264_deblock.specs.Steps.{IsBeside, side_qp, parameters, border_of, border_edge, inner_edge};
+
+use crate::edge_parameters::{BoundaryStrength, EdgeParameters};
+use crate::filtering::{ChromaEdges, Edges, LumaEdges, NO_EDGES};
+use crate::slice_filter::{Deblocking, SliceFilter, is_filtered};
+use crate::strengths::{border_strengths, inner_strengths};
+use h264_near::{Contexts, Edge, Near};
+use h264_tables::chroma_qp;
+
+/// The edge between a macroblock and the one beside it: the quantisation parameter of that one, and the strengths.
+#[derive(Clone, Copy)]
+struct Border {
+    qp: u8,
+    strengths: [BoundaryStrength; 4],
+}
+
+/// Clip3(0, 51, z).
+#[inline]
+fn clip_51(z: i64) -> u8
+    ensures here { result ≡ clip_51 z }
+    ensures within { result ≤ 51 }
+{
+    z.clamp(0, 51) as u8
+}
+
+/// QPC by QPY and chroma_qp_index_offset (8.5.8).
+#[inline]
+fn qp_of_chroma(qp: u8, offset: i32) -> u8
+    ensures { result ≡ chroma_qp_of qp offset }
+{
+    chroma_qp(clip_51(qp as i64 + offset as i64), 0)
+}
+
+/// The quantisation parameter of luma or of chroma.
+#[inline]
+fn qp_in(chroma: bool, qp: u8, filter: &SliceFilter) -> u8
+    ensures { result ≡ side_qp chroma qp filter.now.chroma_qp_index_offset }
+{
+    if chroma {
+        return qp_of_chroma(qp, filter.chroma_qp_index_offset);
+    }
+    qp
+}
+
+#[inline]
+fn parameters(
+    qp_p: u8,
+    qp_q: u8,
+    filter: &SliceFilter,
+    strengths: [BoundaryStrength; 4],
+) -> EdgeParameters
+    ensures { result ≡ parameters qp_p qp_q filter.now strengths }
+{
+    EdgeParameters {
+        qp_p,
+        qp_q,
+        filter_offset_a: filter.filter_offset_a,
+        filter_offset_b: filter.filter_offset_b,
+        strengths,
+    }
+}
+
+/// The edge between a macroblock and the one beside it, if it is filtered; `place` is the column of the macroblock, or its row.
+fn border_of(
+    beside: &Option<Edge>,
+    own: &Contexts,
+    vertical: bool,
+    filter: &SliceFilter,
+    place: usize,
+) -> Option<Border>
+    ensures inside { IsTrue (is_some result) → 0 < place }
+    ensures here { (p : Option CodedMacroblock) (q : CodedMacroblock) → IsEdge (IsBeside vertical) beside.now p → Shows own.now q → (place ≡ 0 → p ≡ None) → result ≡ border_of filter.now vertical p q }
+{
+    if place == 0 {
+        return None;
+    }
+    match beside {
+        None => None,
+        Some(edge) => {
+            if is_filtered(filter.deblocking, edge.slice == own.slice) {
+                return Some(Border {
+                    qp: edge.qp,
+                    strengths: border_strengths(edge, own, vertical),
+                });
+            }
+            None
+        }
+    }
+}
+
+/// The same in a plane, by the quantisation parameter of the macroblock there.
+#[inline]
+fn border_edge(
+    border: &Option<Border>,
+    chroma: bool,
+    qp: u8,
+    filter: &SliceFilter,
+) -> Option<EdgeParameters>
+    ensures { result ≡ border_edge chroma qp filter.now border.now }
+{
+    match border {
+        None => None,
+        Some(border) => Some(parameters(
+            qp_in(chroma, border.qp, filter),
+            qp,
+            filter,
+            border.strengths,
+        )),
+    }
+}
+
+/// An inner edge.
+#[inline]
+fn inner_edge(
+    strengths: [BoundaryStrength; 4],
+    qp: u8,
+    filter: &SliceFilter,
+) -> Option<EdgeParameters>
+    ensures { result ≡ inner_edge qp filter.now strengths }
+{
+    if is_filtered(filter.deblocking, true) {
+        return Some(parameters(qp, qp, filter, strengths));
+    }
+    None
+}
+
+/// The luma edges of one direction.
+fn luma_along(
+    border: &Option<Border>,
+    inner: &[[BoundaryStrength; 4]; 3],
+    qp: u8,
+    filter: &SliceFilter,
+) -> [Option<EdgeParameters>; 4]
+    ensures { result ≡ border_edge false qp filter.now border.now ∷ inner_edge qp filter.now (get_or inner.now 0 []) ∷ inner_edge qp filter.now (get_or inner.now 1 []) ∷ inner_edge qp filter.now (get_or inner.now 2 []) ∷ [] }
+{
+    [
+        border_edge(border, false, qp, filter),
+        inner_edge(inner[0], qp, filter),
+        inner_edge(inner[1], qp, filter),
+        inner_edge(inner[2], qp, filter),
+    ]
+}
+
+/// And those of a chroma plane: the first one and the one in the middle.
+fn chroma_along(
+    border: &Option<Border>,
+    inner: &[[BoundaryStrength; 4]; 3],
+    qp: u8,
+    filter: &SliceFilter,
+) -> [Option<EdgeParameters>; 2]
+    ensures { result ≡ border_edge true qp filter.now border.now ∷ inner_edge qp filter.now (get_or inner.now 1 []) ∷ [] }
+{
+    [
+        border_edge(border, true, qp, filter),
+        inner_edge(inner[1], qp, filter),
+    ]
+}
+
+/// The edges of the macroblock behind those that `near` keeps, at this column and row of macroblocks, by its slice's filter (8.7): bS by intra
+/// prediction, coefficients, reference pictures and vectors on both sides; no edge at the picture's border, and those to other slices or none as
+/// disable_deblocking_filter_idc says.
+pub fn coded_edges(
+    near: &Near,
+    own: &Contexts,
+    filter: &SliceFilter,
+    column: usize,
+    row: usize,
+) -> Edges
+    ensures inside { (p : Component) → AreInside column row (edges_of result p) }
+    ensures edges { (slices : ℕ → Filter) (width : ℕ) (picture : List CodedMacroblock) (coded : CodedMacroblock) → Keeps width picture near.now → Shows own.now coded →
+        length picture ≡ row * width + column → column < width → slices coded.slice ≡ filter.now → ((n : ℕ) → (slices n).chroma_qp_index_offset ≡ filter.now.chroma_qp_index_offset) →
+        (p : Component) → edges_of result p ≡ edges_of_coded slices width picture coded p }
+{
+    if let Deblocking::Off = filter.deblocking {
+        return NO_EDGES;
+    }
+    let left = border_of(near.left_edge(), own, true, filter, column);
+    let above = border_of(near.above_edge(), own, false, filter, row);
+    let inner = inner_strengths(own);
+    let qp = qp_in(true, own.qp, filter);
+    let planes = ChromaEdges {
+        vertical: chroma_along(&left, &inner.vertical, qp, filter),
+        horizontal: chroma_along(&above, &inner.horizontal, qp, filter),
+    };
+    Edges {
+        y: LumaEdges {
+            vertical: luma_along(&left, &inner.vertical, own.qp, filter),
+            horizontal: luma_along(&above, &inner.horizontal, own.qp, filter),
+        },
+        cb: planes,
+        cr: planes,
+    }
+}

@@ -1,0 +1,30 @@
+-- The prediction that was read is that of the coded macroblock.
+use Rattle.std.proofs.Common.{◌≡◌, ℕ, List, Option, refl}
+use Rattle.h264_intra.specs.declared.luma4.Intra4x4PredMode.{Intra4x4PredMode}
+use Rattle.h264_intra.specs.declared.luma16.Intra16x16PredMode.{Intra16x16PredMode}
+use Rattle.h264_intra.specs.declared.chroma.IntraChromaPredMode.{IntraChromaPredMode}
+use Rattle.h264_near.specs.declared.motion.Motion as derived
+use Rattle.h264_near.specs.Coded as coded
+use Rattle.h264_recon.specs.declared.macroblock.Motion.{Motion}
+use Rattle.h264_recon.specs.declared.macroblock.PcmSamples.{PcmSamples}
+use Rattle.h264_recon.specs.declared.macroblock.Prediction.TheVariants.{Intra, Inter, Pcm}
+use Rattle.h264_recon.specs.declared.macroblock.IntraLuma.TheVariants.{Blocks, Whole}
+use Rattle.h264_recon.specs.Given.{modes4_of, mode16_of, chroma_mode_of, pcm_of, motions_of, prediction_of}
+
+pub intra-4x4 : (place : ℕ → ℕ) (p : coded.Prediction) (modes : List ℕ) (chroma : ℕ) (a : List Intra4x4PredMode) (b : IntraChromaPredMode) → p ≡ coded.Intra4x4 modes chroma → a ≡ modes4_of modes → b ≡ chroma_mode_of chroma →
+    Intra (record { luma = Blocks a; chroma = b }) ≡ prediction_of place p
+unfolding prediction_of
+intra-4x4 place p modes chroma a b e f g = rw (e, f, g) refl
+
+pub intra-16x16 : (place : ℕ → ℕ) (p : coded.Prediction) (mode chroma : ℕ) (a : Intra16x16PredMode) (b : IntraChromaPredMode) → p ≡ coded.Intra16x16 mode chroma → a ≡ mode16_of mode → b ≡ chroma_mode_of chroma →
+    Intra (record { luma = Whole a; chroma = b }) ≡ prediction_of place p
+unfolding prediction_of
+intra-16x16 place p mode chroma a b e f g = rw (e, f, g) refl
+
+pub from-pcm : (place : ℕ → ℕ) (p : coded.Prediction) (samples : List ℕ) (a : PcmSamples) → p ≡ coded.Pcm samples → a ≡ pcm_of samples → Pcm a ≡ prediction_of place p
+unfolding prediction_of
+from-pcm place p samples a e f = rw (e, f) refl
+
+pub from-inter : (place : ℕ → ℕ) (p : coded.Prediction) (motions : List (Option derived.Motion)) (a : List Motion) → p ≡ coded.Inter motions → a ≡ motions_of place motions → Inter a ≡ prediction_of place p
+unfolding prediction_of
+from-inter place p motions a e f = rw (e, f) refl

@@ -1,0 +1,68 @@
+-- Motions by index and by picture.
+use Rattle.std.proofs.Common.{◌≡◌, ℕ, zero, suc, ◌+◌, ◌/◌, ◌%◌, ◌<◌, ◌≤◌, IsTrue, Bool, true, false, List, [], ◌∷◌, length, get_or, Option, Some, None, refl, ap, sym, ◌∙◌, arith, ⊎_elim}
+use Rattle.std.specs.List.{slice_get, AllByRecursion}
+use Rattle.std.specs.Option.{option_map, option_and_then, is_some}
+use Rattle.std.proofs.lemmas.Bool.{cases_lt}
+use Rattle.h264_near.specs.declared.motion.Motion as derived
+use Rattle.h264_near.specs.Coded as coded
+use Rattle.h264_near.specs.Coded.{CodedMacroblock, number_of, motion_in}
+use Rattle.h264_near.specs.Keeps.{Shows}
+use Rattle.h264_near.specs.declared.context.Contexts.{Contexts}
+use Rattle.h264_vectors.specs.Derived.{picture_of}
+use Rattle.h264_vectors.specs.declared.slice.SliceContext.{SliceContext}
+use Rattle.h264_mbsyntax.specs.Possible.{Refers}
+use Rattle.h264_recon.specs.Given.{motion_of, motions_of}
+use Rattle.h264_recon.specs.Inter.{no_motion}
+use Rattle.h264_recon.specs.Placed.{ArePlaced, IsOneOf, placed_motion, placed_at, placed_motions}
+use Rattle.h264_recon.specs.Table.{table}
+use Rattle.h264_recon.specs.declared.macroblock.Motion.{Motion}
+use Rattle.h264_recon.proofs.Tables.{table-ext, table-at, element}
+
+few : (k : ℕ) → k < 16 → number_of (k % 4) (k / 4) < 16
+unfolding number_of
+few k h = omega arith
+
+-- ---- an index names one of the places
+
+points-at : (places : List ℕ) (m : Option derived.Motion) → IsOneOf places (placed_motion places m).picture
+points-at places None = (0, omega arith, refl)
+points-at places (Some m) = (m.ref_idx % 16, omega arith, refl)
+
+pub points : (places : List ℕ) (motions : List (Option derived.Motion)) (list : List Motion) → list ≡ placed_motions places motions → (n : ℕ) → n < 16 → IsOneOf places (get_or list n no_motion).picture
+unfolding placed_motions
+points places motions list e n h =
+    let is : get_or list n no_motion ≡ placed_at places motions n = rw e (table-at 16 (placed_at places motions) n no_motion h) in
+    rw is (points-at places (get_or motions (number_of (n % 4) (n / 4)) None))
+
+-- ---- and the one of the picture
+
+found : {A : Type 0} (xs : List (Option A)) (i : ℕ) (n : A) → option_and_then (λ p. p) (slice_get xs i) ≡ Some n → (i < length xs) × (get_or xs i None ≡ Some n)
+found [] i n e = absurd (grind (arith, e))
+found (x ∷ xs) zero n e = (omega arith, e)
+found (x ∷ xs) (suc i) n e = let r = found xs i n e in (omega (arith, r.0), r.1)
+
+all-at : {A : Type 0} (P : A → Type 0) (xs : List A) (n : ℕ) (d : A) → AllByRecursion P xs → P d → P (get_or xs n d)
+all-at P [] n d a e = e
+all-at P (x ∷ xs) zero d a e = a.0
+all-at P (x ∷ xs) (suc n) d a e = all-at P xs n d a.1 e
+
+there : (m : Option derived.Motion) → option_map (λ x. Some x) m ≡ Some m → IsTrue (is_some m)
+there None e = absurd (cc)
+there (Some m) e = refl
+
+placed-is : (slice : SliceContext) (places : List ℕ) (place : ℕ → ℕ) (m : Option derived.Motion) → length slice.references ≡ 16 → ArePlaced slice places place → Refers slice m → IsTrue (is_some m) → placed_motion places m ≡ motion_of place m
+placed-is slice places place None l a r t = absurd (grind (arith, t))
+placed-is slice places place (Some m) l a r t =
+    let f = found slice.references m.ref_idx m.picture r in
+    let e : m.ref_idx % 16 ≡ m.ref_idx = let h = f.0 in omega arith in
+    rw (e, a.each m.ref_idx m.picture (let h = f.0 in omega arith) f.1) refl
+
+-- those of a whole inter macroblock
+pub motions-are : (slice : SliceContext) (places : List ℕ) (place : ℕ → ℕ) (c : Contexts) (m : CodedMacroblock) (list : List Motion) → length slice.references ≡ 16 → ArePlaced slice places place → Shows c m → m.prediction ≡ coded.Inter c.motions →
+    AllByRecursion (Refers slice) c.motions → list ≡ placed_motions places c.motions → list ≡ motions_of place c.motions
+unfolding placed_motions motions_of
+motions-are slice places place c m list l a s p r e =
+    e ∙ table-ext 16 _ _ (λ k h.
+    let n = number_of (k % 4) (k / 4) in
+    let t : option_map (λ x. Some x) (get_or c.motions n None) ≡ Some (get_or c.motions n None) = rw p at (s.motions n (few k h)) in
+    placed-is slice places place (get_or c.motions n None) l a (all-at (Refers slice) c.motions n None r tt) (there (get_or c.motions n None) t))

@@ -1,0 +1,34 @@
+-- The motions that the code has, by the places that indexes of the reference list name.
+use Rattle.std.specs.Prelude.{◌≡◌, ℕ, ◌%◌, ◌/◌, ◌<◌, List, get_or, Option, Some, None, pos}
+use Rattle.h264_near.specs.declared.motion.Motion as derived
+use Rattle.h264_near.specs.Coded.{number_of}
+use Rattle.h264_vectors.specs.declared.slice.SliceContext.{SliceContext}
+use Rattle.h264_recon.specs.Inter.{no_motion}
+use Rattle.h264_recon.specs.Table.{table}
+use Rattle.h264_recon.specs.declared.macroblock.Motion.{Motion}
+use Rattle.h264_recon.specs.declared.macroblock.Prediction.{Prediction}
+use Rattle.h264_recon.specs.declared.macroblock.Prediction.TheVariants.{Intra, Inter, Pcm}
+
+-- the places of the slice's reference pictures, by refIdxL0, are those of their numbers
+pub record ArePlaced (slice : SliceContext) (places : List ℕ) (place : ℕ → ℕ) : Type 0 where
+  pub each : (k n : ℕ) → k < 16 → get_or slice.references k None ≡ Some n → get_or places k 0 ≡ place n
+
+-- a place is one of these sixteen
+abbrev pub IsOneOf : List ℕ → ℕ → Type 0
+IsOneOf places n = (k : ℕ) × (k < 16) × (n ≡ get_or places k 0)
+
+-- each motion of a macroblock points into one of these places
+abbrev pub PointsInto : List ℕ → Prediction → Type 0
+PointsInto places (Intra modes) = Unit {0}
+PointsInto places (Inter motions) = (n : ℕ) → n < 16 → IsOneOf places (get_or motions n no_motion).picture
+PointsInto places (Pcm samples) = Unit {0}
+
+abbrev pub placed_motion : List ℕ → Option derived.Motion → Motion
+placed_motion places None = record { picture = get_or places 0 0; vector = record { x = pos 0; y = pos 0 } }
+placed_motion places (Some m) = record { picture = get_or places (m.ref_idx % 16) 0; vector = record { x = m.vector.x; y = m.vector.y } }
+
+abbrev pub placed_at : List ℕ → List (Option derived.Motion) → ℕ → Motion
+placed_at places motions k = placed_motion places (get_or motions (number_of (k % 4) (k / 4)) None)
+
+unfoldable pub placed_motions : List ℕ → List (Option derived.Motion) → List Motion
+placed_motions places motions = table 16 (placed_at places motions)

@@ -1,0 +1,206 @@
+//! What a macroblock that was read gives to its construction (8.3, 8.4.2).
+#![tactic(auto)]
+
+ghost use Rattle.std.specs.Prelude.{◌≡◌, ℕ, ◌+◌, ◌*◌, ◌<◌, ◌&&◌, List, length, get_or};
+ghost use Rattle.h264_near.specs.Coded.{CodedMacroblock};
+ghost use Rattle.h264_near.specs.Keeps.{Keeps, width_of};
+ghost use Rattle.h264_vectors.specs.declared.slice.SliceContext.{SliceContext as Context};
+ghost use Rattle.h264_mbsyntax.specs.Holds.{Holds};
+ghost use Rattle.h264_mbsyntax.specs.Possible.{IsPossible};
+ghost use Rattle.h264_recon.specs.Constructed.{coded as coded_as, IsWithin};
+ghost use Rattle.h264_recon.specs.Levels.{levels_of};
+ghost use Rattle.h264_recon.specs.Given.{available as available_of, mode4_of, mode16_of, chroma_mode_of, modes4_of, pcm_of, prediction_of, given as given_of};
+ghost use Rattle.h264_recon.specs.Placed.{ArePlaced, PointsInto, placed_motion, placed_motions};
+
+use crate::macroblock::{
+    Available, IntraLuma, IntraModes, Macroblock, Motion, PcmSamples, Prediction,
+};
+use h264_inter::MotionVector;
+use h264_intra::{Intra4x4PredMode, Intra16x16PredMode, IntraChromaPredMode};
+use h264_mbsyntax::{Kind, Macroblock as Read};
+use h264_near::block::number;
+use h264_near::{Motion as Derived, Near};
+use h264_vectors::SliceContext;
+
+/// Whether a macroblock is available and its place lies in the picture.
+#[inline(always)]
+fn lies(inside: bool, available: bool) -> bool
+    ensures { result ≡ (inside && available) }
+{
+    if inside {
+        return available;
+    }
+    false
+}
+
+/// Which macroblocks round the next one, which stands at this column and row, intra prediction may use (6.4.9, 8.3.1.2): those of its slice, and no
+/// inter macroblocks where `constrained`, constrained_intra_pred_flag, is set.
+pub fn available(near: &Near, slice: u32, constrained: bool, column: usize, row: usize) -> Available
+    requires small { column < 1024 }
+    ensures within { IsWithin result (width_of near.now) column row }
+    ensures here { (width : ℕ) (picture : List CodedMacroblock) → Keeps width picture near.now → length picture ≡ row * width + column → column < width → result ≡ available_of width picture slice constrained }
+{
+    let samples = near.samples(slice, constrained, &[0; 16], 0);
+    let right = near.above_right(slice, constrained);
+    Available {
+        left: lies(column > 0, samples.left),
+        above: lies(row > 0, samples.above),
+        above_right: lies(row > 0, lies(column + 1 < near.width(), right)),
+        corner: lies(column > 0, lies(row > 0, samples.corner)),
+    }
+}
+
+#[tactic(auto, unfolding(crate::specs::Given::mode4_of))]
+#[inline]
+fn mode4(n: u8) -> Intra4x4PredMode
+    ensures { result ≡ mode4_of n }
+{
+    match n {
+        0 => Intra4x4PredMode::Vertical,
+        1 => Intra4x4PredMode::Horizontal,
+        2 => Intra4x4PredMode::Dc,
+        3 => Intra4x4PredMode::DiagonalDownLeft,
+        4 => Intra4x4PredMode::DiagonalDownRight,
+        5 => Intra4x4PredMode::VerticalRight,
+        6 => Intra4x4PredMode::HorizontalDown,
+        7 => Intra4x4PredMode::VerticalLeft,
+        _ => Intra4x4PredMode::HorizontalUp,
+    }
+}
+
+#[tactic(auto, unfolding(crate::specs::Given::mode16_of))]
+#[inline]
+fn mode16(n: u8) -> Intra16x16PredMode
+    ensures { result ≡ mode16_of n }
+{
+    match n {
+        0 => Intra16x16PredMode::Vertical,
+        1 => Intra16x16PredMode::Horizontal,
+        2 => Intra16x16PredMode::Dc,
+        _ => Intra16x16PredMode::Plane,
+    }
+}
+
+#[tactic(auto, unfolding(crate::specs::Given::chroma_mode_of))]
+#[inline]
+fn chroma_mode(n: u8) -> IntraChromaPredMode
+    ensures { result ≡ chroma_mode_of n }
+{
+    match n {
+        0 => IntraChromaPredMode::Dc,
+        1 => IntraChromaPredMode::Horizontal,
+        2 => IntraChromaPredMode::Vertical,
+        _ => IntraChromaPredMode::Plane,
+    }
+}
+
+/// The modes of the blocks of an I_4x4 macroblock.
+fn modes4(modes: &[u8; 16]) -> [Intra4x4PredMode; 16]
+    ensures { result ≡ modes4_of modes.now }
+{
+    let mut out = [Intra4x4PredMode::Dc; 16];
+    for k in 0..16 {
+        out[k] = mode4(modes[k]);
+    }
+    out
+}
+
+/// The samples of I_PCM by plane.
+fn pcm(samples: &[u8; 384]) -> PcmSamples
+    ensures { result ≡ pcm_of samples.now }
+{
+    let mut y = [0; 256];
+    'luma: for k in 0..256 {
+        y[k] = samples[k];
+    }
+    let mut cb = [0; 64];
+    'first: for k in 0..64 {
+        cb[k] = samples[256 + k];
+    }
+    let mut cr = [0; 64];
+    'second: for k in 0..64 {
+        cr[k] = samples[320 + k];
+    }
+    PcmSamples { y, cb, cr }
+}
+
+/// A block's motion: its picture is the place that its index names.
+#[inline]
+fn motion(derived: Option<Derived>, places: &[u8; 16]) -> Motion
+    ensures { result ≡ placed_motion places.now derived }
+{
+    match derived {
+        None => Motion {
+            picture: places[0],
+            vector: MotionVector { x: 0, y: 0 },
+        },
+        Some(m) => Motion {
+            picture: places[m.ref_idx as usize % 16],
+            vector: MotionVector {
+                x: m.vector.x,
+                y: m.vector.y,
+            },
+        },
+    }
+}
+
+/// Motions row by row.
+fn motions(derived: &[Option<Derived>; 16], places: &[u8; 16]) -> [Motion; 16]
+    ensures { result ≡ placed_motions places.now derived.now }
+{
+    let mut out = [motion(None, places); 16];
+    for k in 0..16 {
+        out[k] = motion(derived[number(k % 4, k / 4)], places);
+    }
+    out
+}
+
+/// How a macroblock is predicted.
+fn prediction(read: &Read, places: &[u8; 16]) -> Prediction
+    ensures points { PointsInto places.now result }
+    ensures here { (slice : Context) (place : ℕ → ℕ) (width : ℕ) (picture : List CodedMacroblock) (coded : CodedMacroblock) → Holds read.now coded → IsPossible width slice picture coded.prediction → length slice.references ≡ 16 → ArePlaced slice places.now place → result ≡ prediction_of place coded.prediction }
+{
+    match read.kind {
+        Kind::Intra4x4 => Prediction::Intra(IntraModes {
+            luma: IntraLuma::Blocks(modes4(&read.contexts.modes)),
+            chroma: chroma_mode(read.chroma_mode),
+        }),
+        Kind::Intra16x16 { mode } => Prediction::Intra(IntraModes {
+            luma: IntraLuma::Whole(mode16(mode)),
+            chroma: chroma_mode(read.chroma_mode),
+        }),
+        Kind::Pcm => Prediction::Pcm(pcm(&read.pcm)),
+        Kind::Inter => Prediction::Inter(motions(&read.contexts.motions, places)),
+    }
+}
+
+/// How many places a list of references has.
+#[inline(always)]
+fn count(references: &[Option<u64>; 16]) -> usize
+    ensures { length references.now ≡ 16 }
+{
+    references.len()
+}
+
+/// What a macroblock that was read, behind those that `near` keeps and at this column and row of macroblocks, gives to its construction: the sides
+/// that intra prediction may use, and its modes, motions or samples. `places` are those of the reference pictures in the pool of frames, by refIdxL0.
+pub fn given(
+    read: &Read,
+    near: &Near,
+    slice: &SliceContext,
+    places: &[u8; 16],
+    column: usize,
+    row: usize,
+) -> Macroblock
+    requires small { column < 1024 }
+    ensures within { IsWithin result.available (width_of near.now) column row }
+    ensures points { PointsInto places.now result.prediction }
+    ensures given { (width : ℕ) (picture : List CodedMacroblock) (place : ℕ → ℕ) (coded : CodedMacroblock) → Keeps width picture near.now → length picture ≡ row * width + column → column < width → Holds read.now coded → coded.slice ≡ slice.now.number →
+        IsPossible width slice.now picture coded.prediction → ArePlaced slice.now places.now place → coded_as result (levels_of slice.now.chroma_qp_index_offset coded) ≡ given_of width picture place slice.now.constrained_intra slice.now.chroma_qp_index_offset coded }
+{
+    let _all = count(&slice.references);
+    Macroblock {
+        available: available(near, slice.number, slice.constrained_intra, column, row),
+        prediction: prediction(read, places),
+    }
+}
