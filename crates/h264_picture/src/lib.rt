@@ -8,6 +8,8 @@
 #![tactic(auto)]
 
 pub mod context;
+mod in_place;
+pub mod laws;
 mod levels;
 mod run;
 mod step;
