@@ -4,3 +4,8 @@ pub mod Limits
 pub mod Sound
 pub mod Lent
 pub mod Turns
+pub mod Room
+pub mod Prefix
+pub mod Carried
+pub mod Held
+pub mod Unique

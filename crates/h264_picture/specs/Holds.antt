@@ -48,6 +48,13 @@ pub record KeepsPlace (old new : Sequence) : Type 0 where
   pub place : new.frames.place ≡ old.frames.place
   pub begun : new.frames.begun ≡ old.frames.begun
 
+-- what is known of the macroblocks is what it was
+pub record KeepsSyntax (old new : Sequence) : Type 0 where
+  pub near : new.near ≡ old.near
+  pub size : new.size ≡ old.size
+  pub next : new.next ≡ old.next
+  pub mb : new.mb ≡ old.mb
+
 -- ---- the work
 
 -- a sequence is active, of which this holds

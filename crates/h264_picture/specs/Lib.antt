@@ -6,3 +6,5 @@ pub mod Lent
 pub mod Sound
 pub mod Holds
 pub mod Places
+pub mod Decoded
+pub mod Held

@@ -4,7 +4,7 @@
 ghost use Rattle.std.specs.Prelude.{◌≡◌, ◌+◌, ◌*◌, ◌<◌, ◌≤◌, ◌==◌, ◌||◌};
 ghost use Rattle.h264_vectors.specs.Derived.{has_picture as has_picture_of};
 
-use crate::levels::transform_fits;
+use crate::levels::{no_residuals, residuals_of};
 use crate::sequence::Sequence;
 use h264_base::{ElementName, Elements, Rule, SliceType, Stop};
 use h264_bits::{Bits, check, look, read_ue};
@@ -89,10 +89,17 @@ impl Sequence {
         check(0 < left, Rule::MbPast, ahead.bit)?;
         let qp = self.mb.qp;
         let bit = read_macroblock(bits, &self.near, slice, qp, &mut self.mb, sink)?;
-        let fits = transform_fits(slice, &self.mb);
-        check(fits, Rule::TransformRange, bit)?;
-        self.keep();
-        Ok(Some(Standing::Next))
+        match residuals_of(slice, &self.mb) {
+            None => Err(Stop::No {
+                bit,
+                rule: Rule::TransformRange,
+            }),
+            Some(residuals) => {
+                self.make(slice, &residuals);
+                self.keep();
+                Ok(Some(Standing::Next))
+            }
+        }
     }
 
     /// Derives a skipped macroblock, by the mb_skip_run at this stream bit; so many more follow.
@@ -119,6 +126,7 @@ impl Sequence {
         let fits = vector_fits(slice.vector_limit, vector);
         check(fits, Rule::VectorRange, bit)?;
         skip_macroblock(slice, vector, &mut self.mb);
+        self.make(slice, &no_residuals());
         self.keep();
         Ok(Some(Standing::Skipping { bit, more }))
     }

@@ -1,0 +1,55 @@
+//! One macroblock of a picture in the making: constructed in place (8.3, 8.4, 8.5), and filtered behind it (8.7).
+#![tactic(auto)]
+
+ghost use Rattle.std.specs.Prelude.{◌≡◌, ℕ, ◌+◌, ◌*◌, ◌<◌, ◌≤◌, IsTrue, List, [], ◌∷◌, ◌++◌, length, vec_len};
+ghost use Rattle.h264_plane.specs.Samples.{IsSized};
+ghost use Rattle.h264_plane.specs.Frames.{plane_of};
+ghost use Rattle.h264_plane.specs.declared.frame.Component.{Component};
+ghost use Rattle.h264_near.specs.Coded.{CodedMacroblock};
+ghost use Rattle.h264_scale.specs.Macroblock.{AreResiduals};
+ghost use Rattle.h264_scale.specs.declared.levels.Levels.{Levels};
+ghost use Rattle.h264_recon.specs.Inter.{Setting};
+ghost use Rattle.h264_recon.specs.Constructed.{coded as coded_as, IsPossible};
+ghost use Rattle.h264_recon.specs.Lines.{store_of};
+ghost use Rattle.h264_recon.specs.Pool.{AreShown, AreUsable};
+ghost use Rattle.h264_deblock.specs.Filtering.{AreInside, edges_of};
+ghost use Rattle.h264_deblock.specs.CodedEdges.{coded_edges};
+ghost use Rattle.h264_picture.specs.Decoded.{Parameters, filters, given_by};
+ghost use Rattle.h264_picture.specs.Held.{IsHeld};
+
+use h264_deblock::{Edges, macroblock};
+use h264_plane::{Frame, Pool};
+use h264_recon::{Lines, Macroblock, construct};
+use h264_scale::Residuals;
+
+/// Goes on by the macroblock at this column and row: constructs it in the frame from the lines, brings these up to date, and filters its edges. Where
+/// frame and lines hold a coded picture so far, they hold it with this macroblock.
+pub(crate) fn go_on(
+    lines: &mut Lines,
+    frame: &mut Frame,
+    m: &Macroblock,
+    residuals: &Residuals,
+    edges: &Edges,
+    pool: &Pool,
+    column: usize,
+    row: usize,
+)
+    requires usable { AreUsable pool.now column row m.now.prediction }
+    requires y { (16 * column + 16 ≤ frame.old.y.width) × (16 * row + 16 ≤ frame.old.y.height) }
+    requires cb { (8 * column + 8 ≤ frame.old.cb.width) × (8 * row + 8 ≤ frame.old.cb.height) }
+    requires cr { (8 * column + 8 ≤ frame.old.cr.width) × (8 * row + 8 ≤ frame.old.cr.height) }
+    requires small { (column < 1024) × (row < 1024) }
+    requires y_lines { 16 * column + 16 ≤ vec_len lines.old.y.above }
+    requires cb_lines { 8 * column + 8 ≤ vec_len lines.old.cb.above }
+    requires cr_lines { 8 * column + 8 ≤ vec_len lines.old.cr.above }
+    requires more { IsTrue m.now.available.above_right → 16 * column + 20 ≤ vec_len lines.old.y.above }
+    requires inside { (p : Component) → AreInside column row (edges_of edges.now p) }
+    ensures lines { (p : Component) → vec_len (store_of p lines.new).above ≡ vec_len (store_of p lines.old).above }
+    ensures size { (p : Component) → IsSized (plane_of p frame.new) (plane_of p frame.old).width (plane_of p frame.old).height }
+    ensures held { (k : Setting) (place : ℕ → ℕ) (slices : ℕ → Parameters) (picture : List CodedMacroblock) (coded : CodedMacroblock) (l : Levels) → length picture ≡ row * k.across + column → column < k.across → row < k.down →
+        AreShown k pool.now m.now.prediction → AreResiduals l residuals.now → IsPossible m.now.prediction m.now.available → coded_as m.now l ≡ given_by k.across picture place (slices coded.slice) coded →
+        ((p : Component) → edges_of edges.now p ≡ coded_edges (filters slices) k.across picture coded p) → IsHeld k place slices lines.old frame.old picture → IsHeld k place slices lines.new frame.new (picture ++ coded ∷ []) }
+{
+    construct(lines, frame, m, residuals, pool, column, row);
+    macroblock(frame, edges, column, row);
+}

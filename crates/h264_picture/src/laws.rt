@@ -1,0 +1,18 @@
+//! What holds of the samples of a picture. Nothing here runs.
+#![tactic(auto)]
+
+ghost use Rattle.std.specs.Prelude.{◌≡◌, ℕ, ◌+◌, ◌*◌, ◌<◌, List};
+ghost use Rattle.h264_plane.specs.declared.frame.Component.{Component};
+ghost use Rattle.h264_plane.specs.Places.{side};
+ghost use Rattle.h264_near.specs.Coded.{CodedMacroblock};
+ghost use Rattle.h264_recon.specs.Inter.{Setting};
+ghost use Rattle.h264_recon.specs.Constructed.{IsPossible};
+ghost use Rattle.h264_picture.specs.Decoded.{Parameters, macroblock_at, IsDecoded};
+
+/// A coded picture, with the parameters of its slices and its reference pictures, has at most one decoded picture (8), where its modes refer to
+/// sides that there are.
+pub fn one_decoded()
+    ensures { (k : Setting) (place : ℕ → ℕ) (slices : ℕ → Parameters) (picture : List CodedMacroblock) (f g : Component → ℕ → ℕ → ℕ) →
+        ((c r : ℕ) → c < k.across → r < k.down → IsPossible (macroblock_at slices place k.across picture (r * k.across + c)).prediction (macroblock_at slices place k.across picture (r * k.across + c)).available) →
+        IsDecoded k place slices picture f → IsDecoded k place slices picture g → (p : Component) (x y : ℕ) → x < side p * k.across → y < side p * k.down → f p x y ≡ g p x y }
+{}

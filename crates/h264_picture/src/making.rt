@@ -1,0 +1,80 @@
+//! The samples of a macroblock: construction (8.3, 8.4.2, 8.5) and, behind it, the deblocking filter (8.7).
+#![tactic(auto)]
+
+ghost use Rattle.std.specs.Prelude.{◌≡◌, ◌+◌, ◌<◌, IsTrue};
+ghost use Rattle.h264_recon.specs.Placed.{PointsInto};
+
+use crate::in_place::go_on;
+use crate::sequence::Sequence;
+use h264_deblock::coded_edges;
+use h264_recon::{Available, Macroblock, given};
+use h264_scale::Residuals;
+use h264_vectors::SliceContext;
+
+/// The sides that intra prediction may use, in a row of so many macroblocks: to the right of the last one there is none.
+#[inline]
+fn within_row(available: Available, across: usize, column: usize) -> Available
+    requires { column < 1024 }
+    ensures same { column + 1 < across → result ≡ available }
+    ensures none { IsTrue result.above_right → column + 1 < across }
+{
+    if column + 1 < across {
+        return available;
+    }
+    Available {
+        left: available.left,
+        above: available.above,
+        above_right: false,
+        corner: available.corner,
+    }
+}
+
+impl Sequence {
+    ghost use Rattle.h264_picture.specs.Holds.{KeepsPlace, KeepsSyntax};
+
+    /// What constructs the macroblock in its place.
+    #[inline(always)]
+    fn given(&self, slice: &SliceContext) -> Macroblock
+        ensures points { PointsInto self.now.places result.prediction }
+        ensures more { IsTrue result.available.above_right → self.now.column + 1 < self.now.across }
+    {
+        let m = given(
+            &self.mb,
+            &self.near,
+            slice,
+            &self.places,
+            self.column,
+            self.row,
+        );
+        Macroblock {
+            available: within_row(m.available, self.across, self.column),
+            prediction: m.prediction,
+        }
+    }
+
+    /// Makes the samples of the macroblock in its place.
+    pub(crate) fn make(&mut self, slice: &SliceContext, residuals: &Residuals)
+        requires { self.old.next < self.old.size }
+        ensures same { KeepsPlace self.old self.new }
+        ensures syntax { KeepsSyntax self.old self.new }
+    {
+        let m = self.given(slice);
+        let edges = coded_edges(
+            &self.near,
+            &self.mb.contexts,
+            &self.filter,
+            self.column,
+            self.row,
+        );
+        go_on(
+            &mut self.lines,
+            &mut self.frames.frame,
+            &m,
+            residuals,
+            &edges,
+            &self.frames.pool,
+            self.column,
+            self.row,
+        );
+    }
+}
