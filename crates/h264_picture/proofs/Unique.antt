@@ -1,5 +1,5 @@
 -- The samples of a picture are those of its coded macroblocks.
-use Rattle.std.proofs.Common.{◌≡◌, ℕ, ◌+◌, ◌*◌, ◌-◌, ◌<◌, ◌≤◌, List, ap, sym, ◌∙◌, arith, inr, ⊎_elim}
+use Rattle.std.proofs.Common.{◌≡◌, ℕ, ◌+◌, ◌*◌, ◌-◌, ◌<◌, ◌≤◌, List, length, refl, ap, sym, ◌∙◌, arith, inr, ⊎_elim}
 use Rattle.std.proofs.lemmas.Bool.{cases_lt}
 use Rattle.std.proofs.lemmas.Nat.{mul-le}
 use Rattle.h264_plane.specs.declared.frame.Component.{Component}
@@ -8,6 +8,7 @@ use Rattle.h264_plane.specs.Places.{side}
 use Rattle.h264_recon.specs.Inter.{Setting}
 use Rattle.h264_plane.specs.Places.{Agree}
 use Rattle.h264_recon.specs.Constructed.{IsPossible}
+use Rattle.h264_recon.proofs.Existence.{some_picture}
 use Rattle.h264_recon.proofs.Unique.{unique}
 use Rattle.h264_plane.proofs.Raster.{side_least}
 use Rattle.h264_deblock.specs.Filtering.{filtered_by, is_chroma}
@@ -39,3 +40,16 @@ one_decoded k place slices picture f g possible a b p x y i j =
     ∙ done.each x y i (inr (omega arith, i))
     ∙ ap (λ n. filtered_by n k.across (side p) (is_chroma p) (edges_at slices k.across picture p) (b.u p) x y) (sym count)
     ∙ sym (b.filtered p x y i j)
+
+pub some_decoded : (k : Setting) (place : ℕ → ℕ) (slices : ℕ → Parameters) (picture : List CodedMacroblock) → length picture ≡ k.down * k.across →
+    ((c r : ℕ) → c < k.across → r < k.down → IsPossible (macroblock_at slices place k.across picture (r * k.across + c)).prediction (macroblock_at slices place k.across picture (r * k.across + c)).available) →
+    (final : Component → ℕ → ℕ → ℕ) × IsDecoded k place slices picture final
+some_decoded k place slices picture whole possible =
+    let s = some_picture k (macroblock_at slices place k.across picture)
+    (λ c r d e. record {
+      within = within-at k slices place picture c r d (let m = mul-le (r + 1) k.across k.down k.across (omega arith) (omega arith) in omega arith);
+      possible = possible c r d e;
+    }) in (
+      (λ p x y. filtered_by (k.down * k.across) k.across (side p) (is_chroma p) (edges_at slices k.across picture p) (s.0 p) x y),
+      record { whole = whole; u = s.0; constructed = s.1; filtered = λ p x y i j. refl },
+    )

@@ -1,7 +1,7 @@
 //! What holds of the samples of a picture. Nothing here runs.
 #![tactic(auto)]
 
-ghost use Rattle.std.specs.Prelude.{◌≡◌, ℕ, ◌+◌, ◌*◌, ◌<◌, List};
+ghost use Rattle.std.specs.Prelude.{◌≡◌, ℕ, ◌+◌, ◌*◌, ◌<◌, List, length};
 ghost use Rattle.h264_plane.specs.declared.frame.Component.{Component};
 ghost use Rattle.h264_plane.specs.Places.{side};
 ghost use Rattle.h264_near.specs.Coded.{CodedMacroblock};
@@ -15,4 +15,11 @@ pub fn one_decoded()
     ensures { (k : Setting) (place : ℕ → ℕ) (slices : ℕ → Parameters) (picture : List CodedMacroblock) (f g : Component → ℕ → ℕ → ℕ) →
         ((c r : ℕ) → c < k.across → r < k.down → IsPossible (macroblock_at slices place k.across picture (r * k.across + c)).prediction (macroblock_at slices place k.across picture (r * k.across + c)).available) →
         IsDecoded k place slices picture f → IsDecoded k place slices picture g → (p : Component) (x y : ℕ) → x < side p * k.across → y < side p * k.down → f p x y ≡ g p x y }
+{}
+
+/// And it has one, where it is whole.
+pub fn some_decoded()
+    ensures { (k : Setting) (place : ℕ → ℕ) (slices : ℕ → Parameters) (picture : List CodedMacroblock) → length picture ≡ k.down * k.across →
+        ((c r : ℕ) → c < k.across → r < k.down → IsPossible (macroblock_at slices place k.across picture (r * k.across + c)).prediction (macroblock_at slices place k.across picture (r * k.across + c)).available) →
+        (final : Component → ℕ → ℕ → ℕ) × IsDecoded k place slices picture final }
 {}

@@ -15,3 +15,4 @@ pub mod FromRead
 pub mod FromPrediction
 pub mod Within
 pub mod Placed
+pub mod Possible

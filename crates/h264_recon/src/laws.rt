@@ -1,7 +1,11 @@
 //! What holds of the equations of a picture. Nothing here runs.
 #![tactic(auto)]
 
-ghost use Rattle.std.specs.Prelude.{◌≡◌, ℕ, ◌+◌, ◌*◌, ◌<◌};
+ghost use Rattle.std.specs.Prelude.{◌≡◌, ℕ, ◌+◌, ◌*◌, ◌<◌, List, length, ℤ};
+ghost use Rattle.h264_near.specs.Coded.{CodedMacroblock};
+ghost use Rattle.h264_vectors.specs.declared.slice.SliceContext.{SliceContext};
+ghost use Rattle.h264_mbsyntax.specs.Possible.{IsPossible};
+ghost use Rattle.h264_recon.specs.Given.{given};
 ghost use Rattle.h264_plane.specs.declared.frame.Component.{Component};
 ghost use Rattle.h264_plane.specs.Places.{side};
 ghost use Rattle.h264_recon.specs.Inter.{Setting};
@@ -34,4 +38,11 @@ pub fn references_alone()
 /// Where a row of macroblocks ends, the lines are those of the next one.
 pub fn next_row()
     ensures { (w r : ℕ) (u : Component → ℕ → ℕ → ℕ) (l : Lines) → AreStored w w r u l → AreStored w 0 (r + 1) u l }
+{}
+
+/// What a macroblock of the coded picture gives to its construction is allowed, where its modes have their samples (8.3.1.2, 8.3.3, 8.3.4): intra prediction
+/// takes no macroblock from outside the picture, and no mode a side that is not there.
+pub fn given_is_allowed()
+    ensures { (width : ℕ) (slice : SliceContext) (picture : List CodedMacroblock) (place : ℕ → ℕ) (offset : ℤ) (coded : CodedMacroblock) (c r : ℕ) → length picture ≡ r * width + c → c < width →
+        coded.slice ≡ slice.number → IsPossible width slice picture coded.prediction → IsAllowed (given width picture place slice.constrained_intra offset coded) width c r }
 {}

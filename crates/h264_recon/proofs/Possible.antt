@@ -1,0 +1,230 @@
+-- Modes that were read refer to sides that there are (8.3.1.2, 8.3.3, 8.3.4).
+use Rattle.std.proofs.Common.{◌≡◌, ℕ, zero, suc, ◌+◌, ◌*◌, ◌/◌, ◌%◌, ◌<◌, ◌≤◌, ◌==◌, Bool, true, false, ◌&&◌, ◌||◌, not, nat_lt, IsTrue, List, [], ◌∷◌, length, take, get_or, Option, Some, None, ℤ, refl, ap, sym, ◌∙◌, arith, lit<, if◌then◌else◌}
+use Rattle.std.specs.List.{slice_get}
+use Rattle.std.specs.Option.{is_some, option_and_then}
+use Rattle.std.proofs.lemmas.Bool.{lt-ltb}
+use Rattle.std.proofs.lemmas.Bool.Decides.{nat_tests}
+use Rattle.h264_plane.specs.Places.{index_of}
+use Rattle.h264_intra.specs.Luma4.{is_possible4}
+use Rattle.h264_intra.specs.Luma16.{is_possible16}
+use Rattle.h264_intra.specs.Chroma.{is_possible_chroma}
+use Rattle.h264_intra.specs.declared.luma4.Intra4x4PredMode.TheVariants.{Dc}
+use Rattle.h264_intra.specs.declared.sides.Sides.{Sides}
+use Rattle.h264_intra.specs.declared.sides.Sides4.{Sides4}
+use Rattle.h264_near.specs.Coded as coded
+use Rattle.h264_near.specs.Coded.{CodedMacroblock, mode_part, mode_in, is_intra, number_of, column_of, row_of}
+use Rattle.h264_near.specs.Intra.{with_modes, block_samples, macroblock_samples}
+use Rattle.h264_near.specs.Place.{around}
+use Rattle.h264_near.specs.Raster.{last_in, last_left}
+use Rattle.h264_near.specs.declared.samples.Samples.{Samples}
+use Rattle.h264_near.proofs.Neighbours.{left-of, upper-of, corner-of}
+use Rattle.h264_near.proofs.Places.{length-taken}
+use Rattle.h264_vectors.specs.declared.slice.SliceContext.{SliceContext}
+use Rattle.h264_mbsyntax.specs.Intra.{fits_block, fits_luma, fits_chroma}
+use Rattle.h264_mbsyntax.specs.Possible as read
+use Rattle.h264_recon.specs.Blocks.{sides_of, sides4_of, left_there, above_there, corner_there}
+use Rattle.h264_recon.specs.Constructed.{IsPossible, IsPossibleLuma, IsAllowed, mode_at}
+use Rattle.h264_recon.specs.Given.{available, mode4_of, mode16_of, chroma_mode_of, modes4_of, prediction_of, given}
+use Rattle.h264_recon.specs.declared.macroblock.IntraLuma.TheVariants.{Blocks}
+use Rattle.h264_recon.specs.Table.{table}
+use Rattle.h264_recon.proofs.Tables.{table-at}
+use Rattle.h264_recon.proofs.Within.{within}
+
+-- ---- modes
+
+three : (a b c d e f : Bool) → IsTrue (a && (b && c)) → (IsTrue a → IsTrue d) → (IsTrue b → IsTrue e) → (IsTrue c → IsTrue f) → IsTrue (d && e && f)
+three true true true d e f t g h k = rw (g refl, h refl, k refl) refl
+three true true false d e f t g h k = absurd (cc)
+three true false c d e f t g h k = absurd (cc)
+three false b c d e f t g h k = absurd (cc)
+
+second : (a b c : Bool) → IsTrue (a && (b && c)) → IsTrue b
+second true true c t = refl
+second true false c t = absurd (cc)
+second false b c t = absurd (cc)
+
+pub fits-4x4 : (n : ℕ) (s : Samples) (t : Sides4) → (IsTrue s.above → IsTrue t.above) → (IsTrue s.left → IsTrue t.left) → (IsTrue s.corner → IsTrue t.corner) → IsTrue (fits_block n s) → IsTrue (is_possible4 (mode4_of n) t)
+unfolding fits_block mode4_of
+fits-4x4 zero s t a l c h = a h
+fits-4x4 (suc zero) s t a l c h = l h
+fits-4x4 (suc (suc zero)) s t a l c h = refl
+fits-4x4 (suc (suc (suc zero))) s t a l c h = a h
+fits-4x4 (suc (suc (suc (suc zero)))) s t a l c h = three s.above s.left s.corner t.above t.left t.corner h a l c
+fits-4x4 (suc (suc (suc (suc (suc zero))))) s t a l c h = three s.above s.left s.corner t.above t.left t.corner h a l c
+fits-4x4 (suc (suc (suc (suc (suc (suc zero)))))) s t a l c h = three s.above s.left s.corner t.above t.left t.corner h a l c
+fits-4x4 (suc (suc (suc (suc (suc (suc (suc zero))))))) s t a l c h = a h
+fits-4x4 (suc (suc (suc (suc (suc (suc (suc (suc n)))))))) s t a l c h =
+    let m = suc (suc (suc (suc (suc (suc (suc (suc n))))))) in
+    let z2 : (m == 2) ≡ false = grind (arith, nat_tests) in
+    let z0 : (m == 0) ≡ false = grind (arith, nat_tests) in
+    let z3 : (m == 3) ≡ false = grind (arith, nat_tests) in
+    let z7 : (m == 7) ≡ false = grind (arith, nat_tests) in
+    let z1 : (m == 1) ≡ false = grind (arith, nat_tests) in
+    l (last (m == 8) (rw (z2, z0, z3, z7, z1) at h))
+  where
+    last : (b : Bool) → IsTrue (if b then s.left else s.above && (s.left && s.corner)) → IsTrue s.left
+    last true h = h
+    last false h = second s.above s.left s.corner h
+
+fits-16x16 : (n : ℕ) (s : Samples) → IsTrue (fits_luma n s) → IsTrue (is_possible16 (mode16_of n) (record { left = s.left; above = s.above; corner = s.corner }))
+unfolding fits_luma mode16_of
+fits-16x16 zero s h = h
+fits-16x16 (suc zero) s h = h
+fits-16x16 (suc (suc zero)) s h = refl
+fits-16x16 (suc (suc (suc n))) s h =
+    let m = suc (suc (suc n)) in
+    let z2 : (m == 2) ≡ false = grind (arith, nat_tests) in
+    let z0 : (m == 0) ≡ false = grind (arith, nat_tests) in
+    let z1 : (m == 1) ≡ false = grind (arith, nat_tests) in
+    three s.above s.left s.corner s.above s.left s.corner (rw (z2, z0, z1) at h) (λ t. t) (λ t. t) (λ t. t)
+
+fits-chroma : (n : ℕ) (s : Samples) → IsTrue (fits_chroma n s) → IsTrue (is_possible_chroma (chroma_mode_of n) (record { left = s.left; above = s.above; corner = s.corner }))
+unfolding fits_chroma chroma_mode_of
+fits-chroma zero s h = refl
+fits-chroma (suc zero) s h = h
+fits-chroma (suc (suc zero)) s h = h
+fits-chroma (suc (suc (suc n))) s h =
+    let m = suc (suc (suc n)) in
+    let z2 : (m == 2) ≡ false = grind (arith, nat_tests) in
+    let z0 : (m == 0) ≡ false = grind (arith, nat_tests) in
+    let z1 : (m == 1) ≡ false = grind (arith, nat_tests) in
+    three s.above s.left s.corner s.above s.left s.corner (rw (z0, z1, z2) at h) (λ t. t) (λ t. t) (λ t. t)
+
+-- ---- a macroblock whose later block can be used can be used from its first one on
+
+some-earlier : {A : Type 0} (xs : List A) (i j : ℕ) → i ≤ j → IsTrue (is_some (slice_get xs j)) → IsTrue (is_some (slice_get xs i))
+some-earlier [] i j h t = absurd (grind (arith, t))
+some-earlier (x ∷ xs) zero j h t = refl
+some-earlier (x ∷ xs) (suc i) zero h t = absurd (omega arith)
+some-earlier (x ∷ xs) (suc i) (suc j) h t = some-earlier xs i j (omega arith) t
+
+mode-earlier : (p : coded.Prediction) (i j : ℕ) → i ≤ j → IsTrue (is_some (mode_in p j)) → IsTrue (is_some (mode_in p i))
+mode-earlier (coded.Intra4x4 modes chroma) i j h t = some-earlier modes i j h t
+mode-earlier (coded.Intra16x16 mode chroma) i j h t = refl
+mode-earlier (coded.Pcm samples) i j h t = refl
+mode-earlier (coded.Inter motions) i j h t = refl
+
+part-earlier : (slice : ℕ) (constrained : Bool) (x y x' y' : ℕ) (m : CodedMacroblock) → number_of x y ≤ number_of x' y' → IsTrue (is_some (mode_part slice constrained x' y' m)) → IsTrue (is_some (mode_part slice constrained x y m))
+unfolding mode_part
+part-earlier slice constrained x y x' y' m h = go (m.slice == slice && (is_intra m.prediction || not constrained))
+  where
+    go : (b : Bool) → IsTrue (is_some (if b then mode_in m.prediction (number_of x' y') else None)) → IsTrue (is_some (if b then mode_in m.prediction (number_of x y) else None))
+    go true t = mode-earlier m.prediction (number_of x y) (number_of x' y') h t
+    go false t = t
+
+there-earlier : (slice : ℕ) (constrained : Bool) (x y x' y' : ℕ) (o : Option CodedMacroblock) → number_of x y ≤ number_of x' y' → IsTrue (is_some (option_and_then (mode_part slice constrained x' y') o)) → IsTrue (is_some (option_and_then (mode_part slice constrained x y) o))
+there-earlier slice constrained x y x' y' None h t = t
+there-earlier slice constrained x y x' y' (Some m) h t = part-earlier slice constrained x y x' y' m h t
+
+row-first : (x : ℕ) → x < 4 → number_of 0 3 ≤ number_of x 3
+unfolding number_of
+row-first x h = omega arith
+
+column-first : (y : ℕ) → y < 4 → number_of 3 0 ≤ number_of 3 y
+unfolding number_of
+column-first y h = omega arith
+
+four : 0 < 4
+four = lit< tt
+
+-- ---- the sides of a block
+
+module _ (w : ℕ) (picture : List CodedMacroblock) (slice : ℕ) (constrained : Bool) (some : 0 < w) where
+  upper : (current : CodedMacroblock) (x : ℕ) → x < 4 → IsTrue (is_some (around 4 (mode_part slice constrained) w picture current (suc x) 0)) → IsTrue (available w picture slice constrained).above
+  unfolding available macroblock_samples block_samples column_of row_of
+  upper current x h t =
+      let P = mode_part slice constrained in
+      let e = upper-of 4 P w picture current some four x h in
+      let f = upper-of 4 P w picture (with_modes slice []) some four 0 four in
+      rw f (there-earlier slice constrained 0 3 x 3 (last_in w picture (length picture % w)) (row-first x h) (rw e at t))
+
+  left : (current : CodedMacroblock) (y : ℕ) → y < 4 → IsTrue (is_some (around 4 (mode_part slice constrained) w picture current 0 (suc y))) → IsTrue (available w picture slice constrained).left
+  unfolding available macroblock_samples block_samples column_of row_of
+  left current y h t =
+      let P = mode_part slice constrained in
+      let e = left-of 4 P w picture current some four y h in
+      let f = left-of 4 P w picture (with_modes slice []) some four 0 four in
+      rw f (there-earlier slice constrained 3 0 3 y (last_left w picture) (column-first y h) (rw e at t))
+
+  above-of : (current : CodedMacroblock) (x y : ℕ) → x < 4 → IsTrue (is_some (around 4 (mode_part slice constrained) w picture current (suc x) y)) → IsTrue (above_there (available w picture slice constrained) y)
+  unfolding above_there
+  above-of current x zero h t = upper current x h t
+  above-of current x (suc y) h t = let z : nat_lt 0 (suc y) ≡ true = lt-ltb 0 (suc y) (omega arith) in rw z refl
+
+  beside-of : (current : CodedMacroblock) (x y : ℕ) → y < 4 → IsTrue (is_some (around 4 (mode_part slice constrained) w picture current x (suc y))) → IsTrue (left_there (available w picture slice constrained) x)
+  unfolding left_there
+  beside-of current zero y h t = left current y h t
+  beside-of current (suc x) y h t = let z : nat_lt 0 (suc x) ≡ true = lt-ltb 0 (suc x) (omega arith) in rw z refl
+
+  first-corner : (current : CodedMacroblock) → IsTrue (is_some (around 4 (mode_part slice constrained) w picture current 0 0)) → IsTrue (available w picture slice constrained).corner
+  unfolding available macroblock_samples block_samples column_of row_of
+  first-corner current t =
+      let P = mode_part slice constrained in
+      rw (corner-of 4 P w picture (with_modes slice []) some four) (rw (corner-of 4 P w picture current some four) at t)
+
+  corner-at : (current : CodedMacroblock) (x y : ℕ) → x < 4 → y < 4 → IsTrue (is_some (around 4 (mode_part slice constrained) w picture current x y)) → IsTrue (corner_there (available w picture slice constrained) x y)
+  unfolding corner_there above_there
+  corner-at current zero zero h k t = first-corner current t
+  corner-at current zero (suc y) h k t = let z : (suc y == 0) ≡ false = grind (arith, nat_tests) in rw z (left current y (omega arith) t)
+  corner-at current (suc x) zero h k t = let z : (suc x == 0) ≡ false = grind (arith, nat_tests) in rw z (upper current x (omega arith) t)
+  corner-at current (suc x) (suc y) h k t = let z : (suc x == 0) ≡ false = grind (arith, nat_tests) in let n : nat_lt 0 (suc y) ≡ true = lt-ltb 0 (suc y) (omega arith) in rw (z, n) refl
+
+  module _ (modes : List ℕ) (x y : ℕ) (hx : x < 4) (hy : y < 4) (b : length modes ≡ index_of x y) where
+    column : column_of (length modes) ≡ x
+    unfolding column_of
+    column = omega arith
+
+    row : row_of (length modes) ≡ y
+    unfolding row_of
+    row = omega arith
+
+    block-above : IsTrue (block_samples w picture slice constrained modes).above → IsTrue (above_there (available w picture slice constrained) y)
+    unfolding block_samples
+    block-above t = above-of (with_modes slice modes) x y hx (rw (column, row) at t)
+
+    block-left : IsTrue (block_samples w picture slice constrained modes).left → IsTrue (left_there (available w picture slice constrained) x)
+    unfolding block_samples
+    block-left t = beside-of (with_modes slice modes) x y hy (rw (column, row) at t)
+
+    block-corner : IsTrue (block_samples w picture slice constrained modes).corner → IsTrue (corner_there (available w picture slice constrained) x y)
+    unfolding block_samples
+    block-corner t = corner-at (with_modes slice modes) x y hx hy (rw (column, row) at t)
+
+-- ---- the whole macroblock
+
+possible-4x4 : (w : ℕ) (slice : SliceContext) (picture : List CodedMacroblock) (modes : List ℕ) → 0 < w → length modes ≡ 16 → read.HaveSides w slice picture modes → IsPossibleLuma (Blocks (modes4_of modes)) (available w picture slice.number slice.constrained_intra)
+unfolding modes4_of
+possible-4x4 w slice picture modes some long have x y hx hy =
+    let b = index_of x y in
+    let small : b < 16 = omega arith in
+    let is : mode_at (table 16 (λ k. mode4_of (get_or modes k 0))) x y ≡ mode4_of (get_or modes b 0) = table-at 16 (λ k. mode4_of (get_or modes k 0)) b Dc small in
+    let taken : length (take b modes) ≡ b = length-taken modes b (omega arith) in
+    let n = slice.number in
+    let c = slice.constrained_intra in
+    rw is (fits-4x4 (get_or modes b 0) (block_samples w picture n c (take b modes)) (sides4_of (available w picture n c) x y)
+    (block-above w picture n c some (take b modes) x y hx hy taken) (block-left w picture n c some (take b modes) x y hx hy taken) (block-corner w picture n c some (take b modes) x y hx hy taken) (have b (omega arith)))
+
+possible-chroma : (w : ℕ) (slice : SliceContext) (picture : List CodedMacroblock) (mode : ℕ) → read.HasChromaSides w slice picture mode → IsTrue (is_possible_chroma (chroma_mode_of mode) (sides_of (available w picture slice.number slice.constrained_intra)))
+unfolding available
+possible-chroma w slice picture mode h = fits-chroma mode (macroblock_samples w picture slice.number slice.constrained_intra) h.sides
+
+possible-16x16 : (w : ℕ) (slice : SliceContext) (picture : List CodedMacroblock) (mode : ℕ) → IsTrue (fits_luma mode (macroblock_samples w picture slice.number slice.constrained_intra)) → IsTrue (is_possible16 (mode16_of mode) (sides_of (available w picture slice.number slice.constrained_intra)))
+unfolding available
+possible-16x16 w slice picture mode h = fits-16x16 mode (macroblock_samples w picture slice.number slice.constrained_intra) h
+
+pub possible-as-read : (w : ℕ) (slice : SliceContext) (picture : List CodedMacroblock) (place : ℕ → ℕ) (p : coded.Prediction) → 0 < w → read.IsPossible w slice picture p → IsPossible (prediction_of place p) (available w picture slice.number slice.constrained_intra)
+unfolding prediction_of
+possible-as-read w slice picture place (coded.Intra4x4 modes chroma) some h = (possible-4x4 w slice picture modes some h.0 h.1, possible-chroma w slice picture chroma h.2)
+possible-as-read w slice picture place (coded.Intra16x16 mode chroma) some h = (possible-16x16 w slice picture mode h.0, possible-chroma w slice picture chroma h.1)
+possible-as-read w slice picture place (coded.Pcm samples) some h = tt
+possible-as-read w slice picture place (coded.Inter motions) some h = tt
+
+-- ---- what is given is allowed
+
+pub given-allowed : (w : ℕ) (slice : SliceContext) (picture : List CodedMacroblock) (place : ℕ → ℕ) (offset : ℤ) (m : CodedMacroblock) (c r : ℕ) → length picture ≡ r * w + c → c < w → m.slice ≡ slice.number → read.IsPossible w slice picture m.prediction →
+    IsAllowed (given w picture place slice.constrained_intra offset m) w c r
+unfolding given
+given-allowed w slice picture place offset m c r e k n h = record {
+  within = within w picture m.slice slice.constrained_intra c r e k;
+  possible = rw n (possible-as-read w slice picture place m.prediction (omega arith) h);
+}
