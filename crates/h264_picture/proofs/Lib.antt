@@ -9,3 +9,5 @@ pub mod Prefix
 pub mod Carried
 pub mod Held
 pub mod Unique
+pub mod Skipped
+pub mod Made

@@ -11,7 +11,8 @@ use Rattle.h264_base.specs.declared.stop.Stop.{Stop}
 use Rattle.h264_base.specs.declared.stop.Stop.TheVariants.{No, Outside, Memory, Read, Write}
 use Rattle.h264_base.specs.Call.{Call}
 use Rattle.h264_base.specs.Grammar.{Grammar}
-use Rattle.h264_base.specs.Meets.{Reader, Answers, Meets, Checks}
+use Rattle.h264_base.specs.Meets.{Reader, Answers, Meets, MeetsBy, Checks}
+use Rattle.h264_base.specs.Body.{Body}
 use Rattle.h264_base.specs.declared.rule.Rule.{Rule}
 use Rattle.std.specs.Option.{is_some}
 use Rattle.h264_base.proofs.OneAnswer.{answers}
@@ -20,7 +21,18 @@ use Rattle.h264_mbsyntax.specs.Slice.{skipped_of, macroblocks}
 use Rattle.h264_mbsyntax.proofs.Quantiser.{predicted-next}
 use Rattle.h264_picture.specs.declared.sequence.Sequence.{Sequence}
 use Rattle.h264_mbsyntax.specs.declared.slice.Standing.{Standing}
-use Rattle.h264_picture.specs.Holds.{HoldsIn, Reads, IsPast, IsWithin, KeepsPlace}
+use Rattle.h264_picture.specs.Holds.{HoldsIn, IsPast, IsWithin, KeepsPlace}
+use Rattle.h264_picture.specs.Making.{Making, MakesWith, HasSamples, MakesIn, MakesSlice, setting_of, Reads}
+use Rattle.h264_picture.specs.Held.{IsHeld}
+use Rattle.std.proofs.Common.{get_or}
+use Rattle.h264_picture.specs.Sound.{IsPlace}
+use Rattle.h264_picture.specs.declared.samples.SliceSamples.{SliceSamples}
+use Rattle.h264_plane.specs.declared.frame.Frame.{Frame}
+use Rattle.h264_recon.specs.Inter.{Setting}
+use Rattle.h264_recon.specs.declared.store.Lines.{Lines}
+use Rattle.h264_picture.specs.declared.frames.Frames.{Frames}
+use Rattle.h264_deblock.specs.declared.slice_filter.SliceFilter.{SliceFilter}
+use Rattle.h264_recon.specs.Placed.{ArePlaced}
 
 past-next : (slice : SliceContext) (picture : List CodedMacroblock) (m : CodedMacroblock) → m.slice ≡ slice.number → slice.number ≤ length picture → IsPast (picture ++ m ∷ [])
 past-next slice picture m e f x g =
@@ -30,13 +42,15 @@ past-next slice picture m e f x g =
     rw same (omega arith)
 
 -- one macroblock more
-pub kept-on : (width size : ℕ) (slice : SliceContext) (picture : List CodedMacroblock) (m : CodedMacroblock) (old new : Sequence) → HoldsIn width size picture old → new.across ≡ old.across → slice.number ≤ length picture → Keeps width (picture ++ m ∷ []) new.near → m.qp ≡ new.mb.qp → m.slice ≡ slice.number → new.size ≡ old.size → new.next ≡ old.next + 1 → Reads width size slice (picture ++ m ∷ []) new
-kept-on width size slice picture m old new h w f k q e s n =
+pub kept-on : (width size : ℕ) (making : Option Making) (slice : SliceContext) (picture : List CodedMacroblock) (m : CodedMacroblock) (old new : Sequence) → HoldsIn width size picture old → new.across ≡ old.across → slice.number ≤ length picture → Keeps width (picture ++ m ∷ []) new.near → m.qp ≡ new.mb.qp → m.slice ≡ slice.number → new.size ≡ old.size → new.next ≡ old.next + 1 → HasSamples making (picture ++ m ∷ []) new → MakesIn making slice new → Reads width size making slice (picture ++ m ∷ []) new
+kept-on width size making slice picture m old new h w f k q e s n has makes =
     let l = length-append picture (m ∷ []) in
     record {
       holds = record { keeps = k; columns = w ∙ h.columns; macroblocks = s ∙ h.macroblocks; next = (let x = h.next in omega arith); past = past-next slice picture m e f };
       first = omega arith;
       predicted = sym q ∙ predicted-next slice picture m e;
+      samples = has;
+      makes = makes;
     }
 
 -- another macroblock in its place changes nothing of that
@@ -93,3 +107,45 @@ out-of-range fits o e n = rw (sym e, n) (record { checks = (search rules, refl) 
 
 pub in-range : {A : Type 0} {rule : Rule} {bit : ℕ} (fits : Bool) (o : Option A) (x : A) → is_some o ≡ fits → o ≡ Some x → Checks rule bit fits (Ok tt)
 in-range fits o x e n = rw (sym e, n) (record { checks = search rules })
+
+-- the samples are those of the lines and the frames
+pub same-samples : (making : Option Making) (picture : List CodedMacroblock) (old new : Sequence) → new.across ≡ old.across → new.down ≡ old.down → new.lines ≡ old.lines → new.frames ≡ old.frames → HasSamples making picture old → HasSamples making picture new
+same-samples None picture old new a d l f h = tt
+same-samples (Some making) picture old new a d l f h = rw (a, d, l, f) h
+
+pub same-makes : (making : Option Making) (slice : SliceContext) (old new : Sequence) → new.places ≡ old.places → new.filter ≡ old.filter → MakesIn making slice old → MakesIn making slice new
+same-makes None slice old new p f h = tt
+same-makes (Some making) slice old new p f h = record {
+  parameters = rw f h.parameters;
+  offset = rw f h.offset;
+  offsets = rw f h.offsets;
+  placed = rw p h.placed;
+}
+
+-- a slice begins, with the places of its reference pictures among the frames
+pub makes-with : (making : Option Making) (slice : SliceContext) (samples : SliceSamples) (base : ℕ) (old new : Sequence) →
+    ((n : ℕ) → n < 16 → base ≤ get_or samples.places n 0 → IsPlace old.frames (get_or samples.places n 0 - base) → get_or new.places n 0 ≡ get_or samples.places n 0 - base) → new.filter ≡ samples.filter →
+    MakesWith making slice samples base old → MakesIn making slice new
+makes-with None slice samples base old new values f h = tt
+makes-with (Some making) slice samples base old new values f h = record {
+  parameters = rw f h.parameters;
+  offset = rw f h.offset;
+  offsets = rw f h.offsets;
+  placed = record {
+    each = λ k n i e. let p = h.placed k n i e in
+        let is : get_or samples.places k 0 - base ≡ making.place n = (let x = p.0 in omega arith) in
+        values k i (let x = p.0 in omega arith) (subst (IsPlace old.frames) (sym is) p.1) ∙ is;
+  };
+}
+
+weaker-by : {X A S : Type 0} (took : S → List Call → Type 0) (failures : S → ℕ) (R R' : X → A → Type 0) (g : Grammar A) (body : Body) (i j : ℕ) (s s' : S) (r : Result X Stop) → ((x : X) (v : A) → R x v → R' x v) → MeetsBy took failures R g body i j s s' r → MeetsBy took failures R' g body i j s s' r
+weaker-by took failures R R' g body i j s s' (Ok x) f m = (m.0, f x m.0 m.1, m.2, m.3, m.4)
+weaker-by took failures R R' g body i j s s' (Err (No bit rule)) f m = m
+weaker-by took failures R R' g body i j s s' (Err (Outside bit feature)) f m = m
+weaker-by took failures R R' g body i j s s' (Err Memory) f m = m
+weaker-by took failures R R' g body i j s s' (Err Read) f m = m
+weaker-by took failures R R' g body i j s s' (Err Write) f m = m
+
+-- what is said of the value may be less
+pub weaker : {X A S : Type 0} {took : S → List Call → Type 0} {failures : S → ℕ} {R R' : X → A → Type 0} {g : Grammar A} {old new : Reader} {s s' : S} {r : Result X Stop} → ((x : X) (v : A) → R x v → R' x v) → Meets took failures R g old new s s' r → Meets took failures R' g old new s s' r
+weaker {took = took} {failures = failures} {R = R} {R' = R'} {g = g} {old = old} {new = new} {s = s} {s' = s'} {r = r} f m = record { meets = weaker-by took failures R R' g old.body old.at new.at s s' r f m.meets; same = m.same }

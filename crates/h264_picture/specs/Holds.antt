@@ -1,12 +1,12 @@
 -- What the work holds of a picture.
-use Rattle.std.specs.Prelude.{◌≡◌, ℕ, ◌+◌, ◌-◌, ◌*◌, ◌<◌, ◌≤◌, nat_lt, nat_le, ◌&&◌, Bool, List, length, Option, Some, None, slice_get}
+use Rattle.std.specs.Prelude.{◌≡◌, ℕ, ◌+◌, ◌-◌, ◌*◌, ◌<◌, ◌≤◌, nat_lt, nat_le, ◌&&◌, Bool, true, List, length, Option, Some, None, slice_get}
 use Rattle.h264_near.specs.Coded.{CodedMacroblock}
 use Rattle.h264_near.specs.Keeps.{Keeps, width_of}
 use Rattle.h264_sps.specs.declared.sps.FrameSize.{FrameSize}
+use Rattle.h264_vectors.specs.Derived.{has_picture}
 use Rattle.h264_vectors.specs.declared.slice.SliceContext.{SliceContext}
 use Rattle.h264_mbsyntax.specs.declared.slice.Standing.{Standing}
 use Rattle.h264_mbsyntax.specs.declared.slice.Standing.TheVariants.{Next, Skipping}
-use Rattle.h264_mbsyntax.specs.Macroblock.{predicted_qp}
 use Rattle.h264_picture.specs.declared.sequence.Sequence.{Sequence}
 use Rattle.h264_picture.specs.declared.work.Work.{Work}
 
@@ -33,12 +33,6 @@ pub record HoldsIn (width size : ℕ) (picture : List CodedMacroblock) (sequence
   pub macroblocks : sequence.size ≡ size
   pub next : sequence.next ≡ length picture
   pub past : IsPast picture
-
--- So it does between two macroblocks of a slice, and has QP_Y,PRED of the next one.
-pub record Reads (width size : ℕ) (slice : SliceContext) (picture : List CodedMacroblock) (sequence : Sequence) : Type 0 where
-  pub holds : HoldsIn width size picture sequence
-  pub first : slice.number ≤ length picture
-  pub predicted : sequence.mb.qp ≡ predicted_qp slice picture
 
 -- pictures are as wide and high as they were, and the frames stand as they stood
 pub record KeepsPlace (old new : Sequence) : Type 0 where
@@ -81,3 +75,12 @@ IsWithin left (Skipping bit more) = more ≤ left
 abbrev pub Moves : ℕ → ℕ → ℕ → Option Standing → Type 0
 Moves left old new None = new ≡ old
 Moves left old new (Some standing) = (0 < left) × (new ≡ old + 1) × IsWithin (left - 1) standing
+
+-- a run that goes on has its picture
+abbrev pub RefersOn : SliceContext → Standing → Type 0
+RefersOn slice Next = Unit {0}
+RefersOn slice (Skipping bit more) = 0 < more → has_picture slice 0 ≡ true
+
+abbrev pub RefersIf : SliceContext → Option Standing → Type 0
+RefersIf slice None = Unit {0}
+RefersIf slice (Some standing) = RefersOn slice standing

@@ -8,3 +8,4 @@ pub mod Holds
 pub mod Places
 pub mod Decoded
 pub mod Held
+pub mod Making

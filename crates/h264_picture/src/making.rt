@@ -15,7 +15,7 @@ use h264_vectors::SliceContext;
 #[inline]
 fn within_row(available: Available, across: usize, column: usize) -> Available
     requires { column < 1024 }
-    ensures same { column + 1 < across → result ≡ available }
+    ensures same { (IsTrue available.above_right → column + 1 < across) → result ≡ available }
     ensures none { IsTrue result.above_right → column + 1 < across }
 {
     if column + 1 < across {
@@ -30,13 +30,24 @@ fn within_row(available: Available, across: usize, column: usize) -> Available
 }
 
 impl Sequence {
-    ghost use Rattle.h264_picture.specs.Holds.{KeepsPlace, KeepsSyntax};
+    ghost use Rattle.std.specs.Prelude.{ℕ, Option, List, [], ◌∷◌, ◌++◌};
+    ghost use Rattle.h264_near.specs.Coded.{CodedMacroblock};
+    ghost use Rattle.h264_mbsyntax.specs.Holds.{Holds as HoldsMacroblock};
+    ghost use Rattle.h264_mbsyntax.specs.Possible.{IsPossible};
+    ghost use Rattle.h264_scale.specs.Macroblock.{AreResiduals};
+    ghost use Rattle.h264_recon.specs.Constructed.{coded as coded_as};
+    ghost use Rattle.h264_recon.specs.Given.{given as given_of};
+    ghost use Rattle.h264_recon.specs.Levels.{levels_of};
+    ghost use Rattle.h264_recon.specs.Placed.{ArePlaced};
+    ghost use Rattle.h264_picture.specs.Holds.{KeepsPlace, KeepsSyntax, HoldsIn};
+    ghost use Rattle.h264_picture.specs.Making.{Making, HasSamples, MakesIn};
 
     /// What constructs the macroblock in its place.
     #[inline(always)]
     fn given(&self, slice: &SliceContext) -> Macroblock
         ensures points { PointsInto self.now.places result.prediction }
         ensures more { IsTrue result.available.above_right → self.now.column + 1 < self.now.across }
+        ensures given { (width size : ℕ) (place : ℕ → ℕ) (picture : List CodedMacroblock) (coded : CodedMacroblock) → HoldsIn width size picture self.now → HoldsMacroblock self.now.mb coded → coded.slice ≡ slice.now.number → IsPossible width slice.now picture coded.prediction → ArePlaced slice.now self.now.places place → coded_as result (levels_of slice.now.chroma_qp_index_offset coded) ≡ given_of width picture place slice.now.constrained_intra slice.now.chroma_qp_index_offset coded }
     {
         let m = given(
             &self.mb,
@@ -57,6 +68,8 @@ impl Sequence {
         requires { self.old.next < self.old.size }
         ensures same { KeepsPlace self.old self.new }
         ensures syntax { KeepsSyntax self.old self.new }
+        ensures makes { (making : Option Making) → MakesIn making slice.now self.old → MakesIn making slice.now self.new }
+        ensures samples { (width size : ℕ) (making : Option Making) (picture : List CodedMacroblock) (coded : CodedMacroblock) → HoldsIn width size picture self.old → HasSamples making picture self.old → MakesIn making slice.now self.old → HoldsMacroblock self.old.mb coded → coded.slice ≡ slice.now.number → IsPossible width slice.now picture coded.prediction → AreResiduals (levels_of slice.now.chroma_qp_index_offset coded) residuals.now → HasSamples making (picture ++ coded ∷ []) self.new }
     {
         let m = self.given(slice);
         let edges = coded_edges(

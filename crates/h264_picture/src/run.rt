@@ -8,14 +8,15 @@ use h264_mbsyntax::Standing;
 use h264_vectors::SliceContext;
 
 impl Sequence {
-    ghost use Rattle.std.specs.Prelude.{◌≡◌, ℕ, ◌+◌, ◌-◌, ◌<◌, ◌≤◌, ◌^◌, List, OnOk};
+    ghost use Rattle.std.specs.Prelude.{◌≡◌, ℕ, ◌+◌, ◌-◌, ◌<◌, ◌≤◌, ◌^◌, Option, List, OnOk};
     ghost use Rattle.h264_base.specs.Meets.{Meets};
     ghost use Rattle.h264_near.specs.Coded.{CodedMacroblock};
     ghost use Rattle.h264_vectors.specs.Agrees.{Usable};
     ghost use Rattle.h264_mbsyntax.specs.declared.slice.Standing.TheVariants as standings;
     ghost use Rattle.h264_mbsyntax.specs.Slice as syntax;
     ghost use Rattle.h264_picture.specs.Levels.{transform_fits};
-    ghost use Rattle.h264_picture.specs.Holds.{HoldsIn, Reads, KeepsPlace};
+    ghost use Rattle.h264_picture.specs.Holds.{KeepsPlace};
+    ghost use Rattle.h264_picture.specs.Making.{Making, HoldsMade, Reads};
 
     /// Reads macroblocks to the end of the slice data; so many are left in the picture.
     pub(crate) fn read_macroblocks<S: Elements>(
@@ -29,7 +30,7 @@ impl Sequence {
         requires left { self.old.next + left ≤ self.old.size }
         requires usable { Usable slice.now }
         requires room { S.failures sink.old < 2 ^ 64 - 1 }
-        ensures meets { (width size : ℕ) (picture : List CodedMacroblock) → Reads width size slice.now picture self.old → Meets S.took S.failures (λ _ after. HoldsIn width size after self.new) (syntax.macroblocks (transform_fits slice.now) width slice.now left standings.Next picture) bits.old bits.new sink.old sink.new result }
+        ensures meets { (width size : ℕ) (making : Option Making) (picture : List CodedMacroblock) → Reads width size making slice.now picture self.old → Meets S.took S.failures (λ _ after. HoldsMade width size making after self.new) (syntax.macroblocks (transform_fits slice.now) width slice.now left standings.Next picture) bits.old bits.new sink.old sink.new result }
         ensures quiet { OnOk result (S.failures sink.new ≡ S.failures sink.old) }
         ensures same { KeepsPlace self.old self.new }
     {

@@ -56,7 +56,7 @@ const NO_FILTER: SliceFilter = SliceFilter {
 };
 
 impl Sequence {
-    ghost use Rattle.std.specs.Prelude.{◌≡◌, ◌≢◌, ℕ, ◌-◌, ◌+◌, ◌*◌, ◌<◌, ◌≤◌, ◌^◌, List, [], length, true, OnOk, IfOk};
+    ghost use Rattle.std.specs.Prelude.{◌≡◌, ◌≢◌, ℕ, ◌-◌, ◌+◌, ◌*◌, ◌<◌, ◌≤◌, ◌^◌, Option, List, [], length, true, OnOk, IfOk};
     ghost use Rattle.h264_base.specs.Meets.{Meets};
     ghost use Rattle.h264_near.specs.Coded.{CodedMacroblock};
     ghost use Rattle.h264_vectors.specs.Agrees.{Usable};
@@ -66,6 +66,7 @@ impl Sequence {
     ghost use Rattle.h264_picture.specs.Lent.{KeepsLent, lent_within};
     ghost use Rattle.h264_picture.specs.Places.{IsFrameOf};
     ghost use Rattle.h264_picture.specs.Holds.{is_frame_size, ServesIn, HoldsIn, KeepsPlace};
+    ghost use Rattle.h264_picture.specs.Making.{Making, HoldsMade, MakesIn, MakesWith};
 
     /// Takes all memory of a sequence.
     pub(crate) fn new(alloc: Global, sps: &Sps) -> Result<Sequence, AllocError>
@@ -98,7 +99,7 @@ impl Sequence {
     /// Begins a picture in the frame at a place.
     pub(crate) fn begin(&mut self, alloc: Global, place: usize)
         requires { place < length self.old.frames.pool }
-        ensures holds { (width size : ℕ) → ServesIn width size self.old → HoldsIn width size [] self.new }
+        ensures made { (width size : ℕ) (making : Option Making) → ServesIn width size self.old → HoldsMade width size making [] self.new }
         ensures count { length self.new.frames.pool ≡ length self.old.frames.pool }
         ensures place { self.new.frames.place ≡ place }
         ensures begun { self.new.frames.begun ≡ true }
@@ -136,7 +137,7 @@ impl Sequence {
         requires usable { Usable slice.now }
         requires qp { slice.now.qp ≤ 51 }
         requires room { S.failures sink.old < 2 ^ 64 - 1 }
-        ensures meets { (width size : ℕ) (picture : List CodedMacroblock) → HoldsIn width size picture self.old → slice.now.number ≡ length picture → Meets S.took S.failures (λ _ after. HoldsIn width size after self.new) (slice_data (transform_fits slice.now) width size slice.now picture) bits.old bits.new sink.old sink.new result }
+        ensures meets { (width size : ℕ) (making : Option Making) (picture : List CodedMacroblock) → HoldsMade width size making picture self.old → slice.now.number ≡ length picture → MakesIn making slice.now self.old → Meets S.took S.failures (λ _ after. HoldsMade width size making after self.new) (slice_data (transform_fits slice.now) width size slice.now picture) bits.old bits.new sink.old sink.new result }
         ensures quiet { OnOk result (S.failures sink.new ≡ S.failures sink.old) }
         ensures same { KeepsPlace self.old self.new }
     {
@@ -159,7 +160,7 @@ impl Sequence {
         requires usable { Usable slice.now }
         requires qp { slice.now.qp ≤ 51 }
         requires room { S.failures sink.old < 2 ^ 64 - 1 }
-        ensures meets { (width size : ℕ) (picture : List CodedMacroblock) → HoldsIn width size picture self.old → slice.now.number ≡ length picture → Meets S.took S.failures (λ _ after. HoldsIn width size after self.new) (slice_data (transform_fits slice.now) width size slice.now picture) bits.old bits.new sink.old sink.new result }
+        ensures meets { (width size : ℕ) (making : Option Making) (picture : List CodedMacroblock) → HoldsMade width size making picture self.old → slice.now.number ≡ length picture → MakesWith making slice.now samples.now base self.old → Meets S.took S.failures (λ _ after. HoldsMade width size making after self.new) (slice_data (transform_fits slice.now) width size slice.now picture) bits.old bits.new sink.old sink.new result }
         ensures quiet { OnOk result (S.failures sink.new ≡ S.failures sink.old) }
         ensures frames { self.old.frames.begun ≡ true → KeepsLent self.old.frames self.new.frames }
         ensures same { KeepsPlace self.old self.new }

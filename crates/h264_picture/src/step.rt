@@ -37,7 +37,7 @@ fn place_behind(across: usize, column: usize, row: usize) -> (usize, usize)
 }
 
 impl Sequence {
-    ghost use Rattle.std.specs.Prelude.{◌≡◌, ℕ, ◌+◌, ◌-◌, ◌<◌, ◌≤◌, ◌^◌, List, [], ◌∷◌, ◌++◌, length, OnOk, IfOk};
+    ghost use Rattle.std.specs.Prelude.{◌≡◌, ℕ, ◌+◌, ◌-◌, ◌<◌, ◌≤◌, ◌^◌, Option, List, [], ◌∷◌, ◌++◌, length, OnOk, IfOk, true};
     ghost use Rattle.h264_base.specs.Meets.{Meets};
     ghost use Rattle.h264_base.specs.declared.mode.SliceType.TheVariants as slice_type;
     ghost use Rattle.h264_near.specs.Coded.{CodedMacroblock};
@@ -47,13 +47,14 @@ impl Sequence {
     ghost use Rattle.h264_mbsyntax.specs.Holds.{Holds as HoldsMacroblock};
     ghost use Rattle.h264_mbsyntax.specs.Slice as syntax;
     ghost use Rattle.h264_picture.specs.Levels.{transform_fits};
-    ghost use Rattle.h264_picture.specs.Holds.{HoldsIn, Reads, IsWithin, Moves, KeepsPlace};
+    ghost use Rattle.h264_picture.specs.Holds.{HoldsIn, IsWithin, Moves, KeepsPlace, RefersOn, RefersIf};
+    ghost use Rattle.h264_picture.specs.Making.{Making, HasSamples, MakesIn, Reads};
 
     /// The macroblock in its place becomes the last one of the picture.
     #[inline]
     fn keep(&mut self)
         requires { self.old.next < self.old.size }
-        ensures reads { (width size : ℕ) (slice : Context) (picture : List CodedMacroblock) (coded : CodedMacroblock) → HoldsIn width size picture self.old → slice.number ≤ length picture → HoldsMacroblock self.old.mb coded → coded.slice ≡ slice.number → Reads width size slice (picture ++ coded ∷ []) self.new }
+        ensures reads { (width size : ℕ) (making : Option Making) (slice : Context) (picture : List CodedMacroblock) (coded : CodedMacroblock) → HoldsIn width size picture self.old → slice.number ≤ length picture → HoldsMacroblock self.old.mb coded → coded.slice ≡ slice.number → HasSamples making (picture ++ coded ∷ []) self.old → MakesIn making slice self.old → Reads width size making slice (picture ++ coded ∷ []) self.new }
         ensures next { self.new.next ≡ self.old.next + 1 }
         ensures size { self.new.size ≡ self.old.size }
         ensures same { KeepsPlace self.old self.new }
@@ -78,12 +79,13 @@ impl Sequence {
         requires left { self.old.next + left ≤ self.old.size }
         requires usable { Usable slice.now }
         requires room { S.failures sink.old < 2 ^ 64 - 1 }
-        ensures meets { (width size : ℕ) (picture : List CodedMacroblock) → Reads width size slice.now picture self.old → Meets S.took S.failures (syntax.Goes (λ p. Reads width size slice.now p self.new) picture) (syntax.unskipped (transform_fits slice.now) width slice.now left picture) bits.old bits.new sink.old sink.new result }
+        ensures meets { (width size : ℕ) (making : Option Making) (picture : List CodedMacroblock) → Reads width size making slice.now picture self.old → Meets S.took S.failures (syntax.Goes (λ p. Reads width size making slice.now p self.new) picture) (syntax.unskipped (transform_fits slice.now) width slice.now left picture) bits.old bits.new sink.old sink.new result }
         ensures quiet { OnOk result (S.failures sink.new ≡ S.failures sink.old) }
         ensures within { OnOk result (self.new.mb.qp ≤ 51) }
         ensures moves { IfOk result (Moves left self.old.next self.new.next) }
         ensures size { self.new.size ≡ self.old.size }
         ensures same { KeepsPlace self.old self.new }
+        ensures refers { IfOk result (RefersIf slice.now) }
     {
         let ahead = look(bits, sink);
         check(0 < left, Rule::MbPast, ahead.bit)?;
@@ -114,13 +116,15 @@ impl Sequence {
     ) -> Result<Option<Standing>, Stop>
         requires qp { self.old.mb.qp ≤ 51 }
         requires some { more < left }
+        requires refers { has_picture_of slice.now 0 ≡ true }
         requires left { self.old.next + left ≤ self.old.size }
         requires usable { Usable slice.now }
-        ensures meets { (width size : ℕ) (picture : List CodedMacroblock) → Reads width size slice.now picture self.old → Meets S.took S.failures (syntax.Goes (λ p. Reads width size slice.now p self.new) picture) (syntax.skip width slice.now picture bit more) bits.now bits.now sink.now sink.now result }
+        ensures meets { (width size : ℕ) (making : Option Making) (picture : List CodedMacroblock) → Reads width size making slice.now picture self.old → Meets S.took S.failures (syntax.Goes (λ p. Reads width size making slice.now p self.new) picture) (syntax.skip width slice.now picture bit more) bits.now bits.now sink.now sink.now result }
         ensures within { OnOk result (self.new.mb.qp ≤ 51) }
         ensures moves { IfOk result (Moves left self.old.next self.new.next) }
         ensures size { self.new.size ≡ self.old.size }
         ensures same { KeepsPlace self.old self.new }
+        ensures refers { IfOk result (RefersIf slice.now) }
     {
         let vector = skip_vector(&self.near, slice.number);
         let fits = vector_fits(slice.vector_limit, vector);
@@ -143,12 +147,13 @@ impl Sequence {
         requires left { self.old.next + left ≤ self.old.size }
         requires usable { Usable slice.now }
         requires room { S.failures sink.old < 2 ^ 64 - 1 }
-        ensures meets { (width size : ℕ) (picture : List CodedMacroblock) → Reads width size slice.now picture self.old → Meets S.took S.failures (syntax.Goes (λ p. Reads width size slice.now p self.new) picture) (syntax.run_of_skips (transform_fits slice.now) width slice.now left picture) bits.old bits.new sink.old sink.new result }
+        ensures meets { (width size : ℕ) (making : Option Making) (picture : List CodedMacroblock) → Reads width size making slice.now picture self.old → Meets S.took S.failures (syntax.Goes (λ p. Reads width size making slice.now p self.new) picture) (syntax.run_of_skips (transform_fits slice.now) width slice.now left picture) bits.old bits.new sink.old sink.new result }
         ensures quiet { OnOk result (S.failures sink.new ≡ S.failures sink.old) }
         ensures within { OnOk result (self.new.mb.qp ≤ 51) }
         ensures moves { IfOk result (Moves left self.old.next self.new.next) }
         ensures size { self.new.size ≡ self.old.size }
         ensures same { KeepsPlace self.old self.new }
+        ensures refers { IfOk result (RefersIf slice.now) }
     {
         let run = read_ue(bits, ElementName::MbSkipRun, sink)?;
         check(run.value <= left, Rule::Range, run.bit)?;
@@ -171,12 +176,13 @@ impl Sequence {
         requires left { self.old.next + left ≤ self.old.size }
         requires usable { Usable slice.now }
         requires room { S.failures sink.old < 2 ^ 64 - 1 }
-        ensures meets { (width size : ℕ) (picture : List CodedMacroblock) → Reads width size slice.now picture self.old → Meets S.took S.failures (syntax.Goes (λ p. Reads width size slice.now p self.new) picture) (syntax.by_slice_type slice.now.slice_type (transform_fits slice.now) width slice.now left picture) bits.old bits.new sink.old sink.new result }
+        ensures meets { (width size : ℕ) (making : Option Making) (picture : List CodedMacroblock) → Reads width size making slice.now picture self.old → Meets S.took S.failures (syntax.Goes (λ p. Reads width size making slice.now p self.new) picture) (syntax.by_slice_type slice.now.slice_type (transform_fits slice.now) width slice.now left picture) bits.old bits.new sink.old sink.new result }
         ensures quiet { OnOk result (S.failures sink.new ≡ S.failures sink.old) }
         ensures within { OnOk result (self.new.mb.qp ≤ 51) }
         ensures moves { IfOk result (Moves left self.old.next self.new.next) }
         ensures size { self.new.size ≡ self.old.size }
         ensures same { KeepsPlace self.old self.new }
+        ensures refers { IfOk result (RefersIf slice.now) }
     {
         match slice.slice_type {
             SliceType::I => self.read_unskipped(bits, slice, left, sink),
@@ -196,12 +202,13 @@ impl Sequence {
         requires left { self.old.next + left ≤ self.old.size }
         requires usable { Usable slice.now }
         requires room { S.failures sink.old < 2 ^ 64 - 1 }
-        ensures meets { (width size : ℕ) (picture : List CodedMacroblock) → Reads width size slice.now picture self.old → Meets S.took S.failures (syntax.Goes (λ p. Reads width size slice.now p self.new) picture) (syntax.next (transform_fits slice.now) width slice.now left picture standings.Next) bits.old bits.new sink.old sink.new result }
+        ensures meets { (width size : ℕ) (making : Option Making) (picture : List CodedMacroblock) → Reads width size making slice.now picture self.old → Meets S.took S.failures (syntax.Goes (λ p. Reads width size making slice.now p self.new) picture) (syntax.next (transform_fits slice.now) width slice.now left picture standings.Next) bits.old bits.new sink.old sink.new result }
         ensures quiet { OnOk result (S.failures sink.new ≡ S.failures sink.old) }
         ensures within { OnOk result (self.new.mb.qp ≤ 51) }
         ensures moves { IfOk result (Moves left self.old.next self.new.next) }
         ensures size { self.new.size ≡ self.old.size }
         ensures same { KeepsPlace self.old self.new }
+        ensures refers { IfOk result (RefersIf slice.now) }
     {
         let ahead = look(bits, sink);
         if !ahead.follows {
@@ -223,12 +230,13 @@ impl Sequence {
         requires left { self.old.next + left ≤ self.old.size }
         requires usable { Usable slice.now }
         requires room { S.failures sink.old < 2 ^ 64 - 1 }
-        ensures meets { (width size : ℕ) (picture : List CodedMacroblock) → Reads width size slice.now picture self.old → Meets S.took S.failures (syntax.Goes (λ p. Reads width size slice.now p self.new) picture) (syntax.next (transform_fits slice.now) width slice.now left picture (standings.Skipping bit 0)) bits.old bits.new sink.old sink.new result }
+        ensures meets { (width size : ℕ) (making : Option Making) (picture : List CodedMacroblock) → Reads width size making slice.now picture self.old → Meets S.took S.failures (syntax.Goes (λ p. Reads width size making slice.now p self.new) picture) (syntax.next (transform_fits slice.now) width slice.now left picture (standings.Skipping bit 0)) bits.old bits.new sink.old sink.new result }
         ensures quiet { OnOk result (S.failures sink.new ≡ S.failures sink.old) }
         ensures within { OnOk result (self.new.mb.qp ≤ 51) }
         ensures moves { IfOk result (Moves left self.old.next self.new.next) }
         ensures size { self.new.size ≡ self.old.size }
         ensures same { KeepsPlace self.old self.new }
+        ensures refers { IfOk result (RefersIf slice.now) }
     {
         let ahead = look(bits, sink);
         if !ahead.follows {
@@ -249,14 +257,16 @@ impl Sequence {
         requires qp { self.old.mb.qp ≤ 51 }
         requires left { self.old.next + left ≤ self.old.size }
         requires standing { IsWithin left standing }
+        requires refers { RefersOn slice.now standing }
         requires usable { Usable slice.now }
         requires room { S.failures sink.old < 2 ^ 64 - 1 }
-        ensures meets { (width size : ℕ) (picture : List CodedMacroblock) → Reads width size slice.now picture self.old → Meets S.took S.failures (syntax.Goes (λ p. Reads width size slice.now p self.new) picture) (syntax.next (transform_fits slice.now) width slice.now left picture standing) bits.old bits.new sink.old sink.new result }
+        ensures meets { (width size : ℕ) (making : Option Making) (picture : List CodedMacroblock) → Reads width size making slice.now picture self.old → Meets S.took S.failures (syntax.Goes (λ p. Reads width size making slice.now p self.new) picture) (syntax.next (transform_fits slice.now) width slice.now left picture standing) bits.old bits.new sink.old sink.new result }
         ensures quiet { OnOk result (S.failures sink.new ≡ S.failures sink.old) }
         ensures within { OnOk result (self.new.mb.qp ≤ 51) }
         ensures moves { IfOk result (Moves left self.old.next self.new.next) }
         ensures size { self.new.size ≡ self.old.size }
         ensures same { KeepsPlace self.old self.new }
+        ensures refers { IfOk result (RefersIf slice.now) }
     {
         match standing {
             Standing::Next => self.read_at_next(bits, slice, left, sink),

@@ -52,6 +52,7 @@ impl Work {
     ghost use Rattle.h264_picture.specs.Buffer.{buffer_size};
     ghost use Rattle.h264_picture.specs.Levels.{transform_fits};
     ghost use Rattle.h264_picture.specs.Holds.{is_frame_size, Serves, Holds};
+    ghost use Rattle.h264_picture.specs.Making.{Making, HoldsSamples, IsSliceOf};
     ghost use Rattle.h264_picture.specs.Places.{first_place, is_active_place, places as places_of, lent, IsReleased, HasBegun, HasSize, KeepsOthers, KeepsFrames, IsFrameOf};
 
     /// A place for no pictures yet, which takes no memory.
@@ -123,6 +124,7 @@ impl Work {
         requires from { first_place self.old ≤ place }
         requires to { place < first_place self.old + places_of self.old }
         ensures holds { (width size : ℕ) → Serves width size self.old → Holds width size [] self.new }
+        ensures samples { (width size : ℕ) (making : Making) → Serves width size self.old → HoldsSamples width size making [] self.new }
         ensures begun { HasBegun place self.new }
         ensures none { lent self.new place ≡ None }
         ensures kept { KeepsOthers place self.old self.new }
@@ -192,6 +194,7 @@ impl Work {
         requires room { S.failures sink.old < 2 ^ 64 - 1 }
         ensures answers { (width size : ℕ) (picture : List CodedMacroblock) → Holds width size picture self.old → slice.now.number ≡ length picture → Answers S.took S.failures (λ _ after. Holds width size after self.new) (slice_data (transform_fits slice.now) width size slice.now picture) bits.old bits.new sink.old sink.new result }
         ensures meets { (width size : ℕ) (picture : List CodedMacroblock) → Holds width size picture self.old → slice.now.number ≡ length picture → Meets S.took S.failures (λ _ after. Holds width size after self.new) (slice_data (transform_fits slice.now) width size slice.now picture) bits.old bits.new sink.old sink.new result }
+        ensures samples { (width size : ℕ) (making : Making) (picture : List CodedMacroblock) → HoldsSamples width size making picture self.old → slice.now.number ≡ length picture → IsSliceOf making slice.now samples.now self.old → Meets S.took S.failures (λ _ after. HoldsSamples width size making after self.new) (slice_data (transform_fits slice.now) width size slice.now picture) bits.old bits.new sink.old sink.new result }
         ensures no_memory { (width size : ℕ) (picture : List CodedMacroblock) → Holds width size picture self.old → slice.now.number ≡ length picture → IsErrOf result Stop.Memory → ⊥ }
         ensures quiet { OnOk result (S.failures sink.new ≡ S.failures sink.old) }
         ensures kept { (place : ℕ) → HasBegun place self.old → KeepsFrames self.old self.new }

@@ -1,4 +1,9 @@
-use Rattle.std.proofs.Common.{refl}
+use Rattle.std.proofs.Common.{◌≡◌, ◌+◌, ◌*◌, ◌<◌, length, Some, None, refl, sym, ap, ◌∙◌, subst}
+use Rattle.h264_deblock.specs.CodedEdges.{coded_edges}
+use Rattle.h264_recon.specs.Levels.{levels_of}
+use Rattle.h264_picture.specs.Decoded.{filters}
+use Rattle.h264_picture.specs.Making.{setting_of}
+use Rattle.h264_picture.proofs.Made.{are-shown, possible, given-by, filter-by}
 use Rattle.h264_picture.proofs.Room.{in-rows, is-small, own-room, are-usable, y-lines, cb-lines, cr-lines, more-lines, made}
 use Rattle.h264_picture.proofs.sequence.Sequence.make.Goals as goal
 
@@ -31,3 +36,18 @@ go_on-requires-clause-small c = is-small _ _ _ _ _ _ _ _ _ c.args.self.now.sound
 
 pub invariant_of-self-2-clause-sound : goal.invariant_of-self-2-clause-sound
 invariant_of-self-2-clause-sound c = made _ _ _ _ _ _ _ _ _ c.args.self.now.sound c.requires _ _ c.go_on.ensures.lines c.args.self.now.frames.within.0 c.go_on.ensures.size refl refl
+
+pub returns-clause-samples : goal.returns-clause-samples
+returns-clause-samples c width size None picture coded h s m r e p a = tt
+returns-clause-samples c width size (Some making) picture coded h s m r e p a =
+    let old = c.args.self.now in
+    let slice = c.args.slice.now in
+    let w = h.columns in
+    let n : length picture ≡ old.row * old.across + old.column = sym h.next ∙ old.sound.next in
+    let n' : length picture ≡ old.row * width + old.column = subst (λ x. length picture ≡ old.row * x + old.column) w n in
+    let i : old.column < width = subst (λ x. old.column < x) w old.sound.column in
+    let is = c.given-m.ensures.given width size making.place picture coded h r e p m.placed in
+    c.go_on.ensures.held (setting_of old) making.place making.slices picture coded (levels_of slice.chroma_qp_index_offset coded) n old.sound.column (in-rows _ _ _ _ _ _ _ _ _ old.sound c.requires) (are-shown old _ c.given-m.ensures.points) a
+    (possible width slice picture making.place slice.chroma_qp_index_offset coded old.column old.row _ n' i e p is)
+    (given-by old.across width picture making slice old coded _ w m e is)
+    (λ q. c.coded_edges-edges.ensures.edges (filters making.slices) width picture coded h.keeps r.contexts n' i (filter-by making slice old coded m e) m.offsets q ∙ ap (λ x. coded_edges (filters making.slices) x picture coded q) (sym w)) s

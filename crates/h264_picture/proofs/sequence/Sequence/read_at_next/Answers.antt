@@ -5,8 +5,8 @@ use Rattle.h264_picture.proofs.sequence.Sequence.read_at_next.Goals as goal
 
 pub returns-then-not-ahead-clause-meets : goal.returns-then-not-ahead-clause-meets
 unfolding next
-returns-then-not-ahead-clause-meets g c width size picture k = bind _ c.look-ahead.ensures (rw (is-false _ c.if-not-ahead.true) (done _ _ _ _ _ _ _ k))
+returns-then-not-ahead-clause-meets g c width size making picture k = bind _ c.look-ahead.ensures (rw (is-false _ c.if-not-ahead.true) (done _ _ _ _ _ _ _ k))
 
 pub returns-clause-meets : goal.returns-clause-meets
 unfolding next
-returns-clause-meets g c width size picture k = bind _ c.look-ahead.ensures (rw (is-true _ c.if-not-ahead.false) (c.read_by_slice_type.ensures.meets width size picture k))
+returns-clause-meets g c width size making picture k = bind _ c.look-ahead.ensures (rw (is-true _ c.if-not-ahead.false) (c.read_by_slice_type.ensures.meets width size making picture k))

@@ -8,20 +8,20 @@ use Rattle.h264_picture.proofs.sequence.Sequence.read_run.Goals as goal
 
 pub returns-in_err-run-clause-meets : goal.returns-in_err-run-clause-meets
 unfolding run_of_skips
-returns-in_err-run-clause-meets g c width size picture k = let p = err_from_is_err_and c.from_residual.result c.from_residual.ensures.1 in rw (p.1, p.2) (stop _ (c.in_err-run.ensures.meets))
+returns-in_err-run-clause-meets g c width size making picture k = let p = err_from_is_err_and c.from_residual.result c.from_residual.ensures.1 in rw (p.1, p.2) (stop _ (c.in_err-run.ensures.meets))
 
 pub returns-in_err-check-clause-meets : goal.returns-in_err-check-clause-meets
 unfolding run_of_skips
-returns-in_err-check-clause-meets g c width size picture k = let p = err_from_is_err_and c.from_residual-in_err-check.result c.from_residual-in_err-check.ensures.1 in rw (p.1, p.2) (bind _ (c.in_ok-run.ensures.meets) (stop _ (checked _ _ _ _ (c.in_err-check.ensures))))
+returns-in_err-check-clause-meets g c width size making picture k = let p = err_from_is_err_and c.from_residual-in_err-check.result c.from_residual-in_err-check.ensures.1 in rw (p.1, p.2) (bind _ (c.in_ok-run.ensures.meets) (stop _ (checked _ _ _ _ (c.in_err-check.ensures))))
 
 pub returns-in_err-check-2-clause-meets : goal.returns-in_err-check-2-clause-meets
 unfolding run_of_skips
-returns-in_err-check-2-clause-meets g c width size picture k = let p = err_from_is_err_and c.from_residual-in_err-check-2.result c.from_residual-in_err-check-2.ensures.1 in rw (p.1, p.2) (bind _ (c.in_ok-run.ensures.meets) (bind _ (checked _ _ _ _ (c.in_ok-check.ensures)) (stop _ (checked _ _ _ _ (rw c.has_reference.ensures at c.in_err-check-2.ensures)))))
+returns-in_err-check-2-clause-meets g c width size making picture k = let p = err_from_is_err_and c.from_residual-in_err-check-2.result c.from_residual-in_err-check-2.ensures.1 in rw (p.1, p.2) (bind _ (c.in_ok-run.ensures.meets) (bind _ (checked _ _ _ _ (c.in_ok-check.ensures)) (stop _ (checked _ _ _ _ (rw c.has_reference.ensures at c.in_err-check-2.ensures)))))
 
 pub returns-clause-meets : goal.returns-clause-meets
 unfolding run_of_skips
-returns-clause-meets g c width size picture k = bind _ (c.in_ok-run.ensures.meets) (bind _ (checked _ _ _ _ (c.in_ok-check.ensures)) (bind _ (checked _ _ _ _ (rw c.has_reference.ensures at c.in_ok-check-2.ensures)) (rw (after-some (transform_fits c.args.slice.now) width c.args.slice.now c.args.left picture _ _ c.if-run-eq0.false) (c.skip.ensures.meets width size picture k))))
+returns-clause-meets g c width size making picture k = bind _ (c.in_ok-run.ensures.meets) (bind _ (checked _ _ _ _ (c.in_ok-check.ensures)) (bind _ (checked _ _ _ _ (rw c.has_reference.ensures at c.in_ok-check-2.ensures)) (rw (after-some (transform_fits c.args.slice.now) width c.args.slice.now c.args.left picture _ _ c.if-run-eq0.false) (c.skip.ensures.meets width size making picture k))))
 
 pub returns-then-run-eq0-clause-meets : goal.returns-then-run-eq0-clause-meets
 unfolding run_of_skips after_run
-returns-then-run-eq0-clause-meets g c width size picture k = bind _ (c.in_ok-run.ensures.meets) (bind _ (checked _ _ _ _ (c.in_ok-check.ensures)) (bind _ (checked _ _ _ _ (rw c.has_reference.ensures at c.in_ok-check-2.ensures)) (rw c.if-run-eq0.true (c.read_unskipped.ensures.meets width size picture k))))
+returns-then-run-eq0-clause-meets g c width size making picture k = bind _ (c.in_ok-run.ensures.meets) (bind _ (checked _ _ _ _ (c.in_ok-check.ensures)) (bind _ (checked _ _ _ _ (rw c.has_reference.ensures at c.in_ok-check-2.ensures)) (rw c.if-run-eq0.true (c.read_unskipped.ensures.meets width size making picture k))))

@@ -2,15 +2,23 @@ use Rattle.std.proofs.Common.{◌≡◌, ◌-◌, refl, sym, arith, ◌≤◌}
 use Rattle.std.proofs.lemmas.Result.{err_from_is_err_and}
 use Rattle.h264_base.proofs.Steps.{bind, stop, checked}
 use Rattle.h264_mbsyntax.specs.Slice.{slice_data}
-use Rattle.h264_picture.proofs.Steps.{moved, qp-first, left-is}
+use Rattle.h264_picture.proofs.Steps.{moved, same-samples, same-makes, qp-first, left-is}
 use Rattle.h264_picture.specs.Levels.{transform_fits}
 use Rattle.h264_mbsyntax.specs.declared.slice.Standing.TheVariants.{Next}
 use Rattle.h264_picture.proofs.sequence.Sequence.read_slice_data.Goals as goal
 
 pub returns-in_err-check-clause-meets : goal.returns-in_err-check-clause-meets
 unfolding slice_data
-returns-in_err-check-clause-meets g c width size picture h n = let p = err_from_is_err_and c.from_residual.result c.from_residual.ensures.1 in rw (p.1, p.2) (bind _ c.look-ahead.ensures (stop _ (checked _ _ _ _ c.in_err-check.ensures)))
+returns-in_err-check-clause-meets g c width size making picture h n m = let p = err_from_is_err_and c.from_residual.result c.from_residual.ensures.1 in rw (p.1, p.2) (bind _ c.look-ahead.ensures (stop _ (checked _ _ _ _ c.in_err-check.ensures)))
 
 pub returns-clause-meets : goal.returns-clause-meets
 unfolding slice_data
-returns-clause-meets g c width size picture h n = bind _ c.look-ahead.ensures (bind _ (checked _ _ _ _ c.in_ok-check.ensures) (left-is _ _ (transform_fits c.args.slice.now) width c.args.slice.now Next picture (let a = h.macroblocks in let b = h.next in omega arith) (c.read_macroblocks.ensures.meets width size picture (record { holds = moved width size picture _ _ h refl refl refl refl; first = omega arith; predicted = qp-first c.args.slice.now picture n h.past }))))
+returns-clause-meets g c width size making picture h n m =
+    let k = h.holds in
+    bind _ c.look-ahead.ensures (bind _ (checked _ _ _ _ c.in_ok-check.ensures) (left-is _ _ (transform_fits c.args.slice.now) width c.args.slice.now Next picture (let a = k.macroblocks in let b = k.next in omega arith) (c.read_macroblocks.ensures.meets width size making picture (record {
+      holds = moved width size picture _ _ k refl refl refl refl;
+      first = omega arith;
+      predicted = qp-first c.args.slice.now picture n k.past;
+      samples = same-samples making picture c.args.self.now _ refl refl refl refl h.samples;
+      makes = same-makes making c.args.slice.now c.args.self.now _ refl refl m;
+    }))))

@@ -1,0 +1,81 @@
+-- The samples of a picture in the making.
+use Rattle.std.proofs.Common.{◌≡◌, ℕ, ◌+◌, ◌-◌, ◌*◌, ◌/◌, ◌<◌, ◌≤◌, List, [], ◌∷◌, length, get_or, Option, Some, None, vec_len, refl, sym, ap, ◌∙◌, subst, arith, ℤ}
+use Rattle.h264_plane.specs.Samples.{at, IsSized}
+use Rattle.h264_plane.specs.Frames.{plane_of, frame_at, IsFrame}
+use Rattle.h264_plane.specs.Places.{side}
+use Rattle.h264_plane.specs.declared.frame.Component.{Component}
+use Rattle.h264_plane.specs.declared.frame.Component.TheVariants.{Y, Cb, Cr}
+use Rattle.h264_plane.specs.declared.frame.Frame.{Frame}
+use Rattle.h264_near.specs.Coded.{CodedMacroblock}
+use Rattle.h264_near.specs.Keeps.{Keeps, width_of}
+use Rattle.h264_vectors.specs.declared.slice.SliceContext.{SliceContext}
+use Rattle.h264_mbsyntax.specs.Possible as read
+use Rattle.h264_recon.specs.Inter.{Setting, no_motion}
+use Rattle.h264_recon.specs.Constructed.{Coded, IsPossible}
+use Rattle.h264_recon.specs.Given.{given}
+use Rattle.h264_recon.specs.Placed.{PointsInto}
+use Rattle.h264_recon.specs.Pool.{IsShown, AreShown}
+use Rattle.h264_recon.specs.declared.macroblock.Prediction.{Prediction}
+use Rattle.h264_recon.specs.declared.macroblock.Prediction.TheVariants.{Intra, Inter, Pcm}
+use Rattle.h264_recon.proofs.Possible.{given-allowed}
+use Rattle.h264_deblock.specs.Filtering.{IsOf}
+use Rattle.h264_picture.specs.declared.sequence.Sequence.{Sequence}
+use Rattle.h264_picture.specs.Decoded.{Parameters, given_by}
+use Rattle.h264_picture.specs.Holds.{ServesIn, HoldsIn}
+use Rattle.h264_picture.specs.Making.{Making, MakesSlice, HasSamples, setting_of}
+use Rattle.h264_picture.specs.Sound.{IsPlace}
+use Rattle.h264_picture.proofs.Held.{held-none}
+use Rattle.h264_picture.proofs.Room.{own-frame, pool-frame}
+
+half : (n : ℕ) → (16 * n) / 2 ≡ 8 * n
+half n = omega arith
+
+-- a frame of so many macroblocks in a row and in a column
+frame-of : (a d : ℕ) (f : Frame) → IsFrame f (16 * a) (16 * d) → IsOf a d f
+frame-of a d f i Y = record { columns = i.y.columns; rows = i.y.rows }
+frame-of a d f i Cb = record { columns = i.cb.columns ∙ half a; rows = i.cb.rows ∙ half d }
+frame-of a d f i Cr = record { columns = i.cr.columns ∙ half a; rows = i.cr.rows ∙ half d }
+
+pub own-size : (s : Sequence) → IsOf s.across s.down s.frames.frame
+own-size s = frame-of s.across s.down s.frames.frame (own-frame (16 * s.across) (16 * s.down) s.frames s.sound.frames s.frames.within.0)
+
+-- the frames of the pool are the reference pictures
+shown : (s : Sequence) (n : ℕ) → IsPlace s.frames n → IsShown (setting_of s) s.frames.pool n
+shown s n h = record {
+  size = frame-of s.across s.down (frame_at s.frames.pool n) (pool-frame (16 * s.across) (16 * s.down) s.frames n s.sound.frames h);
+  samples = λ p x y i j. refl;
+}
+
+pub are-shown : (s : Sequence) (m : Prediction) → PointsInto s.places m → AreShown (setting_of s) s.frames.pool m
+are-shown s (Intra modes) h = tt
+are-shown s (Inter motion) h = λ n i. let p = h n i in subst (IsShown (setting_of s) s.frames.pool) (sym p.2) (shown s (get_or s.places p.0 0) (s.sound.places.each p.0 p.1))
+are-shown s (Pcm bytes) h = tt
+
+-- nothing is decoded
+pub nothing-made : (making : Option Making) (s : Sequence) → HasSamples making [] s
+nothing-made None s = tt
+nothing-made (Some making) s = held-none (setting_of s) making.place making.slices s.lines s.frames.frame s.sound.wide.0 s.sound.lines (own-size s)
+
+pub begun-holds : (width size : ℕ) (old new : Sequence) → ServesIn width size old → Keeps (width_of old.near) [] new.near → new.across ≡ old.across → new.size ≡ old.size → new.next ≡ 0 → HoldsIn width size [] new
+begun-holds width size old new v k a s n = record {
+  keeps = subst (λ w. Keeps w [] new.near) v.row k;
+  columns = a ∙ v.columns;
+  macroblocks = s ∙ v.macroblocks;
+  next = n;
+  past = λ m e. absurd (cc);
+}
+
+-- what is given by the slice's parameters
+pub given-by : (across width : ℕ) (picture : List CodedMacroblock) (making : Making) (slice : SliceContext) (s : Sequence) (m : CodedMacroblock) (g : Coded) → across ≡ width → MakesSlice making slice s → m.slice ≡ slice.number →
+    g ≡ given width picture making.place slice.constrained_intra slice.chroma_qp_index_offset m → g ≡ given_by across picture making.place (making.slices m.slice) m
+given-by across width picture making slice s m g w h e is =
+    let parameters : making.slices m.slice ≡ record { constrained_intra = slice.constrained_intra; filter = s.filter } = ap making.slices e ∙ h.parameters in
+    rw (parameters, h.offset, w) is
+
+pub filter-by : (making : Making) (slice : SliceContext) (s : Sequence) (m : CodedMacroblock) → MakesSlice making slice s → m.slice ≡ slice.number → (making.slices m.slice).filter ≡ s.filter
+filter-by making slice s m h e = ap (λ (p : Parameters). p.filter) (ap making.slices e ∙ h.parameters)
+
+-- its modes refer to sides that there are
+pub possible : (width : ℕ) (slice : SliceContext) (picture : List CodedMacroblock) (place : ℕ → ℕ) (offset : ℤ) (m : CodedMacroblock) (c r : ℕ) (g : Coded) → length picture ≡ r * width + c → c < width → m.slice ≡ slice.number → read.IsPossible width slice picture m.prediction →
+    g ≡ given width picture place slice.constrained_intra offset m → IsPossible g.prediction g.available
+possible width slice picture place offset m c r g n i e h is = subst (λ (x : Coded). IsPossible x.prediction x.available) (sym is) (given-allowed width slice picture place offset m c r n i e h).possible

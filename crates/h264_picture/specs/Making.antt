@@ -1,0 +1,79 @@
+-- A picture in the making: its samples so far.
+use Rattle.std.specs.Prelude.{◌≡◌, ℕ, ◌+◌, ◌<◌, ◌≤◌, List, length, get_or, Option, Some, None}
+use Rattle.h264_plane.specs.Samples.{at}
+use Rattle.h264_plane.specs.Frames.{plane_of, frame_at}
+use Rattle.h264_near.specs.Coded.{CodedMacroblock}
+use Rattle.h264_mbsyntax.specs.Macroblock.{predicted_qp}
+use Rattle.h264_vectors.specs.declared.slice.SliceContext.{SliceContext}
+use Rattle.h264_recon.specs.Inter.{Setting}
+use Rattle.h264_recon.specs.Placed.{ArePlaced}
+use Rattle.h264_picture.specs.declared.samples.SliceSamples.{SliceSamples}
+use Rattle.h264_picture.specs.declared.sequence.Sequence.{Sequence}
+use Rattle.h264_picture.specs.declared.work.Work.{Work}
+use Rattle.h264_picture.specs.Decoded.{Parameters, IsDecoded}
+use Rattle.h264_picture.specs.Held.{IsHeld}
+use Rattle.h264_picture.specs.Holds.{HoldsIn, IsActive}
+use Rattle.h264_picture.specs.Sound.{IsPlace}
+
+-- What the samples of a picture depend on beside its macroblocks: the parameters of its slices by their numbers, and the places of its reference
+-- pictures, counted from the first one of the sequence, by their numbers.
+pub record Making : Type 0 where
+  pub slices : ℕ → Parameters
+  pub place : ℕ → ℕ
+
+-- the size of the pictures of a sequence, and its frames as reference pictures, by their places
+abbrev pub setting_of : Sequence → Setting
+setting_of s = record { across = s.across; down = s.down; reference = λ n p. at (plane_of p (frame_at s.frames.pool n)) }
+
+-- ---- a sequence
+
+-- Its lines and the frame that is written hold the samples of these macroblocks; of nothing, where the samples are not asked for.
+abbrev pub HasSamples : Option Making → List CodedMacroblock → Sequence → Type 0
+HasSamples None picture s = Unit {0}
+HasSamples (Some making) picture s = IsHeld (setting_of s) making.place making.slices s.lines s.frames.frame picture
+
+-- it makes the samples of this slice
+pub record MakesSlice (making : Making) (slice : SliceContext) (s : Sequence) : Type 0 where
+  pub parameters : making.slices slice.number ≡ record { constrained_intra = slice.constrained_intra; filter = s.filter }
+  pub offset : s.filter.chroma_qp_index_offset ≡ slice.chroma_qp_index_offset
+  pub offsets : (n : ℕ) → (making.slices n).filter.chroma_qp_index_offset ≡ s.filter.chroma_qp_index_offset
+  pub placed : ArePlaced slice s.places making.place
+
+abbrev pub MakesIn : Option Making → SliceContext → Sequence → Type 0
+MakesIn None slice s = Unit {0}
+MakesIn (Some making) slice s = MakesSlice making slice s
+
+-- so it will, with what goes with the slice, where the places of its frames begin with `base`
+pub record MakesSliceWith (making : Making) (slice : SliceContext) (samples : SliceSamples) (base : ℕ) (s : Sequence) : Type 0 where
+  pub parameters : making.slices slice.number ≡ record { constrained_intra = slice.constrained_intra; filter = samples.filter }
+  pub offset : samples.filter.chroma_qp_index_offset ≡ slice.chroma_qp_index_offset
+  pub offsets : (n : ℕ) → (making.slices n).filter.chroma_qp_index_offset ≡ samples.filter.chroma_qp_index_offset
+  pub placed : (k n : ℕ) → k < 16 → get_or slice.references k None ≡ Some n → (get_or samples.places k 0 ≡ base + making.place n) × IsPlace s.frames (making.place n)
+
+abbrev pub MakesWith : Option Making → SliceContext → SliceSamples → ℕ → Sequence → Type 0
+MakesWith None slice samples base s = Unit {0}
+MakesWith (Some making) slice samples base s = MakesSliceWith making slice samples base s
+
+-- it holds these macroblocks of a picture, with their samples
+pub record HoldsMade (width size : ℕ) (making : Option Making) (picture : List CodedMacroblock) (s : Sequence) : Type 0 where
+  pub holds : HoldsIn width size picture s
+  pub samples : HasSamples making picture s
+
+-- So it does between two macroblocks of a slice, and has QP_Y,PRED of the next one.
+pub record Reads (width size : ℕ) (making : Option Making) (slice : SliceContext) (picture : List CodedMacroblock) (s : Sequence) : Type 0 where
+  pub holds : HoldsIn width size picture s
+  pub first : slice.number ≤ length picture
+  pub predicted : s.mb.qp ≡ predicted_qp slice picture
+  pub samples : HasSamples making picture s
+  pub makes : MakesIn making slice s
+
+-- ---- the work
+
+-- It holds these macroblocks of a picture, with their samples.
+abbrev pub HoldsSamples : ℕ → ℕ → Making → List CodedMacroblock → Work → Type 0
+HoldsSamples width size making picture work = IsActive (HoldsMade width size (Some making) picture) work.active
+
+-- What goes with a slice is what the picture's samples depend on: the slice's parameters, one chroma_qp_index_offset for all slices, and the
+-- places of its reference pictures.
+abbrev pub IsSliceOf : Making → SliceContext → SliceSamples → Work → Type 0
+IsSliceOf making slice samples work = IsActive (MakesSliceWith making slice samples work.base) work.active
