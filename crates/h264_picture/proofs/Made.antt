@@ -1,5 +1,6 @@
 -- The samples of a picture in the making.
 use Rattle.std.proofs.Common.{◌≡◌, ℕ, ◌+◌, ◌-◌, ◌*◌, ◌/◌, ◌<◌, ◌≤◌, List, [], ◌∷◌, length, get_or, Option, Some, None, vec_len, refl, sym, ap, ◌∙◌, subst, arith, ℤ}
+use Rattle.std.proofs.Math.Nat.{mul_comm}
 use Rattle.h264_plane.specs.Samples.{at, IsSized}
 use Rattle.h264_plane.specs.Frames.{plane_of, frame_at, IsFrame}
 use Rattle.h264_plane.specs.Places.{side}
@@ -22,9 +23,9 @@ use Rattle.h264_deblock.specs.Filtering.{IsOf}
 use Rattle.h264_picture.specs.declared.sequence.Sequence.{Sequence}
 use Rattle.h264_picture.specs.Decoded.{Parameters, given_by}
 use Rattle.h264_picture.specs.Holds.{ServesIn, HoldsIn}
-use Rattle.h264_picture.specs.Making.{Making, MakesSlice, HasSamples, setting_of}
+use Rattle.h264_picture.specs.Making.{Making, MakesSlice, HasSamples, HoldsMade, IsMadeOf, setting_of}
 use Rattle.h264_picture.specs.Sound.{IsPlace}
-use Rattle.h264_picture.proofs.Held.{held-none}
+use Rattle.h264_picture.proofs.Held.{held-none, held-whole}
 use Rattle.h264_picture.proofs.Room.{own-frame, pool-frame}
 
 half : (n : ℕ) → (16 * n) / 2 ≡ 8 * n
@@ -79,3 +80,9 @@ filter-by making slice s m h e = ap (λ (p : Parameters). p.filter) (ap making.s
 pub possible : (width : ℕ) (slice : SliceContext) (picture : List CodedMacroblock) (place : ℕ → ℕ) (offset : ℤ) (m : CodedMacroblock) (c r : ℕ) (g : Coded) → length picture ≡ r * width + c → c < width → m.slice ≡ slice.number → read.IsPossible width slice picture m.prediction →
     g ≡ given width picture place slice.constrained_intra offset m → IsPossible g.prediction g.available
 possible width slice picture place offset m c r g n i e h is = subst (λ (x : Coded). IsPossible x.prediction x.available) (sym is) (given-allowed width slice picture place offset m c r n i e h).possible
+
+-- a whole picture is decoded
+pub whole-made : (width size : ℕ) (making : Making) (picture : List CodedMacroblock) (s : Sequence) (f : Option Frame) → HoldsMade width size (Some making) picture s → length picture ≡ size → f ≡ Some s.frames.frame → IsMadeOf (setting_of s) making picture f
+whole-made width size making picture s f h n e =
+    let count : length picture ≡ s.down * s.across = n ∙ sym h.holds.macroblocks ∙ s.sound.size ∙ mul_comm s.across s.down in
+    rw e (held-whole (setting_of s) making.place making.slices s.lines s.frames.frame picture s.sound.wide.0 count h.samples)

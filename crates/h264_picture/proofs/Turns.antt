@@ -5,7 +5,7 @@ use Rattle.std.specs.Option.{option_map}
 use Rattle.std.proofs.lemmas.Bool.Decides.{nat_tests}
 use Rattle.h264_plane.specs.declared.frame.Frame.{Frame}
 use Rattle.h264_picture.specs.declared.frames.Frames.{Frames}
-use Rattle.h264_picture.specs.Lent.{lent_in}
+use Rattle.h264_picture.specs.Lent.{lent_in, lent_within}
 use Rattle.h264_picture.specs.Places.{is_active_place}
 
 -- the frame that is lent, of the frames of two sequences
@@ -34,3 +34,10 @@ turned base active new p low turn some = by (is_active_place base p) refl
         let b : 17 - (17 - base) ≡ base = omega arith in
         ap (λ t. if t then lent_in new (p - (17 - base)) else lent_in active (p - (17 - (17 - base)))) o ∙ ap (λ n. lent_in active (p - n)) b ∙ sym (ap (λ t. if t then lent_in active (p - base) else None) e)
     by false e = absurd (some (ap (λ t. if t then lent_in active (p - base) else None) e))
+
+-- the frame at a place of the active sequence
+pub lent-begun : (base place k : ℕ) (f : Frames) (older : Option Frames) → base + k ≡ place → k < 17 → lent_of base (Some f) older place ≡ lent_within f k
+lent-begun base place k f older e i =
+    let active : is_active_place base place ≡ true = grind (arith, nat_tests) in
+    let is : place - base ≡ k = omega arith in
+    ap (λ t. if t then lent_in (Some f) (place - base) else lent_in older (place - (17 - base))) active ∙ ap (lent_within f) is

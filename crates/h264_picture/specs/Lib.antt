@@ -9,3 +9,4 @@ pub mod Places
 pub mod Decoded
 pub mod Held
 pub mod Making
+pub mod Filter

@@ -2,6 +2,7 @@
 use Rattle.std.specs.Prelude.{◌≡◌, ℕ, ◌+◌, ◌<◌, ◌≤◌, List, length, get_or, Option, Some, None}
 use Rattle.h264_plane.specs.Samples.{at}
 use Rattle.h264_plane.specs.Frames.{plane_of, frame_at}
+use Rattle.h264_plane.specs.declared.frame.Frame.{Frame}
 use Rattle.h264_near.specs.Coded.{CodedMacroblock}
 use Rattle.h264_mbsyntax.specs.Macroblock.{predicted_qp}
 use Rattle.h264_vectors.specs.declared.slice.SliceContext.{SliceContext}
@@ -67,6 +68,11 @@ pub record Reads (width size : ℕ) (making : Option Making) (slice : SliceConte
   pub samples : HasSamples making picture s
   pub makes : MakesIn making slice s
 
+-- a frame is decoded of these macroblocks
+abbrev pub IsMadeOf : Setting → Making → List CodedMacroblock → Option Frame → Type 0
+IsMadeOf k making picture None = ⊥
+IsMadeOf k making picture (Some f) = IsDecoded k making.place making.slices picture (λ p. at (plane_of p f))
+
 -- ---- the work
 
 -- It holds these macroblocks of a picture, with their samples.
@@ -77,3 +83,7 @@ HoldsSamples width size making picture work = IsActive (HoldsMade width size (So
 -- places of its reference pictures.
 abbrev pub IsSliceOf : Making → SliceContext → SliceSamples → Work → Type 0
 IsSliceOf making slice samples work = IsActive (MakesSliceWith making slice samples work.base) work.active
+
+-- the frame is decoded of these macroblocks, with the frames of the active sequence as reference pictures
+abbrev pub IsDecodedIn : Work → Making → List CodedMacroblock → Option Frame → Type 0
+IsDecodedIn work making picture f = IsActive (λ (s : Sequence). IsMadeOf (setting_of s) making picture f) work.active

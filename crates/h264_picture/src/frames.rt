@@ -78,6 +78,7 @@ impl Frames {
         ensures place { self.new.place ≡ self.old.place }
         ensures kept { KeepsLent self.old self.new }
         ensures size { (width height : ℕ) → AreFrames width height self.old → AreFrames width height self.new }
+        ensures lent { lent_within self.new self.old.place ≡ Some self.old.frame }
         ensures ended { lent_within self.new self.old.place ≡ Some (frame_within self.old self.old.place) }
     {
         self.begun = false;

@@ -1,6 +1,9 @@
 //! What the samples of a slice depend on beside its macroblocks.
 #![tactic(auto)]
 
+ghost use Rattle.std.specs.Prelude.{◌≡◌, ◌*ℤ◌, pos};
+ghost use Rattle.h264_picture.specs.Filter.{clip_6, filter_by as filter_of_offsets, filter_in, slice_filter as filter_of_slice};
+
 use h264_deblock::{Deblocking, SliceFilter};
 use h264_header::{Deblocking as HeaderDeblocking, FilterOffsets, Header};
 use h264_pps::Pps;
@@ -13,16 +16,27 @@ pub struct SliceSamples {
     pub filter: SliceFilter,
 }
 
-/// FilterOffsetA or FilterOffsetB by half of it.
-fn offset_of(half: i32) -> i8 {
-    2 * half.clamp(-6, 6) as i8
+/// Clip3(-6, 6, z).
+fn clip_6(z: i32) -> i8
+    ensures here { result ≡ clip_6 z }
+{
+    z.clamp(-6, 6) as i8
+}
+
+/// FilterOffsetA or FilterOffsetB, by half of it.
+fn offset_of(half: i32) -> i8
+    ensures { result ≡ pos 2 *ℤ clip_6 half }
+{
+    2 * clip_6(half)
 }
 
 fn filter_by(
     deblocking: Deblocking,
     offsets: &FilterOffsets,
     chroma_qp_index_offset: i32,
-) -> SliceFilter {
+) -> SliceFilter
+    ensures { result ≡ filter_of_offsets deblocking offsets.now chroma_qp_index_offset }
+{
     SliceFilter {
         deblocking,
         filter_offset_a: offset_of(offsets.slice_alpha_c0_offset_div2),
@@ -31,29 +45,34 @@ fn filter_by(
     }
 }
 
-/// The filter of a slice by its header (7.4.3).
-fn filter_of(pps: &Pps, header: &Header) -> SliceFilter {
-    let offset = pps.chroma_qp_index_offset;
-    match &header.deblocking {
-        HeaderDeblocking::AllEdges(offsets) => filter_by(Deblocking::AllEdges, offsets, offset),
+/// The filter by disable_deblocking_filter_idc and its offsets.
+fn filter_in(deblocking: &HeaderDeblocking, chroma_qp_index_offset: i32) -> SliceFilter
+    ensures { result ≡ filter_in deblocking.now chroma_qp_index_offset }
+{
+    match deblocking {
+        HeaderDeblocking::AllEdges(offsets) => {
+            filter_by(Deblocking::AllEdges, offsets, chroma_qp_index_offset)
+        }
         HeaderDeblocking::Off => SliceFilter {
             deblocking: Deblocking::Off,
             filter_offset_a: 0,
             filter_offset_b: 0,
-            chroma_qp_index_offset: offset,
+            chroma_qp_index_offset,
         },
-        HeaderDeblocking::WithinSlice(offsets) => filter_by(
-            Deblocking::WithinSlice,
-            offsets,
-            offset,
-        ),
+        HeaderDeblocking::WithinSlice(offsets) => {
+            filter_by(Deblocking::WithinSlice, offsets, chroma_qp_index_offset)
+        }
     }
 }
 
-/// What the samples of a slice take from its header and its picture parameter set, with the places of its reference pictures.
-pub fn slice_samples(pps: &Pps, header: &Header, places: [u8; 16]) -> SliceSamples {
+/// What the samples of a slice take from its header and its picture parameter set, with the places of its reference pictures by refIdxL0.
+#[tactic(auto, unfolding(crate::specs::Filter::slice_filter))]
+pub fn slice_samples(pps: &Pps, header: &Header, places: [u8; 16]) -> SliceSamples
+    ensures filter { result.filter ≡ filter_of_slice pps.now header.now }
+    ensures places { result.places ≡ places }
+{
     SliceSamples {
         places,
-        filter: filter_of(pps, header),
+        filter: filter_in(&header.deblocking, pps.chroma_qp_index_offset),
     }
 }

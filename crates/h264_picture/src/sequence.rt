@@ -56,7 +56,7 @@ const NO_FILTER: SliceFilter = SliceFilter {
 };
 
 impl Sequence {
-    ghost use Rattle.std.specs.Prelude.{◌≡◌, ◌≢◌, ℕ, ◌-◌, ◌+◌, ◌*◌, ◌<◌, ◌≤◌, ◌^◌, Option, List, [], length, true, OnOk, IfOk};
+    ghost use Rattle.std.specs.Prelude.{◌≡◌, ◌≢◌, ℕ, ◌-◌, ◌+◌, ◌*◌, ◌<◌, ◌≤◌, ◌^◌, Option, Some, List, [], length, true, OnOk, IfOk};
     ghost use Rattle.h264_base.specs.Meets.{Meets};
     ghost use Rattle.h264_near.specs.Coded.{CodedMacroblock};
     ghost use Rattle.h264_vectors.specs.Agrees.{Usable};
@@ -66,7 +66,7 @@ impl Sequence {
     ghost use Rattle.h264_picture.specs.Lent.{KeepsLent, lent_within};
     ghost use Rattle.h264_picture.specs.Places.{IsFrameOf};
     ghost use Rattle.h264_picture.specs.Holds.{is_frame_size, ServesIn, HoldsIn, KeepsPlace};
-    ghost use Rattle.h264_picture.specs.Making.{Making, HoldsMade, MakesIn, MakesWith};
+    ghost use Rattle.h264_picture.specs.Making.{Making, HoldsMade, MakesIn, MakesWith, IsMadeOf, setting_of};
 
     /// Takes all memory of a sequence.
     pub(crate) fn new(alloc: Global, sps: &Sps) -> Result<Sequence, AllocError>
@@ -121,6 +121,7 @@ impl Sequence {
         ensures count { length self.new.frames.pool ≡ length self.old.frames.pool }
         ensures size { (self.new.across ≡ self.old.across) × (self.new.down ≡ self.old.down) }
         ensures ended { IsFrameOf self.old.across self.old.down (lent_within self.new.frames self.old.frames.place) }
+        ensures decoded { (width size : ℕ) (making : Making) (picture : List CodedMacroblock) → HoldsMade width size (Some making) picture self.old → length picture ≡ size → IsMadeOf (setting_of self.old) making picture (lent_within self.new.frames self.old.frames.place) }
         ensures serves { (width size : ℕ) → ServesIn width size self.old → ServesIn width size self.new }
         ensures holds { (width size : ℕ) (picture : List CodedMacroblock) → HoldsIn width size picture self.old → ServesIn width size self.new }
     {

@@ -52,7 +52,7 @@ impl Work {
     ghost use Rattle.h264_picture.specs.Buffer.{buffer_size};
     ghost use Rattle.h264_picture.specs.Levels.{transform_fits};
     ghost use Rattle.h264_picture.specs.Holds.{is_frame_size, Serves, Holds};
-    ghost use Rattle.h264_picture.specs.Making.{Making, HoldsSamples, IsSliceOf};
+    ghost use Rattle.h264_picture.specs.Making.{Making, HoldsSamples, IsSliceOf, IsDecodedIn};
     ghost use Rattle.h264_picture.specs.Places.{first_place, is_active_place, places as places_of, lent, IsReleased, HasBegun, HasSize, KeepsOthers, KeepsFrames, IsFrameOf};
 
     /// A place for no pictures yet, which takes no memory.
@@ -144,6 +144,7 @@ impl Work {
     pub fn end(&mut self)
         ensures kept { KeepsFrames self.old self.new }
         ensures ended { (width height place : ℕ) → HasSize width height self.old → HasBegun place self.old → IsFrameOf width height (lent self.new place) }
+        ensures decoded { (width size place : ℕ) (making : Making) (picture : List CodedMacroblock) → HoldsSamples width size making picture self.old → length picture ≡ size → HasBegun place self.old → IsDecodedIn self.old making picture (lent self.new place) }
         ensures holds { (width size : ℕ) (picture : List CodedMacroblock) → Holds width size picture self.old → Serves width size self.new }
         ensures serves { (width size : ℕ) → Serves width size self.old → Serves width size self.new }
         ensures first { first_place self.new ≡ first_place self.old }
