@@ -49,7 +49,7 @@ impl Sequence {
         ensures more { IsTrue result.available.above_right → self.now.column + 1 < self.now.across }
         ensures given { (width size : ℕ) (place : ℕ → ℕ) (picture : List CodedMacroblock) (coded : CodedMacroblock) → HoldsIn width size picture self.now → HoldsMacroblock self.now.mb coded → coded.slice ≡ slice.now.number → IsPossible width slice.now picture coded.prediction → ArePlaced slice.now self.now.places place → coded_as result (levels_of slice.now.chroma_qp_index_offset coded) ≡ given_of width picture place slice.now.constrained_intra slice.now.chroma_qp_index_offset coded }
     {
-        let m = given(
+        let mut m = given(
             &self.mb,
             &self.near,
             slice,
@@ -57,10 +57,8 @@ impl Sequence {
             self.column,
             self.row,
         );
-        Macroblock {
-            available: within_row(m.available, self.across, self.column),
-            prediction: m.prediction,
-        }
+        m.available = within_row(m.available, self.across, self.column);
+        m
     }
 
     /// Makes the samples of the macroblock in its place.

@@ -119,7 +119,7 @@ impl Work {
         }
     }
 
-    /// Begins a picture in the frame at this place: holds no macroblock.
+    /// Begins a picture in the frame at this place, which is not lent until the picture's end: holds no macroblock.
     pub fn begin(&mut self, place: usize)
         requires from { first_place self.old ≤ place }
         requires to { place < first_place self.old + places_of self.old }
@@ -140,7 +140,7 @@ impl Work {
         }
     }
 
-    /// Ends the picture: its frame is lent again.
+    /// Ends the picture: its frame is lent again. That of a whole picture is the decoded picture (8).
     pub fn end(&mut self)
         ensures kept { KeepsFrames self.old self.new }
         ensures ended { (width height place : ℕ) → HasSize width height self.old → HasBegun place self.old → IsFrameOf width height (lent self.new place) }
@@ -181,8 +181,9 @@ impl Work {
     /// Reads the slice data of a slice from this bit on, behind the macroblocks that it holds (7.3.4).
     ///
     /// Ok: the elements that the sink was told are the one derivation of the slice data, with every rule met, and the work holds
-    /// the picture with the slice's macroblocks. No: the first rule that they break, at its stream bit. Write: the sink failed.
-    /// After an Err the reader may have moved, and nothing is said of what the work holds. Takes no memory.
+    /// the picture with the slice's macroblocks, and with their samples where it held those of the macroblocks before. No: the first rule
+    /// that they break, at its stream bit. Write: the sink failed. After an Err the reader may have moved, and nothing is said of what the
+    /// work holds; but no frame changes other than that of the picture that is begun. Takes no memory.
     pub fn slice<S: Elements>(
         &mut self,
         bits: &mut Bits,
