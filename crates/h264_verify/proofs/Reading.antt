@@ -1,12 +1,11 @@
 -- Structures that are read from a bit on, and a slice with its slice data.
-use Rattle.std.proofs.Common.{◌≡◌, ℕ, Bool, true, false, List, [], ◌∷◌, map, Option, Some, None, Result, Ok, Err, refl, ap, sym, ◌∙◌, subst, length, ◌==◌, eqb-true}
+use Rattle.std.proofs.Common.{◌≡◌, ℕ, Bool, true, false, List, [], ◌∷◌, Option, Some, Result, Ok, Err, refl, ap, sym, ◌∙◌, subst, length, ◌==◌, eqb-true}
 use Rattle.h264_base.specs.declared.mode.Mode.TheVariants as modes
 use Rattle.h264_base.specs.declared.stop.Stop.{Stop}
 use Rattle.h264_base.specs.declared.stop.Stop.TheVariants.{No, Outside, Memory, Read, Write}
 use Rattle.h264_base.specs.Call.{Call}
 use Rattle.h264_base.specs.Body.{Body}
 use Rattle.h264_base.specs.Grammar.{Grammar, Done, ◌>>=◌ as ◌bind◌}
-use Rattle.h264_base.specs.Run.{run}
 use Rattle.h264_base.specs.Meets.{Reader, Meets, MeetsBy, Answers, AnswersBy, Is}
 use Rattle.h264_units.specs.Stream.{NalUnit}
 use Rattle.h264_rbsp.specs.Rbsp.{body_of}
@@ -30,11 +29,12 @@ use Rattle.h264_header.specs.declared.header.Marking.{Marking}
 use Rattle.std.specs.Result.{result_unwrap_or}
 use Rattle.h264_verify.specs.Content.{Content}
 use Rattle.h264_verify.specs.Content as contents
-use Rattle.h264_verify.specs.Outcome.{Outcome, ◌>>=◌, answers, gives, Plays, PlaysBy}
+use Rattle.h264_verify.specs.Outcome.{Outcome, answers, Plays, PlaysBy}
 use Rattle.h264_verify.specs.History.{History, maps_of}
-use Rattle.h264_verify.specs.Pictures.{CodedSlice, CodedPicture, with_sets, sets_at, begins_at, runs_of, joined_to, numbering_of, picture_size, held_in}
+use Rattle.h264_verify.specs.Pictures.{CodedSlice, CodedPicture, with_sets, sets_at, begins_at, runs_of, joined_to, picture_size, held_in}
+use Rattle.h264_marking.specs.Ended.{numbering_of}
 use Rattle.h264_verify.specs.Slices.{first_mb_demands, slice_steps, list_of}
-use Rattle.h264_verify.specs.Data.{picture_set, coded_so_far, list_in, slice_syntax, data_in, data_by, slice_data_at}
+use Rattle.h264_verify.specs.Data.{picture_set, coded_so_far, slice_syntax, data_in, data_by, slice_data_at}
 use Rattle.h264_header.specs.declared.header.SliceUnit.{SliceUnit}
 use Rattle.h264_header.specs.Header.{header}
 use Rattle.h264_base.specs.declared.rule.Rule.TheVariants.{FirstMb}
