@@ -5,7 +5,7 @@ use Rattle.h264_pps.specs.declared.Pps.{Pps}
 use Rattle.h264_sps.specs.declared.sps.Sps.{Sps}
 use Rattle.h264_sets.specs.declared.SetPair.{SetPair}
 use Rattle.h264_sets.specs.Sets.{Maps, sps_of, pps_of, with_sps_of, pair_of}
-use Rattle.h264_header.specs.Layout.{has_lengths, with_lengths, sps_named, sets_of}
+use Rattle.h264_header.specs.Layout.{is_accepted, if_accepted, sps_named, sets_of}
 
 abbrev as_pair : Pps × Sps → SetPair
 as_pair p = record { pps = p.0; sps = p.1 }
@@ -14,9 +14,9 @@ if-lengths : (b : Bool) (pps : Pps) (sps : Sps) (p : Pps × Sps) → (if b then 
 if-lengths true pps sps p e = cc
 if-lengths false pps sps p e = absurd (cc)
 
-if-there : (b : Bool) (pps : Pps) (o : Option Sps) (p : Pps × Sps) → (if b then option_and_then (with_lengths pps) o else None) ≡ Some p → option_map (λ sps. as_pair (pps, sps)) o ≡ Some (as_pair p)
+if-there : (b : Bool) (pps : Pps) (o : Option Sps) (p : Pps × Sps) → (if b then option_and_then (if_accepted pps) o else None) ≡ Some p → option_map (λ sps. as_pair (pps, sps)) o ≡ Some (as_pair p)
 if-there true pps None p e = absurd (cc)
-if-there true pps (Some sps) p e = if-lengths (has_lengths sps) pps sps p e
+if-there true pps (Some sps) p e = if-lengths (is_accepted sps) pps sps p e
 if-there false pps o p e = absurd (cc)
 
 if-named : (m : Maps) (o : Option Pps) (p : Pps × Sps) → option_and_then (sps_named m) o ≡ Some p → option_and_then (with_sps_of m) o ≡ Some (as_pair p)

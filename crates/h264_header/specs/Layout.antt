@@ -4,6 +4,7 @@ use Rattle.std.specs.Option.{option_and_then}
 use Rattle.h264_sps.specs.declared.sps.Sps.{Sps}
 use Rattle.h264_sps.specs.declared.count_type.CountType.{CountType}
 use Rattle.h264_sps.specs.declared.count_type.CountType.TheVariants as count_type
+use Rattle.h264_sps.specs.Usable.{is_usable}
 use Rattle.h264_pps.specs.declared.Pps.{Pps}
 use Rattle.h264_sets.specs.Sets.{Maps, sps_of, pps_of}
 use Rattle.h264_header.specs.declared.layout.CountElements.{CountElements}
@@ -19,13 +20,17 @@ has_count_lengths count_type.DecodingOrder = true
 abbrev pub has_lengths : Sps → Bool
 has_lengths sps = nat_le sps.log2_max_frame_num 16 && has_count_lengths sps.count_type
 
-abbrev pub with_lengths : Pps → Sps → Option (Pps × Sps)
-with_lengths pps sps = if has_lengths sps then Some (pps, sps) else None
+-- it is one that some unit may give
+abbrev pub is_accepted : Sps → Bool
+is_accepted sps = has_lengths sps && is_usable sps
+
+abbrev pub if_accepted : Pps → Sps → Option (Pps × Sps)
+if_accepted pps sps = if is_accepted sps then Some (pps, sps) else None
 
 -- The picture parameter set of an id with the sequence parameter set that it names, if both are there.
--- There is no sequence parameter set with an id above 31, or with a length above 16.
+-- There is no sequence parameter set with an id above 31, and each is one that some unit gave.
 abbrev pub sps_named : Maps → Pps → Option (Pps × Sps)
-sps_named maps pps = if nat_le pps.seq_parameter_set_id 31 then option_and_then (with_lengths pps) (sps_of maps pps.seq_parameter_set_id) else None
+sps_named maps pps = if nat_le pps.seq_parameter_set_id 31 then option_and_then (if_accepted pps) (sps_of maps pps.seq_parameter_set_id) else None
 
 abbrev pub sets_of : Maps → ℕ → Option (Pps × Sps)
 sets_of maps id = option_and_then (sps_named maps) (pps_of maps id)

@@ -5,3 +5,4 @@ pub mod Marking
 pub mod Header
 pub mod Picture
 pub mod Accepted
+pub mod SameMarking

@@ -1,5 +1,6 @@
 -- Where a picture begins (7.4.1.2.4).
 use Rattle.std.specs.Prelude.{ℕ, ◌==◌, ◌||◌, ◌&&◌, not, Bool, true, false, Option, Some, None}
+use Rattle.std.specs.Option.{is_some}
 use Rattle.h264_bits.specs.declared.element.Found.{Found}
 use Rattle.h264_header.specs.declared.header.PicOrderCnt.{PicOrderCnt}
 use Rattle.h264_header.specs.declared.header.PicOrderCnt.TheVariants.{Lsb, Deltas, DecodingOrder}
@@ -60,3 +61,11 @@ begins_picture old new =
     || deltas_differ old.pic_order_cnt new.pic_order_cnt
     || idr_differs old.idr_pic_id new.idr_pic_id
     || idr_pic_ids_differ old.idr_pic_id new.idr_pic_id
+
+-- a slice of an IDR picture
+abbrev pub is_idr : Header → Bool
+is_idr h = is_some h.idr_pic_id
+
+-- its picture is used for reference
+abbrev pub is_reference : Header → Bool
+is_reference h = not (h.nal_ref_idc == 0)

@@ -3,12 +3,14 @@
 
 ghost use Rattle.std.specs.Prelude.{◌≡◌, ◌≤◌, IfSome, IfNone, Some, None, true};
 ghost use Rattle.std.specs.Option.{option_map};
-ghost use Rattle.h264_header.specs.Layout.{sets_of, layout_of, count_elements_of, has_lengths, IsShort};
+ghost use Rattle.h264_header.specs.Layout.{sets_of, layout_of, count_elements_of, has_lengths, is_accepted, IsShort};
+ghost use Rattle.h264_sps.specs.Usable.{is_usable};
 
 use h264_pps::Pps;
 use h264_sets::Sets;
 use h264_sps::count_type::CountType;
 use h264_sps::sps::Sps;
+use h264_sps::usable::is_usable;
 
 /// Which elements of the picture order count stand in a header.
 #[derive(Clone, Copy)]
@@ -77,6 +79,13 @@ fn has_lengths(sps: &Sps) -> bool
     }
 }
 
+/// Whether a sequence parameter set is one that some unit may give.
+fn is_accepted(sps: &Sps) -> bool
+    ensures { result ≡ is_accepted sps.now }
+{
+    has_lengths(sps) && is_usable(sps)
+}
+
 /// What a picture parameter set and its sequence parameter set say.
 fn layout_of(pps: &Pps, sps: &Sps) -> Layout
     ensures { result ≡ layout_of (pps.now, sps.now) }
@@ -96,13 +105,14 @@ pub fn named_sets<'a>(sets: &'a Sets, pic_parameter_set_id: u32) -> Option<(&'a 
     ensures some { IfSome result (λ named. sets_of sets.now pic_parameter_set_id ≡ Some (named.0.now, named.1.now)) }
     ensures none { IfNone result (sets_of sets.now pic_parameter_set_id ≡ None) }
     ensures lengths { IfSome result (λ named. has_lengths named.1.now ≡ true) }
+    ensures usable { IfSome result (λ named. is_usable named.1.now ≡ true) }
 {
     let pps = sets.pps(pic_parameter_set_id)?;
     if pps.seq_parameter_set_id > 31 {
         return None;
     }
     let sps = sets.sps(pps.seq_parameter_set_id)?;
-    if !has_lengths(sps) {
+    if !is_accepted(sps) {
         return None;
     }
     Some((pps, sps))

@@ -4,7 +4,7 @@
 //! the header, and gives each value in it with the bits at which later rules are named, or the first rule that it breaks.
 //! It promises that the header derives in the grammar of `specs/Header.antt`; the sink is told each element as soon as its
 //! code word was read. `begins_picture` is the standard's comparison of the `picture_elements` of two
-//! headers.
+//! headers, and `same_marking` that of their marking.
 //! Rules that look at other slices or at held pictures are not judged here.
 #![tactic(auto)]
 
@@ -15,6 +15,7 @@ mod marking;
 mod picture;
 mod read;
 mod ref_list;
+mod same;
 #[cfg(test)]
 mod tests;
 
@@ -25,3 +26,4 @@ pub use header::{
 pub use layout::named_sets;
 pub use picture::{begins_picture, picture_elements};
 pub use read::read_header;
+pub use same::same_marking;

@@ -4,3 +4,4 @@ pub mod Operations
 pub mod Held
 pub mod Gaps
 pub mod Unused
+pub mod Ended

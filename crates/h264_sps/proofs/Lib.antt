@@ -1,2 +1,3 @@
 pub mod Padded
 pub mod Types
+pub mod Limits

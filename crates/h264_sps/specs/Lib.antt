@@ -3,3 +3,4 @@ pub mod Hrd
 pub mod Vui
 pub mod Sps
 pub mod Seen
+pub mod Usable

@@ -22,12 +22,11 @@ use Rattle.h264_header.specs.Header.{header}
 use Rattle.h264_verify.specs.Content.{Content}
 use Rattle.h264_verify.specs.Content as contents
 use Rattle.h264_verify.specs.Outcome.{Outcome, ◌>>=◌, with_calls, goes_on, answers, gives, tells, value_of, structure_outcome, Plays}
-use Rattle.h264_verify.specs.Demands.{judged}
-use Rattle.h264_verify.specs.Steps.{Step, Tells, needs, Takes, Reads, Ends}
+use Rattle.h264_verify.specs.Steps.{needs}
 use Rattle.h264_verify.specs.UnitHeader.{header_of, nal_unit_type, header_demands}
 use Rattle.h264_verify.specs.History.{History, maps_of}
 use Rattle.h264_verify.specs.Pictures.{whole_at, closing_at}
-use Rattle.h264_verify.specs.Units.{unit_call, is_slice, slice_unit, other_content, content, content_steps, data_course, content_course, unit_course}
+use Rattle.h264_verify.specs.Units.{unit_call, is_slice, slice_unit, other_content, content, content_steps, data_course, content_course}
 use Rattle.h264_verify.specs.UnitOutcome.{steps_outcome, structure_from, course_outcome, sps_outcome, pps_outcome, slice_outcome, header_content, whole_slice, joined, joined_on, joined_other, joined_by, unit_by_steps, unit_outcome}
 use Rattle.h264_verify.proofs.Stepping.{outcome, needs-judged}
 

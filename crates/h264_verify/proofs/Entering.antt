@@ -1,5 +1,5 @@
 -- What a slice, another unit and the end of a picture leave.
-use Rattle.std.proofs.Common.{◌≡◌, ℕ, ◌+◌, ◌-◌, Bool, true, false, List, [], ◌∷◌, ◌++◌, map, length, Option, Some, None, Result, Ok, Err, refl, ap, sym, ◌∙◌, subst, arith, suc, ◌==◌, ◌||◌, not, ◌&&◌, if◌then◌else◌}
+use Rattle.std.proofs.Common.{◌≡◌, ℕ, ◌+◌, Bool, true, false, List, [], ◌∷◌, map, length, Option, Some, None, refl, ap, sym, ◌∙◌, subst, arith, ◌==◌, ◌||◌, not, ◌&&◌, if◌then◌else◌}
 use Rattle.std.specs.Option.{option_map}
 use Rattle.h264_units.specs.Stream.{NalUnit}
 use Rattle.h264_sps.specs.declared.sps.Sps.{Sps}
@@ -8,7 +8,6 @@ use Rattle.h264_header.specs.declared.header.Header.{Header}
 use Rattle.h264_header.specs.Layout.{sets_of}
 use Rattle.h264_header.specs.Picture.{begins_picture, picture_elements}
 use Rattle.h264_poc.specs.Counts.{Keeps as KeepsCounts}
-use Rattle.h264_marking.specs.Frames.{References}
 use Rattle.h264_sets.specs.Sets.{Maps}
 use Rattle.h264_verify.specs.Content.{Content}
 use Rattle.h264_verify.specs.Content as contents
@@ -20,8 +19,8 @@ use Rattle.h264_verify.specs.History.{History, maps_of}
 use Rattle.h264_base.specs.declared.mode.Mode.{Mode}
 use Rattle.h264_near.specs.Coded.{CodedMacroblock}
 use Rattle.h264_verify.specs.Keeping.{EndsAt, HoldsOpen, IsLeft, Keeps, KeepsWithin, KeepsPictures, KeepsSlices, Entered, held_by, begins_by}
-use Rattle.h264_verify.specs.Pictures.{CodedSlice, CodedPicture, with_sets, goes_on, open_of, begins_after, begins_at, joined_to, joined_by, runs_of, ends_picture, bit_behind, counted, prev_ref_frame_num_of, held_after, held_in}
-use Rattle.h264_verify.specs.Slices.{idr_id, is_idr_due, newest_idr_of, newest_count}
+use Rattle.h264_verify.specs.Pictures.{CodedSlice, CodedPicture, with_sets, goes_on, open_of, begins_after, begins_at, joined_to, joined_by, runs_of, ends_picture, bit_behind, counted}
+use Rattle.h264_verify.specs.Slices.{idr_id, is_idr_due, newest_idr_of}
 
 -- it begins a picture, as the code finds it
 begins-by : (o : Option CodedPicture) (kept : Option OpenPicture) (h : Header) → HoldsOpen o kept → begins_by kept h ≡ begins_after o h

@@ -1,12 +1,12 @@
 -- Structures that are read from a bit on, and a slice with its slice data.
-use Rattle.std.proofs.Common.{◌≡◌, ℕ, Bool, true, false, List, [], ◌∷◌, map, Option, Some, None, Result, Ok, Err, refl, ap, sym, ◌∙◌, subst, length, ◌==◌, eqb-true}
+use Rattle.std.proofs.Common.{◌≡◌, ℕ, Bool, ◌&&◌, true, false, List, [], ◌∷◌, Option, Some, Result, Ok, Err, refl, ap, sym, ◌∙◌, subst, length, ◌==◌, eqb-true}
+use Rattle.std.specs.Prelude.{nat_lt, nat_le, ◌*◌}
 use Rattle.h264_base.specs.declared.mode.Mode.TheVariants as modes
 use Rattle.h264_base.specs.declared.stop.Stop.{Stop}
 use Rattle.h264_base.specs.declared.stop.Stop.TheVariants.{No, Outside, Memory, Read, Write}
 use Rattle.h264_base.specs.Call.{Call}
 use Rattle.h264_base.specs.Body.{Body}
 use Rattle.h264_base.specs.Grammar.{Grammar, Done, ◌>>=◌ as ◌bind◌}
-use Rattle.h264_base.specs.Run.{run}
 use Rattle.h264_base.specs.Meets.{Reader, Meets, MeetsBy, Answers, AnswersBy, Is}
 use Rattle.h264_units.specs.Stream.{NalUnit}
 use Rattle.h264_rbsp.specs.Rbsp.{body_of}
@@ -20,7 +20,8 @@ use Rattle.h264_header.specs.Layout.{sets_of}
 use Rattle.h264_marking.specs.declared.frame.Numbering.{Numbering}
 use Rattle.h264_marking.specs.Frames.{References}
 use Rattle.h264_lists.specs.declared.slot.RefSlot.{RefSlot}
-use Rattle.h264_picture.specs.Holds.{Holds}
+use Rattle.h264_sps.specs.Usable.{is_usable, crops_within, holds_references}
+use Rattle.h264_picture.specs.Holds.{Holds, is_frame_size}
 use Rattle.h264_mbsyntax.specs.Slice.{slice_data}
 use Rattle.h264_picture.specs.Context.{slice_context}
 use Rattle.h264_picture.specs.Levels.{transform_fits}
@@ -30,11 +31,12 @@ use Rattle.h264_header.specs.declared.header.Marking.{Marking}
 use Rattle.std.specs.Result.{result_unwrap_or}
 use Rattle.h264_verify.specs.Content.{Content}
 use Rattle.h264_verify.specs.Content as contents
-use Rattle.h264_verify.specs.Outcome.{Outcome, ◌>>=◌, answers, gives, Plays, PlaysBy}
+use Rattle.h264_verify.specs.Outcome.{Outcome, answers, Plays, PlaysBy}
 use Rattle.h264_verify.specs.History.{History, maps_of}
-use Rattle.h264_verify.specs.Pictures.{CodedSlice, CodedPicture, with_sets, sets_at, begins_at, runs_of, joined_to, numbering_of, picture_size, held_in}
+use Rattle.h264_verify.specs.Pictures.{CodedSlice, CodedPicture, with_sets, sets_at, begins_at, runs_of, joined_to, picture_size, held_in}
+use Rattle.h264_marking.specs.Ended.{numbering_of}
 use Rattle.h264_verify.specs.Slices.{first_mb_demands, slice_steps, list_of}
-use Rattle.h264_verify.specs.Data.{picture_set, coded_so_far, list_in, slice_syntax, data_in, data_by, slice_data_at}
+use Rattle.h264_verify.specs.Data.{picture_set, coded_so_far, slice_syntax, data_in, data_by, slice_data_at}
 use Rattle.h264_header.specs.declared.header.SliceUnit.{SliceUnit}
 use Rattle.h264_header.specs.Header.{header}
 use Rattle.h264_base.specs.declared.rule.Rule.TheVariants.{FirstMb}
@@ -198,3 +200,14 @@ module _ {S : Type 0} (took : S → List Call → Type 0) (failures : S → ℕ)
           (plays-on took failures (λ (x : Unit {0}). x) (λ x. record { unit = unit; content = contents.OfSlice h ms } ∷ before) _ _ s1 s2 s3 y r met
           (plays-gives took failures (λ (x : Unit {0}). contents.OfSlice h ms) (λ c. record { unit = unit; content = c } ∷ before) _ s2 s3 r
           (plays-gives took failures (λ (x : Unit {0}). (contents.OfSlice h ms, end)) (λ (w : Content × ℕ). w.0) _ s2 s3 r content)))
+
+-- the frames of a set that may be given are no larger than the greatest MaxFS
+first-three : (a b c d e r : Bool) → ((a && (b && (c && (d && e)))) && r) ≡ true → (a && (b && c)) ≡ true
+first-three true true true d e r h = refl
+first-three true true false d e r h = cc
+first-three true false c d e r h = cc
+first-three false b c d e r h = cc
+
+pub usable_size : (sps : Sps) → is_usable sps ≡ true → is_frame_size sps.frame_size ≡ true
+unfolding is_usable
+usable_size sps e = first-three (nat_lt 0 sps.frame_size.width) (nat_lt 0 sps.frame_size.height) (nat_le (sps.frame_size.width * sps.frame_size.height) 36864) (nat_le sps.frame_size.width 543) (nat_le sps.frame_size.height 543) (crops_within sps.frame_size sps.frame_cropping && holds_references sps) e

@@ -1,13 +1,12 @@
 -- Rules one after another, and the sets of a slice.
-use Rattle.std.proofs.Common.{pos, length, ◌==◌, OnOk, IsTrue, IsFalse, not, ◌&&◌, ◌⊎◌, inl, inr, IfNone, ◌≡◌, ℕ, ◌*◌, Bool, true, false, List, [], ◌∷◌, ◌++◌, map, Option, Some, None, Result, Ok, Err, refl, ap, sym, ◌∙◌, subst, ◌||◌, if◌then◌else◌}
+use Rattle.std.proofs.Common.{pos, length, ◌==◌, OnOk, IsTrue, IsFalse, ◌⊎◌, inl, inr, IfNone, ◌≡◌, ℕ, ◌*◌, Bool, true, false, List, [], ◌∷◌, ◌++◌, Option, Some, None, Result, Ok, Err, refl, ap, sym, ◌∙◌, subst, ◌||◌, if◌then◌else◌}
 use Rattle.std.proofs.lemmas.Bool.{eqb-true}
 use Rattle.std.specs.Option.{is_some, option_map}
-use Rattle.h264_base.specs.declared.rule.Rule.TheVariants.{NoSet, FirstPicture, SetChanged}
+use Rattle.h264_base.specs.declared.rule.Rule.TheVariants.{SetChanged}
 use Rattle.h264_base.specs.declared.stop.Stop.{Stop}
 use Rattle.h264_base.specs.declared.stop.Stop.TheVariants.{No}
-use Rattle.h264_base.specs.Call.{Call, OfSlice}
+use Rattle.h264_base.specs.Call.{Call}
 use Rattle.h264_units.specs.Stream.{NalUnit}
-use Rattle.h264_bits.specs.declared.element.Found.{Found}
 use Rattle.h264_sps.specs.declared.sps.Sps.{Sps}
 use Rattle.h264_pps.specs.declared.Pps.{Pps}
 use Rattle.h264_sets.specs.Sets.{Maps, pair_of, with_active, IsActive}
@@ -15,7 +14,6 @@ use Rattle.h264_sets.proofs.Content.{decides-sps}
 use Rattle.h264_header.proofs.Named.{named-pair}
 use Rattle.h264_sets.specs.declared.SetPair.{SetPair}
 use Rattle.h264_header.specs.declared.header.Header.{Header}
-use Rattle.h264_header.specs.declared.header.Marking.{Marking}
 use Rattle.h264_header.specs.declared.header.PicNumModification.{PicNumModification}
 use Rattle.h264_header.specs.declared.header.RefPicList0.{RefPicList0}
 use Rattle.h264_header.specs.Layout.{sets_of}
@@ -25,21 +23,16 @@ use Rattle.h264_lists.specs.declared.slot.RefSlot.{RefSlot}
 use Rattle.h264_lists.specs.Initial.{list_places, initial}
 use Rattle.h264_lists.specs.Modified.{modified}
 use Rattle.h264_lists.specs.Built.{built}
-use Rattle.h264_poc.specs.declared.picture.Count.{Count}
-use Rattle.h264_marking.specs.Frames.{References}
 use Rattle.h264_base.specs.declared.mode.Mode.{Mode}
 use Rattle.h264_base.specs.declared.mode.Mode.TheVariants as modes
 use Rattle.h264_verify.specs.Content as contents
-use Rattle.h264_verify.specs.declared.slices.Slices.{Slices}
-use Rattle.h264_verify.specs.declared.picture.OpenPicture.{OpenPicture}
-use Rattle.h264_verify.specs.declared.picture.Types.{Types}
 use Rattle.h264_verify.specs.Outcome.{Outcome, answers, tells, Plays, IsNamed}
 use Rattle.h264_verify.specs.Demands.{Demand, judged}
 use Rattle.h264_verify.specs.History.{History, with_pair, maps_with, maps_of}
-use Rattle.h264_verify.specs.Slices.{has_content, is_active, set_demand, list_demand, first_mb_demands, is_idr_due, newest_count, rules_of, slice_call, steps_by, slice_steps}
+use Rattle.h264_verify.specs.Slices.{has_content, is_active, set_demand, list_demand, first_mb_demands, is_idr_due, rules_of, slice_call, steps_by, slice_steps}
 use Rattle.h264_verify.specs.Steps.{Step, Tells, needs}
 use Rattle.h264_verify.specs.UnitOutcome.{steps_outcome}
-use Rattle.h264_verify.specs.Pictures.{CodedPicture, CodedSlice, with_sets, sets_at, begins_at, goes_on, open_of, joined_to, runs_of, counted, whole_steps, closing_demands}
+use Rattle.h264_verify.specs.Pictures.{CodedSlice, with_sets, sets_at, begins_at, joined_to, runs_of, whole_steps, closing_demands}
 use Rattle.h264_verify.specs.Keeping.{standing_demands, slice_rules, coded_before}
 use Rattle.h264_verify.proofs.Finishing.{answers-plays}
 use Rattle.h264_verify.proofs.Stepping.{needs-first, needs-ok, needs-err, steps-ok, steps-err, behind_rules}

@@ -1,15 +1,14 @@
 -- Steps and the course of a unit, as relations and as outcomes.
-use Rattle.std.proofs.Common.{◌≡◌, ℕ, ◌*◌, ◌⊎◌, inl, inr, Bool, true, false, IsTrue, IsFalse, List, [], ◌∷◌, ◌++◌, map, length, Result, Ok, Err, refl, ap, sym, ◌∙◌, append_assoc, if◌then◌else◌}
-use Rattle.std.proofs.lemmas.List.{append-nil}
+use Rattle.std.proofs.Common.{◌≡◌, ℕ, ◌⊎◌, inl, inr, Bool, true, false, IsTrue, IsFalse, List, [], ◌∷◌, ◌++◌, Result, Ok, Err, refl, ap, sym, ◌∙◌, if◌then◌else◌}
 use Rattle.h264_base.specs.declared.stop.Stop.{Stop}
 use Rattle.h264_base.specs.declared.stop.Stop.TheVariants.{No, Outside}
 use Rattle.h264_base.specs.Call.{Call}
 use Rattle.h264_base.specs.Body.{Body}
 use Rattle.h264_base.specs.Grammar.{Grammar, Element, Says}
-use Rattle.h264_base.specs.Run.{Run, run, call_of}
+use Rattle.h264_base.specs.Run.{Run, run}
 use Rattle.h264_base.proofs.OneAnswer.{run-says, run-one}
 use Rattle.h264_verify.specs.Content.{Content}
-use Rattle.h264_verify.specs.Outcome.{Outcome, ◌>>=◌, with_calls, goes_on, answers, gives}
+use Rattle.h264_verify.specs.Outcome.{Outcome, ◌>>=◌, with_calls, goes_on, answers}
 use Rattle.h264_verify.specs.Demands.{Demand, judged}
 use Rattle.h264_verify.specs.Steps.{Step, Needs, Pends, Tells, needs, AreMet, IsFirstStop, Course, Takes, Reads, Ends, told, Runs}
 use Rattle.h264_verify.specs.UnitOutcome.{steps_outcome, structure_from, course_outcome}

@@ -1,5 +1,5 @@
 -- Slice data behind a slice's header, by what the units so far give (7.3.4). To be read beside the standard.
-use Rattle.std.specs.Prelude.{ℕ, Bool, true, false, Option, Some, None, Result, Ok, List, [], ◌∷◌}
+use Rattle.std.specs.Prelude.{ℕ, Bool, true, false, Option, Some, None, List, [], ◌∷◌}
 use Rattle.std.specs.Result.{result_unwrap_or}
 use Rattle.h264_base.specs.Grammar.{Grammar, Done}
 use Rattle.h264_units.specs.Stream.{NalUnit}
@@ -12,7 +12,8 @@ use Rattle.h264_mbsyntax.specs.Slice.{slice_data}
 use Rattle.h264_picture.specs.Context.{slice_context}
 use Rattle.h264_picture.specs.Levels.{transform_fits}
 use Rattle.h264_verify.specs.History.{History}
-use Rattle.h264_verify.specs.Pictures.{CodedSlice, CodedPicture, coded_of, picture_size, with_sets, sets_at, joined_to, runs_of, begins_at, numbering_of, held_in}
+use Rattle.h264_verify.specs.Pictures.{CodedSlice, CodedPicture, coded_of, picture_size, with_sets, sets_at, joined_to, runs_of, begins_at, held_in}
+use Rattle.h264_marking.specs.Ended.{numbering_of}
 use Rattle.h264_verify.specs.Slices.{list_of}
 
 -- the sequence parameter set by which a picture is as large as it is: that of its first slice

@@ -1,7 +1,6 @@
 -- What is kept of the units so far. A working form: it ties values of the program to the list of units.
 use Rattle.std.specs.Prelude.{◌≡◌, ℕ, not, ◌||◌, List, [], ◌∷◌, ◌++◌, map, length, Option, Some, None, Bool, true, false, if◌then◌else◌}
 use Rattle.h264_bits.specs.declared.element.Found.{Found}
-use Rattle.h264_marking.specs.declared.frame.Numbering.{Numbering}
 use Rattle.h264_marking.specs.Frames.{References}
 use Rattle.h264_marking.specs.Gaps.{entered}
 use Rattle.h264_poc.specs.declared.picture.Picture.{Picture}
@@ -10,8 +9,7 @@ use Rattle.h264_pps.specs.declared.Pps.{Pps}
 use Rattle.h264_sps.specs.declared.sps.Sps.{Sps}
 use Rattle.h264_header.specs.declared.header.Header.{Header}
 use Rattle.h264_header.specs.declared.header.Marking.{Marking}
-use Rattle.h264_header.specs.declared.header.PictureElements.{PictureElements}
-use Rattle.h264_header.specs.Picture.{begins_picture, picture_elements}
+use Rattle.h264_header.specs.Picture.{begins_picture, picture_elements, is_idr, is_reference}
 use Rattle.h264_sets.specs.Sets.{Maps}
 use Rattle.h264_verify.specs.declared.judge.State.{State}
 use Rattle.h264_verify.specs.declared.slices.Slices.{Slices}
@@ -24,8 +22,10 @@ use Rattle.h264_picture.specs.declared.work.Work.{Work}
 use Rattle.h264_picture.specs.Holds.{Holds}
 use Rattle.h264_verify.specs.Demands.{Demand}
 use Rattle.h264_verify.specs.History.{History, maps_of}
-use Rattle.h264_verify.specs.Pictures.{CodedSlice, CodedPicture, last_slice, coded_of, picture_size, bit_behind, goes_on, open_of, joined_to, runs_of, counted, is_idr, is_reference, picture_of, numbering_of, prev_ref_frame_num_of, held_after, held_in}
-use Rattle.h264_verify.specs.Slices.{is_i, has_i, has_p, states_type, is_idr_due, newest_idr_of, newest_count, first_slice_rules, later_slice_rules, idr_demand, set_demand, type_demand, same_type_demand, idr_num_demand, gap_demands, id_demand, count_demand, qp_demand, list_of, list_demand, marking_demand}
+use Rattle.h264_verify.specs.Pictures.{CodedSlice, CodedPicture, last_slice, coded_of, picture_size, bit_behind, goes_on, open_of, joined_to, runs_of, counted, prev_ref_frame_num_of, held_after, held_in}
+use Rattle.h264_poc.specs.OfSlice.{picture_of}
+use Rattle.h264_marking.specs.Ended.{numbering_of}
+use Rattle.h264_verify.specs.Slices.{is_i, has_i, has_p, states_type, is_idr_due, newest_idr_of, newest_count, first_slice_rules, later_slice_rules, idr_demand, set_demand, type_demand, idr_num_demand, gap_demands, id_demand, count_demand, qp_demand, list_of, list_demand, marking_demand}
 
 -- which types these slices have, and whether one says that all have its type
 abbrev pub types_of : List CodedSlice → Types

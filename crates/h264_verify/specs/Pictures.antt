@@ -1,33 +1,23 @@
 -- The pictures so far, and the reference frames that they leave (7.4.1.2.4, 7.4.3, 8.2.5). To be read beside the standard.
-use Rattle.std.specs.Prelude.{take, ℕ, zero, suc, ◌+◌, ◌*◌, ◌^◌, nat_le, ◌&&◌, ◌||◌, ◌==◌, not, Bool, true, false, Option, Some, None, unwrap_or, Result, Ok, Err, List, [], ◌∷◌, map, length, if◌then◌else◌}
-use Rattle.std.specs.List.{list_any}
-use Rattle.std.specs.Option.{is_some, option_and_then, option_map}
+use Rattle.std.specs.Prelude.{ℕ, ◌*◌, nat_le, ◌&&◌, ◌==◌, not, Bool, true, false, Option, Some, None, Result, Ok, Err, List, [], ◌∷◌, map, length, if◌then◌else◌}
+use Rattle.std.specs.Option.{option_map}
 use Rattle.std.specs.Result.{result_unwrap_or}
 use Rattle.h264_base.specs.declared.mode.Mode.{Mode}
 use Rattle.h264_base.specs.declared.mode.Mode.TheVariants as modes
 use Rattle.h264_base.specs.declared.rule.Rule.TheVariants.{Incomplete, MarkCommand}
 use Rattle.h264_base.specs.declared.stop.Feature.TheVariants.{Pending}
-use Rattle.h264_bits.specs.declared.element.Found.{Found}
 use Rattle.h264_sps.specs.declared.sps.Sps.{Sps}
-use Rattle.h264_sps.specs.declared.count_type.CountType.{CountType}
-use Rattle.h264_sps.specs.declared.count_type.CountType.TheVariants as count_type
 use Rattle.h264_pps.specs.declared.Pps.{Pps}
 use Rattle.h264_header.specs.declared.header.Header.{Header}
-use Rattle.h264_header.specs.declared.header.PicOrderCnt.{PicOrderCnt}
-use Rattle.h264_header.specs.declared.header.PictureElements.{PictureElements}
-use Rattle.h264_header.specs.declared.header.PicOrderCnt.TheVariants as elements
-use Rattle.h264_header.specs.declared.header.Marking.{Marking}
-use Rattle.h264_header.specs.declared.header.Marking.TheVariants as marking
 use Rattle.h264_header.specs.Layout.{sets_of}
-use Rattle.h264_header.specs.Marking.{number_of}
-use Rattle.h264_header.specs.Picture.{begins_picture, picture_elements}
+use Rattle.h264_header.specs.Picture.{begins_picture, picture_elements, is_idr, is_reference}
 use Rattle.h264_poc.specs.declared.picture.Picture.{Picture}
-use Rattle.h264_poc.specs.declared.picture.Order.{Order}
-use Rattle.h264_poc.specs.declared.picture.Order.TheVariants as order
+use Rattle.h264_poc.specs.OfSlice.{picture_of}
 use Rattle.h264_marking.specs.declared.frame.Numbering.{Numbering}
 use Rattle.h264_marking.specs.Frames.{References}
 use Rattle.h264_marking.specs.Gaps.{last_or, unused_short_term_frame_nums, entered}
-use Rattle.h264_marking.specs.Held.{no_references, marked}
+use Rattle.h264_marking.specs.Held.{no_references}
+use Rattle.h264_marking.specs.Ended.{numbering_of, resets, ended}
 use Rattle.h264_units.specs.Stream.{NalUnit, past}
 use Rattle.h264_sets.specs.Sets.{Maps}
 use Rattle.h264_near.specs.Coded.{CodedMacroblock}
@@ -132,53 +122,11 @@ runs_of (r ∷ before) = joined_by (slice_in (maps_of before) r.unit r.content) 
 abbrev pub begins_at : History → Header → Bool
 begins_at before h = begins_after (open_of (goes_on before) (runs_of before)) h
 
-abbrev pub is_idr : Header → Bool
-is_idr h = is_some h.idr_pic_id
-
-abbrev pub is_reference : Header → Bool
-is_reference h = not (h.nal_ref_idc == 0)
-
--- operation 5 is among the marking
-abbrev pub resets_by : Marking → Bool
-resets_by (marking.Idr no_output long_term) = false
-resets_by marking.SlidingWindow = false
-resets_by (marking.Adaptive operations) = list_any (λ o. number_of o.operation == 5) operations.items
-
-abbrev pub resets : Option (Found Marking) → Bool
-resets None = false
-resets (Some found) = resets_by found.value
-
--- what a picture order count comes from (8.2.1)
-abbrev pub order_of : CountType → PicOrderCnt → Order
-order_of (count_type.Lsb length) (elements.Lsb lsb bottom) = order.Lsb (2 ^ length) lsb bottom
-order_of (count_type.Lsb length) (elements.Deltas top bottom) = order.DecodingOrder
-order_of (count_type.Lsb length) elements.DecodingOrder = order.DecodingOrder
-order_of (count_type.Cycle always_zero non_ref top_to_bottom cycle) (elements.Lsb lsb bottom) = order.DecodingOrder
-order_of (count_type.Cycle always_zero non_ref top_to_bottom cycle) (elements.Deltas top bottom) =
-    order.Cycle non_ref top_to_bottom (take cycle.length cycle.offset_for_ref_frame) top bottom
-order_of (count_type.Cycle always_zero non_ref top_to_bottom cycle) elements.DecodingOrder = order.DecodingOrder
-order_of count_type.DecodingOrder e = order.DecodingOrder
-
--- a picture as its counts see it
-abbrev pub picture_of : Sps → Header → Picture
-picture_of sps h = record {
-  idr = is_idr h;
-  reference = is_reference h;
-  resets = resets h.marking;
-  frame_num = h.frame_num.value;
-  max_frame_num = 2 ^ sps.log2_max_frame_num;
-  order = order_of sps.count_type h.pic_order_cnt;
-}
-
 abbrev pub counted : CodedPicture → Picture
 counted p = picture_of p.first.sps p.first.header
 
 abbrev pub pictures_of : History → List Picture
 pictures_of before = map counted (runs_of before)
-
--- what the numbers of frames go by in a slice
-abbrev pub numbering_of : Sps → Header → Numbering
-numbering_of sps h = record { frame_num = h.frame_num.value; max_frame_num = 2 ^ sps.log2_max_frame_num; max_num_ref_frames = sps.max_num_ref_frames }
 
 -- PrevRefFrameNum behind a picture: its frame_num, or 0 after operation 5, where it is a reference; else that of the last missing
 -- frame, where there was one.
@@ -194,11 +142,6 @@ prev_ref_frame_num_of (p ∷ ps) = prev_ref_frame_num_by p (prev_ref_frame_num_o
 
 abbrev pub entered_by : CodedPicture → ℕ → References → References
 entered_by p prev refs = entered (is_idr p.first.header) prev (numbering_of p.first.sps p.first.header) refs
-
--- the end of a picture, which has this number: what is held then, or the bit of what cannot be met
-abbrev pub ended : Option (Found Marking) → Numbering → ℕ → References → Result References ℕ
-ended None n number refs = Ok refs
-ended (Some found) n number refs = marked n number found.bit found.value refs
 
 abbrev pub ended_by : CodedPicture → ℕ → References → Result References ℕ
 ended_by p number refs = ended p.first.header.marking (numbering_of p.first.sps p.first.header) number refs

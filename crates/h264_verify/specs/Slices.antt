@@ -1,6 +1,5 @@
 -- The rules that a slice meets beside its own syntax (7.4.1.2, 7.4.3, 8.2.1, 8.2.4). To be read beside the standard.
 use Rattle.std.specs.Prelude.{ℕ, ◌*◌, ◌==◌, ◌&&◌, ◌||◌, not, Bool, true, false, Option, Some, None, Result, Ok, List, [], ◌∷◌, ◌++◌, map, length, ℤ, pos, ◌+ℤ◌, int_le, if◌then◌else◌}
-use Rattle.std.specs.Bool.{beq}
 use Rattle.std.specs.Int.{int_min}
 use Rattle.std.specs.List.{list_any}
 use Rattle.std.specs.Option.{is_some}
@@ -21,9 +20,7 @@ use Rattle.h264_header.specs.declared.header.Header.{Header}
 use Rattle.h264_header.specs.declared.header.SliceKind.{SliceKind}
 use Rattle.h264_header.specs.declared.header.SliceKind.TheVariants as kinds
 use Rattle.h264_header.specs.declared.header.Marking.{Marking}
-use Rattle.h264_header.specs.declared.header.Marking.TheVariants as marking
-use Rattle.h264_header.specs.declared.header.MarkingOperation.{MarkingOperation}
-use Rattle.h264_header.specs.contracts.header.OperationPartialEq.TheImpl as eq_operation
+use Rattle.h264_header.specs.SameMarking.{same_marking}
 use Rattle.h264_poc.specs.declared.picture.Picture.{Picture}
 use Rattle.h264_poc.specs.declared.picture.Count.{Count}
 use Rattle.h264_poc.specs.Counts.{count_of}
@@ -39,7 +36,10 @@ use Rattle.h264_verify.specs.Steps as step
 use Rattle.h264_verify.specs.Demands.{Demand}
 use Rattle.h264_verify.specs.UnitHeader.{header_of, nal_unit_type}
 use Rattle.h264_verify.specs.History.{History, maps_of}
-use Rattle.h264_verify.specs.Pictures.{CodedSlice, CodedPicture, sets_at, with_sets, goes_on, joined_to, runs_of, begins_at, is_idr, is_reference, picture_of, numbering_of, prev_ref_frame_num_of, held_after, held_in, bit_of, is_met, counted, coded_of, whole_steps, closing_demands}
+use Rattle.h264_verify.specs.Pictures.{CodedSlice, CodedPicture, sets_at, with_sets, joined_to, runs_of, begins_at, prev_ref_frame_num_of, held_after, held_in, bit_of, is_met, counted, coded_of, whole_steps, closing_demands}
+use Rattle.h264_header.specs.Picture.{is_idr, is_reference}
+use Rattle.h264_poc.specs.OfSlice.{picture_of}
+use Rattle.h264_marking.specs.Ended.{numbering_of}
 
 abbrev pub is_i : SliceKind → Bool
 is_i kinds.I = true
@@ -62,31 +62,6 @@ idr_id (Some found) = Some found.value
 abbrev pub newest_idr_of : List CodedPicture → Option ℕ
 newest_idr_of [] = None
 newest_idr_of (p ∷ pictures) = idr_id p.first.header.idr_pic_id
-
--- the same operations with the same operands: their equality is decided (laws of h264_header)
-abbrev pub same_operations : List MarkingOperation → List MarkingOperation → Bool
-same_operations [] [] = true
-same_operations [] (o ∷ os) = false
-same_operations (o ∷ os) [] = false
-same_operations (o ∷ os) (p ∷ ps) = eq_operation.ghosts.eq o.operation p.operation && same_operations os ps
-
--- the values of all marking elements are the same
-abbrev pub same_values : Marking → Marking → Bool
-same_values (marking.Idr no_output long_term) (marking.Idr no_output' long_term') = beq no_output no_output' && beq long_term long_term'
-same_values (marking.Idr no_output long_term) marking.SlidingWindow = false
-same_values (marking.Idr no_output long_term) (marking.Adaptive operations) = false
-same_values marking.SlidingWindow (marking.Idr no_output long_term) = false
-same_values marking.SlidingWindow marking.SlidingWindow = true
-same_values marking.SlidingWindow (marking.Adaptive operations) = false
-same_values (marking.Adaptive operations) (marking.Idr no_output long_term) = false
-same_values (marking.Adaptive operations) marking.SlidingWindow = false
-same_values (marking.Adaptive operations) (marking.Adaptive operations') = same_operations operations.items operations'.items
-
-abbrev pub same_marking : Option (Found Marking) → Option (Found Marking) → Bool
-same_marking None None = true
-same_marking None (Some b) = false
-same_marking (Some a) None = false
-same_marking (Some a) (Some b) = same_values a.value b.value
 
 -- the marking of the newest picture, which its first slice gives
 abbrev pub newest_marking : List CodedPicture → Option (Found Marking)

@@ -1,5 +1,5 @@
 -- What comes of one unit behind those before it, and of the end of the input. A working form of `Units`, which the code is proved against.
-use Rattle.std.specs.Prelude.{ℕ, ◌*◌, Bool, true, false, List, [], ◌∷◌, ◌++◌, map, length, ◌==◌, Result, Ok, Err, if◌then◌else◌}
+use Rattle.std.specs.Prelude.{ℕ, ◌*◌, List, [], ◌∷◌, ◌++◌, map, length, ◌==◌, Err, if◌then◌else◌}
 use Rattle.h264_base.specs.declared.mode.Mode.{Mode}
 use Rattle.h264_base.specs.declared.mode.Mode.TheVariants as modes
 use Rattle.h264_base.specs.declared.stop.Stop.TheVariants.{No, Outside}

@@ -8,18 +8,19 @@ ghost use Rattle.h264_base.specs.declared.mode.Mode.TheVariants as modes;
 ghost use Rattle.h264_header.specs.declared.header.Header.{Header};
 ghost use Rattle.h264_header.specs.Layout.{sets_of};
 ghost use Rattle.h264_near.specs.Coded.{CodedMacroblock};
-ghost use Rattle.h264_picture.specs.Holds.{Holds, is_frame_size};
+ghost use Rattle.h264_picture.specs.Holds.{Holds};
+ghost use Rattle.h264_sps.specs.Usable.{is_usable};
 ghost use Rattle.h264_verify.specs.Demands.{judged};
 ghost use Rattle.h264_verify.specs.Outcome.{IsNamed, answers};
 ghost use Rattle.h264_verify.specs.History.{History};
-ghost use Rattle.h264_verify.specs.Pictures.{CodedSlice, CodedPicture, open_of, joined_to, runs_of, goes_on, numbering_of, begins_after, whole_steps, picture_size, held_in};
+ghost use Rattle.h264_verify.specs.Pictures.{CodedSlice, CodedPicture, open_of, joined_to, runs_of, goes_on, begins_after, whole_steps, picture_size, held_in};
+ghost use Rattle.h264_marking.specs.Ended.{numbering_of};
 ghost use Rattle.h264_verify.specs.Slices.{first_mb_demands, list_of};
 ghost use Rattle.h264_verify.specs.Data.{picture_set, coded_so_far, data_in};
 ghost use Rattle.h264_verify.specs.Keeping.{KeepsSlices, KeepsWork, HoldsCoded, HoldsNewest, coded_before};
 ghost use Rattle.h264_verify.specs.UnitOutcome.{steps_outcome, structure_from};
 ghost use Rattle.h264_verify.specs.Feeding.{ReadsData};
 
-use crate::picture::numbering_of;
 use crate::rules::check;
 use crate::slices::Slices;
 use arrayvec::ArrayVec;
@@ -27,10 +28,10 @@ use h264_base::{Elements, Feature, Mode, Rule, Stop};
 use h264_bits::Bits;
 use h264_header::{Header, SliceKind, named_sets};
 use h264_lists::{RefSlot, build};
-use h264_marking::{Held, Numbering};
+use h264_marking::{Held, Numbering, numbering_of};
 use h264_picture::{Work, slice_context};
 use h264_sets::Sets;
-use h264_sps::sps::{FrameSize, Sps};
+use h264_sps::sps::Sps;
 
 /// The end of the slice data of the picture that may go on, if there is one: all its macroblocks are coded. Its samples are not judged.
 fn end_data(slices: &Slices, work: &Work) -> Result<(), Stop>
@@ -116,26 +117,15 @@ fn list_of(kind: &SliceKind, numbering: &Numbering, held: &Held) -> ArrayVec<Ref
     }
 }
 
-/// Whether a frame has some macroblocks, and no more than the greatest MaxFS (A.3.1). Each set that was accepted has.
-fn is_frame_size(size: FrameSize) -> bool
-    ensures { result ≡ is_frame_size size }
-{
-    if size.width == 0 || size.height == 0 {
-        return false;
-    }
-    size.width as u64 * size.height as u64 <= 36864
-}
-
 /// A picture that begins takes its places: Memory where they are refused.
+#[tactic(auto, using(crate::proofs::Reading::usable_size))]
 fn begin_if(begins: bool, sps: &Sps, work: &mut Work) -> Result<(), Stop>
+    requires { is_usable sps.now ≡ true }
     ensures holds { (pictures : List CodedPicture) (s : CodedSlice) → s.sps ≡ sps.now → HoldsNewest begins pictures work.old → OnOk result (Holds (picture_set begins s pictures).frame_size.width (picture_size (picture_set begins s pictures)) (coded_so_far begins pictures) work.new) }
     ensures err { IfErr result (λ e. e ≡ Stop.Memory) }
 {
     if !begins {
         return Ok(());
-    }
-    if !is_frame_size(sps.frame_size) {
-        return Err(Stop::Memory);
     }
     work.activate(sps)
 }

@@ -5,15 +5,16 @@ ghost use Rattle.std.specs.Prelude.{◌≡◌, ℕ, ◌+◌, ◌%◌, ◌<◌, �
 ghost use Rattle.h264_header.specs.Layout.{has_lengths};
 ghost use Rattle.h264_marking.specs.Gaps.{entered};
 ghost use Rattle.h264_verify.specs.Demands.{judged};
-ghost use Rattle.h264_verify.specs.Pictures.{is_idr, is_reference, resets, numbering_of, prev_ref_frame_num_behind};
+ghost use Rattle.h264_verify.specs.Pictures.{prev_ref_frame_num_behind};
+ghost use Rattle.h264_header.specs.Picture.{is_idr, is_reference};
+ghost use Rattle.h264_marking.specs.Ended.{resets, numbering_of};
 ghost use Rattle.h264_verify.specs.Slices.{idr_num_demand, gap_demands};
 
-use crate::picture::{numbering_of, resets};
 use crate::rules::check;
 use h264_base::{Rule, Stop};
 use h264_header::Header;
-use h264_marking::Held;
 use h264_marking::gaps::{fill_gaps, gap_before, is_new_num};
+use h264_marking::{Held, numbering_of, resets};
 use h264_sps::sps::Sps;
 
 /// PrevRefFrameNum behind a picture, where `last` is the last missing number, or the one before.

@@ -14,7 +14,6 @@ mod data;
 mod frame_num;
 pub mod judge;
 pub mod laws;
-mod marking;
 pub mod picture;
 mod rules;
 pub mod running;

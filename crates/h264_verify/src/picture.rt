@@ -1,25 +1,15 @@
 //! The picture to which more slices may come.
 #![tactic(auto)]
 
-ghost use Rattle.std.specs.Prelude.{IsErrOf, ◌≡◌, ◌-◌, ◌||◌, ◌==◌, List, [], ◌∷◌, Option, Some, None, true, IsTrue};
-ghost use Rattle.std.specs.List.{list_any};
-ghost use Rattle.std.specs.Result.{result_unwrap_or};
-ghost use Rattle.h264_header.specs.Layout.{has_lengths};
-ghost use Rattle.h264_header.specs.Marking.{number_of};
-ghost use Rattle.h264_header.specs.declared.header.Marking.TheVariants.{SlidingWindow};
-ghost use Rattle.h264_marking.specs.Held.{mark_answer};
-ghost use Rattle.h264_verify.specs.Pictures.{CodedSlice, CodedPicture, numbering_of, ended, resets, resets_by};
+ghost use Rattle.std.specs.Prelude.{◌≡◌, ◌-◌, ◌||◌, ◌==◌, List, [], ◌∷◌, Option, Some, None, true, IsTrue};
+ghost use Rattle.h264_verify.specs.Pictures.{CodedSlice, CodedPicture};
+ghost use Rattle.h264_marking.specs.Ended.{numbering_of};
 ghost use Rattle.h264_verify.specs.Slices.{is_i};
 ghost use Rattle.h264_verify.specs.Keeping.{types_of, HoldsPicture, HoldsOpen, begins_by, types_by, agrees_by};
 
-use h264_base::Stop;
 use h264_bits::Found;
-use h264_header::{
-    Header, Marking, MarkingOperation, Operation, PictureElements, SliceKind, begins_picture,
-    picture_elements,
-};
-use h264_marking::{Held, Numbering};
-use h264_sps::sps::Sps;
+use h264_header::{Header, Marking, PictureElements, SliceKind, begins_picture, picture_elements};
+use h264_marking::{Numbering, is_window};
 use std::mem;
 
 /// Which types the slices of a picture have.
@@ -97,79 +87,6 @@ pub(crate) fn agrees(types: Types, header: &Header) -> bool
         types.i
     };
     !(header.same_type_in_picture || types.stated) || !other
-}
-
-/// What the numbers of frames go by in a slice.
-pub(crate) fn numbering_of(sps: &Sps, header: &Header) -> Numbering
-    requires { has_lengths sps.now ≡ true }
-    ensures { result ≡ numbering_of sps.now header.now }
-{
-    Numbering {
-        frame_num: header.frame_num.value,
-        max_frame_num: 1 << sps.log2_max_frame_num,
-        max_num_ref_frames: sps.max_num_ref_frames,
-    }
-}
-
-/// Whether an operation makes all frames unused.
-fn is_reset(operation: Operation) -> bool
-    ensures { result ≡ (number_of operation == 5) }
-{
-    match operation {
-        Operation::UnmarkAll => true,
-        _ => false,
-    }
-}
-
-fn has_reset(operations: &[MarkingOperation]) -> bool
-    ensures { result ≡ list_any (λ o. number_of o.operation == 5) operations.now }
-{
-    operations.iter().any(|o| is_reset(o.operation))
-}
-
-/// Whether the sliding window marks.
-fn is_window(marking: &Marking) -> bool
-    ensures window { IsTrue result → marking.now ≡ SlidingWindow }
-    ensures other { marking.now ≡ SlidingWindow → IsTrue result }
-{
-    matches!(marking, Marking::SlidingWindow)
-}
-
-fn resets_by(marking: &Marking) -> bool
-    ensures { result ≡ resets_by marking.now }
-{
-    match marking {
-        Marking::Idr { .. } => false,
-        Marking::SlidingWindow => false,
-        Marking::Adaptive(operations) => has_reset(operations.as_slice()),
-    }
-}
-
-/// Whether operation 5 is among a slice's marking.
-pub(crate) fn resets(marking: &Option<Found<Marking>>) -> bool
-    ensures { result ≡ resets marking.now }
-{
-    match marking {
-        None => false,
-        Some(found) => resets_by(&found.value),
-    }
-}
-
-/// Marks at the end of a picture that has this number, where it is a reference.
-pub(crate) fn mark_end(
-    marking: &Option<Found<Marking>>,
-    numbering: &Numbering,
-    number: u64,
-    held: &mut Held,
-) -> Result<(), Stop>
-    ensures answer { result ≡ mark_answer (ended marking.now numbering.now number held.old) }
-    ensures held { held.new ≡ result_unwrap_or (ended marking.now numbering.now number held.old) held.old }
-    ensures no_memory { IsErrOf result Stop.Memory → ⊥ }
-{
-    match marking {
-        None => Ok(()),
-        Some(marking) => held.mark(numbering, number, marking),
-    }
 }
 
 /// Keeps the marking of a picture's first slice in place of another, which goes to its place; from one sliding window, the

@@ -10,13 +10,13 @@ ghost use Rattle.h264_verify.specs.Demands.{judged};
 ghost use Rattle.h264_verify.specs.History.{maps_with};
 ghost use Rattle.h264_verify.specs.Content as contents;
 ghost use Rattle.h264_verify.specs.Keeping.{marking_by, same_type_by, standing_demands};
-ghost use Rattle.h264_verify.specs.Slices.{idr_id, changes_id, bit_of_id, bit_of_marking, is_qp, type_demand, id_demand, qp_demand, list_of, list_demand, same_marking, marking_demand};
+ghost use Rattle.h264_verify.specs.Slices.{idr_id, changes_id, bit_of_id, bit_of_marking, is_qp, type_demand, id_demand, qp_demand, list_of, list_demand, marking_demand};
+ghost use Rattle.h264_header.specs.SameMarking.{same_marking};
 
-use crate::marking::same_marking;
 use crate::picture::{OpenPicture, agrees, is_i, seen_types};
 use h264_base::{Rule, Stop};
 use h264_bits::Found;
-use h264_header::{Header, Marking, RefPicList0, SliceKind};
+use h264_header::{Header, Marking, RefPicList0, SliceKind, same_marking};
 use h264_lists::build;
 use h264_marking::{Held, Numbering};
 use h264_pps::Pps;

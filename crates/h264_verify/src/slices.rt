@@ -5,7 +5,7 @@ ghost use Rattle.std.specs.Prelude.{◌≡◌, ℕ, not, ◌&&◌, Bool, false, 
 ghost use Rattle.std.specs.Option.{is_some};
 ghost use Rattle.h264_base.specs.declared.stop.Stop.TheVariants.{No};
 ghost use Rattle.h264_base.specs.Call.{OfSlice};
-ghost use Rattle.h264_header.specs.Layout.{sets_of, has_lengths, has_count_lengths};
+ghost use Rattle.h264_header.specs.Layout.{sets_of, has_lengths};
 ghost use Rattle.h264_base.specs.declared.mode.Mode.TheVariants as modes;
 ghost use Rattle.h264_header.specs.declared.header.Header.{Header};
 ghost use Rattle.h264_marking.specs.Gaps.{entered};
@@ -19,25 +19,27 @@ ghost use Rattle.h264_verify.specs.Keeping.{KeepsSlices, KeepsWork, HoldsCoded, 
 ghost use Rattle.h264_verify.specs.UnitOutcome.{steps_outcome};
 ghost use Rattle.h264_units.specs.Stream.{NalUnit as UnitView};
 ghost use Rattle.h264_verify.specs.Content as contents;
-ghost use Rattle.h264_verify.specs.Pictures.{CodedSlice, CodedPicture, open_of, joined_to, runs_of, with_sets, order_of, picture_of, numbering_of, is_idr, is_reference, goes_on, bit_behind, whole_steps, prev_ref_frame_num_behind, begins_at, begins_after, ends_picture, closing_demands, resets};
+ghost use Rattle.h264_verify.specs.Pictures.{CodedSlice, CodedPicture, open_of, joined_to, runs_of, with_sets, goes_on, bit_behind, whole_steps, prev_ref_frame_num_behind, begins_at, begins_after, ends_picture, closing_demands};
+ghost use Rattle.h264_poc.specs.OfSlice.{picture_of};
+ghost use Rattle.h264_marking.specs.Ended.{numbering_of, resets};
+ghost use Rattle.h264_header.specs.Picture.{is_idr, is_reference};
 ghost use Rattle.h264_verify.specs.Slices.{type_of, idr_id, first_mb_demands, count_demand, slice_steps, frame_count, newest_count};
 
 use crate::data::{check_first_mb, end_data_if};
 use crate::frame_num::{check_gap, check_idr_num};
-use crate::picture::{OpenPicture, begin, go_on, mark_end, numbering_of, resets};
+use crate::picture::{OpenPicture, begin, go_on};
 use crate::rules::{
     check_first, check_id, check_later, check_list, check_marking, check_qp, check_same_type,
     check_type, idr_id,
 };
 use crate::sink::FrameSink;
 use h264_base::{Failed, Mode, SliceType, Stop};
-use h264_header::{Header, PicOrderCnt, SliceKind, named_sets};
-use h264_marking::{Held, Numbering};
+use h264_header::{Header, SliceKind, named_sets};
+use h264_marking::{Held, Numbering, mark_end, numbering_of};
 use h264_picture::Work;
-use h264_poc::{Count, Counts, Cycle, Order, Picture};
+use h264_poc::{Count, Counts, picture_of};
 use h264_pps::Pps;
 use h264_sets::Sets;
-use h264_sps::count_type::CountType;
 use h264_sps::sps::Sps;
 use h264_units::NalUnit;
 
@@ -68,59 +70,6 @@ fn type_of(kind: &SliceKind) -> SliceType
     match kind {
         SliceKind::I => SliceType::I,
         SliceKind::P(_) => SliceType::P,
-    }
-}
-
-/// What the picture order count of a slice's picture comes from (8.2.1).
-fn order_of(count_type: &CountType, elements: PicOrderCnt) -> Order<'_>
-    requires { has_count_lengths count_type.now ≡ true }
-    ensures { result ≡ order_of count_type.now elements }
-{
-    match (count_type, elements) {
-        (
-            CountType::Lsb {
-                log2_max_pic_order_cnt_lsb,
-            },
-            PicOrderCnt::Lsb {
-                pic_order_cnt_lsb,
-                delta_pic_order_cnt_bottom,
-            },
-        ) => Order::Lsb {
-            max_pic_order_cnt_lsb: 1 << *log2_max_pic_order_cnt_lsb,
-            pic_order_cnt_lsb,
-            delta_pic_order_cnt_bottom,
-        },
-        (
-            CountType::Cycle {
-                offset_for_non_ref_pic,
-                offset_for_top_to_bottom_field,
-                cycle,
-                ..
-            },
-            PicOrderCnt::Deltas { top, bottom },
-        ) => Order::Cycle {
-            offset_for_non_ref_pic: *offset_for_non_ref_pic,
-            offset_for_top_to_bottom_field: *offset_for_top_to_bottom_field,
-            cycle: Cycle::new(&cycle.offset_for_ref_frame, cycle.length),
-            delta_top: top,
-            delta_bottom: bottom,
-        },
-        _ => Order::DecodingOrder,
-    }
-}
-
-/// The picture that a slice begins, as its counts see it.
-fn picture_of<'a>(sps: &'a Sps, header: &Header) -> Picture<'a>
-    requires { has_lengths sps.now ≡ true }
-    ensures { result ≡ picture_of sps.now header.now }
-{
-    Picture {
-        idr: header.idr_pic_id.is_some(),
-        reference: header.nal_ref_idc != 0,
-        resets: resets(&header.marking),
-        frame_num: header.frame_num.value,
-        max_frame_num: 1 << sps.log2_max_frame_num,
-        order: order_of(&sps.count_type, header.pic_order_cnt),
     }
 }
 

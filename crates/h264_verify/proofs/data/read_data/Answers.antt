@@ -1,11 +1,9 @@
-use Rattle.std.proofs.Common.{ap, sym, ◌∙◌, subst, List, [], refl, ◌≡◌, ◌*◌}
+use Rattle.std.proofs.Common.{sym, ◌∙◌, subst, List, []}
 use Rattle.std.proofs.lemmas.Result.{err_from_is_err_and}
 use Rattle.h264_base.specs.Grammar.{Grammar}
-use Rattle.h264_base.specs.Meets.{Meets, Answers}
 use Rattle.h264_near.specs.Coded.{CodedMacroblock}
-use Rattle.h264_picture.specs.Holds.{Holds}
 use Rattle.h264_verify.specs.Pictures.{picture_size}
-use Rattle.h264_verify.specs.Data.{picture_set, coded_so_far, data_in}
+use Rattle.h264_verify.specs.Data.{picture_set, coded_so_far}
 use Rattle.h264_verify.specs.Feeding.{ReadsData}
 use Rattle.h264_verify.specs.UnitOutcome.{structure_from}
 use Rattle.h264_verify.proofs.Playing.{memory-plays}

@@ -1,7 +1,9 @@
 use Rattle.std.proofs.Common.{[], ◌∷◌, ◌++◌}
 use Rattle.std.proofs.lemmas.Result.{err_from_is_err_and}
 use Rattle.h264_marking.specs.Gaps.{entered}
-use Rattle.h264_verify.specs.Pictures.{is_idr, is_reference, picture_of, numbering_of}
+use Rattle.h264_header.specs.Picture.{is_idr, is_reference}
+use Rattle.h264_poc.specs.OfSlice.{picture_of}
+use Rattle.h264_marking.specs.Ended.{numbering_of}
 use Rattle.h264_verify.specs.Slices.{type_demand, idr_num_demand, gap_demands, id_demand, count_demand, qp_demand, list_of, list_demand}
 use Rattle.h264_verify.proofs.Slicing.{stop-at, pass-by, stop-one, pass-one}
 use Rattle.h264_verify.proofs.slices.check_first_slice.Goals as goal

@@ -1,6 +1,5 @@
-use Rattle.std.proofs.Common.{[], ◌∷◌, true, subst, sym, ◌∙◌, ap, refl, ◌≡◌}
+use Rattle.std.proofs.Common.{[], ◌∷◌, true, subst, sym, ◌∙◌, ap, refl}
 use Rattle.std.proofs.lemmas.Result.{err_from_is_err_and}
-use Rattle.h264_base.specs.declared.mode.Mode.TheVariants as modes
 use Rattle.h264_base.specs.Meets.{Reader}
 use Rattle.h264_rbsp.specs.Rbsp.{body_of}
 use Rattle.h264_header.specs.Layout.{sets_of}

@@ -1,11 +1,10 @@
-use Rattle.std.proofs.Common.{◌∙◌, ap, sym, ℕ, List, [], ◌∷◌}
+use Rattle.std.proofs.Common.{sym, ℕ, List, [], ◌∷◌}
 use Rattle.std.proofs.lemmas.Result.{err_from_is_err_and}
 use Rattle.h264_base.specs.declared.mode.Mode.{Mode}
 use Rattle.h264_base.specs.declared.rule.Rule.TheVariants.{NoPicture}
 use Rattle.h264_verify.specs.History.{History}
 use Rattle.h264_verify.specs.Demands.{Demand}
 use Rattle.h264_verify.specs.Pictures.{runs_of, whole_steps, closing_demands}
-use Rattle.h264_verify.specs.Outcome.{answers}
 use Rattle.h264_verify.specs.Units.{has_pictures, end_demands}
 use Rattle.h264_verify.specs.UnitOutcome.{end_outcome}
 use Rattle.h264_verify.proofs.Playing.{answer-stops, answer-on, gives-plays}

@@ -2,10 +2,10 @@
 #![tactic(auto)]
 
 ghost use Rattle.std.specs.Prelude.{◌≡◌};
-ghost use Rattle.h264_verify.specs.Slices.{same_operations, same_values, same_marking};
+ghost use Rattle.h264_header.specs.SameMarking.{same_operations, same_values, same_marking};
 
+use crate::header::{Marking, MarkingOperation};
 use h264_bits::Found;
-use h264_header::{Marking, MarkingOperation};
 
 fn same_operations(first: &[MarkingOperation], later: &[MarkingOperation]) -> bool
     ensures { result ≡ same_operations first.now later.now }
@@ -42,7 +42,7 @@ fn same_values(first: &Marking, later: &Marking) -> bool
 }
 
 /// Whether the values of all marking elements of two slices are the same.
-pub(crate) fn same_marking(first: &Option<Found<Marking>>, later: &Option<Found<Marking>>) -> bool
+pub fn same_marking(first: &Option<Found<Marking>>, later: &Option<Found<Marking>>) -> bool
     ensures { result ≡ same_marking first.now later.now }
 {
     match (first, later) {

@@ -1,0 +1,4 @@
+pub mod Turns
+pub mod Rectangles
+pub mod Ending
+pub mod Kept

@@ -1,0 +1,38 @@
+-- What holds of each sequence parameter set that some unit gives, beside the ranges of its elements (7.4.2.1.1, A.3.1, E.2.1).
+use Rattle.std.specs.Prelude.{ℕ, ◌+◌, ◌*◌, nat_le, nat_lt, ◌&&◌, Bool, true, Option, Some, None, unwrap_or}
+use Rattle.std.specs.Option.{option_and_then, option_map, option_map_or}
+use Rattle.h264_tables.specs.declared.level.Limits.{Limits}
+use Rattle.h264_tables.specs.Level.{limits_of}
+use Rattle.h264_sps.specs.declared.sps.FrameCropping.{FrameCropping}
+use Rattle.h264_sps.specs.declared.sps.FrameSize.{FrameSize}
+use Rattle.h264_sps.specs.declared.sps.Sps.{Sps}
+use Rattle.h264_sps.specs.declared.vui.Vui.{Vui}
+use Rattle.h264_sps.specs.declared.vui.BitstreamRestriction.{BitstreamRestriction}
+use Rattle.h264_sps.specs.Sps.{max_dpb_frames}
+
+-- a frame of some macroblocks, of no more than the greatest MaxFS, in rows and columns of no more than Sqrt(8 * MaxFS) (A.3.1)
+abbrev pub is_frame_size : FrameSize → Bool
+is_frame_size s = nat_lt 0 s.width && (nat_lt 0 s.height && (nat_le (s.width * s.height) 36864 && (nat_le s.width 543 && nat_le s.height 543)))
+
+-- something is left of each row and of each column
+abbrev pub is_within : FrameSize → FrameCropping → Bool
+is_within size c = nat_lt (c.left + c.right) (8 * size.width) && nat_lt (c.top + c.bottom) (8 * size.height)
+
+abbrev pub crops_within : FrameSize → Option FrameCropping → Bool
+crops_within size None = true
+crops_within size (Some c) = is_within size c
+
+-- max_dec_frame_buffering, where it is given
+abbrev pub given_frames : Sps → Option ℕ
+given_frames sps = option_map (λ (r : BitstreamRestriction). r.max_dec_frame_buffering) (option_and_then (λ (v : Vui). v.bitstream_restriction) sps.vui)
+
+-- MaxDpbFrames of the level and the frame size
+abbrev pub dpb_frames : Sps → ℕ
+dpb_frames sps = option_map_or (λ (l : Limits). max_dpb_frames l sps.frame_size) (limits_of sps.level_idc sps.constraint_set_flags.set3) 0
+
+-- the picture buffer holds the reference frames
+abbrev pub holds_references : Sps → Bool
+holds_references sps = nat_le sps.max_num_ref_frames (unwrap_or (given_frames sps) (dpb_frames sps))
+
+unfoldable pub is_usable : Sps → Bool
+is_usable sps = is_frame_size sps.frame_size && (crops_within sps.frame_size sps.frame_cropping && holds_references sps)
