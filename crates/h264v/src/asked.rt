@@ -1,11 +1,11 @@
 //! What the words of the command line ask for.
 #![tactic(auto)]
 
-ghost use Rattle.std.specs.Prelude.{◌≡◌, true, codes, map, option_map, Some, IfOk, IfErr, string_bytes};
-ghost use Rattle.clap.specs.Words.{app_of, first_of, kind_of, subcommand_of, takes};
-ghost use Rattle.h264v.specs.Words.{file_command as file_command_of, program as program_of, name_of};
+ghost use Rattle.std.specs.Prelude.{◌≡◌, false, map, Some, IfOk, IfSome, string_bytes};
+ghost use Rattle.clap.specs.Words.{app_of};
+ghost use Rattle.clap.specs.declared.builder.command.Command.TheViews.{out-Command as fields_of};
+ghost use Rattle.h264v.specs.Words.{file_app, with_file, bare, program, name_of, asks};
 
-use clap::error::ErrorKind;
 use clap::{Arg, Command, Error};
 use std::alloc::{AllocError, Global};
 
@@ -32,58 +32,83 @@ pub struct Request<'a> {
 }
 
 /// A subcommand that takes one FILE.
-fn file_command(
-    alloc: Global,
-    name: &'static str,
-    about: &'static str,
-) -> Result<Command<'static>, AllocError> {
+fn file_command<'a>(alloc: Global, name: &'a str, about: &'a str) -> Result<Command<'a>, AllocError>
+    ensures app { IfOk result (λ c. app_of c ≡ file_app name.now) }
+    ensures local { IfOk result (λ c. (fields_of c).has_globals ≡ false) }
+{
     let file = Arg::new(alloc, "FILE").required(true).help(
         "An H.264 byte stream (Annex B), as cameras and encoders write it with the ending .264 or .h264",
     );
     Command::new(alloc, name).about(about).arg(file)
 }
 
-/// The program's command line.
-fn program(alloc: Global) -> Result<Command<'static>, AllocError> {
-    let check = file_command(
-        alloc,
-        "check",
-        "Says whether a stream is legal: yes, no with the first rule that it breaks and the bit where, or outside",
-    )?;
-    let units = file_command(
-        alloc,
-        "units",
-        "Prints a line for each unit, and judges byte stream, units and parameter sets",
-    )?;
-    let headers = file_command(
-        alloc,
-        "headers",
-        "Prints a line for each slice, and judges slice headers too",
-    )?;
-    let frames = file_command(
-        alloc,
-        "frames",
-        "Prints a line for each frame in output order, with its size and the MD5 of its samples",
-    )?;
-    let decode = file_command(
-        alloc,
-        "decode",
-        "Writes each frame in output order as planar YUV 4:2:0, and its verdict to standard error",
-    )?;
+/// The command with one more subcommand, which takes one FILE.
+fn with_file<'a>(
+    alloc: Global,
+    command: Command<'a>,
+    name: &'a str,
+    about: &'a str,
+) -> Result<Command<'a>, AllocError>
+    requires local { (fields_of command).has_globals ≡ false }
+    ensures app { IfOk result (λ c. app_of c ≡ with_file (app_of command.entry) name.now) }
+    ensures local { IfOk result (λ c. (fields_of c).has_globals ≡ false) }
+{
+    let added = file_command(alloc, name, about)?;
+    command.subcommand(added)
+}
+
+/// The program's own command, without subcommands.
+fn bare<'a>(alloc: Global) -> Command<'a>
+    ensures app { app_of result ≡ bare }
+    ensures local { (fields_of result).has_globals ≡ false }
+{
     Command::new(alloc, "h264v")
         .about("Judges H.264 streams of the Constrained Baseline profile, and decodes them")
         .version("0.1.0")
         .subcommand_required(true)
         .arg_required_else_help(true)
-        .subcommand(check)?
-        .subcommand(units)?
-        .subcommand(headers)?
-        .subcommand(frames)?
-        .subcommand(decode)
+}
+
+/// The program's command line.
+fn program<'a>(alloc: Global) -> Result<Command<'a>, AllocError>
+    ensures { IfOk result (λ c. app_of c ≡ program) }
+{
+    let check = with_file(
+        alloc,
+        bare(alloc),
+        "check",
+        "Says whether a stream is legal: yes, no with the first rule that it breaks and the bit where, or outside",
+    )?;
+    let units = with_file(
+        alloc,
+        check,
+        "units",
+        "Prints a line for each unit, and judges byte stream, units and parameter sets",
+    )?;
+    let headers = with_file(
+        alloc,
+        units,
+        "headers",
+        "Prints a line for each slice, and judges slice headers too",
+    )?;
+    let frames = with_file(
+        alloc,
+        headers,
+        "frames",
+        "Prints a line for each frame in output order, with its size and the MD5 of its samples",
+    )?;
+    with_file(
+        alloc,
+        frames,
+        "decode",
+        "Writes each frame in output order as planar YUV 4:2:0, and its verdict to standard error",
+    )
 }
 
 /// The task of a subcommand's name; none for another word.
-fn task_of(name: &str) -> Option<Task> {
+fn task_of(name: &str) -> Option<Task>
+    ensures { IfSome result (λ t. name_of t ≡ name.now) }
+{
     if name == "check" {
         Some(Task::Check)
     } else if name == "units" {
@@ -102,7 +127,9 @@ fn task_of(name: &str) -> Option<Task> {
 /// What the words ask for, the program's name first among them.
 ///
 /// An error has the text that says why they ask for nothing, among them a request for help or the version; or memory was wanting for it.
-pub fn asked<'a>(alloc: Global, words: &'a [String]) -> Result<Option<Request<'a>>, Error> {
+pub fn asked<'a>(alloc: Global, words: &'a [String]) -> Result<Option<Request<'a>>, Error>
+    ensures words { IfOk result (λ found. IfSome found (λ r. asks program (map (λ w. string_bytes w) words.entry.now) ≡ Some (name_of r.task, Some r.file.now))) }
+{
     let command = program(alloc)?;
     let matches = command.try_get_matches_from(words)?;
     let Some((name, found)) = matches.subcommand() else {

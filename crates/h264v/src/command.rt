@@ -1,6 +1,8 @@
 //! The command line.
 #![tactic(auto)]
 
+ghost use Rattle.std.specs.Prelude.{◌-◌, ◌<◌, ◌^◌};
+
 use crate::asked::{Task, asked};
 use crate::files::{Opener, ReadSource};
 use clap::Error;
@@ -74,7 +76,9 @@ fn list<R: Source, W: Write>(
     listing: Listing,
     source: &mut R,
     out: &mut W,
-) -> u8 {
+) -> u8
+    requires { R.failures source.old < 2 ^ 64 - 1 }
+{
     let mut sink = LineSink::new(alloc, listing, out);
     let verdict = run(alloc, source, &mut sink, mode);
     let short = sink.short_of_memory();
@@ -83,7 +87,9 @@ fn list<R: Source, W: Write>(
 }
 
 /// Judges a stream whole; after a no the last elements are printed.
-fn check<R: Source, W: Write>(alloc: Global, source: &mut R, out: &mut W) -> u8 {
+fn check<R: Source, W: Write>(alloc: Global, source: &mut R, out: &mut W) -> u8
+    requires { R.failures source.old < 2 ^ 64 - 1 }
+{
     let Ok(mut sink) = TrailSink::new(alloc) else {
         return put_verdict(alloc, Mode::Full, Err(Stop::Memory), out);
     };
@@ -105,7 +111,9 @@ fn decode<R: Source, W: Write, E: Write>(
     source: &mut R,
     out: &mut W,
     err: &mut E,
-) -> u8 {
+) -> u8
+    requires { R.failures source.old < 2 ^ 64 - 1 }
+{
     let mut sink = YuvSink::new(out);
     let verdict = run(alloc, source, &mut sink, Mode::Full);
     drop(sink);
@@ -122,7 +130,9 @@ fn perform<R: Source, W: Write, E: Write>(
     source: &mut R,
     out: &mut W,
     err: &mut E,
-) -> u8 {
+) -> u8
+    requires { R.failures source.old < 2 ^ 64 - 1 }
+{
     match task {
         Task::Check => check(alloc, source, out),
         Task::Units => list(alloc, Mode::Units, Listing::Units, source, out),
