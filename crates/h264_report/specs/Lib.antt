@@ -1,1 +1,6 @@
 pub mod Lines
+pub mod Sent
+pub mod Rows
+pub mod Frames
+pub mod Told
+pub mod Trail

@@ -1,6 +1,10 @@
 -- The lines' texts, in ASCII and without a line end.
 use Rattle.std.specs.Prelude.{ℕ, ℤ, List, ◌++◌, codes, Result, Ok, Err}
 use Rattle.std.specs.Fmt.{decimal, signed_decimal}
+use Rattle.hex.specs.Hex.{encode_lower}
+use Rattle.md5.specs.Md5.{md5}
+use Rattle.h264_base.specs.ElementName as names
+use Rattle.h264_base.specs.declared.element_name.ElementName.{ElementName}
 use Rattle.h264_base.specs.declared.mode.Mode.{Mode}
 use Rattle.h264_base.specs.declared.mode.Mode.TheVariants as modes
 use Rattle.h264_base.specs.declared.mode.SliceType.{SliceType}
@@ -25,6 +29,14 @@ type_text slice_type.I = codes "I"
 -- slice BYTE mb F type P|I frame N count C
 abbrev pub slice_text : ℕ → ℕ → SliceType → ℕ → ℤ → List ℕ
 slice_text byte mb kind frame_num count = codes "slice " ++ (decimal byte ++ (codes " mb " ++ (decimal mb ++ (codes " type " ++ (type_text kind ++ (codes " frame " ++ (decimal frame_num ++ (codes " count " ++ signed_decimal count))))))))
+
+-- frame I count C WxH md5 HEX, with the digest of these bytes
+abbrev pub frame_text : ℕ → ℤ → ℕ → ℕ → List ℕ → List ℕ
+frame_text index count width height bytes = codes "frame " ++ (decimal index ++ (codes " count " ++ (signed_decimal count ++ (codes " " ++ (decimal width ++ (codes "x" ++ (decimal height ++ (codes " md5 " ++ encode_lower (md5 bytes)))))))))
+
+-- element NAME bit N value V
+abbrev pub element_text : ElementName → ℕ → ℤ → List ℕ
+element_text name bit value = codes "element " ++ (names.text_of name ++ (codes " bit " ++ (decimal bit ++ (codes " value " ++ signed_decimal value))))
 
 -- yes: units U, the pictures where slices were read, and the frames where slice data were
 abbrev pub yes_text : Mode → Summary → List ℕ

@@ -1,10 +1,16 @@
 //! The texts of the lines.
 #![tactic(auto)]
 
-ghost use Rattle.std.specs.Prelude.{◌≡◌, IfOk, OnOk, string_bytes};
-ghost use Rattle.h264_report.specs.Lines.{unit_text, type_text, slice_text, yes_text, no_text, outside_text, verdict_text};
+ghost use Rattle.std.specs.Prelude.{◌≡◌, IfOk, IsTrue, OnOk, string_bytes};
+ghost use Rattle.h264_dpb.specs.Shown.{fits, width_in, height_in};
+ghost use Rattle.h264_report.specs.Frames.{shown_bytes};
+ghost use Rattle.h264_report.specs.Lines.{unit_text, type_text, slice_text, frame_text, element_text, yes_text, no_text, outside_text, verdict_text};
 
-use h264_base::{Feature, Mode, Rule, SliceType, Stop};
+use crate::frames::digest;
+use crate::rows::{height, width};
+use h264_base::{ElementName, Feature, Mode, Rule, SliceType, Stop};
+use h264_dpb::Rectangle;
+use h264_plane::Frame;
 use h264_verify::Summary;
 use std::alloc::{AllocError, Global};
 
@@ -55,6 +61,48 @@ pub fn slice_line(
         line,
         "slice {byte} mb {first_mb_in_slice} type {kind} frame {frame_num} count {count}"
     )?;
+    Ok(())
+}
+
+/// Makes a line that of a frame: its index in the order of output, its picture order count, the size of what is shown of it in luma samples, and the
+/// MD5 digest of the samples that are shown, the rows of Y, then of Cb, then of Cr. AllocError where there is no memory for it; the line is then a part
+/// of it.
+pub fn frame_line(
+    alloc: Global,
+    line: &mut String,
+    index: u64,
+    count: i32,
+    frame: &Frame,
+    rectangle: Rectangle,
+) -> Result<(), AllocError>
+    requires { IsTrue (fits rectangle frame.now) }
+    ensures { OnOk result (string_bytes line.new ≡ frame_text index count (width_in rectangle frame.now) (height_in rectangle frame.now) (shown_bytes frame.now rectangle)) }
+{
+    let width = width(frame, rectangle);
+    let height = height(frame, rectangle);
+    let digits = hex::encode(alloc, digest(frame, rectangle))?;
+    let digits = digits.as_str();
+    line.clear();
+    write!(
+        line,
+        "frame {index} count {count} {width}x{height} md5 {digits}"
+    )?;
+    Ok(())
+}
+
+/// Makes a line that of a syntax element: its name, the stream bit where it begins, and its value. AllocError where there is no memory for it; the line
+/// is then a part of it.
+pub fn element_line(
+    line: &mut String,
+    name: ElementName,
+    bit: u64,
+    value: i64,
+) -> Result<(), AllocError>
+    ensures { OnOk result (string_bytes line.new ≡ element_text name bit value) }
+{
+    let name = name.text();
+    line.clear();
+    write!(line, "element {name} bit {bit} value {value}")?;
     Ok(())
 }
 

@@ -2,7 +2,7 @@
 //! from the lengths of the elements before.
 #![tactic(auto)]
 
-use crate::tests::{Case, check, check_cases};
+use crate::tests::{Case, answer_of, check, check_cases, whole};
 use std::process::Abort;
 use std::test::Fail;
 
@@ -129,8 +129,29 @@ fn samples(rt: &(impl Abort + AllocGlobal)) -> Result<(), Fail> {
     check(rt, "check", "samples", stream.as_slice(), text, 2)
 }
 
+/// A picture whose stop bit is read as mb_qp_delta.
+const CUT: &[u8] = &[
+    0x00, 0x00, 0x00, 0x01, 0x67, 0x42, 0xC0, 0x0A, 0xDA, 0x71, 0x00, 0x00, 0x00, 0x01, 0x68, 0xCE,
+    0x38, 0x80, 0x00, 0x00, 0x01, 0x65, 0x88, 0x84, 0x93,
+];
+
+/// The last 16 elements stand before a no, the oldest first.
+fn last_elements(rt: &(impl Abort + AllocGlobal)) -> Result<(), Fail> {
+    let answer = answer_of(rt.alloc(), "check", whole(CUT), usize::MAX)?;
+    let text = answer.text.as_str();
+    assert!(rt; text.starts_with("element pic_init_qs_minus26 bit 131 value 0\n"));
+    assert!(rt;
+        text.ends_with(
+            "\nelement mb_qp_delta bit 199 value 0\nno: bit 200: ResidualWord (clause 9.2)\n"
+        )
+    );
+    assert_eq!(rt; text.lines().count(), 17);
+    Ok(())
+}
+
 #[test]
 fn slice_data(rt: HostRuntime) -> Result<(), Fail> {
     check_cases(&rt, "check", &SLICE_DATA)?;
+    last_elements(&rt)?;
     samples(&rt)
 }

@@ -1,25 +1,19 @@
 //! The command line.
 #![tactic(auto)]
 
+ghost use Rattle.std.specs.Prelude.{◌-◌, ◌<◌, ◌^◌};
+
+use crate::asked::{Task, asked};
 use crate::files::{Opener, ReadSource};
+use clap::Error;
+use clap::error::ErrorKind;
 use h264_base::{Mode, Stop};
-use h264_report::{LineSink, verdict_line};
-use h264_verify::{Summary, run};
+use h264_report::{LineSink, Listing, TrailSink, YuvSink, verdict_line};
+use h264_verify::{Source, Summary, run};
 use std::alloc::Global;
 use std::io::Write;
 
-/// What the words ask for.
-enum Request<'a> {
-    /// To judge this file so far.
-    Judge(Mode, &'a str),
-    /// Nothing that there is.
-    Fault,
-}
-
-/// The text on standard error for a fault of the words.
-const USAGE: &str = "usage: h264v check|units|headers FILE\n";
-
-/// What comes before it where a word is no text.
+/// What is said where a word is no text.
 const NOT_TEXT: &str = "h264v: a word is not UTF-8\n";
 
 /// The exit status of a fault of the words, and of a failed device.
@@ -28,23 +22,6 @@ const FAULT: u8 = 64;
 const DEVICE: u8 = 4;
 
 const MEMORY: u8 = 3;
-
-fn asked<'a>(words: &'a [String]) -> Request<'a> {
-    match words {
-        [_, command, file] => {
-            if command.as_str() == "check" {
-                Request::Judge(Mode::Full, file.as_str())
-            } else if command.as_str() == "units" {
-                Request::Judge(Mode::Units, file.as_str())
-            } else if command.as_str() == "headers" {
-                Request::Judge(Mode::Headers, file.as_str())
-            } else {
-                Request::Fault
-            }
-        }
-        _ => Request::Fault,
-    }
-}
 
 /// The exit status of a verdict.
 fn status(verdict: &Result<Summary, Stop>) -> u8 {
@@ -78,37 +55,115 @@ fn put_verdict<W: Write>(
     }
 }
 
-/// Judges a file so far.
-fn judge<O: Opener, W: Write>(
+/// The last line, on `out`, of a verdict with which a sink was left that may have been short of memory.
+fn put_end<W: Write>(
     alloc: Global,
     mode: Mode,
-    file: &str,
-    opener: &mut O,
+    verdict: Result<Summary, Stop>,
+    short: bool,
     out: &mut W,
 ) -> u8 {
-    let Ok(reader) = opener.open(file) else {
-        return put_verdict(alloc, mode, Err(Stop::Read), out);
-    };
-    let mut source = ReadSource::new(reader);
-    let mut sink = LineSink::new(alloc, mode, out);
-    let verdict = run(alloc, &mut source, &mut sink, mode);
-    let short = sink.short_of_memory();
-    drop(sink);
     if short {
         return put_verdict(alloc, mode, Err(Stop::Memory), out);
     }
     put_verdict(alloc, mode, verdict, out)
 }
 
+/// Judges a stream, with a line for each call of the listing.
+fn list<R: Source, W: Write>(
+    alloc: Global,
+    mode: Mode,
+    listing: Listing,
+    source: &mut R,
+    out: &mut W,
+) -> u8
+    requires { R.failures source.old < 2 ^ 64 - 1 }
+{
+    let mut sink = LineSink::new(alloc, listing, out);
+    let verdict = run(alloc, source, &mut sink, mode);
+    let short = sink.short_of_memory();
+    drop(sink);
+    put_end(alloc, mode, verdict, short, out)
+}
+
+/// Judges a stream whole; after a no the last elements are printed.
+fn check<R: Source, W: Write>(alloc: Global, source: &mut R, out: &mut W) -> u8
+    requires { R.failures source.old < 2 ^ 64 - 1 }
+{
+    let Ok(mut sink) = TrailSink::new(alloc) else {
+        return put_verdict(alloc, Mode::Full, Err(Stop::Memory), out);
+    };
+    let verdict = run(alloc, source, &mut sink, Mode::Full);
+    if let Err(Stop::No { .. }) = verdict {
+        let Ok(lines) = sink.trail().lines(alloc) else {
+            return put_verdict(alloc, Mode::Full, Err(Stop::Memory), out);
+        };
+        if out.write_all(lines.as_bytes()).is_err() {
+            return DEVICE;
+        }
+    }
+    put_verdict(alloc, Mode::Full, verdict, out)
+}
+
+/// Judges a stream whole, and writes its frames; the last line goes to `err`.
+fn decode<R: Source, W: Write, E: Write>(
+    alloc: Global,
+    source: &mut R,
+    out: &mut W,
+    err: &mut E,
+) -> u8
+    requires { R.failures source.old < 2 ^ 64 - 1 }
+{
+    let mut sink = YuvSink::new(out);
+    let verdict = run(alloc, source, &mut sink, Mode::Full);
+    drop(sink);
+    if out.flush().is_err() {
+        return put_verdict(alloc, Mode::Full, Err(Stop::Write), err);
+    }
+    put_verdict(alloc, Mode::Full, verdict, err)
+}
+
+/// Does a task with a file that can be opened.
+fn perform<R: Source, W: Write, E: Write>(
+    alloc: Global,
+    task: Task,
+    source: &mut R,
+    out: &mut W,
+    err: &mut E,
+) -> u8
+    requires { R.failures source.old < 2 ^ 64 - 1 }
+{
+    match task {
+        Task::Check => check(alloc, source, out),
+        Task::Units => list(alloc, Mode::Units, Listing::Units, source, out),
+        Task::Headers => list(alloc, Mode::Headers, Listing::Slices, source, out),
+        Task::Frames => list(alloc, Mode::Full, Listing::Frames, source, out),
+        Task::Decode => decode(alloc, source, out, err),
+    }
+}
+
+/// Says that a file can't be opened.
+fn no_file<W: Write, E: Write>(alloc: Global, task: Task, out: &mut W, err: &mut E) -> u8 {
+    match task {
+        Task::Decode => put_verdict(alloc, Mode::Full, Err(Stop::Read), err),
+        Task::Check | Task::Units | Task::Headers | Task::Frames => {
+            put_verdict(alloc, Mode::Full, Err(Stop::Read), out)
+        }
+    }
+}
+
 /// Says that a word is no text, where no file has a name that can be opened: the exit status of a fault of the words.
 pub fn not_text<E: Write>(err: &mut E) -> u8 {
     let _ = err.write_all(NOT_TEXT.as_bytes());
-    fault(err)
+    FAULT
 }
 
-/// Says how the program is called: the exit status of a fault of the words.
-fn fault<E: Write>(err: &mut E) -> u8 {
-    let _ = err.write_all(USAGE.as_bytes());
+/// Says why the words ask for nothing: the exit status of a fault of the words. Where memory was wanting for that, it is said on `out`.
+fn fault<W: Write, E: Write>(error: &Error, out: &mut W, err: &mut E) -> u8 {
+    if error.kind() == ErrorKind::OutOfMemory {
+        return put_last("memory", out, MEMORY);
+    }
+    let _ = err.write_fmt(error);
     FAULT
 }
 
@@ -121,8 +176,15 @@ pub fn command<O: Opener, W: Write, E: Write>(
     out: &mut W,
     err: &mut E,
 ) -> u8 {
-    match asked(words) {
-        Request::Judge(mode, file) => judge(alloc, mode, file, opener, out),
-        Request::Fault => fault(err),
+    match asked(alloc, words) {
+        Err(error) => fault(&error, out, err),
+        Ok(None) => FAULT,
+        Ok(Some(asked)) => {
+            let Ok(reader) = opener.open(asked.file) else {
+                return no_file(alloc, asked.task, out, err);
+            };
+            let mut source = ReadSource::new(reader);
+            perform(alloc, asked.task, &mut source, out, err)
+        }
     }
 }

@@ -3,6 +3,7 @@
 //! `main` hands the arguments, the files and the standard streams to `command`, and its status to the system.
 #![tactic(auto)]
 
+mod asked;
 #[cfg(test)]
 mod check_tests;
 mod command;

@@ -1,0 +1,7 @@
+pub mod Known
+pub mod Counted
+pub mod Kept
+pub mod Calls
+pub mod Runs
+pub mod Fits
+pub mod Sinks

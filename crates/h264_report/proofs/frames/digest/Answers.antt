@@ -1,0 +1,24 @@
+use Rattle.std.proofs.Common.{◌≡◌, ◌++◌, ap, subst, ◌∙◌, arith}
+use Rattle.md5.specs.Md5.{md5, Holds}
+use Rattle.h264_dpb.specs.Shown.{width_in, height_in, cropped}
+use Rattle.h264_report.specs.Rows.{row_count, rows_before}
+use Rattle.h264_report.proofs.Counted.{next-row, whole}
+use Rattle.h264_report.proofs.frames.digest.Goals as goal
+
+pub loop-k-init : goal.loop-k-init
+loop-k-init c = c.new-hasher.ensures
+
+pub loop-k-preserved : goal.loop-k-preserved
+loop-k-preserved c =
+    let w = width_in c.args.rectangle c.args.frame.now in
+    let h = height_in c.args.rectangle c.args.frame.now in
+    let s = cropped c.args.rectangle c.args.frame.now in
+    subst (λ l. Holds c.update.new.self l) (ap (λ l. rows_before w h s c.loop-k.k ++ l) c.row_at.ensures ∙ next-row w h s c.loop-k.k) (c.update.ensures _ c.loop-k.invariant)
+
+pub returns : goal.returns
+returns c =
+    let w = width_in c.args.rectangle c.args.frame.now in
+    let h = height_in c.args.rectangle c.args.frame.now in
+    let s = cropped c.args.rectangle c.args.frame.now in
+    let at : c.loop-k.k ≡ row_count h = let t = c.loop-k-test.false in let a = c.loop-k.auto.k-end in let e = c.row_count-k-end.ensures in omega arith in
+    c.finalize.ensures _ c.loop-k.invariant ∙ ap (λ n. md5 (rows_before w h s n)) at ∙ ap md5 (whole w h s)

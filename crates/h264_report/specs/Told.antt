@@ -1,0 +1,67 @@
+-- What sinks make of the calls of a stream: lines, bytes of frames, and the last elements.
+use Rattle.std.specs.Prelude.{ℕ, ◌+◌, ◌≡◌, ◌∷◌, ◌++◌, ℤ, Option, List, []}
+use Rattle.h264_base.specs.Call.{Call, OfUnit, OfSlice, OfElement, OfFrame}
+use Rattle.h264_report.specs.Lines.{unit_text, slice_text, frame_text}
+use Rattle.h264_report.specs.Sent.{HoldsSent}
+use Rattle.h264_report.specs.declared.listing.Listing.{Listing}
+use Rattle.h264_report.specs.declared.listing.Listing.TheVariants as listings
+use Rattle.h264_report.specs.declared.trail.Element.{Element}
+
+-- a line and its end
+abbrev pub ended : List ℕ → List ℕ
+ended text = text ++ 10 ∷ []
+
+-- the line of a call, where this many frames were told before; none where it has none
+abbrev pub line_of : Listing → ℕ → Call → List ℕ
+line_of listings.Units n (OfUnit byte kind reference length) = ended (unit_text byte kind reference length)
+line_of listings.Slices n (OfSlice byte mb kind frame_num count) = ended (slice_text byte mb kind frame_num count)
+line_of listings.Frames n (OfFrame count width height bytes) = ended (frame_text n count width height bytes)
+line_of listing n call = []
+
+-- how many frames with lines are told by a call
+abbrev pub counted : Listing → Call → ℕ
+counted listings.Frames (OfFrame count width height bytes) = 1
+counted listing call = 0
+
+abbrev pub counted_of : Listing → List Call → ℕ
+counted_of listing [] = 0
+counted_of listing (call ∷ calls) = counted listing call + counted_of listing calls
+
+-- the lines of these calls, where this many frames were told before
+unfoldable pub lines_of : Listing → ℕ → List Call → List ℕ
+lines_of listing n [] = []
+lines_of listing n (call ∷ calls) = line_of listing n call ++ lines_of listing (counted listing call + n) calls
+
+-- the bytes of the frames of these calls, one behind another
+abbrev pub bytes_in : Call → List ℕ
+bytes_in (OfFrame count width height bytes) = bytes
+bytes_in call = []
+
+unfoldable pub bytes_of : List Call → List ℕ
+bytes_of [] = []
+bytes_of (call ∷ calls) = bytes_in call ++ bytes_of calls
+
+-- the elements of these calls
+abbrev pub elements_in : Call → List Element
+elements_in (OfElement name bit value) = record { name = name; bit = bit; value = value } ∷ []
+elements_in call = []
+
+unfoldable pub elements_of : List Call → List Element
+elements_of [] = []
+elements_of (call ∷ calls) = elements_in call ++ elements_of calls
+
+-- the line of some call of a frame
+pub record IsLine (listing : Listing) (text : List ℕ) : Type 0 where
+  pub n : ℕ
+  pub call : Call
+  pub is : text ≡ line_of listing n call
+
+-- the bytes of some frame
+pub record IsFrame (bytes : List ℕ) : Type 0 where
+  pub call : Call
+  pub is : bytes ≡ bytes_in call
+
+-- After so many frames with lines and so many failures the writer holds the lines of these calls.
+pub record HoldsLines (listing : Listing) (frames failures : ℕ) (known : Option (List ℕ)) (calls : List Call) : Type 0 where
+  pub counts : frames ≡ counted_of listing calls
+  pub sent : HoldsSent (IsLine listing) failures known (lines_of listing 0 calls)

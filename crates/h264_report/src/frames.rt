@@ -1,0 +1,50 @@
+//! Frames as bytes, and their digests.
+#![tactic(auto)]
+
+ghost use Rattle.std.specs.Prelude.{◌≡◌, ℕ, ◌+◌, ◌++◌, ◌<◌, ◌≤◌, IsTrue, List, OnOk, OnErr};
+ghost use Rattle.md5.specs.Md5.{md5, Holds};
+ghost use Rattle.h264_dpb.specs.Shown.{fits, width_in, height_in, cropped};
+ghost use Rattle.h264_report.specs.Sent.{Sends, SendsFront};
+ghost use Rattle.h264_report.specs.Rows.{row_count, rows_before};
+ghost use Rattle.h264_report.specs.Frames.{shown_bytes};
+
+use crate::rows::{row_at, row_count};
+use crate::send::send;
+use h264_base::Failed;
+use h264_dpb::Rectangle;
+use h264_plane::Frame;
+use md5::{Digest, Md5};
+use std::io::Write;
+
+/// Writes what is shown of a frame: the rows of Y, then of Cb, then of Cr.
+///
+/// Failed: the writer failed, and it was sent a part of them, which is not the whole.
+pub(crate) fn send_frame<W: Write>(
+    out: &mut W,
+    frame: &Frame,
+    rectangle: Rectangle,
+) -> Result<(), Failed>
+    requires { IsTrue (fits rectangle frame.now) }
+    ensures ok { OnOk result (Sends (W.contents out.old) (W.contents out.new) (shown_bytes frame.now rectangle)) }
+    ensures front { OnErr result (SendsFront (W.contents out.old) (W.contents out.new) (shown_bytes frame.now rectangle)) }
+{
+    for k in 0..row_count(frame, rectangle) {
+        match send(out, row_at(frame, rectangle, k)) {
+            Ok(()) => {}
+            Err(Failed) => return Err(Failed),
+        }
+    }
+    Ok(())
+}
+
+/// The MD5 digest of what is shown of a frame.
+pub(crate) fn digest(frame: &Frame, rectangle: Rectangle) -> [u8; 16]
+    requires { IsTrue (fits rectangle frame.now) }
+    ensures { result ≡ md5 (shown_bytes frame.now rectangle) }
+{
+    let mut hasher = Md5::new();
+    for k in 0..row_count(frame, rectangle) {
+        hasher.update(row_at(frame, rectangle, k));
+    }
+    hasher.finalize()
+}

@@ -1,0 +1,241 @@
+//! A sink that writes lines.
+#![tactic(auto)]
+
+ghost use Rattle.std.specs.Prelude.{◌≡◌, ℕ, ◌+◌, ◌-◌, ◌<◌, ◌^◌, List, OnOk, OnErr, string_bytes};
+ghost use Rattle.h264_report.specs.Sent.{Sends, SendsFront};
+ghost use Rattle.h264_report.specs.Told.{ended};
+
+use crate::lines::{frame_line, slice_line, unit_line};
+use crate::listing::Listing;
+use crate::send::send;
+use h264_base::{ElementName, Elements, Failed, SliceType};
+use h264_dpb::{FrameOut, Rectangle};
+use h264_plane::Frame;
+use h264_verify::FrameSink;
+use std::alloc::{AllocError, Global};
+use std::io::Write;
+
+/// Writes a line for each unit, slice or frame of a stream, as the listing says, and passes over all else.
+///
+/// A writer that tells its bytes holds the lines of the calls taken, in order, followed after a failure by a part of the next line, which is not
+/// the whole. After a failure each call fails and nothing more is written.
+#[derive(Drop)]
+pub struct LineSink<'a, W: Write> {
+    alloc: Global,
+    out: &'a mut W,
+    listing: Listing,
+    /// How many calls failed.
+    pub failures: u64,
+    short_of_memory: bool,
+    /// How many frames were told.
+    frames: u64,
+    /// The newest line, in whose memory the next one is made.
+    line: String,
+}
+
+impl<'a, W: Write> LineSink<'a, W> {
+    /// A sink over a writer that holds nothing yet, with no failure.
+    pub fn new(alloc: Global, listing: Listing, out: &'a mut W) -> LineSink<'a, W>
+        ensures { result.failures ≡ 0 }
+    {
+        LineSink {
+            alloc,
+            out,
+            listing,
+            failures: 0,
+            short_of_memory: false,
+            frames: 0,
+            line: String::new(alloc),
+        }
+    }
+
+    /// Whether the first failure was a want of memory for a line.
+    pub fn short_of_memory(&self) -> bool {
+        self.short_of_memory
+    }
+
+    /// Counts a failure behind others, at which nothing is written.
+    fn fail(&mut self) -> Result<(), Failed>
+        requires { self.old.failures < 2 ^ 64 - 1 }
+        ensures err { OnOk result ⊥ }
+        ensures others { self.new ≡ record self.old { failures = self.old.failures + 1 } }
+    {
+        self.failures += 1;
+        Err(Failed)
+    }
+
+    /// Writes the line that was made, and its end, where there was memory for them.
+    fn put_line(&mut self, made: Result<(), AllocError>) -> Result<(), Failed>
+        requires { self.old.failures ≡ 0 }
+        ensures kept { OnOk result (self.new.failures ≡ 0) }
+        ensures failed { OnErr result (self.new.failures ≡ 1) }
+        ensures listing { self.new.listing ≡ self.old.listing }
+        ensures frames { self.new.frames ≡ self.old.frames }
+        ensures ok { (text : List ℕ) → OnOk made (string_bytes self.old.line ≡ text) → OnOk result (Sends (W.contents self.old.out.now) (W.contents self.new.out.now) (ended text)) }
+        ensures front { (text : List ℕ) → OnOk made (string_bytes self.old.line ≡ text) → OnErr result (SendsFront (W.contents self.old.out.now) (W.contents self.new.out.now) (ended text)) }
+    {
+        if made.is_err() || self.line.push('\n').is_err() {
+            self.short_of_memory = true;
+            return self.fail();
+        }
+        if send(self.out, self.line.as_bytes()).is_err() {
+            return self.fail();
+        }
+        Ok(())
+    }
+}
+
+impl<'a, W: Write> LineSink<'a, W> {
+    ghost use Rattle.std.specs.Prelude.{◌≡◌, ◌+◌, ◌-◌, ◌<◌, ◌^◌, List, [], ◌∷◌, ◌++◌, IsTrue, OnOk, OnErr};
+    ghost use Rattle.h264_base.specs.Call.{Call, OfUnit, OfSlice};
+    ghost use Rattle.h264_dpb.specs.Shown.{fits, frame_call};
+    ghost use Rattle.h264_report.specs.Told.{HoldsLines};
+    ghost use Rattle.h264_report.specs.declared.listing.Listing.TheVariants as listings;
+
+    /// Writes the line of a unit.
+    fn put_unit(
+        &mut self,
+        byte: u64,
+        nal_unit_type: u8,
+        nal_ref_idc: u8,
+        length: u64,
+    ) -> Result<(), Failed>
+        requires listing { self.old.listing ≡ listings.Units }
+        requires room { self.old.failures < 2 ^ 64 - 1 }
+        ensures listing { self.new.listing ≡ self.old.listing }
+        ensures ok { (before : List Call) → HoldsLines self.old.listing self.old.frames self.old.failures (W.contents self.old.out.now) before → OnOk result (HoldsLines self.new.listing self.new.frames self.new.failures (W.contents self.new.out.now) (before ++ OfUnit byte nal_unit_type nal_ref_idc length ∷ [])) }
+        ensures refused { (before : List Call) → HoldsLines self.old.listing self.old.frames self.old.failures (W.contents self.old.out.now) before → OnErr result (HoldsLines self.new.listing self.new.frames self.new.failures (W.contents self.new.out.now) before) }
+        ensures kept { OnOk result (self.new.failures ≡ self.old.failures) }
+        ensures failed { OnErr result (self.new.failures ≡ self.old.failures + 1) }
+    {
+        if self.failures > 0 {
+            return self.fail();
+        }
+        let made = unit_line(&mut self.line, byte, nal_unit_type, nal_ref_idc, length);
+        self.put_line(made)
+    }
+
+    /// Writes the line of a slice.
+    fn put_slice(
+        &mut self,
+        byte: u64,
+        first_mb_in_slice: u32,
+        slice_type: SliceType,
+        frame_num: u32,
+        count: i32,
+    ) -> Result<(), Failed>
+        requires listing { self.old.listing ≡ listings.Slices }
+        requires room { self.old.failures < 2 ^ 64 - 1 }
+        ensures listing { self.new.listing ≡ self.old.listing }
+        ensures ok { (before : List Call) → HoldsLines self.old.listing self.old.frames self.old.failures (W.contents self.old.out.now) before → OnOk result (HoldsLines self.new.listing self.new.frames self.new.failures (W.contents self.new.out.now) (before ++ OfSlice byte first_mb_in_slice slice_type frame_num count ∷ [])) }
+        ensures refused { (before : List Call) → HoldsLines self.old.listing self.old.frames self.old.failures (W.contents self.old.out.now) before → OnErr result (HoldsLines self.new.listing self.new.frames self.new.failures (W.contents self.new.out.now) before) }
+        ensures kept { OnOk result (self.new.failures ≡ self.old.failures) }
+        ensures failed { OnErr result (self.new.failures ≡ self.old.failures + 1) }
+    {
+        if self.failures > 0 {
+            return self.fail();
+        }
+        let made = slice_line(
+            &mut self.line,
+            byte,
+            first_mb_in_slice,
+            slice_type,
+            frame_num,
+            count,
+        );
+        self.put_line(made)
+    }
+
+    /// Writes the line of a frame, if its index can be counted.
+    fn put_frame(&mut self, count: i32, frame: &Frame, rectangle: Rectangle) -> Result<(), Failed>
+        requires listing { self.old.listing ≡ listings.Frames }
+        requires inside { IsTrue (fits rectangle frame.now) }
+        requires room { self.old.failures < 2 ^ 64 - 1 }
+        ensures listing { self.new.listing ≡ self.old.listing }
+        ensures ok { (before : List Call) → HoldsLines self.old.listing self.old.frames self.old.failures (W.contents self.old.out.now) before → OnOk result (HoldsLines self.new.listing self.new.frames self.new.failures (W.contents self.new.out.now) (before ++ frame_call count frame.now rectangle ∷ [])) }
+        ensures refused { (before : List Call) → HoldsLines self.old.listing self.old.frames self.old.failures (W.contents self.old.out.now) before → OnErr result (HoldsLines self.new.listing self.new.frames self.new.failures (W.contents self.new.out.now) before) }
+        ensures kept { OnOk result (self.new.failures ≡ self.old.failures) }
+        ensures failed { OnErr result (self.new.failures ≡ self.old.failures + 1) }
+    {
+        if self.failures > 0 {
+            return self.fail();
+        }
+        if self.frames == u64::MAX {
+            self.failures = 1;
+            return Err(Failed);
+        }
+        let made = frame_line(
+            self.alloc,
+            &mut self.line,
+            self.frames,
+            count,
+            frame,
+            rectangle,
+        );
+        match self.put_line(made) {
+            Ok(()) => {
+                self.frames += 1;
+                Ok(())
+            }
+            Err(Failed) => Err(Failed),
+        }
+    }
+}
+
+impl<'a, W: Write> Elements for LineSink<'a, W> {
+    ghost use Rattle.h264_report.specs.Told.{HoldsLines};
+
+    ghost took = { λ s calls. HoldsLines s.listing s.frames s.failures (W.contents s.out.now) calls };
+
+    ghost failures = { λ s. s.failures };
+
+    fn element(&mut self, _name: ElementName, _bit: u64, _value: i64) -> Result<(), Failed> {
+        Ok(())
+    }
+}
+
+impl<'a, W: Write> FrameOut for LineSink<'a, W> {
+    fn frame(&mut self, count: i32, frame: &Frame, rectangle: Rectangle) -> Result<(), Failed> {
+        match self.listing {
+            Listing::Frames => self.put_frame(count, frame, rectangle),
+            Listing::Nothing => Ok(()),
+            Listing::Units => Ok(()),
+            Listing::Slices => Ok(()),
+        }
+    }
+}
+
+impl<'a, W: Write> FrameSink for LineSink<'a, W> {
+    fn unit(
+        &mut self,
+        byte: u64,
+        nal_unit_type: u8,
+        nal_ref_idc: u8,
+        length: u64,
+    ) -> Result<(), Failed> {
+        match self.listing {
+            Listing::Units => self.put_unit(byte, nal_unit_type, nal_ref_idc, length),
+            Listing::Nothing => Ok(()),
+            Listing::Slices => Ok(()),
+            Listing::Frames => Ok(()),
+        }
+    }
+
+    fn slice(
+        &mut self,
+        byte: u64,
+        first_mb_in_slice: u32,
+        slice_type: SliceType,
+        frame_num: u32,
+        count: i32,
+    ) -> Result<(), Failed> {
+        match self.listing {
+            Listing::Slices => {
+                self.put_slice(byte, first_mb_in_slice, slice_type, frame_num, count)
+            }
+            Listing::Nothing => Ok(()),
+            Listing::Units => Ok(()),
+            Listing::Frames => Ok(()),
+        }
+    }
+}

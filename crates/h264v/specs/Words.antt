@@ -1,0 +1,37 @@
+-- The command line: a simple command of clap with one level of subcommands, each of which takes one FILE.
+use Rattle.std.specs.Prelude.{true, List, Option, option_map, codes}
+use Rattle.clap.specs.Words.{App, Rule, Shape, Text, new_app, first_of, new_rule, subcommand_of, with_rule, with_subcommand}
+use Rattle.h264v.specs.declared.asked.Task.{Task}
+use Rattle.h264v.specs.declared.asked.Task.TheVariants as tasks
+
+abbrev pub file_rule : Rule
+file_rule = record (new_rule (codes "FILE")) { required = true }
+
+-- a subcommand
+abbrev pub file_app : Text → App
+file_app name = with_rule (new_app name) file_rule
+
+-- the program's own command: it wants a subcommand, has a version, and shows help where nothing is given
+abbrev pub top : Shape
+top = record (new_app (codes "h264v")).top { has_version = true; subcommand_required = true; arg_required_else_help = true }
+
+abbrev pub bare : App
+bare = record { top = top; subs = (new_app (codes "h264v")).subs }
+
+abbrev pub with_file : App → Text → App
+with_file a name = with_subcommand a (file_app name).top
+
+abbrev pub program : App
+program = with_file (with_file (with_file (with_file (with_file bare (codes "check")) (codes "units")) (codes "headers")) (codes "frames")) (codes "decode")
+
+-- the name of a task's subcommand
+abbrev pub name_of : Task → Text
+name_of tasks.Check = codes "check"
+name_of tasks.Units = codes "units"
+name_of tasks.Headers = codes "headers"
+name_of tasks.Frames = codes "frames"
+name_of tasks.Decode = codes "decode"
+
+-- the subcommand that words ask for, and the FILE that they give it
+abbrev pub asks : App → List Text → Option (Text × Option Text)
+asks app words = option_map (λ p. (p.0, first_of (codes "FILE") p.1)) (subcommand_of app words)

@@ -1,0 +1,142 @@
+//! What the words of the command line ask for.
+#![tactic(auto)]
+
+ghost use Rattle.std.specs.Prelude.{◌≡◌, false, map, Some, IfOk, IfSome, string_bytes};
+ghost use Rattle.clap.specs.Words.{app_of};
+ghost use Rattle.clap.specs.declared.builder.command.Command.TheViews.{out-Command as fields_of};
+ghost use Rattle.h264v.specs.Words.{file_app, with_file, bare, program, name_of, asks};
+
+use clap::{Arg, Command, Error};
+use std::alloc::{AllocError, Global};
+
+/// What the program does with a file.
+#[derive(Clone, Copy, Debug, PartialEq, Eq)]
+pub enum Task {
+    /// Judges it whole.
+    Check,
+    /// Judges its units and parameter sets, with a line for each unit.
+    Units,
+    /// Judges its slice headers too, with a line for each slice.
+    Headers,
+    /// Judges it whole, with a line for each frame.
+    Frames,
+    /// Judges it whole, and writes each frame.
+    Decode,
+}
+
+/// What the words ask for: a task, and the file's name.
+#[derive(Clone, Copy)]
+pub struct Request<'a> {
+    pub task: Task,
+    pub file: &'a str,
+}
+
+/// A subcommand that takes one FILE.
+fn file_command<'a>(alloc: Global, name: &'a str, about: &'a str) -> Result<Command<'a>, AllocError>
+    ensures app { IfOk result (λ c. app_of c ≡ file_app name.now) }
+    ensures local { IfOk result (λ c. (fields_of c).has_globals ≡ false) }
+{
+    let file = Arg::new(alloc, "FILE").required(true).help(
+        "An H.264 byte stream (Annex B), as cameras and encoders write it with the ending .264 or .h264",
+    );
+    Command::new(alloc, name).about(about).arg(file)
+}
+
+/// The command with one more subcommand, which takes one FILE.
+fn with_file<'a>(
+    alloc: Global,
+    command: Command<'a>,
+    name: &'a str,
+    about: &'a str,
+) -> Result<Command<'a>, AllocError>
+    requires local { (fields_of command).has_globals ≡ false }
+    ensures app { IfOk result (λ c. app_of c ≡ with_file (app_of command.entry) name.now) }
+    ensures local { IfOk result (λ c. (fields_of c).has_globals ≡ false) }
+{
+    let added = file_command(alloc, name, about)?;
+    command.subcommand(added)
+}
+
+/// The program's own command, without subcommands.
+fn bare<'a>(alloc: Global) -> Command<'a>
+    ensures app { app_of result ≡ bare }
+    ensures local { (fields_of result).has_globals ≡ false }
+{
+    Command::new(alloc, "h264v")
+        .about("Judges H.264 streams of the Constrained Baseline profile, and decodes them")
+        .version("0.1.0")
+        .subcommand_required(true)
+        .arg_required_else_help(true)
+}
+
+/// The program's command line.
+fn program<'a>(alloc: Global) -> Result<Command<'a>, AllocError>
+    ensures { IfOk result (λ c. app_of c ≡ program) }
+{
+    let check = with_file(
+        alloc,
+        bare(alloc),
+        "check",
+        "Says whether a stream is legal: yes, no with the first rule that it breaks and the bit where, or outside",
+    )?;
+    let units = with_file(
+        alloc,
+        check,
+        "units",
+        "Prints a line for each unit, and judges byte stream, units and parameter sets",
+    )?;
+    let headers = with_file(
+        alloc,
+        units,
+        "headers",
+        "Prints a line for each slice, and judges slice headers too",
+    )?;
+    let frames = with_file(
+        alloc,
+        headers,
+        "frames",
+        "Prints a line for each frame in output order, with its size and the MD5 of its samples",
+    )?;
+    with_file(
+        alloc,
+        frames,
+        "decode",
+        "Writes each frame in output order as planar YUV 4:2:0, and its verdict to standard error",
+    )
+}
+
+/// The task of a subcommand's name; none for another word.
+fn task_of(name: &str) -> Option<Task>
+    ensures { IfSome result (λ t. name_of t ≡ name.now) }
+{
+    if name == "check" {
+        Some(Task::Check)
+    } else if name == "units" {
+        Some(Task::Units)
+    } else if name == "headers" {
+        Some(Task::Headers)
+    } else if name == "frames" {
+        Some(Task::Frames)
+    } else if name == "decode" {
+        Some(Task::Decode)
+    } else {
+        None
+    }
+}
+
+/// What the words ask for, the program's name first among them.
+///
+/// An error has the text that says why they ask for nothing, among them a request for help or the version; or memory was wanting for it.
+pub fn asked<'a>(alloc: Global, words: &'a [String]) -> Result<Option<Request<'a>>, Error>
+    ensures words { IfOk result (λ found. IfSome found (λ r. asks program (map (λ w. string_bytes w) words.entry.now) ≡ Some (name_of r.task, Some r.file.now))) }
+{
+    let command = program(alloc)?;
+    let matches = command.try_get_matches_from(words)?;
+    let Some((name, found)) = matches.subcommand() else {
+        return Ok(None);
+    };
+    match (task_of(name), found.get_str("FILE")) {
+        (Some(task), Some(file)) => Ok(Some(Request { task, file })),
+        _ => Ok(None),
+    }
+}
