@@ -1,8 +1,8 @@
 -- The edges of a macroblock, from what is kept of it and of the macroblocks beside it.
-use Rattle.std.proofs.Common.{◌≡◌, ⊎_elim, ℕ, zero, suc, ◌+◌, ◌-◌, ◌*◌, ◌/◌, ◌%◌, ◌<◌, ◌≤◌, ◌==◌, Bool, true, false, IsTrue, ◌&&◌, ◌||◌, List, [], ◌∷◌, length, get_or, nat_lt, Option, Some, None, is_some, ℤ, pos, ◌-ℤ◌, ◌+ℤ◌, unsigned_abs, refl, ap, sym, ◌∙◌, arith, eq-eqb, if◌then◌else◌, min}
+use Rattle.std.proofs.Common.{◌≡◌, ⊎_elim, ℕ, zero, suc, ◌+◌, ◌-◌, ◌*◌, ◌%◌, ◌<◌, ◌≤◌, ◌==◌, Bool, true, false, IsTrue, ◌&&◌, ◌||◌, List, [], ◌∷◌, length, get_or, nat_lt, Option, Some, None, is_some, ℤ, pos, ◌-ℤ◌, refl, ap, sym, ◌∙◌, arith, eq-eqb, if◌then◌else◌}
 use Rattle.std.specs.Ordering.{int_eq}
 use Rattle.std.specs.List.{list_all}
-use Rattle.std.specs.Option.{option_map, option_and_then}
+use Rattle.std.specs.Option.{option_map}
 use Rattle.std.proofs.lemmas.Bool.{eqb-true, cases_lt}
 use Rattle.std.proofs.lemmas.Int.{ints}
 use Rattle.std.proofs.lemmas.List.{get_or_past}
@@ -10,10 +10,10 @@ use Rattle.std.proofs.lemmas.Bool.Decides.{nat_tests, Decides-int_eq}
 use Rattle.h264_tables.specs.declared.thresholds.Strength.TheVariants.{Three}
 use Rattle.h264_plane.specs.declared.frame.Component.{Component}
 use Rattle.h264_plane.specs.declared.frame.Component.TheVariants.{Y, Cb, Cr}
-use Rattle.h264_near.specs.Coded.{CodedMacroblock, Prediction, is_intra, motion_in, number_of, chroma_number_of, column_of, row_of}
+use Rattle.h264_near.specs.Coded.{CodedMacroblock, is_intra, number_of, chroma_number_of, column_of, row_of}
 use Rattle.h264_near.specs.Keeps.{Shows, IsEdge, filter_qp_of}
 use Rattle.h264_near.specs.Raster.{last_in, last_left}
-use Rattle.h264_near.specs.Strength.{side_part, far, moves_apart, strength_of, strength_between}
+use Rattle.h264_near.specs.Strength.{side_part, far, moves_apart, strength_of}
 use Rattle.h264_near.specs.declared.context.Contexts.{Contexts}
 use Rattle.h264_near.specs.declared.context.Edge.{Edge}
 use Rattle.h264_near.specs.declared.motion.Motion.{Motion}
@@ -24,7 +24,6 @@ use Rattle.h264_near.proofs.Neighbours.{last-above}
 use Rattle.h264_near.proofs.Places.{quotient, remainder}
 use Rattle.h264_deblock.specs.Filtering.{is_chroma, PlaneEdges, edges_of}
 use Rattle.h264_deblock.specs.declared.filtering.Edges.{Edges}
-use Rattle.h264_deblock.specs.declared.filtering.LumaEdges.{LumaEdges}
 use Rattle.h264_deblock.specs.declared.filtering.ChromaEdges.{ChromaEdges}
 use Rattle.h264_deblock.specs.declared.slice_filter.Deblocking.TheVariants.{Off}
 use Rattle.h264_deblock.specs.declared.coded.Border.{Border}
@@ -32,7 +31,7 @@ use Rattle.h264_deblock.specs.declared.edge_parameters.EdgeParameters.{EdgeParam
 use Rattle.h264_deblock.specs.declared.edge_parameters.BoundaryStrength.{BoundaryStrength}
 use Rattle.h264_deblock.specs.declared.edge_parameters.BoundaryStrength.TheVariants.{Zero, BelowFour, Four}
 use Rattle.h264_deblock.specs.declared.slice_filter.SliceFilter.{SliceFilter}
-use Rattle.h264_deblock.specs.CodedEdges.{named, named_if, block_at, strength_at, strengths, plane_qp, edge_of, filters, border, inner, edges_along, coded_edges}
+use Rattle.h264_deblock.specs.CodedEdges.{named, block_at, strength_at, strengths, plane_qp, edge_of, filters, border, inner, edges_along, coded_edges}
 use Rattle.h264_deblock.specs.Steps.{IsBeside, block_beside, inner_lines, alike, are_blank, are_alike, side_qp, parameters, border_of, border_edge, inner_edge}
 
 -- ---- blocks

@@ -1,11 +1,11 @@
 -- Lines of chroma, of which one sample on each side is written.
-use Rattle.std.proofs.Common.{◌≡◌, ◌≢◌, ◌⊎◌, ℕ, ◌+◌, ◌-◌, ◌*◌, ◌/◌, ◌<◌, ◌≤◌, Bool, true, false, cond, ◌==◌, List, length, slice_index, arith, refl, sym, ap, ◌∙◌, ⊎_elim, inl, inr}
+use Rattle.std.proofs.Common.{◌≡◌, ℕ, ◌+◌, ◌-◌, ◌/◌, ◌<◌, ◌≤◌, Bool, true, false, cond, ◌==◌, List, length, slice_index, arith, refl, sym, ap, ◌∙◌, ⊎_elim, inl, inr}
 use Rattle.std.proofs.lemmas.Bool.Decides.{nat_tests}
 use Rattle.std.proofs.lemmas.Bool.{cases_eq, cases_lt}
-use Rattle.h264_plane.specs.Samples.{Samples, at, look, size_along, size_across, Holds, with_run}
+use Rattle.h264_plane.specs.Samples.{Samples, at, look, Holds, with_run}
 use Rattle.h264_deblock.specs.Line.{filtered}
-use Rattle.h264_deblock.specs.Edge.{taps, replaced, limits, lines_after, edge_after, Shows, IsLinePut, KeepsOuter}
-use Rattle.h264_deblock.specs.Inner.{inner_of, HasInner, AreNearest, IsFilteredInner, AreNearestWritten}
+use Rattle.h264_deblock.specs.Edge.{taps, limits, lines_after, edge_after, Shows, IsLinePut, KeepsOuter}
+use Rattle.h264_deblock.specs.Inner.{inner_of, HasInner, IsFilteredInner, AreNearestWritten}
 use Rattle.h264_deblock.specs.declared.line.Line.{Line}
 use Rattle.h264_deblock.specs.declared.line.Limits.{Limits}
 use Rattle.h264_deblock.specs.declared.inner.Inner.{Inner}

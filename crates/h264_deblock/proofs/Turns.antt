@@ -1,5 +1,5 @@
 -- Two lists of eight in turn.
-use Rattle.std.proofs.Common.{◌≡◌, ℕ, ◌+◌, ◌*◌, ◌<◌, List, length, get_or, slice_index, ◌++◌, [], ◌∷◌, arith, below_more, ◌∙◌, refl}
+use Rattle.std.proofs.Common.{◌≡◌, ℕ, ◌+◌, ◌*◌, ◌<◌, List, length, slice_index, ◌++◌, [], ◌∷◌, arith, below_more}
 use Rattle.std.proofs.lemmas.List.{get_or_append_left, get_or-append_right}
 use lib.Lanes.{pick_l}
 

@@ -1,5 +1,5 @@
 -- The lines of an edge of chroma: the filter reads two samples on each side of it and changes one (8.7.2).
-use Rattle.std.specs.Prelude.{◌≡◌, ℕ, ◌+◌, ◌-◌, ◌<◌, Bool, true, slice_index}
+use Rattle.std.specs.Prelude.{◌≡◌, ℕ, ◌+◌, ◌<◌, Bool, true, slice_index}
 use Rattle.h264_plane.specs.Samples.{Samples, look}
 use Rattle.h264_deblock.specs.Line.{filtered}
 use Rattle.h264_deblock.specs.Edge.{taps, lines_after, Shows}

@@ -1,10 +1,9 @@
 -- What the code has of the edges of a macroblock before it knows the plane.
-use Rattle.std.specs.Prelude.{◌≡◌, ℕ, ◌==◌, ◌&&◌, ◌<◌, Bool, true, false, IsTrue, if◌then◌else◌, List, [], ◌∷◌, get_or, nat_lt, Option, Some, None, is_some, ℤ}
+use Rattle.std.specs.Prelude.{ℕ, ◌==◌, ◌&&◌, Bool, true, false, if◌then◌else◌, List, [], ◌∷◌, get_or, nat_lt, Option, Some, None, ℤ}
 use Rattle.std.specs.Ordering.{int_eq}
 use Rattle.std.specs.List.{list_all}
 use Rattle.std.specs.Option.{option_map}
 use Rattle.h264_tables.specs.ChromaQp.{chroma_qp_of}
-use Rattle.h264_plane.specs.declared.frame.Component.{Component}
 use Rattle.h264_near.specs.Coded.{CodedMacroblock}
 use Rattle.h264_near.specs.Keeps.{Lower, Right, filter_qp_of}
 use Rattle.h264_near.specs.declared.context.Edge.{Edge}

@@ -1,22 +1,19 @@
 -- Motions by index and by picture.
-use Rattle.std.proofs.Common.{◌≡◌, ℕ, zero, suc, ◌+◌, ◌/◌, ◌%◌, ◌<◌, ◌≤◌, IsTrue, Bool, true, false, List, [], ◌∷◌, length, get_or, Option, Some, None, refl, ap, sym, ◌∙◌, arith, ⊎_elim}
+use Rattle.std.proofs.Common.{◌≡◌, ℕ, zero, suc, ◌/◌, ◌%◌, ◌<◌, IsTrue, List, [], ◌∷◌, length, get_or, Option, Some, None, refl, ◌∙◌, arith}
 use Rattle.std.specs.List.{slice_get, AllByRecursion}
 use Rattle.std.specs.Option.{option_map, option_and_then, is_some}
-use Rattle.std.proofs.lemmas.Bool.{cases_lt}
 use Rattle.h264_near.specs.declared.motion.Motion as derived
 use Rattle.h264_near.specs.Coded as coded
 use Rattle.h264_near.specs.Coded.{CodedMacroblock, number_of, motion_in}
 use Rattle.h264_near.specs.Keeps.{Shows}
 use Rattle.h264_near.specs.declared.context.Contexts.{Contexts}
-use Rattle.h264_vectors.specs.Derived.{picture_of}
 use Rattle.h264_vectors.specs.declared.slice.SliceContext.{SliceContext}
 use Rattle.h264_mbsyntax.specs.Possible.{Refers}
 use Rattle.h264_recon.specs.Given.{motion_of, motions_of}
 use Rattle.h264_recon.specs.Inter.{no_motion}
 use Rattle.h264_recon.specs.Placed.{ArePlaced, IsOneOf, placed_motion, placed_at, placed_motions}
-use Rattle.h264_recon.specs.Table.{table}
 use Rattle.h264_recon.specs.declared.macroblock.Motion.{Motion}
-use Rattle.h264_recon.proofs.Tables.{table-ext, table-at, element}
+use Rattle.h264_recon.proofs.Tables.{table-ext, table-at}
 
 few : (k : ℕ) → k < 16 → number_of (k % 4) (k / 4) < 16
 unfolding number_of

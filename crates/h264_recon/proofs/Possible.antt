@@ -1,5 +1,5 @@
 -- Modes that were read refer to sides that there are (8.3.1.2, 8.3.3, 8.3.4).
-use Rattle.std.proofs.Common.{◌≡◌, ℕ, zero, suc, ◌+◌, ◌*◌, ◌/◌, ◌%◌, ◌<◌, ◌≤◌, ◌==◌, Bool, true, false, ◌&&◌, ◌||◌, not, nat_lt, IsTrue, List, [], ◌∷◌, length, take, get_or, Option, Some, None, ℤ, refl, ap, sym, ◌∙◌, arith, lit<, if◌then◌else◌}
+use Rattle.std.proofs.Common.{◌≡◌, ℕ, zero, suc, ◌+◌, ◌*◌, ◌%◌, ◌<◌, ◌≤◌, ◌==◌, Bool, true, false, ◌&&◌, ◌||◌, not, nat_lt, IsTrue, List, [], ◌∷◌, length, take, get_or, Option, Some, None, ℤ, refl, arith, lit<, if◌then◌else◌}
 use Rattle.std.specs.List.{slice_get}
 use Rattle.std.specs.Option.{is_some, option_and_then}
 use Rattle.std.proofs.lemmas.Bool.{lt-ltb}
@@ -9,7 +9,6 @@ use Rattle.h264_intra.specs.Luma4.{is_possible4}
 use Rattle.h264_intra.specs.Luma16.{is_possible16}
 use Rattle.h264_intra.specs.Chroma.{is_possible_chroma}
 use Rattle.h264_intra.specs.declared.luma4.Intra4x4PredMode.TheVariants.{Dc}
-use Rattle.h264_intra.specs.declared.sides.Sides.{Sides}
 use Rattle.h264_intra.specs.declared.sides.Sides4.{Sides4}
 use Rattle.h264_near.specs.Coded as coded
 use Rattle.h264_near.specs.Coded.{CodedMacroblock, mode_part, mode_in, is_intra, number_of, column_of, row_of}

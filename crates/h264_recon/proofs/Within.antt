@@ -1,5 +1,5 @@
 -- An available macroblock lies in the picture, before the one at hand.
-use Rattle.std.proofs.Common.{◌≡◌, ℕ, zero, suc, ◌+◌, ◌*◌, ◌/◌, ◌%◌, ◌<◌, ◌≤◌, Bool, true, false, ◌&&◌, nat_lt, IsTrue, List, [], length, take, get_or, Option, Some, None, refl, ap, sym, ◌∙◌, arith, ⊎_elim, lit<}
+use Rattle.std.proofs.Common.{◌≡◌, ℕ, zero, suc, ◌+◌, ◌*◌, ◌/◌, ◌%◌, ◌<◌, ◌≤◌, Bool, true, false, ◌&&◌, nat_lt, IsTrue, List, [], length, Option, Some, None, refl, ◌∙◌, arith, ⊎_elim, lit<}
 use Rattle.std.specs.List.{slice_get}
 use Rattle.std.specs.Option.{is_some, option_and_then}
 use Rattle.std.proofs.Math.Bool.{and-false}
@@ -11,7 +11,7 @@ use Rattle.h264_near.specs.declared.samples.Samples.{Samples}
 use Rattle.h264_recon.specs.declared.macroblock.Available.{Available}
 use Rattle.h264_near.specs.Raster.{before, last_in, last_left, last_corner}
 use Rattle.h264_near.proofs.Neighbours.{left-of, upper-of, corner-of, past-of, next-of, last-above}
-use Rattle.h264_near.proofs.Places.{quotient, remainder, length-taken}
+use Rattle.h264_near.proofs.Places.{quotient, remainder}
 use Rattle.h264_recon.specs.Constructed.{IsWithin}
 use Rattle.h264_recon.specs.Given.{available}
 

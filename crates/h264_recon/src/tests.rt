@@ -1,12 +1,17 @@
 ghost use Rattle.std.specs.Prelude.{◌≡◌, ◌<◌, ◌≤◌, vec_len, length};
 
 use crate::{
-    Available, IntraLuma, IntraModes, Lines, Macroblock, Motion, PcmSamples, Prediction, construct,
+    Available, IntraLuma, IntraModes, Lines, Macroblock, Motion, PcmSamples, Prediction, available,
+    construct, given, levels,
 };
+use h264_base::SliceType;
 use h264_inter::MotionVector;
 use h264_intra::{Intra4x4PredMode, Intra16x16PredMode, IntraChromaPredMode};
+use h264_mbsyntax::{Kind, Macroblock as Read};
+use h264_near::{Contexts, Motion as Derived, Near, Vector};
 use h264_plane::{Frame, Plane, Pool};
-use h264_scale::Residuals;
+use h264_scale::{ChromaLevels, LumaLevels, Residuals};
+use h264_vectors::SliceContext;
 use std::alloc::AllocError;
 use std::process::Abort;
 
@@ -278,5 +283,126 @@ fn macroblocks(rt: HostRuntime) -> Result<(), AllocError> {
     assert_eq!(rt; get(&rt, &canvas.frame.cb, 8, 8), 57);
     assert_eq!(rt; get(&rt, &canvas.frame.cr, 8, 8), 75);
     assert_eq!(rt; get(&rt, &canvas.frame.cb, 15, 15), 113);
+    as_read(&rt)
+}
+
+const SLICE: SliceContext = SliceContext {
+    number: 0,
+    slice_type: SliceType::P,
+    qp: 26,
+    active: 2,
+    references: [Some(40); 16],
+    constrained_intra: false,
+    chroma_qp_index_offset: 2,
+    vector_limit: 512,
+};
+
+const PLACES: [u8; 16] = [5, 6, 7, 8, 0, 0, 0, 0, 0, 0, 0, 0, 0, 0, 0, 0];
+
+/// An inter macroblock of the first slice, from the picture of index 2, whose block 4 has another vector.
+fn moved() -> Read {
+    let motion = Derived {
+        ref_idx: 2,
+        picture: 40,
+        vector: Vector { x: 3, y: -2 },
+    };
+    let mut motions = [Some(motion); 16];
+    motions[4] = Some(Derived {
+        vector: Vector { x: 9, y: 0 },
+        ..motion
+    });
+    let mut read = Read::none();
+    read.kind = Kind::Inter;
+    read.contexts = Contexts {
+        intra: false,
+        motions,
+        ..read.contexts
+    };
+    read
+}
+
+// A picture two macroblocks wide: an inter macroblock, and an intra one to its right; then the first one of the second row.
+fn as_read(rt: &(impl Abort + AllocGlobal)) -> Result<(), AllocError> {
+    let mut near = Near::new(rt.alloc(), 2)?;
+    let mut read = moved();
+    let first = given(&read, &near, &SLICE, &PLACES, 0, 0);
+    assert!(rt; !first.available.left && !first.available.above && !first.available.above_right);
+    match first.prediction {
+        Prediction::Inter(motion) => {
+            // Block 4 stands in the third column of the first row.
+            assert_eq!(rt;
+                (motion[0].picture, motion[0].vector.x, motion[0].vector.y),
+                (7, 3, -2)
+            );
+            assert_eq!(rt; (motion[2].picture, motion[2].vector.x), (7, 9));
+            assert_eq!(rt; (motion[4].picture, motion[4].vector.x), (7, 3));
+        }
+        _ => assert!(rt; false),
+    }
+    near.push(&read.contexts);
+
+    // The levels of older macroblocks are not this one's: Cb has a coefficient alone. QPC of 30 and 2 is 31.
+    read.qp = 30;
+    read.residual.luma[0][0] = 9;
+    read.residual.chroma_dc_totals[0] = 1;
+    read.residual.chroma_dc[0][2] = -4;
+    let coded = levels(&read, 2);
+    assert_eq!(rt; (coded.qp, coded.qp_cb, coded.qp_cr), (30, 31, 31));
+    assert!(rt;
+        matches!(coded.luma, LumaLevels::NotCoded) && matches!(coded.cr, ChromaLevels::NotCoded)
+    );
+    match coded.cb {
+        ChromaLevels::WithDc(cb) => assert_eq!(rt; (cb.dc[2], cb.ac[3][0]), (-4, 0)),
+        ChromaLevels::NotCoded => assert!(rt; false),
+    }
+
+    read.kind = Kind::Intra4x4;
+    let mut modes = [2; 16];
+    modes[7] = 8;
+    modes[9] = 3;
+    read.contexts = Contexts {
+        intra: true,
+        modes,
+        ..read.contexts
+    };
+    read.chroma_mode = 1;
+    near.push(&read.contexts);
+    let intra = given(&read, &near, &SLICE, &PLACES, 0, 1);
+    assert!(rt; intra.available.above && intra.available.above_right && !intra.available.left);
+    match intra.prediction {
+        Prediction::Intra(modes) => match modes.luma {
+            IntraLuma::Blocks(blocks) => {
+                assert!(rt; matches!(blocks[7], Intra4x4PredMode::HorizontalUp));
+                assert!(rt; matches!(blocks[9], Intra4x4PredMode::DiagonalDownLeft));
+                assert!(rt; matches!(blocks[0], Intra4x4PredMode::Dc));
+                assert!(rt; matches!(modes.chroma, IntraChromaPredMode::Horizontal));
+            }
+            IntraLuma::Whole(_) => assert!(rt; false),
+        },
+        _ => assert!(rt; false),
+    }
+    // Under constrained_intra_pred_flag the inter macroblock above is no side; those of another slice are none.
+    let own = available(&near, 0, true, 0, 1);
+    assert!(rt; !own.above && own.above_right);
+    let other = available(&near, 1, false, 0, 1);
+    assert!(rt; !other.above && !other.above_right);
+
+    read.kind = Kind::Intra16x16 { mode: 3 };
+    match given(&read, &near, &SLICE, &PLACES, 0, 1).prediction {
+        Prediction::Intra(modes) => {
+            assert!(rt; matches!(modes.luma, IntraLuma::Whole(Intra16x16PredMode::Plane)));
+        }
+        _ => assert!(rt; false),
+    }
+    read.kind = Kind::Pcm;
+    read.pcm[255] = 1;
+    read.pcm[256] = 2;
+    read.pcm[383] = 3;
+    match given(&read, &near, &SLICE, &PLACES, 0, 1).prediction {
+        Prediction::Pcm(samples) => {
+            assert_eq!(rt; (samples.y[255], samples.cb[0], samples.cr[63]), (1, 2, 3));
+        }
+        _ => assert!(rt; false),
+    }
     Ok(())
 }

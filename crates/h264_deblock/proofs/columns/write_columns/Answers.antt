@@ -1,4 +1,4 @@
-use Rattle.std.proofs.Common.{ℕ, ◌*◌, ◌+◌, ◌<◌, ◌≡◌, arith, refl, ◌∙◌, rules, slice_index, ap}
+use Rattle.std.proofs.Common.{arith, refl, ◌∙◌, rules}
 use Rattle.h264_deblock.specs.Rows.{line_of}
 use Rattle.h264_deblock.proofs.Lines.{lines_none}
 use Rattle.h264_deblock.proofs.Crossed.{run_written}

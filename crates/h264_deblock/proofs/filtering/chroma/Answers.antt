@@ -1,4 +1,4 @@
-use Rattle.std.proofs.Common.{◌*◌, ◌/◌, true, arith}
+use Rattle.std.proofs.Common.{◌*◌, ◌/◌, true}
 use Rattle.h264_plane.specs.Samples.{at}
 use Rattle.h264_deblock.specs.Filtering.{edges_after, chroma_edges}
 use Rattle.h264_deblock.proofs.Macroblocks.{holds_self, edges_all}

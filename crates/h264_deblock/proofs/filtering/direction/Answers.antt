@@ -1,4 +1,4 @@
-use Rattle.std.proofs.Common.{◌≡◌, refl, arith, sym, ◌∙◌, get_or, Some, None}
+use Rattle.std.proofs.Common.{◌≡◌, refl, arith, ◌∙◌, get_or, Some, None}
 use Rattle.std.proofs.lemmas.List.{get_or_default}
 use denote.Param.{number}
 use Rattle.h264_deblock.specs.contracts.filtering.direction.{VERTICAL-type, CHROMA-type}

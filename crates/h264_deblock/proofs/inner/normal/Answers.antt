@@ -1,4 +1,4 @@
-use Rattle.std.proofs.Common.{rules, refl, arith, ◌≡◌, ap, ◌∙◌, ◌+◌, ◌≤◌, pos, neg_ℤ, ◌+ℤ◌, ◌-ℤ◌, to_z, of_z, w16}
+use Rattle.std.proofs.Common.{rules, refl, arith, ◌≡◌, ap, ◌∙◌, ◌+◌, pos, neg_ℤ, ◌+ℤ◌, ◌-ℤ◌, to_z, of_z, w16}
 use Rattle.std.proofs.lemmas.Int.{ints}
 use Rattle.h264_deblock.specs.Line.{clip1}
 use Rattle.h264_deblock.specs.Rows.{filter_by}

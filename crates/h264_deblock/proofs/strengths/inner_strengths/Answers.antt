@@ -1,4 +1,4 @@
-use Rattle.std.proofs.Common.{true, false, sym}
+use Rattle.std.proofs.Common.{true, false}
 use Rattle.h264_deblock.proofs.CodedEdges.{strong-lines}
 use Rattle.h264_deblock.proofs.strengths.inner_strengths.Goals as goal
 

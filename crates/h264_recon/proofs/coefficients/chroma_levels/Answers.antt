@@ -1,4 +1,4 @@
-use Rattle.std.proofs.Common.{◌*◌, ◌∙◌, sym, subst, arith, []}
+use Rattle.std.proofs.Common.{◌*◌, sym, subst, arith, []}
 use Rattle.h264_mbsyntax.specs.Holds.{IsPrediction, HasChroma}
 use Rattle.h264_recon.proofs.Tables.{element}
 use Rattle.h264_recon.proofs.FromRead.{blocks, chroma-4x4, chroma-16x16, chroma-inter, chroma-pcm}

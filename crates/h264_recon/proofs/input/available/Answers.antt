@@ -1,4 +1,4 @@
-use Rattle.std.proofs.Common.{◌∙◌, ap, ◌&&◌, nat_lt, ◌+◌}
+use Rattle.std.proofs.Common.{◌∙◌, ap, ◌&&◌, nat_lt}
 use Rattle.h264_near.specs.Intra.{macroblock_samples}
 use Rattle.h264_recon.proofs.Within.{available-is}
 use Rattle.h264_recon.proofs.input.available.Goals as goal

@@ -1,4 +1,4 @@
-use Rattle.std.proofs.Common.{◌≡◌, ◌∙◌, sym, ap, length, arith}
+use Rattle.std.proofs.Common.{◌∙◌, sym, ap}
 use Rattle.h264_recon.specs.Given.{available}
 use Rattle.h264_recon.proofs.FromRead.{given-is}
 use Rattle.h264_recon.proofs.input.given.Goals as goal

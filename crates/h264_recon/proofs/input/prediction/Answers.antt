@@ -1,4 +1,4 @@
-use Rattle.std.proofs.Common.{subst, sym, ◌∙◌}
+use Rattle.std.proofs.Common.{subst}
 use Rattle.h264_mbsyntax.specs.Holds.{IsPrediction}
 use Rattle.h264_mbsyntax.specs.Possible.{IsPossible}
 use Rattle.h264_recon.proofs.FromPrediction.{intra-4x4, intra-16x16, from-pcm, from-inter}
