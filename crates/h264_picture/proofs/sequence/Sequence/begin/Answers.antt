@@ -9,3 +9,21 @@ invariant_of-self-clause-sound c = let p = c.begin.ensures.place in begun _ _ _ 
 
 pub returns-clause-made : goal.returns-clause-made
 returns-clause-made c width size making v = record { holds = begun-holds width size c.args.self.now _ v c.clear.ensures refl refl refl; samples = nothing-made making _ }
+
+pub returns-clause-count : goal.returns-clause-count
+returns-clause-count c = c.begin.ensures.count
+
+pub returns-clause-place : goal.returns-clause-place
+returns-clause-place c = c.begin.ensures.place
+
+pub returns-clause-begun : goal.returns-clause-begun
+returns-clause-begun c = c.begin.ensures.begun
+
+pub returns-clause-size : goal.returns-clause-size
+returns-clause-size c = (refl, refl)
+
+pub returns-clause-none : goal.returns-clause-none
+returns-clause-none c = c.begin.ensures.none
+
+pub returns-clause-others : goal.returns-clause-others
+returns-clause-others c = c.begin.ensures.others

@@ -25,3 +25,21 @@ returns-clause-meets g c width size making picture k = bind _ (c.in_ok-run.ensur
 pub returns-then-run-eq0-clause-meets : goal.returns-then-run-eq0-clause-meets
 unfolding run_of_skips after_run
 returns-then-run-eq0-clause-meets g c width size making picture k = bind _ (c.in_ok-run.ensures.meets) (bind _ (checked _ _ _ _ (c.in_ok-check.ensures)) (bind _ (checked _ _ _ _ (rw c.has_reference.ensures at c.in_ok-check-2.ensures)) (rw c.if-run-eq0.true (c.read_unskipped.ensures.meets width size making picture k))))
+
+pub returns-then-run-eq0-clause-within : goal.returns-then-run-eq0-clause-within
+returns-then-run-eq0-clause-within g c = c.read_unskipped.ensures.within
+
+pub returns-then-run-eq0-clause-size : goal.returns-then-run-eq0-clause-size
+returns-then-run-eq0-clause-size g c = c.read_unskipped.ensures.size
+
+pub returns-then-run-eq0-clause-same : goal.returns-then-run-eq0-clause-same
+returns-then-run-eq0-clause-same g c = c.read_unskipped.ensures.same
+
+pub returns-clause-within : goal.returns-clause-within
+returns-clause-within g c = c.skip.ensures.within
+
+pub returns-clause-size : goal.returns-clause-size
+returns-clause-size g c = c.skip.ensures.size
+
+pub returns-clause-same : goal.returns-clause-same
+returns-clause-same g c = c.skip.ensures.same
