@@ -29,7 +29,7 @@ use h264_bits::Bits;
 use h264_header::{Header, SliceKind, named_sets};
 use h264_lists::{RefSlot, build};
 use h264_marking::{Held, Numbering, numbering_of};
-use h264_picture::{Work, slice_context};
+use h264_picture::{Work, slice_context, slice_samples};
 use h264_sets::Sets;
 use h264_sps::sps::Sps;
 
@@ -127,7 +127,9 @@ fn begin_if(begins: bool, sps: &Sps, work: &mut Work) -> Result<(), Stop>
     if !begins {
         return Ok(());
     }
-    work.activate(sps)
+    work.activate(sps)?;
+    work.begin(work.first_place());
+    Ok(())
 }
 
 /// Reads the slice data behind a header whose rules are met.
@@ -153,5 +155,5 @@ pub(crate) fn read_data<S: Elements>(
     let numbering = numbering_of(sps, header);
     let list = list_of(&header.kind.value, &numbering, held);
     let slice = slice_context(pps, sps, header, list.as_slice());
-    work.slice(bits, &slice, sink)
+    work.slice(bits, &slice, &slice_samples(pps, header, [0; 16]), sink)
 }

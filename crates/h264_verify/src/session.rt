@@ -148,7 +148,7 @@ impl Session {
         let Ok(sets) = Sets::new(alloc) else {
             return Err(Stop::Memory);
         };
-        let work = Work::new(alloc)?;
+        let work = Work::new(alloc);
         Ok(Session {
             alloc,
             mode,
