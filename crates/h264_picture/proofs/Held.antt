@@ -11,12 +11,12 @@ use Rattle.h264_plane.proofs.Raster.{next_place, side_least}
 use Rattle.h264_near.specs.Coded.{CodedMacroblock}
 use Rattle.h264_near.proofs.Places.{quotient, remainder}
 use Rattle.h264_recon.specs.Inter.{Setting}
-use Rattle.h264_recon.specs.Constructed.{Coded, IsMade, IsAllowed, IsPossible, IsWithin}
+use Rattle.h264_recon.specs.Constructed.{Coded, IsMade, IsAllowed, IsPossible}
 use Rattle.h264_recon.specs.Lines.{AreStored, store_of}
 use Rattle.h264_recon.specs.Step.{Shows, joined}
 use Rattle.h264_recon.specs.declared.store.Lines.{Lines}
 use Rattle.h264_recon.proofs.Step.{stored_wrap, stored_none, stored_moves, joined_before}
-use Rattle.h264_deblock.specs.Filtering.{PlaneEdges, Fits, edges_of, edges_done, is_chroma, IsOf}
+use Rattle.h264_deblock.specs.Filtering.{edges_of, edges_done, is_chroma, IsOf}
 use Rattle.h264_deblock.specs.CodedEdges.{coded_edges}
 use Rattle.h264_deblock.specs.declared.filtering.Edges.{Edges}
 use Rattle.h264_deblock.proofs.Macroblocks.{side_lines, reached_more, reached_wrap, local}

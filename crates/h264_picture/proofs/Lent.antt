@@ -1,10 +1,10 @@
 -- A frame is moved out of its place, and the one that was is put back.
-use Rattle.std.proofs.Common.{◌≡◌, ◌≢◌, ℕ, ◌<◌, ◌==◌, Bool, true, false, List, length, get_or, slice_set, arith, ◌∙◌, sym, refl, ap}
+use Rattle.std.proofs.Common.{◌≡◌, ℕ, ◌<◌, ◌==◌, Bool, true, false, List, length, slice_set, arith, ◌∙◌, refl, ap}
 use Rattle.std.proofs.lemmas.Bool.{eqb-true, eqb-false}
 use Rattle.std.proofs.Math.ListN.{length-set}
 use Rattle.std.proofs.lemmas.Grind.{common_steps}
 use Rattle.h264_plane.specs.declared.frame.Frame.{Frame}
-use Rattle.h264_plane.specs.Frames.{frame_at, KeepsOtherFrames, IsFrame}
+use Rattle.h264_plane.specs.Frames.{frame_at, KeepsOtherFrames}
 use Rattle.h264_picture.specs.declared.frames.Frames.{Frames}
 use Rattle.h264_picture.specs.Lent.{AreFrames, frame_within}
 

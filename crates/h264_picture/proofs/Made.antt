@@ -1,17 +1,13 @@
 -- The samples of a picture in the making.
-use Rattle.std.proofs.Common.{◌≡◌, ℕ, ◌+◌, ◌-◌, ◌*◌, ◌/◌, ◌<◌, ◌≤◌, List, [], ◌∷◌, length, get_or, Option, Some, None, vec_len, refl, sym, ap, ◌∙◌, subst, arith, ℤ}
+use Rattle.std.proofs.Common.{◌≡◌, ℕ, ◌+◌, ◌*◌, ◌/◌, ◌<◌, List, [], length, get_or, Option, Some, None, refl, sym, ap, ◌∙◌, subst, arith, ℤ}
 use Rattle.std.proofs.Math.Nat.{mul_comm}
-use Rattle.h264_plane.specs.Samples.{at, IsSized}
-use Rattle.h264_plane.specs.Frames.{plane_of, frame_at, IsFrame}
-use Rattle.h264_plane.specs.Places.{side}
-use Rattle.h264_plane.specs.declared.frame.Component.{Component}
+use Rattle.h264_plane.specs.Frames.{frame_at, IsFrame}
 use Rattle.h264_plane.specs.declared.frame.Component.TheVariants.{Y, Cb, Cr}
 use Rattle.h264_plane.specs.declared.frame.Frame.{Frame}
 use Rattle.h264_near.specs.Coded.{CodedMacroblock}
 use Rattle.h264_near.specs.Keeps.{Keeps, width_of}
 use Rattle.h264_vectors.specs.declared.slice.SliceContext.{SliceContext}
 use Rattle.h264_mbsyntax.specs.Possible as read
-use Rattle.h264_recon.specs.Inter.{Setting, no_motion}
 use Rattle.h264_recon.specs.Constructed.{Coded, IsPossible}
 use Rattle.h264_recon.specs.Given.{given}
 use Rattle.h264_recon.specs.Placed.{PointsInto}

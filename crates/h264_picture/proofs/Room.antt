@@ -1,5 +1,5 @@
 -- The next macroblock of a picture has its place in the frames and the lines.
-use Rattle.std.proofs.Common.{◌≡◌, ◌≢◌, ℕ, ◌+◌, ◌*◌, ◌/◌, ◌<◌, ◌≤◌, ◌==◌, Bool, true, false, IsTrue, List, length, get_or, vec_len, arith, ◌∙◌, sym, refl, ap, subst}
+use Rattle.std.proofs.Common.{◌≡◌, ℕ, ◌+◌, ◌*◌, ◌/◌, ◌<◌, ◌≤◌, ◌==◌, Bool, true, false, List, length, get_or, vec_len, arith, ◌∙◌, sym, refl, ap, subst}
 use Rattle.std.specs.Prelude.{nat_lt, if◌then◌else◌}
 use Rattle.std.proofs.Math.Nat.{mul_comm}
 use Rattle.std.proofs.lemmas.Nat.{mul-le}
@@ -7,11 +7,9 @@ use Rattle.std.proofs.lemmas.Bool.{eqb-true, eqb-false}
 use Rattle.std.proofs.lemmas.Bool.Decides.{nat_tests}
 use Rattle.h264_plane.specs.Samples.{IsSized}
 use Rattle.h264_plane.specs.Frames.{plane_of, frame_at, IsFrame}
-use Rattle.h264_plane.specs.Places.{side}
 use Rattle.h264_plane.specs.declared.frame.Component.{Component}
 use Rattle.h264_plane.specs.declared.frame.Component.TheVariants.{Y, Cb, Cr}
 use Rattle.h264_plane.specs.declared.frame.Frame.{Frame}
-use Rattle.h264_recon.specs.Inter.{no_motion}
 use Rattle.h264_recon.specs.Lines.{store_of}
 use Rattle.h264_recon.specs.Placed.{PointsInto}
 use Rattle.h264_recon.specs.Pool.{HasRoom, AreUsable}

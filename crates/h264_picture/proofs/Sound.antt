@@ -1,5 +1,5 @@
 -- What is always so of the memory of a sequence stays so.
-use Rattle.std.proofs.Common.{◌≡◌, ◌≢◌, ℕ, ◌+◌, ◌*◌, ◌<◌, ◌≤◌, List, length, get_or, replicate, vec_len, arith, ◌∙◌, sym, refl}
+use Rattle.std.proofs.Common.{◌≡◌, ◌≢◌, ℕ, ◌*◌, ◌<◌, ◌≤◌, List, length, replicate, vec_len, arith, ◌∙◌, refl}
 use Rattle.std.proofs.lemmas.List.{get_or-replicate}
 use Rattle.h264_plane.specs.Places.{side}
 use Rattle.h264_plane.specs.declared.frame.Component.{Component}

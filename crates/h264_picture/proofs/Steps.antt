@@ -1,5 +1,5 @@
 -- What the work holds behind one macroblock more.
-use Rattle.std.proofs.Common.{rules, Bool, true, false, ◌==◌, Option, nat_lt, if◌then◌else◌, Result, Ok, Err, IsErrOf, ◌≡◌, ℕ, suc, ◌+◌, ◌-◌, ◌<◌, ◌≤◌, List, [], ◌∷◌, ◌++◌, length, Some, None, refl, ap, sym, ◌∙◌, arith, length-append, subst}
+use Rattle.std.proofs.Common.{rules, Bool, true, false, ◌==◌, Option, nat_lt, if◌then◌else◌, Result, Ok, Err, IsErrOf, ◌≡◌, ℕ, ◌+◌, ◌-◌, ◌<◌, ◌≤◌, List, [], ◌∷◌, ◌++◌, length, Some, None, refl, sym, ◌∙◌, arith, length-append, subst}
 use Rattle.std.specs.List.{slice_get}
 use Rattle.h264_near.specs.Coded.{CodedMacroblock}
 use Rattle.h264_near.specs.declared.motion.Vector.{Vector}
@@ -22,17 +22,10 @@ use Rattle.h264_mbsyntax.proofs.Quantiser.{predicted-next}
 use Rattle.h264_picture.specs.declared.sequence.Sequence.{Sequence}
 use Rattle.h264_mbsyntax.specs.declared.slice.Standing.{Standing}
 use Rattle.h264_picture.specs.Holds.{HoldsIn, IsPast, IsWithin, KeepsPlace}
-use Rattle.h264_picture.specs.Making.{Making, MakesWith, HasSamples, MakesIn, MakesSlice, setting_of, Reads}
-use Rattle.h264_picture.specs.Held.{IsHeld}
+use Rattle.h264_picture.specs.Making.{Making, MakesWith, HasSamples, MakesIn, Reads}
 use Rattle.std.proofs.Common.{get_or}
 use Rattle.h264_picture.specs.Sound.{IsPlace}
 use Rattle.h264_picture.specs.declared.samples.SliceSamples.{SliceSamples}
-use Rattle.h264_plane.specs.declared.frame.Frame.{Frame}
-use Rattle.h264_recon.specs.Inter.{Setting}
-use Rattle.h264_recon.specs.declared.store.Lines.{Lines}
-use Rattle.h264_picture.specs.declared.frames.Frames.{Frames}
-use Rattle.h264_deblock.specs.declared.slice_filter.SliceFilter.{SliceFilter}
-use Rattle.h264_recon.specs.Placed.{ArePlaced}
 
 past-next : (slice : SliceContext) (picture : List CodedMacroblock) (m : CodedMacroblock) → m.slice ≡ slice.number → slice.number ≤ length picture → IsPast (picture ++ m ∷ [])
 past-next slice picture m e f x g =

@@ -1,11 +1,18 @@
 -- The frames of two sequences take turns at the places.
 use Rattle.std.proofs.Common.{◌≡◌, ◌≢◌, ℕ, ◌+◌, ◌-◌, ◌%◌, ◌<◌, ◌≤◌, Bool, true, false, ◌&&◌, Option, Some, None, length, refl, ap, sym, ◌∙◌, arith, if◌then◌else◌, ◌⊎◌, inl, inr}
-use Rattle.std.specs.Prelude.{nat_le, nat_lt}
+use Rattle.std.specs.Prelude.{nat_lt}
 use Rattle.std.specs.Option.{option_map}
 use Rattle.std.proofs.lemmas.Bool.Decides.{nat_tests}
 use Rattle.h264_plane.specs.declared.frame.Frame.{Frame}
 use Rattle.h264_picture.specs.declared.frames.Frames.{Frames}
 use Rattle.h264_picture.specs.Lent.{lent_in, lent_within}
+use Rattle.std.proofs.Common.{◌==◌}
+use Rattle.h264_plane.specs.Samples.{at}
+use Rattle.h264_plane.specs.Frames.{plane_of, frame_at}
+use Rattle.h264_plane.specs.declared.frame.Component.{Component}
+use Rattle.h264_picture.specs.declared.sequence.Sequence.{Sequence}
+use Rattle.h264_picture.specs.Holds.{IsActive}
+use Rattle.h264_picture.specs.Making.{setting_of}
 use Rattle.h264_picture.specs.Places.{is_active_place}
 
 -- the frame that is lent, of the frames of two sequences
@@ -41,3 +48,18 @@ lent-begun base place k f older e i =
     let active : is_active_place base place ≡ true = grind (arith, nat_tests) in
     let is : place - base ≡ k = omega arith in
     ap (λ t. if t then lent_in (Some f) (place - base) else lent_in older (place - (17 - base))) active ∙ ap (lent_within f) is
+
+pick : (t u b : Bool) (x y f : Frame) → (if t then (if u && b then None else Some (if u then x else y)) else None) ≡ Some f → b ≡ true → y ≡ f
+pick true true true x y f h e = cc
+pick true true false x y f h e = cc
+pick true false b x y f h e = cc
+pick false u b x y f h e = cc
+
+-- what is lent beside the frame that is written stands in the pool
+pub lent-beside : (base n : ℕ) (g : Frames) (older : Option Frames) (f : Frame) → n < 17 → g.begun ≡ true → lent_of base (Some g) older (base + n) ≡ Some f → frame_at g.pool n ≡ f
+lent-beside base n g older f i b h = pick (nat_lt n (length g.pool)) (n == g.place) g.begun g.frame (frame_at g.pool n) f (sym (lent-begun base (base + n) n g older refl i) ∙ h) b
+
+pub lent-references : (base place n : ℕ) (o : Option Sequence) (older : Option Frames) (f : Frame) → IsActive (λ (s : Sequence). (s.frames.begun ≡ true) × (base + s.frames.place ≡ place)) o → n < 17 →
+    lent_of base (option_map (λ (s : Sequence). s.frames) o) older (base + n) ≡ Some f → IsActive (λ (s : Sequence). (p : Component) (x y : ℕ) → (setting_of s).reference n p x y ≡ at (plane_of p f) x y) o
+lent-references base place n None older f h i e = absurd h
+lent-references base place n (Some s) older f h i e = λ p x y. ap (λ (g : Frame). at (plane_of p g) x y) (lent-beside base n s.frames older f i h.0 e)

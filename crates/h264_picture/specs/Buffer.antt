@@ -1,5 +1,5 @@
 -- How many frames the decoded picture buffer holds (A.3.1, C.4.5.3, E.2.1).
-use Rattle.std.specs.Prelude.{ℕ, min, max, Option, Some, None, unwrap_or}
+use Rattle.std.specs.Prelude.{ℕ, min, max, Option, unwrap_or}
 use Rattle.std.specs.Option.{option_and_then, option_map, option_map_or}
 use Rattle.h264_tables.specs.declared.level.Limits.{Limits}
 use Rattle.h264_tables.specs.Level.{limits_of}

@@ -1,5 +1,5 @@
 -- The deblocking filter of a slice, by its header and its picture parameter set (7.4.3).
-use Rattle.std.specs.Prelude.{ℕ, ℤ, pos, negsuc, ◌*ℤ◌, min, ◌+◌, ◌*◌}
+use Rattle.std.specs.Prelude.{ℤ, pos, negsuc, ◌*ℤ◌, min}
 use Rattle.h264_pps.specs.declared.Pps.{Pps}
 use Rattle.h264_header.specs.declared.header.Deblocking.{Deblocking}
 use Rattle.h264_header.specs.declared.header.Deblocking.TheVariants as stated

@@ -1,9 +1,8 @@
 -- The frames that are lent, by place.
-use Rattle.std.specs.Prelude.{◌≡◌, ◌≢◌, ℕ, ◌-◌, ◌<◌, ◌≤◌, ◌⊎◌, ◌==◌, ◌&&◌, nat_le, nat_lt, Bool, Option, Some, None, List, length, if◌then◌else◌}
+use Rattle.std.specs.Prelude.{◌≡◌, ◌≢◌, ℕ, ◌<◌, ◌==◌, ◌&&◌, nat_lt, Option, Some, None, length, if◌then◌else◌}
 use Rattle.h264_plane.specs.Frames.{frame_at, IsFrame}
 use Rattle.h264_plane.specs.declared.frame.Frame.{Frame}
 use Rattle.h264_picture.specs.declared.frames.Frames.{Frames}
-use Rattle.h264_picture.specs.declared.frames.TheConstants.{PLACES}
 
 -- the frame at a place of a sequence, whether it was moved out or not
 abbrev pub frame_within : Frames → ℕ → Frame

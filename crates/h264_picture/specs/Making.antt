@@ -2,6 +2,7 @@
 use Rattle.std.specs.Prelude.{◌≡◌, ℕ, ◌+◌, ◌<◌, ◌≤◌, List, length, get_or, Option, Some, None}
 use Rattle.h264_plane.specs.Samples.{at}
 use Rattle.h264_plane.specs.Frames.{plane_of, frame_at}
+use Rattle.h264_plane.specs.declared.frame.Component.{Component}
 use Rattle.h264_plane.specs.declared.frame.Frame.{Frame}
 use Rattle.h264_near.specs.Coded.{CodedMacroblock}
 use Rattle.h264_mbsyntax.specs.Macroblock.{predicted_qp}
@@ -87,3 +88,7 @@ IsSliceOf making slice samples work = IsActive (MakesSliceWith making slice samp
 -- the frame is decoded of these macroblocks, with the frames of the active sequence as reference pictures
 abbrev pub IsDecodedIn : Work → Making → List CodedMacroblock → Option Frame → Type 0
 IsDecodedIn work making picture f = IsActive (λ (s : Sequence). IsMadeOf (setting_of s) making picture f) work.active
+
+-- place n, counted from the first one of the sequence, has this frame as its reference picture
+abbrev pub RefersTo : Work → ℕ → Frame → Type 0
+RefersTo work n f = IsActive (λ (s : Sequence). (p : Component) (x y : ℕ) → (setting_of s).reference n p x y ≡ at (plane_of p f) x y) work.active

@@ -8,6 +8,12 @@ ghost use Rattle.h264_near.specs.Coded.{CodedMacroblock};
 ghost use Rattle.h264_recon.specs.Inter.{Setting};
 ghost use Rattle.h264_recon.specs.Constructed.{IsPossible};
 ghost use Rattle.h264_picture.specs.Decoded.{Parameters, macroblock_at, IsDecoded};
+ghost use Rattle.std.specs.Prelude.{Some};
+ghost use Rattle.h264_plane.specs.declared.frame.Frame.{Frame};
+ghost use Rattle.h264_picture.specs.declared.work.Work.{Work};
+ghost use Rattle.h264_picture.specs.declared.frames.TheConstants.{PLACES};
+ghost use Rattle.h264_picture.specs.Places.{first_place, lent, HasBegun};
+ghost use Rattle.h264_picture.specs.Making.{RefersTo};
 
 /// A coded picture, with the parameters of its slices and its reference pictures, has at most one decoded picture (8), where its modes refer to
 /// sides that there are.
@@ -22,4 +28,9 @@ pub fn some_decoded()
     ensures { (k : Setting) (place : ℕ → ℕ) (slices : ℕ → Parameters) (picture : List CodedMacroblock) → length picture ≡ k.down * k.across →
         ((c r : ℕ) → c < k.across → r < k.down → IsPossible (macroblock_at slices place k.across picture (r * k.across + c)).prediction (macroblock_at slices place k.across picture (r * k.across + c)).available) →
         (final : Component → ℕ → ℕ → ℕ) × IsDecoded k place slices picture final }
+{}
+
+/// The reference pictures of a picture that is begun are frames that the work lends, at places that are counted from the first one of the sequence.
+pub fn references_are_lent()
+    ensures { (work : Work) (place n : ℕ) (f : Frame) → HasBegun place work → n < PLACES → lent work (first_place work + n) ≡ Some f → RefersTo work n f }
 {}

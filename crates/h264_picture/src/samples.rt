@@ -11,7 +11,7 @@ use h264_pps::Pps;
 /// What the samples of a slice depend on beside its macroblocks.
 #[derive(Clone, Copy)]
 pub struct SliceSamples {
-    /// The places of the reference pictures by refIdxL0; any where there is none.
+    /// The places of the reference pictures by refIdxL0, as `Work` lends them; any number where there is none.
     pub places: [u8; 16],
     pub filter: SliceFilter,
 }

@@ -183,7 +183,8 @@ impl Work {
     /// Ok: the elements that the sink was told are the one derivation of the slice data, with every rule met, and the work holds
     /// the picture with the slice's macroblocks, and with their samples where it held those of the macroblocks before. No: the first rule
     /// that they break, at its stream bit. Write: the sink failed. After an Err the reader may have moved, and nothing is said of what the
-    /// work holds; but no frame changes other than that of the picture that is begun. Takes no memory.
+    /// work holds; but no frame changes other than that of the picture that is begun. Takes no memory; where no sequence is active it has
+    /// none, and answers so.
     pub fn slice<S: Elements>(
         &mut self,
         bits: &mut Bits,

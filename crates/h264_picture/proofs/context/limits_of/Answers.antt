@@ -1,5 +1,4 @@
-use Rattle.std.proofs.Common.{◌≡◌, ◌<◌, sym, arith, subst}
-use Rattle.std.specs.Prelude.{IfSome}
+use Rattle.std.proofs.Common.{sym, arith}
 use Rattle.h264_picture.proofs.Limits.{limits-none, limits-bounded}
 use Rattle.h264_picture.proofs.context.limits_of.Goals as goal
 

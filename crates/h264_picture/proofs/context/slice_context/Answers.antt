@@ -1,5 +1,5 @@
 use Rattle.std.proofs.lemmas.Int.{ints}
-use Rattle.std.proofs.Common.{rules, SFits, w32, to_z, of_z, ◌≡◌, ◌∙◌, refl, min, length, arith}
+use Rattle.std.proofs.Common.{rules, SFits, w32, to_z, of_z, ◌≡◌, refl, min, length, arith}
 use Rattle.h264_picture.specs.Context.{slice_context}
 use Rattle.h264_picture.proofs.context.slice_context.Goals as goal
 

@@ -1,4 +1,4 @@
-use Rattle.std.proofs.Common.{◌∙◌, sym}
+use Rattle.std.proofs.Common.{◌∙◌}
 use Rattle.h264_plane.specs.declared.frame.Component.TheVariants.{Y, Cb, Cr}
 use Rattle.h264_recon.specs.Constructed.{coded}
 use Rattle.h264_picture.proofs.Held.{held-step}

@@ -1,4 +1,4 @@
-use Rattle.std.proofs.Common.{◌≡◌, ℕ, ◌+◌, ◌*◌, ◌<◌, arith, sym, ◌∙◌, pos, replicate, get_or}
+use Rattle.std.proofs.Common.{◌+◌, ◌*◌, arith, sym, ◌∙◌, pos}
 use Rattle.std.proofs.lemmas.List.{get_or-replicate}
 use Rattle.h264_scale.proofs.Whole.{no_luma, no_cb, no_cr}
 use Rattle.h264_picture.proofs.levels.no_residuals.Goals as goal

@@ -1,7 +1,6 @@
 use Rattle.h264_base.specs.declared.mode.SliceType.TheVariants as slice_type
 use Rattle.h264_mbsyntax.specs.Slice.{by_slice_type}
 use Rattle.h264_mbsyntax.proofs.Quantiser.{next-typed}
-use Rattle.h264_picture.specs.Levels.{transform_fits}
 use Rattle.h264_picture.proofs.sequence.Sequence.read_by_slice_type.Goals as goal
 
 pub returns-in-I-clause-meets : goal.returns-in-I-clause-meets

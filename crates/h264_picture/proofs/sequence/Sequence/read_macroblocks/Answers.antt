@@ -1,6 +1,5 @@
-use Rattle.std.proofs.Common.{◌≡◌, ℕ, ◌+◌, ◌-◌, ◌<◌, ◌≤◌, List, Ok, Err, refl, arith, ◌∙◌, sym, subst}
+use Rattle.std.proofs.Common.{refl, arith, ◌∙◌}
 use Rattle.std.proofs.lemmas.Result.{err_from_is_err_and}
-use Rattle.h264_near.specs.Coded.{CodedMacroblock}
 use Rattle.h264_mbsyntax.specs.declared.slice.Standing.TheVariants.{Next}
 use Rattle.h264_mbsyntax.proofs.Slices.{turn-next, turn-end, turn-stop, turns-over, over-stop, turns-start}
 use Rattle.h264_picture.specs.Levels.{transform_fits}

@@ -1,5 +1,3 @@
-use Rattle.std.proofs.Common.{refl}
-use Rattle.h264_mbsyntax.specs.Slice.{next}
 use Rattle.h264_mbsyntax.proofs.Quantiser.{next-some}
 use Rattle.h264_picture.specs.Levels.{transform_fits}
 use Rattle.h264_picture.proofs.sequence.Sequence.read_next.Goals as goal

@@ -1,4 +1,4 @@
-use Rattle.std.proofs.Common.{Some, None, sym, subst, arith, ◌≡◌, ◌+◌, ◌<◌}
+use Rattle.std.proofs.Common.{sym, subst, arith}
 use Rattle.h264_picture.specs.Making.{IsMadeOf, setting_of}
 use Rattle.h264_picture.proofs.Turns.{lent-begun}
 use Rattle.h264_picture.proofs.work.Work.end.Goals as goal
