@@ -10,3 +10,9 @@ pub mod Renaming
 pub mod Rising
 pub mod Taken
 pub mod InUse
+pub mod Every
+pub mod Counting
+pub mod OutputSteps
+pub mod Following
+pub mod Draining
+pub mod Answering

@@ -4,3 +4,7 @@ pub mod Writing
 pub mod Buffered
 pub mod Renamed
 pub mod Numbered
+pub mod Turns
+pub mod Rectangles
+pub mod Ending
+pub mod Kept

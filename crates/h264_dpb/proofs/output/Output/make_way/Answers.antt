@@ -1,7 +1,7 @@
 use Rattle.std.proofs.Common.{sym, true, false, ◌∙◌}
-use Rattle.h264_output.specs.Turns.{empties}
-use Rattle.h264_output.proofs.Answering.{way-writes, way-keeps, way-stays, way-none}
-use Rattle.h264_output.proofs.output.Output.make_way.Goals as goal
+use Rattle.h264_dpb.specs.Turns.{empties}
+use Rattle.h264_dpb.proofs.Answering.{way-writes, way-keeps, way-stays, way-none}
+use Rattle.h264_dpb.proofs.output.Output.make_way.Goals as goal
 
 pub returns-then-empties-clause-writes : goal.returns-then-empties-clause-writes
 returns-then-empties-clause-writes g c = λ frames b written k h. way-writes c.args.picture.now b g.S.Elements.took g.S.Elements.failures frames c.args.sink.now c.flush.new.sink c.flush.result (sym c.empties.ensures ∙ c.if-empties.true) (c.flush.ensures.writes frames b written k h)

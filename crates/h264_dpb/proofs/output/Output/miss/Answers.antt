@@ -1,7 +1,7 @@
 use Rattle.std.proofs.Common.{sym, ap, ◌∙◌, map}
 use Rattle.h264_marking.specs.declared.frame.ReferenceFrame.{ReferenceFrame}
-use Rattle.h264_output.proofs.Answering.{miss-room, missed-writes, missed-keeps, missed-frames, missed-ordered}
-use Rattle.h264_output.proofs.output.Output.miss.Goals as goal
+use Rattle.h264_dpb.proofs.Answering.{miss-room, missed-writes, missed-keeps, missed-frames, missed-ordered}
+use Rattle.h264_dpb.proofs.output.Output.miss.Goals as goal
 
 pub put-requires-clause-few : goal.put-requires-clause-few
 put-requires-clause-few g c = miss-room c.args.held.now c.missing-stored.result c.args.self.now c.missing-stored.ensures.kind (c.missing-stored.ensures.held ∙ c.as_slice.ensures.value ∙ c.names-names.ensures ∙ ap (λ l. map (λ f. ReferenceFrame.picture f) l) c.frames.ensures.value) _ c.requires.ordered.2.rising c.requires.missing c.requires.few

@@ -1,4 +1,4 @@
-use Rattle.h264_output.proofs.output.Output.finish.Goals as goal
+use Rattle.h264_dpb.proofs.output.Output.finish.Goals as goal
 
 pub returns-clause-writes : goal.returns-clause-writes
 returns-clause-writes g c = c.flush.ensures.writes

@@ -16,13 +16,13 @@ use Rattle.h264_dpb.specs.Writing.{Writes}
 use Rattle.h264_dpb.specs.Buffered.{Buffered, Steps, StaysWithin, HasRoomBy, reference_step, other_step, missing_step, stored_by, missing_by, still as still_in, entry_of as entry_in}
 use Rattle.h264_dpb.proofs.Out.{chosen}
 use Rattle.h264_dpb.proofs.Rising.{rising-marked, rising-made_room, rising-reference, rising-other, rising-higher}
-use Rattle.h264_output.specs.declared.ended.Ended.{Ended}
-use Rattle.h264_output.specs.declared.output.Output.{Output}
-use Rattle.h264_output.specs.Turns.{Shown, Turn, names, still, entry_of, flush_turn, reference_turn, other_turn, missing_turn, store_turn}
-use Rattle.h264_output.specs.Kept.{Each, IsAtPlace, SameBuffer, KeepsBuffer, HasFrames, IsOrdered, kind_of, placed_at, shown_at, shown_calls, waiting_in}
-use Rattle.h264_output.proofs.Every.{both-reference, both-other, both-made_room, both-flushed, each-marked}
-use Rattle.h264_output.proofs.Counting.{counts-reference, counts-other, counts-made_room, counts-marked}
-use Rattle.h264_output.proofs.Steps.{reference-is, other-is, missing-is, flush-is, written-is, entries-are, count-is, held_by}
+use Rattle.h264_dpb.specs.declared.ended.Ended.{Ended}
+use Rattle.h264_dpb.specs.declared.output.Output.{Output}
+use Rattle.h264_dpb.specs.Turns.{Shown, Turn, names, still, entry_of, flush_turn, reference_turn, other_turn, missing_turn, store_turn}
+use Rattle.h264_dpb.specs.Kept.{Each, IsAtPlace, SameBuffer, KeepsBuffer, HasFrames, IsOrdered, kind_of, placed_at, shown_at, shown_calls, waiting_in}
+use Rattle.h264_dpb.proofs.Every.{both-reference, both-other, both-made_room, both-flushed, each-marked}
+use Rattle.h264_dpb.proofs.Counting.{counts-reference, counts-other, counts-made_room, counts-marked}
+use Rattle.h264_dpb.proofs.OutputSteps.{reference-is, other-is, missing-is, flush-is, written-is, entries-are, count-is, held_by}
 
 pub record Follows (step : Step Placed) (missing size : ℕ) (t : Turn) : Type 0 where
   pub is : (let s : Step Shown = record { written = t.written; entries = t.buffer.entries } in s ≡ renamed_step shown_at step)

@@ -1,7 +1,7 @@
 //! The places of reference pictures.
 #![tactic(auto)]
 
-use h264_dpb::{Entry, Placed};
+use crate::{Entry, Placed};
 use h264_lists::RefSlot;
 use h264_marking::ReferenceFrame;
 

@@ -2,9 +2,9 @@
 #![tactic(auto)]
 
 ghost use Rattle.std.specs.Prelude.{◌≡◌};
-ghost use Rattle.h264_output.specs.Rectangles.{whole, leaves, is_within, rectangle_of};
+ghost use Rattle.h264_dpb.specs.Rectangles.{whole, leaves, is_within, rectangle_of};
 
-use h264_dpb::Rectangle;
+use crate::Rectangle;
 use h264_sps::sps::{FrameCropping, FrameSize, Sps};
 
 /// Whether so many chroma samples on two sides leave something of so many macroblocks.

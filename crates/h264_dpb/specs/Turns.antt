@@ -5,7 +5,7 @@ use Rattle.h264_dpb.specs.declared.entry.Entry.{Entry}
 use Rattle.h264_dpb.specs.declared.entry.Rectangle.{Rectangle}
 use Rattle.h264_dpb.specs.Bumping.{Step, flushed, is_held, missing_in}
 use Rattle.h264_dpb.specs.Buffered.{Buffered, reference_step, other_step, missing_step}
-use Rattle.h264_output.specs.declared.ended.Ended.{Ended}
+use Rattle.h264_dpb.specs.declared.ended.Ended.{Ended}
 
 -- a picture by its number in decoding order, and what is shown of its frame
 pub record Shown : Type 0 where

@@ -15,17 +15,17 @@ use Rattle.h264_dpb.specs.Renamed.{renamed_step, all_renamed}
 use Rattle.h264_dpb.specs.Numbered.{AreRising, number_of}
 use Rattle.h264_dpb.specs.Writing.{Writes}
 use Rattle.h264_dpb.specs.Buffered.{Buffered, Steps, StaysWithin, HasRoomBy, stored_by, missing_by, still as still_in, entry_of as entry_in}
-use Rattle.h264_output.specs.declared.ended.Ended.{Ended}
-use Rattle.h264_output.specs.declared.output.Output.{Output}
-use Rattle.h264_output.specs.Turns.{Shown, Turn, names, stays, empties, flush_turn, way_turn, missing_turn, store_turn}
-use Rattle.h264_output.specs.Kept.{Each, IsAtPlace, SameBuffer, KeepsBuffer, HasFrames, IsOrdered, kind_of, placed_at, shown_at, shown_calls, waiting_in}
-use Rattle.h264_output.proofs.Every.{both-flushed}
-use Rattle.h264_output.proofs.Draining.{all-written}
-use Rattle.h264_output.proofs.Steps.{written-is, entries-are, count-is}
+use Rattle.h264_dpb.specs.declared.ended.Ended.{Ended}
+use Rattle.h264_dpb.specs.declared.output.Output.{Output}
+use Rattle.h264_dpb.specs.Turns.{Shown, Turn, names, stays, empties, flush_turn, way_turn, missing_turn, store_turn}
+use Rattle.h264_dpb.specs.Kept.{Each, IsAtPlace, SameBuffer, KeepsBuffer, HasFrames, IsOrdered, kind_of, placed_at, shown_at, shown_calls, waiting_in}
+use Rattle.h264_dpb.proofs.Every.{both-flushed}
+use Rattle.h264_dpb.proofs.Draining.{all-written}
+use Rattle.h264_dpb.proofs.OutputSteps.{written-is, entries-are, count-is}
 use Rattle.h264_dpb.proofs.Out.{chosen}
 use Rattle.h264_dpb.proofs.Tellings.{tells-none}
 use Rattle.h264_dpb.proofs.Rising.{few, few-other, marked-counted}
-use Rattle.h264_output.proofs.Following.{Follows, IsStored, flushed-follows, missing-follows, stored-follows, missing-each, stored-each, missing-counts, stored-counts, missing-rising, stored-rising}
+use Rattle.h264_dpb.proofs.Following.{Follows, IsStored, flushed-follows, missing-follows, stored-follows, missing-each, stored-each, missing-counts, stored-counts, missing-rising, stored-rising}
 
 abbrev pub of_turn : Turn → Step Shown
 of_turn t = record { written = t.written; entries = t.buffer.entries }

@@ -1,12 +1,12 @@
 use Rattle.std.proofs.Common.{refl, true, false, ap, sym, ◌∙◌, ◌+◌, length}
 use Rattle.std.proofs.lemmas.Result.{err_from_is_err_and}
 use Rattle.h264_dpb.specs.Bumping.{flushed}
-use Rattle.h264_output.specs.Turns.{flush_turn}
-use Rattle.h264_output.specs.Kept.{IsAtPlace, waiting_in}
-use Rattle.h264_output.proofs.Every.{both-flushed}
-use Rattle.h264_output.proofs.Following.{flushed-follows}
-use Rattle.h264_output.proofs.Answering.{turn-written, flush-kept, flush-added, flush-same}
-use Rattle.h264_output.proofs.output.Output.flush.Goals as goal
+use Rattle.h264_dpb.specs.Turns.{flush_turn}
+use Rattle.h264_dpb.specs.Kept.{IsAtPlace, waiting_in}
+use Rattle.h264_dpb.proofs.Every.{both-flushed}
+use Rattle.h264_dpb.proofs.Following.{flushed-follows}
+use Rattle.h264_dpb.proofs.Answering.{turn-written, flush-kept, flush-added, flush-same}
+use Rattle.h264_dpb.proofs.output.Output.flush.Goals as goal
 
 pub returns-in_err-flush-clause-writes : goal.returns-in_err-flush-clause-writes
 returns-in_err-flush-clause-writes g c =

@@ -3,16 +3,16 @@
 
 ghost use Rattle.std.specs.Prelude.{◌≡◌, ◌≤◌, ℕ, map, length};
 ghost use Rattle.std.specs.List.{count_by};
-ghost use Rattle.h264_output.specs.Turns.{empties};
+ghost use Rattle.h264_dpb.specs.Turns.{empties};
 ghost use Rattle.h264_dpb.specs.declared.entry.Kind.TheVariants as kinds;
-ghost use Rattle.h264_output.specs.Kept.{waiting_in, kind_of, placed_at};
+ghost use Rattle.h264_dpb.specs.Kept.{waiting_in, kind_of, placed_at};
 
 use crate::ended::Ended;
 use crate::format::whole;
-use crate::places::places_in;
+use crate::references::places_in;
+use crate::{Buffer, Entry, FrameOut, FrameStore, Kind, Picture, Placed};
 use arrayvec::ArrayVec;
 use h264_base::Stop;
-use h264_dpb::{Buffer, Entry, FrameOut, FrameStore, Kind, Picture, Placed};
 use h264_lists::RefSlot;
 use h264_marking::{Held, ReferenceFrame};
 
@@ -104,8 +104,8 @@ impl Output {
     ghost use Rattle.h264_dpb.specs.Buffered.{Buffered, AreReady, Steps, HasRoomBy, IsShownBy, StaysWithin, stored_by, missing_by};
     ghost use Rattle.h264_dpb.specs.Shown.{is_shown};
     ghost use Rattle.h264_dpb.specs.Writing.{Writes};
-    ghost use Rattle.h264_output.specs.Turns.{Shown, no_buffer, names, empties, flush_turn, way_turn, store_turn, missing_turn, last_turn};
-    ghost use Rattle.h264_output.specs.Kept.{KeepsBuffer, HasFrames, IsOrdered, IsReady, IsEmpty, IsAtPlace, is_free, size_of, placed_at, shown_calls, waiting_in};
+    ghost use Rattle.h264_dpb.specs.Turns.{Shown, no_buffer, names, empties, flush_turn, way_turn, store_turn, missing_turn, last_turn};
+    ghost use Rattle.h264_dpb.specs.Kept.{KeepsBuffer, HasFrames, IsOrdered, IsReady, IsEmpty, IsAtPlace, is_free, size_of, placed_at, shown_calls, waiting_in};
 
     /// Before the first picture.
     pub fn new() -> Output

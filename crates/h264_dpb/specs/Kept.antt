@@ -13,9 +13,9 @@ use Rattle.h264_dpb.specs.Shown.{fits, frame_call, is_shown}
 use Rattle.h264_dpb.specs.Numbered.{AreRising, number_of, is_taken}
 use Rattle.h264_dpb.specs.Renamed.{all_renamed}
 use Rattle.h264_dpb.specs.Buffered.{Buffered, AreReady}
-use Rattle.h264_output.specs.declared.ended.Ended.{Ended}
-use Rattle.h264_output.specs.declared.output.Output.{Output}
-use Rattle.h264_output.specs.Turns.{Shown, Turn, names}
+use Rattle.h264_dpb.specs.declared.ended.Ended.{Ended}
+use Rattle.h264_dpb.specs.declared.output.Output.{Output}
+use Rattle.h264_dpb.specs.Turns.{Shown, Turn, names}
 
 -- what a place is of
 abbrev pub shown_at : Placed → Shown

@@ -7,8 +7,8 @@ use Rattle.h264_header.specs.declared.header.Marking.{Marking}
 use Rattle.h264_header.specs.declared.header.Marking.TheVariants as marking
 use Rattle.h264_header.specs.Picture.{is_idr, is_reference}
 use Rattle.h264_marking.specs.Ended.{resets}
-use Rattle.h264_output.specs.declared.ended.Ended.{Ended}
-use Rattle.h264_output.specs.Rectangles.{rectangle_of}
+use Rattle.h264_dpb.specs.declared.ended.Ended.{Ended}
+use Rattle.h264_dpb.specs.Rectangles.{rectangle_of}
 
 -- no_output_of_prior_pics_flag, where it is there
 abbrev pub drops_by : Marking → Bool

@@ -15,8 +15,8 @@ use Rattle.h264_dpb.specs.Shown.{frame_call, frame_of}
 use Rattle.h264_dpb.specs.Writing.{call_of, calls_of, Writes}
 use Rattle.h264_dpb.specs.Buffered.{Buffered, Steps, reference_step, other_step, missing_step, room_step}
 use Rattle.h264_dpb.proofs.Renaming.{marked-renamed, reference-renamed, other-renamed, room-renamed, flushed-renamed}
-use Rattle.h264_output.specs.Turns.{Shown, names, still}
-use Rattle.h264_output.specs.Kept.{Each, IsAtPlace, SameBuffer, shown_at, shown_calls}
+use Rattle.h264_dpb.specs.Turns.{Shown, names, still}
+use Rattle.h264_dpb.specs.Kept.{Each, IsAtPlace, SameBuffer, shown_at, shown_calls}
 
 -- the frame at a place is that of its picture
 frame-is : (frames : ℕ → Frame) (lent : ℕ → Option Frame) (n : Placed) → lent n.place ≡ Some (frames n.picture) → frame_of lent n ≡ frames n.picture

@@ -5,7 +5,7 @@ use Rattle.std.specs.List.{filter}
 use Rattle.h264_dpb.specs.declared.entry.Entry.{Entry}
 use Rattle.h264_dpb.specs.Bumping.{Step, leaves, joins, and_then, is_next, is_below, is_in_use, least_count, left_of, written_at, written_by, bumped, made_room, placed, marked, marked_by, emptied, flushed, stored_reference, stored_other}
 use Rattle.h264_dpb.proofs.Out.{chosen}
-use Rattle.h264_output.specs.Kept.{Each}
+use Rattle.h264_dpb.specs.Kept.{Each}
 
 module _ {N : Type 0} (P : N → Type 0) where
   pub each-append : (xs ys : List (Entry N)) → Each P xs → Each P ys → Each P (xs ++ ys)

@@ -2,11 +2,11 @@
 #![tactic(auto)]
 
 ghost use Rattle.std.specs.Prelude.{◌≡◌};
-ghost use Rattle.h264_output.specs.Ending.{drops_by, drops, count_behind, ended_of};
+ghost use Rattle.h264_dpb.specs.Ending.{drops_by, drops, count_behind, ended_of};
 
+use crate::Rectangle;
 use crate::format::rectangle_of;
 use h264_bits::Found;
-use h264_dpb::Rectangle;
 use h264_header::{Header, Marking};
 use h264_marking::resets;
 use h264_sps::sps::Sps;

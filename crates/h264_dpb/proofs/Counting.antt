@@ -7,7 +7,7 @@ use Rattle.std.proofs.lemmas.List.Sums.{sum_by-cons}
 use Rattle.h264_dpb.specs.declared.entry.Entry.{Entry}
 use Rattle.h264_dpb.specs.Bumping.{Step, leaves, joins, and_then, is_next, is_below, is_in_use, least_count, left_of, written_at, written_by, bumped, made_room, placed, marked, marked_by, emptied, flushed, stored_reference, stored_other}
 use Rattle.h264_dpb.proofs.Out.{chosen}
-use Rattle.h264_output.specs.Kept.{waiting_in}
+use Rattle.h264_dpb.specs.Kept.{waiting_in}
 
 module _ {N : Type 0} where
   pub waiting-cons : (e : Entry N) (es : List (Entry N)) → waiting_in (e ∷ es) ≡ cond e.waiting 1 0 + waiting_in es

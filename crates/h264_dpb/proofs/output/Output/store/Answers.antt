@@ -1,7 +1,7 @@
 use Rattle.std.proofs.Common.{sym, ap, ◌∙◌, map}
 use Rattle.h264_marking.specs.declared.frame.ReferenceFrame.{ReferenceFrame}
-use Rattle.h264_output.proofs.Answering.{stored-as, store-room, store-writes, store-keeps, store-frames, store-ordered}
-use Rattle.h264_output.proofs.output.Output.store.Goals as goal
+use Rattle.h264_dpb.proofs.Answering.{stored-as, store-room, store-writes, store-keeps, store-frames, store-ordered}
+use Rattle.h264_dpb.proofs.output.Output.store.Goals as goal
 
 pub put-requires-clause-few : goal.put-requires-clause-few
 put-requires-clause-few g c =

@@ -1,4 +1,0 @@
-pub mod Turns
-pub mod Rectangles
-pub mod Ending
-pub mod Kept
