@@ -11,3 +11,4 @@ pub mod Joining
 pub mod Courses
 pub mod Reading
 pub mod Verdicts
+pub mod Coded

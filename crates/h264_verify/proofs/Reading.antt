@@ -202,12 +202,10 @@ module _ {S : Type 0} (took : S → List Call → Type 0) (failures : S → ℕ)
           (plays-gives took failures (λ (x : Unit {0}). (contents.OfSlice h ms, end)) (λ (w : Content × ℕ). w.0) _ s2 s3 r content)))
 
 -- the frames of a set that may be given are no larger than the greatest MaxFS
-first-three : (a b c d e r : Bool) → ((a && (b && (c && (d && e)))) && r) ≡ true → (a && (b && c)) ≡ true
-first-three true true true d e r h = refl
-first-three true true false d e r h = cc
-first-three true false c d e r h = cc
-first-three false b c d e r h = cc
+first-of : (a r : Bool) → (a && r) ≡ true → a ≡ true
+first-of true r h = refl
+first-of false r h = h
 
 pub usable_size : (sps : Sps) → is_usable sps ≡ true → is_frame_size sps.frame_size ≡ true
 unfolding is_usable
-usable_size sps e = first-three (nat_lt 0 sps.frame_size.width) (nat_lt 0 sps.frame_size.height) (nat_le (sps.frame_size.width * sps.frame_size.height) 36864) (nat_le sps.frame_size.width 543) (nat_le sps.frame_size.height 543) (crops_within sps.frame_size sps.frame_cropping && holds_references sps) e
+usable_size sps e = first-of (is_frame_size sps.frame_size) (crops_within sps.frame_size sps.frame_cropping && holds_references sps) e
