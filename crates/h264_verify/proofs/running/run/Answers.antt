@@ -1,4 +1,4 @@
-use Rattle.std.proofs.Common.{[], sym, arith, refl, ap, ◌∙◌, ◌≡◌, ◌+◌}
+use Rattle.std.proofs.Common.{[], sym, arith, refl, ap, ◌∙◌, ◌≡◌, ◌+◌, inr}
 use Rattle.std.proofs.lemmas.Result.{err_from_is_err_and}
 use Rattle.h264_verify.specs.UnitOutcome.{judging}
 use Rattle.h264_verify.proofs.Sources.{fed-read, judges-memory}
@@ -41,3 +41,8 @@ loop-preserved g c = record {
   quiet = c.in_ok-turn.ensures.kept.2 ∙ c.loop.invariant.quiet;
   turns = λ n r. let e : (n + c.loop.counter) + 1 ≡ n + (c.loop.counter + 1) = omega arith in rw (← e) (c.in_ok-turn.ensures.again (n + c.loop.counter) (c.loop.invariant.turns n r));
 }
+
+pub returns-clause-read : goal.returns-clause-read
+returns-clause-read g c = λ h. inr (λ n r.
+    let e : n + c.loop.counter ≡ n + 2199023255552 = let t = c.loop-test.false in let a = c.loop.auto.counter-end in omega arith in
+    rw (← e) (c.loop.invariant.turns n r))
