@@ -1,5 +1,5 @@
 #!/usr/bin/env bash
-# Runs `h264v units` and `h264v headers` on small streams with the Nth allocation refused, for N = 1, 2, .. until none is refused any more.
+# Runs `h264v units`, `headers` and `frames` on small streams with the Nth allocation refused, for N = 1, 2, .. until none is refused any more.
 # Each run but the last has to end in `memory` with status 3, and no line of it may be a yes, a no or an outside. Needs a C compiler: allocations
 # are refused by a library that stands in front of malloc (refuse.c).
 set -u
@@ -21,7 +21,7 @@ printf "$small$pps"'\x00\x00\x01\x65\x88\x84\x93\xC0\x00\x00\x01\x61\x9A\x24\xA8
 printf "$wide$pps"'\x00\x00\x01\x65\x88\x84\x93\x93\x14\x38' > "$work/wide_frame"
 printf "$wide$pps"'\x00\x00\x01\x65\x88\x84\x93\x93\x14\x38\x00\x00\x01\x61\x9A\x23\x80\x80\xD4' > "$work/wide_frames"
 
-for mode in units headers; do
+for mode in units headers frames; do
     for stream in one_frame two_frames gap filled_gap operations wide_frame wide_frames; do
         whole=$("$program" "$mode" "$work/$stream")
         expected=$?

@@ -8,7 +8,7 @@ pub enum Mode {
     Units,
     /// These, and slice headers with the order of frames that they give.
     Headers,
-    /// These, and slice data.
+    /// These, and slice data, of which the frames are made.
     Full,
 }
 

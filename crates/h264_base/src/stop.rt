@@ -13,8 +13,6 @@ pub enum Feature {
     UnitTooLong,
     /// An input of more than 2^40 bytes.
     InputTooLong,
-    /// The end of a picture whose slice data are read: its samples, and what comes behind them, are not judged yet.
-    Pending,
 }
 
 impl Feature {
@@ -30,7 +28,6 @@ impl Feature {
             Feature::Level6 => "Level6",
             Feature::UnitTooLong => "UnitTooLong",
             Feature::InputTooLong => "InputTooLong",
-            Feature::Pending => "Pending",
         }
     }
 }

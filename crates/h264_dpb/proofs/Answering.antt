@@ -1,5 +1,5 @@
 -- What the buffer's calls answer.
-use Rattle.std.proofs.Common.{◌≡◌, ℕ, ◌+◌, ◌-◌, ◌<◌, ◌≤◌, Bool, true, false, IsTrue, Option, Some, Result, Ok, Err, List, [], ◌∷◌, length, refl, ap, sym, ◌∙◌, subst, arith, ℤ, OnOk, not, if◌then◌else◌}
+use Rattle.std.proofs.Common.{◌≡◌, ℕ, ◌+◌, ◌-◌, ◌<◌, ◌≤◌, Bool, true, false, Option, Result, Ok, Err, List, [], length, refl, ap, sym, ◌∙◌, subst, arith, OnOk, not, if◌then◌else◌}
 use Rattle.std.proofs.lemmas.List.{length-map}
 use Rattle.h264_base.specs.declared.stop.Stop.{Stop}
 use Rattle.h264_base.specs.Call.{Call}
@@ -11,15 +11,14 @@ use Rattle.h264_dpb.specs.declared.entry.Picture.{Picture}
 use Rattle.h264_dpb.specs.declared.entry.Kind.{Kind}
 use Rattle.h264_dpb.specs.declared.entry.Kind.TheVariants as kinds
 use Rattle.h264_dpb.specs.Bumping.{Step, flushed, is_held, missing_in}
-use Rattle.h264_dpb.specs.Renamed.{renamed_step, all_renamed}
+use Rattle.h264_dpb.specs.Renamed.{all_renamed}
 use Rattle.h264_dpb.specs.Numbered.{AreRising, number_of}
 use Rattle.h264_dpb.specs.Writing.{Writes}
 use Rattle.h264_dpb.specs.Buffered.{Buffered, Steps, StaysWithin, HasRoomBy, stored_by, missing_by, still as still_in, entry_of as entry_in}
 use Rattle.h264_dpb.specs.declared.ended.Ended.{Ended}
 use Rattle.h264_dpb.specs.declared.output.Output.{Output}
 use Rattle.h264_dpb.specs.Turns.{Shown, Turn, names, stays, empties, flush_turn, way_turn, missing_turn, store_turn}
-use Rattle.h264_dpb.specs.Kept.{Each, IsAtPlace, SameBuffer, KeepsBuffer, HasFrames, IsOrdered, kind_of, placed_at, shown_at, shown_calls, waiting_in}
-use Rattle.h264_dpb.proofs.Every.{both-flushed}
+use Rattle.h264_dpb.specs.Kept.{Each, IsAtPlace, KeepsBuffer, HasFrames, IsOrdered, kind_of, placed_at, shown_at, shown_calls, waiting_in}
 use Rattle.h264_dpb.proofs.Draining.{all-written}
 use Rattle.h264_dpb.proofs.OutputSteps.{written-is, entries-are, count-is}
 use Rattle.h264_dpb.proofs.Out.{chosen}

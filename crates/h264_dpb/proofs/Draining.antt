@@ -1,13 +1,13 @@
 -- Emptying writes all that wait.
-use Rattle.std.proofs.Common.{◌≡◌, ℕ, zero, suc, ◌+◌, ◌<◌, ◌≤◌, ◌⊎◌, inl, inr, Bool, true, false, ◌||◌, ◌&&◌, Option, Some, None, List, [], ◌∷◌, ◌++◌, length, cond, refl, ap, sym, ◌∙◌, subst, arith, ℤ, if◌then◌else◌}
+use Rattle.std.proofs.Common.{◌≡◌, ℕ, zero, suc, ◌+◌, ◌≤◌, ◌⊎◌, inl, inr, Bool, true, false, Option, Some, None, List, [], ◌∷◌, length, cond, refl, ap, sym, ◌∙◌, subst, arith, ℤ, if◌then◌else◌}
 use Rattle.std.specs.Prelude.{nat_lt, int_lt}
 use Rattle.std.specs.Ordering.{int_eq}
 use Rattle.std.proofs.lemmas.Bool.Decides.{nat_tests, Decides-int_eq}
 use Rattle.h264_dpb.specs.declared.entry.Entry.{Entry}
-use Rattle.h264_dpb.specs.Bumping.{Step, and_then, is_next, least_with, least_count, written_at, written_by, bumped, made_room, emptied, flushed}
+use Rattle.h264_dpb.specs.Bumping.{Step, is_next, least_with, least_count, written_at, written_by, bumped, made_room, emptied, flushed}
 use Rattle.h264_dpb.proofs.Out.{chosen}
 use Rattle.h264_dpb.specs.Kept.{waiting_in}
-use Rattle.h264_dpb.proofs.Counting.{Counts, waiting-cons, counts-made_room, counts-bumped}
+use Rattle.h264_dpb.proofs.Counting.{waiting-cons, counts-made_room, counts-bumped}
 
 some-same : (a b : ℤ) → Some a ≡ Some b → a ≡ b
 some-same a b h = cc

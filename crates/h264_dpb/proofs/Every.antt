@@ -1,9 +1,9 @@
 -- What holds of each frame in the buffer holds of each that a step writes or leaves.
-use Rattle.std.proofs.Common.{◌≡◌, ℕ, zero, suc, Bool, true, false, Option, Some, None, List, [], ◌∷◌, ◌++◌, length, map, refl, sym, ◌∙◌, subst, ℤ, not}
+use Rattle.std.proofs.Common.{◌≡◌, ℕ, zero, suc, Bool, true, false, Option, Some, None, List, [], ◌∷◌, ◌++◌, length, map, refl, sym, ◌∙◌, subst, ℤ}
 use Rattle.std.specs.Prelude.{nat_lt}
 use Rattle.std.specs.List.{filter}
 use Rattle.h264_dpb.specs.declared.entry.Entry.{Entry}
-use Rattle.h264_dpb.specs.Bumping.{Step, leaves, joins, and_then, is_next, is_below, is_in_use, least_count, left_of, written_at, written_by, bumped, made_room, placed, marked, marked_by, emptied, flushed, stored_reference, stored_other}
+use Rattle.h264_dpb.specs.Bumping.{Step, joins, and_then, is_next, is_below, is_in_use, least_count, left_of, written_at, written_by, bumped, made_room, placed, marked, marked_by, emptied, flushed, stored_reference, stored_other}
 use Rattle.h264_dpb.proofs.Out.{chosen}
 use Rattle.h264_dpb.specs.Kept.{Each}
 

@@ -1,28 +1,23 @@
 -- A step at the places follows a turn of pictures: what is written is the turn's, and what is kept is what it leaves.
-use Rattle.std.proofs.Common.{◌≡◌, ℕ, ◌+◌, ◌-◌, ◌<◌, ◌≤◌, Bool, true, false, IsTrue, Option, Some, Result, Ok, Err, List, [], ◌∷◌, length, refl, ap, sym, ◌∙◌, subst, arith, ℤ, OnOk, not, if◌then◌else◌}
-use Rattle.h264_base.specs.declared.stop.Stop.{Stop}
-use Rattle.h264_base.specs.Call.{Call}
-use Rattle.h264_plane.specs.declared.frame.Frame.{Frame}
+use Rattle.std.proofs.Common.{◌≡◌, ℕ, ◌+◌, ◌-◌, Bool, true, false, Option, List, length, refl, ap, sym, ◌∙◌, subst, arith}
 use Rattle.h264_marking.specs.Frames.{References}
 use Rattle.h264_dpb.specs.declared.entry.Entry.{Entry}
 use Rattle.h264_dpb.specs.declared.entry.Placed.{Placed}
 use Rattle.h264_dpb.specs.declared.entry.Picture.{Picture}
 use Rattle.h264_dpb.specs.declared.entry.Kind.{Kind}
 use Rattle.h264_dpb.specs.declared.entry.Kind.TheVariants as kinds
-use Rattle.h264_dpb.specs.Bumping.{Step, is_held, missing_in, marked, stored_reference, stored_other, made_room, flushed}
-use Rattle.h264_dpb.specs.Renamed.{renamed, all_renamed, renamed_step}
+use Rattle.h264_dpb.specs.Bumping.{Step, is_held, missing_in, marked, flushed}
+use Rattle.h264_dpb.specs.Renamed.{renamed, renamed_step}
 use Rattle.h264_dpb.specs.Numbered.{AreRising, number_of}
-use Rattle.h264_dpb.specs.Writing.{Writes}
-use Rattle.h264_dpb.specs.Buffered.{Buffered, Steps, StaysWithin, HasRoomBy, reference_step, other_step, missing_step, stored_by, missing_by, still as still_in, entry_of as entry_in}
+use Rattle.h264_dpb.specs.Buffered.{Buffered, reference_step, other_step, missing_step, stored_by, missing_by, still as still_in, entry_of as entry_in}
 use Rattle.h264_dpb.proofs.Out.{chosen}
-use Rattle.h264_dpb.proofs.Rising.{rising-marked, rising-made_room, rising-reference, rising-other, rising-higher}
+use Rattle.h264_dpb.proofs.Rising.{rising-marked, rising-made_room, rising-reference, rising-other}
 use Rattle.h264_dpb.specs.declared.ended.Ended.{Ended}
-use Rattle.h264_dpb.specs.declared.output.Output.{Output}
 use Rattle.h264_dpb.specs.Turns.{Shown, Turn, names, still, entry_of, flush_turn, reference_turn, other_turn, missing_turn, store_turn}
-use Rattle.h264_dpb.specs.Kept.{Each, IsAtPlace, SameBuffer, KeepsBuffer, HasFrames, IsOrdered, kind_of, placed_at, shown_at, shown_calls, waiting_in}
-use Rattle.h264_dpb.proofs.Every.{both-reference, both-other, both-made_room, both-flushed, each-marked}
+use Rattle.h264_dpb.specs.Kept.{Each, SameBuffer, kind_of, placed_at, shown_at, waiting_in}
+use Rattle.h264_dpb.proofs.Every.{both-reference, both-other, both-made_room, each-marked}
 use Rattle.h264_dpb.proofs.Counting.{counts-reference, counts-other, counts-made_room, counts-marked}
-use Rattle.h264_dpb.proofs.OutputSteps.{reference-is, other-is, missing-is, flush-is, written-is, entries-are, count-is, held_by}
+use Rattle.h264_dpb.proofs.OutputSteps.{reference-is, other-is, missing-is, flush-is}
 
 pub record Follows (step : Step Placed) (missing size : ℕ) (t : Turn) : Type 0 where
   pub is : (let s : Step Shown = record { written = t.written; entries = t.buffer.entries } in s ≡ renamed_step shown_at step)

@@ -16,3 +16,4 @@ pub mod OutputSteps
 pub mod Following
 pub mod Draining
 pub mod Answering
+pub mod Finding

@@ -1,5 +1,5 @@
 -- From what the places hold to pictures alone: what is written, and what is kept.
-use Rattle.std.proofs.Common.{◌≡◌, ℕ, zero, suc, ◌+◌, ◌-◌, ◌≤◌, Bool, true, false, IsTrue, Option, Some, None, Result, Ok, Err, List, [], ◌∷◌, ◌++◌, length, map, refl, ap, sym, ◌∙◌, subst, arith, OnOk}
+use Rattle.std.proofs.Common.{◌≡◌, ℕ, ◌-◌, Bool, Option, Some, Result, Ok, Err, List, [], ◌∷◌, length, refl, ap, sym, ◌∙◌, subst, OnOk}
 use Rattle.std.specs.Prelude.{unwrap_or}
 use Rattle.std.proofs.lemmas.List.{length-map}
 use Rattle.h264_base.specs.declared.stop.Stop.{Stop}
@@ -9,10 +9,10 @@ use Rattle.h264_plane.specs.Frames.{no_frame}
 use Rattle.h264_marking.specs.Frames.{References}
 use Rattle.h264_dpb.specs.declared.entry.Entry.{Entry}
 use Rattle.h264_dpb.specs.declared.entry.Placed.{Placed}
-use Rattle.h264_dpb.specs.Bumping.{Step, is_held, missing_in, marked, stored_reference, stored_other, made_room, flushed}
+use Rattle.h264_dpb.specs.Bumping.{Step, is_held, marked, stored_reference, stored_other, flushed}
 use Rattle.h264_dpb.specs.Renamed.{renamed, all_renamed, renamed_step}
 use Rattle.h264_dpb.specs.Shown.{frame_call, frame_of}
-use Rattle.h264_dpb.specs.Writing.{call_of, calls_of, Writes}
+use Rattle.h264_dpb.specs.Writing.{calls_of, Writes}
 use Rattle.h264_dpb.specs.Buffered.{Buffered, Steps, reference_step, other_step, missing_step, room_step}
 use Rattle.h264_dpb.proofs.Renaming.{marked-renamed, reference-renamed, other-renamed, room-renamed, flushed-renamed}
 use Rattle.h264_dpb.specs.Turns.{Shown, names, still}

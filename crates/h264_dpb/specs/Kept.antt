@@ -1,21 +1,19 @@
 -- What is kept of the buffer of a stream: a frame is named by its place, and a store lends it.
-use Rattle.std.specs.Prelude.{◌≡◌, ℕ, ◌+◌, ◌<◌, ◌≤◌, Bool, true, false, IsTrue, Option, Some, List, [], ◌∷◌, map, length}
+use Rattle.std.specs.Prelude.{◌≡◌, ℕ, ◌+◌, ◌≤◌, Bool, true, false, IsTrue, Option, Some, List, [], ◌∷◌, map, length}
 use Rattle.std.specs.List.{count_by}
 use Rattle.h264_base.specs.Call.{Call}
 use Rattle.h264_plane.specs.declared.frame.Frame.{Frame}
-use Rattle.h264_marking.specs.Frames.{References}
 use Rattle.h264_dpb.specs.declared.entry.Entry.{Entry}
 use Rattle.h264_dpb.specs.declared.entry.Placed.{Placed}
 use Rattle.h264_dpb.specs.declared.entry.Kind.{Kind}
 use Rattle.h264_dpb.specs.declared.entry.Kind.TheVariants as kinds
-use Rattle.h264_dpb.specs.Bumping.{is_held}
-use Rattle.h264_dpb.specs.Shown.{fits, frame_call, is_shown}
-use Rattle.h264_dpb.specs.Numbered.{AreRising, number_of, is_taken}
+use Rattle.h264_dpb.specs.Shown.{fits, frame_call}
+use Rattle.h264_dpb.specs.Numbered.{AreRising, number_of, is_taken, place_in}
 use Rattle.h264_dpb.specs.Renamed.{all_renamed}
 use Rattle.h264_dpb.specs.Buffered.{Buffered, AreReady}
 use Rattle.h264_dpb.specs.declared.ended.Ended.{Ended}
 use Rattle.h264_dpb.specs.declared.output.Output.{Output}
-use Rattle.h264_dpb.specs.Turns.{Shown, Turn, names}
+use Rattle.h264_dpb.specs.Turns.{Shown}
 
 -- what a place is of
 abbrev pub shown_at : Placed → Shown
@@ -67,6 +65,10 @@ pub record IsReady (lent : ℕ → Option Frame) (output : Output) : Type 0 wher
 -- no frame of it stands at this place
 abbrev pub is_free : ℕ → Output → Bool
 is_free place output = is_taken output.buffer.entries place
+
+-- the place of a picture's frame in it, by the picture's number
+abbrev pub place_of : Output → ℕ → Option ℕ
+place_of output n = place_in output.buffer.entries n
 
 abbrev pub size_of : Output → ℕ
 size_of output = output.buffer.size

@@ -1,5 +1,5 @@
 -- Numbers and places of the frames in the buffer.
-use Rattle.std.specs.Prelude.{ℕ, ◌+◌, ◌≤◌, ◌==◌, Bool, List, [], ◌∷◌}
+use Rattle.std.specs.Prelude.{ℕ, ◌+◌, ◌≤◌, ◌==◌, Bool, Option, Some, None, List, [], ◌∷◌, if◌then◌else◌}
 use Rattle.std.specs.List.{list_any}
 use Rattle.h264_dpb.specs.declared.entry.Entry.{Entry}
 use Rattle.h264_dpb.specs.declared.entry.Placed.{Placed}
@@ -18,3 +18,8 @@ is_at place e = e.of.place == place
 
 abbrev pub is_taken : List (Entry Placed) → ℕ → Bool
 is_taken es place = list_any (is_at place) es
+
+-- the place of the frame of a picture, by its number
+abbrev pub place_in : List (Entry Placed) → ℕ → Option ℕ
+place_in [] n = None
+place_in (e ∷ es) n = if e.of.picture == n then Some e.of.place else place_in es n

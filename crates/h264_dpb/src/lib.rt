@@ -19,7 +19,6 @@ mod frame_store;
 pub mod laws;
 mod output;
 mod places;
-mod references;
 mod sink;
 
 pub use buffer::Buffer;
@@ -28,7 +27,6 @@ pub use entry::{Entry, Kind, Picture, Placed, Rectangle};
 pub use format::rectangle_of;
 pub use frame_store::FrameStore;
 pub use output::Output;
-pub use references::places_in;
 pub use sink::FrameOut;
 
 #[cfg(test)]

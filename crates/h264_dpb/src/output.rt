@@ -9,11 +9,10 @@ ghost use Rattle.h264_dpb.specs.Kept.{waiting_in, kind_of, placed_at};
 
 use crate::ended::Ended;
 use crate::format::whole;
-use crate::references::places_in;
+use crate::places::place_at;
 use crate::{Buffer, Entry, FrameOut, FrameStore, Kind, Picture, Placed};
 use arrayvec::ArrayVec;
 use h264_base::Stop;
-use h264_lists::RefSlot;
 use h264_marking::{Held, ReferenceFrame};
 
 /// The decoded picture buffer of a stream.
@@ -98,14 +97,14 @@ fn missing(held: &[Option<u64>]) -> Picture<'_>
 }
 
 impl Output {
-    ghost use Rattle.std.specs.Prelude.{◌≡◌, ℕ, ◌+◌, ◌-◌, ◌*◌, ◌<◌, ◌≤◌, ◌^◌, Bool, true, false, IsTrue, not, is_some, length, [], OnOk, IfOk, IfSome, if◌then◌else◌};
+    ghost use Rattle.std.specs.Prelude.{◌≡◌, ℕ, ◌+◌, ◌-◌, ◌*◌, ◌<◌, ◌≤◌, ◌^◌, Bool, true, false, IsTrue, not, is_some, length, [], Some, OnOk, IfOk, IfSome, if◌then◌else◌};
     ghost use Rattle.h264_plane.specs.declared.frame.Frame.{Frame};
     ghost use Rattle.h264_dpb.specs.Bumping.{flushed, is_held, missing_in};
     ghost use Rattle.h264_dpb.specs.Buffered.{Buffered, AreReady, Steps, HasRoomBy, IsShownBy, StaysWithin, stored_by, missing_by};
     ghost use Rattle.h264_dpb.specs.Shown.{is_shown};
     ghost use Rattle.h264_dpb.specs.Writing.{Writes};
     ghost use Rattle.h264_dpb.specs.Turns.{Shown, no_buffer, names, empties, flush_turn, way_turn, store_turn, missing_turn, last_turn};
-    ghost use Rattle.h264_dpb.specs.Kept.{KeepsBuffer, HasFrames, IsOrdered, IsReady, IsEmpty, IsAtPlace, is_free, size_of, placed_at, shown_calls, waiting_in};
+    ghost use Rattle.h264_dpb.specs.Kept.{KeepsBuffer, HasFrames, IsOrdered, IsReady, IsEmpty, IsAtPlace, is_free, place_of, size_of, placed_at, shown_calls, waiting_in};
 
     /// Before the first picture.
     pub fn new() -> Output
@@ -127,9 +126,14 @@ impl Output {
         self.frames
     }
 
-    /// The places of the pictures in a reference list, by refIdxL0; 0 where there is no picture.
-    pub fn places(&self, list: &[RefSlot]) -> [u8; 16] {
-        places_in(self.buffer.entries(), list)
+    /// The place of the picture with this number, if its frame is in the buffer.
+    pub fn place_of(&self, picture: u64) -> Option<usize>
+        ensures value { result ≡ place_of self.now picture }
+        ensures frames { (frames : ℕ → Frame) (lent : _) → HasFrames frames lent self.now → IfSome result (λ place. lent place ≡ Some (frames picture)) }
+        ensures early { (next : ℕ) → IsOrdered next self.now → IfSome result (λ place. picture < next) }
+        ensures taken { IfSome result (λ place. is_free place self.now ≡ true) }
+    {
+        place_at(self.buffer.entries(), picture)
     }
 
     /// The first of `count` places from `first` on at which no frame stands, if there is one.

@@ -1,5 +1,5 @@
 ghost use Rattle.std.specs.Prelude.{◌≡◌, ◌+◌, ◌<◌, ◌≤◌, ◌^◌, false, length, IsTrue, is_some, IfSome};
-ghost use Rattle.h264_dpb.specs.Numbered.{is_at as is_at_place, is_taken};
+ghost use Rattle.h264_dpb.specs.Numbered.{is_at as is_at_place, is_taken, place_in};
 
 use crate::entry::{Entry, Placed};
 
@@ -26,6 +26,18 @@ pub(crate) fn free_place(entries: &[Entry<Placed>], first: usize, count: usize) 
     for place in first..first + count {
         if !is_taken(entries, place) {
             return Some(place);
+        }
+    }
+    None
+}
+
+/// The place of the frame of the picture with this number, if it is one of these.
+pub(crate) fn place_at(entries: &[Entry<Placed>], picture: u64) -> Option<usize>
+    ensures { result ≡ place_in entries.now picture }
+{
+    for entry in entries {
+        if entry.of.picture == picture {
+            return Some(entry.of.place);
         }
     }
     None

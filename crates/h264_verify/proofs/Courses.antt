@@ -1,13 +1,13 @@
 -- The course of a unit, and the same step by step.
-use Rattle.std.proofs.Common.{◌≡◌, ℕ, ◌*◌, Bool, true, false, List, [], ◌∷◌, ◌++◌, map, length, Result, Ok, Err, refl, ap, sym, ◌∙◌, subst, append_assoc, ◌==◌, if◌then◌else◌}
+use Rattle.std.proofs.Common.{◌≡◌, ℕ, ◌*◌, Bool, true, false, List, [], ◌∷◌, ◌++◌, map, length, Result, Ok, Err, refl, ap, sym, ◌∙◌, subst, append_assoc, ◌==◌, ◌≤◌, arith, if◌then◌else◌}
 use Rattle.std.proofs.lemmas.List.{append-nil}
 use Rattle.h264_base.specs.declared.mode.Mode.{Mode}
 use Rattle.h264_base.specs.declared.mode.Mode.TheVariants as modes
 use Rattle.h264_base.specs.declared.stop.Stop.{Stop}
-use Rattle.h264_base.specs.Call.{Call}
+use Rattle.h264_verify.specs.Telling.{Told, Said, said_of, AreOf}
 use Rattle.h264_base.specs.Body.{Body}
 use Rattle.h264_base.specs.Grammar.{Grammar, ◌>>=◌ as ◌bind◌, Done, Element}
-use Rattle.h264_base.specs.Run.{Run, run, call_of}
+use Rattle.h264_base.specs.Run.{Run, run}
 use Rattle.h264_base.proofs.Steps.{then_run, run-bind}
 use Rattle.h264_units.specs.Stream.{NalUnit}
 use Rattle.h264_rbsp.specs.Emulation.{emulation_checked}
@@ -22,21 +22,28 @@ use Rattle.h264_header.specs.Header.{header}
 use Rattle.h264_verify.specs.Content.{Content}
 use Rattle.h264_verify.specs.Content as contents
 use Rattle.h264_verify.specs.Outcome.{Outcome, ◌>>=◌, with_calls, goes_on, answers, gives, tells, value_of, structure_outcome, Plays}
-use Rattle.h264_verify.specs.Steps.{needs}
+use Rattle.h264_verify.specs.Steps.{Step, needs}
 use Rattle.h264_verify.specs.UnitHeader.{header_of, nal_unit_type, header_demands}
 use Rattle.h264_verify.specs.History.{History, maps_of}
-use Rattle.h264_verify.specs.Pictures.{whole_at, closing_at}
-use Rattle.h264_verify.specs.Units.{unit_call, is_slice, slice_unit, other_content, content, content_steps, data_course, content_course}
-use Rattle.h264_verify.specs.UnitOutcome.{steps_outcome, structure_from, course_outcome, sps_outcome, pps_outcome, slice_outcome, header_content, whole_slice, joined, joined_on, joined_other, joined_by, unit_by_steps, unit_outcome}
-use Rattle.h264_verify.proofs.Stepping.{outcome, needs-judged}
+use Rattle.h264_verify.specs.Pictures.{CodedPicture, goes_on as may_go_on, runs_of, closing_at, closing_demands}
+use Rattle.h264_verify.specs.Buffering.{closing_frames, last_frames}
+use Rattle.h264_verify.specs.Keeping.{ended_pictures}
+use Rattle.h264_verify.specs.Closing.{whole_at, whole_steps}
+use Rattle.h264_verify.specs.Demands.{judged}
+use Rattle.h264_verify.specs.declared.judge.Summary.{Summary}
+use Rattle.h264_verify.specs.Units.{unit_call, is_slice, slice_unit, other_content, content, content_steps, data_course, content_course, frames_at, end_steps, picture_demand, summary_of}
+use Rattle.h264_verify.specs.UnitOutcome.{steps_outcome, structure_from, course_outcome, sps_outcome, pps_outcome, slice_outcome, header_content, whole_slice, joined, joined_on, joined_other, joined_by, unit_by_steps, unit_outcome, end_outcome}
+use Rattle.h264_verify.proofs.Stepping.{outcome, needs-judged, steps-append, closing-then}
+use Rattle.h264_verify.proofs.Playing.{plays-on, plays-stops, gives-plays}
+use Rattle.h264_verify.proofs.Growing.{closing-of}
 
 -- one part after another, in either bracketing
-bind-calls : {A B : Type 0} (calls : List Call) (o : Outcome A) (g : A → Outcome B) → (with_calls calls o >>= g) ≡ with_calls calls (o >>= g)
+bind-calls : {A B : Type 0} (calls : List Told) (o : Outcome A) (g : A → Outcome B) → (with_calls calls o >>= g) ≡ with_calls calls (o >>= g)
 unfolding ◌>>=◌
 bind-calls {A} {B} calls o g = by o.calls o.answer
   where
-    by : (later : List Call) (a : Result A Stop) → goes_on (calls ++ later) g a ≡ with_calls calls (goes_on later g a)
-    by later (Ok y) = ap (λ (l : List Call). outcome l (g y).answer) (append_assoc calls later (g y).calls)
+    by : (later : List Told) (a : Result A Stop) → goes_on (calls ++ later) g a ≡ with_calls calls (goes_on later g a)
+    by later (Ok y) = ap (λ (l : List Told). outcome l (g y).answer) (append_assoc calls later (g y).calls)
     by later (Err e) = refl
 
 pub bind-assoc : {A B C : Type 0} (o : Outcome A) (f : A → Outcome B) (g : B → Outcome C) → ((o >>= f) >>= g) ≡ (o >>= λ x. f x >>= g)
@@ -62,24 +69,24 @@ seen f (Ok x) = Ok (f x.0, x.1)
 seen f (Err e) = Err e
 
 module _ {A B : Type 0} (body : Body) (f : A → B) where
-  as-seen : (es : List Element) (a : Result (A × ℕ) Stop) → (let r : Run B = then_run (record { elements = es; answer = a }) (λ x j. run (Done (f x)) body j) in outcome (map (call_of body) r.elements) r.answer ≡ outcome (map (call_of body) es) (seen f a))
+  as-seen : (es : List Element) (a : Result (A × ℕ) Stop) → (let r : Run B = then_run (record { elements = es; answer = a }) (λ x j. run (Done (f x)) body j) in outcome (map (said_of body) r.elements) r.answer ≡ outcome (map (said_of body) es) (seen f a))
   unfolding run
-  as-seen es (Ok x) = ap (λ (l : List Element). outcome (map (call_of body) l) (let r : Result (B × ℕ) Stop = Ok (f x.0, x.1) in r)) (append-nil es)
+  as-seen es (Ok x) = ap (λ (l : List Element). outcome (map (said_of body) l) (let r : Result (B × ℕ) Stop = Ok (f x.0, x.1) in r)) (append-nil es)
   as-seen es (Err e) = refl
 
   pub structure-seen : (g : Grammar A) (i : ℕ) → structure_from (◌bind◌ g (λ x. Done (f x))) body i ≡ outcome (structure_from g body i).calls (seen f (structure_from g body i).answer)
-  structure-seen g i = ap (λ (r : Run B). outcome (map (call_of body) r.elements) r.answer) (run-bind g (λ x. Done (f x)) body i) ∙ as-seen (run g body i).elements (run g body i).answer
+  structure-seen g i = ap (λ (r : Run B). outcome (map (said_of body) r.elements) r.answer) (run-bind g (λ x. Done (f x)) body i) ∙ as-seen (run g body i).elements (run g body i).answer
 
 -- what was read is judged, and nothing is read behind it
 module _ {A : Type 0} (mode : Mode) (before : History) (unit : NalUnit) (f : A → Content) (none : (x : A) (bit : ℕ) → course_outcome (body_of unit) (data_course mode before unit (f x) bit) ≡ gives (f x)) where
   abbrev one_more : Content → History
   one_more found = record { unit = unit; content = found } ∷ before
 
-  plain-by : (told : List Call) (a : Result (A × ℕ) Stop) → joined_on mode before unit (outcome told (seen f a)) ≡ joined mode before unit (outcome told (value_of a) >>= λ x. gives (f x))
+  plain-by : (told : List Told) (a : Result (A × ℕ) Stop) → joined_on mode before unit (outcome told (seen f a)) ≡ joined mode before unit (outcome told (value_of a) >>= λ x. gives (f x))
   unfolding ◌>>=◌
   plain-by told (Ok x) =
       ap (λ (o : Outcome Content). with_calls told (steps_outcome (content_steps mode before unit (f x.0)) >>= λ _. o >>= λ found. gives (one_more found))) (none x.0 x.1)
-      ∙ ap (λ (l : List Call). with_calls l (steps_outcome (content_steps mode before unit (f x.0)) >>= λ _. gives (one_more (f x.0)))) (sym (append-nil told))
+      ∙ ap (λ (l : List Told). with_calls l (steps_outcome (content_steps mode before unit (f x.0)) >>= λ _. gives (one_more (f x.0)))) (sym (append-nil told))
   plain-by told (Err e) = refl
 
   plain : (g : Grammar A) → joined_on mode before unit (structure_from (◌bind◌ g (λ x. Done (f x))) (body_of unit) 0) ≡ joined mode before unit (structure_outcome g (body_of unit) >>= λ x. gives (f x))
@@ -158,9 +165,9 @@ module _ (before : History) (unit : NalUnit) where
 pub by-steps : (mode : Mode) (before : History) (unit : NalUnit) → unit_outcome mode before unit ≡ unit_by_steps mode before unit
 unfolding unit_outcome unit_by_steps course_outcome
 by-steps mode before unit =
-    let call = unit_call unit.from (header_of unit) (length unit.body) in
+    let call = Said (unit_call unit.from (header_of unit) (length unit.body)) in
     let hs = header_demands (8 * unit.from) (header_of unit) in
-    let cs = whole_at mode (nal_unit_type (header_of unit)) before ++ needs (closing_at (nal_unit_type (header_of unit)) before) in
+    let cs = whole_at mode (nal_unit_type (header_of unit)) before ++ (needs (closing_at (nal_unit_type (header_of unit)) before) ++ frames_at mode (nal_unit_type (header_of unit)) before) in
     let o = course_outcome (body_of unit) (content_course mode before unit) in
     let join : Content → Outcome History = λ found. gives (record { unit = unit; content = found } ∷ before) in
     ap (λ (q : Outcome History). answers (emulation_checked unit.from unit.body) >>= λ _. q)
@@ -168,5 +175,50 @@ by-steps mode before unit =
     ∙ ap (λ (q : Outcome History). steps_outcome (needs hs) >>= λ _. q) (bind-assoc (tells call) (λ _. steps_outcome cs >>= λ _. o) join ∙ ap (λ (q : Outcome History). tells call >>= λ _. q) (bind-assoc (steps_outcome cs) (λ _. o) join ∙ ap (λ (q : Outcome History). steps_outcome cs >>= λ _. q) (content-joined before unit mode)))
     ∙ ap (λ (q : Outcome (Unit {0})). q >>= λ _. tells call >>= λ _. steps_outcome cs >>= λ _. joined_by mode (nal_unit_type (header_of unit)) before unit) (needs-judged hs))
 
-pub plays-course : {S X : Type 0} (took : S → List Call → Type 0) (failures : S → ℕ) (view : X → History) (mode : Mode) (before : History) (unit : NalUnit) (s s' : S) (r : Result X Stop) → Plays took failures view (unit_by_steps mode before unit) s s' r → Plays took failures view (unit_outcome mode before unit) s s' r
+pub plays-course : {S X : Type 0} (took : S → List Told → Type 0) (failures : S → ℕ) (view : X → History) (mode : Mode) (before : History) (unit : NalUnit) (s s' : S) (r : Result X Stop) → Plays took failures view (unit_by_steps mode before unit) s s' r → Plays took failures view (unit_outcome mode before unit) s s' r
 plays-course took failures view mode before unit s s' r p = subst (λ o. Plays took failures view o s s' r) (sym (by-steps mode before unit)) p
+
+-- the same outcome
+pub plays-as : {A S X : Type 0} (took : S → List Told → Type 0) (failures : S → ℕ) (view : X → A) (o p : Outcome A) (s s' : S) (r : Result X Stop) → o ≡ p → Plays took failures view p s s' r → Plays took failures view o s s' r
+plays-as took failures view o p s s' r e k = subst (λ q. Plays took failures view q s s' r) (sym e) k
+
+-- no fewer pictures have ended once the newest has
+pub ended-grows : (on ends : Bool) (pictures : List CodedPicture) → length (ended_pictures on false pictures) ≤ length (ended_pictures on ends pictures)
+ended-grows on ends [] = omega arith
+ended-grows true true (p ∷ ps) = omega arith
+ended-grows true false (p ∷ ps) = omega arith
+ended-grows false ends (p ∷ ps) = omega arith
+
+-- what the end of a picture tells, if it ends
+pub ending-of : (ends : Bool) (mode : Mode) (before : History) → AreOf (length (ended_pictures (may_go_on before) ends (runs_of before))) (steps_outcome (if ends then closing_frames mode before else [])).calls
+ending-of true mode before = closing-of mode before
+ending-of false mode before = tt
+
+-- The end of the input, part by part.
+module _ {S : Type 0} (took : S → List Told → Type 0) (failures : S → ℕ) (mode : Mode) (before : History) (bit : ℕ) (x y : Unit {0}) (whole : answers (Ok x) ≡ steps_outcome (whole_steps mode before)) (closed : let r : Result (Unit {0}) Stop = Ok y in r ≡ judged (closing_demands before)) where
+  abbrev behind_last : List Step
+  behind_last = needs (picture_demand mode before bit ∷ []) ++ last_frames mode (runs_of before)
+
+  end-is : steps_outcome (end_steps mode before bit) ≡ (steps_outcome (closing_frames mode before) >>= λ _. steps_outcome behind_last)
+  end-is = closing-then (whole_steps mode before) (closing_demands before) (closing_frames mode before ++ behind_last) x y whole closed ∙ steps-append (closing_frames mode before) behind_last
+
+  -- it stops while the last picture ends
+  pub end-stops : (s s' : S) (e : Stop) → Plays {X = Unit {0}} took failures (λ u. u) (steps_outcome (closing_frames mode before)) s s' (Err e) → Plays {X = Summary} took failures (λ u. u) (end_outcome mode before bit) s s' (Err e)
+  unfolding end_outcome
+  end-stops s s' e p = plays-stops {X = Unit {0}} took failures (λ u. u) (λ u. u) (steps_outcome (end_steps mode before bit)) _ s s' e (plays-as took failures (λ u. u) _ _ s s' (Err e) end-is (plays-stops took failures (λ u. u) (λ u. u) (steps_outcome (closing_frames mode before)) _ s s' e p))
+
+  module _ (s s1 s2 : S) (z : Unit {0}) (ended : Plays took failures (λ (u : Unit {0}). u) (steps_outcome (closing_frames mode before)) s s1 (Ok z)) where
+    end-steps : (r : Result (Unit {0}) Stop) → Plays took failures (λ u. u) (steps_outcome behind_last) s1 s2 r → Plays took failures (λ u. u) (steps_outcome (end_steps mode before bit)) s s2 r
+    end-steps r p = plays-as took failures (λ u. u) _ _ s s2 r end-is (plays-on took failures (λ u. u) (λ u. u) (steps_outcome (closing_frames mode before)) (λ _. steps_outcome behind_last) s s1 s2 z r ended p)
+
+    -- it stops behind that
+    pub end-broken : (e : Stop) → Plays {X = Unit {0}} took failures (λ u. u) (steps_outcome behind_last) s1 s2 (Err e) → Plays {X = Summary} took failures (λ u. u) (end_outcome mode before bit) s s2 (Err e)
+    unfolding end_outcome
+    end-broken e p = plays-stops {X = Unit {0}} took failures (λ u. u) (λ u. u) (steps_outcome (end_steps mode before bit)) _ s s2 e (end-steps (Err e) p)
+
+    -- all rules are met
+    pub end-gives : (v : Unit {0}) (summary : Summary) → Plays took failures (λ (u : Unit {0}). u) (steps_outcome behind_last) s1 s2 (Ok v) → summary ≡ summary_of mode before → Plays took failures (λ u. u) (end_outcome mode before bit) s s2 (Ok summary)
+    unfolding end_outcome
+    end-gives v summary p e =
+        subst (λ (w : Summary). Plays took failures (λ u. u) (end_outcome mode before bit) s s2 (Ok w)) (sym e)
+        (plays-on took failures (λ (u : Unit {0}). u) (λ u. u) (steps_outcome (end_steps mode before bit)) (λ _. gives (summary_of mode before)) s s2 s2 v (Ok (summary_of mode before)) (end-steps (Ok v) p) (gives-plays took failures (λ u. u) (summary_of mode before) s2))

@@ -18,7 +18,9 @@ use Rattle.h264_verify.specs.UnitHeader.{header_of, nal_unit_type}
 use Rattle.h264_verify.specs.History.{History, maps_of}
 use Rattle.h264_base.specs.declared.mode.Mode.{Mode}
 use Rattle.h264_near.specs.Coded.{CodedMacroblock}
-use Rattle.h264_verify.specs.Keeping.{EndsAt, HoldsOpen, IsLeft, Keeps, KeepsWithin, KeepsPictures, KeepsSlices, Entered, held_by, begins_by}
+use Rattle.h264_plane.specs.declared.frame.Frame.{Frame}
+use Rattle.h264_verify.specs.declared.decoder.Decoder.{Decoder}
+use Rattle.h264_verify.specs.Keeping.{KeepsDecoder, EndsAt, HoldsEnd, HoldsOpen, IsLeft, Keeps, KeepsWithin, KeepsPictures, KeepsSlices, Entered, held_by, begins_by}
 use Rattle.h264_verify.specs.Pictures.{CodedSlice, CodedPicture, with_sets, goes_on, open_of, begins_after, begins_at, joined_to, joined_by, runs_of, ends_picture, bit_behind, counted}
 use Rattle.h264_verify.specs.Slices.{idr_id, is_idr_due, newest_idr_of}
 
@@ -44,6 +46,11 @@ left-open true on [] old new h e = rw e tt
 left-open true on (p ∷ ps) old new h e = rw e tt
 left-open false on pictures old new h e = rw e h
 
+left-end : (ends : Bool) (pictures : List CodedPicture) (old new : Option OpenPicture) → HoldsEnd pictures old → IsLeft ends old new → HoldsEnd pictures new
+left-end ends [] old new h e = tt
+left-end true (p ∷ ps) old new h e = rw e tt
+left-end false (p ∷ ps) old new h e = rw e h
+
 left-held : (ends on : Bool) (pictures : List CodedPicture) → held_by ends on pictures ≡ held_by false (not ends && on) pictures
 left-held true true pictures = refl
 left-held true false pictures = refl
@@ -56,6 +63,7 @@ module _ (before : History) (unit : NalUnit) (kind : ℕ) (old new : Slices) (n 
   kept : KeepsPictures (not (ends_picture (nal_unit_type (header_of unit))) && goes_on before) false (runs_of before) new
   kept = record {
     picture = subst (λ x. HoldsOpen (open_of (not (ends_picture x) && goes_on before) (runs_of before)) new.picture) n (left-open (ends_picture kind) (goes_on before) (runs_of before) old.picture new.picture keeps.kept.picture left);
+    end = left-end (ends_picture kind) (runs_of before) old.picture new.picture keeps.kept.end left;
     newest_idr = ap (λ (s : Slices). s.newest_idr) same ∙ keeps.kept.newest_idr;
     counts = subst (λ (s : Slices). KeepsCounts (map counted (runs_of before)) s.counts) (sym same) keeps.kept.counts;
     count = ap (λ (s : Slices). s.count) same ∙ keeps.kept.count;
@@ -70,6 +78,16 @@ module _ (before : History) (unit : NalUnit) (kind : ℕ) (old new : Slices) (n 
   passed-keeps (contents.OfPps set) h = record { due = is-due; kept = kept }
   passed-keeps (contents.OfSlice h macroblocks) k = absurd k
   passed-keeps contents.Passed h = record { due = is-due; kept = kept }
+
+-- a slice that goes on changes nothing of the end of its picture
+pub end-on : (begins : Bool) (slice : CodedSlice) (pictures : List CodedPicture) (old new : Option OpenPicture) (o p : OpenPicture) → begins ≡ false → HoldsEnd pictures old → old ≡ Some o → new ≡ Some p → p.ended ≡ o.ended → HoldsEnd (joined_to begins slice pictures) new
+end-on true slice pictures old new o p b h e n k = cc
+end-on false slice [] old new o p b h e n k = tt
+end-on false slice (q ∷ qs) old new o p b h e n k = rw n (k ∙ subst (HoldsEnd (q ∷ qs)) e h)
+
+pub end-begun : (begins : Bool) (slice : CodedSlice) (pictures : List CodedPicture) (new : Option OpenPicture) → begins ≡ true → HoldsEnd (record { first = slice; later = [] } ∷ pictures) new → HoldsEnd (joined_to begins slice pictures) new
+end-begun true slice pictures new b h = h
+end-begun false slice pictures new b h = cc
 
 -- What a slice leaves: a later slice of a picture changes none of counts, marking and numbers.
 module _ (before : History) (unit : NalUnit) (h : Header) (ms : List CodedMacroblock) (maps : Maps) (old new : Slices) (begins : Bool) (sets : Pps × Sps) (b : begins ≡ begins_at before h) (maps-are : maps ≡ maps_of before) (named : sets_of maps h.pic_parameter_set_id.value ≡ Some sets) (entered : Entered before begins (with_sets unit h ms sets) old) where
@@ -99,11 +117,12 @@ module _ (before : History) (unit : NalUnit) (h : Header) (ms : List CodedMacrob
   one-more false [] = refl
   one-more false (p ∷ ps) = refl
 
-  pub slice-keeps : HoldsOpen (open_of true pictures) new.picture → new.due ≡ false → new.newest_idr ≡ (if begins then idr_id h.idr_pic_id else old.newest_idr) → new.pictures ≡ (if begins then old.pictures + 1 else old.pictures) → new.behind ≡ bit_behind unit → new ≡ record old { picture = new.picture; newest_idr = new.newest_idr; pictures = new.pictures; due = new.due; behind = new.behind } → KeepsSlices (record { unit = unit; content = contents.OfSlice h ms } ∷ before) false new
-  slice-keeps picture due id n bit same = record {
+  pub slice-keeps : HoldsOpen (open_of true pictures) new.picture → HoldsEnd pictures new.picture → new.due ≡ false → new.newest_idr ≡ (if begins then idr_id h.idr_pic_id else old.newest_idr) → new.pictures ≡ (if begins then old.pictures + 1 else old.pictures) → new.behind ≡ bit_behind unit → new ≡ record old { picture = new.picture; newest_idr = new.newest_idr; pictures = new.pictures; due = new.due; behind = new.behind } → KeepsSlices (record { unit = unit; content = contents.OfSlice h ms } ∷ before) false new
+  slice-keeps picture end due id n bit same = record {
     due = due;
     kept = subst (λ ps. KeepsPictures true false ps new) runs-are (record {
       picture = picture;
+      end = end;
       newest_idr = id ∙ ap (λ x. if begins then idr_id h.idr_pic_id else x) entered.newest_idr ∙ newest begins (runs_of before);
       counts = subst (λ (s : Slices). KeepsCounts (map counted pictures) s.counts) (sym same) entered.counts;
       count = ap (λ (s : Slices). s.count) same ∙ entered.count;
@@ -115,5 +134,5 @@ module _ (before : History) (unit : NalUnit) (h : Header) (ms : List CodedMacrob
   }
 
 -- the rest of what is kept stays
-pub within : {mode : Mode} {before : History} {ended : Bool} (state : State) (slices : Slices) → Keeps mode before state → KeepsSlices before ended slices → KeepsWithin mode before ended (record state { slices = slices })
-within state slices k s = record { units = k.units; sets = k.sets; slices = s; work = k.work }
+pub within : {mode : Mode} {frames made : ℕ → Frame} {before : History} {ended : Bool} (state : State) (slices : Slices) (decoder : Decoder) → Keeps mode frames before state → KeepsSlices before ended slices → KeepsDecoder mode made (goes_on before) ended (runs_of before) decoder → KeepsWithin mode made before ended (record state { slices = slices; decoder = decoder })
+within state slices decoder k s d = record { units = k.units; sets = k.sets; slices = s; decoder = d }

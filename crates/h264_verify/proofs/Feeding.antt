@@ -3,7 +3,7 @@ use Rattle.std.proofs.Common.{◌≡◌, ℕ, ◌+◌, ◌*◌, IsFalse, List, [
 use Rattle.std.proofs.lemmas.List.{append-nil, take-append-drop}
 use Rattle.h264_base.specs.declared.stop.Stop.{Stop}
 use Rattle.h264_base.specs.declared.stop.Stop.TheVariants.{No, Outside, Memory, Read, Write}
-use Rattle.h264_base.specs.Call.{Call, Tells, TellsFront}
+use Rattle.h264_verify.specs.Telling.{Told, Tells, TellsFront}
 use Rattle.h264_units.specs.Stream.{NalUnit, Next, past, Tail, HasTail, Splits, tail_stop}
 use Rattle.h264_units.specs.Splitting.{Splitting, Refused, Pushed, PushStops, Taken}
 use Rattle.h264_units.proofs.Streams.{same-units, same-first, first-length, first-not-tail, splits-after}
@@ -17,7 +17,7 @@ use Rattle.h264_verify.proofs.Ways.{way-none, way-push, way-unit, way-both}
 pub comes-along : {State Summary : Type 0} (j : Judging State Summary) (at : ℕ) (s : State) (a b : List ℕ) (o : Outcome Summary) → a ≡ b → Comes j at s a o → Comes j at s b o
 comes-along j at s a b o e c = subst (λ l. Comes j at s l o) e c
 
-pub goes-push : {State Summary : Type 0} (j : Judging State Summary) {S : Type 0} (took : S → List Call → Type 0) (old new : Splitting) (state : State) (piece : List ℕ) (n : ℕ) (s : S) → Pushed old new piece n → Goes j took (record { split = old; state = state }) (record { split = new; state = state }) piece (drop n piece) s s
+unfoldable pub goes-push : {State Summary : Type 0} (j : Judging State Summary) {S : Type 0} (took : S → List Told → Type 0) (old new : Splitting) (state : State) (piece : List ℕ) (n : ℕ) (s : S) → Pushed old new piece n → Goes j took (record { split = old; state = state }) (record { split = new; state = state }) piece (drop n piece) s s
 goes-push j took old new state piece n s p = record {
   calls = [];
   tells = tells-none took s;
@@ -41,7 +41,7 @@ tail-answer j at state bytes tail o h c =
     let same = same-units at bytes c.units [] c.tail tail c.splits h in
     c.is ∙ ap (λ us. units_outcome j state us c.tail (at + length bytes)) same.units_are ∙ ap (λ t. tail_outcome j state t (at + length bytes)) same.tail_is
 
-pub refused-ends : {State Summary : Type 0} (j : Judging State Summary) {S : Type 0} (took : S → List Call → Type 0) (old : Splitting) (state : State) (piece : List ℕ) (s : S) (stop : Stop) → Refused old.at (old.rest ++ piece) stop → Ends j took (record { split = old; state = state }) piece s s stop
+pub refused-ends : {State Summary : Type 0} (j : Judging State Summary) {S : Type 0} (took : S → List Told → Type 0) (old : Splitting) (state : State) (piece : List ℕ) (s : S) (stop : Stop) → Refused old.at (old.rest ++ piece) stop → Ends j took (record { split = old; state = state }) piece s s stop
 refused-ends j took old state piece s stop r = record {
   calls = [];
   tells = tells-none took s;
@@ -50,7 +50,7 @@ refused-ends j took old state piece s stop r = record {
       ∙ tail-stops j state r.tail stop _ r.stop_is;
 }
 
-pub stops-push : {State Summary : Type 0} (j : Judging State Summary) {S : Type 0} (took : S → List Call → Type 0) (failures : S → ℕ) (old new : Splitting) (state : State) (piece : List ℕ) (s : S) (stop : Stop) → PushStops old new piece stop → Stops j took failures (record { split = old; state = state }) piece s s stop
+pub stops-push : {State Summary : Type 0} (j : Judging State Summary) {S : Type 0} (took : S → List Told → Type 0) (failures : S → ℕ) (old new : Splitting) (state : State) (piece : List ℕ) (s : S) (stop : Stop) → PushStops old new piece stop → Stops j took failures (record { split = old; state = state }) piece s s stop
 stops-push j took failures old new state piece s (No bit rule) p = record { stops = (refused-ends j took old state piece s (No bit rule) p.0, refl) }
 stops-push j took failures old new state piece s (Outside bit feature) p = record { stops = (refused-ends j took old state piece s (Outside bit feature) p.0, refl) }
 stops-push j took failures old new state piece s Memory p = record { stops = (record { calls = []; tells = tells-none took s; after = λ more o c. (o.calls, refl) }, refl) }
@@ -84,7 +84,7 @@ pub taken-judged : {State Summary : Type 0} (j : Judging State Summary) (old new
 taken-judged j old new state unit more o t live c = first-judged j old.at state (old.rest ++ more) unit (new.rest ++ more) o (t.decided live more) c
 
 -- a unit was judged, and the input goes on
-pub goes-unit : {State Summary : Type 0} (j : Judging State Summary) {S X : Type 0} (took : S → List Call → Type 0) (failures : S → ℕ) (view : X → State) (old new : Splitting) (state : State) (unit : NalUnit) (left : List ℕ) (s s' : S) (x : X) → Taken old new unit → IsFalse old.ended → Plays took failures view (j.unit state unit) s s' (Ok x) → Goes j took (record { split = old; state = state }) (record { split = new; state = view x }) left left s s'
+unfoldable pub goes-unit : {State Summary : Type 0} (j : Judging State Summary) {S X : Type 0} (took : S → List Told → Type 0) (failures : S → ℕ) (view : X → State) (old new : Splitting) (state : State) (unit : NalUnit) (left : List ℕ) (s s' : S) (x : X) → Taken old new unit → IsFalse old.ended → Plays took failures view (j.unit state unit) s s' (Ok x) → Goes j took (record { split = old; state = state }) (record { split = new; state = view x }) left left s s'
 unfolding ◌>>=◌
 goes-unit j took failures view old new state unit left s s' x t live p = record {
   calls = (j.unit state unit).calls;
@@ -98,7 +98,7 @@ goes-unit j took failures view old new state unit left s s' x t live p = record 
       );
 }
 
-begins : {A B : Type 0} (next : A → Outcome B) (calls : List Call) (answer : Result A Stop) → (rest : List Call) × ((goes_on calls next answer).calls ≡ calls ++ rest)
+begins : {A B : Type 0} (next : A → Outcome B) (calls : List Told) (answer : Result A Stop) → (rest : List Told) × ((goes_on calls next answer).calls ≡ calls ++ rest)
 begins next calls (Ok x) = ((next x).calls, refl)
 begins next calls (Err e) = ([], sym (append-nil calls))
 
@@ -113,7 +113,7 @@ unit-first j old new state unit more o t live c =
     record { next = λ s. units_outcome j s f.units f.tail (past unit + length (new.rest ++ more)); is = f.is }
 
 -- a unit stopped the session
-pub stops-unit : {State Summary : Type 0} (j : Judging State Summary) {S X : Type 0} (took : S → List Call → Type 0) (failures : S → ℕ) (view : X → State) (old new : Splitting) (state : State) (unit : NalUnit) (left : List ℕ) (s s' : S) (stop : Stop) → Taken old new unit → IsFalse old.ended → Plays {X = X} took failures view (j.unit state unit) s s' (Err stop) → Stops j took failures (record { split = old; state = state }) left s s' stop
+pub stops-unit : {State Summary : Type 0} (j : Judging State Summary) {S X : Type 0} (took : S → List Told → Type 0) (failures : S → ℕ) (view : X → State) (old new : Splitting) (state : State) (unit : NalUnit) (left : List ℕ) (s s' : S) (stop : Stop) → Taken old new unit → IsFalse old.ended → Plays {X = X} took failures view (j.unit state unit) s s' (Err stop) → Stops j took failures (record { split = old; state = state }) left s s' stop
 unfolding ◌>>=◌
 stops-unit {State} {Summary} j {S} {X} took failures view old new state unit left s s' stop t live p = by stop p.plays
   where
@@ -137,10 +137,10 @@ stops-unit {State} {Summary} j {S} {X} took failures view old new state unit lef
     by Read p = absurd p
     by Write p = record { stops = (front p.0, p.1) }
 
-pub with-both : {A : Type 0} (xs ys : List Call) (o : Outcome A) → with_calls (xs ++ ys) o ≡ with_calls xs (with_calls ys o)
-with-both {A} xs ys o = ap (λ (l : List Call). let q : Outcome A = record { calls = l; answer = o.answer } in q) (append_assoc xs ys o.calls)
+pub with-both : {A : Type 0} (xs ys : List Told) (o : Outcome A) → with_calls (xs ++ ys) o ≡ with_calls xs (with_calls ys o)
+with-both {A} xs ys o = ap (λ (l : List Told). let q : Outcome A = record { calls = l; answer = o.answer } in q) (append_assoc xs ys o.calls)
 
-pub goes-both : {State Summary : Type 0} {j : Judging State Summary} {S : Type 0} {took : S → List Call → Type 0} {old mid new : Standing State} {piece left last : List ℕ} {s0 s1 s2 : S} → Goes j took old mid piece left s0 s1 → Goes j took mid new left last s1 s2 → Goes j took old new piece last s0 s2
+unfoldable pub goes-both : {State Summary : Type 0} {j : Judging State Summary} {S : Type 0} {took : S → List Told → Type 0} {old mid new : Standing State} {piece left last : List ℕ} {s0 s1 s2 : S} → Goes j took old mid piece left s0 s1 → Goes j took mid new left last s1 s2 → Goes j took old new piece last s0 s2
 goes-both a b = record {
   calls = a.calls ++ b.calls;
   tells = tells-both a.tells b.tells;
@@ -151,11 +151,11 @@ goes-both a b = record {
       (second.0, second.1, first.2 ∙ ap (with_calls a.calls) second.2 ∙ sym (with-both a.calls b.calls second.0));
 }
 
-pub goes-none : {State Summary : Type 0} (j : Judging State Summary) {S : Type 0} (took : S → List Call → Type 0) (old : Standing State) (piece : List ℕ) (s : S) → Goes j took old old piece piece s s
+unfoldable pub goes-none : {State Summary : Type 0} (j : Judging State Summary) {S : Type 0} (took : S → List Told → Type 0) (old : Standing State) (piece : List ℕ) (s : S) → Goes j took old old piece piece s s
 goes-none j took old piece s = record { calls = []; tells = tells-none took s; way = way-none j old piece; after = λ more o c. (o, c, refl) }
 
 -- the input goes on, and then the session stops
-pub stops-after : {State Summary : Type 0} (j : Judging State Summary) {S : Type 0} (took : S → List Call → Type 0) (failures : S → ℕ) (old mid : Standing State) (piece left : List ℕ) (s0 s1 s2 : S) (stop : Stop) → Goes j took old mid piece left s0 s1 → failures s1 ≡ failures s0 → Stops j took failures mid left s1 s2 stop → Stops j took failures old piece s0 s2 stop
+pub stops-after : {State Summary : Type 0} (j : Judging State Summary) {S : Type 0} (took : S → List Told → Type 0) (failures : S → ℕ) (old mid : Standing State) (piece left : List ℕ) (s0 s1 s2 : S) (stop : Stop) → Goes j took old mid piece left s0 s1 → failures s1 ≡ failures s0 → Stops j took failures mid left s1 s2 stop → Stops j took failures old piece s0 s2 stop
 stops-after {State} {Summary} j {S} took failures old mid piece left s0 s1 s2 stop g k r = by stop r.stops
   where
     ends : (e : Stop) → Ends j took mid left s1 s2 e → Ends j took old piece s0 s2 e
@@ -182,5 +182,5 @@ stops-after {State} {Summary} j {S} took failures old mid piece left s0 s1 s2 st
     by Read p = absurd p
     by Write p = record { stops = (begins p.0, p.1 ∙ ap (λ n. n + 1) k) }
 
-pub goes-none-taken : {State Summary : Type 0} (j : Judging State Summary) {S : Type 0} (took : S → List Call → Type 0) (old mid new : Splitting) (state : State) (piece : List ℕ) (n : ℕ) (s : S) → Pushed old mid piece n → new ≡ mid → Goes j took (record { split = old; state = state }) (record { split = new; state = state }) piece (drop n piece) s s
+unfoldable pub goes-none-taken : {State Summary : Type 0} (j : Judging State Summary) {S : Type 0} (took : S → List Told → Type 0) (old mid new : Splitting) (state : State) (piece : List ℕ) (n : ℕ) (s : S) → Pushed old mid piece n → new ≡ mid → Goes j took (record { split = old; state = state }) (record { split = new; state = state }) piece (drop n piece) s s
 goes-none-taken j took old mid new state piece n s p e = goes-push j took old new state piece n s (subst (λ m. Pushed old m piece n) (sym e) p)

@@ -3,7 +3,7 @@ use Rattle.std.proofs.Common.{◌≡◌, ℕ, ◌+◌, ◌*◌, ◌↔◌, Bool,
 use Rattle.std.proofs.lemmas.List.{append-nil}
 use Rattle.h264_base.specs.declared.stop.Stop.{Stop}
 use Rattle.h264_base.specs.declared.stop.Stop.TheVariants.{No, Outside, Memory, Read, Write}
-use Rattle.h264_base.specs.Call.{Call}
+use Rattle.h264_verify.specs.Telling.{Told}
 use Rattle.h264_units.specs.Stream.{NalUnit, Next, past, Tail, Zeros, Stray, Bare, Long, Cut, HasTail, tail_stop}
 use Rattle.h264_units.specs.Splitting.{Splitting, Taken, Finished, FinishStops}
 use Rattle.h264_units.proofs.Streams.{same-units}
@@ -36,14 +36,14 @@ tail-named (Bare p) Write e = cc
 tail-named (Long p) Write e = cc
 tail-named Cut Write e = cc
 
-pub answers-plays : {X S : Type 0} (took : S → List Call → Type 0) (failures : S → ℕ) (stop : Stop) (s : S) → IsNamed stop → Plays {X = X} took failures (λ (x : X). x) (answers (Err stop)) s s (Err stop)
+pub answers-plays : {X S : Type 0} (took : S → List Told → Type 0) (failures : S → ℕ) (stop : Stop) (s : S) → IsNamed stop → Plays {X = X} took failures (λ (x : X). x) (answers (Err stop)) s s (Err stop)
 answers-plays took failures (No bit rule) s n = record { plays = (refl, tells-none took s, refl) }
 answers-plays took failures (Outside bit feature) s n = record { plays = (refl, tells-none took s, refl) }
 answers-plays took failures Memory s n = absurd n
 answers-plays took failures Read s n = absurd n
 answers-plays took failures Write s n = absurd n
 
-pub finish-stops : {State Summary : Type 0} (j : Judging State Summary) {S : Type 0} (took : S → List Call → Type 0) (failures : S → ℕ) (old new : Splitting) (state : State) (s : S) (stop : Stop) → FinishStops old new stop → Finishes j took failures (record { split = old; state = state }) s s (Err stop)
+pub finish-stops : {State Summary : Type 0} (j : Judging State Summary) {S : Type 0} (took : S → List Told → Type 0) (failures : S → ℕ) (old new : Splitting) (state : State) (s : S) (stop : Stop) → FinishStops old new stop → Finishes j took failures (record { split = old; state = state }) s s (Err stop)
 finish-stops {Summary} j took failures old new state s stop f =
     let p : Plays {X = Summary} took failures (λ (x : Summary). x) (answers (Err stop)) s s (Err stop) = answers-plays took failures stop s (tail-named f.tail stop f.stop_is) in
     record {
@@ -54,7 +54,7 @@ finish-stops {Summary} j took failures old new state s stop f =
       write = plays-write took failures (λ (x : Summary). x) _ s s (Err stop) p;
     }
 
-pub finish-end : {State Summary : Type 0} (j : Judging State Summary) {S : Type 0} (took : S → List Call → Type 0) (failures : S → ℕ) (old mid new : Splitting) (state : State) (s s' : S) (end : ℕ) (r : Result Summary Stop) → Finished old mid → IsFalse mid.waiting → new ≡ mid → end ≡ new.at + length new.rest → Plays took failures (λ (x : Summary). x) (j.end state (8 * end)) s s' r → Finishes j took failures (record { split = old; state = state }) s s' r
+pub finish-end : {State Summary : Type 0} (j : Judging State Summary) {S : Type 0} (took : S → List Told → Type 0) (failures : S → ℕ) (old mid new : Splitting) (state : State) (s s' : S) (end : ℕ) (r : Result Summary Stop) → Finished old mid → IsFalse mid.waiting → new ≡ mid → end ≡ new.at + length new.rest → Plays took failures (λ (x : Summary). x) (j.end state (8 * end)) s s' r → Finishes j took failures (record { split = old; state = state }) s s' r
 finish-end {Summary} j took failures old mid new state s s' end r f w m n p = record {
   finishes = λ o c.
       let e = tail-answer j old.at state old.rest Zeros o (f.zeros w) (nothing-more j (record { split = old; state = state }) o c) in
@@ -77,7 +77,7 @@ last-judged j old mid new state unit o f t c =
 err-same : {X Y : Type 0} (stop other : Stop) → (let r : Result X Stop = Err stop in r ≡ Err other) → (let r : Result Y Stop = Err stop in r ≡ Err other)
 err-same stop other e = let f : stop ≡ other = cc in ap Err f
 
-pub finish-unit-stops : {State Summary : Type 0} (j : Judging State Summary) {S X : Type 0} (took : S → List Call → Type 0) (failures : S → ℕ) (view : X → State) (old mid new : Splitting) (state : State) (unit : NalUnit) (s s' : S) (stop : Stop) → Finished old mid → Taken mid new unit → Plays {X = X} took failures view (j.unit state unit) s s' (Err stop) → Finishes j took failures (record { split = old; state = state }) s s' (Err stop)
+pub finish-unit-stops : {State Summary : Type 0} (j : Judging State Summary) {S X : Type 0} (took : S → List Told → Type 0) (failures : S → ℕ) (view : X → State) (old mid new : Splitting) (state : State) (unit : NalUnit) (s s' : S) (stop : Stop) → Finished old mid → Taken mid new unit → Plays {X = X} took failures view (j.unit state unit) s s' (Err stop) → Finishes j took failures (record { split = old; state = state }) s s' (Err stop)
 finish-unit-stops {Summary} j {X} took failures view old mid new state unit s s' stop f t p = record {
   finishes = λ o c.
       subst (λ r. Plays {X = Summary} took failures (λ (x : Summary). x) r s s' (Err stop)) (sym (last-judged j old mid new state unit o f t c)) (plays-stops took failures view (λ (x : Summary). x) (j.unit state unit) _ s s' stop p);
@@ -85,7 +85,7 @@ finish-unit-stops {Summary} j {X} took failures view old mid new state unit s s'
   write = λ e. plays-write {X = X} took failures view _ s s' (Err stop) p (err-same {X = Summary} {Y = X} stop Write e);
 }
 
-pub finish-unit : {State Summary : Type 0} (j : Judging State Summary) {S X : Type 0} (took : S → List Call → Type 0) (failures : S → ℕ) (view : X → State) (old mid new : Splitting) (state : State) (unit : NalUnit) (s s' s'' : S) (end : ℕ) (x : X) (r : Result Summary Stop) → Finished old mid → Taken mid new unit → Plays took failures view (j.unit state unit) s s' (Ok x) → end ≡ new.at + length new.rest → Plays took failures (λ (x : Summary). x) (j.end (view x) (8 * end)) s' s'' r → Finishes j took failures (record { split = old; state = state }) s s'' r
+pub finish-unit : {State Summary : Type 0} (j : Judging State Summary) {S X : Type 0} (took : S → List Told → Type 0) (failures : S → ℕ) (view : X → State) (old mid new : Splitting) (state : State) (unit : NalUnit) (s s' s'' : S) (end : ℕ) (x : X) (r : Result Summary Stop) → Finished old mid → Taken mid new unit → Plays took failures view (j.unit state unit) s s' (Ok x) → end ≡ new.at + length new.rest → Plays took failures (λ (x : Summary). x) (j.end (view x) (8 * end)) s' s'' r → Finishes j took failures (record { split = old; state = state }) s s'' r
 finish-unit {Summary} j took failures view old mid new state unit s s' s'' end x r f t p n q = record {
   finishes = λ o c.
       subst (λ w. Plays took failures (λ (x : Summary). x) w s s'' r) (sym (last-judged j old mid new state unit o f t c))

@@ -1,11 +1,13 @@
 -- Rules one after another, and the sets of a slice.
-use Rattle.std.proofs.Common.{pos, length, ◌==◌, OnOk, IsTrue, IsFalse, ◌⊎◌, inl, inr, IfNone, ◌≡◌, ℕ, ◌*◌, Bool, true, false, List, [], ◌∷◌, ◌++◌, Option, Some, None, Result, Ok, Err, refl, ap, sym, ◌∙◌, subst, ◌||◌, if◌then◌else◌}
+use Rattle.std.proofs.Common.{pos, length, ◌==◌, OnOk, IsTrue, IsFalse, ◌⊎◌, inl, inr, IfNone, ◌≡◌, ℕ, ◌*◌, Bool, true, false, List, [], ◌∷◌, ◌++◌, Option, Some, None, Result, Ok, Err, refl, ap, sym, ◌∙◌, subst, append_assoc, ◌||◌, if◌then◌else◌}
 use Rattle.std.proofs.lemmas.Bool.{eqb-true}
 use Rattle.std.specs.Option.{is_some, option_map}
 use Rattle.h264_base.specs.declared.rule.Rule.TheVariants.{SetChanged}
 use Rattle.h264_base.specs.declared.stop.Stop.{Stop}
 use Rattle.h264_base.specs.declared.stop.Stop.TheVariants.{No}
-use Rattle.h264_base.specs.Call.{Call}
+use Rattle.h264_verify.specs.Telling.{Told, Said}
+use Rattle.h264_verify.specs.Closing.{whole_steps}
+use Rattle.h264_verify.specs.Buffering.{closing_frames}
 use Rattle.h264_units.specs.Stream.{NalUnit}
 use Rattle.h264_sps.specs.declared.sps.Sps.{Sps}
 use Rattle.h264_pps.specs.declared.Pps.{Pps}
@@ -24,18 +26,17 @@ use Rattle.h264_lists.specs.Initial.{list_places, initial}
 use Rattle.h264_lists.specs.Modified.{modified}
 use Rattle.h264_lists.specs.Built.{built}
 use Rattle.h264_base.specs.declared.mode.Mode.{Mode}
-use Rattle.h264_base.specs.declared.mode.Mode.TheVariants as modes
 use Rattle.h264_verify.specs.Content as contents
-use Rattle.h264_verify.specs.Outcome.{Outcome, answers, tells, Plays, IsNamed}
+use Rattle.h264_verify.specs.Outcome.{Outcome, ◌>>=◌, answers, tells, Plays, IsNamed}
 use Rattle.h264_verify.specs.Demands.{Demand, judged}
 use Rattle.h264_verify.specs.History.{History, with_pair, maps_with, maps_of}
 use Rattle.h264_verify.specs.Slices.{has_content, is_active, set_demand, list_demand, first_mb_demands, is_idr_due, rules_of, slice_call, steps_by, slice_steps}
 use Rattle.h264_verify.specs.Steps.{Step, Tells, needs}
 use Rattle.h264_verify.specs.UnitOutcome.{steps_outcome}
-use Rattle.h264_verify.specs.Pictures.{CodedSlice, with_sets, sets_at, begins_at, joined_to, runs_of, whole_steps, closing_demands}
+use Rattle.h264_verify.specs.Pictures.{CodedSlice, with_sets, sets_at, begins_at, joined_to, runs_of, closing_demands}
 use Rattle.h264_verify.specs.Keeping.{standing_demands, slice_rules, coded_before}
 use Rattle.h264_verify.proofs.Finishing.{answers-plays}
-use Rattle.h264_verify.proofs.Stepping.{needs-first, needs-ok, needs-err, steps-ok, steps-err, behind_rules}
+use Rattle.h264_verify.proofs.Stepping.{needs-first, needs-ok, needs-err, steps-ok, steps-err, steps-append, behind_rules}
 
 -- one rule before others: met, or not
 one-met : (d : Demand) (r : Result (Unit {0}) Stop) → d.met ≡ true → (if d.met then r else Err (No d.bit d.rule)) ≡ r
@@ -164,7 +165,7 @@ unfolding built
 unmodified n list frames e = unmodified-by n (list_places list.num_ref_idx_l0_active) frames (initial n (list_places list.num_ref_idx_l0_active) frames) list.modifications.items (eqb-true (length list.modifications.items) 0 e)
 
 -- a stop that these steps come to
-pub refused : {S : Type 0} (took : S → List Call → Type 0) (failures : S → ℕ) (steps : List Step) (s : S) (e : Stop) → steps_outcome steps ≡ answers (Err e) → IsNamed e → Plays took failures (λ (x : Unit {0}). x) (steps_outcome steps) s s (Err e)
+pub refused : {S : Type 0} (took : S → List Told → Type 0) (failures : S → ℕ) (steps : List Step) (s : S) (e : Stop) → steps_outcome steps ≡ answers (Err e) → IsNamed e → Plays took failures (λ (x : Unit {0}). x) (steps_outcome steps) s s (Err e)
 refused took failures steps s e h n = subst (λ (o : Outcome (Unit {0})). Plays took failures (λ (x : Unit {0}). x) o s s (Err e)) (sym h) (answers-plays took failures e s n)
 
 -- The steps of a slice, behind what is kept of the units before it.
@@ -172,77 +173,74 @@ module _ (mode : Mode) (before : History) (unit : NalUnit) (h : Header) (begins 
   abbrev steps : List Step
   steps = slice_steps mode before unit h
 
+  -- its own rules, and that it is told
+  abbrev pub own_steps : List Step
+  own_steps = steps_by mode (sets_at before h) before unit h
+
+  abbrev framed : List Step
+  framed = (if begins_at before h then closing_frames mode before else []) ++ own_steps
+
   -- the picture before it is not whole, or not judged
   pub at-data : (e : Stop) → answers (Err e) ≡ steps_outcome (if begins then whole_steps mode before else []) → steps_outcome steps ≡ answers (Err e)
-  at-data e p = steps-err (if begins_at before h then whole_steps mode before else []) (needs (if begins_at before h then closing_demands before else []) ++ steps_by mode (sets_at before h) before unit h) e (p ∙ ap (λ x. steps_outcome (if x then whole_steps mode before else [])) b)
+  at-data e p = steps-err (if begins_at before h then whole_steps mode before else []) (needs (if begins_at before h then closing_demands before else []) ++ framed) e (p ∙ ap (λ x. steps_outcome (if x then whole_steps mode before else [])) b)
 
   module _ (told : Unit {0}) (whole : answers (Ok told) ≡ steps_outcome (if begins then whole_steps mode before else [])) where
-    behind-data : steps_outcome steps ≡ steps_outcome (needs (if begins_at before h then closing_demands before else []) ++ steps_by mode (sets_at before h) before unit h)
-    behind-data = steps-ok (if begins_at before h then whole_steps mode before else []) (needs (if begins_at before h then closing_demands before else []) ++ steps_by mode (sets_at before h) before unit h) told (whole ∙ ap (λ x. steps_outcome (if x then whole_steps mode before else [])) b)
+    behind-data : steps_outcome steps ≡ steps_outcome (needs (if begins_at before h then closing_demands before else []) ++ framed)
+    behind-data = steps-ok (if begins_at before h then whole_steps mode before else []) (needs (if begins_at before h then closing_demands before else []) ++ framed) told (whole ∙ ap (λ x. steps_outcome (if x then whole_steps mode before else [])) b)
 
     -- the end of the picture before it breaks a rule
     pub at-end : (e : Stop) → Err e ≡ judged (if begins then closing_demands before else []) → steps_outcome steps ≡ answers (Err e)
-    at-end e p = behind-data ∙ needs-err (if begins_at before h then closing_demands before else []) (steps_by mode (sets_at before h) before unit h) e (ap (λ x. judged (if x then closing_demands before else [])) (sym b) ∙ sym p)
+    at-end e p = behind-data ∙ needs-err (if begins_at before h then closing_demands before else []) framed e (ap (λ x. judged (if x then closing_demands before else [])) (sym b) ∙ sym p)
 
-    module _ (closed : Unit {0}) (ends : Ok closed ≡ judged (if begins then closing_demands before else [])) where
-      behind-end : steps_outcome steps ≡ steps_outcome (steps_by mode (sets_at before h) before unit h)
-      behind-end = behind-data ∙ needs-ok (if begins_at before h then closing_demands before else []) (steps_by mode (sets_at before h) before unit h) closed (ap (λ x. judged (if x then closing_demands before else [])) (sym b) ∙ sym ends)
+    -- it has ended: its frames, and then the rules of the slice
+    pub behind-end : (closed : Unit {0}) → Ok closed ≡ judged (if begins then closing_demands before else []) → steps_outcome steps ≡ (steps_outcome (if begins then closing_frames mode before else []) >>= λ _. steps_outcome own_steps)
+    behind-end closed ends =
+        behind-data ∙ needs-ok (if begins_at before h then closing_demands before else []) framed closed (ap (λ x. judged (if x then closing_demands before else [])) (sym b) ∙ sym ends)
+        ∙ steps-append (if begins_at before h then closing_frames mode before else []) own_steps
+        ∙ ap (λ x. steps_outcome (if x then closing_frames mode before else []) >>= λ _. steps_outcome own_steps) (sym b)
 
-      module _ (due : Bool) (maps : Maps) (due-is : due ≡ is_idr_due before) (maps-are : maps ≡ maps_of before) where
-        abbrev slice : Pps × Sps → CodedSlice
-        slice sets = with_sets unit h [] sets
+  module _ (due : Bool) (maps : Maps) (due-is : due ≡ is_idr_due before) (maps-are : maps ≡ maps_of before) where
+    abbrev slice : Pps × Sps → CodedSlice
+    slice sets = with_sets unit h [] sets
 
-        -- what the sink is told of the slice
-        abbrev call : Pps × Sps → Call
-        call sets = slice_call (joined_to begins (slice sets) (runs_of before)) (slice sets)
+    -- what comes to pass of the slice
+    abbrev call : Pps × Sps → Told
+    call sets = Said (slice_call (joined_to begins (slice sets) (runs_of before)) (slice sets))
 
-        abbrev place : List Demand
-        place = first_mb_demands mode (coded_before begins (runs_of before)) h
+    abbrev place : List Demand
+    place = first_mb_demands mode (coded_before begins (runs_of before)) h
 
-        abbrev rest : Pps × Sps → List Step
-        rest sets = needs (slice_rules begins (runs_of before) (slice sets)) ++ Tells (call sets) ∷ []
+    abbrev pub rules_then : Pps × Sps → List Step
+    rules_then sets = slice_rules mode begins (runs_of before) (slice sets) ++ Tells (call sets) ∷ []
 
-        standing-rest : (mode : Mode) (begins : Bool) (sets : Pps × Sps) (ts : List Step) → needs (rules_of mode begins due maps (runs_of before) (slice sets)) ++ ts ≡ needs (standing_demands begins sets.1 due maps (8 * unit.from) h) ++ (needs (first_mb_demands mode (coded_before begins (runs_of before)) h) ++ (needs (slice_rules begins (runs_of before) (slice sets)) ++ ts))
-        standing-rest modes.Units true sets ts = refl
-        standing-rest modes.Units false sets ts = refl
-        standing-rest modes.Headers true sets ts = refl
-        standing-rest modes.Headers false sets ts = refl
-        standing-rest modes.Full true sets ts = refl
-        standing-rest modes.Full false sets ts = refl
+    three : (xs ys zs ts : List Step) → (xs ++ (ys ++ zs)) ++ ts ≡ xs ++ (ys ++ (zs ++ ts))
+    three xs ys zs ts = append_assoc xs (ys ++ zs) ts ∙ ap (λ (l : List Step). xs ++ l) (append_assoc ys zs ts)
 
-        sets-are : (o : Option (Pps × Sps)) → sets_of maps h.pic_parameter_set_id.value ≡ o → sets_at before h ≡ o
-        sets-are o e = ap (λ m. sets_of m h.pic_parameter_set_id.value) (sym maps-are) ∙ e
+    standing-rest : (begins : Bool) (sets : Pps × Sps) (ts : List Step) → rules_of mode begins due maps (runs_of before) (slice sets) ++ ts ≡ needs (standing_demands begins sets.1 due maps (8 * unit.from) h) ++ (needs (first_mb_demands mode (coded_before begins (runs_of before)) h) ++ (slice_rules mode begins (runs_of before) (slice sets) ++ ts))
+    standing-rest true sets ts = three (needs (standing_demands true sets.1 due maps (8 * unit.from) h)) (needs (first_mb_demands mode 0 h)) (slice_rules mode true (runs_of before) (slice sets)) ts
+    standing-rest false sets ts = three (needs (standing_demands false sets.1 due maps (8 * unit.from) h)) (needs (first_mb_demands mode (coded_before false (runs_of before)) h)) (slice_rules mode false (runs_of before) (slice sets)) ts
 
-        with-sets : (sets : Pps × Sps) → sets_of maps h.pic_parameter_set_id.value ≡ Some sets → steps_outcome steps ≡ behind_rules (judged (standing_demands begins sets.1 due maps (8 * unit.from) h)) (needs place ++ rest sets)
-        with-sets sets e =
-            behind-end
-            ∙ ap (λ o. steps_outcome (steps_by mode o before unit h)) (sets-are (Some sets) e)
-            ∙ ap (λ x. steps_outcome (needs (rules_of mode x (is_idr_due before) (maps_of before) (runs_of before) (slice sets)) ++ Tells (slice_call (joined_to x (slice sets) (runs_of before)) (slice sets)) ∷ [])) (sym b)
-            ∙ ap (λ x. steps_outcome (needs (rules_of mode begins x (maps_of before) (runs_of before) (slice sets)) ++ Tells (call sets) ∷ [])) (sym due-is)
-            ∙ ap (λ m. steps_outcome (needs (rules_of mode begins due m (runs_of before) (slice sets)) ++ Tells (call sets) ∷ [])) (sym maps-are)
-            ∙ ap steps_outcome (standing-rest mode begins sets (Tells (call sets) ∷ []))
-            ∙ needs-first (standing_demands begins sets.1 due maps (8 * unit.from) h) (needs place ++ rest sets)
+    with-sets : (sets : Pps × Sps) → sets_of maps h.pic_parameter_set_id.value ≡ Some sets → steps_outcome own_steps ≡ behind_rules (judged (standing_demands begins sets.1 due maps (8 * unit.from) h)) (needs place ++ rules_then sets)
+    with-sets sets n =
+        ap (λ o. steps_outcome (steps_by mode o before unit h)) (ap (λ m. sets_of m h.pic_parameter_set_id.value) (sym maps-are) ∙ n)
+        ∙ ap (λ x. steps_outcome (rules_of mode x (is_idr_due before) (maps_of before) (runs_of before) (slice sets) ++ Tells (Said (slice_call (joined_to x (slice sets) (runs_of before)) (slice sets))) ∷ [])) (sym b)
+        ∙ ap (λ x. steps_outcome (rules_of mode begins x (maps_of before) (runs_of before) (slice sets) ++ Tells (call sets) ∷ [])) (sym due-is)
+        ∙ ap (λ m. steps_outcome (rules_of mode begins due m (runs_of before) (slice sets) ++ Tells (call sets) ∷ [])) (sym maps-are)
+        ∙ ap steps_outcome (standing-rest begins sets (Tells (call sets) ∷ []))
+        ∙ needs-first (standing_demands begins sets.1 due maps (8 * unit.from) h) (needs place ++ rules_then sets)
 
-        -- where it stands is against a rule
-        pub at-standing : (sets : Pps × Sps) → sets_of maps h.pic_parameter_set_id.value ≡ Some sets → (e : Stop) → Err e ≡ judged (standing_demands begins sets.1 due maps (8 * unit.from) h) → steps_outcome steps ≡ answers (Err e)
-        at-standing sets n e p = with-sets sets n ∙ ap (λ r. behind_rules r (needs place ++ rest sets)) (sym p)
+    -- where it stands is against a rule
+    pub at-standing : (sets : Pps × Sps) → sets_of maps h.pic_parameter_set_id.value ≡ Some sets → (e : Stop) → Err e ≡ judged (standing_demands begins sets.1 due maps (8 * unit.from) h) → steps_outcome own_steps ≡ answers (Err e)
+    at-standing sets n e p = with-sets sets n ∙ ap (λ r. behind_rules r (needs place ++ rules_then sets)) (sym p)
 
-        module _ (sets : Pps × Sps) (named : sets_of maps h.pic_parameter_set_id.value ≡ Some sets) (x : Unit {0}) (stands : Ok x ≡ judged (standing_demands begins sets.1 due maps (8 * unit.from) h)) where
-          behind-standing : steps_outcome steps ≡ steps_outcome (needs place ++ rest sets)
-          behind-standing = with-sets sets named ∙ ap (λ r. behind_rules r (needs place ++ rest sets)) (sym stands)
+    module _ (sets : Pps × Sps) (named : sets_of maps h.pic_parameter_set_id.value ≡ Some sets) (x : Unit {0}) (stands : Ok x ≡ judged (standing_demands begins sets.1 due maps (8 * unit.from) h)) where
+      behind-standing : steps_outcome own_steps ≡ steps_outcome (needs place ++ rules_then sets)
+      behind-standing = with-sets sets named ∙ ap (λ r. behind_rules r (needs place ++ rules_then sets)) (sym stands)
 
-          -- it does not begin where the macroblocks so far end
-          pub at-place : (e : Stop) → Err e ≡ judged place → steps_outcome steps ≡ answers (Err e)
-          at-place e p = behind-standing ∙ needs-err place (rest sets) e (sym p)
+      -- it does not begin where the macroblocks so far end
+      pub at-place : (e : Stop) → Err e ≡ judged place → steps_outcome own_steps ≡ answers (Err e)
+      at-place e p = behind-standing ∙ needs-err place (rules_then sets) e (sym p)
 
-          module _ (y : Unit {0}) (placed : Ok y ≡ judged place) where
-            behind-place : steps_outcome steps ≡ steps_outcome (rest sets)
-            behind-place = behind-standing ∙ needs-ok place (rest sets) y (sym placed)
-
-            -- another rule is broken
-            pub at-rules : (e : Stop) → Err e ≡ judged (slice_rules begins (runs_of before) (slice sets)) → steps_outcome steps ≡ answers (Err e)
-            at-rules e p = behind-place ∙ needs-err (slice_rules begins (runs_of before) (slice sets)) (Tells (call sets) ∷ []) e (sym p)
-
-            -- all are met, and it is told
-            pub at-telling : (z : Unit {0}) → Ok z ≡ judged (slice_rules begins (runs_of before) (slice sets)) → steps_outcome steps ≡ tells (call sets)
-            at-telling z p = behind-place ∙ needs-ok (slice_rules begins (runs_of before) (slice sets)) (Tells (call sets) ∷ []) z (sym p)
+      -- the rules of the slice, and then it is told
+      pub behind-place : (y : Unit {0}) → Ok y ≡ judged place → steps_outcome own_steps ≡ (steps_outcome (slice_rules mode begins (runs_of before) (slice sets)) >>= λ _. tells (call sets))
+      behind-place y placed = behind-standing ∙ needs-ok place (rules_then sets) y (sym placed) ∙ steps-append (slice_rules mode begins (runs_of before) (slice sets)) (Tells (call sets) ∷ [])

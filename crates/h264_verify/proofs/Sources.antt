@@ -5,7 +5,7 @@ use Rattle.std.proofs.Math.Seq.{take-length}
 use Rattle.std.proofs.lemmas.List.{append-nil}
 use Rattle.h264_base.specs.declared.stop.Stop.{Stop}
 use Rattle.h264_base.specs.declared.stop.Stop.TheVariants.{No, Outside, Memory, Read, Write}
-use Rattle.h264_base.specs.Call.{Call, Tells, TellsFront}
+use Rattle.h264_verify.specs.Telling.{Told, Tells, TellsFront}
 use Rattle.h264_units.specs.Splitting.{at_start}
 use Rattle.h264_units.proofs.Streams.{same-units}
 use Rattle.h264_units.proofs.Total.{some-split}
@@ -14,7 +14,7 @@ use Rattle.h264_verify.specs.Judging.{Judging, units_outcome, Comes}
 use Rattle.h264_verify.proofs.Ways.{way-more}
 use Rattle.h264_verify.specs.Session.{Standing, ToCome, Goes, Stops, StopsBy, Finishes, Fed, RansBy, Judges}
 use Rattle.h264_verify.proofs.Tellings.{tells-none, tells-both, front-after}
-use Rattle.h264_verify.proofs.Feeding.{goes-both, stops-after, goes-none}
+use Rattle.h264_verify.proofs.Feeding.{goes-both, stops-after}
 
 -- before the first byte
 abbrev pub fresh : {State : Type 0} → State → Standing State
@@ -30,13 +30,13 @@ one-outcome j start bytes one other a b =
     let s = same-units 0 bytes a.units b.units a.tail b.tail a.splits b.splits in
     a.is ∙ ap (λ us. units_outcome j start us a.tail (0 + length bytes)) s.units_are ∙ ap (λ t. units_outcome j start b.units t (0 + length bytes)) s.tail_is ∙ sym b.is
 
-judged : {State Summary : Type 0} {j : Judging State Summary} {start : State} {S : Type 0} {took : S → List Call → Type 0} {failures : S → ℕ} {bytes : List ℕ} {s s' : S} {result : Result Summary Stop} → ((o : Outcome Summary) → Comes j 0 start bytes o → RansBy took failures o s s' result) → Judges j start took failures bytes s s' result
+judged : {State Summary : Type 0} {j : Judging State Summary} {start : State} {S : Type 0} {took : S → List Told → Type 0} {failures : S → ℕ} {bytes : List ℕ} {s s' : S} {result : Result Summary Stop} → ((o : Outcome Summary) → Comes j 0 start bytes o → RansBy took failures o s s' result) → Judges j start took failures bytes s s' result
 judged {j} {start} {bytes} f =
     let v = some-outcome j start bytes in
     record { outcome = v.0; comes = v.1; ran = f v.0 v.1 }
 
 -- bytes that come later come later
-pub goes-more : {State Summary : Type 0} {j : Judging State Summary} {S : Type 0} {took : S → List Call → Type 0} {old new : Standing State} {a : List ℕ} {s s' : S} (b : List ℕ) → Goes j took old new a [] s s' → Goes j took old new (a ++ b) b s s'
+unfoldable pub goes-more : {State Summary : Type 0} {j : Judging State Summary} {S : Type 0} {took : S → List Told → Type 0} {old new : Standing State} {a : List ℕ} {s s' : S} (b : List ℕ) → Goes j took old new a [] s s' → Goes j took old new (a ++ b) b s s'
 goes-more {j} {old} {a} b g = record {
   calls = g.calls;
   tells = g.tells;
@@ -45,17 +45,14 @@ goes-more {j} {old} {a} b g = record {
 }
 
 -- two pieces, one after another, are as one
-pub goes-then : {State Summary : Type 0} {j : Judging State Summary} {S : Type 0} {took : S → List Call → Type 0} {old mid new : Standing State} {a b : List ℕ} {s0 s1 s2 : S} → Goes j took old mid a [] s0 s1 → Goes j took mid new b [] s1 s2 → Goes j took old new (a ++ b) [] s0 s2
+unfoldable pub goes-then : {State Summary : Type 0} {j : Judging State Summary} {S : Type 0} {took : S → List Told → Type 0} {old mid new : Standing State} {a b : List ℕ} {s0 s1 s2 : S} → Goes j took old mid a [] s0 s1 → Goes j took mid new b [] s1 s2 → Goes j took old new (a ++ b) [] s0 s2
 goes-then {b} f g = goes-both (goes-more b f) g
 
-pub fed-none : {State Summary : Type 0} (j : Judging State Summary) {S : Type 0} (took : S → List Call → Type 0) (known : Option (List ℕ)) (bytes : List ℕ) (old : Standing State) (s : S) → known ≡ Some bytes → Fed j took known bytes old old s s
-fed-none j took known bytes old s h = record { fed = []; left = bytes; known_is = h; whole = refl; goes = goes-none j took old [] s }
-
 -- an interrupted read took no byte
-pub fed-same : {State Summary : Type 0} (j : Judging State Summary) {S : Type 0} (took : S → List Call → Type 0) (known known' : Option (List ℕ)) (bytes : List ℕ) (old new : Standing State) (s0 s1 : S) → ((left : List ℕ) → known ≡ Some left → known' ≡ Some left) → Fed j took known bytes old new s0 s1 → Fed j took known' bytes old new s0 s1
+unfoldable pub fed-same : {State Summary : Type 0} (j : Judging State Summary) {S : Type 0} (took : S → List Told → Type 0) (known known' : Option (List ℕ)) (bytes : List ℕ) (old new : Standing State) (s0 s1 : S) → ((left : List ℕ) → known ≡ Some left → known' ≡ Some left) → Fed j took known bytes old new s0 s1 → Fed j took known' bytes old new s0 s1
 fed-same j took known known' bytes old new s0 s1 r f = record { fed = f.fed; left = f.left; known_is = r f.left f.known_is; whole = f.whole; goes = f.goes }
 
-pub fed-on : {State Summary : Type 0} (j : Judging State Summary) {S : Type 0} (took : S → List Call → Type 0) (known known' : Option (List ℕ)) (bytes piece : List ℕ) (n : ℕ) (old mid new : Standing State) (s0 s1 s2 : S) → ((left : List ℕ) → known ≡ Some left → (left ≡ take n piece ++ drop n left) × (known' ≡ Some (drop n left))) → Fed j took known bytes old mid s0 s1 → Goes j took mid new (take n piece) [] s1 s2 → Fed j took known' bytes old new s0 s2
+unfoldable pub fed-on : {State Summary : Type 0} (j : Judging State Summary) {S : Type 0} (took : S → List Told → Type 0) (known known' : Option (List ℕ)) (bytes piece : List ℕ) (n : ℕ) (old mid new : Standing State) (s0 s1 s2 : S) → ((left : List ℕ) → known ≡ Some left → (left ≡ take n piece ++ drop n left) × (known' ≡ Some (drop n left))) → Fed j took known bytes old mid s0 s1 → Goes j took mid new (take n piece) [] s1 s2 → Fed j took known' bytes old new s0 s2
 fed-on j took known known' bytes piece n old mid new s0 s1 s2 r f g =
     let e = r f.left f.known_is in
     record {
@@ -66,14 +63,14 @@ fed-on j took known known' bytes piece n old mid new s0 s1 s2 r f g =
       goes = goes-then f.goes g;
     }
 
-pub stops-plays : {State Summary : Type 0} (j : Judging State Summary) {S : Type 0} (took : S → List Call → Type 0) (failures : S → ℕ) (old : Standing State) (piece more : List ℕ) (s s' : S) (stop : Stop) (o : Outcome Summary) → StopsBy j took failures old piece s s' stop → ToCome j old (piece ++ more) o → RansBy {Summary = Summary} took failures o s s' (Err stop)
+pub stops-plays : {State Summary : Type 0} (j : Judging State Summary) {S : Type 0} (took : S → List Told → Type 0) (failures : S → ℕ) (old : Standing State) (piece more : List ℕ) (s s' : S) (stop : Stop) (o : Outcome Summary) → StopsBy j took failures old piece s s' stop → ToCome j old (piece ++ more) o → RansBy {Summary = Summary} took failures o s s' (Err stop)
 stops-plays j took failures old piece more s s' (No bit rule) o p c = let e = p.0.after more o c in record { plays = (ap (λ r. Outcome.answer r) e, subst (Tells took s s') (sym (ap (λ r. Outcome.calls r) e)) p.0.tells, p.1) }
 stops-plays j took failures old piece more s s' (Outside bit feature) o p c = let e = p.0.after more o c in record { plays = (ap (λ r. Outcome.answer r) e, subst (Tells took s s') (sym (ap (λ r. Outcome.calls r) e)) p.0.tells, p.1) }
 stops-plays j took failures old piece more s s' Memory o p c = let e = p.0.after more o c in record { plays = (record { front = p.0.calls; rest = e.0; whole = e.1; tells = p.0.tells }, p.1) }
 stops-plays j took failures old piece more s s' Read o p c = absurd p
 stops-plays j took failures old piece more s s' Write o p c = let e = p.0.after more o c in record { plays = (record { front = p.0.calls; rest = e.0; whole = e.1; tells = p.0.tells }, p.1) }
 
-pub fed-stops : {State Summary : Type 0} (j : Judging State Summary) {S : Type 0} (start : State) (took : S → List Call → Type 0) (failures : S → ℕ) (known known' : Option (List ℕ)) (bytes piece : List ℕ) (n : ℕ) (mid : Standing State) (s0 s1 s2 : S) (stop : Stop) → ((left : List ℕ) → known ≡ Some left → (left ≡ take n piece ++ drop n left) × (known' ≡ Some (drop n left))) → Fed j took known bytes (fresh start) mid s0 s1 → failures s1 ≡ failures s0 → Stops j took failures mid (take n piece) s1 s2 stop → Judges j start took failures bytes s0 s2 (Err stop)
+pub fed-stops : {State Summary : Type 0} (j : Judging State Summary) {S : Type 0} (start : State) (took : S → List Told → Type 0) (failures : S → ℕ) (known known' : Option (List ℕ)) (bytes piece : List ℕ) (n : ℕ) (mid : Standing State) (s0 s1 s2 : S) (stop : Stop) → ((left : List ℕ) → known ≡ Some left → (left ≡ take n piece ++ drop n left) × (known' ≡ Some (drop n left))) → Fed j took known bytes (fresh start) mid s0 s1 → failures s1 ≡ failures s0 → Stops j took failures mid (take n piece) s1 s2 stop → Judges j start took failures bytes s0 s2 (Err stop)
 fed-stops j start took failures known known' bytes piece n mid s0 s1 s2 stop r f k p =
     let e = r f.left f.known_is in
     let whole : bytes ≡ (f.fed ++ take n piece) ++ drop n f.left = f.whole ∙ ap (λ l. f.fed ++ l) e.0 ∙ sym (append_assoc f.fed (take n piece) (drop n f.left)) in
@@ -81,12 +78,12 @@ fed-stops j start took failures known known' bytes piece n mid s0 s1 s2 stop r f
     (stops-after j took failures (fresh start) mid (f.fed ++ take n piece) (take n piece) s0 s1 s2 stop (goes-more (take n piece) f.goes) k p).stops
     (subst (λ l. Comes j 0 start l o) whole c))
 
-pub fed-read : {State Summary : Type 0} (j : Judging State Summary) {S : Type 0} (start : State) (took : S → List Call → Type 0) (failures : S → ℕ) (known : Option (List ℕ)) (bytes : List ℕ) (mid : Standing State) (s0 s1 : S) → Fed j took known bytes (fresh start) mid s0 s1 → failures s1 ≡ failures s0 → Judges j start took failures bytes s0 s1 (Err Read)
+pub fed-read : {State Summary : Type 0} (j : Judging State Summary) {S : Type 0} (start : State) (took : S → List Told → Type 0) (failures : S → ℕ) (known : Option (List ℕ)) (bytes : List ℕ) (mid : Standing State) (s0 s1 : S) → Fed j took known bytes (fresh start) mid s0 s1 → failures s1 ≡ failures s0 → Judges j start took failures bytes s0 s1 (Err Read)
 fed-read j start took failures known bytes mid s0 s1 f k = judged (λ o c.
     let e = f.goes.after f.left o (subst (λ l. Comes j 0 start l o) f.whole c) in
     (record { front = f.goes.calls; rest = e.0.calls; whole = ap (λ r. Outcome.calls r) e.2; tells = f.goes.tells }, k))
 
-plays-after : {Summary S : Type 0} (took : S → List Call → Type 0) (failures : S → ℕ) (calls : List Call) (o later : Outcome Summary) (s0 s1 s2 : S) (r : Result Summary Stop) → o ≡ with_calls calls later → Tells took s0 s1 calls → failures s1 ≡ failures s0 → PlaysBy took failures (λ (x : Summary). x) later s1 s2 r → RansBy took failures o s0 s2 r
+plays-after : {Summary S : Type 0} (took : S → List Told → Type 0) (failures : S → ℕ) (calls : List Told) (o later : Outcome Summary) (s0 s1 s2 : S) (r : Result Summary Stop) → o ≡ with_calls calls later → Tells took s0 s1 calls → failures s1 ≡ failures s0 → PlaysBy took failures (λ (x : Summary). x) later s1 s2 r → RansBy took failures o s0 s2 r
 plays-after {Summary} {S} took failures calls o later s0 s1 s2 r e t k p = subst (λ w. RansBy took failures w s0 s2 r) (sym e) (by r p)
   where
     by : (r : Result Summary Stop) → PlaysBy took failures (λ (x : Summary). x) later s1 s2 r → RansBy took failures (with_calls calls later) s0 s2 r
@@ -97,19 +94,19 @@ plays-after {Summary} {S} took failures calls o later s0 s1 s2 r e t k p = subst
     by (Err Read) p = absurd p
     by (Err Write) p = record { plays = (front-after t p.0, p.1 ∙ ap (λ n. n + 1) k) }
 
-pub fed-finishes : {State Summary : Type 0} (j : Judging State Summary) {S : Type 0} (start : State) (took : S → List Call → Type 0) (failures : S → ℕ) (known : Option (List ℕ)) (bytes : List ℕ) (mid : Standing State) (s0 s1 s2 : S) (r : Result Summary Stop) → ((left : List ℕ) → known ≡ Some left → left ≡ []) → Fed j took known bytes (fresh start) mid s0 s1 → failures s1 ≡ failures s0 → Finishes j took failures mid s1 s2 r → Judges j start took failures bytes s0 s2 r
+pub fed-finishes : {State Summary : Type 0} (j : Judging State Summary) {S : Type 0} (start : State) (took : S → List Told → Type 0) (failures : S → ℕ) (known : Option (List ℕ)) (bytes : List ℕ) (mid : Standing State) (s0 s1 s2 : S) (r : Result Summary Stop) → ((left : List ℕ) → known ≡ Some left → left ≡ []) → Fed j took known bytes (fresh start) mid s0 s1 → failures s1 ≡ failures s0 → Finishes j took failures mid s1 s2 r → Judges j start took failures bytes s0 s2 r
 fed-finishes j start took failures known bytes mid s0 s1 s2 r none f k p = judged (λ o c.
     let e = f.goes.after [] o (subst (λ l. Comes j 0 start l o) (f.whole ∙ ap (λ l. f.fed ++ l) (none f.left f.known_is)) c) in
     plays-after took failures f.goes.calls o e.0 s0 s1 s2 r e.2 f.goes.tells k (p.finishes e.0 e.1).plays)
 
 -- nothing was fed: memory was refused at once
-pub judges-memory : {State Summary : Type 0} (j : Judging State Summary) {S : Type 0} (start : State) (took : S → List Call → Type 0) (failures : S → ℕ) (bytes : List ℕ) (s : S) → Judges {Summary = Summary} j start took failures bytes s s (Err Memory)
+pub judges-memory : {State Summary : Type 0} (j : Judging State Summary) {S : Type 0} (start : State) (took : S → List Told → Type 0) (failures : S → ℕ) (bytes : List ℕ) (s : S) → Judges {Summary = Summary} j start took failures bytes s s (Err Memory)
 judges-memory j start took failures bytes s = judged (λ o c. record { plays = (front-none o.calls, refl) })
   where
-    front-none : (calls : List Call) → TellsFront took s s calls
+    front-none : (calls : List Told) → TellsFront took s s calls
     front-none calls = record { front = []; rest = calls; whole = refl; tells = tells-none took s }
 
-pub fed-ends : {State Summary : Type 0} (j : Judging State Summary) {S : Type 0} (start : State) (took : S → List Call → Type 0) (failures : S → ℕ) (known : Option (List ℕ)) (bytes : List ℕ) (old new : Standing State) (s0 s1 s1' s2 : S) (r : Result Summary Stop) → new ≡ old → s1' ≡ s1 → ((left : List ℕ) → known ≡ Some left → left ≡ []) → Fed j took known bytes (fresh start) old s0 s1 → failures s1 ≡ failures s0 → Finishes j took failures new s1' s2 r → Judges j start took failures bytes s0 s2 r
+pub fed-ends : {State Summary : Type 0} (j : Judging State Summary) {S : Type 0} (start : State) (took : S → List Told → Type 0) (failures : S → ℕ) (known : Option (List ℕ)) (bytes : List ℕ) (old new : Standing State) (s0 s1 s1' s2 : S) (r : Result Summary Stop) → new ≡ old → s1' ≡ s1 → ((left : List ℕ) → known ≡ Some left → left ≡ []) → Fed j took known bytes (fresh start) old s0 s1 → failures s1 ≡ failures s0 → Finishes j took failures new s1' s2 r → Judges j start took failures bytes s0 s2 r
 fed-ends j start took failures known bytes old new s0 s1 s1' s2 r e d none f k p =
     fed-finishes j start took failures known bytes old s0 s1 s2 r none f k
     (subst (λ s. Finishes j took failures old s s2 r) d (subst (λ w. Finishes j took failures w s1' s2 r) e p))
@@ -118,10 +115,10 @@ pub not-more : (b : Bool) → not b ≡ true → b ≡ false
 not-more true e = cc
 not-more false e = refl
 
-pub pieces-finish : {State Summary : Type 0} (j : Judging State Summary) {S : Type 0} (start : State) (took : S → List Call → Type 0) (failures : S → ℕ) (bytes : List ℕ) (mid : Standing State) (s0 s1 s2 : S) (r : Result Summary Stop) → Goes j took (fresh start) mid bytes [] s0 s1 → failures s1 ≡ failures s0 → Finishes j took failures mid s1 s2 r → Judges j start took failures bytes s0 s2 r
+pub pieces-finish : {State Summary : Type 0} (j : Judging State Summary) {S : Type 0} (start : State) (took : S → List Told → Type 0) (failures : S → ℕ) (bytes : List ℕ) (mid : Standing State) (s0 s1 s2 : S) (r : Result Summary Stop) → Goes j took (fresh start) mid bytes [] s0 s1 → failures s1 ≡ failures s0 → Finishes j took failures mid s1 s2 r → Judges j start took failures bytes s0 s2 r
 pieces-finish j start took failures bytes mid s0 s1 s2 r g k p = fed-finishes j start took failures (Some []) bytes mid s0 s1 s2 r (λ left e. cc) (record { fed = bytes; left = []; known_is = refl; whole = sym (append-nil bytes); goes = g }) k p
 
-pub pieces-stop : {State Summary : Type 0} (j : Judging State Summary) {S : Type 0} (start : State) (took : S → List Call → Type 0) (failures : S → ℕ) (bytes before piece later : List ℕ) (mid : Standing State) (s0 s1 s2 : S) (stop : Stop) → bytes ≡ before ++ (piece ++ later) → Goes j took (fresh start) mid before [] s0 s1 → failures s1 ≡ failures s0 → Stops j took failures mid piece s1 s2 stop → Judges j start took failures bytes s0 s2 (Err stop)
+pub pieces-stop : {State Summary : Type 0} (j : Judging State Summary) {S : Type 0} (start : State) (took : S → List Told → Type 0) (failures : S → ℕ) (bytes before piece later : List ℕ) (mid : Standing State) (s0 s1 s2 : S) (stop : Stop) → bytes ≡ before ++ (piece ++ later) → Goes j took (fresh start) mid before [] s0 s1 → failures s1 ≡ failures s0 → Stops j took failures mid piece s1 s2 stop → Judges j start took failures bytes s0 s2 (Err stop)
 pieces-stop j start took failures bytes before piece later mid s0 s1 s2 stop e g k p = judged (λ o c.
     stops-plays j took failures (fresh start) (before ++ piece) later s0 s2 stop o
     (stops-after j took failures (fresh start) mid (before ++ piece) piece s0 s1 s2 stop (goes-more piece g) k p).stops
@@ -137,11 +134,8 @@ more-pieces f [] i d h = absurd (omega arith)
 more-pieces f (x ∷ xs) zero d h = append-nil (f x)
 more-pieces f (x ∷ xs) (suc i) d h = ap (λ l. f x ++ l) (more-pieces f xs i d (omega arith)) ∙ sym (append_assoc (f x) (flat_map f (take i xs)) (f (get_or xs i d)))
 
-pub goes-piece : {State Summary : Type 0} {j : Judging State Summary} {start : State} {X S : Type 0} {took : S → List Call → Type 0} {mid new : Standing State} {s0 s1 s2 : S} (f : X → List ℕ) (xs : List X) (i : ℕ) (x : X) (piece : List ℕ) → i < length xs → x ≡ get_or xs i x → piece ≡ f x → Goes j took (fresh start) mid (flat_map f (take i xs)) [] s0 s1 → Goes j took mid new piece [] s1 s2 → Goes j took (fresh start) new (flat_map f (take (i + 1) xs)) [] s0 s2
-goes-piece {j} {start} {took} {new} {s0} {s2} f xs i x piece h e p g k =
-    let item : piece ≡ f (get_or xs i x) = p ∙ ap f e in
-    let whole : flat_map f (take i xs) ++ piece ≡ flat_map f (take (i + 1) xs) = ap (λ l. flat_map f (take i xs) ++ l) item ∙ sym (more-pieces f xs i x h) ∙ ap (λ n. flat_map f (take n xs)) (next i) in
-    subst (λ l. Goes j took (fresh start) new l [] s0 s2) whole (goes-then g k)
+pub piece-more : {X : Type 0} (f : X → List ℕ) (xs : List X) (i : ℕ) (x : X) (piece : List ℕ) → i < length xs → x ≡ get_or xs i x → piece ≡ f x → flat_map f (take i xs) ++ piece ≡ flat_map f (take (i + 1) xs)
+piece-more f xs i x piece h e p = ap (λ l. flat_map f (take i xs) ++ l) (p ∙ ap f e) ∙ sym (more-pieces f xs i x h) ∙ ap (λ n. flat_map f (take n xs)) (next i)
   where
     next : (i : ℕ) → suc i ≡ i + 1
     next i = omega arith
@@ -149,5 +143,5 @@ goes-piece {j} {start} {took} {new} {s0} {s2} f xs i x piece h e p g k =
 pub pieces-split-at : {X : Type 0} (f : X → List ℕ) (xs : List X) (i : ℕ) (x : X) (piece : List ℕ) → i < length xs → x ≡ get_or xs i x → piece ≡ f x → flat_map f xs ≡ flat_map f (take i xs) ++ (piece ++ flat_map f (drop (suc i) xs))
 pieces-split-at f xs i x piece h e p = pieces-split f xs i x h ∙ ap (λ l. flat_map f (take i xs) ++ (l ++ flat_map f (drop (suc i) xs))) (sym (p ∙ ap f e))
 
-pub goes-all : {State Summary : Type 0} {j : Judging State Summary} {start : State} {X S : Type 0} {took : S → List Call → Type 0} {new : Standing State} {s0 s2 : S} (f : X → List ℕ) (xs : List X) (n : ℕ) → n ≡ length xs → Goes j took (fresh start) new (flat_map f (take n xs)) [] s0 s2 → Goes j took (fresh start) new (flat_map f xs) [] s0 s2
+pub goes-all : {State Summary : Type 0} {j : Judging State Summary} {start : State} {X S : Type 0} {took : S → List Told → Type 0} {new : Standing State} {s0 s2 : S} (f : X → List ℕ) (xs : List X) (n : ℕ) → n ≡ length xs → Goes j took (fresh start) new (flat_map f (take n xs)) [] s0 s2 → Goes j took (fresh start) new (flat_map f xs) [] s0 s2
 goes-all {j} {start} {took} {new} {s0} {s2} f xs n e g = subst (λ l. Goes j took (fresh start) new (flat_map f l) [] s0 s2) (ap (λ k. take k xs) e ∙ take-length xs) g

@@ -1,11 +1,14 @@
 -- The fold over the units says what the verdict's relation says, and nothing else does.
-use Rattle.std.proofs.Common.{OnOk, IfErr, Option, Some, None, ◌≡◌, ℕ, ◌+◌, ◌*◌, inl, inr, List, [], ◌∷◌, ◌++◌, length, Result, Ok, Err, refl, ap, sym, ◌∙◌, subst, arith, append_assoc, MatchResult}
+use Rattle.std.proofs.Common.{OnOk, IfErr, Option, Some, None, ◌≡◌, ℕ, ◌+◌, ◌*◌, inl, inr, List, [], ◌∷◌, ◌++◌, length, take, drop, get_or, ◌<◌, Result, Ok, Err, refl, ap, sym, ◌∙◌, subst, arith, append_assoc, MatchResult}
+use Rattle.std.specs.List.{flat_map}
 use Rattle.std.proofs.lemmas.List.{append-nil}
 use Rattle.h264_base.specs.declared.mode.Mode.{Mode}
 use Rattle.h264_base.specs.declared.rule.Rule.TheVariants.{Emulation}
 use Rattle.h264_base.specs.declared.stop.Stop.{Stop}
 use Rattle.h264_base.specs.declared.stop.Stop.TheVariants.{No, Outside, Memory, Read, Write}
-use Rattle.h264_base.specs.Call.{Call, Tells, TellsFront}
+use Rattle.h264_base.specs.Call.{Call}
+use Rattle.h264_plane.specs.declared.frame.Frame.{Frame}
+use Rattle.h264_verify.specs.Telling.{Told, Tells, TellsFront, took_with}
 use Rattle.h264_units.specs.Stream.{NalUnit, IsUndecided, Tail, Zeros, Stray, Bare, Long, Cut, Splits}
 use Rattle.h264_units.specs.Splitting.{Splitting, at_start}
 use Rattle.h264_rbsp.specs.Emulation.{IsFault, IsFirstFault, emulation_checked}
@@ -16,23 +19,26 @@ use Rattle.h264_verify.specs.declared.judge.Summary.{Summary}
 use Rattle.h264_verify.specs.Content.{Content}
 use Rattle.h264_verify.specs.Outcome.{Outcome, ◌>>=◌, with_calls, answers, Plays}
 use Rattle.h264_verify.specs.Judging.{unless, tail_outcome, units_outcome, Comes}
-use Rattle.h264_verify.specs.Session.{Standing, ToCome, Shows, Leads, Goes, Stops, Finishes, Fed, Judges, RansBy}
+use Rattle.h264_verify.specs.Session.{Standing, ToCome, Shows, Leads, Way, Goes, RansBy}
 use Rattle.h264_verify.specs.Steps.{AreMet, IsFirstStop, Runs}
 use Rattle.h264_verify.specs.History.{History, ReadUnit}
-use Rattle.h264_verify.specs.Keeping.{Keeps}
+use Rattle.h264_verify.specs.Keeping.{Keeps, ended_in}
 use Rattle.h264_verify.specs.Units.{unit_course, end_steps, summary_of}
 use Rattle.h264_verify.specs.UnitOutcome.{steps_outcome, course_outcome, unit_outcome, end_outcome, judging}
 use Rattle.h264_verify.specs.Progress.{Progress, IsFresh}
-use Rattle.h264_verify.specs.Feeding.{behind, GoesOn, FedOn, WasFed, IsFed}
+use Rattle.h264_verify.specs.Feeding.{behind, GoesOn, StopsOn, FinishesOn, FedOn, JudgesWith, WasFed, IsFed}
 use Rattle.h264_verify.specs.Verdict.{IsSound, IsLegal, IsStop, AtBytes, InCourse, in_order, AreLegal, Holds, IsStopBehind, AtNext, AtTail, AtEnd, StopsAt, Verdict, Whole, Front, JudgedBy, Judged}
-use Rattle.h264_verify.proofs.Feeding.{with-both, goes-none}
-use Rattle.h264_verify.proofs.Sources.{one-outcome, some-outcome, stops-plays, fed-none, fed-ends}
+use Rattle.h264_verify.proofs.Tellings.{tells-none}
+use Rattle.h264_verify.proofs.Agreeing.{told-agree, of-both, of-more}
+use Rattle.h264_verify.proofs.Feeding.{with-both, goes-both}
+use Rattle.h264_verify.proofs.Familiar.{goes-agree, fed-agree, on-then, on-none}
+use Rattle.h264_verify.proofs.Sources.{one-outcome, some-outcome, goes-more, goes-then, stops-plays, fed-same, fed-on, fed-stops, fed-read, fed-ends, judges-memory, piece-more, pieces-stop, pieces-finish, goes-all}
 use Rattle.h264_verify.proofs.Stepping.{outcome, met-is, stop-is, either, bound, bind-stop, runs-outcome, SomeRun, some-run}
 use Rattle.h264_verify.proofs.Stepping as stepping
-use Rattle.h264_verify.proofs.Ways.{shows-as, shows-both, shows-more}
+use Rattle.h264_verify.proofs.Ways.{way-none, shows-as, shows-both, shows-more}
 
 -- A legal unit comes to its calls, and joins those before it.
-pub legal-unit : (mode : Mode) (before : History) (r : ReadUnit) (calls : List Call) → IsLegal mode before r calls → unit_outcome mode before r.unit ≡ outcome calls (Ok (r ∷ before))
+pub legal-unit : (mode : Mode) (before : History) (r : ReadUnit) (calls : List Told) → IsLegal mode before r calls → unit_outcome mode before r.unit ≡ outcome calls (Ok (r ∷ before))
 unfolding unit_outcome
 legal-unit mode before r calls l =
     bound (answers (emulation_checked r.unit.from r.unit.body)) _ [] tt _ (ap (λ (x : Result (Unit {0}) Stop). answers x) (sym (none-checked r.unit.from r.unit.body l.sound)))
@@ -40,7 +46,7 @@ legal-unit mode before r calls l =
     ∙ ap (λ c. outcome c (Ok (r ∷ before))) (append-nil calls)
 
 -- A unit at which the verdict falls comes to the calls up to there.
-stop-unit : (mode : Mode) (before : History) (unit : NalUnit) (stop : Stop) (calls : List Call) → IsStop mode before unit stop calls → unit_outcome mode before unit ≡ outcome calls (Err stop)
+stop-unit : (mode : Mode) (before : History) (unit : NalUnit) (stop : Stop) (calls : List Told) → IsStop mode before unit stop calls → unit_outcome mode before unit ≡ outcome calls (Err stop)
 unfolding unit_outcome
 stop-unit mode before unit stop calls (AtBytes place fault e n) =
     bind-stop (answers (emulation_checked unit.from unit.body)) _ [] (No (8 * (unit.from + place)) Emulation) (ap (λ (x : Result (Unit {0}) Stop). answers x) (sym (some-checked unit.from unit.body place fault)))
@@ -49,7 +55,7 @@ stop-unit mode before unit stop calls (InCourse sound runs) =
     bound (answers (emulation_checked unit.from unit.body)) _ [] tt _ (ap (λ (x : Result (Unit {0}) Stop). answers x) (sym (none-checked unit.from unit.body sound)))
     (bind-stop (course_outcome (body_of unit) (unit_course mode before unit)) _ calls stop (runs-outcome (body_of unit) (unit_course mode before unit) calls (Err stop) runs))
 
-stopped-not : (a b : List Call) (stop : Stop) (h : History) → outcome a (Err stop) ≡ outcome b (Ok h) → ⊥
+stopped-not : (a b : List Told) (stop : Stop) (h : History) → outcome a (Err stop) ≡ outcome b (Ok h) → ⊥
 stopped-not a b stop h e = let f : Err stop ≡ Ok h = ap (λ (o : Outcome History). o.answer) e in cc
 
 ok-same : (a b : History) → (let r : Result History Stop = Ok a in r ≡ Ok b) → a ≡ b
@@ -57,13 +63,13 @@ ok-same a b e = cc
 
 -- a unit is legal, or the verdict falls at it
 data Either (mode : Mode) (before : History) (unit : NalUnit) : Type 0 where
-  Legal : (c : Content) (calls : List Call) → IsLegal mode before (record { unit = unit; content = c }) calls → Either mode before unit
-  Fails : (stop : Stop) (calls : List Call) → IsStop mode before unit stop calls → Either mode before unit
+  Legal : (c : Content) (calls : List Told) → IsLegal mode before (record { unit = unit; content = c }) calls → Either mode before unit
+  Fails : (stop : Stop) (calls : List Told) → IsStop mode before unit stop calls → Either mode before unit
 
 either-unit : (mode : Mode) (before : History) (unit : NalUnit) → Either mode before unit
 either-unit mode before unit = by (emulation_checked unit.from unit.body) (is-checked unit.from unit.body)
   where
-    course : IsSound unit → (calls : List Call) (a : Result Content Stop) → Runs (body_of unit) (unit_course mode before unit) calls a → Either mode before unit
+    course : IsSound unit → (calls : List Told) (a : Result Content Stop) → Runs (body_of unit) (unit_course mode before unit) calls a → Either mode before unit
     course sound calls (Ok found) runs = Legal found calls (record { sound = sound; runs = runs })
     course sound calls (Err stop) runs = Fails stop calls (InCourse sound runs)
 
@@ -73,10 +79,10 @@ either-unit mode before unit = by (emulation_checked unit.from unit.body) (is-ch
 
 -- units that lead somewhere are legal, with their calls
 module _ (mode : Mode) (after : History) where
-  abbrev IsLed : History → List NalUnit → List Call → List Call → Type 0
+  abbrev IsLed : History → List NalUnit → List Told → List Told → Type 0
   IsLed before units calls earlier = AreLegal mode after (earlier ++ calls) × (in_order after [] ≡ in_order before units)
 
-  led-unit : (before : History) (unit : NalUnit) (units : List NalUnit) (calls earlier : List Call) → AreLegal mode before earlier → (l : Leads (judging mode) before (unit ∷ units) calls after) → ((cs : List Call) → Leads (judging mode) l.0 units l.2 after → AreLegal mode l.0 (earlier ++ cs) → IsLed l.0 units l.2 (earlier ++ cs)) → Either mode before unit → IsLed before (unit ∷ units) calls earlier
+  led-unit : (before : History) (unit : NalUnit) (units : List NalUnit) (calls earlier : List Told) → AreLegal mode before earlier → (l : Leads (judging mode) before (unit ∷ units) calls after) → ((cs : List Told) → Leads (judging mode) l.0 units l.2 after → AreLegal mode l.0 (earlier ++ cs) → IsLed l.0 units l.2 (earlier ++ cs)) → Either mode before unit → IsLed before (unit ∷ units) calls earlier
   led-unit before unit units calls earlier legal l next (Fails stop cs h) = let e : outcome cs (Err stop) ≡ outcome l.1 (Ok l.0) = sym (stop-unit mode before unit stop cs h) ∙ l.3 in absurd (stopped-not cs l.1 stop l.0 e)
   led-unit before unit units calls earlier legal l next (Legal c cs h) =
       let r : ReadUnit = record { unit = unit; content = c } in
@@ -88,11 +94,11 @@ module _ (mode : Mode) (after : History) where
         rest.1 ∙ ap (λ m. in_order m units) (sym mid),
       )
 
-  pub leads-legal : (before : History) (units : List NalUnit) (calls earlier : List Call) → Leads (judging mode) before units calls after → AreLegal mode before earlier → IsLed before units calls earlier
+  pub leads-legal : (before : History) (units : List NalUnit) (calls earlier : List Told) → Leads (judging mode) before units calls after → AreLegal mode before earlier → IsLed before units calls earlier
   leads-legal before [] calls earlier l legal = (subst (λ h. AreLegal mode h (earlier ++ calls)) (sym l.1) (subst (AreLegal mode before) (sym (append-nil earlier) ∙ ap (λ c. earlier ++ c) (sym l.0)) legal), ap (λ h. in_order h []) l.1)
   leads-legal before (unit ∷ units) calls earlier l legal = led-unit before unit units calls earlier legal l (λ cs rest before-legal. leads-legal l.0 units l.2 (earlier ++ cs) rest before-legal) (either-unit mode before unit)
 
-legal-units : (mode : Mode) (reads : History) (units : List NalUnit) (tail : Tail) (end : ℕ) (calls : List Call) → AreLegal mode reads calls → units_outcome (judging mode) [] (in_order reads units) tail end ≡ with_calls calls (units_outcome (judging mode) reads units tail end)
+legal-units : (mode : Mode) (reads : History) (units : List NalUnit) (tail : Tail) (end : ℕ) (calls : List Told) → AreLegal mode reads calls → units_outcome (judging mode) [] (in_order reads units) tail end ≡ with_calls calls (units_outcome (judging mode) reads units tail end)
 unfolding ◌>>=◌
 legal-units mode [] units tail end calls l = rw l refl
 legal-units mode (r ∷ before) units tail end calls l =
@@ -102,16 +108,16 @@ legal-units mode (r ∷ before) units tail end calls l =
     ∙ ap (λ c. with_calls c (units_outcome (judging mode) (r ∷ before) units tail end)) (sym l.4)
 
 -- the end of the input
-met-end : (mode : Mode) (before : History) (bit : ℕ) (calls : List Call) → AreMet (end_steps mode before bit) calls → end_outcome mode before bit ≡ outcome calls (Ok (summary_of before))
+met-end : (mode : Mode) (before : History) (bit : ℕ) (calls : List Told) → AreMet (end_steps mode before bit) calls → end_outcome mode before bit ≡ outcome calls (Ok (summary_of mode before))
 unfolding end_outcome
-met-end mode before bit calls h = bound (steps_outcome (end_steps mode before bit)) _ calls tt _ (met-is (end_steps mode before bit) calls h) refl ∙ ap (λ l. outcome l (Ok (summary_of before))) (append-nil calls)
+met-end mode before bit calls h = bound (steps_outcome (end_steps mode before bit)) _ calls tt _ (met-is (end_steps mode before bit) calls h) refl ∙ ap (λ l. outcome l (Ok (summary_of mode before))) (append-nil calls)
 
-unmet-end : (mode : Mode) (before : History) (bit : ℕ) (calls : List Call) (stop : Stop) → IsFirstStop (end_steps mode before bit) calls stop → end_outcome mode before bit ≡ outcome calls (Err stop)
+unmet-end : (mode : Mode) (before : History) (bit : ℕ) (calls : List Told) (stop : Stop) → IsFirstStop (end_steps mode before bit) calls stop → end_outcome mode before bit ≡ outcome calls (Err stop)
 unfolding end_outcome
 unmet-end mode before bit calls stop h = bind-stop (steps_outcome (end_steps mode before bit)) _ calls stop (stop-is (end_steps mode before bit) calls stop h)
 
 -- What the relation says is what comes of the stream.
-holds-comes : (mode : Mode) (bytes : List ℕ) (calls : List Call) (summary : Summary) → Holds mode bytes calls summary → Comes (judging mode) 0 [] bytes (record { calls = calls; answer = Ok summary })
+holds-comes : (mode : Mode) (bytes : List ℕ) (calls : List Told) (summary : Summary) → Holds mode bytes calls summary → Comes (judging mode) 0 [] bytes (record { calls = calls; answer = Ok summary })
 holds-comes mode bytes calls summary h = record {
   units = in_order h.units [];
   tail = Zeros;
@@ -119,7 +125,7 @@ holds-comes mode bytes calls summary h = record {
   is = sym (
       legal-units mode h.units [] Zeros (0 + length bytes) h.first h.legal
       ∙ ap (with_calls h.first) (at-length (length bytes) ∙ met-end mode h.units (8 * length bytes) h.last h.end)
-      ∙ ap (λ (c : List Call). let o : Outcome Summary = record { calls = c; answer = Ok (summary_of h.units) } in o) (sym h.calls_are)
+      ∙ ap (λ (c : List Told). let o : Outcome Summary = record { calls = c; answer = Ok (summary_of mode h.units) } in o) (sym h.calls_are)
       ∙ ap (λ (w : Summary). let o : Outcome Summary = record { calls = calls; answer = Ok w } in o) (sym h.summary_is)
       );
 }
@@ -127,7 +133,7 @@ holds-comes mode bytes calls summary h = record {
     at-length : (n : ℕ) → end_outcome mode h.units (8 * (0 + n)) ≡ end_outcome mode h.units (8 * n)
     at-length n = let e : 0 + n ≡ n = omega arith in ap (λ k. end_outcome mode h.units (8 * k)) e
 
-stop-behind : (mode : Mode) (before : History) (units : List NalUnit) (tail : Tail) (end : ℕ) (stop : Stop) (calls : List Call) → IsStopBehind mode before units tail end stop calls → units_outcome (judging mode) before units tail end ≡ record { calls = calls; answer = Err stop }
+stop-behind : (mode : Mode) (before : History) (units : List NalUnit) (tail : Tail) (end : ℕ) (stop : Stop) (calls : List Told) → IsStopBehind mode before units tail end stop calls → units_outcome (judging mode) before units tail end ≡ record { calls = calls; answer = Err stop }
 unfolding ◌>>=◌
 stop-behind mode before units tail end stop calls (AtNext unit later e h) =
     ap (λ us. units_outcome (judging mode) before us tail end) e
@@ -135,13 +141,13 @@ stop-behind mode before units tail end stop calls (AtNext unit later e h) =
 stop-behind mode before units tail end stop calls (AtTail e h n) =
     ap (λ us. units_outcome (judging mode) before us tail end) e
     ∙ ap (λ o. unless o (end_outcome mode before (8 * end))) h
-    ∙ ap (λ (c : List Call). let o : Outcome Summary = record { calls = c; answer = Err stop } in o) (sym n)
+    ∙ ap (λ (c : List Told). let o : Outcome Summary = record { calls = c; answer = Err stop } in o) (sym n)
 stop-behind mode before units tail end stop calls (AtEnd e t h) =
     ap (λ us. units_outcome (judging mode) before us tail end) e
     ∙ ap (λ z. tail_outcome (judging mode) before z end) t
     ∙ unmet-end mode before (8 * end) calls stop h
 
-stops-comes : (mode : Mode) (bytes : List ℕ) (calls : List Call) (stop : Stop) → StopsAt mode bytes calls stop → Comes (judging mode) 0 [] bytes (record { calls = calls; answer = Err stop })
+stops-comes : (mode : Mode) (bytes : List ℕ) (calls : List Told) (stop : Stop) → StopsAt mode bytes calls stop → Comes (judging mode) 0 [] bytes (record { calls = calls; answer = Err stop })
 stops-comes mode bytes calls stop h = record {
   units = in_order h.before h.units;
   tail = h.tail;
@@ -149,51 +155,51 @@ stops-comes mode bytes calls stop h = record {
   is = sym (
       legal-units mode h.before h.units h.tail (0 + length bytes) h.first h.legal
       ∙ ap (with_calls h.first) (at-length (length bytes) ∙ stop-behind mode h.before h.units h.tail (length bytes) stop h.last h.stops)
-      ∙ ap (λ (c : List Call). let o : Outcome Summary = record { calls = c; answer = Err stop } in o) (sym h.calls_are)
+      ∙ ap (λ (c : List Told). let o : Outcome Summary = record { calls = c; answer = Err stop } in o) (sym h.calls_are)
       );
 }
   where
     at-length : (n : ℕ) → units_outcome (judging mode) h.before h.units h.tail (0 + n) ≡ units_outcome (judging mode) h.before h.units h.tail n
     at-length n = let e : 0 + n ≡ n = omega arith in ap (λ k. units_outcome (judging mode) h.before h.units h.tail k) e
 
-pub verdict-comes : (mode : Mode) (bytes : List ℕ) (calls : List Call) (answer : Result Summary Stop) → Verdict mode bytes calls answer → Comes (judging mode) 0 [] bytes (record { calls = calls; answer = answer })
+pub verdict-comes : (mode : Mode) (bytes : List ℕ) (calls : List Told) (answer : Result Summary Stop) → Verdict mode bytes calls answer → Comes (judging mode) 0 [] bytes (record { calls = calls; answer = answer })
 verdict-comes mode bytes calls (Ok summary) h = holds-comes mode bytes calls summary h
 verdict-comes mode bytes calls (Err stop) h = stops-comes mode bytes calls stop h
 
 -- all is legal, or the verdict falls somewhere
 data Among (mode : Mode) (units : List NalUnit) (tail : Tail) (end : ℕ) : Type 0 where
-  AllLegal : (reads : History) (first last : List Call) → units ≡ in_order reads [] → tail ≡ Zeros → AreLegal mode reads first → AreMet (end_steps mode reads (8 * end)) last → Among mode units tail end
-  Falls : (before : History) (rest : List NalUnit) (first last : List Call) (stop : Stop) → units ≡ in_order before rest → AreLegal mode before first → IsStopBehind mode before rest tail end stop last → Among mode units tail end
+  AllLegal : (reads : History) (first last : List Told) → units ≡ in_order reads [] → tail ≡ Zeros → AreLegal mode reads first → AreMet (end_steps mode reads (8 * end)) last → Among mode units tail end
+  Falls : (before : History) (rest : List NalUnit) (first last : List Told) (stop : Stop) → units ≡ in_order before rest → AreLegal mode before first → IsStopBehind mode before rest tail end stop last → Among mode units tail end
 
-among-end : (mode : Mode) (before : History) (earlier : List Call) (end : ℕ) → AreLegal mode before earlier → stepping.Either (end_steps mode before (8 * end)) → Among mode (in_order before []) Zeros end
+among-end : (mode : Mode) (before : History) (earlier : List Told) (end : ℕ) → AreLegal mode before earlier → stepping.Either (end_steps mode before (8 * end)) → Among mode (in_order before []) Zeros end
 among-end mode before earlier end l (inl h) = AllLegal before earlier h.0 refl refl l h.1
 among-end mode before earlier end l (inr h) = Falls before [] earlier h.0 h.1 refl l (AtEnd refl refl h.2)
 
-among-tail : (mode : Mode) (before : History) (earlier : List Call) (end : ℕ) → AreLegal mode before earlier → (tail : Tail) → Among mode (in_order before []) tail end
+among-tail : (mode : Mode) (before : History) (earlier : List Told) (end : ℕ) → AreLegal mode before earlier → (tail : Tail) → Among mode (in_order before []) tail end
 among-tail mode before earlier end l Zeros = among-end mode before earlier end l (either (end_steps mode before (8 * end)))
 among-tail mode before earlier end l (Stray place) = Falls before [] earlier [] _ refl l (AtTail refl refl refl)
 among-tail mode before earlier end l (Bare place) = Falls before [] earlier [] _ refl l (AtTail refl refl refl)
 among-tail mode before earlier end l (Long place) = Falls before [] earlier [] _ refl l (AtTail refl refl refl)
 among-tail mode before earlier end l Cut = Falls before [] earlier [] _ refl l (AtTail refl refl refl)
 
-among : (mode : Mode) (before : History) (earlier : List Call) (end : ℕ) → AreLegal mode before earlier → (units : List NalUnit) (tail : Tail) → Among mode (in_order before units) tail end
+among : (mode : Mode) (before : History) (earlier : List Told) (end : ℕ) → AreLegal mode before earlier → (units : List NalUnit) (tail : Tail) → Among mode (in_order before units) tail end
 among mode before earlier end l [] tail = among-tail mode before earlier end l tail
 among mode before earlier end l (unit ∷ units) tail = by (either-unit mode before unit) (λ c calls h. among mode (record { unit = unit; content = c } ∷ before) (earlier ++ calls) end (earlier, calls, l, h, refl) units tail)
   where
-    by : Either mode before unit → ((c : Content) (calls : List Call) → IsLegal mode before (record { unit = unit; content = c }) calls → Among mode (in_order before (unit ∷ units)) tail end) → Among mode (in_order before (unit ∷ units)) tail end
+    by : Either mode before unit → ((c : Content) (calls : List Told) → IsLegal mode before (record { unit = unit; content = c }) calls → Among mode (in_order before (unit ∷ units)) tail end) → Among mode (in_order before (unit ∷ units)) tail end
     by (Fails stop calls h) next = Falls before (unit ∷ units) earlier calls stop refl l (AtNext unit units refl h)
     by (Legal c calls h) next = next c calls h
 
 -- some verdict, with its calls
 pub record SomeVerdict (mode : Mode) (bytes : List ℕ) : Type 0 where
-  pub calls : List Call
+  pub calls : List Told
   pub answer : Result Summary Stop
   pub verdict : Verdict mode bytes calls answer
 
 of-split : (mode : Mode) (bytes : List ℕ) (units : List NalUnit) (tail : Tail) → Splits 0 bytes units tail → Among mode units tail (length bytes) → SomeVerdict mode bytes
 of-split mode bytes units tail s (AllLegal reads first last e t l h) = record {
   calls = first ++ last;
-  answer = Ok (summary_of reads);
+  answer = Ok (summary_of mode reads);
   verdict = record { units = reads; stream = subst (λ us. Splits 0 bytes us Zeros) e (subst (Splits 0 bytes units) t s); first = first; last = last; legal = l; end = h; calls_are = refl; summary_is = refl };
 }
 of-split mode bytes units tail s (Falls before rest first last stop e l f) = record {
@@ -212,13 +218,13 @@ comes-verdict mode bytes o c =
 pub some-verdict : (mode : Mode) (bytes : List ℕ) → SomeVerdict mode bytes
 some-verdict mode bytes = let o = some-outcome (judging mode) [] bytes in of-split mode bytes o.1.units o.1.tail o.1.splits (among mode [] [] (length bytes) refl o.1.units o.1.tail)
 
-pub one-verdict : (mode : Mode) (bytes : List ℕ) (calls others : List Call) (one other : Result Summary Stop) → Verdict mode bytes calls one → Verdict mode bytes others other → (calls ≡ others) × (one ≡ other)
+pub one-verdict : (mode : Mode) (bytes : List ℕ) (calls others : List Told) (one other : Result Summary Stop) → Verdict mode bytes calls one → Verdict mode bytes others other → (calls ≡ others) × (one ≡ other)
 one-verdict mode bytes calls others one other a b =
     let e = one-outcome (judging mode) [] bytes (record { calls = calls; answer = one }) (record { calls = others; answer = other }) (verdict-comes mode bytes calls one a) (verdict-comes mode bytes others other b) in
     (ap (λ (o : Outcome Summary). o.calls) e, ap (λ (o : Outcome Summary). o.answer) e)
 
 -- What was played of the stream's outcome, behind what a sink was told before, is its verdict.
-module _ {S : Type 0} (mode : Mode) (took : S → List Call → Type 0) (failures : S → ℕ) (bytes : List ℕ) (calls : List Call) (later : Outcome Summary) (s s' : S) (v : (answer : Result Summary Stop) → later.answer ≡ answer → Verdict mode bytes (calls ++ later.calls) answer) where
+module _ {S : Type 0} (mode : Mode) (took : S → List Told → Type 0) (failures : S → ℕ) (bytes : List ℕ) (calls : List Told) (later : Outcome Summary) (s s' : S) (v : (answer : Result Summary Stop) → later.answer ≡ answer → Verdict mode bytes (calls ++ later.calls) answer) where
   whole : (answer : Result Summary Stop) → later.answer ≡ answer → Tells took s s' later.calls → Whole mode took bytes calls s s' answer
   whole answer e t = record { more = later.calls; tells = t; verdict = v answer e }
 
@@ -240,10 +246,16 @@ module _ {S : Type 0} (mode : Mode) (took : S → List Call → Type 0) (failure
   judged-by (Err Write) p = (front p.plays.0, p.plays.1)
 
 -- what was judged by the fold has this verdict
-pub judges-judged : {S : Type 0} (mode : Mode) (took : S → List Call → Type 0) (failures : S → ℕ) (bytes : List ℕ) (s s' : S) (result : Result Summary Stop) → Judges (judging mode) [] took failures bytes s s' result → Judged mode took failures bytes [] s s' result
-judges-judged mode took failures bytes s s' result j = record { judged = judged-by mode took failures bytes [] j.outcome s s' (λ answer e. subst (Verdict mode bytes j.outcome.calls) e (comes-verdict mode bytes j.outcome j.comes)) result j.ran }
+pub judges-judged : {S : Type 0} (mode : Mode) (took : S → List Call → Type 0) (failures : S → ℕ) (bytes : List ℕ) (frames : ℕ → Frame) (s s' : S) (result : Result Summary Stop) → JudgesWith mode took failures bytes s s' result → Judged mode took failures bytes frames [] s s' result
+judges-judged mode took failures bytes frames s s' result w =
+    let j = w.judges in
+    record {
+      made = w.frames;
+      same = record { calls = refl; decoded = λ x. x };
+      judged = judged-by mode (took_with w.frames took) failures bytes [] j.outcome s s' (λ answer e. subst (Verdict mode bytes j.outcome.calls) e (comes-verdict mode bytes j.outcome j.comes)) result j.ran;
+    }
 
-plays-rans : {S : Type 0} (took : S → List Call → Type 0) (failures : S → ℕ) (o : Outcome Summary) (s s' : S) (r : Result Summary Stop) → Plays took failures (λ (x : Summary). x) o s s' r → RansBy took failures o s s' r
+plays-rans : {S : Type 0} (took : S → List Told → Type 0) (failures : S → ℕ) (o : Outcome Summary) (s s' : S) (r : Result Summary Stop) → Plays took failures (λ (x : Summary). x) o s s' r → RansBy took failures o s s' r
 plays-rans took failures o s s' (Ok x) p = p
 plays-rans took failures o s s' (Err (No bit rule)) p = p
 plays-rans took failures o s s' (Err (Outside bit feature)) p = p
@@ -252,33 +264,45 @@ plays-rans took failures o s s' (Err Read) p = absurd p.plays
 plays-rans took failures o s s' (Err Write) p = p
 
 -- before the first byte
-pub fed-nothing : (mode : Mode) (session : Progress) → IsFresh session mode → WasFed mode session [] []
-fed-nothing mode session f = record {
+pub fed-nothing : (mode : Mode) (session : Progress) (frames : ℕ → Frame) → IsFresh session mode → WasFed mode session [] frames []
+fed-nothing mode session frames f = record {
   mode_is = f.mode_is;
   runs = f.stop;
   before = [];
-  keeps = f.keeps;
+  keeps = f.keeps frames;
   shown = subst (λ (split : Splitting). Shows 0 [] [] split.at split.rest) (sym f.split) (refl, refl);
   undecided = subst (λ (split : Splitting). IsUndecided split.rest) (sym f.split) (inl (0, refl));
   legal = refl;
+  of = tt;
   goes = λ more o c. (o, subst (λ split. ToCome (judging mode) (behind split []) more o) (sym f.split) c, refl);
 }
 
-fed-later : {mode : Mode} {session : Progress} {bytes : List ℕ} {calls : List Call} (w : WasFed mode session bytes calls) (more : List ℕ) (o : Outcome Summary) → Comes (judging mode) 0 [] (bytes ++ more) o → (later : Outcome Summary) × ToCome (judging mode) (behind session.split w.before) more later × ((answer : Result Summary Stop) → later.answer ≡ answer → Verdict mode (bytes ++ more) (calls ++ later.calls) answer)
-fed-later {mode} {session} {bytes} {calls} w more o c =
+fed-later : {mode : Mode} {session : Progress} {bytes : List ℕ} {frames : ℕ → Frame} {told : List Told} (w : WasFed mode session bytes frames told) (more : List ℕ) (o : Outcome Summary) → Comes (judging mode) 0 [] (bytes ++ more) o → (later : Outcome Summary) × ToCome (judging mode) (behind session.split w.before) more later × ((answer : Result Summary Stop) → later.answer ≡ answer → Verdict mode (bytes ++ more) (told ++ later.calls) answer)
+fed-later {mode} {session} {bytes} {told} w more o c =
     let f = w.goes more o c in
-    (f.0, f.1, λ answer e. subst (Verdict mode (bytes ++ more) (calls ++ f.0.calls)) e (subst (λ (q : Outcome Summary). Verdict mode (bytes ++ more) q.calls q.answer) f.2 (comes-verdict mode (bytes ++ more) o c)))
+    (f.0, f.1, λ answer e. subst (Verdict mode (bytes ++ more) (told ++ f.0.calls)) e (subst (λ (q : Outcome Summary). Verdict mode (bytes ++ more) q.calls q.answer) f.2 (comes-verdict mode (bytes ++ more) o c)))
 
 -- the same mode
-pub keeps-as : {before : History} {state : State} {m m' : Mode} → m ≡ m' → Keeps m before state → Keeps m' before state
-keeps-as {before} {state} e k = subst (λ m. Keeps m before state) e k
+pub keeps-as : {frames : ℕ → Frame} {before : History} {state : State} {m m' : Mode} → m ≡ m' → Keeps m frames before state → Keeps m' frames before state
+keeps-as {frames} {before} {state} e k = subst (λ m. Keeps m frames before state) e k
+
+pub goes-as : {S : Type 0} {took : S → List Call → Type 0} {frames : ℕ → Frame} {old : Standing History} {split : Splitting} {state : State} {piece left : List ℕ} {s s' : S} {m m' : Mode} → m ≡ m' → GoesOn m took frames old split state piece left s s' → GoesOn m' took frames old split state piece left s s'
+goes-as {took} {frames} {old} {split} {state} {piece} {left} {s} {s'} e f = subst (λ m. GoesOn m took frames old split state piece left s s') e f
+
+pub stops-as : {S : Type 0} {took : S → List Call → Type 0} {failures : S → ℕ} {frames : ℕ → Frame} {old : Standing History} {piece : List ℕ} {s s' : S} {stop : Stop} {m m' : Mode} → m ≡ m' → StopsOn m took failures frames old piece s s' stop → StopsOn m' took failures frames old piece s s' stop
+stops-as {took} {failures} {frames} {old} {piece} {s} {s'} {stop} e f = subst (λ m. StopsOn m took failures frames old piece s s' stop) e f
+
+pub finishes-as : {S : Type 0} {took : S → List Call → Type 0} {failures : S → ℕ} {frames : ℕ → Frame} {old : Standing History} {s s' : S} {r : Result Summary Stop} {m m' : Mode} → m ≡ m' → FinishesOn m took failures frames old s s' r → FinishesOn m' took failures frames old s s' r
+finishes-as {took} {failures} {frames} {old} {s} {s'} {r} e f = subst (λ m. FinishesOn m took failures frames old s s' r) e f
 
 -- a piece more
-fed-piece : {S : Type 0} (mode : Mode) (took : S → List Call → Type 0) (failures : S → ℕ) (old new : Progress) (bytes piece : List ℕ) (calls : List Call) (s s' : S) (w : WasFed mode old bytes calls) → new.mode ≡ old.mode → new.stop ≡ None → IsUndecided new.split.rest → GoesOn mode took (behind old.split w.before) new.split new.state piece [] s s' → failures s' ≡ failures s → IsFed mode took failures new (bytes ++ piece) calls s s'
-fed-piece mode took failures old new bytes piece calls s s' w m runs u on k =
+fed-piece : {S : Type 0} (mode : Mode) (took : S → List Call → Type 0) (failures : S → ℕ) (old new : Progress) (bytes piece : List ℕ) (frames : ℕ → Frame) (told : List Told) (s s' : S) (w : WasFed mode old bytes frames told) → new.mode ≡ old.mode → new.stop ≡ None → IsUndecided new.split.rest → GoesOn mode took frames (behind old.split w.before) new.split new.state piece [] s s' → failures s' ≡ failures s → IsFed mode took failures new (bytes ++ piece) frames told s s'
+fed-piece mode took failures old new bytes piece frames told s s' w m runs u on k =
     let g = on.goes in
-    let legal = leads-legal mode on.after w.before g.way.units g.calls calls g.way.led w.legal in
+    let legal = leads-legal mode on.after w.before g.way.units g.calls told g.way.led w.legal in
     record {
+      made = on.made;
+      same = told-agree (ended_in w.before) frames on.made told on.same w.of;
       more = g.calls;
       tells = g.tells;
       fed = record {
@@ -289,10 +313,11 @@ fed-piece mode took failures old new bytes piece calls s s' w m runs u on k =
         shown = subst (λ us. Shows 0 (bytes ++ piece) us new.split.at new.split.rest) (sym legal.1) (shown-on g.way.units w.shown g.way.shown);
         undecided = u;
         legal = legal.0;
+        of = of-both (ended_in on.after) told g.calls (of-more (ended_in w.before) (ended_in on.after) told on.grows w.of) on.of;
         goes = λ more o c.
             let f = w.goes (piece ++ more) o (subst (λ l. Comes (judging mode) 0 [] l o) (append_assoc bytes piece more) c) in
             let n = g.after more f.0 f.1 in
-            (n.0, n.1, f.2 ∙ ap (with_calls calls) n.2 ∙ sym (with-both calls g.calls n.0));
+            (n.0, n.1, f.2 ∙ ap (with_calls told) n.2 ∙ sym (with-both told g.calls n.0));
       };
       kept = k;
     }
@@ -307,65 +332,142 @@ fed-piece mode took failures old new bytes piece calls s s' w m runs u on k =
         (shows-both 0 (bytes ++ piece) (in_order w.before []) units old.split.at new.split.at (old.split.rest ++ piece) new.split.rest (shows-more 0 bytes (in_order w.before []) old.split.at old.split.rest piece a) (shows-as old.split.at new.split.at units _ _ _ _ refl (append-nil new.split.rest) b))
 
 -- a stop, however the input goes on
-fed-stop : {S : Type 0} (mode : Mode) (took : S → List Call → Type 0) (failures : S → ℕ) (old : Progress) (bytes piece : List ℕ) (calls : List Call) (s s' : S) (stop : Stop) (w : WasFed mode old bytes calls) → Stops (judging mode) took failures (behind old.split w.before) piece s s' stop → (later : List ℕ) → Judged mode took failures ((bytes ++ piece) ++ later) calls s s' (Err stop)
-fed-stop mode took failures old bytes piece calls s s' stop w p later =
+fed-stop : {S : Type 0} (mode : Mode) (took : S → List Call → Type 0) (failures : S → ℕ) (old : Progress) (bytes piece : List ℕ) (frames : ℕ → Frame) (told : List Told) (s s' : S) (stop : Stop) (w : WasFed mode old bytes frames told) → StopsOn mode took failures frames (behind old.split w.before) piece s s' stop → (later : List ℕ) → Judged mode took failures ((bytes ++ piece) ++ later) frames told s s' (Err stop)
+fed-stop mode took failures old bytes piece frames told s s' stop w p later =
     let o = some-outcome (judging mode) [] (bytes ++ (piece ++ later)) in
     let f = fed-later w (piece ++ later) o.0 o.1 in
-    subst (λ l. Judged mode took failures l calls s s' (Err stop)) (sym (append_assoc bytes piece later))
-    (record { judged = judged-by mode took failures (bytes ++ (piece ++ later)) calls f.0 s s' f.2 (Err stop) (stops-plays (judging mode) took failures (behind old.split w.before) piece later s s' stop f.0 p.stops f.1) })
+    subst (λ l. Judged mode took failures l frames told s s' (Err stop)) (sym (append_assoc bytes piece later))
+    (record {
+      made = p.made;
+      same = told-agree (ended_in w.before) frames p.made told p.same w.of;
+      judged = judged-by mode (took_with p.made took) failures (bytes ++ (piece ++ later)) told f.0 s s' f.2 (Err stop) (stops-plays (judging mode) (took_with p.made took) failures (behind old.split w.before) piece later s s' stop f.0 p.stops.stops f.1);
+    })
 
 -- the end of the input
-pub fed-end : {S : Type 0} (mode : Mode) (took : S → List Call → Type 0) (failures : S → ℕ) (session : Progress) (bytes : List ℕ) (calls : List Call) (s s' : S) (r : Result Summary Stop) (w : WasFed mode session bytes calls) → Finishes (judging session.mode) took failures (behind session.split w.before) s s' r → Judged mode took failures bytes calls s s' r
-fed-end mode took failures session bytes calls s s' r w q =
-    let p = subst (λ m. Finishes (judging m) took failures (behind session.split w.before) s s' r) w.mode_is q in
+pub fed-end : {S : Type 0} (mode : Mode) (took : S → List Call → Type 0) (failures : S → ℕ) (session : Progress) (bytes : List ℕ) (frames : ℕ → Frame) (told : List Told) (s s' : S) (r : Result Summary Stop) (w : WasFed mode session bytes frames told) → FinishesOn session.mode took failures frames (behind session.split w.before) s s' r → Judged mode took failures bytes frames told s s' r
+fed-end mode took failures session bytes frames told s s' r w q =
+    let p = finishes-as w.mode_is q in
     let o = some-outcome (judging mode) [] (bytes ++ []) in
     let f = fed-later w [] o.0 o.1 in
-    subst (λ l. Judged mode took failures l calls s s' r) (append-nil bytes)
-    (record { judged = judged-by mode took failures (bytes ++ []) calls f.0 s s' f.2 r (plays-rans took failures f.0 s s' r (p.finishes f.0 f.1)) })
+    subst (λ l. Judged mode took failures l frames told s s' r) (append-nil bytes)
+    (record {
+      made = p.made;
+      same = told-agree (ended_in w.before) frames p.made told p.same w.of;
+      judged = judged-by mode (took_with p.made took) failures (bytes ++ []) told f.0 s s' f.2 r (plays-rans (took_with p.made took) failures f.0 s s' r (p.finishes.finishes f.0 f.1));
+    })
 
 -- as the answer of a call
-pub fed-ok : {S : Type 0} (mode : Mode) (took : S → List Call → Type 0) (failures : S → ℕ) (old new : Progress) (bytes piece : List ℕ) (calls : List Call) (s s' : S) (r : Result (Unit {0}) Stop) (w : WasFed mode old bytes calls) → new.mode ≡ old.mode → OnOk r (new.stop ≡ None) → OnOk r (IsUndecided old.split.rest → IsUndecided new.split.rest) → OnOk r (GoesOn old.mode took (behind old.split w.before) new.split new.state piece [] s s') → OnOk r (failures s' ≡ failures s) → OnOk r (IsFed mode took failures new (bytes ++ piece) calls s s')
-fed-ok mode took failures old new bytes piece calls s s' (Ok x) w m runs u g k = fed-piece mode took failures old new bytes piece calls s s' w m runs (u w.undecided) (subst (λ m. GoesOn m took (behind old.split w.before) new.split new.state piece [] s s') w.mode_is g) k
-fed-ok mode took failures old new bytes piece calls s s' (Err e) w m runs u g k = tt
+pub fed-ok : {S : Type 0} (mode : Mode) (took : S → List Call → Type 0) (failures : S → ℕ) (old new : Progress) (bytes piece : List ℕ) (frames : ℕ → Frame) (told : List Told) (s s' : S) (r : Result (Unit {0}) Stop) (w : WasFed mode old bytes frames told) → new.mode ≡ old.mode → OnOk r (new.stop ≡ None) → OnOk r (IsUndecided old.split.rest → IsUndecided new.split.rest) → OnOk r (GoesOn old.mode took frames (behind old.split w.before) new.split new.state piece [] s s') → OnOk r (failures s' ≡ failures s) → OnOk r (IsFed mode took failures new (bytes ++ piece) frames told s s')
+fed-ok mode took failures old new bytes piece frames told s s' (Ok x) w m runs u g k = fed-piece mode took failures old new bytes piece frames told s s' w m runs (u w.undecided) (goes-as w.mode_is g) k
+fed-ok mode took failures old new bytes piece frames told s s' (Err e) w m runs u g k = tt
 
-pub fed-err : {S : Type 0} (mode : Mode) (took : S → List Call → Type 0) (failures : S → ℕ) (old : Progress) (bytes piece : List ℕ) (calls : List Call) (s s' : S) (r : Result (Unit {0}) Stop) (w : WasFed mode old bytes calls) → IfErr r (λ stop. Stops (judging old.mode) took failures (behind old.split w.before) piece s s' stop) → IfErr r (λ stop. (later : List ℕ) → Judged mode took failures ((bytes ++ piece) ++ later) calls s s' (Err stop))
-fed-err mode took failures old bytes piece calls s s' (Ok x) w p = tt
-fed-err mode took failures old bytes piece calls s s' (Err stop) w p = fed-stop mode took failures old bytes piece calls s s' stop w (subst (λ m. Stops (judging m) took failures (behind old.split w.before) piece s s' stop) w.mode_is p)
+pub fed-err : {S : Type 0} (mode : Mode) (took : S → List Call → Type 0) (failures : S → ℕ) (old : Progress) (bytes piece : List ℕ) (frames : ℕ → Frame) (told : List Told) (s s' : S) (r : Result (Unit {0}) Stop) (w : WasFed mode old bytes frames told) → IfErr r (StopsOn old.mode took failures frames (behind old.split w.before) piece s s') → IfErr r (λ stop. (later : List ℕ) → Judged mode took failures ((bytes ++ piece) ++ later) frames told s s' (Err stop))
+fed-err mode took failures old bytes piece frames told s s' (Ok x) w p = tt
+fed-err mode took failures old bytes piece frames told s s' (Err stop) w p = fed-stop mode took failures old bytes piece frames told s s' stop w (stops-as w.mode_is p)
 
--- a source before its first read
-pub fed-first : {S : Type 0} (mode : Mode) (took : S → List Call → Type 0) (known : Option (List ℕ)) (bytes : List ℕ) (session : Progress) (s : S) → IsFresh session mode → known ≡ Some bytes → FedOn mode took known bytes session s s
-fed-first mode took known bytes session s f h = record {
-  mode_is = f.mode_is;
-  after = [];
-  keeps = f.keeps;
-  fed = subst (λ split. Fed (judging mode) took known bytes (behind at_start []) (behind split []) s s) (sym f.split) (fed-none (judging mode) took known bytes (behind at_start []) s h);
+-- ---- a source
+
+-- before its first read
+none-yet : {S : Type 0} (mode : Mode) (took : S → List Told → Type 0) (split : Splitting) (s : S) → split ≡ at_start → Goes (judging mode) took (behind at_start []) (behind split []) [] [] s s
+none-yet mode took split s e = record {
+  calls = [];
+  tells = tells-none took s;
+  way = subst (λ (w : Splitting). Way (judging mode) (behind at_start []) (behind w []) [] [] []) (sym e) (way-none (judging mode) (behind at_start []) []);
+  after = λ more o c. (o, subst (λ (w : Splitting). ToCome (judging mode) (behind w []) more o) (sym e) c, refl);
 }
 
--- a source that has no more bytes
-pub fed-last : {S : Type 0} (mode : Mode) (took : S → List Call → Type 0) (failures : S → ℕ) (known : Option (List ℕ)) (bytes : List ℕ) (old new : Progress) (s0 s1 s1' s2 : S) (r : Result Summary Stop) → new ≡ old → s1' ≡ s1 → ((left : List ℕ) → known ≡ Some left → left ≡ []) → FedOn mode took known bytes old s0 s1 → failures s1 ≡ failures s0 → ((before : History) → Keeps new.mode before new.state → Finishes (judging new.mode) took failures (behind new.split before) s1' s2 r) → Judges (judging mode) [] took failures bytes s0 s2 r
+pub fed-first : {S : Type 0} (mode : Mode) (took : S → List Call → Type 0) (known : Option (List ℕ)) (bytes : List ℕ) (session : Progress) (frames : ℕ → Frame) (s : S) → IsFresh session mode → known ≡ Some bytes → FedOn mode took known bytes session s s
+unfolding none-yet
+fed-first mode took known bytes session frames s f h = record {
+  mode_is = f.mode_is;
+  frames = frames;
+  after = [];
+  keeps = f.keeps frames;
+  fed = record { fed = []; left = bytes; known_is = h; whole = refl; goes = none-yet mode (took_with frames took) session.split s f.split };
+  of = tt;
+}
+
+-- an interrupted read took no byte
+pub fed-again : {S : Type 0} {mode : Mode} {took : S → List Call → Type 0} {known : Option (List ℕ)} {bytes : List ℕ} {session : Progress} {s s' : S} (known' : Option (List ℕ)) → ((left : List ℕ) → known ≡ Some left → known' ≡ Some left) → FedOn mode took known bytes session s s' → FedOn mode took known' bytes session s s'
+unfolding fed-same
+fed-again {mode} {took} {known} {bytes} {session} {s} {s'} known' r f = record {
+  mode_is = f.mode_is;
+  frames = f.frames;
+  after = f.after;
+  keeps = f.keeps;
+  fed = fed-same (judging mode) (took_with f.frames took) known known' bytes (behind at_start []) (behind session.split f.after) s s' r f.fed;
+  of = f.of;
+}
+
+-- a piece more
+pub fed-more : {S : Type 0} {mode : Mode} {took : S → List Call → Type 0} {known : Option (List ℕ)} {bytes : List ℕ} {old new : Progress} {s0 s1 s2 : S} (known' : Option (List ℕ)) (piece : List ℕ) (n : ℕ) → new.mode ≡ old.mode → ((left : List ℕ) → known ≡ Some left → (left ≡ take n piece ++ drop n left) × (known' ≡ Some (drop n left))) → (f : FedOn mode took known bytes old s0 s1) → GoesOn old.mode took f.frames (behind old.split f.after) new.split new.state (take n piece) [] s1 s2 → FedOn mode took known' bytes new s0 s2
+unfolding fed-on fed-agree goes-agree goes-then goes-both goes-more
+fed-more {mode} {took} {known} {bytes} {old} {new} {s0} {s1} {s2} known' piece n m r f q =
+    let g = goes-as f.mode_is q in
+    record {
+      mode_is = m ∙ f.mode_is;
+      frames = g.made;
+      after = g.after;
+      keeps = keeps-as (sym (m ∙ f.mode_is)) g.keeps;
+      fed = fed-on (judging mode) (took_with g.made took) known known' bytes piece n (behind at_start []) (behind old.split f.after) (behind new.split g.after) s0 s1 s2 r (fed-agree took (ended_in f.after) f.frames g.made g.same f.fed f.of) g.goes;
+      of = of-both (ended_in g.after) f.fed.goes.calls g.goes.calls (of-more (ended_in f.after) (ended_in g.after) f.fed.goes.calls g.grows f.of) g.of;
+    }
+
+-- a stop at a piece
+pub fed-halts : {S : Type 0} {mode : Mode} {took : S → List Call → Type 0} {failures : S → ℕ} {known : Option (List ℕ)} {bytes : List ℕ} {old : Progress} {s0 s1 s2 : S} {stop : Stop} (known' : Option (List ℕ)) (piece : List ℕ) (n : ℕ) → ((left : List ℕ) → known ≡ Some left → (left ≡ take n piece ++ drop n left) × (known' ≡ Some (drop n left))) → (f : FedOn mode took known bytes old s0 s1) → failures s1 ≡ failures s0 → StopsOn old.mode took failures f.frames (behind old.split f.after) (take n piece) s1 s2 stop → JudgesWith mode took failures bytes s0 s2 (Err stop)
+fed-halts {mode} {took} {failures} {known} {bytes} {old} {s0} {s1} {s2} {stop} known' piece n r f k q =
+    let p = stops-as f.mode_is q in
+    record {
+      frames = p.made;
+      judges = fed-stops (judging mode) [] (took_with p.made took) failures known known' bytes piece n (behind old.split f.after) s0 s1 s2 stop r (fed-agree took (ended_in f.after) f.frames p.made p.same f.fed f.of) k p.stops;
+    }
+
+-- the source failed
+pub fed-fails : {S : Type 0} {mode : Mode} {took : S → List Call → Type 0} {failures : S → ℕ} {known : Option (List ℕ)} {bytes : List ℕ} {session : Progress} {s s' : S} → FedOn mode took known bytes session s s' → failures s' ≡ failures s → JudgesWith mode took failures bytes s s' (Err Read)
+fed-fails {mode} {took} {failures} {known} {bytes} {session} {s} {s'} f k = record { frames = f.frames; judges = fed-read (judging mode) [] (took_with f.frames took) failures known bytes (behind session.split f.after) s s' f.fed k }
+
+-- it has no more bytes
+pub fed-last : {S : Type 0} (mode : Mode) (took : S → List Call → Type 0) (failures : S → ℕ) (known : Option (List ℕ)) (bytes : List ℕ) (old new : Progress) (s0 s1 s1' s2 : S) (r : Result Summary Stop) → new ≡ old → s1' ≡ s1 → ((left : List ℕ) → known ≡ Some left → left ≡ []) → FedOn mode took known bytes old s0 s1 → failures s1 ≡ failures s0 → ((frames : ℕ → Frame) (before : History) → Keeps new.mode frames before new.state → FinishesOn new.mode took failures frames (behind new.split before) s1' s2 r) → JudgesWith mode took failures bytes s0 s2 r
 fed-last mode took failures known bytes old new s0 s1 s1' s2 r e d none f k p =
-    let keeps = subst (λ (w : Progress). Keeps w.mode f.after w.state) (sym e) f.keeps in
+    let keeps = subst (λ (w : Progress). Keeps w.mode f.frames f.after w.state) (sym e) f.keeps in
     let m : new.mode ≡ mode = ap (λ (w : Progress). w.mode) e ∙ f.mode_is in
-    let q = subst (λ m. Finishes (judging m) took failures (behind new.split f.after) s1' s2 r) m (p f.after keeps) in
-    fed-ends (judging mode) [] took failures known bytes (behind old.split f.after) (behind new.split f.after) s0 s1 s1' s2 r (ap (λ (w : Progress). behind w.split f.after) e) d none f.fed k q
+    let q = finishes-as m (p f.frames f.after keeps) in
+    record {
+      frames = q.made;
+      judges = fed-ends (judging mode) [] (took_with q.made took) failures known bytes (behind old.split f.after) (behind new.split f.after) s0 s1 s1' s2 r (ap (λ (w : Progress). behind w.split f.after) e) d none (fed-agree took (ended_in f.after) f.frames q.made q.same f.fed f.of) k q.finishes;
+    }
+
+-- nothing was fed: memory was refused at once
+pub none-judged : {S : Type 0} (mode : Mode) (took : S → List Call → Type 0) (failures : S → ℕ) (bytes : List ℕ) (frames : ℕ → Frame) (s : S) → JudgesWith mode took failures bytes s s (Err Memory)
+none-judged mode took failures bytes frames s = record { frames = frames; judges = judges-memory (judging mode) [] (took_with frames took) failures bytes s }
+
+-- ---- pieces
 
 -- no piece yet
-pub pieces-first : {S : Type 0} (mode : Mode) (took : S → List Call → Type 0) (session : Progress) (s : S) → IsFresh session mode → GoesOn mode took (behind at_start []) session.split session.state [] [] s s
-pieces-first mode took session s f = record {
-  after = [];
-  keeps = subst (λ m. Keeps m [] session.state) f.mode_is f.keeps;
-  goes = subst (λ split. Goes (judging mode) took (behind at_start []) (behind split []) [] [] s s) (sym f.split) (goes-none (judging mode) took (behind at_start []) [] s);
+pub pieces-first : {S : Type 0} (mode : Mode) (took : S → List Call → Type 0) (session : Progress) (frames : ℕ → Frame) (s : S) → IsFresh session mode → GoesOn mode took frames (behind at_start []) session.split session.state [] [] s s
+pieces-first mode took session frames s f =
+    subst (λ (split : Splitting). GoesOn mode took frames (behind at_start []) split session.state [] [] s s) (sym f.split)
+    (on-none mode took frames at_start [] session.state [] s (keeps-as f.mode_is (f.keeps frames)))
+
+-- one more
+pub pieces-on : {S X : Type 0} {mode : Mode} {took : S → List Call → Type 0} {frames : ℕ → Frame} {mid split : Splitting} {first state : State} {s0 s1 s2 : S} (f : X → List ℕ) (xs : List X) (i : ℕ) (x : X) (piece : List ℕ) → i < length xs → x ≡ get_or xs i x → piece ≡ f x → (a : GoesOn mode took frames (behind at_start []) mid first (flat_map f (take i xs)) [] s0 s1) → GoesOn mode took a.made (behind mid a.after) split state piece [] s1 s2 → GoesOn mode took frames (behind at_start []) split state (flat_map f (take (i + 1) xs)) [] s0 s2
+pieces-on {mode} {took} {frames} {mid} {split} {first} {state} {s0} {s2} f xs i x piece h e p a b =
+    subst (λ (l : List ℕ). GoesOn mode took frames (behind at_start []) split state l [] s0 s2) (piece-more f xs i x piece h e p) (on-then a b)
+
+-- a stop at one
+pub pieces-halt : {S : Type 0} {mode : Mode} {took : S → List Call → Type 0} {failures : S → ℕ} {frames : ℕ → Frame} {mid : Splitting} {first : State} {s0 s1 s2 : S} {stop : Stop} (bytes before piece later : List ℕ) → bytes ≡ before ++ (piece ++ later) → (a : GoesOn mode took frames (behind at_start []) mid first before [] s0 s1) → failures s1 ≡ failures s0 → StopsOn mode took failures a.made (behind mid a.after) piece s1 s2 stop → JudgesWith mode took failures bytes s0 s2 (Err stop)
+pieces-halt {mode} {took} {failures} {frames} {mid} {s0} {s1} {s2} {stop} bytes before piece later e a k p = record {
+  frames = p.made;
+  judges = pieces-stop (judging mode) [] (took_with p.made took) failures bytes before piece later (behind mid a.after) s0 s1 s2 stop e (goes-agree took (ended_in a.after) a.made p.made p.same a.goes a.of) k p.stops;
+}
+
+-- all of them
+pub pieces-end : {S X : Type 0} {mode : Mode} {took : S → List Call → Type 0} {failures : S → ℕ} {frames : ℕ → Frame} {mid : Splitting} {first : State} {s0 s1 s2 : S} {r : Result Summary Stop} (f : X → List ℕ) (xs : List X) (n : ℕ) → n ≡ length xs → (a : GoesOn mode took frames (behind at_start []) mid first (flat_map f (take n xs)) [] s0 s1) → failures s1 ≡ failures s0 → FinishesOn mode took failures a.made (behind mid a.after) s1 s2 r → JudgesWith mode took failures (flat_map f xs) s0 s2 r
+pieces-end {mode} {took} {failures} {frames} {mid} {s0} {s1} {s2} {r} f xs n e a k p = record {
+  frames = p.made;
+  judges = pieces-finish (judging mode) [] (took_with p.made took) failures (flat_map f xs) (behind mid a.after) s0 s1 s2 r (goes-all f xs n e (goes-agree took (ended_in a.after) a.made p.made p.same a.goes a.of)) k p.finishes;
 }
 
 -- the same mode
 pub fed-as : {S : Type 0} {took : S → List Call → Type 0} {known : Option (List ℕ)} {bytes : List ℕ} {session : Progress} {s s' : S} {m m' : Mode} → m ≡ m' → FedOn m took known bytes session s s' → FedOn m' took known bytes session s s'
 fed-as {took} {known} {bytes} {session} {s} {s'} e f = subst (λ m. FedOn m took known bytes session s s') e f
-
-pub goes-as : {S : Type 0} {took : S → List Call → Type 0} {old : Standing History} {split : Splitting} {state : State} {piece left : List ℕ} {s s' : S} {m m' : Mode} → m ≡ m' → GoesOn m took old split state piece left s s' → GoesOn m' took old split state piece left s s'
-goes-as {took} {old} {split} {state} {piece} {left} {s} {s'} e f = subst (λ m. GoesOn m took old split state piece left s s') e f
-
-pub stops-as : {S : Type 0} {took : S → List Call → Type 0} {failures : S → ℕ} {old : Standing History} {piece : List ℕ} {s s' : S} {stop : Stop} {m m' : Mode} → m ≡ m' → Stops (judging m) took failures old piece s s' stop → Stops (judging m') took failures old piece s s' stop
-stops-as {took} {failures} {old} {piece} {s} {s'} {stop} e f = subst (λ m. Stops (judging m) took failures old piece s s' stop) e f
-
-pub finishes-as : {S : Type 0} {took : S → List Call → Type 0} {failures : S → ℕ} {old : Standing History} {s s' : S} {r : Result Summary Stop} {m m' : Mode} → m ≡ m' → Finishes (judging m) took failures old s s' r → Finishes (judging m') took failures old s s' r
-finishes-as {took} {failures} {old} {s} {s'} {r} e f = subst (λ m. Finishes (judging m) took failures old s s' r) e f

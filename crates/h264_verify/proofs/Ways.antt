@@ -2,7 +2,7 @@
 use Rattle.std.proofs.Common.{◌≡◌, ℕ, IsFalse, List, [], ◌∷◌, ◌++◌, take, drop, Result, Ok, refl, ap, sym, ◌∙◌, subst, append_assoc}
 use Rattle.std.proofs.lemmas.List.{append-nil, take-append-drop}
 use Rattle.h264_base.specs.declared.stop.Stop.{Stop}
-use Rattle.h264_base.specs.Call.{Call}
+use Rattle.h264_verify.specs.Telling.{Told}
 use Rattle.h264_units.specs.Stream.{NalUnit, Next, past}
 use Rattle.h264_units.specs.Splitting.{Splitting, Pushed, Taken}
 use Rattle.h264_verify.specs.Outcome.{Outcome}
@@ -24,7 +24,7 @@ shows-more at bytes (u ∷ us) end rest more a = (a.0 ++ more, λ later. moved a
     moved : (at : ℕ) (u : NalUnit) (bytes left more later : List ℕ) → Next at (bytes ++ (more ++ later)) u (left ++ (more ++ later)) → Next at ((bytes ++ more) ++ later) u ((left ++ more) ++ later)
     moved at u bytes left more later n = subst (λ l. Next at l u ((left ++ more) ++ later)) (sym (append_assoc bytes more later)) (subst (λ l. Next at (bytes ++ (more ++ later)) u l) (sym (append_assoc left more later)) n)
 
-pub leads-both : {State Summary : Type 0} (j : Judging State Summary) (old mid new : State) (us vs : List NalUnit) (xs ys : List Call) → Leads j old us xs mid → Leads j mid vs ys new → Leads j old (us ++ vs) (xs ++ ys) new
+pub leads-both : {State Summary : Type 0} (j : Judging State Summary) (old mid new : State) (us vs : List NalUnit) (xs ys : List Told) → Leads j old us xs mid → Leads j mid vs ys new → Leads j old (us ++ vs) (xs ++ ys) new
 leads-both j old mid new [] vs xs ys a b = subst (λ l. Leads j old vs (l ++ ys) new) (sym a.0) (subst (λ s. Leads j s vs ys new) a.1 b)
 leads-both j old mid new (u ∷ us) vs xs ys a b = (a.0, a.1, a.2 ++ ys, a.3, leads-both j a.0 mid new us vs a.2 ys a.4 b, ap (λ l. l ++ ys) a.5 ∙ append_assoc a.1 a.2 ys)
 
@@ -48,7 +48,7 @@ way-unit {State} j old new state after unit left t live e = record {
     moved : (more : List ℕ) → Next old.at (old.rest ++ (left ++ more)) unit (new.rest ++ (left ++ more)) → Next old.at ((old.rest ++ left) ++ more) unit ((new.rest ++ left) ++ more)
     moved more n = subst (λ l. Next old.at l unit ((new.rest ++ left) ++ more)) (sym (append_assoc old.rest left more)) (subst (λ l. Next old.at (old.rest ++ (left ++ more)) unit l) (sym (append_assoc new.rest left more)) n)
 
-pub way-both : {State Summary : Type 0} {j : Judging State Summary} {old mid new : Standing State} {piece left last : List ℕ} {xs ys : List Call} → Way j old mid piece left xs → Way j mid new left last ys → Way j old new piece last (xs ++ ys)
+pub way-both : {State Summary : Type 0} {j : Judging State Summary} {old mid new : Standing State} {piece left last : List ℕ} {xs ys : List Told} → Way j old mid piece left xs → Way j mid new left last ys → Way j old new piece last (xs ++ ys)
 way-both {j} {old} {mid} {new} {piece} {left} {last} {xs} {ys} a b = record {
   units = a.units ++ b.units;
   shown = shows-both old.split.at (old.split.rest ++ piece) a.units b.units mid.split.at new.split.at (mid.split.rest ++ left) (new.split.rest ++ last) a.shown b.shown;
@@ -56,7 +56,7 @@ way-both {j} {old} {mid} {new} {piece} {left} {last} {xs} {ys} a b = record {
 }
 
 -- bytes that come later come later
-pub way-more : {State Summary : Type 0} {j : Judging State Summary} {old new : Standing State} {a : List ℕ} {calls : List Call} (b : List ℕ) → Way j old new a [] calls → Way j old new (a ++ b) b calls
+pub way-more : {State Summary : Type 0} {j : Judging State Summary} {old new : Standing State} {a : List ℕ} {calls : List Told} (b : List ℕ) → Way j old new a [] calls → Way j old new (a ++ b) b calls
 way-more {j} {old} {new} {a} b w = record {
   units = w.units;
   shown = shows-as old.split.at new.split.at w.units _ _ _ _ (append_assoc old.split.rest a b) (ap (λ l. l ++ b) (append-nil new.split.rest)) (shows-more old.split.at (old.split.rest ++ a) w.units new.split.at (new.split.rest ++ []) b w.shown);

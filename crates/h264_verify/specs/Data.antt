@@ -1,6 +1,5 @@
 -- Slice data behind a slice's header, by what the units so far give (7.3.4). To be read beside the standard.
 use Rattle.std.specs.Prelude.{ℕ, Bool, true, false, Option, Some, None, List, [], ◌∷◌}
-use Rattle.std.specs.Result.{result_unwrap_or}
 use Rattle.h264_base.specs.Grammar.{Grammar, Done}
 use Rattle.h264_units.specs.Stream.{NalUnit}
 use Rattle.h264_sps.specs.declared.sps.Sps.{Sps}
@@ -12,9 +11,8 @@ use Rattle.h264_mbsyntax.specs.Slice.{slice_data}
 use Rattle.h264_picture.specs.Context.{slice_context}
 use Rattle.h264_picture.specs.Levels.{transform_fits}
 use Rattle.h264_verify.specs.History.{History}
-use Rattle.h264_verify.specs.Pictures.{CodedSlice, CodedPicture, coded_of, picture_size, with_sets, sets_at, joined_to, runs_of, begins_at, held_in}
-use Rattle.h264_marking.specs.Ended.{numbering_of}
-use Rattle.h264_verify.specs.Slices.{list_of}
+use Rattle.h264_verify.specs.Pictures.{CodedSlice, CodedPicture, coded_of, picture_size, with_sets, sets_at, joined_to, runs_of, begins_at}
+use Rattle.h264_verify.specs.Lists.{list_in}
 
 -- the sequence parameter set by which a picture is as large as it is: that of its first slice
 abbrev pub picture_set : Bool → CodedSlice → List CodedPicture → Sps
@@ -26,10 +24,6 @@ picture_set false s (p ∷ pictures) = p.first.sps
 abbrev pub coded_so_far : Bool → List CodedPicture → List CodedMacroblock
 coded_so_far true pictures = []
 coded_so_far false pictures = coded_of pictures
-
--- the reference list of a slice of the newest of these pictures; the rules on it are met
-abbrev pub list_in : List CodedPicture → CodedSlice → List RefSlot
-list_in pictures s = result_unwrap_or (list_of s.header.kind.value (numbering_of s.sps s.header) (held_in pictures)) []
 
 -- slice data by the parameter sets, the header and the reference list, behind the macroblocks so far of a picture of this size
 unfoldable pub slice_syntax : ℕ → ℕ → Pps → Sps → Header → List RefSlot → List CodedMacroblock → Grammar (List CodedMacroblock)

@@ -1,76 +1,140 @@
 -- What a session was fed. A working form.
-use Rattle.std.specs.Prelude.{◌≡◌, ℕ, List, [], ◌++◌, None, Option, OnOk, Result}
+use Rattle.std.specs.Prelude.{◌≡◌, ◌≤◌, ℕ, Bool, true, false, List, [], ◌++◌, length, None, Option, OnOk, Result}
 use Rattle.h264_base.specs.declared.mode.Mode.{Mode}
+use Rattle.h264_base.specs.declared.mode.Mode.TheVariants as modes
 use Rattle.h264_base.specs.declared.stop.Stop.{Stop}
-use Rattle.h264_base.specs.Call.{Call, Tells}
+use Rattle.h264_base.specs.Call.{Call}
+use Rattle.h264_plane.specs.declared.frame.Frame.{Frame}
 use Rattle.h264_units.specs.Stream.{NalUnit, IsUndecided}
 use Rattle.h264_units.specs.Splitting.{Splitting, at_start}
 use Rattle.h264_near.specs.Coded.{CodedMacroblock}
-use Rattle.h264_picture.specs.declared.work.Work.{Work}
-use Rattle.h264_picture.specs.Holds.{Holds}
 use Rattle.h264_verify.specs.declared.judge.State.{State}
 use Rattle.h264_verify.specs.declared.judge.Summary.{Summary}
+use Rattle.h264_verify.specs.declared.decoder.Decoder.{Decoder}
+use Rattle.h264_verify.specs.Telling.{Told, Tells, took_with, Agree, AreOf}
 use Rattle.h264_verify.specs.Outcome.{Outcome, with_calls, Plays}
 use Rattle.h264_verify.specs.Judging.{Comes}
 use Rattle.h264_verify.specs.History.{History}
-use Rattle.h264_verify.specs.Keeping.{Keeps}
-use Rattle.h264_verify.specs.Session.{Standing, ToCome, Shows, Goes, Fed}
-use Rattle.h264_verify.specs.Verdict.{in_order, AreLegal}
-use Rattle.h264_verify.specs.UnitOutcome.{judging, unit_outcome}
+use Rattle.h264_pps.specs.declared.Pps.{Pps}
+use Rattle.h264_sps.specs.declared.sps.Sps.{Sps}
+use Rattle.h264_header.specs.declared.header.Header.{Header}
+use Rattle.h264_verify.specs.Pictures.{CodedPicture, with_sets, goes_on, runs_of}
+use Rattle.h264_verify.specs.Slices.{slice_steps}
+use Rattle.h264_verify.specs.Keeping.{Keeps, KeepsDecoder, EntersDecoder, ended_pictures, ended_in}
+use Rattle.h264_verify.specs.Session.{Standing, ToCome, Shows, Goes, Stops, Finishes, Fed, Judges}
+use Rattle.h264_verify.specs.Verdict.{in_order, AreLegal, SameTold}
+use Rattle.h264_verify.specs.UnitOutcome.{steps_outcome, judging, unit_outcome, end_outcome}
 use Rattle.h264_verify.specs.Progress.{Progress}
 
 -- where a session stands behind these units
 abbrev pub behind : Splitting → History → Standing History
 behind split before = record { split = split; state = before }
 
+-- The picture that may go on has ended, or not; with these frames and one more, if it has, this was told, and that is kept.
+pub record EndsFrames {S : Type 0} (mode : Mode) (took : S → List Call → Type 0) (failures : S → ℕ) (frames : ℕ → Frame) (on ends : Bool) (pictures : List CodedPicture) (o : Outcome (Unit {0})) (new : Decoder) (s s' : S) (result : Result (Unit {0}) Stop) : Type 0 where
+  pub made : ℕ → Frame
+  pub same : Agree (length (ended_pictures on false pictures)) frames made
+  pub plays : Plays (took_with made took) failures (λ (x : Unit {0}). x) o s s' result
+  pub keeps : OnOk result (KeepsDecoder mode made on ends pictures new)
+
 -- Behind these units a unit was judged, and the sink was told what comes of it.
-pub record Turns {S X : Type 0} (mode : Mode) (took : S → List Call → Type 0) (failures : S → ℕ) (before : History) (unit : NalUnit) (new : State) (s s' : S) (result : Result X Stop) : Type 0 where
+pub record Turns {S X : Type 0} (mode : Mode) (took : S → List Call → Type 0) (failures : S → ℕ) (frames : ℕ → Frame) (before : History) (unit : NalUnit) (new : State) (s s' : S) (result : Result X Stop) : Type 0 where
+  pub made : ℕ → Frame
+  pub same : Agree (ended_in before) frames made
   pub after : History
-  pub plays : Plays took failures (λ (x : X). after) (unit_outcome mode before unit) s s' result
-  pub keeps : OnOk result (Keeps mode after new)
+  pub plays : Plays (took_with made took) failures (λ (x : X). after) (unit_outcome mode before unit) s s' result
+  pub keeps : OnOk result (Keeps mode made after new)
 
--- What is in a unit was read and judged, and the sink was told what comes of it.
-pub record Joins {S X : Type 0} (mode : Mode) (took : S → List Call → Type 0) (failures : S → ℕ) (o : Outcome History) (new : State) (s s' : S) (result : Result X Stop) : Type 0 where
+-- What is in a unit was read and judged, where so many pictures had ended, and the sink was told what comes of it.
+pub record Joins {S X : Type 0} (mode : Mode) (took : S → List Call → Type 0) (failures : S → ℕ) (frames : ℕ → Frame) (ended : ℕ) (o : Outcome History) (new : State) (s s' : S) (result : Result X Stop) : Type 0 where
+  pub made : ℕ → Frame
+  pub same : Agree ended frames made
   pub after : History
-  pub plays : Plays took failures (λ (x : X). after) o s s' result
-  pub keeps : OnOk result (Keeps mode after new)
+  pub plays : Plays (took_with made took) failures (λ (x : X). after) o s s' result
+  pub keeps : OnOk result (Keeps mode made after new)
 
--- Slice data were read, and the sink was told what comes of them; the macroblocks of the picture up to there are kept.
-pub record ReadsData {S X : Type 0} (took : S → List Call → Type 0) (failures : S → ℕ) (o : Outcome (List CodedMacroblock × ℕ)) (width size : ℕ) (work : Work) (s s' : S) (result : Result X Stop) : Type 0 where
+-- The rules of a slice of these sets were judged; where they are met, its slice data may come.
+pub record JudgesSlice {S : Type 0} (mode : Mode) (took : S → List Call → Type 0) (failures : S → ℕ) (frames : ℕ → Frame) (before : History) (unit : NalUnit) (h : Header) (named : Pps × Sps) (begins : Bool) (new : Decoder) (s s' : S) (result : Result (Unit {0}) Stop) : Type 0 where
+  pub made : ℕ → Frame
+  pub same : Agree (ended_in before) frames made
+  pub plays : Plays (took_with made took) failures (λ (x : Unit {0}). x) (steps_outcome (slice_steps mode before unit h)) s s' result
+  pub enters : OnOk result (EntersDecoder mode made begins (with_sets unit h [] named) (goes_on before) (runs_of before) new)
+
+-- The end of the input was judged, and the sink was told what comes of it.
+pub record EndsAll {S X : Type 0} (mode : Mode) (took : S → List Call → Type 0) (failures : S → ℕ) (frames : ℕ → Frame) (before : History) (bit : ℕ) (view : X → Summary) (s s' : S) (result : Result X Stop) : Type 0 where
+  pub made : ℕ → Frame
+  pub same : Agree (ended_in before) frames made
+  pub plays : Plays (took_with made took) failures view (end_outcome mode before bit) s s' result
+
+-- Slice data were read, and the sink was told what comes of them; this is kept of the macroblocks up to there.
+pub record ReadsSlice {S X : Type 0} (took : S → List Call → Type 0) (failures : S → ℕ) (frames : ℕ → Frame) (o : Outcome (List CodedMacroblock × ℕ)) (K : List CodedMacroblock → Type 0) (s s' : S) (result : Result X Stop) : Type 0 where
   pub macroblocks : List CodedMacroblock
   pub end : ℕ
-  pub plays : Plays took failures (λ (x : X). (macroblocks, end)) o s s' result
-  pub keeps : OnOk result (Holds width size macroblocks work)
+  pub plays : Plays (took_with frames took) failures (λ (x : X). (macroblocks, end)) o s s' result
+  pub keeps : OnOk result (K macroblocks)
+
+-- Slice data were read, and the sink was told what comes of them; the frames of the pictures are kept, with the macroblocks of the newest up to there.
+pub record ReadsData {S X : Type 0} (took : S → List Call → Type 0) (failures : S → ℕ) (frames : ℕ → Frame) (o : Outcome (List CodedMacroblock × ℕ)) (pictures : List CodedMacroblock → List CodedPicture) (new : Decoder) (s s' : S) (result : Result X Stop) : Type 0 where
+  pub macroblocks : List CodedMacroblock
+  pub end : ℕ
+  pub plays : Plays (took_with frames took) failures (λ (x : X). (macroblocks, end)) o s s' result
+  pub keeps : OnOk result (KeepsDecoder modes.Full frames true false (pictures macroblocks) new)
 
 -- However the input goes on, what comes of old is what the sink was told and what comes of where the session stands.
-pub record GoesOn {S : Type 0} (mode : Mode) (took : S → List Call → Type 0) (old : Standing History) (split : Splitting) (state : State) (piece left : List ℕ) (s s' : S) : Type 0 where
+pub record GoesOn {S : Type 0} (mode : Mode) (took : S → List Call → Type 0) (frames : ℕ → Frame) (old : Standing History) (split : Splitting) (state : State) (piece left : List ℕ) (s s' : S) : Type 0 where
+  pub made : ℕ → Frame
+  pub same : Agree (ended_in old.state) frames made
   pub after : History
-  pub keeps : Keeps mode after state
-  pub goes : Goes (judging mode) took old (behind split after) piece left s s'
+  pub grows : ended_in old.state ≤ ended_in after
+  pub keeps : Keeps mode made after state
+  pub goes : Goes (judging mode) (took_with made took) old (behind split after) piece left s s'
+  pub of : AreOf (ended_in after) goes.calls
+
+-- The stop is the stream's, however it goes on; or the sink failed, or memory was refused, when only its first calls were made.
+pub record StopsOn {S : Type 0} (mode : Mode) (took : S → List Call → Type 0) (failures : S → ℕ) (frames : ℕ → Frame) (old : Standing History) (piece : List ℕ) (s s' : S) (stop : Stop) : Type 0 where
+  pub made : ℕ → Frame
+  pub same : Agree (ended_in old.state) frames made
+  pub stops : Stops (judging mode) (took_with made took) failures old piece s s' stop
+
+-- The input ends here, and this is told and answered of it.
+pub record FinishesOn {S : Type 0} (mode : Mode) (took : S → List Call → Type 0) (failures : S → ℕ) (frames : ℕ → Frame) (old : Standing History) (s s' : S) (result : Result Summary Stop) : Type 0 where
+  pub made : ℕ → Frame
+  pub same : Agree (ended_in old.state) frames made
+  pub finishes : Finishes (judging mode) (took_with made took) failures old s s' result
 
 -- The source gave these bytes so far, less those that are left.
 pub record FedOn {S : Type 0} (mode : Mode) (took : S → List Call → Type 0) (known : Option (List ℕ)) (bytes : List ℕ) (session : Progress) (s s' : S) : Type 0 where
   pub mode_is : session.mode ≡ mode
+  pub frames : ℕ → Frame
   pub after : History
-  pub keeps : Keeps session.mode after session.state
-  pub fed : Fed (judging mode) took known bytes (behind at_start []) (behind session.split after) s s'
+  pub keeps : Keeps session.mode frames after session.state
+  pub fed : Fed (judging mode) (took_with frames took) known bytes (behind at_start []) (behind session.split after) s s'
+  pub of : AreOf (ended_in after) fed.goes.calls
 
--- The session was fed these bytes, and sinks were told these calls of them. They are those of all units whose ends these bytes
--- show, and these units are legal; and however the input goes on, what comes of the whole is these calls, and then what comes of
+-- With some frames, what was told and answered of these bytes, the whole input.
+pub record JudgesWith {S : Type 0} (mode : Mode) (took : S → List Call → Type 0) (failures : S → ℕ) (bytes : List ℕ) (s s' : S) (result : Result Summary Stop) : Type 0 where
+  pub frames : ℕ → Frame
+  pub judges : Judges (judging mode) [] (took_with frames took) failures bytes s s' result
+
+-- The session was fed these bytes, and with these frames sinks were told this of them. It is that of all units whose ends these bytes
+-- show, and these units are legal; and however the input goes on, what comes of the whole is this, and then what comes of
 -- where the session stands.
-pub record WasFed (mode : Mode) (session : Progress) (bytes : List ℕ) (calls : List Call) : Type 0 where
+pub record WasFed (mode : Mode) (session : Progress) (bytes : List ℕ) (frames : ℕ → Frame) (told : List Told) : Type 0 where
   pub mode_is : session.mode ≡ mode
   pub runs : session.stop ≡ None
   pub before : History
-  pub keeps : Keeps session.mode before session.state
+  pub keeps : Keeps session.mode frames before session.state
   pub shown : Shows 0 bytes (in_order before []) session.split.at session.split.rest
   pub undecided : IsUndecided session.split.rest
-  pub legal : AreLegal mode before calls
-  pub goes : (more : List ℕ) (o : Outcome Summary) → Comes (judging mode) 0 [] (bytes ++ more) o → (later : Outcome Summary) × ToCome (judging mode) (behind session.split before) more later × (o ≡ with_calls calls later)
+  pub legal : AreLegal mode before told
+  pub of : AreOf (ended_in before) told
+  pub goes : (more : List ℕ) (o : Outcome Summary) → Comes (judging mode) 0 [] (bytes ++ more) o → (later : Outcome Summary) × ToCome (judging mode) (behind session.split before) more later × (o ≡ with_calls told later)
 
--- The session was then fed these bytes, and the sink was told what comes of them behind these calls.
-pub record IsFed {S : Type 0} (mode : Mode) (took : S → List Call → Type 0) (failures : S → ℕ) (session : Progress) (bytes : List ℕ) (calls : List Call) (s s' : S) : Type 0 where
-  pub more : List Call
-  pub tells : Tells took s s' more
-  pub fed : WasFed mode session bytes (calls ++ more)
+-- The session was then fed these bytes, and the sink was told what comes of them behind that, with these frames and some more.
+pub record IsFed {S : Type 0} (mode : Mode) (took : S → List Call → Type 0) (failures : S → ℕ) (session : Progress) (bytes : List ℕ) (frames : ℕ → Frame) (told : List Told) (s s' : S) : Type 0 where
+  pub made : ℕ → Frame
+  pub same : SameTold frames made told
+  pub more : List Told
+  pub tells : Tells (took_with made took) s s' more
+  pub fed : WasFed mode session bytes made (told ++ more)
   pub kept : failures s' ≡ failures s

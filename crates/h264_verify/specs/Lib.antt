@@ -7,6 +7,11 @@ pub mod Content
 pub mod Steps
 pub mod History
 pub mod Pictures
+pub mod Lists
+pub mod Decoding
+pub mod Telling
+pub mod Closing
+pub mod Buffering
 pub mod Slices
 pub mod Data
 pub mod Keeping

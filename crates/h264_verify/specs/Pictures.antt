@@ -1,11 +1,8 @@
 -- The pictures so far, and the reference frames that they leave (7.4.1.2.4, 7.4.3, 8.2.5). To be read beside the standard.
-use Rattle.std.specs.Prelude.{ℕ, ◌*◌, nat_le, ◌&&◌, ◌==◌, not, Bool, true, false, Option, Some, None, Result, Ok, Err, List, [], ◌∷◌, map, length, if◌then◌else◌}
+use Rattle.std.specs.Prelude.{ℕ, ◌*◌, nat_le, ◌&&◌, not, Bool, true, false, Option, Some, None, Result, Ok, Err, List, [], ◌∷◌, map, length, if◌then◌else◌}
 use Rattle.std.specs.Option.{option_map}
 use Rattle.std.specs.Result.{result_unwrap_or}
-use Rattle.h264_base.specs.declared.mode.Mode.{Mode}
-use Rattle.h264_base.specs.declared.mode.Mode.TheVariants as modes
-use Rattle.h264_base.specs.declared.rule.Rule.TheVariants.{Incomplete, MarkCommand}
-use Rattle.h264_base.specs.declared.stop.Feature.TheVariants.{Pending}
+use Rattle.h264_base.specs.declared.rule.Rule.TheVariants.{MarkCommand}
 use Rattle.h264_sps.specs.declared.sps.Sps.{Sps}
 use Rattle.h264_pps.specs.declared.Pps.{Pps}
 use Rattle.h264_header.specs.declared.header.Header.{Header}
@@ -24,7 +21,6 @@ use Rattle.h264_near.specs.Coded.{CodedMacroblock}
 use Rattle.h264_verify.specs.Content.{Content}
 use Rattle.h264_verify.specs.Content as contents
 use Rattle.h264_verify.specs.Demands.{Demand}
-use Rattle.h264_verify.specs.Steps.{Step, Needs, Pends}
 use Rattle.h264_verify.specs.UnitHeader.{header_of, nal_unit_type}
 use Rattle.h264_verify.specs.History.{History, maps_of}
 
@@ -180,23 +176,6 @@ end_of_picture (p ∷ ps) = mark_demand (ended_by p (length ps) (held_in (p ∷ 
 -- The rules at the end of the picture that may go on behind these units, if there is one.
 abbrev pub closing_demands : History → List Demand
 closing_demands before = if goes_on before then end_of_picture (runs_of before) else []
-
--- At the end of a picture all its macroblocks are coded. Its samples, and what comes behind them, are not judged yet.
-abbrev pub whole_picture : List CodedPicture → List Step
-whole_picture [] = []
-whole_picture (p ∷ pictures) =
-    Needs (record { rule = Incomplete; bit = bit_behind (last_slice p).unit; met = length (last_slice p).macroblocks == picture_size p.first.sps })
-    ∷ Pends Pending (bit_behind (last_slice p).unit)
-    ∷ []
-
--- Before the rules at the end of the picture that may go on, where slice data are read.
-abbrev pub whole_steps : Mode → History → List Step
-whole_steps modes.Units before = []
-whole_steps modes.Headers before = []
-whole_steps modes.Full before = if goes_on before then whole_picture (runs_of before) else []
-
-abbrev pub whole_at : Mode → ℕ → History → List Step
-whole_at mode kind before = if ends_picture kind then whole_steps mode before else []
 
 -- those before the content of a unit of this type
 abbrev pub closing_at : ℕ → History → List Demand

@@ -1,11 +1,11 @@
 -- What a session is to its callers. A working form.
-use Rattle.std.specs.Prelude.{◌≡◌, ◌≤◌, IsFalse, Option, Some, None, []}
+use Rattle.std.specs.Prelude.{◌≡◌, ◌≤◌, ℕ, false, IsFalse, Option, Some, None, []}
 use Rattle.h264_base.specs.declared.mode.Mode.{Mode}
 use Rattle.h264_base.specs.declared.stop.Stop.{Stop}
 use Rattle.h264_units.specs.Splitting.{Splitting, at_start}
 use Rattle.h264_verify.specs.declared.judge.State.{State}
-use Rattle.h264_verify.specs.History.{History}
-use Rattle.h264_verify.specs.Keeping.{Keeps}
+use Rattle.h264_plane.specs.declared.frame.Frame.{Frame}
+use Rattle.h264_verify.specs.Keeping.{Keeps, KeepsSome}
 
 -- what its splitter holds, what is kept of the units taken, and whether it has stopped
 pub record Progress : Type 0 where
@@ -16,7 +16,7 @@ pub record Progress : Type 0 where
 
 -- between two calls no unit waits, each unit so far had a byte of the input, and there are units whose this is kept
 abbrev pub IsReady : Mode → Splitting → State → Type 0
-IsReady mode split state = ((split.stop ≡ None) × IsFalse split.waiting × IsFalse split.ended) × (state.units ≤ split.at) × (state.slices.pictures ≤ state.units) × ((before : History) × Keeps mode before state)
+IsReady mode split state = ((split.stop ≡ None) × IsFalse split.waiting × IsFalse split.ended) × (state.units ≤ split.at) × (state.slices.pictures ≤ state.units) × KeepsSome mode false state
 
 abbrev pub IsSession : Mode → Option Stop → Splitting → State → Type 0
 IsSession mode None split state = IsReady mode split state
@@ -26,5 +26,5 @@ IsSession mode (Some stop) split state = Unit {0}
 pub record IsFresh (session : Progress) (mode : Mode) : Type 0 where
   pub mode_is : session.mode ≡ mode
   pub split : session.split ≡ at_start
-  pub keeps : Keeps session.mode [] session.state
+  pub keeps : (frames : ℕ → Frame) → Keeps session.mode frames [] session.state
   pub stop : session.stop ≡ None

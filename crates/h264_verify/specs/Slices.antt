@@ -1,6 +1,5 @@
 -- The rules that a slice meets beside its own syntax (7.4.1.2, 7.4.3, 8.2.1, 8.2.4). To be read beside the standard.
-use Rattle.std.specs.Prelude.{ℕ, ◌*◌, ◌==◌, ◌&&◌, ◌||◌, not, Bool, true, false, Option, Some, None, Result, Ok, List, [], ◌∷◌, ◌++◌, map, length, ℤ, pos, ◌+ℤ◌, int_le, if◌then◌else◌}
-use Rattle.std.specs.Int.{int_min}
+use Rattle.std.specs.Prelude.{ℕ, ◌*◌, ◌==◌, ◌&&◌, ◌||◌, not, Bool, true, false, Option, Some, None, Result, List, [], ◌∷◌, ◌++◌, map, length, ℤ, pos, ◌+ℤ◌, int_le, if◌then◌else◌}
 use Rattle.std.specs.List.{list_any}
 use Rattle.std.specs.Option.{is_some}
 use Rattle.h264_base.specs.declared.rule.Rule.TheVariants as rule
@@ -22,21 +21,24 @@ use Rattle.h264_header.specs.declared.header.SliceKind.TheVariants as kinds
 use Rattle.h264_header.specs.declared.header.Marking.{Marking}
 use Rattle.h264_header.specs.SameMarking.{same_marking}
 use Rattle.h264_poc.specs.declared.picture.Picture.{Picture}
-use Rattle.h264_poc.specs.declared.picture.Count.{Count}
-use Rattle.h264_poc.specs.Counts.{count_of}
 use Rattle.h264_marking.specs.declared.frame.Numbering.{Numbering}
 use Rattle.h264_marking.specs.Frames.{References}
-use Rattle.h264_marking.specs.Gaps.{is_new_num, gap_before, unused_short_term_frame_nums, all_filled, entered}
+use Rattle.h264_marking.specs.Gaps.{is_new_num, gap_before, unused_short_term_frame_nums, entered}
 use Rattle.h264_lists.specs.declared.slot.RefSlot.{RefSlot}
-use Rattle.h264_lists.specs.Built.{built}
+use Rattle.h264_dpb.specs.Buffered.{Buffered}
+use Rattle.h264_dpb.specs.Turns.{Shown}
 use Rattle.h264_verify.specs.Content.{Content}
 use Rattle.h264_verify.specs.Content as contents
 use Rattle.h264_verify.specs.Steps.{Step, needs}
 use Rattle.h264_verify.specs.Steps as step
 use Rattle.h264_verify.specs.Demands.{Demand}
+use Rattle.h264_verify.specs.Lists.{list_of}
+use Rattle.h264_verify.specs.Telling.{Said}
+use Rattle.h264_verify.specs.Closing.{whole_steps}
+use Rattle.h264_verify.specs.Buffering.{newest_count, frame_count, after_all, missing_steps, closing_frames}
 use Rattle.h264_verify.specs.UnitHeader.{header_of, nal_unit_type}
 use Rattle.h264_verify.specs.History.{History, maps_of}
-use Rattle.h264_verify.specs.Pictures.{CodedSlice, CodedPicture, sets_at, with_sets, joined_to, runs_of, begins_at, prev_ref_frame_num_of, held_after, held_in, bit_of, is_met, counted, coded_of, whole_steps, closing_demands}
+use Rattle.h264_verify.specs.Pictures.{CodedSlice, CodedPicture, sets_at, with_sets, joined_to, runs_of, begins_at, prev_ref_frame_num_of, held_after, held_in, bit_of, is_met, counted, coded_of, closing_demands}
 use Rattle.h264_header.specs.Picture.{is_idr, is_reference}
 use Rattle.h264_poc.specs.OfSlice.{picture_of}
 use Rattle.h264_marking.specs.Ended.{numbering_of}
@@ -48,11 +50,6 @@ is_i (kinds.P list) = false
 abbrev pub type_of : SliceKind → SliceType
 type_of kinds.I = slice_type.I
 type_of (kinds.P list) = slice_type.P
-
--- the counts of the newest picture
-abbrev pub newest_count : List Picture → Option Count
-newest_count [] = None
-newest_count (p ∷ pictures) = count_of pictures p
 
 -- idr_pic_id of the newest picture, where it is an IDR picture
 abbrev pub idr_id : Option (Found ℕ) → Option ℕ
@@ -146,14 +143,13 @@ same_type_demand slices h = record { rule = rule.SliceType; bit = h.kind.bit; me
 abbrev pub idr_num_demand : Header → Demand
 idr_num_demand h = record { rule = rule.FrameNum; bit = h.frame_num.bit; met = not (is_idr h) || h.frame_num.value == 0 }
 
--- frame_num of another picture follows PrevRefFrameNum, or there is a gap, where the sequence allows gaps; the gap can be
--- filled; and then it is a new number, if the picture is a reference (7.4.3, 8.2.5.2).
-abbrev pub gap_demands : Bool → Bool → Bool → ℕ → ℕ → Numbering → References → List Demand
-gap_demands idr reference gaps_allowed bit prev n refs =
-    record { rule = rule.FrameNum; bit = bit; met = gap_before idr prev n == 0 || gaps_allowed }
-    ∷ record { rule = rule.FrameNum; bit = bit; met = is_some (all_filled n (unused_short_term_frame_nums idr prev n) refs) }
-    ∷ record { rule = rule.FrameNum; bit = bit; met = idr || not reference || is_new_num prev n.frame_num (entered idr prev n refs) }
-    ∷ []
+-- frame_num of another picture follows PrevRefFrameNum, or there is a gap, where the sequence allows gaps (7.4.3).
+abbrev pub gap_demand : Bool → Bool → ℕ → ℕ → Numbering → Demand
+gap_demand idr gaps_allowed bit prev n = record { rule = rule.FrameNum; bit = bit; met = gap_before idr prev n == 0 || gaps_allowed }
+
+-- Once the gap is filled it is a new number, if the picture is a reference (7.4.3).
+abbrev pub new_num_demand : Bool → Bool → ℕ → ℕ → Numbering → References → Demand
+new_num_demand idr reference bit prev n refs = record { rule = rule.FrameNum; bit = bit; met = idr || not reference || is_new_num prev n.frame_num (entered idr prev n refs) }
 
 -- An IDR picture that directly follows an IDR picture has another idr_pic_id (7.4.3).
 abbrev pub id_demand : Option ℕ → Header → Demand
@@ -166,11 +162,6 @@ count_demand pictures bit = record { rule = rule.Count; bit = bit; met = is_some
 -- SliceQPY is in range (7.4.3).
 abbrev pub qp_demand : Pps → Header → Demand
 qp_demand pps h = record { rule = rule.Qp; bit = h.slice_qp_delta.bit; met = is_qp pps.pic_init_qp_minus26 h.slice_qp_delta.value }
-
--- the list of a slice; an I slice has none
-abbrev pub list_of : SliceKind → Numbering → References → Result (List RefSlot) ℕ
-list_of kinds.I n refs = Ok []
-list_of (kinds.P list) n refs = built n list refs.frames
 
 -- The modifications of the list name held frames (8.2.4.3).
 abbrev pub list_demand : Result (List RefSlot) ℕ → Demand
@@ -189,17 +180,24 @@ newest_slices (p ∷ pictures) = p.later ++ p.first ∷ []
 abbrev pub first_bit : CodedSlice → ℕ
 first_bit s = 8 * s.unit.from
 
+-- The rules on frame_num of a picture that begins, and between them the missing numbers before it, each of which is filled, where these
+-- frames are held.
+abbrev pub gap_rules : Mode → Bool → Bool → Bool → ℕ → ℕ → Numbering → References → Buffered Shown → List Step
+gap_rules mode idr reference gaps_allowed bit prev n refs b =
+    needs (gap_demand idr gaps_allowed bit prev n ∷ [])
+    ++ (missing_steps mode bit n (unused_short_term_frame_nums idr prev n) refs b
+    ++ needs (new_num_demand idr reference bit prev n refs ∷ []))
+
 -- The rules of a picture's first slice behind these pictures, the newest of which has ended, from its type on.
-abbrev pub first_slice_rules : List CodedPicture → CodedSlice → List Demand
-first_slice_rules pictures s =
-    type_demand s.sps s.header
-    ∷ idr_num_demand s.header
-    ∷ gap_demands (is_idr s.header) (is_reference s.header) s.sps.gaps_in_frame_num_value_allowed_flag s.header.frame_num.bit (prev_ref_frame_num_of pictures) (numbering_of s.sps s.header) (held_after pictures)
-    ++ id_demand (newest_idr_of pictures) s.header
+abbrev pub first_slice_rules : Mode → List CodedPicture → CodedSlice → List Step
+first_slice_rules mode pictures s =
+    needs (type_demand s.sps s.header ∷ idr_num_demand s.header ∷ [])
+    ++ (gap_rules mode (is_idr s.header) (is_reference s.header) s.sps.gaps_in_frame_num_value_allowed_flag s.header.frame_num.bit (prev_ref_frame_num_of pictures) (numbering_of s.sps s.header) (held_after pictures) (after_all pictures).buffer
+    ++ needs (id_demand (newest_idr_of pictures) s.header
     ∷ count_demand (picture_of s.sps s.header ∷ map counted pictures) (first_bit s)
     ∷ qp_demand s.pps s.header
     ∷ list_demand (list_of s.header.kind.value (numbering_of s.sps s.header) (held_in (joined_to true s pictures)))
-    ∷ []
+    ∷ []))
 
 -- Those of a later slice of the newest of these pictures.
 abbrev pub later_slice_rules : List CodedPicture → CodedSlice → List Demand
@@ -213,27 +211,21 @@ later_slice_rules pictures s =
     ∷ []
 
 -- All rules of a picture's first slice, and of a later slice.
-abbrev pub first_slice_demands : Mode → Bool → Maps → List CodedPicture → CodedSlice → List Demand
+abbrev pub first_slice_demands : Mode → Bool → Maps → List CodedPicture → CodedSlice → List Step
 first_slice_demands mode due maps pictures s =
-    idr_demand due (first_bit s) s.header
-    ∷ set_demand (is_idr s.header) maps s.sps s.header
-    ∷ first_mb_demands mode 0 s.header
-    ++ first_slice_rules pictures s
+    needs (idr_demand due (first_bit s) s.header ∷ set_demand (is_idr s.header) maps s.sps s.header ∷ [])
+    ++ (needs (first_mb_demands mode 0 s.header)
+    ++ first_slice_rules mode pictures s)
 
-abbrev pub later_slice_demands : Mode → Maps → List CodedPicture → CodedSlice → List Demand
+abbrev pub later_slice_demands : Mode → Maps → List CodedPicture → CodedSlice → List Step
 later_slice_demands mode maps pictures s =
-    set_demand false maps s.sps s.header
-    ∷ first_mb_demands mode (length (coded_of pictures)) s.header
-    ++ later_slice_rules pictures s
+    needs (set_demand false maps s.sps s.header ∷ [])
+    ++ (needs (first_mb_demands mode (length (coded_of pictures)) s.header)
+    ++ needs (later_slice_rules pictures s))
 
-abbrev pub rules_of : Mode → Bool → Bool → Maps → List CodedPicture → CodedSlice → List Demand
+abbrev pub rules_of : Mode → Bool → Bool → Maps → List CodedPicture → CodedSlice → List Step
 rules_of mode true due maps pictures s = first_slice_demands mode due maps pictures s
 rules_of mode false due maps pictures s = later_slice_demands mode maps pictures s
-
--- the count of a frame is the lesser of its fields'
-abbrev pub frame_count : Option Count → ℤ
-frame_count None = pos 0
-frame_count (Some count) = int_min count.top count.bottom
 
 -- what the sink is told of a slice: the byte where its unit begins, first_mb_in_slice, its type, frame_num, and its picture's count
 abbrev pub slice_call : List CodedPicture → CodedSlice → Call
@@ -243,8 +235,8 @@ slice_call pictures s = OfSlice s.unit.from s.header.first_mb_in_slice.value (ty
 abbrev pub steps_by : Mode → Option (Pps × Sps) → History → NalUnit → Header → List Step
 steps_by mode None before unit h = []
 steps_by mode (Some sets) before unit h =
-    needs (rules_of mode (begins_at before h) (is_idr_due before) (maps_of before) (runs_of before) (with_sets unit h [] sets))
-    ++ step.Tells (slice_call (joined_to (begins_at before h) (with_sets unit h [] sets) (runs_of before)) (with_sets unit h [] sets))
+    rules_of mode (begins_at before h) (is_idr_due before) (maps_of before) (runs_of before) (with_sets unit h [] sets)
+    ++ step.Tells (Said (slice_call (joined_to (begins_at before h) (with_sets unit h [] sets) (runs_of before)) (with_sets unit h [] sets)))
     ∷ []
 
 -- A slice behind these units: where it begins a picture, the one before it ends first; then come its rules, and it is told.
@@ -252,4 +244,5 @@ abbrev pub slice_steps : Mode → History → NalUnit → Header → List Step
 slice_steps mode before unit h =
     (if begins_at before h then whole_steps mode before else [])
     ++ (needs (if begins_at before h then closing_demands before else [])
-    ++ steps_by mode (sets_at before h) before unit h)
+    ++ ((if begins_at before h then closing_frames mode before else [])
+    ++ steps_by mode (sets_at before h) before unit h))

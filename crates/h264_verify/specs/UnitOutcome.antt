@@ -2,10 +2,11 @@
 use Rattle.std.specs.Prelude.{ℕ, ◌*◌, List, [], ◌∷◌, ◌++◌, map, length, ◌==◌, Err, if◌then◌else◌}
 use Rattle.h264_base.specs.declared.mode.Mode.{Mode}
 use Rattle.h264_base.specs.declared.mode.Mode.TheVariants as modes
-use Rattle.h264_base.specs.declared.stop.Stop.TheVariants.{No, Outside}
+use Rattle.h264_base.specs.declared.stop.Stop.TheVariants.{No}
 use Rattle.h264_base.specs.Body.{Body}
 use Rattle.h264_base.specs.Grammar.{Grammar, Done, ◌>>=◌ as ◌bind◌}
-use Rattle.h264_base.specs.Run.{run, call_of}
+use Rattle.h264_base.specs.Run.{run}
+use Rattle.h264_verify.specs.Telling.{said_of, Said}
 use Rattle.h264_units.specs.Stream.{NalUnit}
 use Rattle.h264_rbsp.specs.Emulation.{emulation_checked}
 use Rattle.h264_rbsp.specs.Rbsp.{body_of}
@@ -19,22 +20,22 @@ use Rattle.h264_verify.specs.Content as contents
 use Rattle.h264_verify.specs.Demands.{judged}
 use Rattle.h264_verify.specs.Outcome.{Outcome, ◌>>=◌, with_calls, answers, gives, tells, structure_outcome}
 use Rattle.h264_verify.specs.Judging.{Judging}
-use Rattle.h264_verify.specs.Steps.{Step, Needs, Pends, Tells, needs, Course, Takes, Reads, Ends}
+use Rattle.h264_verify.specs.Steps.{Step, Needs, Tells, needs, Course, Takes, Reads, Ends}
 use Rattle.h264_verify.specs.UnitHeader.{header_of, nal_unit_type, header_demands}
 use Rattle.h264_verify.specs.History.{History, maps_of}
-use Rattle.h264_verify.specs.Pictures.{whole_at, closing_at}
-use Rattle.h264_verify.specs.Units.{unit_call, is_slice, slice_unit, content_steps, data_course, unit_course, end_steps, summary_of}
+use Rattle.h264_verify.specs.Pictures.{closing_at}
+use Rattle.h264_verify.specs.Closing.{whole_at}
+use Rattle.h264_verify.specs.Units.{unit_call, is_slice, slice_unit, content_steps, data_course, frames_at, unit_course, end_steps, summary_of}
 
 -- steps, one after another
 abbrev pub steps_outcome : List Step → Outcome (Unit {0})
 steps_outcome [] = gives tt
 steps_outcome (Needs d ∷ steps) = if d.met then steps_outcome steps else answers (Err (No d.bit d.rule))
-steps_outcome (Pends feature bit ∷ steps) = answers (Err (Outside bit feature))
 steps_outcome (Tells call ∷ steps) = with_calls (call ∷ []) (steps_outcome steps)
 
 -- a syntax structure from a bit on, and the bit behind it
 abbrev pub structure_from : {A : Type 0} → Grammar A → Body → ℕ → Outcome (A × ℕ)
-structure_from g body bit = record { calls = map (call_of body) (run g body bit).elements; answer = (run g body bit).answer }
+structure_from g body bit = record { calls = map (said_of body) (run g body bit).elements; answer = (run g body bit).answer }
 
 -- the course of a unit
 unfoldable pub course_outcome : Body → Course → Outcome Content
@@ -97,8 +98,8 @@ unfoldable pub unit_by_steps : Mode → History → NalUnit → Outcome History
 unit_by_steps mode before unit = do
   _ ← answers (emulation_checked unit.from unit.body)
   _ ← answers (judged (header_demands (8 * unit.from) (header_of unit)))
-  _ ← tells (unit_call unit.from (header_of unit) (length unit.body))
-  _ ← steps_outcome (whole_at mode (nal_unit_type (header_of unit)) before ++ needs (closing_at (nal_unit_type (header_of unit)) before))
+  _ ← tells (Said (unit_call unit.from (header_of unit) (length unit.body)))
+  _ ← steps_outcome (whole_at mode (nal_unit_type (header_of unit)) before ++ (needs (closing_at (nal_unit_type (header_of unit)) before) ++ frames_at mode (nal_unit_type (header_of unit)) before))
   joined_by mode (nal_unit_type (header_of unit)) before unit
 
 -- what comes of a unit: it joins those before it, once its course has come to its end
@@ -112,7 +113,7 @@ unit_outcome mode before unit = do
 unfoldable pub end_outcome : Mode → History → ℕ → Outcome Summary
 end_outcome mode before bit = do
   _ ← steps_outcome (end_steps mode before bit)
-  gives (summary_of before)
+  gives (summary_of mode before)
 
 abbrev pub judging : Mode → Judging History Summary
 judging mode = record { unit = unit_outcome mode; end = end_outcome mode }

@@ -19,7 +19,10 @@ use Rattle.h264_verify.specs.Steps.{Step, needs, Course, Takes, Reads, Ends}
 use Rattle.h264_verify.specs.Steps as step
 use Rattle.h264_verify.specs.UnitHeader.{header_of, nal_unit_type, nal_ref_idc, header_demands}
 use Rattle.h264_verify.specs.History.{History, maps_of}
-use Rattle.h264_verify.specs.Pictures.{CodedPicture, runs_of, whole_at, whole_steps, closing_at, closing_demands}
+use Rattle.h264_verify.specs.Pictures.{CodedPicture, ends_picture, runs_of, closing_at, closing_demands}
+use Rattle.h264_verify.specs.Telling.{Said}
+use Rattle.h264_verify.specs.Closing.{whole_at, whole_steps}
+use Rattle.h264_verify.specs.Buffering.{closing_frames, last_frames, frames_written}
 use Rattle.h264_verify.specs.Slices.{slice_steps}
 use Rattle.h264_verify.specs.Data.{slice_data_at}
 
@@ -73,6 +76,10 @@ data_course modes.Headers before unit (contents.OfSlice h macroblocks) bit = End
 data_course modes.Full before unit (contents.OfSlice h macroblocks) bit = Reads (slice_data_at before unit h >>= (λ ms. Done (contents.OfSlice h ms))) bit (λ whole end. Ends whole)
 data_course mode before unit contents.Passed bit = Ends contents.Passed
 
+-- the frames that are written before the content of a unit of this type
+abbrev pub frames_at : Mode → ℕ → History → List Step
+frames_at mode kind before = if ends_picture kind then closing_frames mode before else []
+
 -- Behind the unit's first byte: its elements, the rules on what they give, and the elements behind these.
 abbrev pub content_course : Mode → History → NalUnit → Course
 content_course mode before unit =
@@ -85,8 +92,8 @@ content_course mode before unit =
 abbrev pub unit_course : Mode → History → NalUnit → Course
 unit_course mode before unit =
     Takes (needs (header_demands (8 * unit.from) (header_of unit)))
-    (Takes (step.Tells (unit_call unit.from (header_of unit) (length unit.body)) ∷ [])
-    (Takes (whole_at mode (nal_unit_type (header_of unit)) before ++ needs (closing_at (nal_unit_type (header_of unit)) before))
+    (Takes (step.Tells (Said (unit_call unit.from (header_of unit) (length unit.body))) ∷ [])
+    (Takes (whole_at mode (nal_unit_type (header_of unit)) before ++ (needs (closing_at (nal_unit_type (header_of unit)) before) ++ frames_at mode (nal_unit_type (header_of unit)) before))
     (content_course mode before unit)))
 
 -- a stream whose slices are read has a picture
@@ -97,12 +104,17 @@ has_pictures modes.Headers (p ∷ pictures) = true
 has_pictures modes.Full [] = false
 has_pictures modes.Full (p ∷ pictures) = true
 
-abbrev pub end_demands : Mode → History → ℕ → List Demand
-end_demands mode before bit = closing_demands before ++ record { rule = NoPicture; bit = bit; met = has_pictures mode (runs_of before) } ∷ []
+abbrev pub picture_demand : Mode → History → ℕ → Demand
+picture_demand mode before bit = record { rule = NoPicture; bit = bit; met = has_pictures mode (runs_of before) }
 
--- The end of the input, at this bit: the last picture ends, and there is one.
+-- The end of the input, at this bit: the last picture ends, there is one, and all frames that wait are written.
 abbrev pub end_steps : Mode → History → ℕ → List Step
-end_steps mode before bit = whole_steps mode before ++ needs (end_demands mode before bit)
+end_steps mode before bit =
+    whole_steps mode before
+    ++ (needs (closing_demands before)
+    ++ (closing_frames mode before
+    ++ (needs (picture_demand mode before bit ∷ [])
+    ++ last_frames mode (runs_of before))))
 
-abbrev pub summary_of : History → Summary
-summary_of before = record { units = length before; pictures = length (runs_of before); frames = 0 }
+abbrev pub summary_of : Mode → History → Summary
+summary_of mode before = record { units = length before; pictures = length (runs_of before); frames = frames_written mode (runs_of before) }

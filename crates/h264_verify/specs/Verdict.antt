@@ -7,7 +7,9 @@ use Rattle.h264_base.specs.declared.rule.Rule.TheVariants.{Emulation}
 use Rattle.h264_base.specs.declared.stop.Feature.{Feature}
 use Rattle.h264_base.specs.declared.stop.Stop.{Stop}
 use Rattle.h264_base.specs.declared.stop.Stop.TheVariants.{No, Outside, Memory, Read, Write}
-use Rattle.h264_base.specs.Call.{Call, Tells}
+use Rattle.h264_base.specs.Call.{Call}
+use Rattle.h264_plane.specs.declared.frame.Frame.{Frame}
+use Rattle.h264_verify.specs.Telling.{Told, Tells, took_with, calls_of, AreDecoded}
 use Rattle.h264_units.specs.Stream.{NalUnit, Tail, Zeros, Splits, tail_stop}
 use Rattle.h264_rbsp.specs.Emulation.{IsFault, IsFirstFault}
 use Rattle.h264_rbsp.specs.Rbsp.{body_of}
@@ -21,21 +23,21 @@ abbrev pub IsSound : NalUnit → Type 0
 IsSound unit = (place : ℕ) → IsFault unit.body place → ⊥
 
 -- A unit behind these whose course comes to its end: with every rule met, no feature among them, and a derivation of its content.
-pub record IsLegal (mode : Mode) (before : History) (r : ReadUnit) (calls : List Call) : Type 0 where
+pub record IsLegal (mode : Mode) (before : History) (r : ReadUnit) (calls : List Told) : Type 0 where
   pub sound : IsSound r.unit
   pub runs : Runs (body_of r.unit) (unit_course mode before r.unit) calls (Ok r.content)
 
 -- A unit behind these at which the verdict falls, with what was told of it before.
-pub data IsStop (mode : Mode) (before : History) (unit : NalUnit) (stop : Stop) (calls : List Call) : Type 0 where
+pub data IsStop (mode : Mode) (before : History) (unit : NalUnit) (stop : Stop) (calls : List Told) : Type 0 where
   -- its bytes break emulation prevention: nothing is told
   AtBytes : (place : ℕ) → IsFirstFault unit.body place → stop ≡ No (8 * (unit.from + place)) Emulation → calls ≡ [] → IsStop mode before unit stop calls
   -- its course stops
   InCourse : IsSound unit → Runs (body_of unit) (unit_course mode before unit) calls (Err stop) → IsStop mode before unit stop calls
 
 -- All of these units are legal, and the sink is told of each in turn. The last one stands first.
-abbrev pub AreLegal : Mode → History → List Call → Type 0
+abbrev pub AreLegal : Mode → History → List Told → Type 0
 AreLegal mode [] calls = calls ≡ []
-AreLegal mode (r ∷ before) calls = (earlier : List Call) × (last : List Call) × AreLegal mode before earlier × IsLegal mode before r last × (calls ≡ earlier ++ last)
+AreLegal mode (r ∷ before) calls = (earlier : List Told) × (last : List Told) × AreLegal mode before earlier × IsLegal mode before r last × (calls ≡ earlier ++ last)
 
 -- the units in their order, and these behind them
 abbrev pub in_order : History → List NalUnit → List NalUnit
@@ -44,62 +46,62 @@ in_order (r ∷ before) units = in_order before (r.unit ∷ units)
 
 -- The bytes are a byte stream, all its units are legal, and so is its end: there is a derivation that meets every rule, and no
 -- feature that is not judged.
-pub record Holds (mode : Mode) (bytes : List ℕ) (calls : List Call) (summary : Summary) : Type 0 where
+pub record Holds (mode : Mode) (bytes : List ℕ) (calls : List Told) (summary : Summary) : Type 0 where
   pub units : History
   pub stream : Splits 0 bytes (in_order units []) Zeros
-  pub first : List Call
-  pub last : List Call
+  pub first : List Told
+  pub last : List Told
   pub legal : AreLegal mode units first
   pub end : AreMet (end_steps mode units (8 * length bytes)) last
   pub calls_are : calls ≡ first ++ last
-  pub summary_is : summary ≡ summary_of units
+  pub summary_is : summary ≡ summary_of mode units
 
 -- Behind the legal units the verdict falls at the next, or at what follows the last, or at the end of the input.
-pub data IsStopBehind (mode : Mode) (before : History) (units : List NalUnit) (tail : Tail) (end : ℕ) (stop : Stop) (calls : List Call) : Type 0 where
+pub data IsStopBehind (mode : Mode) (before : History) (units : List NalUnit) (tail : Tail) (end : ℕ) (stop : Stop) (calls : List Told) : Type 0 where
   AtNext : (unit : NalUnit) (later : List NalUnit) → units ≡ unit ∷ later → IsStop mode before unit stop calls → IsStopBehind mode before units tail end stop calls
   AtTail : units ≡ [] → tail_stop tail ≡ Some stop → calls ≡ [] → IsStopBehind mode before units tail end stop calls
   AtEnd : units ≡ [] → tail ≡ Zeros → IsFirstStop (end_steps mode before (8 * end)) calls stop → IsStopBehind mode before units tail end stop calls
 
 -- The units before are legal, and then the verdict falls.
-pub record StopsAt (mode : Mode) (bytes : List ℕ) (calls : List Call) (stop : Stop) : Type 0 where
+pub record StopsAt (mode : Mode) (bytes : List ℕ) (calls : List Told) (stop : Stop) : Type 0 where
   pub before : History
   pub units : List NalUnit
   pub tail : Tail
   pub stream : Splits 0 bytes (in_order before units) tail
-  pub first : List Call
-  pub last : List Call
+  pub first : List Told
+  pub last : List Told
   pub legal : AreLegal mode before first
   pub stops : IsStopBehind mode before units tail (length bytes) stop last
   pub calls_are : calls ≡ first ++ last
 
 -- All rules before this one are met, it fails, and this is its bit.
-abbrev pub Breaks : Mode → List ℕ → List Call → ℕ → Rule → Type 0
+abbrev pub Breaks : Mode → List ℕ → List Told → ℕ → Rule → Type 0
 Breaks mode bytes calls bit rule = StopsAt mode bytes calls (No bit rule)
 
 -- All rules before are met, and here stands a feature that is not judged.
-abbrev pub MayStop : Mode → List ℕ → List Call → ℕ → Feature → Type 0
+abbrev pub MayStop : Mode → List ℕ → List Told → ℕ → Feature → Type 0
 MayStop mode bytes calls bit feature = StopsAt mode bytes calls (Outside bit feature)
 
 -- what is said of a stream, and what a sink is told of it up to there
-abbrev pub Verdict : Mode → List ℕ → List Call → Result Summary Stop → Type 0
+abbrev pub Verdict : Mode → List ℕ → List Told → Result Summary Stop → Type 0
 Verdict mode bytes calls (Ok summary) = Holds mode bytes calls summary
 Verdict mode bytes calls (Err stop) = StopsAt mode bytes calls stop
 
 -- A sink that took some of a stream's calls has taken some more, and they are all that the stream has up to this verdict.
-pub record Whole {S : Type 0} (mode : Mode) (took : S → List Call → Type 0) (bytes : List ℕ) (calls : List Call) (s s' : S) (answer : Result Summary Stop) : Type 0 where
-  pub more : List Call
+pub record Whole {S : Type 0} (mode : Mode) (took : S → List Told → Type 0) (bytes : List ℕ) (calls : List Told) (s s' : S) (answer : Result Summary Stop) : Type 0 where
+  pub more : List Told
   pub tells : Tells took s s' more
   pub verdict : Verdict mode bytes (calls ++ more) answer
 
 -- They are the first of those that the stream has.
-pub record Front {S : Type 0} (mode : Mode) (took : S → List Call → Type 0) (bytes : List ℕ) (calls : List Call) (s s' : S) : Type 0 where
-  pub more : List Call
+pub record Front {S : Type 0} (mode : Mode) (took : S → List Told → Type 0) (bytes : List ℕ) (calls : List Told) (s s' : S) : Type 0 where
+  pub more : List Told
   pub tells : Tells took s s' more
-  pub rest : List Call
+  pub rest : List Told
   pub answer : Result Summary Stop
   pub verdict : Verdict mode bytes ((calls ++ more) ++ rest) answer
 
-abbrev pub JudgedBy : {S : Type 0} → Mode → (S → List Call → Type 0) → (S → ℕ) → List ℕ → List Call → S → S → Result Summary Stop → Type 0
+abbrev pub JudgedBy : {S : Type 0} → Mode → (S → List Told → Type 0) → (S → ℕ) → List ℕ → List Told → S → S → Result Summary Stop → Type 0
 JudgedBy mode took failures bytes calls s s' (Ok summary) = Whole mode took bytes calls s s' (Ok summary) × (failures s' ≡ failures s)
 JudgedBy mode took failures bytes calls s s' (Err (No bit rule)) = Whole mode took bytes calls s s' (Err (No bit rule)) × (failures s' ≡ failures s)
 JudgedBy mode took failures bytes calls s s' (Err (Outside bit feature)) = Whole mode took bytes calls s s' (Err (Outside bit feature)) × (failures s' ≡ failures s)
@@ -107,7 +109,14 @@ JudgedBy mode took failures bytes calls s s' (Err Memory) = Front mode took byte
 JudgedBy mode took failures bytes calls s s' (Err Read) = Front mode took bytes calls s s' × (failures s' ≡ failures s)
 JudgedBy mode took failures bytes calls s s' (Err Write) = Front mode took bytes calls s s' × (failures s' ≡ failures s + 1)
 
--- Of this stream, of which a sink has taken these calls, a yes has Holds, a no Breaks, an outside MayStop, and the sink has
--- then taken exactly the calls up to there; memory, read and write come with the first of them.
-pub record Judged {S : Type 0} (mode : Mode) (took : S → List Call → Type 0) (failures : S → ℕ) (bytes : List ℕ) (calls : List Call) (s s' : S) (answer : Result Summary Stop) : Type 0 where
-  pub judged : JudgedBy mode took failures bytes calls s s' answer
+-- Of what was told with these frames the same is told with others, and the pictures are decoded as they were.
+pub record SameTold (frames others : ℕ → Frame) (told : List Told) : Type 0 where
+  pub calls : calls_of others told ≡ calls_of frames told
+  pub decoded : AreDecoded frames told → AreDecoded others told
+
+-- Of this stream, of which this was told with these frames, a yes has Holds, a no Breaks, an outside MayStop, and a sink was then told
+-- exactly what comes up to there, with the frames of the pictures, decoded; memory, read and write come with the first of it.
+pub record Judged {S : Type 0} (mode : Mode) (took : S → List Call → Type 0) (failures : S → ℕ) (bytes : List ℕ) (frames : ℕ → Frame) (told : List Told) (s s' : S) (answer : Result Summary Stop) : Type 0 where
+  pub made : ℕ → Frame
+  pub same : SameTold frames made told
+  pub judged : JudgedBy mode (took_with made took) failures bytes told s s' answer

@@ -10,50 +10,51 @@ ghost use Rattle.h264_header.specs.Layout.{sets_of};
 ghost use Rattle.h264_near.specs.Coded.{CodedMacroblock};
 ghost use Rattle.h264_picture.specs.Holds.{Holds};
 ghost use Rattle.h264_sps.specs.Usable.{is_usable};
+ghost use Rattle.h264_header.specs.Picture.{is_idr};
 ghost use Rattle.h264_verify.specs.Demands.{judged};
 ghost use Rattle.h264_verify.specs.Outcome.{IsNamed, answers};
 ghost use Rattle.h264_verify.specs.History.{History};
-ghost use Rattle.h264_verify.specs.Pictures.{CodedSlice, CodedPicture, open_of, joined_to, runs_of, goes_on, begins_after, whole_steps, picture_size, held_in};
+ghost use Rattle.h264_verify.specs.Pictures.{CodedSlice, CodedPicture, open_of, joined_to, runs_of, goes_on, begins_after, picture_size, held_in};
+ghost use Rattle.h264_verify.specs.Closing.{whole_steps};
+ghost use Rattle.h264_verify.specs.Buffering.{end_frames, closing_frames};
+ghost use Rattle.h264_plane.specs.declared.frame.Frame.{Frame};
 ghost use Rattle.h264_marking.specs.Ended.{numbering_of};
-ghost use Rattle.h264_verify.specs.Slices.{first_mb_demands, list_of};
+ghost use Rattle.h264_verify.specs.Slices.{first_mb_demands};
+ghost use Rattle.h264_verify.specs.Lists.{list_of};
 ghost use Rattle.h264_verify.specs.Data.{picture_set, coded_so_far, data_in};
-ghost use Rattle.h264_verify.specs.Keeping.{KeepsSlices, KeepsWork, HoldsCoded, HoldsNewest, coded_before};
+ghost use Rattle.h264_verify.specs.Keeping.{KeepsSlices, KeepsDecoder, KeepsSomeFrames, EntersBy, EntersFrames, KeepsFrames, HoldsCoded, HoldsNewest, HoldsData, HoldsBefore, BeginsFrames, coded_before};
 ghost use Rattle.h264_verify.specs.UnitOutcome.{steps_outcome, structure_from};
-ghost use Rattle.h264_verify.specs.Feeding.{ReadsData};
+ghost use Rattle.h264_verify.specs.Feeding.{EndsFrames, ReadsData};
 
+use crate::decoder::Decoder;
 use crate::rules::check;
+use crate::sink::FrameSink;
 use crate::slices::Slices;
 use arrayvec::ArrayVec;
-use h264_base::{Elements, Feature, Mode, Rule, Stop};
+use h264_base::{Elements, Mode, Rule, Stop};
 use h264_bits::Bits;
 use h264_header::{Header, SliceKind, named_sets};
 use h264_lists::{RefSlot, build};
 use h264_marking::{Held, Numbering, numbering_of};
-use h264_picture::{Work, slice_context, slice_samples};
+use h264_picture::{Work, slice_context};
 use h264_sets::Sets;
 use h264_sps::sps::Sps;
 
-/// The end of the slice data of the picture that may go on, if there is one: all its macroblocks are coded. Its samples are not judged.
+/// The end of the slice data of the picture that may go on, if there is one: all its macroblocks are coded.
 fn end_data(slices: &Slices, work: &Work) -> Result<(), Stop>
     ensures judged { (before : History) → KeepsSlices before false slices.now → HoldsCoded (open_of (goes_on before) (runs_of before)) work.now → answers result ≡ steps_outcome (whole_steps modes.Full before) }
     ensures named { IfErr result IsNamed }
 {
     match slices.picture {
         None => Ok(()),
-        Some(_) => {
-            check(work.is_whole(), Rule::Incomplete, slices.behind)?;
-            Err(Stop::Outside {
-                bit: slices.behind,
-                feature: Feature::Pending,
-            })
-        }
+        Some(_) => check(work.is_whole(), Rule::Incomplete, slices.behind),
     }
 }
 
 /// The same where slice data are read and the picture ends here.
-#[tactic(auto, unfolding(crate::specs::Keeping::KeepsWork))]
+#[tactic(auto, unfolding(crate::specs::Keeping::HoldsData))]
 pub(crate) fn end_data_if(mode: Mode, ends: bool, slices: &Slices, work: &Work) -> Result<(), Stop>
-    ensures judged { (before : History) → KeepsSlices before false slices.now → KeepsWork mode (open_of (goes_on before) (runs_of before)) work.now → answers result ≡ steps_outcome (if ends then whole_steps mode before else []) }
+    ensures judged { (before : History) → KeepsSlices before false slices.now → HoldsData mode (open_of (goes_on before) (runs_of before)) work.now → answers result ≡ steps_outcome (if ends then whole_steps mode before else []) }
     ensures named { IfErr result IsNamed }
 {
     if !ends {
@@ -66,9 +67,48 @@ pub(crate) fn end_data_if(mode: Mode, ends: bool, slices: &Slices, work: &Work) 
     }
 }
 
+/// The frame of the picture that may go on takes its place, if there is such a picture.
+fn end_frame<S: FrameSink>(slices: &Slices, decoder: &mut Decoder, sink: &mut S) -> Result<(), Stop>
+    requires room { S.failures sink.old < 2 ^ 64 - 1 }
+    requires pictures { slices.now.pictures ≤ 2 ^ 42 }
+    requires kept { KeepsSomeFrames modes.Full true slices.now decoder.old }
+    ensures ends { (frames : ℕ → Frame) (before : History) → KeepsSlices before true slices.now → answers (Ok tt) ≡ steps_outcome (whole_steps modes.Full before) → KeepsFrames frames (goes_on before) false (runs_of before) decoder.old → EndsFrames modes.Full S.took S.failures frames (goes_on before) true (runs_of before) (steps_outcome (closing_frames modes.Full before)) decoder.new sink.old sink.new result }
+    ensures kept { OnOk result (S.failures sink.new ≡ S.failures sink.old) }
+{
+    match &slices.picture {
+        None => Ok(()),
+        Some(picture) => decoder.end(&picture.ended, &slices.held, sink),
+    }
+}
+
+/// The same where frames are made and the picture ends here.
+#[tactic(auto, unfolding(crate::specs::Keeping::KeepsDecoder))]
+pub(crate) fn end_frame_if<S: FrameSink>(
+    mode: Mode,
+    ends: bool,
+    slices: &Slices,
+    decoder: &mut Decoder,
+    sink: &mut S,
+) -> Result<(), Stop>
+    requires room { S.failures sink.old < 2 ^ 64 - 1 }
+    requires pictures { slices.now.pictures ≤ 2 ^ 42 }
+    requires kept { KeepsSomeFrames mode ends slices.now decoder.old }
+    ensures ends { (frames : ℕ → Frame) (before : History) → KeepsSlices before ends slices.now → answers (Ok tt) ≡ steps_outcome (if ends then whole_steps mode before else []) → KeepsDecoder mode frames (goes_on before) false (runs_of before) decoder.old → EndsFrames mode S.took S.failures frames (goes_on before) ends (runs_of before) (steps_outcome (if ends then closing_frames mode before else [])) decoder.new sink.old sink.new result }
+    ensures kept { OnOk result (S.failures sink.new ≡ S.failures sink.old) }
+{
+    if !ends {
+        return Ok(());
+    }
+    match mode {
+        Mode::Units => Ok(()),
+        Mode::Headers => Ok(()),
+        Mode::Full => end_frame(slices, decoder, sink),
+    }
+}
+
 /// How many macroblocks are coded before a slice.
 fn coded_before(begins: bool, work: &Work) -> u32
-    ensures { (on : Bool) (pictures : List CodedPicture) (h : Header) → HoldsCoded (open_of on pictures) work.now → begins ≡ begins_after (open_of on pictures) h → result ≡ coded_before begins pictures }
+    ensures { (pictures : List CodedPicture) → HoldsNewest begins pictures work.now → result ≡ coded_before begins pictures }
 {
     if begins {
         return 0;
@@ -79,7 +119,7 @@ fn coded_before(begins: bool, work: &Work) -> u32
 /// Whether a slice begins where its picture's macroblocks so far end.
 fn check_place(begins: bool, work: &Work, header: &Header) -> Result<(), Stop>
     ensures no_memory { IsErrOf result Stop.Memory → ⊥ }
-    ensures judged { (on : Bool) (pictures : List CodedPicture) → HoldsCoded (open_of on pictures) work.now → begins ≡ begins_after (open_of on pictures) header.now → result ≡ judged (first_mb_demands modes.Full (coded_before begins pictures) header.now) }
+    ensures judged { (pictures : List CodedPicture) → HoldsNewest begins pictures work.now → result ≡ judged (first_mb_demands modes.Full (coded_before begins pictures) header.now) }
 {
     let coded = coded_before(begins, work);
     let first_mb = header.first_mb_in_slice;
@@ -87,14 +127,14 @@ fn check_place(begins: bool, work: &Work, header: &Header) -> Result<(), Stop>
 }
 
 /// The same where slice data are read.
-#[tactic(auto, unfolding(crate::specs::Keeping::KeepsWork))]
+#[tactic(auto, unfolding(crate::specs::Keeping::HoldsBefore))]
 pub(crate) fn check_first_mb(
     mode: Mode,
     begins: bool,
     work: &Work,
     header: &Header,
 ) -> Result<(), Stop>
-    ensures judged { (on : Bool) (pictures : List CodedPicture) → KeepsWork mode (open_of on pictures) work.now → begins ≡ begins_after (open_of on pictures) header.now → result ≡ judged (first_mb_demands mode (coded_before begins pictures) header.now) }
+    ensures judged { (pictures : List CodedPicture) → HoldsBefore mode begins pictures work.now → result ≡ judged (first_mb_demands mode (coded_before begins pictures) header.now) }
     ensures no_memory { IsErrOf result Stop.Memory → ⊥ }
 {
     match mode {
@@ -118,18 +158,21 @@ fn list_of(kind: &SliceKind, numbering: &Numbering, held: &Held) -> ArrayVec<Ref
 }
 
 /// A picture that begins takes its places: Memory where they are refused.
-#[tactic(auto, using(crate::proofs::Reading::usable_size))]
-fn begin_if(begins: bool, sps: &Sps, work: &mut Work) -> Result<(), Stop>
+fn begin_if(
+    begins: bool,
+    idr: bool,
+    sps: &Sps,
+    chroma_qp_index_offset: i32,
+    decoder: &mut Decoder,
+) -> Result<(), Stop>
     requires { is_usable sps.now ≡ true }
-    ensures holds { (pictures : List CodedPicture) (s : CodedSlice) → s.sps ≡ sps.now → HoldsNewest begins pictures work.old → OnOk result (Holds (picture_set begins s pictures).frame_size.width (picture_size (picture_set begins s pictures)) (coded_so_far begins pictures) work.new) }
+    ensures holds { (frames : ℕ → Frame) (on : Bool) (s : CodedSlice) (pictures : List CodedPicture) → s.sps ≡ sps.now → is_idr s.header ≡ idr → (begins ≡ false → on ≡ true) → EntersBy frames begins s on pictures decoder.old → OnOk result (BeginsFrames frames begins s pictures decoder.new) }
     ensures err { IfErr result (λ e. e ≡ Stop.Memory) }
 {
     if !begins {
         return Ok(());
     }
-    work.activate(sps)?;
-    work.begin(work.first_place());
-    Ok(())
+    decoder.begin(idr, sps, chroma_qp_index_offset)
 }
 
 /// Reads the slice data behind a header whose rules are met.
@@ -138,22 +181,23 @@ pub(crate) fn read_data<S: Elements>(
     held: &Held,
     sets: &Sets,
     header: &Header,
-    work: &mut Work,
+    decoder: &mut Decoder,
     bits: &mut Bits,
     sink: &mut S,
 ) -> Result<(), Stop>
     requires room { S.failures sink.old < 2 ^ 64 - 1 }
     requires id { header.now.pic_parameter_set_id.value ≤ 255 }
     requires named { is_some (sets_of sets.now header.now.pic_parameter_set_id.value) ≡ true }
-    ensures reads { (pictures : List CodedPicture) (s : CodedSlice) → sets_of sets.now s.header.pic_parameter_set_id.value ≡ Some (s.pps, s.sps) → header.now ≡ record s.header { marking = header.now.marking } → held.now ≡ held_in (joined_to begins s pictures) → s.header.first_mb_in_slice.value ≡ length (coded_so_far begins pictures) → HoldsNewest begins pictures work.old → ReadsData S.took S.failures (structure_from (data_in begins pictures s) bits.old.body bits.old.at) (picture_set begins s pictures).frame_size.width (picture_size (picture_set begins s pictures)) work.new sink.old sink.new result }
+    ensures reads { (frames : ℕ → Frame) (on : Bool) (pictures : List CodedPicture) (s : CodedSlice) → sets_of sets.now s.header.pic_parameter_set_id.value ≡ Some (s.pps, s.sps) → header.now ≡ record s.header { marking = header.now.marking } → held.now ≡ held_in (joined_to begins s pictures) → s.header.first_mb_in_slice.value ≡ length (coded_so_far begins pictures) → s.macroblocks ≡ [] → (begins ≡ false → on ≡ true) → EntersBy frames begins s on pictures decoder.old → ReadsData S.took S.failures frames (structure_from (data_in begins pictures s) bits.old.body bits.old.at) (λ ms. joined_to begins (record s { macroblocks = ms }) pictures) decoder.new sink.old sink.new result }
     ensures kept { OnOk result (S.failures sink.new ≡ S.failures sink.old) }
 {
     let Some((pps, sps)) = named_sets(sets, header.pic_parameter_set_id.value) else {
         unreachable!()
     };
-    begin_if(begins, sps, work)?;
+    let idr = header.idr_pic_id.is_some();
+    begin_if(begins, idr, sps, pps.chroma_qp_index_offset, decoder)?;
     let numbering = numbering_of(sps, header);
     let list = list_of(&header.kind.value, &numbering, held);
     let slice = slice_context(pps, sps, header, list.as_slice());
-    work.slice(bits, &slice, &slice_samples(pps, header, [0; 16]), sink)
+    decoder.slice(bits, &slice, pps, header, sink)
 }

@@ -1,9 +1,9 @@
 //! What is kept from unit to unit, and what is known of a whole stream.
 #![tactic(auto)]
 
+use crate::decoder::Decoder;
 use crate::slices::Slices;
 use h264_header::Header;
-use h264_picture::Work;
 use h264_sets::Sets;
 
 /// What a whole stream has, where it is legal.
@@ -28,6 +28,6 @@ pub struct State {
     pub(crate) slices: Slices,
     /// The place into which the header of a slice is read: it is large to move.
     pub(crate) header: Header,
-    /// The picture whose slice data are read.
-    pub(crate) work: Work,
+    /// The picture whose slice data are read, and the frames of those before it.
+    pub(crate) decoder: Decoder,
 }

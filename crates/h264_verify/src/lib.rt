@@ -1,16 +1,19 @@
 //! The verdict on a stream: what `run` and a `Session` tell a sink, and whether the stream is legal.
 //!
 //! A `Session` takes the bytes in pieces of any size; `run` reads a `Source` to its end. Each unit is judged as soon as its end
-//! is known, in the stated order of checks, by the mode: its own rules and the parameter sets, or slice headers too, with the
-//! pictures and counts that they give. The sink is told each unit, each syntax element and each slice.
+//! is known, in the stated order of checks, by the mode: its own rules and the parameter sets; slice headers too, with the
+//! pictures and counts that they give; or slice data too, with the pictures' samples. The sink is told each unit, each syntax
+//! element and each slice, and each frame in the order of output.
 //!
 //! Promised, for every byte string and every cutting of it: a yes, a no or an outside is the verdict of `specs/Verdict.antt`, of
-//! which each stream has exactly one, and the sink was told exactly its calls; a stopped session repeats its stop and touches no
-//! sink; Write comes only where the sink failed, Read only where the source failed or was read 2^41 times.
+//! which each stream has exactly one, and the sink was told exactly its calls, with frames whose samples are those of the
+//! standard's equations; a stopped session repeats its stop and touches no sink; Write comes only where the sink failed, Read
+//! only where the source failed or was read 2^41 times.
 //! Not promised: that memory suffices.
 #![tactic(auto)]
 
 mod data;
+pub mod decoder;
 mod frame_num;
 pub mod judge;
 pub mod laws;

@@ -5,9 +5,11 @@ ghost use Rattle.std.specs.Prelude.{◌≡◌, ◌-◌, ◌||◌, ◌==◌, List
 ghost use Rattle.h264_verify.specs.Pictures.{CodedSlice, CodedPicture};
 ghost use Rattle.h264_marking.specs.Ended.{numbering_of};
 ghost use Rattle.h264_verify.specs.Slices.{is_i};
-ghost use Rattle.h264_verify.specs.Keeping.{types_of, HoldsPicture, HoldsOpen, begins_by, types_by, agrees_by};
+ghost use Rattle.h264_verify.specs.Buffering.{ended_picture};
+ghost use Rattle.h264_verify.specs.Keeping.{types_of, HoldsPicture, HoldsOpen, HoldsEnd, begins_by, types_by, agrees_by};
 
 use h264_bits::Found;
+use h264_dpb::Ended;
 use h264_header::{Header, Marking, PictureElements, SliceKind, begins_picture, picture_elements};
 use h264_marking::{Numbering, is_window};
 use std::mem;
@@ -30,6 +32,8 @@ pub struct OpenPicture {
     pub(crate) last: PictureElements,
     pub(crate) types: Types,
     pub(crate) numbering: Numbering,
+    /// What its end tells the buffer of frames.
+    pub(crate) ended: Ended,
 }
 
 pub(crate) fn is_i(kind: &SliceKind) -> bool
@@ -105,8 +109,9 @@ fn keep_marking(kept: &mut Option<Found<Marking>>, marking: &mut Option<Found<Ma
 
 /// A picture that has begun with this slice.
 #[inline(never)]
-fn begun(header: &mut Header, numbering: Numbering) -> OpenPicture
+fn begun(header: &mut Header, numbering: Numbering, ended: Ended) -> OpenPicture
     ensures holds { (slice : CodedSlice) → slice.header ≡ header.old → numbering ≡ numbering_of slice.sps slice.header → HoldsPicture (record { first = slice; later = [] }) result }
+    ensures end { result.ended ≡ ended }
     ensures header { header.new ≡ record header.old { marking = header.new.marking } }
 {
     let types = types_with(seen_types(&None), header);
@@ -115,34 +120,44 @@ fn begun(header: &mut Header, numbering: Numbering) -> OpenPicture
         last: picture_elements(header),
         types,
         numbering,
+        ended,
     }
 }
 
 /// A picture that begins with this slice, in the place of the one before.
-fn restart(picture: &mut OpenPicture, header: &mut Header, numbering: Numbering)
+fn restart(picture: &mut OpenPicture, header: &mut Header, numbering: Numbering, ended: Ended)
     ensures holds { (slice : CodedSlice) → slice.header ≡ header.old → numbering ≡ numbering_of slice.sps slice.header → HoldsPicture (record { first = slice; later = [] }) picture.new }
+    ensures end { picture.new.ended ≡ ended }
     ensures header { header.new ≡ record header.old { marking = header.new.marking } }
 {
     picture.types = types_with(seen_types(&None), header);
     picture.last = picture_elements(header);
     keep_marking(&mut picture.marking, &mut header.marking);
     picture.numbering = numbering;
+    picture.ended = ended;
 }
 
 /// A picture begins with this slice, where another may have gone on.
-pub(crate) fn begin(picture: &mut Option<OpenPicture>, header: &mut Header, numbering: Numbering)
+pub(crate) fn begin(
+    picture: &mut Option<OpenPicture>,
+    header: &mut Header,
+    numbering: Numbering,
+    ended: Ended,
+)
     ensures holds { (slice : CodedSlice) → slice.header ≡ header.old → numbering ≡ numbering_of slice.sps slice.header → HoldsOpen (Some (record { first = slice; later = [] })) picture.new }
+    ensures end { (slice : CodedSlice) (pictures : List CodedPicture) → ended ≡ ended_picture (record { first = slice; later = [] }) pictures → HoldsEnd (record { first = slice; later = [] } ∷ pictures) picture.new }
     ensures header { header.new ≡ record header.old { marking = header.new.marking } }
 {
     match picture {
-        None => *picture = Some(begun(header, numbering)),
-        Some(picture) => restart(picture, header, numbering),
+        None => *picture = Some(begun(header, numbering, ended)),
+        Some(picture) => restart(picture, header, numbering, ended),
     }
 }
 
 /// One more slice comes to a picture.
 pub(crate) fn go_on(picture: &mut OpenPicture, header: &Header)
-    ensures { (p : CodedPicture) (slice : CodedSlice) → slice.header ≡ header.now → HoldsPicture p picture.old → HoldsPicture (record p { later = slice ∷ p.later }) picture.new }
+    ensures end { picture.new.ended ≡ picture.old.ended }
+    ensures holds { (p : CodedPicture) (slice : CodedSlice) → slice.header ≡ header.now → HoldsPicture p picture.old → HoldsPicture (record p { later = slice ∷ p.later }) picture.new }
 {
     picture.types = types_with(picture.types, header);
     picture.last = picture_elements(header);

@@ -10,7 +10,8 @@ ghost use Rattle.h264_verify.specs.Demands.{judged};
 ghost use Rattle.h264_verify.specs.History.{maps_with};
 ghost use Rattle.h264_verify.specs.Content as contents;
 ghost use Rattle.h264_verify.specs.Keeping.{marking_by, same_type_by, standing_demands};
-ghost use Rattle.h264_verify.specs.Slices.{idr_id, changes_id, bit_of_id, bit_of_marking, is_qp, type_demand, id_demand, qp_demand, list_of, list_demand, marking_demand};
+ghost use Rattle.h264_verify.specs.Slices.{idr_id, changes_id, bit_of_id, bit_of_marking, is_qp, type_demand, id_demand, qp_demand, list_demand, marking_demand};
+ghost use Rattle.h264_verify.specs.Lists.{list_of};
 ghost use Rattle.h264_header.specs.SameMarking.{same_marking};
 
 use crate::picture::{OpenPicture, agrees, is_i, seen_types};

@@ -4,9 +4,8 @@
 ghost use Rattle.std.specs.Prelude.{◌≡◌, ℕ, ◌+◌, ◌-◌, ◌*◌, ◌<◌, ◌≤◌, ◌^◌, ◌⊎◌, List, [], ◌∷◌, ◌++◌, length, take, OnOk, OnErr, IfOk, IfErr, Ok, Err, None, Some, IsErrOf, IsTrue, IsFalse};
 ghost use Rattle.std.specs.List.{flat_map};
 ghost use Rattle.h264_base.specs.declared.mode.Mode.{Mode};
-ghost use Rattle.h264_verify.specs.Session.{Judges};
-ghost use Rattle.h264_verify.specs.Feeding.{FedOn};
-ghost use Rattle.h264_verify.specs.UnitOutcome.{judging};
+ghost use Rattle.h264_plane.specs.declared.frame.Frame.{Frame};
+ghost use Rattle.h264_verify.specs.Feeding.{FedOn, JudgesWith};
 ghost use Rattle.h264_verify.specs.Verdict.{Judged};
 
 use crate::judge::Summary;
@@ -39,7 +38,7 @@ fn turn<R: Source, S: FrameSink>(
     requires runs { session.old.stop ≡ None }
     ensures more { IfOk result (λ more. IsTrue more → (mode : Mode) (bytes : List ℕ) (first : _) → FedOn mode S.took (R.left source.old) bytes session.old first sink.old → FedOn mode S.took (R.left source.new) bytes session.new first sink.new) }
     ensures end { IfOk result (λ more. IsFalse more → (session.new ≡ session.old) × (sink.new ≡ sink.old) × ((left : List ℕ) → R.left source.old ≡ Some left → left ≡ [])) }
-    ensures stops { IfErr result (λ stop. (mode : Mode) (bytes : List ℕ) (first : _) → FedOn mode S.took (R.left source.old) bytes session.old first sink.old → S.failures sink.old ≡ S.failures first → Judges (judging mode) [] S.took S.failures bytes first sink.new (Err stop)) }
+    ensures stops { IfErr result (λ stop. (mode : Mode) (bytes : List ℕ) (first : _) → FedOn mode S.took (R.left source.old) bytes session.old first sink.old → S.failures sink.old ≡ S.failures first → JudgesWith mode S.took S.failures bytes first sink.new (Err stop)) }
     ensures kept { OnOk result ((session.new.stop ≡ None) × (S.failures sink.new ≡ S.failures sink.old) × (R.failures source.new ≡ R.failures source.old)) }
     ensures again { (n : ℕ) → R.was_read source.old n → R.was_read source.new (n + 1) }
     ensures read { IsErrOf result Stop.Read → R.failures source.new ≡ R.failures source.old + 1 }
@@ -72,7 +71,7 @@ pub fn run<R: Source, S: FrameSink>(
     requires sink { S.failures sink.old < 2 ^ 64 - 1 }
     requires source { R.failures source.old < 2 ^ 64 - 1 }
     // Yes, no and outside are those of the stream, with the calls up to there; memory, read and write come with the first calls.
-    ensures verdict { (bytes : List ℕ) → R.left source.old ≡ Some bytes → Judged mode S.took S.failures bytes [] sink.old sink.new result }
+    ensures verdict { (bytes : List ℕ) → R.left source.old ≡ Some bytes → (frames : ℕ → Frame) → Judged mode S.took S.failures bytes frames [] sink.old sink.new result }
     ensures read { IsErrOf result Stop.Read → (R.failures source.new ≡ R.failures source.old + 1) ⊎ ((n : ℕ) → R.was_read source.old n → R.was_read source.new (n + 2 ^ 41)) }
     ensures write { IsErrOf result Stop.Write → S.failures sink.new ≡ S.failures sink.old + 1 }
 {
@@ -94,7 +93,7 @@ pub fn run_pieces<S: FrameSink>(
     mode: Mode,
 ) -> Result<Summary, Stop>
     requires { S.failures sink.old < 2 ^ 64 - 1 }
-    ensures { Judged mode S.took S.failures (flat_map (λ piece. piece.items) pieces.now) [] sink.old sink.new result }
+    ensures { (frames : ℕ → Frame) → Judged mode S.took S.failures (flat_map (λ piece. piece.items) pieces.now) frames [] sink.old sink.new result }
 {
     let mut session = Session::new(alloc, mode, Target::Baseline)?;
     for piece in pieces {

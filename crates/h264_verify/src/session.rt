@@ -1,25 +1,24 @@
 //! A session over a stream.
 #![tactic(auto)]
 
-ghost use Rattle.std.specs.Prelude.{◌≡◌, ℕ, ◌+◌, ◌-◌, ◌*◌, ◌<◌, ◌≤◌, ◌^◌, List, [], ◌∷◌, ◌++◌, length, OnOk, OnErr, IfOk, IfErr, Ok, Err, None, drop, IsFalse, IfSome, Some, IsErrOf};
+ghost use Rattle.std.specs.Prelude.{◌≡◌, ℕ, ◌+◌, ◌-◌, ◌*◌, ◌<◌, ◌≤◌, ◌^◌, List, [], ◌∷◌, ◌++◌, length, OnOk, OnErr, IfOk, IfErr, Ok, Err, None, drop, false, IsFalse, IfSome, Some, IsErrOf};
 ghost use Rattle.h264_units.specs.Stream.{IsUndecided};
-ghost use Rattle.h264_verify.specs.Session.{Stops, Finishes};
-ghost use Rattle.h264_verify.specs.UnitOutcome.{judging};
 ghost use Rattle.h264_verify.specs.Progress.{IsFresh};
 ghost use Rattle.h264_base.specs.declared.mode.Mode.{Mode};
-ghost use Rattle.h264_base.specs.Call.{Call};
+ghost use Rattle.h264_plane.specs.declared.frame.Frame.{Frame};
+ghost use Rattle.h264_verify.specs.Telling.{Told};
 ghost use Rattle.h264_verify.specs.History.{History};
-ghost use Rattle.h264_verify.specs.Keeping.{Keeps};
-ghost use Rattle.h264_verify.specs.Feeding.{behind, GoesOn, WasFed, IsFed};
+ghost use Rattle.h264_verify.specs.Keeping.{Keeps, KeepsSome};
+ghost use Rattle.h264_verify.specs.Feeding.{behind, GoesOn, StopsOn, FinishesOn, WasFed, IsFed};
 ghost use Rattle.h264_verify.specs.Verdict.{Judged};
 
+use crate::decoder::Decoder;
 use crate::judge::{State, Summary};
 use crate::sink::FrameSink;
 use crate::slices::no_slices;
 use crate::unit::{judge_end, judge_unit};
 use h264_base::{Mode, Stop, Target};
 use h264_header::Header;
-use h264_picture::Work;
 use h264_sets::Sets;
 use h264_units::Splitter;
 use std::alloc::Global;
@@ -39,14 +38,15 @@ fn feed_some<S: FrameSink>(
     requires runs { (splitter.old.stop ≡ None) × IsFalse splitter.old.waiting × IsFalse splitter.old.ended }
     requires counted { state.old.units ≤ splitter.old.at }
     requires pictures { state.old.slices.pictures ≤ state.old.units }
+    requires keeps { KeepsSome mode false state.old }
     ensures within { IfOk result (λ n. (0 < n) × (n ≤ length piece.now)) }
-    ensures goes { (before : History) → Keeps mode before state.old → IfOk result (λ n. GoesOn mode S.took (behind splitter.old before) splitter.new state.new piece.now (drop n piece.now) sink.old sink.new) }
+    ensures goes { (frames : ℕ → Frame) (before : History) → Keeps mode frames before state.old → IfOk result (λ n. GoesOn mode S.took frames (behind splitter.old before) splitter.new state.new piece.now (drop n piece.now) sink.old sink.new) }
     ensures runs { OnOk result ((splitter.new.stop ≡ None) × IsFalse splitter.new.waiting × IsFalse splitter.new.ended) }
     ensures counted { OnOk result (state.new.units ≤ splitter.new.at) }
     ensures pictures { OnOk result (state.new.slices.pictures ≤ state.new.units) }
     ensures undecided { OnOk result (IsUndecided splitter.new.rest) }
     ensures kept { OnOk result (S.failures sink.new ≡ S.failures sink.old) }
-    ensures stops { (before : History) → Keeps mode before state.old → IfErr result (Stops (judging mode) S.took S.failures (behind splitter.old before) piece.now sink.old sink.new) }
+    ensures stops { (frames : ℕ → Frame) (before : History) → Keeps mode frames before state.old → IfErr result (StopsOn mode S.took S.failures frames (behind splitter.old before) piece.now sink.old sink.new) }
 {
     let n = splitter.push(piece)?;
     match splitter.take_unit() {
@@ -78,13 +78,14 @@ fn feed_all<S: FrameSink>(
     requires runs { (splitter.old.stop ≡ None) × IsFalse splitter.old.waiting × IsFalse splitter.old.ended }
     requires counted { state.old.units ≤ splitter.old.at }
     requires pictures { state.old.slices.pictures ≤ state.old.units }
-    ensures goes { (before : History) → Keeps mode before state.old → OnOk result (GoesOn mode S.took (behind splitter.old before) splitter.new state.new piece.now [] sink.old sink.new) }
+    requires keeps { KeepsSome mode false state.old }
+    ensures goes { (frames : ℕ → Frame) (before : History) → Keeps mode frames before state.old → OnOk result (GoesOn mode S.took frames (behind splitter.old before) splitter.new state.new piece.now [] sink.old sink.new) }
     ensures runs { OnOk result ((splitter.new.stop ≡ None) × IsFalse splitter.new.waiting × IsFalse splitter.new.ended) }
     ensures counted { OnOk result (state.new.units ≤ splitter.new.at) }
     ensures pictures { OnOk result (state.new.slices.pictures ≤ state.new.units) }
     ensures undecided { OnOk result (IsUndecided splitter.old.rest → IsUndecided splitter.new.rest) }
     ensures kept { OnOk result (S.failures sink.new ≡ S.failures sink.old) }
-    ensures stops { (before : History) → Keeps mode before state.old → IfErr result (Stops (judging mode) S.took S.failures (behind splitter.old before) piece.now sink.old sink.new) }
+    ensures stops { (frames : ℕ → Frame) (before : History) → Keeps mode frames before state.old → IfErr result (StopsOn mode S.took S.failures frames (behind splitter.old before) piece.now sink.old sink.new) }
 {
     let mut rest = piece;
     while !rest.is_empty() {
@@ -106,7 +107,8 @@ fn finish_all<S: FrameSink>(
     requires runs { (splitter.old.stop ≡ None) × IsFalse splitter.old.waiting × IsFalse splitter.old.ended }
     requires counted { state.old.units ≤ splitter.old.at }
     requires pictures { state.old.slices.pictures ≤ state.old.units }
-    ensures { (before : History) → Keeps mode before state.old → Finishes (judging mode) S.took S.failures (behind splitter.old before) sink.old sink.new result }
+    requires keeps { KeepsSome mode false state.old }
+    ensures { (frames : ℕ → Frame) (before : History) → Keeps mode frames before state.old → FinishesOn mode S.took S.failures frames (behind splitter.old before) sink.old sink.new result }
 {
     splitter.finish()?;
     match splitter.take_unit() {
@@ -142,13 +144,12 @@ impl Session {
     /// A session before the first byte. It takes the places of the parameter sets and a first place of contexts: Memory where they are refused.
     pub fn new(alloc: Global, mode: Mode, _target: Target) -> Result<Session, Stop>
         ensures fresh { IfOk result (λ s. IsFresh s mode) }
-        ensures fed { IfOk result (λ s. WasFed mode s [] []) }
+        ensures fed { IfOk result (λ s. (frames : ℕ → Frame) → WasFed mode s [] frames []) }
         ensures err { IfErr result (λ e. e ≡ Stop.Memory) }
     {
         let Ok(sets) = Sets::new(alloc) else {
             return Err(Stop::Memory);
         };
-        let work = Work::new(alloc);
         Ok(Session {
             alloc,
             mode,
@@ -158,7 +159,7 @@ impl Session {
                 sets,
                 slices: no_slices(),
                 header: Header::unread(),
-                work,
+                decoder: Decoder::new(alloc),
             },
             stop: None,
         })
@@ -169,12 +170,12 @@ impl Session {
         requires count { S.failures sink.old < 2 ^ 64 - 1 }
         requires runs { self.old.stop ≡ None }
         // However the input goes on, what comes is what the sink was told now and what comes later.
-        ensures goes { (before : History) → Keeps self.old.mode before self.old.state → OnOk result (GoesOn self.old.mode S.took (behind self.old.split before) self.new.split self.new.state piece.now [] sink.old sink.new) }
+        ensures goes { (frames : ℕ → Frame) (before : History) → Keeps self.old.mode frames before self.old.state → OnOk result (GoesOn self.old.mode S.took frames (behind self.old.split before) self.new.split self.new.state piece.now [] sink.old sink.new) }
         ensures undecided { OnOk result (IsUndecided self.old.split.rest → IsUndecided self.new.split.rest) }
         ensures going { OnOk result (self.new.stop ≡ None) }
         ensures kept { OnOk result (S.failures sink.new ≡ S.failures sink.old) }
         // The stop is the stream's, or the sink failed, or memory was refused.
-        ensures stops { (before : History) → Keeps self.old.mode before self.old.state → IfErr result (Stops (judging self.old.mode) S.took S.failures (behind self.old.split before) piece.now sink.old sink.new) }
+        ensures stops { (frames : ℕ → Frame) (before : History) → Keeps self.old.mode frames before self.old.state → IfErr result (StopsOn self.old.mode S.took S.failures frames (behind self.old.split before) piece.now sink.old sink.new) }
         ensures stopped { IfErr result (λ stop. self.new.stop ≡ Some stop) }
         ensures mode { self.new.mode ≡ self.old.mode }
         ensures write { IsErrOf result Stop.Write → S.failures sink.new ≡ S.failures sink.old + 1 }
@@ -200,7 +201,7 @@ impl Session {
     pub(crate) fn conclude<S: FrameSink>(self, sink: &mut S) -> Result<Summary, Stop>
         requires count { S.failures sink.old < 2 ^ 64 - 1 }
         requires runs { self.stop ≡ None }
-        ensures finishes { (before : History) → Keeps self.mode before self.state → Finishes (judging self.mode) S.took S.failures (behind self.split before) sink.old sink.new result }
+        ensures finishes { (frames : ℕ → Frame) (before : History) → Keeps self.mode frames before self.state → FinishesOn self.mode S.took S.failures frames (behind self.split before) sink.old sink.new result }
         ensures write { IsErrOf result Stop.Write → S.failures sink.new ≡ S.failures sink.old + 1 }
         ensures no_read { IsErrOf result Stop.Read → ⊥ }
     {
@@ -214,9 +215,9 @@ impl Session {
     pub fn feed<S: FrameSink>(&mut self, piece: &[u8], sink: &mut S) -> Result<(), Stop>
         requires { self.old.stop ≡ None → S.failures sink.old < 2 ^ 64 - 1 }
         // It was then fed the piece too.
-        ensures fed { (mode : Mode) (bytes : List ℕ) (calls : List Call) → WasFed mode self.old bytes calls → OnOk result (IsFed mode S.took S.failures self.new (bytes ++ piece.now) calls sink.old sink.new) }
+        ensures fed { (mode : Mode) (bytes : List ℕ) (frames : ℕ → Frame) (told : List Told) → WasFed mode self.old bytes frames told → OnOk result (IsFed mode S.took S.failures self.new (bytes ++ piece.now) frames told sink.old sink.new) }
         // However the input goes on, this is its verdict.
-        ensures stops { (mode : Mode) (bytes : List ℕ) (calls : List Call) → WasFed mode self.old bytes calls → IfErr result (λ stop. (later : List ℕ) → Judged mode S.took S.failures ((bytes ++ piece.now) ++ later) calls sink.old sink.new (Err stop)) }
+        ensures stops { (mode : Mode) (bytes : List ℕ) (frames : ℕ → Frame) (told : List Told) → WasFed mode self.old bytes frames told → IfErr result (λ stop. (later : List ℕ) → Judged mode S.took S.failures ((bytes ++ piece.now) ++ later) frames told sink.old sink.new (Err stop)) }
         ensures stopped { IfErr result (λ stop. self.new.stop ≡ Some stop) }
         ensures no_read { self.old.stop ≡ None → IsErrOf result Stop.Read → ⊥ }
         ensures mode { self.new.mode ≡ self.old.mode }
@@ -233,7 +234,7 @@ impl Session {
     pub fn finish<S: FrameSink>(self, sink: &mut S) -> Result<Summary, Stop>
         requires { self.stop ≡ None → S.failures sink.old < 2 ^ 64 - 1 }
         // The verdict on all that it was fed.
-        ensures verdict { (mode : Mode) (bytes : List ℕ) (calls : List Call) → WasFed mode self bytes calls → Judged mode S.took S.failures bytes calls sink.old sink.new result }
+        ensures verdict { (mode : Mode) (bytes : List ℕ) (frames : ℕ → Frame) (told : List Told) → WasFed mode self bytes frames told → Judged mode S.took S.failures bytes frames told sink.old sink.new result }
         ensures no_read { self.stop ≡ None → IsErrOf result Stop.Read → ⊥ }
         ensures again { IfSome self.stop (λ stop. (result ≡ Err stop) × (sink.new ≡ sink.old)) }
     {

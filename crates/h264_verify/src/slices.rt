@@ -8,24 +8,30 @@ ghost use Rattle.h264_base.specs.Call.{OfSlice};
 ghost use Rattle.h264_header.specs.Layout.{sets_of, has_lengths};
 ghost use Rattle.h264_base.specs.declared.mode.Mode.TheVariants as modes;
 ghost use Rattle.h264_header.specs.declared.header.Header.{Header};
-ghost use Rattle.h264_marking.specs.Gaps.{entered};
+ghost use Rattle.h264_marking.specs.Gaps.{entered, unused_short_term_frame_nums};
 ghost use Rattle.h264_near.specs.Coded.{CodedMacroblock};
 ghost use Rattle.h264_poc.specs.declared.picture.Picture.{Picture};
 ghost use Rattle.h264_poc.specs.Counts.{Keeps as KeepsCounts};
 ghost use Rattle.h264_verify.specs.Outcome.{Plays, IsNamed, answers, tells};
 ghost use Rattle.h264_verify.specs.Demands.{judged};
 ghost use Rattle.h264_verify.specs.History.{History, maps_with, maps_of};
-ghost use Rattle.h264_verify.specs.Keeping.{KeepsSlices, KeepsWork, HoldsCoded, HoldsOpen, IsLeft, begins_by, coded_before, first_by, later_by, standing_demands, slice_rules, Entered};
+ghost use Rattle.h264_plane.specs.declared.frame.Frame.{Frame};
+ghost use Rattle.h264_dpb.specs.Turns.{Turn, turn_then};
+ghost use Rattle.h264_verify.specs.Telling.{Said, took_with};
+ghost use Rattle.h264_verify.specs.Buffering.{gaps_turn, ended_picture, frame_count, newest_count};
+ghost use Rattle.h264_verify.specs.Keeping.{KeepsSlices, KeepsDecoder, KeepsGap, KeepsSomeGap, KeepsSomeRules, KeepsSomeSlice, EntersDecoder, HoldsEnd, HoldsOpen, IsLeft, begins_by, coded_before, first_by, later_by, standing_demands, slice_rules, Entered};
+ghost use Rattle.h264_verify.specs.Feeding.{JudgesSlice};
 ghost use Rattle.h264_verify.specs.UnitOutcome.{steps_outcome};
 ghost use Rattle.h264_units.specs.Stream.{NalUnit as UnitView};
 ghost use Rattle.h264_verify.specs.Content as contents;
-ghost use Rattle.h264_verify.specs.Pictures.{CodedSlice, CodedPicture, open_of, joined_to, runs_of, with_sets, goes_on, bit_behind, whole_steps, prev_ref_frame_num_behind, begins_at, begins_after, ends_picture, closing_demands};
+ghost use Rattle.h264_verify.specs.Pictures.{CodedSlice, CodedPicture, open_of, joined_to, runs_of, with_sets, goes_on, bit_behind, prev_ref_frame_num_behind, begins_at, begins_after, ends_picture, closing_demands};
 ghost use Rattle.h264_poc.specs.OfSlice.{picture_of};
 ghost use Rattle.h264_marking.specs.Ended.{numbering_of, resets};
 ghost use Rattle.h264_header.specs.Picture.{is_idr, is_reference};
-ghost use Rattle.h264_verify.specs.Slices.{type_of, idr_id, first_mb_demands, count_demand, slice_steps, frame_count, newest_count};
+ghost use Rattle.h264_verify.specs.Slices.{type_of, idr_id, first_mb_demands, count_demand, slice_steps};
 
-use crate::data::{check_first_mb, end_data_if};
+use crate::data::{check_first_mb, end_data_if, end_frame_if};
+use crate::decoder::Decoder;
 use crate::frame_num::{check_gap, check_idr_num};
 use crate::picture::{OpenPicture, begin, go_on};
 use crate::rules::{
@@ -34,9 +40,10 @@ use crate::rules::{
 };
 use crate::sink::FrameSink;
 use h264_base::{Failed, Mode, SliceType, Stop};
+use h264_dpb::{Ended, ended_of};
 use h264_header::{Header, SliceKind, named_sets};
 use h264_marking::{Held, Numbering, mark_end, numbering_of};
-use h264_picture::Work;
+use h264_picture::buffer_size;
 use h264_poc::{Count, Counts, picture_of};
 use h264_pps::Pps;
 use h264_sets::Sets;
@@ -93,29 +100,38 @@ fn count_picture(
 }
 
 /// The rules of a picture's first slice from its type on, where the picture before has ended; and what the picture leaves.
-fn check_first_slice(
+fn check_first_slice<S: FrameSink>(
+    mode: Mode,
     slices: &mut Slices,
     pps: &Pps,
     sps: &Sps,
     header: &Header,
     bit: u64,
+    decoder: &mut Decoder,
+    sink: &mut S,
 ) -> Result<(), Stop>
-    requires { has_lengths sps.now ≡ true }
-    ensures judged { (pictures : List Picture) → KeepsCounts pictures slices.old.counts → result ≡ judged (first_by slices.old pictures pps.now sps.now header.now bit) }
+    requires lengths { has_lengths sps.now ≡ true }
+    requires room { S.failures sink.old < 2 ^ 64 - 1 }
+    requires kept { KeepsSomeGap mode decoder.old }
+    ensures plays { (frames : ℕ → Frame) (t : Turn) (next : ℕ) (pictures : List Picture) → KeepsGap mode frames t next decoder.old → KeepsCounts pictures slices.old.counts → Plays (took_with frames S.took) S.failures (λ x. x) (steps_outcome (first_by mode slices.old pictures t.buffer pps.now sps.now header.now bit)) sink.old sink.new result }
+    ensures gap { (frames : ℕ → Frame) (t : Turn) (next : ℕ) → KeepsGap mode frames t next decoder.old → OnOk result (KeepsGap mode frames (turn_then t (gaps_turn (numbering_of sps.now header.now) (unused_short_term_frame_nums (is_idr header.now) slices.old.prev_ref_frame_num (numbering_of sps.now header.now)) slices.old.held)) next decoder.new) }
     ensures counts { (pictures : List Picture) → KeepsCounts pictures slices.old.counts → OnOk result (KeepsCounts (picture_of sps.now header.now ∷ pictures) slices.new.counts) }
     ensures count { (pictures : List Picture) → KeepsCounts pictures slices.old.counts → OnOk result (slices.new.count ≡ newest_count (picture_of sps.now header.now ∷ pictures)) }
     ensures held { OnOk result (slices.new.held ≡ entered (is_idr header.now) slices.old.prev_ref_frame_num (numbering_of sps.now header.now) slices.old.held) }
     ensures prev { OnOk result (slices.new.prev_ref_frame_num ≡ prev_ref_frame_num_behind (is_idr header.now) (is_reference header.now) (resets header.now.marking) (numbering_of sps.now header.now) slices.old.prev_ref_frame_num) }
     ensures others { slices.new ≡ record slices.old { counts = slices.new.counts; count = slices.new.count; prev_ref_frame_num = slices.new.prev_ref_frame_num; held = slices.new.held } }
-    ensures no_memory { IsErrOf result Stop.Memory → ⊥ }
+    ensures kept { OnOk result (S.failures sink.new ≡ S.failures sink.old) }
 {
     check_type(sps, header)?;
     check_idr_num(header)?;
     check_gap(
+        mode,
         sps,
         header,
         &mut slices.prev_ref_frame_num,
         &mut slices.held,
+        decoder,
+        sink,
     )?;
     check_id(slices.newest_idr, header)?;
     count_picture(sps, header, bit, &mut slices.counts, &mut slices.count)?;
@@ -159,22 +175,29 @@ fn check_standing(
 }
 
 /// The rules of a slice from its type on, and what a picture that begins leaves.
-fn check_rules(
+fn check_rules<S: FrameSink>(
+    mode: Mode,
     slices: &mut Slices,
     begins: bool,
     pps: &Pps,
     sps: &Sps,
     header: &Header,
     bit: u64,
+    decoder: &mut Decoder,
+    sink: &mut S,
 ) -> Result<(), Stop>
-    requires { has_lengths sps.now ≡ true }
-    ensures judged { (before : History) (unit : UnitView) → bit ≡ 8 * unit.from → KeepsSlices before begins slices.old → begins ≡ begins_at before header.now → result ≡ judged (slice_rules begins (runs_of before) (with_sets unit header.now [] (pps.now, sps.now))) }
+    requires lengths { has_lengths sps.now ≡ true }
+    requires room { S.failures sink.old < 2 ^ 64 - 1 }
+    requires pictures { slices.old.pictures < 2 ^ 42 }
+    requires kept { KeepsSomeRules mode begins slices.old decoder.old }
+    ensures plays { (frames : ℕ → Frame) (before : History) (unit : UnitView) → bit ≡ 8 * unit.from → KeepsSlices before begins slices.old → begins ≡ begins_at before header.now → KeepsDecoder mode frames (goes_on before) begins (runs_of before) decoder.old → Plays (took_with frames S.took) S.failures (λ x. x) (steps_outcome (slice_rules mode begins (runs_of before) (with_sets unit header.now [] (pps.now, sps.now)))) sink.old sink.new result }
     ensures entered { (before : History) (unit : UnitView) (macroblocks : List CodedMacroblock) → bit ≡ 8 * unit.from → KeepsSlices before begins slices.old → begins ≡ begins_at before header.now → OnOk result (Entered before begins (with_sets unit header.now macroblocks (pps.now, sps.now)) slices.new) }
+    ensures frames { (frames : ℕ → Frame) (before : History) (unit : UnitView) → KeepsSlices before begins slices.old → begins ≡ begins_at before header.now → KeepsDecoder mode frames (goes_on before) begins (runs_of before) decoder.old → OnOk result (EntersDecoder mode frames begins (with_sets unit header.now [] (pps.now, sps.now)) (goes_on before) (runs_of before) decoder.new) }
     ensures pictures { slices.new.pictures ≡ slices.old.pictures }
-    ensures no_memory { IsErrOf result Stop.Memory → ⊥ }
+    ensures kept { OnOk result (S.failures sink.new ≡ S.failures sink.old) }
 {
     if begins {
-        check_first_slice(slices, pps, sps, header, bit)
+        check_first_slice(mode, slices, pps, sps, header, bit, decoder, sink)
     } else {
         check_later_slice(slices, pps, sps, header)
     }
@@ -226,7 +249,7 @@ fn tell_slice<S: FrameSink>(
     sink: &mut S,
 ) -> Result<(), Stop>
     requires { S.failures sink.old < 2 ^ 64 - 1 }
-    ensures plays { Plays S.took S.failures (λ x. x) (tells (OfSlice byte header.now.first_mb_in_slice.value (type_of header.now.kind.value) header.now.frame_num.value (frame_count count))) sink.old sink.new result }
+    ensures plays { (frames : ℕ → Frame) → Plays (took_with frames S.took) S.failures (λ x. x) (tells (Said (OfSlice byte header.now.first_mb_in_slice.value (type_of header.now.kind.value) header.now.frame_num.value (frame_count count)))) sink.old sink.new result }
     ensures no_memory { IsErrOf result Stop.Memory → ⊥ }
 {
     let count = frame_count(count);
@@ -255,9 +278,17 @@ fn frame_count(count: Option<Count>) -> i32
 
 /// What a slice leaves that begins a picture, or goes on with one, where its unit ends before this bit. The marking may leave the
 /// header's place.
-fn enter(slices: &mut Slices, begins: bool, header: &mut Header, numbering: Numbering, behind: u64)
+fn enter(
+    slices: &mut Slices,
+    begins: bool,
+    header: &mut Header,
+    numbering: Numbering,
+    ended: Ended,
+    behind: u64,
+)
     requires { slices.old.pictures < 2 ^ 42 }
     ensures picture { (on : Bool) (pictures : List CodedPicture) (slice : CodedSlice) → slice.header ≡ header.old → HoldsOpen (open_of on pictures) slices.old.picture → begins ≡ begins_after (open_of on pictures) header.old → numbering ≡ numbering_of slice.sps slice.header → HoldsOpen (open_of true (joined_to begins slice pictures)) slices.new.picture }
+    ensures end { (on : Bool) (pictures : List CodedPicture) (slice : CodedSlice) → (begins ≡ true → ended ≡ ended_picture (record { first = slice; later = [] }) pictures) → HoldsOpen (open_of on pictures) slices.old.picture → HoldsEnd pictures slices.old.picture → begins ≡ begins_after (open_of on pictures) header.old → HoldsEnd (joined_to begins slice pictures) slices.new.picture }
     ensures newest { slices.new.newest_idr ≡ (if begins then idr_id header.old.idr_pic_id else slices.old.newest_idr) }
     ensures pictures { slices.new.pictures ≡ (if begins then slices.old.pictures + 1 else slices.old.pictures) }
     ensures due { slices.new.due ≡ false }
@@ -270,7 +301,7 @@ fn enter(slices: &mut Slices, begins: bool, header: &mut Header, numbering: Numb
     if begins {
         slices.pictures += 1;
         slices.newest_idr = idr_id(header.idr_pic_id);
-        begin(&mut slices.picture, header, numbering);
+        begin(&mut slices.picture, header, numbering, ended);
         return;
     }
     if let Some(picture) = &mut slices.picture {
@@ -285,7 +316,7 @@ pub(crate) fn judge_slice<S: FrameSink>(
     begins: bool,
     slices: &mut Slices,
     sets: &mut Sets,
-    work: &Work,
+    decoder: &mut Decoder,
     unit: &NalUnit,
     header: &mut Header,
     sink: &mut S,
@@ -295,29 +326,39 @@ pub(crate) fn judge_slice<S: FrameSink>(
     requires id { header.old.pic_parameter_set_id.value ≤ 255 }
     requires named { is_some (sets_of sets.old header.old.pic_parameter_set_id.value) ≡ true }
     requires pictures { slices.old.pictures < 2 ^ 42 }
-    ensures plays { (before : History) → KeepsSlices before false slices.old → sets.old ≡ maps_of before → KeepsWork mode (open_of (goes_on before) (runs_of before)) work.now → Plays S.took S.failures (λ x. x) (steps_outcome (slice_steps mode before unit.now header.old)) sink.old sink.new result }
+    requires kept { KeepsSomeSlice mode slices.old sets.old decoder.old }
+    ensures judges { (frames : ℕ → Frame) (before : History) (named : Pps × Sps) → KeepsSlices before false slices.old → sets.old ≡ maps_of before → sets_of sets.old header.old.pic_parameter_set_id.value ≡ Some named → KeepsDecoder mode frames (goes_on before) false (runs_of before) decoder.old → JudgesSlice mode S.took S.failures frames before unit.now header.old named begins decoder.new sink.old sink.new result }
     ensures keeps { (before : History) (macroblocks : List CodedMacroblock) → KeepsSlices before false slices.old → sets.old ≡ maps_of before → OnOk result (KeepsSlices (record { unit = unit.now; content = contents.OfSlice header.old macroblocks } ∷ before) false slices.new) }
     ensures header { OnOk result (header.new ≡ record header.old { marking = header.new.marking }) }
-    ensures place { (before : History) → KeepsSlices before false slices.old → KeepsWork mode (open_of (goes_on before) (runs_of before)) work.now → OnOk result (Ok tt ≡ judged (first_mb_demands mode (coded_before begins (runs_of before)) header.old)) }
+    ensures place { (frames : ℕ → Frame) (before : History) → KeepsSlices before false slices.old → KeepsDecoder mode frames (goes_on before) false (runs_of before) decoder.old → OnOk result (Ok tt ≡ judged (first_mb_demands mode (coded_before begins (runs_of before)) header.old)) }
     ensures sets { OnOk result (sets.new ≡ maps_with sets.old (contents.OfSlice header.old [])) }
     ensures named { OnOk result (is_some (sets_of sets.new header.new.pic_parameter_set_id.value) ≡ true) }
     ensures id { OnOk result (header.new.pic_parameter_set_id.value ≤ 255) }
     ensures pictures { OnOk result (slices.new.pictures ≤ slices.old.pictures + 1) }
     ensures kept { OnOk result (S.failures sink.new ≡ S.failures sink.old) }
-    ensures no_memory { IsErrOf result Stop.Memory → ⊥ }
 {
     let bit = 8 * unit.from();
-    end_data_if(mode, begins, slices, work)?;
+    end_data_if(mode, begins, slices, &decoder.work)?;
     end_if(begins, slices)?;
+    end_frame_if(mode, begins, slices, decoder, sink)?;
     check_standing(begins, slices.due, sets, bit, header)?;
-    check_first_mb(mode, begins, work, header)?;
+    check_first_mb(mode, begins, &decoder.work, header)?;
     let Some(named) = named_sets(sets, header.pic_parameter_set_id.value) else {
         unreachable!()
     };
-    check_rules(slices, begins, named.0, named.1, header, bit)?;
+    check_rules(
+        mode, slices, begins, named.0, named.1, header, bit, decoder, sink,
+    )?;
     tell_slice(unit.from(), header, slices.count, sink)?;
     let numbering = numbering_of(named.1, header);
-    enter(slices, begins, header, numbering, bit_behind(unit));
+    let ended = ended_of(
+        named.1,
+        header,
+        slices.pictures,
+        frame_count(slices.count),
+        buffer_size(named.1),
+    );
+    enter(slices, begins, header, numbering, ended, bit_behind(unit));
     Ok(())
 }
 

@@ -23,6 +23,7 @@ struct Counter {
     units: u32,
     slices: u32,
     elements: u32,
+    frames: u32,
 }
 
 impl Elements for Counter {
@@ -38,6 +39,7 @@ impl Elements for Counter {
 
 impl FrameOut for Counter {
     fn frame(&mut self, _count: i32, _frame: &Frame, _rectangle: Rectangle) -> Result<(), Failed> {
+        self.frames = self.frames.saturating_add(1);
         Ok(())
     }
 }
@@ -72,6 +74,7 @@ fn nothing_told() -> Counter {
         units: 0,
         slices: 0,
         elements: 0,
+        frames: 0,
     }
 }
 
@@ -79,6 +82,13 @@ const SUMMARY: Summary = Summary {
     units: 4,
     pictures: 2,
     frames: 0,
+};
+
+/// The same where slice data are read.
+const WHOLE: Summary = Summary {
+    units: 4,
+    pictures: 2,
+    frames: 2,
 };
 
 #[test]
@@ -233,6 +243,14 @@ fn a_source(rt: HostRuntime) -> Result<(), Fail> {
     let units = run(rt.alloc(), &mut source_of(STREAM), &mut sink, Mode::Units)?;
     assert_eq!(rt; units.pictures, 0);
     assert_eq!(rt; sink.units, 8);
+    assert_eq!(rt; sink.frames, 0);
+    let mut all = nothing_told();
+    let whole = run(rt.alloc(), &mut source_of(STREAM), &mut all, Mode::Full)?;
+    assert_eq!(rt; whole, WHOLE);
+    assert_eq!(rt; all.slices, 2);
+    // four of each macroblock beside those of sets and headers: mb_type, intra_chroma_pred_mode, mb_qp_delta, coeff_token
+    assert_eq!(rt; all.elements, 59);
+    assert_eq!(rt; all.frames, 2);
     laws::one_verdict();
     laws::some_verdict();
     Ok(())

@@ -1,7 +1,7 @@
 //! One unit.
 #![tactic(auto)]
 
-ghost use Rattle.std.specs.Prelude.{◌≡◌, true, false, IsTrue, ℕ, ◌+◌, ◌-◌, ◌*◌, ◌<◌, ◌≤◌, ◌^◌, List, [], ◌∷◌, length, ◌==◌, ◌||◌, OnOk, IfOk, IsErrOf, Ok, Err, if◌then◌else◌};
+ghost use Rattle.std.specs.Prelude.{◌≡◌, true, false, IsTrue, ℕ, ◌+◌, ◌-◌, ◌*◌, ◌<◌, ◌≤◌, ◌^◌, List, [], ◌∷◌, length, ◌==◌, ◌||◌, OnOk, IfOk, IfErr, IsErrOf, Ok, Err, if◌then◌else◌};
 ghost use Rattle.std.specs.Option.{is_some};
 ghost use Rattle.h264_header.specs.Layout.{sets_of};
 ghost use Rattle.h264_units.specs.Stream.{NalUnit as UnitView};
@@ -10,15 +10,21 @@ ghost use Rattle.h264_verify.specs.Demands.{judged};
 ghost use Rattle.h264_verify.specs.UnitHeader.{header_of, nal_unit_type, nal_ref_idc, is_partition, is_always_reference, is_never_reference, fits_kind, header_demands};
 ghost use Rattle.h264_verify.specs.History.{History, maps_of};
 ghost use Rattle.h264_verify.specs.Content as contents;
-ghost use Rattle.h264_verify.specs.Keeping.{Keeps, KeepsWithin, IsLeft};
-ghost use Rattle.h264_verify.specs.Pictures.{CodedPicture, ends_picture};
-ghost use Rattle.h264_verify.specs.Feeding.{Turns, Joins};
+ghost use Rattle.h264_plane.specs.declared.frame.Frame.{Frame};
+ghost use Rattle.h264_dpb.specs.Turns.{Turn, last_turn};
+ghost use Rattle.h264_dpb.specs.Kept.{KeepsBuffer};
+ghost use Rattle.h264_verify.specs.Telling.{Said, took_with};
+ghost use Rattle.h264_verify.specs.Buffering.{told_frames, after_all, frames_written};
+ghost use Rattle.h264_verify.specs.Keeping.{Keeps, KeepsWithin, KeepsSome, KeepsGap, KeepsSomeGap, IsLeft, ended_pictures, ended_in};
+ghost use Rattle.h264_verify.specs.Pictures.{CodedPicture, ends_picture, goes_on, runs_of};
+ghost use Rattle.h264_verify.specs.Feeding.{Turns, Joins, EndsAll};
 ghost use Rattle.h264_verify.specs.Units.{unit_call, is_slice, slice_unit_of, has_pictures};
-ghost use Rattle.h264_verify.specs.UnitOutcome.{sps_outcome, pps_outcome, slice_outcome, whole_slice, joined, joined_other, joined_by, end_outcome};
+ghost use Rattle.h264_verify.specs.UnitOutcome.{steps_outcome, sps_outcome, pps_outcome, slice_outcome, whole_slice, joined, joined_other, joined_by};
 ghost use Rattle.h264_base.specs.declared.mode.Mode.{Mode};
 ghost use Rattle.h264_base.specs.declared.mode.Mode.TheVariants as modes;
 
-use crate::data::{end_data_if, read_data};
+use crate::data::{end_data_if, end_frame_if, read_data};
+use crate::decoder::Decoder;
 use crate::judge::{State, Summary};
 use crate::picture::begins;
 use crate::rules::check;
@@ -80,7 +86,7 @@ fn check_header(from: u64, header: u8) -> Result<(), Stop>
 
 fn tell_unit<S: FrameSink>(from: u64, header: u8, length: u64, sink: &mut S) -> Result<(), Stop>
     requires { S.failures sink.old < 2 ^ 64 - 1 }
-    ensures plays { Plays S.took S.failures (λ x. x) (tells (unit_call from header length)) sink.old sink.new result }
+    ensures plays { (frames : ℕ → Frame) → Plays (took_with frames S.took) S.failures (λ x. x) (tells (Said (unit_call from header length))) sink.old sink.new result }
     ensures no_memory { IsErrOf result Stop.Memory → ⊥ }
 {
     match sink.unit(from, header % 32, header / 32 % 4, length) {
@@ -93,7 +99,7 @@ fn tell_unit<S: FrameSink>(from: u64, header: u8, length: u64, sink: &mut S) -> 
 #[inline(never)]
 fn read_sps_unit<S: FrameSink>(alloc: Global, unit: &NalUnit, sink: &mut S) -> Result<Sps, Stop>
     requires { S.failures sink.old < 2 ^ 64 - 1 }
-    ensures plays { Plays S.took S.failures contents.OfSps (sps_outcome unit.now) sink.old sink.new result }
+    ensures plays { (frames : ℕ → Frame) → Plays (took_with frames S.took) S.failures contents.OfSps (sps_outcome unit.now) sink.old sink.new result }
     ensures id { IfOk result (λ set. set.seq_parameter_set_id ≤ 31) }
     ensures kept { OnOk result (S.failures sink.new ≡ S.failures sink.old) }
 {
@@ -105,7 +111,7 @@ fn read_sps_unit<S: FrameSink>(alloc: Global, unit: &NalUnit, sink: &mut S) -> R
 /// Reads a picture parameter set.
 fn read_pps_unit<S: FrameSink>(alloc: Global, unit: &NalUnit, sink: &mut S) -> Result<Pps, Stop>
     requires { S.failures sink.old < 2 ^ 64 - 1 }
-    ensures plays { Plays S.took S.failures contents.OfPps (pps_outcome unit.now) sink.old sink.new result }
+    ensures plays { (frames : ℕ → Frame) → Plays (took_with frames S.took) S.failures contents.OfPps (pps_outcome unit.now) sink.old sink.new result }
     ensures id { IfOk result (λ set. set.pic_parameter_set_id ≤ 255) }
     ensures kept { OnOk result (S.failures sink.new ≡ S.failures sink.old) }
 {
@@ -134,7 +140,7 @@ fn read_slice_unit<S: FrameSink>(
     sink: &mut S,
 ) -> Result<(), Stop>
     requires { S.failures sink.old < 2 ^ 64 - 1 }
-    ensures plays { (before : History) → sets.now ≡ maps_of before → header ≡ header_of unit.now → Plays S.took S.failures (λ _. contents.OfSlice found.new []) (slice_outcome before unit.now) sink.old sink.new result }
+    ensures plays { (frames : ℕ → Frame) (before : History) → sets.now ≡ maps_of before → header ≡ header_of unit.now → Plays (took_with frames S.took) S.failures (λ _. contents.OfSlice found.new []) (slice_outcome before unit.now) sink.old sink.new result }
     ensures id { OnOk result (found.new.pic_parameter_set_id.value ≤ 255) }
     ensures named { OnOk result (is_some (sets_of sets.now found.new.pic_parameter_set_id.value) ≡ true) }
     ensures kept { OnOk result (S.failures sink.new ≡ S.failures sink.old) }
@@ -152,7 +158,7 @@ fn pass(state: &mut State, kind: u8)
     ensures sets { state.new.sets ≡ state.old.sets }
     ensures picture { IsLeft (ends_picture kind) state.old.slices.picture state.new.slices.picture }
     ensures due { state.new.slices.due ≡ ((kind == 10 || kind == 11) || state.old.slices.due) }
-    ensures work { state.new.work ≡ state.old.work }
+    ensures decoder { state.new.decoder ≡ state.old.decoder }
     ensures others { state.new.slices ≡ record state.old.slices { picture = state.new.slices.picture; due = state.new.slices.due } }
 {
     pass_by(&mut state.slices, kind);
@@ -172,7 +178,7 @@ fn join_sps<S: FrameSink>(
     requires units { state.old.units ≤ 2 ^ 40 }
     requires pictures { state.old.slices.pictures ≤ state.old.units }
     requires kind { kind ≡ nal_unit_type (header_of unit.now) }
-    ensures joins { (before : History) → KeepsWithin mode before (ends_picture kind) state.old → Joins mode S.took S.failures (joined mode before unit.now (sps_outcome unit.now)) state.new sink.old sink.new result }
+    ensures joins { (frames : ℕ → Frame) (before : History) → KeepsWithin mode frames before (ends_picture kind) state.old → Joins mode S.took S.failures frames (length (ended_pictures (goes_on before) (ends_picture kind) (runs_of before))) (joined mode before unit.now (sps_outcome unit.now)) state.new sink.old sink.new result }
     ensures counts { OnOk result (state.new.units ≡ state.old.units + 1) }
     ensures pictures { OnOk result (state.new.slices.pictures ≤ state.new.units) }
     ensures kept { OnOk result (S.failures sink.new ≡ S.failures sink.old) }
@@ -196,7 +202,7 @@ fn join_pps<S: FrameSink>(
     requires units { state.old.units ≤ 2 ^ 40 }
     requires pictures { state.old.slices.pictures ≤ state.old.units }
     requires kind { kind ≡ nal_unit_type (header_of unit.now) }
-    ensures joins { (before : History) → KeepsWithin mode before (ends_picture kind) state.old → Joins mode S.took S.failures (joined mode before unit.now (pps_outcome unit.now)) state.new sink.old sink.new result }
+    ensures joins { (frames : ℕ → Frame) (before : History) → KeepsWithin mode frames before (ends_picture kind) state.old → Joins mode S.took S.failures frames (length (ended_pictures (goes_on before) (ends_picture kind) (runs_of before))) (joined mode before unit.now (pps_outcome unit.now)) state.new sink.old sink.new result }
     ensures counts { OnOk result (state.new.units ≡ state.old.units + 1) }
     ensures pictures { OnOk result (state.new.slices.pictures ≤ state.new.units) }
     ensures kept { OnOk result (S.failures sink.new ≡ S.failures sink.old) }
@@ -220,7 +226,8 @@ fn join_slice<S: FrameSink>(
     requires pictures { state.old.slices.pictures ≤ state.old.units }
     requires goes_on { ends_picture (nal_unit_type header) ≡ false }
     requires header { header ≡ header_of unit.now }
-    ensures joins { (before : History) → KeepsWithin modes.Headers before (ends_picture (nal_unit_type header)) state.old → Joins modes.Headers S.took S.failures (joined modes.Headers before unit.now (slice_outcome before unit.now)) state.new sink.old sink.new result }
+    requires kept { KeepsSome modes.Headers false state.old }
+    ensures joins { (frames : ℕ → Frame) (before : History) → KeepsWithin modes.Headers frames before (ends_picture (nal_unit_type header)) state.old → Joins modes.Headers S.took S.failures frames (ended_in before) (joined modes.Headers before unit.now (slice_outcome before unit.now)) state.new sink.old sink.new result }
     ensures counts { OnOk result (state.new.units ≡ state.old.units + 1) }
     ensures pictures { OnOk result (state.new.slices.pictures ≤ state.new.units) }
     ensures kept { OnOk result (S.failures sink.new ≡ S.failures sink.old) }
@@ -232,7 +239,7 @@ fn join_slice<S: FrameSink>(
         begins,
         &mut state.slices,
         &mut state.sets,
-        &state.work,
+        &mut state.decoder,
         unit,
         &mut state.header,
         sink,
@@ -254,7 +261,8 @@ fn join_whole_slice<S: FrameSink>(
     requires pictures { state.old.slices.pictures ≤ state.old.units }
     requires goes_on { ends_picture (nal_unit_type header) ≡ false }
     requires header { header ≡ header_of unit.now }
-    ensures joins { (before : History) → KeepsWithin modes.Full before (ends_picture (nal_unit_type header)) state.old → Joins modes.Full S.took S.failures (whole_slice before unit.now) state.new sink.old sink.new result }
+    requires kept { KeepsSome modes.Full false state.old }
+    ensures joins { (frames : ℕ → Frame) (before : History) → KeepsWithin modes.Full frames before (ends_picture (nal_unit_type header)) state.old → Joins modes.Full S.took S.failures frames (ended_in before) (whole_slice before unit.now) state.new sink.old sink.new result }
     ensures counts { OnOk result (state.new.units ≡ state.old.units + 1) }
     ensures pictures { OnOk result (state.new.slices.pictures ≤ state.new.units) }
     ensures kept { OnOk result (S.failures sink.new ≡ S.failures sink.old) }
@@ -269,7 +277,7 @@ fn join_whole_slice<S: FrameSink>(
         begins,
         &mut state.slices,
         &mut state.sets,
-        &state.work,
+        &mut state.decoder,
         unit,
         &mut state.header,
         sink,
@@ -279,7 +287,7 @@ fn join_whole_slice<S: FrameSink>(
         &state.slices.held,
         &state.sets,
         &state.header,
-        &mut state.work,
+        &mut state.decoder,
         &mut bits,
         sink,
     )?;
@@ -291,7 +299,7 @@ fn join_whole_slice<S: FrameSink>(
 fn join_passed(state: &mut State, kind: u8)
     requires units { state.old.units ≤ 2 ^ 40 }
     requires pictures { state.old.slices.pictures ≤ state.old.units }
-    ensures keeps { (mode : Mode) (before : History) (unit : UnitView) → kind ≡ nal_unit_type (header_of unit) → KeepsWithin mode before (ends_picture kind) state.old → Keeps mode (record { unit = unit; content = contents.Passed } ∷ before) state.new }
+    ensures keeps { (mode : Mode) (frames : ℕ → Frame) (before : History) (unit : UnitView) → kind ≡ nal_unit_type (header_of unit) → KeepsWithin mode frames before (ends_picture kind) state.old → Keeps mode frames (record { unit = unit; content = contents.Passed } ∷ before) state.new }
     ensures counts { state.new.units ≡ state.old.units + 1 }
     ensures pictures { state.new.slices.pictures ≤ state.new.units }
 {
@@ -319,7 +327,8 @@ fn join_other<S: FrameSink>(
     requires units { state.old.units ≤ 2 ^ 40 }
     requires pictures { state.old.slices.pictures ≤ state.old.units }
     requires header { header ≡ header_of unit.now }
-    ensures joins { (before : History) → KeepsWithin mode before (ends_picture (nal_unit_type header)) state.old → Joins mode S.took S.failures (joined_other mode (nal_unit_type header) before unit.now) state.new sink.old sink.new result }
+    requires kept { KeepsSome mode (ends_picture (nal_unit_type header)) state.old }
+    ensures joins { (frames : ℕ → Frame) (before : History) → KeepsWithin mode frames before (ends_picture (nal_unit_type header)) state.old → Joins mode S.took S.failures frames (length (ended_pictures (goes_on before) (ends_picture (nal_unit_type header)) (runs_of before))) (joined_other mode (nal_unit_type header) before unit.now) state.new sink.old sink.new result }
     ensures counts { OnOk result (state.new.units ≡ state.old.units + 1) }
     ensures pictures { OnOk result (state.new.slices.pictures ≤ state.new.units) }
     ensures kept { OnOk result (S.failures sink.new ≡ S.failures sink.old) }
@@ -351,7 +360,8 @@ fn join<S: FrameSink>(
     requires units { state.old.units ≤ 2 ^ 40 }
     requires pictures { state.old.slices.pictures ≤ state.old.units }
     requires header { header ≡ header_of unit.now }
-    ensures joins { (before : History) → KeepsWithin mode before (ends_picture (nal_unit_type header)) state.old → Joins mode S.took S.failures (joined_by mode (nal_unit_type header) before unit.now) state.new sink.old sink.new result }
+    requires kept { KeepsSome mode (ends_picture (nal_unit_type header)) state.old }
+    ensures joins { (frames : ℕ → Frame) (before : History) → KeepsWithin mode frames before (ends_picture (nal_unit_type header)) state.old → Joins mode S.took S.failures frames (length (ended_pictures (goes_on before) (ends_picture (nal_unit_type header)) (runs_of before))) (joined_by mode (nal_unit_type header) before unit.now) state.new sink.old sink.new result }
     ensures counts { OnOk result (state.new.units ≡ state.old.units + 1) }
     ensures pictures { OnOk result (state.new.slices.pictures ≤ state.new.units) }
     ensures kept { OnOk result (S.failures sink.new ≡ S.failures sink.old) }
@@ -376,7 +386,8 @@ pub(crate) fn judge_unit<S: FrameSink>(
     requires count { S.failures sink.old < 2 ^ 64 - 1 }
     requires units { state.old.units ≤ 2 ^ 40 }
     requires pictures { state.old.slices.pictures ≤ state.old.units }
-    ensures turns { (before : History) → Keeps mode before state.old → Turns mode S.took S.failures before unit.now state.new sink.old sink.new result }
+    requires kept { KeepsSome mode false state.old }
+    ensures turns { (frames : ℕ → Frame) (before : History) → Keeps mode frames before state.old → Turns mode S.took S.failures frames before unit.now state.new sink.old sink.new result }
     ensures counts { OnOk result (state.new.units ≡ state.old.units + 1) }
     ensures pictures { OnOk result (state.new.slices.pictures ≤ state.new.units) }
     ensures kept { OnOk result (S.failures sink.new ≡ S.failures sink.old) }
@@ -388,8 +399,9 @@ pub(crate) fn judge_unit<S: FrameSink>(
     check_header(from, header)?;
     tell_unit(from, header, body.len() as u64, sink)?;
     let ends = ends_picture(header % 32);
-    end_data_if(mode, ends, &state.slices, &state.work)?;
+    end_data_if(mode, ends, &state.slices, &state.decoder.work)?;
     end_if(ends, &mut state.slices)?;
+    end_frame_if(mode, ends, &state.slices, &mut state.decoder, sink)?;
     join(alloc, mode, state, header, unit, sink)
 }
 
@@ -404,23 +416,54 @@ fn has_pictures(mode: Mode, pictures: u64) -> bool
     }
 }
 
+/// All frames that wait are written at the end of the input, where frames are made.
+fn finish_frames<S: FrameSink>(mode: Mode, decoder: &mut Decoder, sink: &mut S) -> Result<(), Stop>
+    requires room { S.failures sink.old < 2 ^ 64 - 1 }
+    requires kept { KeepsSomeGap mode decoder.old }
+    ensures plays { (frames : ℕ → Frame) (t : Turn) (next : ℕ) → KeepsGap mode frames t next decoder.old → Plays (took_with frames S.took) S.failures (λ x. x) (steps_outcome (told_frames mode (last_turn t.buffer).written)) sink.old sink.new result }
+    ensures written { (frames : ℕ → Frame) (t : Turn) (next : ℕ) → mode ≡ modes.Full → KeepsGap mode frames t next decoder.old → OnOk result (KeepsBuffer (last_turn t.buffer).buffer (length t.written + length (last_turn t.buffer).written) decoder.new.output) }
+    ensures no_memory { IfErr result (λ e. e ≡ Stop.Write) }
+{
+    match mode {
+        Mode::Units => Ok(()),
+        Mode::Headers => Ok(()),
+        Mode::Full => decoder.finish(sink),
+    }
+}
+
+/// How many frames were written; 0 where none are made.
+fn frames_told(mode: Mode, decoder: &Decoder) -> u64
+    ensures { (pictures : List CodedPicture) → (mode ≡ modes.Full → KeepsBuffer (last_turn (after_all pictures).buffer).buffer (length (after_all pictures).written + length (last_turn (after_all pictures).buffer).written) decoder.now.output) → result ≡ frames_written mode pictures }
+{
+    match mode {
+        Mode::Units => 0,
+        Mode::Headers => 0,
+        Mode::Full => decoder.output.frames(),
+    }
+}
+
 /// What comes of the end of the input, at this bit.
 pub(crate) fn judge_end<S: FrameSink>(
     mode: Mode,
     state: &mut State,
     bit: u64,
-    sink: &S,
+    sink: &mut S,
 ) -> Result<Summary, Stop>
-    ensures plays { (before : History) → Keeps mode before state.old → Plays S.took S.failures (λ x. x) (end_outcome mode before bit) sink.now sink.now result }
-    ensures no_memory { IsErrOf result Stop.Memory → ⊥ }
+    requires room { S.failures sink.old < 2 ^ 64 - 1 }
+    requires units { state.old.units ≤ 2 ^ 41 }
+    requires pictures { state.old.slices.pictures ≤ state.old.units }
+    requires kept { KeepsSome mode false state.old }
+    ensures ends { (frames : ℕ → Frame) (before : History) → Keeps mode frames before state.old → EndsAll mode S.took S.failures frames before bit (λ x. x) sink.old sink.new result }
 {
-    end_data_if(mode, true, &state.slices, &state.work)?;
+    end_data_if(mode, true, &state.slices, &state.decoder.work)?;
     end_if(true, &mut state.slices)?;
+    end_frame_if(mode, true, &state.slices, &mut state.decoder, sink)?;
     let pictures = state.slices.pictures;
     check(has_pictures(mode, pictures), Rule::NoPicture, bit)?;
+    finish_frames(mode, &mut state.decoder, sink)?;
     Ok(Summary {
         units: state.units,
         pictures,
-        frames: 0,
+        frames: frames_told(mode, &state.decoder),
     })
 }

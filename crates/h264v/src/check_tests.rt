@@ -1,12 +1,12 @@
-//! What `check` answers, whole, byte by byte and at every cut, up to the end of the first picture. The expected bits are counted
-//! from the lengths of the elements before.
+//! What `check` answers, whole, byte by byte and at every cut. The expected bits are counted from the lengths of the elements before.
 #![tactic(auto)]
 
 use crate::tests::{Case, answer_of, check, check_cases, whole};
+use std::alloc::Global;
 use std::process::Abort;
 use std::test::Fail;
 
-/// Slice data of one picture.
+/// Slice data, and the ends of pictures.
 const SLICE_DATA: [Case; 14] = [
     // No slice at all.
     Case {
@@ -15,12 +15,12 @@ const SLICE_DATA: [Case; 14] = [
         text: "no: bit 0: NoPicture (clause 7.4.1)\n",
         status: 1,
     },
-    // A picture of one macroblock: its samples are not judged.
+    // A picture of one macroblock.
     Case {
         name: "one picture",
         stream: "000000016742c00ada710000000168ce388000000165888493c0",
-        text: "outside: bit 208: Pending\n",
-        status: 2,
+        text: "yes: units 3 pictures 1 frames 1\n",
+        status: 0,
     },
     // The stop bit is read as mb_qp_delta, and no coeff_token follows.
     Case {
@@ -40,15 +40,15 @@ const SLICE_DATA: [Case; 14] = [
     Case {
         name: "level prefix 15",
         stream: "000000016742c00ada710000000168ce3880000001658884931400040030",
-        text: "outside: bit 240: Pending\n",
-        status: 2,
+        text: "yes: units 3 pictures 1 frames 1\n",
+        status: 0,
     },
     // QP 51 and mb_qp_delta 1.
     Case {
         name: "qp wraps",
         stream: "000000016742c00ada710000000168ce38800000016588840644a140004003",
-        text: "outside: bit 248: Pending\n",
-        status: 2,
+        text: "yes: units 3 pictures 1 frames 1\n",
+        status: 0,
     },
     // total_coeff 16 in a block of 15.
     Case {
@@ -64,12 +64,12 @@ const SLICE_DATA: [Case; 14] = [
         text: "no: bit 240: FirstMb (clause 7.4.3)\n",
         status: 1,
     },
-    // A delimiter ends the first picture.
+    // A delimiter ends the first picture, and the next has its idr_pic_id.
     Case {
         name: "picture again",
         stream: "000000016742c00ada710000000168ce388000000165888493c0000001091000000165888493c0",
-        text: "outside: bit 208: Pending\n",
-        status: 2,
+        text: "no: bit 293: IdrPicId (clause 7.4.3)\n",
+        status: 1,
     },
     // A picture that wants a macroblock.
     Case {
@@ -82,8 +82,8 @@ const SLICE_DATA: [Case; 14] = [
     Case {
         name: "two macroblocks",
         stream: "000000016742c00ada2c400000000168ce388000000165888493931438",
-        text: "outside: bit 232: Pending\n",
-        status: 2,
+        text: "yes: units 3 pictures 1 frames 1\n",
+        status: 0,
     },
     // A macroblock too many.
     Case {
@@ -92,12 +92,12 @@ const SLICE_DATA: [Case; 14] = [
         text: "no: bit 201: MbPast (clause 7.3.4)\n",
         status: 1,
     },
-    // A P picture is not reached.
+    // ref_idx_l0 is 1, and one frame is held.
     Case {
         name: "reference without picture",
         stream: "000000016742c00ada710000000168ce388000000165888493c0000001619a347780",
-        text: "outside: bit 208: Pending\n",
-        status: 2,
+        text: "no: bit 260: NoReference (clause 8.4.2)\n",
+        status: 1,
     },
     // The bytes of a unit are judged before the unit ends the picture.
     Case {
@@ -114,19 +114,32 @@ const PCM: &[u8] = &[
     0x38, 0x80, 0x00, 0x00, 0x01, 0x65, 0x88, 0x84, 0x86, 0x80,
 ];
 
+/// The samples of an I_PCM macroblock.
+pub fn pcm_samples(alloc: Global) -> Result<Vec<u8>, Fail> {
+    let mut samples: Vec<u8> = Vec::new(alloc);
+    for i in 0..384u32 {
+        samples.push((i % 255 + 1) as u8)?;
+    }
+    Ok(samples)
+}
+
+/// A picture of them.
+pub fn pcm_stream(alloc: Global) -> Result<Vec<u8>, Fail> {
+    let mut stream: Vec<u8> = Vec::new(alloc);
+    stream.extend_from_slice(PCM)?;
+    stream.extend_from_slice(pcm_samples(alloc)?.as_slice())?;
+    stream.push(0x80)?;
+    Ok(stream)
+}
+
 /// An I_PCM macroblock, whole and cut within its samples.
 fn samples(rt: &(impl Abort + AllocGlobal)) -> Result<(), Fail> {
-    let mut stream: Vec<u8> = Vec::new(rt.alloc());
-    stream.extend_from_slice(PCM)?;
-    for i in 0..383u32 {
-        stream.push((i % 255 + 1) as u8)?;
-    }
+    let mut stream = pcm_stream(rt.alloc())?;
+    let text = "yes: units 3 pictures 1 frames 1\n";
+    check(rt, "check", "samples", stream.as_slice(), text, 0)?;
+    stream.truncate(409);
     let cut = "no: bit 3272: CodeWord (clause 9.1)\n";
-    check(rt, "check", "samples cut", stream.as_slice(), cut, 1)?;
-    stream.push(129)?;
-    stream.push(0x80)?;
-    let text = "outside: bit 3288: Pending\n";
-    check(rt, "check", "samples", stream.as_slice(), text, 2)
+    check(rt, "check", "samples cut", stream.as_slice(), cut, 1)
 }
 
 /// A picture whose stop bit is read as mb_qp_delta.

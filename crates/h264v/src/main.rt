@@ -9,6 +9,8 @@ mod check_tests;
 mod command;
 mod files;
 #[cfg(test)]
+mod frame_tests;
+#[cfg(test)]
 mod header_tests;
 #[cfg(test)]
 mod set_tests;

@@ -56,7 +56,7 @@ const STREAMS: [&[u8]; 6] = [
     OPERATIONS,
 ];
 
-const COMMANDS: [&str; 3] = ["units", "headers", "check"];
+const COMMANDS: [&str; 4] = ["units", "headers", "check", "frames"];
 
 fn two_frames(rt: &(impl Abort + AllocGlobal)) -> Result<(), Fail> {
     let text = format!(in rt.alloc();
@@ -98,20 +98,22 @@ fn each_read_fails(rt: &(impl Abort + AllocGlobal)) -> Result<(), Fail> {
 }
 
 /// Whichever write fails, the status tells it, the verdict does not stand in its place, and where there is still a line to write
-/// it is told too. The last line is written in two parts.
+/// it is told too; else a front of the answer stands there. The last line is written in two parts; `check` writes its elements at once.
 fn each_write_fails(rt: &(impl Abort + AllocGlobal)) -> Result<(), Fail> {
     for word in COMMANDS {
         for bytes in STREAMS {
             let all = answer_of(rt.alloc(), word, whole(bytes), usize::MAX)?;
-            let writes = all.text.as_str().lines().count().saturating_add(1);
-            for failing in 0..writes {
+            for failing in 0..all.writes {
                 let answer = answer_of(rt.alloc(), word, whole(bytes), failing)?;
+                let text = answer.text.as_str();
                 assert_eq!(rt; answer.status, 4);
-                assert!(rt; answer.text.as_str() != all.text.as_str());
-                let told = answer.text.as_str().ends_with("write failed\n");
-                assert!(rt; told || writes <= failing.saturating_add(2));
+                assert!(rt; text != all.text.as_str());
+                let told = text.ends_with("write failed\n");
+                assert!(rt; told || all.text.as_str().starts_with(text));
+                let is_last = all.writes <= failing.saturating_add(2);
+                assert!(rt; told || is_last || word == "check");
             }
-            let answer = answer_of(rt.alloc(), word, whole(bytes), writes)?;
+            let answer = answer_of(rt.alloc(), word, whole(bytes), all.writes)?;
             assert_eq!(rt; answer.status, all.status);
             assert_eq!(rt; answer.text.as_str(), all.text.as_str());
         }

@@ -90,10 +90,21 @@ impl Write for FailsAt {
     }
 }
 
-/// What was printed, and the status.
+/// What was written, and the status.
+#[derive(Drop)]
+pub struct Written {
+    pub out: Vec<u8>,
+    pub err: Vec<u8>,
+    /// How many writes of `out` there were.
+    pub writes: usize,
+    pub status: u8,
+}
+
+/// What was printed, in how many writes, and the status.
 #[derive(Drop)]
 pub struct Answer {
     pub text: String,
+    pub writes: usize,
     pub status: u8,
 }
 
@@ -111,23 +122,48 @@ pub fn units(alloc: Global, file: OneFile, failing_write: usize) -> Result<Answe
     answer_of(alloc, "units", file, failing_write)
 }
 
-/// The same of any command.
-pub fn answer_of(
+/// A writer that holds nothing yet, and fails at the call of this number.
+fn fails_at(alloc: Global, failing: usize) -> FailsAt {
+    FailsAt {
+        text: Vec::new(alloc),
+        calls: 0,
+        failing,
+    }
+}
+
+/// What any command writes, where the writes of these numbers fail on standard output and on standard error.
+pub fn outcome_of(
     alloc: Global,
     command_word: &str,
     mut file: OneFile,
     failing_write: usize,
-) -> Result<Answer, Fail> {
+    failing_error: usize,
+) -> Result<Written, Fail> {
     let words = words(alloc, &["h264v", command_word, "stream"])?;
-    let mut out = FailsAt {
-        text: Vec::new(alloc),
-        calls: 0,
-        failing: failing_write,
-    };
-    let mut err: Vec<u8> = Vec::new(alloc);
+    let mut out = fails_at(alloc, failing_write);
+    let mut err = fails_at(alloc, failing_error);
     let status = command(alloc, words.as_slice(), &mut file, &mut out, &mut err);
-    let text = String::from_utf8(out.text)?;
-    Ok(Answer { text, status })
+    Ok(Written {
+        out: out.text,
+        err: err.text,
+        writes: out.calls,
+        status,
+    })
+}
+
+/// What a command prints on standard output.
+pub fn answer_of(
+    alloc: Global,
+    command_word: &str,
+    file: OneFile,
+    failing_write: usize,
+) -> Result<Answer, Fail> {
+    let all = outcome_of(alloc, command_word, file, failing_write, usize::MAX)?;
+    Ok(Answer {
+        text: String::from_utf8(all.out)?,
+        writes: all.writes,
+        status: all.status,
+    })
 }
 
 /// A text behind its lines of elements.

@@ -1,19 +1,17 @@
-use Rattle.std.proofs.Common.{[], sym, arith, refl, ap, ◌∙◌, ◌≡◌, ◌+◌, inr}
+use Rattle.std.proofs.Common.{sym, arith, refl, ap, ◌∙◌, ◌≡◌, ◌+◌, inr}
 use Rattle.std.proofs.lemmas.Result.{err_from_is_err_and}
-use Rattle.h264_verify.specs.UnitOutcome.{judging}
-use Rattle.h264_verify.proofs.Sources.{fed-read, judges-memory}
-use Rattle.h264_verify.proofs.Verdicts.{judges-judged, fed-first, fed-last, fed-as}
+use Rattle.h264_verify.proofs.Verdicts.{judges-judged, none-judged, fed-first, fed-last, fed-fails, fed-as}
 use Rattle.h264_verify.proofs.running.run.Goals as goal
 
 pub returns-in_err-session-clause-verdict : goal.returns-in_err-session-clause-verdict
-returns-in_err-session-clause-verdict g c = let p = err_from_is_err_and c.from_residual.result c.from_residual.ensures.1 in rw (p.1, p.2, c.in_err-session.ensures.err) (λ bytes h. judges-judged c.args.mode _ _ bytes _ _ _ (judges-memory (judging c.args.mode) [] _ _ bytes _))
+returns-in_err-session-clause-verdict g c = let p = err_from_is_err_and c.from_residual.result c.from_residual.ensures.1 in rw (p.1, p.2, c.in_err-session.ensures.err) (λ bytes h frames. judges-judged c.args.mode _ _ bytes frames _ _ _ (none-judged c.args.mode _ _ bytes frames _))
 
 pub returns-in_err-turn-clause-verdict : goal.returns-in_err-turn-clause-verdict
-returns-in_err-turn-clause-verdict g c = let p = err_from_is_err_and c.from_residual-in_err-turn.result c.from_residual-in_err-turn.ensures.1 in rw (p.1, p.2) (λ bytes h. judges-judged c.args.mode _ _ bytes _ _ _ (c.in_err-turn.ensures.stops c.args.mode bytes _ (fed-as c.in_ok-session.ensures.fresh.mode_is (c.loop.invariant.fed bytes h)) c.loop.invariant.kept))
+returns-in_err-turn-clause-verdict g c = let p = err_from_is_err_and c.from_residual-in_err-turn.result c.from_residual-in_err-turn.ensures.1 in rw (p.1, p.2) (λ bytes h frames. judges-judged c.args.mode _ _ bytes frames _ _ _ (c.in_err-turn.ensures.stops c.args.mode bytes _ (fed-as c.in_ok-session.ensures.fresh.mode_is (c.loop.invariant.fed bytes h frames)) c.loop.invariant.kept))
 
 pub loop-init : goal.loop-init
 loop-init g c = record {
-  fed = λ bytes h. fed-as (sym c.in_ok-session.ensures.fresh.mode_is) (fed-first c.args.mode _ _ bytes _ _ c.in_ok-session.ensures.fresh h);
+  fed = λ bytes h frames. fed-as (sym c.in_ok-session.ensures.fresh.mode_is) (fed-first c.args.mode _ _ bytes _ frames _ c.in_ok-session.ensures.fresh h);
   runs = c.in_ok-session.ensures.fresh.stop;
   kept = refl;
   quiet = refl;
@@ -26,16 +24,16 @@ returns-then-not-branch-clause-write g c = λ h.
     first ∙ ap (λ n. n + 1) (c.in_ok-turn.ensures.kept.1 ∙ c.loop.invariant.kept)
 
 pub returns-then-not-branch-clause-verdict : goal.returns-then-not-branch-clause-verdict
-returns-then-not-branch-clause-verdict g c = λ bytes h.
+returns-then-not-branch-clause-verdict g c = λ bytes h frames.
     let e = c.in_ok-turn.ensures.end c.if-not-branch.true in
-    judges-judged c.args.mode _ _ bytes _ _ _ (fed-last c.args.mode _ _ _ bytes _ _ _ _ _ _ _ e.0 e.1 e.2 (fed-as c.in_ok-session.ensures.fresh.mode_is (c.loop.invariant.fed bytes h)) c.loop.invariant.kept c.conclude.ensures.finishes)
+    judges-judged c.args.mode _ _ bytes frames _ _ _ (fed-last c.args.mode _ _ _ bytes _ _ _ _ _ _ _ e.0 e.1 e.2 (fed-as c.in_ok-session.ensures.fresh.mode_is (c.loop.invariant.fed bytes h frames)) c.loop.invariant.kept c.conclude.ensures.finishes)
 
 pub returns-clause-verdict : goal.returns-clause-verdict
-returns-clause-verdict g c = λ bytes h. judges-judged c.args.mode _ _ bytes _ _ _ (fed-read (judging c.args.mode) [] _ _ _ bytes _ _ _ (fed-as c.in_ok-session.ensures.fresh.mode_is (c.loop.invariant.fed bytes h)).fed c.loop.invariant.kept)
+returns-clause-verdict g c = λ bytes h frames. judges-judged c.args.mode _ _ bytes frames _ _ _ (fed-fails (fed-as c.in_ok-session.ensures.fresh.mode_is (c.loop.invariant.fed bytes h frames)) c.loop.invariant.kept)
 
 pub loop-preserved : goal.loop-preserved
 loop-preserved g c = record {
-  fed = λ bytes h. c.in_ok-turn.ensures.more c.if-not-branch.false c.in_ok-session.session.mode bytes _ (c.loop.invariant.fed bytes h);
+  fed = λ bytes h frames. c.in_ok-turn.ensures.more c.if-not-branch.false c.in_ok-session.session.mode bytes _ (c.loop.invariant.fed bytes h frames);
   runs = c.in_ok-turn.ensures.kept.0;
   kept = c.in_ok-turn.ensures.kept.1 ∙ c.loop.invariant.kept;
   quiet = c.in_ok-turn.ensures.kept.2 ∙ c.loop.invariant.quiet;

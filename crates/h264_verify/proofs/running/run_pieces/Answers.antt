@@ -1,29 +1,35 @@
-use Rattle.std.proofs.Common.{sym, arith, refl, ◌∙◌, ◌≡◌, length, []}
+use Rattle.std.proofs.Common.{sym, arith, refl, ◌∙◌, ◌≡◌, length}
 use Rattle.std.proofs.lemmas.Result.{err_from_is_err_and}
-use Rattle.h264_verify.specs.UnitOutcome.{judging}
-use Rattle.h264_verify.proofs.Sources.{pieces-split-at, goes-all, goes-piece, pieces-stop, pieces-finish, judges-memory}
-use Rattle.h264_verify.proofs.Verdicts.{judges-judged, pieces-first, keeps-as, goes-as, stops-as, finishes-as}
+use Rattle.h264_verify.proofs.Sources.{pieces-split-at}
+use Rattle.h264_verify.proofs.Verdicts.{judges-judged, none-judged, pieces-first, pieces-on, pieces-halt, pieces-end, keeps-as, goes-as, stops-as, finishes-as}
 use Rattle.h264_verify.proofs.running.run_pieces.Goals as goal
 
 pub returns-in_err-session : goal.returns-in_err-session
-returns-in_err-session g c = let p = err_from_is_err_and c.from_residual.result c.from_residual.ensures.1 in rw (p.1, p.2, c.in_err-session.ensures.err) (judges-judged c.args.mode _ _ _ _ _ _ (judges-memory (judging c.args.mode) [] _ _ _ _))
+returns-in_err-session g c = let p = err_from_is_err_and c.from_residual.result c.from_residual.ensures.1 in rw (p.1, p.2, c.in_err-session.ensures.err) (λ frames. judges-judged c.args.mode _ _ _ frames _ _ _ (none-judged c.args.mode _ _ _ frames _))
 
 pub loop-piece-init : goal.loop-piece-init
-loop-piece-init g c = record { goes = goes-as (sym c.in_ok-session.ensures.fresh.mode_is) (pieces-first c.args.mode _ _ _ c.in_ok-session.ensures.fresh); runs = c.in_ok-session.ensures.fresh.stop; mode_is = refl; kept = refl }
+loop-piece-init g c = record { goes = λ frames. goes-as (sym c.in_ok-session.ensures.fresh.mode_is) (pieces-first c.args.mode _ _ frames _ c.in_ok-session.ensures.fresh); runs = c.in_ok-session.ensures.fresh.stop; mode_is = refl; kept = refl }
 
 pub returns-in_err-advance : goal.returns-in_err-advance
-returns-in_err-advance g c = let inv = goes-as c.in_ok-session.ensures.fresh.mode_is c.loop-piece.invariant.goes in let p = err_from_is_err_and c.from_residual-in_err-advance.result c.from_residual-in_err-advance.ensures.1 in rw (p.1, p.2) (judges-judged c.args.mode _ _ _ _ _ _ (pieces-stop (judging c.args.mode) [] _ _ _ _ _ _ _ _ _ _ _ (pieces-split-at (λ piece. piece.items) c.args.pieces.now c.loop-piece.piece-index c.piece-item.result _ c.loop-piece-test.true c.piece-item.is c.as_slice.ensures.value) inv.goes c.loop-piece.invariant.kept (stops-as (c.loop-piece.invariant.mode_is ∙ c.in_ok-session.ensures.fresh.mode_is) (c.in_err-advance.ensures.stops inv.after (keeps-as (sym (c.loop-piece.invariant.mode_is ∙ c.in_ok-session.ensures.fresh.mode_is)) inv.keeps)))))
+returns-in_err-advance g c = let p = err_from_is_err_and c.from_residual-in_err-advance.result c.from_residual-in_err-advance.ensures.1 in rw (p.1, p.2) (λ frames.
+    let inv = goes-as c.in_ok-session.ensures.fresh.mode_is (c.loop-piece.invariant.goes frames) in
+    let m = c.loop-piece.invariant.mode_is ∙ c.in_ok-session.ensures.fresh.mode_is in
+    judges-judged c.args.mode _ _ _ frames _ _ _ (pieces-halt _ _ _ _ (pieces-split-at (λ piece. piece.items) c.args.pieces.now c.loop-piece.piece-index c.piece-item.result _ c.loop-piece-test.true c.piece-item.is c.as_slice.ensures.value) inv c.loop-piece.invariant.kept (stops-as m (c.in_err-advance.ensures.stops inv.made inv.after (keeps-as (sym m) inv.keeps)))))
 
 pub loop-piece-preserved : goal.loop-piece-preserved
 loop-piece-preserved g c = record {
-  goes = let n = goes-as c.loop-piece.invariant.mode_is (c.in_ok-advance.ensures.goes c.loop-piece.invariant.goes.after (keeps-as (sym c.loop-piece.invariant.mode_is) c.loop-piece.invariant.goes.keeps)) in record { after = n.after; keeps = n.keeps; goes = goes-piece (λ piece. piece.items) c.args.pieces.now c.loop-piece.piece-index c.piece-item.result _ c.loop-piece-test.true c.piece-item.is c.as_slice.ensures.value c.loop-piece.invariant.goes.goes n.goes };
+  goes = λ frames.
+      let inv = c.loop-piece.invariant.goes frames in
+      let n = goes-as c.loop-piece.invariant.mode_is (c.in_ok-advance.ensures.goes inv.made inv.after (keeps-as (sym c.loop-piece.invariant.mode_is) inv.keeps)) in
+      pieces-on (λ piece. piece.items) c.args.pieces.now c.loop-piece.piece-index c.piece-item.result _ c.loop-piece-test.true c.piece-item.is c.as_slice.ensures.value inv n;
   runs = c.in_ok-advance.ensures.going;
   mode_is = c.in_ok-advance.ensures.mode ∙ c.loop-piece.invariant.mode_is;
   kept = c.in_ok-advance.ensures.kept ∙ c.loop-piece.invariant.kept;
 }
 
 pub returns : goal.returns
-returns g c =
-    let inv = goes-as c.in_ok-session.ensures.fresh.mode_is c.loop-piece.invariant.goes in
+returns g c = λ frames.
+    let inv = goes-as c.in_ok-session.ensures.fresh.mode_is (c.loop-piece.invariant.goes frames) in
+    let m = c.loop-piece.invariant.mode_is ∙ c.in_ok-session.ensures.fresh.mode_is in
     let n : c.loop-piece.piece-index ≡ length c.args.pieces.now = omega arith in
-    judges-judged c.args.mode _ _ _ _ _ _ (pieces-finish (judging c.args.mode) [] _ _ _ _ _ _ _ _ (goes-all (λ piece. piece.items) c.args.pieces.now c.loop-piece.piece-index n inv.goes) c.loop-piece.invariant.kept (finishes-as (c.loop-piece.invariant.mode_is ∙ c.in_ok-session.ensures.fresh.mode_is) (c.conclude.ensures.finishes inv.after (keeps-as (sym (c.loop-piece.invariant.mode_is ∙ c.in_ok-session.ensures.fresh.mode_is)) inv.keeps))))
+    judges-judged c.args.mode _ _ _ frames _ _ _ (pieces-end (λ piece. piece.items) c.args.pieces.now c.loop-piece.piece-index n inv c.loop-piece.invariant.kept (finishes-as m (c.conclude.ensures.finishes inv.made inv.after (keeps-as (sym m) inv.keeps))))

@@ -1,12 +1,13 @@
-use Rattle.std.proofs.Common.{◌≡◌, None, [], take}
+use Rattle.std.proofs.Common.{◌≡◌, ℕ, None, [], take}
 use Rattle.std.specs.List.{flat_map}
+use Rattle.h264_plane.specs.declared.frame.Frame.{Frame}
 use Rattle.h264_units.specs.Splitting.{at_start}
 use Rattle.h264_verify.specs.Feeding.{behind, GoesOn}
 use Rattle.h264_verify.proofs.running.run_pieces.Given as goal
 
 abbrev pub invariant-loop-piece : goal.invariant-loop-piece
 invariant-loop-piece g l = record {
-  goes : GoesOn l.initial.session.mode g.S.Elements.took (behind at_start []) l.session.split l.session.state (flat_map (λ piece. piece.items) (take l.piece-index l.pieces)) [] l.initial.sink l.sink;
+  goes : (frames : ℕ → Frame) → GoesOn l.initial.session.mode g.S.Elements.took frames (behind at_start []) l.session.split l.session.state (flat_map (λ piece. piece.items) (take l.piece-index l.pieces)) [] l.initial.sink l.sink;
   runs : l.session.stop ≡ None;
   mode_is : l.session.mode ≡ l.initial.session.mode;
   kept : g.S.Elements.failures l.sink ≡ g.S.Elements.failures l.initial.sink;

@@ -1,17 +1,18 @@
 use Rattle.std.proofs.Common.{refl, ◌∙◌}
 use Rattle.std.proofs.lemmas.Result.{err_from_is_err_and}
 use Rattle.h264_verify.specs.UnitOutcome.{judging}
-use Rattle.h264_verify.proofs.Feeding.{stops-push, goes-push, goes-unit, stops-unit, goes-both, stops-after, goes-none-taken}
+use Rattle.h264_verify.proofs.Familiar.{agree-none, on-push, on-unit}
+use Rattle.h264_verify.proofs.Feeding.{stops-push, goes-push, stops-unit, stops-after}
 use Rattle.h264_verify.proofs.session.feed_some.Goals as goal
 
 pub returns-in_err-n-clause-stops : goal.returns-in_err-n-clause-stops
-returns-in_err-n-clause-stops g c = let p = err_from_is_err_and c.from_residual.result c.from_residual.ensures.1 in rw (p.1, p.2) (λ before k. stops-push (judging c.args.mode) _ _ _ _ _ _ _ _ (c.in_err-n.ensures.err c.requires.runs.0))
+returns-in_err-n-clause-stops g c = let p = err_from_is_err_and c.from_residual.result c.from_residual.ensures.1 in rw (p.1, p.2) (λ frames before k. record { made = frames; same = agree-none _ frames; stops = stops-push (judging c.args.mode) _ _ _ _ _ _ _ _ (c.in_err-n.ensures.err c.requires.runs.0) })
 
 pub returns-in-None-clause-goes : goal.returns-in-None-clause-goes
-returns-in-None-clause-goes g c = λ before k. record { after = before; keeps = k; goes = goes-none-taken (judging c.args.mode) _ _ _ _ _ _ _ _ c.in_ok-n.ensures.ok c.in-None.ensures.none }
+returns-in-None-clause-goes g c = λ frames before k. on-push c.args.mode _ frames before _ _ c.in_ok-n.ensures.ok c.in-None.ensures.none k
 
 pub returns-in_err-judge_unit-in-Some-clause-stops : goal.returns-in_err-judge_unit-in-Some-clause-stops
-returns-in_err-judge_unit-in-Some-clause-stops g c = let p = err_from_is_err_and c.from_residual-in_err-judge_unit-in-Some.result c.from_residual-in_err-judge_unit-in-Some.ensures.1 in rw (p.1, p.2) (λ before k. let t = c.in_err-judge_unit-in-Some.ensures.turns before k in stops-after (judging c.args.mode) _ _ _ _ _ _ _ _ _ _ (goes-push (judging c.args.mode) _ _ _ _ _ _ _ c.in_ok-n.ensures.ok) refl (stops-unit (judging c.args.mode) _ _ (λ x. t.after) _ c.take_unit.new.self _ _ _ _ _ _ c.in-Some.ensures.some (c.in_ok-n.ensures.ok.ended_is ∙ c.requires.runs.2) t.plays))
+returns-in_err-judge_unit-in-Some-clause-stops g c = let p = err_from_is_err_and c.from_residual-in_err-judge_unit-in-Some.result c.from_residual-in_err-judge_unit-in-Some.ensures.1 in rw (p.1, p.2) (λ frames before k. let t = c.in_err-judge_unit-in-Some.ensures.turns frames before k in record { made = t.made; same = t.same; stops = stops-after (judging c.args.mode) _ _ _ _ _ _ _ _ _ _ (goes-push (judging c.args.mode) _ _ _ _ _ _ _ c.in_ok-n.ensures.ok) refl (stops-unit (judging c.args.mode) _ _ (λ x. t.after) _ c.take_unit.new.self _ _ _ _ _ _ c.in-Some.ensures.some (c.in_ok-n.ensures.ok.ended_is ∙ c.requires.runs.2) t.plays) })
 
 pub returns-in_ok-judge_unit-in-Some-clause-goes : goal.returns-in_ok-judge_unit-in-Some-clause-goes
-returns-in_ok-judge_unit-in-Some-clause-goes g c = λ before k. let t = c.in_ok-judge_unit-in-Some.ensures.turns before k in record { after = t.after; keeps = t.keeps; goes = goes-both (goes-push (judging c.args.mode) _ _ _ _ _ _ _ c.in_ok-n.ensures.ok) (goes-unit (judging c.args.mode) _ _ (λ x. t.after) _ _ _ _ _ _ _ _ c.in-Some.ensures.some (c.in_ok-n.ensures.ok.ended_is ∙ c.requires.runs.2) t.plays) }
+returns-in_ok-judge_unit-in-Some-clause-goes g c = λ frames before k. on-unit c.in_ok-n.ensures.ok c.in-Some.ensures.some (c.in_ok-n.ensures.ok.ended_is ∙ c.requires.runs.2) (c.in_ok-judge_unit-in-Some.ensures.turns frames before k)

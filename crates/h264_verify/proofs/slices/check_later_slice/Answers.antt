@@ -1,7 +1,8 @@
 use Rattle.std.proofs.Common.{[], ◌∷◌}
 use Rattle.std.proofs.lemmas.Result.{err_from_is_err_and}
 use Rattle.h264_marking.specs.Ended.{numbering_of}
-use Rattle.h264_verify.specs.Slices.{type_demand, idr_num_demand, qp_demand, list_of, list_demand, marking_demand}
+use Rattle.h264_verify.specs.Slices.{type_demand, idr_num_demand, qp_demand, list_demand, marking_demand}
+use Rattle.h264_verify.specs.Lists.{list_of}
 use Rattle.h264_verify.specs.Keeping.{marking_by, same_type_by}
 use Rattle.h264_verify.proofs.Slicing.{stop-one, pass-one}
 use Rattle.h264_verify.proofs.slices.check_later_slice.Goals as goal

@@ -1,27 +1,39 @@
-use Rattle.std.proofs.Common.{sym, subst, ◌∙◌, refl}
+use Rattle.std.proofs.Common.{◌≡◌, ℕ, Bool, false, List, Result, length, refl, sym, subst, ◌∙◌}
+use Rattle.h264_base.specs.declared.mode.Mode.{Mode}
 use Rattle.h264_base.specs.declared.mode.Mode.TheVariants as modes
+use Rattle.h264_base.specs.declared.stop.Stop.{Stop}
+use Rattle.h264_base.specs.Call.{Call}
+use Rattle.h264_plane.specs.declared.frame.Frame.{Frame}
+use Rattle.h264_verify.specs.declared.judge.State.{State}
+use Rattle.h264_verify.specs.Outcome.{Outcome}
+use Rattle.h264_verify.specs.History.{History}
 use Rattle.h264_verify.specs.Content as contents
 use Rattle.h264_verify.proofs.Playing.{gives-plays}
 use Rattle.h264_verify.proofs.Joining.{joins-on, passed-other, units-other, slice-other, whole-other}
 use Rattle.h264_verify.specs.UnitHeader.{nal_unit_type}
-use Rattle.h264_verify.specs.Pictures.{ends_picture}
-use Rattle.h264_verify.specs.Keeping.{KeepsWithin}
+use Rattle.h264_verify.specs.Pictures.{ends_picture, goes_on, runs_of}
+use Rattle.h264_verify.specs.Keeping.{KeepsWithin, ended_pictures, ended_in}
+use Rattle.h264_verify.specs.Feeding.{Joins}
 use Rattle.h264_verify.proofs.unit.join_other.Goals as goal
 
+-- where no picture ends
+joins-here : {S X : Type 0} (mode : Mode) (took : S → List Call → Type 0) (failures : S → ℕ) (frames : ℕ → Frame) (before : History) (ends : Bool) (o : Outcome History) (new : State) (s s' : S) (r : Result X Stop) → ends ≡ false → Joins {X = X} mode took failures frames (ended_in before) o new s s' r → Joins {X = X} mode took failures frames (length (ended_pictures (goes_on before) ends (runs_of before))) o new s s' r
+joins-here {S} {X} mode took failures frames before ends o new s s' r e j = subst (λ (b : Bool). Joins {X = X} mode took failures frames (length (ended_pictures (goes_on before) b (runs_of before))) o new s s' r) (sym e) j
+
 pub returns-then-not-is_slice-clause-joins : goal.returns-then-not-is_slice-clause-joins
-returns-then-not-is_slice-clause-joins g c = λ before k. rw (passed-other c.args.mode _ before c.args.unit.now (sym c.is_slice.ensures.value ∙ c.if-not-is_slice.true)) (joins-on c.args.mode _ _ before _ _ _ (λ (u : Unit {0}). contents.Passed) _ _ _ tt _ (gives-plays _ _ (λ (u : Unit {0}). contents.Passed) tt _) (gives-plays _ _ (λ (u : Unit {0}). u) tt _) (c.join_passed.ensures.keeps c.args.mode before c.args.unit.now (rw c.requires.header refl) k))
+returns-then-not-is_slice-clause-joins g c = λ frames before k. rw (passed-other c.args.mode _ before c.args.unit.now (sym c.is_slice.ensures.value ∙ c.if-not-is_slice.true)) (joins-on c.args.mode frames _ _ _ before _ _ _ (λ (u : Unit {0}). contents.Passed) _ _ _ tt _ (gives-plays _ _ (λ (u : Unit {0}). contents.Passed) tt _) (gives-plays _ _ (λ (u : Unit {0}). u) tt _) (c.join_passed.ensures.keeps c.args.mode frames before c.args.unit.now (rw c.requires.header refl) k))
 
 pub returns-in-Headers-clause-joins : goal.returns-in-Headers-clause-joins
-returns-in-Headers-clause-joins g c = λ before k.
-    let kept = subst (λ m. KeepsWithin m before (ends_picture (nal_unit_type c.args.header)) c.args.state.now) c.in-Headers.is k in
-    rw (c.in-Headers.is, slice-other (nal_unit_type c.args.header) before c.args.unit.now (sym c.is_slice.ensures.value ∙ c.if-not-is_slice.false)) (c.join_slice.ensures.joins before kept)
+returns-in-Headers-clause-joins g c = λ frames before k.
+    let kept = subst (λ m. KeepsWithin m frames before (ends_picture (nal_unit_type c.args.header)) c.args.state.now) c.in-Headers.is k in
+    rw (c.in-Headers.is, slice-other (nal_unit_type c.args.header) before c.args.unit.now (sym c.is_slice.ensures.value ∙ c.if-not-is_slice.false)) (joins-here modes.Headers _ _ frames before (ends_picture (nal_unit_type c.args.header)) _ _ _ _ _ (c.is_slice.ensures.goes_on c.if-not-is_slice.false) (c.join_slice.ensures.joins frames before kept))
 
 pub returns-in-Full-clause-joins : goal.returns-in-Full-clause-joins
-returns-in-Full-clause-joins g c = λ before k.
-    let kept = subst (λ m. KeepsWithin m before (ends_picture (nal_unit_type c.args.header)) c.args.state.now) c.in-Full.is k in
-    rw (c.in-Full.is, whole-other (nal_unit_type c.args.header) before c.args.unit.now (sym c.is_slice.ensures.value ∙ c.if-not-is_slice.false)) (c.join_whole_slice.ensures.joins before kept)
+returns-in-Full-clause-joins g c = λ frames before k.
+    let kept = subst (λ m. KeepsWithin m frames before (ends_picture (nal_unit_type c.args.header)) c.args.state.now) c.in-Full.is k in
+    rw (c.in-Full.is, whole-other (nal_unit_type c.args.header) before c.args.unit.now (sym c.is_slice.ensures.value ∙ c.if-not-is_slice.false)) (joins-here modes.Full _ _ frames before (ends_picture (nal_unit_type c.args.header)) _ _ _ _ _ (c.is_slice.ensures.goes_on c.if-not-is_slice.false) (c.join_whole_slice.ensures.joins frames before kept))
 
 pub returns-in-Units-clause-joins : goal.returns-in-Units-clause-joins
-returns-in-Units-clause-joins g c = λ before k.
-    let kept = subst (λ m. KeepsWithin m before (ends_picture (nal_unit_type c.args.header)) c.args.state.now) c.in-Units.is k in
-    rw (c.in-Units.is, units-other (nal_unit_type c.args.header) before c.args.unit.now) (joins-on modes.Units _ _ before _ _ _ (λ (u : Unit {0}). contents.Passed) _ _ _ tt _ (gives-plays _ _ (λ (u : Unit {0}). contents.Passed) tt _) (gives-plays _ _ (λ (u : Unit {0}). u) tt _) (c.join_passed-in-Units.ensures.keeps modes.Units before c.args.unit.now (rw c.requires.header refl) kept))
+returns-in-Units-clause-joins g c = λ frames before k.
+    let kept = subst (λ m. KeepsWithin m frames before (ends_picture (nal_unit_type c.args.header)) c.args.state.now) c.in-Units.is k in
+    rw (c.in-Units.is, units-other (nal_unit_type c.args.header) before c.args.unit.now) (joins-on modes.Units frames _ _ _ before _ _ _ (λ (u : Unit {0}). contents.Passed) _ _ _ tt _ (gives-plays _ _ (λ (u : Unit {0}). contents.Passed) tt _) (gives-plays _ _ (λ (u : Unit {0}). u) tt _) (c.join_passed-in-Units.ensures.keeps modes.Units frames before c.args.unit.now (rw c.requires.header refl) kept))

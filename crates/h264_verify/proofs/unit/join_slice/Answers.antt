@@ -1,26 +1,36 @@
-use Rattle.std.proofs.Common.{[], subst, ◌∙◌, ap, refl}
+use Rattle.std.proofs.Common.{[], Bool, subst, ◌∙◌, ap, refl}
 use Rattle.std.proofs.lemmas.Result.{err_from_is_err_and}
 use Rattle.h264_base.specs.declared.mode.Mode.TheVariants as modes
 use Rattle.h264_verify.specs.Content as contents
 use Rattle.h264_verify.specs.History.{maps_with}
-use Rattle.h264_verify.specs.Keeping.{KeepsSlices}
-use Rattle.h264_verify.proofs.Joining.{joins-on, joins-stops, units-with, header-work}
+use Rattle.h264_verify.specs.Keeping.{KeepsWithin}
+use Rattle.h264_verify.proofs.Slicing.{some-of}
+use Rattle.h264_verify.proofs.Joining.{joins-made, joins-stops, units-with, header-decoder, some-slice}
 use Rattle.h264_verify.proofs.unit.join_slice.Goals as goal
 
+pub judge_slice-requires-clause-kept : goal.judge_slice-requires-clause-kept
+judge_slice-requires-clause-kept g c = some-slice modes.Headers c.args.state.now c.requires.kept
+
 pub returns-in_err-read_slice_unit-clause-joins : goal.returns-in_err-read_slice_unit-clause-joins
-returns-in_err-read_slice_unit-clause-joins g c = let p = err_from_is_err_and c.from_residual.result c.from_residual.ensures.1 in rw (p.1, p.2) (λ before k. joins-stops modes.Headers _ _ before _ _ _ (λ _. contents.OfSlice c.read_slice_unit.new.found []) _ _ _ (c.in_err-read_slice_unit.ensures.plays before k.sets c.requires.header))
+returns-in_err-read_slice_unit-clause-joins g c = let p = err_from_is_err_and c.from_residual.result c.from_residual.ensures.1 in rw (p.1, p.2) (λ frames before k. joins-stops modes.Headers frames _ _ _ before _ _ _ (λ _. contents.OfSlice c.read_slice_unit.new.found []) _ _ _ (c.in_err-read_slice_unit.ensures.plays frames before k.sets c.requires.header))
 
 pub returns-in_err-judge_slice-clause-joins : goal.returns-in_err-judge_slice-clause-joins
 returns-in_err-judge_slice-clause-joins g c =
     let p = err_from_is_err_and c.from_residual-in_err-judge_slice.result c.from_residual-in_err-judge_slice.ensures.1 in
-    rw (p.1, p.2) (λ before k. joins-on modes.Headers _ _ before _ _ _ (λ _. contents.OfSlice c.read_slice_unit.new.found []) _ _ _ _ _ (c.in_ok-read_slice_unit.ensures.plays before k.sets c.requires.header) (c.in_err-judge_slice.ensures.plays before (subst (λ b. KeepsSlices before b c.args.state.now.slices) c.requires.goes_on k.slices) k.sets (header-work _ _)) tt)
+    rw (p.1, p.2) (λ frames before k.
+    let kept = subst (λ (b : Bool). KeepsWithin modes.Headers frames before b c.args.state.now) c.requires.goes_on k in
+    let some = some-of _ c.in_ok-read_slice_unit.ensures.named in
+    let j = c.in_err-judge_slice.ensures.judges frames before some.0 kept.slices k.sets some.1 kept.decoder in
+    joins-made modes.Headers frames _ _ _ before _ _ _ j.made j.same (λ _. contents.OfSlice c.read_slice_unit.new.found []) _ _ _ _ _ (c.in_ok-read_slice_unit.ensures.plays j.made before k.sets c.requires.header) j.plays tt)
 
 pub returns-clause-joins : goal.returns-clause-joins
-returns-clause-joins g c = λ before k.
-    let kept = subst (λ b. KeepsSlices before b c.args.state.now.slices) c.requires.goes_on k.slices in
-    joins-on modes.Headers _ _ before _ _ _ (λ _. contents.OfSlice c.read_slice_unit.new.found []) _ _ _ _ _ (c.in_ok-read_slice_unit.ensures.plays before k.sets c.requires.header) (c.in_ok-judge_slice.ensures.plays before kept k.sets (header-work _ _)) (record {
+returns-clause-joins g c = λ frames before k.
+    let kept = subst (λ (b : Bool). KeepsWithin modes.Headers frames before b c.args.state.now) c.requires.goes_on k in
+    let some = some-of _ c.in_ok-read_slice_unit.ensures.named in
+    let j = c.in_ok-judge_slice.ensures.judges frames before some.0 kept.slices k.sets some.1 kept.decoder in
+    joins-made modes.Headers frames _ _ _ before _ _ _ j.made j.same (λ _. contents.OfSlice c.read_slice_unit.new.found []) _ _ _ _ _ (c.in_ok-read_slice_unit.ensures.plays j.made before k.sets c.requires.header) j.plays (record {
       units = units-with before (record { unit = c.args.unit.now; content = contents.OfSlice c.read_slice_unit.new.found [] }) _ _ refl k.units;
       sets = c.in_ok-judge_slice.ensures.sets ∙ ap (λ m. maps_with m (contents.OfSlice c.read_slice_unit.new.found [])) k.sets;
-      slices = c.in_ok-judge_slice.ensures.keeps before [] kept k.sets;
-      work = header-work _ _;
+      slices = c.in_ok-judge_slice.ensures.keeps before [] kept.slices k.sets;
+      decoder = header-decoder _ _ _ _ _;
     })

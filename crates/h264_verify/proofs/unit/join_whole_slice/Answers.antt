@@ -1,88 +1,104 @@
-use Rattle.std.proofs.Common.{[], ◌∷◌, true, subst, sym, ◌∙◌, ap, refl}
+use Rattle.std.proofs.Common.{[], ◌∷◌, List, Bool, true, false, subst, sym, ◌∙◌, ap, refl}
 use Rattle.std.proofs.lemmas.Result.{err_from_is_err_and}
 use Rattle.h264_base.specs.Meets.{Reader}
+use Rattle.h264_base.specs.declared.mode.Mode.TheVariants as modes
 use Rattle.h264_rbsp.specs.Rbsp.{body_of}
 use Rattle.h264_header.specs.Layout.{sets_of}
 use Rattle.h264_verify.specs.Content as contents
 use Rattle.h264_verify.specs.History.{maps_with}
-use Rattle.h264_verify.specs.Pictures.{goes_on, runs_of, with_sets, open_of, held_in}
-use Rattle.h264_verify.specs.Keeping.{KeepsSlices, HoldsCoded}
+use Rattle.h264_verify.specs.Pictures.{CodedPicture, goes_on, runs_of, with_sets, held_in}
+use Rattle.h264_verify.specs.Keeping.{KeepsWithin, KeepsDecoder}
 use Rattle.h264_verify.proofs.Playing.{memory-plays}
 use Rattle.h264_verify.proofs.Slicing.{some-of, sets-before}
 use Rattle.h264_verify.proofs.Entering.{begins-as}
-use Rattle.h264_verify.proofs.Joining.{units-with, holds-newest, newest-holds, runs-with, coded-work, work-coded}
+use Rattle.h264_verify.proofs.Joining.{units-with, runs-with, goes-newest, enters-full, some-slice}
 use Rattle.h264_verify.proofs.Reading.{header-read, slice-stops, slice-broken, slice-reads, placed, data-there}
 use Rattle.h264_verify.proofs.unit.join_whole_slice.Goals as goal
 
+pub judge_slice-requires-clause-kept : goal.judge_slice-requires-clause-kept
+judge_slice-requires-clause-kept g c = some-slice modes.Full c.args.state.now c.requires.kept
+
 pub returns-in_err-rbsp-clause-joins : goal.returns-in_err-rbsp-clause-joins
-returns-in_err-rbsp-clause-joins g c = let p = err_from_is_err_and c.from_residual.result c.from_residual.ensures.1 in rw (p.1, p.2, c.in_err-rbsp.ensures.err) (λ before k. record { after = []; plays = memory-plays _ _ _ _ _; keeps = tt })
+returns-in_err-rbsp-clause-joins g c = let p = err_from_is_err_and c.from_residual.result c.from_residual.ensures.1 in rw (p.1, p.2, c.in_err-rbsp.ensures.err) (λ frames before k. record { made = frames; same = λ n h. refl; after = []; plays = memory-plays _ _ _ _ _; keeps = tt })
 
 pub returns-in_err-read_header-clause-joins : goal.returns-in_err-read_header-clause-joins
 returns-in_err-read_header-clause-joins g c =
     let p = err_from_is_err_and c.from_residual-in_err-read_header.result c.from_residual-in_err-read_header.ensures.1 in
-    rw (p.1, p.2) (λ before k. record {
+    rw (p.1, p.2) (λ frames before k. record {
+      made = frames;
+      same = λ n h. refl;
       after = [];
-      plays = slice-stops _ _ before c.args.unit.now c.read_header.new.header _ _ _ _ (header-read _ _ before c.args.unit.now c.args.header _ _ c.read_header.new.header _ _ _ _ _ k.sets c.requires.header c.slice_unit-slice_unit.ensures (rw c.in_ok-rbsp.ensures.ok at c.new-bits.ensures) c.in_err-read_header.ensures.meets c.in_err-read_header.ensures.answers);
+      plays = slice-stops _ _ before c.args.unit.now c.read_header.new.header _ _ _ _ (header-read frames _ _ before c.args.unit.now c.args.header _ _ c.read_header.new.header _ _ _ _ _ k.sets c.requires.header c.slice_unit-slice_unit.ensures (rw c.in_ok-rbsp.ensures.ok at c.new-bits.ensures) c.in_err-read_header.ensures.meets c.in_err-read_header.ensures.answers);
       keeps = tt;
     })
 
 pub returns-in_err-judge_slice-clause-joins : goal.returns-in_err-judge_slice-clause-joins
 returns-in_err-judge_slice-clause-joins g c =
     let p = err_from_is_err_and c.from_residual-in_err-judge_slice.result c.from_residual-in_err-judge_slice.ensures.1 in
-    rw (p.1, p.2) (λ before k.
-    let kept = subst (λ b. KeepsSlices before b c.args.state.now.slices) c.requires.goes_on k.slices in
-    let read = header-read _ _ before c.args.unit.now c.args.header _ _ c.read_header.new.header _ _ _ _ _ k.sets c.requires.header c.slice_unit-slice_unit.ensures (rw c.in_ok-rbsp.ensures.ok at c.new-bits.ensures) c.in_ok-read_header.ensures.meets c.in_ok-read_header.ensures.answers in
+    rw (p.1, p.2) (λ frames before k.
+    let kept = subst (λ (b : Bool). KeepsWithin modes.Full frames before b c.args.state.now) c.requires.goes_on k in
+    let some = some-of _ c.in_ok-read_header.ensures.named in
+    let j = c.in_err-judge_slice.ensures.judges frames before some.0 kept.slices k.sets some.1 kept.decoder in
+    let read = header-read j.made _ _ before c.args.unit.now c.args.header _ _ c.read_header.new.header _ _ _ _ _ k.sets c.requires.header c.slice_unit-slice_unit.ensures (rw c.in_ok-rbsp.ensures.ok at c.new-bits.ensures) c.in_ok-read_header.ensures.meets c.in_ok-read_header.ensures.answers in
     record {
+      made = j.made;
+      same = j.same;
       after = [];
-      plays = slice-broken _ _ before c.args.unit.now c.read_header.new.header _ _ _ _ read _ _ (c.in_err-judge_slice.ensures.plays before kept k.sets k.work);
+      plays = slice-broken _ _ before c.args.unit.now c.read_header.new.header _ _ _ _ read _ _ j.plays;
       keeps = tt;
     })
 
 pub returns-in_err-read_data-clause-joins : goal.returns-in_err-read_data-clause-joins
 returns-in_err-read_data-clause-joins g c =
     let p = err_from_is_err_and c.from_residual-in_err-read_data.result c.from_residual-in_err-read_data.ensures.1 in
-    rw (p.1, p.2) (λ before k.
+    rw (p.1, p.2) (λ frames before k.
     let h = c.read_header.new.header in
     let unit = c.args.unit.now in
-    let kept = subst (λ b. KeepsSlices before b c.args.state.now.slices) c.requires.goes_on k.slices in
-    let first = rw c.in_ok-rbsp.ensures.ok at c.new-bits.ensures in
-    let read = header-read _ _ before unit c.args.header _ _ h _ _ _ _ _ k.sets c.requires.header c.slice_unit-slice_unit.ensures first c.in_ok-read_header.ensures.meets c.in_ok-read_header.ensures.answers in
-    let b = begins-as before h c.args.state.now.slices _ kept c.begins-begins.ensures in
+    let kept = subst (λ (b : Bool). KeepsWithin modes.Full frames before b c.args.state.now) c.requires.goes_on k in
     let some = some-of _ c.in_ok-read_header.ensures.named in
+    let j = c.in_ok-judge_slice.ensures.judges frames before some.0 kept.slices k.sets some.1 kept.decoder in
+    let first = rw c.in_ok-rbsp.ensures.ok at c.new-bits.ensures in
+    let read = header-read j.made _ _ before unit c.args.header _ _ h _ _ _ _ _ k.sets c.requires.header c.slice_unit-slice_unit.ensures first c.in_ok-read_header.ensures.meets c.in_ok-read_header.ensures.answers in
+    let b = begins-as before h c.args.state.now.slices _ kept.slices c.begins-begins.ensures in
     let named = sets-before _ _ h _ c.in_ok-judge_slice.ensures.sets some.1 in
-    let held = (c.in_ok-judge_slice.ensures.keeps before [] kept k.sets).kept.held ∙ ap held_in (sym (runs-with before unit h [] _ _ some.0 b k.sets some.1)) in
-    let place = placed c.begins-begins.result (runs_of before) h (c.in_ok-judge_slice.ensures.place before kept k.work) in
-    let holds = holds-newest (goes_on before) (runs_of before) h _ _ b (coded-work _ _ k.work) in
-    let d = c.in_err-read_data.ensures.reads (runs_of before) (with_sets unit h [] some.0) named c.in_ok-judge_slice.ensures.header held place holds in
+    let held = (c.in_ok-judge_slice.ensures.keeps before [] kept.slices k.sets).kept.held ∙ ap held_in (sym (runs-with before unit h [] _ _ some.0 b k.sets some.1)) in
+    let place = placed c.begins-begins.result (runs_of before) h (c.in_ok-judge_slice.ensures.place frames before kept.slices kept.decoder) in
+    let enters = enters-full j.made c.begins-begins.result (with_sets unit h [] some.0) (goes_on before) (runs_of before) _ j.enters in
+    let d = c.in_err-read_data.ensures.reads j.made (goes_on before) (runs_of before) (with_sets unit h [] some.0) named c.in_ok-judge_slice.ensures.header held place refl (goes-newest (goes_on before) (runs_of before) h c.begins-begins.result b) enters in
     let there = data-there _ _ _ (runs_of before) (with_sets unit h [] some.0) _ _ _ (body_of unit) _ _ _ _ b (c.in_ok-read_header.ensures.meets.same ∙ ap (λ (r : Reader). r.body) first) d.plays in
     record {
+      made = j.made;
+      same = j.same;
       after = record { unit = unit; content = contents.OfSlice h d.macroblocks } ∷ before;
-      plays = slice-reads _ _ before unit h _ _ _ _ read _ _ (c.in_ok-judge_slice.ensures.plays before kept k.sets k.work) some.0 (ap (λ m. sets_of m h.pic_parameter_set_id.value) (sym k.sets) ∙ some.1) d.macroblocks d.end _ _ there;
+      plays = slice-reads _ _ before unit h _ _ _ _ read _ _ j.plays some.0 (ap (λ m. sets_of m h.pic_parameter_set_id.value) (sym k.sets) ∙ some.1) d.macroblocks d.end _ _ there;
       keeps = tt;
     })
 
 pub returns-clause-joins : goal.returns-clause-joins
-returns-clause-joins g c = λ before k.
+returns-clause-joins g c = λ frames before k.
     let h = c.read_header.new.header in
     let unit = c.args.unit.now in
-    let kept = subst (λ b. KeepsSlices before b c.args.state.now.slices) c.requires.goes_on k.slices in
-    let first = rw c.in_ok-rbsp.ensures.ok at c.new-bits.ensures in
-    let read = header-read _ _ before unit c.args.header _ _ h _ _ _ _ _ k.sets c.requires.header c.slice_unit-slice_unit.ensures first c.in_ok-read_header.ensures.meets c.in_ok-read_header.ensures.answers in
-    let b = begins-as before h c.args.state.now.slices _ kept c.begins-begins.ensures in
+    let kept = subst (λ (b : Bool). KeepsWithin modes.Full frames before b c.args.state.now) c.requires.goes_on k in
     let some = some-of _ c.in_ok-read_header.ensures.named in
+    let j = c.in_ok-judge_slice.ensures.judges frames before some.0 kept.slices k.sets some.1 kept.decoder in
+    let first = rw c.in_ok-rbsp.ensures.ok at c.new-bits.ensures in
+    let read = header-read j.made _ _ before unit c.args.header _ _ h _ _ _ _ _ k.sets c.requires.header c.slice_unit-slice_unit.ensures first c.in_ok-read_header.ensures.meets c.in_ok-read_header.ensures.answers in
+    let b = begins-as before h c.args.state.now.slices _ kept.slices c.begins-begins.ensures in
     let named = sets-before _ _ h _ c.in_ok-judge_slice.ensures.sets some.1 in
-    let held = (c.in_ok-judge_slice.ensures.keeps before [] kept k.sets).kept.held ∙ ap held_in (sym (runs-with before unit h [] _ _ some.0 b k.sets some.1)) in
-    let place = placed c.begins-begins.result (runs_of before) h (c.in_ok-judge_slice.ensures.place before kept k.work) in
-    let holds = holds-newest (goes_on before) (runs_of before) h _ _ b (coded-work _ _ k.work) in
-    let d = c.in_ok-read_data.ensures.reads (runs_of before) (with_sets unit h [] some.0) named c.in_ok-judge_slice.ensures.header held place holds in
+    let held = (c.in_ok-judge_slice.ensures.keeps before [] kept.slices k.sets).kept.held ∙ ap held_in (sym (runs-with before unit h [] _ _ some.0 b k.sets some.1)) in
+    let place = placed c.begins-begins.result (runs_of before) h (c.in_ok-judge_slice.ensures.place frames before kept.slices kept.decoder) in
+    let enters = enters-full j.made c.begins-begins.result (with_sets unit h [] some.0) (goes_on before) (runs_of before) _ j.enters in
+    let d = c.in_ok-read_data.ensures.reads j.made (goes_on before) (runs_of before) (with_sets unit h [] some.0) named c.in_ok-judge_slice.ensures.header held place refl (goes-newest (goes_on before) (runs_of before) h c.begins-begins.result b) enters in
     let there = data-there _ _ _ (runs_of before) (with_sets unit h [] some.0) _ _ _ (body_of unit) _ _ _ _ b (c.in_ok-read_header.ensures.meets.same ∙ ap (λ (r : Reader). r.body) first) d.plays in
     record {
+      made = j.made;
+      same = j.same;
       after = record { unit = unit; content = contents.OfSlice h d.macroblocks } ∷ before;
-      plays = slice-reads _ _ before unit h _ _ _ _ read _ _ (c.in_ok-judge_slice.ensures.plays before kept k.sets k.work) some.0 (ap (λ m. sets_of m h.pic_parameter_set_id.value) (sym k.sets) ∙ some.1) d.macroblocks d.end _ _ there;
+      plays = slice-reads _ _ before unit h _ _ _ _ read _ _ j.plays some.0 (ap (λ m. sets_of m h.pic_parameter_set_id.value) (sym k.sets) ∙ some.1) d.macroblocks d.end _ _ there;
       keeps = record {
         units = units-with before (record { unit = unit; content = contents.OfSlice h d.macroblocks }) _ _ refl k.units;
         sets = c.in_ok-judge_slice.ensures.sets ∙ ap (λ m. maps_with m (contents.OfSlice h d.macroblocks)) k.sets;
-        slices = c.in_ok-judge_slice.ensures.keeps before d.macroblocks kept k.sets;
-        work = work-coded _ _ (subst (λ ps. HoldsCoded (open_of true ps) c.read_data.new.work) (runs-with before unit h d.macroblocks _ _ some.0 b k.sets some.1) (newest-holds c.begins-begins.result (runs_of before) unit h d.macroblocks some.0 _ d.keeps));
+        slices = c.in_ok-judge_slice.ensures.keeps before d.macroblocks kept.slices k.sets;
+        decoder = subst (λ (ps : List CodedPicture). KeepsDecoder modes.Full j.made true false ps c.read_data.new.decoder) (runs-with before unit h d.macroblocks _ _ some.0 b k.sets some.1) d.keeps;
       };
     }

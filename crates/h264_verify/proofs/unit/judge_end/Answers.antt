@@ -1,39 +1,109 @@
-use Rattle.std.proofs.Common.{sym, ℕ, List, [], ◌∷◌}
+use Rattle.std.proofs.Common.{ℕ, ◌≡◌, Bool, true, false, Result, Ok, Err, [], ◌∷◌, refl, sym, length, arith, if◌then◌else◌}
+use Rattle.h264_base.specs.declared.rule.Rule.{Rule}
+use Rattle.h264_base.specs.declared.stop.Stop.{Stop}
+use Rattle.h264_base.specs.declared.stop.Stop.TheVariants.{No}
 use Rattle.std.proofs.lemmas.Result.{err_from_is_err_and}
-use Rattle.h264_base.specs.declared.mode.Mode.{Mode}
-use Rattle.h264_base.specs.declared.rule.Rule.TheVariants.{NoPicture}
-use Rattle.h264_verify.specs.History.{History}
-use Rattle.h264_verify.specs.Demands.{Demand}
-use Rattle.h264_verify.specs.Pictures.{runs_of, whole_steps, closing_demands}
-use Rattle.h264_verify.specs.Units.{has_pictures, end_demands}
+use Rattle.h264_verify.specs.Closing.{whole_steps}
+use Rattle.h264_verify.specs.Pictures.{goes_on, runs_of, closing_demands}
+use Rattle.h264_verify.specs.Buffering.{after_all, last_frames}
+use Rattle.h264_verify.specs.Units.{picture_demand}
 use Rattle.h264_verify.specs.UnitOutcome.{end_outcome}
-use Rattle.h264_verify.proofs.Playing.{answer-stops, answer-on, gives-plays}
-use Rattle.h264_verify.proofs.Slicing.{err-named, stop-at, pass-by}
-use Rattle.h264_verify.proofs.Stepping.{closing-data, closing-end}
+use Rattle.h264_verify.proofs.Playing.{answer-stops, named-by}
+use Rattle.h264_verify.proofs.Finishing.{answers-plays}
+use Rattle.h264_verify.proofs.Slicing.{err-named}
+use Rattle.h264_verify.proofs.Stepping.{steps-err, closing-stop, needs-ok, needs-err}
+use Rattle.h264_verify.proofs.Joining.{data-held, ended-gap}
+use Rattle.h264_verify.proofs.Courses.{plays-as, end-stops, end-broken, end-gives}
 use Rattle.h264_verify.proofs.unit.judge_end.Goals as goal
 
--- the rule on the end itself
-abbrev at-end : Mode → History → ℕ → List Demand
-at-end mode before bit = record { rule = NoPicture; bit = bit; met = has_pictures mode (runs_of before) } ∷ []
+check-err : (holds : Bool) (rule : Rule) (bit : ℕ) (e : Stop) → (let r : Result (Unit {0}) Stop = Err e in r ≡ (if holds then Ok tt else Err (No bit rule))) → e ≡ No bit rule
+check-err true rule bit e h = cc
+check-err false rule bit e h = cc
 
-pub returns-in_err-end_data_if-clause-plays : goal.returns-in_err-end_data_if-clause-plays
+pub end_frame_if-requires-clause-kept : goal.end_frame_if-requires-clause-kept
+end_frame_if-requires-clause-kept g c =
+    let k = c.requires.kept in
+    record { frames = k.frames; before = k.before; slices_are = c.in_ok-end_if.ensures.ended k.before k.keeps.slices; keeps = k.keeps.decoder }
+
+pub finish_frames-requires-clause-kept : goal.finish_frames-requires-clause-kept
+finish_frames-requires-clause-kept g c =
+    let k = c.requires.kept in
+    let ended = c.in_ok-end_if.ensures.ended k.before k.keeps.slices in
+    let whole = c.in_ok-end_data_if.ensures.judged k.before k.keeps.slices (data-held c.args.mode k.frames (goes_on k.before) (runs_of k.before) c.args.state.now.decoder k.keeps.decoder) in
+    let e = c.in_ok-end_frame_if.ensures.ends k.frames k.before ended whole k.keeps.decoder in
+    record { frames = e.made; turn = after_all (runs_of k.before); next = length (runs_of k.before); few = omega (arith, k.keeps.slices.kept.pictures_are, c.requires.pictures, c.requires.units); keeps = ended-gap c.args.mode e.made (goes_on k.before) (runs_of k.before) _ e.keeps }
+
+pub returns-in_err-end_data_if : goal.returns-in_err-end_data_if
 unfolding end_outcome
-returns-in_err-end_data_if-clause-plays g c =
+returns-in_err-end_data_if g c =
     let p = err_from_is_err_and c.from_residual.result c.from_residual.ensures.1 in
-    rw (p.1, p.2) (λ before k. answer-stops _ _ (λ x. x) _ _ _ _ (closing-data (whole_steps c.args.mode before) (end_demands c.args.mode before c.args.bit) _ (c.in_err-end_data_if.ensures.judged before k.slices k.work)) c.in_err-end_data_if.ensures.named)
+    rw (p.1, p.2) (record {
+      ends = λ frames before k.
+          let whole = c.in_err-end_data_if.ensures.judged before k.slices (data-held c.args.mode frames (goes_on before) (runs_of before) c.args.state.now.decoder k.decoder) in
+          record { made = frames; same = λ n h. refl; plays = answer-stops _ _ (λ x. x) _ _ _ _ (steps-err (whole_steps c.args.mode before) _ _ whole) c.in_err-end_data_if.ensures.named };
+    })
 
-pub returns-in_err-end_if-clause-plays : goal.returns-in_err-end_if-clause-plays
+pub returns-in_err-end_if : goal.returns-in_err-end_if
 unfolding end_outcome
-returns-in_err-end_if-clause-plays g c =
+returns-in_err-end_if g c =
     let p = err_from_is_err_and c.from_residual-in_err-end_if.result c.from_residual-in_err-end_if.ensures.1 in
-    rw (p.1, p.2) (λ before k. let h = stop-at (closing_demands before) (at-end c.args.mode before c.args.bit) _ (c.in_err-end_if.ensures.judged before k.slices) in answer-stops _ _ (λ x. x) _ _ _ _ (closing-end (whole_steps c.args.mode before) (end_demands c.args.mode before c.args.bit) _ _ (c.in_ok-end_data_if.ensures.judged before k.slices k.work) h) (err-named (end_demands c.args.mode before c.args.bit) _ (sym h)))
+    rw (p.1, p.2) (record {
+      ends = λ frames before k.
+          let whole = c.in_ok-end_data_if.ensures.judged before k.slices (data-held c.args.mode frames (goes_on before) (runs_of before) c.args.state.now.decoder k.decoder) in
+          let closed = c.in_err-end_if.ensures.judged before k.slices in
+          record { made = frames; same = λ n h. refl; plays = answer-stops _ _ (λ x. x) _ _ _ _ (closing-stop (whole_steps c.args.mode before) (closing_demands before) _ _ _ whole closed) (err-named (closing_demands before) _ (sym closed)) };
+    })
 
-pub returns-in_err-check-clause-plays : goal.returns-in_err-check-clause-plays
-unfolding end_outcome
-returns-in_err-check-clause-plays g c =
+pub returns-in_err-end_frame_if : goal.returns-in_err-end_frame_if
+returns-in_err-end_frame_if g c =
+    let p = err_from_is_err_and c.from_residual-in_err-end_frame_if.result c.from_residual-in_err-end_frame_if.ensures.1 in
+    rw (p.1, p.2) (record {
+      ends = λ frames before k.
+          let whole = c.in_ok-end_data_if.ensures.judged before k.slices (data-held c.args.mode frames (goes_on before) (runs_of before) c.args.state.now.decoder k.decoder) in
+          let closed = c.in_ok-end_if.ensures.judged before k.slices in
+          let e = c.in_err-end_frame_if.ensures.ends frames before (c.in_ok-end_if.ensures.ended before k.slices) whole k.decoder in
+          record { made = e.made; same = e.same; plays = end-stops _ _ c.args.mode before c.args.bit _ _ whole closed _ _ _ e.plays };
+    })
+
+pub returns-in_err-check : goal.returns-in_err-check
+returns-in_err-check g c =
     let p = err_from_is_err_and c.from_residual-in_err-check.result c.from_residual-in_err-check.ensures.1 in
-    rw (p.1, p.2) (λ before k. let met = rw (c.has_pictures.ensures (runs_of before) (c.in_ok-end_if.ensures.ended before k.slices).kept.pictures_are) at c.in_err-check.ensures in let h = pass-by (closing_demands before) (at-end c.args.mode before c.args.bit) _ _ (c.in_ok-end_if.ensures.judged before k.slices) met in answer-stops _ _ (λ x. x) _ _ _ _ (closing-end (whole_steps c.args.mode before) (end_demands c.args.mode before c.args.bit) _ _ (c.in_ok-end_data_if.ensures.judged before k.slices k.work) h) (err-named (end_demands c.args.mode before c.args.bit) _ (sym h)))
+    rw (p.1, p.2) (record {
+      ends = λ frames before k.
+          let whole = c.in_ok-end_data_if.ensures.judged before k.slices (data-held c.args.mode frames (goes_on before) (runs_of before) c.args.state.now.decoder k.decoder) in
+          let closed = c.in_ok-end_if.ensures.judged before k.slices in
+          let ended = c.in_ok-end_if.ensures.ended before k.slices in
+          let e = c.in_ok-end_frame_if.ensures.ends frames before ended whole k.decoder in
+          let met = rw (c.has_pictures.ensures (runs_of before) ended.kept.pictures_are) at c.in_err-check.ensures in
+          let ds = picture_demand c.args.mode before c.args.bit ∷ [] in
+          record { made = e.made; same = e.same; plays = end-broken _ _ c.args.mode before c.args.bit _ _ whole closed _ _ _ _ e.plays _ (plays-as _ _ (λ x. x) _ _ _ _ _ (needs-err ds (last_frames c.args.mode (runs_of before)) _ (sym met)) (answers-plays _ _ _ _ (named-by _ _ _ (check-err _ _ _ _ c.in_err-check.ensures)))) };
+    })
 
-pub returns-clause-plays : goal.returns-clause-plays
-unfolding end_outcome
-returns-clause-plays g c = λ before k. let ended = c.in_ok-end_if.ensures.ended before k.slices in let met = rw (c.has_pictures.ensures (runs_of before) ended.kept.pictures_are) at c.in_ok-check.ensures in let h = pass-by (closing_demands before) (at-end c.args.mode before c.args.bit) _ _ (c.in_ok-end_if.ensures.judged before k.slices) met in answer-on _ _ (λ x. x) _ _ _ _ _ _ (closing-end (whole_steps c.args.mode before) (end_demands c.args.mode before c.args.bit) _ _ (c.in_ok-end_data_if.ensures.judged before k.slices k.work) h) (rw (k.units, ended.kept.pictures_are) (gives-plays _ _ (λ x. x) _ _))
+pub returns-in_err-finish_frames : goal.returns-in_err-finish_frames
+returns-in_err-finish_frames g c =
+    let p = err_from_is_err_and c.from_residual-in_err-finish_frames.result c.from_residual-in_err-finish_frames.ensures.1 in
+    rw (p.1, p.2) (record {
+      ends = λ frames before k.
+          let whole = c.in_ok-end_data_if.ensures.judged before k.slices (data-held c.args.mode frames (goes_on before) (runs_of before) c.args.state.now.decoder k.decoder) in
+          let closed = c.in_ok-end_if.ensures.judged before k.slices in
+          let ended = c.in_ok-end_if.ensures.ended before k.slices in
+          let e = c.in_ok-end_frame_if.ensures.ends frames before ended whole k.decoder in
+          let met = rw (c.has_pictures.ensures (runs_of before) ended.kept.pictures_are) at c.in_ok-check.ensures in
+          let ds = picture_demand c.args.mode before c.args.bit ∷ [] in
+          let gap = ended-gap c.args.mode e.made (goes_on before) (runs_of before) _ e.keeps in
+          record { made = e.made; same = e.same; plays = end-broken _ _ c.args.mode before c.args.bit _ _ whole closed _ _ _ _ e.plays _ (plays-as _ _ (λ x. x) _ _ _ _ _ (needs-ok ds (last_frames c.args.mode (runs_of before)) _ (sym met)) (c.in_err-finish_frames.ensures.plays e.made (after_all (runs_of before)) (length (runs_of before)) gap)) };
+    })
+
+pub returns : goal.returns
+returns g c = record {
+  ends = λ frames before k.
+      let whole = c.in_ok-end_data_if.ensures.judged before k.slices (data-held c.args.mode frames (goes_on before) (runs_of before) c.args.state.now.decoder k.decoder) in
+      let closed = c.in_ok-end_if.ensures.judged before k.slices in
+      let ended = c.in_ok-end_if.ensures.ended before k.slices in
+      let e = c.in_ok-end_frame_if.ensures.ends frames before ended whole k.decoder in
+      let met = rw (c.has_pictures.ensures (runs_of before) ended.kept.pictures_are) at c.in_ok-check.ensures in
+      let ds = picture_demand c.args.mode before c.args.bit ∷ [] in
+      let gap = ended-gap c.args.mode e.made (goes_on before) (runs_of before) _ e.keeps in
+      let written = c.frames_told.ensures (runs_of before) (λ m. c.in_ok-finish_frames.ensures.written e.made (after_all (runs_of before)) (length (runs_of before)) m gap) in
+      record { made = e.made; same = e.same; plays = end-gives _ _ c.args.mode before c.args.bit _ _ whole closed _ _ _ _ e.plays _ _ (plays-as _ _ (λ x. x) _ _ _ _ _ (needs-ok ds (last_frames c.args.mode (runs_of before)) _ (sym met)) (c.in_ok-finish_frames.ensures.plays e.made (after_all (runs_of before)) (length (runs_of before)) gap)) (rw (k.units, ended.kept.pictures_are, written) refl) };
+}

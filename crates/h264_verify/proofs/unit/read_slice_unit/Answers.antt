@@ -8,8 +8,8 @@ use Rattle.h264_verify.proofs.Playing.{plays-gives, memory-plays, meets-plays}
 use Rattle.h264_verify.proofs.unit.read_slice_unit.Goals as goal
 
 pub returns-in_err-rbsp-clause-plays : goal.returns-in_err-rbsp-clause-plays
-returns-in_err-rbsp-clause-plays g c = let p = err_from_is_err_and c.from_residual.result c.from_residual.ensures.1 in rw (p.1, p.2, c.in_err-rbsp.ensures.err) (λ before m h. memory-plays _ _ _ _ _)
+returns-in_err-rbsp-clause-plays g c = let p = err_from_is_err_and c.from_residual.result c.from_residual.ensures.1 in rw (p.1, p.2, c.in_err-rbsp.ensures.err) (λ frames before m h. memory-plays _ _ _ _ _)
 
 pub returns-clause-plays : goal.returns-clause-plays
 unfolding slice_outcome
-returns-clause-plays g c = λ before m h. rw (← c.in_ok-rbsp.ensures.ok, ← m, ← h, ← c.slice_unit-slice_unit.ensures) (plays-gives _ _ (λ _. c.read_header.new.header) (λ h. contents.OfSlice h []) _ _ _ _ (meets-plays _ _ _ (header (sets_of c.args.sets.now) _) _ _ _ _ _ _ c.new-bits.ensures c.read_header.ensures.meets c.read_header.ensures.answers))
+returns-clause-plays g c = λ frames before m h. rw (← c.in_ok-rbsp.ensures.ok, ← m, ← h, ← c.slice_unit-slice_unit.ensures) (plays-gives _ _ (λ _. c.read_header.new.header) (λ h. contents.OfSlice h []) _ _ _ _ (meets-plays frames _ _ _ (header (sets_of c.args.sets.now) _) _ _ _ _ _ _ c.new-bits.ensures c.read_header.ensures.meets c.read_header.ensures.answers))

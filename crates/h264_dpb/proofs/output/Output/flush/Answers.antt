@@ -1,4 +1,4 @@
-use Rattle.std.proofs.Common.{refl, true, false, ap, sym, ◌∙◌, ◌+◌, length}
+use Rattle.std.proofs.Common.{refl, true, ap, ◌∙◌}
 use Rattle.std.proofs.lemmas.Result.{err_from_is_err_and}
 use Rattle.h264_dpb.specs.Bumping.{flushed}
 use Rattle.h264_dpb.specs.Turns.{flush_turn}

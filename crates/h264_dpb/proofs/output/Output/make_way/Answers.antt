@@ -1,5 +1,4 @@
-use Rattle.std.proofs.Common.{sym, true, false, ◌∙◌}
-use Rattle.h264_dpb.specs.Turns.{empties}
+use Rattle.std.proofs.Common.{sym, ◌∙◌}
 use Rattle.h264_dpb.proofs.Answering.{way-writes, way-keeps, way-stays, way-none}
 use Rattle.h264_dpb.proofs.output.Output.make_way.Goals as goal
 

@@ -1,4 +1,4 @@
-use Rattle.std.proofs.Common.{sym, ap, ◌∙◌, map}
+use Rattle.std.proofs.Common.{ap, ◌∙◌, map}
 use Rattle.h264_marking.specs.declared.frame.ReferenceFrame.{ReferenceFrame}
 use Rattle.h264_dpb.proofs.Answering.{stored-as, store-room, store-writes, store-keeps, store-frames, store-ordered}
 use Rattle.h264_dpb.proofs.output.Output.store.Goals as goal

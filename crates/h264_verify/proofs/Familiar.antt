@@ -1,0 +1,115 @@
+-- The steps of a session one after another, with frames to which more come.
+use Rattle.std.proofs.Common.{◌≡◌, ℕ, ◌≤◌, false, IsFalse, drop, List, [], ◌++◌, length, ◌+◌, ◌*◌, Option, Result, Ok, refl, ◌∙◌, subst, arith}
+use Rattle.h264_base.specs.declared.mode.Mode.{Mode}
+use Rattle.h264_base.specs.declared.stop.Stop.{Stop}
+use Rattle.h264_base.specs.Call.{Call}
+use Rattle.h264_plane.specs.declared.frame.Frame.{Frame}
+use Rattle.h264_units.specs.Stream.{NalUnit}
+use Rattle.h264_units.specs.Splitting.{Splitting, Pushed, Taken, Finished}
+use Rattle.h264_verify.specs.declared.judge.State.{State}
+use Rattle.h264_verify.specs.declared.judge.Summary.{Summary}
+use Rattle.h264_verify.specs.Outcome.{Plays}
+use Rattle.h264_verify.specs.Telling.{took_with, Agree, AreOf}
+use Rattle.h264_verify.specs.Judging.{Judging}
+use Rattle.h264_verify.specs.Session.{Standing, Goes, Fed}
+use Rattle.h264_verify.specs.History.{History}
+use Rattle.h264_verify.specs.Keeping.{Keeps, KeepsSome, ended_in}
+use Rattle.h264_verify.specs.UnitOutcome.{judging, unit_outcome, end_outcome}
+use Rattle.h264_verify.specs.Feeding.{behind, Turns, EndsAll, GoesOn, StopsOn, FinishesOn}
+use Rattle.h264_verify.proofs.Agreeing.{of-more, of-both, tells-agree, plays-agree}
+use Rattle.h264_verify.proofs.Growing.{unit-grows}
+use Rattle.h264_verify.proofs.Finishing.{finish-unit}
+use Rattle.h264_verify.proofs.Feeding.{goes-push, goes-unit, goes-none-taken, goes-both, goes-none, stops-after}
+use Rattle.h264_verify.proofs.Sources.{goes-more}
+
+pub not-less : (n : ℕ) → n ≤ n
+not-less n = omega arith
+
+pub less-both : (a b c : ℕ) → a ≤ b → b ≤ c → a ≤ c
+less-both a b c h k = omega (arith, h, k)
+
+pub agree-none : (n : ℕ) (f : ℕ → Frame) → Agree n f f
+agree-none n f = λ k h. refl
+
+pub agree-both : (n m : ℕ) (f g h : ℕ → Frame) → Agree n f g → n ≤ m → Agree m g h → Agree n f h
+agree-both n m f g h a l b = λ k i. a k i ∙ b k (omega (arith, i, l))
+
+unfoldable pub goes-agree : {State Summary S : Type 0} {j : Judging State Summary} (took : S → List Call → Type 0) (n : ℕ) (f g : ℕ → Frame) {old new : Standing State} {piece left : List ℕ} {s s' : S} → Agree n f g → (x : Goes j (took_with f took) old new piece left s s') → AreOf n x.calls → Goes j (took_with g took) old new piece left s s'
+goes-agree took n f g {s} {s'} a x o = record { calls = x.calls; tells = tells-agree took n f g s s' x.calls a o x.tells; way = x.way; after = x.after }
+
+unfoldable pub fed-agree : {State Summary S : Type 0} {j : Judging State Summary} (took : S → List Call → Type 0) (n : ℕ) (f g : ℕ → Frame) {known : Option (List ℕ)} {bytes : List ℕ} {old new : Standing State} {s s' : S} → Agree n f g → (x : Fed j (took_with f took) known bytes old new s s') → AreOf n x.goes.calls → Fed j (took_with g took) known bytes old new s s'
+fed-agree took n f g a x o = record { fed = x.fed; left = x.left; known_is = x.known_is; whole = x.whole; goes = goes-agree took n f g a x.goes o }
+
+module _ {S : Type 0} {mode : Mode} {took : S → List Call → Type 0} {frames : ℕ → Frame} {old : Standing History} where
+  -- two steps
+  pub on-both : {mid split : Splitting} {first state : State} {piece left last : List ℕ} {s0 s1 s2 : S} (a : GoesOn mode took frames old mid first piece left s0 s1) → GoesOn mode took a.made (behind mid a.after) split state left last s1 s2 → GoesOn mode took frames old split state piece last s0 s2
+  unfolding goes-both goes-agree
+  on-both a b =
+      let l : ended_in a.after ≤ ended_in b.after = b.grows in
+      record {
+        made = b.made;
+        same = agree-both (ended_in old.state) (ended_in a.after) frames a.made b.made a.same a.grows b.same;
+        after = b.after;
+        grows = less-both (ended_in old.state) (ended_in a.after) (ended_in b.after) a.grows l;
+        keeps = b.keeps;
+        goes = goes-both (goes-agree took (ended_in a.after) a.made b.made b.same a.goes a.of) b.goes;
+        of = of-both (ended_in b.after) a.goes.calls b.goes.calls (of-more (ended_in a.after) (ended_in b.after) a.goes.calls l a.of) b.of;
+      }
+
+  -- a step, and then a stop
+  pub on-stops : {mid : Splitting} {first : State} {failures : S → ℕ} {piece left : List ℕ} {s0 s1 s2 : S} {stop : Stop} (a : GoesOn mode took frames old mid first piece left s0 s1) → failures s1 ≡ failures s0 → StopsOn mode took failures a.made (behind mid a.after) left s1 s2 stop → StopsOn mode took failures frames old piece s0 s2 stop
+  on-stops {mid} {failures} {piece} {left} {s0} {s1} {s2} {stop} a k b = record {
+    made = b.made;
+    same = agree-both (ended_in old.state) (ended_in a.after) frames a.made b.made a.same a.grows b.same;
+    stops = stops-after (judging mode) (took_with b.made took) failures old (behind mid a.after) piece left s0 s1 s2 stop (goes-agree took (ended_in a.after) a.made b.made b.same a.goes a.of) k b.stops;
+  }
+
+-- two pieces, one after another, are as one
+pub on-then : {S : Type 0} {mode : Mode} {took : S → List Call → Type 0} {frames : ℕ → Frame} {old : Standing History} {mid split : Splitting} {first state : State} {a b : List ℕ} {s0 s1 s2 : S} (f : GoesOn mode took frames old mid first a [] s0 s1) → GoesOn mode took f.made (behind mid f.after) split state b [] s1 s2 → GoesOn mode took frames old split state (a ++ b) [] s0 s2
+unfolding goes-more
+on-then {mode} {took} {frames} {old} {mid} {first} {a} {b} {s0} {s1} f g =
+    let more : GoesOn mode took frames old mid first (a ++ b) b s0 s1 = record { made = f.made; same = f.same; after = f.after; grows = f.grows; keeps = f.keeps; goes = goes-more b f.goes; of = f.of } in
+    on-both more g
+
+-- no step yet
+pub on-none : {S : Type 0} (mode : Mode) (took : S → List Call → Type 0) (frames : ℕ → Frame) (split : Splitting) (before : History) (state : State) (piece : List ℕ) (s : S) → Keeps mode frames before state → GoesOn mode took frames (behind split before) split state piece piece s s
+unfolding goes-none
+on-none mode took frames split before state piece s k = record { made = frames; same = agree-none (ended_in before) frames; after = before; grows = not-less (ended_in before); keeps = k; goes = goes-none (judging mode) (took_with frames took) (behind split before) piece s; of = tt }
+
+-- no unit has come yet
+pub on-push : {S : Type 0} (mode : Mode) (took : S → List Call → Type 0) (frames : ℕ → Frame) (before : History) (state : State) (s : S) {old mid new : Splitting} {piece : List ℕ} {n : ℕ} → Pushed old mid piece n → new ≡ mid → Keeps mode frames before state → GoesOn mode took frames (behind old before) new state piece (drop n piece) s s
+unfolding goes-none-taken goes-push
+on-push mode took frames before state s {old} {mid} {new} {piece} {n} p e k = record { made = frames; same = agree-none (ended_in before) frames; after = before; grows = not-less (ended_in before); keeps = k; goes = goes-none-taken (judging mode) (took_with frames took) old mid new before piece n s p e; of = tt }
+
+-- a unit
+pub on-unit : {S X : Type 0} {mode : Mode} {took : S → List Call → Type 0} {failures : S → ℕ} {frames : ℕ → Frame} {before : History} {unit : NalUnit} {state : State} {s s' : S} {x : X} {old mid new : Splitting} {piece : List ℕ} {n : ℕ} → Pushed old mid piece n → Taken mid new unit → IsFalse mid.ended → Turns mode took failures frames before unit state s s' (Ok x) → GoesOn mode took frames (behind old before) new state piece (drop n piece) s s'
+unfolding goes-both goes-push goes-unit
+on-unit {X} {mode} {took} {failures} {frames} {before} {unit} {s} {s'} {x} {old} {mid} {new} {piece} {n} p t live turn =
+    let grows = unit-grows mode before turn.after unit turn.plays.plays.0 in
+    record {
+      made = turn.made;
+      same = turn.same;
+      after = turn.after;
+      grows = grows.0;
+      keeps = turn.keeps;
+      goes = goes-both (goes-push (judging mode) (took_with turn.made took) old mid before piece n s p) (goes-unit (judging mode) (took_with turn.made took) failures (λ (y : X). turn.after) mid new before unit (drop n piece) s s' x t live turn.plays);
+      of = grows.1;
+    }
+
+-- there are units and frames of which it is kept
+pub on-keeps : {S : Type 0} {mode : Mode} {took : S → List Call → Type 0} {frames : ℕ → Frame} {old : Standing History} {split : Splitting} {state : State} {piece left : List ℕ} {s s' : S} → GoesOn mode took frames old split state piece left s s' → KeepsSome mode false state
+on-keeps g = record { frames = g.made; before = g.after; keeps = g.keeps }
+
+-- ---- the end of the input
+
+-- a unit, and then the end
+pub finishes-both : {S X : Type 0} {mode : Mode} {took : S → List Call → Type 0} {failures : S → ℕ} {frames : ℕ → Frame} {before : History} {unit : NalUnit} {state : State} {bit : ℕ} {s s' s'' : S} {x : X} {r : Result Summary Stop} (old mid new : Splitting) (end : ℕ) → Finished old mid → Taken mid new unit → end ≡ new.at + length new.rest → bit ≡ 8 * end → (t : Turns mode took failures frames before unit state s s' (Ok x)) → EndsAll mode took failures t.made t.after bit (λ (y : Summary). y) s' s'' r → FinishesOn mode took failures frames (behind old before) s s'' r
+finishes-both {X} {mode} {took} {failures} {frames} {before} {unit} {s} {s'} {s''} {x} {r} old mid new end f t n e turn last =
+    let grows = unit-grows mode before turn.after unit turn.plays.plays.0 in
+    let first : Plays (took_with last.made took) failures (λ (y : X). turn.after) (unit_outcome mode before unit) s s' (Ok x) = plays-agree took (ended_in turn.after) turn.made last.made failures (λ (y : X). turn.after) (unit_outcome mode before unit) s s' (Ok x) last.same grows.1 turn.plays in
+    let ends : Plays (took_with last.made took) failures (λ (y : Summary). y) (end_outcome mode turn.after (8 * end)) s' s'' r = subst (λ (b : ℕ). Plays (took_with last.made took) failures (λ (y : Summary). y) (end_outcome mode turn.after b) s' s'' r) e last.plays in
+    record {
+      made = last.made;
+      same = agree-both (ended_in before) (ended_in turn.after) frames turn.made last.made turn.same grows.0 last.same;
+      finishes = finish-unit (judging mode) (took_with last.made took) failures (λ (y : X). turn.after) old mid new before unit s s' s'' end x r f t first n ends;
+    }

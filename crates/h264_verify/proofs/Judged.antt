@@ -1,0 +1,104 @@
+-- A slice is judged: what comes to pass, one part after another.
+use Rattle.std.proofs.Common.{◌≡◌, ℕ, ◌*◌, Bool, true, false, List, [], Option, Some, Result, Ok, Err, refl, sym, ◌∙◌, subst, if◌then◌else◌}
+use Rattle.h264_base.specs.declared.mode.Mode.{Mode}
+use Rattle.h264_base.specs.declared.mode.Mode.TheVariants as modes
+use Rattle.h264_base.specs.declared.stop.Stop.{Stop}
+use Rattle.h264_units.specs.Stream.{NalUnit}
+use Rattle.h264_sps.specs.declared.sps.Sps.{Sps}
+use Rattle.h264_pps.specs.declared.Pps.{Pps}
+use Rattle.h264_picture.specs.Buffer.{buffer_size}
+use Rattle.h264_sets.specs.Sets.{Maps}
+use Rattle.h264_header.specs.declared.header.Header.{Header}
+use Rattle.h264_header.specs.Layout.{sets_of}
+use Rattle.h264_plane.specs.declared.frame.Frame.{Frame}
+use Rattle.h264_dpb.specs.Ending.{ended_of}
+use Rattle.h264_verify.specs.declared.decoder.Decoder.{Decoder}
+use Rattle.h264_verify.specs.declared.slices.Slices.{Slices}
+use Rattle.h264_verify.specs.Telling.{Told, Said}
+use Rattle.h264_verify.specs.Outcome.{Outcome, ◌>>=◌, answers, tells, Plays}
+use Rattle.h264_verify.specs.Demands.{judged}
+use Rattle.h264_verify.specs.History.{History, maps_of}
+use Rattle.h264_verify.specs.Closing.{whole_steps}
+use Rattle.h264_verify.specs.Buffering.{closing_frames, ended_picture, frame_count}
+use Rattle.h264_verify.specs.UnitOutcome.{steps_outcome}
+use Rattle.h264_verify.specs.Slices.{first_mb_demands, is_idr_due, slice_call, slice_steps}
+use Rattle.h264_verify.specs.Pictures.{CodedSlice, CodedPicture, with_sets, open_of, begins_after, begins_at, joined_to, runs_of, closing_demands}
+use Rattle.h264_verify.specs.Keeping.{KeepsDecoder, HoldsData, HoldsBefore, Entered, standing_demands, slice_rules, coded_before}
+use Rattle.h264_verify.proofs.Playing.{plays-on, plays-stops}
+use Rattle.h264_verify.proofs.Slicing.{refused, err-named, own_steps, behind-end, at-standing, at-place, behind-place}
+use Rattle.h264_verify.proofs.Joining.{data-held, holds-newest}
+
+module _ {S : Type 0} (took : S → List Told → Type 0) (failures : S → ℕ) (mode : Mode) (before : History) (unit : NalUnit) (h : Header) (begins : Bool) (b : begins ≡ begins_at before h) where
+  abbrev PlaysOf : Outcome (Unit {0}) → S → S → Result (Unit {0}) Stop → Type 0
+  PlaysOf o s s' r = Plays took failures (λ (x : Unit {0}). x) o s s' r
+
+  abbrev own : Outcome (Unit {0})
+  own = steps_outcome (own_steps mode before unit h begins b)
+
+  -- behind the picture before it
+  module _ (told : Unit {0}) (whole : answers (Ok told) ≡ steps_outcome (if begins then whole_steps mode before else [])) (closed : Unit {0}) (ends : Ok closed ≡ judged (if begins then closing_demands before else [])) where
+    abbrev frames_first : Outcome (Unit {0})
+    frames_first = steps_outcome (if begins then closing_frames mode before else [])
+
+    pub frames-stop : (s s' : S) (e : Stop) → PlaysOf frames_first s s' (Err e) → PlaysOf (steps_outcome (slice_steps mode before unit h)) s s' (Err e)
+    frames-stop s s' e p = subst (λ (o : Outcome (Unit {0})). PlaysOf o s s' (Err e)) (sym (behind-end mode before unit h begins b told whole closed ends)) (plays-stops took failures (λ (x : Unit {0}). x) (λ (x : Unit {0}). x) frames_first (λ _. own) s s' e p)
+
+    pub frames-on : (s0 s1 s2 : S) (x : Unit {0}) (r : Result (Unit {0}) Stop) → PlaysOf frames_first s0 s1 (Ok x) → PlaysOf own s1 s2 r → PlaysOf (steps_outcome (slice_steps mode before unit h)) s0 s2 r
+    frames-on s0 s1 s2 x r p q = subst (λ (o : Outcome (Unit {0})). PlaysOf o s0 s2 r) (sym (behind-end mode before unit h begins b told whole closed ends)) (plays-on took failures (λ (x : Unit {0}). x) (λ (x : Unit {0}). x) frames_first (λ _. own) s0 s1 s2 x r p q)
+
+  -- its own rules, and that it is told
+  module _ (due : Bool) (maps : Maps) (due-is : due ≡ is_idr_due before) (maps-are : maps ≡ maps_of before) (sets : Pps × Sps) (named : sets_of maps h.pic_parameter_set_id.value ≡ Some sets) where
+    abbrev slice : CodedSlice
+    slice = with_sets unit h [] sets
+
+    pub standing-stop : (s : S) (e : Stop) → (let r : Result (Unit {0}) Stop = Err e in r ≡ judged (standing_demands begins sets.1 due maps (8 * unit.from) h)) → PlaysOf own s s (Err e)
+    standing-stop s e p = refused took failures (own_steps mode before unit h begins b) s e (at-standing mode before unit h begins b due maps due-is maps-are sets named e p) (err-named (standing_demands begins sets.1 due maps (8 * unit.from) h) e (sym p))
+
+    module _ (x : Unit {0}) (stands : Ok x ≡ judged (standing_demands begins sets.1 due maps (8 * unit.from) h)) where
+      pub place-stop : (s : S) (e : Stop) → (let r : Result (Unit {0}) Stop = Err e in r ≡ judged (first_mb_demands mode (coded_before begins (runs_of before)) h)) → PlaysOf own s s (Err e)
+      place-stop s e p = refused took failures (own_steps mode before unit h begins b) s e (at-place mode before unit h begins b due maps due-is maps-are sets named x stands e p) (err-named (first_mb_demands mode (coded_before begins (runs_of before)) h) e (sym p))
+
+      module _ (y : Unit {0}) (placed : Ok y ≡ judged (first_mb_demands mode (coded_before begins (runs_of before)) h)) where
+        abbrev own_rules : Outcome (Unit {0})
+        own_rules = steps_outcome (slice_rules mode begins (runs_of before) slice)
+
+        abbrev is_told : Outcome (Unit {0})
+        is_told = tells (Said (slice_call (joined_to begins slice (runs_of before)) slice))
+
+        own-is : own ≡ (own_rules >>= λ _. is_told)
+        own-is = behind-place mode before unit h begins b due maps due-is maps-are sets named x stands y placed
+
+        pub own-stop : (s s' : S) (e : Stop) → PlaysOf own_rules s s' (Err e) → PlaysOf own s s' (Err e)
+        own-stop s s' e p = subst (λ (o : Outcome (Unit {0})). PlaysOf o s s' (Err e)) (sym own-is) (plays-stops took failures (λ (x : Unit {0}). x) (λ (x : Unit {0}). x) own_rules (λ _. is_told) s s' e p)
+
+        pub own-on : (s0 s1 s2 : S) (z : Unit {0}) (r : Result (Unit {0}) Stop) → PlaysOf own_rules s0 s1 (Ok z) → PlaysOf is_told s1 s2 r → PlaysOf own s0 s2 r
+        own-on s0 s1 s2 z r p q = subst (λ (o : Outcome (Unit {0})). PlaysOf o s0 s2 r) (sym own-is) (plays-on took failures (λ (x : Unit {0}). x) (λ (x : Unit {0}). x) own_rules (λ _. is_told) s0 s1 s2 z r p q)
+
+-- the macroblocks of its picture before it
+held-on : (mode : Mode) (frames : ℕ → Frame) (on : Bool) (pictures : List CodedPicture) (h : Header) (d : Decoder) → (let begins : Bool = false in begins ≡ begins_after (open_of on pictures) h) → KeepsDecoder mode frames on false pictures d → HoldsBefore mode false pictures d.work
+unfolding KeepsDecoder HoldsBefore HoldsData
+held-on modes.Units frames on pictures h d b k = tt
+held-on modes.Headers frames on pictures h d b k = tt
+held-on modes.Full frames on pictures h d b k = holds-newest on pictures h false d.work b (data-held modes.Full frames on pictures d k)
+
+held-new : (mode : Mode) (pictures : List CodedPicture) (d : Decoder) → HoldsBefore mode true pictures d.work
+unfolding HoldsBefore
+held-new modes.Units pictures d = tt
+held-new modes.Headers pictures d = tt
+held-new modes.Full pictures d = tt
+
+pub before-held : (mode : Mode) (frames : ℕ → Frame) (on begins : Bool) (pictures : List CodedPicture) (h : Header) (d : Decoder) → begins ≡ begins_after (open_of on pictures) h → KeepsDecoder mode frames on begins pictures d → HoldsBefore mode begins pictures d.work
+before-held mode frames on true pictures h d b k = held-new mode pictures d
+before-held mode frames on false pictures h d b k = held-on mode frames on pictures h d b k
+
+-- what the buffer is told of its picture, where it begins one
+pub ended-is : (before : History) (begins : Bool) (slice : CodedSlice) (slices : Slices) → Entered before begins slice slices → begins ≡ true → ended_of slice.sps slice.header slices.pictures (frame_count slices.count) (buffer_size slice.sps) ≡ ended_picture (record { first = slice; later = [] }) (runs_of before)
+ended-is before true slice slices e b = rw (e.pictures_are, e.count) refl
+ended-is before false slice slices e b = cc
+
+-- a slice has one pair of sets
+pub one-pair : (o : Option (Pps × Sps)) (x y : Pps × Sps) → o ≡ Some x → o ≡ Some y → x ≡ y
+one-pair o x y e f = by (sym e ∙ f)
+  where
+    by : Some x ≡ Some y → x ≡ y
+    by e = cc

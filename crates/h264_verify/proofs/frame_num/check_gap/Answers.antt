@@ -1,0 +1,61 @@
+use Rattle.std.proofs.Common.{◌∙◌, [], ◌∷◌, ◌++◌}
+use Rattle.std.proofs.lemmas.Result.{err_from_is_err_and}
+use Rattle.h264_header.specs.Picture.{is_idr, is_reference}
+use Rattle.h264_marking.specs.Gaps.{unused_short_term_frame_nums}
+use Rattle.h264_marking.specs.Ended.{numbering_of}
+use Rattle.h264_verify.specs.Telling.{took_with}
+use Rattle.h264_verify.specs.Steps.{needs}
+use Rattle.h264_verify.specs.Buffering.{missing_steps}
+use Rattle.h264_verify.specs.Slices.{gap_demand, new_num_demand}
+use Rattle.h264_verify.proofs.Missing.{new-filled}
+use Rattle.h264_verify.proofs.Stepwise.{rules-play, rules-stop, rules-on, steps-stop, steps-on}
+use Rattle.h264_verify.proofs.frame_num.check_gap.Goals as goal
+
+pub returns-in_err-check_missing-clause-plays : goal.returns-in_err-check_missing-clause-plays
+returns-in_err-check_missing-clause-plays g c =
+    let p = err_from_is_err_and c.from_residual.result c.from_residual.ensures.1 in
+    rw (p.1, p.2) (λ frames t next k.
+    let n = numbering_of c.args.sps.now c.args.header.now in
+    let idr = is_idr c.args.header.now in
+    let bit = c.args.header.now.frame_num.bit in
+    let prev = c.args.prev_ref_frame_num.now in
+    rules-stop (took_with frames g.S.Elements.took) g.S.Elements.failures (gap_demand idr c.args.sps.now.gaps_in_frame_num_value_allowed_flag bit prev n ∷ []) (missing_steps c.args.mode bit n (unused_short_term_frame_nums idr prev n) c.args.held.now t.buffer ++ needs (new_num_demand idr (is_reference c.args.header.now) bit prev n c.args.held.now ∷ [])) c.args.sink.now _ (rw (c.gap_before-gap.ensures, c.numbering_of-numbering.ensures, c.is_some-idr.ensures) at c.in_err-check_missing.ensures))
+
+pub returns-in_err-last-clause-plays : goal.returns-in_err-last-clause-plays
+returns-in_err-last-clause-plays g c =
+    let p = err_from_is_err_and c.from_residual-in_err-last.result c.from_residual-in_err-last.ensures.1 in
+    rw (p.1, p.2) (λ frames t next k.
+    let n = numbering_of c.args.sps.now c.args.header.now in
+    let idr = is_idr c.args.header.now in
+    let bit = c.args.header.now.frame_num.bit in
+    let prev = c.args.prev_ref_frame_num.now in
+    let missing = missing_steps c.args.mode bit n (unused_short_term_frame_nums idr prev n) c.args.held.now t.buffer in
+    let new = needs (new_num_demand idr (is_reference c.args.header.now) bit prev n c.args.held.now ∷ []) in
+    rules-on (took_with frames g.S.Elements.took) g.S.Elements.failures (gap_demand idr c.args.sps.now.gaps_in_frame_num_value_allowed_flag bit prev n ∷ []) (missing ++ new) c.args.sink.now _ _ _ (rw (c.gap_before-gap.ensures, c.numbering_of-numbering.ensures, c.is_some-idr.ensures) at c.in_ok-check_missing.ensures)
+    (steps-stop (took_with frames g.S.Elements.took) g.S.Elements.failures (λ _. tt) missing new _ _ _ ((rw (c.gap_before-gap.ensures, c.numbering_of-numbering.ensures, c.is_some-idr.ensures) at c.in_err-last.ensures.plays) frames t next k)))
+
+pub returns-in_err-check_new-clause-plays : goal.returns-in_err-check_new-clause-plays
+returns-in_err-check_new-clause-plays g c =
+    let p = err_from_is_err_and c.from_residual-in_err-check_new.result c.from_residual-in_err-check_new.ensures.1 in
+    rw (p.1, p.2) (λ frames t next k.
+    let n = numbering_of c.args.sps.now c.args.header.now in
+    let idr = is_idr c.args.header.now in
+    let bit = c.args.header.now.frame_num.bit in
+    let prev = c.args.prev_ref_frame_num.now in
+    let missing = missing_steps c.args.mode bit n (unused_short_term_frame_nums idr prev n) c.args.held.now t.buffer in
+    let new = new_num_demand idr (is_reference c.args.header.now) bit prev n c.args.held.now ∷ [] in
+    rules-on (took_with frames g.S.Elements.took) g.S.Elements.failures (gap_demand idr c.args.sps.now.gaps_in_frame_num_value_allowed_flag bit prev n ∷ []) (missing ++ needs new) c.args.sink.now _ _ _ (rw (c.gap_before-gap.ensures, c.numbering_of-numbering.ensures, c.is_some-idr.ensures) at c.in_ok-check_missing.ensures)
+    (steps-on (took_with frames g.S.Elements.took) g.S.Elements.failures (λ _. tt) missing (needs new) _ _ _ _ _ ((rw (c.gap_before-gap.ensures, c.numbering_of-numbering.ensures, c.is_some-idr.ensures) at c.in_ok-last.ensures.plays) frames t next k)
+    (rules-play (took_with frames g.S.Elements.took) g.S.Elements.failures new _ _ ((rw (c.numbering_of-numbering.ensures, c.is_some-idr.ensures) at c.in_err-check_new.ensures) ∙ new-filled idr (is_reference c.args.header.now) bit prev n c.args.held.now _ (rw (c.gap_before-gap.ensures, c.numbering_of-numbering.ensures, c.is_some-idr.ensures) at c.in_ok-last.ensures.held)))))
+
+pub returns-clause-plays : goal.returns-clause-plays
+returns-clause-plays g c = λ frames t next k.
+    let n = numbering_of c.args.sps.now c.args.header.now in
+    let idr = is_idr c.args.header.now in
+    let bit = c.args.header.now.frame_num.bit in
+    let prev = c.args.prev_ref_frame_num.now in
+    let missing = missing_steps c.args.mode bit n (unused_short_term_frame_nums idr prev n) c.args.held.now t.buffer in
+    let new = new_num_demand idr (is_reference c.args.header.now) bit prev n c.args.held.now ∷ [] in
+    rules-on (took_with frames g.S.Elements.took) g.S.Elements.failures (gap_demand idr c.args.sps.now.gaps_in_frame_num_value_allowed_flag bit prev n ∷ []) (missing ++ needs new) c.args.sink.now _ _ _ (rw (c.gap_before-gap.ensures, c.numbering_of-numbering.ensures, c.is_some-idr.ensures) at c.in_ok-check_missing.ensures)
+    (steps-on (took_with frames g.S.Elements.took) g.S.Elements.failures (λ _. tt) missing (needs new) _ _ _ _ _ ((rw (c.gap_before-gap.ensures, c.numbering_of-numbering.ensures, c.is_some-idr.ensures) at c.in_ok-last.ensures.plays) frames t next k)
+    (rules-play (took_with frames g.S.Elements.took) g.S.Elements.failures new _ _ ((rw (c.numbering_of-numbering.ensures, c.is_some-idr.ensures) at c.in_ok-check_new.ensures) ∙ new-filled idr (is_reference c.args.header.now) bit prev n c.args.held.now _ (rw (c.gap_before-gap.ensures, c.numbering_of-numbering.ensures, c.is_some-idr.ensures) at c.in_ok-last.ensures.held))))
