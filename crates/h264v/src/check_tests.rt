@@ -108,6 +108,111 @@ const SLICE_DATA: [Case; 14] = [
     },
 ];
 
+/// Rules that units, headers and their order break, and vectors.
+const RULES: [Case; 12] = [
+    Case {
+        name: "gap that is not allowed",
+        stream: "000000016742c00ada710000000168ce388000000165888493c0000001619a42a0",
+        text: "no: bit 247: FrameNum (clause 7.4.3)\n",
+        status: 1,
+    },
+    Case {
+        name: "number of the picture before",
+        stream: "000000016742c00ada710000000168ce388000000165888493c0000001619a02a0",
+        text: "no: bit 247: FrameNum (clause 7.4.3)\n",
+        status: 1,
+    },
+    Case {
+        name: "frame too large",
+        stream: "000000016742c00ada0c1310",
+        text: "no: bit 80: FrameSize (clause A.3)\n",
+        status: 1,
+    },
+    Case {
+        name: "set without a picture",
+        stream: "000000016742c00ada0b1310",
+        text: "no: bit 96: NoPicture (clause 7.4.1)\n",
+        status: 1,
+    },
+    // No IDR picture comes before.
+    Case {
+        name: "first picture",
+        stream: "000000016742c00ada710000000168ce3880000001619a22a0",
+        text: "no: bit 168: FirstPicture (clause 7.4.1)\n",
+        status: 1,
+    },
+    Case {
+        name: "absent frame marked",
+        stream: "000000016742c00ada710000000168ce388000000165888493c0000001619a252d40",
+        text: "no: bit 254: MarkCommand (clause 8.2.5)\n",
+        status: 1,
+    },
+    // 1, 2 and 3 are missing, and the IDR picture is let go.
+    Case {
+        name: "missing frames alone",
+        stream: "000000016742c00adbf10000000168ce388000000165888493c0000001619a82a0",
+        text: "no: bit 255: NoReference (clause 8.4.2)\n",
+        status: 1,
+    },
+    // ref_idx_l0 is 0.
+    Case {
+        name: "missing frame referred to",
+        stream: "000000016742c00adbf10000000168ce388000000165888493c0000001619a547f80",
+        text: "no: bit 260: NoReference (clause 8.4.2)\n",
+        status: 1,
+    },
+    Case {
+        name: "level 6",
+        stream: "000000016742c03cda71",
+        text: "outside: bit 56: Level6\n",
+        status: 2,
+    },
+    Case {
+        name: "buffer below the references",
+        stream: "000000016742c00ada7201e306700000000168ce388000000165888493c0",
+        text: "no: bit 106: Vui (clause E.2)\n",
+        status: 1,
+    },
+    // 256 quarter samples down at level 1.
+    Case {
+        name: "vector too long",
+        stream: "000000016742c00ada710000000168ce388000000165888493c0000001619a23c01006",
+        text: "no: bit 256: VectorRange (clause A.3)\n",
+        status: 1,
+    },
+    Case {
+        name: "absent frame in a list",
+        stream: "000000016742c00ada710000000168ce388000000165888493c0000001619a2d1150",
+        text: "no: bit 253: ListCommand (clause 8.2.4)\n",
+        status: 1,
+    },
+];
+
+/// The stream of one frame, 18 bytes of parameter sets in front.
+pub const ONE_FRAME: &[u8] = &[
+    0x00, 0x00, 0x00, 0x01, 0x67, 0x42, 0xC0, 0x0A, 0xDA, 0x71, 0x00, 0x00, 0x00, 0x01, 0x68, 0xCE,
+    0x38, 0x80, 0x00, 0x00, 0x01, 0x65, 0x88, 0x84, 0x93, 0xC0,
+];
+
+/// Each front of it breaks a rule behind its last byte.
+fn fronts_of_one_frame(rt: &(impl Abort + AllocGlobal)) -> Result<(), Fail> {
+    for length in 0..ONE_FRAME.len() {
+        let answer = answer_of(rt.alloc(), "check", whole(&ONE_FRAME[..length]), usize::MAX)?;
+        let rule = match length {
+            4 | 14 | 21 => "EmptyUnit (clause B.1)",
+            5..=9 | 15 | 16 | 22..=24 => "CodeWord (clause 9.1)",
+            17 => "Trailing (clause 7.3.2)",
+            25 => "ResidualWord (clause 9.2)",
+            _ => "NoPicture (clause 7.4.1)",
+        };
+        let bit = 8 * length;
+        let end = format!(in rt.alloc(); "no: bit {bit}: {rule}\n")?;
+        assert!(rt; answer.text.as_str().ends_with(end.as_str()), "{length}");
+        assert_eq!(rt; answer.status, 1);
+    }
+    Ok(())
+}
+
 /// Parameter sets, and the first bytes of a picture whose macroblock is I_PCM.
 const PCM: &[u8] = &[
     0x00, 0x00, 0x00, 0x01, 0x67, 0x42, 0xC0, 0x0A, 0xDA, 0x71, 0x00, 0x00, 0x00, 0x01, 0x68, 0xCE,
@@ -165,6 +270,8 @@ fn last_elements(rt: &(impl Abort + AllocGlobal)) -> Result<(), Fail> {
 #[test]
 fn slice_data(rt: HostRuntime) -> Result<(), Fail> {
     check_cases(&rt, "check", &SLICE_DATA)?;
+    check_cases(&rt, "check", &RULES)?;
     last_elements(&rt)?;
+    fronts_of_one_frame(&rt)?;
     samples(&rt)
 }

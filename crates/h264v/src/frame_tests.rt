@@ -52,6 +52,143 @@ const FRAMES: [Case; 6] = [
     },
 ];
 
+/// Streams whose frames are known sample by sample, from the equations of prediction and of the filter.
+const COMPUTED: [Case; 20] = [
+    // The inner edge at column 20 changes what the edge at 16 wrote.
+    Case {
+        name: "wide frame",
+        stream: "000000016742c00ada2c400000000168ce388000000165888493931438",
+        text: "frame 0 count 0 32x16 md5 9d66341b49e6f1d7c1d7bfff806aa2f1\nyes: units 3 pictures 1 frames 1\n",
+        status: 0,
+    },
+    // A vector of 64 quarter samples, and a skipped macroblock with the vector before it.
+    Case {
+        name: "wide frames",
+        stream: "000000016742c00ada2c400000000168ce388000000165888493931438000001619a238080d4",
+        text: "frame 0 count 0 32x16 md5 9d66341b49e6f1d7c1d7bfff806aa2f1\nframe 1 count 2 32x16 md5 fcc4379b95970020e6550b2d99f350e7\nyes: units 4 pictures 2 frames 2\n",
+        status: 0,
+    },
+    // Two active references, of which one is held; ref_idx_l0 is 0.
+    Case {
+        name: "second of two references",
+        stream: "000000016742c00ada710000000168ce388000000165888493c0000001619a347f80",
+        text: "frame 0 count 0 16x16 md5 02b5d5d5ba2a5de00017b31c40c527bc\nframe 1 count 2 16x16 md5 02b5d5d5ba2a5de00017b31c40c527bc\nyes: units 4 pictures 2 frames 2\n",
+        status: 0,
+    },
+    // Operation 1 on the IDR picture.
+    Case {
+        name: "held frame marked unused",
+        stream: "000000016742c00ada710000000168ce388000000165888493c0000001619a2575",
+        text: "frame 0 count 0 16x16 md5 02b5d5d5ba2a5de00017b31c40c527bc\nframe 1 count 2 16x16 md5 02b5d5d5ba2a5de00017b31c40c527bc\nyes: units 4 pictures 2 frames 2\n",
+        status: 0,
+    },
+    // A long-term frame is made, and let go.
+    Case {
+        name: "operations 4, 3, 2",
+        stream: "000000016742c00ada710000000168ce388000000165888493c0000001619a24a89bea",
+        text: "frame 0 count 0 16x16 md5 02b5d5d5ba2a5de00017b31c40c527bc\nframe 1 count 2 16x16 md5 02b5d5d5ba2a5de00017b31c40c527bc\nyes: units 4 pictures 2 frames 2\n",
+        status: 0,
+    },
+    // Counts 0, 8, 4 in decoding order.
+    Case {
+        name: "buffer of one frame",
+        stream: "000000016742c00af4e403f4a00000000168ce3880000001658884093c000001019a3054000001019a2854",
+        text: "frame 0 count 0 16x16 md5 02b5d5d5ba2a5de00017b31c40c527bc\nframe 1 count 8 16x16 md5 02b5d5d5ba2a5de00017b31c40c527bc\nframe 2 count 4 16x16 md5 02b5d5d5ba2a5de00017b31c40c527bc\nyes: units 5 pictures 3 frames 3\n",
+        status: 0,
+    },
+    // The same with a frame more.
+    Case {
+        name: "buffer of two frames",
+        stream: "000000016742c00af4e403f4e00000000168ce3880000001658884093c000001019a3054000001019a2854",
+        text: "frame 0 count 0 16x16 md5 02b5d5d5ba2a5de00017b31c40c527bc\nframe 1 count 4 16x16 md5 02b5d5d5ba2a5de00017b31c40c527bc\nframe 2 count 8 16x16 md5 02b5d5d5ba2a5de00017b31c40c527bc\nyes: units 5 pictures 3 frames 3\n",
+        status: 0,
+    },
+    Case {
+        name: "intra pictures, buffer of one frame",
+        stream: "000000016742c00af4e403f4a00000000168ce3880000001658884093c00000101888c49e000000101888a49e0",
+        text: "frame 0 count 0 16x16 md5 02b5d5d5ba2a5de00017b31c40c527bc\nframe 1 count 8 16x16 md5 02b5d5d5ba2a5de00017b31c40c527bc\nframe 2 count 4 16x16 md5 02b5d5d5ba2a5de00017b31c40c527bc\nyes: units 5 pictures 3 frames 3\n",
+        status: 0,
+    },
+    Case {
+        name: "intra pictures, buffer of two frames",
+        stream: "000000016742c00af4e403f4e00000000168ce3880000001658884093c00000101888c49e000000101888a49e0",
+        text: "frame 0 count 0 16x16 md5 02b5d5d5ba2a5de00017b31c40c527bc\nframe 1 count 4 16x16 md5 02b5d5d5ba2a5de00017b31c40c527bc\nframe 2 count 8 16x16 md5 02b5d5d5ba2a5de00017b31c40c527bc\nyes: units 5 pictures 3 frames 3\n",
+        status: 0,
+    },
+    // 1 is missing, and ref_idx_l0 is 1.
+    Case {
+        name: "reference behind a gap",
+        stream: "000000016742c00adbf10000000168ce388000000165888493c0000001619a547780",
+        text: "frame 0 count 0 16x16 md5 02b5d5d5ba2a5de00017b31c40c527bc\nframe 1 count 4 16x16 md5 02b5d5d5ba2a5de00017b31c40c527bc\nyes: units 4 pictures 2 frames 2\n",
+        status: 0,
+    },
+    // 1, 2 and 3 are missing.
+    Case {
+        name: "intra picture behind a gap",
+        stream: "000000016742c00adbf10000000168ce388000000165888493c00000016188a24f",
+        text: "frame 0 count 0 16x16 md5 02b5d5d5ba2a5de00017b31c40c527bc\nframe 1 count 8 16x16 md5 02b5d5d5ba2a5de00017b31c40c527bc\nyes: units 4 pictures 2 frames 2\n",
+        status: 0,
+    },
+    // 1 is missing once.
+    Case {
+        name: "pictures of one number behind a gap",
+        stream: "000000016742c00adbf10000000168ce388000000165888493c00000010188949e0000016188924f",
+        text: "frame 0 count 0 16x16 md5 02b5d5d5ba2a5de00017b31c40c527bc\nframe 1 count 3 16x16 md5 02b5d5d5ba2a5de00017b31c40c527bc\nframe 2 count 4 16x16 md5 02b5d5d5ba2a5de00017b31c40c527bc\nyes: units 5 pictures 3 frames 3\n",
+        status: 0,
+    },
+    Case {
+        name: "operation 5",
+        stream: "000000016742c00ada710000000168ce388000000165888493c000000161888cd93c",
+        text: "frame 0 count 0 16x16 md5 02b5d5d5ba2a5de00017b31c40c527bc\nframe 1 count 0 16x16 md5 02b5d5d5ba2a5de00017b31c40c527bc\nyes: units 4 pictures 2 frames 2\n",
+        status: 0,
+    },
+    // level_prefix 15.
+    Case {
+        name: "level 17",
+        stream: "000000016742c00ada710000000168ce3880000001658884931400040030",
+        text: "frame 0 count 0 16x16 md5 ac42e7a621a04cff332affb2dfdf370d\nyes: units 3 pictures 1 frames 1\n",
+        status: 0,
+    },
+    // 51 and 1 are 0.
+    Case {
+        name: "quantiser that wraps",
+        stream: "000000016742c00ada710000000168ce38800000016588840644a140004003",
+        text: "frame 0 count 0 16x16 md5 f92ecfd618a814ecb77996a783377282\nyes: units 3 pictures 1 frames 1\n",
+        status: 0,
+    },
+    Case {
+        name: "two idr pictures",
+        stream: "000000016742c00ada710000000168ce388000000165888493c000000165888224f0",
+        text: "frame 0 count 0 16x16 md5 02b5d5d5ba2a5de00017b31c40c527bc\nframe 1 count 0 16x16 md5 02b5d5d5ba2a5de00017b31c40c527bc\nyes: units 4 pictures 2 frames 2\n",
+        status: 0,
+    },
+    Case {
+        name: "buffer of the vui",
+        stream: "000000016742c00ada7201e306540000000168ce388000000165888493c0",
+        text: "frame 0 count 0 16x16 md5 02b5d5d5ba2a5de00017b31c40c527bc\nyes: units 3 pictures 1 frames 1\n",
+        status: 0,
+    },
+    // 255 quarter samples down at level 1.
+    Case {
+        name: "longest vector",
+        stream: "000000016742c00ada710000000168ce388000000165888493c0000001619a23c03fd8",
+        text: "frame 0 count 0 16x16 md5 02b5d5d5ba2a5de00017b31c40c527bc\nframe 1 count 2 16x16 md5 02b5d5d5ba2a5de00017b31c40c527bc\nyes: units 4 pictures 2 frames 2\n",
+        status: 0,
+    },
+    Case {
+        name: "cropped at the right and below",
+        stream: "000000016742c00ada2daa400000000168ce388000000165888493931438",
+        text: "frame 0 count 0 30x14 md5 1e038756176c1fe5deb88d67ed7158b7\nyes: units 3 pictures 1 frames 1\n",
+        status: 0,
+    },
+    Case {
+        name: "cropped on the left and above",
+        stream: "000000016742c00ada2d55400000000168ce388000000165888493931438",
+        text: "frame 0 count 0 30x14 md5 ac43a633c153ee8923aeb3f0caa44ad3\nyes: units 3 pictures 1 frames 1\n",
+        status: 0,
+    },
+];
+
 /// Streams with cropped frames, whose digests other decoders computed.
 const CROPPED: [Case; 2] = [
     // Cropped frames, with missing frame numbers before the second.
@@ -146,6 +283,7 @@ fn each_read_fails(rt: &(impl Abort + AllocGlobal), stream: &[u8]) -> Result<(),
 #[test]
 fn frames(rt: HostRuntime) -> Result<(), Fail> {
     check_cases(&rt, "frames", &FRAMES)?;
+    check_cases(&rt, "frames", &COMPUTED)?;
     cropped(&rt)?;
     let shown = pcm_samples(rt.alloc())?;
     let stream = pcm_stream(rt.alloc())?;

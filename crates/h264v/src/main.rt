@@ -13,6 +13,8 @@ mod frame_tests;
 #[cfg(test)]
 mod header_tests;
 #[cfg(test)]
+mod large_tests;
+#[cfg(test)]
 mod set_tests;
 #[cfg(test)]
 mod stream_tests;

@@ -1,17 +1,13 @@
 //! The program's answers to streams with slices, whole, byte by byte and at every cut, and with each read and each write failing.
 #![tactic(auto)]
 
+use crate::check_tests::ONE_FRAME;
 use crate::tests::{OneFile, answer_of, check, whole};
 use std::process::Abort;
 use std::test::Fail;
 
 /// The lines of the units that each of these streams begins with.
 const SETS: &str = "unit 4 type 7 ref 3 bytes 6\nunit 14 type 8 ref 3 bytes 4\n";
-
-const ONE_FRAME: &[u8] = &[
-    0x00, 0x00, 0x00, 0x01, 0x67, 0x42, 0xC0, 0x0A, 0xDA, 0x71, 0x00, 0x00, 0x00, 0x01, 0x68, 0xCE,
-    0x38, 0x80, 0x00, 0x00, 0x01, 0x65, 0x88, 0x84, 0x93, 0xC0,
-];
 
 /// The second frame is a skipped macroblock.
 const TWO_FRAMES: &[u8] = &[
@@ -121,10 +117,40 @@ fn each_write_fails(rt: &(impl Abort + AllocGlobal)) -> Result<(), Fail> {
     Ok(())
 }
 
+/// The bit that a no names.
+fn bit_of(text: &str) -> Option<usize> {
+    let start = text.rfind("no: bit ")? + 8;
+    let (bit, _) = text[start..].split_once(": ")?;
+    bit.parse::<usize>().ok()
+}
+
+/// Each front of a stream has one answer, whole and byte by byte: a yes, or a no within it.
+fn fronts(rt: &(impl Abort + AllocGlobal)) -> Result<(), Fail> {
+    for bytes in STREAMS {
+        for length in 0..bytes.len() {
+            let front = &bytes[..length];
+            let all = answer_of(rt.alloc(), "check", whole(front), usize::MAX)?;
+            let single = OneFile {
+                bytes: front,
+                first: 1,
+                size: 1,
+                failing: usize::MAX,
+            };
+            let cut = answer_of(rt.alloc(), "check", single, usize::MAX)?;
+            assert_eq!(rt; cut.text.as_str(), all.text.as_str());
+            let text = all.text.as_str();
+            let within = bit_of(text).is_some_and(|bit| bit <= 8 * length);
+            assert!(rt; within || text.starts_with("yes: "), "{length}");
+        }
+    }
+    Ok(())
+}
+
 #[test]
 fn streams_with_slices(rt: HostRuntime) -> Result<(), Fail> {
     two_frames(&rt)?;
-    wide_frames(&rt)
+    wide_frames(&rt)?;
+    fronts(&rt)
 }
 
 #[test]

@@ -2,6 +2,7 @@
 //! and its statuses.
 #![tactic(auto)]
 
+use crate::check_tests::ONE_FRAME;
 use crate::command::{command, not_text};
 use crate::files::Opener;
 use crate::words::words_of;
@@ -404,11 +405,6 @@ const SETS: [Case; 16] = [
         text: "unit 4 type 7 ref 3 bytes 6\nyes: units 1\n",
         status: 0,
     },
-];
-
-const ONE_FRAME: &[u8] = &[
-    0x00, 0x00, 0x00, 0x01, 0x67, 0x42, 0xC0, 0x0A, 0xDA, 0x71, 0x00, 0x00, 0x00, 0x01, 0x68, 0xCE,
-    0x38, 0x80, 0x00, 0x00, 0x01, 0x65, 0x88, 0x84, 0x93, 0xC0,
 ];
 
 /// The bit that each prefix of the stream of one frame breaks a rule at, and the rule; None where it breaks none.
