@@ -1,6 +1,6 @@
 #!/usr/bin/env bash
 # compare.sh [STREAM..]: builds h264v, and prints for each stream the times of `h264v units` and `h264v headers` beside those of `md5sum` and `cat` on the same file:
-# the best of seven runs each, taken in turn, the ratios, and h264v's peak memory. Where ffmpeg is installed its single-threaded decoding time is added.
+# the best of seven runs each, taken in turn, the ratios, and h264v's peak memory. `decoders.sh` compares `check` and `decode` with other decoders.
 # With no STREAM it makes four streams of 100 MB by slices.py, of slices of 100, 250, 1,000 and 5,000 bytes.
 set -eu
 top=$(cd "$(dirname "$0")/.." && pwd)
@@ -15,7 +15,7 @@ if [ $# -eq 0 ]; then
     set -- "$made"/*.264
 fi
 python3 - "$program" "$@" <<'PYTHON'
-import os, shutil, subprocess, sys, time
+import os, subprocess, sys, time
 
 def start(words):
     return subprocess.Popen(words, stdout=subprocess.DEVNULL, stderr=subprocess.DEVNULL)
@@ -47,13 +47,9 @@ def peak(words):
 program, *streams = sys.argv[1:]
 for stream in streams:
     commands = [["md5sum", stream], ["cat", stream], [program, "units", stream], [program, "headers", stream]]
-    if shutil.which("ffmpeg"):
-        commands.append(["ffmpeg", "-threads", "1", "-i", stream, "-f", "null", "-"])
     md5, cat, *ours = best(commands)
     line = f"{stream}: {os.path.getsize(stream)} bytes, md5sum {md5:.3f} s, cat {cat:.3f} s"
     for mode, time_taken in zip(["units", "headers"], ours):
         line += f", h264v {mode} {time_taken:.3f} s: {time_taken / md5:.2f} of md5sum, peak {peak([program, mode, stream])} KB"
-    if len(ours) > 2:
-        line += f", ffmpeg -threads 1 {ours[2]:.3f} s"
     print(line)
 PYTHON
