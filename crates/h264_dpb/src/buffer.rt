@@ -59,6 +59,7 @@ impl Buffer {
         requires small { first + count < 2 ^ 32 }
         ensures free { IfSome result (λ place. (first ≤ place) × (place < first + count) × (is_taken self.now.entries place ≡ false)) }
         ensures some { length self.now.entries < count → IsTrue (is_some result) }
+        ensures first { is_taken self.now.entries first ≡ false → 0 < count → IsTrue (is_some result) }
     {
         free_place(self.entries.as_slice(), first, count)
     }

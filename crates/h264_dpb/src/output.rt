@@ -141,6 +141,7 @@ impl Output {
         requires small { first + count < 2 ^ 32 }
         ensures free { IfSome result (λ place. (first ≤ place) × (place < first + count) × (is_free place self.now ≡ false)) }
         ensures some { (next : ℕ) → IsOrdered next self.now → size_of self.now < count → IsTrue (is_some result) }
+        ensures first { is_free first self.now ≡ false → 0 < count → IsTrue (is_some result) }
     {
         self.buffer.free_place(first, count)
     }
@@ -270,6 +271,7 @@ impl Output {
         requires ready { IsReady (F.lent store.now) self.old }
         requires missing { 0 < missing_in (names held.now) }
         requires few { length held.now.frames ≤ size_of self.old }
+        ensures size { size_of self.new ≡ size_of self.old }
         ensures writes { (frames : ℕ → Frame) (b : Buffered Shown) (written : ℕ) → KeepsBuffer b written self.old → HasFrames frames (F.lent store.now) self.old → Writes S.took S.failures (shown_calls frames (missing_turn held.now b).written) sink.old sink.new result }
         ensures keeps { (b : Buffered Shown) (written : ℕ) → KeepsBuffer b written self.old → OnOk result (KeepsBuffer (missing_turn held.now b).buffer (written + length (missing_turn held.now b).written) self.new) }
         ensures frames { (frames : ℕ → Frame) → HasFrames frames (F.lent store.now) self.old → OnOk result (HasFrames frames (F.lent store.now) self.new) }

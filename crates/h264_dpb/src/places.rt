@@ -22,6 +22,7 @@ pub(crate) fn free_place(entries: &[Entry<Placed>], first: usize, count: usize) 
     requires small { first + count < 2 ^ 32 }
     ensures free { IfSome result (λ place. (first ≤ place) × (place < first + count) × (is_taken entries.now place ≡ false)) }
     ensures some { length entries.now < count → IsTrue (is_some result) }
+    ensures first { is_taken entries.now first ≡ false → 0 < count → IsTrue (is_some result) }
 {
     for place in first..first + count {
         if !is_taken(entries, place) {

@@ -42,6 +42,14 @@ turned base active new p low turn some = by (is_active_place base p) refl
         ap (λ t. if t then lent_in new (p - (17 - base)) else lent_in active (p - (17 - (17 - base)))) o ∙ ap (λ n. lent_in active (p - n)) b ∙ sym (ap (λ t. if t then lent_in active (p - base) else None) e)
     by false e = absurd (some (ap (λ t. if t then lent_in active (p - base) else None) e))
 
+-- and stand at none of the places of the next one
+pub older-place : (base : ℕ) (active : Option Frames) (p : ℕ) → base ≤ 17 → base % 17 ≡ 0 → lent_of base active None p ≢ None → is_active_place (17 - base) p ≡ false
+older-place base active p low turn some = by (is_active_place base p) refl
+  where
+    by : (t : Bool) → is_active_place base p ≡ t → is_active_place (17 - base) p ≡ false
+    by true e = apart base p (turns base low turn) e
+    by false e = absurd (some (ap (λ t. if t then lent_in active (p - base) else None) e))
+
 -- the frame at a place of the active sequence
 pub lent-begun : (base place k : ℕ) (f : Frames) (older : Option Frames) → base + k ≡ place → k < 17 → lent_of base (Some f) older place ≡ lent_within f k
 lent-begun base place k f older e i =

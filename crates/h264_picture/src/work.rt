@@ -44,7 +44,7 @@ fn frames_of(active: Option<Sequence>) -> Option<Frames>
 }
 
 impl Work {
-    ghost use Rattle.std.specs.Prelude.{◌≢◌, ℕ, ◌+◌, ◌-◌, ◌*◌, ◌==◌, ◌<◌, ◌^◌, List, [], length, true, None, Some, OnOk, IfOk, IfErr, IsErrOf};
+    ghost use Rattle.std.specs.Prelude.{◌≢◌, ℕ, ◌+◌, ◌-◌, ◌*◌, ◌==◌, ◌<◌, ◌^◌, List, [], length, true, false, None, Some, OnOk, IfOk, IfErr, IsErrOf};
     ghost use Rattle.h264_base.specs.Meets.{Meets, Answers};
     ghost use Rattle.h264_near.specs.Coded.{CodedMacroblock};
     ghost use Rattle.h264_vectors.specs.Agrees.{Usable};
@@ -76,6 +76,7 @@ impl Work {
         ensures places { OnOk result (places_of self.new ≡ buffer_size sps.now + 1) }
         ensures size { OnOk result (HasSize sps.now.frame_size.width sps.now.frame_size.height self.new) }
         ensures kept { OnOk result (IsReleased self.old → KeepsFrames self.old self.new) }
+        ensures older { OnOk result (IsReleased self.old → (p : ℕ) → lent self.old p ≢ None → is_active_place (first_place self.new) p ≡ false) }
         ensures err { IfErr result (λ e. (e ≡ Stop.Memory) × (self.new ≡ self.old)) }
     {
         let Ok(sequence) = Sequence::new(self.alloc, sps) else {

@@ -2,7 +2,7 @@ use Rattle.std.proofs.Common.{◌≡◌, ap, sym, ◌∙◌, ◌-◌, Option, No
 use Rattle.std.specs.Option.{option_map}
 use Rattle.h264_picture.specs.declared.sequence.Sequence.{Sequence}
 use Rattle.h264_picture.specs.declared.frames.Frames.{Frames}
-use Rattle.h264_picture.proofs.Turns.{turned, lent_of}
+use Rattle.h264_picture.proofs.Turns.{turned, older-place, lent_of}
 use Rattle.h264_picture.proofs.work.Work.activate.Goals as goal
 
 pub returns-clause-size : goal.returns-clause-size
@@ -17,3 +17,10 @@ returns-clause-kept c r p some =
     let before : lent_of base was c.args.self.now.older p ≡ lent_of base was None p = ap (λ (o : Option Frames). lent_of base was o p) r in
     let older : c.frames_of.result ≡ was = c.frames_of.ensures ∙ ap frames c.replace.ensures.value in
     ap (λ (o : Option Frames). lent_of (17 - base) new o p) older ∙ turned base was new p c.args.self.now.within.0 c.args.self.now.within.1 (λ e. some (before ∙ e)) ∙ sym before
+
+pub returns-clause-older : goal.returns-clause-older
+returns-clause-older c r p some =
+    let base = c.args.self.now.base in
+    let was = option_map (λ (s : Sequence). s.frames) c.args.self.now.active in
+    let before : lent_of base was c.args.self.now.older p ≡ lent_of base was None p = ap (λ (o : Option Frames). lent_of base was o p) r in
+    older-place base was p c.args.self.now.within.0 c.args.self.now.within.1 (λ e. some (before ∙ e))
