@@ -5,6 +5,7 @@ use Rattle.h264_plane.specs.declared.frame.Frame.{Frame}
 use Rattle.h264_plane.specs.Frames.{IsFrame, plane_of}
 use Rattle.h264_plane.specs.Samples.{at}
 use Rattle.h264_sps.specs.declared.sps.Sps.{Sps}
+use Rattle.h264_pps.specs.declared.Pps.{Pps}
 use Rattle.h264_sps.specs.declared.sps.FrameCropping.{FrameCropping}
 use Rattle.h264_picture.specs.declared.sequence.Sequence.{Sequence}
 use Rattle.h264_picture.specs.Decoded.{Parameters, IsDecoded as IsDecodedBy}
@@ -73,15 +74,15 @@ module _ (frames : ℕ → Frame) (p : CodedPicture) (ps : List CodedPicture) (d
   abbrev pub making : Making
   making = record { slices = parameters_in (slices_of p) p.first; place = place_by d }
 
-  pub is-making : IsMaking (slices_of p) d making
+  pub is-making : IsMaking p.first.pps.chroma_qp_index_offset (slices_of p) d making
   is-making = record {
-    parameters = each-numbered d.next_number (slices_of p) p.first h.so_far.numbers;
-    offsets = λ n. numbered-one (λ s. (parameters_of s).filter.chroma_qp_index_offset ≡ d.chroma_qp_index_offset) (slices_of p) p.first n (each-last _ p.later p.first offsets) offsets;
+    parameters = each-numbered (length (last_slice p).macroblocks) (slices_of p) p.first h.so_far.numbers;
+    offsets = λ n. numbered-one (λ s. (parameters_of s).filter.chroma_qp_index_offset ≡ p.first.pps.chroma_qp_index_offset) (slices_of p) p.first n (each-last _ p.later p.first offsets) offsets;
     places = λ n. refl;
   }
     where
-      offsets : EachSlice (λ s. (parameters_of s).filter.chroma_qp_index_offset ≡ d.chroma_qp_index_offset) (slices_of p)
-      offsets = each-slice _ _ (slices_of p) (λ s e. offset-of s.pps s.header ∙ e) h.so_far.offsets
+      offsets : EachSlice (λ s. (parameters_of s).filter.chroma_qp_index_offset ≡ p.first.pps.chroma_qp_index_offset) (slices_of p)
+      offsets = each-slice _ _ (slices_of p) (λ s e. offset-of s.pps s.header ∙ ap (λ (x : Pps). x.chroma_qp_index_offset) e) h.so_far.sets
 
   refers-in : (q : Sequence) → d.work.active ≡ Some q → (s : CodedSlice) → HasReferences frames (p ∷ ps) (length ps) d s → Refers frames p ps (place_by d) (setting_of q).reference s
   refers-in q a s e = record {

@@ -8,20 +8,22 @@ use Rattle.h264_header.specs.declared.header.Header.{Header}
 use Rattle.h264_header.specs.Layout.{sets_of}
 use Rattle.h264_header.specs.Picture.{begins_picture, picture_elements}
 use Rattle.h264_poc.specs.Counts.{Keeps as KeepsCounts}
-use Rattle.h264_sets.specs.Sets.{Maps}
+use Rattle.h264_sets.specs.Sets.{Maps, set_at}
+use Rattle.h264_sets.specs.declared.SetPair.{SetPair}
 use Rattle.h264_verify.specs.Content.{Content}
 use Rattle.h264_verify.specs.Content as contents
 use Rattle.h264_verify.specs.declared.judge.State.{State}
 use Rattle.h264_verify.specs.declared.slices.Slices.{Slices}
 use Rattle.h264_verify.specs.declared.picture.OpenPicture.{OpenPicture}
 use Rattle.h264_verify.specs.UnitHeader.{header_of, nal_unit_type}
-use Rattle.h264_verify.specs.History.{History, maps_of}
+use Rattle.h264_verify.specs.History.{History, maps_with, maps_of}
+use Rattle.h264_verify.specs.Sound.{AreSound, has_ended, HasActive, NamesSet}
 use Rattle.h264_base.specs.declared.mode.Mode.{Mode}
 use Rattle.h264_near.specs.Coded.{CodedMacroblock}
 use Rattle.h264_plane.specs.declared.frame.Frame.{Frame}
 use Rattle.h264_verify.specs.declared.decoder.Decoder.{Decoder}
 use Rattle.h264_verify.specs.Keeping.{KeepsDecoder, EndsAt, HoldsEnd, HoldsOpen, IsLeft, Keeps, KeepsWithin, KeepsPictures, KeepsSlices, Entered, held_by, begins_by}
-use Rattle.h264_verify.specs.Pictures.{CodedSlice, CodedPicture, with_sets, goes_on, open_of, begins_after, begins_at, joined_to, joined_by, runs_of, ends_picture, bit_behind, counted}
+use Rattle.h264_verify.specs.Pictures.{CodedSlice, CodedPicture, last_slice, with_sets, goes_on, open_of, begins_after, begins_at, joined_to, joined_by, runs_of, ends_picture, bit_behind, counted}
 use Rattle.h264_verify.specs.Slices.{idr_id, is_idr_due, newest_idr_of}
 
 -- it begins a picture, as the code finds it
@@ -56,6 +58,30 @@ left-held true true pictures = refl
 left-held true false pictures = refl
 left-held false on pictures = refl
 
+-- and one that is a picture parameter set ends the picture before it
+abbrev pub EndsBefore : ℕ → Content → Type 0
+EndsBefore kind (contents.OfSps set) = Unit {0}
+EndsBefore kind (contents.OfPps set) = ends_picture kind ≡ true
+EndsBefore kind (contents.OfSlice h macroblocks) = Unit {0}
+EndsBefore kind contents.Passed = Unit {0}
+
+left-ended : (ends on : Bool) → has_ended on ends ≡ has_ended (not ends && on) false
+left-ended true true = refl
+left-ended true false = refl
+left-ended false true = refl
+left-ended false false = refl
+
+left-active : (a due : Bool) (pictures : List CodedPicture) (maps maps' : Maps) → maps'.active ≡ maps.active → HasActive due pictures maps → HasActive (a || due) pictures maps'
+left-active true due [] maps maps' e h = refl
+left-active false due [] maps maps' e h = h
+left-active a due (p ∷ ps) maps maps' e h = ap (λ (o : Option SetPair). option_map (λ q. SetPair.sps q) o) e ∙ h
+
+left-named : (ends on : Bool) (pictures : List CodedPicture) (maps maps' : Maps) → (ends ≡ false → maps'.pps ≡ maps.pps) → NamesSet on pictures maps → NamesSet (not ends && on) pictures maps'
+left-named ends on [] maps maps' e h = tt
+left-named true on (p ∷ ps) maps maps' e h = tt
+left-named false true (p ∷ ps) maps maps' e h = ap (λ (l : List (Option Pps)). set_at l (last_slice p).header.pic_parameter_set_id.value) (e refl) ∙ h
+left-named false false (p ∷ ps) maps maps' e h = tt
+
 module _ (before : History) (unit : NalUnit) (kind : ℕ) (old new : Slices) (n : kind ≡ nal_unit_type (header_of unit)) (keeps : KeepsSlices before (ends_picture kind) old) (left : IsLeft (ends_picture kind) old.picture new.picture) (due : new.due ≡ ((kind == 10 || kind == 11) || old.due)) (same : new ≡ record old { picture = new.picture; due = new.due }) where
   is-due : new.due ≡ ((nal_unit_type (header_of unit) == 10 || nal_unit_type (header_of unit) == 11) || is_idr_due before)
   is-due = due ∙ ap (λ x. (x == 10 || x == 11) || old.due) n ∙ ap (λ x. (nal_unit_type (header_of unit) == 10 || nal_unit_type (header_of unit) == 11) || x) keeps.due
@@ -73,11 +99,20 @@ module _ (before : History) (unit : NalUnit) (kind : ℕ) (old new : Slices) (n 
     held = ap (λ (s : Slices). s.held) same ∙ keeps.kept.held ∙ left-held (ends_picture kind) (goes_on before) (runs_of before) ∙ ap (λ x. held_by false (not (ends_picture x) && goes_on before) (runs_of before)) n;
   }
 
-  pub passed-keeps : (c : Content) → IsNoSlice c → KeepsSlices (record { unit = unit; content = c } ∷ before) false new
-  passed-keeps (contents.OfSps set) h = record { due = is-due; kept = kept }
-  passed-keeps (contents.OfPps set) h = record { due = is-due; kept = kept }
-  passed-keeps (contents.OfSlice h macroblocks) k = absurd k
-  passed-keeps contents.Passed h = record { due = is-due; kept = kept }
+  sound : AreSound (has_ended (not (ends_picture (nal_unit_type (header_of unit))) && goes_on before) false) (runs_of before)
+  sound = subst (λ x. AreSound (has_ended (not (ends_picture x) && goes_on before) false) (runs_of before)) n (subst (λ b. AreSound b (runs_of before)) (left-ended (ends_picture kind) (goes_on before)) keeps.sound)
+
+  active : (maps : Maps) → maps.active ≡ (maps_of before).active → HasActive ((nal_unit_type (header_of unit) == 10 || nal_unit_type (header_of unit) == 11) || is_idr_due before) (runs_of before) maps
+  active maps e = left-active _ (is_idr_due before) (runs_of before) (maps_of before) maps e keeps.active
+
+  names : (maps : Maps) → (ends_picture kind ≡ false → maps.pps ≡ (maps_of before).pps) → NamesSet (not (ends_picture (nal_unit_type (header_of unit))) && goes_on before) (runs_of before) maps
+  names maps e = subst (λ x. NamesSet (not (ends_picture x) && goes_on before) (runs_of before) maps) n (left-named (ends_picture kind) (goes_on before) (runs_of before) (maps_of before) maps e keeps.named)
+
+  pub passed-keeps : (c : Content) → IsNoSlice c → EndsBefore kind c → KeepsSlices (record { unit = unit; content = c } ∷ before) false new
+  passed-keeps (contents.OfSps set) h e = record { due = is-due; kept = kept; sound = sound; active = active _ refl; named = names _ (λ f. refl) }
+  passed-keeps (contents.OfPps set) h e = record { due = is-due; kept = kept; sound = sound; active = active _ refl; named = names _ (λ f. cc) }
+  passed-keeps (contents.OfSlice h macroblocks) k e = absurd k
+  passed-keeps contents.Passed h e = record { due = is-due; kept = kept; sound = sound; active = active _ refl; named = names _ (λ f. refl) }
 
 -- a slice that goes on changes nothing of the end of its picture
 pub end-on : (begins : Bool) (slice : CodedSlice) (pictures : List CodedPicture) (old new : Option OpenPicture) (o p : OpenPicture) → begins ≡ false → HoldsEnd pictures old → old ≡ Some o → new ≡ Some p → p.ended ≡ o.ended → HoldsEnd (joined_to begins slice pictures) new
@@ -117,9 +152,12 @@ module _ (before : History) (unit : NalUnit) (h : Header) (ms : List CodedMacrob
   one-more false [] = refl
   one-more false (p ∷ ps) = refl
 
-  pub slice-keeps : HoldsOpen (open_of true pictures) new.picture → HoldsEnd pictures new.picture → new.due ≡ false → new.newest_idr ≡ (if begins then idr_id h.idr_pic_id else old.newest_idr) → new.pictures ≡ (if begins then old.pictures + 1 else old.pictures) → new.behind ≡ bit_behind unit → new ≡ record old { picture = new.picture; newest_idr = new.newest_idr; pictures = new.pictures; due = new.due; behind = new.behind } → KeepsSlices (record { unit = unit; content = contents.OfSlice h ms } ∷ before) false new
-  slice-keeps picture end due id n bit same = record {
+  pub slice-keeps : AreSound false pictures → HasActive false pictures (maps_with maps (contents.OfSlice h ms)) → NamesSet true pictures (maps_with maps (contents.OfSlice h ms)) → HoldsOpen (open_of true pictures) new.picture → HoldsEnd pictures new.picture → new.due ≡ false → new.newest_idr ≡ (if begins then idr_id h.idr_pic_id else old.newest_idr) → new.pictures ≡ (if begins then old.pictures + 1 else old.pictures) → new.behind ≡ bit_behind unit → new ≡ record old { picture = new.picture; newest_idr = new.newest_idr; pictures = new.pictures; due = new.due; behind = new.behind } → KeepsSlices (record { unit = unit; content = contents.OfSlice h ms } ∷ before) false new
+  slice-keeps sound active named-set picture end due id n bit same = record {
     due = due;
+    sound = subst (λ ps. AreSound false ps) runs-are sound;
+    active = subst (λ m. HasActive false (runs_of (record { unit = unit; content = contents.OfSlice h ms } ∷ before)) (maps_with m (contents.OfSlice h ms))) maps-are (subst (λ ps. HasActive false ps (maps_with maps (contents.OfSlice h ms))) runs-are active);
+    named = subst (λ m. NamesSet true (runs_of (record { unit = unit; content = contents.OfSlice h ms } ∷ before)) (maps_with m (contents.OfSlice h ms))) maps-are (subst (λ ps. NamesSet true ps (maps_with maps (contents.OfSlice h ms))) runs-are named-set);
     kept = subst (λ ps. KeepsPictures true false ps new) runs-are (record {
       picture = picture;
       end = end;

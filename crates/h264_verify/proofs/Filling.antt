@@ -12,7 +12,7 @@ use Rattle.h264_dpb.specs.Kept.{KeepsBuffer, HasFrames, IsOrdered, IsReady, size
 use Rattle.h264_verify.specs.declared.decoder.Decoder.{Decoder}
 use Rattle.h264_verify.specs.declared.decoder.Format.{Format}
 use Rattle.h264_verify.specs.Pictures.{CodedPicture}
-use Rattle.h264_verify.specs.Keeping.{KeepsFrames, KeepsDecoder, FillsFrames, KeepsGap, KeepsSomeGap, IsSized}
+use Rattle.h264_verify.specs.Keeping.{KeepsFrames, KeepsDecoder, FillsFrames, KeepsGap, KeepsSomeGap, IsSized, HasPlaces, IsMadeAs}
 
 pub gap-full : (d : Decoder) (k : KeepsSomeGap modes.Full d) → FillsFrames k.frames k.turn k.next d
 unfolding KeepsGap
@@ -30,11 +30,36 @@ gap-ordered d k = (k.next, k.few, (gap-full d k).output.ordered)
 pub gap-ready : (d : Decoder) → KeepsSomeGap modes.Full d → IsReady (lent d.work) d.output
 gap-ready d k = (gap-full d k).output.ready
 
-sized : (o : Option Format) (f : Format) (output : Output) → o ≡ Some f → IsSized o output → size_of output ≡ f.frames
+pub sized : (o : Option Format) (f : Format) (output : Output) → o ≡ Some f → IsSized o output → size_of output ≡ f.frames
 sized o f output e h = subst (λ (x : Option Format). IsSized x output) e h
 
-pub gap-few : (d : Decoder) (f : Format) (held : References) → d.format ≡ Some f → KeepsSomeGap modes.Full d → length held.frames ≤ f.frames → length held.frames ≤ size_of d.output
-gap-few d f held e k h = let s = sized d.format f d.output e (gap-full d k).settled.sized in omega (arith, s, h)
+-- ---- places, by the mode
+
+pub full-places : (n : ℕ) (d : Decoder) (m : Mode) → m ≡ modes.Full → HasPlaces m n d → n ≤ size_of d.output
+unfolding HasPlaces
+full-places n d modes.Units e h = cc
+full-places n d modes.Headers e h = cc
+full-places n d modes.Full e h = h
+
+pub places-down : (m : Mode) (n k : ℕ) (d : Decoder) → k ≤ n → HasPlaces m n d → HasPlaces m k d
+unfolding HasPlaces
+places-down modes.Units n k d l h = tt
+places-down modes.Headers n k d l h = tt
+places-down modes.Full n k d l h = omega (arith, l, h)
+
+pub places-same : (m : Mode) (n : ℕ) (old new : Decoder) → size_of new.output ≡ size_of old.output → HasPlaces m n old → HasPlaces m n new
+unfolding HasPlaces
+places-same modes.Units n old new e h = tt
+places-same modes.Headers n old new e h = tt
+places-same modes.Full n old new e h = omega (arith, e, h)
+
+pub made-same : (m : Mode) (f : Format) (old new : Decoder) → new.format ≡ old.format → IsMadeAs m f old → IsMadeAs m f new
+unfolding IsMadeAs
+made-same modes.Units f old new e h = tt
+made-same modes.Headers f old new e h = tt
+made-same modes.Full f old new e h = e ∙ h
+
+-- ---- missing numbers, one after another
 
 -- a missing number leaves as many places
 size-missing : (held : References) (b : Buffered Shown) → (missing_turn held b).buffer.size ≡ b.size

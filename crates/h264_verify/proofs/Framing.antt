@@ -14,6 +14,12 @@ use Rattle.h264_verify.specs.Telling.{took_with}
 use Rattle.h264_verify.specs.History.{History}
 use Rattle.h264_verify.specs.Pictures.{CodedPicture, last_slice, picture_size, bit_behind, goes_on, open_of, runs_of, held_after}
 use Rattle.h264_verify.specs.Buffering.{ended_picture, end_frames}
+use Rattle.h264_header.specs.Picture.{is_reference}
+use Rattle.h264_picture.specs.Buffer.{buffer_size}
+use Rattle.h264_dpb.specs.Bumping.{is_held}
+use Rattle.h264_dpb.specs.Turns.{names}
+use Rattle.h264_verify.specs.Sound.{AreSound}
+use Rattle.h264_verify.proofs.Sound.{ended-sound-of, after-few, after-among}
 use Rattle.h264_verify.specs.Keeping.{KeepsFrames, KeepsDecoder, KeepsSlices, KeepsSomeEnd, KeepsSomeFrames, HoldsOpen, HoldsEnd, held_by}
 use Rattle.h264_verify.specs.Outcome.{Outcome, answers, gives, Plays}
 use Rattle.h264_verify.specs.Closing.{whole_picture}
@@ -40,19 +46,40 @@ is-open true (p ∷ ps) kept o e h k = record { p = p; ps = ps; goes = refl; are
 
 -- nothing goes on
 pub none-open : (on : Bool) (pictures : List CodedPicture) (kept : Option OpenPicture) → kept ≡ None → HoldsOpen (open_of on pictures) kept → (frames : ℕ → Frame) (d : Decoder) → KeepsFrames frames on false pictures d → KeepsFrames frames on true pictures d × ((if on then end_frames modes.Full pictures else []) ≡ [])
-none-open on [] kept e h frames d k = (record { output = k.output; picture = k.picture }, by on)
+none-open on [] kept e h frames d k = (record { format = tt; output = k.output; picture = k.picture }, by on)
   where
     by : (b : Bool) → (if b then end_frames modes.Full [] else []) ≡ []
     by true = refl
     by false = refl
 none-open true (p ∷ ps) kept e h frames d k = absurd (subst (HoldsOpen (Some p)) e h)
-none-open false (p ∷ ps) kept e h frames d k = (record { output = k.output; picture = k.picture }, refl)
+none-open false (p ∷ ps) kept e h frames d k = (record { format = k.format; output = k.output; picture = k.picture }, refl)
 
-pub some-end : (slices : Slices) (d : Decoder) (o : OpenPicture) → slices.picture ≡ Some o → KeepsSomeFrames modes.Full true slices d → KeepsSomeEnd o.ended d
+held-open : (on : Bool) (pictures : List CodedPicture) (p : CodedPicture) (ps : List CodedPicture) (held : References) → on ≡ true → pictures ≡ p ∷ ps → held ≡ held_by true on pictures → held ≡ held_after (p ∷ ps)
+held-open true pictures p ps held g e h = h ∙ ap held_after e
+held-open false pictures p ps held g e h = cc
+
+pub held-end : (before : History) (slices : Slices) (o : OpenPicture) (i : IsOpen (goes_on before) (runs_of before) o) → KeepsSlices before true slices → slices.held ≡ held_after (i.p ∷ i.ps)
+held-end before slices o i k = held-open (goes_on before) (runs_of before) i.p i.ps slices.held i.goes i.are k.kept.held
+
+-- the frames that are held then
+end-sound : (before : History) (slices : Slices) (o : OpenPicture) (i : IsOpen (goes_on before) (runs_of before) o) → KeepsSlices before true slices → AreSound true (i.p ∷ i.ps)
+end-sound before slices o i k = subst (λ (ps : List CodedPicture). AreSound true ps) i.are (ended-sound-of (goes_on before) (runs_of before) k.sound)
+
+end-few : (before : History) (slices : Slices) (o : OpenPicture) (i : IsOpen (goes_on before) (runs_of before) o) → KeepsSlices before true slices → length slices.held.frames ≤ buffer_size i.p.first.sps
+end-few before slices o i k = subst (λ (r : References). length r.frames ≤ buffer_size i.p.first.sps) (sym (held-end before slices o i k)) (after-few i.p i.ps (end-sound before slices o i k))
+
+ended-among : (p : CodedPicture) (ps : List CodedPicture) (e : Ended) (held : References) → e ≡ ended_picture p ps → held ≡ held_after (p ∷ ps) → AreSound true (p ∷ ps) → e.reference ≡ true → is_held (names held) e.picture ≡ true
+unfolding ended_of
+ended-among p ps e held is h s r =
+    let reference : e.reference ≡ is_reference p.first.header = ap (λ (x : Ended). x.reference) is in
+    let number : e.picture ≡ length ps = ap (λ (x : Ended). x.picture) is in
+    subst (λ (n : ℕ). is_held (names held) n ≡ true) (sym number) (subst (λ (x : References). is_held (names x) (length ps) ≡ true) (sym h) (after-among p ps s (sym reference ∙ r)))
+
+pub some-end : (slices : Slices) (d : Decoder) (o : OpenPicture) → slices.picture ≡ Some o → KeepsSomeFrames modes.Full true slices d → KeepsSomeEnd o.ended slices.held d
 unfolding KeepsDecoder
 some-end slices d o e k =
     let i = is-open (goes_on k.before) (runs_of k.before) slices.picture o e k.slices_are.kept.picture k.slices_are.kept.end in
-    record { frames = k.frames; p = i.p; ps = i.ps; is = i.end; keeps = subst (λ (ps : List CodedPicture). KeepsFrames k.frames true false ps d) i.are (subst (λ (on : Bool). KeepsFrames k.frames on false (runs_of k.before) d) i.goes k.keeps) }
+    record { frames = k.frames; p = i.p; ps = i.ps; is = i.end; few = end-few k.before slices o i k.slices_are; marked = ended-among i.p i.ps o.ended slices.held i.end (held-end k.before slices o i k.slices_are) (end-sound k.before slices o i k.slices_are); keeps = subst (λ (ps : List CodedPicture). KeepsFrames k.frames true false ps d) i.are (subst (λ (on : Bool). KeepsFrames k.frames on false (runs_of k.before) d) i.goes k.keeps) }
 
 -- the picture that goes on has ended
 module _ {S : Type 0} (took : S → List Call → Type 0) (failures : S → ℕ) (frames : ℕ → Frame) (new : Decoder) (s s' : S) (r : Result (Unit {0}) Stop) where
@@ -62,13 +89,6 @@ module _ {S : Type 0} (took : S → List Call → Type 0) (failures : S → ℕ)
   ends-open on pictures o i h =
       subst (λ (b : Bool). EndsFrames modes.Full took failures frames b true pictures (steps_outcome (if b then end_frames modes.Full pictures else [])) new s s' r) (sym i.goes)
       (subst (λ (ps : List CodedPicture). EndsFrames modes.Full took failures frames true true ps (steps_outcome (end_frames modes.Full ps)) new s s' r) (sym i.are) h)
-
-held-open : (on : Bool) (pictures : List CodedPicture) (p : CodedPicture) (ps : List CodedPicture) (held : References) → on ≡ true → pictures ≡ p ∷ ps → held ≡ held_by true on pictures → held ≡ held_after (p ∷ ps)
-held-open true pictures p ps held g e h = h ∙ ap held_after e
-held-open false pictures p ps held g e h = cc
-
-pub held-end : (before : History) (slices : Slices) (o : OpenPicture) (i : IsOpen (goes_on before) (runs_of before) o) → KeepsSlices before true slices → slices.held ≡ held_after (i.p ∷ i.ps)
-held-end before slices o i k = held-open (goes_on before) (runs_of before) i.p i.ps slices.held i.goes i.are k.kept.held
 
 pub keeps-open : (frames : ℕ → Frame) (on : Bool) (pictures : List CodedPicture) (o : OpenPicture) (d : Decoder) (i : IsOpen on pictures o) → KeepsFrames frames on false pictures d → KeepsFrames frames true false (i.p ∷ i.ps) d
 keeps-open frames on pictures o d i k = subst (λ (ps : List CodedPicture). KeepsFrames frames true false ps d) i.are (subst (λ (b : Bool). KeepsFrames frames b false pictures d) i.goes k)

@@ -24,7 +24,7 @@ use Rattle.h264_sps.specs.declared.sps.Sps.{Sps}
 use Rattle.h264_pps.specs.declared.Pps.{Pps}
 use Rattle.h264_header.specs.Layout.{sets_of}
 use Rattle.h264_picture.specs.declared.work.Work.{Work}
-use Rattle.h264_verify.specs.Keeping.{Keeps, KeepsWithin, KeepsSome, KeepsSomeSlice, KeepsFrames, KeepsDecoder, FillsFrames, KeepsGap, EntersDecoder, EntersBy, HoldsCoded, HoldsData, HoldsNewest, IsLeft}
+use Rattle.h264_verify.specs.Keeping.{Keeps, KeepsWithin, KeepsSome, KeepsSomeSlice, KeepsFrames, KeepsDecoder, FillsFrames, KeepsGap, EntersSome, EntersDecoder, EntersBy, HoldsCoded, HoldsData, HoldsNewest, IsLeft}
 use Rattle.h264_header.specs.declared.header.Header.{Header}
 use Rattle.h264_verify.specs.Units.{is_slice, content_steps}
 use Rattle.h264_verify.specs.UnitOutcome.{steps_outcome, slice_outcome, whole_slice, joined, joined_other}
@@ -32,7 +32,7 @@ use Rattle.h264_units.specs.Splitting.{Splitting}
 use Rattle.h264_verify.specs.Progress.{IsReady, IsSession}
 use Rattle.h264_verify.specs.Feeding.{Joins}
 use Rattle.h264_verify.proofs.Playing.{plays-stops, plays-on, plays-then, choice-true, choice-false}
-use Rattle.h264_verify.proofs.Entering.{IsNoSlice, passed-keeps}
+use Rattle.h264_verify.proofs.Entering.{IsNoSlice, EndsBefore, passed-keeps}
 
 module _ {S : Type 0} (mode : Mode) (frames : ℕ → Frame) (took : S → List Call → Type 0) (failures : S → ℕ) (ended : ℕ) (before : History) (unit : NalUnit) (content : Outcome Content) (new : State) where
   -- what was read is judged, and frames were made
@@ -65,9 +65,9 @@ units-with before r old new n k = simp unary_clauses at (n ∙ ap (λ x. x + 1) 
 
 -- a picture that may go on is kept, or is none any more
 left-by : (frames : ℕ → Frame) (ends on : Bool) (pictures : List CodedPicture) (d : Decoder) → KeepsFrames frames on ends pictures d → KeepsFrames frames (not ends && on) false pictures d
-left-by frames ends on [] d h = record { output = h.output; picture = h.picture }
-left-by frames true true (p ∷ ps) d h = record { output = h.output; picture = h.picture }
-left-by frames true false (p ∷ ps) d h = record { output = h.output; picture = h.picture }
+left-by frames ends on [] d h = record { format = tt; output = h.output; picture = h.picture }
+left-by frames true true (p ∷ ps) d h = record { format = h.format; output = h.output; picture = h.picture }
+left-by frames true false (p ∷ ps) d h = record { format = h.format; output = h.output; picture = h.picture }
 left-by frames false true (p ∷ ps) d h = h
 left-by frames false false (p ∷ ps) d h = h
 
@@ -85,11 +85,11 @@ module _ (mode : Mode) (frames : ℕ → Frame) (before : History) (unit : NalUn
   passed-decoder contents.Passed h = left-decoder mode frames (ends_picture (nal_unit_type (header_of unit))) (goes_on before) (runs_of before) d k
 
 -- a unit that is no slice belongs to what is kept
-pub passed-joins : (mode : Mode) (frames : ℕ → Frame) (before : History) (unit : NalUnit) (c : Content) (kind : ℕ) (old new : State) → IsNoSlice c → kind ≡ nal_unit_type (header_of unit) → KeepsWithin mode frames before (ends_picture kind) old → new.units ≡ old.units + 1 → new.sets ≡ maps_with (maps_of before) c → IsLeft (ends_picture kind) old.slices.picture new.slices.picture → new.slices.due ≡ ((kind == 10 || kind == 11) || old.slices.due) → new.slices ≡ record old.slices { picture = new.slices.picture; due = new.slices.due } → new.decoder ≡ old.decoder → Keeps mode frames (record { unit = unit; content = c } ∷ before) new
-passed-joins mode frames before unit c kind old new n k keeps units sets left due same decoder = record {
+pub passed-joins : (mode : Mode) (frames : ℕ → Frame) (before : History) (unit : NalUnit) (c : Content) (kind : ℕ) (old new : State) → IsNoSlice c → EndsBefore kind c → kind ≡ nal_unit_type (header_of unit) → KeepsWithin mode frames before (ends_picture kind) old → new.units ≡ old.units + 1 → new.sets ≡ maps_with (maps_of before) c → IsLeft (ends_picture kind) old.slices.picture new.slices.picture → new.slices.due ≡ ((kind == 10 || kind == 11) || old.slices.due) → new.slices ≡ record old.slices { picture = new.slices.picture; due = new.slices.due } → new.decoder ≡ old.decoder → Keeps mode frames (record { unit = unit; content = c } ∷ before) new
+passed-joins mode frames before unit c kind old new n b k keeps units sets left due same decoder = record {
   units = units-with before (record { unit = unit; content = c }) old.units new.units units keeps.units;
   sets = sets;
-  slices = passed-keeps before unit kind old.slices new.slices k keeps.slices left due same c n;
+  slices = passed-keeps before unit kind old.slices new.slices k keeps.slices left due same c n b;
   decoder = subst (λ d. KeepsDecoder mode frames (goes_on (record { unit = unit; content = c } ∷ before)) false (runs_of (record { unit = unit; content = c } ∷ before)) d) (sym decoder) (passed-decoder mode frames before unit old.decoder (subst (λ (x : ℕ). KeepsDecoder mode frames (goes_on before) (ends_picture x) (runs_of before) old.decoder) k keeps.decoder) c n);
 }
 
@@ -126,6 +126,11 @@ header-decoder frames on ended pictures d = tt
 pub enters-full : (frames : ℕ → Frame) (begins : Bool) (s : CodedSlice) (on : Bool) (pictures : List CodedPicture) (d : Decoder) → EntersDecoder modes.Full frames begins s on pictures d → EntersBy frames begins s on pictures d
 unfolding EntersDecoder
 enters-full frames begins s on pictures d h = h
+
+-- there is a picture that begins
+pub enters-some : (frames : ℕ → Frame) (begins : Bool) (s : CodedSlice) (on : Bool) (pictures : List CodedPicture) (d : Decoder) → begins ≡ true → EntersBy frames begins s on pictures d → EntersSome d
+enters-some frames true s on pictures d b k = record { frames = frames; slice = s; pictures = pictures; keeps = k }
+enters-some frames false s on pictures d b k = cc
 
 coded-by : (frames : ℕ → Frame) (on : Bool) (pictures : List CodedPicture) (d : Decoder) → KeepsFrames frames on false pictures d → HoldsCoded (open_of on pictures) d.work
 coded-by frames on [] d h = tt

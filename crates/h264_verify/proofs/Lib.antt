@@ -13,11 +13,16 @@ pub mod Stepping
 pub mod Slicing
 pub mod Stepwise
 pub mod Ruling
+pub mod Marked
+pub mod Sound
+pub mod Closing
+pub mod Standing
 pub mod Entering
 pub mod Joining
 pub mod Judged
 pub mod Lending
 pub mod Beginning
+pub mod Lengthening
 pub mod Making
 pub mod Ending
 pub mod Placing

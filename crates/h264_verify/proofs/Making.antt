@@ -1,5 +1,5 @@
 -- The samples of a picture, slice by slice.
-use Rattle.std.proofs.Common.{◌≡◌, ◌≢◌, ℕ, ◌+◌, ◌<◌, ◌≤◌, Bool, true, false, List, [], ◌∷◌, length, get_or, Option, Some, None, Result, Ok, Err, ℤ, refl, ap, sym, ◌∙◌, subst, arith}
+use Rattle.std.proofs.Common.{◌≡◌, ◌≢◌, ℕ, ◌+◌, ◌<◌, Bool, true, false, List, [], ◌∷◌, length, get_or, Option, Some, None, Result, Ok, Err, ℤ, refl, ap, sym, ◌∙◌, subst, arith}
 use Rattle.std.specs.Option.{option_map_or}
 use Rattle.h264_base.specs.Call.{Call}
 use Rattle.h264_base.specs.Run.{run}
@@ -44,10 +44,6 @@ pub each-slice : (P Q : CodedSlice → Type 0) (slices : List CodedSlice) → ((
 each-slice P Q [] f h = tt
 each-slice P Q (s ∷ slices) f h = (f s h.0, each-slice P Q slices f h.1)
 
-falling-on : (low high : ℕ) (slices : List CodedSlice) → low ≤ high → AreFalling low slices → AreFalling high slices
-falling-on low high [] n h = tt
-falling-on low high (s ∷ slices) n h = (let k = h.0 in omega (arith, n, k), h.1)
-
 -- ---- what goes with a slice
 
 offset-in : (d : Deblocking) (c : ℤ) → (filter_in d c).chroma_qp_index_offset ≡ c
@@ -78,7 +74,7 @@ context-intra s list = refl
 -- A slice of the picture that is decoded, with the places of its reference pictures.
 module _ (frames : ℕ → Frame) (p : CodedPicture) (ps : List CodedPicture) (slices : List CodedSlice) (s : CodedSlice) (ms : List CodedMacroblock) (t : Turn) (old new : Decoder) (slice : SliceContext) (samples : SliceSamples)
     (is : slice ≡ context_in (p ∷ ps) s) (filter : samples.filter ≡ slice_filter s.pps s.header) (o : KeepsOutput frames t (length ps) old) (h : HoldsBegun frames p ps slices ms old)
-    (from : old.next_number ≤ slice.number) (offset : slice.chroma_qp_index_offset ≡ old.chroma_qp_index_offset)
+    (number : number_of s ≡ length ms) (set : s.pps ≡ p.first.pps)
     (near : (k n : ℕ) → k < 16 → get_or slice.references k None ≡ Some n → IsNear old n (get_or samples.places k 0)) where
   pub number-is : slice.number ≡ number_of s
   number-is = ap (λ (c : SliceContext). c.number) is ∙ context-number s.pps s (list_in (p ∷ ps) s)
@@ -90,11 +86,11 @@ module _ (frames : ℕ → Frame) (p : CodedPicture) (ps : List CodedPicture) (s
   filter-chroma = ap (λ (f : _). f.chroma_qp_index_offset) filter ∙ offset-of s.pps s.header ∙ sym chroma-is
 
   -- what its samples depend on is that of the slices with it
-  pub is-slice : (making : Making) → EachSlice (λ s. making.slices (number_of s) ≡ parameters_of s) (s ∷ slices) → ((n : ℕ) → (making.slices n).filter.chroma_qp_index_offset ≡ old.chroma_qp_index_offset) → ((n : ℕ) → making.place n ≡ place_by old n) → IsSliceOf making slice samples old.work
+  pub is-slice : (making : Making) → EachSlice (λ s. making.slices (number_of s) ≡ parameters_of s) (s ∷ slices) → ((n : ℕ) → (making.slices n).filter.chroma_qp_index_offset ≡ p.first.pps.chroma_qp_index_offset) → ((n : ℕ) → making.place n ≡ place_by old n) → IsSliceOf making slice samples old.work
   is-slice making params offsets places-are = active-and (λ (q : Sequence). (q.frames.begun ≡ true) × (old.work.base + q.frames.place ≡ old.place)) (MakesSliceWith making slice samples old.work.base) old.work.active h.begun (λ q a b. record {
     parameters = ap making.slices number-is ∙ params.0 ∙ ap (λ (c : Bool). record { constrained_intra = c; filter = slice_filter s.pps s.header }) (sym (ap (λ (c : SliceContext). c.constrained_intra) is ∙ context-intra s (list_in (p ∷ ps) s))) ∙ ap (λ (f : _). record { constrained_intra = slice.constrained_intra; filter = f }) (sym filter);
     offset = filter-chroma;
-    offsets = λ n. offsets n ∙ sym offset ∙ sym filter-chroma;
+    offsets = λ n. offsets n ∙ ap (λ (x : Pps). x.chroma_qp_index_offset) (sym set) ∙ sym chroma-is ∙ sym filter-chroma;
     placed = λ k n small e.
         let r = near k n small e in
         let at : get_or samples.places k 0 ≡ old.work.base + making.place n = near-is old n (get_or samples.places k 0) r ∙ ap (λ (x : ℕ). old.work.base + x) (sym (places-are n)) in
@@ -109,16 +105,16 @@ module _ (frames : ℕ → Frame) (p : CodedPicture) (ps : List CodedPicture) (s
 
   -- ---- and with it the work holds the macroblocks with their samples
 
-  module _ (output : new.output ≡ old.output) (format : new.format ≡ old.format) (place : new.place ≡ old.place) (chroma : new.chroma_qp_index_offset ≡ old.chroma_qp_index_offset) (next : new.next_number ≡ slice.number + 1)
+  module _ (output : new.output ≡ old.output) (format : new.format ≡ old.format) (place : new.place ≡ old.place)
       (first : first_place new.work ≡ first_place old.work) (places-are : places new.work ≡ places old.work) (kept : KeepsLent old.work new.work) (begun : HasBegun old.place new.work) (released : IsReleased old.work → IsReleased new.work) (size : (width height : ℕ) → HasSize width height old.work → HasSize width height new.work) where
-    pub making-before : (making : Making) → IsMaking (s ∷ slices) new making → IsMaking slices old making
-    making-before making m = record { parameters = m.parameters.1; offsets = λ n. m.offsets n ∙ chroma; places = λ n. m.places n ∙ same-place old new n output first }
+    pub making-before : (making : Making) → IsMaking p.first.pps.chroma_qp_index_offset (s ∷ slices) new making → IsMaking p.first.pps.chroma_qp_index_offset slices old making
+    making-before making m = record { parameters = m.parameters.1; offsets = m.offsets; places = λ n. m.places n ∙ same-place old new n output first }
 
     referred : HasReferences frames (p ∷ ps) (length ps) new s
     referred = record { each = λ k n small e. reference-kept frames (length ps) old new n output first kept (near-reference frames (length ps) old n _ o.frames_are o.ordered (near k n small (ap (λ (c : SliceContext). get_or c.references k None) is ∙ e))) }
 
-    pub begun-on : (after : List CodedMacroblock) → Holds p.first.sps.frame_size.width (picture_size p.first.sps) after new.work → ((making : Making) → IsMaking (s ∷ slices) new making → HoldsSamples p.first.sps.frame_size.width (picture_size p.first.sps) making after new.work) → HoldsBegun frames p ps (s ∷ slices) after new × KeepsOutput frames t (length ps) new
-    begun-on after holds made = (
+    pub begun-on : (after : List CodedMacroblock) → length ms < length after → Holds p.first.sps.frame_size.width (picture_size p.first.sps) after new.work → ((making : Making) → IsMaking p.first.pps.chroma_qp_index_offset (s ∷ slices) new making → HoldsSamples p.first.sps.frame_size.width (picture_size p.first.sps) making after new.work) → HoldsBegun frames p ps (s ∷ slices) after new × KeepsOutput frames t (length ps) new
+    begun-on after longer holds made = (
       record {
         begun = subst (λ (x : ℕ). HasBegun x new.work) (sym place) begun;
         active = subst (λ (x : ℕ). is_active_place (first_place new.work) x ≡ true) (sym place) (subst (λ (b : ℕ). is_active_place b old.place ≡ true) (sym first) h.active);
@@ -127,8 +123,8 @@ module _ (frames : ℕ → Frame) (p : CodedPicture) (ps : List CodedPicture) (s
         settled = λ not. record { released = released (h.settled not).released; sized = subst (λ (x : Output). IsSized new.format x) (sym output) (subst (λ (x : Option Format). IsSized x old.output) (sym format) (h.settled not).sized) };
         so_far = record {
           holds = holds;
-          numbers = (let n = number-is in omega (arith, next, n), falling-on old.next_number (number_of s) slices (let n = number-is in omega (arith, from, n)) h.so_far.numbers);
-          offsets = (sym chroma-is ∙ offset ∙ sym chroma, each-slice _ _ slices (λ r e. e ∙ sym chroma) h.so_far.offsets);
+          numbers = (omega (arith, number, longer), subst (λ (n : ℕ). AreFalling n slices) (sym number) h.so_far.numbers);
+          sets = (set, h.so_far.sets);
           references = (referred, each-slice _ _ slices (λ r e. record { each = λ k n small f. reference-kept frames (length ps) old new n output first kept (e.each k n small f) }) h.so_far.references);
           samples = made;
         };
@@ -152,7 +148,7 @@ same-answer : (a b : List CodedMacroblock) (i j : ℕ) (r : Result (List CodedMa
 same-answer a b i j r e f = let k : ◌≡◌ {A = Result (List CodedMacroblock × ℕ) Stop} (Ok (a, i)) (Ok (b, j)) = sym e ∙ f in let p : ◌≡◌ {A = List CodedMacroblock × ℕ} (a, i) (b, j) = cc in ap (λ (x : List CodedMacroblock × ℕ). x.0) p
 
 module _ {S X : Type 0} (frames : ℕ → Frame) (took : S → List Call → Type 0) (failures : S → ℕ) (g : Grammar (List CodedMacroblock)) (body : Body) (i j width size : ℕ) (work : Work) (s s' : S)
-    (P : Making → Type 0) (K : List CodedMacroblock → Type 0) (goes : (after : List CodedMacroblock) → Holds width size after work → ((making : Making) → P making → HoldsSamples width size making after work) → K after) where
+    (P : Making → Type 0) (K : List CodedMacroblock → Type 0) (goes : (after : List CodedMacroblock) → (run g body i).answer ≡ Ok (after, j) → Holds width size after work → ((making : Making) → P making → HoldsSamples width size making after work) → K after) where
   abbrev Made : Making → X → List CodedMacroblock → Type 0
   Made making x after = HoldsSamples width size making after work
 
@@ -164,7 +160,7 @@ module _ {S X : Type 0} (frames : ℕ → Frame) (took : S → List Call → Typ
     macroblocks = m.0;
     end = j;
     plays = record { plays = (m.2, elements-tell frames took s s' body (run g body i).elements m.3, m.4) };
-    keeps = goes m.0 m.1 (λ making p. let n = f making p in subst (λ (after : List CodedMacroblock). HoldsSamples width size making after work) (same-answer n.0 m.0 j j (run g body i).answer n.2 m.2) n.1);
+    keeps = goes m.0 m.2 m.1 (λ making p. let n = f making p in subst (λ (after : List CodedMacroblock). HoldsSamples width size making after work) (same-answer n.0 m.0 j j (run g body i).answer n.2 m.2) n.1);
   }
   slice-by (Err (No bit rule)) m a f = record { macroblocks = []; end = 0; plays = record { plays = (m.0, elements-tell frames took s s' body (run g body i).elements m.1, m.2) }; keeps = tt }
   slice-by (Err (Outside bit feature)) m a f = record { macroblocks = []; end = 0; plays = record { plays = (m.0, elements-tell frames took s s' body (run g body i).elements m.1, m.2) }; keeps = tt }
@@ -173,7 +169,7 @@ module _ {S X : Type 0} (frames : ℕ → Frame) (took : S → List Call → Typ
   slice-by (Err Write) m a f = record { macroblocks = []; end = 0; plays = record { plays = (elements-front frames took s s' body (run g body i).elements m.0, m.1) }; keeps = tt }
 
 pub reads-slice : {S X : Type 0} (frames : ℕ → Frame) (took : S → List Call → Type 0) (failures : S → ℕ) (g : Grammar (List CodedMacroblock)) (width size : ℕ) (work : Work) (old new : Reader) (s s' : S) (r : Result X Stop)
-    (P : Making → Type 0) (K : List CodedMacroblock → Type 0) → ((after : List CodedMacroblock) → Holds width size after work → ((making : Making) → P making → HoldsSamples width size making after work) → K after) →
+    (P : Making → Type 0) (K : List CodedMacroblock → Type 0) → ((after : List CodedMacroblock) → (run g old.body old.at).answer ≡ Ok (after, new.at) → Holds width size after work → ((making : Making) → P making → HoldsSamples width size making after work) → K after) →
     Meets took failures (λ (x : X) after. Holds width size after work) g old new s s' r → Answers took failures (λ (x : X) after. Holds width size after work) g old new s s' r →
     ((making : Making) → P making → Meets took failures (λ (x : X) after. HoldsSamples width size making after work) g old new s s' r) → ReadsSlice took failures frames (structure_from g old.body old.at) K s s' r
 reads-slice frames took failures g width size work old new s s' r P K goes m a f = slice-by frames took failures g old.body old.at new.at width size work s s' P K goes r m.meets a (λ making p. (f making p).meets)

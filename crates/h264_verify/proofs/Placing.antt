@@ -26,7 +26,6 @@ use Rattle.h264_verify.proofs.Lending.{each-lent, ready-lent}
 use Rattle.h264_verify.proofs.Ending.{with_frame, frame-at, with-agrees, frames-agree, rectangle-fits, making, is-decoded, decoded-as}
 use Rattle.h264_base.specs.Call.{Call}
 use Rattle.h264_base.specs.declared.stop.Stop.{Stop}
-use Rattle.h264_base.specs.declared.stop.Stop.TheVariants.{Memory}
 use Rattle.h264_picture.specs.Making.{IsDecodedIn}
 use Rattle.h264_picture.specs.Holds.{Serves}
 use Rattle.h264_dpb.specs.Writing.{Writes}
@@ -38,7 +37,7 @@ use Rattle.h264_verify.specs.Steps.{Step}
 use Rattle.h264_verify.specs.Steps as step
 use Rattle.h264_verify.specs.UnitOutcome.{steps_outcome}
 use Rattle.h264_verify.specs.Buffering.{told_frames}
-use Rattle.h264_verify.proofs.Playing.{plays-on, plays-stops, memory-plays}
+use Rattle.h264_verify.proofs.Playing.{plays-on, plays-stops}
 use Rattle.h264_verify.proofs.Showing.{decodes-plays, end-outcome, writes-plays}
 
 -- a frame of this size is lent
@@ -169,6 +168,7 @@ stored-frames frames p ps old last e held out (Ok x) is h k f same room released
     let format : last.format ≡ Some (format_of p.first.sps) = same ∙ k.picture.format in
     let number : e.picture + 1 ≡ length (p ∷ ps) = let n = ended-number p ps e is in omega (arith, n) in
     record {
+      format = format;
       output = record { buffer = all; frames_are = fr; ordered = subst (λ (n : ℕ). IsOrdered n out) number o; ready = a; format = subst (λ (x : Option Format). HasFormat x last.work) (sym format) room };
       picture = record {
         released = released;
@@ -204,22 +204,14 @@ module _ {S : Type 0} (made : ℕ → Frame) (took : S → List Call → Type 0)
   pub way-on : (s s' s'' : S) (u : Unit {0}) (r : Result (Unit {0}) Stop) → Writes {X = Unit {0}} took failures (shown_calls made (way_turn e b).written) s s' (Ok u) → Plays (took_with made took) failures (λ (x : Unit {0}). x) (steps_outcome (told_frames modes.Full (store_turn e held (way_turn e b).buffer).written)) s' s'' r → Plays (took_with made took) failures (λ (x : Unit {0}). x) (steps_outcome told_steps) s s'' r
   way-on s s' s'' u r w q = decoded-first s s'' r (plays-on (took_with made took) failures (λ (x : Unit {0}). x) (λ (x : Unit {0}). x) (steps_outcome (told_frames modes.Full (way_turn e b).written)) _ s s' s'' u r (writes-plays made took failures (way_turn e b).written s s' (Ok u) w) q)
 
-  pub way-memory : (s s' : S) (u : Unit {0}) → Writes {X = Unit {0}} took failures (shown_calls made (way_turn e b).written) s s' (Ok u) → Plays (took_with made took) failures (λ (x : Unit {0}). x) (steps_outcome told_steps) s s' (Err Memory)
-  way-memory s s' u w = way-on s s' s' u (Err Memory) w (memory-plays (took_with made took) failures (λ (x : Unit {0}). x) _ s')
-
   pub way-store : (s s' s'' : S) (u : Unit {0}) (r : Result (Unit {0}) Stop) → Writes {X = Unit {0}} took failures (shown_calls made (way_turn e b).written) s s' (Ok u) → Writes {X = Unit {0}} took failures (shown_calls made (store_turn e held (way_turn e b).buffer).written) s' s'' r → Plays (took_with made took) failures (λ (x : Unit {0}). x) (steps_outcome told_steps) s s'' r
   way-store s s' s'' u r w q = way-on s s' s'' u r w (writes-plays made took failures _ s' s'' r q)
 
-some-format : (a b : Format) (o : Option Format) → o ≡ Some a → o ≡ Some b → a ≡ b
-some-format a b o e f = let k : ◌≡◌ {A = Option Format} (Some a) (Some b) = sym e ∙ f in cc
-
 -- as many frames are held as the buffer has places
-pub few-stored : (frames : ℕ → Frame) (p : CodedPicture) (ps : List CodedPicture) (old : Decoder) (e : Ended) → e ≡ ended_picture p ps → KeepsFrames frames true false (p ∷ ps) old → (out last : Output) (f : Format) (written held : ℕ) (o : Option Format) → KeepsBuffer (way_turn e (within_newest (p ∷ ps)).buffer).buffer written out → last ≡ out → o ≡ old.format → o ≡ Some f → held ≤ f.frames → held ≤ size_of last
-few-stored frames p ps old e is k out last f written held o b l same g few =
-    let format = some-format f (format_of p.first.sps) o g (same ∙ k.picture.format) in
-    let count : f.frames ≡ buffer_size p.first.sps = ap (λ (x : Format). x.frames) format in
+pub few-stored : (frames : ℕ → Frame) (p : CodedPicture) (ps : List CodedPicture) (old : Decoder) (e : Ended) → e ≡ ended_picture p ps → KeepsFrames frames true false (p ∷ ps) old → (out last : Output) (written held : ℕ) → KeepsBuffer (way_turn e (within_newest (p ∷ ps)).buffer).buffer written out → last ≡ out → held ≤ buffer_size p.first.sps → held ≤ size_of last
+few-stored frames p ps old e is k out last written held b l few =
     let places : size_of last ≡ buffer_size p.first.sps = ap size_of l ∙ sym b.same.size ∙ way-places frames p ps old e is k in
-    omega (arith, count, places, few)
+    omega (arith, places, few)
 
 -- the frames of the sequence before are gone
 pub released-then : (frames : ℕ → Frame) (p : CodedPicture) (ps : List CodedPicture) (old mid new : Decoder) (e : Ended) → e ≡ ended_picture p ps → KeepsFrames frames true false (p ∷ ps) old → (IsReleased old.work → IsReleased mid.work) → (empties e ≡ true → IsReleased new.work) → (empties e ≡ false → new ≡ mid) → IsReleased new.work

@@ -29,6 +29,7 @@ use Rattle.h264_picture.specs.Context.{slice_context}
 use Rattle.h264_picture.specs.Levels.{transform_fits}
 use Rattle.h264_picture.specs.Filter.{slice_filter}
 use Rattle.h264_verify.specs.Lists.{context_in}
+use Rattle.h264_verify.specs.Sound.{HasPps}
 use Rattle.h264_verify.specs.Decoding.{slices_of}
 use Rattle.h264_verify.proofs.Making.{each-slice}
 use Rattle.h264_verify.specs.declared.decoder.Decoder.{Decoder}
@@ -238,7 +239,7 @@ begun-first frames s pictures ms d h = record {
   so_far = record {
     holds = h.so_far.holds;
     numbers = (h.so_far.numbers.0, tt);
-    offsets = (h.so_far.offsets.0, tt);
+    sets = (h.so_far.sets.0, tt);
     references = (record { each = h.so_far.references.0.each }, tt);
     samples = λ making m. h.so_far.samples making (record { parameters = (m.parameters.0, tt); offsets = m.offsets; places = m.places });
   };
@@ -254,7 +255,7 @@ begun-later frames s p ps ms d h = record {
   so_far = record {
     holds = h.so_far.holds;
     numbers = (h.so_far.numbers.0, h.so_far.numbers.1);
-    offsets = (h.so_far.offsets.0, h.so_far.offsets.1);
+    sets = (h.so_far.sets.0, h.so_far.sets.1);
     references = (record { each = h.so_far.references.0.each }, each-slice _ _ (slices_of p) (λ t k. record { each = k.each }) h.so_far.references.1);
     samples = λ making m. h.so_far.samples making (record { parameters = (m.parameters.0, m.parameters.1); offsets = m.offsets; places = m.places });
   };
@@ -262,11 +263,11 @@ begun-later frames s p ps ms d h = record {
 
 first-kept : (frames : ℕ → Frame) (s : CodedSlice) (pictures : List CodedPicture) (ms : List CodedMacroblock) (d : Decoder) → HoldsBegun frames (record { first = s; later = [] }) pictures (s ∷ []) ms d × KeepsOutput frames (within_newest (record { first = s; later = [] } ∷ pictures)) (length pictures) d → KeepsDecoder modes.Full frames true false (joined_to true (record s { macroblocks = ms }) pictures) d
 unfolding KeepsDecoder
-first-kept frames s pictures ms d h = record { output = h.1; picture = begun-first frames s pictures ms d h.0 }
+first-kept frames s pictures ms d h = record { format = h.0.format; output = h.1; picture = begun-first frames s pictures ms d h.0 }
 
 later-kept : (frames : ℕ → Frame) (s : CodedSlice) (p : CodedPicture) (ps : List CodedPicture) (ms : List CodedMacroblock) (d : Decoder) → HoldsBegun frames p ps (s ∷ slices_of p) ms d × KeepsOutput frames (within_newest (p ∷ ps)) (length ps) d → KeepsDecoder modes.Full frames true false (joined_to false (record s { macroblocks = ms }) (p ∷ ps)) d
 unfolding KeepsDecoder
-later-kept frames s p ps ms d h = record { output = h.1; picture = begun-later frames s p ps ms d h.0 }
+later-kept frames s p ps ms d h = record { format = h.0.format; output = h.1; picture = begun-later frames s p ps ms d h.0 }
 
 on-ok : {X E : Type 0} (r : Result X E) (P Q : Type 0) → (P → Q) → OnOk r P → OnOk r Q
 on-ok (Ok x) P Q f h = f h
@@ -281,10 +282,10 @@ module _ {S X : Type 0} (took : S → List Call → Type 0) (failures : S → �
 
 -- the slice data of a slice behind what is kept before them
 pub read-behind : {S X : Type 0} (took : S → List Call → Type 0) (failures : S → ℕ) (frames : ℕ → Frame) (old new : Decoder) (s s' : S) (r : Result X Stop) (begins : Bool) (pictures : List CodedPicture) (slice : CodedSlice) (c : SliceContext) (body : Body) (at : ℕ) →
-    c ≡ context_in (joined_to begins slice pictures) slice → slice.header.first_mb_in_slice.value ≡ length (coded_so_far begins pictures) → BeginsFrames frames begins slice pictures old →
-    ((p : CodedPicture) (ps : List CodedPicture) (slices : List CodedSlice) (ms : List CodedMacroblock) (t : Turn) → c ≡ context_in (p ∷ ps) slice → slice.header.first_mb_in_slice.value ≡ length ms → KeepsOutput frames t (length ps) old → HoldsBegun frames p ps slices ms old →
+    c ≡ context_in (joined_to begins slice pictures) slice → slice.header.first_mb_in_slice.value ≡ length (coded_so_far begins pictures) → (begins ≡ false → HasPps slice.pps pictures) → BeginsFrames frames begins slice pictures old →
+    ((p : CodedPicture) (ps : List CodedPicture) (slices : List CodedSlice) (ms : List CodedMacroblock) (t : Turn) → c ≡ context_in (p ∷ ps) slice → slice.header.first_mb_in_slice.value ≡ length ms → slice.pps ≡ p.first.pps → KeepsOutput frames t (length ps) old → HoldsBegun frames p ps slices ms old →
     ReadsSlice took failures frames (structure_from (slice_data (transform_fits c) p.first.sps.frame_size.width (picture_size p.first.sps) c ms) body at) (λ ms'. HoldsBegun frames p ps (slice ∷ slices) ms' new × KeepsOutput frames t (length ps) new) s s' r) →
     ReadsData took failures frames (structure_from (slice_data (transform_fits c) (picture_set begins slice pictures).frame_size.width (picture_size (picture_set begins slice pictures)) c (coded_so_far begins pictures)) body at) (λ ms. joined_to begins (record slice { macroblocks = ms }) pictures) new s s' r
-read-behind took failures frames old new s s' r true pictures slice c body at is n k f = first-read took failures frames new s s' r slice _ pictures (f (record { first = slice; later = [] }) pictures [] [] (within_newest (record { first = slice; later = [] } ∷ pictures)) is n k.output k.picture)
-read-behind took failures frames old new s s' r false [] slice c body at is n k f = absurd k
-read-behind took failures frames old new s s' r false (p ∷ ps) slice c body at is n k f = later-read took failures frames new s s' r slice _ p ps (f p ps (slices_of p) (last_slice p).macroblocks (within_newest (p ∷ ps)) is n k.output k.picture)
+read-behind took failures frames old new s s' r true pictures slice c body at is n set k f = first-read took failures frames new s s' r slice _ pictures (f (record { first = slice; later = [] }) pictures [] [] (within_newest (record { first = slice; later = [] } ∷ pictures)) is n refl k.output k.picture)
+read-behind took failures frames old new s s' r false [] slice c body at is n set k f = absurd k
+read-behind took failures frames old new s s' r false (p ∷ ps) slice c body at is n set k f = later-read took failures frames new s s' r slice _ p ps (f p ps (slices_of p) (last_slice p).macroblocks (within_newest (p ∷ ps)) is n (sym (set refl)) k.output k.picture)

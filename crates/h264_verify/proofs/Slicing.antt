@@ -103,7 +103,7 @@ none-holds (Some x) h n = absurd (n x refl)
 some-same : (s t : Sps) → Some s ≡ Some t → s ≡ t
 some-same s t e = cc
 
-content-active : (o : Option SetPair) (sps : Sps) → has_content sps o ≡ true → option_map (λ p. SetPair.sps p) o ≡ Some sps
+pub content-active : (o : Option SetPair) (sps : Sps) → has_content sps o ≡ true → option_map (λ p. SetPair.sps p) o ≡ Some sps
 content-active None sps h = cc
 content-active (Some pair) sps h = ap Some ((decides-sps pair.sps sps).0 h)
 

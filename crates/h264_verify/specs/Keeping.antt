@@ -1,9 +1,9 @@
 -- What is kept of the units so far. A working form: it ties values of the program to the list of units.
-use Rattle.std.specs.Prelude.{◌≡◌, ℕ, ◌+◌, ◌-◌, ◌*◌, ◌<◌, ◌≤◌, ◌^◌, get_or, not, ◌||◌, List, [], ◌∷◌, ◌++◌, map, length, Option, Some, None, Bool, true, false, if◌then◌else◌}
+use Rattle.std.specs.Prelude.{◌≡◌, ◌≢◌, ℕ, ◌+◌, ◌-◌, ◌*◌, ◌<◌, ◌≤◌, ◌^◌, get_or, not, ◌||◌, List, [], ◌∷◌, ◌++◌, map, length, ℤ, Option, Some, None, Bool, true, false, if◌then◌else◌}
 use Rattle.std.specs.Option.{option_map_or}
 use Rattle.h264_near.specs.Coded.{CodedMacroblock}
 use Rattle.h264_bits.specs.declared.element.Found.{Found}
-use Rattle.h264_marking.specs.Frames.{References}
+use Rattle.h264_marking.specs.Frames.{References, frame_places}
 use Rattle.h264_marking.specs.Gaps.{entered}
 use Rattle.h264_dpb.specs.Buffered.{Buffered}
 use Rattle.h264_poc.specs.declared.picture.Picture.{Picture}
@@ -27,7 +27,8 @@ use Rattle.h264_picture.specs.Making.{Making, HoldsSamples}
 use Rattle.h264_picture.specs.declared.frames.TheConstants.{PLACES}
 use Rattle.h264_picture.specs.Places.{lent, first_place, places, is_active_place, IsReleased, HasBegun, HasSize}
 use Rattle.h264_plane.specs.declared.frame.Frame.{Frame}
-use Rattle.h264_dpb.specs.Turns.{Shown, Turn, stays, no_buffer}
+use Rattle.h264_dpb.specs.Bumping.{is_held}
+use Rattle.h264_dpb.specs.Turns.{Shown, Turn, stays, no_buffer, names}
 use Rattle.h264_dpb.specs.Kept.{KeepsBuffer, HasFrames, IsOrdered, is_free, place_of, size_of}
 use Rattle.h264_dpb.specs.declared.output.Output.{Output}
 use Rattle.h264_dpb.specs.declared.ended.Ended.{Ended}
@@ -45,6 +46,7 @@ use Rattle.h264_marking.specs.Ended.{numbering_of}
 use Rattle.h264_verify.specs.Steps.{Step, needs}
 use Rattle.h264_verify.specs.Slices.{is_i, has_i, has_p, states_type, is_idr_due, newest_idr_of, first_slice_rules, later_slice_rules, idr_demand, set_demand, type_demand, idr_num_demand, gap_rules, id_demand, count_demand, qp_demand, list_demand, marking_demand}
 use Rattle.h264_verify.specs.Lists.{list_of, named_in}
+use Rattle.h264_verify.specs.Sound.{AreSound, has_ended, HasActive, NamesSet}
 
 -- which types these slices have, and whether one says that all have its type
 abbrev pub types_of : List CodedSlice → Types
@@ -116,6 +118,9 @@ pub record KeepsPictures (on ended : Bool) (pictures : List CodedPicture) (slice
 pub record KeepsSlices (before : History) (ended : Bool) (slices : Slices) : Type 0 where
   pub due : slices.due ≡ is_idr_due before
   pub kept : KeepsPictures (goes_on before) ended (runs_of before) slices
+  pub sound : AreSound (has_ended (goes_on before) ended) (runs_of before)
+  pub active : HasActive (is_idr_due before) (runs_of before) (maps_of before)
+  pub named : NamesSet (goes_on before) (runs_of before) (maps_of before)
 
 -- where slice data are read, what is kept of the macroblocks of the picture that may go on
 abbrev pub HoldsCoded : Option CodedPicture → Work → Type 0
@@ -162,6 +167,10 @@ HasFormat (Some f) work = IsRoomFor f work
 abbrev pub format_of : Sps → Format
 format_of sps = record { size = sps.frame_size; frames = buffer_size sps }
 
+-- what was lent stands at none of the active sequence's places
+abbrev pub AreOlder : Work → Work → Type 0
+AreOlder old new = (p : ℕ) → lent old p ≢ None → is_active_place (first_place new) p ≡ false
+
 -- the buffer has as many places as the format says
 abbrev pub IsSized : Option Format → Output → Type 0
 IsSized None output = Unit {0}
@@ -184,10 +193,10 @@ pub record KeepsOutput (frames : ℕ → Frame) (t : Turn) (next : ℕ) (d : Dec
 abbrev pub place_by : Decoder → ℕ → ℕ
 place_by d n = option_map_or (λ (place : ℕ). place - first_place d.work) (place_of d.output n) 0
 
--- what the samples of these slices depend on
-pub record IsMaking (slices : List CodedSlice) (d : Decoder) (making : Making) : Type 0 where
+-- what the samples of these slices depend on, which have this chroma_qp_index_offset
+pub record IsMaking (chroma : ℤ) (slices : List CodedSlice) (d : Decoder) (making : Making) : Type 0 where
   pub parameters : EachSlice (λ s. making.slices (number_of s) ≡ parameters_of s) slices
-  pub offsets : (n : ℕ) → (making.slices n).filter.chroma_qp_index_offset ≡ d.chroma_qp_index_offset
+  pub offsets : (n : ℕ) → (making.slices n).filter.chroma_qp_index_offset ≡ chroma
   pub places : (n : ℕ) → making.place n ≡ place_by d n
 
 -- the frame of a picture among so many is lent at its place
@@ -215,10 +224,10 @@ AreFalling high (s ∷ slices) = (number_of s < high) × AreFalling (number_of s
 -- what is kept of these slices of a picture, and of their macroblocks
 pub record HoldsSlices (frames : ℕ → Frame) (p : CodedPicture) (ps : List CodedPicture) (slices : List CodedSlice) (macroblocks : List CodedMacroblock) (d : Decoder) : Type 0 where
   pub holds : Holds p.first.sps.frame_size.width (picture_size p.first.sps) macroblocks d.work
-  pub numbers : AreFalling d.next_number slices
-  pub offsets : EachSlice (λ s. s.pps.chroma_qp_index_offset ≡ d.chroma_qp_index_offset) slices
+  pub numbers : AreFalling (length macroblocks) slices
+  pub sets : EachSlice (λ s. s.pps ≡ p.first.pps) slices
   pub references : EachSlice (HasReferences frames (p ∷ ps) (length ps) d) slices
-  pub samples : (making : Making) → IsMaking slices d making → HoldsSamples p.first.sps.frame_size.width (picture_size p.first.sps) making macroblocks d.work
+  pub samples : (making : Making) → IsMaking p.first.pps.chroma_qp_index_offset slices d making → HoldsSamples p.first.sps.frame_size.width (picture_size p.first.sps) making macroblocks d.work
 
 -- what is kept of a picture that is decoded behind these: where, its format, and its slices so far
 pub record HoldsBegun (frames : ℕ → Frame) (p : CodedPicture) (ps : List CodedPicture) (slices : List CodedSlice) (macroblocks : List CodedMacroblock) (d : Decoder) : Type 0 where
@@ -236,8 +245,14 @@ HoldsFrame frames true true (p ∷ ps) d = IsSettled d
 HoldsFrame frames true false (p ∷ ps) d = HoldsBegun frames p ps (slices_of p) (last_slice p).macroblocks d
 HoldsFrame frames false ended (p ∷ ps) d = IsSettled d
 
+-- the frames are those of the newest picture's sequence
+abbrev pub HasFormatOf : List CodedPicture → Decoder → Type 0
+HasFormatOf [] d = Unit {0}
+HasFormatOf (p ∷ ps) d = d.format ≡ Some (format_of p.first.sps)
+
 -- what is kept of the frames of these pictures
 pub record KeepsFrames (frames : ℕ → Frame) (on ended : Bool) (pictures : List CodedPicture) (d : Decoder) : Type 0 where
+  pub format : HasFormatOf pictures d
   pub output : KeepsOutput frames (buffer_by on ended pictures) (length (ended_pictures on ended pictures)) d
   pub picture : HoldsFrame frames on ended pictures d
 
@@ -248,8 +263,16 @@ KeepsDecoder modes.Full frames on ended pictures d = KeepsFrames frames on ended
 
 -- what is kept of them once the rules of a slice are met: behind the gap before a picture that it begins, nothing is decoded yet
 pub record EntersFrames (frames : ℕ → Frame) (slice : CodedSlice) (pictures : List CodedPicture) (d : Decoder) : Type 0 where
+  pub format : is_idr slice.header ≡ false → d.format ≡ Some (format_of slice.sps)
   pub output : KeepsOutput frames (within_newest (joined_to true slice pictures)) (length pictures) d
   pub settled : IsSettled d
+
+-- there is a picture before whose first slice data this is kept
+pub record EntersSome (d : Decoder) : Type 0 where
+  pub frames : ℕ → Frame
+  pub slice : CodedSlice
+  pub pictures : List CodedPicture
+  pub keeps : EntersFrames frames slice pictures d
 
 abbrev pub EntersBy : (ℕ → Frame) → Bool → CodedSlice → Bool → List CodedPicture → Decoder → Type 0
 EntersBy frames true slice on pictures d = EntersFrames frames slice pictures d
@@ -299,6 +322,24 @@ KeepsGap modes.Units frames t next d = Unit {0}
 KeepsGap modes.Headers frames t next d = Unit {0}
 KeepsGap modes.Full frames t next d = FillsFrames frames t next d
 
+-- where frames are made, the buffer has so many places
+unfoldable pub HasPlaces : Mode → ℕ → Decoder → Type 0
+HasPlaces modes.Units n d = Unit {0}
+HasPlaces modes.Headers n d = Unit {0}
+HasPlaces modes.Full n d = n ≤ size_of d.output
+
+-- where they are made, they are of this format
+unfoldable pub IsMadeAs : Mode → Format → Decoder → Type 0
+IsMadeAs modes.Units f d = Unit {0}
+IsMadeAs modes.Headers f d = Unit {0}
+IsMadeAs modes.Full f d = d.format ≡ Some f
+
+-- A picture of this sequence parameter set that is no IDR picture goes on with the sequence: as many frames as may be held have places.
+pub record GoesWith (mode : Mode) (sps : Sps) (held : References) (d : Decoder) : Type 0 where
+  pub few : length held.frames ≤ frame_places sps.max_num_ref_frames
+  pub places : HasPlaces mode (frame_places sps.max_num_ref_frames) d
+  pub format : IsMadeAs mode (format_of sps) d
+
 -- there are frames of which this is kept
 pub record KeepsSomeGap (mode : Mode) (d : Decoder) : Type 0 where
   pub frames : ℕ → Frame
@@ -307,12 +348,15 @@ pub record KeepsSomeGap (mode : Mode) (d : Decoder) : Type 0 where
   pub few : next < 2 ^ 62
   pub keeps : KeepsGap mode frames turn next d
 
--- there is a picture that is decoded, and of which the buffer is told this
-pub record KeepsSomeEnd (ended : Ended) (d : Decoder) : Type 0 where
+-- there is a picture that is decoded, and of which the buffer is told this, where these frames are held: no more than there are places, and a reference picture
+-- among them
+pub record KeepsSomeEnd (ended : Ended) (held : References) (d : Decoder) : Type 0 where
   pub frames : ℕ → Frame
   pub p : CodedPicture
   pub ps : List CodedPicture
   pub is : ended ≡ ended_picture p ps
+  pub few : length held.frames ≤ buffer_size p.first.sps
+  pub marked : ended.reference ≡ true → is_held (names held) ended.picture ≡ true
   pub keeps : KeepsFrames frames true false (p ∷ ps) d
 
 -- there are pictures of which this is kept; the newest has been marked, or not

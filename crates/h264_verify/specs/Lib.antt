@@ -14,6 +14,7 @@ pub mod Closing
 pub mod Buffering
 pub mod Slices
 pub mod Data
+pub mod Sound
 pub mod Keeping
 pub mod Units
 pub mod UnitOutcome

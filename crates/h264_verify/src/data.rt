@@ -10,7 +10,6 @@ ghost use Rattle.h264_header.specs.Layout.{sets_of};
 ghost use Rattle.h264_near.specs.Coded.{CodedMacroblock};
 ghost use Rattle.h264_picture.specs.Holds.{Holds};
 ghost use Rattle.h264_sps.specs.Usable.{is_usable};
-ghost use Rattle.h264_header.specs.Picture.{is_idr};
 ghost use Rattle.h264_verify.specs.Demands.{judged};
 ghost use Rattle.h264_verify.specs.Outcome.{IsNamed, answers};
 ghost use Rattle.h264_verify.specs.History.{History};
@@ -22,7 +21,8 @@ ghost use Rattle.h264_marking.specs.Ended.{numbering_of};
 ghost use Rattle.h264_verify.specs.Slices.{first_mb_demands};
 ghost use Rattle.h264_verify.specs.Lists.{list_of};
 ghost use Rattle.h264_verify.specs.Data.{picture_set, coded_so_far, data_in};
-ghost use Rattle.h264_verify.specs.Keeping.{KeepsSlices, KeepsDecoder, KeepsSomeFrames, EntersBy, EntersFrames, KeepsFrames, HoldsCoded, HoldsNewest, HoldsData, HoldsBefore, BeginsFrames, coded_before};
+ghost use Rattle.h264_verify.specs.Sound.{HasPps};
+ghost use Rattle.h264_verify.specs.Keeping.{KeepsSlices, KeepsDecoder, KeepsSomeFrames, EntersSome, EntersBy, EntersFrames, KeepsFrames, HoldsCoded, HoldsNewest, HoldsData, HoldsBefore, BeginsFrames, coded_before};
 ghost use Rattle.h264_verify.specs.UnitOutcome.{steps_outcome, structure_from};
 ghost use Rattle.h264_verify.specs.Feeding.{EndsFrames, ReadsData};
 
@@ -74,6 +74,7 @@ fn end_frame<S: FrameSink>(slices: &Slices, decoder: &mut Decoder, sink: &mut S)
     requires kept { KeepsSomeFrames modes.Full true slices.now decoder.old }
     ensures ends { (frames : ℕ → Frame) (before : History) → KeepsSlices before true slices.now → answers (Ok tt) ≡ steps_outcome (whole_steps modes.Full before) → KeepsFrames frames (goes_on before) false (runs_of before) decoder.old → EndsFrames modes.Full S.took S.failures frames (goes_on before) true (runs_of before) (steps_outcome (closing_frames modes.Full before)) decoder.new sink.old sink.new result }
     ensures kept { OnOk result (S.failures sink.new ≡ S.failures sink.old) }
+    ensures no_memory { IfErr result (λ e. e ≡ Stop.Write) }
 {
     match &slices.picture {
         None => Ok(()),
@@ -95,6 +96,7 @@ pub(crate) fn end_frame_if<S: FrameSink>(
     requires kept { KeepsSomeFrames mode ends slices.now decoder.old }
     ensures ends { (frames : ℕ → Frame) (before : History) → KeepsSlices before ends slices.now → answers (Ok tt) ≡ steps_outcome (if ends then whole_steps mode before else []) → KeepsDecoder mode frames (goes_on before) false (runs_of before) decoder.old → EndsFrames mode S.took S.failures frames (goes_on before) ends (runs_of before) (steps_outcome (if ends then closing_frames mode before else [])) decoder.new sink.old sink.new result }
     ensures kept { OnOk result (S.failures sink.new ≡ S.failures sink.old) }
+    ensures no_memory { IfErr result (λ e. e ≡ Stop.Write) }
 {
     if !ends {
         return Ok(());
@@ -158,21 +160,16 @@ fn list_of(kind: &SliceKind, numbering: &Numbering, held: &Held) -> ArrayVec<Ref
 }
 
 /// A picture that begins takes its places: Memory where they are refused.
-fn begin_if(
-    begins: bool,
-    idr: bool,
-    sps: &Sps,
-    chroma_qp_index_offset: i32,
-    decoder: &mut Decoder,
-) -> Result<(), Stop>
-    requires { is_usable sps.now ≡ true }
-    ensures holds { (frames : ℕ → Frame) (on : Bool) (s : CodedSlice) (pictures : List CodedPicture) → s.sps ≡ sps.now → is_idr s.header ≡ idr → (begins ≡ false → on ≡ true) → EntersBy frames begins s on pictures decoder.old → OnOk result (BeginsFrames frames begins s pictures decoder.new) }
+fn begin_if(begins: bool, sps: &Sps, decoder: &mut Decoder) -> Result<(), Stop>
+    requires usable { is_usable sps.now ≡ true }
+    requires kept { begins ≡ true → EntersSome decoder.old }
+    ensures holds { (frames : ℕ → Frame) (on : Bool) (s : CodedSlice) (pictures : List CodedPicture) → s.sps ≡ sps.now → (begins ≡ false → on ≡ true) → EntersBy frames begins s on pictures decoder.old → OnOk result (BeginsFrames frames begins s pictures decoder.new) }
     ensures err { IfErr result (λ e. e ≡ Stop.Memory) }
 {
     if !begins {
         return Ok(());
     }
-    decoder.begin(idr, sps, chroma_qp_index_offset)
+    decoder.begin(sps)
 }
 
 /// Reads the slice data behind a header whose rules are met.
@@ -188,14 +185,14 @@ pub(crate) fn read_data<S: Elements>(
     requires room { S.failures sink.old < 2 ^ 64 - 1 }
     requires id { header.now.pic_parameter_set_id.value ≤ 255 }
     requires named { is_some (sets_of sets.now header.now.pic_parameter_set_id.value) ≡ true }
-    ensures reads { (frames : ℕ → Frame) (on : Bool) (pictures : List CodedPicture) (s : CodedSlice) → sets_of sets.now s.header.pic_parameter_set_id.value ≡ Some (s.pps, s.sps) → header.now ≡ record s.header { marking = header.now.marking } → held.now ≡ held_in (joined_to begins s pictures) → s.header.first_mb_in_slice.value ≡ length (coded_so_far begins pictures) → s.macroblocks ≡ [] → (begins ≡ false → on ≡ true) → EntersBy frames begins s on pictures decoder.old → ReadsData S.took S.failures frames (structure_from (data_in begins pictures s) bits.old.body bits.old.at) (λ ms. joined_to begins (record s { macroblocks = ms }) pictures) decoder.new sink.old sink.new result }
+    requires kept { begins ≡ true → EntersSome decoder.old }
+    ensures reads { (frames : ℕ → Frame) (on : Bool) (pictures : List CodedPicture) (s : CodedSlice) → sets_of sets.now s.header.pic_parameter_set_id.value ≡ Some (s.pps, s.sps) → header.now ≡ record s.header { marking = header.now.marking } → held.now ≡ held_in (joined_to begins s pictures) → s.header.first_mb_in_slice.value ≡ length (coded_so_far begins pictures) → s.macroblocks ≡ [] → (begins ≡ false → on ≡ true) → (begins ≡ false → HasPps s.pps pictures) → EntersBy frames begins s on pictures decoder.old → ReadsData S.took S.failures frames (structure_from (data_in begins pictures s) bits.old.body bits.old.at) (λ ms. joined_to begins (record s { macroblocks = ms }) pictures) decoder.new sink.old sink.new result }
     ensures kept { OnOk result (S.failures sink.new ≡ S.failures sink.old) }
 {
     let Some((pps, sps)) = named_sets(sets, header.pic_parameter_set_id.value) else {
         unreachable!()
     };
-    let idr = header.idr_pic_id.is_some();
-    begin_if(begins, idr, sps, pps.chroma_qp_index_offset, decoder)?;
+    begin_if(begins, sps, decoder)?;
     let numbering = numbering_of(sps, header);
     let list = list_of(&header.kind.value, &numbering, held);
     let slice = slice_context(pps, sps, header, list.as_slice());

@@ -1,10 +1,7 @@
 //! The frames of a stream's pictures: where they are decoded, and when they are written.
 #![tactic(auto)]
 
-ghost use Rattle.std.specs.Prelude.{◌≡◌, ◌≤◌, IsTrue, true, length};
-ghost use Rattle.std.specs.List.{list_any};
-ghost use Rattle.h264_dpb.specs.Bumping.{is_picture, is_held};
-ghost use Rattle.h264_dpb.specs.Turns.{names};
+ghost use Rattle.std.specs.Prelude.{◌≡◌};
 ghost use Rattle.h264_verify.specs.Keeping.{format_of};
 
 use crate::sink::FrameSink;
@@ -12,7 +9,7 @@ use h264_base::{Elements, Stop};
 use h264_bits::Bits;
 use h264_dpb::{Ended, Output};
 use h264_header::Header;
-use h264_marking::{Held, ReferenceFrame};
+use h264_marking::Held;
 use h264_picture::{Work, buffer_size, slice_samples};
 use h264_pps::Pps;
 use h264_sps::sps::{FrameSize, Sps};
@@ -37,10 +34,6 @@ pub struct Decoder {
     pub(crate) format: Option<Format>,
     /// Where the newest picture is decoded.
     pub(crate) place: usize,
-    /// The next slice of the newest picture begins at this macroblock or behind it.
-    pub(crate) next_number: u64,
-    /// chroma_qp_index_offset of the newest picture.
-    pub(crate) chroma_qp_index_offset: i32,
 }
 
 fn format_of(sps: &Sps) -> Format
@@ -52,34 +45,8 @@ fn format_of(sps: &Sps) -> Format
     }
 }
 
-/// Whether a held frame is the picture with this number.
-fn is_frame_of(frame: &ReferenceFrame, picture: u64) -> bool
-    ensures { result ≡ is_picture picture frame.now.picture }
-{
-    match frame.picture {
-        None => false,
-        Some(number) => number == picture,
-    }
-}
-
-/// Whether the picture with this number is held.
-fn is_among(frames: &[ReferenceFrame], picture: u64) -> bool
-    ensures { result ≡ list_any (λ f. is_picture picture f.picture) frames.now }
-{
-    frames.iter().any(|frame| is_frame_of(frame, picture))
-}
-
-/// Whether a picture can be stored where so many frames can be held. A picture whose marking was met can.
-fn is_storable(picture: &Ended, held: &Held, frames: usize) -> bool
-    ensures few { IsTrue result → length held.now.frames ≤ frames }
-    ensures marked { IsTrue result → picture.now.reference ≡ true → is_held (names held.now) picture.now.picture ≡ true }
-{
-    let held = held.frames();
-    held.len() <= frames && (!picture.reference || is_among(held, picture.picture))
-}
-
 impl Decoder {
-    ghost use Rattle.std.specs.Prelude.{◌≡◌, ℕ, ◌+◌, ◌-◌, ◌<◌, ◌≤◌, ◌^◌, true, false, [], ◌∷◌, List, Some, None, length, get_or, OnOk, IfOk, IfErr};
+    ghost use Rattle.std.specs.Prelude.{◌≡◌, ℕ, ◌+◌, ◌-◌, ◌<◌, ◌≤◌, ◌^◌, ◌⊎◌, true, false, [], ◌∷◌, List, Some, None, length, get_or, OnOk, IfOk, IfErr};
     ghost use Rattle.h264_base.specs.declared.mode.Mode.{Mode};
     ghost use Rattle.h264_base.specs.declared.mode.Mode.TheVariants as modes;
     ghost use Rattle.h264_plane.specs.declared.frame.Frame.{Frame};
@@ -89,19 +56,18 @@ impl Decoder {
     ghost use Rattle.h264_mbsyntax.specs.Slice.{slice_data};
     ghost use Rattle.h264_picture.specs.Levels.{transform_fits};
     ghost use Rattle.h264_picture.specs.Filter.{slice_filter};
-    ghost use Rattle.h264_header.specs.Picture.{is_idr};
     ghost use Rattle.h264_picture.specs.Places.{lent, first_place, is_active_place, IsReleased, KeepsFrames as KeepsLent};
     ghost use Rattle.h264_verify.specs.declared.decoder.Format.{Format as FormatView};
     ghost use Rattle.h264_dpb.specs.Bumping.{missing_in};
     ghost use Rattle.h264_dpb.specs.Turns.{Turn, turn_then, names, empties, missing_turn, last_turn};
-    ghost use Rattle.h264_dpb.specs.Kept.{KeepsBuffer};
+    ghost use Rattle.h264_dpb.specs.Kept.{KeepsBuffer, size_of};
     ghost use Rattle.h264_verify.specs.Telling.{took_with};
     ghost use Rattle.h264_verify.specs.Outcome.{Plays};
     ghost use Rattle.h264_verify.specs.Pictures.{CodedSlice, CodedPicture, held_after, last_slice, picture_size};
     ghost use Rattle.h264_verify.specs.Lists.{context_in};
     ghost use Rattle.h264_verify.specs.Decoding.{number_of};
     ghost use Rattle.h264_verify.specs.Buffering.{ended_picture, told_frames, end_frames};
-    ghost use Rattle.h264_verify.specs.Keeping.{format_of, HasFormat, IsRoomFor, KeepsOutput, FillsFrames, KeepsFrames, KeepsDecoder, KeepsSomeGap, KeepsSomeEnd, EntersFrames, BegunFrames, HoldsBegun, IsNear};
+    ghost use Rattle.h264_verify.specs.Keeping.{format_of, HasFormat, IsSized, AreOlder, EntersSome, IsRoomFor, KeepsOutput, FillsFrames, KeepsFrames, KeepsDecoder, KeepsSomeGap, KeepsSomeEnd, EntersFrames, BegunFrames, HoldsBegun, IsNear};
     ghost use Rattle.h264_verify.specs.UnitOutcome.{steps_outcome, structure_from};
     ghost use Rattle.h264_verify.specs.Feeding.{EndsFrames, ReadsSlice};
 
@@ -114,28 +80,24 @@ impl Decoder {
             output: Output::new(),
             format: None,
             place: 0,
-            next_number: 0,
-            chroma_qp_index_offset: 0,
         }
     }
 
-    /// Room for the pictures of a sequence, which an IDR picture begins. Memory: it was refused.
+    /// Room for the pictures of a sequence; another format comes with an IDR picture alone. Memory: it was refused.
     #[tactic(auto, using(crate::proofs::Reading::usable_size))]
-    fn activate(&mut self, idr: bool, sps: &Sps) -> Result<(), Stop>
+    fn activate(&mut self, sps: &Sps) -> Result<(), Stop>
         requires { is_usable sps.now ≡ true }
         ensures room { HasFormat self.old.format self.old.work → OnOk result (IsRoomFor (format_of sps.now) self.new.work) }
         ensures format { OnOk result (self.new.format ≡ Some (format_of sps.now)) }
         ensures kept { IsReleased self.old.work → OnOk result (KeepsLent self.old.work self.new.work) }
-        ensures others { idr ≡ false → OnOk result (self.new ≡ self.old) }
+        ensures others { self.old.format ≡ Some (format_of sps.now) → OnOk result (self.new ≡ self.old) }
         ensures output { self.new.output ≡ self.old.output }
+        ensures sized { IsReleased self.old.work → IsSized self.old.format self.old.output → OnOk result (IsSized self.new.format self.new.output ⊎ AreOlder self.old.work self.new.work) }
         ensures err { IfErr result (λ e. e ≡ Stop.Memory) }
     {
         let format = format_of(sps);
         if self.format == Some(format) {
             return Ok(());
-        }
-        if !idr {
-            return Err(Stop::Memory);
         }
         self.work.activate(sps)?;
         self.format = Some(format);
@@ -143,25 +105,19 @@ impl Decoder {
     }
 
     /// Begins a picture at a place where no frame of the buffer stands. Memory: it was refused.
-    pub(crate) fn begin(
-        &mut self,
-        idr: bool,
-        sps: &Sps,
-        chroma_qp_index_offset: i32,
-    ) -> Result<(), Stop>
-        requires { is_usable sps.now ≡ true }
-        ensures begins { (frames : ℕ → Frame) (slice : CodedSlice) (pictures : List CodedPicture) → slice.sps ≡ sps.now → is_idr slice.header ≡ idr → EntersFrames frames slice pictures self.old → OnOk result (BegunFrames frames slice pictures self.new) }
+    pub(crate) fn begin(&mut self, sps: &Sps) -> Result<(), Stop>
+        requires usable { is_usable sps.now ≡ true }
+        requires kept { EntersSome self.old }
+        ensures begins { (frames : ℕ → Frame) (slice : CodedSlice) (pictures : List CodedPicture) → slice.sps ≡ sps.now → EntersFrames frames slice pictures self.old → OnOk result (BegunFrames frames slice pictures self.new) }
         ensures err { IfErr result (λ e. e ≡ Stop.Memory) }
     {
-        self.activate(idr, sps)?;
+        self.activate(sps)?;
         let first = self.work.first_place();
         let Some(place) = self.output.free_place(first, self.work.places()) else {
-            return Err(Stop::Memory);
+            unreachable!()
         };
         self.work.begin(place);
         self.place = place;
-        self.next_number = 0;
-        self.chroma_qp_index_offset = chroma_qp_index_offset;
         Ok(())
     }
 
@@ -206,17 +162,10 @@ impl Decoder {
         requires usable { Usable slice.now }
         requires qp { slice.now.qp ≤ 51 }
         requires room { S.failures sink.old < 2 ^ 64 - 1 }
-        ensures reads { (frames : ℕ → Frame) (p : CodedPicture) (ps : List CodedPicture) (slices : List CodedSlice) (s : CodedSlice) (macroblocks : List CodedMacroblock) (t : Turn) → slice.now ≡ context_in (p ∷ ps) s → slice_filter pps.now header.now ≡ slice_filter s.pps s.header → number_of s ≡ length macroblocks → KeepsOutput frames t (length ps) self.old → HoldsBegun frames p ps slices macroblocks self.old → ReadsSlice S.took S.failures frames (structure_from (slice_data (transform_fits slice.now) p.first.sps.frame_size.width (picture_size p.first.sps) slice.now macroblocks) bits.old.body bits.old.at) (λ ms. HoldsBegun frames p ps (s ∷ slices) ms self.new × KeepsOutput frames t (length ps) self.new) sink.old sink.new result }
+        ensures reads { (frames : ℕ → Frame) (p : CodedPicture) (ps : List CodedPicture) (slices : List CodedSlice) (s : CodedSlice) (macroblocks : List CodedMacroblock) (t : Turn) → slice.now ≡ context_in (p ∷ ps) s → slice_filter pps.now header.now ≡ slice_filter s.pps s.header → number_of s ≡ length macroblocks → s.pps ≡ p.first.pps → KeepsOutput frames t (length ps) self.old → HoldsBegun frames p ps slices macroblocks self.old → ReadsSlice S.took S.failures frames (structure_from (slice_data (transform_fits slice.now) p.first.sps.frame_size.width (picture_size p.first.sps) slice.now macroblocks) bits.old.body bits.old.at) (λ ms. HoldsBegun frames p ps (s ∷ slices) ms self.new × KeepsOutput frames t (length ps) self.new) sink.old sink.new result }
         ensures kept { OnOk result (S.failures sink.new ≡ S.failures sink.old) }
     {
-        let number = slice.number as u64;
-        if number < self.next_number
-            || slice.chroma_qp_index_offset != self.chroma_qp_index_offset
-        {
-            return Err(Stop::Memory);
-        }
         let places = self.places(&slice.references)?;
-        self.next_number = number + 1;
         self.work
             .slice(bits, slice, &slice_samples(pps, header, places), sink)
     }
@@ -243,19 +192,14 @@ impl Decoder {
     ) -> Result<(), Stop>
         requires room { S.failures sink.old < 2 ^ 64 - 1 }
         requires few { picture.now.picture < 2 ^ 62 }
-        requires kept { KeepsSomeEnd picture.now self.old }
+        requires kept { KeepsSomeEnd picture.now held.now self.old }
         ensures ends { (frames : ℕ → Frame) (p : CodedPicture) (ps : List CodedPicture) → picture.now ≡ ended_picture p ps → held.now ≡ held_after (p ∷ ps) → length (last_slice p).macroblocks ≡ picture_size p.first.sps → KeepsFrames frames true false (p ∷ ps) self.old → EndsFrames modes.Full S.took S.failures frames true true (p ∷ ps) (steps_outcome (end_frames modes.Full (p ∷ ps))) self.new sink.old sink.new result }
         ensures kept { OnOk result (S.failures sink.new ≡ S.failures sink.old) }
+        ensures no_memory { IfErr result (λ e. e ≡ Stop.Write) }
     {
         self.work.end();
         self.output.make_way(picture, &self.work, sink)?;
         self.settle(picture);
-        let Some(format) = self.format else {
-            return Err(Stop::Memory);
-        };
-        if !is_storable(picture, held, format.frames) {
-            return Err(Stop::Memory);
-        }
         self.output
             .store(picture, self.place, held, &self.work, sink)
     }
@@ -264,17 +208,15 @@ impl Decoder {
     pub(crate) fn miss<S: FrameSink>(&mut self, held: &Held, sink: &mut S) -> Result<(), Stop>
         requires room { S.failures sink.old < 2 ^ 64 - 1 }
         requires missing { 0 < missing_in (names held.now) }
+        requires few { length held.now.frames ≤ size_of self.old.output }
         requires kept { KeepsSomeGap modes.Full self.old }
         ensures plays { (frames : ℕ → Frame) (t : Turn) (next : ℕ) → FillsFrames frames t next self.old → Plays (took_with frames S.took) S.failures (λ x. x) (steps_outcome (told_frames modes.Full (missing_turn held.now t.buffer).written)) sink.old sink.new result }
         ensures keeps { (frames : ℕ → Frame) (t : Turn) (next : ℕ) → FillsFrames frames t next self.old → OnOk result (FillsFrames frames (turn_then t (missing_turn held.now)) next self.new) }
+        ensures sized { size_of self.new.output ≡ size_of self.old.output }
+        ensures format { self.new.format ≡ self.old.format }
         ensures kept { OnOk result (S.failures sink.new ≡ S.failures sink.old) }
+        ensures no_memory { IfErr result (λ e. e ≡ Stop.Write) }
     {
-        let Some(format) = self.format else {
-            return Err(Stop::Memory);
-        };
-        if held.frames().len() > format.frames {
-            return Err(Stop::Memory);
-        }
         self.output.miss(held, &self.work, sink)
     }
 

@@ -1,11 +1,13 @@
 //! frame_num of a slice, and the frames that are missing before its picture (7.4.3, 8.2.5.2).
 #![tactic(auto)]
 
-ghost use Rattle.std.specs.Prelude.{◌≡◌, ℕ, ◌+◌, ◌-◌, ◌%◌, ◌<◌, ◌≤◌, ◌^◌, ◌&&◌, ◌||◌, not, ◌==◌, true, [], ◌∷◌, Some, None, Ok, Err, OnOk, IfOk, IfErr, IsErrOf, if◌then◌else◌};
+ghost use Rattle.std.specs.Prelude.{◌≡◌, ℕ, ◌+◌, ◌-◌, ◌%◌, ◌<◌, ◌≤◌, ◌^◌, ◌&&◌, ◌||◌, not, ◌==◌, true, false, length, [], ◌∷◌, Some, None, Ok, Err, OnOk, IfOk, IfErr, IsErrOf, if◌then◌else◌};
 ghost use Rattle.h264_header.specs.Layout.{has_lengths};
 ghost use Rattle.std.specs.Prelude.{List};
 ghost use Rattle.h264_plane.specs.declared.frame.Frame.{Frame};
 ghost use Rattle.h264_dpb.specs.Bumping.{missing_in};
+ghost use Rattle.h264_dpb.specs.Kept.{size_of};
+ghost use Rattle.h264_marking.specs.Frames.{frame_places};
 ghost use Rattle.h264_dpb.specs.Turns.{Turn, turn_then, names, missing_turn};
 ghost use Rattle.h264_base.specs.declared.rule.Rule.TheVariants.{FrameNum};
 ghost use Rattle.h264_base.specs.declared.stop.Stop.TheVariants.{No};
@@ -13,7 +15,7 @@ ghost use Rattle.h264_marking.specs.Gaps.{is_new_num, entered, numbers_from, las
 ghost use Rattle.h264_verify.specs.Telling.{took_with};
 ghost use Rattle.h264_verify.specs.Outcome.{Plays};
 ghost use Rattle.h264_verify.specs.Buffering.{told_frames, gaps_turn, missing_steps};
-ghost use Rattle.h264_verify.specs.Keeping.{KeepsGap, KeepsSomeGap};
+ghost use Rattle.h264_verify.specs.Keeping.{KeepsGap, KeepsSomeGap, HasPlaces, GoesWith};
 ghost use Rattle.h264_verify.specs.UnitOutcome.{steps_outcome};
 ghost use Rattle.h264_verify.specs.Demands.{judged};
 ghost use Rattle.h264_verify.specs.Pictures.{prev_ref_frame_num_behind};
@@ -69,9 +71,12 @@ fn miss<S: FrameSink>(
 ) -> Result<(), Stop>
     requires room { S.failures sink.old < 2 ^ 64 - 1 }
     requires missing { 0 < missing_in (names held.now) }
+    requires few { HasPlaces mode (length held.now.frames) decoder.old }
     requires kept { KeepsSomeGap mode decoder.old }
     ensures plays { (frames : ℕ → Frame) (t : Turn) (next : ℕ) → KeepsGap mode frames t next decoder.old → Plays (took_with frames S.took) S.failures (λ x. x) (steps_outcome (told_frames mode (missing_turn held.now t.buffer).written)) sink.old sink.new result }
     ensures keeps { (frames : ℕ → Frame) (t : Turn) (next : ℕ) → KeepsGap mode frames t next decoder.old → OnOk result (KeepsGap mode frames (turn_then t (missing_turn held.now)) next decoder.new) }
+    ensures sized { size_of decoder.new.output ≡ size_of decoder.old.output }
+    ensures format { decoder.new.format ≡ decoder.old.format }
     ensures kept { OnOk result (S.failures sink.new ≡ S.failures sink.old) }
 {
     match mode {
@@ -94,9 +99,12 @@ fn fill_frames<S: FrameSink>(
 ) -> Result<u32, Stop>
     requires room { S.failures sink.old < 2 ^ 64 - 1 }
     requires numbers { 0 < numbering.now.max_frame_num }
+    requires few { 0 < count → length held.old.frames ≤ frame_places numbering.now.max_num_ref_frames }
+    requires places { 0 < count → HasPlaces mode (frame_places numbering.now.max_num_ref_frames) decoder.old }
     requires kept { KeepsSomeGap mode decoder.old }
     ensures plays { (frames : ℕ → Frame) (t : Turn) (next : ℕ) → KeepsGap mode frames t next decoder.old → Plays (took_with frames S.took) S.failures (λ _. tt) (steps_outcome (missing_steps mode bit numbering.now (numbers_from count ((prev + 1) % numbering.now.max_frame_num) numbering.now.max_frame_num) held.old t.buffer)) sink.old sink.new result }
     ensures keeps { (frames : ℕ → Frame) (t : Turn) (next : ℕ) → KeepsGap mode frames t next decoder.old → OnOk result (KeepsGap mode frames (turn_then t (gaps_turn numbering.now (numbers_from count ((prev + 1) % numbering.now.max_frame_num) numbering.now.max_frame_num) held.old)) next decoder.new) }
+    ensures format { decoder.new.format ≡ decoder.old.format }
     ensures last { IfOk result (λ last. last ≡ last_or prev (numbers_from count ((prev + 1) % numbering.now.max_frame_num) numbering.now.max_frame_num)) }
     ensures held { OnOk result (all_filled numbering.now (numbers_from count ((prev + 1) % numbering.now.max_frame_num) numbering.now.max_frame_num) held.old ≡ Some held.new) }
     ensures kept { OnOk result (S.failures sink.new ≡ S.failures sink.old) }
@@ -150,9 +158,11 @@ pub(crate) fn check_gap<S: FrameSink>(
 ) -> Result<(), Stop>
     requires lengths { has_lengths sps.now ≡ true }
     requires room { S.failures sink.old < 2 ^ 64 - 1 }
+    requires goes { is_idr header.now ≡ false → GoesWith mode sps.now held.old decoder.old }
     requires kept { KeepsSomeGap mode decoder.old }
     ensures plays { (frames : ℕ → Frame) (t : Turn) (next : ℕ) → KeepsGap mode frames t next decoder.old → Plays (took_with frames S.took) S.failures (λ x. x) (steps_outcome (gap_rules mode (is_idr header.now) (is_reference header.now) sps.now.gaps_in_frame_num_value_allowed_flag header.now.frame_num.bit prev_ref_frame_num.old (numbering_of sps.now header.now) held.old t.buffer)) sink.old sink.new result }
     ensures keeps { (frames : ℕ → Frame) (t : Turn) (next : ℕ) → KeepsGap mode frames t next decoder.old → OnOk result (KeepsGap mode frames (turn_then t (gaps_turn (numbering_of sps.now header.now) (unused_short_term_frame_nums (is_idr header.now) prev_ref_frame_num.old (numbering_of sps.now header.now)) held.old)) next decoder.new) }
+    ensures format { decoder.new.format ≡ decoder.old.format }
     ensures held { OnOk result (held.new ≡ entered (is_idr header.now) prev_ref_frame_num.old (numbering_of sps.now header.now) held.old) }
     ensures prev { OnOk result (prev_ref_frame_num.new ≡ prev_ref_frame_num_behind (is_idr header.now) (is_reference header.now) (resets header.now.marking) (numbering_of sps.now header.now) prev_ref_frame_num.old) }
     ensures kept { OnOk result (S.failures sink.new ≡ S.failures sink.old) }

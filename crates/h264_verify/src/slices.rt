@@ -19,7 +19,8 @@ ghost use Rattle.h264_plane.specs.declared.frame.Frame.{Frame};
 ghost use Rattle.h264_dpb.specs.Turns.{Turn, turn_then};
 ghost use Rattle.h264_verify.specs.Telling.{Said, took_with};
 ghost use Rattle.h264_verify.specs.Buffering.{gaps_turn, ended_picture, frame_count, newest_count};
-ghost use Rattle.h264_verify.specs.Keeping.{KeepsSlices, KeepsDecoder, KeepsGap, KeepsSomeGap, KeepsSomeRules, KeepsSomeSlice, EntersDecoder, HoldsEnd, HoldsOpen, IsLeft, begins_by, coded_before, first_by, later_by, standing_demands, slice_rules, Entered};
+ghost use Rattle.h264_verify.specs.Sound.{IsMarked};
+ghost use Rattle.h264_verify.specs.Keeping.{KeepsSlices, KeepsDecoder, KeepsGap, KeepsSomeGap, GoesWith, KeepsSomeRules, KeepsSomeSlice, EntersDecoder, HoldsEnd, HoldsOpen, IsLeft, begins_by, coded_before, first_by, later_by, standing_demands, slice_rules, Entered};
 ghost use Rattle.h264_verify.specs.Feeding.{JudgesSlice};
 ghost use Rattle.h264_verify.specs.UnitOutcome.{steps_outcome};
 ghost use Rattle.h264_units.specs.Stream.{NalUnit as UnitView};
@@ -112,9 +113,11 @@ fn check_first_slice<S: FrameSink>(
 ) -> Result<(), Stop>
     requires lengths { has_lengths sps.now ≡ true }
     requires room { S.failures sink.old < 2 ^ 64 - 1 }
+    requires goes { is_idr header.now ≡ false → GoesWith mode sps.now slices.old.held decoder.old }
     requires kept { KeepsSomeGap mode decoder.old }
     ensures plays { (frames : ℕ → Frame) (t : Turn) (next : ℕ) (pictures : List Picture) → KeepsGap mode frames t next decoder.old → KeepsCounts pictures slices.old.counts → Plays (took_with frames S.took) S.failures (λ x. x) (steps_outcome (first_by mode slices.old pictures t.buffer pps.now sps.now header.now bit)) sink.old sink.new result }
     ensures gap { (frames : ℕ → Frame) (t : Turn) (next : ℕ) → KeepsGap mode frames t next decoder.old → OnOk result (KeepsGap mode frames (turn_then t (gaps_turn (numbering_of sps.now header.now) (unused_short_term_frame_nums (is_idr header.now) slices.old.prev_ref_frame_num (numbering_of sps.now header.now)) slices.old.held)) next decoder.new) }
+    ensures format { decoder.new.format ≡ decoder.old.format }
     ensures counts { (pictures : List Picture) → KeepsCounts pictures slices.old.counts → OnOk result (KeepsCounts (picture_of sps.now header.now ∷ pictures) slices.new.counts) }
     ensures count { (pictures : List Picture) → KeepsCounts pictures slices.old.counts → OnOk result (slices.new.count ≡ newest_count (picture_of sps.now header.now ∷ pictures)) }
     ensures held { OnOk result (slices.new.held ≡ entered (is_idr header.now) slices.old.prev_ref_frame_num (numbering_of sps.now header.now) slices.old.held) }
@@ -189,6 +192,7 @@ fn check_rules<S: FrameSink>(
     requires lengths { has_lengths sps.now ≡ true }
     requires room { S.failures sink.old < 2 ^ 64 - 1 }
     requires pictures { slices.old.pictures < 2 ^ 42 }
+    requires goes { begins ≡ true → is_idr header.now ≡ false → GoesWith mode sps.now slices.old.held decoder.old }
     requires kept { KeepsSomeRules mode begins slices.old decoder.old }
     ensures plays { (frames : ℕ → Frame) (before : History) (unit : UnitView) → bit ≡ 8 * unit.from → KeepsSlices before begins slices.old → begins ≡ begins_at before header.now → KeepsDecoder mode frames (goes_on before) begins (runs_of before) decoder.old → Plays (took_with frames S.took) S.failures (λ x. x) (steps_outcome (slice_rules mode begins (runs_of before) (with_sets unit header.now [] (pps.now, sps.now)))) sink.old sink.new result }
     ensures entered { (before : History) (unit : UnitView) (macroblocks : List CodedMacroblock) → bit ≡ 8 * unit.from → KeepsSlices before begins slices.old → begins ≡ begins_at before header.now → OnOk result (Entered before begins (with_sets unit header.now macroblocks (pps.now, sps.now)) slices.new) }
@@ -326,6 +330,7 @@ pub(crate) fn judge_slice<S: FrameSink>(
     requires id { header.old.pic_parameter_set_id.value ≤ 255 }
     requires named { is_some (sets_of sets.old header.old.pic_parameter_set_id.value) ≡ true }
     requires pictures { slices.old.pictures < 2 ^ 42 }
+    requires marked { IsMarked header.old }
     requires kept { KeepsSomeSlice mode slices.old sets.old decoder.old }
     ensures judges { (frames : ℕ → Frame) (before : History) (named : Pps × Sps) → KeepsSlices before false slices.old → sets.old ≡ maps_of before → sets_of sets.old header.old.pic_parameter_set_id.value ≡ Some named → KeepsDecoder mode frames (goes_on before) false (runs_of before) decoder.old → JudgesSlice mode S.took S.failures frames before unit.now header.old named begins decoder.new sink.old sink.new result }
     ensures keeps { (before : History) (macroblocks : List CodedMacroblock) → KeepsSlices before false slices.old → sets.old ≡ maps_of before → OnOk result (KeepsSlices (record { unit = unit.now; content = contents.OfSlice header.old macroblocks } ∷ before) false slices.new) }

@@ -15,6 +15,7 @@ ghost use Rattle.h264_dpb.specs.Turns.{Turn, last_turn};
 ghost use Rattle.h264_dpb.specs.Kept.{KeepsBuffer};
 ghost use Rattle.h264_verify.specs.Telling.{Said, took_with};
 ghost use Rattle.h264_verify.specs.Buffering.{told_frames, after_all, frames_written};
+ghost use Rattle.h264_verify.specs.Sound.{IsMarked};
 ghost use Rattle.h264_verify.specs.Keeping.{Keeps, KeepsWithin, KeepsSome, KeepsGap, KeepsSomeGap, IsLeft, ended_pictures, ended_in};
 ghost use Rattle.h264_verify.specs.Pictures.{CodedPicture, ends_picture, goes_on, runs_of};
 ghost use Rattle.h264_verify.specs.Feeding.{Turns, Joins, EndsAll};
@@ -143,6 +144,7 @@ fn read_slice_unit<S: FrameSink>(
     ensures plays { (frames : ℕ → Frame) (before : History) → sets.now ≡ maps_of before → header ≡ header_of unit.now → Plays (took_with frames S.took) S.failures (λ _. contents.OfSlice found.new []) (slice_outcome before unit.now) sink.old sink.new result }
     ensures id { OnOk result (found.new.pic_parameter_set_id.value ≤ 255) }
     ensures named { OnOk result (is_some (sets_of sets.now found.new.pic_parameter_set_id.value) ≡ true) }
+    ensures marked { fits_kind (nal_unit_type header) (nal_ref_idc header) ≡ true → OnOk result (IsMarked found.new) }
     ensures kept { OnOk result (S.failures sink.new ≡ S.failures sink.old) }
 {
     let rbsp = Rbsp::of(alloc, unit)?;
@@ -201,6 +203,7 @@ fn join_pps<S: FrameSink>(
     requires room { S.failures sink.old < 2 ^ 64 - 1 }
     requires units { state.old.units ≤ 2 ^ 40 }
     requires pictures { state.old.slices.pictures ≤ state.old.units }
+    requires ends { ends_picture kind ≡ true }
     requires kind { kind ≡ nal_unit_type (header_of unit.now) }
     ensures joins { (frames : ℕ → Frame) (before : History) → KeepsWithin mode frames before (ends_picture kind) state.old → Joins mode S.took S.failures frames (length (ended_pictures (goes_on before) (ends_picture kind) (runs_of before))) (joined mode before unit.now (pps_outcome unit.now)) state.new sink.old sink.new result }
     ensures counts { OnOk result (state.new.units ≡ state.old.units + 1) }
@@ -226,6 +229,7 @@ fn join_slice<S: FrameSink>(
     requires pictures { state.old.slices.pictures ≤ state.old.units }
     requires goes_on { ends_picture (nal_unit_type header) ≡ false }
     requires header { header ≡ header_of unit.now }
+    requires fits { fits_kind (nal_unit_type header) (nal_ref_idc header) ≡ true }
     requires kept { KeepsSome modes.Headers false state.old }
     ensures joins { (frames : ℕ → Frame) (before : History) → KeepsWithin modes.Headers frames before (ends_picture (nal_unit_type header)) state.old → Joins modes.Headers S.took S.failures frames (ended_in before) (joined modes.Headers before unit.now (slice_outcome before unit.now)) state.new sink.old sink.new result }
     ensures counts { OnOk result (state.new.units ≡ state.old.units + 1) }
@@ -261,6 +265,7 @@ fn join_whole_slice<S: FrameSink>(
     requires pictures { state.old.slices.pictures ≤ state.old.units }
     requires goes_on { ends_picture (nal_unit_type header) ≡ false }
     requires header { header ≡ header_of unit.now }
+    requires fits { fits_kind (nal_unit_type header) (nal_ref_idc header) ≡ true }
     requires kept { KeepsSome modes.Full false state.old }
     ensures joins { (frames : ℕ → Frame) (before : History) → KeepsWithin modes.Full frames before (ends_picture (nal_unit_type header)) state.old → Joins modes.Full S.took S.failures frames (ended_in before) (whole_slice before unit.now) state.new sink.old sink.new result }
     ensures counts { OnOk result (state.new.units ≡ state.old.units + 1) }
@@ -327,6 +332,7 @@ fn join_other<S: FrameSink>(
     requires units { state.old.units ≤ 2 ^ 40 }
     requires pictures { state.old.slices.pictures ≤ state.old.units }
     requires header { header ≡ header_of unit.now }
+    requires fits { fits_kind (nal_unit_type header) (nal_ref_idc header) ≡ true }
     requires kept { KeepsSome mode (ends_picture (nal_unit_type header)) state.old }
     ensures joins { (frames : ℕ → Frame) (before : History) → KeepsWithin mode frames before (ends_picture (nal_unit_type header)) state.old → Joins mode S.took S.failures frames (length (ended_pictures (goes_on before) (ends_picture (nal_unit_type header)) (runs_of before))) (joined_other mode (nal_unit_type header) before unit.now) state.new sink.old sink.new result }
     ensures counts { OnOk result (state.new.units ≡ state.old.units + 1) }
@@ -360,6 +366,7 @@ fn join<S: FrameSink>(
     requires units { state.old.units ≤ 2 ^ 40 }
     requires pictures { state.old.slices.pictures ≤ state.old.units }
     requires header { header ≡ header_of unit.now }
+    requires fits { fits_kind (nal_unit_type header) (nal_ref_idc header) ≡ true }
     requires kept { KeepsSome mode (ends_picture (nal_unit_type header)) state.old }
     ensures joins { (frames : ℕ → Frame) (before : History) → KeepsWithin mode frames before (ends_picture (nal_unit_type header)) state.old → Joins mode S.took S.failures frames (length (ended_pictures (goes_on before) (ends_picture (nal_unit_type header)) (runs_of before))) (joined_by mode (nal_unit_type header) before unit.now) state.new sink.old sink.new result }
     ensures counts { OnOk result (state.new.units ≡ state.old.units + 1) }

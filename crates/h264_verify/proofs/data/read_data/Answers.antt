@@ -1,8 +1,6 @@
-use Rattle.std.proofs.Common.{sym, ap, ◌∙◌, subst, List, []}
+use Rattle.std.proofs.Common.{sym, ◌∙◌, subst, List, []}
 use Rattle.std.proofs.lemmas.Result.{err_from_is_err_and}
 use Rattle.h264_base.specs.Grammar.{Grammar}
-use Rattle.h264_header.specs.declared.header.Header.{Header}
-use Rattle.h264_header.specs.Picture.{is_idr}
 use Rattle.h264_near.specs.Coded.{CodedMacroblock}
 use Rattle.h264_verify.specs.Pictures.{joined_to, picture_size}
 use Rattle.h264_verify.specs.Data.{picture_set, coded_so_far}
@@ -15,16 +13,15 @@ use Rattle.h264_verify.proofs.data.read_data.Goals as goal
 pub returns-in_err-begin_if-clause-reads : goal.returns-in_err-begin_if-clause-reads
 returns-in_err-begin_if-clause-reads g c =
     let p = err_from_is_err_and c.from_residual.result c.from_residual.ensures.1 in
-    rw (p.1, p.2, c.in_err-begin_if.ensures.err) (λ frames on pictures s n h held met none live k. record { macroblocks = []; end = 0; plays = memory-plays _ _ _ _ _; keeps = tt })
+    rw (p.1, p.2, c.in_err-begin_if.ensures.err) (λ frames on pictures s n h held met none live set k. record { macroblocks = []; end = 0; plays = memory-plays _ _ _ _ _; keeps = tt })
 
 pub returns-clause-reads : goal.returns-clause-reads
-returns-clause-reads g c = λ frames on pictures s n h held place none live k.
+returns-clause-reads g c = λ frames on pictures s n h held place none live set k.
     let sps-is = named-set c.args.sets.now c.args.header.now s _ _ c.in-Some.ensures.some n h in
-    let idr-is = ap (λ (x : Header). is_idr x) (sym h) ∙ sym c.is_some-idr.ensures in
-    let begun = c.in_ok-begin_if.ensures.holds frames on s pictures (sym sps-is) idr-is live k in
+    let begun = c.in_ok-begin_if.ensures.holds frames on s pictures (sym sps-is) live k in
     let items = c.as_slice.ensures.value ∙ c.list_of-list.ensures in
     let context = context-is c.args.begins pictures s c.args.sets.now c.args.header.now _ _ _ _ _ _ c.slice_context-slice.ensures.value c.in-Some.ensures.some n h c.numbering_of-numbering.ensures held items in
     let filter = filter-is s c.args.sets.now c.args.header.now _ _ c.in-Some.ensures.some n h in
     let same = syntax-is (picture_set c.args.begins s pictures).frame_size.width (picture_size (picture_set c.args.begins s pictures)) _ _ c.args.header.now _ (coded_so_far c.args.begins pictures) _ c.slice_context-slice.ensures.value ∙ data-same c.args.begins pictures s c.args.sets.now c.args.header.now _ _ _ _ _ c.in-Some.ensures.some n h c.numbering_of-numbering.ensures held items in
     subst (λ (q : Grammar (List CodedMacroblock)). ReadsData g.S.Elements.took g.S.Elements.failures frames (structure_from q c.args.bits.now.body c.args.bits.now.at) (λ ms. joined_to c.args.begins (record s { macroblocks = ms }) pictures) c.slice.new.self c.args.sink.now c.slice.new.sink c.slice.result) same
-    (read-behind _ _ frames _ _ _ _ _ c.args.begins pictures s _ _ _ context place begun (λ p ps slices ms t is number o b. c.slice.ensures.reads frames p ps slices s ms t is filter number o b))
+    (read-behind _ _ frames _ _ _ _ _ c.args.begins pictures s _ _ _ context place set begun (λ p ps slices ms t is number same o b. c.slice.ensures.reads frames p ps slices s ms t is filter number same o b))

@@ -1,7 +1,8 @@
-use Rattle.std.proofs.Common.{◌∙◌, [], ◌∷◌, ◌++◌}
+use Rattle.std.proofs.Common.{◌≡◌, ◌∙◌, ℕ, ◌<◌, Bool, true, false, [], ◌∷◌, ◌++◌, refl, arith}
 use Rattle.std.proofs.lemmas.Result.{err_from_is_err_and}
 use Rattle.h264_header.specs.Picture.{is_idr, is_reference}
-use Rattle.h264_marking.specs.Gaps.{unused_short_term_frame_nums}
+use Rattle.h264_marking.specs.declared.frame.Numbering.{Numbering}
+use Rattle.h264_marking.specs.Gaps.{gap_before, unused_short_term_frame_nums}
 use Rattle.h264_marking.specs.Ended.{numbering_of}
 use Rattle.h264_verify.specs.Telling.{took_with}
 use Rattle.h264_verify.specs.Steps.{needs}
@@ -10,6 +11,16 @@ use Rattle.h264_verify.specs.Slices.{gap_demand, new_num_demand}
 use Rattle.h264_verify.proofs.Missing.{new-filled}
 use Rattle.h264_verify.proofs.Stepwise.{rules-play, rules-stop, rules-on, steps-stop, steps-on}
 use Rattle.h264_verify.proofs.frame_num.check_gap.Goals as goal
+
+gap-not-idr : (idr : Bool) (prev : ℕ) (n : Numbering) → 0 < gap_before idr prev n → idr ≡ false
+gap-not-idr true prev n h = absurd (omega (arith, h))
+gap-not-idr false prev n h = refl
+
+pub fill_frames-requires-clause-few : goal.fill_frames-requires-clause-few
+fill_frames-requires-clause-few g c = rw (c.gap_before-gap.ensures, c.numbering_of-numbering.ensures, c.is_some-idr.ensures) (λ some. (c.requires.goes (gap-not-idr (is_idr c.args.header.now) c.args.prev_ref_frame_num.now (numbering_of c.args.sps.now c.args.header.now) some)).few)
+
+pub fill_frames-requires-clause-places : goal.fill_frames-requires-clause-places
+fill_frames-requires-clause-places g c = rw (c.gap_before-gap.ensures, c.numbering_of-numbering.ensures, c.is_some-idr.ensures) (λ some. (c.requires.goes (gap-not-idr (is_idr c.args.header.now) c.args.prev_ref_frame_num.now (numbering_of c.args.sps.now c.args.header.now) some)).places)
 
 pub returns-in_err-check_missing-clause-plays : goal.returns-in_err-check_missing-clause-plays
 returns-in_err-check_missing-clause-plays g c =

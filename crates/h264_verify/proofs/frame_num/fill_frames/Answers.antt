@@ -1,6 +1,7 @@
-use Rattle.std.proofs.Common.{◌≡◌, ◌∙◌, refl, rules, subst}
+use Rattle.std.proofs.Common.{◌≡◌, ◌∙◌, ◌<◌, refl, rules, subst, arith}
 use Rattle.std.proofs.lemmas.Result.{err_from_is_err_and}
 use Rattle.h264_marking.proofs.Filling.{Filled, filled-first, filled-next, filled-last}
+use Rattle.h264_verify.proofs.Filling.{places-down, places-same}
 use Rattle.h264_verify.proofs.Missing.{filled-some, filled-none, some-missing, some-gap, fills-first, fills-more, fills-whole, fills-refused, fills-stopped, fills-next, fills-last, fills-kept}
 use Rattle.h264_verify.proofs.frame_num.fill_frames.Goals as goal
 
@@ -8,8 +9,16 @@ pub loop-turn-init : goal.loop-turn-init
 loop-turn-init g c = record {
   filled = filled-first c.args.numbering.now c.args.count c.args.prev c.args.held.now;
   fills = λ frames t next k. fills-first c.args.mode c.args.bit c.args.numbering.now c.args.count c.args.prev c.args.held.now g.S.Elements.took g.S.Elements.failures frames t next c.args.sink.now c.args.decoder.now k;
+  few = c.requires.few;
+  places = c.requires.places;
+  format = refl;
   kept = refl;
 }
+
+pub miss-requires-clause-few : goal.miss-requires-clause-few
+miss-requires-clause-few g c =
+    let some : 0 < c.args.count = let t = c.loop-turn-test.true in omega (arith, t) in
+    places-down c.args.mode _ _ c.loop-turn.decoder (c.in_ok-fill_gap.ensures.bounded (c.loop-turn.invariant.few some)) (c.loop-turn.invariant.places some)
 
 pub miss-requires-clause-missing : goal.miss-requires-clause-missing
 miss-requires-clause-missing g c = some-missing _ _ _ (filled-some _ _ _ _ _ c.in_ok-fill_gap.ensures.answer c.in_ok-fill_gap.ensures.held)
@@ -44,6 +53,9 @@ loop-turn-preserved g c =
       fills = λ frames t next k.
           let f = fills-more c.args.mode c.args.bit c.args.numbering.now c.args.count c.args.prev c.args.held.now g.S.Elements.took g.S.Elements.failures frames t next c.args.sink.now c.loop-turn._turn c.loop-turn.last c.loop-turn.held c.loop-turn.sink c.loop-turn.decoder c.loop-turn-test.true (c.loop-turn.invariant.fills frames t next k) in
           fills-next c.args.mode c.args.bit c.args.numbering.now c.args.count c.args.prev c.args.held.now g.S.Elements.took g.S.Elements.failures frames t next c.args.sink.now _ c.loop-turn.last c.loop-turn.held c.loop-turn.sink c.loop-turn.decoder f c.loop-turn.invariant.kept c.fill_gap.new.self (filled-some _ _ _ _ _ answer held) c.miss.new.sink c.miss.new.decoder _ (c.in_ok-miss.ensures.plays frames f.turn next f.keeps) (c.in_ok-miss.ensures.keeps frames f.turn next f.keeps);
+      few = λ some. c.in_ok-fill_gap.ensures.bounded (c.loop-turn.invariant.few some);
+      places = λ some. places-same c.args.mode _ c.loop-turn.decoder c.miss.new.decoder c.in_ok-miss.ensures.sized (c.loop-turn.invariant.places some);
+      format = c.in_ok-miss.ensures.format ∙ c.loop-turn.invariant.format;
       kept = c.in_ok-miss.ensures.kept ∙ c.loop-turn.invariant.kept;
     })
 

@@ -8,6 +8,7 @@ use Rattle.h264_verify.specs.Buffering.{after_all}
 use Rattle.h264_verify.specs.Slices.{later_slice_rules}
 use Rattle.h264_verify.specs.Pictures.{goes_on, runs_of, with_sets, counted}
 use Rattle.h264_verify.proofs.Stepwise.{rules-play}
+use Rattle.h264_verify.proofs.Filling.{made-same}
 use Rattle.h264_verify.proofs.Joining.{ended-gap}
 use Rattle.h264_verify.proofs.Ruling.{some-begun, first-rules, enters-first, enters-later, later-rules, ok-any}
 use Rattle.h264_verify.proofs.slices.check_rules.Goals as goal
@@ -23,7 +24,7 @@ returns-then-begins-clause-plays g c = rw c.if-begins.true (λ frames before uni
 
 pub returns-then-begins-clause-frames : goal.returns-then-begins-clause-frames
 returns-then-begins-clause-frames g c = rw c.if-begins.true (λ frames before unit k b d.
-    enters-first c.check_first_slice.result c.args.mode frames (goes_on before) (runs_of before) c.args.slices.now (with_sets unit c.args.header.now [] (c.args.pps.now, c.args.sps.now)) c.check_first_slice.new.decoder k.kept
+    enters-first c.check_first_slice.result c.args.mode frames (goes_on before) (runs_of before) c.args.slices.now (with_sets unit c.args.header.now [] (c.args.pps.now, c.args.sps.now)) c.check_first_slice.new.decoder (λ i. made-same c.args.mode _ c.args.decoder.now c.check_first_slice.new.decoder c.check_first_slice.ensures.format (c.requires.goes c.if-begins.true i).format) k.kept
     (c.check_first_slice.ensures.gap frames (after_all (runs_of before)) (length (runs_of before)) (ended-gap c.args.mode frames (goes_on before) (runs_of before) c.args.decoder.now d)))
 
 pub returns-else-begins-clause-plays : goal.returns-else-begins-clause-plays

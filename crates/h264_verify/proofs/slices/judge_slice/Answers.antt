@@ -12,7 +12,10 @@ use Rattle.h264_verify.specs.Slices.{slice_steps}
 use Rattle.h264_verify.specs.Keeping.{EntersDecoder}
 use Rattle.h264_verify.proofs.Slicing.{refused, at-data, at-end, err-named, sets-after}
 use Rattle.h264_verify.proofs.Entering.{begins-as, slice-keeps}
+use Rattle.h264_verify.specs.Sound.{NamesSet}
+use Rattle.h264_verify.proofs.Ruling.{goes-with}
 use Rattle.h264_verify.proofs.Joining.{data-held}
+use Rattle.h264_verify.proofs.Standing.{stands-if, usable-set, before-active, joined-sound, joined-active, joined-named}
 use Rattle.h264_verify.proofs.Judged.{frames-stop, frames-on, standing-stop, place-stop, own-stop, own-on, before-held, ended-is, one-pair}
 use Rattle.h264_verify.proofs.slices.judge_slice.Goals as goal
 
@@ -28,6 +31,18 @@ check_rules-requires-clause-kept g c =
     let whole = c.in_ok-end_data_if.ensures.judged k.before k.slices_are (data-held c.args.mode k.frames (goes_on k.before) (runs_of k.before) c.args.decoder.now k.keeps) in
     let e = c.in_ok-end_frame_if.ensures.ends k.frames k.before ended whole k.keeps in
     record { frames = e.made; before = k.before; slices_are = ended; keeps = e.keeps }
+
+pub check_rules-requires-clause-goes : goal.check_rules-requires-clause-goes
+check_rules-requires-clause-goes g c = λ begun i.
+    let k = c.requires.kept in
+    let ended = c.in_ok-end_if.ensures.ended k.before k.slices_are in
+    let whole = c.in_ok-end_data_if.ensures.judged k.before k.slices_are (data-held c.args.mode k.frames (goes_on k.before) (runs_of k.before) c.args.decoder.now k.keeps) in
+    let e = c.in_ok-end_frame_if.ensures.ends k.frames k.before ended whole k.keeps in
+    let sets = sets-after c.args.sets.now _ c.args.header.now _ c.in_ok-check_standing.ensures.activated c.in-Some.ensures.some in
+    let stands = c.in_ok-check_standing.ensures.judged _ sets in
+    let usable = usable-set c.args.sets.now c.args.header.now.pic_parameter_set_id.value c.in-Some.named.0.now c.in-Some.named.1.now sets in
+    let set = stands-if c.args.begins _ (runs_of k.before) c.args.sets.now c.in-Some.named.1.now _ c.args.header.now (before-active k.before c.args.begins _ _ ended k.sets_are) stands begun i in
+    goes-with c.in-Some.named.1.now usable c.end_frame_if.new.decoder c.args.mode c.args.begins e.made k.before c.end_if.new.slices begun ended e.keeps set
 
 pub returns-in_err-end_data_if-clause-judges : goal.returns-in_err-end_data_if-clause-judges
 returns-in_err-end_data_if-clause-judges g c =
@@ -188,7 +203,12 @@ returns-clause-keeps g c = λ before ms k m.
     let fits : SFits w32 c.frame_count.result = search rules in
     let told : c.ended_of-ended.result ≡ ended_of c.in-Some.named.1.now c.args.header.now c.check_rules.new.slices.pictures (frame_count c.check_rules.new.slices.count) (buffer_size c.in-Some.named.1.now) = rw (to_z-of_z w32 c.frame_count.result fits, c.frame_count.ensures, c.buffer_size.ensures.value) at c.ended_of-ended.ensures in
     let end = c.enter.ensures.end (goes_on before) (runs_of before) slice (λ begun. told ∙ ended-is before c.args.begins slice c.check_rules.new.slices entered begun) entered.picture entered.end b in
-    slice-keeps before c.args.unit.now c.args.header.now ms c.args.sets.now c.check_rules.new.slices c.enter.new.slices c.args.begins _ b m sets entered opened end c.enter.ensures.due c.enter.ensures.newest c.enter.ensures.pictures (c.enter.ensures.behind ∙ c.bit_behind.ensures) c.enter.ensures.others
+    let stands = rw c.from-bit.ensures.value at (c.in_ok-check_standing.ensures.judged _ sets) in
+    let usable = usable-set c.args.sets.now c.args.header.now.pic_parameter_set_id.value c.in-Some.named.0.now c.in-Some.named.1.now sets in
+    let sound = joined-sound c.args.begins (goes_on before) slice (runs_of before) kept.sound c.requires.marked usable (stands-if c.args.begins _ (runs_of before) c.args.sets.now c.in-Some.named.1.now _ c.args.header.now (before-active before c.args.begins _ _ kept m) stands) in
+    slice-keeps before c.args.unit.now c.args.header.now ms c.args.sets.now c.check_rules.new.slices c.enter.new.slices c.args.begins _ b m sets entered
+    sound (joined-active c.args.sets.now slice sets c.args.begins (goes_on before) (runs_of before) _ _ b (before-active before c.args.begins _ _ kept m) stands) (joined-named c.args.sets.now slice sets c.args.begins (goes_on before) (runs_of before) b (subst (λ x. NamesSet (goes_on before) (runs_of before) x) (sym m) kept.named))
+    opened end c.enter.ensures.due c.enter.ensures.newest c.enter.ensures.pictures (c.enter.ensures.behind ∙ c.bit_behind.ensures) c.enter.ensures.others
 
 pub returns-clause-kept : goal.returns-clause-kept
 returns-clause-kept g c = (c.in_ok-tell_slice.ensures.plays c.requires.kept.frames).plays.2 ∙ c.in_ok-check_rules.ensures.kept ∙ c.in_ok-end_frame_if.ensures.kept

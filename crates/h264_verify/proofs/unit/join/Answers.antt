@@ -1,8 +1,9 @@
-use Rattle.std.proofs.Common.{◌≡◌, ℕ, sym, refl, subst}
+use Rattle.std.proofs.Common.{◌≡◌, ℕ, ap, sym, refl, subst}
 use Rattle.std.proofs.lemmas.Bool.{ne_eqb}
 use Rattle.h264_base.specs.declared.mode.Mode.{Mode}
 use Rattle.h264_units.specs.Stream.{NalUnit}
 use Rattle.h264_verify.specs.History.{History}
+use Rattle.h264_verify.specs.Pictures.{ends_picture}
 use Rattle.h264_verify.specs.UnitOutcome.{sps_outcome, pps_outcome, joined, joined_by}
 use Rattle.h264_verify.proofs.unit.join.Goals as goal
 
@@ -13,6 +14,9 @@ joined-seven mode kind before unit e = subst (λ (k : ℕ). joined_by mode k bef
 joined-eight : (mode : Mode) (kind : ℕ) (before : History) (unit : NalUnit) → kind ≡ 8 → joined_by mode kind before unit ≡ joined mode before unit (pps_outcome unit)
 unfolding joined_by
 joined-eight mode kind before unit e = subst (λ (k : ℕ). joined_by mode k before unit ≡ joined mode before unit (pps_outcome unit)) (sym e) refl
+
+pub join_pps-requires-clause-ends : goal.join_pps-requires-clause-ends
+join_pps-requires-clause-ends g c = ap (λ (k : ℕ). ends_picture k) c.if-header-eq8.true
 
 pub returns-then-header-eq7-clause-joins : goal.returns-then-header-eq7-clause-joins
 returns-then-header-eq7-clause-joins g c = λ frames before k. rw (joined-seven c.args.mode _ before c.args.unit.now c.if-header-eq7.true) (c.join_sps.ensures.joins frames before k)

@@ -10,4 +10,4 @@ pub returns-in_err-set-clause-joins : goal.returns-in_err-set-clause-joins
 returns-in_err-set-clause-joins g c = let p = err_from_is_err_and c.from_residual.result c.from_residual.ensures.1 in rw (p.1, p.2) (λ frames before k. joins-stops _ frames _ _ _ before _ _ _ contents.OfPps _ _ _ (c.in_err-set.ensures.plays frames))
 
 pub returns-clause-joins : goal.returns-clause-joins
-returns-clause-joins g c = λ frames before k. joins-on _ frames _ _ _ before _ _ _ contents.OfPps _ _ _ _ _ (c.in_ok-set.ensures.plays frames) (gives-plays _ _ (λ (u : Unit {0}). u) tt _) (passed-joins _ frames before c.args.unit.now (contents.OfPps c.in_ok-set.set) c.args.kind c.args.state.now _ tt c.requires.kind k c.pass.ensures.units (c.pass.ensures.sets ∙ c.put_pps.ensures.replaced ∙ ap (λ m. with_pps m c.in_ok-set.set) k.sets) c.pass.ensures.picture c.pass.ensures.due c.pass.ensures.others c.pass.ensures.decoder)
+returns-clause-joins g c = λ frames before k. joins-on _ frames _ _ _ before _ _ _ contents.OfPps _ _ _ _ _ (c.in_ok-set.ensures.plays frames) (gives-plays _ _ (λ (u : Unit {0}). u) tt _) (passed-joins _ frames before c.args.unit.now (contents.OfPps c.in_ok-set.set) c.args.kind c.args.state.now _ tt c.requires.ends c.requires.kind k c.pass.ensures.units (c.pass.ensures.sets ∙ c.put_pps.ensures.replaced ∙ ap (λ m. with_pps m c.in_ok-set.set) k.sets) c.pass.ensures.picture c.pass.ensures.due c.pass.ensures.others c.pass.ensures.decoder)

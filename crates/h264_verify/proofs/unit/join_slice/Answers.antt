@@ -11,6 +11,9 @@ use Rattle.h264_verify.proofs.unit.join_slice.Goals as goal
 pub judge_slice-requires-clause-kept : goal.judge_slice-requires-clause-kept
 judge_slice-requires-clause-kept g c = some-slice modes.Headers c.args.state.now c.requires.kept
 
+pub judge_slice-requires-clause-marked : goal.judge_slice-requires-clause-marked
+judge_slice-requires-clause-marked g c = c.in_ok-read_slice_unit.ensures.marked c.requires.fits
+
 pub returns-in_err-read_slice_unit-clause-joins : goal.returns-in_err-read_slice_unit-clause-joins
 returns-in_err-read_slice_unit-clause-joins g c = let p = err_from_is_err_and c.from_residual.result c.from_residual.ensures.1 in rw (p.1, p.2) (λ frames before k. joins-stops modes.Headers frames _ _ _ before _ _ _ (λ _. contents.OfSlice c.read_slice_unit.new.found []) _ _ _ (c.in_err-read_slice_unit.ensures.plays frames before k.sets c.requires.header))
 

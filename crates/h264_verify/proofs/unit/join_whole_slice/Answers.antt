@@ -11,12 +11,26 @@ use Rattle.h264_verify.specs.Keeping.{KeepsWithin, KeepsDecoder}
 use Rattle.h264_verify.proofs.Playing.{memory-plays}
 use Rattle.h264_verify.proofs.Slicing.{some-of, sets-before}
 use Rattle.h264_verify.proofs.Entering.{begins-as}
-use Rattle.h264_verify.proofs.Joining.{units-with, runs-with, goes-newest, enters-full, some-slice}
+use Rattle.h264_verify.proofs.Joining.{units-with, runs-with, goes-newest, enters-full, enters-some, some-slice}
 use Rattle.h264_verify.proofs.Reading.{header-read, slice-stops, slice-broken, slice-reads, placed, data-there}
+use Rattle.h264_sets.specs.Sets.{Maps}
+use Rattle.h264_verify.specs.Sound.{NamesSet}
+use Rattle.h264_verify.proofs.Standing.{later-set}
+use Rattle.h264_verify.proofs.Marked.{read-marked}
 use Rattle.h264_verify.proofs.unit.join_whole_slice.Goals as goal
 
 pub judge_slice-requires-clause-kept : goal.judge_slice-requires-clause-kept
 judge_slice-requires-clause-kept g c = some-slice modes.Full c.args.state.now c.requires.kept
+
+pub judge_slice-requires-clause-marked : goal.judge_slice-requires-clause-marked
+judge_slice-requires-clause-marked g c = read-marked _ _ _ _ c.args.header _ _ _ _ _ _ c.slice_unit-slice_unit.ensures c.requires.fits c.in_ok-read_header.ensures.meets
+
+pub read_data-requires-clause-kept : goal.read_data-requires-clause-kept
+read_data-requires-clause-kept g c = λ begun.
+    let k = c.requires.kept in
+    let some = some-of _ c.in_ok-read_header.ensures.named in
+    let j = c.in_ok-judge_slice.ensures.judges k.frames k.before some.0 k.keeps.slices k.keeps.sets some.1 k.keeps.decoder in
+    enters-some j.made c.begins-begins.result (with_sets c.args.unit.now c.read_header.new.header [] some.0) (goes_on k.before) (runs_of k.before) _ begun (enters-full j.made c.begins-begins.result (with_sets c.args.unit.now c.read_header.new.header [] some.0) (goes_on k.before) (runs_of k.before) _ j.enters)
 
 pub returns-in_err-rbsp-clause-joins : goal.returns-in_err-rbsp-clause-joins
 returns-in_err-rbsp-clause-joins g c = let p = err_from_is_err_and c.from_residual.result c.from_residual.ensures.1 in rw (p.1, p.2, c.in_err-rbsp.ensures.err) (λ frames before k. record { made = frames; same = λ n h. refl; after = []; plays = memory-plays _ _ _ _ _; keeps = tt })
@@ -64,7 +78,8 @@ returns-in_err-read_data-clause-joins g c =
     let held = (c.in_ok-judge_slice.ensures.keeps before [] kept.slices k.sets).kept.held ∙ ap held_in (sym (runs-with before unit h [] _ _ some.0 b k.sets some.1)) in
     let place = placed c.begins-begins.result (runs_of before) h (c.in_ok-judge_slice.ensures.place frames before kept.slices kept.decoder) in
     let enters = enters-full j.made c.begins-begins.result (with_sets unit h [] some.0) (goes_on before) (runs_of before) _ j.enters in
-    let d = c.in_err-read_data.ensures.reads j.made (goes_on before) (runs_of before) (with_sets unit h [] some.0) named c.in_ok-judge_slice.ensures.header held place refl (goes-newest (goes_on before) (runs_of before) h c.begins-begins.result b) enters in
+    let set = later-set c.args.state.now.sets (with_sets unit h [] some.0) some.1 c.begins-begins.result (goes_on before) (runs_of before) b (subst (λ (m : Maps). NamesSet (goes_on before) (runs_of before) m) (sym k.sets) kept.slices.named) in
+    let d = c.in_err-read_data.ensures.reads j.made (goes_on before) (runs_of before) (with_sets unit h [] some.0) named c.in_ok-judge_slice.ensures.header held place refl (goes-newest (goes_on before) (runs_of before) h c.begins-begins.result b) set enters in
     let there = data-there _ _ _ (runs_of before) (with_sets unit h [] some.0) _ _ _ (body_of unit) _ _ _ _ b (c.in_ok-read_header.ensures.meets.same ∙ ap (λ (r : Reader). r.body) first) d.plays in
     record {
       made = j.made;
@@ -88,7 +103,8 @@ returns-clause-joins g c = λ frames before k.
     let held = (c.in_ok-judge_slice.ensures.keeps before [] kept.slices k.sets).kept.held ∙ ap held_in (sym (runs-with before unit h [] _ _ some.0 b k.sets some.1)) in
     let place = placed c.begins-begins.result (runs_of before) h (c.in_ok-judge_slice.ensures.place frames before kept.slices kept.decoder) in
     let enters = enters-full j.made c.begins-begins.result (with_sets unit h [] some.0) (goes_on before) (runs_of before) _ j.enters in
-    let d = c.in_ok-read_data.ensures.reads j.made (goes_on before) (runs_of before) (with_sets unit h [] some.0) named c.in_ok-judge_slice.ensures.header held place refl (goes-newest (goes_on before) (runs_of before) h c.begins-begins.result b) enters in
+    let set = later-set c.args.state.now.sets (with_sets unit h [] some.0) some.1 c.begins-begins.result (goes_on before) (runs_of before) b (subst (λ (m : Maps). NamesSet (goes_on before) (runs_of before) m) (sym k.sets) kept.slices.named) in
+    let d = c.in_ok-read_data.ensures.reads j.made (goes_on before) (runs_of before) (with_sets unit h [] some.0) named c.in_ok-judge_slice.ensures.header held place refl (goes-newest (goes_on before) (runs_of before) h c.begins-begins.result b) set enters in
     let there = data-there _ _ _ (runs_of before) (with_sets unit h [] some.0) _ _ _ (body_of unit) _ _ _ _ b (c.in_ok-read_header.ensures.meets.same ∙ ap (λ (r : Reader). r.body) first) d.plays in
     record {
       made = j.made;

@@ -24,6 +24,7 @@ use Rattle.h264_verify.proofs.Playing.{answer-stops, answer-on, plays-stops, pla
 use Rattle.h264_verify.proofs.Entering.{within}
 use Rattle.h264_verify.proofs.Slicing.{err-named}
 use Rattle.h264_verify.proofs.Stepping.{steps-err, closing-stop, closing-then}
+use Rattle.h264_verify.proofs.Standing.{first-met}
 use Rattle.h264_verify.proofs.Joining.{data-held}
 use Rattle.h264_verify.proofs.Courses.{plays-course, plays-as, ended-grows, ending-of}
 use Rattle.h264_verify.proofs.unit.judge_unit.Goals as goal
@@ -64,6 +65,9 @@ end_frame_if-requires-clause-room g c = subst (λ (n : ℕ). n < 2 ^ 64 - 1) (sy
 
 pub join-requires-clause-room : goal.join-requires-clause-room
 join-requires-clause-room g c = subst (λ (n : ℕ). n < 2 ^ 64 - 1) (sym (c.in_ok-end_frame_if.ensures.kept ∙ (c.in_ok-tell_unit.ensures.plays c.requires.kept.frames).plays.2)) c.requires.count
+
+pub join-requires-clause-fits : goal.join-requires-clause-fits
+join-requires-clause-fits g c = (first-met _ _ _ (first-met _ _ _ c.in_ok-check_header.ensures).1).0
 
 pub returns-clause-kept : goal.returns-clause-kept
 returns-clause-kept g c = kept-on c.join.result _ _ _ (c.in_ok-end_frame_if.ensures.kept ∙ (c.in_ok-tell_unit.ensures.plays c.requires.kept.frames).plays.2) c.join.ensures.kept

@@ -5,6 +5,7 @@ use Rattle.h264_header.specs.Header.{header}
 use Rattle.h264_verify.specs.Content as contents
 use Rattle.h264_verify.specs.UnitOutcome.{slice_outcome}
 use Rattle.h264_verify.proofs.Playing.{plays-gives, memory-plays, meets-plays}
+use Rattle.h264_verify.proofs.Marked.{read-marked}
 use Rattle.h264_verify.proofs.unit.read_slice_unit.Goals as goal
 
 pub returns-in_err-rbsp-clause-plays : goal.returns-in_err-rbsp-clause-plays
@@ -13,3 +14,6 @@ returns-in_err-rbsp-clause-plays g c = let p = err_from_is_err_and c.from_residu
 pub returns-clause-plays : goal.returns-clause-plays
 unfolding slice_outcome
 returns-clause-plays g c = λ frames before m h. rw (← c.in_ok-rbsp.ensures.ok, ← m, ← h, ← c.slice_unit-slice_unit.ensures) (plays-gives _ _ (λ _. c.read_header.new.header) (λ h. contents.OfSlice h []) _ _ _ _ (meets-plays frames _ _ _ (header (sets_of c.args.sets.now) _) _ _ _ _ _ _ c.new-bits.ensures c.read_header.ensures.meets c.read_header.ensures.answers))
+
+pub returns-clause-marked : goal.returns-clause-marked
+returns-clause-marked g c = λ fits. read-marked _ _ _ _ c.args.header _ _ _ _ _ _ c.slice_unit-slice_unit.ensures fits c.read_header.ensures.meets
