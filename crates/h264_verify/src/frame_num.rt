@@ -75,6 +75,7 @@ fn miss<S: FrameSink>(
     requires kept { KeepsSomeGap mode decoder.old }
     ensures plays { (frames : ℕ → Frame) (t : Turn) (next : ℕ) → KeepsGap mode frames t next decoder.old → Plays (took_with frames S.took) S.failures (λ x. x) (steps_outcome (told_frames mode (missing_turn held.now t.buffer).written)) sink.old sink.new result }
     ensures keeps { (frames : ℕ → Frame) (t : Turn) (next : ℕ) → KeepsGap mode frames t next decoder.old → OnOk result (KeepsGap mode frames (turn_then t (missing_turn held.now)) next decoder.new) }
+    ensures no_memory { IfErr result (λ e. e ≡ Stop.Write) }
     ensures sized { size_of decoder.new.output ≡ size_of decoder.old.output }
     ensures format { decoder.new.format ≡ decoder.old.format }
     ensures kept { OnOk result (S.failures sink.new ≡ S.failures sink.old) }
@@ -104,6 +105,7 @@ fn fill_frames<S: FrameSink>(
     requires kept { KeepsSomeGap mode decoder.old }
     ensures plays { (frames : ℕ → Frame) (t : Turn) (next : ℕ) → KeepsGap mode frames t next decoder.old → Plays (took_with frames S.took) S.failures (λ _. tt) (steps_outcome (missing_steps mode bit numbering.now (numbers_from count ((prev + 1) % numbering.now.max_frame_num) numbering.now.max_frame_num) held.old t.buffer)) sink.old sink.new result }
     ensures keeps { (frames : ℕ → Frame) (t : Turn) (next : ℕ) → KeepsGap mode frames t next decoder.old → OnOk result (KeepsGap mode frames (turn_then t (gaps_turn numbering.now (numbers_from count ((prev + 1) % numbering.now.max_frame_num) numbering.now.max_frame_num) held.old)) next decoder.new) }
+    ensures no_memory { IsErrOf result Stop.Memory → ⊥ }
     ensures format { decoder.new.format ≡ decoder.old.format }
     ensures last { IfOk result (λ last. last ≡ last_or prev (numbers_from count ((prev + 1) % numbering.now.max_frame_num) numbering.now.max_frame_num)) }
     ensures held { OnOk result (all_filled numbering.now (numbers_from count ((prev + 1) % numbering.now.max_frame_num) numbering.now.max_frame_num) held.old ≡ Some held.new) }
@@ -162,6 +164,7 @@ pub(crate) fn check_gap<S: FrameSink>(
     requires kept { KeepsSomeGap mode decoder.old }
     ensures plays { (frames : ℕ → Frame) (t : Turn) (next : ℕ) → KeepsGap mode frames t next decoder.old → Plays (took_with frames S.took) S.failures (λ x. x) (steps_outcome (gap_rules mode (is_idr header.now) (is_reference header.now) sps.now.gaps_in_frame_num_value_allowed_flag header.now.frame_num.bit prev_ref_frame_num.old (numbering_of sps.now header.now) held.old t.buffer)) sink.old sink.new result }
     ensures keeps { (frames : ℕ → Frame) (t : Turn) (next : ℕ) → KeepsGap mode frames t next decoder.old → OnOk result (KeepsGap mode frames (turn_then t (gaps_turn (numbering_of sps.now header.now) (unused_short_term_frame_nums (is_idr header.now) prev_ref_frame_num.old (numbering_of sps.now header.now)) held.old)) next decoder.new) }
+    ensures no_memory { IsErrOf result Stop.Memory → ⊥ }
     ensures format { decoder.new.format ≡ decoder.old.format }
     ensures held { OnOk result (held.new ≡ entered (is_idr header.now) prev_ref_frame_num.old (numbering_of sps.now header.now) held.old) }
     ensures prev { OnOk result (prev_ref_frame_num.new ≡ prev_ref_frame_num_behind (is_idr header.now) (is_reference header.now) (resets header.now.marking) (numbering_of sps.now header.now) prev_ref_frame_num.old) }

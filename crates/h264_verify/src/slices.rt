@@ -117,6 +117,7 @@ fn check_first_slice<S: FrameSink>(
     requires kept { KeepsSomeGap mode decoder.old }
     ensures plays { (frames : ℕ → Frame) (t : Turn) (next : ℕ) (pictures : List Picture) → KeepsGap mode frames t next decoder.old → KeepsCounts pictures slices.old.counts → Plays (took_with frames S.took) S.failures (λ x. x) (steps_outcome (first_by mode slices.old pictures t.buffer pps.now sps.now header.now bit)) sink.old sink.new result }
     ensures gap { (frames : ℕ → Frame) (t : Turn) (next : ℕ) → KeepsGap mode frames t next decoder.old → OnOk result (KeepsGap mode frames (turn_then t (gaps_turn (numbering_of sps.now header.now) (unused_short_term_frame_nums (is_idr header.now) slices.old.prev_ref_frame_num (numbering_of sps.now header.now)) slices.old.held)) next decoder.new) }
+    ensures no_memory { IsErrOf result Stop.Memory → ⊥ }
     ensures format { decoder.new.format ≡ decoder.old.format }
     ensures counts { (pictures : List Picture) → KeepsCounts pictures slices.old.counts → OnOk result (KeepsCounts (picture_of sps.now header.now ∷ pictures) slices.new.counts) }
     ensures count { (pictures : List Picture) → KeepsCounts pictures slices.old.counts → OnOk result (slices.new.count ≡ newest_count (picture_of sps.now header.now ∷ pictures)) }
@@ -198,6 +199,7 @@ fn check_rules<S: FrameSink>(
     ensures entered { (before : History) (unit : UnitView) (macroblocks : List CodedMacroblock) → bit ≡ 8 * unit.from → KeepsSlices before begins slices.old → begins ≡ begins_at before header.now → OnOk result (Entered before begins (with_sets unit header.now macroblocks (pps.now, sps.now)) slices.new) }
     ensures frames { (frames : ℕ → Frame) (before : History) (unit : UnitView) → KeepsSlices before begins slices.old → begins ≡ begins_at before header.now → KeepsDecoder mode frames (goes_on before) begins (runs_of before) decoder.old → OnOk result (EntersDecoder mode frames begins (with_sets unit header.now [] (pps.now, sps.now)) (goes_on before) (runs_of before) decoder.new) }
     ensures pictures { slices.new.pictures ≡ slices.old.pictures }
+    ensures no_memory { IsErrOf result Stop.Memory → ⊥ }
     ensures kept { OnOk result (S.failures sink.new ≡ S.failures sink.old) }
 {
     if begins {
@@ -340,6 +342,7 @@ pub(crate) fn judge_slice<S: FrameSink>(
     ensures named { OnOk result (is_some (sets_of sets.new header.new.pic_parameter_set_id.value) ≡ true) }
     ensures id { OnOk result (header.new.pic_parameter_set_id.value ≤ 255) }
     ensures pictures { OnOk result (slices.new.pictures ≤ slices.old.pictures + 1) }
+    ensures no_memory { IsErrOf result Stop.Memory → ⊥ }
     ensures kept { OnOk result (S.failures sink.new ≡ S.failures sink.old) }
 {
     let bit = 8 * unit.from();
