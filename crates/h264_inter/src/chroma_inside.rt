@@ -4,7 +4,7 @@ ghost use Rattle.h264_inter.specs.Reference.{HasBlock};
 ghost use Rattle.h264_inter.specs.Chroma.{weighted, eighth};
 
 use crate::chroma_samples::{Weights, weights_at};
-use crate::inside::joined;
+use crate::inside::{joined, whole_block};
 use crate::lanes::{bytes, load, part64, plus, raised, times};
 use h264_plane::Plane;
 use std::simd::prelude::*;
@@ -48,9 +48,9 @@ fn row<const W: usize>(p: &Plane, w: Weights, x: usize, y: usize) -> [u8; 16]
     }
 }
 
-/// The samples of a block at the eighths of a vector, where they stand.
+/// The samples of a block at the eighths of a vector, where they stand, each a weighted mean.
 #[inline(always)]
-pub fn block<const W: usize, const H: usize>(
+fn weighted_block<const W: usize, const H: usize>(
     p: &Plane,
     left: usize,
     top: usize,
@@ -72,4 +72,32 @@ pub fn block<const W: usize, const H: usize>(
         let row = row::<W>(p, w, left, top + v);
         out[W * v..W * v + W].copy_from_slice(&row[..W]);
     }
+}
+
+/// The samples of a block at the eighths of a vector, where they stand.
+#[inline(always)]
+pub fn block<const W: usize, const H: usize>(
+    p: &Plane,
+    left: usize,
+    top: usize,
+    x: usize,
+    y: usize,
+    out: &mut [u8],
+)
+    requires size { (W ≤ 16) × (H ≤ 16) }
+    requires small { (left ≤ 16376) × (top ≤ 16384) }
+    requires columns { left + 9 ≤ p.now.width }
+    requires more_columns { 8 < W → left + 17 ≤ p.now.width }
+    requires rows { top + H + 1 ≤ p.now.height }
+    requires whole { length out.old ≡ W * H }
+    requires parts { (x < 8) × (y < 8) }
+    ensures { HasBlock W H out.new (λ u v. eighth x y (λ i j. at p.now (left + u + i) (top + v + j))) }
+{
+    if x == 0 {
+        if y == 0 {
+            whole_block::<W, H>(p, left, top, out);
+            return;
+        }
+    }
+    weighted_block::<W, H>(p, left, top, x, y, out);
 }

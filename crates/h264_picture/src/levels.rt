@@ -31,8 +31,8 @@ pub(crate) fn no_residuals() -> Residuals
     ensures { (l : Levels) → AreNone l → AreResiduals l result }
 {
     Residuals {
-        y: [0; 256],
-        cb: [0; 64],
-        cr: [0; 64],
+        y: None,
+        cb: None,
+        cr: None,
     }
 }

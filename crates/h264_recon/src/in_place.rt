@@ -1,4 +1,4 @@
-ghost use Rattle.std.specs.Prelude.{◌≡◌, ℕ, ◌+◌, ◌*◌, ◌<◌, ◌≤◌, IsTrue, length, slice_index, vec_len};
+ghost use Rattle.std.specs.Prelude.{◌≡◌, ℕ, ◌+◌, ◌*◌, ◌<◌, ◌≤◌, IsTrue, [], unwrap_or, length, slice_index, vec_len};
 ghost use Rattle.h264_plane.specs.declared.frame.Component.{Component};
 ghost use Rattle.h264_plane.specs.declared.frame.Component.TheVariants.{Y, Cb, Cr};
 ghost use Rattle.h264_plane.specs.Samples.{IsSized};
@@ -26,14 +26,14 @@ use h264_scale::Residuals;
 fn luma_intra(
     luma: &IntraLuma,
     available: Available,
-    residual: &[i16; 256],
+    residual: &Option<[i16; 256]>,
     store: &Store,
     column: usize,
 ) -> [u8; 256]
     requires columns { 16 * column + 16 ≤ vec_len store.now.above }
     requires more { IsTrue available.above_right → 16 * column + 20 ≤ vec_len store.now.above }
     requires small { column < 1024 }
-    ensures { (l : Levels) → IsPossibleLuma luma.now available → IsResidual l Y residual.now → IsLumaMade luma.now available l column store.now result }
+    ensures { (l : Levels) → IsPossibleLuma luma.now available → IsResidual l Y (unwrap_or residual.now []) → IsLumaMade luma.now available l column store.now result }
 {
     match luma {
         IntraLuma::Blocks(modes) => luma4(modes, available, residual, store, column),
@@ -48,7 +48,7 @@ fn luma_intra(
 #[inline(always)]
 fn luma(
     m: &Macroblock,
-    residual: &[i16; 256],
+    residual: &Option<[i16; 256]>,
     store: &Store,
     pool: &Pool,
     column: usize,
@@ -58,7 +58,7 @@ fn luma(
     requires columns { 16 * column + 16 ≤ vec_len store.now.above }
     requires more { IsTrue m.now.available.above_right → 16 * column + 20 ≤ vec_len store.now.above }
     requires small { (column < 1024) × (row < 1024) }
-    ensures { (k : Setting) (l : Levels) → column < k.across → row < k.down → IsPossible m.now.prediction m.now.available → AreShown k pool.now m.now.prediction → IsResidual l Y residual.now → IsMadeFrom k column row (coded m.now l) Y store.now result }
+    ensures { (k : Setting) (l : Levels) → column < k.across → row < k.down → IsPossible m.now.prediction m.now.available → AreShown k pool.now m.now.prediction → IsResidual l Y (unwrap_or residual.now []) → IsMadeFrom k column row (coded m.now l) Y store.now result }
 {
     match &m.prediction {
         Prediction::Intra(modes) => luma_intra(&modes.luma, m.available, residual, store, column),
@@ -82,7 +82,7 @@ fn pcm_chroma<const CR: bool>(bytes: &PcmSamples) -> [u8; 64]
 #[inline(always)]
 fn chroma<const CR: bool>(
     m: &Macroblock,
-    residual: &[i16; 64],
+    residual: &Option<[i16; 64]>,
     store: &Store,
     pool: &Pool,
     column: usize,
@@ -91,7 +91,7 @@ fn chroma<const CR: bool>(
     requires usable { AreUsable pool.now column row m.now.prediction }
     requires columns { 8 * column + 8 ≤ vec_len store.now.above }
     requires small { (column < 1024) × (row < 1024) }
-    ensures { (k : Setting) (l : Levels) → column < k.across → row < k.down → IsPossible m.now.prediction m.now.available → AreShown k pool.now m.now.prediction → IsResidual l (chroma_plane CR) residual.now → IsMadeFrom k column row (coded m.now l) (chroma_plane CR) store.now result }
+    ensures { (k : Setting) (l : Levels) → column < k.across → row < k.down → IsPossible m.now.prediction m.now.available → AreShown k pool.now m.now.prediction → IsResidual l (chroma_plane CR) (unwrap_or residual.now []) → IsMadeFrom k column row (coded m.now l) (chroma_plane CR) store.now result }
 {
     match &m.prediction {
         Prediction::Intra(modes) => {

@@ -24,9 +24,9 @@ const NO_SIDE: Available = Available {
 
 fn zero() -> Residuals {
     Residuals {
-        y: [0; 256],
-        cb: [0; 64],
-        cr: [0; 64],
+        y: None,
+        cb: None,
+        cr: None,
     }
 }
 
@@ -114,7 +114,10 @@ fn put_intra(
         available,
         prediction: Prediction::Intra(modes),
     };
-    let residuals = Residuals { y, ..zero() };
+    let residuals = Residuals {
+        y: Some(y),
+        ..zero()
+    };
     construct(
         &mut canvas.lines,
         &mut canvas.frame,

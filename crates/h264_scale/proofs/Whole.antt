@@ -1,5 +1,5 @@
 -- The residual of a macroblock, block by block, and its range.
-use Rattle.std.proofs.Common.{◌≡◌, inl, inr, ⊎_elim, ℕ, zero, suc, ◌+◌, ◌*◌, ◌/◌, ◌%◌, ◌<◌, ◌≤◌, Bool, true, false, ◌&&◌, List, [], get_or, replicate, IsTrue, ℤ, pos, arith, refl, sym, ap, ◌∙◌, add-one}
+use Rattle.std.proofs.Common.{◌≡◌, inl, inr, ⊎_elim, ℕ, zero, suc, ◌+◌, ◌*◌, ◌/◌, ◌%◌, ◌<◌, ◌≤◌, Bool, true, false, ◌&&◌, List, [], get_or, IsTrue, ℤ, pos, arith, refl, sym, ap, ◌∙◌, add-one}
 use Rattle.std.proofs.lemmas.Bool.{cases_lt, cases_eq, false≢true, false_from_ne_true}
 use Rattle.h264_plane.specs.declared.frame.Component.TheVariants.{Y, Cb, Cr}
 use Rattle.h264_plane.specs.Places.{index_of, column_of, row_of}
@@ -222,16 +222,16 @@ pub not_coded_chroma_fits : (qp : ℕ) → chroma_fits qp chroma.NotCoded ≡ tr
 unfolding chroma_d chroma_dc_fits
 not_coded_chroma_fits qp = chroma_whole qp chroma.NotCoded refl (all_of 4 _ (λ b. none_fit qp))
 
-pub not_coded_luma : (qp : ℕ) → AreScaled 16 16 index_of (λ x y. residual_at (luma_d qp luma.NotCoded x y)) (replicate 256 (pos 0))
+pub not_coded_luma : (qp : ℕ) → AreScaled 16 16 index_of (λ x y. residual_at (luma_d qp luma.NotCoded x y)) []
 unfolding luma_d
 not_coded_luma qp = record {
-  each = λ x y i j p q d e less. get_or-replicate 256 (place 16 x y i j) (pos 0) (pos 0) (omega arith) ∙ sym (none_residual qp j i e d);
+  each = λ x y i j p q d e less. sym (none_residual qp j i e d);
 }
 
-pub not_coded_chroma : (qp : ℕ) → AreScaled 8 4 raster (λ x y. residual_at (chroma_d qp chroma.NotCoded x y)) (replicate 64 (pos 0))
+pub not_coded_chroma : (qp : ℕ) → AreScaled 8 4 raster (λ x y. residual_at (chroma_d qp chroma.NotCoded x y)) []
 unfolding chroma_d
 not_coded_chroma qp = record {
-  each = λ x y i j p q d e less. get_or-replicate 64 (place 8 x y i j) (pos 0) (pos 0) (omega arith) ∙ sym (none_residual qp j i e d);
+  each = λ x y i j p q d e less. sym (none_residual qp j i e d);
 }
 
 pub no_luma : (l : Levels) (x y : ℕ) → l.luma ≡ luma.NotCoded → residual l Y x y ≡ pos 0

@@ -1,5 +1,5 @@
 -- The residual of a macroblock (8.5.1, 8.5.2, 8.5.4), and whether all values of its transform are in range. Blocks are named by their column x and row y of blocks.
-use Rattle.std.specs.Prelude.{◌≡◌, ◌≢◌, ◌⊎◌, ◌≤◌, ℕ, zero, suc, ◌+◌, ◌*◌, ◌/◌, ◌%◌, ◌<◌, Bool, true, ◌&&◌, List, [], get_or, ℤ, pos}
+use Rattle.std.specs.Prelude.{◌≡◌, ◌≢◌, ◌⊎◌, ◌≤◌, ℕ, zero, suc, ◌+◌, ◌*◌, ◌/◌, ◌%◌, ◌<◌, Bool, true, ◌&&◌, List, [], unwrap_or, get_or, ℤ, pos}
 use Rattle.h264_plane.specs.declared.frame.Component.{Component}
 use Rattle.h264_plane.specs.declared.frame.Component.TheVariants.{Y, Cb, Cr}
 use Rattle.h264_plane.specs.Places.{side, index_of, column_of, row_of}
@@ -38,11 +38,11 @@ residual l p x y = residual_at (block_d l p (x / 4) (y / 4)) (y % 4) (x % 4)
 pub record IsResidual (l : Levels) (p : Component) (list : List ℤ) : Type 0 where
   pub each : (x y : ℕ) → x < side p → y < side p → get_or list (side p * y + x) (pos 0) ≡ residual l p x y
 
--- the residuals of all planes
+-- the residuals of all planes; none stands for numbers that are all 0
 pub record AreResiduals (l : Levels) (d : Residuals) : Type 0 where
-  pub y : IsResidual l Y d.y
-  pub cb : IsResidual l Cb d.cb
-  pub cr : IsResidual l Cr d.cr
+  pub y : IsResidual l Y (unwrap_or d.y [])
+  pub cb : IsResidual l Cb (unwrap_or d.cb [])
+  pub cr : IsResidual l Cr (unwrap_or d.cr [])
 
 -- ---- the range of the transform
 

@@ -42,10 +42,10 @@ pub struct Levels {
     pub qp_cr: u8,
 }
 
-/// The residual of each plane of a macroblock, row by row.
+/// The residual of each plane of a macroblock, row by row; none where each number of it is 0.
 #[derive(Clone, Copy)]
 pub struct Residuals {
-    pub y: [i16; 256],
-    pub cb: [i16; 64],
-    pub cr: [i16; 64],
+    pub y: Option<[i16; 256]>,
+    pub cb: Option<[i16; 64]>,
+    pub cr: Option<[i16; 64]>,
 }

@@ -1,4 +1,4 @@
-ghost use Rattle.std.specs.Prelude.{◌≡◌, ◌↔◌, ℕ, ◌+◌, ◌*◌, ◌<◌, ◌≤◌, IsTrue, IsOk, IfOk, get_or, [], pos};
+ghost use Rattle.std.specs.Prelude.{◌≡◌, ◌↔◌, ℕ, ◌+◌, ◌*◌, ◌<◌, ◌≤◌, IsTrue, IsOk, IfOk, get_or, unwrap_or, [], pos};
 ghost use Rattle.h264_plane.specs.Places.{index_of};
 ghost use Rattle.h264_scale.specs.Residual.{residual_at};
 ghost use Rattle.h264_scale.specs.Macroblock.{luma_d, chroma_d, luma_fits, chroma_fits, levels_fit, AreResiduals, IsPut, AreScaled, raster};
@@ -60,10 +60,10 @@ fn ac_levels4(levels: &[[i16; 15]; 4], b: usize) -> &[i16; 15]
 }
 
 /// The residual of a luma macroblock whose blocks have 16 levels.
-fn luma_blocks(levels: &[[i16; 16]; 16], qp: u8) -> Result<[i16; 256], TransformRange>
+fn luma_blocks(levels: &[[i16; 16]; 16], qp: u8) -> Result<Option<[i16; 256]>, TransformRange>
     requires { qp ≤ 51 }
     ensures range { IsOk result ↔ IsTrue (luma_fits qp (luma_levels.Blocks levels.now)) }
-    ensures made { IfOk result (AreScaled 16 16 index_of (λ x y. residual_at (luma_d qp (luma_levels.Blocks levels.now) x y))) }
+    ensures made { IfOk result (λ r. AreScaled 16 16 index_of (λ x y. residual_at (luma_d qp (luma_levels.Blocks levels.now) x y)) (unwrap_or r [])) }
 {
     let mut out = [0; 256];
     for b in 0..16 {
@@ -75,14 +75,14 @@ fn luma_blocks(levels: &[[i16; 16]; 16], qp: u8) -> Result<[i16; 256], Transform
             &block,
         );
     }
-    Ok(out)
+    Ok(Some(out))
 }
 
 /// The residual of an Intra 16x16 macroblock.
-fn luma_with_dc(levels: &LumaWithDc, qp: u8) -> Result<[i16; 256], TransformRange>
+fn luma_with_dc(levels: &LumaWithDc, qp: u8) -> Result<Option<[i16; 256]>, TransformRange>
     requires { qp ≤ 51 }
     ensures range { IsOk result ↔ IsTrue (luma_fits qp (luma_levels.WithDc levels.now)) }
-    ensures made { IfOk result (AreScaled 16 16 index_of (λ x y. residual_at (luma_d qp (luma_levels.WithDc levels.now) x y))) }
+    ensures made { IfOk result (λ r. AreScaled 16 16 index_of (λ x y. residual_at (luma_d qp (luma_levels.WithDc levels.now) x y)) (unwrap_or r [])) }
 {
     let dc = dc16(&levels.dc, qp)?;
     let mut out = [0; 256];
@@ -92,14 +92,14 @@ fn luma_with_dc(levels: &LumaWithDc, qp: u8) -> Result<[i16; 256], TransformRang
         let block = residual4_with_dc(dc[4 * y + x], ac_levels(&levels.ac, b), qp)?;
         put16(&mut out, x, y, &block);
     }
-    Ok(out)
+    Ok(Some(out))
 }
 
 /// The residual of a chroma plane that has levels.
-fn chroma_with_dc(levels: &ChromaWithDc, qp: u8) -> Result<[i16; 64], TransformRange>
+fn chroma_with_dc(levels: &ChromaWithDc, qp: u8) -> Result<Option<[i16; 64]>, TransformRange>
     requires { qp ≤ 51 }
     ensures range { IsOk result ↔ IsTrue (chroma_fits qp (chroma_levels.WithDc levels.now)) }
-    ensures made { IfOk result (AreScaled 8 4 raster (λ x y. residual_at (chroma_d qp (chroma_levels.WithDc levels.now) x y))) }
+    ensures made { IfOk result (λ r. AreScaled 8 4 raster (λ x y. residual_at (chroma_d qp (chroma_levels.WithDc levels.now) x y)) (unwrap_or r [])) }
 {
     let dc = dc2(&levels.dc, qp)?;
     let mut out = [0; 64];
@@ -109,30 +109,30 @@ fn chroma_with_dc(levels: &ChromaWithDc, qp: u8) -> Result<[i16; 64], TransformR
         let block = residual4_with_dc(dc[2 * y + x], ac_levels4(&levels.ac, b), qp)?;
         put8(&mut out, x, y, &block);
     }
-    Ok(out)
+    Ok(Some(out))
 }
 
 /// The residual of luma.
-fn luma(levels: &LumaLevels, qp: u8) -> Result<[i16; 256], TransformRange>
+fn luma(levels: &LumaLevels, qp: u8) -> Result<Option<[i16; 256]>, TransformRange>
     requires { qp ≤ 51 }
     ensures range { IsOk result ↔ IsTrue (luma_fits qp levels.now) }
-    ensures made { IfOk result (AreScaled 16 16 index_of (λ x y. residual_at (luma_d qp levels.now x y))) }
+    ensures made { IfOk result (λ r. AreScaled 16 16 index_of (λ x y. residual_at (luma_d qp levels.now x y)) (unwrap_or r [])) }
 {
     match levels {
-        LumaLevels::NotCoded => Ok([0; 256]),
+        LumaLevels::NotCoded => Ok(None),
         LumaLevels::Blocks(levels) => luma_blocks(levels, qp),
         LumaLevels::WithDc(levels) => luma_with_dc(levels, qp),
     }
 }
 
 /// The residual of a chroma plane.
-fn chroma(levels: &ChromaLevels, qp: u8) -> Result<[i16; 64], TransformRange>
+fn chroma(levels: &ChromaLevels, qp: u8) -> Result<Option<[i16; 64]>, TransformRange>
     requires { qp ≤ 51 }
     ensures range { IsOk result ↔ IsTrue (chroma_fits qp levels.now) }
-    ensures made { IfOk result (AreScaled 8 4 raster (λ x y. residual_at (chroma_d qp levels.now x y))) }
+    ensures made { IfOk result (λ r. AreScaled 8 4 raster (λ x y. residual_at (chroma_d qp levels.now x y)) (unwrap_or r [])) }
 {
     match levels {
-        ChromaLevels::NotCoded => Ok([0; 64]),
+        ChromaLevels::NotCoded => Ok(None),
         ChromaLevels::WithDc(levels) => chroma_with_dc(levels, qp),
     }
 }

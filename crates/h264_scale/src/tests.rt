@@ -44,9 +44,9 @@ fn macroblocks(rt: HostRuntime) {
     let mut levels = ONE_OF_EACH;
     match residuals(&levels) {
         Ok(r) => {
-            assert_eq!(rt; r.y, [14; 256]);
-            assert_eq!(rt; r.cb, [3; 64]);
-            assert_eq!(rt; r.cr, [0; 64]);
+            assert_eq!(rt; r.y, Some([14; 256]));
+            assert_eq!(rt; r.cb, Some([3; 64]));
+            assert_eq!(rt; r.cr, None);
         }
         Err(TransformRange) => assert!(rt; false),
     }
@@ -56,10 +56,11 @@ fn macroblocks(rt: HostRuntime) {
     levels.qp = 24;
     match residuals(&levels) {
         Ok(r) => {
-            assert_eq!(rt; r.y[16 * 12 + 11], 0);
-            assert_eq!(rt; r.y[16 * 12 + 12], 3);
-            assert_eq!(rt; r.y[16 * 12 + 13], 2);
-            assert_eq!(rt; r.y[255], -3);
+            let y = r.y.unwrap_or([0; 256]);
+            assert_eq!(rt; y[16 * 12 + 11], 0);
+            assert_eq!(rt; y[16 * 12 + 12], 3);
+            assert_eq!(rt; y[16 * 12 + 13], 2);
+            assert_eq!(rt; y[255], -3);
         }
         Err(TransformRange) => assert!(rt; false),
     }

@@ -4,12 +4,9 @@ use Rattle.h264_deblock.specs.Edge.{index_of, filter_of}
 use Rattle.h264_deblock.specs.Rows.{filter_by}
 use Rattle.h264_deblock.specs.declared.line.Filter.TheVariants.{Strong}
 use Rattle.h264_deblock.proofs.Groups.{limits_is}
-use Rattle.h264_deblock.proofs.Beside.{edge_off, edge_idle}
+use Rattle.h264_deblock.proofs.Beside.{edge_idle}
 use Rattle.h264_deblock.proofs.Nearest.{edge_by_nearest}
 use Rattle.h264_deblock.proofs.edges.chroma_edge.Goals as goal
-
-pub returns-then-is_all_zero : goal.returns-then-is_all_zero
-returns-then-is_all_zero g c = edge_off _ _ c.args.plane.now c.args.e.now c.args.along c.args.across c.requires.before (c.is_all_zero.ensures c.if-is_all_zero.true)
 
 pub returns-then-is_all_four : goal.returns-then-is_all_four
 returns-then-is_all_four g c =

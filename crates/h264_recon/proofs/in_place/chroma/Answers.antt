@@ -1,3 +1,4 @@
+use Rattle.std.proofs.Common.{unwrap_or, []}
 use denote.Param.{number}
 use Rattle.h264_recon.specs.Constructed.{coded}
 use Rattle.h264_recon.specs.contracts.in_place.chroma.{CR-type}
@@ -14,7 +15,7 @@ pub returns-in-Inter : goal.returns-in-Inter
 returns-in-Inter g c =
     let a = c.args in
     λ k l inside below ok shown is.
-    chroma_inter (CR-type (number g.row.CR)) k a.pool.now a.column a.row (coded a.m.now l) a.store.now c.in-Inter.motion c.predicted_chroma-predicted-in-Inter.result c.sum-in-Inter.result a.residual.now inside below
+    chroma_inter (CR-type (number g.row.CR)) k a.pool.now a.column a.row (coded a.m.now l) a.store.now c.in-Inter.motion c.predicted_chroma-predicted-in-Inter.result c.sum-in-Inter.result (unwrap_or a.residual.now []) inside below
     c.in-Inter.is shown is c.predicted_chroma-predicted-in-Inter.ensures.each c.sum-in-Inter.ensures.each
 
 pub returns-in-Pcm : goal.returns-in-Pcm

@@ -1,4 +1,4 @@
-use Rattle.std.proofs.Common.{◌+◌, ◌*◌, arith}
+use Rattle.std.proofs.Common.{◌+◌, ◌*◌, arith, unwrap_or, []}
 use Rattle.h264_plane.specs.declared.frame.Component.TheVariants.{Y}
 use Rattle.h264_recon.specs.Constructed.{coded}
 use Rattle.h264_recon.proofs.Kernels.{luma_made, luma_pcm}
@@ -13,7 +13,7 @@ pub returns-in-Inter : goal.returns-in-Inter
 returns-in-Inter c =
     let a = c.args in
     λ k l inside below ok shown is.
-    inter_made k a.pool.now a.column a.row (coded a.m.now l) Y a.store.now c.in-Inter.motion c.predicted_luma-predicted.result c.sum.result a.residual.now inside below c.in-Inter.is shown is
+    inter_made k a.pool.now a.column a.row (coded a.m.now l) Y a.store.now c.in-Inter.motion c.predicted_luma-predicted.result c.sum.result (unwrap_or a.residual.now []) inside below c.in-Inter.is shown is
     c.predicted_luma-predicted.ensures.each (λ x y i j. c.sum.ensures.each (16 * y + x) (omega arith))
 
 pub returns-in-Pcm : goal.returns-in-Pcm

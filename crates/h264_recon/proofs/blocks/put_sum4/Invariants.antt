@@ -1,7 +1,7 @@
 use Rattle.std.proofs.Common.{◌≡◌, ◌≢◌, ◌⊎◌, ℕ, ◌/◌, ◌%◌, ◌<◌, get_or, slice_index, length, pos, ◌+ℤ◌}
 use Rattle.h264_plane.specs.Clip.{clip1}
 use Rattle.h264_recon.specs.Blocks4.{place4}
-use Rattle.h264_recon.proofs.blocks.put4.Given as goal
+use Rattle.h264_recon.proofs.blocks.put_sum4.Given as goal
 
 abbrev pub invariant-loop-k : goal.invariant-loop-k
 invariant-loop-k l = record {

@@ -1,7 +1,7 @@
 use Rattle.std.proofs.Common.{◌≡◌, ℕ, ◌+◌, ◌*◌, ◌<◌, slice_index}
 use Rattle.h264_plane.specs.Samples.{at}
 use Rattle.h264_inter.specs.Chroma.{weighted}
-use Rattle.h264_inter.proofs.chroma_inside.block.Given as goal
+use Rattle.h264_inter.proofs.chroma_inside.weighted_block.Given as goal
 
 abbrev pub invariant-loop-v : goal.invariant-loop-v
 invariant-loop-v g l = record {

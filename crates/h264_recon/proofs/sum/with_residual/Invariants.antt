@@ -1,6 +1,6 @@
 use Rattle.std.proofs.Common.{◌≡◌, ℕ, ◌<◌, get_or, slice_index, length, pos, ◌+ℤ◌}
 use Rattle.h264_plane.specs.Clip.{clip1}
-use Rattle.h264_recon.proofs.sum.sum.Given as goal
+use Rattle.h264_recon.proofs.sum.with_residual.Given as goal
 
 abbrev pub invariant-loop-k : goal.invariant-loop-k
 invariant-loop-k g l = record {
