@@ -33,3 +33,4 @@ pub mod Courses
 pub mod Reading
 pub mod Verdicts
 pub mod Coded
+pub mod Heard

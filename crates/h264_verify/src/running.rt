@@ -39,6 +39,9 @@ fn turn<R: Source, S: FrameSink>(
     ensures more { IfOk result (λ more. IsTrue more → (mode : Mode) (bytes : List ℕ) (first : _) → FedOn mode S.took (R.left source.old) bytes session.old first sink.old → FedOn mode S.took (R.left source.new) bytes session.new first sink.new) }
     ensures end { IfOk result (λ more. IsFalse more → (session.new ≡ session.old) × (sink.new ≡ sink.old) × ((left : List ℕ) → R.left source.old ≡ Some left → left ≡ [])) }
     ensures stops { IfErr result (λ stop. (mode : Mode) (bytes : List ℕ) (first : _) → FedOn mode S.took (R.left source.old) bytes session.old first sink.old → S.failures sink.old ≡ S.failures first → JudgesWith mode S.took S.failures bytes first sink.new (Err stop)) }
+    // What the source gave so far, whether it tells or not.
+    ensures heard { IfOk result (λ more. IsTrue more → (mode : Mode) (bytes : List ℕ) (first : _) → FedOn mode S.took (Some []) bytes session.old first sink.old → (piece : List ℕ) × FedOn mode S.took (Some []) (bytes ++ piece) session.new first sink.new) }
+    ensures heard_stop { IfErr result (λ stop. (mode : Mode) (bytes : List ℕ) (first : _) → FedOn mode S.took (Some []) bytes session.old first sink.old → S.failures sink.old ≡ S.failures first → (piece : List ℕ) × JudgesWith mode S.took S.failures (bytes ++ piece) first sink.new (Err stop)) }
     ensures kept { OnOk result ((session.new.stop ≡ None) × (S.failures sink.new ≡ S.failures sink.old) × (R.failures source.new ≡ R.failures source.old)) }
     ensures again { (n : ℕ) → R.was_read source.old n → R.was_read source.new (n + 1) }
     ensures read { IsErrOf result Stop.Read → R.failures source.new ≡ R.failures source.old + 1 }
@@ -72,6 +75,8 @@ pub fn run<R: Source, S: FrameSink>(
     requires source { R.failures source.old < 2 ^ 64 - 1 }
     // Yes, no and outside are those of the stream, with the calls up to there; memory, read and write come with the first calls.
     ensures verdict { (bytes : List ℕ) → R.left source.old ≡ Some bytes → (frames : ℕ → Frame) → Judged mode S.took S.failures bytes frames [] sink.old sink.new result }
+    // Of a source whose bytes are not known it is the verdict on some bytes.
+    ensures some { (frames : ℕ → Frame) → (bytes : List ℕ) × Judged mode S.took S.failures bytes frames [] sink.old sink.new result }
     ensures read { IsErrOf result Stop.Read → (R.failures source.new ≡ R.failures source.old + 1) ⊎ ((n : ℕ) → R.was_read source.old n → R.was_read source.new (n + 2 ^ 41)) }
     ensures write { IsErrOf result Stop.Write → S.failures sink.new ≡ S.failures sink.old + 1 }
 {

@@ -1,0 +1,54 @@
+-- A source whose bytes are not known: what it gave so far is judged as a stream of those bytes.
+use Rattle.std.proofs.Common.{◌≡◌, ℕ, zero, suc, List, [], ◌∷◌, ◌++◌, take, drop, Option, Some, refl, ap, sym, ◌∙◌, subst, Err}
+use Rattle.std.proofs.lemmas.List.{append-nil}
+use Rattle.h264_base.specs.declared.mode.Mode.{Mode}
+use Rattle.h264_base.specs.declared.stop.Stop.{Stop}
+use Rattle.h264_base.specs.declared.stop.Stop.TheVariants.{Read}
+use Rattle.h264_base.specs.Call.{Call}
+use Rattle.h264_verify.specs.Progress.{Progress}
+use Rattle.h264_verify.specs.Feeding.{behind, GoesOn, StopsOn, FedOn, JudgesWith}
+use Rattle.h264_verify.proofs.Verdicts.{fed-more, fed-halts, fed-fails}
+
+pub some-is : (a b : List ℕ) → Some a ≡ Some b → b ≡ a
+some-is a b e = cc
+
+nothing-behind : (n : ℕ) (xs : List ℕ) → drop n (take n xs) ≡ []
+nothing-behind zero xs = refl
+nothing-behind (suc n) [] = refl
+nothing-behind (suc n) (x ∷ xs) = nothing-behind n xs
+
+-- A piece is all that is left, and it is read whole.
+read-whole : (n : ℕ) (xs left : List ℕ) → Some (take n xs) ≡ Some left → (left ≡ take n xs ++ drop n left) × (Some [] ≡ Some (drop n left))
+read-whole n xs left e =
+    let l : left ≡ take n xs = some-is (take n xs) left e in
+    let none : drop n left ≡ [] = ap (λ k. drop n k) l ∙ nothing-behind n xs in
+    (l ∙ sym (append-nil (take n xs)) ∙ ap (λ k. take n xs ++ k) (sym none), ap Some (sym none))
+
+-- These bytes are still to come.
+unfoldable pub fed-ahead : {S : Type 0} {mode : Mode} {took : S → List Call → Type 0} {bytes : List ℕ} {session : Progress} {s s' : S} (more : List ℕ) → FedOn mode took (Some []) bytes session s s' → FedOn mode took (Some more) (bytes ++ more) session s s'
+fed-ahead {bytes = bytes} more f = record {
+  mode_is = f.mode_is;
+  frames = f.frames;
+  after = f.after;
+  keeps = f.keeps;
+  fed = record { fed = f.fed.fed; left = more; known_is = refl; whole = ap (λ l. l ++ more) (f.fed.whole ∙ ap (λ l. f.fed.fed ++ l) (some-is [] f.fed.left f.fed.known_is) ∙ append-nil f.fed.fed); goes = f.fed.goes };
+  of = f.of;
+}
+
+-- a piece more
+pub heard-more : {S : Type 0} {mode : Mode} {took : S → List Call → Type 0} {bytes : List ℕ} {old new : Progress} {s0 s1 s2 : S} (piece : List ℕ) (n : ℕ) → new.mode ≡ old.mode → (f : FedOn mode took (Some []) bytes old s0 s1) → GoesOn old.mode took f.frames (behind old.split f.after) new.split new.state (take n piece) [] s1 s2 → FedOn mode took (Some []) (bytes ++ take n piece) new s0 s2
+unfolding fed-ahead
+heard-more piece n m f q = fed-more (Some []) piece n m (read-whole n piece) (fed-ahead (take n piece) f) q
+
+-- a stop at one
+pub heard-halts : {S : Type 0} {mode : Mode} {took : S → List Call → Type 0} {failures : S → ℕ} {bytes : List ℕ} {old : Progress} {s0 s1 s2 : S} {stop : Stop} (piece : List ℕ) (n : ℕ) → (f : FedOn mode took (Some []) bytes old s0 s1) → failures s1 ≡ failures s0 → StopsOn old.mode took failures f.frames (behind old.split f.after) (take n piece) s1 s2 stop → JudgesWith mode took failures (bytes ++ take n piece) s0 s2 (Err stop)
+unfolding fed-ahead
+heard-halts piece n f k q = fed-halts (Some []) piece n (read-whole n piece) (fed-ahead (take n piece) f) k q
+
+-- none
+pub heard-none : {S : Type 0} {mode : Mode} {took : S → List Call → Type 0} {bytes : List ℕ} {session : Progress} {s s' : S} → FedOn mode took (Some []) bytes session s s' → FedOn mode took (Some []) (bytes ++ []) session s s'
+heard-none {S} {mode} {took} {bytes} {session} {s} {s'} f = subst (λ l. FedOn mode took (Some []) l session s s') (sym (append-nil bytes)) f
+
+-- the source failed
+pub heard-fails : {S : Type 0} {mode : Mode} {took : S → List Call → Type 0} {failures : S → ℕ} {bytes : List ℕ} {session : Progress} {s s' : S} → FedOn mode took (Some []) bytes session s s' → failures s' ≡ failures s → JudgesWith mode took failures (bytes ++ []) s s' (Err Read)
+heard-fails {S} {mode} {took} {failures} {bytes} {session} {s} {s'} f k = subst (λ l. JudgesWith mode took failures l s s' (Err Read)) (sym (append-nil bytes)) (fed-fails f k)
