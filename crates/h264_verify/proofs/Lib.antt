@@ -15,6 +15,9 @@ pub mod Stepwise
 pub mod Ruling
 pub mod Marked
 pub mod Sound
+pub mod Among
+pub mod Staying
+pub mod Referring
 pub mod Closing
 pub mod Standing
 pub mod Entering

@@ -15,6 +15,7 @@ pub mod Buffering
 pub mod Slices
 pub mod Data
 pub mod Sound
+pub mod Held
 pub mod Keeping
 pub mod Units
 pub mod UnitOutcome

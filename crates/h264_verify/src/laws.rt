@@ -1,11 +1,15 @@
 //! What the definitions imply. Nothing here runs.
 #![tactic(auto)]
 
-ghost use Rattle.std.specs.Prelude.{◌≡◌, ℕ, List, Result};
+ghost use Rattle.std.specs.Prelude.{◌≡◌, ℕ, Bool, List, ◌∷◌, Result};
 ghost use Rattle.h264_base.specs.declared.mode.Mode.{Mode};
 ghost use Rattle.h264_base.specs.declared.stop.Stop.{Stop};
 ghost use Rattle.h264_verify.specs.Telling.{Told};
 ghost use Rattle.h264_verify.specs.declared.judge.Summary.{Summary};
+ghost use Rattle.h264_verify.specs.Pictures.{CodedPicture, held_in};
+ghost use Rattle.h264_verify.specs.Buffering.{within_newest};
+ghost use Rattle.h264_verify.specs.Sound.{AreSound};
+ghost use Rattle.h264_verify.specs.Held.{AreAmong, AreEntered};
 ghost use Rattle.h264_verify.specs.Verdict.{Verdict};
 
 /// A stream has one verdict: a derivation that meets every rule, a first broken rule with its bit, and a feature with its bit
@@ -18,4 +22,10 @@ pub fn one_verdict()
 /// Each stream has a verdict.
 pub fn some_verdict()
     ensures { (mode : Mode) (bytes : List ℕ) → (told : List Told) × (answer : Result Summary Stop) × Verdict mode bytes told answer }
+{}
+
+/// While a picture is decoded, each picture that is held for reference has its frame in the buffer (C.4.4, C.4.5): of pictures whose rules were met, each
+/// entered behind a gap that was filled.
+pub fn held_pictures_stand()
+    ensures { (ended : Bool) (p : CodedPicture) (ps : List CodedPicture) → AreSound ended (p ∷ ps) → AreEntered (p ∷ ps) → AreAmong (held_in (p ∷ ps)) (within_newest (p ∷ ps)).buffer }
 {}
