@@ -1,3 +1,4 @@
 pub mod Order
 pub mod Turns
 pub mod Sorted
+pub mod Held

@@ -1,12 +1,13 @@
 //! What the definition of the list implies. Nothing here runs.
 #![tactic(auto)]
 
-ghost use Rattle.std.specs.Prelude.{◌≡◌, List, length, IsPermutation, IfOk};
+ghost use Rattle.std.specs.Prelude.{◌≡◌, Bool, true, List, length, IsPermutation, IfOk};
+ghost use Rattle.std.specs.List.{AllByRecursion};
 ghost use Rattle.h264_header.specs.declared.header.RefPicList0.{RefPicList0};
 ghost use Rattle.h264_marking.specs.declared.frame.ReferenceFrame.{ReferenceFrame};
 ghost use Rattle.h264_marking.specs.declared.frame.Numbering.{Numbering};
 ghost use Rattle.h264_lists.specs.Initial.{in_order, IsInOrder, list_places};
-ghost use Rattle.h264_lists.specs.Built.{built};
+ghost use Rattle.h264_lists.specs.Built.{AreOf, built};
 
 /// The initial list has the held frames and no others, and each comes before the next ones.
 pub fn ordered()
@@ -18,4 +19,10 @@ pub fn ordered()
 pub fn full()
     ensures { (current : Numbering) (list : RefPicList0) (frames : List ReferenceFrame) →
         IfOk (built current list frames) (λ slots. length slots ≡ list_places list.num_ref_idx_l0_active) }
+{}
+
+/// A list has held frames alone: what holds of each of them holds of each frame in the list, whatever its modifications.
+pub fn held_alone()
+    ensures { (current : Numbering) (list : RefPicList0) (frames : List ReferenceFrame) (p : ReferenceFrame → Bool) →
+        AllByRecursion (λ f. p f ≡ true) frames → IfOk (built current list frames) (AreOf (λ f. p f ≡ true)) }
 {}
