@@ -1,7 +1,7 @@
 -- The pictures that are held for reference stand in the buffer.
-use Rattle.std.proofs.Common.{◌≡◌, ℕ, zero, suc, ◌+◌, ◌-◌, ◌==◌, ◌&&◌, ◌||◌, not, nat_lt, Bool, true, false, List, [], ◌∷◌, ◌++◌, map, length, Option, Some, None, Result, Ok, Err, ℤ, refl, ap, sym, ◌∙◌, subst, arith, if◌then◌else◌, eqb-true}
+use Rattle.std.proofs.Common.{◌≡◌, ℕ, ◌==◌, ◌||◌, nat_lt, Bool, true, false, List, [], ◌∷◌, ◌++◌, map, length, Option, Some, None, Result, Ok, Err, ℤ, refl, ap, sym, ◌∙◌, subst, if◌then◌else◌}
 use Rattle.std.specs.List.{filter, list_any}
-use Rattle.std.specs.Option.{option_map, option_and_then, ok_or}
+use Rattle.std.specs.Option.{option_map, ok_or}
 use Rattle.h264_base.proofs.Chains.{map-some, then-some}
 use Rattle.h264_header.specs.declared.header.Operation.{Operation}
 use Rattle.h264_header.specs.declared.header.Operation.TheVariants.{UnmarkShortTerm, UnmarkLongTerm, MakeLongTerm, LimitLongTerm, UnmarkAll, MakeCurrentLongTerm}
@@ -14,7 +14,7 @@ use Rattle.h264_marking.specs.declared.frame.Term.TheVariants.{Long}
 use Rattle.h264_marking.specs.declared.frame.Numbering.{Numbering}
 use Rattle.h264_marking.specs.Frames.{References, frame_places, has_pic_num, has_frame_num, long_term_num, without_pic_num, without_index}
 use Rattle.h264_marking.specs.Window.{least_pic_num, slide, missing_frame, with_missing, filled}
-use Rattle.h264_marking.specs.Operations.{Marks, marks_of, with_frames, pic_num_x, is_below, made_long, may_make_long, unmark_short, unmark_long, make_long, limit_long, unmark_all, make_current_long, operated, go_on, all_operated}
+use Rattle.h264_marking.specs.Operations.{Marks, marks_of, with_frames, pic_num_x, is_below, made_long, operated, go_on, all_operated}
 use Rattle.h264_marking.specs.Held.{own_frame, with_own, slid_and_joined, joined, marked, idr_references}
 use Rattle.h264_marking.specs.Ended.{resets_by}
 use Rattle.h264_dpb.specs.Bumping.{is_picture, is_held}

@@ -1,8 +1,7 @@
 -- Each picture that is held has its frame in the buffer.
-use Rattle.std.proofs.Common.{◌≡◌, ℕ, ◌+◌, ◌==◌, ◌&&◌, ◌||◌, not, Bool, true, false, List, [], ◌∷◌, length, unwrap_or, Option, Some, None, Result, Ok, Err, refl, ap, sym, ◌∙◌, subst, if◌then◌else◌}
+use Rattle.std.proofs.Common.{◌≡◌, ℕ, ◌==◌, ◌||◌, not, Bool, true, false, List, [], ◌∷◌, length, unwrap_or, Option, Some, None, Result, Ok, Err, refl, ap, sym, ◌∙◌, subst, if◌then◌else◌}
 use Rattle.std.specs.Option.{is_some}
 use Rattle.std.specs.Result.{result_unwrap_or}
-use Rattle.std.specs.List.{list_any}
 use Rattle.h264_base.proofs.Chains.{then-some}
 use Rattle.h264_bits.specs.declared.element.Found.{Found}
 use Rattle.h264_header.specs.declared.header.Marking.{Marking}
@@ -11,23 +10,18 @@ use Rattle.h264_header.specs.Picture.{is_idr, is_reference}
 use Rattle.h264_marking.specs.declared.frame.Numbering.{Numbering}
 use Rattle.h264_marking.specs.Frames.{References}
 use Rattle.h264_marking.specs.Window.{filled}
-use Rattle.h264_marking.specs.Gaps.{all_filled, unused_short_term_frame_nums}
+use Rattle.h264_marking.specs.Gaps.{all_filled}
 use Rattle.h264_marking.specs.Held.{marked, idr_references, no_references}
 use Rattle.h264_marking.specs.Ended.{ended, numbering_of, resets, resets_by}
-use Rattle.h264_dpb.specs.declared.entry.Entry.{Entry}
-use Rattle.h264_dpb.specs.declared.entry.Placed.{Placed}
 use Rattle.h264_dpb.specs.declared.ended.Ended.{Ended}
 use Rattle.h264_dpb.specs.Ending.{ended_of}
 use Rattle.h264_dpb.specs.Bumping.{is_held}
 use Rattle.h264_dpb.specs.Buffered.{Buffered}
-use Rattle.h264_dpb.specs.Numbered.{place_in}
-use Rattle.h264_dpb.specs.Renamed.{all_renamed}
-use Rattle.h264_dpb.specs.Turns.{Shown, Turn, turn_then, stays, names, missing_turn, flush_turn, reference_turn, other_turn, empties, entry_of, way_turn, store_turn, end_turn}
-use Rattle.h264_dpb.specs.Kept.{shown_at}
-use Rattle.h264_verify.specs.Pictures.{CodedPicture, held_after, held_in, ended_by, is_met, prev_ref_frame_num_of}
+use Rattle.h264_dpb.specs.Turns.{Shown, Turn, turn_then, stays, names, missing_turn, flush_turn, reference_turn, other_turn, empties, entry_of, way_turn, store_turn}
+use Rattle.h264_verify.specs.Pictures.{CodedPicture, held_after, held_in, is_met}
 use Rattle.h264_verify.specs.Buffering.{gap_on, gaps_turn, missing_before, ended_picture, ended_turn, after_all, within_newest}
 use Rattle.h264_verify.specs.Sound.{IsMarked, AreSound}
-use Rattle.h264_verify.specs.Held.{is_kept, Stands, AreAmong, is_idr_marking, is_own, has_gap_filled, AreEntered}
+use Rattle.h264_verify.specs.Held.{Stands, AreAmong, is_idr_marking, is_own, has_gap_filled, AreEntered}
 use Rattle.h264_verify.proofs.Among.{Holds, filled-holds, marked-holds, reset-holds}
 use Rattle.h264_verify.proofs.Staying.{stands-missing, stands-reference, stands-other, stands-own}
 

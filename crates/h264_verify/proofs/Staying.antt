@@ -1,10 +1,10 @@
 -- Frames that are used for reference stay in the buffer.
-use Rattle.std.proofs.Common.{◌≡◌, ℕ, zero, suc, ◌-◌, ◌==◌, ◌&&◌, ◌||◌, not, nat_lt, Bool, true, false, List, [], ◌∷◌, ◌++◌, map, length, Option, Some, None, ℤ, refl, ap, sym, ◌∙◌, subst, if◌then◌else◌, eqb-true}
+use Rattle.std.proofs.Common.{◌≡◌, ℕ, zero, suc, ◌-◌, ◌==◌, ◌&&◌, ◌||◌, nat_lt, Bool, true, false, List, [], ◌∷◌, ◌++◌, map, length, Option, Some, None, ℤ, refl, sym, ◌∙◌, subst, if◌then◌else◌, eqb-true}
 use Rattle.std.specs.List.{filter, list_any}
 use Rattle.h264_marking.specs.Frames.{References}
 use Rattle.h264_dpb.specs.declared.entry.Entry.{Entry}
-use Rattle.h264_dpb.specs.Bumping.{Step, joins, and_then, in_front, is_next, is_below, is_held, missing_in, is_in_use, least_count, left_of, written_at, written_by, bumped, made_room, placed, marked, marked_by, stored_reference, stored_other}
-use Rattle.h264_dpb.specs.Buffered.{Buffered, reference_step, other_step, missing_step}
+use Rattle.h264_dpb.specs.Bumping.{Step, in_front, is_next, is_below, is_held, missing_in, is_in_use, least_count, left_of, written_at, written_by, bumped, made_room, placed, marked, marked_by, stored_reference, stored_other}
+use Rattle.h264_dpb.specs.Buffered.{Buffered}
 use Rattle.h264_dpb.specs.Turns.{Shown, names, still, reference_turn, other_turn, missing_turn}
 use Rattle.h264_verify.specs.Held.{is_kept, Stands}
 use Rattle.h264_verify.proofs.Among.{true-or, or-true}
