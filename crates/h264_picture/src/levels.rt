@@ -10,8 +10,8 @@ ghost use Rattle.h264_recon.specs.Levels.{levels_of};
 ghost use Rattle.h264_picture.specs.Levels.{transform_fits, AreNone};
 
 use h264_mbsyntax::Macroblock;
-use h264_recon::levels;
-use h264_scale::{Residuals, residuals};
+use h264_recon::residuals;
+use h264_scale::Residuals;
 use h264_vectors::SliceContext;
 
 /// The residual of a macroblock, if each value of its transform is in range.
@@ -20,7 +20,7 @@ pub(crate) fn residuals_of(slice: &SliceContext, mb: &Macroblock) -> Option<Resi
     ensures range { (coded : CodedMacroblock) → Holds mb.now coded → is_some result ≡ transform_fits slice.now coded }
     ensures residual { (coded : CodedMacroblock) → Holds mb.now coded → IfSome result (AreResiduals (levels_of slice.now.chroma_qp_index_offset coded)) }
 {
-    match residuals(&levels(mb, slice.chroma_qp_index_offset)) {
+    match residuals(mb, slice.chroma_qp_index_offset) {
         Ok(residuals) => Some(residuals),
         Err(_) => None,
     }

@@ -16,3 +16,4 @@ pub mod FromPrediction
 pub mod Within
 pub mod Placed
 pub mod Possible
+pub mod FromLevels

@@ -11,3 +11,4 @@ pub mod Table
 pub mod Levels
 pub mod Given
 pub mod Placed
+pub mod Residuals

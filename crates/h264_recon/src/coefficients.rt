@@ -15,7 +15,7 @@ use h264_tables::chroma_qp;
 
 /// The levels of a block of which so many are not 0.
 #[inline]
-fn shown16(stands: &[i16; 16], total: u8) -> [i16; 16]
+pub(crate) fn shown16(stands: &[i16; 16], total: u8) -> [i16; 16]
     ensures { result ≡ shown 16 total stands.now }
 {
     if total == 0 {
@@ -25,7 +25,7 @@ fn shown16(stands: &[i16; 16], total: u8) -> [i16; 16]
 }
 
 #[inline]
-fn shown15(stands: &[i16; 15], total: u8) -> [i16; 15]
+pub(crate) fn shown15(stands: &[i16; 15], total: u8) -> [i16; 15]
     ensures { result ≡ shown 15 total stands.now }
 {
     if total == 0 {
@@ -35,7 +35,7 @@ fn shown15(stands: &[i16; 15], total: u8) -> [i16; 15]
 }
 
 #[inline]
-fn shown4(stands: &[i16; 4], total: u8) -> [i16; 4]
+pub(crate) fn shown4(stands: &[i16; 4], total: u8) -> [i16; 4]
     ensures { result ≡ shown 4 total stands.now }
 {
     if total == 0 {
@@ -79,7 +79,7 @@ fn chroma_ac(totals: &[u8; 8], stands: &[[i16; 15]; 8], c: usize) -> [[i16; 15];
 }
 
 /// Whether no block has a coefficient.
-fn are_blank(totals: &[u8]) -> bool
+pub(crate) fn are_blank(totals: &[u8]) -> bool
     ensures { result ≡ are_blank totals.now }
 {
     totals.iter().all(|total| *total == 0)
@@ -92,7 +92,7 @@ fn are_zero(levels: &[i16; 4]) -> bool
 }
 
 /// Whether a plane has a level.
-fn is_uncoded(dc: &[i16; 4], totals: &[u8]) -> bool
+pub(crate) fn is_uncoded(dc: &[i16; 4], totals: &[u8]) -> bool
     ensures { result ≡ (are_zero dc.now && are_blank totals.now) }
 {
     if !are_zero(dc) {
@@ -155,7 +155,7 @@ fn chroma_levels(mb: &Macroblock, c: usize) -> ChromaLevels
 }
 
 /// QP'C by QP_Y and chroma_qp_index_offset (8.5.8).
-fn qp_of_chroma(qp: u8, offset: i32) -> u8
+pub(crate) fn qp_of_chroma(qp: u8, offset: i32) -> u8
     requires { qp ≤ 51 }
     ensures here { result ≡ chroma_qp_of qp offset }
     ensures within { result ≤ 51 }

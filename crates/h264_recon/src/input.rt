@@ -1,7 +1,7 @@
 //! What a macroblock that was read gives to its construction (8.3, 8.4.2).
 #![tactic(auto)]
 
-ghost use Rattle.std.specs.Prelude.{◌≡◌, ℕ, ◌+◌, ◌*◌, ◌<◌, ◌&&◌, List, length, get_or};
+ghost use Rattle.std.specs.Prelude.{◌≡◌, ℕ, ◌+◌, ◌*◌, ◌<◌, ◌&&◌, List, length, get_or, IsTrue, None};
 ghost use Rattle.h264_near.specs.Coded.{CodedMacroblock};
 ghost use Rattle.h264_near.specs.Keeps.{Keeps, width_of};
 ghost use Rattle.h264_vectors.specs.declared.slice.SliceContext.{SliceContext as Context};
@@ -144,10 +144,60 @@ fn motion(derived: Option<Derived>, places: &[u8; 16]) -> Motion
     }
 }
 
+/// What a block is predicted from, by its number.
+#[inline(always)]
+fn derived_at(derived: &[Option<Derived>; 16], b: usize) -> Option<Derived>
+    requires { b < 16 }
+    ensures { result ≡ get_or derived.now b None }
+{
+    derived[b]
+}
+
+/// Whether two blocks are predicted alike.
+#[inline(always)]
+fn is_alike(a: Option<Derived>, b: Option<Derived>) -> bool
+    ensures { IsTrue result → b ≡ a }
+{
+    match (a, b) {
+        (Some(a), Some(b)) => {
+            if a.ref_idx != b.ref_idx {
+                return false;
+            }
+            if a.picture != b.picture {
+                return false;
+            }
+            if a.vector.x != b.vector.x {
+                return false;
+            }
+            a.vector.y == b.vector.y
+        }
+        (Some(_), None) => false,
+        (None, Some(_)) => false,
+        (None, None) => true,
+    }
+}
+
+/// Whether all blocks are.
+#[inline(always)]
+fn are_alike(derived: &[Option<Derived>; 16]) -> bool
+    ensures { IsTrue result → (k : ℕ) → k < 16 → get_or derived.now k None ≡ get_or derived.now 0 None }
+{
+    let first = derived_at(derived, 0);
+    for n in 1..16 {
+        if !is_alike(first, derived_at(derived, n)) {
+            return false;
+        }
+    }
+    true
+}
+
 /// Motions row by row.
 fn motions(derived: &[Option<Derived>; 16], places: &[u8; 16]) -> [Motion; 16]
     ensures { result ≡ placed_motions places.now derived.now }
 {
+    if are_alike(derived) {
+        return [motion(derived_at(derived, 0), places); 16];
+    }
     let mut out = [motion(None, places); 16];
     for k in 0..16 {
         out[k] = motion(derived[number(k % 4, k / 4)], places);

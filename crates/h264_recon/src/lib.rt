@@ -16,6 +16,7 @@ mod intra;
 pub mod laws;
 mod macroblock;
 mod run;
+mod scaled;
 mod store;
 mod sum;
 
@@ -25,6 +26,7 @@ pub use input::{available, given};
 pub use macroblock::{
     Available, IntraLuma, IntraModes, Macroblock, Motion, PcmSamples, Prediction,
 };
+pub use scaled::residuals;
 pub use store::{Lines, Store};
 
 #[cfg(test)]

@@ -15,7 +15,7 @@ mod transform;
 
 pub use dc::{dc2, dc16};
 pub use levels::{ChromaLevels, ChromaWithDc, Levels, LumaLevels, LumaWithDc, Residuals};
-pub use macroblock::residuals;
+pub use macroblock::{put8, put16, residuals};
 pub use residual::{residual4, residual4_with_dc};
 pub use transform::TransformRange;
 

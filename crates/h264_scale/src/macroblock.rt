@@ -12,7 +12,7 @@ use crate::transform::TransformRange;
 
 /// Puts the residual of the block at column `x` and row `y` of blocks into that of a luma macroblock.
 #[inline(always)]
-fn put16(out: &mut [i16; 256], x: usize, y: usize, block: &[i16; 16])
+pub fn put16(out: &mut [i16; 256], x: usize, y: usize, block: &[i16; 16])
     requires { (x < 4) × (y < 4) }
     ensures { IsPut 16 out.old out.new x y block.now }
 {
@@ -21,9 +21,9 @@ fn put16(out: &mut [i16; 256], x: usize, y: usize, block: &[i16; 16])
     }
 }
 
-/// And into that of a chroma plane.
+/// Puts the residual of the block at column `x` and row `y` of blocks into that of a chroma plane.
 #[inline(always)]
-fn put8(out: &mut [i16; 64], x: usize, y: usize, block: &[i16; 16])
+pub fn put8(out: &mut [i16; 64], x: usize, y: usize, block: &[i16; 16])
     requires { (x < 2) × (y < 2) }
     ensures { IsPut 8 out.old out.new x y block.now }
 {

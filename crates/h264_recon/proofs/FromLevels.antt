@@ -1,0 +1,28 @@
+-- The residual of a macroblock by the levels that it has.
+use Rattle.std.proofs.Common.{◌≡◌, ℕ, Bool, true, ◌&&◌, List, Option, None, Result, Ok, ℤ, refl, sym, ◌∙◌}
+use Rattle.h264_scale.specs.declared.levels.LumaLevels.{LumaLevels}
+use Rattle.h264_scale.specs.declared.levels.LumaLevels.TheVariants as luma
+use Rattle.h264_scale.specs.declared.levels.ChromaLevels.{ChromaLevels}
+use Rattle.h264_scale.specs.declared.levels.ChromaLevels.TheVariants as chroma
+use Rattle.h264_scale.proofs.Whole.{always, not_coded_luma_fits, not_coded_luma, not_coded_chroma_fits, not_coded_chroma}
+use Rattle.h264_recon.specs.Levels.{are_blank, are_zero, chroma_blocks}
+use Rattle.h264_recon.specs.Residuals.{IsLumaOf, IsChromaOf}
+
+pub no_luma : {E : Type 0} (qp : ℕ) (l : LumaLevels) → luma.NotCoded ≡ l → IsLumaOf {E = E} qp l (Ok None)
+no_luma qp l e = rw (sym e) (record { range = always _ (not_coded_luma_fits qp); made = not_coded_luma qp })
+
+pub no_chroma : {E : Type 0} (qp : ℕ) (l : ChromaLevels) → chroma.NotCoded ≡ l → IsChromaOf {E = E} qp l (Ok None)
+no_chroma qp l e = rw (sym e) (record { range = always _ (not_coded_chroma_fits qp); made = not_coded_chroma qp })
+
+pub luma_by : {E : Type 0} (qp : ℕ) (v l : LumaLevels) (r : Result (Option (List ℤ)) E) → IsLumaOf qp v r → v ≡ l → IsLumaOf qp l r
+luma_by qp v l r h e = rw (sym e) h
+
+pub chroma_by : {E : Type 0} (qp : ℕ) (v l : ChromaLevels) (r : Result (Option (List ℤ)) E) → IsChromaOf qp v r → v ≡ l → IsChromaOf qp l r
+chroma_by qp v l r h e = rw (sym e) h
+
+-- a plane whose DC levels are 0, and which has no others
+pub uncoded : (t t' : List ℕ) (d d' : List ℤ) (ac : List (List ℤ)) (b : Bool) → b ≡ true → b ≡ (are_zero d && are_blank t) → d ≡ d' → t ≡ t' → chroma.NotCoded ≡ chroma_blocks t' d' ac
+unfolding chroma_blocks
+uncoded t t' d d' ac b p is e f =
+    let none : (are_zero d && are_blank t) ≡ true = sym is ∙ p in
+    rw (sym e, sym f, none) refl

@@ -1,0 +1,217 @@
+//! The residual of a macroblock that was read (8.5).
+#![tactic(auto)]
+
+ghost use Rattle.std.specs.Prelude.{◌≡◌, ◌↔◌, ℕ, ◌+◌, ◌*◌, ◌<◌, ◌≤◌, ◌&&◌, [], IsOk, IfOk, IsTrue, get_or, unwrap_or, replicate, take, drop, pos};
+ghost use Rattle.h264_plane.specs.Places.{index_of};
+ghost use Rattle.h264_near.specs.Coded.{CodedMacroblock};
+ghost use Rattle.h264_mbsyntax.specs.Stored.{shown};
+ghost use Rattle.h264_mbsyntax.specs.Holds.{Holds};
+ghost use Rattle.h264_scale.specs.Residual.{residual_at};
+ghost use Rattle.h264_scale.specs.Macroblock.{luma_d, chroma_d, luma_fits, chroma_fits, levels_fit, AreResiduals, AreScaled, raster};
+ghost use Rattle.h264_scale.specs.declared.levels.LumaLevels.TheVariants as luma_variants;
+ghost use Rattle.h264_scale.specs.declared.levels.ChromaLevels.TheVariants as chroma_variants;
+ghost use Rattle.h264_recon.specs.Table.{table};
+ghost use Rattle.h264_recon.specs.Residuals.{IsLumaOf, IsChromaOf};
+ghost use Rattle.h264_recon.specs.Levels.{are_zero, are_blank as are_blank_of, luma_blocks as luma_blocks_of, luma_levels as luma_levels_of, chroma_blocks as chroma_blocks_of, chroma_levels as chroma_levels_of, levels_of};
+
+use crate::coefficients::{are_blank, is_uncoded, qp_of_chroma, shown4, shown15, shown16};
+use h264_mbsyntax::{Kind, Macroblock, Residual};
+use h264_scale::{Residuals, TransformRange, dc2, dc16, put8, put16, residual4, residual4_with_dc};
+
+/// The levels of a luma block.
+#[inline(always)]
+fn block16(totals: &[u8; 16], stands: &[[i16; 16]; 16], b: usize) -> [i16; 16]
+    requires { b < 16 }
+    ensures { result ≡ get_or (table 16 (λ k. shown 16 (get_or totals.now k 0) (get_or stands.now k (replicate 16 (pos 0))))) b [] }
+{
+    shown16(&stands[b], totals[b])
+}
+
+/// Those behind its DC.
+#[inline(always)]
+fn block15(totals: &[u8; 16], stands: &[[i16; 15]; 16], b: usize) -> [i16; 15]
+    requires { b < 16 }
+    ensures { result ≡ get_or (table 16 (λ k. shown 15 (get_or totals.now k 0) (get_or stands.now k (replicate 15 (pos 0))))) b [] }
+{
+    shown15(&stands[b], totals[b])
+}
+
+/// Those of a block of a chroma plane.
+#[inline(always)]
+fn chroma_block(totals: &[u8; 8], stands: &[[i16; 15]; 8], c: usize, b: usize) -> [i16; 15]
+    requires { (c < 2) × (b < 4) }
+    ensures { result ≡ get_or (table 4 (λ k. shown 15 (get_or totals.now (4 * c + k) 0) (get_or stands.now (4 * c + k) (replicate 15 (pos 0))))) b [] }
+{
+    shown15(&stands[4 * c + b], totals[4 * c + b])
+}
+
+/// The residual of luma blocks of 16 levels.
+fn blocks(
+    totals: &[u8; 16],
+    stands: &[[i16; 16]; 16],
+    qp: u8,
+) -> Result<Option<[i16; 256]>, TransformRange>
+    requires { qp ≤ 51 }
+    ensures range { IsOk result ↔ IsTrue (luma_fits qp (luma_variants.Blocks (table 16 (λ k. shown 16 (get_or totals.now k 0) (get_or stands.now k (replicate 16 (pos 0))))))) }
+    ensures made { IfOk result (λ r. AreScaled 16 16 index_of (λ x y. residual_at (luma_d qp (luma_variants.Blocks (table 16 (λ k. shown 16 (get_or totals.now k 0) (get_or stands.now k (replicate 16 (pos 0)))))) x y)) (unwrap_or r [])) }
+{
+    let mut out = [0; 256];
+    for b in 0..16 {
+        let levels = block16(totals, stands, b);
+        let block = residual4(&levels, qp)?;
+        put16(
+            &mut out,
+            2 * (b / 4 % 2) + b % 2,
+            2 * (b / 8) + b / 2 % 2,
+            &block,
+        );
+    }
+    Ok(Some(out))
+}
+
+/// The residual of Intra 16x16.
+fn with_dc(
+    dc: &[i16; 16],
+    totals: &[u8; 16],
+    stands: &[[i16; 15]; 16],
+    qp: u8,
+) -> Result<Option<[i16; 256]>, TransformRange>
+    requires { qp ≤ 51 }
+    ensures range { IsOk result ↔ IsTrue (luma_fits qp (luma_variants.WithDc (record { dc = dc.now; ac = table 16 (λ k. shown 15 (get_or totals.now k 0) (get_or stands.now k (replicate 15 (pos 0)))) }))) }
+    ensures made { IfOk result (λ r. AreScaled 16 16 index_of (λ x y. residual_at (luma_d qp (luma_variants.WithDc (record { dc = dc.now; ac = table 16 (λ k. shown 15 (get_or totals.now k 0) (get_or stands.now k (replicate 15 (pos 0)))) })) x y)) (unwrap_or r [])) }
+{
+    let dc = dc16(dc, qp)?;
+    let mut out = [0; 256];
+    for b in 0..16 {
+        let x = 2 * (b / 4 % 2) + b % 2;
+        let y = 2 * (b / 8) + b / 2 % 2;
+        let levels = block15(totals, stands, b);
+        let block = residual4_with_dc(dc[4 * y + x], &levels, qp)?;
+        put16(&mut out, x, y, &block);
+    }
+    Ok(Some(out))
+}
+
+/// The residual of a chroma plane that has levels.
+fn chroma_with_dc(
+    dc: &[i16; 4],
+    totals: &[u8; 8],
+    stands: &[[i16; 15]; 8],
+    c: usize,
+    qp: u8,
+) -> Result<Option<[i16; 64]>, TransformRange>
+    requires plane { c < 2 }
+    requires qp { qp ≤ 51 }
+    ensures range { IsOk result ↔ IsTrue (chroma_fits qp (chroma_variants.WithDc (record { dc = dc.now; ac = table 4 (λ k. shown 15 (get_or totals.now (4 * c + k) 0) (get_or stands.now (4 * c + k) (replicate 15 (pos 0)))) }))) }
+    ensures made { IfOk result (λ r. AreScaled 8 4 raster (λ x y. residual_at (chroma_d qp (chroma_variants.WithDc (record { dc = dc.now; ac = table 4 (λ k. shown 15 (get_or totals.now (4 * c + k) 0) (get_or stands.now (4 * c + k) (replicate 15 (pos 0)))) })) x y)) (unwrap_or r [])) }
+{
+    let dc = dc2(dc, qp)?;
+    let mut out = [0; 64];
+    for b in 0..4 {
+        let x = b % 2;
+        let y = b / 2;
+        let levels = chroma_block(totals, stands, c, b);
+        let block = residual4_with_dc(dc[2 * y + x], &levels, qp)?;
+        put8(&mut out, x, y, &block);
+    }
+    Ok(Some(out))
+}
+
+/// The residual of luma blocks of 16 levels, if some block has one.
+#[tactic(auto, unfolding(crate::specs::Levels::luma_blocks))]
+fn luma_blocks(
+    totals: &[u8; 16],
+    stands: &[[i16; 16]; 16],
+    qp: u8,
+) -> Result<Option<[i16; 256]>, TransformRange>
+    requires { qp ≤ 51 }
+    ensures { IsLumaOf qp (luma_blocks_of totals.now (table 16 (λ k. shown 16 (get_or totals.now k 0) (get_or stands.now k (replicate 16 (pos 0)))))) result }
+{
+    if are_blank(totals) {
+        return Ok(None);
+    }
+    blocks(totals, stands, qp)
+}
+
+/// The residual of luma.
+fn luma(mb: &Macroblock) -> Result<Option<[i16; 256]>, TransformRange>
+    requires { mb.now.qp ≤ 51 }
+    ensures { (coded : CodedMacroblock) → Holds mb.now coded → IsLumaOf mb.now.qp (luma_levels_of coded.prediction coded.totals coded.residual) result }
+{
+    match mb.kind {
+        Kind::Intra16x16 { mode: _ } => {
+            let dc = shown16(&mb.residual.luma_dc, mb.residual.luma_dc_total);
+            with_dc(&dc, &mb.contexts.totals, &mb.residual.luma_ac, mb.qp)
+        }
+        Kind::Pcm => Ok(None),
+        Kind::Intra4x4 => luma_blocks(&mb.contexts.totals, &mb.residual.luma, mb.qp),
+        Kind::Inter => luma_blocks(&mb.contexts.totals, &mb.residual.luma, mb.qp),
+    }
+}
+
+/// The DC levels of a chroma plane.
+#[inline(always)]
+fn dc_levels(totals: &[u8; 2], stands: &[[i16; 4]; 2], c: usize) -> [i16; 4]
+    requires { c < 2 }
+    ensures { result ≡ shown 4 (get_or totals.now c 0) (get_or stands.now c (replicate 4 (pos 0))) }
+{
+    shown4(&stands[c], totals[c])
+}
+
+/// Whether a chroma plane has no level.
+fn is_plane_uncoded(dc: &[i16; 4], totals: &[u8; 8], c: usize) -> bool
+    requires { c < 2 }
+    ensures { result ≡ (are_zero dc.now && are_blank_of (take 4 (drop (4 * c) totals.now))) }
+{
+    is_uncoded(dc, &totals[4 * c..4 * c + 4])
+}
+
+/// The residual of a chroma plane, if it has a level.
+#[tactic(auto, unfolding(crate::specs::Levels::chroma_blocks))]
+fn chroma_blocks(
+    residual: &Residual,
+    totals: &[u8; 8],
+    c: usize,
+    qp: u8,
+) -> Result<Option<[i16; 64]>, TransformRange>
+    requires plane { c < 2 }
+    requires qp { qp ≤ 51 }
+    ensures { IsChromaOf qp (chroma_blocks_of (take 4 (drop (4 * c) totals.now)) (shown 4 (get_or residual.now.chroma_dc_totals c 0) (get_or residual.now.chroma_dc c (replicate 4 (pos 0)))) (table 4 (λ k. shown 15 (get_or totals.now (4 * c + k) 0) (get_or residual.now.chroma_ac (4 * c + k) (replicate 15 (pos 0)))))) result }
+{
+    let dc = dc_levels(&residual.chroma_dc_totals, &residual.chroma_dc, c);
+    if is_plane_uncoded(&dc, totals, c) {
+        return Ok(None);
+    }
+    chroma_with_dc(&dc, totals, &residual.chroma_ac, c, qp)
+}
+
+/// The residual of a chroma plane: Cb is 0, Cr is 1.
+fn chroma(mb: &Macroblock, c: usize, qp: u8) -> Result<Option<[i16; 64]>, TransformRange>
+    requires plane { c < 2 }
+    requires qp { qp ≤ 51 }
+    ensures { (coded : CodedMacroblock) → Holds mb.now coded → IsChromaOf qp (chroma_levels_of c coded.prediction coded.chroma_totals coded.residual) result }
+{
+    match mb.kind {
+        Kind::Pcm => Ok(None),
+        Kind::Intra4x4 => chroma_blocks(&mb.residual, &mb.contexts.chroma_totals, c, qp),
+        Kind::Intra16x16 { mode: _ } => {
+            chroma_blocks(&mb.residual, &mb.contexts.chroma_totals, c, qp)
+        }
+        Kind::Inter => chroma_blocks(&mb.residual, &mb.contexts.chroma_totals, c, qp),
+    }
+}
+
+/// The residual of each plane of a macroblock that was read, by chroma_qp_index_offset, or `TransformRange` where a value of its
+/// transform is out of range. A plane without levels costs no transform.
+pub fn residuals(mb: &Macroblock, offset: i32) -> Result<Residuals, TransformRange>
+    requires { mb.now.qp ≤ 51 }
+    ensures range { (coded : CodedMacroblock) → Holds mb.now coded → IsOk result ↔ IsTrue (levels_fit (levels_of offset coded)) }
+    ensures residual { (coded : CodedMacroblock) → Holds mb.now coded → IfOk result (AreResiduals (levels_of offset coded)) }
+{
+    let qp = qp_of_chroma(mb.qp, offset);
+    Ok(Residuals {
+        y: luma(mb)?,
+        cb: chroma(mb, 0, qp)?,
+        cr: chroma(mb, 1, qp)?,
+    })
+}
