@@ -205,19 +205,60 @@ fn strong(l: Line, alpha: u8, beta: u8) -> Line
     }
 }
 
-/// The nearest samples after the filter of bS 4.
+/// Eight samples, and eight more that fill a register of lanes.
+#[inline(always)]
+fn widened(x: &[u8; 8]) -> [u8; 16]
+    ensures { (n : ℕ) → n < 8 → slice_index result n ≡ slice_index x.now n }
+{
+    let mut out = [0u8; 16];
+    for n in 0..8usize {
+        out[n] = x[n];
+    }
+    out
+}
+
+/// The first eight of the samples.
+#[inline(always)]
+fn narrowed(x: &[u8; 16]) -> [u8; 8]
+    ensures { (n : ℕ) → n < 8 → slice_index result n ≡ slice_index x.now n }
+{
+    let mut out = [0u8; 8];
+    for n in 0..8usize {
+        out[n] = x[n];
+    }
+    out
+}
+
+/// The nearest samples after the filter of bS 4. Of sixteen lanes eight are used: the compiler makes vectors of so many, but not of eight.
 #[inline(never)]
 pub fn strong_nearest(r: &Inner, alpha: u8, beta: u8) -> Nearest
     ensures { IsFilteredInner r.now result (λ _. record { alpha = alpha; beta = beta; filter = Strong }) }
 {
-    let mut p0 = [0u8; 8];
-    let mut q0 = [0u8; 8];
-    for n in 0..8usize {
-        let l = strong(r.line(n), alpha, beta);
-        p0[n] = l.p0;
-        q0[n] = l.q0;
+    let p1s = widened(&r.p1);
+    let p0s = widened(&r.p0);
+    let q0s = widened(&r.q0);
+    let q1s = widened(&r.q1);
+    let mut p0 = [0u8; 16];
+    let mut q0 = [0u8; 16];
+    for n in 0..16usize {
+        let before = Line {
+            p3: 0,
+            p2: 0,
+            p1: p1s[n],
+            p0: p0s[n],
+            q0: q0s[n],
+            q1: q1s[n],
+            q2: 0,
+            q3: 0,
+        };
+        let after = strong(before, alpha, beta);
+        p0[n] = after.p0;
+        q0[n] = after.q0;
     }
-    Nearest { p0, q0 }
+    Nearest {
+        p0: narrowed(&p0),
+        q0: narrowed(&q0),
+    }
 }
 
 /// The numbers of the filters of 8 lines, where each bS is below 4.
