@@ -1,21 +1,40 @@
 #!/usr/bin/env bash
-# compare.sh [STREAM..]: builds h264v, and prints for each stream the times of `h264v units` and `h264v headers` beside those of `md5sum` and `cat` on the same file:
-# the best of seven runs each, taken in turn, the ratios, and h264v's peak memory. `decoders.sh` compares `check` and `decode` with other decoders.
-# With no STREAM it makes four streams of 100 MB by slices.py, of slices of 100, 250, 1,000 and 5,000 bytes.
+# compare.sh [STREAM..]: builds h264v, and prints for each stream the times of `h264v units` and `h264v headers` beside those of `md5sum` and `cat` on the
+# same file, and of a stream that `h264v check` says yes to also those of `check` and `decode`, beside ffmpeg's single-threaded decoding, with its vector code
+# and without (-cpuflags 0), and OpenH264's through GStreamer, where they are installed: the best of up to seven runs each, taken in turn, the ratios, and
+# h264v's peak memory. On Debian: apt-get install ffmpeg x264 gstreamer1.0-tools gstreamer1.0-plugins-base gstreamer1.0-plugins-bad
+# With no STREAM it makes four streams of 100 MB by slices.py, of slices of 100, 250, 1,000 and 5,000 bytes, which hold no pictures, and, where x264 and
+# ffmpeg are installed, four streams of pictures. The whole takes some four minutes then, without the proofs of a first build.
 set -eu
 top=$(cd "$(dirname "$0")/.." && pwd)
 (cd "$top/crates/h264v" && rt run -- units "$top/samples/one_frame.264" > /dev/null)
 program=$top/crates/h264v/out/h264v
+# encode NAME SIZE FRAMES WORDS..: a stream of moving test pictures with noise, by x264 with these words
+encode() {
+    local name=$1 size=$2 frames=$3
+    shift 3
+    ffmpeg -v error -f lavfi -i "testsrc2=size=$size:rate=30,noise=alls=6:allf=t" -frames:v "$frames" -pix_fmt yuv420p -f yuv4mpegpipe - |
+        x264 --quiet --threads 1 --profile baseline "$@" --demuxer y4m -o "$made/$name.264" - 2> /dev/null
+}
 if [ $# -eq 0 ]; then
     made=$(mktemp -d)
     trap 'rm -r "$made"' EXIT
     for size in 100 250 1000 5000; do
         python3 "$top/bench/slices.py" "$size" 100000000 > "$made/slices_of_$size.264"
     done
+    if command -v x264 > /dev/null && command -v ffmpeg > /dev/null; then
+        encode cif_i 352x288 60 --qp 26 --keyint 1
+        encode cif_p 352x288 150 --qp 28 --ref 3 --keyint 250
+        encode hd_i 1920x1080 8 --qp 28 --keyint 1
+        encode hd_p 1920x1080 40 --qp 30 --ref 1 --keyint 250
+    fi
     set -- "$made"/*.264
 fi
 python3 - "$program" "$@" <<'PYTHON'
-import os, subprocess, sys, time
+import os, shutil, subprocess, sys, time
+
+# No more turns of a stream's commands once they took so many seconds.
+ENOUGH = 20
 
 def start(words):
     return subprocess.Popen(words, stdout=subprocess.DEVNULL, stderr=subprocess.DEVNULL)
@@ -26,8 +45,11 @@ def run(words):
     return time.perf_counter() - begun
 
 def best(commands):
-    """The least time of each command over seven rounds of all."""
-    return [min(times) for times in zip(*[[run(words) for words in commands] for _ in range(7)])]
+    """The least time of each command over seven rounds of all, or as many as there is time for."""
+    begun, rounds = time.perf_counter(), []
+    while len(rounds) < 7 and (not rounds or time.perf_counter() - begun < ENOUGH):
+        rounds.append([run(words) for words in commands])
+    return [min(times) for times in zip(*rounds)]
 
 def held(pid, program):
     """The greatest memory that the process has held so far, in KB; 0 where it runs no longer, or not yet."""
@@ -46,10 +68,23 @@ def peak(words):
 
 program, *streams = sys.argv[1:]
 for stream in streams:
-    commands = [["md5sum", stream], ["cat", stream], [program, "units", stream], [program, "headers", stream]]
-    md5, cat, *ours = best(commands)
-    line = f"{stream}: {os.path.getsize(stream)} bytes, md5sum {md5:.3f} s, cat {cat:.3f} s"
-    for mode, time_taken in zip(["units", "headers"], ours):
-        line += f", h264v {mode} {time_taken:.3f} s: {time_taken / md5:.2f} of md5sum, peak {peak([program, mode, stream])} KB"
-    print(line)
+    modes = ["units", "headers"]
+    pictures = start([program, "check", stream]).wait() == 0
+    if pictures:
+        modes += ["check", "decode"]
+    commands = {"md5sum": ["md5sum", stream], "cat": ["cat", stream]}
+    commands.update({mode: [program, mode, stream] for mode in modes})
+    if pictures and shutil.which("ffmpeg"):
+        for name, flags in [("ffmpeg -threads 1", []), ("ffmpeg -threads 1 -cpuflags 0", ["-cpuflags", "0"])]:
+            commands[name] = ["ffmpeg", "-v", "error", *flags, "-threads", "1", "-i", stream, "-f", "null", "-"]
+    if pictures and shutil.which("gst-inspect-1.0") and start(["gst-inspect-1.0", "openh264dec"]).wait() == 0:
+        commands["OpenH264"] = ["gst-launch-1.0", "-q", "filesrc", f"location={stream}", "!", "h264parse", "!", "openh264dec", "!", "fakesink"]
+    times = dict(zip(commands, best(list(commands.values()))))
+    line = f"{stream}: {os.path.getsize(stream)} bytes, md5sum {times['md5sum']:.3f} s, cat {times['cat']:.3f} s"
+    for mode in modes:
+        line += f", h264v {mode} {times[mode]:.3f} s: {times[mode] / times['md5sum']:.2f} of md5sum, peak {peak(commands[mode])} KB"
+    for name in commands:
+        if name.startswith(("ffmpeg", "OpenH264")):
+            line += f", {name} {times[name]:.3f} s: decode takes {times['decode'] / times[name]:.2f} of it"
+    print(line, flush=True)
 PYTHON
