@@ -2,7 +2,7 @@
 use Rattle.std.proofs.Common.{◌≡◌, ℕ, ◌<◌, List, [], ◌++◌, length, Option, Some, None, refl, sym, ap, subst, ◌∙◌, arith}
 use Rattle.std.specs.Io.KnownBytes.{Appends, Keeps}
 use Rattle.std.proofs.lemmas.List.{append-nil, append_assoc, length-append}
-use Rattle.h264_report.specs.Sent.{IsProperFront, Sends, SendsFront, HasSent}
+use Rattle.h264_report.specs.Sent.{IsProperFront, Sends, SendsFront, SendsSome}
 
 pub keeps-same : (a : Option (List ℕ)) → Keeps a a
 keeps-same None = tt
@@ -73,15 +73,19 @@ front-longer {a} {b} {bs} cs q = record {
   appends = q.appends;
 }
 
-behind : (b : Option (List ℕ)) (bs cs : List ℕ) → Appends (Some bs) b cs → b ≡ Some (bs ++ cs)
-behind None bs cs q = absurd q
-behind (Some ys) bs cs q = ap Some q
+-- ---- the first of some bytes, or all
 
-pub has-appends : (a b : Option (List ℕ)) (bs cs : List ℕ) → HasSent a bs → Appends a b cs → HasSent b (bs ++ cs)
-has-appends a b bs cs p q = behind b bs cs (subst (λ x. Appends x b cs) p q)
+pub sends-keeps : {a b c : Option (List ℕ)} {bs : List ℕ} → Sends a b bs → Keeps b c → Sends a c bs
+sends-keeps {a} {b} {c} {bs} p q = record { appends = appends-then-keeps a b c bs p.appends q }
 
-pub has-keeps : (a b : Option (List ℕ)) (bs : List ℕ) → HasSent a bs → Keeps a b → HasSent b bs
-has-keeps a b bs p q = stays b bs (subst (λ x. Keeps x b) p q) where
-  stays : (b : Option (List ℕ)) (bs : List ℕ) → Keeps (Some bs) b → b ≡ Some bs
-  stays None bs q = absurd q
-  stays (Some ys) bs q = ap Some q
+pub some-all : {a b : Option (List ℕ)} {bs : List ℕ} → Sends a b bs → SendsSome a b bs
+some-all {a} {b} {bs} p = record { part = bs; rest = []; whole = sym (append-nil bs); appends = p.appends }
+
+pub some-front : {a b : Option (List ℕ)} {bs : List ℕ} → SendsFront a b bs → SendsSome a b bs
+some-front p = record { part = p.part; rest = p.proper.rest; whole = p.proper.whole; appends = p.appends }
+
+pub some-longer : {a b : Option (List ℕ)} {bs : List ℕ} (cs : List ℕ) → SendsSome a b bs → SendsSome a b (bs ++ cs)
+some-longer {a} {b} {bs} cs p = record { part = p.part; rest = p.rest ++ cs; whole = ap (λ l. l ++ cs) p.whole ∙ append_assoc p.part p.rest cs; appends = p.appends }
+
+pub some-behind : {a b c : Option (List ℕ)} {bs cs : List ℕ} → Sends a b bs → SendsSome b c cs → SendsSome a c (bs ++ cs)
+some-behind {a} {b} {c} {bs} {cs} p q = record { part = bs ++ q.part; rest = q.rest; whole = ap (λ l. bs ++ l) q.whole ∙ sym (append_assoc bs q.part q.rest); appends = appends-appends a b c bs q.part p.appends q.appends }

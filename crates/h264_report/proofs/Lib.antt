@@ -5,3 +5,4 @@ pub mod Calls
 pub mod Runs
 pub mod Fits
 pub mod Sinks
+pub mod Accounts

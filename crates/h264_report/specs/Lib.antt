@@ -4,3 +4,4 @@ pub mod Rows
 pub mod Frames
 pub mod Told
 pub mod Trail
+pub mod Written

@@ -61,7 +61,18 @@ pub record IsFrame (bytes : List ℕ) : Type 0 where
   pub call : Call
   pub is : bytes ≡ bytes_in call
 
--- After so many frames with lines and so many failures the writer holds the lines of these calls.
-pub record HoldsLines (listing : Listing) (frames failures : ℕ) (known : Option (List ℕ)) (calls : List Call) : Type 0 where
+-- After so many frames with lines and so many failures the writer took the lines of these calls since the start.
+pub record HoldsLines (listing : Listing) (start : Option (List ℕ)) (frames failures : ℕ) (known : Option (List ℕ)) (calls : List Call) : Type 0 where
   pub counts : frames ≡ counted_of listing calls
-  pub sent : HoldsSent (IsLine listing) failures known (lines_of listing 0 calls)
+  pub sent : HoldsSent (IsLine listing) start failures known (lines_of listing 0 calls)
+
+-- The same through this reference and for this listing.
+pub record TookLines (name : ℕ) (listing : Listing) (start : Option (List ℕ)) (reference : ℕ) (lists : Listing) (frames failures : ℕ) (known : Option (List ℕ)) (calls : List Call) : Type 0 where
+  pub same_reference : reference ≡ name
+  pub same_listing : lists ≡ listing
+  pub holds : HoldsLines lists start frames failures known calls
+
+-- Through this reference the writer took the bytes of the frames of these calls since the start.
+pub record TookFrames (name : ℕ) (start : Option (List ℕ)) (reference : ℕ) (failures : ℕ) (known : Option (List ℕ)) (calls : List Call) : Type 0 where
+  pub same_reference : reference ≡ name
+  pub holds : HoldsSent IsFrame start failures known (bytes_of calls)

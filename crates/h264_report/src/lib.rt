@@ -1,24 +1,29 @@
 //! What the program prints of a stream: lines, frames as bytes, and the last elements.
 //!
 //! `unit_line`, `slice_line`, `frame_line`, `element_line` and `verdict_line` make each line without its line end, in ASCII. `LineSink` writes a line for
-//! each unit, slice or frame to a writer, `YuvSink` the samples of each frame, and `TrailSink` keeps the last 16 elements. Promised: exactly the texts of
-//! `specs/Lines.antt`; that a writer which tells its bytes holds the lines or the samples of the calls taken, in order, and after a failure a part of the
-//! next; and that a trail has the last 16 elements.
+//! each unit, slice or frame to a writer, `YuvSink` the samples of each frame, and `TrailSink` keeps the last 16 elements. `list`, `check` and `decode` judge
+//! a stream with one of them, and write the last line. Promised: exactly the texts of `specs/Lines.antt`; that a writer which tells its bytes holds the lines
+//! or the samples of the calls taken, in order, and after a failure a part of the next; that a trail has the last 16 elements; and of the three that run a
+//! judgement, what stands in `specs/Written.antt`: the last line is that of the answer in this mode, and what stands before it is of the calls up to there.
 #![tactic(auto)]
 
 mod frames;
+pub mod judging;
 pub mod line_sink;
 pub mod lines;
 pub mod listing;
 mod rows;
 mod send;
+pub mod sheet;
 pub mod trail;
 pub mod trail_sink;
 pub mod yuv_sink;
 
+pub use judging::{Ending, check, decode, list, put_answer, put_memory};
 pub use line_sink::LineSink;
 pub use lines::{element_line, frame_line, slice_line, unit_line, verdict_line};
 pub use listing::Listing;
+pub use sheet::{Pen, Sheet};
 pub use trail::{Element, Trail};
 pub use trail_sink::TrailSink;
 pub use yuv_sink::YuvSink;

@@ -8,21 +8,24 @@ ghost use Rattle.h264_report.specs.Told.{ended};
 use crate::lines::{frame_line, slice_line, unit_line};
 use crate::listing::Listing;
 use crate::send::send;
+use crate::sheet::{Pen, Sheet};
 use h264_base::{ElementName, Elements, Failed, SliceType};
 use h264_dpb::{FrameOut, Rectangle};
 use h264_plane::Frame;
 use h264_verify::FrameSink;
 use std::alloc::{AllocError, Global};
 use std::io::Write;
+use std::marker::PhantomData;
 
 /// Writes a line for each unit, slice or frame of a stream, as the listing says, and passes over all else.
 ///
-/// A writer that tells its bytes holds the lines of the calls taken, in order, followed after a failure by a part of the next line, which is not
-/// the whole. After a failure each call fails and nothing more is written.
+/// A writer that tells its bytes holds, behind what it held, the lines of the calls taken, in order, followed after a failure by a part of the next
+/// line, which is not the whole. After a failure each call fails and nothing more is written.
 #[derive(Drop)]
-pub struct LineSink<'a, W: Write> {
+pub struct LineSink<'a, W: Write, K: Sheet> {
     alloc: Global,
-    out: &'a mut W,
+    pen: Pen<'a, W>,
+    sheet: PhantomData<K>,
     listing: Listing,
     /// How many calls failed.
     pub failures: u64,
@@ -33,14 +36,19 @@ pub struct LineSink<'a, W: Write> {
     line: String,
 }
 
-impl<'a, W: Write> LineSink<'a, W> {
-    /// A sink over a writer that holds nothing yet, with no failure.
-    pub fn new(alloc: Global, listing: Listing, out: &'a mut W) -> LineSink<'a, W>
-        ensures { result.failures ≡ 0 }
+impl<'a, W: Write, K: Sheet> LineSink<'a, W, K> {
+    /// A sink that was told nothing, with no failure.
+    pub fn new(alloc: Global, listing: Listing, pen: Pen<'a, W>) -> LineSink<'a, W, K>
+        ensures quiet { result.failures ≡ 0 }
+        ensures same_reference { result.pen.out.ghost_name ≡ pen.entry.out.ghost_name }
+        ensures unwritten { result.pen.out.now ≡ pen.entry.out.now }
+        ensures listing { result.listing ≡ listing }
+        ensures frames { result.frames ≡ 0 }
     {
         LineSink {
             alloc,
-            out,
+            pen,
+            sheet: PhantomData,
             listing,
             failures: 0,
             short_of_memory: false,
@@ -52,6 +60,15 @@ impl<'a, W: Write> LineSink<'a, W> {
     /// Whether the first failure was a want of memory for a line.
     pub fn short_of_memory(&self) -> bool {
         self.short_of_memory
+    }
+
+    /// Gives the pen back.
+    pub fn into_pen(self) -> Pen<'a, W>
+        ensures same_reference { result.out.ghost_name ≡ self.entry.pen.out.ghost_name }
+        ensures kept { result.out.now ≡ self.entry.pen.out.now }
+    {
+        let LineSink { pen, .. } = self;
+        pen
     }
 
     /// Counts a failure behind others, at which nothing is written.
@@ -71,22 +88,23 @@ impl<'a, W: Write> LineSink<'a, W> {
         ensures failed { OnErr result (self.new.failures ≡ 1) }
         ensures listing { self.new.listing ≡ self.old.listing }
         ensures frames { self.new.frames ≡ self.old.frames }
-        ensures ok { (text : List ℕ) → OnOk made (string_bytes self.old.line ≡ text) → OnOk result (Sends (W.contents self.old.out.now) (W.contents self.new.out.now) (ended text)) }
-        ensures front { (text : List ℕ) → OnOk made (string_bytes self.old.line ≡ text) → OnErr result (SendsFront (W.contents self.old.out.now) (W.contents self.new.out.now) (ended text)) }
+        ensures same_reference { self.new.pen.out.ghost_name ≡ self.old.pen.out.ghost_name }
+        ensures ok { (text : List ℕ) → OnOk made (string_bytes self.old.line ≡ text) → OnOk result (Sends (W.contents self.old.pen.out.now) (W.contents self.new.pen.out.now) (ended text)) }
+        ensures front { (text : List ℕ) → OnOk made (string_bytes self.old.line ≡ text) → OnErr result (SendsFront (W.contents self.old.pen.out.now) (W.contents self.new.pen.out.now) (ended text)) }
     {
         if made.is_err() || self.line.push('\n').is_err() {
             self.short_of_memory = true;
             return self.fail();
         }
-        if send(self.out, self.line.as_bytes()).is_err() {
+        if send(self.pen.out, self.line.as_bytes()).is_err() {
             return self.fail();
         }
         Ok(())
     }
 }
 
-impl<'a, W: Write> LineSink<'a, W> {
-    ghost use Rattle.std.specs.Prelude.{◌≡◌, ◌+◌, ◌-◌, ◌<◌, ◌^◌, List, [], ◌∷◌, ◌++◌, IsTrue, OnOk, OnErr};
+impl<'a, W: Write, K: Sheet> LineSink<'a, W, K> {
+    ghost use Rattle.std.specs.Prelude.{◌≡◌, ℕ, ◌+◌, ◌-◌, ◌<◌, ◌^◌, List, [], ◌∷◌, ◌++◌, Option, IsTrue, OnOk, OnErr};
     ghost use Rattle.h264_base.specs.Call.{Call, OfUnit, OfSlice};
     ghost use Rattle.h264_dpb.specs.Shown.{fits, frame_call};
     ghost use Rattle.h264_report.specs.Told.{HoldsLines};
@@ -103,8 +121,9 @@ impl<'a, W: Write> LineSink<'a, W> {
         requires listing { self.old.listing ≡ listings.Units }
         requires room { self.old.failures < 2 ^ 64 - 1 }
         ensures listing { self.new.listing ≡ self.old.listing }
-        ensures ok { (before : List Call) → HoldsLines self.old.listing self.old.frames self.old.failures (W.contents self.old.out.now) before → OnOk result (HoldsLines self.new.listing self.new.frames self.new.failures (W.contents self.new.out.now) (before ++ OfUnit byte nal_unit_type nal_ref_idc length ∷ [])) }
-        ensures refused { (before : List Call) → HoldsLines self.old.listing self.old.frames self.old.failures (W.contents self.old.out.now) before → OnErr result (HoldsLines self.new.listing self.new.frames self.new.failures (W.contents self.new.out.now) before) }
+        ensures same_reference { self.new.pen.out.ghost_name ≡ self.old.pen.out.ghost_name }
+        ensures ok { (start : Option (List ℕ)) (before : List Call) → HoldsLines self.old.listing start self.old.frames self.old.failures (W.contents self.old.pen.out.now) before → OnOk result (HoldsLines self.new.listing start self.new.frames self.new.failures (W.contents self.new.pen.out.now) (before ++ OfUnit byte nal_unit_type nal_ref_idc length ∷ [])) }
+        ensures refused { (start : Option (List ℕ)) (before : List Call) → HoldsLines self.old.listing start self.old.frames self.old.failures (W.contents self.old.pen.out.now) before → OnErr result (HoldsLines self.new.listing start self.new.frames self.new.failures (W.contents self.new.pen.out.now) before) }
         ensures kept { OnOk result (self.new.failures ≡ self.old.failures) }
         ensures failed { OnErr result (self.new.failures ≡ self.old.failures + 1) }
     {
@@ -127,8 +146,9 @@ impl<'a, W: Write> LineSink<'a, W> {
         requires listing { self.old.listing ≡ listings.Slices }
         requires room { self.old.failures < 2 ^ 64 - 1 }
         ensures listing { self.new.listing ≡ self.old.listing }
-        ensures ok { (before : List Call) → HoldsLines self.old.listing self.old.frames self.old.failures (W.contents self.old.out.now) before → OnOk result (HoldsLines self.new.listing self.new.frames self.new.failures (W.contents self.new.out.now) (before ++ OfSlice byte first_mb_in_slice slice_type frame_num count ∷ [])) }
-        ensures refused { (before : List Call) → HoldsLines self.old.listing self.old.frames self.old.failures (W.contents self.old.out.now) before → OnErr result (HoldsLines self.new.listing self.new.frames self.new.failures (W.contents self.new.out.now) before) }
+        ensures same_reference { self.new.pen.out.ghost_name ≡ self.old.pen.out.ghost_name }
+        ensures ok { (start : Option (List ℕ)) (before : List Call) → HoldsLines self.old.listing start self.old.frames self.old.failures (W.contents self.old.pen.out.now) before → OnOk result (HoldsLines self.new.listing start self.new.frames self.new.failures (W.contents self.new.pen.out.now) (before ++ OfSlice byte first_mb_in_slice slice_type frame_num count ∷ [])) }
+        ensures refused { (start : Option (List ℕ)) (before : List Call) → HoldsLines self.old.listing start self.old.frames self.old.failures (W.contents self.old.pen.out.now) before → OnErr result (HoldsLines self.new.listing start self.new.frames self.new.failures (W.contents self.new.pen.out.now) before) }
         ensures kept { OnOk result (self.new.failures ≡ self.old.failures) }
         ensures failed { OnErr result (self.new.failures ≡ self.old.failures + 1) }
     {
@@ -152,8 +172,9 @@ impl<'a, W: Write> LineSink<'a, W> {
         requires inside { IsTrue (fits rectangle frame.now) }
         requires room { self.old.failures < 2 ^ 64 - 1 }
         ensures listing { self.new.listing ≡ self.old.listing }
-        ensures ok { (before : List Call) → HoldsLines self.old.listing self.old.frames self.old.failures (W.contents self.old.out.now) before → OnOk result (HoldsLines self.new.listing self.new.frames self.new.failures (W.contents self.new.out.now) (before ++ frame_call count frame.now rectangle ∷ [])) }
-        ensures refused { (before : List Call) → HoldsLines self.old.listing self.old.frames self.old.failures (W.contents self.old.out.now) before → OnErr result (HoldsLines self.new.listing self.new.frames self.new.failures (W.contents self.new.out.now) before) }
+        ensures same_reference { self.new.pen.out.ghost_name ≡ self.old.pen.out.ghost_name }
+        ensures ok { (start : Option (List ℕ)) (before : List Call) → HoldsLines self.old.listing start self.old.frames self.old.failures (W.contents self.old.pen.out.now) before → OnOk result (HoldsLines self.new.listing start self.new.frames self.new.failures (W.contents self.new.pen.out.now) (before ++ frame_call count frame.now rectangle ∷ [])) }
+        ensures refused { (start : Option (List ℕ)) (before : List Call) → HoldsLines self.old.listing start self.old.frames self.old.failures (W.contents self.old.pen.out.now) before → OnErr result (HoldsLines self.new.listing start self.new.frames self.new.failures (W.contents self.new.pen.out.now) before) }
         ensures kept { OnOk result (self.new.failures ≡ self.old.failures) }
         ensures failed { OnErr result (self.new.failures ≡ self.old.failures + 1) }
     {
@@ -182,10 +203,10 @@ impl<'a, W: Write> LineSink<'a, W> {
     }
 }
 
-impl<'a, W: Write> Elements for LineSink<'a, W> {
-    ghost use Rattle.h264_report.specs.Told.{HoldsLines};
+impl<'a, W: Write, K: Sheet> Elements for LineSink<'a, W, K> {
+    ghost use Rattle.h264_report.specs.Told.{TookLines};
 
-    ghost took = { λ s calls. HoldsLines s.listing s.frames s.failures (W.contents s.out.now) calls };
+    ghost took = { λ s calls. TookLines K.name K.listing K.start s.pen.out.ghost_name s.listing s.frames s.failures (W.contents s.pen.out.now) calls };
 
     ghost failures = { λ s. s.failures };
 
@@ -194,7 +215,7 @@ impl<'a, W: Write> Elements for LineSink<'a, W> {
     }
 }
 
-impl<'a, W: Write> FrameOut for LineSink<'a, W> {
+impl<'a, W: Write, K: Sheet> FrameOut for LineSink<'a, W, K> {
     fn frame(&mut self, count: i32, frame: &Frame, rectangle: Rectangle) -> Result<(), Failed> {
         match self.listing {
             Listing::Frames => self.put_frame(count, frame, rectangle),
@@ -205,7 +226,7 @@ impl<'a, W: Write> FrameOut for LineSink<'a, W> {
     }
 }
 
-impl<'a, W: Write> FrameSink for LineSink<'a, W> {
+impl<'a, W: Write, K: Sheet> FrameSink for LineSink<'a, W, K> {
     fn unit(
         &mut self,
         byte: u64,

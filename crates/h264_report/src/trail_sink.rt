@@ -1,7 +1,7 @@
 //! A sink that keeps the last elements.
 #![tactic(auto)]
 
-ghost use Rattle.std.specs.Prelude.{◌≡◌};
+ghost use Rattle.std.specs.Prelude.{◌≡◌, [], IfOk};
 
 use crate::trail::Trail;
 use h264_base::{ElementName, Elements, Failed, SliceType};
@@ -18,7 +18,9 @@ pub struct TrailSink {
 
 impl TrailSink {
     /// A sink that was told nothing. AllocError: there is no memory for 16 elements.
-    pub fn new(alloc: Global) -> Result<TrailSink, AllocError> {
+    pub fn new(alloc: Global) -> Result<TrailSink, AllocError>
+        ensures { IfOk result (λ s. s.trail ≡ []) }
+    {
         Ok(TrailSink {
             trail: Trail::new(alloc)?,
         })

@@ -1,47 +1,57 @@
 //! A sink that writes samples.
 #![tactic(auto)]
 
-ghost use Rattle.std.specs.Prelude.{◌≡◌, false, ℕ, ◌+◌, ◌-◌, ◌<◌, ◌^◌, OnOk, OnErr};
+ghost use Rattle.std.specs.Prelude.{◌≡◌, ℕ, ◌+◌, ◌-◌, ◌<◌, ◌^◌, OnOk, OnErr};
 
 use crate::frames::send_frame;
+use crate::sheet::{Pen, Sheet};
 use h264_base::{ElementName, Elements, Failed, SliceType};
 use h264_dpb::{FrameOut, Rectangle};
 use h264_plane::Frame;
 use h264_verify::FrameSink;
 use std::io::Write;
+use std::marker::PhantomData;
 
 /// Writes what is shown of each frame of a stream, in the order of output: the rows of Y, then of Cb, then of Cr, a byte a sample.
 ///
-/// A writer that tells its bytes holds those of the frames taken, in order, followed after a failure by a part of the next one's, which is not the
+/// A writer that tells its bytes holds, behind what it held, those of the frames taken, in order, followed after a failure by a part of the next one's, which is not the
 /// whole. After a failure each frame fails and nothing more is written.
 #[derive(Drop)]
-pub struct YuvSink<'a, W: Write> {
-    out: &'a mut W,
+pub struct YuvSink<'a, W: Write, K: Sheet> {
+    pen: Pen<'a, W>,
+    sheet: PhantomData<K>,
     /// How many calls failed.
     pub failures: u64,
 }
 
-impl<'a, W: Write> YuvSink<'a, W> {
-    /// A sink over a writer that holds nothing yet, with no failure.
-    pub fn new(out: &'a mut W) -> YuvSink<'a, W>
-        ensures { result.failures ≡ 0 }
+impl<'a, W: Write, K: Sheet> YuvSink<'a, W, K> {
+    /// A sink that was told nothing, with no failure.
+    pub fn new(pen: Pen<'a, W>) -> YuvSink<'a, W, K>
+        ensures quiet { result.failures ≡ 0 }
+        ensures same_reference { result.pen.out.ghost_name ≡ pen.entry.out.ghost_name }
+        ensures unwritten { result.pen.out.now ≡ pen.entry.out.now }
     {
-        YuvSink { out, failures: 0 }
+        YuvSink {
+            pen,
+            sheet: PhantomData,
+            failures: 0,
+        }
     }
 
-    /// Whether the first failure was a want of memory: a frame takes none.
-    pub fn short_of_memory(&self) -> bool
-        ensures { result ≡ false }
+    /// Gives the pen back.
+    pub fn into_pen(self) -> Pen<'a, W>
+        ensures same_reference { result.out.ghost_name ≡ self.entry.pen.out.ghost_name }
+        ensures kept { result.out.now ≡ self.entry.pen.out.now }
     {
-        false
+        let YuvSink { pen, .. } = self;
+        pen
     }
 }
 
-impl<'a, W: Write> Elements for YuvSink<'a, W> {
-    ghost use Rattle.h264_report.specs.Sent.{HoldsSent};
-    ghost use Rattle.h264_report.specs.Told.{IsFrame, bytes_of};
+impl<'a, W: Write, K: Sheet> Elements for YuvSink<'a, W, K> {
+    ghost use Rattle.h264_report.specs.Told.{TookFrames};
 
-    ghost took = { λ s calls. HoldsSent IsFrame s.failures (W.contents s.out.now) (bytes_of calls) };
+    ghost took = { λ s calls. TookFrames K.name K.start s.pen.out.ghost_name s.failures (W.contents s.pen.out.now) calls };
 
     ghost failures = { λ s. s.failures };
 
@@ -50,13 +60,13 @@ impl<'a, W: Write> Elements for YuvSink<'a, W> {
     }
 }
 
-impl<'a, W: Write> FrameOut for YuvSink<'a, W> {
+impl<'a, W: Write, K: Sheet> FrameOut for YuvSink<'a, W, K> {
     fn frame(&mut self, _count: i32, frame: &Frame, rectangle: Rectangle) -> Result<(), Failed> {
         if self.failures > 0 {
             self.failures += 1;
             return Err(Failed);
         }
-        match send_frame(self.out, frame, rectangle) {
+        match send_frame(self.pen.out, frame, rectangle) {
             Ok(()) => Ok(()),
             Err(Failed) => {
                 self.failures += 1;
@@ -66,7 +76,7 @@ impl<'a, W: Write> FrameOut for YuvSink<'a, W> {
     }
 }
 
-impl<'a, W: Write> FrameSink for YuvSink<'a, W> {
+impl<'a, W: Write, K: Sheet> FrameSink for YuvSink<'a, W, K> {
     fn unit(
         &mut self,
         _byte: u64,

@@ -1,127 +1,25 @@
 //! The command line.
 #![tactic(auto)]
 
-ghost use Rattle.std.specs.Prelude.{◌-◌, ◌<◌, ◌^◌};
+ghost use Rattle.std.specs.Prelude.{◌-◌, ◌<◌, ◌^◌, map, string_bytes};
+ghost use Rattle.h264_report.specs.Written.{OfBytes};
+ghost use Rattle.h264v.specs.Commands.{Performs, SaysAlone, IsUnread, Faults, Comes};
 
 use crate::asked::{Task, asked};
 use crate::files::{Opener, ReadSource};
 use clap::Error;
 use clap::error::ErrorKind;
 use h264_base::{Mode, Stop};
-use h264_report::{LineSink, Listing, TrailSink, YuvSink, verdict_line};
-use h264_verify::{Source, Summary, run};
+use h264_report::{Ending, Listing, check, decode, list, put_answer, put_memory};
+use h264_verify::Source;
 use std::alloc::Global;
 use std::io::Write;
 
 /// What is said where a word is no text.
 const NOT_TEXT: &str = "h264v: a word is not UTF-8\n";
 
-/// The exit status of a fault of the words, and of a failed device.
+/// The exit status of a fault of the words.
 const FAULT: u8 = 64;
-
-const DEVICE: u8 = 4;
-
-const MEMORY: u8 = 3;
-
-/// The exit status of a verdict.
-fn status(verdict: &Result<Summary, Stop>) -> u8 {
-    match verdict {
-        Ok(_) => 0,
-        Err(Stop::No { .. }) => 1,
-        Err(Stop::Outside { .. }) => 2,
-        Err(Stop::Memory) => MEMORY,
-        Err(Stop::Read | Stop::Write) => DEVICE,
-    }
-}
-
-/// Writes a line and its end, and all that was held back; the exit status is the one given where that was possible.
-fn put_last<W: Write>(line: &str, out: &mut W, status: u8) -> u8 {
-    let written = out.write_all(line.as_bytes()).is_ok()
-        && out.write_all(b"\n").is_ok()
-        && out.flush().is_ok();
-    if written { status } else { DEVICE }
-}
-
-/// Writes the last line of a verdict.
-fn put_verdict<W: Write>(
-    alloc: Global,
-    mode: Mode,
-    verdict: Result<Summary, Stop>,
-    out: &mut W,
-) -> u8 {
-    match verdict_line(alloc, mode, verdict) {
-        Ok(line) => put_last(line.as_str(), out, status(&verdict)),
-        Err(_) => put_last("memory", out, MEMORY),
-    }
-}
-
-/// The last line, on `out`, of a verdict with which a sink was left that may have been short of memory.
-fn put_end<W: Write>(
-    alloc: Global,
-    mode: Mode,
-    verdict: Result<Summary, Stop>,
-    short: bool,
-    out: &mut W,
-) -> u8 {
-    if short {
-        return put_verdict(alloc, mode, Err(Stop::Memory), out);
-    }
-    put_verdict(alloc, mode, verdict, out)
-}
-
-/// Judges a stream, with a line for each call of the listing.
-fn list<R: Source, W: Write>(
-    alloc: Global,
-    mode: Mode,
-    listing: Listing,
-    source: &mut R,
-    out: &mut W,
-) -> u8
-    requires { R.failures source.old < 2 ^ 64 - 1 }
-{
-    let mut sink = LineSink::new(alloc, listing, out);
-    let verdict = run(alloc, source, &mut sink, mode);
-    let short = sink.short_of_memory();
-    drop(sink);
-    put_end(alloc, mode, verdict, short, out)
-}
-
-/// Judges a stream whole; after a no the last elements are printed.
-fn check<R: Source, W: Write>(alloc: Global, source: &mut R, out: &mut W) -> u8
-    requires { R.failures source.old < 2 ^ 64 - 1 }
-{
-    let Ok(mut sink) = TrailSink::new(alloc) else {
-        return put_verdict(alloc, Mode::Full, Err(Stop::Memory), out);
-    };
-    let verdict = run(alloc, source, &mut sink, Mode::Full);
-    if let Err(Stop::No { .. }) = verdict {
-        let Ok(lines) = sink.trail().lines(alloc) else {
-            return put_verdict(alloc, Mode::Full, Err(Stop::Memory), out);
-        };
-        if out.write_all(lines.as_bytes()).is_err() {
-            return DEVICE;
-        }
-    }
-    put_verdict(alloc, Mode::Full, verdict, out)
-}
-
-/// Judges a stream whole, and writes its frames; the last line goes to `err`.
-fn decode<R: Source, W: Write, E: Write>(
-    alloc: Global,
-    source: &mut R,
-    out: &mut W,
-    err: &mut E,
-) -> u8
-    requires { R.failures source.old < 2 ^ 64 - 1 }
-{
-    let mut sink = YuvSink::new(out);
-    let verdict = run(alloc, source, &mut sink, Mode::Full);
-    drop(sink);
-    if out.flush().is_err() {
-        return put_verdict(alloc, Mode::Full, Err(Stop::Write), err);
-    }
-    put_verdict(alloc, Mode::Full, verdict, err)
-}
 
 /// Does a task with a file that can be opened.
 fn perform<R: Source, W: Write, E: Write>(
@@ -130,8 +28,9 @@ fn perform<R: Source, W: Write, E: Write>(
     source: &mut R,
     out: &mut W,
     err: &mut E,
-) -> u8
+) -> Ending
     requires { R.failures source.old < 2 ^ 64 - 1 }
+    ensures { OfBytes (R.left source.old) (λ bytes. Performs task bytes result.answer result.written (W.contents out.old) (W.contents out.new) (E.contents err.old) (E.contents err.new)) }
 {
     match task {
         Task::Check => check(alloc, source, out),
@@ -143,12 +42,16 @@ fn perform<R: Source, W: Write, E: Write>(
 }
 
 /// Says that a file can't be opened.
-fn no_file<W: Write, E: Write>(alloc: Global, task: Task, out: &mut W, err: &mut E) -> u8 {
+fn no_file<W: Write, E: Write>(alloc: Global, task: Task, out: &mut W, err: &mut E) -> Ending
+    ensures answer { IsUnread result.answer }
+    ensures says { SaysAlone task result.answer result.written (W.contents out.old) (W.contents out.new) (E.contents err.old) (E.contents err.new) }
+{
     match task {
-        Task::Decode => put_verdict(alloc, Mode::Full, Err(Stop::Read), err),
-        Task::Check | Task::Units | Task::Headers | Task::Frames => {
-            put_verdict(alloc, Mode::Full, Err(Stop::Read), out)
-        }
+        Task::Decode => put_answer(alloc, Mode::Full, Err(Stop::Read), err),
+        Task::Check => put_answer(alloc, Mode::Full, Err(Stop::Read), out),
+        Task::Units => put_answer(alloc, Mode::Full, Err(Stop::Read), out),
+        Task::Headers => put_answer(alloc, Mode::Full, Err(Stop::Read), out),
+        Task::Frames => put_answer(alloc, Mode::Full, Err(Stop::Read), out),
     }
 }
 
@@ -159,9 +62,11 @@ pub fn not_text<E: Write>(err: &mut E) -> u8 {
 }
 
 /// Says why the words ask for nothing: the exit status of a fault of the words. Where memory was wanting for that, it is said on `out`.
-fn fault<W: Write, E: Write>(error: &Error, out: &mut W, err: &mut E) -> u8 {
+fn fault<W: Write, E: Write>(error: &Error, out: &mut W, err: &mut E) -> u8
+    ensures { Faults result (W.contents out.old) (W.contents out.new) (E.contents err.old) (E.contents err.new) }
+{
     if error.kind() == ErrorKind::OutOfMemory {
-        return put_last("memory", out, MEMORY);
+        return put_memory(out).status();
     }
     let _ = err.write_fmt(error);
     FAULT
@@ -175,16 +80,18 @@ pub fn command<O: Opener, W: Write, E: Write>(
     opener: &mut O,
     out: &mut W,
     err: &mut E,
-) -> u8 {
+) -> u8
+    ensures { Comes (map (λ w. string_bytes w) words.now) (λ name. O.holds opener.old name) result (W.contents out.old) (W.contents out.new) (E.contents err.old) (E.contents err.new) }
+{
     match asked(alloc, words) {
         Err(error) => fault(&error, out, err),
         Ok(None) => FAULT,
         Ok(Some(asked)) => {
             let Ok(reader) = opener.open(asked.file) else {
-                return no_file(alloc, asked.task, out, err);
+                return no_file(alloc, asked.task, out, err).status();
             };
             let mut source = ReadSource::new(reader);
-            perform(alloc, asked.task, &mut source, out, err)
+            perform(alloc, asked.task, &mut source, out, err).status()
         }
     }
 }

@@ -1,7 +1,8 @@
 //! Files as sources of streams.
 #![tactic(auto)]
 
-ghost use Rattle.std.specs.Prelude.{◌≡◌, ℕ, ◌+◌};
+ghost use Rattle.std.specs.Prelude.{◌≡◌, ℕ, ◌+◌, List, Option, None, IfOk};
+ghost use Rattle.std.specs.Io.KnownBytes.{Keeps};
 
 use h264_base::Failed;
 use h264_verify::Source;
@@ -15,8 +16,12 @@ pub trait Opener {
     /// What is read.
     type File: Read + Drop;
 
+    /// What a file of this name holds, where it is known.
+    ghost holds: { Self → List ℕ → Option (List ℕ) } = { λ _ _. None };
+
     /// The file of this name, to be read from its start.
-    fn open(&mut self, name: &str) -> io::Result<Self::File>;
+    fn open(&mut self, name: &str) -> io::Result<Self::File>
+        ensures { IfOk result (λ file. Keeps (holds self.old name.now) (Self.File.Read.remaining file)) };
 }
 
 /// A reader as the source of a stream.

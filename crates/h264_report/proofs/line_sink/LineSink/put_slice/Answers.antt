@@ -7,7 +7,7 @@ use Rattle.h264_report.proofs.Sinks.{take-line, fail-line, on-ok, on-err}
 use Rattle.h264_report.proofs.line_sink.LineSink.put_slice.Goals as goal
 
 pub returns-clause-ok : goal.returns-clause-ok
-returns-clause-ok g c before h =
+returns-clause-ok g c start before h =
     let call = OfSlice c.args.byte c.args.first_mb_in_slice c.args.slice_type c.args.frame_num c.args.count in
     let text : ℤ → List ℕ = λ z. slice_text c.args.byte c.args.first_mb_in_slice c.args.slice_type c.args.frame_num z in
     let none : c.args.self.now.failures ≡ 0 = let f = c.if-self-gt0.false in omega arith in
@@ -16,7 +16,7 @@ returns-clause-ok g c before h =
     rw c.put_line.ensures.listing (on-ok c.put_line.result (λ still s. take-line call (ap (λ l. line_of l c.args.self.now.frames call) c.requires.listing) none still same h s) c.put_line.ensures.kept (c.put_line.ensures.ok _ (subst (λ z. OnOk c.slice_line-made.result (string_bytes c.slice_line-made.new.line ≡ text z)) (to_z-of_z w32 c.args.count c.ranges.count) c.slice_line-made.ensures)))
 
 pub returns-clause-refused : goal.returns-clause-refused
-returns-clause-refused g c before h =
+returns-clause-refused g c start before h =
     let call = OfSlice c.args.byte c.args.first_mb_in_slice c.args.slice_type c.args.frame_num c.args.count in
     let text : ℤ → List ℕ = λ z. slice_text c.args.byte c.args.first_mb_in_slice c.args.slice_type c.args.frame_num z in
     let none : c.args.self.now.failures ≡ 0 = let f = c.if-self-gt0.false in omega arith in

@@ -5,7 +5,7 @@ use Rattle.h264_report.proofs.Sinks.{take-line, fail-line, on-ok, on-err}
 use Rattle.h264_report.proofs.line_sink.LineSink.put_unit.Goals as goal
 
 pub returns-clause-ok : goal.returns-clause-ok
-returns-clause-ok g c before h =
+returns-clause-ok g c start before h =
     let call = OfUnit c.args.byte c.args.nal_unit_type c.args.nal_ref_idc c.args.length in
     let none : c.args.self.now.failures ≡ 0 = let f = c.if-self-gt0.false in omega arith in
     let same : c.put_line.new.self.frames ≡ c.args.self.now.frames + counted c.args.self.now.listing call =
@@ -13,7 +13,7 @@ returns-clause-ok g c before h =
     rw c.put_line.ensures.listing (on-ok c.put_line.result (λ still s. take-line call (ap (λ l. line_of l c.args.self.now.frames call) c.requires.listing) none still same h s) c.put_line.ensures.kept (c.put_line.ensures.ok _ c.unit_line-made.ensures))
 
 pub returns-clause-refused : goal.returns-clause-refused
-returns-clause-refused g c before h =
+returns-clause-refused g c start before h =
     let call = OfUnit c.args.byte c.args.nal_unit_type c.args.nal_ref_idc c.args.length in
     let none : c.args.self.now.failures ≡ 0 = let f = c.if-self-gt0.false in omega arith in
     rw c.put_line.ensures.listing (on-err c.put_line.result (λ one s. fail-line call (ap (λ l. line_of l c.args.self.now.frames call) c.requires.listing) none one c.put_line.ensures.frames h s) c.put_line.ensures.failed (c.put_line.ensures.front _ c.unit_line-made.ensures))

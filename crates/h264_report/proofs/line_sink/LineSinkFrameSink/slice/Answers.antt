@@ -1,20 +1,20 @@
 use Rattle.std.proofs.Common.{ap, refl}
 use Rattle.h264_base.specs.Call.{OfSlice}
 use Rattle.h264_report.specs.Told.{line_of, counted}
-use Rattle.h264_report.proofs.Sinks.{skip-line}
+use Rattle.h264_report.proofs.Sinks.{skipped}
 use Rattle.h264_report.proofs.line_sink.LineSinkFrameSink.slice.Goals as goal
 
 pub returns-in-Nothing : goal.returns-in-Nothing
 returns-in-Nothing g c =
     let call = OfSlice c.args.byte c.args.first_mb_in_slice c.args.slice_type c.args.frame_num c.args.count in
-    record { ok = record { told = λ before h. skip-line call (λ m. ap (λ l. line_of l m call) c.in-Nothing.is) (ap (λ l. counted l call) c.in-Nothing.is) h }; kept = refl; refused = tt; failed = tt }
+    record { ok = record { told = λ before h. skipped call (λ m. ap (λ l. line_of l m call) c.in-Nothing.is) (ap (λ l. counted l call) c.in-Nothing.is) h }; kept = refl; refused = tt; failed = tt }
 
 pub returns-in-Units : goal.returns-in-Units
 returns-in-Units g c =
     let call = OfSlice c.args.byte c.args.first_mb_in_slice c.args.slice_type c.args.frame_num c.args.count in
-    record { ok = record { told = λ before h. skip-line call (λ m. ap (λ l. line_of l m call) c.in-Units.is) (ap (λ l. counted l call) c.in-Units.is) h }; kept = refl; refused = tt; failed = tt }
+    record { ok = record { told = λ before h. skipped call (λ m. ap (λ l. line_of l m call) c.in-Units.is) (ap (λ l. counted l call) c.in-Units.is) h }; kept = refl; refused = tt; failed = tt }
 
 pub returns-in-Frames : goal.returns-in-Frames
 returns-in-Frames g c =
     let call = OfSlice c.args.byte c.args.first_mb_in_slice c.args.slice_type c.args.frame_num c.args.count in
-    record { ok = record { told = λ before h. skip-line call (λ m. ap (λ l. line_of l m call) c.in-Frames.is) (ap (λ l. counted l call) c.in-Frames.is) h }; kept = refl; refused = tt; failed = tt }
+    record { ok = record { told = λ before h. skipped call (λ m. ap (λ l. line_of l m call) c.in-Frames.is) (ap (λ l. counted l call) c.in-Frames.is) h }; kept = refl; refused = tt; failed = tt }

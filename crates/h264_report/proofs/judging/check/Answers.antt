@@ -1,0 +1,17 @@
+use Rattle.std.proofs.Common.{[]}
+use Rattle.h264_plane.specs.Frames.{no_frame}
+use Rattle.h264_report.proofs.Accounts.{checked, none-checked, none-elements, of-bytes}
+use Rattle.h264_report.proofs.judging.check.Goals as goal
+
+pub returns-in_default-clause-checks : goal.returns-in_default-clause-checks
+returns-in_default-clause-checks g c = of-bytes _ _
+    (λ bytes h. none-checked bytes c.put_memory.result.answer c.put_memory.result.written _ _ c.put_memory.ensures.answer c.put_memory.ensures.text)
+    ([], none-checked [] c.put_memory.result.answer c.put_memory.result.written _ _ c.put_memory.ensures.answer c.put_memory.ensures.text)
+
+pub returns-clause-checks : goal.returns-clause-checks
+returns-clause-checks g c =
+    let none = none-elements c.in-Ok.sink.trail c.in-Ok.ensures in
+    of-bytes _ _
+    (λ bytes h. checked {s' = c.run-answer.new.sink} (λ s. s.trail) _ _ (c.run-answer.ensures.verdict bytes h (λ k. no_frame)) none (λ calls t. t) c.put_trail.ensures.answer (rw c.trail.ensures at c.put_trail.ensures.text))
+    (let j = c.run-answer.ensures.some (λ k. no_frame) in
+    (j.0, checked {s' = c.run-answer.new.sink} (λ s. s.trail) _ _ j.1 none (λ calls t. t) c.put_trail.ensures.answer (rw c.trail.ensures at c.put_trail.ensures.text)))

@@ -1,0 +1,5 @@
+use Rattle.h264_report.specs.declared.listing.Listing.TheVariants.{Nothing}
+use Rattle.h264_report.proofs.judging.write_frames.Given as goal
+
+abbrev pub ghosts-run_frames : goal.ghosts-run_frames
+ghosts-run_frames g a = record { name = a.pen.out.ghost_name; start = g.W.Write.contents a.pen.out.now; listing = Nothing }

@@ -1,0 +1,126 @@
+-- What the commands write of a stream: what stands before the last line, and the last line.
+use Rattle.std.specs.Prelude.{◌≡◌, ℕ, Bool, true, false, List, [], ◌++◌, Option, None, Some, Result, Ok, Err}
+use Rattle.circular_buffer.specs.Buffer.{keep_last}
+use Rattle.h264_base.specs.Call.{Call}
+use Rattle.h264_base.specs.declared.mode.Mode.{Mode}
+use Rattle.h264_base.specs.declared.mode.Mode.TheVariants as modes
+use Rattle.h264_base.specs.declared.stop.Stop.{Stop}
+use Rattle.h264_base.specs.declared.stop.Stop.TheVariants.{No, Outside, Memory, Read, Write}
+use Rattle.h264_plane.specs.declared.frame.Frame.{Frame}
+use Rattle.h264_report.specs.Lines.{verdict_text}
+use Rattle.h264_report.specs.Sent.{Sends, Takes}
+use Rattle.h264_report.specs.Told.{ended, lines_of, bytes_of, elements_of, IsLine, IsFrame}
+use Rattle.h264_report.specs.Trail.{element_lines}
+use Rattle.h264_report.specs.declared.listing.Listing.{Listing}
+use Rattle.h264_report.specs.declared.trail.Element.{Element}
+use Rattle.h264_verify.specs.Telling.{Told, calls_of, AreDecoded}
+use Rattle.h264_verify.specs.Verdict.{Verdict}
+use Rattle.h264_verify.specs.declared.judge.Summary.{Summary}
+
+-- Of the bytes that a source gives; where it does not tell them, of some bytes.
+abbrev pub OfBytes : Option (List ℕ) → (List ℕ → Type 0) → Type 0
+OfBytes None Is = (bytes : List ℕ) × Is bytes
+OfBytes (Some bytes) Is = Is bytes
+
+-- ---- what was told of a stream up to an answer
+
+-- It is the first of what comes to pass as this stream is judged.
+pub record IsFront (mode : Mode) (bytes : List ℕ) (told : List Told) : Type 0 where
+  pub rest : List Told
+  pub answer : Result Summary Stop
+  pub verdict : Verdict mode bytes (told ++ rest) answer
+
+-- A yes, a no and an outside are the verdict on this stream, and this is all that comes to pass up to there; memory, read and write
+-- come with the first of it.
+abbrev pub Answers : Mode → List ℕ → List Told → Result Summary Stop → Type 0
+Answers mode bytes told (Ok summary) = Verdict mode bytes told (Ok summary)
+Answers mode bytes told (Err (No bit rule)) = Verdict mode bytes told (Err (No bit rule))
+Answers mode bytes told (Err (Outside bit feature)) = Verdict mode bytes told (Err (Outside bit feature))
+Answers mode bytes told (Err Memory) = IsFront mode bytes told
+Answers mode bytes told (Err Read) = IsFront mode bytes told
+Answers mode bytes told (Err Write) = IsFront mode bytes told
+
+-- what was told of a stream up to an answer, with a family of frames in which the pictures are decoded
+pub record Account (mode : Mode) (bytes : List ℕ) (answer : Result Summary Stop) : Type 0 where
+  pub frames : ℕ → Frame
+  pub told : List Told
+  pub decoded : AreDecoded frames told
+  pub answers : Answers mode bytes told answer
+
+-- the calls of a sink
+abbrev pub calls_in : {mode : Mode} {bytes : List ℕ} {answer : Result Summary Stop} → Account mode bytes answer → List Call
+calls_in a = calls_of a.frames a.told
+
+-- ---- what is written of the calls
+
+-- These bytes are all of it, and perhaps a part of what would have come next.
+pub record BreaksOff (Next : List ℕ → Type 0) (all bytes : List ℕ) : Type 0 where
+  pub next : List ℕ
+  pub is_next : Next next
+  pub part : List ℕ
+  pub rest : List ℕ
+  pub next_is : next ≡ part ++ rest
+  pub bytes_are : bytes ≡ all ++ part
+
+-- Where memory was wanting or a write failed, what was written may break off.
+abbrev pub IsWritten : (List ℕ → Type 0) → Result Summary Stop → List ℕ → List ℕ → Type 0
+IsWritten Next (Ok summary) all bytes = bytes ≡ all
+IsWritten Next (Err (No bit rule)) all bytes = bytes ≡ all
+IsWritten Next (Err (Outside bit feature)) all bytes = bytes ≡ all
+IsWritten Next (Err Read) all bytes = bytes ≡ all
+IsWritten Next (Err Memory) all bytes = BreaksOff Next all bytes
+IsWritten Next (Err Write) all bytes = BreaksOff Next all bytes
+
+-- What was written of the calls of this stream up to this answer, as `all` says.
+pub record Writes (Next : List ℕ → Type 0) (all : List Call → List ℕ) (mode : Mode) (bytes : List ℕ) (answer : Result Summary Stop) (old new : Option (List ℕ)) : Type 0 where
+  pub account : Account mode bytes answer
+  pub text : List ℕ
+  pub is_written : IsWritten Next answer (all (calls_in account)) text
+  pub sends : Sends old new text
+
+-- the last line of an answer
+abbrev pub last_line : Mode → Result Summary Stop → List ℕ
+last_line mode answer = ended (verdict_text mode answer)
+
+-- ---- the commands
+
+-- The lines of a listing, and behind them the last line.
+pub record Lists (mode : Mode) (listing : Listing) (bytes : List ℕ) (answer : Result Summary Stop) (written : Bool) (old new : Option (List ℕ)) : Type 0 where
+  pub account : Account mode bytes answer
+  pub lines : List ℕ
+  pub are_lines : IsWritten (IsLine listing) answer (lines_of listing 0 (calls_in account)) lines
+  pub text : Takes written old new (lines ++ last_line mode answer)
+
+-- the lines of these elements after a no, and none after any other answer
+abbrev pub trail_text : List Element → Result Summary Stop → List ℕ
+trail_text es (Ok summary) = []
+trail_text es (Err (No bit rule)) = element_lines es
+trail_text es (Err (Outside bit feature)) = []
+trail_text es (Err Memory) = []
+trail_text es (Err Read) = []
+trail_text es (Err Write) = []
+
+-- After a no the last 16 elements, the oldest first, and behind them the last line; else the last line alone.
+pub record Checks (bytes : List ℕ) (answer : Result Summary Stop) (written : Bool) (old new : Option (List ℕ)) : Type 0 where
+  pub account : Account modes.Full bytes answer
+  pub text : Takes written old new (trail_text (keep_last 16 (elements_of (calls_in account))) answer ++ last_line modes.Full answer)
+
+-- The frames to one writer, the last line to the other.
+pub record Decodes (bytes : List ℕ) (answer : Result Summary Stop) (written : Bool) (old new err_old err_new : Option (List ℕ)) : Type 0 where
+  pub frames : Writes IsFrame bytes_of modes.Full bytes answer old new
+  pub text : Takes written err_old err_new (last_line modes.Full answer)
+
+-- ---- the exit status
+
+abbrev pub answer_status : Result Summary Stop → ℕ
+answer_status (Ok summary) = 0
+answer_status (Err (No bit rule)) = 1
+answer_status (Err (Outside bit feature)) = 2
+answer_status (Err Memory) = 3
+answer_status (Err Read) = 4
+answer_status (Err Write) = 4
+
+-- that of the answer where all was written, else that of a device that failed
+abbrev pub status_of : Bool → Result Summary Stop → ℕ
+status_of true answer = answer_status answer
+status_of false answer = 4

@@ -1,0 +1,281 @@
+//! A stream judged, and what is found written: lines, the last elements or the frames, and the last line.
+#![tactic(auto)]
+
+ghost use Rattle.std.specs.Prelude.{◌≡◌, ℕ, ◌+◌, ◌-◌, ◌<◌, ◌⊎◌, ◌^◌, List, ◌++◌, Some, Ok, Err, IfOk, IsErrOf, string_bytes};
+ghost use Rattle.h264_base.specs.declared.mode.Mode.TheVariants as modes;
+ghost use Rattle.h264_report.specs.Sent.{Takes};
+ghost use Rattle.h264_report.specs.Told.{ended, lines_of, bytes_of, IsLine, IsFrame};
+ghost use Rattle.h264_report.specs.Written.{OfBytes, Writes, Lists, Checks, Decodes, last_line, trail_text, answer_status, status_of};
+
+use crate::line_sink::LineSink;
+use crate::lines::verdict_line;
+use crate::listing::Listing;
+use crate::send::send;
+use crate::sheet::{Pen, Sheet};
+use crate::trail::Trail;
+use crate::trail_sink::TrailSink;
+use crate::yuv_sink::YuvSink;
+use h264_base::{Mode, Stop};
+use h264_verify::{Source, Summary, run};
+use std::alloc::{AllocError, Global};
+use std::io::Write;
+use std::marker::Brand;
+
+/// How a judgement ended.
+#[derive(Clone, Copy)]
+pub struct Ending {
+    /// What the last line says.
+    pub answer: Result<Summary, Stop>,
+    /// Whether all was written.
+    pub written: bool,
+}
+
+/// The exit status of an answer.
+fn answer_status(answer: Result<Summary, Stop>) -> u8
+    ensures { result ≡ answer_status answer }
+{
+    match answer {
+        Ok(_) => 0,
+        Err(Stop::No { .. }) => 1,
+        Err(Stop::Outside { .. }) => 2,
+        Err(Stop::Memory) => 3,
+        Err(Stop::Read) => 4,
+        Err(Stop::Write) => 4,
+    }
+}
+
+impl Ending {
+    /// The exit status: 0 yes, 1 no, 2 outside, 3 memory, 4 a device failed.
+    pub fn status(self) -> u8
+        ensures { result ≡ status_of self.written self.answer }
+    {
+        if self.written {
+            return answer_status(self.answer);
+        }
+        4
+    }
+}
+
+/// Writes a text, and a line with its end behind it, and all that was held back; whether that was possible.
+fn put<W: Write>(text: &str, line: &str, out: &mut W) -> bool
+    ensures { Takes result (W.contents out.old) (W.contents out.new) (text.now ++ ended line.now) }
+{
+    if send(out, text.as_bytes()).is_err() {
+        return false;
+    }
+    if send(out, line.as_bytes()).is_err() {
+        return false;
+    }
+    if send(out, b"\n").is_err() {
+        return false;
+    }
+    match out.flush() {
+        Ok(()) => true,
+        Err(_) => false,
+    }
+}
+
+/// Writes the last line of want of memory.
+pub fn put_memory<W: Write>(out: &mut W) -> Ending
+    ensures answer { result.answer ≡ Err Stop.Memory }
+    ensures text { Takes result.written (W.contents out.old) (W.contents out.new) (last_line modes.Full (Err Stop.Memory)) }
+{
+    Ending {
+        answer: Err(Stop::Memory),
+        written: put("", "memory", out),
+    }
+}
+
+/// Writes the last line of an answer; where there is no memory for it, that is said in its place.
+pub fn put_answer<W: Write>(
+    alloc: Global,
+    mode: Mode,
+    answer: Result<Summary, Stop>,
+    out: &mut W,
+) -> Ending
+    ensures answer { (result.answer ≡ answer) ⊎ (result.answer ≡ Err Stop.Memory) }
+    ensures text { Takes result.written (W.contents out.old) (W.contents out.new) (last_line mode result.answer) }
+{
+    match verdict_line(alloc, mode, answer) {
+        Ok(line) => Ending {
+            answer,
+            written: put("", line.as_str(), out),
+        },
+        Err(_) => put_memory(out),
+    }
+}
+
+/// The answer that is told: where a sink was short of memory, a write that failed is that.
+fn told_answer(answer: Result<Summary, Stop>, short: bool) -> Result<Summary, Stop>
+    ensures { (result ≡ answer) ⊎ ((answer ≡ Err Stop.Write) × (result ≡ Err Stop.Memory)) }
+{
+    if short {
+        if let Err(Stop::Write) = answer {
+            return Err(Stop::Memory);
+        }
+    }
+    answer
+}
+
+/// Judges a stream, and writes the lines of its calls through a pen.
+fn run_lines<'a, K: Sheet, R: Source, W: Write>(
+    alloc: Global,
+    mode: Mode,
+    listing: Listing,
+    source: &mut R,
+    pen: Pen<'a, W>,
+) -> (Pen<'a, W>, Result<Summary, Stop>)
+    requires count { R.failures source.old < 2 ^ 64 - 1 }
+    requires name { pen.out.ghost_name ≡ K.name }
+    requires start { W.contents pen.out.now ≡ K.start }
+    requires listing { listing ≡ K.listing }
+    ensures same_reference { result.0.out.ghost_name ≡ K.name }
+    ensures lines { (bytes : List ℕ) → R.left source.old ≡ Some bytes → Writes (IsLine K.listing) (lines_of K.listing 0) mode bytes result.1 K.start (W.contents result.0.out.now) }
+    ensures some { (bytes : List ℕ) × Writes (IsLine K.listing) (lines_of K.listing 0) mode bytes result.1 K.start (W.contents result.0.out.now) }
+    ensures read { IsErrOf result.1 Stop.Read → (R.failures source.new ≡ R.failures source.old + 1) ⊎ ((n : ℕ) → R.was_read source.old n → R.was_read source.new (n + 2 ^ 41)) }
+{
+    let mut sink: LineSink<'_, W, K> = LineSink::new(alloc, listing, pen);
+    let answer = run(alloc, source, &mut sink, mode);
+    let short = sink.short_of_memory();
+    (sink.into_pen(), told_answer(answer, short))
+}
+
+/// Judges a stream, and writes the lines of its calls; the answer that is to be told.
+fn write_lines<R: Source, W: Write>(
+    alloc: Global,
+    mode: Mode,
+    listing: Listing,
+    source: &mut R,
+    out: &mut W,
+) -> Result<Summary, Stop>
+    requires { R.failures source.old < 2 ^ 64 - 1 }
+    ensures lines { (bytes : List ℕ) → R.left source.old ≡ Some bytes → Writes (IsLine listing) (lines_of listing 0) mode bytes result (W.contents out.old) (W.contents out.new) }
+    ensures some { (bytes : List ℕ) × Writes (IsLine listing) (lines_of listing 0) mode bytes result (W.contents out.old) (W.contents out.new) }
+    ensures read { IsErrOf result Stop.Read → (R.failures source.new ≡ R.failures source.old + 1) ⊎ ((n : ℕ) → R.was_read source.old n → R.was_read source.new (n + 2 ^ 41)) }
+{
+    let pen = Pen { out };
+    let (_, answer) = run_lines::<Brand, R, W>(alloc, mode, listing, source, pen);
+    answer
+}
+
+/// Judges a stream, with a line for each call of the listing, and then the last line.
+pub fn list<R: Source, W: Write>(
+    alloc: Global,
+    mode: Mode,
+    listing: Listing,
+    source: &mut R,
+    out: &mut W,
+) -> Ending
+    requires { R.failures source.old < 2 ^ 64 - 1 }
+    ensures lists { OfBytes (R.left source.old) (λ bytes. Lists mode listing bytes result.answer result.written (W.contents out.old) (W.contents out.new)) }
+    ensures read { IsErrOf result.answer Stop.Read → (R.failures source.new ≡ R.failures source.old + 1) ⊎ ((n : ℕ) → R.was_read source.old n → R.was_read source.new (n + 2 ^ 41)) }
+{
+    let answer = write_lines(alloc, mode, listing, source, out);
+    put_answer(alloc, mode, answer, out)
+}
+
+/// What stands before the last line: after a no the lines of the last elements.
+fn trail_text(
+    alloc: Global,
+    trail: &Trail,
+    answer: Result<Summary, Stop>,
+) -> Result<String, AllocError>
+    ensures { IfOk result (λ s. string_bytes s ≡ trail_text trail.now answer) }
+{
+    match answer {
+        Err(Stop::No { .. }) => trail.lines(alloc),
+        Err(Stop::Outside { .. }) => Ok(String::new(alloc)),
+        Err(Stop::Memory) => Ok(String::new(alloc)),
+        Err(Stop::Read) => Ok(String::new(alloc)),
+        Err(Stop::Write) => Ok(String::new(alloc)),
+        Ok(_) => Ok(String::new(alloc)),
+    }
+}
+
+/// Writes after a no the last elements, and then the last line; where there is no memory for both, that is said in their place.
+fn put_trail<W: Write>(
+    alloc: Global,
+    trail: &Trail,
+    answer: Result<Summary, Stop>,
+    out: &mut W,
+) -> Ending
+    ensures answer { (result.answer ≡ answer) ⊎ (result.answer ≡ Err Stop.Memory) }
+    ensures text { Takes result.written (W.contents out.old) (W.contents out.new) (trail_text trail.now result.answer ++ last_line modes.Full result.answer) }
+{
+    let Ok(text) = trail_text(alloc, trail, answer) else {
+        return put_memory(out);
+    };
+    let Ok(line) = verdict_line(alloc, Mode::Full, answer) else {
+        return put_memory(out);
+    };
+    Ending {
+        answer,
+        written: put(text.as_str(), line.as_str(), out),
+    }
+}
+
+/// Judges a stream whole. After a no its last elements are written, the oldest first, and then the last line; else that alone.
+pub fn check<R: Source, W: Write>(alloc: Global, source: &mut R, out: &mut W) -> Ending
+    requires { R.failures source.old < 2 ^ 64 - 1 }
+    ensures checks { OfBytes (R.left source.old) (λ bytes. Checks bytes result.answer result.written (W.contents out.old) (W.contents out.new)) }
+    ensures read { IsErrOf result.answer Stop.Read → (R.failures source.new ≡ R.failures source.old + 1) ⊎ ((n : ℕ) → R.was_read source.old n → R.was_read source.new (n + 2 ^ 41)) }
+{
+    let Ok(mut sink) = TrailSink::new(alloc) else {
+        return put_memory(out);
+    };
+    let answer = run(alloc, source, &mut sink, Mode::Full);
+    put_trail(alloc, sink.trail(), answer, out)
+}
+
+/// Judges a stream whole, and writes its frames through a pen.
+fn run_frames<'a, K: Sheet, R: Source, W: Write>(
+    alloc: Global,
+    source: &mut R,
+    pen: Pen<'a, W>,
+) -> (Pen<'a, W>, Result<Summary, Stop>)
+    requires count { R.failures source.old < 2 ^ 64 - 1 }
+    requires name { pen.out.ghost_name ≡ K.name }
+    requires start { W.contents pen.out.now ≡ K.start }
+    ensures same_reference { result.0.out.ghost_name ≡ K.name }
+    ensures frames { (bytes : List ℕ) → R.left source.old ≡ Some bytes → Writes IsFrame bytes_of modes.Full bytes result.1 K.start (W.contents result.0.out.now) }
+    ensures some { (bytes : List ℕ) × Writes IsFrame bytes_of modes.Full bytes result.1 K.start (W.contents result.0.out.now) }
+    ensures read { IsErrOf result.1 Stop.Read → (R.failures source.new ≡ R.failures source.old + 1) ⊎ ((n : ℕ) → R.was_read source.old n → R.was_read source.new (n + 2 ^ 41)) }
+{
+    let mut sink: YuvSink<'_, W, K> = YuvSink::new(pen);
+    let answer = run(alloc, source, &mut sink, Mode::Full);
+    (sink.into_pen(), answer)
+}
+
+/// Judges a stream whole, and writes its frames; the answer that is to be told.
+fn write_frames<R: Source, W: Write>(
+    alloc: Global,
+    source: &mut R,
+    out: &mut W,
+) -> Result<Summary, Stop>
+    requires { R.failures source.old < 2 ^ 64 - 1 }
+    ensures frames { (bytes : List ℕ) → R.left source.old ≡ Some bytes → Writes IsFrame bytes_of modes.Full bytes result (W.contents out.old) (W.contents out.new) }
+    ensures some { (bytes : List ℕ) × Writes IsFrame bytes_of modes.Full bytes result (W.contents out.old) (W.contents out.new) }
+    ensures read { IsErrOf result Stop.Read → (R.failures source.new ≡ R.failures source.old + 1) ⊎ ((n : ℕ) → R.was_read source.old n → R.was_read source.new (n + 2 ^ 41)) }
+{
+    let pen = Pen { out };
+    let (_, answer) = run_frames::<Brand, R, W>(alloc, source, pen);
+    answer
+}
+
+/// Judges a stream whole, and writes its frames to `out`; the last line goes to `err`.
+pub fn decode<R: Source, W: Write, E: Write>(
+    alloc: Global,
+    source: &mut R,
+    out: &mut W,
+    err: &mut E,
+) -> Ending
+    requires { R.failures source.old < 2 ^ 64 - 1 }
+    ensures decodes { OfBytes (R.left source.old) (λ bytes. Decodes bytes result.answer result.written (W.contents out.old) (W.contents out.new) (E.contents err.old) (E.contents err.new)) }
+    ensures read { IsErrOf result.answer Stop.Read → (R.failures source.new ≡ R.failures source.old + 1) ⊎ ((n : ℕ) → R.was_read source.old n → R.was_read source.new (n + 2 ^ 41)) }
+{
+    let answer = write_frames(alloc, source, out);
+    if out.flush().is_err() {
+        return put_answer(alloc, Mode::Full, Err(Stop::Write), err);
+    }
+    put_answer(alloc, Mode::Full, answer, err)
+}

@@ -1,0 +1,37 @@
+//! Where a sink writes.
+#![tactic(auto)]
+
+use std::io::Write;
+use std::marker::Brand;
+
+/// For proofs alone: what a sink was made for. Whoever runs a sink picks it, so that the sink is known to stay that for which it was made.
+pub trait Sheet {
+    ghost use Rattle.std.specs.Prelude.{ℕ, List, Option};
+    ghost use Rattle.h264_report.specs.declared.listing.Listing.{Listing};
+
+    /// The reference to the writer.
+    ghost name: { ℕ };
+
+    /// What the writer held before, where it tells.
+    ghost start: { Option (List ℕ) };
+
+    /// The calls that have lines.
+    ghost listing: { Listing };
+}
+
+impl Sheet for Brand {
+    ghost use Rattle.std.specs.Prelude.{None};
+    ghost use Rattle.h264_report.specs.declared.listing.Listing.TheVariants as listings;
+
+    ghost name = { 0 };
+
+    ghost start = { None };
+
+    ghost listing = { listings.Nothing };
+}
+
+/// A writer that is lent.
+#[derive(Drop)]
+pub struct Pen<'a, W: Write> {
+    pub out: &'a mut W,
+}

@@ -1,0 +1,17 @@
+use Rattle.std.proofs.Common.{refl}
+use Rattle.h264v.proofs.command.no_file.Goals as goal
+
+pub returns-in-Check-clause-says : goal.returns-in-Check-clause-says
+returns-in-Check-clause-says g c = rw c.in-Check.is (c.put_answer-in-Check.ensures.text, refl)
+
+pub returns-in-Units-clause-says : goal.returns-in-Units-clause-says
+returns-in-Units-clause-says g c = rw c.in-Units.is (c.put_answer-in-Units.ensures.text, refl)
+
+pub returns-in-Headers-clause-says : goal.returns-in-Headers-clause-says
+returns-in-Headers-clause-says g c = rw c.in-Headers.is (c.put_answer-in-Headers.ensures.text, refl)
+
+pub returns-in-Frames-clause-says : goal.returns-in-Frames-clause-says
+returns-in-Frames-clause-says g c = rw c.in-Frames.is (c.put_answer-in-Frames.ensures.text, refl)
+
+pub returns-in-Decode-clause-says : goal.returns-in-Decode-clause-says
+returns-in-Decode-clause-says g c = rw c.in-Decode.is (c.put_answer.ensures.text, refl)

@@ -1,0 +1,47 @@
+-- What a command comes to: what it writes to standard output and to standard error, and its exit status.
+use Rattle.std.specs.Prelude.{◌≡◌, ℕ, Bool, List, Option, Some, Result, Ok, Err, ◌⊎◌}
+use Rattle.h264_base.specs.declared.mode.Mode.TheVariants as modes
+use Rattle.h264_base.specs.declared.stop.Stop.{Stop}
+use Rattle.h264_base.specs.declared.stop.Stop.TheVariants.{Memory, Read}
+use Rattle.h264_report.specs.Sent.{Takes}
+use Rattle.h264_report.specs.Written.{OfBytes, Lists, Checks, Decodes, last_line, status_of}
+use Rattle.h264_report.specs.declared.listing.Listing.TheVariants as listings
+use Rattle.h264_verify.specs.declared.judge.Summary.{Summary}
+use Rattle.h264v.specs.Words.{program, asks, name_of}
+use Rattle.h264v.specs.declared.asked.Task.{Task}
+use Rattle.h264v.specs.declared.asked.Task.TheVariants as tasks
+use Rattle.clap.specs.Words.{Text}
+
+-- What a task writes of a stream, and the answer that it tells; standard error is written to by `decode` alone.
+abbrev pub Performs : Task → List ℕ → Result Summary Stop → Bool → (old new err_old err_new : Option (List ℕ)) → Type 0
+Performs tasks.Check bytes answer written old new err_old err_new = Checks bytes answer written old new × (err_new ≡ err_old)
+Performs tasks.Units bytes answer written old new err_old err_new = Lists modes.Units listings.Units bytes answer written old new × (err_new ≡ err_old)
+Performs tasks.Headers bytes answer written old new err_old err_new = Lists modes.Headers listings.Slices bytes answer written old new × (err_new ≡ err_old)
+Performs tasks.Frames bytes answer written old new err_old err_new = Lists modes.Full listings.Frames bytes answer written old new × (err_new ≡ err_old)
+Performs tasks.Decode bytes answer written old new err_old err_new = Decodes bytes answer written old new err_old err_new
+
+-- A last line alone, where a task writes its last line.
+abbrev pub SaysAlone : Task → Result Summary Stop → Bool → (old new err_old err_new : Option (List ℕ)) → Type 0
+SaysAlone tasks.Check answer written old new err_old err_new = Takes written old new (last_line modes.Full answer) × (err_new ≡ err_old)
+SaysAlone tasks.Units answer written old new err_old err_new = Takes written old new (last_line modes.Full answer) × (err_new ≡ err_old)
+SaysAlone tasks.Headers answer written old new err_old err_new = Takes written old new (last_line modes.Full answer) × (err_new ≡ err_old)
+SaysAlone tasks.Frames answer written old new err_old err_new = Takes written old new (last_line modes.Full answer) × (err_new ≡ err_old)
+SaysAlone tasks.Decode answer written old new err_old err_new = Takes written err_old err_new (last_line modes.Full answer) × (new ≡ old)
+
+-- the answer where a file can't be read, or where there was no memory to say so
+abbrev pub IsUnread : Result Summary Stop → Type 0
+IsUnread answer = (answer ≡ Err Read) ⊎ (answer ≡ Err Memory)
+
+-- The words ask for nothing, and standard output is as it was; or there was no memory to find that out, or to say why.
+pub data Faults (status : ℕ) (old new err_old err_new : Option (List ℕ)) : Type 0 where
+  Refused : status ≡ 64 → new ≡ old → Faults status old new err_old err_new
+  Short : (written : Bool) → status ≡ status_of written (Err Memory) → Takes written old new (last_line modes.Full (Err Memory)) → err_new ≡ err_old → Faults status old new err_old err_new
+
+-- What comes of these words, where a file of a name holds these bytes, as far as that is known.
+pub data Comes (words : List Text) (file : Text → Option (List ℕ)) (status : ℕ) (old new err_old err_new : Option (List ℕ)) : Type 0 where
+  -- they ask for nothing
+  Faulted : Faults status old new err_old err_new → Comes words file status old new err_old err_new
+  -- they ask for a task with a file that can't be opened
+  Unopened : (task : Task) (name : Text) (answer : Result Summary Stop) (written : Bool) → asks program words ≡ Some (name_of task, Some name) → status ≡ status_of written answer → IsUnread answer → SaysAlone task answer written old new err_old err_new → Comes words file status old new err_old err_new
+  -- they ask for a task with a file, and it was done
+  Done : (task : Task) (name : Text) (answer : Result Summary Stop) (written : Bool) → asks program words ≡ Some (name_of task, Some name) → status ≡ status_of written answer → OfBytes (file name) (λ bytes. Performs task bytes answer written old new err_old err_new) → Comes words file status old new err_old err_new
