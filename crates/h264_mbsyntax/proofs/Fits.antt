@@ -1,10 +1,9 @@
--- The flag that goes from part to part is the test over the sixteen blocks: parts lie apart, and each has a block.
-use Rattle.std.proofs.Common.{◌≡◌, ℕ, zero, suc, ◌==◌, ◌&&◌, ◌||◌, not, Bool, true, false, List, [], ◌∷◌, ◌++◌, map, replicate, get_or, Option, Some, None, refl, ap, sym, ◌∙◌, if◌then◌else◌}
+-- The flag that goes from part to part is the test over the sixteen blocks: parts lie apart, each has a block, and together they are all sixteen.
+use Rattle.std.proofs.Common.{◌≡◌, ℕ, zero, suc, ◌==◌, ◌&&◌, ◌||◌, not, Bool, true, false, List, [], ◌∷◌, ◌++◌, map, replicate, get_or, Option, Some, None, refl, ap, sym, ◌∙◌, subst, if◌then◌else◌}
 use Rattle.std.specs.Option.{is_some}
 use Rattle.std.specs.List.{list_all, list_any, range_with_len}
 use Rattle.std.proofs.Math.ListN as math
-use Rattle.h264_base.specs.Body.{Body}
-use Rattle.h264_cavlc.proofs.Gives.{Gives, gives-done, gives-any, gives-bind, gives-check}
+use Rattle.h264_cavlc.proofs.Gives.{Gives, gives-done, gives-any, gives-bind}
 use Rattle.h264_near.specs.declared.motion.Motion.{Motion}
 use Rattle.h264_near.specs.declared.motion.Vector.{Vector}
 use Rattle.h264_near.specs.Coded.{CodedMacroblock, column_of, row_of}
@@ -13,8 +12,8 @@ use Rattle.h264_vectors.specs.declared.part.Part.{Part}
 use Rattle.h264_vectors.specs.declared.part.Direction.TheVariants as direction
 use Rattle.h264_vectors.specs.Derived.{part, motion_of, in_part, is_inside, with_part, with_vector, derive, Derived, none_yet, sub_parts_of, vector_fits}
 use Rattle.h264_vectors.specs.Agrees.{places_with, places_after}
-use Rattle.h264_vectors.specs.Inter.{ref_index, part_motion, part_motions, one_part, two_parts, quarters, split_parts, motions_by, motions, is_inferred}
-use Rattle.h264_vectors.proofs.Parts.{places-with, quarter0, quarter1, quarter2}
+use Rattle.h264_vectors.specs.Inter.{part_motion, part_motions, one_part, two_parts, quarters, split_parts, motions_by, motions, is_inferred}
+use Rattle.h264_vectors.proofs.Parts.{places-with, quarter0, quarter1, quarter2, quarter3}
 use Rattle.h264_mbsyntax.specs.Fit.{motion_fits, all_fit}
 
 -- no block of the part is derived, and it has a block
@@ -93,25 +92,23 @@ module _ (width : ℕ) (slice : SliceContext) (picture : List CodedMacroblock) w
   gives-parts places i [] d a g = gives-done _ d g
   gives-parts places i (p ∷ parts) d a g = let b = both (apart places p) (apart_all (places_with places p) parts) a in gives-bind (Good (places_with places p)) _ _ _ (gives-part places p i d b.0 g) (λ next h. gives-parts (places_with places p) i parts next b.1 h)
 
+  -- all sixteen blocks are derived, and the flag is that of all of them
   abbrev Same : Derived → Type 0
-  Same d = d.fit ≡ all_fit slice.vector_limit d.motions
-
-  weak : (g : _) (P Q : Derived → Type 0) → ((d : Derived) → P d → Q d) → Gives g P → Gives g Q
-  weak g P Q f h = record { gives = λ body i v j e. f v (h.gives body i v j e) }
+  Same d = Good (replicate 16 true) d
 
   none-good : Good (replicate 16 false) none_yet
   none-good = (refl, refl)
 
   gives-one : (inferred : Bool) → Gives (one_part width slice picture inferred (part 0 0 4 4 direction.Median)) Same
-  unfolding one_part column_of row_of
-  gives-one inferred = gives-bind _ Same _ _ (gives-any _) (λ i x. weak _ _ _ (λ d g. g.1) (gives-part (replicate 16 false) _ i none_yet refl none-good))
+  unfolding one_part places_with column_of row_of
+  gives-one inferred = gives-bind _ Same _ _ (gives-any _) (λ i x. gives-part (replicate 16 false) _ i none_yet refl none-good)
 
-  gives-two : (inferred : Bool) (p q : Part) → apart_all (replicate 16 false) (p ∷ q ∷ []) ≡ true → Gives (two_parts width slice picture inferred p q) Same
+  gives-two : (inferred : Bool) (p q : Part) → apart_all (replicate 16 false) (p ∷ q ∷ []) ≡ true → places_with (places_with (replicate 16 false) p) q ≡ replicate 16 true → Gives (two_parts width slice picture inferred p q) Same
   unfolding two_parts
-  gives-two inferred p q a =
+  gives-two inferred p q a whole =
       let b = both (apart (replicate 16 false) p) _ a in
       let c = both (apart (places_with (replicate 16 false) p) q) true b.1 in
-      gives-bind _ Same _ _ (gives-any _) (λ i x. gives-bind _ Same _ _ (gives-any _) (λ j y. gives-bind (Good (places_with (replicate 16 false) p)) Same _ _ (gives-part (replicate 16 false) p i none_yet b.0 none-good) (λ d g. weak _ _ _ (λ d g. g.1) (gives-part (places_with (replicate 16 false) p) q j d c.0 g))))
+      gives-bind _ Same _ _ (gives-any _) (λ i x. gives-bind _ Same _ _ (gives-any _) (λ j y. gives-bind (Good (places_with (replicate 16 false) p)) Same _ _ (gives-part (replicate 16 false) p i none_yet b.0 none-good) (λ d g. subst (λ l. Gives (part_motion width slice picture q j d) (Good l)) whole (gives-part (places_with (replicate 16 false) p) q j d c.0 g))))
 
   apart0 : (t : ℕ) → apart_all (replicate 16 false) (sub_parts_of 0 0 t) ≡ true
   unfolding places_with column_of row_of
@@ -150,7 +147,7 @@ module _ (width : ℕ) (slice : SliceContext) (picture : List CodedMacroblock) w
       gives-bind _ Same _ _ (gives-parts (replicate 16 false) i0 (sub_parts_of 0 0 t0) none_yet (apart0 t0) none-good) (λ d0 g0.
       gives-bind _ Same _ _ (gives-parts (replicate 4 true ++ replicate 12 false) i1 (sub_parts_of 2 0 t1) d0 (apart1 t1) (good-at _ _ d0 (quarter0 t0) g0)) (λ d1 g1.
       gives-bind _ Same _ _ (gives-parts (replicate 8 true ++ replicate 8 false) i2 (sub_parts_of 0 2 t2) d1 (apart2 t2) (good-at _ _ d1 (quarter1 t1) g1)) (λ d2 g2.
-      weak _ _ _ (λ d g. g.1) (gives-parts (replicate 12 true ++ replicate 4 false) i3 (sub_parts_of 2 2 t3) d2 (apart3 t3) (good-at _ _ d2 (quarter2 t2) g2)))))
+      subst (λ l. Gives (part_motions width slice picture i3 (sub_parts_of 2 2 t3) d2) (Good l)) (quarter3 t3) (gives-parts (replicate 12 true ++ replicate 4 false) i3 (sub_parts_of 2 2 t3) d2 (apart3 t3) (good-at _ _ d2 (quarter2 t2) g2)))))
 
   gives-split : (inferred : Bool) → Gives (split_parts width slice picture inferred) Same
   unfolding split_parts
@@ -163,8 +160,15 @@ module _ (width : ℕ) (slice : SliceContext) (picture : List CodedMacroblock) w
 
   gives-by : (inferred : Bool) (kind : ℕ) → Gives (motions_by width slice picture inferred kind) Same
   unfolding motions_by places_with column_of row_of
-  gives-by inferred kind = gives-if (kind == 0) _ _ (gives-one inferred) (gives-if (kind == 1) _ _ (gives-two inferred _ _ refl) (gives-if (kind == 2) _ _ (gives-two inferred _ _ refl) (gives-split inferred)))
+  gives-by inferred kind = gives-if (kind == 0) _ _ (gives-one inferred) (gives-if (kind == 1) _ _ (gives-two inferred _ _ refl refl) (gives-if (kind == 2) _ _ (gives-two inferred _ _ refl refl) (gives-split inferred)))
 
-  pub one-flag : (bit kind : ℕ) → Gives (motions width slice picture bit kind) Same
+  whole-gives : (bit kind : ℕ) → Gives (motions width slice picture bit kind) Same
   unfolding motions
-  one-flag bit kind = gives-bind _ Same _ _ (gives-any _) (λ x t. gives-by (is_inferred slice kind) kind)
+  whole-gives bit kind = gives-bind _ Same _ _ (gives-any _) (λ x t. gives-by (is_inferred slice kind) kind)
+
+  pub one-flag : (bit kind : ℕ) → Gives (motions width slice picture bit kind) (λ d. d.fit ≡ all_fit slice.vector_limit d.motions)
+  one-flag bit kind = record { gives = λ body i v j e. ((whole-gives bit kind).gives body i v j e).1 }
+
+  -- each block is in a part
+  pub all-derived : (bit kind : ℕ) → Gives (motions width slice picture bit kind) (λ d. map is_some d.motions ≡ replicate 16 true)
+  all-derived bit kind = record { gives = λ body i v j e. ((whole-gives bit kind).gives body i v j e).0 }

@@ -5,3 +5,4 @@ pub mod Slices
 pub mod Quantiser
 pub mod Possible
 pub mod Fits
+pub mod OfSlice

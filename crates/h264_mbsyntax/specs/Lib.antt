@@ -6,3 +6,4 @@ pub mod Slice
 pub mod Holds
 pub mod Possible
 pub mod Fit
+pub mod OfSlice
