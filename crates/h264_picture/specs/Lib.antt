@@ -10,3 +10,4 @@ pub mod Decoded
 pub mod Held
 pub mod Making
 pub mod Filter
+pub mod Sources

@@ -14,6 +14,7 @@ ghost use Rattle.h264_picture.specs.declared.work.Work.{Work};
 ghost use Rattle.h264_picture.specs.declared.frames.TheConstants.{PLACES};
 ghost use Rattle.h264_picture.specs.Places.{first_place, lent, HasBegun};
 ghost use Rattle.h264_picture.specs.Making.{RefersTo};
+ghost use Rattle.h264_picture.specs.Sources.{Sources, IsDecodedFrom, AreShared};
 
 /// A coded picture, with the parameters of its slices and its reference pictures, has at most one decoded picture (8), where its modes refer to
 /// sides that there are.
@@ -28,6 +29,13 @@ pub fn some_decoded()
     ensures { (k : Setting) (place : ℕ → ℕ) (slices : ℕ → Parameters) (picture : List CodedMacroblock) → length picture ≡ k.down * k.across →
         ((c r : ℕ) → c < k.across → r < k.down → IsPossible (macroblock_at slices place k.across picture (r * k.across + c)).prediction (macroblock_at slices place k.across picture (r * k.across + c)).available) →
         (final : Component → ℕ → ℕ → ℕ) × IsDecoded k place slices picture final }
+{}
+
+/// Of what it is decoded from, a picture depends on the samples of those pictures to which its macroblocks refer, inside the picture, and on the
+/// parameters of its slices, alone: not on where these pictures stand, nor on what stands elsewhere (8.4.2, 8.7).
+pub fn sources_alone()
+    ensures { (across down : ℕ) (s t : Sources) (picture : List CodedMacroblock) (final : Component → ℕ → ℕ → ℕ) → AreShared across down s t picture →
+        IsDecodedFrom across down s picture final → IsDecodedFrom across down t picture final }
 {}
 
 /// The reference pictures of a picture that is begun are frames that the work lends, at places that are counted from the first one of the sequence.
