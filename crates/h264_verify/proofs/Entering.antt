@@ -71,7 +71,7 @@ left-ended true false = refl
 left-ended false true = refl
 left-ended false false = refl
 
-left-active : (a due : Bool) (pictures : List CodedPicture) (maps maps' : Maps) → maps'.active ≡ maps.active → HasActive due pictures maps → HasActive (a || due) pictures maps'
+pub left-active : (a due : Bool) (pictures : List CodedPicture) (maps maps' : Maps) → maps'.active ≡ maps.active → HasActive due pictures maps → HasActive (a || due) pictures maps'
 left-active true due [] maps maps' e h = refl
 left-active false due [] maps maps' e h = h
 left-active a due (p ∷ ps) maps maps' e h = ap (λ (o : Option SetPair). option_map (λ q. SetPair.sps q) o) e ∙ h

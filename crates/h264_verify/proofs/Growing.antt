@@ -490,10 +490,10 @@ slice-of n mode before unit h l =
 -- ---- how many pictures have ended
 
 -- where more slices may come to the newest, or not
-abbrev ended_by : Bool → List CodedPicture → ℕ
+abbrev pub ended_by : Bool → List CodedPicture → ℕ
 ended_by on pictures = length (ended_pictures on false pictures)
 
-ended-few : (on : Bool) (pictures : List CodedPicture) → ended_by on pictures ≤ length pictures
+pub ended-few : (on : Bool) (pictures : List CodedPicture) → ended_by on pictures ≤ length pictures
 ended-few on [] = omega arith
 ended-few true (p ∷ ps) = omega arith
 ended-few false (p ∷ ps) = omega arith

@@ -37,3 +37,8 @@ pub mod Reading
 pub mod Verdicts
 pub mod Coded
 pub mod Heard
+pub mod Alike
+pub mod Named
+pub mod Legal
+pub mod Family
+pub mod Output

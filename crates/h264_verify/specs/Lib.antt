@@ -22,3 +22,4 @@ pub mod UnitOutcome
 pub mod Progress
 pub mod Verdict
 pub mod Feeding
+pub mod Family

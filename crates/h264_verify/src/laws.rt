@@ -1,7 +1,7 @@
 //! What the definitions imply. Nothing here runs.
 #![tactic(auto)]
 
-ghost use Rattle.std.specs.Prelude.{◌≡◌, ℕ, Bool, List, ◌∷◌, Result};
+ghost use Rattle.std.specs.Prelude.{◌≡◌, ℕ, Bool, false, List, ◌∷◌, Result};
 ghost use Rattle.h264_base.specs.declared.mode.Mode.{Mode};
 ghost use Rattle.h264_base.specs.declared.stop.Stop.{Stop};
 ghost use Rattle.h264_verify.specs.Telling.{Told};
@@ -10,7 +10,14 @@ ghost use Rattle.h264_verify.specs.Pictures.{CodedPicture, held_in};
 ghost use Rattle.h264_verify.specs.Buffering.{within_newest};
 ghost use Rattle.h264_verify.specs.Sound.{AreSound};
 ghost use Rattle.h264_verify.specs.Held.{AreAmong, AreEntered};
-ghost use Rattle.h264_verify.specs.Verdict.{Verdict};
+ghost use Rattle.h264_verify.specs.Verdict.{Verdict, AreLegal, Holds};
+ghost use Rattle.h264_verify.specs.Telling.{calls_of, AreDecoded};
+ghost use Rattle.h264_verify.specs.History.{History};
+ghost use Rattle.h264_verify.specs.Pictures.{goes_on, runs_of};
+ghost use Rattle.h264_verify.specs.Keeping.{ended_pictures};
+ghost use Rattle.h264_verify.specs.Family.{AreSameOn};
+ghost use Rattle.h264_plane.specs.declared.frame.Frame.{Frame};
+ghost use Rattle.h264_base.specs.declared.mode.Mode.TheVariants.{Full};
 
 /// A stream has one verdict: a derivation that meets every rule, a first broken rule with its bit, and a feature with its bit
 /// exclude one another, and so do two of a kind. What a sink is told up to there is one list of calls.
@@ -28,4 +35,22 @@ pub fn some_verdict()
 /// entered behind a gap that was filled.
 pub fn held_pictures_stand()
     ensures { (ended : Bool) (p : CodedPicture) (ps : List CodedPicture) → AreSound ended (p ∷ ps) → AreEntered (p ∷ ps) → AreAmong (held_in (p ∷ ps)) (within_newest (p ∷ ps)).buffer }
+{}
+
+/// A stream has one family of frames: two families, by number in decoding order, in each of which every picture is decoded from the frames that its lists
+/// name, have the same sample at every place of every picture. So of the pictures of a stream with a yes (`whole`), and of those that have ended in units
+/// that are legal, whatever follows them (`legal`).
+pub fn one_family()
+    ensures whole { (bytes : List ℕ) (told : List Told) (summary : Summary) (h : Holds Full bytes told summary) (frames others : ℕ → Frame) →
+        AreDecoded frames told → AreDecoded others told → AreSameOn frames others (runs_of h.units) }
+    ensures legal { (before : History) (told : List Told) → AreLegal Full before told → (frames others : ℕ → Frame) →
+        AreDecoded frames told → AreDecoded others told → AreSameOn frames others (ended_pictures (goes_on before) false (runs_of before)) }
+{}
+
+/// What a sink is told of a stream, its frames among it, is one list of calls, whichever family the frames are of.
+pub fn one_output()
+    ensures whole { (bytes : List ℕ) (told : List Told) (summary : Summary) → Holds Full bytes told summary → (frames others : ℕ → Frame) →
+        AreDecoded frames told → AreDecoded others told → calls_of frames told ≡ calls_of others told }
+    ensures legal { (before : History) (told : List Told) → AreLegal Full before told → (frames others : ℕ → Frame) →
+        AreDecoded frames told → AreDecoded others told → calls_of frames told ≡ calls_of others told }
 {}

@@ -1,0 +1,274 @@
+-- What a unit that is legal has met, and what it tells of decoded pictures.
+use Rattle.std.proofs.Common.{◌≡◌, ℕ, zero, suc, arith, ◌*◌, ◌==◌, ◌||◌, nat_lt, not, Bool, true, false, IsTrue, List, [], ◌∷◌, ◌++◌, length, inl, inr, Option, Some, None, Result, Ok, Err, refl, ap, sym, ◌∙◌, subst, if◌then◌else◌}
+use Rattle.std.specs.Option.{is_some, option_map}
+use Rattle.std.proofs.lemmas.Bool.{lt-ltb}
+use Rattle.h264_base.specs.declared.mode.Mode.TheVariants as modes
+use Rattle.h264_base.specs.declared.stop.Stop.{Stop}
+use Rattle.h264_base.specs.declared.stop.Stop.TheVariants.{No}
+use Rattle.h264_base.specs.Body.{Body}
+use Rattle.h264_base.specs.Grammar.{Grammar, Element, Says}
+use Rattle.h264_base.specs.Run.{Run}
+use Rattle.h264_base.proofs.OneAnswer.{run-one}
+use Rattle.h264_bits.specs.Forms.{natural, optional}
+use Rattle.h264_cavlc.proofs.Gives.{Gives, gives-done, gives-any, gives-bind, gives-check}
+use Rattle.h264_rbsp.specs.Rbsp.{body_of}
+use Rattle.h264_units.specs.Stream.{NalUnit}
+use Rattle.h264_sps.specs.declared.sps.Sps.{Sps}
+use Rattle.h264_sps.specs.Sps.{sps}
+use Rattle.h264_pps.specs.declared.Pps.{Pps}
+use Rattle.h264_pps.specs.Pps.{pps}
+use Rattle.h264_header.specs.declared.header.Header.{Header}
+use Rattle.h264_header.specs.declared.header.SliceUnit.{SliceUnit}
+use Rattle.h264_header.specs.Header.{header, named_sets, idr_pic_id}
+use Rattle.h264_header.specs.Layout.{layout_of, sets_of}
+use Rattle.h264_header.specs.Marking.{idr_marking, dec_ref_pic_marking}
+use Rattle.h264_plane.specs.declared.frame.Frame.{Frame}
+use Rattle.h264_verify.specs.Telling.{Told, Said, Decodes, Shows, HasFrame, AreDecoded}
+use Rattle.h264_verify.specs.Content.{Content}
+use Rattle.h264_verify.specs.Content as contents
+use Rattle.h264_verify.specs.Demands.{Demand, judged}
+use Rattle.h264_verify.specs.Steps.{Step, Needs, Tells, needs, AreMet, Course, Takes, Reads, Ends, told, Runs}
+use Rattle.h264_verify.specs.UnitHeader.{header_of, nal_unit_type, nal_ref_idc, is_never_reference, fits_kind, header_demands}
+use Rattle.h264_verify.specs.History.{History, ReadUnit, maps_of}
+use Rattle.h264_verify.specs.Pictures.{closing_at}
+use Rattle.h264_verify.specs.Closing.{whole_at}
+use Rattle.h264_verify.specs.Units.{unit_call, is_slice, slice_unit, other_content, content, content_steps, data_course, frames_at, content_course}
+use Rattle.h264_verify.specs.Verdict.{IsLegal}
+use Rattle.h264_verify.proofs.Agreeing.{decoded-last}
+use Rattle.h264_verify.proofs.Named.{LeavesAlone}
+use Rattle.h264_verify.specs.Held.{is_idr_marking}
+
+-- ---- steps
+
+-- the rules among these are met
+abbrev pub Met : List Step → Type 0
+Met [] = Unit {0}
+Met (Needs d ∷ steps) = IsTrue d.met × Met steps
+Met (Tells call ∷ steps) = Met steps
+
+pub met : (steps : List Step) (calls : List Told) → AreMet steps calls → Met steps
+met [] calls h = tt
+met (Needs d ∷ steps) calls h = (h.0, met steps calls h.1)
+met (Tells call ∷ steps) calls h = met steps h.0 h.2
+
+pub met-first : (xs ys : List Step) → Met (xs ++ ys) → Met xs
+met-first [] ys h = tt
+met-first (Needs d ∷ xs) ys h = (h.0, met-first xs ys h.1)
+met-first (Tells call ∷ xs) ys h = met-first xs ys h
+
+pub met-last : (xs ys : List Step) → Met (xs ++ ys) → Met ys
+met-last [] ys h = h
+met-last (Needs d ∷ xs) ys h = met-last xs ys h.1
+met-last (Tells call ∷ xs) ys h = met-last xs ys h
+
+pub met-judged : (ds : List Demand) → Met (needs ds) → (let o : Result (Unit {0}) Stop = Ok tt in o ≡ judged ds)
+met-judged [] h = refl
+met-judged (d ∷ ds) h = by d.met h.0 (met-judged ds h.1)
+  where
+    by : (b : Bool) → b ≡ true → (let o : Result (Unit {0}) Stop = Ok tt in o ≡ judged ds) → (let o : Result (Unit {0}) Stop = Ok tt in o ≡ (if b then judged ds else Err (No d.bit d.rule)))
+    by true e k = k
+    by false e k = cc
+
+-- the pictures that end among these have their frames
+abbrev pub HaveDecoded : (ℕ → Frame) → List Step → Type 0
+HaveDecoded frames [] = Unit {0}
+HaveDecoded frames (Needs d ∷ steps) = HaveDecoded frames steps
+HaveDecoded frames (Tells (Said call) ∷ steps) = HaveDecoded frames steps
+HaveDecoded frames (Tells (Decodes pictures) ∷ steps) = HasFrame frames pictures × HaveDecoded frames steps
+HaveDecoded frames (Tells (Shows e) ∷ steps) = HaveDecoded frames steps
+
+pub have-decoded : (frames : ℕ → Frame) (steps : List Step) (calls : List Told) → AreMet steps calls → AreDecoded frames calls → HaveDecoded frames steps
+have-decoded frames [] calls h d = tt
+have-decoded frames (Needs x ∷ steps) calls h d = have-decoded frames steps calls h.1 d
+have-decoded frames (Tells (Said call) ∷ steps) calls h d = have-decoded frames steps h.0 h.2 (subst (AreDecoded frames) h.1 d)
+have-decoded frames (Tells (Decodes pictures) ∷ steps) calls h d = let k : HasFrame frames pictures × AreDecoded frames h.0 = subst (AreDecoded frames) h.1 d in (k.0, have-decoded frames steps h.0 h.2 k.1)
+have-decoded frames (Tells (Shows e) ∷ steps) calls h d = have-decoded frames steps h.0 h.2 (subst (AreDecoded frames) h.1 d)
+
+pub have-first : (frames : ℕ → Frame) (xs ys : List Step) → HaveDecoded frames (xs ++ ys) → HaveDecoded frames xs
+have-first frames [] ys h = tt
+have-first frames (Needs d ∷ xs) ys h = have-first frames xs ys h
+have-first frames (Tells (Said call) ∷ xs) ys h = have-first frames xs ys h
+have-first frames (Tells (Decodes pictures) ∷ xs) ys h = (h.0, have-first frames xs ys h.1)
+have-first frames (Tells (Shows e) ∷ xs) ys h = have-first frames xs ys h
+
+pub have-last : (frames : ℕ → Frame) (xs ys : List Step) → HaveDecoded frames (xs ++ ys) → HaveDecoded frames ys
+have-last frames [] ys h = h
+have-last frames (Needs d ∷ xs) ys h = have-last frames xs ys h
+have-last frames (Tells (Said call) ∷ xs) ys h = have-last frames xs ys h
+have-last frames (Tells (Decodes pictures) ∷ xs) ys h = have-last frames xs ys h.1
+have-last frames (Tells (Shows e) ∷ xs) ys h = have-last frames xs ys h
+
+pub decoded-first : (frames : ℕ → Frame) (xs ys : List Told) → AreDecoded frames (xs ++ ys) → AreDecoded frames xs
+decoded-first frames [] ys h = tt
+decoded-first frames (Said call ∷ xs) ys h = decoded-first frames xs ys h
+decoded-first frames (Decodes pictures ∷ xs) ys h = (h.0, decoded-first frames xs ys h.1)
+decoded-first frames (Shows e ∷ xs) ys h = decoded-first frames xs ys h
+
+decoded-before : (frames : ℕ → Frame) (calls first later : List Told) → calls ≡ first ++ later → AreDecoded frames calls → AreDecoded frames first
+decoded-before frames calls first later e d = decoded-first frames first later (subst (AreDecoded frames) e d)
+
+decoded-behind : (frames : ℕ → Frame) (calls first later : List Told) → calls ≡ first ++ later → AreDecoded frames calls → AreDecoded frames later
+decoded-behind frames calls first later e d = decoded-last frames first later (subst (AreDecoded frames) e d)
+
+-- ---- a course that comes to its end
+
+takes : (body : Body) (steps : List Step) (course : Course) (calls : List Told) (c : Content) → Runs body (Takes steps course) calls (Ok c) → (first : List Told) × (later : List Told) × AreMet steps first × Runs body course later (Ok c) × (calls ≡ first ++ later)
+takes body steps course calls c (inl h) = h
+takes body steps course calls c (inr h) = absurd (let e = h.2 in cc)
+
+reads : (body : Body) (g : Grammar Content) (bit : ℕ) (next : Content → ℕ → Course) (calls : List Told) (c : Content) → Runs body (Reads g bit next) calls (Ok c) →
+    (es : List Element) × (found : Content) × (end : ℕ) × (later : List Told) × Says g body bit es (Ok (found, end)) × Runs body (next found end) later (Ok c) × (calls ≡ told body es ++ later)
+reads body g bit next calls c (inl h) = h
+reads body g bit next calls c (inr h) = absurd (let e = h.4 in cc)
+
+-- what the derivation of a structure gives
+pub given : {A : Type 0} (P : A → Type 0) (g : Grammar A) (body : Body) (i : ℕ) (es : List Element) (x : A) (j : ℕ) → Gives g P → Says g body i es (Ok (x, j)) → P x
+given {A} P g body i es x j h s = h.gives body i x j (ap (λ (r : Run A). r.answer) (run-one g body i es (Ok (x, j)) s))
+
+-- ---- a unit
+
+-- the rules of its first byte, what a sink is told of it, and the end of the picture before it
+abbrev pub byte_steps : NalUnit → List Step
+byte_steps unit = needs (header_demands (8 * unit.from) (header_of unit))
+
+abbrev pub said_steps : NalUnit → List Step
+said_steps unit = Tells (Said (unit_call unit.from (header_of unit) (length unit.body))) ∷ []
+
+abbrev pub end_steps_at : History → NalUnit → List Step
+end_steps_at before unit = whole_at modes.Full (nal_unit_type (header_of unit)) before ++ (needs (closing_at (nal_unit_type (header_of unit)) before) ++ frames_at modes.Full (nal_unit_type (header_of unit)) before)
+
+-- what follows its content
+abbrev behind_content : History → NalUnit → Content → ℕ → Course
+behind_content before unit found bit = Takes (content_steps modes.Full before unit found) (data_course modes.Full before unit found bit)
+
+-- What a unit behind these with this content has met, in its parts.
+pub record HasMet (before : History) (unit : NalUnit) (c : Content) (calls : List Told) : Type 0 where
+  pub header : Met (byte_steps unit)
+  pub ends : (frames : ℕ → Frame) → AreDecoded frames calls → HaveDecoded frames (end_steps_at before unit)
+  pub found : Content
+  pub bit : ℕ
+  pub elements : List Element
+  pub says : Says (content modes.Full (nal_unit_type (header_of unit)) before unit) (body_of unit) 0 elements (Ok (found, bit))
+  pub rules : Met (content_steps modes.Full before unit found)
+  pub frames : (frames : ℕ → Frame) → AreDecoded frames calls → HaveDecoded frames (content_steps modes.Full before unit found)
+  pub rest : List Told
+  pub behind : Runs (body_of unit) (data_course modes.Full before unit found bit) rest (Ok c)
+
+pub has-met : (before : History) (r : ReadUnit) (calls : List Told) → IsLegal modes.Full before r calls → HasMet before r.unit r.content calls
+has-met before r calls l =
+    let unit = r.unit in
+    let body = body_of unit in
+    let kind = nal_unit_type (header_of unit) in
+    let c = r.content in
+    let first = takes body (byte_steps unit) (Takes (said_steps unit) (Takes (end_steps_at before unit) (content_course modes.Full before unit))) calls c l.runs in
+    let second = takes body (said_steps unit) (Takes (end_steps_at before unit) (content_course modes.Full before unit)) first.1 c first.3 in
+    let third = takes body (end_steps_at before unit) (content_course modes.Full before unit) second.1 c second.3 in
+    let fourth = reads body (content modes.Full kind before unit) 0 (behind_content before unit) third.1 c third.3 in
+    let fifth = takes body (content_steps modes.Full before unit fourth.1) (data_course modes.Full before unit fourth.1 fourth.2) fourth.3 c fourth.5 in
+    let inner : (frames : ℕ → Frame) → AreDecoded frames calls → AreDecoded frames second.1 = λ frames d.
+    decoded-behind frames first.1 second.0 second.1 second.4 (decoded-behind frames calls first.0 first.1 first.4 d) in
+    record {
+      header = met (byte_steps unit) first.0 first.2;
+      ends = λ frames d. have-decoded frames (end_steps_at before unit) third.0 third.2 (decoded-before frames second.1 third.0 third.1 third.4 (inner frames d));
+      found = fourth.1;
+      bit = fourth.2;
+      elements = fourth.0;
+      says = fourth.4;
+      rules = met (content_steps modes.Full before unit fourth.1) fifth.0 fifth.2;
+      frames = λ frames d.
+          let content_told = decoded-behind frames second.1 third.0 third.1 third.4 (inner frames d) in
+          let last = decoded-behind frames third.1 (told body fourth.0) fourth.3 fourth.6 content_told in
+          have-decoded frames (content_steps modes.Full before unit fourth.1) fifth.0 fifth.2 (decoded-before frames fourth.3 fifth.0 fifth.1 fifth.4 last);
+      rest = fifth.1;
+      behind = fifth.3;
+    }
+
+-- ---- the header of a slice
+
+-- it has its sets, and an IDR picture that is a reference leaves its own frame alone
+pub record IsHeader (sets : ℕ → Option (Pps × Sps)) (u : SliceUnit) (h : Header) : Type 0 where
+  pub named : is_some (sets h.pic_parameter_set_id.value) ≡ true
+  pub idr : is_some h.idr_pic_id ≡ u.idr_pic_flag
+  pub alone : nat_lt 0 u.nal_ref_idc ≡ true → u.idr_pic_flag ≡ true → LeavesAlone h.marking
+
+optional-some : {A : Type 0} (b : Bool) (g : Grammar A) → Gives (optional b g) (λ o. is_some o ≡ b)
+unfolding optional
+optional-some true g = gives-bind _ _ _ _ (gives-any g) (λ x a. gives-done _ _ refl)
+optional-some false g = gives-done _ None refl
+
+idr-gives : Gives idr_marking (λ found. is_idr_marking found.value ≡ true)
+unfolding idr_marking
+idr-gives = gives-bind _ _ _ _ (gives-any _) (λ x a. gives-bind _ _ _ _ (gives-any _) (λ y b. gives-done _ _ refl))
+
+marking-gives : (b idr : Bool) → Gives (optional b (dec_ref_pic_marking idr)) (λ o. b ≡ true → idr ≡ true → LeavesAlone o)
+unfolding optional dec_ref_pic_marking
+marking-gives true true = gives-bind _ _ _ _ idr-gives (λ found i. gives-done _ _ (λ e f. i))
+marking-gives true false = gives-bind _ _ _ _ (gives-any _) (λ found a. gives-done _ _ (λ e f. cc))
+marking-gives false idr = gives-done _ None (λ e f. cc)
+
+some-mapped : {A B : Type 0} (f : A → B) (o : Option A) → is_some (option_map f o) ≡ true → is_some o ≡ true
+some-mapped f None h = h
+some-mapped f (Some x) h = refl
+
+named-gives : (sets : ℕ → Option (Pps × Sps)) → Gives (named_sets sets) (λ n. is_some (sets n.id.value) ≡ true)
+unfolding named_sets
+named-gives sets = gives-bind _ _ _ _ (gives-any _) (λ e a. gives-bind _ _ _ _ (gives-any _) (λ x b. gives-bind _ _ _ _ (gives-check _ _ _) (λ y t. gives-done _ _ (some-mapped layout_of (sets (natural e.value)) t))))
+
+header-gives : (sets : ℕ → Option (Pps × Sps)) (u : SliceUnit) → Gives (header sets u) (IsHeader sets u)
+unfolding header
+header-gives sets u =
+    gives-bind _ (IsHeader sets u) _ _ (gives-any _) (λ first a. gives-bind _ (IsHeader sets u) _ _ (gives-any _) (λ stated b. gives-bind _ (IsHeader sets u) _ _ (named-gives sets) (λ named n.
+    gives-bind _ (IsHeader sets u) _ _ (gives-any _) (λ num c. gives-bind _ (IsHeader sets u) _ _ (optional-some u.idr_pic_flag idr_pic_id) (λ idr i.
+    gives-bind _ (IsHeader sets u) _ _ (gives-any _) (λ order d. gives-bind _ (IsHeader sets u) _ _ (gives-any _) (λ kind e.
+    gives-bind _ (IsHeader sets u) _ _ (marking-gives (nat_lt 0 u.nal_ref_idc) u.idr_pic_flag) (λ marking m.
+    gives-bind _ (IsHeader sets u) _ _ (gives-any _) (λ qp f. gives-bind _ (IsHeader sets u) _ _ (gives-any _) (λ filter g.
+    gives-done (IsHeader sets u) _ (record { named = n; idr = i; alone = m })))))))))))
+
+-- ---- what stands in a unit
+
+abbrev pub IsContent : History → NalUnit → Content → Type 0
+IsContent before unit (contents.OfSps set) = Unit {0}
+IsContent before unit (contents.OfPps set) = Unit {0}
+IsContent before unit (contents.OfSlice h macroblocks) = IsHeader (sets_of (maps_of before)) (slice_unit unit) h
+IsContent before unit contents.Passed = Unit {0}
+
+gives-if : {A : Type 0} (P : A → Type 0) (b : Bool) (g h : Grammar A) → Gives g P → Gives h P → Gives (if b then g else h) P
+gives-if P true g h x y = x
+gives-if P false g h x y = y
+
+other-gives : (kind : ℕ) (before : History) (unit : NalUnit) → Gives (other_content modes.Full kind before unit) (IsContent before unit)
+other-gives kind before unit = gives-if (IsContent before unit) (is_slice kind) _ _ (gives-bind _ (IsContent before unit) _ _ (header-gives (sets_of (maps_of before)) (slice_unit unit)) (λ h i. gives-done (IsContent before unit) _ i)) (gives-done (IsContent before unit) _ tt)
+
+content-gives : (kind : ℕ) (before : History) (unit : NalUnit) → Gives (content modes.Full kind before unit) (IsContent before unit)
+unfolding content
+content-gives kind before unit =
+    gives-if (IsContent before unit) (kind == 7) _ _ (gives-bind _ (IsContent before unit) _ _ (gives-any sps) (λ set a. gives-done (IsContent before unit) _ tt))
+    (gives-if (IsContent before unit) (kind == 8) _ _ (gives-bind _ (IsContent before unit) _ _ (gives-any pps) (λ set a. gives-done (IsContent before unit) _ tt)) (other-gives kind before unit))
+
+pub is-content : (before : History) (unit : NalUnit) (c : Content) (calls : List Told) (m : HasMet before unit c calls) → IsContent before unit m.found
+is-content before unit c calls m = given (IsContent before unit) _ (body_of unit) 0 m.elements m.found m.bit (content-gives (nal_unit_type (header_of unit)) before unit) m.says
+
+-- a slice of an IDR picture has a marking that leaves its frame alone
+above : (n : ℕ) → not (n == 0) ≡ true → nat_lt 0 n ≡ true
+above zero e = cc
+above (suc n) e = lt-ltb 0 (suc n) (omega arith)
+
+fits-five : (kind reference : ℕ) → (kind == 5) ≡ true → fits_kind kind reference ≡ true → not (reference == 0) ≡ true
+fits-five kind reference five fits = sym (ap (λ (b : Bool). if (b || kind == 7 || kind == 8) then not (reference == 0) else (if is_never_reference kind then reference == 0 else true)) five) ∙ fits
+
+pub idr-alone : (before : History) (unit : NalUnit) (h : Header) → Met (byte_steps unit) → IsHeader (sets_of (maps_of before)) (slice_unit unit) h → is_some h.idr_pic_id ≡ true → LeavesAlone h.marking
+idr-alone before unit h m k i =
+    let five : (nal_unit_type (header_of unit) == 5) ≡ true = sym k.idr ∙ i in
+    k.alone (above (nal_ref_idc (header_of unit)) (fits-five (nal_unit_type (header_of unit)) (nal_ref_idc (header_of unit)) five m.1.0)) five
+
+-- ---- slice data
+
+-- what stands behind content that is no slice
+pub rest-ends : (body : Body) (found c : Content) (calls : List Told) → Runs body (Ends found) calls (Ok c) → c ≡ found
+rest-ends body found c calls h = let e = h.1 in cc
+
+pub rest-reads : (body : Body) (g : Grammar Content) (bit : ℕ) (calls : List Told) (c : Content) (P : Content → Type 0) → Gives g P → Runs body (Reads g bit (λ whole end. Ends whole)) calls (Ok c) → P c
+rest-reads body g bit calls c P h r =
+    let s = reads body g bit (λ whole end. Ends whole) calls c r in
+    let same = rest-ends body s.1 c s.3 s.5 in
+    subst P (sym same) (given P g body bit s.0 s.1 s.2 h s.4)

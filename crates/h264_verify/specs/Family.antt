@@ -1,0 +1,18 @@
+-- Two families of frames, by number in decoding order, beside the pictures of a stream. To be read beside the standard.
+use Rattle.std.specs.Prelude.{◌≡◌, ℕ, ◌*◌, ◌<◌, List, [], ◌∷◌, length}
+use Rattle.h264_plane.specs.declared.frame.Component.{Component}
+use Rattle.h264_plane.specs.declared.frame.Frame.{Frame}
+use Rattle.h264_plane.specs.Frames.{plane_of}
+use Rattle.h264_plane.specs.Places.{side}
+use Rattle.h264_plane.specs.Samples.{at}
+use Rattle.h264_sps.specs.declared.sps.FrameSize.{FrameSize}
+use Rattle.h264_verify.specs.Pictures.{CodedPicture}
+
+-- They have the same sample at each place of this picture, in each plane.
+abbrev pub HaveSameSamples : (frames others : ℕ → Frame) → ℕ → FrameSize → Type 0
+HaveSameSamples frames others n size = (c : Component) (x y : ℕ) → x < side c * size.width → y < side c * size.height → at (plane_of c (frames n)) x y ≡ at (plane_of c (others n)) x y
+
+-- so they have at each place of each of these pictures, the newest first
+abbrev pub AreSameOn : (frames others : ℕ → Frame) → List CodedPicture → Type 0
+AreSameOn frames others [] = Unit {0}
+AreSameOn frames others (p ∷ ps) = HaveSameSamples frames others (length ps) p.first.sps.frame_size × AreSameOn frames others ps
