@@ -271,6 +271,10 @@ stands : (before : History) (calls : List Told) → AreLegal modes.Full before c
 stands [] calls l = record { read = tt; active = refl; frames = λ frames d. tt }
 stands (r ∷ before) calls l = subst (Stands (r ∷ before)) (sym l.4) (stands-next before r l.0 l.1 (stands before l.0 l.2) l.3)
 
+-- their slices were read
+pub legal-read : (before : History) (calls : List Told) → AreLegal modes.Full before calls → AreRead (runs_of before)
+legal-read before calls l = (stands before calls l).read
+
 -- the pictures that have ended have their frames
 pub legal-frames : (before : History) (calls : List Told) → AreLegal modes.Full before calls → (frames : ℕ → Frame) → AreDecoded frames calls → HaveFrames frames (ended_pictures (goes_on before) false (runs_of before))
 legal-frames before calls l frames d = (stands before calls l).frames frames d
@@ -293,7 +297,7 @@ module _ (frames others : ℕ → Frame) where
   same-at (p ∷ ps) s n size (inl h) = subst (λ k. HaveSameSamples frames others k size) (sym h.0) (subst (λ z. HaveSameSamples frames others (length ps) z) h.1 s.0)
   same-at (p ∷ ps) s n size (inr h) = same-at ps s.1 n size h
 
-  same-on : (pictures : List CodedPicture) → AreRead pictures → HaveFrames frames pictures → HaveFrames others pictures → AreSameOn frames others pictures
+  pub same-on : (pictures : List CodedPicture) → AreRead pictures → HaveFrames frames pictures → HaveFrames others pictures → AreSameOn frames others pictures
   same-on [] r h k = tt
   same-on (p ∷ ps) r h k =
       let rest = same-on ps r.1 h.1 k.1 in

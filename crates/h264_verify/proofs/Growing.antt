@@ -156,7 +156,7 @@ steps-both n [] ys h k = k
 steps-both n (Needs d ∷ xs) ys h k = steps-both n xs ys h k
 steps-both n (Tells t ∷ xs) ys h k = (h.0, steps-both n xs ys h.1 k)
 
-needs-of : (n : ℕ) (ds : List Demand) → StepsOf n (needs ds)
+pub needs-of : (n : ℕ) (ds : List Demand) → StepsOf n (needs ds)
 needs-of n [] = tt
 needs-of n (d ∷ ds) = needs-of n ds
 
@@ -312,7 +312,7 @@ given {P} {g} body i h = given-all P g body i h.all
 
 -- ---- what is in a unit
 
-some-mapped : {A B : Type 0} (f : A → B) (o : Option A) → is_some (option_map f o) ≡ true → is_some o ≡ true
+pub some-mapped : {A B : Type 0} (f : A → B) (o : Option A) → is_some (option_map f o) ≡ true → is_some o ≡ true
 some-mapped f None h = h
 some-mapped f (Some x) h = refl
 
@@ -411,7 +411,7 @@ told-both n (x ∷ xs) ys h k = (h.0, told-both n xs ys h.1 k)
 in-turn-of : {A B : Type 0} {o : Outcome A} {next : A → Outcome B} {y : B} (n : ℕ) (j : InTurn o next y) → AreOf n o.calls → AreOf n (next j.value).calls → AreOf n (o >>= next).calls
 in-turn-of {o} {next} n j h k = subst (AreOf n) (sym j.calls) (told-both n o.calls (next j.value).calls h k)
 
-elements-of : (n : ℕ) (body : Body) (es : List Element) → AreOf n (map (said_of body) es)
+pub elements-of : (n : ℕ) (body : Body) (es : List Element) → AreOf n (map (said_of body) es)
 elements-of n body [] = tt
 elements-of n body (e ∷ es) = (tt, elements-of n body es)
 
@@ -444,7 +444,7 @@ gap-rules-of n mode idr reference gaps_allowed bit prev current refs b h =
     (gap-of n mode bit current (unused_short_term_frame_nums idr prev current) refs b h) tt
 
 -- where a slice begins a picture, the pictures before it are among the first
-abbrev Begins : ℕ → Bool → List CodedPicture → Type 0
+abbrev pub Begins : ℕ → Bool → List CodedPicture → Type 0
 Begins n begins pictures = begins ≡ true → length pictures ≤ n
 
 first-of : (n : ℕ) (mode : Mode) (pictures : List CodedPicture) (s : CodedSlice) → length pictures ≤ n → StepsOf n (first_slice_rules mode pictures s)
@@ -481,7 +481,7 @@ closing-if : (n : ℕ) (mode : Mode) (before : History) (b : Bool) → Begins n 
 closing-if n mode before true l = steps-more (length (runs_of before)) n (closing_frames mode before) (l refl) (closing-steps mode before)
 closing-if n mode before false l = tt
 
-slice-of : (n : ℕ) (mode : Mode) (before : History) (unit : NalUnit) (h : Header) → Begins n (begins_at before h) (runs_of before) → StepsOf n (slice_steps mode before unit h)
+pub slice-of : (n : ℕ) (mode : Mode) (before : History) (unit : NalUnit) (h : Header) → Begins n (begins_at before h) (runs_of before) → StepsOf n (slice_steps mode before unit h)
 slice-of n mode before unit h l =
     steps-both n (if begins_at before h then whole_steps mode before else []) _ (steps-if n (begins_at before h) (whole_steps mode before) [] (whole-of n mode before) tt)
     (steps-both n (needs (if begins_at before h then closing_demands before else [])) _ (needs-of n (if begins_at before h then closing_demands before else []))
@@ -498,7 +498,7 @@ ended-few on [] = omega arith
 ended-few true (p ∷ ps) = omega arith
 ended-few false (p ∷ ps) = omega arith
 
-ended-whole : (pictures : List CodedPicture) → ended_by false pictures ≡ length pictures
+pub ended-whole : (pictures : List CodedPicture) → ended_by false pictures ≡ length pictures
 ended-whole [] = refl
 ended-whole (p ∷ ps) = refl
 
@@ -537,7 +537,7 @@ record UnitGrows (mode : Mode) (before after : History) (unit : NalUnit) (c : Co
   steps : StepsOf (ended_in after) (content_steps mode before unit c)
 
 module _ (mode : Mode) (before : History) (unit : NalUnit) where
-  abbrev kind : ℕ
+  abbrev pub kind : ℕ
   kind = nal_unit_type (header_of unit)
 
   abbrev one_more : Content → History
@@ -568,10 +568,10 @@ module _ (mode : Mode) (before : History) (unit : NalUnit) where
   abbrev Grows : History → List Told → Type 0
   Grows after calls = (ended_in before ≤ ended_in after) × AreOf (ended_in after) calls
 
-  abbrev picture_end : List Step
+  abbrev pub picture_end : List Step
   picture_end = whole_at mode kind before ++ (needs (closing_at kind before) ++ frames_at mode kind before)
 
-  picture-end-of : (n : ℕ) → Begins n (ends_picture kind) (runs_of before) → StepsOf n picture_end
+  pub picture-end-of : (n : ℕ) → Begins n (ends_picture kind) (runs_of before) → StepsOf n picture_end
   picture-end-of n l =
       steps-both n (whole_at mode kind before) _ (steps-if n (ends_picture kind) (whole_steps mode before) [] (whole-of n mode before) tt)
       (steps-both n (needs (closing_at kind before)) (frames_at mode kind before) (needs-of n (closing_at kind before)) (closing-if n mode before (ends_picture kind) l))

@@ -1,6 +1,6 @@
 -- What a unit that is legal has met, and what it tells of decoded pictures.
-use Rattle.std.proofs.Common.{◌≡◌, ℕ, zero, suc, arith, ◌*◌, ◌==◌, ◌||◌, nat_lt, not, Bool, true, false, IsTrue, List, [], ◌∷◌, ◌++◌, length, inl, inr, Option, Some, None, Result, Ok, Err, refl, ap, sym, ◌∙◌, subst, if◌then◌else◌}
-use Rattle.std.specs.Option.{is_some, option_map}
+use Rattle.std.proofs.Common.{◌≡◌, ℕ, zero, suc, arith, ◌*◌, ◌==◌, nat_lt, not, Bool, true, false, IsTrue, List, [], ◌∷◌, ◌++◌, length, inl, inr, Option, None, Result, Ok, Err, refl, ap, sym, ◌∙◌, subst, if◌then◌else◌}
+use Rattle.std.specs.Option.{is_some}
 use Rattle.std.proofs.lemmas.Bool.{lt-ltb}
 use Rattle.h264_base.specs.declared.mode.Mode.TheVariants as modes
 use Rattle.h264_base.specs.declared.stop.Stop.{Stop}
@@ -28,13 +28,15 @@ use Rattle.h264_verify.specs.Content.{Content}
 use Rattle.h264_verify.specs.Content as contents
 use Rattle.h264_verify.specs.Demands.{Demand, judged}
 use Rattle.h264_verify.specs.Steps.{Step, Needs, Tells, needs, AreMet, Course, Takes, Reads, Ends, told, Runs}
-use Rattle.h264_verify.specs.UnitHeader.{header_of, nal_unit_type, nal_ref_idc, is_never_reference, fits_kind, header_demands}
+use Rattle.h264_verify.specs.UnitHeader.{header_of, nal_unit_type, nal_ref_idc, header_demands}
 use Rattle.h264_verify.specs.History.{History, ReadUnit, maps_of}
 use Rattle.h264_verify.specs.Pictures.{closing_at}
 use Rattle.h264_verify.specs.Closing.{whole_at}
 use Rattle.h264_verify.specs.Units.{unit_call, is_slice, slice_unit, other_content, content, content_steps, data_course, frames_at, content_course}
 use Rattle.h264_verify.specs.Verdict.{IsLegal}
 use Rattle.h264_verify.proofs.Agreeing.{decoded-last}
+use Rattle.h264_verify.proofs.Growing.{some-mapped}
+use Rattle.h264_verify.proofs.Marked.{fits-five}
 use Rattle.h264_verify.proofs.Named.{LeavesAlone}
 use Rattle.h264_verify.specs.Held.{is_idr_marking}
 
@@ -206,10 +208,6 @@ marking-gives true true = gives-bind _ _ _ _ idr-gives (λ found i. gives-done _
 marking-gives true false = gives-bind _ _ _ _ (gives-any _) (λ found a. gives-done _ _ (λ e f. cc))
 marking-gives false idr = gives-done _ None (λ e f. cc)
 
-some-mapped : {A B : Type 0} (f : A → B) (o : Option A) → is_some (option_map f o) ≡ true → is_some o ≡ true
-some-mapped f None h = h
-some-mapped f (Some x) h = refl
-
 named-gives : (sets : ℕ → Option (Pps × Sps)) → Gives (named_sets sets) (λ n. is_some (sets n.id.value) ≡ true)
 unfolding named_sets
 named-gives sets = gives-bind _ _ _ _ (gives-any _) (λ e a. gives-bind _ _ _ _ (gives-any _) (λ x b. gives-bind _ _ _ _ (gives-check _ _ _) (λ y t. gives-done _ _ (some-mapped layout_of (sets (natural e.value)) t))))
@@ -252,9 +250,6 @@ is-content before unit c calls m = given (IsContent before unit) _ (body_of unit
 above : (n : ℕ) → not (n == 0) ≡ true → nat_lt 0 n ≡ true
 above zero e = cc
 above (suc n) e = lt-ltb 0 (suc n) (omega arith)
-
-fits-five : (kind reference : ℕ) → (kind == 5) ≡ true → fits_kind kind reference ≡ true → not (reference == 0) ≡ true
-fits-five kind reference five fits = sym (ap (λ (b : Bool). if (b || kind == 7 || kind == 8) then not (reference == 0) else (if is_never_reference kind then reference == 0 else true)) five) ∙ fits
 
 pub idr-alone : (before : History) (unit : NalUnit) (h : Header) → Met (byte_steps unit) → IsHeader (sets_of (maps_of before)) (slice_unit unit) h → is_some h.idr_pic_id ≡ true → LeavesAlone h.marking
 idr-alone before unit h m k i =

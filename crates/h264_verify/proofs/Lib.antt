@@ -42,3 +42,4 @@ pub mod Named
 pub mod Legal
 pub mod Family
 pub mod Output
+pub mod Stopping

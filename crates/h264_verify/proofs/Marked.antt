@@ -48,7 +48,7 @@ none-of : {A : Type 0} (o : Option A) → is_some o ≡ false → o ≡ None
 none-of None e = refl
 none-of (Some x) e = cc
 
-fits-five : (kind reference : ℕ) → (kind == 5) ≡ true → fits_kind kind reference ≡ true → not (reference == 0) ≡ true
+pub fits-five : (kind reference : ℕ) → (kind == 5) ≡ true → fits_kind kind reference ≡ true → not (reference == 0) ≡ true
 fits-five kind reference five fits = sym (ap (λ (b : Bool). if (b || kind == 7 || kind == 8) then not (reference == 0) else (if is_never_reference kind then reference == 0 else true)) five) ∙ fits
 
 marked-of : (byte : ℕ) (u : SliceUnit) (h : Header) → u ≡ slice_unit_of byte → fits_kind (nal_unit_type byte) (nal_ref_idc byte) ≡ true → IsOfUnit u h → IsMarked h

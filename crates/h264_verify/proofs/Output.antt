@@ -51,10 +51,10 @@ call-same width height f g i j same count r =
 
 module _ (frames others : ℕ → Frame) where
   -- each of the first pictures is shown alike
-  abbrev ShownAlike : ℕ → Type 0
+  abbrev pub ShownAlike : ℕ → Type 0
   ShownAlike n = (k : ℕ) → k < n → (count : ℤ) (r : Rectangle) → frame_call count (frames k) r ≡ frame_call count (others k) r
 
-  shown-alike : (pictures : List CodedPicture) → AreSameOn frames others pictures → HaveFrames frames pictures → HaveFrames others pictures → ShownAlike (length pictures)
+  pub shown-alike : (pictures : List CodedPicture) → AreSameOn frames others pictures → HaveFrames frames pictures → HaveFrames others pictures → ShownAlike (length pictures)
   shown-alike [] s h k n l count r = absurd (omega (arith, l))
   shown-alike (p ∷ ps) s h k n l count r = ⊎_elim
       (λ (q : n < length ps). shown-alike ps s.1 h.1 k.1 n q count r)
@@ -63,7 +63,7 @@ module _ (frames others : ℕ → Frame) where
       subst (λ i. frame_call count (frames i) r ≡ frame_call count (others i) r) (sym e) (call-same p.first.sps.frame_size.width p.first.sps.frame_size.height (frames (length ps)) (others (length ps)) h.0.size k.0.size s.0 count r))
       (cases_lt n (length ps))
 
-  calls-same : (n : ℕ) (told : List Told) → ShownAlike n → AreOf n told → calls_of frames told ≡ calls_of others told
+  pub calls-same : (n : ℕ) (told : List Told) → ShownAlike n → AreOf n told → calls_of frames told ≡ calls_of others told
   calls-same n [] a h = refl
   calls-same n (Said call ∷ told) a h = ap (λ (l : List Call). call ∷ l) (calls-same n told a h.1)
   calls-same n (Decodes ps ∷ told) a h = calls-same n told a h.1
@@ -73,7 +73,7 @@ module _ (frames others : ℕ → Frame) where
 
 -- ---- what legal units tell is of the pictures that have ended
 
-legal-of : (before : History) (told : List Told) → AreLegal modes.Full before told → AreOf (ended_in before) told
+pub legal-of : (before : History) (told : List Told) → AreLegal modes.Full before told → AreOf (ended_in before) told
 legal-of [] told l = subst (AreOf (ended_in [])) (sym l) tt
 legal-of (r ∷ before) told l =
     let e = legal-unit modes.Full before r l.1 l.3 in

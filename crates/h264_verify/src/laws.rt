@@ -47,9 +47,10 @@ pub fn one_family()
         AreDecoded frames told → AreDecoded others told → AreSameOn frames others (ended_pictures (goes_on before) false (runs_of before)) }
 {}
 
-/// What a sink is told of a stream, its frames among it, is one list of calls, whichever family the frames are of.
+/// What a sink is told of a stream up to its verdict, frames among it, is one list of calls, whichever family the frames are of (`verdict`); and so is what it
+/// is told of units that are legal, whatever follows them (`legal`).
 pub fn one_output()
-    ensures whole { (bytes : List ℕ) (told : List Told) (summary : Summary) → Holds Full bytes told summary → (frames others : ℕ → Frame) →
+    ensures verdict { (bytes : List ℕ) (told : List Told) (answer : Result Summary Stop) → Verdict Full bytes told answer → (frames others : ℕ → Frame) →
         AreDecoded frames told → AreDecoded others told → calls_of frames told ≡ calls_of others told }
     ensures legal { (before : History) (told : List Told) → AreLegal Full before told → (frames others : ℕ → Frame) →
         AreDecoded frames told → AreDecoded others told → calls_of frames told ≡ calls_of others told }

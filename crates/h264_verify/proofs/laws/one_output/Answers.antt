@@ -1,8 +1,9 @@
-use Rattle.h264_verify.proofs.Output.{one-output, legal-output}
+use Rattle.h264_verify.proofs.Output.{legal-output}
+use Rattle.h264_verify.proofs.Stopping.{verdict-output}
 use Rattle.h264_verify.proofs.laws.one_output.Goals as goal
 
 pub returns : goal.returns
 returns c = record {
-  whole = λ bytes told summary h frames others d e. one-output frames others bytes told summary h d e;
+  verdict = λ bytes told answer h frames others d e. verdict-output frames others bytes told answer h d e;
   legal = λ before told l frames others d e. legal-output frames others before told l d e;
 }
