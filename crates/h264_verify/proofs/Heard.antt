@@ -1,5 +1,5 @@
 -- A source whose bytes are not known: what it gave so far is judged as a stream of those bytes.
-use Rattle.std.proofs.Common.{◌≡◌, ℕ, zero, suc, List, [], ◌∷◌, ◌++◌, take, drop, Option, Some, refl, ap, sym, ◌∙◌, subst, Err}
+use Rattle.std.proofs.Common.{◌≡◌, ℕ, zero, suc, List, [], ◌∷◌, ◌++◌, take, drop, Some, refl, ap, sym, ◌∙◌, subst, Err}
 use Rattle.std.proofs.lemmas.List.{append-nil}
 use Rattle.h264_base.specs.declared.mode.Mode.{Mode}
 use Rattle.h264_base.specs.declared.stop.Stop.{Stop}

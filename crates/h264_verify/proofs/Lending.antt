@@ -26,7 +26,7 @@ use Rattle.h264_verify.specs.Keeping.{KeepsOutput, HasFormat, IsNear, IsReferenc
 abbrev pub KeepsPlaces : (ℕ → Option Frame) → (ℕ → Option Frame) → List (Entry Placed) → Type 0
 KeepsPlaces old new es = (p : ℕ) → is_taken es p ≡ true → old p ≢ None → new p ≡ old p
 
-is-same : (n : ℕ) → (n == n) ≡ true
+pub is-same : (n : ℕ) → (n == n) ≡ true
 is-same n = grind (arith, nat_tests)
 
 true-or : (a b : Bool) → a ≡ true → (a || b) ≡ true
@@ -78,7 +78,7 @@ by-place d n place e = ap (λ (o : Option ℕ). option_map_or (λ (p : ℕ). p -
 pub near-is : (d : Decoder) (n place : ℕ) → IsNear d n place → place ≡ first_place d.work + place_by d n
 near-is d n place h = let e = by-place d n place h.found in let f = h.from in omega (arith, e, f)
 
-if-some : (P : ℕ → Type 0) (o : Option ℕ) (place : ℕ) → o ≡ Some place → IfSome o P → P place
+pub if-some : (P : ℕ → Type 0) (o : Option ℕ) (place : ℕ) → o ≡ Some place → IfSome o P → P place
 if-some P None place e h = cc
 if-some P (Some x) place e h = let k : x ≡ place = cc in subst P k h
 

@@ -27,6 +27,7 @@ pub mod Lending
 pub mod Beginning
 pub mod Lengthening
 pub mod Making
+pub mod Naming
 pub mod Ending
 pub mod Placing
 pub mod Filling

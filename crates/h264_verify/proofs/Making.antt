@@ -59,7 +59,7 @@ pub active-and : (P Q : Sequence → Type 0) (o : Option Sequence) → IsActive 
 active-and P Q None h f = absurd h
 active-and P Q (Some s) h f = f s refl h
 
-context-number : (pps : Pps) (s : CodedSlice) (list : List RefSlot) → (slice_context s.pps s.sps s.header list).number ≡ number_of s
+pub context-number : (pps : Pps) (s : CodedSlice) (list : List RefSlot) → (slice_context s.pps s.sps s.header list).number ≡ number_of s
 unfolding slice_context
 context-number pps s list = refl
 

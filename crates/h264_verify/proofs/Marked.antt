@@ -14,23 +14,36 @@ use Rattle.h264_pps.specs.declared.Pps.{Pps}
 use Rattle.h264_header.specs.declared.header.Header.{Header}
 use Rattle.h264_header.specs.declared.header.SliceUnit.{SliceUnit}
 use Rattle.h264_header.specs.Header.{header, idr_pic_id}
-use Rattle.h264_header.specs.Marking.{dec_ref_pic_marking}
+use Rattle.h264_header.specs.Marking.{dec_ref_pic_marking, idr_marking}
 use Rattle.h264_header.specs.Picture.{is_reference}
 use Rattle.h264_header.proofs.Gives.{Gives, gives-behind, gives-met, gives-derived}
 use Rattle.h264_verify.specs.UnitHeader.{nal_unit_type, nal_ref_idc, is_never_reference, fits_kind}
 use Rattle.h264_verify.specs.Units.{slice_unit_of}
 use Rattle.h264_verify.specs.Sound.{IsMarked}
+use Rattle.h264_verify.specs.Held.{is_idr_marking, is_own}
 
 -- what a header takes from its unit
 record IsOfUnit (u : SliceUnit) (h : Header) : Type 0 where
   reference : h.nal_ref_idc ≡ u.nal_ref_idc
   idr : is_some h.idr_pic_id ≡ u.idr_pic_flag
   marking : is_some h.marking ≡ nat_lt 0 u.nal_ref_idc
+  own : u.idr_pic_flag ≡ true → is_own h.marking ≡ true
 
 optional-some : {A : Type 0} (b : Bool) (g : Grammar A) → Gives (optional b g) (λ o. is_some o ≡ b)
 unfolding optional
 optional-some true g = gives-behind g _ (λ o. is_some o ≡ true) (λ x. refl)
 optional-some false g = refl
+
+-- that of an IDR picture
+idr-own : Gives (dec_ref_pic_marking true) (λ m. is_idr_marking m.value ≡ true)
+unfolding dec_ref_pic_marking idr_marking
+idr-own = gives-behind _ _ (λ m. is_idr_marking m.value ≡ true) (λ no_output. gives-behind _ _ (λ m. is_idr_marking m.value ≡ true) (λ long_term. refl))
+
+marking-some : (b idr : Bool) → Gives (optional b (dec_ref_pic_marking idr)) (λ o. (is_some o ≡ b) × (idr ≡ true → is_own o ≡ true))
+unfolding optional
+marking-some false idr = (refl, λ i. refl)
+marking-some true true = gives-met (dec_ref_pic_marking true) _ (λ m. is_idr_marking m.value ≡ true) (λ o. (is_some o ≡ true) × (true ≡ true → is_own o ≡ true)) idr-own (λ m h. (refl, λ i. h))
+marking-some true false = gives-behind _ _ (λ o. (is_some o ≡ true) × (false ≡ true → is_own o ≡ true)) (λ m. (refl, λ i. cc))
 
 header-gives : (sets : ℕ → Option (Pps × Sps)) (u : SliceUnit) → Gives (header sets u) (IsOfUnit u)
 unfolding header
@@ -38,8 +51,8 @@ header-gives sets u =
     gives-behind _ _ (IsOfUnit u) (λ first. gives-behind _ _ (IsOfUnit u) (λ stated. gives-behind _ _ (IsOfUnit u) (λ named. gives-behind _ _ (IsOfUnit u) (λ num.
     gives-met _ _ (λ o. is_some o ≡ u.idr_pic_flag) (IsOfUnit u) (optional-some u.idr_pic_flag idr_pic_id) (λ idr i.
     gives-behind _ _ (IsOfUnit u) (λ order. gives-behind _ _ (IsOfUnit u) (λ kind.
-    gives-met _ _ (λ o. is_some o ≡ nat_lt 0 u.nal_ref_idc) (IsOfUnit u) (optional-some (nat_lt 0 u.nal_ref_idc) (dec_ref_pic_marking u.idr_pic_flag)) (λ marking m.
-    gives-behind _ _ (IsOfUnit u) (λ qp. gives-behind _ _ (IsOfUnit u) (λ filter. record { reference = refl; idr = i; marking = m }))))))))))
+    gives-met _ _ (λ o. (is_some o ≡ nat_lt 0 u.nal_ref_idc) × (u.idr_pic_flag ≡ true → is_own o ≡ true)) (IsOfUnit u) (marking-some (nat_lt 0 u.nal_ref_idc) u.idr_pic_flag) (λ marking m.
+    gives-behind _ _ (IsOfUnit u) (λ qp. gives-behind _ _ (IsOfUnit u) (λ filter. record { reference = refl; idr = i; marking = m.0; own = m.1 }))))))))))
 
 above : (n : ℕ) → nat_lt 0 n ≡ not (n == 0)
 above n = grind (arith, nat_tests)
@@ -58,6 +71,7 @@ marked-of byte u h e fits k =
       some = λ r. refers ∙ r;
       none = λ r. none-of h.marking (refers ∙ r);
       idr = λ i. ap (λ n. not (n == 0)) (k.reference ∙ ap (λ (x : SliceUnit). x.nal_ref_idc) e) ∙ fits-five (nal_unit_type byte) (nal_ref_idc byte) (sym (ap (λ (x : SliceUnit). x.idr_pic_flag) e) ∙ sym k.idr ∙ i) fits;
+      own = λ i. k.own (sym k.idr ∙ i);
     }
 
 -- a header that was read is marked so

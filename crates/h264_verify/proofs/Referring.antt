@@ -21,7 +21,7 @@ use Rattle.h264_dpb.specs.Turns.{Shown, Turn, turn_then, stays, names, missing_t
 use Rattle.h264_verify.specs.Pictures.{CodedPicture, held_after, held_in, is_met}
 use Rattle.h264_verify.specs.Buffering.{gap_on, gaps_turn, missing_before, ended_picture, ended_turn, after_all, within_newest}
 use Rattle.h264_verify.specs.Sound.{IsMarked, AreSound}
-use Rattle.h264_verify.specs.Held.{Stands, AreAmong, is_idr_marking, is_own, has_gap_filled, AreEntered}
+use Rattle.h264_verify.specs.Held.{Stands, AreAmong, is_idr_marking, is_own, has_gap_filled}
 use Rattle.h264_verify.proofs.Among.{Holds, filled-holds, marked-holds, reset-holds}
 use Rattle.h264_verify.proofs.Staying.{stands-missing, stands-reference, stands-other, stands-own}
 
@@ -112,8 +112,8 @@ idr-bare false m f e = or-second (is_idr_marking m) (resets_by m) e
     or-second true b h = refl
     or-second false b h = h
 
-ended-by : (p : CodedPicture) (ps : List CodedPicture) (e : Ended) → IsOf p ps e → (m : Option (Found Marking)) → p.first.header.marking ≡ m → IsMarked p.first.header → (is_idr p.first.header ≡ true → is_own p.first.header.marking ≡ true) → (refs : References) (b : Buffered Shown) → is_met (ended m (numbering_of p.first.sps p.first.header) e.picture refs) ≡ true → AreAmong refs b → AreAmong (result_unwrap_or (ended m (numbering_of p.first.sps p.first.header) e.picture refs) refs) (store_turn e (result_unwrap_or (ended m (numbering_of p.first.sps p.first.header) e.picture refs) refs) (way_turn e b).buffer).buffer
-ended-by p ps e o None q k mine refs b met a =
+ended-by : (p : CodedPicture) (ps : List CodedPicture) (e : Ended) → IsOf p ps e → (m : Option (Found Marking)) → p.first.header.marking ≡ m → IsMarked p.first.header → (refs : References) (b : Buffered Shown) → is_met (ended m (numbering_of p.first.sps p.first.header) e.picture refs) ≡ true → AreAmong refs b → AreAmong (result_unwrap_or (ended m (numbering_of p.first.sps p.first.header) e.picture refs) refs) (store_turn e (result_unwrap_or (ended m (numbering_of p.first.sps p.first.header) e.picture refs) refs) (way_turn e b).buffer).buffer
+ended-by p ps e o None q k refs b met a =
     let none : is_reference p.first.header ≡ false = unmarked (is_reference p.first.header) refl in
     let stays-so : empties e ≡ false = o.empty ∙ ap (λ (x : Option (Found Marking)). is_idr p.first.header || resets x) q ∙ no-idr (is_idr p.first.header) refl none in
     other-among e refs (way_turn e b).buffer (o.reference ∙ none) (subst (λ (c : Buffered Shown). AreAmong refs c) (sym (way-empty e b stays-so)) a)
@@ -125,9 +125,9 @@ ended-by p ps e o None q k mine refs b met a =
     no-idr : (x : Bool) → is_idr p.first.header ≡ x → is_reference p.first.header ≡ false → (x || false) ≡ false
     no-idr true f g = let h : is_reference p.first.header ≡ true = k.idr f in cc
     no-idr false f g = refl
-ended-by p ps e o (Some found) q k mine refs b met a =
+ended-by p ps e o (Some found) q k refs b met a =
     let yes : is_reference p.first.header ≡ true = marked-so (is_reference p.first.header) refl in
-    let own : is_idr p.first.header ≡ true → is_idr_marking found.value ≡ true = λ i. subst (λ (x : Option (Found Marking)). is_own x ≡ true) q (mine i) in
+    let own : is_idr p.first.header ≡ true → is_idr_marking found.value ≡ true = λ i. subst (λ (x : Option (Found Marking)). is_own x ≡ true) q (k.own i) in
     let empty : empties e ≡ (is_idr p.first.header || resets_by found.value) = o.empty ∙ ap (λ (x : Option (Found Marking)). is_idr p.first.header || resets x) q in
     met-among e (numbering_of p.first.sps p.first.header) found refs b (o.reference ∙ yes) a (λ t. idr-bare (is_idr p.first.header) found.value own (sym empty ∙ t)) _ refl met
   where
@@ -135,10 +135,10 @@ ended-by p ps e o (Some found) q k mine refs b met a =
     marked-so true f = refl
     marked-so false f = let n : ◌≡◌ {A = Option (Found Marking)} None (Some found) = sym (k.none f) ∙ q in cc
 
-ended-among : (p : CodedPicture) (ps : List CodedPicture) (b : Buffered Shown) → AreSound true (p ∷ ps) → AreEntered (p ∷ ps) → AreAmong (held_in (p ∷ ps)) b → AreAmong (held_after (p ∷ ps)) (ended_turn p ps b).buffer
-ended-among p ps b s g a =
+ended-among : (p : CodedPicture) (ps : List CodedPicture) (b : Buffered Shown) → AreSound true (p ∷ ps) → AreAmong (held_in (p ∷ ps)) b → AreAmong (held_after (p ∷ ps)) (ended_turn p ps b).buffer
+ended-among p ps b s a =
     let o = is-of p ps in
-    let by = ended-by p ps (ended_picture p ps) o p.first.header.marking refl s.0.marked g.0.own (held_in (p ∷ ps)) b in
+    let by = ended-by p ps (ended_picture p ps) o p.first.header.marking refl s.0.marked (held_in (p ∷ ps)) b in
     let n = o.number in
     subst (λ (k : ℕ). is_met (ended p.first.header.marking (numbering_of p.first.sps p.first.header) k (held_in (p ∷ ps))) ≡ true → AreAmong (held_in (p ∷ ps)) b → AreAmong (result_unwrap_or (ended p.first.header.marking (numbering_of p.first.sps p.first.header) k (held_in (p ∷ ps))) (held_in (p ∷ ps))) (store_turn (ended_picture p ps) (result_unwrap_or (ended p.first.header.marking (numbering_of p.first.sps p.first.header) k (held_in (p ∷ ps))) (held_in (p ∷ ps))) (way_turn (ended_picture p ps) b).buffer).buffer) n by (s.1 refl) a
 
@@ -147,10 +147,10 @@ ended-among p ps b s g a =
 none-among : (b : Buffered Shown) → AreAmong no_references b
 none-among b n h = cc
 
-after-among : (pictures : List CodedPicture) → AreSound true pictures → AreEntered pictures → AreAmong (held_after pictures) (after_all pictures).buffer
-after-among [] s g = none-among (after_all []).buffer
-after-among (p ∷ ps) s g = ended-among p ps (within_newest (p ∷ ps)).buffer s g (within-among p ps g.0.filled (after-among ps s.2 g.1))
+after-among : (pictures : List CodedPicture) → AreSound true pictures → AreAmong (held_after pictures) (after_all pictures).buffer
+after-among [] s = none-among (after_all []).buffer
+after-among (p ∷ ps) s = ended-among p ps (within_newest (p ∷ ps)).buffer s (within-among p ps s.0.filled (after-among ps s.2))
 
 -- while a picture is decoded
-pub among-within : (ended : Bool) (p : CodedPicture) (ps : List CodedPicture) → AreSound ended (p ∷ ps) → AreEntered (p ∷ ps) → AreAmong (held_in (p ∷ ps)) (within_newest (p ∷ ps)).buffer
-among-within ended p ps s g = within-among p ps g.0.filled (after-among ps s.2 g.1)
+pub among-within : (ended : Bool) (p : CodedPicture) (ps : List CodedPicture) → AreSound ended (p ∷ ps) → AreAmong (held_in (p ∷ ps)) (within_newest (p ∷ ps)).buffer
+among-within ended p ps s = within-among p ps s.0.filled (after-among ps s.2)

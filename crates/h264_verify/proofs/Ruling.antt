@@ -1,5 +1,5 @@
 -- The rules of a slice, by what is kept of the pictures before it.
-use Rattle.std.proofs.Common.{◌≡◌, ℕ, ◌*◌, ◌<◌, ◌≤◌, ◌^◌, Bool, true, false, List, [], ◌∷◌, map, length, Option, Some, None, Result, Ok, Err, OnOk, refl, ap, sym, ◌∙◌, subst, arith}
+use Rattle.std.proofs.Common.{◌≡◌, ℕ, ◌*◌, ◌<◌, ◌≤◌, ◌^◌, ◌==◌, ◌||◌, not, Bool, true, false, List, [], ◌∷◌, map, length, Option, Some, None, Result, Ok, Err, OnOk, refl, ap, sym, ◌∙◌, subst, arith}
 use Rattle.h264_base.specs.declared.mode.Mode.{Mode}
 use Rattle.h264_base.specs.declared.mode.Mode.TheVariants as modes
 use Rattle.h264_units.specs.Stream.{NalUnit}
@@ -15,7 +15,8 @@ use Rattle.h264_verify.specs.declared.decoder.Decoder.{Decoder}
 use Rattle.h264_verify.specs.declared.slices.Slices.{Slices}
 use Rattle.h264_verify.specs.declared.picture.OpenPicture.{OpenPicture}
 use Rattle.h264_verify.specs.Buffering.{after_all, gaps_turn}
-use Rattle.h264_verify.specs.Slices.{first_slice_rules, later_slice_rules}
+use Rattle.h264_verify.specs.Demands.{judged}
+use Rattle.h264_verify.specs.Slices.{is_i, type_demand, first_slice_rules, later_slice_rules}
 use Rattle.h264_verify.specs.Pictures.{CodedSlice, CodedPicture, with_sets, open_of, begins_after, goes_on, runs_of, counted, prev_ref_frame_num_of, held_after, held_in}
 use Rattle.h264_verify.proofs.Joining.{ended-gap}
 use Rattle.h264_verify.proofs.Filling.{sized}
@@ -27,7 +28,8 @@ use Rattle.h264_sps.specs.Usable.{is_usable}
 use Rattle.h264_marking.specs.Frames.{References, frame_places}
 use Rattle.h264_picture.specs.Buffer.{buffer_size}
 use Rattle.h264_dpb.specs.Kept.{size_of}
-use Rattle.h264_verify.specs.Keeping.{format_of, IsMadeAs, HasPlaces, GoesWith, IsSettled, KeepsFrames, HoldsOpen, KeepsPictures, KeepsSlices, KeepsDecoder, KeepsGap, KeepsSomeGap, KeepsSomeRules, EntersDecoder, first_by, later_by}
+use Rattle.h264_verify.specs.Keeping.{format_of, IsMadeAs, HasPlaces, GoesWith, IsSettled, KeepsFrames, HoldsOpen, KeepsPictures, KeepsSlices, KeepsDecoder, KeepsGap, KeepsSomeGap, KeepsSomeRules, EntersDecoder, first_by, later_by, is_typed}
+use Rattle.h264_verify.proofs.Slicing.{ok-true}
 
 -- ---- before a picture that begins
 
@@ -62,7 +64,7 @@ enters-held modes.Units frames on pictures slice d m k = tt
 enters-held modes.Headers frames on pictures slice d m k = tt
 enters-held modes.Full frames on pictures slice d m k = record { format = m; output = k.output; settled = k.settled }
 
-held-all : (on : Bool) (pictures : List CodedPicture) (slices : Slices) → KeepsPictures on true pictures slices → slices.held ≡ held_after pictures
+pub held-all : (on : Bool) (pictures : List CodedPicture) (slices : Slices) → KeepsPictures on true pictures slices → slices.held ≡ held_after pictures
 held-all true pictures slices k = k.held
 held-all false pictures slices k = k.held
 
@@ -137,3 +139,13 @@ later-rules true (p ∷ ps) slices pps sps h unit b k = later-open p ps slices p
 pub ok-any : {X E P : Type 0} (r : Result X E) → P → OnOk r P
 ok-any (Ok x) p = p
 ok-any (Err e) p = tt
+
+-- ---- a slice of an IDR picture is I
+
+type-less : (a b c : Bool) → (a || not (b || c)) ≡ true → (a || not b) ≡ true
+type-less true b c h = refl
+type-less false true c h = h
+type-less false false c h = refl
+
+pub type-met : (sps : Sps) (h : Header) (x : Unit {0}) → Ok x ≡ judged (type_demand sps h ∷ []) → is_typed h ≡ true
+type-met sps h x e = type-less (is_i h.kind.value) (is_idr h) (sps.max_num_ref_frames == 0) (ok-true _ x _ e)

@@ -1,6 +1,6 @@
 -- The sets of a slice, and those of the pictures before it.
 use Rattle.std.proofs.Common.{◌≡◌, ℕ, ◌||◌, ◌&&◌, not, nat_le, Bool, true, false, List, [], ◌∷◌, Option, Some, None, Result, Ok, Err, refl, ap, sym, ◌∙◌, subst, eqb-true, if◌then◌else◌}
-use Rattle.std.specs.Option.{option_and_then}
+use Rattle.std.specs.Option.{is_some, option_and_then}
 use Rattle.h264_base.proofs.Chains.{map-some, then-some}
 use Rattle.h264_base.specs.declared.stop.Stop.{Stop}
 use Rattle.h264_sps.specs.declared.sps.Sps.{Sps}
@@ -10,17 +10,23 @@ use Rattle.h264_sets.specs.Sets.{Maps, IsActive, sps_of, pps_of, with_sps_of, pa
 use Rattle.h264_sets.specs.declared.SetPair.{SetPair}
 use Rattle.h264_header.specs.declared.header.Header.{Header}
 use Rattle.h264_header.specs.Layout.{has_lengths, is_accepted, if_accepted, sps_named, sets_of}
-use Rattle.h264_header.specs.Picture.{begins_picture, picture_elements, is_idr}
+use Rattle.h264_header.specs.Picture.{begins_picture, picture_elements, is_idr, idr_differs}
 use Rattle.h264_header.proofs.Named.{named-pair}
+use Rattle.h264_bits.specs.declared.element.Found.{Found}
+use Rattle.h264_marking.specs.Frames.{References}
+use Rattle.h264_marking.specs.Gaps.{unused_short_term_frame_nums, all_filled}
+use Rattle.h264_marking.specs.Ended.{numbering_of}
 use Rattle.h264_verify.specs.Demands.{judged}
 use Rattle.h264_verify.specs.declared.slices.Slices.{Slices}
 use Rattle.h264_verify.specs.History.{History, with_pair, maps_of}
 use Rattle.h264_verify.specs.Slices.{is_active}
-use Rattle.h264_verify.specs.Pictures.{CodedSlice, CodedPicture, last_slice, open_of, begins_after, joined_to, runs_of}
+use Rattle.h264_verify.specs.Pictures.{CodedSlice, CodedPicture, last_slice, goes_on, open_of, begins_after, joined_to, runs_of, held_after}
 use Rattle.h264_verify.specs.Keeping.{KeepsSlices, standing_demands}
 use Rattle.h264_verify.specs.Sound.{IsMarked, HasSet, HasPps, AreSound, has_ended, HasActive, NamesSet}
+use Rattle.h264_verify.specs.Held.{has_gap_filled}
 use Rattle.h264_verify.proofs.Slicing.{content-active}
 use Rattle.h264_verify.proofs.Sound.{ended-sound-of}
+use Rattle.h264_verify.proofs.Ruling.{held-all}
 
 -- ---- rules that are met
 
@@ -89,10 +95,39 @@ usable-set maps id pps sps named =
 
 -- ---- with one more slice
 
-pub joined-sound : (begins on : Bool) (slice : CodedSlice) (pictures : List CodedPicture) → AreSound (has_ended on begins) pictures → IsMarked slice.header → is_usable slice.sps ≡ true → (begins ≡ true → is_idr slice.header ≡ false → HasSet slice.sps pictures) → AreSound false (joined_to begins slice pictures)
-joined-sound true on slice pictures s m u set = (record { marked = m; usable = u; set = set refl }, λ e. cc, ended-sound-of on pictures s)
-joined-sound false on slice [] s m u set = tt
-joined-sound false on slice (p ∷ ps) s m u set = (record { marked = s.0.marked; usable = s.0.usable; set = s.0.set }, λ e. cc, s.2)
+-- one that goes on with a picture is of an IDR picture where the slice before it is
+or-none : (a b : Bool) → (a || b) ≡ false → a ≡ false
+or-none true b h = cc
+or-none false b h = refl
+
+or-last : (a b : Bool) → (a || b) ≡ false → b ≡ false
+or-last true b h = cc
+or-last false b h = h
+
+idr-by : (a b : Option (Found ℕ)) → idr_differs a b ≡ false → is_some b ≡ is_some a
+idr-by None None h = refl
+idr-by None (Some y) h = cc
+idr-by (Some x) None h = cc
+idr-by (Some x) (Some y) h = refl
+
+idr-same : (old new : Header) → begins_picture (picture_elements old) (picture_elements new) ≡ false → is_idr new ≡ is_idr old
+idr-same old new h = idr-by old.idr_pic_id new.idr_pic_id (or-last _ _ (or-none _ _ h))
+
+pub joined-sound : (begins on : Bool) (slice : CodedSlice) (pictures : List CodedPicture) → begins ≡ begins_after (open_of on pictures) slice.header → AreSound (has_ended on begins) pictures → IsMarked slice.header → is_usable slice.sps ≡ true → (begins ≡ true → is_idr slice.header ≡ false → HasSet slice.sps pictures) → (begins ≡ true → has_gap_filled (record { first = slice; later = [] }) pictures ≡ true) → AreSound false (joined_to begins slice pictures)
+joined-sound true on slice pictures b s m u set f = (record { marked = m; usable = u; set = set refl; filled = f refl; last = refl }, λ e. cc, ended-sound-of on pictures s)
+joined-sound false on slice [] b s m u set f = tt
+joined-sound false true slice (p ∷ ps) b s m u set f = (record { marked = s.0.marked; usable = s.0.usable; set = s.0.set; filled = s.0.filled; last = idr-same (last_slice p).header slice.header (sym b) ∙ s.0.last }, λ e. cc, s.2)
+joined-sound false false slice (p ∷ ps) b s m u set f = cc
+
+-- the gap before a picture that begins was filled
+pub gap-filled : (before : History) (begins : Bool) (old : Slices) (held : References) (slice : CodedSlice) → KeepsSlices before begins old → begins ≡ true → all_filled (numbering_of slice.sps slice.header) (unused_short_term_frame_nums (is_idr slice.header) old.prev_ref_frame_num (numbering_of slice.sps slice.header)) old.held ≡ Some held → has_gap_filled (record { first = slice; later = [] }) (runs_of before) ≡ true
+gap-filled before false old held slice k b e = cc
+gap-filled before true old held slice k b e =
+    let n = numbering_of slice.sps slice.header in
+    let idr = is_idr slice.header in
+    ap (λ (o : Option References). is_some o)
+    (ap (λ (prev : ℕ). all_filled n (unused_short_term_frame_nums idr prev n) (held_after (runs_of before))) (sym k.kept.prev_ref)
+    ∙ ap (λ (r : References). all_filled n (unused_short_term_frame_nums idr old.prev_ref_frame_num n) r) (sym (held-all (goes_on before) (runs_of before) old k.kept)) ∙ e)
 
 named-pps : (maps : Maps) (id : ℕ) (pps : Pps) (sps : Sps) → sets_of maps id ≡ Some (pps, sps) → pps_of maps id ≡ Some pps
 named-pps maps id pps sps named =

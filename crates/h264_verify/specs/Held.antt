@@ -1,11 +1,10 @@
 -- Which frames the buffer keeps for reference. A working form.
-use Rattle.std.specs.Prelude.{◌≡◌, ℕ, ◌==◌, ◌&&◌, Bool, true, false, Option, Some, None, List, [], ◌∷◌}
+use Rattle.std.specs.Prelude.{◌≡◌, ℕ, ◌==◌, ◌&&◌, Bool, true, false, Option, Some, None, List}
 use Rattle.std.specs.List.{list_any}
 use Rattle.std.specs.Option.{is_some}
 use Rattle.h264_bits.specs.declared.element.Found.{Found}
 use Rattle.h264_header.specs.declared.header.Marking.{Marking}
 use Rattle.h264_header.specs.declared.header.Marking.TheVariants as marking
-use Rattle.h264_header.specs.Picture.{is_idr}
 use Rattle.h264_marking.specs.Frames.{References}
 use Rattle.h264_marking.specs.Gaps.{all_filled}
 use Rattle.h264_marking.specs.Ended.{numbering_of}
@@ -41,12 +40,3 @@ is_own (Some found) = is_idr_marking found.value
 -- the gap before a picture behind these was filled (8.2.5.2)
 abbrev pub has_gap_filled : CodedPicture → List CodedPicture → Bool
 has_gap_filled p ps = is_some (all_filled (numbering_of p.first.sps p.first.header) (missing_before p ps) (held_after ps))
-
--- each of these pictures was entered behind a gap that was filled, and an IDR picture is marked as one
-pub record IsEntered (p : CodedPicture) (ps : List CodedPicture) : Type 0 where
-  pub filled : has_gap_filled p ps ≡ true
-  pub own : is_idr p.first.header ≡ true → is_own p.first.header.marking ≡ true
-
-abbrev pub AreEntered : List CodedPicture → Type 0
-AreEntered [] = Unit {0}
-AreEntered (p ∷ ps) = IsEntered p ps × AreEntered ps

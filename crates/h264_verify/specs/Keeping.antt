@@ -12,6 +12,7 @@ use Rattle.h264_pps.specs.declared.Pps.{Pps}
 use Rattle.h264_sps.specs.declared.sps.Sps.{Sps}
 use Rattle.h264_header.specs.declared.header.Header.{Header}
 use Rattle.h264_header.specs.declared.header.Marking.{Marking}
+use Rattle.h264_header.specs.Layout.{sets_of}
 use Rattle.h264_header.specs.Picture.{begins_picture, picture_elements, is_idr, is_reference}
 use Rattle.h264_sets.specs.Sets.{Maps}
 use Rattle.h264_verify.specs.declared.judge.State.{State}
@@ -46,7 +47,12 @@ use Rattle.h264_marking.specs.Ended.{numbering_of}
 use Rattle.h264_verify.specs.Steps.{Step, needs}
 use Rattle.h264_verify.specs.Slices.{is_i, has_i, has_p, states_type, is_idr_due, newest_idr_of, first_slice_rules, later_slice_rules, idr_demand, set_demand, type_demand, idr_num_demand, gap_rules, id_demand, count_demand, qp_demand, list_demand, marking_demand}
 use Rattle.h264_verify.specs.Lists.{list_of, named_in}
+use Rattle.h264_verify.specs.Data.{coded_so_far}
 use Rattle.h264_verify.specs.Sound.{AreSound, has_ended, HasActive, NamesSet}
+
+-- a slice of an IDR picture is I (7.4.3)
+abbrev pub is_typed : Header → Bool
+is_typed h = is_i h.kind.value || not (is_idr h)
 
 -- which types these slices have, and whether one says that all have its type
 abbrev pub types_of : List CodedSlice → Types
@@ -212,6 +218,20 @@ pub record IsNear (d : Decoder) (n place : ℕ) : Type 0 where
   pub to : place < first_place d.work + places d.work
   pub near : place < first_place d.work + PLACES
 
+-- it has such a place
+pub record HasPlace (d : Decoder) (n : ℕ) : Type 0 where
+  pub place : ℕ
+  pub near : IsNear d n place
+
+-- the work holds the macroblocks before a slice of this number, and each picture that the slice's list names has its place
+pub record SlicesSome (number : ℕ) (references : List (Option ℕ)) (d : Decoder) : Type 0 where
+  pub width : ℕ
+  pub size : ℕ
+  pub macroblocks : List CodedMacroblock
+  pub holds : Holds width size macroblocks d.work
+  pub next : number ≡ length macroblocks
+  pub named : (k n : ℕ) → k < 16 → get_or references k None ≡ Some n → HasPlace d n
+
 -- those that the list of a slice names are
 pub record HasReferences (frames : ℕ → Frame) (pictures : List CodedPicture) (count : ℕ) (d : Decoder) (s : CodedSlice) : Type 0 where
   pub each : (k n : ℕ) → k < 16 → get_or (named_in pictures s) k None ≡ Some n → IsReference frames count d n
@@ -289,6 +309,21 @@ abbrev pub BeginsFrames : (ℕ → Frame) → Bool → CodedSlice → List Coded
 BeginsFrames frames true slice pictures d = BegunFrames frames slice pictures d
 BeginsFrames frames false slice [] d = ⊥
 BeginsFrames frames false slice (p ∷ ps) d = KeepsFrames frames true false (p ∷ ps) d
+
+-- there is a slice whose rules are met, with these sets and this header, before whose data this is kept
+pub record ReadsSome (begins : Bool) (held : References) (sets : Maps) (header : Header) (d : Decoder) : Type 0 where
+  pub frames : ℕ → Frame
+  pub on : Bool
+  pub pictures : List CodedPicture
+  pub slice : CodedSlice
+  pub sets_are : sets_of sets slice.header.pic_parameter_set_id.value ≡ Some (slice.pps, slice.sps)
+  pub header_is : header ≡ record slice.header { marking = header.marking }
+  pub held_are : held ≡ held_in (joined_to begins slice pictures)
+  pub next : number_of slice ≡ length (coded_so_far begins pictures)
+  pub live : begins ≡ false → on ≡ true
+  pub sound : AreSound false (joined_to begins slice pictures)
+  pub typed : is_typed slice.header ≡ true
+  pub keeps : EntersBy frames begins slice on pictures d
 
 unfoldable pub EntersDecoder : Mode → (ℕ → Frame) → Bool → CodedSlice → Bool → List CodedPicture → Decoder → Type 0
 EntersDecoder modes.Units frames begins slice on pictures d = Unit {0}

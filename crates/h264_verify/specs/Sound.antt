@@ -8,12 +8,14 @@ use Rattle.h264_sets.specs.Sets.{Maps, IsActive, pps_of}
 use Rattle.h264_header.specs.declared.header.Header.{Header}
 use Rattle.h264_header.specs.Picture.{is_idr, is_reference}
 use Rattle.h264_verify.specs.Pictures.{CodedPicture, last_slice, held_in, ended_by, is_met}
+use Rattle.h264_verify.specs.Held.{is_own, has_gap_filled}
 
--- A header that was read has a marking where its picture is a reference, and nowhere else (7.3.3); an IDR picture is one (7.4.1).
+-- A header that was read has a marking where its picture is a reference, and nowhere else (7.3.3); an IDR picture is one (7.4.1), and is marked as one (7.3.3.3).
 pub record IsMarked (h : Header) : Type 0 where
   pub some : is_reference h ≡ true → is_some h.marking ≡ true
   pub none : is_reference h ≡ false → h.marking ≡ None
   pub idr : is_idr h ≡ true → is_reference h ≡ true
+  pub own : is_idr h ≡ true → is_own h.marking ≡ true
 
 -- the newest of these pictures has this sequence parameter set
 abbrev pub HasSet : Sps → List CodedPicture → Type 0
@@ -25,11 +27,14 @@ abbrev pub HasPps : Pps → List CodedPicture → Type 0
 HasPps pps [] = ⊥
 HasPps pps (p ∷ ps) = p.first.pps ≡ pps
 
--- a picture behind these: one that is no IDR picture has the set of the one before it (7.4.1.2.1)
+-- a picture behind these: one that is no IDR picture has the set of the one before it (7.4.1.2.1), the gap before it was filled (8.2.5.2), and its last slice is of
+-- an IDR picture where its first one is (7.4.1.2.4)
 pub record Follows (p : CodedPicture) (ps : List CodedPicture) : Type 0 where
   pub marked : IsMarked p.first.header
   pub usable : is_usable p.first.sps ≡ true
   pub set : is_idr p.first.header ≡ false → HasSet p.first.sps ps
+  pub filled : has_gap_filled p ps ≡ true
+  pub last : is_idr (last_slice p).header ≡ is_idr p.first.header
 
 -- its marking can be met (8.2.5)
 abbrev pub IsMet : CodedPicture → List CodedPicture → Type 0

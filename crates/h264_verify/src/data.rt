@@ -22,7 +22,7 @@ ghost use Rattle.h264_verify.specs.Slices.{first_mb_demands};
 ghost use Rattle.h264_verify.specs.Lists.{list_of};
 ghost use Rattle.h264_verify.specs.Data.{picture_set, coded_so_far, data_in};
 ghost use Rattle.h264_verify.specs.Sound.{HasPps};
-ghost use Rattle.h264_verify.specs.Keeping.{KeepsSlices, KeepsDecoder, KeepsSomeFrames, EntersSome, EntersBy, EntersFrames, KeepsFrames, HoldsCoded, HoldsNewest, HoldsData, HoldsBefore, BeginsFrames, coded_before};
+ghost use Rattle.h264_verify.specs.Keeping.{KeepsSlices, KeepsDecoder, KeepsSomeFrames, EntersSome, EntersBy, ReadsSome, EntersFrames, KeepsFrames, HoldsCoded, HoldsNewest, HoldsData, HoldsBefore, BeginsFrames, coded_before};
 ghost use Rattle.h264_verify.specs.UnitOutcome.{steps_outcome, structure_from};
 ghost use Rattle.h264_verify.specs.Feeding.{EndsFrames, ReadsData};
 
@@ -164,6 +164,7 @@ fn begin_if(begins: bool, sps: &Sps, decoder: &mut Decoder) -> Result<(), Stop>
     requires usable { is_usable sps.now ≡ true }
     requires kept { begins ≡ true → EntersSome decoder.old }
     ensures holds { (frames : ℕ → Frame) (on : Bool) (s : CodedSlice) (pictures : List CodedPicture) → s.sps ≡ sps.now → (begins ≡ false → on ≡ true) → EntersBy frames begins s on pictures decoder.old → OnOk result (BeginsFrames frames begins s pictures decoder.new) }
+    ensures later { begins ≡ false → result ≡ Ok tt }
     ensures err { IfErr result (λ e. e ≡ Stop.Memory) }
 {
     if !begins {
@@ -172,7 +173,7 @@ fn begin_if(begins: bool, sps: &Sps, decoder: &mut Decoder) -> Result<(), Stop>
     decoder.begin(sps)
 }
 
-/// Reads the slice data behind a header whose rules are met.
+/// Reads the slice data behind a header whose rules are met. Memory: a picture begins, and its places are refused.
 pub(crate) fn read_data<S: Elements>(
     begins: bool,
     held: &Held,
@@ -185,8 +186,9 @@ pub(crate) fn read_data<S: Elements>(
     requires room { S.failures sink.old < 2 ^ 64 - 1 }
     requires id { header.now.pic_parameter_set_id.value ≤ 255 }
     requires named { is_some (sets_of sets.now header.now.pic_parameter_set_id.value) ≡ true }
-    requires kept { begins ≡ true → EntersSome decoder.old }
+    requires kept { ReadsSome begins held.now sets.now header.now decoder.old }
     ensures reads { (frames : ℕ → Frame) (on : Bool) (pictures : List CodedPicture) (s : CodedSlice) → sets_of sets.now s.header.pic_parameter_set_id.value ≡ Some (s.pps, s.sps) → header.now ≡ record s.header { marking = header.now.marking } → held.now ≡ held_in (joined_to begins s pictures) → s.header.first_mb_in_slice.value ≡ length (coded_so_far begins pictures) → s.macroblocks ≡ [] → (begins ≡ false → on ≡ true) → (begins ≡ false → HasPps s.pps pictures) → EntersBy frames begins s on pictures decoder.old → ReadsData S.took S.failures frames (structure_from (data_in begins pictures s) bits.old.body bits.old.at) (λ ms. joined_to begins (record s { macroblocks = ms }) pictures) decoder.new sink.old sink.new result }
+    ensures no_memory { begins ≡ false → IsErrOf result Stop.Memory → ⊥ }
     ensures kept { OnOk result (S.failures sink.new ≡ S.failures sink.old) }
 {
     let Some((pps, sps)) = named_sets(sets, header.pic_parameter_set_id.value) else {

@@ -46,7 +46,7 @@ fn format_of(sps: &Sps) -> Format
 }
 
 impl Decoder {
-    ghost use Rattle.std.specs.Prelude.{◌≡◌, ℕ, ◌+◌, ◌-◌, ◌<◌, ◌≤◌, ◌^◌, ◌⊎◌, true, false, [], ◌∷◌, List, Some, None, length, get_or, OnOk, IfOk, IfErr};
+    ghost use Rattle.std.specs.Prelude.{◌≡◌, ℕ, ◌+◌, ◌-◌, ◌<◌, ◌≤◌, ◌^◌, ◌⊎◌, true, false, [], ◌∷◌, List, Some, None, length, get_or, OnOk, IfErr, IsErrOf};
     ghost use Rattle.h264_base.specs.declared.mode.Mode.{Mode};
     ghost use Rattle.h264_base.specs.declared.mode.Mode.TheVariants as modes;
     ghost use Rattle.h264_plane.specs.declared.frame.Frame.{Frame};
@@ -67,7 +67,7 @@ impl Decoder {
     ghost use Rattle.h264_verify.specs.Lists.{context_in};
     ghost use Rattle.h264_verify.specs.Decoding.{number_of};
     ghost use Rattle.h264_verify.specs.Buffering.{ended_picture, told_frames, end_frames};
-    ghost use Rattle.h264_verify.specs.Keeping.{format_of, HasFormat, IsSized, AreOlder, EntersSome, IsRoomFor, KeepsOutput, FillsFrames, KeepsFrames, KeepsDecoder, KeepsSomeGap, KeepsSomeEnd, EntersFrames, BegunFrames, HoldsBegun, IsNear};
+    ghost use Rattle.h264_verify.specs.Keeping.{format_of, HasFormat, IsSized, AreOlder, EntersSome, IsRoomFor, KeepsOutput, FillsFrames, KeepsFrames, KeepsDecoder, KeepsSomeGap, KeepsSomeEnd, EntersFrames, BegunFrames, HoldsBegun, IsNear, HasPlace, SlicesSome};
     ghost use Rattle.h264_verify.specs.UnitOutcome.{steps_outcome, structure_from};
     ghost use Rattle.h264_verify.specs.Feeding.{EndsFrames, ReadsSlice};
 
@@ -121,36 +121,34 @@ impl Decoder {
         Ok(())
     }
 
-    /// The place of a reference picture. Memory: it has none among those of the sequence.
-    fn place_of(&self, picture: u64) -> Result<u8, Stop>
-        ensures near { IfOk result (λ place. IsNear self.now picture place) }
-        ensures err { IfErr result (λ e. e ≡ Stop.Memory) }
+    /// The place of a reference picture: one of the sequence's.
+    fn place_of(&self, picture: u64) -> u8
+        requires { HasPlace self.now picture }
+        ensures { IsNear self.now picture result }
     {
         let first = self.work.first_place();
         let Some(place) = self.output.place_of(picture) else {
-            return Err(Stop::Memory);
+            unreachable!()
         };
-        if place < first || first + self.work.places() <= place {
-            return Err(Stop::Memory);
-        }
-        Ok(place as u8)
+        prove!(place < first + 17);
+        place as u8
     }
 
-    /// The places of reference pictures by refIdxL0; 0 where there is none. Memory: one has none among those of the sequence.
-    fn places(&self, references: &[Option<u64>; 16]) -> Result<[u8; 16], Stop>
-        ensures near { IfOk result (λ places. (k n : ℕ) → k < 16 → get_or references.now k None ≡ Some n → IsNear self.now n (get_or places k 0)) }
-        ensures err { IfErr result (λ e. e ≡ Stop.Memory) }
+    /// The places of reference pictures by refIdxL0; 0 where there is none.
+    fn places(&self, references: &[Option<u64>; 16]) -> [u8; 16]
+        requires { (k n : ℕ) → k < 16 → get_or references.now k None ≡ Some n → HasPlace self.now n }
+        ensures { (k n : ℕ) → k < 16 → get_or references.now k None ≡ Some n → IsNear self.now n (get_or result k 0) }
     {
         let mut places = [0u8; 16];
         for k in 0..16 {
             if let Some(picture) = references[k] {
-                places[k] = self.place_of(picture)?;
+                places[k] = self.place_of(picture);
             }
         }
-        Ok(places)
+        places
     }
 
-    /// Reads the slice data of a slice of the picture that was begun. Write: the sink failed.
+    /// Reads the slice data of a slice of the picture that was begun, whose reference pictures have places. Takes no memory. Write: the sink failed.
     pub(crate) fn slice<S: Elements>(
         &mut self,
         bits: &mut Bits,
@@ -162,10 +160,12 @@ impl Decoder {
         requires usable { Usable slice.now }
         requires qp { slice.now.qp ≤ 51 }
         requires room { S.failures sink.old < 2 ^ 64 - 1 }
+        requires kept { SlicesSome slice.now.number slice.now.references self.old }
         ensures reads { (frames : ℕ → Frame) (p : CodedPicture) (ps : List CodedPicture) (slices : List CodedSlice) (s : CodedSlice) (macroblocks : List CodedMacroblock) (t : Turn) → slice.now ≡ context_in (p ∷ ps) s → slice_filter pps.now header.now ≡ slice_filter s.pps s.header → number_of s ≡ length macroblocks → s.pps ≡ p.first.pps → KeepsOutput frames t (length ps) self.old → HoldsBegun frames p ps slices macroblocks self.old → ReadsSlice S.took S.failures frames (structure_from (slice_data (transform_fits slice.now) p.first.sps.frame_size.width (picture_size p.first.sps) slice.now macroblocks) bits.old.body bits.old.at) (λ ms. HoldsBegun frames p ps (s ∷ slices) ms self.new × KeepsOutput frames t (length ps) self.new) sink.old sink.new result }
+        ensures no_memory { IsErrOf result Stop.Memory → ⊥ }
         ensures kept { OnOk result (S.failures sink.new ≡ S.failures sink.old) }
     {
-        let places = self.places(&slice.references)?;
+        let places = self.places(&slice.references);
         self.work
             .slice(bits, slice, &slice_samples(pps, header, places), sink)
     }

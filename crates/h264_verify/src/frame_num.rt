@@ -167,6 +167,7 @@ pub(crate) fn check_gap<S: FrameSink>(
     ensures no_memory { IsErrOf result Stop.Memory → ⊥ }
     ensures format { decoder.new.format ≡ decoder.old.format }
     ensures held { OnOk result (held.new ≡ entered (is_idr header.now) prev_ref_frame_num.old (numbering_of sps.now header.now) held.old) }
+    ensures filled { OnOk result (all_filled (numbering_of sps.now header.now) (unused_short_term_frame_nums (is_idr header.now) prev_ref_frame_num.old (numbering_of sps.now header.now)) held.old ≡ Some held.new) }
     ensures prev { OnOk result (prev_ref_frame_num.new ≡ prev_ref_frame_num_behind (is_idr header.now) (is_reference header.now) (resets header.now.marking) (numbering_of sps.now header.now) prev_ref_frame_num.old) }
     ensures kept { OnOk result (S.failures sink.new ≡ S.failures sink.old) }
 {

@@ -9,7 +9,7 @@ ghost use Rattle.h264_verify.specs.declared.judge.Summary.{Summary};
 ghost use Rattle.h264_verify.specs.Pictures.{CodedPicture, held_in};
 ghost use Rattle.h264_verify.specs.Buffering.{within_newest};
 ghost use Rattle.h264_verify.specs.Sound.{AreSound};
-ghost use Rattle.h264_verify.specs.Held.{AreAmong, AreEntered};
+ghost use Rattle.h264_verify.specs.Held.{AreAmong};
 ghost use Rattle.h264_verify.specs.Verdict.{Verdict, AreLegal, Holds};
 ghost use Rattle.h264_verify.specs.Telling.{calls_of, AreDecoded};
 ghost use Rattle.h264_verify.specs.History.{History};
@@ -31,10 +31,9 @@ pub fn some_verdict()
     ensures { (mode : Mode) (bytes : List ℕ) → (told : List Told) × (answer : Result Summary Stop) × Verdict mode bytes told answer }
 {}
 
-/// While a picture is decoded, each picture that is held for reference has its frame in the buffer (C.4.4, C.4.5): of pictures whose rules were met, each
-/// entered behind a gap that was filled.
+/// While a picture is decoded, each picture that is held for reference has its frame in the buffer (C.4.4, C.4.5): of pictures whose rules were met.
 pub fn held_pictures_stand()
-    ensures { (ended : Bool) (p : CodedPicture) (ps : List CodedPicture) → AreSound ended (p ∷ ps) → AreEntered (p ∷ ps) → AreAmong (held_in (p ∷ ps)) (within_newest (p ∷ ps)).buffer }
+    ensures { (ended : Bool) (p : CodedPicture) (ps : List CodedPicture) → AreSound ended (p ∷ ps) → AreAmong (held_in (p ∷ ps)) (within_newest (p ∷ ps)).buffer }
 {}
 
 /// A stream has one family of frames: two families, by number in decoding order, in each of which every picture is decoded from the frames that its lists

@@ -8,7 +8,7 @@ ghost use Rattle.h264_base.specs.Call.{OfSlice};
 ghost use Rattle.h264_header.specs.Layout.{sets_of, has_lengths};
 ghost use Rattle.h264_base.specs.declared.mode.Mode.TheVariants as modes;
 ghost use Rattle.h264_header.specs.declared.header.Header.{Header};
-ghost use Rattle.h264_marking.specs.Gaps.{entered, unused_short_term_frame_nums};
+ghost use Rattle.h264_marking.specs.Gaps.{entered, all_filled, unused_short_term_frame_nums};
 ghost use Rattle.h264_near.specs.Coded.{CodedMacroblock};
 ghost use Rattle.h264_poc.specs.declared.picture.Picture.{Picture};
 ghost use Rattle.h264_poc.specs.Counts.{Keeps as KeepsCounts};
@@ -20,7 +20,7 @@ ghost use Rattle.h264_dpb.specs.Turns.{Turn, turn_then};
 ghost use Rattle.h264_verify.specs.Telling.{Said, took_with};
 ghost use Rattle.h264_verify.specs.Buffering.{gaps_turn, ended_picture, frame_count, newest_count};
 ghost use Rattle.h264_verify.specs.Sound.{IsMarked};
-ghost use Rattle.h264_verify.specs.Keeping.{KeepsSlices, KeepsDecoder, KeepsGap, KeepsSomeGap, GoesWith, KeepsSomeRules, KeepsSomeSlice, EntersDecoder, HoldsEnd, HoldsOpen, IsLeft, begins_by, coded_before, first_by, later_by, standing_demands, slice_rules, Entered};
+ghost use Rattle.h264_verify.specs.Keeping.{KeepsSlices, KeepsDecoder, KeepsGap, KeepsSomeGap, GoesWith, KeepsSomeRules, KeepsSomeSlice, EntersDecoder, HoldsEnd, HoldsOpen, IsLeft, begins_by, coded_before, first_by, later_by, standing_demands, slice_rules, Entered, is_typed};
 ghost use Rattle.h264_verify.specs.Feeding.{JudgesSlice};
 ghost use Rattle.h264_verify.specs.UnitOutcome.{steps_outcome};
 ghost use Rattle.h264_units.specs.Stream.{NalUnit as UnitView};
@@ -122,6 +122,8 @@ fn check_first_slice<S: FrameSink>(
     ensures counts { (pictures : List Picture) → KeepsCounts pictures slices.old.counts → OnOk result (KeepsCounts (picture_of sps.now header.now ∷ pictures) slices.new.counts) }
     ensures count { (pictures : List Picture) → KeepsCounts pictures slices.old.counts → OnOk result (slices.new.count ≡ newest_count (picture_of sps.now header.now ∷ pictures)) }
     ensures held { OnOk result (slices.new.held ≡ entered (is_idr header.now) slices.old.prev_ref_frame_num (numbering_of sps.now header.now) slices.old.held) }
+    ensures filled { OnOk result (all_filled (numbering_of sps.now header.now) (unused_short_term_frame_nums (is_idr header.now) slices.old.prev_ref_frame_num (numbering_of sps.now header.now)) slices.old.held ≡ Some slices.new.held) }
+    ensures typed { OnOk result (is_typed header.now ≡ true) }
     ensures prev { OnOk result (slices.new.prev_ref_frame_num ≡ prev_ref_frame_num_behind (is_idr header.now) (is_reference header.now) (resets header.now.marking) (numbering_of sps.now header.now) slices.old.prev_ref_frame_num) }
     ensures others { slices.new ≡ record slices.old { counts = slices.new.counts; count = slices.new.count; prev_ref_frame_num = slices.new.prev_ref_frame_num; held = slices.new.held } }
     ensures kept { OnOk result (S.failures sink.new ≡ S.failures sink.old) }
@@ -147,6 +149,7 @@ fn check_first_slice<S: FrameSink>(
 fn check_later_slice(slices: &Slices, pps: &Pps, sps: &Sps, header: &Header) -> Result<(), Stop>
     requires { has_lengths sps.now ≡ true }
     ensures judged { result ≡ judged (later_by slices.now pps.now sps.now header.now) }
+    ensures typed { OnOk result (is_typed header.now ≡ true) }
     ensures no_memory { IsErrOf result Stop.Memory → ⊥ }
 {
     check_type(sps, header)?;
@@ -198,6 +201,8 @@ fn check_rules<S: FrameSink>(
     ensures plays { (frames : ℕ → Frame) (before : History) (unit : UnitView) → bit ≡ 8 * unit.from → KeepsSlices before begins slices.old → begins ≡ begins_at before header.now → KeepsDecoder mode frames (goes_on before) begins (runs_of before) decoder.old → Plays (took_with frames S.took) S.failures (λ x. x) (steps_outcome (slice_rules mode begins (runs_of before) (with_sets unit header.now [] (pps.now, sps.now)))) sink.old sink.new result }
     ensures entered { (before : History) (unit : UnitView) (macroblocks : List CodedMacroblock) → bit ≡ 8 * unit.from → KeepsSlices before begins slices.old → begins ≡ begins_at before header.now → OnOk result (Entered before begins (with_sets unit header.now macroblocks (pps.now, sps.now)) slices.new) }
     ensures frames { (frames : ℕ → Frame) (before : History) (unit : UnitView) → KeepsSlices before begins slices.old → begins ≡ begins_at before header.now → KeepsDecoder mode frames (goes_on before) begins (runs_of before) decoder.old → OnOk result (EntersDecoder mode frames begins (with_sets unit header.now [] (pps.now, sps.now)) (goes_on before) (runs_of before) decoder.new) }
+    ensures filled { begins ≡ true → OnOk result (all_filled (numbering_of sps.now header.now) (unused_short_term_frame_nums (is_idr header.now) slices.old.prev_ref_frame_num (numbering_of sps.now header.now)) slices.old.held ≡ Some slices.new.held) }
+    ensures typed { OnOk result (is_typed header.now ≡ true) }
     ensures pictures { slices.new.pictures ≡ slices.old.pictures }
     ensures no_memory { IsErrOf result Stop.Memory → ⊥ }
     ensures kept { OnOk result (S.failures sink.new ≡ S.failures sink.old) }
@@ -341,6 +346,7 @@ pub(crate) fn judge_slice<S: FrameSink>(
     ensures sets { OnOk result (sets.new ≡ maps_with sets.old (contents.OfSlice header.old [])) }
     ensures named { OnOk result (is_some (sets_of sets.new header.new.pic_parameter_set_id.value) ≡ true) }
     ensures id { OnOk result (header.new.pic_parameter_set_id.value ≤ 255) }
+    ensures typed { OnOk result (is_typed header.old ≡ true) }
     ensures pictures { OnOk result (slices.new.pictures ≤ slices.old.pictures + 1) }
     ensures no_memory { IsErrOf result Stop.Memory → ⊥ }
     ensures kept { OnOk result (S.failures sink.new ≡ S.failures sink.old) }

@@ -7,8 +7,22 @@ use Rattle.h264_verify.specs.Data.{picture_set, coded_so_far}
 use Rattle.h264_verify.specs.Feeding.{ReadsData}
 use Rattle.h264_verify.specs.UnitOutcome.{structure_from}
 use Rattle.h264_verify.proofs.Playing.{memory-plays}
+use Rattle.h264_verify.proofs.Joining.{enters-some}
+use Rattle.h264_verify.proofs.Naming.{slices-some}
 use Rattle.h264_verify.proofs.Reading.{context-is, filter-is, read-behind, data-same, syntax-is, named-set}
 use Rattle.h264_verify.proofs.data.read_data.Goals as goal
+
+pub begin_if-requires-clause-kept : goal.begin_if-requires-clause-kept
+begin_if-requires-clause-kept g c = λ begun. let k = c.requires.kept in enters-some k.frames c.args.begins k.slice k.on k.pictures c.args.decoder.now begun k.keeps
+
+pub slice-requires-clause-kept : goal.slice-requires-clause-kept
+slice-requires-clause-kept g c =
+    let k = c.requires.kept in
+    let sps-is = named-set c.args.sets.now c.args.header.now k.slice _ _ c.in-Some.ensures.some k.sets_are k.header_is in
+    let begun = c.in_ok-begin_if.ensures.holds k.frames k.on k.slice k.pictures (sym sps-is) k.live k.keeps in
+    let items = c.as_slice.ensures.value ∙ c.list_of-list.ensures in
+    let context = context-is c.args.begins k.pictures k.slice c.args.sets.now c.args.header.now _ _ _ _ _ _ c.slice_context-slice.ensures.value c.in-Some.ensures.some k.sets_are k.header_is c.numbering_of-numbering.ensures k.held_are items in
+    slices-some k.frames k.slice c.begin_if.new.decoder k.typed c.args.begins k.pictures _ context k.next k.sound begun
 
 pub returns-in_err-begin_if-clause-reads : goal.returns-in_err-begin_if-clause-reads
 returns-in_err-begin_if-clause-reads g c =

@@ -70,3 +70,6 @@ returns-clause-plays g c = λ frames t next k.
     rules-on (took_with frames g.S.Elements.took) g.S.Elements.failures (gap_demand idr c.args.sps.now.gaps_in_frame_num_value_allowed_flag bit prev n ∷ []) (missing ++ needs new) c.args.sink.now _ _ _ (rw (c.gap_before-gap.ensures, c.numbering_of-numbering.ensures, c.is_some-idr.ensures) at c.in_ok-check_missing.ensures)
     (steps-on (took_with frames g.S.Elements.took) g.S.Elements.failures (λ _. tt) missing (needs new) _ _ _ _ _ ((rw (c.gap_before-gap.ensures, c.numbering_of-numbering.ensures, c.is_some-idr.ensures) at c.in_ok-last.ensures.plays) frames t next k)
     (rules-play (took_with frames g.S.Elements.took) g.S.Elements.failures new _ _ ((rw (c.numbering_of-numbering.ensures, c.is_some-idr.ensures) at c.in_ok-check_new.ensures) ∙ new-filled idr (is_reference c.args.header.now) bit prev n c.args.held.now _ (rw (c.gap_before-gap.ensures, c.numbering_of-numbering.ensures, c.is_some-idr.ensures) at c.in_ok-last.ensures.held))))
+
+pub returns-clause-filled : goal.returns-clause-filled
+returns-clause-filled g c = rw (c.gap_before-gap.ensures, c.numbering_of-numbering.ensures, c.is_some-idr.ensures) at c.in_ok-last.ensures.held

@@ -9,6 +9,7 @@ use Rattle.h264_verify.specs.Slices.{type_demand, idr_num_demand, gap_rules, id_
 use Rattle.h264_verify.specs.Lists.{list_of}
 use Rattle.h264_verify.proofs.Slicing.{stop-one, pass-one}
 use Rattle.h264_verify.proofs.Stepwise.{at-first, at-second, at-between, behind-between}
+use Rattle.h264_verify.proofs.Ruling.{ok-any, type-met}
 use Rattle.h264_verify.proofs.slices.check_first_slice.Goals as goal
 
 pub returns-in_err-check_type-clause-plays : goal.returns-in_err-check_type-clause-plays
@@ -130,3 +131,6 @@ returns-clause-plays g c = λ frames t next pictures k kept.
     (pass-one count (qp ∷ list ∷ []) _ _ (c.in_ok-count_picture.ensures.judged pictures kept)
     (pass-one qp (list ∷ []) _ _ c.in_ok-check_qp.ensures
     (rw (c.numbering_of.ensures, c.in_ok-check_gap.ensures.held) at c.check_list.ensures))))
+
+pub returns-clause-typed : goal.returns-clause-typed
+returns-clause-typed g c = ok-any c.check_list.result (type-met c.args.sps.now c.args.header.now _ c.in_ok-check_type.ensures)

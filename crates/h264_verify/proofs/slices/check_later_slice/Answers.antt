@@ -5,6 +5,7 @@ use Rattle.h264_verify.specs.Slices.{type_demand, idr_num_demand, qp_demand, lis
 use Rattle.h264_verify.specs.Lists.{list_of}
 use Rattle.h264_verify.specs.Keeping.{marking_by, same_type_by}
 use Rattle.h264_verify.proofs.Slicing.{stop-one, pass-one}
+use Rattle.h264_verify.proofs.Ruling.{ok-any, type-met}
 use Rattle.h264_verify.proofs.slices.check_later_slice.Goals as goal
 
 pub returns-in_err-check_type-clause-judged : goal.returns-in_err-check_type-clause-judged
@@ -34,3 +35,6 @@ returns-in_err-check_list-clause-judged c =
 
 pub returns-clause-judged : goal.returns-clause-judged
 returns-clause-judged c = (pass-one (type_demand c.args.sps.now c.args.header.now) ((same_type_by c.args.slices.now.picture c.args.header.now) ∷ (idr_num_demand c.args.header.now) ∷ (qp_demand c.args.pps.now c.args.header.now) ∷ (list_demand (list_of c.args.header.now.kind.value (numbering_of c.args.sps.now c.args.header.now) c.args.slices.now.held)) ∷ (marking_demand (marking_by c.args.slices.now.picture) c.args.header.now) ∷ []) _ _ c.in_ok-check_type.ensures (pass-one (same_type_by c.args.slices.now.picture c.args.header.now) ((idr_num_demand c.args.header.now) ∷ (qp_demand c.args.pps.now c.args.header.now) ∷ (list_demand (list_of c.args.header.now.kind.value (numbering_of c.args.sps.now c.args.header.now) c.args.slices.now.held)) ∷ (marking_demand (marking_by c.args.slices.now.picture) c.args.header.now) ∷ []) _ _ c.in_ok-check_same_type.ensures (pass-one (idr_num_demand c.args.header.now) ((qp_demand c.args.pps.now c.args.header.now) ∷ (list_demand (list_of c.args.header.now.kind.value (numbering_of c.args.sps.now c.args.header.now) c.args.slices.now.held)) ∷ (marking_demand (marking_by c.args.slices.now.picture) c.args.header.now) ∷ []) _ _ c.in_ok-check_idr_num.ensures (pass-one (qp_demand c.args.pps.now c.args.header.now) ((list_demand (list_of c.args.header.now.kind.value (numbering_of c.args.sps.now c.args.header.now) c.args.slices.now.held)) ∷ (marking_demand (marking_by c.args.slices.now.picture) c.args.header.now) ∷ []) _ _ c.in_ok-check_qp.ensures (pass-one (list_demand (list_of c.args.header.now.kind.value (numbering_of c.args.sps.now c.args.header.now) c.args.slices.now.held)) ((marking_demand (marking_by c.args.slices.now.picture) c.args.header.now) ∷ []) _ _ (rw c.numbering_of.ensures at c.in_ok-check_list.ensures) c.check_marking.ensures)))))
+
+pub returns-clause-typed : goal.returns-clause-typed
+returns-clause-typed c = ok-any c.check_marking.result (type-met c.args.sps.now c.args.header.now _ c.in_ok-check_type.ensures)

@@ -15,7 +15,7 @@ use Rattle.h264_verify.proofs.Entering.{begins-as, slice-keeps}
 use Rattle.h264_verify.specs.Sound.{NamesSet}
 use Rattle.h264_verify.proofs.Ruling.{goes-with}
 use Rattle.h264_verify.proofs.Joining.{data-held}
-use Rattle.h264_verify.proofs.Standing.{stands-if, usable-set, before-active, joined-sound, joined-active, joined-named}
+use Rattle.h264_verify.proofs.Standing.{stands-if, usable-set, before-active, joined-sound, gap-filled, joined-active, joined-named}
 use Rattle.h264_verify.proofs.Judged.{frames-stop, frames-on, standing-stop, place-stop, own-stop, own-on, before-held, ended-is, one-pair}
 use Rattle.h264_verify.proofs.slices.judge_slice.Goals as goal
 
@@ -205,7 +205,7 @@ returns-clause-keeps g c = λ before ms k m.
     let end = c.enter.ensures.end (goes_on before) (runs_of before) slice (λ begun. told ∙ ended-is before c.args.begins slice c.check_rules.new.slices entered begun) entered.picture entered.end b in
     let stands = rw c.from-bit.ensures.value at (c.in_ok-check_standing.ensures.judged _ sets) in
     let usable = usable-set c.args.sets.now c.args.header.now.pic_parameter_set_id.value c.in-Some.named.0.now c.in-Some.named.1.now sets in
-    let sound = joined-sound c.args.begins (goes_on before) slice (runs_of before) kept.sound c.requires.marked usable (stands-if c.args.begins _ (runs_of before) c.args.sets.now c.in-Some.named.1.now _ c.args.header.now (before-active before c.args.begins _ _ kept m) stands) in
+    let sound = joined-sound c.args.begins (goes_on before) slice (runs_of before) b kept.sound c.requires.marked usable (stands-if c.args.begins _ (runs_of before) c.args.sets.now c.in-Some.named.1.now _ c.args.header.now (before-active before c.args.begins _ _ kept m) stands) (λ begun. gap-filled before c.args.begins c.end_if.new.slices _ slice kept begun (c.in_ok-check_rules.ensures.filled begun)) in
     slice-keeps before c.args.unit.now c.args.header.now ms c.args.sets.now c.check_rules.new.slices c.enter.new.slices c.args.begins _ b m sets entered
     sound (joined-active c.args.sets.now slice sets c.args.begins (goes_on before) (runs_of before) _ _ b (before-active before c.args.begins _ _ kept m) stands) (joined-named c.args.sets.now slice sets c.args.begins (goes_on before) (runs_of before) b (subst (λ x. NamesSet (goes_on before) (runs_of before) x) (sym m) kept.named))
     opened end c.enter.ensures.due c.enter.ensures.newest c.enter.ensures.pictures (c.enter.ensures.behind ∙ c.bit_behind.ensures) c.enter.ensures.others

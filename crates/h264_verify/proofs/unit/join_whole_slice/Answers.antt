@@ -11,10 +11,10 @@ use Rattle.h264_verify.specs.Keeping.{KeepsWithin, KeepsDecoder}
 use Rattle.h264_verify.proofs.Playing.{memory-plays}
 use Rattle.h264_verify.proofs.Slicing.{some-of, sets-before}
 use Rattle.h264_verify.proofs.Entering.{begins-as}
-use Rattle.h264_verify.proofs.Joining.{units-with, runs-with, goes-newest, enters-full, enters-some, some-slice}
+use Rattle.h264_verify.proofs.Joining.{units-with, runs-with, goes-newest, enters-full, some-slice}
 use Rattle.h264_verify.proofs.Reading.{header-read, slice-stops, slice-broken, slice-reads, placed, data-there}
 use Rattle.h264_sets.specs.Sets.{Maps}
-use Rattle.h264_verify.specs.Sound.{NamesSet}
+use Rattle.h264_verify.specs.Sound.{AreSound, NamesSet}
 use Rattle.h264_verify.proofs.Standing.{later-set}
 use Rattle.h264_verify.proofs.Marked.{read-marked}
 use Rattle.h264_verify.proofs.unit.join_whole_slice.Goals as goal
@@ -26,11 +26,29 @@ pub judge_slice-requires-clause-marked : goal.judge_slice-requires-clause-marked
 judge_slice-requires-clause-marked g c = read-marked _ _ _ _ c.args.header _ _ _ _ _ _ c.slice_unit-slice_unit.ensures c.requires.fits c.in_ok-read_header.ensures.meets
 
 pub read_data-requires-clause-kept : goal.read_data-requires-clause-kept
-read_data-requires-clause-kept g c = λ begun.
+read_data-requires-clause-kept g c =
     let k = c.requires.kept in
+    let h = c.read_header.new.header in
     let some = some-of _ c.in_ok-read_header.ensures.named in
+    let s = with_sets c.args.unit.now h [] some.0 in
     let j = c.in_ok-judge_slice.ensures.judges k.frames k.before some.0 k.keeps.slices k.keeps.sets some.1 k.keeps.decoder in
-    enters-some j.made c.begins-begins.result (with_sets c.args.unit.now c.read_header.new.header [] some.0) (goes_on k.before) (runs_of k.before) _ begun (enters-full j.made c.begins-begins.result (with_sets c.args.unit.now c.read_header.new.header [] some.0) (goes_on k.before) (runs_of k.before) _ j.enters)
+    let b = begins-as k.before h c.args.state.now.slices _ k.keeps.slices c.begins-begins.ensures in
+    let runs = runs-with k.before c.args.unit.now h [] _ _ some.0 b k.keeps.sets some.1 in
+    let kept = c.in_ok-judge_slice.ensures.keeps k.before [] k.keeps.slices k.keeps.sets in
+    record {
+      frames = j.made;
+      on = goes_on k.before;
+      pictures = runs_of k.before;
+      slice = s;
+      sets_are = sets-before _ _ h _ c.in_ok-judge_slice.ensures.sets some.1;
+      header_is = c.in_ok-judge_slice.ensures.header;
+      held_are = kept.kept.held ∙ ap held_in (sym runs);
+      next = placed c.begins-begins.result (runs_of k.before) h (c.in_ok-judge_slice.ensures.place k.frames k.before k.keeps.slices k.keeps.decoder);
+      live = goes-newest (goes_on k.before) (runs_of k.before) h c.begins-begins.result b;
+      sound = subst (λ (ps : List CodedPicture). AreSound false ps) (sym runs) kept.sound;
+      typed = c.in_ok-judge_slice.ensures.typed;
+      keeps = enters-full j.made c.begins-begins.result s (goes_on k.before) (runs_of k.before) _ j.enters;
+    }
 
 pub returns-in_err-rbsp-clause-joins : goal.returns-in_err-rbsp-clause-joins
 returns-in_err-rbsp-clause-joins g c = let p = err_from_is_err_and c.from_residual.result c.from_residual.ensures.1 in rw (p.1, p.2, c.in_err-rbsp.ensures.err) (λ frames before k. record { made = frames; same = λ n h. refl; after = []; plays = memory-plays _ _ _ _ _; keeps = tt })

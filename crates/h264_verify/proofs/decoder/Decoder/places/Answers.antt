@@ -3,7 +3,7 @@ use Rattle.std.proofs.lemmas.Bool.{cases_lt}
 use Rattle.std.proofs.lemmas.List.{get_or-set_same, get_or-set_other, length-set}
 use Rattle.h264_verify.specs.declared.decoder.Decoder.{Decoder}
 use Rattle.h264_verify.specs.Keeping.{IsNear}
-use Rattle.h264_verify.proofs.decoder.Decoder.places.Goals.{in-Some+in_ok-places, in_default}
+use Rattle.h264_verify.proofs.decoder.Decoder.places.Goals.{in-Some, in_default}
 use Rattle.h264_verify.proofs.decoder.Decoder.places.Goals as goal
 
 abbrev AreNear : Decoder → List (Option ℕ) → List ℕ → ℕ → Type 0
@@ -31,9 +31,9 @@ without-place d references old new i near none e = λ k n l f. ⊎_elim
 
 pub loop-k-preserved : goal.loop-k-preserved
 loop-k-preserved c = elim c.match-references-k.branch [
-  | in-Some+in_ok-places w ↦ record {
-    near = with-place c.args.self.now c.args.references.now c.loop-k.places c.match-references-k.places c.loop-k.k w.in-Some.picture w.in_ok-places.field-0 c.loop-k.invariant.near (let a = c.loop-k.invariant.all in let t = c.loop-k-test.true in omega (arith, a, t)) w.in-Some.is w.in_ok-places.ensures.near w.places-is;
-    all = ap (λ (x : List ℕ). length x) w.places-is ∙ length-set c.loop-k.places c.loop-k.k w.in_ok-places.field-0 ∙ c.loop-k.invariant.all;
+  | in-Some w ↦ record {
+    near = with-place c.args.self.now c.args.references.now c.loop-k.places c.match-references-k.places c.loop-k.k w.in-Some.picture w.place_of.result c.loop-k.invariant.near (let a = c.loop-k.invariant.all in let t = c.loop-k-test.true in omega (arith, a, t)) w.in-Some.is w.place_of.ensures w.places-is;
+    all = ap (λ (x : List ℕ). length x) w.places-is ∙ length-set c.loop-k.places c.loop-k.k w.place_of.result ∙ c.loop-k.invariant.all;
   }
   | in_default w ↦ record {
     near = without-place c.args.self.now c.args.references.now c.loop-k.places c.match-references-k.places c.loop-k.k c.loop-k.invariant.near w.in_default.is w.places-is;
@@ -41,5 +41,5 @@ loop-k-preserved c = elim c.match-references-k.branch [
   }
 ]
 
-pub returns-clause-near : goal.returns-clause-near
-returns-clause-near c = λ k n l e. c.loop-k.invariant.near k n (let t = c.loop-k-test.false in omega (arith, t, l)) e
+pub returns : goal.returns
+returns c = λ k n l e. c.loop-k.invariant.near k n (let t = c.loop-k-test.false in omega (arith, t, l)) e

@@ -1,20 +1,19 @@
-use Rattle.std.proofs.Common.{refl, sym, ◌∙◌, subst, ◌≡◌, ◌<◌, ℕ, List, [], ◌∷◌, get_or, Some, None}
-use Rattle.std.proofs.lemmas.Result.{err_from_is_err_and}
+use Rattle.std.proofs.Common.{refl, sym, ◌∙◌, subst, ◌≡◌, ◌<◌, ℕ, List, ◌∷◌, get_or, Some, None}
 use Rattle.h264_verify.specs.Keeping.{IsMaking, IsNear}
 use Rattle.h264_verify.specs.declared.decoder.Decoder.{Decoder}
-use Rattle.h264_verify.proofs.Playing.{memory-plays}
 use Rattle.h264_verify.proofs.Lengthening.{slice-adds}
 use Rattle.h264_verify.proofs.Making.{begun-on, is-slice, reads-slice, number-is, making-before}
 use Rattle.h264_verify.proofs.decoder.Decoder.slice.Goals as goal
 
-pub returns-in_err-places-clause-reads : goal.returns-in_err-places-clause-reads
-returns-in_err-places-clause-reads g c =
-    let p = err_from_is_err_and c.from_residual.result c.from_residual.ensures.1 in
-    rw (p.1, p.2, c.in_err-places.ensures.err) (λ frames p ps slices s ms t is filter number set o h. record { macroblocks = []; end = 0; plays = memory-plays _ _ _ _ _; keeps = tt })
+pub places-places-requires : goal.places-places-requires
+places-places-requires g c = c.requires.kept.named
+
+pub returns-clause-no_memory : goal.returns-clause-no_memory
+returns-clause-no_memory g c = c.slice.ensures.no_memory _ _ _ c.requires.kept.holds c.requires.kept.next
 
 pub returns-clause-reads : goal.returns-clause-reads
 returns-clause-reads g c = λ frames p ps slices s ms t is filter number set o h.
-    let near : (k n : ℕ) → k < 16 → get_or c.args.slice.now.references k None ≡ Some n → IsNear c.args.self.now n (get_or c.slice_samples.result.places k 0) = λ k n small e. subst (λ (x : List ℕ). IsNear c.args.self.now n (get_or x k 0)) (sym c.slice_samples.ensures.places) (c.in_ok-places.ensures.near k n small e) in
+    let near : (k n : ℕ) → k < 16 → get_or c.args.slice.now.references k None ≡ Some n → IsNear c.args.self.now n (get_or c.slice_samples.result.places k 0) = λ k n small e. subst (λ (x : List ℕ). IsNear c.args.self.now n (get_or x k 0)) (sym c.slice_samples.ensures.places) (c.places-places.ensures k n small e) in
     let filter-is = c.slice_samples.ensures.filter ∙ filter in
     let new : Decoder = record c.args.self.now { work = c.slice.new.self } in
     let is-of = number-is frames p ps slices s ms t c.args.self.now new c.args.slice.now c.slice_samples.result is filter-is o h number set near in
