@@ -4,6 +4,7 @@ use Rattle.std.proofs.lemmas.List.{append-nil}
 use Rattle.h264_base.specs.declared.mode.Mode.{Mode}
 use Rattle.h264_base.specs.declared.mode.Mode.TheVariants as modes
 use Rattle.h264_base.specs.declared.stop.Stop.{Stop}
+use Rattle.h264_base.specs.declared.stop.Stop.TheVariants.{No}
 use Rattle.h264_verify.specs.Telling.{Told, Said, said_of, AreOf}
 use Rattle.h264_base.specs.Body.{Body}
 use Rattle.h264_base.specs.Grammar.{Grammar, ◌>>=◌ as ◌bind◌, Done, Element}
@@ -27,13 +28,13 @@ use Rattle.h264_verify.specs.UnitHeader.{header_of, nal_unit_type, header_demand
 use Rattle.h264_verify.specs.History.{History, maps_of}
 use Rattle.h264_verify.specs.Pictures.{CodedPicture, goes_on as may_go_on, runs_of, closing_at, closing_demands}
 use Rattle.h264_verify.specs.Buffering.{closing_frames, last_frames}
-use Rattle.h264_verify.specs.Keeping.{ended_pictures}
-use Rattle.h264_verify.specs.Closing.{whole_at, whole_steps}
-use Rattle.h264_verify.specs.Demands.{judged}
+use Rattle.h264_verify.specs.Keeping.{ended_pictures, close_steps}
+use Rattle.h264_verify.specs.Closing.{whole_at, whole_picture, whole_steps}
+use Rattle.h264_verify.specs.Demands.{Demand}
 use Rattle.h264_verify.specs.declared.judge.Summary.{Summary}
 use Rattle.h264_verify.specs.Units.{unit_call, is_slice, slice_unit, other_content, content, content_steps, data_course, content_course, frames_at, end_steps, picture_demand, summary_of}
 use Rattle.h264_verify.specs.UnitOutcome.{steps_outcome, structure_from, course_outcome, sps_outcome, pps_outcome, slice_outcome, header_content, whole_slice, joined, joined_on, joined_other, joined_by, unit_by_steps, unit_outcome, end_outcome}
-use Rattle.h264_verify.proofs.Stepping.{outcome, needs-judged, steps-append, closing-then}
+use Rattle.h264_verify.proofs.Stepping.{outcome, needs-judged, steps-append}
 use Rattle.h264_verify.proofs.Playing.{plays-on, plays-stops, gives-plays}
 use Rattle.h264_verify.proofs.Growing.{closing-of}
 
@@ -190,26 +191,59 @@ ended-grows true false (p ∷ ps) = omega arith
 ended-grows false ends (p ∷ ps) = omega arith
 
 -- what the end of a picture tells, if it ends
-pub ending-of : (ends : Bool) (mode : Mode) (before : History) → AreOf (length (ended_pictures (may_go_on before) ends (runs_of before))) (steps_outcome (if ends then closing_frames mode before else [])).calls
-ending-of true mode before = closing-of mode before
-ending-of false mode before = tt
+frames-of : (ends : Bool) (mode : Mode) (before : History) → AreOf (length (ended_pictures (may_go_on before) ends (runs_of before))) (steps_outcome (if ends then closing_frames mode before else [])).calls
+frames-of true mode before = closing-of mode before
+frames-of false mode before = tt
+
+of-either : (n : ℕ) (b : Bool) (o : Outcome (Unit {0})) (e : Stop) → AreOf n o.calls → AreOf n (if b then o else answers (Err e)).calls
+of-either n true o e h = h
+of-either n false o e h = tt
+
+of-needs : (n : ℕ) (ds : List Demand) (steps : List Step) → AreOf n (steps_outcome steps).calls → AreOf n (steps_outcome (needs ds ++ steps)).calls
+of-needs n [] steps h = h
+of-needs n (d ∷ ds) steps h = of-either n d.met (steps_outcome (needs ds ++ steps)) (No d.bit d.rule) (of-needs n ds steps h)
+
+of-picture : (n : ℕ) (pictures : List CodedPicture) (steps : List Step) → AreOf n (steps_outcome steps).calls → AreOf n (steps_outcome (whole_picture pictures ++ steps)).calls
+of-picture n [] steps h = h
+of-picture n (p ∷ ps) steps h = of-either n _ (steps_outcome steps) _ h
+
+of-open : (n : ℕ) (on : Bool) (pictures : List CodedPicture) (steps : List Step) → AreOf n (steps_outcome steps).calls → AreOf n (steps_outcome ((if on then whole_picture pictures else []) ++ steps)).calls
+of-open n true pictures steps h = of-picture n pictures steps h
+of-open n false pictures steps h = h
+
+of-whole : (n : ℕ) (mode : Mode) (before : History) (steps : List Step) → AreOf n (steps_outcome steps).calls → AreOf n (steps_outcome (whole_steps mode before ++ steps)).calls
+of-whole n modes.Units before steps h = h
+of-whole n modes.Headers before steps h = h
+of-whole n modes.Full before steps h = of-open n (may_go_on before) (runs_of before) steps h
+
+of-ended : (n : ℕ) (ends : Bool) (mode : Mode) (before : History) (steps : List Step) → AreOf n (steps_outcome steps).calls → AreOf n (steps_outcome ((if ends then whole_steps mode before else []) ++ steps)).calls
+of-ended n true mode before steps h = of-whole n mode before steps h
+of-ended n false mode before steps h = h
+
+pub closing-all : (ends : Bool) (mode : Mode) (before : History) → AreOf (length (ended_pictures (may_go_on before) ends (runs_of before))) (steps_outcome (close_steps mode ends before)).calls
+closing-all ends mode before =
+    let n = length (ended_pictures (may_go_on before) ends (runs_of before)) in
+    of-ended n ends mode before _ (of-needs n (if ends then closing_demands before else []) _ (frames-of ends mode before))
 
 -- The end of the input, part by part.
-module _ {S : Type 0} (took : S → List Told → Type 0) (failures : S → ℕ) (mode : Mode) (before : History) (bit : ℕ) (x y : Unit {0}) (whole : answers (Ok x) ≡ steps_outcome (whole_steps mode before)) (closed : let r : Result (Unit {0}) Stop = Ok y in r ≡ judged (closing_demands before)) where
+module _ {S : Type 0} (took : S → List Told → Type 0) (failures : S → ℕ) (mode : Mode) (before : History) (bit : ℕ) where
   abbrev behind_last : List Step
   behind_last = needs (picture_demand mode before bit ∷ []) ++ last_frames mode (runs_of before)
 
-  end-is : steps_outcome (end_steps mode before bit) ≡ (steps_outcome (closing_frames mode before) >>= λ _. steps_outcome behind_last)
-  end-is = closing-then (whole_steps mode before) (closing_demands before) (closing_frames mode before ++ behind_last) x y whole closed ∙ steps-append (closing_frames mode before) behind_last
+  three : (xs ys zs ts : List Step) → (xs ++ (ys ++ zs)) ++ ts ≡ xs ++ (ys ++ (zs ++ ts))
+  three xs ys zs ts = append_assoc xs (ys ++ zs) ts ∙ ap (λ (l : List Step). xs ++ l) (append_assoc ys zs ts)
+
+  end-is : steps_outcome (end_steps mode before bit) ≡ (steps_outcome (close_steps mode true before) >>= λ _. steps_outcome behind_last)
+  end-is = ap steps_outcome (sym (three (whole_steps mode before) (needs (closing_demands before)) (closing_frames mode before) behind_last)) ∙ steps-append (close_steps mode true before) behind_last
 
   -- it stops while the last picture ends
-  pub end-stops : (s s' : S) (e : Stop) → Plays {X = Unit {0}} took failures (λ u. u) (steps_outcome (closing_frames mode before)) s s' (Err e) → Plays {X = Summary} took failures (λ u. u) (end_outcome mode before bit) s s' (Err e)
+  pub end-stops : (s s' : S) (e : Stop) → Plays {X = Unit {0}} took failures (λ u. u) (steps_outcome (close_steps mode true before)) s s' (Err e) → Plays {X = Summary} took failures (λ u. u) (end_outcome mode before bit) s s' (Err e)
   unfolding end_outcome
-  end-stops s s' e p = plays-stops {X = Unit {0}} took failures (λ u. u) (λ u. u) (steps_outcome (end_steps mode before bit)) _ s s' e (plays-as took failures (λ u. u) _ _ s s' (Err e) end-is (plays-stops took failures (λ u. u) (λ u. u) (steps_outcome (closing_frames mode before)) _ s s' e p))
+  end-stops s s' e p = plays-stops {X = Unit {0}} took failures (λ u. u) (λ u. u) (steps_outcome (end_steps mode before bit)) _ s s' e (plays-as took failures (λ u. u) _ _ s s' (Err e) end-is (plays-stops took failures (λ u. u) (λ u. u) (steps_outcome (close_steps mode true before)) _ s s' e p))
 
-  module _ (s s1 s2 : S) (z : Unit {0}) (ended : Plays took failures (λ (u : Unit {0}). u) (steps_outcome (closing_frames mode before)) s s1 (Ok z)) where
+  module _ (s s1 s2 : S) (z : Unit {0}) (ended : Plays took failures (λ (u : Unit {0}). u) (steps_outcome (close_steps mode true before)) s s1 (Ok z)) where
     end-steps : (r : Result (Unit {0}) Stop) → Plays took failures (λ u. u) (steps_outcome behind_last) s1 s2 r → Plays took failures (λ u. u) (steps_outcome (end_steps mode before bit)) s s2 r
-    end-steps r p = plays-as took failures (λ u. u) _ _ s s2 r end-is (plays-on took failures (λ u. u) (λ u. u) (steps_outcome (closing_frames mode before)) (λ _. steps_outcome behind_last) s s1 s2 z r ended p)
+    end-steps r p = plays-as took failures (λ u. u) _ _ s s2 r end-is (plays-on took failures (λ u. u) (λ u. u) (steps_outcome (close_steps mode true before)) (λ _. steps_outcome behind_last) s s1 s2 z r ended p)
 
     -- it stops behind that
     pub end-broken : (e : Stop) → Plays {X = Unit {0}} took failures (λ u. u) (steps_outcome behind_last) s1 s2 (Err e) → Plays {X = Summary} took failures (λ u. u) (end_outcome mode before bit) s s2 (Err e)

@@ -1,5 +1,5 @@
 -- A slice is judged: what comes to pass, one part after another.
-use Rattle.std.proofs.Common.{◌≡◌, ℕ, ◌*◌, Bool, true, false, List, [], Option, Some, Result, Ok, Err, refl, sym, ◌∙◌, subst, if◌then◌else◌}
+use Rattle.std.proofs.Common.{◌≡◌, ℕ, ◌*◌, Bool, true, false, List, [], ◌++◌, Option, Some, Result, Ok, Err, refl, ap, sym, ◌∙◌, subst, append_assoc, if◌then◌else◌}
 use Rattle.h264_base.specs.declared.mode.Mode.{Mode}
 use Rattle.h264_base.specs.declared.mode.Mode.TheVariants as modes
 use Rattle.h264_base.specs.declared.stop.Stop.{Stop}
@@ -15,7 +15,7 @@ use Rattle.h264_dpb.specs.Ending.{ended_of}
 use Rattle.h264_verify.specs.declared.decoder.Decoder.{Decoder}
 use Rattle.h264_verify.specs.declared.slices.Slices.{Slices}
 use Rattle.h264_verify.specs.Telling.{Told, Said}
-use Rattle.h264_verify.specs.Outcome.{Outcome, ◌>>=◌, answers, tells, Plays}
+use Rattle.h264_verify.specs.Outcome.{Outcome, ◌>>=◌, tells, Plays}
 use Rattle.h264_verify.specs.Demands.{judged}
 use Rattle.h264_verify.specs.History.{History, maps_of}
 use Rattle.h264_verify.specs.Closing.{whole_steps}
@@ -23,9 +23,11 @@ use Rattle.h264_verify.specs.Buffering.{closing_frames, ended_picture, frame_cou
 use Rattle.h264_verify.specs.UnitOutcome.{steps_outcome}
 use Rattle.h264_verify.specs.Slices.{first_mb_demands, is_idr_due, slice_call, slice_steps}
 use Rattle.h264_verify.specs.Pictures.{CodedSlice, CodedPicture, with_sets, open_of, begins_after, begins_at, joined_to, runs_of, closing_demands}
-use Rattle.h264_verify.specs.Keeping.{KeepsDecoder, HoldsData, HoldsBefore, Entered, standing_demands, slice_rules, coded_before}
+use Rattle.h264_verify.specs.Keeping.{KeepsDecoder, HoldsData, HoldsBefore, Entered, standing_demands, slice_rules, coded_before, close_steps}
+use Rattle.h264_verify.specs.Steps.{Step, needs}
 use Rattle.h264_verify.proofs.Playing.{plays-on, plays-stops}
-use Rattle.h264_verify.proofs.Slicing.{refused, err-named, own_steps, behind-end, at-standing, at-place, behind-place}
+use Rattle.h264_verify.proofs.Slicing.{refused, err-named, own_steps, at-standing, at-place, behind-place}
+use Rattle.h264_verify.proofs.Stepwise.{steps-stop, steps-on}
 use Rattle.h264_verify.proofs.Joining.{data-held, holds-newest}
 
 module _ {S : Type 0} (took : S → List Told → Type 0) (failures : S → ℕ) (mode : Mode) (before : History) (unit : NalUnit) (h : Header) (begins : Bool) (b : begins ≡ begins_at before h) where
@@ -35,16 +37,21 @@ module _ {S : Type 0} (took : S → List Told → Type 0) (failures : S → ℕ)
   abbrev own : Outcome (Unit {0})
   own = steps_outcome (own_steps mode before unit h begins b)
 
-  -- behind the picture before it
-  module _ (told : Unit {0}) (whole : answers (Ok told) ≡ steps_outcome (if begins then whole_steps mode before else [])) (closed : Unit {0}) (ends : Ok closed ≡ judged (if begins then closing_demands before else [])) where
-    abbrev frames_first : Outcome (Unit {0})
-    frames_first = steps_outcome (if begins then closing_frames mode before else [])
+  three : (xs ys zs ts : List Step) → (xs ++ (ys ++ zs)) ++ ts ≡ xs ++ (ys ++ (zs ++ ts))
+  three xs ys zs ts = append_assoc xs (ys ++ zs) ts ∙ ap (λ (l : List Step). xs ++ l) (append_assoc ys zs ts)
 
-    pub frames-stop : (s s' : S) (e : Stop) → PlaysOf frames_first s s' (Err e) → PlaysOf (steps_outcome (slice_steps mode before unit h)) s s' (Err e)
-    frames-stop s s' e p = subst (λ (o : Outcome (Unit {0})). PlaysOf o s s' (Err e)) (sym (behind-end mode before unit h begins b told whole closed ends)) (plays-stops took failures (λ (x : Unit {0}). x) (λ (x : Unit {0}). x) frames_first (λ _. own) s s' e p)
+  -- behind the end of the picture before it
+  closed-is : slice_steps mode before unit h ≡ close_steps mode begins before ++ own_steps mode before unit h begins b
+  closed-is =
+      let at = begins_at before h in
+      sym (three (if at then whole_steps mode before else []) (needs (if at then closing_demands before else [])) (if at then closing_frames mode before else []) (own_steps mode before unit h begins b))
+      ∙ ap (λ (x : Bool). close_steps mode x before ++ own_steps mode before unit h begins b) (sym b)
 
-    pub frames-on : (s0 s1 s2 : S) (x : Unit {0}) (r : Result (Unit {0}) Stop) → PlaysOf frames_first s0 s1 (Ok x) → PlaysOf own s1 s2 r → PlaysOf (steps_outcome (slice_steps mode before unit h)) s0 s2 r
-    frames-on s0 s1 s2 x r p q = subst (λ (o : Outcome (Unit {0})). PlaysOf o s0 s2 r) (sym (behind-end mode before unit h begins b told whole closed ends)) (plays-on took failures (λ (x : Unit {0}). x) (λ (x : Unit {0}). x) frames_first (λ _. own) s0 s1 s2 x r p q)
+  pub closed-stop : (s s' : S) (e : Stop) → PlaysOf (steps_outcome (close_steps mode begins before)) s s' (Err e) → PlaysOf (steps_outcome (slice_steps mode before unit h)) s s' (Err e)
+  closed-stop s s' e p = subst (λ (l : List Step). PlaysOf (steps_outcome l) s s' (Err e)) (sym closed-is) (steps-stop took failures (λ (x : Unit {0}). x) (close_steps mode begins before) (own_steps mode before unit h begins b) s s' e p)
+
+  pub closed-on : (s0 s1 s2 : S) (x : Unit {0}) (r : Result (Unit {0}) Stop) → PlaysOf (steps_outcome (close_steps mode begins before)) s0 s1 (Ok x) → PlaysOf own s1 s2 r → PlaysOf (steps_outcome (slice_steps mode before unit h)) s0 s2 r
+  closed-on s0 s1 s2 x r p q = subst (λ (l : List Step). PlaysOf (steps_outcome l) s0 s2 r) (sym closed-is) (steps-on took failures (λ (x : Unit {0}). x) (close_steps mode begins before) (own_steps mode before unit h begins b) s0 s1 s2 x r p q)
 
   -- its own rules, and that it is told
   module _ (due : Bool) (maps : Maps) (due-is : due ≡ is_idr_due before) (maps-are : maps ≡ maps_of before) (sets : Pps × Sps) (named : sets_of maps h.pic_parameter_set_id.value ≡ Some sets) where

@@ -6,8 +6,6 @@ use Rattle.h264_base.specs.declared.rule.Rule.TheVariants.{SetChanged}
 use Rattle.h264_base.specs.declared.stop.Stop.{Stop}
 use Rattle.h264_base.specs.declared.stop.Stop.TheVariants.{No}
 use Rattle.h264_verify.specs.Telling.{Told, Said}
-use Rattle.h264_verify.specs.Closing.{whole_steps}
-use Rattle.h264_verify.specs.Buffering.{closing_frames}
 use Rattle.h264_units.specs.Stream.{NalUnit}
 use Rattle.h264_sps.specs.declared.sps.Sps.{Sps}
 use Rattle.h264_pps.specs.declared.Pps.{Pps}
@@ -30,13 +28,13 @@ use Rattle.h264_verify.specs.Content as contents
 use Rattle.h264_verify.specs.Outcome.{Outcome, ◌>>=◌, answers, tells, Plays, IsNamed}
 use Rattle.h264_verify.specs.Demands.{Demand, judged}
 use Rattle.h264_verify.specs.History.{History, with_pair, maps_with, maps_of}
-use Rattle.h264_verify.specs.Slices.{has_content, is_active, set_demand, list_demand, first_mb_demands, is_idr_due, rules_of, slice_call, steps_by, slice_steps}
+use Rattle.h264_verify.specs.Slices.{has_content, is_active, set_demand, list_demand, first_mb_demands, is_idr_due, rules_of, slice_call, steps_by}
 use Rattle.h264_verify.specs.Steps.{Step, Tells, needs}
 use Rattle.h264_verify.specs.UnitOutcome.{steps_outcome}
-use Rattle.h264_verify.specs.Pictures.{CodedSlice, with_sets, sets_at, begins_at, joined_to, runs_of, closing_demands}
+use Rattle.h264_verify.specs.Pictures.{CodedSlice, with_sets, sets_at, begins_at, joined_to, runs_of}
 use Rattle.h264_verify.specs.Keeping.{standing_demands, slice_rules, coded_before}
 use Rattle.h264_verify.proofs.Finishing.{answers-plays}
-use Rattle.h264_verify.proofs.Stepping.{needs-first, needs-ok, needs-err, steps-ok, steps-err, steps-append, behind_rules}
+use Rattle.h264_verify.proofs.Stepping.{needs-first, needs-ok, needs-err, steps-append, behind_rules}
 
 -- one rule before others: met, or not
 one-met : (d : Demand) (r : Result (Unit {0}) Stop) → d.met ≡ true → (if d.met then r else Err (No d.bit d.rule)) ≡ r
@@ -170,34 +168,9 @@ refused took failures steps s e h n = subst (λ (o : Outcome (Unit {0})). Plays 
 
 -- The steps of a slice, behind what is kept of the units before it.
 module _ (mode : Mode) (before : History) (unit : NalUnit) (h : Header) (begins : Bool) (b : begins ≡ begins_at before h) where
-  abbrev steps : List Step
-  steps = slice_steps mode before unit h
-
   -- its own rules, and that it is told
   abbrev pub own_steps : List Step
   own_steps = steps_by mode (sets_at before h) before unit h
-
-  abbrev framed : List Step
-  framed = (if begins_at before h then closing_frames mode before else []) ++ own_steps
-
-  -- the picture before it is not whole, or not judged
-  pub at-data : (e : Stop) → answers (Err e) ≡ steps_outcome (if begins then whole_steps mode before else []) → steps_outcome steps ≡ answers (Err e)
-  at-data e p = steps-err (if begins_at before h then whole_steps mode before else []) (needs (if begins_at before h then closing_demands before else []) ++ framed) e (p ∙ ap (λ x. steps_outcome (if x then whole_steps mode before else [])) b)
-
-  module _ (told : Unit {0}) (whole : answers (Ok told) ≡ steps_outcome (if begins then whole_steps mode before else [])) where
-    behind-data : steps_outcome steps ≡ steps_outcome (needs (if begins_at before h then closing_demands before else []) ++ framed)
-    behind-data = steps-ok (if begins_at before h then whole_steps mode before else []) (needs (if begins_at before h then closing_demands before else []) ++ framed) told (whole ∙ ap (λ x. steps_outcome (if x then whole_steps mode before else [])) b)
-
-    -- the end of the picture before it breaks a rule
-    pub at-end : (e : Stop) → Err e ≡ judged (if begins then closing_demands before else []) → steps_outcome steps ≡ answers (Err e)
-    at-end e p = behind-data ∙ needs-err (if begins_at before h then closing_demands before else []) framed e (ap (λ x. judged (if x then closing_demands before else [])) (sym b) ∙ sym p)
-
-    -- it has ended: its frames, and then the rules of the slice
-    pub behind-end : (closed : Unit {0}) → Ok closed ≡ judged (if begins then closing_demands before else []) → steps_outcome steps ≡ (steps_outcome (if begins then closing_frames mode before else []) >>= λ _. steps_outcome own_steps)
-    behind-end closed ends =
-        behind-data ∙ needs-ok (if begins_at before h then closing_demands before else []) framed closed (ap (λ x. judged (if x then closing_demands before else [])) (sym b) ∙ sym ends)
-        ∙ steps-append (if begins_at before h then closing_frames mode before else []) own_steps
-        ∙ ap (λ x. steps_outcome (if x then closing_frames mode before else []) >>= λ _. steps_outcome own_steps) (sym b)
 
   module _ (due : Bool) (maps : Maps) (due-is : due ≡ is_idr_due before) (maps-are : maps ≡ maps_of before) where
     abbrev slice : Pps × Sps → CodedSlice

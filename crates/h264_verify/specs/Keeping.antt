@@ -37,11 +37,12 @@ use Rattle.h264_picture.specs.Buffer.{buffer_size}
 use Rattle.h264_dpb.specs.Kept.{IsReady as AreReady}
 use Rattle.h264_verify.specs.declared.decoder.Decoder.{Decoder}
 use Rattle.h264_verify.specs.declared.decoder.Format.{Format}
-use Rattle.h264_verify.specs.Buffering.{newest_count, after_all, within_newest, ended_picture}
+use Rattle.h264_verify.specs.Buffering.{newest_count, after_all, within_newest, ended_picture, closing_frames}
 use Rattle.h264_verify.specs.Decoding.{slices_of, EachSlice, number_of, parameters_of}
 use Rattle.h264_verify.specs.Demands.{Demand}
 use Rattle.h264_verify.specs.History.{History, maps_of}
-use Rattle.h264_verify.specs.Pictures.{CodedSlice, CodedPicture, last_slice, coded_of, picture_size, bit_behind, goes_on, open_of, joined_to, runs_of, counted, prev_ref_frame_num_of, held_after, held_in}
+use Rattle.h264_verify.specs.Pictures.{CodedSlice, CodedPicture, last_slice, coded_of, picture_size, bit_behind, goes_on, open_of, joined_to, runs_of, counted, prev_ref_frame_num_of, held_after, held_in, closing_demands}
+use Rattle.h264_verify.specs.Closing.{whole_steps}
 use Rattle.h264_poc.specs.OfSlice.{picture_of}
 use Rattle.h264_marking.specs.Ended.{numbering_of}
 use Rattle.h264_verify.specs.Steps.{Step, needs}
@@ -480,3 +481,10 @@ slice_rules mode false pictures s = needs (later_slice_rules pictures s)
 abbrev pub coded_before : Bool → List CodedPicture → ℕ
 coded_before true pictures = 0
 coded_before false pictures = length (coded_of pictures)
+
+-- What the end of the picture that may go on goes through, where it ends here: its macroblocks, its marking, its frame.
+abbrev pub close_steps : Mode → Bool → History → List Step
+close_steps mode ends before =
+    (if ends then whole_steps mode before else [])
+    ++ (needs (if ends then closing_demands before else [])
+    ++ (if ends then closing_frames mode before else []))

@@ -12,6 +12,7 @@
 //! Not promised: that memory suffices.
 #![tactic(auto)]
 
+mod close;
 mod data;
 pub mod decoder;
 mod frame_num;

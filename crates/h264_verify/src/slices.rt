@@ -31,7 +31,8 @@ ghost use Rattle.h264_marking.specs.Ended.{numbering_of, resets};
 ghost use Rattle.h264_header.specs.Picture.{is_idr, is_reference};
 ghost use Rattle.h264_verify.specs.Slices.{type_of, idr_id, first_mb_demands, count_demand, slice_steps};
 
-use crate::data::{check_first_mb, end_data_if, end_frame_if};
+use crate::close::close_if;
+use crate::data::check_first_mb;
 use crate::decoder::Decoder;
 use crate::frame_num::{check_gap, check_idr_num};
 use crate::picture::{OpenPicture, begin, go_on};
@@ -352,9 +353,7 @@ pub(crate) fn judge_slice<S: FrameSink>(
     ensures kept { OnOk result (S.failures sink.new ≡ S.failures sink.old) }
 {
     let bit = 8 * unit.from();
-    end_data_if(mode, begins, slices, &decoder.work)?;
-    end_if(begins, slices)?;
-    end_frame_if(mode, begins, slices, decoder, sink)?;
+    close_if(mode, begins, slices, decoder, sink)?;
     check_standing(begins, slices.due, sets, bit, header)?;
     check_first_mb(mode, begins, &decoder.work, header)?;
     let Some(named) = named_sets(sets, header.pic_parameter_set_id.value) else {

@@ -24,13 +24,14 @@ ghost use Rattle.h264_verify.specs.UnitOutcome.{steps_outcome, sps_outcome, pps_
 ghost use Rattle.h264_base.specs.declared.mode.Mode.{Mode};
 ghost use Rattle.h264_base.specs.declared.mode.Mode.TheVariants as modes;
 
-use crate::data::{end_data_if, end_frame_if, read_data};
+use crate::close::close_if;
+use crate::data::read_data;
 use crate::decoder::Decoder;
 use crate::judge::{State, Summary};
 use crate::picture::begins;
 use crate::rules::check;
 use crate::sink::FrameSink;
-use crate::slices::{end_if, ends_picture, judge_slice, pass_by};
+use crate::slices::{ends_picture, judge_slice, pass_by};
 use h264_base::{Failed, Mode, Rule, Stop};
 use h264_bits::Bits;
 use h264_header::{Header, SliceUnit, read_header};
@@ -406,9 +407,7 @@ pub(crate) fn judge_unit<S: FrameSink>(
     check_header(from, header)?;
     tell_unit(from, header, body.len() as u64, sink)?;
     let ends = ends_picture(header % 32);
-    end_data_if(mode, ends, &state.slices, &state.decoder.work)?;
-    end_if(ends, &mut state.slices)?;
-    end_frame_if(mode, ends, &state.slices, &mut state.decoder, sink)?;
+    close_if(mode, ends, &mut state.slices, &mut state.decoder, sink)?;
     join(alloc, mode, state, header, unit, sink)
 }
 
@@ -462,9 +461,7 @@ pub(crate) fn judge_end<S: FrameSink>(
     requires kept { KeepsSome mode false state.old }
     ensures ends { (frames : ℕ → Frame) (before : History) → Keeps mode frames before state.old → EndsAll mode S.took S.failures frames before bit (λ x. x) sink.old sink.new result }
 {
-    end_data_if(mode, true, &state.slices, &state.decoder.work)?;
-    end_if(true, &mut state.slices)?;
-    end_frame_if(mode, true, &state.slices, &mut state.decoder, sink)?;
+    close_if(mode, true, &mut state.slices, &mut state.decoder, sink)?;
     let pictures = state.slices.pictures;
     check(has_pictures(mode, pictures), Rule::NoPicture, bit)?;
     finish_frames(mode, &mut state.decoder, sink)?;

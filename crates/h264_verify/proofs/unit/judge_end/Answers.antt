@@ -3,16 +3,13 @@ use Rattle.h264_base.specs.declared.rule.Rule.{Rule}
 use Rattle.h264_base.specs.declared.stop.Stop.{Stop}
 use Rattle.h264_base.specs.declared.stop.Stop.TheVariants.{No}
 use Rattle.std.proofs.lemmas.Result.{err_from_is_err_and}
-use Rattle.h264_verify.specs.Closing.{whole_steps}
-use Rattle.h264_verify.specs.Pictures.{goes_on, runs_of, closing_demands}
+use Rattle.h264_verify.specs.Pictures.{goes_on, runs_of}
 use Rattle.h264_verify.specs.Buffering.{after_all, last_frames}
 use Rattle.h264_verify.specs.Units.{picture_demand}
-use Rattle.h264_verify.specs.UnitOutcome.{end_outcome}
-use Rattle.h264_verify.proofs.Playing.{answer-stops, named-by}
+use Rattle.h264_verify.proofs.Playing.{named-by}
 use Rattle.h264_verify.proofs.Finishing.{answers-plays}
-use Rattle.h264_verify.proofs.Slicing.{err-named}
-use Rattle.h264_verify.proofs.Stepping.{steps-err, closing-stop, needs-ok, needs-err}
-use Rattle.h264_verify.proofs.Joining.{data-held, ended-gap}
+use Rattle.h264_verify.proofs.Stepping.{needs-ok, needs-err}
+use Rattle.h264_verify.proofs.Joining.{ended-gap}
 use Rattle.h264_verify.proofs.Courses.{plays-as, end-stops, end-broken, end-gives}
 use Rattle.h264_verify.proofs.unit.judge_end.Goals as goal
 
@@ -20,49 +17,22 @@ check-err : (holds : Bool) (rule : Rule) (bit : ℕ) (e : Stop) → (let r : Res
 check-err true rule bit e h = cc
 check-err false rule bit e h = cc
 
-pub end_frame_if-requires-clause-kept : goal.end_frame_if-requires-clause-kept
-end_frame_if-requires-clause-kept g c =
-    let k = c.requires.kept in
-    record { frames = k.frames; before = k.before; slices_are = c.in_ok-end_if.ensures.ended k.before k.keeps.slices; keeps = k.keeps.decoder }
+pub close_if-requires-clause-kept : goal.close_if-requires-clause-kept
+close_if-requires-clause-kept g c = let k = c.requires.kept in record { frames = k.frames; before = k.before; slices_are = k.keeps.slices; keeps = k.keeps.decoder }
 
 pub finish_frames-requires-clause-kept : goal.finish_frames-requires-clause-kept
 finish_frames-requires-clause-kept g c =
     let k = c.requires.kept in
-    let ended = c.in_ok-end_if.ensures.ended k.before k.keeps.slices in
-    let whole = c.in_ok-end_data_if.ensures.judged k.before k.keeps.slices (data-held c.args.mode k.frames (goes_on k.before) (runs_of k.before) c.args.state.now.decoder k.keeps.decoder) in
-    let e = c.in_ok-end_frame_if.ensures.ends k.frames k.before ended whole k.keeps.decoder in
+    let e = c.in_ok-close_if.ensures.closes k.frames k.before k.keeps.slices k.keeps.decoder in
     record { frames = e.made; turn = after_all (runs_of k.before); next = length (runs_of k.before); few = omega (arith, k.keeps.slices.kept.pictures_are, c.requires.pictures, c.requires.units); keeps = ended-gap c.args.mode e.made (goes_on k.before) (runs_of k.before) _ e.keeps }
 
-pub returns-in_err-end_data_if : goal.returns-in_err-end_data_if
-unfolding end_outcome
-returns-in_err-end_data_if g c =
+pub returns-in_err-close_if : goal.returns-in_err-close_if
+returns-in_err-close_if g c =
     let p = err_from_is_err_and c.from_residual.result c.from_residual.ensures.1 in
     rw (p.1, p.2) (record {
       ends = λ frames before k.
-          let whole = c.in_err-end_data_if.ensures.judged before k.slices (data-held c.args.mode frames (goes_on before) (runs_of before) c.args.state.now.decoder k.decoder) in
-          record { made = frames; same = λ n h. refl; plays = answer-stops _ _ (λ x. x) _ _ _ _ (steps-err (whole_steps c.args.mode before) _ _ whole) c.in_err-end_data_if.ensures.named };
-    })
-
-pub returns-in_err-end_if : goal.returns-in_err-end_if
-unfolding end_outcome
-returns-in_err-end_if g c =
-    let p = err_from_is_err_and c.from_residual-in_err-end_if.result c.from_residual-in_err-end_if.ensures.1 in
-    rw (p.1, p.2) (record {
-      ends = λ frames before k.
-          let whole = c.in_ok-end_data_if.ensures.judged before k.slices (data-held c.args.mode frames (goes_on before) (runs_of before) c.args.state.now.decoder k.decoder) in
-          let closed = c.in_err-end_if.ensures.judged before k.slices in
-          record { made = frames; same = λ n h. refl; plays = answer-stops _ _ (λ x. x) _ _ _ _ (closing-stop (whole_steps c.args.mode before) (closing_demands before) _ _ _ whole closed) (err-named (closing_demands before) _ (sym closed)) };
-    })
-
-pub returns-in_err-end_frame_if : goal.returns-in_err-end_frame_if
-returns-in_err-end_frame_if g c =
-    let p = err_from_is_err_and c.from_residual-in_err-end_frame_if.result c.from_residual-in_err-end_frame_if.ensures.1 in
-    rw (p.1, p.2) (record {
-      ends = λ frames before k.
-          let whole = c.in_ok-end_data_if.ensures.judged before k.slices (data-held c.args.mode frames (goes_on before) (runs_of before) c.args.state.now.decoder k.decoder) in
-          let closed = c.in_ok-end_if.ensures.judged before k.slices in
-          let e = c.in_err-end_frame_if.ensures.ends frames before (c.in_ok-end_if.ensures.ended before k.slices) whole k.decoder in
-          record { made = e.made; same = e.same; plays = end-stops _ _ c.args.mode before c.args.bit _ _ whole closed _ _ _ e.plays };
+          let e = c.in_err-close_if.ensures.closes frames before k.slices k.decoder in
+          record { made = e.made; same = e.same; plays = end-stops _ _ c.args.mode before c.args.bit _ _ _ e.plays };
     })
 
 pub returns-in_err-check : goal.returns-in_err-check
@@ -70,13 +40,11 @@ returns-in_err-check g c =
     let p = err_from_is_err_and c.from_residual-in_err-check.result c.from_residual-in_err-check.ensures.1 in
     rw (p.1, p.2) (record {
       ends = λ frames before k.
-          let whole = c.in_ok-end_data_if.ensures.judged before k.slices (data-held c.args.mode frames (goes_on before) (runs_of before) c.args.state.now.decoder k.decoder) in
-          let closed = c.in_ok-end_if.ensures.judged before k.slices in
-          let ended = c.in_ok-end_if.ensures.ended before k.slices in
-          let e = c.in_ok-end_frame_if.ensures.ends frames before ended whole k.decoder in
+          let ended = c.in_ok-close_if.ensures.ended before k.slices in
+          let e = c.in_ok-close_if.ensures.closes frames before k.slices k.decoder in
           let met = rw (c.has_pictures.ensures (runs_of before) ended.kept.pictures_are) at c.in_err-check.ensures in
           let ds = picture_demand c.args.mode before c.args.bit ∷ [] in
-          record { made = e.made; same = e.same; plays = end-broken _ _ c.args.mode before c.args.bit _ _ whole closed _ _ _ _ e.plays _ (plays-as _ _ (λ x. x) _ _ _ _ _ (needs-err ds (last_frames c.args.mode (runs_of before)) _ (sym met)) (answers-plays _ _ _ _ (named-by _ _ _ (check-err _ _ _ _ c.in_err-check.ensures)))) };
+          record { made = e.made; same = e.same; plays = end-broken _ _ c.args.mode before c.args.bit _ _ _ _ e.plays _ (plays-as _ _ (λ x. x) _ _ _ _ _ (needs-err ds (last_frames c.args.mode (runs_of before)) _ (sym met)) (answers-plays _ _ _ _ (named-by _ _ _ (check-err _ _ _ _ c.in_err-check.ensures)))) };
     })
 
 pub returns-in_err-finish_frames : goal.returns-in_err-finish_frames
@@ -84,26 +52,22 @@ returns-in_err-finish_frames g c =
     let p = err_from_is_err_and c.from_residual-in_err-finish_frames.result c.from_residual-in_err-finish_frames.ensures.1 in
     rw (p.1, p.2) (record {
       ends = λ frames before k.
-          let whole = c.in_ok-end_data_if.ensures.judged before k.slices (data-held c.args.mode frames (goes_on before) (runs_of before) c.args.state.now.decoder k.decoder) in
-          let closed = c.in_ok-end_if.ensures.judged before k.slices in
-          let ended = c.in_ok-end_if.ensures.ended before k.slices in
-          let e = c.in_ok-end_frame_if.ensures.ends frames before ended whole k.decoder in
+          let ended = c.in_ok-close_if.ensures.ended before k.slices in
+          let e = c.in_ok-close_if.ensures.closes frames before k.slices k.decoder in
           let met = rw (c.has_pictures.ensures (runs_of before) ended.kept.pictures_are) at c.in_ok-check.ensures in
           let ds = picture_demand c.args.mode before c.args.bit ∷ [] in
           let gap = ended-gap c.args.mode e.made (goes_on before) (runs_of before) _ e.keeps in
-          record { made = e.made; same = e.same; plays = end-broken _ _ c.args.mode before c.args.bit _ _ whole closed _ _ _ _ e.plays _ (plays-as _ _ (λ x. x) _ _ _ _ _ (needs-ok ds (last_frames c.args.mode (runs_of before)) _ (sym met)) (c.in_err-finish_frames.ensures.plays e.made (after_all (runs_of before)) (length (runs_of before)) gap)) };
+          record { made = e.made; same = e.same; plays = end-broken _ _ c.args.mode before c.args.bit _ _ _ _ e.plays _ (plays-as _ _ (λ x. x) _ _ _ _ _ (needs-ok ds (last_frames c.args.mode (runs_of before)) _ (sym met)) (c.in_err-finish_frames.ensures.plays e.made (after_all (runs_of before)) (length (runs_of before)) gap)) };
     })
 
 pub returns : goal.returns
 returns g c = record {
   ends = λ frames before k.
-      let whole = c.in_ok-end_data_if.ensures.judged before k.slices (data-held c.args.mode frames (goes_on before) (runs_of before) c.args.state.now.decoder k.decoder) in
-      let closed = c.in_ok-end_if.ensures.judged before k.slices in
-      let ended = c.in_ok-end_if.ensures.ended before k.slices in
-      let e = c.in_ok-end_frame_if.ensures.ends frames before ended whole k.decoder in
+      let ended = c.in_ok-close_if.ensures.ended before k.slices in
+      let e = c.in_ok-close_if.ensures.closes frames before k.slices k.decoder in
       let met = rw (c.has_pictures.ensures (runs_of before) ended.kept.pictures_are) at c.in_ok-check.ensures in
       let ds = picture_demand c.args.mode before c.args.bit ∷ [] in
       let gap = ended-gap c.args.mode e.made (goes_on before) (runs_of before) _ e.keeps in
       let written = c.frames_told.ensures (runs_of before) (λ m. c.in_ok-finish_frames.ensures.written e.made (after_all (runs_of before)) (length (runs_of before)) m gap) in
-      record { made = e.made; same = e.same; plays = end-gives _ _ c.args.mode before c.args.bit _ _ whole closed _ _ _ _ e.plays _ _ (plays-as _ _ (λ x. x) _ _ _ _ _ (needs-ok ds (last_frames c.args.mode (runs_of before)) _ (sym met)) (c.in_ok-finish_frames.ensures.plays e.made (after_all (runs_of before)) (length (runs_of before)) gap)) (rw (k.units, ended.kept.pictures_are, written) refl) };
+      record { made = e.made; same = e.same; plays = end-gives _ _ c.args.mode before c.args.bit _ _ _ _ e.plays _ _ (plays-as _ _ (λ x. x) _ _ _ _ _ (needs-ok ds (last_frames c.args.mode (runs_of before)) _ (sym met)) (c.in_ok-finish_frames.ensures.plays e.made (after_all (runs_of before)) (length (runs_of before)) gap)) (rw (k.units, ended.kept.pictures_are, written) refl) };
 }

@@ -14,19 +14,16 @@ use Rattle.h264_verify.specs.Feeding.{EndsFrames, Joins, Turns}
 use Rattle.std.proofs.lemmas.Result.{err_from_is_err_and}
 use Rattle.h264_verify.specs.Outcome.{answers, tells, Plays}
 use Rattle.h264_verify.specs.UnitHeader.{header_of, nal_unit_type, header_demands}
-use Rattle.h264_verify.specs.Pictures.{goes_on, runs_of, ends_picture, closing_at}
-use Rattle.h264_verify.specs.Closing.{whole_at}
-use Rattle.h264_verify.specs.Keeping.{ended_pictures, ended_in}
-use Rattle.h264_verify.specs.Units.{frames_at, unit_call}
+use Rattle.h264_verify.specs.Pictures.{goes_on, runs_of, ends_picture}
+use Rattle.h264_verify.specs.Keeping.{ended_pictures, ended_in, close_steps}
+use Rattle.h264_verify.specs.Units.{unit_call}
 use Rattle.h264_verify.specs.UnitOutcome.{steps_outcome, joined_by, unit_by_steps}
 use Rattle.h264_verify.proofs.Agreeing.{agree-less, agree-then, plays-agree}
 use Rattle.h264_verify.proofs.Playing.{answer-stops, answer-on, plays-stops, plays-on, named-by}
 use Rattle.h264_verify.proofs.Entering.{within}
 use Rattle.h264_verify.proofs.Slicing.{err-named}
-use Rattle.h264_verify.proofs.Stepping.{steps-err, closing-stop, closing-then}
 use Rattle.h264_verify.proofs.Standing.{first-met}
-use Rattle.h264_verify.proofs.Joining.{data-held}
-use Rattle.h264_verify.proofs.Courses.{plays-course, plays-as, ended-grows, ending-of}
+use Rattle.h264_verify.proofs.Courses.{plays-course, ended-grows, closing-all}
 use Rattle.h264_verify.proofs.unit.judge_unit.Goals as goal
 
 -- a unit that is sound, part by part
@@ -37,12 +34,11 @@ module _ {S : Type 0} (mode : Mode) (took : S → List Call → Type 0) (failure
   abbrev ends : Bool
   ends = ends_picture kind
 
-  turns-by : (mid : Decoder) (new : State) (s0 s1 s2 s3 : S) (x y z u v w : Unit {0}) (r : Result (Unit {0}) Stop) → (let a : Result (Unit {0}) Stop = Ok x in a ≡ emulation_checked unit.from unit.body) → (let a : Result (Unit {0}) Stop = Ok y in a ≡ judged (header_demands (8 * unit.from) (header_of unit))) → ((made : ℕ → Frame) → Plays (took_with made took) failures (λ (q : Unit {0}). q) (tells (Said (unit_call unit.from (header_of unit) (length unit.body)))) s0 s1 (Ok z)) → answers (Ok u) ≡ steps_outcome (whole_at mode kind before) → (let a : Result (Unit {0}) Stop = Ok v in a ≡ judged (closing_at kind before)) → (e : EndsFrames mode took failures frames (goes_on before) ends (runs_of before) (steps_outcome (frames_at mode kind before)) mid s1 s2 (Ok w)) → Joins {X = Unit {0}} mode took failures e.made (length (ended_pictures (goes_on before) ends (runs_of before))) (joined_by mode kind before unit) new s2 s3 r → Turns {X = Unit {0}} mode took failures frames before unit new s0 s3 r
+  turns-by : (mid : Decoder) (new : State) (s0 s1 s2 s3 : S) (x y z w : Unit {0}) (r : Result (Unit {0}) Stop) → (let a : Result (Unit {0}) Stop = Ok x in a ≡ emulation_checked unit.from unit.body) → (let a : Result (Unit {0}) Stop = Ok y in a ≡ judged (header_demands (8 * unit.from) (header_of unit))) → ((made : ℕ → Frame) → Plays (took_with made took) failures (λ (q : Unit {0}). q) (tells (Said (unit_call unit.from (header_of unit) (length unit.body)))) s0 s1 (Ok z)) → (e : EndsFrames mode took failures frames (goes_on before) ends (runs_of before) (steps_outcome (close_steps mode ends before)) mid s1 s2 (Ok w)) → Joins {X = Unit {0}} mode took failures e.made (length (ended_pictures (goes_on before) ends (runs_of before))) (joined_by mode kind before unit) new s2 s3 r → Turns {X = Unit {0}} mode took failures frames before unit new s0 s3 r
   unfolding unit_by_steps
-  turns-by mid new s0 s1 s2 s3 x y z u v w r sound header told whole closed e j =
+  turns-by mid new s0 s1 s2 s3 x y z w r sound header told e j =
       let n = length (ended_pictures (goes_on before) ends (runs_of before)) in
-      let frames-told = plays-agree took n e.made j.made failures (λ (q : Unit {0}). q) (steps_outcome (frames_at mode kind before)) s1 s2 (Ok w) j.same (ending-of ends mode before) e.plays in
-      let ended = plays-as (took_with j.made took) failures (λ (q : Unit {0}). q) _ _ s1 s2 (Ok w) (closing-then (whole_at mode kind before) (closing_at kind before) (frames_at mode kind before) u v whole closed) frames-told in
+      let ended = plays-agree took n e.made j.made failures (λ (q : Unit {0}). q) (steps_outcome (close_steps mode ends before)) s1 s2 (Ok w) j.same (closing-all ends mode before) e.plays in
       let view : Unit {0} → History = λ q. j.after in
       record {
         made = j.made;
@@ -60,30 +56,27 @@ module _ {S : Type 0} (mode : Mode) (took : S → List Call → Type 0) (failure
 kept-on : {X : Type 0} (r : Result X Stop) (a b n : ℕ) → b ≡ a → OnOk r (n ≡ b) → OnOk r (n ≡ a)
 kept-on r a b n e h = subst (λ (m : ℕ). OnOk r (n ≡ m)) e h
 
-pub end_frame_if-requires-clause-room : goal.end_frame_if-requires-clause-room
-end_frame_if-requires-clause-room g c = subst (λ (n : ℕ). n < 2 ^ 64 - 1) (sym (c.in_ok-tell_unit.ensures.plays c.requires.kept.frames).plays.2) c.requires.count
+pub close_if-requires-clause-room : goal.close_if-requires-clause-room
+close_if-requires-clause-room g c = subst (λ (n : ℕ). n < 2 ^ 64 - 1) (sym (c.in_ok-tell_unit.ensures.plays c.requires.kept.frames).plays.2) c.requires.count
 
 pub join-requires-clause-room : goal.join-requires-clause-room
-join-requires-clause-room g c = subst (λ (n : ℕ). n < 2 ^ 64 - 1) (sym (c.in_ok-end_frame_if.ensures.kept ∙ (c.in_ok-tell_unit.ensures.plays c.requires.kept.frames).plays.2)) c.requires.count
+join-requires-clause-room g c = subst (λ (n : ℕ). n < 2 ^ 64 - 1) (sym (c.in_ok-close_if.ensures.kept ∙ (c.in_ok-tell_unit.ensures.plays c.requires.kept.frames).plays.2)) c.requires.count
 
 pub join-requires-clause-fits : goal.join-requires-clause-fits
 join-requires-clause-fits g c = (first-met _ _ _ (first-met _ _ _ c.in_ok-check_header.ensures).1).0
 
 pub returns-clause-kept : goal.returns-clause-kept
-returns-clause-kept g c = kept-on c.join.result _ _ _ (c.in_ok-end_frame_if.ensures.kept ∙ (c.in_ok-tell_unit.ensures.plays c.requires.kept.frames).plays.2) c.join.ensures.kept
+returns-clause-kept g c = kept-on c.join.result _ _ _ (c.in_ok-close_if.ensures.kept ∙ (c.in_ok-tell_unit.ensures.plays c.requires.kept.frames).plays.2) c.join.ensures.kept
 
-pub end_frame_if-requires-clause-kept : goal.end_frame_if-requires-clause-kept
-end_frame_if-requires-clause-kept g c =
-    let k = c.requires.kept in
-    record { frames = k.frames; before = k.before; slices_are = c.in_ok-end_if.ensures.ended k.before k.keeps.slices; keeps = k.keeps.decoder }
+pub close_if-requires-clause-kept : goal.close_if-requires-clause-kept
+close_if-requires-clause-kept g c = let k = c.requires.kept in record { frames = k.frames; before = k.before; slices_are = k.keeps.slices; keeps = k.keeps.decoder }
 
 pub join-requires-clause-kept : goal.join-requires-clause-kept
 join-requires-clause-kept g c =
     let k = c.requires.kept in
-    let ended = c.in_ok-end_if.ensures.ended k.before k.keeps.slices in
-    let met = c.in_ok-end_data_if.ensures.judged k.before k.keeps.slices (data-held c.args.mode k.frames (goes_on k.before) (runs_of k.before) c.args.state.now.decoder k.keeps.decoder) in
-    let e = c.in_ok-end_frame_if.ensures.ends k.frames k.before ended met k.keeps.decoder in
-    record { frames = e.made; before = k.before; keeps = within {mode = c.args.mode} {frames = k.frames} {made = e.made} {before = k.before} c.args.state.now c.end_if.new.slices c.end_frame_if.new.decoder k.keeps (rw c.ends_picture-ends.ensures at ended) (rw c.ends_picture-ends.ensures at e.keeps) }
+    let ended = c.in_ok-close_if.ensures.ended k.before k.keeps.slices in
+    let e = c.in_ok-close_if.ensures.closes k.frames k.before k.keeps.slices k.keeps.decoder in
+    record { frames = e.made; before = k.before; keeps = within {mode = c.args.mode} {frames = k.frames} {made = e.made} {before = k.before} c.args.state.now c.close_if.new.slices c.close_if.new.decoder k.keeps (rw c.ends_picture-ends.ensures at ended) (rw c.ends_picture-ends.ensures at e.keeps) }
 
 pub returns-in_err-check_emulation-clause-turns : goal.returns-in_err-check_emulation-clause-turns
 unfolding unit_by_steps
@@ -106,53 +99,25 @@ returns-in_err-tell_unit-clause-turns g c =
     let header = rw (c.from-from.ensures.value, c.body-body.ensures.value) at c.in_ok-check_header.ensures in
     rw (p.1, p.2) (λ frames before k. let told = rw (c.from-from.ensures.value, c.body-body.ensures.value) at (c.in_err-tell_unit.ensures.plays frames) in record { made = frames; same = λ n h. refl; after = []; plays = plays-course _ _ _ _ before _ _ _ _ (answer-on _ _ _ _ _ _ _ _ _ (ap answers (sym c.in_ok-check_emulation.ensures.value)) (answer-on _ _ _ _ _ _ _ _ _ (ap answers (sym header)) (plays-stops _ _ (λ x. x) _ _ _ _ _ _ told))); keeps = tt })
 
-pub returns-in_err-end_data_if-clause-turns : goal.returns-in_err-end_data_if-clause-turns
+pub returns-in_err-close_if-clause-turns : goal.returns-in_err-close_if-clause-turns
 unfolding unit_by_steps
-returns-in_err-end_data_if-clause-turns g c =
-    let p = err_from_is_err_and c.from_residual-in_err-end_data_if.result c.from_residual-in_err-end_data_if.ensures.1 in
+returns-in_err-close_if-clause-turns g c =
+    let p = err_from_is_err_and c.from_residual-in_err-close_if.result c.from_residual-in_err-close_if.ensures.1 in
     let header = rw (c.from-from.ensures.value, c.body-body.ensures.value) at c.in_ok-check_header.ensures in
     rw (p.1, p.2) (λ frames before k.
-    let told = rw (c.from-from.ensures.value, c.body-body.ensures.value) at (c.in_ok-tell_unit.ensures.plays frames) in
-    let whole = rw (c.ends_picture-ends.ensures, c.body-body.ensures.value) at (c.in_err-end_data_if.ensures.judged before k.slices (data-held c.args.mode frames (goes_on before) (runs_of before) c.args.state.now.decoder k.decoder)) in
-    record { made = frames; same = λ n h. refl; after = []; plays = plays-course _ _ _ _ before _ _ _ _ (answer-on _ _ _ _ _ _ _ _ _ (ap answers (sym c.in_ok-check_emulation.ensures.value)) (answer-on _ _ _ _ _ _ _ _ _ (ap answers (sym header)) (plays-on _ _ (λ x. x) _ _ _ _ _ _ _ _ told (answer-stops _ _ _ _ _ _ _ (steps-err (whole_at c.args.mode (nal_unit_type (header_of c.args.unit.now)) before) _ _ whole) c.in_err-end_data_if.ensures.named)))); keeps = tt })
-
-pub returns-in_err-end_if-clause-turns : goal.returns-in_err-end_if-clause-turns
-unfolding unit_by_steps
-returns-in_err-end_if-clause-turns g c =
-    let p = err_from_is_err_and c.from_residual-in_err-end_if.result c.from_residual-in_err-end_if.ensures.1 in
-    let header = rw (c.from-from.ensures.value, c.body-body.ensures.value) at c.in_ok-check_header.ensures in
-    rw (p.1, p.2) (λ frames before k.
-    let kind = nal_unit_type (header_of c.args.unit.now) in
-    let told = rw (c.from-from.ensures.value, c.body-body.ensures.value) at (c.in_ok-tell_unit.ensures.plays frames) in
-    let closed = rw (c.ends_picture-ends.ensures, c.body-body.ensures.value) at (c.in_err-end_if.ensures.judged before k.slices) in
-    let whole = rw (c.ends_picture-ends.ensures, c.body-body.ensures.value) at (c.in_ok-end_data_if.ensures.judged before k.slices (data-held c.args.mode frames (goes_on before) (runs_of before) c.args.state.now.decoder k.decoder)) in
-    record { made = frames; same = λ n h. refl; after = []; plays = plays-course _ _ _ _ before _ _ _ _ (answer-on _ _ _ _ _ _ _ _ _ (ap answers (sym c.in_ok-check_emulation.ensures.value)) (answer-on _ _ _ _ _ _ _ _ _ (ap answers (sym header)) (plays-on _ _ (λ x. x) _ _ _ _ _ _ _ _ told (answer-stops _ _ _ _ _ _ _ (closing-stop (whole_at c.args.mode kind before) (closing_at kind before) (frames_at c.args.mode kind before) _ _ whole closed) (err-named (closing_at kind before) _ (sym closed)))))); keeps = tt })
-
-pub returns-in_err-end_frame_if-clause-turns : goal.returns-in_err-end_frame_if-clause-turns
-unfolding unit_by_steps
-returns-in_err-end_frame_if-clause-turns g c =
-    let p = err_from_is_err_and c.from_residual-in_err-end_frame_if.result c.from_residual-in_err-end_frame_if.ensures.1 in
-    let header = rw (c.from-from.ensures.value, c.body-body.ensures.value) at c.in_ok-check_header.ensures in
-    rw (p.1, p.2) (λ frames before k.
-    let kind = nal_unit_type (header_of c.args.unit.now) in
-    let met = c.in_ok-end_data_if.ensures.judged before k.slices (data-held c.args.mode frames (goes_on before) (runs_of before) c.args.state.now.decoder k.decoder) in
-    let e = c.in_err-end_frame_if.ensures.ends frames before (c.in_ok-end_if.ensures.ended before k.slices) met k.decoder in
+    let e = c.in_err-close_if.ensures.closes frames before k.slices k.decoder in
     let ended = rw (c.ends_picture-ends.ensures, c.body-body.ensures.value) at e.plays in
     let told = rw (c.from-from.ensures.value, c.body-body.ensures.value) at (c.in_ok-tell_unit.ensures.plays e.made) in
-    let closed = rw (c.ends_picture-ends.ensures, c.body-body.ensures.value) at (c.in_ok-end_if.ensures.judged before k.slices) in
-    let whole = rw (c.ends_picture-ends.ensures, c.body-body.ensures.value) at (c.in_ok-end_data_if.ensures.judged before k.slices (data-held c.args.mode frames (goes_on before) (runs_of before) c.args.state.now.decoder k.decoder)) in
-    record { made = e.made; same = e.same; after = []; plays = plays-course _ _ _ _ before _ _ _ _ (answer-on _ _ _ _ _ _ _ _ _ (ap answers (sym c.in_ok-check_emulation.ensures.value)) (answer-on _ _ _ _ _ _ _ _ _ (ap answers (sym header)) (plays-on _ _ (λ x. x) _ _ _ _ _ _ _ _ told (plays-stops _ _ (λ x. x) _ _ _ _ _ _ (plays-as _ _ (λ x. x) _ _ _ _ _ (closing-then (whole_at c.args.mode kind before) (closing_at kind before) (frames_at c.args.mode kind before) _ _ whole closed) ended))))); keeps = tt })
+    record { made = e.made; same = e.same; after = []; plays = plays-course _ _ _ _ before _ _ _ _ (answer-on _ _ _ _ _ _ _ _ _ (ap answers (sym c.in_ok-check_emulation.ensures.value)) (answer-on _ _ _ _ _ _ _ _ _ (ap answers (sym header)) (plays-on _ _ (λ x. x) _ _ _ _ _ _ _ _ told (plays-stops _ _ (λ x. x) _ _ _ _ _ _ ended)))); keeps = tt })
 
 pub returns-clause-turns : goal.returns-clause-turns
 returns-clause-turns g c =
     let header = rw (c.from-from.ensures.value, c.body-body.ensures.value) at c.in_ok-check_header.ensures in
     let says = rw (c.from-from.ensures.value, c.body-body.ensures.value) at c.in_ok-tell_unit.ensures.plays in
-    let ends = rw (c.ends_picture-ends.ensures, c.body-body.ensures.value) at c.in_ok-end_frame_if.ensures.ends in
+    let closes = rw (c.ends_picture-ends.ensures, c.body-body.ensures.value) at c.in_ok-close_if.ensures.closes in
     let joins = rw c.body-body.ensures.value at c.join.ensures.joins in
     λ frames before k.
-    let slices = rw (c.ends_picture-ends.ensures, c.body-body.ensures.value) at (c.in_ok-end_if.ensures.ended before k.slices) in
-    let closed = rw (c.ends_picture-ends.ensures, c.body-body.ensures.value) at (c.in_ok-end_if.ensures.judged before k.slices) in
-    let whole = rw (c.ends_picture-ends.ensures, c.body-body.ensures.value) at (c.in_ok-end_data_if.ensures.judged before k.slices (data-held c.args.mode frames (goes_on before) (runs_of before) c.args.state.now.decoder k.decoder)) in
-    let e = ends frames before slices whole k.decoder in
-    let j = joins e.made before (within {mode = c.args.mode} {frames = frames} {made = e.made} {before = before} c.args.state.now c.end_if.new.slices c.end_frame_if.new.decoder k slices e.keeps) in
-    turns-by c.args.mode _ _ frames before c.args.unit.now _ _ _ _ _ _ _ _ _ _ _ _ _ c.in_ok-check_emulation.ensures.value header says whole closed e j
+    let slices = rw (c.ends_picture-ends.ensures, c.body-body.ensures.value) at (c.in_ok-close_if.ensures.ended before k.slices) in
+    let e = closes frames before k.slices k.decoder in
+    let j = joins e.made before (within {mode = c.args.mode} {frames = frames} {made = e.made} {before = before} c.args.state.now c.close_if.new.slices c.close_if.new.decoder k slices e.keeps) in
+    turns-by c.args.mode _ _ frames before c.args.unit.now _ _ _ _ _ _ _ _ _ _ _ c.in_ok-check_emulation.ensures.value header says e j
