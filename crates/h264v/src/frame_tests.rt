@@ -2,7 +2,7 @@
 #![tactic(auto)]
 
 use crate::check_tests::{pcm_samples, pcm_stream};
-use crate::tests::{Case, OneFile, answer_of, check_cases, outcome_of, whole};
+use crate::tests::{Case, OneFile, answer_of, check_cases, outcome_by_bytes, outcome_of, whole};
 use std::process::Abort;
 use std::test::Fail;
 
@@ -263,6 +263,28 @@ fn each_write_fails(
     Ok(())
 }
 
+/// Where each write takes one byte, the same bytes are written; whichever fails, those before it stand there.
+fn byte_by_byte(
+    rt: &(impl Abort + AllocGlobal),
+    stream: &[u8],
+    samples: &[u8],
+) -> Result<(), Fail> {
+    let all = outcome_by_bytes(rt.alloc(), "decode", whole(stream), usize::MAX)?;
+    assert_eq!(rt; all.out.as_slice(), samples);
+    assert_eq!(rt;
+        all.err.as_slice(),
+        b"yes: units 3 pictures 1 frames 1\n".as_slice()
+    );
+    assert_eq!(rt; all.writes, samples.len());
+    for failing in 0..samples.len() {
+        let some = outcome_by_bytes(rt.alloc(), "decode", whole(stream), failing)?;
+        assert_eq!(rt; some.status, 4);
+        assert_eq!(rt; some.out.as_slice(), &samples[..failing]);
+        assert_eq!(rt; some.err.as_slice(), b"write failed\n".as_slice());
+    }
+    Ok(())
+}
+
 /// Whichever read of `decode` fails, no frame has been written, and it is told.
 fn each_read_fails(rt: &(impl Abort + AllocGlobal), stream: &[u8]) -> Result<(), Fail> {
     for failing in 0..=stream.len() {
@@ -289,5 +311,6 @@ fn frames(rt: HostRuntime) -> Result<(), Fail> {
     let stream = pcm_stream(rt.alloc())?;
     samples(&rt, stream.as_slice(), shown.as_slice())?;
     each_write_fails(&rt, stream.as_slice(), shown.as_slice())?;
+    byte_by_byte(&rt, stream.as_slice(), shown.as_slice())?;
     each_read_fails(&rt, stream.as_slice())
 }

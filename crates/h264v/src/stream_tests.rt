@@ -2,7 +2,7 @@
 #![tactic(auto)]
 
 use crate::check_tests::ONE_FRAME;
-use crate::tests::{OneFile, answer_of, check, whole};
+use crate::tests::{OneFile, answer_of, check, outcome_by_bytes, whole};
 use std::process::Abort;
 use std::test::Fail;
 
@@ -117,6 +117,20 @@ fn each_write_fails(rt: &(impl Abort + AllocGlobal)) -> Result<(), Fail> {
     Ok(())
 }
 
+/// Where each write takes one byte, the same text is written.
+fn byte_by_byte(rt: &(impl Abort + AllocGlobal)) -> Result<(), Fail> {
+    for word in COMMANDS {
+        for bytes in STREAMS {
+            let all = answer_of(rt.alloc(), word, whole(bytes), usize::MAX)?;
+            let single = outcome_by_bytes(rt.alloc(), word, whole(bytes), usize::MAX)?;
+            assert_eq!(rt; single.status, all.status);
+            assert_eq!(rt; single.out.as_slice(), all.text.as_bytes());
+            assert_eq!(rt; single.writes, all.text.len());
+        }
+    }
+    Ok(())
+}
+
 /// The bit that a no names.
 fn bit_of(text: &str) -> Option<usize> {
     let start = text.rfind("no: bit ")? + 8;
@@ -156,5 +170,6 @@ fn streams_with_slices(rt: HostRuntime) -> Result<(), Fail> {
 #[test]
 fn each_device_fails(rt: HostRuntime) -> Result<(), Fail> {
     each_read_fails(&rt)?;
-    each_write_fails(&rt)
+    each_write_fails(&rt)?;
+    byte_by_byte(&rt)
 }

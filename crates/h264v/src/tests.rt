@@ -68,12 +68,13 @@ impl<'a> Opener for OneFile<'a> {
     }
 }
 
-/// A writer that fails at the call of this number, and at no other.
+/// A writer that takes at most so many bytes a call, and fails at the call of this number, and at no other.
 #[derive(Drop)]
 struct FailsAt {
     text: Vec<u8>,
     calls: usize,
     failing: usize,
+    most: usize,
 }
 
 impl Write for FailsAt {
@@ -83,7 +84,7 @@ impl Write for FailsAt {
         if call == self.failing {
             return Err(io::Error::from(ErrorKind::Other));
         }
-        self.text.write(bytes)
+        self.text.write(&bytes[..bytes.len().min(self.most)])
     }
 
     fn flush(&mut self) -> io::Result<()> {
@@ -123,26 +124,49 @@ pub fn units(alloc: Global, file: OneFile, failing_write: usize) -> Result<Answe
     answer_of(alloc, "units", file, failing_write)
 }
 
-/// A writer that holds nothing yet, and fails at the call of this number.
-fn fails_at(alloc: Global, failing: usize) -> FailsAt {
-    FailsAt {
-        text: Vec::new(alloc),
-        calls: 0,
-        failing,
-    }
-}
-
 /// What any command writes, where the writes of these numbers fail on standard output and on standard error.
 pub fn outcome_of(
     alloc: Global,
     command_word: &str,
-    mut file: OneFile,
+    file: OneFile,
     failing_write: usize,
     failing_error: usize,
 ) -> Result<Written, Fail> {
+    let out = fails_at(alloc, failing_write, usize::MAX);
+    let err = fails_at(alloc, failing_error, usize::MAX);
+    outcome_with(alloc, command_word, file, out, err)
+}
+
+/// The same, where each write takes one byte, and that of this number on standard output fails.
+pub fn outcome_by_bytes(
+    alloc: Global,
+    command_word: &str,
+    file: OneFile,
+    failing_write: usize,
+) -> Result<Written, Fail> {
+    let out = fails_at(alloc, failing_write, 1);
+    let err = fails_at(alloc, usize::MAX, 1);
+    outcome_with(alloc, command_word, file, out, err)
+}
+
+/// A writer that holds nothing yet, takes at most so many bytes a call, and fails at the call of this number.
+fn fails_at(alloc: Global, failing: usize, most: usize) -> FailsAt {
+    FailsAt {
+        text: Vec::new(alloc),
+        calls: 0,
+        failing,
+        most,
+    }
+}
+
+fn outcome_with(
+    alloc: Global,
+    command_word: &str,
+    mut file: OneFile,
+    mut out: FailsAt,
+    mut err: FailsAt,
+) -> Result<Written, Fail> {
     let words = words(alloc, &["h264v", command_word, "stream"])?;
-    let mut out = fails_at(alloc, failing_write);
-    let mut err = fails_at(alloc, failing_error);
     let status = command(alloc, words.as_slice(), &mut file, &mut out, &mut err);
     Ok(Written {
         out: out.text,
