@@ -7,7 +7,7 @@ use Rattle.h264_report.specs.Sent.{Takes}
 use Rattle.h264_report.specs.Written.{OfBytes, Lists, Checks, Decodes, last_line, status_of}
 use Rattle.h264_report.specs.declared.listing.Listing.TheVariants as listings
 use Rattle.h264_verify.specs.declared.judge.Summary.{Summary}
-use Rattle.h264v.specs.Words.{program, asks, name_of}
+use Rattle.h264v.specs.Words.{program, asks, name_of, IsRefusable}
 use Rattle.h264v.specs.declared.asked.Task.{Task}
 use Rattle.h264v.specs.declared.asked.Task.TheVariants as tasks
 use Rattle.clap.specs.Words.{Text}
@@ -33,14 +33,14 @@ abbrev pub IsUnread : Result Summary Stop → Type 0
 IsUnread answer = (answer ≡ Err Read) ⊎ (answer ≡ Err Memory)
 
 -- The words ask for nothing, and standard output is as it was; or there was no memory to find that out, or to say why.
-pub data Faults (status : ℕ) (old new err_old err_new : Option (List ℕ)) : Type 0 where
-  Refused : status ≡ 64 → new ≡ old → Faults status old new err_old err_new
-  Short : (written : Bool) → status ≡ status_of written (Err Memory) → Takes written old new (last_line modes.Full (Err Memory)) → err_new ≡ err_old → Faults status old new err_old err_new
+pub data Faults (words : List Text) (status : ℕ) (old new err_old err_new : Option (List ℕ)) : Type 0 where
+  Refused : IsRefusable words → status ≡ 64 → new ≡ old → Faults words status old new err_old err_new
+  Short : (written : Bool) → status ≡ status_of written (Err Memory) → Takes written old new (last_line modes.Full (Err Memory)) → err_new ≡ err_old → Faults words status old new err_old err_new
 
 -- What comes of these words, where a file of a name holds these bytes, as far as that is known.
 pub data Comes (words : List Text) (file : Text → Option (List ℕ)) (status : ℕ) (old new err_old err_new : Option (List ℕ)) : Type 0 where
   -- they ask for nothing
-  Faulted : Faults status old new err_old err_new → Comes words file status old new err_old err_new
+  Faulted : Faults words status old new err_old err_new → Comes words file status old new err_old err_new
   -- they ask for a task with a file that can't be opened
   Unopened : (task : Task) (name : Text) (answer : Result Summary Stop) (written : Bool) → asks program words ≡ Some (name_of task, Some name) → status ≡ status_of written answer → IsUnread answer → SaysAlone task answer written old new err_old err_new → Comes words file status old new err_old err_new
   -- they ask for a task with a file, and it was done

@@ -1,6 +1,7 @@
 -- The command line: a simple command of clap with one level of subcommands, each of which takes one FILE.
-use Rattle.std.specs.Prelude.{true, List, Option, option_map, codes}
-use Rattle.clap.specs.Words.{App, Rule, Shape, Text, new_app, first_of, new_rule, subcommand_of, with_rule, with_subcommand}
+use Rattle.std.specs.Prelude.{◌≡◌, true, List, Option, Some, None, option_map, codes}
+use Rattle.clap.specs.Words.{App, Rule, Shape, Text, new_app, first_of, new_rule, subcommand_of, takes, with_rule, with_subcommand}
+use Rattle.h264v.specs.declared.asked.Request.{Request}
 use Rattle.h264v.specs.declared.asked.Task.{Task}
 use Rattle.h264v.specs.declared.asked.Task.TheVariants as tasks
 
@@ -35,3 +36,16 @@ name_of tasks.Decode = codes "decode"
 -- the subcommand that words ask for, and the FILE that they give it
 abbrev pub asks : App → List Text → Option (Text × Option Text)
 asks app words = option_map (λ p. (p.0, first_of (codes "FILE") p.1)) (subcommand_of app words)
+
+-- these words name no task with a FILE
+abbrev pub AsksNothing : List Text → Type 0
+AsksNothing words = (task : Task) (file : Text) → asks program words ≡ Some (name_of task, Some file) → ⊥
+
+-- this is what words ask for
+abbrev pub AsksFor : List Text → Option Request → Type 0
+AsksFor words None = AsksNothing words
+AsksFor words (Some r) = asks program words ≡ Some (name_of r.task, Some r.file.now)
+
+-- Words may be refused: the command line does not take them, or they name no task with a FILE.
+abbrev pub IsRefusable : List Text → Type 0
+IsRefusable words = takes program words ≡ true → AsksNothing words

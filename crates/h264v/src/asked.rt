@@ -1,10 +1,12 @@
 //! What the words of the command line ask for.
 #![tactic(auto)]
 
-ghost use Rattle.std.specs.Prelude.{◌≡◌, false, map, Some, IfOk, IfSome, string_bytes};
-ghost use Rattle.clap.specs.Words.{app_of};
+ghost use Rattle.std.specs.Prelude.{◌≡◌, true, false, map, None, IfOk, IfErr, IfSome, string_bytes};
+ghost use Rattle.clap.specs.Words.{app_of, takes, kind_of};
+ghost use Rattle.clap.specs.declared.error.kind.ErrorKind.TheVariants as kinds;
 ghost use Rattle.clap.specs.declared.builder.command.Command.TheViews.{out-Command as fields_of};
-ghost use Rattle.h264v.specs.Words.{file_app, with_file, bare, program, name_of, asks};
+ghost use Rattle.h264v.specs.Words.{file_app, with_file, bare, program, name_of, AsksFor};
+ghost use Rattle.h264v.specs.declared.asked.Task.{Task as TaskView};
 
 use clap::{Arg, Command, Error};
 use std::alloc::{AllocError, Global};
@@ -107,7 +109,8 @@ fn program<'a>(alloc: Global) -> Result<Command<'a>, AllocError>
 
 /// The task of a subcommand's name; none for another word.
 fn task_of(name: &str) -> Option<Task>
-    ensures { IfSome result (λ t. name_of t ≡ name.now) }
+    ensures task { IfSome result (λ t. name_of t ≡ name.now) }
+    ensures none { result ≡ None → (t : TaskView) → name_of t ≡ name.now → ⊥ }
 {
     if name == "check" {
         Some(Task::Check)
@@ -128,15 +131,19 @@ fn task_of(name: &str) -> Option<Task>
 ///
 /// An error has the text that says why they ask for nothing, among them a request for help or the version; or memory was wanting for it.
 pub fn asked<'a>(alloc: Global, words: &'a [String]) -> Result<Option<Request<'a>>, Error>
-    ensures words { IfOk result (λ found. IfSome found (λ r. asks program (map (λ w. string_bytes w) words.entry.now) ≡ Some (name_of r.task, Some r.file.now))) }
+    ensures words { IfOk result (λ found. AsksFor (map (λ w. string_bytes w) words.entry.now) found) }
+    ensures refused { IfErr result (λ e. takes program (map (λ w. string_bytes w) words.entry.now) ≡ true → kind_of e ≡ kinds.OutOfMemory) }
 {
     let command = program(alloc)?;
     let matches = command.try_get_matches_from(words)?;
     let Some((name, found)) = matches.subcommand() else {
         return Ok(None);
     };
-    match (task_of(name), found.get_str("FILE")) {
-        (Some(task), Some(file)) => Ok(Some(Request { task, file })),
-        _ => Ok(None),
-    }
+    let Some(task) = task_of(name) else {
+        return Ok(None);
+    };
+    let Some(file) = found.get_str("FILE") else {
+        return Ok(None);
+    };
+    Ok(Some(Request { task, file }))
 }

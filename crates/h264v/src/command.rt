@@ -1,9 +1,12 @@
 //! The command line.
 #![tactic(auto)]
 
-ghost use Rattle.std.specs.Prelude.{◌-◌, ◌<◌, ◌^◌, map, string_bytes};
+ghost use Rattle.std.specs.Prelude.{◌≡◌, ◌-◌, ◌<◌, ◌^◌, true, List, map, string_bytes};
+ghost use Rattle.clap.specs.Words.{Text, takes, kind_of};
+ghost use Rattle.clap.specs.declared.error.kind.ErrorKind.TheVariants as kinds;
 ghost use Rattle.h264_report.specs.Written.{OfBytes};
 ghost use Rattle.h264v.specs.Commands.{Performs, SaysAlone, IsUnread, Faults, Comes};
+ghost use Rattle.h264v.specs.Words.{program};
 
 use crate::asked::{Task, asked};
 use crate::files::{Opener, ReadSource};
@@ -63,7 +66,7 @@ pub fn not_text<E: Write>(err: &mut E) -> u8 {
 
 /// Says why the words ask for nothing: the exit status of a fault of the words. Where memory was wanting for that, it is said on `out`.
 fn fault<W: Write, E: Write>(error: &Error, out: &mut W, err: &mut E) -> u8
-    ensures { Faults result (W.contents out.old) (W.contents out.new) (E.contents err.old) (E.contents err.new) }
+    ensures { (words : List Text) → (takes program words ≡ true → kind_of error.now ≡ kinds.OutOfMemory) → Faults words result (W.contents out.old) (W.contents out.new) (E.contents err.old) (E.contents err.new) }
 {
     if error.kind() == ErrorKind::OutOfMemory {
         return put_memory(out).status();

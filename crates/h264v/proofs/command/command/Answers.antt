@@ -1,13 +1,16 @@
-use Rattle.std.proofs.Common.{refl}
+use Rattle.std.proofs.Common.{map, string_bytes, refl}
 use Rattle.h264_report.proofs.Accounts.{of-kept}
-use Rattle.h264v.specs.Commands.{Performs, Faulted, Unopened, Done}
+use Rattle.h264v.specs.Commands.{Performs, Refused, Faulted, Unopened, Done}
 use Rattle.h264v.proofs.command.command.Goals as goal
 
 pub returns-in_default : goal.returns-in_default
 returns-in_default g c = Unopened c.in-Ok-Some.asked.task c.in-Ok-Some.asked.file.now c.no_file.result.answer c.no_file.result.written (rw c.in-Ok-Some.field-0-is at c.in-Ok-Some.ensures.words) c.status.ensures c.no_file.ensures.answer c.no_file.ensures.says
 
 pub returns-in-Err : goal.returns-in-Err
-returns-in-Err g c = Faulted c.fault.ensures
+returns-in-Err g c = Faulted (c.fault.ensures (map (λ w. string_bytes w) c.args.words.now) c.in-Err.ensures.refused)
+
+pub returns-in-Ok-None : goal.returns-in-Ok-None
+returns-in-Ok-None g c = Faulted (Refused (λ t. rw c.in-Ok-None.field-0-is at c.in-Ok-None.ensures.words) refl refl)
 
 pub returns-in-Ok : goal.returns-in-Ok
 returns-in-Ok g c =
