@@ -1,0 +1,7 @@
+use Rattle.std.proofs.Common.{◌≡◌, ℕ, ◌<◌, true, false}
+use Rattle.h264_deblock.specs.Rows.{line_of}
+use Rattle.h264_deblock.specs.Still.{IsStill}
+use Rattle.h264_deblock.proofs.still.are_still.Given as goal
+
+abbrev pub invariant-loop-n : goal.invariant-loop-n
+invariant-loop-n l = l.still ≡ true → (m : ℕ) → m < l.n → IsStill false l.alpha l.beta (line_of l.r m)
