@@ -8,30 +8,30 @@ ghost use Rattle.h264_recon.specs.Blocks4.{place4, AreMade4, IsPut4};
 use crate::intra::neighbours4;
 use crate::macroblock::Available;
 use crate::store::Store;
-use crate::sum::{added, alone};
+use crate::sum::{with_residual, without_residual};
 use h264_intra::{Intra4x4PredMode, predict4};
 
-/// Constructs a block, at column `x` and row `y` of blocks, from its prediction and the macroblock's residual.
+/// The residual of the block at column `x` and row `y` of blocks.
 #[inline(always)]
-fn put_sum4(own: &mut [u8; 256], x: usize, y: usize, predicted: &[u8; 16], residual: &[i16; 256])
+fn part4(residual: &[i16; 256], x: usize, y: usize) -> [i16; 16]
     requires { (x < 4) × (y < 4) }
-    ensures { IsPut4 own.old own.new x y (λ i j. clip1 (pos (slice_index predicted.now (4 * j + i)) +ℤ get_or residual.now (place4 x y i j) (pos 0))) }
+    ensures { (k : ℕ) → k < 16 → get_or result k (pos 0) ≡ get_or residual.now (place4 x y (k % 4) (k / 4)) (pos 0) }
 {
+    let mut part = [0; 16];
     for k in 0..16 {
-        let place = 16 * (4 * y + k / 4) + (4 * x + k % 4);
-        own[place] = added(predicted[k], residual[place]);
+        part[k] = residual[16 * (4 * y + k / 4) + (4 * x + k % 4)];
     }
+    part
 }
 
-/// The same from its prediction alone.
+/// Writes the samples of a block.
 #[inline(always)]
-fn put_predicted4(own: &mut [u8; 256], x: usize, y: usize, predicted: &[u8; 16])
+fn put_block4(own: &mut [u8; 256], x: usize, y: usize, block: &[u8; 16])
     requires { (x < 4) × (y < 4) }
-    ensures { IsPut4 own.old own.new x y (λ i j. clip1 (pos (slice_index predicted.now (4 * j + i)) +ℤ pos 0)) }
+    ensures { IsPut4 own.old own.new x y (λ i j. slice_index block.now (4 * j + i)) }
 {
     for k in 0..16 {
-        let place = 16 * (4 * y + k / 4) + (4 * x + k % 4);
-        own[place] = alone(predicted[k]);
+        own[16 * (4 * y + k / 4) + (4 * x + k % 4)] = block[k];
     }
 }
 
@@ -48,8 +48,11 @@ fn put4(
     ensures { IsPut4 own.old own.new x y (λ i j. clip1 (pos (slice_index predicted.now (4 * j + i)) +ℤ get_or (unwrap_or residual.now []) (place4 x y i j) (pos 0))) }
 {
     match residual {
-        None => put_predicted4(own, x, y, predicted),
-        Some(residual) => put_sum4(own, x, y, predicted, residual),
+        None => put_block4(own, x, y, &without_residual::<16>(predicted)),
+        Some(residual) => {
+            let part = part4(residual, x, y);
+            put_block4(own, x, y, &with_residual::<16>(predicted, &part));
+        }
     }
 }
 

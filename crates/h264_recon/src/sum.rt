@@ -1,19 +1,17 @@
 ghost use Rattle.std.specs.Prelude.{◌≡◌, ℕ, ◌<◌, length, slice_index, get_or, unwrap_or, [], pos, ◌+ℤ◌};
 ghost use Rattle.h264_plane.specs.Clip.{clip1 as clip1_of};
 
-use h264_plane::clip1;
-
-/// A constructed sample (8.5.14).
+/// A constructed sample (8.5.14). A sum beyond 16 bits is above 255.
 #[inline(always)]
-pub fn added(predicted: u8, residual: i16) -> u8
+fn added(predicted: u8, residual: i16) -> u8
     ensures { result ≡ clip1_of (pos predicted +ℤ residual) }
 {
-    clip1(i32::from(predicted) + i32::from(residual))
+    i16::from(predicted).saturating_add(residual).clamp(0, 255) as u8
 }
 
 /// The constructed samples of a block that has a residual.
 #[inline(always)]
-fn with_residual<const N: usize>(predicted: &[u8; N], residual: &[i16; N]) -> [u8; N]
+pub fn with_residual<const N: usize>(predicted: &[u8; N], residual: &[i16; N]) -> [u8; N]
     ensures whole { length result ≡ N }
     ensures each { (k : ℕ) → k < N → slice_index result k ≡ clip1_of (pos (slice_index predicted.now k) +ℤ get_or residual.now k (pos 0)) }
 {
@@ -26,7 +24,7 @@ fn with_residual<const N: usize>(predicted: &[u8; N], residual: &[i16; N]) -> [u
 
 /// A constructed sample that has no residual.
 #[inline(always)]
-pub fn alone(predicted: u8) -> u8
+fn alone(predicted: u8) -> u8
     ensures { result ≡ clip1_of (pos predicted +ℤ pos 0) }
 {
     predicted
@@ -34,7 +32,7 @@ pub fn alone(predicted: u8) -> u8
 
 /// The constructed samples of a block that has no residual.
 #[inline(always)]
-fn without_residual<const N: usize>(predicted: &[u8; N]) -> [u8; N]
+pub fn without_residual<const N: usize>(predicted: &[u8; N]) -> [u8; N]
     ensures whole { length result ≡ N }
     ensures each { (k : ℕ) → k < N → slice_index result k ≡ clip1_of (pos (slice_index predicted.now k) +ℤ pos 0) }
 {
