@@ -2,9 +2,10 @@
 # compare.sh [STREAM..]: builds h264v, and prints for each stream the times of `h264v units` and `h264v headers` beside those of `md5sum` and `cat` on the
 # same file, and of a stream that `h264v check` says yes to also those of `check` and `decode`, beside ffmpeg's single-threaded decoding, with its vector code
 # and without (-cpuflags 0), and OpenH264's through GStreamer, where they are installed: the best of up to seven runs each, taken in turn, the ratios, and
-# h264v's peak memory. On Debian: apt-get install ffmpeg x264 gstreamer1.0-tools gstreamer1.0-plugins-base gstreamer1.0-plugins-bad
+# h264v's peak memory; of pictures also nanoseconds a macroblock, and megabits of slice data a second. On Debian: apt-get install ffmpeg x264 gstreamer1.0-tools gstreamer1.0-plugins-base gstreamer1.0-plugins-bad
 # With no STREAM it makes four streams of 100 MB by slices.py, of slices of 100, 250, 1,000 and 5,000 bytes, which hold no pictures, and, where x264 and
-# ffmpeg are installed, four streams of pictures. The whole takes some four minutes then, without the proofs of a first build.
+# ffmpeg are installed, four streams of pictures, and one large I picture alone and with a P picture behind it: the difference of these two is the P picture's.
+# The whole takes some four minutes then, without the proofs of a first build.
 set -eu
 top=$(cd "$(dirname "$0")/.." && pwd)
 (cd "$top/crates/h264v" && rt run -- units "$top/samples/one_frame.264" > /dev/null)
@@ -27,6 +28,8 @@ if [ $# -eq 0 ]; then
         encode cif_p 352x288 150 --qp 28 --ref 3 --keyint 250
         encode hd_i 1920x1080 8 --qp 28 --keyint 1
         encode hd_p 1920x1080 40 --qp 30 --ref 1 --keyint 250
+        encode large_i 3840x2160 1 --qp 22 --ref 1 --keyint 250
+        encode large_ip 3840x2160 2 --qp 22 --ref 1 --keyint 250
     fi
     set -- "$made"/*.264
 fi
@@ -34,7 +37,7 @@ python3 - "$program" "$@" <<'PYTHON'
 import os, shutil, subprocess, sys, time
 
 # No more turns of a stream's commands once they took so many seconds.
-ENOUGH = 20
+ENOUGH = 15
 
 def start(words):
     return subprocess.Popen(words, stdout=subprocess.DEVNULL, stderr=subprocess.DEVNULL)
@@ -66,7 +69,26 @@ def peak(words):
         most = max(most, held(process.pid, words[0]))
     return most
 
+def lines_of(mode, stream):
+    text = subprocess.run([program, mode, stream], stdout=subprocess.PIPE, text=True).stdout
+    return [line.split() for line in text.splitlines()]
+
+def macroblocks(stream):
+    """How many macroblocks its frames have."""
+    sizes = [words[4].split("x") for words in lines_of("frames", stream) if words[0] == "frame"]
+    return sum(-(-int(width) // 16) * -(-int(height) // 16) for width, height in sizes)
+
+def slice_bits(stream):
+    """How many bits its slices have."""
+    return sum(8 * int(words[-1]) for words in lines_of("units", stream) if words[0] == "unit" and words[3] in ("1", "5"))
+
+def rates(count, bits, seconds):
+    """Of so many macroblocks and bits of slices: the times by mode."""
+    told = [f"{mode} {1e9 * seconds[mode] / count:.0f} ns a macroblock, {bits / seconds[mode] / 1e6:.0f} Mbit/s of slice data" for mode in ("check", "decode")]
+    return f"{count} macroblocks in {bits} bits of slices: " + ", ".join(told)
+
 program, *streams = sys.argv[1:]
+measured = {}
 for stream in streams:
     modes = ["units", "headers"]
     pictures = start([program, "check", stream]).wait() == 0
@@ -87,4 +109,10 @@ for stream in streams:
         if name.startswith(("ffmpeg", "OpenH264")):
             line += f", {name} {times[name]:.3f} s: decode takes {times['decode'] / times[name]:.2f} of it"
     print(line, flush=True)
+    if pictures:
+        measured[os.path.basename(stream)] = (macroblocks(stream), slice_bits(stream), {mode: times[mode] for mode in ("check", "decode")})
+        print("    " + rates(*measured[os.path.basename(stream)]), flush=True)
+if {"large_i.264", "large_ip.264"} <= measured.keys():
+    (count, bits, times), (all_count, all_bits, all_times) = measured["large_i.264"], measured["large_ip.264"]
+    print("the P picture of large_ip alone: " + rates(all_count - count, all_bits - bits, {mode: all_times[mode] - times[mode] for mode in times}))
 PYTHON
