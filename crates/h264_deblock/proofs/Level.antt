@@ -1,25 +1,21 @@
 -- Lines that no filter changes, and edges of such lines.
-use Rattle.std.proofs.Common.{◌≡◌, ◌⊎◌, ℕ, ◌+◌, ◌-◌, ◌*◌, ◌/◌, ◌<◌, ◌≤◌, Bool, true, false, not, ◌&&◌, ◌||◌, cond, ◌==◌, nat_lt, pos, neg_ℤ, ◌+ℤ◌, ◌-ℤ◌, ◌*ℤ◌, slice_index, arith, refl, sym, ap, ◌∙◌, ⊎_elim, inl, inr}
+use Rattle.std.proofs.Common.{◌≡◌, ℕ, ◌+◌, ◌-◌, ◌*◌, ◌/◌, ◌<◌, ◌≤◌, Bool, true, false, ◌&&◌, cond, nat_lt, pos, neg_ℤ, ◌+ℤ◌, ◌-ℤ◌, ◌*ℤ◌, slice_index, arith, refl, sym, ap, ◌∙◌, ⊎_elim}
 use Rattle.std.proofs.lemmas.Int.{ints, clamps}
-use Rattle.std.proofs.lemmas.Bool.Decides.{nat_tests}
 use Rattle.std.specs.Int.{abs_diff}
 use Rattle.h264_plane.specs.Samples.{Samples, at, look, Holds}
 use Rattle.h264_tables.specs.Thresholds.{alpha_rows, beta_rows}
 use Rattle.h264_deblock.specs.Line.{filtered, is_within_limits, by_filter, number, clip1, clip3, step, bend, delta, reach, second, normal, strong, strong_side, is_flat}
 use Rattle.h264_deblock.specs.Edge.{index_of, taps, replaced, limits, edge_after}
 use Rattle.h264_deblock.specs.Rows.{line_of}
-use Rattle.h264_deblock.specs.Inner.{inner_of, HasInner}
-use Rattle.h264_deblock.specs.Still.{IsStill, IsLevel, IsLevelInside}
+use Rattle.h264_deblock.specs.Still.{IsStill, IsLevel}
 use Rattle.h264_deblock.specs.declared.line.Line.{Line}
 use Rattle.h264_deblock.specs.declared.line.Side.{Side}
 use Rattle.h264_deblock.specs.declared.line.Limits.{Limits}
 use Rattle.h264_deblock.specs.declared.line.Filter.{Filter}
 use Rattle.h264_deblock.specs.declared.line.Filter.TheVariants.{Off, Normal, Strong}
 use Rattle.h264_deblock.specs.declared.rows.Rows.{Rows}
-use Rattle.h264_deblock.specs.declared.inner.Inner.{Inner}
 use Rattle.h264_deblock.specs.declared.edge_parameters.EdgeParameters.{EdgeParameters}
 use Rattle.h264_deblock.proofs.Lines.{filtered_is, filtered_not, replaced_same, either}
-use Rattle.h264_deblock.proofs.Local.{filtered_inner, outer, replaced_inner}
 use Rattle.h264_deblock.proofs.Beside.{edge_kept, limits_have}
 
 -- ---- a line whose samples are alike
@@ -68,11 +64,6 @@ unfolding normal
 level_normal k t v b =
     rw (no_second k t v, no_delta (reach false k t (level v v v v v)) v v v v v) (rw (unmoved v b) refl)
 
-level_normal_inside : (k : Limits) (t a b v c d : ℕ) → v < 256 → normal true k t (level a b v c d) ≡ level a b v c d
-unfolding normal second
-level_normal_inside k t a b v c d i =
-    rw (no_delta (reach true k t (level a b v c d)) a b v c d) (rw (unmoved v i) refl)
-
 level_side : (k : Limits) (v : ℕ) → strong_side false k (level v v v v v) ≡ (let s : Side = record { x0 = v; x1 = v; x2 = v } in s)
 unfolding strong_side
 level_side k v =
@@ -87,25 +78,13 @@ level_strong : (k : Limits) (v : ℕ) → strong false k (level v v v v v) ≡ l
 unfolding strong
 level_strong k v = rw (level_side k v) refl
 
-level_strong_inside : (k : Limits) (a b v c d : ℕ) → strong true k (level a b v c d) ≡ level a b v c d
-unfolding strong strong_side
-level_strong_inside k a b v c d = let weak : (2 * v + v + v + 2) / 4 ≡ v = omega arith in rw weak refl
-
 by_level : (f : Filter) (k : Limits) (v : ℕ) → v < 256 → by_filter f false k (level v v v v v) ≡ level v v v v v
 by_level Off k v b = refl
 by_level (Normal t) k v b = level_normal k t v b
 by_level Strong k v b = level_strong k v
 
-by_level_inside : (f : Filter) (k : Limits) (a b v c d : ℕ) → v < 256 → by_filter f true k (level a b v c d) ≡ level a b v c d
-by_level_inside Off k a b v c d i = refl
-by_level_inside (Normal t) k a b v c d i = level_normal_inside k t a b v c d i
-by_level_inside Strong k a b v c d i = level_strong_inside k a b v c d
-
 level_is : (l : Line) → IsLevel l → l ≡ level l.p0 l.p0 l.p0 l.p0 l.p0
-level_is l h = rw (h.p3, h.p2, h.inside.p1, h.inside.q0, h.inside.q1, h.q2, h.q3) refl
-
-level_inside_is : (l : Line) → IsLevelInside l → l ≡ level l.p3 l.p2 l.p0 l.q2 l.q3
-level_inside_is l h = rw (h.p1, h.q0, h.q1) refl
+level_is l h = rw (h.p3, h.p2, h.p1, h.q0, h.q1, h.q2, h.q3) refl
 
 kept_within : (c : Bool) (k : Limits) (l m : Line) → l ≡ m → by_filter k.filter c k m ≡ m → filtered c k l ≡ l
 kept_within c k l m e stays = ⊎_elim
@@ -118,35 +97,16 @@ level_still alpha beta l b h f =
     let k : Limits = record { alpha = alpha; beta = beta; filter = f } in
     kept_within false k l (level l.p0 l.p0 l.p0 l.p0 l.p0) (level_is l h) (by_level f k l.p0 b)
 
-pub level_inside_still : (alpha beta : ℕ) (l : Line) → l.p0 < 256 → IsLevelInside l → IsStill true alpha beta l
-level_inside_still alpha beta l b h f =
-    let k : Limits = record { alpha = alpha; beta = beta; filter = f } in
-    kept_within true k l (level l.p3 l.p2 l.p0 l.q2 l.q3) (level_inside_is l h) (by_level_inside f k l.p3 l.p2 l.p0 l.q2 l.q3 b)
-
--- one whose samples ask for no filter
-within_same : (k j : Limits) (l : Line) → k.alpha ≡ j.alpha → k.beta ≡ j.beta → is_within_limits k l ≡ is_within_limits j l
-unfolding is_within_limits
-within_same k j l a b = rw (a, b) refl
-
-pub not_within_still : (c : Bool) (k : Limits) (l : Line) → is_within_limits k l ≡ false → IsStill c k.alpha k.beta l
-not_within_still c k l off f =
-    let j : Limits = record { alpha = k.alpha; beta = k.beta; filter = f } in
-    filtered_not c j l (within_same j k l refl refl ∙ off)
-
-pub still_cases : (within same : Bool) → (not within || same) ≡ true → (within ≡ false) ⊎ (same ≡ true)
-still_cases true same h = inr h
-still_cases false same h = inl refl
-
 -- ---- an edge of such lines
 
 still_by : (c : Bool) (alpha beta : ℕ) (k : Limits) (l : Line) → k.alpha ≡ alpha → k.beta ≡ beta → IsStill c alpha beta l → filtered c k l ≡ l
 still_by c alpha beta k l a b still = rw (← a, ← b) at (still k.filter)
 
--- edges in which each line is still
+-- one in which each line is still
 pub rows_still : (v : Bool) (p : Samples) (e : EdgeParameters) (along across a b alpha beta : ℕ) (r : Rows) → 4 ≤ across →
     a ≡ index_of e.qp_p e.qp_q e.filter_offset_a → b ≡ index_of e.qp_p e.qp_q e.filter_offset_b →
     alpha ≡ slice_index alpha_rows a → beta ≡ slice_index beta_rows b →
-    ((n : ℕ) → n < 16 → line_of r n ≡ taps (look v p (along + n)) across) → ((n : ℕ) → n < 16 → IsStill false alpha beta (line_of r n)) →
+    ((n : ℕ) → n < 16 → line_of r n ≡ taps (look v p (along + n)) across) → ((n : ℕ) → n < 16 → (x y : ℕ) → IsStill false x y (line_of r n)) →
     Holds p p (edge_after v false e along across (at p))
 rows_still v p e along across a b alpha beta r before ea eb er es read still =
     edge_kept v false p e along across
@@ -157,28 +117,5 @@ rows_still v p e along across a b alpha beta r before ea eb er es read still =
     let have = limits_have e (n / 4) a b alpha beta ea eb er es in
     let line : line_of r n ≡ taps (look v p u) across = read n i ∙ ap (λ z. taps (look v p z) across) place in
     let same : filtered false (limits e (n / 4)) (taps (look v p u) across) ≡ taps (look v p u) across =
-    rw line at (still_by false alpha beta (limits e (n / 4)) (line_of r n) have.0 have.1 (still n i)) in
+    rw line at (still_by false alpha beta (limits e (n / 4)) (line_of r n) have.0 have.1 (still n i alpha beta)) in
     ap (λ l. replaced l across (look v p u) w) same ∙ replaced_same (look v p u) across w before)
-
-put_back : (q w x y z : ℕ) (s : ℕ → ℕ) → 4 ≤ q → x ≡ s (q - 1) → y ≡ s q → z ≡ s w → cond (w + 1 == q) x (cond (w == q) y z) ≡ s w
-put_back q w x y z s b e f g = rw (e, f, g) (grind (arith, nat_tests))
-
-pub inner_still : (v : Bool) (p : Samples) (e : EdgeParameters) (along across a b alpha beta : ℕ) (r : Inner) → 4 ≤ across →
-    a ≡ index_of e.qp_p e.qp_q e.filter_offset_a → b ≡ index_of e.qp_p e.qp_q e.filter_offset_b →
-    alpha ≡ slice_index alpha_rows a → beta ≡ slice_index beta_rows b →
-    HasInner v p along across r → ((n : ℕ) → n < 8 → IsStill true alpha beta (inner_of r n)) →
-    Holds p p (edge_after v true e along across (at p))
-inner_still v p e along across a b alpha beta r before ea eb er es read still =
-    edge_kept v true p e along across
-    (λ u w from to.
-    let n = u - along in
-    let i : n < 8 = omega (arith, from, to) in
-    let place : along + n ≡ u = omega (arith, from) in
-    let have = limits_have e (n / 2) a b alpha beta ea eb er es in
-    let k = limits e (n / 2) in
-    let line = rw place at (read n i) in
-    let stays = still_by true alpha beta k (inner_of r n) have.0 have.1 (still n i) in
-    let near = filtered_inner k (inner_of r n) (taps (look v p u) across) line in
-    replaced_inner (filtered true k (taps (look v p u) across)) (look v p u) across w before (outer k (taps (look v p u) across))
-    ∙ put_back across w _ _ _ (look v p u) before
-    (sym near.p0 ∙ ap (λ l. l.p0) stays ∙ line.p0) (sym near.q0 ∙ ap (λ l. l.q0) stays ∙ line.q0) refl)

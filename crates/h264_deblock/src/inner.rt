@@ -32,7 +32,7 @@ pub struct Nearest {
 impl Inner {
     /// A line, with no samples beyond.
     #[inline(always)]
-    pub fn line(&self, n: usize) -> Line
+    fn line(&self, n: usize) -> Line
         requires { n < 8 }
         ensures { result ≡ inner_of self.now n }
     {
@@ -207,7 +207,7 @@ fn strong(l: Line, alpha: u8, beta: u8) -> Line
 
 /// Eight samples, and eight more that fill a register of lanes.
 #[inline(always)]
-pub fn widened(x: &[u8; 8]) -> [u8; 16]
+fn widened(x: &[u8; 8]) -> [u8; 16]
     ensures { (n : ℕ) → n < 8 → slice_index result n ≡ slice_index x.now n }
 {
     let mut out = [0u8; 16];

@@ -120,11 +120,11 @@ fn are_zero(levels: &[i16]) -> bool
     requires { length levels.now ≤ 16 }
     ensures { IsTrue result → (k : ℕ) → k < length levels.now → get_or levels.now k (pos 0) ≡ pos 0 }
 {
-    let mut sum: u32 = 0;
+    let mut all = true;
     for level in levels {
-        sum += u32::from(level.unsigned_abs());
+        all &= *level == 0;
     }
-    sum == 0
+    all
 }
 
 /// The residual of a 4x4 block, row by row, from its 16 levels by place of the scan (8.5.12). A block of a DC alone, or of nothing,

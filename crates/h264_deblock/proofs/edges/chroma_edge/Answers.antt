@@ -6,7 +6,6 @@ use Rattle.h264_deblock.specs.declared.line.Filter.TheVariants.{Strong}
 use Rattle.h264_deblock.proofs.Groups.{limits_is}
 use Rattle.h264_deblock.proofs.Beside.{edge_idle}
 use Rattle.h264_deblock.proofs.Nearest.{edge_by_nearest}
-use Rattle.h264_deblock.proofs.Level.{inner_still}
 use Rattle.h264_deblock.proofs.edges.chroma_edge.Goals as goal
 
 pub returns-then-is_all_four : goal.returns-then-is_all_four
@@ -35,7 +34,7 @@ returns-in-Some g c =
     let lanes = rw c.in-Some.is at c.tc0_of_lines.ensures in
     edge_by_nearest _ c.args.plane.now c.write_nearest-in-Some.new.plane e c.args.along c.args.across
     (λ n. record { alpha = c.alpha-alpha.result; beta = c.beta-beta.result; filter = filter_by (slice_index c.in-Some.tc0 n) })
-    c.read_inner-before.result c.normal_nearest-after.result c.read_inner-before.ensures c.normal_nearest-after.ensures
+    c.read_inner-before-in-Some.result c.normal_nearest-after.result c.read_inner-before-in-Some.ensures c.normal_nearest-after.ensures
     (λ n i. limits_is e (n / 2) c.index-by_a.result c.index-by_b.result c.alpha-alpha.result c.beta-beta.result (filter_by (slice_index c.in-Some.tc0 n))
     (c.index-by_a.ensures.value ∙ ap (λ z. index_of e.qp_p e.qp_q z) kept_a) (c.index-by_b.ensures.value ∙ ap (λ z. index_of e.qp_p e.qp_q z) kept_b)
     c.alpha-alpha.ensures c.beta-beta.ensures.value (lanes n i))
@@ -64,15 +63,3 @@ returns-then-beta-eq0 g c =
     edge_idle _ _ c.args.plane.now e c.args.along c.args.across c.index-by_a.result c.index-by_b.result c.alpha-alpha.result c.beta-beta.result c.requires.before
     (c.index-by_a.ensures.value ∙ ap (λ z. index_of e.qp_p e.qp_q z) kept_a) (c.index-by_b.ensures.value ∙ ap (λ z. index_of e.qp_p e.qp_q z) kept_b)
     c.alpha-alpha.ensures c.beta-beta.ensures.value (inr zero)
-
-pub returns-then-are_still_inside : goal.returns-then-are_still_inside
-returns-then-are_still_inside g c =
-    let e = c.args.e.now in
-    let fits_a : FitsSigned w8 e.filter_offset_a = search rules in
-    let fits_b : FitsSigned w8 e.filter_offset_b = search rules in
-    let kept_a : to_z w8 (of_z w8 e.filter_offset_a) ≡ e.filter_offset_a = omega (arith, ints) in
-    let kept_b : to_z w8 (of_z w8 e.filter_offset_b) ≡ e.filter_offset_b = omega (arith, ints) in
-    inner_still _ c.args.plane.now e c.args.along c.args.across c.index-by_a.result c.index-by_b.result c.alpha-alpha.result c.beta-beta.result
-    c.read_inner-before.result c.requires.before
-    (c.index-by_a.ensures.value ∙ ap (λ z. index_of e.qp_p e.qp_q z) kept_a) (c.index-by_b.ensures.value ∙ ap (λ z. index_of e.qp_p e.qp_q z) kept_b)
-    c.alpha-alpha.ensures c.beta-beta.ensures.value c.read_inner-before.ensures (c.are_still_inside.ensures c.if-are_still_inside.true)

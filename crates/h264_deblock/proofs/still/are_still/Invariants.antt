@@ -4,4 +4,4 @@ use Rattle.h264_deblock.specs.Still.{IsStill}
 use Rattle.h264_deblock.proofs.still.are_still.Given as goal
 
 abbrev pub invariant-loop-n : goal.invariant-loop-n
-invariant-loop-n l = l.still ≡ true → (m : ℕ) → m < l.n → IsStill false l.alpha l.beta (line_of l.r m)
+invariant-loop-n l = l.still ≡ true → (m : ℕ) → m < l.n → (alpha beta : ℕ) → IsStill false alpha beta (line_of l.r m)
