@@ -18,6 +18,7 @@ pub mod Sound
 pub mod Among
 pub mod Staying
 pub mod Referring
+pub mod Within
 pub mod Closing
 pub mod Standing
 pub mod Entering

@@ -16,6 +16,7 @@ pub mod Slices
 pub mod Data
 pub mod Sound
 pub mod Held
+pub mod Within
 pub mod Keeping
 pub mod Units
 pub mod UnitOutcome

@@ -1,15 +1,18 @@
 //! What the definitions imply. Nothing here runs.
 #![tactic(auto)]
 
-ghost use Rattle.std.specs.Prelude.{◌≡◌, ℕ, Bool, false, List, ◌∷◌, Result};
+ghost use Rattle.std.specs.Prelude.{◌≡◌, ℕ, Bool, true, false, List, ◌∷◌, ◌++◌, Result};
 ghost use Rattle.h264_base.specs.declared.mode.Mode.{Mode};
 ghost use Rattle.h264_base.specs.declared.stop.Stop.{Stop};
 ghost use Rattle.h264_verify.specs.Telling.{Told};
 ghost use Rattle.h264_verify.specs.declared.judge.Summary.{Summary};
-ghost use Rattle.h264_verify.specs.Pictures.{CodedPicture, held_in};
-ghost use Rattle.h264_verify.specs.Buffering.{within_newest};
+ghost use Rattle.h264_verify.specs.Pictures.{CodedPicture, held_in, held_after};
+ghost use Rattle.h264_verify.specs.Buffering.{within_newest, after_all, gaps_turn, missing_before};
 ghost use Rattle.h264_verify.specs.Sound.{AreSound};
 ghost use Rattle.h264_verify.specs.Held.{AreAmong};
+ghost use Rattle.h264_verify.specs.Within.{StaysWithin};
+ghost use Rattle.h264_marking.specs.Ended.{numbering_of};
+ghost use Rattle.h264_picture.specs.Buffer.{buffer_size};
 ghost use Rattle.h264_verify.specs.Verdict.{Verdict, AreLegal, Holds};
 ghost use Rattle.h264_verify.specs.Telling.{calls_of, AreDecoded};
 ghost use Rattle.h264_verify.specs.History.{History};
@@ -34,6 +37,18 @@ pub fn some_verdict()
 /// While a picture is decoded, each picture that is held for reference has its frame in the buffer (C.4.4, C.4.5): of pictures whose rules were met.
 pub fn held_pictures_stand()
     ensures { (ended : Bool) (p : CodedPicture) (ps : List CodedPicture) → AreSound ended (p ∷ ps) → AreAmong (held_in (p ∷ ps)) (within_newest (p ∷ ps)).buffer }
+{}
+
+/// The buffer stays within its places, for the frames in it and those that do not exist together (C.4.2, C.4.4, C.4.5), where the rules of the pictures were met:
+/// once all have ended, when it has the size that the newest one's sequence gives it (`after`); while the newest is decoded, when it still has the size
+/// that it had before it (`newest`); and before that, behind each of the missing numbers that are filled (`filling`).
+pub fn buffer_stays_within()
+    ensures after { (p : CodedPicture) (ps : List CodedPicture) → AreSound true (p ∷ ps) →
+        StaysWithin (after_all (p ∷ ps)).buffer × ((after_all (p ∷ ps)).buffer.size ≡ buffer_size p.first.sps) }
+    ensures newest { (ended : Bool) (p : CodedPicture) (ps : List CodedPicture) → AreSound ended (p ∷ ps) →
+        StaysWithin (within_newest (p ∷ ps)).buffer × ((within_newest (p ∷ ps)).buffer.size ≡ (after_all ps).buffer.size) }
+    ensures filling { (ended : Bool) (p : CodedPicture) (ps : List CodedPicture) (numbers others : List ℕ) → AreSound ended (p ∷ ps) → missing_before p ps ≡ numbers ++ others →
+        StaysWithin (gaps_turn (numbering_of p.first.sps p.first.header) numbers (held_after ps) (after_all ps).buffer).buffer }
 {}
 
 /// A stream has one family of frames: two families, by number in decoding order, in each of which every picture is decoded from the frames that its lists
