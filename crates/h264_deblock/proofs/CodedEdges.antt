@@ -7,10 +7,10 @@ use Rattle.std.proofs.lemmas.Bool.{eqb-true, cases_lt}
 use Rattle.std.proofs.lemmas.Int.{ints}
 use Rattle.std.proofs.lemmas.List.{get_or_past}
 use Rattle.std.proofs.lemmas.Bool.Decides.{nat_tests, Decides-int_eq}
-use Rattle.h264_tables.specs.declared.thresholds.Strength.TheVariants.{Three}
+use Rattle.h264_tables.specs.declared.thresholds.Strength.TheVariants.{One, Two, Three}
 use Rattle.h264_plane.specs.declared.frame.Component.{Component}
 use Rattle.h264_plane.specs.declared.frame.Component.TheVariants.{Y, Cb, Cr}
-use Rattle.h264_near.specs.Coded.{CodedMacroblock, is_intra, number_of, chroma_number_of, column_of, row_of}
+use Rattle.h264_near.specs.Coded.{CodedMacroblock, is_intra, number_of, chroma_number_of}
 use Rattle.h264_near.specs.Keeps.{Shows, IsEdge, filter_qp_of}
 use Rattle.h264_near.specs.Raster.{last_in, last_left}
 use Rattle.h264_near.specs.Strength.{side_part, far, moves_apart, strength_of}
@@ -32,32 +32,13 @@ use Rattle.h264_deblock.specs.declared.edge_parameters.BoundaryStrength.{Boundar
 use Rattle.h264_deblock.specs.declared.edge_parameters.BoundaryStrength.TheVariants.{Zero, BelowFour, Four}
 use Rattle.h264_deblock.specs.declared.slice_filter.SliceFilter.{SliceFilter}
 use Rattle.h264_deblock.specs.CodedEdges.{named, block_at, strength_at, strengths, plane_qp, edge_of, filters, border, inner, edges_along, coded_edges}
-use Rattle.h264_deblock.specs.Steps.{IsBeside, block_beside, inner_lines, alike, are_blank, are_alike, side_qp, parameters, border_of, border_edge, inner_edge}
+use Rattle.h264_deblock.specs.Steps.{IsBeside, block_beside, number_at, inter_strength, inner_lines, alike, are_blank, are_alike, side_qp, parameters, border_of, border_edge, inner_edge}
 
 -- ---- blocks
-
-column-is : (x y : ℕ) → x < 4 → y < 4 → column_of (number_of x y) ≡ x
-unfolding column_of number_of
-column-is x y h k = omega arith
-
-row-is : (x y : ℕ) → x < 4 → y < 4 → row_of (number_of x y) ≡ y
-unfolding row_of number_of
-row-is x y h k = omega arith
 
 few : (x y : ℕ) → x < 4 → y < 4 → number_of x y < 16
 unfolding number_of
 few x y h k = omega arith
-
-placed : (x y b : ℕ) (m : CodedMacroblock) (r : Side) → x < 4 → y < 4 → b ≡ number_of x y → side_part (column_of b) (row_of b) m ≡ Some r → side_part x y m ≡ Some r
-placed x y b m r h k e s = rw (e, column-is x y h k, row-is x y h k) at s
-
-pub block-vertical : (v : Bool) (line k b : ℕ) (m : CodedMacroblock) (r : Side) → v ≡ true → line < 4 → k < 4 → b ≡ number_of line k → side_part (column_of b) (row_of b) m ≡ Some r → block_at v line k m ≡ Some r
-unfolding block_at
-block-vertical v line k b m r is h g e s = rw is (placed line k b m r h g e s)
-
-pub block-horizontal : (v : Bool) (line k b : ℕ) (m : CodedMacroblock) (r : Side) → v ≡ false → line < 4 → k < 4 → b ≡ number_of k line → side_part (column_of b) (row_of b) m ≡ Some r → block_at v line k m ≡ Some r
-unfolding block_at
-block-horizontal v line k b m r is h g e s = rw is (placed k line b m r g h e s)
 
 beside-block : (v : Bool) (e : Edge) (m : CodedMacroblock) (k : ℕ) → k < 4 → IsBeside v e m → block_at v 3 k m ≡ Some (block_beside e k)
 unfolding block_at
@@ -78,14 +59,14 @@ beside-qp false e m i = i.qp
 
 -- ---- bS
 
-pub inner-is : (v : Bool) (line k : ℕ) (m : CodedMacroblock) (p q : Side) (n : BoundaryStrength) → 0 < line → line < 4 → block_at v (line - 1) k m ≡ Some p → block_at v line k m ≡ Some q → n ≡ named (strength_of false p q) → n ≡ strength_at v line m m k
+inner-is : (v : Bool) (line k : ℕ) (m : CodedMacroblock) (p q : Side) (n : BoundaryStrength) → 0 < line → line < 4 → block_at v (line - 1) k m ≡ Some p → block_at v line k m ≡ Some q → n ≡ named (strength_of false p q) → n ≡ strength_at v line m m k
 unfolding strength_at
 inner-is v line k m p q n some h a b e =
     let l : (line + 3) % 4 ≡ line - 1 = omega arith in
     let z : (line == 0) ≡ false = grind (arith, nat_tests) in
     rw (l, z, a, b) e
 
-pub outer-is : (v : Bool) (k : ℕ) (e : Edge) (p q : CodedMacroblock) (s : Side) (n : BoundaryStrength) → k < 4 → IsBeside v e p → block_at v 0 k q ≡ Some s → n ≡ named (strength_of true (block_beside e k) s) → n ≡ strength_at v 0 p q k
+outer-is : (v : Bool) (k : ℕ) (e : Edge) (p q : CodedMacroblock) (s : Side) (n : BoundaryStrength) → k < 4 → IsBeside v e p → block_at v 0 k q ≡ Some s → n ≡ named (strength_of true (block_beside e k) s) → n ≡ strength_at v 0 p q k
 unfolding strength_at
 outer-is v k e p q s n h i b is = rw (beside-block v e p k h i, b) is
 
@@ -96,6 +77,47 @@ four v line p q a b c d e f g h = rw (e, f, g, h) refl
 pub three : (v : Bool) (q : CodedMacroblock) (a b c : List BoundaryStrength) → a ≡ strengths v 1 q q → b ≡ strengths v 2 q q → c ≡ strengths v 3 q q → a ∷ b ∷ c ∷ [] ≡ inner_lines v q
 unfolding inner_lines
 three v q a b c e f g = rw (e, f, g) refl
+
+-- ---- blocks of which none is intra
+
+pub few-at : (v : Bool) (line k : ℕ) → line < 4 → k < 4 → number_at v line k < 16
+few-at true line k h g = few line k h g
+few-at false line k h g = few k line g h
+
+-- a block that is not intra
+abbrev inter-side : Bool → Option Motion → Side
+inter-side coded motion = record { intra = false; coded = coded; motion = motion }
+
+inter-is : (o a b : Bool) (p q : Option Motion) → inter_strength (a || b) p q ≡ named (strength_of o (inter-side a p) (inter-side b q))
+unfolding strength_of
+inter-is o a b p q = go (a || b) (moves_apart p q) refl refl
+  where
+    go : (x y : Bool) → (a || b) ≡ x → moves_apart p q ≡ y → (if a || b then BelowFour Two else if moves_apart p q then BelowFour One else Zero) ≡ named (if a || b then 2 else if moves_apart p q then 1 else 0)
+    go true y e f = rw e refl
+    go false true e f = rw (e, f) refl
+    go false false e f = rw (e, f) refl
+
+own-side : (c : Contexts) (m : CodedMacroblock) (x y : ℕ) → Shows c m → c.intra ≡ false → x < 4 → y < 4 → side_part x y m ≡ Some (inter-side (nat_lt 0 (get_or c.totals (number_of x y) 0)) (get_or c.motions (number_of x y) None))
+unfolding side_part
+own-side c m x y s i h k = let n = few x y h k in rw (s.intra, i, s.totals, s.motions (number_of x y) n) refl
+
+own-block : (v : Bool) (c : Contexts) (m : CodedMacroblock) (line k : ℕ) → Shows c m → c.intra ≡ false → line < 4 → k < 4 → block_at v line k m ≡ Some (inter-side (nat_lt 0 (get_or c.totals (number_at v line k) 0)) (get_or c.motions (number_at v line k) None))
+unfolding block_at
+own-block true c m line k s i h g = own-side c m line k s i h g
+own-block false c m line k s i h g = own-side c m k line s i g h
+
+pub inner-by : (v : Bool) (line k : ℕ) (c : Contexts) (m : CodedMacroblock) (n : BoundaryStrength) → 0 < line → line < 4 → k < 4 → Shows c m → c.intra ≡ false →
+    n ≡ inter_strength (nat_lt 0 (get_or c.totals (number_at v (line - 1) k) 0) || nat_lt 0 (get_or c.totals (number_at v line k) 0)) (get_or c.motions (number_at v (line - 1) k) None) (get_or c.motions (number_at v line k) None) → n ≡ strength_at v line m m k
+inner-by v line k c m n some h g s i e = inner-is v line k m _ _ n some h (own-block v c m (line - 1) k s i (omega arith) g) (own-block v c m line k s i h g) (e ∙ inter-is false _ _ _ _)
+
+beside-side : (e : Edge) (k : ℕ) → e.intra ≡ false → inter-side (nat_lt 0 (get_or e.totals k 0)) (get_or e.motions k None) ≡ block_beside e k
+beside-side e k i = rw i refl
+
+pub outer-by : (v : Bool) (k : ℕ) (e : Edge) (c : Contexts) (p q : CodedMacroblock) (n : BoundaryStrength) → k < 4 → IsBeside v e p → Shows c q → e.intra ≡ false → c.intra ≡ false →
+    n ≡ inter_strength (nat_lt 0 (get_or e.totals k 0) || nat_lt 0 (get_or c.totals (number_at v 0 k) 0)) (get_or e.motions k None) (get_or c.motions (number_at v 0 k) None) → n ≡ strength_at v 0 p q k
+outer-by v k e c p q n h b s i j is =
+    let other = inter-side (nat_lt 0 (get_or c.totals (number_at v 0 k) 0)) (get_or c.motions (number_at v 0 k) None) in
+    outer-is v k e p q other n h b (own-block v c q 0 k s j (omega arith) h) (is ∙ (inter-is true _ _ _ _ ∙ ap (λ z. named (strength_of true z other)) (beside-side e k i)))
 
 -- ---- intra
 
@@ -169,13 +191,6 @@ same-moves (Some a) (Some b) (Some f) e g =
     let z : (a.picture == b.picture) ≡ true = rw (x, y) (eq-eqb f.picture f.picture refl) in
     rw (z, same-far a.vector b.vector f.vector v.1 p.1 w.1 q.1) refl
 
-even-side : (c : Contexts) (m : CodedMacroblock) (x y : ℕ) → Shows c m → length c.totals ≡ 16 → c.intra ≡ false → are_blank c.totals ≡ true → x < 4 → y < 4 → side_part x y m ≡ Some (record { intra = false; coded = false; motion = get_or c.motions (number_of x y) None })
-unfolding side_part
-even-side c m x y s l i b h k =
-    let n = few x y h k in
-    let z : nat_lt 0 (get_or m.totals (number_of x y) 0) ≡ false = rw s.totals (blank c.totals (number_of x y) b (omega arith)) in
-    rw (s.intra, i, z, s.motions (number_of x y) n) refl
-
 still-left : (a b : Option Motion) → a ≡ None → moves_apart a b ≡ false
 still-left a b e = rw e refl
 
@@ -183,7 +198,7 @@ still-right : (a b : Option Motion) → b ≡ None → moves_apart a b ≡ false
 still-right None b e = refl
 still-right (Some a) b e = rw e refl
 
-no-moves : (xs : List (Option Motion)) (i j : ℕ) → are_alike xs ≡ true → moves_apart (get_or xs i None) (get_or xs j None) ≡ false
+pub no-moves : (xs : List (Option Motion)) (i j : ℕ) → are_alike xs ≡ true → moves_apart (get_or xs i None) (get_or xs j None) ≡ false
 no-moves xs i j a = ⊎_elim
     (λ (h : i < length xs). ⊎_elim
     (λ (k : j < length xs). let p : Option Motion → Bool = λ m. alike m (get_or xs 0 None) in same-moves (get_or xs i None) (get_or xs j None) (get_or xs 0 None) (at-all p xs i None a h) (at-all p xs j None a k))
@@ -192,29 +207,16 @@ no-moves xs i j a = ⊎_elim
     (λ (h : length xs ≤ i). still-left (get_or xs i None) (get_or xs j None) (get_or_past xs i None h))
     (cases_lt i (length xs))
 
-abbrev even : Option Motion → Side
-even motion = record { intra = false; coded = false; motion = motion }
-
-even-strength : (a b : Option Motion) → moves_apart a b ≡ false → strength_of false (even a) (even b) ≡ 0
-unfolding strength_of
-even-strength a b e = rw e refl
-
--- the number of a block
-abbrev numbered : Bool → ℕ → ℕ → ℕ
-numbered true line k = number_of line k
-numbered false line k = number_of k line
-
-even-block : (v : Bool) (c : Contexts) (m : CodedMacroblock) (line k : ℕ) → Shows c m → length c.totals ≡ 16 → c.intra ≡ false → are_blank c.totals ≡ true → line < 4 → k < 4 → block_at v line k m ≡ Some (even (get_or c.motions (numbered v line k) None))
-unfolding block_at
-even-block true c m line k s l i b h g = even-side c m line k s l i b h g
-even-block false c m line k s l i b h g = even-side c m k line s l i b g h
+even-strength : (a b : Bool) (p q : Option Motion) → a ≡ false → b ≡ false → moves_apart p q ≡ false → Zero ≡ inter_strength (a || b) p q
+even-strength a b p q e f g = rw (e, f, g) refl
 
 module _ (v : Bool) (c : Contexts) (m : CodedMacroblock) (s : Shows c m) (l : length c.totals ≡ 16) (i : c.intra ≡ false) (b : are_blank c.totals ≡ true) (a : are_alike c.motions ≡ true) where
   even-at : (line k : ℕ) → 0 < line → line < 4 → k < 4 → Zero ≡ strength_at v line m m k
   even-at line k some h g =
-      let p = get_or c.motions (numbered v (line - 1) k) None in
-      let q = get_or c.motions (numbered v line k) None in
-      inner-is v line k m (even p) (even q) Zero some h (even-block v c m (line - 1) k s l i b (omega arith) g) (even-block v c m line k s l i b h g) (ap named (sym (even-strength p q (no-moves c.motions (numbered v (line - 1) k) (numbered v line k) a))))
+      let p : number_at v (line - 1) k < 16 = few-at v (line - 1) k (omega arith) g in
+      let q : number_at v line k < 16 = few-at v line k h g in
+      inner-by v line k c m Zero some h g s i
+      (even-strength (nat_lt 0 (get_or c.totals (number_at v (line - 1) k) 0)) (nat_lt 0 (get_or c.totals (number_at v line k) 0)) (get_or c.motions (number_at v (line - 1) k) None) (get_or c.motions (number_at v line k) None) (blank c.totals (number_at v (line - 1) k) b (omega arith)) (blank c.totals (number_at v line k) b (omega arith)) (no-moves c.motions (number_at v (line - 1) k) (number_at v line k) a))
 
   even-line : (line : ℕ) → 0 < line → line < 4 → Zero ∷ Zero ∷ Zero ∷ Zero ∷ [] ≡ strengths v line m m
   even-line line some h = four v line m m Zero Zero Zero Zero (even-at line 0 some h (omega arith)) (even-at line 1 some h (omega arith)) (even-at line 2 some h (omega arith)) (even-at line 3 some h (omega arith))

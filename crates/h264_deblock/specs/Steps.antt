@@ -4,14 +4,17 @@ use Rattle.std.specs.Ordering.{int_eq}
 use Rattle.std.specs.List.{list_all}
 use Rattle.std.specs.Option.{option_map}
 use Rattle.h264_tables.specs.ChromaQp.{chroma_qp_of}
-use Rattle.h264_near.specs.Coded.{CodedMacroblock}
+use Rattle.h264_tables.specs.declared.thresholds.Strength.TheVariants.{One, Two}
+use Rattle.h264_near.specs.Coded.{CodedMacroblock, number_of}
 use Rattle.h264_near.specs.Keeps.{Lower, Right, filter_qp_of}
+use Rattle.h264_near.specs.Strength.{moves_apart}
 use Rattle.h264_near.specs.declared.context.Edge.{Edge}
 use Rattle.h264_near.specs.declared.motion.Motion.{Motion}
 use Rattle.h264_near.specs.declared.sides.Side.{Side}
 use Rattle.h264_deblock.specs.declared.coded.Border.{Border}
 use Rattle.h264_deblock.specs.declared.edge_parameters.EdgeParameters.{EdgeParameters}
 use Rattle.h264_deblock.specs.declared.edge_parameters.BoundaryStrength.{BoundaryStrength}
+use Rattle.h264_deblock.specs.declared.edge_parameters.BoundaryStrength.TheVariants.{Zero, BelowFour}
 use Rattle.h264_deblock.specs.declared.slice_filter.SliceFilter.{SliceFilter}
 use Rattle.h264_deblock.specs.CodedEdges.{filters, strengths}
 
@@ -23,6 +26,15 @@ IsBeside false e m = Lower e m
 -- one of its blocks
 abbrev pub block_beside : Edge → ℕ → Side
 block_beside e k = record { intra = e.intra; coded = nat_lt 0 (get_or e.totals k 0); motion = get_or e.motions k None }
+
+-- the number of the k-th block of a line of blocks
+abbrev pub number_at : Bool → ℕ → ℕ → ℕ
+number_at true line k = number_of line k
+number_at false line k = number_of k line
+
+-- bS of two blocks of which neither is intra, by whether one of them has coefficients
+abbrev pub inter_strength : Bool → Option Motion → Option Motion → BoundaryStrength
+inter_strength coded p q = if coded then BelowFour Two else if moves_apart p q then BelowFour One else Zero
 
 -- the strengths of the inner edges of a direction
 unfoldable pub inner_lines : Bool → CodedMacroblock → List (List BoundaryStrength)

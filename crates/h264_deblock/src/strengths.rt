@@ -1,16 +1,16 @@
 //! The strengths bS of the edges of a macroblock (8.7.2.1).
 #![tactic(auto)]
 
-ghost use Rattle.std.specs.Prelude.{◌≡◌, ◌<◌, Bool, true, false, IsTrue, Some, replicate};
+ghost use Rattle.std.specs.Prelude.{◌≡◌, ◌<◌, nat_le, ◌-ℤ◌, unsigned_abs, true, false};
 ghost use Rattle.h264_near.specs.Coded.{CodedMacroblock};
 ghost use Rattle.h264_near.specs.Keeps.{Shows};
-ghost use Rattle.h264_deblock.specs.declared.edge_parameters.BoundaryStrength.TheVariants.{Zero};
-ghost use Rattle.h264_deblock.specs.CodedEdges.{named, block_at, strength_at, strengths};
-ghost use Rattle.h264_deblock.specs.Steps.{IsBeside, block_beside, inner_lines, alike, are_blank, are_alike};
+ghost use Rattle.h264_near.specs.Strength.{far, moves_apart};
+ghost use Rattle.h264_deblock.specs.CodedEdges.{strength_at, strengths};
+ghost use Rattle.h264_deblock.specs.Steps.{IsBeside, inter_strength, number_at, inner_lines, alike, are_blank, are_alike};
 
 use crate::edge_parameters::BoundaryStrength;
 use h264_near::block::number;
-use h264_near::{Contexts, Edge, Motion, Side, side_of, strength};
+use h264_near::{Contexts, Edge, Motion, Vector};
 use h264_tables::Strength;
 
 /// The strengths of the inner edges of a macroblock by their line of blocks, from 1 on, and the place along it.
@@ -22,60 +22,109 @@ pub(crate) struct InnerStrengths {
 
 const ZERO: [BoundaryStrength; 4] = [BoundaryStrength::Zero; 4];
 
+const ONE: BoundaryStrength = BoundaryStrength::BelowFour(Strength::One);
+
+const TWO: BoundaryStrength = BoundaryStrength::BelowFour(Strength::Two);
+
 const THREE: [BoundaryStrength; 4] = [BoundaryStrength::BelowFour(Strength::Three); 4];
 
 const FOUR: [BoundaryStrength; 4] = [BoundaryStrength::Four; 4];
 
-/// bS by its number.
+/// Whether two components differ by a whole sample or more.
 #[inline(always)]
-fn named(strength: u8) -> BoundaryStrength
-    ensures { result ≡ named strength }
+fn component_far(a: i16, b: i16) -> bool
+    ensures { result ≡ nat_le 4 (unsigned_abs (a -ℤ b)) }
 {
-    match strength {
-        0 => BoundaryStrength::Zero,
-        1 => BoundaryStrength::BelowFour(Strength::One),
-        2 => BoundaryStrength::BelowFour(Strength::Two),
-        3 => BoundaryStrength::BelowFour(Strength::Three),
-        _ => BoundaryStrength::Four,
-    }
+    4 <= (a as i32 - b as i32).unsigned_abs()
 }
 
-/// The block of a macroblock at this line of blocks, a column of them or a row, and the place along it.
+/// Whether two vectors differ by a whole sample or more.
 #[inline(always)]
-fn block(own: &Contexts, vertical: bool, line: usize, k: usize) -> Side
+fn far(a: &Vector, b: &Vector) -> bool
+    ensures { result ≡ far a.now b.now }
+{
+    component_far(a.x, b.x) | component_far(a.y, b.y)
+}
+
+/// Whether two blocks are predicted from different pictures, or by vectors that differ by a whole sample or more.
+#[inline(always)]
+fn moves_apart(a: &Option<Motion>, b: &Option<Motion>) -> bool
+    ensures { result ≡ moves_apart a.now b.now }
+{
+    let Some(a) = a else {
+        return false;
+    };
+    let Some(b) = b else {
+        return false;
+    };
+    if a.picture == b.picture {
+        return far(&a.vector, &b.vector);
+    }
+    true
+}
+
+/// bS of two blocks of which neither is intra. `coded` says that one of them has coefficients, and `alike` that one picture and one vector predict both.
+#[inline(always)]
+fn inter(coded: bool, alike: bool, p: &Option<Motion>, q: &Option<Motion>) -> BoundaryStrength
+    requires { alike ≡ true → moves_apart p.now q.now ≡ false }
+    ensures { result ≡ inter_strength coded p.now q.now }
+{
+    if coded {
+        return TWO;
+    }
+    if alike {
+        return BoundaryStrength::Zero;
+    }
+    if moves_apart(p, q) {
+        return ONE;
+    }
+    BoundaryStrength::Zero
+}
+
+/// The number of the block of a macroblock at this line of blocks, a column of them or a row, and the place along it.
+#[inline(always)]
+fn number_at(vertical: bool, line: usize, k: usize) -> usize
     requires line { line < 4 }
     requires place { k < 4 }
-    ensures { (coded : CodedMacroblock) → Shows own.now coded → block_at vertical line k coded ≡ Some result }
+    ensures here { result ≡ number_at vertical line k }
+    ensures within { result < 16 }
 {
     if vertical {
-        return side_of(own, number(line, k));
+        return number(line, k);
     }
-    side_of(own, number(k, line))
+    number(k, line)
 }
 
-/// The block of the macroblock beside, at this place along the edge.
+/// bS between a macroblock and the one beside it, neither of them intra.
 #[inline(always)]
-fn block_beside(edge: &Edge, k: usize) -> Side
-    requires { k < 4 }
-    ensures { result ≡ block_beside edge.now k }
-{
-    Side {
-        intra: edge.intra,
-        coded: 0 < edge.totals[k],
-        motion: edge.motions[k],
-    }
-}
-
-/// bS between a macroblock and the one beside it.
-#[inline]
 fn outer(edge: &Edge, own: &Contexts, vertical: bool, k: usize) -> BoundaryStrength
-    requires { k < 4 }
+    requires place { k < 4 }
+    requires beside { edge.now.intra ≡ false }
+    requires own { own.now.intra ≡ false }
     ensures { (p q : CodedMacroblock) → IsBeside vertical edge.now p → Shows own.now q → result ≡ strength_at vertical 0 p q k }
 {
-    named(strength(true, block_beside(edge, k), block(own, vertical, 0, k)))
+    let b = number_at(vertical, 0, k);
+    let coded = (0 < edge.totals[k]) | (0 < own.totals[b]);
+    inter(coded, false, &edge.motions[k], &own.motions[b])
+}
+
+/// The strengths of the edge between two macroblocks of which neither is intra.
+#[inline(always)]
+fn outer_line(edge: &Edge, own: &Contexts, vertical: bool) -> [BoundaryStrength; 4]
+    requires beside { edge.now.intra ≡ false }
+    requires own { own.now.intra ≡ false }
+    ensures { (p q : CodedMacroblock) → IsBeside vertical edge.now p → Shows own.now q → result ≡ strengths vertical 0 p q }
+{
+    [
+        outer(edge, own, vertical, 0),
+        outer(edge, own, vertical, 1),
+        outer(edge, own, vertical, 2),
+        outer(edge, own, vertical, 3),
+    ]
 }
 
 /// The strengths of the edge between a macroblock and the one beside it, to the left or above.
+#[inline(always)]
 pub(crate) fn border_strengths(edge: &Edge, own: &Contexts, vertical: bool) -> [BoundaryStrength; 4]
     ensures { (p q : CodedMacroblock) → IsBeside vertical edge.now p → Shows own.now q → result ≡ strengths vertical 0 p q }
 {
@@ -85,98 +134,116 @@ pub(crate) fn border_strengths(edge: &Edge, own: &Contexts, vertical: bool) -> [
     if own.intra {
         return FOUR;
     }
-    [
-        outer(edge, own, vertical, 0),
-        outer(edge, own, vertical, 1),
-        outer(edge, own, vertical, 2),
-        outer(edge, own, vertical, 3),
-    ]
+    outer_line(edge, own, vertical)
 }
 
-/// bS inside a macroblock, before this line of blocks.
-#[inline]
-fn inner(own: &Contexts, vertical: bool, line: usize, k: usize) -> BoundaryStrength
+/// bS inside a macroblock that is not intra, before this line of blocks. `alike` says that one picture and one vector predict all its blocks.
+#[inline(always)]
+fn inner(own: &Contexts, alike: bool, vertical: bool, line: usize, k: usize) -> BoundaryStrength
     requires some { 0 < line }
     requires line { line < 4 }
     requires place { k < 4 }
+    requires inter { own.now.intra ≡ false }
+    requires alike { alike ≡ true → are_alike own.now.motions ≡ true }
     ensures { (coded : CodedMacroblock) → Shows own.now coded → result ≡ strength_at vertical line coded coded k }
 {
-    let p = block(own, vertical, line - 1, k);
-    let q = block(own, vertical, line, k);
-    named(strength(false, p, q))
+    let p = number_at(vertical, line - 1, k);
+    let q = number_at(vertical, line, k);
+    let coded = (0 < own.totals[p]) | (0 < own.totals[q]);
+    inter(coded, alike, &own.motions[p], &own.motions[q])
 }
 
-/// The strengths of the edge before a line of blocks.
-fn line_strengths(own: &Contexts, vertical: bool, line: usize) -> [BoundaryStrength; 4]
+/// The strengths of the edge before a line of blocks, likewise.
+#[inline(always)]
+fn inner_line(own: &Contexts, alike: bool, vertical: bool, line: usize) -> [BoundaryStrength; 4]
     requires some { 0 < line }
     requires line { line < 4 }
+    requires inter { own.now.intra ≡ false }
+    requires alike { alike ≡ true → are_alike own.now.motions ≡ true }
     ensures { (coded : CodedMacroblock) → Shows own.now coded → result ≡ strengths vertical line coded coded }
 {
     [
-        inner(own, vertical, line, 0),
-        inner(own, vertical, line, 1),
-        inner(own, vertical, line, 2),
-        inner(own, vertical, line, 3),
+        inner(own, alike, vertical, line, 0),
+        inner(own, alike, vertical, line, 1),
+        inner(own, alike, vertical, line, 2),
+        inner(own, alike, vertical, line, 3),
     ]
 }
 
 /// Those of the inner edges of one direction.
-fn inner_lines(own: &Contexts, vertical: bool) -> [[BoundaryStrength; 4]; 3]
+#[inline(always)]
+fn inner_lines(own: &Contexts, alike: bool, vertical: bool) -> [[BoundaryStrength; 4]; 3]
+    requires inter { own.now.intra ≡ false }
+    requires alike { alike ≡ true → are_alike own.now.motions ≡ true }
     ensures { (coded : CodedMacroblock) → Shows own.now coded → result ≡ inner_lines vertical coded }
 {
     [
-        line_strengths(own, vertical, 1),
-        line_strengths(own, vertical, 2),
-        line_strengths(own, vertical, 3),
+        inner_line(own, alike, vertical, 1),
+        inner_line(own, alike, vertical, 2),
+        inner_line(own, alike, vertical, 3),
     ]
 }
 
-/// Whether two blocks are predicted from one picture by one vector.
-#[inline]
-fn is_alike(a: Option<Motion>, b: Option<Motion>) -> bool
-    ensures { result ≡ alike a b }
+/// Those of both directions, where one picture and one vector predict all blocks, so that coefficients alone tell them apart.
+#[inline(never)]
+fn by_coefficients(own: &Contexts) -> InnerStrengths
+    requires inter { own.now.intra ≡ false }
+    requires alike { are_alike own.now.motions ≡ true }
+    ensures vertical { (coded : CodedMacroblock) → Shows own.now coded → result.vertical ≡ inner_lines true coded }
+    ensures horizontal { (coded : CodedMacroblock) → Shows own.now coded → result.horizontal ≡ inner_lines false coded }
 {
-    match (a, b) {
-        (Some(a), Some(b)) => {
-            if a.picture != b.picture {
-                return false;
-            }
-            if a.vector.x != b.vector.x {
-                return false;
-            }
-            a.vector.y == b.vector.y
-        }
-        (Some(_), None) => false,
-        (None, Some(_)) => false,
-        (None, None) => true,
+    InnerStrengths {
+        vertical: inner_lines(own, true, true),
+        horizontal: inner_lines(own, true, false),
     }
 }
 
+/// Those of both directions of any macroblock that is not intra.
+#[inline(never)]
+fn by_motion(own: &Contexts) -> InnerStrengths
+    requires { own.now.intra ≡ false }
+    ensures vertical { (coded : CodedMacroblock) → Shows own.now coded → result.vertical ≡ inner_lines true coded }
+    ensures horizontal { (coded : CodedMacroblock) → Shows own.now coded → result.horizontal ≡ inner_lines false coded }
+{
+    InnerStrengths {
+        vertical: inner_lines(own, false, true),
+        horizontal: inner_lines(own, false, false),
+    }
+}
+
+/// Whether two blocks are predicted from one picture by one vector.
+#[inline(always)]
+fn is_alike(a: &Option<Motion>, b: &Option<Motion>) -> bool
+    ensures { result ≡ alike a.now b.now }
+{
+    let Some(a) = a else {
+        return b.is_none();
+    };
+    let Some(b) = b else {
+        return false;
+    };
+    if a.picture != b.picture {
+        return false;
+    }
+    if a.vector.x != b.vector.x {
+        return false;
+    }
+    a.vector.y == b.vector.y
+}
+
+/// Whether no block has coefficients.
 fn are_blank(totals: &[u8; 16]) -> bool
     ensures { result ≡ are_blank totals.now }
 {
     totals.iter().all(|total| *total == 0)
 }
 
+/// Whether one picture and one vector predict all blocks.
 fn are_alike(motions: &[Option<Motion>; 16]) -> bool
     ensures { result ≡ are_alike motions.now }
 {
-    let first = motions[0];
-    motions.iter().all(|motion| is_alike(*motion, first))
-}
-
-/// Whether nothing tells the blocks of a macroblock apart: no coefficient, one picture and one vector.
-#[inline]
-fn is_even(own: &Contexts) -> bool
-    ensures { (coded : CodedMacroblock) → Shows own.now coded → IsTrue result → (vertical : Bool) → inner_lines vertical coded ≡ replicate 3 (replicate 4 Zero) }
-{
-    if own.intra {
-        return false;
-    }
-    if !are_blank(&own.totals) {
-        return false;
-    }
-    are_alike(&own.motions)
+    let first = &motions[0];
+    motions.iter().all(|motion| is_alike(motion, first))
 }
 
 /// The strengths of the inner edges of a macroblock.
@@ -190,14 +257,14 @@ pub(crate) fn inner_strengths(own: &Contexts) -> InnerStrengths
             horizontal: [THREE; 3],
         };
     }
-    if is_even(own) {
+    if !are_alike(&own.motions) {
+        return by_motion(own);
+    }
+    if are_blank(&own.totals) {
         return InnerStrengths {
             vertical: [ZERO; 3],
             horizontal: [ZERO; 3],
         };
     }
-    InnerStrengths {
-        vertical: inner_lines(own, true),
-        horizontal: inner_lines(own, false),
-    }
+    by_coefficients(own)
 }

@@ -1,4 +1,4 @@
-use Rattle.h264_deblock.proofs.CodedEdges.{four, strong-by-p, strong-by-q, beside-intra}
+use Rattle.h264_deblock.proofs.CodedEdges.{strong-by-p, strong-by-q, beside-intra}
 use Rattle.h264_deblock.proofs.strengths.border_strengths.Goals as goal
 
 pub returns-then-edge : goal.returns-then-edge
@@ -6,6 +6,3 @@ returns-then-edge c p q i s = strong-by-p c.args.vertical p q c.args.edge.now.in
 
 pub returns-then-own : goal.returns-then-own
 returns-then-own c p q i s = strong-by-q c.args.vertical p q c.args.own.now.intra s.intra c.if-own.true
-
-pub returns : goal.returns
-returns c p q i s = four c.args.vertical 0 p q _ _ _ _ (c.outer.ensures p q i s) (c.outer-2.ensures p q i s) (c.outer-3.ensures p q i s) (c.outer-4.ensures p q i s)

@@ -1,7 +1,8 @@
-use Rattle.std.proofs.Common.{ap, ◌∙◌}
-use Rattle.h264_deblock.specs.CodedEdges.{named}
-use Rattle.h264_deblock.proofs.CodedEdges.{inner-is}
+use Rattle.h264_deblock.proofs.CodedEdges.{inner-by, no-moves}
 use Rattle.h264_deblock.proofs.strengths.inner.Goals as goal
 
+pub inter-requires : goal.inter-requires
+inter-requires c t = no-moves c.args.own.now.motions c.number_at-p.result c.number_at-q.result (c.requires.alike t)
+
 pub returns : goal.returns
-returns c m s = inner-is c.args.vertical c.args.line c.args.k m c.block-p.result c.block-q.result c.named.result c.requires.some c.requires.line (c.block-p.ensures m s) (c.block-q.ensures m s) (c.named.ensures ∙ ap named c.strength.ensures.here)
+returns c m s = inner-by c.args.vertical c.args.line c.args.k c.args.own.now m c.inter.result c.requires.some c.requires.line c.requires.place s c.requires.inter (rw (← c.number_at-p.ensures.here, ← c.number_at-q.ensures.here) c.inter.ensures)
