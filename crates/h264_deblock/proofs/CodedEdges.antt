@@ -32,7 +32,7 @@ use Rattle.h264_deblock.specs.declared.edge_parameters.BoundaryStrength.{Boundar
 use Rattle.h264_deblock.specs.declared.edge_parameters.BoundaryStrength.TheVariants.{Zero, BelowFour, Four}
 use Rattle.h264_deblock.specs.declared.slice_filter.SliceFilter.{SliceFilter}
 use Rattle.h264_deblock.specs.CodedEdges.{named, block_at, strength_at, strengths, plane_qp, edge_of, filters, border, inner, edges_along, coded_edges}
-use Rattle.h264_deblock.specs.Steps.{IsBeside, block_beside, number_at, inter_strength, inner_lines, alike, are_blank, are_alike, side_qp, parameters, border_of, border_edge, inner_edge}
+use Rattle.h264_deblock.specs.Steps.{IsBeside, block_beside, number_at, inter_strength, inner_lines, alike, are_blank, are_like, are_alike, is_even, goes_on, side_qp, parameters, border_of, border_edge, inner_edge}
 
 -- ---- blocks
 
@@ -198,31 +198,51 @@ still-right : (a b : Option Motion) → b ≡ None → moves_apart a b ≡ false
 still-right None b e = refl
 still-right (Some a) b e = rw e refl
 
-pub no-moves : (xs : List (Option Motion)) (i j : ℕ) → are_alike xs ≡ true → moves_apart (get_or xs i None) (get_or xs j None) ≡ false
-no-moves xs i j a = ⊎_elim
+same-all : (xs ys : List (Option Motion)) (f : Option Motion) (i j : ℕ) → are_like f xs ≡ true → are_like f ys ≡ true → moves_apart (get_or xs i None) (get_or ys j None) ≡ false
+same-all xs ys f i j a b = ⊎_elim
     (λ (h : i < length xs). ⊎_elim
-    (λ (k : j < length xs). let p : Option Motion → Bool = λ m. alike m (get_or xs 0 None) in same-moves (get_or xs i None) (get_or xs j None) (get_or xs 0 None) (at-all p xs i None a h) (at-all p xs j None a k))
-    (λ (k : length xs ≤ j). still-right (get_or xs i None) (get_or xs j None) (get_or_past xs j None k))
-    (cases_lt j (length xs)))
-    (λ (h : length xs ≤ i). still-left (get_or xs i None) (get_or xs j None) (get_or_past xs i None h))
+    (λ (k : j < length ys). let p : Option Motion → Bool = λ m. alike m f in same-moves (get_or xs i None) (get_or ys j None) f (at-all p xs i None a h) (at-all p ys j None b k))
+    (λ (k : length ys ≤ j). still-right (get_or xs i None) (get_or ys j None) (get_or_past ys j None k))
+    (cases_lt j (length ys)))
+    (λ (h : length xs ≤ i). still-left (get_or xs i None) (get_or ys j None) (get_or_past xs i None h))
     (cases_lt i (length xs))
+
+pub no-moves : (xs : List (Option Motion)) (i j : ℕ) → are_alike xs ≡ true → moves_apart (get_or xs i None) (get_or xs j None) ≡ false
+no-moves xs i j a = same-all xs xs (get_or xs 0 None) i j a a
 
 even-strength : (a b : Bool) (p q : Option Motion) → a ≡ false → b ≡ false → moves_apart p q ≡ false → Zero ≡ inter_strength (a || b) p q
 even-strength a b p q e f g = rw (e, f, g) refl
 
-module _ (v : Bool) (c : Contexts) (m : CodedMacroblock) (s : Shows c m) (l : length c.totals ≡ 16) (i : c.intra ≡ false) (b : are_blank c.totals ≡ true) (a : are_alike c.motions ≡ true) where
+module _ (v : Bool) (c : Contexts) (m : CodedMacroblock) (s : Shows c m) (l : length c.totals ≡ 16) (i : c.intra ≡ false) (even : is_even c ≡ true) where
   even-at : (line k : ℕ) → 0 < line → line < 4 → k < 4 → Zero ≡ strength_at v line m m k
   even-at line k some h g =
+      let y = both (are_blank c.totals) (are_alike c.motions) even in
       let p : number_at v (line - 1) k < 16 = few-at v (line - 1) k (omega arith) g in
       let q : number_at v line k < 16 = few-at v line k h g in
       inner-by v line k c m Zero some h g s i
-      (even-strength (nat_lt 0 (get_or c.totals (number_at v (line - 1) k) 0)) (nat_lt 0 (get_or c.totals (number_at v line k) 0)) (get_or c.motions (number_at v (line - 1) k) None) (get_or c.motions (number_at v line k) None) (blank c.totals (number_at v (line - 1) k) b (omega arith)) (blank c.totals (number_at v line k) b (omega arith)) (no-moves c.motions (number_at v (line - 1) k) (number_at v line k) a))
+      (even-strength (nat_lt 0 (get_or c.totals (number_at v (line - 1) k) 0)) (nat_lt 0 (get_or c.totals (number_at v line k) 0)) (get_or c.motions (number_at v (line - 1) k) None) (get_or c.motions (number_at v line k) None) (blank c.totals (number_at v (line - 1) k) y.0 (omega arith)) (blank c.totals (number_at v line k) y.0 (omega arith)) (no-moves c.motions (number_at v (line - 1) k) (number_at v line k) y.1))
 
   even-line : (line : ℕ) → 0 < line → line < 4 → Zero ∷ Zero ∷ Zero ∷ Zero ∷ [] ≡ strengths v line m m
   even-line line some h = four v line m m Zero Zero Zero Zero (even-at line 0 some h (omega arith)) (even-at line 1 some h (omega arith)) (even-at line 2 some h (omega arith)) (even-at line 3 some h (omega arith))
 
   pub even-lines : (Zero ∷ Zero ∷ Zero ∷ Zero ∷ []) ∷ (Zero ∷ Zero ∷ Zero ∷ Zero ∷ []) ∷ (Zero ∷ Zero ∷ Zero ∷ Zero ∷ []) ∷ [] ≡ inner_lines v m
   even-lines = three v m _ _ _ (even-line 1 (omega arith) (omega arith)) (even-line 2 (omega arith) (omega arith)) (even-line 3 (omega arith) (omega arith))
+
+-- ---- an edge along which nothing tells the blocks apart
+
+module _ (v : Bool) (e : Edge) (c : Contexts) (p q : CodedMacroblock) (beside : IsBeside v e p) (s : Shows c q) (i : e.intra ≡ false) (j : c.intra ≡ false) (k : length e.totals ≡ 4) (l : length c.totals ≡ 16) (even : is_even c ≡ true)
+    (on : goes_on e (get_or c.motions 0 None) ≡ true) where
+  on-at : (u : ℕ) → u < 4 → Zero ≡ strength_at v 0 p q u
+  on-at u h =
+      let b : number_at v 0 u < 16 = few-at v 0 u (omega arith) h in
+      let x = both (are_blank e.totals) (are_like (get_or c.motions 0 None) e.motions) on in
+      let y = both (are_blank c.totals) (are_alike c.motions) even in
+      outer-by v u e c p q Zero h beside s i j
+      (even-strength (nat_lt 0 (get_or e.totals u 0)) (nat_lt 0 (get_or c.totals (number_at v 0 u) 0)) (get_or e.motions u None) (get_or c.motions (number_at v 0 u) None) (blank e.totals u x.0 (omega arith)) (blank c.totals (number_at v 0 u) y.0 (omega arith))
+      (same-all e.motions c.motions (get_or c.motions 0 None) u (number_at v 0 u) x.1 y.1))
+
+  pub even-border : Zero ∷ Zero ∷ Zero ∷ Zero ∷ [] ≡ strengths v 0 p q
+  even-border = four v 0 p q Zero Zero Zero Zero (on-at 0 (omega arith)) (on-at 1 (omega arith)) (on-at 2 (omega arith)) (on-at 3 (omega arith))
 
 -- ---- the border
 

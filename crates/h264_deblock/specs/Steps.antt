@@ -8,6 +8,7 @@ use Rattle.h264_tables.specs.declared.thresholds.Strength.TheVariants.{One, Two}
 use Rattle.h264_near.specs.Coded.{CodedMacroblock, number_of}
 use Rattle.h264_near.specs.Keeps.{Lower, Right, filter_qp_of}
 use Rattle.h264_near.specs.Strength.{moves_apart}
+use Rattle.h264_near.specs.declared.context.Contexts.{Contexts}
 use Rattle.h264_near.specs.declared.context.Edge.{Edge}
 use Rattle.h264_near.specs.declared.motion.Motion.{Motion}
 use Rattle.h264_near.specs.declared.sides.Side.{Side}
@@ -50,8 +51,19 @@ alike None None = true
 abbrev pub are_blank : List ℕ → Bool
 are_blank totals = list_all (λ t. t == 0) totals
 
+abbrev pub are_like : Option Motion → List (Option Motion) → Bool
+are_like first motions = list_all (λ m. alike m first) motions
+
 abbrev pub are_alike : List (Option Motion) → Bool
-are_alike motions = list_all (λ m. alike m (get_or motions 0 None)) motions
+are_alike motions = are_like (get_or motions 0 None) motions
+
+-- nothing tells the blocks of a macroblock apart
+abbrev pub is_even : Contexts → Bool
+is_even c = are_blank c.totals && are_alike c.motions
+
+-- the blocks along an edge have no coefficients and are predicted as this one
+abbrev pub goes_on : Edge → Option Motion → Bool
+goes_on e m = are_blank e.totals && are_like m e.motions
 
 -- the quantisation parameter of luma or of chroma
 abbrev pub side_qp : Bool → ℕ → ℤ → ℕ

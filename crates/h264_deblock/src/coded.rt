@@ -8,13 +8,13 @@ ghost use Rattle.h264_near.specs.Coded.{CodedMacroblock};
 ghost use Rattle.h264_near.specs.Keeps.{Keeps, Shows, IsEdge};
 ghost use Rattle.h264_deblock.specs.Filtering.{edges_of, AreInside};
 ghost use Rattle.h264_deblock.specs.declared.slice_filter.SliceFilter.{SliceFilter as Filter};
-ghost use Rattle.h264_deblock.specs.CodedEdges.{coded_edges as edges_of_coded};
-ghost use Rattle.h264_deblock.specs.Steps.{IsBeside, side_qp, parameters, border_of, border_edge, inner_edge};
+ghost use Rattle.h264_deblock.specs.CodedEdges.{filters, coded_edges as edges_of_coded};
+ghost use Rattle.h264_deblock.specs.Steps.{IsBeside, is_even, side_qp, parameters, border_of, border_edge, inner_edge};
 
 use crate::edge_parameters::{BoundaryStrength, EdgeParameters};
 use crate::filtering::{ChromaEdges, Edges, LumaEdges, NO_EDGES};
 use crate::slice_filter::{Deblocking, SliceFilter, is_filtered};
-use crate::strengths::{border_strengths, inner_strengths};
+use crate::strengths::{border_strengths, inner_strengths, is_even};
 use h264_near::{Contexts, Edge, Near};
 use h264_tables::chroma_qp;
 
@@ -44,8 +44,8 @@ fn qp_of_chroma(qp: u8, offset: i32) -> u8
 
 /// The quantisation parameter of luma or of chroma.
 #[inline]
-fn qp_in(chroma: bool, qp: u8, filter: &SliceFilter) -> u8
-    ensures { result ≡ side_qp chroma qp filter.now.chroma_qp_index_offset }
+fn qp_in(chroma: bool, qp: u8, filter: SliceFilter) -> u8
+    ensures { result ≡ side_qp chroma qp filter.chroma_qp_index_offset }
 {
     if chroma {
         return qp_of_chroma(qp, filter.chroma_qp_index_offset);
@@ -57,10 +57,10 @@ fn qp_in(chroma: bool, qp: u8, filter: &SliceFilter) -> u8
 fn parameters(
     qp_p: u8,
     qp_q: u8,
-    filter: &SliceFilter,
+    filter: SliceFilter,
     strengths: [BoundaryStrength; 4],
 ) -> EdgeParameters
-    ensures { result ≡ parameters qp_p qp_q filter.now strengths }
+    ensures { result ≡ parameters qp_p qp_q filter strengths }
 {
     EdgeParameters {
         qp_p,
@@ -71,14 +71,17 @@ fn parameters(
     }
 }
 
-/// The edge between a macroblock and the one beside it, if it is filtered; `place` is the column of the macroblock, or its row.
+/// The edge between a macroblock and the one beside it, if it is filtered; `place` is the column of the macroblock, or its row, and
+/// `even` says that nothing tells the blocks of the macroblock apart.
 fn border_of(
     beside: &Option<Edge>,
     own: &Contexts,
+    even: bool,
     vertical: bool,
     filter: &SliceFilter,
     place: usize,
 ) -> Option<Border>
+    requires { even ≡ true → is_even own.now ≡ true }
     ensures inside { IsTrue (is_some result) → 0 < place }
     ensures here { (p : Option CodedMacroblock) (q : CodedMacroblock) → IsEdge (IsBeside vertical) beside.now p → Shows own.now q → (place ≡ 0 → p ≡ None) → result ≡ border_of filter.now vertical p q }
 {
@@ -91,7 +94,7 @@ fn border_of(
             if is_filtered(filter.deblocking, edge.slice == own.slice) {
                 return Some(Border {
                     qp: edge.qp,
-                    strengths: border_strengths(edge, own, vertical),
+                    strengths: border_strengths(edge, own, even, vertical),
                 });
             }
             None
@@ -105,9 +108,9 @@ fn border_edge(
     border: &Option<Border>,
     chroma: bool,
     qp: u8,
-    filter: &SliceFilter,
+    filter: SliceFilter,
 ) -> Option<EdgeParameters>
-    ensures { result ≡ border_edge chroma qp filter.now border.now }
+    ensures { result ≡ border_edge chroma qp filter border.now }
 {
     match border {
         None => None,
@@ -120,19 +123,17 @@ fn border_edge(
     }
 }
 
-/// An inner edge.
+/// An inner edge, which every slice has filtered that has any edge filtered.
 #[inline]
 fn inner_edge(
     strengths: [BoundaryStrength; 4],
     qp: u8,
-    filter: &SliceFilter,
+    filter: SliceFilter,
 ) -> Option<EdgeParameters>
-    ensures { result ≡ inner_edge qp filter.now strengths }
+    requires { filters filter.deblocking true ≡ true }
+    ensures { result ≡ inner_edge qp filter strengths }
 {
-    if is_filtered(filter.deblocking, true) {
-        return Some(parameters(qp, qp, filter, strengths));
-    }
-    None
+    Some(parameters(qp, qp, filter, strengths))
 }
 
 /// The luma edges of one direction.
@@ -140,9 +141,10 @@ fn luma_along(
     border: &Option<Border>,
     inner: &[[BoundaryStrength; 4]; 3],
     qp: u8,
-    filter: &SliceFilter,
+    filter: SliceFilter,
 ) -> [Option<EdgeParameters>; 4]
-    ensures { result ≡ border_edge false qp filter.now border.now ∷ inner_edge qp filter.now (get_or inner.now 0 []) ∷ inner_edge qp filter.now (get_or inner.now 1 []) ∷ inner_edge qp filter.now (get_or inner.now 2 []) ∷ [] }
+    requires { filters filter.deblocking true ≡ true }
+    ensures { result ≡ border_edge false qp filter border.now ∷ inner_edge qp filter (get_or inner.now 0 []) ∷ inner_edge qp filter (get_or inner.now 1 []) ∷ inner_edge qp filter (get_or inner.now 2 []) ∷ [] }
 {
     [
         border_edge(border, false, qp, filter),
@@ -157,9 +159,10 @@ fn chroma_along(
     border: &Option<Border>,
     inner: &[[BoundaryStrength; 4]; 3],
     qp: u8,
-    filter: &SliceFilter,
+    filter: SliceFilter,
 ) -> [Option<EdgeParameters>; 2]
-    ensures { result ≡ border_edge true qp filter.now border.now ∷ inner_edge qp filter.now (get_or inner.now 1 []) ∷ [] }
+    requires { filters filter.deblocking true ≡ true }
+    ensures { result ≡ border_edge true qp filter border.now ∷ inner_edge qp filter (get_or inner.now 1 []) ∷ [] }
 {
     [
         border_edge(border, true, qp, filter),
@@ -185,18 +188,19 @@ pub fn coded_edges(
     if let Deblocking::Off = filter.deblocking {
         return NO_EDGES;
     }
-    let left = border_of(near.left_edge(), own, true, filter, column);
-    let above = border_of(near.above_edge(), own, false, filter, row);
-    let inner = inner_strengths(own);
-    let qp = qp_in(true, own.qp, filter);
+    let even = is_even(own);
+    let left = border_of(near.left_edge(), own, even, true, filter, column);
+    let above = border_of(near.above_edge(), own, even, false, filter, row);
+    let inner = inner_strengths(own, even);
+    let qp = qp_in(true, own.qp, *filter);
     let planes = ChromaEdges {
-        vertical: chroma_along(&left, &inner.vertical, qp, filter),
-        horizontal: chroma_along(&above, &inner.horizontal, qp, filter),
+        vertical: chroma_along(&left, &inner.vertical, qp, *filter),
+        horizontal: chroma_along(&above, &inner.horizontal, qp, *filter),
     };
     Edges {
         y: LumaEdges {
-            vertical: luma_along(&left, &inner.vertical, own.qp, filter),
-            horizontal: luma_along(&above, &inner.horizontal, own.qp, filter),
+            vertical: luma_along(&left, &inner.vertical, own.qp, *filter),
+            horizontal: luma_along(&above, &inner.horizontal, own.qp, *filter),
         },
         cb: planes,
         cr: planes,

@@ -6,7 +6,7 @@ ghost use Rattle.h264_near.specs.Coded.{CodedMacroblock};
 ghost use Rattle.h264_near.specs.Keeps.{Shows};
 ghost use Rattle.h264_near.specs.Strength.{far, moves_apart};
 ghost use Rattle.h264_deblock.specs.CodedEdges.{strength_at, strengths};
-ghost use Rattle.h264_deblock.specs.Steps.{IsBeside, inter_strength, number_at, inner_lines, alike, are_blank, are_alike};
+ghost use Rattle.h264_deblock.specs.Steps.{IsBeside, inter_strength, number_at, inner_lines, alike, are_blank, are_like, are_alike, is_even, goes_on};
 
 use crate::edge_parameters::BoundaryStrength;
 use h264_near::block::number;
@@ -123,9 +123,27 @@ fn outer_line(edge: &Edge, own: &Contexts, vertical: bool) -> [BoundaryStrength;
     ]
 }
 
-/// The strengths of the edge between a macroblock and the one beside it, to the left or above.
+/// Whether the blocks along an edge have no coefficients and are predicted from one picture by one vector, as this one.
 #[inline(always)]
-pub(crate) fn border_strengths(edge: &Edge, own: &Contexts, vertical: bool) -> [BoundaryStrength; 4]
+fn goes_on(edge: &Edge, motion: &Option<Motion>) -> bool
+    ensures { result ≡ goes_on edge.now motion.now }
+{
+    if !are_blank(&edge.totals) {
+        return false;
+    }
+    are_like(&edge.motions, motion)
+}
+
+/// The strengths of the edge between a macroblock and the one beside it, to the left or above. `even` says that nothing tells the blocks of the one
+/// apart: they have no coefficients, and one picture and one vector predict all of them.
+#[inline(always)]
+pub(crate) fn border_strengths(
+    edge: &Edge,
+    own: &Contexts,
+    even: bool,
+    vertical: bool,
+) -> [BoundaryStrength; 4]
+    requires { even ≡ true → is_even own.now ≡ true }
     ensures { (p q : CodedMacroblock) → IsBeside vertical edge.now p → Shows own.now q → result ≡ strengths vertical 0 p q }
 {
     if edge.intra {
@@ -133,6 +151,11 @@ pub(crate) fn border_strengths(edge: &Edge, own: &Contexts, vertical: bool) -> [
     }
     if own.intra {
         return FOUR;
+    }
+    if even {
+        if goes_on(edge, &own.motions[0]) {
+            return ZERO;
+        }
     }
     outer_line(edge, own, vertical)
 }
@@ -231,14 +254,33 @@ fn is_alike(a: &Option<Motion>, b: &Option<Motion>) -> bool
     a.vector.y == b.vector.y
 }
 
-/// Whether no block has coefficients.
-fn are_blank(totals: &[u8; 16]) -> bool
+/// Whether no block has coefficients, with no branch.
+#[inline(always)]
+fn are_blank(totals: &[u8]) -> bool
     ensures { result ≡ are_blank totals.now }
 {
-    totals.iter().all(|total| *total == 0)
+    let mut blank = true;
+    for total in totals {
+        blank &= *total == 0;
+    }
+    blank
 }
 
-/// Whether one picture and one vector predict all blocks.
+/// Whether blocks are predicted from one picture by one vector, as this one.
+#[inline(always)]
+fn are_like(motions: &[Option<Motion>; 4], first: &Option<Motion>) -> bool
+    ensures { result ≡ are_like first.now motions.now }
+{
+    for motion in motions {
+        if !is_alike(motion, first) {
+            return false;
+        }
+    }
+    true
+}
+
+/// Whether one picture and one vector predict all blocks of a macroblock.
+#[inline(never)]
 fn are_alike(motions: &[Option<Motion>; 16]) -> bool
     ensures { result ≡ are_alike motions.now }
 {
@@ -246,8 +288,19 @@ fn are_alike(motions: &[Option<Motion>; 16]) -> bool
     motions.iter().all(|motion| is_alike(motion, first))
 }
 
-/// The strengths of the inner edges of a macroblock.
-pub(crate) fn inner_strengths(own: &Contexts) -> InnerStrengths
+/// Whether nothing tells the blocks of a macroblock apart: no coefficient, one picture and one vector.
+pub(crate) fn is_even(own: &Contexts) -> bool
+    ensures { result ≡ is_even own.now }
+{
+    if !are_blank(&own.totals) {
+        return false;
+    }
+    are_alike(&own.motions)
+}
+
+/// The strengths of the inner edges of a macroblock; `even` says that nothing tells its blocks apart.
+pub(crate) fn inner_strengths(own: &Contexts, even: bool) -> InnerStrengths
+    requires { even ≡ true → is_even own.now ≡ true }
     ensures vertical { (coded : CodedMacroblock) → Shows own.now coded → result.vertical ≡ inner_lines true coded }
     ensures horizontal { (coded : CodedMacroblock) → Shows own.now coded → result.horizontal ≡ inner_lines false coded }
 {
@@ -257,14 +310,14 @@ pub(crate) fn inner_strengths(own: &Contexts) -> InnerStrengths
             horizontal: [THREE; 3],
         };
     }
-    if !are_alike(&own.motions) {
-        return by_motion(own);
-    }
-    if are_blank(&own.totals) {
+    if even {
         return InnerStrengths {
             vertical: [ZERO; 3],
             horizontal: [ZERO; 3],
         };
     }
-    by_coefficients(own)
+    if are_alike(&own.motions) {
+        return by_coefficients(own);
+    }
+    by_motion(own)
 }

@@ -1,4 +1,4 @@
-use Rattle.std.proofs.Common.{◌≡◌, true, false, sym, ◌∙◌, length, arith}
+use Rattle.std.proofs.Common.{◌≡◌, true, false, length, arith}
 use Rattle.h264_deblock.proofs.CodedEdges.{strong-lines, even-lines}
 use Rattle.h264_deblock.proofs.strengths.inner_strengths.Goals as goal
 
@@ -8,11 +8,11 @@ returns-then-own-clause-vertical c m s = strong-lines true m c.args.own.now.intr
 pub returns-then-own-clause-horizontal : goal.returns-then-own-clause-horizontal
 returns-then-own-clause-horizontal c m s = strong-lines false m c.args.own.now.intra s.intra c.if-own.true
 
-pub returns-then-are_blank : goal.returns-then-are_blank
-returns-then-are_blank c =
+pub returns-then-even : goal.returns-then-even
+returns-then-even c =
     let own = c.args.own.now in
     let a : length own.totals ≡ 16 = omega arith in
     record {
-      vertical = λ m s. even-lines true own m s a c.if-own.false (sym c.are_blank.ensures ∙ c.if-are_blank.true) (sym c.are_alike.ensures ∙ c.if-not-are_alike.false);
-      horizontal = λ m s. even-lines false own m s a c.if-own.false (sym c.are_blank.ensures ∙ c.if-are_blank.true) (sym c.are_alike.ensures ∙ c.if-not-are_alike.false);
+      vertical = λ m s. even-lines true own m s a c.if-own.false (c.requires c.if-even.true);
+      horizontal = λ m s. even-lines false own m s a c.if-own.false (c.requires c.if-even.true);
     }
