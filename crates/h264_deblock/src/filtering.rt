@@ -84,6 +84,7 @@ fn luma(plane: &mut Plane, edges: &LumaEdges, column: usize, row: usize)
 }
 
 /// Filters its edges in a chroma plane.
+#[inline(always)]
 fn chroma(plane: &mut Plane, edges: &ChromaEdges, column: usize, row: usize)
     requires columns { 8 * column + 8 ≤ plane.old.width }
     requires rows { 8 * row + 8 ≤ plane.old.height }

@@ -7,7 +7,7 @@ ghost use Rattle.h264_deblock.specs.Inner.{inner_of, HasInner, IsFilteredInner, 
 ghost use Rattle.h264_deblock.specs.declared.line.Filter.TheVariants.{Strong};
 ghost use Rattle.h264_deblock.specs.declared.edge_parameters.BoundaryStrength.TheVariants.{Zero};
 
-use crate::columns::{lanes_of, read_eight, read_pair, riffled, woven};
+use crate::columns::{lanes_of, read_eight, read_pair, woven};
 use crate::edge_parameters::BoundaryStrength;
 use crate::line::{Filter, Limits, Line, moved};
 use crate::rows::{either, is_on, is_within, kept, tc0_of};
@@ -63,6 +63,28 @@ fn read_square(plane: &Plane, x: usize, y: usize) -> [u8; 64]
         samples[16 * v..16 * v + 16].copy_from_slice(&pair);
     }
     samples
+}
+
+/// Eight of the first half of the samples in turn with those at their places in the second half.
+#[inline(always)]
+fn riffled_pair(x: &[u8; 64], k: usize) -> [u8; 16]
+    requires { k < 4 }
+    ensures { (u : ℕ) → u < 16 → slice_index result u ≡ slice_index x.now (u % 2 * 32 + (8 * k + u / 2)) }
+{
+    woven(lanes_of(x, 8 * k), lanes_of(x, 8 * k + 32))
+}
+
+/// The first half of the samples between the places of the second half, as two halves of a pack of cards, in vectors of sixteen.
+#[inline(always)]
+fn riffled(x: &[u8; 64]) -> [u8; 64]
+    ensures { (n : ℕ) → n < 64 → slice_index result n ≡ slice_index x.now (n % 2 * 32 + n / 2) }
+{
+    let mut out = [0u8; 64];
+    for k in 0..4usize {
+        let pair = riffled_pair(x, k);
+        out[16 * k..16 * k + 16].copy_from_slice(&pair);
+    }
+    out
 }
 
 /// Pairs of rows as columns.
@@ -160,7 +182,7 @@ fn normal(l: Line, alpha: u8, beta: u8, t: u8) -> Line
 }
 
 /// The nearest samples after the filters of these numbers.
-#[inline(never)]
+#[inline(always)]
 pub fn normal_nearest(r: &Inner, alpha: u8, beta: u8, tc0: &[u8; 8]) -> Nearest
     ensures { IsFilteredInner r.now result (λ n. record { alpha = alpha; beta = beta; filter = filter_by_of (slice_index tc0.now n) }) }
 {
@@ -230,7 +252,7 @@ fn narrowed(x: &[u8; 16]) -> [u8; 8]
 }
 
 /// The nearest samples after the filter of bS 4. Of sixteen lanes eight are used: the compiler makes vectors of so many, but not of eight.
-#[inline(never)]
+#[inline(always)]
 pub fn strong_nearest(r: &Inner, alpha: u8, beta: u8) -> Nearest
     ensures { IsFilteredInner r.now result (λ _. record { alpha = alpha; beta = beta; filter = Strong }) }
 {
