@@ -12,8 +12,7 @@ use Rattle.h264_recon.specs.Constructed.{Coded, IsPossible}
 use Rattle.h264_recon.specs.Given.{given}
 use Rattle.h264_recon.specs.Placed.{PointsInto}
 use Rattle.h264_recon.specs.Pool.{IsShown, AreShown}
-use Rattle.h264_recon.specs.declared.macroblock.Prediction.{Prediction}
-use Rattle.h264_recon.specs.declared.macroblock.Prediction.TheVariants.{Intra, Inter, Pcm}
+use Rattle.h264_recon.specs.Predicted.{Prediction, Intra, Inter, Pcm}
 use Rattle.h264_recon.proofs.Possible.{given-allowed}
 use Rattle.h264_deblock.specs.Filtering.{IsOf}
 use Rattle.h264_picture.specs.declared.sequence.Sequence.{Sequence}

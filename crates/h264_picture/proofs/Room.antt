@@ -13,8 +13,7 @@ use Rattle.h264_plane.specs.declared.frame.Frame.{Frame}
 use Rattle.h264_recon.specs.Lines.{store_of}
 use Rattle.h264_recon.specs.Placed.{PointsInto}
 use Rattle.h264_recon.specs.Pool.{HasRoom, AreUsable}
-use Rattle.h264_recon.specs.declared.macroblock.Prediction.{Prediction}
-use Rattle.h264_recon.specs.declared.macroblock.Prediction.TheVariants.{Intra, Inter, Pcm}
+use Rattle.h264_recon.specs.Predicted.{Prediction, Intra, Inter, Pcm}
 use Rattle.h264_recon.specs.declared.store.Lines.{Lines}
 use Rattle.h264_picture.specs.declared.frames.Frames.{Frames}
 use Rattle.h264_picture.specs.Lent.{AreFrames, frame_within}

@@ -11,6 +11,7 @@ ghost use Rattle.h264_scale.specs.declared.levels.Levels.{Levels};
 ghost use Rattle.h264_recon.specs.Inter.{Setting};
 ghost use Rattle.h264_recon.specs.Constructed.{coded as coded_as, IsPossible};
 ghost use Rattle.h264_recon.specs.Lines.{store_of};
+ghost use Rattle.h264_recon.specs.Predicted.{prediction_in};
 ghost use Rattle.h264_recon.specs.Pool.{AreShown, AreUsable};
 ghost use Rattle.h264_deblock.specs.Filtering.{AreInside, edges_of};
 ghost use Rattle.h264_deblock.specs.CodedEdges.{coded_edges};
@@ -34,7 +35,7 @@ pub(crate) fn go_on(
     column: usize,
     row: usize,
 )
-    requires usable { AreUsable pool.now column row m.now.prediction }
+    requires usable { AreUsable pool.now column row (prediction_in m.now.prediction) }
     requires y { (16 * column + 16 ≤ frame.old.y.width) × (16 * row + 16 ≤ frame.old.y.height) }
     requires cb { (8 * column + 8 ≤ frame.old.cb.width) × (8 * row + 8 ≤ frame.old.cb.height) }
     requires cr { (8 * column + 8 ≤ frame.old.cr.width) × (8 * row + 8 ≤ frame.old.cr.height) }
@@ -47,7 +48,7 @@ pub(crate) fn go_on(
     ensures lines { (p : Component) → vec_len (store_of p lines.new).above ≡ vec_len (store_of p lines.old).above }
     ensures size { (p : Component) → IsSized (plane_of p frame.new) (plane_of p frame.old).width (plane_of p frame.old).height }
     ensures held { (k : Setting) (place : ℕ → ℕ) (slices : ℕ → Parameters) (picture : List CodedMacroblock) (coded : CodedMacroblock) (l : Levels) → length picture ≡ row * k.across + column → column < k.across → row < k.down →
-        AreShown k pool.now m.now.prediction → AreResiduals l residuals.now → IsPossible m.now.prediction m.now.available → coded_as m.now l ≡ given_by k.across picture place (slices coded.slice) coded →
+        AreShown k pool.now (prediction_in m.now.prediction) → AreResiduals l residuals.now → IsPossible (prediction_in m.now.prediction) m.now.available → coded_as m.now l ≡ given_by k.across picture place (slices coded.slice) coded →
         ((p : Component) → edges_of edges.now p ≡ coded_edges (filters slices) k.across picture coded p) → IsHeld k place slices lines.old frame.old picture → IsHeld k place slices lines.new frame.new (picture ++ coded ∷ []) }
 {
     construct(lines, frame, m, residuals, pool, column, row);

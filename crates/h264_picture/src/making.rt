@@ -1,12 +1,22 @@
 //! The samples of a macroblock: construction (8.3, 8.4.2, 8.5) and, behind it, the deblocking filter (8.7).
 #![tactic(auto)]
 
-ghost use Rattle.std.specs.Prelude.{◌≡◌, ◌+◌, ◌<◌, IsTrue};
-ghost use Rattle.h264_recon.specs.Placed.{PointsInto};
+ghost use Rattle.std.specs.Prelude.{◌≡◌, ℕ, ◌+◌, ◌*◌, ◌<◌, IsTrue, List, length};
+ghost use Rattle.h264_near.specs.Coded.{CodedMacroblock};
+ghost use Rattle.h264_near.specs.Keeps.{Keeps};
+ghost use Rattle.h264_mbsyntax.specs.Holds.{Holds as HoldsMacroblock};
+ghost use Rattle.h264_mbsyntax.specs.Possible.{IsPossible};
+ghost use Rattle.h264_recon.specs.Constructed.{coded as coded_as};
+ghost use Rattle.h264_recon.specs.Given.{given as given_of};
+ghost use Rattle.h264_recon.specs.Levels.{levels_of};
+ghost use Rattle.h264_recon.specs.Placed.{ArePlaced, PointsInto};
+ghost use Rattle.h264_recon.specs.Predicted.{prediction_in};
 
 use crate::in_place::go_on;
 use crate::sequence::Sequence;
 use h264_deblock::coded_edges;
+use h264_mbsyntax::Macroblock as Read;
+use h264_near::Near;
 use h264_recon::{Available, Macroblock, given};
 use h264_scale::Residuals;
 use h264_vectors::SliceContext;
@@ -29,37 +39,33 @@ fn within_row(available: Available, across: usize, column: usize) -> Available
     }
 }
 
+/// What constructs a macroblock that was read, at this column and row, where so many stand in a row.
+#[inline]
+fn given_within<'a>(
+    read: &'a Read,
+    near: &Near,
+    slice: &SliceContext,
+    places: &[u8; 16],
+    across: usize,
+    column: usize,
+    row: usize,
+) -> Macroblock<'a>
+    requires small { column < 1024 }
+    ensures points { PointsInto places.now (prediction_in result.prediction) }
+    ensures more { IsTrue result.available.above_right → column + 1 < across }
+    ensures given { (width : ℕ) (picture : List CodedMacroblock) (place : ℕ → ℕ) (coded : CodedMacroblock) → across ≡ width → Keeps width picture near.now → length picture ≡ row * width + column → column < width → HoldsMacroblock read.now coded → coded.slice ≡ slice.now.number →
+        IsPossible width slice.now picture coded.prediction → ArePlaced slice.now places.now place → coded_as result (levels_of slice.now.chroma_qp_index_offset coded) ≡ given_of width picture place slice.now.constrained_intra slice.now.chroma_qp_index_offset coded }
+{
+    let mut m = given(read, near, slice, places, column, row);
+    m.available = within_row(m.available, across, column);
+    m
+}
+
 impl Sequence {
-    ghost use Rattle.std.specs.Prelude.{ℕ, Option, List, [], ◌∷◌, ◌++◌};
-    ghost use Rattle.h264_near.specs.Coded.{CodedMacroblock};
-    ghost use Rattle.h264_mbsyntax.specs.Holds.{Holds as HoldsMacroblock};
-    ghost use Rattle.h264_mbsyntax.specs.Possible.{IsPossible};
+    ghost use Rattle.std.specs.Prelude.{Option, [], ◌∷◌, ◌++◌};
     ghost use Rattle.h264_scale.specs.Macroblock.{AreResiduals};
-    ghost use Rattle.h264_recon.specs.Constructed.{coded as coded_as};
-    ghost use Rattle.h264_recon.specs.Given.{given as given_of};
-    ghost use Rattle.h264_recon.specs.Levels.{levels_of};
-    ghost use Rattle.h264_recon.specs.Placed.{ArePlaced};
     ghost use Rattle.h264_picture.specs.Holds.{KeepsPlace, KeepsSyntax, HoldsIn};
     ghost use Rattle.h264_picture.specs.Making.{Making, HasSamples, MakesIn};
-
-    /// What constructs the macroblock in its place.
-    #[inline(always)]
-    fn given(&self, slice: &SliceContext) -> Macroblock
-        ensures points { PointsInto self.now.places result.prediction }
-        ensures more { IsTrue result.available.above_right → self.now.column + 1 < self.now.across }
-        ensures given { (width size : ℕ) (place : ℕ → ℕ) (picture : List CodedMacroblock) (coded : CodedMacroblock) → HoldsIn width size picture self.now → HoldsMacroblock self.now.mb coded → coded.slice ≡ slice.now.number → IsPossible width slice.now picture coded.prediction → ArePlaced slice.now self.now.places place → coded_as result (levels_of slice.now.chroma_qp_index_offset coded) ≡ given_of width picture place slice.now.constrained_intra slice.now.chroma_qp_index_offset coded }
-    {
-        let mut m = given(
-            &self.mb,
-            &self.near,
-            slice,
-            &self.places,
-            self.column,
-            self.row,
-        );
-        m.available = within_row(m.available, self.across, self.column);
-        m
-    }
 
     /// Makes the samples of the macroblock in its place.
     pub(crate) fn make(&mut self, slice: &SliceContext, residuals: &Residuals)
@@ -69,11 +75,19 @@ impl Sequence {
         ensures makes { (making : Option Making) → MakesIn making slice.now self.old → MakesIn making slice.now self.new }
         ensures samples { (width size : ℕ) (making : Option Making) (picture : List CodedMacroblock) (coded : CodedMacroblock) → HoldsIn width size picture self.old → HasSamples making picture self.old → MakesIn making slice.now self.old → HoldsMacroblock self.old.mb coded → coded.slice ≡ slice.now.number → IsPossible width slice.now picture coded.prediction → AreResiduals (levels_of slice.now.chroma_qp_index_offset coded) residuals.now → HasSamples making (picture ++ coded ∷ []) self.new }
     {
-        let m = self.given(slice);
         let edges = coded_edges(
             &self.near,
             &self.mb.contexts,
             &self.filter,
+            self.column,
+            self.row,
+        );
+        let m = given_within(
+            &self.mb,
+            &self.near,
+            slice,
+            &self.places,
+            self.across,
             self.column,
             self.row,
         );

@@ -6,10 +6,9 @@ use Rattle.h264_intra.specs.declared.chroma.IntraChromaPredMode.{IntraChromaPred
 use Rattle.h264_near.specs.declared.motion.Motion as derived
 use Rattle.h264_near.specs.Coded as coded
 use Rattle.h264_recon.specs.declared.macroblock.Motion.{Motion}
-use Rattle.h264_recon.specs.declared.macroblock.PcmSamples.{PcmSamples}
-use Rattle.h264_recon.specs.declared.macroblock.Prediction.TheVariants.{Intra, Inter, Pcm}
+use Rattle.h264_recon.specs.Predicted.{PcmSamples, Intra, Inter, Pcm, pcm_of}
 use Rattle.h264_recon.specs.declared.macroblock.IntraLuma.TheVariants.{Blocks, Whole}
-use Rattle.h264_recon.specs.Given.{modes4_of, mode16_of, chroma_mode_of, pcm_of, motions_of, prediction_of}
+use Rattle.h264_recon.specs.Given.{modes4_of, mode16_of, chroma_mode_of, motions_of, prediction_of}
 
 pub intra-4x4 : (place : ℕ → ℕ) (p : coded.Prediction) (modes : List ℕ) (chroma : ℕ) (a : List Intra4x4PredMode) (b : IntraChromaPredMode) → p ≡ coded.Intra4x4 modes chroma → a ≡ modes4_of modes → b ≡ chroma_mode_of chroma →
     Intra (record { luma = Blocks a; chroma = b }) ≡ prediction_of place p

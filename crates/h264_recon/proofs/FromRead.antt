@@ -14,7 +14,7 @@ use Rattle.h264_recon.specs.Constructed.{Coded}
 use Rattle.h264_recon.specs.Given.{available, prediction_of, given}
 use Rattle.h264_recon.specs.Table.{table}
 use Rattle.h264_recon.specs.declared.macroblock.Available.{Available}
-use Rattle.h264_recon.specs.declared.macroblock.Prediction.{Prediction}
+use Rattle.h264_recon.specs.Predicted.{Prediction}
 use Rattle.h264_recon.specs.Levels.{blocks_from, luma_blocks, luma_levels, chroma_blocks, chroma_levels, levels_of}
 use Rattle.h264_recon.proofs.Tables.{table-ext, element}
 

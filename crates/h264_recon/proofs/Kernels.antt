@@ -20,8 +20,7 @@ use Rattle.h264_recon.specs.declared.macroblock.Available.{Available}
 use Rattle.h264_recon.specs.declared.macroblock.IntraLuma.{IntraLuma}
 use Rattle.h264_recon.specs.declared.macroblock.IntraLuma.TheVariants.{Blocks, Whole}
 use Rattle.h264_recon.specs.declared.macroblock.IntraModes.{IntraModes}
-use Rattle.h264_recon.specs.declared.macroblock.PcmSamples.{PcmSamples}
-use Rattle.h264_recon.specs.declared.macroblock.Prediction.TheVariants.{Intra, Pcm}
+use Rattle.h264_recon.specs.Predicted.{PcmSamples, Intra, Pcm}
 use Rattle.h264_recon.specs.declared.store.Store.{Store}
 
 made_intra : (k : Setting) (c r : ℕ) (m : Coded) (p : Component) (s : ℕ → ℕ → ℕ) (x y : ℕ) (modes : IntraModes) → m.prediction ≡ Intra modes →

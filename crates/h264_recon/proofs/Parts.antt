@@ -1,6 +1,7 @@
 -- A macroblock part by part.
-use Rattle.std.proofs.Common.{Bool, true, false, ◌≡◌, ◌≢◌, ◌⊎◌, inl, inr, ⊎_elim, ℕ, ◌+◌, ◌*◌, ◌/◌, ◌%◌, ◌<◌, ◌≤◌, List, slice_index, get_or, arith, refl, sym, ap, ◌∙◌, zero-add}
+use Rattle.std.proofs.Common.{Bool, true, false, ◌≡◌, ◌≢◌, ◌⊎◌, inl, inr, ⊎_elim, ℕ, ◌+◌, ◌*◌, ◌/◌, ◌%◌, ◌<◌, ◌≤◌, List, slice_index, get_or, replicate, arith, refl, sym, ap, ◌∙◌, zero-add}
 use Rattle.std.proofs.lemmas.Bool.{cases_lt, cases_eq}
+use Rattle.std.proofs.lemmas.List.{get_or-replicate}
 use Rattle.h264_plane.specs.Samples.{Samples, at}
 use Rattle.h264_plane.specs.Frames.{plane_of, frame_at}
 use Rattle.h264_plane.specs.Places.{side}
@@ -72,7 +73,7 @@ part_whole n x y f own is = record { each = λ i j p q. is.each i j p q ∙ sym 
 
 -- ---- the motion of a part
 
--- of a 4x4 place, of a quarter whose places move alike, and of a macroblock whose places do
+-- of a 4x4 place, and of a quarter whose places move alike
 pub luma_place : (motion : List Motion) (m : Motion) (x y k i j : ℕ) → x < 2 → y < 2 → k < 4 → i < 4 → j < 4 → m ≡ get_or motion (4 * (2 * y + k / 2) + (2 * x + k % 2)) no_motion →
     m ≡ motion_at motion Y (8 * x + 4 * (k % 2) + i) (8 * y + 4 * (k / 2) + j)
 luma_place motion m x y k i j a b d e f is =
@@ -106,19 +107,13 @@ chroma_alike false motion m x y i j a b same is =
     let k : 4 * (2 * y + j / 2) + (2 * x + i / 2) ≡ 4 * (4 * (4 * y + j) / 8) + 4 * (4 * x + i) / 8 = omega arith in
     is ∙ ap (λ z. get_or motion z no_motion) n ∙ sym (same.each (i / 2) (j / 2) (omega arith) (omega arith)) ∙ ap (λ z. get_or motion z no_motion) k
 
-pub luma_one : (motion : List Motion) (m : Motion) (i j : ℕ) → i < 16 → j < 16 → AreEqual 4 0 0 motion → m ≡ get_or motion 0 no_motion → m ≡ motion_at motion Y (0 + i) (0 + j)
-luma_one motion m i j a b same is =
-    let k : 4 * (0 + j / 4) + (0 + i / 4) ≡ 4 * (4 * (0 + j) / 16) + 4 * (0 + i) / 16 = omega arith in
-    is ∙ sym (same.each (i / 4) (j / 4) (omega arith) (omega arith)) ∙ ap (λ z. get_or motion z no_motion) k
+-- of a macroblock that moves as a whole
+pub luma_one : (m : Motion) (i j : ℕ) → i < 16 → j < 16 → m ≡ motion_at (replicate 16 m) Y (0 + i) (0 + j)
+luma_one m i j a b = sym (get_or-replicate 16 (4 * (4 * (0 + j) / 16) + 4 * (0 + i) / 16) m no_motion (omega arith))
 
-pub chroma_one : (t : Bool) (motion : List Motion) (m : Motion) (i j : ℕ) → i < 8 → j < 8 → AreEqual 4 0 0 motion → m ≡ get_or motion 0 no_motion →
-    m ≡ motion_at motion (chroma_plane t) (0 + i) (0 + j)
-chroma_one true motion m i j a b same is =
-    let k : 4 * (0 + j / 2) + (0 + i / 2) ≡ 4 * (4 * (0 + j) / 8) + 4 * (0 + i) / 8 = omega arith in
-    is ∙ sym (same.each (i / 2) (j / 2) (omega arith) (omega arith)) ∙ ap (λ z. get_or motion z no_motion) k
-chroma_one false motion m i j a b same is =
-    let k : 4 * (0 + j / 2) + (0 + i / 2) ≡ 4 * (4 * (0 + j) / 8) + 4 * (0 + i) / 8 = omega arith in
-    is ∙ sym (same.each (i / 2) (j / 2) (omega arith) (omega arith)) ∙ ap (λ z. get_or motion z no_motion) k
+pub chroma_one : (t : Bool) (m : Motion) (i j : ℕ) → i < 8 → j < 8 → m ≡ motion_at (replicate 16 m) (chroma_plane t) (0 + i) (0 + j)
+chroma_one true m i j a b = sym (get_or-replicate 16 (4 * (4 * (0 + j) / 8) + 4 * (0 + i) / 8) m no_motion (omega arith))
+chroma_one false m i j a b = sym (get_or-replicate 16 (4 * (4 * (0 + j) / 8) + 4 * (0 + i) / 8) m no_motion (omega arith))
 
 -- ---- a part from the pool
 

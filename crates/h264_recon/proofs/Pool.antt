@@ -15,7 +15,7 @@ use Rattle.h264_recon.specs.Constructed.{predicted_inter, made_by, made, Coded}
 use Rattle.h264_recon.specs.Lines.{local, IsMadeFrom, chroma_plane}
 use Rattle.h264_recon.specs.Pool.{HasRoom, IsShown, AreShown, of_frames, from_pool}
 use Rattle.h264_recon.specs.declared.macroblock.Motion.{Motion}
-use Rattle.h264_recon.specs.declared.macroblock.Prediction.TheVariants.{Inter}
+use Rattle.h264_recon.specs.Predicted.{Inter}
 use Rattle.h264_recon.specs.declared.store.Store.{Store}
 
 -- ---- the frame shows the reference picture

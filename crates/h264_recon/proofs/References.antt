@@ -9,8 +9,7 @@ use Rattle.h264_inter.proofs.Depends.{luma_depends, chroma_depends}
 use Rattle.h264_recon.specs.Inter.{Setting, predicted_from, motion_at}
 use Rattle.h264_recon.specs.Constructed.{Coded, window, predicted_inter, made_by, made, Constructed, SameReferences}
 use Rattle.h264_recon.specs.declared.macroblock.Motion.{Motion}
-use Rattle.h264_recon.specs.declared.macroblock.Prediction.{Prediction}
-use Rattle.h264_recon.specs.declared.macroblock.Prediction.TheVariants.{Intra, Inter, Pcm}
+use Rattle.h264_recon.specs.Predicted.{Prediction, Intra, Inter, Pcm}
 use Rattle.h264_recon.proofs.Pool.{motion_inside, inside_some}
 
 abbrev pub setting : ℕ → ℕ → (ℕ → Component → ℕ → ℕ → ℕ) → Setting

@@ -16,8 +16,7 @@ use Rattle.h264_recon.specs.declared.macroblock.Available.{Available}
 use Rattle.h264_recon.specs.declared.macroblock.IntraLuma.{IntraLuma}
 use Rattle.h264_recon.specs.declared.macroblock.IntraLuma.TheVariants.{Blocks, Whole}
 use Rattle.h264_recon.specs.declared.macroblock.IntraModes.{IntraModes}
-use Rattle.h264_recon.specs.declared.macroblock.Prediction.{Prediction}
-use Rattle.h264_recon.specs.declared.macroblock.Prediction.TheVariants.{Intra, Inter, Pcm}
+use Rattle.h264_recon.specs.Predicted.{Prediction, Intra, Inter, Pcm}
 use Rattle.h264_plane.proofs.Raster.{rows, or_in, wrap_before, side_least}
 use Rattle.h264_recon.proofs.Sides.{block_sides, whole_sides, same_at}
 use Rattle.h264_plane.proofs.Own.{moved}

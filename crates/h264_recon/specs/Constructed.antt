@@ -13,14 +13,12 @@ use Rattle.h264_scale.specs.Macroblock.{residual}
 use Rattle.h264_scale.specs.declared.levels.Levels.{Levels}
 use Rattle.h264_recon.specs.Blocks.{sides_of, sides4_of}
 use Rattle.h264_recon.specs.Inter.{Setting, predicted_at, motion_at, no_motion}
+use Rattle.h264_recon.specs.Predicted.{PcmSamples, Prediction, Intra, Inter, Pcm, prediction_in}
 use Rattle.h264_recon.specs.declared.macroblock.Available.{Available}
 use Rattle.h264_recon.specs.declared.macroblock.IntraLuma.{IntraLuma}
 use Rattle.h264_recon.specs.declared.macroblock.IntraLuma.TheVariants.{Blocks, Whole}
 use Rattle.h264_recon.specs.declared.macroblock.IntraModes.{IntraModes}
 use Rattle.h264_recon.specs.declared.macroblock.Motion.{Motion}
-use Rattle.h264_recon.specs.declared.macroblock.PcmSamples.{PcmSamples}
-use Rattle.h264_recon.specs.declared.macroblock.Prediction.{Prediction}
-use Rattle.h264_recon.specs.declared.macroblock.Prediction.TheVariants.{Intra, Inter, Pcm}
 use Rattle.h264_recon.specs.declared.macroblock.Macroblock.{Macroblock}
 
 -- a macroblock as it was decoded: the sides that intra prediction may use, how it is predicted, and its levels
@@ -30,7 +28,7 @@ pub record Coded : Type 0 where
   pub levels : Levels
 
 abbrev pub coded : Macroblock → Levels → Coded
-coded m l = record { available = m.available; prediction = m.prediction; levels = l }
+coded m l = record { available = m.available; prediction = prediction_in m.prediction; levels = l }
 
 -- Samples s round a macroblock: the standard's p[-1, -1] is s 0 0, the row above is s (x + 1) 0, the column to the left is s 0 (y + 1), and the
 -- macroblock's own samples are s (x + 1) (y + 1).

@@ -1,5 +1,5 @@
 -- What a macroblock of the coded picture gives to its construction.
-use Rattle.std.specs.Prelude.{ℕ, zero, suc, ◌+◌, ◌/◌, ◌%◌, Bool, List, [], get_or, Option, Some, None, ℤ}
+use Rattle.std.specs.Prelude.{ℕ, zero, suc, ◌/◌, ◌%◌, Bool, List, [], get_or, Option, Some, None, ℤ}
 use Rattle.std.specs.Option.{is_some}
 use Rattle.h264_intra.specs.declared.luma4.Intra4x4PredMode.{Intra4x4PredMode}
 use Rattle.h264_intra.specs.declared.luma4.Intra4x4PredMode.TheVariants as mode4
@@ -15,13 +15,11 @@ use Rattle.h264_near.specs.Place.{around}
 use Rattle.h264_recon.specs.Constructed.{Coded}
 use Rattle.h264_recon.specs.Inter.{no_motion}
 use Rattle.h264_recon.specs.Levels.{levels_of}
+use Rattle.h264_recon.specs.Predicted.{Prediction, Intra, Inter, Pcm, pcm_of}
 use Rattle.h264_recon.specs.Table.{table}
 use Rattle.h264_recon.specs.declared.macroblock.Available.{Available}
 use Rattle.h264_recon.specs.declared.macroblock.IntraLuma.TheVariants.{Blocks, Whole}
 use Rattle.h264_recon.specs.declared.macroblock.Motion.{Motion}
-use Rattle.h264_recon.specs.declared.macroblock.PcmSamples.{PcmSamples}
-use Rattle.h264_recon.specs.declared.macroblock.Prediction.{Prediction}
-use Rattle.h264_recon.specs.declared.macroblock.Prediction.TheVariants.{Intra, Inter, Pcm}
 
 -- Which macroblocks round the one that follows these intra prediction may use (6.4.9, 8.3.1.2): those of its slice, and no inter ones under
 -- constrained_intra_pred_flag.
@@ -74,10 +72,6 @@ motions_of place motions = table 16 (λ k. motion_of place (get_or motions (numb
 -- modes by number of the block
 unfoldable pub modes4_of : List ℕ → List Intra4x4PredMode
 modes4_of modes = table 16 (λ k. mode4_of (get_or modes k 0))
-
--- the samples of I_PCM by plane (7.3.5)
-unfoldable pub pcm_of : List ℕ → PcmSamples
-pcm_of samples = record { y = table 256 (λ k. get_or samples k 0); cb = table 64 (λ k. get_or samples (256 + k) 0); cr = table 64 (λ k. get_or samples (320 + k) 0) }
 
 unfoldable pub prediction_of : (ℕ → ℕ) → coded.Prediction → Prediction
 prediction_of place (coded.Intra4x4 modes chroma) = Intra (record { luma = Blocks (modes4_of modes); chroma = chroma_mode_of chroma })

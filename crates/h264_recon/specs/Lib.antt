@@ -1,5 +1,6 @@
 pub mod Blocks
 pub mod Inter
+pub mod Predicted
 pub mod Constructed
 pub mod Around
 pub mod Lines

@@ -10,7 +10,7 @@ use Rattle.h264_recon.specs.Inter.{Setting}
 use Rattle.h264_recon.specs.Constructed.{Coded, made, predicted_luma}
 use Rattle.h264_recon.specs.declared.macroblock.Available.{Available}
 use Rattle.h264_recon.specs.declared.macroblock.IntraLuma.{IntraLuma}
-use Rattle.h264_recon.specs.declared.macroblock.PcmSamples.{PcmSamples}
+use Rattle.h264_recon.specs.Predicted.{PcmSamples}
 use Rattle.h264_recon.specs.declared.store.Store.{Store}
 use Rattle.h264_recon.specs.declared.store.Lines.{Lines}
 

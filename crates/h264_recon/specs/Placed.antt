@@ -6,8 +6,7 @@ use Rattle.h264_vectors.specs.declared.slice.SliceContext.{SliceContext}
 use Rattle.h264_recon.specs.Inter.{no_motion}
 use Rattle.h264_recon.specs.Table.{table}
 use Rattle.h264_recon.specs.declared.macroblock.Motion.{Motion}
-use Rattle.h264_recon.specs.declared.macroblock.Prediction.{Prediction}
-use Rattle.h264_recon.specs.declared.macroblock.Prediction.TheVariants.{Intra, Inter, Pcm}
+use Rattle.h264_recon.specs.Predicted.{Prediction, Intra, Inter, Pcm}
 
 -- the places of the slice's reference pictures, by refIdxL0, are those of their numbers
 pub record ArePlaced (slice : SliceContext) (places : List ℕ) (place : ℕ → ℕ) : Type 0 where

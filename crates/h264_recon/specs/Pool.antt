@@ -7,8 +7,7 @@ use Rattle.h264_plane.specs.declared.frame.Frame.{Frame}
 use Rattle.h264_plane.specs.Places.{side}
 use Rattle.h264_recon.specs.Inter.{Setting, predicted_from, motion_at, no_motion}
 use Rattle.h264_recon.specs.declared.macroblock.Motion.{Motion}
-use Rattle.h264_recon.specs.declared.macroblock.Prediction.{Prediction}
-use Rattle.h264_recon.specs.declared.macroblock.Prediction.TheVariants.{Intra, Inter, Pcm}
+use Rattle.h264_recon.specs.Predicted.{Prediction, Intra, Inter, Pcm}
 
 -- the frame at place n is the reference picture of that place
 pub record IsShown (k : Setting) (frames : List Frame) (n : ℕ) : Type 0 where

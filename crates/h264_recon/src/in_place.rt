@@ -7,17 +7,18 @@ ghost use Rattle.h264_recon.specs.Inter.{Setting};
 ghost use Rattle.h264_scale.specs.Macroblock.{IsResidual, AreResiduals};
 ghost use Rattle.h264_scale.specs.declared.levels.Levels.{Levels};
 ghost use Rattle.h264_recon.specs.Constructed.{coded, IsPossibleLuma, IsPossible, IsAllowed, IsMade};
-ghost use Rattle.h264_recon.specs.Lines.{IsMadeFrom, IsLumaMade, AreStored, store_of, chroma_plane, pcm_list};
+ghost use Rattle.h264_recon.specs.Lines.{IsMadeFrom, IsLumaMade, AreStored, store_of, chroma_plane};
+ghost use Rattle.h264_recon.specs.Predicted.{prediction_in};
 ghost use Rattle.h264_recon.specs.Pool.{AreShown, AreUsable};
 ghost use Rattle.h264_recon.specs.Step.{list_of, ArePlaced, AreSaved, Shows, joined};
 
 use crate::blocks::luma4;
 use crate::inter::predicted_luma;
 use crate::intra::predicted16;
-use crate::macroblock::{Available, IntraLuma, Macroblock, PcmSamples, Prediction};
+use crate::macroblock::{Available, IntraLuma, Macroblock, Prediction};
 use crate::store::{Lines, Store};
 use crate::sum::sum;
-use crate::{inter, intra};
+use crate::{inter, intra, pcm};
 use h264_plane::{Component, Frame, Pool};
 use h264_scale::Residuals;
 
@@ -54,28 +55,20 @@ fn luma(
     column: usize,
     row: usize,
 ) -> [u8; 256]
-    requires usable { AreUsable pool.now column row m.now.prediction }
+    requires usable { AreUsable pool.now column row (prediction_in m.now.prediction) }
     requires columns { 16 * column + 16 ≤ vec_len store.now.above }
     requires more { IsTrue m.now.available.above_right → 16 * column + 20 ≤ vec_len store.now.above }
     requires small { (column < 1024) × (row < 1024) }
-    ensures { (k : Setting) (l : Levels) → column < k.across → row < k.down → IsPossible m.now.prediction m.now.available → AreShown k pool.now m.now.prediction → IsResidual l Y (unwrap_or residual.now []) → IsMadeFrom k column row (coded m.now l) Y store.now result }
+    ensures { (k : Setting) (l : Levels) → column < k.across → row < k.down → IsPossible (prediction_in m.now.prediction) m.now.available → AreShown k pool.now (prediction_in m.now.prediction) → IsResidual l Y (unwrap_or residual.now []) → IsMadeFrom k column row (coded m.now l) Y store.now result }
 {
     match &m.prediction {
         Prediction::Intra(modes) => luma_intra(&modes.luma, m.available, residual, store, column),
-        Prediction::Inter(motion) => {
-            let predicted = predicted_luma(motion, pool, column, row);
+        Prediction::Inter(motions) => {
+            let predicted = predicted_luma(motions, pool, column, row);
             sum::<256>(&predicted, residual)
         }
-        Prediction::Pcm(bytes) => bytes.y,
+        Prediction::Pcm(samples) => pcm::luma(samples),
     }
-}
-
-/// The samples of a chroma plane of an I_PCM macroblock.
-#[inline(always)]
-fn pcm_chroma<const CR: bool>(bytes: &PcmSamples) -> [u8; 64]
-    ensures { result ≡ pcm_list CR bytes.now }
-{
-    if CR { bytes.cr } else { bytes.cb }
 }
 
 /// The samples of a chroma plane of a macroblock.
@@ -88,21 +81,21 @@ fn chroma<const CR: bool>(
     column: usize,
     row: usize,
 ) -> [u8; 64]
-    requires usable { AreUsable pool.now column row m.now.prediction }
+    requires usable { AreUsable pool.now column row (prediction_in m.now.prediction) }
     requires columns { 8 * column + 8 ≤ vec_len store.now.above }
     requires small { (column < 1024) × (row < 1024) }
-    ensures { (k : Setting) (l : Levels) → column < k.across → row < k.down → IsPossible m.now.prediction m.now.available → AreShown k pool.now m.now.prediction → IsResidual l (chroma_plane CR) (unwrap_or residual.now []) → IsMadeFrom k column row (coded m.now l) (chroma_plane CR) store.now result }
+    ensures { (k : Setting) (l : Levels) → column < k.across → row < k.down → IsPossible (prediction_in m.now.prediction) m.now.available → AreShown k pool.now (prediction_in m.now.prediction) → IsResidual l (chroma_plane CR) (unwrap_or residual.now []) → IsMadeFrom k column row (coded m.now l) (chroma_plane CR) store.now result }
 {
     match &m.prediction {
         Prediction::Intra(modes) => {
             let predicted = intra::predicted_chroma(modes.chroma, store, column, m.available);
             sum::<64>(&predicted, residual)
         }
-        Prediction::Inter(motion) => {
-            let predicted = inter::predicted_chroma::<CR>(motion, pool, column, row);
+        Prediction::Inter(motions) => {
+            let predicted = inter::predicted_chroma::<CR>(motions, pool, column, row);
             sum::<64>(&predicted, residual)
         }
-        Prediction::Pcm(bytes) => pcm_chroma::<CR>(bytes),
+        Prediction::Pcm(samples) => pcm::chroma::<CR>(samples),
     }
 }
 
@@ -145,7 +138,7 @@ pub fn construct(
     column: usize,
     row: usize,
 )
-    requires usable { AreUsable pool.now column row m.now.prediction }
+    requires usable { AreUsable pool.now column row (prediction_in m.now.prediction) }
     requires y { (16 * column + 16 ≤ frame.old.y.width) × (16 * row + 16 ≤ frame.old.y.height) }
     requires cb { (8 * column + 8 ≤ frame.old.cb.width) × (8 * row + 8 ≤ frame.old.cb.height) }
     requires cr { (8 * column + 8 ≤ frame.old.cr.width) × (8 * row + 8 ≤ frame.old.cr.height) }
@@ -157,9 +150,9 @@ pub fn construct(
     ensures lines { (p : Component) → vec_len (store_of p lines.new).above ≡ vec_len (store_of p lines.old).above }
     ensures size { (p : Component) → IsSized (plane_of p frame.new) (plane_of p frame.old).width (plane_of p frame.old).height }
     ensures step { (k : Setting) (l : Levels) (u : Component → ℕ → ℕ → ℕ) → column < k.across → row < k.down → IsAllowed (coded m.now l) k.across column row →
-        AreShown k pool.now m.now.prediction → AreResiduals l residuals.now → IsMade k column row (coded m.now l) u → AreStored k.across column row u lines.old → AreStored k.across (column + 1) row u lines.new × Shows column row u frame.old frame.new }
+        AreShown k pool.now (prediction_in m.now.prediction) → AreResiduals l residuals.now → IsMade k column row (coded m.now l) u → AreStored k.across column row u lines.old → AreStored k.across (column + 1) row u lines.new × Shows column row u frame.old frame.new }
     ensures some { (k : Setting) (l : Levels) (u : Component → ℕ → ℕ → ℕ) → column < k.across → row < k.down → IsAllowed (coded m.now l) k.across column row →
-        AreShown k pool.now m.now.prediction → AreResiduals l residuals.now → AreStored k.across column row u lines.old → IsMade k column row (coded m.now l) (joined column row frame.new u) }
+        AreShown k pool.now (prediction_in m.now.prediction) → AreResiduals l residuals.now → AreStored k.across column row u lines.old → IsMade k column row (coded m.now l) (joined column row frame.new u) }
 {
     let y = luma(m, &residuals.y, &lines.y, pool, column, row);
     let cb = chroma::<false>(m, &residuals.cb, &lines.cb, pool, column, row);

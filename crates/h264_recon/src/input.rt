@@ -9,11 +9,12 @@ ghost use Rattle.h264_mbsyntax.specs.Holds.{Holds};
 ghost use Rattle.h264_mbsyntax.specs.Possible.{IsPossible};
 ghost use Rattle.h264_recon.specs.Constructed.{coded as coded_as, IsWithin};
 ghost use Rattle.h264_recon.specs.Levels.{levels_of};
-ghost use Rattle.h264_recon.specs.Given.{available as available_of, mode4_of, mode16_of, chroma_mode_of, modes4_of, pcm_of, prediction_of, given as given_of};
+ghost use Rattle.h264_recon.specs.Given.{available as available_of, mode4_of, mode16_of, chroma_mode_of, modes4_of, prediction_of, given as given_of};
+ghost use Rattle.h264_recon.specs.Predicted.{motions_in, prediction_in};
 ghost use Rattle.h264_recon.specs.Placed.{ArePlaced, PointsInto, placed_motion, placed_motions};
 
 use crate::macroblock::{
-    Available, IntraLuma, IntraModes, Macroblock, Motion, PcmSamples, Prediction,
+    Available, IntraLuma, IntraModes, Macroblock, Motion, Motions, Prediction,
 };
 use h264_inter::MotionVector;
 use h264_intra::{Intra4x4PredMode, Intra16x16PredMode, IntraChromaPredMode};
@@ -105,25 +106,6 @@ fn modes4(modes: &[u8; 16]) -> [Intra4x4PredMode; 16]
     out
 }
 
-/// The samples of I_PCM by plane.
-fn pcm(samples: &[u8; 384]) -> PcmSamples
-    ensures { result ≡ pcm_of samples.now }
-{
-    let mut y = [0; 256];
-    'luma: for k in 0..256 {
-        y[k] = samples[k];
-    }
-    let mut cb = [0; 64];
-    'first: for k in 0..64 {
-        cb[k] = samples[256 + k];
-    }
-    let mut cr = [0; 64];
-    'second: for k in 0..64 {
-        cr[k] = samples[320 + k];
-    }
-    PcmSamples { y, cb, cr }
-}
-
 /// A block's motion: its picture is the place that its index names.
 #[inline]
 fn motion(derived: Option<Derived>, places: &[u8; 16]) -> Motion
@@ -192,12 +174,10 @@ fn are_alike(derived: &[Option<Derived>; 16]) -> bool
 }
 
 /// Motions row by row.
-fn motions(derived: &[Option<Derived>; 16], places: &[u8; 16]) -> [Motion; 16]
+#[inline(never)]
+fn placed(derived: &[Option<Derived>; 16], places: &[u8; 16]) -> [Motion; 16]
     ensures { result ≡ placed_motions places.now derived.now }
 {
-    if are_alike(derived) {
-        return [motion(derived_at(derived, 0), places); 16];
-    }
     let mut out = [motion(None, places); 16];
     for k in 0..16 {
         out[k] = motion(derived[number(k % 4, k / 4)], places);
@@ -205,10 +185,21 @@ fn motions(derived: &[Option<Derived>; 16], places: &[u8; 16]) -> [Motion; 16]
     out
 }
 
+/// The motions of a macroblock, and whether they are one.
+#[inline]
+fn motions(derived: &[Option<Derived>; 16], places: &[u8; 16]) -> Motions
+    ensures { motions_in result ≡ placed_motions places.now derived.now }
+{
+    if are_alike(derived) {
+        return Motions::Whole(motion(derived_at(derived, 0), places));
+    }
+    Motions::Each(placed(derived, places))
+}
+
 /// How a macroblock is predicted.
-fn prediction(read: &Read, places: &[u8; 16]) -> Prediction
-    ensures points { PointsInto places.now result }
-    ensures here { (slice : Context) (place : ℕ → ℕ) (width : ℕ) (picture : List CodedMacroblock) (coded : CodedMacroblock) → Holds read.now coded → IsPossible width slice picture coded.prediction → length slice.references ≡ 16 → ArePlaced slice places.now place → result ≡ prediction_of place coded.prediction }
+fn prediction<'a>(read: &'a Read, places: &[u8; 16]) -> Prediction<'a>
+    ensures points { PointsInto places.now (prediction_in result) }
+    ensures here { (slice : Context) (place : ℕ → ℕ) (width : ℕ) (picture : List CodedMacroblock) (coded : CodedMacroblock) → Holds read.now coded → IsPossible width slice picture coded.prediction → length slice.references ≡ 16 → ArePlaced slice places.now place → prediction_in result ≡ prediction_of place coded.prediction }
 {
     match read.kind {
         Kind::Intra4x4 => Prediction::Intra(IntraModes {
@@ -219,7 +210,7 @@ fn prediction(read: &Read, places: &[u8; 16]) -> Prediction
             luma: IntraLuma::Whole(mode16(mode)),
             chroma: chroma_mode(read.chroma_mode),
         }),
-        Kind::Pcm => Prediction::Pcm(pcm(&read.pcm)),
+        Kind::Pcm => Prediction::Pcm(&read.pcm),
         Kind::Inter => Prediction::Inter(motions(&read.contexts.motions, places)),
     }
 }
@@ -234,17 +225,17 @@ fn count(references: &[Option<u64>; 16]) -> usize
 
 /// What a macroblock that was read, behind those that `near` keeps and at this column and row of macroblocks, gives to its construction: the sides
 /// that intra prediction may use, and its modes, motions or samples. `places` are those of the reference pictures in the pool of frames, by refIdxL0.
-pub fn given(
-    read: &Read,
+pub fn given<'a>(
+    read: &'a Read,
     near: &Near,
     slice: &SliceContext,
     places: &[u8; 16],
     column: usize,
     row: usize,
-) -> Macroblock
+) -> Macroblock<'a>
     requires small { column < 1024 }
     ensures within { IsWithin result.available (width_of near.now) column row }
-    ensures points { PointsInto places.now result.prediction }
+    ensures points { PointsInto places.now (prediction_in result.prediction) }
     ensures given { (width : ℕ) (picture : List CodedMacroblock) (place : ℕ → ℕ) (coded : CodedMacroblock) → Keeps width picture near.now → length picture ≡ row * width + column → column < width → Holds read.now coded → coded.slice ≡ slice.now.number →
         IsPossible width slice.now picture coded.prediction → ArePlaced slice.now places.now place → coded_as result (levels_of slice.now.chroma_qp_index_offset coded) ≡ given_of width picture place slice.now.constrained_intra slice.now.chroma_qp_index_offset coded }
 {

@@ -1,13 +1,14 @@
-ghost use Rattle.std.specs.Prelude.{◌≡◌, ℕ, ◌+◌, ◌*◌, ◌<◌, ◌≤◌, IsTrue, slice_index, get_or};
+ghost use Rattle.std.specs.Prelude.{◌≡◌, ℕ, ◌+◌, ◌*◌, ◌<◌, ◌≤◌, IsTrue, slice_index, get_or, replicate};
 ghost use Rattle.h264_plane.specs.declared.frame.Component.TheVariants.{Y};
 ghost use Rattle.h264_plane.specs.Frames.{plane_of as plane_of_frame};
 ghost use Rattle.h264_inter.specs.Reference.{HasBlock};
 ghost use Rattle.h264_recon.specs.Inter.{no_motion};
 ghost use Rattle.h264_recon.specs.Lines.{chroma_plane};
 ghost use Rattle.h264_recon.specs.Parts.{IsPut, AreEqual, HasPart};
-ghost use Rattle.h264_recon.specs.Pool.{HaveRoom, from_pool};
+ghost use Rattle.h264_recon.specs.Pool.{HasRoom, HaveRoom, from_pool};
+ghost use Rattle.h264_recon.specs.Predicted.{motions_in};
 
-use crate::macroblock::Motion;
+use crate::macroblock::{Motion, Motions};
 use crate::run::put_run;
 use h264_inter::{chroma, luma};
 use h264_plane::{Frame, Plane, Pool};
@@ -62,20 +63,6 @@ fn is_quarter(motion: &[Motion; 16], x: usize, y: usize) -> bool
         motion_of(motion, n + 4),
         motion_of(motion, n + 5),
     )
-}
-
-/// Whether all places do.
-#[inline(always)]
-fn is_whole(motion: &[Motion; 16]) -> bool
-    ensures { IsTrue result → AreEqual 4 0 0 motion.now }
-{
-    let first = motion_of(motion, 0);
-    for n in 1..16 {
-        if !is_same(first, motion_of(motion, n)) {
-            return false;
-        }
-    }
-    true
 }
 
 /// Puts a quarter into a macroblock of luma.
@@ -154,24 +141,45 @@ fn luma_quarter(
     out
 }
 
-/// The predicted luma samples of the macroblock at this column and row.
-pub fn predicted_luma(motion: &[Motion; 16], pool: &Pool, column: usize, row: usize) -> [u8; 256]
+/// The predicted luma samples of the macroblock at this column and row, which moves as a whole.
+#[inline]
+fn luma_whole(motion: Motion, pool: &Pool, column: usize, row: usize) -> [u8; 256]
+    requires small { (column < 1024) × (row < 1024) }
+    requires room { HasRoom pool.now column row motion.picture }
+    ensures { HasBlock 16 16 result (from_pool pool.now (replicate 16 motion) column row Y) }
+{
+    let mut out = [0; 256];
+    let plane = &pool.frame(usize::from(motion.picture)).y;
+    luma::<16, 16>(plane, 16 * column, 16 * row, motion.vector, &mut out);
+    out
+}
+
+/// Those of one whose places have motions of their own.
+#[inline(never)]
+fn luma_quarters(motion: &[Motion; 16], pool: &Pool, column: usize, row: usize) -> [u8; 256]
     requires small { (column < 1024) × (row < 1024) }
     requires room { HaveRoom pool.now column row motion.now }
     ensures { HasBlock 16 16 result (from_pool pool.now motion.now column row Y) }
 {
     let mut out = [0; 256];
-    if is_whole(motion) {
-        let m = motion_of(motion, 0);
-        let plane = &pool.frame(usize::from(m.picture)).y;
-        luma::<16, 16>(plane, 16 * column, 16 * row, m.vector, &mut out);
-        return out;
-    }
     for k in 0..4 {
         let quarter = luma_quarter(motion, pool, column, row, k % 2, k / 2);
         put8(&mut out, k % 2, k / 2, &quarter);
     }
     out
+}
+
+/// The predicted luma samples of the macroblock at this column and row.
+#[inline]
+pub fn predicted_luma(motions: &Motions, pool: &Pool, column: usize, row: usize) -> [u8; 256]
+    requires small { (column < 1024) × (row < 1024) }
+    requires room { HaveRoom pool.now column row (motions_in motions.now) }
+    ensures { HasBlock 16 16 result (from_pool pool.now (motions_in motions.now) column row Y) }
+{
+    match motions {
+        Motions::Whole(motion) => luma_whole(*motion, pool, column, row),
+        Motions::Each(motion) => luma_quarters(motion, pool, column, row),
+    }
 }
 
 /// A chroma plane of a frame.
@@ -225,8 +233,22 @@ fn chroma_quarter<const CR: bool>(
     out
 }
 
-/// The predicted samples of a chroma plane of the macroblock at this column and row.
-pub fn predicted_chroma<const CR: bool>(
+/// The predicted samples of a chroma plane of the macroblock at this column and row, which moves as a whole.
+#[inline]
+fn chroma_whole<const CR: bool>(motion: Motion, pool: &Pool, column: usize, row: usize) -> [u8; 64]
+    requires small { (column < 1024) × (row < 1024) }
+    requires room { HasRoom pool.now column row motion.picture }
+    ensures { HasBlock 8 8 result (from_pool pool.now (replicate 16 motion) column row (chroma_plane CR)) }
+{
+    let mut out = [0; 64];
+    let plane = plane_of::<CR>(pool.frame(usize::from(motion.picture)));
+    chroma::<8, 8>(plane, 8 * column, 8 * row, motion.vector, &mut out);
+    out
+}
+
+/// Those of one whose places have motions of their own.
+#[inline(never)]
+fn chroma_quarters<const CR: bool>(
     motion: &[Motion; 16],
     pool: &Pool,
     column: usize,
@@ -237,15 +259,27 @@ pub fn predicted_chroma<const CR: bool>(
     ensures { HasBlock 8 8 result (from_pool pool.now motion.now column row (chroma_plane CR)) }
 {
     let mut out = [0; 64];
-    if is_whole(motion) {
-        let m = motion_of(motion, 0);
-        let plane = plane_of::<CR>(pool.frame(usize::from(m.picture)));
-        chroma::<8, 8>(plane, 8 * column, 8 * row, m.vector, &mut out);
-        return out;
-    }
     for k in 0..4 {
         let quarter = chroma_quarter::<CR>(motion, pool, column, row, k % 2, k / 2);
         put4(&mut out, k % 2, k / 2, &quarter);
     }
     out
+}
+
+/// The predicted samples of a chroma plane of the macroblock at this column and row.
+#[inline]
+pub fn predicted_chroma<const CR: bool>(
+    motions: &Motions,
+    pool: &Pool,
+    column: usize,
+    row: usize,
+) -> [u8; 64]
+    requires small { (column < 1024) × (row < 1024) }
+    requires room { HaveRoom pool.now column row (motions_in motions.now) }
+    ensures { HasBlock 8 8 result (from_pool pool.now (motions_in motions.now) column row (chroma_plane CR)) }
+{
+    match motions {
+        Motions::Whole(motion) => chroma_whole::<CR>(*motion, pool, column, row),
+        Motions::Each(motion) => chroma_quarters::<CR>(motion, pool, column, row),
+    }
 }

@@ -15,6 +15,7 @@ mod inter;
 mod intra;
 pub mod laws;
 mod macroblock;
+mod pcm;
 mod run;
 mod scaled;
 mod store;
@@ -23,9 +24,7 @@ mod sum;
 pub use coefficients::levels;
 pub use in_place::construct;
 pub use input::{available, given};
-pub use macroblock::{
-    Available, IntraLuma, IntraModes, Macroblock, Motion, PcmSamples, Prediction,
-};
+pub use macroblock::{Available, IntraLuma, IntraModes, Macroblock, Motion, Motions, Prediction};
 pub use scaled::residuals;
 pub use store::{Lines, Store};
 

@@ -34,26 +34,27 @@ pub struct Motion {
     pub vector: MotionVector,
 }
 
-/// The samples of an I_PCM macroblock, row by row (7.3.5).
+/// The motion of the 4x4 places of a macroblock.
 #[derive(Clone, Copy)]
-pub struct PcmSamples {
-    pub y: [u8; 256],
-    pub cb: [u8; 64],
-    pub cr: [u8; 64],
+pub enum Motions {
+    /// The same at all places.
+    Whole(Motion),
+    /// That of each place, row by row.
+    Each([Motion; 16]),
 }
 
 /// How a macroblock is predicted.
 #[derive(Clone, Copy)]
-pub enum Prediction {
+pub enum Prediction<'a> {
     Intra(IntraModes),
-    /// With the motion of each 4x4 place, row by row.
-    Inter([Motion; 16]),
-    Pcm(PcmSamples),
+    Inter(Motions),
+    /// I_PCM: its samples, those of Y, then of Cb and Cr, each row by row (7.3.5).
+    Pcm(&'a [u8; 384]),
 }
 
 /// What constructs the samples of a macroblock, beside its residual.
 #[derive(Clone, Copy)]
-pub struct Macroblock {
+pub struct Macroblock<'a> {
     pub available: Available,
-    pub prediction: Prediction,
+    pub prediction: Prediction<'a>,
 }

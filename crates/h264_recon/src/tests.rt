@@ -1,7 +1,7 @@
 ghost use Rattle.std.specs.Prelude.{◌≡◌, ◌<◌, ◌≤◌, vec_len, length};
 
 use crate::{
-    Available, IntraLuma, IntraModes, Lines, Macroblock, Motion, PcmSamples, Prediction, available,
+    Available, IntraLuma, IntraModes, Lines, Macroblock, Motion, Motions, Prediction, available,
     construct, given, levels,
 };
 use h264_base::SliceType;
@@ -31,17 +31,13 @@ fn zero() -> Residuals {
 }
 
 /// Samples of I_PCM: luma counts from 0 to 255, Cb is 100, and Cr counts by 2.
-fn counting() -> PcmSamples {
-    let mut samples = PcmSamples {
-        y: [0; 256],
-        cb: [100; 64],
-        cr: [0; 64],
-    };
+fn counting() -> [u8; 384] {
+    let mut samples = [100; 384];
     for k in 0..256 {
-        samples.y[k] = k as u8;
+        samples[k] = k as u8;
     }
     for k in 0..64 {
-        samples.cr[k] = (2 * k) as u8;
+        samples[320 + k] = (2 * k) as u8;
     }
     samples
 }
@@ -78,7 +74,7 @@ fn put_samples(
     rt: &impl Abort,
     canvas: &mut Canvas,
     pool: &Pool,
-    samples: PcmSamples,
+    samples: &[u8; 384],
     column: usize,
     row: usize,
 ) {
@@ -150,7 +146,7 @@ fn put_inter(
     let motion = Motion { picture: 1, vector };
     let m = Macroblock {
         available: NO_SIDE,
-        prediction: Prediction::Inter([motion; 16]),
+        prediction: Prediction::Inter(Motions::Whole(motion)),
     };
     construct(
         &mut canvas.lines,
@@ -230,7 +226,7 @@ fn begin(rt: &(impl Abort + AllocGlobal)) -> Result<(Canvas, Pool), AllocError> 
 #[test]
 fn macroblocks(rt: HostRuntime) -> Result<(), AllocError> {
     let (mut canvas, pool) = begin(&rt)?;
-    put_samples(&rt, &mut canvas, &pool, counting(), 0, 0);
+    put_samples(&rt, &mut canvas, &pool, &counting(), 0, 0);
     let left = Available {
         left: true,
         ..NO_SIDE
@@ -331,7 +327,7 @@ fn as_read(rt: &(impl Abort + AllocGlobal)) -> Result<(), AllocError> {
     let first = given(&read, &near, &SLICE, &PLACES, 0, 0);
     assert!(rt; !first.available.left && !first.available.above && !first.available.above_right);
     match first.prediction {
-        Prediction::Inter(motion) => {
+        Prediction::Inter(Motions::Each(motion)) => {
             // Block 4 stands in the third column of the first row.
             assert_eq!(rt;
                 (motion[0].picture, motion[0].vector.x, motion[0].vector.y),
@@ -403,7 +399,7 @@ fn as_read(rt: &(impl Abort + AllocGlobal)) -> Result<(), AllocError> {
     read.pcm[383] = 3;
     match given(&read, &near, &SLICE, &PLACES, 0, 1).prediction {
         Prediction::Pcm(samples) => {
-            assert_eq!(rt; (samples.y[255], samples.cb[0], samples.cr[63]), (1, 2, 3));
+            assert_eq!(rt; (samples[255], samples[256], samples[383]), (1, 2, 3));
         }
         _ => assert!(rt; false),
     }

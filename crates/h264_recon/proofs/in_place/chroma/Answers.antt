@@ -1,6 +1,7 @@
-use Rattle.std.proofs.Common.{unwrap_or, []}
+use Rattle.std.proofs.Common.{unwrap_or, [], ap}
 use denote.Param.{number}
 use Rattle.h264_recon.specs.Constructed.{coded}
+use Rattle.h264_recon.specs.Predicted.{motions_in, prediction_in, pcm_of}
 use Rattle.h264_recon.specs.contracts.in_place.chroma.{CR-type}
 use Rattle.h264_recon.proofs.Kernels.{chroma_made, chroma_pcm}
 use Rattle.h264_recon.proofs.Pool.{chroma_inter}
@@ -8,15 +9,15 @@ use Rattle.h264_recon.proofs.in_place.chroma.Goals as goal
 
 pub returns-in-Intra : goal.returns-in-Intra
 returns-in-Intra g c = λ k l inside below ok shown is.
-    chroma_made _ k _ _ (coded c.args.m.now l) _ c.predicted_chroma-predicted.result c.sum.result _ c.in-Intra.modes c.in-Intra.is is
+    chroma_made _ k _ _ (coded c.args.m.now l) _ c.predicted_chroma-predicted.result c.sum.result _ c.in-Intra.modes (ap prediction_in c.in-Intra.is) is
     (c.predicted_chroma-predicted.ensures c.sum.result ((rw c.in-Intra.is at ok).1)) c.sum.ensures.each
 
 pub returns-in-Inter : goal.returns-in-Inter
 returns-in-Inter g c =
     let a = c.args in
     λ k l inside below ok shown is.
-    chroma_inter (CR-type (number g.row.CR)) k a.pool.now a.column a.row (coded a.m.now l) a.store.now c.in-Inter.motion c.predicted_chroma-predicted-in-Inter.result c.sum-in-Inter.result (unwrap_or a.residual.now []) inside below
-    c.in-Inter.is shown is c.predicted_chroma-predicted-in-Inter.ensures.each c.sum-in-Inter.ensures.each
+    chroma_inter (CR-type (number g.row.CR)) k a.pool.now a.column a.row (coded a.m.now l) a.store.now (motions_in c.in-Inter.motions) c.predicted_chroma-predicted-in-Inter.result c.sum-in-Inter.result (unwrap_or a.residual.now []) inside below
+    (ap prediction_in c.in-Inter.is) shown is c.predicted_chroma-predicted-in-Inter.ensures.each c.sum-in-Inter.ensures.each
 
 pub returns-in-Pcm : goal.returns-in-Pcm
-returns-in-Pcm g c = λ k l inside below ok shown is. chroma_pcm _ k _ _ (coded c.args.m.now l) _ c.in-Pcm.bytes _ c.in-Pcm.is c.pcm_chroma.ensures
+returns-in-Pcm g c = λ k l inside below ok shown is. chroma_pcm _ k _ _ (coded c.args.m.now l) _ (pcm_of c.in-Pcm.samples.now) _ (ap prediction_in c.in-Pcm.is) c.chroma.ensures

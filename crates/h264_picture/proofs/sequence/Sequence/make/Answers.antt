@@ -8,7 +8,10 @@ use Rattle.h264_picture.proofs.Room.{in-rows, is-small, own-room, are-usable, y-
 use Rattle.h264_picture.proofs.sequence.Sequence.make.Goals as goal
 
 pub go_on-requires-clause-usable : goal.go_on-requires-clause-usable
-go_on-requires-clause-usable c = are-usable _ _ _ _ _ _ _ _ _ c.args.self.now.sound c.requires _ c.given-m.ensures.points
+go_on-requires-clause-usable c = are-usable _ _ _ _ _ _ _ _ _ c.args.self.now.sound c.requires _ c.given_within-m.ensures.points
+
+pub given_within-m-requires : goal.given_within-m-requires
+given_within-m-requires c = record { small = (is-small _ _ _ _ _ _ _ _ _ c.args.self.now.sound c.requires).0 }
 
 pub go_on-requires-clause-y : goal.go_on-requires-clause-y
 go_on-requires-clause-y c = (own-room _ _ _ _ _ _ _ _ _ c.args.self.now.sound c.requires c.args.self.now.frames.within.0).y
@@ -29,7 +32,7 @@ pub go_on-requires-clause-cr_lines : goal.go_on-requires-clause-cr_lines
 go_on-requires-clause-cr_lines c = cr-lines _ _ _ _ _ _ _ _ _ c.args.self.now.sound c.requires
 
 pub go_on-requires-clause-more : goal.go_on-requires-clause-more
-go_on-requires-clause-more c h = more-lines _ _ _ _ _ _ _ _ _ c.args.self.now.sound c.requires (c.given-m.ensures.more h)
+go_on-requires-clause-more c h = more-lines _ _ _ _ _ _ _ _ _ c.args.self.now.sound c.requires (c.given_within-m.ensures.more h)
 
 pub go_on-requires-clause-small : goal.go_on-requires-clause-small
 go_on-requires-clause-small c = is-small _ _ _ _ _ _ _ _ _ c.args.self.now.sound c.requires
@@ -46,8 +49,8 @@ returns-clause-samples c width size (Some making) picture coded h s m r e p a =
     let n : length picture ≡ old.row * old.across + old.column = sym h.next ∙ old.sound.next in
     let n' : length picture ≡ old.row * width + old.column = subst (λ x. length picture ≡ old.row * x + old.column) w n in
     let i : old.column < width = subst (λ x. old.column < x) w old.sound.column in
-    let is = c.given-m.ensures.given width size making.place picture coded h r e p m.placed in
-    c.go_on.ensures.held (setting_of old) making.place making.slices picture coded (levels_of slice.chroma_qp_index_offset coded) n old.sound.column (in-rows _ _ _ _ _ _ _ _ _ old.sound c.requires) (are-shown old _ c.given-m.ensures.points) a
+    let is = c.given_within-m.ensures.given width picture making.place coded w h.keeps n' i r e p m.placed in
+    c.go_on.ensures.held (setting_of old) making.place making.slices picture coded (levels_of slice.chroma_qp_index_offset coded) n old.sound.column (in-rows _ _ _ _ _ _ _ _ _ old.sound c.requires) (are-shown old _ c.given_within-m.ensures.points) a
     (possible width slice picture making.place slice.chroma_qp_index_offset coded old.column old.row _ n' i e p is)
     (given-by old.across width picture making slice old coded _ w m e is)
     (λ q. c.coded_edges-edges.ensures.edges (filters making.slices) width picture coded h.keeps r.contexts n' i (filter-by making slice old coded m e) m.offsets q ∙ ap (λ x. coded_edges (filters making.slices) x picture coded q) (sym w)) s

@@ -2,7 +2,7 @@ use Rattle.std.proofs.Common.{◌≡◌, ◌+◌, length}
 use Rattle.h264_plane.specs.declared.frame.Component.TheVariants.{Y}
 use Rattle.h264_recon.specs.Parts.{AreParts}
 use Rattle.h264_recon.specs.Pool.{from_pool}
-use Rattle.h264_recon.proofs.inter.predicted_luma.Given as goal
+use Rattle.h264_recon.proofs.inter.luma_quarters.Given as goal
 
 abbrev pub invariant-loop-k : goal.invariant-loop-k
 invariant-loop-k l = record {

@@ -3,8 +3,8 @@ use denote.Param.{number}
 use Rattle.h264_recon.specs.Lines.{chroma_plane}
 use Rattle.h264_recon.specs.Parts.{AreParts}
 use Rattle.h264_recon.specs.Pool.{from_pool}
-use Rattle.h264_recon.specs.contracts.inter.predicted_chroma.{CR-type}
-use Rattle.h264_recon.proofs.inter.predicted_chroma.Given as goal
+use Rattle.h264_recon.specs.contracts.inter.chroma_quarters.{CR-type}
+use Rattle.h264_recon.proofs.inter.chroma_quarters.Given as goal
 
 abbrev pub invariant-loop-k : goal.invariant-loop-k
 invariant-loop-k g l = record {

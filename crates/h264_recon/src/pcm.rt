@@ -1,0 +1,42 @@
+ghost use Rattle.std.specs.Prelude.{◌≡◌, ℕ, ◌+◌, ◌≤◌, get_or};
+ghost use Rattle.h264_recon.specs.Lines.{pcm_list};
+ghost use Rattle.h264_recon.specs.Predicted.{pcm_of};
+ghost use Rattle.h264_recon.specs.Table.{table};
+
+/// The luma samples of an I_PCM macroblock.
+#[inline(never)]
+pub fn luma(samples: &[u8; 384]) -> [u8; 256]
+    ensures { result ≡ (pcm_of samples.now).y }
+{
+    let mut out = [0; 256];
+    for k in 0..256 {
+        out[k] = samples[k];
+    }
+    out
+}
+
+/// 64 samples from a place on.
+#[inline(never)]
+fn from(samples: &[u8; 384], start: usize) -> [u8; 64]
+    requires { start ≤ 320 }
+    ensures { result ≡ table 64 (λ k. get_or samples.now (start + k) 0) }
+{
+    let mut out = [0; 64];
+    for k in 0..64 {
+        out[k] = samples[start + k];
+    }
+    out
+}
+
+/// The samples of a chroma plane of an I_PCM macroblock.
+#[tactic(auto, unfolding(crate::specs::Predicted::pcm_of))]
+#[inline]
+pub fn chroma<const CR: bool>(samples: &[u8; 384]) -> [u8; 64]
+    ensures { result ≡ pcm_list CR (pcm_of samples.now) }
+{
+    if CR {
+        from(samples, 320)
+    } else {
+        from(samples, 256)
+    }
+}
