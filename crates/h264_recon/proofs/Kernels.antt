@@ -8,12 +8,13 @@ use Rattle.h264_intra.specs.Luma16.{predicted16}
 use Rattle.h264_intra.specs.Chroma.{predicted_chroma}
 use Rattle.h264_intra.specs.declared.luma4.Intra4x4PredMode.{Intra4x4PredMode}
 use Rattle.h264_intra.specs.declared.luma16.Intra16x16PredMode.{Intra16x16PredMode}
+use Rattle.h264_intra.specs.declared.chroma.IntraChromaPredMode.{IntraChromaPredMode}
 use Rattle.h264_plane.specs.Clip.{clip1}
 use Rattle.h264_recon.specs.Blocks.{sides_of, sides4_of}
 use Rattle.h264_scale.specs.Macroblock.{residual, IsResidual}
 use Rattle.h264_recon.specs.Inter.{Setting}
 use Rattle.h264_recon.specs.Constructed.{block_window, mode_at, predicted_luma, predicted_intra, pcm_sample, made_by, made, Coded}
-use Rattle.h264_recon.specs.Lines.{local, IsMadeFrom, IsLumaMade, chroma_plane, pcm_list}
+use Rattle.h264_recon.specs.Lines.{local, IsMadeFrom, IsLumaMade, IsChromaMade, chroma_plane, pcm_list}
 use Rattle.h264_recon.specs.Blocks4.{place4, AreMade4}
 use Rattle.h264_scale.specs.declared.levels.Levels.{Levels}
 use Rattle.h264_recon.specs.declared.macroblock.Available.{Available}
@@ -64,21 +65,28 @@ luma_made k c r m l own modes e made = record {
 }
 
 -- chroma
-pub chroma_made : (b : Bool) (k : Setting) (c r : ℕ) (m : Coded) (l : Store) (predicted own : List ℕ) (res : List ℤ) (modes : IntraModes) → m.prediction ≡ Intra modes →
-    IsResidual m.levels (chroma_plane b) res → HasSamples 8 predicted (predicted_chroma modes.chroma (sides_of m.available) (local 8 l c own)) →
-    ((k : ℕ) → k < 64 → slice_index own k ≡ clip1 (pos (slice_index predicted k) +ℤ get_or res k (pos 0))) → IsMadeFrom k c r m (chroma_plane b) l own
-unfolding predicted_intra
-chroma_made true k c r m l predicted own res modes e is has sum = record {
+pub mode_made : (b : Bool) (mode : IntraChromaPredMode) (a : Available) (levels : Levels) (c : ℕ) (l : Store) (predicted own : List ℕ) (res : List ℤ) → IsResidual levels (chroma_plane b) res →
+    HasSamples 8 predicted (predicted_chroma mode (sides_of a) (local 8 l c own)) →
+    ((k : ℕ) → k < 64 → slice_index own k ≡ clip1 (pos (slice_index predicted k) +ℤ get_or res k (pos 0))) → IsChromaMade mode a levels (chroma_plane b) c l own
+mode_made true mode a levels c l predicted own res is has sum = record {
   each = λ x y i j. sum (8 * y + x) (omega arith)
       ∙ ap (λ n. clip1 (pos n +ℤ get_or res (8 * y + x) (pos 0))) (has.each x y i j)
-      ∙ ap (λ z. clip1 (pos (predicted_chroma modes.chroma (sides_of m.available) (local 8 l c own) x y) +ℤ z)) (is.each x y i j)
-      ∙ sym (made_intra k c r m Cr (local 8 l c own) x y modes e);
+      ∙ ap (λ z. clip1 (pos (predicted_chroma mode (sides_of a) (local 8 l c own) x y) +ℤ z)) (is.each x y i j);
 }
-chroma_made false k c r m l predicted own res modes e is has sum = record {
+mode_made false mode a levels c l predicted own res is has sum = record {
   each = λ x y i j. sum (8 * y + x) (omega arith)
       ∙ ap (λ n. clip1 (pos n +ℤ get_or res (8 * y + x) (pos 0))) (has.each x y i j)
-      ∙ ap (λ z. clip1 (pos (predicted_chroma modes.chroma (sides_of m.available) (local 8 l c own) x y) +ℤ z)) (is.each x y i j)
-      ∙ sym (made_intra k c r m Cb (local 8 l c own) x y modes e);
+      ∙ ap (λ z. clip1 (pos (predicted_chroma mode (sides_of a) (local 8 l c own) x y) +ℤ z)) (is.each x y i j);
+}
+
+pub chroma_made : (b : Bool) (k : Setting) (c r : ℕ) (m : Coded) (l : Store) (own : List ℕ) (modes : IntraModes) → m.prediction ≡ Intra modes → IsChromaMade modes.chroma m.available m.levels (chroma_plane b) c l own →
+    IsMadeFrom k c r m (chroma_plane b) l own
+unfolding predicted_intra
+chroma_made true k c r m l own modes e made = record {
+  each = λ x y i j. made.each x y i j ∙ sym (made_intra k c r m Cr (local 8 l c own) x y modes e);
+}
+chroma_made false k c r m l own modes e made = record {
+  each = λ x y i j. made.each x y i j ∙ sym (made_intra k c r m Cb (local 8 l c own) x y modes e);
 }
 
 -- I_PCM

@@ -6,6 +6,9 @@ use Rattle.h264_plane.specs.Clip.{clip1}
 use Rattle.h264_plane.specs.Places.{side}
 use Rattle.h264_scale.specs.Macroblock.{residual}
 use Rattle.h264_scale.specs.declared.levels.Levels.{Levels}
+use Rattle.h264_intra.specs.Chroma.{predicted_chroma}
+use Rattle.h264_intra.specs.declared.chroma.IntraChromaPredMode.{IntraChromaPredMode}
+use Rattle.h264_recon.specs.Blocks.{sides_of}
 use Rattle.h264_recon.specs.Inter.{Setting}
 use Rattle.h264_recon.specs.Constructed.{Coded, made, predicted_luma}
 use Rattle.h264_recon.specs.declared.macroblock.Available.{Available}
@@ -64,3 +67,8 @@ pcm_list false b = b.cb
 pub record IsLumaMade (modes : IntraLuma) (a : Available) (levels : Levels) (c : ℕ) (l : Store) (own : List ℕ) : Type 0 where
   pub each : (x y : ℕ) → x < 16 → y < 16 →
       slice_index own (16 * y + x) ≡ clip1 (pos (predicted_luma modes a (local 16 l c own) x y) +ℤ residual levels Y x y)
+
+-- and the samples of a chroma plane of one of this mode
+pub record IsChromaMade (mode : IntraChromaPredMode) (a : Available) (levels : Levels) (p : Component) (c : ℕ) (l : Store) (own : List ℕ) : Type 0 where
+  pub each : (x y : ℕ) → x < 8 → y < 8 →
+      slice_index own (8 * y + x) ≡ clip1 (pos (predicted_chroma mode (sides_of a) (local 8 l c own) x y) +ℤ residual levels p x y)

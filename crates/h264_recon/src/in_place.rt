@@ -1,29 +1,32 @@
-ghost use Rattle.std.specs.Prelude.{◌≡◌, ℕ, ◌+◌, ◌*◌, ◌<◌, ◌≤◌, IsTrue, [], unwrap_or, length, slice_index, vec_len};
+ghost use Rattle.std.specs.Prelude.{◌≡◌, ℕ, ◌+◌, ◌*◌, ◌<◌, ◌≤◌, Bool, IsTrue, [], unwrap_or, length, slice_index, vec_len};
 ghost use Rattle.h264_plane.specs.declared.frame.Component.{Component};
 ghost use Rattle.h264_plane.specs.declared.frame.Component.TheVariants.{Y, Cb, Cr};
 ghost use Rattle.h264_plane.specs.Samples.{IsSized};
 ghost use Rattle.h264_plane.specs.Frames.{plane_of};
+ghost use Rattle.h264_intra.specs.Chroma.{is_possible_chroma};
+ghost use Rattle.h264_recon.specs.Blocks.{sides_of};
 ghost use Rattle.h264_recon.specs.Inter.{Setting};
 ghost use Rattle.h264_scale.specs.Macroblock.{IsResidual, AreResiduals};
 ghost use Rattle.h264_scale.specs.declared.levels.Levels.{Levels};
 ghost use Rattle.h264_recon.specs.Constructed.{coded, IsPossibleLuma, IsPossible, IsAllowed, IsMade};
-ghost use Rattle.h264_recon.specs.Lines.{IsMadeFrom, IsLumaMade, AreStored, store_of, chroma_plane};
+ghost use Rattle.h264_recon.specs.Lines.{IsMadeFrom, IsLumaMade, IsChromaMade, AreStored, store_of, chroma_plane};
 ghost use Rattle.h264_recon.specs.Predicted.{prediction_in};
 ghost use Rattle.h264_recon.specs.Pool.{AreShown, AreUsable};
 ghost use Rattle.h264_recon.specs.Step.{list_of, ArePlaced, AreSaved, Shows, joined};
 
 use crate::blocks::luma4;
 use crate::inter::predicted_luma;
-use crate::intra::predicted16;
+use crate::intra::{predicted_chroma, predicted16};
 use crate::macroblock::{Available, IntraLuma, Macroblock, Prediction};
 use crate::store::{Lines, Store};
 use crate::sum::sum;
-use crate::{inter, intra, pcm};
+use crate::{inter, pcm};
+use h264_intra::IntraChromaPredMode;
 use h264_plane::{Component, Frame, Pool};
 use h264_scale::Residuals;
 
 /// The luma samples of an intra macroblock.
-#[inline(always)]
+#[inline(never)]
 fn luma_intra(
     luma: &IntraLuma,
     available: Available,
@@ -71,6 +74,23 @@ fn luma(
     }
 }
 
+/// The samples of a chroma plane of an intra macroblock.
+#[inline(never)]
+fn chroma_intra(
+    mode: IntraChromaPredMode,
+    available: Available,
+    residual: &Option<[i16; 64]>,
+    store: &Store,
+    column: usize,
+) -> [u8; 64]
+    requires columns { 8 * column + 8 ≤ vec_len store.now.above }
+    requires small { column < 1024 }
+    ensures { (cr : Bool) (l : Levels) → IsTrue (is_possible_chroma mode (sides_of available)) → IsResidual l (chroma_plane cr) (unwrap_or residual.now []) → IsChromaMade mode available l (chroma_plane cr) column store.now result }
+{
+    let predicted = predicted_chroma(mode, store, column, available);
+    sum::<64>(&predicted, residual)
+}
+
 /// The samples of a chroma plane of a macroblock.
 #[inline(always)]
 fn chroma<const CR: bool>(
@@ -88,8 +108,7 @@ fn chroma<const CR: bool>(
 {
     match &m.prediction {
         Prediction::Intra(modes) => {
-            let predicted = intra::predicted_chroma(modes.chroma, store, column, m.available);
-            sum::<64>(&predicted, residual)
+            chroma_intra(modes.chroma, m.available, residual, store, column)
         }
         Prediction::Inter(motions) => {
             let predicted = inter::predicted_chroma::<CR>(motions, pool, column, row);

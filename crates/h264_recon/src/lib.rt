@@ -2,9 +2,9 @@
 //!
 //! Takes how a macroblock is predicted, its residual, and what was kept of the macroblocks before it, and writes its samples into the
 //! frame. The samples beside it come from line stores, since those in the frame may already be filtered. Each plane meets one system of
-//! equations over the whole picture (`specs/Constructed.antt`), which has at most one solution (`laws`). `given` and `levels` make of a
-//! macroblock that was read what is constructed (`specs/Given.antt`, `specs/Levels.antt`): which macroblocks intra prediction may use, modes,
-//! motions and samples, and the levels of the transform. The range of the transform and the deblocking filter are the caller's matter.
+//! equations over the whole picture (`specs/Constructed.antt`), which has at most one solution (`laws`). `given` makes of a macroblock that
+//! was read what is constructed (`specs/Given.antt`): which macroblocks intra prediction may use, modes, motions and samples. `residuals`
+//! makes its residual (`specs/Levels.antt`), or finds a value of its transform out of range. The deblocking filter is the caller's matter.
 #![tactic(auto)]
 
 mod blocks;
@@ -21,7 +21,6 @@ mod scaled;
 mod store;
 mod sum;
 
-pub use coefficients::levels;
 pub use in_place::construct;
 pub use input::{available, given};
 pub use macroblock::{Available, IntraLuma, IntraModes, Macroblock, Motion, Motions, Prediction};

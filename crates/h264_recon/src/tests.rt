@@ -2,7 +2,7 @@ ghost use Rattle.std.specs.Prelude.{◌≡◌, ◌<◌, ◌≤◌, vec_len, leng
 
 use crate::{
     Available, IntraLuma, IntraModes, Lines, Macroblock, Motion, Motions, Prediction, available,
-    construct, given, levels,
+    construct, given, residuals,
 };
 use h264_base::SliceType;
 use h264_inter::MotionVector;
@@ -10,7 +10,7 @@ use h264_intra::{Intra4x4PredMode, Intra16x16PredMode, IntraChromaPredMode};
 use h264_mbsyntax::{Kind, Macroblock as Read};
 use h264_near::{Contexts, Motion as Derived, Near, Vector};
 use h264_plane::{Frame, Plane, Pool};
-use h264_scale::{ChromaLevels, LumaLevels, Residuals};
+use h264_scale::Residuals;
 use h264_vectors::SliceContext;
 use std::alloc::AllocError;
 use std::process::Abort;
@@ -345,14 +345,16 @@ fn as_read(rt: &(impl Abort + AllocGlobal)) -> Result<(), AllocError> {
     read.residual.luma[0][0] = 9;
     read.residual.chroma_dc_totals[0] = 1;
     read.residual.chroma_dc[0][2] = -4;
-    let coded = levels(&read, 2);
-    assert_eq!(rt; (coded.qp, coded.qp_cb, coded.qp_cr), (30, 31, 31));
-    assert!(rt;
-        matches!(coded.luma, LumaLevels::NotCoded) && matches!(coded.cr, ChromaLevels::NotCoded)
-    );
-    match coded.cb {
-        ChromaLevels::WithDc(cb) => assert_eq!(rt; (cb.dc[2], cb.ac[3][0]), (-4, 0)),
-        ChromaLevels::NotCoded => assert!(rt; false),
+    // At QP'C 31 its DC level makes -704 of the upper blocks, and 704 of the lower, which are 64 times the residual.
+    match residuals(&read, 2) {
+        Ok(of) => {
+            assert!(rt; of.y.is_none() && of.cr.is_none());
+            match of.cb {
+                Some(cb) => assert_eq!(rt; (cb[0], cb[31], cb[32], cb[63]), (-11, -11, 11, 11)),
+                None => assert!(rt; false),
+            }
+        }
+        Err(_) => assert!(rt; false),
     }
 
     read.kind = Kind::Intra4x4;

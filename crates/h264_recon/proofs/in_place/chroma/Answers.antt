@@ -8,16 +8,17 @@ use Rattle.h264_recon.proofs.Pool.{chroma_inter}
 use Rattle.h264_recon.proofs.in_place.chroma.Goals as goal
 
 pub returns-in-Intra : goal.returns-in-Intra
-returns-in-Intra g c = λ k l inside below ok shown is.
-    chroma_made _ k _ _ (coded c.args.m.now l) _ c.predicted_chroma-predicted.result c.sum.result _ c.in-Intra.modes (ap prediction_in c.in-Intra.is) is
-    (c.predicted_chroma-predicted.ensures c.sum.result ((rw c.in-Intra.is at ok).1)) c.sum.ensures.each
+returns-in-Intra g c =
+    let t = CR-type (number g.row.CR) in
+    λ k l inside below ok shown is.
+    chroma_made t k _ _ (coded c.args.m.now l) _ _ c.in-Intra.modes (ap prediction_in c.in-Intra.is) (c.chroma_intra.ensures t l ((rw c.in-Intra.is at ok).1) is)
 
 pub returns-in-Inter : goal.returns-in-Inter
 returns-in-Inter g c =
     let a = c.args in
     λ k l inside below ok shown is.
-    chroma_inter (CR-type (number g.row.CR)) k a.pool.now a.column a.row (coded a.m.now l) a.store.now (motions_in c.in-Inter.motions) c.predicted_chroma-predicted-in-Inter.result c.sum-in-Inter.result (unwrap_or a.residual.now []) inside below
-    (ap prediction_in c.in-Inter.is) shown is c.predicted_chroma-predicted-in-Inter.ensures.each c.sum-in-Inter.ensures.each
+    chroma_inter (CR-type (number g.row.CR)) k a.pool.now a.column a.row (coded a.m.now l) a.store.now (motions_in c.in-Inter.motions) c.predicted_chroma-predicted.result c.sum.result (unwrap_or a.residual.now []) inside below
+    (ap prediction_in c.in-Inter.is) shown is c.predicted_chroma-predicted.ensures.each c.sum.ensures.each
 
 pub returns-in-Pcm : goal.returns-in-Pcm
 returns-in-Pcm g c = λ k l inside below ok shown is. chroma_pcm _ k _ _ (coded c.args.m.now l) _ (pcm_of c.in-Pcm.samples.now) _ (ap prediction_in c.in-Pcm.is) c.chroma.ensures

@@ -1,0 +1,5 @@
+use Rattle.h264_recon.proofs.Kernels.{mode_made}
+use Rattle.h264_recon.proofs.in_place.chroma_intra.Goals as goal
+
+pub returns : goal.returns
+returns c = λ t l ok is. mode_made t _ _ l _ _ c.predicted_chroma-predicted.result c.sum.result _ is (c.predicted_chroma-predicted.ensures c.sum.result ok) c.sum.ensures.each
