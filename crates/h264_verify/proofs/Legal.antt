@@ -1,7 +1,6 @@
 -- What a unit that is legal has met, and what it tells of decoded pictures.
-use Rattle.std.proofs.Common.{◌≡◌, ℕ, zero, suc, arith, ◌*◌, ◌==◌, nat_lt, not, Bool, true, false, IsTrue, List, [], ◌∷◌, ◌++◌, length, inl, inr, Option, None, Result, Ok, Err, refl, ap, sym, ◌∙◌, subst, if◌then◌else◌}
+use Rattle.std.proofs.Common.{◌≡◌, ℕ, ◌*◌, ◌==◌, Bool, true, false, IsTrue, List, [], ◌∷◌, ◌++◌, length, inl, inr, Option, Some, None, Result, Ok, Err, refl, ap, sym, subst, if◌then◌else◌}
 use Rattle.std.specs.Option.{is_some}
-use Rattle.std.proofs.lemmas.Bool.{lt-ltb}
 use Rattle.h264_base.specs.declared.mode.Mode.TheVariants as modes
 use Rattle.h264_base.specs.declared.stop.Stop.{Stop}
 use Rattle.h264_base.specs.declared.stop.Stop.TheVariants.{No}
@@ -9,7 +8,7 @@ use Rattle.h264_base.specs.Body.{Body}
 use Rattle.h264_base.specs.Grammar.{Grammar, Element, Says}
 use Rattle.h264_base.specs.Run.{Run}
 use Rattle.h264_base.proofs.OneAnswer.{run-one}
-use Rattle.h264_bits.specs.Forms.{natural, optional}
+use Rattle.h264_bits.specs.Forms.{natural}
 use Rattle.h264_cavlc.proofs.Gives.{Gives, gives-done, gives-any, gives-bind, gives-check}
 use Rattle.h264_rbsp.specs.Rbsp.{body_of}
 use Rattle.h264_units.specs.Stream.{NalUnit}
@@ -17,18 +16,20 @@ use Rattle.h264_sps.specs.declared.sps.Sps.{Sps}
 use Rattle.h264_sps.specs.Sps.{sps}
 use Rattle.h264_pps.specs.declared.Pps.{Pps}
 use Rattle.h264_pps.specs.Pps.{pps}
+use Rattle.h264_bits.specs.declared.element.Found.{Found}
 use Rattle.h264_header.specs.declared.header.Header.{Header}
+use Rattle.h264_header.specs.declared.header.Marking.{Marking}
 use Rattle.h264_header.specs.declared.header.SliceUnit.{SliceUnit}
-use Rattle.h264_header.specs.Header.{header, named_sets, idr_pic_id}
+use Rattle.h264_header.specs.Header.{header, named_sets}
 use Rattle.h264_header.specs.Layout.{layout_of, sets_of}
-use Rattle.h264_header.specs.Marking.{idr_marking, dec_ref_pic_marking}
+use Rattle.h264_header.specs.Picture.{is_idr}
 use Rattle.h264_plane.specs.declared.frame.Frame.{Frame}
 use Rattle.h264_verify.specs.Telling.{Told, Said, Decodes, Shows, HasFrame, AreDecoded}
 use Rattle.h264_verify.specs.Content.{Content}
 use Rattle.h264_verify.specs.Content as contents
 use Rattle.h264_verify.specs.Demands.{Demand, judged}
 use Rattle.h264_verify.specs.Steps.{Step, Needs, Tells, needs, AreMet, Course, Takes, Reads, Ends, told, Runs}
-use Rattle.h264_verify.specs.UnitHeader.{header_of, nal_unit_type, nal_ref_idc, header_demands}
+use Rattle.h264_verify.specs.UnitHeader.{header_of, nal_unit_type, header_demands}
 use Rattle.h264_verify.specs.History.{History, ReadUnit, maps_of}
 use Rattle.h264_verify.specs.Pictures.{closing_at}
 use Rattle.h264_verify.specs.Closing.{whole_at}
@@ -36,9 +37,10 @@ use Rattle.h264_verify.specs.Units.{unit_call, is_slice, slice_unit, other_conte
 use Rattle.h264_verify.specs.Verdict.{IsLegal}
 use Rattle.h264_verify.proofs.Agreeing.{decoded-last}
 use Rattle.h264_verify.proofs.Growing.{some-mapped}
-use Rattle.h264_verify.proofs.Marked.{fits-five}
+use Rattle.h264_verify.proofs.Marked.{IsOfUnit, header-of, marked-of}
 use Rattle.h264_verify.proofs.Named.{LeavesAlone}
-use Rattle.h264_verify.specs.Held.{is_idr_marking}
+use Rattle.h264_verify.specs.Held.{is_own}
+use Rattle.h264_verify.specs.Sound.{IsMarked}
 
 -- ---- steps
 
@@ -143,10 +145,15 @@ end_steps_at before unit = whole_at modes.Full (nal_unit_type (header_of unit)) 
 abbrev behind_content : History → NalUnit → Content → ℕ → Course
 behind_content before unit found bit = Takes (content_steps modes.Full before unit found) (data_course modes.Full before unit found bit)
 
+-- before its content the picture that may go on has ended, if it ends there
+pub record HasEnded (before : History) (unit : NalUnit) (calls : List Told) : Type 0 where
+  pub met : Met (end_steps_at before unit)
+  pub decoded : (frames : ℕ → Frame) → AreDecoded frames calls → HaveDecoded frames (end_steps_at before unit)
+
 -- What a unit behind these with this content has met, in its parts.
 pub record HasMet (before : History) (unit : NalUnit) (c : Content) (calls : List Told) : Type 0 where
   pub header : Met (byte_steps unit)
-  pub ends : (frames : ℕ → Frame) → AreDecoded frames calls → HaveDecoded frames (end_steps_at before unit)
+  pub ends : HasEnded before unit calls
   pub found : Content
   pub bit : ℕ
   pub elements : List Element
@@ -171,7 +178,10 @@ has-met before r calls l =
     decoded-behind frames first.1 second.0 second.1 second.4 (decoded-behind frames calls first.0 first.1 first.4 d) in
     record {
       header = met (byte_steps unit) first.0 first.2;
-      ends = λ frames d. have-decoded frames (end_steps_at before unit) third.0 third.2 (decoded-before frames second.1 third.0 third.1 third.4 (inner frames d));
+      ends = record {
+        met = met (end_steps_at before unit) third.0 third.2;
+        decoded = λ frames d. have-decoded frames (end_steps_at before unit) third.0 third.2 (decoded-before frames second.1 third.0 third.1 third.4 (inner frames d));
+      };
       found = fourth.1;
       bit = fourth.2;
       elements = fourth.0;
@@ -187,40 +197,30 @@ has-met before r calls l =
 
 -- ---- the header of a slice
 
--- it has its sets, and an IDR picture that is a reference leaves its own frame alone
+-- it has its sets, and is one of its unit
 pub record IsHeader (sets : ℕ → Option (Pps × Sps)) (u : SliceUnit) (h : Header) : Type 0 where
   pub named : is_some (sets h.pic_parameter_set_id.value) ≡ true
-  pub idr : is_some h.idr_pic_id ≡ u.idr_pic_flag
-  pub alone : nat_lt 0 u.nal_ref_idc ≡ true → u.idr_pic_flag ≡ true → LeavesAlone h.marking
-
-optional-some : {A : Type 0} (b : Bool) (g : Grammar A) → Gives (optional b g) (λ o. is_some o ≡ b)
-unfolding optional
-optional-some true g = gives-bind _ _ _ _ (gives-any g) (λ x a. gives-done _ _ refl)
-optional-some false g = gives-done _ None refl
-
-idr-gives : Gives idr_marking (λ found. is_idr_marking found.value ≡ true)
-unfolding idr_marking
-idr-gives = gives-bind _ _ _ _ (gives-any _) (λ x a. gives-bind _ _ _ _ (gives-any _) (λ y b. gives-done _ _ refl))
-
-marking-gives : (b idr : Bool) → Gives (optional b (dec_ref_pic_marking idr)) (λ o. b ≡ true → idr ≡ true → LeavesAlone o)
-unfolding optional dec_ref_pic_marking
-marking-gives true true = gives-bind _ _ _ _ idr-gives (λ found i. gives-done _ _ (λ e f. i))
-marking-gives true false = gives-bind _ _ _ _ (gives-any _) (λ found a. gives-done _ _ (λ e f. cc))
-marking-gives false idr = gives-done _ None (λ e f. cc)
+  pub unit : IsOfUnit u h
 
 named-gives : (sets : ℕ → Option (Pps × Sps)) → Gives (named_sets sets) (λ n. is_some (sets n.id.value) ≡ true)
 unfolding named_sets
 named-gives sets = gives-bind _ _ _ _ (gives-any _) (λ e a. gives-bind _ _ _ _ (gives-any _) (λ x b. gives-bind _ _ _ _ (gives-check _ _ _) (λ y t. gives-done _ _ (some-mapped layout_of (sets (natural e.value)) t))))
 
-header-gives : (sets : ℕ → Option (Pps × Sps)) (u : SliceUnit) → Gives (header sets u) (IsHeader sets u)
+abbrev HasSets : (ℕ → Option (Pps × Sps)) → Header → Type 0
+HasSets sets h = is_some (sets h.pic_parameter_set_id.value) ≡ true
+
+sets-given : (sets : ℕ → Option (Pps × Sps)) (u : SliceUnit) → Gives (header sets u) (HasSets sets)
 unfolding header
-header-gives sets u =
-    gives-bind _ (IsHeader sets u) _ _ (gives-any _) (λ first a. gives-bind _ (IsHeader sets u) _ _ (gives-any _) (λ stated b. gives-bind _ (IsHeader sets u) _ _ (named-gives sets) (λ named n.
-    gives-bind _ (IsHeader sets u) _ _ (gives-any _) (λ num c. gives-bind _ (IsHeader sets u) _ _ (optional-some u.idr_pic_flag idr_pic_id) (λ idr i.
-    gives-bind _ (IsHeader sets u) _ _ (gives-any _) (λ order d. gives-bind _ (IsHeader sets u) _ _ (gives-any _) (λ kind e.
-    gives-bind _ (IsHeader sets u) _ _ (marking-gives (nat_lt 0 u.nal_ref_idc) u.idr_pic_flag) (λ marking m.
-    gives-bind _ (IsHeader sets u) _ _ (gives-any _) (λ qp f. gives-bind _ (IsHeader sets u) _ _ (gives-any _) (λ filter g.
-    gives-done (IsHeader sets u) _ (record { named = n; idr = i; alone = m })))))))))))
+sets-given sets u =
+    gives-bind _ (HasSets sets) _ _ (gives-any _) (λ first a. gives-bind _ (HasSets sets) _ _ (gives-any _) (λ stated b. gives-bind _ (HasSets sets) _ _ (named-gives sets) (λ named n.
+    gives-bind _ (HasSets sets) _ _ (gives-any _) (λ num c. gives-bind _ (HasSets sets) _ _ (gives-any _) (λ idr d.
+    gives-bind _ (HasSets sets) _ _ (gives-any _) (λ order e. gives-bind _ (HasSets sets) _ _ (gives-any _) (λ kind f.
+    gives-bind _ (HasSets sets) _ _ (gives-any _) (λ marking g.
+    gives-bind _ (HasSets sets) _ _ (gives-any _) (λ qp i. gives-bind _ (HasSets sets) _ _ (gives-any _) (λ filter j.
+    gives-done (HasSets sets) _ n))))))))))
+
+header-gives : (sets : ℕ → Option (Pps × Sps)) (u : SliceUnit) → Gives (header sets u) (IsHeader sets u)
+header-gives sets u = record { gives = λ body i h j e. let g = sets-given sets u in record { named = g.gives body i h j e; unit = header-of sets u body i h j e } }
 
 -- ---- what stands in a unit
 
@@ -247,14 +247,16 @@ pub is-content : (before : History) (unit : NalUnit) (c : Content) (calls : List
 is-content before unit c calls m = given (IsContent before unit) _ (body_of unit) 0 m.elements m.found m.bit (content-gives (nal_unit_type (header_of unit)) before unit) m.says
 
 -- a slice of an IDR picture has a marking that leaves its frame alone
-above : (n : ℕ) → not (n == 0) ≡ true → nat_lt 0 n ≡ true
-above zero e = cc
-above (suc n) e = lt-ltb 0 (suc n) (omega arith)
+leaves-alone : (marking : Option (Found Marking)) → is_some marking ≡ true → is_own marking ≡ true → LeavesAlone marking
+leaves-alone None s o = cc
+leaves-alone (Some found) s o = o
 
-pub idr-alone : (before : History) (unit : NalUnit) (h : Header) → Met (byte_steps unit) → IsHeader (sets_of (maps_of before)) (slice_unit unit) h → is_some h.idr_pic_id ≡ true → LeavesAlone h.marking
-idr-alone before unit h m k i =
-    let five : (nal_unit_type (header_of unit) == 5) ≡ true = sym k.idr ∙ i in
-    k.alone (above (nal_ref_idc (header_of unit)) (fits-five (nal_unit_type (header_of unit)) (nal_ref_idc (header_of unit)) five m.1.0)) five
+pub marked-alone : (h : Header) → IsMarked h → is_idr h ≡ true → LeavesAlone h.marking
+marked-alone h m i = leaves-alone h.marking (m.some (m.idr i)) (m.own i)
+
+-- it is marked as its unit says
+pub header-marked : (before : History) (unit : NalUnit) (h : Header) → Met (byte_steps unit) → IsHeader (sets_of (maps_of before)) (slice_unit unit) h → IsMarked h
+header-marked before unit h m k = marked-of (header_of unit) (slice_unit unit) h refl m.1.0 k.unit
 
 -- ---- slice data
 

@@ -42,6 +42,9 @@ pub mod Heard
 pub mod Alike
 pub mod Named
 pub mod Legal
+pub mod Soundness
+pub mod Leaving
+pub mod Bounds
 pub mod Family
 pub mod Output
 pub mod Stopping

@@ -2,6 +2,7 @@
 use Rattle.std.proofs.Common.{◌≡◌, ℕ, ◌==◌, ◌||◌, nat_lt, not, Bool, true, false, List, Option, Some, None, Result, Ok, Err, OnOk, refl, ap, sym, ◌∙◌, subst, arith, if◌then◌else◌}
 use Rattle.std.proofs.lemmas.Bool.Decides.{nat_tests}
 use Rattle.std.specs.Option.{is_some}
+use Rattle.h264_base.specs.Body.{Body}
 use Rattle.h264_base.specs.Call.{Call}
 use Rattle.h264_base.specs.declared.stop.Stop.{Stop}
 use Rattle.h264_base.specs.Grammar.{Grammar, Says}
@@ -23,11 +24,11 @@ use Rattle.h264_verify.specs.Sound.{IsMarked}
 use Rattle.h264_verify.specs.Held.{is_idr_marking, is_own}
 
 -- what a header takes from its unit
-record IsOfUnit (u : SliceUnit) (h : Header) : Type 0 where
-  reference : h.nal_ref_idc ≡ u.nal_ref_idc
-  idr : is_some h.idr_pic_id ≡ u.idr_pic_flag
-  marking : is_some h.marking ≡ nat_lt 0 u.nal_ref_idc
-  own : u.idr_pic_flag ≡ true → is_own h.marking ≡ true
+pub record IsOfUnit (u : SliceUnit) (h : Header) : Type 0 where
+  pub reference : h.nal_ref_idc ≡ u.nal_ref_idc
+  pub idr : is_some h.idr_pic_id ≡ u.idr_pic_flag
+  pub marking : is_some h.marking ≡ nat_lt 0 u.nal_ref_idc
+  pub own : u.idr_pic_flag ≡ true → is_own h.marking ≡ true
 
 optional-some : {A : Type 0} (b : Bool) (g : Grammar A) → Gives (optional b g) (λ o. is_some o ≡ b)
 unfolding optional
@@ -54,6 +55,11 @@ header-gives sets u =
     gives-met _ _ (λ o. (is_some o ≡ nat_lt 0 u.nal_ref_idc) × (u.idr_pic_flag ≡ true → is_own o ≡ true)) (IsOfUnit u) (marking-some (nat_lt 0 u.nal_ref_idc) u.idr_pic_flag) (λ marking m.
     gives-behind _ _ (IsOfUnit u) (λ qp. gives-behind _ _ (IsOfUnit u) (λ filter. record { reference = refl; idr = i; marking = m.0; own = m.1 }))))))))))
 
+pub header-of : (sets : ℕ → Option (Pps × Sps)) (u : SliceUnit) (body : Body) (i : ℕ) (h : Header) (j : ℕ) → (run (header sets u) body i).answer ≡ Ok (h, j) → IsOfUnit u h
+header-of sets u body i h j e =
+    let says = subst (λ (a : Result (Header × ℕ) Stop). Says (header sets u) body i (run (header sets u) body i).elements a) e (run-says (header sets u) body i) in
+    gives-derived (header sets u) (IsOfUnit u) body i _ j h (header-gives sets u) says
+
 above : (n : ℕ) → nat_lt 0 n ≡ not (n == 0)
 above n = grind (arith, nat_tests)
 
@@ -61,10 +67,10 @@ none-of : {A : Type 0} (o : Option A) → is_some o ≡ false → o ≡ None
 none-of None e = refl
 none-of (Some x) e = cc
 
-pub fits-five : (kind reference : ℕ) → (kind == 5) ≡ true → fits_kind kind reference ≡ true → not (reference == 0) ≡ true
+fits-five : (kind reference : ℕ) → (kind == 5) ≡ true → fits_kind kind reference ≡ true → not (reference == 0) ≡ true
 fits-five kind reference five fits = sym (ap (λ (b : Bool). if (b || kind == 7 || kind == 8) then not (reference == 0) else (if is_never_reference kind then reference == 0 else true)) five) ∙ fits
 
-marked-of : (byte : ℕ) (u : SliceUnit) (h : Header) → u ≡ slice_unit_of byte → fits_kind (nal_unit_type byte) (nal_ref_idc byte) ≡ true → IsOfUnit u h → IsMarked h
+pub marked-of : (byte : ℕ) (u : SliceUnit) (h : Header) → u ≡ slice_unit_of byte → fits_kind (nal_unit_type byte) (nal_ref_idc byte) ≡ true → IsOfUnit u h → IsMarked h
 marked-of byte u h e fits k =
     let refers : is_some h.marking ≡ is_reference h = k.marking ∙ above u.nal_ref_idc ∙ ap (λ n. not (n == 0)) (sym k.reference) in
     record {
@@ -79,5 +85,4 @@ pub read-marked : {S X : Type 0} (took : S → List Call → Type 0) (failures :
 read-marked took failures sets u byte h old new s s' (Err x) e fits m = tt
 read-marked took failures sets u byte h old new s s' (Ok x) e fits m =
     let k = m.meets in
-    let says = subst (λ (a : Result (Header × ℕ) Stop). Says (header sets u) old.body old.at (run (header sets u) old.body old.at).elements a) k.2 (run-says (header sets u) old.body old.at) in
-    marked-of byte u h e fits (subst (IsOfUnit u) k.1 (gives-derived (header sets u) (IsOfUnit u) old.body old.at _ new.at k.0 (header-gives sets u) says))
+    marked-of byte u h e fits (subst (IsOfUnit u) k.1 (header-of sets u old.body old.at k.0 new.at k.2))

@@ -25,8 +25,9 @@ use Rattle.h264_verify.specs.UnitOutcome.{steps_outcome}
 use Rattle.h264_verify.specs.Verdict.{AreLegal, Holds}
 use Rattle.h264_verify.specs.Family.{AreSameOn}
 use Rattle.h264_verify.proofs.Agreeing.{of-both, of-more}
-use Rattle.h264_verify.proofs.Family.{HaveFrames, legal-frames, all-frames, legal-family, one-family}
+use Rattle.h264_verify.proofs.Family.{legal-family, one-family}
 use Rattle.h264_verify.proofs.Growing.{ended-few, unit-grows, end-of}
+use Rattle.h264_verify.proofs.Leaving.{HaveFrames, legal-frames, all-frames}
 use Rattle.h264_verify.proofs.Stepping.{met-is}
 use Rattle.h264_verify.proofs.Verdicts.{legal-unit}
 

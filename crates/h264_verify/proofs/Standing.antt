@@ -110,7 +110,7 @@ idr-by None (Some y) h = cc
 idr-by (Some x) None h = cc
 idr-by (Some x) (Some y) h = refl
 
-idr-same : (old new : Header) → begins_picture (picture_elements old) (picture_elements new) ≡ false → is_idr new ≡ is_idr old
+pub idr-same : (old new : Header) → begins_picture (picture_elements old) (picture_elements new) ≡ false → is_idr new ≡ is_idr old
 idr-same old new h = idr-by old.idr_pic_id new.idr_pic_id (or-last _ _ (or-none _ _ h))
 
 pub joined-sound : (begins on : Bool) (slice : CodedSlice) (pictures : List CodedPicture) → begins ≡ begins_after (open_of on pictures) slice.header → AreSound (has_ended on begins) pictures → IsMarked slice.header → is_usable slice.sps ≡ true → (begins ≡ true → is_idr slice.header ≡ false → HasSet slice.sps pictures) → (begins ≡ true → has_gap_filled (record { first = slice; later = [] }) pictures ≡ true) → AreSound false (joined_to begins slice pictures)

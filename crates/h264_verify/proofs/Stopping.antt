@@ -28,8 +28,9 @@ use Rattle.h264_verify.specs.Slices.{is_idr_due, rules_of, slice_call, steps_by,
 use Rattle.h264_verify.specs.Units.{unit_call, content_steps, data_course, frames_at, unit_course, picture_demand, end_steps}
 use Rattle.h264_verify.specs.Verdict.{IsStop, AtBytes, InCourse, AreLegal, IsStopBehind, AtNext, AtTail, AtEnd, Verdict}
 use Rattle.h264_verify.proofs.Agreeing.{of-both, of-more, decoded-last}
-use Rattle.h264_verify.proofs.Family.{HaveFrames, legal-read, legal-frames, same-on, legal-family}
+use Rattle.h264_verify.proofs.Family.{same-on, legal-family}
 use Rattle.h264_verify.proofs.Growing.{StepsOf, needs-of, steps-of, elements-of, slice-of, picture-end-of, ended-few, ended-whole, end-of}
+use Rattle.h264_verify.proofs.Leaving.{HaveFrames, legal-read, legal-frames}
 use Rattle.h264_verify.proofs.Legal.{decoded-first, end_steps_at}
 use Rattle.h264_verify.proofs.Output.{shown-alike, calls-same, legal-of, one-output}
 use Rattle.h264_verify.proofs.Stepping.{met-is, stop-is}

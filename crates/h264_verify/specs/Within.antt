@@ -1,8 +1,27 @@
--- The buffer has places for what is in it. A working form.
-use Rattle.std.specs.Prelude.{◌+◌, ◌≤◌, length}
+-- The decoded picture buffer stays within its places (C.4.2, C.4.4, C.4.5). To be read beside the standard.
+use Rattle.std.specs.Prelude.{◌≡◌, ℕ, ◌+◌, ◌≤◌, List, ◌∷◌, ◌++◌, length}
+use Rattle.h264_marking.specs.Ended.{numbering_of}
+use Rattle.h264_picture.specs.Buffer.{buffer_size}
 use Rattle.h264_dpb.specs.Buffered.{Buffered}
 use Rattle.h264_dpb.specs.Turns.{Shown}
+use Rattle.h264_verify.specs.Pictures.{CodedPicture, held_after}
+use Rattle.h264_verify.specs.Buffering.{after_all, within_newest, missing_before, gaps_turn}
 
 -- the frames and those that do not exist have places
 abbrev pub StaysWithin : Buffered Shown → Type 0
 StaysWithin b = length b.entries + b.missing ≤ b.size
+
+-- the buffer before a picture behind these, where this many of the missing numbers are filled
+abbrev pub filled_up_to : CodedPicture → List CodedPicture → List ℕ → Buffered Shown
+filled_up_to p ps numbers = (gaps_turn (numbering_of p.first.sps p.first.header) numbers (held_after ps) (after_all ps).buffer).buffer
+
+-- It does while a picture behind these is decoded, and before that behind each of the missing numbers that are filled. It then still has the size that it had before.
+pub record DecodesWithin (p : CodedPicture) (ps : List CodedPicture) : Type 0 where
+  pub within : StaysWithin (within_newest (p ∷ ps)).buffer
+  pub size : (within_newest (p ∷ ps)).buffer.size ≡ (after_all ps).buffer.size
+  pub filling : (numbers others : List ℕ) → missing_before p ps ≡ numbers ++ others → StaysWithin (filled_up_to p ps numbers) × ((filled_up_to p ps numbers).size ≡ (after_all ps).buffer.size)
+
+-- It does once the picture has ended. It then has the size that the picture's sequence gives it.
+pub record EndsWithin (p : CodedPicture) (ps : List CodedPicture) : Type 0 where
+  pub within : StaysWithin (after_all (p ∷ ps)).buffer
+  pub size : (after_all (p ∷ ps)).buffer.size ≡ buffer_size p.first.sps

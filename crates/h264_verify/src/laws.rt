@@ -1,22 +1,18 @@
 //! What the definitions imply. Nothing here runs.
 #![tactic(auto)]
 
-ghost use Rattle.std.specs.Prelude.{◌≡◌, ℕ, Bool, true, false, List, ◌∷◌, ◌++◌, Result};
+ghost use Rattle.std.specs.Prelude.{◌≡◌, ℕ, false, List, ◌∷◌, ◌++◌, Result};
 ghost use Rattle.h264_base.specs.declared.mode.Mode.{Mode};
 ghost use Rattle.h264_base.specs.declared.stop.Stop.{Stop};
 ghost use Rattle.h264_verify.specs.Telling.{Told};
 ghost use Rattle.h264_verify.specs.declared.judge.Summary.{Summary};
-ghost use Rattle.h264_verify.specs.Pictures.{CodedPicture, held_in, held_after};
-ghost use Rattle.h264_verify.specs.Buffering.{within_newest, after_all, gaps_turn, missing_before};
-ghost use Rattle.h264_verify.specs.Sound.{AreSound};
+ghost use Rattle.h264_verify.specs.Pictures.{CodedPicture, goes_on, held_in, runs_of};
+ghost use Rattle.h264_verify.specs.Buffering.{within_newest};
 ghost use Rattle.h264_verify.specs.Held.{AreAmong};
-ghost use Rattle.h264_verify.specs.Within.{StaysWithin};
-ghost use Rattle.h264_marking.specs.Ended.{numbering_of};
-ghost use Rattle.h264_picture.specs.Buffer.{buffer_size};
+ghost use Rattle.h264_verify.specs.Within.{DecodesWithin, EndsWithin};
 ghost use Rattle.h264_verify.specs.Verdict.{Verdict, AreLegal, Holds};
 ghost use Rattle.h264_verify.specs.Telling.{calls_of, AreDecoded};
 ghost use Rattle.h264_verify.specs.History.{History};
-ghost use Rattle.h264_verify.specs.Pictures.{goes_on, runs_of};
 ghost use Rattle.h264_verify.specs.Keeping.{ended_pictures};
 ghost use Rattle.h264_verify.specs.Family.{AreSameOn};
 ghost use Rattle.h264_plane.specs.declared.frame.Frame.{Frame};
@@ -34,21 +30,25 @@ pub fn some_verdict()
     ensures { (mode : Mode) (bytes : List ℕ) → (told : List Told) × (answer : Result Summary Stop) × Verdict mode bytes told answer }
 {}
 
-/// While a picture is decoded, each picture that is held for reference has its frame in the buffer (C.4.4, C.4.5): of pictures whose rules were met.
+/// While a picture is decoded, each picture that is held for reference has its frame in the buffer (C.4.4, C.4.5): of each picture `p` behind others, `ps`, of a stream
+/// with a yes (`whole`), and of units that are legal, whatever follows them (`legal`).
 pub fn held_pictures_stand()
-    ensures { (ended : Bool) (p : CodedPicture) (ps : List CodedPicture) → AreSound ended (p ∷ ps) → AreAmong (held_in (p ∷ ps)) (within_newest (p ∷ ps)).buffer }
+    ensures whole { (bytes : List ℕ) (told : List Told) (summary : Summary) (h : Holds Full bytes told summary) (later : List CodedPicture) (p : CodedPicture) (ps : List CodedPicture) →
+        runs_of h.units ≡ later ++ p ∷ ps → AreAmong (held_in (p ∷ ps)) (within_newest (p ∷ ps)).buffer }
+    ensures legal { (before : History) (told : List Told) → AreLegal Full before told → (later : List CodedPicture) (p : CodedPicture) (ps : List CodedPicture) →
+        runs_of before ≡ later ++ p ∷ ps → AreAmong (held_in (p ∷ ps)) (within_newest (p ∷ ps)).buffer }
 {}
 
-/// The buffer stays within its places, for the frames in it and those that do not exist together (C.4.2, C.4.4, C.4.5), where the rules of the pictures were met:
-/// once all have ended, when it has the size that the newest one's sequence gives it (`after`); while the newest is decoded, when it still has the size
-/// that it had before it (`newest`); and before that, behind each of the missing numbers that are filled (`filling`).
+/// The buffer stays within its places, for the frames in it and those that do not exist together (C.4.2, C.4.4, C.4.5). Each picture `p` behind others, `ps`, of a
+/// stream with a yes keeps it so while the missing numbers before it are filled, while it is decoded, and once it has ended (`whole`); and of units that are legal,
+/// whatever follows them, each picture does while it is decoded (`decoded`), and each that has ended does then (`ended`).
 pub fn buffer_stays_within()
-    ensures after { (p : CodedPicture) (ps : List CodedPicture) → AreSound true (p ∷ ps) →
-        StaysWithin (after_all (p ∷ ps)).buffer × ((after_all (p ∷ ps)).buffer.size ≡ buffer_size p.first.sps) }
-    ensures newest { (ended : Bool) (p : CodedPicture) (ps : List CodedPicture) → AreSound ended (p ∷ ps) →
-        StaysWithin (within_newest (p ∷ ps)).buffer × ((within_newest (p ∷ ps)).buffer.size ≡ (after_all ps).buffer.size) }
-    ensures filling { (ended : Bool) (p : CodedPicture) (ps : List CodedPicture) (numbers others : List ℕ) → AreSound ended (p ∷ ps) → missing_before p ps ≡ numbers ++ others →
-        StaysWithin (gaps_turn (numbering_of p.first.sps p.first.header) numbers (held_after ps) (after_all ps).buffer).buffer }
+    ensures whole { (bytes : List ℕ) (told : List Told) (summary : Summary) (h : Holds Full bytes told summary) (later : List CodedPicture) (p : CodedPicture) (ps : List CodedPicture) →
+        runs_of h.units ≡ later ++ p ∷ ps → DecodesWithin p ps × EndsWithin p ps }
+    ensures decoded { (before : History) (told : List Told) → AreLegal Full before told → (later : List CodedPicture) (p : CodedPicture) (ps : List CodedPicture) →
+        runs_of before ≡ later ++ p ∷ ps → DecodesWithin p ps }
+    ensures ended { (before : History) (told : List Told) → AreLegal Full before told → (later : List CodedPicture) (p : CodedPicture) (ps : List CodedPicture) →
+        ended_pictures (goes_on before) false (runs_of before) ≡ later ++ p ∷ ps → EndsWithin p ps }
 {}
 
 /// A stream has one family of frames: two families, by number in decoding order, in each of which every picture is decoded from the frames that its lists

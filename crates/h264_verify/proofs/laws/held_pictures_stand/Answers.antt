@@ -1,5 +1,8 @@
-use Rattle.h264_verify.proofs.Referring.{among-within}
+use Rattle.h264_verify.proofs.Bounds.{legal-among}
 use Rattle.h264_verify.proofs.laws.held_pictures_stand.Goals as goal
 
 pub returns : goal.returns
-returns c = among-within
+returns c = record {
+  whole = λ bytes told summary h later p ps e. legal-among h.units h.first h.legal later p ps e;
+  legal = λ before told l later p ps e. legal-among before told l later p ps e;
+}
