@@ -86,7 +86,7 @@ HasRoomBy kinds.Other p b = Unit {0}
 HasRoomBy kinds.Missing p b = (0 < missing_in p.held.now) × (references (marked (still p) b.entries) + missing_in p.held.now ≤ b.size)
 
 -- The frames and those that do not exist have places.
-abbrev pub StaysWithin : Buffered Placed → Type 0
+abbrev pub StaysWithin : {N : Type 0} → Buffered N → Type 0
 StaysWithin b = length b.entries + b.missing ≤ b.size
 
 -- A picture that may wait has its frame; a frame that does not exist has none.

@@ -112,38 +112,46 @@ flagged-gives present part P none some = gives-behind _ _ _ by
     by true = gives-met part _ (λ x. P (Some x)) P some (λ x h. h)
     by false = none
 
--- the buffer holds the reference frames, where its size is given
-abbrev HasBuffering : ℕ → Option Vui → Type 0
-HasBuffering refs o = (frames : ℕ) → option_map (λ (r : BitstreamRestriction). r.max_dec_frame_buffering) (option_and_then (λ (v : Vui). v.bitstream_restriction) o) ≡ Some frames → refs ≤ frames
+-- the buffer holds the reference frames, and no more than the level allows, where its size is given
+abbrev FitsIn : ℕ → ℕ → ℕ → Type 0
+FitsIn refs max frames = (refs ≤ frames) × (frames ≤ max)
+
+abbrev HasBuffering : ℕ → ℕ → Option Vui → Type 0
+HasBuffering refs max o = (frames : ℕ) → option_map (λ (r : BitstreamRestriction). r.max_dec_frame_buffering) (option_and_then (λ (v : Vui). v.bitstream_restriction) o) ≡ Some frames → FitsIn refs max frames
 
 check-gives : {B : Type 0} (rule : Rule) (bit : ℕ) (holds : Bool) (f : Unit {0} → Grammar B) (P : B → Type 0) → (IsTrue holds → Gives (f tt) P) → Gives (check rule bit holds >>= f) P
 unfolding check ◌>>=◌
 check-gives rule bit holds f P h = h
 
-restriction-gives : (refs max : ℕ) → Gives (bitstream_restriction refs max) (λ r. refs ≤ r.max_dec_frame_buffering)
+restriction-gives : (refs max : ℕ) → Gives (bitstream_restriction refs max) (λ r. FitsIn refs max r.max_dec_frame_buffering)
 unfolding bitstream_restriction
-restriction-gives refs max = gives-behind _ _ _ (λ over. gives-behind _ _ _ (λ bytes. gives-behind _ _ _ (λ mb_bits. gives-behind _ _ _ (λ across. gives-behind _ _ _ (λ down. gives-behind _ _ _ (λ reorder. gives-behind _ _ _ (λ e. check-gives _ _ _ _ _ (λ _. check-gives _ _ _ _ _ (λ b. check-gives _ _ _ _ _ (λ _. leb-true _ _ b))))))))))
+restriction-gives refs max = gives-behind _ _ _ (λ over. gives-behind _ _ _ (λ bytes. gives-behind _ _ _ (λ mb_bits. gives-behind _ _ _ (λ across. gives-behind _ _ _ (λ down. gives-behind _ _ _ (λ reorder. gives-behind _ _ _ (λ e. check-gives _ _ _ _ _ (λ _. check-gives _ _ _ _ _ (λ b. check-gives _ _ _ _ _ (λ c. (leb-true _ _ b, leb-true _ _ c)))))))))))
 
 same-some : (a b : ℕ) → Some a ≡ Some b → a ≡ b
 same-some a b e = cc
 
-restricted : (refs : ℕ) (r : BitstreamRestriction) → refs ≤ r.max_dec_frame_buffering → (frames : ℕ) → Some r.max_dec_frame_buffering ≡ Some frames → refs ≤ frames
-restricted refs r h frames e = subst (λ n. refs ≤ n) (same-some _ _ e) h
+restricted : (refs max : ℕ) (r : BitstreamRestriction) → FitsIn refs max r.max_dec_frame_buffering → (frames : ℕ) → Some r.max_dec_frame_buffering ≡ Some frames → FitsIn refs max frames
+restricted refs max r h frames e = subst (λ n. FitsIn refs max n) (same-some _ _ e) h
 
-none-given : (refs frames : ℕ) → (let o : Option ℕ = None in o ≡ Some frames) → refs ≤ frames
-none-given refs frames e = cc
+none-given : (refs max frames : ℕ) → (let o : Option ℕ = None in o ≡ Some frames) → FitsIn refs max frames
+none-given refs max frames e = cc
 
-abbrev IsBuffering : ℕ → Option BitstreamRestriction → Type 0
-IsBuffering refs o = (frames : ℕ) → option_map (λ (r : BitstreamRestriction). r.max_dec_frame_buffering) o ≡ Some frames → refs ≤ frames
+abbrev IsBuffering : ℕ → ℕ → Option BitstreamRestriction → Type 0
+IsBuffering refs max o = (frames : ℕ) → option_map (λ (r : BitstreamRestriction). r.max_dec_frame_buffering) o ≡ Some frames → FitsIn refs max frames
 
-vui-gives : (refs max : ℕ) → Gives (vui refs max) (λ v. HasBuffering refs (Some v))
+vui-gives : (refs max : ℕ) → Gives (vui refs max) (λ v. HasBuffering refs max (Some v))
 unfolding vui
-vui-gives refs max = gives-behind _ _ _ (λ _. gives-behind _ _ _ (λ _. gives-behind _ _ _ (λ _. gives-behind _ _ _ (λ _. gives-behind _ _ _ (λ _. gives-behind _ _ _ (λ _. gives-behind _ _ _ (λ _. gives-behind _ _ _ (λ _. gives-behind _ _ _ (λ _. gives-met (flagged (flag BitstreamRestrictionFlag) (bitstream_restriction refs max)) _ (IsBuffering refs) _ (flagged-gives (flag BitstreamRestrictionFlag) (bitstream_restriction refs max) (IsBuffering refs) (none-given refs) (gives-weaker (bitstream_restriction refs max) (λ r. refs ≤ r.max_dec_frame_buffering) (λ r. IsBuffering refs (Some r)) (restriction-gives refs max) (λ r h. restricted refs r h))) (λ o h. h))))))))))
+vui-gives refs max = gives-behind _ _ _ (λ _. gives-behind _ _ _ (λ _. gives-behind _ _ _ (λ _. gives-behind _ _ _ (λ _. gives-behind _ _ _ (λ _. gives-behind _ _ _ (λ _. gives-behind _ _ _ (λ _. gives-behind _ _ _ (λ _. gives-behind _ _ _ (λ _. gives-met (flagged (flag BitstreamRestrictionFlag) (bitstream_restriction refs max)) _ (IsBuffering refs max) _ (flagged-gives (flag BitstreamRestrictionFlag) (bitstream_restriction refs max) (IsBuffering refs max) (none-given refs max) (gives-weaker (bitstream_restriction refs max) (λ r. FitsIn refs max r.max_dec_frame_buffering) (λ r. IsBuffering refs max (Some r)) (restriction-gives refs max) (λ r h. restricted refs max r h))) (λ o h. h))))))))))
 
 -- the buffer holds the reference frames
 holds-by : (refs : ℕ) (o : Option ℕ) (frames : ℕ) → ((n : ℕ) → o ≡ Some n → refs ≤ n) → refs ≤ frames → nat_le refs (unwrap_or o frames) ≡ true
 holds-by refs None frames h k = le-leb refs frames k
 holds-by refs (Some n) frames h k = le-leb refs n (h n refl)
+
+-- and is no larger than this
+buffers-by : (o : Option ℕ) (frames : ℕ) → ((n : ℕ) → o ≡ Some n → n ≤ frames) → option_map_or (λ (n : ℕ). nat_le n frames) o true ≡ true
+buffers-by None frames h = refl
+buffers-by (Some n) frames h = le-leb n frames (h n refl)
 
 frame-of : (limits : Limits) (refs : ℕ) (size : Size) → limits.max_fs ≤ 36864 → HasSize limits refs size → is_frame_size size ≡ true
 frame-of limits refs size small h =
@@ -156,11 +164,15 @@ sps-gives : Gives sps HasRanges
 unfolding sps is_usable
 sps-gives = gives-met profile_and_level _ HasFront _ front-gives (λ front level. gives-to _ _ _ _ (λ id low. gives-to _ _ _ _ (λ log2 short. gives-met counting _ HasCount _ counts (λ count e. gives-behind _ _ _ (λ refs. gives-behind _ _ _ (λ _. gives-met (frame_size front.named.limits refs) _ (HasSize front.named.limits refs) _ (size-gives front.named.limits refs) (λ size fits. gives-behind _ _ _ (λ _. gives-behind _ _ _ (λ _.
     gives-met (flagged (flag FrameCroppingFlag) (frame_cropping size)) _ (HasCrop size) _ (flagged-gives (flag FrameCroppingFlag) (frame_cropping size) (HasCrop size) refl (crop-gives size)) (λ crop within.
-    gives-met (flagged (flag VuiParametersPresentFlag) (vui refs (max_dpb_frames front.named.limits size))) _ (HasBuffering refs) _ (flagged-gives (flag VuiParametersPresentFlag) (vui refs (max_dpb_frames front.named.limits size)) (HasBuffering refs) (none-given refs) (vui-gives refs (max_dpb_frames front.named.limits size))) (λ usability buffering.
-    gives-behind _ _ _ (λ _. record {
+    gives-met (flagged (flag VuiParametersPresentFlag) (vui refs (max_dpb_frames front.named.limits size))) _ (HasBuffering refs (max_dpb_frames front.named.limits size)) _ (flagged-gives (flag VuiParametersPresentFlag) (vui refs (max_dpb_frames front.named.limits size)) (HasBuffering refs (max_dpb_frames front.named.limits size)) (none-given refs (max_dpb_frames front.named.limits size)) (vui-gives refs (max_dpb_frames front.named.limits size))) (λ usability buffering.
+    gives-behind _ _ _ (λ _.
+    let most = λ (o : Option Limits). option_map_or (λ (l : Limits). max_dpb_frames l size) o 0 in
+    record {
       id = low;
       lengths = both _ _ (few log2 short) e;
-      usable = both _ _ (frame-of front.named.limits refs size level.small fits) (both _ _ within (holds-by refs _ _ buffering (subst (λ o. refs ≤ option_map_or (λ (l : Limits). max_dpb_frames l size) o 0) (sym level.is) fits.references)));
+      usable = both _ _ (frame-of front.named.limits refs size level.small fits) (both _ _ within (both _ _
+          (holds-by refs _ _ (λ n g. (buffering n g).0) (subst (λ o. refs ≤ most o) (sym level.is) fits.references))
+          (buffers-by _ _ (λ n g. subst (λ o. n ≤ most o) (sym level.is) (buffering n g).1))));
     }))))))))))))
 
 abbrev HasId : Pps → Type 0

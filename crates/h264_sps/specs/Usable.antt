@@ -34,5 +34,9 @@ dpb_frames sps = option_map_or (λ (l : Limits). max_dpb_frames l sps.frame_size
 abbrev pub holds_references : Sps → Bool
 holds_references sps = nat_le sps.max_num_ref_frames (unwrap_or (given_frames sps) (dpb_frames sps))
 
+-- it is no larger than the level allows: max_dec_frame_buffering, where it is given, is at most MaxDpbFrames (E.2.1)
+abbrev pub buffers_within : Sps → Bool
+buffers_within sps = option_map_or (λ (frames : ℕ). nat_le frames (dpb_frames sps)) (given_frames sps) true
+
 unfoldable pub is_usable : Sps → Bool
-is_usable sps = is_frame_size sps.frame_size && (crops_within sps.frame_size sps.frame_cropping && holds_references sps)
+is_usable sps = is_frame_size sps.frame_size && (crops_within sps.frame_size sps.frame_cropping && (holds_references sps && buffers_within sps))

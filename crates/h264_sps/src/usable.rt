@@ -3,7 +3,7 @@
 
 ghost use Rattle.std.specs.Prelude.{◌≡◌};
 ghost use Rattle.h264_tables.specs.Level.{limits_of};
-ghost use Rattle.h264_sps.specs.Usable.{is_frame_size, is_within, crops_within, given_frames, dpb_frames, holds_references, is_usable};
+ghost use Rattle.h264_sps.specs.Usable.{is_frame_size, is_within, crops_within, given_frames, dpb_frames, holds_references, buffers_within, is_usable};
 
 use crate::sps::{FrameCropping, FrameSize, Sps};
 use h264_tables::{Limits, limits};
@@ -86,6 +86,16 @@ fn holds_references(sps: &Sps) -> bool
     }
 }
 
+/// Whether the picture buffer is no larger than the level allows.
+fn buffers_within(sps: &Sps) -> bool
+    ensures { result ≡ buffers_within sps.now }
+{
+    match given_frames(sps) {
+        None => true,
+        Some(frames) => frames <= dpb_frames(sps),
+    }
+}
+
 /// Whether a sequence parameter set has a size, a cropping rectangle and a picture buffer that some unit may give it.
 #[tactic(auto, unfolding(crate::specs::Usable::is_usable))]
 pub fn is_usable(sps: &Sps) -> bool
@@ -94,4 +104,5 @@ pub fn is_usable(sps: &Sps) -> bool
     is_frame_size(sps.frame_size)
         && crops_within(sps.frame_size, sps.frame_cropping)
         && holds_references(sps)
+        && buffers_within(sps)
 }

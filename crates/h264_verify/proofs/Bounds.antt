@@ -13,6 +13,7 @@ use Rattle.h264_verify.specs.Within.{DecodesWithin, EndsWithin}
 use Rattle.h264_verify.specs.Verdict.{AreLegal, Holds}
 use Rattle.h264_verify.proofs.Leaving.{stands, all-sound}
 use Rattle.h264_verify.proofs.Soundness.{ended-are, sound-at, ended-at}
+use Rattle.h264_verify.proofs.Sound.{size-fits}
 use Rattle.h264_verify.proofs.Referring.{among-within}
 use Rattle.h264_verify.proofs.Within.{after-sits, newest-sits, filling-sits}
 
@@ -27,7 +28,7 @@ decodes-within ended p ps s =
     }
 
 ends-within : (p : CodedPicture) (ps : List CodedPicture) → AreSound true (p ∷ ps) → EndsWithin p ps
-ends-within p ps s = let new = after-sits (p ∷ ps) s in record { within = new.within; size = new.sized }
+ends-within p ps s = let new = after-sits (p ∷ ps) s in record { within = new.within; size = new.sized; level = size-fits p.first.sps s.0.usable }
 
 -- ---- of units that are legal
 

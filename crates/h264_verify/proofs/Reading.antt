@@ -22,7 +22,7 @@ use Rattle.h264_header.specs.Layout.{sets_of}
 use Rattle.h264_marking.specs.declared.frame.Numbering.{Numbering}
 use Rattle.h264_marking.specs.Frames.{References}
 use Rattle.h264_lists.specs.declared.slot.RefSlot.{RefSlot}
-use Rattle.h264_sps.specs.Usable.{is_usable, crops_within, holds_references}
+use Rattle.h264_sps.specs.Usable.{is_usable, crops_within, holds_references, buffers_within}
 use Rattle.h264_picture.specs.Holds.{is_frame_size}
 use Rattle.h264_mbsyntax.specs.Slice.{slice_data}
 use Rattle.h264_picture.specs.Context.{slice_context}
@@ -204,7 +204,7 @@ first-of false r h = h
 
 pub usable_size : (sps : Sps) → is_usable sps ≡ true → is_frame_size sps.frame_size ≡ true
 unfolding is_usable
-usable_size sps e = first-of (is_frame_size sps.frame_size) (crops_within sps.frame_size sps.frame_cropping && holds_references sps) e
+usable_size sps e = first-of (is_frame_size sps.frame_size) (crops_within sps.frame_size sps.frame_cropping && (holds_references sps && buffers_within sps)) e
 
 -- what the code takes from the header is what the slice has
 pub context-is : (begins : Bool) (pictures : List CodedPicture) (s : CodedSlice) (sets : Maps) (header : Header) (pps : Pps) (sps : Sps) (n : Numbering) (held : References) (items : List RefSlot) (c : SliceContext) → c ≡ slice_context pps sps header items → sets_of sets header.pic_parameter_set_id.value ≡ Some (pps, sps) → sets_of sets s.header.pic_parameter_set_id.value ≡ Some (s.pps, s.sps) → header ≡ record s.header { marking = header.marking } → n ≡ numbering_of sps header → held ≡ held_in (joined_to begins s pictures) → items ≡ result_unwrap_or (list_of header.kind.value n held) [] → c ≡ context_in (joined_to begins s pictures) s

@@ -1,14 +1,14 @@
 -- What follows of pictures whose rules are met: no more frames are held than the buffer has places, and a reference picture that has ended is among them.
-use Rattle.std.proofs.Common.{◌≡◌, ℕ, ◌≤◌, ◌==◌, ◌&&◌, ◌||◌, nat_lt, min, max, unwrap_or, Bool, true, false, List, [], ◌∷◌, ◌++◌, map, length, Option, Some, None, Result, Ok, Err, refl, ap, sym, ◌∙◌, subst, arith, if◌then◌else◌}
+use Rattle.std.proofs.Common.{◌≡◌, ℕ, ◌≤◌, ◌==◌, ◌&&◌, ◌||◌, nat_le, nat_lt, min, max, unwrap_or, Bool, true, false, List, [], ◌∷◌, ◌++◌, map, length, Option, Some, None, Result, Ok, Err, refl, ap, sym, ◌∙◌, subst, arith, if◌then◌else◌}
 use Rattle.std.proofs.lemmas.Bool.{leb-true}
 use Rattle.std.proofs.lemmas.Bool.Decides.{nat_tests}
-use Rattle.std.specs.Option.{is_some, ok_or}
+use Rattle.std.specs.Option.{is_some, ok_or, option_map_or}
 use Rattle.std.specs.Result.{result_unwrap_or}
 use Rattle.h264_base.proofs.Chains.{then-some}
 use Rattle.h264_base.specs.declared.stop.Stop.{Stop}
 use Rattle.h264_bits.specs.declared.element.Found.{Found}
 use Rattle.h264_sps.specs.declared.sps.Sps.{Sps}
-use Rattle.h264_sps.specs.Usable.{is_usable, is_frame_size, crops_within, holds_references}
+use Rattle.h264_sps.specs.Usable.{is_usable, is_frame_size, crops_within, holds_references, buffers_within}
 use Rattle.h264_header.specs.declared.header.Marking.{Marking}
 use Rattle.h264_header.specs.declared.header.Marking.TheVariants as mode
 use Rattle.h264_header.specs.Picture.{is_idr, is_reference}
@@ -76,17 +76,34 @@ set-few sps (p ∷ ps) h s = subst (λ (x : Sps). length (held_after (p ∷ ps))
 
 -- ---- the buffer of a sequence has places for its reference frames
 
-third : (a b c : Bool) → (a && (b && c)) ≡ true → c ≡ true
-third true true c e = e
-third true false c e = cc
-third false b c e = cc
+second : (a b : Bool) → (a && b) ≡ true → b ≡ true
+second true b e = e
+second false b e = cc
+
+first : (a b : Bool) → (a && b) ≡ true → a ≡ true
+first true b e = refl
+first false b e = cc
+
+-- what is said of the buffer of a sequence
+buffer-holds : (sps : Sps) → is_usable sps ≡ true → (holds_references sps && buffers_within sps) ≡ true
+unfolding is_usable
+buffer-holds sps u = second (crops_within sps.frame_size sps.frame_cropping) _ (second (is_frame_size sps.frame_size) _ u)
 
 least-most : (m g : ℕ) → m ≤ g → min (max m 1) 16 ≤ max 1 (min g 16)
 least-most m g h = omega (arith, h)
 
 pub places-fit : (sps : Sps) → is_usable sps ≡ true → frame_places sps.max_num_ref_frames ≤ buffer_size sps
-unfolding is_usable buffer_size
-places-fit sps u = least-most sps.max_num_ref_frames (unwrap_or (given_frames sps) (dpb_frames sps)) (leb-true _ _ (third (is_frame_size sps.frame_size) (crops_within sps.frame_size sps.frame_cropping) (holds_references sps) u))
+unfolding buffer_size
+places-fit sps u = least-most sps.max_num_ref_frames (unwrap_or (given_frames sps) (dpb_frames sps)) (leb-true _ _ (first (holds_references sps) (buffers_within sps) (buffer-holds sps u)))
+
+-- it has no more places than the level allows
+most-of : (o : Option ℕ) (m : ℕ) → option_map_or (λ (n : ℕ). nat_le n m) o true ≡ true → max 1 (min (unwrap_or o m) 16) ≤ max 1 m
+most-of None m h = omega arith
+most-of (Some n) m h = let k = leb-true n m h in omega (arith, k)
+
+pub size-fits : (sps : Sps) → is_usable sps ≡ true → buffer_size sps ≤ max 1 (dpb_frames sps)
+unfolding buffer_size
+size-fits sps u = most-of (given_frames sps) (dpb_frames sps) (second (holds_references sps) (buffers_within sps) (buffer-holds sps u))
 
 pub after-few : (p : CodedPicture) (ps : List CodedPicture) → AreSound true (p ∷ ps) → length (held_after (p ∷ ps)).frames ≤ buffer_size p.first.sps
 after-few p ps s = let few = held-few (p ∷ ps) s in let fit = places-fit p.first.sps s.0.usable in omega (arith, few, fit)

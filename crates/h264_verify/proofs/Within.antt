@@ -16,7 +16,7 @@ use Rattle.h264_dpb.specs.declared.entry.Entry.{Entry}
 use Rattle.h264_dpb.specs.declared.ended.Ended.{Ended}
 use Rattle.h264_dpb.specs.Ending.{ended_of}
 use Rattle.h264_dpb.specs.Bumping.{is_held, missing_in, made_room, marked, stored_reference, stored_other, flushed}
-use Rattle.h264_dpb.specs.Buffered.{Buffered}
+use Rattle.h264_dpb.specs.Buffered.{Buffered, StaysWithin}
 use Rattle.h264_dpb.specs.Numbered.{AreRising}
 use Rattle.h264_dpb.specs.Turns.{Shown, Turn, turn_then, stays, names, still, missing_turn, flush_turn, reference_turn, other_turn, empties, entry_of, way_turn, store_turn}
 use Rattle.h264_dpb.proofs.Room.{short-placed}
@@ -25,7 +25,6 @@ use Rattle.h264_dpb.proofs.Rising.{marked-counted, few, few-other, rising-made_r
 use Rattle.h264_verify.specs.Pictures.{CodedPicture, held_after, prev_ref_frame_num_of}
 use Rattle.h264_verify.specs.Buffering.{gap_on, gaps_turn, missing_before, ended_picture, after_all, within_newest}
 use Rattle.h264_verify.specs.Sound.{HasSet, Follows, AreSound}
-use Rattle.h264_verify.specs.Within.{StaysWithin}
 use Rattle.h264_verify.proofs.Sound.{set-few, places-fit, after-few, after-among}
 use Rattle.h264_verify.proofs.Missing.{some-missing}
 

@@ -1,15 +1,11 @@
 -- The decoded picture buffer stays within its places (C.4.2, C.4.4, C.4.5). To be read beside the standard.
-use Rattle.std.specs.Prelude.{◌≡◌, ℕ, ◌+◌, ◌≤◌, List, ◌∷◌, ◌++◌, length}
+use Rattle.std.specs.Prelude.{◌≡◌, ℕ, ◌≤◌, max, List, ◌∷◌, ◌++◌}
 use Rattle.h264_marking.specs.Ended.{numbering_of}
-use Rattle.h264_picture.specs.Buffer.{buffer_size}
-use Rattle.h264_dpb.specs.Buffered.{Buffered}
+use Rattle.h264_picture.specs.Buffer.{buffer_size, dpb_frames}
+use Rattle.h264_dpb.specs.Buffered.{Buffered, StaysWithin}
 use Rattle.h264_dpb.specs.Turns.{Shown}
 use Rattle.h264_verify.specs.Pictures.{CodedPicture, held_after}
 use Rattle.h264_verify.specs.Buffering.{after_all, within_newest, missing_before, gaps_turn}
-
--- the frames and those that do not exist have places
-abbrev pub StaysWithin : Buffered Shown → Type 0
-StaysWithin b = length b.entries + b.missing ≤ b.size
 
 -- the buffer before a picture behind these, where this many of the missing numbers are filled
 abbrev pub filled_up_to : CodedPicture → List CodedPicture → List ℕ → Buffered Shown
@@ -21,7 +17,8 @@ pub record DecodesWithin (p : CodedPicture) (ps : List CodedPicture) : Type 0 wh
   pub size : (within_newest (p ∷ ps)).buffer.size ≡ (after_all ps).buffer.size
   pub filling : (numbers others : List ℕ) → missing_before p ps ≡ numbers ++ others → StaysWithin (filled_up_to p ps numbers) × ((filled_up_to p ps numbers).size ≡ (after_all ps).buffer.size)
 
--- It does once the picture has ended. It then has the size that the picture's sequence gives it.
+-- It does once the picture has ended. It then has the size that the picture's sequence gives it, at most MaxDpbFrames of the sequence's level, or one place.
 pub record EndsWithin (p : CodedPicture) (ps : List CodedPicture) : Type 0 where
   pub within : StaysWithin (after_all (p ∷ ps)).buffer
   pub size : (after_all (p ∷ ps)).buffer.size ≡ buffer_size p.first.sps
+  pub level : buffer_size p.first.sps ≤ max 1 (dpb_frames p.first.sps)

@@ -41,7 +41,8 @@ pub fn held_pictures_stand()
 
 /// The buffer stays within its places, for the frames in it and those that do not exist together (C.4.2, C.4.4, C.4.5). Each picture `p` behind others, `ps`, of a
 /// stream with a yes keeps it so while the missing numbers before it are filled, while it is decoded, and once it has ended (`whole`); and of units that are legal,
-/// whatever follows them, each picture does while it is decoded (`decoded`), and each that has ended does then (`ended`).
+/// whatever follows them, each picture does while it is decoded (`decoded`), and each that has ended does then (`ended`). The buffer has the size that the sequence
+/// of the picture that ended last gives it, at most MaxDpbFrames of that sequence's level, or one place (A.3.1, E.2.1).
 pub fn buffer_stays_within()
     ensures whole { (bytes : List ℕ) (told : List Told) (summary : Summary) (h : Holds Full bytes told summary) (later : List CodedPicture) (p : CodedPicture) (ps : List CodedPicture) →
         runs_of h.units ≡ later ++ p ∷ ps → DecodesWithin p ps × EndsWithin p ps }
