@@ -52,15 +52,15 @@ last-of first [] = refl
 last-of first (s ∷ later) = refl
 
 -- the slice of a macroblock
-record IsFound (first : CodedSlice) (ps : List CodedPicture) (P : CodedSlice → Type 0) (a : ℕ) (all : List CodedMacroblock) (m : CodedMacroblock) : Type 0 where
-  slice : CodedSlice
-  has : P slice
-  is : IsOfSlice first.sps.frame_size.width (context_in (with_first first ∷ ps) slice) (take a all) m
+pub record IsFound (first : CodedSlice) (ps : List CodedPicture) (P : CodedSlice → Type 0) (a : ℕ) (all : List CodedMacroblock) (m : CodedMacroblock) : Type 0 where
+  pub slice : CodedSlice
+  pub has : P slice
+  pub is : IsOfSlice first.sps.frame_size.width (context_in (with_first first ∷ ps) slice) (take a all) m
 
 no-macroblock : (a : ℕ) (m : CodedMacroblock) → slice_get [] a ≡ Some m → ⊥
 no-macroblock a m e = let l = slice_get_within [] a m e in absurd (omega (arith, l))
 
-found : (first : CodedSlice) (ps : List CodedPicture) (P : CodedSlice → Type 0) (slices : List CodedSlice) → AreReadSlices first ps slices → EachSlice P slices → (a : ℕ) (m : CodedMacroblock) → slice_get (macroblocks_of slices) a ≡ Some m → IsFound first ps P a (macroblocks_of slices) m
+pub found : (first : CodedSlice) (ps : List CodedPicture) (P : CodedSlice → Type 0) (slices : List CodedSlice) → AreReadSlices first ps slices → EachSlice P slices → (a : ℕ) (m : CodedMacroblock) → slice_get (macroblocks_of slices) a ≡ Some m → IsFound first ps P a (macroblocks_of slices) m
 found first ps P [] r q a m e = absurd (no-macroblock a m e)
 found first ps P (s ∷ slices) r q a m e = ⊎_elim
     (λ (l : a < length (macroblocks_of slices)).
@@ -92,31 +92,31 @@ unfolding table
 table-length zero f = refl
 table-length (suc n) f = ap (λ k. suc k) (table-length n (λ k. f (suc k)))
 
-context-length : (ps : List CodedPicture) (s : CodedSlice) → length (context_in ps s).references ≡ 16
+pub context-length : (ps : List CodedPicture) (s : CodedSlice) → length (context_in ps s).references ≡ 16
 unfolding slice_context
 context-length ps s = table-length 16 _
 
 -- the index names the picture, by a place of the list
-named-at : (references : List (Option ℕ)) (i n : ℕ) → option_and_then (λ p. p) (slice_get references i) ≡ Some n → get_or references i None ≡ Some n
+pub named-at : (references : List (Option ℕ)) (i n : ℕ) → option_and_then (λ p. p) (slice_get references i) ≡ Some n → get_or references i None ≡ Some n
 named-at references i n e = by (slice_get references i) refl e
   where
     by : (o : Option (Option ℕ)) → slice_get references i ≡ o → option_and_then (λ p. p) o ≡ Some n → get_or references i None ≡ Some n
     by None f e = absurd (cc)
     by (Some x) f e = get_or_from_slice_get references i x None f ∙ e
 
-inside-at : (references : List (Option ℕ)) (i n : ℕ) → option_and_then (λ p. p) (slice_get references i) ≡ Some n → i < length references
+pub inside-at : (references : List (Option ℕ)) (i n : ℕ) → option_and_then (λ p. p) (slice_get references i) ≡ Some n → i < length references
 inside-at references i n e = by (slice_get references i) refl e
   where
     by : (o : Option (Option ℕ)) → slice_get references i ≡ o → option_and_then (λ p. p) o ≡ Some n → i < length references
     by None f e = absurd (cc)
     by (Some x) f e = slice_get_within references i x f
 
-motion-at : (slice : SliceContext) (motions : List (Option Motion)) (n : ℕ) → AllByRecursion (RefersAt slice) motions → RefersAt slice (get_or motions n None)
+pub motion-at : (slice : SliceContext) (motions : List (Option Motion)) (n : ℕ) → AllByRecursion (RefersAt slice) motions → RefersAt slice (get_or motions n None)
 motion-at slice [] n a = tt
 motion-at slice (m ∷ motions) zero a = a.0
 motion-at slice (m ∷ motions) (suc n) a = motion-at slice motions n a.1
 
-some-at : (motions : List (Option Motion)) (n : ℕ) → map is_some motions ≡ replicate 16 true → n < 16 → is_some (get_or motions n None) ≡ true
+pub some-at : (motions : List (Option Motion)) (n : ℕ) → map is_some motions ≡ replicate 16 true → n < 16 → is_some (get_or motions n None) ≡ true
 some-at motions n e h = sym (math.get_or-map is_some motions n None) ∙ ap (λ l. get_or l n false) e ∙ get_or-replicate 16 n true false h
 
 -- ---- one picture

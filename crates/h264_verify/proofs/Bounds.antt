@@ -1,4 +1,4 @@
--- What the verdict says of the buffer, at each picture of a stream.
+-- What the verdict says of predictions and of the buffer, at each picture of a stream.
 use Rattle.std.proofs.Common.{◌≡◌, ℕ, Bool, true, false, List, ◌∷◌, ◌++◌, sym, ◌∙◌, subst}
 use Rattle.h264_base.specs.declared.mode.Mode.TheVariants as modes
 use Rattle.h264_verify.specs.declared.judge.Summary.{Summary}
@@ -9,9 +9,12 @@ use Rattle.h264_verify.specs.Buffering.{within_newest}
 use Rattle.h264_verify.specs.Keeping.{ended_pictures}
 use Rattle.h264_verify.specs.Sound.{AreSound, has_ended}
 use Rattle.h264_verify.specs.Held.{AreAmong}
+use Rattle.h264_verify.specs.Predicting.{ArePredicted}
 use Rattle.h264_verify.specs.Within.{DecodesWithin, EndsWithin}
 use Rattle.h264_verify.specs.Verdict.{AreLegal, Holds}
 use Rattle.h264_verify.proofs.Leaving.{stands, all-sound}
+use Rattle.h264_verify.proofs.Named.{AreRead}
+use Rattle.h264_verify.proofs.Predicting.{read-at, are-predicted}
 use Rattle.h264_verify.proofs.Soundness.{ended-are, sound-at, ended-at}
 use Rattle.h264_verify.proofs.Sound.{size-fits}
 use Rattle.h264_verify.proofs.Referring.{among-within}
@@ -35,6 +38,9 @@ ends-within p ps s = let new = after-sits (p ∷ ps) s in record { within = new.
 module _ (before : History) (told : List Told) (l : AreLegal modes.Full before told) (later : List CodedPicture) (p : CodedPicture) (ps : List CodedPicture) where
   newest : runs_of before ≡ later ++ p ∷ ps → (e : Bool) × AreSound e (p ∷ ps)
   newest e = sound-at (has_ended (goes_on before) false) later p ps (subst (λ (all : List CodedPicture). AreSound (has_ended (goes_on before) false) all) e (stands before told l).sound)
+
+  pub legal-predicted : runs_of before ≡ later ++ p ∷ ps → ArePredicted p ps
+  legal-predicted e = are-predicted p ps (read-at later p ps (subst AreRead e (stands before told l).read)).slices
 
   pub legal-among : runs_of before ≡ later ++ p ∷ ps → AreAmong (held_in (p ∷ ps)) (within_newest (p ∷ ps)).buffer
   legal-among e = let s = newest e in among-within s.0 p ps s.1

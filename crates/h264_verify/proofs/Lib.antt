@@ -44,6 +44,7 @@ pub mod Named
 pub mod Legal
 pub mod Soundness
 pub mod Leaving
+pub mod Predicting
 pub mod Bounds
 pub mod Family
 pub mod Output

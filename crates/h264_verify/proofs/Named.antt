@@ -176,7 +176,7 @@ list-held (kinds.P list) c refs k n e = (refl, by (built c list refs.frames) (bu
     by (Ok slots) a h = let s = slot-named slots k n h in slot-held (IsHeldBy n refs.frames) slots k s.0 a s.1 s.2
     by (Err bit) a h = absurd (no-slot k n h)
 
-named-held : (pictures : List CodedPicture) (s : CodedSlice) (k n : ℕ) → k < 16 → get_or (named_in pictures s) k None ≡ Some n → (is_i s.header.kind.value ≡ false) × Holds n (held_in pictures).frames
+pub named-held : (pictures : List CodedPicture) (s : CodedSlice) (k n : ℕ) → k < 16 → get_or (named_in pictures s) k None ≡ Some n → (is_i s.header.kind.value ≡ false) × Holds n (held_in pictures).frames
 unfolding slice_context
 named-held pictures s k n h e = list-held s.header.kind.value (numbering_of s.sps s.header) (held_in pictures) k n (sym (table-at 16 (λ k. option_and_then picture_in (slice_get (list_in pictures s) k)) k None h) ∙ e)
 

@@ -17,6 +17,7 @@ pub mod Data
 pub mod Sound
 pub mod Held
 pub mod Within
+pub mod Predicting
 pub mod Keeping
 pub mod Units
 pub mod UnitOutcome

@@ -9,6 +9,7 @@ ghost use Rattle.h264_verify.specs.declared.judge.Summary.{Summary};
 ghost use Rattle.h264_verify.specs.Pictures.{CodedPicture, goes_on, held_in, runs_of};
 ghost use Rattle.h264_verify.specs.Buffering.{within_newest};
 ghost use Rattle.h264_verify.specs.Held.{AreAmong};
+ghost use Rattle.h264_verify.specs.Predicting.{ArePredicted};
 ghost use Rattle.h264_verify.specs.Within.{DecodesWithin, EndsWithin};
 ghost use Rattle.h264_verify.specs.Verdict.{Verdict, AreLegal, Holds};
 ghost use Rattle.h264_verify.specs.Telling.{calls_of, AreDecoded};
@@ -28,6 +29,15 @@ pub fn one_verdict()
 /// Each stream has a verdict.
 pub fn some_verdict()
     ensures { (mode : Mode) (bytes : List ℕ) → (told : List Told) × (answer : Result Summary Stop) × Verdict mode bytes told answer }
+{}
+
+/// Every prediction refers to a held picture (8.4.2.1): each of the sixteen blocks of an inter macroblock of a picture `p` behind others, `ps`, refers to a picture that
+/// is held while `p` is decoded, in a stream with a yes (`whole`), and in units that are legal, whatever follows them (`legal`).
+pub fn predictions_are_held()
+    ensures whole { (bytes : List ℕ) (told : List Told) (summary : Summary) (h : Holds Full bytes told summary) (later : List CodedPicture) (p : CodedPicture) (ps : List CodedPicture) →
+        runs_of h.units ≡ later ++ p ∷ ps → ArePredicted p ps }
+    ensures legal { (before : History) (told : List Told) → AreLegal Full before told → (later : List CodedPicture) (p : CodedPicture) (ps : List CodedPicture) →
+        runs_of before ≡ later ++ p ∷ ps → ArePredicted p ps }
 {}
 
 /// While a picture is decoded, each picture that is held for reference has its frame in the buffer (C.4.4, C.4.5): of each picture `p` behind others, `ps`, of a stream
