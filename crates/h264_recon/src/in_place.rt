@@ -15,12 +15,12 @@ ghost use Rattle.h264_recon.specs.Pool.{AreShown, AreUsable};
 ghost use Rattle.h264_recon.specs.Step.{list_of, ArePlaced, AreSaved, Shows, joined};
 
 use crate::blocks::luma4;
-use crate::inter::predicted_luma;
+use crate::inter::{predict_chroma, predict_luma};
 use crate::intra::{predicted_chroma, predicted16};
 use crate::macroblock::{Available, IntraLuma, Macroblock, Prediction};
+use crate::pcm;
 use crate::store::{Lines, Store};
-use crate::sum::sum;
-use crate::{inter, pcm};
+use crate::sum::{add, sum};
 use h264_intra::IntraChromaPredMode;
 use h264_plane::{Component, Frame, Pool};
 use h264_scale::Residuals;
@@ -48,7 +48,7 @@ fn luma_intra(
     }
 }
 
-/// The luma samples of a macroblock.
+/// Writes the luma samples of a macroblock.
 #[inline(always)]
 fn luma(
     m: &Macroblock,
@@ -57,20 +57,25 @@ fn luma(
     pool: &Pool,
     column: usize,
     row: usize,
-) -> [u8; 256]
+    out: &mut [u8; 256],
+)
     requires usable { AreUsable pool.now column row (prediction_in m.now.prediction) }
     requires columns { 16 * column + 16 ≤ vec_len store.now.above }
     requires more { IsTrue m.now.available.above_right → 16 * column + 20 ≤ vec_len store.now.above }
     requires small { (column < 1024) × (row < 1024) }
-    ensures { (k : Setting) (l : Levels) → column < k.across → row < k.down → IsPossible (prediction_in m.now.prediction) m.now.available → AreShown k pool.now (prediction_in m.now.prediction) → IsResidual l Y (unwrap_or residual.now []) → IsMadeFrom k column row (coded m.now l) Y store.now result }
+    ensures { (k : Setting) (l : Levels) → column < k.across → row < k.down → IsPossible (prediction_in m.now.prediction) m.now.available → AreShown k pool.now (prediction_in m.now.prediction) → IsResidual l Y (unwrap_or residual.now []) → IsMadeFrom k column row (coded m.now l) Y store.now out.new }
 {
     match &m.prediction {
-        Prediction::Intra(modes) => luma_intra(&modes.luma, m.available, residual, store, column),
-        Prediction::Inter(motions) => {
-            let predicted = predicted_luma(motions, pool, column, row);
-            sum::<256>(&predicted, residual)
+        Prediction::Intra(modes) => {
+            *out = luma_intra(&modes.luma, m.available, residual, store, column);
         }
-        Prediction::Pcm(samples) => pcm::luma(samples),
+        Prediction::Inter(motions) => {
+            predict_luma(motions, pool, column, row, out);
+            add::<256>(out, residual);
+        }
+        Prediction::Pcm(samples) => {
+            *out = pcm::luma(samples);
+        }
     }
 }
 
@@ -91,7 +96,7 @@ fn chroma_intra(
     sum::<64>(&predicted, residual)
 }
 
-/// The samples of a chroma plane of a macroblock.
+/// Writes the samples of a chroma plane of a macroblock.
 #[inline(always)]
 fn chroma<const CR: bool>(
     m: &Macroblock,
@@ -100,21 +105,24 @@ fn chroma<const CR: bool>(
     pool: &Pool,
     column: usize,
     row: usize,
-) -> [u8; 64]
+    out: &mut [u8; 64],
+)
     requires usable { AreUsable pool.now column row (prediction_in m.now.prediction) }
     requires columns { 8 * column + 8 ≤ vec_len store.now.above }
     requires small { (column < 1024) × (row < 1024) }
-    ensures { (k : Setting) (l : Levels) → column < k.across → row < k.down → IsPossible (prediction_in m.now.prediction) m.now.available → AreShown k pool.now (prediction_in m.now.prediction) → IsResidual l (chroma_plane CR) (unwrap_or residual.now []) → IsMadeFrom k column row (coded m.now l) (chroma_plane CR) store.now result }
+    ensures { (k : Setting) (l : Levels) → column < k.across → row < k.down → IsPossible (prediction_in m.now.prediction) m.now.available → AreShown k pool.now (prediction_in m.now.prediction) → IsResidual l (chroma_plane CR) (unwrap_or residual.now []) → IsMadeFrom k column row (coded m.now l) (chroma_plane CR) store.now out.new }
 {
     match &m.prediction {
         Prediction::Intra(modes) => {
-            chroma_intra(modes.chroma, m.available, residual, store, column)
+            *out = chroma_intra(modes.chroma, m.available, residual, store, column);
         }
         Prediction::Inter(motions) => {
-            let predicted = inter::predicted_chroma::<CR>(motions, pool, column, row);
-            sum::<64>(&predicted, residual)
+            predict_chroma::<CR>(motions, pool, column, row, out);
+            add::<64>(out, residual);
         }
-        Prediction::Pcm(samples) => pcm::chroma::<CR>(samples),
+        Prediction::Pcm(samples) => {
+            *out = pcm::chroma::<CR>(samples);
+        }
     }
 }
 
@@ -173,9 +181,12 @@ pub fn construct(
     ensures some { (k : Setting) (l : Levels) (u : Component → ℕ → ℕ → ℕ) → column < k.across → row < k.down → IsAllowed (coded m.now l) k.across column row →
         AreShown k pool.now (prediction_in m.now.prediction) → AreResiduals l residuals.now → AreStored k.across column row u lines.old → IsMade k column row (coded m.now l) (joined column row frame.new u) }
 {
-    let y = luma(m, &residuals.y, &lines.y, pool, column, row);
-    let cb = chroma::<false>(m, &residuals.cb, &lines.cb, pool, column, row);
-    let cr = chroma::<true>(m, &residuals.cr, &lines.cr, pool, column, row);
+    let mut y = [0; 256];
+    luma(m, &residuals.y, &lines.y, pool, column, row, &mut y);
+    let mut cb = [0; 64];
+    chroma::<false>(m, &residuals.cb, &lines.cb, pool, column, row, &mut cb);
+    let mut cr = [0; 64];
+    chroma::<true>(m, &residuals.cr, &lines.cr, pool, column, row, &mut cr);
     place(frame, column, row, &y, &cb, &cr);
     save(lines, column, &y, &cb, &cr);
 }

@@ -141,44 +141,40 @@ fn luma_quarter(
     out
 }
 
-/// The predicted luma samples of the macroblock at this column and row, which moves as a whole.
+/// Writes the predicted luma samples of the macroblock at this column and row, which moves as a whole.
 #[inline]
-fn luma_whole(motion: Motion, pool: &Pool, column: usize, row: usize) -> [u8; 256]
+fn luma_whole(motion: Motion, pool: &Pool, column: usize, row: usize, out: &mut [u8; 256])
     requires small { (column < 1024) × (row < 1024) }
     requires room { HasRoom pool.now column row motion.picture }
-    ensures { HasBlock 16 16 result (from_pool pool.now (replicate 16 motion) column row Y) }
+    ensures { HasBlock 16 16 out.new (from_pool pool.now (replicate 16 motion) column row Y) }
 {
-    let mut out = [0; 256];
     let plane = &pool.frame(usize::from(motion.picture)).y;
-    luma::<16, 16>(plane, 16 * column, 16 * row, motion.vector, &mut out);
-    out
+    luma::<16, 16>(plane, 16 * column, 16 * row, motion.vector, out);
 }
 
 /// Those of one whose places have motions of their own.
 #[inline(never)]
-fn luma_quarters(motion: &[Motion; 16], pool: &Pool, column: usize, row: usize) -> [u8; 256]
+fn luma_quarters(motion: &[Motion; 16], pool: &Pool, column: usize, row: usize, out: &mut [u8; 256])
     requires small { (column < 1024) × (row < 1024) }
     requires room { HaveRoom pool.now column row motion.now }
-    ensures { HasBlock 16 16 result (from_pool pool.now motion.now column row Y) }
+    ensures { HasBlock 16 16 out.new (from_pool pool.now motion.now column row Y) }
 {
-    let mut out = [0; 256];
     for k in 0..4 {
         let quarter = luma_quarter(motion, pool, column, row, k % 2, k / 2);
-        put8(&mut out, k % 2, k / 2, &quarter);
+        put8(out, k % 2, k / 2, &quarter);
     }
-    out
 }
 
-/// The predicted luma samples of the macroblock at this column and row.
+/// Writes the predicted luma samples of the macroblock at this column and row.
 #[inline]
-pub fn predicted_luma(motions: &Motions, pool: &Pool, column: usize, row: usize) -> [u8; 256]
+pub fn predict_luma(motions: &Motions, pool: &Pool, column: usize, row: usize, out: &mut [u8; 256])
     requires small { (column < 1024) × (row < 1024) }
     requires room { HaveRoom pool.now column row (motions_in motions.now) }
-    ensures { HasBlock 16 16 result (from_pool pool.now (motions_in motions.now) column row Y) }
+    ensures { HasBlock 16 16 out.new (from_pool pool.now (motions_in motions.now) column row Y) }
 {
     match motions {
-        Motions::Whole(motion) => luma_whole(*motion, pool, column, row),
-        Motions::Each(motion) => luma_quarters(motion, pool, column, row),
+        Motions::Whole(motion) => luma_whole(*motion, pool, column, row, out),
+        Motions::Each(motion) => luma_quarters(motion, pool, column, row, out),
     }
 }
 
@@ -233,17 +229,21 @@ fn chroma_quarter<const CR: bool>(
     out
 }
 
-/// The predicted samples of a chroma plane of the macroblock at this column and row, which moves as a whole.
+/// Writes the predicted samples of a chroma plane of the macroblock at this column and row, which moves as a whole.
 #[inline]
-fn chroma_whole<const CR: bool>(motion: Motion, pool: &Pool, column: usize, row: usize) -> [u8; 64]
+fn chroma_whole<const CR: bool>(
+    motion: Motion,
+    pool: &Pool,
+    column: usize,
+    row: usize,
+    out: &mut [u8; 64],
+)
     requires small { (column < 1024) × (row < 1024) }
     requires room { HasRoom pool.now column row motion.picture }
-    ensures { HasBlock 8 8 result (from_pool pool.now (replicate 16 motion) column row (chroma_plane CR)) }
+    ensures { HasBlock 8 8 out.new (from_pool pool.now (replicate 16 motion) column row (chroma_plane CR)) }
 {
-    let mut out = [0; 64];
     let plane = plane_of::<CR>(pool.frame(usize::from(motion.picture)));
-    chroma::<8, 8>(plane, 8 * column, 8 * row, motion.vector, &mut out);
-    out
+    chroma::<8, 8>(plane, 8 * column, 8 * row, motion.vector, out);
 }
 
 /// Those of one whose places have motions of their own.
@@ -253,33 +253,33 @@ fn chroma_quarters<const CR: bool>(
     pool: &Pool,
     column: usize,
     row: usize,
-) -> [u8; 64]
+    out: &mut [u8; 64],
+)
     requires small { (column < 1024) × (row < 1024) }
     requires room { HaveRoom pool.now column row motion.now }
-    ensures { HasBlock 8 8 result (from_pool pool.now motion.now column row (chroma_plane CR)) }
+    ensures { HasBlock 8 8 out.new (from_pool pool.now motion.now column row (chroma_plane CR)) }
 {
-    let mut out = [0; 64];
     for k in 0..4 {
         let quarter = chroma_quarter::<CR>(motion, pool, column, row, k % 2, k / 2);
-        put4(&mut out, k % 2, k / 2, &quarter);
+        put4(out, k % 2, k / 2, &quarter);
     }
-    out
 }
 
-/// The predicted samples of a chroma plane of the macroblock at this column and row.
+/// Writes the predicted samples of a chroma plane of the macroblock at this column and row.
 #[inline]
-pub fn predicted_chroma<const CR: bool>(
+pub fn predict_chroma<const CR: bool>(
     motions: &Motions,
     pool: &Pool,
     column: usize,
     row: usize,
-) -> [u8; 64]
+    out: &mut [u8; 64],
+)
     requires small { (column < 1024) × (row < 1024) }
     requires room { HaveRoom pool.now column row (motions_in motions.now) }
-    ensures { HasBlock 8 8 result (from_pool pool.now (motions_in motions.now) column row (chroma_plane CR)) }
+    ensures { HasBlock 8 8 out.new (from_pool pool.now (motions_in motions.now) column row (chroma_plane CR)) }
 {
     match motions {
-        Motions::Whole(motion) => chroma_whole::<CR>(*motion, pool, column, row),
-        Motions::Each(motion) => chroma_quarters::<CR>(motion, pool, column, row),
+        Motions::Whole(motion) => chroma_whole::<CR>(*motion, pool, column, row, out),
+        Motions::Each(motion) => chroma_quarters::<CR>(motion, pool, column, row, out),
     }
 }

@@ -1,12 +1,12 @@
 ghost use Rattle.std.specs.Prelude.{◌≡◌, ℕ, ◌<◌, length, slice_index, get_or, unwrap_or, [], pos, ◌+ℤ◌};
 ghost use Rattle.h264_plane.specs.Clip.{clip1 as clip1_of};
 
-/// A constructed sample (8.5.14). A sum beyond 16 bits is above 255.
+/// A constructed sample (8.5.14). A residual of 255 and more makes 255 of each sample, one of -255 and less 0.
 #[inline(always)]
 fn added(predicted: u8, residual: i16) -> u8
     ensures { result ≡ clip1_of (pos predicted +ℤ residual) }
 {
-    i16::from(predicted).saturating_add(residual).clamp(0, 255) as u8
+    (i16::from(predicted) + residual.clamp(-255, 255)).clamp(0, 255) as u8
 }
 
 /// The constructed samples of a block that has a residual.
@@ -52,5 +52,36 @@ pub fn sum<const N: usize>(predicted: &[u8; N], residual: &Option<[i16; N]>) -> 
     match residual {
         None => without_residual::<N>(predicted),
         Some(residual) => with_residual::<N>(predicted, residual),
+    }
+}
+
+/// Adds the residual of a block to its predicted samples.
+#[inline(always)]
+fn add_residual<const N: usize>(samples: &mut [u8; N], residual: &[i16; N])
+    ensures { (k : ℕ) → k < N → slice_index samples.new k ≡ clip1_of (pos (slice_index samples.old k) +ℤ get_or residual.now k (pos 0)) }
+{
+    for k in 0..N {
+        samples[k] = added(samples[k], residual[k]);
+    }
+}
+
+/// Predicted samples without a residual stay as they are.
+#[inline(always)]
+fn add_nothing<const N: usize>(samples: &mut [u8; N])
+    ensures { (k : ℕ) → k < N → slice_index samples.new k ≡ clip1_of (pos (slice_index samples.old k) +ℤ pos 0) }
+{
+    for k in 0..N {
+        samples[k] = alone(samples[k]);
+    }
+}
+
+/// Makes the constructed samples of a block of its predicted ones.
+#[inline(always)]
+pub fn add<const N: usize>(samples: &mut [u8; N], residual: &Option<[i16; N]>)
+    ensures { (k : ℕ) → k < N → slice_index samples.new k ≡ clip1_of (pos (slice_index samples.old k) +ℤ get_or (unwrap_or residual.now []) k (pos 0)) }
+{
+    match residual {
+        None => add_nothing::<N>(samples),
+        Some(residual) => add_residual::<N>(samples, residual),
     }
 }

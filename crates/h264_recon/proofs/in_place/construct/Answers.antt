@@ -6,11 +6,11 @@ use Rattle.h264_recon.proofs.in_place.construct.Goals as goal
 pub returns-clause-step : goal.returns-clause-step
 returns-clause-step c =
     let a = c.args in
-    let own = list_of c.luma-y.result c.chroma-cb.result c.chroma-cr.result in
+    let own = list_of c.luma.new.out c.chroma.new.out c.chroma-2.new.out in
     λ k l u inside below ok shown is mu held.
     let m = coded a.m.now l in
-    let made = made_all k a.column a.row m a.lines.now _ _ _ (c.luma-y.ensures k l inside below ok.possible shown is.y) (c.chroma-cb.ensures k l inside below ok.possible shown is.cb)
-    (c.chroma-cr.ensures k l inside below ok.possible shown is.cr) in (
+    let made = made_all k a.column a.row m a.lines.now _ _ _ (c.luma.ensures k l inside below ok.possible shown is.y) (c.chroma.ensures k l inside below ok.possible shown is.cb)
+    (c.chroma-2.ensures k l inside below ok.possible shown is.cr) in (
       stored_next k a.column a.row m u a.lines.now c.save.new.lines own inside ok.within ok.possible mu held made c.save.ensures,
       shows k a.column a.row m u a.lines.now own a.frame.now c.place.new.frame inside ok.within ok.possible mu held made c.place.ensures,
     )
@@ -18,11 +18,11 @@ returns-clause-step c =
 pub returns-clause-some : goal.returns-clause-some
 returns-clause-some c =
     let a = c.args in
-    let own = list_of c.luma-y.result c.chroma-cb.result c.chroma-cr.result in
+    let own = list_of c.luma.new.out c.chroma.new.out c.chroma-2.new.out in
     λ k l u inside below ok shown is held.
     let m = coded a.m.now l in
-    let made = made_all k a.column a.row m a.lines.now _ _ _ (c.luma-y.ensures k l inside below ok.possible shown is.y) (c.chroma-cb.ensures k l inside below ok.possible shown is.cb)
-    (c.chroma-cr.ensures k l inside below ok.possible shown is.cr) in
+    let made = made_all k a.column a.row m a.lines.now _ _ _ (c.luma.ensures k l inside below ok.possible shown is.y) (c.chroma.ensures k l inside below ok.possible shown is.cb)
+    (c.chroma-2.ensures k l inside below ok.possible shown is.cr) in
     joined_made k a.column a.row m u a.lines.now own a.frame.now c.place.new.frame inside ok.within ok.possible held made
     (room_all a.column a.row a.frame.now c.requires.y c.requires.cb c.requires.cr) c.place.ensures
 

@@ -14,8 +14,8 @@ pub returns-in-Inter : goal.returns-in-Inter
 returns-in-Inter c =
     let a = c.args in
     λ k l inside below ok shown is.
-    inter_made k a.pool.now a.column a.row (coded a.m.now l) Y a.store.now (motions_in c.in-Inter.motions) c.predicted_luma-predicted.result c.sum.result (unwrap_or a.residual.now []) inside below (ap prediction_in c.in-Inter.is) shown is
-    c.predicted_luma-predicted.ensures.each (λ x y i j. c.sum.ensures.each (16 * y + x) (omega arith))
+    inter_made k a.pool.now a.column a.row (coded a.m.now l) Y a.store.now (motions_in c.in-Inter.motions) c.predict_luma.new.out c.add.new.samples (unwrap_or a.residual.now []) inside below (ap prediction_in c.in-Inter.is) shown is
+    c.predict_luma.ensures.each (λ x y i j. c.add.ensures (16 * y + x) (omega arith))
 
 pub returns-in-Pcm : goal.returns-in-Pcm
 returns-in-Pcm c = λ k l inside below ok shown is. rw c.luma.ensures (luma_pcm k _ _ (coded c.args.m.now l) _ (pcm_of c.in-Pcm.samples.now) (ap prediction_in c.in-Pcm.is))
