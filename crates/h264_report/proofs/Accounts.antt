@@ -1,5 +1,5 @@
 -- What a sink took of a stream that was judged, and what its writer holds of it.
-use Rattle.std.proofs.Common.{◌≡◌, ℕ, ◌+◌, ◌<◌, Bool, true, false, List, [], ◌∷◌, ◌++◌, Option, None, Some, Result, Ok, Err, ◌⊎◌, inl, inr, refl, sym, ap, ◌∙◌, subst, arith}
+use Rattle.std.proofs.Common.{⊎_elim, ◌≡◌, ℕ, ◌+◌, ◌<◌, Bool, true, false, List, [], ◌∷◌, ◌++◌, Option, None, Some, Result, Ok, Err, ◌⊎◌, inl, inr, refl, sym, ap, ◌∙◌, subst, arith}
 use Rattle.std.proofs.lemmas.List.{append-nil, append_assoc}
 use Rattle.std.specs.Io.KnownBytes.{Keeps}
 use Rattle.circular_buffer.specs.Buffer.{keep_last}
@@ -10,7 +10,8 @@ use Rattle.h264_base.specs.declared.stop.Stop.{Stop}
 use Rattle.h264_base.specs.declared.stop.Stop.TheVariants.{No, Outside, Memory, Read, Write}
 use Rattle.h264_plane.specs.Frames.{no_frame}
 use Rattle.h264_plane.specs.declared.frame.Frame.{Frame}
-use Rattle.h264_report.specs.Sent.{Sends, SendsSome, HoldsSent, Takes}
+use Rattle.h264_report.specs.Sent.{Sends, SendsSome, HoldsSent, Takes, IsBlamed}
+use Rattle.std.proofs.lemmas.Bool.{false≢true}
 use Rattle.h264_report.specs.Told.{line_of, lines_of, bytes_of, elements_of, IsLine, IsFrame, TookLines, TookFrames}
 use Rattle.h264_report.specs.Written.{OfBytes, IsFront, Answers, Account, calls_in, BreaksOff, IsWritten, Writes, last_line, Lists, trail_text, Checks, Decodes}
 use Rattle.h264_report.specs.declared.listing.Listing.{Listing}
@@ -135,9 +136,10 @@ takes-behind false {a} {b} c {bs} cs p q = some-behind p q
 
 -- ---- sinks that were told nothing
 
-pub none-lines : {name reference : ℕ} {listing l : Listing} {start known : Option (List ℕ)} {frames failures : ℕ} → reference ≡ name → l ≡ listing → known ≡ start → frames ≡ 0 → failures ≡ 0 → TookLines name listing start reference l frames failures known []
+pub none-lines : {name reference : ℕ} {listing l : Listing} {start known : Option (List ℕ)} {frames failures : ℕ} {short broken : Bool} → reference ≡ name → l ≡ listing → known ≡ start → frames ≡ 0 → failures ≡ 0 → TookLines name listing start reference l frames failures short broken known []
 unfolding lines_of
 none-lines {name} {reference} {listing} {l} {start} {known} same lists unwritten frames quiet = record {
+  blamed = λ p. absurd (omega (arith, p, quiet));
   same_reference = same;
   same_listing = lists;
   holds = record {
@@ -146,16 +148,34 @@ none-lines {name} {reference} {listing} {l} {start} {known} same lists unwritten
   };
 }
 
-pub none-frames : {name reference : ℕ} {start known : Option (List ℕ)} {failures : ℕ} → reference ≡ name → known ≡ start → failures ≡ 0 → TookFrames name start reference failures known []
+pub none-frames : {name reference : ℕ} {start known : Option (List ℕ)} {failures : ℕ} {broken : Bool} → reference ≡ name → known ≡ start → failures ≡ 0 → TookFrames name start reference failures broken known []
 unfolding bytes_of
 none-frames {name} {reference} {start} {known} same unwritten quiet = record {
+  blamed = λ p. absurd (omega (arith, p, quiet));
   same_reference = same;
   holds = record { whole = λ e. subst (λ k. Sends start k []) (sym unwritten) (sends-none start); front = λ p. absurd (omega (arith, p, quiet)) };
 }
 
 -- what a sink holds is that of the listing for which it was made
-pub of-listing : {name reference : ℕ} {listing l : Listing} {start known : Option (List ℕ)} {frames failures : ℕ} {calls : List Call} → TookLines name listing start reference l frames failures known calls → HoldsSent (IsLine listing) start failures known (lines_of listing 0 calls)
+pub of-listing : {name reference : ℕ} {listing l : Listing} {start known : Option (List ℕ)} {frames failures : ℕ} {short broken : Bool} {calls : List Call} → TookLines name listing start reference l frames failures short broken known calls → HoldsSent (IsLine listing) start failures known (lines_of listing 0 calls)
 of-listing {name} {reference} {listing} {l} {start} {known} {frames} {failures} {calls} h = subst (λ x. HoldsSent (IsLine x) start failures known (lines_of x 0 calls)) h.same_listing h.holds.sent
+
+-- the first failure, where memory was not short, is the device's
+pub device-blamed : {n : ℕ} {broken : Bool} → n ≡ 0 + 1 → IsBlamed n false broken → broken ≡ true
+device-blamed e b = ⊎_elim (λ f. absurd (false≢true f)) (λ t. t) (b (omega (arith, e)))
+
+-- what has failed stays so
+pub still-failed : (written mid new : Bool) → (written ≡ true → new ≡ mid) → (written ≡ false → new ≡ true) → mid ≡ true → new ≡ true
+still-failed true mid new same broke e = same refl ∙ e
+still-failed false mid new same broke e = broke refl
+
+-- an answer that is told, where want of memory may stand in its place
+pub is-write : {answer said : Result Summary Stop} → said ≡ Err Write → (said ≡ answer) ⊎ (said ≡ Err Memory) → answer ≡ Err Write
+is-write w t = ⊎_elim (λ e. sym e ∙ w) (λ e. absurd (let d = sym e ∙ w in cc)) t
+
+-- a write that is told to have failed did
+pub was-write : (answer said : Result Summary Stop) → said ≡ Err Write → (said ≡ answer) ⊎ ((answer ≡ Err Write) × (said ≡ Err Memory)) → answer ≡ Err Write
+was-write answer said w t = is-write w (⊎_elim (λ e. inl e) (λ m. inr m.1) t)
 
 -- the answer that is told where a sink was short of memory
 pub told-short : {Next : List ℕ → Type 0} {all : List Call → List ℕ} {mode : Mode} {bytes : List ℕ} {old new : Option (List ℕ)} → SomeNext Next → (answer said : Result Summary Stop) → (said ≡ answer) ⊎ ((answer ≡ Err Write) × (said ≡ Err Memory)) → Writes Next all mode bytes answer old new → Writes Next all mode bytes said old new

@@ -1,5 +1,5 @@
 -- What a sink's writer holds, from one call to the next.
-use Rattle.std.proofs.Common.{◌≡◌, Result, Ok, Err, OnOk, OnErr, length, ℕ, ℤ, ◌+◌, ◌<◌, List, [], ◌∷◌, ◌++◌, Option, refl, sym, ap, ◌∙◌, subst, arith}
+use Rattle.std.proofs.Common.{Bool, ◌≡◌, Result, Ok, Err, OnOk, OnErr, length, ℕ, ℤ, ◌+◌, ◌<◌, List, [], ◌∷◌, ◌++◌, Option, refl, sym, ap, ◌∙◌, subst, arith}
 use Rattle.std.proofs.lemmas.List.{append-nil, length-append}
 use Rattle.h264_base.specs.Call.{Call, OfElement}
 use Rattle.h264_base.specs.declared.element_name.ElementName.{ElementName}
@@ -34,8 +34,8 @@ skip-line {l} {start} {f} {n} {k} {before} call none zero h = record {
 }
 
 -- the same of a sink
-pub skipped : {name reference : ℕ} {listing l : Listing} {start : Option (List ℕ)} {f n : ℕ} {k : Option (List ℕ)} {before : List Call} (call : Call) → ((m : ℕ) → line_of l m call ≡ []) → counted l call ≡ 0 → TookLines name listing start reference l f n k before → TookLines name listing start reference l f n k (before ++ call ∷ [])
-skipped call none zero h = record { same_reference = h.same_reference; same_listing = h.same_listing; holds = skip-line call none zero h.holds }
+pub skipped : {name reference : ℕ} {listing l : Listing} {start : Option (List ℕ)} {f n : ℕ} {short failed : Bool} {k : Option (List ℕ)} {before : List Call} (call : Call) → ((m : ℕ) → line_of l m call ≡ []) → counted l call ≡ 0 → TookLines name listing start reference l f n short failed k before → TookLines name listing start reference l f n short failed k (before ++ call ∷ [])
+skipped call none zero h = record { same_reference = h.same_reference; same_listing = h.same_listing; holds = skip-line call none zero h.holds; blamed = h.blamed }
 
 -- a call whose line was written
 pub take-line : {l : Listing} {start : Option (List ℕ)} {f f' n n' : ℕ} {k k' : Option (List ℕ)} {before : List Call} {text : List ℕ} (call : Call) → line_of l f call ≡ text → n ≡ 0 → n' ≡ 0 → f' ≡ f + counted l call → HoldsLines l start f n k before → Sends k k' text → HoldsLines l start f' n' k' (before ++ call ∷ [])
@@ -76,8 +76,8 @@ pub skip-bytes : {start : Option (List ℕ)} {n : ℕ} {k : Option (List ℕ)} (
 skip-bytes before call none h = sent-is (sym (bytes-more before call ∙ ap (λ x. bytes_of before ++ x) none ∙ append-nil (bytes_of before))) h
 
 -- the same of a sink
-pub passed : {name reference : ℕ} {start : Option (List ℕ)} {n : ℕ} {k : Option (List ℕ)} (before : List Call) (call : Call) → bytes_in call ≡ [] → TookFrames name start reference n k before → TookFrames name start reference n k (before ++ call ∷ [])
-passed before call none h = record { same_reference = h.same_reference; holds = skip-bytes before call none h.holds }
+pub passed : {name reference : ℕ} {start : Option (List ℕ)} {n : ℕ} {failed : Bool} {k : Option (List ℕ)} (before : List Call) (call : Call) → bytes_in call ≡ [] → TookFrames name start reference n failed k before → TookFrames name start reference n failed k (before ++ call ∷ [])
+passed before call none h = record { same_reference = h.same_reference; holds = skip-bytes before call none h.holds; blamed = h.blamed }
 
 pub no-line : (l : Listing) (m : ℕ) (name : ElementName) (bit : ℕ) (value : ℤ) → line_of l m (OfElement name bit value) ≡ []
 no-line listings.Nothing m name bit value = refl

@@ -1,5 +1,5 @@
 -- What a writer holds that was sent bytes, where it tells what it holds.
-use Rattle.std.specs.Prelude.{◌≡◌, ◌<◌, ℕ, Bool, true, false, List, ◌++◌, length, Option}
+use Rattle.std.specs.Prelude.{◌≡◌, ◌<◌, ℕ, Bool, true, false, List, ◌++◌, length, Option, ◌⊎◌}
 use Rattle.std.specs.Io.KnownBytes.{Appends}
 
 -- part stands at the front of bytes, and is not all of them
@@ -42,3 +42,7 @@ pub record HoldsSent (Next : List ℕ → Type 0) (start : Option (List ℕ)) (f
 abbrev pub Takes : Bool → Option (List ℕ) → Option (List ℕ) → List ℕ → Type 0
 Takes true old new bytes = Sends old new bytes
 Takes false old new bytes = SendsSome old new bytes
+
+-- After a failure memory was short, or the device has failed.
+abbrev pub IsBlamed : (failures : ℕ) (short failed : Bool) → Type 0
+IsBlamed failures short failed = 0 < failures → (short ≡ true) ⊎ (failed ≡ true)

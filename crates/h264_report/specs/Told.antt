@@ -1,8 +1,8 @@
 -- What sinks make of the calls of a stream: lines, bytes of frames, and the last elements.
-use Rattle.std.specs.Prelude.{ℕ, ◌+◌, ◌≡◌, ◌∷◌, ◌++◌, ℤ, Option, List, []}
+use Rattle.std.specs.Prelude.{Bool, false, ℕ, ◌+◌, ◌≡◌, ◌∷◌, ◌++◌, ℤ, Option, List, []}
 use Rattle.h264_base.specs.Call.{Call, OfUnit, OfSlice, OfElement, OfFrame}
 use Rattle.h264_report.specs.Lines.{unit_text, slice_text, frame_text}
-use Rattle.h264_report.specs.Sent.{HoldsSent}
+use Rattle.h264_report.specs.Sent.{HoldsSent, IsBlamed}
 use Rattle.h264_report.specs.declared.listing.Listing.{Listing}
 use Rattle.h264_report.specs.declared.listing.Listing.TheVariants as listings
 use Rattle.h264_report.specs.declared.trail.Element.{Element}
@@ -66,13 +66,15 @@ pub record HoldsLines (listing : Listing) (start : Option (List ℕ)) (frames fa
   pub counts : frames ≡ counted_of listing calls
   pub sent : HoldsSent (IsLine listing) start failures known (lines_of listing 0 calls)
 
--- The same through this reference and for this listing.
-pub record TookLines (name : ℕ) (listing : Listing) (start : Option (List ℕ)) (reference : ℕ) (lists : Listing) (frames failures : ℕ) (known : Option (List ℕ)) (calls : List Call) : Type 0 where
+-- The same through this reference and for this listing; each failure is one of memory or of the device.
+pub record TookLines (name : ℕ) (listing : Listing) (start : Option (List ℕ)) (reference : ℕ) (lists : Listing) (frames failures : ℕ) (short failed : Bool) (known : Option (List ℕ)) (calls : List Call) : Type 0 where
   pub same_reference : reference ≡ name
   pub same_listing : lists ≡ listing
   pub holds : HoldsLines lists start frames failures known calls
+  pub blamed : IsBlamed failures short failed
 
--- Through this reference the writer took the bytes of the frames of these calls since the start.
-pub record TookFrames (name : ℕ) (start : Option (List ℕ)) (reference : ℕ) (failures : ℕ) (known : Option (List ℕ)) (calls : List Call) : Type 0 where
+-- Through this reference the writer took the bytes of the frames of these calls since the start; each failure is one of the device.
+pub record TookFrames (name : ℕ) (start : Option (List ℕ)) (reference : ℕ) (failures : ℕ) (failed : Bool) (known : Option (List ℕ)) (calls : List Call) : Type 0 where
   pub same_reference : reference ≡ name
   pub holds : HoldsSent IsFrame start failures known (bytes_of calls)
+  pub blamed : IsBlamed failures false failed

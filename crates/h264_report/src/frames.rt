@@ -1,25 +1,25 @@
 //! Frames as bytes, and their digests.
 #![tactic(auto)]
 
-ghost use Rattle.std.specs.Prelude.{◌≡◌, ℕ, ◌+◌, ◌++◌, ◌<◌, ◌≤◌, IsTrue, List, OnOk, OnErr};
+ghost use Rattle.std.specs.Prelude.{◌≡◌, ℕ, ◌+◌, ◌++◌, ◌<◌, ◌≤◌, true, IsTrue, List, OnOk, OnErr};
 ghost use Rattle.md5.specs.Md5.{md5, Holds};
 ghost use Rattle.h264_dpb.specs.Shown.{fits, width_in, height_in, cropped};
 ghost use Rattle.h264_report.specs.Sent.{Sends, SendsFront};
 ghost use Rattle.h264_report.specs.Rows.{row_count, rows_before};
 ghost use Rattle.h264_report.specs.Frames.{shown_bytes};
 
+use crate::device::Device;
 use crate::rows::{row_at, row_count};
 use crate::send::send;
 use h264_base::Failed;
 use h264_dpb::Rectangle;
 use h264_plane::Frame;
 use md5::{Digest, Md5};
-use std::io::Write;
 
 /// Writes what is shown of a frame: the rows of Y, then of Cb, then of Cr.
 ///
-/// Failed: the writer failed, and it was sent a part of them, which is not the whole.
-pub(crate) fn send_frame<W: Write>(
+/// Failed: the device failed, and it was sent a part of them, which is not the whole.
+pub(crate) fn send_frame<W: Device>(
     out: &mut W,
     frame: &Frame,
     rectangle: Rectangle,
@@ -27,6 +27,8 @@ pub(crate) fn send_frame<W: Write>(
     requires { IsTrue (fits rectangle frame.now) }
     ensures ok { OnOk result (Sends (W.contents out.old) (W.contents out.new) (shown_bytes frame.now rectangle)) }
     ensures front { OnErr result (SendsFront (W.contents out.old) (W.contents out.new) (shown_bytes frame.now rectangle)) }
+    ensures quiet { OnOk result (W.has_failed out.new ≡ W.has_failed out.old) }
+    ensures failed { OnErr result (W.has_failed out.new ≡ true) }
 {
     for k in 0..row_count(frame, rectangle) {
         match send(out, row_at(frame, rectangle, k)) {

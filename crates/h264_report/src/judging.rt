@@ -1,12 +1,13 @@
 //! A stream judged, and what is found written: lines, the last elements or the frames, and the last line.
 #![tactic(auto)]
 
-ghost use Rattle.std.specs.Prelude.{◌≡◌, ℕ, ◌+◌, ◌-◌, ◌<◌, ◌⊎◌, ◌^◌, List, ◌++◌, Some, Ok, Err, IfOk, IsErrOf, string_bytes};
+ghost use Rattle.std.specs.Prelude.{◌≡◌, ℕ, ◌+◌, ◌-◌, ◌<◌, ◌⊎◌, ◌^◌, true, false, List, ◌++◌, Some, Ok, Err, IfOk, IsErrOf, string_bytes};
 ghost use Rattle.h264_base.specs.declared.mode.Mode.TheVariants as modes;
 ghost use Rattle.h264_report.specs.Sent.{Takes};
 ghost use Rattle.h264_report.specs.Told.{ended, lines_of, bytes_of, IsLine, IsFrame};
 ghost use Rattle.h264_report.specs.Written.{OfBytes, Writes, Lists, Checks, Decodes, last_line, trail_text, answer_status, status_of};
 
+use crate::device::Device;
 use crate::line_sink::LineSink;
 use crate::lines::verdict_line;
 use crate::listing::Listing;
@@ -15,10 +16,9 @@ use crate::sheet::{Pen, Sheet};
 use crate::trail::Trail;
 use crate::trail_sink::TrailSink;
 use crate::yuv_sink::YuvSink;
-use h264_base::{Mode, Stop};
+use h264_base::{Failed, Mode, Stop};
 use h264_verify::{Source, Summary, run};
 use std::alloc::{AllocError, Global};
-use std::io::Write;
 use std::marker::Brand;
 
 /// How a judgement ended.
@@ -57,8 +57,10 @@ impl Ending {
 }
 
 /// Writes a text, and a line with its end behind it, and all that was held back; whether that was possible.
-fn put<W: Write>(text: &str, line: &str, out: &mut W) -> bool
-    ensures { Takes result (W.contents out.old) (W.contents out.new) (text.now ++ ended line.now) }
+fn put<W: Device>(text: &str, line: &str, out: &mut W) -> bool
+    ensures text { Takes result (W.contents out.old) (W.contents out.new) (text.now ++ ended line.now) }
+    ensures quiet { result ≡ true → W.has_failed out.new ≡ W.has_failed out.old }
+    ensures failed { result ≡ false → W.has_failed out.new ≡ true }
 {
     if send(out, text.as_bytes()).is_err() {
         return false;
@@ -69,16 +71,18 @@ fn put<W: Write>(text: &str, line: &str, out: &mut W) -> bool
     if send(out, b"\n").is_err() {
         return false;
     }
-    match out.flush() {
+    match out.send_rest() {
         Ok(()) => true,
-        Err(_) => false,
+        Err(Failed) => false,
     }
 }
 
 /// Writes the last line of want of memory.
-pub fn put_memory<W: Write>(out: &mut W) -> Ending
+pub fn put_memory<W: Device>(out: &mut W) -> Ending
     ensures answer { result.answer ≡ Err Stop.Memory }
     ensures text { Takes result.written (W.contents out.old) (W.contents out.new) (last_line modes.Full (Err Stop.Memory)) }
+    ensures quiet { result.written ≡ true → W.has_failed out.new ≡ W.has_failed out.old }
+    ensures failed { result.written ≡ false → W.has_failed out.new ≡ true }
 {
     Ending {
         answer: Err(Stop::Memory),
@@ -87,7 +91,7 @@ pub fn put_memory<W: Write>(out: &mut W) -> Ending
 }
 
 /// Writes the last line of an answer; where there is no memory for it, that is said in its place.
-pub fn put_answer<W: Write>(
+pub fn put_answer<W: Device>(
     alloc: Global,
     mode: Mode,
     answer: Result<Summary, Stop>,
@@ -95,6 +99,8 @@ pub fn put_answer<W: Write>(
 ) -> Ending
     ensures answer { (result.answer ≡ answer) ⊎ (result.answer ≡ Err Stop.Memory) }
     ensures text { Takes result.written (W.contents out.old) (W.contents out.new) (last_line mode result.answer) }
+    ensures quiet { result.written ≡ true → W.has_failed out.new ≡ W.has_failed out.old }
+    ensures failed { result.written ≡ false → W.has_failed out.new ≡ true }
 {
     match verdict_line(alloc, mode, answer) {
         Ok(line) => Ending {
@@ -107,7 +113,8 @@ pub fn put_answer<W: Write>(
 
 /// The answer that is told: where a sink was short of memory, a write that failed is that.
 fn told_answer(answer: Result<Summary, Stop>, short: bool) -> Result<Summary, Stop>
-    ensures { (result ≡ answer) ⊎ ((answer ≡ Err Stop.Write) × (result ≡ Err Stop.Memory)) }
+    ensures told { (result ≡ answer) ⊎ ((answer ≡ Err Stop.Write) × (result ≡ Err Stop.Memory)) }
+    ensures not_short { result ≡ Err Stop.Write → short ≡ false }
 {
     if short {
         if let Err(Stop::Write) = answer {
@@ -118,7 +125,7 @@ fn told_answer(answer: Result<Summary, Stop>, short: bool) -> Result<Summary, St
 }
 
 /// Judges a stream, and writes the lines of its calls through a pen.
-fn run_lines<'a, K: Sheet, R: Source, W: Write>(
+fn run_lines<'a, K: Sheet, R: Source, W: Device>(
     alloc: Global,
     mode: Mode,
     listing: Listing,
@@ -133,6 +140,7 @@ fn run_lines<'a, K: Sheet, R: Source, W: Write>(
     ensures lines { (bytes : List ℕ) → R.left source.old ≡ Some bytes → Writes (IsLine K.listing) (lines_of K.listing 0) mode bytes result.1 K.start (W.contents result.0.out.now) }
     ensures some { (bytes : List ℕ) × Writes (IsLine K.listing) (lines_of K.listing 0) mode bytes result.1 K.start (W.contents result.0.out.now) }
     ensures read { IsErrOf result.1 Stop.Read → (R.failures source.new ≡ R.failures source.old + 1) ⊎ ((n : ℕ) → R.was_read source.old n → R.was_read source.new (n + 2 ^ 41)) }
+    ensures write { IsErrOf result.1 Stop.Write → W.has_failed result.0.out.now ≡ true }
 {
     let mut sink: LineSink<'_, W, K> = LineSink::new(alloc, listing, pen);
     let answer = run(alloc, source, &mut sink, mode);
@@ -141,7 +149,7 @@ fn run_lines<'a, K: Sheet, R: Source, W: Write>(
 }
 
 /// Judges a stream, and writes the lines of its calls; the answer that is to be told.
-fn write_lines<R: Source, W: Write>(
+fn write_lines<R: Source, W: Device>(
     alloc: Global,
     mode: Mode,
     listing: Listing,
@@ -152,6 +160,7 @@ fn write_lines<R: Source, W: Write>(
     ensures lines { (bytes : List ℕ) → R.left source.old ≡ Some bytes → Writes (IsLine listing) (lines_of listing 0) mode bytes result (W.contents out.old) (W.contents out.new) }
     ensures some { (bytes : List ℕ) × Writes (IsLine listing) (lines_of listing 0) mode bytes result (W.contents out.old) (W.contents out.new) }
     ensures read { IsErrOf result Stop.Read → (R.failures source.new ≡ R.failures source.old + 1) ⊎ ((n : ℕ) → R.was_read source.old n → R.was_read source.new (n + 2 ^ 41)) }
+    ensures write { IsErrOf result Stop.Write → W.has_failed out.new ≡ true }
 {
     let pen = Pen { out };
     let (_, answer) = run_lines::<Brand, R, W>(alloc, mode, listing, source, pen);
@@ -159,7 +168,7 @@ fn write_lines<R: Source, W: Write>(
 }
 
 /// Judges a stream, with a line for each call of the listing, and then the last line.
-pub fn list<R: Source, W: Write>(
+pub fn list<R: Source, W: Device>(
     alloc: Global,
     mode: Mode,
     listing: Listing,
@@ -169,6 +178,8 @@ pub fn list<R: Source, W: Write>(
     requires { R.failures source.old < 2 ^ 64 - 1 }
     ensures lists { OfBytes (R.left source.old) (λ bytes. Lists mode listing bytes result.answer result.written (W.contents out.old) (W.contents out.new)) }
     ensures read { IsErrOf result.answer Stop.Read → (R.failures source.new ≡ R.failures source.old + 1) ⊎ ((n : ℕ) → R.was_read source.old n → R.was_read source.new (n + 2 ^ 41)) }
+    ensures write { IsErrOf result.answer Stop.Write → W.has_failed out.new ≡ true }
+    ensures failed { result.written ≡ false → W.has_failed out.new ≡ true }
 {
     let answer = write_lines(alloc, mode, listing, source, out);
     put_answer(alloc, mode, answer, out)
@@ -193,7 +204,7 @@ fn trail_text(
 }
 
 /// Writes after a no the last elements, and then the last line; where there is no memory for both, that is said in their place.
-fn put_trail<W: Write>(
+fn put_trail<W: Device>(
     alloc: Global,
     trail: &Trail,
     answer: Result<Summary, Stop>,
@@ -201,6 +212,8 @@ fn put_trail<W: Write>(
 ) -> Ending
     ensures answer { (result.answer ≡ answer) ⊎ (result.answer ≡ Err Stop.Memory) }
     ensures text { Takes result.written (W.contents out.old) (W.contents out.new) (trail_text trail.now result.answer ++ last_line modes.Full result.answer) }
+    ensures quiet { result.written ≡ true → W.has_failed out.new ≡ W.has_failed out.old }
+    ensures failed { result.written ≡ false → W.has_failed out.new ≡ true }
 {
     let Ok(text) = trail_text(alloc, trail, answer) else {
         return put_memory(out);
@@ -215,10 +228,12 @@ fn put_trail<W: Write>(
 }
 
 /// Judges a stream whole. After a no its last elements are written, the oldest first, and then the last line; else that alone.
-pub fn check<R: Source, W: Write>(alloc: Global, source: &mut R, out: &mut W) -> Ending
+pub fn check<R: Source, W: Device>(alloc: Global, source: &mut R, out: &mut W) -> Ending
     requires { R.failures source.old < 2 ^ 64 - 1 }
     ensures checks { OfBytes (R.left source.old) (λ bytes. Checks bytes result.answer result.written (W.contents out.old) (W.contents out.new)) }
     ensures read { IsErrOf result.answer Stop.Read → (R.failures source.new ≡ R.failures source.old + 1) ⊎ ((n : ℕ) → R.was_read source.old n → R.was_read source.new (n + 2 ^ 41)) }
+    ensures write { IsErrOf result.answer Stop.Write → ⊥ }
+    ensures failed { result.written ≡ false → W.has_failed out.new ≡ true }
 {
     let Ok(mut sink) = TrailSink::new(alloc) else {
         return put_memory(out);
@@ -228,7 +243,7 @@ pub fn check<R: Source, W: Write>(alloc: Global, source: &mut R, out: &mut W) ->
 }
 
 /// Judges a stream whole, and writes its frames through a pen.
-fn run_frames<'a, K: Sheet, R: Source, W: Write>(
+fn run_frames<'a, K: Sheet, R: Source, W: Device>(
     alloc: Global,
     source: &mut R,
     pen: Pen<'a, W>,
@@ -240,6 +255,7 @@ fn run_frames<'a, K: Sheet, R: Source, W: Write>(
     ensures frames { (bytes : List ℕ) → R.left source.old ≡ Some bytes → Writes IsFrame bytes_of modes.Full bytes result.1 K.start (W.contents result.0.out.now) }
     ensures some { (bytes : List ℕ) × Writes IsFrame bytes_of modes.Full bytes result.1 K.start (W.contents result.0.out.now) }
     ensures read { IsErrOf result.1 Stop.Read → (R.failures source.new ≡ R.failures source.old + 1) ⊎ ((n : ℕ) → R.was_read source.old n → R.was_read source.new (n + 2 ^ 41)) }
+    ensures write { IsErrOf result.1 Stop.Write → W.has_failed result.0.out.now ≡ true }
 {
     let mut sink: YuvSink<'_, W, K> = YuvSink::new(pen);
     let answer = run(alloc, source, &mut sink, Mode::Full);
@@ -247,7 +263,7 @@ fn run_frames<'a, K: Sheet, R: Source, W: Write>(
 }
 
 /// Judges a stream whole, and writes its frames; the answer that is to be told.
-fn write_frames<R: Source, W: Write>(
+fn write_frames<R: Source, W: Device>(
     alloc: Global,
     source: &mut R,
     out: &mut W,
@@ -256,6 +272,7 @@ fn write_frames<R: Source, W: Write>(
     ensures frames { (bytes : List ℕ) → R.left source.old ≡ Some bytes → Writes IsFrame bytes_of modes.Full bytes result (W.contents out.old) (W.contents out.new) }
     ensures some { (bytes : List ℕ) × Writes IsFrame bytes_of modes.Full bytes result (W.contents out.old) (W.contents out.new) }
     ensures read { IsErrOf result Stop.Read → (R.failures source.new ≡ R.failures source.old + 1) ⊎ ((n : ℕ) → R.was_read source.old n → R.was_read source.new (n + 2 ^ 41)) }
+    ensures write { IsErrOf result Stop.Write → W.has_failed out.new ≡ true }
 {
     let pen = Pen { out };
     let (_, answer) = run_frames::<Brand, R, W>(alloc, source, pen);
@@ -263,7 +280,7 @@ fn write_frames<R: Source, W: Write>(
 }
 
 /// Judges a stream whole, and writes its frames to `out`; the last line goes to `err`.
-pub fn decode<R: Source, W: Write, E: Write>(
+pub fn decode<R: Source, W: Device, E: Device>(
     alloc: Global,
     source: &mut R,
     out: &mut W,
@@ -272,9 +289,11 @@ pub fn decode<R: Source, W: Write, E: Write>(
     requires { R.failures source.old < 2 ^ 64 - 1 }
     ensures decodes { OfBytes (R.left source.old) (λ bytes. Decodes bytes result.answer result.written (W.contents out.old) (W.contents out.new) (E.contents err.old) (E.contents err.new)) }
     ensures read { IsErrOf result.answer Stop.Read → (R.failures source.new ≡ R.failures source.old + 1) ⊎ ((n : ℕ) → R.was_read source.old n → R.was_read source.new (n + 2 ^ 41)) }
+    ensures write { IsErrOf result.answer Stop.Write → W.has_failed out.new ≡ true }
+    ensures failed { result.written ≡ false → E.has_failed err.new ≡ true }
 {
     let answer = write_frames(alloc, source, out);
-    if out.flush().is_err() {
+    if let Err(Failed) = out.send_rest() {
         return put_answer(alloc, Mode::Full, Err(Stop::Write), err);
     }
     put_answer(alloc, Mode::Full, answer, err)

@@ -7,6 +7,7 @@
 //! judgement, what stands in `specs/Written.antt`: the last line is that of the answer in this mode, and what stands before it is of the calls up to there.
 #![tactic(auto)]
 
+pub mod device;
 mod frames;
 pub mod judging;
 pub mod line_sink;
@@ -19,6 +20,7 @@ pub mod trail;
 pub mod trail_sink;
 pub mod yuv_sink;
 
+pub use device::{Device, WriteDevice};
 pub use judging::{Ending, check, decode, list, put_answer, put_memory};
 pub use line_sink::LineSink;
 pub use lines::{element_line, frame_line, slice_line, unit_line, verdict_line};

@@ -2,9 +2,10 @@
 #![tactic(auto)]
 
 ghost use Rattle.std.specs.Prelude.{◌≡◌, ℕ, ◌+◌, ◌-◌, ◌<◌, ◌^◌, List, OnOk, OnErr, string_bytes};
-ghost use Rattle.h264_report.specs.Sent.{Sends, SendsFront};
+ghost use Rattle.h264_report.specs.Sent.{Sends, SendsFront, IsBlamed};
 ghost use Rattle.h264_report.specs.Told.{ended};
 
+use crate::device::Device;
 use crate::lines::{frame_line, slice_line, unit_line};
 use crate::listing::Listing;
 use crate::send::send;
@@ -14,7 +15,6 @@ use h264_dpb::{FrameOut, Rectangle};
 use h264_plane::Frame;
 use h264_verify::FrameSink;
 use std::alloc::{AllocError, Global};
-use std::io::Write;
 use std::marker::PhantomData;
 
 /// Writes a line for each unit, slice or frame of a stream, as the listing says, and passes over all else.
@@ -22,7 +22,7 @@ use std::marker::PhantomData;
 /// A writer that tells its bytes holds, behind what it held, the lines of the calls taken, in order, followed after a failure by a part of the next
 /// line, which is not the whole. After a failure each call fails and nothing more is written.
 #[derive(Drop)]
-pub struct LineSink<'a, W: Write, K: Sheet> {
+pub struct LineSink<'a, W: Device, K: Sheet> {
     alloc: Global,
     pen: Pen<'a, W>,
     sheet: PhantomData<K>,
@@ -36,7 +36,7 @@ pub struct LineSink<'a, W: Write, K: Sheet> {
     line: String,
 }
 
-impl<'a, W: Write, K: Sheet> LineSink<'a, W, K> {
+impl<'a, W: Device, K: Sheet> LineSink<'a, W, K> {
     /// A sink that was told nothing, with no failure.
     pub fn new(alloc: Global, listing: Listing, pen: Pen<'a, W>) -> LineSink<'a, W, K>
         ensures quiet { result.failures ≡ 0 }
@@ -57,8 +57,10 @@ impl<'a, W: Write, K: Sheet> LineSink<'a, W, K> {
         }
     }
 
-    /// Whether the first failure was a want of memory for a line.
-    pub fn short_of_memory(&self) -> bool {
+    /// Whether the first failure was a want of memory for a line; if not, the device failed.
+    pub fn short_of_memory(&self) -> bool
+        ensures { result ≡ self.now.short_of_memory }
+    {
         self.short_of_memory
     }
 
@@ -86,6 +88,7 @@ impl<'a, W: Write, K: Sheet> LineSink<'a, W, K> {
         requires { self.old.failures ≡ 0 }
         ensures kept { OnOk result (self.new.failures ≡ 0) }
         ensures failed { OnErr result (self.new.failures ≡ 1) }
+        ensures blamed { IsBlamed self.new.failures self.new.short_of_memory (W.has_failed self.new.pen.out.now) }
         ensures listing { self.new.listing ≡ self.old.listing }
         ensures frames { self.new.frames ≡ self.old.frames }
         ensures same_reference { self.new.pen.out.ghost_name ≡ self.old.pen.out.ghost_name }
@@ -103,7 +106,7 @@ impl<'a, W: Write, K: Sheet> LineSink<'a, W, K> {
     }
 }
 
-impl<'a, W: Write, K: Sheet> LineSink<'a, W, K> {
+impl<'a, W: Device, K: Sheet> LineSink<'a, W, K> {
     ghost use Rattle.std.specs.Prelude.{◌≡◌, ℕ, ◌+◌, ◌-◌, ◌<◌, ◌^◌, List, [], ◌∷◌, ◌++◌, Option, IsTrue, OnOk, OnErr};
     ghost use Rattle.h264_base.specs.Call.{Call, OfUnit, OfSlice};
     ghost use Rattle.h264_dpb.specs.Shown.{fits, frame_call};
@@ -126,6 +129,7 @@ impl<'a, W: Write, K: Sheet> LineSink<'a, W, K> {
         ensures refused { (start : Option (List ℕ)) (before : List Call) → HoldsLines self.old.listing start self.old.frames self.old.failures (W.contents self.old.pen.out.now) before → OnErr result (HoldsLines self.new.listing start self.new.frames self.new.failures (W.contents self.new.pen.out.now) before) }
         ensures kept { OnOk result (self.new.failures ≡ self.old.failures) }
         ensures failed { OnErr result (self.new.failures ≡ self.old.failures + 1) }
+        ensures blamed { IsBlamed self.old.failures self.old.short_of_memory (W.has_failed self.old.pen.out.now) → IsBlamed self.new.failures self.new.short_of_memory (W.has_failed self.new.pen.out.now) }
     {
         if self.failures > 0 {
             return self.fail();
@@ -151,6 +155,7 @@ impl<'a, W: Write, K: Sheet> LineSink<'a, W, K> {
         ensures refused { (start : Option (List ℕ)) (before : List Call) → HoldsLines self.old.listing start self.old.frames self.old.failures (W.contents self.old.pen.out.now) before → OnErr result (HoldsLines self.new.listing start self.new.frames self.new.failures (W.contents self.new.pen.out.now) before) }
         ensures kept { OnOk result (self.new.failures ≡ self.old.failures) }
         ensures failed { OnErr result (self.new.failures ≡ self.old.failures + 1) }
+        ensures blamed { IsBlamed self.old.failures self.old.short_of_memory (W.has_failed self.old.pen.out.now) → IsBlamed self.new.failures self.new.short_of_memory (W.has_failed self.new.pen.out.now) }
     {
         if self.failures > 0 {
             return self.fail();
@@ -177,11 +182,13 @@ impl<'a, W: Write, K: Sheet> LineSink<'a, W, K> {
         ensures refused { (start : Option (List ℕ)) (before : List Call) → HoldsLines self.old.listing start self.old.frames self.old.failures (W.contents self.old.pen.out.now) before → OnErr result (HoldsLines self.new.listing start self.new.frames self.new.failures (W.contents self.new.pen.out.now) before) }
         ensures kept { OnOk result (self.new.failures ≡ self.old.failures) }
         ensures failed { OnErr result (self.new.failures ≡ self.old.failures + 1) }
+        ensures blamed { IsBlamed self.old.failures self.old.short_of_memory (W.has_failed self.old.pen.out.now) → IsBlamed self.new.failures self.new.short_of_memory (W.has_failed self.new.pen.out.now) }
     {
         if self.failures > 0 {
             return self.fail();
         }
         if self.frames == u64::MAX {
+            self.short_of_memory = true;
             self.failures = 1;
             return Err(Failed);
         }
@@ -203,10 +210,10 @@ impl<'a, W: Write, K: Sheet> LineSink<'a, W, K> {
     }
 }
 
-impl<'a, W: Write, K: Sheet> Elements for LineSink<'a, W, K> {
+impl<'a, W: Device, K: Sheet> Elements for LineSink<'a, W, K> {
     ghost use Rattle.h264_report.specs.Told.{TookLines};
 
-    ghost took = { λ s calls. TookLines K.name K.listing K.start s.pen.out.ghost_name s.listing s.frames s.failures (W.contents s.pen.out.now) calls };
+    ghost took = { λ s calls. TookLines K.name K.listing K.start s.pen.out.ghost_name s.listing s.frames s.failures s.short_of_memory (W.has_failed s.pen.out.now) (W.contents s.pen.out.now) calls };
 
     ghost failures = { λ s. s.failures };
 
@@ -215,7 +222,7 @@ impl<'a, W: Write, K: Sheet> Elements for LineSink<'a, W, K> {
     }
 }
 
-impl<'a, W: Write, K: Sheet> FrameOut for LineSink<'a, W, K> {
+impl<'a, W: Device, K: Sheet> FrameOut for LineSink<'a, W, K> {
     fn frame(&mut self, count: i32, frame: &Frame, rectangle: Rectangle) -> Result<(), Failed> {
         match self.listing {
             Listing::Frames => self.put_frame(count, frame, rectangle),
@@ -226,7 +233,7 @@ impl<'a, W: Write, K: Sheet> FrameOut for LineSink<'a, W, K> {
     }
 }
 
-impl<'a, W: Write, K: Sheet> FrameSink for LineSink<'a, W, K> {
+impl<'a, W: Device, K: Sheet> FrameSink for LineSink<'a, W, K> {
     fn unit(
         &mut self,
         byte: u64,

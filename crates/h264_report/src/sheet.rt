@@ -1,7 +1,7 @@
 //! Where a sink writes.
 #![tactic(auto)]
 
-use std::io::Write;
+use crate::device::Device;
 use std::marker::Brand;
 
 /// For proofs alone: what a sink was made for. Whoever runs a sink picks it, so that the sink is known to stay that for which it was made.
@@ -32,6 +32,6 @@ impl Sheet for Brand {
 
 /// A writer that is lent.
 #[derive(Drop)]
-pub struct Pen<'a, W: Write> {
+pub struct Pen<'a, W: Device> {
     pub out: &'a mut W,
 }

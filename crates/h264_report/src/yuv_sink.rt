@@ -3,13 +3,13 @@
 
 ghost use Rattle.std.specs.Prelude.{◌≡◌, ℕ, ◌+◌, ◌-◌, ◌<◌, ◌^◌, OnOk, OnErr};
 
+use crate::device::Device;
 use crate::frames::send_frame;
 use crate::sheet::{Pen, Sheet};
 use h264_base::{ElementName, Elements, Failed, SliceType};
 use h264_dpb::{FrameOut, Rectangle};
 use h264_plane::Frame;
 use h264_verify::FrameSink;
-use std::io::Write;
 use std::marker::PhantomData;
 
 /// Writes what is shown of each frame of a stream, in the order of output: the rows of Y, then of Cb, then of Cr, a byte a sample.
@@ -17,14 +17,14 @@ use std::marker::PhantomData;
 /// A writer that tells its bytes holds, behind what it held, those of the frames taken, in order, followed after a failure by a part of the next one's, which is not the
 /// whole. After a failure each frame fails and nothing more is written.
 #[derive(Drop)]
-pub struct YuvSink<'a, W: Write, K: Sheet> {
+pub struct YuvSink<'a, W: Device, K: Sheet> {
     pen: Pen<'a, W>,
     sheet: PhantomData<K>,
     /// How many calls failed.
     pub failures: u64,
 }
 
-impl<'a, W: Write, K: Sheet> YuvSink<'a, W, K> {
+impl<'a, W: Device, K: Sheet> YuvSink<'a, W, K> {
     /// A sink that was told nothing, with no failure.
     pub fn new(pen: Pen<'a, W>) -> YuvSink<'a, W, K>
         ensures quiet { result.failures ≡ 0 }
@@ -48,10 +48,10 @@ impl<'a, W: Write, K: Sheet> YuvSink<'a, W, K> {
     }
 }
 
-impl<'a, W: Write, K: Sheet> Elements for YuvSink<'a, W, K> {
+impl<'a, W: Device, K: Sheet> Elements for YuvSink<'a, W, K> {
     ghost use Rattle.h264_report.specs.Told.{TookFrames};
 
-    ghost took = { λ s calls. TookFrames K.name K.start s.pen.out.ghost_name s.failures (W.contents s.pen.out.now) calls };
+    ghost took = { λ s calls. TookFrames K.name K.start s.pen.out.ghost_name s.failures (W.has_failed s.pen.out.now) (W.contents s.pen.out.now) calls };
 
     ghost failures = { λ s. s.failures };
 
@@ -60,7 +60,7 @@ impl<'a, W: Write, K: Sheet> Elements for YuvSink<'a, W, K> {
     }
 }
 
-impl<'a, W: Write, K: Sheet> FrameOut for YuvSink<'a, W, K> {
+impl<'a, W: Device, K: Sheet> FrameOut for YuvSink<'a, W, K> {
     fn frame(&mut self, _count: i32, frame: &Frame, rectangle: Rectangle) -> Result<(), Failed> {
         if self.failures > 0 {
             self.failures += 1;
@@ -76,7 +76,7 @@ impl<'a, W: Write, K: Sheet> FrameOut for YuvSink<'a, W, K> {
     }
 }
 
-impl<'a, W: Write, K: Sheet> FrameSink for YuvSink<'a, W, K> {
+impl<'a, W: Device, K: Sheet> FrameSink for YuvSink<'a, W, K> {
     fn unit(
         &mut self,
         _byte: u64,

@@ -1,8 +1,8 @@
 -- What a command comes to: what it writes to standard output and to standard error, and its exit status.
-use Rattle.std.specs.Prelude.{◌≡◌, ℕ, Bool, List, Option, Some, Result, Ok, Err, ◌⊎◌}
+use Rattle.std.specs.Prelude.{◌≡◌, ℕ, Bool, true, false, List, Option, Some, Result, Ok, Err, IsErrOf, ◌⊎◌}
 use Rattle.h264_base.specs.declared.mode.Mode.TheVariants as modes
 use Rattle.h264_base.specs.declared.stop.Stop.{Stop}
-use Rattle.h264_base.specs.declared.stop.Stop.TheVariants.{Memory, Read}
+use Rattle.h264_base.specs.declared.stop.Stop.TheVariants.{Memory, Read, Write}
 use Rattle.h264_report.specs.Sent.{Takes}
 use Rattle.h264_report.specs.Written.{OfBytes, Lists, Checks, Decodes, last_line, status_of}
 use Rattle.h264_report.specs.declared.listing.Listing.TheVariants as listings
@@ -28,20 +28,36 @@ SaysAlone tasks.Headers answer written old new err_old err_new = Takes written o
 SaysAlone tasks.Frames answer written old new err_old err_new = Takes written old new (last_line modes.Full answer) × (err_new ≡ err_old)
 SaysAlone tasks.Decode answer written old new err_old err_new = Takes written err_old err_new (last_line modes.Full answer) × (new ≡ old)
 
--- the answer where a file can't be read, or where there was no memory to say so
+-- the answer where a file can't be opened, or where there was no memory to say so
 abbrev pub IsUnread : Result Summary Stop → Type 0
 IsUnread answer = (answer ≡ Err Read) ⊎ (answer ≡ Err Memory)
 
+-- ---- why something is not written, or not read
+
+-- Standard output or standard error has failed.
+abbrev pub HasFailed : (out err : Bool) → Type 0
+HasFailed out err = (out ≡ true) ⊎ (err ≡ true)
+
+-- A device has failed where not all was written, where the answer is that a write failed, and where it is that a read did.
+pub record IsExcused (ReadFailed : Type 0) (answer : Result Summary Stop) (written out_failed err_failed : Bool) : Type 0 where
+  pub unwritten : written ≡ false → HasFailed out_failed err_failed
+  pub write : IsErrOf answer Write → HasFailed out_failed err_failed
+  pub read : IsErrOf answer Read → ReadFailed
+
+-- ---- what comes of the words
+
 -- The words ask for nothing, and standard output is as it was; or there was no memory to find that out, or to say why.
-pub data Faults (words : List Text) (status : ℕ) (old new err_old err_new : Option (List ℕ)) : Type 0 where
-  Refused : IsRefusable words → status ≡ 64 → new ≡ old → Faults words status old new err_old err_new
-  Short : (written : Bool) → status ≡ status_of written (Err Memory) → Takes written old new (last_line modes.Full (Err Memory)) → err_new ≡ err_old → Faults words status old new err_old err_new
+pub data Faults (words : List Text) (status : ℕ) (old new err_old err_new : Option (List ℕ)) (out_failed : Bool) : Type 0 where
+  Refused : IsRefusable words → status ≡ 64 → new ≡ old → Faults words status old new err_old err_new out_failed
+  Short : (written : Bool) → status ≡ status_of written (Err Memory) → (written ≡ false → out_failed ≡ true) → Takes written old new (last_line modes.Full (Err Memory)) → err_new ≡ err_old → Faults words status old new err_old err_new out_failed
 
 -- What comes of these words, where a file of a name holds these bytes, as far as that is known.
-pub data Comes (words : List Text) (file : Text → Option (List ℕ)) (status : ℕ) (old new err_old err_new : Option (List ℕ)) : Type 0 where
+pub data Comes (words : List Text) (file : Text → Option (List ℕ)) (ReadFailed : Type 0) (status : ℕ) (old new err_old err_new : Option (List ℕ)) (out_failed err_failed : Bool) : Type 0 where
   -- they ask for nothing
-  Faulted : Faults words status old new err_old err_new → Comes words file status old new err_old err_new
+  Faulted : Faults words status old new err_old err_new out_failed → Comes words file ReadFailed status old new err_old err_new out_failed err_failed
   -- they ask for a task with a file that can't be opened
-  Unopened : (task : Task) (name : Text) (answer : Result Summary Stop) (written : Bool) → asks program words ≡ Some (name_of task, Some name) → status ≡ status_of written answer → IsUnread answer → SaysAlone task answer written old new err_old err_new → Comes words file status old new err_old err_new
+  Unopened : (task : Task) (name : Text) (answer : Result Summary Stop) (written : Bool) → asks program words ≡ Some (name_of task, Some name) → status ≡ status_of written answer → IsUnread answer → ReadFailed → IsExcused ReadFailed answer written out_failed err_failed →
+      SaysAlone task answer written old new err_old err_new → Comes words file ReadFailed status old new err_old err_new out_failed err_failed
   -- they ask for a task with a file, and it was done
-  Done : (task : Task) (name : Text) (answer : Result Summary Stop) (written : Bool) → asks program words ≡ Some (name_of task, Some name) → status ≡ status_of written answer → OfBytes (file name) (λ bytes. Performs task bytes answer written old new err_old err_new) → Comes words file status old new err_old err_new
+  Done : (task : Task) (name : Text) (answer : Result Summary Stop) (written : Bool) → asks program words ≡ Some (name_of task, Some name) → status ≡ status_of written answer → IsExcused ReadFailed answer written out_failed err_failed →
+      OfBytes (file name) (λ bytes. Performs task bytes answer written old new err_old err_new) → Comes words file ReadFailed status old new err_old err_new out_failed err_failed

@@ -1,19 +1,20 @@
 //! The command line.
 #![tactic(auto)]
 
-ghost use Rattle.std.specs.Prelude.{◌≡◌, ◌-◌, ◌<◌, ◌^◌, true, List, map, string_bytes};
+ghost use Rattle.std.specs.Prelude.{◌≡◌, ◌-◌, ◌<◌, ◌^◌, true, false, List, map, string_bytes};
 ghost use Rattle.clap.specs.Words.{Text, takes, kind_of};
 ghost use Rattle.clap.specs.declared.error.kind.ErrorKind.TheVariants as kinds;
 ghost use Rattle.h264_report.specs.Written.{OfBytes};
-ghost use Rattle.h264v.specs.Commands.{Performs, SaysAlone, IsUnread, Faults, Comes};
+ghost use Rattle.h264v.specs.Commands.{Performs, SaysAlone, IsUnread, HasFailed, IsExcused, Faults, Comes};
+ghost use Rattle.h264v.specs.Files.{HasFailedToRead};
 ghost use Rattle.h264v.specs.Words.{program};
 
 use crate::asked::{Task, asked};
-use crate::files::{Opener, ReadSource};
+use crate::files::Files;
 use clap::Error;
 use clap::error::ErrorKind;
 use h264_base::{Mode, Stop};
-use h264_report::{Ending, Listing, check, decode, list, put_answer, put_memory};
+use h264_report::{Device, Ending, Listing, check, decode, list, put_answer, put_memory};
 use h264_verify::Source;
 use std::alloc::Global;
 use std::io::Write;
@@ -21,11 +22,14 @@ use std::io::Write;
 /// What is said where a word is no text.
 const NOT_TEXT: &str = "h264v: a word is not UTF-8\n";
 
+/// What is said where the words name no task.
+const NO_TASK: &str = "h264v: no command is given; h264v --help lists them\n";
+
 /// The exit status of a fault of the words.
 const FAULT: u8 = 64;
 
 /// Does a task with a file that can be opened.
-fn perform<R: Source, W: Write, E: Write>(
+fn perform<R: Source, W: Device, E: Device>(
     alloc: Global,
     task: Task,
     source: &mut R,
@@ -33,7 +37,8 @@ fn perform<R: Source, W: Write, E: Write>(
     err: &mut E,
 ) -> Ending
     requires { R.failures source.old < 2 ^ 64 - 1 }
-    ensures { OfBytes (R.left source.old) (λ bytes. Performs task bytes result.answer result.written (W.contents out.old) (W.contents out.new) (E.contents err.old) (E.contents err.new)) }
+    ensures excused { IsExcused (HasFailedToRead (R.failures source.old) (R.failures source.new) (R.was_read source.old) (R.was_read source.new)) result.answer result.written (W.has_failed out.new) (E.has_failed err.new) }
+    ensures performs { OfBytes (R.left source.old) (λ bytes. Performs task bytes result.answer result.written (W.contents out.old) (W.contents out.new) (E.contents err.old) (E.contents err.new)) }
 {
     match task {
         Task::Check => check(alloc, source, out),
@@ -45,8 +50,9 @@ fn perform<R: Source, W: Write, E: Write>(
 }
 
 /// Says that a file can't be opened.
-fn no_file<W: Write, E: Write>(alloc: Global, task: Task, out: &mut W, err: &mut E) -> Ending
+fn no_file<W: Device, E: Device>(alloc: Global, task: Task, out: &mut W, err: &mut E) -> Ending
     ensures answer { IsUnread result.answer }
+    ensures unwritten { result.written ≡ false → HasFailed (W.has_failed out.new) (E.has_failed err.new) }
     ensures says { SaysAlone task result.answer result.written (W.contents out.old) (W.contents out.new) (E.contents err.old) (E.contents err.new) }
 {
     match task {
@@ -65,8 +71,8 @@ pub fn not_text<E: Write>(err: &mut E) -> u8 {
 }
 
 /// Says why the words ask for nothing: the exit status of a fault of the words. Where memory was wanting for that, it is said on `out`.
-fn fault<W: Write, E: Write>(error: &Error, out: &mut W, err: &mut E) -> u8
-    ensures { (words : List Text) → (takes program words ≡ true → kind_of error.now ≡ kinds.OutOfMemory) → Faults words result (W.contents out.old) (W.contents out.new) (E.contents err.old) (E.contents err.new) }
+fn fault<W: Device, E: Device>(error: &Error, out: &mut W, err: &mut E) -> u8
+    ensures { (words : List Text) → (takes program words ≡ true → kind_of error.now ≡ kinds.OutOfMemory) → Faults words result (W.contents out.old) (W.contents out.new) (E.contents err.old) (E.contents err.new) (W.has_failed out.new) }
 {
     if error.kind() == ErrorKind::OutOfMemory {
         return put_memory(out).status();
@@ -77,24 +83,26 @@ fn fault<W: Write, E: Write>(error: &Error, out: &mut W, err: &mut E) -> u8
 
 /// Does what the words ask, the program's name first among them, and gives the exit status: 0 yes, 1 no, 2 outside, 3 memory,
 /// 4 a device failed, 64 a fault of the words, whose text goes to `err`.
-pub fn command<O: Opener, W: Write, E: Write>(
+pub fn command<F: Files, W: Device, E: Device>(
     alloc: Global,
     words: &[String],
-    opener: &mut O,
+    files: &mut F,
     out: &mut W,
     err: &mut E,
 ) -> u8
-    ensures { Comes (map (λ w. string_bytes w) words.now) (λ name. O.holds opener.old name) result (W.contents out.old) (W.contents out.new) (E.contents err.old) (E.contents err.new) }
+    requires { F.failures files.old < 2 ^ 64 - 1 }
+    ensures { Comes (map (λ w. string_bytes w) words.now) (λ name. F.holds files.old name) (HasFailedToRead (F.failures files.old) (F.failures files.new) (F.was_read files.old) (F.was_read files.new)) result
+        (W.contents out.old) (W.contents out.new) (E.contents err.old) (E.contents err.new) (W.has_failed out.new) (E.has_failed err.new) }
 {
     match asked(alloc, words) {
         Err(error) => fault(&error, out, err),
-        Ok(None) => FAULT,
-        Ok(Some(asked)) => {
-            let Ok(reader) = opener.open(asked.file) else {
-                return no_file(alloc, asked.task, out, err).status();
-            };
-            let mut source = ReadSource::new(reader);
-            perform(alloc, asked.task, &mut source, out, err).status()
+        Ok(None) => {
+            let _ = err.write_all(NO_TASK.as_bytes());
+            FAULT
         }
+        Ok(Some(asked)) => match files.open(asked.file) {
+            Ok(()) => perform(alloc, asked.task, files, out, err).status(),
+            Err(_) => no_file(alloc, asked.task, out, err).status(),
+        },
     }
 }

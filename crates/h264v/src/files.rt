@@ -1,15 +1,14 @@
 //! Files as sources of streams.
 #![tactic(auto)]
 
-ghost use Rattle.std.specs.Prelude.{◌≡◌, ℕ, ◌+◌, List, Option, None, IfOk};
+ghost use Rattle.std.specs.Prelude.{◌≡◌, ℕ, ◌+◌, ◌-◌, ◌<◌, ◌≤◌, ◌⊎◌, ◌^◌, List, Option, None, IfOk, OnOk, OnErr};
 ghost use Rattle.std.specs.Io.KnownBytes.{Keeps};
+ghost use Rattle.h264v.specs.Files.{left_of};
 
 use h264_base::Failed;
 use h264_verify::Source;
-use std::fs::File;
 use std::io;
 use std::io::{ErrorKind, Read};
-use std::rt::Files;
 
 /// Opens what a name stands for.
 pub trait Opener {
@@ -24,44 +23,97 @@ pub trait Opener {
         ensures { IfOk result (λ file. Keeps (holds self.old name.now) (Self.File.Read.remaining file)) };
 }
 
-/// A reader as the source of a stream.
+/// Files, of which the one that was opened last is read.
+pub trait Files: Source {
+    /// What a file of this name holds, where it is known.
+    ghost holds: { Self → List ℕ → Option (List ℕ) };
+
+    /// Opens the file of this name, to be read from its start.
+    ///
+    /// Failed: it can't be opened.
+    fn open(&mut self, name: &str) -> Result<(), Failed>
+        requires { Self.failures self.old < 2 ^ 64 - 1 }
+        ensures opened { OnOk result (Keeps (holds self.old name.now) (Self.left self.new)) }
+        ensures reads { OnOk result ((n : ℕ) → Self.was_read self.old n → Self.was_read self.new n) }
+        ensures kept { OnOk result (Self.failures self.new ≡ Self.failures self.old) }
+        ensures failed { OnErr result (Self.failures self.new ≡ Self.failures self.old + 1) };
+}
+
+/// The files of an opener.
 #[derive(Drop)]
-pub struct ReadSource<R: Read + Drop> {
-    pub reader: R,
-    /// How many reads failed.
+pub struct OpenedFiles<O: Opener + Drop> {
+    pub opener: O,
+    /// The one that was opened last.
+    pub reader: Option<O::File>,
+    /// How often a file was read.
+    pub reads: u64,
+    /// How often one could not be opened or read.
     pub failures: u64,
 }
 
-impl<R: Read + Drop> ReadSource<R> {
-    /// The bytes that the reader will give.
-    pub fn new(reader: R) -> ReadSource<R>
-        ensures unread { R.Read.remaining result.reader ≡ R.Read.remaining reader }
+impl<O: Opener + Drop> OpenedFiles<O> {
+    /// Files of which none is open.
+    pub fn new(opener: O) -> OpenedFiles<O>
+        ensures opener { result.opener ≡ opener }
+        ensures reads { result.reads ≡ 0 }
         ensures no_failure { result.failures ≡ 0 }
     {
-        ReadSource {
-            reader,
+        OpenedFiles {
+            opener,
+            reader: None,
+            reads: 0,
             failures: 0,
         }
     }
+
+    /// Counts a failure.
+    fn fail<T>(&mut self) -> Result<T, Failed>
+        requires { self.old.failures < 2 ^ 64 - 1 }
+        ensures err { OnOk result ⊥ }
+        ensures others { self.new ≡ record self.old { failures = self.old.failures + 1 } }
+    {
+        self.failures += 1;
+        Err(Failed)
+    }
 }
 
-impl<R: Read + Drop> Source for ReadSource<R> {
-    ghost left = { λ s. R.Read.remaining s.reader };
+impl<O: Opener + Drop> Source for OpenedFiles<O> {
+    ghost left = { λ s. left_of O.File.Read.remaining s.reader };
 
-    ghost was_read = { λ _ _. Unit {0} };
+    ghost was_read = { λ s n. (n ≤ s.reads) ⊎ (0 < s.failures) };
 
     ghost failures = { λ s. s.failures };
 
     fn read(&mut self, piece: &mut [u8]) -> Result<Option<usize>, Failed> {
-        match self.reader.read(piece) {
+        if self.reads == u64::MAX {
+            return self.fail();
+        }
+        self.reads += 1;
+        let Some(reader) = &mut self.reader else {
+            return self.fail();
+        };
+        match reader.read(piece) {
             Ok(n) => Ok(Some(n)),
             Err(error) => {
                 if error.kind() == ErrorKind::Interrupted {
                     return Ok(None);
                 }
-                self.failures += 1;
-                Err(Failed)
+                self.fail()
             }
+        }
+    }
+}
+
+impl<O: Opener + Drop> Files for OpenedFiles<O> {
+    ghost holds = { λ s name. O.holds s.opener name };
+
+    fn open(&mut self, name: &str) -> Result<(), Failed> {
+        match self.opener.open(name) {
+            Ok(reader) => {
+                self.reader = Some(reader);
+                Ok(())
+            }
+            Err(_) => self.fail(),
         }
     }
 }

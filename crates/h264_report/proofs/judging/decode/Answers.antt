@@ -3,14 +3,14 @@ use Rattle.h264_base.specs.declared.stop.Stop.TheVariants.{Write}
 use Rattle.h264_report.proofs.Accounts.{some-frame, failed, decoded, of-bytes}
 use Rattle.h264_report.proofs.judging.decode.Goals as goal
 
-pub returns-then-is_err-clause-decodes : goal.returns-then-is_err-clause-decodes
-returns-then-is_err-clause-decodes g c = of-bytes _ _
-    (λ bytes h. decoded (Err Write) c.put_answer.result.answer c.put_answer.result.written _ _ _ _ _ c.put_answer.ensures.answer (failed some-frame c.write_frames-answer.result (c.write_frames-answer.ensures.frames bytes h)) c.flush.ensures.bytes c.put_answer.ensures.text)
+pub returns-in-Err-clause-decodes : goal.returns-in-Err-clause-decodes
+returns-in-Err-clause-decodes g c = of-bytes _ _
+    (λ bytes h. decoded (Err Write) c.put_answer.result.answer c.put_answer.result.written _ _ _ _ _ c.put_answer.ensures.answer (failed some-frame c.write_frames-answer.result (c.write_frames-answer.ensures.frames bytes h)) c.send_rest.ensures.kept c.put_answer.ensures.text)
     (let some = c.write_frames-answer.ensures.some in
-    (some.0, decoded (Err Write) c.put_answer.result.answer c.put_answer.result.written _ _ _ _ _ c.put_answer.ensures.answer (failed some-frame c.write_frames-answer.result some.1) c.flush.ensures.bytes c.put_answer.ensures.text))
+    (some.0, decoded (Err Write) c.put_answer.result.answer c.put_answer.result.written _ _ _ _ _ c.put_answer.ensures.answer (failed some-frame c.write_frames-answer.result some.1) c.send_rest.ensures.kept c.put_answer.ensures.text))
 
 pub returns-clause-decodes : goal.returns-clause-decodes
 returns-clause-decodes g c = of-bytes _ _
-    (λ bytes h. decoded c.write_frames-answer.result c.put_answer-2.result.answer c.put_answer-2.result.written _ _ _ _ _ c.put_answer-2.ensures.answer (c.write_frames-answer.ensures.frames bytes h) c.flush.ensures.bytes c.put_answer-2.ensures.text)
+    (λ bytes h. decoded c.write_frames-answer.result c.put_answer-2.result.answer c.put_answer-2.result.written _ _ _ _ _ c.put_answer-2.ensures.answer (c.write_frames-answer.ensures.frames bytes h) c.send_rest.ensures.kept c.put_answer-2.ensures.text)
     (let some = c.write_frames-answer.ensures.some in
-    (some.0, decoded c.write_frames-answer.result c.put_answer-2.result.answer c.put_answer-2.result.written _ _ _ _ _ c.put_answer-2.ensures.answer some.1 c.flush.ensures.bytes c.put_answer-2.ensures.text))
+    (some.0, decoded c.write_frames-answer.result c.put_answer-2.result.answer c.put_answer-2.result.written _ _ _ _ _ c.put_answer-2.ensures.answer some.1 c.send_rest.ensures.kept c.put_answer-2.ensures.text))

@@ -1,0 +1,104 @@
+//! Where bytes are written to.
+#![tactic(auto)]
+
+ghost use Rattle.std.specs.Prelude.{◌≡◌, ◌<◌, ◌≤◌, Bool, true, false, length, take, IfOk, OnOk, OnErr};
+ghost use Rattle.std.specs.Io.KnownBytes.{Appends, Keeps};
+
+use h264_base::Failed;
+use std::io;
+use std::io::{ErrorKind, Write};
+
+/// How often an interrupted write is tried again.
+const TRIES: u32 = 1 << 20;
+
+/// A writer that tells whether it has failed.
+pub trait Device: Write {
+    /// Whether it has failed.
+    ghost has_failed: { Self → Bool };
+
+    /// Writes some of these bytes, and tells how many.
+    ///
+    /// Failed: the device failed. It then holds what it held before.
+    fn send_some(&mut self, bytes: &[u8]) -> Result<usize, Failed>
+        requires { 0 < length bytes.now }
+        ensures some { IfOk result (λ n. (0 < n) × (n ≤ length bytes.now)) }
+        ensures ok { IfOk result (λ n. Appends (Self.Write.contents self.old) (Self.Write.contents self.new) (take n bytes.now)) }
+        ensures kept { OnErr result (Keeps (Self.Write.contents self.old) (Self.Write.contents self.new)) }
+        ensures quiet { OnOk result (has_failed self.new ≡ has_failed self.old) }
+        ensures failed { OnErr result (has_failed self.new ≡ true) };
+
+    /// Writes what was held back.
+    ///
+    /// Failed: the device failed.
+    fn send_rest(&mut self) -> Result<(), Failed>
+        ensures kept { Keeps (Self.Write.contents self.old) (Self.Write.contents self.new) }
+        ensures quiet { OnOk result (has_failed self.new ≡ has_failed self.old) }
+        ensures failed { OnErr result (has_failed self.new ≡ true) };
+}
+
+/// A writer, and whether a write of it has failed.
+#[derive(Drop)]
+pub struct WriteDevice<W: Write + Drop> {
+    pub writer: W,
+    /// Whether it failed, took nothing, or was interrupted each time.
+    pub failed: bool,
+}
+
+impl<W: Write + Drop> WriteDevice<W> {
+    /// A writer that has not failed.
+    pub fn new(writer: W) -> WriteDevice<W>
+        ensures writer { result.writer ≡ writer }
+        ensures failed { result.failed ≡ false }
+    {
+        WriteDevice {
+            writer,
+            failed: false,
+        }
+    }
+}
+
+impl<W: Write + Drop> Write for WriteDevice<W> {
+    ghost contents = { λ d. W.contents d.writer };
+
+    fn write(&mut self, buf: &[u8]) -> io::Result<usize> {
+        self.writer.write(buf)
+    }
+
+    fn flush(&mut self) -> io::Result<()> {
+        self.writer.flush()
+    }
+}
+
+impl<W: Write + Drop> Device for WriteDevice<W> {
+    ghost has_failed = { λ d. d.failed };
+
+    fn send_some(&mut self, bytes: &[u8]) -> Result<usize, Failed> {
+        for _ in 0..TRIES {
+            match self.writer.write(bytes) {
+                Ok(0) => {
+                    self.failed = true;
+                    return Err(Failed);
+                }
+                Ok(n) => return Ok(n),
+                Err(error) => {
+                    if error.kind() != ErrorKind::Interrupted {
+                        self.failed = true;
+                        return Err(Failed);
+                    }
+                }
+            }
+        }
+        self.failed = true;
+        Err(Failed)
+    }
+
+    fn send_rest(&mut self) -> Result<(), Failed> {
+        match self.writer.flush() {
+            Ok(()) => Ok(()),
+            Err(_) => {
+                self.failed = true;
+                Err(Failed)
+            }
+        }
+    }
+}
