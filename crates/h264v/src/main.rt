@@ -15,6 +15,12 @@ mod header_tests;
 #[cfg(test)]
 mod large_tests;
 #[cfg(test)]
+mod picture_tests;
+#[cfg(test)]
+mod plain;
+#[cfg(test)]
+mod scene;
+#[cfg(test)]
 mod set_tests;
 #[cfg(test)]
 mod stream_tests;
@@ -23,7 +29,8 @@ mod tests;
 mod words;
 
 use command::{command, not_text};
-use files::Opener;
+use files::{OpenedFiles, Opener};
+use h264_report::WriteDevice;
 use std::alloc::Global;
 use std::fs::File;
 use std::io::{BufWriter, Write};
@@ -48,12 +55,12 @@ impl Opener for SystemFiles<'_> {
 /// Runs the command that the arguments ask for. Want of memory before that is status 3.
 fn status(rt: &HostRuntime) -> io::Result<u8> {
     let alloc: Global = rt.alloc();
-    let mut err = rt.stderr();
+    let mut err = WriteDevice::new(rt.stderr());
     let Some(words) = words_of(rt, alloc)? else {
         return Ok(not_text(&mut err));
     };
-    let mut out = BufWriter::new(alloc, io::writer(rt))?;
-    let mut files = SystemFiles { rt };
+    let mut out = WriteDevice::new(BufWriter::new(alloc, io::writer(rt))?);
+    let mut files = OpenedFiles::new(SystemFiles { rt });
     Ok(command(alloc, words.as_slice(), &mut files, &mut out, &mut err))
 }
 

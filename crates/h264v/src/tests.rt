@@ -4,8 +4,9 @@
 
 use crate::check_tests::ONE_FRAME;
 use crate::command::{command, not_text};
-use crate::files::Opener;
+use crate::files::{OpenedFiles, Opener};
 use crate::words::words_of;
+use h264_report::WriteDevice;
 use std::alloc::Global;
 use std::env::{Env, FillError};
 use std::io;
@@ -162,12 +163,17 @@ fn fails_at(alloc: Global, failing: usize, most: usize) -> FailsAt {
 fn outcome_with(
     alloc: Global,
     command_word: &str,
-    mut file: OneFile,
-    mut out: FailsAt,
-    mut err: FailsAt,
+    file: OneFile,
+    out: FailsAt,
+    err: FailsAt,
 ) -> Result<Written, Fail> {
     let words = words(alloc, &["h264v", command_word, "stream"])?;
-    let status = command(alloc, words.as_slice(), &mut file, &mut out, &mut err);
+    let mut files = OpenedFiles::new(file);
+    let mut out = WriteDevice::new(out);
+    let mut err = WriteDevice::new(err);
+    let status = command(alloc, words.as_slice(), &mut files, &mut out, &mut err);
+    let WriteDevice { writer: out, .. } = out;
+    let WriteDevice { writer: err, .. } = err;
     Ok(Written {
         out: out.text,
         err: err.text,
@@ -479,17 +485,13 @@ fn faults_of_the_words(rt: &(impl Abort + AllocGlobal)) -> Result<(), Fail> {
     ];
     for fault in faults {
         let words = words(alloc, fault)?;
-        let mut out: Vec<u8> = Vec::new(alloc);
-        let mut err: Vec<u8> = Vec::new(alloc);
-        let status = command(
-            alloc,
-            words.as_slice(),
-            &mut whole(ONE_FRAME),
-            &mut out,
-            &mut err,
-        );
+        let mut files = OpenedFiles::new(whole(ONE_FRAME));
+        let mut out: WriteDevice<Vec<u8>> = WriteDevice::new(Vec::new(alloc));
+        let mut err: WriteDevice<Vec<u8>> = WriteDevice::new(Vec::new(alloc));
+        let status = command(alloc, words.as_slice(), &mut files, &mut out, &mut err);
         assert_eq!(rt; status, 64);
-        assert!(rt; out.is_empty());
+        assert!(rt; out.writer.is_empty());
+        let WriteDevice { writer: err, .. } = err;
         let text = String::from_utf8(err)?;
         assert!(rt; text.as_str().contains("Usage: "), "{text}");
     }
@@ -500,17 +502,13 @@ fn faults_of_the_words(rt: &(impl Abort + AllocGlobal)) -> Result<(), Fail> {
 fn no_such_file(rt: &(impl Abort + AllocGlobal)) -> Result<(), Fail> {
     let alloc = rt.alloc();
     let words = words(alloc, &["h264v", "units", "other"])?;
-    let mut out: Vec<u8> = Vec::new(alloc);
-    let mut err: Vec<u8> = Vec::new(alloc);
-    let status = command(
-        alloc,
-        words.as_slice(),
-        &mut whole(ONE_FRAME),
-        &mut out,
-        &mut err,
-    );
+    let mut files = OpenedFiles::new(whole(ONE_FRAME));
+    let mut out: WriteDevice<Vec<u8>> = WriteDevice::new(Vec::new(alloc));
+    let mut err: WriteDevice<Vec<u8>> = WriteDevice::new(Vec::new(alloc));
+    let status = command(alloc, words.as_slice(), &mut files, &mut out, &mut err);
     assert_eq!(rt; status, 4);
-    assert_eq!(rt; out.as_slice(), b"read failed\n".as_slice());
+    assert_eq!(rt; files.failures, 1);
+    assert_eq!(rt; out.writer.as_slice(), b"read failed\n".as_slice());
     Ok(())
 }
 
