@@ -1,7 +1,8 @@
 //! Files as sources of streams.
 #![tactic(auto)]
 
-ghost use Rattle.std.specs.Prelude.{◌≡◌, ℕ, ◌+◌, ◌-◌, ◌<◌, ◌≤◌, ◌⊎◌, ◌^◌, List, Option, None, IfOk, OnOk, OnErr};
+ghost use Rattle.std.specs.Prelude.{◌≡◌, ℕ, ◌+◌, ◌-◌, ◌<◌, ◌≤◌, ◌⊎◌, ◌^◌, true, false, List, Option, None, Some, Ok, IfOk, IfErr, OnOk, OnErr};
+ghost use Rattle.std.specs.IoError.{error_kind, kind_in, os_error_kinds};
 ghost use Rattle.std.specs.Io.KnownBytes.{Keeps};
 ghost use Rattle.h264v.specs.Files.{left_of};
 
@@ -77,6 +78,34 @@ impl<O: Opener + Drop> OpenedFiles<O> {
     }
 }
 
+/// Whether a read that gave this error was interrupted: whether the error is of the kind of EINTR, error 4 of the system.
+fn is_interruption(error: &io::Error) -> bool
+    ensures yes { result ≡ true → error_kind error.now ≡ kind_in os_error_kinds 4 }
+    ensures no { result ≡ false → error_kind error.now ≡ kind_in os_error_kinds 4 → ⊥ }
+{
+    matches!(error.kind(), ErrorKind::Interrupted)
+}
+
+/// What came of a read: so many bytes; or None where it was interrupted, which is no failure.
+///
+/// Failed: it failed by any other cause.
+fn outcome(read: io::Result<usize>) -> Result<Option<usize>, Failed>
+    ensures bytes { IfOk read (λ n. result ≡ Ok (Some n)) }
+    ensures interrupted { IfErr read (λ e. error_kind e ≡ kind_in os_error_kinds 4 → result ≡ Ok None) }
+    ensures failed { IfErr read (λ e. (error_kind e ≡ kind_in os_error_kinds 4 → ⊥) → OnOk result ⊥) }
+{
+    match read {
+        Ok(n) => Ok(Some(n)),
+        Err(error) => {
+            if is_interruption(&error) {
+                Ok(None)
+            } else {
+                Err(Failed)
+            }
+        }
+    }
+}
+
 impl<O: Opener + Drop> Source for OpenedFiles<O> {
     ghost left = { λ s. left_of O.File.Read.remaining s.reader };
 
@@ -92,14 +121,9 @@ impl<O: Opener + Drop> Source for OpenedFiles<O> {
         let Some(reader) = &mut self.reader else {
             return self.fail();
         };
-        match reader.read(piece) {
-            Ok(n) => Ok(Some(n)),
-            Err(error) => {
-                if error.kind() == ErrorKind::Interrupted {
-                    return Ok(None);
-                }
-                self.fail()
-            }
+        match outcome(reader.read(piece)) {
+            Ok(bytes) => Ok(bytes),
+            Err(Failed) => self.fail(),
         }
     }
 }
