@@ -1,5 +1,5 @@
 -- What a structure gives, wherever it is read.
-use Rattle.std.proofs.Common.{◌≡◌, ℕ, ℤ, Bool, true, false, IsTrue, List, Option, Some, None, Result, Ok, Err, refl, ap, sym, ◌∙◌, subst}
+use Rattle.std.proofs.Common.{◌≡◌, ℕ, ℤ, Bool, true, false, IsTrue, List, Option, Some, None, Result, Ok, Err, refl, ap, sym, ◌∙◌, subst, if◌then◌else◌}
 use Rattle.h264_base.specs.declared.element_name.ElementName.{ElementName}
 use Rattle.h264_base.specs.declared.rule.Rule.{Rule}
 use Rattle.h264_base.specs.declared.stop.Stop.{Stop}
@@ -48,6 +48,10 @@ pub gives-check : (rule : Rule) (bit : ℕ) (holds : Bool) → Gives (check rule
 unfolding run check
 gives-check rule bit true = record { gives = λ body i v j e. refl }
 gives-check rule bit false = record { gives = λ body i v j e. absurd (cc) }
+
+pub gives-if : {A : Type 0} (P : A → Type 0) (b : Bool) (g h : Grammar A) → Gives g P → Gives h P → Gives (if b then g else h) P
+gives-if P true g h x y = x
+gives-if P false g h x y = y
 
 -- what was read has the property
 pub gives-met : {X A S : Type 0} {took : S → List Call → Type 0} {failures : S → ℕ} {view : X → A} {g : Grammar A} {old new : Reader} {s s' : S} {x : X} (P : A → Type 0) → Gives g P → Meets took failures (Is view) g old new s s' (Ok x) → P (view x)

@@ -3,7 +3,7 @@ use Rattle.std.proofs.Common.{◌≡◌, ℕ, zero, suc, ◌==◌, ◌&&◌, ◌
 use Rattle.std.specs.Option.{is_some}
 use Rattle.std.specs.List.{list_all, list_any, range_with_len}
 use Rattle.std.proofs.Math.ListN as math
-use Rattle.h264_cavlc.proofs.Gives.{Gives, gives-done, gives-any, gives-bind}
+use Rattle.h264_cavlc.proofs.Gives.{Gives, gives-done, gives-any, gives-bind, gives-if}
 use Rattle.h264_near.specs.declared.motion.Motion.{Motion}
 use Rattle.h264_near.specs.declared.motion.Vector.{Vector}
 use Rattle.h264_near.specs.Coded.{CodedMacroblock, column_of, row_of}
@@ -154,13 +154,9 @@ module _ (width : ℕ) (slice : SliceContext) (picture : List CodedMacroblock) w
   gives-split inferred = gives-bind _ Same _ _ (gives-any _) (λ t0 x0. gives-bind _ Same _ _ (gives-any _) (λ t1 x1. gives-bind _ Same _ _ (gives-any _) (λ t2 x2. gives-bind _ Same _ _ (gives-any _) (λ t3 x3.
       gives-bind _ Same _ _ (gives-any _) (λ i0 y0. gives-bind _ Same _ _ (gives-any _) (λ i1 y1. gives-bind _ Same _ _ (gives-any _) (λ i2 y2. gives-bind _ Same _ _ (gives-any _) (λ i3 y3. gives-quarters t0 t1 t2 t3 i0 i1 i2 i3))))))))
 
-  gives-if : (b : Bool) (g h : _) → Gives g Same → Gives h Same → Gives (if b then g else h) Same
-  gives-if true g h x y = x
-  gives-if false g h x y = y
-
   gives-by : (inferred : Bool) (kind : ℕ) → Gives (motions_by width slice picture inferred kind) Same
   unfolding motions_by places_with column_of row_of
-  gives-by inferred kind = gives-if (kind == 0) _ _ (gives-one inferred) (gives-if (kind == 1) _ _ (gives-two inferred _ _ refl refl) (gives-if (kind == 2) _ _ (gives-two inferred _ _ refl refl) (gives-split inferred)))
+  gives-by inferred kind = gives-if Same (kind == 0) _ _ (gives-one inferred) (gives-if Same (kind == 1) _ _ (gives-two inferred _ _ refl refl) (gives-if Same (kind == 2) _ _ (gives-two inferred _ _ refl refl) (gives-split inferred)))
 
   whole-gives : (bit kind : ℕ) → Gives (motions width slice picture bit kind) Same
   unfolding motions

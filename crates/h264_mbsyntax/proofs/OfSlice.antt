@@ -10,7 +10,7 @@ use Rattle.std.proofs.Math.Seq.{take-append_seam}
 use Rattle.h264_base.specs.declared.mode.SliceType.{SliceType}
 use Rattle.h264_base.specs.declared.mode.SliceType.TheVariants as slice_type
 use Rattle.h264_base.specs.Grammar.{Grammar}
-use Rattle.h264_cavlc.proofs.Gives.{Gives, gives-done, gives-any, gives-bind, gives-check}
+use Rattle.h264_cavlc.proofs.Gives.{Gives, gives-done, gives-any, gives-bind, gives-check, gives-if}
 use Rattle.h264_near.specs.declared.motion.Motion.{Motion}
 use Rattle.h264_near.specs.declared.motion.Vector.{Vector}
 use Rattle.h264_near.specs.Coded.{CodedMacroblock}
@@ -27,10 +27,6 @@ use Rattle.h264_mbsyntax.proofs.Fits.{all-derived}
 use Rattle.h264_mbsyntax.proofs.Possible.{possible}
 
 -- ---- one macroblock
-
-gives-if : {A : Type 0} (P : A → Type 0) (b : Bool) (g h : Grammar A) → Gives g P → Gives h P → Gives (if b then g else h) P
-gives-if P true g h x y = x
-gives-if P false g h x y = y
 
 module _ (width : ℕ) (slice : SliceContext) (picture : List CodedMacroblock) where
   abbrev Own : CodedMacroblock → Type 0

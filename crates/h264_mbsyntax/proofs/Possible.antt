@@ -13,7 +13,7 @@ use Rattle.h264_base.specs.declared.stop.Stop.TheVariants.{No, Outside, Memory, 
 use Rattle.h264_base.specs.Call.{Call}
 use Rattle.h264_base.specs.Grammar.{Grammar, Done, ◌>>=◌, element, check, align, raw_bytes}
 use Rattle.h264_base.specs.Meets.{Reader, Meets}
-use Rattle.h264_cavlc.proofs.Gives.{Gives, gives-done, gives-any, gives-bind, gives-check}
+use Rattle.h264_cavlc.proofs.Gives.{Gives, gives-done, gives-any, gives-bind, gives-check, gives-if}
 use Rattle.h264_near.specs.declared.motion.Motion.{Motion}
 use Rattle.h264_near.specs.declared.samples.Samples.{Samples}
 use Rattle.h264_near.specs.Coded.{CodedMacroblock, Prediction, Intra4x4, Intra16x16, Pcm, Inter}
@@ -85,10 +85,6 @@ module _ (width : ℕ) (slice : SliceContext) (picture : List CodedMacroblock) w
   gives-pcm : Gives (pcm slice picture) Possible
   unfolding pcm pcm_of
   gives-pcm = gives-bind _ _ _ _ (gives-any _) (λ samples t. gives-done Possible _ tt)
-
-  gives-if : {A : Type 0} (P : A → Type 0) (b : Bool) (g h : Grammar A) → Gives g P → Gives h P → Gives (if b then g else h) P
-  gives-if P true g h x y = x
-  gives-if P false g h x y = y
 
   gives-intra : (bit kind : ℕ) → Gives (intra width slice picture bit kind) Possible
   unfolding intra

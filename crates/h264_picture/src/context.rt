@@ -14,7 +14,8 @@ use h264_header::{Header, SliceKind};
 use h264_lists::RefSlot;
 use h264_pps::Pps;
 use h264_sps::sps::Sps;
-use h264_tables::{Limits, limits};
+use h264_sps::usable;
+use h264_tables::Limits;
 use h264_vectors::SliceContext;
 
 fn type_of(kind: &SliceKind) -> SliceType
@@ -45,14 +46,11 @@ fn slice_qp(pps: &Pps, header: &Header) -> u8
 }
 
 /// What the level of a sequence allows, if it is one that is judged here.
-pub(crate) fn limits_of(sps: &Sps) -> Option<Limits>
+fn limits_of(sps: &Sps) -> Option<Limits>
     ensures here { result ≡ limits_of sps.now.level_idc sps.now.constraint_set_flags.set3 }
     ensures within { IfSome result (λ l. l.max_vector ≤ 512) }
 {
-    if sps.level_idc > 255 {
-        return None;
-    }
-    limits(sps.level_idc as u8, sps.constraint_set_flags.set3)
+    usable::limits_of(sps)
 }
 
 /// The greatest vertical vector component of a sequence, in quarter samples, and 1 more.

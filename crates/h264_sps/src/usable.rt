@@ -39,8 +39,8 @@ fn crops_within(size: FrameSize, cropping: Option<FrameCropping>) -> bool
     }
 }
 
-/// What the level of a set allows, if it is one that is judged here.
-fn limits_of(sps: &Sps) -> Option<Limits>
+/// What the level of a set allows (A.3.1); None where it is no level that is judged here.
+pub fn limits_of(sps: &Sps) -> Option<Limits>
     ensures { result ≡ limits_of sps.now.level_idc sps.now.constraint_set_flags.set3 }
 {
     if sps.level_idc > 255 {
@@ -49,8 +49,8 @@ fn limits_of(sps: &Sps) -> Option<Limits>
     limits(sps.level_idc as u8, sps.constraint_set_flags.set3)
 }
 
-/// max_dec_frame_buffering, if it is given.
-fn given_frames(sps: &Sps) -> Option<u32>
+/// max_dec_frame_buffering (E.2.1), in frames, if it is given.
+pub fn given_frames(sps: &Sps) -> Option<u32>
     ensures { result ≡ given_frames sps.now }
 {
     match &sps.vui {
@@ -62,8 +62,8 @@ fn given_frames(sps: &Sps) -> Option<u32>
     }
 }
 
-/// MaxDpbFrames (A.3.1).
-fn dpb_frames(sps: &Sps) -> u32
+/// MaxDpbFrames (A.3.1): how many frames the level allows the picture buffer to hold, at most 16; 0 where the level is none that is judged here.
+pub fn dpb_frames(sps: &Sps) -> u32
     ensures { result ≡ dpb_frames sps.now }
 {
     let Some(limits) = limits_of(sps) else {

@@ -19,16 +19,9 @@ use Rattle.h264_marking.specs.Held.{own_frame, with_own, slid_and_joined, joined
 use Rattle.h264_marking.specs.Ended.{resets_by}
 use Rattle.h264_dpb.specs.Bumping.{is_picture, is_held}
 use Rattle.h264_dpb.specs.Turns.{names}
+use Rattle.h264_verify.proofs.Truths.{from-ok}
 
 -- ---- which pictures are held
-
-pub true-or : (a b : Bool) → a ≡ true → (a || b) ≡ true
-true-or true b h = refl
-true-or false b h = cc
-
-pub or-true : (a b : Bool) → b ≡ true → (a || b) ≡ true
-or-true true b h = refl
-or-true false b h = h
 
 or-either : (a b c d : Bool) → (a ≡ true → (c || d) ≡ true) → (b ≡ true → (c || d) ≡ true) → (a || b) ≡ true → (c || d) ≡ true
 or-either true b c d f g h = f refl
@@ -127,10 +120,6 @@ own-by n c picture marks next b e h =
 
 own-holds : (n : ℕ) (c : Numbering) (picture : ℕ) (marks : Marks) (next : References) → with_own c picture marks ≡ Some next → Holds n next.frames → (picture == n || is_held (pictures_in marks.held.frames) n) ≡ true
 own-holds n c picture marks next e h = own-by n c picture marks next (nat_lt (length marks.held.frames) (frame_places c.max_num_ref_frames)) e h
-
-from-ok : (o : Option References) (bit : ℕ) (next : References) → ok_or o bit ≡ Ok next → o ≡ Some next
-from-ok None bit next is = cc
-from-ok (Some refs) bit next is = cc
 
 joined-holds : (n : ℕ) (c : Numbering) (picture bit : ℕ) (os : List MarkingOperation) (refs next : References) (r : Result Marks ℕ) → all_operated c os (marks_of refs) ≡ r → joined c picture bit r ≡ Ok next → Holds n next.frames → (picture == n || is_held (names refs) n) ≡ true
 joined-holds n c picture bit os refs next (Err at) a is h = cc

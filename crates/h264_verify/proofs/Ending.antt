@@ -25,12 +25,11 @@ use Rattle.h264_verify.specs.Telling.{Agree}
 use Rattle.h264_verify.specs.Pictures.{CodedSlice, CodedPicture, last_slice}
 use Rattle.h264_verify.specs.Decoding.{EachSlice, slices_of, number_of, parameters_of, Refers, IsDecoded}
 use Rattle.h264_verify.specs.Keeping.{IsMaking, AreFalling, HasReferences, HoldsBegun, place_by}
-use Rattle.h264_verify.proofs.Making.{each-slice, offset-of}
+use Rattle.h264_verify.proofs.Agreeing.{each-slice, refers-agree}
+use Rattle.h264_verify.proofs.Making.{offset-of}
+use Rattle.h264_verify.proofs.Truths.{is-same}
 
 -- ---- the parameters of slices by their numbers
-
-is-same : (n : ℕ) → (n == n) ≡ true
-is-same n = grind (arith, nat_tests)
 
 is-other : (m n : ℕ) → n < m → (m == n) ≡ false
 is-other m n h = grind (arith, nat_tests)

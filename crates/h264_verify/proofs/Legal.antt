@@ -9,7 +9,7 @@ use Rattle.h264_base.specs.Grammar.{Grammar, Element, Says}
 use Rattle.h264_base.specs.Run.{Run}
 use Rattle.h264_base.proofs.OneAnswer.{run-one}
 use Rattle.h264_bits.specs.Forms.{natural}
-use Rattle.h264_cavlc.proofs.Gives.{Gives, gives-done, gives-any, gives-bind, gives-check}
+use Rattle.h264_cavlc.proofs.Gives.{Gives, gives-done, gives-any, gives-bind, gives-check, gives-if}
 use Rattle.h264_rbsp.specs.Rbsp.{body_of}
 use Rattle.h264_units.specs.Stream.{NalUnit}
 use Rattle.h264_sps.specs.declared.sps.Sps.{Sps}
@@ -229,10 +229,6 @@ IsContent before unit (contents.OfSps set) = Unit {0}
 IsContent before unit (contents.OfPps set) = Unit {0}
 IsContent before unit (contents.OfSlice h macroblocks) = IsHeader (sets_of (maps_of before)) (slice_unit unit) h
 IsContent before unit contents.Passed = Unit {0}
-
-gives-if : {A : Type 0} (P : A → Type 0) (b : Bool) (g h : Grammar A) → Gives g P → Gives h P → Gives (if b then g else h) P
-gives-if P true g h x y = x
-gives-if P false g h x y = y
 
 other-gives : (kind : ℕ) (before : History) (unit : NalUnit) → Gives (other_content modes.Full kind before unit) (IsContent before unit)
 other-gives kind before unit = gives-if (IsContent before unit) (is_slice kind) _ _ (gives-bind _ (IsContent before unit) _ _ (header-gives (sets_of (maps_of before)) (slice_unit unit)) (λ h i. gives-done (IsContent before unit) _ i)) (gives-done (IsContent before unit) _ tt)

@@ -19,23 +19,13 @@ use Rattle.h264_dpb.specs.Kept.{Each, IsAtPlace, HasFrames, KeepsBuffer, IsOrder
 use Rattle.h264_dpb.proofs.Finding.{lent-at, early-at, taken-at}
 use Rattle.h264_verify.specs.declared.decoder.Decoder.{Decoder}
 use Rattle.h264_verify.specs.Keeping.{KeepsOutput, HasFormat, IsNear, IsReference, place_by}
+use Rattle.h264_verify.proofs.Truths.{is-same, true-or, or-true}
 
 -- ---- frames stay where they are lent
 
 -- each frame of the buffer is lent as it was
 abbrev pub KeepsPlaces : (ℕ → Option Frame) → (ℕ → Option Frame) → List (Entry Placed) → Type 0
 KeepsPlaces old new es = (p : ℕ) → is_taken es p ≡ true → old p ≢ None → new p ≡ old p
-
-pub is-same : (n : ℕ) → (n == n) ≡ true
-is-same n = grind (arith, nat_tests)
-
-true-or : (a b : Bool) → a ≡ true → (a || b) ≡ true
-true-or true b h = refl
-true-or false b h = cc
-
-or-true : (a b : Bool) → b ≡ true → (a || b) ≡ true
-or-true true b h = refl
-or-true false b h = h
 
 pub some-not : {A : Type 0} (o : Option A) (x : A) → o ≡ Some x → o ≢ None
 some-not o x e h = let k : Some x ≡ None = sym e ∙ h in cc

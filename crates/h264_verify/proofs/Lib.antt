@@ -1,3 +1,4 @@
+pub mod Truths
 pub mod Tellings
 pub mod Saying
 pub mod Agreeing

@@ -36,7 +36,8 @@ use Rattle.h264_verify.specs.Sound.{HasSet}
 use Rattle.h264_verify.specs.Held.{is_idr_marking}
 use Rattle.h264_verify.proofs.Agreeing.{each-slice}
 use Rattle.h264_verify.proofs.Alike.{AreReadSlices}
-use Rattle.h264_verify.proofs.Among.{pictures_in, Holds, true-or, or-true, filled-holds, marked-holds}
+use Rattle.h264_verify.proofs.Among.{pictures_in, Holds, filled-holds, marked-holds}
+use Rattle.h264_verify.proofs.Truths.{is-same, true-or, or-true}
 
 -- ---- pictures whose slices were read
 
@@ -145,9 +146,6 @@ IsHeldBy n frames f = f.picture ≡ Some n → Holds n frames
 all-held : (n : ℕ) (frames fs : List ReferenceFrame) → (Holds n fs → Holds n frames) → AllByRecursion (IsHeldBy n frames) fs
 all-held n frames [] f = tt
 all-held n frames (g ∷ fs) f = (λ e. f (true-or _ _ (ap (λ (o : Option ℕ). is_picture n o) e ∙ is-same n)), all-held n frames fs (λ h. f (or-true (is_picture n g.picture) _ h)))
-  where
-    is-same : (k : ℕ) → (k == k) ≡ true
-    is-same k = grind (arith, nat_tests)
 
 slot-held : (P : ReferenceFrame → Type 0) (slots : List RefSlot) (k : ℕ) (f : ReferenceFrame) → AreOf P slots → slice_get slots k ≡ Some (Held f) → P f
 slot-held P [] k f a e = absurd (cc)

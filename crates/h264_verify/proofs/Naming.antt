@@ -43,8 +43,8 @@ use Rattle.h264_verify.specs.Decoding.{number_of}
 use Rattle.h264_verify.specs.Slices.{is_i}
 use Rattle.h264_verify.specs.Sound.{AreSound}
 use Rattle.h264_verify.specs.Keeping.{KeepsOutput, HasPlace, SlicesSome, BeginsFrames, is_typed}
-use Rattle.h264_verify.proofs.Among.{true-or, or-true}
-use Rattle.h264_verify.proofs.Lending.{if-some, is-same}
+use Rattle.h264_verify.proofs.Truths.{is-same, true-or, or-true}
+use Rattle.h264_verify.proofs.Lending.{if-some}
 use Rattle.h264_verify.proofs.Making.{context-number}
 use Rattle.h264_verify.proofs.Referring.{among-within}
 

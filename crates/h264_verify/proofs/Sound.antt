@@ -8,7 +8,7 @@ use Rattle.h264_base.proofs.Chains.{then-some}
 use Rattle.h264_base.specs.declared.stop.Stop.{Stop}
 use Rattle.h264_bits.specs.declared.element.Found.{Found}
 use Rattle.h264_sps.specs.declared.sps.Sps.{Sps}
-use Rattle.h264_sps.specs.Usable.{is_usable, is_frame_size, crops_within, holds_references, buffers_within}
+use Rattle.h264_sps.specs.Usable.{is_usable, is_frame_size, crops_within, given_frames, dpb_frames, holds_references, buffers_within}
 use Rattle.h264_header.specs.declared.header.Marking.{Marking}
 use Rattle.h264_header.specs.declared.header.Marking.TheVariants as mode
 use Rattle.h264_header.specs.Picture.{is_idr, is_reference}
@@ -21,12 +21,13 @@ use Rattle.h264_marking.specs.Operations.{Marks, marks_of, with_frames, all_oper
 use Rattle.h264_marking.specs.Held.{own_frame, with_own, slid_and_joined, joined, marked}
 use Rattle.h264_marking.specs.Ended.{ended, numbering_of}
 use Rattle.h264_marking.proofs.Room.{filled-room, marked-room}
-use Rattle.h264_picture.specs.Buffer.{buffer_size, given_frames, dpb_frames}
+use Rattle.h264_picture.specs.Buffer.{buffer_size}
 use Rattle.h264_dpb.specs.Bumping.{is_picture, is_held}
 use Rattle.h264_dpb.specs.Turns.{names}
 use Rattle.h264_verify.specs.Demands.{judged}
 use Rattle.h264_verify.specs.Pictures.{CodedPicture, held_after, held_in, is_met, prev_ref_frame_num_of, end_of_picture}
 use Rattle.h264_verify.specs.Sound.{IsMarked, HasSet, AreSound, has_ended}
+use Rattle.h264_verify.proofs.Truths.{is-same, true-or, or-true, from-ok}
 
 -- ---- how many are held
 
@@ -110,17 +111,6 @@ after-few p ps s = let few = held-few (p ∷ ps) s in let fit = places-fit p.fir
 
 -- ---- a reference picture that has ended is among those held
 
-is-same : (n : ℕ) → (n == n) ≡ true
-is-same n = grind (arith, nat_tests)
-
-true-or : (a b : Bool) → a ≡ true → (a || b) ≡ true
-true-or true b h = refl
-true-or false b h = cc
-
-or-true : (a b : Bool) → b ≡ true → (a || b) ≡ true
-or-true true b h = refl
-or-true false b h = h
-
 last-held : (frames : List ReferenceFrame) (f : ReferenceFrame) (picture : ℕ) → f.picture ≡ Some picture → is_held (map (λ (f : ReferenceFrame). f.picture) (frames ++ f ∷ [])) picture ≡ true
 last-held [] f picture e = true-or _ _ (ap (λ (o : Option ℕ). is_picture picture o) e ∙ is-same picture)
 last-held (g ∷ frames) f picture e = or-true (is_picture picture g.picture) _ (last-held frames f picture e)
@@ -133,10 +123,6 @@ own-by c picture marks next false e = cc
 
 own-held : (c : Numbering) (picture : ℕ) (marks : Marks) (next : References) → with_own c picture marks ≡ Some next → is_held (names next) picture ≡ true
 own-held c picture marks next e = own-by c picture marks next (nat_lt (length marks.held.frames) (frame_places c.max_num_ref_frames)) e
-
-from-ok : (o : Option References) (bit : ℕ) (next : References) → ok_or o bit ≡ Ok next → o ≡ Some next
-from-ok None bit next is = cc
-from-ok (Some refs) bit next is = cc
 
 joined-own : (c : Numbering) (picture bit : ℕ) (r : Result Marks ℕ) (next : References) → joined c picture bit r ≡ Ok next → is_held (names next) picture ≡ true
 joined-own c picture bit (Err at) next is = cc
