@@ -25,8 +25,6 @@ pub mod session;
 pub mod sink;
 pub mod slices;
 pub mod source;
-#[cfg(test)]
-mod tests;
 mod unit;
 
 pub use judge::Summary;

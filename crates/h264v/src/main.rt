@@ -21,6 +21,8 @@ mod plain;
 #[cfg(test)]
 mod scene;
 #[cfg(test)]
+mod session_tests;
+#[cfg(test)]
 mod set_tests;
 #[cfg(test)]
 mod stream_tests;

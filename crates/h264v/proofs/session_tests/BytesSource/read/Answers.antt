@@ -1,5 +1,5 @@
 use Rattle.std.proofs.Common.{◌≡◌, ◌<◌, ℕ, List, [], ◌∷◌, ◌++◌, length, take, drop, Some, slice_set, slice_index, refl, ap, ◌∙◌, subst, arith, rules}
-use Rattle.h264_verify.proofs.tests.BytesSource.read.Goals as goal
+use Rattle.h264v.proofs.session_tests.BytesSource.read.Goals as goal
 
 same : (a b : List ℕ) → Some a ≡ Some b → a ≡ b
 same a b e = cc

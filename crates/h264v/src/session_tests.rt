@@ -1,13 +1,13 @@
-//! Each public call once, on a stream of two IDR pictures in pieces.
+//! Sessions and runs with sources and sinks of their own, on a stream of two IDR pictures in pieces.
 #![tactic(auto)]
 
 ghost use Rattle.std.specs.Prelude.{◌≡◌, ◌<◌, drop, length};
 
-use crate::running::run_pieces;
-use crate::{FrameSink, Session, Source, Summary, laws, run};
 use h264_base::{ElementName, Elements, Failed, Mode, SliceType, Stop, Target};
 use h264_dpb::{FrameOut, Rectangle};
 use h264_plane::Frame;
+use h264_verify::running::run_pieces;
+use h264_verify::{FrameSink, Session, Source, Summary, laws, run};
 use std::test::Fail;
 
 /// Two parameter sets, and two IDR pictures of one macroblock with different idr_pic_id.
