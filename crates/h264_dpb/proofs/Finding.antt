@@ -1,12 +1,12 @@
 -- The place of a picture, by its number.
-use Rattle.std.proofs.Common.{◌≡◌, ℕ, ◌+◌, ◌<◌, ◌≤◌, ◌==◌, ◌||◌, Bool, true, false, List, [], ◌∷◌, Option, Some, None, refl, ap, ◌∙◌, arith, eqb-true, if◌then◌else◌}
+use Rattle.std.proofs.Common.{◌≡◌, ℕ, ◌+◌, ◌<◌, ◌≤◌, ◌==◌, Bool, true, false, List, [], ◌∷◌, Option, Some, None, refl, ap, ◌∙◌, arith, eqb-true, if◌then◌else◌}
 use Rattle.std.specs.Prelude.{IfSome}
-use Rattle.std.proofs.lemmas.Bool.Decides.{nat_tests}
 use Rattle.h264_plane.specs.declared.frame.Frame.{Frame}
 use Rattle.h264_dpb.specs.declared.entry.Entry.{Entry}
 use Rattle.h264_dpb.specs.declared.entry.Placed.{Placed}
 use Rattle.h264_dpb.specs.Numbered.{AreRising, number_of, is_taken, place_in}
 use Rattle.h264_dpb.specs.Kept.{Each, IsAtPlace}
+use Rattle.h264_dpb.proofs.Truths.{is-same, true-or, or-true}
 
 lent-if : (frames : ℕ → Frame) (lent : ℕ → Option Frame) (e : Entry Placed) (n : ℕ) (rest : Option ℕ) (b : Bool) → (e.of.picture == n) ≡ b → IsAtPlace frames lent e.of → IfSome rest (λ place. lent place ≡ Some (frames n)) → IfSome (if b then Some e.of.place else rest) (λ place. lent place ≡ Some (frames n))
 lent-if frames lent e n rest true h a r = a.0 ∙ ap (λ (k : ℕ). Some (frames k)) (eqb-true e.of.picture n h)
@@ -16,7 +16,7 @@ pub lent-at : (frames : ℕ → Frame) (lent : ℕ → Option Frame) (es : List 
 lent-at frames lent [] n h = tt
 lent-at frames lent (e ∷ es) n h = lent-if frames lent e n (place_in es n) (e.of.picture == n) refl h.0 (lent-at frames lent es n h.1)
 
-rising-high : (low high : ℕ) (es : List (Entry Placed)) → AreRising number_of low es high → low ≤ high
+pub rising-high : (low high : ℕ) (es : List (Entry Placed)) → AreRising number_of low es high → low ≤ high
 rising-high low high [] h = h
 rising-high low high (e ∷ es) h = let k = rising-high (e.of.picture + 1) high es h.1 in let l = h.0 in omega (arith, k, l)
 
@@ -27,17 +27,6 @@ early-if high e n rest false h l r = r
 pub early-at : (low high : ℕ) (es : List (Entry Placed)) (n : ℕ) → AreRising number_of low es high → IfSome (place_in es n) (λ place. n < high)
 early-at low high [] n h = tt
 early-at low high (e ∷ es) n h = early-if high e n (place_in es n) (e.of.picture == n) refl (rising-high (e.of.picture + 1) high es h.1) (early-at (e.of.picture + 1) high es n h.1)
-
-is-same : (n : ℕ) → (n == n) ≡ true
-is-same n = grind (arith, nat_tests)
-
-true-or : (a b : Bool) → a ≡ true → (a || b) ≡ true
-true-or true b h = refl
-true-or false b h = cc
-
-or-true : (a b : Bool) → b ≡ true → (a || b) ≡ true
-or-true true b h = refl
-or-true false b h = h
 
 taken-if : (e : Entry Placed) (es : List (Entry Placed)) (n : ℕ) (rest : Option ℕ) (b : Bool) → IfSome rest (λ place. is_taken es place ≡ true) → IfSome (if b then Some e.of.place else rest) (λ place. is_taken (e ∷ es) place ≡ true)
 taken-if e es n rest true r = true-or _ _ (is-same e.of.place)

@@ -16,4 +16,5 @@ pub mod OutputSteps
 pub mod Following
 pub mod Draining
 pub mod Answering
+pub mod Truths
 pub mod Finding

@@ -19,11 +19,11 @@ pub record Filled (n : Numbering) (count prev : ℕ) (held : References) (turn l
   pub number : last_or prev (numbers_behind count prev n.max_frame_num) ≡ last_or last (numbers_behind (count - turn) last n.max_frame_num)
 
 -- what filling one answers
-filled-some : (o : Option References) (old new : References) (x : Unit {0}) (e : Stop) → Ok x ≡ (if is_some o then Ok tt else Err e) → new ≡ unwrap_or o old → o ≡ Some new
+pub filled-some : (o : Option References) (old new : References) (x : Unit {0}) (e : Stop) → Ok x ≡ (if is_some o then Ok tt else Err e) → new ≡ unwrap_or o old → o ≡ Some new
 filled-some None old new x e h k = cc
 filled-some (Some refs) old new x e h k = ap Some (sym k)
 
-filled-none : (o : Option References) (e f : Stop) → (let r : Result (Unit {0}) Stop = Err f in r ≡ (if is_some o then Ok tt else Err e)) → (o ≡ None) × (f ≡ e)
+pub filled-none : (o : Option References) (e f : Stop) → (let r : Result (Unit {0}) Stop = Err f in r ≡ (if is_some o then Ok tt else Err e)) → (o ≡ None) × (f ≡ e)
 filled-none None e f h = (refl, cc)
 filled-none (Some refs) e f h = cc
 

@@ -67,9 +67,9 @@ slid-own-room : (c : Numbering) (picture : ℕ) (refs next : References) (o : Op
 slid-own-room c picture refs next None is = cc
 slid-own-room c picture refs next (Some frames) is = own-room c picture (with_frames (marks_of refs) frames) next is
 
-from-ok : (o : Option References) (bit : ℕ) (next : References) → ok_or o bit ≡ Ok next → o ≡ Some next
+pub from-ok : {A : Type 0} (o : Option A) (bit : ℕ) (next : A) → ok_or o bit ≡ Ok next → o ≡ Some next
 from-ok None bit next is = cc
-from-ok (Some refs) bit next is = cc
+from-ok (Some a) bit next is = cc
 
 joined-room : (c : Numbering) (picture bit : ℕ) (r : Result Marks ℕ) (next : References) → joined c picture bit r ≡ Ok next → length next.frames ≤ frame_places c.max_num_ref_frames
 joined-room c picture bit (Err at) next is = cc

@@ -19,8 +19,6 @@ mod run;
 mod samples;
 mod sequence;
 mod step;
-#[cfg(test)]
-mod tests;
 pub mod work;
 
 pub use buffer::buffer_size;

@@ -17,9 +17,9 @@ use Rattle.h264_marking.specs.Window.{least_pic_num, slide, missing_frame, with_
 use Rattle.h264_marking.specs.Operations.{Marks, marks_of, with_frames, pic_num_x, is_below, made_long, operated, go_on, all_operated}
 use Rattle.h264_marking.specs.Held.{own_frame, with_own, slid_and_joined, joined, marked, idr_references}
 use Rattle.h264_marking.specs.Ended.{resets_by}
+use Rattle.h264_marking.proofs.Room.{from-ok}
 use Rattle.h264_dpb.specs.Bumping.{is_picture, is_held}
 use Rattle.h264_dpb.specs.Turns.{names}
-use Rattle.h264_verify.proofs.Truths.{from-ok}
 
 -- ---- which pictures are held
 

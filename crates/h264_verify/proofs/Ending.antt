@@ -27,7 +27,8 @@ use Rattle.h264_verify.specs.Decoding.{EachSlice, slices_of, number_of, paramete
 use Rattle.h264_verify.specs.Keeping.{IsMaking, AreFalling, HasReferences, HoldsBegun, place_by}
 use Rattle.h264_verify.proofs.Agreeing.{each-slice, refers-agree}
 use Rattle.h264_verify.proofs.Making.{offset-of}
-use Rattle.h264_verify.proofs.Truths.{is-same}
+use Rattle.h264_dpb.proofs.Finding.{rising-high}
+use Rattle.h264_dpb.proofs.Truths.{is-same}
 
 -- ---- the parameters of slices by their numbers
 
@@ -81,7 +82,7 @@ module _ (frames : ℕ → Frame) (p : CodedPicture) (ps : List CodedPicture) (d
   }
     where
       offsets : EachSlice (λ s. (parameters_of s).filter.chroma_qp_index_offset ≡ p.first.pps.chroma_qp_index_offset) (slices_of p)
-      offsets = each-slice _ _ (slices_of p) (λ s e. offset-of s.pps s.header ∙ ap (λ (x : Pps). x.chroma_qp_index_offset) e) h.so_far.sets
+      offsets = each-slice (λ s e. offset-of s.pps s.header ∙ ap (λ (x : Pps). x.chroma_qp_index_offset) e) (slices_of p) h.so_far.sets
 
   refers-in : (q : Sequence) → d.work.active ≡ Some q → (s : CodedSlice) → HasReferences frames (p ∷ ps) (length ps) d s → Refers frames p ps (place_by d) (setting_of q).reference s
   refers-in q a s e = record {
@@ -100,7 +101,7 @@ module _ (frames : ℕ → Frame) (p : CodedPicture) (ps : List CodedPicture) (d
         size = size;
         place = place_by d;
         reference = (setting_of q).reference;
-        refers = each-slice _ _ (slices_of p) (refers-in q a) h.so_far.references;
+        refers = each-slice (refers-in q a) (slices_of p) h.so_far.references;
         slices = making.slices;
         parameters = is-making.parameters;
         samples = subst (λ (w : ℕ). IsDecodedBy (record { across = w; down = p.first.sps.frame_size.height; reference = (setting_of q).reference }) (place_by d) making.slices (last_slice p).macroblocks (λ c. at (plane_of c f))) s.0
@@ -121,10 +122,6 @@ frame-below frames n f k h = let e : (k == n) ≡ false = grind (arith, nat_test
 pub with-agrees : (frames : ℕ → Frame) (n : ℕ) (f : Frame) → Agree n frames (with_frame frames n f)
 with-agrees frames n f k h = frame-below frames n f k h
 
-rising-high : (low high : ℕ) (es : List (Entry Placed)) → AreRising number_at low es high → low ≤ high
-rising-high low high [] h = h
-rising-high low high (e ∷ es) h = let k = rising-high (e.of.picture + 1) high es h.1 in let l = h.0 in omega (arith, k, l)
-
 each-agrees : (frames others : ℕ → Frame) (lent : ℕ → Option Frame) (low high : ℕ) (es : List (Entry Placed)) → Agree high frames others → AreRising number_at low es high → Each (IsAtPlace frames lent) es → Each (IsAtPlace others lent) es
 each-agrees frames others lent low high [] a r h = tt
 each-agrees frames others lent low high (e ∷ es) a r h =
@@ -134,19 +131,13 @@ each-agrees frames others lent low high (e ∷ es) a r h =
 pub frames-agree : (frames others : ℕ → Frame) (lent : ℕ → Option Frame) (next : ℕ) (output : Output) → Agree next frames others → AreRising number_at 0 output.buffer.entries next → HasFrames frames lent output → HasFrames others lent output
 frames-agree frames others lent next output a r h = record { each = each-agrees frames others lent 0 next output.buffer.entries a r h.each }
 
-refers-agree : (frames others : ℕ → Frame) (p : CodedPicture) (ps : List CodedPicture) (place : ℕ → ℕ) (reference : _) (n : ℕ) → length ps ≤ n → Agree n frames others → (s : CodedSlice) → Refers frames p ps place reference s → Refers others p ps place reference s
-refers-agree frames others p ps place reference n m a s h = record {
-  before = h.before;
-  samples = λ k i small e c x y. h.samples k i small e c x y ∙ ap (λ (f : Frame). at (plane_of c f) x y) (a i (let b = h.before k i small e in omega (arith, b, m)));
-}
-
 -- the same frames before it decode it
 pub decoded-as : (frames others : ℕ → Frame) (p : CodedPicture) (ps : List CodedPicture) (f : Frame) (n : ℕ) → length ps ≤ n → Agree n frames others → IsDecoded frames p ps f → IsDecoded others p ps f
 decoded-as frames others p ps f n m a h = record {
   size = h.size;
   place = h.place;
   reference = h.reference;
-  refers = each-slice _ _ (slices_of p) (refers-agree frames others p ps h.place h.reference n m a) h.refers;
+  refers = each-slice (refers-agree frames others p ps h.place h.reference (λ k l. a k (omega (arith, l, m)))) (slices_of p) h.refers;
   slices = h.slices;
   parameters = h.parameters;
   samples = h.samples;

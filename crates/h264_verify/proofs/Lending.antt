@@ -19,7 +19,7 @@ use Rattle.h264_dpb.specs.Kept.{Each, IsAtPlace, HasFrames, KeepsBuffer, IsOrder
 use Rattle.h264_dpb.proofs.Finding.{lent-at, early-at, taken-at}
 use Rattle.h264_verify.specs.declared.decoder.Decoder.{Decoder}
 use Rattle.h264_verify.specs.Keeping.{KeepsOutput, HasFormat, IsNear, IsReference, place_by}
-use Rattle.h264_verify.proofs.Truths.{is-same, true-or, or-true}
+use Rattle.h264_dpb.proofs.Truths.{is-same, true-or, or-true}
 
 -- ---- frames stay where they are lent
 

@@ -1,4 +1,3 @@
-pub mod Truths
 pub mod Tellings
 pub mod Saying
 pub mod Agreeing

@@ -36,13 +36,8 @@ use Rattle.h264_verify.specs.UnitOutcome.{structure_from}
 use Rattle.h264_verify.specs.Feeding.{ReadsSlice}
 use Rattle.h264_verify.specs.Keeping.{KeepsOutput, HasFormat, IsRoomFor, format_of, IsSized, IsNear, HasReferences, AreFalling, IsMaking, HoldsBegun, place_by}
 use Rattle.h264_verify.proofs.Saying.{elements-tell, elements-front}
+use Rattle.h264_verify.proofs.Agreeing.{each-slice}
 use Rattle.h264_verify.proofs.Lending.{output-kept, holds-serves, near-is, near-reference, near-taken, same-place, reference-kept}
-
--- ---- slices
-
-pub each-slice : (P Q : CodedSlice → Type 0) (slices : List CodedSlice) → ((s : CodedSlice) → P s → Q s) → EachSlice P slices → EachSlice Q slices
-each-slice P Q [] f h = tt
-each-slice P Q (s ∷ slices) f h = (f s h.0, each-slice P Q slices f h.1)
 
 -- ---- what goes with a slice
 
@@ -125,7 +120,7 @@ module _ (frames : ℕ → Frame) (p : CodedPicture) (ps : List CodedPicture) (s
           holds = holds;
           numbers = (omega (arith, number, longer), subst (λ (n : ℕ). AreFalling n slices) (sym number) h.so_far.numbers);
           sets = (set, h.so_far.sets);
-          references = (referred, each-slice _ _ slices (λ r e. record { each = λ k n small f. reference-kept frames (length ps) old new n output first kept (e.each k n small f) }) h.so_far.references);
+          references = (referred, each-slice (λ r e. record { each = λ k n small f. reference-kept frames (length ps) old new n output first kept (e.each k n small f) }) slices h.so_far.references);
           samples = made;
         };
       },

@@ -33,15 +33,6 @@ use Rattle.h264_verify.proofs.Stepping.{steps-append}
 
 -- ---- one number
 
--- what filling one answers
-pub filled-some : (o : Option References) (old new : References) (x : Unit {0}) (e : Stop) → Ok x ≡ (if is_some o then Ok tt else Err e) → new ≡ unwrap_or o old → o ≡ Some new
-filled-some None old new x e h k = cc
-filled-some (Some refs) old new x e h k = ap Some (sym k)
-
-pub filled-none : (o : Option References) (e f : Stop) → (let r : Result (Unit {0}) Stop = Err f in r ≡ (if is_some o then Ok tt else Err e)) → (o ≡ None) × (f ≡ e)
-filled-none None e f h = (refl, cc)
-filled-none (Some refs) e f h = cc
-
 -- a missing frame is held once it is filled
 last-missing : (number : ℕ) (frames : List ReferenceFrame) → 0 < missing_in (map (λ f. f.picture) (frames ++ missing_frame number ∷ []))
 last-missing number [] =

@@ -37,7 +37,7 @@ use Rattle.h264_verify.specs.Held.{is_idr_marking}
 use Rattle.h264_verify.proofs.Agreeing.{each-slice}
 use Rattle.h264_verify.proofs.Alike.{AreReadSlices}
 use Rattle.h264_verify.proofs.Among.{pictures_in, Holds, filled-holds, marked-holds}
-use Rattle.h264_verify.proofs.Truths.{is-same, true-or, or-true}
+use Rattle.h264_dpb.proofs.Truths.{is-same, true-or, or-true}
 
 -- ---- pictures whose slices were read
 

@@ -43,7 +43,7 @@ use Rattle.h264_verify.specs.Decoding.{number_of}
 use Rattle.h264_verify.specs.Slices.{is_i}
 use Rattle.h264_verify.specs.Sound.{AreSound}
 use Rattle.h264_verify.specs.Keeping.{KeepsOutput, HasPlace, SlicesSome, BeginsFrames, is_typed}
-use Rattle.h264_verify.proofs.Truths.{is-same, true-or, or-true}
+use Rattle.h264_dpb.proofs.Truths.{is-same, true-or, or-true}
 use Rattle.h264_verify.proofs.Lending.{if-some}
 use Rattle.h264_verify.proofs.Making.{context-number}
 use Rattle.h264_verify.proofs.Referring.{among-within}

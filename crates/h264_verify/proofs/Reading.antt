@@ -31,7 +31,7 @@ use Rattle.h264_picture.specs.Filter.{slice_filter}
 use Rattle.h264_verify.specs.Lists.{context_in}
 use Rattle.h264_verify.specs.Sound.{HasPps}
 use Rattle.h264_verify.specs.Decoding.{slices_of}
-use Rattle.h264_verify.proofs.Making.{each-slice}
+use Rattle.h264_verify.proofs.Agreeing.{each-slice}
 use Rattle.h264_verify.specs.declared.decoder.Decoder.{Decoder}
 use Rattle.h264_verify.specs.Buffering.{within_newest}
 use Rattle.h264_verify.specs.Keeping.{HoldsBegun, KeepsOutput, KeepsDecoder, BeginsFrames}
@@ -256,7 +256,7 @@ begun-later frames s p ps ms d h = record {
     holds = h.so_far.holds;
     numbers = (h.so_far.numbers.0, h.so_far.numbers.1);
     sets = (h.so_far.sets.0, h.so_far.sets.1);
-    references = (record { each = h.so_far.references.0.each }, each-slice _ _ (slices_of p) (λ t k. record { each = k.each }) h.so_far.references.1);
+    references = (record { each = h.so_far.references.0.each }, each-slice (λ t k. record { each = k.each }) (slices_of p) h.so_far.references.1);
     samples = λ making m. h.so_far.samples making (record { parameters = (m.parameters.0, m.parameters.1); offsets = m.offsets; places = m.places });
   };
 }

@@ -20,14 +20,14 @@ use Rattle.h264_marking.specs.Gaps.{unused_short_term_frame_nums, all_filled, en
 use Rattle.h264_marking.specs.Operations.{Marks, marks_of, with_frames, all_operated}
 use Rattle.h264_marking.specs.Held.{own_frame, with_own, slid_and_joined, joined, marked}
 use Rattle.h264_marking.specs.Ended.{ended, numbering_of}
-use Rattle.h264_marking.proofs.Room.{filled-room, marked-room}
+use Rattle.h264_marking.proofs.Room.{filled-room, marked-room, from-ok}
 use Rattle.h264_picture.specs.Buffer.{buffer_size}
 use Rattle.h264_dpb.specs.Bumping.{is_picture, is_held}
 use Rattle.h264_dpb.specs.Turns.{names}
+use Rattle.h264_dpb.proofs.Truths.{is-same, true-or, or-true}
 use Rattle.h264_verify.specs.Demands.{judged}
 use Rattle.h264_verify.specs.Pictures.{CodedPicture, held_after, held_in, is_met, prev_ref_frame_num_of, end_of_picture}
 use Rattle.h264_verify.specs.Sound.{IsMarked, HasSet, AreSound, has_ended}
-use Rattle.h264_verify.proofs.Truths.{is-same, true-or, or-true, from-ok}
 
 -- ---- how many are held
 

@@ -7,7 +7,7 @@ use Rattle.h264_dpb.specs.Bumping.{Step, in_front, is_next, is_below, is_held, m
 use Rattle.h264_dpb.specs.Buffered.{Buffered}
 use Rattle.h264_dpb.specs.Turns.{Shown, names, still, reference_turn, other_turn, missing_turn}
 use Rattle.h264_verify.specs.Held.{is_kept, Stands}
-use Rattle.h264_verify.proofs.Truths.{true-or, or-true}
+use Rattle.h264_dpb.proofs.Truths.{true-or, or-true}
 
 or-on : (a b c : Bool) → (b ≡ true → c ≡ true) → (a || b) ≡ true → (a || c) ≡ true
 or-on true b c f h = refl

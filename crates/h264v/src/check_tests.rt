@@ -7,7 +7,7 @@ use std::process::Abort;
 use std::test::Fail;
 
 /// Slice data, and the ends of pictures.
-const SLICE_DATA: [Case; 14] = [
+const SLICE_DATA: [Case; 18] = [
     // No slice at all.
     Case {
         name: "no picture",
@@ -90,6 +90,34 @@ const SLICE_DATA: [Case; 14] = [
         name: "two macroblocks of one",
         stream: "000000016742c00ada710000000168ce388000000165888493931438",
         text: "no: bit 201: MbPast (clause 7.3.4)\n",
+        status: 1,
+    },
+    // Trailing bits behind the header.
+    Case {
+        name: "empty slice",
+        stream: "000000016742c00ada710000000168ce3880000001658884c0",
+        text: "no: bit 193: SliceEmpty (clause 7.3.4)\n",
+        status: 1,
+    },
+    // Intra_16x16_Vertical at the top of the picture.
+    Case {
+        name: "whole mode without a side",
+        stream: "000000016742c00ada710000000168ce3880000001658884af",
+        text: "no: bit 193: IntraMode (clause 8.3)\n",
+        status: 1,
+    },
+    // Intra_4x4_Vertical there.
+    Case {
+        name: "mode without a side",
+        stream: "000000016742c00ada710000000168ce3880000001658884c3fffc90",
+        text: "no: bit 194: IntraMode (clause 8.3)\n",
+        status: 1,
+    },
+    // A level of 2064 at a QP of 51.
+    Case {
+        name: "transform out of range",
+        stream: "000000016742c00ada710000000168ce38800000016588840644c50001ffec",
+        text: "no: bit 203: TransformRange (clause 8.5)\n",
         status: 1,
     },
     // ref_idx_l0 is 1, and one frame is held.

@@ -2,7 +2,8 @@ use Rattle.std.proofs.Common.{◌≡◌, ◌∙◌, ◌<◌, refl, rules, subst,
 use Rattle.std.proofs.lemmas.Result.{err_from_is_err_and}
 use Rattle.h264_marking.proofs.Filling.{Filled, filled-first, filled-next, filled-last}
 use Rattle.h264_verify.proofs.Filling.{places-down, places-same}
-use Rattle.h264_verify.proofs.Missing.{filled-some, filled-none, some-missing, some-gap, fills-first, fills-more, fills-whole, fills-refused, fills-stopped, fills-next, fills-last, fills-kept}
+use Rattle.h264_marking.proofs.Filling.{filled-some, filled-none}
+use Rattle.h264_verify.proofs.Missing.{some-missing, some-gap, fills-first, fills-more, fills-whole, fills-refused, fills-stopped, fills-next, fills-last, fills-kept}
 use Rattle.h264_verify.proofs.frame_num.fill_frames.Goals as goal
 
 pub loop-turn-init : goal.loop-turn-init
