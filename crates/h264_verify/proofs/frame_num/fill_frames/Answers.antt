@@ -1,8 +1,7 @@
 use Rattle.std.proofs.Common.{◌≡◌, ◌∙◌, ◌<◌, refl, rules, subst, arith}
 use Rattle.std.proofs.lemmas.Result.{err_from_is_err_and}
-use Rattle.h264_marking.proofs.Filling.{Filled, filled-first, filled-next, filled-last}
+use Rattle.h264_marking.proofs.Filling.{Filled, filled-some, filled-none, filled-first, filled-next, filled-last}
 use Rattle.h264_verify.proofs.Filling.{places-down, places-same}
-use Rattle.h264_marking.proofs.Filling.{filled-some, filled-none}
 use Rattle.h264_verify.proofs.Missing.{some-missing, some-gap, fills-first, fills-more, fills-whole, fills-refused, fills-stopped, fills-next, fills-last, fills-kept}
 use Rattle.h264_verify.proofs.frame_num.fill_frames.Goals as goal
 
