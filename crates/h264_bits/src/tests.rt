@@ -1,11 +1,10 @@
-//! What no clause says: code words and places worked by hand, and each call once.
+//! What no clause says: code words and places worked by hand.
 #![tactic(auto)]
 
 use crate::{
-    Bits, Found, NoWord, check, look, read_align, read_bits, read_bytes, read_flag,
-    read_residual_bits, read_se, read_te, read_trailing, read_u, read_ue, read_word, support,
+    Bits, Found, NoWord, look, read_bits, read_se, read_trailing, read_u, read_ue, read_word,
 };
-use h264_base::{ElementName, Elements, Failed, Feature, Rule, Stop};
+use h264_base::{ElementName, Elements, Failed, Rule, Stop};
 use h264_rbsp::Rbsp;
 use h264_tables::Table;
 use h264_units::Splitter;
@@ -31,23 +30,6 @@ impl Elements for Last {
         self.bit = bit;
         self.value = value;
         Ok(())
-    }
-}
-
-/// Takes nothing.
-#[derive(Drop)]
-struct Full {
-    failed: u64,
-}
-
-impl Elements for Full {
-    ghost took = { λ _ _. Unit {0} };
-
-    ghost failures = { λ s. s.failed };
-
-    fn element(&mut self, _name: ElementName, _bit: u64, _value: i64) -> Result<(), Failed> {
-        self.failed += 1;
-        Err(Failed)
     }
 }
 
@@ -160,40 +142,6 @@ fn a_parameter_set_ends(rt: &(impl Abort + AllocGlobal)) -> Result<(), Fail> {
     Ok(())
 }
 
-fn nothing_stands_behind_the_end(rt: &(impl Abort + AllocGlobal)) -> Result<(), Fail> {
-    let rbsp = rbsp(rt.alloc(), &SET)?;
-    let mut bits = Bits::new(&rbsp);
-    let mut sink = untold();
-    let _all = bits.bytes(5);
-    let word = Stop::No {
-        bit: 80,
-        rule: Rule::CodeWord,
-    };
-    assert_eq!(rt;
-        read_flag(&mut bits, ElementName::FrameMbsOnlyFlag, &mut sink),
-        Err(word)
-    );
-    assert_eq!(rt;
-        read_te(&mut bits, ElementName::RefIdxL0, 1, &mut sink),
-        Err(word)
-    );
-    let residual = Stop::No {
-        bit: 80,
-        rule: Rule::ResidualWord,
-    };
-    assert_eq!(rt;
-        read_residual_bits(&mut bits, ElementName::LevelSuffix, 1, &mut sink),
-        Err(residual)
-    );
-    let trailing = Stop::No {
-        bit: 80,
-        rule: Rule::Trailing,
-    };
-    assert_eq!(rt; read_trailing(&mut bits, &sink), Err(trailing));
-    assert_eq!(rt; sink.count, 0);
-    Ok(())
-}
-
 fn exp_golomb_words(rt: &(impl Abort + AllocGlobal)) -> Result<(), Fail> {
     // 1, 010, 011, 00100, 00101, 0001000, and a 1 behind them
     let body = [
@@ -287,62 +235,6 @@ fn words_of_tables(rt: &(impl Abort + AllocGlobal)) -> Result<(), Fail> {
     Ok(())
 }
 
-fn zero_bits_up_to_a_byte(rt: &(impl Abort + AllocGlobal)) -> Result<(), Fail> {
-    let rbsp = rbsp(rt.alloc(), &[0, 0, 1, 0x65, 0b1010_0000, 0x80])?;
-    let mut bits = Bits::new(&rbsp);
-    let sink = untold();
-    assert_eq!(rt; bits.u::<1>(), Ok(1));
-    assert_eq!(rt;
-        read_align(&mut bits, &sink),
-        Err(Stop::No {
-            bit: 34,
-            rule: Rule::CodeWord
-        })
-    );
-    assert_eq!(rt; bits.align(), Err(NoWord));
-    assert_eq!(rt; bits.u::<2>(), Ok(1));
-    read_align(&mut bits, &sink)?;
-    assert_eq!(rt; bits.stream_bit(), 40);
-    assert_eq!(rt; bits.align(), Ok(()));
-    assert_eq!(rt; bits.stream_bit(), 40);
-    Ok(())
-}
-
-fn bytes_as_they_are(rt: &(impl Abort + AllocGlobal)) -> Result<(), Fail> {
-    let rbsp = rbsp(rt.alloc(), &[0, 0, 1, 0x65, 7, 8, 9, 0x80])?;
-    let mut bits = Bits::new(&rbsp);
-    let sink = untold();
-    let bytes = read_bytes(&mut bits, 3, &sink)?;
-    assert_eq!(rt; bytes.len(), 3);
-    assert_eq!(rt; bytes.first().copied(), Some(7));
-    assert_eq!(rt; bytes.last().copied(), Some(9));
-    assert!(rt; bits.bytes(2).is_err());
-    let missing = read_bytes(&mut bits, 2, &sink).err();
-    assert_eq!(rt;
-        missing,
-        Some(Stop::No {
-            bit: 64,
-            rule: Rule::CodeWord
-        })
-    );
-    assert_eq!(rt; bits.trailing(), Ok(()));
-    Ok(())
-}
-
-fn more_data_and_trailing_bits(rt: &(impl Abort + AllocGlobal)) -> Result<(), Fail> {
-    // 1, and then 1 and zeros
-    let rbsp = rbsp(rt.alloc(), &[0, 0, 1, 0x65, 0b1100_0000])?;
-    let mut bits = Bits::new(&rbsp);
-    assert!(rt; bits.more());
-    assert_eq!(rt; bits.trailing(), Err(NoWord));
-    assert_eq!(rt; bits.u::<1>(), Ok(1));
-    assert!(rt; !bits.more());
-    assert_eq!(rt; bits.trailing(), Ok(()));
-    // the rest is empty, and no 1 begins it
-    assert!(rt; bits.more());
-    Ok(())
-}
-
 fn places_over_dropped_bytes(rt: &(impl Abort + AllocGlobal)) -> Result<(), Fail> {
     // each 03 behind 00 00 is dropped, so that the bits behind it stand one byte further on
     let rbsp = rbsp(
@@ -365,50 +257,11 @@ fn places_over_dropped_bytes(rt: &(impl Abort + AllocGlobal)) -> Result<(), Fail
     Ok(())
 }
 
-fn a_sink_that_fails(rt: &(impl Abort + AllocGlobal)) -> Result<(), Fail> {
-    let rbsp = rbsp(rt.alloc(), &SET)?;
-    let mut bits = Bits::new(&rbsp);
-    let mut sink = Full { failed: 0 };
-    assert_eq!(rt;
-        read_ue(&mut bits, ElementName::ProfileIdc, &mut sink),
-        Err(Stop::Write)
-    );
-    assert_eq!(rt; sink.failed, 1);
-    assert_eq!(rt;
-        read_se(&mut bits, ElementName::ProfileIdc, &mut sink),
-        Err(Stop::Write)
-    );
-    assert_eq!(rt; sink.failed, 2);
-    Ok(())
-}
-
-fn checks_name_their_rule(rt: &impl Abort) {
-    assert_eq!(rt; check(true, Rule::Range, 5), Ok(()));
-    assert_eq!(rt;
-        check(false, Rule::Range, 5),
-        Err(Stop::No {
-            bit: 5,
-            rule: Rule::Range
-        })
-    );
-    assert_eq!(rt; support(true, Feature::Level6, 5), Ok(()));
-    assert_eq!(rt;
-        support(false, Feature::Level6, 5),
-        Err(Stop::Outside {
-            bit: 5,
-            feature: Feature::Level6
-        })
-    );
-}
-
 #[test]
 fn elements_of_a_set(rt: HostRuntime) -> Result<(), Fail> {
     a_parameter_set_reads(&rt)?;
     a_parameter_set_ends(&rt)?;
-    nothing_stands_behind_the_end(&rt)?;
-    a_sink_that_fails(&rt)?;
-    checks_name_their_rule(&rt);
-    Ok(())
+    places_over_dropped_bytes(&rt)
 }
 
 #[test]
@@ -417,12 +270,4 @@ fn words(rt: HostRuntime) -> Result<(), Fail> {
     the_longest_word(&rt)?;
     one_zero_more_is_no_word(&rt)?;
     words_of_tables(&rt)
-}
-
-#[test]
-fn places_and_ends(rt: HostRuntime) -> Result<(), Fail> {
-    zero_bits_up_to_a_byte(&rt)?;
-    bytes_as_they_are(&rt)?;
-    more_data_and_trailing_bits(&rt)?;
-    places_over_dropped_bytes(&rt)
 }
