@@ -238,6 +238,33 @@ after_more k v chroma es a b p q t s e is i j d held edge =
       samples = λ x y i j. more.samples x y i j ∙ sym (step_some k v chroma es a b s e is x y) ∙ ap (λ z. edges_after z v chroma es a b s x y) (sym next);
     }
 
+-- an edge that may be filtered, alone and behind others
+pub or_none : (v chroma : Bool) (a b : ℕ) (p : Samples) → Holds p p (edge_or None v chroma a b (at p))
+unfolding edge_or
+or_none v chroma a b p = holds_self p
+
+pub or_some : (e : EdgeParameters) (v chroma : Bool) (a b : ℕ) (p q : Samples) → Holds p q (edge_after v chroma e a b (at p)) → Holds p q (edge_or (Some e) v chroma a b (at p))
+unfolding edge_or
+or_some e v chroma a b p q held = held
+
+or_held : (o : Option EdgeParameters) (v chroma : Bool) (a b : ℕ) (p q t : Samples) (s : ℕ → ℕ → ℕ) →
+    a + lines_of chroma ≤ size_along v p → (IsTrue (is_some o) → 4 ≤ b) → b + 4 ≤ size_across v p →
+    Holds p q s → Holds q t (edge_or o v chroma a b (at q)) → Holds p t (edge_or o v chroma a b s)
+unfolding edge_or
+or_held None v chroma a b p q t s i j d held edge = record {
+  width = edge.width ∙ held.width;
+  height = edge.height ∙ held.height;
+  samples = λ x y k l. edge.samples x y (omega (arith, held.width)) (omega (arith, held.height)) ∙ held.samples x y k l;
+}
+or_held (Some e) v chroma a b p q t s i j d held edge = holds_more v chroma p q t s e a b i (j refl) d held edge
+
+pub after_or : (k : ℕ) (v chroma : Bool) (es : List (Option EdgeParameters)) (a b place : ℕ) (o : Option EdgeParameters) (p q t : Samples) (s : ℕ → ℕ → ℕ) →
+    place ≡ b + 4 * k → o ≡ get_or es k None → a + lines_of chroma ≤ size_along v p → (IsTrue (is_some o) → 4 ≤ place) → place + 4 ≤ size_across v p →
+    Holds p q (edges_after k v chroma es a b s) → Holds q t (edge_or o v chroma a place (at q)) → Holds p t (edges_after (suc k) v chroma es a b s)
+unfolding edges_after
+after_or k v chroma es a b place o p q t s here same i j d held edge =
+    rw (here, same) at (or_held o v chroma a place p q t (edges_after k v chroma es a b s) i j d held edge)
+
 -- the places of a plane are those of one that it holds
 pub size_held : (v : Bool) (p q : Samples) (s : ℕ → ℕ → ℕ) → Holds p q s → (size_along v q ≡ size_along v p) × (size_across v q ≡ size_across v p)
 size_held true p q s held = (held.height, held.width)
@@ -253,6 +280,20 @@ pub edges_all : (n : ℕ) (chroma : Bool) (e : PlaneEdges) (c r : ℕ) (p q : Sa
     Holds p q (edges_after (n / 4) false chroma e.horizontal (n * c) (n * r) (edges_after (n / 4) true chroma e.vertical (n * r) (n * c) (at p))) → Holds p q (edges_done n chroma e c r (at p))
 unfolding edges_done
 edges_all n chroma e c r p q held = held
+
+-- the four edges of a macroblock of chroma, one after another
+pub four_edges : (e : PlaneEdges) (c r : ℕ) (p q1 q2 q3 q4 : Samples) (o0 o1 o2 o3 : Option EdgeParameters) → 8 * c + 8 ≤ p.width → 8 * r + 8 ≤ p.height → AreInside c r e →
+    o0 ≡ get_or e.vertical 0 None → o1 ≡ get_or e.vertical 1 None → o2 ≡ get_or e.horizontal 0 None → o3 ≡ get_or e.horizontal 1 None →
+    Holds p q1 (edge_or o0 true true (8 * r) (8 * c) (at p)) → Holds q1 q2 (edge_or o1 true true (8 * r) (8 * c + 4) (at q1)) →
+    Holds q2 q3 (edge_or o2 false true (8 * c) (8 * r) (at q2)) → Holds q3 q4 (edge_or o3 false true (8 * c) (8 * r + 4) (at q3)) → Holds p q4 (edges_done 8 true e c r (at p))
+four_edges e c r p q1 q2 q3 q4 o0 o1 o2 o3 wide tall inside e0 e1 e2 e3 h0 h1 h2 h3 =
+    let left : IsTrue (is_some o0) → 4 ≤ 8 * c = λ h. let i = inside.vertical (rw e0 at h) in omega (arith, i) in
+    let top : IsTrue (is_some o2) → 4 ≤ 8 * r = λ h. let i = inside.horizontal (rw e2 at h) in omega (arith, i) in
+    let s = edges_after 2 true true e.vertical (8 * r) (8 * c) (at p) in
+    let v0 = after_or 0 true true e.vertical (8 * r) (8 * c) (8 * c) o0 p p q1 (at p) (omega arith) e0 tall left (omega arith) (after_none true true e.vertical (8 * r) (8 * c) p p (at p) (holds_self p)) h0 in
+    let v1 = after_or 1 true true e.vertical (8 * r) (8 * c) (8 * c + 4) o1 p q1 q2 (at p) refl e1 tall (λ h. omega arith) (omega arith) v0 h1 in
+    let h = after_or 0 false true e.horizontal (8 * c) (8 * r) (8 * r) o2 p q2 q3 s (omega arith) e2 wide top (omega arith) (after_none false true e.horizontal (8 * c) (8 * r) p q2 s v1) h2 in
+    edges_all 8 true e c r p q4 (after_or 1 false true e.horizontal (8 * c) (8 * r) (8 * r + 4) o3 p q3 q4 s refl e3 wide (λ h. omega arith) (omega arith) h h3)
 
 -- ---- one macroblock further
 

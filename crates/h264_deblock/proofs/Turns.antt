@@ -1,4 +1,4 @@
--- Two lists of eight in turn.
+-- Two lists of eight in turn, and side by side.
 use Rattle.std.proofs.Common.{◌≡◌, ℕ, ◌+◌, ◌*◌, ◌<◌, List, length, slice_index, ◌++◌, [], ◌∷◌, arith, below_more}
 use Rattle.std.proofs.lemmas.List.{get_or_append_left, get_or-append_right}
 use lib.Lanes.{pick_l}
@@ -18,6 +18,21 @@ first_in_turn a b e =
 
 pub second_in_turn : (a b : List ℕ) → length a ≡ 8 → (n : ℕ) → n < 8 → slice_index (pick_l 0 (a ++ b) places) (2 * n + 1) ≡ slice_index b n
 second_in_turn a b e =
+    below_8 _
+    (get_or-append_right a b 8 8 0 e (omega arith)) (get_or-append_right a b 8 9 0 e (omega arith)) (get_or-append_right a b 8 10 0 e (omega arith)) (get_or-append_right a b 8 11 0 e (omega arith))
+    (get_or-append_right a b 8 12 0 e (omega arith)) (get_or-append_right a b 8 13 0 e (omega arith)) (get_or-append_right a b 8 14 0 e (omega arith)) (get_or-append_right a b 8 15 0 e (omega arith))
+
+abbrev in_order : List ℕ
+in_order = 0 ∷ 1 ∷ 2 ∷ 3 ∷ 4 ∷ 5 ∷ 6 ∷ 7 ∷ 8 ∷ 9 ∷ 10 ∷ 11 ∷ 12 ∷ 13 ∷ 14 ∷ 15 ∷ []
+
+pub first_beside : (a b : List ℕ) → length a ≡ 8 → (n : ℕ) → n < 8 → slice_index (pick_l 0 (a ++ b) in_order) n ≡ slice_index a n
+first_beside a b e =
+    below_8 _
+    (get_or_append_left a b 0 0 (omega arith)) (get_or_append_left a b 0 1 (omega arith)) (get_or_append_left a b 0 2 (omega arith)) (get_or_append_left a b 0 3 (omega arith))
+    (get_or_append_left a b 0 4 (omega arith)) (get_or_append_left a b 0 5 (omega arith)) (get_or_append_left a b 0 6 (omega arith)) (get_or_append_left a b 0 7 (omega arith))
+
+pub second_beside : (a b : List ℕ) → length a ≡ 8 → (n : ℕ) → n < 8 → slice_index (pick_l 0 (a ++ b) in_order) (8 + n) ≡ slice_index b n
+second_beside a b e =
     below_8 _
     (get_or-append_right a b 8 8 0 e (omega arith)) (get_or-append_right a b 8 9 0 e (omega arith)) (get_or-append_right a b 8 10 0 e (omega arith)) (get_or-append_right a b 8 11 0 e (omega arith))
     (get_or-append_right a b 8 12 0 e (omega arith)) (get_or-append_right a b 8 13 0 e (omega arith)) (get_or-append_right a b 8 14 0 e (omega arith)) (get_or-append_right a b 8 15 0 e (omega arith))

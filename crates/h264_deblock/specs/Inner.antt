@@ -3,10 +3,12 @@ use Rattle.std.specs.Prelude.{◌≡◌, ℕ, ◌+◌, ◌<◌, Bool, true, slic
 use Rattle.h264_plane.specs.Samples.{Samples, look}
 use Rattle.h264_deblock.specs.Line.{filtered}
 use Rattle.h264_deblock.specs.Edge.{taps, lines_after, Shows}
+use Rattle.h264_deblock.specs.Rows.{any_filter}
 use Rattle.h264_deblock.specs.declared.line.Line.{Line}
 use Rattle.h264_deblock.specs.declared.line.Limits.{Limits}
 use Rattle.h264_deblock.specs.declared.inner.Inner.{Inner}
 use Rattle.h264_deblock.specs.declared.inner.Nearest.{Nearest}
+use Rattle.h264_deblock.specs.declared.inner.LineLimits.{LineLimits}
 
 -- line n, with no samples beyond
 abbrev pub inner_of : Inner → ℕ → Line
@@ -31,6 +33,10 @@ pub record SameInner (l m : Line) : Type 0 where
 -- the lines are those of the plane
 abbrev pub HasInner : Bool → Samples → ℕ → ℕ → Inner → Type 0
 HasInner vertical p along across r = (n : ℕ) → n < 8 → SameInner (inner_of r n) (taps (look vertical p (along + n)) across)
+
+-- what the filter of line n depends on
+abbrev pub limits_at : LineLimits → ℕ → Limits
+limits_at k n = record { alpha = k.alpha; beta = k.beta; filter = any_filter (slice_index k.numbers n) }
 
 -- the samples p0 and q0 are those of the filtered lines
 pub record AreNearest (r : Nearest) (f : ℕ → Line) : Type 0 where

@@ -66,6 +66,20 @@ pub fn woven(a: u8x8, b: u8x8) -> [u8; 16]
         .to_array()
 }
 
+/// Two eights of samples side by side.
+#[inline(always)]
+pub fn joined(a: &[u8; 8], b: &[u8; 8]) -> [u8; 16]
+    ensures first { (n : ℕ) → n < 8 → slice_index result n ≡ slice_index a.now n }
+    ensures second { (n : ℕ) → n < 8 → slice_index result (8 + n) ≡ slice_index b.now n }
+{
+    u8x8::from_array(*a)
+        .shuffle(
+            u8x8::from_array(*b),
+            [0, 1, 2, 3, 4, 5, 6, 7, 8, 9, 10, 11, 12, 13, 14, 15],
+        )
+        .to_array()
+}
+
 /// Eight samples of a row in turn with those of the row `APART` below it.
 #[inline(always)]
 pub fn read_pair<const APART: usize>(plane: &Plane, x: usize, y: usize) -> [u8; 16]

@@ -4,10 +4,10 @@ ghost use Rattle.h264_plane.specs.Frames.{plane_of};
 ghost use Rattle.h264_plane.specs.Places.{side, Agree};
 ghost use Rattle.h264_plane.specs.declared.frame.Component.{Component};
 ghost use Rattle.h264_deblock.specs.Edge.{lines_of};
-ghost use Rattle.h264_deblock.specs.Filtering.{edges_after, edges_done, luma_edges, chroma_edges, edges_of, is_chroma, AreInside, AreEdges, IsOf, PlaneEdges, filtered_by};
+ghost use Rattle.h264_deblock.specs.Filtering.{edges_after, edges_done, luma_edges, chroma_edges as chroma_edges_of, edges_of, is_chroma, AreInside, AreEdges, IsOf, PlaneEdges, filtered_by};
 
 use crate::edge_parameters::EdgeParameters;
-use crate::edges::edge;
+use crate::edges::{chroma_edges, edge};
 use h264_plane::{Frame, Plane};
 
 /// The luma edges of a macroblock, from left to right and from top to bottom; one that is not filtered is `None`.
@@ -83,17 +83,29 @@ fn luma(plane: &mut Plane, edges: &LumaEdges, column: usize, row: usize)
     direction::<false, false, 4>(plane, &edges.horizontal, 16 * column, 16 * row);
 }
 
-/// Filters its edges in a chroma plane.
+/// Filters its edges in both chroma planes.
 #[inline(always)]
-fn chroma(plane: &mut Plane, edges: &ChromaEdges, column: usize, row: usize)
-    requires columns { 8 * column + 8 ≤ plane.old.width }
-    requires rows { 8 * row + 8 ≤ plane.old.height }
+fn chroma(
+    cb: &mut Plane,
+    cr: &mut Plane,
+    e: &ChromaEdges,
+    f: &ChromaEdges,
+    column: usize,
+    row: usize,
+)
+    requires cb { (8 * column + 8 ≤ cb.old.width) × (8 * row + 8 ≤ cb.old.height) }
+    requires cr { (8 * column + 8 ≤ cr.old.width) × (8 * row + 8 ≤ cr.old.height) }
     requires small { (column < 1024) × (row < 1024) }
-    requires inside { AreInside column row (chroma_edges edges.now) }
-    ensures { Holds plane.old plane.new (edges_done 8 true (chroma_edges edges.now) column row (at plane.old)) }
+    requires cb_inside { AreInside column row (chroma_edges_of e.now) }
+    requires cr_inside { AreInside column row (chroma_edges_of f.now) }
+    ensures cb { Holds cb.old cb.new (edges_done 8 true (chroma_edges_of e.now) column row (at cb.old)) }
+    ensures cr { Holds cr.old cr.new (edges_done 8 true (chroma_edges_of f.now) column row (at cr.old)) }
 {
-    direction::<true, true, 2>(plane, &edges.vertical, 8 * row, 8 * column);
-    direction::<false, true, 2>(plane, &edges.horizontal, 8 * column, 8 * row);
+    let (x, y) = (8 * column, 8 * row);
+    chroma_edges::<true>(cb, cr, y, x, &e.vertical[0], &f.vertical[0]);
+    chroma_edges::<true>(cb, cr, y, x + 4, &e.vertical[1], &f.vertical[1]);
+    chroma_edges::<false>(cb, cr, x, y, &e.horizontal[0], &f.horizontal[0]);
+    chroma_edges::<false>(cb, cr, x, y + 4, &e.horizontal[1], &f.horizontal[1]);
 }
 
 /// Filters the edges of the macroblock at this column and row of macroblocks (8.7), in place: in each plane the vertical ones from left to right,
@@ -111,6 +123,12 @@ pub fn macroblock(frame: &mut Frame, edges: &Edges, column: usize, row: usize)
         (p : Component) → Agree (side p) across (column + 1) row (at (plane_of p frame.new)) (filtered_by (row * across + (column + 1)) across (side p) (is_chroma p) (all p) (u p)) }
 {
     luma(&mut frame.y, &edges.y, column, row);
-    chroma(&mut frame.cb, &edges.cb, column, row);
-    chroma(&mut frame.cr, &edges.cr, column, row);
+    chroma(
+        &mut frame.cb,
+        &mut frame.cr,
+        &edges.cb,
+        &edges.cr,
+        column,
+        row,
+    );
 }

@@ -1,17 +1,17 @@
-ghost use Rattle.std.specs.Prelude.{◌≡◌, ℕ, ◌+◌, ◌*◌, ◌/◌, ◌%◌, ◌<◌, ◌≤◌, slice_index, get_or, true, false, IfSome};
+ghost use Rattle.std.specs.Prelude.{◌≡◌, ℕ, ◌+◌, ◌*◌, ◌/◌, ◌%◌, ◌<◌, ◌≤◌, length, slice_index, get_or, true, false};
 ghost use Rattle.h264_plane.specs.Samples.{at, look, size_along, size_across};
 ghost use Rattle.h264_deblock.specs.Line.{filtered as filtered_of};
-ghost use Rattle.h264_deblock.specs.Edge.{filter_of};
-ghost use Rattle.h264_deblock.specs.Rows.{filter_by as filter_by_of};
-ghost use Rattle.h264_deblock.specs.Inner.{inner_of, HasInner, IsFilteredInner, AreNearestWritten};
-ghost use Rattle.h264_deblock.specs.declared.line.Filter.TheVariants.{Strong};
+ghost use Rattle.h264_deblock.specs.Edge.{filter_of, limits};
+ghost use Rattle.h264_deblock.specs.Rows.{any_filter};
+ghost use Rattle.h264_deblock.specs.Inner.{limits_at, HasInner, IsFilteredInner, AreNearestWritten};
 ghost use Rattle.h264_deblock.specs.declared.edge_parameters.BoundaryStrength.TheVariants.{Zero};
 
-use crate::columns::{lanes_of, read_eight, read_pair, woven};
-use crate::edge_parameters::BoundaryStrength;
-use crate::line::{Filter, Limits, Line, moved};
-use crate::rows::{either, is_on, is_within, kept, tc0_of};
+use crate::columns::{joined, lanes_of, read_eight, read_pair, woven};
+use crate::edge_parameters::{BoundaryStrength, EdgeParameters, index};
+use crate::line::{Filter, Limits, Line, average, average_down, moved};
+use crate::rows::{either, is_within, kept};
 use h264_plane::Plane;
+use h264_tables::{alpha, beta, tc0};
 
 /// The samples that the filter of an edge of chroma reads, of 8 lines.
 #[derive(Clone, Copy)]
@@ -29,24 +29,13 @@ pub struct Nearest {
     pub q0: [u8; 8],
 }
 
-impl Inner {
-    /// A line, with no samples beyond.
-    #[inline(always)]
-    fn line(&self, n: usize) -> Line
-        requires { n < 8 }
-        ensures { result ≡ inner_of self.now n }
-    {
-        Line {
-            p3: 0,
-            p2: 0,
-            p1: self.p1[n],
-            p0: self.p0[n],
-            q0: self.q0[n],
-            q1: self.q1[n],
-            q2: 0,
-            q3: 0,
-        }
-    }
+/// What the filter of 8 lines depends on beside the samples.
+#[derive(Clone, Copy)]
+pub struct LineLimits {
+    pub alpha: u8,
+    pub beta: u8,
+    /// By line tC0, or 254 where bS is 4 and 255 where it is 0.
+    pub numbers: [u8; 8],
 }
 
 /// The samples of 8 rows, eight to a row, each of the first four in turn with its row of the last four.
@@ -97,8 +86,8 @@ fn turned(x: &[u8; 64]) -> [u8; 64]
 
 /// Eight of the samples.
 #[inline(always)]
-fn eight(x: &[u8; 64], place: usize) -> [u8; 8]
-    requires { place + 8 ≤ 64 }
+fn eight(x: &[u8], place: usize) -> [u8; 8]
+    requires { place + 8 ≤ length x.now }
     ensures { (n : ℕ) → n < 8 → slice_index result n ≡ slice_index x.now (place + n) }
 {
     let mut samples = [0u8; 8];
@@ -157,109 +146,52 @@ pub fn read_inner<const VERTICAL: bool>(plane: &Plane, along: usize, across: usi
     }
 }
 
-/// A line after the filter of this number. A limit of 0 leaves the samples as they are, so that 8 lines take the same steps.
+/// p0 where bS is 4.
 #[inline(always)]
-fn normal(l: Line, alpha: u8, beta: u8, t: u8) -> Line
-    ensures { result ≡ filtered_of true (record { alpha = alpha; beta = beta; filter = filter_by_of t }) l }
+fn weak(l: Line) -> u8
+    ensures { result ≡ (2 * l.p1 + l.p0 + l.q1 + 2) / 4 }
+{
+    average(average_down(l.p0, l.q1), l.p1)
+}
+
+/// A line after the filter of this number, which may be that of bS 4. Limits of 0 leave the samples as they are, so that all lines take the
+/// same steps.
+#[inline(always)]
+fn filtered(l: Line, alpha: u8, beta: u8, t: u8) -> Line
+    ensures { result ≡ filtered_of true (record { alpha = alpha; beta = beta; filter = any_filter t }) l }
 {
     let k = Limits {
         alpha,
         beta,
         filter: Filter::Off,
     };
-    let on = is_on(l, k, t);
+    let within = is_within(l, k);
+    let on = within & (t <= 25);
+    let four = within & (t == 254);
     let delta = l.delta(kept(on, t) + u8::from(on));
     Line {
         p3: l.p3,
         p2: l.p2,
         p1: l.p1,
-        p0: moved(l.p0, delta.up, delta.down),
-        q0: moved(l.q0, delta.down, delta.up),
+        p0: either(four, weak(l), moved(l.p0, delta.up, delta.down)),
+        q0: either(four, weak(l.turned()), moved(l.q0, delta.down, delta.up)),
         q1: l.q1,
         q2: l.q2,
         q3: l.q3,
     }
 }
 
-/// The nearest samples after the filters of these numbers.
+/// The nearest samples of two edges after their filters, which fill a register of lanes.
 #[inline(always)]
-pub fn normal_nearest(r: &Inner, alpha: u8, beta: u8, tc0: &[u8; 8]) -> Nearest
-    ensures { IsFilteredInner r.now result (λ n. record { alpha = alpha; beta = beta; filter = filter_by_of (slice_index tc0.now n) }) }
+pub fn filtered_pair(a: &Inner, b: &Inner, j: &LineLimits, k: &LineLimits) -> (Nearest, Nearest)
+    ensures first { IsFilteredInner a.now result.0 (limits_at j.now) }
+    ensures second { IsFilteredInner b.now result.1 (limits_at k.now) }
 {
-    let mut p0 = [0u8; 8];
-    let mut q0 = [0u8; 8];
-    for n in 0..8usize {
-        let l = normal(r.line(n), alpha, beta, tc0[n]);
-        p0[n] = l.p0;
-        q0[n] = l.q0;
-    }
-    Nearest { p0, q0 }
-}
-
-/// p0 where bS is 4.
-#[inline(always)]
-fn weak(l: Line) -> u8
-    ensures { result ≡ (2 * l.p1 + l.p0 + l.q1 + 2) / 4 }
-{
-    ((2 * u16::from(l.p1) + u16::from(l.p0) + u16::from(l.q1) + 2) >> 2) as u8
-}
-
-/// A line after the filter of bS 4.
-#[inline(always)]
-fn strong(l: Line, alpha: u8, beta: u8) -> Line
-    ensures { result ≡ filtered_of true (record { alpha = alpha; beta = beta; filter = Strong }) l }
-{
-    let k = Limits {
-        alpha,
-        beta,
-        filter: Filter::Strong,
-    };
-    let on = is_within(l, k);
-    Line {
-        p3: l.p3,
-        p2: l.p2,
-        p1: l.p1,
-        p0: either(on, weak(l), l.p0),
-        q0: either(on, weak(l.turned()), l.q0),
-        q1: l.q1,
-        q2: l.q2,
-        q3: l.q3,
-    }
-}
-
-/// Eight samples, and eight more that fill a register of lanes.
-#[inline(always)]
-fn widened(x: &[u8; 8]) -> [u8; 16]
-    ensures { (n : ℕ) → n < 8 → slice_index result n ≡ slice_index x.now n }
-{
-    let mut out = [0u8; 16];
-    for n in 0..8usize {
-        out[n] = x[n];
-    }
-    out
-}
-
-/// The first eight of the samples.
-#[inline(always)]
-fn narrowed(x: &[u8; 16]) -> [u8; 8]
-    ensures { (n : ℕ) → n < 8 → slice_index result n ≡ slice_index x.now n }
-{
-    let mut out = [0u8; 8];
-    for n in 0..8usize {
-        out[n] = x[n];
-    }
-    out
-}
-
-/// The nearest samples after the filter of bS 4. Of sixteen lanes eight are used: the compiler makes vectors of so many, but not of eight.
-#[inline(always)]
-pub fn strong_nearest(r: &Inner, alpha: u8, beta: u8) -> Nearest
-    ensures { IsFilteredInner r.now result (λ _. record { alpha = alpha; beta = beta; filter = Strong }) }
-{
-    let p1s = widened(&r.p1);
-    let p0s = widened(&r.p0);
-    let q0s = widened(&r.q0);
-    let q1s = widened(&r.q1);
+    let p1s = joined(&a.p1, &b.p1);
+    let p0s = joined(&a.p0, &b.p0);
+    let q0s = joined(&a.q0, &b.q0);
+    let q1s = joined(&a.q1, &b.q1);
+    let numbers = joined(&j.numbers, &k.numbers);
     let mut p0 = [0u8; 16];
     let mut q0 = [0u8; 16];
     for n in 0..16usize {
@@ -273,31 +205,66 @@ pub fn strong_nearest(r: &Inner, alpha: u8, beta: u8) -> Nearest
             q2: 0,
             q3: 0,
         };
-        let after = strong(before, alpha, beta);
+        let alpha = either(n < 8, j.alpha, k.alpha);
+        let beta = either(n < 8, j.beta, k.beta);
+        let after = filtered(before, alpha, beta, numbers[n]);
         p0[n] = after.p0;
         q0[n] = after.q0;
     }
-    Nearest {
-        p0: narrowed(&p0),
-        q0: narrowed(&q0),
+    let first = Nearest {
+        p0: eight(&p0, 0),
+        q0: eight(&q0, 0),
+    };
+    let second = Nearest {
+        p0: eight(&p0, 8),
+        q0: eight(&q0, 8),
+    };
+    (first, second)
+}
+
+/// A filter's number.
+#[tactic(auto, unfolding(crate::specs::Rows::filter_by, crate::specs::Rows::any_filter))]
+#[inline(always)]
+fn number(index_a: u8, strength: BoundaryStrength) -> u8
+    requires { index_a ≤ 51 }
+    ensures { any_filter result ≡ filter_of index_a strength }
+{
+    match strength {
+        BoundaryStrength::Zero => 255,
+        BoundaryStrength::BelowFour(strength) => tc0(index_a, strength),
+        BoundaryStrength::Four => 254,
     }
 }
 
-/// The numbers of the filters of 8 lines, where each bS is below 4.
+/// The numbers of the filters of 8 lines.
 #[inline(always)]
-pub fn tc0_of_lines(index_a: u8, strengths: &[BoundaryStrength; 4]) -> Option<[u8; 8]>
+fn numbers(index_a: u8, strengths: &[BoundaryStrength; 4]) -> [u8; 8]
     requires { index_a ≤ 51 }
-    ensures { IfSome result (λ t. (n : ℕ) → n < 8 → filter_by_of (slice_index t n) ≡ filter_of index_a (get_or strengths.now (n / 2) Zero)) }
+    ensures { (n : ℕ) → n < 8 → any_filter (slice_index result n) ≡ filter_of index_a (get_or strengths.now (n / 2) Zero) }
 {
     let mut quarters = [0u8; 4];
     for k in 0..4usize {
-        quarters[k] = tc0_of(index_a, strengths[k])?;
+        quarters[k] = number(index_a, strengths[k]);
     }
     let mut lanes = [0u8; 8];
     for n in 0..8usize {
         lanes[n] = quarters[n / 2];
     }
-    Some(lanes)
+    lanes
+}
+
+/// What the filter of an edge of chroma depends on.
+#[inline(always)]
+pub fn limits_of_lines(e: &EdgeParameters) -> LineLimits
+    ensures { (n : ℕ) → n < 8 → limits_at result n ≡ limits e.now (n / 2) }
+{
+    let by_a = index(e.qp_p, e.qp_q, e.filter_offset_a);
+    let by_b = index(e.qp_p, e.qp_q, e.filter_offset_b);
+    LineLimits {
+        alpha: alpha(by_a),
+        beta: beta(by_b),
+        numbers: numbers(by_a, &e.strengths),
+    }
 }
 
 /// Two of the samples.
