@@ -354,7 +354,7 @@ abbrev no_chroma : ChromaEdges
 no_chroma = record { vertical = None ∷ None ∷ []; horizontal = None ∷ None ∷ [] }
 
 abbrev no_edges : Edges
-no_edges = record { y = record { vertical = None ∷ None ∷ None ∷ None ∷ []; horizontal = None ∷ None ∷ None ∷ None ∷ [] }; cb = no_chroma; cr = no_chroma }
+no_edges = record { y = record { vertical = None ∷ None ∷ None ∷ None ∷ []; horizontal = None ∷ None ∷ None ∷ None ∷ [] }; cb = no_chroma; cr = None }
 
 off : (slices : ℕ → SliceFilter) (q : CodedMacroblock) (f : SliceFilter) → slices q.slice ≡ f → f.deblocking ≡ Off → (same : Bool) → filters (slices q.slice).deblocking same ≡ false
 off slices q f is e same = ap (λ z. filters z.deblocking same) is ∙ ap (λ z. filters z same) e

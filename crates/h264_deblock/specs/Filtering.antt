@@ -27,10 +27,15 @@ luma_edges e = record { vertical = e.vertical; horizontal = e.horizontal }
 abbrev pub chroma_edges : ChromaEdges → PlaneEdges
 chroma_edges e = record { vertical = e.vertical; horizontal = e.horizontal }
 
+-- those of Cr are Cb's where none are given
+abbrev pub given_or : Option ChromaEdges → ChromaEdges → ChromaEdges
+given_or None e = e
+given_or (Some f) e = f
+
 abbrev pub edges_of : Edges → Component → PlaneEdges
 edges_of e Y = luma_edges e.y
 edges_of e Cb = chroma_edges e.cb
-edges_of e Cr = chroma_edges e.cr
+edges_of e Cr = chroma_edges (given_or e.cr e.cb)
 
 -- whether a plane is filtered as chroma (chromaStyleFilteringFlag)
 abbrev pub is_chroma : Component → Bool

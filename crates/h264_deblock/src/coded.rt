@@ -193,16 +193,15 @@ pub fn coded_edges(
     let above = border_of(near.above_edge(), own, even, false, filter, row);
     let inner = inner_strengths(own, even);
     let qp = qp_in(true, own.qp, *filter);
-    let planes = ChromaEdges {
-        vertical: chroma_along(&left, &inner.vertical, qp, *filter),
-        horizontal: chroma_along(&above, &inner.horizontal, qp, *filter),
-    };
     Edges {
         y: LumaEdges {
             vertical: luma_along(&left, &inner.vertical, own.qp, *filter),
             horizontal: luma_along(&above, &inner.horizontal, own.qp, *filter),
         },
-        cb: planes,
-        cr: planes,
+        cb: ChromaEdges {
+            vertical: chroma_along(&left, &inner.vertical, qp, *filter),
+            horizontal: chroma_along(&above, &inner.horizontal, qp, *filter),
+        },
+        cr: None,
     }
 }

@@ -29,13 +29,9 @@ pub struct ChromaEdges {
 pub struct Edges {
     pub y: LumaEdges,
     pub cb: ChromaEdges,
-    pub cr: ChromaEdges,
+    /// `None` where they are those of Cb, as in each coded picture.
+    pub cr: Option<ChromaEdges>,
 }
-
-const NO_CHROMA_EDGES: ChromaEdges = ChromaEdges {
-    vertical: [None; 2],
-    horizontal: [None; 2],
-};
 
 /// No edge is filtered.
 pub(crate) const NO_EDGES: Edges = Edges {
@@ -43,8 +39,11 @@ pub(crate) const NO_EDGES: Edges = Edges {
         vertical: [None; 4],
         horizontal: [None; 4],
     },
-    cb: NO_CHROMA_EDGES,
-    cr: NO_CHROMA_EDGES,
+    cb: ChromaEdges {
+        vertical: [None; 2],
+        horizontal: [None; 2],
+    },
+    cr: None,
 };
 
 /// Filters the edges of a direction of a macroblock, one after another. The first begins at the place `along`, with its samples q0 at `across`.
@@ -83,29 +82,33 @@ fn luma(plane: &mut Plane, edges: &LumaEdges, column: usize, row: usize)
     direction::<false, false, 4>(plane, &edges.horizontal, 16 * column, 16 * row);
 }
 
-/// Filters its edges in both chroma planes.
+/// Filters its edges in both chroma planes, where they are the same.
 #[inline(always)]
-fn chroma(
-    cb: &mut Plane,
-    cr: &mut Plane,
-    e: &ChromaEdges,
-    f: &ChromaEdges,
-    column: usize,
-    row: usize,
-)
+fn chroma(cb: &mut Plane, cr: &mut Plane, edges: &ChromaEdges, column: usize, row: usize)
     requires cb { (8 * column + 8 ≤ cb.old.width) × (8 * row + 8 ≤ cb.old.height) }
     requires cr { (8 * column + 8 ≤ cr.old.width) × (8 * row + 8 ≤ cr.old.height) }
     requires small { (column < 1024) × (row < 1024) }
-    requires cb_inside { AreInside column row (chroma_edges_of e.now) }
-    requires cr_inside { AreInside column row (chroma_edges_of f.now) }
-    ensures cb { Holds cb.old cb.new (edges_done 8 true (chroma_edges_of e.now) column row (at cb.old)) }
-    ensures cr { Holds cr.old cr.new (edges_done 8 true (chroma_edges_of f.now) column row (at cr.old)) }
+    requires inside { AreInside column row (chroma_edges_of edges.now) }
+    ensures cb { Holds cb.old cb.new (edges_done 8 true (chroma_edges_of edges.now) column row (at cb.old)) }
+    ensures cr { Holds cr.old cr.new (edges_done 8 true (chroma_edges_of edges.now) column row (at cr.old)) }
 {
     let (x, y) = (8 * column, 8 * row);
-    chroma_edges::<true>(cb, cr, y, x, &e.vertical[0], &f.vertical[0]);
-    chroma_edges::<true>(cb, cr, y, x + 4, &e.vertical[1], &f.vertical[1]);
-    chroma_edges::<false>(cb, cr, x, y, &e.horizontal[0], &f.horizontal[0]);
-    chroma_edges::<false>(cb, cr, x, y + 4, &e.horizontal[1], &f.horizontal[1]);
+    chroma_edges::<true>(cb, cr, y, x, &edges.vertical[0]);
+    chroma_edges::<true>(cb, cr, y, x + 4, &edges.vertical[1]);
+    chroma_edges::<false>(cb, cr, x, y, &edges.horizontal[0]);
+    chroma_edges::<false>(cb, cr, x, y + 4, &edges.horizontal[1]);
+}
+
+/// Filters its edges in a chroma plane alone.
+fn chroma_alone(plane: &mut Plane, edges: &ChromaEdges, column: usize, row: usize)
+    requires columns { 8 * column + 8 ≤ plane.old.width }
+    requires rows { 8 * row + 8 ≤ plane.old.height }
+    requires small { (column < 1024) × (row < 1024) }
+    requires inside { AreInside column row (chroma_edges_of edges.now) }
+    ensures { Holds plane.old plane.new (edges_done 8 true (chroma_edges_of edges.now) column row (at plane.old)) }
+{
+    direction::<true, true, 2>(plane, &edges.vertical, 8 * row, 8 * column);
+    direction::<false, true, 2>(plane, &edges.horizontal, 8 * column, 8 * row);
 }
 
 /// Filters the edges of the macroblock at this column and row of macroblocks (8.7), in place: in each plane the vertical ones from left to right,
@@ -123,12 +126,10 @@ pub fn macroblock(frame: &mut Frame, edges: &Edges, column: usize, row: usize)
         (p : Component) → Agree (side p) across (column + 1) row (at (plane_of p frame.new)) (filtered_by (row * across + (column + 1)) across (side p) (is_chroma p) (all p) (u p)) }
 {
     luma(&mut frame.y, &edges.y, column, row);
-    chroma(
-        &mut frame.cb,
-        &mut frame.cr,
-        &edges.cb,
-        &edges.cr,
-        column,
-        row,
-    );
+    let Some(others) = &edges.cr else {
+        chroma(&mut frame.cb, &mut frame.cr, &edges.cb, column, row);
+        return;
+    };
+    chroma_alone(&mut frame.cb, &edges.cb, column, row);
+    chroma_alone(&mut frame.cr, others, column, row);
 }

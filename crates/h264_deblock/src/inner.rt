@@ -181,17 +181,17 @@ fn filtered(l: Line, alpha: u8, beta: u8, t: u8) -> Line
     }
 }
 
-/// The nearest samples of two edges after their filters, which fill a register of lanes.
+/// The nearest samples of the lines of two planes after the filter of an edge of both, which fill a register of lanes.
 #[inline(always)]
-pub fn filtered_pair(a: &Inner, b: &Inner, j: &LineLimits, k: &LineLimits) -> (Nearest, Nearest)
-    ensures first { IsFilteredInner a.now result.0 (limits_at j.now) }
+pub fn filtered_pair(a: &Inner, b: &Inner, k: &LineLimits) -> (Nearest, Nearest)
+    ensures first { IsFilteredInner a.now result.0 (limits_at k.now) }
     ensures second { IsFilteredInner b.now result.1 (limits_at k.now) }
 {
     let p1s = joined(&a.p1, &b.p1);
     let p0s = joined(&a.p0, &b.p0);
     let q0s = joined(&a.q0, &b.q0);
     let q1s = joined(&a.q1, &b.q1);
-    let numbers = joined(&j.numbers, &k.numbers);
+    let numbers = joined(&k.numbers, &k.numbers);
     let mut p0 = [0u8; 16];
     let mut q0 = [0u8; 16];
     for n in 0..16usize {
@@ -205,9 +205,7 @@ pub fn filtered_pair(a: &Inner, b: &Inner, j: &LineLimits, k: &LineLimits) -> (N
             q2: 0,
             q3: 0,
         };
-        let alpha = either(n < 8, j.alpha, k.alpha);
-        let beta = either(n < 8, j.beta, k.beta);
-        let after = filtered(before, alpha, beta, numbers[n]);
+        let after = filtered(before, k.alpha, k.beta, numbers[n]);
         p0[n] = after.p0;
         q0[n] = after.q0;
     }

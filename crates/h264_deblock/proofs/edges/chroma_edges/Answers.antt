@@ -3,33 +3,22 @@ use Rattle.h264_deblock.proofs.Beside.{edge_off}
 use Rattle.h264_deblock.proofs.Macroblocks.{or_none, or_some}
 use Rattle.h264_deblock.proofs.edges.chroma_edges.Goals as goal
 
-pub returns-in-Some-f-clause-cb : goal.returns-in-Some-f-clause-cb
-returns-in-Some-f-clause-cb g c = rw c.in_default.is (or_none _ _ _ _ _)
+pub returns-in_default-clause-cb : goal.returns-in_default-clause-cb
+returns-in_default-clause-cb g c = rw c.in_default.is (or_none _ _ _ _ _)
 
-pub returns-in_default-f-clause-cb : goal.returns-in_default-f-clause-cb
-returns-in_default-f-clause-cb g c = rw c.in_default.is (or_none _ _ _ _ _)
-
-pub returns-in_default-f-clause-cr : goal.returns-in_default-f-clause-cr
-returns-in_default-f-clause-cr g c = rw c.in_default-f.is (or_none _ _ _ _ _)
-
-pub returns-in_default-f-2-clause-cr : goal.returns-in_default-f-2-clause-cr
-returns-in_default-f-2-clause-cr g c = rw c.in_default-f-2.is (or_none _ _ _ _ _)
-
-pub returns-in-Some-f-clause-cr : goal.returns-in-Some-f-clause-cr
-returns-in-Some-f-clause-cr g c = rw c.in-Some-f.is (or_some _ _ _ _ _ _ _ c.edge.ensures)
-
-pub returns-in_default-f-2-clause-cb : goal.returns-in_default-f-2-clause-cb
-returns-in_default-f-2-clause-cb g c = rw c.in-Some.is (or_some _ _ _ _ _ _ _ c.edge-in_default-f-2.ensures)
+pub returns-in_default-clause-cr : goal.returns-in_default-clause-cr
+returns-in_default-clause-cr g c = rw c.in_default.is (or_none _ _ _ _ _)
 
 pub returns-then-is_all_zero-clause-cb : goal.returns-then-is_all_zero-clause-cb
 returns-then-is_all_zero-clause-cb g c =
-    rw c.in-Some.is (or_some _ _ _ _ _ _ _ (edge_off _ _ c.args.cb.now c.in-Some.e c.args.along c.args.across (let some = c.requires.cb_before (rw c.in-Some.is refl) in some) (c.is_all_zero.ensures c.if-is_all_zero.true)))
+    rw c.in-Some.is (or_some _ _ _ _ _ _ _ (edge_off _ _ c.args.cb.now c.in-Some.e c.args.along c.args.across (let some = c.requires.before (rw c.in-Some.is refl) in some) (c.is_all_zero.ensures c.if-is_all_zero.true)))
 
 pub returns-then-is_all_zero-clause-cr : goal.returns-then-is_all_zero-clause-cr
-returns-then-is_all_zero-clause-cr g c = rw c.in-Some-f-2.is (or_some _ _ _ _ _ _ _ c.edge-then-is_all_zero.ensures)
+returns-then-is_all_zero-clause-cr g c =
+    rw c.in-Some.is (or_some _ _ _ _ _ _ _ (edge_off _ _ c.args.cr.now c.in-Some.e c.args.along c.args.across (let some = c.requires.before (rw c.in-Some.is refl) in some) (c.is_all_zero.ensures c.if-is_all_zero.true)))
 
 pub returns-clause-cb : goal.returns-clause-cb
 returns-clause-cb g c = rw c.in-Some.is (or_some _ _ _ _ _ _ _ c.edge_pair.ensures.cb)
 
 pub returns-clause-cr : goal.returns-clause-cr
-returns-clause-cr g c = rw c.in-Some-f-2.is (or_some _ _ _ _ _ _ _ c.edge_pair.ensures.cr)
+returns-clause-cr g c = rw c.in-Some.is (or_some _ _ _ _ _ _ _ c.edge_pair.ensures.cr)

@@ -6,7 +6,7 @@ use Rattle.h264_deblock.proofs.inner.filtered_pair.Given as goal
 
 abbrev pub invariant-loop-n : goal.invariant-loop-n
 invariant-loop-n l =
-    let f : ℕ → Line = λ m. filtered true (lane_limits l.j l.k l.numbers m) (lane_line l.p1s l.p0s l.q0s l.q1s m) in
+    let f : ℕ → Line = λ m. filtered true (lane_limits l.k l.numbers m) (lane_line l.p1s l.p0s l.q0s l.q1s m) in
     record {
       p0_size : length l.p0 ≡ 16;
       q0_size : length l.q0 ≡ 16;
