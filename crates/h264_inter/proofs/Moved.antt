@@ -1,0 +1,120 @@
+-- Windows of rows, what they stand for and how they move down, and the quarter places that are made of them.
+use Rattle.std.proofs.Common.{◌≡◌, ◌≢◌, ℕ, ◌+◌, ◌<◌, ◌≤◌, Bool, true, false, List, get_or, arith, inl, inr, ap, ◌∙◌, sym, refl, ℤ, pos, ◌+ℤ◌, ◌-ℤ◌}
+use Rattle.std.proofs.lemmas.Bool.{cases_lt}
+use Rattle.std.proofs.lemmas.Bool.Decides.{nat_tests}
+use Rattle.h264_plane.specs.Samples.{Samples, at}
+use Rattle.h264_inter.specs.Luma.{quarter, mean, half, central, taps, across, down, middle, six}
+use Rattle.h264_inter.specs.Rows.{AreSamples, AreRaised, IsRow, LastFive, AllSix, LastFiveOfBoth, AllSixOfBoth, AreUpTo, partner}
+use Rattle.h264_inter.specs.declared.window.Window.{Window}
+use Rattle.h264_inter.specs.declared.window.Windows.{Windows}
+use Rattle.h264_inter.proofs.Strips.{lower}
+
+-- one row by another place that it is counted from
+row_from : (b : Bool) (p : Samples) (x c y z r s : ℕ) (l : List ℕ) → y + r ≡ z + s → IsRow b p x c y r l → IsRow b p x c z s l
+row_from true p x c y z r s l e h = record {
+  each = λ u q. h.each u q ∙ ap (λ n. six (λ i. pos (at p (x + u + i) n)) +ℤ pos 2550) e;
+  small = h.small;
+}
+row_from false p x c y z r s l e h = record {
+  each = λ u q. h.each u q ∙ ap (λ n. at p (x + u + c) n) e;
+  small = h.small;
+}
+
+five_from : (b : Bool) (p : Samples) (x c y z : ℕ) (w : Window) → y ≡ z → LastFive b p x c y w → LastFive b p x c z w
+five_from b p x c y z w e h = record {
+  f = row_from b p x c y z 0 0 w.f (omega arith) h.f;
+  g = row_from b p x c y z 1 1 w.g (omega arith) h.g;
+  h = row_from b p x c y z 2 2 w.h (omega arith) h.h;
+  i = row_from b p x c y z 3 3 w.i (omega arith) h.i;
+  j = row_from b p x c y z 4 4 w.j (omega arith) h.j;
+}
+
+moved : (b : Bool) (p : Samples) (x c y z : ℕ) (w : Window) → y + 1 ≡ z → AllSix b p x c y w → LastFive b p x c z w
+moved b p x c y z w e h = record {
+  f = row_from b p x c y z 1 0 w.f (omega arith) h.f;
+  g = row_from b p x c y z 2 1 w.g (omega arith) h.g;
+  h = row_from b p x c y z 3 2 w.h (omega arith) h.h;
+  i = row_from b p x c y z 4 3 w.i (omega arith) h.i;
+  j = row_from b p x c y z 5 4 w.j (omega arith) h.j;
+}
+
+-- windows before the first row, and those of a row before the next one
+pub both_first : (b : Bool) (width : ℕ) (p : Samples) (x c y z : ℕ) (w : Windows) → y ≡ z → LastFiveOfBoth b width p x c y w → LastFiveOfBoth b width p x c z w
+both_first b width p x c y z w e h = record {
+  left = five_from b p x c y z w.left e h.left;
+  right = λ more. five_from b p (x + 8) c y z w.right e (h.right more);
+}
+
+pub both_moved : (b : Bool) (width : ℕ) (p : Samples) (x c y z : ℕ) (w : Windows) → y + 1 ≡ z → AllSixOfBoth b width p x c y w → LastFiveOfBoth b width p x c z w
+both_moved b width p x c y z w e h = record {
+  left = moved b p x c y z w.left e h.left;
+  right = λ more. moved b p (x + 8) c y z w.right e (h.right more);
+}
+
+-- j, from values across
+pub middle_is : (p : Samples) (x c y u : ℕ) (w : Window) → AllSix true p x c y w → u < 8 →
+    central (taps (pos (get_or w.e u 0) -ℤ pos 2550) (pos (get_or w.f u 0) -ℤ pos 2550) (pos (get_or w.g u 0) -ℤ pos 2550)
+    (pos (get_or w.h u 0) -ℤ pos 2550) (pos (get_or w.i u 0) -ℤ pos 2550) (pos (get_or w.j u 0) -ℤ pos 2550))
+    ≡ central (middle (λ i j. at p (x + u + i) (y + j)))
+unfolding middle across
+middle_is p x c y u w s q =
+    rw (
+      lower (get_or w.e u 0) (six (λ i. pos (at p (x + u + i) (y + 0)))) (s.e.each u q),
+      lower (get_or w.f u 0) (six (λ i. pos (at p (x + u + i) (y + 1)))) (s.f.each u q),
+      lower (get_or w.g u 0) (six (λ i. pos (at p (x + u + i) (y + 2)))) (s.g.each u q),
+      lower (get_or w.h u 0) (six (λ i. pos (at p (x + u + i) (y + 3)))) (s.h.each u q),
+      lower (get_or w.i u 0) (six (λ i. pos (at p (x + u + i) (y + 4)))) (s.i.each u q),
+      lower (get_or w.j u 0) (six (λ i. pos (at p (x + u + i) (y + 5)))) (s.j.each u q),
+    ) refl
+
+-- the partner of a place
+pub partner_left : (x : ℕ) → x ≢ 3 → partner x ≡ 2
+unfolding partner
+partner_left x e = grind (arith, nat_tests)
+
+pub partner_right : (x : ℕ) → x ≡ 3 → partner x ≡ 3
+unfolding partner
+partner_right x e = rw e refl
+
+-- ---- the places that are made of samples between two rows, without j
+
+pub place_d : (x y h r : ℕ) (g : ℕ → ℕ → ℕ) → x ≡ 0 → y ≡ 1 → r ≡ mean (g 2 2) h → h ≡ half (down g 2) → r ≡ quarter x y g
+unfolding quarter
+place_d x y h r g a b e p = rw (a, b, e, p) refl
+
+pub place_h : (x y h : ℕ) (g : ℕ → ℕ → ℕ) → x ≡ 0 → y ≡ 2 → h ≡ half (down g 2) → h ≡ quarter x y g
+unfolding quarter
+place_h x y h g a b p = rw (a, b, p) refl
+
+pub place_n : (x y h r : ℕ) (g : ℕ → ℕ → ℕ) → x ≡ 0 → y ≡ 3 → r ≡ mean (g 2 3) h → h ≡ half (down g 2) → r ≡ quarter x y g
+unfolding quarter
+place_n x y h r g a b e p = rw (a, b, e, p) refl
+
+place_e : (x y b h r : ℕ) (g : ℕ → ℕ → ℕ) → x ≡ 1 → y ≡ 1 → r ≡ mean b h → b ≡ half (across g 2) → h ≡ half (down g 2) → r ≡ quarter x y g
+unfolding quarter
+place_e x y b h r g i j e p q = rw (i, j, e, p, q) refl
+
+place_g : (x y b m r : ℕ) (g : ℕ → ℕ → ℕ) → x ≡ 3 → y ≡ 1 → r ≡ mean b m → b ≡ half (across g 2) → m ≡ half (down g 3) → r ≡ quarter x y g
+unfolding quarter
+place_g x y b m r g i j e p q = rw (i, j, e, p, q) refl
+
+-- e and g
+pub place_e_or_g : (x y c b h r : ℕ) (g : ℕ → ℕ → ℕ) → x < 4 → x ≢ 0 → x ≢ 2 → y ≡ 1 → c ≡ partner x → r ≡ mean b h → b ≡ half (across g 2) →
+    h ≡ half (down g c) → r ≡ quarter x y g
+place_e_or_g x y c b h r g few some other j column e p q =
+    elim (cases_lt x 2) [
+      | inl l ↦
+          let one : x ≡ 1 = omega arith in
+          place_e x y b h r g one j e p (q ∙ ap (λ n. half (down g n)) (column ∙ partner_left x (omega arith)))
+      | inr l ↦
+          let three : x ≡ 3 = omega arith in
+          place_g x y b h r g three j e p (q ∙ ap (λ n. half (down g n)) (column ∙ partner_right x three))
+    ]
+
+pub place_p : (x y h s r : ℕ) (g : ℕ → ℕ → ℕ) → x ≡ 1 → y ≡ 3 → r ≡ mean h s → h ≡ half (down g 2) → s ≡ half (across g 3) → r ≡ quarter x y g
+unfolding quarter
+place_p x y h s r g i j e p q = rw (i, j, e, p, q) refl
+
+pub place_r : (x y s m r : ℕ) (g : ℕ → ℕ → ℕ) → x ≡ 3 → y ≡ 3 → r ≡ mean s m → s ≡ half (across g 3) → m ≡ half (down g 3) → r ≡ quarter x y g
+unfolding quarter
+place_r x y s m r g i j e p q = rw (i, j, e, p, q) refl

@@ -1,0 +1,60 @@
+-- A working form: rows of eight lanes and windows of six rows, and the samples of a plane that they stand for.
+use Rattle.std.specs.Prelude.{◌≡◌, ◌<◌, ◌≤◌, ℕ, ◌+◌, Bool, true, false, ◌==◌, if◌then◌else◌, List, get_or, pos, ◌+ℤ◌}
+use Rattle.h264_plane.specs.Samples.{Samples, at}
+use Rattle.h264_inter.specs.Luma.{six}
+use Rattle.h264_inter.specs.declared.window.Window.{Window}
+use Rattle.h264_inter.specs.declared.window.Windows.{Windows}
+
+-- eight samples of row y + r, from column x + c on
+pub record AreSamples (p : Samples) (x c y r : ℕ) (lanes : List ℕ) : Type 0 where
+  pub each : (u : ℕ) → u < 8 → get_or lanes u 0 ≡ at p (x + u + c) (y + r)
+  pub small : (u : ℕ) → u < 8 → get_or lanes u 0 < 256
+
+-- eight values of the filter over six columns of row y + r, the first of those from column x on, each raised by 2550
+pub record AreRaised (p : Samples) (x y r : ℕ) (lanes : List ℕ) : Type 0 where
+  pub each : (u : ℕ) → u < 8 → pos (get_or lanes u 0) ≡ six (λ i. pos (at p (x + u + i) (y + r))) +ℤ pos 2550
+  pub small : (u : ℕ) → u < 8 → get_or lanes u 0 ≤ 13260
+
+-- a row of a window, of values across or of samples
+abbrev pub IsRow : Bool → Samples → ℕ → ℕ → ℕ → ℕ → List ℕ → Type 0
+IsRow true p x c y r lanes = AreRaised p x y r lanes
+IsRow false p x c y r lanes = AreSamples p x c y r lanes
+
+-- the last five rows of a window are those from row y on
+pub record LastFive (across : Bool) (p : Samples) (x c y : ℕ) (w : Window) : Type 0 where
+  pub f : IsRow across p x c y 0 w.f
+  pub g : IsRow across p x c y 1 w.g
+  pub h : IsRow across p x c y 2 w.h
+  pub i : IsRow across p x c y 3 w.i
+  pub j : IsRow across p x c y 4 w.j
+
+-- its six rows are those from row y on
+pub record AllSix (across : Bool) (p : Samples) (x c y : ℕ) (w : Window) : Type 0 where
+  pub e : IsRow across p x c y 0 w.e
+  pub f : IsRow across p x c y 1 w.f
+  pub g : IsRow across p x c y 2 w.g
+  pub h : IsRow across p x c y 3 w.h
+  pub i : IsRow across p x c y 4 w.i
+  pub j : IsRow across p x c y 5 w.j
+
+-- the same of the windows of a block of `width` columns
+pub record LastFiveOfBoth (across : Bool) (width : ℕ) (p : Samples) (x c y : ℕ) (w : Windows) : Type 0 where
+  pub left : LastFive across p x c y w.left
+  pub right : 8 < width → LastFive across p (x + 8) c y w.right
+
+pub record AllSixOfBoth (across : Bool) (width : ℕ) (p : Samples) (x c y : ℕ) (w : Windows) : Type 0 where
+  pub left : AllSix across p x c y w.left
+  pub right : 8 < width → AllSix across p (x + 8) c y w.right
+
+-- no number of a window is above this
+pub record AreUpTo (most : ℕ) (w : Window) : Type 0 where
+  pub e : (u : ℕ) → u < 8 → get_or w.e u 0 ≤ most
+  pub f : (u : ℕ) → u < 8 → get_or w.f u 0 ≤ most
+  pub g : (u : ℕ) → u < 8 → get_or w.g u 0 ≤ most
+  pub h : (u : ℕ) → u < 8 → get_or w.h u 0 ≤ most
+  pub i : (u : ℕ) → u < 8 → get_or w.i u 0 ≤ most
+  pub j : (u : ℕ) → u < 8 → get_or w.j u 0 ≤ most
+
+-- the column, of the six, of the samples between two rows that places x quarters to the right are made of: that of m or that of h
+unfoldable pub partner : ℕ → ℕ
+partner x = if x == 3 then 3 else 2

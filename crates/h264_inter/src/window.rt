@@ -1,0 +1,19 @@
+use std::simd::prelude::*;
+
+/// Six rows of eight numbers, each below the one before.
+#[derive(Clone, Copy)]
+pub struct Window {
+    pub e: u16x8,
+    pub f: u16x8,
+    pub g: u16x8,
+    pub h: u16x8,
+    pub i: u16x8,
+    pub j: u16x8,
+}
+
+/// The windows of a block's first eight columns and of those beyond. A block of up to eight columns uses the left one alone.
+#[derive(Clone, Copy)]
+pub struct Windows {
+    pub left: Window,
+    pub right: Window,
+}
