@@ -4,7 +4,9 @@ use Rattle.std.proofs.lemmas.Bool.{cases_lt}
 use Rattle.std.proofs.lemmas.Bool.Decides.{nat_tests}
 use Rattle.h264_plane.specs.Samples.{Samples, at}
 use Rattle.h264_inter.specs.Luma.{quarter, mean, half, central, taps, across, down, middle, six}
-use Rattle.h264_inter.specs.Rows.{AreSamples, AreRaised, IsRow, LastFive, AllSix, LastFiveOfBoth, AllSixOfBoth, AreUpTo, partner}
+use Rattle.h264_inter.specs.Rows.{AreSamples, AreRaised, IsRow, LastFive, AllSix, LastFiveOfBoth, AllSixOfBoth, IsPair, ArePairs, partner}
+use Rattle.h264_inter.specs.declared.window.Pair.{Pair}
+use Rattle.h264_inter.specs.declared.window.Pairs.{Pairs}
 use Rattle.h264_inter.specs.declared.window.Window.{Window}
 use Rattle.h264_inter.specs.declared.window.Windows.{Windows}
 use Rattle.h264_inter.proofs.Strips.{lower}
@@ -49,6 +51,19 @@ pub both_moved : (b : Bool) (width : ℕ) (p : Samples) (x c y z : ℕ) (w : Win
 both_moved b width p x c y z w e h = record {
   left = moved b p x c y z w.left e h.left;
   right = λ more. moved b p (x + 8) c y z w.right e (h.right more);
+}
+
+-- pairs of a row by another place that it is counted from
+pair_from : (p : Samples) (x y z r s : ℕ) (l : Pair) → y + r ≡ z + s → IsPair p x y r l → IsPair p x z s l
+pair_from p x y z r s l e h = record {
+  a = row_from false p x 0 y z r s l.a e h.a;
+  b = row_from false p x 1 y z r s l.b e h.b;
+}
+
+pub pairs_from : (width : ℕ) (p : Samples) (x y z r s : ℕ) (l : Pairs) → y + r ≡ z + s → ArePairs width p x y r l → ArePairs width p x z s l
+pairs_from width p x y z r s l e h = record {
+  left = pair_from p x y z r s l.left e h.left;
+  right = λ more. pair_from p (x + 8) y z r s l.right e (h.right more);
 }
 
 -- j, from values across

@@ -2,6 +2,8 @@
 use Rattle.std.specs.Prelude.{◌≡◌, ◌<◌, ◌≤◌, ℕ, ◌+◌, Bool, true, false, ◌==◌, if◌then◌else◌, List, get_or, pos, ◌+ℤ◌}
 use Rattle.h264_plane.specs.Samples.{Samples, at}
 use Rattle.h264_inter.specs.Luma.{six}
+use Rattle.h264_inter.specs.declared.window.Pair.{Pair}
+use Rattle.h264_inter.specs.declared.window.Pairs.{Pairs}
 use Rattle.h264_inter.specs.declared.window.Window.{Window}
 use Rattle.h264_inter.specs.declared.window.Windows.{Windows}
 
@@ -58,3 +60,20 @@ pub record AreUpTo (most : ℕ) (w : Window) : Type 0 where
 -- the column, of the six, of the samples between two rows that places x quarters to the right are made of: that of m or that of h
 unfoldable pub partner : ℕ → ℕ
 partner x = if x == 3 then 3 else 2
+
+-- ---- for chroma
+
+-- samples of row y + r from column x on and from the next one on
+pub record IsPair (p : Samples) (x y r : ℕ) (s : Pair) : Type 0 where
+  pub a : AreSamples p x 0 y r s.a
+  pub b : AreSamples p x 1 y r s.b
+
+-- the same for a block of `width` columns
+pub record ArePairs (width : ℕ) (p : Samples) (x y r : ℕ) (s : Pairs) : Type 0 where
+  pub left : IsPair p x y r s.left
+  pub right : 8 < width → IsPair p (x + 8) y r s.right
+
+-- the numbers of a pair are bytes
+pub record AreBytes (s : Pair) : Type 0 where
+  pub a : (u : ℕ) → u < 8 → get_or s.a u 0 < 256
+  pub b : (u : ℕ) → u < 8 → get_or s.b u 0 < 256

@@ -1,48 +1,73 @@
 ghost use Rattle.std.specs.Prelude.{◌≡◌, ℕ, ◌+◌, ◌*◌, ◌-◌, ◌/◌, ◌<◌, ◌≤◌, length, get_or, slice_index};
-ghost use Rattle.h264_plane.specs.Samples.{at};
+ghost use Rattle.h264_plane.specs.Samples.{Samples, at};
 ghost use Rattle.h264_inter.specs.Reference.{HasBlock};
 ghost use Rattle.h264_inter.specs.Chroma.{weighted, eighth};
+ghost use Rattle.h264_inter.specs.Rows.{IsPair, ArePairs, AreBytes};
 
 use crate::chroma_samples::{Weights, weights_at};
 use crate::inside::{joined, whole_block};
 use crate::lanes::{bytes, load, part64, plus, raised, times};
+use crate::window::{Pair, Pairs};
 use h264_plane::Plane;
-use std::simd::prelude::*;
 
-/// Eight weighted means of the samples around places from column `x` of row `y` on.
+/// Eight samples of row `y + r` from column `x` on, and those from the next one on.
 #[inline(always)]
-fn means8(p: &Plane, w: Weights, x: usize, y: usize) -> [u8; 8]
-    requires small { (x ≤ 16384) × (y ≤ 16400) }
+fn pair(p: &Plane, x: usize, y: usize, r: usize) -> Pair
+    requires small { (x ≤ 16384) × (y ≤ 16400) × (r ≤ 1) }
     requires columns { x + 9 ≤ p.now.width }
-    requires rows { y + 2 ≤ p.now.height }
-    requires weights { w.a + w.b + w.c + w.d ≡ 64 }
-    ensures { (k : ℕ) → k < 8 → slice_index result k ≡ weighted w.a w.b w.c w.d (λ i j. at p.now (x + k + i) (y + j)) }
+    requires row { y + r < p.now.height }
+    ensures { IsPair p.now x y r result }
 {
-    let upper = plus(
-        times(load(p, x, 0, y, 0), w.a),
-        times(load(p, x, 1, y, 0), w.b),
-    );
-    let lower = plus(
-        times(load(p, x, 0, y, 1), w.c),
-        times(load(p, x, 1, y, 1), w.d),
-    );
+    Pair {
+        a: load(p, x, 0, y, r),
+        b: load(p, x, 1, y, r),
+    }
+}
+
+/// The same for a block of `W` columns.
+#[inline(always)]
+fn pairs<const W: usize>(p: &Plane, x: usize, y: usize, r: usize) -> Pairs
+    requires small { (x ≤ 16376) × (y ≤ 16400) × (r ≤ 1) }
+    requires columns { x + 9 ≤ p.now.width }
+    requires more_columns { 8 < W → x + 17 ≤ p.now.width }
+    requires row { y + r < p.now.height }
+    ensures { ArePairs W p.now x y r result }
+{
+    let left = pair(p, x, y, r);
+    if W > 8 {
+        let right = pair(p, x + 8, y, r);
+        Pairs { left, right }
+    } else {
+        Pairs { left, right: left }
+    }
+}
+
+/// Eight weighted means, of the samples of two rows.
+#[inline(always)]
+fn means8(w: Weights, upper: Pair, lower: Pair) -> [u8; 8]
+    requires weights { w.a + w.b + w.c + w.d ≡ 64 }
+    requires bytes { AreBytes upper × AreBytes lower }
+    ensures { (p : Samples) (x y : ℕ) → IsPair p x y 0 upper → IsPair p x y 1 lower →
+        (k : ℕ) → k < 8 → slice_index result k ≡ weighted w.a w.b w.c w.d (λ i j. at p (x + k + i) (y + j)) }
+{
+    let upper = plus(times(upper.a, w.a), times(upper.b, w.b));
+    let lower = plus(times(lower.a, w.c), times(lower.b, w.d));
     bytes(part64(raised(plus(upper, lower), 32)))
 }
 
 /// A row of a block. Blocks of less than eight columns get more.
 #[inline(always)]
-fn row<const W: usize>(p: &Plane, w: Weights, x: usize, y: usize) -> [u8; 16]
+fn row<const W: usize>(w: Weights, upper: Pairs, lower: Pairs) -> [u8; 16]
     requires size { W ≤ 16 }
-    requires small { (x ≤ 16376) × (y ≤ 16400) }
-    requires columns { x + 9 ≤ p.now.width }
-    requires more_columns { 8 < W → x + 17 ≤ p.now.width }
-    requires rows { y + 2 ≤ p.now.height }
     requires weights { w.a + w.b + w.c + w.d ≡ 64 }
-    ensures { (u : ℕ) → u < W → slice_index result u ≡ weighted w.a w.b w.c w.d (λ i j. at p.now (x + u + i) (y + j)) }
+    requires left { AreBytes upper.left × AreBytes lower.left }
+    requires right { 8 < W → AreBytes upper.right × AreBytes lower.right }
+    ensures { (p : Samples) (x y : ℕ) → ArePairs W p x y 0 upper → ArePairs W p x y 1 lower →
+        (u : ℕ) → u < W → slice_index result u ≡ weighted w.a w.b w.c w.d (λ i j. at p (x + u + i) (y + j)) }
 {
-    let lo = means8(p, w, x, y);
+    let lo = means8(w, upper.left, lower.left);
     if W > 8 {
-        joined(lo, means8(p, w, x + 8, y))
+        joined(lo, means8(w, upper.right, lower.right))
     } else {
         joined(lo, lo)
     }
@@ -68,9 +93,12 @@ fn weighted_block<const W: usize, const H: usize>(
     ensures { HasBlock W H out.new (λ u v. eighth x y (λ i j. at p.now (left + u + i) (top + v + j))) }
 {
     let w = weights_at(x as u16, y as u16);
+    let mut upper = pairs::<W>(p, left, top, 0);
     for v in 0..H {
-        let row = row::<W>(p, w, left, top + v);
+        let lower = pairs::<W>(p, left, top + v, 1);
+        let row = row::<W>(w, upper, lower);
         out[W * v..W * v + W].copy_from_slice(&row[..W]);
+        upper = lower;
     }
 }
 

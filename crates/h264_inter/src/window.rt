@@ -17,3 +17,17 @@ pub struct Windows {
     pub left: Window,
     pub right: Window,
 }
+
+/// Eight samples of a row, and the eight from one column further on.
+#[derive(Clone, Copy)]
+pub struct Pair {
+    pub a: u16x8,
+    pub b: u16x8,
+}
+
+/// Those of a block's first eight columns and of those beyond. A block of up to eight columns uses the left one alone.
+#[derive(Clone, Copy)]
+pub struct Pairs {
+    pub left: Pair,
+    pub right: Pair,
+}

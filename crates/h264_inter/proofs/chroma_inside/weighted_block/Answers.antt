@@ -4,7 +4,14 @@ use Rattle.h264_plane.specs.Samples.{at}
 use Rattle.h264_inter.specs.Chroma.{weighted}
 use Rattle.h264_inter.proofs.Eighths.{weights_placed}
 use Rattle.h264_inter.proofs.Blocks.{row_more, row_inside}
+use Rattle.h264_inter.proofs.Moved.{pairs_from}
 use Rattle.h264_inter.proofs.chroma_inside.weighted_block.Goals as goal
+
+pub loop-v-init : goal.loop-v-init
+loop-v-init g c = record {
+  above = λ b q. (omega arith);
+  rows = pairs_from g.row.W c.args.p.now c.args.left c.args.top (c.args.top + 0) 0 0 _ (omega arith) c.pairs-upper.ensures;
+}
 
 pub loop-v-preserved : goal.loop-v-preserved
 loop-v-preserved g c =
@@ -18,8 +25,9 @@ loop-v-preserved g c =
     let count : length new ≡ w = c.copy_from_slice.ensures.len ∙ simp (length-take, length-drop) (omega arith) in
     record {
       above = row_more w v _ out new (λ a b. weighted k.a k.b k.c k.d (λ i j. at c.args.p.now (c.args.left + a + i) (c.args.top + b + j))) fits count
-          (λ x p. ap (λ (l : List ℕ). slice_index l x) c.copy_from_slice.ensures.after ∙ get_or-take w row x 0 p ∙ c.row-row.ensures x (omega arith))
+          (λ x p. ap (λ (l : List ℕ). slice_index l x) c.copy_from_slice.ensures.after ∙ get_or-take w row x 0 p ∙ c.row-row.ensures c.args.p.now c.args.left (c.args.top + v) c.loop-v.invariant.rows c.pairs-lower.ensures x (omega arith))
           c.loop-v.invariant.above;
+      rows = pairs_from w c.args.p.now c.args.left (c.args.top + v) (c.args.top + (v + 1)) 1 0 _ (omega arith) c.pairs-lower.ensures;
     }
 
 pub returns : goal.returns
