@@ -1,6 +1,7 @@
 pub mod Fits
 pub mod Within
 pub mod Rounded
+pub mod Vectors
 pub mod Scaled
 pub mod Blocks
 pub mod Small

@@ -3,29 +3,13 @@ use Rattle.std.proofs.Common.{◌≡◌, ℤ, ℕ, ◌+◌, ◌≤◌, refl, sym
 use Rattle.std.proofs.lemmas.Int.{ints}
 use lib.Signed.{shr_z}
 use Rattle.h264_scale.specs.Residual.{IsIn, fits_last}
-use Rattle.h264_scale.specs.Fours.{IsWithin, AreWithin, IsShort, IsShortFour, IsShortBlock, is_small, four_small, block_small, block_fits, four_fits_last, block_fits_last, half, halves, joined, transposed, block_e, block_f, block_residual_fits, block_residual, rounded, rounded_block, dc_only, four}
+use Rattle.h264_scale.specs.Fours.{IsWithin, AreWithin, IsShort, IsShortFour, IsShortBlock, block_fits, four_fits_last, block_fits_last, half, halves, joined, transposed, block_e, block_f, block_residual_fits, block_residual, rounded, rounded_block, dc_only, four}
 use Rattle.h264_scale.specs.declared.fours.Four.{Four}
 use Rattle.h264_scale.specs.declared.fours.Block.{Block}
 use Rattle.h264_scale.proofs.Fits.{all_four, four_true, short_block_fits}
 use Rattle.h264_scale.proofs.Within.{half_low, half_high, within_plus, within_minus, within_transposed}
 
 -- ---- bounds
-
-small_in : (z : ℤ) → is_small z ≡ true → IsIn 2048 z
-unfolding is_small
-small_in z e = record { low = grind (arith, ints); high = grind (arith, ints) }
-
-four_small_in : (v : Four) → four_small v ≡ true → IsWithin 2048 v
-unfolding four_small
-four_small_in v e =
-    let each = all_four (is_small v.a) (is_small v.b) (is_small v.c) (is_small v.d) e in
-    record { a = small_in v.a each.0; b = small_in v.b each.1; c = small_in v.c each.2; d = small_in v.d each.3 }
-
-block_small_in : (m : Block) → block_small m ≡ true → AreWithin 2048 m
-unfolding block_small
-block_small_in m e =
-    let each = all_four (four_small m.r0) (four_small m.r1) (four_small m.r2) (four_small m.r3) e in
-    record { r0 = four_small_in m.r0 each.0; r1 = four_small_in m.r1 each.1; r2 = four_small_in m.r2 each.2; r3 = four_small_in m.r3 each.3 }
 
 in_half : (n : ℕ) (x : ℤ) → IsIn (n + n) x → IsIn n (shr_z x 2)
 in_half n x p = record { low = omega (arith, ints, half_low, half_high); high = omega (arith, ints, half_low, half_high) }
@@ -62,7 +46,7 @@ short_in n z p h = record { low = omega (arith, ints); high = omega (arith, ints
 short_four : (n : ℕ) (v : Four) → n ≤ 32767 → IsWithin n v → IsShortFour v
 short_four n v p h = record { a = short_in n v.a p h.a; b = short_in n v.b p h.b; c = short_in n v.c p h.c; d = short_in n v.d p h.d }
 
-short_block : (n : ℕ) (m : Block) → n ≤ 32767 → AreWithin n m → IsShortBlock m
+pub short_block : (n : ℕ) (m : Block) → n ≤ 32767 → AreWithin n m → IsShortBlock m
 short_block n m p h = record { r0 = short_four n m.r0 p h.r0; r1 = short_four n m.r1 p h.r1; r2 = short_four n m.r2 p h.r2; r3 = short_four n m.r3 p h.r3 }
 
 short_halves : (a b : ℕ) (m : Block) → a ≤ 32767 → b ≤ 32767 → AreHalves a b m → IsShortBlock m
@@ -82,14 +66,18 @@ last_block m h = four_true _ _ _ _ (last_four m.r0 h.r0) (last_four m.r1 h.r1) (
 
 -- the values of each step
 pub record AreSteps (d : Block) : Type 0 where
+  pub turned : IsShortBlock (transposed d)
+  pub halves_short : IsShortBlock (halves (transposed d))
+  pub joined_short : IsShortBlock (joined (halves (transposed d)))
   pub d_short : IsShortBlock d
   pub e_short : IsShortBlock (block_e d)
   pub f_short : IsShortBlock (block_f (block_e d))
   pub g_short : IsShortBlock (halves (block_f (block_e d)))
   pub h_short : IsShortBlock (joined (halves (block_f (block_e d))))
+  pub h_in : AreWithin 25088 (joined (halves (block_f (block_e d))))
   pub last : block_fits_last (joined (halves (block_f (block_e d)))) ≡ true
 
-turned_short : (m : Block) → IsShortBlock m → IsShortBlock (transposed m)
+pub turned_short : (m : Block) → IsShortBlock m → IsShortBlock (transposed m)
 turned_short m h = record {
   r0 = record { a = h.r0.a; b = h.r1.a; c = h.r2.a; d = h.r3.a };
   r1 = record { a = h.r0.b; b = h.r1.b; c = h.r2.b; d = h.r3.b };
@@ -97,26 +85,32 @@ turned_short m h = record {
   r3 = record { a = h.r0.d; b = h.r1.d; c = h.r2.d; d = h.r3.d };
 }
 
-pub small_steps : (d : Block) → block_small d ≡ true → AreSteps d
-small_steps d small =
-    let first = block_small_in d small in
+pub small_steps : (d : Block) → AreWithin 2048 d → AreSteps d
+small_steps d first =
     let e = halves_in 1024 (transposed d) (within_transposed 2048 d first) in
     let f = within_transposed 7168 (joined (halves (transposed d))) (joined_in 4096 3072 (halves (transposed d)) e) in
     let g = halves_in 3584 (block_f (block_e d)) f in
     let h = joined_in 14336 10752 (halves (block_f (block_e d))) g in
+    let halved = short_halves 4096 3072 (halves (transposed d)) (omega arith) (omega arith) e in
+    let short = short_block 2048 d (omega arith) first in
+    let f_short = short_block 7168 (block_f (block_e d)) (omega arith) f in
     record {
-      d_short = short_block 2048 d (omega arith) first;
-      e_short = turned_short (halves (transposed d)) (short_halves 4096 3072 (halves (transposed d)) (omega arith) (omega arith) e);
-      f_short = short_block 7168 (block_f (block_e d)) (omega arith) f;
+      turned = turned_short d short;
+      halves_short = halved;
+      joined_short = turned_short (block_f (block_e d)) f_short;
+      d_short = short;
+      e_short = turned_short (halves (transposed d)) halved;
+      f_short = f_short;
       g_short = short_halves 14336 10752 (halves (block_f (block_e d))) (omega arith) (omega arith) g;
       h_short = short_block 25088 (joined (halves (block_f (block_e d)))) (omega arith) h;
+      h_in = h;
       last = last_block (joined (halves (block_f (block_e d)))) h;
     }
 
 five_true : (a b c d e : Bool) → a ≡ true → b ≡ true → c ≡ true → d ≡ true → e ≡ true → (a && b && c && d && e) ≡ true
 five_true a b c d e p q r s t = grind arith
 
-pub small_fits : (d : Block) → block_small d ≡ true → block_residual_fits d ≡ true
+pub small_fits : (d : Block) → AreWithin 2048 d → block_residual_fits d ≡ true
 unfolding block_residual_fits
 small_fits d small =
     let s = small_steps d small in

@@ -72,16 +72,6 @@ four_fits_last v = fits_last v.a && fits_last v.b && fits_last v.c && fits_last 
 unfoldable pub block_fits_last : Block → Bool
 block_fits_last m = four_fits_last m.r0 && four_fits_last m.r1 && four_fits_last m.r2 && four_fits_last m.r3
 
--- a scaled coefficient so small that no later value leaves its range
-unfoldable pub is_small : ℤ → Bool
-is_small z = int_le (negsuc 2047) z && int_le z (pos 2048)
-
-unfoldable pub four_small : Four → Bool
-four_small v = is_small v.a && is_small v.b && is_small v.c && is_small v.d
-
-unfoldable pub block_small : Block → Bool
-block_small m = four_small m.r0 && four_small m.r1 && four_small m.r2 && four_small m.r3
-
 -- ---- sums, column by column
 
 abbrev pub plus : Four → Four → Four

@@ -1,4 +1,5 @@
 pub mod Residual
 pub mod Dc
 pub mod Fours
+pub mod Lanes
 pub mod Macroblock

@@ -1,7 +1,7 @@
 ghost use Rattle.std.specs.Prelude.{◌≡◌, []};
 ghost use Rattle.std.specs.Int.{int_shr};
 ghost use Rattle.h264_scale.specs.Residual.{fits16 as fits16_of, fits_last as fits_last_of};
-ghost use Rattle.h264_scale.specs.Fours.{IsShort, IsShortFour, IsShortBlock, IsWithin, AreWithin, four_fits, block_fits, four_fits_last, block_fits_last, is_small as is_small_of, four_small, block_small, plus, minus, half, transposed as transposed_of, halves as halves_of, joined as joined_of, summed as summed_of, block_e, block_f, hadamard_block, rows_of, row_then, corners};
+ghost use Rattle.h264_scale.specs.Fours.{IsShort, IsShortFour, IsShortBlock, IsWithin, AreWithin, four_fits, block_fits, four_fits_last, block_fits_last, plus, minus, half, transposed as transposed_of, halves as halves_of, joined as joined_of, summed as summed_of, block_e, block_f, hadamard_block, rows_of, row_then, corners};
 
 /// Four numbers of a row.
 #[derive(Clone, Copy)]
@@ -39,15 +39,6 @@ pub fn fits_last(x: i32) -> bool
     -32768 <= x && x <= 32735
 }
 
-/// Whether a scaled coefficient is so small that no later value leaves its range, if all of a block are.
-#[tactic(auto, unfolding(crate::specs::Fours::is_small))]
-#[inline(always)]
-fn is_small(x: i32) -> bool
-    ensures { result ≡ is_small_of x }
-{
-    -2048 <= x && x <= 2048
-}
-
 /// A number of 16 bits.
 #[inline(always)]
 pub fn as_16_bits(x: i32) -> i16
@@ -80,14 +71,6 @@ impl Four {
         ensures { result ≡ four_fits_last self }
     {
         fits_last(self.a) && fits_last(self.b) && fits_last(self.c) && fits_last(self.d)
-    }
-
-    #[tactic(auto, unfolding(crate::specs::Fours::four_small))]
-    #[inline(always)]
-    fn is_small(self) -> bool
-        ensures { result ≡ four_small self }
-    {
-        is_small(self.a) && is_small(self.b) && is_small(self.c) && is_small(self.d)
     }
 
     #[inline(always)]
@@ -182,15 +165,6 @@ impl Block {
         ensures { result ≡ block_fits_last self }
     {
         self.r0.fits_last() && self.r1.fits_last() && self.r2.fits_last() && self.r3.fits_last()
-    }
-
-    /// Whether each entry is small.
-    #[tactic(auto, unfolding(crate::specs::Fours::block_small))]
-    #[inline(always)]
-    pub fn is_small(self) -> bool
-        ensures { result ≡ block_small self }
-    {
-        self.r0.is_small() && self.r1.is_small() && self.r2.is_small() && self.r3.is_small()
     }
 
     /// The matrix with its rows as columns.

@@ -7,6 +7,7 @@
 
 mod dc;
 mod fours;
+mod lanes;
 pub mod laws;
 mod levels;
 mod macroblock;

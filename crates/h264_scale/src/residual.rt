@@ -3,14 +3,15 @@ ghost use Rattle.h264_scale.specs.Residual.{AreIn, coefficient, d_of, d_with_dc,
 ghost use Rattle.h264_scale.specs.Fours.{IsShort, IsShortFour, IsShortBlock, four, block_of, with_dc, scaled_block};
 
 use crate::fours::{Block, Four};
-use crate::transform::{TransformRange, flat, residual};
+use crate::lanes::{small_residual, small_residual_with_dc};
+use crate::transform::{TransformRange, flat, tested_residual};
 
 /// The three columns of v, by qp % 6 (8.5.9).
 pub const V0: [u8; 6] = [10, 11, 13, 14, 16, 18];
 
-const V1: [u8; 6] = [16, 18, 20, 23, 25, 29];
+pub const V1: [u8; 6] = [16, 18, 20, 23, 25, 29];
 
-const V2: [u8; 6] = [13, 14, 16, 18, 20, 23];
+pub const V2: [u8; 6] = [13, 14, 16, 18, 20, 23];
 
 /// What a coefficient is multiplied by.
 #[inline(always)]
@@ -139,7 +140,10 @@ pub fn residual4(levels: &[i16; 16], qp: u8) -> Result<[i16; 16], TransformRange
         let dc = scaled_entry(i32::from(levels[0]), factor(V0[usize::from(qp % 6)], qp));
         return flat(dc);
     }
-    residual(scaled(coefficients(levels), qp))
+    match small_residual(levels, qp) {
+        Some(residual) => Ok(residual),
+        None => tested_residual(scaled(coefficients(levels), qp)),
+    }
 }
 
 /// The residual of a 4x4 block, row by row, from its scaled DC coefficient and its 15 levels from the second place of the scan on. Where
@@ -153,7 +157,10 @@ pub fn residual4_with_dc(dc: i16, levels: &[i16; 15], qp: u8) -> Result<[i16; 16
     if are_zero(levels) {
         return flat(i32::from(dc));
     }
+    if let Some(residual) = small_residual_with_dc(dc, levels, qp) {
+        return Ok(residual);
+    }
     let mut d = scaled(coefficients_after_dc(levels), qp);
     d.r0.a = i32::from(dc);
-    residual(d)
+    tested_residual(d)
 }

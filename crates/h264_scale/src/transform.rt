@@ -1,6 +1,6 @@
 ghost use Rattle.std.specs.Prelude.{◌≡◌, codes, Some, false, true, MatchResult, IfOk};
 ghost use Rattle.h264_scale.specs.Residual.{IsIn, AreIn};
-ghost use Rattle.h264_scale.specs.Fours.{IsShort, IsShortBlock, rounded, rounded_block, dc_only, block_small, block_residual_fits, block_residual};
+ghost use Rattle.h264_scale.specs.Fours.{IsShort, IsShortBlock, rounded, rounded_block, dc_only, block_residual_fits, block_residual};
 
 use crate::fours::{Block, fits_last};
 use std::error::Error;
@@ -70,20 +70,10 @@ pub fn flat(dc: i32) -> Result<[i16; 16], TransformRange>
     Ok([rounded_of(dc); 16])
 }
 
-/// The inverse transform of small coefficients, of which no value leaves its range.
-#[inline(always)]
-fn small_residual(d: Block) -> [i16; 16]
-    requires { block_small d ≡ true }
-    ensures value { result ≡ block_residual d }
-    ensures bound { AreIn 512 result }
-{
-    rounded_rows(d.row_halves().row_joined().halves().joined())
-}
-
-/// The inverse transform of any coefficients, with a test of each value.
+/// The inverse transform of any scaled coefficients, rows first, with a test of each value (8.5.12.2).
 #[tactic(auto, unfolding(crate::specs::Fours::block_residual_fits, crate::specs::Fours::block_residual))]
 #[inline(never)]
-fn tested_residual(d: Block) -> Result<[i16; 16], TransformRange>
+pub fn tested_residual(d: Block) -> Result<[i16; 16], TransformRange>
     ensures value { MatchResult result (λ r. (block_residual_fits d ≡ true) × (r ≡ block_residual d)) (λ _. block_residual_fits d ≡ false) }
     ensures bound { IfOk result (AreIn 512) }
 {
@@ -107,16 +97,4 @@ fn tested_residual(d: Block) -> Result<[i16; 16], TransformRange>
         return Err(TransformRange);
     }
     Ok(rounded_rows(h))
-}
-
-/// The inverse transform of scaled coefficients, rows first (8.5.12.2).
-#[inline(always)]
-pub fn residual(d: Block) -> Result<[i16; 16], TransformRange>
-    ensures value { MatchResult result (λ r. (block_residual_fits d ≡ true) × (r ≡ block_residual d)) (λ _. block_residual_fits d ≡ false) }
-    ensures bound { IfOk result (AreIn 512) }
-{
-    if d.is_small() {
-        return Ok(small_residual(d));
-    }
-    tested_residual(d)
 }
