@@ -2,6 +2,7 @@ pub mod Sides
 pub mod Unique
 pub mod Local
 pub mod Blocks4
+pub mod Cleared
 pub mod Beside
 pub mod Kernels
 pub mod Step

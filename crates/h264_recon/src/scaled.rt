@@ -1,33 +1,68 @@
 //! The residual of a macroblock that was read (8.5).
 #![tactic(auto)]
 
-ghost use Rattle.std.specs.Prelude.{◌≡◌, ◌↔◌, ℕ, ◌+◌, ◌*◌, ◌<◌, ◌≤◌, ◌&&◌, [], IsOk, IfOk, IsTrue, get_or, unwrap_or, replicate, take, drop, pos};
-ghost use Rattle.h264_plane.specs.Places.{index_of};
+ghost use Rattle.std.specs.Prelude.{◌≡◌, ◌↔◌, ℕ, ◌+◌, ◌*◌, ◌<◌, ◌≤◌, ◌&&◌, List, [], ℤ, IsOk, IfOk, IsTrue, get_or, unwrap_or, replicate, take, drop, pos};
+ghost use Rattle.h264_plane.specs.Places.{index_of, column_of, row_of};
 ghost use Rattle.h264_near.specs.Coded.{CodedMacroblock};
 ghost use Rattle.h264_mbsyntax.specs.Stored.{shown};
 ghost use Rattle.h264_mbsyntax.specs.Holds.{Holds};
-ghost use Rattle.h264_scale.specs.Residual.{residual_at};
-ghost use Rattle.h264_scale.specs.Macroblock.{luma_d, chroma_d, luma_fits, chroma_fits, levels_fit, AreResiduals, AreScaled, raster};
+ghost use Rattle.h264_scale.specs.Residual.{residual_at, residual_fits, d_of, HasEntries};
+ghost use Rattle.h264_scale.specs.Macroblock.{luma_d, chroma_d, luma_fits, chroma_fits, levels_fit, AreResiduals, AreScaled, raster, IsPut};
 ghost use Rattle.h264_scale.specs.declared.levels.LumaLevels.TheVariants as luma_variants;
 ghost use Rattle.h264_scale.specs.declared.levels.ChromaLevels.TheVariants as chroma_variants;
 ghost use Rattle.h264_recon.specs.Table.{table};
-ghost use Rattle.h264_recon.specs.Residuals.{IsLumaOf, IsChromaOf};
+ghost use Rattle.h264_recon.specs.Residuals.{IsLumaOf, IsChromaOf, IsClear};
 ghost use Rattle.h264_recon.specs.Levels.{are_zero, are_blank as are_blank_of, luma_blocks as luma_blocks_of, luma_levels as luma_levels_of, chroma_blocks as chroma_blocks_of, chroma_levels as chroma_levels_of, levels_of};
 
 use crate::coefficients::{are_blank, is_uncoded, qp_of_chroma, shown4, shown15, shown16};
 use h264_mbsyntax::{Kind, Macroblock, Residual};
 use h264_scale::{Residuals, TransformRange, dc2, dc16, put8, put16, residual4, residual4_with_dc};
 
-/// The levels of a luma block.
+/// Puts the residual of the luma block of this number, so many of whose levels are not 0, into that of its macroblock, where nothing stands at it.
 #[inline(always)]
-fn block16(totals: &[u8; 16], stands: &[[i16; 16]; 16], b: usize) -> [i16; 16]
-    requires { b < 16 }
-    ensures { result ≡ get_or (table 16 (λ k. shown 16 (get_or totals.now k 0) (get_or stands.now k (replicate 16 (pos 0))))) b [] }
+fn put_levels(
+    out: &mut [i16; 256],
+    total: u8,
+    levels: &[i16; 16],
+    b: usize,
+    qp: u8,
+) -> Result<(), TransformRange>
+    requires block { b < 16 }
+    requires qp { qp ≤ 51 }
+    ensures range { IsOk result ↔ IsTrue (residual_fits (d_of (shown 16 total levels.now) qp)) }
+    ensures put { IfOk result (λ u. (block : List ℤ) → HasEntries block (residual_at (d_of (shown 16 total levels.now) qp)) → IsClear 16 (column_of b) (row_of b) out.old → IsPut 16 out.old out.new (column_of b) (row_of b) block) }
 {
-    shown16(&stands[b], totals[b])
+    if total == 0 {
+        return Ok(());
+    }
+    let block = residual4(levels, qp)?;
+    put16(
+        out,
+        2 * (b / 4 % 2) + b % 2,
+        2 * (b / 8) + b / 2 % 2,
+        &block,
+    );
+    Ok(())
 }
 
-/// Those behind its DC.
+/// The same, by how many levels of each block are not 0, and the levels.
+#[inline(always)]
+fn put_block(
+    out: &mut [i16; 256],
+    totals: &[u8; 16],
+    stands: &[[i16; 16]; 16],
+    b: usize,
+    qp: u8,
+) -> Result<(), TransformRange>
+    requires block { b < 16 }
+    requires qp { qp ≤ 51 }
+    ensures range { IsOk result ↔ IsTrue (residual_fits (d_of (get_or (table 16 (λ k. shown 16 (get_or totals.now k 0) (get_or stands.now k (replicate 16 (pos 0))))) b []) qp)) }
+    ensures put { IfOk result (λ u. (block : List ℤ) → HasEntries block (residual_at (d_of (get_or (table 16 (λ k. shown 16 (get_or totals.now k 0) (get_or stands.now k (replicate 16 (pos 0))))) b []) qp)) → IsClear 16 (column_of b) (row_of b) out.old → IsPut 16 out.old out.new (column_of b) (row_of b) block) }
+{
+    put_levels(out, totals[b], &stands[b], b, qp)
+}
+
+/// The levels of a luma block behind its DC.
 #[inline(always)]
 fn block15(totals: &[u8; 16], stands: &[[i16; 15]; 16], b: usize) -> [i16; 15]
     requires { b < 16 }
@@ -57,14 +92,7 @@ fn blocks(
 {
     let mut out = [0; 256];
     for b in 0..16 {
-        let levels = block16(totals, stands, b);
-        let block = residual4(&levels, qp)?;
-        put16(
-            &mut out,
-            2 * (b / 4 % 2) + b % 2,
-            2 * (b / 8) + b / 2 % 2,
-            &block,
-        );
+        put_block(&mut out, totals, stands, b, qp)?;
     }
     Ok(Some(out))
 }

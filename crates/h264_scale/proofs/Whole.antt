@@ -201,10 +201,10 @@ levels_cr l p = and_second (luma_fits l.qp l.luma && chroma_fits l.qp_cb l.cb) _
 no_levels : (qp : ℕ) → dc_only (pos 0) ≡ block_of (d_of [] qp)
 no_levels qp = dc_only_is [] qp (pos 0) (λ k p. refl) (sym (zero_times (factor_at qp 0 0)))
 
-none_fit : (qp : ℕ) → residual_fits (d_of [] qp) ≡ true
+pub none_fit : (qp : ℕ) → residual_fits (d_of [] qp) ≡ true
 none_fit qp = sym (plain_fits (d_of [] qp)) ∙ ap block_residual_fits (sym (no_levels qp)) ∙ flat_fits (pos 0) zero_last
 
-none_residual : (qp i j : ℕ) → i < 4 → j < 4 → residual_at (d_of [] qp) i j ≡ pos 0
+pub none_residual : (qp i j : ℕ) → i < 4 → j < 4 → residual_at (d_of [] qp) i j ≡ pos 0
 none_residual qp i j p q =
     sym ((plain_entries (d_of [] qp)).each i j p q) ∙ ap (λ b. get_or (block_residual b) (4 * i + j) (pos 0)) (sym (no_levels qp))
     ∙ ap (λ l. get_or l (4 * i + j) (pos 0)) (sym (flat_is (pos 0) (pos 0) refl)) ∙ get_or-replicate 16 (4 * i + j) (pos 0) (pos 0) (omega arith)
