@@ -22,15 +22,6 @@ row_from false p x c y z r s l e h = record {
   small = h.small;
 }
 
-five_from : (b : Bool) (p : Samples) (x c y z : ℕ) (w : Window) → y ≡ z → LastFive b p x c y w → LastFive b p x c z w
-five_from b p x c y z w e h = record {
-  f = row_from b p x c y z 0 0 w.f (omega arith) h.f;
-  g = row_from b p x c y z 1 1 w.g (omega arith) h.g;
-  h = row_from b p x c y z 2 2 w.h (omega arith) h.h;
-  i = row_from b p x c y z 3 3 w.i (omega arith) h.i;
-  j = row_from b p x c y z 4 4 w.j (omega arith) h.j;
-}
-
 moved : (b : Bool) (p : Samples) (x c y z : ℕ) (w : Window) → y + 1 ≡ z → AllSix b p x c y w → LastFive b p x c z w
 moved b p x c y z w e h = record {
   f = row_from b p x c y z 1 0 w.f (omega arith) h.f;
@@ -40,13 +31,7 @@ moved b p x c y z w e h = record {
   j = row_from b p x c y z 5 4 w.j (omega arith) h.j;
 }
 
--- windows before the first row, and those of a row before the next one
-pub both_first : (b : Bool) (width : ℕ) (p : Samples) (x c y z : ℕ) (w : Windows) → y ≡ z → LastFiveOfBoth b width p x c y w → LastFiveOfBoth b width p x c z w
-both_first b width p x c y z w e h = record {
-  left = five_from b p x c y z w.left e h.left;
-  right = λ more. five_from b p (x + 8) c y z w.right e (h.right more);
-}
-
+-- the windows of a row before the next one
 pub both_moved : (b : Bool) (width : ℕ) (p : Samples) (x c y z : ℕ) (w : Windows) → y + 1 ≡ z → AllSixOfBoth b width p x c y w → LastFiveOfBoth b width p x c z w
 both_moved b width p x c y z w e h = record {
   left = moved b p x c y z w.left e h.left;
