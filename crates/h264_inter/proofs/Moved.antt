@@ -1,10 +1,10 @@
 -- Windows of rows, what they stand for and how they move down, and the quarter places that are made of them.
-use Rattle.std.proofs.Common.{◌≡◌, ◌≢◌, ℕ, ◌+◌, ◌<◌, ◌≤◌, Bool, true, false, List, get_or, arith, inl, inr, ap, ◌∙◌, sym, refl, ℤ, pos, ◌+ℤ◌, ◌-ℤ◌}
+use Rattle.std.proofs.Common.{◌≡◌, ◌≢◌, ℕ, ◌+◌, ◌<◌, Bool, true, false, List, get_or, arith, inl, inr, ap, ◌∙◌, refl, pos, ◌+ℤ◌, ◌-ℤ◌}
 use Rattle.std.proofs.lemmas.Bool.{cases_lt}
 use Rattle.std.proofs.lemmas.Bool.Decides.{nat_tests}
 use Rattle.h264_plane.specs.Samples.{Samples, at}
 use Rattle.h264_inter.specs.Luma.{quarter, mean, half, central, taps, across, down, middle, six}
-use Rattle.h264_inter.specs.Rows.{AreSamples, AreRaised, IsRow, LastFive, AllSix, LastFiveOfBoth, AllSixOfBoth, IsPair, ArePairs, partner}
+use Rattle.h264_inter.specs.Rows.{IsRow, LastFive, AllSix, LastFiveOfBoth, AllSixOfBoth, IsPair, ArePairs, partner}
 use Rattle.h264_inter.specs.declared.window.Pair.{Pair}
 use Rattle.h264_inter.specs.declared.window.Pairs.{Pairs}
 use Rattle.h264_inter.specs.declared.window.Window.{Window}

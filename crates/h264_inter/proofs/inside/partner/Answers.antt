@@ -1,4 +1,4 @@
-use Rattle.std.proofs.Common.{sym, arith}
+use Rattle.std.proofs.Common.{sym}
 use Rattle.h264_inter.proofs.Moved.{partner_left, partner_right}
 use Rattle.h264_inter.proofs.inside.partner.Goals as goal
 

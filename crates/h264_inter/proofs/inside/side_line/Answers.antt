@@ -1,5 +1,4 @@
-use Rattle.std.proofs.Common.{◌≡◌, ◌+◌, ◌*◌, ◌≤◌, List, ℕ, length, slice_index, false, arith, ap, ◌∙◌, length-take, length-drop}
-use Rattle.std.proofs.lemmas.List.{get_or-take}
+use Rattle.std.proofs.Common.{◌≡◌, ◌+◌, ◌*◌, ◌≤◌, length, false, arith, ◌∙◌}
 use Rattle.h264_plane.specs.Samples.{at}
 use Rattle.h264_inter.specs.Luma.{quarter}
 use Rattle.h264_inter.proofs.Blocks.{block_more, row_inside}
@@ -13,10 +12,9 @@ pub returns-clause-rows : goal.returns-clause-rows
 returns-clause-rows g c =
     let a = c.args in
     let w = g.row.W in
-    let row = c.side_row-row.result in
-    let new = c.copy_from_slice.new.self in
+    let new = c.put_row.new.out in
     let fits : w * a.v + w ≤ length a.out.now = omega (arith, row_inside w g.row.H a.v c.requires.row) in
-    let count : length new ≡ w = c.copy_from_slice.ensures.len ∙ simp (length-take, length-drop) (omega arith) in
+    let count : length new ≡ w = c.put_row.ensures.whole in
     block_more w a.v _ a.out.now new (λ d b. quarter g.row.X g.row.Y (λ i j. at a.p.now (a.x + d + i) (a.y + b + j))) fits count
-    (λ x p. ap (λ (l : List ℕ). slice_index l x) c.copy_from_slice.ensures.after ∙ get_or-take w row x 0 p ∙ c.side_row-row.ensures x (omega arith))
+    (λ x p. c.put_row.ensures.each x p ∙ c.side_row-row.ensures x (omega arith))
     c.requires.above

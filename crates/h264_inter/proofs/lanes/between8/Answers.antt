@@ -1,4 +1,4 @@
-use Rattle.std.proofs.Common.{◌≡◌, ◌+◌, ◌*◌, ◌-◌, ◌/◌, get_or, ap, ◌∙◌, arith, min}
+use Rattle.std.proofs.Common.{◌≡◌, ◌+◌, ◌*◌, ◌/◌, get_or, ap, ◌∙◌, arith, min}
 use Rattle.h264_inter.proofs.Eight.{between_lane}
 use Rattle.h264_inter.proofs.lanes.between8.Goals as goal
 
