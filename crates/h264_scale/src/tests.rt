@@ -1,7 +1,4 @@
-use crate::{
-    ChromaLevels, ChromaWithDc, Levels, LumaLevels, LumaWithDc, TransformRange, dc2, dc16,
-    residual4, residual4_with_dc, residuals,
-};
+use crate::{TransformRange, dc2, dc16, put8, put16, residual4, residual4_with_dc};
 use std::process::Abort;
 
 #[test]
@@ -21,53 +18,25 @@ fn ranges(rt: HostRuntime) {
     extreme_levels(&rt);
 }
 
-/// Luma of one Intra 16x16 level, 17, at QP 26; Cb of one DC level at QP 30; nothing in Cr.
-const ONE_OF_EACH: Levels = Levels {
-    luma: LumaLevels::WithDc(LumaWithDc {
-        dc: [17, 0, 0, 0, 0, 0, 0, 0, 0, 0, 0, 0, 0, 0, 0, 0],
-        ac: [[0; 15]; 16],
-    }),
-    cb: ChromaLevels::WithDc(ChromaWithDc {
-        dc: [1, 0, 0, 0],
-        ac: [[0; 15]; 4],
-    }),
-    cr: ChromaLevels::NotCoded,
-    qp: 26,
-    qp_cb: 30,
-    qp_cr: 30,
-};
-
-// (884 + 32) >> 6 is 14, (160 + 32) >> 6 is 3. Of 16 blocks the last alone has a level, 13 << 4 at its second place, as above; 10 at
-// its first, at QP 51, is out of range.
+// (160 + 32) >> 6 is 3.
 #[test]
 fn macroblocks(rt: HostRuntime) {
-    let mut levels = ONE_OF_EACH;
-    match residuals(&levels) {
-        Ok(r) => {
-            assert_eq!(rt; r.y, Some([14; 256]));
-            assert_eq!(rt; r.cb, Some([3; 64]));
-            assert_eq!(rt; r.cr, None);
+    let mut luma = [0; 256];
+    let block = [1, 2, 3, 4, 5, 6, 7, 8, 9, 10, 11, 12, 13, 14, 15, 16];
+    put16(&mut luma, 3, 2, &block);
+    assert_eq!(rt; luma[16 * 8 + 11], 0);
+    assert_eq!(rt; luma[16 * 8 + 12], 1);
+    assert_eq!(rt; luma[16 * 9 + 12], 5);
+    assert_eq!(rt; luma[16 * 11 + 15], 16);
+    assert_eq!(rt; luma[16 * 12 + 12], 0);
+    let mut chroma = [0; 64];
+    for b in 0..4usize {
+        match residual4_with_dc(160, &[0; 15], 30) {
+            Ok(block) => put8(&mut chroma, b % 2, b / 2 % 2, &block),
+            Err(TransformRange) => assert!(rt; false),
         }
-        Err(TransformRange) => assert!(rt; false),
     }
-    let mut blocks = [[0; 16]; 16];
-    blocks[15] = one_level(1, 1);
-    levels.luma = LumaLevels::Blocks(blocks);
-    levels.qp = 24;
-    match residuals(&levels) {
-        Ok(r) => {
-            let y = r.y.unwrap_or([0; 256]);
-            assert_eq!(rt; y[16 * 12 + 11], 0);
-            assert_eq!(rt; y[16 * 12 + 12], 3);
-            assert_eq!(rt; y[16 * 12 + 13], 2);
-            assert_eq!(rt; y[255], -3);
-        }
-        Err(TransformRange) => assert!(rt; false),
-    }
-    blocks[15] = one_level(0, 10);
-    levels.luma = LumaLevels::Blocks(blocks);
-    levels.qp = 51;
-    assert!(rt; residuals(&levels).is_err());
+    assert_eq!(rt; chroma, [3; 64]);
 }
 
 /// The levels with one of them not 0.
