@@ -20,16 +20,6 @@ pub(crate) fn shown16(stands: &[i16; 16], total: u8) -> [i16; 16]
 }
 
 #[inline]
-pub(crate) fn shown15(stands: &[i16; 15], total: u8) -> [i16; 15]
-    ensures { result ≡ shown 15 total stands.now }
-{
-    if total == 0 {
-        return [0; 15];
-    }
-    *stands
-}
-
-#[inline]
 pub(crate) fn shown4(stands: &[i16; 4], total: u8) -> [i16; 4]
     ensures { result ≡ shown 4 total stands.now }
 {

@@ -6,7 +6,7 @@ ghost use Rattle.h264_plane.specs.Places.{index_of, column_of, row_of};
 ghost use Rattle.h264_near.specs.Coded.{CodedMacroblock};
 ghost use Rattle.h264_mbsyntax.specs.Stored.{shown};
 ghost use Rattle.h264_mbsyntax.specs.Holds.{Holds};
-ghost use Rattle.h264_scale.specs.Residual.{residual_at, residual_fits, d_of, HasEntries};
+ghost use Rattle.h264_scale.specs.Residual.{residual_at, residual_fits, d_of, d_with_dc, HasEntries};
 ghost use Rattle.h264_scale.specs.Macroblock.{luma_d, chroma_d, luma_fits, chroma_fits, levels_fit, AreResiduals, AreScaled, raster, IsPut};
 ghost use Rattle.h264_scale.specs.declared.levels.LumaLevels.TheVariants as luma_variants;
 ghost use Rattle.h264_scale.specs.declared.levels.ChromaLevels.TheVariants as chroma_variants;
@@ -14,9 +14,12 @@ ghost use Rattle.h264_recon.specs.Table.{table};
 ghost use Rattle.h264_recon.specs.Residuals.{IsLumaOf, IsChromaOf, IsClear};
 ghost use Rattle.h264_recon.specs.Levels.{are_zero, are_blank as are_blank_of, luma_blocks as luma_blocks_of, luma_levels as luma_levels_of, chroma_blocks as chroma_blocks_of, chroma_levels as chroma_levels_of, levels_of};
 
-use crate::coefficients::{are_blank, is_uncoded, qp_of_chroma, shown4, shown15, shown16};
+use crate::coefficients::{are_blank, is_uncoded, qp_of_chroma, shown4, shown16};
 use h264_mbsyntax::{Kind, Macroblock, Residual};
-use h264_scale::{Residuals, TransformRange, dc2, dc16, put8, put16, residual4, residual4_with_dc};
+use h264_scale::{
+    Residuals, TransformRange, dc2, dc16, put8, put16, residual4, residual4_of_dc,
+    residual4_with_dc,
+};
 
 /// Puts the residual of the luma block of this number, so many of whose levels are not 0, into that of its macroblock, where nothing stands at it.
 #[inline(always)]
@@ -62,22 +65,52 @@ fn put_block(
     put_levels(out, totals[b], &stands[b], b, qp)
 }
 
-/// The levels of a luma block behind its DC.
+/// The residual of a block by its scaled DC coefficient and its other levels, of which so many are not 0.
 #[inline(always)]
-fn block15(totals: &[u8; 16], stands: &[[i16; 15]; 16], b: usize) -> [i16; 15]
-    requires { b < 16 }
-    ensures { result ≡ get_or (table 16 (λ k. shown 15 (get_or totals.now k 0) (get_or stands.now k (replicate 15 (pos 0))))) b [] }
+fn with_levels(dc: i16, total: u8, levels: &[i16; 15], qp: u8) -> Result<[i16; 16], TransformRange>
+    requires { qp ≤ 51 }
+    ensures range { IsOk result ↔ IsTrue (residual_fits (d_with_dc dc (shown 15 total levels.now) qp)) }
+    ensures residual { IfOk result (λ r. HasEntries r (residual_at (d_with_dc dc (shown 15 total levels.now) qp))) }
 {
-    shown15(&stands[b], totals[b])
+    if total == 0 {
+        return residual4_of_dc(dc);
+    }
+    residual4_with_dc(dc, levels, qp)
 }
 
-/// Those of a block of a chroma plane.
+/// That of the luma block of this number.
 #[inline(always)]
-fn chroma_block(totals: &[u8; 8], stands: &[[i16; 15]; 8], c: usize, b: usize) -> [i16; 15]
-    requires { (c < 2) × (b < 4) }
-    ensures { result ≡ get_or (table 4 (λ k. shown 15 (get_or totals.now (4 * c + k) 0) (get_or stands.now (4 * c + k) (replicate 15 (pos 0))))) b [] }
+fn luma_block(
+    dc: i16,
+    totals: &[u8; 16],
+    stands: &[[i16; 15]; 16],
+    b: usize,
+    qp: u8,
+) -> Result<[i16; 16], TransformRange>
+    requires block { b < 16 }
+    requires qp { qp ≤ 51 }
+    ensures range { IsOk result ↔ IsTrue (residual_fits (d_with_dc dc (get_or (table 16 (λ k. shown 15 (get_or totals.now k 0) (get_or stands.now k (replicate 15 (pos 0))))) b []) qp)) }
+    ensures residual { IfOk result (λ r. HasEntries r (residual_at (d_with_dc dc (get_or (table 16 (λ k. shown 15 (get_or totals.now k 0) (get_or stands.now k (replicate 15 (pos 0))))) b []) qp))) }
 {
-    shown15(&stands[4 * c + b], totals[4 * c + b])
+    with_levels(dc, totals[b], &stands[b], qp)
+}
+
+/// That of a block of a chroma plane.
+#[inline(always)]
+fn chroma_block(
+    dc: i16,
+    totals: &[u8; 8],
+    stands: &[[i16; 15]; 8],
+    c: usize,
+    b: usize,
+    qp: u8,
+) -> Result<[i16; 16], TransformRange>
+    requires place { (c < 2) × (b < 4) }
+    requires qp { qp ≤ 51 }
+    ensures range { IsOk result ↔ IsTrue (residual_fits (d_with_dc dc (get_or (table 4 (λ k. shown 15 (get_or totals.now (4 * c + k) 0) (get_or stands.now (4 * c + k) (replicate 15 (pos 0))))) b []) qp)) }
+    ensures residual { IfOk result (λ r. HasEntries r (residual_at (d_with_dc dc (get_or (table 4 (λ k. shown 15 (get_or totals.now (4 * c + k) 0) (get_or stands.now (4 * c + k) (replicate 15 (pos 0))))) b []) qp))) }
+{
+    with_levels(dc, totals[4 * c + b], &stands[4 * c + b], qp)
 }
 
 /// The residual of luma blocks of 16 levels.
@@ -113,8 +146,7 @@ fn with_dc(
     for b in 0..16 {
         let x = 2 * (b / 4 % 2) + b % 2;
         let y = 2 * (b / 8) + b / 2 % 2;
-        let levels = block15(totals, stands, b);
-        let block = residual4_with_dc(dc[4 * y + x], &levels, qp)?;
+        let block = luma_block(dc[4 * y + x], totals, stands, b, qp)?;
         put16(&mut out, x, y, &block);
     }
     Ok(Some(out))
@@ -138,8 +170,7 @@ fn chroma_with_dc(
     for b in 0..4 {
         let x = b % 2;
         let y = b / 2;
-        let levels = chroma_block(totals, stands, c, b);
-        let block = residual4_with_dc(dc[2 * y + x], &levels, qp)?;
+        let block = chroma_block(dc[2 * y + x], totals, stands, c, b, qp)?;
         put8(&mut out, x, y, &block);
     }
     Ok(Some(out))

@@ -1,4 +1,4 @@
-ghost use Rattle.std.specs.Prelude.{◌≡◌, ◌↔◌, ℕ, ◌*◌, ◌/◌, ◌^◌, ◌<◌, ◌≤◌, IsTrue, IsOk, IfOk, length, get_or, ℤ, pos, ◌∷◌, ◌*ℤ◌};
+ghost use Rattle.std.specs.Prelude.{◌≡◌, ◌↔◌, ℕ, ◌*◌, ◌/◌, ◌^◌, ◌<◌, ◌≤◌, IsTrue, IsOk, IfOk, length, get_or, replicate, ℤ, pos, ◌∷◌, ◌*ℤ◌};
 ghost use Rattle.h264_scale.specs.Residual.{AreIn, coefficient, d_of, d_with_dc, residual_at, residual_fits, HasEntries};
 ghost use Rattle.h264_scale.specs.Fours.{IsShort, IsShortFour, IsShortBlock, four, block_of, with_dc, scaled_block};
 
@@ -163,4 +163,14 @@ pub fn residual4_with_dc(dc: i16, levels: &[i16; 15], qp: u8) -> Result<[i16; 16
     let mut d = scaled(coefficients_after_dc(levels), qp);
     d.r0.a = i32::from(dc);
     tested_residual(d)
+}
+
+/// The residual of a block without levels beside its scaled DC coefficient: each sample is the same.
+#[inline(always)]
+pub fn residual4_of_dc(dc: i16) -> Result<[i16; 16], TransformRange>
+    ensures range { (qp : ℕ) → IsOk result ↔ IsTrue (residual_fits (d_with_dc dc (replicate 15 (pos 0)) qp)) }
+    ensures residual { (qp : ℕ) → IfOk result (λ r. HasEntries r (residual_at (d_with_dc dc (replicate 15 (pos 0)) qp))) }
+    ensures bound { IfOk result (AreIn 512) }
+{
+    flat(i32::from(dc))
 }

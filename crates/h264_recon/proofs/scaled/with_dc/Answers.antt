@@ -1,4 +1,4 @@
-use Rattle.std.proofs.Common.{◌≡◌, ◌+◌, ◌*◌, arith, rules, refl, ◌∙◌, get_or, replicate, pos, FitsSigned, w16, to_z, of_z}
+use Rattle.std.proofs.Common.{◌≡◌, ◌+◌, ◌*◌, arith, rules, refl, ◌∙◌, get_or, [], replicate, pos, FitsSigned, w16, to_z, of_z}
 use Rattle.std.proofs.lemmas.Result.{err_from_is_err_and}
 use Rattle.std.proofs.lemmas.Int.{ints}
 use Rattle.h264_mbsyntax.specs.Stored.{shown}
@@ -26,28 +26,30 @@ pub loop-b-preserved : goal.loop-b-preserved
 loop-b-preserved c =
     let t : LumaWithDc = (record { dc = c.args.dc.now; ac = table 16 (λ k. shown 15 (get_or c.args.totals.now k 0) (get_or c.args.stands.now k (replicate 15 (pos 0)))) }) in
     let b = c.loop-b.b in
+    let l = get_or t.ac b [] in
     let x = get_or c.in_ok-dc.dc (4 * row_of b + column_of b) (pos 0) in
     let fits : FitsSigned w16 x = search rules in
     let kept : to_z w16 (of_z w16 x) ≡ x = omega (arith, ints) in
     record {
       size = c.type_inv.out;
       fit = all_more b _ c.loop-b.invariant.fit
-          (fits_dc16 c.args.qp b t c.block15-levels.result c.in_ok-dc.dc _ (omega arith) c.block15-levels.ensures kept c.in_ok-dc.ensures.scaled ∙ c.in_ok-block.ensures.range.0 refl);
+          (fits_dc16 c.args.qp b t l c.in_ok-dc.dc _ (omega arith) refl kept c.in_ok-dc.ensures.scaled ∙ c.in_ok-block.ensures.range.0 refl);
       made = luma_more b _ c.loop-b.out c.put16.new.out c.in_ok-block.block (omega arith) c.loop-b.invariant.made c.put16.ensures
-          (λ i j d e. from_dc16 c.args.qp b i j t c.block15-levels.result c.in_ok-block.block c.in_ok-dc.dc _ (omega arith) d e c.block15-levels.ensures kept c.in_ok-dc.ensures.scaled c.in_ok-block.ensures.residual);
+          (λ i j d e. from_dc16 c.args.qp b i j t l c.in_ok-block.block c.in_ok-dc.dc _ (omega arith) d e refl kept c.in_ok-dc.ensures.scaled c.in_ok-block.ensures.residual);
     }
 
 pub returns-in_err-block-clause-range : goal.returns-in_err-block-clause-range
 returns-in_err-block-clause-range c =
     let t : LumaWithDc = (record { dc = c.args.dc.now; ac = table 16 (λ k. shown 15 (get_or c.args.totals.now k 0) (get_or c.args.stands.now k (replicate 15 (pos 0)))) }) in
     let b = c.loop-b.b in
+    let l = get_or t.ac b [] in
     let x = get_or c.in_ok-dc.dc (4 * row_of b + column_of b) (pos 0) in
     let fits : FitsSigned w16 x = search rules in
     let kept : to_z w16 (of_z w16 x) ≡ x = omega (arith, ints) in
-    let out = refused (residual_fits (d_with_dc (to_z w16 (of_z w16 x)) c.block15-levels.result c.args.qp)) c.in_err-block.ensures.range.1 in
+    let out = refused (residual_fits (d_with_dc (to_z w16 (of_z w16 x)) l c.args.qp)) c.in_err-block.ensures.range.1 in
     let p = err_from_is_err_and c.from_residual-in_err-block.result c.from_residual-in_err-block.ensures.1 in
     rw p.1 (never _ (luma_unfit c.args.qp (WithDc t) b (omega arith)
-    (fits_dc16 c.args.qp b t c.block15-levels.result c.in_ok-dc.dc _ (omega arith) c.block15-levels.ensures kept c.in_ok-dc.ensures.scaled ∙ out)))
+    (fits_dc16 c.args.qp b t l c.in_ok-dc.dc _ (omega arith) refl kept c.in_ok-dc.ensures.scaled ∙ out)))
 
 pub returns-clause-range : goal.returns-clause-range
 unfolding luma_dc_fits
