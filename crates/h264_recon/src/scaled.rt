@@ -114,6 +114,7 @@ fn chroma_block(
 }
 
 /// The residual of luma blocks of 16 levels.
+#[inline(always)]
 fn blocks(
     totals: &[u8; 16],
     stands: &[[i16; 16]; 16],
@@ -131,6 +132,7 @@ fn blocks(
 }
 
 /// The residual of Intra 16x16.
+#[inline(always)]
 fn with_dc(
     dc: &[i16; 16],
     totals: &[u8; 16],
@@ -153,6 +155,7 @@ fn with_dc(
 }
 
 /// The residual of a chroma plane that has levels.
+#[inline(always)]
 fn chroma_with_dc(
     dc: &[i16; 4],
     totals: &[u8; 8],
@@ -178,6 +181,7 @@ fn chroma_with_dc(
 
 /// The residual of luma blocks of 16 levels, if some block has one.
 #[tactic(auto, unfolding(crate::specs::Levels::luma_blocks))]
+#[inline(always)]
 fn luma_blocks(
     totals: &[u8; 16],
     stands: &[[i16; 16]; 16],
@@ -193,6 +197,7 @@ fn luma_blocks(
 }
 
 /// The residual of luma.
+#[inline(always)]
 fn luma(mb: &Macroblock) -> Result<Option<[i16; 256]>, TransformRange>
     requires { mb.now.qp ≤ 51 }
     ensures { (coded : CodedMacroblock) → Holds mb.now coded → IsLumaOf mb.now.qp (luma_levels_of coded.prediction coded.totals coded.residual) result }
@@ -227,6 +232,7 @@ fn is_plane_uncoded(dc: &[i16; 4], totals: &[u8; 8], c: usize) -> bool
 
 /// The residual of a chroma plane, if it has a level.
 #[tactic(auto, unfolding(crate::specs::Levels::chroma_blocks))]
+#[inline(always)]
 fn chroma_blocks(
     residual: &Residual,
     totals: &[u8; 8],
@@ -245,6 +251,7 @@ fn chroma_blocks(
 }
 
 /// The residual of a chroma plane: Cb is 0, Cr is 1.
+#[inline(always)]
 fn chroma(mb: &Macroblock, c: usize, qp: u8) -> Result<Option<[i16; 64]>, TransformRange>
     requires plane { c < 2 }
     requires qp { qp ≤ 51 }
@@ -262,6 +269,7 @@ fn chroma(mb: &Macroblock, c: usize, qp: u8) -> Result<Option<[i16; 64]>, Transf
 
 /// The residual of each plane of a macroblock that was read, by chroma_qp_index_offset, or `TransformRange` where a value of its
 /// transform is out of range. A plane without levels costs no transform.
+#[inline(always)]
 pub fn residuals(mb: &Macroblock, offset: i32) -> Result<Residuals, TransformRange>
     requires { mb.now.qp ≤ 51 }
     ensures range { (coded : CodedMacroblock) → Holds mb.now coded → IsOk result ↔ IsTrue (levels_fit (levels_of offset coded)) }
