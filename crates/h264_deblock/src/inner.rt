@@ -9,7 +9,7 @@ ghost use Rattle.h264_deblock.specs.declared.edge_parameters.BoundaryStrength.Th
 use crate::columns::{joined, lanes_of, read_eight, read_pair, woven};
 use crate::edge_parameters::{BoundaryStrength, EdgeParameters, index};
 use crate::line::{Filter, Limits, Line, average, average_down, moved};
-use crate::rows::{either, is_within, kept};
+use crate::rows::{either, is_alike, is_within, kept};
 use h264_plane::Plane;
 use h264_tables::{alpha, beta, tc0};
 
@@ -240,6 +240,9 @@ fn numbers(index_a: u8, strengths: &[BoundaryStrength; 4]) -> [u8; 8]
     requires { index_a ≤ 51 }
     ensures { (n : ℕ) → n < 8 → any_filter (slice_index result n) ≡ filter_of index_a (get_or strengths.now (n / 2) Zero) }
 {
+    if is_alike(strengths) {
+        return [number(index_a, strengths[0]); 8];
+    }
     let mut quarters = [0u8; 4];
     for k in 0..4usize {
         quarters[k] = number(index_a, strengths[k]);
