@@ -1,22 +1,15 @@
 -- Lines that no filter changes, and edges of such lines.
-use Rattle.std.proofs.Common.{◌≡◌, ℕ, ◌+◌, ◌-◌, ◌*◌, ◌/◌, ◌<◌, ◌≤◌, Bool, true, false, ◌&&◌, cond, nat_lt, pos, neg_ℤ, ◌+ℤ◌, ◌-ℤ◌, ◌*ℤ◌, slice_index, arith, refl, sym, ap, ◌∙◌, ⊎_elim}
+use Rattle.std.proofs.Common.{◌≡◌, ℕ, ◌+◌, ◌*◌, ◌/◌, ◌<◌, Bool, true, false, ◌&&◌, cond, nat_lt, pos, neg_ℤ, ◌+ℤ◌, ◌-ℤ◌, ◌*ℤ◌, arith, refl, sym, ap, ◌∙◌, ⊎_elim}
 use Rattle.std.proofs.lemmas.Int.{ints, clamps}
 use Rattle.std.specs.Int.{abs_diff}
-use Rattle.h264_plane.specs.Samples.{Samples, at, look, Holds}
-use Rattle.h264_tables.specs.Thresholds.{alpha_rows, beta_rows}
 use Rattle.h264_deblock.specs.Line.{filtered, is_within_limits, by_filter, number, clip1, clip3, step, bend, delta, reach, second, normal, strong, strong_side, is_flat}
-use Rattle.h264_deblock.specs.Edge.{index_of, taps, replaced, limits, edge_after}
-use Rattle.h264_deblock.specs.Rows.{line_of}
 use Rattle.h264_deblock.specs.Still.{IsStill, IsLevel}
 use Rattle.h264_deblock.specs.declared.line.Line.{Line}
 use Rattle.h264_deblock.specs.declared.line.Side.{Side}
 use Rattle.h264_deblock.specs.declared.line.Limits.{Limits}
 use Rattle.h264_deblock.specs.declared.line.Filter.{Filter}
 use Rattle.h264_deblock.specs.declared.line.Filter.TheVariants.{Off, Normal, Strong}
-use Rattle.h264_deblock.specs.declared.rows.Rows.{Rows}
-use Rattle.h264_deblock.specs.declared.edge_parameters.EdgeParameters.{EdgeParameters}
-use Rattle.h264_deblock.proofs.Lines.{filtered_is, filtered_not, replaced_same, either}
-use Rattle.h264_deblock.proofs.Beside.{edge_kept, limits_have}
+use Rattle.h264_deblock.proofs.Lines.{filtered_is, filtered_not, either}
 
 -- ---- a line whose samples are alike
 
@@ -97,25 +90,6 @@ level_still alpha beta l b h f =
     let k : Limits = record { alpha = alpha; beta = beta; filter = f } in
     kept_within false k l (level l.p0 l.p0 l.p0 l.p0 l.p0) (level_is l h) (by_level f k l.p0 b)
 
--- ---- an edge of such lines
-
-still_by : (c : Bool) (alpha beta : ℕ) (k : Limits) (l : Line) → k.alpha ≡ alpha → k.beta ≡ beta → IsStill c alpha beta l → filtered c k l ≡ l
+-- by the limits of an edge
+pub still_by : (c : Bool) (alpha beta : ℕ) (k : Limits) (l : Line) → k.alpha ≡ alpha → k.beta ≡ beta → IsStill c alpha beta l → filtered c k l ≡ l
 still_by c alpha beta k l a b still = rw (← a, ← b) at (still k.filter)
-
--- one in which each line is still
-pub rows_still : (v : Bool) (p : Samples) (e : EdgeParameters) (along across a b alpha beta : ℕ) (r : Rows) → 4 ≤ across →
-    a ≡ index_of e.qp_p e.qp_q e.filter_offset_a → b ≡ index_of e.qp_p e.qp_q e.filter_offset_b →
-    alpha ≡ slice_index alpha_rows a → beta ≡ slice_index beta_rows b →
-    ((n : ℕ) → n < 16 → line_of r n ≡ taps (look v p (along + n)) across) → ((n : ℕ) → n < 16 → (x y : ℕ) → IsStill false x y (line_of r n)) →
-    Holds p p (edge_after v false e along across (at p))
-rows_still v p e along across a b alpha beta r before ea eb er es read still =
-    edge_kept v false p e along across
-    (λ u w from to.
-    let n = u - along in
-    let i : n < 16 = omega (arith, from, to) in
-    let place : along + n ≡ u = omega (arith, from) in
-    let have = limits_have e (n / 4) a b alpha beta ea eb er es in
-    let line : line_of r n ≡ taps (look v p u) across = read n i ∙ ap (λ z. taps (look v p z) across) place in
-    let same : filtered false (limits e (n / 4)) (taps (look v p u) across) ≡ taps (look v p u) across =
-    rw line at (still_by false alpha beta (limits e (n / 4)) (line_of r n) have.0 have.1 (still n i alpha beta)) in
-    ap (λ l. replaced l across (look v p u) w) same ∙ replaced_same (look v p u) across w before)

@@ -1,14 +1,14 @@
 ghost use Rattle.std.specs.Prelude.{◌≡◌, ℕ, ◌<◌, true, false};
 ghost use Rattle.h264_deblock.specs.Rows.{line_of};
-ghost use Rattle.h264_deblock.specs.Still.{IsLevel, IsStill};
+ghost use Rattle.h264_deblock.specs.Still.{IsStill};
 
 use crate::line::Line;
 use crate::rows::Rows;
 
-/// Whether all samples of a line are alike, with no branch.
+/// Whether all samples of a line are alike, with no branch, so that no filter of luma changes it, whatever its thresholds.
 #[inline(always)]
-fn is_level(l: Line) -> bool
-    ensures { result ≡ true → IsLevel l }
+fn is_still(l: Line) -> bool
+    ensures { result ≡ true → (alpha beta : ℕ) → IsStill false alpha beta l }
 {
     (l.p3 == l.p0)
         & (l.p2 == l.p0)
@@ -17,14 +17,6 @@ fn is_level(l: Line) -> bool
         & (l.q1 == l.p0)
         & (l.q2 == l.p0)
         & (l.q3 == l.p0)
-}
-
-/// Whether a line is one that no filter of luma changes, whatever its thresholds.
-#[inline(always)]
-fn is_still(l: Line) -> bool
-    ensures { result ≡ true → (alpha beta : ℕ) → IsStill false alpha beta l }
-{
-    is_level(l)
 }
 
 /// Whether the samples of each line are alike, as on both sides of an edge in a flat area, so that no filter changes any of them.

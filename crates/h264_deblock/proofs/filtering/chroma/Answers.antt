@@ -1,4 +1,4 @@
-use Rattle.std.proofs.Common.{◌+◌, ◌*◌, None, sym, arith}
+use Rattle.std.proofs.Common.{None, sym, arith}
 use Rattle.std.proofs.lemmas.List.{get_or_default}
 use Rattle.h264_deblock.specs.Filtering.{chroma_edges}
 use Rattle.h264_deblock.proofs.Macroblocks.{four_edges}

@@ -1,9 +1,8 @@
 use Rattle.std.proofs.Common.{◌≡◌, ℕ, ◌+◌, ◌<◌, true, slice_index, arith, ap, ◌∙◌}
 use Rattle.h264_deblock.specs.Line.{filtered}
-use Rattle.h264_deblock.specs.Inner.{inner_of, limits_at}
+use Rattle.h264_deblock.specs.Inner.{limits_at}
 use Rattle.h264_deblock.specs.declared.line.Line.{Line}
-use Rattle.h264_deblock.specs.declared.line.Limits.{Limits}
-use Rattle.h264_deblock.proofs.Pairs.{lane_limits, lane_line, limits_are, line_is}
+use Rattle.h264_deblock.proofs.Pairs.{lane_line, limits_are, line_is}
 use Rattle.h264_deblock.proofs.inner.filtered_pair.Goals as goal
 
 pub returns-clause-first : goal.returns-clause-first

@@ -1,4 +1,4 @@
-use Rattle.std.proofs.Common.{◌≡◌, ◌-◌, pos, ◌-ℤ◌, min, rules, arith}
+use Rattle.std.proofs.Common.{◌≡◌, ◌-◌, min, arith}
 use Rattle.h264_deblock.specs.Line.{delta, step}
 use Rattle.h264_deblock.proofs.Signed.{shift_is}
 use Rattle.h264_deblock.proofs.line.Line.delta.Goals as goal
