@@ -8,7 +8,7 @@ ghost use Rattle.h264_deblock.specs.declared.edge_parameters.BoundaryStrength.Th
 
 use crate::columns::{joined, lanes_of, read_eight, read_pair, woven};
 use crate::edge_parameters::{BoundaryStrength, EdgeParameters, index};
-use crate::line::{Filter, Limits, Line, average, average_down, moved};
+use crate::line::{Filter, Limits, Line, moved};
 use crate::rows::{either, is_alike, is_within, kept};
 use h264_plane::Plane;
 use h264_tables::{alpha, beta, tc0};
@@ -146,14 +146,6 @@ pub fn read_inner<const VERTICAL: bool>(plane: &Plane, along: usize, across: usi
     }
 }
 
-/// p0 where bS is 4.
-#[inline(always)]
-fn weak(l: Line) -> u8
-    ensures { result ≡ (2 * l.p1 + l.p0 + l.q1 + 2) / 4 }
-{
-    average(average_down(l.p0, l.q1), l.p1)
-}
-
 /// A line after the filter of this number, which may be that of bS 4. Limits of 0 leave the samples as they are, so that all lines take the
 /// same steps.
 #[inline(always)]
@@ -173,8 +165,8 @@ fn filtered(l: Line, alpha: u8, beta: u8, t: u8) -> Line
         p3: l.p3,
         p2: l.p2,
         p1: l.p1,
-        p0: either(four, weak(l), moved(l.p0, delta.up, delta.down)),
-        q0: either(four, weak(l.turned()), moved(l.q0, delta.down, delta.up)),
+        p0: either(four, l.weak(), moved(l.p0, delta.up, delta.down)),
+        q0: either(four, l.turned().weak(), moved(l.q0, delta.down, delta.up)),
         q1: l.q1,
         q2: l.q2,
         q3: l.q3,
