@@ -220,13 +220,9 @@ fn begin(rt: &(impl Abort + AllocGlobal)) -> Result<(Canvas, Pool), AllocError> 
     Ok((canvas, pool))
 }
 
-// Macroblock 0 is I_PCM. Macroblock 1 goes on from its right column. Before macroblock 2 the frame is spoilt where the filter would write, so
-// that only the lines have the samples above: 240 to 255, then 255 from macroblock 1. Its block 5 looks to the upper right, into macroblock 1.
-// Macroblock 3 is two luma samples to the left and one above: one chroma sample, and half of one.
-#[test]
-fn macroblocks(rt: HostRuntime) -> Result<(), AllocError> {
-    let (mut canvas, pool) = begin(&rt)?;
-    put_samples(&rt, &mut canvas, &pool, &counting(), 0, 0);
+/// Macroblock 0 is I_PCM. Macroblock 1 goes on from its right column.
+fn beside_raw(rt: &impl Abort, canvas: &mut Canvas, pool: &Pool) {
+    put_samples(rt, canvas, pool, &counting(), 0, 0);
     let left = Available {
         left: true,
         ..NO_SIDE
@@ -235,14 +231,25 @@ fn macroblocks(rt: HostRuntime) -> Result<(), AllocError> {
         luma: IntraLuma::Whole(Intra16x16PredMode::Horizontal),
         chroma: IntraChromaPredMode::Horizontal,
     };
-    put_intra(&rt, &mut canvas, &pool, left, whole, [0; 256], 1, 0);
-    assert_eq!(rt; get(&rt, &canvas.frame.y, 7, 9), 151);
-    assert_eq!(rt; get(&rt, &canvas.frame.y, 31, 9), 159);
-    assert_eq!(rt; get(&rt, &canvas.frame.cb, 15, 7), 100);
-    assert_eq!(rt; get(&rt, &canvas.frame.cr, 8, 3), 62);
+    put_intra(rt, canvas, pool, left, whole, [0; 256], 1, 0);
+    assert_eq!(rt; get(rt, &canvas.frame.y, 7, 9), 151);
+    assert_eq!(rt; get(rt, &canvas.frame.y, 31, 9), 159);
+    assert_eq!(rt; get(rt, &canvas.frame.cb, 15, 7), 100);
+    assert_eq!(rt; get(rt, &canvas.frame.cr, 8, 3), 62);
+}
 
+/// Stops unless four samples of a row of luma from this column on are these.
+fn expect_four(rt: &impl Abort, canvas: &Canvas, x: usize, y: usize, samples: [u8; 4])
+    requires { x ≤ 28 }
+{
+    assert_eq!(rt; &row(rt, canvas, y)[x..x + 4], samples.as_slice());
+}
+
+/// Before macroblock 2 the frame is spoilt where the filter would write, so that only the lines have the samples above: 240 to 255, then 255 from
+/// macroblock 1. Its block 5 looks to the upper right, into macroblock 1.
+fn below_raw(rt: &impl Abort, canvas: &mut Canvas, pool: &Pool) {
     for x in 0..32 {
-        set(&rt, &mut canvas.frame.y, x, 15, 1);
+        set(rt, &mut canvas.frame.y, x, 15, 1);
     }
     let mut modes = [Intra4x4PredMode::Vertical; 16];
     modes[5] = Intra4x4PredMode::DiagonalDownLeft;
@@ -257,31 +264,30 @@ fn macroblocks(rt: HostRuntime) -> Result<(), AllocError> {
     };
     let mut residual = [0; 256];
     residual[16 * 5 + 2] = 7;
-    put_intra(&rt, &mut canvas, &pool, above, blocks, residual, 0, 1);
-    assert_eq!(rt;
-        &row(&rt, &canvas, 16)[..4],
-        [240, 241, 242, 243].as_slice()
-    );
-    assert_eq!(rt;
-        &row(&rt, &canvas, 21)[..4],
-        [240, 241, 249, 243].as_slice()
-    );
-    assert_eq!(rt;
-        &row(&rt, &canvas, 22)[..4],
-        [240, 241, 242, 243].as_slice()
-    );
-    assert_eq!(rt;
-        &row(&rt, &canvas, 16)[12..16],
-        [253, 254, 255, 255].as_slice()
-    );
-    assert_eq!(rt; get(&rt, &canvas.frame.cr, 3, 15), 118);
+    put_intra(rt, canvas, pool, above, blocks, residual, 0, 1);
+    expect_four(rt, canvas, 0, 16, [240, 241, 242, 243]);
+    expect_four(rt, canvas, 0, 21, [240, 241, 249, 243]);
+    expect_four(rt, canvas, 0, 22, [240, 241, 242, 243]);
+    expect_four(rt, canvas, 12, 16, [253, 254, 255, 255]);
+    assert_eq!(rt; get(rt, &canvas.frame.cr, 3, 15), 118);
+}
 
-    put_inter(&rt, &mut canvas, &pool, MotionVector { x: -8, y: -4 }, 1, 1);
-    assert_eq!(rt; get(&rt, &canvas.frame.y, 16, 16), 117);
-    assert_eq!(rt; get(&rt, &canvas.frame.y, 31, 31), 237);
-    assert_eq!(rt; get(&rt, &canvas.frame.cb, 8, 8), 57);
-    assert_eq!(rt; get(&rt, &canvas.frame.cr, 8, 8), 75);
-    assert_eq!(rt; get(&rt, &canvas.frame.cb, 15, 15), 113);
+/// Macroblock 3 is two luma samples to the left and one above: one chroma sample, and half of one.
+fn moved_macroblock(rt: &impl Abort, canvas: &mut Canvas, pool: &Pool) {
+    put_inter(rt, canvas, pool, MotionVector { x: -8, y: -4 }, 1, 1);
+    assert_eq!(rt; get(rt, &canvas.frame.y, 16, 16), 117);
+    assert_eq!(rt; get(rt, &canvas.frame.y, 31, 31), 237);
+    assert_eq!(rt; get(rt, &canvas.frame.cb, 8, 8), 57);
+    assert_eq!(rt; get(rt, &canvas.frame.cr, 8, 8), 75);
+    assert_eq!(rt; get(rt, &canvas.frame.cb, 15, 15), 113);
+}
+
+#[test]
+fn macroblocks(rt: HostRuntime) -> Result<(), AllocError> {
+    let (mut canvas, pool) = begin(&rt)?;
+    beside_raw(&rt, &mut canvas, &pool);
+    below_raw(&rt, &mut canvas, &pool);
+    moved_macroblock(&rt, &mut canvas, &pool);
     as_read(&rt)
 }
 
@@ -320,43 +326,11 @@ fn moved() -> Read {
     read
 }
 
-// A picture two macroblocks wide: an inter macroblock, and an intra one to its right; then the first one of the second row.
-fn as_read(rt: &(impl Abort + AllocGlobal)) -> Result<(), AllocError> {
+/// What keeps of a picture two macroblocks wide: an inter macroblock, and an intra one to its right; and the latter.
+fn two_read(rt: &(impl Abort + AllocGlobal)) -> Result<(Near, Read), AllocError> {
     let mut near = Near::new(rt.alloc(), 2)?;
     let mut read = moved();
-    let first = given(&read, &near, &SLICE, &PLACES, 0, 0);
-    assert!(rt; !first.available.left && !first.available.above && !first.available.above_right);
-    match first.prediction {
-        Prediction::Inter(Motions::Each(motion)) => {
-            // Block 4 stands in the third column of the first row.
-            assert_eq!(rt;
-                (motion[0].picture, motion[0].vector.x, motion[0].vector.y),
-                (7, 3, -2)
-            );
-            assert_eq!(rt; (motion[2].picture, motion[2].vector.x), (7, 9));
-            assert_eq!(rt; (motion[4].picture, motion[4].vector.x), (7, 3));
-        }
-        _ => assert!(rt; false),
-    }
     near.push(&read.contexts);
-
-    // The levels of older macroblocks are not this one's: Cb has a coefficient alone. QPC of 30 and 2 is 31.
-    read.qp = 30;
-    read.residual.luma[0][0] = 9;
-    read.residual.chroma_dc_totals[0] = 1;
-    read.residual.chroma_dc[0][2] = -4;
-    // At QP'C 31 its DC level makes -704 of the upper blocks, and 704 of the lower, which are 64 times the residual.
-    match residuals(&read, 2) {
-        Ok(of) => {
-            assert!(rt; of.y.is_none() && of.cr.is_none());
-            match of.cb {
-                Some(cb) => assert_eq!(rt; (cb[0], cb[31], cb[32], cb[63]), (-11, -11, 11, 11)),
-                None => assert!(rt; false),
-            }
-        }
-        Err(_) => assert!(rt; false),
-    }
-
     read.kind = Kind::Intra4x4;
     let mut modes = [2; 16];
     modes[7] = 8;
@@ -368,26 +342,79 @@ fn as_read(rt: &(impl Abort + AllocGlobal)) -> Result<(), AllocError> {
     };
     read.chroma_mode = 1;
     near.push(&read.contexts);
+    Ok((near, read))
+}
+
+/// The first macroblock, which moves. Block 4 stands in the third column of the first row.
+fn moved_as_read(rt: &(impl Abort + AllocGlobal)) -> Result<(), AllocError> {
+    let near = Near::new(rt.alloc(), 2)?;
+    let read = moved();
+    let first = given(&read, &near, &SLICE, &PLACES, 0, 0);
+    assert!(rt; !first.available.left && !first.available.above && !first.available.above_right);
+    match first.prediction {
+        Prediction::Inter(Motions::Each(motion)) => {
+            assert_eq!(rt;
+                (motion[0].picture, motion[0].vector.x, motion[0].vector.y),
+                (7, 3, -2)
+            );
+            assert_eq!(rt; (motion[2].picture, motion[2].vector.x), (7, 9));
+            assert_eq!(rt; (motion[4].picture, motion[4].vector.x), (7, 3));
+        }
+        _ => assert!(rt; false),
+    }
+    Ok(())
+}
+
+/// The levels of older macroblocks are not this one's: Cb has a coefficient alone. QPC of 30 and 2 is 31. At QP'C 31 its DC level makes -704 of
+/// the upper blocks, and 704 of the lower, which are 64 times the residual.
+fn residuals_as_read(rt: &impl Abort) {
+    let mut read = moved();
+    read.qp = 30;
+    read.residual.luma[0][0] = 9;
+    read.residual.chroma_dc_totals[0] = 1;
+    read.residual.chroma_dc[0][2] = -4;
+    let Ok(of) = residuals(&read, 2) else {
+        assert!(rt; false);
+        return;
+    };
+    assert!(rt; of.y.is_none() && of.cr.is_none());
+    match of.cb {
+        Some(cb) => assert_eq!(rt; (cb[0], cb[31], cb[32], cb[63]), (-11, -11, 11, 11)),
+        None => assert!(rt; false),
+    }
+}
+
+/// Whether these are the modes of the intra macroblock.
+fn are_its_modes(modes: &IntraModes) -> bool {
+    let IntraLuma::Blocks(blocks) = &modes.luma else {
+        return false;
+    };
+    matches!(blocks[7], Intra4x4PredMode::HorizontalUp)
+        && matches!(blocks[9], Intra4x4PredMode::DiagonalDownLeft)
+        && matches!(blocks[0], Intra4x4PredMode::Dc)
+        && matches!(modes.chroma, IntraChromaPredMode::Horizontal)
+}
+
+/// The first macroblock of the second row, with the modes of the intra one. Under constrained_intra_pred_flag the inter macroblock above is no
+/// side; those of another slice are none.
+fn intra_as_read(rt: &(impl Abort + AllocGlobal)) -> Result<(), AllocError> {
+    let (near, read) = two_read(rt)?;
     let intra = given(&read, &near, &SLICE, &PLACES, 0, 1);
     assert!(rt; intra.available.above && intra.available.above_right && !intra.available.left);
     match intra.prediction {
-        Prediction::Intra(modes) => match modes.luma {
-            IntraLuma::Blocks(blocks) => {
-                assert!(rt; matches!(blocks[7], Intra4x4PredMode::HorizontalUp));
-                assert!(rt; matches!(blocks[9], Intra4x4PredMode::DiagonalDownLeft));
-                assert!(rt; matches!(blocks[0], Intra4x4PredMode::Dc));
-                assert!(rt; matches!(modes.chroma, IntraChromaPredMode::Horizontal));
-            }
-            IntraLuma::Whole(_) => assert!(rt; false),
-        },
+        Prediction::Intra(modes) => assert!(rt; are_its_modes(&modes)),
         _ => assert!(rt; false),
     }
-    // Under constrained_intra_pred_flag the inter macroblock above is no side; those of another slice are none.
     let own = available(&near, 0, true, 0, 1);
     assert!(rt; !own.above && own.above_right);
     let other = available(&near, 1, false, 0, 1);
     assert!(rt; !other.above && !other.above_right);
+    Ok(())
+}
 
+/// One of Intra 16x16, and I_PCM.
+fn others_as_read(rt: &(impl Abort + AllocGlobal)) -> Result<(), AllocError> {
+    let (near, mut read) = two_read(rt)?;
     read.kind = Kind::Intra16x16 { mode: 3 };
     match given(&read, &near, &SLICE, &PLACES, 0, 1).prediction {
         Prediction::Intra(modes) => {
@@ -406,4 +433,12 @@ fn as_read(rt: &(impl Abort + AllocGlobal)) -> Result<(), AllocError> {
         _ => assert!(rt; false),
     }
     Ok(())
+}
+
+/// What macroblocks that were read give to their construction.
+fn as_read(rt: &(impl Abort + AllocGlobal)) -> Result<(), AllocError> {
+    moved_as_read(rt)?;
+    residuals_as_read(rt);
+    intra_as_read(rt)?;
+    others_as_read(rt)
 }

@@ -20,7 +20,7 @@ use Rattle.h264_marking.specs.Ended.{resets_by}
 use Rattle.h264_marking.proofs.Room.{from-ok}
 use Rattle.h264_dpb.specs.Bumping.{is_picture, is_held}
 use Rattle.h264_dpb.specs.Turns.{names}
-use Rattle.h264_dpb.proofs.Truths.{or-true}
+use Rattle.h264_dpb.proofs.Truths.{true-or, or-true}
 
 -- ---- which pictures are held
 

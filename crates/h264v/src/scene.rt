@@ -352,8 +352,8 @@ fn add_unit(
     Ok(())
 }
 
-/// Adds a sequence parameter set of level 1, with counts in decoding order and one reference frame, and a picture parameter set (7.3.2.1.1, 7.3.2.2).
-fn add_sets(
+/// Adds a sequence parameter set of level 1, with counts in decoding order and one reference frame (7.3.2.1.1).
+fn add_sps(
     rt: &(impl Abort + AllocGlobal),
     stream: &mut Vec<u8>,
     scene: &Scene,
@@ -361,29 +361,27 @@ fn add_sets(
     let mut sps = Writer::new(rt.alloc());
     sps.u(24, 0x42_C0_0A)?;
     // seq_parameter_set_id, log2_max_frame_num_minus4, pic_order_cnt_type, max_num_ref_frames, gaps_in_frame_num_value_allowed_flag
-    sps.ue(0)?;
-    sps.ue(0)?;
-    sps.ue(2)?;
-    sps.ue(1)?;
+    for value in [0, 0, 2, 1] {
+        sps.ue(value)?;
+    }
     sps.u(1, 0)?;
     sps.ue(u32::from(scene.across.saturating_sub(1)))?;
     sps.ue(u32::from(scene.down.saturating_sub(1)))?;
     // frame_mbs_only_flag, direct_8x8_inference_flag, no cropping, no VUI
     sps.u(4, 0b1100)?;
-    add_unit(rt, stream, 0x67, sps)?;
+    add_unit(rt, stream, 0x67, sps)
+}
+
+/// Adds a picture parameter set (7.3.2.2).
+fn add_pps(
+    rt: &(impl Abort + AllocGlobal),
+    stream: &mut Vec<u8>,
+    scene: &Scene,
+) -> Result<(), Fail> {
     let mut pps = Writer::new(rt.alloc());
-    pps.ue(0)?;
-    pps.ue(0)?;
-    // entropy_coding_mode_flag, bottom_field_pic_order_in_frame_present_flag
-    pps.u(2, 0)?;
-    // num_slice_groups_minus1, num_ref_idx_l0_default_active_minus1 and that of l1
-    pps.ue(0)?;
-    pps.ue(0)?;
-    pps.ue(0)?;
-    // weighted_pred_flag, weighted_bipred_idc
-    pps.u(3, 0)?;
-    pps.se(0)?;
-    pps.se(0)?;
+    // both ids; entropy_coding_mode_flag, bottom_field_pic_order_in_frame_present_flag; num_slice_groups_minus1,
+    // num_ref_idx_l0_default_active_minus1 and that of l1; weighted_pred_flag, weighted_bipred_idc; pic_init_qp_minus26, pic_init_qs_minus26
+    pps.u(12, 0b11_00_111_000_11)?;
     pps.se(i32::from(scene.chroma_qp_index_offset))?;
     // deblocking_filter_control_present_flag
     pps.u(1, 1)?;
@@ -395,7 +393,8 @@ fn add_sets(
 /// The stream of these pictures.
 pub fn stream_of(rt: &(impl Abort + AllocGlobal), scene: &Scene) -> Result<Vec<u8>, Fail> {
     let mut stream = Vec::new(rt.alloc());
-    add_sets(rt, &mut stream, scene)?;
+    add_sps(rt, &mut stream, scene)?;
+    add_pps(rt, &mut stream, scene)?;
     for (frame_num, slices) in scene.pictures.iter().enumerate() {
         add_picture(rt, &mut stream, scene, slices, frame_num)?;
     }

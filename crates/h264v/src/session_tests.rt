@@ -8,6 +8,7 @@ use h264_dpb::{FrameOut, Rectangle};
 use h264_plane::Frame;
 use h264_verify::running::run_pieces;
 use h264_verify::{FrameSink, Session, Source, Summary, laws, run};
+use std::process::Abort;
 use std::test::Fail;
 
 /// Two parameter sets, and two IDR pictures of one macroblock with different idr_pic_id.
@@ -233,26 +234,58 @@ fn source_of(left: &[u8]) -> Bytes<'_> {
     Bytes { left, reads: 0 }
 }
 
-#[test]
-fn a_source(rt: HostRuntime) -> Result<(), Fail> {
+/// The headers alone, by 34 bytes and the end.
+fn headers_of_a_source(rt: &(impl Abort + AllocGlobal)) -> Result<(), Fail> {
     let mut sink = nothing_told();
     let mut source = source_of(STREAM);
     let summary = run(rt.alloc(), &mut source, &mut sink, Mode::Headers)?;
     assert_eq!(rt; summary, SUMMARY);
     assert_eq!(rt; source.reads, 35);
+    Ok(())
+}
+
+/// The units alone.
+fn units_of_a_source(rt: &(impl Abort + AllocGlobal)) -> Result<(), Fail> {
+    let mut sink = nothing_told();
     let units = run(rt.alloc(), &mut source_of(STREAM), &mut sink, Mode::Units)?;
     assert_eq!(rt; units.pictures, 0);
-    assert_eq!(rt; sink.units, 8);
+    assert_eq!(rt; sink.units, 4);
     assert_eq!(rt; sink.frames, 0);
+    Ok(())
+}
+
+/// Slice data too: four elements of each macroblock beside those of sets and headers, mb_type, intra_chroma_pred_mode, mb_qp_delta, coeff_token.
+fn frames_of_a_source(rt: &(impl Abort + AllocGlobal)) -> Result<(), Fail> {
     let mut all = nothing_told();
     let whole = run(rt.alloc(), &mut source_of(STREAM), &mut all, Mode::Full)?;
     assert_eq!(rt; whole, WHOLE);
     assert_eq!(rt; all.slices, 2);
-    // four of each macroblock beside those of sets and headers: mb_type, intra_chroma_pred_mode, mb_qp_delta, coeff_token
     assert_eq!(rt; all.elements, 59);
     assert_eq!(rt; all.frames, 2);
+    Ok(())
+}
+
+#[test]
+fn a_source(rt: HostRuntime) -> Result<(), Fail> {
+    headers_of_a_source(&rt)?;
+    units_of_a_source(&rt)?;
+    frames_of_a_source(&rt)?;
     laws::one_verdict();
     laws::some_verdict();
+    Ok(())
+}
+
+/// Stops where a sink is told the first element, which it refuses.
+fn refused(rt: &(impl Abort + AllocGlobal)) -> Result<(), Fail> {
+    let alloc = rt.alloc();
+    let mut other = Units {
+        told: Vec::new(alloc),
+        failures: 0,
+    };
+    let stop = run(alloc, &mut source_of(STREAM), &mut other, Mode::Units).err();
+    assert!(rt; matches!(stop, Some(Stop::Write)));
+    assert_eq!(rt; other.told.len(), 1);
+    assert_eq!(rt; other.failures, 1);
     Ok(())
 }
 
@@ -269,14 +302,5 @@ fn units_kept(rt: HostRuntime) -> Result<(), Fail> {
     assert_eq!(rt; sink.told[1].byte, 8);
     assert_eq!(rt; sink.told[2].nal_unit_type, 10);
     assert_eq!(rt; sink.told[2].length, 1);
-    let mut other = Units {
-        told: Vec::new(alloc),
-        failures: 0,
-    };
-    // the first element is refused
-    let stop = run(alloc, &mut source_of(STREAM), &mut other, Mode::Units).err();
-    assert!(rt; matches!(stop, Some(Stop::Write)));
-    assert_eq!(rt; other.told.len(), 1);
-    assert_eq!(rt; other.failures, 1);
-    Ok(())
+    refused(&rt)
 }
