@@ -361,9 +361,10 @@ fn add_sps(
     let mut sps = Writer::new(rt.alloc());
     sps.u(24, 0x42_C0_0A)?;
     // seq_parameter_set_id, log2_max_frame_num_minus4, pic_order_cnt_type, max_num_ref_frames, gaps_in_frame_num_value_allowed_flag
-    for value in [0, 0, 2, 1] {
-        sps.ue(value)?;
-    }
+    sps.ue(0)?;
+    sps.ue(0)?;
+    sps.ue(2)?;
+    sps.ue(1)?;
     sps.u(1, 0)?;
     sps.ue(u32::from(scene.across.saturating_sub(1)))?;
     sps.ue(u32::from(scene.down.saturating_sub(1)))?;
