@@ -1,7 +1,7 @@
 use Rattle.std.proofs.Common.{◌≡◌, arith, ◌∙◌, ap, FitsSigned, to_z, of_z, w16, rules}
 use Rattle.std.proofs.lemmas.Int.{ints}
-use Rattle.h264_inter.specs.Reference.{whole, parts}
-use Rattle.h264_inter.proofs.Eighths.{chroma_is}
+use Rattle.h264_inter.specs.Reference.{whole, parts, in_rows}
+use Rattle.h264_inter.proofs.Shown.{chroma_is, copy_shows}
 use Rattle.h264_inter.proofs.chroma_samples.chroma_at_border.Goals as goal
 
 pub returns : goal.returns
@@ -13,6 +13,6 @@ returns g c =
     let my : to_z w16 (of_z w16 a.vector.y) ≡ a.vector.y = omega (arith, ints) in
     let across : c.whole_chroma.result ≡ whole 3 a.vector.x = c.whole_chroma.ensures.value ∙ ap (whole 3) mx in
     let down : c.whole_chroma-2.result ≡ whole 3 a.vector.y = c.whole_chroma-2.ensures.value ∙ ap (whole 3) my in
-    chroma_is a.reference.now a.vector _ _ g.row.W g.row.H a.x a.y _ _ c.fetch-area.result _ c.fetch-area.ensures
-    (omega (arith, ints, across)) (omega (arith, ints, down))
+    chroma_is a.reference.now (in_rows c.fetch-area.result.samples) a.vector g.row.W g.row.H a.x a.y 0 0 _ _ _
+    (copy_shows a.reference.now _ _ _ _ _ _ _ c.fetch-area.ensures (omega (arith, ints, across)) (omega (arith, ints, down)))
     (c.eighths-right.ensures.value ∙ ap (parts 8) mx) (c.eighths-below.ensures.value ∙ ap (parts 8) my) c.block.ensures

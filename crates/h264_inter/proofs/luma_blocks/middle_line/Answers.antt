@@ -1,0 +1,25 @@
+use Rattle.std.proofs.Common.{◌≡◌, ◌+◌, ◌*◌, ◌≤◌, List, ℕ, length, slice_index, true, false, arith, ap, ◌∙◌, length-take, length-drop}
+use Rattle.std.proofs.lemmas.List.{get_or-take}
+use Rattle.h264_plane.specs.Samples.{at}
+use Rattle.h264_inter.specs.Luma.{quarter}
+use Rattle.h264_inter.proofs.Blocks.{block_more, row_inside}
+use Rattle.h264_inter.proofs.Moved.{both_moved}
+use Rattle.h264_inter.proofs.luma_blocks.middle_line.Goals as goal
+
+pub returns-clause-across : goal.returns-clause-across
+returns-clause-across g c = both_moved true g.row.W (g.S.Source.samples c.args.p.now) c.args.x c.args.c (c.args.y + c.args.v) (c.args.y + (c.args.v + 1)) _ (omega arith) c.next_windows-across.ensures
+
+pub returns-clause-samples : goal.returns-clause-samples
+returns-clause-samples g c = both_moved false g.row.W (g.S.Source.samples c.args.p.now) c.args.x c.args.c (c.args.y + c.args.v) (c.args.y + (c.args.v + 1)) _ (omega arith) c.next_windows-samples.ensures
+
+pub returns-clause-rows : goal.returns-clause-rows
+returns-clause-rows g c =
+    let a = c.args in
+    let w = g.row.W in
+    let row = c.middle_row-row.result in
+    let new = c.copy_from_slice.new.self in
+    let fits : w * a.v + w ≤ length a.out.now = omega (arith, row_inside w g.row.H a.v c.requires.row) in
+    let count : length new ≡ w = c.copy_from_slice.ensures.len ∙ simp (length-take, length-drop) (omega arith) in
+    block_more w a.v _ a.out.now new (λ d b. quarter g.row.X g.row.Y (λ i j. at (g.S.Source.samples a.p.now) (a.x + d + i) (a.y + b + j))) fits count
+    (λ x p. ap (λ (l : List ℕ). slice_index l x) c.copy_from_slice.ensures.after ∙ get_or-take w row x 0 p ∙ c.middle_row-row.ensures (g.S.Source.samples a.p.now) a.x a.c (a.y + a.v) c.requires.column c.next_windows-across.ensures c.next_windows-samples.ensures x (omega arith))
+    c.requires.above

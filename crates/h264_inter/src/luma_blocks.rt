@@ -1,0 +1,485 @@
+ghost use Rattle.std.specs.Prelude.{◌≡◌, ◌≢◌, ◌⊎◌, ℕ, ◌+◌, ◌*◌, ◌-◌, ◌<◌, ◌≤◌, true, false, length, get_or, slice_index, ℤ, pos, ◌+ℤ◌, ◌-ℤ◌};
+ghost use Rattle.h264_plane.specs.Samples.{Samples, at};
+ghost use Rattle.h264_inter.specs.Reference.{HasBlock};
+ghost use Rattle.h264_inter.specs.Luma.{six, half as half_of, central as central_of, middle, quarter};
+ghost use Rattle.h264_inter.specs.Rows.{AllSix, LastFiveOfBoth, AllSixOfBoth, AreUpTo, partner as partner_of};
+
+use crate::lanes::{between8, bytes, central8, half8, load, mean8};
+use crate::rows::{first_windows, next_windows};
+use crate::source::Source;
+use crate::window::{Window, Windows};
+use std::simd::prelude::*;
+
+/// `W` samples of row `y` from column `x` on, by value, so that they are read before any is written.
+#[inline(always)]
+fn whole_row<S: Source, const W: usize>(p: &S, x: usize, y: usize) -> [u8; W]
+    requires small { (W ≤ 16) × (x ≤ 16384) }
+    requires columns { x + W ≤ (S.samples p.now).width }
+    requires row { y < (S.samples p.now).height }
+    ensures { (u : ℕ) → u < W → slice_index result u ≡ at (S.samples p.now) (x + u) y }
+{
+    let mut samples = [0; W];
+    samples.copy_from_slice(&p.row(y)[x..x + W]);
+    samples
+}
+
+/// The whole samples of a block.
+#[inline(always)]
+pub fn whole_block<S: Source, const W: usize, const H: usize>(
+    p: &S,
+    x: usize,
+    y: usize,
+    out: &mut [u8],
+)
+    requires size { (W ≤ 16) × (H ≤ 16) }
+    requires small { (x ≤ 16384) × (y ≤ 16384) }
+    requires columns { x + W ≤ (S.samples p.now).width }
+    requires rows { y + H ≤ (S.samples p.now).height }
+    requires whole { length out.old ≡ W * H }
+    ensures { HasBlock W H out.new (λ u v. at (S.samples p.now) (x + u) (y + v)) }
+{
+    for v in 0..H {
+        let row = whole_row::<S, W>(p, x, y + v);
+        out[W * v..W * v + W].copy_from_slice(&row);
+    }
+}
+
+/// Eight samples between two columns of row `y + r`.
+#[inline(always)]
+fn b8<S: Source>(p: &S, x: usize, y: usize, r: usize) -> u16x8
+    requires small { (x ≤ 16392) × (y ≤ 16400) × (r ≤ 32) }
+    requires columns { x + 13 ≤ (S.samples p.now).width }
+    requires row { y + r < (S.samples p.now).height }
+    ensures each { (k : ℕ) → k < 8 → get_or result k 0 ≡ half_of (six (λ i. pos (at (S.samples p.now) (x + k + i) (y + r)))) }
+    ensures small { (k : ℕ) → k < 8 → get_or result k 0 < 256 }
+{
+    between8(
+        load(p, x, 0, y, r),
+        load(p, x, 1, y, r),
+        load(p, x, 2, y, r),
+        load(p, x, 3, y, r),
+        load(p, x, 4, y, r),
+        load(p, x, 5, y, r),
+    )
+}
+
+/// The column, of the six, of the samples between two rows that a place is made of: that of m where it is nearer than that of h.
+#[inline(always)]
+fn partner<const X: usize>() -> usize
+    ensures value { result ≡ partner_of X }
+    ensures bound { result ≤ 3 }
+{
+    if X == 3 { 3 } else { 2 }
+}
+
+/// Eight samples between two rows of a window.
+#[inline(always)]
+fn h8(w: Window) -> u16x8
+    requires samples { AreUpTo 255 w }
+    ensures each { (p : Samples) (x c y : ℕ) → AllSix false p x c y w → (k : ℕ) → k < 8 → get_or result k 0 ≡ half_of (six (λ i. pos (at p (x + k + c) (y + i)))) }
+    ensures small { (k : ℕ) → k < 8 → get_or result k 0 < 256 }
+{
+    between8(w.e, w.f, w.g, w.h, w.i, w.j)
+}
+
+/// Eight samples j, of a window of values across.
+#[inline(always)]
+fn j8(w: Window) -> u16x8
+    requires across { AreUpTo 13260 w }
+    ensures each { (p : Samples) (x c y : ℕ) → AllSix true p x c y w → (k : ℕ) → k < 8 → get_or result k 0 ≡ central_of (middle (λ i j. at p (x + k + i) (y + j))) }
+    ensures small { (k : ℕ) → k < 8 → get_or result k 0 < 256 }
+{
+    central8(w.e, w.f, w.g, w.h, w.i, w.j)
+}
+
+/// Eight samples of a quarter place without j, of row `y`, whose window of samples is that of column `c`.
+#[tactic(auto, unfolding(crate::specs::Luma::quarter, crate::specs::Luma::across))]
+#[inline(always)]
+fn side8<S: Source, const X: usize, const Y: usize>(
+    w: Window,
+    p: &S,
+    x: usize,
+    c: usize,
+    y: usize,
+) -> [u8; 8]
+    requires small { (x ≤ 16392) × (y ≤ 16400) }
+    requires columns { x + 13 ≤ (S.samples p.now).width }
+    requires rows { y + 6 ≤ (S.samples p.now).height }
+    requires parts { (X < 4) × (Y < 4) }
+    requires no_j { (X ≢ 2) ⊎ (Y ≡ 0) }
+    requires nor_j { (Y ≢ 2) ⊎ (X ≡ 0) }
+    requires column { c ≡ partner_of X }
+    requires window { AllSix false (S.samples p.now) x c y w }
+    ensures { (k : ℕ) → k < 8 → slice_index result k ≡ quarter X Y (λ i j. at (S.samples p.now) (x + k + i) (y + j)) }
+{
+    if Y == 0 {
+        if X == 0 {
+            bytes(load(p, x, 2, y, 2))
+        } else if X == 1 {
+            bytes(mean8(load(p, x, 2, y, 2), b8(p, x, y, 2)))
+        } else if X == 2 {
+            bytes(b8(p, x, y, 2))
+        } else {
+            bytes(mean8(load(p, x, 3, y, 2), b8(p, x, y, 2)))
+        }
+    } else if X == 0 {
+        if Y == 1 {
+            bytes(mean8(w.g, h8(w)))
+        } else if Y == 2 {
+            bytes(h8(w))
+        } else {
+            bytes(mean8(w.h, h8(w)))
+        }
+    } else if Y == 1 {
+        bytes(mean8(b8(p, x, y, 2), h8(w)))
+    } else if X == 1 {
+        bytes(mean8(h8(w), b8(p, x, y, 3)))
+    } else {
+        bytes(mean8(b8(p, x, y, 3), h8(w)))
+    }
+}
+
+/// Two times eight samples side by side.
+#[inline(always)]
+pub fn joined(lo: [u8; 8], hi: [u8; 8]) -> [u8; 16]
+    ensures low { (u : ℕ) → u < 8 → slice_index result u ≡ slice_index lo u }
+    ensures high { (u : ℕ) → u < 8 → slice_index result (8 + u) ≡ slice_index hi u }
+{
+    let mut row = [0; 16];
+    row[0..8].copy_from_slice(&lo);
+    row[8..16].copy_from_slice(&hi);
+    row
+}
+
+/// Writes a row of a block of `W` columns. Eight and sixteen samples are stored as one vector, wherever they stand.
+#[inline(always)]
+fn put_row<const W: usize>(row: [u8; 16], out: &mut [u8])
+    requires size { W ≤ 16 }
+    requires whole { length out.old ≡ W }
+    ensures whole { length out.new ≡ W }
+    ensures each { (u : ℕ) → u < W → slice_index out.new u ≡ slice_index row u }
+{
+    if W == 16 {
+        u8x16::from_array(row).copy_to_slice(out);
+    } else if W == 8 {
+        u8x8::from_slice(&row).copy_to_slice(out);
+    } else {
+        out.copy_from_slice(&row[..W]);
+    }
+}
+
+/// A row of a block at a quarter place without j. Blocks of less than eight columns get more.
+#[inline(always)]
+fn side_row<S: Source, const W: usize, const X: usize, const Y: usize>(
+    w: Windows,
+    p: &S,
+    x: usize,
+    c: usize,
+    y: usize,
+) -> [u8; 16]
+    requires size { W ≤ 16 }
+    requires small { (x ≤ 16384) × (y ≤ 16400) }
+    requires columns { x + 13 ≤ (S.samples p.now).width }
+    requires more_columns { 8 < W → x + 21 ≤ (S.samples p.now).width }
+    requires rows { y + 6 ≤ (S.samples p.now).height }
+    requires parts { (X < 4) × (Y < 4) }
+    requires no_j { (X ≢ 2) ⊎ (Y ≡ 0) }
+    requires nor_j { (Y ≢ 2) ⊎ (X ≡ 0) }
+    requires column { c ≡ partner_of X }
+    requires windows { AllSixOfBoth false W (S.samples p.now) x c y w }
+    ensures { (u : ℕ) → u < W → slice_index result u ≡ quarter X Y (λ i j. at (S.samples p.now) (x + u + i) (y + j)) }
+{
+    let lo = side8::<S, X, Y>(w.left, p, x, c, y);
+    if W > 8 {
+        joined(lo, side8::<S, X, Y>(w.right, p, x + 8, c, y))
+    } else {
+        joined(lo, lo)
+    }
+}
+
+/// Writes row `v` of a block at a quarter place without j, whose rows above are there, and gives the windows of that row.
+#[inline(always)]
+fn side_line<S: Source, const W: usize, const H: usize, const X: usize, const Y: usize>(
+    windows: Windows,
+    p: &S,
+    x: usize,
+    c: usize,
+    y: usize,
+    v: usize,
+    out: &mut [u8],
+) -> Windows
+    requires size { (W ≤ 16) × (H ≤ 16) }
+    requires small { (x ≤ 16384) × (y ≤ 16384) }
+    requires columns { x + 13 ≤ (S.samples p.now).width }
+    requires more_columns { 8 < W → x + 21 ≤ (S.samples p.now).width }
+    requires rows { y + H + 5 ≤ (S.samples p.now).height }
+    requires row { v < H }
+    requires whole { length out.old ≡ W * H }
+    requires parts { (X < 4) × (Y < 4) }
+    requires no_j { (X ≢ 2) ⊎ (Y ≡ 0) }
+    requires nor_j { (Y ≢ 2) ⊎ (X ≡ 0) }
+    requires column { c ≡ partner_of X }
+    requires near { c ≤ 3 }
+    requires windows { LastFiveOfBoth false W (S.samples p.now) x c (y + v) windows }
+    requires above { HasBlock W v out.old (λ u v. quarter X Y (λ i j. at (S.samples p.now) (x + u + i) (y + v + j))) }
+    ensures windows { LastFiveOfBoth false W (S.samples p.now) x c (y + (v + 1)) result }
+    ensures rows { HasBlock W (v + 1) out.new (λ u v. quarter X Y (λ i j. at (S.samples p.now) (x + u + i) (y + v + j))) }
+{
+    let windows = next_windows::<S, false, W>(windows, p, x, c, y + v);
+    let row = side_row::<S, W, X, Y>(windows, p, x, c, y + v);
+    put_row::<W>(row, &mut out[W * v..W * v + W]);
+    windows
+}
+
+/// The samples of a block at quarter places without j, two rows at a time, so that few of a window's rows have to be moved.
+fn side_block<S: Source, const W: usize, const H: usize, const X: usize, const Y: usize>(
+    p: &S,
+    x: usize,
+    y: usize,
+    out: &mut [u8],
+)
+    requires size { (W ≤ 16) × (H ≤ 16) }
+    requires small { (x ≤ 16384) × (y ≤ 16384) }
+    requires columns { x + 13 ≤ (S.samples p.now).width }
+    requires more_columns { 8 < W → x + 21 ≤ (S.samples p.now).width }
+    requires rows { y + H + 5 ≤ (S.samples p.now).height }
+    requires whole { length out.old ≡ W * H }
+    requires parts { (X < 4) × (Y < 4) }
+    requires no_j { (X ≢ 2) ⊎ (Y ≡ 0) }
+    requires nor_j { (Y ≢ 2) ⊎ (X ≡ 0) }
+    ensures { HasBlock W H out.new (λ u v. quarter X Y (λ i j. at (S.samples p.now) (x + u + i) (y + v + j))) }
+{
+    let c = partner::<X>();
+    let mut windows = first_windows::<S, false, W>(p, x, c, y);
+    for n in 0..H / 2 {
+        windows = side_line::<S, W, H, X, Y>(windows, p, x, c, y, 2 * n, out);
+        windows = side_line::<S, W, H, X, Y>(windows, p, x, c, y, 2 * n + 1, out);
+    }
+    if H % 2 == 1 {
+        let _ = side_line::<S, W, H, X, Y>(windows, p, x, c, y, H - 1, out);
+    }
+}
+
+/// Eight samples of a quarter place with j, of a window of values across and one of samples.
+#[inline(always)]
+fn middle8<const X: usize, const Y: usize>(across: Window, samples: Window) -> [u8; 8]
+    requires parts { (X < 4) × (Y < 4) }
+    requires with_j { (X ≡ 2) ⊎ (Y ≡ 2) }
+    requires not_at_0 { (0 < X) × (0 < Y) }
+    requires across { AreUpTo 13260 across }
+    requires samples { AreUpTo 255 samples }
+    ensures { (p : Samples) (x c y : ℕ) → c ≡ partner_of X → AllSix true p x c y across → AllSix false p x c y samples →
+        (k : ℕ) → k < 8 → slice_index result k ≡ quarter X Y (λ i j. at p (x + k + i) (y + j)) }
+{
+    let j = j8(across);
+    if X == 1 {
+        bytes(mean8(h8(samples), j))
+    } else if X == 3 {
+        bytes(mean8(j, h8(samples)))
+    } else if Y == 1 {
+        bytes(mean8(half8(across.g), j))
+    } else if Y == 2 {
+        bytes(j)
+    } else {
+        bytes(mean8(j, half8(across.h)))
+    }
+}
+
+/// A row of a block at a quarter place with j. Blocks of less than eight columns get more.
+#[inline(always)]
+fn middle_row<const W: usize, const X: usize, const Y: usize>(
+    across: Windows,
+    samples: Windows,
+) -> [u8; 16]
+    requires size { W ≤ 16 }
+    requires parts { (X < 4) × (Y < 4) }
+    requires with_j { (X ≡ 2) ⊎ (Y ≡ 2) }
+    requires not_at_0 { (0 < X) × (0 < Y) }
+    requires left { AreUpTo 13260 across.left × AreUpTo 255 samples.left }
+    requires right { 8 < W → AreUpTo 13260 across.right × AreUpTo 255 samples.right }
+    ensures { (p : Samples) (x c y : ℕ) → c ≡ partner_of X → AllSixOfBoth true W p x c y across → AllSixOfBoth false W p x c y samples →
+        (u : ℕ) → u < W → slice_index result u ≡ quarter X Y (λ i j. at p (x + u + i) (y + j)) }
+{
+    let lo = middle8::<X, Y>(across.left, samples.left);
+    if W > 8 {
+        joined(lo, middle8::<X, Y>(across.right, samples.right))
+    } else {
+        joined(lo, lo)
+    }
+}
+
+/// Writes row `v` of a block at a quarter place with j, whose rows above are there, and gives the windows of that row.
+#[inline(always)]
+fn middle_line<S: Source, const W: usize, const H: usize, const X: usize, const Y: usize>(
+    across: Windows,
+    samples: Windows,
+    p: &S,
+    x: usize,
+    c: usize,
+    y: usize,
+    v: usize,
+    out: &mut [u8],
+) -> (Windows, Windows)
+    requires size { (W ≤ 16) × (H ≤ 16) }
+    requires small { (x ≤ 16384) × (y ≤ 16384) }
+    requires columns { x + 13 ≤ (S.samples p.now).width }
+    requires more_columns { 8 < W → x + 21 ≤ (S.samples p.now).width }
+    requires rows { y + H + 5 ≤ (S.samples p.now).height }
+    requires row { v < H }
+    requires whole { length out.old ≡ W * H }
+    requires parts { (X < 4) × (Y < 4) }
+    requires with_j { (X ≡ 2) ⊎ (Y ≡ 2) }
+    requires not_at_0 { (0 < X) × (0 < Y) }
+    requires column { c ≡ partner_of X }
+    requires near { c ≤ 3 }
+    requires across { LastFiveOfBoth true W (S.samples p.now) x c (y + v) across }
+    requires samples { LastFiveOfBoth false W (S.samples p.now) x c (y + v) samples }
+    requires above { HasBlock W v out.old (λ u v. quarter X Y (λ i j. at (S.samples p.now) (x + u + i) (y + v + j))) }
+    ensures across { LastFiveOfBoth true W (S.samples p.now) x c (y + (v + 1)) result.0 }
+    ensures samples { LastFiveOfBoth false W (S.samples p.now) x c (y + (v + 1)) result.1 }
+    ensures rows { HasBlock W (v + 1) out.new (λ u v. quarter X Y (λ i j. at (S.samples p.now) (x + u + i) (y + v + j))) }
+{
+    let across = next_windows::<S, true, W>(across, p, x, c, y + v);
+    let samples = next_windows::<S, false, W>(samples, p, x, c, y + v);
+    let row = middle_row::<W, X, Y>(across, samples);
+    out[W * v..W * v + W].copy_from_slice(&row[..W]);
+    (across, samples)
+}
+
+/// The samples of a block at quarter places with j. It is not inlined, since the compiler would then call its parts instead.
+#[inline(never)]
+fn middle_block<S: Source, const W: usize, const H: usize, const X: usize, const Y: usize>(
+    p: &S,
+    x: usize,
+    y: usize,
+    out: &mut [u8],
+)
+    requires size { (W ≤ 16) × (H ≤ 16) }
+    requires small { (x ≤ 16376) × (y ≤ 16384) }
+    requires columns { x + 13 ≤ (S.samples p.now).width }
+    requires more_columns { 8 < W → x + 21 ≤ (S.samples p.now).width }
+    requires rows { y + H + 5 ≤ (S.samples p.now).height }
+    requires whole { length out.old ≡ W * H }
+    requires parts { (X < 4) × (Y < 4) }
+    requires with_j { (X ≡ 2) ⊎ (Y ≡ 2) }
+    requires not_at_0 { (0 < X) × (0 < Y) }
+    ensures { HasBlock W H out.new (λ u v. quarter X Y (λ i j. at (S.samples p.now) (x + u + i) (y + v + j))) }
+{
+    let c = partner::<X>();
+    let mut across = first_windows::<S, true, W>(p, x, c, y);
+    let mut samples = first_windows::<S, false, W>(p, x, c, y);
+    for v in 0..H {
+        (across, samples) = middle_line::<S, W, H, X, Y>(across, samples, p, x, c, y, v, out);
+    }
+}
+
+/// The same two rows at a time, so that few of a window's rows have to be moved: blocks of more than eight columns are made faster so.
+#[inline(never)]
+fn middle_block_in_pairs<S: Source, const W: usize, const H: usize, const X: usize, const Y: usize>(
+    p: &S,
+    x: usize,
+    y: usize,
+    out: &mut [u8],
+)
+    requires size { (W ≤ 16) × (H ≤ 16) }
+    requires small { (x ≤ 16376) × (y ≤ 16384) }
+    requires columns { x + 13 ≤ (S.samples p.now).width }
+    requires more_columns { 8 < W → x + 21 ≤ (S.samples p.now).width }
+    requires rows { y + H + 5 ≤ (S.samples p.now).height }
+    requires whole { length out.old ≡ W * H }
+    requires parts { (X < 4) × (Y < 4) }
+    requires with_j { (X ≡ 2) ⊎ (Y ≡ 2) }
+    requires not_at_0 { (0 < X) × (0 < Y) }
+    ensures { HasBlock W H out.new (λ u v. quarter X Y (λ i j. at (S.samples p.now) (x + u + i) (y + v + j))) }
+{
+    let c = partner::<X>();
+    let mut across = first_windows::<S, true, W>(p, x, c, y);
+    let mut samples = first_windows::<S, false, W>(p, x, c, y);
+    for n in 0..H / 2 {
+        let v = 2 * n;
+        (across, samples) = middle_line::<S, W, H, X, Y>(across, samples, p, x, c, y, v, out);
+        (across, samples) = middle_line::<S, W, H, X, Y>(across, samples, p, x, c, y, v + 1, out);
+    }
+    if H % 2 == 1 {
+        let _ = middle_line::<S, W, H, X, Y>(across, samples, p, x, c, y, H - 1, out);
+    }
+}
+
+/// The samples of a block at one quarter place.
+#[inline(always)]
+fn block<S: Source, const W: usize, const H: usize, const X: usize, const Y: usize>(
+    p: &S,
+    left: usize,
+    top: usize,
+    out: &mut [u8],
+)
+    requires size { (W ≤ 16) × (H ≤ 16) }
+    requires small { (left ≤ 16376) × (top ≤ 16384) }
+    requires columns { left + 13 ≤ (S.samples p.now).width }
+    requires more_columns { 8 < W → left + 21 ≤ (S.samples p.now).width }
+    requires rows { top + H + 5 ≤ (S.samples p.now).height }
+    requires whole { length out.old ≡ W * H }
+    requires parts { (X < 4) × (Y < 4) }
+    ensures { HasBlock W H out.new (λ u v. quarter X Y (λ i j. at (S.samples p.now) (left + u + i) (top + v + j))) }
+{
+    if X == 0 || Y == 0 || (X != 2 && Y != 2) {
+        side_block::<S, W, H, X, Y>(p, left, top, out);
+    } else if W > 8 {
+        middle_block_in_pairs::<S, W, H, X, Y>(p, left, top, out);
+    } else {
+        middle_block::<S, W, H, X, Y>(p, left, top, out);
+    }
+}
+
+/// The samples of a block at the quarter places of one part across.
+#[inline(always)]
+fn column<S: Source, const W: usize, const H: usize, const X: usize>(
+    p: &S,
+    left: usize,
+    top: usize,
+    y: usize,
+    out: &mut [u8],
+)
+    requires size { (W ≤ 16) × (H ≤ 16) }
+    requires small { (left ≤ 16376) × (top ≤ 16384) }
+    requires columns { left + 13 ≤ (S.samples p.now).width }
+    requires more_columns { 8 < W → left + 21 ≤ (S.samples p.now).width }
+    requires rows { top + H + 5 ≤ (S.samples p.now).height }
+    requires whole { length out.old ≡ W * H }
+    requires parts { (X < 4) × (y < 4) }
+    ensures { HasBlock W H out.new (λ u v. quarter X y (λ i j. at (S.samples p.now) (left + u + i) (top + v + j))) }
+{
+    match y {
+        0 => block::<S, W, H, X, 0>(p, left, top, out),
+        1 => block::<S, W, H, X, 1>(p, left, top, out),
+        2 => block::<S, W, H, X, 2>(p, left, top, out),
+        _ => block::<S, W, H, X, 3>(p, left, top, out),
+    }
+}
+
+/// The samples of a block at quarter places.
+#[inline(always)]
+pub fn place<S: Source, const W: usize, const H: usize>(
+    p: &S,
+    left: usize,
+    top: usize,
+    x: usize,
+    y: usize,
+    out: &mut [u8],
+)
+    requires size { (W ≤ 16) × (H ≤ 16) }
+    requires small { (left ≤ 16376) × (top ≤ 16384) }
+    requires columns { left + 13 ≤ (S.samples p.now).width }
+    requires more_columns { 8 < W → left + 21 ≤ (S.samples p.now).width }
+    requires rows { top + H + 5 ≤ (S.samples p.now).height }
+    requires whole { length out.old ≡ W * H }
+    requires parts { (x < 4) × (y < 4) }
+    ensures { HasBlock W H out.new (λ u v. quarter x y (λ i j. at (S.samples p.now) (left + u + i) (top + v + j))) }
+{
+    match x {
+        0 => column::<S, W, H, 0>(p, left, top, y, out),
+        1 => column::<S, W, H, 1>(p, left, top, y, out),
+        2 => column::<S, W, H, 2>(p, left, top, y, out),
+        _ => column::<S, W, H, 3>(p, left, top, y, out),
+    }
+}
