@@ -281,6 +281,17 @@ const CUT: &[u8] = &[
     0x38, 0x80, 0x00, 0x00, 0x01, 0x65, 0x88, 0x84, 0x93,
 ];
 
+/// How many lines a text has.
+fn lines_of(text: &str) -> usize {
+    let mut lines = 0usize;
+    for byte in text.as_bytes() {
+        if *byte == b'\n' {
+            lines = lines.saturating_add(1);
+        }
+    }
+    lines
+}
+
 /// The last 16 elements stand before a no, the oldest first.
 fn last_elements(rt: &(impl Abort + AllocGlobal)) -> Result<(), Fail> {
     let answer = answer_of(rt.alloc(), "check", whole(CUT), usize::MAX)?;
@@ -291,7 +302,7 @@ fn last_elements(rt: &(impl Abort + AllocGlobal)) -> Result<(), Fail> {
             "\nelement mb_qp_delta bit 199 value 0\nno: bit 200: ResidualWord (clause 9.2)\n"
         )
     );
-    assert_eq!(rt; text.lines().count(), 17);
+    assert_eq!(rt; lines_of(text), 17);
     Ok(())
 }
 

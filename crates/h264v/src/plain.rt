@@ -184,15 +184,10 @@ fn predict_down_left(plane: &mut Samples, x: u16, y: u16, above_right: bool) {
         for m in 0..4usize {
             let second = above[(m + n + 1).min(7)];
             let third = above[(m + n + 2).min(7)];
-            let sample = weighted(above[m + n], second, third);
+            let sample = rounded_mean(&[above[m + n], second, second, third]);
             plane.put(x.wrapping_add(m as u16), y.wrapping_add(n as u16), sample);
         }
     }
-}
-
-/// The mean of three samples, of which the second counts twice.
-fn weighted(first: u8, second: u8, third: u8) -> u8 {
-    ((u16::from(first) + 2 * u16::from(second) + u16::from(third) + 2) / 4) as u8
 }
 
 /// Constructs a macroblock whose samples are not filtered (8.3, 8.4.2.2).
@@ -446,16 +441,26 @@ fn filtered(line: [u8; 8], limits: Limits) -> [u8; 8] {
 
 /// The samples p2, p1, p0 of a side where bS is 4 (8.7.2.4), from p3, p2, p1, p0, q0, q1.
 fn strong(side: [u8; 6], smooth: bool) -> [u8; 3] {
-    let [p3, p2, p1, p0, q0, q1] = side.map(u16::from);
+    let [p3, p2, p1, p0, q0, q1] = side;
     if smooth {
         [
-            ((2 * p3 + 3 * p2 + p1 + p0 + q0 + 4) / 8) as u8,
-            ((p2 + p1 + p0 + q0 + 2) / 4) as u8,
-            ((p2 + 2 * p1 + 2 * p0 + 2 * q0 + q1 + 4) / 8) as u8,
+            rounded_mean(&[p3, p3, p2, p2, p2, p1, p0, q0]),
+            rounded_mean(&[p2, p1, p0, q0]),
+            rounded_mean(&[p2, p1, p1, p0, p0, q0, q0, q1]),
         ]
     } else {
-        [side[1], side[2], ((2 * p1 + p0 + q1 + 2) / 4) as u8]
+        [p2, p1, rounded_mean(&[p1, p1, p0, q1])]
     }
+}
+
+/// The mean of samples, rounded.
+fn rounded_mean(samples: &[u8]) -> u8 {
+    let count = samples.len().max(1);
+    let mut sum = count / 2;
+    for sample in samples {
+        sum = sum.wrapping_add(usize::from(*sample));
+    }
+    (sum / count & 255) as u8
 }
 
 /// A line where bS is below 4 (8.7.2.3).

@@ -6,9 +6,6 @@ use crate::tests::{OneFile, answer_of, check, outcome_by_bytes, whole};
 use std::process::Abort;
 use std::test::Fail;
 
-/// The lines of the units that each of these streams begins with.
-const SETS: &str = "unit 4 type 7 ref 3 bytes 6\nunit 14 type 8 ref 3 bytes 4\n";
-
 /// The second frame is a skipped macroblock.
 const TWO_FRAMES: &[u8] = &[
     0x00, 0x00, 0x00, 0x01, 0x67, 0x42, 0xC0, 0x0A, 0xDA, 0x71, 0x00, 0x00, 0x00, 0x01, 0x68, 0xCE,
@@ -54,21 +51,30 @@ const STREAMS: [&[u8]; 6] = [
 
 const COMMANDS: [&str; 4] = ["units", "headers", "check", "frames"];
 
-fn two_frames(rt: &(impl Abort + AllocGlobal)) -> Result<(), Fail> {
-    let text = format!(in rt.alloc();
-        "{SETS}unit 21 type 5 ref 3 bytes 5\nunit 29 type 1 ref 3 bytes 4\nyes: units 4\n"
-    )?;
-    check(rt, "units", "two frames", TWO_FRAMES, text.as_str(), 0)?;
-    check(rt, "units", "gap", GAP, text.as_str(), 0)
-}
+/// What `units` prints of streams with slices.
+const UNITS: [(&str, &[u8], &str); 4] = [
+    ("two frames", TWO_FRAMES, LINES_OF_TWO_FRAMES),
+    ("gap", GAP, LINES_OF_TWO_FRAMES),
+    (
+        "wide frame",
+        WIDE_FRAME,
+        "unit 4 type 7 ref 3 bytes 7\nunit 15 type 8 ref 3 bytes 4\nunit 22 type 5 ref 3 bytes 7\nyes: units 3\n",
+    ),
+    (
+        "wide frames",
+        WIDE_FRAMES,
+        "unit 4 type 7 ref 3 bytes 7\nunit 15 type 8 ref 3 bytes 4\nunit 22 type 5 ref 3 bytes 7\nunit 32 type 1 ref 3 bytes 6\nyes: units 4\n",
+    ),
+];
 
-fn wide_frames(rt: &(impl Abort + AllocGlobal)) -> Result<(), Fail> {
-    let sets =
-        "unit 4 type 7 ref 3 bytes 7\nunit 15 type 8 ref 3 bytes 4\nunit 22 type 5 ref 3 bytes 7\n";
-    let one = format!(in rt.alloc(); "{sets}yes: units 3\n")?;
-    check(rt, "units", "wide frame", WIDE_FRAME, one.as_str(), 0)?;
-    let two = format!(in rt.alloc(); "{sets}unit 32 type 1 ref 3 bytes 6\nyes: units 4\n")?;
-    check(rt, "units", "wide frames", WIDE_FRAMES, two.as_str(), 0)
+const LINES_OF_TWO_FRAMES: &str =
+    "unit 4 type 7 ref 3 bytes 6\nunit 14 type 8 ref 3 bytes 4\nunit 21 type 5 ref 3 bytes 5\nunit 29 type 1 ref 3 bytes 4\nyes: units 4\n";
+
+fn units_with_slices(rt: &(impl Abort + AllocGlobal)) -> Result<(), Fail> {
+    for (name, bytes, text) in UNITS {
+        check(rt, "units", name, bytes, text, 0)?;
+    }
+    Ok(())
 }
 
 /// Whichever read fails, that is told, and what was printed before is a front of the whole answer.
@@ -162,8 +168,7 @@ fn fronts(rt: &(impl Abort + AllocGlobal)) -> Result<(), Fail> {
 
 #[test]
 fn streams_with_slices(rt: HostRuntime) -> Result<(), Fail> {
-    two_frames(&rt)?;
-    wide_frames(&rt)?;
+    units_with_slices(&rt)?;
     fronts(&rt)
 }
 
