@@ -5,10 +5,9 @@ use Rattle.std.proofs.lemmas.Bool.{cases_eq, cases_lt}
 use Rattle.h264_plane.specs.Samples.{Samples, at, look, Holds, with_run}
 use Rattle.h264_deblock.specs.Line.{filtered}
 use Rattle.h264_deblock.specs.Edge.{taps, limits, lines_after, edge_after, Shows, IsLinePut, KeepsOuter}
-use Rattle.h264_deblock.specs.Inner.{inner_of, HasInner, IsFilteredInner, AreNearestWritten}
+use Rattle.h264_deblock.specs.Inner.{SameInner, AreNearest, AreNearestWritten}
 use Rattle.h264_deblock.specs.declared.line.Line.{Line}
 use Rattle.h264_deblock.specs.declared.line.Limits.{Limits}
-use Rattle.h264_deblock.specs.declared.inner.Inner.{Inner}
 use Rattle.h264_deblock.specs.declared.inner.Nearest.{Nearest}
 use Rattle.h264_deblock.specs.declared.edge_parameters.EdgeParameters.{EdgeParameters}
 use Rattle.h264_deblock.proofs.Groups.{edge_shown}
@@ -82,14 +81,14 @@ nearest_rows p q r x y near b m n f g = record {
 }
 
 -- the lines of an edge that are read, filtered and written
-pub edge_by_nearest : (v : Bool) (p q : Samples) (e : EdgeParameters) (along across : ℕ) (k : ℕ → Limits) (before : Inner) (after : Nearest) →
-    HasInner v p along across before → IsFilteredInner before after k → ((n : ℕ) → n < 8 → k n ≡ limits e (n / 2)) →
-    AreNearestWritten v p q along across after → Holds p q (edge_after v true e along across (at p))
+pub edge_by_nearest : (v : Bool) (p q : Samples) (e : EdgeParameters) (along across : ℕ) (k : ℕ → Limits) (before : ℕ → Line) (after : Nearest) →
+    ((n : ℕ) → n < 8 → SameInner (before n) (taps (look v p (along + n)) across)) → AreNearest after (λ n. filtered true (k n) (before n)) →
+    ((n : ℕ) → n < 8 → k n ≡ limits e (n / 2)) → AreNearestWritten v p q along across after → Holds p q (edge_after v true e along across (at p))
 edge_by_nearest v p q e along across k before after read filtering same put =
     edge_shown v true p q e 4 along across refl
     (put.lines (λ n. limits e (n / 2)) (record {
-      p0 = λ n i. filtering.p0 n i ∙ (filtered_inner (k n) (inner_of before n) (taps (look v p (along + n)) across) (read n i)).p0
+      p0 = λ n i. filtering.p0 n i ∙ (filtered_inner (k n) (before n) (taps (look v p (along + n)) across) (read n i)).p0
           ∙ ap (λ l. (filtered true l (taps (look v p (along + n)) across)).p0) (same n i);
-      q0 = λ n i. filtering.q0 n i ∙ (filtered_inner (k n) (inner_of before n) (taps (look v p (along + n)) across) (read n i)).q0
+      q0 = λ n i. filtering.q0 n i ∙ (filtered_inner (k n) (before n) (taps (look v p (along + n)) across) (read n i)).q0
           ∙ ap (λ l. (filtered true l (taps (look v p (along + n)) across)).q0) (same n i);
     }))

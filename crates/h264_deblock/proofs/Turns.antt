@@ -1,7 +1,9 @@
--- Two lists of eight in turn, and side by side.
-use Rattle.std.proofs.Common.{◌≡◌, ℕ, ◌+◌, ◌*◌, ◌<◌, List, length, slice_index, ◌++◌, [], ◌∷◌, arith, below_more}
+-- Two lists of eight in turn, and side by side; four numbers, each for its quarter of 16 places.
+use Rattle.std.proofs.Common.{◌≡◌, ℕ, ◌+◌, ◌*◌, ◌%◌, ◌<◌, true, false, List, length, slice_index, ◌++◌, [], ◌∷◌, arith, refl, below_more}
 use Rattle.std.proofs.lemmas.List.{get_or_append_left, get_or-append_right}
 use lib.Lanes.{pick_l}
+use Rattle.h264_deblock.specs.Rows.{in_turn}
+use Rattle.h264_deblock.specs.Limits.{quarter}
 
 below_8 : (P : ℕ → Type 0) → P 0 → P 1 → P 2 → P 3 → P 4 → P 5 → P 6 → P 7 → (n : ℕ) → n < 8 → P n
 below_8 P a b c d e f g h =
@@ -36,3 +38,21 @@ second_beside a b e =
     below_8 _
     (get_or-append_right a b 8 8 0 e (omega arith)) (get_or-append_right a b 8 9 0 e (omega arith)) (get_or-append_right a b 8 10 0 e (omega arith)) (get_or-append_right a b 8 11 0 e (omega arith))
     (get_or-append_right a b 8 12 0 e (omega arith)) (get_or-append_right a b 8 13 0 e (omega arith)) (get_or-append_right a b 8 14 0 e (omega arith)) (get_or-append_right a b 8 15 0 e (omega arith))
+
+pub at_first : (a b u : ℕ) → u % 2 ≡ 0 → a ≡ in_turn a b u
+at_first a b u e = rw e refl
+
+pub at_second : (a b u : ℕ) → u % 2 ≡ 1 → b ≡ in_turn a b u
+at_second a b u e = rw e refl
+
+-- ---- quarters
+
+below_16 : (P : ℕ → Type 0) → P 0 → P 1 → P 2 → P 3 → P 4 → P 5 → P 6 → P 7 → P 8 → P 9 → P 10 → P 11 → P 12 → P 13 → P 14 → P 15 → (n : ℕ) → n < 16 → P n
+below_16 P a b c d e f g h i j k l m o p q =
+    below_more P 15 (below_more P 14 (below_more P 13 (below_more P 12 (below_more P 11 (below_more P 10 (below_more P 9 (below_more P 8 (below_8 P a b c d e f g h) i) j) k) l) m) o) p) q
+
+pub by_fours : (a : List ℕ) (n : ℕ) → n < 16 → slice_index (pick_l 0 a (0 ∷ 0 ∷ 0 ∷ 0 ∷ 1 ∷ 1 ∷ 1 ∷ 1 ∷ 2 ∷ 2 ∷ 2 ∷ 2 ∷ 3 ∷ 3 ∷ 3 ∷ 3 ∷ [])) n ≡ slice_index a (quarter false n)
+by_fours a = below_16 _ refl refl refl refl refl refl refl refl refl refl refl refl refl refl refl refl
+
+pub by_pairs : (a : List ℕ) (n : ℕ) → n < 16 → slice_index (pick_l 0 a (0 ∷ 0 ∷ 1 ∷ 1 ∷ 2 ∷ 2 ∷ 3 ∷ 3 ∷ 0 ∷ 0 ∷ 1 ∷ 1 ∷ 2 ∷ 2 ∷ 3 ∷ 3 ∷ [])) n ≡ slice_index a (quarter true n)
+by_pairs a = below_16 _ refl refl refl refl refl refl refl refl refl refl refl refl refl refl refl refl

@@ -8,7 +8,7 @@ use Rattle.h264_deblock.specs.declared.line.Line.{Line}
 use Rattle.h264_deblock.specs.declared.line.Limits.{Limits}
 use Rattle.h264_deblock.specs.declared.inner.Inner.{Inner}
 use Rattle.h264_deblock.specs.declared.inner.Nearest.{Nearest}
-use Rattle.h264_deblock.specs.declared.inner.LineLimits.{LineLimits}
+use Rattle.h264_deblock.specs.declared.limits.LineLimits.{LineLimits}
 
 -- line n, with no samples beyond
 abbrev pub inner_of : Inner → ℕ → Line

@@ -1,64 +1,27 @@
-ghost use Rattle.std.specs.Prelude.{◌≡◌, ℕ, ◌+◌, ◌-◌, ◌*◌, ◌/◌, ◌%◌, ◌<◌, ◌≤◌, length, slice_index, get_or, true};
+ghost use Rattle.std.specs.Prelude.{◌≡◌, ℕ, ◌+◌, ◌*◌, ◌/◌, ◌%◌, ◌<◌, ◌≤◌, length, slice_index, get_or, true};
 ghost use Rattle.h264_plane.specs.Samples.{at, look};
 ghost use Rattle.h264_deblock.specs.Edge.{taps};
-ghost use Rattle.h264_deblock.specs.Rows.{line_of, HasLine, AreWritten};
+ghost use Rattle.h264_deblock.specs.Rows.{line_of, HasLine, AreWritten, in_turn};
 
 use crate::rows::Rows;
 use h264_plane::Plane;
 use std::simd::prelude::*;
 
-/// The first half of a list between the places of the second half, as two halves of a pack of cards.
+/// Some of the samples, from a place on.
 #[inline(always)]
-pub fn riffled<const N: usize>(x: &[u8; N]) -> [u8; N]
-    requires even { N % 2 ≡ 0 }
-    requires small { N ≤ 1024 }
-    ensures { (n : ℕ) → n < N → slice_index result n ≡ slice_index x.now (n % 2 * (N / 2) + n / 2) }
+pub fn run_of<const N: usize>(samples: &[u8], place: usize) -> [u8; N]
+    requires small { N ≤ 16 }
+    requires within { place + N ≤ length samples.now }
+    ensures { (n : ℕ) → n < N → slice_index result n ≡ slice_index samples.now (place + n) }
 {
-    let mut out = [0u8; N];
-    for k in 0..N / 2 {
-        out[2 * k] = x[k];
-        out[2 * k + 1] = x[k + N / 2];
-    }
-    out
-}
-
-/// Eight samples of a row.
-#[inline(always)]
-pub fn read_eight(plane: &Plane, x: usize, y: usize) -> [u8; 8]
-    requires small { x < 65536 }
-    requires columns { x + 8 ≤ plane.now.width }
-    requires row { y < plane.now.height }
-    ensures { (n : ℕ) → n < 8 → slice_index result n ≡ at plane.now (x + n) y }
-{
-    let row = plane.row(y);
-    let mut samples = [0u8; 8];
-    samples.copy_from_slice(&row[x..x + 8]);
-    samples
-}
-
-/// Eight samples of a row, as lanes.
-#[inline(always)]
-fn eight_lanes(plane: &Plane, x: usize, y: usize) -> u8x8
-    requires small { x < 65536 }
-    requires columns { x + 8 ≤ plane.now.width }
-    requires row { y < plane.now.height }
-    ensures { (n : ℕ) → n < 8 → get_or result n 0 ≡ at plane.now (x + n) y }
-{
-    lanes_of(plane.row(y), x)
-}
-
-/// Eight samples of a list, as lanes.
-#[inline(always)]
-pub fn lanes_of(samples: &[u8], place: usize) -> u8x8
-    requires { place + 8 ≤ length samples.now }
-    ensures { (n : ℕ) → n < 8 → get_or result n 0 ≡ slice_index samples.now (place + n) }
-{
-    u8x8::from_slice(&samples[place..])
+    let mut run = [0u8; N];
+    run.copy_from_slice(&samples[place..place + N]);
+    run
 }
 
 /// The lanes of two vectors in turn.
 #[inline(always)]
-pub fn woven(a: u8x8, b: u8x8) -> [u8; 16]
+fn woven(a: u8x8, b: u8x8) -> [u8; 16]
     ensures first { (n : ℕ) → n < 8 → slice_index result (2 * n) ≡ get_or a n 0 }
     ensures second { (n : ℕ) → n < 8 → slice_index result (2 * n + 1) ≡ get_or b n 0 }
 {
@@ -80,60 +43,67 @@ pub fn joined(a: &[u8; 8], b: &[u8; 8]) -> [u8; 16]
         .to_array()
 }
 
-/// Eight samples of a row in turn with those of the row `APART` below it.
+/// The first half of the samples between the places of the second half, as two halves of a pack of cards.
 #[inline(always)]
-pub fn read_pair<const APART: usize>(plane: &Plane, x: usize, y: usize) -> [u8; 16]
-    requires small { x < 65536 }
-    requires low { y ≤ 65544 }
-    requires columns { x + 8 ≤ plane.now.width }
-    requires rows { y + APART < plane.now.height }
-    requires apart { APART ≤ 8 }
-    ensures { (u : ℕ) → u < 16 → slice_index result u ≡ at plane.now (x + u / 2) (y + u % 2 * APART) }
+fn riffled(x: &[u8; 128]) -> [u8; 128]
+    ensures { (n : ℕ) → n < 128 → slice_index result n ≡ slice_index x.now (n % 2 * 64 + n / 2) }
 {
-    woven(eight_lanes(plane, x, y), eight_lanes(plane, x, y + APART))
+    let mut out = [0u8; 128];
+    for k in 0..64usize {
+        out[2 * k] = x[k];
+        out[2 * k + 1] = x[k + 64];
+    }
+    out
 }
 
-/// The samples of 16 rows, eight to a row, each of the first eight in turn with its row of the last eight.
+/// Eight rows of sixteen samples as sixteen rows of eight, each of them one of the columns.
 #[inline(always)]
-fn read_block(plane: &Plane, x: usize, y: usize) -> [u8; 128]
-    requires small { (x < 65536) × (y < 65536) }
-    requires columns { x + 8 ≤ plane.now.width }
-    requires rows { y + 16 ≤ plane.now.height }
-    ensures { (v : ℕ) → v < 8 → (u : ℕ) → u < 16 → slice_index result (16 * v + u) ≡ at plane.now (x + u / 2) (y + v + u % 2 * 8) }
+fn turned(x: &[u8; 128]) -> [u8; 128]
+    ensures { (n : ℕ) → n < 128 → slice_index result n ≡ slice_index x.now (n % 8 * 16 + n / 8) }
+{
+    riffled(&riffled(&riffled(x)))
+}
+
+/// Eight samples of each list, from a place on, in turn.
+#[inline(always)]
+pub fn pair_in_turn(a: &[u8], b: &[u8], place: usize) -> [u8; 16]
+    requires first { place + 8 ≤ length a.now }
+    requires second { place + 8 ≤ length b.now }
+    ensures { (u : ℕ) → u < 16 → slice_index result u ≡ in_turn (slice_index a.now (place + u / 2)) (slice_index b.now (place + u / 2)) u }
+{
+    woven(u8x8::from_slice(&a[place..]), u8x8::from_slice(&b[place..]))
+}
+
+/// Eight rows of `a` from row `y` on, each in turn with one of `b` from row `z` on; eight samples of each, from column `x` on.
+#[inline(always)]
+fn read_in_turn(a: &Plane, y: usize, b: &Plane, z: usize, x: usize) -> [u8; 128]
+    requires small { (x < 65536) × (y < 65536) × (z < 65544) }
+    requires a_columns { x + 8 ≤ a.now.width }
+    requires b_columns { x + 8 ≤ b.now.width }
+    requires a_rows { y + 8 ≤ a.now.height }
+    requires b_rows { z + 8 ≤ b.now.height }
+    ensures { (v : ℕ) → v < 8 → (u : ℕ) → u < 16 → slice_index result (16 * v + u) ≡ in_turn (at a.now (x + u / 2) (y + v)) (at b.now (x + u / 2) (z + v)) u }
 {
     let mut samples = [0u8; 128];
     for v in 0..8usize {
-        let pair = read_pair::<8>(plane, x, y + v);
+        let pair = pair_in_turn(a.row(y + v), b.row(z + v), x);
         samples[16 * v..16 * v + 16].copy_from_slice(&pair);
     }
     samples
 }
 
-/// Pairs of rows of eight as rows of sixteen.
+/// Eight columns from column `x` on, one after another: of eight rows of `a` from row `y` on, and then of eight of `b` from row `z` on.
 #[inline(always)]
-fn turned(x: &[u8; 128]) -> [u8; 128]
-    ensures { (v : ℕ) → v < 16 → (u : ℕ) → u < 8 → slice_index result (16 * u + v) ≡ slice_index x.now (16 * (v % 8) + (2 * u + v / 8)) }
+pub fn columns_of(a: &Plane, y: usize, b: &Plane, z: usize, x: usize) -> [u8; 128]
+    requires small { (x < 65536) × (y < 65536) × (z < 65544) }
+    requires a_columns { x + 8 ≤ a.now.width }
+    requires b_columns { x + 8 ≤ b.now.width }
+    requires a_rows { y + 8 ≤ a.now.height }
+    requires b_rows { z + 8 ≤ b.now.height }
+    ensures first { (k : ℕ) → k < 8 → (n : ℕ) → n < 8 → slice_index result (16 * k + n) ≡ at a.now (x + k) (y + n) }
+    ensures second { (k : ℕ) → k < 8 → (n : ℕ) → n < 8 → slice_index result (16 * k + (8 + n)) ≡ at b.now (x + k) (z + n) }
 {
-    riffled(&riffled(&riffled(x)))
-}
-
-/// Rows of sixteen as rows of eight.
-#[inline(always)]
-fn turned_back(x: &[u8; 128]) -> [u8; 128]
-    ensures { (v : ℕ) → v < 16 → (u : ℕ) → u < 8 → slice_index result (8 * v + u) ≡ slice_index x.now (16 * u + v) }
-{
-    riffled(&riffled(&riffled(x)))
-}
-
-/// Sixteen of the samples.
-#[inline(always)]
-fn sixteen(x: &[u8; 128], place: usize) -> [u8; 16]
-    requires { place + 16 ≤ 128 }
-    ensures { (n : ℕ) → n < 16 → slice_index result n ≡ slice_index x.now (place + n) }
-{
-    let mut samples = [0u8; 16];
-    samples.copy_from_slice(&x[place..place + 16]);
-    samples
+    turned(&read_in_turn(a, y, b, z, x))
 }
 
 /// The lines of a vertical edge whose first q0 stands at column `x` of row `y`.
@@ -145,16 +115,16 @@ pub fn read_columns(plane: &Plane, x: usize, y: usize) -> Rows
     requires rows { y + 16 ≤ plane.now.height }
     ensures { (n : ℕ) → n < 16 → line_of result n ≡ taps (look true plane.now (y + n)) x }
 {
-    let samples = turned(&read_block(plane, x - 4, y));
+    let samples = columns_of(plane, y, plane, y + 8, x - 4);
     Rows {
-        p3: sixteen(&samples, 0),
-        p2: sixteen(&samples, 16),
-        p1: sixteen(&samples, 32),
-        p0: sixteen(&samples, 48),
-        q0: sixteen(&samples, 64),
-        q1: sixteen(&samples, 80),
-        q2: sixteen(&samples, 96),
-        q3: sixteen(&samples, 112),
+        p3: run_of::<16>(&samples, 0),
+        p2: run_of::<16>(&samples, 16),
+        p1: run_of::<16>(&samples, 32),
+        p0: run_of::<16>(&samples, 48),
+        q0: run_of::<16>(&samples, 64),
+        q1: run_of::<16>(&samples, 80),
+        q2: run_of::<16>(&samples, 96),
+        q3: run_of::<16>(&samples, 112),
     }
 }
 
@@ -182,18 +152,7 @@ fn line_by_line(r: &Rows) -> [u8; 128]
     put_sixteen(&mut samples, 80, &r.q1);
     put_sixteen(&mut samples, 96, &r.q2);
     put_sixteen(&mut samples, 112, &r.q3);
-    turned_back(&samples)
-}
-
-/// Eight of the samples.
-#[inline(always)]
-fn eight(x: &[u8; 128], place: usize) -> [u8; 8]
-    requires { place + 8 ≤ 128 }
-    ensures { (n : ℕ) → n < 8 → slice_index result n ≡ slice_index x.now (place + n) }
-{
-    let mut samples = [0u8; 8];
-    samples.copy_from_slice(&x[place..place + 8]);
-    samples
+    turned(&samples)
 }
 
 /// Writes the lines of a vertical edge, where the first and the last sample of each stay as they are.
@@ -207,6 +166,6 @@ pub fn write_columns(plane: &mut Plane, x: usize, y: usize, r: &Rows)
 {
     let samples = line_by_line(r);
     for n in 0..16usize {
-        plane.put_run(x - 4, y + n, &eight(&samples, 8 * n));
+        plane.put_run(x - 4, y + n, &run_of::<8>(&samples, 8 * n));
     }
 }

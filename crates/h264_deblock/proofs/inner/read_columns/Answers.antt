@@ -1,19 +1,29 @@
-use Rattle.std.proofs.Common.{◌≡◌, ℕ, ◌+◌, ◌-◌, ◌*◌, ◌/◌, ◌%◌, ◌<◌, arith, ap, ◌∙◌}
+use Rattle.std.proofs.Common.{◌≡◌, ℕ, ◌+◌, ◌-◌, ◌*◌, ◌<◌, slice_index, arith, ap, ◌∙◌}
 use Rattle.h264_plane.specs.Samples.{at}
 use Rattle.h264_deblock.proofs.inner.read_columns.Goals as goal
 
-pub returns : goal.returns
-returns c n i =
-    let p = c.args.plane.now in
-    let x = c.args.x in
-    let tap = λ (k z : ℕ) (b : k < 8) (e : x - 4 + k ≡ z).
-    let column : x - 4 + (2 * k + n / 4) / 2 ≡ z = omega (arith, e) in
-    let row : c.args.y + n % 4 + (2 * k + n / 4) % 2 * 4 ≡ c.args.y + n = omega arith in
-    c.turned-samples.ensures n i k b ∙ c.read_square.ensures (n % 4) (omega arith) (2 * k + n / 4) (omega arith)
-    ∙ ap (λ m. at p m (c.args.y + n % 4 + (2 * k + n / 4) % 2 * 4)) column ∙ ap (at p z) row in
+pub returns-clause-cb : goal.returns-clause-cb
+returns-clause-cb c n i =
+    let a = c.args in
+    let xs = c.columns_of-samples.result in
+    let tap : (k z : ℕ) → k < 8 → a.x - 4 + k ≡ z → slice_index xs (16 * k + n) ≡ at a.cb.now z (a.y + n) =
+    λ k z b e. c.columns_of-samples.ensures.first k b n i ∙ ap (λ m. at a.cb.now m (a.y + n)) e in
     record {
-      p1 = c.eight.ensures n i ∙ tap 2 (x - 2) (omega arith) (omega arith);
-      p0 = c.eight-2.ensures n i ∙ tap 3 (x - 1) (omega arith) (omega arith);
-      q0 = c.eight-3.ensures n i ∙ tap 4 x (omega arith) (omega arith);
-      q1 = c.eight-4.ensures n i ∙ tap 5 (x + 1) (omega arith) (omega arith);
+      p1 = c.run_of.ensures n (omega arith) ∙ tap 2 (a.x - 2) (omega arith) (omega arith);
+      p0 = c.run_of-2.ensures n (omega arith) ∙ tap 3 (a.x - 1) (omega arith) (omega arith);
+      q0 = c.run_of-3.ensures n (omega arith) ∙ tap 4 a.x (omega arith) (omega arith);
+      q1 = c.run_of-4.ensures n (omega arith) ∙ tap 5 (a.x + 1) (omega arith) (omega arith);
+    }
+
+pub returns-clause-cr : goal.returns-clause-cr
+returns-clause-cr c n i =
+    let a = c.args in
+    let xs = c.columns_of-samples.result in
+    let tap : (k z : ℕ) → k < 8 → a.x - 4 + k ≡ z → slice_index xs (16 * k + (8 + n)) ≡ at a.cr.now z (a.y + n) =
+    λ k z b e. c.columns_of-samples.ensures.second k b n i ∙ ap (λ m. at a.cr.now m (a.y + n)) e in
+    record {
+      p1 = c.run_of.ensures (8 + n) (omega arith) ∙ tap 2 (a.x - 2) (omega arith) (omega arith);
+      p0 = c.run_of-2.ensures (8 + n) (omega arith) ∙ tap 3 (a.x - 1) (omega arith) (omega arith);
+      q0 = c.run_of-3.ensures (8 + n) (omega arith) ∙ tap 4 a.x (omega arith) (omega arith);
+      q1 = c.run_of-4.ensures (8 + n) (omega arith) ∙ tap 5 (a.x + 1) (omega arith) (omega arith);
     }

@@ -1,4 +1,5 @@
-use Rattle.std.proofs.Common.{◌≡◌, ℕ, ◌+◌, ◌*◌, ◌<◌, slice_index, arith, refl, ap, ◌∙◌, rules}
+use Rattle.std.proofs.Common.{◌≡◌, ℕ, ◌+◌, ◌*◌, ◌/◌, ◌%◌, ◌<◌, slice_index, arith, refl, sym, ap, ◌∙◌, rules}
+use Rattle.h264_deblock.proofs.Turns.{at_first, at_second}
 use Rattle.h264_deblock.proofs.Lines.{lines_none}
 use Rattle.h264_deblock.proofs.Nearest.{pair_written}
 use Rattle.h264_deblock.proofs.inner.write_columns.Goals as goal
@@ -11,15 +12,18 @@ loop-n-preserved c =
     let a = c.args in
     let n = c.loop-n.n in
     let put = c.put_run.ensures in
-    let from : 0 + n ≡ n = omega arith in
-    let of = λ (m j : ℕ) (b : m < 2) (e : 2 * n + m ≡ j). c.two.ensures m b ∙ ap (slice_index c.woven-pairs.result) e in
+    let of = λ (m j : ℕ) (b : m < 2) (e : 2 * n + m ≡ j). c.run_of.ensures m b ∙ ap (slice_index c.pair_in_turn-pairs.result) e in
+    let half : 0 + 2 * n / 2 ≡ n = omega arith in
+    let odd_half : 0 + (2 * n + 1) / 2 ≡ n = omega arith in
+    let even : 2 * n % 2 ≡ 0 = omega arith in
+    let odd : (2 * n + 1) % 2 ≡ 1 = omega arith in
     record {
       width = put.width ∙ c.loop-n.invariant.width;
       height = put.height ∙ c.loop-n.invariant.height;
       lines = λ k lines.
-          pair_written a.plane.now c.loop-n.plane c.put_run.new.self k n a.y a.x c.two.result c.requires.before c.requires.behind (omega arith) (search rules)
-          (of 0 (2 * n) (omega arith) (omega arith) ∙ c.woven-pairs.ensures.first n c.loop-n-test.true ∙ c.lanes_of.ensures n c.loop-n-test.true ∙ ap (slice_index a.r.now.p0) from ∙ lines.p0 n c.loop-n-test.true)
-          (of 1 (2 * n + 1) (omega arith) (omega arith) ∙ c.woven-pairs.ensures.second n c.loop-n-test.true ∙ c.lanes_of-2.ensures n c.loop-n-test.true ∙ ap (slice_index a.r.now.q0) from ∙ lines.q0 n c.loop-n-test.true)
+          pair_written a.plane.now c.loop-n.plane c.put_run.new.self k n a.y a.x c.run_of.result c.requires.before c.requires.behind (omega arith) (search rules)
+          (of 0 (2 * n) (omega arith) (omega arith) ∙ c.pair_in_turn-pairs.ensures (2 * n) (omega arith) ∙ sym (at_first _ _ (2 * n) even) ∙ ap (slice_index a.r.now.p0) half ∙ lines.p0 n c.loop-n-test.true)
+          (of 1 (2 * n + 1) (omega arith) (omega arith) ∙ c.pair_in_turn-pairs.ensures (2 * n + 1) (omega arith) ∙ sym (at_second _ _ (2 * n + 1) odd) ∙ ap (slice_index a.r.now.q0) odd_half ∙ lines.q0 n c.loop-n-test.true)
           (c.loop-n.invariant.lines k lines) put;
     }
 

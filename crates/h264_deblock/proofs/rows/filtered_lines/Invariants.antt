@@ -1,14 +1,13 @@
-use Rattle.std.proofs.Common.{◌≡◌, ℕ, ◌<◌, false, length, slice_index, get_or, ◌/◌}
+use Rattle.std.proofs.Common.{◌≡◌, ℕ, ◌<◌, false, length, slice_index}
 use Rattle.h264_deblock.specs.Line.{filtered}
-use Rattle.h264_deblock.specs.Edge.{filter_of}
 use Rattle.h264_deblock.specs.Rows.{line_of}
-use Rattle.h264_deblock.specs.declared.edge_parameters.BoundaryStrength.TheVariants.{Zero}
+use Rattle.h264_deblock.specs.Inner.{limits_at}
 use Rattle.h264_deblock.specs.declared.line.Line.{Line}
-use Rattle.h264_deblock.proofs.rows.mixed_rows.Given as goal
+use Rattle.h264_deblock.proofs.rows.filtered_lines.Given as goal
 
 abbrev pub invariant-loop-n : goal.invariant-loop-n
 invariant-loop-n l =
-    let f : ℕ → Line = λ m. filtered false (record { alpha = l.alpha; beta = l.beta; filter = filter_of l.index_a (get_or l.strengths (m / 4) Zero) }) (line_of l.r m) in
+    let f : ℕ → Line = λ m. filtered false (limits_at l.k m) (line_of l.r m) in
     record {
       p2_size : length l.p2 ≡ 16;
       p1_size : length l.p1 ≡ 16;

@@ -1,5 +1,0 @@
-use Rattle.std.proofs.lemmas.Simd.{get_or-chunk}
-use Rattle.h264_deblock.proofs.columns.lanes_of.Goals as goal
-
-pub returns : goal.returns
-returns c k p = get_or-chunk c.args.place 8 c.args.samples.now k 0 p
