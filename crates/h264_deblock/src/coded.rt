@@ -2,7 +2,7 @@
 #![tactic(auto)]
 
 ghost use Rattle.std.specs.Prelude.{◌≡◌, ℕ, ◌+◌, ◌*◌, ◌<◌, ◌≤◌, ◌==◌, Bool, true, false, IsTrue, List, [], ◌∷◌, length, get_or, Option, Some, None, is_some};
-ghost use Rattle.h264_tables.specs.ChromaQp.{chroma_qp_of, clip_51};
+ghost use Rattle.h264_tables.specs.ChromaQp.{clip_51};
 ghost use Rattle.h264_plane.specs.declared.frame.Component.{Component};
 ghost use Rattle.h264_near.specs.Coded.{CodedMacroblock};
 ghost use Rattle.h264_near.specs.Keeps.{Keeps, Shows, IsEdge};
@@ -34,21 +34,13 @@ fn clip_51(z: i64) -> u8
     z.clamp(0, 51) as u8
 }
 
-/// QPC by QPY and chroma_qp_index_offset (8.5.8).
-#[inline]
-fn qp_of_chroma(qp: u8, offset: i32) -> u8
-    ensures { result ≡ chroma_qp_of qp offset }
-{
-    chroma_qp(clip_51(qp as i64 + offset as i64), 0)
-}
-
-/// The quantisation parameter of luma or of chroma.
+/// The quantisation parameter of luma, or of chroma: QPC by QPY and chroma_qp_index_offset (8.5.8).
 #[inline]
 fn qp_in(chroma: bool, qp: u8, filter: SliceFilter) -> u8
     ensures { result ≡ side_qp chroma qp filter.chroma_qp_index_offset }
 {
     if chroma {
-        return qp_of_chroma(qp, filter.chroma_qp_index_offset);
+        return chroma_qp(clip_51(qp as i64 + filter.chroma_qp_index_offset as i64), 0);
     }
     qp
 }

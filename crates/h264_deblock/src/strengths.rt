@@ -4,13 +4,13 @@
 ghost use Rattle.std.specs.Prelude.{◌≡◌, ◌<◌, nat_le, ◌-ℤ◌, unsigned_abs, true, false};
 ghost use Rattle.h264_near.specs.Coded.{CodedMacroblock};
 ghost use Rattle.h264_near.specs.Keeps.{Shows};
-ghost use Rattle.h264_near.specs.Strength.{far, moves_apart};
+ghost use Rattle.h264_near.specs.Strength.{moves_apart};
 ghost use Rattle.h264_deblock.specs.CodedEdges.{strength_at, strengths};
 ghost use Rattle.h264_deblock.specs.Steps.{IsBeside, inter_strength, number_at, inner_lines, alike, are_blank, are_like, are_alike, is_even, goes_on};
 
 use crate::edge_parameters::BoundaryStrength;
 use h264_near::block::number;
-use h264_near::{Contexts, Edge, Motion, Vector};
+use h264_near::{Contexts, Edge, Motion};
 use h264_tables::Strength;
 
 /// The strengths of the inner edges of a macroblock by their line of blocks, from 1 on, and the place along it.
@@ -38,14 +38,6 @@ fn component_far(a: i16, b: i16) -> bool
     4 <= (a as i32 - b as i32).unsigned_abs()
 }
 
-/// Whether two vectors differ by a whole sample or more.
-#[inline(always)]
-fn far(a: &Vector, b: &Vector) -> bool
-    ensures { result ≡ far a.now b.now }
-{
-    component_far(a.x, b.x) | component_far(a.y, b.y)
-}
-
 /// Whether two blocks are predicted from different pictures, or by vectors that differ by a whole sample or more.
 #[inline(always)]
 fn moves_apart(a: &Option<Motion>, b: &Option<Motion>) -> bool
@@ -58,7 +50,7 @@ fn moves_apart(a: &Option<Motion>, b: &Option<Motion>) -> bool
         return false;
     };
     if a.picture == b.picture {
-        return far(&a.vector, &b.vector);
+        return component_far(a.vector.x, b.vector.x) | component_far(a.vector.y, b.vector.y);
     }
     true
 }
