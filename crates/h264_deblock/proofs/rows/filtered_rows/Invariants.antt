@@ -3,7 +3,7 @@ use Rattle.h264_deblock.specs.Line.{filtered}
 use Rattle.h264_deblock.specs.Rows.{line_of}
 use Rattle.h264_deblock.specs.Inner.{limits_at}
 use Rattle.h264_deblock.specs.declared.line.Line.{Line}
-use Rattle.h264_deblock.proofs.rows.filtered_lines.Given as goal
+use Rattle.h264_deblock.proofs.rows.filtered_rows.Given as goal
 
 abbrev pub invariant-loop-n : goal.invariant-loop-n
 invariant-loop-n l =
