@@ -7,13 +7,90 @@ use h264_base::{Rule, Stop};
 use h264_bits::Found;
 use h264_header::{Marking, MarkingOperation, Operation};
 use std::process::Abort;
-use std::test::Fail;
 
 /// The bit of each marking.
 const MARKING: u64 = 50;
 
 /// The bit of its first operation; the others follow by one.
 const FIRST: u64 = 60;
+
+/// The bit of a gap.
+const GAP: u64 = 7;
+
+/// A frame of a table, by the frame_num of its picture; the picture's number is 100 more.
+#[derive(Clone, Copy)]
+enum Frame {
+    Short(u32),
+    /// With LongTermFrameIdx.
+    Long(u32, u32),
+    /// Of a gap, without a picture.
+    Missing(u32),
+    /// A short-term frame that has FrameNum 0 since operation 5.
+    Reset(u32),
+    /// The same, with LongTermFrameIdx.
+    ResetLong(u32, u32),
+}
+
+use Frame::{Long, Missing, Reset, ResetLong, Short};
+
+/// A marking operation of a table, with its operands.
+#[derive(Clone, Copy)]
+enum Op {
+    UnmarkShort(u32),
+    UnmarkLong(u32),
+    MakeLong(u32, u32),
+    Limit(u32),
+    UnmarkAll,
+    MakeCurrentLong(u32),
+}
+
+use Op::{Limit, MakeCurrentLong, MakeLong, UnmarkAll, UnmarkLong, UnmarkShort};
+
+/// What is done to the frames that are held.
+#[derive(Clone, Copy)]
+enum Step {
+    /// From nothing, an IDR picture and the sliding window up to this frame_num.
+    Begin,
+    /// From nothing, an IDR picture whose frame is a long-term one.
+    BeginLong,
+    /// From nothing, frames 0 and 1 with the indices 0 and 1, and frame 2; there are three indices.
+    TwoLong,
+    Idr,
+    IdrLong,
+    Slide,
+    Fill,
+    Operate(&'static [Op]),
+}
+
+use Step::{Begin, BeginLong, Fill, Idr, IdrLong, Operate, Slide, TwoLong};
+
+/// A step with frame_num and max_num_ref_frames, its answer, and the frames that are held then.
+type Row = (Step, u32, u32, Result<(), Stop>, &'static [Frame]);
+
+const DONE: Result<(), Stop> = Ok(());
+
+/// The first operation is refused, and nothing changes.
+const FIRST_REFUSED: Result<(), Stop> = Err(Stop::No {
+    bit: FIRST,
+    rule: Rule::MarkCommand,
+});
+
+/// The second one is.
+const SECOND_REFUSED: Result<(), Stop> = Err(Stop::No {
+    bit: FIRST + 1,
+    rule: Rule::MarkCommand,
+});
+
+/// The marking is refused as a whole.
+const ALL_REFUSED: Result<(), Stop> = Err(Stop::No {
+    bit: MARKING,
+    rule: Rule::MarkCommand,
+});
+
+const UNFILLED: Result<(), Stop> = Err(Stop::No {
+    bit: GAP,
+    rule: Rule::FrameNum,
+});
 
 fn at(frame_num: u32, max_num_ref_frames: u32) -> Numbering {
     Numbering {
@@ -28,67 +105,56 @@ fn picture(frame_num: u32) -> u64 {
     frame_num as u64 + 100
 }
 
-fn short(frame_num: u32) -> ReferenceFrame {
+fn held_frame(picture: Option<u64>, frame_num: u32, term: Term) -> ReferenceFrame {
     ReferenceFrame {
-        picture: Some(picture(frame_num)),
+        picture,
         frame_num,
-        term: Term::Short,
+        term,
     }
 }
 
-fn long(frame_num: u32, long_term_frame_idx: u32) -> ReferenceFrame {
-    ReferenceFrame {
-        picture: Some(picture(frame_num)),
-        frame_num,
-        term: Term::Long {
+fn long_term(long_term_frame_idx: u32) -> Term {
+    Term::Long {
+        long_term_frame_idx,
+    }
+}
+
+fn frame_of(frame: Frame) -> ReferenceFrame {
+    match frame {
+        Short(n) => held_frame(Some(picture(n)), n, Term::Short),
+        Long(n, index) => held_frame(Some(picture(n)), n, long_term(index)),
+        Missing(n) => held_frame(None, n, Term::Short),
+        Reset(n) => held_frame(Some(picture(n)), 0, Term::Short),
+        ResetLong(n, index) => held_frame(Some(picture(n)), 0, long_term(index)),
+    }
+}
+
+fn frames_of(frames: &[Frame]) -> ArrayVec<ReferenceFrame, 16> {
+    let mut all = ArrayVec::new();
+    for frame in frames {
+        let _full = all.try_push(frame_of(*frame));
+    }
+    all
+}
+
+fn operation_of(op: Op) -> Operation {
+    match op {
+        UnmarkShort(difference_of_pic_nums_minus1) => Operation::UnmarkShortTerm {
+            difference_of_pic_nums_minus1,
+        },
+        UnmarkLong(long_term_pic_num) => Operation::UnmarkLongTerm { long_term_pic_num },
+        MakeLong(difference_of_pic_nums_minus1, long_term_frame_idx) => Operation::MakeLongTerm {
+            difference_of_pic_nums_minus1,
+            long_term_frame_idx,
+        },
+        Limit(max_long_term_frame_idx_plus1) => Operation::LimitLongTerm {
+            max_long_term_frame_idx_plus1,
+        },
+        UnmarkAll => Operation::UnmarkAll,
+        MakeCurrentLong(long_term_frame_idx) => Operation::MakeCurrentLongTerm {
             long_term_frame_idx,
         },
     }
-}
-
-/// The frame of a gap.
-fn gap(frame_num: u32) -> ReferenceFrame {
-    ReferenceFrame {
-        picture: None,
-        frame_num,
-        term: Term::Short,
-    }
-}
-
-fn unmark_short(difference_of_pic_nums_minus1: u32) -> Operation {
-    Operation::UnmarkShortTerm {
-        difference_of_pic_nums_minus1,
-    }
-}
-
-fn unmark_long(long_term_pic_num: u32) -> Operation {
-    Operation::UnmarkLongTerm { long_term_pic_num }
-}
-
-fn make_long(difference_of_pic_nums_minus1: u32, long_term_frame_idx: u32) -> Operation {
-    Operation::MakeLongTerm {
-        difference_of_pic_nums_minus1,
-        long_term_frame_idx,
-    }
-}
-
-fn limit(max_long_term_frame_idx_plus1: u32) -> Operation {
-    Operation::LimitLongTerm {
-        max_long_term_frame_idx_plus1,
-    }
-}
-
-fn make_current_long(long_term_frame_idx: u32) -> Operation {
-    Operation::MakeCurrentLongTerm {
-        long_term_frame_idx,
-    }
-}
-
-fn refused(bit: u64) -> Result<(), Stop> {
-    Err(Stop::No {
-        bit,
-        rule: Rule::MarkCommand,
-    })
 }
 
 fn mark(held: &mut Held, current: Numbering, value: Marking) -> Result<(), Stop> {
@@ -107,468 +173,434 @@ fn idr(held: &mut Held, max_num_ref_frames: u32, long_term: bool) -> Result<(), 
     mark(held, at(0, max_num_ref_frames), value)
 }
 
-fn slide(held: &mut Held, current: Numbering) -> Result<(), Stop> {
-    mark(held, current, Marking::SlidingWindow)
-}
-
-fn operate(held: &mut Held, current: Numbering, operations: &[Operation]) -> Result<(), Stop> {
+fn operate(held: &mut Held, current: Numbering, ops: &[Op]) -> Result<(), Stop> {
     let mut marking = ArrayVec::new();
     let mut bit = FIRST;
-    for operation in operations {
+    for op in ops {
         let _full = marking.try_push(MarkingOperation {
             bit,
-            operation: *operation,
+            operation: operation_of(*op),
         });
         bit = bit.saturating_add(1);
     }
     mark(held, current, Marking::Adaptive(marking))
 }
 
-/// An IDR picture, and the sliding window up to this frame_num.
-fn after(frame_num: u32, max_num_ref_frames: u32) -> Result<Held, Stop> {
-    let mut held = Held::new();
-    idr(&mut held, max_num_ref_frames, false)?;
-    for next in 1..=frame_num {
-        slide(&mut held, at(next, max_num_ref_frames))?;
+/// An IDR picture, and the sliding window up to this picture.
+fn begin(held: &mut Held, current: Numbering) -> Result<(), Stop> {
+    let places = current.max_num_ref_frames;
+    *held = Held::new();
+    idr(held, places, false)?;
+    for next in 1..=current.frame_num {
+        mark(held, at(next, places), Marking::SlidingWindow)?;
     }
-    Ok(held)
-}
-
-/// Frames 0 and 1 with the indices 0 and 1, and frame 2; four places, and three indices.
-fn with_long() -> Result<Held, Stop> {
-    let mut held = after(1, 4)?;
-    operate(
-        &mut held,
-        at(2, 4),
-        [limit(3), make_long(1, 0), make_long(0, 1)].as_slice(),
-    )?;
-    Ok(held)
-}
-
-/// These operations at this picture are refused at this bit, and nothing has changed.
-fn stays(
-    rt: &impl Abort,
-    mut held: Held,
-    current: Numbering,
-    operations: &[Operation],
-    bit: u64,
-    frames: &[ReferenceFrame],
-) {
-    assert!(rt; operate(&mut held, current, operations) == refused(bit));
-    assert_eq!(rt; held.frames(), frames);
-}
-
-/// Its frame alone is held: a short-term one, or one with index 0, which is then the only index.
-fn idr_pictures(rt: &(impl Abort + AllocGlobal)) -> Result<(), Fail> {
-    let mut held = after(3, 4)?;
-    idr(&mut held, 4, true)?;
-    assert_eq!(rt; held.frames(), [long(0, 0)].as_slice());
-    stays(
-        rt,
-        held,
-        at(1, 4),
-        [make_current_long(1)].as_slice(),
-        FIRST,
-        [long(0, 0)].as_slice(),
-    );
-    let mut held = with_long()?;
-    idr(&mut held, 4, false)?;
-    assert_eq!(rt; held.frames(), [short(0)].as_slice());
-    stays(
-        rt,
-        held,
-        at(1, 4),
-        [make_current_long(0)].as_slice(),
-        FIRST,
-        [short(0)].as_slice(),
-    );
     Ok(())
 }
 
-/// The least FrameNumWrap goes: at frame_num 1 those of 14, 15 and 0 are -2, -1 and 0.
-fn window_slides(rt: &impl Abort) -> Result<(), Fail> {
-    let held = after(2, 3)?;
-    assert_eq!(rt; held.frames(), [short(0), short(1), short(2)].as_slice());
-    let mut held = after(15, 3)?;
-    assert_eq!(rt; held.frames(), [short(13), short(14), short(15)].as_slice());
-    slide(&mut held, at(0, 3))?;
-    assert_eq!(rt; held.frames(), [short(14), short(15), short(0)].as_slice());
-    slide(&mut held, at(1, 3))?;
-    assert_eq!(rt; held.frames(), [short(15), short(0), short(1)].as_slice());
-    Ok(())
+fn two_long(held: &mut Held) -> Result<(), Stop> {
+    begin(held, at(1, 4))?;
+    operate(held, at(2, 4), &[Limit(3), MakeLong(1, 0), MakeLong(0, 1)])
 }
 
-/// max_num_ref_frames 0 leaves one place, and long-term frames do not slide.
-fn window_of_one(rt: &impl Abort) -> Result<(), Fail> {
-    let held = after(1, 0)?;
-    assert_eq!(rt; held.frames(), [short(1)].as_slice());
-    let mut held = Held::new();
-    idr(&mut held, 1, true)?;
-    assert!(rt; slide(&mut held, at(1, 1)) == refused(MARKING));
-    assert_eq!(rt; held.frames(), [long(0, 0)].as_slice());
-    Ok(())
-}
-
-/// Where more frames are held than there are places, one that goes does not make room.
-fn window_without_room(rt: &impl Abort) -> Result<(), Fail> {
-    let mut held = after(3, 4)?;
-    assert!(rt; slide(&mut held, at(4, 2)) == refused(MARKING));
-    assert_eq!(rt;
-        held.frames(),
-        [short(0), short(1), short(2), short(3)].as_slice()
-    );
-    Ok(())
-}
-
-/// The frames of missing numbers join by the window, also where frame_num wraps; in one place also that of the number that goes.
-fn gaps(rt: &impl Abort) -> Result<(), Fail> {
-    let mut held = after(2, 4)?;
-    held.fill_gap(&at(3, 4), 0)?;
-    assert_eq!(rt;
-        held.frames(),
-        [short(0), short(1), short(2), gap(3)].as_slice()
-    );
-    held.fill_gap(&at(4, 4), 0)?;
-    assert_eq!(rt;
-        held.frames(),
-        [short(1), short(2), gap(3), gap(4)].as_slice()
-    );
-    let mut held = after(15, 2)?;
-    held.fill_gap(&at(0, 2), 0)?;
-    assert_eq!(rt; held.frames(), [short(15), gap(0)].as_slice());
-    held.fill_gap(&at(1, 2), 0)?;
-    assert_eq!(rt; held.frames(), [gap(0), gap(1)].as_slice());
-    let mut held = after(1, 1)?;
-    held.fill_gap(&at(1, 1), 0)?;
-    assert_eq!(rt; held.frames(), [gap(1)].as_slice());
-    Ok(())
-}
-
-const UNFILLED: Result<(), Stop> = Err(Stop::No {
-    bit: 7,
-    rule: Rule::FrameNum,
-});
-
-/// A number that a short-term frame has, also once the window has slid, and places that long-term frames take.
-fn gaps_refused(rt: &impl Abort) -> Result<(), Fail> {
-    let mut held = after(2, 4)?;
-    assert!(rt; held.fill_gap(&at(1, 4), 7) == UNFILLED);
-    assert!(rt; held.fill_gap(&at(1, 3), 7) == UNFILLED);
-    assert_eq!(rt; held.frames(), [short(0), short(1), short(2)].as_slice());
-    let mut held = Held::new();
-    idr(&mut held, 1, true)?;
-    assert!(rt; held.fill_gap(&at(1, 1), 7) == UNFILLED);
-    assert_eq!(rt; held.frames(), [long(0, 0)].as_slice());
-    Ok(())
-}
-
-/// picNumX is 4 - 2 of frame 2, and 0 - 2 of frame 14 once frame_num has wrapped.
-fn operation_1(rt: &impl Abort) -> Result<(), Fail> {
-    let mut held = after(3, 4)?;
-    operate(&mut held, at(4, 4), [unmark_short(1)].as_slice())?;
-    assert_eq!(rt;
-        held.frames(),
-        [short(0), short(1), short(3), short(4)].as_slice()
-    );
-    let mut held = after(15, 3)?;
-    operate(&mut held, at(0, 3), [unmark_short(1)].as_slice())?;
-    assert_eq!(rt; held.frames(), [short(13), short(15), short(0)].as_slice());
-    Ok(())
-}
-
-/// No frame has -1; frame 1 has an index; the second operation finds what the first has left.
-fn operation_1_refused(rt: &(impl Abort + AllocGlobal)) -> Result<(), Fail> {
-    let frames = [short(0), short(1), short(2)];
-    let held = after(2, 4)?;
-    stays(
-        rt,
-        held,
-        at(3, 4),
-        [unmark_short(3)].as_slice(),
-        FIRST,
-        frames.as_slice(),
-    );
-    let held = after(2, 4)?;
-    let twice = [unmark_short(0), unmark_short(0)];
-    stays(
-        rt,
-        held,
-        at(3, 4),
-        twice.as_slice(),
-        FIRST + 1,
-        frames.as_slice(),
-    );
-    let frames = [long(0, 0), long(1, 1), short(2)];
-    let held = with_long()?;
-    stays(
-        rt,
-        held,
-        at(3, 4),
-        [unmark_short(1)].as_slice(),
-        FIRST,
-        frames.as_slice(),
-    );
-    Ok(())
-}
-
-/// The frame with index 0 goes; none has index 2.
-fn operation_2(rt: &(impl Abort + AllocGlobal)) -> Result<(), Fail> {
-    let mut held = with_long()?;
-    operate(&mut held, at(3, 4), [unmark_long(0)].as_slice())?;
-    assert_eq!(rt; held.frames(), [long(1, 1), short(2), short(3)].as_slice());
-    let frames = [long(0, 0), long(1, 1), short(2)];
-    let held = with_long()?;
-    stays(
-        rt,
-        held,
-        at(3, 4),
-        [unmark_long(2)].as_slice(),
-        FIRST,
-        frames.as_slice(),
-    );
-    Ok(())
-}
-
-/// Frame 2 gets a free index, or that of frame 1, which is then unused.
-fn operation_3(rt: &impl Abort) -> Result<(), Fail> {
-    let mut held = with_long()?;
-    operate(&mut held, at(3, 4), [make_long(0, 2)].as_slice())?;
-    assert_eq!(rt;
-        held.frames(),
-        [long(0, 0), long(1, 1), long(2, 2), short(3)].as_slice()
-    );
-    let mut held = with_long()?;
-    operate(&mut held, at(3, 4), [make_long(0, 1)].as_slice())?;
-    assert_eq!(rt;
-        held.frames(),
-        [long(0, 0), long(2, 1), short(3)].as_slice()
-    );
-    Ok(())
-}
-
-/// There are the indices 0 to 2; no frame has PicNum 1; the frame of a gap does not exist; without operation 4 there is no index.
-fn operation_3_refused(rt: &(impl Abort + AllocGlobal)) -> Result<(), Fail> {
-    let frames = [long(0, 0), long(1, 1), short(2)];
-    let held = with_long()?;
-    stays(
-        rt,
-        held,
-        at(3, 4),
-        [make_long(0, 3)].as_slice(),
-        FIRST,
-        frames.as_slice(),
-    );
-    let held = with_long()?;
-    stays(
-        rt,
-        held,
-        at(3, 4),
-        [make_long(1, 2)].as_slice(),
-        FIRST,
-        frames.as_slice(),
-    );
-    let mut held = with_long()?;
-    held.fill_gap(&at(3, 4), 0)?;
-    let frames = [long(0, 0), long(1, 1), short(2), gap(3)];
-    stays(
-        rt,
-        held,
-        at(4, 4),
-        [make_long(0, 2)].as_slice(),
-        FIRST,
-        frames.as_slice(),
-    );
-    let held = after(1, 4)?;
-    let frames = [short(0), short(1)];
-    stays(
-        rt,
-        held,
-        at(2, 4),
-        [make_long(0, 0)].as_slice(),
-        FIRST,
-        frames.as_slice(),
-    );
-    Ok(())
-}
-
-/// One index leaves frame 0, and none leaves no long-term frame and no index; four are as many as there may be.
-fn operation_4(rt: &(impl Abort + AllocGlobal)) -> Result<(), Fail> {
-    let mut held = with_long()?;
-    operate(&mut held, at(3, 4), [limit(1)].as_slice())?;
-    assert_eq!(rt; held.frames(), [long(0, 0), short(2), short(3)].as_slice());
-    operate(&mut held, at(4, 4), [limit(0)].as_slice())?;
-    assert_eq!(rt; held.frames(), [short(2), short(3), short(4)].as_slice());
-    let frames = [short(2), short(3), short(4)];
-    stays(
-        rt,
-        held,
-        at(5, 4),
-        [make_current_long(0)].as_slice(),
-        FIRST,
-        frames.as_slice(),
-    );
-    let mut held = with_long()?;
-    operate(&mut held, at(3, 4), [limit(4), make_long(0, 3)].as_slice())?;
-    assert_eq!(rt;
-        held.frames(),
-        [long(0, 0), long(1, 1), long(2, 3), short(3)].as_slice()
-    );
-    let frames = [long(0, 0), long(1, 1), short(2)];
-    let held = with_long()?;
-    stays(
-        rt,
-        held,
-        at(3, 4),
-        [limit(5)].as_slice(),
-        FIRST,
-        frames.as_slice(),
-    );
-    Ok(())
-}
-
-/// The picture has frame_num 0 then, and there is no index before operation 4.
-fn operation_5(rt: &(impl Abort + AllocGlobal)) -> Result<(), Fail> {
-    let mut own = short(3);
-    own.frame_num = 0;
-    let mut held = with_long()?;
-    operate(&mut held, at(3, 4), [Operation::UnmarkAll].as_slice())?;
-    assert_eq!(rt; held.frames(), [own].as_slice());
-    own.term = Term::Long {
-        long_term_frame_idx: 0,
-    };
-    let mut held = with_long()?;
-    let three = [Operation::UnmarkAll, limit(1), make_current_long(0)];
-    operate(&mut held, at(3, 4), three.as_slice())?;
-    assert_eq!(rt; held.frames(), [own].as_slice());
-    let frames = [long(0, 0), long(1, 1), short(2)];
-    let held = with_long()?;
-    let two = [Operation::UnmarkAll, make_current_long(0)];
-    stays(
-        rt,
-        held,
-        at(3, 4),
-        two.as_slice(),
-        FIRST + 1,
-        frames.as_slice(),
-    );
-    Ok(())
-}
-
-/// Frame 3 gets a free index, or that of frame 1; there is no index 3.
-fn operation_6(rt: &(impl Abort + AllocGlobal)) -> Result<(), Fail> {
-    let mut held = with_long()?;
-    operate(&mut held, at(3, 4), [make_current_long(2)].as_slice())?;
-    assert_eq!(rt;
-        held.frames(),
-        [long(0, 0), long(1, 1), short(2), long(3, 2)].as_slice()
-    );
-    let mut held = with_long()?;
-    operate(&mut held, at(3, 4), [make_current_long(1)].as_slice())?;
-    assert_eq!(rt;
-        held.frames(),
-        [long(0, 0), short(2), long(3, 1)].as_slice()
-    );
-    let frames = [long(0, 0), long(1, 1), short(2)];
-    let held = with_long()?;
-    stays(
-        rt,
-        held,
-        at(3, 4),
-        [make_current_long(3)].as_slice(),
-        FIRST,
-        frames.as_slice(),
-    );
-    Ok(())
-}
-
-/// No other operation takes the index, or the marking, from the picture's own frame.
-fn own_index_stays(rt: &(impl Abort + AllocGlobal)) -> Result<(), Fail> {
-    let frames = [long(0, 0), long(1, 1), short(2)];
-    for second in [
-        unmark_long(1),
-        make_long(0, 1),
-        limit(1),
-        Operation::UnmarkAll,
-    ] {
-        let held = with_long()?;
-        let both = [make_current_long(1), second];
-        stays(
-            rt,
-            held,
-            at(3, 4),
-            both.as_slice(),
-            FIRST + 1,
-            frames.as_slice(),
-        );
+fn take(held: &mut Held, step: Step, current: Numbering) -> Result<(), Stop> {
+    match step {
+        Begin => begin(held, current),
+        BeginLong => {
+            *held = Held::new();
+            idr(held, current.max_num_ref_frames, true)
+        }
+        TwoLong => two_long(held),
+        Idr => idr(held, current.max_num_ref_frames, false),
+        IdrLong => idr(held, current.max_num_ref_frames, true),
+        Slide => mark(held, current, Marking::SlidingWindow),
+        Fill => held.fill_gap(&current, GAP),
+        Operate(ops) => operate(held, current, ops),
     }
-    let mut held = with_long()?;
-    operate(
-        &mut held,
-        at(3, 4),
-        [make_current_long(1), limit(2)].as_slice(),
-    )?;
-    assert_eq!(rt;
-        held.frames(),
-        [long(0, 0), short(2), long(3, 1)].as_slice()
-    );
-    Ok(())
 }
+
+/// Takes the steps, one after another.
+fn rows_hold(rt: &impl Abort, rows: &[Row]) {
+    let mut held = Held::new();
+    for (i, (step, frame_num, places, answer, frames)) in rows.iter().enumerate() {
+        let found = take(&mut held, *step, at(*frame_num, *places));
+        assert_eq!(rt; found, *answer, "row {i}");
+        assert_eq!(rt; held.frames(), frames_of(frames).as_slice(), "row {i}");
+    }
+}
+
+/// An IDR picture's frame alone is held: a short-term one, or one with index 0, which is then the only index.
+const IDR_PICTURES: [Row; 6] = [
+    (Begin, 3, 4, DONE, &[Short(0), Short(1), Short(2), Short(3)]),
+    (IdrLong, 0, 4, DONE, &[Long(0, 0)]),
+    (
+        Operate(&[MakeCurrentLong(1)]),
+        1,
+        4,
+        FIRST_REFUSED,
+        &[Long(0, 0)],
+    ),
+    (TwoLong, 2, 4, DONE, &[Long(0, 0), Long(1, 1), Short(2)]),
+    (Idr, 0, 4, DONE, &[Short(0)]),
+    (
+        Operate(&[MakeCurrentLong(0)]),
+        1,
+        4,
+        FIRST_REFUSED,
+        &[Short(0)],
+    ),
+];
+
+const WINDOW: [Row; 9] = [
+    (Begin, 2, 3, DONE, &[Short(0), Short(1), Short(2)]),
+    // The least FrameNumWrap goes: at frame_num 1 those of 14, 15 and 0 are -2, -1 and 0.
+    (Begin, 15, 3, DONE, &[Short(13), Short(14), Short(15)]),
+    (Slide, 0, 3, DONE, &[Short(14), Short(15), Short(0)]),
+    (Slide, 1, 3, DONE, &[Short(15), Short(0), Short(1)]),
+    // max_num_ref_frames 0 leaves one place, and long-term frames do not slide.
+    (Begin, 1, 0, DONE, &[Short(1)]),
+    (BeginLong, 0, 1, DONE, &[Long(0, 0)]),
+    (Slide, 1, 1, ALL_REFUSED, &[Long(0, 0)]),
+    // Where more frames are held than there are places, one that goes does not make room.
+    (Begin, 3, 4, DONE, &[Short(0), Short(1), Short(2), Short(3)]),
+    (
+        Slide,
+        4,
+        2,
+        ALL_REFUSED,
+        &[Short(0), Short(1), Short(2), Short(3)],
+    ),
+];
+
+const GAPS: [Row; 13] = [
+    // The frames of missing numbers join by the window, also where frame_num wraps.
+    (Begin, 2, 4, DONE, &[Short(0), Short(1), Short(2)]),
+    (
+        Fill,
+        3,
+        4,
+        DONE,
+        &[Short(0), Short(1), Short(2), Missing(3)],
+    ),
+    (
+        Fill,
+        4,
+        4,
+        DONE,
+        &[Short(1), Short(2), Missing(3), Missing(4)],
+    ),
+    (Begin, 15, 2, DONE, &[Short(14), Short(15)]),
+    (Fill, 0, 2, DONE, &[Short(15), Missing(0)]),
+    (Fill, 1, 2, DONE, &[Missing(0), Missing(1)]),
+    // In one place also that of the number that goes.
+    (Begin, 1, 1, DONE, &[Short(1)]),
+    (Fill, 1, 1, DONE, &[Missing(1)]),
+    // A number that a short-term frame has, also once the window has slid.
+    (Begin, 2, 4, DONE, &[Short(0), Short(1), Short(2)]),
+    (Fill, 1, 4, UNFILLED, &[Short(0), Short(1), Short(2)]),
+    (Fill, 1, 3, UNFILLED, &[Short(0), Short(1), Short(2)]),
+    // Places that long-term frames take.
+    (BeginLong, 0, 1, DONE, &[Long(0, 0)]),
+    (Fill, 1, 1, UNFILLED, &[Long(0, 0)]),
+];
+
+/// Operation 1.
+const UNMARKED_SHORT: [Row; 9] = [
+    // picNumX is 4 - 2 of frame 2, and 0 - 2 of frame 14 once frame_num has wrapped.
+    (Begin, 3, 4, DONE, &[Short(0), Short(1), Short(2), Short(3)]),
+    (
+        Operate(&[UnmarkShort(1)]),
+        4,
+        4,
+        DONE,
+        &[Short(0), Short(1), Short(3), Short(4)],
+    ),
+    (Begin, 15, 3, DONE, &[Short(13), Short(14), Short(15)]),
+    (
+        Operate(&[UnmarkShort(1)]),
+        0,
+        3,
+        DONE,
+        &[Short(13), Short(15), Short(0)],
+    ),
+    // No frame has -1; the second operation finds what the first has left; frame 1 has an index.
+    (Begin, 2, 4, DONE, &[Short(0), Short(1), Short(2)]),
+    (
+        Operate(&[UnmarkShort(3)]),
+        3,
+        4,
+        FIRST_REFUSED,
+        &[Short(0), Short(1), Short(2)],
+    ),
+    (
+        Operate(&[UnmarkShort(0), UnmarkShort(0)]),
+        3,
+        4,
+        SECOND_REFUSED,
+        &[Short(0), Short(1), Short(2)],
+    ),
+    (TwoLong, 2, 4, DONE, &[Long(0, 0), Long(1, 1), Short(2)]),
+    (
+        Operate(&[UnmarkShort(1)]),
+        3,
+        4,
+        FIRST_REFUSED,
+        &[Long(0, 0), Long(1, 1), Short(2)],
+    ),
+];
+
+/// Operation 2.
+const UNMARKED_LONG: [Row; 4] = [
+    // The frame with index 0 goes; none has index 2.
+    (TwoLong, 2, 4, DONE, &[Long(0, 0), Long(1, 1), Short(2)]),
+    (
+        Operate(&[UnmarkLong(2)]),
+        3,
+        4,
+        FIRST_REFUSED,
+        &[Long(0, 0), Long(1, 1), Short(2)],
+    ),
+    (TwoLong, 2, 4, DONE, &[Long(0, 0), Long(1, 1), Short(2)]),
+    (
+        Operate(&[UnmarkLong(0)]),
+        3,
+        4,
+        DONE,
+        &[Long(1, 1), Short(2), Short(3)],
+    ),
+];
+
+/// Operation 3.
+const MADE_LONG: [Row; 11] = [
+    // Frame 2 gets a free index, or that of frame 1, which is then unused.
+    (TwoLong, 2, 4, DONE, &[Long(0, 0), Long(1, 1), Short(2)]),
+    (
+        Operate(&[MakeLong(0, 2)]),
+        3,
+        4,
+        DONE,
+        &[Long(0, 0), Long(1, 1), Long(2, 2), Short(3)],
+    ),
+    (TwoLong, 2, 4, DONE, &[Long(0, 0), Long(1, 1), Short(2)]),
+    (
+        Operate(&[MakeLong(0, 1)]),
+        3,
+        4,
+        DONE,
+        &[Long(0, 0), Long(2, 1), Short(3)],
+    ),
+    // There are the indices 0 to 2; no frame has PicNum 1; the frame of a gap does not exist; without operation 4 there is no index.
+    (TwoLong, 2, 4, DONE, &[Long(0, 0), Long(1, 1), Short(2)]),
+    (
+        Operate(&[MakeLong(0, 3)]),
+        3,
+        4,
+        FIRST_REFUSED,
+        &[Long(0, 0), Long(1, 1), Short(2)],
+    ),
+    (
+        Operate(&[MakeLong(1, 2)]),
+        3,
+        4,
+        FIRST_REFUSED,
+        &[Long(0, 0), Long(1, 1), Short(2)],
+    ),
+    (
+        Fill,
+        3,
+        4,
+        DONE,
+        &[Long(0, 0), Long(1, 1), Short(2), Missing(3)],
+    ),
+    (
+        Operate(&[MakeLong(0, 2)]),
+        4,
+        4,
+        FIRST_REFUSED,
+        &[Long(0, 0), Long(1, 1), Short(2), Missing(3)],
+    ),
+    (Begin, 1, 4, DONE, &[Short(0), Short(1)]),
+    (
+        Operate(&[MakeLong(0, 0)]),
+        2,
+        4,
+        FIRST_REFUSED,
+        &[Short(0), Short(1)],
+    ),
+];
+
+/// Operation 4.
+const LIMITED: [Row; 8] = [
+    // One index leaves frame 0, and none leaves no long-term frame and no index.
+    (TwoLong, 2, 4, DONE, &[Long(0, 0), Long(1, 1), Short(2)]),
+    (
+        Operate(&[Limit(1)]),
+        3,
+        4,
+        DONE,
+        &[Long(0, 0), Short(2), Short(3)],
+    ),
+    (
+        Operate(&[Limit(0)]),
+        4,
+        4,
+        DONE,
+        &[Short(2), Short(3), Short(4)],
+    ),
+    (
+        Operate(&[MakeCurrentLong(0)]),
+        5,
+        4,
+        FIRST_REFUSED,
+        &[Short(2), Short(3), Short(4)],
+    ),
+    // Four are as many as there may be.
+    (TwoLong, 2, 4, DONE, &[Long(0, 0), Long(1, 1), Short(2)]),
+    (
+        Operate(&[Limit(4), MakeLong(0, 3)]),
+        3,
+        4,
+        DONE,
+        &[Long(0, 0), Long(1, 1), Long(2, 3), Short(3)],
+    ),
+    (TwoLong, 2, 4, DONE, &[Long(0, 0), Long(1, 1), Short(2)]),
+    (
+        Operate(&[Limit(5)]),
+        3,
+        4,
+        FIRST_REFUSED,
+        &[Long(0, 0), Long(1, 1), Short(2)],
+    ),
+];
+
+/// Operation 5: the picture has frame_num 0 then, and there is no index before operation 4.
+const UNMARKED_ALL: [Row; 6] = [
+    (TwoLong, 2, 4, DONE, &[Long(0, 0), Long(1, 1), Short(2)]),
+    (Operate(&[UnmarkAll]), 3, 4, DONE, &[Reset(3)]),
+    (TwoLong, 2, 4, DONE, &[Long(0, 0), Long(1, 1), Short(2)]),
+    (
+        Operate(&[UnmarkAll, Limit(1), MakeCurrentLong(0)]),
+        3,
+        4,
+        DONE,
+        &[ResetLong(3, 0)],
+    ),
+    (TwoLong, 2, 4, DONE, &[Long(0, 0), Long(1, 1), Short(2)]),
+    (
+        Operate(&[UnmarkAll, MakeCurrentLong(0)]),
+        3,
+        4,
+        SECOND_REFUSED,
+        &[Long(0, 0), Long(1, 1), Short(2)],
+    ),
+];
+
+/// Operation 6.
+const MADE_CURRENT_LONG: [Row; 12] = [
+    // Frame 3 gets a free index, or that of frame 1; there is no index 3.
+    (TwoLong, 2, 4, DONE, &[Long(0, 0), Long(1, 1), Short(2)]),
+    (
+        Operate(&[MakeCurrentLong(2)]),
+        3,
+        4,
+        DONE,
+        &[Long(0, 0), Long(1, 1), Short(2), Long(3, 2)],
+    ),
+    (TwoLong, 2, 4, DONE, &[Long(0, 0), Long(1, 1), Short(2)]),
+    (
+        Operate(&[MakeCurrentLong(1)]),
+        3,
+        4,
+        DONE,
+        &[Long(0, 0), Short(2), Long(3, 1)],
+    ),
+    (TwoLong, 2, 4, DONE, &[Long(0, 0), Long(1, 1), Short(2)]),
+    (
+        Operate(&[MakeCurrentLong(3)]),
+        3,
+        4,
+        FIRST_REFUSED,
+        &[Long(0, 0), Long(1, 1), Short(2)],
+    ),
+    // No other operation takes the index, or the marking, from the picture's own frame.
+    (
+        Operate(&[MakeCurrentLong(1), UnmarkLong(1)]),
+        3,
+        4,
+        SECOND_REFUSED,
+        &[Long(0, 0), Long(1, 1), Short(2)],
+    ),
+    (
+        Operate(&[MakeCurrentLong(1), MakeLong(0, 1)]),
+        3,
+        4,
+        SECOND_REFUSED,
+        &[Long(0, 0), Long(1, 1), Short(2)],
+    ),
+    (
+        Operate(&[MakeCurrentLong(1), Limit(1)]),
+        3,
+        4,
+        SECOND_REFUSED,
+        &[Long(0, 0), Long(1, 1), Short(2)],
+    ),
+    (
+        Operate(&[MakeCurrentLong(1), UnmarkAll]),
+        3,
+        4,
+        SECOND_REFUSED,
+        &[Long(0, 0), Long(1, 1), Short(2)],
+    ),
+    (TwoLong, 2, 4, DONE, &[Long(0, 0), Long(1, 1), Short(2)]),
+    (
+        Operate(&[MakeCurrentLong(1), Limit(2)]),
+        3,
+        4,
+        DONE,
+        &[Long(0, 0), Short(2), Long(3, 1)],
+    ),
+];
 
 /// Operations make room, or the marking is refused as a whole.
-fn more_than_the_places(rt: &(impl Abort + AllocGlobal)) -> Result<(), Fail> {
-    let frames = [short(0), short(1), short(2), short(3)];
-    let held = after(3, 4)?;
-    stays(
-        rt,
-        held,
-        at(4, 4),
-        [].as_slice(),
-        MARKING,
-        frames.as_slice(),
-    );
-    let held = after(3, 4)?;
-    stays(
-        rt,
-        held,
-        at(4, 4),
-        [limit(2), make_long(0, 0)].as_slice(),
-        MARKING,
-        frames.as_slice(),
-    );
-    let mut held = after(3, 4)?;
-    operate(
-        &mut held,
-        at(4, 4),
-        [limit(2), make_long(0, 0), make_long(1, 0)].as_slice(),
-    )?;
-    assert_eq!(rt;
-        held.frames(),
-        [short(0), short(1), long(2, 0), short(4)].as_slice()
-    );
-    Ok(())
-}
+const ROOM: [Row; 4] = [
+    (Begin, 3, 4, DONE, &[Short(0), Short(1), Short(2), Short(3)]),
+    (
+        Operate(&[]),
+        4,
+        4,
+        ALL_REFUSED,
+        &[Short(0), Short(1), Short(2), Short(3)],
+    ),
+    (
+        Operate(&[Limit(2), MakeLong(0, 0)]),
+        4,
+        4,
+        ALL_REFUSED,
+        &[Short(0), Short(1), Short(2), Short(3)],
+    ),
+    (
+        Operate(&[Limit(2), MakeLong(0, 0), MakeLong(1, 0)]),
+        4,
+        4,
+        DONE,
+        &[Short(0), Short(1), Long(2, 0), Short(4)],
+    ),
+];
 
 #[test]
-fn idr_window_and_gaps(rt: HostRuntime) -> Result<(), Fail> {
-    idr_pictures(&rt)?;
-    window_slides(&rt)?;
-    window_of_one(&rt)?;
-    window_without_room(&rt)?;
-    gaps(&rt)?;
+fn idr_window_and_gaps(rt: HostRuntime) {
+    rows_hold(&rt, &IDR_PICTURES);
+    rows_hold(&rt, &WINDOW);
+    rows_hold(&rt, &GAPS);
     laws::unused_numbers();
-    gaps_refused(&rt)
 }
 
 #[test]
-fn operations(rt: HostRuntime) -> Result<(), Fail> {
-    operation_1(&rt)?;
-    operation_1_refused(&rt)?;
-    operation_2(&rt)?;
-    operation_3(&rt)?;
-    operation_3_refused(&rt)?;
-    operation_4(&rt)?;
-    operation_5(&rt)?;
-    operation_6(&rt)?;
-    own_index_stays(&rt)?;
-    more_than_the_places(&rt)
+fn operations(rt: HostRuntime) {
+    rows_hold(&rt, &UNMARKED_SHORT);
+    rows_hold(&rt, &UNMARKED_LONG);
+    rows_hold(&rt, &MADE_LONG);
+    rows_hold(&rt, &LIMITED);
+    rows_hold(&rt, &UNMARKED_ALL);
+    rows_hold(&rt, &MADE_CURRENT_LONG);
+    rows_hold(&rt, &ROOM);
 }
