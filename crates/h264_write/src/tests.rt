@@ -10,7 +10,7 @@ use h264_cavlc::block;
 use h264_rbsp::{Rbsp, check_emulation};
 use h264_tables::Table;
 use h264_units::Splitter;
-use std::alloc::Global;
+use std::alloc::{AllocError, Global};
 use std::process::Abort;
 use std::test::Fail;
 
@@ -43,46 +43,55 @@ fn rbsp(alloc: Global, body: &[u8]) -> Result<Rbsp, Stop> {
     Rbsp::of(alloc, &unit)
 }
 
-fn words_by_hand(rt: &(impl Abort + AllocGlobal)) -> Result<(), Fail> {
-    // 1, 010, 011, 00100, 010, 011, 101, 1, 0, and the trailing 1
-    let mut writer = Writer::new(rt.alloc());
-    writer.ue(0)?;
-    writer.ue(1)?;
-    writer.ue(2)?;
-    writer.ue(3)?;
+/// Whether these bytes are written.
+fn are_written(alloc: Global, writer: &Writer, bytes: &[u8]) -> Result<bool, AllocError> {
+    Ok(writer.bytes(alloc)?.as_slice() == bytes)
+}
+
+/// 1, 010, 011, 00100, and 010, 011.
+fn write_numbers_by_hand(writer: &mut Writer) -> Result<(), AllocError> {
+    for number in 0..4 {
+        writer.ue(number)?;
+    }
     writer.se(1)?;
-    writer.se(-1)?;
+    writer.se(-1)
+}
+
+/// 101, 1, 0.
+fn write_bits_by_hand(writer: &mut Writer) -> Result<(), AllocError> {
     writer.u(3, 5)?;
     writer.te(1, 0)?;
-    writer.te(1, 1)?;
+    writer.te(1, 1)
+}
+
+fn words_by_hand(rt: &(impl Abort + AllocGlobal)) -> Result<(), Fail> {
+    let mut writer = Writer::new(rt.alloc());
+    write_numbers_by_hand(&mut writer)?;
+    write_bits_by_hand(&mut writer)?;
     writer.trailing()?;
-    let bytes = writer.bytes(rt.alloc())?;
-    assert_eq!(rt; bytes.as_slice(), [0xA6, 0x44, 0xED].as_slice());
+    assert!(rt; are_written(rt.alloc(), &writer, &[0xA6, 0x44, 0xED])?);
     writer.trailing()?;
-    let bytes = writer.bytes(rt.alloc())?;
-    assert_eq!(rt; bytes.as_slice(), [0xA6, 0x44, 0xED, 0x80].as_slice());
+    assert!(rt; are_written(rt.alloc(), &writer, &[0xA6, 0x44, 0xED, 0x80])?);
     Ok(())
 }
 
-fn the_longest_words(rt: &(impl Abort + AllocGlobal)) -> Result<(), Fail> {
-    // 31 zeros and 32 ones, and the trailing 1
+/// 31 zeros and 32 ones, and the trailing 1.
+fn the_longest_unsigned(rt: &(impl Abort + AllocGlobal)) -> Result<(), Fail> {
     let mut writer = Writer::new(rt.alloc());
     writer.ue(4294967294)?;
     writer.trailing()?;
-    let bytes = writer.bytes(rt.alloc())?;
-    assert_eq!(rt;
-        bytes.as_slice(),
-        [0, 0, 0, 1, 0xFF, 0xFF, 0xFF, 0xFF].as_slice()
-    );
+    let bytes = [0, 0, 0, 1, 0xFF, 0xFF, 0xFF, 0xFF];
+    assert!(rt; are_written(rt.alloc(), &writer, &bytes)?);
+    Ok(())
+}
+
+/// 31 zeros, 32 ones, then 1, 30 zeros, 1, and one 0 more.
+fn the_longest_signed(rt: &(impl Abort + AllocGlobal)) -> Result<(), Fail> {
     let mut writer = Writer::new(rt.alloc());
     writer.se(-2147483647)?;
     writer.u(32, 2147483649)?;
-    let bytes = writer.bytes(rt.alloc())?;
-    // 31 zeros, 32 ones, then 1, 30 zeros, 1, and one 0 more
-    assert_eq!(rt;
-        bytes.as_slice(),
-        [0, 0, 0, 1, 0xFF, 0xFF, 0xFF, 0xFF, 0, 0, 0, 2].as_slice()
-    );
+    let bytes = [0, 0, 0, 1, 0xFF, 0xFF, 0xFF, 0xFF, 0, 0, 0, 2];
+    assert!(rt; are_written(rt.alloc(), &writer, &bytes)?);
     Ok(())
 }
 
@@ -98,28 +107,32 @@ fn a_unit_by_hand(rt: &(impl Abort + AllocGlobal)) -> Result<(), Fail> {
     Ok(())
 }
 
-// The first block that is worked in I. Richardson's text on CAVLC.
-fn a_published_block(rt: &(impl Abort + AllocGlobal)) -> Result<(), Fail> {
+/// The first block that is worked in I. Richardson's text on CAVLC: each table, and the value of its word.
+const PUBLISHED: [(Table, u8); 12] = [
+    (Table::CoeffTokenNc0, 23),
+    (Table::InvertedBit, 1),
+    (Table::InvertedBit, 0),
+    (Table::InvertedBit, 0),
+    (Table::LevelPrefix, 0),
+    (Table::LevelPrefix, 2),
+    (Table::InvertedBit, 1),
+    (Table::TotalZeros5, 3),
+    (Table::RunBefore3, 1),
+    (Table::RunBefore2, 0),
+    (Table::RunBefore2, 0),
+    (Table::RunBefore2, 1),
+];
+
+fn a_published_block_is_written(rt: &(impl Abort + AllocGlobal)) -> Result<(), Fail> {
     let mut writer = Writer::new(rt.alloc());
-    let words = [
-        (Table::CoeffTokenNc0, 23),
-        (Table::InvertedBit, 1),
-        (Table::InvertedBit, 0),
-        (Table::InvertedBit, 0),
-        (Table::LevelPrefix, 0),
-        (Table::LevelPrefix, 2),
-        (Table::InvertedBit, 1),
-        (Table::TotalZeros5, 3),
-        (Table::RunBefore3, 1),
-        (Table::RunBefore2, 0),
-        (Table::RunBefore2, 0),
-        (Table::RunBefore2, 1),
-    ];
-    for (table, value) in &words {
+    for (table, value) in &PUBLISHED {
         assert_eq!(rt; writer.word(*table, *value), Ok(()));
     }
-    let bytes = writer.bytes(rt.alloc())?;
-    assert_eq!(rt; bytes.as_slice(), [0x08, 0xE5, 0xED].as_slice());
+    assert!(rt; are_written(rt.alloc(), &writer, &[0x08, 0xE5, 0xED])?);
+    Ok(())
+}
+
+fn a_published_block_is_read(rt: &(impl Abort + AllocGlobal)) -> Result<(), Fail> {
     let body = unit(rt.alloc(), 0x65, &[0x08, 0xE5, 0xED])?;
     let rbsp = rbsp(rt.alloc(), &body)?;
     let levels = block::<16, Deaf>(&mut Bits::new(&rbsp), 0, &mut Deaf)?;
@@ -130,20 +143,24 @@ fn a_published_block(rt: &(impl Abort + AllocGlobal)) -> Result<(), Fail> {
     Ok(())
 }
 
+/// Values of which a table has a word, or none.
+const LAST_VALUES: [(Table, u8, Result<(), WriteError>); 4] = [
+    (Table::TotalZeros15, 1, Ok(())),
+    (Table::TotalZeros15, 2, Err(WriteError::NoWord)),
+    (Table::CoeffTokenChromaDc, 20, Err(WriteError::NoWord)),
+    (Table::CoeffTokenChromaDc, 19, Ok(())),
+];
+
 fn values_without_a_word(rt: &(impl Abort + AllocGlobal)) -> Result<(), Fail> {
     let mut writer = Writer::new(rt.alloc());
-    assert_eq!(rt; writer.word(Table::TotalZeros15, 1), Ok(()));
-    assert_eq!(rt;
-        writer.word(Table::TotalZeros15, 2),
-        Err(WriteError::NoWord)
-    );
-    assert_eq!(rt;
-        writer.word(Table::CoeffTokenChromaDc, 20),
-        Err(WriteError::NoWord)
-    );
-    assert_eq!(rt; writer.word(Table::CoeffTokenChromaDc, 19), Ok(()));
-    let bytes = writer.bytes(rt.alloc())?;
-    assert_eq!(rt; bytes.as_slice(), [0x80].as_slice());
+    for (table, value, answer) in &LAST_VALUES {
+        assert_eq!(rt;
+            writer.word(*table, *value),
+            *answer,
+            "{value} of {table:?}"
+        );
+    }
+    assert!(rt; are_written(rt.alloc(), &writer, &[0x80])?);
     Ok(())
 }
 
@@ -152,13 +169,18 @@ fn next(seed: u32) -> u32 {
     seed.wrapping_mul(1_664_525).wrapping_add(1_013_904_223)
 }
 
-/// Writes one element of each kind, with values from a number below 65536.
-fn write_elements(writer: &mut Writer, number: u32) -> Result<(), Fail>
+/// Writes a number below 65536 in three ways.
+fn write_numbers(writer: &mut Writer, number: u32) -> Result<(), Fail>
     requires { number < 65536 }
 {
     writer.u(16, number)?;
     writer.ue(number)?;
     writer.se(number as i32 - 30000)?;
+    Ok(())
+}
+
+/// Writes words with values from a number.
+fn write_words(writer: &mut Writer, number: u32) -> Result<(), Fail> {
     writer.te(1, number % 2)?;
     writer.te(5, number % 6)?;
     writer.word(Table::CodedBlockPatternIntra, (number % 48) as u8)?;
@@ -166,40 +188,61 @@ fn write_elements(writer: &mut Writer, number: u32) -> Result<(), Fail>
     Ok(())
 }
 
-/// Whether these elements stand there.
-fn elements_stand(bits: &mut Bits, number: u32) -> bool
+/// Whether the number stands there in three ways.
+fn numbers_stand(bits: &mut Bits, number: u32) -> bool
     requires { number < 65536 }
 {
     bits.u::<16>() == Ok(number)
         && bits.ue() == Ok(number)
         && bits.se() == Ok(number as i32 - 30000)
-        && bits.te(1) == Ok(number % 2)
+}
+
+/// Whether the words stand there.
+fn words_stand(bits: &mut Bits, number: u32) -> bool {
+    bits.te(1) == Ok(number % 2)
         && bits.te(5) == Ok(number % 6)
         && bits.word(Table::CodedBlockPatternIntra) == Ok((number % 48) as u8)
         && bits.word(Table::LevelPrefix) == Ok((number % 16) as u8)
 }
 
-fn elements_read_back(rt: &(impl Abort + AllocGlobal)) -> Result<(), Fail> {
-    let mut writer = Writer::new(rt.alloc());
+/// 300 elements of each kind, with numbers that look random.
+fn elements_written(alloc: Global) -> Result<Vec<u8>, Fail> {
+    let mut writer = Writer::new(alloc);
     let mut seed = 264;
     for _ in 0..300 {
         seed = next(seed);
-        write_elements(&mut writer, seed / 65536)?;
+        write_numbers(&mut writer, seed / 65536)?;
+        write_words(&mut writer, seed / 65536)?;
     }
     writer.trailing()?;
-    let bytes = writer.bytes(rt.alloc())?;
-    assert!(rt; bytes.len() > 0);
-    assert_ne!(rt; bytes[bytes.len() - 1], 0);
-    let body = unit(rt.alloc(), 0x41, &bytes)?;
-    let rbsp = rbsp(rt.alloc(), &body)?;
-    assert_eq!(rt; rbsp.bytes(), bytes.as_slice());
-    let mut bits = Bits::new(&rbsp);
+    Ok(writer.bytes(alloc)?)
+}
+
+/// Whether those elements stand there, and nothing else.
+fn elements_stand(bits: &mut Bits) -> bool {
     let mut seed = 264;
     for _ in 0..300 {
         seed = next(seed);
-        assert!(rt; elements_stand(&mut bits, seed / 65536));
+        if !numbers_stand(bits, seed / 65536) || !words_stand(bits, seed / 65536) {
+            return false;
+        }
     }
-    assert_eq!(rt; bits.trailing(), Ok(()));
+    bits.trailing() == Ok(())
+}
+
+/// The RBSP of a unit with these bytes as its RBSP.
+fn rbsp_in_unit(rt: &(impl Abort + AllocGlobal), bytes: &[u8]) -> Result<Rbsp, Fail> {
+    assert!(rt; bytes.len() > 0);
+    assert_ne!(rt; bytes[bytes.len() - 1], 0);
+    let body = unit(rt.alloc(), 0x41, bytes)?;
+    Ok(rbsp(rt.alloc(), &body)?)
+}
+
+fn elements_read_back(rt: &(impl Abort + AllocGlobal)) -> Result<(), Fail> {
+    let bytes = elements_written(rt.alloc())?;
+    let rbsp = rbsp_in_unit(rt, &bytes)?;
+    assert_eq!(rt; rbsp.bytes(), bytes.as_slice());
+    assert!(rt; elements_stand(&mut Bits::new(&rbsp)));
     Ok(())
 }
 
@@ -213,24 +256,27 @@ fn write_bits(writer: &mut Writer, n: u32, number: u32) -> Result<(), Fail>
     Ok(())
 }
 
-/// Writes level_prefix and level_suffix of a levelCode (9.2.2.1).
-fn write_level_code(writer: &mut Writer, code: u32, suffix_length: u32) -> Result<(), Fail> {
+/// level_prefix of a levelCode, and level_suffix with its length before it (9.2.2.1).
+fn level_words(code: u32, suffix_length: u32) -> (u8, u32, u32)
+    ensures { result.1 ≤ 32 }
+{
     let length = suffix_length.min(6);
     let prefix = code >> length;
     if length == 0 && code >= 14 && code < 30 {
-        writer.word(Table::LevelPrefix, 14)?;
-        return write_bits(writer, 4, code - 14);
+        (14, 4, code - 14)
+    } else if length == 0 && code >= 30 {
+        (15, 12, code - 30)
+    } else if prefix < 15 {
+        (prefix as u8, length, code)
+    } else {
+        (15, 12, code.wrapping_sub(15 << length))
     }
-    if length == 0 && code >= 30 {
-        writer.word(Table::LevelPrefix, 15)?;
-        return write_bits(writer, 12, code - 30);
-    }
-    if prefix < 15 {
-        writer.word(Table::LevelPrefix, prefix as u8)?;
-        return write_bits(writer, length, code);
-    }
-    writer.word(Table::LevelPrefix, 15)?;
-    write_bits(writer, 12, code.wrapping_sub(15 << length))
+}
+
+fn write_level_code(writer: &mut Writer, code: u32, suffix_length: u32) -> Result<(), Fail> {
+    let (prefix, length, suffix) = level_words(code, suffix_length);
+    writer.word(Table::LevelPrefix, prefix)?;
+    write_bits(writer, length, suffix)
 }
 
 /// levelCode of a level.
@@ -282,6 +328,31 @@ fn write_zeros(writer: &mut Writer, levels: &[(u8, i16)], total: u8) -> Result<(
     Ok(())
 }
 
+/// The levels of a block with their places, from the highest down.
+fn levels_of(alloc: Global, by_place: &[i16; 16]) -> Result<Vec<(u8, i16)>, AllocError> {
+    let mut levels = Vec::new(alloc);
+    let mut place = 16u8;
+    for level in by_place.iter().rev() {
+        place = place.wrapping_sub(1);
+        if *level != 0 {
+            levels.push((place, *level))?;
+        }
+    }
+    Ok(levels)
+}
+
+/// How many of the first levels are trailing ones.
+fn ones_of(levels: &[(u8, i16)]) -> u8 {
+    let mut ones = 0u8;
+    for (_place, level) in levels {
+        if ones == 3 || level.unsigned_abs() != 1 {
+            return ones;
+        }
+        ones = ones.wrapping_add(1);
+    }
+    ones
+}
+
 /// Writes a block of 16 (7.3.5.3.2).
 fn write_block(
     alloc: Global,
@@ -289,25 +360,9 @@ fn write_block(
     nc: u8,
     by_place: &[i16; 16],
 ) -> Result<(), Fail> {
-    let mut levels = Vec::new(alloc);
-    let mut place = 16u8;
-    let mut total = 0u8;
-    let mut ones = 0u8;
-    let mut only_ones = true;
-    for level in by_place.iter().rev() {
-        place = place.wrapping_sub(1);
-        if *level != 0 {
-            levels.push((place, *level))?;
-            total = total.wrapping_add(1);
-            only_ones = only_ones && level.unsigned_abs() == 1;
-            ones = if only_ones {
-                ones.wrapping_add(1)
-            } else {
-                ones
-            };
-        }
-    }
-    let ones = ones.min(3);
+    let levels = levels_of(alloc, by_place)?;
+    let total = (levels.len() & 31) as u8;
+    let ones = ones_of(&levels);
     writer.word(Table::coeff_token(nc), total.wrapping_mul(4) | ones)?;
     write_levels(writer, &levels, usize::from(ones))?;
     write_zeros(writer, &levels, total)
@@ -353,24 +408,28 @@ fn shape_of(i: u32) -> (u32, u32)
     )
 }
 
-fn blocks_read_back(rt: &(impl Abort + AllocGlobal)) -> Result<(), Fail> {
-    let mut writer = Writer::new(rt.alloc());
+/// Block `i`, which looks random.
+fn block_of(i: u32) -> [i16; 16] {
+    let (rare, most) = shape_of(i);
+    random_block(i, rare, most)
+}
+
+fn blocks_written(alloc: Global) -> Result<Vec<u8>, Fail> {
+    let mut writer = Writer::new(alloc);
     for i in 0..200u32 {
-        let (rare, most) = shape_of(i);
-        let by_place = random_block(i, rare, most);
-        write_block(rt.alloc(), &mut writer, (i % 10) as u8, &by_place)?;
+        write_block(alloc, &mut writer, (i % 10) as u8, &block_of(i))?;
     }
     writer.trailing()?;
-    let bytes = writer.bytes(rt.alloc())?;
-    assert!(rt; bytes.len() > 0);
-    assert_ne!(rt; bytes[bytes.len() - 1], 0);
-    let body = unit(rt.alloc(), 0x41, &bytes)?;
-    let rbsp = rbsp(rt.alloc(), &body)?;
+    Ok(writer.bytes(alloc)?)
+}
+
+fn blocks_read_back(rt: &(impl Abort + AllocGlobal)) -> Result<(), Fail> {
+    let bytes = blocks_written(rt.alloc())?;
+    let rbsp = rbsp_in_unit(rt, &bytes)?;
     let mut bits = Bits::new(&rbsp);
     for i in 0..200u32 {
-        let (rare, most) = shape_of(i);
         let levels = block::<16, Deaf>(&mut bits, (i % 10) as u8, &mut Deaf)?;
-        assert_eq!(rt; levels.by_place, random_block(i, rare, most));
+        assert_eq!(rt; levels.by_place, block_of(i), "block {i}");
     }
     assert_eq!(rt; bits.trailing(), Ok(()));
     Ok(())
@@ -379,9 +438,11 @@ fn blocks_read_back(rt: &(impl Abort + AllocGlobal)) -> Result<(), Fail> {
 #[test]
 fn written_by_hand(rt: HostRuntime) -> Result<(), Fail> {
     words_by_hand(&rt)?;
-    the_longest_words(&rt)?;
+    the_longest_unsigned(&rt)?;
+    the_longest_signed(&rt)?;
     a_unit_by_hand(&rt)?;
-    a_published_block(&rt)?;
+    a_published_block_is_written(&rt)?;
+    a_published_block_is_read(&rt)?;
     values_without_a_word(&rt)
 }
 
