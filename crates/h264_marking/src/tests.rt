@@ -594,13 +594,25 @@ fn idr_window_and_gaps(rt: HostRuntime) {
     laws::unused_numbers();
 }
 
+fn operations_1_and_2(rt: &impl Abort) {
+    rows_hold(rt, &UNMARKED_SHORT);
+    rows_hold(rt, &UNMARKED_LONG);
+}
+
+fn operations_3_and_4(rt: &impl Abort) {
+    rows_hold(rt, &MADE_LONG);
+    rows_hold(rt, &LIMITED);
+}
+
+fn operations_5_and_6(rt: &impl Abort) {
+    rows_hold(rt, &UNMARKED_ALL);
+    rows_hold(rt, &MADE_CURRENT_LONG);
+    rows_hold(rt, &ROOM);
+}
+
 #[test]
 fn operations(rt: HostRuntime) {
-    rows_hold(&rt, &UNMARKED_SHORT);
-    rows_hold(&rt, &UNMARKED_LONG);
-    rows_hold(&rt, &MADE_LONG);
-    rows_hold(&rt, &LIMITED);
-    rows_hold(&rt, &UNMARKED_ALL);
-    rows_hold(&rt, &MADE_CURRENT_LONG);
-    rows_hold(&rt, &ROOM);
+    operations_1_and_2(&rt);
+    operations_3_and_4(&rt);
+    operations_5_and_6(&rt);
 }
