@@ -94,9 +94,8 @@ fn rbsp(alloc: Global, stream: &[u8]) -> Result<Rbsp, Stop> {
     Rbsp::of(alloc, &unit)
 }
 
-/// What the macroblocks of a slice with so many reference pictures take from it.
+/// What the macroblocks of a slice with so many reference pictures, at most 16, take from it.
 fn slice(slice_type: SliceType, active: u32) -> SliceContext
-    requires { active ≤ 16 }
     ensures { Usable result }
 {
     let mut references = [None; 16];
@@ -106,7 +105,7 @@ fn slice(slice_type: SliceType, active: u32) -> SliceContext
         number: 0,
         slice_type,
         qp: 26,
-        active,
+        active: active.min(16),
         references,
         constrained_intra: false,
         chroma_qp_index_offset: 0,
@@ -153,6 +152,34 @@ fn read(
     Ok(bits.stream_bit().saturating_sub(32))
 }
 
+/// Reads a macroblock, and sees that all digits are read.
+fn read_whole(
+    rt: &(impl Abort + AllocGlobal),
+    slice: &SliceContext,
+    digits: &[u8],
+    mb: &mut Macroblock,
+) -> Result<(), Fail>
+    requires { Usable slice.now }
+{
+    let length = read(rt.alloc(), slice, digits, mb)?;
+    assert_eq!(rt; length, digits.len() as u64);
+    Ok(())
+}
+
+/// The same of a text.
+fn read_text(
+    rt: &(impl Abort + AllocGlobal),
+    slice: &SliceContext,
+    text: &str,
+    mb: &mut Macroblock,
+) -> Result<(), Fail>
+    requires { Usable slice.now }
+{
+    let mut digits = Vec::new(rt.alloc());
+    add(&mut digits, text)?;
+    read_whole(rt, slice, &digits, mb)
+}
+
 /// What follows mb_type of an Intra 16x16 macroblock without coefficients, by table 7-11.
 fn add_intra16x16(digits: &mut Vec<u8>, t: u32) -> Result<(), AllocError>
     requires { 1 ≤ t }
@@ -176,7 +203,8 @@ fn add_intra16x16(digits: &mut Vec<u8>, t: u32) -> Result<(), AllocError>
 fn intra_types(rt: HostRuntime) -> Result<(), Fail> {
     each_intra16x16(&rt, SliceType::I, 0)?;
     each_intra16x16(&rt, SliceType::P, 5)?;
-    blocks_4x4(&rt)?;
+    predicted_modes(&rt)?;
+    a_mode_of_its_own(&rt)?;
     samples(&rt)
 }
 
@@ -192,42 +220,33 @@ fn each_intra16x16(
         let mut digits = Vec::new(rt.alloc());
         add_ue(&mut digits, first + t)?;
         add_intra16x16(&mut digits, t)?;
-        let length = read(rt.alloc(), &slice(slice_type, 1), &digits, &mut mb)?;
-        assert_eq!(rt; length, digits.len() as u64);
+        read_whole(rt, &slice(slice_type, 1), &digits, &mut mb)?;
         match mb.kind {
             Kind::Intra16x16 { mode } => assert_eq!(rt; mode as u32, (t - 1) % 4),
-            _ => assert!(rt; false),
+            _ => assert!(rt; false, "type {t}"),
         }
     }
     Ok(())
 }
 
-fn blocks_4x4(rt: &(impl Abort + AllocGlobal)) -> Result<(), Fail> {
+/// Sixteen predicted modes, and codeNum 3 of coded_block_pattern: nothing is coded.
+fn predicted_modes(rt: &(impl Abort + AllocGlobal)) -> Result<(), Fail> {
     let mut mb = Macroblock::none();
     let i = slice(SliceType::I, 1);
-    // Sixteen predicted modes, and codeNum 3 of coded_block_pattern: nothing is coded.
-    let mut digits = Vec::new(rt.alloc());
-    add(&mut digits, "1 1111111111111111 1 00100")?;
-    assert_eq!(rt;
-        read(rt.alloc(), &i, &digits, &mut mb)?,
-        digits.len() as u64
-    );
+    read_text(rt, &i, "1 1111111111111111 1 00100", &mut mb)?;
     assert!(rt; matches!(mb.kind, Kind::Intra4x4));
     assert_eq!(rt; (mb.contexts.modes, mb.qp), ([2; 16], 26));
-    // A first mode of its own, 1; codeNum 0: all is coded; mb_qp_delta -26.
-    let mut digits = Vec::new(rt.alloc());
-    add(
-        &mut digits,
-        "1 0001 111111111111111 1 1 00000110101 1111111111111111 01 01 11111111",
-    )?;
-    assert_eq!(rt;
-        read(rt.alloc(), &i, &digits, &mut mb)?,
-        digits.len() as u64
-    );
-    assert_eq!(rt;
-        (mb.contexts.modes[0], mb.contexts.modes[1], mb.qp),
-        (1, 1, 0)
-    );
+    Ok(())
+}
+
+/// A first mode of its own, 1; codeNum 0: all is coded; mb_qp_delta -26.
+fn a_mode_of_its_own(rt: &(impl Abort + AllocGlobal)) -> Result<(), Fail> {
+    let mut mb = Macroblock::none();
+    let i = slice(SliceType::I, 1);
+    let text = "1 0001 111111111111111 1 1 00000110101 1111111111111111 01 01 11111111";
+    read_text(rt, &i, text, &mut mb)?;
+    let modes = mb.contexts.modes;
+    assert_eq!(rt; (modes[0], modes[1], mb.qp), (1, 1, 0));
     Ok(())
 }
 
@@ -238,11 +257,7 @@ fn samples(rt: &(impl Abort + AllocGlobal)) -> Result<(), Fail> {
     for _turn in 1..384 {
         add(&mut digits, "01010101")?;
     }
-    let i = slice(SliceType::I, 1);
-    assert_eq!(rt;
-        read(rt.alloc(), &i, &digits, &mut mb)?,
-        digits.len() as u64
-    );
+    read_whole(rt, &slice(SliceType::I, 1), &digits, &mut mb)?;
     assert!(rt; matches!(mb.kind, Kind::Pcm));
     assert_eq!(rt; (mb.pcm[0], mb.pcm[383], mb.qp), (0x11, 0x55, 26));
     assert_eq!(rt; mb.contexts.totals, [16; 16]);
@@ -252,103 +267,77 @@ fn samples(rt: &(impl Abort + AllocGlobal)) -> Result<(), Fail> {
 #[test]
 fn inter_types(rt: HostRuntime) -> Result<(), Fail> {
     parts(&rt)?;
-    references(&rt)?;
     refused(&rt)?;
     skipped(&rt);
     Ok(())
 }
 
-/// Reads an inter macroblock of a slice with so many active references, and sees that all digits are read.
-fn inter(
-    rt: &(impl Abort + AllocGlobal),
-    active: u32,
-    text: &str,
-    mb: &mut Macroblock,
-) -> Result<(), Fail>
-    requires { active ≤ 16 }
-{
-    let mut digits = Vec::new(rt.alloc());
-    add(&mut digits, text)?;
-    let length = read(rt.alloc(), &slice(SliceType::P, active), &digits, mb)?;
-    assert_eq!(rt; length, digits.len() as u64);
-    assert!(rt; matches!(mb.kind, Kind::Inter));
-    Ok(())
-}
-
 /// The reference and the vector of a block.
-fn motion(mb: &Macroblock, b: usize) -> Option<(u8, u64, i16, i16)>
-    requires { b ≤ 15 }
-{
-    match mb.contexts.motions[b] {
-        None => None,
+fn motion(mb: &Macroblock, b: usize) -> Option<(u8, u64, i16, i16)> {
+    match mb.contexts.motions.get(b) {
         Some(
-            Motion {
-                ref_idx,
-                picture,
-                vector: Vector { x, y },
-            },
-        ) => Some((ref_idx, picture, x, y)),
+            Some(
+                Motion {
+                    ref_idx,
+                    picture,
+                    vector: Vector { x, y },
+                },
+            ),
+        ) => Some((*ref_idx, *picture, *x, *y)),
+        _ => None,
     }
 }
+
+/// Inter macroblocks of slices with so many active references: a block, and its ref_idx, picture and vector.
+const PARTS: [(u32, &str, usize, (u8, u64, i16, i16)); 10] = [
+    // 16x16 by (1, -1); coded_block_pattern 16, of which only the DC blocks stand there.
+    (1, "1 010 011 010 1 01 01", 15, (0, 5, 1, -1)),
+    // 16x8: (1, 0), and from it (1, 1) below.
+    (1, "010 010 1 1 010 1", 7, (0, 5, 1, 0)),
+    (1, "010 010 1 1 010 1", 8, (0, 5, 1, 1)),
+    // 8x16: (1, 0) and, from C or by the median, (0, 1).
+    (1, "011 010 1 011 010 1", 1, (0, 5, 1, 0)),
+    (1, "011 010 1 011 010 1", 4, (0, 5, 0, 1)),
+    // 8x8, 8x4, 4x8 and 4x4.
+    (
+        1,
+        "00100 1 010 011 00100 11 1111 1111 11111111 1",
+        15,
+        (0, 5, 0, 0),
+    ),
+    // All references 0, whatever is active.
+    (2, "00101 1 1 1 1 11 11 11 11 1", 15, (0, 5, 0, 0)),
+    // te(v) of two: one bit, inverted. Of three: ue(v).
+    (2, "1 0 11 1", 0, (1, 6, 0, 0)),
+    (3, "010 010 1 11 11 1", 0, (1, 6, 0, 0)),
+    (3, "010 010 1 11 11 1", 8, (0, 5, 0, 0)),
+];
 
 fn parts(rt: &(impl Abort + AllocGlobal)) -> Result<(), Fail> {
     let mut mb = Macroblock::none();
-    // 16x16 by (1, -1); coded_block_pattern 16, of which only the DC blocks stand there.
-    inter(rt, 1, "1 010 011 010 1 01 01", &mut mb)?;
-    assert_eq!(rt; motion(&mb, 15), Some((0, 5, 1, -1)));
-    // 16x8: (1, 0), and from it (1, 1) below.
-    inter(rt, 1, "010 010 1 1 010 1", &mut mb)?;
-    assert_eq!(rt;
-        (motion(&mb, 7), motion(&mb, 8)),
-        (Some((0, 5, 1, 0)), Some((0, 5, 1, 1)))
-    );
-    // 8x16: (1, 0) and, from C or by the median, (0, 1).
-    inter(rt, 1, "011 010 1 011 010 1", &mut mb)?;
-    assert_eq!(rt;
-        (motion(&mb, 1), motion(&mb, 4)),
-        (Some((0, 5, 1, 0)), Some((0, 5, 0, 1)))
-    );
-    // 8x8, 8x4, 4x8 and 4x4.
-    inter(
-        rt,
-        1,
-        "00100 1 010 011 00100 11 1111 1111 11111111 1",
-        &mut mb,
-    )?;
-    assert_eq!(rt; motion(&mb, 15), Some((0, 5, 0, 0)));
-    // All references 0, whatever is active.
-    inter(rt, 2, "00101 1 1 1 1 11 11 11 11 1", &mut mb)?;
-    assert_eq!(rt; motion(&mb, 15), Some((0, 5, 0, 0)));
+    for (active, text, block, expected) in &PARTS {
+        read_text(rt, &slice(SliceType::P, *active), text, &mut mb)?;
+        assert!(rt; matches!(mb.kind, Kind::Inter), "{text}");
+        assert_eq!(rt;
+            motion(&mb, *block),
+            Some(*expected),
+            "block {block} of {text}"
+        );
+    }
     Ok(())
 }
 
-fn references(rt: &(impl Abort + AllocGlobal)) -> Result<(), Fail> {
-    let mut mb = Macroblock::none();
-    // te(v) of two: one bit, inverted. Of three: ue(v).
-    inter(rt, 2, "1 0 11 1", &mut mb)?;
-    assert_eq!(rt; motion(&mb, 0), Some((1, 6, 0, 0)));
-    inter(rt, 3, "010 010 1 11 11 1", &mut mb)?;
-    assert_eq!(rt;
-        (motion(&mb, 0), motion(&mb, 8)),
-        (Some((1, 6, 0, 0)), Some((0, 5, 0, 0)))
-    );
-    Ok(())
-}
-
+/// The third place of the list has no picture.
 fn refused(rt: &(impl Abort + AllocGlobal)) -> Result<(), Fail> {
     let mut mb = Macroblock::none();
     let mut digits = Vec::new(rt.alloc());
-    // The third place of the list has no picture.
     add(&mut digits, "1 011")?;
-    match read(rt.alloc(), &slice(SliceType::P, 3), &digits, &mut mb) {
-        Err(
-            Stop::No {
-                bit,
-                rule: Rule::NoReference,
-            },
-        ) => assert_eq!(rt; bit, 33),
-        _ => assert!(rt; false),
-    }
+    let found = read(rt.alloc(), &slice(SliceType::P, 3), &digits, &mut mb);
+    let expected = Err(Stop::No {
+        bit: 33,
+        rule: Rule::NoReference,
+    });
+    assert_eq!(rt; found, expected);
     Ok(())
 }
 
