@@ -390,13 +390,21 @@ const WRAPPED: [Built; 3] = [
     (3, &[Subtract(3)], Err(40)),
 ];
 
+fn moved_once(rt: &impl Abort) {
+    rows_give(rt, &SUBTRACTED);
+    rows_give(rt, &ADDED);
+}
+
+fn moved_in_turn(rt: &impl Abort) {
+    rows_give(rt, &IN_TURN);
+    rows_give(rt, &ABSENT);
+}
+
 #[test]
 fn lists_of_frames(rt: HostRuntime) {
     rows_give(&rt, &INITIAL);
-    rows_give(&rt, &SUBTRACTED);
-    rows_give(&rt, &ADDED);
-    rows_give(&rt, &IN_TURN);
-    rows_give(&rt, &ABSENT);
+    moved_once(&rt);
+    moved_in_turn(&rt);
 }
 
 #[test]

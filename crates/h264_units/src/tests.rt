@@ -71,39 +71,40 @@ fn split(alloc: Global, bytes: &[u8], first: usize, size: usize) -> Result<Strin
     Ok(told)
 }
 
+/// Inputs, each with its units and how it ends. The longest has 26 bytes.
+const INPUTS: [(&[u8], &str); 17] = [
+    (b"", "end 0"),
+    (
+        b"\0\0\0\x01\x67\x42\xC0\x0A\xDA\x71\0\0\0\x01\x68\xCE\x38\x80\0\0\x01\x65\x88\x84\x93\xC0",
+        "4:6742C00ADA71 14:68CE3880 21:65888493C0 end 26",
+    ),
+    (b"\0\0\0\0", "end 4"),
+    (b"\0\0\x02", "ByteStream 16"),
+    (b"\x01", "ByteStream 0"),
+    (b"\0\x01", "ByteStream 8"),
+    (b"\0\0\x01", "EmptyUnit 24"),
+    (b"\0\0\0\x01\0\0", "EmptyUnit 32"),
+    (b"\0\0\x01\0\0\0", "EmptyUnit 24"),
+    (b"\0\0\x01\0\0\x01\x42", "EmptyUnit 24"),
+    (b"\0\0\x01\x65", "3:65 end 4"),
+    (b"\0\0\x01\x65\0\0", "3:65 end 6"),
+    (b"\0\0\x01\x65\0\0\0\0\0", "3:65 end 9"),
+    (b"\0\0\x01\x65\0\0\0\x07", "3:65 ByteStream 56"),
+    (b"\0\0\x01\x41\0\0\x01\x42", "3:41 7:42 end 8"),
+    (b"\0\0\x01\x09\x10\0\0\x03\0", "3:0910000003 end 9"),
+    (
+        b"\0\0\x01\0\0\x02\0\x01\0\0\x01\x09",
+        "3:0000020001 11:09 end 12",
+    ),
+];
+
 #[test]
 fn splits_in_every_way(rt: HostRuntime) -> Result<(), Fail> {
-    let table: [(&[u8], &str); 17] = [
-        (b"", "end 0"),
-        (
-            b"\0\0\0\x01\x67\x42\xC0\x0A\xDA\x71\0\0\0\x01\x68\xCE\x38\x80\0\0\x01\x65\x88\x84\x93\xC0",
-            "4:6742C00ADA71 14:68CE3880 21:65888493C0 end 26",
-        ),
-        (b"\0\0\0\0", "end 4"),
-        (b"\0\0\x02", "ByteStream 16"),
-        (b"\x01", "ByteStream 0"),
-        (b"\0\x01", "ByteStream 8"),
-        (b"\0\0\x01", "EmptyUnit 24"),
-        (b"\0\0\0\x01\0\0", "EmptyUnit 32"),
-        (b"\0\0\x01\0\0\0", "EmptyUnit 24"),
-        (b"\0\0\x01\0\0\x01\x42", "EmptyUnit 24"),
-        (b"\0\0\x01\x65", "3:65 end 4"),
-        (b"\0\0\x01\x65\0\0", "3:65 end 6"),
-        (b"\0\0\x01\x65\0\0\0\0\0", "3:65 end 9"),
-        (b"\0\0\x01\x65\0\0\0\x07", "3:65 ByteStream 56"),
-        (b"\0\0\x01\x41\0\0\x01\x42", "3:41 7:42 end 8"),
-        (b"\0\0\x01\x09\x10\0\0\x03\0", "3:0910000003 end 9"),
-        (
-            b"\0\0\x01\0\0\x02\0\x01\0\0\x01\x09",
-            "3:0000020001 11:09 end 12",
-        ),
-    ];
-    for (bytes, want) in table {
-        // The longest of them has 26 bytes.
+    for (bytes, expected) in &INPUTS {
         for first in 0..27 {
             for size in 1..28 {
                 let told = split(rt.alloc(), bytes, first, size)?;
-                assert_eq!(rt; told.as_str(), want, "first {first}, size {size}");
+                assert_eq!(rt; told.as_str(), *expected, "first {first}, size {size}");
             }
         }
     }
@@ -115,8 +116,8 @@ fn repeats_a_stop(rt: &(impl Abort + AllocGlobal)) {
     let stop = splitter.push(b"\0\0\x02");
     assert!(rt; stop.is_err());
     assert_eq!(rt; splitter.push(b"\0\0\x01\x65"), stop);
-    assert!(rt; splitter.take_unit().is_none());
-    assert!(rt; !splitter.waiting());
+    let waits = (splitter.waiting(), splitter.take_unit().is_some());
+    assert_eq!(rt; waits, (false, false));
     assert!(rt; splitter.finish().is_err());
     assert_eq!(rt; splitter.length(), 0);
 }
