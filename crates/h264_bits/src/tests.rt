@@ -107,23 +107,26 @@ fn words_are(bits: &mut Bits, sink: &mut Last, words: &[(Table, u8, u64)]) -> Re
 /// The sequence parameter set of one macroblock at level 1: its unit begins at byte 4, its RBSP at bit 40.
 const SET: [u8; 10] = [0, 0, 0, 1, 0x67, 0x42, 0xC0, 0x0A, 0xDA, 0x71];
 
+/// Its fields up to level_idc: width, value and place.
+const SET_FIELDS: [(u32, u32, u64); 6] = [
+    (8, 66, 40),
+    (1, 1, 48),
+    (1, 1, 49),
+    (4, 0, 50),
+    (2, 0, 54),
+    (8, 10, 56),
+];
+
+/// Its numbers behind them.
+const SET_NUMBERS: [(u32, u64); 4] = [(0, 64), (0, 65), (2, 66), (1, 69)];
+
 fn a_parameter_set_reads(rt: &(impl Abort + AllocGlobal)) -> Result<(), Fail> {
     let rbsp = rbsp(rt.alloc(), &SET)?;
     let mut bits = Bits::new(&rbsp);
     let mut sink = untold();
-    let fields = [
-        (8, 66, 40),
-        (1, 1, 48),
-        (1, 1, 49),
-        (4, 0, 50),
-        (2, 0, 54),
-        (8, 10, 56),
-    ];
-    assert!(rt; fields_are(&mut bits, &mut sink, &fields)?);
-    assert!(rt; numbers_are(&mut bits, &mut sink, &[(0, 64), (0, 65), (2, 66), (1, 69)])?);
-    assert_eq!(rt; sink.count, 10);
-    assert_eq!(rt; sink.bit, 69);
-    assert_eq!(rt; sink.value, 1);
+    assert!(rt; fields_are(&mut bits, &mut sink, &SET_FIELDS)?);
+    assert!(rt; numbers_are(&mut bits, &mut sink, &SET_NUMBERS)?);
+    assert_eq!(rt; (sink.count, sink.bit, sink.value), (10, 69, 1));
     Ok(())
 }
 
@@ -135,56 +138,51 @@ fn a_parameter_set_ends(rt: &(impl Abort + AllocGlobal)) -> Result<(), Fail> {
     let rest = read_u::<7, Last>(&mut bits, ElementName::LevelSuffix, &mut sink)?;
     assert_eq!(rt; rest, Found { bit: 72, value: 56 });
     let ahead = look(&bits, &sink);
-    assert_eq!(rt; ahead.bit, 79);
-    assert!(rt; !ahead.follows);
+    assert_eq!(rt; (ahead.bit, ahead.follows), (79, false));
     read_trailing(&mut bits, &sink)?;
     assert_eq!(rt; bits.stream_bit(), 80);
     Ok(())
 }
 
+/// 1, 010, 011, 00100, 00101, 0001000, and a 1 behind them.
+const GOLOMB: [u8; 8] = [
+    0,
+    0,
+    1,
+    0x67,
+    0b1010_0110,
+    0b0100_0010,
+    0b1000_1000,
+    0b1000_0000,
+];
+
+const GOLOMB_NUMBERS: [(u32, u64); 6] = [(0, 32), (1, 33), (2, 36), (3, 39), (4, 44), (7, 49)];
+
+const GOLOMB_SIGNED: [(i32, u64); 6] = [(0, 32), (1, 33), (-1, 36), (2, 39), (-2, 44), (4, 49)];
+
 fn exp_golomb_words(rt: &(impl Abort + AllocGlobal)) -> Result<(), Fail> {
-    // 1, 010, 011, 00100, 00101, 0001000, and a 1 behind them
-    let body = [
-        0,
-        0,
-        1,
-        0x67,
-        0b1010_0110,
-        0b0100_0010,
-        0b1000_1000,
-        0b1000_0000,
-    ];
-    let rbsp = rbsp(rt.alloc(), &body)?;
-    let mut sink = untold();
+    let rbsp = rbsp(rt.alloc(), &GOLOMB)?;
     let mut bits = Bits::new(&rbsp);
-    assert!(rt;
-        numbers_are(
-            &mut bits,
-            &mut sink,
-            &[(0, 32), (1, 33), (2, 36), (3, 39), (4, 44), (7, 49)]
-        )?
-    );
+    assert!(rt; numbers_are(&mut bits, &mut untold(), &GOLOMB_NUMBERS)?);
     assert!(rt; !bits.more());
     let mut bits = Bits::new(&rbsp);
-    assert!(rt;
-        signed_are(
-            &mut bits,
-            &mut sink,
-            &[(0, 32), (1, 33), (-1, 36), (2, 39), (-2, 44), (4, 49)]
-        )?
-    );
+    assert!(rt; signed_are(&mut bits, &mut untold(), &GOLOMB_SIGNED)?);
+    Ok(())
+}
+
+fn truncated_words(rt: &(impl Abort + AllocGlobal)) -> Result<(), Fail> {
+    let rbsp = rbsp(rt.alloc(), &GOLOMB)?;
     let mut bits = Bits::new(&rbsp);
     assert_eq!(rt; bits.te(2), Ok(0));
     assert_eq!(rt; bits.te(2), Ok(1));
     Ok(())
 }
 
+/// 31 zeros and 32 ones; emulation prevention put in the 03.
+const LONGEST: [u8; 13] = [0, 0, 1, 0x67, 0, 0, 3, 0, 1, 0xFF, 0xFF, 0xFF, 0xFF];
+
 fn the_longest_word(rt: &(impl Abort + AllocGlobal)) -> Result<(), Fail> {
-    // 31 zeros and 32 ones; emulation prevention put in the 03
-    let rbsp = rbsp(
-        rt.alloc(),
-        &[0, 0, 1, 0x67, 0, 0, 3, 0, 1, 0xFF, 0xFF, 0xFF, 0xFF],
-    )?;
+    let rbsp = rbsp(rt.alloc(), &LONGEST)?;
     let mut bits = Bits::new(&rbsp);
     assert_eq!(rt; bits.ue(), Ok(4294967294));
     assert_eq!(rt; bits.stream_bit(), 103);
@@ -193,66 +191,79 @@ fn the_longest_word(rt: &(impl Abort + AllocGlobal)) -> Result<(), Fail> {
     Ok(())
 }
 
+/// 32 zeros and 40 ones.
+const TOO_LONG: [u8; 14] = [0, 0, 1, 0x67, 0, 0, 3, 0, 0, 0xFF, 0xFF, 0xFF, 0xFF, 0xFF];
+
 fn one_zero_more_is_no_word(rt: &(impl Abort + AllocGlobal)) -> Result<(), Fail> {
-    let rbsp = rbsp(
-        rt.alloc(),
-        &[0, 0, 1, 0x67, 0, 0, 3, 0, 0, 0xFF, 0xFF, 0xFF, 0xFF, 0xFF],
-    )?;
+    let rbsp = rbsp(rt.alloc(), &TOO_LONG)?;
     let mut bits = Bits::new(&rbsp);
     assert_eq!(rt; bits.ue(), Err(NoWord));
     assert_eq!(rt; bits.se(), Err(NoWord));
     assert_eq!(rt; bits.stream_bit(), 32);
+    Ok(())
+}
+
+fn fields_of_32_and_31_bits(rt: &(impl Abort + AllocGlobal)) -> Result<(), Fail> {
+    let rbsp = rbsp(rt.alloc(), &TOO_LONG)?;
+    let mut bits = Bits::new(&rbsp);
     assert_eq!(rt; bits.u::<32>(), Ok(0));
     assert_eq!(rt; bits.stream_bit(), 72);
     assert_eq!(rt; bits.u_width(31), Ok(2147483647));
     Ok(())
 }
 
+/// coeff_token 00011, run_before 001, two inverted bits, total_zeros 110, and 000.
+const WORDS: [u8; 6] = [0, 0, 1, 0x65, 0b0001_1001, 0b0111_0000];
+
+const TABLE_WORDS: [(Table, u8, u64); 5] = [
+    (Table::CoeffTokenNc0, 15, 32),
+    (Table::RunBefore4, 3, 37),
+    (Table::InvertedBit, 1, 40),
+    (Table::InvertedBit, 0, 41),
+    (Table::TotalZeros2, 1, 42),
+];
+
 fn words_of_tables(rt: &(impl Abort + AllocGlobal)) -> Result<(), Fail> {
-    // coeff_token 00011, run_before 001, two inverted bits, total_zeros 110, and 000
-    let rbsp = rbsp(rt.alloc(), &[0, 0, 1, 0x65, 0b0001_1001, 0b0111_0000])?;
+    let rbsp = rbsp(rt.alloc(), &WORDS)?;
     let mut bits = Bits::new(&rbsp);
     let mut sink = untold();
-    let words = [
-        (Table::CoeffTokenNc0, 15, 32),
-        (Table::RunBefore4, 3, 37),
-        (Table::InvertedBit, 1, 40),
-        (Table::InvertedBit, 0, 41),
-        (Table::TotalZeros2, 1, 42),
-    ];
-    assert!(rt; words_are(&mut bits, &mut sink, &words)?);
-    assert_eq!(rt; sink.count, 5);
-    assert_eq!(rt; sink.value, 1);
-    assert_eq!(rt;
-        words_are(&mut bits, &mut sink, &[(Table::LevelPrefix, 0, 0)]),
-        Err(Stop::No {
-            bit: 45,
-            rule: Rule::ResidualWord
-        })
-    );
+    assert!(rt; words_are(&mut bits, &mut sink, &TABLE_WORDS)?);
+    assert_eq!(rt; (sink.count, sink.value), (5, 1));
+    Ok(())
+}
+
+fn no_word_of_a_table(rt: &(impl Abort + AllocGlobal)) -> Result<(), Fail> {
+    let rbsp = rbsp(rt.alloc(), &WORDS)?;
+    let mut bits = Bits::new(&rbsp);
+    let _words = bits.u::<13>();
+    let refused = Err(Stop::No {
+        bit: 45,
+        rule: Rule::ResidualWord,
+    });
+    let prefix = [(Table::LevelPrefix, 0, 0)];
+    assert_eq!(rt; words_are(&mut bits, &mut untold(), &prefix), refused);
     assert_eq!(rt; bits.stream_bit(), 45);
     assert_eq!(rt; bits.word(Table::CoeffTokenNc0), Err(NoWord));
     Ok(())
 }
 
+/// Each 03 behind 00 00 is dropped, so that the bits behind it stand one byte further on.
+const DROPPED: [u8; 14] = [0, 0, 1, 0x65, 0xAA, 0, 0, 3, 1, 0, 0, 3, 1, 0x80];
+
+const DROPPED_FIELDS: [(u32, u32, u64); 7] = [
+    (8, 170, 32),
+    (8, 0, 40),
+    (8, 0, 48),
+    (8, 1, 64),
+    (8, 0, 72),
+    (8, 0, 80),
+    (8, 1, 96),
+];
+
 fn places_over_dropped_bytes(rt: &(impl Abort + AllocGlobal)) -> Result<(), Fail> {
-    // each 03 behind 00 00 is dropped, so that the bits behind it stand one byte further on
-    let rbsp = rbsp(
-        rt.alloc(),
-        &[0, 0, 1, 0x65, 0xAA, 0, 0, 3, 1, 0, 0, 3, 1, 0x80],
-    )?;
+    let rbsp = rbsp(rt.alloc(), &DROPPED)?;
     let mut bits = Bits::new(&rbsp);
-    let mut sink = untold();
-    let fields = [
-        (8, 170, 32),
-        (8, 0, 40),
-        (8, 0, 48),
-        (8, 1, 64),
-        (8, 0, 72),
-        (8, 0, 80),
-        (8, 1, 96),
-    ];
-    assert!(rt; fields_are(&mut bits, &mut sink, &fields)?);
+    assert!(rt; fields_are(&mut bits, &mut untold(), &DROPPED_FIELDS)?);
     assert_eq!(rt; bits.stream_bit(), 104);
     Ok(())
 }
@@ -267,7 +278,10 @@ fn elements_of_a_set(rt: HostRuntime) -> Result<(), Fail> {
 #[test]
 fn words(rt: HostRuntime) -> Result<(), Fail> {
     exp_golomb_words(&rt)?;
+    truncated_words(&rt)?;
     the_longest_word(&rt)?;
     one_zero_more_is_no_word(&rt)?;
-    words_of_tables(&rt)
+    fields_of_32_and_31_bits(&rt)?;
+    words_of_tables(&rt)?;
+    no_word_of_a_table(&rt)
 }

@@ -5,22 +5,8 @@ use crate::{
 use std::process::Abort;
 
 #[test]
-fn blocks_4x4(rt: HostRuntime) {
-    vertical(&rt);
-    horizontal(&rt);
-    dc(&rt);
-    diagonal_down_left(&rt);
-    diagonal_down_right(&rt);
-    vertical_right(&rt);
-    horizontal_down(&rt);
-    vertical_left(&rt);
-    horizontal_up(&rt);
-    the_upper_right_is_filled(&rt);
-    dc_of_the_sides_that_there_are(&rt);
-}
-
-#[test]
 fn macroblocks(rt: HostRuntime) {
+    blocks_4x4(&rt);
     luma16_directions(&rt);
     luma16_dc(&rt);
     luma16_plane(&rt);
@@ -29,38 +15,51 @@ fn macroblocks(rt: HostRuntime) {
     chroma_directions_and_plane(&rt);
 }
 
-// A mode by its number, and where it is possible.
 #[test]
 fn modes(rt: HostRuntime) {
-    assert_eq!(rt;
-        Intra4x4PredMode::of_number(5),
-        Intra4x4PredMode::VerticalRight
+    modes_by_number(&rt);
+    possible_modes(&rt);
+}
+
+fn modes_by_number(rt: &impl Abort) {
+    let luma4 = Intra4x4PredMode::of_number(5);
+    assert_eq!(rt; luma4, Intra4x4PredMode::VerticalRight);
+    let luma16 = Intra16x16PredMode::of_number(2);
+    assert_eq!(rt; luma16, Intra16x16PredMode::Dc);
+    let chroma = IntraChromaPredMode::of_number(2);
+    assert_eq!(rt; chroma, IntraChromaPredMode::Vertical);
+    let numbers = (
+        Intra4x4PredMode::HorizontalUp.number(),
+        Intra16x16PredMode::Plane.number(),
+        IntraChromaPredMode::Dc.number(),
     );
-    assert_eq!(rt; Intra4x4PredMode::HorizontalUp.number(), 8);
-    assert_eq!(rt; Intra16x16PredMode::of_number(2), Intra16x16PredMode::Dc);
-    assert_eq!(rt; Intra16x16PredMode::Plane.number(), 3);
-    assert_eq!(rt;
-        IntraChromaPredMode::of_number(2),
-        IntraChromaPredMode::Vertical
-    );
-    assert_eq!(rt; IntraChromaPredMode::Dc.number(), 0);
+    assert_eq!(rt; numbers, (8, 3, 0));
+}
+
+fn possible_modes(rt: &impl Abort) {
     let above = Sides4 {
         left: false,
         above: true,
         above_right: false,
         corner: false,
     };
-    assert!(rt; Intra4x4PredMode::DiagonalDownLeft.is_possible(above));
-    assert!(rt; !Intra4x4PredMode::HorizontalUp.is_possible(above));
     let both = Sides {
         left: true,
         above: true,
         corner: false,
     };
-    assert!(rt; Intra16x16PredMode::Horizontal.is_possible(both));
-    assert!(rt; !Intra16x16PredMode::Plane.is_possible(both));
-    assert!(rt; !IntraChromaPredMode::Plane.is_possible(both));
-    assert!(rt; IntraChromaPredMode::Dc.is_possible(both));
+    let possible = (
+        Intra4x4PredMode::DiagonalDownLeft.is_possible(above),
+        Intra16x16PredMode::Horizontal.is_possible(both),
+        IntraChromaPredMode::Dc.is_possible(both),
+    );
+    assert_eq!(rt; possible, (true, true, true));
+    let impossible = (
+        Intra4x4PredMode::HorizontalUp.is_possible(above),
+        Intra16x16PredMode::Plane.is_possible(both),
+        IntraChromaPredMode::Plane.is_possible(both),
+    );
+    assert_eq!(rt; impossible, (false, false, false));
 }
 
 /// Each side there: L0 to L3, A0 to A7 and M.
@@ -71,115 +70,118 @@ const ALL_ROUND: Neighbours4 = Neighbours4 {
     corner: Some(5),
 };
 
-// Each row is A0 to A3.
-fn vertical(rt: &impl Abort) {
-    let block = [
-        10, 20, 31, 40, 10, 20, 31, 40, 10, 20, 31, 40, 10, 20, 31, 40,
-    ];
-    assert_eq!(rt; predict4(Intra4x4PredMode::Vertical, &ALL_ROUND), block);
-}
+const NO_SIDE: Neighbours4 = Neighbours4 {
+    left: None,
+    above: None,
+    above_right: None,
+    corner: None,
+};
 
-// Each column is L0 to L3.
-fn horizontal(rt: &impl Abort) {
-    let block = [
-        12, 12, 12, 12, 25, 25, 25, 25, 36, 36, 36, 36, 49, 49, 49, 49,
-    ];
-    assert_eq!(rt; predict4(Intra4x4PredMode::Horizontal, &ALL_ROUND), block);
-}
+const LEFT: Neighbours4 = Neighbours4 {
+    left: Some([12, 25, 36, 49]),
+    above: None,
+    above_right: None,
+    corner: None,
+};
 
-// (101 + 122 + 4) >> 3 is 28.
-fn dc(rt: &impl Abort) {
-    let block = [
-        28, 28, 28, 28, 28, 28, 28, 28, 28, 28, 28, 28, 28, 28, 28, 28,
-    ];
-    assert_eq!(rt; predict4(Intra4x4PredMode::Dc, &ALL_ROUND), block);
-}
+const ABOVE: Neighbours4 = Neighbours4 {
+    left: None,
+    above: Some([10, 20, 31, 40]),
+    above_right: None,
+    corner: None,
+};
 
-// (10 + 2 * 20 + 31 + 2) >> 2 is 20, and (72 + 3 * 80 + 2) >> 2 is 78.
-fn diagonal_down_left(rt: &impl Abort) {
-    let block = [
-        20, 31, 41, 52, 31, 41, 52, 61, 41, 52, 61, 71, 52, 61, 71, 78,
-    ];
-    assert_eq!(rt;
-        predict4(Intra4x4PredMode::DiagonalDownLeft, &ALL_ROUND),
-        block
-    );
-}
+/// Modes of 4x4 blocks, what is around, and the samples.
+const BLOCKS_4X4: [(Intra4x4PredMode, Neighbours4, [u8; 16]); 14] = [
+    // Each row is A0 to A3.
+    (
+        Intra4x4PredMode::Vertical,
+        ALL_ROUND,
+        [
+            10, 20, 31, 40, 10, 20, 31, 40, 10, 20, 31, 40, 10, 20, 31, 40,
+        ],
+    ),
+    // Each column is L0 to L3.
+    (
+        Intra4x4PredMode::Horizontal,
+        ALL_ROUND,
+        [
+            12, 12, 12, 12, 25, 25, 25, 25, 36, 36, 36, 36, 49, 49, 49, 49,
+        ],
+    ),
+    // (101 + 122 + 4) >> 3 is 28.
+    (Intra4x4PredMode::Dc, ALL_ROUND, [28; 16]),
+    // (10 + 2 * 20 + 31 + 2) >> 2 is 20, and (72 + 3 * 80 + 2) >> 2 is 78.
+    (
+        Intra4x4PredMode::DiagonalDownLeft,
+        ALL_ROUND,
+        [
+            20, 31, 41, 52, 31, 41, 52, 61, 41, 52, 61, 71, 52, 61, 71, 78,
+        ],
+    ),
+    // (12 + 2 * 5 + 10 + 2) >> 2 is 8 on the diagonal, (25 + 2 * 12 + 5 + 2) >> 2 is 14 below it.
+    (
+        Intra4x4PredMode::DiagonalDownRight,
+        ALL_ROUND,
+        [8, 11, 20, 31, 14, 8, 11, 20, 25, 14, 8, 11, 37, 25, 14, 8],
+    ),
+    // (5 + 10 + 1) >> 1 is 8 at (0, 0) and at (1, 2), (25 + 2 * 12 + 5 + 2) >> 2 is 14 at (0, 2).
+    (
+        Intra4x4PredMode::VerticalRight,
+        ALL_ROUND,
+        [8, 15, 26, 36, 8, 11, 20, 31, 14, 8, 15, 26, 25, 8, 11, 20],
+    ),
+    // (5 + 12 + 1) >> 1 is 9 at (0, 0) and at (2, 1), (20 + 2 * 10 + 5 + 2) >> 2 is 11 at (2, 0).
+    (
+        Intra4x4PredMode::HorizontalDown,
+        ALL_ROUND,
+        [9, 8, 11, 20, 19, 14, 9, 8, 31, 25, 19, 14, 43, 37, 31, 25],
+    ),
+    // (10 + 20 + 1) >> 1 is 15 at (0, 0), (10 + 2 * 20 + 31 + 2) >> 2 is 20 at (0, 1).
+    (
+        Intra4x4PredMode::VerticalLeft,
+        ALL_ROUND,
+        [
+            15, 26, 36, 47, 20, 31, 41, 52, 26, 36, 47, 57, 31, 41, 52, 61,
+        ],
+    ),
+    // (12 + 25 + 1) >> 1 is 19 at (0, 0), (36 + 3 * 49 + 2) >> 2 is 46 at (3, 1), then 49.
+    (
+        Intra4x4PredMode::HorizontalUp,
+        ALL_ROUND,
+        [
+            19, 25, 31, 37, 31, 37, 43, 46, 43, 46, 49, 49, 49, 49, 49, 49,
+        ],
+    ),
+    // A3, 40, stands for A4 to A7.
+    (
+        Intra4x4PredMode::DiagonalDownLeft,
+        ABOVE,
+        [
+            20, 31, 38, 40, 31, 38, 40, 40, 38, 40, 40, 40, 40, 40, 40, 40,
+        ],
+    ),
+    (
+        Intra4x4PredMode::VerticalLeft,
+        ABOVE,
+        [
+            15, 26, 36, 40, 20, 31, 38, 40, 26, 36, 40, 40, 31, 38, 40, 40,
+        ],
+    ),
+    // (122 + 2) >> 2 is 31, (101 + 2) >> 2 is 25.
+    (Intra4x4PredMode::Dc, LEFT, [31; 16]),
+    (Intra4x4PredMode::Dc, NO_SIDE, [128; 16]),
+    (Intra4x4PredMode::Dc, ABOVE, [25; 16]),
+];
 
-// (12 + 2 * 5 + 10 + 2) >> 2 is 8 on the diagonal, (25 + 2 * 12 + 5 + 2) >> 2 is 14 below it.
-fn diagonal_down_right(rt: &impl Abort) {
-    let block = [8, 11, 20, 31, 14, 8, 11, 20, 25, 14, 8, 11, 37, 25, 14, 8];
-    assert_eq!(rt;
-        predict4(Intra4x4PredMode::DiagonalDownRight, &ALL_ROUND),
-        block
-    );
-}
-
-// (5 + 10 + 1) >> 1 is 8 at (0, 0) and at (1, 2), (25 + 2 * 12 + 5 + 2) >> 2 is 14 at (0, 2).
-fn vertical_right(rt: &impl Abort) {
-    let block = [8, 15, 26, 36, 8, 11, 20, 31, 14, 8, 15, 26, 25, 8, 11, 20];
-    assert_eq!(rt;
-        predict4(Intra4x4PredMode::VerticalRight, &ALL_ROUND),
-        block
-    );
-}
-
-// (5 + 12 + 1) >> 1 is 9 at (0, 0) and at (2, 1), (20 + 2 * 10 + 5 + 2) >> 2 is 11 at (2, 0).
-fn horizontal_down(rt: &impl Abort) {
-    let block = [9, 8, 11, 20, 19, 14, 9, 8, 31, 25, 19, 14, 43, 37, 31, 25];
-    assert_eq!(rt;
-        predict4(Intra4x4PredMode::HorizontalDown, &ALL_ROUND),
-        block
-    );
-}
-
-// (10 + 20 + 1) >> 1 is 15 at (0, 0), (10 + 2 * 20 + 31 + 2) >> 2 is 20 at (0, 1).
-fn vertical_left(rt: &impl Abort) {
-    let block = [
-        15, 26, 36, 47, 20, 31, 41, 52, 26, 36, 47, 57, 31, 41, 52, 61,
-    ];
-    assert_eq!(rt; predict4(Intra4x4PredMode::VerticalLeft, &ALL_ROUND), block);
-}
-
-// (12 + 25 + 1) >> 1 is 19 at (0, 0), (36 + 3 * 49 + 2) >> 2 is 46 at (3, 1), then 49.
-fn horizontal_up(rt: &impl Abort) {
-    let block = [
-        19, 25, 31, 37, 31, 37, 43, 46, 43, 46, 49, 49, 49, 49, 49, 49,
-    ];
-    assert_eq!(rt; predict4(Intra4x4PredMode::HorizontalUp, &ALL_ROUND), block);
-}
-
-// A3, 40, stands for A4 to A7.
-fn the_upper_right_is_filled(rt: &impl Abort) {
-    let n = Neighbours4 {
-        left: None,
-        above: Some([10, 20, 31, 40]),
-        above_right: None,
-        corner: None,
-    };
-    let down_left = [
-        20, 31, 38, 40, 31, 38, 40, 40, 38, 40, 40, 40, 40, 40, 40, 40,
-    ];
-    assert_eq!(rt; predict4(Intra4x4PredMode::DiagonalDownLeft, &n), down_left);
-    let left = [
-        15, 26, 36, 40, 20, 31, 38, 40, 26, 36, 40, 40, 31, 38, 40, 40,
-    ];
-    assert_eq!(rt; predict4(Intra4x4PredMode::VerticalLeft, &n), left);
-}
-
-// (122 + 2) >> 2 is 31, (101 + 2) >> 2 is 25.
-fn dc_of_the_sides_that_there_are(rt: &impl Abort) {
-    let mut n = Neighbours4 {
-        left: Some([12, 25, 36, 49]),
-        above: None,
-        above_right: None,
-        corner: None,
-    };
-    assert_eq!(rt; predict4(Intra4x4PredMode::Dc, &n), [31; 16]);
-    n.left = None;
-    assert_eq!(rt; predict4(Intra4x4PredMode::Dc, &n), [128; 16]);
-    n.above = Some([10, 20, 31, 40]);
-    assert_eq!(rt; predict4(Intra4x4PredMode::Dc, &n), [25; 16]);
+fn blocks_4x4(rt: &impl Abort) {
+    for (mode, neighbours, block) in &BLOCKS_4X4 {
+        assert_eq!(rt;
+            predict4(*mode, neighbours),
+            *block,
+            "{mode:?} by {neighbours:?}"
+        );
+    }
 }
 
 /// 4, 8, 12, .. on both sides: the plane through them is 4 * (x + 1) + 4 * (y + 1).
@@ -201,20 +203,25 @@ fn luma16_directions(rt: &impl Abort) {
     assert_eq!(rt; horizontal, [9; 256]);
 }
 
-// (16 * 10 + 16 * 21 + 16) >> 5 is 16.
+/// The left column and the row above where they are there, and the DC of them.
+const LUMA_DC: [(Option<[u8; 16]>, Option<[u8; 16]>, u8); 4] = [
+    // (16 * 10 + 16 * 21 + 16) >> 5 is 16.
+    (Some([10; 16]), Some([21; 16]), 16),
+    (Some([10; 16]), None, 10),
+    (None, None, 128),
+    (None, Some([21; 16]), 21),
+];
+
 fn luma16_dc(rt: &impl Abort) {
-    let mut n = Neighbours16 {
-        left: Some([10; 16]),
-        above: Some([21; 16]),
-        corner: None,
-    };
-    assert_eq!(rt; predict16(Intra16x16PredMode::Dc, &n), [16; 256]);
-    n.above = None;
-    assert_eq!(rt; predict16(Intra16x16PredMode::Dc, &n), [10; 256]);
-    n.left = None;
-    assert_eq!(rt; predict16(Intra16x16PredMode::Dc, &n), [128; 256]);
-    n.above = Some([21; 16]);
-    assert_eq!(rt; predict16(Intra16x16PredMode::Dc, &n), [21; 256]);
+    for (left, above, sample) in &LUMA_DC {
+        let n = Neighbours16 {
+            left: *left,
+            above: *above,
+            corner: None,
+        };
+        let found = predict16(Intra16x16PredMode::Dc, &n);
+        assert_eq!(rt; found, [*sample; 256], "by {n:?}");
+    }
 }
 
 // H and V are 8 * 204, b and c are 128, a is 16 * 128.
@@ -243,10 +250,8 @@ fn luma16_plane_is_clipped(rt: &impl Abort) {
         corner: Some(255),
     };
     let plane = predict16(Intra16x16PredMode::Plane, &n);
-    assert_eq!(rt; plane[0], 255);
-    assert_eq!(rt; plane[7], 157);
-    assert_eq!(rt; plane[15], 0);
-    assert_eq!(rt; plane[255], 0);
+    let found = [plane[0], plane[7], plane[15], plane[255]];
+    assert_eq!(rt; found, [255, 157, 0, 0]);
 }
 
 /// The samples at the corners of the four blocks of a chroma plane.
@@ -254,32 +259,29 @@ fn of_blocks(c: [u8; 64]) -> [u8; 4] {
     [c[0], c[7], c[56], c[63]]
 }
 
-// (40 + 120 + 4) >> 3 is 20, (80 + 200 + 4) >> 3 is 35.
+const CHROMA_LEFT: [u8; 8] = [30, 30, 30, 30, 50, 50, 50, 50];
+
+const CHROMA_ABOVE: [u8; 8] = [10, 10, 10, 10, 20, 20, 20, 20];
+
+/// The left column and the row above where they are there, and the DC of each block.
+const CHROMA_DC: [(Option<[u8; 8]>, Option<[u8; 8]>, [u8; 4]); 4] = [
+    // (40 + 120 + 4) >> 3 is 20, (80 + 200 + 4) >> 3 is 35.
+    (Some(CHROMA_LEFT), Some(CHROMA_ABOVE), [20, 20, 50, 35]),
+    (Some(CHROMA_LEFT), None, [30, 30, 50, 50]),
+    (None, None, [128, 128, 128, 128]),
+    (None, Some(CHROMA_ABOVE), [10, 20, 10, 20]),
+];
+
 fn chroma_dc(rt: &impl Abort) {
-    let mut n = NeighboursChroma {
-        left: Some([30, 30, 30, 30, 50, 50, 50, 50]),
-        above: Some([10, 10, 10, 10, 20, 20, 20, 20]),
-        corner: None,
-    };
-    assert_eq!(rt;
-        of_blocks(predict_chroma(IntraChromaPredMode::Dc, &n)),
-        [20, 20, 50, 35]
-    );
-    n.above = None;
-    assert_eq!(rt;
-        of_blocks(predict_chroma(IntraChromaPredMode::Dc, &n)),
-        [30, 30, 50, 50]
-    );
-    n.left = None;
-    assert_eq!(rt;
-        of_blocks(predict_chroma(IntraChromaPredMode::Dc, &n)),
-        [128, 128, 128, 128]
-    );
-    n.above = Some([10, 10, 10, 10, 20, 20, 20, 20]);
-    assert_eq!(rt;
-        of_blocks(predict_chroma(IntraChromaPredMode::Dc, &n)),
-        [10, 20, 10, 20]
-    );
+    for (left, above, samples) in &CHROMA_DC {
+        let n = NeighboursChroma {
+            left: *left,
+            above: *above,
+            corner: None,
+        };
+        let found = of_blocks(predict_chroma(IntraChromaPredMode::Dc, &n));
+        assert_eq!(rt; found, *samples, "by {n:?}");
+    }
 }
 
 // H and V are 8 * 30, b and c are 128, a is 16 * 64.
