@@ -40,43 +40,61 @@ fn pictures(rt: HostRuntime) -> Result<(), Fail> {
     the_left_is_there(&rt, &near);
     near.push(&macroblock(false, Some(MOVED)));
     the_row_above_is_there(&rt, &near);
+    neighbours_above(&rt, &near);
     near.push(&macroblock(true, None));
     all_sides_are_there(&rt, &near);
+    borders(&rt, &near);
     near.clear();
     nothing_is_around(&rt, &near);
+    edges_inside(&rt);
     Ok(())
 }
 
+/// The slice, the coefficients of each block of the macroblock itself, a block, and its nC.
+fn ncs_are(rt: &impl Abort, near: &Near, rows: &[(u32, u8, usize, u8)]) {
+    for (slice, totals, b, expected) in rows {
+        assert!(rt; *b < 16);
+        assert_eq!(rt; near.nc(*slice, &[*totals; 16], *b), *expected, "block {b}");
+    }
+}
+
+/// constrained_intra_pred_flag, the mode of each block of the macroblock itself, a block, and the mode that is predicted.
+fn modes_are(rt: &impl Abort, near: &Near, rows: &[(bool, u8, usize, u8)]) {
+    for (constrained, modes, b, expected) in rows {
+        assert!(rt; *b < 16);
+        let found = near.mode(0, *constrained, &[*modes; 16], *b);
+        assert_eq!(rt; found, *expected, "block {b}");
+    }
+}
+
+// Blocks of the macroblock itself are there.
 fn nothing_is_around(rt: &impl Abort, near: &Near) {
     let samples = near.samples(0, false, &[0; 16], 0);
     assert!(rt; !samples.above && !samples.left && !samples.corner);
-    assert_eq!(rt; near.nc(0, &[0; 16], 0), 0);
-    assert_eq!(rt; near.mode(0, false, &[0; 16], 0), 2);
     assert!(rt; near.left_edge().is_none() && near.above_edge().is_none());
-    // Blocks of the macroblock itself are there.
-    assert_eq!(rt; near.nc(0, &[6; 16], 3), 6);
-    assert_eq!(rt; near.mode(0, false, &[8; 16], 3), 8);
+    ncs_are(rt, near, &[(0, 0, 0, 0), (0, 6, 3, 6)]);
+    modes_are(rt, near, &[(false, 0, 0, 2), (false, 8, 3, 8)]);
 }
 
+// Block 5 stands to the left of block 0, block 13 to the left of block 8. Nothing stands above, so the mode is DC; nor is a
+// macroblock of another slice to the left.
 fn the_left_is_there(rt: &impl Abort, near: &Near) {
-    // Block 5 stands to the left of block 0, block 13 to the left of block 8.
-    assert_eq!(rt; near.nc(0, &[0; 16], 0), 5);
-    assert_eq!(rt; near.nc(0, &[9; 16], 8), 11);
+    ncs_are(rt, near, &[(0, 0, 0, 5), (0, 9, 8, 11), (1, 0, 0, 0)]);
+    modes_are(rt, near, &[(false, 0, 0, 2)]);
     assert_eq!(rt; near.chroma_nc(0, &[0; 8], 0), 3);
-    // Nothing stands above, so the mode is DC; nor is a macroblock of another slice to the left.
-    assert_eq!(rt; near.mode(0, false, &[0; 16], 0), 2);
-    assert_eq!(rt; near.nc(1, &[0; 16], 0), 0);
     assert!(rt; matches!(near.neighbour(0, &[None; 16], 0, 1), Some(None)));
 }
 
+// Above block 0 stands block 10, above block 5 block 15. The inter macroblock above and to the right is no side under
+// constrained_intra_pred_flag.
 fn the_row_above_is_there(rt: &impl Abort, near: &Near) {
-    // Above block 0 stands block 10, above block 5 block 15.
-    assert_eq!(rt; near.nc(0, &[0; 16], 0), 10);
-    assert_eq!(rt; near.nc(0, &[8; 16], 5), 12);
+    ncs_are(rt, near, &[(0, 0, 0, 10), (0, 8, 5, 12)]);
     assert!(rt; near.left_edge().is_none() && near.above_edge().is_some());
-    // The inter macroblock above and to the right is no side under constrained_intra_pred_flag.
     assert!(rt; near.above_right(0, false));
     assert!(rt; !near.above_right(0, true));
+}
+
+fn neighbours_above(rt: &impl Abort, near: &Near) {
     assert!(rt; matches!(near.neighbour(0, &[None; 16], 1, 0), Some(None)));
     assert!(rt; matches!(near.neighbour(0, &[None; 16], 5, 0), Some(Some(_))));
     assert!(rt; near.neighbour(0, &[None; 16], 0, 0).is_none());
@@ -85,36 +103,38 @@ fn the_row_above_is_there(rt: &impl Abort, near: &Near) {
 fn all_sides_are_there(rt: &impl Abort, near: &Near) {
     let samples = near.samples(0, true, &[0; 16], 0);
     assert!(rt; !samples.above && samples.left && samples.corner);
-    assert_eq!(rt; near.nc(0, &[0; 16], 0), 8);
-    assert_eq!(rt; near.mode(0, false, &[0; 16], 0), 1);
-    assert_eq!(rt; near.mode(0, true, &[0; 16], 0), 2);
+    ncs_are(rt, near, &[(0, 0, 0, 8)]);
+    modes_are(rt, near, &[(false, 0, 0, 1), (true, 0, 0, 2)]);
     assert!(rt; !near.above_right(0, false));
     match near.neighbour(0, &[None; 16], 1, 0) {
         Some(Some(motion)) => assert_eq!(rt; (motion.ref_idx, motion.vector.y), (1, -8)),
         _ => assert!(rt; false),
     }
-    borders(rt, near);
 }
 
 /// bS at the borders of an inter macroblock, whose left neighbour is intra and whose upper one moves.
 fn borders(rt: &impl Abort, near: &Near) {
-    let still = macroblock(false, None);
-    let moved = macroblock(false, Some(MOVED));
+    let moved = side_of(&macroblock(false, Some(MOVED)), 0);
     match (near.left_side(0), near.upper_side(0)) {
         (Some(left), Some(above)) => {
-            assert_eq!(rt; strength(true, left, side_of(&moved, 0)), 4);
-            assert_eq!(rt; strength(true, above, side_of(&moved, 0)), 2);
+            assert_eq!(rt; strength(true, left, moved), 4);
+            assert_eq!(rt; strength(true, above, moved), 2);
             assert_eq!(rt; strength(false, left, left), 3);
         }
         _ => assert!(rt; false),
     }
+}
+
+/// bS between blocks 0, which have no coefficients.
+fn edges_inside(rt: &impl Abort) {
     let other = Motion {
         vector: Vector { x: 4, y: -4 },
         ..MOVED
     };
-    let apart = macroblock(false, Some(other));
-    // Block 0 has no coefficients.
-    assert_eq!(rt; strength(true, side_of(&moved, 0), side_of(&apart, 0)), 1);
-    assert_eq!(rt; strength(true, side_of(&moved, 0), side_of(&moved, 0)), 0);
-    assert_eq!(rt; strength(true, side_of(&still, 0), side_of(&still, 0)), 0);
+    let still = side_of(&macroblock(false, None), 0);
+    let moved = side_of(&macroblock(false, Some(MOVED)), 0);
+    let apart = side_of(&macroblock(false, Some(other)), 0);
+    assert_eq!(rt; strength(true, moved, apart), 1);
+    assert_eq!(rt; strength(true, moved, moved), 0);
+    assert_eq!(rt; strength(true, still, still), 0);
 }
