@@ -1,7 +1,7 @@
 //! What the words of the command line ask for.
 #![tactic(auto)]
 
-ghost use Rattle.std.specs.Prelude.{◌≡◌, true, false, map, None, IfOk, IfErr, IfSome, string_bytes};
+ghost use Rattle.std.specs.Prelude.{◌≡◌, true, false, map, None, Some, IfOk, IfErr, IfSome, string_bytes};
 ghost use Rattle.clap.specs.Words.{app_of, takes, kind_of};
 ghost use Rattle.clap.specs.declared.error.kind.ErrorKind.TheVariants as kinds;
 ghost use Rattle.clap.specs.declared.builder.command.Command.TheViews.{out-Command as fields_of};
@@ -33,15 +33,17 @@ pub struct Request<'a> {
     pub file: &'a str,
 }
 
-/// A subcommand that takes one FILE.
+/// A subcommand that takes one FILE; its help says `about`.
 fn file_command<'a>(alloc: Global, name: &'a str, about: &'a str) -> Result<Command<'a>, AllocError>
     ensures app { IfOk result (λ c. app_of c ≡ file_app name.now) }
     ensures local { IfOk result (λ c. (fields_of c).has_globals ≡ false) }
+    ensures help { IfOk result (λ c. (fields_of c).about ≡ Some about.entry) }
 {
     let file = Arg::new(alloc, "FILE").required(true).help(
         "An H.264 byte stream (Annex B), as cameras and encoders write it with the ending .264 or .h264",
     );
-    Command::new(alloc, name).about(about).arg(file)
+    let command = Command::new(alloc, name).arg(file)?;
+    Ok(command.about(about))
 }
 
 /// The command with one more subcommand, which takes one FILE.

@@ -65,7 +65,9 @@ fn no_file<W: Device, E: Device>(alloc: Global, task: Task, out: &mut W, err: &m
 }
 
 /// Says that a word is no text, where no file has a name that can be opened: the exit status of a fault of the words.
-pub fn not_text<E: Write>(err: &mut E) -> u8 {
+pub fn not_text<E: Write>(err: &mut E) -> u8
+    ensures status { result ≡ 64 }
+{
     let _ = err.write_all(NOT_TEXT.as_bytes());
     FAULT
 }

@@ -3,6 +3,8 @@
 //! `main` hands the arguments, the files and the standard streams to `command`, and its status to the system.
 #![tactic(auto)]
 
+ghost use Rattle.std.specs.Prelude.{◌≡◌, ◌⊎◌};
+
 mod asked;
 #[cfg(test)]
 mod check_tests;
@@ -67,7 +69,9 @@ fn status(rt: &HostRuntime) -> io::Result<u8> {
 }
 
 /// Says that memory is wanting, which takes none itself: the exit status.
-fn want_of_memory(rt: &HostRuntime) -> u8 {
+fn want_of_memory(rt: &HostRuntime) -> u8
+    ensures status { (result ≡ 3) ⊎ (result ≡ 4) }
+{
     match io::writer(rt).write_all(b"memory\n") {
         Ok(()) => 3,
         Err(_) => 4,

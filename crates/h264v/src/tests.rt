@@ -467,24 +467,73 @@ fn prefixes_of_one_frame(rt: &(impl Abort + AllocGlobal)) -> Result<(), Fail> {
     Ok(())
 }
 
-/// Words that ask for nothing that there is: a text on standard error, and nothing on standard output.
+/// Words that ask for nothing that there is, and what is said of them.
+struct Fault {
+    words: &'static [&'static str],
+    says: &'static str,
+}
+
+const FAULTS: [Fault; 13] = [
+    Fault {
+        words: &["h264v"],
+        says: "Judges H.264 streams of the Constrained Baseline profile, and decodes them",
+    },
+    Fault {
+        words: &["h264v", "units"],
+        says: "Usage: ",
+    },
+    Fault {
+        words: &["h264v", "check"],
+        says: "Usage: ",
+    },
+    Fault {
+        words: &["h264v", "unit", "stream"],
+        says: "Usage: ",
+    },
+    Fault {
+        words: &["h264v", "units", "stream", "stream"],
+        says: "Usage: ",
+    },
+    Fault {
+        words: &["h264v", "--version"],
+        says: "h264v 0.1.0",
+    },
+    Fault {
+        words: &["h264v", "--help"],
+        says: "Judges H.264 streams of the Constrained Baseline profile, and decodes them",
+    },
+    Fault {
+        words: &["h264v", "check", "--help"],
+        says: "Says whether a stream is legal: yes, no with the first rule that it breaks and the bit where, or outside",
+    },
+    Fault {
+        words: &["h264v", "units", "--help"],
+        says: "Prints a line for each unit, and judges byte stream, units and parameter sets",
+    },
+    Fault {
+        words: &["h264v", "headers", "--help"],
+        says: "Prints a line for each slice, and judges slice headers too",
+    },
+    Fault {
+        words: &["h264v", "frames", "--help"],
+        says: "Prints a line for each frame in output order, with its size and the MD5 of its samples",
+    },
+    Fault {
+        words: &["h264v", "decode", "--help"],
+        says: "Writes each frame in output order as planar YUV 4:2:0, and its verdict to standard error",
+    },
+    // Each help names what FILE is.
+    Fault {
+        words: &["h264v", "check", "--help"],
+        says: "An H.264 byte stream (Annex B), as cameras and encoders write it with the ending .264 or .h264",
+    },
+];
+
+/// Words that ask for nothing that there is: a text on standard error that says why or how to ask, and nothing on standard output.
 fn faults_of_the_words(rt: &(impl Abort + AllocGlobal)) -> Result<(), Fail> {
     let alloc = rt.alloc();
-    let faults: [&[&str]; 11] = [
-        &["h264v"],
-        &["h264v", "units"],
-        &["h264v", "check"],
-        &["h264v", "unit", "stream"],
-        &["h264v", "units", "stream", "stream"],
-        &["h264v", "--help"],
-        &["h264v", "check", "--help"],
-        &["h264v", "units", "--help"],
-        &["h264v", "headers", "--help"],
-        &["h264v", "frames", "--help"],
-        &["h264v", "decode", "--help"],
-    ];
-    for fault in faults {
-        let words = words(alloc, fault)?;
+    for fault in &FAULTS {
+        let words = words(alloc, fault.words)?;
         let mut files = OpenedFiles::new(whole(ONE_FRAME));
         let mut out: WriteDevice<Vec<u8>> = WriteDevice::new(Vec::new(alloc));
         let mut err: WriteDevice<Vec<u8>> = WriteDevice::new(Vec::new(alloc));
@@ -493,7 +542,7 @@ fn faults_of_the_words(rt: &(impl Abort + AllocGlobal)) -> Result<(), Fail> {
         assert!(rt; out.writer.is_empty());
         let WriteDevice { writer: err, .. } = err;
         let text = String::from_utf8(err)?;
-        assert!(rt; text.as_str().contains("Usage: "), "{text}");
+        assert!(rt; text.as_str().contains(fault.says), "{text}");
     }
     Ok(())
 }
