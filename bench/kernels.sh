@@ -8,7 +8,7 @@ top=$(cd "$(dirname "$0")/.." && pwd)
 work=$(mktemp -d)
 trap 'rm -rf "$work"' EXIT
 mkdir -p "$work/crates/kernels/src"
-for crate in h264_base h264_units h264_tables h264_rbsp h264_bits h264_cavlc h264_write h264_plane h264_scale h264_inter h264_deblock; do
+for crate in h264_base h264_units h264_tables h264_rbsp h264_bits h264_cavlc h264_write h264_plane h264_scale h264_inter h264_near h264_deblock; do
     cp -r "$top/crates/$crate" "$work/crates/"
     rm -rf "$work/crates/$crate/must-fail"
     grep "^$crate:" "$top/crates.txt" >> "$work/crates.txt"
