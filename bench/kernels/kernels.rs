@@ -492,8 +492,19 @@ fn main() {
     });
     run("vertical_edges", 16, &|p, x, y| edges_of::<true, false>(p, x, y, 16, &weak));
     run("horizontal_edges", 16, &|p, x, y| edges_of::<false, false>(p, x, y, 16, &weak));
-    run("chroma_edges", 8, &|p, x, y| {
-        edges_of::<true, true>(p, x, y, 8, &weak);
-        edges_of::<false, true>(p, x, y, 8, &weak);
-    });
+    fill(&mut plane);
+    let mut other = Plane::new(1920, 1088);
+    fill(&mut other);
+    let start = Instant::now();
+    for _ in 0..5 {
+        for y in 0..1088 / 8 {
+            for x in 0..1920 / 8 {
+                edges_of::<true, true>(&mut plane, x, y, 8, &weak);
+                edges_of::<true, true>(&mut other, x, y, 8, &weak);
+                edges_of::<false, true>(&mut plane, x, y, 8, &weak);
+                edges_of::<false, true>(&mut other, x, y, 8, &weak);
+            }
+        }
+    }
+    println!("chroma_edges {} {}", start.elapsed().as_micros(), digest(&plane).wrapping_add(digest(&other)));
 }
