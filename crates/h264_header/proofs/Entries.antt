@@ -8,11 +8,22 @@ use Rattle.h264_base.specs.Meets.{Reader, Meets, Is}
 use Rattle.h264_base.proofs.Steps.{Leads, leads-starts, leads-on, stop, done, finish}
 use Rattle.h264_header.specs.Listed.{listed, goes_on}
 use Rattle.h264_header.specs.Header.{deblocking_of}
-use Rattle.std.proofs.Common.{IsTrue, length, not}
+use Rattle.std.proofs.Common.{IsTrue, length, not, Result}
+use Rattle.std.specs.Prelude.{OnSome, OnOk}
 use Rattle.std.proofs.lemmas.Bool.Decides.{nat_tests}
 use Rattle.h264_header.specs.declared.header.MarkingOperation.{MarkingOperation}
 use Rattle.h264_header.specs.Marking.{operands, is_repeated, is_operation_allowed}
 use Rattle.h264_header.specs.RefList.{command, is_command_allowed}
+
+-- what holds anyway holds of what is there
+pub always : {X : Type 0} {P : Type 0} (o : Option X) → P → OnSome o P
+always None p = tt
+always (Some x) p = p
+
+-- what follows where a result is there
+pub where-ok : {X E P Q : Type 0} (r : Result X E) → (P → Q) → OnOk r P → OnOk r Q
+where-ok (Ok x) f p = f p
+where-ok (Err e) f p = tt
 
 -- a flag as a digit
 pub digit-is : (b : Bool) → (digit b == 1) ≡ b

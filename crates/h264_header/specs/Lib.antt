@@ -3,6 +3,7 @@ pub mod Listed
 pub mod RefList
 pub mod Marking
 pub mod Header
+pub mod Parts
 pub mod Picture
 pub mod Accepted
 pub mod SameMarking

@@ -6,7 +6,7 @@ ghost use Rattle.std.specs.List.{list_any};
 ghost use Rattle.arrayvec.specs.ArrayVec.{array_vec_len};
 ghost use Rattle.h264_base.specs.Meets.{Meets, Is};
 ghost use Rattle.h264_bits.specs.Forms.{optional};
-ghost use Rattle.h264_header.specs.Marking.{number_of, operands, is_operation_allowed, operation, operations, idr_marking, marking_mode, other_marking, dec_ref_pic_marking};
+ghost use Rattle.h264_header.specs.Marking.{number_of, operands, is_operation_allowed, placed_operation, operation, operations, idr_marking, marking_mode, other_marking, dec_ref_pic_marking};
 
 use crate::header::{Marking, MarkingOperation, Operation};
 use arrayvec::ArrayVec;
@@ -31,28 +31,6 @@ fn number_of(operation: Operation) -> u32
     }
 }
 
-/// The operand of operation 1.
-fn read_unmark_short<S: Elements>(bits: &mut Bits, sink: &mut S) -> Result<Option<Operation>, Stop>
-    requires { S.failures sink.old < 2 ^ 64 - 1 }
-    ensures { Meets S.took S.failures (Is (λ x. x)) (operands 1) bits.old bits.new sink.old sink.new result }
-{
-    let difference = ue_value(bits, ElementName::DifferenceOfPicNumsMinus1, sink)?;
-    Ok(Some(Operation::UnmarkShortTerm {
-        difference_of_pic_nums_minus1: difference,
-    }))
-}
-
-/// The operand of operation 2.
-fn read_unmark_long<S: Elements>(bits: &mut Bits, sink: &mut S) -> Result<Option<Operation>, Stop>
-    requires { S.failures sink.old < 2 ^ 64 - 1 }
-    ensures { Meets S.took S.failures (Is (λ x. x)) (operands 2) bits.old bits.new sink.old sink.new result }
-{
-    let number = ue_value(bits, ElementName::LongTermPicNum, sink)?;
-    Ok(Some(Operation::UnmarkLongTerm {
-        long_term_pic_num: number,
-    }))
-}
-
 /// The operands of operation 3.
 fn read_make_long<S: Elements>(bits: &mut Bits, sink: &mut S) -> Result<Option<Operation>, Stop>
     requires { S.failures sink.old < 2 ^ 64 - 1 }
@@ -66,28 +44,6 @@ fn read_make_long<S: Elements>(bits: &mut Bits, sink: &mut S) -> Result<Option<O
     }))
 }
 
-/// The operand of operation 4.
-fn read_limit<S: Elements>(bits: &mut Bits, sink: &mut S) -> Result<Option<Operation>, Stop>
-    requires { S.failures sink.old < 2 ^ 64 - 1 }
-    ensures { Meets S.took S.failures (Is (λ x. x)) (operands 4) bits.old bits.new sink.old sink.new result }
-{
-    let greatest = ue_value(bits, ElementName::MaxLongTermFrameIdxPlus1, sink)?;
-    Ok(Some(Operation::LimitLongTerm {
-        max_long_term_frame_idx_plus1: greatest,
-    }))
-}
-
-/// The operand of operation 6.
-fn read_make_current<S: Elements>(bits: &mut Bits, sink: &mut S) -> Result<Option<Operation>, Stop>
-    requires { S.failures sink.old < 2 ^ 64 - 1 }
-    ensures { Meets S.took S.failures (Is (λ x. x)) (operands 6) bits.old bits.new sink.old sink.new result }
-{
-    let chosen = ue_value(bits, ElementName::LongTermFrameIdx, sink)?;
-    Ok(Some(Operation::MakeCurrentLongTerm {
-        long_term_frame_idx: chosen,
-    }))
-}
-
 /// The operation of this number with its operands; 0 is none.
 fn read_operands<S: Elements>(
     number: u32,
@@ -98,12 +54,32 @@ fn read_operands<S: Elements>(
     ensures { Meets S.took S.failures (Is (λ x. x)) (operands number) bits.old bits.new sink.old sink.new result }
 {
     match number {
-        1 => read_unmark_short(bits, sink),
-        2 => read_unmark_long(bits, sink),
+        1 => {
+            let difference = ue_value(bits, ElementName::DifferenceOfPicNumsMinus1, sink)?;
+            Ok(Some(Operation::UnmarkShortTerm {
+                difference_of_pic_nums_minus1: difference,
+            }))
+        }
+        2 => {
+            let number = ue_value(bits, ElementName::LongTermPicNum, sink)?;
+            Ok(Some(Operation::UnmarkLongTerm {
+                long_term_pic_num: number,
+            }))
+        }
         3 => read_make_long(bits, sink),
-        4 => read_limit(bits, sink),
+        4 => {
+            let greatest = ue_value(bits, ElementName::MaxLongTermFrameIdxPlus1, sink)?;
+            Ok(Some(Operation::LimitLongTerm {
+                max_long_term_frame_idx_plus1: greatest,
+            }))
+        }
         5 => Ok(Some(Operation::UnmarkAll)),
-        6 => read_make_current(bits, sink),
+        6 => {
+            let chosen = ue_value(bits, ElementName::LongTermFrameIdx, sink)?;
+            Ok(Some(Operation::MakeCurrentLongTerm {
+                long_term_frame_idx: chosen,
+            }))
+        }
         _ => Ok(None),
     }
 }
@@ -128,6 +104,16 @@ fn is_operation_allowed(before: &[MarkingOperation], number: u32) -> bool
     !(number >= 4 && has_number(before, number))
 }
 
+/// An operation with its place, or the end.
+fn placed_operation(bit: u64, operation: Option<Operation>) -> Option<MarkingOperation>
+    ensures { result ≡ placed_operation bit operation }
+{
+    match operation {
+        Some(operation) => Some(MarkingOperation { bit, operation }),
+        None => None,
+    }
+}
+
 /// One more operation, or the end.
 fn read_operation<S: Elements>(
     before: &ArrayVec<MarkingOperation, 36>,
@@ -148,13 +134,7 @@ fn read_operation<S: Elements>(
         return Ok(None);
     }
     let found = read_operands(number.value, bits, sink)?;
-    match found {
-        Some(operation) => Ok(Some(MarkingOperation {
-            bit: number.bit,
-            operation,
-        })),
-        None => Ok(None),
-    }
+    Ok(placed_operation(number.bit, found))
 }
 
 /// The operations up to the 0 that ends them.

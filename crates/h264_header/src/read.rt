@@ -9,6 +9,7 @@ ghost use Rattle.h264_header.specs.Layout.{sets_of, IsShort, IsShortCount};
 ghost use Rattle.h264_header.specs.Listed.{or_0};
 ghost use Rattle.h264_header.specs.Header.{is_judged_type, type_of, stated_type, named_sets, idr_pic_id, lsb_count, delta_count, pic_order_cnt, filter_offsets, deblocking_of, deblocking};
 ghost use Rattle.h264_header.specs.Header.{header as header_of};
+ghost use Rattle.h264_header.specs.Parts.{header_from_frame_num, header_from_kind, header_from_qp};
 
 use crate::header::{Deblocking, FilterOffsets, Header, PicOrderCnt, SliceUnit};
 use crate::layout::{CountElements, Layout, named_layout};
@@ -252,6 +253,73 @@ fn read_deblocking<S: Elements>(
     }))
 }
 
+/// The header from slice_qp_delta on.
+fn header_from_qp<S: Elements>(
+    layout: Layout,
+    header: &mut Header,
+    bits: &mut Bits,
+    sink: &mut S,
+) -> Result<(), Stop>
+    requires { S.failures sink.old < 2 ^ 64 - 1 }
+    ensures meets { Meets S.took S.failures (Is (λ _. header.new)) (header_from_qp header.old layout) bits.old bits.new sink.old sink.new result }
+    ensures id { OnOk result (header.new.pic_parameter_set_id ≡ header.old.pic_parameter_set_id) }
+{
+    header.slice_qp_delta = read_se(bits, ElementName::SliceQpDelta, sink)?;
+    header.deblocking = read_deblocking(layout.has_deblocking_control, bits, sink)?;
+    Ok(())
+}
+
+/// The header from the reference picture list on.
+fn header_from_kind<S: Elements>(
+    unit: SliceUnit,
+    stated: StatedType,
+    layout: Layout,
+    header: &mut Header,
+    bits: &mut Bits,
+    sink: &mut S,
+) -> Result<(), Stop>
+    requires short { layout.frame_num_length ≤ 16 }
+    requires room { S.failures sink.old < 2 ^ 64 - 1 }
+    ensures meets { Meets S.took S.failures (Is (λ _. header.new)) (header_from_kind header.old unit stated layout) bits.old bits.new sink.old sink.new result }
+    ensures id { OnOk result (header.new.pic_parameter_set_id ≡ header.old.pic_parameter_set_id) }
+{
+    let mut modifications = ArrayVec::new();
+    let active = read_slice_kind(layout, stated.slice_type, &mut modifications, bits, sink)?;
+    header.kind = Found {
+        bit: stated.bit,
+        value: kind_of(active, modifications),
+    };
+    let reference = unit.nal_ref_idc > 0;
+    read_marking(
+        reference,
+        unit.idr_pic_flag,
+        &mut header.marking,
+        bits,
+        sink,
+    )?;
+    header_from_qp(layout, header, bits, sink)
+}
+
+/// The header from frame_num on.
+fn header_from_frame_num<S: Elements>(
+    unit: SliceUnit,
+    stated: StatedType,
+    layout: Layout,
+    header: &mut Header,
+    bits: &mut Bits,
+    sink: &mut S,
+) -> Result<(), Stop>
+    requires short { IsShort layout }
+    requires room { S.failures sink.old < 2 ^ 64 - 1 }
+    ensures meets { Meets S.took S.failures (Is (λ _. header.new)) (header_from_frame_num header.old unit stated layout) bits.old bits.new sink.old sink.new result }
+    ensures id { OnOk result (header.new.pic_parameter_set_id ≡ header.old.pic_parameter_set_id) }
+{
+    header.frame_num = read_bits(bits, ElementName::FrameNum, layout.frame_num_length, sink)?;
+    header.idr_pic_id = read_idr(unit.idr_pic_flag, bits, sink)?;
+    header.pic_order_cnt = read_pic_order_cnt(layout.count, layout.has_bottom, bits, sink)?;
+    header_from_kind(unit, stated, layout, header, bits, sink)
+}
+
 /// The header, element by element.
 fn header_steps<S: Elements>(
     bits: &mut Bits,
@@ -271,27 +339,7 @@ fn header_steps<S: Elements>(
     header.same_type_in_picture = stated.same_in_picture;
     let named = read_named_sets(sets, bits, sink)?;
     header.pic_parameter_set_id = named.id;
-    let layout = named.layout;
-    header.frame_num = read_bits(bits, ElementName::FrameNum, layout.frame_num_length, sink)?;
-    header.idr_pic_id = read_idr(unit.idr_pic_flag, bits, sink)?;
-    header.pic_order_cnt = read_pic_order_cnt(layout.count, layout.has_bottom, bits, sink)?;
-    let mut modifications = ArrayVec::new();
-    let active = read_slice_kind(layout, stated.slice_type, &mut modifications, bits, sink)?;
-    header.kind = Found {
-        bit: stated.bit,
-        value: kind_of(active, modifications),
-    };
-    let reference = unit.nal_ref_idc > 0;
-    read_marking(
-        reference,
-        unit.idr_pic_flag,
-        &mut header.marking,
-        bits,
-        sink,
-    )?;
-    header.slice_qp_delta = read_se(bits, ElementName::SliceQpDelta, sink)?;
-    header.deblocking = read_deblocking(layout.has_deblocking_control, bits, sink)?;
-    Ok(())
+    header_from_frame_num(unit, stated, named.layout, header, bits, sink)
 }
 
 /// Reads the header of a slice, up to the bit at which its data begin, into a place of the caller: it is large to move.

@@ -5,7 +5,7 @@ ghost use Rattle.std.specs.Prelude.{◌≡◌, ℕ, ◌+◌, ◌-◌, ◌<◌, �
 ghost use Rattle.arrayvec.specs.ArrayVec.{array_vec_len};
 ghost use Rattle.h264_base.specs.Meets.{Meets, Is};
 ghost use Rattle.h264_header.specs.Listed.{listed};
-ghost use Rattle.h264_header.specs.RefList.{num_ref_idx_l0_active, active_of, abs_diff, command, is_command_allowed, modification, modifications_if, ref_pic_list0, kind_of, slice_kind};
+ghost use Rattle.h264_header.specs.RefList.{num_ref_idx_l0_active, active_of, abs_diff, command, is_command_allowed, placed_modification, modification, modifications_if, ref_pic_list0, kind_of, slice_kind};
 
 use crate::header::{Modification, PicNumModification, RefPicList0, SliceKind};
 use crate::layout::Layout;
@@ -69,51 +69,6 @@ fn read_abs_diff<S: Elements>(
     Ok(difference.value)
 }
 
-/// Command 0.
-fn read_subtract<S: Elements>(
-    max_frame_num: u32,
-    bits: &mut Bits,
-    sink: &mut S,
-) -> Result<Option<Modification>, Stop>
-    requires { S.failures sink.old < 2 ^ 64 - 1 }
-    ensures { Meets S.took S.failures (Is (λ x. x)) (command max_frame_num 0) bits.old bits.new sink.old sink.new result }
-{
-    let difference = read_abs_diff(max_frame_num, bits, sink)?;
-    Ok(Some(Modification::Subtract {
-        abs_diff_pic_num_minus1: difference,
-    }))
-}
-
-/// Command 1.
-fn read_add<S: Elements>(
-    max_frame_num: u32,
-    bits: &mut Bits,
-    sink: &mut S,
-) -> Result<Option<Modification>, Stop>
-    requires { S.failures sink.old < 2 ^ 64 - 1 }
-    ensures { Meets S.took S.failures (Is (λ x. x)) (command max_frame_num 1) bits.old bits.new sink.old sink.new result }
-{
-    let difference = read_abs_diff(max_frame_num, bits, sink)?;
-    Ok(Some(Modification::Add {
-        abs_diff_pic_num_minus1: difference,
-    }))
-}
-
-/// Command 2.
-fn read_long_term<S: Elements>(
-    max_frame_num: u32,
-    bits: &mut Bits,
-    sink: &mut S,
-) -> Result<Option<Modification>, Stop>
-    requires { S.failures sink.old < 2 ^ 64 - 1 }
-    ensures { Meets S.took S.failures (Is (λ x. x)) (command max_frame_num 2) bits.old bits.new sink.old sink.new result }
-{
-    let number = ue_value(bits, ElementName::LongTermPicNum, sink)?;
-    Ok(Some(Modification::LongTerm {
-        long_term_pic_num: number,
-    }))
-}
-
 /// The operand of a command; 3 has none.
 fn read_command<S: Elements>(
     max_frame_num: u32,
@@ -125,9 +80,24 @@ fn read_command<S: Elements>(
     ensures { Meets S.took S.failures (Is (λ x. x)) (command max_frame_num idc) bits.old bits.new sink.old sink.new result }
 {
     match idc {
-        0 => read_subtract(max_frame_num, bits, sink),
-        1 => read_add(max_frame_num, bits, sink),
-        2 => read_long_term(max_frame_num, bits, sink),
+        0 => {
+            let difference = read_abs_diff(max_frame_num, bits, sink)?;
+            Ok(Some(Modification::Subtract {
+                abs_diff_pic_num_minus1: difference,
+            }))
+        }
+        1 => {
+            let difference = read_abs_diff(max_frame_num, bits, sink)?;
+            Ok(Some(Modification::Add {
+                abs_diff_pic_num_minus1: difference,
+            }))
+        }
+        2 => {
+            let number = ue_value(bits, ElementName::LongTermPicNum, sink)?;
+            Ok(Some(Modification::LongTerm {
+                long_term_pic_num: number,
+            }))
+        }
         _ => Ok(None),
     }
 }
@@ -140,6 +110,16 @@ fn is_command_allowed(active: u32, before: usize, idc: u32) -> bool
         before > 0
     } else {
         idc < END && before < active as usize
+    }
+}
+
+/// A command with its place, or the end.
+fn placed_modification(bit: u64, command: Option<Modification>) -> Option<PicNumModification>
+    ensures { result ≡ placed_modification bit command }
+{
+    match command {
+        Some(modification) => Some(PicNumModification { bit, modification }),
+        None => None,
     }
 }
 
@@ -165,13 +145,7 @@ fn read_modification<S: Elements>(
         return Ok(None);
     }
     let command = read_command(max_frame_num, idc.value, bits, sink)?;
-    match command {
-        Some(modification) => Ok(Some(PicNumModification {
-            bit: idc.bit,
-            modification,
-        })),
-        None => Ok(None),
-    }
+    Ok(placed_modification(idc.bit, command))
 }
 
 /// The commands up to the one that ends them, into an empty list.

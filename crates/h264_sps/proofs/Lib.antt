@@ -1,3 +1,4 @@
 pub mod Padded
+pub mod Regroup
 pub mod Types
 pub mod Limits

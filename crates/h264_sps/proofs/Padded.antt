@@ -1,5 +1,5 @@
 -- An array whose first places are those of a list, and whose other places are empty.
-use Rattle.std.proofs.Common.{◌≡◌, ℕ, ℤ, pos, ◌+◌, ◌-◌, ◌≤◌, List, [], ◌∷◌, ◌++◌, take, drop, length, replicate, refl, ap, sym, ◌∙◌, arith}
+use Rattle.std.proofs.Common.{◌≡◌, ℕ, ℤ, pos, ◌-◌, ◌≤◌, List, ◌++◌, take, drop, length, replicate, ap, sym, ◌∙◌, arith}
 use Rattle.std.proofs.lemmas.List.{take-append-drop, length-take-le}
 use Rattle.h264_sps.specs.declared.count_type.Cycle.{Cycle}
 use Rattle.h264_sps.specs.declared.hrd.Cpb.{Cpb}

@@ -1,6 +1,6 @@
 -- Types of counting other than 0 and 1.
 use Rattle.std.proofs.Common.{◌≡◌, ◌≢◌, ℕ, zero, suc, refl}
-use Rattle.h264_base.specs.Grammar.{Grammar, Done}
+use Rattle.h264_base.specs.Grammar.{Done}
 use Rattle.h264_sps.specs.declared.count_type.CountType.TheVariants.{DecodingOrder}
 use Rattle.h264_sps.specs.Counting.{of_type}
 

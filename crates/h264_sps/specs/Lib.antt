@@ -2,5 +2,6 @@ pub mod Counting
 pub mod Hrd
 pub mod Vui
 pub mod Sps
+pub mod Parts
 pub mod Seen
 pub mod Usable

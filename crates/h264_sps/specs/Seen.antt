@@ -1,5 +1,4 @@
 -- What the reader's own types show.
-use Rattle.std.specs.Prelude.{ℕ}
 use Rattle.h264_sps.specs.declared.read.Level.{Level}
 use Rattle.h264_sps.specs.declared.read.Front.{Front}
 use Rattle.h264_sps.specs.Sps.{LevelNamed, ProfileAndLevel}

@@ -1,12 +1,11 @@
 -- vui_parameters() (E.1.1), with the rules on the picture buffer (E.2.1).
-use Rattle.std.specs.Prelude.{ℕ, nat_le, ◌==◌, ◌||◌, Bool, Option, Some, None}
+use Rattle.std.specs.Prelude.{ℕ, nat_le, ◌==◌, ◌||◌, Bool, Option}
 use Rattle.std.specs.Option.{is_some}
 use Rattle.h264_base.specs.declared.element_name.ElementName.TheVariants.{AspectRatioInfoPresentFlag, AspectRatioIdc, SarWidth, SarHeight, OverscanInfoPresentFlag, OverscanAppropriateFlag, VideoSignalTypePresentFlag, VideoFormat, VideoFullRangeFlag, ColourDescriptionPresentFlag, ColourPrimaries, TransferCharacteristics, MatrixCoefficients, ChromaLocInfoPresentFlag, ChromaSampleLocTypeTopField, ChromaSampleLocTypeBottomField, TimingInfoPresentFlag, NumUnitsInTick, TimeScale, FixedFrameRateFlag, NalHrdParametersPresentFlag, VclHrdParametersPresentFlag, LowDelayHrdFlag, PicStructPresentFlag, BitstreamRestrictionFlag, MotionVectorsOverPicBoundariesFlag, MaxBytesPerPicDenom, MaxBitsPerMbDenom, Log2MaxMvLengthHorizontal, Log2MaxMvLengthVertical, MaxNumReorderFrames, MaxDecFrameBuffering}
 use Rattle.h264_base.specs.declared.rule.Rule.TheVariants.{Vui}
 use Rattle.h264_base.specs.Word.{Unsigned}
 use Rattle.h264_base.specs.Grammar.{Grammar, Done, ◌>>=◌, element, check}
 use Rattle.h264_bits.specs.Forms.{natural, unsigned, bits, flag, optional}
-use Rattle.h264_sps.specs.declared.hrd.Hrd.{Hrd}
 use Rattle.h264_sps.specs.declared.vui.SampleAspectRatio.{SampleAspectRatio}
 use Rattle.h264_sps.specs.declared.vui.ExtendedRatio.{ExtendedRatio}
 use Rattle.h264_sps.specs.declared.vui.VideoSignalType.{VideoSignalType}

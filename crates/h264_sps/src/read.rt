@@ -1,17 +1,18 @@
 //! Reading a sequence parameter set (7.3.2.1.1).
 #![tactic(auto)]
 
-ghost use Rattle.std.specs.Prelude.{◌≡◌, ℕ, ◌+◌, ◌*◌, ◌-◌, ◌<◌, ◌≤◌, ◌^◌, IfOk};
+ghost use Rattle.std.specs.Prelude.{◌≡◌, ℕ, ◌+◌, ◌*◌, ◌-◌, ◌<◌, ◌≤◌, ◌^◌, IfOk, IfSome, Some, None, cond};
 ghost use Rattle.h264_base.specs.Meets.{Meets, Is, Answers};
 ghost use Rattle.h264_base.specs.declared.element_name.ElementName.TheVariants.{FrameCroppingFlag, VuiParametersPresentFlag};
 ghost use Rattle.h264_bits.specs.Forms.{flag};
 ghost use Rattle.h264_sps.specs.Vui.{flagged, vui};
+ghost use Rattle.h264_sps.specs.Parts.{two_flags, crop_offsets, is_size_allowed, sps_from_counting, sps_from_size, sps_from_cropping};
 ghost use Rattle.h264_sps.specs.Seen.{level_seen, front_seen};
 ghost use Rattle.h264_sps.specs.Sps.{constraint_set_flags, level, profile_and_level, frame_size, frame_cropping, max_dpb_frames as max_dpb_frames_of, is_judged_profile, is_level_6, sps};
 
-use crate::count_type::read_count_type;
+use crate::count_type::{CountType, read_count_type};
 use crate::sps::{ConstraintSetFlags, FrameCropping, FrameSize, Sps};
-use crate::vui::{Vui, read_vui};
+use crate::vui::{Frames, Vui, read_vui};
 use h264_base::{ElementName, Elements, Feature, Rule, Stop};
 use h264_bits::forms::{flag_value, u_must_be, u_value, ue_up_to};
 use h264_bits::{Bits, check, read_trailing, read_u, read_ue, support};
@@ -33,6 +34,22 @@ pub(crate) struct Front {
     level: Level,
 }
 
+/// What stands before the way to count.
+#[derive(Clone, Copy)]
+pub(crate) struct Start {
+    front: Front,
+    seq_parameter_set_id: u32,
+    log2_max_frame_num: u32,
+}
+
+/// How pictures are counted, and how many are held for reference.
+#[derive(Clone, Copy)]
+pub(crate) struct Counted {
+    count_type: CountType,
+    max_num_ref_frames: u32,
+    gaps_in_frame_num_value_allowed_flag: bool,
+}
+
 fn is_judged_profile(profile_idc: u32, set0: bool) -> bool
     ensures { result ≡ is_judged_profile profile_idc set0 }
 {
@@ -45,24 +62,51 @@ fn is_level_6(level_idc: u32) -> bool
     level_idc == 60 || level_idc == 61 || level_idc == 62
 }
 
+/// Two of the flags.
+fn read_two_flags<S: Elements>(
+    first: ElementName,
+    second: ElementName,
+    bits: &mut Bits,
+    sink: &mut S,
+) -> Result<(bool, bool), Stop>
+    requires { S.failures sink.old < 2 ^ 64 - 1 }
+    ensures { Meets S.took S.failures (Is (λ x. (x.0, x.1))) (two_flags first second) bits.old bits.new sink.old sink.new result }
+{
+    let a = flag_value(bits, first, sink)?;
+    let b = flag_value(bits, second, sink)?;
+    Ok((a, b))
+}
+
 /// The six flags.
 fn read_flags<S: Elements>(bits: &mut Bits, sink: &mut S) -> Result<ConstraintSetFlags, Stop>
     requires { S.failures sink.old < 2 ^ 64 - 1 }
     ensures { Meets S.took S.failures (Is (λ x. x)) constraint_set_flags bits.old bits.new sink.old sink.new result }
 {
-    let set0 = flag_value(bits, ElementName::ConstraintSet0Flag, sink)?;
-    let set1 = flag_value(bits, ElementName::ConstraintSet1Flag, sink)?;
-    let set2 = flag_value(bits, ElementName::ConstraintSet2Flag, sink)?;
-    let set3 = flag_value(bits, ElementName::ConstraintSet3Flag, sink)?;
-    let set4 = flag_value(bits, ElementName::ConstraintSet4Flag, sink)?;
-    let set5 = flag_value(bits, ElementName::ConstraintSet5Flag, sink)?;
+    let first = read_two_flags(
+        ElementName::ConstraintSet0Flag,
+        ElementName::ConstraintSet1Flag,
+        bits,
+        sink,
+    )?;
+    let middle = read_two_flags(
+        ElementName::ConstraintSet2Flag,
+        ElementName::ConstraintSet3Flag,
+        bits,
+        sink,
+    )?;
+    let last = read_two_flags(
+        ElementName::ConstraintSet4Flag,
+        ElementName::ConstraintSet5Flag,
+        bits,
+        sink,
+    )?;
     Ok(ConstraintSetFlags {
-        set0,
-        set1,
-        set2,
-        set3,
-        set4,
-        set5,
+        set0: first.0,
+        set1: first.1,
+        set2: middle.0,
+        set3: middle.1,
+        set4: last.0,
+        set5: last.1,
     })
 }
 
@@ -117,6 +161,37 @@ pub fn max_dpb_frames(limits: Limits, frame_size: FrameSize) -> u32
     (limits.max_dpb_mbs / (frame_size.width * frame_size.height)).min(16)
 }
 
+/// The size of a frame, where the level allows it, and the reference frames in its picture buffer.
+fn allowed_size(
+    limits: Limits,
+    max_num_ref_frames: u32,
+    width: u64,
+    height: u64,
+) -> Option<FrameSize>
+    requires across { (0 < width) × (width ≤ 2 ^ 32) }
+    requires down { (0 < height) × (height ≤ 2 ^ 32) }
+    ensures is { result ≡ cond (is_size_allowed limits max_num_ref_frames (record { width = width; height = height })) (Some (record { width = width; height = height })) None }
+    ensures some { IfSome result (λ s. (0 < s.width) × (0 < s.height)) }
+    ensures fits { IfSome result (λ s. s.width * s.height < 2 ^ 32) }
+{
+    let most = limits.max_fs as u64;
+    if width > most || height > most {
+        return None;
+    }
+    if width * height > most || width * width > 8 * most || height * height > 8 * most {
+        return None;
+    }
+    let size = FrameSize {
+        width: width as u32,
+        height: height as u32,
+    };
+    if max_num_ref_frames <= max_dpb_frames(limits, size) {
+        Some(size)
+    } else {
+        None
+    }
+}
+
 /// The size of a frame, which fits the level, as do the reference frames.
 fn read_frame_size<S: Elements>(
     limits: Limits,
@@ -127,59 +202,37 @@ fn read_frame_size<S: Elements>(
     requires { S.failures sink.old < 2 ^ 64 - 1 }
     ensures meets { Meets S.took S.failures (Is (λ x. x)) (frame_size limits max_num_ref_frames) bits.old bits.new sink.old sink.new result }
     ensures some { IfOk result (λ s. (0 < s.width) × (0 < s.height)) }
-    ensures fits { IfOk result (λ s. s.width * s.height ≤ limits.max_fs) }
+    ensures fits { IfOk result (λ s. s.width * s.height < 2 ^ 32) }
 {
     let width_minus1 = read_ue(bits, ElementName::PicWidthInMbsMinus1, sink)?;
     let height_minus1 = read_ue(bits, ElementName::PicHeightInMapUnitsMinus1, sink)?;
-    let bit = height_minus1.bit;
     let width = width_minus1.value as u64 + 1;
     let height = height_minus1.value as u64 + 1;
-    check(width * height <= limits.max_fs as u64, Rule::FrameSize, bit)?;
-    check(
-        width * width <= 8 * limits.max_fs as u64,
-        Rule::FrameSize,
-        bit,
-    )?;
-    check(
-        height * height <= 8 * limits.max_fs as u64,
-        Rule::FrameSize,
-        bit,
-    )?;
-    let size = FrameSize {
-        width: width as u32,
-        height: height as u32,
-    };
-    check(
-        max_num_ref_frames <= max_dpb_frames(limits, size),
-        Rule::FrameSize,
-        bit,
-    )?;
-    Ok(size)
+    match allowed_size(limits, max_num_ref_frames, width, height) {
+        Some(size) => Ok(size),
+        None => Err(Stop::No {
+            bit: height_minus1.bit,
+            rule: Rule::FrameSize,
+        }),
+    }
 }
 
-/// The cropping offsets, which leave some samples.
-fn read_cropping<S: Elements>(
-    size: FrameSize,
+/// The offsets at two sides of a frame, so many macroblocks apart, which leave some samples between them.
+fn read_crop_offsets<S: Elements>(
+    first: ElementName,
+    second: ElementName,
+    macroblocks: u32,
     bits: &mut Bits,
     sink: &mut S,
-) -> Result<FrameCropping, Stop>
+) -> Result<(u32, u32), Stop>
     requires { S.failures sink.old < 2 ^ 64 - 1 }
-    ensures { Meets S.took S.failures (Is (λ x. x)) (frame_cropping size) bits.old bits.new sink.old sink.new result }
+    ensures { Meets S.took S.failures (Is (λ x. (x.0, x.1))) (crop_offsets first second macroblocks) bits.old bits.new sink.old sink.new result }
 {
-    let left = read_ue(bits, ElementName::FrameCropLeftOffset, sink)?;
-    let right = read_ue(bits, ElementName::FrameCropRightOffset, sink)?;
-    let across = 2 * (left.value as u64 + right.value as u64);
-    check(across < 16 * size.width as u64, Rule::Crop, right.bit)?;
-    let top = read_ue(bits, ElementName::FrameCropTopOffset, sink)?;
-    let bottom = read_ue(bits, ElementName::FrameCropBottomOffset, sink)?;
-    let down = 2 * (top.value as u64 + bottom.value as u64);
-    check(down < 16 * size.height as u64, Rule::Crop, bottom.bit)?;
-    Ok(FrameCropping {
-        left: left.value,
-        right: right.value,
-        top: top.value,
-        bottom: bottom.value,
-    })
+    let before = read_ue(bits, first, sink)?;
+    let behind = read_ue(bits, second, sink)?;
+    let cropped = 2 * (before.value as u64 + behind.value as u64);
+    check(cropped < 16 * macroblocks as u64, Rule::Crop, behind.bit)?;
+    Ok((before.value, behind.value))
 }
 
 /// The cropping offsets, where they are present.
@@ -195,8 +248,22 @@ fn read_crop_info<S: Elements>(
     if !present {
         return Ok(None);
     }
-    let part = read_cropping(size, bits, sink)?;
-    Ok(Some(part))
+    let (left, right) = (
+        ElementName::FrameCropLeftOffset,
+        ElementName::FrameCropRightOffset,
+    );
+    let across = read_crop_offsets(left, right, size.width, bits, sink)?;
+    let (top, bottom) = (
+        ElementName::FrameCropTopOffset,
+        ElementName::FrameCropBottomOffset,
+    );
+    let down = read_crop_offsets(top, bottom, size.height, bits, sink)?;
+    Ok(Some(FrameCropping {
+        left: across.0,
+        right: across.1,
+        top: down.0,
+        bottom: down.1,
+    }))
 }
 
 /// The usability information, where it is present.
@@ -213,8 +280,83 @@ fn read_vui_info<S: Elements>(
     if !present {
         return Ok(None);
     }
-    let part = read_vui(max_num_ref_frames, max_dpb_frames, bits, sink)?;
+    let frames = Frames {
+        max_num_ref_frames,
+        max_dpb_frames,
+    };
+    let part = read_vui(frames, bits, sink)?;
     Ok(Some(part))
+}
+
+/// The set from the cropping flag on.
+fn sps_from_cropping<S: Elements>(
+    start: &Start,
+    counted: &Counted,
+    size: FrameSize,
+    direct: bool,
+    bits: &mut Bits,
+    sink: &mut S,
+) -> Result<Sps, Stop>
+    requires some { (0 < size.width) × (0 < size.height) }
+    requires fits { size.width * size.height < 2 ^ 32 }
+    requires room { S.failures sink.old < 2 ^ 64 - 1 }
+    ensures meets { Meets S.took S.failures (Is (λ x. x)) (sps_from_cropping start.now counted.now size direct) bits.old bits.new sink.old sink.new result }
+    ensures id { IfOk result (λ s. s.seq_parameter_set_id ≡ start.now.seq_parameter_set_id) }
+{
+    let crop = read_crop_info(size, bits, sink)?;
+    let buffer = max_dpb_frames(start.front.level.limits, size);
+    let usability = read_vui_info(counted.max_num_ref_frames, buffer, bits, sink)?;
+    read_trailing(bits, sink)?;
+    Ok(Sps {
+        profile_idc: start.front.profile_idc,
+        constraint_set_flags: start.front.flags,
+        reserved_zero_2bits: start.front.reserved,
+        level_idc: start.front.level.level_idc,
+        seq_parameter_set_id: start.seq_parameter_set_id,
+        log2_max_frame_num: start.log2_max_frame_num,
+        count_type: counted.count_type,
+        max_num_ref_frames: counted.max_num_ref_frames,
+        gaps_in_frame_num_value_allowed_flag: counted.gaps_in_frame_num_value_allowed_flag,
+        frame_size: size,
+        direct_8x8_inference_flag: direct,
+        frame_cropping: crop,
+        vui: usability,
+    })
+}
+
+/// The set from the frame's size on.
+fn sps_from_size<S: Elements>(
+    start: &Start,
+    counted: &Counted,
+    bits: &mut Bits,
+    sink: &mut S,
+) -> Result<Sps, Stop>
+    requires { S.failures sink.old < 2 ^ 64 - 1 }
+    ensures meets { Meets S.took S.failures (Is (λ x. x)) (sps_from_size start.now counted.now) bits.old bits.new sink.old sink.new result }
+    ensures id { IfOk result (λ s. s.seq_parameter_set_id ≡ start.now.seq_parameter_set_id) }
+{
+    let limits = start.front.level.limits;
+    let size = read_frame_size(limits, counted.max_num_ref_frames, bits, sink)?;
+    u_must_be::<1, S>(bits, ElementName::FrameMbsOnlyFlag, 1, sink)?;
+    let direct = flag_value(bits, ElementName::Direct8x8InferenceFlag, sink)?;
+    sps_from_cropping(start, counted, size, direct, bits, sink)
+}
+
+/// The set from pic_order_cnt_type on.
+fn sps_from_counting<S: Elements>(start: &Start, bits: &mut Bits, sink: &mut S) -> Result<Sps, Stop>
+    requires { S.failures sink.old < 2 ^ 64 - 1 }
+    ensures meets { Meets S.took S.failures (Is (λ x. x)) (sps_from_counting start.now) bits.old bits.new sink.old sink.new result }
+    ensures id { IfOk result (λ s. s.seq_parameter_set_id ≡ start.now.seq_parameter_set_id) }
+{
+    let count_type = read_count_type(bits, sink)?;
+    let refs = ue_up_to(bits, ElementName::MaxNumRefFrames, 16, sink)?;
+    let gaps = flag_value(bits, ElementName::GapsInFrameNumValueAllowedFlag, sink)?;
+    let counted = Counted {
+        count_type,
+        max_num_ref_frames: refs,
+        gaps_in_frame_num_value_allowed_flag: gaps,
+    };
+    sps_from_size(start, &counted, bits, sink)
 }
 
 /// The set, element by element.
@@ -226,31 +368,12 @@ fn sps_steps<S: Elements>(bits: &mut Bits, sink: &mut S) -> Result<Sps, Stop>
     let front = read_front(bits, sink)?;
     let id = ue_up_to(bits, ElementName::SeqParameterSetId, 31, sink)?;
     let log2_minus4 = ue_up_to(bits, ElementName::Log2MaxFrameNumMinus4, 12, sink)?;
-    let count_type = read_count_type(bits, sink)?;
-    let refs = ue_up_to(bits, ElementName::MaxNumRefFrames, 16, sink)?;
-    let gaps = flag_value(bits, ElementName::GapsInFrameNumValueAllowedFlag, sink)?;
-    let size = read_frame_size(front.level.limits, refs, bits, sink)?;
-    u_must_be::<1, S>(bits, ElementName::FrameMbsOnlyFlag, 1, sink)?;
-    let direct = flag_value(bits, ElementName::Direct8x8InferenceFlag, sink)?;
-    let crop = read_crop_info(size, bits, sink)?;
-    let buffer = max_dpb_frames(front.level.limits, size);
-    let usability = read_vui_info(refs, buffer, bits, sink)?;
-    read_trailing(bits, sink)?;
-    Ok(Sps {
-        profile_idc: front.profile_idc,
-        constraint_set_flags: front.flags,
-        reserved_zero_2bits: front.reserved,
-        level_idc: front.level.level_idc,
+    let start = Start {
+        front,
         seq_parameter_set_id: id,
         log2_max_frame_num: log2_minus4 + 4,
-        count_type,
-        max_num_ref_frames: refs,
-        gaps_in_frame_num_value_allowed_flag: gaps,
-        frame_size: size,
-        direct_8x8_inference_flag: direct,
-        frame_cropping: crop,
-        vui: usability,
-    })
+    };
+    sps_from_counting(&start, bits, sink)
 }
 
 /// Reads a sequence parameter set, which is all of the unit's RBSP.

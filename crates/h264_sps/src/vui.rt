@@ -4,9 +4,10 @@
 ghost use Rattle.std.specs.Prelude.{◌≡◌, ◌||◌, ℕ, ◌-◌, ◌<◌, ◌^◌};
 ghost use Rattle.std.specs.Option.{is_some};
 ghost use Rattle.h264_base.specs.Meets.{Meets, Is};
-ghost use Rattle.h264_base.specs.declared.element_name.ElementName.TheVariants.{AspectRatioInfoPresentFlag, OverscanInfoPresentFlag, OverscanAppropriateFlag, VideoSignalTypePresentFlag, ChromaLocInfoPresentFlag, TimingInfoPresentFlag, NalHrdParametersPresentFlag, VclHrdParametersPresentFlag, LowDelayHrdFlag, BitstreamRestrictionFlag};
+ghost use Rattle.h264_base.specs.declared.element_name.ElementName.TheVariants.{AspectRatioInfoPresentFlag, OverscanInfoPresentFlag, OverscanAppropriateFlag, VideoSignalTypePresentFlag, ChromaLocInfoPresentFlag, TimingInfoPresentFlag, LowDelayHrdFlag, BitstreamRestrictionFlag};
 ghost use Rattle.h264_bits.specs.Forms.{flag, optional};
 ghost use Rattle.h264_sps.specs.Hrd.{hrd};
+ghost use Rattle.h264_sps.specs.Parts.{is_buffering_allowed, restriction_from_lengths, restriction_from_reordering, vui_from_location, vui_from_hrd, vui_from_pic_struct};
 ghost use Rattle.h264_sps.specs.Vui.{extended_ratio, sample_aspect_ratio, colour_description, video_signal_type, chroma_location, timing, bitstream_restriction, flagged, vui};
 
 use crate::hrd::{Hrd, read_hrd};
@@ -92,20 +93,46 @@ pub struct Vui {
     pub bitstream_restriction: Option<BitstreamRestriction>,
 }
 
-/// sar_width and sar_height.
-fn read_extended_ratio<S: Elements>(bits: &mut Bits, sink: &mut S) -> Result<ExtendedRatio, Stop>
-    requires { S.failures sink.old < 2 ^ 64 - 1 }
-    ensures { Meets S.took S.failures (Is (λ x. x)) extended_ratio bits.old bits.new sink.old sink.new result }
-{
-    let width = u_value::<16, S>(bits, ElementName::SarWidth, sink)?;
-    let height = u_value::<16, S>(bits, ElementName::SarHeight, sink)?;
-    Ok(ExtendedRatio {
-        sar_width: width,
-        sar_height: height,
-    })
+/// How many frames the picture buffer has to hold, and may hold.
+#[derive(Clone, Copy)]
+pub(crate) struct Frames {
+    pub(crate) max_num_ref_frames: u32,
+    /// MaxDpbFrames of the level.
+    pub(crate) max_dpb_frames: u32,
 }
 
-/// The extended ratio, where it is present.
+/// What a bitstream restriction says first.
+#[derive(Clone, Copy)]
+pub(crate) struct Denominators {
+    over: bool,
+    bytes: u32,
+    mb_bits: u32,
+}
+
+/// How pictures are to be shown.
+#[derive(Clone, Copy)]
+pub(crate) struct Shown {
+    ratio: Option<SampleAspectRatio>,
+    overscan: Option<bool>,
+    signal: Option<VideoSignalType>,
+}
+
+/// Where chroma samples lie, and the rate of pictures.
+#[derive(Clone, Copy)]
+pub(crate) struct Timed {
+    location: Option<ChromaLocation>,
+    time: Option<Timing>,
+}
+
+/// The buffers of a hypothetical reference decoder.
+#[derive(Clone, Copy)]
+pub(crate) struct Buffers {
+    nal: Option<Hrd>,
+    vcl: Option<Hrd>,
+    low_delay: Option<bool>,
+}
+
+/// sar_width and sar_height, where they are present.
 fn read_extended<S: Elements>(
     present: bool,
     bits: &mut Bits,
@@ -117,42 +144,12 @@ fn read_extended<S: Elements>(
     if !present {
         return Ok(None);
     }
-    let part = read_extended_ratio(bits, sink)?;
-    Ok(Some(part))
-}
-
-/// aspect_ratio_idc and what goes with it.
-fn read_sample_aspect_ratio<S: Elements>(
-    bits: &mut Bits,
-    sink: &mut S,
-) -> Result<SampleAspectRatio, Stop>
-    requires { S.failures sink.old < 2 ^ 64 - 1 }
-    ensures { Meets S.took S.failures (Is (λ x. x)) sample_aspect_ratio bits.old bits.new sink.old sink.new result }
-{
-    let idc = u_value::<8, S>(bits, ElementName::AspectRatioIdc, sink)?;
-    let extended = read_extended(idc == EXTENDED_SAR, bits, sink)?;
-    Ok(SampleAspectRatio {
-        aspect_ratio_idc: idc,
-        extended,
-    })
-}
-
-/// The colour description.
-fn read_colour_description<S: Elements>(
-    bits: &mut Bits,
-    sink: &mut S,
-) -> Result<ColourDescription, Stop>
-    requires { S.failures sink.old < 2 ^ 64 - 1 }
-    ensures { Meets S.took S.failures (Is (λ x. x)) colour_description bits.old bits.new sink.old sink.new result }
-{
-    let primaries = u_value::<8, S>(bits, ElementName::ColourPrimaries, sink)?;
-    let transfer = u_value::<8, S>(bits, ElementName::TransferCharacteristics, sink)?;
-    let matrix = u_value::<8, S>(bits, ElementName::MatrixCoefficients, sink)?;
-    Ok(ColourDescription {
-        colour_primaries: primaries,
-        transfer_characteristics: transfer,
-        matrix_coefficients: matrix,
-    })
+    let width = u_value::<16, S>(bits, ElementName::SarWidth, sink)?;
+    let height = u_value::<16, S>(bits, ElementName::SarHeight, sink)?;
+    Ok(Some(ExtendedRatio {
+        sar_width: width,
+        sar_height: height,
+    }))
 }
 
 /// The colour description, where it is present.
@@ -167,8 +164,14 @@ fn read_colours<S: Elements>(
     if !present {
         return Ok(None);
     }
-    let part = read_colour_description(bits, sink)?;
-    Ok(Some(part))
+    let primaries = u_value::<8, S>(bits, ElementName::ColourPrimaries, sink)?;
+    let transfer = u_value::<8, S>(bits, ElementName::TransferCharacteristics, sink)?;
+    let matrix = u_value::<8, S>(bits, ElementName::MatrixCoefficients, sink)?;
+    Ok(Some(ColourDescription {
+        colour_primaries: primaries,
+        transfer_characteristics: transfer,
+        matrix_coefficients: matrix,
+    }))
 }
 
 /// video_format and what goes with it.
@@ -190,67 +193,78 @@ fn read_video_signal_type<S: Elements>(
     })
 }
 
-/// The two sample locations.
-fn read_chroma_location<S: Elements>(bits: &mut Bits, sink: &mut S) -> Result<ChromaLocation, Stop>
-    requires { S.failures sink.old < 2 ^ 64 - 1 }
-    ensures { Meets S.took S.failures (Is (λ x. x)) chroma_location bits.old bits.new sink.old sink.new result }
+/// Whether a picture buffer of so many frames holds the reference frames and those that are reordered, and the level allows it.
+fn is_buffering_allowed(frames: Frames, reorder: u32, buffering: u32) -> bool
+    ensures { result ≡ is_buffering_allowed frames reorder buffering }
 {
-    let top = ue_value(bits, ElementName::ChromaSampleLocTypeTopField, sink)?;
-    let bottom = ue_value(bits, ElementName::ChromaSampleLocTypeBottomField, sink)?;
-    Ok(ChromaLocation {
-        top_field: top,
-        bottom_field: bottom,
-    })
+    reorder <= buffering
+        && frames.max_num_ref_frames <= buffering
+        && buffering <= frames.max_dpb_frames
 }
 
-/// The rate of pictures.
-fn read_timing<S: Elements>(bits: &mut Bits, sink: &mut S) -> Result<Timing, Stop>
-    requires { S.failures sink.old < 2 ^ 64 - 1 }
-    ensures { Meets S.took S.failures (Is (λ x. x)) timing bits.old bits.new sink.old sink.new result }
-{
-    let units = u_value::<32, S>(bits, ElementName::NumUnitsInTick, sink)?;
-    let scale = u_value::<32, S>(bits, ElementName::TimeScale, sink)?;
-    let fixed = flag_value(bits, ElementName::FixedFrameRateFlag, sink)?;
-    Ok(Timing {
-        num_units_in_tick: units,
-        time_scale: scale,
-        fixed_frame_rate_flag: fixed,
-    })
-}
-
-/// What the stream restricts itself to, with the rules on max_dec_frame_buffering.
-fn read_bitstream_restriction<S: Elements>(
-    max_num_ref_frames: u32,
-    max_dpb_frames: u32,
+/// The restriction from max_num_reorder_frames on, with the rules on max_dec_frame_buffering.
+fn restriction_from_reordering<S: Elements>(
+    frames: Frames,
+    denominators: Denominators,
+    across: u32,
+    down: u32,
     bits: &mut Bits,
     sink: &mut S,
 ) -> Result<BitstreamRestriction, Stop>
     requires { S.failures sink.old < 2 ^ 64 - 1 }
-    ensures { Meets S.took S.failures (Is (λ x. x)) (bitstream_restriction max_num_ref_frames max_dpb_frames) bits.old bits.new sink.old sink.new result }
+    ensures { Meets S.took S.failures (Is (λ x. x)) (restriction_from_reordering frames denominators across down) bits.old bits.new sink.old sink.new result }
 {
-    let over = flag_value(bits, ElementName::MotionVectorsOverPicBoundariesFlag, sink)?;
-    let bytes = ue_value(bits, ElementName::MaxBytesPerPicDenom, sink)?;
-    let mb_bits = ue_value(bits, ElementName::MaxBitsPerMbDenom, sink)?;
-    let across = ue_value(bits, ElementName::Log2MaxMvLengthHorizontal, sink)?;
-    let down = ue_value(bits, ElementName::Log2MaxMvLengthVertical, sink)?;
     let reorder = ue_value(bits, ElementName::MaxNumReorderFrames, sink)?;
     let buffering = read_ue(bits, ElementName::MaxDecFrameBuffering, sink)?;
-    check(reorder <= buffering.value, Rule::Vui, buffering.bit)?;
     check(
-        max_num_ref_frames <= buffering.value,
+        is_buffering_allowed(frames, reorder, buffering.value),
         Rule::Vui,
         buffering.bit,
     )?;
-    check(buffering.value <= max_dpb_frames, Rule::Vui, buffering.bit)?;
     Ok(BitstreamRestriction {
-        motion_vectors_over_pic_boundaries_flag: over,
-        max_bytes_per_pic_denom: bytes,
-        max_bits_per_mb_denom: mb_bits,
+        motion_vectors_over_pic_boundaries_flag: denominators.over,
+        max_bytes_per_pic_denom: denominators.bytes,
+        max_bits_per_mb_denom: denominators.mb_bits,
         log2_max_mv_length_horizontal: across,
         log2_max_mv_length_vertical: down,
         max_num_reorder_frames: reorder,
         max_dec_frame_buffering: buffering.value,
     })
+}
+
+/// The restriction from the lengths of vectors on.
+fn restriction_from_lengths<S: Elements>(
+    frames: Frames,
+    denominators: Denominators,
+    bits: &mut Bits,
+    sink: &mut S,
+) -> Result<BitstreamRestriction, Stop>
+    requires { S.failures sink.old < 2 ^ 64 - 1 }
+    ensures { Meets S.took S.failures (Is (λ x. x)) (restriction_from_lengths frames denominators) bits.old bits.new sink.old sink.new result }
+{
+    let across = ue_value(bits, ElementName::Log2MaxMvLengthHorizontal, sink)?;
+    let down = ue_value(bits, ElementName::Log2MaxMvLengthVertical, sink)?;
+    restriction_from_reordering(frames, denominators, across, down, bits, sink)
+}
+
+/// What the stream restricts itself to.
+fn read_bitstream_restriction<S: Elements>(
+    frames: Frames,
+    bits: &mut Bits,
+    sink: &mut S,
+) -> Result<BitstreamRestriction, Stop>
+    requires { S.failures sink.old < 2 ^ 64 - 1 }
+    ensures { Meets S.took S.failures (Is (λ x. x)) (bitstream_restriction frames.max_num_ref_frames frames.max_dpb_frames) bits.old bits.new sink.old sink.new result }
+{
+    let over = flag_value(bits, ElementName::MotionVectorsOverPicBoundariesFlag, sink)?;
+    let bytes = ue_value(bits, ElementName::MaxBytesPerPicDenom, sink)?;
+    let mb_bits = ue_value(bits, ElementName::MaxBitsPerMbDenom, sink)?;
+    let denominators = Denominators {
+        over,
+        bytes,
+        mb_bits,
+    };
+    restriction_from_lengths(frames, denominators, bits, sink)
 }
 
 /// The shape of a sample, where it is present.
@@ -265,8 +279,12 @@ fn read_ratio_info<S: Elements>(
     if !present {
         return Ok(None);
     }
-    let part = read_sample_aspect_ratio(bits, sink)?;
-    Ok(Some(part))
+    let idc = u_value::<8, S>(bits, ElementName::AspectRatioIdc, sink)?;
+    let extended = read_extended(idc == EXTENDED_SAR, bits, sink)?;
+    Ok(Some(SampleAspectRatio {
+        aspect_ratio_idc: idc,
+        extended,
+    }))
 }
 
 /// overscan_appropriate_flag, where it is present.
@@ -310,8 +328,12 @@ fn read_location_info<S: Elements>(
     if !present {
         return Ok(None);
     }
-    let part = read_chroma_location(bits, sink)?;
-    Ok(Some(part))
+    let top = ue_value(bits, ElementName::ChromaSampleLocTypeTopField, sink)?;
+    let bottom = ue_value(bits, ElementName::ChromaSampleLocTypeBottomField, sink)?;
+    Ok(Some(ChromaLocation {
+        top_field: top,
+        bottom_field: bottom,
+    }))
 }
 
 /// The rate of pictures, where it is present.
@@ -323,29 +345,26 @@ fn read_timing_info<S: Elements>(bits: &mut Bits, sink: &mut S) -> Result<Option
     if !present {
         return Ok(None);
     }
-    let part = read_timing(bits, sink)?;
-    Ok(Some(part))
+    let units = u_value::<32, S>(bits, ElementName::NumUnitsInTick, sink)?;
+    let scale = u_value::<32, S>(bits, ElementName::TimeScale, sink)?;
+    let fixed = flag_value(bits, ElementName::FixedFrameRateFlag, sink)?;
+    Ok(Some(Timing {
+        num_units_in_tick: units,
+        time_scale: scale,
+        fixed_frame_rate_flag: fixed,
+    }))
 }
 
-/// The NAL HRD parameters, where they are present.
-fn read_nal_hrd<S: Elements>(bits: &mut Bits, sink: &mut S) -> Result<Option<Hrd>, Stop>
+/// The HRD parameters behind this flag, where they are present.
+fn read_hrd_info<S: Elements>(
+    flag_name: ElementName,
+    bits: &mut Bits,
+    sink: &mut S,
+) -> Result<Option<Hrd>, Stop>
     requires { S.failures sink.old < 2 ^ 64 - 1 }
-    ensures { Meets S.took S.failures (Is (λ x. x)) (flagged (flag NalHrdParametersPresentFlag) hrd) bits.old bits.new sink.old sink.new result }
+    ensures { Meets S.took S.failures (Is (λ x. x)) (flagged (flag flag_name) hrd) bits.old bits.new sink.old sink.new result }
 {
-    let present = flag_value(bits, ElementName::NalHrdParametersPresentFlag, sink)?;
-    if !present {
-        return Ok(None);
-    }
-    let part = read_hrd(bits, sink)?;
-    Ok(Some(part))
-}
-
-/// The VCL HRD parameters, where they are present.
-fn read_vcl_hrd<S: Elements>(bits: &mut Bits, sink: &mut S) -> Result<Option<Hrd>, Stop>
-    requires { S.failures sink.old < 2 ^ 64 - 1 }
-    ensures { Meets S.took S.failures (Is (λ x. x)) (flagged (flag VclHrdParametersPresentFlag) hrd) bits.old bits.new sink.old sink.new result }
-{
-    let present = flag_value(bits, ElementName::VclHrdParametersPresentFlag, sink)?;
+    let present = flag_value(bits, flag_name, sink)?;
     if !present {
         return Ok(None);
     }
@@ -378,52 +397,102 @@ fn read_low_delay<S: Elements>(
 
 /// What the stream restricts itself to, where it says so.
 fn read_restriction<S: Elements>(
-    max_num_ref_frames: u32,
-    max_dpb_frames: u32,
+    frames: Frames,
     bits: &mut Bits,
     sink: &mut S,
 ) -> Result<Option<BitstreamRestriction>, Stop>
     requires { S.failures sink.old < 2 ^ 64 - 1 }
-    ensures { Meets S.took S.failures (Is (λ x. x)) (flagged (flag BitstreamRestrictionFlag) (bitstream_restriction max_num_ref_frames max_dpb_frames)) bits.old bits.new sink.old sink.new result }
+    ensures { Meets S.took S.failures (Is (λ x. x)) (flagged (flag BitstreamRestrictionFlag) (bitstream_restriction frames.max_num_ref_frames frames.max_dpb_frames)) bits.old bits.new sink.old sink.new result }
 {
     let present = flag_value(bits, ElementName::BitstreamRestrictionFlag, sink)?;
     if !present {
         return Ok(None);
     }
-    let part = read_bitstream_restriction(max_num_ref_frames, max_dpb_frames, bits, sink)?;
+    let part = read_bitstream_restriction(frames, bits, sink)?;
     Ok(Some(part))
 }
 
-/// vui_parameters(), of a stream with so many reference frames, at a level whose buffer holds so many frames of its size.
-pub(crate) fn read_vui<S: Elements>(
-    max_num_ref_frames: u32,
-    max_dpb_frames: u32,
+/// The VUI from pic_struct_present_flag on.
+fn vui_from_pic_struct<S: Elements>(
+    shown: &Shown,
+    timed: Timed,
+    buffers: &Buffers,
+    frames: Frames,
     bits: &mut Bits,
     sink: &mut S,
 ) -> Result<Vui, Stop>
     requires { S.failures sink.old < 2 ^ 64 - 1 }
-    ensures { Meets S.took S.failures (Is (λ x. x)) (vui max_num_ref_frames max_dpb_frames) bits.old bits.new sink.old sink.new result }
+    ensures { Meets S.took S.failures (Is (λ x. x)) (vui_from_pic_struct shown.now timed buffers.now frames) bits.old bits.new sink.old sink.new result }
+{
+    let pic_struct = flag_value(bits, ElementName::PicStructPresentFlag, sink)?;
+    let restriction = read_restriction(frames, bits, sink)?;
+    Ok(Vui {
+        sample_aspect_ratio: shown.ratio,
+        overscan_appropriate_flag: shown.overscan,
+        video_signal_type: shown.signal,
+        chroma_location: timed.location,
+        timing: timed.time,
+        nal_hrd: buffers.nal,
+        vcl_hrd: buffers.vcl,
+        low_delay_hrd_flag: buffers.low_delay,
+        pic_struct_present_flag: pic_struct,
+        bitstream_restriction: restriction,
+    })
+}
+
+/// The VUI from the HRD parameters on.
+fn vui_from_hrd<S: Elements>(
+    shown: &Shown,
+    timed: Timed,
+    frames: Frames,
+    bits: &mut Bits,
+    sink: &mut S,
+) -> Result<Vui, Stop>
+    requires { S.failures sink.old < 2 ^ 64 - 1 }
+    ensures { Meets S.took S.failures (Is (λ x. x)) (vui_from_hrd shown.now timed frames) bits.old bits.new sink.old sink.new result }
+{
+    let nal = read_hrd_info(ElementName::NalHrdParametersPresentFlag, bits, sink)?;
+    let vcl = read_hrd_info(ElementName::VclHrdParametersPresentFlag, bits, sink)?;
+    let low_delay = read_low_delay(has_hrd(&nal, &vcl), bits, sink)?;
+    let buffers = Buffers {
+        nal,
+        vcl,
+        low_delay,
+    };
+    vui_from_pic_struct(shown, timed, &buffers, frames, bits, sink)
+}
+
+/// The VUI from the location of chroma samples on.
+fn vui_from_location<S: Elements>(
+    shown: &Shown,
+    frames: Frames,
+    bits: &mut Bits,
+    sink: &mut S,
+) -> Result<Vui, Stop>
+    requires { S.failures sink.old < 2 ^ 64 - 1 }
+    ensures { Meets S.took S.failures (Is (λ x. x)) (vui_from_location shown.now frames) bits.old bits.new sink.old sink.new result }
+{
+    let location = read_location_info(bits, sink)?;
+    let time = read_timing_info(bits, sink)?;
+    vui_from_hrd(shown, Timed { location, time }, frames, bits, sink)
+}
+
+/// vui_parameters(), of a stream with so many reference frames, at a level whose buffer holds so many frames of its size.
+pub(crate) fn read_vui<S: Elements>(
+    frames: Frames,
+    bits: &mut Bits,
+    sink: &mut S,
+) -> Result<Vui, Stop>
+    requires { S.failures sink.old < 2 ^ 64 - 1 }
+    ensures { Meets S.took S.failures (Is (λ x. x)) (vui frames.max_num_ref_frames frames.max_dpb_frames) bits.old bits.new sink.old sink.new result }
 {
     let ratio = read_ratio_info(bits, sink)?;
     let overscan = read_overscan_info(bits, sink)?;
     let signal = read_signal_info(bits, sink)?;
-    let location = read_location_info(bits, sink)?;
-    let time = read_timing_info(bits, sink)?;
-    let nal = read_nal_hrd(bits, sink)?;
-    let vcl = read_vcl_hrd(bits, sink)?;
-    let low_delay = read_low_delay(has_hrd(&nal, &vcl), bits, sink)?;
-    let pic_struct = flag_value(bits, ElementName::PicStructPresentFlag, sink)?;
-    let restriction = read_restriction(max_num_ref_frames, max_dpb_frames, bits, sink)?;
-    Ok(Vui {
-        sample_aspect_ratio: ratio,
-        overscan_appropriate_flag: overscan,
-        video_signal_type: signal,
-        chroma_location: location,
-        timing: time,
-        nal_hrd: nal,
-        vcl_hrd: vcl,
-        low_delay_hrd_flag: low_delay,
-        pic_struct_present_flag: pic_struct,
-        bitstream_restriction: restriction,
-    })
+    let shown = Shown {
+        ratio,
+        overscan,
+        signal,
+    };
+    vui_from_location(&shown, frames, bits, sink)
 }

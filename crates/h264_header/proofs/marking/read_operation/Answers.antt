@@ -1,9 +1,9 @@
-use Rattle.std.proofs.Common.{Option, None, refl}
+use Rattle.std.proofs.Common.{Option, None, refl, sym}
 use Rattle.h264_header.specs.declared.header.Operation.{Operation}
 use Rattle.std.proofs.lemmas.Result.{err_from_is_err_and}
 use Rattle.h264_base.proofs.Steps.{bind, stop, done, checked}
 use Rattle.h264_header.specs.Marking.{operation, operands}
-use Rattle.h264_header.proofs.Entries.{operation-room}
+use Rattle.h264_header.proofs.Entries.{operation-room, always}
 use Rattle.h264_header.proofs.marking.read_operation.Goals as goal
 
 pub returns-in_err-number-clause-meets : goal.returns-in_err-number-clause-meets
@@ -22,13 +22,9 @@ pub returns-in_err-found-clause-meets : goal.returns-in_err-found-clause-meets
 unfolding operation
 returns-in_err-found-clause-meets g c = let p = err_from_is_err_and c.from_residual-in_err-found.result c.from_residual-in_err-found.ensures.1 in let allowed = rw (c.is_operation_allowed.ensures, c.as_slice.ensures.value) at c.in_ok-check.ensures in rw (p.1, p.2) (bind _ c.in_ok-number.ensures.meets (bind _ (checked _ _ _ _ allowed) (stop _ c.in_err-found.ensures)))
 
-pub returns-in-Some-clause-meets : goal.returns-in-Some-clause-meets
+pub returns-clause-meets : goal.returns-clause-meets
 unfolding operation
-returns-in-Some-clause-meets g c = let allowed = rw (c.is_operation_allowed.ensures, c.as_slice.ensures.value) at c.in_ok-check.ensures in bind _ c.in_ok-number.ensures.meets (bind _ (checked _ _ _ _ allowed) (bind _ c.in_ok-found.ensures (rw c.in-Some.is (done _ _ _ _ _ _ _ refl))))
+returns-clause-meets g c = let allowed = rw (c.is_operation_allowed.ensures, c.as_slice.ensures.value) at c.in_ok-check.ensures in bind _ c.in_ok-number.ensures.meets (bind _ (checked _ _ _ _ allowed) (bind _ c.in_ok-found.ensures (done _ _ _ _ _ _ _ (sym c.placed_operation.ensures))))
 
-pub returns-in-Some-clause-room : goal.returns-in-Some-clause-room
-returns-in-Some-clause-room g c = let allowed = rw (c.is_operation_allowed.ensures, c.as_slice.ensures.value) at c.in_ok-check.ensures in operation-room _ c.in_ok-number.number.value c.if-number-eq0.false allowed.checks
-
-pub returns-in-None-clause-meets : goal.returns-in-None-clause-meets
-unfolding operation
-returns-in-None-clause-meets g c = let allowed = rw (c.is_operation_allowed.ensures, c.as_slice.ensures.value) at c.in_ok-check.ensures in bind _ c.in_ok-number.ensures.meets (bind _ (checked _ _ _ _ allowed) (bind _ c.in_ok-found.ensures (rw c.in-None.is (done _ _ _ _ _ _ _ refl))))
+pub returns-clause-room : goal.returns-clause-room
+returns-clause-room g c = let allowed = rw (c.is_operation_allowed.ensures, c.as_slice.ensures.value) at c.in_ok-check.ensures in always _ (operation-room _ c.in_ok-number.number.value c.if-number-eq0.false allowed.checks)

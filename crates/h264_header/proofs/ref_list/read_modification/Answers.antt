@@ -1,9 +1,9 @@
-use Rattle.std.proofs.Common.{Option, None, refl}
+use Rattle.std.proofs.Common.{Option, None, refl, sym}
 use Rattle.h264_header.specs.declared.header.Modification.{Modification}
 use Rattle.std.proofs.lemmas.Result.{err_from_is_err_and}
 use Rattle.h264_base.proofs.Steps.{bind, stop, done, checked}
 use Rattle.h264_header.specs.RefList.{modification, command}
-use Rattle.h264_header.proofs.Entries.{command-room}
+use Rattle.h264_header.proofs.Entries.{command-room, always}
 use Rattle.h264_header.proofs.ref_list.read_modification.Goals as goal
 
 pub returns-in_err-idc-clause-meets : goal.returns-in_err-idc-clause-meets
@@ -22,13 +22,9 @@ pub returns-in_err-command-clause-meets : goal.returns-in_err-command-clause-mee
 unfolding modification
 returns-in_err-command-clause-meets g c = let p = err_from_is_err_and c.from_residual-in_err-command.result c.from_residual-in_err-command.ensures.1 in let allowed = rw (c.is_command_allowed.ensures, c.len.ensures.value) at c.in_ok-check.ensures in rw (p.1, p.2) (bind _ c.in_ok-idc.ensures.meets (bind _ (checked _ _ _ _ allowed) (stop _ c.in_err-command.ensures)))
 
-pub returns-in-Some-clause-meets : goal.returns-in-Some-clause-meets
+pub returns-clause-meets : goal.returns-clause-meets
 unfolding modification
-returns-in-Some-clause-meets g c = let allowed = rw (c.is_command_allowed.ensures, c.len.ensures.value) at c.in_ok-check.ensures in bind _ c.in_ok-idc.ensures.meets (bind _ (checked _ _ _ _ allowed) (bind _ c.in_ok-command.ensures (rw c.in-Some.is (done _ _ _ _ _ _ _ refl))))
+returns-clause-meets g c = let allowed = rw (c.is_command_allowed.ensures, c.len.ensures.value) at c.in_ok-check.ensures in bind _ c.in_ok-idc.ensures.meets (bind _ (checked _ _ _ _ allowed) (bind _ c.in_ok-command.ensures (done _ _ _ _ _ _ _ (sym c.placed_modification.ensures))))
 
-pub returns-in-Some-clause-room : goal.returns-in-Some-clause-room
-returns-in-Some-clause-room g c = let allowed = rw (c.is_command_allowed.ensures, c.len.ensures.value) at c.in_ok-check.ensures in command-room c.args.active _ c.in_ok-idc.idc.value c.if-idc-eq-END.false allowed.checks
-
-pub returns-in-None-clause-meets : goal.returns-in-None-clause-meets
-unfolding modification
-returns-in-None-clause-meets g c = let allowed = rw (c.is_command_allowed.ensures, c.len.ensures.value) at c.in_ok-check.ensures in bind _ c.in_ok-idc.ensures.meets (bind _ (checked _ _ _ _ allowed) (bind _ c.in_ok-command.ensures (rw c.in-None.is (done _ _ _ _ _ _ _ refl))))
+pub returns-clause-room : goal.returns-clause-room
+returns-clause-room g c = let allowed = rw (c.is_command_allowed.ensures, c.len.ensures.value) at c.in_ok-check.ensures in always _ (command-room c.args.active _ c.in_ok-idc.idc.value c.if-idc-eq-END.false allowed.checks)

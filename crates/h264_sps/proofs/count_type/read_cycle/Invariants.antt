@@ -1,4 +1,4 @@
-use Rattle.std.proofs.Common.{◌≡◌, ℕ, ◌-◌, ◌<◌, ◌^◌, [], take, drop, length, replicate, pos}
+use Rattle.std.proofs.Common.{◌≡◌, ◌-◌, ◌<◌, ◌^◌, [], take, drop, length, replicate, pos}
 use Rattle.h264_base.proofs.Steps.{Leads}
 use Rattle.h264_bits.specs.Forms.{signed, repeated}
 use Rattle.h264_base.specs.declared.element_name.ElementName.TheVariants.{OffsetForRefFrame}

@@ -1,4 +1,4 @@
-use Rattle.std.proofs.Common.{◌≡◌, ℕ, ◌-◌, ◌<◌, ◌^◌, [], take, drop, length, replicate}
+use Rattle.std.proofs.Common.{◌≡◌, ◌-◌, ◌<◌, ◌^◌, [], take, drop, length, replicate}
 use Rattle.h264_base.proofs.Steps.{Leads}
 use Rattle.h264_bits.specs.Forms.{repeated}
 use Rattle.h264_sps.specs.Hrd.{cpb, no_cpb}

@@ -1,6 +1,6 @@
-use Rattle.std.proofs.Common.{Ok, Err, refl}
+use Rattle.std.proofs.Common.{refl}
 use Rattle.std.proofs.lemmas.Result.{err_from_is_err_and}
-use Rattle.h264_base.proofs.Steps.{bind, bind_as, stop, done, checked}
+use Rattle.h264_base.proofs.Steps.{bind, stop, done}
 use Rattle.h264_sps.specs.Vui.{flagged}
 use Rattle.h264_bits.specs.Forms.{optional}
 use Rattle.h264_sps.proofs.vui.read_restriction.Goals as goal

@@ -1,0 +1,161 @@
+-- Parts of the structures that stand whole in Sps, Hrd and Vui: what the functions meet that read a structure part by part.
+-- Each `.._from_..` is the rest of a structure, from the named element on.
+use Rattle.std.specs.Prelude.{ℕ, ◌+◌, ◌*◌, nat_le, nat_lt, ◌&&◌, ◌||◌, Bool}
+use Rattle.std.specs.Option.{is_some}
+use Rattle.h264_base.specs.declared.element_name.ElementName.{ElementName}
+use Rattle.h264_base.specs.declared.element_name.ElementName.TheVariants.{MaxNumRefFrames, GapsInFrameNumValueAllowedFlag, FrameMbsOnlyFlag, Direct8x8InferenceFlag, FrameCroppingFlag, VuiParametersPresentFlag, ChromaLocInfoPresentFlag, TimingInfoPresentFlag, NalHrdParametersPresentFlag, VclHrdParametersPresentFlag, LowDelayHrdFlag, PicStructPresentFlag, BitstreamRestrictionFlag, Log2MaxMvLengthHorizontal, Log2MaxMvLengthVertical, MaxNumReorderFrames, MaxDecFrameBuffering, InitialCpbRemovalDelayLengthMinus1, CpbRemovalDelayLengthMinus1, DpbOutputDelayLengthMinus1, TimeOffsetLength}
+use Rattle.h264_base.specs.declared.rule.Rule.TheVariants.{Crop, Vui}
+use Rattle.h264_base.specs.Word.{Unsigned}
+use Rattle.h264_base.specs.Grammar.{Grammar, Done, ◌>>=◌, element, check, trailing}
+use Rattle.h264_tables.specs.declared.level.Limits.{Limits}
+use Rattle.h264_bits.specs.Forms.{natural, unsigned, unsigned_to, bits, flag, optional, bits_must_be}
+use Rattle.h264_sps.specs.declared.hrd.Cpbs.{Cpbs}
+use Rattle.h264_sps.specs.declared.hrd.Hrd.{Hrd}
+use Rattle.h264_sps.specs.declared.read.Start.{Start}
+use Rattle.h264_sps.specs.declared.read.Counted.{Counted}
+use Rattle.h264_sps.specs.declared.sps.FrameSize.{FrameSize as Size}
+use Rattle.h264_sps.specs.declared.sps.Sps.{Sps}
+use Rattle.h264_sps.specs.declared.vui.BitstreamRestriction.{BitstreamRestriction}
+use Rattle.h264_sps.specs.declared.vui.Buffers.{Buffers}
+use Rattle.h264_sps.specs.declared.vui.Denominators.{Denominators}
+use Rattle.h264_sps.specs.declared.vui.Frames.{Frames}
+use Rattle.h264_sps.specs.declared.vui.Shown.{Shown}
+use Rattle.h264_sps.specs.declared.vui.Timed.{Timed}
+use Rattle.h264_sps.specs.declared.vui.Vui.{Vui as VuiParameters}
+use Rattle.h264_sps.specs.Counting.{counting}
+use Rattle.h264_sps.specs.Hrd.{hrd}
+use Rattle.h264_sps.specs.Sps.{max_dpb_frames, frame_size, frame_cropping}
+use Rattle.h264_sps.specs.Vui.{flagged, vui, chroma_location, timing, bitstream_restriction}
+
+unfoldable pub two_flags : ElementName → ElementName → Grammar (Bool × Bool)
+two_flags first second = do
+  a ← flag first
+  b ← flag second
+  Done (a, b)
+
+-- u(n) twice
+unfoldable pub two_numbers : ElementName → ElementName → ℕ → Grammar (ℕ × ℕ)
+two_numbers first second n = do
+  a ← bits first n
+  b ← bits second n
+  Done (a, b)
+
+-- the offsets at two sides of a frame of so many macroblocks from one to the other, which leave something
+unfoldable pub crop_offsets : ElementName → ElementName → ℕ → Grammar (ℕ × ℕ)
+crop_offsets first second macroblocks = do
+  a ← element first Unsigned
+  b ← element second Unsigned
+  _ ← check Crop b.bit (nat_lt (2 * (natural a.value + natural b.value)) (16 * macroblocks))
+  Done (natural a.value, natural b.value)
+
+-- the level allows a frame of this size, and its picture buffer so many reference frames
+abbrev pub is_size_allowed : Limits → ℕ → Size → Bool
+is_size_allowed limits max_num_ref_frames size = nat_le (size.width * size.height) limits.max_fs && (nat_le (size.width * size.width) (8 * limits.max_fs) && (nat_le (size.height * size.height) (8 * limits.max_fs) && nat_le max_num_ref_frames (max_dpb_frames limits size)))
+
+-- a picture buffer of so many frames holds the reference frames and those that are reordered, and the level allows it
+abbrev pub is_buffering_allowed : Frames → ℕ → ℕ → Bool
+is_buffering_allowed frames reorder buffering = nat_le reorder buffering && (nat_le frames.max_num_ref_frames buffering && nat_le buffering frames.max_dpb_frames)
+
+unfoldable pub sps_from_cropping : Start → Counted → Size → Bool → Grammar Sps
+sps_from_cropping start counted size direct = do
+  crop ← flagged (flag FrameCroppingFlag) (frame_cropping size)
+  usability ← flagged (flag VuiParametersPresentFlag) (vui counted.max_num_ref_frames (max_dpb_frames start.front.level.limits size))
+  _ ← trailing
+  Done (record {
+    profile_idc = start.front.profile_idc;
+    constraint_set_flags = start.front.flags;
+    reserved_zero_2bits = start.front.reserved;
+    level_idc = start.front.level.level_idc;
+    seq_parameter_set_id = start.seq_parameter_set_id;
+    log2_max_frame_num = start.log2_max_frame_num;
+    count_type = counted.count_type;
+    max_num_ref_frames = counted.max_num_ref_frames;
+    gaps_in_frame_num_value_allowed_flag = counted.gaps_in_frame_num_value_allowed_flag;
+    frame_size = size;
+    direct_8x8_inference_flag = direct;
+    frame_cropping = crop;
+    vui = usability;
+  })
+
+unfoldable pub sps_from_size : Start → Counted → Grammar Sps
+sps_from_size start counted = do
+  size ← frame_size start.front.level.limits counted.max_num_ref_frames
+  _ ← bits_must_be FrameMbsOnlyFlag 1 1
+  direct ← flag Direct8x8InferenceFlag
+  sps_from_cropping start counted size direct
+
+unfoldable pub sps_from_counting : Start → Grammar Sps
+sps_from_counting start = do
+  count_type ← counting
+  refs ← unsigned_to MaxNumRefFrames 16
+  gaps ← flag GapsInFrameNumValueAllowedFlag
+  sps_from_size start (record { count_type = count_type; max_num_ref_frames = refs; gaps_in_frame_num_value_allowed_flag = gaps })
+
+unfoldable pub hrd_from_delays : ℕ × ℕ → Cpbs → Grammar Hrd
+hrd_from_delays scales cpbs = do
+  initial ← bits InitialCpbRemovalDelayLengthMinus1 5
+  removal ← bits CpbRemovalDelayLengthMinus1 5
+  output ← bits DpbOutputDelayLengthMinus1 5
+  offset ← bits TimeOffsetLength 5
+  Done (record {
+    bit_rate_scale = scales.0;
+    cpb_size_scale = scales.1;
+    cpbs = cpbs;
+    initial_cpb_removal_delay_length_minus1 = initial;
+    cpb_removal_delay_length_minus1 = removal;
+    dpb_output_delay_length_minus1 = output;
+    time_offset_length = offset;
+  })
+
+unfoldable pub restriction_from_reordering : Frames → Denominators → ℕ → ℕ → Grammar BitstreamRestriction
+restriction_from_reordering frames d across down = do
+  reorder ← unsigned MaxNumReorderFrames
+  buffering ← element MaxDecFrameBuffering Unsigned
+  _ ← check Vui buffering.bit (nat_le reorder (natural buffering.value))
+  _ ← check Vui buffering.bit (nat_le frames.max_num_ref_frames (natural buffering.value))
+  _ ← check Vui buffering.bit (nat_le (natural buffering.value) frames.max_dpb_frames)
+  Done (record {
+    motion_vectors_over_pic_boundaries_flag = d.over;
+    max_bytes_per_pic_denom = d.bytes;
+    max_bits_per_mb_denom = d.mb_bits;
+    log2_max_mv_length_horizontal = across;
+    log2_max_mv_length_vertical = down;
+    max_num_reorder_frames = reorder;
+    max_dec_frame_buffering = natural buffering.value;
+  })
+
+unfoldable pub restriction_from_lengths : Frames → Denominators → Grammar BitstreamRestriction
+restriction_from_lengths frames d = do
+  across ← unsigned Log2MaxMvLengthHorizontal
+  down ← unsigned Log2MaxMvLengthVertical
+  restriction_from_reordering frames d across down
+
+unfoldable pub vui_from_pic_struct : Shown → Timed → Buffers → Frames → Grammar VuiParameters
+vui_from_pic_struct shown timed buffers frames = do
+  pic_struct ← flag PicStructPresentFlag
+  restriction ← flagged (flag BitstreamRestrictionFlag) (bitstream_restriction frames.max_num_ref_frames frames.max_dpb_frames)
+  Done (record {
+    sample_aspect_ratio = shown.ratio;
+    overscan_appropriate_flag = shown.overscan;
+    video_signal_type = shown.signal;
+    chroma_location = timed.location;
+    timing = timed.time;
+    nal_hrd = buffers.nal;
+    vcl_hrd = buffers.vcl;
+    low_delay_hrd_flag = buffers.low_delay;
+    pic_struct_present_flag = pic_struct;
+    bitstream_restriction = restriction;
+  })
+
+unfoldable pub vui_from_hrd : Shown → Timed → Frames → Grammar VuiParameters
+vui_from_hrd shown timed frames = do
+  nal ← flagged (flag NalHrdParametersPresentFlag) hrd
+  vcl ← flagged (flag VclHrdParametersPresentFlag) hrd
+  low_delay ← optional (is_some nal || is_some vcl) (flag LowDelayHrdFlag)
+  vui_from_pic_struct shown timed (record { nal = nal; vcl = vcl; low_delay = low_delay }) frames
+
+unfoldable pub vui_from_location : Shown → Frames → Grammar VuiParameters
+vui_from_location shown frames = do
+  location ← flagged (flag ChromaLocInfoPresentFlag) chroma_location
+  time ← flagged (flag TimingInfoPresentFlag) timing
+  vui_from_hrd shown (record { location = location; time = time }) frames
