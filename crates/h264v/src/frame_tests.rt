@@ -2,7 +2,9 @@
 #![tactic(auto)]
 
 use crate::check_tests::{pcm_samples, pcm_stream};
-use crate::tests::{Case, OneFile, answer_of, check_cases, outcome_by_bytes, outcome_of, whole};
+use crate::tests::{
+    Case, OneFile, answer_of, check_cases, check_written, outcome_by_bytes, outcome_of, whole,
+};
 use std::process::Abort;
 use std::test::Fail;
 
@@ -218,25 +220,28 @@ fn cropped(rt: &(impl Abort + AllocGlobal)) -> Result<(), Fail> {
     for case in &CROPPED {
         let stream = hex::decode(rt.alloc(), case.stream)?;
         let answer = answer_of(rt.alloc(), "frames", whole(stream.as_slice()), usize::MAX)?;
-        assert_eq!(rt; answer.text.as_str(), case.text, "{}", case.name);
-        assert_eq!(rt; answer.status, case.status, "{}", case.name);
+        assert_eq!(rt; answer.text.as_str(), case.text);
+        assert_eq!(rt; answer.status, case.status);
     }
     Ok(())
 }
 
-/// The frame of an I_PCM macroblock has its samples.
-fn samples(rt: &(impl Abort + AllocGlobal), stream: &[u8], samples: &[u8]) -> Result<(), Fail> {
+/// The last line on a stream of one picture.
+const ONE_PICTURE: &[u8] = b"yes: units 3 pictures 1 frames 1\n";
+
+/// The frame of an I_PCM macroblock is listed with the digest of its samples.
+fn digest(rt: &(impl Abort + AllocGlobal), stream: &[u8]) -> Result<(), Fail> {
     let answer = answer_of(rt.alloc(), "frames", whole(stream), usize::MAX)?;
     let text =
         "frame 0 count 0 16x16 md5 096bdbb51cdde493bddd3e76ae8e3210\nyes: units 3 pictures 1 frames 1\n";
     assert_eq!(rt; answer.text.as_str(), text);
+    Ok(())
+}
+
+/// It is written with its samples, a row at a time.
+fn samples(rt: &(impl Abort + AllocGlobal), stream: &[u8], samples: &[u8]) -> Result<(), Fail> {
     let all = outcome_of(rt.alloc(), "decode", whole(stream), usize::MAX, usize::MAX)?;
-    assert_eq!(rt; all.out.as_slice(), samples);
-    assert_eq!(rt;
-        all.err.as_slice(),
-        b"yes: units 3 pictures 1 frames 1\n".as_slice()
-    );
-    assert_eq!(rt; all.status, 0);
+    check_written(rt, &all, samples, ONE_PICTURE, 0);
     assert_eq!(rt; all.writes, 32);
     Ok(())
 }
@@ -249,16 +254,23 @@ fn each_write_fails(
 ) -> Result<(), Fail> {
     for failing in 0..32usize {
         let some = outcome_of(rt.alloc(), "decode", whole(stream), failing, usize::MAX)?;
-        assert_eq!(rt; some.status, 4);
-        assert_eq!(rt; some.err.as_slice(), b"write failed\n".as_slice());
         let rows = failing.min(16);
         assert_eq!(rt; some.out.len(), 8 * rows + 8 * failing);
         check_front(rt, some.out.as_slice(), samples);
+        check_written(rt, &some, some.out.as_slice(), b"write failed\n", 4);
     }
+    Ok(())
+}
+
+/// Whichever write of its last line fails, the samples stand there, and the status tells it.
+fn each_write_of_the_line_fails(
+    rt: &(impl Abort + AllocGlobal),
+    stream: &[u8],
+    samples: &[u8],
+) -> Result<(), Fail> {
     for failing in 0..2usize {
         let some = outcome_of(rt.alloc(), "decode", whole(stream), usize::MAX, failing)?;
-        assert_eq!(rt; some.status, 4);
-        assert_eq!(rt; some.out.as_slice(), samples);
+        check_written(rt, &some, samples, some.err.as_slice(), 4);
     }
     Ok(())
 }
@@ -270,17 +282,11 @@ fn byte_by_byte(
     samples: &[u8],
 ) -> Result<(), Fail> {
     let all = outcome_by_bytes(rt.alloc(), "decode", whole(stream), usize::MAX)?;
-    assert_eq!(rt; all.out.as_slice(), samples);
-    assert_eq!(rt;
-        all.err.as_slice(),
-        b"yes: units 3 pictures 1 frames 1\n".as_slice()
-    );
+    check_written(rt, &all, samples, ONE_PICTURE, 0);
     assert_eq!(rt; all.writes, samples.len());
     for failing in 0..samples.len() {
         let some = outcome_by_bytes(rt.alloc(), "decode", whole(stream), failing)?;
-        assert_eq!(rt; some.status, 4);
-        assert_eq!(rt; some.out.as_slice(), &samples[..failing]);
-        assert_eq!(rt; some.err.as_slice(), b"write failed\n".as_slice());
+        check_written(rt, &some, &samples[..failing], b"write failed\n", 4);
     }
     Ok(())
 }
@@ -295,9 +301,7 @@ fn each_read_fails(rt: &(impl Abort + AllocGlobal), stream: &[u8]) -> Result<(),
             failing,
         };
         let some = outcome_of(rt.alloc(), "decode", file, usize::MAX, usize::MAX)?;
-        assert_eq!(rt; some.status, 4);
-        assert_eq!(rt; some.err.as_slice(), b"read failed\n".as_slice());
-        assert!(rt; some.out.is_empty());
+        check_written(rt, &some, b"", b"read failed\n", 4);
     }
     Ok(())
 }
@@ -309,8 +313,10 @@ fn frames(rt: HostRuntime) -> Result<(), Fail> {
     cropped(&rt)?;
     let shown = pcm_samples(rt.alloc())?;
     let stream = pcm_stream(rt.alloc())?;
+    digest(&rt, stream.as_slice())?;
     samples(&rt, stream.as_slice(), shown.as_slice())?;
     each_write_fails(&rt, stream.as_slice(), shown.as_slice())?;
+    each_write_of_the_line_fails(&rt, stream.as_slice(), shown.as_slice())?;
     byte_by_byte(&rt, stream.as_slice(), shown.as_slice())?;
     each_read_fails(&rt, stream.as_slice())
 }

@@ -8,15 +8,20 @@ use std::process::Abort;
 use std::test::Fail;
 
 /// The stream of one frame with a unit of 2^20 bytes before its picture.
-fn long_unit(rt: &(impl Abort + AllocGlobal)) -> Result<(), Fail> {
+fn long_stream(alloc: Global) -> Result<Vec<u8>, Fail> {
     let (sets, picture) = ONE_FRAME.split_at(18);
-    let mut stream: Vec<u8> = Vec::new(rt.alloc());
+    let mut stream: Vec<u8> = Vec::new(alloc);
     stream.extend_from_slice(sets)?;
     stream.extend_from_slice(&[0x00, 0x00, 0x01, 0x06])?;
     for _ in 1..1_048_576u32 {
         stream.push(0xFF)?;
     }
     stream.extend_from_slice(picture)?;
+    Ok(stream)
+}
+
+fn long_unit(rt: &(impl Abort + AllocGlobal)) -> Result<(), Fail> {
+    let stream = long_stream(rt.alloc())?;
     let answer = answer_of(rt.alloc(), "check", whole(stream.as_slice()), usize::MAX)?;
     assert_eq!(rt; answer.text.as_str(), "yes: units 4 pictures 1 frames 1\n");
     Ok(())

@@ -15,7 +15,7 @@ pub struct Samples {
 
 impl Samples {
     fn new(alloc: Global, width: u16, height: u16) -> Result<Samples, AllocError> {
-        let count = usize::from(width) * usize::from(height);
+        let count = usize::from(width).saturating_mul(usize::from(height));
         Ok(Samples {
             width,
             height,

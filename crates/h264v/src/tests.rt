@@ -103,6 +103,19 @@ pub struct Written {
     pub status: u8,
 }
 
+/// That this was written, with this status.
+pub fn check_written(
+    rt: &(impl Abort + AllocGlobal),
+    all: &Written,
+    out: &[u8],
+    err: &[u8],
+    status: u8,
+) {
+    assert_eq!(rt; all.out.as_slice(), out);
+    assert_eq!(rt; all.err.as_slice(), err);
+    assert_eq!(rt; all.status, status);
+}
+
 /// What was printed, in how many writes, and the status.
 #[derive(Drop)]
 pub struct Answer {
@@ -197,14 +210,6 @@ pub fn answer_of(
     })
 }
 
-/// A text behind its lines of elements.
-fn behind_elements(text: &str) -> &str {
-    match text.rfind("\nno: ") {
-        Some(end) if text.starts_with("element ") => &text[end + 1..],
-        _ => text,
-    }
-}
-
 /// A file that gives its bytes at once.
 pub fn whole(bytes: &[u8]) -> OneFile<'_> {
     OneFile {
@@ -223,6 +228,15 @@ pub struct Case {
     pub status: u8,
 }
 
+/// That a text ends with this one, before which lines of elements may stand.
+fn check_end(rt: &(impl Abort + AllocGlobal), whole: &str, name: &str, text: &str) {
+    assert!(rt; whole.ends_with(text), "{name}");
+    assert!(rt;
+        whole.len() == text.len() || whole.starts_with("element "),
+        "{name}"
+    );
+}
+
 /// That the answer of a command to these bytes is this one, whole, byte by byte and at every cut; lines of elements may stand before it.
 pub fn check(
     rt: &(impl Abort + AllocGlobal),
@@ -233,7 +247,7 @@ pub fn check(
     status: u8,
 ) -> Result<(), Fail> {
     let all = answer_of(rt.alloc(), command_word, whole(bytes), usize::MAX)?;
-    assert_eq!(rt; behind_elements(all.text.as_str()), text, "{name}");
+    check_end(rt, all.text.as_str(), name, text);
     assert_eq!(rt; all.status, status, "{name}");
     for first in 1..bytes.len() {
         for size in [1usize, 4096] {
