@@ -1,6 +1,8 @@
 //! What no clause says: headers worked by hand from the standard's tables, and each range's ends.
 #![tactic(auto)]
 
+ghost use Rattle.std.specs.Prelude.{◌≤◌, IfOk};
+
 use crate::{
     Deblocking, FilterOffsets, Header, Marking, MarkingOperation, Modification, Operation,
     PicNumModification, PicOrderCnt, SliceKind, SliceUnit, begins_picture, picture_elements,
@@ -49,16 +51,27 @@ fn rbsp(alloc: Global, stream: &[u8]) -> Result<Rbsp, Stop> {
     Rbsp::of(alloc, &unit)
 }
 
+/// The sequence parameter set in a stream of one unit.
+fn sps_read(alloc: Global, stream: &[u8]) -> Result<Sps, Stop>
+    ensures { IfOk result (λ s. s.seq_parameter_set_id ≤ 31) }
+{
+    let body = rbsp(alloc, stream)?;
+    read_sps(&mut Bits::new(&body), &mut Heard { count: 0 })
+}
+
+/// The picture parameter set in a stream of one unit.
+fn pps_read(alloc: Global, stream: &[u8]) -> Result<Pps, Stop>
+    ensures { IfOk result (λ p. p.pic_parameter_set_id ≤ 255) }
+{
+    let body = rbsp(alloc, stream)?;
+    read_pps(&mut Bits::new(&body), &mut Heard { count: 0 })
+}
+
 /// The sets of two units, each with its start code.
 fn sets_read(alloc: Global, sps: &[u8], pps: &[u8]) -> Result<Sets, Fail> {
     let mut sets = Sets::new(alloc)?;
-    let mut sink = Heard { count: 0 };
-    let body = rbsp(alloc, sps)?;
-    let sps = read_sps(&mut Bits::new(&body), &mut sink)?;
-    sets.put_sps(sps);
-    let body = rbsp(alloc, pps)?;
-    let pps = read_pps(&mut Bits::new(&body), &mut sink)?;
-    sets.put_pps(pps);
+    sets.put_sps(sps_read(alloc, sps)?);
+    sets.put_pps(pps_read(alloc, pps)?);
     Ok(sets)
 }
 
@@ -189,134 +202,166 @@ fn refusal(alloc: Global, sets: &Sets, idr: bool, text: &str) -> Result<Option<(
     }
 }
 
-/// Whether each of these headers of P slices is refused so, or not at all.
-fn refusals_are(
-    alloc: Global,
-    sets: &Sets,
-    cases: &[(&str, Option<(u64, Rule)>)],
-) -> Result<bool, Fail> {
+/// A header, written as 0 and 1, with the rule that it breaks and its bit in the RBSP, if it breaks one.
+type Case = (&'static str, Option<(u64, Rule)>);
+
+/// Whether each of these headers is refused so, or not at all.
+fn refusals_are(alloc: Global, sets: &Sets, idr: bool, cases: &[Case]) -> Result<bool, Fail> {
     for (text, expected) in cases {
-        if refusal(alloc, sets, false, text)? != *expected {
+        if refusal(alloc, sets, idr, text)? != *expected {
             return Ok(false);
         }
     }
     Ok(true)
 }
 
+/// The same of P slices with no order counts, where the picture parameter set says this of the list's length and of the filter.
+fn p_refusals_are(
+    alloc: Global,
+    default_active_minus1: u32,
+    has_control: bool,
+    cases: &[Case],
+) -> Result<bool, Fail> {
+    let pps = pps(default_active_minus1, false, has_control);
+    let sets = sets_of(alloc, &sps(CountType::DecodingOrder), &pps)?;
+    refusals_are(alloc, &sets, false, cases)
+}
+
 const RANGE: Rule = Rule::Range;
 
 /// slice_type, pic_parameter_set_id and frame_num; a P slice of type 5 else.
-fn front(rt: &(impl Abort + AllocGlobal)) -> Result<(), Fail> {
-    let alloc = rt.alloc();
-    let sets = sets_of(alloc, &sps(CountType::DecodingOrder), &pps(0, false, false))?;
-    let cases = [
-        ("1 1 1 0001 0 0 0 1", None),
-        ("1 011 1 0001 0 1", None),
-        ("1 00110 1 0001 0 0 0 1", None),
-        ("1 0001000 1 0001 0 1", None),
-        ("1 010 1", Some((1, Rule::Tool))),
-        ("1 00100 1", Some((1, Rule::Tool))),
-        ("1 00101 1", Some((1, Rule::Tool))),
-        ("1 00111 1", Some((1, Rule::Tool))),
-        ("1 0001001 1", Some((1, Rule::Tool))),
-        ("1 0001010 1", Some((1, Rule::Tool))),
-        ("1 0001011 1", Some((1, RANGE))),
-        ("1 00110 000000010000000 0", Some((6, Rule::NoSet))),
-        ("1 00110 00000000100000000", Some((6, Rule::NoSet))),
-        ("1 00110 00000000100000001", Some((6, Rule::NoSet))),
-        ("1 00110 1", Some((7, Rule::CodeWord))),
-        ("1 00110 1 0001 0 0 0 0", Some((14, Rule::CodeWord))),
-    ];
-    assert!(rt; refusals_are(alloc, &sets, cases.as_slice())?);
-    Ok(())
-}
+const FRONT: &[Case] = &[
+    ("1 1 1 0001 0 0 0 1", None),
+    ("1 011 1 0001 0 1", None),
+    ("1 00110 1 0001 0 0 0 1", None),
+    ("1 0001000 1 0001 0 1", None),
+    ("1 010 1", Some((1, Rule::Tool))),
+    ("1 00100 1", Some((1, Rule::Tool))),
+    ("1 00101 1", Some((1, Rule::Tool))),
+    ("1 00111 1", Some((1, Rule::Tool))),
+    ("1 0001001 1", Some((1, Rule::Tool))),
+    ("1 0001010 1", Some((1, Rule::Tool))),
+    ("1 0001011 1", Some((1, RANGE))),
+    ("1 00110 000000010000000 0", Some((6, Rule::NoSet))),
+    ("1 00110 00000000100000000", Some((6, Rule::NoSet))),
+    ("1 00110 00000000100000001", Some((6, Rule::NoSet))),
+    ("1 00110 1", Some((7, Rule::CodeWord))),
+    ("1 00110 1 0001 0 0 0 0", Some((14, Rule::CodeWord))),
+];
 
 /// What goes with a reference picture list, of one place and MaxFrameNum 16 unless said otherwise.
-fn list(rt: &(impl Abort + AllocGlobal)) -> Result<(), Fail> {
+const LIST: &[Case] = &[
+    ("1 00110 1 0001 1 000010000 0 0 1", None),
+    ("1 00110 1 0001 1 000010001 0 0 1", Some((12, RANGE))),
+    ("1 00110 1 0001 0 1 00100 0 1", Some((13, RANGE))),
+    ("1 00110 1 0001 0 1 00101 0 1", Some((13, RANGE))),
+    ("1 00110 1 0001 0 1 1 000010000 00100 0 1", None),
+    (
+        "1 00110 1 0001 0 1 1 000010001 00100 0 1",
+        Some((14, RANGE)),
+    ),
+    (
+        "1 00110 1 0001 0 1 010 000010001 00100 0 1",
+        Some((16, RANGE)),
+    ),
+    ("1 00110 1 0001 0 1 011 000010001 00100 0 1", None),
+    ("1 00110 1 0001 0 1 1 1 1 1 00100 0 1", Some((15, RANGE))),
+    ("1 00110 1 0001 1 010 0 1 1 1 1 00100 0 1", None),
+    ("1 00110 1 0001 1 010 1 1 1 1 1 00100 0 1", None),
+    (
+        "1 00110 1 0001 1 010 1 1 1 1 1 1 1 00100 0 1",
+        Some((20, RANGE)),
+    ),
+];
+
+/// A list whose length by default is 17.
+const LONG_LIST: &[Case] = &[
+    ("1 00110 1 0001 0 0 0 1", Some((11, RANGE))),
+    ("1 00110 1 0001 1 1 0 0 1", None),
+];
+
+/// A list whose length by default is 16.
+const FULL_LIST: &[Case] = &[("1 00110 1 0001 0 0 0 1", None)];
+
+/// Marking operations.
+const MARKING: &[Case] = &[
+    ("1 00110 1 0001 0 0 1 1 1", None),
+    ("1 00110 1 0001 0 0 1 0001000 1", Some((14, RANGE))),
+    (
+        "1 00110 1 0001 0 0 1 00101 1 00101 1 1 1",
+        Some((20, RANGE)),
+    ),
+    ("1 00110 1 0001 0 0 1 00110 00110 1 1", Some((19, RANGE))),
+    (
+        "1 00110 1 0001 0 0 1 00111 1 00111 1 1 1",
+        Some((20, RANGE)),
+    ),
+    (
+        "1 00110 1 0001 0 0 1 00101 1 00110 00111 1 010 1 011 1 00100 1 1 1 1",
+        None,
+    ),
+];
+
+/// The deblocking filter's control.
+const DEBLOCKING: &[Case] = &[
+    ("1 011 1 0001 0 1 1 0001100 0001101", None),
+    ("1 011 1 0001 0 1 010", None),
+    ("1 011 1 0001 0 1 011 0001101 0001100", None),
+    ("1 011 1 0001 0 1 00100 1 1", Some((11, RANGE))),
+    ("1 011 1 0001 0 1 1 0001110 1", Some((12, RANGE))),
+    ("1 011 1 0001 0 1 1 0001111 1", Some((12, RANGE))),
+    ("1 011 1 0001 0 1 1 1 0001110", Some((13, RANGE))),
+    ("1 011 1 0001 0 1 1 1 0001111", Some((13, RANGE))),
+];
+
+/// idr_pic_id.
+const IDR_PIC_ID: &[Case] = &[
+    (
+        "1 011 1 0000 0000000000000000 1 0000000000000000 1 0 1",
+        None,
+    ),
+    (
+        "1 011 1 0000 0000000000000000 1 0000000000000001 1 0 1",
+        Some((9, RANGE)),
+    ),
+];
+
+/// P slices.
+fn edges_of_p_slices(rt: &(impl Abort + AllocGlobal)) -> Result<(), Fail> {
     let alloc = rt.alloc();
-    let sets = sets_of(alloc, &sps(CountType::DecodingOrder), &pps(0, false, false))?;
-    let cases = [
-        ("1 00110 1 0001 1 000010000 0 0 1", None),
-        ("1 00110 1 0001 1 000010001 0 0 1", Some((12, RANGE))),
-        ("1 00110 1 0001 0 1 00100 0 1", Some((13, RANGE))),
-        ("1 00110 1 0001 0 1 00101 0 1", Some((13, RANGE))),
-        ("1 00110 1 0001 0 1 1 000010000 00100 0 1", None),
-        (
-            "1 00110 1 0001 0 1 1 000010001 00100 0 1",
-            Some((14, RANGE)),
-        ),
-        (
-            "1 00110 1 0001 0 1 010 000010001 00100 0 1",
-            Some((16, RANGE)),
-        ),
-        ("1 00110 1 0001 0 1 011 000010001 00100 0 1", None),
-        ("1 00110 1 0001 0 1 1 1 1 1 00100 0 1", Some((15, RANGE))),
-        ("1 00110 1 0001 1 010 0 1 1 1 1 00100 0 1", None),
-        ("1 00110 1 0001 1 010 1 1 1 1 1 00100 0 1", None),
-        (
-            "1 00110 1 0001 1 010 1 1 1 1 1 1 1 00100 0 1",
-            Some((20, RANGE)),
-        ),
-    ];
-    assert!(rt; refusals_are(alloc, &sets, cases.as_slice())?);
-    let long = sets_of(
-        alloc,
-        &sps(CountType::DecodingOrder),
-        &pps(16, false, false),
-    )?;
-    let cases = [
-        ("1 00110 1 0001 0 0 0 1", Some((11, RANGE))),
-        ("1 00110 1 0001 1 1 0 0 1", None),
-    ];
-    assert!(rt; refusals_are(alloc, &long, cases.as_slice())?);
-    let full = sets_of(
-        alloc,
-        &sps(CountType::DecodingOrder),
-        &pps(15, false, false),
-    )?;
-    let cases = [("1 00110 1 0001 0 0 0 1", None)];
-    assert!(rt; refusals_are(alloc, &full, cases.as_slice())?);
+    assert!(rt; p_refusals_are(alloc, 0, false, FRONT)?);
+    assert!(rt; p_refusals_are(alloc, 0, false, LIST)?);
+    assert!(rt; p_refusals_are(alloc, 16, false, LONG_LIST)?);
+    assert!(rt; p_refusals_are(alloc, 15, false, FULL_LIST)?);
     Ok(())
 }
 
-/// Marking operations.
-fn marking(rt: &(impl Abort + AllocGlobal)) -> Result<(), Fail> {
+/// What follows a list.
+fn edges_behind_lists(rt: &(impl Abort + AllocGlobal)) -> Result<(), Fail> {
     let alloc = rt.alloc();
-    let sets = sets_of(alloc, &sps(CountType::DecodingOrder), &pps(0, false, false))?;
-    let cases = [
-        ("1 00110 1 0001 0 0 1 1 1", None),
-        ("1 00110 1 0001 0 0 1 0001000 1", Some((14, RANGE))),
-        (
-            "1 00110 1 0001 0 0 1 00101 1 00101 1 1 1",
-            Some((20, RANGE)),
-        ),
-        ("1 00110 1 0001 0 0 1 00110 00110 1 1", Some((19, RANGE))),
-        (
-            "1 00110 1 0001 0 0 1 00111 1 00111 1 1 1",
-            Some((20, RANGE)),
-        ),
-        (
-            "1 00110 1 0001 0 0 1 00101 1 00110 00111 1 010 1 011 1 00100 1 1 1 1",
-            None,
-        ),
-    ];
-    assert!(rt; refusals_are(alloc, &sets, cases.as_slice())?);
+    assert!(rt; p_refusals_are(alloc, 0, false, MARKING)?);
+    assert!(rt; p_refusals_are(alloc, 0, true, DEBLOCKING)?);
     Ok(())
+}
+
+/// A header with so many marking operations, and what follows them.
+fn operations_text(alloc: Global, count: u32, rest: &str) -> Result<String, Fail> {
+    let mut text = String::from_str(alloc, "1 00110 1 0001 0 0 1")?;
+    for _ in 0..count {
+        text.push_str(" 010 1")?;
+    }
+    text.push_str(rest)?;
+    Ok(text)
 }
 
 /// 36 operations may stand before the 0, and not 37.
 fn number_of_operations(rt: &(impl Abort + AllocGlobal)) -> Result<(), Fail> {
     let alloc = rt.alloc();
     let sets = sets_of(alloc, &sps(CountType::DecodingOrder), &pps(0, false, false))?;
-    let mut text = String::from_str(alloc, "1 00110 1 0001 0 0 1")?;
-    for _ in 0..36 {
-        text.push_str(" 010 1")?;
-    }
-    let mut most = text.clone()?;
-    most.push_str(" 1 1")?;
+    let most = operations_text(alloc, 36, " 1 1")?;
     assert!(rt; refusal(alloc, &sets, false, most.as_str())?.is_none());
-    text.push_str(" 010 1 1 1")?;
-    assert!(rt; refusal(alloc, &sets, false, text.as_str())? == Some((158, RANGE)));
+    let more = operations_text(alloc, 37, " 1 1")?;
+    assert!(rt; refusal(alloc, &sets, false, more.as_str())? == Some((158, RANGE)));
     Ok(())
 }
 
@@ -324,28 +369,7 @@ fn number_of_operations(rt: &(impl Abort + AllocGlobal)) -> Result<(), Fail> {
 fn idr(rt: &(impl Abort + AllocGlobal)) -> Result<(), Fail> {
     let alloc = rt.alloc();
     let sets = sets_of(alloc, &sps(CountType::DecodingOrder), &pps(0, false, false))?;
-    let greatest = "1 011 1 0000 0000000000000000 1 0000000000000000 1 0 1";
-    assert!(rt; refusal(alloc, &sets, true, greatest)?.is_none());
-    let beyond = "1 011 1 0000 0000000000000000 1 0000000000000001 1 0 1";
-    assert!(rt; refusal(alloc, &sets, true, beyond)? == Some((9, RANGE)));
-    Ok(())
-}
-
-/// The deblocking filter's control.
-fn deblocking(rt: &(impl Abort + AllocGlobal)) -> Result<(), Fail> {
-    let alloc = rt.alloc();
-    let sets = sets_of(alloc, &sps(CountType::DecodingOrder), &pps(0, false, true))?;
-    let cases = [
-        ("1 011 1 0001 0 1 1 0001100 0001101", None),
-        ("1 011 1 0001 0 1 010", None),
-        ("1 011 1 0001 0 1 011 0001101 0001100", None),
-        ("1 011 1 0001 0 1 00100 1 1", Some((11, RANGE))),
-        ("1 011 1 0001 0 1 1 0001110 1", Some((12, RANGE))),
-        ("1 011 1 0001 0 1 1 0001111 1", Some((12, RANGE))),
-        ("1 011 1 0001 0 1 1 1 0001110", Some((13, RANGE))),
-        ("1 011 1 0001 0 1 1 1 0001111", Some((13, RANGE))),
-    ];
-    assert!(rt; refusals_are(alloc, &sets, cases.as_slice())?);
+    assert!(rt; refusals_are(alloc, &sets, true, IDR_PIC_ID)?);
     Ok(())
 }
 
@@ -377,6 +401,12 @@ fn idr_slice(rt: &(impl Abort + AllocGlobal)) -> Result<(), Fail> {
     assert!(rt; header.kind.value == SliceKind::I);
     assert!(rt; header.same_type_in_picture);
     assert!(rt; header.pic_parameter_set_id == Found { bit: 40, value: 0 });
+    Ok(())
+}
+
+/// The same slice from frame_num on.
+fn rest_of_idr_slice(rt: &(impl Abort + AllocGlobal)) -> Result<(), Fail> {
+    let header = header_after(rt.alloc(), SPS, PPS, IDR, true, 3)?;
     assert!(rt; header.frame_num == Found { bit: 41, value: 0 });
     assert!(rt; header.idr_pic_id == Some(Found { bit: 45, value: 0 }));
     assert!(rt; header.pic_order_cnt == PicOrderCnt::DecodingOrder);
@@ -437,10 +467,9 @@ fn active(header: &Header) -> u32 {
     }
 }
 
-/// 1 00110 1 0001 0 0 0 1, and with frame_num 2 or 0; then 1 00110 1 0001 1 010 0 0 1.
-fn p_slices(rt: &(impl Abort + AllocGlobal)) -> Result<(), Fail> {
-    let alloc = rt.alloc();
-    let next = p_slice(alloc, &[0, 0, 1, 0x61, 0x9A, 0x22, 0xA0])?;
+/// 1 00110 1 0001 0 0 0 1.
+fn p_slice_of_frame_1(rt: &(impl Abort + AllocGlobal)) -> Result<(), Fail> {
+    let next = p_slice(rt.alloc(), &[0, 0, 1, 0x61, 0x9A, 0x22, 0xA0])?;
     assert!(rt; next.same_type_in_picture);
     assert_eq!(rt; next.kind.bit, 33);
     assert_eq!(rt; active(&next), 1);
@@ -449,6 +478,12 @@ fn p_slices(rt: &(impl Abort + AllocGlobal)) -> Result<(), Fail> {
     assert!(rt; next.slice_qp_delta == Found { bit: 46, value: 0 });
     assert!(rt; next.deblocking == Deblocking::AllEdges(NO_OFFSETS));
     assert!(rt; modifications(&next).is_empty());
+    Ok(())
+}
+
+/// The same with frame_num 2 or 0; then 1 00110 1 0001 1 010 0 0 1.
+fn other_p_slices(rt: &(impl Abort + AllocGlobal)) -> Result<(), Fail> {
+    let alloc = rt.alloc();
     let gap = p_slice(alloc, &[0, 0, 1, 0x61, 0x9A, 0x42, 0xA0])?;
     assert_eq!(rt; gap.frame_num.value, 2);
     let same = p_slice(alloc, &[0, 0, 1, 0x61, 0x9A, 0x02, 0xA0])?;
@@ -464,7 +499,7 @@ const NO_OFFSETS: FilterOffsets = FilterOffsets {
     slice_beta_offset_div2: 0,
 };
 
-/// Operation 1 with difference 2 and 1; operations 4, 3 and 2.
+/// Operation 1 with difference 2 and 1.
 fn p_slices_that_mark(rt: &(impl Abort + AllocGlobal)) -> Result<(), Fail> {
     let alloc = rt.alloc();
     let absent = p_slice(alloc, &[0, 0, 1, 0x61, 0x9A, 0x25, 0x2D, 0x40])?;
@@ -484,7 +519,12 @@ fn p_slices_that_mark(rt: &(impl Abort + AllocGlobal)) -> Result<(), Fail> {
         },
     }];
     assert!(rt; operations(&named) == expected.as_slice());
-    let long = p_slice(alloc, &[0, 0, 1, 0x61, 0x9A, 0x24, 0xA8, 0x9B, 0xEA])?;
+    Ok(())
+}
+
+/// Operations 4, 3 and 2.
+fn p_slice_that_marks_long_terms(rt: &(impl Abort + AllocGlobal)) -> Result<(), Fail> {
+    let long = p_slice(rt.alloc(), &[0, 0, 1, 0x61, 0x9A, 0x24, 0xA8, 0x9B, 0xEA])?;
     let expected = [
         MarkingOperation {
             bit: 46,
@@ -525,22 +565,33 @@ fn p_slice_that_modifies(rt: &(impl Abort + AllocGlobal)) -> Result<(), Fail> {
     Ok(())
 }
 
-/// pic_order_cnt_type 0 with an lsb of 4 bits: an IDR slice, and one of no reference picture.
+/// pic_order_cnt_type 0 with an lsb of 4 bits.
+const LSB_SPS: &[u8] = &[
+    0, 0, 1, 0x67, 0x42, 0xC0, 0x0A, 0xF4, 0xE4, 0x03, 0xF4, 0xA0,
+];
+
+/// An IDR slice.
+fn first_lsb_slice(alloc: Global) -> Result<Header, Fail> {
+    let slice = [0, 0, 1, 0x65, 0x88, 0x84, 0x09, 0x3C];
+    header_after(alloc, LSB_SPS, PPS, slice.as_slice(), true, 3)
+}
+
+/// A slice of no reference picture.
+fn later_lsb_slice(alloc: Global) -> Result<Header, Fail> {
+    let slice = [0, 0, 1, 0x01, 0x9A, 0x30, 0x54];
+    header_after(alloc, LSB_SPS, PPS, slice.as_slice(), false, 0)
+}
+
+/// The counts of both, and what follows them.
 fn lsb_slices(rt: &(impl Abort + AllocGlobal)) -> Result<(), Fail> {
-    let alloc = rt.alloc();
-    let sps = [
-        0, 0, 1, 0x67, 0x42, 0xC0, 0x0A, 0xF4, 0xE4, 0x03, 0xF4, 0xA0,
-    ];
-    let first = [0, 0, 1, 0x65, 0x88, 0x84, 0x09, 0x3C];
-    let header = header_after(alloc, sps.as_slice(), PPS, first.as_slice(), true, 3)?;
+    let header = first_lsb_slice(rt.alloc())?;
     let zero = PicOrderCnt::Lsb {
         pic_order_cnt_lsb: 0,
         delta_pic_order_cnt_bottom: 0,
     };
     assert!(rt; header.pic_order_cnt == zero);
     assert_eq!(rt; header.slice_qp_delta.bit, 52);
-    let second = [0, 0, 1, 0x01, 0x9A, 0x30, 0x54];
-    let later = header_after(alloc, sps.as_slice(), PPS, second.as_slice(), false, 0)?;
+    let later = later_lsb_slice(rt.alloc())?;
     let eight = PicOrderCnt::Lsb {
         pic_order_cnt_lsb: 8,
         delta_pic_order_cnt_bottom: 0,
@@ -548,74 +599,125 @@ fn lsb_slices(rt: &(impl Abort + AllocGlobal)) -> Result<(), Fail> {
     assert!(rt; later.pic_order_cnt == eight);
     assert!(rt; later.marking == None);
     assert_eq!(rt; later.slice_qp_delta.bit, 49);
-    let (elements, later) = (picture_elements(&header), picture_elements(&later));
-    assert!(rt; begins_picture(&elements, &later));
+    Ok(())
+}
+
+/// The second begins a picture behind the first, and none behind itself.
+fn lsb_pictures(rt: &(impl Abort + AllocGlobal)) -> Result<(), Fail> {
+    let first = picture_elements(&first_lsb_slice(rt.alloc())?);
+    let later = picture_elements(&later_lsb_slice(rt.alloc())?);
+    assert!(rt; begins_picture(&first, &later));
     assert!(rt; !begins_picture(&later, &later));
     Ok(())
 }
 
-/// The header of an I slice that is no reference.
-fn i_slice(alloc: Global, sets: &Sets, text: &str) -> Result<Header, Fail> {
-    let stream = stream(alloc, text)?;
-    Ok(header_in(alloc, sets, false, 0, stream.as_slice())?)
+/// A way to count, whether delta_pic_order_cnt_bottom may be there, the header of an I slice that is no reference, its
+/// counts, and its slice_qp_delta, where that is compared.
+type CountCase = (
+    CountType,
+    bool,
+    &'static str,
+    PicOrderCnt,
+    Option<Found<i32>>,
+);
+
+/// Whether the slice has these counts.
+fn counts_are(alloc: Global, case: &CountCase) -> Result<bool, Fail> {
+    let sets = sets_of(alloc, &sps(case.0), &pps(0, case.1, false))?;
+    let stream = stream(alloc, case.2)?;
+    let header = header_in(alloc, &sets, false, 0, stream.as_slice())?;
+    let same_qp = match case.4 {
+        Some(qp) => header.slice_qp_delta == qp,
+        None => true,
+    };
+    Ok(header.pic_order_cnt == case.3 && same_qp)
 }
+
+/// Type 1 without offsets, with deltas.
+const WITH_DELTAS: CountType = CountType::Cycle {
+    delta_pic_order_always_zero_flag: false,
+    offset_for_non_ref_pic: 0,
+    offset_for_top_to_bottom_field: 0,
+    cycle: Cycle {
+        offset_for_ref_frame: [0; 255],
+        length: 0,
+    },
+};
+
+/// Type 1 without offsets, whose deltas are 0.
+const ZERO_DELTAS: CountType = CountType::Cycle {
+    delta_pic_order_always_zero_flag: true,
+    offset_for_non_ref_pic: 0,
+    offset_for_top_to_bottom_field: 0,
+    cycle: Cycle {
+        offset_for_ref_frame: [0; 255],
+        length: 0,
+    },
+};
 
 /// delta_pic_order_cnt_bottom, delta_pic_order_cnt[0] and delta_pic_order_cnt[1], where they are there.
-fn deltas(rt: &(impl Abort + AllocGlobal)) -> Result<(), Fail> {
-    let alloc = rt.alloc();
-    let lsb = CountType::Lsb {
-        log2_max_pic_order_cnt_lsb: 5,
-    };
-    let sets = sets_of(alloc, &sps(lsb), &pps(0, true, false))?;
-    let header = i_slice(alloc, &sets, "1 011 1 0001 10001 00101 1")?;
-    let expected = PicOrderCnt::Lsb {
-        pic_order_cnt_lsb: 17,
-        delta_pic_order_cnt_bottom: -2,
-    };
-    assert!(rt; header.pic_order_cnt == expected);
-    let sets = sets_of(alloc, &sps(cycle(false)), &pps(0, true, false))?;
-    let header = i_slice(alloc, &sets, "1 011 1 0001 010 00110 1")?;
-    assert!(rt; header.pic_order_cnt == PicOrderCnt::Deltas { top: 1, bottom: 3 });
-    let sets = sets_of(alloc, &sps(cycle(false)), &pps(0, false, false))?;
-    let header = i_slice(alloc, &sets, "1 011 1 0001 00110 011")?;
-    assert!(rt; header.pic_order_cnt == PicOrderCnt::Deltas { top: 3, bottom: 0 });
-    assert!(rt; header.slice_qp_delta == Found { bit: 46, value: -1 });
-    let sets = sets_of(alloc, &sps(cycle(true)), &pps(0, true, false))?;
-    let header = i_slice(alloc, &sets, "1 011 1 0001 010")?;
-    assert!(rt; header.pic_order_cnt == PicOrderCnt::Deltas { top: 0, bottom: 0 });
-    assert!(rt; header.slice_qp_delta == Found { bit: 41, value: 1 });
-    Ok(())
-}
-
-/// Type 1 without offsets.
-fn cycle(delta_pic_order_always_zero_flag: bool) -> CountType {
-    CountType::Cycle {
-        delta_pic_order_always_zero_flag,
-        offset_for_non_ref_pic: 0,
-        offset_for_top_to_bottom_field: 0,
-        cycle: Cycle {
-            offset_for_ref_frame: [0; 255],
-            length: 0,
+const COUNTS: &[CountCase] = &[
+    (
+        CountType::Lsb {
+            log2_max_pic_order_cnt_lsb: 5,
         },
+        true,
+        "1 011 1 0001 10001 00101 1",
+        PicOrderCnt::Lsb {
+            pic_order_cnt_lsb: 17,
+            delta_pic_order_cnt_bottom: -2,
+        },
+        None,
+    ),
+    (
+        WITH_DELTAS,
+        true,
+        "1 011 1 0001 010 00110 1",
+        PicOrderCnt::Deltas { top: 1, bottom: 3 },
+        None,
+    ),
+    (
+        WITH_DELTAS,
+        false,
+        "1 011 1 0001 00110 011",
+        PicOrderCnt::Deltas { top: 3, bottom: 0 },
+        Some(Found { bit: 46, value: -1 }),
+    ),
+    (
+        ZERO_DELTAS,
+        true,
+        "1 011 1 0001 010",
+        PicOrderCnt::Deltas { top: 0, bottom: 0 },
+        Some(Found { bit: 41, value: 1 }),
+    ),
+];
+
+/// The counts of each row.
+fn deltas(rt: &(impl Abort + AllocGlobal)) -> Result<(), Fail> {
+    for case in COUNTS {
+        assert!(rt; counts_are(rt.alloc(), case)?);
     }
+    Ok(())
 }
 
 #[test]
 fn edges_of_each_part(rt: HostRuntime) -> Result<(), Fail> {
-    front(&rt)?;
-    list(&rt)?;
-    marking(&rt)?;
+    edges_of_p_slices(&rt)?;
+    edges_behind_lists(&rt)?;
     number_of_operations(&rt)?;
-    idr(&rt)?;
-    deblocking(&rt)
+    idr(&rt)
 }
 
 #[test]
 fn whole_headers(rt: HostRuntime) -> Result<(), Fail> {
     idr_slice(&rt)?;
-    p_slices(&rt)?;
+    rest_of_idr_slice(&rt)?;
+    p_slice_of_frame_1(&rt)?;
+    other_p_slices(&rt)?;
     p_slices_that_mark(&rt)?;
+    p_slice_that_marks_long_terms(&rt)?;
     p_slice_that_modifies(&rt)?;
     lsb_slices(&rt)?;
+    lsb_pictures(&rt)?;
     deltas(&rt)
 }
