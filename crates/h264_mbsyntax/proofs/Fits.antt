@@ -1,5 +1,5 @@
 -- The flag that goes from part to part is the test over the sixteen blocks: parts lie apart, each has a block, and together they are all sixteen.
-use Rattle.std.proofs.Common.{◌≡◌, ℕ, zero, suc, ◌==◌, ◌&&◌, ◌||◌, not, Bool, true, false, List, [], ◌∷◌, ◌++◌, map, replicate, get_or, Option, Some, None, refl, ap, sym, ◌∙◌, subst, if◌then◌else◌}
+use Rattle.std.proofs.Common.{◌≡◌, ℕ, zero, suc, ◌==◌, ◌&&◌, ◌||◌, not, Bool, true, false, List, [], ◌∷◌, ◌++◌, map, replicate, get_or, Option, Some, None, refl, ap, sym, ◌∙◌, subst}
 use Rattle.std.specs.Option.{is_some}
 use Rattle.std.specs.List.{list_all, list_any, range_with_len}
 use Rattle.std.proofs.Math.ListN as math

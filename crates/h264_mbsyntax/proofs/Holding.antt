@@ -1,26 +1,36 @@
 -- What was read is what the macroblock holds.
-use Rattle.std.proofs.Common.{◌≡◌, ℕ, suc, ◌+◌, ◌<◌, ◌≤◌, Bool, true, false, List, map, length, take, replicate, get_or, ℤ, pos, Option, Some, None, Result, refl, ap, sym, ◌∙◌, subst, arith}
+use Rattle.std.proofs.Common.{◌≡◌, ℕ, ◌-◌, ◌<◌, ◌≤◌, Bool, true, false, IsTrue, nat_le, nat_lt, List, map, length, replicate, get_or, Option, Some, None, Result, Ok, Err, OnOk, refl, ap, sym, ◌∙◌, arith}
+use Rattle.std.proofs.lemmas.Bool.Decides.{nat_tests}
 use Rattle.std.proofs.lemmas.List.{get_or-replicate}
 use Rattle.std.proofs.lemmas.Option.{slice_get-get_or}
 use Rattle.h264_cavlc.specs.Block.{Block}
 use Rattle.h264_near.specs.declared.motion.Motion.{Motion}
 use Rattle.h264_near.specs.declared.context.Contexts.{Contexts}
-use Rattle.h264_near.specs.Coded.{CodedMacroblock, Prediction, Intra4x4, Intra16x16, Pcm, Inter}
+use Rattle.h264_near.specs.Coded.{CodedMacroblock, Intra4x4, Intra16x16, Inter}
 use Rattle.h264_near.specs.Keeps.{Shows}
-use Rattle.h264_mbsyntax.specs.declared.macroblock.Kind.{Kind}
 use Rattle.h264_mbsyntax.specs.declared.macroblock.Kind.TheVariants as kind
 use Rattle.h264_mbsyntax.specs.declared.macroblock.Macroblock.{Macroblock}
-use Rattle.h264_mbsyntax.specs.Residual.{Coefficients, no_block, no_coefficients, no_chroma}
-use Rattle.h264_mbsyntax.specs.Stored.{Stored, StoredChroma, StoredCoefficients, StoredCoefficients16, shown}
-use Rattle.h264_mbsyntax.specs.Holds.{Levels, Holds}
+use Rattle.h264_mbsyntax.specs.Residual.{Coefficients, coefficients, no_block, no_coefficients, no_chroma}
+use Rattle.h264_mbsyntax.specs.Stored.{StoredCoefficients, StoredCoefficients16}
+use Rattle.h264_mbsyntax.specs.Holds.{Holds}
 use Rattle.h264_base.specs.declared.mode.SliceType.{SliceType}
 use Rattle.h264_base.specs.declared.mode.SliceType.TheVariants as slice_type
 use Rattle.h264_base.specs.declared.stop.Stop.{Stop}
 use Rattle.h264_base.specs.Call.{Call}
-use Rattle.h264_base.specs.Meets.{Reader, Meets}
+use Rattle.h264_base.specs.declared.rule.Rule.{Rule}
+use Rattle.h264_base.specs.declared.rule.Rule.TheVariants.{Range}
+use Rattle.h264_base.specs.declared.element_name.ElementName.TheVariants.{CodedBlockPattern}
+use Rattle.h264_base.specs.Word.{Words}
+use Rattle.h264_base.specs.Grammar.{Grammar, Done, ◌>>=◌, check, element, read_word}
+use Rattle.h264_bits.specs.Forms.{natural}
+use Rattle.h264_tables.specs.declared.table.Table.{Table}
+use Rattle.h264_tables.specs.Table.{code_table}
+use Rattle.h264_mbsyntax.specs.Coded.{patterned}
+use Rattle.h264_base.specs.Meets.{Reader, Meets, Checks}
+use Rattle.h264_base.proofs.Steps.{bind, bind_as, stop, done, checked}
 use Rattle.h264_vectors.specs.declared.slice.SliceContext.{SliceContext}
 use Rattle.h264_near.specs.declared.motion.Vector.{Vector}
-use Rattle.h264_mbsyntax.specs.Macroblock.{coded, pcm_of, by_type, predicted_qp}
+use Rattle.h264_mbsyntax.specs.Macroblock.{coded, pcm_of, by_type, inter, predicted_qp}
 use Rattle.h264_vectors.specs.Derived.{motion_of}
 use Rattle.h264_mbsyntax.specs.Slice.{skipped_of}
 use Rattle.h264_mbsyntax.proofs.Loops.{whole, stored-blank}
@@ -28,6 +38,25 @@ use Rattle.std.specs.Option.{is_some, option_map}
 use Rattle.std.proofs.Math.ListN as math
 use Rattle.h264_vectors.specs.Derived.{Derived}
 use Rattle.h264_vectors.specs.Agrees.{Agrees}
+
+-- the part that is read last gives the whole
+pub ending : {X A B S : Type 0} {took : S → List Call → Type 0} {failures : S → ℕ} {R : X → A → Type 0} {R' : X → B → Type 0} {g : Grammar A} (f : A → B) {old new : Reader} {s s' : S} (r : Result X Stop) → ((x : X) (v : A) → R x v → R' x (f v)) → Meets took failures R g old new s s' r → Meets took failures R' (g >>= (λ v. Done (f v))) old new s s' r
+ending f (Ok x) k m = bind_as _ m (λ v e. done _ _ _ _ _ _ _ (k x v e))
+ending f (Err e) k m = stop _ m
+
+-- a check that is made last, and what is known where it holds
+pub ending-check : {B S : Type 0} {took : S → List Call → Type 0} {failures : S → ℕ} {R : Unit {0} → B → Type 0} {rule : Rule} {bit : ℕ} {holds : Bool} {old : Reader} {s : S} (v : B) (r : Result (Unit {0}) Stop) → Checks rule bit holds r → (IsTrue holds → R tt v) → Meets took failures R (check rule bit holds >>= (λ x. Done v)) old old s s r
+ending-check v (Ok x) c k = bind _ (checked _ _ _ _ c) (done _ _ _ _ _ _ _ (k c.checks))
+ending-check v (Err e) c k = stop _ (checked _ _ _ _ c)
+
+pub on-ok : {X P : Type 0} (r : Result X Stop) → P → OnOk r P
+on-ok (Ok x) h = h
+on-ok (Err e) h = tt
+
+-- coded_block_pattern and what follows it
+pub with-pattern : {X B S : Type 0} {took : S → List Call → Type 0} {failures : S → ℕ} {R : X → B → Type 0} {old new : Reader} {s s' : S} {r : Result X Stop} (table : Table) (width : ℕ) (picture : List CodedMacroblock) (slice qp : ℕ) (f : Coefficients → Grammar B) → Meets took failures R (patterned table width picture slice qp >>= f) old new s s' r → Meets took failures R (element CodedBlockPattern (Words (code_table table)) >>= (λ e. coefficients width picture slice qp (natural e.value) >>= f)) old new s s' r
+unfolding patterned ◌>>=◌ read_word
+with-pattern table width picture slice qp f m = m
 
 -- an intra macroblock has no references
 pub no-motion : (motions : List (Option Motion)) (n : ℕ) → motions ≡ replicate 16 None → n < 16 → ◌≡◌ {A = Option (Option Motion)} (Some None) (Some (get_or motions n None))
@@ -90,6 +119,22 @@ holds-pcm mb slice samples ek ep es ei eq et ec em ev = record {
 -- a macroblock by the type of its slice
 pub typed : {X S : Type 0} {took : S → List Call → Type 0} {failures : S → ℕ} {R : X → CodedMacroblock → Type 0} {old new : Reader} {s s' : S} {r : Result X Stop} (t want : SliceType) (width : ℕ) (slice : SliceContext) (picture : List CodedMacroblock) (bit kind : ℕ) → t ≡ want → Meets took failures R (by_type want width slice picture bit kind) old new s s' r → Meets took failures R (by_type t width slice picture bit kind) old new s s' r
 typed t want width slice picture bit kind e m = rw e m
+
+-- an inter macroblock of a P slice, whose mb_type is in range
+pub of-inter : {X S : Type 0} {took : S → List Call → Type 0} {failures : S → ℕ} {R : X → CodedMacroblock → Type 0} {old new : Reader} {s s' : S} {r : Result X Stop} (width : ℕ) (slice : SliceContext) (picture : List CodedMacroblock) (bit kind : ℕ) → kind < 5 → Meets took failures R (inter width slice picture bit kind) old new s s' r → Meets took failures R (by_type slice_type.P width slice picture bit kind) old new s s' r
+unfolding by_type
+of-inter {took = took} {failures} {old = old} {s = s} width slice picture bit kind h m =
+    let e : nat_le kind 30 ≡ true = grind (arith, nat_tests) in
+    let i : nat_lt kind 5 ≡ true = grind (arith, nat_tests) in
+    bind _ (checked took failures {rule = Range} {bit = bit} {holds = nat_le kind 30} old s {r = Ok tt} (record { checks = e })) (rw i m)
+
+-- an intra macroblock of a P slice: its mb_type is in range as that of an I slice is
+pub of-intra : {X S : Type 0} {took : S → List Call → Type 0} {failures : S → ℕ} {R : X → CodedMacroblock → Type 0} {old new : Reader} {s s' : S} {r : Result X Stop} (width : ℕ) (slice : SliceContext) (picture : List CodedMacroblock) (bit kind : ℕ) → 5 ≤ kind → Meets took failures R (by_type slice_type.I width slice picture bit (kind - 5)) old new s s' r → Meets took failures R (by_type slice_type.P width slice picture bit kind) old new s s' r
+unfolding by_type
+of-intra width slice picture bit kind h m =
+    let i : nat_lt kind 5 ≡ false = grind (arith, nat_tests) in
+    let e : nat_le kind 30 ≡ nat_le (kind - 5) 25 = grind (arith, nat_tests) in
+    rw (i, e) m
 
 some-at : (m : Option Motion) → is_some m ≡ true → option_map (λ x. Some x) m ≡ Some m
 some-at None e = absurd (cc)

@@ -1,15 +1,14 @@
 -- Turns of the loops over modes and over blocks, and how blocks lie in their arrays.
-use Rattle.std.proofs.Common.{◌≡◌, ◌≢◌, ℕ, zero, suc, ◌+◌, ◌-◌, ◌<◌, ◌≤◌, Bool, true, false, nat_lt, List, [], ◌∷◌, ◌++◌, length, take, map, replicate, get_or, slice_set, ℤ, pos, negsuc, unsigned_abs, Option, Some, None, Result, Ok, Err, OnOk, refl, ap, sym, ◌∙◌, subst, arith, lt-ltb, inl, inr, ◌⊎◌, length-append, if◌then◌else◌}
+use Rattle.std.proofs.Common.{◌≡◌, ◌≢◌, ℕ, zero, suc, ◌+◌, ◌-◌, ◌<◌, ◌≤◌, Bool, true, List, [], ◌∷◌, ◌++◌, length, take, replicate, get_or, slice_set, ℤ, pos, Some, Result, Ok, Err, refl, ap, sym, ◌∙◌, subst, arith, inl, inr, ◌⊎◌, length-append}
 use Rattle.std.proofs.Common.{get_or-set_other, get_or-set_same, length-set}
 use Rattle.std.specs.List.{slice_get}
 use Rattle.std.proofs.lemmas.List.{take_more_set, map-append}
-use Rattle.std.proofs.lemmas.Bool.Decides.{nat_tests}
 use Rattle.h264_base.specs.declared.stop.Stop.{Stop}
 use Rattle.h264_base.specs.Call.{Call}
 use Rattle.h264_base.specs.Grammar.{Grammar}
 use Rattle.h264_base.specs.Meets.{Reader, Meets, Is}
-use Rattle.h264_base.proofs.Steps.{Leads, leads-starts, leads-on, stop, done, finish}
-use Rattle.h264_cavlc.specs.Block.{Block, residual_block}
+use Rattle.h264_base.proofs.Steps.{Leads, leads-on, stop, done, finish}
+use Rattle.h264_cavlc.specs.Block.{Block}
 use Rattle.h264_near.specs.declared.samples.Samples.{Samples}
 use Rattle.h264_near.specs.Coded.{CodedMacroblock}
 use Rattle.h264_near.specs.Intra.{predicted_mode, block_samples, luma_nc, chroma_nc}
@@ -169,7 +168,7 @@ unfolding kept
 kept-none levels b zero by_place h = refl
 kept-none levels b (suc t) by_place h = absurd (omega arith)
 
--- one block that was kept
-pub shown-of : (size total : ℕ) (by_place stands : List ℤ) → IsBlank size by_place total → (0 < total → stands ≡ by_place) → by_place ≡ shown size total stands
-shown-of size zero by_place stands z h = z refl
-shown-of size (suc t) by_place stands z h = sym (h (omega arith))
+-- a block that stands in its place
+pub shown-of : (size total : ℕ) (by_place : List ℤ) → IsBlank size by_place total → by_place ≡ shown size total by_place
+shown-of size zero by_place z = z refl
+shown-of size (suc t) by_place z = refl

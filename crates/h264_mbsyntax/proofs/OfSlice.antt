@@ -1,7 +1,7 @@
 -- Slice data give macroblocks of their slice.
-use Rattle.std.proofs.Common.{◌≡◌, ℕ, zero, suc, ◌<◌, ◌≤◌, ◌==◌, ◌||◌, nat_lt, Bool, true, false, IsTrue, List, [], ◌∷◌, ◌++◌, length, take, map, replicate, Option, Some, None, refl, ap, sym, ◌∙◌, subst, arith, ⊎_elim, append_assoc, length-append, if◌then◌else◌}
+use Rattle.std.proofs.Common.{◌≡◌, ℕ, zero, suc, ◌<◌, ◌≤◌, ◌==◌, ◌||◌, nat_lt, Bool, true, false, IsTrue, List, [], ◌∷◌, ◌++◌, length, take, map, replicate, Some, None, refl, ap, sym, ◌∙◌, subst, arith, ⊎_elim, append_assoc, length-append}
 use Rattle.std.specs.List.{AllByRecursion, slice_get}
-use Rattle.std.specs.Option.{is_some, unwrap_or}
+use Rattle.std.specs.Option.{is_some}
 use Rattle.std.proofs.lemmas.Bool.{cases_lt}
 use Rattle.std.proofs.lemmas.Bool.Decides.{nat_tests}
 use Rattle.std.proofs.lemmas.List.{take-append-le, append-nil}
@@ -24,7 +24,7 @@ use Rattle.h264_mbsyntax.specs.Possible.{Refers}
 use Rattle.h264_mbsyntax.specs.Slice.{Step, skipped_of, skip, unskipped, after_run, run_of_skips, by_slice_type, next, go_on, macroblocks, slice_data}
 use Rattle.h264_mbsyntax.specs.OfSlice.{IsDerived, IsOfSlice, AreOfSlice}
 use Rattle.h264_mbsyntax.proofs.Fits.{all-derived}
-use Rattle.h264_mbsyntax.proofs.Possible.{possible}
+use Rattle.h264_mbsyntax.proofs.Possible.{possible, named}
 
 -- ---- one macroblock
 
@@ -81,13 +81,9 @@ module _ (width : ℕ) (slice : SliceContext) (picture : List CodedMacroblock) w
   all-some zero m = refl
   all-some (suc n) m = ap (λ l. true ∷ l) (all-some n m)
 
-  named : (i : ℕ) (o : Option ℕ) → picture_of slice i ≡ o → IsTrue (is_some o) → picture_of slice i ≡ Some (unwrap_or o 0)
-  named i None e h = absurd (cc)
-  named i (Some n) e h = e
-
   first-refers : (v : Vector) → IsTrue (has_picture slice 0) → Refers slice (Some (motion_of slice 0 v))
   unfolding motion_of
-  first-refers v h = named 0 (picture_of slice 0) refl h
+  first-refers v h = named slice 0 (picture_of slice 0) refl h
 
   is-skipped : (v : Vector) → IsTrue (has_picture slice 0) → IsNext (skipped_of slice picture v)
   unfolding skipped_of coded

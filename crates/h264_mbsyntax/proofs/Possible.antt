@@ -1,30 +1,28 @@
 -- What the grammar gives refers to what is there.
-use Rattle.std.proofs.Common.{◌≡◌, ◌⊎◌, inl, inr, ⊎_elim, ℕ, zero, suc, ◌+◌, ◌<◌, ◌≤◌, ◌==◌, ◌&&◌, ◌||◌, not, nat_le, nat_lt, Bool, true, false, IsTrue, List, [], ◌∷◌, ◌++◌, length, take, map, replicate, get_or, Option, Some, None, Result, Ok, Err, refl, ap, sym, ◌∙◌, subst, arith, length-append, if◌then◌else◌}
+use Rattle.std.proofs.Common.{◌≡◌, ⊎_elim, ℕ, zero, suc, ◌+◌, ◌<◌, ◌≤◌, ◌==◌, ◌||◌, not, nat_lt, Bool, true, false, IsTrue, List, [], ◌∷◌, ◌++◌, length, map, replicate, get_or, Option, Some, None, Result, Ok, Err, refl, arith, length-append, if◌then◌else◌}
 use Rattle.std.specs.Option.{is_some, unwrap_or}
 use Rattle.std.specs.List.{AllByRecursion, range_with_len}
 use Rattle.std.proofs.lemmas.Bool.{leb-true, cases_lt}
 use Rattle.std.proofs.lemmas.List.{take-append-le, get_or_append_left}
 use Rattle.std.proofs.Math.Seq.{take-append_seam, get_or-append_seam}
-use Rattle.h264_base.specs.declared.rule.Rule.TheVariants.{Range, IntraMode, CodeWord, NoReference, VectorRange}
 use Rattle.h264_base.specs.declared.mode.SliceType.{SliceType}
 use Rattle.h264_base.specs.declared.mode.SliceType.TheVariants as slice_type
 use Rattle.h264_base.specs.declared.stop.Stop.{Stop}
 use Rattle.h264_base.specs.declared.stop.Stop.TheVariants.{No, Outside, Memory, Read as ReadFailed, Write}
 use Rattle.h264_base.specs.Call.{Call}
-use Rattle.h264_base.specs.Grammar.{Grammar, Done, ◌>>=◌, element, check, align, raw_bytes}
+use Rattle.h264_base.specs.Grammar.{Grammar}
 use Rattle.h264_base.specs.Meets.{Reader, Meets}
 use Rattle.h264_cavlc.proofs.Gives.{Gives, gives-done, gives-any, gives-bind, gives-check, gives-if}
 use Rattle.h264_near.specs.declared.motion.Motion.{Motion}
 use Rattle.h264_near.specs.declared.samples.Samples.{Samples}
-use Rattle.h264_near.specs.Coded.{CodedMacroblock, Prediction, Intra4x4, Intra16x16, Pcm, Inter}
-use Rattle.h264_near.specs.Intra.{predicted_mode, block_samples, macroblock_samples}
+use Rattle.h264_near.specs.Coded.{CodedMacroblock}
+use Rattle.h264_near.specs.Intra.{block_samples, macroblock_samples}
 use Rattle.h264_vectors.specs.declared.slice.SliceContext.{SliceContext}
 use Rattle.h264_vectors.specs.declared.part.Part.{Part}
 use Rattle.h264_vectors.specs.Derived.{picture_of, has_picture, motion_of, in_part, is_inside, with_part, with_vector, derive, Derived, none_yet, sub_parts_of}
-use Rattle.h264_mbsyntax.specs.Intra.{fits_block, fits_luma, fits_chroma, mode_by, block_mode, block_modes, chroma_mode, pcm_samples}
-use Rattle.h264_vectors.specs.Inter.{read_ref_idx, ref_index, part_motion, part_motions, one_part, two_parts, sub_motions, quarters, split_parts, motions_by, motions, is_inferred}
-use Rattle.h264_mbsyntax.specs.Residual.{coefficients, coefficients16}
-use Rattle.h264_mbsyntax.specs.Macroblock.{Placed, coded, pcm_of, intra4x4, intra16x16, pcm, intra, inter, by_type, macroblock, mode_of, pattern_of}
+use Rattle.h264_mbsyntax.specs.Intra.{fits_block, block_mode, block_modes, chroma_mode}
+use Rattle.h264_vectors.specs.Inter.{read_ref_idx, ref_index, part_motion, part_motions, one_part, two_parts, quarters, split_parts, motions_by, motions, is_inferred}
+use Rattle.h264_mbsyntax.specs.Macroblock.{coded, pcm_of, intra4x4, intra16x16, pcm, intra, inter, by_type, macroblock}
 use Rattle.h264_mbsyntax.specs.declared.macroblock.Macroblock.{Macroblock}
 use Rattle.h264_mbsyntax.specs.Holds.{IsPlaced}
 use Rattle.h264_mbsyntax.specs.Possible.{HaveSides, HasChromaSides, Refers, IsPossible, IsRead}
@@ -38,6 +36,11 @@ met-by took failures R R' P g old new s s' (Err (Outside bit feature)) h k m = r
 met-by took failures R R' P g old new s s' (Err Memory) h k m = record { meets = m.meets; same = m.same }
 met-by took failures R R' P g old new s s' (Err ReadFailed) h k m = record { meets = m.meets; same = m.same }
 met-by took failures R R' P g old new s s' (Err Write) h k m = record { meets = m.meets; same = m.same }
+
+-- the picture that an index names
+pub named : (slice : SliceContext) (i : ℕ) (o : Option ℕ) → picture_of slice i ≡ o → IsTrue (is_some o) → picture_of slice i ≡ Some (unwrap_or o 0)
+named slice i None e h = absurd (cc)
+named slice i (Some p) e h = e
 
 -- ---- modes
 
@@ -112,13 +115,9 @@ module _ (width : ℕ) (slice : SliceContext) (picture : List CodedMacroblock) w
       go [] = tt
       go (n ∷ ns) = (refers-pick (is_inside p n) m (get_or motions n None) h (refers-at motions n a), go ns)
 
-  named : (i : ℕ) (o : Option ℕ) → picture_of slice i ≡ o → IsTrue (is_some o) → picture_of slice i ≡ Some (unwrap_or o 0)
-  named i None e h = absurd (cc)
-  named i (Some p) e h = e
-
   refers-derived : (d : Derived) (p : Part) (i : ℕ) (across down : _) → IsTrue (has_picture slice i) → Refer d → Refer (derive width slice picture d p i across down)
   unfolding derive with_vector motion_of
-  refers-derived d p i across down h a = refers-with d.motions p _ (named i (picture_of slice i) refl h) a
+  refers-derived d p i across down h a = refers-with d.motions p _ (named slice i (picture_of slice i) refl h) a
 
   gives-part : (p : Part) (i : ℕ) (d : Derived) → IsTrue (has_picture slice i) → Refer d → Gives (part_motion width slice picture p i d) Refer
   unfolding part_motion

@@ -1,15 +1,13 @@
 -- QP_Y,PRED behind a macroblock, and macroblocks by the type of their slice and by runs.
-use Rattle.std.proofs.Common.{◌≡◌, ◌≢◌, ℕ, zero, suc, ◌+◌, ◌-◌, ◌<◌, Bool, true, false, not, nat_lt, List, [], ◌∷◌, ◌++◌, length, Option, Some, None, Result, refl, ap, sym, ◌∙◌, arith, lt-ltb, eq-eqb, length-append, ◌==◌, if◌then◌else◌}
+use Rattle.std.proofs.Common.{◌≡◌, ◌≢◌, ℕ, zero, suc, ◌-◌, Bool, true, false, not, nat_lt, List, [], ◌∷◌, ◌++◌, length, Some, Result, refl, ap, arith, lt-ltb, eq-eqb, length-append}
 use Rattle.std.specs.List.{slice_get}
 use Rattle.h264_base.specs.declared.mode.SliceType.{SliceType}
-use Rattle.h264_base.specs.declared.mode.SliceType.TheVariants as slice_type
 use Rattle.h264_base.specs.declared.stop.Stop.{Stop}
 use Rattle.h264_base.specs.Call.{Call}
 use Rattle.h264_base.specs.Meets.{Reader, Meets}
 use Rattle.h264_near.specs.Coded.{CodedMacroblock}
 use Rattle.h264_near.proofs.Places.{seam}
 use Rattle.h264_vectors.specs.declared.slice.SliceContext.{SliceContext}
-use Rattle.h264_base.specs.Grammar.{Grammar}
 use Rattle.h264_mbsyntax.specs.declared.slice.Standing.TheVariants.{Skipping}
 use Rattle.h264_mbsyntax.specs.Macroblock.{predicted_qp}
 use Rattle.h264_mbsyntax.specs.Slice.{Step, by_slice_type, after_run, skip, next}

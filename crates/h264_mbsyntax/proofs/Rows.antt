@@ -1,26 +1,22 @@
 -- The grammar on slices that were worked by hand.
-use Rattle.std.proofs.Common.{◌≡◌, ℕ, ◌+◌, ◌*◌, Bool, true, false, List, [], ◌∷◌, ◌++◌, length, map, replicate, get_or, ℤ, pos, negsuc, Option, Some, None, Result, Ok, Err, refl}
-use Rattle.h264_base.specs.declared.mode.SliceType.{SliceType}
+use Rattle.std.proofs.Common.{◌≡◌, ℕ, ◌+◌, ◌*◌, true, false, List, [], ◌∷◌, length, map, replicate, get_or, ℤ, pos, Option, Some, None, Result, Ok, Err, refl}
 use Rattle.h264_base.specs.declared.mode.SliceType.TheVariants as slice_type
 use Rattle.h264_base.specs.declared.rule.Rule.TheVariants.{BlockSize, CodeWord, ResidualWord, NoReference, IntraMode, VectorRange, SliceEmpty, MbPast}
 use Rattle.h264_base.specs.declared.stop.Stop.{Stop}
 use Rattle.h264_base.specs.declared.stop.Stop.TheVariants.{No}
 use Rattle.h264_base.specs.Body.{Body, place}
 use Rattle.h264_base.specs.Word.{number_at, zeros_at, golomb_at, rows_at, value_at, ends_at, closes_at, no_zero_at}
-use Rattle.h264_base.specs.Grammar.{Grammar, Element, ◌>>=◌, read_word, check, more, align, raw_bytes}
+use Rattle.h264_base.specs.Grammar.{Element, ◌>>=◌, read_word, check, more, align, raw_bytes}
 use Rattle.h264_base.specs.Run.{Run, run}
 use Rattle.h264_tables.specs.CoeffToken.{coeff_token_nc0, coeff_token_nc2, coeff_token_nc4, coeff_token_nc8, coeff_token_chroma_dc}
 use Rattle.h264_tables.specs.CodedBlockPattern.{golomb_rows, coded_block_pattern_intra, coded_block_pattern_inter}
 use Rattle.h264_tables.specs.InvertedBit.{inverted_bit}
 use Rattle.h264_tables.specs.LevelPrefix.{prefix_rows, level_prefix}
-use Rattle.h264_tables.specs.Choice.{coeff_token_by}
 use Rattle.h264_bits.specs.Forms.{signed, unsigned_to, repeated}
-use Rattle.h264_bits.specs.Truncated.{truncated}
-use Rattle.h264_cavlc.specs.Block.{Block, residual_block, coefficients as block_coefficients, all_levels}
+use Rattle.h264_cavlc.specs.Block.{residual_block, coefficients as block_coefficients, all_levels}
 use Rattle.h264_cavlc.specs.Token.{coeff_token, coeff_token_table, trailing_one}
 use Rattle.h264_cavlc.specs.Level.{first_suffix_length, next_suffix_length, level, more_levels}
 use Rattle.h264_near.specs.declared.motion.Motion.{Motion}
-use Rattle.h264_near.specs.declared.motion.Vector.{Vector}
 use Rattle.h264_near.specs.Coded.{CodedMacroblock, Prediction, Inter, number_of, column_of, row_of, chroma_number_of, total_part, chroma_part, mode_part, motion_part}
 use Rattle.h264_near.specs.Place.{part_at, around}
 use Rattle.h264_near.specs.Intra.{luma_nc, chroma_nc, predicted_mode, block_samples, macroblock_samples}

@@ -1,8 +1,8 @@
 -- Turns of the loop over the macroblocks of a slice, for anything that the code keeps of them.
-use Rattle.std.proofs.Common.{◌≡◌, ◌≢◌, ℕ, zero, suc, ◌+◌, ◌-◌, ◌<◌, ◌≤◌, Bool, true, false, not, List, [], ◌∷◌, length, Ok, refl, ap, sym, ◌∙◌, subst, arith, Option, Some, None, Result, Err}
+use Rattle.std.proofs.Common.{◌≡◌, ℕ, suc, ◌+◌, ◌-◌, ◌<◌, ◌≤◌, Bool, List, Ok, sym, subst, arith, Option, Some, None, Err}
 use Rattle.h264_base.specs.declared.stop.Stop.{Stop}
 use Rattle.h264_base.specs.Call.{Call}
-use Rattle.h264_base.specs.Grammar.{Grammar, Done, ◌>>=◌}
+use Rattle.h264_base.specs.Grammar.{Grammar, Done}
 use Rattle.h264_base.specs.Meets.{Reader, Meets}
 use Rattle.h264_base.proofs.Steps.{Leads, leads-starts, leads-then, reads, stop, done, finish}
 use Rattle.h264_near.specs.Coded.{CodedMacroblock}

@@ -7,3 +7,4 @@ pub mod Holds
 pub mod Possible
 pub mod Fit
 pub mod OfSlice
+pub mod Coded

@@ -1,8 +1,7 @@
 -- macroblock_layer() (7.3.5).
-use Rattle.std.specs.Prelude.{ℕ, zero, suc, ◌+◌, ◌-◌, ◌*◌, ◌/◌, ◌%◌, ◌==◌, nat_lt, nat_le, Bool, true, false, List, [], ◌∷◌, ◌++◌, length, map, replicate, Option, Some, None, slice_get, if◌then◌else◌}
-use Rattle.std.specs.Option.{option_map, unwrap_or}
+use Rattle.std.specs.Prelude.{ℕ, ◌+◌, ◌-◌, ◌*◌, ◌/◌, ◌%◌, ◌==◌, nat_lt, nat_le, List, [], length, replicate, Option, Some, None, slice_get, if◌then◌else◌}
 use Rattle.h264_base.specs.declared.element_name.ElementName.TheVariants.{MbType, CodedBlockPattern}
-use Rattle.h264_base.specs.declared.rule.Rule.TheVariants.{Range, IntraMode, CodeWord, VectorRange}
+use Rattle.h264_base.specs.declared.rule.Rule.TheVariants.{Range, IntraMode, VectorRange}
 use Rattle.h264_base.specs.declared.mode.SliceType.{SliceType}
 use Rattle.h264_base.specs.declared.mode.SliceType.TheVariants as slice_type
 use Rattle.h264_base.specs.Word.{Unsigned, Words}
@@ -10,8 +9,7 @@ use Rattle.h264_base.specs.Grammar.{Grammar, Done, ◌>>=◌, element, check}
 use Rattle.h264_tables.specs.declared.table.Table.TheVariants.{CodedBlockPatternIntra, CodedBlockPatternInter}
 use Rattle.h264_tables.specs.Table.{code_table}
 use Rattle.h264_bits.specs.Forms.{natural}
-use Rattle.h264_near.specs.declared.motion.Motion.{Motion}
-use Rattle.h264_near.specs.Coded.{CodedMacroblock, Prediction, Intra4x4, Intra16x16, Pcm, Inter, Residual, no_residual}
+use Rattle.h264_near.specs.Coded.{CodedMacroblock, Prediction, Intra4x4, Intra16x16, Pcm, Inter, no_residual}
 use Rattle.h264_near.specs.Intra.{macroblock_samples}
 use Rattle.h264_vectors.specs.declared.slice.SliceContext.{SliceContext}
 use Rattle.h264_mbsyntax.specs.Intra.{block_modes, chroma_mode, fits_luma, pcm_samples}

@@ -1,5 +1,5 @@
 -- What a macroblock refers to is there: the sides of intra blocks (8.3), the pictures of inter ones (8.4.2).
-use Rattle.std.specs.Prelude.{◌≡◌, ℕ, ◌<◌, ◌≤◌, Bool, IsTrue, List, take, length, Option, Some, None}
+use Rattle.std.specs.Prelude.{◌≡◌, ℕ, ◌<◌, ◌≤◌, IsTrue, List, take, length, Option, Some, None}
 use Rattle.std.specs.List.{AllByRecursion}
 use Rattle.std.proofs.Common.{get_or}
 use Rattle.h264_near.specs.declared.motion.Motion.{Motion}

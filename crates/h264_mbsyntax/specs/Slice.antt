@@ -1,5 +1,5 @@
 -- slice_data() (7.3.4), one macroblock after another.
-use Rattle.std.specs.Prelude.{◌≡◌, ℕ, zero, suc, ◌+◌, ◌-◌, ◌==◌, ◌||◌, nat_lt, nat_le, Bool, true, false, List, [], ◌∷◌, ◌++◌, length, replicate, Option, Some, None, if◌then◌else◌}
+use Rattle.std.specs.Prelude.{◌≡◌, ℕ, zero, suc, ◌-◌, ◌==◌, ◌||◌, nat_lt, nat_le, Bool, List, [], ◌∷◌, ◌++◌, length, replicate, Option, Some, None, if◌then◌else◌}
 use Rattle.h264_base.specs.declared.element_name.ElementName.TheVariants.{MbSkipRun}
 use Rattle.h264_base.specs.declared.mode.SliceType.{SliceType}
 use Rattle.h264_base.specs.declared.mode.SliceType.TheVariants as slice_type

@@ -6,15 +6,16 @@ ghost use Rattle.h264_base.specs.Meets.{Meets, Is, Answers};
 ghost use Rattle.h264_near.specs.Coded.{CodedMacroblock};
 ghost use Rattle.h264_near.specs.Keeps.{Keeps};
 ghost use Rattle.h264_mbsyntax.specs.Macroblock as syntax;
+ghost use Rattle.h264_mbsyntax.specs.declared.macroblock.Kind.TheVariants as kind;
 ghost use Rattle.h264_base.specs.declared.mode.SliceType.TheVariants as slice_type;
 ghost use Rattle.h264_vectors.specs.Agrees.{Usable};
-ghost use Rattle.h264_mbsyntax.specs.Holds.{Holds, IsPlaced};
+ghost use Rattle.h264_mbsyntax.specs.Holds.{Holds};
 ghost use Rattle.h264_mbsyntax.specs.Possible.{IsRead};
 
 use crate::intra::{fits_luma, read_block_modes, read_chroma_mode};
 use crate::residual::{Residual, read_coefficients, read_coefficients16};
 use h264_base::{ElementName, Elements, Rule, SliceType, Stop};
-use h264_bits::{Bits, check, read_align, read_bytes, read_ue, read_word};
+use h264_bits::{Bits, check, read_align, read_bytes, read_ue};
 use h264_near::{Contexts, Motion, Near};
 use h264_tables::Table;
 use h264_vectors::{SliceContext, read_motions};
@@ -126,6 +127,36 @@ pub(crate) fn inter_contexts(
     }
 }
 
+/// Makes `mb` an intra macroblock, of which the residual is not read yet.
+fn begin_intra(mb: &mut Macroblock, kind: Kind, slice: u32, modes: [u8; 16], chroma_mode: u8)
+    ensures kind { mb.new.kind ≡ kind }
+    ensures chroma_mode { mb.new.chroma_mode ≡ chroma_mode }
+    ensures slice { mb.new.contexts.slice ≡ slice }
+    ensures intra { mb.new.contexts.intra ≡ true }
+    ensures modes { mb.new.contexts.modes ≡ modes }
+    ensures motions { mb.new.contexts.motions ≡ replicate 16 None }
+    ensures luma_dc_total { mb.new.residual.luma_dc_total ≡ 0 }
+{
+    mb.kind = kind;
+    mb.chroma_mode = chroma_mode;
+    mb.residual.luma_dc_total = 0;
+    mb.contexts = intra_contexts(slice, 0, [0; 16], [0; 8], modes);
+}
+
+/// Makes `mb` an inter macroblock, of which references, vectors and residual are not read yet.
+fn begin_inter(mb: &mut Macroblock, slice: u32)
+    ensures kind { mb.new.kind ≡ kind.Inter }
+    ensures slice { mb.new.contexts.slice ≡ slice }
+    ensures intra { mb.new.contexts.intra ≡ false }
+    ensures modes { mb.new.contexts.modes ≡ replicate 16 2 }
+    ensures motions { mb.new.contexts.motions ≡ replicate 16 None }
+    ensures luma_dc_total { mb.new.residual.luma_dc_total ≡ 0 }
+{
+    mb.kind = Kind::Inter;
+    mb.residual.luma_dc_total = 0;
+    mb.contexts = inter_contexts(slice, 0, [0; 16], [0; 8], [None; 16]);
+}
+
 /// Reads what follows mb_type of an I_4x4 macroblock. `qp` is QP_Y,PRED.
 fn read_intra4x4<S: Elements>(
     bits: &mut Bits,
@@ -145,32 +176,9 @@ fn read_intra4x4<S: Elements>(
     let modes = read_block_modes(bits, near, slice.number, slice.constrained_intra, sink)?;
     let samples = near.samples(slice.number, slice.constrained_intra, &[0; 16], 0);
     let chroma_mode = read_chroma_mode(bits, samples, sink)?;
-    let pattern = read_word(
-        bits,
-        Rule::CodeWord,
-        ElementName::CodedBlockPattern,
-        Table::CodedBlockPatternIntra,
-        sink,
-    )?;
-    let mut totals = [0u8; 16];
-    let mut chroma_totals = [0u8; 8];
-    let after = read_coefficients(
-        bits,
-        near,
-        slice.number,
-        qp,
-        pattern.value,
-        &mut totals,
-        &mut chroma_totals,
-        &mut mb.residual,
-        sink,
-    )?;
-    mb.kind = Kind::Intra4x4;
-    mb.chroma_mode = chroma_mode;
-    mb.qp = after;
-    mb.residual.luma_dc_total = 0;
-    mb.contexts = intra_contexts(slice.number, after, totals, chroma_totals, modes);
-    Ok(())
+    begin_intra(mb, Kind::Intra4x4, slice.number, modes, chroma_mode);
+    let table = Table::CodedBlockPatternIntra;
+    read_coefficients(bits, near, slice.number, qp, table, mb, sink)
 }
 
 /// Reads the samples of I_PCM. `qp` is QP_Y,PRED, which stays.
@@ -234,53 +242,15 @@ fn read_intra16x16<S: Elements>(
     let mode = ((kind - 1) % 4) as u8;
     check(fits_luma(mode, samples), Rule::IntraMode, bit)?;
     let chroma_mode = read_chroma_mode(bits, samples, sink)?;
-    let pattern = pattern_of(kind);
-    let mut totals = [0u8; 16];
-    let mut chroma_totals = [0u8; 8];
-    let after = read_coefficients16(
-        bits,
-        near,
+    begin_intra(
+        mb,
+        Kind::Intra16x16 { mode },
         slice.number,
-        qp,
-        pattern,
-        &mut totals,
-        &mut chroma_totals,
-        &mut mb.residual,
-        sink,
-    )?;
-    mb.kind = Kind::Intra16x16 { mode };
-    mb.chroma_mode = chroma_mode;
-    mb.qp = after;
-    mb.contexts = intra_contexts(slice.number, after, totals, chroma_totals, [2; 16]);
-    Ok(())
-}
-
-/// Reads an intra macroblock by its mb_type in I slices, 0 to 25. `qp` is QP_Y,PRED.
-fn read_intra<S: Elements>(
-    bits: &mut Bits,
-    near: &Near,
-    slice: &SliceContext,
-    qp: u8,
-    bit: u64,
-    kind: u32,
-    mb: &mut Macroblock,
-    sink: &mut S,
-) -> Result<(), Stop>
-    requires few { kind ≤ 25 }
-    requires qp { qp ≤ 51 }
-    requires room { S.failures sink.old < 2 ^ 64 - 1 }
-    ensures meets { (width : ℕ) (picture : List CodedMacroblock) → Keeps width picture near.now → qp ≡ syntax.predicted_qp slice.now picture → Meets S.took S.failures (λ _ m. Holds mb.new m) (syntax.intra width slice.now picture bit kind) bits.old bits.new sink.old sink.new result }
-    ensures quiet { OnOk result (S.failures sink.new ≡ S.failures sink.old) }
-    ensures within { OnOk result (mb.new.qp ≤ 51) }
-    ensures same { OnOk result (mb.new.contexts.slice ≡ slice.now.number) }
-{
-    if kind == 0 {
-        return read_intra4x4(bits, near, slice, qp, mb, sink);
-    }
-    if kind == 25 {
-        return read_pcm(bits, slice, qp, mb, sink);
-    }
-    read_intra16x16(bits, near, slice, qp, bit, kind, mb, sink)
+        [2; 16],
+        chroma_mode,
+    );
+    let pattern = pattern_of(kind);
+    read_coefficients16(bits, near, slice.number, qp, pattern, mb, sink)
 }
 
 /// Reads an inter macroblock by its mb_type in P slices, 0 to 4. `qp` is QP_Y,PRED.
@@ -302,37 +272,14 @@ fn read_inter<S: Elements>(
     ensures within { OnOk result (mb.new.qp ≤ 51) }
     ensures same { OnOk result (mb.new.contexts.slice ≡ slice.now.number) }
 {
-    let mut motions = [None; 16];
-    let fits = read_motions(bits, near, slice, bit, kind, &mut motions, sink)?;
-    let pattern = read_word(
-        bits,
-        Rule::CodeWord,
-        ElementName::CodedBlockPattern,
-        Table::CodedBlockPatternInter,
-        sink,
-    )?;
-    let mut totals = [0u8; 16];
-    let mut chroma_totals = [0u8; 8];
-    let after = read_coefficients(
-        bits,
-        near,
-        slice.number,
-        qp,
-        pattern.value,
-        &mut totals,
-        &mut chroma_totals,
-        &mut mb.residual,
-        sink,
-    )?;
-    check(fits, Rule::VectorRange, bit)?;
-    mb.kind = Kind::Inter;
-    mb.qp = after;
-    mb.residual.luma_dc_total = 0;
-    mb.contexts = inter_contexts(slice.number, after, totals, chroma_totals, motions);
-    Ok(())
+    begin_inter(mb, slice.number);
+    let fits = read_motions(bits, near, slice, bit, kind, &mut mb.contexts.motions, sink)?;
+    let table = Table::CodedBlockPatternInter;
+    read_coefficients(bits, near, slice.number, qp, table, mb, sink)?;
+    check(fits, Rule::VectorRange, bit)
 }
 
-/// Reads a macroblock of an I slice by its mb_type. `qp` is QP_Y,PRED.
+/// Reads a macroblock by its mb_type in I slices. `qp` is QP_Y,PRED.
 fn read_of_i<S: Elements>(
     bits: &mut Bits,
     near: &Near,
@@ -351,36 +298,16 @@ fn read_of_i<S: Elements>(
     ensures same { OnOk result (mb.new.contexts.slice ≡ slice.now.number) }
 {
     check(kind <= 25, Rule::Range, bit)?;
-    read_intra(bits, near, slice, qp, bit, kind, mb, sink)
-}
-
-/// Reads a macroblock of a P slice by its mb_type. `qp` is QP_Y,PRED.
-fn read_of_p<S: Elements>(
-    bits: &mut Bits,
-    near: &Near,
-    slice: &SliceContext,
-    qp: u8,
-    bit: u64,
-    kind: u32,
-    mb: &mut Macroblock,
-    sink: &mut S,
-) -> Result<(), Stop>
-    requires qp { qp ≤ 51 }
-    requires usable { Usable slice.now }
-    requires room { S.failures sink.old < 2 ^ 64 - 1 }
-    ensures meets { (width : ℕ) (picture : List CodedMacroblock) → Keeps width picture near.now → qp ≡ syntax.predicted_qp slice.now picture → Meets S.took S.failures (λ _ m. Holds mb.new m) (syntax.by_type slice_type.P width slice.now picture bit kind) bits.old bits.new sink.old sink.new result }
-    ensures quiet { OnOk result (S.failures sink.new ≡ S.failures sink.old) }
-    ensures within { OnOk result (mb.new.qp ≤ 51) }
-    ensures same { OnOk result (mb.new.contexts.slice ≡ slice.now.number) }
-{
-    check(kind <= 30, Rule::Range, bit)?;
-    if kind < 5 {
-        return read_inter(bits, near, slice, qp, bit, kind, mb, sink);
+    if kind == 0 {
+        return read_intra4x4(bits, near, slice, qp, mb, sink);
     }
-    read_intra(bits, near, slice, qp, bit, kind - 5, mb, sink)
+    if kind == 25 {
+        return read_pcm(bits, slice, qp, mb, sink);
+    }
+    read_intra16x16(bits, near, slice, qp, bit, kind, mb, sink)
 }
 
-/// Reads a macroblock by its mb_type and the type of its slice. `qp` is QP_Y,PRED.
+/// Reads a macroblock by its mb_type and the type of its slice: in P slices the types of I slices begin at 5. `qp` is QP_Y,PRED.
 fn read_by_type<S: Elements>(
     bits: &mut Bits,
     near: &Near,
@@ -401,30 +328,13 @@ fn read_by_type<S: Elements>(
 {
     match slice.slice_type {
         SliceType::I => read_of_i(bits, near, slice, qp, bit, kind, mb, sink),
-        SliceType::P => read_of_p(bits, near, slice, qp, bit, kind, mb, sink),
+        SliceType::P => {
+            if kind < 5 {
+                return read_inter(bits, near, slice, qp, bit, kind, mb, sink);
+            }
+            read_of_i(bits, near, slice, qp, bit, kind - 5, mb, sink)
+        }
     }
-}
-
-/// Reads mb_type and what follows: the stream bit of mb_type. `qp` is QP_Y,PRED.
-fn read_placed<S: Elements>(
-    bits: &mut Bits,
-    near: &Near,
-    slice: &SliceContext,
-    qp: u8,
-    mb: &mut Macroblock,
-    sink: &mut S,
-) -> Result<u64, Stop>
-    requires qp { qp ≤ 51 }
-    requires usable { Usable slice.now }
-    requires room { S.failures sink.old < 2 ^ 64 - 1 }
-    ensures meets { (width : ℕ) (picture : List CodedMacroblock) → Keeps width picture near.now → qp ≡ syntax.predicted_qp slice.now picture → Meets S.took S.failures (IsPlaced mb.new) (syntax.macroblock width slice.now picture) bits.old bits.new sink.old sink.new result }
-    ensures quiet { OnOk result (S.failures sink.new ≡ S.failures sink.old) }
-    ensures within { OnOk result (mb.new.qp ≤ 51) }
-    ensures same { OnOk result (mb.new.contexts.slice ≡ slice.now.number) }
-{
-    let kind = read_ue(bits, ElementName::MbType, sink)?;
-    read_by_type(bits, near, slice, qp, kind.bit, kind.value, mb, sink)?;
-    Ok(kind.bit)
 }
 
 /// Reads a macroblock into `mb`, which has the contexts of those before it in `near`: the stream bit of its mb_type.
@@ -450,5 +360,7 @@ pub fn read_macroblock<S: Elements>(
     ensures within { OnOk result (mb.new.qp ≤ 51) }
     ensures same { OnOk result (mb.new.contexts.slice ≡ slice.now.number) }
 {
-    read_placed(bits, near, slice, qp, mb, sink)
+    let kind = read_ue(bits, ElementName::MbType, sink)?;
+    read_by_type(bits, near, slice, qp, kind.bit, kind.value, mb, sink)?;
+    Ok(kind.bit)
 }

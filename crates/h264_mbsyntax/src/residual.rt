@@ -9,11 +9,14 @@ ghost use Rattle.h264_near.specs.Coded.{CodedMacroblock};
 ghost use Rattle.h264_near.specs.Keeps.{Keeps};
 ghost use Rattle.h264_mbsyntax.specs.Residual as syntax;
 ghost use Rattle.h264_mbsyntax.specs.Stored as stored;
+ghost use Rattle.h264_mbsyntax.specs.Coded.{HasCoefficients, HasCoefficients16, IsSame, patterned};
 
+use crate::macroblock::Macroblock;
 use h264_base::{ElementName, Elements, Rule, Stop};
-use h264_bits::{Bits, check, read_se};
-use h264_cavlc::{Levels, block};
+use h264_bits::{Bits, check, read_se, read_word};
+use h264_cavlc::{Levels, block, block_into};
 use h264_near::Near;
+use h264_tables::Table;
 
 /// The levels of a macroblock, by block and by place of the scan. Those of a block without coefficients are what stood there before:
 /// whoever reads them looks at the totals first.
@@ -98,8 +101,7 @@ fn read_block_if<const N: usize, S: Elements>(
     ensures zeros { IfOk result (λ b. stored.IsBlank N b.by_place b.total) }
 {
     if coded {
-        let read = block::<N, S>(bits, nc, sink)?;
-        return Ok(read);
+        return block::<N, S>(bits, nc, sink);
     }
     Ok(Levels {
         by_place: [0; N],
@@ -131,6 +133,7 @@ pub(crate) fn read_luma<const N: usize, S: Elements>(
     requires size { N ≤ 16 }
     requires room { S.failures sink.old < 2 ^ 64 - 1 }
     ensures meets { (width : ℕ) (picture : List CodedMacroblock) → Keeps width picture near.now → Meets S.took S.failures (λ _ blocks. stored.Stored N 16 totals.new levels.new blocks) (syntax.luma_blocks width picture slice N pattern) bits.old bits.new sink.old sink.new result }
+    ensures sized { length totals.new ≡ 16 }
     ensures quiet { OnOk result (S.failures sink.new ≡ S.failures sink.old) }
 {
     for b in 0..16 {
@@ -139,25 +142,6 @@ pub(crate) fn read_luma<const N: usize, S: Elements>(
         totals[b] = read.total;
         keep::<N, 16>(levels, b, &read);
     }
-    Ok(())
-}
-
-/// Reads the DC blocks of Cb and Cr.
-fn read_both_dc<S: Elements>(
-    bits: &mut Bits,
-    totals: &mut [u8; 2],
-    levels: &mut [[i16; 4]; 2],
-    sink: &mut S,
-) -> Result<(), Stop>
-    requires { S.failures sink.old < 2 ^ 64 - 1 }
-    ensures { Meets S.took S.failures (λ _ blocks. stored.Stored 4 2 totals.new levels.new blocks) syntax.both_dc bits.old bits.new sink.old sink.new result }
-{
-    let cb = read_block_if::<4, S>(bits, true, 0, sink)?;
-    totals[0] = cb.total;
-    keep::<4, 2>(levels, 0, &cb);
-    let cr = read_block_if::<4, S>(bits, true, 0, sink)?;
-    totals[1] = cr.total;
-    keep::<4, 2>(levels, 1, &cr);
     Ok(())
 }
 
@@ -172,10 +156,16 @@ fn read_chroma_dc<S: Elements>(
     requires { S.failures sink.old < 2 ^ 64 - 1 }
     ensures { Meets S.took S.failures (λ _ blocks. stored.Stored 4 2 totals.new levels.new blocks) (syntax.chroma_dc_if coded) bits.old bits.new sink.old sink.new result }
 {
-    if coded {
-        return read_both_dc(bits, totals, levels, sink);
+    if !coded {
+        *totals = [0; 2];
+        return Ok(());
     }
-    *totals = [0; 2];
+    let cb = read_block_if::<4, S>(bits, true, 0, sink)?;
+    totals[0] = cb.total;
+    keep::<4, 2>(levels, 0, &cb);
+    let cr = read_block_if::<4, S>(bits, true, 0, sink)?;
+    totals[1] = cr.total;
+    keep::<4, 2>(levels, 1, &cr);
     Ok(())
 }
 
@@ -201,27 +191,6 @@ fn read_all_ac<S: Elements>(
     Ok(())
 }
 
-/// Reads the AC blocks of Cb and Cr, if they are coded.
-fn read_chroma_ac<S: Elements>(
-    bits: &mut Bits,
-    near: &Near,
-    slice: u32,
-    coded: bool,
-    totals: &mut [u8; 8],
-    levels: &mut [[i16; 15]; 8],
-    sink: &mut S,
-) -> Result<(), Stop>
-    requires { S.failures sink.old < 2 ^ 64 - 1 }
-    ensures meets { (width : ℕ) (picture : List CodedMacroblock) → Keeps width picture near.now → Meets S.took S.failures (λ _ blocks. stored.Stored 15 8 totals.new levels.new blocks) (syntax.chroma_ac_if width picture slice coded) bits.old bits.new sink.old sink.new result }
-    ensures quiet { OnOk result (S.failures sink.new ≡ S.failures sink.old) }
-{
-    if coded {
-        return read_all_ac(bits, near, slice, totals, levels, sink);
-    }
-    *totals = [0; 8];
-    Ok(())
-}
-
 /// Reads the chroma blocks by CodedBlockPatternChroma.
 fn read_chroma<S: Elements>(
     bits: &mut Bits,
@@ -234,6 +203,7 @@ fn read_chroma<S: Elements>(
 ) -> Result<(), Stop>
     requires { S.failures sink.old < 2 ^ 64 - 1 }
     ensures meets { (width : ℕ) (picture : List CodedMacroblock) → Keeps width picture near.now → Meets S.took S.failures (λ _ v. stored.StoredChroma totals.new residual.new.chroma_ac residual.new.chroma_dc_totals residual.new.chroma_dc v) (syntax.chroma width picture slice pattern) bits.old bits.new sink.old sink.new result }
+    ensures sized { length totals.new ≡ 8 }
     ensures luma { residual.new.luma ≡ residual.old.luma }
     ensures luma_ac { residual.new.luma_ac ≡ residual.old.luma_ac }
     ensures luma_dc { residual.new.luma_dc ≡ residual.old.luma_dc }
@@ -247,127 +217,110 @@ fn read_chroma<S: Elements>(
         &mut residual.chroma_dc,
         sink,
     )?;
-    read_chroma_ac(
-        bits,
-        near,
-        slice,
-        pattern == 2,
-        totals,
-        &mut residual.chroma_ac,
-        sink,
-    )?;
+    if pattern == 2 {
+        return read_all_ac(bits, near, slice, totals, &mut residual.chroma_ac, sink);
+    }
+    *totals = [0; 8];
     Ok(())
 }
 
-/// Reads mb_qp_delta and the blocks where coded_block_pattern is not 0: QP_Y.
-fn read_coded<S: Elements>(
-    bits: &mut Bits,
-    near: &Near,
-    slice: u32,
-    predicted_qp: u8,
-    pattern: u8,
-    totals: &mut [u8; 16],
-    chroma_totals: &mut [u8; 8],
-    residual: &mut Residual,
-    sink: &mut S,
-) -> Result<u8, Stop>
-    requires predicted { predicted_qp ≤ 51 }
-    requires room { S.failures sink.old < 2 ^ 64 - 1 }
-    ensures meets { (width : ℕ) (picture : List CodedMacroblock) → Keeps width picture near.now → Meets S.took S.failures (λ qp v. stored.StoredCoefficients qp totals.new residual.new.luma chroma_totals.new residual.new.chroma_ac residual.new.chroma_dc_totals residual.new.chroma_dc v) (syntax.coded_coefficients width picture slice predicted_qp pattern) bits.old bits.new sink.old sink.new result }
-    ensures within { IfOk result (λ q. q ≤ 51) }
-    ensures quiet { OnOk result (S.failures sink.new ≡ S.failures sink.old) }
+/// Makes `mb` one of which no block is coded, and which leaves QP_Y.
+fn leave_uncoded(mb: &mut Macroblock, qp: u8)
+    ensures none { HasCoefficients mb.new (syntax.no_coefficients qp) }
+    ensures qp { mb.new.qp ≡ qp }
+    ensures same { IsSame mb.old mb.new }
+    ensures luma_dc_total { mb.new.residual.luma_dc_total ≡ mb.old.residual.luma_dc_total }
 {
-    let qp = read_qp_delta(bits, predicted_qp, sink)?;
-    read_luma::<16, S>(bits, near, slice, pattern, totals, &mut residual.luma, sink)?;
-    read_chroma(
-        bits,
-        near,
-        slice,
-        pattern / 16,
-        chroma_totals,
-        residual,
-        sink,
-    )?;
-    Ok(qp)
+    mb.qp = qp;
+    mb.contexts.qp = qp;
+    mb.contexts.totals = [0; 16];
+    mb.contexts.chroma_totals = [0; 8];
+    mb.residual.chroma_dc_totals = [0; 2];
 }
 
-/// Reads mb_qp_delta and the blocks of a macroblock that is not Intra 16x16, if coded_block_pattern is not 0: QP_Y.
+/// Reads coded_block_pattern by its table, and mb_qp_delta and the blocks of a macroblock that is not Intra 16x16 if it is not 0.
+#[inline]
 pub(crate) fn read_coefficients<S: Elements>(
     bits: &mut Bits,
     near: &Near,
     slice: u32,
     predicted_qp: u8,
-    pattern: u8,
-    totals: &mut [u8; 16],
-    chroma_totals: &mut [u8; 8],
-    residual: &mut Residual,
+    table: Table,
+    mb: &mut Macroblock,
     sink: &mut S,
-) -> Result<u8, Stop>
+) -> Result<(), Stop>
     requires predicted { predicted_qp ≤ 51 }
     requires room { S.failures sink.old < 2 ^ 64 - 1 }
-    ensures meets { (width : ℕ) (picture : List CodedMacroblock) → Keeps width picture near.now → Meets S.took S.failures (λ qp v. stored.StoredCoefficients qp totals.new residual.new.luma chroma_totals.new residual.new.chroma_ac residual.new.chroma_dc_totals residual.new.chroma_dc v) (syntax.coefficients width picture slice predicted_qp pattern) bits.old bits.new sink.old sink.new result }
-    ensures within { IfOk result (λ q. q ≤ 51) }
+    ensures meets { (width : ℕ) (picture : List CodedMacroblock) → Keeps width picture near.now → Meets S.took S.failures (λ _ v. HasCoefficients mb.new v) (patterned table width picture slice predicted_qp) bits.old bits.new sink.old sink.new result }
+    ensures within { OnOk result (mb.new.qp ≤ 51) }
     ensures quiet { OnOk result (S.failures sink.new ≡ S.failures sink.old) }
+    ensures same { IsSame mb.old mb.new }
+    ensures luma_dc_total { mb.new.residual.luma_dc_total ≡ mb.old.residual.luma_dc_total }
 {
-    if pattern == 0 {
-        *totals = [0; 16];
-        *chroma_totals = [0; 8];
-        residual.chroma_dc_totals = [0; 2];
-        return Ok(predicted_qp);
+    let pattern = read_word(
+        bits,
+        Rule::CodeWord,
+        ElementName::CodedBlockPattern,
+        table,
+        sink,
+    )?;
+    if pattern.value == 0 {
+        leave_uncoded(mb, predicted_qp);
+        return Ok(());
     }
-    read_coded(
+    let qp = read_qp_delta(bits, predicted_qp, sink)?;
+    mb.qp = qp;
+    mb.contexts.qp = qp;
+    read_luma::<16, S>(
         bits,
         near,
         slice,
-        predicted_qp,
-        pattern,
-        totals,
-        chroma_totals,
-        residual,
+        pattern.value,
+        &mut mb.contexts.totals,
+        &mut mb.residual.luma,
+        sink,
+    )?;
+    read_chroma(
+        bits,
+        near,
+        slice,
+        pattern.value / 16,
+        &mut mb.contexts.chroma_totals,
+        &mut mb.residual,
         sink,
     )
 }
 
-/// Keeps the levels of the DC block, if it has some.
-#[inline]
-fn keep_dc(levels: &mut [i16; 16], read: &Levels<16>)
-    ensures { 0 < read.now.total → levels.new ≡ read.now.by_place }
-{
-    if read.total > 0 {
-        *levels = read.by_place;
-    }
-}
-
-/// Reads mb_qp_delta and the blocks of an Intra 16x16 macroblock: QP_Y.
+/// Reads mb_qp_delta and the blocks of an Intra 16x16 macroblock.
 pub(crate) fn read_coefficients16<S: Elements>(
     bits: &mut Bits,
     near: &Near,
     slice: u32,
     predicted_qp: u8,
     pattern: u8,
-    totals: &mut [u8; 16],
-    chroma_totals: &mut [u8; 8],
-    residual: &mut Residual,
+    mb: &mut Macroblock,
     sink: &mut S,
-) -> Result<u8, Stop>
+) -> Result<(), Stop>
     requires predicted { predicted_qp ≤ 51 }
     requires room { S.failures sink.old < 2 ^ 64 - 1 }
-    ensures meets { (width : ℕ) (picture : List CodedMacroblock) → Keeps width picture near.now → Meets S.took S.failures (λ qp v. stored.StoredCoefficients16 qp residual.new.luma_dc_total residual.new.luma_dc totals.new residual.new.luma_ac chroma_totals.new residual.new.chroma_ac residual.new.chroma_dc_totals residual.new.chroma_dc v) (syntax.coefficients16 width picture slice predicted_qp pattern) bits.old bits.new sink.old sink.new result }
-    ensures within { IfOk result (λ q. q ≤ 51) }
+    ensures meets { (width : ℕ) (picture : List CodedMacroblock) → Keeps width picture near.now → Meets S.took S.failures (λ _ v. HasCoefficients16 mb.new v) (syntax.coefficients16 width picture slice predicted_qp pattern) bits.old bits.new sink.old sink.new result }
+    ensures within { OnOk result (mb.new.qp ≤ 51) }
     ensures quiet { OnOk result (S.failures sink.new ≡ S.failures sink.old) }
+    ensures same { IsSame mb.old mb.new }
 {
     let qp = read_qp_delta(bits, predicted_qp, sink)?;
-    let nc = near.nc(slice, totals, 0);
-    let dc = read_block_if::<16, S>(bits, true, nc, sink)?;
-    residual.luma_dc_total = dc.total;
-    keep_dc(&mut residual.luma_dc, &dc);
+    mb.qp = qp;
+    mb.contexts.qp = qp;
+    let nc = near.nc(slice, &[0; 16], 0);
+    let total = block_into::<16, S>(bits, nc, &mut mb.residual.luma_dc, sink)?;
+    mb.residual.luma_dc_total = total;
     read_luma::<15, S>(
         bits,
         near,
         slice,
         pattern,
-        totals,
-        &mut residual.luma_ac,
+        &mut mb.contexts.totals,
+        &mut mb.residual.luma_ac,
         sink,
     )?;
     read_chroma(
@@ -375,9 +328,8 @@ pub(crate) fn read_coefficients16<S: Elements>(
         near,
         slice,
         pattern / 16,
-        chroma_totals,
-        residual,
+        &mut mb.contexts.chroma_totals,
+        &mut mb.residual,
         sink,
-    )?;
-    Ok(qp)
+    )
 }
