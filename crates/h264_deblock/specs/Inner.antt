@@ -43,9 +43,6 @@ pub record AreNearest (r : Nearest) (f : ℕ → Line) : Type 0 where
   pub p0 : (n : ℕ) → n < 8 → slice_index r.p0 n ≡ (f n).p0
   pub q0 : (n : ℕ) → n < 8 → slice_index r.q0 n ≡ (f n).q0
 
-abbrev pub IsFilteredInner : Inner → Nearest → (ℕ → Limits) → Type 0
-IsFilteredInner old new k = AreNearest new (λ n. filtered true (k n) (inner_of old n))
-
 -- the samples are written: where they are those of filtered lines, so are the plane's
 pub record AreNearestWritten (vertical : Bool) (old new : Samples) (along across : ℕ) (r : Nearest) : Type 0 where
   pub lines : (k : ℕ → Limits) → AreNearest r (λ n. filtered true (k n) (taps (look vertical old (along + n)) across)) →
