@@ -29,7 +29,8 @@ ghost use Rattle.h264_verify.specs.Pictures.{CodedSlice, CodedPicture, open_of, 
 ghost use Rattle.h264_poc.specs.OfSlice.{picture_of};
 ghost use Rattle.h264_marking.specs.Ended.{numbering_of, resets};
 ghost use Rattle.h264_header.specs.Picture.{is_idr, is_reference};
-ghost use Rattle.h264_verify.specs.Slices.{type_of, idr_id, first_mb_demands, count_demand, slice_steps};
+ghost use Rattle.h264_verify.specs.Slices.{type_of, idr_id, first_mb_demands, id_demand, count_demand, qp_demand, list_demand, slice_steps};
+ghost use Rattle.h264_verify.specs.Lists.{list_of};
 
 use crate::close::close_if;
 use crate::data::check_first_mb;
@@ -101,6 +102,27 @@ fn count_picture(
     Ok(())
 }
 
+/// The rules of a picture's first slice behind those on its frame_num, once the missing frames are held: on idr_pic_id, counts, QP and list.
+fn check_new_picture(
+    slices: &mut Slices,
+    pps: &Pps,
+    sps: &Sps,
+    header: &Header,
+    bit: u64,
+) -> Result<(), Stop>
+    requires { has_lengths sps.now ≡ true }
+    ensures judged { (pictures : List Picture) → KeepsCounts pictures slices.old.counts → result ≡ judged (id_demand slices.old.newest_idr header.now ∷ count_demand (picture_of sps.now header.now ∷ pictures) bit ∷ qp_demand pps.now header.now ∷ list_demand (list_of header.now.kind.value (numbering_of sps.now header.now) slices.old.held) ∷ []) }
+    ensures no_memory { IsErrOf result Stop.Memory → ⊥ }
+    ensures counts { (pictures : List Picture) → KeepsCounts pictures slices.old.counts → OnOk result (KeepsCounts (picture_of sps.now header.now ∷ pictures) slices.new.counts) }
+    ensures count { (pictures : List Picture) → KeepsCounts pictures slices.old.counts → OnOk result (slices.new.count ≡ newest_count (picture_of sps.now header.now ∷ pictures)) }
+    ensures others { slices.new ≡ record slices.old { counts = slices.new.counts; count = slices.new.count } }
+{
+    check_id(slices.newest_idr, header)?;
+    count_picture(sps, header, bit, &mut slices.counts, &mut slices.count)?;
+    check_qp(pps, header)?;
+    check_list(&header.kind.value, &numbering_of(sps, header), &slices.held)
+}
+
 /// The rules of a picture's first slice from its type on, where the picture before has ended; and what the picture leaves.
 fn check_first_slice<S: FrameSink>(
     mode: Mode,
@@ -140,10 +162,7 @@ fn check_first_slice<S: FrameSink>(
         decoder,
         sink,
     )?;
-    check_id(slices.newest_idr, header)?;
-    count_picture(sps, header, bit, &mut slices.counts, &mut slices.count)?;
-    check_qp(pps, header)?;
-    check_list(&header.kind.value, &numbering_of(sps, header), &slices.held)
+    check_new_picture(slices, pps, sps, header, bit)
 }
 
 /// The rules of a picture's later slice from its type on.

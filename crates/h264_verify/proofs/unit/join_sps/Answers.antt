@@ -22,14 +22,26 @@ set-read : {S : Type 0} (frames : ℕ → Frame) (took : S → List Call → Typ
 unfolding sps_outcome
 set-read frames took failures unit old new s s' r e m a = plays-gives (took_with frames took) failures (λ (x : Sps). x) contents.OfSps (structure_outcome sps (body_of unit)) s s' r (meets-plays frames took failures (λ (x : Sps). x) sps (body_of unit) old new s s' r e m a)
 
-pub returns-in_err-rbsp-clause-joins : goal.returns-in_err-rbsp-clause-joins
-returns-in_err-rbsp-clause-joins g c = let p = err_from_is_err_and c.from_residual.result c.from_residual.ensures.1 in rw (p.1, p.2, c.in_err-rbsp.ensures.err) (λ frames before k. joins-stops c.args.mode frames _ _ _ before c.args.unit.now (sps_outcome c.args.unit.now) _ contents.OfSps _ _ _ (memory-plays _ _ _ _ _))
+pub returns-in_err-rbsp : goal.returns-in_err-rbsp
+returns-in_err-rbsp g c =
+    let p = err_from_is_err_and c.from_residual.result c.from_residual.ensures.1 in
+    rw (p.1, p.2, c.in_err-rbsp.ensures.err) (record {
+      joins = λ frames before k. joins-stops c.args.mode frames _ _ _ before c.args.unit.now (sps_outcome c.args.unit.now) _ contents.OfSps _ _ _ (memory-plays _ _ _ _ _);
+      counts = tt;
+      pictures = tt;
+      kept = tt;
+    })
 
-pub returns-in_err-set-clause-joins : goal.returns-in_err-set-clause-joins
-returns-in_err-set-clause-joins g c =
+pub returns-in_err-set : goal.returns-in_err-set
+returns-in_err-set g c =
     let p = err_from_is_err_and c.from_residual-in_err-set.result c.from_residual-in_err-set.ensures.1 in
     let first = rw c.in_ok-rbsp.ensures.ok at c.new-bits.ensures in
-    rw (p.1, p.2) (λ frames before k. joins-stops c.args.mode frames _ _ _ before c.args.unit.now (sps_outcome c.args.unit.now) _ contents.OfSps _ _ _ (set-read frames _ _ c.args.unit.now _ _ _ _ _ first c.in_err-set.ensures.meets c.in_err-set.ensures.answers))
+    rw (p.1, p.2) (record {
+      joins = λ frames before k. joins-stops c.args.mode frames _ _ _ before c.args.unit.now (sps_outcome c.args.unit.now) _ contents.OfSps _ _ _ (set-read frames _ _ c.args.unit.now _ _ _ _ _ first c.in_err-set.ensures.meets c.in_err-set.ensures.answers);
+      counts = tt;
+      pictures = tt;
+      kept = tt;
+    })
 
 pub returns-clause-joins : goal.returns-clause-joins
 returns-clause-joins g c =
