@@ -125,17 +125,12 @@ end-begun true slice pictures new b h = h
 end-begun false slice pictures new b h = cc
 
 -- What a slice leaves: a later slice of a picture changes none of counts, marking and numbers.
-module _ (before : History) (unit : NalUnit) (h : Header) (ms : List CodedMacroblock) (maps : Maps) (old new : Slices) (begins : Bool) (sets : Pps × Sps) (b : begins ≡ begins_at before h) (maps-are : maps ≡ maps_of before) (named : sets_of maps h.pic_parameter_set_id.value ≡ Some sets) (entered : Entered before begins (with_sets unit h ms sets) old) where
+module _ (before : History) (unit : NalUnit) (h : Header) (ms : List CodedMacroblock) (old new : Slices) (begins : Bool) (sets : Pps × Sps) (entered : Entered before begins (with_sets unit h ms sets) old) where
   abbrev slice : CodedSlice
   slice = with_sets unit h ms sets
 
   abbrev pictures : List CodedPicture
   pictures = joined_to begins slice (runs_of before)
-
-  runs-are : pictures ≡ runs_of (record { unit = unit; content = contents.OfSlice h ms } ∷ before)
-  runs-are =
-      ap (λ x. joined_to x slice (runs_of before)) b
-      ∙ ap (λ o. joined_by (option_map (with_sets unit h ms) o) (goes_on before) (runs_of before)) (sym named ∙ ap (λ m. sets_of m h.pic_parameter_set_id.value) maps-are)
 
   newest : (x : Bool) (ps : List CodedPicture) → (if x then idr_id h.idr_pic_id else newest_idr_of ps) ≡ newest_idr_of (joined_to x slice ps)
   newest true ps = refl
@@ -152,24 +147,34 @@ module _ (before : History) (unit : NalUnit) (h : Header) (ms : List CodedMacrob
   one-more false [] = refl
   one-more false (p ∷ ps) = refl
 
-  pub slice-keeps : AreSound false pictures → HasActive false pictures (maps_with maps (contents.OfSlice h ms)) → NamesSet true pictures (maps_with maps (contents.OfSlice h ms)) → HoldsOpen (open_of true pictures) new.picture → HoldsEnd pictures new.picture → new.due ≡ false → new.newest_idr ≡ (if begins then idr_id h.idr_pic_id else old.newest_idr) → new.pictures ≡ (if begins then old.pictures + 1 else old.pictures) → new.behind ≡ bit_behind unit → new ≡ record old { picture = new.picture; newest_idr = new.newest_idr; pictures = new.pictures; due = new.due; behind = new.behind } → KeepsSlices (record { unit = unit; content = contents.OfSlice h ms } ∷ before) false new
-  slice-keeps sound active named-set picture end due id n bit same = record {
-    due = due;
-    sound = subst (λ ps. AreSound false ps) runs-are sound;
-    active = subst (λ m. HasActive false (runs_of (record { unit = unit; content = contents.OfSlice h ms } ∷ before)) (maps_with m (contents.OfSlice h ms))) maps-are (subst (λ ps. HasActive false ps (maps_with maps (contents.OfSlice h ms))) runs-are active);
-    named = subst (λ m. NamesSet true (runs_of (record { unit = unit; content = contents.OfSlice h ms } ∷ before)) (maps_with m (contents.OfSlice h ms))) maps-are (subst (λ ps. NamesSet true ps (maps_with maps (contents.OfSlice h ms))) runs-are named-set);
-    kept = subst (λ ps. KeepsPictures true false ps new) runs-are (record {
-      picture = picture;
-      end = end;
-      newest_idr = id ∙ ap (λ x. if begins then idr_id h.idr_pic_id else x) entered.newest_idr ∙ newest begins (runs_of before);
-      counts = subst (λ (s : Slices). KeepsCounts (map counted pictures) s.counts) (sym same) entered.counts;
-      count = ap (λ (s : Slices). s.count) same ∙ entered.count;
-      pictures_are = n ∙ ap (λ x. if begins then x + 1 else x) entered.pictures_are ∙ one-more begins (runs_of before);
-      behind = last-behind begins (runs_of before) new.behind bit;
-      prev_ref = ap (λ (s : Slices). s.prev_ref_frame_num) same ∙ entered.prev_ref;
-      held = ap (λ (s : Slices). s.held) same ∙ entered.held;
-    });
+  pub slice-kept : HoldsOpen (open_of true pictures) new.picture → HoldsEnd pictures new.picture → new.newest_idr ≡ (if begins then idr_id h.idr_pic_id else old.newest_idr) → new.pictures ≡ (if begins then old.pictures + 1 else old.pictures) → new.behind ≡ bit_behind unit → new ≡ record old { picture = new.picture; newest_idr = new.newest_idr; pictures = new.pictures; due = new.due; behind = new.behind } → KeepsPictures true false pictures new
+  slice-kept picture end id n bit same = record {
+    picture = picture;
+    end = end;
+    newest_idr = id ∙ ap (λ x. if begins then idr_id h.idr_pic_id else x) entered.newest_idr ∙ newest begins (runs_of before);
+    counts = subst (λ (s : Slices). KeepsCounts (map counted pictures) s.counts) (sym same) entered.counts;
+    count = ap (λ (s : Slices). s.count) same ∙ entered.count;
+    pictures_are = n ∙ ap (λ x. if begins then x + 1 else x) entered.pictures_are ∙ one-more begins (runs_of before);
+    behind = last-behind begins (runs_of before) new.behind bit;
+    prev_ref = ap (λ (s : Slices). s.prev_ref_frame_num) same ∙ entered.prev_ref;
+    held = ap (λ (s : Slices). s.held) same ∙ entered.held;
   }
+
+-- and what is known of the sets and of the rules that are met
+pub slice-keeps : (before : History) (unit : NalUnit) (h : Header) (ms : List CodedMacroblock) (maps : Maps) (new : Slices) (begins : Bool) (sets : Pps × Sps) → begins ≡ begins_at before h → maps ≡ maps_of before → sets_of maps h.pic_parameter_set_id.value ≡ Some sets →
+    KeepsPictures true false (joined_to begins (with_sets unit h ms sets) (runs_of before)) new → new.due ≡ false → AreSound false (joined_to begins (with_sets unit h ms sets) (runs_of before)) →
+    HasActive false (joined_to begins (with_sets unit h ms sets) (runs_of before)) (maps_with maps (contents.OfSlice h ms)) → NamesSet true (joined_to begins (with_sets unit h ms sets) (runs_of before)) (maps_with maps (contents.OfSlice h ms)) → KeepsSlices (record { unit = unit; content = contents.OfSlice h ms } ∷ before) false new
+slice-keeps before unit h ms maps new begins sets b maps-are named kept due sound active named-set =
+    let runs-are : joined_to begins (with_sets unit h ms sets) (runs_of before) ≡ runs_of (record { unit = unit; content = contents.OfSlice h ms } ∷ before) =
+    ap (λ x. joined_to x (with_sets unit h ms sets) (runs_of before)) b
+    ∙ ap (λ o. joined_by (option_map (with_sets unit h ms) o) (goes_on before) (runs_of before)) (sym named ∙ ap (λ m. sets_of m h.pic_parameter_set_id.value) maps-are) in
+    record {
+      due = due;
+      sound = subst (λ ps. AreSound false ps) runs-are sound;
+      active = subst (λ m. HasActive false (runs_of (record { unit = unit; content = contents.OfSlice h ms } ∷ before)) (maps_with m (contents.OfSlice h ms))) maps-are (subst (λ ps. HasActive false ps (maps_with maps (contents.OfSlice h ms))) runs-are active);
+      named = subst (λ m. NamesSet true (runs_of (record { unit = unit; content = contents.OfSlice h ms } ∷ before)) (maps_with m (contents.OfSlice h ms))) maps-are (subst (λ ps. NamesSet true ps (maps_with maps (contents.OfSlice h ms))) runs-are named-set);
+      kept = subst (λ ps. KeepsPictures true false ps new) runs-are kept;
+    }
 
 -- the rest of what is kept stays
 pub within : {mode : Mode} {frames made : ℕ → Frame} {before : History} {ended : Bool} (state : State) (slices : Slices) (decoder : Decoder) → Keeps mode frames before state → KeepsSlices before ended slices → KeepsDecoder mode made (goes_on before) ended (runs_of before) decoder → KeepsWithin mode made before ended (record state { slices = slices; decoder = decoder })

@@ -14,18 +14,17 @@ use Rattle.h264_plane.specs.declared.frame.Frame.{Frame}
 use Rattle.h264_dpb.specs.Ending.{ended_of}
 use Rattle.h264_verify.specs.declared.decoder.Decoder.{Decoder}
 use Rattle.h264_verify.specs.declared.slices.Slices.{Slices}
-use Rattle.h264_verify.specs.Telling.{Told, Said}
-use Rattle.h264_verify.specs.Outcome.{Outcome, ◌>>=◌, tells, Plays}
+use Rattle.h264_verify.specs.Telling.{Told}
+use Rattle.h264_verify.specs.Outcome.{Outcome, Plays}
 use Rattle.h264_verify.specs.Demands.{judged}
 use Rattle.h264_verify.specs.History.{History, maps_of}
 use Rattle.h264_verify.specs.Closing.{whole_steps}
 use Rattle.h264_verify.specs.Buffering.{closing_frames, ended_picture, frame_count}
 use Rattle.h264_verify.specs.UnitOutcome.{steps_outcome}
-use Rattle.h264_verify.specs.Slices.{first_mb_demands, is_idr_due, slice_call, slice_steps}
+use Rattle.h264_verify.specs.Slices.{first_mb_demands, is_idr_due, slice_steps}
 use Rattle.h264_verify.specs.Pictures.{CodedSlice, CodedPicture, with_sets, open_of, begins_after, begins_at, joined_to, runs_of, closing_demands}
-use Rattle.h264_verify.specs.Keeping.{KeepsDecoder, HoldsData, HoldsBefore, Entered, standing_demands, slice_rules, coded_before, close_steps}
+use Rattle.h264_verify.specs.Keeping.{KeepsDecoder, HoldsData, HoldsBefore, Entered, standing_demands, told_rules, coded_before, close_steps}
 use Rattle.h264_verify.specs.Steps.{Step, needs}
-use Rattle.h264_verify.proofs.Playing.{plays-on, plays-stops}
 use Rattle.h264_verify.proofs.Slicing.{refused, err-named, own_steps, at-standing, at-place, behind-place}
 use Rattle.h264_verify.proofs.Stepwise.{steps-stop, steps-on}
 use Rattle.h264_verify.proofs.Joining.{data-held, holds-newest}
@@ -66,20 +65,8 @@ module _ {S : Type 0} (took : S → List Told → Type 0) (failures : S → ℕ)
       place-stop s e p = refused took failures (own_steps mode before unit h begins b) s e (at-place mode before unit h begins b due maps due-is maps-are sets named x stands e p) (err-named (first_mb_demands mode (coded_before begins (runs_of before)) h) e (sym p))
 
       module _ (y : Unit {0}) (placed : Ok y ≡ judged (first_mb_demands mode (coded_before begins (runs_of before)) h)) where
-        abbrev own_rules : Outcome (Unit {0})
-        own_rules = steps_outcome (slice_rules mode begins (runs_of before) slice)
-
-        abbrev is_told : Outcome (Unit {0})
-        is_told = tells (Said (slice_call (joined_to begins slice (runs_of before)) slice))
-
-        own-is : own ≡ (own_rules >>= λ _. is_told)
-        own-is = behind-place mode before unit h begins b due maps due-is maps-are sets named x stands y placed
-
-        pub own-stop : (s s' : S) (e : Stop) → PlaysOf own_rules s s' (Err e) → PlaysOf own s s' (Err e)
-        own-stop s s' e p = subst (λ (o : Outcome (Unit {0})). PlaysOf o s s' (Err e)) (sym own-is) (plays-stops took failures (λ (x : Unit {0}). x) (λ (x : Unit {0}). x) own_rules (λ _. is_told) s s' e p)
-
-        pub own-on : (s0 s1 s2 : S) (z : Unit {0}) (r : Result (Unit {0}) Stop) → PlaysOf own_rules s0 s1 (Ok z) → PlaysOf is_told s1 s2 r → PlaysOf own s0 s2 r
-        own-on s0 s1 s2 z r p q = subst (λ (o : Outcome (Unit {0})). PlaysOf o s0 s2 r) (sym own-is) (plays-on took failures (λ (x : Unit {0}). x) (λ (x : Unit {0}). x) own_rules (λ _. is_told) s0 s1 s2 z r p q)
+        pub own-then : (s s' : S) (r : Result (Unit {0}) Stop) → PlaysOf (steps_outcome (told_rules mode begins (runs_of before) slice)) s s' r → PlaysOf own s s' r
+        own-then s s' r p = subst (λ (o : Outcome (Unit {0})). PlaysOf o s s' r) (sym (behind-place mode before unit h begins b due maps due-is maps-are sets named x stands y placed)) p
 
 -- the macroblocks of its picture before it
 held-on : (mode : Mode) (frames : ℕ → Frame) (on : Bool) (pictures : List CodedPicture) (h : Header) (d : Decoder) → (let begins : Bool = false in begins ≡ begins_after (open_of on pictures) h) → KeepsDecoder mode frames on false pictures d → HoldsBefore mode false pictures d.work

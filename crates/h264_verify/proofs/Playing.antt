@@ -27,6 +27,15 @@ unfolding ◌>>=◌
 check-on took failures view rule bit true next s s' x r h p = p
 check-on took failures view rule bit false next s s' x r h p = cc
 
+-- a rule that is not met is no want of memory
+pub no-memory : (b : Bool) (bit : ℕ) (rule : Rule) (e : Stop) → (let r : Result (Unit {0}) Stop = Err e in r ≡ (if b then Ok tt else Err (No bit rule))) → (let r : Result (Unit {0}) Stop = Err e in r ≡ Err Memory) → ⊥
+no-memory true bit rule e h m = cc
+no-memory false bit rule e h m = cc
+
+-- an error of a call is that of its caller
+pub err-as : {A B : Type 0} (e e' : Stop) → (let r : Result A Stop = Err e in r ≡ Err e') → (let r : Result B Stop = Err e in r ≡ Err e')
+err-as {A} {B} e e' h = let k : e ≡ e' = cc in ap (λ (x : Stop). let r : Result B Stop = Err x in r) k
+
 pub gives-plays : {A S X : Type 0} (took : S → List Told → Type 0) (failures : S → ℕ) (view : X → A) (x : X) (s : S) → Plays took failures view (gives (view x)) s s (Ok x)
 gives-plays took failures view x s = record { plays = (refl, tells-none took s, refl) }
 

@@ -25,16 +25,16 @@ use Rattle.h264_lists.specs.Modified.{modified}
 use Rattle.h264_lists.specs.Built.{built}
 use Rattle.h264_base.specs.declared.mode.Mode.{Mode}
 use Rattle.h264_verify.specs.Content as contents
-use Rattle.h264_verify.specs.Outcome.{Outcome, ◌>>=◌, answers, tells, Plays, IsNamed}
+use Rattle.h264_verify.specs.Outcome.{Outcome, answers, Plays, IsNamed}
 use Rattle.h264_verify.specs.Demands.{Demand, judged}
 use Rattle.h264_verify.specs.History.{History, with_pair, maps_with, maps_of}
 use Rattle.h264_verify.specs.Slices.{has_content, is_active, set_demand, list_demand, first_mb_demands, is_idr_due, rules_of, slice_call, steps_by}
 use Rattle.h264_verify.specs.Steps.{Step, Tells, needs}
 use Rattle.h264_verify.specs.UnitOutcome.{steps_outcome}
 use Rattle.h264_verify.specs.Pictures.{CodedSlice, with_sets, sets_at, begins_at, joined_to, runs_of}
-use Rattle.h264_verify.specs.Keeping.{standing_demands, slice_rules, coded_before}
+use Rattle.h264_verify.specs.Keeping.{standing_demands, slice_rules, told_rules, coded_before}
 use Rattle.h264_verify.proofs.Finishing.{answers-plays}
-use Rattle.h264_verify.proofs.Stepping.{needs-first, needs-ok, needs-err, steps-append, behind_rules}
+use Rattle.h264_verify.proofs.Stepping.{needs-first, needs-ok, needs-err, behind_rules}
 
 -- one rule before others: met, or not
 one-met : (d : Demand) (r : Result (Unit {0}) Stop) → d.met ≡ true → (if d.met then r else Err (No d.bit d.rule)) ≡ r
@@ -184,7 +184,7 @@ module _ (mode : Mode) (before : History) (unit : NalUnit) (h : Header) (begins 
     place = first_mb_demands mode (coded_before begins (runs_of before)) h
 
     abbrev pub rules_then : Pps × Sps → List Step
-    rules_then sets = slice_rules mode begins (runs_of before) (slice sets) ++ Tells (call sets) ∷ []
+    rules_then sets = told_rules mode begins (runs_of before) (slice sets)
 
     three : (xs ys zs ts : List Step) → (xs ++ (ys ++ zs)) ++ ts ≡ xs ++ (ys ++ (zs ++ ts))
     three xs ys zs ts = append_assoc xs (ys ++ zs) ts ∙ ap (λ (l : List Step). xs ++ l) (append_assoc ys zs ts)
@@ -215,5 +215,5 @@ module _ (mode : Mode) (before : History) (unit : NalUnit) (h : Header) (begins 
       at-place e p = behind-standing ∙ needs-err place (rules_then sets) e (sym p)
 
       -- the rules of the slice, and then it is told
-      pub behind-place : (y : Unit {0}) → Ok y ≡ judged place → steps_outcome own_steps ≡ (steps_outcome (slice_rules mode begins (runs_of before) (slice sets)) >>= λ _. tells (call sets))
-      behind-place y placed = behind-standing ∙ needs-ok place (rules_then sets) y (sym placed) ∙ steps-append (slice_rules mode begins (runs_of before) (slice sets)) (Tells (call sets) ∷ [])
+      pub behind-place : (y : Unit {0}) → Ok y ≡ judged place → steps_outcome own_steps ≡ steps_outcome (told_rules mode begins (runs_of before) (slice sets))
+      behind-place y placed = behind-standing ∙ needs-ok place (rules_then sets) y (sym placed)

@@ -45,8 +45,9 @@ use Rattle.h264_verify.specs.Pictures.{CodedSlice, CodedPicture, last_slice, cod
 use Rattle.h264_verify.specs.Closing.{whole_steps}
 use Rattle.h264_poc.specs.OfSlice.{picture_of}
 use Rattle.h264_marking.specs.Ended.{numbering_of}
-use Rattle.h264_verify.specs.Steps.{Step, needs}
-use Rattle.h264_verify.specs.Slices.{is_i, has_i, has_p, states_type, is_idr_due, newest_idr_of, first_slice_rules, later_slice_rules, idr_demand, set_demand, type_demand, idr_num_demand, gap_rules, id_demand, count_demand, qp_demand, list_demand, marking_demand}
+use Rattle.h264_verify.specs.Telling.{Said}
+use Rattle.h264_verify.specs.Steps.{Step, Tells, needs}
+use Rattle.h264_verify.specs.Slices.{is_i, has_i, has_p, states_type, is_idr_due, newest_idr_of, first_slice_rules, later_slice_rules, idr_demand, set_demand, type_demand, idr_num_demand, gap_rules, id_demand, count_demand, qp_demand, list_demand, marking_demand, slice_call}
 use Rattle.h264_verify.specs.Lists.{list_of, named_in}
 use Rattle.h264_verify.specs.Data.{coded_so_far}
 use Rattle.h264_verify.specs.Sound.{AreSound, has_ended, HasActive, NamesSet}
@@ -476,6 +477,10 @@ standing_demands false sps due maps bit h = set_demand false maps sps h ∷ []
 abbrev pub slice_rules : Mode → Bool → List CodedPicture → CodedSlice → List Step
 slice_rules mode true pictures s = first_slice_rules mode pictures s
 slice_rules mode false pictures s = needs (later_slice_rules pictures s)
+
+-- These rules, and then the slice is told.
+abbrev pub told_rules : Mode → Bool → List CodedPicture → CodedSlice → List Step
+told_rules mode begins pictures s = slice_rules mode begins pictures s ++ Tells (Said (slice_call (joined_to begins s pictures) s)) ∷ []
 
 -- how many macroblocks are coded before a slice
 abbrev pub coded_before : Bool → List CodedPicture → ℕ

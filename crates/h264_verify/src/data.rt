@@ -40,19 +40,7 @@ use h264_picture::{Work, slice_context};
 use h264_sets::Sets;
 use h264_sps::sps::Sps;
 
-/// The end of the slice data of the picture that may go on, if there is one: all its macroblocks are coded.
-fn end_data(slices: &Slices, work: &Work) -> Result<(), Stop>
-    ensures judged { (before : History) → KeepsSlices before false slices.now → HoldsCoded (open_of (goes_on before) (runs_of before)) work.now → answers result ≡ steps_outcome (whole_steps modes.Full before) }
-    ensures named { IfErr result IsNamed }
-{
-    match slices.picture {
-        None => Ok(()),
-        Some(_) => check(work.is_whole(), Rule::Incomplete, slices.behind),
-    }
-}
-
-/// The same where slice data are read and the picture ends here.
-#[tactic(auto, unfolding(crate::specs::Keeping::HoldsData))]
+/// The end of the slice data of the picture that may go on, where they are read and it ends here: all its macroblocks are coded.
 pub(crate) fn end_data_if(mode: Mode, ends: bool, slices: &Slices, work: &Work) -> Result<(), Stop>
     ensures judged { (before : History) → KeepsSlices before false slices.now → HoldsData mode (open_of (goes_on before) (runs_of before)) work.now → answers result ≡ steps_outcome (if ends then whole_steps mode before else []) }
     ensures named { IfErr result IsNamed }
@@ -63,27 +51,14 @@ pub(crate) fn end_data_if(mode: Mode, ends: bool, slices: &Slices, work: &Work) 
     match mode {
         Mode::Units => Ok(()),
         Mode::Headers => Ok(()),
-        Mode::Full => end_data(slices, work),
+        Mode::Full => match slices.picture {
+            None => Ok(()),
+            Some(_) => check(work.is_whole(), Rule::Incomplete, slices.behind),
+        },
     }
 }
 
-/// The frame of the picture that may go on takes its place, if there is such a picture.
-fn end_frame<S: FrameSink>(slices: &Slices, decoder: &mut Decoder, sink: &mut S) -> Result<(), Stop>
-    requires room { S.failures sink.old < 2 ^ 64 - 1 }
-    requires pictures { slices.now.pictures ≤ 2 ^ 42 }
-    requires kept { KeepsSomeFrames modes.Full true slices.now decoder.old }
-    ensures ends { (frames : ℕ → Frame) (before : History) → KeepsSlices before true slices.now → answers (Ok tt) ≡ steps_outcome (whole_steps modes.Full before) → KeepsFrames frames (goes_on before) false (runs_of before) decoder.old → EndsFrames modes.Full S.took S.failures frames (goes_on before) true (runs_of before) (steps_outcome (closing_frames modes.Full before)) decoder.new sink.old sink.new result }
-    ensures kept { OnOk result (S.failures sink.new ≡ S.failures sink.old) }
-    ensures no_memory { IfErr result (λ e. e ≡ Stop.Write) }
-{
-    match &slices.picture {
-        None => Ok(()),
-        Some(picture) => decoder.end(&picture.ended, &slices.held, sink),
-    }
-}
-
-/// The same where frames are made and the picture ends here.
-#[tactic(auto, unfolding(crate::specs::Keeping::KeepsDecoder))]
+/// The frame of the picture that may go on takes its place, where frames are made and it ends here.
 pub(crate) fn end_frame_if<S: FrameSink>(
     mode: Mode,
     ends: bool,
@@ -104,7 +79,10 @@ pub(crate) fn end_frame_if<S: FrameSink>(
     match mode {
         Mode::Units => Ok(()),
         Mode::Headers => Ok(()),
-        Mode::Full => end_frame(slices, decoder, sink),
+        Mode::Full => match &slices.picture {
+            None => Ok(()),
+            Some(picture) => decoder.end(&picture.ended, &slices.held, sink),
+        },
     }
 }
 
@@ -118,18 +96,7 @@ fn coded_before(begins: bool, work: &Work) -> u32
     work.next_mb()
 }
 
-/// Whether a slice begins where its picture's macroblocks so far end.
-fn check_place(begins: bool, work: &Work, header: &Header) -> Result<(), Stop>
-    ensures no_memory { IsErrOf result Stop.Memory → ⊥ }
-    ensures judged { (pictures : List CodedPicture) → HoldsNewest begins pictures work.now → result ≡ judged (first_mb_demands modes.Full (coded_before begins pictures) header.now) }
-{
-    let coded = coded_before(begins, work);
-    let first_mb = header.first_mb_in_slice;
-    check(first_mb.value == coded, Rule::FirstMb, first_mb.bit)
-}
-
-/// The same where slice data are read.
-#[tactic(auto, unfolding(crate::specs::Keeping::HoldsBefore))]
+/// Whether a slice begins where its picture's macroblocks so far end, where slice data are read.
 pub(crate) fn check_first_mb(
     mode: Mode,
     begins: bool,
@@ -142,7 +109,11 @@ pub(crate) fn check_first_mb(
     match mode {
         Mode::Units => Ok(()),
         Mode::Headers => Ok(()),
-        Mode::Full => check_place(begins, work, header),
+        Mode::Full => {
+            let coded = coded_before(begins, work);
+            let first_mb = header.first_mb_in_slice;
+            check(first_mb.value == coded, Rule::FirstMb, first_mb.bit)
+        }
     }
 }
 

@@ -10,7 +10,7 @@ ghost use Rattle.h264_verify.specs.Demands.{judged};
 ghost use Rattle.h264_verify.specs.History.{maps_with};
 ghost use Rattle.h264_verify.specs.Content as contents;
 ghost use Rattle.h264_verify.specs.Keeping.{marking_by, same_type_by, standing_demands};
-ghost use Rattle.h264_verify.specs.Slices.{idr_id, changes_id, bit_of_id, bit_of_marking, is_qp, type_demand, id_demand, qp_demand, list_demand, marking_demand};
+ghost use Rattle.h264_verify.specs.Slices.{idr_id, bit_of_marking, is_qp, type_demand, id_demand, qp_demand, list_demand, marking_demand};
 ghost use Rattle.h264_verify.specs.Lists.{list_of};
 ghost use Rattle.h264_header.specs.SameMarking.{same_marking};
 
@@ -42,30 +42,27 @@ fn may_begin(due: bool, idr: bool) -> bool
     !due || idr
 }
 
-/// The rules on where the first slice of a picture stands, and with which sets, which become the active ones.
-pub(crate) fn check_first(due: bool, sets: &mut Sets, bit: u64, header: &Header) -> Result<(), Stop>
+/// The rules on where a slice stands, and with which sets, which become the active ones.
+pub(crate) fn check_standing(
+    begins: bool,
+    due: bool,
+    sets: &mut Sets,
+    bit: u64,
+    header: &Header,
+) -> Result<(), Stop>
     requires id { header.now.pic_parameter_set_id.value ≤ 255 }
     requires named { is_some (sets_of sets.old header.now.pic_parameter_set_id.value) ≡ true }
-    ensures judged { (named : Pps × Sps) → sets_of sets.old header.now.pic_parameter_set_id.value ≡ Some named → result ≡ judged (standing_demands true named.1 due sets.old bit header.now) }
+    ensures judged { (named : Pps × Sps) → sets_of sets.old header.now.pic_parameter_set_id.value ≡ Some named → result ≡ judged (standing_demands begins named.1 due sets.old bit header.now) }
     ensures activated { OnOk result (sets.new ≡ maps_with sets.old (contents.OfSlice header.now [])) }
     ensures no_memory { IsErrOf result Stop.Memory → ⊥ }
 {
     let id = header.pic_parameter_set_id;
+    if !begins {
+        return sets.activate(id.value, id.bit, false);
+    }
     let idr = header.idr_pic_id.is_some();
     check(may_begin(due, idr), Rule::FirstPicture, bit)?;
     sets.activate(id.value, id.bit, idr)
-}
-
-/// The rule on the sets of a later slice.
-pub(crate) fn check_later(sets: &mut Sets, header: &Header) -> Result<(), Stop>
-    requires id { header.now.pic_parameter_set_id.value ≤ 255 }
-    requires named { is_some (sets_of sets.old header.now.pic_parameter_set_id.value) ≡ true }
-    ensures judged { (named : Pps × Sps) (due : Bool) (bit : ℕ) → sets_of sets.old header.now.pic_parameter_set_id.value ≡ Some named → result ≡ judged (standing_demands false named.1 due sets.old bit header.now) }
-    ensures activated { OnOk result (sets.new ≡ maps_with sets.old (contents.OfSlice header.now [])) }
-    ensures no_memory { IsErrOf result Stop.Memory → ⊥ }
-{
-    let id = header.pic_parameter_set_id;
-    sets.activate(id.value, id.bit, false)
 }
 
 /// The rule on the type of any slice.
@@ -86,26 +83,6 @@ pub(crate) fn check_same_type(picture: &Option<OpenPicture>, header: &Header) ->
     check(agrees, Rule::SliceType, header.kind.bit)
 }
 
-/// The bit of an idr_pic_id that may not be there.
-fn bit_of_id(id: Option<Found<u32>>) -> u64
-    ensures { result ≡ bit_of_id id }
-{
-    match id {
-        None => 0,
-        Some(found) => found.bit,
-    }
-}
-
-/// Whether idr_pic_id differs from that of the IDR picture directly before.
-fn changes_id(newest: Option<u32>, id: Option<Found<u32>>) -> bool
-    ensures { result ≡ changes_id newest id }
-{
-    match (newest, id) {
-        (Some(newest), Some(id)) => newest != id.value,
-        _ => true,
-    }
-}
-
 pub(crate) fn idr_id(id: Option<Found<u32>>) -> Option<u32>
     ensures { result ≡ idr_id id }
 {
@@ -115,12 +92,14 @@ pub(crate) fn idr_id(id: Option<Found<u32>>) -> Option<u32>
     }
 }
 
-/// The rule on idr_pic_id.
+/// The rule on idr_pic_id: it differs from that of the IDR picture directly before.
 pub(crate) fn check_id(newest_idr: Option<u32>, header: &Header) -> Result<(), Stop>
     ensures { result ≡ judged (id_demand newest_idr header.now ∷ []) }
 {
-    let changes = changes_id(newest_idr, header.idr_pic_id);
-    check(changes, Rule::IdrPicId, bit_of_id(header.idr_pic_id))
+    match (newest_idr, header.idr_pic_id) {
+        (Some(newest), Some(id)) => check(newest != id.value, Rule::IdrPicId, id.bit),
+        _ => Ok(()),
+    }
 }
 
 /// SliceQPY (7.4.3).
@@ -155,23 +134,18 @@ fn check_build(list: &RefPicList0, numbering: &Numbering, held: &Held) -> Result
     Ok(())
 }
 
-/// The rule on the modifications of a P slice's list: without any, each list can be built.
-fn check_modifications(list: &RefPicList0, numbering: &Numbering, held: &Held) -> Result<(), Stop>
-    ensures { result ≡ judged (list_demand (built numbering.now list.now held.now.frames) ∷ []) }
-{
-    if list.modifications.is_empty() {
-        return Ok(());
-    }
-    check_build(list, numbering, held)
-}
-
-/// The rule on the modifications of a slice's list.
+/// The rule on the modifications of a slice's list: without any, each list can be built.
 pub(crate) fn check_list(kind: &SliceKind, numbering: &Numbering, held: &Held) -> Result<(), Stop>
     ensures { result ≡ judged (list_demand (list_of kind.now numbering.now held.now) ∷ []) }
 {
     match kind {
         SliceKind::I => Ok(()),
-        SliceKind::P(list) => check_modifications(list, numbering, held),
+        SliceKind::P(list) => {
+            if list.modifications.is_empty() {
+                return Ok(());
+            }
+            check_build(list, numbering, held)
+        }
     }
 }
 

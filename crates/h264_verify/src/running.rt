@@ -61,6 +61,33 @@ fn turn<R: Source, S: FrameSink>(
     }
 }
 
+/// Reads a source to its end, and judges what it gives.
+fn read_all<R: Source, S: FrameSink>(
+    source: &mut R,
+    session: &mut Session,
+    sink: &mut S,
+) -> Result<(), Stop>
+    requires sink { S.failures sink.old < 2 ^ 64 - 1 }
+    requires source { R.failures source.old < 2 ^ 64 - 1 }
+    requires runs { session.old.stop ≡ None }
+    ensures fed { OnOk result ((mode : Mode) (bytes : List ℕ) (first : _) → FedOn mode S.took (R.left source.old) bytes session.old first sink.old → FedOn mode S.took (Some []) bytes session.new first sink.new) }
+    ensures stops { IfErr result (λ stop. (mode : Mode) (bytes : List ℕ) (first : _) → FedOn mode S.took (R.left source.old) bytes session.old first sink.old → S.failures sink.old ≡ S.failures first → JudgesWith mode S.took S.failures bytes first sink.new (Err stop)) }
+    // What the source gave, whether it tells or not.
+    ensures heard { OnOk result ((mode : Mode) (bytes : List ℕ) (first : _) → FedOn mode S.took (Some []) bytes session.old first sink.old → (more : List ℕ) × FedOn mode S.took (Some []) (bytes ++ more) session.new first sink.new) }
+    ensures heard_stop { IfErr result (λ stop. (mode : Mode) (bytes : List ℕ) (first : _) → FedOn mode S.took (Some []) bytes session.old first sink.old → S.failures sink.old ≡ S.failures first → (more : List ℕ) × JudgesWith mode S.took S.failures (bytes ++ more) first sink.new (Err stop)) }
+    ensures kept { OnOk result ((session.new.stop ≡ None) × (S.failures sink.new ≡ S.failures sink.old)) }
+    ensures read { IsErrOf result Stop.Read → (R.failures source.new ≡ R.failures source.old + 1) ⊎ ((n : ℕ) → R.was_read source.old n → R.was_read source.new (n + 2 ^ 41)) }
+    ensures write { IsErrOf result Stop.Write → S.failures sink.new ≡ S.failures sink.old + 1 }
+{
+    let mut piece = [0u8; PIECE];
+    for _ in 0..2_199_023_255_552u64 {
+        if !turn(source, session, &mut piece, sink)? {
+            return Ok(());
+        }
+    }
+    Err(Stop::Read)
+}
+
 /// The verdict on the stream that a source gives, read in pieces of 4,096 bytes. An interrupted read is tried again.
 ///
 /// Ok: the stream is legal. No: the first rule that it breaks, and where. Outside: the first feature that is not judged.
@@ -80,14 +107,12 @@ pub fn run<R: Source, S: FrameSink>(
     ensures read { IsErrOf result Stop.Read → (R.failures source.new ≡ R.failures source.old + 1) ⊎ ((n : ℕ) → R.was_read source.old n → R.was_read source.new (n + 2 ^ 41)) }
     ensures write { IsErrOf result Stop.Write → S.failures sink.new ≡ S.failures sink.old + 1 }
 {
-    let mut session = Session::new(alloc, mode, Target::Baseline)?;
-    let mut piece = [0u8; PIECE];
-    for _ in 0..2_199_023_255_552u64 {
-        if !turn(source, &mut session, &mut piece, sink)? {
-            return session.conclude(sink);
-        }
-    }
-    Err(Stop::Read)
+    let mut session = match Session::new(alloc, mode, Target::Baseline) {
+        Ok(session) => session,
+        Err(stop) => return Err(stop),
+    };
+    read_all(source, &mut session, sink)?;
+    session.conclude(sink)
 }
 
 /// The verdict on a stream that comes in these pieces: that of their bytes, however they were cut.
@@ -100,7 +125,10 @@ pub fn run_pieces<S: FrameSink>(
     requires { S.failures sink.old < 2 ^ 64 - 1 }
     ensures { (frames : ℕ → Frame) → Judged mode S.took S.failures (flat_map (λ piece. piece.items) pieces.now) frames [] sink.old sink.new result }
 {
-    let mut session = Session::new(alloc, mode, Target::Baseline)?;
+    let mut session = match Session::new(alloc, mode, Target::Baseline) {
+        Ok(session) => session,
+        Err(stop) => return Err(stop),
+    };
     for piece in pieces {
         session.advance(piece.as_slice(), sink)?;
     }

@@ -20,7 +20,7 @@ ghost use Rattle.h264_dpb.specs.Turns.{Turn, turn_then};
 ghost use Rattle.h264_verify.specs.Telling.{Said, took_with};
 ghost use Rattle.h264_verify.specs.Buffering.{gaps_turn, ended_picture, frame_count, newest_count};
 ghost use Rattle.h264_verify.specs.Sound.{IsMarked};
-ghost use Rattle.h264_verify.specs.Keeping.{KeepsSlices, KeepsDecoder, KeepsGap, KeepsSomeGap, GoesWith, KeepsSomeRules, KeepsSomeSlice, EntersDecoder, HoldsEnd, HoldsOpen, IsLeft, begins_by, coded_before, first_by, later_by, standing_demands, slice_rules, Entered, is_typed};
+ghost use Rattle.h264_verify.specs.Keeping.{KeepsSlices, KeepsDecoder, KeepsGap, KeepsSomeGap, GoesWith, KeepsSomeRules, KeepsSomeSlice, EntersDecoder, HoldsEnd, HoldsOpen, IsLeft, begins_by, coded_before, first_by, later_by, slice_rules, told_rules, KeepsPictures, Entered, is_typed};
 ghost use Rattle.h264_verify.specs.Feeding.{JudgesSlice};
 ghost use Rattle.h264_verify.specs.UnitOutcome.{steps_outcome};
 ghost use Rattle.h264_units.specs.Stream.{NalUnit as UnitView};
@@ -29,7 +29,8 @@ ghost use Rattle.h264_verify.specs.Pictures.{CodedSlice, CodedPicture, open_of, 
 ghost use Rattle.h264_poc.specs.OfSlice.{picture_of};
 ghost use Rattle.h264_marking.specs.Ended.{numbering_of, resets};
 ghost use Rattle.h264_header.specs.Picture.{is_idr, is_reference};
-ghost use Rattle.h264_verify.specs.Slices.{type_of, idr_id, first_mb_demands, count_demand, slice_steps};
+ghost use Rattle.h264_verify.specs.Slices.{type_of, idr_id, first_mb_demands, id_demand, count_demand, qp_demand, list_demand, slice_steps};
+ghost use Rattle.h264_verify.specs.Lists.{list_of};
 
 use crate::close::close_if;
 use crate::data::check_first_mb;
@@ -37,8 +38,8 @@ use crate::decoder::Decoder;
 use crate::frame_num::{check_gap, check_idr_num};
 use crate::picture::{OpenPicture, begin, go_on};
 use crate::rules::{
-    check_first, check_id, check_later, check_list, check_marking, check_qp, check_same_type,
-    check_type, idr_id,
+    check_id, check_list, check_marking, check_qp, check_same_type, check_standing, check_type,
+    idr_id,
 };
 use crate::sink::FrameSink;
 use h264_base::{Failed, Mode, SliceType, Stop};
@@ -101,6 +102,27 @@ fn count_picture(
     Ok(())
 }
 
+/// The rules of a picture's first slice behind those on its frame_num, once the missing frames are held: on idr_pic_id, counts, QP and list.
+fn check_new_picture(
+    slices: &mut Slices,
+    pps: &Pps,
+    sps: &Sps,
+    header: &Header,
+    bit: u64,
+) -> Result<(), Stop>
+    requires { has_lengths sps.now ≡ true }
+    ensures judged { (pictures : List Picture) → KeepsCounts pictures slices.old.counts → result ≡ judged (id_demand slices.old.newest_idr header.now ∷ count_demand (picture_of sps.now header.now ∷ pictures) bit ∷ qp_demand pps.now header.now ∷ list_demand (list_of header.now.kind.value (numbering_of sps.now header.now) slices.old.held) ∷ []) }
+    ensures no_memory { IsErrOf result Stop.Memory → ⊥ }
+    ensures counts { (pictures : List Picture) → KeepsCounts pictures slices.old.counts → OnOk result (KeepsCounts (picture_of sps.now header.now ∷ pictures) slices.new.counts) }
+    ensures count { (pictures : List Picture) → KeepsCounts pictures slices.old.counts → OnOk result (slices.new.count ≡ newest_count (picture_of sps.now header.now ∷ pictures)) }
+    ensures others { slices.new ≡ record slices.old { counts = slices.new.counts; count = slices.new.count } }
+{
+    check_id(slices.newest_idr, header)?;
+    count_picture(sps, header, bit, &mut slices.counts, &mut slices.count)?;
+    check_qp(pps, header)?;
+    check_list(&header.kind.value, &numbering_of(sps, header), &slices.held)
+}
+
 /// The rules of a picture's first slice from its type on, where the picture before has ended; and what the picture leaves.
 fn check_first_slice<S: FrameSink>(
     mode: Mode,
@@ -140,10 +162,7 @@ fn check_first_slice<S: FrameSink>(
         decoder,
         sink,
     )?;
-    check_id(slices.newest_idr, header)?;
-    count_picture(sps, header, bit, &mut slices.counts, &mut slices.count)?;
-    check_qp(pps, header)?;
-    check_list(&header.kind.value, &numbering_of(sps, header), &slices.held)
+    check_new_picture(slices, pps, sps, header, bit)
 }
 
 /// The rules of a picture's later slice from its type on.
@@ -159,27 +178,6 @@ fn check_later_slice(slices: &Slices, pps: &Pps, sps: &Sps, header: &Header) -> 
     check_qp(pps, header)?;
     check_list(&header.kind.value, &numbering_of(sps, header), &slices.held)?;
     check_marking(&slices.picture, header)
-}
-
-/// The rules on where a slice stands, and with which sets, which become the active ones.
-fn check_standing(
-    begins: bool,
-    due: bool,
-    sets: &mut Sets,
-    bit: u64,
-    header: &Header,
-) -> Result<(), Stop>
-    requires id { header.now.pic_parameter_set_id.value ≤ 255 }
-    requires named { is_some (sets_of sets.old header.now.pic_parameter_set_id.value) ≡ true }
-    ensures judged { (named : Pps × Sps) → sets_of sets.old header.now.pic_parameter_set_id.value ≡ Some named → result ≡ judged (standing_demands begins named.1 due sets.old bit header.now) }
-    ensures activated { OnOk result (sets.new ≡ maps_with sets.old (contents.OfSlice header.now [])) }
-    ensures no_memory { IsErrOf result Stop.Memory → ⊥ }
-{
-    if begins {
-        check_first(due, sets, bit, header)
-    } else {
-        check_later(sets, header)
-    }
 }
 
 /// The rules of a slice from its type on, and what a picture that begins leaves.
@@ -215,13 +213,16 @@ fn check_rules<S: FrameSink>(
     }
 }
 
-/// The end of the picture that may go on, if there is one.
-fn end_picture(slices: &mut Slices) -> Result<(), Stop>
-    ensures judged { (before : History) → KeepsSlices before false slices.old → result ≡ judged (closing_demands before) }
-    ensures ended { (before : History) → KeepsSlices before false slices.old → OnOk result (KeepsSlices before true slices.new) }
+/// The end of the picture that may go on, where there is one and it ends here.
+pub(crate) fn end_if(ends: bool, slices: &mut Slices) -> Result<(), Stop>
+    ensures judged { (before : History) → KeepsSlices before false slices.old → result ≡ judged (if ends then closing_demands before else []) }
+    ensures ended { (before : History) → KeepsSlices before false slices.old → OnOk result (KeepsSlices before ends slices.new) }
     ensures others { slices.new ≡ record slices.old { held = slices.new.held } }
     ensures no_memory { IsErrOf result Stop.Memory → ⊥ }
 {
+    if !ends {
+        return Ok(());
+    }
     match &slices.picture {
         None => Ok(()),
         Some(picture) => mark_end(
@@ -231,19 +232,6 @@ fn end_picture(slices: &mut Slices) -> Result<(), Stop>
             &mut slices.held,
         ),
     }
-}
-
-/// The same where it ends here.
-pub(crate) fn end_if(ends: bool, slices: &mut Slices) -> Result<(), Stop>
-    ensures judged { (before : History) → KeepsSlices before false slices.old → result ≡ judged (if ends then closing_demands before else []) }
-    ensures ended { (before : History) → KeepsSlices before false slices.old → OnOk result (KeepsSlices before ends slices.new) }
-    ensures others { slices.new ≡ record slices.old { held = slices.new.held } }
-    ensures no_memory { IsErrOf result Stop.Memory → ⊥ }
-{
-    if ends {
-        return end_picture(slices);
-    }
-    Ok(())
 }
 
 /// The first stream bit behind a unit.
@@ -321,6 +309,49 @@ fn enter(
     }
 }
 
+/// The rules of a slice from its type on, what the sink is told of it, and what it leaves. The header's place is to be read into anew behind it.
+fn judge_rules<S: FrameSink>(
+    mode: Mode,
+    begins: bool,
+    slices: &mut Slices,
+    pps: &Pps,
+    sps: &Sps,
+    decoder: &mut Decoder,
+    unit: &NalUnit,
+    header: &mut Header,
+    sink: &mut S,
+) -> Result<(), Stop>
+    requires lengths { has_lengths sps.now ≡ true }
+    requires room { S.failures sink.old < 2 ^ 64 - 1 }
+    requires pictures { slices.old.pictures < 2 ^ 42 }
+    requires goes { begins ≡ true → is_idr header.old ≡ false → GoesWith mode sps.now slices.old.held decoder.old }
+    requires kept { KeepsSomeRules mode begins slices.old decoder.old }
+    ensures plays { (frames : ℕ → Frame) (before : History) → KeepsSlices before begins slices.old → begins ≡ begins_at before header.old → KeepsDecoder mode frames (goes_on before) begins (runs_of before) decoder.old → Plays (took_with frames S.took) S.failures (λ x. x) (steps_outcome (told_rules mode begins (runs_of before) (with_sets unit.now header.old [] (pps.now, sps.now)))) sink.old sink.new result }
+    ensures entered { (before : History) (macroblocks : List CodedMacroblock) → KeepsSlices before begins slices.old → begins ≡ begins_at before header.old → OnOk result (KeepsPictures true false (joined_to begins (with_sets unit.now header.old macroblocks (pps.now, sps.now)) (runs_of before)) slices.new) }
+    ensures frames { (frames : ℕ → Frame) (before : History) → KeepsSlices before begins slices.old → begins ≡ begins_at before header.old → KeepsDecoder mode frames (goes_on before) begins (runs_of before) decoder.old → OnOk result (EntersDecoder mode frames begins (with_sets unit.now header.old [] (pps.now, sps.now)) (goes_on before) (runs_of before) decoder.new) }
+    ensures filled { begins ≡ true → OnOk result (all_filled (numbering_of sps.now header.old) (unused_short_term_frame_nums (is_idr header.old) slices.old.prev_ref_frame_num (numbering_of sps.now header.old)) slices.old.held ≡ Some slices.new.held) }
+    ensures due { OnOk result (slices.new.due ≡ false) }
+    ensures header { header.new ≡ record header.old { marking = header.new.marking } }
+    ensures typed { OnOk result (is_typed header.old ≡ true) }
+    ensures pictures { slices.new.pictures ≤ slices.old.pictures + 1 }
+    ensures no_memory { IsErrOf result Stop.Memory → ⊥ }
+    ensures kept { OnOk result (S.failures sink.new ≡ S.failures sink.old) }
+{
+    let bit = 8 * unit.from();
+    check_rules(mode, slices, begins, pps, sps, header, bit, decoder, sink)?;
+    tell_slice(unit.from(), header, slices.count, sink)?;
+    let numbering = numbering_of(sps, header);
+    let ended = ended_of(
+        sps,
+        header,
+        slices.pictures,
+        frame_count(slices.count),
+        buffer_size(sps),
+    );
+    enter(slices, begins, header, numbering, ended, bit_behind(unit));
+    Ok(())
+}
+
 /// A slice behind those so far: its rules, what the sink is told of it, and what it leaves. The header's
 /// place is to be read into anew behind it.
 pub(crate) fn judge_slice<S: FrameSink>(
@@ -359,20 +390,9 @@ pub(crate) fn judge_slice<S: FrameSink>(
     let Some(named) = named_sets(sets, header.pic_parameter_set_id.value) else {
         unreachable!()
     };
-    check_rules(
-        mode, slices, begins, named.0, named.1, header, bit, decoder, sink,
-    )?;
-    tell_slice(unit.from(), header, slices.count, sink)?;
-    let numbering = numbering_of(named.1, header);
-    let ended = ended_of(
-        named.1,
-        header,
-        slices.pictures,
-        frame_count(slices.count),
-        buffer_size(named.1),
-    );
-    enter(slices, begins, header, numbering, ended, bit_behind(unit));
-    Ok(())
+    judge_rules(
+        mode, begins, slices, named.0, named.1, decoder, unit, header, sink,
+    )
 }
 
 /// No slice yet.

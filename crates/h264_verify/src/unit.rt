@@ -35,11 +35,10 @@ use crate::slices::{ends_picture, judge_slice, pass_by};
 use h264_base::{Failed, Mode, Rule, Stop};
 use h264_bits::Bits;
 use h264_header::{Header, SliceUnit, read_header};
-use h264_pps::{Pps, read_pps};
+use h264_pps::read_pps;
 use h264_rbsp::{Rbsp, check_emulation};
 use h264_sets::Sets;
 use h264_sps::read::read_sps;
-use h264_sps::sps::Sps;
 use h264_units::NalUnit;
 use std::alloc::Global;
 
@@ -97,31 +96,6 @@ fn tell_unit<S: FrameSink>(from: u64, header: u8, length: u64, sink: &mut S) -> 
     }
 }
 
-/// Reads a sequence parameter set. Apart, so that a slice does not pay for the place of a set.
-#[inline(never)]
-fn read_sps_unit<S: FrameSink>(alloc: Global, unit: &NalUnit, sink: &mut S) -> Result<Sps, Stop>
-    requires { S.failures sink.old < 2 ^ 64 - 1 }
-    ensures plays { (frames : ℕ → Frame) → Plays (took_with frames S.took) S.failures contents.OfSps (sps_outcome unit.now) sink.old sink.new result }
-    ensures id { IfOk result (λ set. set.seq_parameter_set_id ≤ 31) }
-    ensures kept { OnOk result (S.failures sink.new ≡ S.failures sink.old) }
-{
-    let rbsp = Rbsp::of(alloc, unit)?;
-    let mut bits = Bits::new(&rbsp);
-    read_sps(&mut bits, sink)
-}
-
-/// Reads a picture parameter set.
-fn read_pps_unit<S: FrameSink>(alloc: Global, unit: &NalUnit, sink: &mut S) -> Result<Pps, Stop>
-    requires { S.failures sink.old < 2 ^ 64 - 1 }
-    ensures plays { (frames : ℕ → Frame) → Plays (took_with frames S.took) S.failures contents.OfPps (pps_outcome unit.now) sink.old sink.new result }
-    ensures id { IfOk result (λ set. set.pic_parameter_set_id ≤ 255) }
-    ensures kept { OnOk result (S.failures sink.new ≡ S.failures sink.old) }
-{
-    let rbsp = Rbsp::of(alloc, unit)?;
-    let mut bits = Bits::new(&rbsp);
-    read_pps(&mut bits, sink)
-}
-
 /// What a unit's first byte says of the slice in it.
 fn slice_unit(header: u8) -> SliceUnit
     ensures { result ≡ slice_unit_of header }
@@ -168,7 +142,8 @@ fn pass(state: &mut State, kind: u8)
     state.units += 1;
 }
 
-/// A sequence parameter set is read, and kept.
+/// A sequence parameter set is read, and kept. Apart, so that a slice does not pay for the place of a set.
+#[inline(never)]
 fn join_sps<S: FrameSink>(
     alloc: Global,
     mode: Mode,
@@ -186,7 +161,9 @@ fn join_sps<S: FrameSink>(
     ensures pictures { OnOk result (state.new.slices.pictures ≤ state.new.units) }
     ensures kept { OnOk result (S.failures sink.new ≡ S.failures sink.old) }
 {
-    let set = read_sps_unit(alloc, unit, sink)?;
+    let rbsp = Rbsp::of(alloc, unit)?;
+    let mut bits = Bits::new(&rbsp);
+    let set = read_sps(&mut bits, sink)?;
     state.sets.put_sps(set);
     pass(state, kind);
     Ok(())
@@ -211,7 +188,9 @@ fn join_pps<S: FrameSink>(
     ensures pictures { OnOk result (state.new.slices.pictures ≤ state.new.units) }
     ensures kept { OnOk result (S.failures sink.new ≡ S.failures sink.old) }
 {
-    let set = read_pps_unit(alloc, unit, sink)?;
+    let rbsp = Rbsp::of(alloc, unit)?;
+    let mut bits = Bits::new(&rbsp);
+    let set = read_pps(&mut bits, sink)?;
     state.sets.put_pps(set);
     pass(state, kind);
     Ok(())
@@ -301,17 +280,6 @@ fn join_whole_slice<S: FrameSink>(
     Ok(())
 }
 
-/// A unit that is passed over joins those before it.
-fn join_passed(state: &mut State, kind: u8)
-    requires units { state.old.units ≤ 2 ^ 40 }
-    requires pictures { state.old.slices.pictures ≤ state.old.units }
-    ensures keeps { (mode : Mode) (frames : ℕ → Frame) (before : History) (unit : UnitView) → kind ≡ nal_unit_type (header_of unit) → KeepsWithin mode frames before (ends_picture kind) state.old → Keeps mode frames (record { unit = unit; content = contents.Passed } ∷ before) state.new }
-    ensures counts { state.new.units ≡ state.old.units + 1 }
-    ensures pictures { state.new.slices.pictures ≤ state.new.units }
-{
-    pass(state, kind);
-}
-
 /// Whether a unit of this type is a slice, at which no picture ends before its elements.
 fn is_slice(kind: u8) -> bool
     ensures value { result ≡ is_slice kind }
@@ -341,12 +309,12 @@ fn join_other<S: FrameSink>(
     ensures kept { OnOk result (S.failures sink.new ≡ S.failures sink.old) }
 {
     if !is_slice(header % 32) {
-        join_passed(state, header % 32);
+        pass(state, header % 32);
         return Ok(());
     }
     match mode {
         Mode::Units => {
-            join_passed(state, header % 32);
+            pass(state, header % 32);
             Ok(())
         }
         Mode::Headers => join_slice(alloc, state, header, unit, sink),

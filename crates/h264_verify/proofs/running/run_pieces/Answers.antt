@@ -4,16 +4,16 @@ use Rattle.h264_verify.proofs.Sources.{pieces-split-at}
 use Rattle.h264_verify.proofs.Verdicts.{judges-judged, none-judged, pieces-first, pieces-on, pieces-halt, pieces-end, keeps-as, goes-as, stops-as, finishes-as}
 use Rattle.h264_verify.proofs.running.run_pieces.Goals as goal
 
-pub returns-in_err-session : goal.returns-in_err-session
-returns-in_err-session g c = let p = err_from_is_err_and c.from_residual.result c.from_residual.ensures.1 in rw (p.1, p.2, c.in_err-session.ensures.err) (λ frames. judges-judged c.args.mode _ _ _ frames _ _ _ (none-judged c.args.mode _ _ _ frames _))
+pub returns-in-Err : goal.returns-in-Err
+returns-in-Err g c = rw c.in-Err.ensures.err (λ frames. judges-judged c.args.mode _ _ _ frames _ _ _ (none-judged c.args.mode _ _ _ frames _))
 
 pub loop-piece-init : goal.loop-piece-init
-loop-piece-init g c = record { goes = λ frames. goes-as (sym c.in_ok-session.ensures.fresh.mode_is) (pieces-first c.args.mode _ _ frames _ c.in_ok-session.ensures.fresh); runs = c.in_ok-session.ensures.fresh.stop; mode_is = refl; kept = refl }
+loop-piece-init g c = record { goes = λ frames. goes-as (sym c.in-Ok.ensures.fresh.mode_is) (pieces-first c.args.mode _ _ frames _ c.in-Ok.ensures.fresh); runs = c.in-Ok.ensures.fresh.stop; mode_is = refl; kept = refl }
 
 pub returns-in_err-advance : goal.returns-in_err-advance
-returns-in_err-advance g c = let p = err_from_is_err_and c.from_residual-in_err-advance.result c.from_residual-in_err-advance.ensures.1 in rw (p.1, p.2) (λ frames.
-    let inv = goes-as c.in_ok-session.ensures.fresh.mode_is (c.loop-piece.invariant.goes frames) in
-    let m = c.loop-piece.invariant.mode_is ∙ c.in_ok-session.ensures.fresh.mode_is in
+returns-in_err-advance g c = let p = err_from_is_err_and c.from_residual.result c.from_residual.ensures.1 in rw (p.1, p.2) (λ frames.
+    let inv = goes-as c.in-Ok.ensures.fresh.mode_is (c.loop-piece.invariant.goes frames) in
+    let m = c.loop-piece.invariant.mode_is ∙ c.in-Ok.ensures.fresh.mode_is in
     judges-judged c.args.mode _ _ _ frames _ _ _ (pieces-halt _ _ _ _ (pieces-split-at (λ piece. piece.items) c.args.pieces.now c.loop-piece.piece-index c.piece-item.result _ c.loop-piece-test.true c.piece-item.is c.as_slice.ensures.value) inv c.loop-piece.invariant.kept (stops-as m (c.in_err-advance.ensures.stops inv.made inv.after (keeps-as (sym m) inv.keeps)))))
 
 pub loop-piece-preserved : goal.loop-piece-preserved
@@ -29,7 +29,7 @@ loop-piece-preserved g c = record {
 
 pub returns : goal.returns
 returns g c = λ frames.
-    let inv = goes-as c.in_ok-session.ensures.fresh.mode_is (c.loop-piece.invariant.goes frames) in
-    let m = c.loop-piece.invariant.mode_is ∙ c.in_ok-session.ensures.fresh.mode_is in
+    let inv = goes-as c.in-Ok.ensures.fresh.mode_is (c.loop-piece.invariant.goes frames) in
+    let m = c.loop-piece.invariant.mode_is ∙ c.in-Ok.ensures.fresh.mode_is in
     let n : c.loop-piece.piece-index ≡ length c.args.pieces.now = omega arith in
     judges-judged c.args.mode _ _ _ frames _ _ _ (pieces-end (λ piece. piece.items) c.args.pieces.now c.loop-piece.piece-index n inv c.loop-piece.invariant.kept (finishes-as m (c.conclude.ensures.finishes inv.made inv.after (keeps-as (sym m) inv.keeps))))

@@ -1,29 +1,64 @@
-use Rattle.std.proofs.Common.{[], take}
+use Rattle.std.proofs.Common.{[], refl, rules, take}
 use Rattle.std.proofs.lemmas.Result.{err_from_is_err_and}
+use Rattle.h264_verify.proofs.Playing.{err-as}
 use Rattle.h264_verify.proofs.Verdicts.{fed-more, fed-again, fed-halts, fed-fails}
 use Rattle.h264_verify.proofs.Heard.{heard-more, heard-halts, heard-none, heard-fails}
 use Rattle.h264_verify.proofs.running.turn.Goals as goal
 
-pub returns-in_err-advance-in-Ok-Some-clause-stops : goal.returns-in_err-advance-in-Ok-Some-clause-stops
-returns-in_err-advance-in-Ok-Some-clause-stops g c = let p = err_from_is_err_and c.from_residual.result c.from_residual.ensures.1 in rw (p.1, p.2) (λ mode bytes first f k. fed-halts (g.R.Source.left c.read.new.self) c.read.new.piece c.in-Ok-Some.n (rw c.in-Ok-Some.field-0-is at c.in-Ok-Some.ensures.bytes) f k (rw c.front.ensures at (c.in_err-advance-in-Ok-Some.ensures.stops f.frames f.after f.keeps)))
+pub returns-in-Err : goal.returns-in-Err
+returns-in-Err g c = record {
+  more = tt;
+  end = tt;
+  stops = λ mode bytes first f k. fed-fails f k;
+  heard = tt;
+  heard_stop = λ mode bytes first f k. ([], heard-fails f k);
+  kept = tt;
+  again = c.read.ensures.again;
+  read = λ h. c.in-Err.ensures.failed;
+  write = λ h. cc;
+  piece = search rules;
+}
 
-pub returns-in-Err-clause-stops : goal.returns-in-Err-clause-stops
-returns-in-Err-clause-stops g c = λ mode bytes first f k. fed-fails f k
+pub returns-in-Ok-None : goal.returns-in-Ok-None
+returns-in-Ok-None g c = record {
+  more = λ h mode bytes first f. fed-again _ (rw c.in-Ok-None.field-0-is at c.in-Ok-None.ensures.interrupted) f;
+  end = λ h. cc;
+  stops = tt;
+  heard = λ h mode bytes first f. ([], heard-none f);
+  heard_stop = tt;
+  kept = (c.requires.runs, refl, c.in-Ok-None.ensures.kept);
+  again = c.read.ensures.again;
+  read = λ h. cc;
+  write = λ h. cc;
+  piece = search rules;
+}
 
-pub returns-in_ok-advance-in-Ok-Some-clause-more : goal.returns-in_ok-advance-in-Ok-Some-clause-more
-returns-in_ok-advance-in-Ok-Some-clause-more g c = λ h mode bytes first f. fed-more (g.R.Source.left c.read.new.self) c.read.new.piece c.in-Ok-Some.n c.in_ok-advance-in-Ok-Some.ensures.mode (rw c.in-Ok-Some.field-0-is at c.in-Ok-Some.ensures.bytes) f (rw c.front.ensures at (c.in_ok-advance-in-Ok-Some.ensures.goes f.frames f.after f.keeps))
+pub returns-in_err-advance-in-Ok-Some : goal.returns-in_err-advance-in-Ok-Some
+returns-in_err-advance-in-Ok-Some g c =
+    let p = err_from_is_err_and c.from_residual.result c.from_residual.ensures.1 in
+    rw (p.1, p.2) (record {
+      more = tt;
+      end = tt;
+      stops = λ mode bytes first f k. fed-halts (g.R.Source.left c.read.new.self) c.read.new.piece c.in-Ok-Some.n (rw c.in-Ok-Some.field-0-is at c.in-Ok-Some.ensures.bytes) f k (rw c.front.ensures at (c.in_err-advance-in-Ok-Some.ensures.stops f.frames f.after f.keeps));
+      heard = tt;
+      heard_stop = λ mode bytes first f k. (take c.in-Ok-Some.n c.read.new.piece, heard-halts c.read.new.piece c.in-Ok-Some.n f k (rw c.front.ensures at (c.in_err-advance-in-Ok-Some.ensures.stops f.frames f.after f.keeps)));
+      kept = tt;
+      again = c.read.ensures.again;
+      read = λ h. absurd (c.in_err-advance-in-Ok-Some.ensures.no_read (err-as _ _ h));
+      write = λ h. c.in_err-advance-in-Ok-Some.ensures.write (err-as _ _ h);
+      piece = search rules;
+    })
 
-pub returns-in-Ok-None-clause-more : goal.returns-in-Ok-None-clause-more
-returns-in-Ok-None-clause-more g c = λ h mode bytes first f. fed-again _ (rw c.in-Ok-None.field-0-is at c.in-Ok-None.ensures.interrupted) f
-
-pub returns-in_err-advance-in-Ok-Some-clause-heard_stop : goal.returns-in_err-advance-in-Ok-Some-clause-heard_stop
-returns-in_err-advance-in-Ok-Some-clause-heard_stop g c = let p = err_from_is_err_and c.from_residual.result c.from_residual.ensures.1 in rw (p.1, p.2) (λ mode bytes first f k. (take c.in-Ok-Some.n c.read.new.piece, heard-halts c.read.new.piece c.in-Ok-Some.n f k (rw c.front.ensures at (c.in_err-advance-in-Ok-Some.ensures.stops f.frames f.after f.keeps))))
-
-pub returns-in-Err-clause-heard_stop : goal.returns-in-Err-clause-heard_stop
-returns-in-Err-clause-heard_stop g c = λ mode bytes first f k. ([], heard-fails f k)
-
-pub returns-in_ok-advance-in-Ok-Some-clause-heard : goal.returns-in_ok-advance-in-Ok-Some-clause-heard
-returns-in_ok-advance-in-Ok-Some-clause-heard g c = λ h mode bytes first f. (take c.in-Ok-Some.n c.read.new.piece, heard-more c.read.new.piece c.in-Ok-Some.n c.in_ok-advance-in-Ok-Some.ensures.mode f (rw c.front.ensures at (c.in_ok-advance-in-Ok-Some.ensures.goes f.frames f.after f.keeps)))
-
-pub returns-in-Ok-None-clause-heard : goal.returns-in-Ok-None-clause-heard
-returns-in-Ok-None-clause-heard g c = λ h mode bytes first f. ([], heard-none f)
+pub returns-in_ok-advance-in-Ok-Some : goal.returns-in_ok-advance-in-Ok-Some
+returns-in_ok-advance-in-Ok-Some g c = record {
+  more = λ h mode bytes first f. fed-more (g.R.Source.left c.read.new.self) c.read.new.piece c.in-Ok-Some.n c.in_ok-advance-in-Ok-Some.ensures.mode (rw c.in-Ok-Some.field-0-is at c.in-Ok-Some.ensures.bytes) f (rw c.front.ensures at (c.in_ok-advance-in-Ok-Some.ensures.goes f.frames f.after f.keeps));
+  end = λ h. cc;
+  stops = tt;
+  heard = λ h mode bytes first f. (take c.in-Ok-Some.n c.read.new.piece, heard-more c.read.new.piece c.in-Ok-Some.n c.in_ok-advance-in-Ok-Some.ensures.mode f (rw c.front.ensures at (c.in_ok-advance-in-Ok-Some.ensures.goes f.frames f.after f.keeps)));
+  heard_stop = tt;
+  kept = (c.in_ok-advance-in-Ok-Some.ensures.going, c.in_ok-advance-in-Ok-Some.ensures.kept, c.in-Ok-Some.ensures.kept);
+  again = c.read.ensures.again;
+  read = λ h. cc;
+  write = λ h. cc;
+  piece = search rules;
+}

@@ -9,8 +9,18 @@ loop-rest-init g c = record { goes = λ frames before k. on-none c.args.mode _ f
 pub feed_some-requires-clause-keeps : goal.feed_some-requires-clause-keeps
 feed_some-requires-clause-keeps g c = let k = c.requires.keeps in on-keeps (c.loop-rest.invariant.goes k.frames k.before k.keeps)
 
-pub returns-in_err-n-clause-stops : goal.returns-in_err-n-clause-stops
-returns-in_err-n-clause-stops g c = let p = err_from_is_err_and c.from_residual.result c.from_residual.ensures.1 in rw (p.1, p.2) (λ frames before k. let f = c.loop-rest.invariant.goes frames before k in on-stops f c.loop-rest.invariant.kept (c.in_err-n.ensures.stops f.made f.after f.keeps))
+pub returns-in_err-n : goal.returns-in_err-n
+returns-in_err-n g c =
+    let p = err_from_is_err_and c.from_residual.result c.from_residual.ensures.1 in
+    rw (p.1, p.2) (record {
+      goes = λ frames before k. tt;
+      runs = tt;
+      counted = tt;
+      pictures = tt;
+      undecided = tt;
+      kept = tt;
+      stops = λ frames before k. let f = c.loop-rest.invariant.goes frames before k in on-stops f c.loop-rest.invariant.kept (c.in_err-n.ensures.stops f.made f.after f.keeps);
+    })
 
 pub loop-rest-preserved : goal.loop-rest-preserved
 loop-rest-preserved g c = record {

@@ -5,14 +5,36 @@ use Rattle.h264_verify.proofs.Familiar.{agree-none, on-push, on-unit}
 use Rattle.h264_verify.proofs.Feeding.{stops-push, goes-push, stops-unit, stops-after}
 use Rattle.h264_verify.proofs.session.feed_some.Goals as goal
 
-pub returns-in_err-n-clause-stops : goal.returns-in_err-n-clause-stops
-returns-in_err-n-clause-stops g c = let p = err_from_is_err_and c.from_residual.result c.from_residual.ensures.1 in rw (p.1, p.2) (λ frames before k. record { made = frames; same = agree-none _ frames; stops = stops-push (judging c.args.mode) _ _ _ _ _ _ _ _ (c.in_err-n.ensures.err c.requires.runs.0) })
+pub returns-in_err-n : goal.returns-in_err-n
+returns-in_err-n g c =
+    let p = err_from_is_err_and c.from_residual.result c.from_residual.ensures.1 in
+    rw (p.1, p.2) (record {
+      within = tt;
+      goes = λ frames before k. tt;
+      runs = tt;
+      counted = tt;
+      pictures = tt;
+      undecided = tt;
+      kept = tt;
+      stops = λ frames before k. record { made = frames; same = agree-none _ frames; stops = stops-push (judging c.args.mode) _ _ _ _ _ _ _ _ (c.in_err-n.ensures.err c.requires.runs.0) };
+    })
 
 pub returns-in-None-clause-goes : goal.returns-in-None-clause-goes
 returns-in-None-clause-goes g c = λ frames before k. on-push c.args.mode _ frames before _ _ c.in_ok-n.ensures.ok c.in-None.ensures.none k
 
-pub returns-in_err-judge_unit-in-Some-clause-stops : goal.returns-in_err-judge_unit-in-Some-clause-stops
-returns-in_err-judge_unit-in-Some-clause-stops g c = let p = err_from_is_err_and c.from_residual-in_err-judge_unit-in-Some.result c.from_residual-in_err-judge_unit-in-Some.ensures.1 in rw (p.1, p.2) (λ frames before k. let t = c.in_err-judge_unit-in-Some.ensures.turns frames before k in record { made = t.made; same = t.same; stops = stops-after (judging c.args.mode) _ _ _ _ _ _ _ _ _ _ (goes-push (judging c.args.mode) _ _ _ _ _ _ _ c.in_ok-n.ensures.ok) refl (stops-unit (judging c.args.mode) _ _ (λ x. t.after) _ c.take_unit.new.self _ _ _ _ _ _ c.in-Some.ensures.some (c.in_ok-n.ensures.ok.ended_is ∙ c.requires.runs.2) t.plays) })
+pub returns-in_err-judge_unit-in-Some : goal.returns-in_err-judge_unit-in-Some
+returns-in_err-judge_unit-in-Some g c =
+    let p = err_from_is_err_and c.from_residual-in_err-judge_unit-in-Some.result c.from_residual-in_err-judge_unit-in-Some.ensures.1 in
+    rw (p.1, p.2) (record {
+      within = tt;
+      goes = λ frames before k. tt;
+      runs = tt;
+      counted = tt;
+      pictures = tt;
+      undecided = tt;
+      kept = tt;
+      stops = λ frames before k. let t = c.in_err-judge_unit-in-Some.ensures.turns frames before k in record { made = t.made; same = t.same; stops = stops-after (judging c.args.mode) _ _ _ _ _ _ _ _ _ _ (goes-push (judging c.args.mode) _ _ _ _ _ _ _ c.in_ok-n.ensures.ok) refl (stops-unit (judging c.args.mode) _ _ (λ x. t.after) _ c.take_unit.new.self _ _ _ _ _ _ c.in-Some.ensures.some (c.in_ok-n.ensures.ok.ended_is ∙ c.requires.runs.2) t.plays) };
+    })
 
 pub returns-in_ok-judge_unit-in-Some-clause-goes : goal.returns-in_ok-judge_unit-in-Some-clause-goes
 returns-in_ok-judge_unit-in-Some-clause-goes g c = λ frames before k. on-unit c.in_ok-n.ensures.ok c.in-Some.ensures.some (c.in_ok-n.ensures.ok.ended_is ∙ c.requires.runs.2) (c.in_ok-judge_unit-in-Some.ensures.turns frames before k)

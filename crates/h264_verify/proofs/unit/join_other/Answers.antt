@@ -9,7 +9,7 @@ use Rattle.h264_verify.specs.Outcome.{Outcome}
 use Rattle.h264_verify.specs.History.{History}
 use Rattle.h264_verify.specs.Content as contents
 use Rattle.h264_verify.proofs.Playing.{gives-plays}
-use Rattle.h264_verify.proofs.Joining.{joins-on, passed-other, units-other, slice-other, whole-other}
+use Rattle.h264_verify.proofs.Joining.{joins-on, passed-joins, passed-other, units-other, slice-other, whole-other}
 use Rattle.h264_verify.specs.UnitHeader.{nal_unit_type}
 use Rattle.h264_verify.specs.Pictures.{ends_picture, goes_on, runs_of}
 use Rattle.h264_verify.specs.Keeping.{KeepsWithin, ended_pictures, ended_in}
@@ -21,7 +21,7 @@ joins-here : {S X : Type 0} (mode : Mode) (took : S → List Call → Type 0) (f
 joins-here {S} {X} mode took failures frames before ends o new s s' r e j = subst (λ (b : Bool). Joins {X = X} mode took failures frames (length (ended_pictures (goes_on before) b (runs_of before))) o new s s' r) (sym e) j
 
 pub returns-then-not-is_slice-clause-joins : goal.returns-then-not-is_slice-clause-joins
-returns-then-not-is_slice-clause-joins g c = λ frames before k. rw (passed-other c.args.mode _ before c.args.unit.now (sym c.is_slice.ensures.value ∙ c.if-not-is_slice.true)) (joins-on c.args.mode frames _ _ _ before _ _ _ (λ (u : Unit {0}). contents.Passed) _ _ _ tt _ (gives-plays _ _ (λ (u : Unit {0}). contents.Passed) tt _) (gives-plays _ _ (λ (u : Unit {0}). u) tt _) (c.join_passed.ensures.keeps c.args.mode frames before c.args.unit.now (rw c.requires.header refl) k))
+returns-then-not-is_slice-clause-joins g c = λ frames before k. rw (passed-other c.args.mode _ before c.args.unit.now (sym c.is_slice.ensures.value ∙ c.if-not-is_slice.true)) (joins-on c.args.mode frames _ _ _ before _ _ _ (λ (u : Unit {0}). contents.Passed) _ _ _ tt _ (gives-plays _ _ (λ (u : Unit {0}). contents.Passed) tt _) (gives-plays _ _ (λ (u : Unit {0}). u) tt _) (passed-joins c.args.mode frames before c.args.unit.now contents.Passed (nal_unit_type c.args.header) c.args.state.now _ tt tt (rw c.requires.header refl) k c.pass.ensures.units (c.pass.ensures.sets ∙ k.sets) c.pass.ensures.picture c.pass.ensures.due c.pass.ensures.others c.pass.ensures.decoder))
 
 pub returns-in-Headers-clause-joins : goal.returns-in-Headers-clause-joins
 returns-in-Headers-clause-joins g c = λ frames before k.
@@ -36,4 +36,4 @@ returns-in-Full-clause-joins g c = λ frames before k.
 pub returns-in-Units-clause-joins : goal.returns-in-Units-clause-joins
 returns-in-Units-clause-joins g c = λ frames before k.
     let kept = subst (λ m. KeepsWithin m frames before (ends_picture (nal_unit_type c.args.header)) c.args.state.now) c.in-Units.is k in
-    rw (c.in-Units.is, units-other (nal_unit_type c.args.header) before c.args.unit.now) (joins-on modes.Units frames _ _ _ before _ _ _ (λ (u : Unit {0}). contents.Passed) _ _ _ tt _ (gives-plays _ _ (λ (u : Unit {0}). contents.Passed) tt _) (gives-plays _ _ (λ (u : Unit {0}). u) tt _) (c.join_passed-in-Units.ensures.keeps modes.Units frames before c.args.unit.now (rw c.requires.header refl) kept))
+    rw (c.in-Units.is, units-other (nal_unit_type c.args.header) before c.args.unit.now) (joins-on modes.Units frames _ _ _ before _ _ _ (λ (u : Unit {0}). contents.Passed) _ _ _ tt _ (gives-plays _ _ (λ (u : Unit {0}). contents.Passed) tt _) (gives-plays _ _ (λ (u : Unit {0}). u) tt _) (passed-joins modes.Units frames before c.args.unit.now contents.Passed (nal_unit_type c.args.header) c.args.state.now _ tt tt (rw c.requires.header refl) kept c.pass-in-Units.ensures.units (c.pass-in-Units.ensures.sets ∙ kept.sets) c.pass-in-Units.ensures.picture c.pass-in-Units.ensures.due c.pass-in-Units.ensures.others c.pass-in-Units.ensures.decoder))

@@ -14,17 +14,29 @@ judge_slice-requires-clause-kept g c = some-slice modes.Headers c.args.state.now
 pub judge_slice-requires-clause-marked : goal.judge_slice-requires-clause-marked
 judge_slice-requires-clause-marked g c = c.in_ok-read_slice_unit.ensures.marked c.requires.fits
 
-pub returns-in_err-read_slice_unit-clause-joins : goal.returns-in_err-read_slice_unit-clause-joins
-returns-in_err-read_slice_unit-clause-joins g c = let p = err_from_is_err_and c.from_residual.result c.from_residual.ensures.1 in rw (p.1, p.2) (λ frames before k. joins-stops modes.Headers frames _ _ _ before _ _ _ (λ _. contents.OfSlice c.read_slice_unit.new.found []) _ _ _ (c.in_err-read_slice_unit.ensures.plays frames before k.sets c.requires.header))
+pub returns-in_err-read_slice_unit : goal.returns-in_err-read_slice_unit
+returns-in_err-read_slice_unit g c =
+    let p = err_from_is_err_and c.from_residual.result c.from_residual.ensures.1 in
+    rw (p.1, p.2) (record {
+      joins = λ frames before k. joins-stops modes.Headers frames _ _ _ before _ _ _ (λ _. contents.OfSlice c.read_slice_unit.new.found []) _ _ _ (c.in_err-read_slice_unit.ensures.plays frames before k.sets c.requires.header);
+      counts = tt;
+      pictures = tt;
+      kept = tt;
+    })
 
-pub returns-in_err-judge_slice-clause-joins : goal.returns-in_err-judge_slice-clause-joins
-returns-in_err-judge_slice-clause-joins g c =
+pub returns-in_err-judge_slice : goal.returns-in_err-judge_slice
+returns-in_err-judge_slice g c =
     let p = err_from_is_err_and c.from_residual-in_err-judge_slice.result c.from_residual-in_err-judge_slice.ensures.1 in
-    rw (p.1, p.2) (λ frames before k.
-    let kept = subst (λ (b : Bool). KeepsWithin modes.Headers frames before b c.args.state.now) c.requires.goes_on k in
-    let some = some-of _ c.in_ok-read_slice_unit.ensures.named in
-    let j = c.in_err-judge_slice.ensures.judges frames before some.0 kept.slices k.sets some.1 kept.decoder in
-    joins-made modes.Headers frames _ _ _ before _ _ _ j.made j.same (λ _. contents.OfSlice c.read_slice_unit.new.found []) _ _ _ _ _ (c.in_ok-read_slice_unit.ensures.plays j.made before k.sets c.requires.header) j.plays tt)
+    rw (p.1, p.2) (record {
+      joins = λ frames before k.
+          let kept = subst (λ (b : Bool). KeepsWithin modes.Headers frames before b c.args.state.now) c.requires.goes_on k in
+          let some = some-of _ c.in_ok-read_slice_unit.ensures.named in
+          let j = c.in_err-judge_slice.ensures.judges frames before some.0 kept.slices k.sets some.1 kept.decoder in
+          joins-made modes.Headers frames _ _ _ before _ _ _ j.made j.same (λ _. contents.OfSlice c.read_slice_unit.new.found []) _ _ _ _ _ (c.in_ok-read_slice_unit.ensures.plays j.made before k.sets c.requires.header) j.plays tt;
+      counts = tt;
+      pictures = tt;
+      kept = tt;
+    })
 
 pub returns-clause-joins : goal.returns-clause-joins
 returns-clause-joins g c = λ frames before k.

@@ -50,61 +50,83 @@ read_data-requires-clause-kept g c =
       keeps = enters-full j.made c.begins-begins.result s (goes_on k.before) (runs_of k.before) _ j.enters;
     }
 
-pub returns-in_err-rbsp-clause-joins : goal.returns-in_err-rbsp-clause-joins
-returns-in_err-rbsp-clause-joins g c = let p = err_from_is_err_and c.from_residual.result c.from_residual.ensures.1 in rw (p.1, p.2, c.in_err-rbsp.ensures.err) (λ frames before k. record { made = frames; same = λ n h. refl; after = []; plays = memory-plays _ _ _ _ _; keeps = tt })
+pub returns-in_err-rbsp : goal.returns-in_err-rbsp
+returns-in_err-rbsp g c =
+    let p = err_from_is_err_and c.from_residual.result c.from_residual.ensures.1 in
+    rw (p.1, p.2, c.in_err-rbsp.ensures.err) (record {
+      joins = λ frames before k. record { made = frames; same = λ n h. refl; after = []; plays = memory-plays _ _ _ _ _; keeps = tt };
+      counts = tt;
+      pictures = tt;
+      kept = tt;
+    })
 
-pub returns-in_err-read_header-clause-joins : goal.returns-in_err-read_header-clause-joins
-returns-in_err-read_header-clause-joins g c =
+pub returns-in_err-read_header : goal.returns-in_err-read_header
+returns-in_err-read_header g c =
     let p = err_from_is_err_and c.from_residual-in_err-read_header.result c.from_residual-in_err-read_header.ensures.1 in
-    rw (p.1, p.2) (λ frames before k. record {
-      made = frames;
-      same = λ n h. refl;
-      after = [];
-      plays = slice-stops _ _ before c.args.unit.now c.read_header.new.header _ _ _ _ (header-read frames _ _ before c.args.unit.now c.args.header _ _ c.read_header.new.header _ _ _ _ _ k.sets c.requires.header c.slice_unit-slice_unit.ensures (rw c.in_ok-rbsp.ensures.ok at c.new-bits.ensures) c.in_err-read_header.ensures.meets c.in_err-read_header.ensures.answers);
-      keeps = tt;
+    rw (p.1, p.2) (record {
+      joins = λ frames before k. record {
+        made = frames;
+        same = λ n h. refl;
+        after = [];
+        plays = slice-stops _ _ before c.args.unit.now c.read_header.new.header _ _ _ _ (header-read frames _ _ before c.args.unit.now c.args.header _ _ c.read_header.new.header _ _ _ _ _ k.sets c.requires.header c.slice_unit-slice_unit.ensures (rw c.in_ok-rbsp.ensures.ok at c.new-bits.ensures) c.in_err-read_header.ensures.meets c.in_err-read_header.ensures.answers);
+        keeps = tt;
+      };
+      counts = tt;
+      pictures = tt;
+      kept = tt;
     })
 
-pub returns-in_err-judge_slice-clause-joins : goal.returns-in_err-judge_slice-clause-joins
-returns-in_err-judge_slice-clause-joins g c =
+pub returns-in_err-judge_slice : goal.returns-in_err-judge_slice
+returns-in_err-judge_slice g c =
     let p = err_from_is_err_and c.from_residual-in_err-judge_slice.result c.from_residual-in_err-judge_slice.ensures.1 in
-    rw (p.1, p.2) (λ frames before k.
-    let kept = subst (λ (b : Bool). KeepsWithin modes.Full frames before b c.args.state.now) c.requires.goes_on k in
-    let some = some-of _ c.in_ok-read_header.ensures.named in
-    let j = c.in_err-judge_slice.ensures.judges frames before some.0 kept.slices k.sets some.1 kept.decoder in
-    let read = header-read j.made _ _ before c.args.unit.now c.args.header _ _ c.read_header.new.header _ _ _ _ _ k.sets c.requires.header c.slice_unit-slice_unit.ensures (rw c.in_ok-rbsp.ensures.ok at c.new-bits.ensures) c.in_ok-read_header.ensures.meets c.in_ok-read_header.ensures.answers in
-    record {
-      made = j.made;
-      same = j.same;
-      after = [];
-      plays = slice-broken _ _ before c.args.unit.now c.read_header.new.header _ _ _ _ read _ _ j.plays;
-      keeps = tt;
+    rw (p.1, p.2) (record {
+      joins = λ frames before k.
+          let kept = subst (λ (b : Bool). KeepsWithin modes.Full frames before b c.args.state.now) c.requires.goes_on k in
+          let some = some-of _ c.in_ok-read_header.ensures.named in
+          let j = c.in_err-judge_slice.ensures.judges frames before some.0 kept.slices k.sets some.1 kept.decoder in
+          let read = header-read j.made _ _ before c.args.unit.now c.args.header _ _ c.read_header.new.header _ _ _ _ _ k.sets c.requires.header c.slice_unit-slice_unit.ensures (rw c.in_ok-rbsp.ensures.ok at c.new-bits.ensures) c.in_ok-read_header.ensures.meets c.in_ok-read_header.ensures.answers in
+          record {
+            made = j.made;
+            same = j.same;
+            after = [];
+            plays = slice-broken _ _ before c.args.unit.now c.read_header.new.header _ _ _ _ read _ _ j.plays;
+            keeps = tt;
+          };
+      counts = tt;
+      pictures = tt;
+      kept = tt;
     })
 
-pub returns-in_err-read_data-clause-joins : goal.returns-in_err-read_data-clause-joins
-returns-in_err-read_data-clause-joins g c =
+pub returns-in_err-read_data : goal.returns-in_err-read_data
+returns-in_err-read_data g c =
     let p = err_from_is_err_and c.from_residual-in_err-read_data.result c.from_residual-in_err-read_data.ensures.1 in
-    rw (p.1, p.2) (λ frames before k.
-    let h = c.read_header.new.header in
-    let unit = c.args.unit.now in
-    let kept = subst (λ (b : Bool). KeepsWithin modes.Full frames before b c.args.state.now) c.requires.goes_on k in
-    let some = some-of _ c.in_ok-read_header.ensures.named in
-    let j = c.in_ok-judge_slice.ensures.judges frames before some.0 kept.slices k.sets some.1 kept.decoder in
-    let first = rw c.in_ok-rbsp.ensures.ok at c.new-bits.ensures in
-    let read = header-read j.made _ _ before unit c.args.header _ _ h _ _ _ _ _ k.sets c.requires.header c.slice_unit-slice_unit.ensures first c.in_ok-read_header.ensures.meets c.in_ok-read_header.ensures.answers in
-    let b = begins-as before h c.args.state.now.slices _ kept.slices c.begins-begins.ensures in
-    let named = sets-before _ _ h _ c.in_ok-judge_slice.ensures.sets some.1 in
-    let held = (c.in_ok-judge_slice.ensures.keeps before [] kept.slices k.sets).kept.held ∙ ap held_in (sym (runs-with before unit h [] _ _ some.0 b k.sets some.1)) in
-    let place = placed c.begins-begins.result (runs_of before) h (c.in_ok-judge_slice.ensures.place frames before kept.slices kept.decoder) in
-    let enters = enters-full j.made c.begins-begins.result (with_sets unit h [] some.0) (goes_on before) (runs_of before) _ j.enters in
-    let set = later-set c.args.state.now.sets (with_sets unit h [] some.0) some.1 c.begins-begins.result (goes_on before) (runs_of before) b (subst (λ (m : Maps). NamesSet (goes_on before) (runs_of before) m) (sym k.sets) kept.slices.named) in
-    let d = c.in_err-read_data.ensures.reads j.made (goes_on before) (runs_of before) (with_sets unit h [] some.0) named c.in_ok-judge_slice.ensures.header held place refl (goes-newest (goes_on before) (runs_of before) h c.begins-begins.result b) set enters in
-    let there = data-there _ _ _ (runs_of before) (with_sets unit h [] some.0) _ _ _ (body_of unit) _ _ _ _ b (c.in_ok-read_header.ensures.meets.same ∙ ap (λ (r : Reader). r.body) first) d.plays in
-    record {
-      made = j.made;
-      same = j.same;
-      after = record { unit = unit; content = contents.OfSlice h d.macroblocks } ∷ before;
-      plays = slice-reads _ _ before unit h _ _ _ _ read _ _ j.plays some.0 (ap (λ m. sets_of m h.pic_parameter_set_id.value) (sym k.sets) ∙ some.1) d.macroblocks d.end _ _ there;
-      keeps = tt;
+    rw (p.1, p.2) (record {
+      joins = λ frames before k.
+          let h = c.read_header.new.header in
+          let unit = c.args.unit.now in
+          let kept = subst (λ (b : Bool). KeepsWithin modes.Full frames before b c.args.state.now) c.requires.goes_on k in
+          let some = some-of _ c.in_ok-read_header.ensures.named in
+          let j = c.in_ok-judge_slice.ensures.judges frames before some.0 kept.slices k.sets some.1 kept.decoder in
+          let first = rw c.in_ok-rbsp.ensures.ok at c.new-bits.ensures in
+          let read = header-read j.made _ _ before unit c.args.header _ _ h _ _ _ _ _ k.sets c.requires.header c.slice_unit-slice_unit.ensures first c.in_ok-read_header.ensures.meets c.in_ok-read_header.ensures.answers in
+          let b = begins-as before h c.args.state.now.slices _ kept.slices c.begins-begins.ensures in
+          let named = sets-before _ _ h _ c.in_ok-judge_slice.ensures.sets some.1 in
+          let held = (c.in_ok-judge_slice.ensures.keeps before [] kept.slices k.sets).kept.held ∙ ap held_in (sym (runs-with before unit h [] _ _ some.0 b k.sets some.1)) in
+          let place = placed c.begins-begins.result (runs_of before) h (c.in_ok-judge_slice.ensures.place frames before kept.slices kept.decoder) in
+          let enters = enters-full j.made c.begins-begins.result (with_sets unit h [] some.0) (goes_on before) (runs_of before) _ j.enters in
+          let set = later-set c.args.state.now.sets (with_sets unit h [] some.0) some.1 c.begins-begins.result (goes_on before) (runs_of before) b (subst (λ (m : Maps). NamesSet (goes_on before) (runs_of before) m) (sym k.sets) kept.slices.named) in
+          let d = c.in_err-read_data.ensures.reads j.made (goes_on before) (runs_of before) (with_sets unit h [] some.0) named c.in_ok-judge_slice.ensures.header held place refl (goes-newest (goes_on before) (runs_of before) h c.begins-begins.result b) set enters in
+          let there = data-there _ _ _ (runs_of before) (with_sets unit h [] some.0) _ _ _ (body_of unit) _ _ _ _ b (c.in_ok-read_header.ensures.meets.same ∙ ap (λ (r : Reader). r.body) first) d.plays in
+          record {
+            made = j.made;
+            same = j.same;
+            after = record { unit = unit; content = contents.OfSlice h d.macroblocks } ∷ before;
+            plays = slice-reads _ _ before unit h _ _ _ _ read _ _ j.plays some.0 (ap (λ m. sets_of m h.pic_parameter_set_id.value) (sym k.sets) ∙ some.1) d.macroblocks d.end _ _ there;
+            keeps = tt;
+          };
+      counts = tt;
+      pictures = tt;
+      kept = tt;
     })
 
 pub returns-clause-joins : goal.returns-clause-joins
