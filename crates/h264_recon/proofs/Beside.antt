@@ -1,5 +1,6 @@
 -- The sides of a macroblock, as intra prediction is given them.
-use Rattle.std.proofs.Common.{◌≡◌, ℕ, ◌+◌, ◌*◌, ◌<◌, IsTrue, Bool, cond, List, [], slice_index, Option, Some, None, unwrap_or, arith, refl, sym, ap, ◌∙◌}
+use Rattle.std.proofs.Common.{◌≡◌, ℕ, ◌+◌, ◌*◌, ◌<◌, IsTrue, Bool, List, [], slice_index, Option, unwrap_or, arith, refl, sym, ap, ◌∙◌}
+use Rattle.std.specs.Bool.{then_some}
 use Rattle.std.proofs.lemmas.Bool.Decides.{nat_tests}
 use Rattle.h264_intra.specs.Filters.{HasSamples}
 use Rattle.h264_intra.specs.declared.sides.Sides.{Sides}
@@ -21,10 +22,10 @@ use Rattle.h264_recon.specs.declared.macroblock.Available.{Available}
 use Rattle.h264_recon.specs.declared.store.Store.{Store}
 use Rattle.h264_recon.proofs.Local.{local_left, local_above, local_corner}
 
-pub side_there : (b : Bool) (v : List ℕ) (o : Option (List ℕ)) → o ≡ cond b (Some v) None → IsTrue b → unwrap_or o [] ≡ v
+pub side_there : (b : Bool) (v : List ℕ) (o : Option (List ℕ)) → o ≡ then_some b v → IsTrue b → unwrap_or o [] ≡ v
 side_there b v o e t = rw (e, t) refl
 
-pub sample_there : (b : Bool) (v : ℕ) (o : Option ℕ) → o ≡ cond b (Some v) None → IsTrue b → unwrap_or o 0 ≡ v
+pub sample_there : (b : Bool) (v : ℕ) (o : Option ℕ) → o ≡ then_some b v → IsTrue b → unwrap_or o 0 ≡ v
 sample_there b v o e t = rw (e, t) refl
 
 beside_left : (left above : Option (List ℕ)) (corner : Option ℕ) (k : ℕ) → beside left above corner 0 (k + 1) ≡ slice_index (unwrap_or left []) k
@@ -35,7 +36,7 @@ beside_above left above corner k = grind (arith, nat_tests)
 
 -- they are those of the store
 pub beside_is : (n : ℕ) (a : Available) (l : Store) (c : ℕ) (own : List ℕ) (left above : Option (List ℕ)) (corner : Option ℕ) (column row : List ℕ) →
-    left ≡ cond a.left (Some column) None → above ≡ cond a.above (Some row) None → corner ≡ cond a.corner (Some l.corner) None →
+    left ≡ then_some a.left column → above ≡ then_some a.above row → corner ≡ then_some a.corner l.corner →
     ((k : ℕ) → k < n → slice_index column k ≡ slice_index l.left k) → ((k : ℕ) → k < n → slice_index row k ≡ slice_index l.above.items (n * c + k)) →
     SameSides n (sides_of a) (beside left above corner) (local n l c own)
 beside_is n a l c own left above corner column row e e' e'' columns rows = record {
@@ -75,7 +76,7 @@ round_corner n = refl
 
 pub block_beside : (a : Available) (x y : ℕ) (s : ℕ → ℕ → ℕ) (n : Neighbours4) (column row : List ℕ) (corner : ℕ) (l t r m : Bool) →
     l ≡ left_there a x → t ≡ above_there a y → r ≡ right_there a x y → m ≡ corner_there a x y →
-    n.left ≡ cond l (Some column) None → n.above ≡ cond t (Some row) None → n.corner ≡ cond m (Some corner) None →
+    n.left ≡ then_some l column → n.above ≡ then_some t row → n.corner ≡ then_some m corner →
     ((k : ℕ) → k < 4 → slice_index column k ≡ s (4 * x) (4 * y + 1 + k)) →
     ((k : ℕ) → k < 4 → slice_index row k ≡ s (4 * x + 1 + k) (4 * y)) →
     (IsTrue r → (k : ℕ) → k < 4 → slice_index (unwrap_or n.above_right []) k ≡ s (4 * x + 5 + k) (4 * y)) →

@@ -28,35 +28,6 @@ fn part<const N: usize>(row: &[u8], start: usize) -> [u8; N]
     part
 }
 
-/// A side of 16 samples, where it is there.
-#[inline(always)]
-fn when16(there: bool, side: [u8; 16]) -> Option<[u8; 16]>
-    ensures { result ≡ if there then Some side else None }
-{
-    if there { Some(side) } else { None }
-}
-
-#[inline(always)]
-fn when8(there: bool, side: [u8; 8]) -> Option<[u8; 8]>
-    ensures { result ≡ if there then Some side else None }
-{
-    if there { Some(side) } else { None }
-}
-
-#[inline(always)]
-fn when4(there: bool, side: [u8; 4]) -> Option<[u8; 4]>
-    ensures { result ≡ if there then Some side else None }
-{
-    if there { Some(side) } else { None }
-}
-
-#[inline(always)]
-fn when1(there: bool, sample: u8) -> Option<u8>
-    ensures { result ≡ if there then Some sample else None }
-{
-    if there { Some(sample) } else { None }
-}
-
 /// The samples beside the luma macroblock at this column.
 #[inline(always)]
 fn neighbours16(store: &Store, column: usize, a: Available) -> Neighbours16
@@ -67,9 +38,9 @@ fn neighbours16(store: &Store, column: usize, a: Available) -> Neighbours16
 {
     let above = part::<16>(store.above.as_slice(), 16 * column);
     Neighbours16 {
-        left: when16(a.left, store.left),
-        above: when16(a.above, above),
-        corner: when1(a.corner, store.corner),
+        left: a.left.then_some(store.left),
+        above: a.above.then_some(above),
+        corner: a.corner.then_some(store.corner),
     }
 }
 
@@ -99,9 +70,9 @@ fn neighbours_chroma(store: &Store, column: usize, a: Available) -> NeighboursCh
     let left = part::<8>(&store.left, 0);
     let above = part::<8>(store.above.as_slice(), 8 * column);
     NeighboursChroma {
-        left: when8(a.left, left),
-        above: when8(a.above, above),
-        corner: when1(a.corner, store.corner),
+        left: a.left.then_some(left),
+        above: a.above.then_some(above),
+        corner: a.corner.then_some(store.corner),
     }
 }
 
@@ -270,9 +241,9 @@ pub fn neighbours4(
     let above = across(store, column, own, 4 * x + 1, 4 * y);
     let corner = sample(store, column, own, 4 * x, 4 * y);
     Neighbours4 {
-        left: when4(left_of(a, x), left),
-        above: when4(above_of(a, y), above),
+        left: left_of(a, x).then_some(left),
+        above: above_of(a, y).then_some(above),
         above_right: across_when(right_of(a, x, y), store, column, own, 4 * x + 5, 4 * y),
-        corner: when1(corner_of(a, x, y), corner),
+        corner: corner_of(a, x, y).then_some(corner),
     }
 }
