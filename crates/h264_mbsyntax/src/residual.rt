@@ -18,8 +18,8 @@ use h264_cavlc::{Levels, block, block_into};
 use h264_near::Near;
 use h264_tables::Table;
 
-/// The levels of a macroblock, by block and by place of the scan. Those of a block without coefficients are what stood there before:
-/// whoever reads them looks at the totals first.
+/// The levels of a macroblock, by block and by place of the scan. Those of a block without coefficients mean nothing (zeros, or what stood there
+/// before): whoever reads them looks at the totals first.
 #[derive(Clone, Copy)]
 pub struct Residual {
     pub luma_dc_total: u8,
