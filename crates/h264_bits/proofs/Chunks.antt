@@ -49,6 +49,12 @@ steady-ends body chunk last shift is a b fits i in_chunk inside =
     let to = place-later body i last high in
     (omega arith, omega arith)
 
+-- and a steady chunk is so at its first and at its last bit
+pub steady-both : (body : Body) (chunk last shift : ℕ) → last ≡ min (512 * chunk + 511) (8 * length body.bytes) → 512 * chunk ≤ 8 * length body.bytes → IsSteady body chunk shift → (place body (512 * chunk) ≡ 512 * chunk + shift) × (place body last ≡ last + shift)
+unfolding IsSteady
+steady-both body chunk last shift is inside h =
+    ((h (512 * chunk) (omega arith) inside).0, (h last (omega arith) (omega arith)).0)
+
 -- no bit is in a chunk so far behind
 pub steady-none : (body : Body) (chunk : ℕ) → length body.bytes ≤ 2 ^ 28 → 2 ^ 32 ≤ chunk → IsSteady body chunk 0
 unfolding IsSteady

@@ -60,7 +60,8 @@ pub struct Upcoming {
 /// None of them.
 #[inline(always)]
 pub fn none_upcoming() -> Upcoming
-    ensures { (bytes : List ℕ) (i : ℕ) → IsUpcoming bytes i result }
+    ensures bits { (bytes : List ℕ) (i : ℕ) → IsUpcoming bytes i result }
+    ensures count { result.count ≡ 0 }
 {
     Upcoming {
         number: 0,
@@ -99,7 +100,8 @@ pub fn first_of(k: Upcoming, n: u32) -> u64
 #[inline(always)]
 pub fn behind(k: Upcoming, n: usize) -> Upcoming
     requires { k.count ≤ 64 }
-    ensures { (bytes : List ℕ) (i : ℕ) → IsUpcoming bytes i k → IsUpcoming bytes (i + n) result }
+    ensures bits { (bytes : List ℕ) (i : ℕ) → IsUpcoming bytes i k → IsUpcoming bytes (i + n) result }
+    ensures count { result.count ≡ k.count - n }
 {
     if n < k.count as usize {
         Upcoming {

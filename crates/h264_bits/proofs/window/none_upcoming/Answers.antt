@@ -1,5 +1,6 @@
+use Rattle.std.proofs.Common.{refl}
 use Rattle.h264_bits.proofs.Upcomings.{behind-none}
 use Rattle.h264_bits.proofs.window.none_upcoming.Goals as goal
 
 pub returns : goal.returns
-returns c bytes i = behind-none bytes i
+returns c = record { bits = behind-none; count = refl }

@@ -18,12 +18,12 @@ returns-then-chunk-self-clause-bit c =
 pub overflow_add-result-in-Some : goal.overflow_add-result-in-Some
 overflow_add-result-in-Some c =
     let i = c.self.invariant in
-    let s = steady-at c.self.inside.rbsp.now c.self.inside.bytes.now _ c.in-Some.shift c.self.inside.at c.in-Some.ensures i.0 refl i.1 in
+    let s = steady-at c.self.inside.rbsp.now c.self.inside.bytes.now _ c.in-Some.shift c.self.inside.at c.in-Some.ensures.steady i.0 refl i.1 in
     let small : c.self.inside.at + c.in-Some.shift < 2 ^ 64 = s.1 in
     search rules
 
 pub returns-in-Some-clause-bit : goal.returns-in-Some-clause-bit
 returns-in-Some-clause-bit c =
     let i = c.self.invariant in
-    let s = steady-at c.self.inside.rbsp.now c.self.inside.bytes.now _ c.in-Some.shift c.self.inside.at c.in-Some.ensures i.0 refl i.1 in
+    let s = steady-at c.self.inside.rbsp.now c.self.inside.bytes.now _ c.in-Some.shift c.self.inside.at c.in-Some.ensures.steady i.0 refl i.1 in
     rw (← c.self.view_is) (sym s.0)
