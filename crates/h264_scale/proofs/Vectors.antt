@@ -1,5 +1,5 @@
 -- Lanes of 16 bits, and what the transform makes of them.
-use Rattle.std.proofs.Common.{◌≡◌, ℕ, ℤ, zero, suc, ◌+◌, ◌*◌, ◌/◌, ◌%◌, ◌^◌, ◌<◌, ◌≤◌, refl, sym, ap, ◌∙◌, arith, pos, negsuc, neg_ℤ, ◌+ℤ◌, ◌-ℤ◌, ◌*ℤ◌, Bool, true, false, if◌then◌else◌, List, [], ◌∷◌, map, length, get_or, slice_index, to_z, of_z, w16, w32, FitsSigned}
+use Rattle.std.proofs.Common.{◌≡◌, ◌↔◌, ℕ, ℤ, zero, suc, min, unsigned_abs, inl, inr, ◌+◌, ◌*◌, ◌/◌, ◌%◌, ◌^◌, ◌<◌, ◌≤◌, refl, ap, ◌∙◌, arith, pos, negsuc, neg_ℤ, ◌+ℤ◌, ◌-ℤ◌, ◌*ℤ◌, Bool, true, false, ◌&&◌, ◌==◌, if◌then◌else◌, List, [], ◌∷◌, map, length, get_or, slice_index, to_z, of_z, w16, w32, FitsSigned}
 use Rattle.std.proofs.lemmas.Int.{ints, to_z-of_z, wrapping_add_is, wrapping_sub_is, wrapping_mul_is, int_wrap_fits}
 use Rattle.std.proofs.lemmas.Nat.{mul-le}
 use Rattle.std.proofs.Math.Pow.{pow_mono}
@@ -7,17 +7,23 @@ use Rattle.std.specs.Int.{int_wrapping_add, int_wrapping_sub, int_wrapping_mul}
 use lib.Signed.{shr_z}
 use borrow.Author.Differences.{up, down}
 use Rattle.h264_scale.specs.Residual.{IsIn, AreIn, norm_adjust, v0, v1, v2}
-use Rattle.h264_scale.specs.Fours.{IsShort, IsShortFour, IsShortBlock, IsWithin, AreWithin, block_of, with_dc, half, rounded, rounded_row, rounded_block, factor_at}
-use Rattle.h264_scale.specs.Lanes.{lanes, by_place}
-use Rattle.h264_scale.proofs.Within.{half_low, half_high}
+use Rattle.h264_scale.specs.Fours.{size, IsShort, IsShortFour, IsShortBlock, IsWithin, AreWithin, block_of, half, rounded, rounded_row, rounded_block, factor_at}
+use Rattle.h264_scale.specs.Lanes.{lanes, by_place, size_below, with_first, AreWide}
+use Rattle.h264_scale.proofs.Within.{half_low, half_high, in_more}
 use Rattle.h264_scale.specs.declared.fours.Four.{Four}
 use Rattle.h264_scale.specs.declared.fours.Block.{Block}
 use Rattle.h264_scale.proofs.Rounded.{cons_is, all_cons, all_none}
 use Rattle.h264_scale.proofs.Blocks.{by_four}
+use Rattle.h264_scale.proofs.Small.{in_own}
+use Rattle.std.proofs.lemmas.Bool.{cases_lt}
 
 fits_of : (z : ℤ) → IsShort z → FitsSigned w16 z
 fits_of (pos n) h = record { sfits = omega (arith, ints, h.high) }
 fits_of (negsuc n) h = record { sfits = omega (arith, ints, h.low) }
+
+pub short_of : (z : ℤ) → FitsSigned w16 z → IsShort z
+short_of (pos n) h = let s = h.sfits in record { low = omega (arith, ints); high = omega (arith, ints) }
+short_of (negsuc n) h = let s = h.sfits in record { low = omega (arith, ints); high = omega (arith, ints) }
 
 -- numbers in lanes of 16 bits
 pub kept : (z : ℤ) → IsShort z → to_z w16 (of_z w16 z) ≡ z
@@ -50,7 +56,7 @@ sixty_high (negsuc n) = omega arith
 short_sixty : (z : ℤ) → IsShort z → IsShort (shr_z z 64)
 short_sixty z h = record { low = omega (arith, ints, sixty_low, sixty_high, h.low, h.high); high = omega (arith, ints, sixty_low, sixty_high, h.low, h.high) }
 
-pub rounded_kept : (h : ℤ) → IsIn 25088 h → to_z w16 (of_z w16 (shr_z (int_wrapping_add w16 h (pos 32)) 64)) ≡ rounded h
+pub rounded_kept : (h : ℤ) → IsIn 32735 h → to_z w16 (of_z w16 (shr_z (int_wrapping_add w16 h (pos 32)) 64)) ≡ rounded h
 rounded_kept h p =
     let short : IsShort h = record { low = omega (arith, ints); high = omega (arith, ints) } in
     let more : IsShort (h +ℤ pos 32) = record { low = omega (arith, ints); high = omega (arith, ints) } in
@@ -58,28 +64,53 @@ rounded_kept h p =
     let sum = sum_kept h (pos 32) short few more in
     ap (λ z. to_z w16 (of_z w16 (shr_z z 64))) sum ∙ kept (rounded h) (short_sixty (h +ℤ pos 32) more)
 
-rounded_in : (h : ℤ) → IsIn 25088 h → IsIn 512 (rounded h)
+rounded_in : (h : ℤ) → IsIn 32735 h → IsIn 512 (rounded h)
 rounded_in h p = record { low = omega (arith, ints, sixty_low (h +ℤ pos 32), sixty_high (h +ℤ pos 32), p.low, p.high); high = omega (arith, ints, sixty_low (h +ℤ pos 32), sixty_high (h +ℤ pos 32), p.low, p.high) }
 
-rounded_row_in : (v : Four) (l : List ℤ) → IsWithin 25088 v → AreIn 512 l → AreIn 512 (rounded_row v l)
+rounded_row_in : (v : Four) (l : List ℤ) → IsWithin 32735 v → AreIn 512 l → AreIn 512 (rounded_row v l)
 rounded_row_in v l h p = all_cons (rounded_in v.a h.a) (all_cons (rounded_in v.b h.b) (all_cons (rounded_in v.c h.c) (all_cons (rounded_in v.d h.d) p)))
 
-pub rounded_block_in : (x : Block) → AreWithin 25088 x → AreIn 512 (rounded_block x)
+pub rounded_block_in : (x : Block) → AreWithin 32735 x → AreIn 512 (rounded_block x)
 rounded_block_in x h = rounded_row_in x.r0 _ h.r0 (rounded_row_in x.r1 _ h.r1 (rounded_row_in x.r2 _ h.r2 (rounded_row_in x.r3 _ h.r3 all_none)))
 
 -- entries by place of the scan, and as a matrix
-pub within_places : (m : ℕ → ℕ → ℤ) (l : List ℤ) → l ≡ by_place m → ((k : ℕ) → k < 16 → IsIn 2048 (get_or l k (pos 0))) → AreWithin 2048 (block_of m)
-within_places m l p h =
-    let at : (k : ℕ) → k < 16 → IsIn 2048 (get_or (by_place m) k (pos 0)) = rw p at h in
-    record {
-      r0 = record { a = at 0 (omega arith); b = at 1 (omega arith); c = at 5 (omega arith); d = at 6 (omega arith) };
-      r1 = record { a = at 2 (omega arith); b = at 4 (omega arith); c = at 7 (omega arith); d = at 12 (omega arith) };
-      r2 = record { a = at 3 (omega arith); b = at 8 (omega arith); c = at 11 (omega arith); d = at 13 (omega arith) };
-      r3 = record { a = at 9 (omega arith); b = at 10 (omega arith); c = at 14 (omega arith); d = at 15 (omega arith) };
-    }
+pub size_of_places : (m : ℕ → ℕ → ℤ) (l : List ℤ) → l ≡ by_place m → size_below 16 l ≡ size (block_of m)
+unfolding size_below
+size_of_places m l p = rw p (omega arith)
 
-pub within_dc : (n : ℕ) (z : ℤ) (b : Block) → IsIn n z → AreWithin n b → AreWithin n (with_dc z b)
-within_dc n z b p h = record { r0 = record { a = p; b = h.r0.b; c = h.r0.c; d = h.r0.d }; r1 = h.r1; r2 = h.r2; r3 = h.r3 }
+in_size : (n k : ℕ) (l : List ℤ) → k < n → unsigned_abs (get_or l k (pos 0)) ≤ size_below n l
+unfolding size_below
+in_size zero k l p = absurd (let f : ⊥ = omega arith in f)
+in_size (suc n) k l p = elim (cases_lt k n) [
+  | inl less ↦ let h = in_size n k l less in omega arith
+  | inr last ↦ let e : k ≡ n = omega arith in rw e (omega arith)
+]
+
+pub places_in : (l : List ℤ) → size_below 16 l ≤ 32735 → (k : ℕ) → k < 16 → IsIn 32735 (get_or l k (pos 0))
+places_in l h k p = let s = in_size 16 k l p in in_more _ 32735 _ (omega arith) (in_own (get_or l k (pos 0)))
+
+-- the sum of numbers of which those of more than 16 bits count as 2 ^ 15
+unfoldable pub clipped_below : ℕ → List ℤ → ℕ
+clipped_below zero l = 0
+clipped_below (suc n) l = clipped_below n l + min (unsigned_abs (get_or l n (pos 0))) 32768
+
+pub clipped_few : (n : ℕ) (l : List ℤ) → clipped_below n l ≤ n * 32768
+unfolding clipped_below
+clipped_few zero l = omega arith
+clipped_few (suc n) l = let h = clipped_few n l in omega arith
+
+clipped_less : (n : ℕ) (l : List ℤ) → clipped_below n l ≤ size_below n l
+unfolding clipped_below size_below
+clipped_less zero l = omega arith
+clipped_less (suc n) l = let h = clipped_less n l in omega arith
+
+clipped_same : (n : ℕ) (l : List ℤ) → clipped_below n l ≤ 32735 → clipped_below n l ≡ size_below n l
+unfolding clipped_below size_below
+clipped_same zero l h = refl
+clipped_same (suc n) l h = let s = clipped_same n l (omega arith) in omega arith
+
+pub clipped_is : (n : ℕ) (l : List ℤ) → (clipped_below n l ≤ 32735) ↔ (size_below n l ≤ 32735)
+clipped_is n l = (λ h. let s = clipped_same n l h in omega arith, λ h. let s = clipped_less n l in omega arith)
 
 by_place_same : (f g : ℕ → ℕ → ℤ) → ((i j : ℕ) → i < 4 → j < 4 → f i j ≡ g i j) → by_place f ≡ by_place g
 by_place_same f g h =
@@ -139,14 +170,14 @@ product_kept z f h p =
     ∙ wrapping_mul_is w32 z (pos f) (short_wide z h) (in_wide f (omega (arith, p)))
     ∙ int_wrap_fits w32 (z *ℤ pos f) (product_wide z f h p)
 
-small_wide : (z : ℤ) → IsIn 2048 z → to_z w32 (of_z w32 z) ≡ z
+small_wide : (z : ℤ) → IsIn 32735 z → to_z w32 (of_z w32 z) ≡ z
 small_wide z h = let short : IsShort z = record { low = omega (arith, ints); high = omega (arith, ints) } in to_z-of_z w32 z (short_wide z short)
 
 -- small numbers, in lanes of 16 bits
-pub narrow_fits : (z : ℤ) → IsIn 2048 z → FitsSigned w16 (to_z w32 (of_z w32 z))
+pub narrow_fits : (z : ℤ) → IsIn 32735 z → FitsSigned w16 (to_z w32 (of_z w32 z))
 narrow_fits z h = let short : IsShort z = record { low = omega (arith, ints); high = omega (arith, ints) } in rw (small_wide z h) (fits_of z short)
 
-pub narrow_kept : (z : ℤ) → IsIn 2048 z → to_z w16 (of_z w16 (to_z w32 (of_z w32 z))) ≡ z
+pub narrow_kept : (z : ℤ) → IsIn 32735 z → to_z w16 (of_z w16 (to_z w32 (of_z w32 z))) ≡ z
 narrow_kept z h = let short : IsShort z = record { low = omega (arith, ints); high = omega (arith, ints) } in ap (λ x. to_z w16 (of_z w16 x)) (small_wide z h) ∙ kept z short
 
 -- lists of which each number is kept
@@ -180,7 +211,23 @@ pub products_kept : (qp : ℕ) (m : ℕ → ℕ → ℤ) → qp ≤ 51 → IsSho
     by_place (λ i j. int_wrapping_mul w32 (to_z w16 (of_z w16 (m i j))) (pos (factor_at qp i j))) ≡ by_place (λ i j. m i j *ℤ pos (factor_at qp i j))
 products_kept qp m p h = by_place_same _ _ (λ i j d e. product_kept (m i j) (factor_at qp i j) (short_entry m h i j d e) (factor_small qp i j p))
 
+pub products_wide : (qp : ℕ) (m : ℕ → ℕ → ℤ) → qp ≤ 51 → IsShortBlock (block_of m) → AreWide (λ i j. m i j *ℤ pos (factor_at qp i j))
+products_wide qp m p h i j d e = product_wide (m i j) (factor_at qp i j) (short_entry m h i j d e) (factor_small qp i j p)
+
+-- entries of 32 bits, passed on
+pub kept_wide : (m : ℕ → ℕ → ℤ) → AreWide m → by_place (λ i j. to_z w32 (of_z w32 (m i j))) ≡ by_place m
+kept_wide m h = by_place_same (λ i j. to_z w32 (of_z w32 (m i j))) m (λ i j d e. to_z-of_z w32 _ (h i j d e))
+
+pub passed_wide : (m : ℕ → ℕ → ℤ) (l : List ℤ) → l ≡ by_place m → AreWide m → map (to_z w32) (map (of_z w32) l) ≡ by_place m
+passed_wide m l e h = rw e (kept_wide m h)
+
 pub passed_products : (qp : ℕ) (m : ℕ → ℕ → ℤ) (l : List ℤ) → l ≡ by_place (λ i j. m i j *ℤ pos (factor_at qp i j)) → qp ≤ 51 → IsShortBlock (block_of m) →
     map (to_z w32) (map (of_z w32) l) ≡ by_place (λ i j. m i j *ℤ pos (factor_at qp i j))
-passed_products qp m l e p h = rw e (by_place_same (λ i j. to_z w32 (of_z w32 (m i j *ℤ pos (factor_at qp i j)))) (λ i j. m i j *ℤ pos (factor_at qp i j))
-    (λ i j d e. to_z-of_z w32 _ (product_wide (m i j) (factor_at qp i j) (short_entry m h i j d e) (factor_small qp i j p))))
+passed_products qp m l e p h = passed_wide _ l e (products_wide qp m p h)
+
+pub first_wide : (z : ℤ) (m : ℕ → ℕ → ℤ) → IsShort z → AreWide m → AreWide (with_first z m)
+first_wide z m p h i j d e = either (i == 0 && j == 0)
+  where
+    either : (b : Bool) → FitsSigned w32 (if b then z else m i j)
+    either true = short_wide z p
+    either false = h i j d e

@@ -16,16 +16,16 @@ pub half_high : (z : ℤ) → up z + down (shr_z z 2) + down (shr_z z 2) ≤ up 
 half_high (pos n) = omega arith
 half_high (negsuc n) = omega arith
 
-in_sum : (m n : ℕ) (x y : ℤ) → IsIn m x → IsIn n y → IsIn (m + n) (x +ℤ y)
+pub in_sum : (m n : ℕ) (x y : ℤ) → IsIn m x → IsIn n y → IsIn (m + n) (x +ℤ y)
 in_sum m n x y p q = record { low = omega (arith, ints); high = omega (arith, ints) }
 
-in_difference : (m n : ℕ) (x y : ℤ) → IsIn m x → IsIn n y → IsIn (m + n) (x -ℤ y)
+pub in_difference : (m n : ℕ) (x y : ℤ) → IsIn m x → IsIn n y → IsIn (m + n) (x -ℤ y)
 in_difference m n x y p q = record { low = omega (arith, ints); high = omega (arith, ints) }
 
-in_half : (n : ℕ) (x : ℤ) → IsIn n x → IsIn n (shr_z x 2)
+pub in_half : (n : ℕ) (x : ℤ) → IsIn n x → IsIn n (shr_z x 2)
 in_half n x p = record { low = omega (arith, ints, half_low, half_high); high = omega (arith, ints, half_low, half_high) }
 
-in_more : (m n : ℕ) (x : ℤ) → m ≤ n → IsIn m x → IsIn n x
+pub in_more : (m n : ℕ) (x : ℤ) → m ≤ n → IsIn m x → IsIn n x
 in_more m n x p q = record { low = omega (arith, ints); high = omega (arith, ints) }
 
 pub within_more : (m n : ℕ) (v : Four) → m ≤ n → IsWithin m v → IsWithin n v

@@ -1,5 +1,5 @@
 -- Matrices as the code keeps them: four rows of four numbers.
-use Rattle.std.specs.Prelude.{Bool, ◌&&◌, ℕ, ◌*◌, ◌/◌, ◌%◌, ◌^◌, List, [], ◌∷◌, ℤ, pos, negsuc, ◌+ℤ◌, ◌-ℤ◌, ◌*ℤ◌, ◌≤ℤ◌, int_le}
+use Rattle.std.specs.Prelude.{Bool, ◌&&◌, ℕ, ◌≤◌, ◌+◌, ◌*◌, ◌/◌, ◌%◌, ◌^◌, List, [], ◌∷◌, ℤ, pos, negsuc, ◌+ℤ◌, ◌-ℤ◌, ◌*ℤ◌, ◌≤ℤ◌, unsigned_abs}
 use Rattle.std.specs.Int.{int_shr}
 use Rattle.h264_scale.specs.Residual.{IsIn, fits16, fits_last, norm_adjust}
 use Rattle.h264_scale.specs.declared.fours.Four.{Four}
@@ -40,6 +40,17 @@ pub record AreWithin (n : ℕ) (b : Block) : Type 0 where
   pub r1 : IsWithin n b.r1
   pub r2 : IsWithin n b.r2
   pub r3 : IsWithin n b.r3
+
+-- the sum of the numbers without their signs
+abbrev pub four_size : Four → ℕ
+four_size v = unsigned_abs v.a + unsigned_abs v.b + unsigned_abs v.c + unsigned_abs v.d
+
+abbrev pub size : Block → ℕ
+size m = four_size m.r0 + four_size m.r1 + four_size m.r2 + four_size m.r3
+
+-- scaled coefficients so small that no value of the transform leaves its range
+abbrev pub IsSmall : Block → Type 0
+IsSmall d = size d ≤ 32735
 
 -- a number of 16 bits, and rows of them
 pub record IsShort (z : ℤ) : Type 0 where

@@ -1,5 +1,6 @@
 -- Matrices as vectors keep them: four rows of four lanes, or sixteen entries by place of the scan.
-use Rattle.std.specs.Prelude.{◌≡◌, ℕ, List, [], ◌∷◌, ℤ}
+use Rattle.std.specs.Prelude.{◌≡◌, ℕ, zero, suc, ◌+◌, ◌<◌, ◌&&◌, ◌==◌, if◌then◌else◌, List, [], ◌∷◌, get_or, ℤ, pos, unsigned_abs, FitsSigned}
+use Rattle.std.specs.Int.{w32}
 use Rattle.h264_scale.specs.Fours.{row_then}
 use Rattle.h264_scale.specs.declared.fours.Four.{Four}
 use Rattle.h264_scale.specs.declared.fours.Block.{Block}
@@ -21,3 +22,16 @@ abbrev pub by_place : (ℕ → ℕ → ℤ) → List ℤ
 by_place m =
     m 0 0 ∷ m 0 1 ∷ m 1 0 ∷ m 2 0 ∷ m 1 1 ∷ m 0 2 ∷ m 0 3 ∷ m 1 2 ∷
     m 2 1 ∷ m 3 0 ∷ m 3 1 ∷ m 2 2 ∷ m 1 3 ∷ m 2 3 ∷ m 3 2 ∷ m 3 3 ∷ []
+
+-- a matrix with another first entry
+abbrev pub with_first : ℤ → (ℕ → ℕ → ℤ) → ℕ → ℕ → ℤ
+with_first z m i j = if i == 0 && j == 0 then z else m i j
+
+-- entries of 32 bits
+abbrev pub AreWide : (ℕ → ℕ → ℤ) → Type 0
+AreWide m = (i j : ℕ) → i < 4 → j < 4 → FitsSigned w32 (m i j)
+
+-- the sum of the first n numbers of a list without their signs
+unfoldable pub size_below : ℕ → List ℤ → ℕ
+size_below zero l = 0
+size_below (suc n) l = size_below n l + unsigned_abs (get_or l n (pos 0))

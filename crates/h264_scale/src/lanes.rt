@@ -1,7 +1,7 @@
-ghost use Rattle.std.specs.Prelude.{◌≡◌, [], ◌∷◌, ◌*ℤ◌, ◌+◌, ◌<◌, ◌≤◌, ℕ, ℤ, pos, get_or, length, IsTrue, IfSome, true};
+ghost use Rattle.std.specs.Prelude.{◌≡◌, [], ◌∷◌, ◌*ℤ◌, ◌+◌, ◌<◌, ◌≤◌, ◌↔◌, ℕ, ℤ, pos, get_or, length, IsTrue, IfSome, IsSome, true};
 ghost use Rattle.h264_scale.specs.Residual.{IsIn, AreIn, coefficient};
-ghost use Rattle.h264_scale.specs.Fours.{IsShort, IsShortFour, IsShortBlock, AreWithin, plus as plus_of, minus as minus_of, half as half_of, halves as halves_of, joined as joined_of, transposed as transposed_of, block_of, with_dc, factor_at, rounded_block, scaled_block, block_residual_fits, block_residual};
-ghost use Rattle.h264_scale.specs.Lanes.{lanes, AreRows, by_place};
+ghost use Rattle.h264_scale.specs.Fours.{IsShort, IsShortFour, IsShortBlock, IsSmall, AreWithin, plus as plus_of, minus as minus_of, half as half_of, halves as halves_of, joined as joined_of, transposed as transposed_of, block_of, with_dc, factor_at, rounded_block, scaled_block, block_residual_fits, block_residual};
+ghost use Rattle.h264_scale.specs.Lanes.{lanes, AreRows, AreWide, by_place, size_below, with_first as with_first_of};
 ghost use Rattle.h264_scale.specs.declared.fours.Four.{Four};
 ghost use Rattle.h264_scale.specs.declared.fours.Block.{Block};
 
@@ -76,7 +76,7 @@ fn transposed(m: Rows) -> Rows
 /// The residual row by row, from the last values of the transform.
 #[inline(always)]
 fn rounded_rows(m: Rows) -> [i16; 16]
-    ensures value { (x : Block) → AreRows m x → AreWithin 25088 x → result ≡ rounded_block x }
+    ensures value { (x : Block) → AreRows m x → AreWithin 32735 x → result ≡ rounded_block x }
 {
     let upper = m.r0.shuffle::<8>(m.r1, [0, 1, 2, 3, 4, 5, 6, 7]);
     let lower = m.r2.shuffle::<8>(m.r3, [0, 1, 2, 3, 4, 5, 6, 7]);
@@ -87,22 +87,23 @@ fn rounded_rows(m: Rows) -> [i16; 16]
     ((all + i16x16::splat(32)) >> i16x16::splat(6)).to_array()
 }
 
-/// Whether all entries are so small that no later value leaves its range.
+/// Whether the entries are so small that no later value leaves its range: each later value is at most their sum without signs.
 #[inline(always)]
 fn are_small(d: &[i32; 16]) -> bool
-    ensures { IsTrue result → (k : ℕ) → k < 16 → IsIn 2048 (get_or d.now k (pos 0)) }
+    ensures { IsTrue result ↔ (size_below 16 d.now ≤ 32735) }
 {
-    let mut small = true;
+    let mut size = 0;
+    // One entry of 2 ^ 15 is too much already.
     for x in d {
-        small &= -2048 <= *x && *x <= 2048;
+        size += x.unsigned_abs().min(32768);
     }
-    small
+    size <= 32735
 }
 
 /// Small numbers in 16 bits.
 #[inline(always)]
 fn narrow(d: i32x16) -> i16x16
-    requires { (k : ℕ) → k < 16 → IsIn 2048 (get_or d k (pos 0)) }
+    requires { (k : ℕ) → k < 16 → IsIn 32735 (get_or d k (pos 0)) }
     ensures { result ≡ d }
 {
     d.cast::<i16>()
@@ -145,17 +146,15 @@ fn columns(d: i16x16) -> Rows
     }
 }
 
-/// The same columns with another first entry.
+/// Entries by place of the scan with another first one.
 #[inline(always)]
-fn with_first(m: Rows, first: i16) -> Rows
-    ensures { (x : Block) → AreRows m (transposed_of x) → IsShortBlock x → AreRows result (transposed_of (with_dc first x)) }
+fn with_first(d: i32x16, first: i16) -> i32x16
+    ensures { (m : ℕ → ℕ → ℤ) → d ≡ by_place m → AreWide m → result ≡ by_place (with_first_of first m) }
 {
-    Rows {
-        r0: m.r0.shuffle::<4>(i16x4::splat(first), [4, 1, 2, 3]),
-        r1: m.r1,
-        r2: m.r2,
-        r3: m.r3,
-    }
+    d.shuffle::<16>(
+        i32x16::splat(i32::from(first)),
+        [16, 1, 2, 3, 4, 5, 6, 7, 8, 9, 10, 11, 12, 13, 14, 15],
+    )
 }
 
 /// The 16 levels of a block.
@@ -182,13 +181,12 @@ fn sixteen_after_dc(l: &[i16; 15]) -> i16x16
     ])
 }
 
-/// The columns of the scaled coefficients of a block, if all are small.
+/// The columns of scaled coefficients by place of the scan, if these are small.
 #[inline(always)]
-fn scaled_columns(levels: i16x16, qp: u8) -> Option<Rows>
-    requires { qp ≤ 51 }
-    ensures { (m : ℕ → ℕ → ℤ) → levels ≡ by_place m → IsShortBlock (block_of m) → IfSome result (λ c. AreRows c (transposed_of (scaled_block qp (block_of m))) × AreWithin 2048 (scaled_block qp (block_of m))) }
+fn small_columns(d: i32x16) -> Option<Rows>
+    ensures columns { (m : ℕ → ℕ → ℤ) → d ≡ by_place m → AreWide m → IfSome result (λ c. AreRows c (transposed_of (block_of m)) × IsSmall (block_of m)) }
+    ensures answers { (m : ℕ → ℕ → ℤ) → d ≡ by_place m → AreWide m → IsSmall (block_of m) → IsSome result }
 {
-    let d = products(levels, qp);
     if !are_small(&d.to_array()) {
         return None;
     }
@@ -198,20 +196,21 @@ fn scaled_columns(levels: i16x16, qp: u8) -> Option<Rows>
 /// The inverse transform of small coefficients, by their columns: no value leaves its range.
 #[inline(always)]
 fn transform(columns: Rows) -> [i16; 16]
-    ensures value { (d : Block) → AreRows columns (transposed_of d) → AreWithin 2048 d → result ≡ block_residual d }
-    ensures bound { (d : Block) → AreRows columns (transposed_of d) → AreWithin 2048 d → AreIn 512 result }
+    ensures value { (d : Block) → AreRows columns (transposed_of d) → IsSmall d → result ≡ block_residual d }
+    ensures bound { (d : Block) → AreRows columns (transposed_of d) → IsSmall d → AreIn 512 result }
 {
     rounded_rows(step(transposed(step(columns))))
 }
 
-/// The residual of a block of 16 levels whose scaled coefficients are all small.
+/// The residual of a block of 16 levels whose scaled coefficients are small.
 #[inline(always)]
 pub fn small_residual(levels: &[i16; 16], qp: u8) -> Option<[i16; 16]>
     requires { qp ≤ 51 }
     ensures value { IfSome result (λ r. (block_residual_fits (scaled_block qp (block_of (coefficient levels.now))) ≡ true) × (r ≡ block_residual (scaled_block qp (block_of (coefficient levels.now))))) }
+    ensures answers { IsSmall (scaled_block qp (block_of (coefficient levels.now))) → IsSome result }
     ensures bound { IfSome result (AreIn 512) }
 {
-    let columns = scaled_columns(sixteen(levels), qp)?;
+    let columns = small_columns(products(sixteen(levels), qp))?;
     Some(transform(columns))
 }
 
@@ -220,11 +219,10 @@ pub fn small_residual(levels: &[i16; 16], qp: u8) -> Option<[i16; 16]>
 pub fn small_residual_with_dc(dc: i16, levels: &[i16; 15], qp: u8) -> Option<[i16; 16]>
     requires { qp ≤ 51 }
     ensures value { IfSome result (λ r. (block_residual_fits (with_dc dc (scaled_block qp (block_of (coefficient (get_or levels.now 0 (pos 0) ∷ levels.now))))) ≡ true) × (r ≡ block_residual (with_dc dc (scaled_block qp (block_of (coefficient (get_or levels.now 0 (pos 0) ∷ levels.now))))))) }
+    ensures answers { IsSmall (with_dc dc (scaled_block qp (block_of (coefficient (get_or levels.now 0 (pos 0) ∷ levels.now))))) → IsSome result }
     ensures bound { IfSome result (AreIn 512) }
 {
-    if dc < -2048 || dc > 2048 {
-        return None;
-    }
-    let columns = scaled_columns(sixteen_after_dc(levels), qp)?;
-    Some(transform(with_first(columns, dc)))
+    let d = products(sixteen_after_dc(levels), qp);
+    let columns = small_columns(with_first(d, dc))?;
+    Some(transform(columns))
 }

@@ -1,6 +1,6 @@
-use Rattle.std.proofs.Common.{◌≡◌, ℕ, ◌<◌, IsTrue, get_or, pos}
-use Rattle.h264_scale.specs.Residual.{IsIn}
+use Rattle.std.proofs.Common.{◌≡◌}
+use Rattle.h264_scale.proofs.Vectors.{clipped_below}
 use Rattle.h264_scale.proofs.lanes.are_small.Given as goal
 
 abbrev pub invariant-loop-x : goal.invariant-loop-x
-invariant-loop-x l = IsTrue l.small → (k : ℕ) → k < l.x-index → IsIn 2048 (get_or l.d k (pos 0))
+invariant-loop-x l = l.size ≡ clipped_below l.x-index l.d

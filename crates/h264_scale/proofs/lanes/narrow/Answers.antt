@@ -1,5 +1,4 @@
 use Rattle.std.proofs.Common.{◌≡◌, ◌<◌, ℕ, length, rules, get_or, pos, arith}
-use Rattle.h264_scale.specs.Residual.{IsIn}
 use Rattle.h264_scale.proofs.Vectors.{listed_as, listed_same, narrow_fits, narrow_kept}
 use Rattle.h264_scale.proofs.lanes.narrow.Goals as goal
 

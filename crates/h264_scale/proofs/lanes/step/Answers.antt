@@ -1,4 +1,4 @@
-use Rattle.h264_scale.specs.Fours.{halves, plus, minus, half}
+use Rattle.h264_scale.specs.Fours.{halves, half}
 use Rattle.h264_scale.proofs.Vectors.{passed, short_half_four}
 use Rattle.h264_scale.proofs.lanes.step.Goals as goal
 

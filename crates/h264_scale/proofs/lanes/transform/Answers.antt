@@ -1,5 +1,4 @@
 use Rattle.h264_scale.specs.Fours.{transposed, halves, joined, block_e, block_f, block_residual}
-use Rattle.std.proofs.Common.{◌∙◌, ap}
 use Rattle.h264_scale.proofs.Small.{small_steps}
 use Rattle.h264_scale.proofs.Vectors.{rounded_block_in}
 use Rattle.h264_scale.proofs.lanes.transform.Goals as goal
