@@ -18,6 +18,9 @@ cons_is p q = rw (p, q) refl
 pub kept_is : {r x : ℤ} → IsShort x → r ≡ to_z w32 (of_z w32 x) → to_z w16 (of_z w16 r) ≡ x
 kept_is {r} {x} p e = omega (arith, ints)
 
+pub short_kept : {x : ℤ} → IsShort x → IsShort (to_z w32 (of_z w32 x))
+short_kept {x} p = let same : to_z w32 (of_z w32 x) ≡ x = omega (arith, ints) in rw same p
+
 pub bound_kept : {r : ℤ} → IsIn 512 r → IsIn 512 (to_z w16 (of_z w16 r))
 bound_kept {r} p = record { low = omega (arith, ints); high = omega (arith, ints) }
 

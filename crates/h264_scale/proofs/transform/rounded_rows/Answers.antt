@@ -1,5 +1,5 @@
 use Rattle.std.proofs.Common.{refl}
-use Rattle.h264_scale.proofs.Rounded.{rounded_is, cons_is, bound_kept, all_cons, all_none}
+use Rattle.h264_scale.proofs.Rounded.{rounded_is, short_kept, cons_is, bound_kept, all_cons, all_none}
 use Rattle.h264_scale.proofs.transform.rounded_rows.Goals as goal
 
 pub returns-clause-value : goal.returns-clause-value
@@ -39,3 +39,51 @@ returns-clause-bound c =
     all_cons (bound_kept c.rounded_of-14.ensures.bound) (
     all_cons (bound_kept c.rounded_of-15.ensures.bound) (
     all_cons (bound_kept c.rounded_of-16.ensures.bound) (all_none))))))))))))))))
+
+pub rounded_of-requires : goal.rounded_of-requires
+rounded_of-requires c = short_kept c.requires.r0.a
+
+pub rounded_of-requires-2 : goal.rounded_of-requires-2
+rounded_of-requires-2 c = short_kept c.requires.r0.b
+
+pub rounded_of-requires-3 : goal.rounded_of-requires-3
+rounded_of-requires-3 c = short_kept c.requires.r0.c
+
+pub rounded_of-requires-4 : goal.rounded_of-requires-4
+rounded_of-requires-4 c = short_kept c.requires.r0.d
+
+pub rounded_of-requires-5 : goal.rounded_of-requires-5
+rounded_of-requires-5 c = short_kept c.requires.r1.a
+
+pub rounded_of-requires-6 : goal.rounded_of-requires-6
+rounded_of-requires-6 c = short_kept c.requires.r1.b
+
+pub rounded_of-requires-7 : goal.rounded_of-requires-7
+rounded_of-requires-7 c = short_kept c.requires.r1.c
+
+pub rounded_of-requires-8 : goal.rounded_of-requires-8
+rounded_of-requires-8 c = short_kept c.requires.r1.d
+
+pub rounded_of-requires-9 : goal.rounded_of-requires-9
+rounded_of-requires-9 c = short_kept c.requires.r2.a
+
+pub rounded_of-requires-10 : goal.rounded_of-requires-10
+rounded_of-requires-10 c = short_kept c.requires.r2.b
+
+pub rounded_of-requires-11 : goal.rounded_of-requires-11
+rounded_of-requires-11 c = short_kept c.requires.r2.c
+
+pub rounded_of-requires-12 : goal.rounded_of-requires-12
+rounded_of-requires-12 c = short_kept c.requires.r2.d
+
+pub rounded_of-requires-13 : goal.rounded_of-requires-13
+rounded_of-requires-13 c = short_kept c.requires.r3.a
+
+pub rounded_of-requires-14 : goal.rounded_of-requires-14
+rounded_of-requires-14 c = short_kept c.requires.r3.b
+
+pub rounded_of-requires-15 : goal.rounded_of-requires-15
+rounded_of-requires-15 c = short_kept c.requires.r3.c
+
+pub rounded_of-requires-16 : goal.rounded_of-requires-16
+rounded_of-requires-16 c = short_kept c.requires.r3.d
