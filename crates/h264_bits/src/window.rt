@@ -69,7 +69,7 @@ pub fn none_upcoming() -> Upcoming
     }
 }
 
-/// At least `n` bits from bit `i` on.
+/// At least `n` bits from bit `i` on: those at hand where they are enough.
 #[inline(always)]
 pub fn refilled(k: Upcoming, bytes: &[u8], i: usize, n: u32) -> Upcoming
     requires few { n ≤ 57 }
@@ -77,6 +77,7 @@ pub fn refilled(k: Upcoming, bytes: &[u8], i: usize, n: u32) -> Upcoming
     requires before { IsUpcoming bytes.now i k }
     ensures after { IsUpcoming bytes.now i result }
     ensures enough { n ≤ result.count }
+    ensures kept { n ≤ k.count → result ≡ k }
 {
     if k.count >= n {
         return k;
