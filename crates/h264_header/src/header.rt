@@ -5,7 +5,7 @@ use arrayvec::ArrayVec;
 use h264_bits::Found;
 
 /// What the header of a unit says of the slice in it.
-#[derive(Clone, Copy, Debug, PartialEq, Eq)]
+#[derive(Clone, Copy)]
 pub struct SliceUnit {
     /// IdrPicFlag: nal_unit_type is 5, and not 1.
     pub idr_pic_flag: bool,
@@ -14,7 +14,7 @@ pub struct SliceUnit {
 }
 
 /// The elements of the picture order count, by pic_order_cnt_type. A delta that is not there is 0.
-#[derive(Clone, Copy, Debug, PartialEq, Eq)]
+#[derive(Clone, Copy, PartialEq, Eq)]
 pub enum PicOrderCnt {
     /// Type 0.
     Lsb {
@@ -32,7 +32,7 @@ pub enum PicOrderCnt {
 }
 
 /// A command that changes the reference picture list: modification_of_pic_nums_idc with its operand (7.4.3.1).
-#[derive(Clone, Copy, Debug, PartialEq, Eq)]
+#[derive(Clone, Copy)]
 pub enum Modification {
     /// 0.
     Subtract {
@@ -51,7 +51,7 @@ pub enum Modification {
 }
 
 /// A modification, and where it stands.
-#[derive(Clone, Copy, Debug, PartialEq, Eq)]
+#[derive(Clone, Copy)]
 pub struct PicNumModification {
     /// The stream bit of modification_of_pic_nums_idc.
     pub bit: u64,
@@ -76,7 +76,7 @@ impl Default for PicNumModification {
 }
 
 /// What a P slice says of its reference picture list.
-#[derive(Debug, PartialEq, Eq, Drop)]
+#[derive(Drop)]
 pub struct RefPicList0 {
     /// num_ref_idx_l0_active_minus1 + 1, the slice's own or the picture parameter set's: 1 to 16 places.
     pub num_ref_idx_l0_active: u32,
@@ -85,14 +85,14 @@ pub struct RefPicList0 {
 }
 
 /// The type of a slice, with what only slices of that type have (7.4.3).
-#[derive(Debug, PartialEq, Eq, Drop)]
+#[derive(Drop)]
 pub enum SliceKind {
     P(RefPicList0),
     I,
 }
 
 /// memory_management_control_operation with its operands (7.4.3.3).
-#[derive(Clone, Copy, Debug, Default, PartialEq, Eq)]
+#[derive(Clone, Copy, Default, PartialEq, Eq)]
 pub enum Operation {
     /// 1: a short-term picture becomes unused.
     UnmarkShortTerm {
@@ -121,7 +121,7 @@ pub enum Operation {
 }
 
 /// A marking operation, and where it stands.
-#[derive(Clone, Copy, Debug, Default, PartialEq, Eq)]
+#[derive(Clone, Copy, Default, PartialEq, Eq)]
 pub struct MarkingOperation {
     /// The stream bit of memory_management_control_operation.
     pub bit: u64,
@@ -129,7 +129,7 @@ pub struct MarkingOperation {
 }
 
 /// dec_ref_pic_marking() (7.3.3.3).
-#[derive(Debug, PartialEq, Eq, Drop)]
+#[derive(PartialEq, Eq, Drop)]
 pub enum Marking {
     /// Of an IDR picture.
     Idr {
@@ -143,7 +143,7 @@ pub enum Marking {
 }
 
 /// The offsets of the deblocking filter's tables, halved (7.4.3).
-#[derive(Clone, Copy, Debug, PartialEq, Eq)]
+#[derive(Clone, Copy)]
 pub struct FilterOffsets {
     /// -6 to 6.
     pub slice_alpha_c0_offset_div2: i32,
@@ -152,7 +152,7 @@ pub struct FilterOffsets {
 }
 
 /// disable_deblocking_filter_idc, with the offsets (7.4.3).
-#[derive(Clone, Copy, Debug, PartialEq, Eq)]
+#[derive(Clone, Copy)]
 pub enum Deblocking {
     /// 0, also where it is not there: all edges are filtered.
     AllEdges(FilterOffsets),
@@ -163,7 +163,7 @@ pub enum Deblocking {
 }
 
 /// The elements of a slice header by which a picture begins with a slice, or not (7.4.1.2.4).
-#[derive(Clone, Copy, Debug, PartialEq, Eq)]
+#[derive(Clone, Copy)]
 pub struct PictureElements {
     /// 0 to 3, of the slice's unit.
     pub nal_ref_idc: u32,
@@ -177,7 +177,7 @@ pub struct PictureElements {
 }
 
 /// A slice header.
-#[derive(Debug, PartialEq, Eq, Drop)]
+#[derive(Drop)]
 pub struct Header {
     /// nal_ref_idc of the slice's unit.
     pub nal_ref_idc: u32,

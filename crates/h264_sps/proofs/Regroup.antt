@@ -16,7 +16,7 @@ use Rattle.h264_sps.specs.declared.sps.ConstraintSetFlags.{ConstraintSetFlags}
 use Rattle.h264_sps.specs.declared.sps.FrameCropping.{FrameCropping}
 use Rattle.h264_sps.specs.declared.sps.FrameSize.{FrameSize as Size}
 use Rattle.h264_sps.specs.Hrd.{cpb, cpbs_of, hrd}
-use Rattle.h264_sps.specs.Parts.{two_flags, two_numbers, crop_offsets, hrd_from_delays}
+use Rattle.h264_sps.specs.Parts.{two_flags, two_numbers, crop_offsets, hrd_from_delays, there as there_of}
 use Rattle.h264_sps.specs.Sps.{constraint_set_flags, frame_cropping}
 
 -- a structure whose run is that of another
@@ -32,6 +32,11 @@ there-stop m = stop _ m
 pub there : {A S : Type 0} {took : S → List Call → Type 0} {failures : S → ℕ} {g : Grammar A} {old new : Reader} {s s' : S} {x : A} → Meets took failures (Is (λ (x : A). x)) g old new s s' (Ok x) → Meets took failures (Is (λ (x : Option A). x)) (optional true g) old new s s' (Ok (Some x))
 unfolding optional
 there m = bind _ m (done _ _ _ _ _ _ _ refl)
+
+-- a part that is there was read, or stops
+pub there-either : {A S : Type 0} {took : S → List Call → Type 0} {failures : S → ℕ} {g : Grammar A} {old new : Reader} {s s' : S} (r : Result A Stop) → Meets took failures (Is (λ (x : A). x)) g old new s s' r → Meets took failures (Is (λ (x : Option A). x)) (optional true g) old new s s' (there_of r)
+there-either (Ok x) m = there m
+there-either (Err e) m = there-stop m
 
 -- checks of one rule at one bit are one check
 pub three-checks : {A : Type 0} (rule : Rule) (bit : ℕ) (a b c : Bool) (g : Grammar A) (body : Body) (i : ℕ) → run (check rule bit a >>= (λ _. check rule bit b >>= (λ _. check rule bit c >>= (λ _. g)))) body i ≡ run (check rule bit (a && (b && c)) >>= (λ _. g)) body i

@@ -1,12 +1,13 @@
 -- Parts of the structures that stand whole in Sps, Hrd and Vui: what the functions meet that read a structure part by part.
 -- Each `.._from_..` is the rest of a structure, from the named element on.
-use Rattle.std.specs.Prelude.{ℕ, ◌+◌, ◌*◌, nat_le, nat_lt, ◌&&◌, ◌||◌, Bool}
+use Rattle.std.specs.Prelude.{ℕ, ◌+◌, ◌*◌, nat_le, nat_lt, ◌&&◌, ◌||◌, Bool, Result, Ok, Err, Option, Some}
 use Rattle.std.specs.Option.{is_some}
 use Rattle.h264_base.specs.declared.element_name.ElementName.{ElementName}
 use Rattle.h264_base.specs.declared.element_name.ElementName.TheVariants.{MaxNumRefFrames, GapsInFrameNumValueAllowedFlag, FrameMbsOnlyFlag, Direct8x8InferenceFlag, FrameCroppingFlag, VuiParametersPresentFlag, ChromaLocInfoPresentFlag, TimingInfoPresentFlag, NalHrdParametersPresentFlag, VclHrdParametersPresentFlag, LowDelayHrdFlag, PicStructPresentFlag, BitstreamRestrictionFlag, Log2MaxMvLengthHorizontal, Log2MaxMvLengthVertical, MaxNumReorderFrames, MaxDecFrameBuffering, InitialCpbRemovalDelayLengthMinus1, CpbRemovalDelayLengthMinus1, DpbOutputDelayLengthMinus1, TimeOffsetLength}
 use Rattle.h264_base.specs.declared.rule.Rule.TheVariants.{Crop, Vui}
 use Rattle.h264_base.specs.Word.{Unsigned}
 use Rattle.h264_base.specs.Grammar.{Grammar, Done, ◌>>=◌, element, check, trailing}
+use Rattle.h264_base.specs.declared.stop.Stop.{Stop}
 use Rattle.h264_tables.specs.declared.level.Limits.{Limits}
 use Rattle.h264_bits.specs.Forms.{natural, unsigned, unsigned_to, bits, flag, optional, bits_must_be}
 use Rattle.h264_sps.specs.declared.hrd.Cpbs.{Cpbs}
@@ -26,6 +27,11 @@ use Rattle.h264_sps.specs.Counting.{counting}
 use Rattle.h264_sps.specs.Hrd.{hrd}
 use Rattle.h264_sps.specs.Sps.{max_dpb_frames, frame_size, frame_cropping}
 use Rattle.h264_sps.specs.Vui.{flagged, vui, chroma_location, timing, bitstream_restriction}
+
+-- what was read of a part that is there
+abbrev pub there : {T : Type 0} → Result T Stop → Result (Option T) Stop
+there (Ok x) = Ok (Some x)
+there (Err e) = Err e
 
 unfoldable pub two_flags : ElementName → ElementName → Grammar (Bool × Bool)
 two_flags first second = do

@@ -12,7 +12,7 @@ ghost use Rattle.h264_sps.specs.Sps.{constraint_set_flags, level, profile_and_le
 
 use crate::count_type::{CountType, read_count_type};
 use crate::sps::{ConstraintSetFlags, FrameCropping, FrameSize, Sps};
-use crate::vui::{Frames, Vui, read_vui};
+use crate::vui::{Frames, Vui, read_vui, there};
 use h264_base::{ElementName, Elements, Feature, Rule, Stop};
 use h264_bits::forms::{flag_value, u_must_be, u_value, ue_up_to};
 use h264_bits::{Bits, check, read_trailing, read_u, read_ue, support};
@@ -284,8 +284,7 @@ fn read_vui_info<S: Elements>(
         max_num_ref_frames,
         max_dpb_frames,
     };
-    let part = read_vui(frames, bits, sink)?;
-    Ok(Some(part))
+    there(read_vui(frames, bits, sink))
 }
 
 /// The set from the cropping flag on.

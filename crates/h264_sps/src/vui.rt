@@ -7,7 +7,7 @@ ghost use Rattle.h264_base.specs.Meets.{Meets, Is};
 ghost use Rattle.h264_base.specs.declared.element_name.ElementName.TheVariants.{AspectRatioInfoPresentFlag, OverscanInfoPresentFlag, OverscanAppropriateFlag, VideoSignalTypePresentFlag, ChromaLocInfoPresentFlag, TimingInfoPresentFlag, LowDelayHrdFlag, BitstreamRestrictionFlag};
 ghost use Rattle.h264_bits.specs.Forms.{flag, optional};
 ghost use Rattle.h264_sps.specs.Hrd.{hrd};
-ghost use Rattle.h264_sps.specs.Parts.{is_buffering_allowed, restriction_from_lengths, restriction_from_reordering, vui_from_location, vui_from_hrd, vui_from_pic_struct};
+ghost use Rattle.h264_sps.specs.Parts.{is_buffering_allowed, restriction_from_lengths, restriction_from_reordering, vui_from_location, vui_from_hrd, vui_from_pic_struct, there as there_of};
 ghost use Rattle.h264_sps.specs.Vui.{extended_ratio, sample_aspect_ratio, colour_description, video_signal_type, chroma_location, timing, bitstream_restriction, flagged, vui};
 
 use crate::hrd::{Hrd, read_hrd};
@@ -130,6 +130,16 @@ pub(crate) struct Buffers {
     nal: Option<Hrd>,
     vcl: Option<Hrd>,
     low_delay: Option<bool>,
+}
+
+/// What was read of a part that is present.
+pub(crate) fn there<T>(part: Result<T, Stop>) -> Result<Option<T>, Stop>
+    ensures { result ≡ there_of part }
+{
+    match part {
+        Ok(part) => Ok(Some(part)),
+        Err(stop) => Err(stop),
+    }
 }
 
 /// sar_width and sar_height, where they are present.
@@ -296,8 +306,7 @@ fn read_overscan_info<S: Elements>(bits: &mut Bits, sink: &mut S) -> Result<Opti
     if !present {
         return Ok(None);
     }
-    let part = flag_value(bits, ElementName::OverscanAppropriateFlag, sink)?;
-    Ok(Some(part))
+    there(flag_value(bits, ElementName::OverscanAppropriateFlag, sink))
 }
 
 /// The kind of video signal, where it is present.
@@ -312,8 +321,7 @@ fn read_signal_info<S: Elements>(
     if !present {
         return Ok(None);
     }
-    let part = read_video_signal_type(bits, sink)?;
-    Ok(Some(part))
+    there(read_video_signal_type(bits, sink))
 }
 
 /// Where chroma samples lie, where it is present.
@@ -368,8 +376,7 @@ fn read_hrd_info<S: Elements>(
     if !present {
         return Ok(None);
     }
-    let part = read_hrd(bits, sink)?;
-    Ok(Some(part))
+    there(read_hrd(bits, sink))
 }
 
 /// Whether HRD parameters of either kind are present.
@@ -391,8 +398,7 @@ fn read_low_delay<S: Elements>(
     if !present {
         return Ok(None);
     }
-    let part = flag_value(bits, ElementName::LowDelayHrdFlag, sink)?;
-    Ok(Some(part))
+    there(flag_value(bits, ElementName::LowDelayHrdFlag, sink))
 }
 
 /// What the stream restricts itself to, where it says so.
@@ -408,8 +414,7 @@ fn read_restriction<S: Elements>(
     if !present {
         return Ok(None);
     }
-    let part = read_bitstream_restriction(frames, bits, sink)?;
-    Ok(Some(part))
+    there(read_bitstream_restriction(frames, bits, sink))
 }
 
 /// The VUI from pic_struct_present_flag on.

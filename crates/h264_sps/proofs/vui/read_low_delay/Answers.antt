@@ -1,17 +1,12 @@
 use Rattle.std.proofs.Common.{refl}
-use Rattle.std.proofs.lemmas.Result.{err_from_is_err_and}
-use Rattle.h264_base.proofs.Steps.{bind, stop, done}
+use Rattle.h264_base.proofs.Steps.{done}
 use Rattle.h264_bits.specs.Forms.{optional}
+use Rattle.h264_sps.proofs.Regroup.{there-either}
 use Rattle.h264_sps.proofs.vui.read_low_delay.Goals as goal
 
 pub returns-then-not-present : goal.returns-then-not-present
 unfolding optional
 returns-then-not-present g c = rw c.if-not-present.true (done _ _ _ _ _ _ _ refl)
 
-pub returns-in_err-part : goal.returns-in_err-part
-unfolding optional
-returns-in_err-part g c = let p = err_from_is_err_and c.from_residual.result c.from_residual.ensures.1 in rw (p.1, p.2) (rw c.if-not-present.false (stop _ c.in_err-part.ensures))
-
 pub returns : goal.returns
-unfolding optional
-returns g c = rw c.if-not-present.false (bind _ c.in_ok-part.ensures (done _ _ _ _ _ _ _ refl))
+returns g c = rw c.if-not-present.false (rw c.there.ensures (there-either _ c.flag_value.ensures))

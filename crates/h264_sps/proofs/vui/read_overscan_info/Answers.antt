@@ -3,6 +3,7 @@ use Rattle.std.proofs.lemmas.Result.{err_from_is_err_and}
 use Rattle.h264_base.proofs.Steps.{bind, stop, done}
 use Rattle.h264_sps.specs.Vui.{flagged}
 use Rattle.h264_bits.specs.Forms.{optional}
+use Rattle.h264_sps.proofs.Regroup.{there-either}
 use Rattle.h264_sps.proofs.vui.read_overscan_info.Goals as goal
 
 pub returns-in_err-present : goal.returns-in_err-present
@@ -13,10 +14,6 @@ pub returns-then-not-present : goal.returns-then-not-present
 unfolding flagged optional
 returns-then-not-present g c = bind _ c.in_ok-present.ensures (rw c.if-not-present.true (done _ _ _ _ _ _ _ refl))
 
-pub returns-in_err-part : goal.returns-in_err-part
-unfolding flagged optional
-returns-in_err-part g c = let p = err_from_is_err_and c.from_residual-in_err-part.result c.from_residual-in_err-part.ensures.1 in rw (p.1, p.2) (bind _ c.in_ok-present.ensures (rw c.if-not-present.false (stop _ c.in_err-part.ensures)))
-
 pub returns : goal.returns
-unfolding flagged optional
-returns g c = bind _ c.in_ok-present.ensures (rw c.if-not-present.false (bind _ c.in_ok-part.ensures (done _ _ _ _ _ _ _ refl)))
+unfolding flagged
+returns g c = bind _ c.in_ok-present.ensures (rw c.if-not-present.false (rw c.there.ensures (there-either _ c.flag_value-2.ensures)))
