@@ -4,6 +4,9 @@ use Rattle.h264_inter.specs.Reference.{whole, parts}
 use Rattle.h264_inter.proofs.Shown.{component, luma_is, picture_shows, span_inside}
 use Rattle.h264_inter.proofs.luma_samples.luma_by_kernel.Goals as goal
 
+pub natural-requires : goal.natural-requires
+natural-requires g c = c.if-is_inside.ensures.low refl
+
 pub natural-requires-then-is_inside-2 : goal.natural-requires-then-is_inside-2
 natural-requires-then-is_inside-2 g c = c.if-is_inside-2.ensures.low refl
 
