@@ -1,15 +1,12 @@
 -- Predicted samples depend on the reference picture's samples alone.
-use Rattle.std.proofs.Common.{◌≡◌, ℕ, ◌-◌, ◌<◌, arith, ℤ, pos, negsuc, ◌+ℤ◌, ◌-ℤ◌}
+use Rattle.std.proofs.Common.{◌≡◌, ℕ, ◌-◌, ◌<◌, arith, ℤ, pos, ◌+ℤ◌, ◌-ℤ◌}
 use Rattle.h264_inter.specs.Reference.{clip, reference, whole}
 use Rattle.h264_inter.specs.Luma.{quarter, predicted_luma}
 use Rattle.h264_inter.specs.Chroma.{eighth, predicted_chroma}
 use Rattle.h264_inter.specs.declared.vector.MotionVector.{MotionVector}
+use Rattle.h264_inter.proofs.Copies.{clip_inside}
 use Rattle.h264_inter.proofs.Same.{quarter_same}
 use Rattle.h264_inter.proofs.Eighths.{eighth_same}
-
-clip_inside : (n : ℕ) (z : ℤ) → 0 < n → clip (n - 1) z < n
-clip_inside n (pos m) p = omega arith
-clip_inside n (negsuc m) p = p
 
 pub reference_same : (w h : ℕ) (s t : ℕ → ℕ → ℕ) (x y : ℤ) → 0 < w → 0 < h → ((i j : ℕ) → i < w → j < h → s i j ≡ t i j) → reference w h s x y ≡ reference w h t x y
 unfolding reference

@@ -4,7 +4,7 @@ use Rattle.std.proofs.lemmas.Bool.{cases_lt}
 use Rattle.std.proofs.lemmas.Bool.Decides.{nat_tests}
 use Rattle.h264_plane.specs.Samples.{Samples, at}
 use Rattle.h264_inter.specs.Luma.{quarter, mean, half, central, taps, across, down, middle, six}
-use Rattle.h264_inter.specs.Rows.{IsRow, LastFive, AllSix, LastFiveOfBoth, AllSixOfBoth, IsPair, ArePairs, partner}
+use Rattle.h264_inter.specs.Rows.{IsRow, LastFive, AllSix, LastFiveOfBoth, AllSixOfBoth, AreUpTo, IsPair, ArePairs, partner}
 use Rattle.h264_inter.specs.declared.window.Pair.{Pair}
 use Rattle.h264_inter.specs.declared.window.Pairs.{Pairs}
 use Rattle.h264_inter.specs.declared.window.Window.{Window}
@@ -36,6 +36,31 @@ pub both_moved : (b : Bool) (width : ℕ) (p : Samples) (x c y z : ℕ) (w : Win
 both_moved b width p x c y z w e h = record {
   left = moved b p x c y z w.left e h.left;
   right = λ more. moved b p (x + 8) c y z w.right e (h.right more);
+}
+
+-- the same windows by another number of their row
+pub both_at : (b : Bool) (width : ℕ) (p : Samples) (x c y z : ℕ) (w : Windows) → y ≡ z → LastFiveOfBoth b width p x c y w → LastFiveOfBoth b width p x c z w
+both_at b width p x c y z w e h = rw (← e) h
+
+-- how large the numbers of a window are
+pub sums_up_to : (p : Samples) (x c y : ℕ) (w : Window) → AllSix true p x c y w → AreUpTo 13260 w
+sums_up_to p x c y w s = record {
+  e = s.e.small;
+  f = s.f.small;
+  g = s.g.small;
+  h = s.h.small;
+  i = s.i.small;
+  j = s.j.small;
+}
+
+pub samples_up_to : (p : Samples) (x c y : ℕ) (w : Window) → AllSix false p x c y w → AreUpTo 255 w
+samples_up_to p x c y w s = record {
+  e = λ u q. (omega (arith, s.e.small u q));
+  f = λ u q. (omega (arith, s.f.small u q));
+  g = λ u q. (omega (arith, s.g.small u q));
+  h = λ u q. (omega (arith, s.h.small u q));
+  i = λ u q. (omega (arith, s.i.small u q));
+  j = λ u q. (omega (arith, s.j.small u q));
 }
 
 -- pairs of a row by another place that it is counted from

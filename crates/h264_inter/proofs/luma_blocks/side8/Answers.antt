@@ -1,8 +1,26 @@
 use Rattle.std.proofs.Common.{◌≡◌, ◌≢◌, ℕ, ◌+◌, List, slice_index, get_or, arith, ap, ◌∙◌}
 use Rattle.h264_plane.specs.Samples.{at}
 use Rattle.h264_inter.specs.Luma.{across, down, half, mean}
-use Rattle.h264_inter.proofs.Moved.{partner_left, partner_right, place_d, place_h, place_n, place_e_or_g, place_p, place_r}
+use Rattle.h264_inter.proofs.Moved.{partner_left, partner_right, place_d, place_h, place_n, place_e_or_g, place_p, place_r, samples_up_to}
 use Rattle.h264_inter.proofs.luma_blocks.side8.Goals as goal
+
+pub h8-requires : goal.h8-requires
+h8-requires g c = record { samples = samples_up_to _ _ _ _ _ c.requires.window }
+
+pub h8-requires-then-this-eq2-2 : goal.h8-requires-then-this-eq2-2
+h8-requires-then-this-eq2-2 g c = record { samples = samples_up_to _ _ _ _ _ c.requires.window }
+
+pub h8-requires-else-this-eq2-2 : goal.h8-requires-else-this-eq2-2
+h8-requires-else-this-eq2-2 g c = record { samples = samples_up_to _ _ _ _ _ c.requires.window }
+
+pub h8-requires-then-this-eq1-3 : goal.h8-requires-then-this-eq1-3
+h8-requires-then-this-eq1-3 g c = record { samples = samples_up_to _ _ _ _ _ c.requires.window }
+
+pub h8-requires-then-this-eq1-4 : goal.h8-requires-then-this-eq1-4
+h8-requires-then-this-eq1-4 g c = record { samples = samples_up_to _ _ _ _ _ c.requires.window }
+
+pub h8-requires-else-this-eq1-4 : goal.h8-requires-else-this-eq1-4
+h8-requires-else-this-eq1-4 g c = record { samples = samples_up_to _ _ _ _ _ c.requires.window }
 
 pub returns-then-this-eq1-2 : goal.returns-then-this-eq1-2
 unfolding down
