@@ -1,5 +1,7 @@
 -- The steps of a session one after another, with frames to which more come.
-use Rattle.std.proofs.Common.{◌≡◌, ℕ, ◌≤◌, false, IsFalse, drop, List, [], ◌++◌, length, ◌+◌, ◌*◌, Option, Result, Ok, refl, ◌∙◌, subst, arith}
+use Rattle.std.proofs.Common.{◌≡◌, ℕ, ◌≤◌, ◌==◌, true, false, IsFalse, drop, List, [], ◌∷◌, ◌++◌, length, ◌+◌, ◌*◌, Option, Result, Ok, refl, ◌∙◌, subst, arith}
+use Rattle.std.proofs.lemmas.Bool.{eqb-true}
+use Rattle.std.proofs.lemmas.List.{nil_from_length}
 use Rattle.h264_base.specs.declared.mode.Mode.{Mode}
 use Rattle.h264_base.specs.declared.stop.Stop.{Stop}
 use Rattle.h264_base.specs.Call.{Call}
@@ -75,6 +77,13 @@ on-then {mode} {took} {frames} {old} {mid} {first} {a} {b} {s0} {s1} f g =
 pub on-none : {S : Type 0} (mode : Mode) (took : S → List Call → Type 0) (frames : ℕ → Frame) (split : Splitting) (before : History) (state : State) (piece : List ℕ) (s : S) → Keeps mode frames before state → GoesOn mode took frames (behind split before) split state piece piece s s
 unfolding goes-none
 on-none mode took frames split before state piece s k = record { made = frames; same = agree-none (ended_in before) frames; after = before; grows = not-less (ended_in before); keeps = k; goes = goes-none (judging mode) (took_with frames took) (behind split before) piece s; of = tt }
+
+-- nothing of the piece is left
+pub on-end : {S : Type 0} {mode : Mode} {took : S → List Call → Type 0} {frames : ℕ → Frame} {old : Standing History} {split : Splitting} {state : State} {piece rest : List ℕ} {s s' : S} → rest ≡ [] → GoesOn mode took frames old split state piece rest s s' → GoesOn mode took frames old split state piece [] s s'
+on-end {mode} {took} {frames} {old} {split} {state} {piece} {s} {s'} e g = subst (λ left. GoesOn mode took frames old split state piece left s s') e g
+
+pub none-left : (rest : List ℕ) → (length rest == 0) ≡ true → rest ≡ []
+none-left rest e = nil_from_length rest (eqb-true (length rest) 0 e)
 
 -- no unit has come yet
 pub on-push : {S : Type 0} (mode : Mode) (took : S → List Call → Type 0) (frames : ℕ → Frame) (before : History) (state : State) (s : S) {old mid new : Splitting} {piece : List ℕ} {n : ℕ} → Pushed old mid piece n → new ≡ mid → Keeps mode frames before state → GoesOn mode took frames (behind old before) new state piece (drop n piece) s s

@@ -1,6 +1,6 @@
-use Rattle.std.proofs.Common.{refl, ◌∙◌}
+use Rattle.std.proofs.Common.{refl, sym, ◌∙◌}
 use Rattle.std.proofs.lemmas.Result.{err_from_is_err_and}
-use Rattle.h264_verify.proofs.Familiar.{on-both, on-stops, on-none, on-keeps}
+use Rattle.h264_verify.proofs.Familiar.{on-both, on-stops, on-none, on-end, none-left, on-keeps}
 use Rattle.h264_verify.proofs.session.feed_all.Goals as goal
 
 pub loop-rest-init : goal.loop-rest-init
@@ -31,3 +31,9 @@ loop-rest-preserved g c = record {
   pictures = c.in_ok-n.ensures.pictures;
   kept = c.in_ok-n.ensures.kept ∙ c.loop-rest.invariant.kept;
 }
+
+pub returns-clause-goes : goal.returns-clause-goes
+returns-clause-goes g c = λ frames before k. on-end (none-left c.loop-rest.rest.now (sym c.is_empty.ensures ∙ c.loop-rest-test.false)) (c.loop-rest.invariant.goes frames before k)
+
+pub returns-clause-undecided : goal.returns-clause-undecided
+returns-clause-undecided g c = c.loop-rest.invariant.undecided
