@@ -111,8 +111,13 @@ pub fn run<R: Source, S: FrameSink>(
         Ok(session) => session,
         Err(stop) => return Err(stop),
     };
-    read_all(source, &mut session, sink)?;
-    session.conclude(sink)
+    match read_all(source, &mut session, sink) {
+        Ok(()) => session.conclude(sink),
+        Err(stop) => {
+            session.close();
+            Err(stop)
+        }
+    }
 }
 
 /// The verdict on a stream that comes in these pieces: that of their bytes, however they were cut.
@@ -130,7 +135,13 @@ pub fn run_pieces<S: FrameSink>(
         Err(stop) => return Err(stop),
     };
     for piece in pieces {
-        session.advance(piece.as_slice(), sink)?;
+        match session.advance(piece.as_slice(), sink) {
+            Ok(()) => {}
+            Err(stop) => {
+                session.close();
+                return Err(stop);
+            }
+        }
     }
     session.conclude(sink)
 }

@@ -210,6 +210,9 @@ impl Session {
         finish_all(self.alloc, self.mode, &mut splitter, &mut state, sink)
     }
 
+    /// Lets go of what it holds, in one place for all ways out.
+    pub(crate) fn close(self) {}
+
     /// Judges the next piece of the input. Err: the stop of the stream, Memory where a growth was refused, Write where the
     /// sink failed; from then on each call answers it again.
     pub fn feed<S: FrameSink>(&mut self, piece: &[u8], sink: &mut S) -> Result<(), Stop>
@@ -238,9 +241,12 @@ impl Session {
         ensures no_read { self.stop ≡ None → IsErrOf result Stop.Read → ⊥ }
         ensures again { IfSome self.stop (λ stop. (result ≡ Err stop) × (sink.new ≡ sink.old)) }
     {
-        if let Some(stop) = self.stop {
-            return Err(stop);
+        match self.stop {
+            Some(stop) => {
+                self.close();
+                Err(stop)
+            }
+            None => self.conclude(sink),
         }
-        self.conclude(sink)
     }
 }

@@ -3,6 +3,7 @@
 
 ghost use Rattle.std.specs.Prelude.{◌≡◌, true, false, IsTrue, ℕ, ◌+◌, ◌-◌, ◌*◌, ◌<◌, ◌≤◌, ◌^◌, List, [], ◌∷◌, length, ◌==◌, ◌||◌, OnOk, IfOk, IfErr, IsErrOf, Ok, Err, if◌then◌else◌};
 ghost use Rattle.std.specs.Option.{is_some};
+ghost use Rattle.h264_rbsp.specs.Rbsp.{body_of};
 ghost use Rattle.h264_header.specs.Layout.{sets_of};
 ghost use Rattle.h264_units.specs.Stream.{NalUnit as UnitView};
 ghost use Rattle.h264_verify.specs.Outcome.{Plays, tells};
@@ -232,6 +233,53 @@ fn join_slice<S: FrameSink>(
     Ok(())
 }
 
+/// The header of a slice and its slice data are read from the first bit of its unit and judged, and the slice joins those before it.
+fn join_read<S: FrameSink>(
+    state: &mut State,
+    header: u8,
+    unit: &NalUnit,
+    bits: &mut Bits,
+    sink: &mut S,
+) -> Result<(), Stop>
+    requires first { bits.old ≡ record { body = body_of unit.now; at = 0 } }
+    requires room { S.failures sink.old < 2 ^ 64 - 1 }
+    requires units { state.old.units ≤ 2 ^ 40 }
+    requires pictures { state.old.slices.pictures ≤ state.old.units }
+    requires goes_on { ends_picture (nal_unit_type header) ≡ false }
+    requires header { header ≡ header_of unit.now }
+    requires fits { fits_kind (nal_unit_type header) (nal_ref_idc header) ≡ true }
+    requires kept { KeepsSome modes.Full false state.old }
+    ensures joins { (frames : ℕ → Frame) (before : History) → KeepsWithin modes.Full frames before (ends_picture (nal_unit_type header)) state.old → Joins modes.Full S.took S.failures frames (ended_in before) (whole_slice before unit.now) state.new sink.old sink.new result }
+    ensures counts { OnOk result (state.new.units ≡ state.old.units + 1) }
+    ensures pictures { OnOk result (state.new.slices.pictures ≤ state.new.units) }
+    ensures kept { OnOk result (S.failures sink.new ≡ S.failures sink.old) }
+{
+    let slice_unit = slice_unit(header);
+    read_header(bits, &state.sets, slice_unit, &mut state.header, sink)?;
+    let begins = begins(&state.slices.picture, &state.header);
+    judge_slice(
+        Mode::Full,
+        begins,
+        &mut state.slices,
+        &mut state.sets,
+        &mut state.decoder,
+        unit,
+        &mut state.header,
+        sink,
+    )?;
+    read_data(
+        begins,
+        &state.slices.held,
+        &state.sets,
+        &state.header,
+        &mut state.decoder,
+        bits,
+        sink,
+    )?;
+    state.units += 1;
+    Ok(())
+}
+
 /// A slice with its slice data is read and judged, and joins those before it.
 fn join_whole_slice<S: FrameSink>(
     alloc: Global,
@@ -254,30 +302,7 @@ fn join_whole_slice<S: FrameSink>(
 {
     let rbsp = Rbsp::of(alloc, unit)?;
     let mut bits = Bits::new(&rbsp);
-    let slice_unit = slice_unit(header);
-    read_header(&mut bits, &state.sets, slice_unit, &mut state.header, sink)?;
-    let begins = begins(&state.slices.picture, &state.header);
-    judge_slice(
-        Mode::Full,
-        begins,
-        &mut state.slices,
-        &mut state.sets,
-        &mut state.decoder,
-        unit,
-        &mut state.header,
-        sink,
-    )?;
-    read_data(
-        begins,
-        &state.slices.held,
-        &state.sets,
-        &state.header,
-        &mut state.decoder,
-        &mut bits,
-        sink,
-    )?;
-    state.units += 1;
-    Ok(())
+    join_read(state, header, unit, &mut bits, sink)
 }
 
 /// Whether a unit of this type is a slice, at which no picture ends before its elements.
