@@ -120,6 +120,9 @@ fn finish_all<S: FrameSink>(
     }
 }
 
+/// Lets go of what a session holds, in one place for all ways out.
+fn let_go(_splitter: Splitter, _state: State) {}
+
 /// A stream that is judged as it comes.
 #[derive(Drop)]
 pub struct Session {
@@ -207,11 +210,15 @@ impl Session {
     {
         let mut splitter = self.splitter;
         let mut state = self.state;
-        finish_all(self.alloc, self.mode, &mut splitter, &mut state, sink)
+        let judged = finish_all(self.alloc, self.mode, &mut splitter, &mut state, sink);
+        let_go(splitter, state);
+        judged
     }
 
-    /// Lets go of what it holds, in one place for all ways out.
-    pub(crate) fn close(self) {}
+    /// Lets go of what it holds.
+    pub(crate) fn close(self) {
+        let_go(self.splitter, self.state)
+    }
 
     /// Judges the next piece of the input. Err: the stop of the stream, Memory where a growth was refused, Write where the
     /// sink failed; from then on each call answers it again.
