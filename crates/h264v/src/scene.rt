@@ -303,6 +303,17 @@ fn write_macroblock(
     }
 }
 
+/// Writes the last elements of a slice's header: its quantisation parameter, and how its edges are filtered (7.3.3).
+fn write_qp_and_filter(writer: &mut Writer, slice: &Slice) -> Result<(), AllocError> {
+    writer.se(i32::from(slice.qp) - 26)?;
+    writer.ue(u32::from(slice.disable_deblocking_filter_idc))?;
+    if slice.disable_deblocking_filter_idc == 1 {
+        return Ok(());
+    }
+    writer.se(i32::from(slice.slice_alpha_c0_offset_div2))?;
+    writer.se(i32::from(slice.slice_beta_offset_div2))
+}
+
 /// Writes the header of the slice whose first macroblock has this address (7.3.3).
 fn write_header(
     writer: &mut Writer,
@@ -325,12 +336,22 @@ fn write_header(
     }
     // dec_ref_pic_marking
     writer.u(if frame_num == 0 { 2 } else { 1 }, 0)?;
-    writer.se(i32::from(slice.qp) - 26)?;
-    writer.ue(u32::from(slice.disable_deblocking_filter_idc))?;
-    if slice.disable_deblocking_filter_idc != 1 {
-        writer.se(i32::from(slice.slice_alpha_c0_offset_div2))?;
-        writer.se(i32::from(slice.slice_beta_offset_div2))?;
-    }
+    write_qp_and_filter(writer, slice)
+}
+
+/// Adds a unit of the byte stream with these bytes behind its header, the last of which is not 0.
+fn add_bytes(
+    rt: &(impl Abort + AllocGlobal),
+    stream: &mut Vec<u8>,
+    header: u8,
+    bytes: &[u8],
+) -> Result<(), Fail>
+    requires { 0 < header }
+{
+    assert!(rt; bytes.len() > 0);
+    assert_ne!(rt; bytes[bytes.len() - 1], 0);
+    stream.extend_from_slice(&[0, 0, 0, 1])?;
+    stream.extend_from_slice(&unit(rt.alloc(), header, bytes)?)?;
     Ok(())
 }
 
@@ -339,26 +360,17 @@ fn add_unit(
     rt: &(impl Abort + AllocGlobal),
     stream: &mut Vec<u8>,
     header: u8,
-    mut writer: Writer,
+    writer: &mut Writer,
 ) -> Result<(), Fail>
     requires { 0 < header }
 {
     writer.trailing()?;
     let bytes = writer.bytes(rt.alloc())?;
-    assert!(rt; bytes.len() > 0);
-    assert_ne!(rt; bytes[bytes.len() - 1], 0);
-    stream.extend_from_slice(&[0, 0, 0, 1])?;
-    stream.extend_from_slice(&unit(rt.alloc(), header, &bytes)?)?;
-    Ok(())
+    add_bytes(rt, stream, header, &bytes)
 }
 
-/// Adds a sequence parameter set of level 1, with counts in decoding order and one reference frame (7.3.2.1.1).
-fn add_sps(
-    rt: &(impl Abort + AllocGlobal),
-    stream: &mut Vec<u8>,
-    scene: &Scene,
-) -> Result<(), Fail> {
-    let mut sps = Writer::new(rt.alloc());
+/// Writes a sequence parameter set of level 1, with counts in decoding order and one reference frame (7.3.2.1.1).
+fn write_sps(sps: &mut Writer, scene: &Scene) -> Result<(), AllocError> {
     sps.u(24, 0x42_C0_0A)?;
     // seq_parameter_set_id, log2_max_frame_num_minus4, pic_order_cnt_type, max_num_ref_frames, gaps_in_frame_num_value_allowed_flag
     sps.ue(0)?;
@@ -369,17 +381,22 @@ fn add_sps(
     sps.ue(u32::from(scene.across.saturating_sub(1)))?;
     sps.ue(u32::from(scene.down.saturating_sub(1)))?;
     // frame_mbs_only_flag, direct_8x8_inference_flag, no cropping, no VUI
-    sps.u(4, 0b1100)?;
-    add_unit(rt, stream, 0x67, sps)
+    sps.u(4, 0b1100)
 }
 
-/// Adds a picture parameter set (7.3.2.2).
-fn add_pps(
+/// Adds the sequence parameter set.
+fn add_sps(
     rt: &(impl Abort + AllocGlobal),
     stream: &mut Vec<u8>,
     scene: &Scene,
 ) -> Result<(), Fail> {
-    let mut pps = Writer::new(rt.alloc());
+    let mut sps = Writer::new(rt.alloc());
+    write_sps(&mut sps, scene)?;
+    add_unit(rt, stream, 0x67, &mut sps)
+}
+
+/// Writes a picture parameter set (7.3.2.2).
+fn write_pps(pps: &mut Writer, scene: &Scene) -> Result<(), AllocError> {
     // both ids; entropy_coding_mode_flag, bottom_field_pic_order_in_frame_present_flag; num_slice_groups_minus1,
     // num_ref_idx_l0_default_active_minus1 and that of l1; weighted_pred_flag, weighted_bipred_idc; pic_init_qp_minus26, pic_init_qs_minus26
     pps.u(12, 0b11_00_111_000_11)?;
@@ -387,8 +404,18 @@ fn add_pps(
     // deblocking_filter_control_present_flag
     pps.u(1, 1)?;
     pps.u(1, u32::from(scene.constrained_intra_pred_flag))?;
-    pps.u(1, 0)?;
-    add_unit(rt, stream, 0x68, pps)
+    pps.u(1, 0)
+}
+
+/// Adds the picture parameter set.
+fn add_pps(
+    rt: &(impl Abort + AllocGlobal),
+    stream: &mut Vec<u8>,
+    scene: &Scene,
+) -> Result<(), Fail> {
+    let mut pps = Writer::new(rt.alloc());
+    write_pps(&mut pps, scene)?;
+    add_unit(rt, stream, 0x68, &mut pps)
 }
 
 /// The stream of these pictures.
@@ -402,7 +429,42 @@ pub fn stream_of(rt: &(impl Abort + AllocGlobal), scene: &Scene) -> Result<Vec<u
     Ok(stream)
 }
 
+/// Writes the slice of this number (7.3.2.8).
+fn write_slice(
+    writer: &mut Writer,
+    picture: &Picture,
+    slice: &Slice,
+    number: usize,
+    frame_num: usize,
+) -> Result<(), AllocError> {
+    let first = picture.all.iter().position(|own| own.number == number);
+    write_header(writer, slice, first.unwrap_or(0), frame_num)?;
+    for (address, own) in picture.all.iter().enumerate() {
+        if own.number == number {
+            write_macroblock(writer, picture, address, own)?;
+        }
+    }
+    Ok(())
+}
+
 /// Adds the slices of a picture.
+fn add_slices(
+    rt: &(impl Abort + AllocGlobal),
+    stream: &mut Vec<u8>,
+    picture: &Picture,
+    slices: &[Slice],
+    frame_num: usize,
+) -> Result<(), Fail> {
+    let header = if frame_num == 0 { 0x65 } else { 0x61 };
+    for (number, slice) in slices.iter().enumerate() {
+        let mut writer = Writer::new(rt.alloc());
+        write_slice(&mut writer, picture, slice, number, frame_num)?;
+        add_unit(rt, stream, header, &mut writer)?;
+    }
+    Ok(())
+}
+
+/// Adds a picture.
 fn add_picture(
     rt: &(impl Abort + AllocGlobal),
     stream: &mut Vec<u8>,
@@ -411,16 +473,5 @@ fn add_picture(
     frame_num: usize,
 ) -> Result<(), Fail> {
     let picture = Picture::new(rt.alloc(), scene, slices)?;
-    for (number, slice) in slices.iter().enumerate() {
-        let mut writer = Writer::new(rt.alloc());
-        let first = picture.all.iter().position(|own| own.number == number);
-        write_header(&mut writer, slice, first.unwrap_or(0), frame_num)?;
-        for (address, own) in picture.all.iter().enumerate() {
-            if own.number == number {
-                write_macroblock(&mut writer, &picture, address, own)?;
-            }
-        }
-        add_unit(rt, stream, if frame_num == 0 { 0x65 } else { 0x61 }, writer)?;
-    }
-    Ok(())
+    add_slices(rt, stream, &picture, slices, frame_num)
 }

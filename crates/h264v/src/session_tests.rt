@@ -8,6 +8,7 @@ use h264_dpb::{FrameOut, Rectangle};
 use h264_plane::Frame;
 use h264_verify::running::run_pieces;
 use h264_verify::{FrameSink, Session, Source, Summary, laws, run};
+use std::alloc::Global;
 use std::process::Abort;
 use std::test::Fail;
 
@@ -106,18 +107,24 @@ fn a_session(rt: HostRuntime) -> Result<(), Fail> {
     Ok(())
 }
 
-#[test]
-fn pieces(rt: HostRuntime) -> Result<(), Fail> {
-    let alloc = rt.alloc();
-    let mut pieces: Vec<Vec<u8>> = Vec::new(alloc);
-    for piece in [&STREAM[..2], &STREAM[2..30], &STREAM[30..]] {
-        pieces.push(Vec::from_slice(alloc, piece)?)?;
-    }
+/// The headers of a stream that comes in these pieces.
+fn headers_of_pieces(rt: &(impl Abort + AllocGlobal), pieces: &[Vec<u8>]) -> Result<(), Fail> {
     let mut sink = nothing_told();
-    let summary = run_pieces(alloc, pieces.as_slice(), &mut sink, Mode::Headers)?;
+    let summary = run_pieces(rt.alloc(), pieces, &mut sink, Mode::Headers)?;
     assert_eq!(rt; summary, SUMMARY);
     assert_eq!(rt; sink.slices, 2);
     Ok(())
+}
+
+#[test]
+fn pieces(rt: HostRuntime) -> Result<(), Fail> {
+    let alloc = rt.alloc();
+    let pieces = [
+        Vec::from_slice(alloc, &STREAM[..2])?,
+        Vec::from_slice(alloc, &STREAM[2..30])?,
+        Vec::from_slice(alloc, &STREAM[30..])?,
+    ];
+    headers_of_pieces(&rt, &pieces)
 }
 
 /// A unit that was told.
@@ -275,32 +282,42 @@ fn a_source(rt: HostRuntime) -> Result<(), Fail> {
     Ok(())
 }
 
-/// Stops where a sink is told the first element, which it refuses.
-fn refused(rt: &(impl Abort + AllocGlobal)) -> Result<(), Fail> {
-    let alloc = rt.alloc();
-    let mut other = Units {
+/// A sink that keeps nothing yet.
+fn none_kept(alloc: Global) -> Units
+    ensures { result.failures ≡ 0 }
+{
+    Units {
         told: Vec::new(alloc),
         failures: 0,
-    };
-    let stop = run(alloc, &mut source_of(STREAM), &mut other, Mode::Units).err();
+    }
+}
+
+/// Stops where a sink is told the first element, which it refuses.
+fn refused(rt: &(impl Abort + AllocGlobal)) -> Result<(), Fail> {
+    let mut other = none_kept(rt.alloc());
+    let stop = run(rt.alloc(), &mut source_of(STREAM), &mut other, Mode::Units).err();
     assert!(rt; matches!(stop, Some(Stop::Write)));
     assert_eq!(rt; other.told.len(), 1);
     assert_eq!(rt; other.failures, 1);
     Ok(())
 }
 
-#[test]
-fn units_kept(rt: HostRuntime) -> Result<(), Fail> {
-    let alloc = rt.alloc();
-    let mut sink = Units {
-        told: Vec::new(alloc),
-        failures: 0,
-    };
-    let summary = run(alloc, &mut source_of(DELIMITERS), &mut sink, Mode::Units)?;
+/// The units that a sink keeps which has kept none.
+fn keep_units(rt: &(impl Abort + AllocGlobal), sink: &mut Units) -> Result<(), Fail>
+    requires { sink.old.failures ≡ 0 }
+{
+    let summary = run(rt.alloc(), &mut source_of(DELIMITERS), sink, Mode::Units)?;
     assert_eq!(rt; summary.units, 3);
     assert_eq!(rt; sink.told.len(), 3);
     assert_eq!(rt; sink.told[1].byte, 8);
     assert_eq!(rt; sink.told[2].nal_unit_type, 10);
     assert_eq!(rt; sink.told[2].length, 1);
+    Ok(())
+}
+
+#[test]
+fn units_kept(rt: HostRuntime) -> Result<(), Fail> {
+    let mut sink = none_kept(rt.alloc());
+    keep_units(&rt, &mut sink)?;
     refused(&rt)
 }

@@ -552,20 +552,29 @@ const FAULTS: [Fault; 13] = [
     },
 ];
 
+/// That this text says so.
+fn check_says(rt: &impl Abort, text: Vec<u8>, says: &str) -> Result<(), Fail> {
+    let text = String::from_utf8(text)?;
+    assert!(rt; text.as_str().contains(says), "{text}");
+    Ok(())
+}
+
 /// Words that ask for nothing that there is: a text on standard error that says why or how to ask, and nothing on standard output.
-fn faults_of_the_words(rt: &(impl Abort + AllocGlobal)) -> Result<(), Fail> {
+fn fault_of(rt: &(impl Abort + AllocGlobal), words: &[String], says: &str) -> Result<(), Fail> {
     let alloc = rt.alloc();
+    let mut files = OpenedFiles::new(whole(ONE_FRAME));
+    let mut out: WriteDevice<Vec<u8>> = WriteDevice::new(Vec::new(alloc));
+    let mut err: WriteDevice<Vec<u8>> = WriteDevice::new(Vec::new(alloc));
+    let status = command(alloc, words, &mut files, &mut out, &mut err);
+    assert_eq!(rt; status, 64);
+    assert!(rt; out.writer.is_empty());
+    check_says(rt, err.writer, says)
+}
+
+fn faults_of_the_words(rt: &(impl Abort + AllocGlobal)) -> Result<(), Fail> {
     for fault in &FAULTS {
-        let words = words(alloc, fault.words)?;
-        let mut files = OpenedFiles::new(whole(ONE_FRAME));
-        let mut out: WriteDevice<Vec<u8>> = WriteDevice::new(Vec::new(alloc));
-        let mut err: WriteDevice<Vec<u8>> = WriteDevice::new(Vec::new(alloc));
-        let status = command(alloc, words.as_slice(), &mut files, &mut out, &mut err);
-        assert_eq!(rt; status, 64);
-        assert!(rt; out.writer.is_empty());
-        let WriteDevice { writer: err, .. } = err;
-        let text = String::from_utf8(err)?;
-        assert!(rt; text.as_str().contains(fault.says), "{text}");
+        let words = words(rt.alloc(), fault.words)?;
+        fault_of(rt, words.as_slice(), fault.says)?;
     }
     Ok(())
 }
