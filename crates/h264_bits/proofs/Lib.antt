@@ -3,6 +3,7 @@ pub mod Upcomings
 pub mod Clear
 pub mod Readings
 pub mod Tables
+pub mod Each
 pub mod Elements
 pub mod Supported
 pub mod Repeated

@@ -74,3 +74,10 @@ repeated part before zero = Done before
 repeated part before (suc n) = do
   x ← part
   repeated part (before ++ x ∷ []) n
+
+-- an element of this form under each name in turn, after these
+unfoldable pub each : {A : Type 0} → (ElementName → Grammar A) → List A → List ElementName → Grammar (List A)
+each form before [] = Done before
+each form before (name ∷ names) = do
+  x ← form name
+  each form (before ++ x ∷ []) names

@@ -3,9 +3,9 @@
 //! Each reads one element, tells it to the sink, and answers its value, or the rule that it breaks at its first bit.
 #![tactic(auto)]
 
-ghost use Rattle.std.specs.Prelude.{◌≡◌, ℕ, ◌-◌, ◌<◌, ◌≤◌, ◌≤ℤ◌, ◌^◌, IfOk};
+ghost use Rattle.std.specs.Prelude.{◌≡◌, ℕ, ◌-◌, ◌<◌, ◌≤◌, ◌≤ℤ◌, ◌^◌, [], IfOk};
 ghost use Rattle.h264_base.specs.Meets.{Meets, Is};
-ghost use Rattle.h264_bits.specs.Forms.{bits as bits_form, unsigned, flag, unsigned_to, signed, signed_within, bits_must_be, unsigned_must_be_0};
+ghost use Rattle.h264_bits.specs.Forms.{bits as bits_form, unsigned, flag, unsigned_to, signed, signed_within, bits_must_be, unsigned_must_be_0, each};
 
 use crate::{Bits, check, read_se, read_u, read_ue};
 use h264_base::{ElementName, Elements, Rule, Stop};
@@ -23,6 +23,24 @@ pub fn u_value<const N: u32, S: Elements>(
 {
     let number = read_u::<N, S>(bits, name, sink)?;
     Ok(number.value)
+}
+
+/// Reads u(N) under each name in turn: the values in the order of the names.
+pub fn u_values<const N: u32, const K: usize, S: Elements>(
+    bits: &mut Bits,
+    names: [ElementName; K],
+    sink: &mut S,
+) -> Result<[u32; K], Stop>
+    requires width { N ≤ 32 }
+    requires room { S.failures sink.old < 2 ^ 64 - 1 }
+    ensures { Meets S.took S.failures (Is (λ x. x)) (each (λ name. bits_form name N) [] names.entry) bits.old bits.new sink.old sink.new result }
+{
+    let mut values = [0; K];
+    for i in 0..K {
+        let value = u_value::<N, S>(bits, names[i], sink)?;
+        values[i] = value;
+    }
+    Ok(values)
 }
 
 /// Reads a flag, u(1): whether it is 1.
@@ -45,6 +63,23 @@ pub fn ue_value<S: Elements>(bits: &mut Bits, name: ElementName, sink: &mut S) -
 {
     let code_num = read_ue(bits, name, sink)?;
     Ok(code_num.value)
+}
+
+/// Reads ue(v) under each name in turn: the values in the order of the names.
+pub fn ue_values<const K: usize, S: Elements>(
+    bits: &mut Bits,
+    names: [ElementName; K],
+    sink: &mut S,
+) -> Result<[u32; K], Stop>
+    requires { S.failures sink.old < 2 ^ 64 - 1 }
+    ensures { Meets S.took S.failures (Is (λ x. x)) (each unsigned [] names.entry) bits.old bits.new sink.old sink.new result }
+{
+    let mut values = [0; K];
+    for i in 0..K {
+        let value = ue_value(bits, names[i], sink)?;
+        values[i] = value;
+    }
+    Ok(values)
 }
 
 /// Reads ue(v) of at most `max`; a greater value breaks Range.

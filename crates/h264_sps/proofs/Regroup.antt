@@ -1,22 +1,31 @@
 -- Structures, and the same read part by part.
-use Rattle.std.proofs.Common.{◌≡◌, ℕ, ◌+◌, Bool, true, false, ◌&&◌, cond, List, [], Result, Ok, Err, Option, Some, None, refl}
-use Rattle.h264_base.specs.declared.element_name.ElementName.TheVariants.{ConstraintSet0Flag, ConstraintSet1Flag, ConstraintSet2Flag, ConstraintSet3Flag, ConstraintSet4Flag, ConstraintSet5Flag, FrameCropLeftOffset, FrameCropRightOffset, FrameCropTopOffset, FrameCropBottomOffset, CpbCntMinus1, BitRateScale, CpbSizeScale, InitialCpbRemovalDelayLengthMinus1, CpbRemovalDelayLengthMinus1, DpbOutputDelayLengthMinus1, TimeOffsetLength}
+use Rattle.std.proofs.Common.{◌≡◌, ℕ, ◌+◌, Bool, true, false, ◌&&◌, cond, List, [], ◌∷◌, ◌==◌, get_or, nat_le, Result, Ok, Err, Option, Some, None, refl}
+use Rattle.h264_base.specs.declared.element_name.ElementName.TheVariants.{ConstraintSet0Flag, ConstraintSet1Flag, ConstraintSet2Flag, ConstraintSet3Flag, ConstraintSet4Flag, ConstraintSet5Flag, FrameCropLeftOffset, FrameCropRightOffset, FrameCropTopOffset, FrameCropBottomOffset, CpbCntMinus1, BitRateScale, CpbSizeScale, BitRateValueMinus1, CpbSizeValueMinus1, CbrFlag, SarWidth, SarHeight, ColourPrimaries, TransferCharacteristics, MatrixCoefficients, ChromaSampleLocTypeTopField, ChromaSampleLocTypeBottomField, NumUnitsInTick, TimeScale, FixedFrameRateFlag, MotionVectorsOverPicBoundariesFlag, MaxBytesPerPicDenom, MaxBitsPerMbDenom, Log2MaxMvLengthHorizontal, Log2MaxMvLengthVertical, MaxNumReorderFrames, MaxDecFrameBuffering, InitialCpbRemovalDelayLengthMinus1, CpbRemovalDelayLengthMinus1, DpbOutputDelayLengthMinus1, TimeOffsetLength}
 use Rattle.h264_base.specs.declared.rule.Rule.{Rule}
+use Rattle.h264_base.specs.declared.rule.Rule.TheVariants.{Vui as VuiRule}
+use Rattle.h264_base.specs.Word.{Unsigned}
 use Rattle.h264_base.specs.declared.stop.Stop.{Stop}
 use Rattle.h264_base.specs.Call.{Call}
 use Rattle.h264_base.specs.Body.{Body}
-use Rattle.h264_base.specs.Grammar.{Grammar, Done, ◌>>=◌, read_word, check}
+use Rattle.h264_base.specs.Grammar.{Grammar, Done, ◌>>=◌, element, read_word, check}
 use Rattle.h264_base.specs.Run.{run}
 use Rattle.h264_base.specs.Meets.{Reader, Meets, Is}
 use Rattle.h264_base.proofs.Steps.{bind, stop, done, finish, tells-none}
-use Rattle.h264_bits.specs.Forms.{bits, flag, unsigned_to, optional, repeated}
-use Rattle.h264_sps.specs.declared.hrd.Cpbs.{Cpbs}
+use Rattle.h264_bits.specs.Forms.{natural, bits, unsigned, flag, unsigned_to, optional, repeated, each}
+use Rattle.h264_sps.specs.declared.hrd.Cpb.{Cpb}
 use Rattle.h264_sps.specs.declared.hrd.Hrd.{Hrd}
 use Rattle.h264_sps.specs.declared.sps.ConstraintSetFlags.{ConstraintSetFlags}
 use Rattle.h264_sps.specs.declared.sps.FrameCropping.{FrameCropping}
 use Rattle.h264_sps.specs.declared.sps.FrameSize.{FrameSize as Size}
+use Rattle.h264_sps.specs.declared.vui.ExtendedRatio.{ExtendedRatio}
+use Rattle.h264_sps.specs.declared.vui.ColourDescription.{ColourDescription}
+use Rattle.h264_sps.specs.declared.vui.ChromaLocation.{ChromaLocation}
+use Rattle.h264_sps.specs.declared.vui.Timing.{Timing}
+use Rattle.h264_sps.specs.declared.vui.BitstreamRestriction.{BitstreamRestriction}
+
 use Rattle.h264_sps.specs.Hrd.{cpb, cpbs_of, hrd}
-use Rattle.h264_sps.specs.Parts.{two_flags, two_numbers, crop_offsets, hrd_from_delays, there as there_of}
+use Rattle.h264_sps.specs.Parts.{crop_offsets, there as there_of}
+use Rattle.h264_sps.specs.Vui.{extended_ratio, colour_description, chroma_location, timing, bitstream_restriction}
 use Rattle.h264_sps.specs.Sps.{constraint_set_flags, frame_cropping}
 
 -- a structure whose run is that of another
@@ -61,18 +70,56 @@ pub found-none : {A : Type 0} (b : Bool) (x : A) → cond b (Some x) None ≡ No
 found-none true x e = absurd (cc)
 found-none false x e = refl
 
-pub flags-by_two : constraint_set_flags ≡ (two_flags ConstraintSet0Flag ConstraintSet1Flag >>= (λ a. two_flags ConstraintSet2Flag ConstraintSet3Flag >>= (λ b. two_flags ConstraintSet4Flag ConstraintSet5Flag >>= (λ c. Done (let flags : ConstraintSetFlags = record { set0 = a.0; set1 = a.1; set2 = b.0; set3 = b.1; set4 = c.0; set5 = c.1 } in flags)))))
-unfolding constraint_set_flags two_flags flag read_word ◌>>=◌
-flags-by_two = refl
-
 pub crop-by_sides : (size : Size) → optional true (frame_cropping size) ≡ (crop_offsets FrameCropLeftOffset FrameCropRightOffset size.width >>= (λ a. crop_offsets FrameCropTopOffset FrameCropBottomOffset size.height >>= (λ d. Done (Some (let c : FrameCropping = record { left = a.0; right = a.1; top = d.0; bottom = d.1 } in c)))))
 unfolding optional frame_cropping crop_offsets read_word check ◌>>=◌
 crop-by_sides size = refl
 
-pub hrd-by_parts : hrd ≡ (unsigned_to CpbCntMinus1 31 >>= (λ n. two_numbers BitRateScale CpbSizeScale 4 >>= (λ scales. repeated cpb [] (n + 1) >>= (λ cpbs. hrd_from_delays scales (cpbs_of cpbs)))))
-unfolding hrd hrd_from_delays two_numbers bits read_word ◌>>=◌
-hrd-by_parts = refl
+-- the parts that are read as one list of values
+pub flags-by_values : constraint_set_flags ≡ (each (λ name. bits name 1) [] (ConstraintSet0Flag ∷ ConstraintSet1Flag ∷ ConstraintSet2Flag ∷ ConstraintSet3Flag ∷ ConstraintSet4Flag ∷ ConstraintSet5Flag ∷ []) >>= (λ l. Done (let flags : ConstraintSetFlags = record { set0 = get_or l 0 0 == 1; set1 = get_or l 1 0 == 1; set2 = get_or l 2 0 == 1; set3 = get_or l 3 0 == 1; set4 = get_or l 4 0 == 1; set5 = get_or l 5 0 == 1 } in flags)))
+unfolding constraint_set_flags each bits flag read_word ◌>>=◌
+flags-by_values = refl
 
-pub delays-by_two : (scales : ℕ × ℕ) (cpbs : Cpbs) → hrd_from_delays scales cpbs ≡ (two_numbers InitialCpbRemovalDelayLengthMinus1 CpbRemovalDelayLengthMinus1 5 >>= (λ a. two_numbers DpbOutputDelayLengthMinus1 TimeOffsetLength 5 >>= (λ b. Done (let h : Hrd = record { bit_rate_scale = scales.0; cpb_size_scale = scales.1; cpbs = cpbs; initial_cpb_removal_delay_length_minus1 = a.0; cpb_removal_delay_length_minus1 = a.1; dpb_output_delay_length_minus1 = b.0; time_offset_length = b.1 } in h))))
-unfolding hrd_from_delays two_numbers bits read_word ◌>>=◌
-delays-by_two scales cpbs = refl
+pub cpb-by_values : cpb ≡ (each unsigned [] (BitRateValueMinus1 ∷ CpbSizeValueMinus1 ∷ []) >>= (λ l. flag CbrFlag >>= (λ constant. Done (let c : Cpb = record { bit_rate_value_minus1 = get_or l 0 0; cpb_size_value_minus1 = get_or l 1 0; cbr_flag = constant } in c))))
+unfolding cpb each unsigned flag read_word ◌>>=◌
+cpb-by_values = refl
+
+pub hrd-by_values : hrd ≡ (unsigned_to CpbCntMinus1 31 >>= (λ n. each (λ name. bits name 4) [] (BitRateScale ∷ CpbSizeScale ∷ []) >>= (λ scales. repeated cpb [] (n + 1) >>= (λ cpbs. each (λ name. bits name 5) [] (InitialCpbRemovalDelayLengthMinus1 ∷ CpbRemovalDelayLengthMinus1 ∷ DpbOutputDelayLengthMinus1 ∷ TimeOffsetLength ∷ []) >>= (λ l. Done (let h : Hrd = record { bit_rate_scale = get_or scales 0 0; cpb_size_scale = get_or scales 1 0; cpbs = cpbs_of cpbs; initial_cpb_removal_delay_length_minus1 = get_or l 0 0; cpb_removal_delay_length_minus1 = get_or l 1 0; dpb_output_delay_length_minus1 = get_or l 2 0; time_offset_length = get_or l 3 0 } in h))))))
+unfolding hrd each bits read_word ◌>>=◌
+hrd-by_values = refl
+
+pub ratio-by_values : extended_ratio ≡ (each (λ name. bits name 16) [] (SarWidth ∷ SarHeight ∷ []) >>= (λ l. Done (let r : ExtendedRatio = record { sar_width = get_or l 0 0; sar_height = get_or l 1 0 } in r)))
+unfolding extended_ratio each bits read_word ◌>>=◌
+ratio-by_values = refl
+
+pub colours-by_values : colour_description ≡ (each (λ name. bits name 8) [] (ColourPrimaries ∷ TransferCharacteristics ∷ MatrixCoefficients ∷ []) >>= (λ l. Done (let c : ColourDescription = record { colour_primaries = get_or l 0 0; transfer_characteristics = get_or l 1 0; matrix_coefficients = get_or l 2 0 } in c)))
+unfolding colour_description each bits read_word ◌>>=◌
+colours-by_values = refl
+
+pub location-by_values : chroma_location ≡ (each unsigned [] (ChromaSampleLocTypeTopField ∷ ChromaSampleLocTypeBottomField ∷ []) >>= (λ l. Done (let c : ChromaLocation = record { top_field = get_or l 0 0; bottom_field = get_or l 1 0 } in c)))
+unfolding chroma_location each unsigned read_word ◌>>=◌
+location-by_values = refl
+
+pub timing-by_values : timing ≡ (each (λ name. bits name 32) [] (NumUnitsInTick ∷ TimeScale ∷ []) >>= (λ l. flag FixedFrameRateFlag >>= (λ fixed. Done (let t : Timing = record { num_units_in_tick = get_or l 0 0; time_scale = get_or l 1 0; fixed_frame_rate_flag = fixed } in t))))
+unfolding timing each bits flag read_word ◌>>=◌
+timing-by_values = refl
+
+-- the restriction from max_dec_frame_buffering on, behind its flag and the five numbers
+unfoldable pub restriction_from_buffering : ℕ → ℕ → Bool → List ℕ → Grammar BitstreamRestriction
+restriction_from_buffering refs buffer over l = do
+  buffering ← element MaxDecFrameBuffering Unsigned
+  _ ← check VuiRule buffering.bit (nat_le (get_or l 4 0) (natural buffering.value))
+  _ ← check VuiRule buffering.bit (nat_le refs (natural buffering.value))
+  _ ← check VuiRule buffering.bit (nat_le (natural buffering.value) buffer)
+  Done (record {
+    motion_vectors_over_pic_boundaries_flag = over;
+    max_bytes_per_pic_denom = get_or l 0 0;
+    max_bits_per_mb_denom = get_or l 1 0;
+    log2_max_mv_length_horizontal = get_or l 2 0;
+    log2_max_mv_length_vertical = get_or l 3 0;
+    max_num_reorder_frames = get_or l 4 0;
+    max_dec_frame_buffering = natural buffering.value;
+  })
+
+pub restriction-by_values : (refs buffer : ℕ) → bitstream_restriction refs buffer ≡ (flag MotionVectorsOverPicBoundariesFlag >>= (λ over. each unsigned [] (MaxBytesPerPicDenom ∷ MaxBitsPerMbDenom ∷ Log2MaxMvLengthHorizontal ∷ Log2MaxMvLengthVertical ∷ MaxNumReorderFrames ∷ []) >>= (λ l. restriction_from_buffering refs buffer over l)))
+unfolding bitstream_restriction restriction_from_buffering each unsigned flag read_word ◌>>=◌
+restriction-by_values refs buffer = refl

@@ -1,24 +1,20 @@
 -- Parts of the structures that stand whole in Sps, Hrd and Vui: what the functions meet that read a structure part by part.
 -- Each `.._from_..` is the rest of a structure, from the named element on.
-use Rattle.std.specs.Prelude.{ℕ, ◌+◌, ◌*◌, nat_le, nat_lt, ◌&&◌, ◌||◌, Bool, Result, Ok, Err, Option, Some}
+use Rattle.std.specs.Prelude.{ℕ, ◌+◌, ◌*◌, nat_le, nat_lt, ◌&&◌, Bool, Result, Ok, Err, Option, Some}
 use Rattle.std.specs.Option.{is_some}
 use Rattle.h264_base.specs.declared.element_name.ElementName.{ElementName}
-use Rattle.h264_base.specs.declared.element_name.ElementName.TheVariants.{MaxNumRefFrames, GapsInFrameNumValueAllowedFlag, FrameMbsOnlyFlag, Direct8x8InferenceFlag, FrameCroppingFlag, VuiParametersPresentFlag, ChromaLocInfoPresentFlag, TimingInfoPresentFlag, NalHrdParametersPresentFlag, VclHrdParametersPresentFlag, LowDelayHrdFlag, PicStructPresentFlag, BitstreamRestrictionFlag, Log2MaxMvLengthHorizontal, Log2MaxMvLengthVertical, MaxNumReorderFrames, MaxDecFrameBuffering, InitialCpbRemovalDelayLengthMinus1, CpbRemovalDelayLengthMinus1, DpbOutputDelayLengthMinus1, TimeOffsetLength}
-use Rattle.h264_base.specs.declared.rule.Rule.TheVariants.{Crop, Vui}
+use Rattle.h264_base.specs.declared.element_name.ElementName.TheVariants.{MaxNumRefFrames, GapsInFrameNumValueAllowedFlag, FrameMbsOnlyFlag, Direct8x8InferenceFlag, FrameCroppingFlag, VuiParametersPresentFlag, ChromaLocInfoPresentFlag, TimingInfoPresentFlag, NalHrdParametersPresentFlag, VclHrdParametersPresentFlag, LowDelayHrdFlag, PicStructPresentFlag, BitstreamRestrictionFlag}
+use Rattle.h264_base.specs.declared.rule.Rule.TheVariants.{Crop}
 use Rattle.h264_base.specs.Word.{Unsigned}
 use Rattle.h264_base.specs.Grammar.{Grammar, Done, ◌>>=◌, element, check, trailing}
 use Rattle.h264_base.specs.declared.stop.Stop.{Stop}
 use Rattle.h264_tables.specs.declared.level.Limits.{Limits}
-use Rattle.h264_bits.specs.Forms.{natural, unsigned, unsigned_to, bits, flag, optional, bits_must_be}
-use Rattle.h264_sps.specs.declared.hrd.Cpbs.{Cpbs}
-use Rattle.h264_sps.specs.declared.hrd.Hrd.{Hrd}
+use Rattle.h264_bits.specs.Forms.{natural, unsigned_to, flag, optional, bits_must_be}
 use Rattle.h264_sps.specs.declared.read.Start.{Start}
 use Rattle.h264_sps.specs.declared.read.Counted.{Counted}
 use Rattle.h264_sps.specs.declared.sps.FrameSize.{FrameSize as Size}
 use Rattle.h264_sps.specs.declared.sps.Sps.{Sps}
-use Rattle.h264_sps.specs.declared.vui.BitstreamRestriction.{BitstreamRestriction}
 use Rattle.h264_sps.specs.declared.vui.Buffers.{Buffers}
-use Rattle.h264_sps.specs.declared.vui.Denominators.{Denominators}
 use Rattle.h264_sps.specs.declared.vui.Frames.{Frames}
 use Rattle.h264_sps.specs.declared.vui.Shown.{Shown}
 use Rattle.h264_sps.specs.declared.vui.Timed.{Timed}
@@ -32,19 +28,6 @@ use Rattle.h264_sps.specs.Vui.{flagged, vui, chroma_location, timing, bitstream_
 abbrev pub there : {T : Type 0} → Result T Stop → Result (Option T) Stop
 there (Ok x) = Ok (Some x)
 there (Err e) = Err e
-
-unfoldable pub two_flags : ElementName → ElementName → Grammar (Bool × Bool)
-two_flags first second = do
-  a ← flag first
-  b ← flag second
-  Done (a, b)
-
--- u(n) twice
-unfoldable pub two_numbers : ElementName → ElementName → ℕ → Grammar (ℕ × ℕ)
-two_numbers first second n = do
-  a ← bits first n
-  b ← bits second n
-  Done (a, b)
 
 -- the offsets at two sides of a frame of so many macroblocks from one to the other, which leave something
 unfoldable pub crop_offsets : ElementName → ElementName → ℕ → Grammar (ℕ × ℕ)
@@ -96,45 +79,6 @@ sps_from_counting start = do
   refs ← unsigned_to MaxNumRefFrames 16
   gaps ← flag GapsInFrameNumValueAllowedFlag
   sps_from_size start (record { count_type = count_type; max_num_ref_frames = refs; gaps_in_frame_num_value_allowed_flag = gaps })
-
-unfoldable pub hrd_from_delays : ℕ × ℕ → Cpbs → Grammar Hrd
-hrd_from_delays scales cpbs = do
-  initial ← bits InitialCpbRemovalDelayLengthMinus1 5
-  removal ← bits CpbRemovalDelayLengthMinus1 5
-  output ← bits DpbOutputDelayLengthMinus1 5
-  offset ← bits TimeOffsetLength 5
-  Done (record {
-    bit_rate_scale = scales.0;
-    cpb_size_scale = scales.1;
-    cpbs = cpbs;
-    initial_cpb_removal_delay_length_minus1 = initial;
-    cpb_removal_delay_length_minus1 = removal;
-    dpb_output_delay_length_minus1 = output;
-    time_offset_length = offset;
-  })
-
-unfoldable pub restriction_from_reordering : Frames → Denominators → ℕ → ℕ → Grammar BitstreamRestriction
-restriction_from_reordering frames d across down = do
-  reorder ← unsigned MaxNumReorderFrames
-  buffering ← element MaxDecFrameBuffering Unsigned
-  _ ← check Vui buffering.bit (nat_le reorder (natural buffering.value))
-  _ ← check Vui buffering.bit (nat_le frames.max_num_ref_frames (natural buffering.value))
-  _ ← check Vui buffering.bit (nat_le (natural buffering.value) frames.max_dpb_frames)
-  Done (record {
-    motion_vectors_over_pic_boundaries_flag = d.over;
-    max_bytes_per_pic_denom = d.bytes;
-    max_bits_per_mb_denom = d.mb_bits;
-    log2_max_mv_length_horizontal = across;
-    log2_max_mv_length_vertical = down;
-    max_num_reorder_frames = reorder;
-    max_dec_frame_buffering = natural buffering.value;
-  })
-
-unfoldable pub restriction_from_lengths : Frames → Denominators → Grammar BitstreamRestriction
-restriction_from_lengths frames d = do
-  across ← unsigned Log2MaxMvLengthHorizontal
-  down ← unsigned Log2MaxMvLengthVertical
-  restriction_from_reordering frames d across down
 
 unfoldable pub vui_from_pic_struct : Shown → Timed → Buffers → Frames → Grammar VuiParameters
 vui_from_pic_struct shown timed buffers frames = do

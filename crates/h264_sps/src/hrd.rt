@@ -5,11 +5,10 @@ ghost use Rattle.std.specs.Prelude.{◌≡◌, ℕ, ◌+◌, ◌-◌, ◌<◌, �
 ghost use Rattle.h264_base.specs.Meets.{Meets, Is};
 ghost use Rattle.h264_bits.specs.Forms.{repeated};
 ghost use Rattle.h264_sps.specs.Hrd.{cpb, cpbs_of, hrd};
-ghost use Rattle.h264_sps.specs.Parts.{two_numbers, hrd_from_delays};
 
 use h264_base::{ElementName, Elements, Stop};
 use h264_bits::Bits;
-use h264_bits::forms::{flag_value, u_value, ue_up_to, ue_value};
+use h264_bits::forms::{flag_value, u_values, ue_up_to, ue_values};
 
 /// One coded picture buffer.
 #[derive(Clone, Copy, PartialEq, Eq)]
@@ -44,8 +43,11 @@ fn read_cpb<S: Elements>(bits: &mut Bits, sink: &mut S) -> Result<Cpb, Stop>
     requires { S.failures sink.old < 2 ^ 64 - 1 }
     ensures { Meets S.took S.failures (Is (λ x. x)) cpb bits.old bits.new sink.old sink.new result }
 {
-    let bit_rate = ue_value(bits, ElementName::BitRateValueMinus1, sink)?;
-    let size = ue_value(bits, ElementName::CpbSizeValueMinus1, sink)?;
+    let names = [
+        ElementName::BitRateValueMinus1,
+        ElementName::CpbSizeValueMinus1,
+    ];
+    let [bit_rate, size] = ue_values::<2, S>(bits, names, sink)?;
     let constant = flag_value(bits, ElementName::CbrFlag, sink)?;
     Ok(Cpb {
         bit_rate_value_minus1: bit_rate,
@@ -73,63 +75,29 @@ fn read_cpbs<S: Elements>(count: u32, bits: &mut Bits, sink: &mut S) -> Result<C
     Ok(Cpbs { entries, count })
 }
 
-/// u(N) twice.
-fn read_two_numbers<const N: u32, S: Elements>(
-    first: ElementName,
-    second: ElementName,
-    bits: &mut Bits,
-    sink: &mut S,
-) -> Result<(u32, u32), Stop>
-    requires width { N ≤ 32 }
-    requires room { S.failures sink.old < 2 ^ 64 - 1 }
-    ensures { Meets S.took S.failures (Is (λ x. (x.0, x.1))) (two_numbers first second N) bits.old bits.new sink.old sink.new result }
-{
-    let a = u_value::<N, S>(bits, first, sink)?;
-    let b = u_value::<N, S>(bits, second, sink)?;
-    Ok((a, b))
-}
-
-/// The lengths of the delays, behind the buffers with their scales.
-fn hrd_from_delays<S: Elements>(
-    scales: (u32, u32),
-    cpbs: &Cpbs,
-    bits: &mut Bits,
-    sink: &mut S,
-) -> Result<Hrd, Stop>
-    requires { S.failures sink.old < 2 ^ 64 - 1 }
-    ensures { Meets S.took S.failures (Is (λ x. x)) (hrd_from_delays (scales.0, scales.1) cpbs.now) bits.old bits.new sink.old sink.new result }
-{
-    let removal = read_two_numbers::<5, S>(
-        ElementName::InitialCpbRemovalDelayLengthMinus1,
-        ElementName::CpbRemovalDelayLengthMinus1,
-        bits,
-        sink,
-    )?;
-    let output = read_two_numbers::<5, S>(
-        ElementName::DpbOutputDelayLengthMinus1,
-        ElementName::TimeOffsetLength,
-        bits,
-        sink,
-    )?;
-    Ok(Hrd {
-        bit_rate_scale: scales.0,
-        cpb_size_scale: scales.1,
-        cpbs: *cpbs,
-        initial_cpb_removal_delay_length_minus1: removal.0,
-        cpb_removal_delay_length_minus1: removal.1,
-        dpb_output_delay_length_minus1: output.0,
-        time_offset_length: output.1,
-    })
-}
-
 /// hrd_parameters().
 pub(crate) fn read_hrd<S: Elements>(bits: &mut Bits, sink: &mut S) -> Result<Hrd, Stop>
     requires { S.failures sink.old < 2 ^ 64 - 1 }
     ensures { Meets S.took S.failures (Is (λ x. x)) hrd bits.old bits.new sink.old sink.new result }
 {
     let count_minus1 = ue_up_to(bits, ElementName::CpbCntMinus1, 31, sink)?;
-    let (bit_rate, size) = (ElementName::BitRateScale, ElementName::CpbSizeScale);
-    let scales = read_two_numbers::<4, S>(bit_rate, size, bits, sink)?;
+    let scales = [ElementName::BitRateScale, ElementName::CpbSizeScale];
+    let [bit_rate, size] = u_values::<4, 2, S>(bits, scales, sink)?;
     let cpbs = read_cpbs(count_minus1 + 1, bits, sink)?;
-    hrd_from_delays(scales, &cpbs, bits, sink)
+    let lengths = [
+        ElementName::InitialCpbRemovalDelayLengthMinus1,
+        ElementName::CpbRemovalDelayLengthMinus1,
+        ElementName::DpbOutputDelayLengthMinus1,
+        ElementName::TimeOffsetLength,
+    ];
+    let [initial, removal, output, offset] = u_values::<5, 4, S>(bits, lengths, sink)?;
+    Ok(Hrd {
+        bit_rate_scale: bit_rate,
+        cpb_size_scale: size,
+        cpbs,
+        initial_cpb_removal_delay_length_minus1: initial,
+        cpb_removal_delay_length_minus1: removal,
+        dpb_output_delay_length_minus1: output,
+        time_offset_length: offset,
+    })
 }

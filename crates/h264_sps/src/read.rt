@@ -6,7 +6,7 @@ ghost use Rattle.h264_base.specs.Meets.{Meets, Is, Answers};
 ghost use Rattle.h264_base.specs.declared.element_name.ElementName.TheVariants.{FrameCroppingFlag, VuiParametersPresentFlag};
 ghost use Rattle.h264_bits.specs.Forms.{flag};
 ghost use Rattle.h264_sps.specs.Vui.{flagged, vui};
-ghost use Rattle.h264_sps.specs.Parts.{two_flags, crop_offsets, is_size_allowed, sps_from_counting, sps_from_size, sps_from_cropping};
+ghost use Rattle.h264_sps.specs.Parts.{crop_offsets, is_size_allowed, sps_from_counting, sps_from_size, sps_from_cropping};
 ghost use Rattle.h264_sps.specs.Seen.{level_seen, front_seen};
 ghost use Rattle.h264_sps.specs.Sps.{constraint_set_flags, level, profile_and_level, frame_size, frame_cropping, max_dpb_frames as max_dpb_frames_of, is_judged_profile, is_level_6, sps};
 
@@ -14,7 +14,7 @@ use crate::count_type::{CountType, read_count_type};
 use crate::sps::{ConstraintSetFlags, FrameCropping, FrameSize, Sps};
 use crate::vui::{Frames, Vui, read_vui, there};
 use h264_base::{ElementName, Elements, Feature, Rule, Stop};
-use h264_bits::forms::{flag_value, u_must_be, u_value, ue_up_to};
+use h264_bits::forms::{flag_value, u_must_be, u_value, u_values, ue_up_to};
 use h264_bits::{Bits, check, read_trailing, read_u, read_ue, support};
 use h264_tables::{Limits, limits};
 
@@ -62,51 +62,27 @@ fn is_level_6(level_idc: u32) -> bool
     level_idc == 60 || level_idc == 61 || level_idc == 62
 }
 
-/// Two of the flags.
-fn read_two_flags<S: Elements>(
-    first: ElementName,
-    second: ElementName,
-    bits: &mut Bits,
-    sink: &mut S,
-) -> Result<(bool, bool), Stop>
-    requires { S.failures sink.old < 2 ^ 64 - 1 }
-    ensures { Meets S.took S.failures (Is (λ x. (x.0, x.1))) (two_flags first second) bits.old bits.new sink.old sink.new result }
-{
-    let a = flag_value(bits, first, sink)?;
-    let b = flag_value(bits, second, sink)?;
-    Ok((a, b))
-}
-
 /// The six flags.
 fn read_flags<S: Elements>(bits: &mut Bits, sink: &mut S) -> Result<ConstraintSetFlags, Stop>
     requires { S.failures sink.old < 2 ^ 64 - 1 }
     ensures { Meets S.took S.failures (Is (λ x. x)) constraint_set_flags bits.old bits.new sink.old sink.new result }
 {
-    let first = read_two_flags(
+    let names = [
         ElementName::ConstraintSet0Flag,
         ElementName::ConstraintSet1Flag,
-        bits,
-        sink,
-    )?;
-    let middle = read_two_flags(
         ElementName::ConstraintSet2Flag,
         ElementName::ConstraintSet3Flag,
-        bits,
-        sink,
-    )?;
-    let last = read_two_flags(
         ElementName::ConstraintSet4Flag,
         ElementName::ConstraintSet5Flag,
-        bits,
-        sink,
-    )?;
+    ];
+    let [set0, set1, set2, set3, set4, set5] = u_values::<1, 6, S>(bits, names, sink)?;
     Ok(ConstraintSetFlags {
-        set0: first.0,
-        set1: first.1,
-        set2: middle.0,
-        set3: middle.1,
-        set4: last.0,
-        set5: last.1,
+        set0: set0 == 1,
+        set1: set1 == 1,
+        set2: set2 == 1,
+        set3: set3 == 1,
+        set4: set4 == 1,
+        set5: set5 == 1,
     })
 }
 

@@ -7,12 +7,12 @@ ghost use Rattle.h264_base.specs.Meets.{Meets, Is};
 ghost use Rattle.h264_base.specs.declared.element_name.ElementName.TheVariants.{AspectRatioInfoPresentFlag, OverscanInfoPresentFlag, OverscanAppropriateFlag, VideoSignalTypePresentFlag, ChromaLocInfoPresentFlag, TimingInfoPresentFlag, LowDelayHrdFlag, BitstreamRestrictionFlag};
 ghost use Rattle.h264_bits.specs.Forms.{flag, optional};
 ghost use Rattle.h264_sps.specs.Hrd.{hrd};
-ghost use Rattle.h264_sps.specs.Parts.{is_buffering_allowed, restriction_from_lengths, restriction_from_reordering, vui_from_location, vui_from_hrd, vui_from_pic_struct, there as there_of};
+ghost use Rattle.h264_sps.specs.Parts.{is_buffering_allowed, vui_from_location, vui_from_hrd, vui_from_pic_struct, there as there_of};
 ghost use Rattle.h264_sps.specs.Vui.{extended_ratio, sample_aspect_ratio, colour_description, video_signal_type, chroma_location, timing, bitstream_restriction, flagged, vui};
 
 use crate::hrd::{Hrd, read_hrd};
 use h264_base::{ElementName, Elements, Rule, Stop};
-use h264_bits::forms::{flag_value, u_value, ue_value};
+use h264_bits::forms::{flag_value, u_value, u_values, ue_values};
 use h264_bits::{Bits, check, read_ue};
 
 /// aspect_ratio_idc of a ratio that is written out (Table E-1).
@@ -101,14 +101,6 @@ pub(crate) struct Frames {
     pub(crate) max_dpb_frames: u32,
 }
 
-/// What a bitstream restriction says first.
-#[derive(Clone, Copy)]
-pub(crate) struct Denominators {
-    over: bool,
-    bytes: u32,
-    mb_bits: u32,
-}
-
 /// How pictures are to be shown.
 #[derive(Clone, Copy)]
 pub(crate) struct Shown {
@@ -154,8 +146,8 @@ fn read_extended<S: Elements>(
     if !present {
         return Ok(None);
     }
-    let width = u_value::<16, S>(bits, ElementName::SarWidth, sink)?;
-    let height = u_value::<16, S>(bits, ElementName::SarHeight, sink)?;
+    let names = [ElementName::SarWidth, ElementName::SarHeight];
+    let [width, height] = u_values::<16, 2, S>(bits, names, sink)?;
     Ok(Some(ExtendedRatio {
         sar_width: width,
         sar_height: height,
@@ -174,9 +166,12 @@ fn read_colours<S: Elements>(
     if !present {
         return Ok(None);
     }
-    let primaries = u_value::<8, S>(bits, ElementName::ColourPrimaries, sink)?;
-    let transfer = u_value::<8, S>(bits, ElementName::TransferCharacteristics, sink)?;
-    let matrix = u_value::<8, S>(bits, ElementName::MatrixCoefficients, sink)?;
+    let names = [
+        ElementName::ColourPrimaries,
+        ElementName::TransferCharacteristics,
+        ElementName::MatrixCoefficients,
+    ];
+    let [primaries, transfer, matrix] = u_values::<8, 3, S>(bits, names, sink)?;
     Ok(Some(ColourDescription {
         colour_primaries: primaries,
         transfer_characteristics: transfer,
@@ -212,52 +207,7 @@ fn is_buffering_allowed(frames: Frames, reorder: u32, buffering: u32) -> bool
         && buffering <= frames.max_dpb_frames
 }
 
-/// The restriction from max_num_reorder_frames on, with the rules on max_dec_frame_buffering.
-fn restriction_from_reordering<S: Elements>(
-    frames: Frames,
-    denominators: Denominators,
-    across: u32,
-    down: u32,
-    bits: &mut Bits,
-    sink: &mut S,
-) -> Result<BitstreamRestriction, Stop>
-    requires { S.failures sink.old < 2 ^ 64 - 1 }
-    ensures { Meets S.took S.failures (Is (λ x. x)) (restriction_from_reordering frames denominators across down) bits.old bits.new sink.old sink.new result }
-{
-    let reorder = ue_value(bits, ElementName::MaxNumReorderFrames, sink)?;
-    let buffering = read_ue(bits, ElementName::MaxDecFrameBuffering, sink)?;
-    check(
-        is_buffering_allowed(frames, reorder, buffering.value),
-        Rule::Vui,
-        buffering.bit,
-    )?;
-    Ok(BitstreamRestriction {
-        motion_vectors_over_pic_boundaries_flag: denominators.over,
-        max_bytes_per_pic_denom: denominators.bytes,
-        max_bits_per_mb_denom: denominators.mb_bits,
-        log2_max_mv_length_horizontal: across,
-        log2_max_mv_length_vertical: down,
-        max_num_reorder_frames: reorder,
-        max_dec_frame_buffering: buffering.value,
-    })
-}
-
-/// The restriction from the lengths of vectors on.
-fn restriction_from_lengths<S: Elements>(
-    frames: Frames,
-    denominators: Denominators,
-    bits: &mut Bits,
-    sink: &mut S,
-) -> Result<BitstreamRestriction, Stop>
-    requires { S.failures sink.old < 2 ^ 64 - 1 }
-    ensures { Meets S.took S.failures (Is (λ x. x)) (restriction_from_lengths frames denominators) bits.old bits.new sink.old sink.new result }
-{
-    let across = ue_value(bits, ElementName::Log2MaxMvLengthHorizontal, sink)?;
-    let down = ue_value(bits, ElementName::Log2MaxMvLengthVertical, sink)?;
-    restriction_from_reordering(frames, denominators, across, down, bits, sink)
-}
-
-/// What the stream restricts itself to.
+/// What the stream restricts itself to, with the rules on max_dec_frame_buffering.
 fn read_bitstream_restriction<S: Elements>(
     frames: Frames,
     bits: &mut Bits,
@@ -267,14 +217,29 @@ fn read_bitstream_restriction<S: Elements>(
     ensures { Meets S.took S.failures (Is (λ x. x)) (bitstream_restriction frames.max_num_ref_frames frames.max_dpb_frames) bits.old bits.new sink.old sink.new result }
 {
     let over = flag_value(bits, ElementName::MotionVectorsOverPicBoundariesFlag, sink)?;
-    let bytes = ue_value(bits, ElementName::MaxBytesPerPicDenom, sink)?;
-    let mb_bits = ue_value(bits, ElementName::MaxBitsPerMbDenom, sink)?;
-    let denominators = Denominators {
-        over,
-        bytes,
-        mb_bits,
-    };
-    restriction_from_lengths(frames, denominators, bits, sink)
+    let names = [
+        ElementName::MaxBytesPerPicDenom,
+        ElementName::MaxBitsPerMbDenom,
+        ElementName::Log2MaxMvLengthHorizontal,
+        ElementName::Log2MaxMvLengthVertical,
+        ElementName::MaxNumReorderFrames,
+    ];
+    let [bytes, mb_bits, across, down, reorder] = ue_values::<5, S>(bits, names, sink)?;
+    let buffering = read_ue(bits, ElementName::MaxDecFrameBuffering, sink)?;
+    check(
+        is_buffering_allowed(frames, reorder, buffering.value),
+        Rule::Vui,
+        buffering.bit,
+    )?;
+    Ok(BitstreamRestriction {
+        motion_vectors_over_pic_boundaries_flag: over,
+        max_bytes_per_pic_denom: bytes,
+        max_bits_per_mb_denom: mb_bits,
+        log2_max_mv_length_horizontal: across,
+        log2_max_mv_length_vertical: down,
+        max_num_reorder_frames: reorder,
+        max_dec_frame_buffering: buffering.value,
+    })
 }
 
 /// The shape of a sample, where it is present.
@@ -336,8 +301,11 @@ fn read_location_info<S: Elements>(
     if !present {
         return Ok(None);
     }
-    let top = ue_value(bits, ElementName::ChromaSampleLocTypeTopField, sink)?;
-    let bottom = ue_value(bits, ElementName::ChromaSampleLocTypeBottomField, sink)?;
+    let names = [
+        ElementName::ChromaSampleLocTypeTopField,
+        ElementName::ChromaSampleLocTypeBottomField,
+    ];
+    let [top, bottom] = ue_values::<2, S>(bits, names, sink)?;
     Ok(Some(ChromaLocation {
         top_field: top,
         bottom_field: bottom,
@@ -353,8 +321,8 @@ fn read_timing_info<S: Elements>(bits: &mut Bits, sink: &mut S) -> Result<Option
     if !present {
         return Ok(None);
     }
-    let units = u_value::<32, S>(bits, ElementName::NumUnitsInTick, sink)?;
-    let scale = u_value::<32, S>(bits, ElementName::TimeScale, sink)?;
+    let names = [ElementName::NumUnitsInTick, ElementName::TimeScale];
+    let [units, scale] = u_values::<32, 2, S>(bits, names, sink)?;
     let fixed = flag_value(bits, ElementName::FixedFrameRateFlag, sink)?;
     Ok(Some(Timing {
         num_units_in_tick: units,

@@ -1,9 +1,9 @@
 use Rattle.std.proofs.Common.{refl}
 use Rattle.std.proofs.lemmas.Result.{err_from_is_err_and}
 use Rattle.h264_base.proofs.Steps.{bind, stop, done}
-use Rattle.h264_sps.specs.Vui.{flagged, timing}
+use Rattle.h264_sps.specs.Vui.{flagged}
 use Rattle.h264_bits.specs.Forms.{optional}
-use Rattle.h264_sps.proofs.Regroup.{there, there-stop}
+use Rattle.h264_sps.proofs.Regroup.{there, there-stop, timing-by_values}
 use Rattle.h264_sps.proofs.vui.read_timing_info.Goals as goal
 
 pub returns-in_err-present : goal.returns-in_err-present
@@ -15,17 +15,13 @@ unfolding flagged optional
 returns-then-not-present g c = bind _ c.in_ok-present.ensures (rw c.if-not-present.true (done _ _ _ _ _ _ _ refl))
 
 pub returns-in_err-units : goal.returns-in_err-units
-unfolding flagged timing
-returns-in_err-units g c = let p = err_from_is_err_and c.from_residual-in_err-units.result c.from_residual-in_err-units.ensures.1 in rw (p.1, p.2) (bind _ c.in_ok-present.ensures (rw c.if-not-present.false (there-stop (stop _ c.in_err-units.ensures.meets))))
-
-pub returns-in_err-scale : goal.returns-in_err-scale
-unfolding flagged timing
-returns-in_err-scale g c = let p = err_from_is_err_and c.from_residual-in_err-scale.result c.from_residual-in_err-scale.ensures.1 in rw (p.1, p.2) (bind _ c.in_ok-present.ensures (rw c.if-not-present.false (there-stop (bind _ c.in_ok-units.ensures.meets (stop _ c.in_err-scale.ensures.meets)))))
+unfolding flagged
+returns-in_err-units g c = let p = err_from_is_err_and c.from_residual-in_err-units.result c.from_residual-in_err-units.ensures.1 in rw (p.1, p.2) (bind _ c.in_ok-present.ensures (rw c.if-not-present.false (there-stop (rw timing-by_values (stop _ c.in_err-units.ensures)))))
 
 pub returns-in_err-fixed : goal.returns-in_err-fixed
-unfolding flagged timing
-returns-in_err-fixed g c = let p = err_from_is_err_and c.from_residual-in_err-fixed.result c.from_residual-in_err-fixed.ensures.1 in rw (p.1, p.2) (bind _ c.in_ok-present.ensures (rw c.if-not-present.false (there-stop (bind _ c.in_ok-units.ensures.meets (bind _ c.in_ok-scale.ensures.meets (stop _ c.in_err-fixed.ensures))))))
+unfolding flagged
+returns-in_err-fixed g c = let p = err_from_is_err_and c.from_residual-in_err-fixed.result c.from_residual-in_err-fixed.ensures.1 in rw (p.1, p.2) (bind _ c.in_ok-present.ensures (rw c.if-not-present.false (there-stop (rw timing-by_values (bind _ c.in_ok-units.ensures (stop _ c.in_err-fixed.ensures))))))
 
 pub returns : goal.returns
-unfolding flagged timing
-returns g c = bind _ c.in_ok-present.ensures (rw c.if-not-present.false (there (bind _ c.in_ok-units.ensures.meets (bind _ c.in_ok-scale.ensures.meets (bind _ c.in_ok-fixed.ensures (done _ _ _ _ _ _ _ refl))))))
+unfolding flagged
+returns g c = bind _ c.in_ok-present.ensures (rw c.if-not-present.false (there (rw timing-by_values (bind _ c.in_ok-units.ensures (bind _ c.in_ok-fixed.ensures (done _ _ _ _ _ _ _ refl))))))
