@@ -22,7 +22,6 @@ use Rattle.h264_sps.specs.declared.vui.ColourDescription.{ColourDescription}
 use Rattle.h264_sps.specs.declared.vui.ChromaLocation.{ChromaLocation}
 use Rattle.h264_sps.specs.declared.vui.Timing.{Timing}
 use Rattle.h264_sps.specs.declared.vui.BitstreamRestriction.{BitstreamRestriction}
-
 use Rattle.h264_sps.specs.Hrd.{cpb, cpbs_of, hrd}
 use Rattle.h264_sps.specs.Parts.{crop_offsets, there as there_of}
 use Rattle.h264_sps.specs.Vui.{extended_ratio, colour_description, chroma_location, timing, bitstream_restriction}
