@@ -1,13 +1,18 @@
 -- The entries of a list that a code ends: their turns, and what other codes are.
-use Rattle.std.proofs.Common.{◌≡◌, ◌≢◌, ℕ, zero, suc, ◌+◌, ◌-◌, ◌<◌, ◌≤◌, ◌==◌, Bool, true, false, List, [], ◌∷◌, ◌++◌, Option, Some, None, Ok, Err, refl, subst, arith}
+use Rattle.std.proofs.Common.{◌≡◌, ◌≢◌, ℕ, zero, suc, ◌+◌, ◌-◌, ◌<◌, ◌≤◌, ◌==◌, Bool, true, false, List, [], ◌∷◌, ◌++◌, Option, Some, None, Ok, Err, get_or, refl, subst, arith}
 use Rattle.h264_base.specs.declared.stop.Stop.{Stop}
 use Rattle.h264_base.specs.Call.{Call}
 use Rattle.h264_base.specs.Word.{digit}
-use Rattle.h264_base.specs.Grammar.{Grammar, Done}
+use Rattle.h264_base.specs.declared.element_name.ElementName.TheVariants.{DifferenceOfPicNumsMinus1, LongTermFrameIdx}
+use Rattle.h264_base.specs.Grammar.{Grammar, Done, ◌>>=◌, read_word}
 use Rattle.h264_base.specs.Meets.{Reader, Meets, Is}
 use Rattle.h264_base.proofs.Steps.{Leads, leads-starts, leads-on, stop, done, finish}
 use Rattle.h264_header.specs.Listed.{listed, goes_on}
-use Rattle.h264_header.specs.Header.{deblocking_of}
+use Rattle.h264_bits.specs.Forms.{unsigned, each}
+use Rattle.h264_header.specs.declared.header.FilterOffsets.{FilterOffsets}
+use Rattle.h264_header.specs.declared.header.Deblocking.{Deblocking}
+use Rattle.h264_header.specs.declared.header.Operation.TheVariants.{MakeLongTerm}
+use Rattle.h264_header.specs.Header.{deblocking_of, filter_offsets}
 use Rattle.std.proofs.Common.{IsTrue, length, not, Result}
 use Rattle.std.specs.Prelude.{OnSome, OnOk}
 use Rattle.std.proofs.lemmas.Bool.Decides.{nat_tests}
@@ -105,3 +110,15 @@ unfolding deblocking_of
 deblocking-other zero a b = absurd (a refl)
 deblocking-other (suc zero) a b = absurd (b refl)
 deblocking-other (suc (suc n)) a b = refl
+
+-- where disable_deblocking_filter_idc is not 1, the offsets stop
+pub offsets-stop : {S : Type 0} {took : S → List Call → Type 0} {failures : S → ℕ} {old new : Reader} {s s' : S} {e : Stop} (n : ℕ) → n ≢ 1 → Meets {X = FilterOffsets} took failures (Is (λ x. x)) filter_offsets old new s s' (Err e) → Meets {X = Deblocking} took failures (Is (λ x. x)) (deblocking_of n) old new s s' (Err e)
+unfolding deblocking_of
+offsets-stop zero h m = stop _ m
+offsets-stop (suc zero) h m = absurd (h refl)
+offsets-stop (suc (suc n)) h m = stop _ m
+
+-- the operands of operation 3 as one list of values
+pub long-by_values : operands 3 ≡ (each unsigned [] (DifferenceOfPicNumsMinus1 ∷ LongTermFrameIdx ∷ []) >>= (λ l. Done (Some (MakeLongTerm (get_or l 0 0) (get_or l 1 0)))))
+unfolding operands each unsigned read_word ◌>>=◌
+long-by_values = refl

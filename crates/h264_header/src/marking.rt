@@ -11,7 +11,7 @@ ghost use Rattle.h264_header.specs.Marking.{number_of, operands, is_operation_al
 use crate::header::{Marking, MarkingOperation, Operation};
 use arrayvec::ArrayVec;
 use h264_base::{ElementName, Elements, Rule, Stop};
-use h264_bits::forms::{flag_value, ue_value};
+use h264_bits::forms::{flag_value, ue_value, ue_values};
 use h264_bits::{Bits, Found, check, read_flag, read_ue};
 
 /// How many operations there may be.
@@ -36,8 +36,11 @@ fn read_make_long<S: Elements>(bits: &mut Bits, sink: &mut S) -> Result<Option<O
     requires { S.failures sink.old < 2 ^ 64 - 1 }
     ensures { Meets S.took S.failures (Is (λ x. x)) (operands 3) bits.old bits.new sink.old sink.new result }
 {
-    let difference = ue_value(bits, ElementName::DifferenceOfPicNumsMinus1, sink)?;
-    let index = ue_value(bits, ElementName::LongTermFrameIdx, sink)?;
+    let names = [
+        ElementName::DifferenceOfPicNumsMinus1,
+        ElementName::LongTermFrameIdx,
+    ];
+    let [difference, index] = ue_values::<2, S>(bits, names, sink)?;
     Ok(Some(Operation::MakeLongTerm {
         difference_of_pic_nums_minus1: difference,
         long_term_frame_idx: index,

@@ -3,11 +3,10 @@
 
 ghost use Rattle.std.specs.Prelude.{◌≡◌, ℕ, ◌-◌, ◌<◌, ◌≤◌, ◌^◌, true, IfOk, OnOk, is_some};
 ghost use Rattle.h264_base.specs.Meets.{Meets, Is, Answers};
-ghost use Rattle.h264_base.specs.declared.element_name.ElementName.TheVariants.{DeltaPicOrderCntBottom, DeltaPicOrderCnt};
 ghost use Rattle.h264_bits.specs.Forms.{optional, signed};
 ghost use Rattle.h264_header.specs.Layout.{sets_of, IsShort, IsShortCount};
 ghost use Rattle.h264_header.specs.Listed.{or_0};
-ghost use Rattle.h264_header.specs.Header.{is_judged_type, type_of, stated_type, named_sets, idr_pic_id, lsb_count, delta_count, pic_order_cnt, filter_offsets, deblocking_of, deblocking};
+ghost use Rattle.h264_header.specs.Header.{is_judged_type, type_of, stated_type, named_sets, idr_pic_id, lsb_count, delta_count, pic_order_cnt, filter_offsets, deblocking};
 ghost use Rattle.h264_header.specs.Header.{header as header_of};
 ghost use Rattle.h264_header.specs.Parts.{header_from_frame_num, header_from_kind, header_from_qp};
 
@@ -117,26 +116,20 @@ fn read_idr<S: Elements>(
     Ok(Some(part))
 }
 
-/// delta_pic_order_cnt_bottom, or 0.
-fn read_lsb_bottom<S: Elements>(present: bool, bits: &mut Bits, sink: &mut S) -> Result<i32, Stop>
+/// The delta of this name, where it is present, or 0.
+fn read_delta<S: Elements>(
+    present: bool,
+    name: ElementName,
+    bits: &mut Bits,
+    sink: &mut S,
+) -> Result<i32, Stop>
     requires { S.failures sink.old < 2 ^ 64 - 1 }
-    ensures { Meets S.took S.failures (Is (λ x. x)) (or_0 present (signed DeltaPicOrderCntBottom)) bits.old bits.new sink.old sink.new result }
+    ensures { Meets S.took S.failures (Is (λ x. x)) (or_0 present (signed name)) bits.old bits.new sink.old sink.new result }
 {
     if !present {
         return Ok(0);
     }
-    se_value(bits, ElementName::DeltaPicOrderCntBottom, sink)
-}
-
-/// delta_pic_order_cnt[1], or 0.
-fn read_delta_bottom<S: Elements>(present: bool, bits: &mut Bits, sink: &mut S) -> Result<i32, Stop>
-    requires { S.failures sink.old < 2 ^ 64 - 1 }
-    ensures { Meets S.took S.failures (Is (λ x. x)) (or_0 present (signed DeltaPicOrderCnt)) bits.old bits.new sink.old sink.new result }
-{
-    if !present {
-        return Ok(0);
-    }
-    se_value(bits, ElementName::DeltaPicOrderCnt, sink)
+    se_value(bits, name, sink)
 }
 
 /// The elements of type 0.
@@ -151,7 +144,8 @@ fn read_lsb_count<S: Elements>(
     ensures { Meets S.took S.failures (Is (λ x. x)) (lsb_count length has_bottom) bits.old bits.new sink.old sink.new result }
 {
     let lsb = read_bits(bits, ElementName::PicOrderCntLsb, length, sink)?;
-    let bottom = read_lsb_bottom(has_bottom, bits, sink)?;
+    let name = ElementName::DeltaPicOrderCntBottom;
+    let bottom = read_delta(has_bottom, name, bits, sink)?;
     Ok(PicOrderCnt::Lsb {
         pic_order_cnt_lsb: lsb.value,
         delta_pic_order_cnt_bottom: bottom,
@@ -167,8 +161,9 @@ fn read_delta_count<S: Elements>(
     requires { S.failures sink.old < 2 ^ 64 - 1 }
     ensures { Meets S.took S.failures (Is (λ x. x)) (delta_count has_bottom) bits.old bits.new sink.old sink.new result }
 {
-    let top = se_value(bits, ElementName::DeltaPicOrderCnt, sink)?;
-    let bottom = read_delta_bottom(has_bottom, bits, sink)?;
+    let name = ElementName::DeltaPicOrderCnt;
+    let top = se_value(bits, name, sink)?;
+    let bottom = read_delta(has_bottom, name, bits, sink)?;
     Ok(PicOrderCnt::Deltas { top, bottom })
 }
 
@@ -204,34 +199,20 @@ fn read_filter_offsets<S: Elements>(bits: &mut Bits, sink: &mut S) -> Result<Fil
     })
 }
 
-/// What goes with disable_deblocking_filter_idc 0.
-fn read_all_edges<S: Elements>(bits: &mut Bits, sink: &mut S) -> Result<Deblocking, Stop>
-    requires { S.failures sink.old < 2 ^ 64 - 1 }
-    ensures { Meets S.took S.failures (Is (λ x. x)) (deblocking_of 0) bits.old bits.new sink.old sink.new result }
-{
-    let offsets = read_filter_offsets(bits, sink)?;
-    Ok(Deblocking::AllEdges(offsets))
-}
-
-/// What goes with disable_deblocking_filter_idc 2.
-fn read_within_slice<S: Elements>(bits: &mut Bits, sink: &mut S) -> Result<Deblocking, Stop>
-    requires { S.failures sink.old < 2 ^ 64 - 1 }
-    ensures { Meets S.took S.failures (Is (λ x. x)) (deblocking_of 2) bits.old bits.new sink.old sink.new result }
-{
-    let offsets = read_filter_offsets(bits, sink)?;
-    Ok(Deblocking::WithinSlice(offsets))
-}
-
 /// disable_deblocking_filter_idc, and what goes with it.
 fn read_idc<S: Elements>(bits: &mut Bits, sink: &mut S) -> Result<Deblocking, Stop>
     requires { S.failures sink.old < 2 ^ 64 - 1 }
     ensures { Meets S.took S.failures (Is (λ x. x)) (deblocking true) bits.old bits.new sink.old sink.new result }
 {
     let idc = ue_up_to(bits, ElementName::DisableDeblockingFilterIdc, 2, sink)?;
-    match idc {
-        0 => read_all_edges(bits, sink),
-        1 => Ok(Deblocking::Off),
-        _ => read_within_slice(bits, sink),
+    if idc == 1 {
+        return Ok(Deblocking::Off);
+    }
+    let offsets = read_filter_offsets(bits, sink)?;
+    if idc == 0 {
+        Ok(Deblocking::AllEdges(offsets))
+    } else {
+        Ok(Deblocking::WithinSlice(offsets))
     }
 }
 

@@ -1,17 +1,11 @@
 use Rattle.std.proofs.Common.{refl}
 use Rattle.std.proofs.lemmas.Result.{err_from_is_err_and}
 use Rattle.h264_base.proofs.Steps.{bind, stop, done}
-use Rattle.h264_header.specs.Marking.{operands}
+use Rattle.h264_header.proofs.Entries.{long-by_values}
 use Rattle.h264_header.proofs.marking.read_make_long.Goals as goal
 
 pub returns-in_err-difference : goal.returns-in_err-difference
-unfolding operands
-returns-in_err-difference g c = let p = err_from_is_err_and c.from_residual.result c.from_residual.ensures.1 in rw (p.1, p.2) (stop _ c.in_err-difference.ensures)
-
-pub returns-in_err-index : goal.returns-in_err-index
-unfolding operands
-returns-in_err-index g c = let p = err_from_is_err_and c.from_residual-in_err-index.result c.from_residual-in_err-index.ensures.1 in rw (p.1, p.2) (bind _ c.in_ok-difference.ensures (stop _ c.in_err-index.ensures))
+returns-in_err-difference g c = let p = err_from_is_err_and c.from_residual.result c.from_residual.ensures.1 in rw (p.1, p.2) (rw long-by_values (stop _ c.in_err-difference.ensures))
 
 pub returns : goal.returns
-unfolding operands
-returns g c = bind _ c.in_ok-difference.ensures (bind _ c.in_ok-index.ensures (done _ _ _ _ _ _ _ refl))
+returns g c = rw long-by_values (bind _ c.in_ok-difference.ensures (done _ _ _ _ _ _ _ refl))

@@ -1,7 +1,7 @@
 use Rattle.std.proofs.Common.{refl}
 use Rattle.h264_base.proofs.Steps.{done}
 use Rattle.h264_header.specs.Listed.{or_0}
-use Rattle.h264_header.proofs.read.read_lsb_bottom.Goals as goal
+use Rattle.h264_header.proofs.read.read_delta.Goals as goal
 
 pub returns-then-not-present : goal.returns-then-not-present
 unfolding or_0
