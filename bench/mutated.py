@@ -6,9 +6,9 @@ which h264v does not judge), and streams with two frames of one order count in a
 in frame_num are not for this: where more than max_num_ref_frames are missing, ffmpeg passes over them, and counts otherwise.
 On Debian: apt-get install ffmpeg x264"""
 import collections
-import os
 import random
 import re
+import shutil
 import subprocess
 import sys
 import tempfile
@@ -68,7 +68,7 @@ def changed(stream, chance):
             units[i] = bytes(unit)
     elif way < 0.86:
         i = chance.choice(slices)
-        at = chance.randrange(4, len(units[i]))
+        at = chance.randrange(4, len(units[i]) + 1)
         units[i] = units[i][:at] + bytes([chance.randrange(256)]) + units[i][at:]
     elif way < 0.91:
         del units[chance.randrange(len(units))]
@@ -120,11 +120,11 @@ def main(program, seconds, seed="1", *paths):
             else:
                 counts["yes, other frames"] += 1
                 kept = f"mutated-{seed}-{sum(counts.values())}.264"
-                os.replace(path, kept)
+                shutil.move(path, kept)
                 print(f"differs: {kept}", flush=True)
     for name, count in sorted(counts.items()):
         print(f"{name}: {count}")
-    return 1 if counts["yes, other frames"] else 0
+    return 1 if counts["yes, other frames"] or any(it.startswith("status") for it in counts) else 0
 
 
 if __name__ == "__main__":
