@@ -17,7 +17,7 @@ use Rattle.h264_report.specs.Written.{OfBytes, IsFront, Answers, Account, calls_
 use Rattle.h264_report.specs.declared.listing.Listing.{Listing}
 use Rattle.h264_report.specs.declared.trail.Element.{Element}
 use Rattle.h264_report.proofs.Known.{sends-more, sends-none, sends-keeps, some-behind}
-use Rattle.h264_verify.specs.Telling.{Told, Tells, took_with, calls_of, AreDecoded}
+use Rattle.h264_slices.specs.Telling.{Told, Tells, took_with, calls_of, AreDecoded}
 use Rattle.h264_verify.specs.Verdict.{Verdict, Whole, Front, JudgedBy, Judged}
 use Rattle.h264_verify.specs.declared.judge.Summary.{Summary}
 use Rattle.h264_verify.proofs.Verdicts.{judges-judged, none-judged}

@@ -13,7 +13,7 @@ use Rattle.h264_report.specs.Told.{ended, lines_of, bytes_of, elements_of, IsLin
 use Rattle.h264_report.specs.Trail.{element_lines}
 use Rattle.h264_report.specs.declared.listing.Listing.{Listing}
 use Rattle.h264_report.specs.declared.trail.Element.{Element}
-use Rattle.h264_verify.specs.Telling.{Told, calls_of, AreDecoded}
+use Rattle.h264_slices.specs.Telling.{Told, calls_of, AreDecoded}
 use Rattle.h264_verify.specs.Verdict.{Verdict}
 use Rattle.h264_verify.specs.declared.judge.Summary.{Summary}
 

@@ -3,18 +3,16 @@ use Rattle.std.proofs.Common.{◌≡◌, ℕ, ◌≤◌, List, [], ◌∷◌, �
 use Rattle.h264_base.specs.declared.stop.Stop.{Stop}
 use Rattle.h264_base.specs.declared.stop.Stop.TheVariants.{No, Outside, Memory, Read, Write}
 use Rattle.h264_base.specs.Call.{Call}
-use Rattle.h264_plane.specs.declared.frame.Component.{Component}
 use Rattle.h264_plane.specs.declared.frame.Frame.{Frame}
-use Rattle.h264_plane.specs.Frames.{plane_of}
-use Rattle.h264_plane.specs.Samples.{at}
 use Rattle.h264_dpb.specs.Shown.{frame_call}
 use Rattle.h264_dpb.specs.Kept.{shown_call}
-use Rattle.h264_verify.specs.Pictures.{CodedSlice, CodedPicture}
-use Rattle.h264_verify.specs.Decoding.{EachSlice, slices_of, Refers, IsDecoded}
-use Rattle.h264_verify.specs.Telling.{Told, Said, Decodes, Shows, calls_of, HasFrame, AreDecoded, took_with, Tells, TellsFront, Agree, AreOf}
-use Rattle.h264_verify.specs.Outcome.{Outcome, Plays, PlaysBy}
+use Rattle.h264_slices.specs.Pictures.{CodedPicture}
+use Rattle.h264_slices.specs.Decoding.{slices_of, IsDecoded}
+use Rattle.h264_slices.specs.Telling.{Told, Said, Decodes, Shows, calls_of, HasFrame, AreDecoded, took_with, Tells, TellsFront, Agree, AreOf}
+use Rattle.h264_slices.specs.Outcome.{Outcome, Plays, PlaysBy}
 use Rattle.h264_verify.specs.Verdict.{SameTold}
-use Rattle.h264_verify.proofs.Saying.{tells-said}
+use Rattle.h264_slices.proofs.Saying.{tells-said}
+use Rattle.h264_slices.proofs.Agreeing.{each-slice, refers-agree}
 
 -- ---- families
 
@@ -48,16 +46,6 @@ of-more m n (Decodes ps ∷ told) l h = (omega (arith, l, h.0), of-more m n told
 of-more m n (Shows e ∷ told) l h = (omega (arith, l, h.0), of-more m n told l h.1)
 
 -- ---- decoded pictures
-
-pub each-slice : {P Q : CodedSlice → Type 0} → ((s : CodedSlice) → P s → Q s) → (slices : List CodedSlice) → EachSlice P slices → EachSlice Q slices
-each-slice f [] h = tt
-each-slice f (s ∷ slices) h = (f s h.0, each-slice f slices h.1)
-
-pub refers-agree : (frames others : ℕ → Frame) (p : CodedPicture) (ps : List CodedPicture) (place : ℕ → ℕ) (reference : ℕ → Component → ℕ → ℕ → ℕ) → Agree (length ps) frames others → (s : CodedSlice) → Refers frames p ps place reference s → Refers others p ps place reference s
-refers-agree frames others p ps place reference a s h = record {
-  before = h.before;
-  samples = λ k n l e c x y. h.samples k n l e c x y ∙ ap (λ (f : Frame). at (plane_of c f) x y) (a n (h.before k n l e));
-}
 
 pub decoded-agree : (n : ℕ) (frames others : ℕ → Frame) (p : CodedPicture) (ps : List CodedPicture) → length (p ∷ ps) ≤ n → Agree n frames others → HasFrame frames (p ∷ ps) → HasFrame others (p ∷ ps)
 decoded-agree n frames others p ps l a h =

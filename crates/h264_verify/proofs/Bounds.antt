@@ -2,13 +2,13 @@
 use Rattle.std.proofs.Common.{◌≡◌, ℕ, Bool, true, false, List, ◌∷◌, ◌++◌, sym, ◌∙◌, subst}
 use Rattle.h264_base.specs.declared.mode.Mode.TheVariants as modes
 use Rattle.h264_verify.specs.declared.judge.Summary.{Summary}
-use Rattle.h264_verify.specs.Telling.{Told}
-use Rattle.h264_verify.specs.History.{History}
-use Rattle.h264_verify.specs.Pictures.{CodedPicture, goes_on, held_in, runs_of}
-use Rattle.h264_verify.specs.Buffering.{within_newest}
-use Rattle.h264_verify.specs.Keeping.{ended_pictures}
-use Rattle.h264_verify.specs.Sound.{AreSound, has_ended}
-use Rattle.h264_verify.specs.Held.{AreAmong}
+use Rattle.h264_slices.specs.Telling.{Told}
+use Rattle.h264_slices.specs.History.{History}
+use Rattle.h264_slices.specs.Pictures.{CodedPicture, goes_on, held_in, runs_of}
+use Rattle.h264_slices.specs.Buffering.{within_newest}
+use Rattle.h264_slices.specs.Keeping.{ended_pictures}
+use Rattle.h264_slices.specs.Sound.{AreSound, has_ended}
+use Rattle.h264_slices.specs.Held.{AreAmong}
 use Rattle.h264_verify.specs.Predicting.{ArePredicted}
 use Rattle.h264_verify.specs.Within.{DecodesWithin, EndsWithin}
 use Rattle.h264_verify.specs.Verdict.{AreLegal, Holds}
@@ -16,8 +16,8 @@ use Rattle.h264_verify.proofs.Leaving.{stands, all-sound}
 use Rattle.h264_verify.proofs.Named.{AreRead}
 use Rattle.h264_verify.proofs.Predicting.{read-at, are-predicted}
 use Rattle.h264_verify.proofs.Soundness.{ended-are, sound-at, ended-at}
-use Rattle.h264_verify.proofs.Sound.{size-fits}
-use Rattle.h264_verify.proofs.Referring.{among-within}
+use Rattle.h264_slices.proofs.Sound.{size-fits}
+use Rattle.h264_slices.proofs.Referring.{among-within}
 use Rattle.h264_verify.proofs.Within.{after-sits, newest-sits, filling-sits}
 
 decodes-within : (ended : Bool) (p : CodedPicture) (ps : List CodedPicture) → AreSound ended (p ∷ ps) → DecodesWithin p ps

@@ -5,7 +5,7 @@ use Rattle.h264_base.specs.declared.mode.Mode.{Mode}
 use Rattle.h264_base.specs.declared.mode.Mode.TheVariants as modes
 use Rattle.h264_base.specs.declared.stop.Stop.{Stop}
 use Rattle.h264_base.specs.declared.stop.Stop.TheVariants.{No}
-use Rattle.h264_verify.specs.Telling.{Told, Said, said_of, AreOf}
+use Rattle.h264_slices.specs.Telling.{Told, Said, said_of, AreOf}
 use Rattle.h264_base.specs.Body.{Body}
 use Rattle.h264_base.specs.Grammar.{Grammar, ◌>>=◌ as ◌bind◌, Done, Element}
 use Rattle.h264_base.specs.Run.{Run, run}
@@ -20,22 +20,23 @@ use Rattle.h264_sps.specs.Sps.{sps}
 use Rattle.h264_pps.specs.Pps.{pps}
 use Rattle.h264_header.specs.Layout.{sets_of}
 use Rattle.h264_header.specs.Header.{header}
-use Rattle.h264_verify.specs.Content.{Content}
-use Rattle.h264_verify.specs.Content as contents
-use Rattle.h264_verify.specs.Outcome.{Outcome, ◌>>=◌, with_calls, goes_on, answers, gives, tells, value_of, structure_outcome, Plays}
-use Rattle.h264_verify.specs.Steps.{Step, needs}
-use Rattle.h264_verify.specs.UnitHeader.{header_of, nal_unit_type, header_demands}
-use Rattle.h264_verify.specs.History.{History, maps_of}
-use Rattle.h264_verify.specs.Pictures.{CodedPicture, goes_on as may_go_on, runs_of, closing_at, closing_demands}
-use Rattle.h264_verify.specs.Buffering.{closing_frames, last_frames}
-use Rattle.h264_verify.specs.Keeping.{ended_pictures, close_steps}
-use Rattle.h264_verify.specs.Closing.{whole_at, whole_picture, whole_steps}
-use Rattle.h264_verify.specs.Demands.{Demand}
+use Rattle.h264_slices.specs.Content.{Content}
+use Rattle.h264_slices.specs.Content as contents
+use Rattle.h264_slices.specs.Outcome.{Outcome, ◌>>=◌, with_calls, goes_on, answers, gives, tells, value_of, structure_outcome, Plays}
+use Rattle.h264_slices.specs.Steps.{Step, needs}
+use Rattle.h264_slices.specs.UnitHeader.{header_of, nal_unit_type, header_demands}
+use Rattle.h264_slices.specs.History.{History, maps_of}
+use Rattle.h264_slices.specs.Pictures.{CodedPicture, goes_on as may_go_on, runs_of, closing_at, closing_demands}
+use Rattle.h264_slices.specs.Buffering.{closing_frames, last_frames}
+use Rattle.h264_slices.specs.Keeping.{ended_pictures, close_steps}
+use Rattle.h264_slices.specs.Closing.{whole_at, whole_picture, whole_steps}
+use Rattle.h264_slices.specs.Demands.{Demand}
 use Rattle.h264_verify.specs.declared.judge.Summary.{Summary}
 use Rattle.h264_verify.specs.Units.{unit_call, is_slice, slice_unit, other_content, content, content_steps, data_course, content_course, frames_at, end_steps, picture_demand, summary_of}
-use Rattle.h264_verify.specs.UnitOutcome.{steps_outcome, structure_from, course_outcome, sps_outcome, pps_outcome, slice_outcome, header_content, whole_slice, joined, joined_on, joined_other, joined_by, unit_by_steps, unit_outcome, end_outcome}
-use Rattle.h264_verify.proofs.Stepping.{outcome, needs-judged, steps-append}
-use Rattle.h264_verify.proofs.Playing.{plays-on, plays-stops, gives-plays}
+use Rattle.h264_slices.specs.StepOutcome.{steps_outcome, structure_from, course_outcome}
+use Rattle.h264_verify.specs.UnitOutcome.{sps_outcome, pps_outcome, slice_outcome, header_content, whole_slice, joined, joined_on, joined_other, joined_by, unit_by_steps, unit_outcome, end_outcome}
+use Rattle.h264_slices.proofs.Stepping.{outcome, needs-judged, steps-append}
+use Rattle.h264_slices.proofs.Playing.{plays-on, plays-stops, gives-plays, plays-as}
 use Rattle.h264_verify.proofs.Growing.{closing-of}
 
 -- one part after another, in either bracketing
@@ -178,10 +179,6 @@ by-steps mode before unit =
 
 pub plays-course : {S X : Type 0} (took : S → List Told → Type 0) (failures : S → ℕ) (view : X → History) (mode : Mode) (before : History) (unit : NalUnit) (s s' : S) (r : Result X Stop) → Plays took failures view (unit_by_steps mode before unit) s s' r → Plays took failures view (unit_outcome mode before unit) s s' r
 plays-course took failures view mode before unit s s' r p = subst (λ o. Plays took failures view o s s' r) (sym (by-steps mode before unit)) p
-
--- the same outcome
-pub plays-as : {A S X : Type 0} (took : S → List Told → Type 0) (failures : S → ℕ) (view : X → A) (o p : Outcome A) (s s' : S) (r : Result X Stop) → o ≡ p → Plays took failures view p s s' r → Plays took failures view o s s' r
-plays-as took failures view o p s s' r e k = subst (λ q. Plays took failures view q s s' r) (sym e) k
 
 -- no fewer pictures have ended once the newest has
 pub ended-grows : (on ends : Bool) (pictures : List CodedPicture) → length (ended_pictures on false pictures) ≤ length (ended_pictures on ends pictures)

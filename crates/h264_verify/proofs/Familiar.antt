@@ -1,5 +1,5 @@
 -- The steps of a session one after another, with frames to which more come.
-use Rattle.std.proofs.Common.{◌≡◌, ℕ, ◌≤◌, ◌==◌, true, false, IsFalse, drop, List, [], ◌∷◌, ◌++◌, length, ◌+◌, ◌*◌, Option, Result, Ok, refl, ◌∙◌, subst, arith}
+use Rattle.std.proofs.Common.{◌≡◌, ℕ, ◌≤◌, ◌==◌, true, false, IsFalse, drop, List, [], ◌++◌, length, ◌+◌, ◌*◌, Option, Result, Ok, refl, ◌∙◌, subst, arith}
 use Rattle.std.proofs.lemmas.Bool.{eqb-true}
 use Rattle.std.proofs.lemmas.List.{nil_from_length}
 use Rattle.h264_base.specs.declared.mode.Mode.{Mode}
@@ -10,12 +10,13 @@ use Rattle.h264_units.specs.Stream.{NalUnit}
 use Rattle.h264_units.specs.Splitting.{Splitting, Pushed, Taken, Finished}
 use Rattle.h264_verify.specs.declared.judge.State.{State}
 use Rattle.h264_verify.specs.declared.judge.Summary.{Summary}
-use Rattle.h264_verify.specs.Outcome.{Plays}
-use Rattle.h264_verify.specs.Telling.{took_with, Agree, AreOf}
+use Rattle.h264_slices.specs.Outcome.{Plays}
+use Rattle.h264_slices.specs.Telling.{took_with, Agree, AreOf}
 use Rattle.h264_verify.specs.Judging.{Judging}
 use Rattle.h264_verify.specs.Session.{Standing, Goes, Fed}
-use Rattle.h264_verify.specs.History.{History}
-use Rattle.h264_verify.specs.Keeping.{Keeps, KeepsSome, ended_in}
+use Rattle.h264_slices.specs.History.{History}
+use Rattle.h264_verify.specs.Keeping.{Keeps, KeepsSome}
+use Rattle.h264_slices.specs.Keeping.{ended_in}
 use Rattle.h264_verify.specs.UnitOutcome.{judging, unit_outcome, end_outcome}
 use Rattle.h264_verify.specs.Feeding.{behind, Turns, EndsAll, GoesOn, StopsOn, FinishesOn}
 use Rattle.h264_verify.proofs.Agreeing.{of-more, of-both, tells-agree, plays-agree}

@@ -3,16 +3,15 @@ use Rattle.std.proofs.Common.{◌≡◌, ℕ, ◌+◌, ◌*◌, ◌↔◌, Bool,
 use Rattle.std.proofs.lemmas.List.{append-nil}
 use Rattle.h264_base.specs.declared.stop.Stop.{Stop}
 use Rattle.h264_base.specs.declared.stop.Stop.TheVariants.{No, Outside, Memory, Read, Write}
-use Rattle.h264_verify.specs.Telling.{Told}
+use Rattle.h264_slices.specs.Telling.{Told}
 use Rattle.h264_units.specs.Stream.{NalUnit, Next, past, Tail, Zeros, Stray, Bare, Long, Cut, HasTail, tail_stop}
 use Rattle.h264_units.specs.Splitting.{Splitting, Taken, Finished, FinishStops}
 use Rattle.h264_units.proofs.Streams.{same-units}
-use Rattle.h264_verify.specs.Outcome.{Outcome, ◌>>=◌, answers, Plays, IsNamed}
+use Rattle.h264_slices.specs.Outcome.{Outcome, ◌>>=◌, answers, Plays, IsNamed}
 use Rattle.h264_verify.specs.Judging.{Judging, tail_outcome, units_outcome, Comes}
 use Rattle.h264_verify.specs.Session.{Standing, ToCome, Finishes}
-use Rattle.h264_verify.proofs.Tellings.{tells-none}
 use Rattle.h264_verify.proofs.Feeding.{tail-answer, tail-stops, first-judged}
-use Rattle.h264_verify.proofs.Playing.{plays-stops, plays-on, plays-not-read, plays-write}
+use Rattle.h264_slices.proofs.Playing.{plays-stops, plays-on, plays-not-read, plays-write, answers-plays}
 
 nothing-more : {State Summary : Type 0} (j : Judging State Summary) (p : Standing State) (o : Outcome Summary) → ToCome j p [] o → Comes j p.split.at p.state p.split.rest o
 nothing-more j p o c = subst (λ l. Comes j p.split.at p.state l o) (append-nil p.split.rest) c
@@ -35,13 +34,6 @@ tail-named (Stray p) Write e = cc
 tail-named (Bare p) Write e = cc
 tail-named (Long p) Write e = cc
 tail-named Cut Write e = cc
-
-pub answers-plays : {X S : Type 0} (took : S → List Told → Type 0) (failures : S → ℕ) (stop : Stop) (s : S) → IsNamed stop → Plays {X = X} took failures (λ (x : X). x) (answers (Err stop)) s s (Err stop)
-answers-plays took failures (No bit rule) s n = record { plays = (refl, tells-none took s, refl) }
-answers-plays took failures (Outside bit feature) s n = record { plays = (refl, tells-none took s, refl) }
-answers-plays took failures Memory s n = absurd n
-answers-plays took failures Read s n = absurd n
-answers-plays took failures Write s n = absurd n
 
 pub finish-stops : {State Summary : Type 0} (j : Judging State Summary) {S : Type 0} (took : S → List Told → Type 0) (failures : S → ℕ) (old new : Splitting) (state : State) (s : S) (stop : Stop) → FinishStops old new stop → Finishes j took failures (record { split = old; state = state }) s s (Err stop)
 finish-stops {Summary} j took failures old new state s stop f =

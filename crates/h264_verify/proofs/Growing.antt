@@ -41,22 +41,23 @@ use Rattle.h264_dpb.specs.Ending.{ended_of}
 use Rattle.h264_dpb.specs.Kept.{Each}
 use Rattle.h264_dpb.specs.Turns.{Shown, Turn, turn_then, stays, still, entry_of, empties, flush_turn, reference_turn, other_turn, missing_turn, way_turn, store_turn, end_turn}
 use Rattle.h264_dpb.proofs.Every.{each-append, each-marked, both-flushed, both-made_room, both-reference, both-other}
-use Rattle.h264_verify.specs.Telling.{Told, Said, Decodes, Shows, said_of, IsOf, AreOf}
-use Rattle.h264_verify.specs.Content.{Content}
-use Rattle.h264_verify.specs.Content as contents
-use Rattle.h264_verify.specs.Demands.{Demand}
-use Rattle.h264_verify.specs.Steps.{Step, Needs, Tells, needs, Course}
-use Rattle.h264_verify.specs.UnitHeader.{header_of, nal_unit_type, header_demands}
-use Rattle.h264_verify.specs.History.{History, maps_of}
-use Rattle.h264_verify.specs.Pictures.{CodedSlice, CodedPicture, sets_at, with_sets, ends_picture, goes_on, open_of, begins_after, begins_at, joined_to, joined_by, runs_of, coded_of, prev_ref_frame_num_of, held_after, closing_demands, closing_at}
-use Rattle.h264_verify.specs.Closing.{whole_picture, whole_steps, whole_at}
-use Rattle.h264_verify.specs.Slices.{is_idr_due, new_num_demand, gap_rules, first_mb_demands, first_slice_rules, rules_of, steps_by, slice_steps}
-use Rattle.h264_verify.specs.Data.{slice_data_at}
+use Rattle.h264_slices.specs.Telling.{Told, Said, Decodes, Shows, said_of, IsOf, AreOf}
+use Rattle.h264_slices.specs.Content.{Content}
+use Rattle.h264_slices.specs.Content as contents
+use Rattle.h264_slices.specs.Demands.{Demand}
+use Rattle.h264_slices.specs.Steps.{Step, Needs, Tells, needs, Course}
+use Rattle.h264_slices.specs.UnitHeader.{header_of, nal_unit_type, header_demands}
+use Rattle.h264_slices.specs.History.{History, maps_of}
+use Rattle.h264_slices.specs.Pictures.{CodedSlice, CodedPicture, sets_at, with_sets, ends_picture, goes_on, open_of, begins_after, begins_at, joined_to, joined_by, runs_of, coded_of, prev_ref_frame_num_of, held_after, closing_demands, closing_at}
+use Rattle.h264_slices.specs.Closing.{whole_picture, whole_steps, whole_at}
+use Rattle.h264_slices.specs.Slices.{is_idr_due, new_num_demand, gap_rules, first_mb_demands, first_slice_rules, rules_of, steps_by, slice_steps}
+use Rattle.h264_slices.specs.Data.{slice_data_at}
 use Rattle.h264_verify.specs.Units.{unit_call, is_slice, slice_unit, header_or_passed, other_content, content, content_steps, data_course, frames_at, content_course, unit_course, end_steps}
-use Rattle.h264_verify.specs.Outcome.{Outcome, ◌>>=◌, goes_on as outcome_on, answers, gives}
-use Rattle.h264_verify.specs.UnitOutcome.{steps_outcome, structure_from, course_outcome, unit_outcome}
-use Rattle.h264_verify.specs.Keeping.{ended_pictures, ended_in}
-use Rattle.h264_verify.specs.Buffering.{gap_on, gaps_turn, missing_before, gaps_before, ended_picture, ended_turn, after_all, within_newest, told_frames, told_picture, end_frames, closing_frames, missing_on, missing_steps, last_frames}
+use Rattle.h264_slices.specs.Outcome.{Outcome, ◌>>=◌, goes_on as outcome_on, answers, gives}
+use Rattle.h264_slices.specs.StepOutcome.{steps_outcome, structure_from, course_outcome}
+use Rattle.h264_verify.specs.UnitOutcome.{unit_outcome}
+use Rattle.h264_slices.specs.Keeping.{ended_pictures, ended_in}
+use Rattle.h264_slices.specs.Buffering.{gap_on, gaps_turn, missing_before, gaps_before, ended_picture, ended_turn, after_all, within_newest, told_frames, told_picture, end_frames, closing_frames, missing_on, missing_steps, last_frames}
 
 -- ---- frames in the buffer
 

@@ -6,33 +6,34 @@ use Rattle.h264_base.specs.declared.mode.Mode.TheVariants as modes
 use Rattle.h264_base.specs.declared.stop.Stop.{Stop}
 use Rattle.h264_base.specs.Call.{Call}
 use Rattle.h264_plane.specs.declared.frame.Frame.{Frame}
-use Rattle.h264_verify.specs.Telling.{took_with, Agree}
-use Rattle.h264_verify.specs.declared.decoder.Decoder.{Decoder}
+use Rattle.h264_slices.specs.Telling.{took_with, Agree}
+use Rattle.h264_slices.specs.declared.decoder.Decoder.{Decoder}
 use Rattle.h264_units.specs.Stream.{NalUnit}
 use Rattle.h264_verify.specs.declared.judge.State.{State}
-use Rattle.h264_verify.specs.Outcome.{Outcome, gives, Plays}
-use Rattle.h264_verify.specs.Content.{Content}
-use Rattle.h264_verify.specs.Content as contents
-use Rattle.h264_verify.specs.History.{History, ReadUnit, maps_of, maps_with}
-use Rattle.h264_verify.specs.UnitHeader.{header_of, nal_unit_type}
-use Rattle.h264_verify.specs.Pictures.{CodedSlice, CodedPicture, with_sets, ends_picture, open_of, goes_on, runs_of, begins_after, begins_at, joined_to, joined_by}
+use Rattle.h264_slices.specs.Outcome.{Outcome, gives, Plays}
+use Rattle.h264_slices.specs.Content.{Content}
+use Rattle.h264_slices.specs.Content as contents
+use Rattle.h264_slices.specs.History.{History, ReadUnit, maps_of, maps_with}
+use Rattle.h264_slices.specs.UnitHeader.{header_of, nal_unit_type}
+use Rattle.h264_slices.specs.Pictures.{CodedSlice, CodedPicture, with_sets, ends_picture, open_of, goes_on, runs_of, begins_after, begins_at, joined_to, joined_by}
 use Rattle.std.specs.Option.{option_map}
-use Rattle.h264_verify.specs.Buffering.{after_all}
 use Rattle.h264_near.specs.Coded.{CodedMacroblock}
 use Rattle.h264_sets.specs.Sets.{Maps}
 use Rattle.h264_sps.specs.declared.sps.Sps.{Sps}
 use Rattle.h264_pps.specs.declared.Pps.{Pps}
 use Rattle.h264_header.specs.Layout.{sets_of}
-use Rattle.h264_picture.specs.declared.work.Work.{Work}
-use Rattle.h264_verify.specs.Keeping.{Keeps, KeepsWithin, KeepsSome, KeepsSomeSlice, KeepsFrames, KeepsDecoder, FillsFrames, KeepsGap, EntersSome, EntersDecoder, EntersBy, HoldsCoded, HoldsData, HoldsNewest, IsLeft}
+use Rattle.h264_verify.specs.Keeping.{Keeps, KeepsWithin, KeepsSome}
+use Rattle.h264_slices.specs.Keeping.{KeepsSomeSlice, KeepsFrames, KeepsDecoder, EntersDecoder, EntersBy, IsLeft, KeepsSlices}
 use Rattle.h264_header.specs.declared.header.Header.{Header}
 use Rattle.h264_verify.specs.Units.{is_slice, content_steps}
-use Rattle.h264_verify.specs.UnitOutcome.{steps_outcome, slice_outcome, whole_slice, joined, joined_other}
+use Rattle.h264_slices.specs.StepOutcome.{steps_outcome}
+use Rattle.h264_verify.specs.UnitOutcome.{slice_outcome, whole_slice, joined, joined_other}
 use Rattle.h264_units.specs.Splitting.{Splitting}
 use Rattle.h264_verify.specs.Progress.{IsReady, IsSession}
 use Rattle.h264_verify.specs.Feeding.{Joins}
-use Rattle.h264_verify.proofs.Playing.{plays-stops, plays-on, plays-then, choice-true, choice-false}
-use Rattle.h264_verify.proofs.Entering.{IsNoSlice, EndsBefore, passed-keeps}
+use Rattle.h264_slices.proofs.Playing.{plays-stops, plays-on, plays-then, choice-true, choice-false}
+use Rattle.h264_slices.proofs.Entering.{IsNoSlice, EndsBefore, passed-keeps}
+use Rattle.h264_slices.specs.declared.slices.Slices.{Slices}
 
 module _ {S : Type 0} (mode : Mode) (frames : ℕ → Frame) (took : S → List Call → Type 0) (failures : S → ℕ) (ended : ℕ) (before : History) (unit : NalUnit) (content : Outcome Content) (new : State) where
   -- what was read is judged, and frames were made
@@ -127,45 +128,9 @@ pub enters-full : (frames : ℕ → Frame) (begins : Bool) (s : CodedSlice) (on 
 unfolding EntersDecoder
 enters-full frames begins s on pictures d h = h
 
--- there is a picture that begins
-pub enters-some : (frames : ℕ → Frame) (begins : Bool) (s : CodedSlice) (on : Bool) (pictures : List CodedPicture) (d : Decoder) → begins ≡ true → EntersBy frames begins s on pictures d → EntersSome d
-enters-some frames true s on pictures d b k = record { frames = frames; slice = s; pictures = pictures; keeps = k }
-enters-some frames false s on pictures d b k = cc
-
-coded-by : (frames : ℕ → Frame) (on : Bool) (pictures : List CodedPicture) (d : Decoder) → KeepsFrames frames on false pictures d → HoldsCoded (open_of on pictures) d.work
-coded-by frames on [] d h = tt
-coded-by frames true (p ∷ ps) d h = h.picture.so_far.holds
-coded-by frames false (p ∷ ps) d h = tt
-
--- the macroblocks of the picture that may go on
-pub data-held : (mode : Mode) (frames : ℕ → Frame) (on : Bool) (pictures : List CodedPicture) (d : Decoder) → KeepsDecoder mode frames on false pictures d → HoldsData mode (open_of on pictures) d.work
-unfolding KeepsDecoder HoldsData
-data-held modes.Units frames on pictures d h = tt
-data-held modes.Headers frames on pictures d h = tt
-data-held modes.Full frames on pictures d h = coded-by frames on pictures d h
-
--- once the newest picture has ended
-gap-by : (frames : ℕ → Frame) (on : Bool) (pictures : List CodedPicture) (d : Decoder) → KeepsFrames frames on true pictures d → FillsFrames frames (after_all pictures) (length pictures) d
-gap-by frames on [] d h = record { output = h.output; settled = h.picture }
-gap-by frames true (p ∷ ps) d h = record { output = h.output; settled = h.picture }
-gap-by frames false (p ∷ ps) d h = record { output = h.output; settled = h.picture }
-
-pub ended-gap : (mode : Mode) (frames : ℕ → Frame) (on : Bool) (pictures : List CodedPicture) (d : Decoder) → KeepsDecoder mode frames on true pictures d → KeepsGap mode frames (after_all pictures) (length pictures) d
-unfolding KeepsDecoder KeepsGap
-ended-gap modes.Units frames on pictures d h = tt
-ended-gap modes.Headers frames on pictures d h = tt
-ended-gap modes.Full frames on pictures d h = gap-by frames on pictures d h
-
 -- there are units of which this is kept, before a slice
 pub some-slice : (mode : Mode) (state : State) → KeepsSome mode false state → KeepsSomeSlice mode state.slices state.sets state.decoder
 some-slice mode state k = record { frames = k.frames; before = k.before; sets_are = k.keeps.sets; slices_are = k.keeps.slices; keeps = k.keeps.decoder }
-
--- what a slice that is no first one finds of its picture's macroblocks
-pub holds-newest : (on : Bool) (pictures : List CodedPicture) (h : Header) (begins : Bool) (work : Work) → begins ≡ begins_after (open_of on pictures) h → HoldsCoded (open_of on pictures) work → HoldsNewest begins pictures work
-holds-newest on pictures h true work b k = tt
-holds-newest on [] h false work b k = cc
-holds-newest true (p ∷ ps) h false work b k = k
-holds-newest false (p ∷ ps) h false work b k = cc
 
 -- the pictures with one more slice
 pub runs-with : (before : History) (unit : NalUnit) (h : Header) (ms : List CodedMacroblock) (maps : Maps) (begins : Bool) (sets : Pps × Sps) → begins ≡ begins_at before h → maps ≡ maps_of before → sets_of maps h.pic_parameter_set_id.value ≡ Some sets → joined_to begins (with_sets unit h ms sets) (runs_of before) ≡ runs_of (record { unit = unit; content = contents.OfSlice h ms } ∷ before)
@@ -179,3 +144,7 @@ ready-of mode stop split state e k = subst (λ s. IsSession mode s split state) 
 
 pub session-of : (mode : Mode) (stop : Option Stop) (split : Splitting) (state : State) → stop ≡ None → IsReady mode split state → IsSession mode stop split state
 session-of mode stop split state e k = subst (λ s. IsSession mode s split state) (sym e) k
+
+-- the rest of what is kept stays
+pub within : {mode : Mode} {frames made : ℕ → Frame} {before : History} {ended : Bool} (state : State) (slices : Slices) (decoder : Decoder) → Keeps mode frames before state → KeepsSlices before ended slices → KeepsDecoder mode made (goes_on before) ended (runs_of before) decoder → KeepsWithin mode made before ended (record state { slices = slices; decoder = decoder })
+within state slices decoder k s d = record { units = k.units; sets = k.sets; slices = s; decoder = d }

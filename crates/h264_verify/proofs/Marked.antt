@@ -18,10 +18,10 @@ use Rattle.h264_header.specs.Header.{header, idr_pic_id}
 use Rattle.h264_header.specs.Marking.{dec_ref_pic_marking, idr_marking}
 use Rattle.h264_header.specs.Picture.{is_reference}
 use Rattle.h264_header.proofs.Gives.{Gives, gives-behind, gives-met, gives-derived}
-use Rattle.h264_verify.specs.UnitHeader.{nal_unit_type, nal_ref_idc, is_never_reference, fits_kind}
+use Rattle.h264_slices.specs.UnitHeader.{nal_unit_type, nal_ref_idc, is_never_reference, fits_kind}
 use Rattle.h264_verify.specs.Units.{slice_unit_of}
-use Rattle.h264_verify.specs.Sound.{IsMarked}
-use Rattle.h264_verify.specs.Held.{is_idr_marking, is_own}
+use Rattle.h264_slices.specs.Sound.{IsMarked}
+use Rattle.h264_slices.specs.Held.{is_idr_marking, is_own}
 
 -- what a header takes from its unit
 pub record IsOfUnit (u : SliceUnit) (h : Header) : Type 0 where

@@ -12,19 +12,19 @@ use Rattle.h264_pps.specs.declared.Pps.{Pps}
 use Rattle.h264_header.specs.declared.header.Header.{Header}
 use Rattle.h264_plane.specs.declared.frame.Frame.{Frame}
 use Rattle.h264_verify.specs.declared.judge.Summary.{Summary}
-use Rattle.h264_verify.specs.Telling.{Told, Said, Decodes, Shows, calls_of, HasFrame, AreDecoded, AreOf}
-use Rattle.h264_verify.specs.Content.{Content}
-use Rattle.h264_verify.specs.Content as contents
-use Rattle.h264_verify.specs.Demands.{Demand}
-use Rattle.h264_verify.specs.Outcome.{Outcome}
-use Rattle.h264_verify.specs.Steps.{Step, Needs, Tells, needs, AreMet, IsFirstStop, Course, Takes, Reads, Ends, told, Runs}
-use Rattle.h264_verify.specs.UnitHeader.{header_of, nal_unit_type, header_demands}
-use Rattle.h264_verify.specs.History.{History, maps_of}
-use Rattle.h264_verify.specs.Pictures.{CodedPicture, ends_picture, with_sets, sets_at, goes_on, joined_to, runs_of, begins_at, closing_at, closing_demands}
-use Rattle.h264_verify.specs.Closing.{whole_picture, whole_steps, whole_at}
-use Rattle.h264_verify.specs.Buffering.{end_frames, closing_frames, last_frames}
-use Rattle.h264_verify.specs.Keeping.{ended_pictures, ended_in}
-use Rattle.h264_verify.specs.Slices.{is_idr_due, rules_of, slice_call, steps_by, slice_steps}
+use Rattle.h264_slices.specs.Telling.{Told, Said, Decodes, Shows, calls_of, HasFrame, AreDecoded, AreOf}
+use Rattle.h264_slices.specs.Content.{Content}
+use Rattle.h264_slices.specs.Content as contents
+use Rattle.h264_slices.specs.Demands.{Demand}
+use Rattle.h264_slices.specs.Outcome.{Outcome}
+use Rattle.h264_slices.specs.Steps.{Step, Needs, Tells, needs, AreMet, IsFirstStop, Course, Takes, Reads, Ends, told, Runs}
+use Rattle.h264_slices.specs.UnitHeader.{header_of, nal_unit_type, header_demands}
+use Rattle.h264_slices.specs.History.{History, maps_of}
+use Rattle.h264_slices.specs.Pictures.{CodedPicture, ends_picture, with_sets, sets_at, goes_on, joined_to, runs_of, begins_at, closing_at, closing_demands}
+use Rattle.h264_slices.specs.Closing.{whole_picture, whole_steps, whole_at}
+use Rattle.h264_slices.specs.Buffering.{end_frames, closing_frames, last_frames}
+use Rattle.h264_slices.specs.Keeping.{ended_pictures, ended_in}
+use Rattle.h264_slices.specs.Slices.{is_idr_due, rules_of, slice_call, steps_by, slice_steps}
 use Rattle.h264_verify.specs.Units.{unit_call, content_steps, data_course, frames_at, unit_course, picture_demand, end_steps}
 use Rattle.h264_verify.specs.Verdict.{IsStop, AtBytes, InCourse, AreLegal, IsStopBehind, AtNext, AtTail, AtEnd, Verdict}
 use Rattle.h264_verify.proofs.Agreeing.{of-both, of-more, decoded-last}
@@ -33,7 +33,7 @@ use Rattle.h264_verify.proofs.Growing.{StepsOf, needs-of, steps-of, elements-of,
 use Rattle.h264_verify.proofs.Leaving.{HaveFrames, legal-read, legal-frames}
 use Rattle.h264_verify.proofs.Legal.{decoded-first, end_steps_at}
 use Rattle.h264_verify.proofs.Output.{shown-alike, calls-same, legal-of, one-output}
-use Rattle.h264_verify.proofs.Stepping.{met-is, stop-is}
+use Rattle.h264_slices.proofs.Stepping.{met-is, stop-is}
 
 -- ---- what a course has told, wherever it stops
 

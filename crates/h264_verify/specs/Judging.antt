@@ -2,7 +2,7 @@
 use Rattle.std.specs.Prelude.{◌≡◌, ℕ, ◌+◌, ◌*◌, List, [], ◌∷◌, length, Option, Some, None, Err}
 use Rattle.h264_base.specs.declared.stop.Stop.{Stop}
 use Rattle.h264_units.specs.Stream.{NalUnit, Tail, Splits, tail_stop}
-use Rattle.h264_verify.specs.Outcome.{Outcome, ◌>>=◌, answers}
+use Rattle.h264_slices.specs.Outcome.{Outcome, ◌>>=◌, answers}
 
 -- What comes of a unit, in the state that the units before it left, and of the end of the input at this bit.
 pub record Judging (State Summary : Type 0) : Type 0 where

@@ -1,12 +1,9 @@
 -- What comes of one unit behind those before it, and of the end of the input. A working form of `Units`, which the code is proved against.
-use Rattle.std.specs.Prelude.{ℕ, ◌*◌, List, [], ◌∷◌, ◌++◌, map, length, ◌==◌, Err, if◌then◌else◌}
+use Rattle.std.specs.Prelude.{ℕ, ◌*◌, [], ◌∷◌, ◌++◌, length, ◌==◌, if◌then◌else◌}
 use Rattle.h264_base.specs.declared.mode.Mode.{Mode}
 use Rattle.h264_base.specs.declared.mode.Mode.TheVariants as modes
-use Rattle.h264_base.specs.declared.stop.Stop.TheVariants.{No}
-use Rattle.h264_base.specs.Body.{Body}
 use Rattle.h264_base.specs.Grammar.{Grammar, Done, ◌>>=◌ as ◌bind◌}
-use Rattle.h264_base.specs.Run.{run}
-use Rattle.h264_verify.specs.Telling.{said_of, Said}
+use Rattle.h264_slices.specs.Telling.{Said}
 use Rattle.h264_units.specs.Stream.{NalUnit}
 use Rattle.h264_rbsp.specs.Emulation.{emulation_checked}
 use Rattle.h264_rbsp.specs.Rbsp.{body_of}
@@ -15,33 +12,18 @@ use Rattle.h264_pps.specs.Pps.{pps}
 use Rattle.h264_header.specs.Layout.{sets_of}
 use Rattle.h264_header.specs.Header.{header}
 use Rattle.h264_verify.specs.declared.judge.Summary.{Summary}
-use Rattle.h264_verify.specs.Content.{Content}
-use Rattle.h264_verify.specs.Content as contents
-use Rattle.h264_verify.specs.Demands.{judged}
-use Rattle.h264_verify.specs.Outcome.{Outcome, ◌>>=◌, with_calls, answers, gives, tells, structure_outcome}
+use Rattle.h264_slices.specs.Content.{Content}
+use Rattle.h264_slices.specs.Content as contents
+use Rattle.h264_slices.specs.Demands.{judged}
+use Rattle.h264_slices.specs.Outcome.{Outcome, ◌>>=◌, answers, gives, tells, structure_outcome}
 use Rattle.h264_verify.specs.Judging.{Judging}
-use Rattle.h264_verify.specs.Steps.{Step, Needs, Tells, needs, Course, Takes, Reads, Ends}
-use Rattle.h264_verify.specs.UnitHeader.{header_of, nal_unit_type, header_demands}
-use Rattle.h264_verify.specs.History.{History, maps_of}
-use Rattle.h264_verify.specs.Pictures.{closing_at}
-use Rattle.h264_verify.specs.Closing.{whole_at}
+use Rattle.h264_slices.specs.Steps.{needs}
+use Rattle.h264_slices.specs.UnitHeader.{header_of, nal_unit_type, header_demands}
+use Rattle.h264_slices.specs.History.{History, maps_of}
+use Rattle.h264_slices.specs.Pictures.{closing_at}
+use Rattle.h264_slices.specs.Closing.{whole_at}
 use Rattle.h264_verify.specs.Units.{unit_call, is_slice, slice_unit, content_steps, data_course, frames_at, unit_course, end_steps, summary_of}
-
--- steps, one after another
-abbrev pub steps_outcome : List Step → Outcome (Unit {0})
-steps_outcome [] = gives tt
-steps_outcome (Needs d ∷ steps) = if d.met then steps_outcome steps else answers (Err (No d.bit d.rule))
-steps_outcome (Tells call ∷ steps) = with_calls (call ∷ []) (steps_outcome steps)
-
--- a syntax structure from a bit on, and the bit behind it
-abbrev pub structure_from : {A : Type 0} → Grammar A → Body → ℕ → Outcome (A × ℕ)
-structure_from g body bit = record { calls = map (said_of body) (run g body bit).elements; answer = (run g body bit).answer }
-
--- the course of a unit
-unfoldable pub course_outcome : Body → Course → Outcome Content
-course_outcome body (Ends found) = gives found
-course_outcome body (Takes steps course) = steps_outcome steps >>= λ _. course_outcome body course
-course_outcome body (Reads g bit next) = structure_from g body bit >>= λ x. course_outcome body (next x.0 x.1)
+use Rattle.h264_slices.specs.StepOutcome.{course_outcome, steps_outcome, structure_from}
 
 -- a parameter set is read
 unfoldable pub sps_outcome : NalUnit → Outcome Content

@@ -12,19 +12,19 @@ use Rattle.h264_header.specs.declared.header.SliceUnit.{SliceUnit}
 use Rattle.h264_header.specs.Layout.{sets_of}
 use Rattle.h264_header.specs.Header.{header}
 use Rattle.h264_verify.specs.declared.judge.Summary.{Summary}
-use Rattle.h264_verify.specs.Content.{Content}
-use Rattle.h264_verify.specs.Content as contents
-use Rattle.h264_verify.specs.Demands.{Demand}
-use Rattle.h264_verify.specs.Steps.{Step, needs, Course, Takes, Reads, Ends}
-use Rattle.h264_verify.specs.Steps as step
-use Rattle.h264_verify.specs.UnitHeader.{header_of, nal_unit_type, nal_ref_idc, header_demands}
-use Rattle.h264_verify.specs.History.{History, maps_of}
-use Rattle.h264_verify.specs.Pictures.{CodedPicture, ends_picture, runs_of, closing_at, closing_demands}
-use Rattle.h264_verify.specs.Telling.{Said}
-use Rattle.h264_verify.specs.Closing.{whole_at, whole_steps}
-use Rattle.h264_verify.specs.Buffering.{closing_frames, last_frames, frames_written}
-use Rattle.h264_verify.specs.Slices.{slice_steps}
-use Rattle.h264_verify.specs.Data.{slice_data_at}
+use Rattle.h264_slices.specs.Content.{Content}
+use Rattle.h264_slices.specs.Content as contents
+use Rattle.h264_slices.specs.Demands.{Demand}
+use Rattle.h264_slices.specs.Steps.{Step, needs, Course, Takes, Reads, Ends}
+use Rattle.h264_slices.specs.Steps as step
+use Rattle.h264_slices.specs.UnitHeader.{header_of, nal_unit_type, nal_ref_idc, header_demands}
+use Rattle.h264_slices.specs.History.{History, maps_of}
+use Rattle.h264_slices.specs.Pictures.{CodedPicture, ends_picture, runs_of, closing_at, closing_demands}
+use Rattle.h264_slices.specs.Telling.{Said}
+use Rattle.h264_slices.specs.Closing.{whole_at, whole_steps}
+use Rattle.h264_slices.specs.Buffering.{closing_frames, last_frames, frames_written}
+use Rattle.h264_slices.specs.Slices.{slice_steps}
+use Rattle.h264_slices.specs.Data.{slice_data_at}
 
 -- what the sink is told of a unit: the byte where it begins, its type, nal_ref_idc, and its length in bytes
 abbrev pub unit_call : ℕ → ℕ → ℕ → Call

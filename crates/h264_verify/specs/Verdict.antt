@@ -9,13 +9,13 @@ use Rattle.h264_base.specs.declared.stop.Stop.{Stop}
 use Rattle.h264_base.specs.declared.stop.Stop.TheVariants.{No, Outside, Memory, Read, Write}
 use Rattle.h264_base.specs.Call.{Call}
 use Rattle.h264_plane.specs.declared.frame.Frame.{Frame}
-use Rattle.h264_verify.specs.Telling.{Told, Tells, took_with, calls_of, AreDecoded}
+use Rattle.h264_slices.specs.Telling.{Told, Tells, took_with, calls_of, AreDecoded}
 use Rattle.h264_units.specs.Stream.{NalUnit, Tail, Zeros, Splits, tail_stop}
 use Rattle.h264_rbsp.specs.Emulation.{IsFault, IsFirstFault}
 use Rattle.h264_rbsp.specs.Rbsp.{body_of}
 use Rattle.h264_verify.specs.declared.judge.Summary.{Summary}
-use Rattle.h264_verify.specs.Steps.{AreMet, IsFirstStop, Runs}
-use Rattle.h264_verify.specs.History.{History, ReadUnit}
+use Rattle.h264_slices.specs.Steps.{AreMet, IsFirstStop, Runs}
+use Rattle.h264_slices.specs.History.{History, ReadUnit}
 use Rattle.h264_verify.specs.Units.{unit_course, end_steps, summary_of}
 
 -- The bytes of a unit break no rule of emulation prevention (7.4.1).

@@ -1,10 +1,10 @@
 //! What is kept from unit to unit, and what is known of a whole stream.
 #![tactic(auto)]
 
-use crate::decoder::Decoder;
-use crate::slices::Slices;
 use h264_header::Header;
 use h264_sets::Sets;
+use h264_slices::decoder::Decoder;
+use h264_slices::slices::Slices;
 
 /// What a whole stream has, where it is legal.
 #[derive(Clone, Copy, Debug, PartialEq, Eq)]

@@ -12,23 +12,15 @@
 //! Not promised: that memory suffices.
 #![tactic(auto)]
 
-mod close;
-mod data;
-pub mod decoder;
-mod frame_num;
 pub mod judge;
 pub mod laws;
-pub mod picture;
-mod rules;
 pub mod running;
 pub mod session;
-pub mod sink;
-pub mod slices;
 pub mod source;
 mod unit;
 
+pub use h264_slices::FrameSink;
 pub use judge::Summary;
 pub use running::run;
 pub use session::Session;
-pub use sink::FrameSink;
 pub use source::Source;

@@ -10,9 +10,9 @@ ghost use Rattle.h264_verify.specs.Verdict.{Judged};
 
 use crate::judge::Summary;
 use crate::session::Session;
-use crate::sink::FrameSink;
 use crate::source::Source;
 use h264_base::{Mode, Stop, Target};
+use h264_slices::sink::FrameSink;
 use std::alloc::Global;
 
 /// How many bytes are asked of a source at a time.

@@ -1,4 +1,4 @@
-use Rattle.h264_verify.proofs.Filling.{full-gap}
+use Rattle.h264_slices.proofs.Filling.{full-gap}
 use Rattle.h264_verify.proofs.unit.finish_frames.Goals as goal
 
 pub returns-in-Full-clause-plays : goal.returns-in-Full-clause-plays

@@ -2,8 +2,8 @@ use Rattle.std.proofs.Common.{◌≡◌, ℕ, ap, sym, refl, subst}
 use Rattle.std.proofs.lemmas.Bool.{ne_eqb}
 use Rattle.h264_base.specs.declared.mode.Mode.{Mode}
 use Rattle.h264_units.specs.Stream.{NalUnit}
-use Rattle.h264_verify.specs.History.{History}
-use Rattle.h264_verify.specs.Pictures.{ends_picture}
+use Rattle.h264_slices.specs.History.{History}
+use Rattle.h264_slices.specs.Pictures.{ends_picture}
 use Rattle.h264_verify.specs.UnitOutcome.{sps_outcome, pps_outcome, joined, joined_by}
 use Rattle.h264_verify.proofs.unit.join.Goals as goal
 

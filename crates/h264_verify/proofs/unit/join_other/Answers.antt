@@ -5,14 +5,15 @@ use Rattle.h264_base.specs.declared.stop.Stop.{Stop}
 use Rattle.h264_base.specs.Call.{Call}
 use Rattle.h264_plane.specs.declared.frame.Frame.{Frame}
 use Rattle.h264_verify.specs.declared.judge.State.{State}
-use Rattle.h264_verify.specs.Outcome.{Outcome}
-use Rattle.h264_verify.specs.History.{History}
-use Rattle.h264_verify.specs.Content as contents
-use Rattle.h264_verify.proofs.Playing.{gives-plays}
+use Rattle.h264_slices.specs.Outcome.{Outcome}
+use Rattle.h264_slices.specs.History.{History}
+use Rattle.h264_slices.specs.Content as contents
+use Rattle.h264_slices.proofs.Playing.{gives-plays}
 use Rattle.h264_verify.proofs.Joining.{joins-on, passed-joins, passed-other, units-other, slice-other, whole-other}
-use Rattle.h264_verify.specs.UnitHeader.{nal_unit_type}
-use Rattle.h264_verify.specs.Pictures.{ends_picture, goes_on, runs_of}
-use Rattle.h264_verify.specs.Keeping.{KeepsWithin, ended_pictures, ended_in}
+use Rattle.h264_slices.specs.UnitHeader.{nal_unit_type}
+use Rattle.h264_slices.specs.Pictures.{ends_picture, goes_on, runs_of}
+use Rattle.h264_verify.specs.Keeping.{KeepsWithin}
+use Rattle.h264_slices.specs.Keeping.{ended_pictures, ended_in}
 use Rattle.h264_verify.specs.Feeding.{Joins}
 use Rattle.h264_verify.proofs.unit.join_other.Goals as goal
 

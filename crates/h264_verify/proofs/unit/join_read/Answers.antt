@@ -4,17 +4,18 @@ use Rattle.h264_base.specs.Meets.{Reader}
 use Rattle.h264_base.specs.declared.mode.Mode.TheVariants as modes
 use Rattle.h264_rbsp.specs.Rbsp.{body_of}
 use Rattle.h264_header.specs.Layout.{sets_of}
-use Rattle.h264_verify.specs.Content as contents
-use Rattle.h264_verify.specs.History.{maps_with}
-use Rattle.h264_verify.specs.Pictures.{CodedPicture, goes_on, runs_of, with_sets, held_in}
-use Rattle.h264_verify.specs.Keeping.{KeepsWithin, KeepsDecoder}
-use Rattle.h264_verify.proofs.Slicing.{some-of, sets-before}
-use Rattle.h264_verify.proofs.Entering.{begins-as}
+use Rattle.h264_slices.specs.Content as contents
+use Rattle.h264_slices.specs.History.{maps_with}
+use Rattle.h264_slices.specs.Pictures.{CodedPicture, goes_on, runs_of, with_sets, held_in}
+use Rattle.h264_verify.specs.Keeping.{KeepsWithin}
+use Rattle.h264_slices.specs.Keeping.{KeepsDecoder}
+use Rattle.h264_slices.proofs.Slicing.{some-of, sets-before}
+use Rattle.h264_slices.proofs.Entering.{begins-as}
 use Rattle.h264_verify.proofs.Joining.{units-with, runs-with, goes-newest, enters-full, some-slice}
 use Rattle.h264_verify.proofs.Reading.{header-read, slice-stops, slice-broken, slice-reads, placed, data-there}
 use Rattle.h264_sets.specs.Sets.{Maps}
-use Rattle.h264_verify.specs.Sound.{AreSound, NamesSet}
-use Rattle.h264_verify.proofs.Standing.{later-set}
+use Rattle.h264_slices.specs.Sound.{AreSound, NamesSet}
+use Rattle.h264_slices.proofs.Standing.{later-set}
 use Rattle.h264_verify.proofs.Marked.{read-marked}
 use Rattle.h264_verify.proofs.unit.join_read.Goals as goal
 

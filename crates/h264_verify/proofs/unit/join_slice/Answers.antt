@@ -1,10 +1,10 @@
 use Rattle.std.proofs.Common.{[], Bool, subst, ◌∙◌, ap, refl}
 use Rattle.std.proofs.lemmas.Result.{err_from_is_err_and}
 use Rattle.h264_base.specs.declared.mode.Mode.TheVariants as modes
-use Rattle.h264_verify.specs.Content as contents
-use Rattle.h264_verify.specs.History.{maps_with}
+use Rattle.h264_slices.specs.Content as contents
+use Rattle.h264_slices.specs.History.{maps_with}
 use Rattle.h264_verify.specs.Keeping.{KeepsWithin}
-use Rattle.h264_verify.proofs.Slicing.{some-of}
+use Rattle.h264_slices.proofs.Slicing.{some-of}
 use Rattle.h264_verify.proofs.Joining.{joins-made, joins-stops, units-with, header-decoder, some-slice}
 use Rattle.h264_verify.proofs.unit.join_slice.Goals as goal
 

@@ -9,11 +9,11 @@ use Rattle.h264_sps.specs.declared.sps.Sps.{Sps}
 use Rattle.h264_sets.specs.Sets.{with_sps}
 use Rattle.h264_units.specs.Stream.{NalUnit}
 use Rattle.h264_plane.specs.declared.frame.Frame.{Frame}
-use Rattle.h264_verify.specs.Telling.{took_with}
-use Rattle.h264_verify.specs.Outcome.{Plays, structure_outcome}
-use Rattle.h264_verify.specs.Content as contents
+use Rattle.h264_slices.specs.Telling.{took_with}
+use Rattle.h264_slices.specs.Outcome.{Plays, structure_outcome}
+use Rattle.h264_slices.specs.Content as contents
 use Rattle.h264_verify.specs.UnitOutcome.{sps_outcome}
-use Rattle.h264_verify.proofs.Playing.{gives-plays, plays-gives, memory-plays, meets-plays}
+use Rattle.h264_slices.proofs.Playing.{gives-plays, plays-gives, memory-plays, meets-plays}
 use Rattle.h264_verify.proofs.Joining.{joins-on, joins-stops, passed-joins}
 use Rattle.h264_verify.proofs.unit.join_sps.Goals as goal
 

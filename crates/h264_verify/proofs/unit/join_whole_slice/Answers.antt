@@ -1,6 +1,6 @@
 use Rattle.std.proofs.Common.{[], refl}
 use Rattle.std.proofs.lemmas.Result.{err_from_is_err_and}
-use Rattle.h264_verify.proofs.Playing.{memory-plays}
+use Rattle.h264_slices.proofs.Playing.{memory-plays}
 use Rattle.h264_verify.proofs.unit.join_whole_slice.Goals as goal
 
 pub join_read-requires-clause-first : goal.join_read-requires-clause-first

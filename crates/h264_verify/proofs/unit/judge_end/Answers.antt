@@ -3,14 +3,15 @@ use Rattle.h264_base.specs.declared.rule.Rule.{Rule}
 use Rattle.h264_base.specs.declared.stop.Stop.{Stop}
 use Rattle.h264_base.specs.declared.stop.Stop.TheVariants.{No}
 use Rattle.std.proofs.lemmas.Result.{err_from_is_err_and}
-use Rattle.h264_verify.specs.Pictures.{goes_on, runs_of}
-use Rattle.h264_verify.specs.Buffering.{after_all, last_frames}
+use Rattle.h264_slices.specs.Pictures.{goes_on, runs_of}
+use Rattle.h264_slices.specs.Buffering.{after_all, last_frames}
 use Rattle.h264_verify.specs.Units.{picture_demand}
-use Rattle.h264_verify.proofs.Playing.{named-by}
-use Rattle.h264_verify.proofs.Finishing.{answers-plays}
-use Rattle.h264_verify.proofs.Stepping.{needs-ok, needs-err}
-use Rattle.h264_verify.proofs.Joining.{ended-gap}
-use Rattle.h264_verify.proofs.Courses.{plays-as, end-stops, end-broken, end-gives}
+use Rattle.h264_slices.proofs.Playing.{named-by}
+use Rattle.h264_slices.proofs.Playing.{answers-plays}
+use Rattle.h264_slices.proofs.Stepping.{needs-ok, needs-err}
+use Rattle.h264_slices.proofs.Holding.{ended-gap}
+use Rattle.h264_slices.proofs.Playing.{plays-as}
+use Rattle.h264_verify.proofs.Courses.{end-stops, end-broken, end-gives}
 use Rattle.h264_verify.proofs.unit.judge_end.Goals as goal
 
 check-err : (holds : Bool) (rule : Rule) (bit : ℕ) (e : Stop) → (let r : Result (Unit {0}) Stop = Err e in r ≡ (if holds then Ok tt else Err (No bit rule))) → e ≡ No bit rule

@@ -6,23 +6,25 @@ use Rattle.h264_plane.specs.declared.frame.Frame.{Frame}
 use Rattle.h264_units.specs.Stream.{NalUnit}
 use Rattle.h264_rbsp.specs.Emulation.{emulation_checked}
 use Rattle.h264_verify.specs.declared.judge.State.{State}
-use Rattle.h264_verify.specs.declared.decoder.Decoder.{Decoder}
-use Rattle.h264_verify.specs.Telling.{Said, took_with}
-use Rattle.h264_verify.specs.Demands.{judged}
-use Rattle.h264_verify.specs.History.{History}
-use Rattle.h264_verify.specs.Feeding.{EndsFrames, Joins, Turns}
+use Rattle.h264_slices.specs.declared.decoder.Decoder.{Decoder}
+use Rattle.h264_slices.specs.Telling.{Said, took_with}
+use Rattle.h264_slices.specs.Demands.{judged}
+use Rattle.h264_slices.specs.History.{History}
+use Rattle.h264_slices.specs.Framing.{EndsFrames}
+use Rattle.h264_verify.specs.Feeding.{Joins, Turns}
 use Rattle.std.proofs.lemmas.Result.{err_from_is_err_and}
-use Rattle.h264_verify.specs.Outcome.{answers, tells, Plays}
-use Rattle.h264_verify.specs.UnitHeader.{header_of, nal_unit_type, header_demands}
-use Rattle.h264_verify.specs.Pictures.{goes_on, runs_of, ends_picture}
-use Rattle.h264_verify.specs.Keeping.{ended_pictures, ended_in, close_steps}
+use Rattle.h264_slices.specs.Outcome.{answers, tells, Plays}
+use Rattle.h264_slices.specs.UnitHeader.{header_of, nal_unit_type, header_demands}
+use Rattle.h264_slices.specs.Pictures.{goes_on, runs_of, ends_picture}
+use Rattle.h264_slices.specs.Keeping.{ended_pictures, ended_in, close_steps}
 use Rattle.h264_verify.specs.Units.{unit_call}
-use Rattle.h264_verify.specs.UnitOutcome.{steps_outcome, joined_by, unit_by_steps}
+use Rattle.h264_slices.specs.StepOutcome.{steps_outcome}
+use Rattle.h264_verify.specs.UnitOutcome.{joined_by, unit_by_steps}
 use Rattle.h264_verify.proofs.Agreeing.{agree-less, agree-then, plays-agree}
-use Rattle.h264_verify.proofs.Playing.{answer-stops, answer-on, plays-stops, plays-on, named-by}
-use Rattle.h264_verify.proofs.Entering.{within}
-use Rattle.h264_verify.proofs.Slicing.{err-named}
-use Rattle.h264_verify.proofs.Standing.{first-met}
+use Rattle.h264_slices.proofs.Playing.{answer-stops, answer-on, plays-stops, plays-on, named-by}
+use Rattle.h264_verify.proofs.Joining.{within}
+use Rattle.h264_slices.proofs.Slicing.{err-named}
+use Rattle.h264_slices.proofs.Standing.{first-met}
 use Rattle.h264_verify.proofs.Courses.{plays-course, ended-grows, closing-all}
 use Rattle.h264_verify.proofs.unit.judge_unit.Goals as goal
 

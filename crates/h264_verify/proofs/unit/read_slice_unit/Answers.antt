@@ -2,9 +2,9 @@ use Rattle.std.proofs.Common.{[]}
 use Rattle.std.proofs.lemmas.Result.{err_from_is_err_and}
 use Rattle.h264_header.specs.Layout.{sets_of}
 use Rattle.h264_header.specs.Header.{header}
-use Rattle.h264_verify.specs.Content as contents
+use Rattle.h264_slices.specs.Content as contents
 use Rattle.h264_verify.specs.UnitOutcome.{slice_outcome}
-use Rattle.h264_verify.proofs.Playing.{plays-gives, memory-plays, meets-plays}
+use Rattle.h264_slices.proofs.Playing.{plays-gives, memory-plays, meets-plays}
 use Rattle.h264_verify.proofs.Marked.{read-marked}
 use Rattle.h264_verify.proofs.unit.read_slice_unit.Goals as goal
 
