@@ -1,8 +1,10 @@
-use Rattle.std.proofs.Common.{◌≡◌, ◌≤◌, ◌+◌, ℕ, Bool, true, false, if◌then◌else◌, refl, rules, arith, ap, ◌∙◌, [], ◌∷◌, ◌*◌}
+use Rattle.std.proofs.Common.{◌≡◌, ◌≤◌, ◌+◌, ℕ, Bool, true, false, Result, Ok, Err, if◌then◌else◌, refl, rules, arith, ap, ◌∙◌, [], ◌∷◌, ◌*◌}
 use Rattle.std.proofs.lemmas.Result.{err_from_is_err_and}
 use Rattle.std.proofs.lemmas.Int.{to_z-of_z}
 use Rattle.std.specs.Int.{w32}
 use mir.Val.{SFits}
+use Rattle.h264_base.specs.declared.stop.Stop.{Stop}
+use Rattle.h264_base.specs.declared.stop.Stop.TheVariants.{Memory}
 use Rattle.h264_pps.specs.declared.Pps.{Pps}
 use Rattle.h264_sps.specs.declared.sps.Sps.{Sps}
 use Rattle.h264_picture.specs.Buffer.{buffer_size}
@@ -25,6 +27,10 @@ more-of a b e = omega (arith, e)
 entered-more : (begins : Bool) (old mid new : ℕ) → new ≡ (if begins then mid + 1 else mid) → mid ≡ old → new ≤ old + 1
 entered-more true old mid new n e = omega (arith, n, e)
 entered-more false old mid new n e = omega (arith, n, e)
+
+-- what is well is no want of memory
+no-error : (let r : Result (Unit {0}) Stop = Ok tt in r ≡ Err Memory) → ⊥
+no-error e = cc
 
 pub returns-in_err-check_rules : goal.returns-in_err-check_rules
 returns-in_err-check_rules g c =
@@ -89,6 +95,6 @@ returns g c = record {
   header = c.enter.ensures.header;
   typed = c.in_ok-check_rules.ensures.typed;
   pictures = entered-more c.args.begins _ _ _ c.enter.ensures.pictures c.in_ok-check_rules.ensures.pictures;
-  no_memory = λ e. cc;
+  no_memory = no-error;
   kept = (c.in_ok-tell_slice.ensures.plays c.requires.kept.frames).plays.2 ∙ c.in_ok-check_rules.ensures.kept;
 }

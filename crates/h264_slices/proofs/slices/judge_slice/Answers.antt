@@ -1,4 +1,4 @@
-use Rattle.std.proofs.Common.{◌≡◌, ◌+◌, ◌≤◌, ℕ, Bool, true, Result, Ok, Err, OnOk, ap, sym, subst, []}
+use Rattle.std.proofs.Common.{◌≡◌, ◌+◌, ◌≤◌, ℕ, Bool, true, false, Option, None, Result, Ok, Err, OnOk, ap, sym, ◌∙◌, subst, []}
 use Rattle.std.specs.Option.{is_some}
 use Rattle.std.proofs.lemmas.Result.{err_from_is_err_and}
 use Rattle.h264_base.specs.declared.stop.Stop.{Stop}
@@ -167,3 +167,10 @@ returns g c = record {
   no_memory = c.judge_rules.ensures.no_memory;
   kept = on-kept c.judge_rules.result _ _ _ c.in_ok-close_if.ensures.kept c.judge_rules.ensures.kept;
 }
+
+-- an id that names a set does not name none
+named-none : {A : Type 0} (o : Option A) → is_some o ≡ true → o ≡ None → ⊥
+named-none o s n = let e : false ≡ true = sym (ap is_some n) ∙ s in cc
+
+pub unreachable-requires : goal.unreachable-requires
+unreachable-requires g c = named-none _ c.requires.named (sets-after c.args.sets.now c.check_standing.new.sets c.args.header.now None c.in_ok-check_standing.ensures.activated c.in_default.ensures.none)

@@ -1,9 +1,21 @@
-use Rattle.std.proofs.Common.{[], refl, rules, take}
+use Rattle.std.proofs.Common.{◌≡◌, Bool, true, IsFalse, Result, Ok, Err, [], refl, rules, take}
 use Rattle.std.proofs.lemmas.Result.{err_from_is_err_and}
+use Rattle.h264_base.specs.declared.stop.Stop.{Stop}
+use Rattle.h264_base.specs.declared.stop.Stop.TheVariants.{Read, Write}
 use Rattle.h264_slices.proofs.Playing.{err-as}
 use Rattle.h264_verify.proofs.Verdicts.{fed-more, fed-again, fed-halts, fed-fails}
 use Rattle.h264_verify.proofs.Heard.{heard-more, heard-halts, heard-none, heard-fails}
 use Rattle.h264_verify.proofs.running.turn.Goals as goal
+
+-- what excludes one another
+read-not-write : (let r : Result Bool Stop = Err Read in r ≡ Err Write) → ⊥
+read-not-write h = cc
+
+well-not-stopped : (more : Bool) (stop : Stop) → (let r : Result Bool Stop = Ok more in r ≡ Err stop) → ⊥
+well-not-stopped more stop h = cc
+
+true-not-false : IsFalse true → ⊥
+true-not-false h = cc
 
 pub returns-in-Err : goal.returns-in-Err
 returns-in-Err g c = record {
@@ -15,21 +27,21 @@ returns-in-Err g c = record {
   kept = tt;
   again = c.read.ensures.again;
   read = λ h. c.in-Err.ensures.failed;
-  write = λ h. cc;
+  write = λ h. absurd (read-not-write h);
   piece = search rules;
 }
 
 pub returns-in-Ok-None : goal.returns-in-Ok-None
 returns-in-Ok-None g c = record {
   more = λ h mode bytes first f. fed-again _ (rw c.in-Ok-None.field-0-is at c.in-Ok-None.ensures.interrupted) f;
-  end = λ h. cc;
+  end = λ h. absurd (true-not-false h);
   stops = tt;
   heard = λ h mode bytes first f. ([], heard-none f);
   heard_stop = tt;
   kept = (c.requires.runs, refl, c.in-Ok-None.ensures.kept);
   again = c.read.ensures.again;
-  read = λ h. cc;
-  write = λ h. cc;
+  read = λ h. absurd (well-not-stopped true Read h);
+  write = λ h. absurd (well-not-stopped true Write h);
   piece = search rules;
 }
 
@@ -52,13 +64,13 @@ returns-in_err-advance-in-Ok-Some g c =
 pub returns-in_ok-advance-in-Ok-Some : goal.returns-in_ok-advance-in-Ok-Some
 returns-in_ok-advance-in-Ok-Some g c = record {
   more = λ h mode bytes first f. fed-more (g.R.Source.left c.read.new.self) c.read.new.piece c.in-Ok-Some.n c.in_ok-advance-in-Ok-Some.ensures.mode (rw c.in-Ok-Some.field-0-is at c.in-Ok-Some.ensures.bytes) f (rw c.front.ensures at (c.in_ok-advance-in-Ok-Some.ensures.goes f.frames f.after f.keeps));
-  end = λ h. cc;
+  end = λ h. absurd (true-not-false h);
   stops = tt;
   heard = λ h mode bytes first f. (take c.in-Ok-Some.n c.read.new.piece, heard-more c.read.new.piece c.in-Ok-Some.n c.in_ok-advance-in-Ok-Some.ensures.mode f (rw c.front.ensures at (c.in_ok-advance-in-Ok-Some.ensures.goes f.frames f.after f.keeps)));
   heard_stop = tt;
   kept = (c.in_ok-advance-in-Ok-Some.ensures.going, c.in_ok-advance-in-Ok-Some.ensures.kept, c.in-Ok-Some.ensures.kept);
   again = c.read.ensures.again;
-  read = λ h. cc;
-  write = λ h. cc;
+  read = λ h. absurd (well-not-stopped true Read h);
+  write = λ h. absurd (well-not-stopped true Write h);
   piece = search rules;
 }

@@ -1,4 +1,4 @@
-use Rattle.std.proofs.Common.{refl, sym, ◌∙◌}
+use Rattle.std.proofs.Common.{◌≡◌, ◌<◌, ◌≤◌, ℕ, List, drop, length, length-drop, arith, refl, sym, ◌∙◌}
 use Rattle.std.proofs.lemmas.Result.{err_from_is_err_and}
 use Rattle.h264_verify.proofs.Familiar.{on-both, on-stops, on-none, on-end, none-left, on-keeps}
 use Rattle.h264_verify.proofs.session.feed_all.Goals as goal
@@ -37,3 +37,10 @@ returns-clause-goes g c = λ frames before k. on-end (none-left c.loop-rest.rest
 
 pub returns-clause-undecided : goal.returns-clause-undecided
 returns-clause-undecided g c = c.loop-rest.invariant.undecided
+
+-- a piece gets shorter by what was taken of it
+shorter : (rest next : List ℕ) (n : ℕ) → next ≡ drop n rest → 0 < n → n ≤ length rest → length next < length rest
+shorter rest next n e p l = rw e (simp length-drop (omega (arith, p, l)))
+
+pub loop-rest-smaller : goal.loop-rest-smaller
+loop-rest-smaller g c = shorter c.loop-rest.rest.now c.after-rest.result.now c.in_ok-n.n c.after-rest.ensures c.in_ok-n.ensures.within.0 c.in_ok-n.ensures.within.1
