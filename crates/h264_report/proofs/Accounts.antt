@@ -177,6 +177,10 @@ is-write w t = ⊎_elim (λ e. sym e ∙ w) (λ e. absurd (let d = sym e ∙ w i
 pub was-write : (answer said : Result Summary Stop) → said ≡ Err Write → (said ≡ answer) ⊎ ((answer ≡ Err Write) × (said ≡ Err Memory)) → answer ≡ Err Write
 was-write answer said w t = is-write w (⊎_elim (λ e. inl e) (λ m. inr m.1) t)
 
+-- a read that is told to have failed did
+pub was-read : (answer said : Result Summary Stop) → (said ≡ answer) ⊎ (said ≡ Err Memory) → said ≡ Err Read → answer ≡ Err Read
+was-read answer said t r = ⊎_elim (λ e. sym e ∙ r) (λ e. absurd (let d = sym e ∙ r in cc)) t
+
 -- the answer that is told where a sink was short of memory
 pub told-short : {Next : List ℕ → Type 0} {all : List Call → List ℕ} {mode : Mode} {bytes : List ℕ} {old new : Option (List ℕ)} → SomeNext Next → (answer said : Result Summary Stop) → (said ≡ answer) ⊎ ((answer ≡ Err Write) × (said ≡ Err Memory)) → Writes Next all mode bytes answer old new → Writes Next all mode bytes said old new
 told-short some answer said (inl e) w = told-answer some answer said (inl e) w

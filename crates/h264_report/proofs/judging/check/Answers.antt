@@ -1,6 +1,6 @@
 use Rattle.std.proofs.Common.{[]}
 use Rattle.h264_plane.specs.Frames.{no_frame}
-use Rattle.h264_report.proofs.Accounts.{checked, none-checked, none-elements, of-bytes}
+use Rattle.h264_report.proofs.Accounts.{checked, none-checked, none-elements, of-bytes, was-read}
 use Rattle.h264_report.proofs.judging.check.Goals as goal
 
 pub returns-in_default-clause-checks : goal.returns-in_default-clause-checks
@@ -15,3 +15,6 @@ returns-clause-checks g c =
     (λ bytes h. checked {s' = c.run-answer.new.sink} (λ s. s.trail) _ _ (c.run-answer.ensures.verdict bytes h (λ k. no_frame)) none (λ calls t. t) c.put_trail.ensures.answer (rw c.trail.ensures at c.put_trail.ensures.text))
     (let j = c.run-answer.ensures.some (λ k. no_frame) in
     (j.0, checked {s' = c.run-answer.new.sink} (λ s. s.trail) _ _ j.1 none (λ calls t. t) c.put_trail.ensures.answer (rw c.trail.ensures at c.put_trail.ensures.text)))
+
+pub returns-clause-read : goal.returns-clause-read
+returns-clause-read g c = λ e. c.run-answer.ensures.read (was-read _ _ c.put_trail.ensures.answer e)

@@ -1,6 +1,6 @@
 use Rattle.std.proofs.Common.{Err}
 use Rattle.h264_base.specs.declared.stop.Stop.TheVariants.{Write}
-use Rattle.h264_report.proofs.Accounts.{some-frame, failed, decoded, of-bytes}
+use Rattle.h264_report.proofs.Accounts.{some-frame, failed, decoded, of-bytes, was-read}
 use Rattle.h264_report.proofs.judging.decode.Goals as goal
 
 pub returns-in-Err-clause-decodes : goal.returns-in-Err-clause-decodes
@@ -14,3 +14,6 @@ returns-clause-decodes g c = of-bytes _ _
     (λ bytes h. decoded c.write_frames-answer.result c.put_answer-2.result.answer c.put_answer-2.result.written _ _ _ _ _ c.put_answer-2.ensures.answer (c.write_frames-answer.ensures.frames bytes h) c.send_rest.ensures.kept c.put_answer-2.ensures.text)
     (let some = c.write_frames-answer.ensures.some in
     (some.0, decoded c.write_frames-answer.result c.put_answer-2.result.answer c.put_answer-2.result.written _ _ _ _ _ c.put_answer-2.ensures.answer some.1 c.send_rest.ensures.kept c.put_answer-2.ensures.text))
+
+pub returns-clause-read : goal.returns-clause-read
+returns-clause-read g c = λ e. c.write_frames-answer.ensures.read (was-read _ _ c.put_answer-2.ensures.answer e)
