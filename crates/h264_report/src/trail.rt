@@ -48,8 +48,7 @@ fn add_line(lines: &mut String, line: &mut String, element: Element) -> Result<(
 {
     element_line(line, element.name, element.bit, element.value)?;
     lines.push_str(line.as_str())?;
-    lines.push('\n')?;
-    Ok(())
+    lines.push('\n')
 }
 
 /// An element by its place, the oldest first.
