@@ -3,21 +3,22 @@ use Rattle.std.proofs.Common.{◌≡◌, ◌≢◌, ℕ, zero, suc, ◌+◌, ◌
 use Rattle.h264_base.specs.declared.stop.Stop.{Stop}
 use Rattle.h264_base.specs.Call.{Call}
 use Rattle.h264_base.specs.Word.{digit}
-use Rattle.h264_base.specs.declared.element_name.ElementName.TheVariants.{DifferenceOfPicNumsMinus1, LongTermFrameIdx}
+use Rattle.h264_base.specs.declared.element_name.ElementName.TheVariants.{AbsDiffPicNumMinus1, DifferenceOfPicNumsMinus1, LongTermFrameIdx}
 use Rattle.h264_base.specs.Grammar.{Grammar, Done, ◌>>=◌, read_word}
 use Rattle.h264_base.specs.Meets.{Reader, Meets, Is}
-use Rattle.h264_base.proofs.Steps.{Leads, leads-starts, leads-on, stop, done, finish}
+use Rattle.h264_base.proofs.Steps.{Leads, leads-starts, leads-on, bind_as, stop, done, finish}
 use Rattle.h264_header.specs.Listed.{listed, goes_on}
-use Rattle.h264_bits.specs.Forms.{unsigned, each}
+use Rattle.h264_bits.specs.Forms.{unsigned, unsigned_to, each}
 use Rattle.h264_header.specs.declared.header.FilterOffsets.{FilterOffsets}
 use Rattle.h264_header.specs.declared.header.Deblocking.{Deblocking}
+use Rattle.h264_header.specs.declared.header.Modification.{Modification}
 use Rattle.h264_header.specs.declared.header.Operation.TheVariants.{MakeLongTerm}
 use Rattle.h264_header.specs.Header.{deblocking_of, filter_offsets}
 use Rattle.std.proofs.Common.{IsTrue, length, not, Result}
 use Rattle.std.specs.Prelude.{OnSome, OnOk}
 use Rattle.std.proofs.lemmas.Bool.Decides.{nat_tests}
 use Rattle.h264_header.specs.declared.header.MarkingOperation.{MarkingOperation}
-use Rattle.h264_header.specs.Marking.{operands, is_repeated, is_operation_allowed}
+use Rattle.h264_header.specs.Marking.{operands, operand_name, with_operand, is_repeated, is_operation_allowed}
 use Rattle.h264_header.specs.RefList.{command, is_command_allowed}
 
 -- what holds anyway holds of what is there
@@ -35,24 +36,10 @@ pub digit-is : (b : Bool) → (digit b == 1) ≡ b
 digit-is true = refl
 digit-is false = refl
 
--- codes without operands
-pub operands-other : (n : ℕ) → n ≢ 1 → n ≢ 2 → n ≢ 3 → n ≢ 4 → n ≢ 5 → n ≢ 6 → operands n ≡ Done None
-unfolding operands
-operands-other zero a b c d e f = refl
-operands-other (suc zero) a b c d e f = absurd (a refl)
-operands-other (suc (suc zero)) a b c d e f = absurd (b refl)
-operands-other (suc (suc (suc zero))) a b c d e f = absurd (c refl)
-operands-other (suc (suc (suc (suc zero)))) a b c d e f = absurd (d refl)
-operands-other (suc (suc (suc (suc (suc zero))))) a b c d e f = absurd (e refl)
-operands-other (suc (suc (suc (suc (suc (suc zero)))))) a b c d e f = absurd (f refl)
-operands-other (suc (suc (suc (suc (suc (suc (suc n))))))) a b c d e f = refl
-
-pub command-other : (m n : ℕ) → n ≢ 0 → n ≢ 1 → n ≢ 2 → command m n ≡ Done None
-unfolding command
-command-other m zero a b c = absurd (a refl)
-command-other m (suc zero) a b c = absurd (b refl)
-command-other m (suc (suc zero)) a b c = absurd (c refl)
-command-other m (suc (suc (suc n))) a b c = refl
+-- a part that is read last, seen otherwise
+pub seen-last : {X A B S : Type 0} {took : S → List Call → Type 0} {failures : S → ℕ} {R : X → A → Type 0} {R' : X → B → Type 0} {g : Grammar A} (f : A → B) {old new : Reader} {s s' : S} (r : Result X Stop) → ((x : X) (v : A) → R x v → R' x (f v)) → Meets took failures R g old new s s' r → Meets took failures R' (g >>= (λ v. Done (f v))) old new s s' r
+seen-last f (Ok x) h m = bind_as _ m (λ v e. done _ _ _ _ _ _ _ (h x v e))
+seen-last f (Err e) h m = stop _ m
 
 module _ {A S : Type 0} {took : S → List Call → Type 0} {failures : S → ℕ} where
   -- before the first entry
@@ -97,12 +84,26 @@ module _ {A S : Type 0} {took : S → List Call → Type 0} {failures : S → �
 pub command-room : (active before idc : ℕ) → idc ≢ 3 → IsTrue (is_command_allowed active before idc) → before < active
 command-room active before idc h t = grind (arith, nat_tests)
 
+pub command-known : (active before idc : ℕ) → idc ≢ 3 → IsTrue (is_command_allowed active before idc) → idc ≤ 2
+command-known active before idc h t = grind (arith, nat_tests)
+
 pub operation-room : (before : List MarkingOperation) (number : ℕ) → number ≢ 0 → IsTrue (is_operation_allowed before number) → length before < 36
 operation-room before number h t = grind (arith, nat_tests)
+
+pub operation-known : (before : List MarkingOperation) (number : ℕ) → number ≢ 0 → IsTrue (is_operation_allowed before number) → number ≤ 6
+operation-known before number h t = grind (arith, nat_tests)
 
 -- the code's own test of a repetition
 pub allowed-by : (before : List MarkingOperation) (number : ℕ) → number ≢ 0 → number ≤ 6 → length before < 36 → is_operation_allowed before number ≡ not (is_repeated before number)
 allowed-by before number h k l = grind (arith, nat_tests)
+
+-- where a command has a difference, that stops
+pub difference-stops : {S : Type 0} {took : S → List Call → Type 0} {failures : S → ℕ} {old new : Reader} {s s' : S} {e : Stop} (greatest idc : ℕ) → idc ≤ 2 → idc ≢ 2 → Meets {X = ℕ} took failures (Is (λ x. x)) (unsigned_to AbsDiffPicNumMinus1 greatest) old new s s' (Err e) → Meets {X = Modification} took failures (Is Some) (command greatest idc) old new s s' (Err e)
+unfolding command
+difference-stops greatest zero h k m = stop _ m
+difference-stops greatest (suc zero) h k m = stop _ m
+difference-stops greatest (suc (suc zero)) h k m = absurd (k refl)
+difference-stops greatest (suc (suc (suc n))) h k m = absurd (omega arith)
 
 -- values of disable_deblocking_filter_idc other than 0 and 1
 pub deblocking-other : (n : ℕ) → n ≢ 0 → n ≢ 1 → deblocking_of n ≡ deblocking_of 2
@@ -117,6 +118,18 @@ unfolding deblocking_of
 offsets-stop zero h m = stop _ m
 offsets-stop (suc zero) h m = absurd (h refl)
 offsets-stop (suc (suc n)) h m = stop _ m
+
+-- the operand of an operation that has one
+pub one-operand : (n : ℕ) → 0 < n → n ≤ 6 → n ≢ 3 → n ≢ 5 → operands n ≡ (unsigned (operand_name n) >>= (λ v. Done (Some (with_operand n v))))
+unfolding operands
+one-operand zero h k a b = absurd (omega arith)
+one-operand (suc zero) h k a b = refl
+one-operand (suc (suc zero)) h k a b = refl
+one-operand (suc (suc (suc zero))) h k a b = absurd (a refl)
+one-operand (suc (suc (suc (suc zero)))) h k a b = refl
+one-operand (suc (suc (suc (suc (suc zero))))) h k a b = absurd (b refl)
+one-operand (suc (suc (suc (suc (suc (suc zero)))))) h k a b = refl
+one-operand (suc (suc (suc (suc (suc (suc (suc n))))))) h k a b = absurd (omega arith)
 
 -- the operands of operation 3 as one list of values
 pub long-by_values : operands 3 ≡ (each unsigned [] (DifferenceOfPicNumsMinus1 ∷ LongTermFrameIdx ∷ []) >>= (λ l. Done (Some (MakeLongTerm (get_or l 0 0) (get_or l 1 0)))))

@@ -1,5 +1,5 @@
 -- What a P slice says of its reference picture list: num_ref_idx_active_override_flag and ref_pic_list_modification() (7.3.3, 7.3.3.1).
-use Rattle.std.specs.Prelude.{ℕ, zero, suc, ◌+◌, ◌==◌, ◌^◌, ◌&&◌, nat_le, nat_lt, Bool, true, false, Option, Some, None, List, [], length, if◌then◌else◌}
+use Rattle.std.specs.Prelude.{ℕ, zero, suc, ◌+◌, ◌-◌, ◌==◌, ◌^◌, ◌&&◌, nat_le, nat_lt, Bool, true, false, Option, Some, None, List, [], length, if◌then◌else◌}
 use Rattle.h264_base.specs.declared.element_name.ElementName.TheVariants.{NumRefIdxActiveOverrideFlag, NumRefIdxL0ActiveMinus1, RefPicListModificationFlagL0, ModificationOfPicNumsIdc, AbsDiffPicNumMinus1, LongTermPicNum}
 use Rattle.h264_base.specs.declared.rule.Rule.TheVariants.{Range}
 use Rattle.h264_base.specs.declared.mode.SliceType.{SliceType}
@@ -16,39 +16,30 @@ use Rattle.h264_header.specs.declared.header.SliceKind.TheVariants as kind
 use Rattle.h264_header.specs.declared.layout.Layout.{Layout}
 use Rattle.h264_header.specs.Listed.{listed}
 
--- the slice's own length of the list, or the picture parameter set's, which then has to be at most 16
-unfoldable pub active_of : ℕ → ℕ → Bool → Grammar ℕ
-active_of bit default_minus1 true = do
-  minus1 ← unsigned_to NumRefIdxL0ActiveMinus1 15
-  Done (minus1 + 1)
-active_of bit default_minus1 false = do
+-- the slice's own num_ref_idx_l0_active_minus1, or the picture parameter set's, which then has to be at most 15
+unfoldable pub minus1_of : ℕ → ℕ → Bool → Grammar ℕ
+minus1_of bit default_minus1 true = unsigned_to NumRefIdxL0ActiveMinus1 15
+minus1_of bit default_minus1 false = do
   _ ← check Range bit (nat_le default_minus1 15)
-  Done (default_minus1 + 1)
+  Done default_minus1
 
-unfoldable pub num_ref_idx_l0_active : ℕ → Grammar ℕ
-num_ref_idx_l0_active default_minus1 = do
+unfoldable pub num_ref_idx_l0_active_minus1 : ℕ → Grammar ℕ
+num_ref_idx_l0_active_minus1 default_minus1 = do
   override ← element NumRefIdxActiveOverrideFlag (Fixed 1)
-  active_of override.bit default_minus1 (natural override.value == 1)
+  minus1_of override.bit default_minus1 (natural override.value == 1)
 
--- abs_diff_pic_num_minus1 is below MaxFrameNum
-unfoldable pub abs_diff : ℕ → Grammar ℕ
-abs_diff max_frame_num = do
-  e ← element AbsDiffPicNumMinus1 Unsigned
-  _ ← check Range e.bit (nat_lt (natural e.value) max_frame_num)
-  Done (natural e.value)
-
--- the operand of a command; other commands than 0, 1 and 2 have none
+-- the operand of a command, a difference being at most this; other commands than 0, 1 and 2 have none
 unfoldable pub command : ℕ → ℕ → Grammar (Option Modification)
-command max_frame_num zero = do
-  difference ← abs_diff max_frame_num
+command greatest zero = do
+  difference ← unsigned_to AbsDiffPicNumMinus1 greatest
   Done (Some (Subtract difference))
-command max_frame_num (suc zero) = do
-  difference ← abs_diff max_frame_num
+command greatest (suc zero) = do
+  difference ← unsigned_to AbsDiffPicNumMinus1 greatest
   Done (Some (Add difference))
-command max_frame_num (suc (suc zero)) = do
+command greatest (suc (suc zero)) = do
   number ← unsigned LongTermPicNum
   Done (Some (LongTerm number))
-command max_frame_num (suc (suc (suc n))) = Done None
+command greatest (suc (suc (suc n))) = Done None
 
 -- 3 ends the commands and is not the first; 0, 1 and 2 come at most as often as the list is long
 abbrev pub is_command_allowed : ℕ → ℕ → ℕ → Bool
@@ -60,23 +51,24 @@ placed_modification bit (Some m) = Some (record { bit = bit; modification = m })
 
 -- one more command behind these, or the end
 unfoldable pub modification : ℕ → ℕ → List PicNumModification → Grammar (Option PicNumModification)
-modification max_frame_num active before = do
+modification greatest active before = do
   e ← element ModificationOfPicNumsIdc Unsigned
   _ ← check Range e.bit (is_command_allowed active (length before) (natural e.value))
-  m ← command max_frame_num (natural e.value)
+  m ← command greatest (natural e.value)
   Done (placed_modification e.bit m)
 
 -- the commands, of which there are none where the flag is 0
 unfoldable pub modifications_if : ℕ → ℕ → Bool → Grammar (List PicNumModification)
-modifications_if max_frame_num active false = Done []
-modifications_if max_frame_num active true = listed (modification max_frame_num active) (active + 1) []
+modifications_if greatest active false = Done []
+modifications_if greatest active true = listed (modification greatest active) (active + 1) []
 
+-- abs_diff_pic_num_minus1 is below MaxFrameNum
 unfoldable pub ref_pic_list0 : Layout → Grammar RefPicList0
 ref_pic_list0 layout = do
-  active ← num_ref_idx_l0_active layout.default_active_minus1
+  minus1 ← num_ref_idx_l0_active_minus1 layout.default_active_minus1
   modified ← flag RefPicListModificationFlagL0
-  commands ← modifications_if (2 ^ layout.frame_num_length) active modified
-  Done (record { num_ref_idx_l0_active = active; modifications = record { items = commands } })
+  commands ← modifications_if (2 ^ layout.frame_num_length - 1) (minus1 + 1) modified
+  Done (record { num_ref_idx_l0_active = minus1 + 1; modifications = record { items = commands } })
 
 -- the kind of a slice, by the length of its list, if it has one, and the list's modifications
 abbrev pub kind_of : Option ℕ → List PicNumModification → SliceKind

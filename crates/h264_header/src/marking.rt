@@ -1,12 +1,12 @@
 //! Reading the marking of reference pictures (7.3.3.3).
 #![tactic(auto)]
 
-ghost use Rattle.std.specs.Prelude.{◌≡◌, ℕ, ◌==◌, ◌-◌, ◌<◌, ◌^◌, true, Some, None, IfOk, OnSome};
+ghost use Rattle.std.specs.Prelude.{◌≡◌, ℕ, ◌==◌, ◌-◌, ◌<◌, ◌≤◌, ◌^◌, true, Some, None, IfOk, OnSome};
 ghost use Rattle.std.specs.List.{list_any};
 ghost use Rattle.arrayvec.specs.ArrayVec.{array_vec_len};
 ghost use Rattle.h264_base.specs.Meets.{Meets, Is};
 ghost use Rattle.h264_bits.specs.Forms.{optional};
-ghost use Rattle.h264_header.specs.Marking.{number_of, operands, is_operation_allowed, placed_operation, operation, operations, idr_marking, marking_mode, other_marking, dec_ref_pic_marking};
+ghost use Rattle.h264_header.specs.Marking.{number_of, operands, operand_name, with_operand, is_operation_allowed, operation, operations, idr_marking, marking_mode, other_marking, dec_ref_pic_marking};
 
 use crate::header::{Marking, MarkingOperation, Operation};
 use arrayvec::ArrayVec;
@@ -31,60 +31,73 @@ fn number_of(operation: Operation) -> u32
     }
 }
 
-/// The operands of operation 3.
-fn read_make_long<S: Elements>(bits: &mut Bits, sink: &mut S) -> Result<Option<Operation>, Stop>
+/// Operation 3 with its operands.
+fn read_make_long<S: Elements>(bits: &mut Bits, sink: &mut S) -> Result<Operation, Stop>
     requires { S.failures sink.old < 2 ^ 64 - 1 }
-    ensures { Meets S.took S.failures (Is (λ x. x)) (operands 3) bits.old bits.new sink.old sink.new result }
+    ensures { Meets S.took S.failures (Is Some) (operands 3) bits.old bits.new sink.old sink.new result }
 {
     let names = [
         ElementName::DifferenceOfPicNumsMinus1,
         ElementName::LongTermFrameIdx,
     ];
     let [difference, index] = ue_values::<2, S>(bits, names, sink)?;
-    Ok(Some(Operation::MakeLongTerm {
+    Ok(Operation::MakeLongTerm {
         difference_of_pic_nums_minus1: difference,
         long_term_frame_idx: index,
-    }))
+    })
 }
 
-/// The operation of this number with its operands; 0 is none.
+/// The name of the operand of operation 1, 2, 4 or 6.
+fn operand_name(number: u32) -> ElementName
+    ensures { result ≡ operand_name number }
+{
+    match number {
+        1 => ElementName::DifferenceOfPicNumsMinus1,
+        2 => ElementName::LongTermPicNum,
+        4 => ElementName::MaxLongTermFrameIdxPlus1,
+        _ => ElementName::LongTermFrameIdx,
+    }
+}
+
+/// Operation 1, 2, 4 or 6 with this operand.
+fn with_operand(number: u32, operand: u32) -> Operation
+    ensures { result ≡ with_operand number operand }
+{
+    match number {
+        1 => Operation::UnmarkShortTerm {
+            difference_of_pic_nums_minus1: operand,
+        },
+        2 => Operation::UnmarkLongTerm {
+            long_term_pic_num: operand,
+        },
+        4 => Operation::LimitLongTerm {
+            max_long_term_frame_idx_plus1: operand,
+        },
+        _ => Operation::MakeCurrentLongTerm {
+            long_term_frame_idx: operand,
+        },
+    }
+}
+
+/// The operation of this number with its operands.
 fn read_operands<S: Elements>(
     number: u32,
     bits: &mut Bits,
     sink: &mut S,
-) -> Result<Option<Operation>, Stop>
-    requires { S.failures sink.old < 2 ^ 64 - 1 }
-    ensures { Meets S.took S.failures (Is (λ x. x)) (operands number) bits.old bits.new sink.old sink.new result }
+) -> Result<Operation, Stop>
+    requires some { 0 < number }
+    requires known { number ≤ 6 }
+    requires room { S.failures sink.old < 2 ^ 64 - 1 }
+    ensures { Meets S.took S.failures (Is Some) (operands number) bits.old bits.new sink.old sink.new result }
 {
-    match number {
-        1 => {
-            let difference = ue_value(bits, ElementName::DifferenceOfPicNumsMinus1, sink)?;
-            Ok(Some(Operation::UnmarkShortTerm {
-                difference_of_pic_nums_minus1: difference,
-            }))
-        }
-        2 => {
-            let number = ue_value(bits, ElementName::LongTermPicNum, sink)?;
-            Ok(Some(Operation::UnmarkLongTerm {
-                long_term_pic_num: number,
-            }))
-        }
-        3 => read_make_long(bits, sink),
-        4 => {
-            let greatest = ue_value(bits, ElementName::MaxLongTermFrameIdxPlus1, sink)?;
-            Ok(Some(Operation::LimitLongTerm {
-                max_long_term_frame_idx_plus1: greatest,
-            }))
-        }
-        5 => Ok(Some(Operation::UnmarkAll)),
-        6 => {
-            let chosen = ue_value(bits, ElementName::LongTermFrameIdx, sink)?;
-            Ok(Some(Operation::MakeCurrentLongTerm {
-                long_term_frame_idx: chosen,
-            }))
-        }
-        _ => Ok(None),
+    if number == 3 {
+        return read_make_long(bits, sink);
     }
+    if number == 5 {
+        return Ok(Operation::UnmarkAll);
+    }
+    let operand = ue_value(bits, operand_name(number), sink)?;
+    Ok(with_operand(number, operand))
 }
 
 /// Whether one of these operations has this number.
@@ -107,16 +120,6 @@ fn is_operation_allowed(before: &[MarkingOperation], number: u32) -> bool
     !(number >= 4 && has_number(before, number))
 }
 
-/// An operation with its place, or the end.
-fn placed_operation(bit: u64, operation: Option<Operation>) -> Option<MarkingOperation>
-    ensures { result ≡ placed_operation bit operation }
-{
-    match operation {
-        Some(operation) => Some(MarkingOperation { bit, operation }),
-        None => None,
-    }
-}
-
 /// One more operation, or the end.
 fn read_operation<S: Elements>(
     before: &ArrayVec<MarkingOperation, 36>,
@@ -136,8 +139,11 @@ fn read_operation<S: Elements>(
     if number.value == 0 {
         return Ok(None);
     }
-    let found = read_operands(number.value, bits, sink)?;
-    Ok(placed_operation(number.bit, found))
+    let operation = read_operands(number.value, bits, sink)?;
+    Ok(Some(MarkingOperation {
+        bit: number.bit,
+        operation,
+    }))
 }
 
 /// The operations up to the 0 that ends them.
@@ -199,27 +205,6 @@ fn read_adaptive<S: Elements>(
     Ok(())
 }
 
-/// What the adaptive flag says, which stands at this bit.
-fn read_marking_mode<S: Elements>(
-    bit: u64,
-    adaptive: bool,
-    marking: &mut Option<Found<Marking>>,
-    bits: &mut Bits,
-    sink: &mut S,
-) -> Result<(), Stop>
-    requires { S.failures sink.old < 2 ^ 64 - 1 }
-    ensures { Meets S.took S.failures (λ _ m. marking.new ≡ Some (record { bit = bit; value = m })) (marking_mode adaptive) bits.old bits.new sink.old sink.new result }
-{
-    if adaptive {
-        return read_adaptive(bit, marking, bits, sink);
-    }
-    *marking = Some(Found {
-        bit,
-        value: Marking::SlidingWindow,
-    });
-    Ok(())
-}
-
 /// The marking of another picture.
 fn read_other_marking<S: Elements>(
     marking: &mut Option<Found<Marking>>,
@@ -230,24 +215,14 @@ fn read_other_marking<S: Elements>(
     ensures { Meets S.took S.failures (λ _ m. marking.new ≡ Some m) other_marking bits.old bits.new sink.old sink.new result }
 {
     let adaptive = read_flag(bits, ElementName::AdaptiveRefPicMarkingModeFlag, sink)?;
-    read_marking_mode(adaptive.bit, adaptive.value, marking, bits, sink)?;
-    Ok(())
-}
-
-/// The marking of a picture.
-fn read_dec_ref_pic_marking<S: Elements>(
-    idr: bool,
-    marking: &mut Option<Found<Marking>>,
-    bits: &mut Bits,
-    sink: &mut S,
-) -> Result<(), Stop>
-    requires { S.failures sink.old < 2 ^ 64 - 1 }
-    ensures { Meets S.took S.failures (λ _ m. marking.new ≡ Some m) (dec_ref_pic_marking idr) bits.old bits.new sink.old sink.new result }
-{
-    if idr {
-        return read_idr_marking(marking, bits, sink);
+    if adaptive.value {
+        return read_adaptive(adaptive.bit, marking, bits, sink);
     }
-    read_other_marking(marking, bits, sink)
+    *marking = Some(Found {
+        bit: adaptive.bit,
+        value: Marking::SlidingWindow,
+    });
+    Ok(())
 }
 
 /// The marking, where the picture is a reference, else none, in a place of the caller: it is large to move.
@@ -265,6 +240,8 @@ pub(crate) fn read_marking<S: Elements>(
         *marking = None;
         return Ok(());
     }
-    read_dec_ref_pic_marking(idr, marking, bits, sink)?;
-    Ok(())
+    if idr {
+        return read_idr_marking(marking, bits, sink);
+    }
+    read_other_marking(marking, bits, sink)
 }

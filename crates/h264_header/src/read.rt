@@ -90,16 +90,6 @@ fn read_named_sets<S: Elements>(
     }
 }
 
-/// idr_pic_id.
-fn read_idr_pic_id<S: Elements>(bits: &mut Bits, sink: &mut S) -> Result<Found<u32>, Stop>
-    requires { S.failures sink.old < 2 ^ 64 - 1 }
-    ensures { Meets S.took S.failures (Is (λ x. x)) idr_pic_id bits.old bits.new sink.old sink.new result }
-{
-    let id = read_ue(bits, ElementName::IdrPicId, sink)?;
-    check(id.value <= 65535, Rule::Range, id.bit)?;
-    Ok(id)
-}
-
 /// idr_pic_id, where the picture is an IDR picture.
 fn read_idr<S: Elements>(
     idr: bool,
@@ -112,8 +102,9 @@ fn read_idr<S: Elements>(
     if !idr {
         return Ok(None);
     }
-    let part = read_idr_pic_id(bits, sink)?;
-    Ok(Some(part))
+    let id = read_ue(bits, ElementName::IdrPicId, sink)?;
+    check(id.value <= 65535, Rule::Range, id.bit)?;
+    Ok(Some(id))
 }
 
 /// The delta of this name, where it is present, or 0.

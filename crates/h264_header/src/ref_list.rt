@@ -1,11 +1,11 @@
 //! Reading what a P slice says of its reference picture list (7.3.3, 7.3.3.1).
 #![tactic(auto)]
 
-ghost use Rattle.std.specs.Prelude.{◌≡◌, ℕ, ◌+◌, ◌-◌, ◌<◌, ◌≤◌, ◌^◌, [], IfOk, OnSome};
+ghost use Rattle.std.specs.Prelude.{◌≡◌, ℕ, ◌+◌, ◌-◌, ◌<◌, ◌≤◌, ◌^◌, Some, [], IfOk, OnSome};
 ghost use Rattle.arrayvec.specs.ArrayVec.{array_vec_len};
 ghost use Rattle.h264_base.specs.Meets.{Meets, Is};
 ghost use Rattle.h264_header.specs.Listed.{listed};
-ghost use Rattle.h264_header.specs.RefList.{num_ref_idx_l0_active, active_of, abs_diff, command, is_command_allowed, placed_modification, modification, modifications_if, ref_pic_list0, kind_of, slice_kind};
+ghost use Rattle.h264_header.specs.RefList.{num_ref_idx_l0_active_minus1, command, is_command_allowed, modification, modifications_if, kind_of, slice_kind};
 
 use crate::header::{Modification, PicNumModification, RefPicList0, SliceKind};
 use crate::layout::Layout;
@@ -17,88 +17,48 @@ use h264_bits::{Bits, check, read_flag, read_ue};
 /// The idc that ends the commands.
 const END: u32 = 3;
 
-/// The list's length: the slice's own, or the picture parameter set's.
-fn read_active<S: Elements>(
-    bit: u64,
-    default_minus1: u32,
-    own: bool,
-    bits: &mut Bits,
-    sink: &mut S,
-) -> Result<u32, Stop>
-    requires { S.failures sink.old < 2 ^ 64 - 1 }
-    ensures meets { Meets S.took S.failures (Is (λ x. x)) (active_of bit default_minus1 own) bits.old bits.new sink.old sink.new result }
-    ensures few { IfOk result (λ n. n ≤ 16) }
-{
-    if own {
-        let minus1 = ue_up_to(bits, ElementName::NumRefIdxL0ActiveMinus1, 15, sink)?;
-        return Ok(minus1 + 1);
-    }
-    check(default_minus1 <= 15, Rule::Range, bit)?;
-    Ok(default_minus1 + 1)
-}
-
-/// num_ref_idx_active_override_flag, and the list's length.
-fn read_override<S: Elements>(
+/// num_ref_idx_l0_active_minus1: the slice's own, or the picture parameter set's.
+fn read_active_minus1<S: Elements>(
     default_minus1: u32,
     bits: &mut Bits,
     sink: &mut S,
 ) -> Result<u32, Stop>
     requires { S.failures sink.old < 2 ^ 64 - 1 }
-    ensures meets { Meets S.took S.failures (Is (λ x. x)) (num_ref_idx_l0_active default_minus1) bits.old bits.new sink.old sink.new result }
-    ensures few { IfOk result (λ n. n ≤ 16) }
+    ensures meets { Meets S.took S.failures (Is (λ x. x)) (num_ref_idx_l0_active_minus1 default_minus1) bits.old bits.new sink.old sink.new result }
+    ensures few { IfOk result (λ n. n ≤ 15) }
 {
     let own = read_flag(bits, ElementName::NumRefIdxActiveOverrideFlag, sink)?;
-    read_active(own.bit, default_minus1, own.value, bits, sink)
+    if own.value {
+        return ue_up_to(bits, ElementName::NumRefIdxL0ActiveMinus1, 15, sink);
+    }
+    check(default_minus1 <= 15, Rule::Range, own.bit)?;
+    Ok(default_minus1)
 }
 
-/// abs_diff_pic_num_minus1.
-fn read_abs_diff<S: Elements>(
-    max_frame_num: u32,
-    bits: &mut Bits,
-    sink: &mut S,
-) -> Result<u32, Stop>
-    requires { S.failures sink.old < 2 ^ 64 - 1 }
-    ensures { Meets S.took S.failures (Is (λ x. x)) (abs_diff max_frame_num) bits.old bits.new sink.old sink.new result }
-{
-    let difference = read_ue(bits, ElementName::AbsDiffPicNumMinus1, sink)?;
-    check(
-        difference.value < max_frame_num,
-        Rule::Range,
-        difference.bit,
-    )?;
-    Ok(difference.value)
-}
-
-/// The operand of a command; 3 has none.
+/// A command other than the end, with its operand; a difference is at most the greatest.
 fn read_command<S: Elements>(
-    max_frame_num: u32,
+    greatest: u32,
     idc: u32,
     bits: &mut Bits,
     sink: &mut S,
-) -> Result<Option<Modification>, Stop>
-    requires { S.failures sink.old < 2 ^ 64 - 1 }
-    ensures { Meets S.took S.failures (Is (λ x. x)) (command max_frame_num idc) bits.old bits.new sink.old sink.new result }
+) -> Result<Modification, Stop>
+    requires known { idc ≤ 2 }
+    requires room { S.failures sink.old < 2 ^ 64 - 1 }
+    ensures { Meets S.took S.failures (Is Some) (command greatest idc) bits.old bits.new sink.old sink.new result }
 {
-    match idc {
-        0 => {
-            let difference = read_abs_diff(max_frame_num, bits, sink)?;
-            Ok(Some(Modification::Subtract {
-                abs_diff_pic_num_minus1: difference,
-            }))
-        }
-        1 => {
-            let difference = read_abs_diff(max_frame_num, bits, sink)?;
-            Ok(Some(Modification::Add {
-                abs_diff_pic_num_minus1: difference,
-            }))
-        }
-        2 => {
-            let number = ue_value(bits, ElementName::LongTermPicNum, sink)?;
-            Ok(Some(Modification::LongTerm {
-                long_term_pic_num: number,
-            }))
-        }
-        _ => Ok(None),
+    if idc == 2 {
+        let long_term_pic_num = ue_value(bits, ElementName::LongTermPicNum, sink)?;
+        return Ok(Modification::LongTerm { long_term_pic_num });
+    }
+    let abs_diff_pic_num_minus1 = ue_up_to(bits, ElementName::AbsDiffPicNumMinus1, greatest, sink)?;
+    if idc == 0 {
+        Ok(Modification::Subtract {
+            abs_diff_pic_num_minus1,
+        })
+    } else {
+        Ok(Modification::Add {
+            abs_diff_pic_num_minus1,
+        })
     }
 }
 
@@ -113,26 +73,16 @@ fn is_command_allowed(active: u32, before: usize, idc: u32) -> bool
     }
 }
 
-/// A command with its place, or the end.
-fn placed_modification(bit: u64, command: Option<Modification>) -> Option<PicNumModification>
-    ensures { result ≡ placed_modification bit command }
-{
-    match command {
-        Some(modification) => Some(PicNumModification { bit, modification }),
-        None => None,
-    }
-}
-
 /// One more command, or the end.
 fn read_modification<S: Elements>(
-    max_frame_num: u32,
+    greatest: u32,
     active: u32,
     before: &ArrayVec<PicNumModification, 16>,
     bits: &mut Bits,
     sink: &mut S,
 ) -> Result<Option<PicNumModification>, Stop>
     requires { S.failures sink.old < 2 ^ 64 - 1 }
-    ensures meets { Meets S.took S.failures (Is (λ x. x)) (modification max_frame_num active before.now.items) bits.old bits.new sink.old sink.new result }
+    ensures meets { Meets S.took S.failures (Is (λ x. x)) (modification greatest active before.now.items) bits.old bits.new sink.old sink.new result }
     ensures room { IfOk result (λ m. OnSome m (array_vec_len before.now < active)) }
 {
     let idc = read_ue(bits, ElementName::ModificationOfPicNumsIdc, sink)?;
@@ -144,13 +94,16 @@ fn read_modification<S: Elements>(
     if idc.value == END {
         return Ok(None);
     }
-    let command = read_command(max_frame_num, idc.value, bits, sink)?;
-    Ok(placed_modification(idc.bit, command))
+    let modification = read_command(greatest, idc.value, bits, sink)?;
+    Ok(Some(PicNumModification {
+        bit: idc.bit,
+        modification,
+    }))
 }
 
 /// The commands up to the one that ends them, into an empty list.
 fn read_commands<S: Elements>(
-    max_frame_num: u32,
+    greatest: u32,
     active: u32,
     commands: &mut ArrayVec<PicNumModification, 16>,
     bits: &mut Bits,
@@ -159,10 +112,10 @@ fn read_commands<S: Elements>(
     requires few { active ≤ 16 }
     requires empty { commands.old.items ≡ [] }
     requires room { S.failures sink.old < 2 ^ 64 - 1 }
-    ensures { Meets S.took S.failures (Is (λ _. commands.new.items)) (listed (modification max_frame_num active) (active + 1) []) bits.old bits.new sink.old sink.new result }
+    ensures { Meets S.took S.failures (Is (λ _. commands.new.items)) (listed (modification greatest active) (active + 1) []) bits.old bits.new sink.old sink.new result }
 {
     for _turn in 0..active + 1 {
-        let next = read_modification(max_frame_num, active, commands, bits, sink)?;
+        let next = read_modification(greatest, active, commands, bits, sink)?;
         match next {
             Some(command) => commands.push(command),
             None => return Ok(()),
@@ -173,7 +126,7 @@ fn read_commands<S: Elements>(
 
 /// The commands, of which there are none where the flag is 0, into an empty list.
 fn read_modifications<S: Elements>(
-    max_frame_num: u32,
+    greatest: u32,
     active: u32,
     modified: bool,
     commands: &mut ArrayVec<PicNumModification, 16>,
@@ -183,39 +136,20 @@ fn read_modifications<S: Elements>(
     requires few { active ≤ 16 }
     requires empty { commands.old.items ≡ [] }
     requires room { S.failures sink.old < 2 ^ 64 - 1 }
-    ensures { Meets S.took S.failures (Is (λ _. commands.new.items)) (modifications_if max_frame_num active modified) bits.old bits.new sink.old sink.new result }
+    ensures { Meets S.took S.failures (Is (λ _. commands.new.items)) (modifications_if greatest active modified) bits.old bits.new sink.old sink.new result }
 {
     if !modified {
         return Ok(());
     }
-    read_commands(max_frame_num, active, commands, bits, sink)
+    read_commands(greatest, active, commands, bits, sink)
 }
 
-/// MaxFrameNum.
-fn max_frame_num_of(frame_num_length: u32) -> u32
+/// The greatest abs_diff_pic_num_minus1: MaxFrameNum - 1.
+fn greatest_of(frame_num_length: u32) -> u32
     requires { frame_num_length ≤ 16 }
-    ensures { result ≡ 2 ^ frame_num_length }
+    ensures { result ≡ 2 ^ frame_num_length - 1 }
 {
-    1 << frame_num_length
-}
-
-/// The list's length, with its modifications in an empty list.
-fn read_ref_pic_list0<S: Elements>(
-    layout: Layout,
-    commands: &mut ArrayVec<PicNumModification, 16>,
-    bits: &mut Bits,
-    sink: &mut S,
-) -> Result<u32, Stop>
-    requires short { layout.frame_num_length ≤ 16 }
-    requires empty { commands.old.items ≡ [] }
-    requires room { S.failures sink.old < 2 ^ 64 - 1 }
-    ensures { Meets S.took S.failures (Is (λ active. record { num_ref_idx_l0_active = active; modifications = commands.new })) (ref_pic_list0 layout) bits.old bits.new sink.old sink.new result }
-{
-    let active = read_override(layout.default_active_minus1, bits, sink)?;
-    let modified = flag_value(bits, ElementName::RefPicListModificationFlagL0, sink)?;
-    let max_frame_num = max_frame_num_of(layout.frame_num_length);
-    read_modifications(max_frame_num, active, modified, commands, bits, sink)?;
-    Ok(active)
+    (1 << frame_num_length) - 1
 }
 
 /// What only slices of this type have: the length of a P slice's list, with its modifications in an empty list of the
@@ -234,7 +168,11 @@ pub(crate) fn read_slice_kind<S: Elements>(
 {
     match slice_type {
         SliceType::P => {
-            let active = read_ref_pic_list0(layout, commands, bits, sink)?;
+            let minus1 = read_active_minus1(layout.default_active_minus1, bits, sink)?;
+            let active = minus1 + 1;
+            let modified = flag_value(bits, ElementName::RefPicListModificationFlagL0, sink)?;
+            let greatest = greatest_of(layout.frame_num_length);
+            read_modifications(greatest, active, modified, commands, bits, sink)?;
             Ok(Some(active))
         }
         SliceType::I => Ok(None),

@@ -6,21 +6,21 @@ use Rattle.h264_header.proofs.Entries.{listed-starts, listed-next, listed-stop, 
 use Rattle.h264_header.proofs.ref_list.read_commands.Goals as goal
 
 pub loop-turn-init : goal.loop-turn-init
-loop-turn-init g c = record { rest = listed-starts (modification c.args.max_frame_num c.args.active) (c.args.active + 1) c.args.commands.now.items _ _ c.requires.empty; room = c.requires.room }
+loop-turn-init g c = record { rest = listed-starts (modification c.args.greatest c.args.active) (c.args.active + 1) c.args.commands.now.items _ _ c.requires.empty; room = c.requires.room }
 
 pub returns-in_err-next : goal.returns-in_err-next
-returns-in_err-next g c = let p = err_from_is_err_and c.from_residual.result c.from_residual.ensures.1 in rw (p.1, p.2) (listed-stop (modification c.args.max_frame_num c.args.active) (c.args.active + 1) c.loop-turn._turn c.loop-turn.commands.items c.loop-turn-test.true c.loop-turn.invariant.rest c.in_err-next.ensures.meets)
+returns-in_err-next g c = let p = err_from_is_err_and c.from_residual.result c.from_residual.ensures.1 in rw (p.1, p.2) (listed-stop (modification c.args.greatest c.args.active) (c.args.active + 1) c.loop-turn._turn c.loop-turn.commands.items c.loop-turn-test.true c.loop-turn.invariant.rest c.in_err-next.ensures.meets)
 
 pub returns-in-None : goal.returns-in-None
-returns-in-None g c = let m = rw c.in-None.is at c.in_ok-next.ensures.meets in listed-ends (modification c.args.max_frame_num c.args.active) (c.args.active + 1) c.loop-turn._turn c.loop-turn.commands.items _ c.loop-turn-test.true refl c.loop-turn.invariant.rest m
+returns-in-None g c = let m = rw c.in-None.is at c.in_ok-next.ensures.meets in listed-ends (modification c.args.greatest c.args.active) (c.args.active + 1) c.loop-turn._turn c.loop-turn.commands.items _ c.loop-turn-test.true refl c.loop-turn.invariant.rest m
 
 pub loop-turn-preserved : goal.loop-turn-preserved
 loop-turn-preserved g c =
     let m = rw c.in-Some.is at c.in_ok-next.ensures.meets in
     record {
-      rest = listed-next (modification c.args.max_frame_num c.args.active) (c.args.active + 1) c.loop-turn._turn c.loop-turn.commands.items _ c.loop-turn-test.true c.push.ensures.items c.loop-turn.invariant.rest m;
+      rest = listed-next (modification c.args.greatest c.args.active) (c.args.active + 1) c.loop-turn._turn c.loop-turn.commands.items _ c.loop-turn-test.true c.push.ensures.items c.loop-turn.invariant.rest m;
       room = let k = kept c.in_ok-next.ensures.meets in let r = c.loop-turn.invariant.room in rw k r;
     }
 
 pub returns : goal.returns
-returns g c = listed-over (modification c.args.max_frame_num c.args.active) (c.args.active + 1) c.loop-turn._turn c.loop-turn.commands.items _ c.loop-turn-test.false refl c.loop-turn.invariant.rest
+returns g c = listed-over (modification c.args.greatest c.args.active) (c.args.active + 1) c.loop-turn._turn c.loop-turn.commands.items _ c.loop-turn-test.false refl c.loop-turn.invariant.rest
