@@ -3,3 +3,4 @@ pub mod Named
 pub mod SameMarking
 pub mod Gives
 pub mod Accepted
+pub mod Ids

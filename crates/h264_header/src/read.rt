@@ -76,8 +76,6 @@ fn read_named_sets<S: Elements>(
     requires { S.failures sink.old < 2 ^ 64 - 1 }
     ensures meets { Meets S.took S.failures (Is (λ x. x)) (named_sets (sets_of sets.now)) bits.old bits.new sink.old sink.new result }
     ensures short { IfOk result (λ n. IsShort n.layout) }
-    ensures id { IfOk result (λ n. n.id.value ≤ 255) }
-    ensures named { IfOk result (λ n. is_some (sets_of sets.now n.id.value) ≡ true) }
 {
     let id = read_ue(bits, ElementName::PicParameterSetId, sink)?;
     check(id.value <= 255, Rule::NoSet, id.bit)?;
@@ -233,8 +231,7 @@ fn header_from_qp<S: Elements>(
     sink: &mut S,
 ) -> Result<(), Stop>
     requires { S.failures sink.old < 2 ^ 64 - 1 }
-    ensures meets { Meets S.took S.failures (Is (λ _. header.new)) (header_from_qp header.old layout) bits.old bits.new sink.old sink.new result }
-    ensures id { OnOk result (header.new.pic_parameter_set_id ≡ header.old.pic_parameter_set_id) }
+    ensures { Meets S.took S.failures (Is (λ _. header.new)) (header_from_qp header.old layout) bits.old bits.new sink.old sink.new result }
 {
     header.slice_qp_delta = read_se(bits, ElementName::SliceQpDelta, sink)?;
     header.deblocking = read_deblocking(layout.has_deblocking_control, bits, sink)?;
@@ -252,8 +249,7 @@ fn header_from_kind<S: Elements>(
 ) -> Result<(), Stop>
     requires short { layout.frame_num_length ≤ 16 }
     requires room { S.failures sink.old < 2 ^ 64 - 1 }
-    ensures meets { Meets S.took S.failures (Is (λ _. header.new)) (header_from_kind header.old unit stated layout) bits.old bits.new sink.old sink.new result }
-    ensures id { OnOk result (header.new.pic_parameter_set_id ≡ header.old.pic_parameter_set_id) }
+    ensures { Meets S.took S.failures (Is (λ _. header.new)) (header_from_kind header.old unit stated layout) bits.old bits.new sink.old sink.new result }
 {
     let mut modifications = ArrayVec::new();
     let active = read_slice_kind(layout, stated.slice_type, &mut modifications, bits, sink)?;
@@ -283,8 +279,7 @@ fn header_from_frame_num<S: Elements>(
 ) -> Result<(), Stop>
     requires short { IsShort layout }
     requires room { S.failures sink.old < 2 ^ 64 - 1 }
-    ensures meets { Meets S.took S.failures (Is (λ _. header.new)) (header_from_frame_num header.old unit stated layout) bits.old bits.new sink.old sink.new result }
-    ensures id { OnOk result (header.new.pic_parameter_set_id ≡ header.old.pic_parameter_set_id) }
+    ensures { Meets S.took S.failures (Is (λ _. header.new)) (header_from_frame_num header.old unit stated layout) bits.old bits.new sink.old sink.new result }
 {
     header.frame_num = read_bits(bits, ElementName::FrameNum, layout.frame_num_length, sink)?;
     header.idr_pic_id = read_idr(unit.idr_pic_flag, bits, sink)?;
@@ -301,9 +296,7 @@ fn header_steps<S: Elements>(
     sink: &mut S,
 ) -> Result<(), Stop>
     requires { S.failures sink.old < 2 ^ 64 - 1 }
-    ensures meets { Meets S.took S.failures (Is (λ _. header.new)) (header_of (sets_of sets.now) unit) bits.old bits.new sink.old sink.new result }
-    ensures id { OnOk result (header.new.pic_parameter_set_id.value ≤ 255) }
-    ensures named { OnOk result (is_some (sets_of sets.now header.new.pic_parameter_set_id.value) ≡ true) }
+    ensures { Meets S.took S.failures (Is (λ _. header.new)) (header_of (sets_of sets.now) unit) bits.old bits.new sink.old sink.new result }
 {
     header.nal_ref_idc = unit.nal_ref_idc;
     header.first_mb_in_slice = read_ue(bits, ElementName::FirstMbInSlice, sink)?;

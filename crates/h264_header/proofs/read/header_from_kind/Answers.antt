@@ -3,14 +3,14 @@ use Rattle.h264_base.proofs.Steps.{bind, stop}
 use Rattle.h264_header.specs.Parts.{header_from_kind}
 use Rattle.h264_header.proofs.read.header_from_kind.Goals as goal
 
-pub returns-in_err-active-clause-meets : goal.returns-in_err-active-clause-meets
+pub returns-in_err-active : goal.returns-in_err-active
 unfolding header_from_kind
-returns-in_err-active-clause-meets g c = let p = err_from_is_err_and c.from_residual.result c.from_residual.ensures.1 in rw (p.1, p.2) (stop _ c.in_err-active.ensures)
+returns-in_err-active g c = let p = err_from_is_err_and c.from_residual.result c.from_residual.ensures.1 in rw (p.1, p.2) (stop _ c.in_err-active.ensures)
 
-pub returns-in_err-read_marking-clause-meets : goal.returns-in_err-read_marking-clause-meets
+pub returns-in_err-read_marking : goal.returns-in_err-read_marking
 unfolding header_from_kind
-returns-in_err-read_marking-clause-meets g c = let p = err_from_is_err_and c.from_residual-in_err-read_marking.result c.from_residual-in_err-read_marking.ensures.1 in rw (p.1, p.2) (bind _ c.in_ok-active.ensures (stop _ c.in_err-read_marking.ensures))
+returns-in_err-read_marking g c = let p = err_from_is_err_and c.from_residual-in_err-read_marking.result c.from_residual-in_err-read_marking.ensures.1 in rw (p.1, p.2) (bind _ c.in_ok-active.ensures (stop _ c.in_err-read_marking.ensures))
 
-pub returns-clause-meets : goal.returns-clause-meets
+pub returns : goal.returns
 unfolding header_from_kind
-returns-clause-meets g c = bind _ c.in_ok-active.ensures (bind _ c.in_ok-read_marking.ensures (rw (← c.kind_of.ensures) c.header_from_qp.ensures.meets))
+returns g c = bind _ c.in_ok-active.ensures (bind _ c.in_ok-read_marking.ensures (rw (← c.kind_of.ensures) c.header_from_qp.ensures))

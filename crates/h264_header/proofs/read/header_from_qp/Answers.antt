@@ -4,14 +4,14 @@ use Rattle.h264_base.proofs.Steps.{bind, stop, done}
 use Rattle.h264_header.specs.Parts.{header_from_qp}
 use Rattle.h264_header.proofs.read.header_from_qp.Goals as goal
 
-pub returns-in_err-header-clause-meets : goal.returns-in_err-header-clause-meets
+pub returns-in_err-header : goal.returns-in_err-header
 unfolding header_from_qp
-returns-in_err-header-clause-meets g c = let p = err_from_is_err_and c.from_residual.result c.from_residual.ensures.1 in rw (p.1, p.2) (stop _ c.in_err-header.ensures.meets)
+returns-in_err-header g c = let p = err_from_is_err_and c.from_residual.result c.from_residual.ensures.1 in rw (p.1, p.2) (stop _ c.in_err-header.ensures.meets)
 
-pub returns-in_err-header-2-clause-meets : goal.returns-in_err-header-2-clause-meets
+pub returns-in_err-header-2 : goal.returns-in_err-header-2
 unfolding header_from_qp
-returns-in_err-header-2-clause-meets g c = let p = err_from_is_err_and c.from_residual-in_err-header-2.result c.from_residual-in_err-header-2.ensures.1 in rw (p.1, p.2) (bind _ c.in_ok-header.ensures.meets (stop _ c.in_err-header-2.ensures))
+returns-in_err-header-2 g c = let p = err_from_is_err_and c.from_residual-in_err-header-2.result c.from_residual-in_err-header-2.ensures.1 in rw (p.1, p.2) (bind _ c.in_ok-header.ensures.meets (stop _ c.in_err-header-2.ensures))
 
-pub returns-clause-meets : goal.returns-clause-meets
+pub returns : goal.returns
 unfolding header_from_qp
-returns-clause-meets g c = bind _ c.in_ok-header.ensures.meets (bind _ c.in_ok-header-2.ensures (done _ _ _ _ _ _ _ refl))
+returns g c = bind _ c.in_ok-header.ensures.meets (bind _ c.in_ok-header-2.ensures (done _ _ _ _ _ _ _ refl))

@@ -1,5 +1,4 @@
-use Rattle.std.proofs.Common.{◌≡◌, Option, Some, None, true, refl, sym, ◌∙◌}
-use Rattle.std.specs.Option.{is_some, option_map}
+use Rattle.std.proofs.Common.{refl, sym, ◌∙◌}
 use Rattle.std.proofs.lemmas.Result.{err_from_is_err_and}
 use Rattle.h264_base.proofs.Steps.{bind, stop, done, checked}
 use Rattle.h264_header.specs.Header.{named_sets}
@@ -24,11 +23,3 @@ unfolding named_sets
 returns-in-None-clause-meets g c =
     let found = sym c.named_layout.ensures.is ∙ c.in-None.is in
     bind _ c.in_ok-id.ensures.meets (bind _ (checked _ _ _ _ c.in_ok-check.ensures) (rw found (stop _ (checked _ _ _ _ (record { checks = (refl, refl) })))))
-
--- what is seen of a value shows that it is there
-some-seen : {A B : Type 0} (f : A → B) (o : Option A) (y : B) → option_map f o ≡ Some y → is_some o ≡ true
-some-seen f None y e = cc
-some-seen f (Some x) y e = refl
-
-pub returns-in-Some-clause-named : goal.returns-in-Some-clause-named
-returns-in-Some-clause-named g c = some-seen _ _ _ (sym c.named_layout.ensures.is ∙ c.in-Some.is)
