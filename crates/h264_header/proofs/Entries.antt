@@ -3,16 +3,16 @@ use Rattle.std.proofs.Common.{◌≡◌, ◌≢◌, ℕ, zero, suc, ◌+◌, ◌
 use Rattle.h264_base.specs.declared.stop.Stop.{Stop}
 use Rattle.h264_base.specs.Call.{Call}
 use Rattle.h264_base.specs.Word.{digit}
-use Rattle.h264_base.specs.declared.element_name.ElementName.TheVariants.{AbsDiffPicNumMinus1, DifferenceOfPicNumsMinus1, LongTermFrameIdx}
+use Rattle.h264_base.specs.declared.element_name.ElementName.TheVariants.{AbsDiffPicNumMinus1}
 use Rattle.h264_base.specs.Grammar.{Grammar, Done, ◌>>=◌, read_word}
 use Rattle.h264_base.specs.Meets.{Reader, Meets, Is}
 use Rattle.h264_base.proofs.Steps.{Leads, leads-starts, leads-on, bind_as, stop, done, finish}
 use Rattle.h264_header.specs.Listed.{listed, goes_on}
-use Rattle.h264_bits.specs.Forms.{unsigned, unsigned_to, each}
+use Rattle.h264_bits.specs.Forms.{unsigned, unsigned_to}
 use Rattle.h264_header.specs.declared.header.FilterOffsets.{FilterOffsets}
 use Rattle.h264_header.specs.declared.header.Deblocking.{Deblocking}
 use Rattle.h264_header.specs.declared.header.Modification.{Modification}
-use Rattle.h264_header.specs.declared.header.Operation.TheVariants.{MakeLongTerm}
+use Rattle.h264_header.specs.declared.header.Operation.{Operation}
 use Rattle.h264_header.specs.Header.{deblocking_of, filter_offsets}
 use Rattle.std.proofs.Common.{IsTrue, length, not, Result}
 use Rattle.std.specs.Prelude.{OnSome, OnOk}
@@ -131,7 +131,14 @@ one-operand (suc (suc (suc (suc (suc zero))))) h k a b = absurd (b refl)
 one-operand (suc (suc (suc (suc (suc (suc zero)))))) h k a b = refl
 one-operand (suc (suc (suc (suc (suc (suc (suc n))))))) h k a b = absurd (omega arith)
 
--- the operands of operation 3 as one list of values
-pub long-by_values : operands 3 ≡ (each unsigned [] (DifferenceOfPicNumsMinus1 ∷ LongTermFrameIdx ∷ []) >>= (λ l. Done (Some (MakeLongTerm (get_or l 0 0) (get_or l 1 0)))))
-unfolding operands each unsigned read_word ◌>>=◌
-long-by_values = refl
+-- the first operand stops
+pub operand-stops : {S : Type 0} {took : S → List Call → Type 0} {failures : S → ℕ} {old new : Reader} {s s' : S} {e : Stop} (n : ℕ) → 0 < n → n ≤ 6 → n ≢ 5 → Meets {X = ℕ} took failures (Is (λ x. x)) (unsigned (operand_name n)) old new s s' (Err e) → Meets {X = Operation} took failures (Is Some) (operands n) old new s s' (Err e)
+unfolding operands
+operand-stops zero h k b m = absurd (omega arith)
+operand-stops (suc zero) h k b m = stop _ m
+operand-stops (suc (suc zero)) h k b m = stop _ m
+operand-stops (suc (suc (suc zero))) h k b m = stop _ m
+operand-stops (suc (suc (suc (suc zero)))) h k b m = stop _ m
+operand-stops (suc (suc (suc (suc (suc zero))))) h k b m = absurd (b refl)
+operand-stops (suc (suc (suc (suc (suc (suc zero)))))) h k b m = stop _ m
+operand-stops (suc (suc (suc (suc (suc (suc (suc n))))))) h k b m = absurd (omega arith)

@@ -46,10 +46,11 @@ operands (suc (suc (suc (suc (suc (suc zero)))))) = do
   Done (Some (MakeCurrentLongTerm index))
 operands (suc (suc (suc (suc (suc (suc (suc n))))))) = Done None
 
--- the operand of operations 1, 2, 4 and 6, which have one
+-- the first operand of an operation other than 5
 abbrev pub operand_name : ℕ → ElementName
-operand_name number = if number == 1 then DifferenceOfPicNumsMinus1 else if number == 2 then LongTermPicNum else if number == 4 then MaxLongTermFrameIdxPlus1 else LongTermFrameIdx
+operand_name number = if number == 2 then LongTermPicNum else if number == 4 then MaxLongTermFrameIdxPlus1 else if number == 6 then LongTermFrameIdx else DifferenceOfPicNumsMinus1
 
+-- operation 1, 2, 4 or 6, which have one operand
 abbrev pub with_operand : ℕ → ℕ → Operation
 with_operand number operand = if number == 1 then UnmarkShortTerm operand else if number == 2 then UnmarkLongTerm operand else if number == 4 then LimitLongTerm operand else MakeCurrentLongTerm operand
 

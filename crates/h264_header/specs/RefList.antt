@@ -70,11 +70,6 @@ ref_pic_list0 layout = do
   commands ← modifications_if (2 ^ layout.frame_num_length - 1) (minus1 + 1) modified
   Done (record { num_ref_idx_l0_active = minus1 + 1; modifications = record { items = commands } })
 
--- the kind of a slice, by the length of its list, if it has one, and the list's modifications
-abbrev pub kind_of : Option ℕ → List PicNumModification → SliceKind
-kind_of None commands = kind.I
-kind_of (Some active) commands = kind.P (record { num_ref_idx_l0_active = active; modifications = record { items = commands } })
-
 unfoldable pub slice_kind : Layout → SliceType → Grammar SliceKind
 slice_kind layout slice_type.P = do
   list ← ref_pic_list0 layout

@@ -11,7 +11,7 @@ ghost use Rattle.h264_header.specs.Marking.{number_of, operands, operand_name, w
 use crate::header::{Marking, MarkingOperation, Operation};
 use arrayvec::ArrayVec;
 use h264_base::{ElementName, Elements, Rule, Stop};
-use h264_bits::forms::{flag_value, ue_value, ue_values};
+use h264_bits::forms::{flag_value, ue_value};
 use h264_bits::{Bits, Found, check, read_flag, read_ue};
 
 /// How many operations there may be.
@@ -31,31 +31,15 @@ fn number_of(operation: Operation) -> u32
     }
 }
 
-/// Operation 3 with its operands.
-fn read_make_long<S: Elements>(bits: &mut Bits, sink: &mut S) -> Result<Operation, Stop>
-    requires { S.failures sink.old < 2 ^ 64 - 1 }
-    ensures { Meets S.took S.failures (Is Some) (operands 3) bits.old bits.new sink.old sink.new result }
-{
-    let names = [
-        ElementName::DifferenceOfPicNumsMinus1,
-        ElementName::LongTermFrameIdx,
-    ];
-    let [difference, index] = ue_values::<2, S>(bits, names, sink)?;
-    Ok(Operation::MakeLongTerm {
-        difference_of_pic_nums_minus1: difference,
-        long_term_frame_idx: index,
-    })
-}
-
-/// The name of the operand of operation 1, 2, 4 or 6.
+/// The name of the first operand of an operation; 5 has none.
 fn operand_name(number: u32) -> ElementName
     ensures { result ≡ operand_name number }
 {
     match number {
-        1 => ElementName::DifferenceOfPicNumsMinus1,
         2 => ElementName::LongTermPicNum,
         4 => ElementName::MaxLongTermFrameIdxPlus1,
-        _ => ElementName::LongTermFrameIdx,
+        6 => ElementName::LongTermFrameIdx,
+        _ => ElementName::DifferenceOfPicNumsMinus1,
     }
 }
 
@@ -90,14 +74,18 @@ fn read_operands<S: Elements>(
     requires room { S.failures sink.old < 2 ^ 64 - 1 }
     ensures { Meets S.took S.failures (Is Some) (operands number) bits.old bits.new sink.old sink.new result }
 {
-    if number == 3 {
-        return read_make_long(bits, sink);
-    }
     if number == 5 {
         return Ok(Operation::UnmarkAll);
     }
     let operand = ue_value(bits, operand_name(number), sink)?;
-    Ok(with_operand(number, operand))
+    if number != 3 {
+        return Ok(with_operand(number, operand));
+    }
+    let long_term_frame_idx = ue_value(bits, ElementName::LongTermFrameIdx, sink)?;
+    Ok(Operation::MakeLongTerm {
+        difference_of_pic_nums_minus1: operand,
+        long_term_frame_idx,
+    })
 }
 
 /// Whether one of these operations has this number.

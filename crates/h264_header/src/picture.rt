@@ -93,5 +93,5 @@ pub fn begins_picture(old: &PictureElements, new: &PictureElements) -> bool
     let deltas = deltas_differ(old.pic_order_cnt, new.pic_order_cnt);
     let idr = idr_differs(old.idr_pic_id, new.idr_pic_id);
     let id = idr_pic_ids_differ(old.idr_pic_id, new.idr_pic_id);
-    frame_num || set || reference || lsb || deltas || idr || id
+    frame_num | set | reference | lsb | deltas | idr | id
 }

@@ -13,8 +13,7 @@ ghost use Rattle.h264_header.specs.Parts.{header_from_frame_num, header_from_kin
 use crate::header::{Deblocking, FilterOffsets, Header, PicOrderCnt, SliceUnit};
 use crate::layout::{CountElements, Layout, named_layout};
 use crate::marking::read_marking;
-use crate::ref_list::{kind_of, read_slice_kind};
-use arrayvec::ArrayVec;
+use crate::ref_list::read_slice_kind;
 use h264_base::{ElementName, Elements, Rule, SliceType, Stop};
 use h264_bits::forms::{se_value, se_within, ue_up_to};
 use h264_bits::{Bits, Found, check, read_bits, read_se, read_ue};
@@ -251,12 +250,9 @@ fn header_from_kind<S: Elements>(
     requires room { S.failures sink.old < 2 ^ 64 - 1 }
     ensures { Meets S.took S.failures (Is (λ _. header.new)) (header_from_kind header.old unit stated layout) bits.old bits.new sink.old sink.new result }
 {
-    let mut modifications = ArrayVec::new();
-    let active = read_slice_kind(layout, stated.slice_type, &mut modifications, bits, sink)?;
-    header.kind = Found {
-        bit: stated.bit,
-        value: kind_of(active, modifications),
-    };
+    header.kind.bit = stated.bit;
+    let kind = &mut header.kind.value;
+    read_slice_kind(layout, stated.slice_type, kind, bits, sink)?;
     let reference = unit.nal_ref_idc > 0;
     read_marking(
         reference,

@@ -5,7 +5,8 @@ ghost use Rattle.std.specs.Prelude.{◌≡◌, ℕ, ◌+◌, ◌-◌, ◌<◌, �
 ghost use Rattle.arrayvec.specs.ArrayVec.{array_vec_len};
 ghost use Rattle.h264_base.specs.Meets.{Meets, Is};
 ghost use Rattle.h264_header.specs.Listed.{listed};
-ghost use Rattle.h264_header.specs.RefList.{num_ref_idx_l0_active_minus1, command, is_command_allowed, modification, modifications_if, kind_of, slice_kind};
+ghost use Rattle.h264_header.specs.declared.header.SliceKind.TheVariants.{P};
+ghost use Rattle.h264_header.specs.RefList.{num_ref_idx_l0_active_minus1, command, is_command_allowed, modification, modifications_if, ref_pic_list0, slice_kind};
 
 use crate::header::{Modification, PicNumModification, RefPicList0, SliceKind};
 use crate::layout::Layout;
@@ -152,45 +153,47 @@ fn greatest_of(frame_num_length: u32) -> u32
     (1 << frame_num_length) - 1
 }
 
-/// What only slices of this type have: the length of a P slice's list, with its modifications in an empty list of the
-/// caller, which is large to move.
+/// What a P slice says of its list, in a place of the caller: it is large to move.
+fn read_ref_pic_list0<S: Elements>(
+    layout: Layout,
+    kind: &mut SliceKind,
+    bits: &mut Bits,
+    sink: &mut S,
+) -> Result<(), Stop>
+    requires short { layout.frame_num_length ≤ 16 }
+    requires room { S.failures sink.old < 2 ^ 64 - 1 }
+    ensures { Meets S.took S.failures (λ _ l. kind.new ≡ P l) (ref_pic_list0 layout) bits.old bits.new sink.old sink.new result }
+{
+    let minus1 = read_active_minus1(layout.default_active_minus1, bits, sink)?;
+    let active = minus1 + 1;
+    let modified = flag_value(bits, ElementName::RefPicListModificationFlagL0, sink)?;
+    let greatest = greatest_of(layout.frame_num_length);
+    let mut modifications = ArrayVec::new();
+    read_modifications(greatest, active, modified, &mut modifications, bits, sink)?;
+    *kind = SliceKind::P(RefPicList0 {
+        num_ref_idx_l0_active: active,
+        modifications,
+    });
+    Ok(())
+}
+
+/// The kind of a slice of this type, with what only slices of the type have, in a place of the caller.
 pub(crate) fn read_slice_kind<S: Elements>(
     layout: Layout,
     slice_type: SliceType,
-    commands: &mut ArrayVec<PicNumModification, 16>,
+    kind: &mut SliceKind,
     bits: &mut Bits,
     sink: &mut S,
-) -> Result<Option<u32>, Stop>
+) -> Result<(), Stop>
     requires short { layout.frame_num_length ≤ 16 }
-    requires empty { commands.old.items ≡ [] }
     requires room { S.failures sink.old < 2 ^ 64 - 1 }
-    ensures { Meets S.took S.failures (Is (λ active. kind_of active commands.new.items)) (slice_kind layout slice_type) bits.old bits.new sink.old sink.new result }
+    ensures { Meets S.took S.failures (Is (λ _. kind.new)) (slice_kind layout slice_type) bits.old bits.new sink.old sink.new result }
 {
     match slice_type {
-        SliceType::P => {
-            let minus1 = read_active_minus1(layout.default_active_minus1, bits, sink)?;
-            let active = minus1 + 1;
-            let modified = flag_value(bits, ElementName::RefPicListModificationFlagL0, sink)?;
-            let greatest = greatest_of(layout.frame_num_length);
-            read_modifications(greatest, active, modified, commands, bits, sink)?;
-            Ok(Some(active))
+        SliceType::P => read_ref_pic_list0(layout, kind, bits, sink),
+        SliceType::I => {
+            *kind = SliceKind::I;
+            Ok(())
         }
-        SliceType::I => Ok(None),
-    }
-}
-
-/// The kind of a slice, by the length of its list, if it has one, and the list's modifications.
-pub(crate) fn kind_of(
-    active: Option<u32>,
-    modifications: ArrayVec<PicNumModification, 16>,
-) -> SliceKind
-    ensures { result ≡ kind_of active modifications.items }
-{
-    match active {
-        Some(num_ref_idx_l0_active) => SliceKind::P(RefPicList0 {
-            num_ref_idx_l0_active,
-            modifications,
-        }),
-        None => SliceKind::I,
     }
 }

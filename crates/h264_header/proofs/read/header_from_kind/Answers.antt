@@ -3,14 +3,14 @@ use Rattle.h264_base.proofs.Steps.{bind, stop}
 use Rattle.h264_header.specs.Parts.{header_from_kind}
 use Rattle.h264_header.proofs.read.header_from_kind.Goals as goal
 
-pub returns-in_err-active : goal.returns-in_err-active
+pub returns-in_err-read_slice_kind : goal.returns-in_err-read_slice_kind
 unfolding header_from_kind
-returns-in_err-active g c = let p = err_from_is_err_and c.from_residual.result c.from_residual.ensures.1 in rw (p.1, p.2) (stop _ c.in_err-active.ensures)
+returns-in_err-read_slice_kind g c = let p = err_from_is_err_and c.from_residual.result c.from_residual.ensures.1 in rw (p.1, p.2) (stop _ c.in_err-read_slice_kind.ensures)
 
 pub returns-in_err-read_marking : goal.returns-in_err-read_marking
 unfolding header_from_kind
-returns-in_err-read_marking g c = let p = err_from_is_err_and c.from_residual-in_err-read_marking.result c.from_residual-in_err-read_marking.ensures.1 in rw (p.1, p.2) (bind _ c.in_ok-active.ensures (stop _ c.in_err-read_marking.ensures))
+returns-in_err-read_marking g c = let p = err_from_is_err_and c.from_residual-in_err-read_marking.result c.from_residual-in_err-read_marking.ensures.1 in rw (p.1, p.2) (bind _ c.in_ok-read_slice_kind.ensures (stop _ c.in_err-read_marking.ensures))
 
 pub returns : goal.returns
 unfolding header_from_kind
-returns g c = bind _ c.in_ok-active.ensures (bind _ c.in_ok-read_marking.ensures (rw (← c.kind_of.ensures) c.header_from_qp.ensures))
+returns g c = bind _ c.in_ok-read_slice_kind.ensures (bind _ c.in_ok-read_marking.ensures c.header_from_qp.ensures)
