@@ -13,43 +13,25 @@ use Rattle.h264_header.specs.Listed.{found_unsigned, found_signed}
 use Rattle.h264_header.specs.Marking.{dec_ref_pic_marking}
 use Rattle.h264_header.specs.RefList.{slice_kind}
 
-unfoldable pub header_from_qp : Header → Layout → Grammar Header
-header_from_qp h layout = do
+unfoldable pub header_from_kind : Header → SliceUnit → StatedType → Layout → Grammar Header
+header_from_kind h unit stated layout = do
+  kind ← slice_kind layout stated.slice_type
+  marking ← optional (nat_lt 0 unit.nal_ref_idc) (dec_ref_pic_marking unit.idr_pic_flag)
   qp ← element name.SliceQpDelta Signed
   filter ← deblocking layout.has_deblocking_control
   Done (record {
     nal_ref_idc = h.nal_ref_idc;
     first_mb_in_slice = h.first_mb_in_slice;
-    kind = h.kind;
+    kind = record { bit = stated.bit; value = kind };
     same_type_in_picture = h.same_type_in_picture;
     pic_parameter_set_id = h.pic_parameter_set_id;
     frame_num = h.frame_num;
     idr_pic_id = h.idr_pic_id;
     pic_order_cnt = h.pic_order_cnt;
-    marking = h.marking;
+    marking = marking;
     slice_qp_delta = found_signed qp;
     deblocking = filter;
   })
-
-unfoldable pub header_from_kind : Header → SliceUnit → StatedType → Layout → Grammar Header
-header_from_kind h unit stated layout = do
-  kind ← slice_kind layout stated.slice_type
-  marking ← optional (nat_lt 0 unit.nal_ref_idc) (dec_ref_pic_marking unit.idr_pic_flag)
-  header_from_qp
-      (record {
-        nal_ref_idc = h.nal_ref_idc;
-        first_mb_in_slice = h.first_mb_in_slice;
-        kind = record { bit = stated.bit; value = kind };
-        same_type_in_picture = h.same_type_in_picture;
-        pic_parameter_set_id = h.pic_parameter_set_id;
-        frame_num = h.frame_num;
-        idr_pic_id = h.idr_pic_id;
-        pic_order_cnt = h.pic_order_cnt;
-        marking = marking;
-        slice_qp_delta = h.slice_qp_delta;
-        deblocking = h.deblocking;
-      })
-      layout
 
 unfoldable pub header_from_frame_num : Header → SliceUnit → StatedType → Layout → Grammar Header
 header_from_frame_num h unit stated layout = do

@@ -8,7 +8,7 @@ ghost use Rattle.h264_header.specs.Layout.{sets_of, IsShort, IsShortCount};
 ghost use Rattle.h264_header.specs.Listed.{or_0};
 ghost use Rattle.h264_header.specs.Header.{is_judged_type, type_of, stated_type, named_sets, idr_pic_id, lsb_count, delta_count, pic_order_cnt, filter_offsets, deblocking};
 ghost use Rattle.h264_header.specs.Header.{header as header_of};
-ghost use Rattle.h264_header.specs.Parts.{header_from_frame_num, header_from_kind, header_from_qp};
+ghost use Rattle.h264_header.specs.Parts.{header_from_frame_num, header_from_kind};
 
 use crate::header::{Deblocking, FilterOffsets, Header, PicOrderCnt, SliceUnit};
 use crate::layout::{CountElements, Layout, named_layout};
@@ -222,21 +222,6 @@ fn read_deblocking<S: Elements>(
     }))
 }
 
-/// The header from slice_qp_delta on.
-fn header_from_qp<S: Elements>(
-    layout: Layout,
-    header: &mut Header,
-    bits: &mut Bits,
-    sink: &mut S,
-) -> Result<(), Stop>
-    requires { S.failures sink.old < 2 ^ 64 - 1 }
-    ensures { Meets S.took S.failures (Is (λ _. header.new)) (header_from_qp header.old layout) bits.old bits.new sink.old sink.new result }
-{
-    header.slice_qp_delta = read_se(bits, ElementName::SliceQpDelta, sink)?;
-    header.deblocking = read_deblocking(layout.has_deblocking_control, bits, sink)?;
-    Ok(())
-}
-
 /// The header from the reference picture list on.
 fn header_from_kind<S: Elements>(
     unit: SliceUnit,
@@ -261,7 +246,9 @@ fn header_from_kind<S: Elements>(
         bits,
         sink,
     )?;
-    header_from_qp(layout, header, bits, sink)
+    header.slice_qp_delta = read_se(bits, ElementName::SliceQpDelta, sink)?;
+    header.deblocking = read_deblocking(layout.has_deblocking_control, bits, sink)?;
+    Ok(())
 }
 
 /// The header from frame_num on.
