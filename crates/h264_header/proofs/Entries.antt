@@ -1,10 +1,10 @@
--- The entries of a list that a code ends: their turns, and what other codes are.
-use Rattle.std.proofs.Common.{◌≡◌, ◌≢◌, ℕ, zero, suc, ◌+◌, ◌-◌, ◌<◌, ◌≤◌, ◌==◌, Bool, true, false, List, [], ◌∷◌, ◌++◌, Option, Some, None, Ok, Err, get_or, refl, subst, arith}
+-- The entries of a list that a code ends: their turns, their codes, and what other codes are.
+use Rattle.std.proofs.Common.{◌≡◌, ◌≢◌, ℕ, zero, suc, ◌+◌, ◌-◌, ◌<◌, ◌≤◌, ◌==◌, Bool, true, false, List, [], ◌∷◌, ◌++◌, Option, Some, None, Ok, Err, refl, subst, arith}
 use Rattle.h264_base.specs.declared.stop.Stop.{Stop}
 use Rattle.h264_base.specs.Call.{Call}
 use Rattle.h264_base.specs.Word.{digit}
 use Rattle.h264_base.specs.declared.element_name.ElementName.TheVariants.{AbsDiffPicNumMinus1}
-use Rattle.h264_base.specs.Grammar.{Grammar, Done, ◌>>=◌, read_word}
+use Rattle.h264_base.specs.Grammar.{Grammar, Done, ◌>>=◌}
 use Rattle.h264_base.specs.Meets.{Reader, Meets, Is}
 use Rattle.h264_base.proofs.Steps.{Leads, leads-starts, leads-on, bind_as, stop, done, finish}
 use Rattle.h264_header.specs.Listed.{listed, goes_on}
@@ -15,16 +15,11 @@ use Rattle.h264_header.specs.declared.header.Modification.{Modification}
 use Rattle.h264_header.specs.declared.header.Operation.{Operation}
 use Rattle.h264_header.specs.Header.{deblocking_of, filter_offsets}
 use Rattle.std.proofs.Common.{IsTrue, length, not, Result}
-use Rattle.std.specs.Prelude.{OnSome, OnOk}
+use Rattle.std.specs.Prelude.{OnOk}
 use Rattle.std.proofs.lemmas.Bool.Decides.{nat_tests}
 use Rattle.h264_header.specs.declared.header.MarkingOperation.{MarkingOperation}
 use Rattle.h264_header.specs.Marking.{operands, operand_name, with_operand, is_repeated, is_operation_allowed}
 use Rattle.h264_header.specs.RefList.{command, is_command_allowed}
-
--- what holds anyway holds of what is there
-pub always : {X : Type 0} {P : Type 0} (o : Option X) → P → OnSome o P
-always None p = tt
-always (Some x) p = p
 
 -- what follows where a result is there
 pub where-ok : {X E P Q : Type 0} (r : Result X E) → (P → Q) → OnOk r P → OnOk r Q

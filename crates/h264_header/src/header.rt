@@ -14,7 +14,7 @@ pub struct SliceUnit {
 }
 
 /// The elements of the picture order count, by pic_order_cnt_type. A delta that is not there is 0.
-#[derive(Clone, Copy, PartialEq, Eq)]
+#[derive(Clone, Copy)]
 pub enum PicOrderCnt {
     /// Type 0.
     Lsb {

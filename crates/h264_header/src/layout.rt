@@ -2,8 +2,7 @@
 #![tactic(auto)]
 
 ghost use Rattle.std.specs.Prelude.{◌≡◌, ◌≤◌, IfSome, IfNone, Some, None, true};
-ghost use Rattle.std.specs.Option.{option_map};
-ghost use Rattle.h264_header.specs.Layout.{sets_of, layout_of, count_elements_of, has_lengths, is_accepted, IsShort};
+ghost use Rattle.h264_header.specs.Layout.{sets_of, layout_of, count_elements_of, has_lengths, is_accepted};
 ghost use Rattle.h264_sps.specs.Usable.{is_usable};
 
 use h264_pps::Pps;
@@ -87,7 +86,7 @@ fn is_accepted(sps: &Sps) -> bool
 }
 
 /// What a picture parameter set and its sequence parameter set say.
-fn layout_of(pps: &Pps, sps: &Sps) -> Layout
+pub(crate) fn layout_of(pps: &Pps, sps: &Sps) -> Layout
     ensures { result ≡ layout_of (pps.now, sps.now) }
 {
     Layout {
@@ -116,14 +115,4 @@ pub fn named_sets<'a>(sets: &'a Sets, pic_parameter_set_id: u32) -> Option<(&'a 
         return None;
     }
     Some((pps, sps))
-}
-
-/// What the sets of this pic_parameter_set_id say, if both are there.
-pub(crate) fn named_layout(sets: &Sets, pic_parameter_set_id: u32) -> Option<Layout>
-    requires { pic_parameter_set_id ≤ 255 }
-    ensures is { result ≡ option_map layout_of (sets_of sets.now pic_parameter_set_id) }
-    ensures short { IfSome result IsShort }
-{
-    let named = named_sets(sets, pic_parameter_set_id)?;
-    Some(layout_of(named.0, named.1))
 }

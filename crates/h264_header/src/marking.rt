@@ -64,11 +64,7 @@ fn with_operand(number: u32, operand: u32) -> Operation
 }
 
 /// The operation of this number with its operands.
-fn read_operands<S: Elements>(
-    number: u32,
-    bits: &mut Bits,
-    sink: &mut S,
-) -> Result<Operation, Stop>
+fn read_operands<S: Elements>(number: u32, bits: &mut Bits, sink: &mut S) -> Result<Operation, Stop>
     requires some { 0 < number }
     requires known { number ≤ 6 }
     requires room { S.failures sink.old < 2 ^ 64 - 1 }

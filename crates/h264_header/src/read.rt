@@ -6,12 +6,12 @@ ghost use Rattle.h264_base.specs.Meets.{Meets, Is, Answers};
 ghost use Rattle.h264_bits.specs.Forms.{optional, signed};
 ghost use Rattle.h264_header.specs.Layout.{sets_of, IsShort, IsShortCount};
 ghost use Rattle.h264_header.specs.Listed.{or_0};
-ghost use Rattle.h264_header.specs.Header.{is_judged_type, type_of, stated_type, named_sets, idr_pic_id, lsb_count, delta_count, pic_order_cnt, filter_offsets, deblocking};
+ghost use Rattle.h264_header.specs.Header.{is_judged_type, type_of, stated_type, named_sets, idr_pic_id, pic_order_cnt, deblocking};
 ghost use Rattle.h264_header.specs.Header.{header as header_of};
 ghost use Rattle.h264_header.specs.Parts.{header_from_frame_num, header_from_kind};
 
 use crate::header::{Deblocking, FilterOffsets, Header, PicOrderCnt, SliceUnit};
-use crate::layout::{CountElements, Layout, named_layout};
+use crate::layout::{CountElements, Layout, layout_of, named_sets};
 use crate::marking::read_marking;
 use crate::ref_list::read_slice_kind;
 use h264_base::{ElementName, Elements, Rule, SliceType, Stop};
@@ -78,8 +78,11 @@ fn read_named_sets<S: Elements>(
 {
     let id = read_ue(bits, ElementName::PicParameterSetId, sink)?;
     check(id.value <= 255, Rule::NoSet, id.bit)?;
-    match named_layout(sets, id.value) {
-        Some(layout) => Ok(NamedSets { id, layout }),
+    match named_sets(sets, id.value) {
+        Some((pps, sps)) => Ok(NamedSets {
+            id,
+            layout: layout_of(pps, sps),
+        }),
         None => Err(Stop::No {
             bit: id.bit,
             rule: Rule::NoSet,
@@ -120,41 +123,6 @@ fn read_delta<S: Elements>(
     se_value(bits, name, sink)
 }
 
-/// The elements of type 0.
-fn read_lsb_count<S: Elements>(
-    length: u32,
-    has_bottom: bool,
-    bits: &mut Bits,
-    sink: &mut S,
-) -> Result<PicOrderCnt, Stop>
-    requires short { length ≤ 32 }
-    requires room { S.failures sink.old < 2 ^ 64 - 1 }
-    ensures { Meets S.took S.failures (Is (λ x. x)) (lsb_count length has_bottom) bits.old bits.new sink.old sink.new result }
-{
-    let lsb = read_bits(bits, ElementName::PicOrderCntLsb, length, sink)?;
-    let name = ElementName::DeltaPicOrderCntBottom;
-    let bottom = read_delta(has_bottom, name, bits, sink)?;
-    Ok(PicOrderCnt::Lsb {
-        pic_order_cnt_lsb: lsb.value,
-        delta_pic_order_cnt_bottom: bottom,
-    })
-}
-
-/// The elements of type 1.
-fn read_delta_count<S: Elements>(
-    has_bottom: bool,
-    bits: &mut Bits,
-    sink: &mut S,
-) -> Result<PicOrderCnt, Stop>
-    requires { S.failures sink.old < 2 ^ 64 - 1 }
-    ensures { Meets S.took S.failures (Is (λ x. x)) (delta_count has_bottom) bits.old bits.new sink.old sink.new result }
-{
-    let name = ElementName::DeltaPicOrderCnt;
-    let top = se_value(bits, name, sink)?;
-    let bottom = read_delta(has_bottom, name, bits, sink)?;
-    Ok(PicOrderCnt::Deltas { top, bottom })
-}
-
 /// The elements of the picture order count.
 fn read_pic_order_cnt<S: Elements>(
     count: CountElements,
@@ -167,40 +135,23 @@ fn read_pic_order_cnt<S: Elements>(
     ensures { Meets S.took S.failures (Is (λ x. x)) (pic_order_cnt count has_bottom) bits.old bits.new sink.old sink.new result }
 {
     match count {
-        CountElements::Lsb { length } => read_lsb_count(length, has_bottom, bits, sink),
-        CountElements::Deltas => read_delta_count(has_bottom, bits, sink),
+        CountElements::Lsb { length } => {
+            let lsb = read_bits(bits, ElementName::PicOrderCntLsb, length, sink)?;
+            let name = ElementName::DeltaPicOrderCntBottom;
+            let bottom = read_delta(has_bottom, name, bits, sink)?;
+            Ok(PicOrderCnt::Lsb {
+                pic_order_cnt_lsb: lsb.value,
+                delta_pic_order_cnt_bottom: bottom,
+            })
+        }
+        CountElements::Deltas => {
+            let name = ElementName::DeltaPicOrderCnt;
+            let top = se_value(bits, name, sink)?;
+            let bottom = read_delta(has_bottom, name, bits, sink)?;
+            Ok(PicOrderCnt::Deltas { top, bottom })
+        }
         CountElements::ZeroDeltas => Ok(PicOrderCnt::Deltas { top: 0, bottom: 0 }),
         CountElements::DecodingOrder => Ok(PicOrderCnt::DecodingOrder),
-    }
-}
-
-/// The two offsets.
-fn read_filter_offsets<S: Elements>(bits: &mut Bits, sink: &mut S) -> Result<FilterOffsets, Stop>
-    requires { S.failures sink.old < 2 ^ 64 - 1 }
-    ensures { Meets S.took S.failures (Is (λ x. x)) filter_offsets bits.old bits.new sink.old sink.new result }
-{
-    let alpha = se_within(bits, ElementName::SliceAlphaC0OffsetDiv2, -6, 6, sink)?;
-    let beta = se_within(bits, ElementName::SliceBetaOffsetDiv2, -6, 6, sink)?;
-    Ok(FilterOffsets {
-        slice_alpha_c0_offset_div2: alpha,
-        slice_beta_offset_div2: beta,
-    })
-}
-
-/// disable_deblocking_filter_idc, and what goes with it.
-fn read_idc<S: Elements>(bits: &mut Bits, sink: &mut S) -> Result<Deblocking, Stop>
-    requires { S.failures sink.old < 2 ^ 64 - 1 }
-    ensures { Meets S.took S.failures (Is (λ x. x)) (deblocking true) bits.old bits.new sink.old sink.new result }
-{
-    let idc = ue_up_to(bits, ElementName::DisableDeblockingFilterIdc, 2, sink)?;
-    if idc == 1 {
-        return Ok(Deblocking::Off);
-    }
-    let offsets = read_filter_offsets(bits, sink)?;
-    if idc == 0 {
-        Ok(Deblocking::AllEdges(offsets))
-    } else {
-        Ok(Deblocking::WithinSlice(offsets))
     }
 }
 
@@ -213,13 +164,27 @@ fn read_deblocking<S: Elements>(
     requires { S.failures sink.old < 2 ^ 64 - 1 }
     ensures { Meets S.took S.failures (Is (λ x. x)) (deblocking present) bits.old bits.new sink.old sink.new result }
 {
-    if present {
-        return read_idc(bits, sink);
+    if !present {
+        return Ok(Deblocking::AllEdges(FilterOffsets {
+            slice_alpha_c0_offset_div2: 0,
+            slice_beta_offset_div2: 0,
+        }));
     }
-    Ok(Deblocking::AllEdges(FilterOffsets {
-        slice_alpha_c0_offset_div2: 0,
-        slice_beta_offset_div2: 0,
-    }))
+    let idc = ue_up_to(bits, ElementName::DisableDeblockingFilterIdc, 2, sink)?;
+    if idc == 1 {
+        return Ok(Deblocking::Off);
+    }
+    let alpha = se_within(bits, ElementName::SliceAlphaC0OffsetDiv2, -6, 6, sink)?;
+    let beta = se_within(bits, ElementName::SliceBetaOffsetDiv2, -6, 6, sink)?;
+    let offsets = FilterOffsets {
+        slice_alpha_c0_offset_div2: alpha,
+        slice_beta_offset_div2: beta,
+    };
+    if idc == 0 {
+        Ok(Deblocking::AllEdges(offsets))
+    } else {
+        Ok(Deblocking::WithinSlice(offsets))
+    }
 }
 
 /// The header from the reference picture list on.

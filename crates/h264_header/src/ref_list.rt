@@ -4,7 +4,6 @@
 ghost use Rattle.std.specs.Prelude.{◌≡◌, ℕ, ◌+◌, ◌-◌, ◌<◌, ◌≤◌, ◌^◌, Some, [], IfOk, OnSome};
 ghost use Rattle.arrayvec.specs.ArrayVec.{array_vec_len};
 ghost use Rattle.h264_base.specs.Meets.{Meets, Is};
-ghost use Rattle.h264_header.specs.Listed.{listed};
 ghost use Rattle.h264_header.specs.declared.header.SliceKind.TheVariants.{P};
 ghost use Rattle.h264_header.specs.RefList.{num_ref_idx_l0_active_minus1, command, is_command_allowed, modification, modifications_if, ref_pic_list0, slice_kind};
 
@@ -102,30 +101,7 @@ fn read_modification<S: Elements>(
     }))
 }
 
-/// The commands up to the one that ends them, into an empty list.
-fn read_commands<S: Elements>(
-    greatest: u32,
-    active: u32,
-    commands: &mut ArrayVec<PicNumModification, 16>,
-    bits: &mut Bits,
-    sink: &mut S,
-) -> Result<(), Stop>
-    requires few { active ≤ 16 }
-    requires empty { commands.old.items ≡ [] }
-    requires room { S.failures sink.old < 2 ^ 64 - 1 }
-    ensures { Meets S.took S.failures (Is (λ _. commands.new.items)) (listed (modification greatest active) (active + 1) []) bits.old bits.new sink.old sink.new result }
-{
-    for _turn in 0..active + 1 {
-        let next = read_modification(greatest, active, commands, bits, sink)?;
-        match next {
-            Some(command) => commands.push(command),
-            None => return Ok(()),
-        }
-    }
-    Ok(())
-}
-
-/// The commands, of which there are none where the flag is 0, into an empty list.
+/// The commands up to the one that ends them, into an empty list; there are none where the flag is 0.
 fn read_modifications<S: Elements>(
     greatest: u32,
     active: u32,
@@ -142,7 +118,14 @@ fn read_modifications<S: Elements>(
     if !modified {
         return Ok(());
     }
-    read_commands(greatest, active, commands, bits, sink)
+    for _turn in 0..active + 1 {
+        let next = read_modification(greatest, active, commands, bits, sink)?;
+        match next {
+            Some(command) => commands.push(command),
+            None => return Ok(()),
+        }
+    }
+    Ok(())
 }
 
 /// The greatest abs_diff_pic_num_minus1: MaxFrameNum - 1.

@@ -408,7 +408,7 @@ fn rest_of_idr_slice(rt: &(impl Abort + AllocGlobal)) -> Result<(), Fail> {
     let header = header_after(rt.alloc(), SPS, PPS, IDR, true, 3)?;
     assert!(rt; header.frame_num == Found { bit: 41, value: 0 });
     assert!(rt; header.idr_pic_id == Some(Found { bit: 45, value: 0 }));
-    assert!(rt; header.pic_order_cnt == PicOrderCnt::DecodingOrder);
+    assert!(rt; matches!(&header.pic_order_cnt, PicOrderCnt::DecodingOrder));
     assert!(rt; header.slice_qp_delta == Found { bit: 48, value: 0 });
     match &header.marking {
         Some(marking) => {
@@ -575,6 +575,30 @@ fn p_slice_that_modifies(rt: &(impl Abort + AllocGlobal)) -> Result<(), Fail> {
     Ok(())
 }
 
+/// Whether both are of one type and have the same elements.
+fn same_counts(a: PicOrderCnt, b: PicOrderCnt) -> bool {
+    match (a, b) {
+        (
+            PicOrderCnt::Lsb {
+                pic_order_cnt_lsb,
+                delta_pic_order_cnt_bottom,
+            },
+            PicOrderCnt::Lsb {
+                pic_order_cnt_lsb: lsb,
+                delta_pic_order_cnt_bottom: bottom,
+            },
+        ) => pic_order_cnt_lsb == lsb && delta_pic_order_cnt_bottom == bottom,
+        (
+            PicOrderCnt::Deltas { top, bottom },
+            PicOrderCnt::Deltas {
+                top: other_top,
+                bottom: other_bottom,
+            },
+        ) => top == other_top && bottom == other_bottom,
+        _ => false,
+    }
+}
+
 /// pic_order_cnt_type 0 with an lsb of 4 bits.
 const LSB_SPS: &[u8] = &[
     0, 0, 1, 0x67, 0x42, 0xC0, 0x0A, 0xF4, 0xE4, 0x03, 0xF4, 0xA0,
@@ -599,14 +623,14 @@ fn lsb_slices(rt: &(impl Abort + AllocGlobal)) -> Result<(), Fail> {
         pic_order_cnt_lsb: 0,
         delta_pic_order_cnt_bottom: 0,
     };
-    assert!(rt; header.pic_order_cnt == zero);
+    assert!(rt; same_counts(header.pic_order_cnt, zero));
     assert_eq!(rt; header.slice_qp_delta.bit, 52);
     let later = later_lsb_slice(rt.alloc())?;
     let eight = PicOrderCnt::Lsb {
         pic_order_cnt_lsb: 8,
         delta_pic_order_cnt_bottom: 0,
     };
-    assert!(rt; later.pic_order_cnt == eight);
+    assert!(rt; same_counts(later.pic_order_cnt, eight));
     assert!(rt; later.marking.is_none());
     assert_eq!(rt; later.slice_qp_delta.bit, 49);
     Ok(())
@@ -640,7 +664,7 @@ fn counts_are(alloc: Global, case: &CountCase) -> Result<bool, Fail> {
         Some(qp) => header.slice_qp_delta == qp,
         None => true,
     };
-    Ok(header.pic_order_cnt == case.3 && same_qp)
+    Ok(same_counts(header.pic_order_cnt, case.3) && same_qp)
 }
 
 /// Type 1 without offsets, with deltas.

@@ -1,4 +1,4 @@
-use Rattle.std.proofs.Common.{refl, sym, ◌∙◌}
+use Rattle.std.proofs.Common.{refl}
 use Rattle.std.proofs.lemmas.Result.{err_from_is_err_and}
 use Rattle.h264_base.proofs.Steps.{bind, stop, done, checked}
 use Rattle.h264_header.specs.Header.{named_sets}
@@ -14,12 +14,8 @@ returns-in_err-check-clause-meets g c = let p = err_from_is_err_and c.from_resid
 
 pub returns-in-Some-clause-meets : goal.returns-in-Some-clause-meets
 unfolding named_sets
-returns-in-Some-clause-meets g c =
-    let found = sym c.named_layout.ensures.is ∙ c.in-Some.is in
-    bind _ c.in_ok-id.ensures.meets (bind _ (checked _ _ _ _ c.in_ok-check.ensures) (rw found (bind _ (checked _ _ _ _ (record { checks = refl })) (done _ _ _ _ _ _ _ refl))))
+returns-in-Some-clause-meets g c = bind _ c.in_ok-id.ensures.meets (bind _ (checked _ _ _ _ c.in_ok-check.ensures) (rw c.in-Some.ensures.some (bind _ (checked _ _ _ _ (record { checks = refl })) (done _ _ _ _ _ _ _ (rw c.layout_of.ensures refl)))))
 
 pub returns-in-None-clause-meets : goal.returns-in-None-clause-meets
 unfolding named_sets
-returns-in-None-clause-meets g c =
-    let found = sym c.named_layout.ensures.is ∙ c.in-None.is in
-    bind _ c.in_ok-id.ensures.meets (bind _ (checked _ _ _ _ c.in_ok-check.ensures) (rw found (stop _ (checked _ _ _ _ (record { checks = (refl, refl) })))))
+returns-in-None-clause-meets g c = bind _ c.in_ok-id.ensures.meets (bind _ (checked _ _ _ _ c.in_ok-check.ensures) (rw c.in-None.ensures.none (stop _ (checked _ _ _ _ (record { checks = (refl, refl) })))))

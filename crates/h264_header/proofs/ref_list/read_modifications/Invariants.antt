@@ -2,7 +2,7 @@ use Rattle.std.proofs.Common.{◌+◌, ◌-◌, ◌<◌, ◌^◌, []}
 use Rattle.h264_base.proofs.Steps.{Leads}
 use Rattle.h264_header.specs.Listed.{listed}
 use Rattle.h264_header.specs.RefList.{modification}
-use Rattle.h264_header.proofs.ref_list.read_commands.Given as goal
+use Rattle.h264_header.proofs.ref_list.read_modifications.Given as goal
 
 abbrev pub invariant-loop-turn : goal.invariant-loop-turn
 invariant-loop-turn g l = record {
