@@ -1,23 +1,42 @@
 -- A frame is moved out of its place, and the one that was is put back.
-use Rattle.std.proofs.Common.{◌≡◌, ℕ, ◌<◌, ◌==◌, Bool, true, false, List, length, slice_set, arith, ◌∙◌, refl, ap}
+use Rattle.std.proofs.Common.{◌≡◌, ◌≢◌, ℕ, ◌<◌, ◌==◌, ◌&&◌, Bool, true, false, if◌then◌else◌, List, length, Some, None, slice_set, arith, ◌∙◌, refl, ap}
 use Rattle.std.proofs.lemmas.Bool.{eqb-true, eqb-false}
 use Rattle.std.proofs.Math.ListN.{length-set}
 use Rattle.std.proofs.lemmas.Grind.{common_steps}
 use Rattle.h264_plane.specs.declared.frame.Frame.{Frame}
 use Rattle.h264_plane.specs.Frames.{frame_at, KeepsOtherFrames}
 use Rattle.h264_picture.specs.declared.frames.Frames.{Frames}
-use Rattle.h264_picture.specs.Lent.{AreFrames, frame_within}
+use Rattle.std.specs.Prelude.{nat_lt}
+use Rattle.h264_picture.specs.Lent.{AreFrames, frame_within, lent_within}
 
-module _ (old new : Frames) (place : ℕ) (mid : List Frame) (put : mid ≡ slice_set old.pool old.place old.frame) (inside : old.place < length old.pool) (taken : new.frame ≡ frame_at mid place) (here : new.place ≡ place) (others : KeepsOtherFrames mid new.pool place) where
+-- what was lent and is not written is lent
+still : (t u v : Bool) (x y : Frame) → x ≡ y → v ≡ false → (if t then (if u then None else Some y) else None) ≢ None → (if t then (if v then None else Some x) else None) ≡ (if t then (if u then None else Some y) else None)
+still false u v x y e f some = refl
+still true true v x y e f some = absurd (some refl)
+still true false v x y e f some = rw (f, e) refl
+
+module _ (old : Frames) (place : ℕ) (mid pool : List Frame) (frame : Frame) (put : mid ≡ slice_set old.pool old.place old.frame) (inside : old.place < length old.pool) (taken : frame ≡ frame_at mid place) (others : KeepsOtherFrames mid pool place) where
   put-back : (k : ℕ) → frame_at mid k ≡ frame_within old k
   put-back k = grind (arith, common_steps)
 
-  pub same-frame : (k : ℕ) → frame_within new k ≡ frame_within old k
+  count : length pool ≡ length old.pool
+  count = others.count ∙ ap length put ∙ simp length-set
+
+  pub same-frame : (k : ℕ) → (if k == place then frame else frame_at pool k) ≡ frame_within old k
   same-frame k = by (k == place) refl
     where
-      by : (t : Bool) → (k == place) ≡ t → frame_within new k ≡ frame_within old k
+      by : (t : Bool) → (k == place) ≡ t → (if k == place then frame else frame_at pool k) ≡ frame_within old k
       by true e = let p = eqb-true k place e in let b = put-back k in grind (arith, common_steps)
       by false e = let p = eqb-false k place e in let b = put-back k in let o = others.kept k p in grind (arith, common_steps)
 
-  pub same-size : (w h : ℕ) → AreFrames w h old → AreFrames w h new
-  same-size w h a = record { each = λ k i. rw (same-frame k) (a.each k (let n = others.count in let m : length mid ≡ length old.pool = ap length put ∙ simp length-set in omega arith)) }
+  pub same-size : (w h : ℕ) (new : Frames) → new.pool ≡ pool → new.place ≡ place → new.frame ≡ frame → AreFrames w h old → AreFrames w h new
+  same-size w h new p q r a = record { each = λ k i. rw (p, q, r) (rw (same-frame k) (a.each k (let n = count in let m : length new.pool ≡ length pool = ap length p in omega arith))) }
+
+  pub lent-others : (begun : Bool) (k : ℕ) → k ≢ place → lent_within old k ≢ None →
+      (if nat_lt k (length pool) then (if k == place && begun then None else Some (if k == place then frame else frame_at pool k)) else None) ≡ lent_within old k
+  lent-others begun k other some =
+      rw count (still (nat_lt k (length old.pool)) (k == old.place && old.begun) (k == place && begun) (if k == place then frame else frame_at pool k) (frame_within old k) (same-frame k) (off (k == place) refl) some)
+    where
+      off : (t : Bool) → (k == place) ≡ t → (k == place && begun) ≡ false
+      off true e = absurd (other (eqb-true k place e))
+      off false e = rw e refl

@@ -86,6 +86,9 @@ module _ (across down count address c r : ℕ) (l : Lines) (f : Frames) (ps : Li
   pub is-small : (c < 1024) × (r < 1024)
   is-small = let i = in-rows in let w = s.wide.1 in let h = s.tall.1 in let n = s.column in (omega arith, omega arith)
 
+  pub small-sides : (across ≤ 1024) × (r ≤ 1024)
+  small-sides = let i = in-rows in let w = s.wide.1 in let h = s.tall.1 in (omega arith, omega arith)
+
   pub own-room : f.place < length f.pool → HasOwn c r f.frame
   own-room i = has-own across down c r f.frame s.column in-rows (own-frame (16 * across) (16 * down) f s.frames i)
 

@@ -1,10 +1,11 @@
 -- What is always so of the memory of a sequence stays so.
-use Rattle.std.proofs.Common.{◌≡◌, ◌≢◌, ℕ, ◌*◌, ◌<◌, ◌≤◌, List, length, replicate, vec_len, arith, ◌∙◌, refl}
+use Rattle.std.proofs.Common.{◌≡◌, ◌≢◌, ℕ, ◌+◌, ◌*◌, ◌%◌, ◌<◌, ◌≤◌, List, length, replicate, vec_len, Fits, w32, arith, ◌∙◌, refl}
 use Rattle.std.proofs.lemmas.List.{get_or-replicate}
 use Rattle.h264_plane.specs.Places.{side}
 use Rattle.h264_plane.specs.declared.frame.Component.{Component}
 use Rattle.std.proofs.Common.{true}
 use Rattle.std.proofs.lemmas.Bool.Decides.{nat_tests}
+use Rattle.h264_plane.specs.declared.plane.TheConstants.{MAX_SIDE}
 use Rattle.h264_sps.specs.declared.sps.FrameSize.{FrameSize}
 use Rattle.h264_plane.specs.declared.frame.Component.TheVariants.{Y, Cb, Cr}
 use Rattle.h264_picture.specs.Holds.{is_frame_size}
@@ -74,3 +75,38 @@ pub lined : (l : Lines) (w : ℕ) → vec_len l.y.above ≡ 16 * w → vec_len l
 lined l w y cb cr Y = y
 lined l w y cb cr Cb = cb
 lined l w y cb cr Cr = cr
+
+-- the number of its macroblocks is small
+few : (s : FrameSize) → is_frame_size s ≡ true → s.width * s.height ≤ 36864
+few s h = grind (arith, nat_tests)
+
+pub counted : (s : FrameSize) → is_frame_size s ≡ true → Fits w32 (s.width * s.height)
+counted s h = let n = few s h in omega arith
+
+-- and so are its sides
+pub record IsWideEnough (w : ℕ) : Type 0 where
+  pub small : w ≤ 1024
+  pub side : 16 * w ≤ MAX_SIDE
+  pub whole : 16 * w % 16 ≡ 0
+
+pub wide-enough : (w : ℕ) → w ≤ 543 → IsWideEnough w
+wide-enough w h = record { small = omega arith; side = omega arith; whole = omega arith }
+
+-- a frame more than the picture buffer holds
+pub one-more : (n : ℕ) → n ≤ 16 → (0 < n + 1) × (n + 1 ≤ 17)
+one-more n h = (omega arith, omega arith)
+
+-- one macroblock more
+pub next-sound : (across down count address c r c' r' : ℕ) (l : Lines) (f : Frames) (ps : List ℕ) → IsSound across down count address c r l f ps → c' < across → r' * across + c' ≡ r * across + c + 1 →
+    IsSound across down count (address + 1) c' r' l f ps
+next-sound across down count address c r c' r' l f ps s i e = record {
+  wide = s.wide;
+  tall = s.tall;
+  size = s.size;
+  next = (let n = s.next in omega arith);
+  column = i;
+  lines = s.lines;
+  frames = s.frames;
+  some = s.some;
+  places = s.places;
+}

@@ -23,7 +23,9 @@ use Rattle.h264_picture.specs.declared.sequence.Sequence.{Sequence}
 use Rattle.h264_mbsyntax.specs.declared.slice.Standing.{Standing}
 use Rattle.h264_picture.specs.Holds.{HoldsIn, IsPast, IsWithin, KeepsPlace}
 use Rattle.h264_picture.specs.Making.{Making, MakesWith, HasSamples, MakesIn, Reads}
-use Rattle.std.proofs.Common.{get_or}
+use Rattle.std.proofs.Common.{get_or, ◌≢◌, IsTrue, OnOk}
+use Rattle.std.specs.Prelude.{nat_le}
+use Rattle.std.proofs.lemmas.Bool.Decides.{nat_tests}
 use Rattle.h264_picture.specs.Sound.{IsPlace}
 use Rattle.h264_picture.specs.declared.samples.SliceSamples.{SliceSamples}
 
@@ -142,3 +144,19 @@ weaker-by took failures R R' g body i j s s' (Err Write) f m = m
 -- what is said of the value may be less
 pub weaker : {X A S : Type 0} {took : S → List Call → Type 0} {failures : S → ℕ} {R R' : X → A → Type 0} {g : Grammar A} {old new : Reader} {s s' : S} {r : Result X Stop} → ((x : X) (v : A) → R x v → R' x v) → Meets took failures R g old new s s' r → Meets took failures R' g old new s s' r
 weaker {took = took} {failures = failures} {R = R} {R' = R'} {g = g} {old = old} {new = new} {s = s} {s' = s'} {r = r} f m = record { meets = weaker-by took failures R R' g old.body old.at new.at s s' r f m.meets; same = m.same }
+
+-- ---- macroblocks that are left
+
+pub some-left : (left : ℕ) → IsTrue (nat_lt 0 left) → 0 < left
+some-left left h = grind (arith, nat_tests)
+
+pub one-left : (next size left : ℕ) → IsTrue (nat_lt 0 left) → next + left ≤ size → next < size
+one-left next size left h room = let some = some-left left h in omega arith
+
+pub run-left : (run left : ℕ) → IsTrue (nat_le run left) → run ≢ 0 → run - 1 < left
+run-left run left h some = let most : run ≤ left = grind (arith, nat_tests) in omega arith
+
+-- what is so whatever the answer is
+pub on-ok : {X E P : Type 0} (r : Result X E) → P → OnOk r P
+on-ok (Ok x) p = p
+on-ok (Err e) p = tt

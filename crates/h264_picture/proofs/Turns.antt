@@ -5,7 +5,7 @@ use Rattle.std.specs.Option.{option_map}
 use Rattle.std.proofs.lemmas.Bool.Decides.{nat_tests}
 use Rattle.h264_plane.specs.declared.frame.Frame.{Frame}
 use Rattle.h264_picture.specs.declared.frames.Frames.{Frames}
-use Rattle.h264_picture.specs.Lent.{lent_in, lent_within}
+use Rattle.h264_picture.specs.Lent.{lent_in, lent_within, KeepsLent}
 use Rattle.std.proofs.Common.{◌==◌}
 use Rattle.h264_plane.specs.Samples.{at}
 use Rattle.h264_plane.specs.Frames.{plane_of, frame_at}
@@ -71,3 +71,20 @@ pub lent-references : (base place n : ℕ) (o : Option Sequence) (older : Option
     lent_of base (option_map (λ (s : Sequence). s.frames) o) older (base + n) ≡ Some f → IsActive (λ (s : Sequence). (p : Component) (x y : ℕ) → (setting_of s).reference n p x y ≡ at (plane_of p f) x y) o
 lent-references base place n None older f h i e = absurd h
 lent-references base place n (Some s) older f h i e = λ p x y. ap (λ (g : Frame). at (plane_of p g) x y) (lent-beside base n s.frames older f i h.0 e)
+
+-- what was lent stays lent, of the older sequence and where the frames of the active one keep it
+pub lent-kept : (base : ℕ) (old new : Frames) (older : Option Frames) → KeepsLent old new → (p : ℕ) → lent_of base (Some old) older p ≢ None → lent_of base (Some new) older p ≡ lent_of base (Some old) older p
+lent-kept base old new older kept p = by (is_active_place base p)
+  where
+    by : (t : Bool) → (if t then lent_within old (p - base) else lent_in older (p - (17 - base))) ≢ None → (if t then lent_within new (p - base) else lent_in older (p - (17 - base))) ≡ (if t then lent_within old (p - base) else lent_in older (p - (17 - base)))
+    by true some = kept (p - base) some
+    by false some = refl
+
+-- and where they keep all but one
+pub lent-others : (base : ℕ) (old new : Frames) (older : Option Frames) (place : ℕ) → base ≤ place → ((k : ℕ) → k ≢ place - base → lent_within old k ≢ None → lent_within new k ≡ lent_within old k) →
+    (p : ℕ) → p ≢ place → lent_of base (Some old) older p ≢ None → lent_of base (Some new) older p ≡ lent_of base (Some old) older p
+lent-others base old new older place low kept p other = by (is_active_place base p) refl
+  where
+    by : (t : Bool) → is_active_place base p ≡ t → (if t then lent_within old (p - base) else lent_in older (p - (17 - base))) ≢ None → (if t then lent_within new (p - base) else lent_in older (p - (17 - base))) ≡ (if t then lent_within old (p - base) else lent_in older (p - (17 - base)))
+    by true e some = let l : base ≤ p = grind (arith, nat_tests) in kept (p - base) (λ same. other (omega arith)) some
+    by false e some = refl

@@ -40,8 +40,8 @@ fn slice_qp(pps: &Pps, header: &Header) -> u8
     ensures here { result ≡ slice_qp pps.now header.now }
     ensures within { result ≤ 51 }
 {
-    let init = pps.pic_init_qp_minus26 as i64;
-    let delta = header.slice_qp_delta.value as i64;
+    let init = i64::from(pps.pic_init_qp_minus26);
+    let delta = i64::from(header.slice_qp_delta.value);
     clip_51(26 + init + delta)
 }
 

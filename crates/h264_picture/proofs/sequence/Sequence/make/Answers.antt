@@ -5,6 +5,7 @@ use Rattle.h264_picture.specs.Decoded.{filters}
 use Rattle.h264_picture.specs.Making.{setting_of}
 use Rattle.h264_picture.proofs.Made.{are-shown, possible, given-by, filter-by}
 use Rattle.h264_picture.proofs.Room.{in-rows, is-small, own-room, are-usable, y-lines, cb-lines, cr-lines, more-lines, made}
+use Rattle.h264_picture.proofs.Steps.{same-makes}
 use Rattle.h264_picture.proofs.sequence.Sequence.make.Goals as goal
 
 pub go_on-requires-clause-usable : goal.go_on-requires-clause-usable
@@ -54,3 +55,9 @@ returns-clause-samples c width size (Some making) picture coded h s m r e p a =
     (possible width slice picture making.place slice.chroma_qp_index_offset coded old.column old.row _ n' i e p is)
     (given-by old.across width picture making slice old coded _ w m e is)
     (λ q. c.coded_edges-edges.ensures.edges (filters making.slices) width picture coded h.keeps r.contexts n' i (filter-by making slice old coded m e) m.offsets q ∙ ap (λ x. coded_edges (filters making.slices) x picture coded q) (sym w)) s
+
+pub go_on-requires-clause-inside : goal.go_on-requires-clause-inside
+go_on-requires-clause-inside c = c.coded_edges-edges.ensures.inside
+
+pub returns-clause-makes : goal.returns-clause-makes
+returns-clause-makes c making h = same-makes making c.args.slice.now c.args.self.now _ refl refl h

@@ -3,6 +3,7 @@ use Rattle.h264_base.proofs.Steps.{bind, stop, checked}
 use Rattle.h264_mbsyntax.specs.Slice.{run_of_skips, after_run}
 use Rattle.h264_mbsyntax.proofs.Quantiser.{after-some}
 use Rattle.h264_picture.specs.Levels.{transform_fits}
+use Rattle.h264_picture.proofs.Steps.{run-left, on-ok}
 use Rattle.h264_picture.proofs.sequence.Sequence.read_run.Goals as goal
 
 pub returns-in_err-run-clause-meets : goal.returns-in_err-run-clause-meets
@@ -42,3 +43,12 @@ returns-clause-size g c = c.skip.ensures.size
 
 pub returns-clause-same : goal.returns-clause-same
 returns-clause-same g c = c.skip.ensures.same
+
+pub skip-requires-clause-some : goal.skip-requires-clause-some
+skip-requires-clause-some g c = run-left c.in_ok-run.run'.value c.args.left c.in_ok-check.ensures.checks c.if-run-eq0.false
+
+pub returns-clause-quiet : goal.returns-clause-quiet
+returns-clause-quiet g c = on-ok c.skip.result c.in_ok-run.ensures.quiet
+
+pub returns-then-run-eq0-clause-quiet : goal.returns-then-run-eq0-clause-quiet
+returns-then-run-eq0-clause-quiet g c = rw c.in_ok-run.ensures.quiet at c.read_unskipped.ensures.quiet

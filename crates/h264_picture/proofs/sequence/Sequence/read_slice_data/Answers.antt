@@ -22,3 +22,6 @@ returns-clause-meets g c width size making picture h n m =
       samples = same-samples making picture c.args.self.now _ refl refl refl refl h.samples;
       makes = same-makes making c.args.slice.now c.args.self.now _ refl refl m;
     }))))
+
+pub invariant_of-self : goal.invariant_of-self
+invariant_of-self g c = record { within = c.args.self.now.within; sound = c.args.self.now.sound }

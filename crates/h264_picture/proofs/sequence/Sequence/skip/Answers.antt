@@ -1,4 +1,4 @@
-use Rattle.std.proofs.Common.{refl, sym, subst}
+use Rattle.std.proofs.Common.{refl, sym, subst, ◌∙◌}
 use Rattle.std.proofs.lemmas.Result.{err_from_is_err_and}
 use Rattle.h264_base.proofs.Steps.{bind, stop, done, checked}
 use Rattle.h264_mbsyntax.specs.Slice.{skip, skipped_of}
@@ -24,3 +24,9 @@ returns-clause-meets g c width size making picture k =
     (c.make.ensures.samples width size making picture own (moved width size picture _ _ k.holds refl refl refl refl) (same-samples making picture c.args.self.now _ refl refl refl refl k.samples) (same-makes making slice c.args.self.now _ refl refl k.makes) read (skipped-slice slice picture vector) (skipped-possible width slice picture vector c.requires.refers) (c.no_residuals.ensures (levels_of slice.chroma_qp_index_offset own) (skipped-none slice.chroma_qp_index_offset slice picture vector)))
     (c.make.ensures.makes making (same-makes making slice c.args.self.now _ refl refl k.makes)) in
     bind _ (checked _ _ _ _ (rw (c.vector_fits-fits.ensures, is) at c.in_ok-check.ensures)) (done _ _ _ _ _ _ _ (refl, rw is at next))
+
+pub invariant_of-self : goal.invariant_of-self
+invariant_of-self g c = record { within = c.args.self.now.within; sound = c.args.self.now.sound }
+
+pub returns-clause-within : goal.returns-clause-within
+returns-clause-within g c = rw (c.keep.ensures.mb ∙ c.make.ensures.syntax.mb, c.skip_macroblock.ensures.qp) c.requires.qp

@@ -24,3 +24,9 @@ returns-clause-older c r p some =
     let was = option_map (λ (s : Sequence). s.frames) c.args.self.now.active in
     let before : lent_of base was c.args.self.now.older p ≡ lent_of base was None p = ap (λ (o : Option Frames). lent_of base was o p) r in
     older-place base was p c.args.self.now.within.0 c.args.self.now.within.1 (λ e. some (before ∙ e))
+
+pub returns-clause-places : goal.returns-clause-places
+returns-clause-places c = rw c.replace.ensures.after c.in-Ok.ensures.places
+
+pub returns-clause-serves : goal.returns-clause-serves
+returns-clause-serves c = rw c.replace.ensures.after c.in-Ok.ensures.serves

@@ -1,6 +1,7 @@
-use Rattle.std.proofs.Common.{sym, subst, arith}
+use Rattle.std.proofs.Common.{sym, subst, arith, ◌∙◌}
 use Rattle.h264_picture.specs.Making.{IsMadeOf, setting_of}
-use Rattle.h264_picture.proofs.Turns.{lent-begun}
+use Rattle.h264_picture.proofs.Turns.{lent-begun, lent-kept}
+use Rattle.h264_picture.specs.Places.{IsFrameOf}
 use Rattle.h264_picture.proofs.work.Work.end.Goals as goal
 
 pub returns-in-Some-clause-holds : goal.returns-in-Some-clause-holds
@@ -15,3 +16,22 @@ returns-in-Some-clause-decoded c width size place making picture h n b =
     let at = rw c.in-Some.is at b in
     let made = c.end.ensures.decoded width size making picture (rw c.in-Some.is at h) n in
     rw c.in-Some.is (subst (IsMadeOf (setting_of s) making picture) (sym (lent-begun c.args.self.now.base place s.frames.place c.end.new.self.frames c.args.self.now.older at.1 (let i = s.frames.within in omega arith))) made)
+
+pub returns-in-Some-clause-kept : goal.returns-in-Some-clause-kept
+returns-in-Some-clause-kept c = rw c.in-Some.is (lent-kept c.args.self.now.base c.in-Some.sequence.frames c.end.new.self.frames c.args.self.now.older c.end.ensures.frames)
+
+pub returns-in-Some-clause-places : goal.returns-in-Some-clause-places
+returns-in-Some-clause-places c = rw c.in-Some.is c.end.ensures.count
+
+pub returns-in-Some-clause-size : goal.returns-in-Some-clause-size
+returns-in-Some-clause-size c width height h = let s = rw c.in-Some.is at h in (c.end.ensures.size.0 ∙ s.0, c.end.ensures.size.1 ∙ s.1)
+
+pub returns-in-Some-clause-ended : goal.returns-in-Some-clause-ended
+returns-in-Some-clause-ended c width height place h b =
+    let s = c.in-Some.sequence in
+    let size = rw c.in-Some.is at h in
+    let at = rw c.in-Some.is at b in
+    subst (IsFrameOf width height) (sym (lent-begun c.args.self.now.base place s.frames.place c.end.new.self.frames c.args.self.now.older at.1 (let i = s.frames.within in omega arith))) (rw (size.0, size.1) at c.end.ensures.ended)
+
+pub returns-in-None-clause-ended : goal.returns-in-None-clause-ended
+returns-in-None-clause-ended c width height place h b = absurd (rw c.in-None.is at h)

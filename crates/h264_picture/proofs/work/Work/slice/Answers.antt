@@ -1,6 +1,8 @@
-use Rattle.std.proofs.Common.{Some, None}
+use Rattle.std.proofs.Common.{Some, None, List, length, ap, ◌∙◌}
 use Rattle.h264_base.proofs.OneAnswer.{answers}
 use Rattle.h264_picture.proofs.Steps.{no-memory, weaker}
+use Rattle.h264_plane.specs.declared.frame.Frame.{Frame}
+use Rattle.h264_picture.proofs.Turns.{lent-kept}
 use Rattle.h264_picture.proofs.work.Work.slice.Goals as goal
 
 pub returns-in-Some-clause-samples : goal.returns-in-Some-clause-samples
@@ -14,3 +16,21 @@ returns-in-Some-clause-answers g c width size picture h n = answers (weaker (λ 
 
 pub returns-in-Some-clause-no_memory : goal.returns-in-Some-clause-no_memory
 returns-in-Some-clause-no_memory g c width size picture h n = no-memory (c.slice.ensures.meets width size None picture (record { holds = rw c.in-Some.is at h; samples = tt }) n tt)
+
+pub returns-in-Some-clause-kept : goal.returns-in-Some-clause-kept
+returns-in-Some-clause-kept g c place b = let at = rw c.in-Some.is at b in rw c.in-Some.is (lent-kept c.args.self.now.base c.in-Some.sequence.frames c.slice.new.self.frames c.args.self.now.older (c.slice.ensures.frames at.0))
+
+pub returns-in-Some-clause-places : goal.returns-in-Some-clause-places
+returns-in-Some-clause-places g c = rw c.in-Some.is (ap (λ (frames : List Frame). length frames) c.slice.ensures.same.pool)
+
+pub returns-in-Some-clause-size : goal.returns-in-Some-clause-size
+returns-in-Some-clause-size g c width height h = let s = rw c.in-Some.is at h in (c.slice.ensures.same.across ∙ s.0, c.slice.ensures.same.down ∙ s.1)
+
+pub returns-in-None-clause-meets : goal.returns-in-None-clause-meets
+returns-in-None-clause-meets g c width size picture h n = absurd (rw c.in-None.is at h)
+
+pub returns-in-None-clause-answers : goal.returns-in-None-clause-answers
+returns-in-None-clause-answers g c width size picture h n = absurd (rw c.in-None.is at h)
+
+pub returns-in-None-clause-samples : goal.returns-in-None-clause-samples
+returns-in-None-clause-samples g c width size making picture h n m = absurd (rw c.in-None.is at h)
