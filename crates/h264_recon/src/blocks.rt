@@ -8,7 +8,7 @@ ghost use Rattle.h264_recon.specs.Blocks4.{place4, AreMade4, IsPut4};
 use crate::intra::neighbours4;
 use crate::macroblock::Available;
 use crate::store::Store;
-use crate::sum::{with_residual, without_residual};
+use crate::sum::add_residual;
 use h264_intra::{Intra4x4PredMode, predict4};
 
 /// The residual of the block at column `x` and row `y` of blocks.
@@ -48,10 +48,11 @@ fn put4(
     ensures { IsPut4 own.old own.new x y (λ i j. clip1 (pos (slice_index predicted.now (4 * j + i)) +ℤ get_or (unwrap_or residual.now []) (place4 x y i j) (pos 0))) }
 {
     match residual {
-        None => put_block4(own, x, y, &without_residual::<16>(predicted)),
+        None => put_block4(own, x, y, predicted),
         Some(residual) => {
-            let part = part4(residual, x, y);
-            put_block4(own, x, y, &with_residual::<16>(predicted, &part));
+            let mut block = *predicted;
+            add_residual::<16>(&mut block, &part4(residual, x, y));
+            put_block4(own, x, y, &block);
         }
     }
 }

@@ -20,7 +20,7 @@ use crate::intra::{predicted_chroma, predicted16};
 use crate::macroblock::{Available, IntraLuma, Macroblock, Prediction};
 use crate::pcm;
 use crate::store::{Lines, Store};
-use crate::sum::{add, sum};
+use crate::sum::add;
 use h264_intra::IntraChromaPredMode;
 use h264_plane::{Component, Frame, Pool};
 use h264_scale::Residuals;
@@ -42,8 +42,9 @@ fn luma_intra(
     match luma {
         IntraLuma::Blocks(modes) => luma4(modes, available, residual, store, column),
         IntraLuma::Whole(mode) => {
-            let predicted = predicted16(*mode, store, column, available);
-            sum::<256>(&predicted, residual)
+            let mut own = predicted16(*mode, store, column, available);
+            add::<256>(&mut own, residual);
+            own
         }
     }
 }
@@ -92,8 +93,9 @@ fn chroma_intra(
     requires small { column < 1024 }
     ensures { (cr : Bool) (l : Levels) → IsTrue (is_possible_chroma mode (sides_of available)) → IsResidual l (chroma_plane cr) (unwrap_or residual.now []) → IsChromaMade mode available l (chroma_plane cr) column store.now result }
 {
-    let predicted = predicted_chroma(mode, store, column, available);
-    sum::<64>(&predicted, residual)
+    let mut own = predicted_chroma(mode, store, column, available);
+    add::<64>(&mut own, residual);
+    own
 }
 
 /// Writes the samples of a chroma plane of a macroblock.

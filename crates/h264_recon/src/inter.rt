@@ -93,8 +93,8 @@ fn put2(out: &mut [u8; 16], x: usize, y: usize, block: &[u8; 4])
     requires { (x < 2) × (y < 2) }
     ensures { IsPut 4 2 out.old out.new x y block.now }
 {
-    for j in 0..2 {
-        put_run(out, 4 * (2 * y + j) + 2 * x, &block[2 * j..2 * j + 2]);
+    for k in 0..4 {
+        out[4 * (2 * y + k / 2) + (2 * x + k % 2)] = block[k];
     }
 }
 

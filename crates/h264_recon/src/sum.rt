@@ -1,4 +1,4 @@
-ghost use Rattle.std.specs.Prelude.{◌≡◌, ℕ, ◌<◌, length, slice_index, get_or, unwrap_or, [], pos, ◌+ℤ◌};
+ghost use Rattle.std.specs.Prelude.{◌≡◌, ℕ, ◌<◌, slice_index, get_or, unwrap_or, [], pos, ◌+ℤ◌};
 ghost use Rattle.h264_plane.specs.Clip.{clip1 as clip1_of};
 
 /// A constructed sample (8.5.14). A residual of 255 and more makes 255 of each sample, one of -255 and less 0.
@@ -9,17 +9,14 @@ fn added(predicted: u8, residual: i16) -> u8
     (i16::from(predicted) + residual.clamp(-255, 255)).clamp(0, 255) as u8
 }
 
-/// The constructed samples of a block that has a residual.
+/// Adds a residual to the predicted samples of a block.
 #[inline(always)]
-pub fn with_residual<const N: usize>(predicted: &[u8; N], residual: &[i16; N]) -> [u8; N]
-    ensures whole { length result ≡ N }
-    ensures each { (k : ℕ) → k < N → slice_index result k ≡ clip1_of (pos (slice_index predicted.now k) +ℤ get_or residual.now k (pos 0)) }
+pub fn add_residual<const N: usize>(samples: &mut [u8; N], residual: &[i16; N])
+    ensures { (k : ℕ) → k < N → slice_index samples.new k ≡ clip1_of (pos (slice_index samples.old k) +ℤ get_or residual.now k (pos 0)) }
 {
-    let mut out = [0; N];
     for k in 0..N {
-        out[k] = added(predicted[k], residual[k]);
+        samples[k] = added(samples[k], residual[k]);
     }
-    out
 }
 
 /// A constructed sample that has no residual.
@@ -28,41 +25,6 @@ fn alone(predicted: u8) -> u8
     ensures { result ≡ clip1_of (pos predicted +ℤ pos 0) }
 {
     predicted
-}
-
-/// The constructed samples of a block that has no residual.
-#[inline(always)]
-pub fn without_residual<const N: usize>(predicted: &[u8; N]) -> [u8; N]
-    ensures whole { length result ≡ N }
-    ensures each { (k : ℕ) → k < N → slice_index result k ≡ clip1_of (pos (slice_index predicted.now k) +ℤ pos 0) }
-{
-    let mut out = [0; N];
-    for k in 0..N {
-        out[k] = alone(predicted[k]);
-    }
-    out
-}
-
-/// The constructed samples of a block.
-#[inline(always)]
-pub fn sum<const N: usize>(predicted: &[u8; N], residual: &Option<[i16; N]>) -> [u8; N]
-    ensures whole { length result ≡ N }
-    ensures each { (k : ℕ) → k < N → slice_index result k ≡ clip1_of (pos (slice_index predicted.now k) +ℤ get_or (unwrap_or residual.now []) k (pos 0)) }
-{
-    match residual {
-        None => without_residual::<N>(predicted),
-        Some(residual) => with_residual::<N>(predicted, residual),
-    }
-}
-
-/// Adds the residual of a block to its predicted samples.
-#[inline(always)]
-fn add_residual<const N: usize>(samples: &mut [u8; N], residual: &[i16; N])
-    ensures { (k : ℕ) → k < N → slice_index samples.new k ≡ clip1_of (pos (slice_index samples.old k) +ℤ get_or residual.now k (pos 0)) }
-{
-    for k in 0..N {
-        samples[k] = added(samples[k], residual[k]);
-    }
 }
 
 /// Predicted samples without a residual stay as they are.
