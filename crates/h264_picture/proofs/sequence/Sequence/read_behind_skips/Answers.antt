@@ -7,24 +7,16 @@ pub returns-then-not-ahead-clause-meets : goal.returns-then-not-ahead-clause-mee
 unfolding next
 returns-then-not-ahead-clause-meets g c width size making picture k = bind _ c.look-ahead.ensures (rw (is-false _ c.if-not-ahead.true) (done _ _ _ _ _ _ _ k))
 
-pub returns-clause-meets : goal.returns-clause-meets
+pub returns : goal.returns
 unfolding next
-returns-clause-meets g c width size making picture k = bind _ c.look-ahead.ensures (rw (is-true _ c.if-not-ahead.false) (c.read_unskipped.ensures.meets width size making picture k))
-
-pub returns-clause-quiet : goal.returns-clause-quiet
-returns-clause-quiet g c = c.read_unskipped.ensures.quiet
-
-pub returns-clause-within : goal.returns-clause-within
-returns-clause-within g c = c.read_unskipped.ensures.within
-
-pub returns-clause-moves : goal.returns-clause-moves
-returns-clause-moves g c = c.read_unskipped.ensures.moves
-
-pub returns-clause-size : goal.returns-clause-size
-returns-clause-size g c = c.read_unskipped.ensures.size
-
-pub returns-clause-same : goal.returns-clause-same
-returns-clause-same g c = c.read_unskipped.ensures.same
-
-pub returns-clause-refers : goal.returns-clause-refers
-returns-clause-refers g c = c.read_unskipped.ensures.refers
+returns g c =
+    let e = c.read_unskipped.ensures in
+    record {
+      meets = λ width size making picture k. bind _ c.look-ahead.ensures (rw (is-true _ c.if-not-ahead.false) (c.read_unskipped.ensures.meets width size making picture k));
+      quiet = e.quiet;
+      within = e.within;
+      moves = e.moves;
+      size = e.size;
+      same = e.same;
+      refers = e.refers;
+    }
