@@ -1,11 +1,11 @@
 -- The residual of a macroblock by the levels that it has.
-use Rattle.std.proofs.Common.{◌≡◌, ℕ, Bool, true, ◌&&◌, List, Option, None, Result, Ok, ℤ, refl, sym, ◌∙◌}
+use Rattle.std.proofs.Common.{◌≡◌, ℕ, Bool, true, false, ◌&&◌, List, Option, None, Result, Ok, ℤ, refl, sym, ◌∙◌}
 use Rattle.h264_scale.specs.declared.levels.LumaLevels.{LumaLevels}
 use Rattle.h264_scale.specs.declared.levels.LumaLevels.TheVariants as luma
 use Rattle.h264_scale.specs.declared.levels.ChromaLevels.{ChromaLevels}
 use Rattle.h264_scale.specs.declared.levels.ChromaLevels.TheVariants as chroma
 use Rattle.h264_scale.proofs.Whole.{always, not_coded_luma_fits, not_coded_luma, not_coded_chroma_fits, not_coded_chroma}
-use Rattle.h264_recon.specs.Levels.{are_blank, are_zero, chroma_blocks}
+use Rattle.h264_recon.specs.Levels.{are_blank, are_zero, luma_blocks, chroma_blocks}
 use Rattle.h264_recon.specs.Residuals.{IsLumaOf, IsChromaOf}
 
 pub no_luma : {E : Type 0} (qp : ℕ) (l : LumaLevels) → luma.NotCoded ≡ l → IsLumaOf {E = E} qp l (Ok None)
@@ -26,3 +26,14 @@ unfolding chroma_blocks
 uncoded t t' d d' ac b p is e f =
     let none : (are_zero d && are_blank t) ≡ true = sym is ∙ p in
     rw (sym e, sym f, none) refl
+
+-- levels, where there are some
+pub coded_luma : (t : List ℕ) (blocks : List (List ℤ)) (b : Bool) → b ≡ false → b ≡ are_blank t → luma.Blocks blocks ≡ luma_blocks t blocks
+unfolding luma_blocks
+coded_luma t blocks b n is = let some : are_blank t ≡ false = sym is ∙ n in rw some refl
+
+pub coded_chroma : (t : List ℕ) (d d' : List ℤ) (ac : List (List ℤ)) (b : Bool) → b ≡ false → b ≡ (are_zero d && are_blank t) → d ≡ d' → chroma.WithDc (record { dc = d; ac = ac }) ≡ chroma_blocks t d' ac
+unfolding chroma_blocks
+coded_chroma t d d' ac b n is e =
+    let some : (are_zero d && are_blank t) ≡ false = sym is ∙ n in
+    rw (sym e, some) refl

@@ -13,7 +13,7 @@ use Rattle.h264_scale.specs.Macroblock.{residual, IsResidual}
 use Rattle.h264_recon.specs.Inter.{Setting, predicted_from, predicted_at, motion_at, no_motion}
 use Rattle.h264_recon.specs.Constructed.{predicted_inter, made_by, made, Coded}
 use Rattle.h264_recon.specs.Lines.{local, IsMadeFrom, chroma_plane}
-use Rattle.h264_recon.specs.Pool.{HasRoom, IsShown, AreShown, of_frames, from_pool}
+use Rattle.h264_recon.specs.Pool.{HasRoom, HaveRoom, IsShown, AreShown, of_frames, from_pool}
 use Rattle.h264_recon.specs.declared.macroblock.Motion.{Motion}
 use Rattle.h264_recon.specs.Predicted.{Inter}
 use Rattle.h264_recon.specs.declared.store.Store.{Store}
@@ -29,6 +29,14 @@ shown_at Cb k frames m x y shown a b =
     rw ((shown.size Cb).columns, (shown.size Cb).rows) (chroma_depends _ _ _ _ m.vector x y a b (shown.samples Cb))
 shown_at Cr k frames m x y shown a b =
     rw ((shown.size Cr).columns, (shown.size Cr).rows) (chroma_depends _ _ _ _ m.vector x y a b (shown.samples Cr))
+
+-- the room that the picture of a place's motion has
+pub motion_room : (frames : List Frame) (c r : ℕ) (motion : List Motion) (n : ℕ) (m : Motion) (i : ℕ) → HaveRoom frames c r motion → n < 16 → m ≡ get_or motion n no_motion → i ≡ m.picture → HasRoom frames c r i
+motion_room frames c r motion n m i room less em ei = rw (ei, em) (room n less)
+
+-- p columns, or rows, from number i on are some of the n of a macroblock
+pub part_inside : (n c i p size : ℕ) → i + p ≤ n → n * c + n ≤ size → n * c + i + p ≤ size
+part_inside n c i p size inner room = omega arith
 
 -- the room that a chroma plane has
 pub chroma_room : (t : Bool) (frames : List Frame) (c r n : ℕ) (f : Frame) (q : Samples) → HasRoom frames c r n → f ≡ frame_at frames n → q ≡ plane_of (chroma_plane t) f →

@@ -1,7 +1,7 @@
 //! The levels of blocks that were read, as their transform takes them (8.5).
 #![tactic(auto)]
 
-ghost use Rattle.std.specs.Prelude.{◌≡◌, ◌≤◌, ◌&&◌};
+ghost use Rattle.std.specs.Prelude.{◌≡◌, ◌≤◌};
 ghost use Rattle.h264_tables.specs.ChromaQp.{chroma_qp_of};
 ghost use Rattle.h264_mbsyntax.specs.Stored.{shown};
 ghost use Rattle.h264_recon.specs.Levels.{are_blank, are_zero};
@@ -33,23 +33,24 @@ pub(crate) fn shown4(stands: &[i16; 4], total: u8) -> [i16; 4]
 pub(crate) fn are_blank(totals: &[u8]) -> bool
     ensures { result ≡ are_blank totals.now }
 {
-    totals.iter().all(|total| *total == 0)
+    for total in totals {
+        if *total != 0 {
+            return false;
+        }
+    }
+    true
 }
 
-fn are_zero(levels: &[i16; 4]) -> bool
+/// Whether no level is other than 0.
+pub(crate) fn are_zero(levels: &[i16; 4]) -> bool
     ensures { result ≡ are_zero levels.now }
 {
-    levels.iter().all(|level| *level == 0)
-}
-
-/// Whether a plane has a level.
-pub(crate) fn is_uncoded(dc: &[i16; 4], totals: &[u8]) -> bool
-    ensures { result ≡ (are_zero dc.now && are_blank totals.now) }
-{
-    if !are_zero(dc) {
-        return false;
+    for level in levels {
+        if *level != 0 {
+            return false;
+        }
     }
-    are_blank(totals)
+    true
 }
 
 /// QP'C by QP_Y and chroma_qp_index_offset (8.5.8).

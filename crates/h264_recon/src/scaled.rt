@@ -12,9 +12,9 @@ ghost use Rattle.h264_scale.specs.declared.levels.LumaLevels.TheVariants as luma
 ghost use Rattle.h264_scale.specs.declared.levels.ChromaLevels.TheVariants as chroma_variants;
 ghost use Rattle.h264_recon.specs.Table.{table};
 ghost use Rattle.h264_recon.specs.Residuals.{IsLumaOf, IsChromaOf, IsClear};
-ghost use Rattle.h264_recon.specs.Levels.{are_zero, are_blank as are_blank_of, luma_blocks as luma_blocks_of, luma_levels as luma_levels_of, chroma_blocks as chroma_blocks_of, chroma_levels as chroma_levels_of, levels_of};
+ghost use Rattle.h264_recon.specs.Levels.{are_zero as are_zero_of, are_blank as are_blank_of, luma_blocks as luma_blocks_of, luma_levels as luma_levels_of, chroma_blocks as chroma_blocks_of, chroma_levels as chroma_levels_of, levels_of};
 
-use crate::coefficients::{are_blank, is_uncoded, qp_of_chroma, shown4, shown16};
+use crate::coefficients::{are_blank, are_zero, qp_of_chroma, shown4, shown16};
 use h264_mbsyntax::{Kind, Macroblock, Residual};
 use h264_scale::{
     Residuals, TransformRange, dc2, dc16, put8, put16, residual4, residual4_of_dc,
@@ -180,7 +180,6 @@ fn chroma_with_dc(
 }
 
 /// The residual of luma blocks of 16 levels, if some block has one.
-#[tactic(auto, unfolding(crate::specs::Levels::luma_blocks))]
 #[inline(always)]
 fn luma_blocks(
     totals: &[u8; 16],
@@ -225,13 +224,15 @@ fn dc_levels(totals: &[u8; 2], stands: &[[i16; 4]; 2], c: usize) -> [i16; 4]
 /// Whether a chroma plane has no level.
 fn is_plane_uncoded(dc: &[i16; 4], totals: &[u8; 8], c: usize) -> bool
     requires { c < 2 }
-    ensures { result ≡ (are_zero dc.now && are_blank_of (take 4 (drop (4 * c) totals.now))) }
+    ensures { result ≡ (are_zero_of dc.now && are_blank_of (take 4 (drop (4 * c) totals.now))) }
 {
-    is_uncoded(dc, &totals[4 * c..4 * c + 4])
+    if !are_zero(dc) {
+        return false;
+    }
+    are_blank(&totals[4 * c..4 * c + 4])
 }
 
 /// The residual of a chroma plane, if it has a level.
-#[tactic(auto, unfolding(crate::specs::Levels::chroma_blocks))]
 #[inline(always)]
 fn chroma_blocks(
     residual: &Residual,

@@ -5,6 +5,7 @@ use Rattle.h264_recon.specs.Lines.{chroma_plane}
 use Rattle.h264_recon.specs.Pool.{from_pool}
 use Rattle.h264_recon.specs.contracts.inter.chroma_quarter.{CR-type}
 use Rattle.h264_recon.proofs.Parts.{parts_more, parts4, part_from, chroma_place, chroma_alike, chroma_part}
+use Rattle.h264_recon.proofs.Pool.{chroma_room, motion_room, part_inside}
 use Rattle.h264_recon.proofs.inter.chroma_quarter.Goals as goal
 
 pub returns-then-is_quarter : goal.returns-then-is_quarter
@@ -33,3 +34,29 @@ loop-k-preserved g c =
 
 pub returns : goal.returns
 returns g c = parts4 c.loop-k.k (4 * c.args.x) (4 * c.args.y) _ c.loop-k.out (omega arith) c.loop-k.invariant.made
+
+pub frame-requires : goal.frame-requires
+frame-requires g c = let a = c.args in (motion_room a.pool.now a.column a.row a.motion.now (8 * a.y + 2 * a.x) _ _ c.requires.room (omega arith) c.motion_of-m.ensures c.from.ensures).picture
+
+pub chroma-requires-clause-columns : goal.chroma-requires-clause-columns
+chroma-requires-clause-columns g c =
+    let a = c.args in
+    part_inside 8 a.column (4 * a.x) 4 _ (omega arith) (chroma_room (CR-type (number g.row.CR)) a.pool.now a.column a.row _ _ _ (motion_room a.pool.now a.column a.row a.motion.now (8 * a.y + 2 * a.x) _ _ c.requires.room (omega arith) c.motion_of-m.ensures c.from.ensures) c.frame.ensures c.plane_of-plane.ensures).0
+
+pub chroma-requires-clause-rows : goal.chroma-requires-clause-rows
+chroma-requires-clause-rows g c =
+    let a = c.args in
+    part_inside 8 a.row (4 * a.y) 4 _ (omega arith) (chroma_room (CR-type (number g.row.CR)) a.pool.now a.column a.row _ _ _ (motion_room a.pool.now a.column a.row a.motion.now (8 * a.y + 2 * a.x) _ _ c.requires.room (omega arith) c.motion_of-m.ensures c.from.ensures) c.frame.ensures c.plane_of-plane.ensures).1
+
+pub frame-requires-in-loop-k : goal.frame-requires-in-loop-k
+frame-requires-in-loop-k g c = let a = c.args in (motion_room a.pool.now a.column a.row a.motion.now (4 * (2 * a.y + c.loop-k.k / 2) + (2 * a.x + c.loop-k.k % 2)) _ _ c.requires.room (omega arith) c.motion_of-m-in-loop-k.ensures c.from-in-loop-k.ensures).picture
+
+pub chroma-requires-in-loop-k-clause-columns : goal.chroma-requires-in-loop-k-clause-columns
+chroma-requires-in-loop-k-clause-columns g c =
+    let a = c.args in
+    part_inside 8 a.column (4 * a.x + 2 * (c.loop-k.k % 2)) 2 _ (omega arith) (chroma_room (CR-type (number g.row.CR)) a.pool.now a.column a.row _ _ _ (motion_room a.pool.now a.column a.row a.motion.now (4 * (2 * a.y + c.loop-k.k / 2) + (2 * a.x + c.loop-k.k % 2)) _ _ c.requires.room (omega arith) c.motion_of-m-in-loop-k.ensures c.from-in-loop-k.ensures) c.frame-in-loop-k.ensures c.plane_of-plane-in-loop-k.ensures).0
+
+pub chroma-requires-in-loop-k-clause-rows : goal.chroma-requires-in-loop-k-clause-rows
+chroma-requires-in-loop-k-clause-rows g c =
+    let a = c.args in
+    part_inside 8 a.row (4 * a.y + 2 * (c.loop-k.k / 2)) 2 _ (omega arith) (chroma_room (CR-type (number g.row.CR)) a.pool.now a.column a.row _ _ _ (motion_room a.pool.now a.column a.row a.motion.now (4 * (2 * a.y + c.loop-k.k / 2) + (2 * a.x + c.loop-k.k % 2)) _ _ c.requires.room (omega arith) c.motion_of-m-in-loop-k.ensures c.from-in-loop-k.ensures) c.frame-in-loop-k.ensures c.plane_of-plane-in-loop-k.ensures).1

@@ -3,6 +3,7 @@ use Rattle.h264_plane.specs.Frames.{frame_at}
 use Rattle.h264_plane.specs.declared.frame.Component.TheVariants.{Y}
 use Rattle.h264_recon.specs.Pool.{from_pool}
 use Rattle.h264_recon.proofs.Parts.{parts_more, parts8, part_from, luma_place, luma_alike, luma_part}
+use Rattle.h264_recon.proofs.Pool.{motion_room, part_inside}
 use Rattle.h264_recon.proofs.inter.luma_quarter.Goals as goal
 
 pub returns-then-is_quarter : goal.returns-then-is_quarter
@@ -28,3 +29,29 @@ loop-k-preserved c =
 
 pub returns : goal.returns
 returns c = parts8 c.loop-k.k (8 * c.args.x) (8 * c.args.y) _ c.loop-k.out (omega arith) c.loop-k.invariant.made
+
+pub frame-requires : goal.frame-requires
+frame-requires c = let a = c.args in (motion_room a.pool.now a.column a.row a.motion.now (8 * a.y + 2 * a.x) _ _ c.requires.room (omega arith) c.motion_of-m.ensures c.from.ensures).picture
+
+pub luma-requires-clause-columns : goal.luma-requires-clause-columns
+luma-requires-clause-columns c =
+    let a = c.args in
+    rw c.frame.ensures (part_inside 16 a.column (8 * a.x) 8 _ (omega arith) (motion_room a.pool.now a.column a.row a.motion.now (8 * a.y + 2 * a.x) _ _ c.requires.room (omega arith) c.motion_of-m.ensures c.from.ensures).y.0)
+
+pub luma-requires-clause-rows : goal.luma-requires-clause-rows
+luma-requires-clause-rows c =
+    let a = c.args in
+    rw c.frame.ensures (part_inside 16 a.row (8 * a.y) 8 _ (omega arith) (motion_room a.pool.now a.column a.row a.motion.now (8 * a.y + 2 * a.x) _ _ c.requires.room (omega arith) c.motion_of-m.ensures c.from.ensures).y.1)
+
+pub frame-requires-in-loop-k : goal.frame-requires-in-loop-k
+frame-requires-in-loop-k c = let a = c.args in (motion_room a.pool.now a.column a.row a.motion.now (4 * (2 * a.y + c.loop-k.k / 2) + (2 * a.x + c.loop-k.k % 2)) _ _ c.requires.room (omega arith) c.motion_of-m-in-loop-k.ensures c.from-in-loop-k.ensures).picture
+
+pub luma-requires-in-loop-k-clause-columns : goal.luma-requires-in-loop-k-clause-columns
+luma-requires-in-loop-k-clause-columns c =
+    let a = c.args in
+    rw c.frame-in-loop-k.ensures (part_inside 16 a.column (8 * a.x + 4 * (c.loop-k.k % 2)) 4 _ (omega arith) (motion_room a.pool.now a.column a.row a.motion.now (4 * (2 * a.y + c.loop-k.k / 2) + (2 * a.x + c.loop-k.k % 2)) _ _ c.requires.room (omega arith) c.motion_of-m-in-loop-k.ensures c.from-in-loop-k.ensures).y.0)
+
+pub luma-requires-in-loop-k-clause-rows : goal.luma-requires-in-loop-k-clause-rows
+luma-requires-in-loop-k-clause-rows c =
+    let a = c.args in
+    rw c.frame-in-loop-k.ensures (part_inside 16 a.row (8 * a.y + 4 * (c.loop-k.k / 2)) 4 _ (omega arith) (motion_room a.pool.now a.column a.row a.motion.now (4 * (2 * a.y + c.loop-k.k / 2) + (2 * a.x + c.loop-k.k % 2)) _ _ c.requires.room (omega arith) c.motion_of-m-in-loop-k.ensures c.from-in-loop-k.ensures).y.1)
