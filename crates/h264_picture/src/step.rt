@@ -39,7 +39,6 @@ fn place_behind(across: usize, column: usize, row: usize) -> (usize, usize)
 impl Sequence {
     ghost use Rattle.std.specs.Prelude.{◌≡◌, ℕ, ◌+◌, ◌-◌, ◌<◌, ◌≤◌, ◌^◌, Option, List, [], ◌∷◌, ◌++◌, length, OnOk, IfOk, true};
     ghost use Rattle.h264_base.specs.Meets.{Meets};
-    ghost use Rattle.h264_base.specs.declared.mode.SliceType.TheVariants as slice_type;
     ghost use Rattle.h264_near.specs.Coded.{CodedMacroblock};
     ghost use Rattle.h264_vectors.specs.Agrees.{Usable};
     ghost use Rattle.h264_vectors.specs.declared.slice.SliceContext.{SliceContext as Context};
@@ -164,32 +163,6 @@ impl Sequence {
         self.skip(bits, slice, run.bit, run.value - 1, left, sink)
     }
 
-    /// Reads on where more data follow.
-    fn read_by_slice_type<S: Elements>(
-        &mut self,
-        bits: &mut Bits,
-        slice: &SliceContext,
-        left: u32,
-        sink: &mut S,
-    ) -> Result<Option<Standing>, Stop>
-        requires qp { self.old.mb.qp ≤ 51 }
-        requires left { self.old.next + left ≤ self.old.size }
-        requires usable { Usable slice.now }
-        requires room { S.failures sink.old < 2 ^ 64 - 1 }
-        ensures meets { (width size : ℕ) (making : Option Making) (picture : List CodedMacroblock) → Reads width size making slice.now picture self.old → Meets S.took S.failures (syntax.Goes (λ p. Reads width size making slice.now p self.new) picture) (syntax.by_slice_type slice.now.slice_type (transform_fits slice.now) width slice.now left picture) bits.old bits.new sink.old sink.new result }
-        ensures quiet { OnOk result (S.failures sink.new ≡ S.failures sink.old) }
-        ensures within { OnOk result (self.new.mb.qp ≤ 51) }
-        ensures moves { IfOk result (Moves left self.old.next self.new.next) }
-        ensures size { self.new.size ≡ self.old.size }
-        ensures same { KeepsPlace self.old self.new }
-        ensures refers { IfOk result (RefersIf slice.now) }
-    {
-        match slice.slice_type {
-            SliceType::I => self.read_unskipped(bits, slice, left, sink),
-            SliceType::P => self.read_run(bits, slice, left, sink),
-        }
-    }
-
     /// Reads the next macroblock, if there is one.
     fn read_at_next<S: Elements>(
         &mut self,
@@ -214,7 +187,10 @@ impl Sequence {
         if !ahead.follows {
             return Ok(None);
         }
-        self.read_by_slice_type(bits, slice, left, sink)
+        match slice.slice_type {
+            SliceType::I => self.read_unskipped(bits, slice, left, sink),
+            SliceType::P => self.read_run(bits, slice, left, sink),
+        }
     }
 
     /// Reads the macroblock behind a run of skipped ones, if there is one.

@@ -16,12 +16,12 @@ ghost use Rattle.h264_recon.specs.Step.{list_of, ArePlaced, AreSaved, Shows, joi
 
 use crate::blocks::luma4;
 use crate::inter::{predict_chroma, predict_luma};
-use crate::intra::{predicted_chroma, predicted16};
+use crate::intra::{neighbours_chroma, neighbours16};
 use crate::macroblock::{Available, IntraLuma, Macroblock, Prediction};
 use crate::pcm;
 use crate::store::{Lines, Store};
 use crate::sum::add;
-use h264_intra::IntraChromaPredMode;
+use h264_intra::{IntraChromaPredMode, predict_chroma as predict_intra_chroma, predict16};
 use h264_plane::{Component, Frame, Pool};
 use h264_scale::Residuals;
 
@@ -42,7 +42,7 @@ fn luma_intra(
     match luma {
         IntraLuma::Blocks(modes) => luma4(modes, available, residual, store, column),
         IntraLuma::Whole(mode) => {
-            let mut own = predicted16(*mode, store, column, available);
+            let mut own = predict16(*mode, &neighbours16(store, column, available));
             add::<256>(&mut own, residual);
             own
         }
@@ -93,7 +93,7 @@ fn chroma_intra(
     requires small { column < 1024 }
     ensures { (cr : Bool) (l : Levels) → IsTrue (is_possible_chroma mode (sides_of available)) → IsResidual l (chroma_plane cr) (unwrap_or residual.now []) → IsChromaMade mode available l (chroma_plane cr) column store.now result }
 {
-    let mut own = predicted_chroma(mode, store, column, available);
+    let mut own = predict_intra_chroma(mode, &neighbours_chroma(store, column, available));
     add::<64>(&mut own, residual);
     own
 }

@@ -1,11 +1,11 @@
-ghost use Rattle.std.specs.Prelude.{◌≡◌, ℕ, ◌+◌, ◌*◌, ◌<◌, ◌≤◌, IsTrue, slice_index, get_or, replicate};
+ghost use Rattle.std.specs.Prelude.{◌≡◌, ℕ, ◌+◌, ◌*◌, ◌<◌, ◌≤◌, IsTrue, slice_index, get_or};
 ghost use Rattle.h264_plane.specs.declared.frame.Component.TheVariants.{Y};
 ghost use Rattle.h264_plane.specs.Frames.{plane_of as plane_of_frame};
 ghost use Rattle.h264_inter.specs.Reference.{HasBlock};
 ghost use Rattle.h264_recon.specs.Inter.{no_motion};
 ghost use Rattle.h264_recon.specs.Lines.{chroma_plane};
 ghost use Rattle.h264_recon.specs.Parts.{IsPut, AreEqual, HasPart};
-ghost use Rattle.h264_recon.specs.Pool.{HasRoom, HaveRoom, from_pool};
+ghost use Rattle.h264_recon.specs.Pool.{HaveRoom, from_pool};
 ghost use Rattle.h264_recon.specs.Predicted.{motions_in};
 
 use crate::macroblock::{Motion, Motions};
@@ -141,18 +141,7 @@ fn luma_quarter(
     out
 }
 
-/// Writes the predicted luma samples of the macroblock at this column and row, which moves as a whole.
-#[inline]
-fn luma_whole(motion: Motion, pool: &Pool, column: usize, row: usize, out: &mut [u8; 256])
-    requires small { (column < 1024) × (row < 1024) }
-    requires room { HasRoom pool.now column row motion.picture }
-    ensures { HasBlock 16 16 out.new (from_pool pool.now (replicate 16 motion) column row Y) }
-{
-    let plane = &pool.frame(usize::from(motion.picture)).y;
-    luma::<16, 16>(plane, 16 * column, 16 * row, motion.vector, out);
-}
-
-/// Those of one whose places have motions of their own.
+/// Writes the predicted luma samples of the macroblock at this column and row, whose places have motions of their own.
 #[inline(never)]
 fn luma_quarters(motion: &[Motion; 16], pool: &Pool, column: usize, row: usize, out: &mut [u8; 256])
     requires small { (column < 1024) × (row < 1024) }
@@ -173,7 +162,10 @@ pub fn predict_luma(motions: &Motions, pool: &Pool, column: usize, row: usize, o
     ensures { HasBlock 16 16 out.new (from_pool pool.now (motions_in motions.now) column row Y) }
 {
     match motions {
-        Motions::Whole(motion) => luma_whole(*motion, pool, column, row, out),
+        Motions::Whole(motion) => {
+            let plane = &pool.frame(usize::from(motion.picture)).y;
+            luma::<16, 16>(plane, 16 * column, 16 * row, motion.vector, out);
+        }
         Motions::Each(motion) => luma_quarters(motion, pool, column, row, out),
     }
 }
@@ -229,24 +221,7 @@ fn chroma_quarter<const CR: bool>(
     out
 }
 
-/// Writes the predicted samples of a chroma plane of the macroblock at this column and row, which moves as a whole.
-#[inline]
-fn chroma_whole<const CR: bool>(
-    motion: Motion,
-    pool: &Pool,
-    column: usize,
-    row: usize,
-    out: &mut [u8; 64],
-)
-    requires small { (column < 1024) × (row < 1024) }
-    requires room { HasRoom pool.now column row motion.picture }
-    ensures { HasBlock 8 8 out.new (from_pool pool.now (replicate 16 motion) column row (chroma_plane CR)) }
-{
-    let plane = plane_of::<CR>(pool.frame(usize::from(motion.picture)));
-    chroma::<8, 8>(plane, 8 * column, 8 * row, motion.vector, out);
-}
-
-/// Those of one whose places have motions of their own.
+/// Writes the predicted samples of a chroma plane of the macroblock at this column and row, whose places have motions of their own.
 #[inline(never)]
 fn chroma_quarters<const CR: bool>(
     motion: &[Motion; 16],
@@ -279,7 +254,10 @@ pub fn predict_chroma<const CR: bool>(
     ensures { HasBlock 8 8 out.new (from_pool pool.now (motions_in motions.now) column row (chroma_plane CR)) }
 {
     match motions {
-        Motions::Whole(motion) => chroma_whole::<CR>(*motion, pool, column, row, out),
+        Motions::Whole(motion) => {
+            let plane = plane_of::<CR>(pool.frame(usize::from(motion.picture)));
+            chroma::<8, 8>(plane, 8 * column, 8 * row, motion.vector, out);
+        }
         Motions::Each(motion) => chroma_quarters::<CR>(motion, pool, column, row, out),
     }
 }

@@ -1,9 +1,8 @@
 ghost use Rattle.std.specs.Prelude.{◌≡◌, ℕ, ◌+◌, ◌-◌, ◌*◌, ◌<◌, ◌≤◌, if◌then◌else◌, List, length, slice_index, vec_len, Some, None, [], IsTrue, is_some, unwrap_or};
-ghost use Rattle.h264_intra.specs.Filters.{HasSamples};
 ghost use Rattle.h264_intra.specs.Sides.{SameSides};
 ghost use Rattle.h264_intra.specs.Luma4.{SameSides4, sides4, around4};
-ghost use Rattle.h264_intra.specs.Luma16.{is_possible16, predicted16 as predicted16_of, sides16, around16};
-ghost use Rattle.h264_intra.specs.Chroma.{is_possible_chroma, predicted_chroma as predicted_chroma_of, sides_chroma, around_chroma};
+ghost use Rattle.h264_intra.specs.Luma16.{sides16, around16};
+ghost use Rattle.h264_intra.specs.Chroma.{sides_chroma, around_chroma};
 ghost use Rattle.h264_plane.specs.Places.{index_of};
 ghost use Rattle.h264_recon.specs.Blocks.{sides_of, sides4_of, left_there, above_there, corner_there, right_there};
 ghost use Rattle.h264_recon.specs.Constructed.{block_window};
@@ -11,10 +10,7 @@ ghost use Rattle.h264_recon.specs.Lines.{local};
 
 use crate::macroblock::Available;
 use crate::store::Store;
-use h264_intra::{
-    Intra16x16PredMode, IntraChromaPredMode, Neighbours4, Neighbours16, NeighboursChroma,
-    predict_chroma, predict16,
-};
+use h264_intra::{Neighbours4, Neighbours16, NeighboursChroma};
 
 /// Samples of a row from a place on.
 #[inline(always)]
@@ -30,7 +26,7 @@ fn part<const N: usize>(row: &[u8], start: usize) -> [u8; N]
 
 /// The samples beside the luma macroblock at this column.
 #[inline(always)]
-fn neighbours16(store: &Store, column: usize, a: Available) -> Neighbours16
+pub fn neighbours16(store: &Store, column: usize, a: Available) -> Neighbours16
     requires columns { 16 * column + 16 ≤ vec_len store.now.above }
     requires small { column < 1024 }
     ensures sides { sides16 result ≡ sides_of a }
@@ -44,24 +40,9 @@ fn neighbours16(store: &Store, column: usize, a: Available) -> Neighbours16
     }
 }
 
-/// The prediction of its samples.
-#[inline(always)]
-pub fn predicted16(
-    mode: Intra16x16PredMode,
-    store: &Store,
-    column: usize,
-    a: Available,
-) -> [u8; 256]
-    requires columns { 16 * column + 16 ≤ vec_len store.now.above }
-    requires small { column < 1024 }
-    ensures { (own : List ℕ) → IsTrue (is_possible16 mode (sides_of a)) → HasSamples 16 result (predicted16_of mode (sides_of a) (local 16 store.now column own)) }
-{
-    predict16(mode, &neighbours16(store, column, a))
-}
-
 /// The samples beside the chroma macroblock at this column.
 #[inline(always)]
-fn neighbours_chroma(store: &Store, column: usize, a: Available) -> NeighboursChroma
+pub fn neighbours_chroma(store: &Store, column: usize, a: Available) -> NeighboursChroma
     requires columns { 8 * column + 8 ≤ vec_len store.now.above }
     requires small { column < 1024 }
     ensures sides { sides_chroma result ≡ sides_of a }
@@ -74,21 +55,6 @@ fn neighbours_chroma(store: &Store, column: usize, a: Available) -> NeighboursCh
         above: a.above.then_some(above),
         corner: a.corner.then_some(store.corner),
     }
-}
-
-/// The prediction of its samples.
-#[inline(always)]
-pub fn predicted_chroma(
-    mode: IntraChromaPredMode,
-    store: &Store,
-    column: usize,
-    a: Available,
-) -> [u8; 64]
-    requires columns { 8 * column + 8 ≤ vec_len store.now.above }
-    requires small { column < 1024 }
-    ensures { (own : List ℕ) → IsTrue (is_possible_chroma mode (sides_of a)) → HasSamples 8 result (predicted_chroma_of mode (sides_of a) (local 8 store.now column own)) }
-{
-    predict_chroma(mode, &neighbours_chroma(store, column, a))
 }
 
 /// A sample round the macroblock.

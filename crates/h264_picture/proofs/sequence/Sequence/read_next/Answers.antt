@@ -1,6 +1,6 @@
 use Rattle.h264_mbsyntax.proofs.Quantiser.{next-some}
 use Rattle.h264_picture.specs.Levels.{transform_fits}
-use Rattle.std.proofs.Common.{refl}
+use Rattle.std.proofs.Common.{◌≡◌, refl}
 use Rattle.h264_picture.proofs.Steps.{on-ok}
 use Rattle.h264_picture.proofs.sequence.Sequence.read_next.Goals as goal
 
@@ -35,7 +35,7 @@ returns-else-more-eq0 g c =
     let e = c.skip.ensures in
     record {
       meets = λ width size making picture k. rw (c.in-Skipping.is, next-some (transform_fits c.args.slice.now) width c.args.slice.now c.args.left picture _ _ c.if-more-eq0.false) (c.skip.ensures.meets width size making picture k);
-      quiet = on-ok c.skip.result refl;
+      quiet = on-ok {P = g.S.Elements.failures c.args.sink.now ≡ g.S.Elements.failures c.args.sink.now} c.skip.result refl;
       within = e.within;
       moves = e.moves;
       size = e.size;
