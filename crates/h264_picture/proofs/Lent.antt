@@ -1,10 +1,10 @@
 -- A frame is moved out of its place, and the one that was is put back.
-use Rattle.std.proofs.Common.{◌≡◌, ◌≢◌, ℕ, ◌<◌, ◌==◌, ◌&&◌, Bool, true, false, if◌then◌else◌, List, length, Some, None, slice_set, arith, ◌∙◌, refl, ap}
+use Rattle.std.proofs.Common.{◌≡◌, ◌≢◌, ℕ, ◌<◌, ◌==◌, ◌&&◌, Bool, true, false, if◌then◌else◌, List, length, Some, None, slice_set, arith, ◌∙◌, refl, sym, ap}
 use Rattle.std.proofs.lemmas.Bool.{eqb-true, eqb-false}
 use Rattle.std.proofs.Math.ListN.{length-set}
 use Rattle.std.proofs.lemmas.Grind.{common_steps}
 use Rattle.h264_plane.specs.declared.frame.Frame.{Frame}
-use Rattle.h264_plane.specs.Frames.{frame_at, KeepsOtherFrames}
+use Rattle.h264_plane.specs.Frames.{frame_at, IsFrame, KeepsOtherFrames}
 use Rattle.h264_picture.specs.declared.frames.Frames.{Frames}
 use Rattle.std.specs.Prelude.{nat_lt}
 use Rattle.h264_picture.specs.Lent.{AreFrames, frame_within, lent_within}
@@ -40,3 +40,11 @@ module _ (old : Frames) (place : ℕ) (mid pool : List Frame) (frame : Frame) (p
       off : (t : Bool) → (k == place) ≡ t → (k == place && begun) ≡ false
       off true e = absurd (other (eqb-true k place e))
       off false e = rw e refl
+
+-- the first frame of a pool is moved out
+pub first-taken : (w h : ℕ) (pool : List Frame) (new : Frames) → ((k : ℕ) → k < length pool → IsFrame (frame_at pool k) w h) → 0 < length pool → new.frame ≡ frame_at pool 0 → KeepsOtherFrames pool new.pool 0 → new.place ≡ 0 → AreFrames w h new
+first-taken w h pool new size some first others here = record { each = λ k i. by k i (k == new.place) refl }
+  where
+    by : (k : ℕ) → k < length new.pool → (t : Bool) → (k == new.place) ≡ t → IsFrame (frame_within new k) w h
+    by k i true e = rw (e, first) (size 0 some)
+    by k i false e = let other : k ≢ 0 = λ z. eqb-false k new.place e (z ∙ sym here) in rw (e, others.kept k other) (size k (let n = others.count in omega arith))

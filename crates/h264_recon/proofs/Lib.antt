@@ -4,6 +4,7 @@ pub mod Local
 pub mod Blocks4
 pub mod Cleared
 pub mod Beside
+pub mod Kept
 pub mod Kernels
 pub mod Step
 pub mod Runs

@@ -1,18 +1,18 @@
-use Rattle.std.proofs.Common.{rules, SFits, w32, to_z, of_z, ◌≡◌, ◌∙◌, ap, sym, refl, arith}
-use Rattle.std.proofs.lemmas.Int.{ints}
+use Rattle.std.proofs.Common.{rules, SFits, w32, ◌≡◌, ◌∙◌, ap, sym, refl}
 use Rattle.std.proofs.lemmas.Result.{err_from_is_err_and}
 use Rattle.h264_tables.specs.ChromaQp.{chroma_qp_of}
 use Rattle.h264_scale.specs.Macroblock.{luma_fits, chroma_fits, levels_fit}
 use Rattle.h264_scale.proofs.Whole.{luma_is, cb_is, cr_is, refused, never, always, levels_whole, levels_luma, levels_cb, levels_cr}
 use Rattle.h264_recon.specs.Levels.{luma_levels, chroma_levels, levels_of}
 use Rattle.h264_recon.proofs.FromRead.{bundle, levels-are}
+use Rattle.h264_recon.proofs.Kept.{kept32}
 use Rattle.h264_recon.proofs.scaled.residuals.Goals as goal
 
 pub returns-in_err-luma-clause-range : goal.returns-in_err-luma-clause-range
 returns-in_err-luma-clause-range c m h =
     let z = c.args.offset in
     let fits : SFits w32 z = search rules in
-    let kept : to_z w32 (of_z w32 z) ≡ z = omega (arith, ints) in
+    let kept = kept32 z fits in
     let qp = c.args.mb.now.qp in
     let qc = c.qp_of_chroma-qp.result in
     let b = bundle (luma_levels m.prediction m.totals m.residual) (chroma_levels 0 m.prediction m.chroma_totals m.residual) (chroma_levels 1 m.prediction m.chroma_totals m.residual) qp qc in
@@ -24,7 +24,7 @@ pub returns-in_err-chroma-clause-range : goal.returns-in_err-chroma-clause-range
 returns-in_err-chroma-clause-range c m h =
     let z = c.args.offset in
     let fits : SFits w32 z = search rules in
-    let kept : to_z w32 (of_z w32 z) ≡ z = omega (arith, ints) in
+    let kept = kept32 z fits in
     let qp = c.args.mb.now.qp in
     let qc = c.qp_of_chroma-qp.result in
     let b = bundle (luma_levels m.prediction m.totals m.residual) (chroma_levels 0 m.prediction m.chroma_totals m.residual) (chroma_levels 1 m.prediction m.chroma_totals m.residual) qp qc in
@@ -36,7 +36,7 @@ pub returns-in_err-chroma-2-clause-range : goal.returns-in_err-chroma-2-clause-r
 returns-in_err-chroma-2-clause-range c m h =
     let z = c.args.offset in
     let fits : SFits w32 z = search rules in
-    let kept : to_z w32 (of_z w32 z) ≡ z = omega (arith, ints) in
+    let kept = kept32 z fits in
     let qp = c.args.mb.now.qp in
     let qc = c.qp_of_chroma-qp.result in
     let b = bundle (luma_levels m.prediction m.totals m.residual) (chroma_levels 0 m.prediction m.chroma_totals m.residual) (chroma_levels 1 m.prediction m.chroma_totals m.residual) qp qc in
@@ -48,7 +48,7 @@ pub returns-clause-range : goal.returns-clause-range
 returns-clause-range c m h =
     let z = c.args.offset in
     let fits : SFits w32 z = search rules in
-    let kept : to_z w32 (of_z w32 z) ≡ z = omega (arith, ints) in
+    let kept = kept32 z fits in
     let qp = c.args.mb.now.qp in
     let qc = c.qp_of_chroma-qp.result in
     let b = bundle (luma_levels m.prediction m.totals m.residual) (chroma_levels 0 m.prediction m.chroma_totals m.residual) (chroma_levels 1 m.prediction m.chroma_totals m.residual) qp qc in
@@ -59,7 +59,7 @@ pub returns-clause-residual : goal.returns-clause-residual
 returns-clause-residual c m h =
     let z = c.args.offset in
     let fits : SFits w32 z = search rules in
-    let kept : to_z w32 (of_z w32 z) ≡ z = omega (arith, ints) in
+    let kept = kept32 z fits in
     let qp = c.args.mb.now.qp in
     let qc = c.qp_of_chroma-qp.result in
     let b = bundle (luma_levels m.prediction m.totals m.residual) (chroma_levels 0 m.prediction m.chroma_totals m.residual) (chroma_levels 1 m.prediction m.chroma_totals m.residual) qp qc in

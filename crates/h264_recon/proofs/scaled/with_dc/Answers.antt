@@ -1,6 +1,5 @@
 use Rattle.std.proofs.Common.{◌≡◌, ◌+◌, ◌*◌, arith, rules, refl, ◌∙◌, get_or, [], replicate, pos, FitsSigned, w16, to_z, of_z}
 use Rattle.std.proofs.lemmas.Result.{err_from_is_err_and}
-use Rattle.std.proofs.lemmas.Int.{ints}
 use Rattle.h264_mbsyntax.specs.Stored.{shown}
 use Rattle.h264_recon.specs.Table.{table}
 use Rattle.h264_scale.specs.declared.levels.LumaWithDc.{LumaWithDc}
@@ -10,6 +9,7 @@ use Rattle.h264_scale.specs.Dc.{dc16_fits}
 use Rattle.h264_scale.specs.Macroblock.{luma_dc_fits}
 use Rattle.h264_scale.specs.declared.levels.LumaLevels.TheVariants.{WithDc}
 use Rattle.h264_scale.proofs.Whole.{luma_more, from_dc16, fits_dc16, all_none, all_more, refused, never, always, luma_dc_unfit, luma_unfit, luma_whole}
+use Rattle.h264_recon.proofs.Kept.{kept16}
 use Rattle.h264_recon.proofs.scaled.with_dc.Goals as goal
 
 pub returns-in_err-dc-clause-range : goal.returns-in_err-dc-clause-range
@@ -29,7 +29,7 @@ loop-b-preserved c =
     let l = get_or t.ac b [] in
     let x = get_or c.in_ok-dc.dc (4 * row_of b + column_of b) (pos 0) in
     let fits : FitsSigned w16 x = search rules in
-    let kept : to_z w16 (of_z w16 x) ≡ x = omega (arith, ints) in
+    let kept = kept16 x fits in
     record {
       size = c.type_inv.out;
       fit = all_more b _ c.loop-b.invariant.fit
@@ -45,7 +45,7 @@ returns-in_err-block-clause-range c =
     let l = get_or t.ac b [] in
     let x = get_or c.in_ok-dc.dc (4 * row_of b + column_of b) (pos 0) in
     let fits : FitsSigned w16 x = search rules in
-    let kept : to_z w16 (of_z w16 x) ≡ x = omega (arith, ints) in
+    let kept = kept16 x fits in
     let out = refused (residual_fits (d_with_dc (to_z w16 (of_z w16 x)) l c.args.qp)) c.in_err-block.ensures.range.1 in
     let p = err_from_is_err_and c.from_residual-in_err-block.result c.from_residual-in_err-block.ensures.1 in
     rw p.1 (never _ (luma_unfit c.args.qp (WithDc t) b (omega arith)
