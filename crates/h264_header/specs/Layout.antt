@@ -4,7 +4,7 @@ use Rattle.std.specs.Option.{option_and_then}
 use Rattle.h264_sps.specs.declared.sps.Sps.{Sps}
 use Rattle.h264_sps.specs.declared.count_type.CountType.{CountType}
 use Rattle.h264_sps.specs.declared.count_type.CountType.TheVariants as count_type
-use Rattle.h264_sps.specs.Usable.{is_usable}
+use Rattle.h264_sets.specs.Usable.{is_usable}
 use Rattle.h264_pps.specs.declared.Pps.{Pps}
 use Rattle.h264_sets.specs.Sets.{Maps, sps_of, pps_of}
 use Rattle.h264_header.specs.declared.layout.CountElements.{CountElements}

@@ -3,13 +3,13 @@
 
 ghost use Rattle.std.specs.Prelude.{◌≡◌, ◌≤◌, IfSome, IfNone, Some, None, true};
 ghost use Rattle.h264_header.specs.Layout.{sets_of, layout_of, count_elements_of, has_lengths, is_accepted};
-ghost use Rattle.h264_sps.specs.Usable.{is_usable};
+ghost use Rattle.h264_sets.specs.Usable.{is_usable};
 
 use h264_pps::Pps;
 use h264_sets::Sets;
+use h264_sets::usable::is_usable;
 use h264_sps::count_type::CountType;
 use h264_sps::sps::Sps;
-use h264_sps::usable::is_usable;
 
 /// Which elements of the picture order count stand in a header.
 #[derive(Clone, Copy)]

@@ -4,8 +4,8 @@
 ghost use Rattle.std.specs.Prelude.{◌≡◌, ◌≤◌};
 ghost use Rattle.h264_picture.specs.Buffer.{buffer_size as buffer_size_of};
 
+use h264_sets::usable::{dpb_frames, given_frames};
 use h264_sps::sps::Sps;
-use h264_sps::usable::{dpb_frames, given_frames};
 
 /// How many frames the picture buffer of a sequence holds: max_dec_frame_buffering, if it is given, else MaxDpbFrames of its level and
 /// frame size (A.3.1, E.2.1), and one at least; 1 to 16.

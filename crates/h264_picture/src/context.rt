@@ -13,8 +13,8 @@ use h264_base::SliceType;
 use h264_header::{Header, SliceKind};
 use h264_lists::RefSlot;
 use h264_pps::Pps;
+use h264_sets::usable;
 use h264_sps::sps::Sps;
-use h264_sps::usable;
 use h264_tables::Limits;
 use h264_vectors::SliceContext;
 

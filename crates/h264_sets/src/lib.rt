@@ -3,7 +3,7 @@
 //!
 //! A set replaces the earlier one of its id, and no other. `activate` makes the sets that a slice names the active ones, and
 //! refuses a sequence parameter set that has changed where no IDR picture begins. All memory is taken by `Sets::new`; nothing
-//! else takes any. What a set means is not decided here.
+//! else takes any. What a set means is not decided here; `usable` says what holds of each that some unit gives.
 #![tactic(auto)]
 
 ghost use Rattle.std.specs.Prelude.{◌≡◌, ℕ, ◌<◌, ◌≤◌, ◌↔◌, ◌⊎◌, IsTrue, IsFalse, IfOk, OnErr, Option, Some, None, Ok, Err};
@@ -15,6 +15,7 @@ ghost use Rattle.h264_sets.specs.declared.SetPair.{SetPair};
 
 #[cfg(test)]
 mod tests;
+pub mod usable;
 
 use h264_base::{Rule, Stop};
 use h264_pps::Pps;

@@ -4,7 +4,7 @@ use Rattle.std.specs.Option.{is_some, option_and_then}
 use Rattle.h264_base.proofs.Chains.{map-some, then-some}
 use Rattle.h264_base.specs.declared.stop.Stop.{Stop}
 use Rattle.h264_sps.specs.declared.sps.Sps.{Sps}
-use Rattle.h264_sps.specs.Usable.{is_usable}
+use Rattle.h264_sets.specs.Usable.{is_usable}
 use Rattle.h264_pps.specs.declared.Pps.{Pps}
 use Rattle.h264_sets.specs.Sets.{Maps, IsActive, sps_of, pps_of, with_sps_of, pair_of, with_active}
 use Rattle.h264_sets.specs.declared.SetPair.{SetPair}

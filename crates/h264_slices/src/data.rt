@@ -9,7 +9,7 @@ ghost use Rattle.h264_header.specs.declared.header.Header.{Header};
 ghost use Rattle.h264_header.specs.Layout.{sets_of};
 ghost use Rattle.h264_near.specs.Coded.{CodedMacroblock};
 ghost use Rattle.h264_picture.specs.Holds.{Holds};
-ghost use Rattle.h264_sps.specs.Usable.{is_usable};
+ghost use Rattle.h264_sets.specs.Usable.{is_usable};
 ghost use Rattle.h264_slices.specs.Demands.{judged};
 ghost use Rattle.h264_slices.specs.Outcome.{IsNamed, answers};
 ghost use Rattle.h264_slices.specs.History.{History};

@@ -1,4 +1,3 @@
 pub mod Padded
 pub mod Regroup
 pub mod Types
-pub mod Limits

@@ -4,4 +4,3 @@ pub mod Vui
 pub mod Sps
 pub mod Parts
 pub mod Seen
-pub mod Usable

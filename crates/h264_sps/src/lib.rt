@@ -10,5 +10,4 @@ pub mod count_type;
 pub mod hrd;
 pub mod read;
 pub mod sps;
-pub mod usable;
 pub mod vui;

@@ -3,9 +3,9 @@
 
 ghost use Rattle.std.specs.Prelude.{◌≡◌};
 ghost use Rattle.h264_tables.specs.Level.{limits_of};
-ghost use Rattle.h264_sps.specs.Usable.{is_frame_size, is_within, crops_within, given_frames, dpb_frames, holds_references, buffers_within, is_usable};
+ghost use Rattle.h264_sets.specs.Usable.{is_frame_size, is_within, crops_within, given_frames, dpb_frames, holds_references, buffers_within, is_usable};
 
-use crate::sps::{FrameCropping, FrameSize, Sps};
+use h264_sps::sps::{FrameCropping, FrameSize, Sps};
 use h264_tables::{Limits, limits};
 
 /// Whether a frame has some macroblocks, no more than the greatest MaxFS, in rows and columns of no more than Sqrt(8 * MaxFS) (A.3.1).
