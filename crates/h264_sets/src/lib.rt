@@ -49,7 +49,7 @@ fn sps_at(sets: &[Option<Sps>], id: u32) -> Option<&Sps>
 }
 
 /// A picture parameter set, and the sequence parameter set that it names.
-#[derive(Clone, Copy, PartialEq, Eq)]
+#[derive(Clone, Copy)]
 pub struct SetPair {
     pub pps: Pps,
     pub sps: Sps,

@@ -1,3 +1,4 @@
+pub mod Ways
 pub mod Padded
 pub mod Regroup
 pub mod Types

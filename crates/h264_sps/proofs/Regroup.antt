@@ -13,6 +13,7 @@ use Rattle.h264_base.specs.Meets.{Reader, Meets, Is}
 use Rattle.h264_base.proofs.Steps.{bind, stop, done, finish, tells-none}
 use Rattle.h264_bits.specs.Forms.{natural, bits, unsigned, flag, unsigned_to, optional, repeated, each}
 use Rattle.h264_sps.specs.declared.hrd.Cpb.{Cpb}
+use Rattle.h264_sps.specs.declared.hrd.Cpbs.{Cpbs}
 use Rattle.h264_sps.specs.declared.hrd.Hrd.{Hrd}
 use Rattle.h264_sps.specs.declared.sps.ConstraintSetFlags.{ConstraintSetFlags}
 use Rattle.h264_sps.specs.declared.sps.FrameCropping.{FrameCropping}
@@ -31,23 +32,8 @@ use Rattle.h264_sps.specs.Sps.{constraint_set_flags, frame_cropping}
 pub by-run : {Y B S : Type 0} {took : S → List Call → Type 0} {failures : S → ℕ} {R : Y → B → Type 0} {g g' : Grammar B} {old new : Reader} {s s' : S} {r : Result Y Stop} → run g old.body old.at ≡ run g' old.body old.at → Meets took failures R g' old new s s' r → Meets took failures R g old new s s' r
 by-run {took} {s} e m = finish (record { before = []; goes = e; tells = tells-none took s; quiet = refl; same = refl }) m
 
--- a part that is there stops
-pub there-stop : {A S : Type 0} {took : S → List Call → Type 0} {failures : S → ℕ} {g : Grammar A} {old new : Reader} {s s' : S} {e : Stop} → Meets took failures (Is (λ (x : A). x)) g old new s s' (Err e) → Meets took failures (Is (λ (x : Option A). x)) (optional true g) old new s s' (Err e)
-unfolding optional
-there-stop m = stop _ m
-
--- a part that is there was read
-pub there : {A S : Type 0} {took : S → List Call → Type 0} {failures : S → ℕ} {g : Grammar A} {old new : Reader} {s s' : S} {x : A} → Meets took failures (Is (λ (x : A). x)) g old new s s' (Ok x) → Meets took failures (Is (λ (x : Option A). x)) (optional true g) old new s s' (Ok (Some x))
-unfolding optional
-there m = bind _ m (done _ _ _ _ _ _ _ refl)
-
--- a part that is there was read, or stops
-pub there-either : {A S : Type 0} {took : S → List Call → Type 0} {failures : S → ℕ} {g : Grammar A} {old new : Reader} {s s' : S} (r : Result A Stop) → Meets took failures (Is (λ (x : A). x)) g old new s s' r → Meets took failures (Is (λ (x : Option A). x)) (optional true g) old new s s' (there_of r)
-there-either (Ok x) m = there m
-there-either (Err e) m = there-stop m
-
 -- checks of one rule at one bit are one check
-pub three-checks : {A : Type 0} (rule : Rule) (bit : ℕ) (a b c : Bool) (g : Grammar A) (body : Body) (i : ℕ) → run (check rule bit a >>= (λ _. check rule bit b >>= (λ _. check rule bit c >>= (λ _. g)))) body i ≡ run (check rule bit (a && (b && c)) >>= (λ _. g)) body i
+three-checks : {A : Type 0} (rule : Rule) (bit : ℕ) (a b c : Bool) (g : Grammar A) (body : Body) (i : ℕ) → run (check rule bit a >>= (λ _. check rule bit b >>= (λ _. check rule bit c >>= (λ _. g)))) body i ≡ run (check rule bit (a && (b && c)) >>= (λ _. g)) body i
 unfolding run check ◌>>=◌
 three-checks rule bit true true c g body i = refl
 three-checks rule bit true false c g body i = refl
@@ -69,8 +55,8 @@ pub found-none : {A : Type 0} (b : Bool) (x : A) → cond b (Some x) None ≡ No
 found-none true x e = absurd (cc)
 found-none false x e = refl
 
-pub crop-by_sides : (size : Size) → optional true (frame_cropping size) ≡ (crop_offsets FrameCropLeftOffset FrameCropRightOffset size.width >>= (λ a. crop_offsets FrameCropTopOffset FrameCropBottomOffset size.height >>= (λ d. Done (Some (let c : FrameCropping = record { left = a.0; right = a.1; top = d.0; bottom = d.1 } in c)))))
-unfolding optional frame_cropping crop_offsets read_word check ◌>>=◌
+pub crop-by_sides : (size : Size) → frame_cropping size ≡ (crop_offsets FrameCropLeftOffset FrameCropRightOffset size.width >>= (λ a. crop_offsets FrameCropTopOffset FrameCropBottomOffset size.height >>= (λ d. Done (let c : FrameCropping = record { left = a.0; right = a.1; top = d.0; bottom = d.1 } in c))))
+unfolding frame_cropping crop_offsets read_word check ◌>>=◌
 crop-by_sides size = refl
 
 -- the parts that are read as one list of values
@@ -82,8 +68,22 @@ pub cpb-by_values : cpb ≡ (each unsigned [] (BitRateValueMinus1 ∷ CpbSizeVal
 unfolding cpb each unsigned flag read_word ◌>>=◌
 cpb-by_values = refl
 
-pub hrd-by_values : hrd ≡ (unsigned_to CpbCntMinus1 31 >>= (λ n. each (λ name. bits name 4) [] (BitRateScale ∷ CpbSizeScale ∷ []) >>= (λ scales. repeated cpb [] (n + 1) >>= (λ cpbs. each (λ name. bits name 5) [] (InitialCpbRemovalDelayLengthMinus1 ∷ CpbRemovalDelayLengthMinus1 ∷ DpbOutputDelayLengthMinus1 ∷ TimeOffsetLength ∷ []) >>= (λ l. Done (let h : Hrd = record { bit_rate_scale = get_or scales 0 0; cpb_size_scale = get_or scales 1 0; cpbs = cpbs_of cpbs; initial_cpb_removal_delay_length_minus1 = get_or l 0 0; cpb_removal_delay_length_minus1 = get_or l 1 0; dpb_output_delay_length_minus1 = get_or l 2 0; time_offset_length = get_or l 3 0 } in h))))))
-unfolding hrd each bits read_word ◌>>=◌
+-- HRD parameters from initial_cpb_removal_delay_length_minus1 on, behind the scales and the buffers
+unfoldable pub hrd_from_lengths : List ℕ → Cpbs → Grammar Hrd
+hrd_from_lengths scales cpbs = do
+  l ← each (λ name. bits name 5) [] (InitialCpbRemovalDelayLengthMinus1 ∷ CpbRemovalDelayLengthMinus1 ∷ DpbOutputDelayLengthMinus1 ∷ TimeOffsetLength ∷ [])
+  Done (record {
+    bit_rate_scale = get_or scales 0 0;
+    cpb_size_scale = get_or scales 1 0;
+    cpbs = cpbs;
+    initial_cpb_removal_delay_length_minus1 = get_or l 0 0;
+    cpb_removal_delay_length_minus1 = get_or l 1 0;
+    dpb_output_delay_length_minus1 = get_or l 2 0;
+    time_offset_length = get_or l 3 0;
+  })
+
+pub hrd-by_values : hrd ≡ (unsigned_to CpbCntMinus1 31 >>= (λ n. each (λ name. bits name 4) [] (BitRateScale ∷ CpbSizeScale ∷ []) >>= (λ scales. repeated cpb [] (n + 1) >>= (λ cpbs. hrd_from_lengths scales (cpbs_of cpbs)))))
+unfolding hrd hrd_from_lengths each bits read_word ◌>>=◌
 hrd-by_values = refl
 
 pub ratio-by_values : extended_ratio ≡ (each (λ name. bits name 16) [] (SarWidth ∷ SarHeight ∷ []) >>= (λ l. Done (let r : ExtendedRatio = record { sar_width = get_or l 0 0; sar_height = get_or l 1 0 } in r)))
@@ -102,23 +102,36 @@ pub timing-by_values : timing ≡ (each (λ name. bits name 32) [] (NumUnitsInTi
 unfolding timing each bits flag read_word ◌>>=◌
 timing-by_values = refl
 
--- the restriction from max_dec_frame_buffering on, behind its flag and the five numbers
-unfoldable pub restriction_from_buffering : ℕ → ℕ → Bool → List ℕ → Grammar BitstreamRestriction
-restriction_from_buffering refs buffer over l = do
-  buffering ← element MaxDecFrameBuffering Unsigned
-  _ ← check VuiRule buffering.bit (nat_le (get_or l 4 0) (natural buffering.value))
-  _ ← check VuiRule buffering.bit (nat_le refs (natural buffering.value))
-  _ ← check VuiRule buffering.bit (nat_le (natural buffering.value) buffer)
-  Done (record {
-    motion_vectors_over_pic_boundaries_flag = over;
-    max_bytes_per_pic_denom = get_or l 0 0;
-    max_bits_per_mb_denom = get_or l 1 0;
-    log2_max_mv_length_horizontal = get_or l 2 0;
-    log2_max_mv_length_vertical = get_or l 3 0;
-    max_num_reorder_frames = get_or l 4 0;
-    max_dec_frame_buffering = natural buffering.value;
-  })
+-- a restriction whose flag is over, whose five numbers are l, and whose max_dec_frame_buffering is n
+abbrev restriction_of : Bool → List ℕ → ℕ → BitstreamRestriction
+restriction_of over l n = record {
+  motion_vectors_over_pic_boundaries_flag = over;
+  max_bytes_per_pic_denom = get_or l 0 0;
+  max_bits_per_mb_denom = get_or l 1 0;
+  log2_max_mv_length_horizontal = get_or l 2 0;
+  log2_max_mv_length_vertical = get_or l 3 0;
+  max_num_reorder_frames = get_or l 4 0;
+  max_dec_frame_buffering = n;
+}
 
-pub restriction-by_values : (refs buffer : ℕ) → bitstream_restriction refs buffer ≡ (flag MotionVectorsOverPicBoundariesFlag >>= (λ over. each unsigned [] (MaxBytesPerPicDenom ∷ MaxBitsPerMbDenom ∷ Log2MaxMvLengthHorizontal ∷ Log2MaxMvLengthVertical ∷ MaxNumReorderFrames ∷ []) >>= (λ l. restriction_from_buffering refs buffer over l)))
-unfolding bitstream_restriction restriction_from_buffering each unsigned flag read_word ◌>>=◌
+-- the restriction behind max_dec_frame_buffering, which stands at this bit and is n, with its rules one by one
+unfoldable pub restriction_judged : ℕ → ℕ → Bool → List ℕ → ℕ → ℕ → Grammar BitstreamRestriction
+restriction_judged refs buffer over l bit n = do
+  _ ← check VuiRule bit (nat_le (get_or l 4 0) n)
+  _ ← check VuiRule bit (nat_le refs n)
+  _ ← check VuiRule bit (nat_le n buffer)
+  Done (restriction_of over l n)
+
+-- and with its rules as one
+unfoldable pub restriction_judged_once : ℕ → ℕ → Bool → List ℕ → ℕ → ℕ → Grammar BitstreamRestriction
+restriction_judged_once refs buffer over l bit n = do
+  _ ← check VuiRule bit (nat_le (get_or l 4 0) n && (nat_le refs n && nat_le n buffer))
+  Done (restriction_of over l n)
+
+pub judged-once : (refs buffer : ℕ) (over : Bool) (l : List ℕ) (bit n : ℕ) (body : Body) (i : ℕ) → run (restriction_judged refs buffer over l bit n) body i ≡ run (restriction_judged_once refs buffer over l bit n) body i
+unfolding restriction_judged restriction_judged_once
+judged-once refs buffer over l bit n body i = three-checks VuiRule bit _ _ _ _ body i
+
+pub restriction-by_values : (refs buffer : ℕ) → bitstream_restriction refs buffer ≡ (flag MotionVectorsOverPicBoundariesFlag >>= (λ over. each unsigned [] (MaxBytesPerPicDenom ∷ MaxBitsPerMbDenom ∷ Log2MaxMvLengthHorizontal ∷ Log2MaxMvLengthVertical ∷ MaxNumReorderFrames ∷ []) >>= (λ l. element MaxDecFrameBuffering Unsigned >>= (λ e. restriction_judged refs buffer over l e.bit (natural e.value)))))
+unfolding bitstream_restriction restriction_judged each unsigned flag read_word ◌>>=◌
 restriction-by_values refs buffer = refl

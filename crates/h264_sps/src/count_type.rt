@@ -12,14 +12,14 @@ use h264_bits::Bits;
 use h264_bits::forms::{flag_value, se_value, ue_up_to};
 
 /// The offsets of a cycle of reference frames: `length` of them, and 0 behind them.
-#[derive(Clone, Copy, PartialEq, Eq)]
+#[derive(Clone, Copy, PartialEq)]
 pub struct Cycle {
     pub offset_for_ref_frame: [i32; 255],
     pub length: u32,
 }
 
 /// pic_order_cnt_type, with the elements that go with it.
-#[derive(Clone, Copy, PartialEq, Eq)]
+#[derive(Clone, Copy, PartialEq)]
 pub enum CountType {
     /// Type 0: counts come from pic_order_cnt_lsb.
     Lsb {

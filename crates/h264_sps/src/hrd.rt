@@ -11,7 +11,7 @@ use h264_bits::Bits;
 use h264_bits::forms::{flag_value, u_values, ue_up_to, ue_values};
 
 /// One coded picture buffer.
-#[derive(Clone, Copy, PartialEq, Eq)]
+#[derive(Clone, Copy, PartialEq)]
 pub struct Cpb {
     pub bit_rate_value_minus1: u32,
     pub cpb_size_value_minus1: u32,
@@ -19,7 +19,7 @@ pub struct Cpb {
 }
 
 /// Coded picture buffers: `count` of them, and zeros behind them.
-#[derive(Clone, Copy, PartialEq, Eq)]
+#[derive(Clone, Copy, PartialEq)]
 pub struct Cpbs {
     pub entries: [Cpb; 32],
     /// 1 to 32.
@@ -27,7 +27,7 @@ pub struct Cpbs {
 }
 
 /// HRD parameters. They are kept, and not judged.
-#[derive(Clone, Copy, PartialEq, Eq)]
+#[derive(Clone, Copy, PartialEq)]
 pub struct Hrd {
     pub bit_rate_scale: u32,
     pub cpb_size_scale: u32,

@@ -252,15 +252,15 @@ fn read_vui_info<S: Elements>(
     requires { S.failures sink.old < 2 ^ 64 - 1 }
     ensures { Meets S.took S.failures (Is (λ x. x)) (flagged (flag VuiParametersPresentFlag) (vui max_num_ref_frames max_dpb_frames)) bits.old bits.new sink.old sink.new result }
 {
-    let present = flag_value(bits, ElementName::VuiParametersPresentFlag, sink)?;
-    if !present {
-        return Ok(None);
-    }
     let frames = Frames {
         max_num_ref_frames,
         max_dpb_frames,
     };
-    there(read_vui(frames, bits, sink))
+    match flag_value(bits, ElementName::VuiParametersPresentFlag, sink) {
+        Ok(true) => there(read_vui(frames, bits, sink)),
+        Ok(false) => Ok(None),
+        Err(stop) => Err(stop),
+    }
 }
 
 /// The set from the cropping flag on.

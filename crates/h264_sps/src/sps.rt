@@ -5,7 +5,7 @@ use crate::count_type::CountType;
 use crate::vui::Vui;
 
 /// constraint_set0_flag to constraint_set5_flag (7.4.2.1.1).
-#[derive(Clone, Copy, PartialEq, Eq)]
+#[derive(Clone, Copy, PartialEq)]
 pub struct ConstraintSetFlags {
     pub set0: bool,
     pub set1: bool,
@@ -16,7 +16,7 @@ pub struct ConstraintSetFlags {
 }
 
 /// The size of a frame in macroblocks (7.4.2.1.1): 1 to 543 each, and together at most MaxFS of the level.
-#[derive(Clone, Copy, PartialEq, Eq)]
+#[derive(Clone, Copy, PartialEq)]
 pub struct FrameSize {
     /// PicWidthInMbs.
     pub width: u32,
@@ -25,7 +25,7 @@ pub struct FrameSize {
 }
 
 /// How far the cropping rectangle lies inside the frame, in chroma samples; in luma samples it is twice as much.
-#[derive(Clone, Copy, PartialEq, Eq)]
+#[derive(Clone, Copy, PartialEq)]
 pub struct FrameCropping {
     pub left: u32,
     pub right: u32,
@@ -34,7 +34,7 @@ pub struct FrameCropping {
 }
 
 /// A sequence parameter set. Two sets have the same content where all fields are equal.
-#[derive(Clone, Copy, PartialEq, Eq)]
+#[derive(Clone, Copy, PartialEq)]
 pub struct Sps {
     /// 66, 77 or 88.
     pub profile_idc: u32,

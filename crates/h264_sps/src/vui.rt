@@ -19,7 +19,7 @@ use h264_bits::{Bits, check, read_ue};
 const EXTENDED_SAR: u32 = 255;
 
 /// The shape of a sample.
-#[derive(Clone, Copy, PartialEq, Eq)]
+#[derive(Clone, Copy, PartialEq)]
 pub struct SampleAspectRatio {
     pub aspect_ratio_idc: u32,
     /// The width and the height, where aspect_ratio_idc is 255.
@@ -27,14 +27,14 @@ pub struct SampleAspectRatio {
 }
 
 /// sar_width and sar_height.
-#[derive(Clone, Copy, PartialEq, Eq)]
+#[derive(Clone, Copy, PartialEq)]
 pub struct ExtendedRatio {
     pub sar_width: u32,
     pub sar_height: u32,
 }
 
 /// The kind of video signal.
-#[derive(Clone, Copy, PartialEq, Eq)]
+#[derive(Clone, Copy, PartialEq)]
 pub struct VideoSignalType {
     pub video_format: u32,
     pub video_full_range_flag: bool,
@@ -42,7 +42,7 @@ pub struct VideoSignalType {
 }
 
 /// How colours are meant.
-#[derive(Clone, Copy, PartialEq, Eq)]
+#[derive(Clone, Copy, PartialEq)]
 pub struct ColourDescription {
     pub colour_primaries: u32,
     pub transfer_characteristics: u32,
@@ -50,14 +50,14 @@ pub struct ColourDescription {
 }
 
 /// Where chroma samples lie.
-#[derive(Clone, Copy, PartialEq, Eq)]
+#[derive(Clone, Copy, PartialEq)]
 pub struct ChromaLocation {
     pub top_field: u32,
     pub bottom_field: u32,
 }
 
 /// The rate of pictures.
-#[derive(Clone, Copy, PartialEq, Eq)]
+#[derive(Clone, Copy, PartialEq)]
 pub struct Timing {
     pub num_units_in_tick: u32,
     pub time_scale: u32,
@@ -65,7 +65,7 @@ pub struct Timing {
 }
 
 /// What a stream restricts itself to.
-#[derive(Clone, Copy, PartialEq, Eq)]
+#[derive(Clone, Copy, PartialEq)]
 pub struct BitstreamRestriction {
     pub motion_vectors_over_pic_boundaries_flag: bool,
     pub max_bytes_per_pic_denom: u32,
@@ -79,7 +79,7 @@ pub struct BitstreamRestriction {
 }
 
 /// Video usability information. Values but those of the buffer are kept, and not judged.
-#[derive(Clone, Copy, PartialEq, Eq)]
+#[derive(Clone, Copy, PartialEq)]
 pub struct Vui {
     pub sample_aspect_ratio: Option<SampleAspectRatio>,
     pub overscan_appropriate_flag: Option<bool>,
@@ -267,11 +267,11 @@ fn read_overscan_info<S: Elements>(bits: &mut Bits, sink: &mut S) -> Result<Opti
     requires { S.failures sink.old < 2 ^ 64 - 1 }
     ensures { Meets S.took S.failures (Is (λ x. x)) (flagged (flag OverscanInfoPresentFlag) (flag OverscanAppropriateFlag)) bits.old bits.new sink.old sink.new result }
 {
-    let present = flag_value(bits, ElementName::OverscanInfoPresentFlag, sink)?;
-    if !present {
-        return Ok(None);
+    match flag_value(bits, ElementName::OverscanInfoPresentFlag, sink) {
+        Ok(true) => there(flag_value(bits, ElementName::OverscanAppropriateFlag, sink)),
+        Ok(false) => Ok(None),
+        Err(stop) => Err(stop),
     }
-    there(flag_value(bits, ElementName::OverscanAppropriateFlag, sink))
 }
 
 /// The kind of video signal, where it is present.
@@ -282,11 +282,11 @@ fn read_signal_info<S: Elements>(
     requires { S.failures sink.old < 2 ^ 64 - 1 }
     ensures { Meets S.took S.failures (Is (λ x. x)) (flagged (flag VideoSignalTypePresentFlag) video_signal_type) bits.old bits.new sink.old sink.new result }
 {
-    let present = flag_value(bits, ElementName::VideoSignalTypePresentFlag, sink)?;
-    if !present {
-        return Ok(None);
+    match flag_value(bits, ElementName::VideoSignalTypePresentFlag, sink) {
+        Ok(true) => there(read_video_signal_type(bits, sink)),
+        Ok(false) => Ok(None),
+        Err(stop) => Err(stop),
     }
-    there(read_video_signal_type(bits, sink))
 }
 
 /// Where chroma samples lie, where it is present.
@@ -340,11 +340,11 @@ fn read_hrd_info<S: Elements>(
     requires { S.failures sink.old < 2 ^ 64 - 1 }
     ensures { Meets S.took S.failures (Is (λ x. x)) (flagged (flag flag_name) hrd) bits.old bits.new sink.old sink.new result }
 {
-    let present = flag_value(bits, flag_name, sink)?;
-    if !present {
-        return Ok(None);
+    match flag_value(bits, flag_name, sink) {
+        Ok(true) => there(read_hrd(bits, sink)),
+        Ok(false) => Ok(None),
+        Err(stop) => Err(stop),
     }
-    there(read_hrd(bits, sink))
 }
 
 /// Whether HRD parameters of either kind are present.
@@ -378,11 +378,11 @@ fn read_restriction<S: Elements>(
     requires { S.failures sink.old < 2 ^ 64 - 1 }
     ensures { Meets S.took S.failures (Is (λ x. x)) (flagged (flag BitstreamRestrictionFlag) (bitstream_restriction frames.max_num_ref_frames frames.max_dpb_frames)) bits.old bits.new sink.old sink.new result }
 {
-    let present = flag_value(bits, ElementName::BitstreamRestrictionFlag, sink)?;
-    if !present {
-        return Ok(None);
+    match flag_value(bits, ElementName::BitstreamRestrictionFlag, sink) {
+        Ok(true) => there(read_bitstream_restriction(frames, bits, sink)),
+        Ok(false) => Ok(None),
+        Err(stop) => Err(stop),
     }
-    there(read_bitstream_restriction(frames, bits, sink))
 }
 
 /// The VUI from pic_struct_present_flag on.

@@ -1,13 +1,13 @@
 use Rattle.std.proofs.Common.{rules, refl}
-use Rattle.std.proofs.lemmas.Result.{err_from_is_err_and}
 use Rattle.h264_base.proofs.Steps.{bind, stop, done}
 use Rattle.h264_sps.specs.Counting.{counting, of_type}
 use Rattle.h264_sps.proofs.Types.{of_type-other}
+use Rattle.h264_sps.proofs.Ways.{passed-on}
 use Rattle.h264_sps.proofs.count_type.read_count_type.Goals as goal
 
 pub returns-in_err-kind : goal.returns-in_err-kind
 unfolding counting
-returns-in_err-kind g c = let p = err_from_is_err_and c.from_residual.result c.from_residual.ensures.1 in rw (p.1, p.2) (stop _ c.in_err-kind.ensures.meets)
+returns-in_err-kind g c = passed-on _ c.from_residual.ensures.1 (stop _ c.in_err-kind.ensures.meets)
 
 pub returns-in-0 : goal.returns-in-0
 unfolding counting of_type

@@ -1,6 +1,5 @@
 use Rattle.std.proofs.Common.{rules, arith, ◌≡◌, ◌+◌, ◌∙◌, pos, take, refl, length-set}
 use Rattle.std.proofs.lemmas.List.{take_more_set, drop-set-lt}
-use Rattle.std.proofs.lemmas.Result.{err_from_is_err_and}
 use Rattle.std.proofs.lemmas.Int.{to_z-of_z}
 use Rattle.std.specs.Int.{w32}
 use mir.Val.{SFits}
@@ -9,13 +8,14 @@ use Rattle.h264_base.proofs.Steps.{kept}
 use Rattle.h264_bits.specs.Forms.{signed}
 use Rattle.h264_bits.proofs.Repeated.{repeated-starts, repeated-next, repeated-stop, repeated-over, rest-kept}
 use Rattle.h264_sps.proofs.Padded.{cycle-is}
+use Rattle.h264_sps.proofs.Ways.{passed-on}
 use Rattle.h264_sps.proofs.count_type.read_cycle.Goals as goal
 
 pub loop-i-init : goal.loop-i-init
 loop-i-init g c = record { rest = repeated-starts (signed OffsetForRefFrame) c.args.length _ _ _ refl; sized = refl; behind = refl; room = c.requires.room }
 
 pub returns-in_err-offset : goal.returns-in_err-offset
-returns-in_err-offset g c = let p = err_from_is_err_and c.from_residual.result c.from_residual.ensures.1 in rw (p.1, p.2) (repeated-stop (signed OffsetForRefFrame) c.args.length c.loop-i.i (take c.loop-i.i c.loop-i.offset_for_ref_frame) c.loop-i-test.true c.loop-i.invariant.rest c.in_err-offset.ensures)
+returns-in_err-offset g c = passed-on _ c.from_residual.ensures.1 (repeated-stop (signed OffsetForRefFrame) c.args.length c.loop-i.i (take c.loop-i.i c.loop-i.offset_for_ref_frame) c.loop-i-test.true c.loop-i.invariant.rest c.in_err-offset.ensures)
 
 pub loop-i-preserved : goal.loop-i-preserved
 loop-i-preserved g c =

@@ -1,14 +1,14 @@
 use Rattle.std.proofs.Common.{refl}
-use Rattle.std.proofs.lemmas.Result.{err_from_is_err_and}
 use Rattle.h264_base.proofs.Steps.{bind, stop, done}
 use Rattle.h264_sps.proofs.Regroup.{cpb-by_values}
+use Rattle.h264_sps.proofs.Ways.{passed-on, as-parts}
 use Rattle.h264_sps.proofs.hrd.read_cpb.Goals as goal
 
 pub returns-in_err-bit_rate : goal.returns-in_err-bit_rate
-returns-in_err-bit_rate g c = let p = err_from_is_err_and c.from_residual.result c.from_residual.ensures.1 in rw (p.1, p.2) (rw cpb-by_values (stop _ c.in_err-bit_rate.ensures))
+returns-in_err-bit_rate g c = passed-on _ c.from_residual.ensures.1 (as-parts cpb-by_values (stop _ c.in_err-bit_rate.ensures))
 
 pub returns-in_err-constant : goal.returns-in_err-constant
-returns-in_err-constant g c = let p = err_from_is_err_and c.from_residual-in_err-constant.result c.from_residual-in_err-constant.ensures.1 in rw (p.1, p.2) (rw cpb-by_values (bind _ c.in_ok-bit_rate.ensures (stop _ c.in_err-constant.ensures)))
+returns-in_err-constant g c = passed-on _ c.from_residual-in_err-constant.ensures.1 (as-parts cpb-by_values (bind _ c.in_ok-bit_rate.ensures (stop _ c.in_err-constant.ensures)))
 
 pub returns : goal.returns
-returns g c = rw cpb-by_values (bind _ c.in_ok-bit_rate.ensures (bind _ c.in_ok-constant.ensures (done _ _ _ _ _ _ _ refl)))
+returns g c = as-parts cpb-by_values (bind _ c.in_ok-bit_rate.ensures (bind _ c.in_ok-constant.ensures (done _ _ _ _ _ _ _ refl)))

@@ -1,17 +1,17 @@
 use Rattle.std.proofs.Common.{arith, ◌≡◌, ◌+◌, ◌∙◌, take, refl, length-set}
 use Rattle.std.proofs.lemmas.List.{take_more_set, drop-set-lt}
-use Rattle.std.proofs.lemmas.Result.{err_from_is_err_and}
 use Rattle.h264_base.proofs.Steps.{kept}
 use Rattle.h264_sps.specs.Hrd.{cpb, no_cpb}
 use Rattle.h264_bits.proofs.Repeated.{repeated-starts, repeated-next, repeated-stop, repeated-over, rest-kept}
 use Rattle.h264_sps.proofs.Padded.{cpbs-are}
+use Rattle.h264_sps.proofs.Ways.{passed-on}
 use Rattle.h264_sps.proofs.hrd.read_cpbs.Goals as goal
 
 pub loop-i-init : goal.loop-i-init
 loop-i-init g c = record { rest = repeated-starts cpb c.args.count _ _ _ refl; sized = refl; behind = refl; room = c.requires.room }
 
 pub returns-in_err-next : goal.returns-in_err-next
-returns-in_err-next g c = let p = err_from_is_err_and c.from_residual.result c.from_residual.ensures.1 in rw (p.1, p.2) (repeated-stop cpb c.args.count c.loop-i.i (take c.loop-i.i c.loop-i.entries) c.loop-i-test.true c.loop-i.invariant.rest c.in_err-next.ensures)
+returns-in_err-next g c = passed-on _ c.from_residual.ensures.1 (repeated-stop cpb c.args.count c.loop-i.i (take c.loop-i.i c.loop-i.entries) c.loop-i-test.true c.loop-i.invariant.rest c.in_err-next.ensures)
 
 pub loop-i-preserved : goal.loop-i-preserved
 loop-i-preserved g c =

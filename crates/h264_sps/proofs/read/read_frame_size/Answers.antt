@@ -1,17 +1,17 @@
 use Rattle.std.proofs.Common.{refl, ◌∙◌, sym}
-use Rattle.std.proofs.lemmas.Result.{err_from_is_err_and}
 use Rattle.h264_base.proofs.Steps.{bind, stop, done, checked}
 use Rattle.h264_sps.specs.Sps.{fits, frame_size}
 use Rattle.h264_sps.proofs.Regroup.{by-run, four-checks, found-some, found-none}
+use Rattle.h264_sps.proofs.Ways.{passed-on}
 use Rattle.h264_sps.proofs.read.read_frame_size.Goals as goal
 
 pub returns-in_err-width_minus1-clause-meets : goal.returns-in_err-width_minus1-clause-meets
 unfolding frame_size
-returns-in_err-width_minus1-clause-meets g c = let p = err_from_is_err_and c.from_residual.result c.from_residual.ensures.1 in rw (p.1, p.2) (stop _ c.in_err-width_minus1.ensures.meets)
+returns-in_err-width_minus1-clause-meets g c = passed-on _ c.from_residual.ensures.1 (stop _ c.in_err-width_minus1.ensures.meets)
 
 pub returns-in_err-height_minus1-clause-meets : goal.returns-in_err-height_minus1-clause-meets
 unfolding frame_size
-returns-in_err-height_minus1-clause-meets g c = let p = err_from_is_err_and c.from_residual-in_err-height_minus1.result c.from_residual-in_err-height_minus1.ensures.1 in rw (p.1, p.2) (bind _ c.in_ok-width_minus1.ensures.meets (stop _ c.in_err-height_minus1.ensures.meets))
+returns-in_err-height_minus1-clause-meets g c = passed-on _ c.from_residual-in_err-height_minus1.ensures.1 (bind _ c.in_ok-width_minus1.ensures.meets (stop _ c.in_err-height_minus1.ensures.meets))
 
 pub returns-in-Some-clause-meets : goal.returns-in-Some-clause-meets
 unfolding frame_size fits

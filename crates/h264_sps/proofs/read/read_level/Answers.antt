@@ -1,17 +1,17 @@
 use Rattle.std.proofs.Common.{refl, ◌∙◌, sym}
-use Rattle.std.proofs.lemmas.Result.{err_from_is_err_and}
 use Rattle.h264_base.proofs.Steps.{bind, stop, done, checked}
 use Rattle.h264_bits.proofs.Supported.{supported}
 use Rattle.h264_sps.specs.Sps.{level}
+use Rattle.h264_sps.proofs.Ways.{passed-on}
 use Rattle.h264_sps.proofs.read.read_level.Goals as goal
 
 pub returns-in_err-level : goal.returns-in_err-level
 unfolding level
-returns-in_err-level g c = let p = err_from_is_err_and c.from_residual.result c.from_residual.ensures.1 in rw (p.1, p.2) (stop _ c.in_err-level.ensures.meets)
+returns-in_err-level g c = passed-on _ c.from_residual.ensures.1 (stop _ c.in_err-level.ensures.meets)
 
 pub returns-in_err-support : goal.returns-in_err-support
 unfolding level
-returns-in_err-support g c = let p = err_from_is_err_and c.from_residual-in_err-support.result c.from_residual-in_err-support.ensures.1 in rw (p.1, p.2) (bind _ c.in_ok-level.ensures.meets (stop _ (supported _ _ _ _ (rw c.is_level_6.ensures at c.in_err-support.ensures))))
+returns-in_err-support g c = passed-on _ c.from_residual-in_err-support.ensures.1 (bind _ c.in_ok-level.ensures.meets (stop _ (supported _ _ _ _ (rw c.is_level_6.ensures at c.in_err-support.ensures))))
 
 pub returns-in-Some : goal.returns-in-Some
 unfolding level

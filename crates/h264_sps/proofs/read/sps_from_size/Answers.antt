@@ -1,19 +1,19 @@
-use Rattle.std.proofs.lemmas.Result.{err_from_is_err_and}
 use Rattle.h264_base.proofs.Steps.{bind, stop}
 use Rattle.h264_sps.specs.Parts.{sps_from_size}
+use Rattle.h264_sps.proofs.Ways.{passed-on}
 use Rattle.h264_sps.proofs.read.sps_from_size.Goals as goal
 
 pub returns-in_err-size-clause-meets : goal.returns-in_err-size-clause-meets
 unfolding sps_from_size
-returns-in_err-size-clause-meets g c = let p = err_from_is_err_and c.from_residual.result c.from_residual.ensures.1 in rw (p.1, p.2) (stop _ c.in_err-size.ensures.meets)
+returns-in_err-size-clause-meets g c = passed-on _ c.from_residual.ensures.1 (stop _ c.in_err-size.ensures.meets)
 
 pub returns-in_err-u_must_be-clause-meets : goal.returns-in_err-u_must_be-clause-meets
 unfolding sps_from_size
-returns-in_err-u_must_be-clause-meets g c = let p = err_from_is_err_and c.from_residual-in_err-u_must_be.result c.from_residual-in_err-u_must_be.ensures.1 in rw (p.1, p.2) (bind _ c.in_ok-size.ensures.meets (stop _ c.in_err-u_must_be.ensures))
+returns-in_err-u_must_be-clause-meets g c = passed-on _ c.from_residual-in_err-u_must_be.ensures.1 (bind _ c.in_ok-size.ensures.meets (stop _ c.in_err-u_must_be.ensures))
 
 pub returns-in_err-direct-clause-meets : goal.returns-in_err-direct-clause-meets
 unfolding sps_from_size
-returns-in_err-direct-clause-meets g c = let p = err_from_is_err_and c.from_residual-in_err-direct.result c.from_residual-in_err-direct.ensures.1 in rw (p.1, p.2) (bind _ c.in_ok-size.ensures.meets (bind _ c.in_ok-u_must_be.ensures (stop _ c.in_err-direct.ensures)))
+returns-in_err-direct-clause-meets g c = passed-on _ c.from_residual-in_err-direct.ensures.1 (bind _ c.in_ok-size.ensures.meets (bind _ c.in_ok-u_must_be.ensures (stop _ c.in_err-direct.ensures)))
 
 pub returns-clause-meets : goal.returns-clause-meets
 unfolding sps_from_size

@@ -1,21 +1,27 @@
-use Rattle.std.proofs.lemmas.Result.{err_from_is_err_and}
+use Rattle.std.proofs.Common.{◌≡◌, ◌≤◌}
+use Rattle.std.proofs.lemmas.Result.{IfOk-weaker}
 use Rattle.h264_base.proofs.Steps.{bind, stop}
+use Rattle.h264_sps.specs.declared.sps.Sps.{Sps}
 use Rattle.h264_sps.specs.Sps.{sps}
 use Rattle.h264_sps.specs.Parts.{sps_from_counting, sps_from_size, sps_from_cropping}
+use Rattle.h264_sps.proofs.Ways.{passed-on}
 use Rattle.h264_sps.proofs.read.sps_steps.Goals as goal
 
 pub returns-in_err-front-clause-meets : goal.returns-in_err-front-clause-meets
 unfolding sps sps_from_counting sps_from_size sps_from_cropping
-returns-in_err-front-clause-meets g c = let p = err_from_is_err_and c.from_residual.result c.from_residual.ensures.1 in rw (p.1, p.2) (stop _ c.in_err-front.ensures)
+returns-in_err-front-clause-meets g c = passed-on _ c.from_residual.ensures.1 (stop _ c.in_err-front.ensures)
 
 pub returns-in_err-id-clause-meets : goal.returns-in_err-id-clause-meets
 unfolding sps sps_from_counting sps_from_size sps_from_cropping
-returns-in_err-id-clause-meets g c = let p = err_from_is_err_and c.from_residual-in_err-id.result c.from_residual-in_err-id.ensures.1 in rw (p.1, p.2) (bind _ c.in_ok-front.ensures (stop _ c.in_err-id.ensures.meets))
+returns-in_err-id-clause-meets g c = passed-on _ c.from_residual-in_err-id.ensures.1 (bind _ c.in_ok-front.ensures (stop _ c.in_err-id.ensures.meets))
 
 pub returns-in_err-log2_minus4-clause-meets : goal.returns-in_err-log2_minus4-clause-meets
 unfolding sps sps_from_counting sps_from_size sps_from_cropping
-returns-in_err-log2_minus4-clause-meets g c = let p = err_from_is_err_and c.from_residual-in_err-log2_minus4.result c.from_residual-in_err-log2_minus4.ensures.1 in rw (p.1, p.2) (bind _ c.in_ok-front.ensures (bind _ c.in_ok-id.ensures.meets (stop _ c.in_err-log2_minus4.ensures.meets)))
+returns-in_err-log2_minus4-clause-meets g c = passed-on _ c.from_residual-in_err-log2_minus4.ensures.1 (bind _ c.in_ok-front.ensures (bind _ c.in_ok-id.ensures.meets (stop _ c.in_err-log2_minus4.ensures.meets)))
 
 pub returns-clause-meets : goal.returns-clause-meets
 unfolding sps sps_from_counting sps_from_size sps_from_cropping
 returns-clause-meets g c = bind _ c.in_ok-front.ensures (bind _ c.in_ok-id.ensures.meets (bind _ c.in_ok-log2_minus4.ensures.meets (c.sps_from_counting.ensures.meets)))
+
+pub returns-clause-id : goal.returns-clause-id
+returns-clause-id g c = IfOk-weaker _ (λ (s : Sps). s.seq_parameter_set_id ≡ c.in_ok-id.id) (λ (s : Sps). s.seq_parameter_set_id ≤ 31) (λ s e. rw e c.in_ok-id.ensures.within) c.sps_from_counting.ensures.id

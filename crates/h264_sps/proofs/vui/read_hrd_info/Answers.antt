@@ -1,19 +1,16 @@
-use Rattle.std.proofs.Common.{refl}
-use Rattle.std.proofs.lemmas.Result.{err_from_is_err_and}
-use Rattle.h264_base.proofs.Steps.{bind, stop, done}
+use Rattle.h264_base.proofs.Steps.{bind, stop}
 use Rattle.h264_sps.specs.Vui.{flagged}
-use Rattle.h264_bits.specs.Forms.{optional}
-use Rattle.h264_sps.proofs.Regroup.{there-either}
+use Rattle.h264_sps.proofs.Ways.{absent, there}
 use Rattle.h264_sps.proofs.vui.read_hrd_info.Goals as goal
 
-pub returns-in_err-present : goal.returns-in_err-present
-unfolding flagged optional
-returns-in_err-present g c = let p = err_from_is_err_and c.from_residual.result c.from_residual.ensures.1 in rw (p.1, p.2) (stop _ c.in_err-present.ensures)
-
-pub returns-then-not-present : goal.returns-then-not-present
-unfolding flagged optional
-returns-then-not-present g c = bind _ c.in_ok-present.ensures (rw c.if-not-present.true (done _ _ _ _ _ _ _ refl))
-
-pub returns : goal.returns
+pub returns-in-Ok-true : goal.returns-in-Ok-true
 unfolding flagged
-returns g c = bind _ c.in_ok-present.ensures (rw c.if-not-present.false (rw c.there.ensures (there-either _ c.read_hrd.ensures)))
+returns-in-Ok-true g c = bind _ c.in-Ok-true.ensures (there c.in-Ok-true.field-0-test c.there.ensures c.read_hrd.ensures)
+
+pub returns-in-Ok-false : goal.returns-in-Ok-false
+unfolding flagged
+returns-in-Ok-false g c = bind _ c.in-Ok-false.ensures (absent _ c.in-Ok-false.field-0-test)
+
+pub returns-in-Err : goal.returns-in-Err
+unfolding flagged
+returns-in-Err g c = stop _ c.in-Err.ensures

@@ -1,20 +1,20 @@
-use Rattle.std.proofs.lemmas.Result.{err_from_is_err_and}
 use Rattle.h264_base.proofs.Steps.{bind, stop}
 use Rattle.h264_sps.specs.Vui.{vui}
 use Rattle.h264_sps.specs.Parts.{vui_from_location, vui_from_hrd, vui_from_pic_struct}
+use Rattle.h264_sps.proofs.Ways.{passed-on}
 use Rattle.h264_sps.proofs.vui.read_vui.Goals as goal
 
 pub returns-in_err-ratio : goal.returns-in_err-ratio
 unfolding vui vui_from_location vui_from_hrd vui_from_pic_struct
-returns-in_err-ratio g c = let p = err_from_is_err_and c.from_residual.result c.from_residual.ensures.1 in rw (p.1, p.2) (stop _ c.in_err-ratio.ensures)
+returns-in_err-ratio g c = passed-on _ c.from_residual.ensures.1 (stop _ c.in_err-ratio.ensures)
 
 pub returns-in_err-overscan : goal.returns-in_err-overscan
 unfolding vui vui_from_location vui_from_hrd vui_from_pic_struct
-returns-in_err-overscan g c = let p = err_from_is_err_and c.from_residual-in_err-overscan.result c.from_residual-in_err-overscan.ensures.1 in rw (p.1, p.2) (bind _ c.in_ok-ratio.ensures (stop _ c.in_err-overscan.ensures))
+returns-in_err-overscan g c = passed-on _ c.from_residual-in_err-overscan.ensures.1 (bind _ c.in_ok-ratio.ensures (stop _ c.in_err-overscan.ensures))
 
 pub returns-in_err-signal : goal.returns-in_err-signal
 unfolding vui vui_from_location vui_from_hrd vui_from_pic_struct
-returns-in_err-signal g c = let p = err_from_is_err_and c.from_residual-in_err-signal.result c.from_residual-in_err-signal.ensures.1 in rw (p.1, p.2) (bind _ c.in_ok-ratio.ensures (bind _ c.in_ok-overscan.ensures (stop _ c.in_err-signal.ensures)))
+returns-in_err-signal g c = passed-on _ c.from_residual-in_err-signal.ensures.1 (bind _ c.in_ok-ratio.ensures (bind _ c.in_ok-overscan.ensures (stop _ c.in_err-signal.ensures)))
 
 pub returns : goal.returns
 unfolding vui vui_from_location vui_from_hrd vui_from_pic_struct

@@ -1,19 +1,19 @@
-use Rattle.std.proofs.lemmas.Result.{err_from_is_err_and}
 use Rattle.h264_base.proofs.Steps.{bind, stop}
 use Rattle.h264_sps.specs.Parts.{vui_from_hrd}
+use Rattle.h264_sps.proofs.Ways.{passed-on}
 use Rattle.h264_sps.proofs.vui.vui_from_hrd.Goals as goal
 
 pub returns-in_err-nal : goal.returns-in_err-nal
 unfolding vui_from_hrd
-returns-in_err-nal g c = let p = err_from_is_err_and c.from_residual.result c.from_residual.ensures.1 in rw (p.1, p.2) (stop _ c.in_err-nal.ensures)
+returns-in_err-nal g c = passed-on _ c.from_residual.ensures.1 (stop _ c.in_err-nal.ensures)
 
 pub returns-in_err-vcl : goal.returns-in_err-vcl
 unfolding vui_from_hrd
-returns-in_err-vcl g c = let p = err_from_is_err_and c.from_residual-in_err-vcl.result c.from_residual-in_err-vcl.ensures.1 in rw (p.1, p.2) (bind _ c.in_ok-nal.ensures (stop _ c.in_err-vcl.ensures))
+returns-in_err-vcl g c = passed-on _ c.from_residual-in_err-vcl.ensures.1 (bind _ c.in_ok-nal.ensures (stop _ c.in_err-vcl.ensures))
 
 pub returns-in_err-low_delay : goal.returns-in_err-low_delay
 unfolding vui_from_hrd
-returns-in_err-low_delay g c = let p = err_from_is_err_and c.from_residual-in_err-low_delay.result c.from_residual-in_err-low_delay.ensures.1 in rw (p.1, p.2) (bind _ c.in_ok-nal.ensures (bind _ c.in_ok-vcl.ensures (stop _ (rw c.has_hrd.ensures at c.in_err-low_delay.ensures))))
+returns-in_err-low_delay g c = passed-on _ c.from_residual-in_err-low_delay.ensures.1 (bind _ c.in_ok-nal.ensures (bind _ c.in_ok-vcl.ensures (stop _ (rw c.has_hrd.ensures at c.in_err-low_delay.ensures))))
 
 pub returns : goal.returns
 unfolding vui_from_hrd
