@@ -5,6 +5,7 @@ ghost use Rattle.std.specs.Prelude.{◌≡◌};
 ghost use Rattle.h264_tables.specs.Level.{limits_of};
 ghost use Rattle.h264_sets.specs.Usable.{is_frame_size, is_within, crops_within, given_frames, dpb_frames, holds_references, buffers_within, is_usable};
 
+use h264_sps::read::max_dpb_frames;
 use h264_sps::sps::{FrameCropping, FrameSize, Sps};
 use h264_tables::{Limits, limits};
 
@@ -66,14 +67,10 @@ pub fn given_frames(sps: &Sps) -> Option<u32>
 pub fn dpb_frames(sps: &Sps) -> u32
     ensures { result ≡ dpb_frames sps.now }
 {
-    let Some(limits) = limits_of(sps) else {
-        return 0;
-    };
-    let size = sps.frame_size.width as u64 * sps.frame_size.height as u64;
-    if size == 0 {
-        return 0;
+    match limits_of(sps) {
+        None => 0,
+        Some(limits) => max_dpb_frames(limits, sps.frame_size),
     }
-    (limits.max_dpb_mbs as u64 / size).min(16) as u32
 }
 
 /// Whether the picture buffer holds the reference frames.

@@ -1,5 +1,5 @@
 -- Structures, and the same read part by part.
-use Rattle.std.proofs.Common.{◌≡◌, ℕ, ◌+◌, Bool, true, false, ◌&&◌, cond, List, [], ◌∷◌, ◌==◌, get_or, nat_le, Result, Ok, Err, Option, Some, None, refl}
+use Rattle.std.proofs.Common.{◌≡◌, ℕ, ◌+◌, Bool, true, false, ◌&&◌, cond, List, [], ◌∷◌, ◌==◌, get_or, nat_le, Result, Some, None, refl}
 use Rattle.h264_base.specs.declared.element_name.ElementName.TheVariants.{ConstraintSet0Flag, ConstraintSet1Flag, ConstraintSet2Flag, ConstraintSet3Flag, ConstraintSet4Flag, ConstraintSet5Flag, FrameCropLeftOffset, FrameCropRightOffset, FrameCropTopOffset, FrameCropBottomOffset, CpbCntMinus1, BitRateScale, CpbSizeScale, BitRateValueMinus1, CpbSizeValueMinus1, CbrFlag, SarWidth, SarHeight, ColourPrimaries, TransferCharacteristics, MatrixCoefficients, ChromaSampleLocTypeTopField, ChromaSampleLocTypeBottomField, NumUnitsInTick, TimeScale, FixedFrameRateFlag, MotionVectorsOverPicBoundariesFlag, MaxBytesPerPicDenom, MaxBitsPerMbDenom, Log2MaxMvLengthHorizontal, Log2MaxMvLengthVertical, MaxNumReorderFrames, MaxDecFrameBuffering, InitialCpbRemovalDelayLengthMinus1, CpbRemovalDelayLengthMinus1, DpbOutputDelayLengthMinus1, TimeOffsetLength}
 use Rattle.h264_base.specs.declared.rule.Rule.{Rule}
 use Rattle.h264_base.specs.declared.rule.Rule.TheVariants.{Vui as VuiRule}
@@ -9,9 +9,9 @@ use Rattle.h264_base.specs.Call.{Call}
 use Rattle.h264_base.specs.Body.{Body}
 use Rattle.h264_base.specs.Grammar.{Grammar, Done, ◌>>=◌, element, read_word, check}
 use Rattle.h264_base.specs.Run.{run}
-use Rattle.h264_base.specs.Meets.{Reader, Meets, Is}
-use Rattle.h264_base.proofs.Steps.{bind, stop, done, finish, tells-none}
-use Rattle.h264_bits.specs.Forms.{natural, bits, unsigned, flag, unsigned_to, optional, repeated, each}
+use Rattle.h264_base.specs.Meets.{Reader, Meets}
+use Rattle.h264_base.proofs.Steps.{finish, tells-none}
+use Rattle.h264_bits.specs.Forms.{natural, bits, unsigned, flag, unsigned_to, repeated, each}
 use Rattle.h264_sps.specs.declared.hrd.Cpb.{Cpb}
 use Rattle.h264_sps.specs.declared.hrd.Cpbs.{Cpbs}
 use Rattle.h264_sps.specs.declared.hrd.Hrd.{Hrd}
@@ -24,7 +24,7 @@ use Rattle.h264_sps.specs.declared.vui.ChromaLocation.{ChromaLocation}
 use Rattle.h264_sps.specs.declared.vui.Timing.{Timing}
 use Rattle.h264_sps.specs.declared.vui.BitstreamRestriction.{BitstreamRestriction}
 use Rattle.h264_sps.specs.Hrd.{cpb, cpbs_of, hrd}
-use Rattle.h264_sps.specs.Parts.{crop_offsets, there as there_of}
+use Rattle.h264_sps.specs.Parts.{crop_offsets}
 use Rattle.h264_sps.specs.Vui.{extended_ratio, colour_description, chroma_location, timing, bitstream_restriction}
 use Rattle.h264_sps.specs.Sps.{constraint_set_flags, frame_cropping}
 

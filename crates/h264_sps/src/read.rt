@@ -1,7 +1,7 @@
 //! Reading a sequence parameter set (7.3.2.1.1).
 #![tactic(auto)]
 
-ghost use Rattle.std.specs.Prelude.{◌≡◌, ℕ, ◌+◌, ◌*◌, ◌-◌, ◌<◌, ◌≤◌, ◌^◌, IfOk, IfSome, Some, None, cond};
+ghost use Rattle.std.specs.Prelude.{◌≡◌, ℕ, ◌+◌, ◌-◌, ◌<◌, ◌≤◌, ◌^◌, IfOk, Some, None, cond};
 ghost use Rattle.h264_base.specs.Meets.{Meets, Is, Answers};
 ghost use Rattle.h264_base.specs.declared.element_name.ElementName.TheVariants.{FrameCroppingFlag, VuiParametersPresentFlag};
 ghost use Rattle.h264_bits.specs.Forms.{flag};
@@ -127,14 +127,15 @@ fn read_front<S: Elements>(bits: &mut Bits, sink: &mut S) -> Result<Front, Stop>
     })
 }
 
-/// MaxDpbFrames: how many frames of this size the level's picture buffer holds (A.3.1).
+/// MaxDpbFrames: how many frames of this size the level's picture buffer holds (A.3.1); 0 where a frame has no macroblock.
 pub fn max_dpb_frames(limits: Limits, frame_size: FrameSize) -> u32
-    requires width { 0 < frame_size.width }
-    requires height { 0 < frame_size.height }
-    requires fits { frame_size.width * frame_size.height < 2 ^ 32 }
     ensures { result ≡ max_dpb_frames_of limits frame_size }
 {
-    (limits.max_dpb_mbs / (frame_size.width * frame_size.height)).min(16)
+    let macroblocks = frame_size.width as u64 * frame_size.height as u64;
+    if macroblocks == 0 {
+        return 0;
+    }
+    (limits.max_dpb_mbs as u64 / macroblocks).min(16) as u32
 }
 
 /// The size of a frame, where the level allows it, and the reference frames in its picture buffer.
@@ -146,9 +147,7 @@ fn allowed_size(
 ) -> Option<FrameSize>
     requires across { (0 < width) × (width ≤ 2 ^ 32) }
     requires down { (0 < height) × (height ≤ 2 ^ 32) }
-    ensures is { result ≡ cond (is_size_allowed limits max_num_ref_frames (record { width = width; height = height })) (Some (record { width = width; height = height })) None }
-    ensures some { IfSome result (λ s. (0 < s.width) × (0 < s.height)) }
-    ensures fits { IfSome result (λ s. s.width * s.height < 2 ^ 32) }
+    ensures { result ≡ cond (is_size_allowed limits max_num_ref_frames (record { width = width; height = height })) (Some (record { width = width; height = height })) None }
 {
     let most = limits.max_fs as u64;
     if width > most || height > most {
@@ -176,9 +175,7 @@ fn read_frame_size<S: Elements>(
     sink: &mut S,
 ) -> Result<FrameSize, Stop>
     requires { S.failures sink.old < 2 ^ 64 - 1 }
-    ensures meets { Meets S.took S.failures (Is (λ x. x)) (frame_size limits max_num_ref_frames) bits.old bits.new sink.old sink.new result }
-    ensures some { IfOk result (λ s. (0 < s.width) × (0 < s.height)) }
-    ensures fits { IfOk result (λ s. s.width * s.height < 2 ^ 32) }
+    ensures { Meets S.took S.failures (Is (λ x. x)) (frame_size limits max_num_ref_frames) bits.old bits.new sink.old sink.new result }
 {
     let width_minus1 = read_ue(bits, ElementName::PicWidthInMbsMinus1, sink)?;
     let height_minus1 = read_ue(bits, ElementName::PicHeightInMapUnitsMinus1, sink)?;
@@ -272,9 +269,7 @@ fn sps_from_cropping<S: Elements>(
     bits: &mut Bits,
     sink: &mut S,
 ) -> Result<Sps, Stop>
-    requires some { (0 < size.width) × (0 < size.height) }
-    requires fits { size.width * size.height < 2 ^ 32 }
-    requires room { S.failures sink.old < 2 ^ 64 - 1 }
+    requires { S.failures sink.old < 2 ^ 64 - 1 }
     ensures meets { Meets S.took S.failures (Is (λ x. x)) (sps_from_cropping start.now counted.now size direct) bits.old bits.new sink.old sink.new result }
     ensures id { IfOk result (λ s. s.seq_parameter_set_id ≡ start.now.seq_parameter_set_id) }
 {

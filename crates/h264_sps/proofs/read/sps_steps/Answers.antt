@@ -4,7 +4,7 @@ use Rattle.h264_base.proofs.Steps.{bind, stop}
 use Rattle.h264_sps.specs.declared.sps.Sps.{Sps}
 use Rattle.h264_sps.specs.Sps.{sps}
 use Rattle.h264_sps.specs.Parts.{sps_from_counting, sps_from_size, sps_from_cropping}
-use Rattle.h264_sps.proofs.Ways.{passed-on}
+use Rattle.h264_sps.proofs.Ways.{passed-on, still}
 use Rattle.h264_sps.proofs.read.sps_steps.Goals as goal
 
 pub returns-in_err-front-clause-meets : goal.returns-in_err-front-clause-meets
@@ -25,3 +25,6 @@ returns-clause-meets g c = bind _ c.in_ok-front.ensures (bind _ c.in_ok-id.ensur
 
 pub returns-clause-id : goal.returns-clause-id
 returns-clause-id g c = IfOk-weaker _ (λ (s : Sps). s.seq_parameter_set_id ≡ c.in_ok-id.id) (λ (s : Sps). s.seq_parameter_set_id ≤ 31) (λ s e. rw e c.in_ok-id.ensures.within) c.sps_from_counting.ensures.id
+
+pub sps_from_counting-requires : goal.sps_from_counting-requires
+sps_from_counting-requires g c = still c.in_ok-log2_minus4.ensures.meets (still c.in_ok-id.ensures.meets (still c.in_ok-front.ensures c.requires))

@@ -1,7 +1,7 @@
 use Rattle.h264_base.proofs.Steps.{bind, stop}
 use Rattle.h264_sps.specs.Vui.{vui}
 use Rattle.h264_sps.specs.Parts.{vui_from_location, vui_from_hrd, vui_from_pic_struct}
-use Rattle.h264_sps.proofs.Ways.{passed-on}
+use Rattle.h264_sps.proofs.Ways.{passed-on, still}
 use Rattle.h264_sps.proofs.vui.read_vui.Goals as goal
 
 pub returns-in_err-ratio : goal.returns-in_err-ratio
@@ -19,3 +19,6 @@ returns-in_err-signal g c = passed-on _ c.from_residual-in_err-signal.ensures.1 
 pub returns : goal.returns
 unfolding vui vui_from_location vui_from_hrd vui_from_pic_struct
 returns g c = bind _ c.in_ok-ratio.ensures (bind _ c.in_ok-overscan.ensures (bind _ c.in_ok-signal.ensures (c.vui_from_location.ensures)))
+
+pub vui_from_location-requires : goal.vui_from_location-requires
+vui_from_location-requires g c = still c.in_ok-signal.ensures (still c.in_ok-overscan.ensures (still c.in_ok-ratio.ensures c.requires))

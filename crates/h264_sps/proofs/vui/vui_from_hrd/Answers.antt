@@ -1,6 +1,6 @@
 use Rattle.h264_base.proofs.Steps.{bind, stop}
 use Rattle.h264_sps.specs.Parts.{vui_from_hrd}
-use Rattle.h264_sps.proofs.Ways.{passed-on}
+use Rattle.h264_sps.proofs.Ways.{passed-on, still}
 use Rattle.h264_sps.proofs.vui.vui_from_hrd.Goals as goal
 
 pub returns-in_err-nal : goal.returns-in_err-nal
@@ -18,3 +18,6 @@ returns-in_err-low_delay g c = passed-on _ c.from_residual-in_err-low_delay.ensu
 pub returns : goal.returns
 unfolding vui_from_hrd
 returns g c = bind _ c.in_ok-nal.ensures (bind _ c.in_ok-vcl.ensures (bind _ (rw c.has_hrd.ensures at c.in_ok-low_delay.ensures) (c.vui_from_pic_struct.ensures)))
+
+pub vui_from_pic_struct-requires : goal.vui_from_pic_struct-requires
+vui_from_pic_struct-requires g c = still c.in_ok-low_delay.ensures (still c.in_ok-vcl.ensures (still c.in_ok-nal.ensures c.requires))
