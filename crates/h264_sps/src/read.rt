@@ -6,7 +6,7 @@ ghost use Rattle.h264_base.specs.Meets.{Meets, Is, Answers};
 ghost use Rattle.h264_base.specs.declared.element_name.ElementName.TheVariants.{FrameCroppingFlag, VuiParametersPresentFlag};
 ghost use Rattle.h264_bits.specs.Forms.{flag};
 ghost use Rattle.h264_sps.specs.Vui.{flagged, vui};
-ghost use Rattle.h264_sps.specs.Parts.{crop_offsets, is_size_allowed, sps_from_counting, sps_from_size, sps_from_cropping};
+ghost use Rattle.h264_sps.specs.Parts.{crop_offsets, is_size_allowed, sps_from_size};
 ghost use Rattle.h264_sps.specs.Seen.{level_seen, front_seen};
 ghost use Rattle.h264_sps.specs.Sps.{constraint_set_flags, level, profile_and_level, frame_size, frame_cropping, max_dpb_frames as max_dpb_frames_of, is_judged_profile, is_level_6, sps};
 
@@ -34,17 +34,12 @@ pub(crate) struct Front {
     level: Level,
 }
 
-/// What stands before the way to count.
+/// What stands before the size of a frame.
 #[derive(Clone, Copy)]
 pub(crate) struct Start {
     front: Front,
     seq_parameter_set_id: u32,
     log2_max_frame_num: u32,
-}
-
-/// How pictures are counted, and how many are held for reference.
-#[derive(Clone, Copy)]
-pub(crate) struct Counted {
     count_type: CountType,
     max_num_ref_frames: u32,
     gaps_in_frame_num_value_allowed_flag: bool,
@@ -260,22 +255,19 @@ fn read_vui_info<S: Elements>(
     }
 }
 
-/// The set from the cropping flag on.
-fn sps_from_cropping<S: Elements>(
-    start: &Start,
-    counted: &Counted,
-    size: FrameSize,
-    direct: bool,
-    bits: &mut Bits,
-    sink: &mut S,
-) -> Result<Sps, Stop>
+/// The set from the frame's size on.
+fn sps_from_size<S: Elements>(start: &Start, bits: &mut Bits, sink: &mut S) -> Result<Sps, Stop>
     requires { S.failures sink.old < 2 ^ 64 - 1 }
-    ensures meets { Meets S.took S.failures (Is (λ x. x)) (sps_from_cropping start.now counted.now size direct) bits.old bits.new sink.old sink.new result }
+    ensures meets { Meets S.took S.failures (Is (λ x. x)) (sps_from_size start.now) bits.old bits.new sink.old sink.new result }
     ensures id { IfOk result (λ s. s.seq_parameter_set_id ≡ start.now.seq_parameter_set_id) }
 {
+    let limits = start.front.level.limits;
+    let size = read_frame_size(limits, start.max_num_ref_frames, bits, sink)?;
+    u_must_be::<1, S>(bits, ElementName::FrameMbsOnlyFlag, 1, sink)?;
+    let direct = flag_value(bits, ElementName::Direct8x8InferenceFlag, sink)?;
     let crop = read_crop_info(size, bits, sink)?;
-    let buffer = max_dpb_frames(start.front.level.limits, size);
-    let usability = read_vui_info(counted.max_num_ref_frames, buffer, bits, sink)?;
+    let buffer = max_dpb_frames(limits, size);
+    let usability = read_vui_info(start.max_num_ref_frames, buffer, bits, sink)?;
     read_trailing(bits, sink)?;
     Ok(Sps {
         profile_idc: start.front.profile_idc,
@@ -284,49 +276,14 @@ fn sps_from_cropping<S: Elements>(
         level_idc: start.front.level.level_idc,
         seq_parameter_set_id: start.seq_parameter_set_id,
         log2_max_frame_num: start.log2_max_frame_num,
-        count_type: counted.count_type,
-        max_num_ref_frames: counted.max_num_ref_frames,
-        gaps_in_frame_num_value_allowed_flag: counted.gaps_in_frame_num_value_allowed_flag,
+        count_type: start.count_type,
+        max_num_ref_frames: start.max_num_ref_frames,
+        gaps_in_frame_num_value_allowed_flag: start.gaps_in_frame_num_value_allowed_flag,
         frame_size: size,
         direct_8x8_inference_flag: direct,
         frame_cropping: crop,
         vui: usability,
     })
-}
-
-/// The set from the frame's size on.
-fn sps_from_size<S: Elements>(
-    start: &Start,
-    counted: &Counted,
-    bits: &mut Bits,
-    sink: &mut S,
-) -> Result<Sps, Stop>
-    requires { S.failures sink.old < 2 ^ 64 - 1 }
-    ensures meets { Meets S.took S.failures (Is (λ x. x)) (sps_from_size start.now counted.now) bits.old bits.new sink.old sink.new result }
-    ensures id { IfOk result (λ s. s.seq_parameter_set_id ≡ start.now.seq_parameter_set_id) }
-{
-    let limits = start.front.level.limits;
-    let size = read_frame_size(limits, counted.max_num_ref_frames, bits, sink)?;
-    u_must_be::<1, S>(bits, ElementName::FrameMbsOnlyFlag, 1, sink)?;
-    let direct = flag_value(bits, ElementName::Direct8x8InferenceFlag, sink)?;
-    sps_from_cropping(start, counted, size, direct, bits, sink)
-}
-
-/// The set from pic_order_cnt_type on.
-fn sps_from_counting<S: Elements>(start: &Start, bits: &mut Bits, sink: &mut S) -> Result<Sps, Stop>
-    requires { S.failures sink.old < 2 ^ 64 - 1 }
-    ensures meets { Meets S.took S.failures (Is (λ x. x)) (sps_from_counting start.now) bits.old bits.new sink.old sink.new result }
-    ensures id { IfOk result (λ s. s.seq_parameter_set_id ≡ start.now.seq_parameter_set_id) }
-{
-    let count_type = read_count_type(bits, sink)?;
-    let refs = ue_up_to(bits, ElementName::MaxNumRefFrames, 16, sink)?;
-    let gaps = flag_value(bits, ElementName::GapsInFrameNumValueAllowedFlag, sink)?;
-    let counted = Counted {
-        count_type,
-        max_num_ref_frames: refs,
-        gaps_in_frame_num_value_allowed_flag: gaps,
-    };
-    sps_from_size(start, &counted, bits, sink)
 }
 
 /// The set, element by element.
@@ -338,12 +295,18 @@ fn sps_steps<S: Elements>(bits: &mut Bits, sink: &mut S) -> Result<Sps, Stop>
     let front = read_front(bits, sink)?;
     let id = ue_up_to(bits, ElementName::SeqParameterSetId, 31, sink)?;
     let log2_minus4 = ue_up_to(bits, ElementName::Log2MaxFrameNumMinus4, 12, sink)?;
+    let count_type = read_count_type(bits, sink)?;
+    let refs = ue_up_to(bits, ElementName::MaxNumRefFrames, 16, sink)?;
+    let gaps = flag_value(bits, ElementName::GapsInFrameNumValueAllowedFlag, sink)?;
     let start = Start {
         front,
         seq_parameter_set_id: id,
         log2_max_frame_num: log2_minus4 + 4,
+        count_type,
+        max_num_ref_frames: refs,
+        gaps_in_frame_num_value_allowed_flag: gaps,
     };
-    sps_from_counting(&start, bits, sink)
+    sps_from_size(&start, bits, sink)
 }
 
 /// Reads a sequence parameter set, which is all of the unit's RBSP.

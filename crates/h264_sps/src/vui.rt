@@ -7,7 +7,7 @@ ghost use Rattle.h264_base.specs.Meets.{Meets, Is};
 ghost use Rattle.h264_base.specs.declared.element_name.ElementName.TheVariants.{AspectRatioInfoPresentFlag, OverscanInfoPresentFlag, OverscanAppropriateFlag, VideoSignalTypePresentFlag, ChromaLocInfoPresentFlag, TimingInfoPresentFlag, LowDelayHrdFlag, BitstreamRestrictionFlag};
 ghost use Rattle.h264_bits.specs.Forms.{flag, optional};
 ghost use Rattle.h264_sps.specs.Hrd.{hrd};
-ghost use Rattle.h264_sps.specs.Parts.{is_buffering_allowed, vui_from_location, vui_from_hrd, vui_from_pic_struct, there as there_of};
+ghost use Rattle.h264_sps.specs.Parts.{is_buffering_allowed, vui_from_hrd, there as there_of};
 ghost use Rattle.h264_sps.specs.Vui.{extended_ratio, sample_aspect_ratio, colour_description, video_signal_type, chroma_location, timing, bitstream_restriction, flagged, vui};
 
 use crate::hrd::{Hrd, read_hrd};
@@ -101,27 +101,14 @@ pub(crate) struct Frames {
     pub(crate) max_dpb_frames: u32,
 }
 
-/// How pictures are to be shown.
+/// How pictures are to be shown: what stands before the HRD parameters.
 #[derive(Clone, Copy)]
 pub(crate) struct Shown {
     ratio: Option<SampleAspectRatio>,
     overscan: Option<bool>,
     signal: Option<VideoSignalType>,
-}
-
-/// Where chroma samples lie, and the rate of pictures.
-#[derive(Clone, Copy)]
-pub(crate) struct Timed {
     location: Option<ChromaLocation>,
     time: Option<Timing>,
-}
-
-/// The buffers of a hypothetical reference decoder.
-#[derive(Clone, Copy)]
-pub(crate) struct Buffers {
-    nal: Option<Hrd>,
-    vcl: Option<Hrd>,
-    low_delay: Option<bool>,
 }
 
 /// What was read of a part that is present.
@@ -385,69 +372,33 @@ fn read_restriction<S: Elements>(
     }
 }
 
-/// The VUI from pic_struct_present_flag on.
-fn vui_from_pic_struct<S: Elements>(
+/// The VUI from the HRD parameters on.
+fn vui_from_hrd<S: Elements>(
     shown: &Shown,
-    timed: Timed,
-    buffers: &Buffers,
     frames: Frames,
     bits: &mut Bits,
     sink: &mut S,
 ) -> Result<Vui, Stop>
     requires { S.failures sink.old < 2 ^ 64 - 1 }
-    ensures { Meets S.took S.failures (Is (λ x. x)) (vui_from_pic_struct shown.now timed buffers.now frames) bits.old bits.new sink.old sink.new result }
+    ensures { Meets S.took S.failures (Is (λ x. x)) (vui_from_hrd shown.now frames) bits.old bits.new sink.old sink.new result }
 {
+    let nal = read_hrd_info(ElementName::NalHrdParametersPresentFlag, bits, sink)?;
+    let vcl = read_hrd_info(ElementName::VclHrdParametersPresentFlag, bits, sink)?;
+    let low_delay = read_low_delay(has_hrd(&nal, &vcl), bits, sink)?;
     let pic_struct = flag_value(bits, ElementName::PicStructPresentFlag, sink)?;
     let restriction = read_restriction(frames, bits, sink)?;
     Ok(Vui {
         sample_aspect_ratio: shown.ratio,
         overscan_appropriate_flag: shown.overscan,
         video_signal_type: shown.signal,
-        chroma_location: timed.location,
-        timing: timed.time,
-        nal_hrd: buffers.nal,
-        vcl_hrd: buffers.vcl,
-        low_delay_hrd_flag: buffers.low_delay,
+        chroma_location: shown.location,
+        timing: shown.time,
+        nal_hrd: nal,
+        vcl_hrd: vcl,
+        low_delay_hrd_flag: low_delay,
         pic_struct_present_flag: pic_struct,
         bitstream_restriction: restriction,
     })
-}
-
-/// The VUI from the HRD parameters on.
-fn vui_from_hrd<S: Elements>(
-    shown: &Shown,
-    timed: Timed,
-    frames: Frames,
-    bits: &mut Bits,
-    sink: &mut S,
-) -> Result<Vui, Stop>
-    requires { S.failures sink.old < 2 ^ 64 - 1 }
-    ensures { Meets S.took S.failures (Is (λ x. x)) (vui_from_hrd shown.now timed frames) bits.old bits.new sink.old sink.new result }
-{
-    let nal = read_hrd_info(ElementName::NalHrdParametersPresentFlag, bits, sink)?;
-    let vcl = read_hrd_info(ElementName::VclHrdParametersPresentFlag, bits, sink)?;
-    let low_delay = read_low_delay(has_hrd(&nal, &vcl), bits, sink)?;
-    let buffers = Buffers {
-        nal,
-        vcl,
-        low_delay,
-    };
-    vui_from_pic_struct(shown, timed, &buffers, frames, bits, sink)
-}
-
-/// The VUI from the location of chroma samples on.
-fn vui_from_location<S: Elements>(
-    shown: &Shown,
-    frames: Frames,
-    bits: &mut Bits,
-    sink: &mut S,
-) -> Result<Vui, Stop>
-    requires { S.failures sink.old < 2 ^ 64 - 1 }
-    ensures { Meets S.took S.failures (Is (λ x. x)) (vui_from_location shown.now frames) bits.old bits.new sink.old sink.new result }
-{
-    let location = read_location_info(bits, sink)?;
-    let time = read_timing_info(bits, sink)?;
-    vui_from_hrd(shown, Timed { location, time }, frames, bits, sink)
 }
 
 /// vui_parameters(), of a stream with so many reference frames, at a level whose buffer holds so many frames of its size.
@@ -462,10 +413,14 @@ pub(crate) fn read_vui<S: Elements>(
     let ratio = read_ratio_info(bits, sink)?;
     let overscan = read_overscan_info(bits, sink)?;
     let signal = read_signal_info(bits, sink)?;
+    let location = read_location_info(bits, sink)?;
+    let time = read_timing_info(bits, sink)?;
     let shown = Shown {
         ratio,
         overscan,
         signal,
+        location,
+        time,
     };
-    vui_from_location(&shown, frames, bits, sink)
+    vui_from_hrd(&shown, frames, bits, sink)
 }

@@ -1,4 +1,5 @@
-use Rattle.h264_base.proofs.Steps.{bind, stop}
+use Rattle.std.proofs.Common.{refl}
+use Rattle.h264_base.proofs.Steps.{bind, stop, done}
 use Rattle.h264_sps.specs.Parts.{vui_from_hrd}
 use Rattle.h264_sps.proofs.Ways.{passed-on, still}
 use Rattle.h264_sps.proofs.vui.vui_from_hrd.Goals as goal
@@ -15,9 +16,17 @@ pub returns-in_err-low_delay : goal.returns-in_err-low_delay
 unfolding vui_from_hrd
 returns-in_err-low_delay g c = passed-on _ c.from_residual-in_err-low_delay.ensures.1 (bind _ c.in_ok-nal.ensures (bind _ c.in_ok-vcl.ensures (stop _ (rw c.has_hrd.ensures at c.in_err-low_delay.ensures))))
 
+pub returns-in_err-pic_struct : goal.returns-in_err-pic_struct
+unfolding vui_from_hrd
+returns-in_err-pic_struct g c = passed-on _ c.from_residual-in_err-pic_struct.ensures.1 (bind _ c.in_ok-nal.ensures (bind _ c.in_ok-vcl.ensures (bind _ (rw c.has_hrd.ensures at c.in_ok-low_delay.ensures) (stop _ c.in_err-pic_struct.ensures))))
+
+pub returns-in_err-restriction : goal.returns-in_err-restriction
+unfolding vui_from_hrd
+returns-in_err-restriction g c = passed-on _ c.from_residual-in_err-restriction.ensures.1 (bind _ c.in_ok-nal.ensures (bind _ c.in_ok-vcl.ensures (bind _ (rw c.has_hrd.ensures at c.in_ok-low_delay.ensures) (bind _ c.in_ok-pic_struct.ensures (stop _ c.in_err-restriction.ensures)))))
+
 pub returns : goal.returns
 unfolding vui_from_hrd
-returns g c = bind _ c.in_ok-nal.ensures (bind _ c.in_ok-vcl.ensures (bind _ (rw c.has_hrd.ensures at c.in_ok-low_delay.ensures) (c.vui_from_pic_struct.ensures)))
+returns g c = bind _ c.in_ok-nal.ensures (bind _ c.in_ok-vcl.ensures (bind _ (rw c.has_hrd.ensures at c.in_ok-low_delay.ensures) (bind _ c.in_ok-pic_struct.ensures (bind _ c.in_ok-restriction.ensures (done _ _ _ _ _ _ _ refl)))))
 
-pub vui_from_pic_struct-requires : goal.vui_from_pic_struct-requires
-vui_from_pic_struct-requires g c = still c.in_ok-low_delay.ensures (still c.in_ok-vcl.ensures (still c.in_ok-nal.ensures c.requires))
+pub read_restriction-requires : goal.read_restriction-requires
+read_restriction-requires g c = still c.in_ok-pic_struct.ensures (still (rw c.has_hrd.ensures at c.in_ok-low_delay.ensures) (still c.in_ok-vcl.ensures (still c.in_ok-nal.ensures c.requires)))
