@@ -1,6 +1,6 @@
 -- What a sink took of a stream that was judged, and what its writer holds of it.
-use Rattle.std.proofs.Common.{⊎_elim, ◌≡◌, ℕ, ◌+◌, ◌<◌, Bool, true, false, List, [], ◌∷◌, ◌++◌, Option, None, Some, Result, Ok, Err, ◌⊎◌, inl, inr, refl, sym, ap, ◌∙◌, subst, arith}
-use Rattle.std.proofs.lemmas.List.{append-nil, append_assoc}
+use Rattle.std.proofs.Common.{⊎_elim, ◌≡◌, ℕ, ◌+◌, ◌<◌, Bool, true, false, List, [], ◌++◌, Option, None, Some, Result, Ok, Err, ◌⊎◌, inl, inr, refl, sym, ap, ◌∙◌, subst, arith}
+use Rattle.std.proofs.lemmas.List.{append-nil}
 use Rattle.std.specs.Io.KnownBytes.{Keeps}
 use Rattle.circular_buffer.specs.Buffer.{keep_last}
 use Rattle.h264_base.specs.Call.{Call, OfUnit}
@@ -10,7 +10,7 @@ use Rattle.h264_base.specs.declared.stop.Stop.{Stop}
 use Rattle.h264_base.specs.declared.stop.Stop.TheVariants.{No, Outside, Memory, Read, Write}
 use Rattle.h264_plane.specs.Frames.{no_frame}
 use Rattle.h264_plane.specs.declared.frame.Frame.{Frame}
-use Rattle.h264_report.specs.Sent.{Sends, SendsSome, HoldsSent, Takes, IsBlamed}
+use Rattle.h264_report.specs.Sent.{Sends, HoldsSent, Takes, IsBlamed}
 use Rattle.std.proofs.lemmas.Bool.{false≢true}
 use Rattle.h264_report.specs.Told.{line_of, lines_of, bytes_of, elements_of, IsLine, IsFrame, TookLines, TookFrames}
 use Rattle.h264_report.specs.Written.{OfBytes, IsFront, Answers, Account, calls_in, BreaksOff, IsWritten, Writes, last_line, Lists, trail_text, Checks, Decodes}
@@ -18,7 +18,7 @@ use Rattle.h264_report.specs.declared.listing.Listing.{Listing}
 use Rattle.h264_report.specs.declared.trail.Element.{Element}
 use Rattle.h264_report.proofs.Known.{sends-more, sends-none, sends-keeps, some-behind}
 use Rattle.h264_slices.specs.Telling.{Told, Tells, took_with, calls_of, AreDecoded}
-use Rattle.h264_verify.specs.Verdict.{Verdict, Whole, Front, JudgedBy, Judged}
+use Rattle.h264_verify.specs.Verdict.{Verdict, JudgedBy, Judged}
 use Rattle.h264_verify.specs.declared.judge.Summary.{Summary}
 use Rattle.h264_verify.proofs.Verdicts.{judges-judged, none-judged}
 

@@ -1,12 +1,12 @@
 -- The rows of a picture, counted over its planes.
-use Rattle.std.proofs.Common.{◌≡◌, ℕ, zero, suc, ◌+◌, ◌-◌, ◌/◌, ◌<◌, ◌≤◌, nat_lt, List, [], ◌∷◌, ◌++◌, refl, sym, ap, ap₂, ◌∙◌, arith, true, false}
+use Rattle.std.proofs.Common.{◌≡◌, ℕ, zero, suc, ◌+◌, ◌-◌, ◌/◌, ◌<◌, ◌≤◌, nat_lt, List, ◌++◌, refl, sym, ap, ap₂, ◌∙◌, arith, true, false}
 use Rattle.std.specs.List.{range_with_len, flat_map}
 use Rattle.std.proofs.lemmas.List.{append_assoc, append-nil}
 use Rattle.std.proofs.lemmas.Bool.{cond-true, cond-false}
 use Rattle.std.proofs.lemmas.Bool.Decides.{nat_tests}
 use Rattle.h264_plane.specs.declared.frame.Component.{Component}
 use Rattle.h264_plane.specs.declared.frame.Component.TheVariants.{Y, Cb, Cr}
-use Rattle.h264_plane.specs.Rows.{row_of, rows_of, picture_bytes}
+use Rattle.h264_plane.specs.Rows.{row_of, picture_bytes}
 use Rattle.h264_report.specs.Rows.{row_count, row_at, rows_before}
 
 -- so many numbers from a on, in two parts

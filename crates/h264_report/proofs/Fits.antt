@@ -1,5 +1,5 @@
 -- What it means that a rectangle lies in a frame.
-use Rattle.std.proofs.Common.{◌≡◌, ℕ, ◌+◌, ◌*◌, ◌/◌, ◌≤◌, IsTrue, arith, true}
+use Rattle.std.proofs.Common.{◌≡◌, ◌+◌, ◌*◌, ◌/◌, ◌≤◌, IsTrue, arith}
 use Rattle.std.proofs.lemmas.Bool.Decides.{nat_tests}
 use Rattle.h264_plane.specs.declared.frame.Frame.{Frame}
 use Rattle.h264_dpb.specs.declared.entry.Rectangle.{Rectangle}

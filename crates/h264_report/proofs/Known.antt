@@ -1,8 +1,8 @@
 -- What a writer holds, from one write to the next.
-use Rattle.std.proofs.Common.{◌≡◌, ℕ, ◌<◌, List, [], ◌++◌, length, Option, Some, None, refl, sym, ap, subst, ◌∙◌, arith}
+use Rattle.std.proofs.Common.{◌≡◌, ℕ, List, [], ◌++◌, Option, Some, None, refl, sym, ap, subst, ◌∙◌, arith}
 use Rattle.std.specs.Io.KnownBytes.{Appends, Keeps}
 use Rattle.std.proofs.lemmas.List.{append-nil, append_assoc, length-append}
-use Rattle.h264_report.specs.Sent.{IsProperFront, Sends, SendsFront, SendsSome}
+use Rattle.h264_report.specs.Sent.{Sends, SendsFront, SendsSome}
 
 pub keeps-same : (a : Option (List ℕ)) → Keeps a a
 keeps-same None = tt

@@ -1,10 +1,10 @@
 -- What a sink's writer holds, from one call to the next.
-use Rattle.std.proofs.Common.{Bool, ◌≡◌, Result, Ok, Err, OnOk, OnErr, length, ℕ, ℤ, ◌+◌, ◌<◌, List, [], ◌∷◌, ◌++◌, Option, refl, sym, ap, ◌∙◌, subst, arith}
+use Rattle.std.proofs.Common.{Bool, ◌≡◌, Result, Ok, Err, OnOk, OnErr, ℕ, ℤ, ◌+◌, ◌<◌, List, [], ◌∷◌, ◌++◌, Option, refl, sym, ap, ◌∙◌, subst, arith}
 use Rattle.std.proofs.lemmas.List.{append-nil, length-append}
 use Rattle.h264_base.specs.Call.{Call, OfElement}
 use Rattle.h264_base.specs.declared.element_name.ElementName.{ElementName}
 use Rattle.h264_report.specs.Sent.{Sends, SendsFront, HoldsSent}
-use Rattle.h264_report.specs.Told.{ended, line_of, lines_of, counted, counted_of, bytes_in, bytes_of, elements_in, elements_of, HoldsLines, TookLines, TookFrames, IsLine, IsFrame}
+use Rattle.h264_report.specs.Told.{ended, line_of, lines_of, counted, counted_of, bytes_in, bytes_of, HoldsLines, TookLines, TookFrames, IsFrame}
 use Rattle.h264_report.specs.declared.listing.Listing.{Listing}
 use Rattle.h264_report.specs.declared.listing.Listing.TheVariants as listings
 use Rattle.h264_report.proofs.Known.{sends-is, sends-more, front-is, appends-none}

@@ -1,5 +1,5 @@
 -- What sinks make of the calls of a stream: lines, bytes of frames, and the last elements.
-use Rattle.std.specs.Prelude.{Bool, false, ℕ, ◌+◌, ◌≡◌, ◌∷◌, ◌++◌, ℤ, Option, List, []}
+use Rattle.std.specs.Prelude.{Bool, false, ℕ, ◌+◌, ◌≡◌, ◌∷◌, ◌++◌, Option, List, []}
 use Rattle.h264_base.specs.Call.{Call, OfUnit, OfSlice, OfElement, OfFrame}
 use Rattle.h264_report.specs.Lines.{unit_text, slice_text, frame_text}
 use Rattle.h264_report.specs.Sent.{HoldsSent, IsBlamed}

@@ -1,6 +1,6 @@
 use Rattle.std.proofs.Common.{◌≡◌, true, Some, sym, ◌∙◌, refl, nat_le}
 use Rattle.std.proofs.lemmas.Bool.{le-leb, and_parts}
-use Rattle.h264_sps.specs.Usable.{is_usable}
+use Rattle.h264_sets.specs.Usable.{is_usable}
 use Rattle.h264_sets.specs.Sets.{sps_of, pps_of}
 use Rattle.h264_header.specs.Layout.{has_lengths, is_accepted}
 use Rattle.h264_header.proofs.layout.named_sets.Goals as goal

@@ -1,5 +1,4 @@
-use Rattle.std.proofs.Common.{◌≡◌, ◌<◌, ◌+◌, ap, sym, ◌∙◌, arith, inl, inr, true, false}
-use Rattle.std.proofs.lemmas.Bool.{false≢true}
+use Rattle.std.proofs.Common.{◌+◌, ap, ◌∙◌}
 use Rattle.h264_report.proofs.Accounts.{device-blamed}
 use Rattle.h264_plane.specs.Frames.{no_frame}
 use Rattle.h264_report.specs.Told.{bytes_of}

@@ -1,4 +1,4 @@
-use Rattle.std.proofs.Common.{arith, rules}
+use Rattle.std.proofs.Common.{arith}
 use Rattle.h264_report.proofs.Fits.{inside}
 use Rattle.h264_report.proofs.rows.chroma_row.Goals as goal
 

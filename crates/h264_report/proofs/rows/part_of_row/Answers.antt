@@ -1,4 +1,4 @@
-use Rattle.std.proofs.Common.{◌≡◌, ℕ, ◌+◌, ◌-◌, ◌<◌, ◌≤◌, length, take, drop, arith, ◌∙◌}
+use Rattle.std.proofs.Common.{◌+◌, ◌≤◌, length, arith, ◌∙◌}
 use Rattle.h264_plane.proofs.Rows.{is_row}
 use Rattle.h264_report.proofs.Runs.{length-run, run-at}
 use Rattle.h264_report.proofs.rows.part_of_row.Goals as goal

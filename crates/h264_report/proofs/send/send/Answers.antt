@@ -1,5 +1,5 @@
-use Rattle.std.proofs.Common.{◌≡◌, ◌==◌, true, false, ℕ, ◌+◌, ap, sym, ◌∙◌, ◌<◌, ◌≤◌, List, [], ◌∷◌, ◌++◌, take, drop, length, refl, arith}
-use Rattle.std.proofs.lemmas.List.{append_assoc, append-nil, take-append-drop, length-append, length-drop}
+use Rattle.std.proofs.Common.{◌≡◌, ◌==◌, true, false, ℕ, ◌+◌, ap, sym, ◌∙◌, ◌<◌, List, [], ◌∷◌, ◌++◌, take, drop, length, refl, arith}
+use Rattle.std.proofs.lemmas.List.{append_assoc, append-nil, take-append-drop, length-drop}
 use Rattle.std.proofs.lemmas.Bool.Decides.{nat_tests}
 use Rattle.h264_report.proofs.Known.{sends-none, sends-more, sends-is, appends-then-keeps}
 use Rattle.h264_report.proofs.send.send.Invariants.{Sent}

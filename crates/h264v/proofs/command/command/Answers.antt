@@ -1,4 +1,4 @@
-use Rattle.std.proofs.Common.{◌≡◌, ℕ, ◌+◌, map, string_bytes, refl, ap, sym, ◌∙◌, inl, inr, ⊎_elim, Result, Err, IsErrOf}
+use Rattle.std.proofs.Common.{◌≡◌, ℕ, ◌+◌, map, string_bytes, refl, ap, sym, ◌∙◌, inl, inr, ⊎_elim, Result, IsErrOf}
 use Rattle.h264_base.specs.declared.stop.Stop.{Stop}
 use Rattle.h264_base.specs.declared.stop.Stop.TheVariants.{Write}
 use Rattle.h264_verify.specs.declared.judge.Summary.{Summary}

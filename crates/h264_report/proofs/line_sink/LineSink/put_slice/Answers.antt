@@ -1,4 +1,4 @@
-use Rattle.std.proofs.Common.{◌≡◌, ℕ, ℤ, List, OnOk, string_bytes, subst, w32, ◌+◌, ap, ◌∙◌, arith}
+use Rattle.std.proofs.Common.{◌≡◌, ℕ, ℤ, List, OnOk, string_bytes, subst, w32, ◌+◌, ap, arith}
 use Rattle.std.proofs.lemmas.Int.{to_z-of_z}
 use Rattle.h264_base.specs.Call.{OfSlice}
 use Rattle.h264_report.specs.Told.{line_of, counted}

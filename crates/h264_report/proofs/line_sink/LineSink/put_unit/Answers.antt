@@ -1,4 +1,4 @@
-use Rattle.std.proofs.Common.{◌≡◌, ◌+◌, ap, ◌∙◌, arith}
+use Rattle.std.proofs.Common.{◌≡◌, ◌+◌, ap, arith}
 use Rattle.h264_base.specs.Call.{OfUnit}
 use Rattle.h264_report.specs.Told.{line_of, counted}
 use Rattle.h264_report.proofs.Sinks.{take-line, fail-line, on-ok, on-err}

@@ -1,4 +1,4 @@
-use Rattle.std.proofs.Common.{rules, SFits, w64, ap, sym, ◌∙◌, [], ◌∷◌, ◌++◌}
+use Rattle.std.proofs.Common.{rules, SFits, w64, ap, sym, ◌∙◌, ◌++◌}
 use Rattle.std.proofs.lemmas.Int.{to_z-of_z}
 use Rattle.circular_buffer.specs.Buffer.{keep_last}
 use Rattle.h264_base.specs.Call.{OfElement}

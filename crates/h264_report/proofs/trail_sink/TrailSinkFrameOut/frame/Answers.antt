@@ -1,8 +1,7 @@
-use Rattle.std.proofs.Common.{ap, sym, ◌∙◌, [], ◌∷◌, ◌++◌}
+use Rattle.std.proofs.Common.{ap, sym, ◌∙◌}
 use Rattle.std.proofs.lemmas.List.{append-nil}
 use Rattle.circular_buffer.specs.Buffer.{keep_last}
 use Rattle.h264_report.specs.Told.{elements_of}
-use Rattle.h264_report.proofs.Kept.{keep-keep}
 use Rattle.h264_report.proofs.Calls.{elements-more}
 use Rattle.h264_report.proofs.trail_sink.TrailSinkFrameOut.frame.Goals as goal
 

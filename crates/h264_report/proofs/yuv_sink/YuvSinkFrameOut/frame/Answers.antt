@@ -1,4 +1,4 @@
-use Rattle.std.proofs.Common.{inr, ◌≡◌, ◌+◌, refl, sym, ap, ◌∙◌, [], ◌∷◌, ◌++◌, subst, arith}
+use Rattle.std.proofs.Common.{inr, ◌≡◌, ◌+◌, refl, sym, ap, arith}
 use Rattle.std.proofs.lemmas.List.{append-nil}
 use Rattle.h264_dpb.specs.Shown.{frame_call}
 use Rattle.h264_report.specs.Told.{bytes_of}
