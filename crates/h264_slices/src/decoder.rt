@@ -17,7 +17,7 @@ use h264_vectors::SliceContext;
 use std::alloc::Global;
 
 /// What the frames of a sequence have in common.
-#[derive(Clone, Copy, PartialEq, Eq)]
+#[derive(Clone, Copy, PartialEq)]
 pub struct Format {
     /// Their size.
     pub size: FrameSize,
