@@ -18,7 +18,8 @@ use Rattle.std.proofs.Common.{IsTrue, length, not, Result}
 use Rattle.std.specs.Prelude.{OnOk}
 use Rattle.std.proofs.lemmas.Bool.Decides.{nat_tests}
 use Rattle.h264_header.specs.declared.header.MarkingOperation.{MarkingOperation}
-use Rattle.h264_header.specs.Marking.{operands, operand_name, with_operand, is_repeated, is_operation_allowed}
+use Rattle.h264_header.specs.Marking.{operands, is_repeated, is_operation_allowed}
+use Rattle.h264_header.specs.Parts.{operand_name, with_operand}
 use Rattle.h264_header.specs.RefList.{command, is_command_allowed}
 
 -- what follows where a result is there

@@ -1,8 +1,7 @@
 -- dec_ref_pic_marking() (7.3.3.3), with the rules on its values (7.4.3.3).
-use Rattle.std.specs.Prelude.{ℕ, zero, suc, ◌==◌, ◌&&◌, ◌||◌, nat_le, nat_lt, not, Bool, true, false, Option, Some, None, List, [], length, if◌then◌else◌}
+use Rattle.std.specs.Prelude.{ℕ, zero, suc, ◌==◌, ◌&&◌, ◌||◌, nat_le, nat_lt, not, Bool, true, false, Option, Some, None, List, [], length}
 use Rattle.std.specs.List.{list_any}
 use Rattle.h264_base.specs.declared.element_name.ElementName.TheVariants.{NoOutputOfPriorPicsFlag, LongTermReferenceFlag, AdaptiveRefPicMarkingModeFlag, MemoryManagementControlOperation, DifferenceOfPicNumsMinus1, LongTermPicNum, LongTermFrameIdx, MaxLongTermFrameIdxPlus1}
-use Rattle.h264_base.specs.declared.element_name.ElementName.{ElementName}
 use Rattle.h264_base.specs.declared.rule.Rule.TheVariants.{Range}
 use Rattle.h264_base.specs.Word.{Fixed, Unsigned}
 use Rattle.h264_base.specs.Grammar.{Grammar, Done, ◌>>=◌, element, check}
@@ -45,14 +44,6 @@ operands (suc (suc (suc (suc (suc (suc zero)))))) = do
   index ← unsigned LongTermFrameIdx
   Done (Some (MakeCurrentLongTerm index))
 operands (suc (suc (suc (suc (suc (suc (suc n))))))) = Done None
-
--- the first operand of an operation other than 5
-abbrev pub operand_name : ℕ → ElementName
-operand_name number = if number == 2 then LongTermPicNum else if number == 4 then MaxLongTermFrameIdxPlus1 else if number == 6 then LongTermFrameIdx else DifferenceOfPicNumsMinus1
-
--- operation 1, 2, 4 or 6, which have one operand
-abbrev pub with_operand : ℕ → ℕ → Operation
-with_operand number operand = if number == 1 then UnmarkShortTerm operand else if number == 2 then UnmarkLongTerm operand else if number == 4 then LimitLongTerm operand else MakeCurrentLongTerm operand
 
 -- one of 4, 5 and 6 that has come before
 abbrev pub is_repeated : List MarkingOperation → ℕ → Bool

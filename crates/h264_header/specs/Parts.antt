@@ -1,10 +1,14 @@
--- The rest of a slice header, from an element on, behind what a header has so far: what the functions meet that read it part by part.
-use Rattle.std.specs.Prelude.{nat_lt}
+-- A working form, for the functions that read a slice header part by part: the operands of marking operations by their names, and the rest of a header,
+-- from an element on, behind what it has so far.
+use Rattle.std.specs.Prelude.{ℕ, nat_lt, ◌==◌, if◌then◌else◌}
+use Rattle.h264_base.specs.declared.element_name.ElementName.{ElementName}
 use Rattle.h264_base.specs.declared.element_name.ElementName.TheVariants as name
 use Rattle.h264_base.specs.Word.{Fixed, Signed}
 use Rattle.h264_base.specs.Grammar.{Grammar, Done, ◌>>=◌, element}
 use Rattle.h264_bits.specs.Forms.{optional}
 use Rattle.h264_header.specs.declared.header.Header.{Header}
+use Rattle.h264_header.specs.declared.header.Operation.{Operation}
+use Rattle.h264_header.specs.declared.header.Operation.TheVariants as operation
 use Rattle.h264_header.specs.declared.header.SliceUnit.{SliceUnit}
 use Rattle.h264_header.specs.declared.layout.Layout.{Layout}
 use Rattle.h264_header.specs.declared.read.StatedType.{StatedType}
@@ -12,6 +16,14 @@ use Rattle.h264_header.specs.Header.{idr_pic_id, pic_order_cnt, deblocking}
 use Rattle.h264_header.specs.Listed.{found_unsigned, found_signed}
 use Rattle.h264_header.specs.Marking.{dec_ref_pic_marking}
 use Rattle.h264_header.specs.RefList.{slice_kind}
+
+-- the first operand of a marking operation other than 5
+abbrev pub operand_name : ℕ → ElementName
+operand_name number = if number == 2 then name.LongTermPicNum else if number == 4 then name.MaxLongTermFrameIdxPlus1 else if number == 6 then name.LongTermFrameIdx else name.DifferenceOfPicNumsMinus1
+
+-- operation 1, 2, 4 or 6, which have one operand
+abbrev pub with_operand : ℕ → ℕ → Operation
+with_operand number operand = if number == 1 then operation.UnmarkShortTerm operand else if number == 2 then operation.UnmarkLongTerm operand else if number == 4 then operation.LimitLongTerm operand else operation.MakeCurrentLongTerm operand
 
 unfoldable pub header_from_kind : Header → SliceUnit → StatedType → Layout → Grammar Header
 header_from_kind h unit stated layout = do

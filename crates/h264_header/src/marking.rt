@@ -6,7 +6,8 @@ ghost use Rattle.std.specs.List.{list_any};
 ghost use Rattle.arrayvec.specs.ArrayVec.{array_vec_len};
 ghost use Rattle.h264_base.specs.Meets.{Meets, Is};
 ghost use Rattle.h264_bits.specs.Forms.{optional};
-ghost use Rattle.h264_header.specs.Marking.{number_of, operands, operand_name, with_operand, is_operation_allowed, operation, operations, idr_marking, marking_mode, other_marking, dec_ref_pic_marking};
+ghost use Rattle.h264_header.specs.Marking.{number_of, operands, is_operation_allowed, operation, operations, idr_marking, marking_mode, other_marking, dec_ref_pic_marking};
+ghost use Rattle.h264_header.specs.Parts.{operand_name, with_operand};
 
 use crate::header::{Marking, MarkingOperation, Operation};
 use arrayvec::ArrayVec;
