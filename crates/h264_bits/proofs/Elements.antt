@@ -16,23 +16,21 @@ use Rattle.h264_base.proofs.Reading.{element-read, element-missing, align-read, 
 use Rattle.h264_bits.specs.Taken.{HasNoWord}
 use Rattle.h264_bits.proofs.Readings.{reads-none}
 
--- A word that was read and told. The reader that looked up its bit is the one before.
-pub word-read : {X S : Type 0} (took : S → List Call → Type 0) (failures : S → ℕ) (view : X → Found) (rule : Rule) (name : ElementName) (code : Code) (old mid new : Reader) (s s' : S) (x : X) (bit : ℕ) (v : ℤ) → mid ≡ old → bit ≡ place old.body old.at → view x ≡ record { bit = bit; value = v } → Reads code mid.body.bytes mid.at v new.at → new.body ≡ mid.body → Tells took s s' (OfElement name bit v ∷ []) → failures s' ≡ failures s → Meets took failures (Is view) (read_word rule name code) old new s s' (Ok x)
-word-read took failures view rule name code old mid new s s' x bit v looked at seen word same tells kept =
-    let P : Reader → Type 0 = λ r. Reads code r.body.bytes r.at v new.at in
+-- a word that was read and told
+pub word-read : {X S : Type 0} (took : S → List Call → Type 0) (failures : S → ℕ) (view : X → Found) (rule : Rule) (name : ElementName) (code : Code) (old new : Reader) (s s' : S) (x : X) (bit : ℕ) (v : ℤ) → bit ≡ place old.body old.at → view x ≡ record { bit = bit; value = v } → Reads code old.body.bytes old.at v new.at → new.body ≡ old.body → Tells took s s' (OfElement name bit v ∷ []) → failures s' ≡ failures s → Meets took failures (Is view) (read_word rule name code) old new s s' (Ok x)
+word-read took failures view rule name code old new s s' x bit v at seen word same tells kept =
     element-read took failures view rule name code old new s s' x v
     (seen ∙ ap (λ (b : ℕ). let f : Found = record { bit = b; value = v } in f) at)
-    (reads-value code old.body.bytes old.at v new.at (subst P looked word))
-    (same ∙ ap (λ (r : Reader). r.body) looked)
+    (reads-value code old.body.bytes old.at v new.at word)
+    same
     (subst (λ (b : ℕ). Tells took s s' (OfElement name b v ∷ [])) at tells)
     kept
 
 -- a word that is missing
-pub word-missing : {X S : Type 0} (took : S → List Call → Type 0) (failures : S → ℕ) (view : X → Found) (rule : Rule) (name : ElementName) (code : Code) (old mid new : Reader) (s : S) (bit : ℕ) → mid ≡ old → bit ≡ place old.body old.at → HasNoWord code mid.body.bytes mid.at → new ≡ mid → Meets took failures (Is view) (read_word rule name code) old new s s (Err (No bit rule))
-word-missing took failures view rule name code old mid new s bit looked at none kept =
-    let P : Reader → Type 0 = λ r. HasNoWord code r.body.bytes r.at in
-    subst (λ (r : Reader). Meets took failures (Is view) (read_word rule name code) old r s s (Err (No bit rule))) (sym (kept ∙ looked))
-    (element-missing took failures view rule name code old s (No bit rule) (ap (λ b. No b rule) at) (reads-none code old.body.bytes old.at (subst P looked none)))
+pub word-missing : {X S : Type 0} (took : S → List Call → Type 0) (failures : S → ℕ) (view : X → Found) (rule : Rule) (name : ElementName) (code : Code) (old new : Reader) (s : S) (bit : ℕ) → bit ≡ place old.body old.at → HasNoWord code old.body.bytes old.at → new ≡ old → Meets took failures (Is view) (read_word rule name code) old new s s (Err (No bit rule))
+word-missing took failures view rule name code old new s bit at none kept =
+    subst (λ (r : Reader). Meets took failures (Is view) (read_word rule name code) old r s s (Err (No bit rule))) (sym kept)
+    (element-missing took failures view rule name code old s (No bit rule) (ap (λ b. No b rule) at) (reads-none code old.body.bytes old.at none))
 
 -- u(1) as a flag
 pub flag-is : (v : ℕ) → v < 2 → digit (v == 1) ≡ v

@@ -7,4 +7,4 @@ pub mod Each
 pub mod Elements
 pub mod Supported
 pub mod Repeated
-pub mod Chunks
+pub mod Stretches

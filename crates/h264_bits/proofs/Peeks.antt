@@ -131,18 +131,18 @@ one-inside bytes i e = elim (cases_lt i (8 * length bytes)) [
 ]
 
 -- ---- numbers
-pub number-inside : (n : ℕ) (bytes : List ℕ) (i : ℕ) → i + n ≤ 8 * length bytes → number_at n bytes i ≡ Some (peek_at n bytes i)
+pub number-inside : (n : ℕ) (bytes : List ℕ) (i : ℕ) → n ≤ 8 * length bytes - i → number_at n bytes i ≡ Some (peek_at n bytes i)
 unfolding number_at peek_at
 number-inside zero bytes i h = refl
 number-inside (suc n) bytes i h =
     let b = bit-inside bytes i (omega arith) in
     rw (b.1, number-inside n bytes (i + 1) (omega arith), b.2) refl
 
-pub number-outside : (n : ℕ) (bytes : List ℕ) (i : ℕ) → i ≤ 8 * length bytes → 8 * length bytes < i + n → number_at n bytes i ≡ None
+pub number-outside : (n : ℕ) (bytes : List ℕ) (i : ℕ) → 8 * length bytes - i < n → number_at n bytes i ≡ None
 unfolding number_at
-number-outside zero bytes i h g = absurd (omega arith)
-number-outside (suc n) bytes i h g = elim (cases_lt i (8 * length bytes)) [
-  | inl below ↦ let b = bit-inside bytes i below in rw (b.1, number-outside n bytes (i + 1) (omega arith) (omega arith)) refl
+number-outside zero bytes i h = absurd (omega arith)
+number-outside (suc n) bytes i h = elim (cases_lt i (8 * length bytes)) [
+  | inl below ↦ let b = bit-inside bytes i below in rw (b.1, number-outside n bytes (i + 1) (omega arith)) refl
   | inr past ↦ rw (bit-outside bytes i (omega arith)) refl
 ]
 
@@ -266,7 +266,7 @@ pub golomb-outside : (z : ℕ) (bytes : List ℕ) (i : ℕ) → z < 32 → Leads
 unfolding value_at golomb_at
 golomb-outside z bytes i small h g =
     let inside = one-inside bytes (i + z) h.one in
-    rw (zeros-found z 32 bytes i small h.zeros h.one, number-outside z bytes (i + z + 1) (omega arith) (omega arith)) refl
+    rw (zeros-found z 32 bytes i small h.zeros h.one, number-outside z bytes (i + z + 1) (omega arith)) refl
 
 -- the word as a number is its value plus 1
 pub golomb-word : (w z : ℕ) (bytes : List ℕ) (i : ℕ) → w ≡ peek_at 57 bytes i → z < 29 → Leads bytes i z → w / 2 ^ (56 - 2 * z) ≡ 2 ^ z + peek_at z bytes (i + z + 1)
@@ -284,13 +284,13 @@ pub pow-few : (z n : ℕ) → z ≤ n → (1 ≤ 2 ^ z) × (2 ^ z ≤ 2 ^ n)
 pow-few z n h = (let p = pow_pos z in omega arith, pow-le-pow_right (omega arith) h)
 
 -- ---- numbers of fixed size
-pub fixed-inside : (n : ℕ) (bytes : List ℕ) (i : ℕ) → i + n ≤ 8 * length bytes → value_at (Fixed n) bytes i ≡ Some (pos (peek_at n bytes i), i + n)
+pub fixed-inside : (n : ℕ) (bytes : List ℕ) (i : ℕ) → n ≤ 8 * length bytes - i → value_at (Fixed n) bytes i ≡ Some (pos (peek_at n bytes i), i + n)
 unfolding value_at
 fixed-inside n bytes i h = rw (number-inside n bytes i h) refl
 
-pub fixed-outside : (n : ℕ) (bytes : List ℕ) (i : ℕ) → i ≤ 8 * length bytes → 8 * length bytes < i + n → value_at (Fixed n) bytes i ≡ None
+pub fixed-outside : (n : ℕ) (bytes : List ℕ) (i : ℕ) → 8 * length bytes - i < n → value_at (Fixed n) bytes i ≡ None
 unfolding value_at
-fixed-outside n bytes i h g = rw (number-outside n bytes i h g) refl
+fixed-outside n bytes i h = rw (number-outside n bytes i h) refl
 
 pub top-of : (w n : ℕ) (bytes : List ℕ) (i : ℕ) → w ≡ peek_at 57 bytes i → n ≤ 57 → w / 2 ^ (57 - n) ≡ peek_at n bytes i
 top-of w n bytes i e h = rw e (peek-top n 57 bytes i h)

@@ -21,23 +21,23 @@ some-same : (a b : ℕ) → ◌≡◌ {A = Option ℕ} (Some a) (Some b) → a �
 some-same a b e = cc
 
 -- bits that begin with a word of the bytes spell it
-begins-stands : (r : Row) (bytes : List ℕ) (i : ℕ) → r.length ≤ 16 → i + r.length ≤ 8 * length bytes → begins 16 r (peek_at 16 bytes i) ≡ true → number_at r.length bytes i ≡ Some r.bits
+begins-stands : (r : Row) (bytes : List ℕ) (i : ℕ) → r.length ≤ 16 → r.length ≤ 8 * length bytes - i → begins 16 r (peek_at 16 bytes i) ≡ true → number_at r.length bytes i ≡ Some r.bits
 unfolding begins
 begins-stands r bytes i few inside e =
     let b : peek_at 16 bytes i / 2 ^ (16 - r.length) ≡ r.bits = eqb-true _ _ e in
     number-inside r.length bytes i inside ∙ ap Some (sym (peek-top r.length 16 bytes i few) ∙ b)
 
 -- a word that stands there stands in the bytes, and the bits begin with it
-stands-within : (r : Row) (bytes : List ℕ) (i : ℕ) → i ≤ 8 * length bytes → number_at r.length bytes i ≡ Some r.bits → i + r.length ≤ 8 * length bytes
-stands-within r bytes i start e = elim (cases_lt (8 * length bytes) (i + r.length)) [
-  | inl past ↦ absurd (let z : ◌≡◌ {A = Option ℕ} (Some r.bits) None = sym e ∙ number-outside r.length bytes i start past in cc)
+stands-within : (r : Row) (bytes : List ℕ) (i : ℕ) → number_at r.length bytes i ≡ Some r.bits → r.length ≤ 8 * length bytes - i
+stands-within r bytes i e = elim (cases_lt (8 * length bytes - i) r.length) [
+  | inl past ↦ absurd (let z : ◌≡◌ {A = Option ℕ} (Some r.bits) None = sym e ∙ number-outside r.length bytes i past in cc)
   | inr inside ↦ inside
 ]
 
-stands-begins : (r : Row) (bytes : List ℕ) (i : ℕ) → r.length ≤ 16 → i ≤ 8 * length bytes → number_at r.length bytes i ≡ Some r.bits → begins 16 r (peek_at 16 bytes i) ≡ true
+stands-begins : (r : Row) (bytes : List ℕ) (i : ℕ) → r.length ≤ 16 → number_at r.length bytes i ≡ Some r.bits → begins 16 r (peek_at 16 bytes i) ≡ true
 unfolding begins
-stands-begins r bytes i few start e =
-    let inside = stands-within r bytes i start e in
+stands-begins r bytes i few e =
+    let inside = stands-within r bytes i e in
     eq-eqb _ _ (peek-top r.length 16 bytes i few ∙ some-same _ _ (sym (number-inside r.length bytes i inside) ∙ e))
 
 -- no row of the bits, no row at all
@@ -76,7 +76,7 @@ module _ (table : Table) (bytes : List ℕ) (i : ℕ) where
   no_value e = rw e refl
 
   -- the row's word stands there
-  pub word-inside : (r : Row) → front_of 16 (rows_of table) (peek_at 16 bytes i) ≡ Some r → i + r.length ≤ 8 * length bytes → value_at (Words (code_table table)) bytes i ≡ Some (pos r.value, i + r.length)
+  pub word-inside : (r : Row) → front_of 16 (rows_of table) (peek_at 16 bytes i) ≡ Some r → r.length ≤ 8 * length bytes - i → value_at (Words (code_table table)) bytes i ≡ Some (pos r.value, i + r.length)
   unfolding value_at
   word-inside r e inside =
       let f = front-row 16 (rows_of table) (peek_at 16 bytes i) r e in
@@ -84,38 +84,47 @@ module _ (table : Table) (bytes : List ℕ) (i : ℕ) where
       rw (row-found (rows_of table) r bytes i (rows_of-free table) f.0 (begins-stands r bytes i few inside f.1)) refl
 
   -- the bytes end in it
-  pub word-outside : (r : Row) → front_of 16 (rows_of table) (peek_at 16 bytes i) ≡ Some r → i ≤ 8 * length bytes → 8 * length bytes < i + r.length → value_at (Words (code_table table)) bytes i ≡ None
-  word-outside r e start past =
+  pub word-outside : (r : Row) → front_of 16 (rows_of table) (peek_at 16 bytes i) ≡ Some r → 8 * length bytes - i < r.length → value_at (Words (code_table table)) bytes i ≡ None
+  word-outside r e past =
       let f = front-row 16 (rows_of table) (peek_at 16 bytes i) r e in
       let few = (short r f.0).few in
       no_value (nothing (rows_of table) bytes i (λ q m stands.
-      let inside = stands-within q bytes i start stands in
-      let b = stands-begins q bytes i (short q m).few start stands in
+      let inside = stands-within q bytes i stands in
+      let b = stands-begins q bytes i (short q m).few stands in
       let same = one-row (rows_of table) q r (rows_of-free table) m f.0 (shorter r q (peek_at 16 bytes i) few (omega arith) f.1 b) in
       let e = ap (λ (p : Row). p.length) same in
       absurd (omega arith)))
 
   -- no row's word stands there
-  pub word-none : front_of 16 (rows_of table) (peek_at 16 bytes i) ≡ None → i ≤ 8 * length bytes → value_at (Words (code_table table)) bytes i ≡ None
-  word-none e start = no_value (nothing (rows_of table) bytes i (λ q m stands. front-none (rows_of table) (peek_at 16 bytes i) q e m (stands-begins q bytes i (short q m).few start stands)))
+  pub word-none : front_of 16 (rows_of table) (peek_at 16 bytes i) ≡ None → value_at (Words (code_table table)) bytes i ≡ None
+  word-none e = no_value (nothing (rows_of table) bytes i (λ q m stands. front-none (rows_of table) (peek_at 16 bytes i) q e m (stands-begins q bytes i (short q m).few stands)))
+
+-- a word that was found is one of at most 16 bits
+pub entry-short : (table : Table) (y : ℕ) (e : Entry) → Some e ≡ option_map entry_of (front_of 16 (rows_of table) y) → e.length ≤ 16
+entry-short table y e f =
+    let r = map-some entry_of (front_of 16 (rows_of table) y) e (sym f) in
+    let l : r.0.length ≡ e.length = ap (λ (x : Entry). x.length) r.2 in
+    let is = front-row 16 (rows_of table) y r.0 r.1 in
+    let few = (row-short (rows_of table) r.0 (rows_of-words table) is.0).few in
+    omega arith
 
 -- the same by what was found
 module _ (table : Table) (bytes : List ℕ) (i y : ℕ) (is : y ≡ peek_at 16 bytes i) where
-  pub entry-inside : (e : Entry) → Some e ≡ option_map entry_of (front_of 16 (rows_of table) y) → i + e.length ≤ 8 * length bytes → value_at (Words (code_table table)) bytes i ≡ Some (pos e.value, i + e.length)
+  pub entry-inside : (e : Entry) → Some e ≡ option_map entry_of (front_of 16 (rows_of table) y) → e.length ≤ 8 * length bytes - i → value_at (Words (code_table table)) bytes i ≡ Some (pos e.value, i + e.length)
   entry-inside e f inside =
       let r = map-some entry_of (front_of 16 (rows_of table) y) e (sym f) in
       let l : r.0.length ≡ e.length = ap (λ (x : Entry). x.length) r.2 in
       let v : r.0.value ≡ e.value = ap (λ (x : Entry). x.value) r.2 in
       word-inside table bytes i r.0 (sym (ap (λ k. front_of 16 (rows_of table) k) is) ∙ r.1) (omega arith) ∙ ap (λ (x : Entry). Some (pos x.value, i + x.length)) r.2
 
-  pub entry-outside : (e : Entry) → Some e ≡ option_map entry_of (front_of 16 (rows_of table) y) → i ≤ 8 * length bytes → 8 * length bytes < i + e.length → value_at (Words (code_table table)) bytes i ≡ None
-  entry-outside e f start past =
+  pub entry-outside : (e : Entry) → Some e ≡ option_map entry_of (front_of 16 (rows_of table) y) → 8 * length bytes - i < e.length → value_at (Words (code_table table)) bytes i ≡ None
+  entry-outside e f past =
       let r = map-some entry_of (front_of 16 (rows_of table) y) e (sym f) in
       let l : r.0.length ≡ e.length = ap (λ (x : Entry). x.length) r.2 in
-      word-outside table bytes i r.0 (sym (ap (λ k. front_of 16 (rows_of table) k) is) ∙ r.1) start (omega arith)
+      word-outside table bytes i r.0 (sym (ap (λ k. front_of 16 (rows_of table) k) is) ∙ r.1) (omega arith)
 
-  pub entry-none : None ≡ option_map entry_of (front_of 16 (rows_of table) y) → i ≤ 8 * length bytes → value_at (Words (code_table table)) bytes i ≡ None
-  entry-none f start = word-none table bytes i (sym (ap (λ k. front_of 16 (rows_of table) k) is) ∙ none (front_of 16 (rows_of table) y) f) start
+  pub entry-none : None ≡ option_map entry_of (front_of 16 (rows_of table) y) → value_at (Words (code_table table)) bytes i ≡ None
+  entry-none f = word-none table bytes i (sym (ap (λ k. front_of 16 (rows_of table) k) is) ∙ none (front_of 16 (rows_of table) y) f)
     where
       none : (o : Option Row) → None ≡ option_map entry_of o → o ≡ None
       none None e = refl

@@ -1,5 +1,5 @@
 -- Bits that were loaded ahead, and those behind the first of them.
-use Rattle.std.proofs.Common.{◌≡◌, ℕ, ◌+◌, ◌*◌, ◌-◌, ◌/◌, ◌%◌, ◌^◌, ◌<◌, ◌≤◌, List, refl, ap, sym, ◌∙◌, arith}
+use Rattle.std.proofs.Common.{◌≡◌, ℕ, ◌+◌, ◌*◌, ◌-◌, ◌/◌, ◌%◌, ◌^◌, ◌<◌, ◌≤◌, List, refl, arith}
 use Rattle.std.proofs.lemmas.Nat.{pow_pos, pow-add, shr-shr, div-mul-add, mod-mul-add, mul-add-lt}
 use Rattle.std.proofs.Math.Nat.{div-add-mod, mod-lt}
 use Rattle.h264_bits.specs.Peek.{peek_at}
@@ -29,7 +29,7 @@ moved bytes i n m r w e is =
     rw (← powers m r n e, pow-add 2 r n)
     (middle (peek_at n bytes i) (peek_at m bytes (i + n)) (w % 2 ^ r) (2 ^ r) (2 ^ n) (2 ^ m) w (peek-below m bytes (i + n)) (mod-lt w (pow_pos r)) (pow_pos n) parts)
 
-pub behind-some : (bytes : List ℕ) (i n : ℕ) (k : Upcoming) → n < k.count → IsUpcoming bytes i k →
+pub behind-some : (bytes : List ℕ) (i n : ℕ) (k : Upcoming) → n ≤ k.count → IsUpcoming bytes i k →
     IsUpcoming bytes (i + n) (record { number = k.number * 2 ^ n % 18446744073709551616; count = k.count - n })
 behind-some bytes i n k h is =
     let few = is.few in
@@ -44,15 +44,26 @@ pub behind-none : (bytes : List ℕ) (i : ℕ) → IsUpcoming bytes i (record { 
 unfolding peek_at
 behind-none bytes i = record { few = omega arith; are = omega arith }
 
-pub loaded : (bytes : List ℕ) (i w : ℕ) → w ≡ peek_at 64 bytes (8 * (i / 8)) →
+whole : (bytes : List ℕ) (i w : ℕ) → w ≡ peek_at 64 bytes (8 * (i / 8)) →
     IsUpcoming bytes i (record { number = w * 2 ^ (i % 8) % 18446744073709551616; count = 64 - i % 8 })
-loaded bytes i w e =
+whole bytes i w e =
     let place : 8 * (i / 8) + i % 8 ≡ i = omega arith in
-    let whole : w / 2 ^ (64 - 64) ≡ peek_at 64 bytes (8 * (i / 8)) = rw (← e) (omega arith) in
-    rw place at (behind-some bytes (8 * (i / 8)) (i % 8) (record { number = w; count = 64 }) (omega arith) (record { few = omega arith; are = whole }))
+    let all : w / 2 ^ (64 - 64) ≡ peek_at 64 bytes (8 * (i / 8)) = rw (← e) (omega arith) in
+    rw place at (behind-some bytes (8 * (i / 8)) (i % 8) (record { number = w; count = 64 }) (omega arith) (record { few = omega arith; are = all }))
 
 pub first-bits : (bytes : List ℕ) (i n : ℕ) (k : Upcoming) → n ≤ k.count → IsUpcoming bytes i k → k.number / 2 ^ (64 - n) ≡ peek_at n bytes i
 first-bits bytes i n k h is =
     let few = is.few in
     let split : 64 - n ≡ 64 - k.count + (k.count - n) = omega arith in
     rw (split, ← shr-shr k.number (64 - k.count) (k.count - n), is.are) (peek-top n k.count bytes i h)
+
+-- of the bits of eight bytes those of the first byte before bit i were shifted out: 57 are left, whatever is counted
+pub loaded-front : (bytes : List ℕ) (i w n : ℕ) → w ≡ peek_at 64 bytes (8 * (i / 8)) → n ≤ 57 → w * 2 ^ (i % 8) % 18446744073709551616 / 2 ^ (64 - n) ≡ peek_at n bytes i
+loaded-front bytes i w n e few = first-bits bytes i n (record { number = w * 2 ^ (i % 8) % 18446744073709551616; count = 64 - i % 8 }) (omega arith) (whole bytes i w e)
+
+pub loaded-some : (bytes : List ℕ) (i w count : ℕ) → w ≡ peek_at 64 bytes (8 * (i / 8)) → count ≤ 64 - i % 8 →
+    IsUpcoming bytes i (record { number = w * 2 ^ (i % 8) % 18446744073709551616; count = count })
+loaded-some bytes i w count e few = record {
+  few = omega arith;
+  are = first-bits bytes i count (record { number = w * 2 ^ (i % 8) % 18446744073709551616; count = 64 - i % 8 }) few (whole bytes i w e);
+}

@@ -5,4 +5,4 @@ pub mod Truncated
 pub mod Seen
 pub mod Supports
 pub mod Forms
-pub mod Chunk
+pub mod Stretch

@@ -7,8 +7,8 @@ ghost use Rattle.h264_base.specs.Body.{Body, place};
 ghost use Rattle.h264_base.specs.Word.{Fixed, Unsigned, Signed, Words, Reads, no_zero_at, padding};
 ghost use Rattle.h264_base.specs.Grammar.{HasMore, IsClosed, IsPadded, bytes_at};
 ghost use Rattle.h264_base.specs.Meets.{Reader};
-ghost use Rattle.h264_bits.specs.Chunk.{IsSteady};
 ghost use Rattle.h264_bits.specs.Peek.{IsLastOne, peek_at};
+ghost use Rattle.h264_bits.specs.Stretch.{IsStretch};
 ghost use Rattle.h264_bits.specs.Taken.{HasNoWord};
 ghost use Rattle.h264_bits.specs.Truncated.{truncated};
 ghost use Rattle.h264_bits.specs.Upcoming.{IsUpcoming};
@@ -17,9 +17,9 @@ ghost use Rattle.h264_tables.specs.Entry.{entry_of};
 ghost use Rattle.h264_tables.specs.Front.{front_of};
 ghost use Rattle.h264_tables.specs.Table.{code_table, rows_of};
 
-use crate::chunk::{CHUNK, shift_of};
-use crate::codes::{first_set, fixed, golomb, last_one, table_word};
-use crate::window::{Upcoming, behind, first_of, none_upcoming, refilled};
+use crate::codes::{first_set, golomb, last_one};
+use crate::stretch::{Stretch, stretch_behind, stretch_from};
+use crate::window::{Upcoming, behind, first_of, loaded, none_upcoming};
 use h264_rbsp::Rbsp;
 use h264_tables::{Entry, Table, lookup};
 use std::marker::Model;
@@ -35,8 +35,7 @@ pub struct Bits<'a> {
     bytes: &'a [u8],
     last_one: usize,
     at: usize,
-    chunk: usize,
-    shift: u64,
+    stretch: Stretch,
     upcoming: Upcoming,
 }
 
@@ -45,7 +44,7 @@ impl<'a> Model for Bits<'a> {
 
     ghost view = { λ r. record { body = r.rbsp.now; at = r.at } };
 
-    ghost invariant = { λ r. (r.bytes.now ≡ r.rbsp.now.bytes) × (r.at ≤ 8 * length r.bytes.now) × (length r.bytes.now ≤ 2 ^ 28) × IsLastOne r.bytes.now r.last_one × IsSteady r.rbsp.now r.chunk r.shift × IsUpcoming r.bytes.now r.at r.upcoming };
+    ghost invariant = { λ r. (r.bytes.now ≡ r.rbsp.now.bytes) × (r.at ≤ 8 * length r.bytes.now) × (length r.bytes.now ≤ 2 ^ 28) × IsLastOne r.bytes.now r.last_one × IsStretch r.rbsp.now r.at r.stretch × IsUpcoming r.bytes.now r.at r.upcoming × (r.at + r.upcoming.count ≤ r.stretch.last) };
 }
 
 impl<'a> Bits<'a> {
@@ -60,8 +59,7 @@ impl<'a> Bits<'a> {
             bytes,
             last_one,
             at: 0,
-            chunk: usize::MAX,
-            shift: 0,
+            stretch: stretch_from(rbsp, 0),
             upcoming: none_upcoming(),
         }
     }
@@ -76,42 +74,72 @@ impl<'a> Bits<'a> {
             bytes: self.bytes,
             last_one: self.last_one,
             at: self.at,
-            chunk: self.chunk,
-            shift: self.shift,
+            stretch: self.stretch,
             upcoming: self.upcoming,
         }
     }
 
     /// The stream bit of the bit that is read next; at the end that of the first bit after the unit.
-    #[inline]
+    #[inline(always)]
     pub fn stream_bit(&self) -> u64
         ensures { result ≡ place self.now.body self.now.at }
     {
-        if self.at / CHUNK == self.chunk {
-            self.at as u64 + self.shift
-        } else {
-            self.rbsp.stream_bit(self.at)
-        }
+        self.at as u64 + self.stretch.shift
     }
 
-    /// The same, of the element that is read next. What it takes to find it is kept for those that follow.
+    /// The next `n` bits as a number, with zeros past the end of the RBSP.
     #[inline(always)]
-    pub(crate) fn element_bit(&mut self) -> u64
-        ensures bit { result ≡ place self.old.body self.old.at }
+    fn next_bits(&mut self, n: u32) -> u64
+        requires { n ≤ 57 }
+        ensures value { result ≡ peek_at n self.old.body.bytes self.old.at }
         ensures kept { self.new ≡ self.old }
     {
-        let chunk = self.at / CHUNK;
-        if chunk == self.chunk {
-            return self.at as u64 + self.shift;
+        if self.upcoming.count < n {
+            self.upcoming = loaded(self.bytes, self.at, self.stretch.last);
         }
-        match shift_of(self.rbsp, chunk) {
-            Some(shift) => {
-                self.chunk = chunk;
-                self.shift = shift;
-                self.at as u64 + shift
+        first_of(self.upcoming, n)
+    }
+
+    /// Passes `n` bits, and none where fewer are left.
+    #[inline(always)]
+    fn advance(&mut self, n: u32) -> Result<(), NoWord>
+        requires { n < 64 }
+        ensures fits { OnOk result (n ≤ 8 * length self.old.body.bytes - self.old.at) }
+        ensures end { OnOk result (self.new ≡ record { body = self.old.body; at = self.old.at + n }) }
+        ensures none { OnErr result (8 * length self.old.body.bytes - self.old.at < n) }
+        ensures kept { OnErr result (self.new ≡ self.old) }
+    {
+        if n <= self.upcoming.count {
+            self.upcoming = behind(self.upcoming, n);
+            self.at += n as usize;
+            return Ok(());
+        }
+        let Some(stretch) = stretch_behind(self.rbsp, self.at, n) else {
+            return Err(NoWord);
+        };
+        self.upcoming = none_upcoming();
+        self.stretch = stretch;
+        self.at += n as usize;
+        Ok(())
+    }
+
+    /// Passes the bits before bit `next`.
+    #[inline(always)]
+    fn pass(&mut self, next: usize)
+        requires forward { self.old.at ≤ next }
+        requires inside { next ≤ 8 * length self.old.body.bytes }
+        ensures { self.new ≡ record { body = self.old.body; at = next } }
+    {
+        let n = next - self.at;
+        if n < self.upcoming.count as usize {
+            self.upcoming = behind(self.upcoming, n as u32);
+        } else {
+            self.upcoming = none_upcoming();
+            if next > self.stretch.last {
+                self.stretch = stretch_from(self.rbsp, next);
             }
-            None => self.rbsp.stream_bit(self.at),
         }
+        self.at = next;
     }
 
     /// The stream bit of the first bit after the unit.
@@ -139,14 +167,11 @@ impl<'a> Bits<'a> {
         ensures none { OnErr result (HasNoWord (Fixed n) self.old.body.bytes self.old.at) }
         ensures kept { OnErr result (self.new ≡ self.old) }
     {
-        self.upcoming = refilled(self.upcoming, self.bytes, self.at, n);
-        let number = first_of(self.upcoming, n);
-        let Some((value, next)) = fixed(self.bytes, self.at, n, number) else {
-            return Err(NoWord);
-        };
-        self.upcoming = behind(self.upcoming, next - self.at);
-        self.at = next;
-        Ok(value)
+        let value = self.next_bits(n) as u32;
+        match self.advance(n) {
+            Ok(()) => Ok(value),
+            Err(NoWord) => Err(NoWord),
+        }
     }
 
     /// Reads u(N), as `u_width`.
@@ -174,8 +199,7 @@ impl<'a> Bits<'a> {
         let Some((value, next)) = golomb(self.bytes, self.at) else {
             return Err(NoWord);
         };
-        self.upcoming = behind(self.upcoming, next - self.at);
-        self.at = next;
+        self.pass(next);
         Ok(value)
     }
 
@@ -216,8 +240,7 @@ impl<'a> Bits<'a> {
         ensures value { result ≡ peek_at 16 self.old.body.bytes self.old.at }
         ensures kept { self.new ≡ self.old }
     {
-        self.upcoming = refilled(self.upcoming, self.bytes, self.at, 16);
-        first_of(self.upcoming, 16) as u16
+        self.next_bits(16) as u16
     }
 
     /// Reads a word of a table, as `word`, which the next 16 bits were seen to begin with.
@@ -231,12 +254,13 @@ impl<'a> Bits<'a> {
         ensures none { OnErr result (HasNoWord (Words (code_table table)) self.old.body.bytes self.old.at) }
         ensures kept { OnErr result (self.new ≡ self.old) }
     {
-        let Some((value, next)) = table_word(self.bytes, self.at, table, entry) else {
+        let Some(entry) = entry else {
             return Err(NoWord);
         };
-        self.upcoming = behind(self.upcoming, next - self.at);
-        self.at = next;
-        Ok(value)
+        match self.advance(entry.length as u32) {
+            Ok(()) => Ok(entry.value),
+            Err(NoWord) => Err(NoWord),
+        }
     }
 
     /// Reads te(v) of an element that lies in 0 to `range` (9.1). A value above `range` is no error here.
@@ -274,8 +298,7 @@ impl<'a> Bits<'a> {
         }
         let first = self.at / 8;
         let bytes = self.bytes;
-        self.upcoming = none_upcoming();
-        self.at = next;
+        self.pass(next);
         Ok(&bytes[first..first + n])
     }
 
@@ -291,8 +314,7 @@ impl<'a> Bits<'a> {
     pub(crate) fn to_byte(&mut self)
         ensures { self.new ≡ record { body = self.old.body; at = self.old.at + padding self.old.at } }
     {
-        self.upcoming = none_upcoming();
-        self.at += (8 - self.at % 8) % 8;
+        self.pass(self.at + (8 - self.at % 8) % 8);
     }
 
     /// Reads the zero bits up to the next byte, of which there may be none (7.3.5).
@@ -320,8 +342,7 @@ impl<'a> Bits<'a> {
         if self.more() || self.at + 8 < end {
             return Err(NoWord);
         }
-        self.upcoming = none_upcoming();
-        self.at = end;
+        self.pass(end);
         Ok(())
     }
 }

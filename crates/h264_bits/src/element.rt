@@ -76,7 +76,7 @@ fn read_fixed<S: Elements>(
     ensures small { IfOk result (λ f. f.value < 2 ^ n) }
     ensures quiet { OnOk result (S.failures sink.new ≡ S.failures sink.old) }
 {
-    let bit = bits.element_bit();
+    let bit = bits.stream_bit();
     let Ok(value) = bits.u_width(n) else {
         return Err(Stop::No { bit, rule });
     };
@@ -147,7 +147,7 @@ pub fn read_flag<S: Elements>(
     ensures meets { Meets S.took S.failures (Is seen_flag) (element name (Fixed 1)) bits.old bits.new sink.old sink.new result }
     ensures quiet { OnOk result (S.failures sink.new ≡ S.failures sink.old) }
 {
-    let bit = bits.element_bit();
+    let bit = bits.stream_bit();
     let Ok(value) = bits.u::<1>() else {
         return Err(Stop::No {
             bit,
@@ -175,7 +175,7 @@ pub fn read_ue<S: Elements>(
     ensures small { IfOk result (λ f. f.value < 2 ^ 32 - 1) }
     ensures quiet { OnOk result (S.failures sink.new ≡ S.failures sink.old) }
 {
-    let bit = bits.element_bit();
+    let bit = bits.stream_bit();
     let Ok(value) = bits.ue() else {
         return Err(Stop::No {
             bit,
@@ -201,7 +201,7 @@ pub fn read_se<S: Elements>(
     ensures high { IfOk result (λ f. f.value ≤ℤ pos (2 ^ 31 - 1)) }
     ensures quiet { OnOk result (S.failures sink.new ≡ S.failures sink.old) }
 {
-    let bit = bits.element_bit();
+    let bit = bits.stream_bit();
     let Ok(value) = bits.se() else {
         return Err(Stop::No {
             bit,
@@ -228,7 +228,7 @@ pub fn read_te<S: Elements>(
     ensures small { IfOk result (λ f. f.value < 2 ^ 32 - 1) }
     ensures quiet { OnOk result (S.failures sink.new ≡ S.failures sink.old) }
 {
-    let bit = bits.element_bit();
+    let bit = bits.stream_bit();
     let Ok(value) = bits.te(range) else {
         return Err(Stop::No {
             bit,
@@ -256,7 +256,7 @@ pub fn read_word<S: Elements>(
     ensures small { IfOk result (λ f. f.value ≤ greatest_value table) }
     ensures quiet { OnOk result (S.failures sink.new ≡ S.failures sink.old) }
 {
-    let bit = bits.element_bit();
+    let bit = bits.stream_bit();
     let Ok(value) = bits.word(table) else {
         return Err(Stop::No { bit, rule });
     };
@@ -283,7 +283,7 @@ pub fn read_entry<S: Elements>(
     ensures small { IfOk result (λ f. f.value ≤ greatest_value table) }
     ensures quiet { OnOk result (S.failures sink.new ≡ S.failures sink.old) }
 {
-    let bit = bits.element_bit();
+    let bit = bits.stream_bit();
     let Ok(value) = bits.entry(table, entry) else {
         return Err(Stop::No { bit, rule });
     };

@@ -8,11 +8,11 @@
 #![tactic(auto)]
 
 pub mod bits;
-mod chunk;
 mod codes;
 pub mod element;
 pub mod forms;
 pub mod laws;
+mod stretch;
 #[cfg(test)]
 mod tests;
 mod window;

@@ -69,22 +69,18 @@ pub fn none_upcoming() -> Upcoming
     }
 }
 
-/// At least `n` bits from bit `i` on: those at hand where they are enough.
+/// The bits from bit `i` on, up to `last` at most. The number has 57 of them whatever the count, with zeros past the end.
 #[inline(always)]
-pub fn refilled(k: Upcoming, bytes: &[u8], i: usize, n: u32) -> Upcoming
-    requires few { n ≤ 57 }
+pub fn loaded(bytes: &[u8], i: usize, last: usize) -> Upcoming
     requires place { i < 2 ^ 35 }
-    requires before { IsUpcoming bytes.now i k }
-    ensures after { IsUpcoming bytes.now i result }
-    ensures enough { n ≤ result.count }
-    ensures kept { n ≤ k.count → result ≡ k }
+    requires before { i ≤ last }
+    ensures bits { IsUpcoming bytes.now i result }
+    ensures within { i + result.count ≤ last }
+    ensures front { (n : ℕ) → n ≤ 57 → result.number / 2 ^ (64 - n) ≡ peek_at n bytes.now i }
 {
-    if k.count >= n {
-        return k;
-    }
     Upcoming {
         number: load(bytes, i / 8) << (i % 8),
-        count: 64 - (i % 8) as u32,
+        count: (64 - i % 8).min(last - i) as u32,
     }
 }
 
@@ -99,17 +95,14 @@ pub fn first_of(k: Upcoming, n: u32) -> u64
 
 /// Those behind the first `n` bits.
 #[inline(always)]
-pub fn behind(k: Upcoming, n: usize) -> Upcoming
-    requires { k.count ≤ 64 }
+pub fn behind(k: Upcoming, n: u32) -> Upcoming
+    requires few { n < 64 }
+    requires enough { n ≤ k.count }
     ensures bits { (bytes : List ℕ) (i : ℕ) → IsUpcoming bytes i k → IsUpcoming bytes (i + n) result }
     ensures count { result.count ≡ k.count - n }
 {
-    if n < k.count as usize {
-        Upcoming {
-            number: k.number << n,
-            count: k.count - n as u32,
-        }
-    } else {
-        none_upcoming()
+    Upcoming {
+        number: k.number << n,
+        count: k.count - n,
     }
 }

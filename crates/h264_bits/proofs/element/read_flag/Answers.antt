@@ -8,7 +8,7 @@ use Rattle.h264_bits.proofs.Elements.{word-read, word-missing, flag-is}
 use Rattle.h264_bits.proofs.element.read_flag.Goals as goal
 
 pub returns-in_default-clause-meets : goal.returns-in_default-clause-meets
-returns-in_default-clause-meets g c = word-missing _ _ _ _ _ (Fixed 1) _ _ _ _ _ c.element_bit-bit.ensures.kept c.element_bit-bit.ensures.bit c.in_default.ensures.none c.in_default.ensures.kept
+returns-in_default-clause-meets g c = word-missing _ _ _ _ _ (Fixed 1) _ _ _ _ c.stream_bit-bit.ensures c.in_default.ensures.none c.in_default.ensures.kept
 
 pub returns-in-Ok-element-clause-meets : goal.returns-in-Ok-element-clause-meets
 returns-in-Ok-element-clause-meets g c =
@@ -16,5 +16,5 @@ returns-in-Ok-element-clause-meets g c =
     let z : to_z w64 c.in-Ok.value ≡ pos c.in-Ok.value = omega (arith, ints) in
     let t = rw z at c.in-Ok-element.ensures.ok in
     let small = e.small in
-    let seen = ap (λ v. let s : Seen = record { bit = c.element_bit-bit.result; value = pos v } in s) (flag-is c.in-Ok.value (omega arith)) in
-    word-read _ _ _ _ _ (Fixed 1) _ _ _ _ _ _ _ (pos c.in-Ok.value) c.element_bit-bit.ensures.kept c.element_bit-bit.ensures.bit seen e.word e.body t c.in-Ok-element.ensures.kept
+    let seen = ap (λ v. let s : Seen = record { bit = c.stream_bit-bit.result; value = pos v } in s) (flag-is c.in-Ok.value (omega arith)) in
+    word-read _ _ _ _ _ (Fixed 1) _ _ _ _ _ _ (pos c.in-Ok.value) c.stream_bit-bit.ensures seen e.word e.body t c.in-Ok-element.ensures.kept

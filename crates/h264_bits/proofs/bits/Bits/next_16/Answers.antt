@@ -1,8 +1,6 @@
-use Rattle.std.proofs.Common.{◌∙◌}
-use Rattle.h264_bits.proofs.Upcomings.{first-bits}
+use Rattle.std.proofs.Common.{rules}
+use Rattle.h264_bits.proofs.Peeks.{peek-below}
 use Rattle.h264_bits.proofs.bits.Bits.next_16.Goals as goal
 
-pub returns-clause-value : goal.returns-clause-value
-returns-clause-value c =
-    rw (← c.self.view_is, ← c.self.invariant.0)
-    (c.first_of.ensures ∙ first-bits c.self.inside.bytes.now c.self.inside.at 16 c.refilled-self-inside.result c.refilled-self-inside.ensures.enough c.refilled-self-inside.ensures.after)
+pub overflow_cast-result : goal.overflow_cast-result
+overflow_cast-result c = let b = peek-below 16 c.args.self.now.body.bytes c.args.self.now.at in rw c.next_bits.ensures.value (search rules)
