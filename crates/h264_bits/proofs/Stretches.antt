@@ -60,6 +60,10 @@ same-byte body i j shift same e = let f = rw same at e in omega arith
 pub in-byte : (body : Body) (from last shift : ℕ) → from ≤ last → last ≤ 8 * length body.bytes → last / 8 ≡ from / 8 → place body from ≡ from + shift → last + shift < 2 ^ 64 → IsStretch body from (record { shift = shift; last = last })
 in-byte body from last shift some inside same a fits = between body from last shift some inside a (same-byte body from last shift (omega arith) a) fits
 
+-- the first and the last of them
+pub ends-of : (body : Body) (from : ℕ) (s : Stretch) → IsStretch body from s → (place body from ≡ from + s.shift) × (place body s.last ≡ s.last + s.shift)
+ends-of body from s is = let some = is.some in ((is.steady from (omega arith) some).0, (is.steady s.last some (omega arith)).0)
+
 -- the bits behind the first of them
 pub stretch-on : (body : Body) (from to : ℕ) (s : Stretch) → from ≤ to → to ≤ s.last → IsStretch body from s → IsStretch body to s
 stretch-on body from to s more some is = record { some = some; inside = is.inside; steady = λ i low high. is.steady i (omega arith) high }

@@ -1,7 +1,7 @@
 //! Bits of an RBSP that stand together in the stream, so that most elements need no search for their place.
 #![tactic(auto)]
 
-ghost use Rattle.std.specs.Prelude.{◌≡◌, ℕ, ◌+◌, ◌*◌, ◌<◌, ◌≤◌, length, IfSome, IfNone};
+ghost use Rattle.std.specs.Prelude.{◌≡◌, ℕ, ◌+◌, ◌*◌, ◌<◌, ◌≤◌, length, min, IfSome, IfNone};
 ghost use Rattle.h264_bits.specs.Stretch.{IsStretch};
 
 use h264_rbsp::Rbsp;
@@ -18,12 +18,13 @@ pub struct Stretch {
     pub last: usize,
 }
 
-/// Bits from bit `i` on that stand together.
+/// Bits from bit `i` on that stand together: the next 512, or all that are left, where these do.
 #[cold]
 #[inline(never)]
 pub fn stretch_from(rbsp: &Rbsp, i: usize) -> Stretch
     requires { i ≤ 8 * length rbsp.now.bytes }
-    ensures { IsStretch rbsp.now i result }
+    ensures stands { IsStretch rbsp.now i result }
+    ensures found { (s : Stretch) → IsStretch rbsp.now i s → s.last ≡ min (i + 512) (8 * length rbsp.now.bytes) → result ≡ s }
 {
     let end = 8 * rbsp.bytes().len();
     let shift = rbsp.stream_bit(i) - i as u64;

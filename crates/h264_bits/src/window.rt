@@ -1,7 +1,7 @@
 //! The bits of a place as one number.
 #![tactic(auto)]
 
-ghost use Rattle.std.specs.Prelude.{◌≡◌, ℕ, ◌+◌, ◌-◌, ◌*◌, ◌/◌, ◌<◌, ◌≤◌, ◌^◌, List};
+ghost use Rattle.std.specs.Prelude.{◌≡◌, ℕ, ◌+◌, ◌-◌, ◌*◌, ◌/◌, ◌%◌, ◌<◌, ◌≤◌, ◌^◌, List, min};
 ghost use Rattle.h264_bits.specs.Peek.{peek_at};
 ghost use Rattle.h264_bits.specs.Upcoming.{IsUpcoming};
 
@@ -75,7 +75,7 @@ pub fn loaded(bytes: &[u8], i: usize, last: usize) -> Upcoming
     requires place { i < 2 ^ 35 }
     requires before { i ≤ last }
     ensures bits { IsUpcoming bytes.now i result }
-    ensures within { i + result.count ≤ last }
+    ensures count { result.count ≡ min (64 - i % 8) (last - i) }
     ensures front { (n : ℕ) → n ≤ 57 → result.number / 2 ^ (64 - n) ≡ peek_at n bytes.now i }
 {
     Upcoming {

@@ -1,5 +1,5 @@
-use Rattle.std.proofs.Common.{arith, ap, ℕ, List, ◌-◌, length}
-use Rattle.h264_bits.proofs.Stretches.{place-behind, place-later, between, in-byte}
+use Rattle.std.proofs.Common.{◌≡◌, ℕ, ◌-◌, List, length, refl, ap, arith}
+use Rattle.h264_bits.proofs.Stretches.{place-behind, place-later, between, in-byte, ends-of}
 use Rattle.h264_bits.proofs.stretch.stretch_from.Goals as goal
 
 pub overflow_sub-shift : goal.overflow_sub-shift
@@ -8,8 +8,8 @@ overflow_sub-shift c = let b = place-behind c.args.rbsp.now c.args.i in let e = 
 pub overflow_sub-stream_bit : goal.overflow_sub-stream_bit
 overflow_sub-stream_bit c = let b = place-behind c.args.rbsp.now c.min-far.result in let e = c.stream_bit-2.ensures in omega arith
 
-pub returns-then-stream_bit-far : goal.returns-then-stream_bit-far
-returns-then-stream_bit-far c =
+pub returns-then-stream_bit-far-clause-stands : goal.returns-then-stream_bit-far-clause-stands
+returns-then-stream_bit-far-clause-stands c =
     let l = ap (λ (b : List ℕ). length b) c.bytes.ensures.bytes in
     let m = c.min-far.ensures in
     let a = place-behind c.args.rbsp.now c.args.i in
@@ -20,8 +20,31 @@ returns-then-stream_bit-far c =
     let fits = c.stream_bit-2.type_inv in
     between c.args.rbsp.now c.args.i c.min-far.result (c.stream_bit.result - c.args.i) (omega arith) (omega arith) (omega arith) (omega arith) (omega arith)
 
-pub returns : goal.returns
-returns c =
+pub returns-then-stream_bit-far-clause-found : goal.returns-then-stream_bit-far-clause-found
+returns-then-stream_bit-far-clause-found c s stands most =
+    let l = ap (λ (b : List ℕ). length b) c.bytes.ensures.bytes in
+    let m = c.min-far.ensures in
+    let d = c.stream_bit.ensures in
+    let p = (ends-of c.args.rbsp.now c.args.i s stands).0 in
+    let shift : c.stream_bit.result - c.args.i ≡ s.shift = omega arith in
+    let last : c.min-far.result ≡ s.last = omega arith in
+    rw (shift, last) refl
+
+pub returns-clause-found : goal.returns-clause-found
+returns-clause-found c s stands most =
+    let l = ap (λ (b : List ℕ). length b) c.bytes.ensures.bytes in
+    let m = c.min-far.ensures in
+    let d = c.stream_bit.ensures in
+    let e = c.stream_bit-2.ensures in
+    let ends = ends-of c.args.rbsp.now c.args.i s stands in
+    let p = ends.0 in
+    let last : c.min-far.result ≡ s.last = omega arith in
+    let q = rw (← last) at ends.1 in
+    let other = c.if-stream_bit-far.false in
+    absurd (omega arith)
+
+pub returns-clause-stands : goal.returns-clause-stands
+returns-clause-stands c =
     let l = ap (λ (b : List ℕ). length b) c.bytes.ensures.bytes in
     let m = c.min-far.ensures in
     let k = c.min.ensures in
