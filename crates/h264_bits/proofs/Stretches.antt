@@ -63,7 +63,3 @@ in-byte body from last shift some inside same a fits = between body from last sh
 -- the first and the last of them
 pub ends-of : (body : Body) (from : ℕ) (s : Stretch) → IsStretch body from s → (place body from ≡ from + s.shift) × (place body s.last ≡ s.last + s.shift)
 ends-of body from s is = let some = is.some in ((is.steady from (omega arith) some).0, (is.steady s.last some (omega arith)).0)
-
--- the bits behind the first of them
-pub stretch-on : (body : Body) (from to : ℕ) (s : Stretch) → from ≤ to → to ≤ s.last → IsStretch body from s → IsStretch body to s
-stretch-on body from to s more some is = record { some = some; inside = is.inside; steady = λ i low high. is.steady i (omega arith) high }
