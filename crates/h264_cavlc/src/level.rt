@@ -24,8 +24,10 @@ fn first_suffix_length(token: Token) -> u32
     }
 }
 
+/// The greatest size of a level behind which suffixLength stays as it is, by suffixLength; it is 1 then where it was 0. Behind 6 it stays always.
+const GREATEST: [u16; 7] = [3, 3, 6, 12, 24, 48, u16::MAX];
+
 /// suffixLength of the level behind this one.
-#[tactic(auto, unfolding(crate::specs::Level::next_suffix_length))]
 #[inline(always)]
 fn next_suffix_length(suffix_length: u32, level: i16) -> u32
     requires { suffix_length ≤ 6 }
@@ -33,7 +35,7 @@ fn next_suffix_length(suffix_length: u32, level: i16) -> u32
     ensures short { result ≤ 6 }
 {
     let used = suffix_length.max(1);
-    if u32::from(level.unsigned_abs()) > 3 << (used - 1) && used < 6 {
+    if level.unsigned_abs() > GREATEST[suffix_length as usize] {
         used + 1
     } else {
         used
