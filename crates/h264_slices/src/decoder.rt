@@ -228,6 +228,7 @@ impl Decoder {
         requires kept { KeepsSomeGap modes.Full self.old }
         ensures plays { (frames : ℕ → Frame) (t : Turn) (next : ℕ) → FillsFrames frames t next self.old → Plays (took_with frames S.took) S.failures (λ x. x) (steps_outcome (told_frames modes.Full (last_turn t.buffer).written)) sink.old sink.new result }
         ensures written { (frames : ℕ → Frame) (t : Turn) (next : ℕ) → FillsFrames frames t next self.old → OnOk result (KeepsBuffer (last_turn t.buffer).buffer (length t.written + length (last_turn t.buffer).written) self.new.output) }
+        ensures others { self.new ≡ record self.old { output = self.new.output } }
         ensures no_memory { IfErr result (λ e. e ≡ Stop.Write) }
     {
         self.output.finish(&self.work, sink)
