@@ -23,7 +23,7 @@ ghost use Rattle.h264_slices.specs.Pictures.{CodedPicture, ends_picture, goes_on
 ghost use Rattle.h264_verify.specs.Feeding.{Turns, Joins, EndsAll};
 ghost use Rattle.h264_verify.specs.Units.{unit_call, is_slice, slice_unit_of, has_pictures};
 ghost use Rattle.h264_slices.specs.StepOutcome.{steps_outcome};
-ghost use Rattle.h264_verify.specs.UnitOutcome.{sps_outcome, pps_outcome, slice_outcome, whole_slice, joined, joined_other, joined_by};
+ghost use Rattle.h264_verify.specs.UnitOutcome.{sps_outcome, pps_outcome, slice_outcome, whole_slice, joined, joined_by};
 ghost use Rattle.h264_base.specs.declared.mode.Mode.{Mode};
 ghost use Rattle.h264_base.specs.declared.mode.Mode.TheVariants as modes;
 
@@ -315,40 +315,6 @@ fn is_slice(kind: u8) -> bool
     kind == 1 || kind == 5
 }
 
-/// A unit that is no parameter set joins those before it.
-fn join_other<S: FrameSink>(
-    alloc: Global,
-    mode: Mode,
-    state: &mut State,
-    header: u8,
-    unit: &NalUnit,
-    sink: &mut S,
-) -> Result<(), Stop>
-    requires room { S.failures sink.old < 2 ^ 64 - 1 }
-    requires units { state.old.units ≤ 2 ^ 40 }
-    requires pictures { state.old.slices.pictures ≤ state.old.units }
-    requires header { header ≡ header_of unit.now }
-    requires fits { fits_kind (nal_unit_type header) (nal_ref_idc header) ≡ true }
-    requires kept { KeepsSome mode (ends_picture (nal_unit_type header)) state.old }
-    ensures joins { (frames : ℕ → Frame) (before : History) → KeepsWithin mode frames before (ends_picture (nal_unit_type header)) state.old → Joins mode S.took S.failures frames (length (ended_pictures (goes_on before) (ends_picture (nal_unit_type header)) (runs_of before))) (joined_other mode (nal_unit_type header) before unit.now) state.new sink.old sink.new result }
-    ensures counts { OnOk result (state.new.units ≡ state.old.units + 1) }
-    ensures pictures { OnOk result (state.new.slices.pictures ≤ state.new.units) }
-    ensures kept { OnOk result (S.failures sink.new ≡ S.failures sink.old) }
-{
-    if !is_slice(header % 32) {
-        pass(state, header % 32);
-        return Ok(());
-    }
-    match mode {
-        Mode::Units => {
-            pass(state, header % 32);
-            Ok(())
-        }
-        Mode::Headers => join_slice(alloc, state, header, unit, sink),
-        Mode::Full => join_whole_slice(alloc, state, header, unit, sink),
-    }
-}
-
 /// A unit of this type is read and judged, and joins those before it.
 fn join<S: FrameSink>(
     alloc: Global,
@@ -375,7 +341,18 @@ fn join<S: FrameSink>(
     if header % 32 == 8 {
         return join_pps(alloc, mode, state, header % 32, unit, sink);
     }
-    join_other(alloc, mode, state, header, unit, sink)
+    if !is_slice(header % 32) {
+        pass(state, header % 32);
+        return Ok(());
+    }
+    match mode {
+        Mode::Units => {
+            pass(state, header % 32);
+            Ok(())
+        }
+        Mode::Headers => join_slice(alloc, state, header, unit, sink),
+        Mode::Full => join_whole_slice(alloc, state, header, unit, sink),
+    }
 }
 
 /// What comes of a unit.
