@@ -269,6 +269,7 @@ fn join_read<S: FrameSink>(
         &mut state.header,
         sink,
     )?;
+    state.units += 1;
     read_data(
         begins,
         &state.slices.held,
@@ -277,9 +278,7 @@ fn join_read<S: FrameSink>(
         &mut state.decoder,
         bits,
         sink,
-    )?;
-    state.units += 1;
-    Ok(())
+    )
 }
 
 /// A slice with its slice data is read and judged, and joins those before it.

@@ -9,6 +9,7 @@ use Rattle.h264_slices.specs.History.{maps_with}
 use Rattle.h264_slices.specs.Pictures.{CodedPicture, goes_on, runs_of, with_sets, held_in}
 use Rattle.h264_verify.specs.Keeping.{KeepsWithin}
 use Rattle.h264_slices.specs.Keeping.{KeepsDecoder}
+use Rattle.h264_header.proofs.Entries.{where-ok}
 use Rattle.h264_slices.proofs.Slicing.{some-of, sets-before}
 use Rattle.h264_slices.proofs.Entering.{begins-as}
 use Rattle.h264_verify.proofs.Joining.{units-with, runs-with, goes-newest, enters-full, some-slice}
@@ -87,38 +88,6 @@ returns-in_err-judge_slice g c =
       kept = tt;
     })
 
-pub returns-in_err-read_data : goal.returns-in_err-read_data
-returns-in_err-read_data g c =
-    let p = err_from_is_err_and c.from_residual-in_err-read_data.result c.from_residual-in_err-read_data.ensures.1 in
-    rw (p.1, p.2) (record {
-      joins = λ frames before k.
-          let h = c.read_header.new.header in
-          let unit = c.args.unit.now in
-          let kept = subst (λ (b : Bool). KeepsWithin modes.Full frames before b c.args.state.now) c.requires.goes_on k in
-          let some = some-of _ c.in_ok-read_header.ensures.named in
-          let j = c.in_ok-judge_slice.ensures.judges frames before some.0 kept.slices k.sets some.1 kept.decoder in
-          let first = c.requires.first in
-          let read = header-read j.made _ _ before unit c.args.header _ _ h _ _ _ _ _ k.sets c.requires.header c.slice_unit-slice_unit.ensures first c.in_ok-read_header.ensures.meets c.in_ok-read_header.ensures.answers in
-          let b = begins-as before h c.args.state.now.slices _ kept.slices c.begins-begins.ensures in
-          let named = sets-before _ _ h _ c.in_ok-judge_slice.ensures.sets some.1 in
-          let held = (c.in_ok-judge_slice.ensures.keeps before [] kept.slices k.sets).kept.held ∙ ap held_in (sym (runs-with before unit h [] _ _ some.0 b k.sets some.1)) in
-          let place = placed c.begins-begins.result (runs_of before) h (c.in_ok-judge_slice.ensures.place frames before kept.slices kept.decoder) in
-          let enters = enters-full j.made c.begins-begins.result (with_sets unit h [] some.0) (goes_on before) (runs_of before) _ j.enters in
-          let set = later-set c.args.state.now.sets (with_sets unit h [] some.0) some.1 c.begins-begins.result (goes_on before) (runs_of before) b (subst (λ (m : Maps). NamesSet (goes_on before) (runs_of before) m) (sym k.sets) kept.slices.named) in
-          let d = c.in_err-read_data.ensures.reads j.made (goes_on before) (runs_of before) (with_sets unit h [] some.0) named c.in_ok-judge_slice.ensures.header held place refl (goes-newest (goes_on before) (runs_of before) h c.begins-begins.result b) set enters in
-          let there = data-there _ _ _ (runs_of before) (with_sets unit h [] some.0) _ _ _ (body_of unit) _ _ _ _ b (c.in_ok-read_header.ensures.meets.same ∙ ap (λ (r : Reader). r.body) first) d.plays in
-          record {
-            made = j.made;
-            same = j.same;
-            after = record { unit = unit; content = contents.OfSlice h d.macroblocks } ∷ before;
-            plays = slice-reads _ _ before unit h _ _ _ _ read _ _ j.plays some.0 (ap (λ m. sets_of m h.pic_parameter_set_id.value) (sym k.sets) ∙ some.1) d.macroblocks d.end _ _ there;
-            keeps = tt;
-          };
-      counts = tt;
-      pictures = tt;
-      kept = tt;
-    })
-
 pub returns-clause-joins : goal.returns-clause-joins
 returns-clause-joins g c = λ frames before k.
     let h = c.read_header.new.header in
@@ -134,17 +103,17 @@ returns-clause-joins g c = λ frames before k.
     let place = placed c.begins-begins.result (runs_of before) h (c.in_ok-judge_slice.ensures.place frames before kept.slices kept.decoder) in
     let enters = enters-full j.made c.begins-begins.result (with_sets unit h [] some.0) (goes_on before) (runs_of before) _ j.enters in
     let set = later-set c.args.state.now.sets (with_sets unit h [] some.0) some.1 c.begins-begins.result (goes_on before) (runs_of before) b (subst (λ (m : Maps). NamesSet (goes_on before) (runs_of before) m) (sym k.sets) kept.slices.named) in
-    let d = c.in_ok-read_data.ensures.reads j.made (goes_on before) (runs_of before) (with_sets unit h [] some.0) named c.in_ok-judge_slice.ensures.header held place refl (goes-newest (goes_on before) (runs_of before) h c.begins-begins.result b) set enters in
+    let d = c.read_data.ensures.reads j.made (goes_on before) (runs_of before) (with_sets unit h [] some.0) named c.in_ok-judge_slice.ensures.header held place refl (goes-newest (goes_on before) (runs_of before) h c.begins-begins.result b) set enters in
     let there = data-there _ _ _ (runs_of before) (with_sets unit h [] some.0) _ _ _ (body_of unit) _ _ _ _ b (c.in_ok-read_header.ensures.meets.same ∙ ap (λ (r : Reader). r.body) first) d.plays in
     record {
       made = j.made;
       same = j.same;
       after = record { unit = unit; content = contents.OfSlice h d.macroblocks } ∷ before;
       plays = slice-reads _ _ before unit h _ _ _ _ read _ _ j.plays some.0 (ap (λ m. sets_of m h.pic_parameter_set_id.value) (sym k.sets) ∙ some.1) d.macroblocks d.end _ _ there;
-      keeps = record {
+      keeps = where-ok c.read_data.result (λ kept_on. record {
         units = units-with before (record { unit = unit; content = contents.OfSlice h d.macroblocks }) _ _ refl k.units;
         sets = c.in_ok-judge_slice.ensures.sets ∙ ap (λ m. maps_with m (contents.OfSlice h d.macroblocks)) k.sets;
         slices = c.in_ok-judge_slice.ensures.keeps before d.macroblocks kept.slices k.sets;
-        decoder = subst (λ (ps : List CodedPicture). KeepsDecoder modes.Full j.made true false ps c.read_data.new.decoder) (runs-with before unit h d.macroblocks _ _ some.0 b k.sets some.1) d.keeps;
-      };
+        decoder = subst (λ (ps : List CodedPicture). KeepsDecoder modes.Full j.made true false ps c.read_data.new.decoder) (runs-with before unit h d.macroblocks _ _ some.0 b k.sets some.1) kept_on;
+      }) d.keeps;
     }
