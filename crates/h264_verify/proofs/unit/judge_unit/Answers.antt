@@ -1,4 +1,4 @@
-use Rattle.std.proofs.Common.{◌≡◌, ℕ, ◌-◌, ◌*◌, ◌<◌, ◌^◌, [], Bool, List, Result, Ok, OnOk, refl, ap, sym, ◌∙◌, subst, length}
+use Rattle.std.proofs.Common.{◌≡◌, ℕ, ◌-◌, ◌*◌, ◌<◌, ◌^◌, [], Bool, List, Result, Ok, Err, OnOk, refl, ap, sym, ◌∙◌, subst, length}
 use Rattle.h264_base.specs.declared.mode.Mode.{Mode}
 use Rattle.h264_base.specs.declared.stop.Stop.{Stop}
 use Rattle.h264_base.specs.Call.{Call}
@@ -13,7 +13,7 @@ use Rattle.h264_slices.specs.History.{History}
 use Rattle.h264_slices.specs.Framing.{EndsFrames}
 use Rattle.h264_verify.specs.Feeding.{Joins, Turns}
 use Rattle.std.proofs.lemmas.Result.{err_from_is_err_and}
-use Rattle.h264_slices.specs.Outcome.{answers, tells, Plays}
+use Rattle.h264_slices.specs.Outcome.{answers, tells, Plays, IsNamed}
 use Rattle.h264_slices.specs.UnitHeader.{header_of, nal_unit_type, header_demands}
 use Rattle.h264_slices.specs.Pictures.{goes_on, runs_of, ends_picture}
 use Rattle.h264_slices.specs.Keeping.{ended_pictures, ended_in, close_steps}
@@ -54,6 +54,56 @@ module _ {S : Type 0} (mode : Mode) (took : S → List Call → Type 0) (failure
         keeps = j.keeps;
       }
 
+  -- a unit that stops at its bytes, at its header, at the sink, or at the end of the picture before it
+  stops-sound : (new : State) (s : S) (e : Stop) → (let a : Result (Unit {0}) Stop = Err e in a ≡ emulation_checked unit.from unit.body) → IsNamed e → Turns {X = Unit {0}} mode took failures frames before unit new s s (Err e)
+  unfolding unit_by_steps
+  stops-sound new s e sound named = record { made = frames; same = λ n h. refl; after = []; plays = plays-course (took_with frames took) failures (λ (q : Unit {0}). []) mode before unit s s (Err e) (answer-stops (took_with frames took) failures (λ (q : Unit {0}). []) _ _ s e (ap answers (sym sound)) named); keeps = tt }
+
+  stops-header : (new : State) (s : S) (x : Unit {0}) (e : Stop) → (let a : Result (Unit {0}) Stop = Ok x in a ≡ emulation_checked unit.from unit.body) → (let a : Result (Unit {0}) Stop = Err e in a ≡ judged (header_demands (8 * unit.from) (header_of unit))) → Turns {X = Unit {0}} mode took failures frames before unit new s s (Err e)
+  unfolding unit_by_steps
+  stops-header new s x e sound header =
+      let view : Unit {0} → History = λ q. [] in
+      record {
+        made = frames;
+        same = λ n h. refl;
+        after = [];
+        plays = plays-course (took_with frames took) failures view mode before unit s s (Err e)
+            (answer-on (took_with frames took) failures view _ _ s s x (Err e) (ap answers (sym sound))
+            (answer-stops (took_with frames took) failures view _ _ s e (ap answers (sym header)) (err-named (header_demands (8 * unit.from) (header_of unit)) e (sym header))));
+        keeps = tt;
+      }
+
+  stops-told : (new : State) (s s' : S) (x y : Unit {0}) (e : Stop) → (let a : Result (Unit {0}) Stop = Ok x in a ≡ emulation_checked unit.from unit.body) → (let a : Result (Unit {0}) Stop = Ok y in a ≡ judged (header_demands (8 * unit.from) (header_of unit))) → Plays (took_with frames took) failures (λ (q : Unit {0}). q) (tells (Said (unit_call unit.from (header_of unit) (length unit.body)))) s s' (Err e) → Turns {X = Unit {0}} mode took failures frames before unit new s s' (Err e)
+  unfolding unit_by_steps
+  stops-told new s s' x y e sound header told =
+      let view : Unit {0} → History = λ q. [] in
+      record {
+        made = frames;
+        same = λ n h. refl;
+        after = [];
+        plays = plays-course (took_with frames took) failures view mode before unit s s' (Err e)
+            (answer-on (took_with frames took) failures view _ _ s s' x (Err e) (ap answers (sym sound))
+            (answer-on (took_with frames took) failures view _ _ s s' y (Err e) (ap answers (sym header))
+            (plays-stops (took_with frames took) failures (λ (q : Unit {0}). q) view _ _ s s' e told)));
+        keeps = tt;
+      }
+
+  stops-closing : (mid : Decoder) (new : State) (s0 s1 s2 : S) (x y z : Unit {0}) (stop : Stop) → (let a : Result (Unit {0}) Stop = Ok x in a ≡ emulation_checked unit.from unit.body) → (let a : Result (Unit {0}) Stop = Ok y in a ≡ judged (header_demands (8 * unit.from) (header_of unit))) → ((made : ℕ → Frame) → Plays (took_with made took) failures (λ (q : Unit {0}). q) (tells (Said (unit_call unit.from (header_of unit) (length unit.body)))) s0 s1 (Ok z)) → EndsFrames mode took failures frames (goes_on before) ends (runs_of before) (steps_outcome (close_steps mode ends before)) mid s1 s2 (Err stop) → Turns {X = Unit {0}} mode took failures frames before unit new s0 s2 (Err stop)
+  unfolding unit_by_steps
+  stops-closing mid new s0 s1 s2 x y z stop sound header told e =
+      let view : Unit {0} → History = λ q. [] in
+      record {
+        made = e.made;
+        same = e.same;
+        after = [];
+        plays = plays-course (took_with e.made took) failures view mode before unit s0 s2 (Err stop)
+            (answer-on (took_with e.made took) failures view _ _ s0 s2 x (Err stop) (ap answers (sym sound))
+            (answer-on (took_with e.made took) failures view _ _ s0 s2 y (Err stop) (ap answers (sym header))
+            (plays-on (took_with e.made took) failures (λ (q : Unit {0}). q) view _ _ s0 s1 s2 z (Err stop) (told e.made)
+            (plays-stops (took_with e.made took) failures (λ (q : Unit {0}). q) view _ _ s1 s2 stop e.plays))));
+        keeps = tt;
+      }
+
 -- sinks that failed as often
 kept-on : {X : Type 0} (r : Result X Stop) (a b n : ℕ) → b ≡ a → OnOk r (n ≡ b) → OnOk r (n ≡ a)
 kept-on r a b n e h = subst (λ (m : ℕ). OnOk r (n ≡ m)) e h
@@ -81,36 +131,31 @@ join-requires-clause-kept g c =
     record { frames = e.made; before = k.before; keeps = within {mode = c.args.mode} {frames = k.frames} {made = e.made} {before = k.before} c.args.state.now c.close_if.new.slices c.close_if.new.decoder k.keeps (rw c.ends_picture-ends.ensures at ended) (rw c.ends_picture-ends.ensures at e.keeps) }
 
 pub returns-in_err-check_emulation-clause-turns : goal.returns-in_err-check_emulation-clause-turns
-unfolding unit_by_steps
 returns-in_err-check_emulation-clause-turns g c =
     let p = err_from_is_err_and c.from_residual.result c.from_residual.ensures.1 in
     let n = c.in_err-check_emulation.ensures.err in
-    rw (p.1, p.2) (λ frames before k. record { made = frames; same = λ n h. refl; after = []; plays = plays-course _ _ _ _ before _ _ _ _ (answer-stops _ _ _ _ _ _ _ (ap answers (sym c.in_err-check_emulation.ensures.value)) (named-by _ _ _ n.1)); keeps = tt })
+    rw (p.1, p.2) (λ frames before k. stops-sound c.args.mode _ _ frames before c.args.unit.now _ _ _ c.in_err-check_emulation.ensures.value (named-by _ _ _ n.1))
 
 pub returns-in_err-check_header-clause-turns : goal.returns-in_err-check_header-clause-turns
-unfolding unit_by_steps
 returns-in_err-check_header-clause-turns g c =
     let p = err_from_is_err_and c.from_residual-in_err-check_header.result c.from_residual-in_err-check_header.ensures.1 in
     let header = rw (c.from-from.ensures.value, c.body-body.ensures.value) at c.in_err-check_header.ensures in
-    rw (p.1, p.2) (λ frames before k. record { made = frames; same = λ n h. refl; after = []; plays = plays-course _ _ _ _ before _ _ _ _ (answer-on _ _ _ _ _ _ _ _ _ (ap answers (sym c.in_ok-check_emulation.ensures.value)) (answer-stops _ _ _ _ _ _ _ (ap answers (sym header)) (err-named (header_demands (8 * c.args.unit.now.from) (header_of c.args.unit.now)) _ (sym header)))); keeps = tt })
+    rw (p.1, p.2) (λ frames before k. stops-header c.args.mode _ _ frames before c.args.unit.now _ _ _ _ c.in_ok-check_emulation.ensures.value header)
 
 pub returns-in_err-tell_unit-clause-turns : goal.returns-in_err-tell_unit-clause-turns
-unfolding unit_by_steps
 returns-in_err-tell_unit-clause-turns g c =
     let p = err_from_is_err_and c.from_residual-in_err-tell_unit.result c.from_residual-in_err-tell_unit.ensures.1 in
     let header = rw (c.from-from.ensures.value, c.body-body.ensures.value) at c.in_ok-check_header.ensures in
-    rw (p.1, p.2) (λ frames before k. let told = rw (c.from-from.ensures.value, c.body-body.ensures.value) at (c.in_err-tell_unit.ensures.plays frames) in record { made = frames; same = λ n h. refl; after = []; plays = plays-course _ _ _ _ before _ _ _ _ (answer-on _ _ _ _ _ _ _ _ _ (ap answers (sym c.in_ok-check_emulation.ensures.value)) (answer-on _ _ _ _ _ _ _ _ _ (ap answers (sym header)) (plays-stops _ _ (λ x. x) _ _ _ _ _ _ told))); keeps = tt })
+    let says = rw (c.from-from.ensures.value, c.body-body.ensures.value) at c.in_err-tell_unit.ensures.plays in
+    rw (p.1, p.2) (λ frames before k. stops-told c.args.mode _ _ frames before c.args.unit.now _ _ _ _ _ _ c.in_ok-check_emulation.ensures.value header (says frames))
 
 pub returns-in_err-close_if-clause-turns : goal.returns-in_err-close_if-clause-turns
-unfolding unit_by_steps
 returns-in_err-close_if-clause-turns g c =
     let p = err_from_is_err_and c.from_residual-in_err-close_if.result c.from_residual-in_err-close_if.ensures.1 in
     let header = rw (c.from-from.ensures.value, c.body-body.ensures.value) at c.in_ok-check_header.ensures in
-    rw (p.1, p.2) (λ frames before k.
-    let e = c.in_err-close_if.ensures.closes frames before k.slices k.decoder in
-    let ended = rw (c.ends_picture-ends.ensures, c.body-body.ensures.value) at e.plays in
-    let told = rw (c.from-from.ensures.value, c.body-body.ensures.value) at (c.in_ok-tell_unit.ensures.plays e.made) in
-    record { made = e.made; same = e.same; after = []; plays = plays-course _ _ _ _ before _ _ _ _ (answer-on _ _ _ _ _ _ _ _ _ (ap answers (sym c.in_ok-check_emulation.ensures.value)) (answer-on _ _ _ _ _ _ _ _ _ (ap answers (sym header)) (plays-on _ _ (λ x. x) _ _ _ _ _ _ _ _ told (plays-stops _ _ (λ x. x) _ _ _ _ _ _ ended)))); keeps = tt })
+    let says = rw (c.from-from.ensures.value, c.body-body.ensures.value) at c.in_ok-tell_unit.ensures.plays in
+    let closes = rw (c.ends_picture-ends.ensures, c.body-body.ensures.value) at c.in_err-close_if.ensures.closes in
+    rw (p.1, p.2) (λ frames before k. stops-closing c.args.mode _ _ frames before c.args.unit.now _ _ _ _ _ _ _ _ _ c.in_ok-check_emulation.ensures.value header says (closes frames before k.slices k.decoder))
 
 pub returns-clause-turns : goal.returns-clause-turns
 returns-clause-turns g c =
