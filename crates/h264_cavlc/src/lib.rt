@@ -13,6 +13,7 @@ mod runs;
 #[cfg(test)]
 mod tests;
 mod token;
+mod totals;
 mod zeros;
 
 pub use residual::{Levels, block, block_into};

@@ -7,25 +7,10 @@ ghost use Rattle.h264_cavlc.specs.Zeros as syntax;
 ghost use Rattle.h264_cavlc.specs.Place.{by_place as standing};
 
 use crate::runs::run_before_word;
+use crate::totals::{total_zeros_table, total_zeros_word};
 use h264_base::{ElementName, Elements, Rule, Stop};
-use h264_bits::{Bits, check, read_entry, read_word};
+use h264_bits::{Bits, check, read_entry};
 use h264_tables::Table;
-
-/// The table of total_zeros.
-#[tactic(auto, unfolding(crate::specs::Zeros::total_zeros_table))]
-#[inline(always)]
-fn total_zeros_table(size: usize, total: u8) -> Table
-    requires some { 0 < total }
-    requires less { total < size }
-    requires few { size ≤ 16 }
-    ensures { result ≡ syntax.total_zeros_table size total }
-{
-    if size == 4 {
-        Table::total_zeros_chroma_dc(total)
-    } else {
-        Table::total_zeros(total)
-    }
-}
 
 /// Reads total_zeros of a block that has `total` coefficients.
 #[inline(always)]
@@ -46,11 +31,13 @@ pub(crate) fn read_total_zeros<S: Elements>(
         return Ok(0);
     }
     let table = total_zeros_table(size, total);
-    let found = read_word(
+    let entry = total_zeros_word(size, total, bits.next_16());
+    let found = read_entry(
         bits,
         Rule::ResidualWord,
         ElementName::TotalZeros,
         table,
+        entry,
         sink,
     )?;
     let zeros = found.value;
