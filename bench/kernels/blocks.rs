@@ -242,9 +242,19 @@ fn next_suffix_length(suffix_length: u32, level: i32) -> u32 {
     if level.unsigned_abs() > 3 << (used - 1) && used < 6 { used + 1 } else { used }
 }
 
+static PREFIX_LENGTHS: [u8; 17] = [0, 16, 15, 14, 13, 12, 11, 10, 9, 8, 7, 6, 5, 4, 3, 2, 1];
+static PREFIX_VALUES: [u8; 17] = [0, 15, 14, 13, 12, 11, 10, 9, 8, 7, 6, 5, 4, 3, 2, 1, 0];
+
+#[inline]
+fn level_prefix_entry(bits: u16) -> (u8, u8) {
+    let shift = 31u32.saturating_sub((bits as u32).leading_zeros());
+    let entry = (shift + (bits as u32 >> shift)) as usize;
+    (PREFIX_LENGTHS[entry], PREFIX_VALUES[entry])
+}
+
 #[inline]
 fn read_level(bits: &mut Bits, s: u32, never_one: bool) -> Result<i32, Stop> {
-    let prefix = bits.word(level_prefix::level_prefix_entry, 15)? as u32;
+    let prefix = bits.word(level_prefix_entry, 15)? as u32;
     let size = if prefix == 14 && s == 0 { 4 } else if prefix == 15 { 12 } else { s };
     let suffix = if size == 0 { 0 } else { bits.bits(size)? };
     let escape = if prefix == 15 && s == 0 { 15 } else { 0 };

@@ -4,7 +4,7 @@ import re, sys
 
 print("macro_rules! entry {")
 print(re.search(r"macro_rules! entry \{\n(.*?\n\})\n", open(sys.argv[1] + "/src/lib.rt").read(), re.S).group(1))
-for name in ["coeff_token", "total_zeros", "run_before", "level_prefix"]:
+for name in ["coeff_token", "total_zeros", "run_before"]:
     text = open(f"{sys.argv[1]}/src/{name}.rt").read()
     print(f"pub mod {name} {{")
     for column in re.findall(r"(?:pub )?const (\w+: \[u\d+; \d+\] = \[.*?\];)", text, re.S):
