@@ -19,7 +19,7 @@ use Rattle.h264_report.specs.declared.trail.Element.{Element}
 use Rattle.h264_report.proofs.Known.{sends-more, sends-none, sends-keeps, some-behind}
 use Rattle.h264_slices.specs.Telling.{Told, Tells, took_with, calls_of, AreDecoded}
 use Rattle.h264_verify.specs.Verdict.{Verdict, JudgedBy, Judged}
-use Rattle.h264_verify.specs.declared.judge.Summary.{Summary}
+use Rattle.h264_judge.specs.declared.state.Summary.{Summary}
 use Rattle.h264_verify.proofs.Verdicts.{judges-judged, none-judged}
 
 -- what is told last can be broken off before it begins

@@ -15,7 +15,7 @@ use Rattle.h264_report.specs.declared.listing.Listing.{Listing}
 use Rattle.h264_report.specs.declared.trail.Element.{Element}
 use Rattle.h264_slices.specs.Telling.{Told, calls_of, AreDecoded}
 use Rattle.h264_verify.specs.Verdict.{Verdict}
-use Rattle.h264_verify.specs.declared.judge.Summary.{Summary}
+use Rattle.h264_judge.specs.declared.state.Summary.{Summary}
 
 -- Of the bytes that a source gives; where it does not tell them, of some bytes.
 abbrev pub OfBytes : Option (List ℕ) → (List ℕ → Type 0) → Type 0

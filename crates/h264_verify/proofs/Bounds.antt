@@ -1,7 +1,7 @@
 -- What the verdict says of predictions and of the buffer, at each picture of a stream.
 use Rattle.std.proofs.Common.{◌≡◌, ℕ, Bool, true, false, List, ◌∷◌, ◌++◌, sym, ◌∙◌, subst}
 use Rattle.h264_base.specs.declared.mode.Mode.TheVariants as modes
-use Rattle.h264_verify.specs.declared.judge.Summary.{Summary}
+use Rattle.h264_judge.specs.declared.state.Summary.{Summary}
 use Rattle.h264_slices.specs.Telling.{Told}
 use Rattle.h264_slices.specs.History.{History}
 use Rattle.h264_slices.specs.Pictures.{CodedPicture, goes_on, held_in, runs_of}

@@ -1,5 +1,5 @@
 -- The steps of a session one after another, with frames to which more come.
-use Rattle.std.proofs.Common.{◌≡◌, ℕ, ◌≤◌, ◌==◌, true, false, IsFalse, drop, List, [], ◌++◌, length, ◌+◌, ◌*◌, Option, Result, Ok, refl, ◌∙◌, subst, arith}
+use Rattle.std.proofs.Common.{◌≡◌, ℕ, ◌≤◌, ◌==◌, true, false, IsFalse, drop, List, [], ◌++◌, length, ◌+◌, ◌*◌, Option, Result, Ok, refl, sym, ◌∙◌, subst, arith}
 use Rattle.std.proofs.lemmas.Bool.{eqb-true}
 use Rattle.std.proofs.lemmas.List.{nil_from_length}
 use Rattle.h264_base.specs.declared.mode.Mode.{Mode}
@@ -8,19 +8,21 @@ use Rattle.h264_base.specs.Call.{Call}
 use Rattle.h264_plane.specs.declared.frame.Frame.{Frame}
 use Rattle.h264_units.specs.Stream.{NalUnit}
 use Rattle.h264_units.specs.Splitting.{Splitting, Pushed, Taken, Finished}
-use Rattle.h264_verify.specs.declared.judge.State.{State}
-use Rattle.h264_verify.specs.declared.judge.Summary.{Summary}
+use Rattle.h264_judge.specs.declared.state.State.{State}
+use Rattle.h264_judge.specs.declared.state.Summary.{Summary}
 use Rattle.h264_slices.specs.Outcome.{Plays}
-use Rattle.h264_slices.specs.Telling.{took_with, Agree, AreOf}
-use Rattle.h264_verify.specs.Judging.{Judging}
+use Rattle.h264_slices.specs.Telling.{Told, took_with, Agree, AreOf}
+use Rattle.h264_verify.specs.Judging.{Judging, judging}
 use Rattle.h264_verify.specs.Session.{Standing, Goes, Fed}
 use Rattle.h264_slices.specs.History.{History}
-use Rattle.h264_verify.specs.Keeping.{Keeps, KeepsSome}
+use Rattle.h264_judge.specs.Keeping.{Keeps, KeepsSome}
 use Rattle.h264_slices.specs.Keeping.{ended_in}
-use Rattle.h264_verify.specs.UnitOutcome.{judging, unit_outcome, end_outcome}
-use Rattle.h264_verify.specs.Feeding.{behind, Turns, EndsAll, GoesOn, StopsOn, FinishesOn}
-use Rattle.h264_verify.proofs.Agreeing.{of-more, of-both, tells-agree, plays-agree}
-use Rattle.h264_verify.proofs.Growing.{unit-grows}
+use Rattle.h264_judge.specs.UnitOutcome.{unit_outcome, end_outcome}
+use Rattle.h264_judge.specs.Turning.{Turns, EndsAll}
+use Rattle.h264_verify.specs.Feeding.{behind, GoesOn, StopsOn, FinishesOn}
+use Rattle.h264_verify.specs.Verdict.{SameTold}
+use Rattle.h264_judge.proofs.Agreeing.{of-more, of-both, calls-agree, decoded-told-agree, tells-agree, plays-agree}
+use Rattle.h264_judge.proofs.Growing.{unit-grows}
 use Rattle.h264_verify.proofs.Finishing.{finish-unit}
 use Rattle.h264_verify.proofs.Feeding.{goes-push, goes-unit, goes-none-taken, goes-both, goes-none, stops-after}
 use Rattle.h264_verify.proofs.Sources.{goes-more}
@@ -36,6 +38,13 @@ agree-none n f = λ k h. refl
 
 pub agree-both : (n m : ℕ) (f g h : ℕ → Frame) → Agree n f g → n ≤ m → Agree m g h → Agree n f h
 agree-both n m f g h a l b = λ k i. a k i ∙ b k (omega (arith, i, l))
+
+-- two families with the same first frames tell the same of the first pictures
+pub told-agree : (n : ℕ) (frames others : ℕ → Frame) (told : List Told) → Agree n frames others → AreOf n told → SameTold frames others told
+told-agree n frames others told a h = record {
+  calls = sym (calls-agree n frames others told a h);
+  decoded = decoded-told-agree n frames others told a h;
+}
 
 unfoldable pub goes-agree : {State Summary S : Type 0} {j : Judging State Summary} (took : S → List Call → Type 0) (n : ℕ) (f g : ℕ → Frame) {old new : Standing State} {piece left : List ℕ} {s s' : S} → Agree n f g → (x : Goes j (took_with f took) old new piece left s s') → AreOf n x.calls → Goes j (took_with g took) old new piece left s s'
 goes-agree took n f g {s} {s'} a x o = record { calls = x.calls; tells = tells-agree took n f g s s' x.calls a o x.tells; way = x.way; after = x.after }

@@ -18,7 +18,7 @@ use Rattle.h264_vectors.specs.declared.slice.SliceContext.{SliceContext}
 use Rattle.h264_picture.specs.Context.{slice_context}
 use Rattle.h264_picture.specs.Levels.{transform_fits}
 use Rattle.h264_plane.specs.declared.frame.Frame.{Frame}
-use Rattle.h264_verify.specs.declared.judge.Summary.{Summary}
+use Rattle.h264_judge.specs.declared.state.Summary.{Summary}
 use Rattle.h264_slices.specs.Telling.{Told, Said, HasFrame, AreDecoded}
 use Rattle.h264_slices.specs.Content.{Content}
 use Rattle.h264_slices.specs.Content as contents
@@ -35,12 +35,12 @@ use Rattle.h264_slices.specs.Decoding.{EachSlice}
 use Rattle.h264_slices.specs.Buffering.{end_frames, closing_frames, last_frames}
 use Rattle.h264_slices.specs.Keeping.{ended_pictures, standing_demands}
 use Rattle.h264_slices.specs.Sound.{IsMarked, AreSound, has_ended, HasActive}
-use Rattle.h264_verify.specs.Units.{slice_unit, content_steps, data_course, frames_at, picture_demand, end_steps}
+use Rattle.h264_judge.specs.Units.{slice_unit, content_steps, data_course, frames_at, picture_demand, end_steps}
 use Rattle.h264_verify.specs.Verdict.{IsLegal, AreLegal, Holds}
-use Rattle.h264_verify.proofs.Agreeing.{decoded-last}
+use Rattle.h264_judge.proofs.Agreeing.{decoded-last}
 use Rattle.h264_verify.proofs.Alike.{last-of}
 use Rattle.h264_slices.proofs.Entering.{IsNoSlice, left-active}
-use Rattle.h264_verify.proofs.Joining.{runs-with}
+use Rattle.h264_judge.proofs.Joining.{runs-with}
 use Rattle.h264_verify.proofs.Legal.{byte_steps, Met, met-first, met-last, met-judged, HaveDecoded, have-decoded, have-first, have-last, decoded-first, met, HasEnded, has-met, IsHeader, IsContent, is-content, marked-alone, header-marked, rest-ends, rest-reads}
 use Rattle.h264_verify.proofs.Named.{IsOfKind, AreRead}
 use Rattle.h264_verify.proofs.Soundness.{closes-sound, passed-sound, begun-sound, begun-filled}

@@ -33,11 +33,11 @@ use Rattle.h264_slices.specs.UnitHeader.{header_of, nal_unit_type, header_demand
 use Rattle.h264_slices.specs.History.{History, ReadUnit, maps_of}
 use Rattle.h264_slices.specs.Pictures.{closing_at}
 use Rattle.h264_slices.specs.Closing.{whole_at}
-use Rattle.h264_verify.specs.Units.{unit_call, is_slice, slice_unit, other_content, content, content_steps, data_course, frames_at, content_course}
+use Rattle.h264_judge.specs.Units.{unit_call, is_slice, slice_unit, other_content, content, content_steps, data_course, frames_at, content_course}
 use Rattle.h264_verify.specs.Verdict.{IsLegal}
-use Rattle.h264_verify.proofs.Agreeing.{decoded-last}
-use Rattle.h264_verify.proofs.Growing.{some-mapped}
-use Rattle.h264_verify.proofs.Marked.{IsOfUnit, header-of, marked-of}
+use Rattle.h264_judge.proofs.Agreeing.{decoded-last}
+use Rattle.h264_judge.proofs.Growing.{some-mapped}
+use Rattle.h264_judge.proofs.Marked.{IsOfUnit, header-of, marked-of}
 use Rattle.h264_verify.proofs.Named.{LeavesAlone}
 use Rattle.h264_slices.specs.Held.{is_own}
 use Rattle.h264_slices.specs.Sound.{IsMarked}

@@ -1,15 +1,9 @@
-pub mod Agreeing
-pub mod Growing
 pub mod Ways
 pub mod Feeding
 pub mod Finishing
 pub mod Familiar
 pub mod Sources
-pub mod Marked
 pub mod Within
-pub mod Joining
-pub mod Courses
-pub mod Reading
 pub mod Verdicts
 pub mod Heard
 pub mod Alike

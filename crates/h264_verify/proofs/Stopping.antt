@@ -11,7 +11,7 @@ use Rattle.h264_sps.specs.declared.sps.Sps.{Sps}
 use Rattle.h264_pps.specs.declared.Pps.{Pps}
 use Rattle.h264_header.specs.declared.header.Header.{Header}
 use Rattle.h264_plane.specs.declared.frame.Frame.{Frame}
-use Rattle.h264_verify.specs.declared.judge.Summary.{Summary}
+use Rattle.h264_judge.specs.declared.state.Summary.{Summary}
 use Rattle.h264_slices.specs.Telling.{Told, Said, Decodes, Shows, calls_of, HasFrame, AreDecoded, AreOf}
 use Rattle.h264_slices.specs.Content.{Content}
 use Rattle.h264_slices.specs.Content as contents
@@ -25,11 +25,11 @@ use Rattle.h264_slices.specs.Closing.{whole_picture, whole_steps, whole_at}
 use Rattle.h264_slices.specs.Buffering.{end_frames, closing_frames, last_frames}
 use Rattle.h264_slices.specs.Keeping.{ended_pictures, ended_in}
 use Rattle.h264_slices.specs.Slices.{is_idr_due, rules_of, slice_call, steps_by, slice_steps}
-use Rattle.h264_verify.specs.Units.{unit_call, content_steps, data_course, frames_at, unit_course, picture_demand, end_steps}
+use Rattle.h264_judge.specs.Units.{unit_call, content_steps, data_course, frames_at, unit_course, picture_demand, end_steps}
 use Rattle.h264_verify.specs.Verdict.{IsStop, AtBytes, InCourse, AreLegal, IsStopBehind, AtNext, AtTail, AtEnd, Verdict}
-use Rattle.h264_verify.proofs.Agreeing.{of-both, of-more, decoded-last}
+use Rattle.h264_judge.proofs.Agreeing.{of-both, of-more, decoded-last}
 use Rattle.h264_verify.proofs.Family.{same-on, legal-family}
-use Rattle.h264_verify.proofs.Growing.{StepsOf, needs-of, steps-of, elements-of, slice-of, picture-end-of, ended-few, ended-whole, end-of}
+use Rattle.h264_judge.proofs.Growing.{StepsOf, needs-of, steps-of, elements-of, slice-of, picture-end-of, ended-few, ended-whole, end-of}
 use Rattle.h264_verify.proofs.Leaving.{HaveFrames, legal-read, legal-frames}
 use Rattle.h264_verify.proofs.Legal.{decoded-first, end_steps_at}
 use Rattle.h264_verify.proofs.Output.{shown-alike, calls-same, legal-of, one-output}

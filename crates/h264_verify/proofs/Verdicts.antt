@@ -14,26 +14,26 @@ use Rattle.h264_units.specs.Splitting.{Splitting, at_start}
 use Rattle.h264_rbsp.specs.Emulation.{IsFault, IsFirstFault, emulation_checked}
 use Rattle.h264_rbsp.specs.Rbsp.{body_of}
 use Rattle.h264_rbsp.proofs.Told.{is-checked, none-checked, some-checked}
-use Rattle.h264_verify.specs.declared.judge.State.{State}
-use Rattle.h264_verify.specs.declared.judge.Summary.{Summary}
+use Rattle.h264_judge.specs.declared.state.State.{State}
+use Rattle.h264_judge.specs.declared.state.Summary.{Summary}
 use Rattle.h264_slices.specs.Content.{Content}
 use Rattle.h264_slices.specs.Outcome.{Outcome, ◌>>=◌, with_calls, answers, Plays}
-use Rattle.h264_verify.specs.Judging.{unless, tail_outcome, units_outcome, Comes}
+use Rattle.h264_verify.specs.Judging.{unless, tail_outcome, units_outcome, Comes, judging}
 use Rattle.h264_verify.specs.Session.{Standing, ToCome, Shows, Leads, Way, Goes, RansBy}
 use Rattle.h264_slices.specs.Steps.{AreMet, IsFirstStop, Runs}
 use Rattle.h264_slices.specs.History.{History, ReadUnit}
-use Rattle.h264_verify.specs.Keeping.{Keeps}
+use Rattle.h264_judge.specs.Keeping.{Keeps}
 use Rattle.h264_slices.specs.Keeping.{ended_in}
-use Rattle.h264_verify.specs.Units.{unit_course, end_steps, summary_of}
+use Rattle.h264_judge.specs.Units.{unit_course, end_steps, summary_of}
 use Rattle.h264_slices.specs.StepOutcome.{steps_outcome, course_outcome}
-use Rattle.h264_verify.specs.UnitOutcome.{unit_outcome, end_outcome, judging}
+use Rattle.h264_judge.specs.UnitOutcome.{unit_outcome, end_outcome}
 use Rattle.h264_verify.specs.Progress.{Progress, IsFresh}
 use Rattle.h264_verify.specs.Feeding.{behind, GoesOn, StopsOn, FinishesOn, FedOn, JudgesWith, WasFed, IsFed}
 use Rattle.h264_verify.specs.Verdict.{IsSound, IsLegal, IsStop, AtBytes, InCourse, in_order, AreLegal, Holds, IsStopBehind, AtNext, AtTail, AtEnd, StopsAt, Verdict, Whole, Front, JudgedBy, Judged}
 use Rattle.h264_slices.proofs.Tellings.{tells-none}
-use Rattle.h264_verify.proofs.Agreeing.{told-agree, of-both, of-more}
+use Rattle.h264_judge.proofs.Agreeing.{of-both, of-more}
 use Rattle.h264_verify.proofs.Feeding.{with-both, goes-both}
-use Rattle.h264_verify.proofs.Familiar.{goes-agree, fed-agree, on-then, on-none}
+use Rattle.h264_verify.proofs.Familiar.{told-agree, goes-agree, fed-agree, on-then, on-none}
 use Rattle.h264_verify.proofs.Sources.{one-outcome, some-outcome, goes-more, goes-then, stops-plays, fed-same, fed-on, fed-stops, fed-read, fed-ends, judges-memory, piece-more, pieces-stop, pieces-finish, goes-all}
 use Rattle.h264_slices.proofs.Stepping.{outcome, met-is, stop-is, either, bound, bind-stop, runs-outcome, SomeRun, some-run}
 use Rattle.h264_slices.proofs.Stepping as stepping

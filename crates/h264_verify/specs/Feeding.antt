@@ -6,44 +6,22 @@ use Rattle.h264_base.specs.Call.{Call}
 use Rattle.h264_plane.specs.declared.frame.Frame.{Frame}
 use Rattle.h264_units.specs.Stream.{NalUnit, IsUndecided}
 use Rattle.h264_units.specs.Splitting.{Splitting, at_start}
-use Rattle.h264_verify.specs.declared.judge.State.{State}
-use Rattle.h264_verify.specs.declared.judge.Summary.{Summary}
+use Rattle.h264_judge.specs.declared.state.State.{State}
+use Rattle.h264_judge.specs.declared.state.Summary.{Summary}
 use Rattle.h264_slices.specs.Telling.{Told, Tells, took_with, Agree, AreOf}
 use Rattle.h264_slices.specs.Outcome.{Outcome, with_calls, Plays}
-use Rattle.h264_verify.specs.Judging.{Comes}
+use Rattle.h264_verify.specs.Judging.{Comes, judging}
 use Rattle.h264_slices.specs.History.{History}
-use Rattle.h264_verify.specs.Keeping.{Keeps}
+use Rattle.h264_judge.specs.Keeping.{Keeps}
 use Rattle.h264_slices.specs.Keeping.{ended_in}
 use Rattle.h264_verify.specs.Session.{Standing, ToCome, Shows, Goes, Stops, Finishes, Fed, Judges}
 use Rattle.h264_verify.specs.Verdict.{in_order, AreLegal, SameTold}
-use Rattle.h264_verify.specs.UnitOutcome.{judging, unit_outcome, end_outcome}
+use Rattle.h264_judge.specs.UnitOutcome.{unit_outcome, end_outcome}
 use Rattle.h264_verify.specs.Progress.{Progress}
 
 -- where a session stands behind these units
 abbrev pub behind : Splitting → History → Standing History
 behind split before = record { split = split; state = before }
-
--- Behind these units a unit was judged, and the sink was told what comes of it.
-pub record Turns {S X : Type 0} (mode : Mode) (took : S → List Call → Type 0) (failures : S → ℕ) (frames : ℕ → Frame) (before : History) (unit : NalUnit) (new : State) (s s' : S) (result : Result X Stop) : Type 0 where
-  pub made : ℕ → Frame
-  pub same : Agree (ended_in before) frames made
-  pub after : History
-  pub plays : Plays (took_with made took) failures (λ (x : X). after) (unit_outcome mode before unit) s s' result
-  pub keeps : OnOk result (Keeps mode made after new)
-
--- What is in a unit was read and judged, where so many pictures had ended, and the sink was told what comes of it.
-pub record Joins {S X : Type 0} (mode : Mode) (took : S → List Call → Type 0) (failures : S → ℕ) (frames : ℕ → Frame) (ended : ℕ) (o : Outcome History) (new : State) (s s' : S) (result : Result X Stop) : Type 0 where
-  pub made : ℕ → Frame
-  pub same : Agree ended frames made
-  pub after : History
-  pub plays : Plays (took_with made took) failures (λ (x : X). after) o s s' result
-  pub keeps : OnOk result (Keeps mode made after new)
-
--- The end of the input was judged, and the sink was told what comes of it.
-pub record EndsAll {S X : Type 0} (mode : Mode) (took : S → List Call → Type 0) (failures : S → ℕ) (frames : ℕ → Frame) (before : History) (bit : ℕ) (view : X → Summary) (s s' : S) (result : Result X Stop) : Type 0 where
-  pub made : ℕ → Frame
-  pub same : Agree (ended_in before) frames made
-  pub plays : Plays (took_with made took) failures view (end_outcome mode before bit) s s' result
 
 -- However the input goes on, what comes of old is what the sink was told and what comes of where the session stands.
 pub record GoesOn {S : Type 0} (mode : Mode) (took : S → List Call → Type 0) (frames : ℕ → Frame) (old : Standing History) (split : Splitting) (state : State) (piece left : List ℕ) (s s' : S) : Type 0 where

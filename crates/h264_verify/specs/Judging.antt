@@ -1,8 +1,12 @@
 -- A stream judged unit by unit, whatever is judged of a unit. A working form.
 use Rattle.std.specs.Prelude.{◌≡◌, ℕ, ◌+◌, ◌*◌, List, [], ◌∷◌, length, Option, Some, None, Err}
+use Rattle.h264_base.specs.declared.mode.Mode.{Mode}
 use Rattle.h264_base.specs.declared.stop.Stop.{Stop}
 use Rattle.h264_units.specs.Stream.{NalUnit, Tail, Splits, tail_stop}
 use Rattle.h264_slices.specs.Outcome.{Outcome, ◌>>=◌, answers}
+use Rattle.h264_slices.specs.History.{History}
+use Rattle.h264_judge.specs.declared.state.Summary.{Summary}
+use Rattle.h264_judge.specs.UnitOutcome.{unit_outcome, end_outcome}
 
 -- What comes of a unit, in the state that the units before it left, and of the end of the input at this bit.
 pub record Judging (State Summary : Type 0) : Type 0 where
@@ -29,3 +33,7 @@ pub record Comes {State Summary : Type 0} (j : Judging State Summary) (at : ℕ)
   pub tail : Tail
   pub splits : Splits at bytes units tail
   pub is : o ≡ units_outcome j state units tail (at + length bytes)
+
+-- the units of a stream in a mode, behind one another
+abbrev pub judging : Mode → Judging History Summary
+judging mode = record { unit = unit_outcome mode; end = end_outcome mode }

@@ -2,9 +2,6 @@ pub mod Judging
 pub mod Session
 pub mod Within
 pub mod Predicting
-pub mod Keeping
-pub mod Units
-pub mod UnitOutcome
 pub mod Progress
 pub mod Verdict
 pub mod Feeding

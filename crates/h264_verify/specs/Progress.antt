@@ -3,9 +3,9 @@ use Rattle.std.specs.Prelude.{◌≡◌, ◌≤◌, ℕ, false, IsFalse, Option,
 use Rattle.h264_base.specs.declared.mode.Mode.{Mode}
 use Rattle.h264_base.specs.declared.stop.Stop.{Stop}
 use Rattle.h264_units.specs.Splitting.{Splitting, at_start}
-use Rattle.h264_verify.specs.declared.judge.State.{State}
+use Rattle.h264_judge.specs.declared.state.State.{State}
 use Rattle.h264_plane.specs.declared.frame.Frame.{Frame}
-use Rattle.h264_verify.specs.Keeping.{Keeps, KeepsSome}
+use Rattle.h264_judge.specs.Keeping.{Keeps, KeepsSome}
 
 -- what its splitter holds, what is kept of the units taken, and whether it has stopped
 pub record Progress : Type 0 where

@@ -13,10 +13,10 @@ use Rattle.h264_slices.specs.Telling.{Told, Tells, took_with, calls_of, AreDecod
 use Rattle.h264_units.specs.Stream.{NalUnit, Tail, Zeros, Splits, tail_stop}
 use Rattle.h264_rbsp.specs.Emulation.{IsFault, IsFirstFault}
 use Rattle.h264_rbsp.specs.Rbsp.{body_of}
-use Rattle.h264_verify.specs.declared.judge.Summary.{Summary}
+use Rattle.h264_judge.specs.declared.state.Summary.{Summary}
 use Rattle.h264_slices.specs.Steps.{AreMet, IsFirstStop, Runs}
 use Rattle.h264_slices.specs.History.{History, ReadUnit}
-use Rattle.h264_verify.specs.Units.{unit_course, end_steps, summary_of}
+use Rattle.h264_judge.specs.Units.{unit_course, end_steps, summary_of}
 
 -- The bytes of a unit break no rule of emulation prevention (7.4.1).
 abbrev pub IsSound : NalUnit → Type 0

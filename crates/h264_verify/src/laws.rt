@@ -5,7 +5,7 @@ ghost use Rattle.std.specs.Prelude.{◌≡◌, ℕ, false, List, ◌∷◌, ◌+
 ghost use Rattle.h264_base.specs.declared.mode.Mode.{Mode};
 ghost use Rattle.h264_base.specs.declared.stop.Stop.{Stop};
 ghost use Rattle.h264_slices.specs.Telling.{Told};
-ghost use Rattle.h264_verify.specs.declared.judge.Summary.{Summary};
+ghost use Rattle.h264_judge.specs.declared.state.Summary.{Summary};
 ghost use Rattle.h264_slices.specs.Pictures.{CodedPicture, goes_on, held_in, runs_of};
 ghost use Rattle.h264_slices.specs.Buffering.{within_newest};
 ghost use Rattle.h264_slices.specs.Held.{AreAmong};

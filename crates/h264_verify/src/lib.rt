@@ -12,15 +12,13 @@
 //! Not promised: that memory suffices.
 #![tactic(auto)]
 
-pub mod judge;
 pub mod laws;
 pub mod running;
 pub mod session;
 pub mod source;
-mod unit;
 
+pub use h264_judge::Summary;
 pub use h264_slices::FrameSink;
-pub use judge::Summary;
 pub use running::run;
 pub use session::Session;
 pub use source::Source;

@@ -8,10 +8,10 @@ ghost use Rattle.h264_plane.specs.declared.frame.Frame.{Frame};
 ghost use Rattle.h264_verify.specs.Feeding.{FedOn, JudgesWith};
 ghost use Rattle.h264_verify.specs.Verdict.{Judged};
 
-use crate::judge::Summary;
 use crate::session::Session;
 use crate::source::Source;
 use h264_base::{Mode, Stop, Target};
+use h264_judge::Summary;
 use h264_slices::sink::FrameSink;
 use std::alloc::Global;
 

@@ -8,18 +8,14 @@ ghost use Rattle.h264_base.specs.declared.mode.Mode.{Mode};
 ghost use Rattle.h264_plane.specs.declared.frame.Frame.{Frame};
 ghost use Rattle.h264_slices.specs.Telling.{Told};
 ghost use Rattle.h264_slices.specs.History.{History};
-ghost use Rattle.h264_verify.specs.Keeping.{Keeps, KeepsSome};
+ghost use Rattle.h264_judge.specs.Keeping.{Keeps, KeepsSome};
 ghost use Rattle.h264_verify.specs.Feeding.{behind, GoesOn, StopsOn, FinishesOn, WasFed, IsFed};
 ghost use Rattle.h264_verify.specs.Verdict.{Judged};
 
-use crate::judge::{State, Summary};
-use crate::unit::{judge_end, judge_unit};
 use h264_base::{Mode, Stop, Target};
-use h264_header::Header;
-use h264_sets::Sets;
-use h264_slices::decoder::Decoder;
+use h264_judge::unit::{judge_end, judge_unit};
+use h264_judge::{State, Summary};
 use h264_slices::sink::FrameSink;
-use h264_slices::slices::no_slices;
 use h264_units::Splitter;
 use std::alloc::Global;
 use std::marker::Model;
@@ -150,20 +146,12 @@ impl Session {
         ensures fed { IfOk result (λ s. (frames : ℕ → Frame) → WasFed mode s [] frames []) }
         ensures err { IfErr result (λ e. e ≡ Stop.Memory) }
     {
-        let Ok(sets) = Sets::new(alloc) else {
-            return Err(Stop::Memory);
-        };
+        let state = State::new(alloc)?;
         Ok(Session {
             alloc,
             mode,
             splitter: Splitter::new(alloc),
-            state: State {
-                units: 0,
-                sets,
-                slices: no_slices(),
-                header: Header::unread(),
-                decoder: Decoder::new(alloc),
-            },
+            state,
             stop: None,
         })
     }

@@ -6,7 +6,7 @@ use Rattle.h264_base.specs.declared.stop.Stop.TheVariants.{Memory, Read, Write}
 use Rattle.h264_report.specs.Sent.{Takes}
 use Rattle.h264_report.specs.Written.{OfBytes, Lists, Checks, Decodes, last_line, status_of}
 use Rattle.h264_report.specs.declared.listing.Listing.TheVariants as listings
-use Rattle.h264_verify.specs.declared.judge.Summary.{Summary}
+use Rattle.h264_judge.specs.declared.state.Summary.{Summary}
 use Rattle.h264v.specs.Words.{program, asks, name_of, IsRefusable}
 use Rattle.h264v.specs.declared.asked.Task.{Task}
 use Rattle.h264v.specs.declared.asked.Task.TheVariants as tasks

@@ -2,7 +2,7 @@ use Rattle.h264_units.specs.Stream.{IsUndecided}
 use Rattle.std.proofs.Common.{◌≡◌, ◌≤◌, ℕ, IsFalse, None, length}
 use Rattle.h264_plane.specs.declared.frame.Frame.{Frame}
 use Rattle.h264_slices.specs.History.{History}
-use Rattle.h264_verify.specs.Keeping.{Keeps}
+use Rattle.h264_judge.specs.Keeping.{Keeps}
 use Rattle.h264_verify.specs.Feeding.{behind, GoesOn}
 use Rattle.h264_verify.proofs.session.feed_all.Given as goal
 

@@ -1,6 +1,6 @@
 use Rattle.std.proofs.Common.{refl, ◌∙◌}
 use Rattle.std.proofs.lemmas.Result.{err_from_is_err_and}
-use Rattle.h264_verify.specs.UnitOutcome.{judging}
+use Rattle.h264_verify.specs.Judging.{judging}
 use Rattle.h264_verify.proofs.Familiar.{agree-none, on-push, on-unit}
 use Rattle.h264_verify.proofs.Feeding.{stops-push, goes-push, stops-unit, stops-after}
 use Rattle.h264_verify.proofs.session.feed_some.Goals as goal

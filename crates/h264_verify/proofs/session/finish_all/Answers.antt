@@ -1,6 +1,6 @@
 use Rattle.std.proofs.Common.{refl}
 use Rattle.std.proofs.lemmas.Result.{err_from_is_err_and}
-use Rattle.h264_verify.specs.UnitOutcome.{judging}
+use Rattle.h264_verify.specs.Judging.{judging}
 use Rattle.h264_verify.proofs.Familiar.{agree-none, finishes-both}
 use Rattle.h264_verify.proofs.Finishing.{finish-stops, finish-end, finish-unit-stops, not-waiting}
 use Rattle.h264_verify.proofs.session.finish_all.Goals as goal

@@ -1,7 +1,7 @@
 use Rattle.std.proofs.Common.{◌≡◌, ℕ, ◌+◌, map, string_bytes, refl, ap, sym, ◌∙◌, inl, inr, ⊎_elim, Result, IsErrOf}
 use Rattle.h264_base.specs.declared.stop.Stop.{Stop}
 use Rattle.h264_base.specs.declared.stop.Stop.TheVariants.{Write}
-use Rattle.h264_verify.specs.declared.judge.Summary.{Summary}
+use Rattle.h264_judge.specs.declared.state.Summary.{Summary}
 use Rattle.h264v.specs.Files.{HasFailedToRead}
 use Rattle.h264_report.proofs.Accounts.{of-kept}
 use Rattle.h264v.specs.Commands.{IsUnread, Performs, Refused, Faulted, Unopened, Done}

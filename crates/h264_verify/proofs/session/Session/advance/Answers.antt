@@ -1,9 +1,19 @@
-use Rattle.std.proofs.Common.{ap, sym, subst, ◌∙◌}
+use Rattle.std.proofs.Common.{◌≡◌, Option, None, ap, sym, subst, ◌∙◌}
+use Rattle.h264_base.specs.declared.mode.Mode.{Mode}
+use Rattle.h264_base.specs.declared.stop.Stop.{Stop}
 use Rattle.h264_units.specs.Stream.{IsUndecided}
-use Rattle.h264_verify.specs.Progress.{Progress}
-use Rattle.h264_verify.proofs.Joining.{ready-of, session-of}
+use Rattle.h264_units.specs.Splitting.{Splitting}
+use Rattle.h264_judge.specs.declared.state.State.{State}
+use Rattle.h264_verify.specs.Progress.{Progress, IsReady, IsSession}
 use Rattle.h264_verify.proofs.Familiar.{on-keeps}
 use Rattle.h264_verify.proofs.session.Session.advance.Goals as goal
+
+-- a session that has not stopped
+ready-of : (mode : Mode) (stop : Option Stop) (split : Splitting) (state : State) → stop ≡ None → IsSession mode stop split state → IsReady mode split state
+ready-of mode stop split state e k = subst (λ s. IsSession mode s split state) e k
+
+session-of : (mode : Mode) (stop : Option Stop) (split : Splitting) (state : State) → stop ≡ None → IsReady mode split state → IsSession mode stop split state
+session-of mode stop split state e k = subst (λ s. IsSession mode s split state) (sym e) k
 
 pub returns-in-Ok-clause-undecided : goal.returns-in-Ok-clause-undecided
 returns-in-Ok-clause-undecided g c = λ u. c.in-Ok.ensures.undecided (subst (λ s. IsUndecided s.split.rest) (sym c.self.view_is) u)

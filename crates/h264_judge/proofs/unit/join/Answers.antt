@@ -1,0 +1,64 @@
+use Rattle.std.proofs.Common.{◌≡◌, ℕ, Bool, false, List, Result, length, ap, refl, sym, subst, ◌∙◌}
+use Rattle.std.proofs.lemmas.Bool.{ne_eqb}
+use Rattle.h264_base.specs.declared.mode.Mode.{Mode}
+use Rattle.h264_base.specs.declared.mode.Mode.TheVariants as modes
+use Rattle.h264_base.specs.declared.stop.Stop.{Stop}
+use Rattle.h264_base.specs.Call.{Call}
+use Rattle.h264_plane.specs.declared.frame.Frame.{Frame}
+use Rattle.h264_units.specs.Stream.{NalUnit}
+use Rattle.h264_slices.specs.Outcome.{Outcome}
+use Rattle.h264_slices.specs.History.{History}
+use Rattle.h264_slices.specs.Content as contents
+use Rattle.h264_slices.specs.UnitHeader.{nal_unit_type}
+use Rattle.h264_slices.specs.Pictures.{ends_picture, goes_on, runs_of}
+use Rattle.h264_slices.specs.Keeping.{ended_pictures, ended_in}
+use Rattle.h264_slices.proofs.Playing.{gives-plays}
+use Rattle.h264_judge.specs.declared.state.State.{State}
+use Rattle.h264_judge.specs.Keeping.{KeepsWithin}
+use Rattle.h264_judge.specs.Turning.{Joins}
+use Rattle.h264_judge.specs.UnitOutcome.{sps_outcome, pps_outcome, joined, joined_by}
+use Rattle.h264_judge.proofs.Joining.{joins-on, passed-joins, passed-other, units-other, slice-other, whole-other}
+use Rattle.h264_judge.proofs.unit.join.Goals as goal
+
+joined-seven : (mode : Mode) (kind : ℕ) (before : History) (unit : NalUnit) → kind ≡ 7 → joined_by mode kind before unit ≡ joined mode before unit (sps_outcome unit)
+unfolding joined_by
+joined-seven mode kind before unit e = subst (λ (k : ℕ). joined_by mode k before unit ≡ joined mode before unit (sps_outcome unit)) (sym e) refl
+
+joined-eight : (mode : Mode) (kind : ℕ) (before : History) (unit : NalUnit) → kind ≡ 8 → joined_by mode kind before unit ≡ joined mode before unit (pps_outcome unit)
+unfolding joined_by
+joined-eight mode kind before unit e = subst (λ (k : ℕ). joined_by mode k before unit ≡ joined mode before unit (pps_outcome unit)) (sym e) refl
+
+pub join_pps-requires-clause-ends : goal.join_pps-requires-clause-ends
+join_pps-requires-clause-ends g c = ap (λ (k : ℕ). ends_picture k) c.if-header-eq8.true
+
+pub returns-then-header-eq7-clause-joins : goal.returns-then-header-eq7-clause-joins
+returns-then-header-eq7-clause-joins g c = λ frames before k. rw (joined-seven c.args.mode _ before c.args.unit.now c.if-header-eq7.true) (c.join_sps.ensures.joins frames before k)
+
+pub returns-then-header-eq8-clause-joins : goal.returns-then-header-eq8-clause-joins
+returns-then-header-eq8-clause-joins g c = λ frames before k. rw (joined-eight c.args.mode _ before c.args.unit.now c.if-header-eq8.true) (c.join_pps.ensures.joins frames before k)
+
+-- where no picture ends
+joins-here : {S X : Type 0} (mode : Mode) (took : S → List Call → Type 0) (failures : S → ℕ) (frames : ℕ → Frame) (before : History) (ends : Bool) (o : Outcome History) (new : State) (s s' : S) (r : Result X Stop) → ends ≡ false → Joins {X = X} mode took failures frames (ended_in before) o new s s' r → Joins {X = X} mode took failures frames (length (ended_pictures (goes_on before) ends (runs_of before))) o new s s' r
+joins-here {S} {X} mode took failures frames before ends o new s s' r e j = subst (λ (b : Bool). Joins {X = X} mode took failures frames (length (ended_pictures (goes_on before) b (runs_of before))) o new s s' r) (sym e) j
+
+pub returns-then-not-is_slice-clause-joins : goal.returns-then-not-is_slice-clause-joins
+unfolding joined_by
+returns-then-not-is_slice-clause-joins g c = λ frames before k. rw (ne_eqb _ _ c.if-header-eq7.false, ne_eqb _ _ c.if-header-eq8.false, passed-other c.args.mode _ before c.args.unit.now (sym c.is_slice.ensures.value ∙ c.if-not-is_slice.true)) (joins-on c.args.mode frames _ _ _ before _ _ _ (λ (u : Unit {0}). contents.Passed) _ _ _ tt _ (gives-plays _ _ (λ (u : Unit {0}). contents.Passed) tt _) (gives-plays _ _ (λ (u : Unit {0}). u) tt _) (passed-joins c.args.mode frames before c.args.unit.now contents.Passed (nal_unit_type c.args.header) c.args.state.now _ tt tt (rw c.requires.header refl) k c.pass.ensures.units (c.pass.ensures.sets ∙ k.sets) c.pass.ensures.picture c.pass.ensures.due c.pass.ensures.others c.pass.ensures.decoder))
+
+pub returns-in-Headers-clause-joins : goal.returns-in-Headers-clause-joins
+unfolding joined_by
+returns-in-Headers-clause-joins g c = λ frames before k.
+    let kept = subst (λ m. KeepsWithin m frames before (ends_picture (nal_unit_type c.args.header)) c.args.state.now) c.in-Headers.is k in
+    rw (ne_eqb _ _ c.if-header-eq7.false, ne_eqb _ _ c.if-header-eq8.false, c.in-Headers.is, slice-other (nal_unit_type c.args.header) before c.args.unit.now (sym c.is_slice.ensures.value ∙ c.if-not-is_slice.false)) (joins-here modes.Headers _ _ frames before (ends_picture (nal_unit_type c.args.header)) _ _ _ _ _ (c.is_slice.ensures.goes_on c.if-not-is_slice.false) (c.join_slice.ensures.joins frames before kept))
+
+pub returns-in-Full-clause-joins : goal.returns-in-Full-clause-joins
+unfolding joined_by
+returns-in-Full-clause-joins g c = λ frames before k.
+    let kept = subst (λ m. KeepsWithin m frames before (ends_picture (nal_unit_type c.args.header)) c.args.state.now) c.in-Full.is k in
+    rw (ne_eqb _ _ c.if-header-eq7.false, ne_eqb _ _ c.if-header-eq8.false, c.in-Full.is, whole-other (nal_unit_type c.args.header) before c.args.unit.now (sym c.is_slice.ensures.value ∙ c.if-not-is_slice.false)) (joins-here modes.Full _ _ frames before (ends_picture (nal_unit_type c.args.header)) _ _ _ _ _ (c.is_slice.ensures.goes_on c.if-not-is_slice.false) (c.join_whole_slice.ensures.joins frames before kept))
+
+pub returns-in-Units-clause-joins : goal.returns-in-Units-clause-joins
+unfolding joined_by
+returns-in-Units-clause-joins g c = λ frames before k.
+    let kept = subst (λ m. KeepsWithin m frames before (ends_picture (nal_unit_type c.args.header)) c.args.state.now) c.in-Units.is k in
+    rw (ne_eqb _ _ c.if-header-eq7.false, ne_eqb _ _ c.if-header-eq8.false, c.in-Units.is, units-other (nal_unit_type c.args.header) before c.args.unit.now) (joins-on modes.Units frames _ _ _ before _ _ _ (λ (u : Unit {0}). contents.Passed) _ _ _ tt _ (gives-plays _ _ (λ (u : Unit {0}). contents.Passed) tt _) (gives-plays _ _ (λ (u : Unit {0}). u) tt _) (passed-joins modes.Units frames before c.args.unit.now contents.Passed (nal_unit_type c.args.header) c.args.state.now _ tt tt (rw c.requires.header refl) kept c.pass-in-Units.ensures.units (c.pass-in-Units.ensures.sets ∙ kept.sets) c.pass-in-Units.ensures.picture c.pass-in-Units.ensures.due c.pass-in-Units.ensures.others c.pass-in-Units.ensures.decoder))

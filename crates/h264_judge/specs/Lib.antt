@@ -1,0 +1,4 @@
+pub mod Keeping
+pub mod Units
+pub mod UnitOutcome
+pub mod Turning
