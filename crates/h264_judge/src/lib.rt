@@ -9,6 +9,9 @@
 //! the units so far (`specs/Keeping.antt`). Memory comes from a unit's bytes and a picture's first slice data alone.
 #![tactic(auto)]
 
+pub mod close;
+pub mod data;
+pub mod slice;
 pub mod state;
 pub mod unit;
 

@@ -27,6 +27,9 @@ ghost use Rattle.h264_judge.specs.UnitOutcome.{sps_outcome, pps_outcome, slice_o
 ghost use Rattle.h264_base.specs.declared.mode.Mode.{Mode};
 ghost use Rattle.h264_base.specs.declared.mode.Mode.TheVariants as modes;
 
+use crate::close::close_if;
+use crate::data::read_data;
+use crate::slice::judge_slice;
 use crate::state::{State, Summary};
 use h264_base::{Failed, Mode, Rule, Stop};
 use h264_bits::Bits;
@@ -34,13 +37,11 @@ use h264_header::{Header, SliceUnit, read_header};
 use h264_pps::read_pps;
 use h264_rbsp::{Rbsp, check_emulation};
 use h264_sets::Sets;
-use h264_slices::close::close_if;
-use h264_slices::data::read_data;
 use h264_slices::decoder::Decoder;
 use h264_slices::picture::begins;
 use h264_slices::rules::check;
 use h264_slices::sink::FrameSink;
-use h264_slices::slices::{ends_picture, judge_slice, pass_by};
+use h264_slices::slices::{ends_picture, pass_by};
 use h264_sps::read::read_sps;
 use h264_units::NalUnit;
 use std::alloc::Global;

@@ -107,7 +107,7 @@ impl Decoder {
     }
 
     /// Begins a picture at a place where no frame of the buffer stands. Memory: it was refused.
-    pub(crate) fn begin(&mut self, sps: &Sps) -> Result<(), Stop>
+    pub fn begin(&mut self, sps: &Sps) -> Result<(), Stop>
         requires usable { is_usable sps.now ≡ true }
         requires kept { EntersSome self.old }
         ensures begins { (frames : ℕ → Frame) (slice : CodedSlice) (pictures : List CodedPicture) → slice.sps ≡ sps.now → EntersFrames frames slice pictures self.old → OnOk result (BegunFrames frames slice pictures self.new) }
@@ -151,7 +151,7 @@ impl Decoder {
     }
 
     /// Reads the slice data of a slice of the picture that was begun, whose reference pictures have places. Takes no memory. Write: the sink failed.
-    pub(crate) fn slice<S: Elements>(
+    pub fn slice<S: Elements>(
         &mut self,
         bits: &mut Bits,
         slice: &SliceContext,
@@ -186,7 +186,7 @@ impl Decoder {
     }
 
     /// The end of the picture that was begun, once it is marked and these frames are held: it is decoded, and takes its place. Write: the sink failed.
-    pub(crate) fn end<S: FrameSink>(
+    pub fn end<S: FrameSink>(
         &mut self,
         picture: &Ended,
         held: &Held,

@@ -11,8 +11,6 @@
 //! what it keeps is that of the units so far (`specs/Keeping.antt`). Memory comes from a picture's first slice data alone.
 #![tactic(auto)]
 
-pub mod close;
-pub mod data;
 pub mod decoder;
 mod frame_num;
 pub mod picture;

@@ -43,7 +43,7 @@ fn may_begin(due: bool, idr: bool) -> bool
 }
 
 /// The rules on where a slice stands, and with which sets, which become the active ones.
-pub(crate) fn check_standing(
+pub fn check_standing(
     begins: bool,
     due: bool,
     sets: &mut Sets,

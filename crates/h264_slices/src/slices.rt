@@ -1,55 +1,44 @@
 //! The slices so far, the pictures that they begin, and the rules that a slice meets beside its own syntax.
 #![tactic(auto)]
 
-ghost use Rattle.std.specs.Prelude.{◌≡◌, ℕ, not, ◌&&◌, Bool, false, ◌==◌, ◌||◌, ◌+◌, ◌-◌, ◌*◌, ◌<◌, ◌≤◌, ◌^◌, true, Some, None, List, [], ◌∷◌, length, if◌then◌else◌, Ok, Err, OnOk, IfErr, IsErrOf};
-ghost use Rattle.std.specs.Option.{is_some};
-ghost use Rattle.h264_base.specs.declared.stop.Stop.TheVariants.{No};
+ghost use Rattle.std.specs.Prelude.{◌≡◌, ℕ, Bool, false, ◌==◌, ◌||◌, ◌+◌, ◌-◌, ◌*◌, ◌<◌, ◌≤◌, ◌^◌, true, Some, List, [], ◌∷◌, if◌then◌else◌, OnOk, IsErrOf};
 ghost use Rattle.h264_base.specs.Call.{OfSlice};
-ghost use Rattle.h264_header.specs.Layout.{sets_of, has_lengths};
-ghost use Rattle.h264_base.specs.declared.mode.Mode.TheVariants as modes;
-ghost use Rattle.h264_header.specs.declared.header.Header.{Header};
+ghost use Rattle.h264_header.specs.Layout.{has_lengths};
 ghost use Rattle.h264_marking.specs.Gaps.{entered, all_filled, unused_short_term_frame_nums};
 ghost use Rattle.h264_near.specs.Coded.{CodedMacroblock};
 ghost use Rattle.h264_poc.specs.declared.picture.Picture.{Picture};
 ghost use Rattle.h264_poc.specs.Counts.{Keeps as KeepsCounts};
-ghost use Rattle.h264_slices.specs.Outcome.{Plays, IsNamed, answers, tells};
+ghost use Rattle.h264_slices.specs.Outcome.{Plays, tells};
 ghost use Rattle.h264_slices.specs.Demands.{judged};
-ghost use Rattle.h264_slices.specs.History.{History, maps_with, maps_of};
+ghost use Rattle.h264_slices.specs.History.{History};
 ghost use Rattle.h264_plane.specs.declared.frame.Frame.{Frame};
 ghost use Rattle.h264_dpb.specs.Turns.{Turn, turn_then};
 ghost use Rattle.h264_slices.specs.Telling.{Said, took_with};
 ghost use Rattle.h264_slices.specs.Buffering.{gaps_turn, ended_picture, frame_count, newest_count};
-ghost use Rattle.h264_slices.specs.Sound.{IsMarked};
-ghost use Rattle.h264_slices.specs.Keeping.{KeepsSlices, KeepsDecoder, KeepsGap, KeepsSomeGap, GoesWith, KeepsSomeRules, KeepsSomeSlice, EntersDecoder, HoldsEnd, HoldsOpen, IsLeft, begins_by, coded_before, first_by, later_by, slice_rules, told_rules, KeepsPictures, Entered, is_typed};
-ghost use Rattle.h264_slices.specs.Framing.{JudgesSlice};
+ghost use Rattle.h264_slices.specs.Keeping.{KeepsSlices, KeepsDecoder, KeepsGap, KeepsSomeGap, GoesWith, KeepsSomeRules, EntersDecoder, HoldsEnd, HoldsOpen, IsLeft, first_by, later_by, slice_rules, told_rules, KeepsPictures, Entered, is_typed};
 ghost use Rattle.h264_slices.specs.StepOutcome.{steps_outcome};
 ghost use Rattle.h264_units.specs.Stream.{NalUnit as UnitView};
-ghost use Rattle.h264_slices.specs.Content as contents;
-ghost use Rattle.h264_slices.specs.Pictures.{CodedSlice, CodedPicture, open_of, joined_to, runs_of, with_sets, goes_on, bit_behind, prev_ref_frame_num_behind, begins_at, begins_after, ends_picture, closing_demands};
+ghost use Rattle.h264_slices.specs.Pictures.{CodedSlice, CodedPicture, open_of, joined_to, runs_of, with_sets, goes_on, bit_behind, prev_ref_frame_num_behind, begins_at, begins_after, ends_picture};
 ghost use Rattle.h264_poc.specs.OfSlice.{picture_of};
 ghost use Rattle.h264_marking.specs.Ended.{numbering_of, resets};
 ghost use Rattle.h264_header.specs.Picture.{is_idr, is_reference};
-ghost use Rattle.h264_slices.specs.Slices.{type_of, idr_id, first_mb_demands, id_demand, count_demand, qp_demand, list_demand, slice_steps};
+ghost use Rattle.h264_slices.specs.Slices.{type_of, idr_id, id_demand, count_demand, qp_demand, list_demand};
 ghost use Rattle.h264_slices.specs.Lists.{list_of};
 
-use crate::close::close_if;
-use crate::data::check_first_mb;
 use crate::decoder::Decoder;
 use crate::frame_num::{check_gap, check_idr_num};
 use crate::picture::{OpenPicture, begin, go_on};
 use crate::rules::{
-    check_id, check_list, check_marking, check_qp, check_same_type, check_standing, check_type,
-    idr_id,
+    check_id, check_list, check_marking, check_qp, check_same_type, check_type, idr_id,
 };
 use crate::sink::FrameSink;
 use h264_base::{Failed, Mode, SliceType, Stop};
 use h264_dpb::{Ended, ended_of};
-use h264_header::{Header, SliceKind, named_sets};
-use h264_marking::{Held, Numbering, mark_end, numbering_of};
+use h264_header::{Header, SliceKind};
+use h264_marking::{Held, Numbering, numbering_of};
 use h264_picture::buffer_size;
 use h264_poc::{Count, Counts, picture_of};
 use h264_pps::Pps;
-use h264_sets::Sets;
 use h264_sps::sps::Sps;
 use h264_units::NalUnit;
 
@@ -215,27 +204,6 @@ fn check_rules<S: FrameSink>(
     }
 }
 
-/// The end of the picture that may go on, where there is one and it ends here.
-pub(crate) fn end_if(ends: bool, slices: &mut Slices) -> Result<(), Stop>
-    ensures judged { (before : History) → KeepsSlices before false slices.old → result ≡ judged (if ends then closing_demands before else []) }
-    ensures ended { (before : History) → KeepsSlices before false slices.old → OnOk result (KeepsSlices before ends slices.new) }
-    ensures others { slices.new ≡ record slices.old { held = slices.new.held } }
-    ensures no_memory { IsErrOf result Stop.Memory → ⊥ }
-{
-    if !ends {
-        return Ok(());
-    }
-    match &slices.picture {
-        None => Ok(()),
-        Some(picture) => mark_end(
-            &picture.marking,
-            &picture.numbering,
-            slices.pictures.saturating_sub(1),
-            &mut slices.held,
-        ),
-    }
-}
-
 /// The first stream bit behind a unit.
 fn bit_behind(unit: &NalUnit) -> u64
     ensures { result ≡ bit_behind unit.now }
@@ -312,7 +280,7 @@ fn enter(
 }
 
 /// The rules of a slice from its type on, what the sink is told of it, and what it leaves. The header's place is to be read into anew behind it.
-fn judge_rules<S: FrameSink>(
+pub fn judge_rules<S: FrameSink>(
     mode: Mode,
     begins: bool,
     slices: &mut Slices,
@@ -352,51 +320,6 @@ fn judge_rules<S: FrameSink>(
     );
     enter(slices, begins, header, numbering, ended, bit_behind(unit));
     Ok(())
-}
-
-/// A slice behind those so far, up to its slice data: a picture before it ends where it begins one, its rules are judged in their
-/// order, missing frames are filled in, the sink is told the slice, and it is kept. The header's place is to be read into anew behind
-/// it. Err: the first rule that is not met, with its bit (of the unit, the header's element, or the end of the picture before), or
-/// Write where the sink failed; what is kept is then of no use.
-pub fn judge_slice<S: FrameSink>(
-    mode: Mode,
-    begins: bool,
-    slices: &mut Slices,
-    sets: &mut Sets,
-    decoder: &mut Decoder,
-    unit: &NalUnit,
-    header: &mut Header,
-    sink: &mut S,
-) -> Result<(), Stop>
-    requires room { S.failures sink.old < 2 ^ 64 - 1 }
-    requires begins { begins ≡ begins_by slices.old.picture header.old }
-    requires id { header.old.pic_parameter_set_id.value ≤ 255 }
-    requires named { is_some (sets_of sets.old header.old.pic_parameter_set_id.value) ≡ true }
-    requires pictures { slices.old.pictures < 2 ^ 42 }
-    requires marked { IsMarked header.old }
-    requires kept { KeepsSomeSlice mode slices.old sets.old decoder.old }
-    ensures judges { (frames : ℕ → Frame) (before : History) (named : Pps × Sps) → KeepsSlices before false slices.old → sets.old ≡ maps_of before → sets_of sets.old header.old.pic_parameter_set_id.value ≡ Some named → KeepsDecoder mode frames (goes_on before) false (runs_of before) decoder.old → JudgesSlice mode S.took S.failures frames before unit.now header.old named begins decoder.new sink.old sink.new result }
-    ensures keeps { (before : History) (macroblocks : List CodedMacroblock) → KeepsSlices before false slices.old → sets.old ≡ maps_of before → OnOk result (KeepsSlices (record { unit = unit.now; content = contents.OfSlice header.old macroblocks } ∷ before) false slices.new) }
-    ensures header { OnOk result (header.new ≡ record header.old { marking = header.new.marking }) }
-    ensures place { (frames : ℕ → Frame) (before : History) → KeepsSlices before false slices.old → KeepsDecoder mode frames (goes_on before) false (runs_of before) decoder.old → OnOk result (Ok tt ≡ judged (first_mb_demands mode (coded_before begins (runs_of before)) header.old)) }
-    ensures sets { OnOk result (sets.new ≡ maps_with sets.old (contents.OfSlice header.old [])) }
-    ensures named { OnOk result (is_some (sets_of sets.new header.new.pic_parameter_set_id.value) ≡ true) }
-    ensures id { OnOk result (header.new.pic_parameter_set_id.value ≤ 255) }
-    ensures typed { OnOk result (is_typed header.old ≡ true) }
-    ensures pictures { OnOk result (slices.new.pictures ≤ slices.old.pictures + 1) }
-    ensures no_memory { IsErrOf result Stop.Memory → ⊥ }
-    ensures kept { OnOk result (S.failures sink.new ≡ S.failures sink.old) }
-{
-    let bit = 8 * unit.from();
-    close_if(mode, begins, slices, decoder, sink)?;
-    check_standing(begins, slices.due, sets, bit, header)?;
-    check_first_mb(mode, begins, &decoder.work, header)?;
-    let Some(named) = named_sets(sets, header.pic_parameter_set_id.value) else {
-        unreachable!()
-    };
-    judge_rules(
-        mode, begins, slices, named.0, named.1, decoder, unit, header, sink,
-    )
 }
 
 /// Before the first slice, when an IDR picture is due (7.4.1.2.1).

@@ -10,7 +10,7 @@ use Rattle.h264_slices.proofs.Playing.{memory-plays}
 use Rattle.h264_slices.proofs.Holding.{enters-some}
 use Rattle.h264_slices.proofs.Naming.{slices-some}
 use Rattle.h264_slices.proofs.Reading.{context-is, filter-is, read-behind, data-same, syntax-is, named-set}
-use Rattle.h264_slices.proofs.data.read_data.Goals as goal
+use Rattle.h264_judge.proofs.data.read_data.Goals as goal
 
 pub begin_if-requires-clause-kept : goal.begin_if-requires-clause-kept
 begin_if-requires-clause-kept g c = λ begun. let k = c.requires.kept in enters-some k.frames c.args.begins k.slice k.on k.pictures c.args.decoder.now begun k.keeps

@@ -1,6 +1,6 @@
 use Rattle.std.proofs.Common.{◌∙◌, refl}
 use Rattle.h264_slices.proofs.Closing.{closing-judged, closing-held, closed-slices, none-closed}
-use Rattle.h264_slices.proofs.slices.end_if.Goals as goal
+use Rattle.h264_judge.proofs.close.end_if.Goals as goal
 
 pub returns-in-None-clause-ended : goal.returns-in-None-clause-ended
 returns-in-None-clause-ended c = λ before k. rw c.if-not-ends.false (none-closed before c.args.slices.now c.in-None.is k)

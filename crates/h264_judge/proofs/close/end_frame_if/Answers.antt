@@ -6,7 +6,7 @@ use Rattle.h264_slices.specs.declared.slices.Slices.{Slices}
 use Rattle.h264_slices.specs.Pictures.{goes_on, runs_of}
 use Rattle.h264_slices.specs.Keeping.{KeepsDecoder, KeepsSomeFrames}
 use Rattle.h264_slices.proofs.Framing.{is-open, some-end, ends-open, held-end, few-end, none-ends, keeps-open, is-whole, quiet-ends}
-use Rattle.h264_slices.proofs.data.end_frame_if.Goals as goal
+use Rattle.h264_judge.proofs.close.end_frame_if.Goals as goal
 
 some-full : (mode : Mode) (ends : Bool) (slices : Slices) (d : Decoder) → mode ≡ modes.Full → ends ≡ true → KeepsSomeFrames mode ends slices d → KeepsSomeFrames modes.Full true slices d
 some-full mode ends slices d e f k = subst (λ (m : Mode). KeepsSomeFrames m true slices d) e (subst (λ (b : Bool). KeepsSomeFrames mode b slices d) f k)

@@ -7,7 +7,7 @@ use Rattle.h264_picture.specs.declared.work.Work.{Work}
 use Rattle.h264_slices.specs.Pictures.{CodedPicture, goes_on, open_of, runs_of}
 use Rattle.h264_slices.specs.Keeping.{HoldsCoded, HoldsData}
 use Rattle.h264_slices.proofs.Coded.{checked-outcome, whole-outcome}
-use Rattle.h264_slices.proofs.data.end_data_if.Goals as goal
+use Rattle.h264_judge.proofs.close.end_data_if.Goals as goal
 
 data-full : (mode : Mode) (picture : Option CodedPicture) (work : Work) → mode ≡ modes.Full → HoldsData mode picture work → HoldsCoded picture work
 unfolding HoldsData

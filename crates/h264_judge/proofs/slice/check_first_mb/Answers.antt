@@ -6,7 +6,7 @@ use Rattle.h264_slices.specs.Demands.{judged}
 use Rattle.h264_slices.specs.Pictures.{CodedPicture}
 use Rattle.h264_slices.specs.Slices.{first_mb_demands}
 use Rattle.h264_slices.specs.Keeping.{HoldsNewest, HoldsBefore}
-use Rattle.h264_slices.proofs.data.check_first_mb.Goals as goal
+use Rattle.h264_judge.proofs.slice.check_first_mb.Goals as goal
 
 before-full : (mode : Mode) (begins : Bool) (pictures : List CodedPicture) (work : Work) → mode ≡ modes.Full → HoldsBefore mode begins pictures work → HoldsNewest begins pictures work
 unfolding HoldsBefore

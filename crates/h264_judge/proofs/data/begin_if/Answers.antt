@@ -1,5 +1,5 @@
 use Rattle.h264_slices.proofs.Beginning.{goes-on, begins-now}
-use Rattle.h264_slices.proofs.data.begin_if.Goals as goal
+use Rattle.h264_judge.proofs.data.begin_if.Goals as goal
 
 pub returns-then-not-begins-clause-holds : goal.returns-then-not-begins-clause-holds
 returns-then-not-begins-clause-holds c = λ frames on s pictures is live k. goes-on frames on s pictures _ c.args.begins c.if-not-begins.true live k

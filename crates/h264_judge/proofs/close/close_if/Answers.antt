@@ -11,7 +11,7 @@ use Rattle.h264_slices.proofs.Stepping.{steps-err, closing-stop, closing-then}
 use Rattle.h264_slices.proofs.Holding.{data-held}
 use Rattle.h264_slices.proofs.Playing.{plays-as}
 use Rattle.h264_slices.proofs.Ruling.{ok-any}
-use Rattle.h264_slices.proofs.close.close_if.Goals as goal
+use Rattle.h264_judge.proofs.close.close_if.Goals as goal
 
 pub end_frame_if-requires-clause-kept : goal.end_frame_if-requires-clause-kept
 end_frame_if-requires-clause-kept g c =

@@ -14,7 +14,7 @@ use Rattle.h264_slices.specs.Sound.{NamesSet}
 use Rattle.h264_slices.proofs.Ruling.{goes-with, ok-any}
 use Rattle.h264_slices.proofs.Standing.{stands-if, usable-set, before-active, joined-sound, gap-filled, joined-active, joined-named}
 use Rattle.h264_slices.proofs.Judged.{closed-stop, closed-on, standing-stop, place-stop, own-then, before-held, one-pair}
-use Rattle.h264_slices.proofs.slices.judge_slice.Goals as goal
+use Rattle.h264_judge.proofs.slice.judge_slice.Goals as goal
 
 -- what follows where the rules are met
 ok-keeps : {A B C D : Type 0} (r : Result (Unit {0}) Stop) (begins : Bool) → (A → B → (begins ≡ true → C) → D) → OnOk r A → OnOk r B → (begins ≡ true → OnOk r C) → OnOk r D
