@@ -1,5 +1,5 @@
 -- Slice data behind what is kept before them.
-use Rattle.std.proofs.Common.{◌≡◌, ℕ, Bool, ◌&&◌, true, false, List, [], ◌∷◌, Option, Some, Result, Ok, Err, OnOk, refl, ap, sym, ◌∙◌, length}
+use Rattle.std.proofs.Common.{◌≡◌, ℕ, Bool, ◌&&◌, true, false, List, [], ◌∷◌, Option, Some, Result, refl, ap, sym, ◌∙◌, length}
 use Rattle.h264_base.specs.declared.mode.Mode.TheVariants as modes
 use Rattle.h264_base.specs.declared.stop.Stop.{Stop}
 use Rattle.h264_base.specs.Call.{Call}
@@ -38,6 +38,7 @@ use Rattle.h264_slices.specs.Pictures.{CodedSlice, CodedPicture, last_slice, joi
 use Rattle.h264_marking.specs.Ended.{numbering_of}
 use Rattle.h264_slices.specs.Data.{picture_set, coded_so_far, slice_syntax, data_in}
 use Rattle.h264_header.specs.Header.{header}
+use Rattle.h264_header.proofs.Entries.{where-ok}
 use Rattle.h264_slices.specs.StepOutcome.{structure_from}
 
 -- what macroblocks take from their slice says nothing of the marking
@@ -149,16 +150,12 @@ later-kept : (frames : ℕ → Frame) (s : CodedSlice) (p : CodedPicture) (ps : 
 unfolding KeepsDecoder
 later-kept frames s p ps ms d h = record { format = h.0.format; output = h.1; picture = begun-later frames s p ps ms d h.0 }
 
-on-ok : {X E : Type 0} (r : Result X E) (P Q : Type 0) → (P → Q) → OnOk r P → OnOk r Q
-on-ok (Ok x) P Q f h = f h
-on-ok (Err e) P Q f h = tt
-
 module _ {S X : Type 0} (took : S → List Call → Type 0) (failures : S → ℕ) (frames : ℕ → Frame) (new : Decoder) (s s' : S) (r : Result X Stop) (slice : CodedSlice) where
   pub first-read : (o : Outcome (List CodedMacroblock × ℕ)) (pictures : List CodedPicture) → ReadsSlice took failures frames o (λ ms. HoldsBegun frames (record { first = slice; later = [] }) pictures (slice ∷ []) ms new × KeepsOutput frames (within_newest (record { first = slice; later = [] } ∷ pictures)) (length pictures) new) s s' r → ReadsData took failures frames o (λ ms. joined_to true (record slice { macroblocks = ms }) pictures) new s s' r
-  first-read o pictures k = record { macroblocks = k.macroblocks; end = k.end; plays = k.plays; keeps = on-ok r _ _ (first-kept frames slice pictures k.macroblocks new) k.keeps }
+  first-read o pictures k = record { macroblocks = k.macroblocks; end = k.end; plays = k.plays; keeps = where-ok r (first-kept frames slice pictures k.macroblocks new) k.keeps }
 
   pub later-read : (o : Outcome (List CodedMacroblock × ℕ)) (p : CodedPicture) (ps : List CodedPicture) → ReadsSlice took failures frames o (λ ms. HoldsBegun frames p ps (slice ∷ slices_of p) ms new × KeepsOutput frames (within_newest (p ∷ ps)) (length ps) new) s s' r → ReadsData took failures frames o (λ ms. joined_to false (record slice { macroblocks = ms }) (p ∷ ps)) new s s' r
-  later-read o p ps k = record { macroblocks = k.macroblocks; end = k.end; plays = k.plays; keeps = on-ok r _ _ (later-kept frames slice p ps k.macroblocks new) k.keeps }
+  later-read o p ps k = record { macroblocks = k.macroblocks; end = k.end; plays = k.plays; keeps = where-ok r (later-kept frames slice p ps k.macroblocks new) k.keeps }
 
 -- the slice data of a slice behind what is kept before them
 pub read-behind : {S X : Type 0} (took : S → List Call → Type 0) (failures : S → ℕ) (frames : ℕ → Frame) (old new : Decoder) (s s' : S) (r : Result X Stop) (begins : Bool) (pictures : List CodedPicture) (slice : CodedSlice) (c : SliceContext) (body : Body) (at : ℕ) →
