@@ -7,9 +7,9 @@ use Rattle.h264_report.specs.Sent.{Takes}
 use Rattle.h264_report.specs.Written.{OfBytes, Lists, Checks, Decodes, last_line, status_of}
 use Rattle.h264_report.specs.declared.listing.Listing.TheVariants as listings
 use Rattle.h264_judge.specs.declared.state.Summary.{Summary}
-use Rattle.h264v.specs.Words.{program, asks, name_of, IsRefusable}
-use Rattle.h264v.specs.declared.asked.Task.{Task}
-use Rattle.h264v.specs.declared.asked.Task.TheVariants as tasks
+use Rattle.h264_words.specs.Words.{program, asks, name_of, IsRefusable}
+use Rattle.h264_words.specs.declared.Task.{Task}
+use Rattle.h264_words.specs.declared.Task.TheVariants as tasks
 use Rattle.clap.specs.Words.{Text}
 
 -- What a task writes of a stream, and the answer that it tells; standard error is written to by `decode` alone.

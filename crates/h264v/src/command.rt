@@ -7,15 +7,15 @@ ghost use Rattle.clap.specs.declared.error.kind.ErrorKind.TheVariants as kinds;
 ghost use Rattle.h264_report.specs.Written.{OfBytes};
 ghost use Rattle.h264v.specs.Commands.{Performs, SaysAlone, IsUnread, HasFailed, IsExcused, Faults, Comes};
 ghost use Rattle.h264v.specs.Files.{HasFailedToRead};
-ghost use Rattle.h264v.specs.Words.{program};
+ghost use Rattle.h264_words.specs.Words.{program};
 
-use crate::asked::{Task, asked};
 use crate::files::Files;
 use clap::Error;
 use clap::error::ErrorKind;
 use h264_base::{Mode, Stop};
 use h264_report::{Device, Ending, Listing, check, decode, list, put_answer, put_memory};
 use h264_verify::Source;
+use h264_words::{Task, asked};
 use std::alloc::Global;
 use std::io::Write;
 

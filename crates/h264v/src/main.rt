@@ -5,7 +5,6 @@
 
 ghost use Rattle.std.specs.Prelude.{◌≡◌, ◌⊎◌};
 
-mod asked;
 #[cfg(test)]
 mod check_tests;
 mod command;

@@ -1,8 +1,8 @@
 use Rattle.std.proofs.Common.{ap, ◌∙◌, codes}
 use Rattle.std.proofs.lemmas.Result.{IfOk-weaker}
 use Rattle.clap.specs.Words.{App}
-use Rattle.h264v.specs.Words.{with_file}
-use Rattle.h264v.proofs.asked.program.Goals as goal
+use Rattle.h264_words.specs.Words.{with_file}
+use Rattle.h264_words.proofs.program.Goals as goal
 
 pub returns : goal.returns
 returns c =

@@ -1,12 +1,16 @@
 //! What the words of the command line ask for.
+//!
+//! `asked` takes the words, the program's name first, and gives the task and the file's name, or an error with the text that says why they ask for nothing.
+//! It promises what `specs/Words.antt` defines on clap's own definition of a command line: that a request is the subcommand and the FILE that the words
+//! name, and that words which the command line takes are refused for want of memory alone.
 #![tactic(auto)]
 
 ghost use Rattle.std.specs.Prelude.{◌≡◌, true, false, map, None, Some, IfOk, IfErr, IfSome, string_bytes};
 ghost use Rattle.clap.specs.Words.{app_of, takes, kind_of};
 ghost use Rattle.clap.specs.declared.error.kind.ErrorKind.TheVariants as kinds;
 ghost use Rattle.clap.specs.declared.builder.command.Command.TheViews.{out-Command as fields_of};
-ghost use Rattle.h264v.specs.Words.{file_app, with_file, bare, program, name_of, AsksFor};
-ghost use Rattle.h264v.specs.declared.asked.Task.{Task as TaskView};
+ghost use Rattle.h264_words.specs.Words.{file_app, with_file, bare, program, name_of, AsksFor};
+ghost use Rattle.h264_words.specs.declared.Task.{Task as TaskView};
 
 use clap::{Arg, Command, Error};
 use std::alloc::{AllocError, Global};

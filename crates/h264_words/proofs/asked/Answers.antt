@@ -4,8 +4,8 @@ use Rattle.clap.specs.Words.{App, Row, Text, first_of, found_of, is_simple, subc
 use Rattle.clap.specs.Walk.{rows_of}
 use Rattle.clap.proofs.WalkLemmas.{first_value-rows}
 use Rattle.clap.proofs.OnLiterals.{clap_on_literals}
-use Rattle.h264v.specs.Words.{program, asks, name_of}
-use Rattle.h264v.proofs.asked.asked.Goals as goal
+use Rattle.h264_words.specs.Words.{program, asks, name_of}
+use Rattle.h264_words.proofs.asked.Goals as goal
 
 simple : is_simple program ≡ true
 unfolding clap_on_literals

@@ -1,9 +1,9 @@
 -- The command line: a simple command of clap with one level of subcommands, each of which takes one FILE.
 use Rattle.std.specs.Prelude.{◌≡◌, true, List, Option, Some, None, option_map, codes}
 use Rattle.clap.specs.Words.{App, Rule, Shape, Text, new_app, first_of, new_rule, subcommand_of, takes, with_rule, with_subcommand}
-use Rattle.h264v.specs.declared.asked.Request.{Request}
-use Rattle.h264v.specs.declared.asked.Task.{Task}
-use Rattle.h264v.specs.declared.asked.Task.TheVariants as tasks
+use Rattle.h264_words.specs.declared.Request.{Request}
+use Rattle.h264_words.specs.declared.Task.{Task}
+use Rattle.h264_words.specs.declared.Task.TheVariants as tasks
 
 abbrev pub file_rule : Rule
 file_rule = record (new_rule (codes "FILE")) { required = true }
