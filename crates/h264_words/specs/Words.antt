@@ -1,6 +1,7 @@
 -- The command line: a simple command of clap with one level of subcommands, each of which takes one FILE.
 use Rattle.std.specs.Prelude.{◌≡◌, true, List, Option, Some, None, option_map, codes}
-use Rattle.clap.specs.Words.{App, Rule, Shape, Text, new_app, first_of, new_rule, subcommand_of, takes, with_rule, with_subcommand}
+use Rattle.clap.specs.Words.{App, Rule, Shape, Text, new_app, first_of, new_rule, subcommand_of, subcommand_rows_of, takes, with_rule, with_subcommand}
+use Rattle.clap.specs.declared.parser.matches.ArgMatches.{ArgMatches}
 use Rattle.h264_words.specs.declared.Request.{Request}
 use Rattle.h264_words.specs.declared.Task.{Task}
 use Rattle.h264_words.specs.declared.Task.TheVariants as tasks
@@ -36,6 +37,15 @@ name_of tasks.Decode = codes "decode"
 -- the subcommand that words ask for, and the FILE that they give it
 abbrev pub asks : App → List Text → Option (Text × Option Text)
 asks app words = option_map (λ p. (p.0, first_of (codes "FILE") p.1)) (subcommand_of app words)
+
+-- the subcommand that matches of a command line name, and the FILE that they give it
+abbrev pub found_by : ArgMatches → Option (Text × Option Text)
+found_by matches = option_map (λ p. (p.0, first_of (codes "FILE") p.1)) (subcommand_rows_of matches)
+
+-- This is the request of a subcommand with this name and FILE: none where no task has the name, or there is no FILE.
+abbrev pub IsRequest : Option (Text × Option Text) → Option Request → Type 0
+IsRequest found None = (task : Task) (file : Text) → found ≡ Some (name_of task, Some file) → ⊥
+IsRequest found (Some r) = found ≡ Some (name_of r.task, Some r.file.now)
 
 -- these words name no task with a FILE
 abbrev pub AsksNothing : List Text → Type 0

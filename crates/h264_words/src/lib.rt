@@ -9,10 +9,10 @@ ghost use Rattle.std.specs.Prelude.{◌≡◌, true, false, map, None, Some, IfO
 ghost use Rattle.clap.specs.Words.{app_of, takes, kind_of};
 ghost use Rattle.clap.specs.declared.error.kind.ErrorKind.TheVariants as kinds;
 ghost use Rattle.clap.specs.declared.builder.command.Command.TheViews.{out-Command as fields_of};
-ghost use Rattle.h264_words.specs.Words.{file_app, with_file, bare, program, name_of, AsksFor};
+ghost use Rattle.h264_words.specs.Words.{file_app, with_file, bare, program, name_of, found_by, IsRequest, AsksFor};
 ghost use Rattle.h264_words.specs.declared.Task.{Task as TaskView};
 
-use clap::{Arg, Command, Error};
+use clap::{Arg, ArgMatches, Command, Error};
 use std::alloc::{AllocError, Global};
 
 /// What the program does with a file.
@@ -133,6 +133,16 @@ fn task_of(name: &str) -> Option<Task>
     }
 }
 
+/// The task and the file that the matches of a command line name; none where they name no task with a FILE.
+fn request_of<'a>(matches: &ArgMatches<'a>) -> Option<Request<'a>>
+    ensures { IsRequest (found_by matches.now) result }
+{
+    let (name, found) = matches.subcommand()?;
+    let task = task_of(name)?;
+    let file = found.get_str("FILE")?;
+    Some(Request { task, file })
+}
+
 /// What the words ask for, the program's name first among them.
 ///
 /// An error has the text that says why they ask for nothing, among them a request for help or the version; or memory was wanting for it.
@@ -142,14 +152,5 @@ pub fn asked<'a>(alloc: Global, words: &'a [String]) -> Result<Option<Request<'a
 {
     let command = program(alloc)?;
     let matches = command.try_get_matches_from(words)?;
-    let Some((name, found)) = matches.subcommand() else {
-        return Ok(None);
-    };
-    let Some(task) = task_of(name) else {
-        return Ok(None);
-    };
-    let Some(file) = found.get_str("FILE") else {
-        return Ok(None);
-    };
-    Ok(Some(Request { task, file }))
+    Ok(request_of(&matches))
 }
