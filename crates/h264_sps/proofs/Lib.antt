@@ -1,4 +1,3 @@
-pub mod Ways
 pub mod Padded
 pub mod Regroup
 pub mod Types

@@ -1,13 +1,11 @@
-//! Sequence parameter sets (7.3.2.1.1, 7.4.2.1.1), with their video usability information (E.1, E.2).
+//! Sequence parameter sets (7.3.2.1.1, 7.4.2.1.1).
 //!
 //! `read_sps` takes the RBSP of a unit of nal_unit_type 7 and gives each value in it, or the first rule that it breaks.
 //! It promises that the set derives in the grammar of `specs/Sps.antt`, which stands line for line as the standard's table does,
 //! with each rule that is checked at its place; the sink is told each element as soon as its code word was read.
-//! Bit rates, timing and the other values of the VUI are kept, and not judged.
+//! What the VUI of a set holds, and what it promises, `h264_vui` says.
 #![tactic(auto)]
 
 pub mod count_type;
-pub mod hrd;
 pub mod read;
 pub mod sps;
-pub mod vui;

@@ -3,20 +3,20 @@
 
 ghost use Rattle.std.specs.Prelude.{◌≡◌, ℕ, ◌+◌, ◌-◌, ◌<◌, ◌≤◌, ◌^◌, IfOk, Some, None, cond};
 ghost use Rattle.h264_base.specs.Meets.{Meets, Is, Answers};
-ghost use Rattle.h264_base.specs.declared.element_name.ElementName.TheVariants.{FrameCroppingFlag, VuiParametersPresentFlag};
+ghost use Rattle.h264_base.specs.declared.element_name.ElementName.TheVariants.{FrameCroppingFlag};
 ghost use Rattle.h264_bits.specs.Forms.{flag};
-ghost use Rattle.h264_sps.specs.Vui.{flagged, vui};
+ghost use Rattle.h264_vui.specs.Vui.{flagged, vui};
 ghost use Rattle.h264_sps.specs.Parts.{crop_offsets, is_size_allowed, sps_from_size};
 ghost use Rattle.h264_sps.specs.Seen.{level_seen, front_seen};
 ghost use Rattle.h264_sps.specs.Sps.{constraint_set_flags, level, profile_and_level, frame_size, frame_cropping, max_dpb_frames as max_dpb_frames_of, is_judged_profile, is_level_6, sps};
 
 use crate::count_type::{CountType, read_count_type};
 use crate::sps::{ConstraintSetFlags, FrameCropping, FrameSize, Sps};
-use crate::vui::{Frames, Vui, read_vui, there};
 use h264_base::{ElementName, Elements, Feature, Rule, Stop};
 use h264_bits::forms::{flag_value, u_must_be, u_value, u_values, ue_up_to};
 use h264_bits::{Bits, check, read_trailing, read_u, read_ue, support};
 use h264_tables::{Limits, limits};
+use h264_vui::vui::read_vui_info;
 
 /// level_idc, and what the level allows.
 #[derive(Clone, Copy)]
@@ -232,27 +232,6 @@ fn read_crop_info<S: Elements>(
         top: down.0,
         bottom: down.1,
     }))
-}
-
-/// The usability information, where it is present.
-fn read_vui_info<S: Elements>(
-    max_num_ref_frames: u32,
-    max_dpb_frames: u32,
-    bits: &mut Bits,
-    sink: &mut S,
-) -> Result<Option<Vui>, Stop>
-    requires { S.failures sink.old < 2 ^ 64 - 1 }
-    ensures { Meets S.took S.failures (Is (λ x. x)) (flagged (flag VuiParametersPresentFlag) (vui max_num_ref_frames max_dpb_frames)) bits.old bits.new sink.old sink.new result }
-{
-    let frames = Frames {
-        max_num_ref_frames,
-        max_dpb_frames,
-    };
-    match flag_value(bits, ElementName::VuiParametersPresentFlag, sink) {
-        Ok(true) => there(read_vui(frames, bits, sink)),
-        Ok(false) => Ok(None),
-        Err(stop) => Err(stop),
-    }
 }
 
 /// The set from the frame's size on.

@@ -1,0 +1,3 @@
+pub mod Hrd
+pub mod Vui
+pub mod Parts
