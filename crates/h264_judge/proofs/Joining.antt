@@ -1,5 +1,5 @@
 -- How a unit joins those before it.
-use Rattle.std.proofs.Common.{◌≡◌, ℕ, ◌+◌, ◌==◌, ◌||◌, ◌&&◌, not, true, false, Bool, ◌∷◌, [], List, Option, None, Some, Result, Ok, Err, OnOk, refl, ap, sym, subst, ◌∙◌, length}
+use Rattle.std.proofs.Common.{◌≡◌, ℕ, ◌+◌, ◌==◌, ◌||◌, ◌&&◌, not, true, false, Bool, ◌∷◌, [], List, Some, Result, Ok, Err, OnOk, refl, ap, sym, subst, ◌∙◌, length}
 use native.Mathlib.Numerals.{unary_clauses}
 use Rattle.h264_base.specs.declared.mode.Mode.{Mode}
 use Rattle.h264_base.specs.declared.mode.Mode.TheVariants as modes

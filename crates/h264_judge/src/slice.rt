@@ -4,6 +4,8 @@
 ghost use Rattle.std.specs.Prelude.{◌≡◌, ℕ, false, ◌+◌, ◌-◌, ◌<◌, ◌≤◌, ◌^◌, true, Some, List, [], ◌∷◌, Ok, OnOk, IsErrOf};
 ghost use Rattle.std.specs.Option.{is_some};
 ghost use Rattle.h264_header.specs.Layout.{sets_of};
+ghost use Rattle.h264_pps.specs.declared.Pps.{Pps};
+ghost use Rattle.h264_sps.specs.declared.sps.Sps.{Sps};
 ghost use Rattle.h264_near.specs.Coded.{CodedMacroblock};
 ghost use Rattle.h264_slices.specs.Demands.{judged};
 ghost use Rattle.h264_slices.specs.History.{History, maps_with, maps_of};
