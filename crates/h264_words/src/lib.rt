@@ -37,6 +37,30 @@ pub struct Request<'a> {
     pub file: &'a str,
 }
 
+/// The subcommands: the name of each, and what its help says.
+const SUBCOMMANDS: [(&str, &str); 5] = [
+    (
+        "check",
+        "Says whether a stream is legal: yes, no with the first rule that it breaks and the bit where, or outside",
+    ),
+    (
+        "units",
+        "Prints a line for each unit, and judges byte stream, units and parameter sets",
+    ),
+    (
+        "headers",
+        "Prints a line for each slice, and judges slice headers too",
+    ),
+    (
+        "frames",
+        "Prints a line for each frame in output order, with its size and the MD5 of its samples",
+    ),
+    (
+        "decode",
+        "Writes each frame in output order as planar YUV 4:2:0, and its verdict to standard error",
+    ),
+];
+
 /// A subcommand that takes one FILE; its help says `about`.
 fn file_command<'a>(alloc: Global, name: &'a str, about: &'a str) -> Result<Command<'a>, AllocError>
     ensures app { IfOk result (λ c. app_of c ≡ file_app name.now) }
@@ -81,36 +105,11 @@ fn bare<'a>(alloc: Global) -> Command<'a>
 fn program<'a>(alloc: Global) -> Result<Command<'a>, AllocError>
     ensures { IfOk result (λ c. app_of c ≡ program) }
 {
-    let check = with_file(
-        alloc,
-        bare(alloc),
-        "check",
-        "Says whether a stream is legal: yes, no with the first rule that it breaks and the bit where, or outside",
-    )?;
-    let units = with_file(
-        alloc,
-        check,
-        "units",
-        "Prints a line for each unit, and judges byte stream, units and parameter sets",
-    )?;
-    let headers = with_file(
-        alloc,
-        units,
-        "headers",
-        "Prints a line for each slice, and judges slice headers too",
-    )?;
-    let frames = with_file(
-        alloc,
-        headers,
-        "frames",
-        "Prints a line for each frame in output order, with its size and the MD5 of its samples",
-    )?;
-    with_file(
-        alloc,
-        frames,
-        "decode",
-        "Writes each frame in output order as planar YUV 4:2:0, and its verdict to standard error",
-    )
+    let mut command = bare(alloc);
+    for (name, about) in SUBCOMMANDS {
+        command = with_file(alloc, command, name, about)?;
+    }
+    Ok(command)
 }
 
 /// The task of a subcommand's name; none for another word.

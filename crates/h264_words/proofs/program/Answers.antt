@@ -1,14 +1,17 @@
-use Rattle.std.proofs.Common.{ap, ◌∙◌, codes}
-use Rattle.std.proofs.lemmas.Result.{IfOk-weaker}
-use Rattle.clap.specs.Words.{App}
-use Rattle.h264_words.specs.Words.{with_file}
+use Rattle.std.proofs.Common.{◌≡◌, arith, refl, sym, ◌∙◌}
+use Rattle.h264_words.proofs.Added.{added-none, added-one, added-all}
 use Rattle.h264_words.proofs.program.Goals as goal
+
+pub loop-name-init : goal.loop-name-init
+loop-name-init c = record { local = c.bare-command.ensures.local; app = c.bare-command.ensures.app ∙ sym added-none }
+
+pub loop-name-preserved : goal.loop-name-preserved
+loop-name-preserved c = record {
+  local = c.in_ok-command.ensures.local;
+  app = added-one _ _ c.loop-name.name-index _ _ _ _ c.in_ok-command.ensures.app c.loop-name.invariant.app c.loop-name-test.true refl;
+}
 
 pub returns : goal.returns
 returns c =
-    IfOk-weaker c.with_file-5.result _ _ (λ r h. h
-    ∙ ap (λ (a : App). with_file a (codes "decode")) (c.in_ok-frames.ensures.app
-    ∙ ap (λ (a : App). with_file a (codes "frames")) (c.in_ok-headers.ensures.app
-    ∙ ap (λ (a : App). with_file a (codes "headers")) (c.in_ok-units.ensures.app
-    ∙ ap (λ (a : App). with_file a (codes "units")) (c.in_ok-check.ensures.app
-    ∙ ap (λ (a : App). with_file a (codes "check")) c.bare.ensures.app))))) c.with_file-5.ensures.app
+    let last : c.loop-name.name-index ≡ 5 = (let t = c.loop-name-test.false in let e = c.loop-name.auto.name-index-end in omega arith) in
+    (rw last at c.loop-name.invariant.app) ∙ added-all
