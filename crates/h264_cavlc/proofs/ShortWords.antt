@@ -1,18 +1,25 @@
--- The words of run_before by three bits, and those of total_zeros by six.
-use Rattle.std.proofs.Common.{◌≡◌, ◌≢◌, ℕ, zero, suc, ◌+◌, ◌*◌, ◌-◌, ◌/◌, ◌^◌, ◌<◌, ◌≤◌, Bool, true, false, ◌&&◌, List, [], ◌∷◌, length, take, drop, get_or, min, refl, ◌∙◌, arith}
-use Rattle.std.proofs.lemmas.Bool.{and_parts, ne_eqb}
+-- The words of run_before by three bits, those of total_zeros by six or nine, and those of coeff_token by eight.
+use Rattle.std.proofs.Common.{◌≡◌, ◌≢◌, ℕ, zero, suc, ◌+◌, ◌*◌, ◌-◌, ◌/◌, ◌^◌, ◌<◌, ◌≤◌, Bool, true, false, ◌&&◌, List, [], ◌∷◌, length, take, drop, get_or, min, nat_lt, Option, Some, None, inl, inr, lt-ltb, refl, ap, ◌∙◌, arith}
+use Rattle.std.specs.Option.{option_map}
+use Rattle.std.proofs.lemmas.Bool.{and_parts, ne_eqb, ltb-true, cases_lt}
 use Rattle.std.proofs.lemmas.List.{get_or-take, get_or-drop}
 use Rattle.h264_base.specs.Table.{Row}
 use Rattle.h264_tables.specs.Front.{front_of, found_of}
-use Rattle.h264_tables.specs.Choice.{run_before_tables, total_zeros_tables}
-use Rattle.h264_tables.specs.RunBefore.{run_before_1, run_before_2, run_before_3, run_before_4, run_before_5, run_before_6}
+use Rattle.h264_tables.specs.CoeffToken.{coeff_token_nc0, coeff_token_nc2, coeff_token_nc4, coeff_token_nc8}
+use Rattle.h264_tables.specs.Choice.{coeff_token_by, run_before_tables, total_zeros_tables}
+use Rattle.h264_tables.specs.Entry.{entry_of}
+use Rattle.h264_tables.specs.declared.front.Entry.{Entry}
+use Rattle.h264_tables.specs.RunBefore.{run_before_1, run_before_2, run_before_3, run_before_4, run_before_5, run_before_6, run_before_7}
 use Rattle.h264_tables.specs.Table.{rows_of}
 use Rattle.h264_tables.specs.declared.table.Table.TheVariants.{RunBefore7}
 use Rattle.h264_tables.proofs.Entries.{agrees, entry_fits, entry-is}
-use Rattle.h264_tables.specs.TotalZeros.{total_zeros_2, total_zeros_3, total_zeros_4, total_zeros_5, total_zeros_6, total_zeros_7, total_zeros_8, total_zeros_9, total_zeros_10, total_zeros_11, total_zeros_12, total_zeros_13, total_zeros_14, total_zeros_15}
+use Rattle.h264_tables.specs.TotalZeros.{total_zeros_1, total_zeros_2, total_zeros_3, total_zeros_4, total_zeros_5, total_zeros_6, total_zeros_7, total_zeros_8, total_zeros_9, total_zeros_10, total_zeros_11, total_zeros_12, total_zeros_13, total_zeros_14, total_zeros_15}
 use Rattle.h264_cavlc.specs.declared.runs.TheConstants as run
+use Rattle.h264_cavlc.specs.declared.token_words.TheConstants as token
 use Rattle.h264_cavlc.specs.declared.totals.TheConstants as total
+use Rattle.h264_cavlc.specs.Token.{coeff_token_table}
 use Rattle.h264_cavlc.specs.Zeros.{run_before_table, total_zeros_table}
+use Rattle.h264_cavlc.proofs.Sizes.{not-below}
 
 -- entry k on: each is the word that its number begins with, where s bits follow
 unfoldable all_fit : ℕ → ℕ → List ℕ → List ℕ → List Row → Bool
@@ -43,25 +50,89 @@ found-in m s n y lengths values rows j long all =
     let fits = fit-at s 0 (y / 2 ^ s) (part m n lengths) (part m n values) rows all (omega arith) in
     entry-is 16 s y _ _ rows (rw (zero_more, part-at m n lengths (y / 2 ^ s) j, part-at m n values (y / 2 ^ s) j) at fits)
 
-three-bits : (n y : ℕ) (rows : List Row) → y < 2 ^ 16 → length (part 8 n run.WORD_LENGTHS) ≡ 8 → all_fit 13 0 (part 8 n run.WORD_LENGTHS) (part 8 n run.WORD_VALUES) rows ≡ true →
+-- as all_fit, but a length of 0 says nothing
+unfoldable some_fit : ℕ → ℕ → List ℕ → List ℕ → List Row → Bool
+some_fit s k [] values rows = true
+some_fit s k (l ∷ lengths) [] rows = false
+some_fit s k (zero ∷ lengths) (v ∷ values) rows = some_fit s (suc k) lengths values rows
+some_fit s k (suc l ∷ lengths) (v ∷ values) rows = entry_fits 16 s k (suc l) v rows && some_fit s (suc k) lengths values rows
+
+some-fit-at : (s k j : ℕ) (lengths values : List ℕ) (rows : List Row) → some_fit s k lengths values rows ≡ true → j < length lengths → 0 < get_or lengths j 0 →
+    entry_fits 16 s (k + j) (get_or lengths j 0) (get_or values j 0) rows ≡ true
+unfolding some_fit
+some-fit-at s k j [] values rows h g some = absurd (omega arith)
+some-fit-at s k j (l ∷ lengths) [] rows h g some = absurd (cc)
+some-fit-at s k zero (zero ∷ lengths) (v ∷ values) rows h g some = absurd (omega arith)
+some-fit-at s k zero (suc l ∷ lengths) (v ∷ values) rows h g some = let e : k + 0 ≡ k = omega arith in rw e (and_parts _ _ h).0
+some-fit-at s k (suc j) (zero ∷ lengths) (v ∷ values) rows h g some = let e : k + suc j ≡ suc k + j = omega arith in rw e (some-fit-at s (suc k) j lengths values rows h (omega arith) some)
+some-fit-at s k (suc j) (suc l ∷ lengths) (v ∷ values) rows h g some = let e : k + suc j ≡ suc k + j = omega arith in rw e (some-fit-at s (suc k) j lengths values rows (and_parts _ _ h).1 (omega arith) some)
+
+found-some : (m s n y : ℕ) (lengths values : List ℕ) (rows : List Row) → y / 2 ^ s < m → length (part m n lengths) ≡ m → some_fit s 0 (part m n lengths) (part m n values) rows ≡ true → 0 < get_or lengths (n + y / 2 ^ s) 0 →
+    (get_or lengths (n + y / 2 ^ s) 0, get_or values (n + y / 2 ^ s) 0) ≡ found_of (front_of 16 rows y)
+found-some m s n y lengths values rows j long all some =
+    let zero_more : 0 + y / 2 ^ s ≡ y / 2 ^ s = omega arith in
+    let here = part-at m n lengths (y / 2 ^ s) j in
+    let fits = some-fit-at s 0 (y / 2 ^ s) (part m n lengths) (part m n values) rows all (omega arith) (rw here some) in
+    entry-is 16 s y _ _ rows (rw (zero_more, here, part-at m n values (y / 2 ^ s) j) at fits)
+
+three-bits : (n y : ℕ) (rows : List Row) → y < 2 ^ 16 → length (part 8 n run.WORD_LENGTHS) ≡ 8 → some_fit 13 0 (part 8 n run.WORD_LENGTHS) (part 8 n run.WORD_VALUES) rows ≡ true → 0 < get_or run.WORD_LENGTHS (n + y / 2 ^ 13) 0 →
     (get_or run.WORD_LENGTHS (n + y / 2 ^ 13) 0, get_or run.WORD_VALUES (n + y / 2 ^ 13) 0) ≡ found_of (front_of 16 rows y)
-three-bits n y rows h long all = found-in 8 13 n y run.WORD_LENGTHS run.WORD_VALUES rows (omega arith) long all
+three-bits n y rows h long all some = found-some 8 13 n y run.WORD_LENGTHS run.WORD_VALUES rows (omega arith) long all some
 
 six-bits : (n y : ℕ) (rows : List Row) → y < 2 ^ 16 → length (part 64 n total.WORD_LENGTHS) ≡ 64 → all_fit 10 0 (part 64 n total.WORD_LENGTHS) (part 64 n total.WORD_VALUES) rows ≡ true →
     (get_or total.WORD_LENGTHS (n + y / 2 ^ 10) 0, get_or total.WORD_VALUES (n + y / 2 ^ 10) 0) ≡ found_of (front_of 16 rows y)
 six-bits n y rows h long all = found-in 64 10 n y total.WORD_LENGTHS total.WORD_VALUES rows (omega arith) long all
 
-pub short-found : (z y : ℕ) → 0 < z → z ≤ 6 → y < 2 ^ 16 →
+eight-bits : (m n y : ℕ) (rows : List Row) → n ≡ m → y < 2 ^ 16 → length (part 256 m token.WORD_LENGTHS) ≡ 256 → some_fit 8 0 (part 256 m token.WORD_LENGTHS) (part 256 m token.WORD_VALUES) rows ≡ true → 0 < get_or token.WORD_LENGTHS (n + y / 2 ^ 8) 0 →
+    (get_or token.WORD_LENGTHS (n + y / 2 ^ 8) 0, get_or token.WORD_VALUES (n + y / 2 ^ 8) 0) ≡ found_of (front_of 16 rows y)
+eight-bits m n y rows e h long all some = rw e (found-some 256 8 m y token.WORD_LENGTHS token.WORD_VALUES rows (omega arith) long all (rw e at some))
+
+pub short-found : (z y : ℕ) → 0 < z → z ≤ 15 → y < 2 ^ 16 → 0 < get_or run.WORD_LENGTHS (8 * (z - 1) + y / 2 ^ 13) 0 →
     (get_or run.WORD_LENGTHS (8 * (z - 1) + y / 2 ^ 13) 0, get_or run.WORD_VALUES (8 * (z - 1) + y / 2 ^ 13) 0) ≡ found_of (front_of 16 (rows_of (run_before_table z)) y)
-unfolding part all_fit entry_fits agrees run_before_table run_before_tables run_before_1 run_before_2 run_before_3 run_before_4 run_before_5 run_before_6
-short-found zero y p q h = absurd (omega arith)
-short-found (suc zero) y p q h = three-bits 0 y run_before_1 h refl refl
-short-found (suc (suc zero)) y p q h = three-bits 8 y run_before_2 h refl refl
-short-found (suc (suc (suc zero))) y p q h = three-bits 16 y run_before_3 h refl refl
-short-found (suc (suc (suc (suc zero)))) y p q h = three-bits 24 y run_before_4 h refl refl
-short-found (suc (suc (suc (suc (suc zero))))) y p q h = three-bits 32 y run_before_5 h refl refl
-short-found (suc (suc (suc (suc (suc (suc zero)))))) y p q h = three-bits 40 y run_before_6 h refl refl
-short-found (suc (suc (suc (suc (suc (suc (suc z))))))) y p q h = absurd (omega arith)
+unfolding part some_fit entry_fits agrees run_before_table run_before_tables run_before_1 run_before_2 run_before_3 run_before_4 run_before_5 run_before_6 run_before_7
+short-found zero y p q h some = absurd (omega arith)
+short-found (suc zero) y p q h some = three-bits 0 y run_before_1 h refl refl some
+short-found (suc (suc zero)) y p q h some = three-bits 8 y run_before_2 h refl refl some
+short-found (suc (suc (suc zero))) y p q h some = three-bits 16 y run_before_3 h refl refl some
+short-found (suc (suc (suc (suc zero)))) y p q h some = three-bits 24 y run_before_4 h refl refl some
+short-found (suc (suc (suc (suc (suc zero))))) y p q h some = three-bits 32 y run_before_5 h refl refl some
+short-found (suc (suc (suc (suc (suc (suc zero)))))) y p q h some = three-bits 40 y run_before_6 h refl refl some
+short-found (suc (suc (suc (suc (suc (suc (suc zero))))))) y p q h some = three-bits 48 y run_before_7 h refl refl some
+short-found (suc (suc (suc (suc (suc (suc (suc (suc zero)))))))) y p q h some = three-bits 56 y run_before_7 h refl refl some
+short-found (suc (suc (suc (suc (suc (suc (suc (suc (suc zero))))))))) y p q h some = three-bits 64 y run_before_7 h refl refl some
+short-found (suc (suc (suc (suc (suc (suc (suc (suc (suc (suc zero)))))))))) y p q h some = three-bits 72 y run_before_7 h refl refl some
+short-found (suc (suc (suc (suc (suc (suc (suc (suc (suc (suc (suc zero))))))))))) y p q h some = three-bits 80 y run_before_7 h refl refl some
+short-found (suc (suc (suc (suc (suc (suc (suc (suc (suc (suc (suc (suc zero)))))))))))) y p q h some = three-bits 88 y run_before_7 h refl refl some
+short-found (suc (suc (suc (suc (suc (suc (suc (suc (suc (suc (suc (suc (suc zero))))))))))))) y p q h some = three-bits 96 y run_before_7 h refl refl some
+short-found (suc (suc (suc (suc (suc (suc (suc (suc (suc (suc (suc (suc (suc (suc zero)))))))))))))) y p q h some = three-bits 104 y run_before_7 h refl refl some
+short-found (suc (suc (suc (suc (suc (suc (suc (suc (suc (suc (suc (suc (suc (suc (suc zero))))))))))))))) y p q h some = three-bits 112 y run_before_7 h refl refl some
+short-found (suc (suc (suc (suc (suc (suc (suc (suc (suc (suc (suc (suc (suc (suc (suc (suc z)))))))))))))))) y p q h some = absurd (omega arith)
+
+unfoldable has_no_zero : List ℕ → Bool
+has_no_zero [] = true
+has_no_zero (x ∷ xs) = nat_lt 0 x && has_no_zero xs
+
+no-zero-at : (xs : List ℕ) (k : ℕ) → has_no_zero xs ≡ true → k < length xs → 0 < get_or xs k 0
+unfolding has_no_zero
+no-zero-at [] k e h = absurd (omega arith)
+no-zero-at (x ∷ xs) zero e h = ltb-true _ _ (and_parts _ _ e).0
+no-zero-at (x ∷ xs) (suc k) e h = no-zero-at xs k (and_parts _ _ e).1 (omega arith)
+
+-- up to zerosLeft 6 any three bits begin with a word
+short-there : (z y : ℕ) → 0 < z → z ≤ 6 → y < 2 ^ 16 → 0 < get_or run.WORD_LENGTHS (8 * (z - 1) + y / 2 ^ 13) 0
+unfolding part has_no_zero
+short-there z y p q h =
+    let t = no-zero-at (part 48 0 run.WORD_LENGTHS) (8 * (z - 1) + y / 2 ^ 13) refl in
+    let long : length (part 48 0 run.WORD_LENGTHS) ≡ 48 = refl in
+    let e = part-at 48 0 run.WORD_LENGTHS (8 * (z - 1) + y / 2 ^ 13) (omega arith) in
+    let f : 0 + (8 * (z - 1) + y / 2 ^ 13) ≡ 8 * (z - 1) + y / 2 ^ 13 = omega arith in
+    rw (e, f) at (t (omega arith))
+
+pub short-long : (z y : ℕ) → 0 < z → y < 2 ^ 16 → get_or run.WORD_LENGTHS (8 * (z - 1) + y / 2 ^ 13) 0 ≡ 0 → 6 < z
+short-long z y p h none = elim (cases_lt 6 z) [
+  | inl many ↦ many
+  | inr few ↦ let t = short-there z y p (omega arith) h in absurd (omega arith)
+]
 
 pub six-found : (t y : ℕ) → 1 < t → t ≤ 15 → y < 2 ^ 16 →
     (get_or total.WORD_LENGTHS (64 * (t - 2) + y / 2 ^ 10) 0, get_or total.WORD_VALUES (64 * (t - 2) + y / 2 ^ 10) 0) ≡ found_of (front_of 16 (rows_of (total_zeros_table 16 t)) y)
@@ -83,6 +154,37 @@ six-found (suc (suc (suc (suc (suc (suc (suc (suc (suc (suc (suc (suc (suc zero)
 six-found (suc (suc (suc (suc (suc (suc (suc (suc (suc (suc (suc (suc (suc (suc zero)))))))))))))) y p q h = six-bits 768 y total_zeros_14 h refl refl
 six-found (suc (suc (suc (suc (suc (suc (suc (suc (suc (suc (suc (suc (suc (suc (suc zero))))))))))))))) y p q h = six-bits 832 y total_zeros_15 h refl refl
 six-found (suc (suc (suc (suc (suc (suc (suc (suc (suc (suc (suc (suc (suc (suc (suc (suc t)))))))))))))))) y p q h = absurd (omega arith)
+
+pub nine-found : (y : ℕ) → y < 2 ^ 16 → (get_or total.ONE_LENGTHS (y / 2 ^ 7) 0, get_or total.ONE_VALUES (y / 2 ^ 7) 0) ≡ found_of (front_of 16 (rows_of (total_zeros_table 16 1)) y)
+unfolding part all_fit entry_fits agrees total_zeros_table total_zeros_tables total_zeros_1
+nine-found y h =
+    let e : 0 + y / 2 ^ 7 ≡ y / 2 ^ 7 = omega arith in
+    rw e at (found-in 512 7 0 y total.ONE_LENGTHS total.ONE_VALUES total_zeros_1 (omega arith) refl refl)
+
+-- the words of coeff_token from entry n on, where a block is none of chroma DC
+pub token-found : (nc n y : ℕ) → y < 2 ^ 16 → (nc < 2 → n ≡ 0) → (2 ≤ nc → nc < 4 → n ≡ 256) → (4 ≤ nc → nc < 8 → n ≡ 512) → (8 ≤ nc → n ≡ 768) → 0 < get_or token.WORD_LENGTHS (n + y / 2 ^ 8) 0 →
+    (get_or token.WORD_LENGTHS (n + y / 2 ^ 8) 0, get_or token.WORD_VALUES (n + y / 2 ^ 8) 0) ≡ found_of (front_of 16 (rows_of (coeff_token_by nc)) y)
+unfolding part some_fit entry_fits agrees coeff_token_nc0 coeff_token_nc2 coeff_token_nc4 coeff_token_nc8
+token-found nc n y h one three seven more some = elim (cases_lt nc 2) [
+  | inl below ↦ rw (lt-ltb nc 2 below) (eight-bits 0 n y coeff_token_nc0 (one below) h refl refl some)
+  | inr two ↦ rw (not-below nc 2 (omega arith)) (elim (cases_lt nc 4) [
+    | inl below ↦ rw (lt-ltb nc 4 below) (eight-bits 256 n y coeff_token_nc2 (three (omega arith) below) h refl refl some)
+    | inr four ↦ rw (not-below nc 4 (omega arith)) (elim (cases_lt nc 8) [
+      | inl below ↦ rw (lt-ltb nc 8 below) (eight-bits 512 n y coeff_token_nc4 (seven (omega arith) below) h refl refl some)
+      | inr eight ↦ rw (not-below nc 8 (omega arith)) (eight-bits 768 n y coeff_token_nc8 (more (omega arith)) h refl refl some)
+    ])
+  ])
+]
+
+-- a word that was found
+pub word-is : (o : Option Row) (p : ℕ × ℕ) → 0 < p.0 → p ≡ found_of o → (let e : Entry = record { length = p.0; value = p.1 } in Some e) ≡ option_map entry_of o
+word-is None p some e = let z : p.0 ≡ 0 = ap (λ (q : ℕ × ℕ). q.0) e in absurd (omega arith)
+word-is (Some r) p some e = rw e refl
+
+-- a block that is none of chroma DC has its table of coeff_token by nC
+pub token-other-size : (size nc : ℕ) → size ≢ 4 → coeff_token_table size nc ≡ coeff_token_by nc
+unfolding coeff_token_table
+token-other-size size nc h = rw (ne_eqb size 4 h) refl
 
 -- blocks that are none of chroma DC have one choice of tables
 pub other-size : (size t : ℕ) → size ≢ 4 → total_zeros_table size t ≡ total_zeros_table 16 t

@@ -13,6 +13,7 @@ mod runs;
 #[cfg(test)]
 mod tests;
 mod token;
+mod token_words;
 mod totals;
 mod zeros;
 

@@ -6,9 +6,9 @@ ghost use Rattle.h264_base.specs.Meets.{Meets, Is};
 ghost use Rattle.h264_bits.specs.Forms.{repeated};
 ghost use Rattle.h264_cavlc.specs.Token as syntax;
 
+use crate::token_words::{coeff_token_table, coeff_token_word};
 use h264_base::{ElementName, Elements, Rule, Stop};
-use h264_bits::{Bits, check, read_residual_bits, read_word};
-use h264_tables::Table;
+use h264_bits::{Bits, check, read_entry, read_residual_bits};
 
 /// What coeff_token says.
 #[derive(Clone, Copy, Debug, PartialEq, Eq)]
@@ -17,19 +17,6 @@ pub struct Token {
     pub total: u8,
     /// TrailingOnes: how many of them, the first ones, are 1 or -1 with a sign alone. At most 3.
     pub ones: u8,
-}
-
-/// The table of coeff_token.
-#[tactic(auto, unfolding(crate::specs::Token::coeff_token_table))]
-#[inline(always)]
-fn coeff_token_table(size: usize, nc: u8) -> Table
-    ensures { result ≡ syntax.coeff_token_table size nc }
-{
-    if size == 4 {
-        Table::CoeffTokenChromaDc
-    } else {
-        Table::coeff_token(nc)
-    }
 }
 
 /// Reads coeff_token of a block of `size` coefficients.
@@ -48,11 +35,13 @@ pub(crate) fn read_token<S: Elements>(
     ensures inside { OnOk result (bits.new.at ≤ 8 * length bits.new.body.bytes) }
 {
     let table = coeff_token_table(size, nc);
-    let found = read_word(
+    let entry = coeff_token_word(size, nc, bits.next_16());
+    let found = read_entry(
         bits,
         Rule::ResidualWord,
         ElementName::CoeffToken,
         table,
+        entry,
         sink,
     )?;
     let total = found.value / 4;

@@ -1,4 +1,4 @@
-//! The words of total_zeros (Tables 9-7 and 9-8), looked up with no choice among the tables of two coefficients and more.
+//! The words of total_zeros (Tables 9-7 and 9-8), looked up with no choice among the tables of blocks that are none of chroma DC.
 #![tactic(auto)]
 
 ghost use Rattle.std.specs.Prelude.{◌≡◌, ◌<◌, ◌≤◌, IfSome};
@@ -76,6 +76,47 @@ const WORD_VALUES: [u8; 896] = [
     1, 1, 1, 1, 1, 1, 1, 1, 1,
 ];
 
+/// Where there is one coefficient: the length of the word that nine bits begin with, by the bits. It is 0 where they begin with no word.
+const ONE_LENGTHS: [u8; 512] = [
+    0, 9, 9, 9, 8, 8, 8, 8, 7, 7, 7, 7, 7, 7, 7, 7, 6, 6, 6, 6, 6, 6, 6, 6, 6, 6, 6, 6, 6, 6, 6, 6,
+    5, 5, 5, 5, 5, 5, 5, 5, 5, 5, 5, 5, 5, 5, 5, 5, 5, 5, 5, 5, 5, 5, 5, 5, 5, 5, 5, 5, 5, 5, 5, 5,
+    4, 4, 4, 4, 4, 4, 4, 4, 4, 4, 4, 4, 4, 4, 4, 4, 4, 4, 4, 4, 4, 4, 4, 4, 4, 4, 4, 4, 4, 4, 4, 4,
+    4, 4, 4, 4, 4, 4, 4, 4, 4, 4, 4, 4, 4, 4, 4, 4, 4, 4, 4, 4, 4, 4, 4, 4, 4, 4, 4, 4, 4, 4, 4, 4,
+    3, 3, 3, 3, 3, 3, 3, 3, 3, 3, 3, 3, 3, 3, 3, 3, 3, 3, 3, 3, 3, 3, 3, 3, 3, 3, 3, 3, 3, 3, 3, 3,
+    3, 3, 3, 3, 3, 3, 3, 3, 3, 3, 3, 3, 3, 3, 3, 3, 3, 3, 3, 3, 3, 3, 3, 3, 3, 3, 3, 3, 3, 3, 3, 3,
+    3, 3, 3, 3, 3, 3, 3, 3, 3, 3, 3, 3, 3, 3, 3, 3, 3, 3, 3, 3, 3, 3, 3, 3, 3, 3, 3, 3, 3, 3, 3, 3,
+    3, 3, 3, 3, 3, 3, 3, 3, 3, 3, 3, 3, 3, 3, 3, 3, 3, 3, 3, 3, 3, 3, 3, 3, 3, 3, 3, 3, 3, 3, 3, 3,
+    1, 1, 1, 1, 1, 1, 1, 1, 1, 1, 1, 1, 1, 1, 1, 1, 1, 1, 1, 1, 1, 1, 1, 1, 1, 1, 1, 1, 1, 1, 1, 1,
+    1, 1, 1, 1, 1, 1, 1, 1, 1, 1, 1, 1, 1, 1, 1, 1, 1, 1, 1, 1, 1, 1, 1, 1, 1, 1, 1, 1, 1, 1, 1, 1,
+    1, 1, 1, 1, 1, 1, 1, 1, 1, 1, 1, 1, 1, 1, 1, 1, 1, 1, 1, 1, 1, 1, 1, 1, 1, 1, 1, 1, 1, 1, 1, 1,
+    1, 1, 1, 1, 1, 1, 1, 1, 1, 1, 1, 1, 1, 1, 1, 1, 1, 1, 1, 1, 1, 1, 1, 1, 1, 1, 1, 1, 1, 1, 1, 1,
+    1, 1, 1, 1, 1, 1, 1, 1, 1, 1, 1, 1, 1, 1, 1, 1, 1, 1, 1, 1, 1, 1, 1, 1, 1, 1, 1, 1, 1, 1, 1, 1,
+    1, 1, 1, 1, 1, 1, 1, 1, 1, 1, 1, 1, 1, 1, 1, 1, 1, 1, 1, 1, 1, 1, 1, 1, 1, 1, 1, 1, 1, 1, 1, 1,
+    1, 1, 1, 1, 1, 1, 1, 1, 1, 1, 1, 1, 1, 1, 1, 1, 1, 1, 1, 1, 1, 1, 1, 1, 1, 1, 1, 1, 1, 1, 1, 1,
+    1, 1, 1, 1, 1, 1, 1, 1, 1, 1, 1, 1, 1, 1, 1, 1, 1, 1, 1, 1, 1, 1, 1, 1, 1, 1, 1, 1, 1, 1, 1, 1,
+];
+
+/// What it stands for.
+const ONE_VALUES: [u8; 512] = [
+    0, 15, 14, 13, 12, 12, 11, 11, 10, 10, 10, 10, 9, 9, 9, 9, 8, 8, 8, 8, 8, 8, 8, 8, 7, 7, 7, 7,
+    7, 7, 7, 7, 6, 6, 6, 6, 6, 6, 6, 6, 6, 6, 6, 6, 6, 6, 6, 6, 5, 5, 5, 5, 5, 5, 5, 5, 5, 5, 5, 5,
+    5, 5, 5, 5, 4, 4, 4, 4, 4, 4, 4, 4, 4, 4, 4, 4, 4, 4, 4, 4, 4, 4, 4, 4, 4, 4, 4, 4, 4, 4, 4, 4,
+    4, 4, 4, 4, 3, 3, 3, 3, 3, 3, 3, 3, 3, 3, 3, 3, 3, 3, 3, 3, 3, 3, 3, 3, 3, 3, 3, 3, 3, 3, 3, 3,
+    3, 3, 3, 3, 2, 2, 2, 2, 2, 2, 2, 2, 2, 2, 2, 2, 2, 2, 2, 2, 2, 2, 2, 2, 2, 2, 2, 2, 2, 2, 2, 2,
+    2, 2, 2, 2, 2, 2, 2, 2, 2, 2, 2, 2, 2, 2, 2, 2, 2, 2, 2, 2, 2, 2, 2, 2, 2, 2, 2, 2, 2, 2, 2, 2,
+    2, 2, 2, 2, 1, 1, 1, 1, 1, 1, 1, 1, 1, 1, 1, 1, 1, 1, 1, 1, 1, 1, 1, 1, 1, 1, 1, 1, 1, 1, 1, 1,
+    1, 1, 1, 1, 1, 1, 1, 1, 1, 1, 1, 1, 1, 1, 1, 1, 1, 1, 1, 1, 1, 1, 1, 1, 1, 1, 1, 1, 1, 1, 1, 1,
+    1, 1, 1, 1, 0, 0, 0, 0, 0, 0, 0, 0, 0, 0, 0, 0, 0, 0, 0, 0, 0, 0, 0, 0, 0, 0, 0, 0, 0, 0, 0, 0,
+    0, 0, 0, 0, 0, 0, 0, 0, 0, 0, 0, 0, 0, 0, 0, 0, 0, 0, 0, 0, 0, 0, 0, 0, 0, 0, 0, 0, 0, 0, 0, 0,
+    0, 0, 0, 0, 0, 0, 0, 0, 0, 0, 0, 0, 0, 0, 0, 0, 0, 0, 0, 0, 0, 0, 0, 0, 0, 0, 0, 0, 0, 0, 0, 0,
+    0, 0, 0, 0, 0, 0, 0, 0, 0, 0, 0, 0, 0, 0, 0, 0, 0, 0, 0, 0, 0, 0, 0, 0, 0, 0, 0, 0, 0, 0, 0, 0,
+    0, 0, 0, 0, 0, 0, 0, 0, 0, 0, 0, 0, 0, 0, 0, 0, 0, 0, 0, 0, 0, 0, 0, 0, 0, 0, 0, 0, 0, 0, 0, 0,
+    0, 0, 0, 0, 0, 0, 0, 0, 0, 0, 0, 0, 0, 0, 0, 0, 0, 0, 0, 0, 0, 0, 0, 0, 0, 0, 0, 0, 0, 0, 0, 0,
+    0, 0, 0, 0, 0, 0, 0, 0, 0, 0, 0, 0, 0, 0, 0, 0, 0, 0, 0, 0, 0, 0, 0, 0, 0, 0, 0, 0, 0, 0, 0, 0,
+    0, 0, 0, 0, 0, 0, 0, 0, 0, 0, 0, 0, 0, 0, 0, 0, 0, 0, 0, 0, 0, 0, 0, 0, 0, 0, 0, 0, 0, 0, 0, 0,
+    0, 0, 0, 0,
+];
+
 /// The table of total_zeros.
 #[tactic(auto, unfolding(crate::specs::Zeros::total_zeros_table))]
 #[inline(always)]
@@ -92,6 +133,15 @@ pub(crate) fn total_zeros_table(size: usize, total: u8) -> Table
     }
 }
 
+/// The length and the value of the word that 16 bits begin with, where there is one coefficient and the block is none of chroma DC; or 0 and 0.
+#[inline(always)]
+fn nine_bit_word(bits: u16) -> (u8, u8)
+    ensures { result ≡ found_of (front_of 16 (rows_of (total_zeros_table 16 1)) bits) }
+{
+    let entry = usize::from(bits >> 7);
+    (ONE_LENGTHS[entry], ONE_VALUES[entry])
+}
+
 /// The length and the value of the word that 16 bits begin with, where there are so many coefficients and the block is none of chroma DC.
 #[inline(always)]
 fn six_bit_word(total: u8, bits: u16) -> (u8, u8)
@@ -103,6 +153,20 @@ fn six_bit_word(total: u8, bits: u16) -> (u8, u8)
     (WORD_LENGTHS[entry], WORD_VALUES[entry])
 }
 
+/// The same for any number of coefficients.
+#[inline(always)]
+fn short_word(total: u8, bits: u16) -> (u8, u8)
+    requires some { 0 < total }
+    requires few { total ≤ 15 }
+    ensures { result ≡ found_of (front_of 16 (rows_of (total_zeros_table 16 total)) bits) }
+{
+    if total == 1 {
+        nine_bit_word(bits)
+    } else {
+        six_bit_word(total, bits)
+    }
+}
+
 /// The word that 16 bits begin with, of a block of `size` coefficients of which so many are not 0. None where they begin with no word.
 #[inline(always)]
 pub(crate) fn total_zeros_word(size: usize, total: u8, bits: u16) -> Option<Entry>
@@ -112,13 +176,13 @@ pub(crate) fn total_zeros_word(size: usize, total: u8, bits: u16) -> Option<Entr
     ensures word { result ≡ option_map entry_of (front_of 16 (rows_of (total_zeros_table size total)) bits) }
     ensures known { IfSome result (λ e. e.value ≤ greatest_value (total_zeros_table size total)) }
 {
-    if size == 4 || total == 1 {
-        return lookup(total_zeros_table(size, total), bits);
+    if size != 4 {
+        let (length, value) = short_word(total, bits);
+        return if length == 0 {
+            None
+        } else {
+            Some(Entry { length, value })
+        };
     }
-    let (length, value) = six_bit_word(total, bits);
-    if length == 0 {
-        None
-    } else {
-        Some(Entry { length, value })
-    }
+    lookup(total_zeros_table(size, total), bits)
 }

@@ -62,7 +62,8 @@ fn run_before_table(zeros_left: u8) -> Table
 /// Reads run_before.
 #[inline(always)]
 fn read_run_before<S: Elements>(bits: &mut Bits, zeros_left: u8, sink: &mut S) -> Result<u8, Stop>
-    requires { S.failures sink.old < 2 ^ 64 - 1 }
+    requires few { zeros_left ≤ 15 }
+    requires room { S.failures sink.old < 2 ^ 64 - 1 }
     ensures meets { Meets S.took S.failures (Is (λ x. x)) (syntax.run_before zeros_left) bits.old bits.new sink.old sink.new result }
     ensures within { IfOk result (λ r. r ≤ zeros_left) }
 {
@@ -95,7 +96,7 @@ pub(crate) fn read_places<const N: usize, S: Elements>(
     sink: &mut S,
 ) -> Result<(), Stop>
     requires some { 0 < total }
-    requires few { total ≤ 16 }
+    requires few { N ≤ 16 }
     requires fits { total + zeros ≤ N }
     requires room { S.failures sink.old < 2 ^ 64 - 1 }
     ensures { Meets S.took S.failures (λ _ runs. by_place.new ≡ standing N (take total levels.now) zeros runs) (syntax.runs_before [] zeros (total - 1)) bits.old bits.new sink.old sink.new result }
@@ -103,11 +104,14 @@ pub(crate) fn read_places<const N: usize, S: Elements>(
     let none = [0i16; N];
     *by_place = none;
     let mut left = zeros;
-    for k in 0..total - 1 {
-        by_place[usize::from(total - 1 - k) + usize::from(left)] = levels[usize::from(k)];
+    let last = usize::from(total - 1);
+    let mut place = last + usize::from(zeros);
+    for k in 0..last {
+        by_place[place] = levels[k];
         let run = read_run_before(bits, left, sink)?;
         left -= run;
+        place -= 1 + usize::from(run);
     }
-    by_place[usize::from(left)] = levels[usize::from(total - 1)];
+    by_place[place] = levels[last];
     Ok(())
 }

@@ -1,4 +1,4 @@
-use Rattle.std.proofs.Common.{◌≡◌, ℕ, ◌-◌, ◌<◌, ◌^◌, List, [], take, length, sum_by}
+use Rattle.std.proofs.Common.{◌≡◌, ℕ, ◌+◌, ◌-◌, ◌<◌, ◌^◌, List, [], take, length, sum_by}
 use Rattle.h264_base.proofs.Steps.{Leads}
 use Rattle.h264_cavlc.specs.Zeros.{runs_before}
 use Rattle.h264_cavlc.proofs.Places.{PlacedTo}
@@ -11,6 +11,8 @@ invariant-loop-k g l = record {
   runs : List ℕ;
   count : length runs ≡ l.k;
   left : l.left ≡ l.zeros - sum_by (λ run. run) runs;
+  last : l.last ≡ l.total - 1;
+  place : l.place ≡ l.total - 1 - l.k + l.left;
   rest : Leads g.S.Elements.took g.S.Elements.failures (runs_before [] l.zeros (l.total - 1)) (runs_before runs l.left (l.total - 1 - l.k)) l.fn.bits l.bits l.fn.sink l.sink;
   placed : PlacedTo l.k l.total l.zeros (take l.total l.levels) runs l.by_place;
 }
