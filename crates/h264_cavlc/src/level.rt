@@ -32,6 +32,7 @@ const GREATEST: [u16; 7] = [3, 3, 6, 12, 24, 48, u16::MAX];
 fn next_suffix_length(suffix_length: u32, level: i16) -> u32
     requires { suffix_length ≤ 6 }
     ensures length { result ≡ syntax.next_suffix_length suffix_length level }
+    ensures some { 0 < result }
     ensures short { result ≤ 6 }
 {
     let used = suffix_length.max(1);
@@ -130,13 +131,13 @@ fn read_level<S: Elements>(
     Ok(level_value(code))
 }
 
-/// Whether level `k` is the first behind fewer than three trailing ones.
+/// Whether the first level behind so many trailing ones can't be 1 or -1.
 #[tactic(auto, unfolding(crate::specs::Level::is_never_one))]
 #[inline(always)]
-fn is_never_one(ones: u8, k: u8) -> bool
-    ensures { result ≡ syntax.is_never_one ones k }
+fn is_never_one(ones: u8) -> bool
+    ensures { result ≡ syntax.is_never_one ones ones }
 {
-    k == ones && ones < 3
+    ones < 3
 }
 
 /// Reads the levels behind the trailing ones.
@@ -152,12 +153,20 @@ pub(crate) fn read_more_levels<S: Elements>(
     requires room { S.failures sink.old < 2 ^ 64 - 1 }
     ensures { Meets S.took S.failures (λ _ l. l ≡ take token.total levels.new) (syntax.more_levels token.ones (take token.ones levels.old) (syntax.first_suffix_length token) (token.total - token.ones)) bits.old bits.new sink.old sink.new result }
 {
-    let mut suffix_length = first_suffix_length(token);
-    for k in token.ones..token.total {
-        let never_one = is_never_one(token.ones, k);
-        let level = read_level(bits, suffix_length, never_one, sink)?;
+    if token.ones == token.total {
+        return Ok(());
+    }
+    let first_length = first_suffix_length(token);
+    let never_one = is_never_one(token.ones);
+    let first = read_level(bits, first_length, never_one, sink)?;
+    levels[usize::from(token.ones)] = first;
+    let mut suffix_length = next_suffix_length(first_length, first);
+    for k in token.ones + 1..token.total {
+        // It is 1 or more already; the maximum shows the compiler that there is a suffix.
+        let used = suffix_length.max(1);
+        let level = read_level(bits, used, false, sink)?;
         levels[usize::from(k)] = level;
-        suffix_length = next_suffix_length(suffix_length, level);
+        suffix_length = next_suffix_length(used, level);
     }
     Ok(())
 }

@@ -133,17 +133,33 @@ fn short_word(nc: u8, bits: u16) -> (u8, u8)
     (WORD_LENGTHS[entry], WORD_VALUES[entry])
 }
 
+/// The length and the value of the word that 16 bits begin with, of a block of `size` coefficients; or 0 and 0.
+#[inline(always)]
+fn any_word(size: usize, nc: u8, bits: u16) -> (u8, u8)
+    ensures { result ≡ found_of (front_of 16 (rows_of (coeff_token_table size nc)) bits) }
+{
+    if size != 4 {
+        let (length, value) = short_word(nc, bits);
+        if length != 0 {
+            return (length, value);
+        }
+    }
+    match lookup(coeff_token_table(size, nc), bits) {
+        Some(entry) => (entry.length, entry.value),
+        None => (0, 0),
+    }
+}
+
 /// The word that 16 bits begin with, of a block of `size` coefficients. None where they begin with no word.
 #[inline(always)]
 pub(crate) fn coeff_token_word(size: usize, nc: u8, bits: u16) -> Option<Entry>
     ensures word { result ≡ option_map entry_of (front_of 16 (rows_of (coeff_token_table size nc)) bits) }
     ensures known { IfSome result (λ e. e.value ≤ greatest_value (coeff_token_table size nc)) }
 {
-    if size != 4 {
-        let (length, value) = short_word(nc, bits);
-        if length != 0 {
-            return Some(Entry { length, value });
-        }
+    let (length, value) = any_word(size, nc, bits);
+    if length == 0 {
+        None
+    } else {
+        Some(Entry { length, value })
     }
-    lookup(coeff_token_table(size, nc), bits)
 }
