@@ -5,7 +5,7 @@ use Rattle.h264_plane.specs.Frames.{no_frame}
 use Rattle.h264_units.specs.Splitting.{Splitting, at_start}
 use Rattle.h264_judge.specs.declared.state.State.{State}
 use Rattle.h264_judge.specs.Keeping.{Keeps}
-use Rattle.h264_verify.specs.Progress.{IsReady, IsFresh, Progress}
+use Rattle.h264_verify.specs.Progress.{IsReady}
 use Rattle.h264_verify.proofs.Verdicts.{fed-nothing}
 use Rattle.h264_verify.proofs.session.Session.new.Goals as goal
 
@@ -16,10 +16,10 @@ ready-first mode split state e k =
     ((ap (λ (s : Splitting). s.stop) e, ap (λ (s : Splitting). s.waiting) e, ap (λ (s : Splitting). s.ended) e), (let n = kept.units in omega (arith, n)), (let n = kept.slices.kept.pictures_are in omega (arith, n)), record { frames = λ n. no_frame; before = []; keeps = kept })
 
 pub returns-clause-fresh : goal.returns-clause-fresh
-returns-clause-fresh c = record { mode_is = refl; split = c.new.ensures; keeps = λ frames. c.in-Ok.ensures.keeps c.args.mode frames; stop = refl }
+returns-clause-fresh c = record { mode_is = refl; split = c.new-2.ensures; keeps = λ frames. c.in_ok-state.ensures.keeps c.args.mode frames; stop = refl }
 
 pub returns-clause-fed : goal.returns-clause-fed
-returns-clause-fed c = λ frames. fed-nothing c.args.mode _ frames (record { mode_is = refl; split = c.new.ensures; keeps = λ f. c.in-Ok.ensures.keeps c.args.mode f; stop = refl })
+returns-clause-fed c = λ frames. fed-nothing c.args.mode _ frames (record { mode_is = refl; split = c.new-2.ensures; keeps = λ f. c.in_ok-state.ensures.keeps c.args.mode f; stop = refl })
 
 pub invariant_of-result : goal.invariant_of-result
-invariant_of-result c = ready-first _ _ _ c.new.ensures (λ m frames. c.in-Ok.ensures.keeps m frames)
+invariant_of-result c = ready-first _ _ _ c.new-2.ensures (λ m frames. c.in_ok-state.ensures.keeps m frames)
