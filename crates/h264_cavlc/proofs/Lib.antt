@@ -7,3 +7,4 @@ pub mod Counts
 pub mod Ends
 pub mod Handed
 pub mod ShortWords
+pub mod Single

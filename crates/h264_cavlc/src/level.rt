@@ -107,7 +107,7 @@ fn read_level_suffix<S: Elements>(bits: &mut Bits, size: u32, sink: &mut S) -> R
 
 /// Reads a level.
 #[inline(always)]
-fn read_level<S: Elements>(
+pub(crate) fn read_level<S: Elements>(
     bits: &mut Bits,
     suffix_length: u32,
     never_one: bool,

@@ -1,12 +1,12 @@
 //! Residual blocks (7.3.5.3.2).
 #![tactic(auto)]
 
-ghost use Rattle.std.specs.Prelude.{◌≡◌, ℕ, ℤ, ◌-◌, ◌*◌, ◌<◌, ◌≤◌, ◌^◌, IfOk, OnOk, length, take, replicate, pos};
+ghost use Rattle.std.specs.Prelude.{◌≡◌, ℕ, ℤ, ◌-◌, ◌*◌, ◌<◌, ◌≤◌, ◌^◌, [], ◌∷◌, IfOk, OnOk, length, take, replicate, pos};
 ghost use Rattle.h264_base.specs.Meets.{Meets, Is, Answers};
 ghost use Rattle.h264_cavlc.specs.Block.{nonzero_count, all_levels, coefficients as coefficients_form, residual_block};
 
-use crate::level::read_more_levels;
-use crate::token::{Token, read_token, read_trailing_ones};
+use crate::level::{read_level, read_more_levels};
+use crate::token::{Token, read_token, read_trailing_one, read_trailing_ones};
 use crate::zeros::{read_places, read_total_zeros};
 use h264_base::{Elements, Stop};
 use h264_bits::Bits;
@@ -38,6 +38,21 @@ fn read_levels<S: Elements>(
     Ok(())
 }
 
+/// Reads the level of a block that has no other.
+#[inline(always)]
+fn read_only_level<S: Elements>(bits: &mut Bits, token: Token, sink: &mut S) -> Result<i16, Stop>
+    requires one { token.total ≡ 1 }
+    requires within { token.ones ≤ token.total }
+    requires room { S.failures sink.old < 2 ^ 64 - 1 }
+    ensures { Meets S.took S.failures (λ x l. l ≡ x ∷ []) (all_levels token) bits.old bits.new sink.old sink.new result }
+{
+    if token.ones == 1 {
+        read_trailing_one(bits, sink)
+    } else {
+        read_level(bits, 0, true, sink)
+    }
+}
+
 /// What follows the token of a block that has coefficients.
 #[inline(always)]
 fn read_coefficients<const N: usize, S: Elements>(
@@ -56,6 +71,14 @@ fn read_coefficients<const N: usize, S: Elements>(
     ensures inside { bits.old.at ≤ 8 * length bits.old.body.bytes → OnOk result (bits.new.at ≤ 8 * length bits.new.body.bytes) }
     ensures quiet { OnOk result (S.failures sink.new ≡ S.failures sink.old) }
 {
+    if token.total == 1 {
+        let only = read_only_level(bits, token, sink)?;
+        let below = read_total_zeros(bits, N, token.total, sink)?;
+        let none = [0i16; N];
+        *by_place = none;
+        by_place[usize::from(below)] = only;
+        return Ok(());
+    }
     let mut levels = [0i16; 16];
     read_levels(bits, token, &mut levels, sink)?;
     let zeros = read_total_zeros(bits, N, token.total, sink)?;

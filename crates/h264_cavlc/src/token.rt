@@ -54,7 +54,7 @@ pub(crate) fn read_token<S: Elements>(
 
 /// Reads the sign of a trailing one: its level.
 #[inline(always)]
-fn read_trailing_one<S: Elements>(bits: &mut Bits, sink: &mut S) -> Result<i16, Stop>
+pub(crate) fn read_trailing_one<S: Elements>(bits: &mut Bits, sink: &mut S) -> Result<i16, Stop>
     requires { S.failures sink.old < 2 ^ 64 - 1 }
     ensures { Meets S.took S.failures (Is (λ x. x)) syntax.trailing_one bits.old bits.new sink.old sink.new result }
 {
