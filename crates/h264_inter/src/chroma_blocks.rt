@@ -4,8 +4,8 @@ ghost use Rattle.h264_inter.specs.Reference.{HasBlock};
 ghost use Rattle.h264_inter.specs.Chroma.{weighted, eighth, AreWeights};
 ghost use Rattle.h264_inter.specs.Rows.{IsPair, ArePairs, AreBytes};
 
-use crate::lanes::{bytes, load, part64, plus, raised, times};
-use crate::luma_blocks::{joined, whole_block};
+use crate::lanes::{bytes, joined, load, part64, plus, raised, times};
+use crate::luma_blocks::whole_block;
 use crate::source::Source;
 use crate::window::{Pair, Pairs};
 

@@ -4,7 +4,10 @@ ghost use Rattle.h264_inter.specs.Reference.{HasBlock};
 ghost use Rattle.h264_inter.specs.Luma.{six, half as half_of, central as central_of, middle, quarter};
 ghost use Rattle.h264_inter.specs.Rows.{AllSix, LastFiveOfBoth, AllSixOfBoth, AreUpTo, partner as partner_of};
 
-use crate::lanes::{between8, bytes, central8, half8, load, mean8};
+use crate::lanes::{
+    beside, between8, bytes, central8, evens, half8, joined, load, load16, mean8, mean16, odds,
+    riffled,
+};
 use crate::rows::{first_windows, next_windows};
 use crate::source::Source;
 use crate::window::{Window, Windows};
@@ -92,63 +95,75 @@ fn j8(w: Window) -> u16x8
     central8(w.e, w.f, w.g, w.h, w.i, w.j)
 }
 
-/// Eight samples of a quarter place without j, of row `y`, whose window of samples is that of column `c`.
-#[tactic(auto, unfolding(crate::specs::Luma::quarter, crate::specs::Luma::across))]
+/// Sixteen samples between two columns of row `y + r`: those in even places and those in odd ones are made by themselves.
 #[inline(always)]
-fn side8<S: Source, const X: usize, const Y: usize>(
-    w: Window,
-    p: &S,
-    x: usize,
-    c: usize,
-    y: usize,
-) -> [u8; 8]
-    requires small { (x ≤ 16392) × (y ≤ 16400) }
-    requires columns { x + 13 ≤ (S.samples p.now).width }
-    requires rows { y + 6 ≤ (S.samples p.now).height }
-    requires parts { (X < 4) × (Y < 4) }
-    requires no_j { (X ≢ 2) ⊎ (Y ≡ 0) }
-    requires nor_j { (Y ≢ 2) ⊎ (X ≡ 0) }
-    requires column { c ≡ partner_of X }
-    requires window { AllSix false (S.samples p.now) x c y w }
-    ensures { (k : ℕ) → k < 8 → slice_index result k ≡ quarter X Y (λ i j. at (S.samples p.now) (x + k + i) (y + j)) }
+fn b16<S: Source>(p: &S, x: usize, y: usize, r: usize) -> u8x16
+    requires small { (x ≤ 16384) × (y ≤ 16400) × (r ≤ 32) }
+    requires columns { x + 21 ≤ (S.samples p.now).width }
+    requires row { y + r < (S.samples p.now).height }
+    ensures { (u : ℕ) → u < 16 → get_or result u 0 ≡ half_of (six (λ i. pos (at (S.samples p.now) (x + u + i) (y + r)))) }
 {
-    if Y == 0 {
-        if X == 0 {
-            bytes(load(p, x, 2, y, 2))
-        } else if X == 1 {
-            bytes(mean8(load(p, x, 2, y, 2), b8(p, x, y, 2)))
-        } else if X == 2 {
-            bytes(b8(p, x, y, 2))
-        } else {
-            bytes(mean8(load(p, x, 3, y, 2), b8(p, x, y, 2)))
-        }
-    } else if X == 0 {
-        if Y == 1 {
-            bytes(mean8(w.g, h8(w)))
-        } else if Y == 2 {
-            bytes(h8(w))
-        } else {
-            bytes(mean8(w.h, h8(w)))
-        }
-    } else if Y == 1 {
-        bytes(mean8(b8(p, x, y, 2), h8(w)))
-    } else if X == 1 {
-        bytes(mean8(h8(w), b8(p, x, y, 3)))
+    let first = load16(p, x, 0, y, r);
+    let third = load16(p, x, 2, y, r);
+    let fifth = load16(p, x, 4, y, r);
+    let sixth = load16(p, x, 5, y, r);
+    let (e, f, g) = (evens(first), odds(first), evens(third));
+    let (h, i, j, k) = (odds(third), evens(fifth), odds(fifth), odds(sixth));
+    let even = between8(e, f, g, h, i, j);
+    let odd = between8(f, g, h, i, j, k);
+    riffled(beside(even, odd))
+}
+
+/// Samples of row `y + r` for a row of a block, from column `x + c` on.
+#[inline(always)]
+fn samples_row<S: Source, const W: usize>(p: &S, x: usize, c: usize, y: usize, r: usize) -> [u8; 16]
+    requires size { W ≤ 16 }
+    requires small { (x ≤ 16384) × (y ≤ 16400) × (c ≤ 5) × (r ≤ 32) }
+    requires columns { x + 13 ≤ (S.samples p.now).width }
+    requires more_columns { 8 < W → x + 21 ≤ (S.samples p.now).width }
+    requires row { y + r < (S.samples p.now).height }
+    ensures { (u : ℕ) → u < W → slice_index result u ≡ at (S.samples p.now) (x + u + c) (y + r) }
+{
+    if W > 8 {
+        load16(p, x, c, y, r).to_array()
     } else {
-        bytes(mean8(b8(p, x, y, 3), h8(w)))
+        let few = load(p, x, c, y, r);
+        beside(few, few).to_array()
     }
 }
 
-/// Two times eight samples side by side.
+/// Samples between two columns of row `y + r` for a row of a block.
 #[inline(always)]
-pub fn joined(lo: [u8; 8], hi: [u8; 8]) -> [u8; 16]
-    ensures low { (u : ℕ) → u < 8 → slice_index result u ≡ slice_index lo u }
-    ensures high { (u : ℕ) → u < 8 → slice_index result (8 + u) ≡ slice_index hi u }
+fn across_row<S: Source, const W: usize>(p: &S, x: usize, y: usize, r: usize) -> [u8; 16]
+    requires size { W ≤ 16 }
+    requires small { (x ≤ 16384) × (y ≤ 16400) × (r ≤ 32) }
+    requires columns { x + 13 ≤ (S.samples p.now).width }
+    requires more_columns { 8 < W → x + 21 ≤ (S.samples p.now).width }
+    requires row { y + r < (S.samples p.now).height }
+    ensures { (u : ℕ) → u < W → slice_index result u ≡ half_of (six (λ i. pos (at (S.samples p.now) (x + u + i) (y + r)))) }
 {
-    let mut row = [0; 16];
-    row[0..8].copy_from_slice(&lo);
-    row[8..16].copy_from_slice(&hi);
-    row
+    if W > 8 {
+        b16(p, x, y, r).to_array()
+    } else {
+        let few = b8(p, x, y, r);
+        beside(few, few).to_array()
+    }
+}
+
+/// Samples between two rows of windows for a row of a block.
+#[inline(always)]
+fn down_row<const W: usize>(w: Windows) -> [u8; 16]
+    requires size { W ≤ 16 }
+    requires left { AreUpTo 255 w.left }
+    requires right { 8 < W → AreUpTo 255 w.right }
+    ensures { (p : Samples) (x c y : ℕ) → AllSixOfBoth false W p x c y w → (u : ℕ) → u < W → slice_index result u ≡ half_of (six (λ i. pos (at p (x + u + c) (y + i)))) }
+{
+    let lo = h8(w.left);
+    if W > 8 {
+        beside(lo, h8(w.right)).to_array()
+    } else {
+        beside(lo, lo).to_array()
+    }
 }
 
 /// Writes a row of a block of `W` columns. Eight and sixteen samples are stored as one vector, wherever they stand.
@@ -169,6 +184,7 @@ fn put_row<const W: usize>(row: [u8; 16], out: &mut [u8])
 }
 
 /// A row of a block at a quarter place without j. Blocks of less than eight columns get more.
+#[tactic(auto, unfolding(crate::specs::Luma::quarter, crate::specs::Luma::across))]
 #[inline(always)]
 fn side_row<S: Source, const W: usize, const X: usize, const Y: usize>(
     w: Windows,
@@ -189,11 +205,39 @@ fn side_row<S: Source, const W: usize, const X: usize, const Y: usize>(
     requires windows { AllSixOfBoth false W (S.samples p.now) x c y w }
     ensures { (u : ℕ) → u < W → slice_index result u ≡ quarter X Y (λ i j. at (S.samples p.now) (x + u + i) (y + j)) }
 {
-    let lo = side8::<S, X, Y>(w.left, p, x, c, y);
-    if W > 8 {
-        joined(lo, side8::<S, X, Y>(w.right, p, x + 8, c, y))
+    if Y == 0 {
+        if X == 0 {
+            samples_row::<S, W>(p, x, 2, y, 2)
+        } else if X == 1 {
+            mean16(
+                samples_row::<S, W>(p, x, 2, y, 2),
+                across_row::<S, W>(p, x, y, 2),
+            )
+        } else if X == 2 {
+            across_row::<S, W>(p, x, y, 2)
+        } else {
+            mean16(
+                samples_row::<S, W>(p, x, 3, y, 2),
+                across_row::<S, W>(p, x, y, 2),
+            )
+        }
     } else {
-        joined(lo, lo)
+        let h = down_row::<W>(w);
+        if X == 0 {
+            if Y == 1 {
+                mean16(samples_row::<S, W>(p, x, 2, y, 2), h)
+            } else if Y == 2 {
+                h
+            } else {
+                mean16(samples_row::<S, W>(p, x, 2, y, 3), h)
+            }
+        } else if Y == 1 {
+            mean16(across_row::<S, W>(p, x, y, 2), h)
+        } else if X == 1 {
+            mean16(h, across_row::<S, W>(p, x, y, 3))
+        } else {
+            mean16(across_row::<S, W>(p, x, y, 3), h)
+        }
     }
 }
 
