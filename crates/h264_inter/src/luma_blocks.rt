@@ -208,18 +208,15 @@ fn side_row<S: Source, const W: usize, const X: usize, const Y: usize>(
     if Y == 0 {
         if X == 0 {
             samples_row::<S, W>(p, x, 2, y, 2)
-        } else if X == 1 {
-            mean16(
-                samples_row::<S, W>(p, x, 2, y, 2),
-                across_row::<S, W>(p, x, y, 2),
-            )
-        } else if X == 2 {
-            across_row::<S, W>(p, x, y, 2)
         } else {
-            mean16(
-                samples_row::<S, W>(p, x, 3, y, 2),
-                across_row::<S, W>(p, x, y, 2),
-            )
+            let b = across_row::<S, W>(p, x, y, 2);
+            if X == 1 {
+                mean16(samples_row::<S, W>(p, x, 2, y, 2), b)
+            } else if X == 2 {
+                b
+            } else {
+                mean16(samples_row::<S, W>(p, x, 3, y, 2), b)
+            }
         }
     } else {
         let h = down_row::<W>(w);
@@ -233,10 +230,9 @@ fn side_row<S: Source, const W: usize, const X: usize, const Y: usize>(
             }
         } else if Y == 1 {
             mean16(across_row::<S, W>(p, x, y, 2), h)
-        } else if X == 1 {
-            mean16(h, across_row::<S, W>(p, x, y, 3))
         } else {
-            mean16(across_row::<S, W>(p, x, y, 3), h)
+            let s = across_row::<S, W>(p, x, y, 3);
+            if X == 1 { mean16(h, s) } else { mean16(s, h) }
         }
     }
 }
@@ -275,7 +271,9 @@ fn side_line<S: Source, const W: usize, const H: usize, const X: usize, const Y:
     windows
 }
 
-/// The samples of a block at quarter places without j, two rows at a time, so that few of a window's rows have to be moved.
+/// The samples of a block at quarter places without j, two rows at a time, so that few of a window's rows have to be moved. It is not inlined,
+/// since the compiler would then call its parts instead.
+#[inline(never)]
 fn side_block<S: Source, const W: usize, const H: usize, const X: usize, const Y: usize>(
     p: &S,
     x: usize,

@@ -1,8 +1,13 @@
-use Rattle.std.proofs.Common.{List, ℕ, get_or, ap, ◌∙◌}
+use Rattle.std.proofs.Common.{List, ℕ, get_or, length, ap, ◌∙◌}
+use Rattle.h264_inter.proofs.Eight.{beside_low, beside_high}
 use Rattle.h264_inter.proofs.lanes.beside.Goals as goal
 
 pub returns-clause-low : goal.returns-clause-low
-returns-clause-low c k p = c.joined.ensures.low k p ∙ ap (λ (l : List ℕ). get_or l k 0) c.bytes.ensures
+returns-clause-low c k p =
+    beside_low c.bytes.result c.bytes-second.result k (ap length c.bytes.ensures ∙ c.fits-lo.0) (ap length c.bytes-second.ensures ∙ c.fits-hi.0) p
+    ∙ ap (λ (l : List ℕ). get_or l k 0) c.bytes.ensures
 
 pub returns-clause-high : goal.returns-clause-high
-returns-clause-high c k p = c.joined.ensures.high k p ∙ ap (λ (l : List ℕ). get_or l k 0) c.bytes-2.ensures
+returns-clause-high c k p =
+    beside_high c.bytes.result c.bytes-second.result k (ap length c.bytes.ensures ∙ c.fits-lo.0) (ap length c.bytes-second.ensures ∙ c.fits-hi.0) p
+    ∙ ap (λ (l : List ℕ). get_or l k 0) c.bytes-second.ensures

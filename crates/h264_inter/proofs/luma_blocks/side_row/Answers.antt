@@ -44,7 +44,7 @@ returns-then-this-eq1-3 g c k q =
     let not_2 : g.row.X ≢ 2 = grind arith in
     let inside : k < 16 = omega (arith, q, c.requires.size) in
     place_e_or_g g.row.X g.row.Y a.c _ _ _ (λ i j. at (g.S.Source.samples a.p.now) (a.x + k + i) (a.y + j)) c.requires.parts.0 c.if-this-eq0-3.false not_2 c.if-this-eq1-3.true
-    c.requires.column (c.mean16-then-this-eq1-3.ensures k inside) (c.across_row-then-this-eq1-3.ensures k q)
+    c.requires.column (c.mean16-then-this-eq1-3.ensures k inside) (c.across_row.ensures k q)
     (c.down_row-h.ensures (g.S.Source.samples a.p.now) a.x a.c a.y c.requires.windows k q)
 
 pub returns-then-this-eq1-4 : goal.returns-then-this-eq1-4
@@ -57,7 +57,7 @@ returns-then-this-eq1-4 g c k q =
     let inside : k < 16 = omega (arith, q, c.requires.size) in
     place_p g.row.X g.row.Y _ _ _ w c.if-this-eq1-4.true three (c.mean16-then-this-eq1-4.ensures k inside)
     (c.down_row-h.ensures (g.S.Source.samples a.p.now) a.x a.c a.y c.requires.windows k q ∙ ap (λ n. half (down w n)) two)
-    (c.across_row-then-this-eq1-4.ensures k q)
+    (c.across_row-s.ensures k q)
 
 pub returns-else-this-eq1-4 : goal.returns-else-this-eq1-4
 unfolding across down
@@ -67,5 +67,5 @@ returns-else-this-eq1-4 g c k q =
     let x : g.row.X ≡ 3 = grind arith in
     let y : g.row.Y ≡ 3 = grind arith in
     let inside : k < 16 = omega (arith, q, c.requires.size) in
-    place_r g.row.X g.row.Y _ _ _ w x y (c.mean16-else-this-eq1-4.ensures k inside) (c.across_row-else-this-eq1-4.ensures k q)
+    place_r g.row.X g.row.Y _ _ _ w x y (c.mean16-else-this-eq1-4.ensures k inside) (c.across_row-s.ensures k q)
     (c.down_row-h.ensures (g.S.Source.samples a.p.now) a.x a.c a.y c.requires.windows k q ∙ ap (λ n. half (down w n)) (c.requires.column ∙ partner_right g.row.X x))
