@@ -104,33 +104,7 @@ fn read_several<const N: usize, S: Elements>(
     Ok(())
 }
 
-/// `read_several` of a token whose total is known to the compiler, so that it unrolls the loops.
-#[inline(always)]
-fn read_exactly<const N: usize, const TOTAL: u8, S: Elements>(
-    bits: &mut Bits,
-    token: Token,
-    by_place: &mut [i16; N],
-    sink: &mut S,
-) -> Result<(), Stop>
-    requires some { 0 < TOTAL }
-    requires total { token.total ≡ TOTAL }
-    requires fits { token.total ≤ N }
-    requires few { N ≤ 16 }
-    requires within { token.ones ≤ token.total }
-    requires room { S.failures sink.old < 2 ^ 64 - 1 }
-    ensures meets { Meets S.took S.failures (Is (λ _. record { by_place = by_place.new; total = token.total })) (coefficients_form N token) bits.old bits.new sink.old sink.new result }
-    ensures nonzero { OnOk result (nonzero_count by_place.new ≡ token.total) }
-    ensures inside { bits.old.at ≤ 8 * length bits.old.body.bytes → OnOk result (bits.new.at ≤ 8 * length bits.new.body.bytes) }
-    ensures quiet { OnOk result (S.failures sink.new ≡ S.failures sink.old) }
-{
-    let known = Token {
-        total: TOTAL,
-        ones: token.ones,
-    };
-    read_several::<N, S>(bits, known, by_place, sink)
-}
-
-/// What follows the token of a block that has coefficients. Most blocks have few of them.
+/// What follows the token of a block that has coefficients.
 #[inline(always)]
 fn read_coefficients<const N: usize, S: Elements>(
     bits: &mut Bits,
@@ -148,11 +122,10 @@ fn read_coefficients<const N: usize, S: Elements>(
     ensures inside { bits.old.at ≤ 8 * length bits.old.body.bytes → OnOk result (bits.new.at ≤ 8 * length bits.new.body.bytes) }
     ensures quiet { OnOk result (S.failures sink.new ≡ S.failures sink.old) }
 {
-    match token.total {
-        1 => read_one::<N, S>(bits, token, by_place, sink),
-        2 => read_exactly::<N, 2, S>(bits, token, by_place, sink),
-        3 => read_exactly::<N, 3, S>(bits, token, by_place, sink),
-        _ => read_several::<N, S>(bits, token, by_place, sink),
+    if token.total == 1 {
+        read_one::<N, S>(bits, token, by_place, sink)
+    } else {
+        read_several::<N, S>(bits, token, by_place, sink)
     }
 }
 
