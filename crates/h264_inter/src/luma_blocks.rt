@@ -271,9 +271,7 @@ fn side_line<S: Source, const W: usize, const H: usize, const X: usize, const Y:
     windows
 }
 
-/// The samples of a block at quarter places without j, two rows at a time, so that few of a window's rows have to be moved. It is not inlined,
-/// since the compiler would then call its parts instead.
-#[inline(never)]
+/// The samples of a block at quarter places without j, two rows at a time, so that few of a window's rows have to be moved.
 fn side_block<S: Source, const W: usize, const H: usize, const X: usize, const Y: usize>(
     p: &S,
     x: usize,
