@@ -55,16 +55,21 @@ impl Opener for SystemFiles<'_> {
     }
 }
 
+/// Runs the command that these words ask for, with the files and streams of the system: the exit status.
+fn run_command(rt: &HostRuntime, alloc: Global, words: &[String]) -> io::Result<u8> {
+    let mut out = WriteDevice::new(BufWriter::new(alloc, io::writer(rt))?);
+    let mut err = WriteDevice::new(rt.stderr());
+    let mut files = OpenedFiles::new(SystemFiles { rt });
+    Ok(command(alloc, words, &mut files, &mut out, &mut err))
+}
+
 /// Runs the command that the arguments ask for. Want of memory before that is status 3.
 fn status(rt: &HostRuntime) -> io::Result<u8> {
     let alloc: Global = rt.alloc();
-    let mut err = WriteDevice::new(rt.stderr());
-    let Some(words) = words_of(rt, alloc)? else {
-        return Ok(not_text(&mut err));
-    };
-    let mut out = WriteDevice::new(BufWriter::new(alloc, io::writer(rt))?);
-    let mut files = OpenedFiles::new(SystemFiles { rt });
-    Ok(command(alloc, words.as_slice(), &mut files, &mut out, &mut err))
+    match words_of(rt, alloc)? {
+        Some(words) => run_command(rt, alloc, words.as_slice()),
+        None => Ok(not_text(&mut WriteDevice::new(rt.stderr()))),
+    }
 }
 
 /// Says that memory is wanting, which takes none itself: the exit status.

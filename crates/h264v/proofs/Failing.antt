@@ -1,0 +1,18 @@
+-- What holds of a result that is no Ok.
+use Rattle.std.proofs.Common.{◌≡◌, ℕ, ◌+◌, ◌<◌, ◌≤◌, ◌⊎◌, inr, arith, Result, Ok, Err, IfOk, OnOk, OnErr}
+
+pub no-value : {T E : Type 0} (P : T → Type 0) (r : Result T E) → OnOk r ⊥ → IfOk r P
+no-value P (Ok x) h = absurd h
+no-value P (Err e) h = tt
+
+pub no-ok : {T E : Type 0} (P : Type 0) (r : Result T E) → OnOk r ⊥ → OnOk r P
+no-ok P (Ok x) h = absurd h
+no-ok P (Err e) h = tt
+
+pub on-error : {T E : Type 0} (P : Type 0) (r : Result T E) → P → OnErr r P
+on-error P (Ok x) h = tt
+on-error P (Err e) h = h
+
+-- a failure was counted
+pub counted : (n reads reads' failures failures' : ℕ) → failures' ≡ failures + 1 → (n + 1 ≤ reads') ⊎ (0 < failures')
+counted n reads reads' failures failures' e = inr (omega (arith, e))
