@@ -1,7 +1,8 @@
 -- A working form: rows of eight lanes and windows of six rows, and the samples of a plane that they stand for.
-use Rattle.std.specs.Prelude.{◌≡◌, ◌<◌, ◌≤◌, ℕ, ◌+◌, Bool, true, false, ◌==◌, if◌then◌else◌, List, get_or, pos, ◌+ℤ◌}
+use Rattle.std.specs.Prelude.{◌≡◌, ◌<◌, ◌≤◌, ℕ, ◌+◌, Bool, true, false, ◌==◌, if◌then◌else◌, List, get_or, pos, negsuc, ◌*◌, ◌+ℤ◌}
 use Rattle.h264_plane.specs.Samples.{Samples, at}
 use Rattle.h264_inter.specs.Luma.{six}
+use Rattle.h264_inter.specs.declared.pairs.SixTaps.{SixTaps}
 use Rattle.h264_inter.specs.declared.window.Pair.{Pair}
 use Rattle.h264_inter.specs.declared.window.Pairs.{Pairs}
 use Rattle.h264_inter.specs.declared.window.Window.{Window}
@@ -60,6 +61,12 @@ pub record AreUpTo (most : ℕ) (w : Window) : Type 0 where
 -- the column, of the six, of the samples between two rows that places x quarters to the right are made of: that of m or that of h
 unfoldable pub partner : ℕ → ℕ
 partner x = if x == 3 then 3 else 2
+
+-- the weights of the six taps, 1, -5, 20, 20, -5, 1, two by two
+pub record AreSixTaps (w : SixTaps) : Type 0 where
+  pub first : (k : ℕ) → k < 8 → (get_or w.first (2 * k) (pos 0) ≡ pos 1) × (get_or w.first (2 * k + 1) (pos 0) ≡ negsuc 4)
+  pub middle : (k : ℕ) → k < 8 → (get_or w.middle (2 * k) (pos 0) ≡ pos 20) × (get_or w.middle (2 * k + 1) (pos 0) ≡ pos 20)
+  pub last : (k : ℕ) → k < 8 → (get_or w.last (2 * k) (pos 0) ≡ negsuc 4) × (get_or w.last (2 * k + 1) (pos 0) ≡ pos 1)
 
 -- ---- for chroma
 

@@ -2,12 +2,12 @@ ghost use Rattle.std.specs.Prelude.{◌≡◌, ◌≢◌, ◌⊎◌, ℕ, ◌+�
 ghost use Rattle.h264_plane.specs.Samples.{Samples, at};
 ghost use Rattle.h264_inter.specs.Reference.{HasBlock};
 ghost use Rattle.h264_inter.specs.Luma.{six, half as half_of, central as central_of, middle, quarter};
-ghost use Rattle.h264_inter.specs.Rows.{AllSix, LastFiveOfBoth, AllSixOfBoth, AreUpTo, partner as partner_of};
+ghost use Rattle.h264_inter.specs.Rows.{AllSix, AreSixTaps, LastFiveOfBoth, AllSixOfBoth, AreUpTo, partner as partner_of};
 
 use crate::lanes::{
-    beside, between8, bytes, central8, evens, half8, joined, load, load16, mean8, mean16, odds,
-    riffled,
+    beside, between8, bytes, central8, half8, joined, load, load16, mean8, mean16, riffled,
 };
+use crate::pairs::{SixTaps, pair_sums, sum_rounded};
 use crate::rows::{first_windows, next_windows};
 use crate::source::Source;
 use crate::window::{Window, Windows};
@@ -95,22 +95,33 @@ fn j8(w: Window) -> u16x8
     central8(w.e, w.f, w.g, w.h, w.i, w.j)
 }
 
+/// Eight samples between two columns of row `y + r`, every other one from column `x + c` on.
+#[inline(always)]
+fn every_other<S: Source>(p: &S, x: usize, c: usize, y: usize, r: usize, taps: &SixTaps) -> u16x8
+    requires small { (x ≤ 16384) × (c ≤ 1) × (y ≤ 16400) × (r ≤ 32) }
+    requires columns { x + c + 20 ≤ (S.samples p.now).width }
+    requires row { y + r < (S.samples p.now).height }
+    requires taps { AreSixTaps taps.now }
+    ensures each { (k : ℕ) → k < 8 → get_or result k 0 ≡ half_of (six (λ i. pos (at (S.samples p.now) (x + (2 * k + c) + i) (y + r)))) }
+    ensures small { (k : ℕ) → k < 8 → get_or result k 0 < 256 }
+{
+    let first = pair_sums::<1, -5>(load16(p, x, c, y, r), taps.first);
+    let middle = pair_sums::<20, 20>(load16(p, x, c + 2, y, r), taps.middle);
+    let last = pair_sums::<-5, 1>(load16(p, x, c + 4, y, r), taps.last);
+    sum_rounded(first, middle, last)
+}
+
 /// Sixteen samples between two columns of row `y + r`: those in even places and those in odd ones are made by themselves.
 #[inline(always)]
-fn b16<S: Source>(p: &S, x: usize, y: usize, r: usize) -> u8x16
+fn b16<S: Source>(p: &S, x: usize, y: usize, r: usize, taps: &SixTaps) -> u8x16
     requires small { (x ≤ 16384) × (y ≤ 16400) × (r ≤ 32) }
     requires columns { x + 21 ≤ (S.samples p.now).width }
     requires row { y + r < (S.samples p.now).height }
+    requires taps { AreSixTaps taps.now }
     ensures { (u : ℕ) → u < 16 → get_or result u 0 ≡ half_of (six (λ i. pos (at (S.samples p.now) (x + u + i) (y + r)))) }
 {
-    let first = load16(p, x, 0, y, r);
-    let third = load16(p, x, 2, y, r);
-    let fifth = load16(p, x, 4, y, r);
-    let sixth = load16(p, x, 5, y, r);
-    let (e, f, g) = (evens(first), odds(first), evens(third));
-    let (h, i, j, k) = (odds(third), evens(fifth), odds(fifth), odds(sixth));
-    let even = between8(e, f, g, h, i, j);
-    let odd = between8(f, g, h, i, j, k);
+    let even = every_other(p, x, 0, y, r, taps);
+    let odd = every_other(p, x, 1, y, r, taps);
     riffled(beside(even, odd))
 }
 
@@ -134,8 +145,15 @@ fn samples_row<S: Source, const W: usize>(p: &S, x: usize, c: usize, y: usize, r
 
 /// Samples between two columns of row `y + r` for a row of a block.
 #[inline(always)]
-fn across_row<S: Source, const W: usize>(p: &S, x: usize, y: usize, r: usize) -> [u8; 16]
+fn across_row<S: Source, const W: usize>(
+    p: &S,
+    x: usize,
+    y: usize,
+    r: usize,
+    taps: &SixTaps,
+) -> [u8; 16]
     requires size { W ≤ 16 }
+    requires taps { AreSixTaps taps.now }
     requires small { (x ≤ 16384) × (y ≤ 16400) × (r ≤ 32) }
     requires columns { x + 13 ≤ (S.samples p.now).width }
     requires more_columns { 8 < W → x + 21 ≤ (S.samples p.now).width }
@@ -143,7 +161,7 @@ fn across_row<S: Source, const W: usize>(p: &S, x: usize, y: usize, r: usize) ->
     ensures { (u : ℕ) → u < W → slice_index result u ≡ half_of (six (λ i. pos (at (S.samples p.now) (x + u + i) (y + r)))) }
 {
     if W > 8 {
-        b16(p, x, y, r).to_array()
+        b16(p, x, y, r, taps).to_array()
     } else {
         let few = b8(p, x, y, r);
         beside(few, few).to_array()
@@ -192,8 +210,10 @@ fn side_row<S: Source, const W: usize, const X: usize, const Y: usize>(
     x: usize,
     c: usize,
     y: usize,
+    taps: &SixTaps,
 ) -> [u8; 16]
     requires size { W ≤ 16 }
+    requires taps { AreSixTaps taps.now }
     requires small { (x ≤ 16384) × (y ≤ 16400) }
     requires columns { x + 13 ≤ (S.samples p.now).width }
     requires more_columns { 8 < W → x + 21 ≤ (S.samples p.now).width }
@@ -209,7 +229,7 @@ fn side_row<S: Source, const W: usize, const X: usize, const Y: usize>(
         if X == 0 {
             samples_row::<S, W>(p, x, 2, y, 2)
         } else {
-            let b = across_row::<S, W>(p, x, y, 2);
+            let b = across_row::<S, W>(p, x, y, 2, taps);
             if X == 1 {
                 mean16(samples_row::<S, W>(p, x, 2, y, 2), b)
             } else if X == 2 {
@@ -229,9 +249,9 @@ fn side_row<S: Source, const W: usize, const X: usize, const Y: usize>(
                 mean16(samples_row::<S, W>(p, x, 2, y, 3), h)
             }
         } else if Y == 1 {
-            mean16(across_row::<S, W>(p, x, y, 2), h)
+            mean16(across_row::<S, W>(p, x, y, 2, taps), h)
         } else {
-            let s = across_row::<S, W>(p, x, y, 3);
+            let s = across_row::<S, W>(p, x, y, 3, taps);
             if X == 1 { mean16(h, s) } else { mean16(s, h) }
         }
     }
@@ -246,9 +266,11 @@ fn side_line<S: Source, const W: usize, const H: usize, const X: usize, const Y:
     c: usize,
     y: usize,
     v: usize,
+    taps: &SixTaps,
     out: &mut [u8],
 ) -> Windows
     requires size { (W ≤ 16) × (H ≤ 16) }
+    requires taps { AreSixTaps taps.now }
     requires small { (x ≤ 16384) × (y ≤ 16384) }
     requires columns { x + 13 ≤ (S.samples p.now).width }
     requires more_columns { 8 < W → x + 21 ≤ (S.samples p.now).width }
@@ -266,19 +288,23 @@ fn side_line<S: Source, const W: usize, const H: usize, const X: usize, const Y:
     ensures rows { HasBlock W (v + 1) out.new (λ u v. quarter X Y (λ i j. at (S.samples p.now) (x + u + i) (y + v + j))) }
 {
     let windows = next_windows::<S, false, W>(windows, p, x, c, y + v);
-    let row = side_row::<S, W, X, Y>(windows, p, x, c, y + v);
+    let row = side_row::<S, W, X, Y>(windows, p, x, c, y + v, taps);
     put_row::<W>(row, &mut out[W * v..W * v + W]);
     windows
 }
 
-/// The samples of a block at quarter places without j, two rows at a time, so that few of a window's rows have to be moved.
+/// The samples of a block at quarter places without j, two rows at a time, so that few of a window's rows have to be moved. It is not
+/// inlined, so that the taps remain what is lent to it.
+#[inline(never)]
 fn side_block<S: Source, const W: usize, const H: usize, const X: usize, const Y: usize>(
     p: &S,
     x: usize,
     y: usize,
+    taps: &SixTaps,
     out: &mut [u8],
 )
     requires size { (W ≤ 16) × (H ≤ 16) }
+    requires taps { AreSixTaps taps.now }
     requires small { (x ≤ 16384) × (y ≤ 16384) }
     requires columns { x + 13 ≤ (S.samples p.now).width }
     requires more_columns { 8 < W → x + 21 ≤ (S.samples p.now).width }
@@ -292,11 +318,11 @@ fn side_block<S: Source, const W: usize, const H: usize, const X: usize, const Y
     let c = partner::<X>();
     let mut windows = first_windows::<S, false, W>(p, x, c, y);
     for n in 0..H / 2 {
-        windows = side_line::<S, W, H, X, Y>(windows, p, x, c, y, 2 * n, out);
-        windows = side_line::<S, W, H, X, Y>(windows, p, x, c, y, 2 * n + 1, out);
+        windows = side_line::<S, W, H, X, Y>(windows, p, x, c, y, 2 * n, taps, out);
+        windows = side_line::<S, W, H, X, Y>(windows, p, x, c, y, 2 * n + 1, taps, out);
     }
     if H % 2 == 1 {
-        let _ = side_line::<S, W, H, X, Y>(windows, p, x, c, y, H - 1, out);
+        let _ = side_line::<S, W, H, X, Y>(windows, p, x, c, y, H - 1, taps, out);
     }
 }
 
@@ -463,7 +489,7 @@ fn block<S: Source, const W: usize, const H: usize, const X: usize, const Y: usi
     ensures { HasBlock W H out.new (λ u v. quarter X Y (λ i j. at (S.samples p.now) (left + u + i) (top + v + j))) }
 {
     if X == 0 || Y == 0 || (X != 2 && Y != 2) {
-        side_block::<S, W, H, X, Y>(p, left, top, out);
+        side_block::<S, W, H, X, Y>(p, left, top, &SixTaps::new(), out);
     } else if W > 8 {
         middle_block_in_pairs::<S, W, H, X, Y>(p, left, top, out);
     } else {

@@ -1,7 +1,7 @@
 use Rattle.std.proofs.Common.{◌≡◌, ◌≢◌, ℕ, ◌+◌, ◌<◌, get_or, arith, ap, ◌∙◌}
 use Rattle.h264_plane.specs.Samples.{at}
 use Rattle.h264_inter.specs.Luma.{across, down, half, mean}
-use Rattle.h264_inter.proofs.Moved.{partner_left, partner_right, place_d, place_h, place_n, place_e_or_g, place_p, place_r, samples_up_to}
+use Rattle.h264_inter.proofs.Moved.{partner_left, partner_right, place_d, place_h, place_n, place_e_or_g, place_p, place_r}
 use Rattle.h264_inter.proofs.luma_blocks.side_row.Goals as goal
 
 pub returns-then-this-eq1-2 : goal.returns-then-this-eq1-2
