@@ -5,8 +5,8 @@ ghost use Rattle.h264_inter.specs.Chroma.{weighted, eighth, AreWeights};
 ghost use Rattle.h264_inter.specs.Rows.{IsPair, ArePairs, AreBytes};
 
 use crate::lanes::{bytes, joined, load, part64, plus, raised, times};
+use crate::lines::Lines;
 use crate::luma_blocks::whole_block;
-use crate::source::Source;
 use crate::window::{Pair, Pairs};
 
 /// The weights of the four whole samples around a place, in 64ths.
@@ -35,11 +35,11 @@ pub fn weights_at(x: u16, y: u16) -> Weights
 
 /// Eight samples of row `y + r` from column `x` on, and those from the next one on.
 #[inline(always)]
-fn pair<S: Source>(p: &S, x: usize, y: usize, r: usize) -> Pair
+fn pair(p: &Lines<'_>, x: usize, y: usize, r: usize) -> Pair
     requires small { (x ≤ 16384) × (y ≤ 16400) × (r ≤ 1) }
-    requires columns { x + 9 ≤ (S.samples p.now).width }
-    requires row { y + r < (S.samples p.now).height }
-    ensures { IsPair (S.samples p.now) x y r result }
+    requires columns { x + 9 ≤ p.now.width }
+    requires row { y + r < p.now.height }
+    ensures { IsPair p.now x y r result }
 {
     Pair {
         a: load(p, x, 0, y, r),
@@ -49,12 +49,12 @@ fn pair<S: Source>(p: &S, x: usize, y: usize, r: usize) -> Pair
 
 /// The same for a block of `W` columns.
 #[inline(always)]
-fn pairs<S: Source, const W: usize>(p: &S, x: usize, y: usize, r: usize) -> Pairs
+fn pairs<const W: usize>(p: &Lines<'_>, x: usize, y: usize, r: usize) -> Pairs
     requires small { (x ≤ 16376) × (y ≤ 16400) × (r ≤ 1) }
-    requires columns { x + 9 ≤ (S.samples p.now).width }
-    requires more_columns { 8 < W → x + 17 ≤ (S.samples p.now).width }
-    requires row { y + r < (S.samples p.now).height }
-    ensures { ArePairs W (S.samples p.now) x y r result }
+    requires columns { x + 9 ≤ p.now.width }
+    requires more_columns { 8 < W → x + 17 ≤ p.now.width }
+    requires row { y + r < p.now.height }
+    ensures { ArePairs W p.now x y r result }
 {
     let left = pair(p, x, y, r);
     if W > 8 {
@@ -98,8 +98,8 @@ fn row<const W: usize>(w: Weights, upper: Pairs, lower: Pairs) -> [u8; 16]
 
 /// The samples of a block at the eighths of a vector, each a weighted mean.
 #[inline(always)]
-fn weighted_block<S: Source, const W: usize, const H: usize>(
-    p: &S,
+fn weighted_block<const W: usize, const H: usize>(
+    p: Lines<'_>,
     left: usize,
     top: usize,
     x: usize,
@@ -108,17 +108,17 @@ fn weighted_block<S: Source, const W: usize, const H: usize>(
 )
     requires size { (W ≤ 16) × (H ≤ 16) }
     requires small { (left ≤ 16376) × (top ≤ 16384) }
-    requires columns { left + 9 ≤ (S.samples p.now).width }
-    requires more_columns { 8 < W → left + 17 ≤ (S.samples p.now).width }
-    requires rows { top + H + 1 ≤ (S.samples p.now).height }
+    requires columns { left + 9 ≤ p.width }
+    requires more_columns { 8 < W → left + 17 ≤ p.width }
+    requires rows { top + H + 1 ≤ p.height }
     requires whole { length out.old ≡ W * H }
     requires parts { (x < 8) × (y < 8) }
-    ensures { HasBlock W H out.new (λ u v. eighth x y (λ i j. at (S.samples p.now) (left + u + i) (top + v + j))) }
+    ensures { HasBlock W H out.new (λ u v. eighth x y (λ i j. at p.entry (left + u + i) (top + v + j))) }
 {
     let w = weights_at(x as u16, y as u16);
-    let mut upper = pairs::<S, W>(p, left, top, 0);
+    let mut upper = pairs::<W>(&p, left, top, 0);
     for v in 0..H {
-        let lower = pairs::<S, W>(p, left, top + v, 1);
+        let lower = pairs::<W>(&p, left, top + v, 1);
         let row = row::<W>(w, upper, lower);
         out[W * v..W * v + W].copy_from_slice(&row[..W]);
         upper = lower;
@@ -127,8 +127,8 @@ fn weighted_block<S: Source, const W: usize, const H: usize>(
 
 /// The samples of a block at the eighths of a vector.
 #[inline(always)]
-pub fn block<S: Source, const W: usize, const H: usize>(
-    p: &S,
+pub fn block<const W: usize, const H: usize>(
+    p: Lines<'_>,
     left: usize,
     top: usize,
     x: usize,
@@ -137,18 +137,18 @@ pub fn block<S: Source, const W: usize, const H: usize>(
 )
     requires size { (W ≤ 16) × (H ≤ 16) }
     requires small { (left ≤ 16376) × (top ≤ 16384) }
-    requires columns { left + 9 ≤ (S.samples p.now).width }
-    requires more_columns { 8 < W → left + 17 ≤ (S.samples p.now).width }
-    requires rows { top + H + 1 ≤ (S.samples p.now).height }
+    requires columns { left + 9 ≤ p.width }
+    requires more_columns { 8 < W → left + 17 ≤ p.width }
+    requires rows { top + H + 1 ≤ p.height }
     requires whole { length out.old ≡ W * H }
     requires parts { (x < 8) × (y < 8) }
-    ensures { HasBlock W H out.new (λ u v. eighth x y (λ i j. at (S.samples p.now) (left + u + i) (top + v + j))) }
+    ensures { HasBlock W H out.new (λ u v. eighth x y (λ i j. at p.entry (left + u + i) (top + v + j))) }
 {
     if x == 0 {
         if y == 0 {
-            whole_block::<S, W, H>(p, left, top, out);
+            whole_block::<W, H>(p, left, top, out);
             return;
         }
     }
-    weighted_block::<S, W, H>(p, left, top, x, y, out);
+    weighted_block::<W, H>(p, left, top, x, y, out);
 }

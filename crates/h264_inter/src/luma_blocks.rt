@@ -5,55 +5,54 @@ ghost use Rattle.h264_inter.specs.Luma.{six, half as half_of, central as central
 ghost use Rattle.h264_inter.specs.Rows.{AllSix, AreSixTaps, LastFiveOfBoth, AllSixOfBoth, AreUpTo, partner as partner_of};
 
 use crate::lanes::{
-    beside, between8, bytes, central8, half8, joined, load, load16, mean8, mean16, riffled,
+    beside, between8, bytes, central8, half8, joined, load, load16, mean8, mean16, riffled, sixteen,
 };
+use crate::lines::Lines;
 use crate::pairs::{SixTaps, pair_sums, sum_rounded};
 use crate::rows::{first_windows, next_windows};
-use crate::source::Source;
 use crate::window::{Window, Windows};
 use std::simd::prelude::*;
 
 /// `W` samples of row `y` from column `x` on, by value, so that they are read before any is written.
 #[inline(always)]
-fn whole_row<S: Source, const W: usize>(p: &S, x: usize, y: usize) -> [u8; W]
+fn whole_row<const W: usize>(p: &Lines<'_>, x: usize, y: usize) -> [u8; 16]
     requires small { (W ≤ 16) × (x ≤ 16384) }
-    requires columns { x + W ≤ (S.samples p.now).width }
-    requires row { y < (S.samples p.now).height }
-    ensures { (u : ℕ) → u < W → slice_index result u ≡ at (S.samples p.now) (x + u) y }
+    requires columns { x + W ≤ p.now.width }
+    requires row { y < p.now.height }
+    ensures { (u : ℕ) → u < W → slice_index result u ≡ at p.now (x + u) y }
 {
-    let mut samples = [0; W];
-    samples.copy_from_slice(&p.row(y)[x..x + W]);
-    samples
+    if W == 16 {
+        sixteen(p.row(y), x).to_array()
+    } else {
+        let mut samples = [0; 16];
+        samples[..W].copy_from_slice(&p.row(y)[x..x + W]);
+        samples
+    }
 }
 
 /// The whole samples of a block.
 #[inline(always)]
-pub fn whole_block<S: Source, const W: usize, const H: usize>(
-    p: &S,
-    x: usize,
-    y: usize,
-    out: &mut [u8],
-)
+pub fn whole_block<const W: usize, const H: usize>(p: Lines<'_>, x: usize, y: usize, out: &mut [u8])
     requires size { (W ≤ 16) × (H ≤ 16) }
     requires small { (x ≤ 16384) × (y ≤ 16384) }
-    requires columns { x + W ≤ (S.samples p.now).width }
-    requires rows { y + H ≤ (S.samples p.now).height }
+    requires columns { x + W ≤ p.width }
+    requires rows { y + H ≤ p.height }
     requires whole { length out.old ≡ W * H }
-    ensures { HasBlock W H out.new (λ u v. at (S.samples p.now) (x + u) (y + v)) }
+    ensures { HasBlock W H out.new (λ u v. at p.entry (x + u) (y + v)) }
 {
     for v in 0..H {
-        let row = whole_row::<S, W>(p, x, y + v);
-        out[W * v..W * v + W].copy_from_slice(&row);
+        let row = whole_row::<W>(&p, x, y + v);
+        put_row::<W>(row, &mut out[W * v..W * v + W]);
     }
 }
 
 /// Eight samples between two columns of row `y + r`.
 #[inline(always)]
-fn b8<S: Source>(p: &S, x: usize, y: usize, r: usize) -> u16x8
+fn b8(p: &Lines<'_>, x: usize, y: usize, r: usize) -> u16x8
     requires small { (x ≤ 16392) × (y ≤ 16400) × (r ≤ 32) }
-    requires columns { x + 13 ≤ (S.samples p.now).width }
-    requires row { y + r < (S.samples p.now).height }
-    ensures each { (k : ℕ) → k < 8 → get_or result k 0 ≡ half_of (six (λ i. pos (at (S.samples p.now) (x + k + i) (y + r)))) }
+    requires columns { x + 13 ≤ p.now.width }
+    requires row { y + r < p.now.height }
+    ensures each { (k : ℕ) → k < 8 → get_or result k 0 ≡ half_of (six (λ i. pos (at p.now (x + k + i) (y + r)))) }
     ensures small { (k : ℕ) → k < 8 → get_or result k 0 < 256 }
 {
     between8(
@@ -97,12 +96,12 @@ fn j8(w: Window) -> u16x8
 
 /// Eight samples between two columns of row `y + r`, every other one from column `x + c` on.
 #[inline(always)]
-fn every_other<S: Source>(p: &S, x: usize, c: usize, y: usize, r: usize, taps: &SixTaps) -> u16x8
+fn every_other(p: &Lines<'_>, x: usize, c: usize, y: usize, r: usize, taps: &SixTaps) -> u16x8
     requires small { (x ≤ 16384) × (c ≤ 1) × (y ≤ 16400) × (r ≤ 32) }
-    requires columns { x + c + 20 ≤ (S.samples p.now).width }
-    requires row { y + r < (S.samples p.now).height }
+    requires columns { x + c + 20 ≤ p.now.width }
+    requires row { y + r < p.now.height }
     requires taps { AreSixTaps taps.now }
-    ensures each { (k : ℕ) → k < 8 → get_or result k 0 ≡ half_of (six (λ i. pos (at (S.samples p.now) (x + (2 * k + c) + i) (y + r)))) }
+    ensures each { (k : ℕ) → k < 8 → get_or result k 0 ≡ half_of (six (λ i. pos (at p.now (x + (2 * k + c) + i) (y + r)))) }
     ensures small { (k : ℕ) → k < 8 → get_or result k 0 < 256 }
 {
     let first = pair_sums::<1, -5>(load16(p, x, c, y, r), taps.first);
@@ -113,12 +112,12 @@ fn every_other<S: Source>(p: &S, x: usize, c: usize, y: usize, r: usize, taps: &
 
 /// Sixteen samples between two columns of row `y + r`: those in even places and those in odd ones are made by themselves.
 #[inline(always)]
-fn b16<S: Source>(p: &S, x: usize, y: usize, r: usize, taps: &SixTaps) -> u8x16
+fn b16(p: &Lines<'_>, x: usize, y: usize, r: usize, taps: &SixTaps) -> u8x16
     requires small { (x ≤ 16384) × (y ≤ 16400) × (r ≤ 32) }
-    requires columns { x + 21 ≤ (S.samples p.now).width }
-    requires row { y + r < (S.samples p.now).height }
+    requires columns { x + 21 ≤ p.now.width }
+    requires row { y + r < p.now.height }
     requires taps { AreSixTaps taps.now }
-    ensures { (u : ℕ) → u < 16 → get_or result u 0 ≡ half_of (six (λ i. pos (at (S.samples p.now) (x + u + i) (y + r)))) }
+    ensures { (u : ℕ) → u < 16 → get_or result u 0 ≡ half_of (six (λ i. pos (at p.now (x + u + i) (y + r)))) }
 {
     let even = every_other(p, x, 0, y, r, taps);
     let odd = every_other(p, x, 1, y, r, taps);
@@ -127,13 +126,13 @@ fn b16<S: Source>(p: &S, x: usize, y: usize, r: usize, taps: &SixTaps) -> u8x16
 
 /// Samples of row `y + r` for a row of a block, from column `x + c` on.
 #[inline(always)]
-fn samples_row<S: Source, const W: usize>(p: &S, x: usize, c: usize, y: usize, r: usize) -> [u8; 16]
+fn samples_row<const W: usize>(p: &Lines<'_>, x: usize, c: usize, y: usize, r: usize) -> [u8; 16]
     requires size { W ≤ 16 }
     requires small { (x ≤ 16384) × (y ≤ 16400) × (c ≤ 5) × (r ≤ 32) }
-    requires columns { x + 13 ≤ (S.samples p.now).width }
-    requires more_columns { 8 < W → x + 21 ≤ (S.samples p.now).width }
-    requires row { y + r < (S.samples p.now).height }
-    ensures { (u : ℕ) → u < W → slice_index result u ≡ at (S.samples p.now) (x + u + c) (y + r) }
+    requires columns { x + 13 ≤ p.now.width }
+    requires more_columns { 8 < W → x + 21 ≤ p.now.width }
+    requires row { y + r < p.now.height }
+    ensures { (u : ℕ) → u < W → slice_index result u ≡ at p.now (x + u + c) (y + r) }
 {
     if W > 8 {
         load16(p, x, c, y, r).to_array()
@@ -145,8 +144,8 @@ fn samples_row<S: Source, const W: usize>(p: &S, x: usize, c: usize, y: usize, r
 
 /// Samples between two columns of row `y + r` for a row of a block.
 #[inline(always)]
-fn across_row<S: Source, const W: usize>(
-    p: &S,
+fn across_row<const W: usize>(
+    p: &Lines<'_>,
     x: usize,
     y: usize,
     r: usize,
@@ -155,10 +154,10 @@ fn across_row<S: Source, const W: usize>(
     requires size { W ≤ 16 }
     requires taps { AreSixTaps taps.now }
     requires small { (x ≤ 16384) × (y ≤ 16400) × (r ≤ 32) }
-    requires columns { x + 13 ≤ (S.samples p.now).width }
-    requires more_columns { 8 < W → x + 21 ≤ (S.samples p.now).width }
-    requires row { y + r < (S.samples p.now).height }
-    ensures { (u : ℕ) → u < W → slice_index result u ≡ half_of (six (λ i. pos (at (S.samples p.now) (x + u + i) (y + r)))) }
+    requires columns { x + 13 ≤ p.now.width }
+    requires more_columns { 8 < W → x + 21 ≤ p.now.width }
+    requires row { y + r < p.now.height }
+    ensures { (u : ℕ) → u < W → slice_index result u ≡ half_of (six (λ i. pos (at p.now (x + u + i) (y + r)))) }
 {
     if W > 8 {
         b16(p, x, y, r, taps).to_array()
@@ -204,9 +203,9 @@ fn put_row<const W: usize>(row: [u8; 16], out: &mut [u8])
 /// A row of a block at a quarter place without j. Blocks of less than eight columns get more.
 #[tactic(auto, unfolding(crate::specs::Luma::quarter, crate::specs::Luma::across))]
 #[inline(always)]
-fn side_row<S: Source, const W: usize, const X: usize, const Y: usize>(
+fn side_row<const W: usize, const X: usize, const Y: usize>(
     w: Windows,
-    p: &S,
+    p: &Lines<'_>,
     x: usize,
     c: usize,
     y: usize,
@@ -215,43 +214,43 @@ fn side_row<S: Source, const W: usize, const X: usize, const Y: usize>(
     requires size { W ≤ 16 }
     requires taps { AreSixTaps taps.now }
     requires small { (x ≤ 16384) × (y ≤ 16400) }
-    requires columns { x + 13 ≤ (S.samples p.now).width }
-    requires more_columns { 8 < W → x + 21 ≤ (S.samples p.now).width }
-    requires rows { y + 6 ≤ (S.samples p.now).height }
+    requires columns { x + 13 ≤ p.now.width }
+    requires more_columns { 8 < W → x + 21 ≤ p.now.width }
+    requires rows { y + 6 ≤ p.now.height }
     requires parts { (X < 4) × (Y < 4) }
     requires no_j { (X ≢ 2) ⊎ (Y ≡ 0) }
     requires nor_j { (Y ≢ 2) ⊎ (X ≡ 0) }
     requires column { c ≡ partner_of X }
-    requires windows { AllSixOfBoth false W (S.samples p.now) x c y w }
-    ensures { (u : ℕ) → u < W → slice_index result u ≡ quarter X Y (λ i j. at (S.samples p.now) (x + u + i) (y + j)) }
+    requires windows { AllSixOfBoth false W p.now x c y w }
+    ensures { (u : ℕ) → u < W → slice_index result u ≡ quarter X Y (λ i j. at p.now (x + u + i) (y + j)) }
 {
     if Y == 0 {
         if X == 0 {
-            samples_row::<S, W>(p, x, 2, y, 2)
+            samples_row::<W>(p, x, 2, y, 2)
         } else {
-            let b = across_row::<S, W>(p, x, y, 2, taps);
+            let b = across_row::<W>(p, x, y, 2, taps);
             if X == 1 {
-                mean16(samples_row::<S, W>(p, x, 2, y, 2), b)
+                mean16(samples_row::<W>(p, x, 2, y, 2), b)
             } else if X == 2 {
                 b
             } else {
-                mean16(samples_row::<S, W>(p, x, 3, y, 2), b)
+                mean16(samples_row::<W>(p, x, 3, y, 2), b)
             }
         }
     } else {
         let h = down_row::<W>(w);
         if X == 0 {
             if Y == 1 {
-                mean16(samples_row::<S, W>(p, x, 2, y, 2), h)
+                mean16(samples_row::<W>(p, x, 2, y, 2), h)
             } else if Y == 2 {
                 h
             } else {
-                mean16(samples_row::<S, W>(p, x, 2, y, 3), h)
+                mean16(samples_row::<W>(p, x, 2, y, 3), h)
             }
         } else if Y == 1 {
-            mean16(across_row::<S, W>(p, x, y, 2, taps), h)
+            mean16(across_row::<W>(p, x, y, 2, taps), h)
         } else {
-            let s = across_row::<S, W>(p, x, y, 3, taps);
+            let s = across_row::<W>(p, x, y, 3, taps);
             if X == 1 { mean16(h, s) } else { mean16(s, h) }
         }
     }
@@ -259,9 +258,9 @@ fn side_row<S: Source, const W: usize, const X: usize, const Y: usize>(
 
 /// Writes row `v` of a block at a quarter place without j, whose rows above are there, and gives the windows of that row.
 #[inline(always)]
-fn side_line<S: Source, const W: usize, const H: usize, const X: usize, const Y: usize>(
+fn side_line<const W: usize, const H: usize, const X: usize, const Y: usize>(
     windows: Windows,
-    p: &S,
+    p: &Lines<'_>,
     x: usize,
     c: usize,
     y: usize,
@@ -272,9 +271,9 @@ fn side_line<S: Source, const W: usize, const H: usize, const X: usize, const Y:
     requires size { (W ≤ 16) × (H ≤ 16) }
     requires taps { AreSixTaps taps.now }
     requires small { (x ≤ 16384) × (y ≤ 16384) }
-    requires columns { x + 13 ≤ (S.samples p.now).width }
-    requires more_columns { 8 < W → x + 21 ≤ (S.samples p.now).width }
-    requires rows { y + H + 5 ≤ (S.samples p.now).height }
+    requires columns { x + 13 ≤ p.now.width }
+    requires more_columns { 8 < W → x + 21 ≤ p.now.width }
+    requires rows { y + H + 5 ≤ p.now.height }
     requires row { v < H }
     requires whole { length out.old ≡ W * H }
     requires parts { (X < 4) × (Y < 4) }
@@ -282,13 +281,13 @@ fn side_line<S: Source, const W: usize, const H: usize, const X: usize, const Y:
     requires nor_j { (Y ≢ 2) ⊎ (X ≡ 0) }
     requires column { c ≡ partner_of X }
     requires near { c ≤ 3 }
-    requires windows { LastFiveOfBoth false W (S.samples p.now) x c (y + v) windows }
-    requires above { HasBlock W v out.old (λ u v. quarter X Y (λ i j. at (S.samples p.now) (x + u + i) (y + v + j))) }
-    ensures windows { LastFiveOfBoth false W (S.samples p.now) x c (y + (v + 1)) result }
-    ensures rows { HasBlock W (v + 1) out.new (λ u v. quarter X Y (λ i j. at (S.samples p.now) (x + u + i) (y + v + j))) }
+    requires windows { LastFiveOfBoth false W p.now x c (y + v) windows }
+    requires above { HasBlock W v out.old (λ u v. quarter X Y (λ i j. at p.now (x + u + i) (y + v + j))) }
+    ensures windows { LastFiveOfBoth false W p.now x c (y + (v + 1)) result }
+    ensures rows { HasBlock W (v + 1) out.new (λ u v. quarter X Y (λ i j. at p.now (x + u + i) (y + v + j))) }
 {
-    let windows = next_windows::<S, false, W>(windows, p, x, c, y + v);
-    let row = side_row::<S, W, X, Y>(windows, p, x, c, y + v, taps);
+    let windows = next_windows::<false, W>(windows, p, x, c, y + v);
+    let row = side_row::<W, X, Y>(windows, p, x, c, y + v, taps);
     put_row::<W>(row, &mut out[W * v..W * v + W]);
     windows
 }
@@ -296,8 +295,8 @@ fn side_line<S: Source, const W: usize, const H: usize, const X: usize, const Y:
 /// The samples of a block at quarter places without j, two rows at a time, so that few of a window's rows have to be moved. It is not
 /// inlined, so that the taps remain what is lent to it.
 #[inline(never)]
-fn side_block<S: Source, const W: usize, const H: usize, const X: usize, const Y: usize>(
-    p: &S,
+fn side_block<const W: usize, const H: usize, const X: usize, const Y: usize>(
+    p: Lines<'_>,
     x: usize,
     y: usize,
     taps: &SixTaps,
@@ -306,23 +305,23 @@ fn side_block<S: Source, const W: usize, const H: usize, const X: usize, const Y
     requires size { (W ≤ 16) × (H ≤ 16) }
     requires taps { AreSixTaps taps.now }
     requires small { (x ≤ 16384) × (y ≤ 16384) }
-    requires columns { x + 13 ≤ (S.samples p.now).width }
-    requires more_columns { 8 < W → x + 21 ≤ (S.samples p.now).width }
-    requires rows { y + H + 5 ≤ (S.samples p.now).height }
+    requires columns { x + 13 ≤ p.width }
+    requires more_columns { 8 < W → x + 21 ≤ p.width }
+    requires rows { y + H + 5 ≤ p.height }
     requires whole { length out.old ≡ W * H }
     requires parts { (X < 4) × (Y < 4) }
     requires no_j { (X ≢ 2) ⊎ (Y ≡ 0) }
     requires nor_j { (Y ≢ 2) ⊎ (X ≡ 0) }
-    ensures { HasBlock W H out.new (λ u v. quarter X Y (λ i j. at (S.samples p.now) (x + u + i) (y + v + j))) }
+    ensures { HasBlock W H out.new (λ u v. quarter X Y (λ i j. at p.entry (x + u + i) (y + v + j))) }
 {
     let c = partner::<X>();
-    let mut windows = first_windows::<S, false, W>(p, x, c, y);
+    let mut windows = first_windows::<false, W>(&p, x, c, y);
     for n in 0..H / 2 {
-        windows = side_line::<S, W, H, X, Y>(windows, p, x, c, y, 2 * n, taps, out);
-        windows = side_line::<S, W, H, X, Y>(windows, p, x, c, y, 2 * n + 1, taps, out);
+        windows = side_line::<W, H, X, Y>(windows, &p, x, c, y, 2 * n, taps, out);
+        windows = side_line::<W, H, X, Y>(windows, &p, x, c, y, 2 * n + 1, taps, out);
     }
     if H % 2 == 1 {
-        let _ = side_line::<S, W, H, X, Y>(windows, p, x, c, y, H - 1, taps, out);
+        let _ = side_line::<W, H, X, Y>(windows, &p, x, c, y, H - 1, taps, out);
     }
 }
 
@@ -376,10 +375,10 @@ fn middle_row<const W: usize, const X: usize, const Y: usize>(
 
 /// Writes row `v` of a block at a quarter place with j, whose rows above are there, and gives the windows of that row.
 #[inline(always)]
-fn middle_line<S: Source, const W: usize, const H: usize, const X: usize, const Y: usize>(
+fn middle_line<const W: usize, const H: usize, const X: usize, const Y: usize>(
     across: Windows,
     samples: Windows,
-    p: &S,
+    p: &Lines<'_>,
     x: usize,
     c: usize,
     y: usize,
@@ -388,9 +387,9 @@ fn middle_line<S: Source, const W: usize, const H: usize, const X: usize, const 
 ) -> (Windows, Windows)
     requires size { (W ≤ 16) × (H ≤ 16) }
     requires small { (x ≤ 16384) × (y ≤ 16384) }
-    requires columns { x + 13 ≤ (S.samples p.now).width }
-    requires more_columns { 8 < W → x + 21 ≤ (S.samples p.now).width }
-    requires rows { y + H + 5 ≤ (S.samples p.now).height }
+    requires columns { x + 13 ≤ p.now.width }
+    requires more_columns { 8 < W → x + 21 ≤ p.now.width }
+    requires rows { y + H + 5 ≤ p.now.height }
     requires row { v < H }
     requires whole { length out.old ≡ W * H }
     requires parts { (X < 4) × (Y < 4) }
@@ -398,15 +397,15 @@ fn middle_line<S: Source, const W: usize, const H: usize, const X: usize, const 
     requires not_at_0 { (0 < X) × (0 < Y) }
     requires column { c ≡ partner_of X }
     requires near { c ≤ 3 }
-    requires across { LastFiveOfBoth true W (S.samples p.now) x c (y + v) across }
-    requires samples { LastFiveOfBoth false W (S.samples p.now) x c (y + v) samples }
-    requires above { HasBlock W v out.old (λ u v. quarter X Y (λ i j. at (S.samples p.now) (x + u + i) (y + v + j))) }
-    ensures across { LastFiveOfBoth true W (S.samples p.now) x c (y + (v + 1)) result.0 }
-    ensures samples { LastFiveOfBoth false W (S.samples p.now) x c (y + (v + 1)) result.1 }
-    ensures rows { HasBlock W (v + 1) out.new (λ u v. quarter X Y (λ i j. at (S.samples p.now) (x + u + i) (y + v + j))) }
+    requires across { LastFiveOfBoth true W p.now x c (y + v) across }
+    requires samples { LastFiveOfBoth false W p.now x c (y + v) samples }
+    requires above { HasBlock W v out.old (λ u v. quarter X Y (λ i j. at p.now (x + u + i) (y + v + j))) }
+    ensures across { LastFiveOfBoth true W p.now x c (y + (v + 1)) result.0 }
+    ensures samples { LastFiveOfBoth false W p.now x c (y + (v + 1)) result.1 }
+    ensures rows { HasBlock W (v + 1) out.new (λ u v. quarter X Y (λ i j. at p.now (x + u + i) (y + v + j))) }
 {
-    let across = next_windows::<S, true, W>(across, p, x, c, y + v);
-    let samples = next_windows::<S, false, W>(samples, p, x, c, y + v);
+    let across = next_windows::<true, W>(across, p, x, c, y + v);
+    let samples = next_windows::<false, W>(samples, p, x, c, y + v);
     let row = middle_row::<W, X, Y>(across, samples);
     out[W * v..W * v + W].copy_from_slice(&row[..W]);
     (across, samples)
@@ -414,93 +413,93 @@ fn middle_line<S: Source, const W: usize, const H: usize, const X: usize, const 
 
 /// The samples of a block at quarter places with j. It is not inlined, since the compiler would then call its parts instead.
 #[inline(never)]
-fn middle_block<S: Source, const W: usize, const H: usize, const X: usize, const Y: usize>(
-    p: &S,
+fn middle_block<const W: usize, const H: usize, const X: usize, const Y: usize>(
+    p: Lines<'_>,
     x: usize,
     y: usize,
     out: &mut [u8],
 )
     requires size { (W ≤ 16) × (H ≤ 16) }
     requires small { (x ≤ 16376) × (y ≤ 16384) }
-    requires columns { x + 13 ≤ (S.samples p.now).width }
-    requires more_columns { 8 < W → x + 21 ≤ (S.samples p.now).width }
-    requires rows { y + H + 5 ≤ (S.samples p.now).height }
+    requires columns { x + 13 ≤ p.width }
+    requires more_columns { 8 < W → x + 21 ≤ p.width }
+    requires rows { y + H + 5 ≤ p.height }
     requires whole { length out.old ≡ W * H }
     requires parts { (X < 4) × (Y < 4) }
     requires with_j { (X ≡ 2) ⊎ (Y ≡ 2) }
     requires not_at_0 { (0 < X) × (0 < Y) }
-    ensures { HasBlock W H out.new (λ u v. quarter X Y (λ i j. at (S.samples p.now) (x + u + i) (y + v + j))) }
+    ensures { HasBlock W H out.new (λ u v. quarter X Y (λ i j. at p.entry (x + u + i) (y + v + j))) }
 {
     let c = partner::<X>();
-    let mut across = first_windows::<S, true, W>(p, x, c, y);
-    let mut samples = first_windows::<S, false, W>(p, x, c, y);
+    let mut across = first_windows::<true, W>(&p, x, c, y);
+    let mut samples = first_windows::<false, W>(&p, x, c, y);
     for v in 0..H {
-        (across, samples) = middle_line::<S, W, H, X, Y>(across, samples, p, x, c, y, v, out);
+        (across, samples) = middle_line::<W, H, X, Y>(across, samples, &p, x, c, y, v, out);
     }
 }
 
 /// The same two rows at a time, so that few of a window's rows have to be moved: blocks of more than eight columns are made faster so.
 #[inline(never)]
-fn middle_block_in_pairs<S: Source, const W: usize, const H: usize, const X: usize, const Y: usize>(
-    p: &S,
+fn middle_block_in_pairs<const W: usize, const H: usize, const X: usize, const Y: usize>(
+    p: Lines<'_>,
     x: usize,
     y: usize,
     out: &mut [u8],
 )
     requires size { (W ≤ 16) × (H ≤ 16) }
     requires small { (x ≤ 16376) × (y ≤ 16384) }
-    requires columns { x + 13 ≤ (S.samples p.now).width }
-    requires more_columns { 8 < W → x + 21 ≤ (S.samples p.now).width }
-    requires rows { y + H + 5 ≤ (S.samples p.now).height }
+    requires columns { x + 13 ≤ p.width }
+    requires more_columns { 8 < W → x + 21 ≤ p.width }
+    requires rows { y + H + 5 ≤ p.height }
     requires whole { length out.old ≡ W * H }
     requires parts { (X < 4) × (Y < 4) }
     requires with_j { (X ≡ 2) ⊎ (Y ≡ 2) }
     requires not_at_0 { (0 < X) × (0 < Y) }
-    ensures { HasBlock W H out.new (λ u v. quarter X Y (λ i j. at (S.samples p.now) (x + u + i) (y + v + j))) }
+    ensures { HasBlock W H out.new (λ u v. quarter X Y (λ i j. at p.entry (x + u + i) (y + v + j))) }
 {
     let c = partner::<X>();
-    let mut across = first_windows::<S, true, W>(p, x, c, y);
-    let mut samples = first_windows::<S, false, W>(p, x, c, y);
+    let mut across = first_windows::<true, W>(&p, x, c, y);
+    let mut samples = first_windows::<false, W>(&p, x, c, y);
     for n in 0..H / 2 {
         let v = 2 * n;
-        (across, samples) = middle_line::<S, W, H, X, Y>(across, samples, p, x, c, y, v, out);
-        (across, samples) = middle_line::<S, W, H, X, Y>(across, samples, p, x, c, y, v + 1, out);
+        (across, samples) = middle_line::<W, H, X, Y>(across, samples, &p, x, c, y, v, out);
+        (across, samples) = middle_line::<W, H, X, Y>(across, samples, &p, x, c, y, v + 1, out);
     }
     if H % 2 == 1 {
-        let _ = middle_line::<S, W, H, X, Y>(across, samples, p, x, c, y, H - 1, out);
+        let _ = middle_line::<W, H, X, Y>(across, samples, &p, x, c, y, H - 1, out);
     }
 }
 
 /// The samples of a block at one quarter place.
 #[inline(always)]
-fn block<S: Source, const W: usize, const H: usize, const X: usize, const Y: usize>(
-    p: &S,
+fn block<const W: usize, const H: usize, const X: usize, const Y: usize>(
+    p: Lines<'_>,
     left: usize,
     top: usize,
     out: &mut [u8],
 )
     requires size { (W ≤ 16) × (H ≤ 16) }
     requires small { (left ≤ 16376) × (top ≤ 16384) }
-    requires columns { left + 13 ≤ (S.samples p.now).width }
-    requires more_columns { 8 < W → left + 21 ≤ (S.samples p.now).width }
-    requires rows { top + H + 5 ≤ (S.samples p.now).height }
+    requires columns { left + 13 ≤ p.width }
+    requires more_columns { 8 < W → left + 21 ≤ p.width }
+    requires rows { top + H + 5 ≤ p.height }
     requires whole { length out.old ≡ W * H }
     requires parts { (X < 4) × (Y < 4) }
-    ensures { HasBlock W H out.new (λ u v. quarter X Y (λ i j. at (S.samples p.now) (left + u + i) (top + v + j))) }
+    ensures { HasBlock W H out.new (λ u v. quarter X Y (λ i j. at p.entry (left + u + i) (top + v + j))) }
 {
     if X == 0 || Y == 0 || (X != 2 && Y != 2) {
-        side_block::<S, W, H, X, Y>(p, left, top, &SixTaps::new(), out);
+        side_block::<W, H, X, Y>(p, left, top, &SixTaps::new(), out);
     } else if W > 8 {
-        middle_block_in_pairs::<S, W, H, X, Y>(p, left, top, out);
+        middle_block_in_pairs::<W, H, X, Y>(p, left, top, out);
     } else {
-        middle_block::<S, W, H, X, Y>(p, left, top, out);
+        middle_block::<W, H, X, Y>(p, left, top, out);
     }
 }
 
 /// The samples of a block at the quarter places of one part across.
 #[inline(always)]
-fn column<S: Source, const W: usize, const H: usize, const X: usize>(
-    p: &S,
+fn column<const W: usize, const H: usize, const X: usize>(
+    p: Lines<'_>,
     left: usize,
     top: usize,
     y: usize,
@@ -508,25 +507,25 @@ fn column<S: Source, const W: usize, const H: usize, const X: usize>(
 )
     requires size { (W ≤ 16) × (H ≤ 16) }
     requires small { (left ≤ 16376) × (top ≤ 16384) }
-    requires columns { left + 13 ≤ (S.samples p.now).width }
-    requires more_columns { 8 < W → left + 21 ≤ (S.samples p.now).width }
-    requires rows { top + H + 5 ≤ (S.samples p.now).height }
+    requires columns { left + 13 ≤ p.width }
+    requires more_columns { 8 < W → left + 21 ≤ p.width }
+    requires rows { top + H + 5 ≤ p.height }
     requires whole { length out.old ≡ W * H }
     requires parts { (X < 4) × (y < 4) }
-    ensures { HasBlock W H out.new (λ u v. quarter X y (λ i j. at (S.samples p.now) (left + u + i) (top + v + j))) }
+    ensures { HasBlock W H out.new (λ u v. quarter X y (λ i j. at p.entry (left + u + i) (top + v + j))) }
 {
     match y {
-        0 => block::<S, W, H, X, 0>(p, left, top, out),
-        1 => block::<S, W, H, X, 1>(p, left, top, out),
-        2 => block::<S, W, H, X, 2>(p, left, top, out),
-        _ => block::<S, W, H, X, 3>(p, left, top, out),
+        0 => block::<W, H, X, 0>(p, left, top, out),
+        1 => block::<W, H, X, 1>(p, left, top, out),
+        2 => block::<W, H, X, 2>(p, left, top, out),
+        _ => block::<W, H, X, 3>(p, left, top, out),
     }
 }
 
 /// The samples of a block at quarter places.
 #[inline(always)]
-pub fn place<S: Source, const W: usize, const H: usize>(
-    p: &S,
+pub fn place<const W: usize, const H: usize>(
+    p: Lines<'_>,
     left: usize,
     top: usize,
     x: usize,
@@ -535,17 +534,17 @@ pub fn place<S: Source, const W: usize, const H: usize>(
 )
     requires size { (W ≤ 16) × (H ≤ 16) }
     requires small { (left ≤ 16376) × (top ≤ 16384) }
-    requires columns { left + 13 ≤ (S.samples p.now).width }
-    requires more_columns { 8 < W → left + 21 ≤ (S.samples p.now).width }
-    requires rows { top + H + 5 ≤ (S.samples p.now).height }
+    requires columns { left + 13 ≤ p.width }
+    requires more_columns { 8 < W → left + 21 ≤ p.width }
+    requires rows { top + H + 5 ≤ p.height }
     requires whole { length out.old ≡ W * H }
     requires parts { (x < 4) × (y < 4) }
-    ensures { HasBlock W H out.new (λ u v. quarter x y (λ i j. at (S.samples p.now) (left + u + i) (top + v + j))) }
+    ensures { HasBlock W H out.new (λ u v. quarter x y (λ i j. at p.entry (left + u + i) (top + v + j))) }
 {
     match x {
-        0 => column::<S, W, H, 0>(p, left, top, y, out),
-        1 => column::<S, W, H, 1>(p, left, top, y, out),
-        2 => column::<S, W, H, 2>(p, left, top, y, out),
-        _ => column::<S, W, H, 3>(p, left, top, y, out),
+        0 => column::<W, H, 0>(p, left, top, y, out),
+        1 => column::<W, H, 1>(p, left, top, y, out),
+        2 => column::<W, H, 2>(p, left, top, y, out),
+        _ => column::<W, H, 3>(p, left, top, y, out),
     }
 }

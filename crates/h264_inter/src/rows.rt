@@ -4,17 +4,17 @@ ghost use Rattle.h264_inter.specs.Luma.{six};
 ghost use Rattle.h264_inter.specs.Rows.{IsRow, LastFive, AllSix, LastFiveOfBoth, AllSixOfBoth};
 
 use crate::lanes::{load, taps8};
-use crate::source::Source;
+use crate::lines::Lines;
 use crate::window::{Window, Windows};
 use std::simd::prelude::*;
 
 /// Eight raised values of the filter over six columns of row `y + r`.
 #[inline(always)]
-fn across8<S: Source>(p: &S, x: usize, y: usize, r: usize) -> u16x8
+fn across8(p: &Lines<'_>, x: usize, y: usize, r: usize) -> u16x8
     requires small { (x ≤ 16392) × (y ≤ 16400) × (r ≤ 32) }
-    requires columns { x + 13 ≤ (S.samples p.now).width }
-    requires row { y + r < (S.samples p.now).height }
-    ensures each { (k : ℕ) → k < 8 → pos (get_or result k 0) ≡ six (λ i. pos (at (S.samples p.now) (x + k + i) (y + r))) +ℤ pos 2550 }
+    requires columns { x + 13 ≤ p.now.width }
+    requires row { y + r < p.now.height }
+    ensures each { (k : ℕ) → k < 8 → pos (get_or result k 0) ≡ six (λ i. pos (at p.now (x + k + i) (y + r))) +ℤ pos 2550 }
     ensures small { (k : ℕ) → k < 8 → get_or result k 0 ≤ 13260 }
 {
     taps8(
@@ -29,11 +29,11 @@ fn across8<S: Source>(p: &S, x: usize, y: usize, r: usize) -> u16x8
 
 /// Eight values of row `y + r`: raised ones of the filter over six columns (`ACROSS`), or samples from column `x + c` on.
 #[inline(always)]
-fn row8<S: Source, const ACROSS: bool>(p: &S, x: usize, c: usize, y: usize, r: usize) -> u16x8
+fn row8<const ACROSS: bool>(p: &Lines<'_>, x: usize, c: usize, y: usize, r: usize) -> u16x8
     requires small { (x ≤ 16392) × (y ≤ 16400) × (c ≤ 5) × (r ≤ 32) }
-    requires columns { x + 13 ≤ (S.samples p.now).width }
-    requires row { y + r < (S.samples p.now).height }
-    ensures { IsRow ACROSS (S.samples p.now) x c y r result }
+    requires columns { x + 13 ≤ p.now.width }
+    requires row { y + r < p.now.height }
+    ensures { IsRow ACROSS p.now x c y r result }
 {
     if ACROSS {
         across8(p, x, y, r)
@@ -44,31 +44,31 @@ fn row8<S: Source, const ACROSS: bool>(p: &S, x: usize, c: usize, y: usize, r: u
 
 /// A window whose last five rows are those from row `y` on.
 #[inline(always)]
-fn first_rows<S: Source, const ACROSS: bool>(p: &S, x: usize, c: usize, y: usize) -> Window
+fn first_rows<const ACROSS: bool>(p: &Lines<'_>, x: usize, c: usize, y: usize) -> Window
     requires small { (x ≤ 16392) × (y ≤ 16400) × (c ≤ 5) }
-    requires columns { x + 13 ≤ (S.samples p.now).width }
-    requires rows { y + 5 ≤ (S.samples p.now).height }
-    ensures { LastFive ACROSS (S.samples p.now) x c y result }
+    requires columns { x + 13 ≤ p.now.width }
+    requires rows { y + 5 ≤ p.now.height }
+    ensures { LastFive ACROSS p.now x c y result }
 {
-    let f = row8::<S, ACROSS>(p, x, c, y, 0);
+    let f = row8::<ACROSS>(p, x, c, y, 0);
     Window {
         e: f,
         f,
-        g: row8::<S, ACROSS>(p, x, c, y, 1),
-        h: row8::<S, ACROSS>(p, x, c, y, 2),
-        i: row8::<S, ACROSS>(p, x, c, y, 3),
-        j: row8::<S, ACROSS>(p, x, c, y, 4),
+        g: row8::<ACROSS>(p, x, c, y, 1),
+        h: row8::<ACROSS>(p, x, c, y, 2),
+        i: row8::<ACROSS>(p, x, c, y, 3),
+        j: row8::<ACROSS>(p, x, c, y, 4),
     }
 }
 
 /// The window one row further down, whose six rows are those from row `y` on: one is read, the others are moved.
 #[inline(always)]
-fn next_row<S: Source, const ACROSS: bool>(w: Window, p: &S, x: usize, c: usize, y: usize) -> Window
+fn next_row<const ACROSS: bool>(w: Window, p: &Lines<'_>, x: usize, c: usize, y: usize) -> Window
     requires small { (x ≤ 16392) × (y ≤ 16400) × (c ≤ 5) }
-    requires columns { x + 13 ≤ (S.samples p.now).width }
-    requires rows { y + 6 ≤ (S.samples p.now).height }
-    requires above { LastFive ACROSS (S.samples p.now) x c y w }
-    ensures { AllSix ACROSS (S.samples p.now) x c y result }
+    requires columns { x + 13 ≤ p.now.width }
+    requires rows { y + 6 ≤ p.now.height }
+    requires above { LastFive ACROSS p.now x c y w }
+    ensures { AllSix ACROSS p.now x c y result }
 {
     Window {
         e: w.f,
@@ -76,27 +76,27 @@ fn next_row<S: Source, const ACROSS: bool>(w: Window, p: &S, x: usize, c: usize,
         g: w.h,
         h: w.i,
         i: w.j,
-        j: row8::<S, ACROSS>(p, x, c, y, 5),
+        j: row8::<ACROSS>(p, x, c, y, 5),
     }
 }
 
 /// The windows of a block of `W` columns, before its first row.
 #[inline(always)]
-pub fn first_windows<S: Source, const ACROSS: bool, const W: usize>(
-    p: &S,
+pub fn first_windows<const ACROSS: bool, const W: usize>(
+    p: &Lines<'_>,
     x: usize,
     c: usize,
     y: usize,
 ) -> Windows
     requires small { (x ≤ 16384) × (y ≤ 16400) × (c ≤ 5) }
-    requires columns { x + 13 ≤ (S.samples p.now).width }
-    requires more_columns { 8 < W → x + 21 ≤ (S.samples p.now).width }
-    requires rows { y + 5 ≤ (S.samples p.now).height }
-    ensures { LastFiveOfBoth ACROSS W (S.samples p.now) x c y result }
+    requires columns { x + 13 ≤ p.now.width }
+    requires more_columns { 8 < W → x + 21 ≤ p.now.width }
+    requires rows { y + 5 ≤ p.now.height }
+    ensures { LastFiveOfBoth ACROSS W p.now x c y result }
 {
-    let left = first_rows::<S, ACROSS>(p, x, c, y);
+    let left = first_rows::<ACROSS>(p, x, c, y);
     if W > 8 {
-        let right = first_rows::<S, ACROSS>(p, x + 8, c, y);
+        let right = first_rows::<ACROSS>(p, x + 8, c, y);
         Windows { left, right }
     } else {
         Windows { left, right: left }
@@ -105,23 +105,23 @@ pub fn first_windows<S: Source, const ACROSS: bool, const W: usize>(
 
 /// The windows of a block of `W` columns at row `y`, from those of the row above.
 #[inline(always)]
-pub fn next_windows<S: Source, const ACROSS: bool, const W: usize>(
+pub fn next_windows<const ACROSS: bool, const W: usize>(
     w: Windows,
-    p: &S,
+    p: &Lines<'_>,
     x: usize,
     c: usize,
     y: usize,
 ) -> Windows
     requires small { (x ≤ 16384) × (y ≤ 16400) × (c ≤ 5) }
-    requires columns { x + 13 ≤ (S.samples p.now).width }
-    requires more_columns { 8 < W → x + 21 ≤ (S.samples p.now).width }
-    requires rows { y + 6 ≤ (S.samples p.now).height }
-    requires above { LastFiveOfBoth ACROSS W (S.samples p.now) x c y w }
-    ensures { AllSixOfBoth ACROSS W (S.samples p.now) x c y result }
+    requires columns { x + 13 ≤ p.now.width }
+    requires more_columns { 8 < W → x + 21 ≤ p.now.width }
+    requires rows { y + 6 ≤ p.now.height }
+    requires above { LastFiveOfBoth ACROSS W p.now x c y w }
+    ensures { AllSixOfBoth ACROSS W p.now x c y result }
 {
-    let left = next_row::<S, ACROSS>(w.left, p, x, c, y);
+    let left = next_row::<ACROSS>(w.left, p, x, c, y);
     if W > 8 {
-        let right = next_row::<S, ACROSS>(w.right, p, x + 8, c, y);
+        let right = next_row::<ACROSS>(w.right, p, x + 8, c, y);
         Windows { left, right }
     } else {
         Windows { left, right: left }

@@ -69,6 +69,15 @@ impl Plane {
         self.height
     }
 
+    /// All samples, row by row. Touches none.
+    #[inline(always)]
+    pub fn samples(&self) -> &[u8]
+        ensures same { result.now ≡ self.now.list }
+        ensures whole { length result.now ≡ self.now.height * self.now.width }
+    {
+        self.samples.as_slice()
+    }
+
     /// The sample at column `x` of row `y`.
     #[inline(always)]
     pub fn get(&self, x: usize, y: usize) -> u8

@@ -10,7 +10,7 @@ use Rattle.h264_inter.proofs.chroma_blocks.weighted_block.Goals as goal
 pub loop-v-init : goal.loop-v-init
 loop-v-init g c = record {
   above = λ b q. (omega arith);
-  rows = pairs_from g.row.W (g.S.Source.samples c.args.p.now) c.args.left c.args.top (c.args.top + 0) 0 0 _ (omega arith) c.pairs-upper.ensures;
+  rows = pairs_from g.row.W c.args.p c.args.left c.args.top (c.args.top + 0) 0 0 _ (omega arith) c.pairs-upper.ensures;
 }
 
 pub loop-v-preserved : goal.loop-v-preserved
@@ -24,13 +24,13 @@ loop-v-preserved g c =
     let fits : w * v + w ≤ length out = omega (arith, row_inside w g.row.H v c.loop-v-test.true) in
     let count : length new ≡ w = c.copy_from_slice.ensures.len ∙ simp (length-take, length-drop) (omega arith) in
     record {
-      above = row_more w v _ out new (λ a b. weighted k.a k.b k.c k.d (λ i j. at (g.S.Source.samples c.args.p.now) (c.args.left + a + i) (c.args.top + b + j))) fits count
-          (λ x p. ap (λ (l : List ℕ). slice_index l x) c.copy_from_slice.ensures.after ∙ get_or-take w row x 0 p ∙ c.row-row.ensures (g.S.Source.samples c.args.p.now) c.args.left (c.args.top + v) c.loop-v.invariant.rows c.pairs-lower.ensures x (omega arith))
+      above = row_more w v _ out new (λ a b. weighted k.a k.b k.c k.d (λ i j. at c.args.p (c.args.left + a + i) (c.args.top + b + j))) fits count
+          (λ x p. ap (λ (l : List ℕ). slice_index l x) c.copy_from_slice.ensures.after ∙ get_or-take w row x 0 p ∙ c.row-row.ensures c.args.p c.args.left (c.args.top + v) c.loop-v.invariant.rows c.pairs-lower.ensures x (omega arith))
           c.loop-v.invariant.above;
-      rows = pairs_from w (g.S.Source.samples c.args.p.now) c.args.left (c.args.top + v) (c.args.top + (v + 1)) 1 0 _ (omega arith) c.pairs-lower.ensures;
+      rows = pairs_from w c.args.p c.args.left (c.args.top + v) (c.args.top + (v + 1)) 1 0 _ (omega arith) c.pairs-lower.ensures;
     }
 
 pub returns : goal.returns
-returns g c = weights_placed c.args.x c.args.y _ _ _ _ g.row.W g.row.H (λ u v i j. at (g.S.Source.samples c.args.p.now) (c.args.left + u + i) (c.args.top + v + j)) c.loop-v.out c.weights_at-w.ensures.each (record {
+returns g c = weights_placed c.args.x c.args.y _ _ _ _ g.row.W g.row.H (λ u v i j. at c.args.p (c.args.left + u + i) (c.args.top + v + j)) c.loop-v.out c.weights_at-w.ensures.each (record {
   each = λ u v p q. c.loop-v.invariant.above v (omega arith) u p;
 })

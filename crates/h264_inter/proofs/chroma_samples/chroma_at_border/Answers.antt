@@ -13,4 +13,4 @@ returns g c =
     let down : c.whole_chroma-2.result ≡ whole 3 a.vector.y = c.whole_chroma-2.ensures.value ∙ ap (whole 3) my in
     chroma_is a.reference.now (in_rows c.fetch-area.result.samples) a.vector g.row.W g.row.H a.x a.y 0 0 _ _ _
     (copy_shows a.reference.now _ _ _ _ _ _ _ c.fetch-area.ensures (omega (arith, ints, across)) (omega (arith, ints, down)))
-    (c.eighths-right.ensures.value ∙ ap (parts 8) mx) (c.eighths-below.ensures.value ∙ ap (parts 8) my) c.block.ensures
+    (c.eighths-right.ensures.value ∙ ap (parts 8) mx) (c.eighths-below.ensures.value ∙ ap (parts 8) my) (rw c.lines.ensures at c.block.ensures)

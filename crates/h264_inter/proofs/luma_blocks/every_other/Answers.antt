@@ -4,51 +4,51 @@ use Rattle.h264_inter.proofs.Strips.{sample_is, taps_of_pairs}
 use Rattle.h264_inter.proofs.luma_blocks.every_other.Goals as goal
 
 pub pair_sums-first-requires-clause-even : goal.pair_sums-first-requires-clause-even
-pair_sums-first-requires-clause-even g c k p =
+pair_sums-first-requires-clause-even c k p =
     weight_handed c.args.taps.now.first (2 * k) (pos 1) (c.requires.taps.first k p).0 (omega arith) (omega arith)
 
 pub pair_sums-first-requires-clause-odd : goal.pair_sums-first-requires-clause-odd
-pair_sums-first-requires-clause-odd g c k p =
+pair_sums-first-requires-clause-odd c k p =
     weight_handed c.args.taps.now.first (2 * k + 1) (negsuc 4) (c.requires.taps.first k p).1 (omega arith) (omega arith)
 
 pub pair_sums-middle-requires-clause-even : goal.pair_sums-middle-requires-clause-even
-pair_sums-middle-requires-clause-even g c k p =
+pair_sums-middle-requires-clause-even c k p =
     weight_handed c.args.taps.now.middle (2 * k) (pos 20) (c.requires.taps.middle k p).0 (omega arith) (omega arith)
 
 pub pair_sums-middle-requires-clause-odd : goal.pair_sums-middle-requires-clause-odd
-pair_sums-middle-requires-clause-odd g c k p =
+pair_sums-middle-requires-clause-odd c k p =
     weight_handed c.args.taps.now.middle (2 * k + 1) (pos 20) (c.requires.taps.middle k p).1 (omega arith) (omega arith)
 
 pub pair_sums-last-requires-clause-even : goal.pair_sums-last-requires-clause-even
-pair_sums-last-requires-clause-even g c k p =
+pair_sums-last-requires-clause-even c k p =
     weight_handed c.args.taps.now.last (2 * k) (negsuc 4) (c.requires.taps.last k p).0 (omega arith) (omega arith)
 
 pub pair_sums-last-requires-clause-odd : goal.pair_sums-last-requires-clause-odd
-pair_sums-last-requires-clause-odd g c k p =
+pair_sums-last-requires-clause-odd c k p =
     weight_handed c.args.taps.now.last (2 * k + 1) (pos 1) (c.requires.taps.last k p).1 (omega arith) (omega arith)
 
 pub sum_rounded-requires-clause-a : goal.sum_rounded-requires-clause-a
-sum_rounded-requires-clause-a g c k p =
+sum_rounded-requires-clause-a c k p =
     let long : length c.pair_sums-first.result ≡ 8 = search rules in
     let size = c.pair_sums-first.ensures.size k p in
     rw (small_handed c.pair_sums-first.result k 1530 long p size (omega arith)) (omega (arith, size))
 
 pub sum_rounded-requires-clause-b : goal.sum_rounded-requires-clause-b
-sum_rounded-requires-clause-b g c k p =
+sum_rounded-requires-clause-b c k p =
     let long : length c.pair_sums-middle.result ≡ 8 = search rules in
     let size = c.pair_sums-middle.ensures.size k p in
     rw (small_handed c.pair_sums-middle.result k 10200 long p size (omega arith)) (omega (arith, size))
 
 pub sum_rounded-requires-clause-c : goal.sum_rounded-requires-clause-c
-sum_rounded-requires-clause-c g c k p =
+sum_rounded-requires-clause-c c k p =
     let long : length c.pair_sums-last.result ≡ 8 = search rules in
     let size = c.pair_sums-last.ensures.size k p in
     rw (small_handed c.pair_sums-last.result k 1530 long p size (omega arith)) (omega (arith, size))
 
 pub returns-clause-each : goal.returns-clause-each
-returns-clause-each g c k q =
+returns-clause-each c k q =
     let a = c.args in
-    let p = g.S.Source.samples a.p.now in
+    let p = a.p.now in
     let y = a.y + a.r in
     let z = a.x + (2 * k + a.c) in
     let first : length c.pair_sums-first.result ≡ 8 = search rules in

@@ -7,7 +7,7 @@ use Rattle.h264_inter.proofs.luma_blocks.middle_block.Given as goal
 
 abbrev pub invariant-loop-v : goal.invariant-loop-v
 invariant-loop-v g l = record {
-  above : HasBlock g.row.W l.v l.out (λ u v. quarter g.row.X g.row.Y (λ i j. at (g.S.Source.samples l.p) (l.x + u + i) (l.y + v + j)));
-  rows : LastFiveOfBoth true g.row.W (g.S.Source.samples l.p) l.x l.c (l.y + l.v) l.across;
-  samples : LastFiveOfBoth false g.row.W (g.S.Source.samples l.p) l.x l.c (l.y + l.v) l.samples;
+  above : HasBlock g.row.W l.v l.out (λ u v. quarter g.row.X g.row.Y (λ i j. at l.p (l.x + u + i) (l.y + v + j)));
+  rows : LastFiveOfBoth true g.row.W l.p l.x l.c (l.y + l.v) l.across;
+  samples : LastFiveOfBoth false g.row.W l.p l.x l.c (l.y + l.v) l.samples;
 }

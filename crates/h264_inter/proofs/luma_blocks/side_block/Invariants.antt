@@ -7,6 +7,6 @@ use Rattle.h264_inter.proofs.luma_blocks.side_block.Given as goal
 
 abbrev pub invariant-loop-n : goal.invariant-loop-n
 invariant-loop-n g l = record {
-  above : HasBlock g.row.W (2 * l.n) l.out (λ u v. quarter g.row.X g.row.Y (λ i j. at (g.S.Source.samples l.p) (l.x + u + i) (l.y + v + j)));
-  rows : LastFiveOfBoth false g.row.W (g.S.Source.samples l.p) l.x l.c (l.y + 2 * l.n) l.windows;
+  above : HasBlock g.row.W (2 * l.n) l.out (λ u v. quarter g.row.X g.row.Y (λ i j. at l.p (l.x + u + i) (l.y + v + j)));
+  rows : LastFiveOfBoth false g.row.W l.p l.x l.c (l.y + 2 * l.n) l.windows;
 }

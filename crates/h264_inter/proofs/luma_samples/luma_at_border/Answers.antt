@@ -13,4 +13,4 @@ returns g c =
     let down : c.whole_luma-2.result ≡ whole 2 a.vector.y = c.whole_luma-2.ensures.value ∙ ap (whole 2) my in
     luma_is a.reference.now (in_rows c.fetch-area.result.samples) a.vector g.row.W g.row.H a.x a.y 0 0 _ _ _
     (copy_shows a.reference.now _ _ _ _ _ _ _ c.fetch-area.ensures (omega (arith, ints, across)) (omega (arith, ints, down)))
-    (c.quarters-right.ensures.value ∙ ap (parts 4) mx) (c.quarters-below.ensures.value ∙ ap (parts 4) my) c.place.ensures
+    (c.quarters-right.ensures.value ∙ ap (parts 4) mx) (c.quarters-below.ensures.value ∙ ap (parts 4) my) (rw c.lines.ensures at c.place.ensures)

@@ -17,13 +17,13 @@ place-requires-clause-small g c = (
 )
 
 pub place-requires-clause-columns : goal.place-requires-clause-columns
-place-requires-clause-columns g c = omega (arith, span_inside c.natural.result _ _ _ _ c.natural.ensures (c.if-is_inside.ensures.high refl) c.width-width.ensures.value, c.columns_read.ensures.some)
+place-requires-clause-columns g c = rw c.of-lines.ensures (omega (arith, span_inside c.natural.result _ _ _ _ c.natural.ensures (c.if-is_inside.ensures.high refl) c.width-width.ensures.value, c.columns_read.ensures.some))
 
 pub place-requires-clause-more_columns : goal.place-requires-clause-more_columns
-place-requires-clause-more_columns g c p = omega (arith, span_inside c.natural.result _ _ _ _ c.natural.ensures (c.if-is_inside.ensures.high refl) c.width-width.ensures.value, c.columns_read.ensures.more p)
+place-requires-clause-more_columns g c p = rw c.of-lines.ensures (omega (arith, span_inside c.natural.result _ _ _ _ c.natural.ensures (c.if-is_inside.ensures.high refl) c.width-width.ensures.value, c.columns_read.ensures.more p))
 
 pub place-requires-clause-rows : goal.place-requires-clause-rows
-place-requires-clause-rows g c = omega (arith, span_inside c.natural-then-is_inside-2.result _ _ _ _ c.natural-then-is_inside-2.ensures (c.if-is_inside-2.ensures.high refl) c.height-height.ensures.value)
+place-requires-clause-rows g c = rw c.of-lines.ensures (omega (arith, span_inside c.natural-then-is_inside-2.result _ _ _ _ c.natural-then-is_inside-2.ensures (c.if-is_inside-2.ensures.high refl) c.height-height.ensures.value))
 
 pub returns-then-is_inside-2 : goal.returns-then-is_inside-2
 returns-then-is_inside-2 g c =
@@ -37,4 +37,4 @@ returns-then-is_inside-2 g c =
     (omega (arith, span_inside c.natural.result _ _ _ _ c.natural.ensures (c.if-is_inside.ensures.high refl) c.width-width.ensures.value, c.columns_read.ensures.enough))
     (omega (arith, span_inside c.natural-then-is_inside-2.result _ _ _ _ c.natural-then-is_inside-2.ensures (c.if-is_inside-2.ensures.high refl) c.height-height.ensures.value))
     (omega (arith, ints, across, c.natural.ensures)) (omega (arith, ints, down, c.natural-then-is_inside-2.ensures)))
-    (c.quarters-right.ensures.value ∙ ap (parts 4) mx) (c.quarters-below.ensures.value ∙ ap (parts 4) my) c.place.ensures
+    (c.quarters-right.ensures.value ∙ ap (parts 4) mx) (c.quarters-below.ensures.value ∙ ap (parts 4) my) (rw c.of-lines.ensures at c.place.ensures)
