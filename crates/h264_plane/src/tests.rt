@@ -55,6 +55,7 @@ fn edges_run_both_ways(rt: &(impl Abort + AllocGlobal)) -> Result<(), AllocError
     assert_eq!(rt; digits(p.row(0)), 8);
     assert_eq!(rt; digits(p.row(1)), 0);
     assert_eq!(rt; digits(p.row(2)), 700);
+    assert_eq!(rt; digits(p.samples()), 800_000_700);
     assert_eq!(rt; p.look::<true>(2, 1), 7);
     assert_eq!(rt; p.look::<false>(1, 2), 7);
     Ok(())
