@@ -1,5 +1,5 @@
 -- Vectors of eight signed numbers, as a check sees them: a list of their bits, of which one lane has a known value.
-use Rattle.std.proofs.Common.{◌≡◌, ℕ, suc, ◌+◌, ◌-◌, ◌*◌, ◌%◌, ◌^◌, ◌<◌, ◌≤◌, Bool, false, true, cond, ◌++◌, ◌∷◌, [], List, map, map-id, length, get_or, replicate, refl, sym, ap, ◌∙◌, arith, ltb, T, nat_abs, unsigned_abs, w8, w16, w32, ℤ, pos, negsuc, ◌+ℤ◌, ◌-ℤ◌, ◌*ℤ◌, to_z, of_z, FitsSigned, inl, inr}
+use Rattle.std.proofs.Common.{◌≡◌, ℕ, zero, suc, ◌+◌, ◌-◌, ◌*◌, ◌%◌, ◌^◌, ◌<◌, ◌≤◌, Bool, false, true, cond, ◌++◌, ◌∷◌, [], List, map, map-id, length, get_or, replicate, refl, sym, ap, ◌∙◌, arith, ltb, T, nat_abs, unsigned_abs, w8, w16, w32, ℤ, pos, negsuc, ◌+ℤ◌, ◌-ℤ◌, ◌*ℤ◌, to_z, of_z, FitsSigned, inl, inr}
 use Rattle.std.proofs.Math.Facts.{sfits_widen}
 use Rattle.std.proofs.lemmas.Simd.{get_or-zip2, get_or-replicate, length-zip2, tops_compared, get_or-sel_l, length-sel_l, pick_l_left}
 use Rattle.std.proofs.lemmas.Grind.{common_steps}
@@ -209,6 +209,16 @@ even_place k p = grind (arith, common_steps)
 odd_place : (k : ℕ) → k < 8 → get_or (1 ∷ 3 ∷ 5 ∷ 7 ∷ 9 ∷ 11 ∷ 13 ∷ 15 ∷ []) k 0 ≡ 2 * k + 1
 odd_place k p = grind (arith, common_steps)
 
+pub even_byte : (v : List ℕ) (k : ℕ) → length v ≡ 16 → k < 8 → get_or (pick_l 0 (v ++ v) (0 ∷ 2 ∷ 4 ∷ 6 ∷ 8 ∷ 10 ∷ 12 ∷ 14 ∷ [])) k 0 ≡ get_or v (2 * k) 0
+even_byte v k e p =
+    let ks = 0 ∷ 2 ∷ 4 ∷ 6 ∷ 8 ∷ 10 ∷ 12 ∷ 14 ∷ [] in
+    ap (λ (l : List ℕ). get_or l k 0) (pick_l_left 0 v v 16 ks e tt) ∙ get_or-map (λ j. get_or v j 0) ks k 0 0 p ∙ ap (λ j. get_or v j 0) (even_place k p)
+
+pub odd_byte : (v : List ℕ) (k : ℕ) → length v ≡ 16 → k < 8 → get_or (pick_l 0 (v ++ v) (1 ∷ 3 ∷ 5 ∷ 7 ∷ 9 ∷ 11 ∷ 13 ∷ 15 ∷ [])) k 0 ≡ get_or v (2 * k + 1) 0
+odd_byte v k e p =
+    let ks = 1 ∷ 3 ∷ 5 ∷ 7 ∷ 9 ∷ 11 ∷ 13 ∷ 15 ∷ [] in
+    ap (λ (l : List ℕ). get_or l k 0) (pick_l_left 0 v v 16 ks e tt) ∙ get_or-map (λ j. get_or v j 0) ks k 0 0 p ∙ ap (λ j. get_or v j 0) (odd_place k p)
+
 pub even_lane : (a : List ℤ) (k : ℕ) → length a ≡ 16 → k < 8 → FitsSigned w8 (get_or a (2 * k) (pos 0)) →
     get_or (map (to_z w8) (pick_l 0 (map (of_z w8) a ++ map (of_z w8) a) (0 ∷ 2 ∷ 4 ∷ 6 ∷ 8 ∷ 10 ∷ 12 ∷ 14 ∷ []))) k (pos 0) ≡ get_or a (2 * k) (pos 0)
 even_lane a k e p f =
@@ -332,3 +342,24 @@ difference_size m n p q = fits_signed_from_abs w16 (pos m -ℤ pos n) (omega (ar
 pub apart_lane : (a b : List ℕ) (k : ℕ) → length a ≡ 8 → length b ≡ 8 → k < 8 → get_or a k 0 ≤ 16383 → get_or b k 0 ≤ 16383 → Lane w16 (apart_of a b) k (pos (apart_at a b k))
 apart_lane a b k ea eb p x y =
     sample_lane _ k _ (shifted_lane _ k _ (difference_lane w16 _ _ k _ _ (natural_lane w16 a k ea p (omega (arith, x))) (natural_lane w16 b k eb p (omega (arith, y))) (difference_size (get_or a k 0) (get_or b k 0) x y)))
+
+-- ---- eight pairs
+
+pub by_eight : (P : ℕ → Type 0) → P 0 → P 1 → P 2 → P 3 → P 4 → P 5 → P 6 → P 7 → (k : ℕ) → k < 8 → P k
+by_eight P a b c d e f g h zero p = a
+by_eight P a b c d e f g h (suc zero) p = b
+by_eight P a b c d e f g h (suc (suc zero)) p = c
+by_eight P a b c d e f g h (suc (suc (suc zero))) p = d
+by_eight P a b c d e f g h (suc (suc (suc (suc zero)))) p = e
+by_eight P a b c d e f g h (suc (suc (suc (suc (suc zero))))) p = f
+by_eight P a b c d e f g h (suc (suc (suc (suc (suc (suc zero)))))) p = g
+by_eight P a b c d e f g h (suc (suc (suc (suc (suc (suc (suc zero))))))) p = h
+by_eight P a b c d e f g h (suc (suc (suc (suc (suc (suc (suc (suc k)))))))) p = absurd (let n : ⊥ = omega arith in n)
+
+-- a list of one pair eight times
+abbrev pub eight_pairs : ℤ → ℤ → List ℤ
+eight_pairs y z = y ∷ z ∷ y ∷ z ∷ y ∷ z ∷ y ∷ z ∷ y ∷ z ∷ y ∷ z ∷ y ∷ z ∷ y ∷ z ∷ []
+
+pub pair_of_eight : (y z : ℤ) (k : ℕ) → k < 8 → (get_or (eight_pairs y z) (2 * k) (pos 0) ≡ y) × (get_or (eight_pairs y z) (2 * k + 1) (pos 0) ≡ z)
+pair_of_eight y z = by_eight (λ k. (get_or (eight_pairs y z) (2 * k) (pos 0) ≡ y) × (get_or (eight_pairs y z) (2 * k + 1) (pos 0) ≡ z))
+    (refl, refl) (refl, refl) (refl, refl) (refl, refl) (refl, refl) (refl, refl) (refl, refl) (refl, refl)
