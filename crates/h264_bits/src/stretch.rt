@@ -12,7 +12,7 @@ const FAR: usize = 512;
 /// Bits of an RBSP that stand together in the stream.
 #[derive(Clone, Copy)]
 pub struct Stretch {
-    /// How far each of them stands behind its place in the RBSP.
+    /// How far each of them stands behind its place in the RBSP, in bits.
     pub shift: u64,
     /// The last of them.
     pub last: usize,

@@ -106,7 +106,9 @@ impl Decoder {
         Ok(())
     }
 
-    /// Begins a picture at a place where no frame of the buffer stands. Memory: it was refused.
+    /// Begins a picture at a place where no frame of the buffer stands (C.4.4), with the places of its sequence where it is the first of one.
+    ///
+    /// Err: Memory alone, where a growth was refused.
     pub fn begin(&mut self, sps: &Sps) -> Result<(), Stop>
         requires usable { is_usable sps.now ≡ true }
         requires kept { EntersSome self.old }
@@ -150,7 +152,9 @@ impl Decoder {
         places
     }
 
-    /// Reads the slice data of a slice of the picture that was begun, whose reference pictures have places. Takes no memory. Write: the sink failed.
+    /// Reads the slice data of a slice of the picture that was begun, whose reference pictures have places (7.3.4, 8.3 to 8.7). Takes no memory.
+    ///
+    /// Err: the first rule of slice data that is not met, at its element's bit, or Write where the sink failed.
     pub fn slice<S: Elements>(
         &mut self,
         bits: &mut Bits,
@@ -185,7 +189,10 @@ impl Decoder {
         }
     }
 
-    /// The end of the picture that was begun, once it is marked and these frames are held: it is decoded, and takes its place. Write: the sink failed.
+    /// The end of the picture that was begun, once it is marked and these frames are held: it is decoded, frames make way for it, and it takes its
+    /// place in the picture buffer (C.4.4, C.4.5.1 to C.4.5.3).
+    ///
+    /// Err: Write alone, where the sink failed.
     pub fn end<S: FrameSink>(
         &mut self,
         picture: &Ended,

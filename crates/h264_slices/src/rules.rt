@@ -42,7 +42,10 @@ fn may_begin(due: bool, idr: bool) -> bool
     !due || idr
 }
 
-/// The rules on where a slice stands, and with which sets, which become the active ones.
+/// The rules on where a slice stands, and with which sets (7.4.1.2.1), which become the active ones. `bit` is the first of the slice's unit.
+///
+/// Err: FirstPicture at that bit, where an IDR picture is due and another would begin; SetChanged at the header's pic_parameter_set_id, where
+/// the sequence parameter set is not the active one and none may become active. The sets are then as they were.
 pub fn check_standing(
     begins: bool,
     due: bool,

@@ -279,7 +279,11 @@ fn enter(
     }
 }
 
-/// The rules of a slice from its type on, what the sink is told of it, and what it leaves. The header's place is to be read into anew behind it.
+/// The rules of a slice from its type on (7.4.3, 8.2), what the sink is told of it, and what it leaves. The header's place is to be read into
+/// anew behind it.
+///
+/// Err: the first that is not met of SliceType, FrameNum, IdrPicId, Count, Qp, ListCommand and MarkDiffers, at its element's bit (Count at the
+/// first of the unit), or Write where the sink failed. What is kept is then of no use.
 pub fn judge_rules<S: FrameSink>(
     mode: Mode,
     begins: bool,
