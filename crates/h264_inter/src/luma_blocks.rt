@@ -15,18 +15,32 @@ use std::simd::prelude::*;
 
 /// `W` samples of row `y` from column `x` on, by value, so that they are read before any is written.
 #[inline(always)]
-fn whole_row<const W: usize>(p: &Lines<'_>, x: usize, y: usize) -> [u8; 16]
+fn whole_row<const W: usize>(p: &Lines<'_>, x: usize, y: usize) -> [u8; W]
     requires small { (W ≤ 16) × (x ≤ 16384) }
     requires columns { x + W ≤ p.now.width }
     requires row { y < p.now.height }
     ensures { (u : ℕ) → u < W → slice_index result u ≡ at p.now (x + u) y }
 {
+    let mut samples = [0; W];
+    samples.copy_from_slice(&p.row(y)[x..x + W]);
+    samples
+}
+
+/// Writes them. Sixteen are read and stored as one vector, which the compiler does not make of a copy in every loop.
+#[inline(always)]
+fn put_whole_row<const W: usize>(p: &Lines<'_>, x: usize, y: usize, out: &mut [u8])
+    requires small { (W ≤ 16) × (x ≤ 16384) }
+    requires columns { x + W ≤ p.now.width }
+    requires row { y < p.now.height }
+    requires whole { length out.old ≡ W }
+    ensures whole { length out.new ≡ W }
+    ensures each { (u : ℕ) → u < W → slice_index out.new u ≡ at p.now (x + u) y }
+{
     if W == 16 {
-        sixteen(p.row(y), x).to_array()
+        put_row::<W>(sixteen(p.row(y), x).to_array(), out);
     } else {
-        let mut samples = [0; 16];
-        samples[..W].copy_from_slice(&p.row(y)[x..x + W]);
-        samples
+        let row = whole_row::<W>(p, x, y);
+        out.copy_from_slice(&row);
     }
 }
 
@@ -41,8 +55,7 @@ pub fn whole_block<const W: usize, const H: usize>(p: Lines<'_>, x: usize, y: us
     ensures { HasBlock W H out.new (λ u v. at p.entry (x + u) (y + v)) }
 {
     for v in 0..H {
-        let row = whole_row::<W>(&p, x, y + v);
-        put_row::<W>(row, &mut out[W * v..W * v + W]);
+        put_whole_row::<W>(&p, x, y + v, &mut out[W * v..W * v + W]);
     }
 }
 
