@@ -1,14 +1,17 @@
 -- Windows of rows, what they stand for and how they move down, and the quarter places that are made of them.
-use Rattle.std.proofs.Common.{◌≡◌, ◌≢◌, ℕ, ◌+◌, ◌<◌, Bool, true, false, List, get_or, arith, inl, inr, ap, ◌∙◌, refl, pos, ◌+ℤ◌, ◌-ℤ◌}
+use Rattle.std.proofs.Common.{◌≡◌, ◌≢◌, ℕ, ◌+◌, ◌*◌, ◌<◌, Bool, true, false, List, get_or, arith, inl, inr, ap, ◌∙◌, refl, pos, ◌+ℤ◌, ◌-ℤ◌}
 use Rattle.std.proofs.lemmas.Bool.{cases_lt}
 use Rattle.std.proofs.lemmas.Bool.Decides.{nat_tests}
 use Rattle.h264_plane.specs.Samples.{Samples, at}
 use Rattle.h264_inter.specs.Luma.{quarter, mean, half, central, taps, across, down, middle, six}
-use Rattle.h264_inter.specs.Rows.{IsRow, LastFive, AllSix, LastFiveOfBoth, AllSixOfBoth, AreUpTo, IsPair, ArePairs, partner}
+use Rattle.h264_inter.specs.Rows.{IsRow, IsHeld, LastFive, AllSix, LastFiveOfBoth, AllSixOfBoth, AreUpTo, IsPair, ArePairs, partner}
 use Rattle.h264_inter.specs.declared.window.Pair.{Pair}
 use Rattle.h264_inter.specs.declared.window.Pairs.{Pairs}
 use Rattle.h264_inter.specs.declared.window.Window.{Window}
 use Rattle.h264_inter.specs.declared.window.Windows.{Windows}
+use Rattle.std.specs.Int.{int_shr}
+use Rattle.h264_inter.specs.Reference.{clip1}
+use Rattle.h264_inter.proofs.Eight.{sums_lane}
 use Rattle.h264_inter.proofs.Strips.{lower}
 
 -- one row by another place that it is counted from
@@ -22,12 +25,21 @@ row_from false p x c y z r s l e h = record {
   small = h.small;
 }
 
+held_from : (b : Bool) (p : Samples) (x c y z r s : ℕ) (l : List ℕ) → y + r ≡ z + s → IsHeld b p x c y r l → IsHeld b p x c z s l
+held_from true p x c y z r s l e h = row_from true p x c y z r s l e h
+held_from false p x c y z r s l e h = record {
+  each = λ u q.
+      let below : y + (r + 1) ≡ z + (s + 1) = omega (arith, e) in
+      h.each u q ∙ ap (λ n. at p (x + u + c) n + at p (x + u + c) (y + (r + 1))) e ∙ ap (λ n. at p (x + u + c) (z + s) + at p (x + u + c) n) below;
+  small = h.small;
+}
+
 moved : (b : Bool) (p : Samples) (x c y z : ℕ) (w : Window) → y + 1 ≡ z → AllSix b p x c y w → LastFive b p x c z w
 moved b p x c y z w e h = record {
-  f = row_from b p x c y z 1 0 w.f (omega arith) h.f;
-  g = row_from b p x c y z 2 1 w.g (omega arith) h.g;
-  h = row_from b p x c y z 3 2 w.h (omega arith) h.h;
-  i = row_from b p x c y z 4 3 w.i (omega arith) h.i;
+  f = held_from b p x c y z 1 0 w.f (omega arith) h.f;
+  g = held_from b p x c y z 2 1 w.g (omega arith) h.g;
+  h = held_from b p x c y z 3 2 w.h (omega arith) h.h;
+  i = held_from b p x c y z 4 3 w.i (omega arith) h.i;
   j = row_from b p x c y z 5 4 w.j (omega arith) h.j;
 }
 
@@ -43,8 +55,8 @@ pub both_at : (b : Bool) (width : ℕ) (p : Samples) (x c y z : ℕ) (w : Window
 both_at b width p x c y z w e h = rw (← e) h
 
 -- how large the numbers of a window are
-pub sums_up_to : (p : Samples) (x c y : ℕ) (w : Window) → AllSix true p x c y w → AreUpTo 13260 w
-sums_up_to p x c y w s = record {
+pub values_up_to : (p : Samples) (x c y : ℕ) (w : Window) → AllSix true p x c y w → AreUpTo 13260 w
+values_up_to p x c y w s = record {
   e = s.e.small;
   f = s.f.small;
   g = s.g.small;
@@ -53,13 +65,13 @@ sums_up_to p x c y w s = record {
   j = s.j.small;
 }
 
-pub samples_up_to : (p : Samples) (x c y : ℕ) (w : Window) → AllSix false p x c y w → AreUpTo 255 w
-samples_up_to p x c y w s = record {
-  e = λ u q. (omega (arith, s.e.small u q));
-  f = λ u q. (omega (arith, s.f.small u q));
-  g = λ u q. (omega (arith, s.g.small u q));
-  h = λ u q. (omega (arith, s.h.small u q));
-  i = λ u q. (omega (arith, s.i.small u q));
+pub sums_up_to : (p : Samples) (x c y : ℕ) (w : Window) → AllSix false p x c y w → AreUpTo 510 w
+sums_up_to p x c y w s = record {
+  e = s.e.small;
+  f = s.f.small;
+  g = s.g.small;
+  h = s.h.small;
+  i = s.i.small;
   j = λ u q. (omega (arith, s.j.small u q));
 }
 
@@ -75,6 +87,15 @@ pairs_from width p x y z r s l e h = record {
   left = pair_from p x y z r s l.left e h.left;
   right = λ more. pair_from p (x + 8) y z r s l.right e (h.right more);
 }
+
+-- a sample between two rows, from sums of two
+pub below_is : (p : Samples) (x c y u : ℕ) (w : Window) → AllSix false p x c y w → u < 8 →
+    clip1 (int_shr (pos (get_or w.e u 0 + get_or w.i u 0 + 16) -ℤ pos (6 * (get_or w.f u 0 + get_or w.g u 0 + get_or w.h u 0))) 5 +ℤ pos (get_or w.g u 0))
+    ≡ half (six (λ i. pos (at p (x + u + c) (y + i))))
+below_is p x c y u w s q =
+    rw (s.e.each u q, s.f.each u q, s.g.each u q, s.h.each u q, s.i.each u q) (
+    sums_lane (at p (x + u + c) (y + 0)) (at p (x + u + c) (y + 1)) (at p (x + u + c) (y + 2)) (at p (x + u + c) (y + 3)) (at p (x + u + c) (y + 4)) (at p (x + u + c) (y + 5))
+    )
 
 -- j, from values across
 pub middle_is : (p : Samples) (x c y u : ℕ) (w : Window) → AllSix true p x c y w → u < 8 →

@@ -329,19 +329,29 @@ three_lane a b c k ea eb ec p x y z =
     let of = λ (l : List ℤ) (e : length l ≡ 8) (s : unsigned_abs (get_or l k (pos 0)) ≤ 10200). signed_lane w16 l k e p (fits_signed_from_abs w16 (get_or l k (pos 0)) (omega (arith, s))) in
     sample_lane _ k _ (shifted_lane _ k _ (three_values _ _ _ k _ _ _ (of a ea x) (of b eb y) (of c ec z) x y z))
 
-abbrev pub apart_of : List ℕ → List ℕ → List ℕ
-apart_of a b =
-    clipped_of (zip2 (λ x y. of_z w16 (shr_z (to_z w16 x) (2 ^ y))) (zip2 (λ x y. (x + (2 ^ bits w16 - y)) % 2 ^ bits w16) (map (λ x. x) a) (map (λ x. x) b)) (map (of_z w16) (replicate 8 (pos 5))))
+abbrev pub apart_of : List ℕ → List ℕ → List ℕ → List ℕ
+apart_of a b c =
+    clipped_of (zip2 (λ x y. (x + y) % 2 ^ bits w16)
+    (zip2 (λ x y. of_z w16 (shr_z (to_z w16 x) (2 ^ y))) (zip2 (λ x y. (x + (2 ^ bits w16 - y)) % 2 ^ bits w16) (map (λ x. x) a) (map (λ x. x) b)) (map (of_z w16) (replicate 8 (pos 5))))
+    (map (λ x. x) c))
 
-abbrev pub apart_at : List ℕ → List ℕ → ℕ → ℕ
-apart_at a b k = clip1 (shr_z (pos (get_or a k 0) -ℤ pos (get_or b k 0)) 32)
+abbrev pub apart_at : List ℕ → List ℕ → List ℕ → ℕ → ℕ
+apart_at a b c k = clip1 (shr_z (pos (get_or a k 0) -ℤ pos (get_or b k 0)) 32 +ℤ pos (get_or c k 0))
 
 difference_size : (m n : ℕ) → m ≤ 16383 → n ≤ 16383 → FitsSigned w16 (pos m -ℤ pos n)
 difference_size m n p q = fits_signed_from_abs w16 (pos m -ℤ pos n) (omega (arith, ints, p, q))
 
-pub apart_lane : (a b : List ℕ) (k : ℕ) → length a ≡ 8 → length b ≡ 8 → k < 8 → get_or a k 0 ≤ 16383 → get_or b k 0 ≤ 16383 → Lane w16 (apart_of a b) k (pos (apart_at a b k))
-apart_lane a b k ea eb p x y =
-    sample_lane _ k _ (shifted_lane _ k _ (difference_lane w16 _ _ k _ _ (natural_lane w16 a k ea p (omega (arith, x))) (natural_lane w16 b k eb p (omega (arith, y))) (difference_size (get_or a k 0) (get_or b k 0) x y)))
+-- a 32nd of it is small enough for one more to be added
+shifted_size : (z : ℤ) (n : ℕ) → FitsSigned w16 z → n ≤ 16383 → FitsSigned w16 (shr_z z 32 +ℤ pos n)
+shifted_size (pos m) n h p = record { sfits = let s = h.sfits in omega arith }
+shifted_size (negsuc m) n h p = fits_signed_from_abs w16 (shr_z (negsuc m) 32 +ℤ pos n) (let s = h.sfits in omega (arith, ints, s, p))
+
+pub apart_lane : (a b c : List ℕ) (k : ℕ) → length a ≡ 8 → length b ≡ 8 → length c ≡ 8 → k < 8 → get_or a k 0 ≤ 16383 → get_or b k 0 ≤ 16383 → get_or c k 0 ≤ 16383 →
+    Lane w16 (apart_of a b c) k (pos (apart_at a b c k))
+apart_lane a b c k ea eb ec p x y z =
+    let size = difference_size (get_or a k 0) (get_or b k 0) x y in
+    let shifted = shifted_lane _ k _ (difference_lane w16 _ _ k _ _ (natural_lane w16 a k ea p (omega (arith, x))) (natural_lane w16 b k eb p (omega (arith, y))) size) in
+    sample_lane _ k _ (sum_lane w16 _ _ k _ _ shifted (natural_lane w16 c k ec p (omega (arith, z))) (shifted_size (pos (get_or a k 0) -ℤ pos (get_or b k 0)) (get_or c k 0) size z))
 
 -- ---- eight pairs
 

@@ -1,4 +1,4 @@
--- A working form: rows of eight lanes and windows of six rows, and the samples of a plane that they stand for.
+-- A working form: rows of eight lanes and windows of six of them, and the samples of a plane that they stand for.
 use Rattle.std.specs.Prelude.{◌≡◌, ◌<◌, ◌≤◌, ℕ, ◌+◌, Bool, true, false, ◌==◌, if◌then◌else◌, List, get_or, pos, negsuc, ◌*◌, ◌+ℤ◌}
 use Rattle.h264_plane.specs.Samples.{Samples, at}
 use Rattle.h264_inter.specs.Luma.{six}
@@ -18,26 +18,36 @@ pub record AreRaised (p : Samples) (x y r : ℕ) (lanes : List ℕ) : Type 0 whe
   pub each : (u : ℕ) → u < 8 → pos (get_or lanes u 0) ≡ six (λ i. pos (at p (x + u + i) (y + r))) +ℤ pos 2550
   pub small : (u : ℕ) → u < 8 → get_or lanes u 0 ≤ 13260
 
--- a row of a window, of values across or of samples
+-- eight samples of row y + r, from column x + c on, each added to the one below it
+pub record AreSums (p : Samples) (x c y r : ℕ) (lanes : List ℕ) : Type 0 where
+  pub each : (u : ℕ) → u < 8 → get_or lanes u 0 ≡ at p (x + u + c) (y + r) + at p (x + u + c) (y + (r + 1))
+  pub small : (u : ℕ) → u < 8 → get_or lanes u 0 ≤ 510
+
+-- a row that is read, of values across or of samples
 abbrev pub IsRow : Bool → Samples → ℕ → ℕ → ℕ → ℕ → List ℕ → Type 0
 IsRow true p x c y r lanes = AreRaised p x y r lanes
 IsRow false p x c y r lanes = AreSamples p x c y r lanes
 
+-- a row that a window holds above its last: values across as they are, samples added to those below
+abbrev pub IsHeld : Bool → Samples → ℕ → ℕ → ℕ → ℕ → List ℕ → Type 0
+IsHeld true p x c y r lanes = AreRaised p x y r lanes
+IsHeld false p x c y r lanes = AreSums p x c y r lanes
+
 -- the last five rows of a window are those from row y on
 pub record LastFive (across : Bool) (p : Samples) (x c y : ℕ) (w : Window) : Type 0 where
-  pub f : IsRow across p x c y 0 w.f
-  pub g : IsRow across p x c y 1 w.g
-  pub h : IsRow across p x c y 2 w.h
-  pub i : IsRow across p x c y 3 w.i
+  pub f : IsHeld across p x c y 0 w.f
+  pub g : IsHeld across p x c y 1 w.g
+  pub h : IsHeld across p x c y 2 w.h
+  pub i : IsHeld across p x c y 3 w.i
   pub j : IsRow across p x c y 4 w.j
 
 -- its six rows are those from row y on
 pub record AllSix (across : Bool) (p : Samples) (x c y : ℕ) (w : Window) : Type 0 where
-  pub e : IsRow across p x c y 0 w.e
-  pub f : IsRow across p x c y 1 w.f
-  pub g : IsRow across p x c y 2 w.g
-  pub h : IsRow across p x c y 3 w.h
-  pub i : IsRow across p x c y 4 w.i
+  pub e : IsHeld across p x c y 0 w.e
+  pub f : IsHeld across p x c y 1 w.f
+  pub g : IsHeld across p x c y 2 w.g
+  pub h : IsHeld across p x c y 3 w.h
+  pub i : IsHeld across p x c y 4 w.i
   pub j : IsRow across p x c y 5 w.j
 
 -- the same of the windows of a block of `width` columns

@@ -5,10 +5,11 @@ ghost use Rattle.h264_inter.specs.Luma.{six, half as half_of, central as central
 ghost use Rattle.h264_inter.specs.Rows.{AllSix, AreSixTaps, LastFiveOfBoth, AllSixOfBoth, AreUpTo, partner as partner_of};
 
 use crate::lanes::{
-    beside, between8, bytes, central8, half8, joined, load, load16, mean8, mean16, riffled, sixteen,
+    beside, between8, bytes, central8, half8, joined, load, load16, mean8, mean16, plus, raised,
+    riffled, sixteen, times,
 };
 use crate::lines::Lines;
-use crate::pairs::{SixTaps, pair_sums, sum_rounded};
+use crate::pairs::{SixTaps, difference_and, pair_sums, sum_rounded};
 use crate::rows::{first_windows, next_windows};
 use crate::window::{Window, Windows};
 use std::simd::prelude::*;
@@ -87,14 +88,17 @@ fn partner<const X: usize>() -> usize
     if X == 3 { 3 } else { 2 }
 }
 
-/// Eight samples between two rows of a window.
+/// Eight samples between two rows of a window. Of the sums of each two rows the six taps are 1, -6, 26, -6 and 1. 26 is 32 less 6, and a 32nd of 32
+/// sums is the sum itself.
 #[inline(always)]
 fn h8(w: Window) -> u16x8
-    requires samples { AreUpTo 255 w }
+    requires sums { AreUpTo 510 w }
     ensures each { (p : Samples) (x c y : ℕ) → AllSix false p x c y w → (k : ℕ) → k < 8 → get_or result k 0 ≡ half_of (six (λ i. pos (at p (x + k + c) (y + i)))) }
     ensures small { (k : ℕ) → k < 8 → get_or result k 0 < 256 }
 {
-    between8(w.e, w.f, w.g, w.h, w.i, w.j)
+    let outer = raised(plus(w.e, w.i), 16);
+    let inner = times(plus(plus(w.f, w.g), w.h), 6);
+    difference_and(outer, inner, w.g)
 }
 
 /// Eight samples j, of a window of values across.
@@ -184,8 +188,8 @@ fn across_row<const W: usize>(
 #[inline(always)]
 fn down_row<const W: usize>(w: Windows) -> [u8; 16]
     requires size { W ≤ 16 }
-    requires left { AreUpTo 255 w.left }
-    requires right { 8 < W → AreUpTo 255 w.right }
+    requires left { AreUpTo 510 w.left }
+    requires right { 8 < W → AreUpTo 510 w.right }
     ensures { (p : Samples) (x c y : ℕ) → AllSixOfBoth false W p x c y w → (u : ℕ) → u < W → slice_index result u ≡ half_of (six (λ i. pos (at p (x + u + c) (y + i)))) }
 {
     let lo = h8(w.left);
@@ -345,7 +349,7 @@ fn middle8<const X: usize, const Y: usize>(across: Window, samples: Window) -> [
     requires with_j { (X ≡ 2) ⊎ (Y ≡ 2) }
     requires not_at_0 { (0 < X) × (0 < Y) }
     requires across { AreUpTo 13260 across }
-    requires samples { AreUpTo 255 samples }
+    requires samples { AreUpTo 510 samples }
     ensures { (p : Samples) (x c y : ℕ) → c ≡ partner_of X → AllSix true p x c y across → AllSix false p x c y samples →
         (k : ℕ) → k < 8 → slice_index result k ≡ quarter X Y (λ i j. at p (x + k + i) (y + j)) }
 {
@@ -373,8 +377,8 @@ fn middle_row<const W: usize, const X: usize, const Y: usize>(
     requires parts { (X < 4) × (Y < 4) }
     requires with_j { (X ≡ 2) ⊎ (Y ≡ 2) }
     requires not_at_0 { (0 < X) × (0 < Y) }
-    requires left { AreUpTo 13260 across.left × AreUpTo 255 samples.left }
-    requires right { 8 < W → AreUpTo 13260 across.right × AreUpTo 255 samples.right }
+    requires left { AreUpTo 13260 across.left × AreUpTo 510 samples.left }
+    requires right { 8 < W → AreUpTo 13260 across.right × AreUpTo 510 samples.right }
     ensures { (p : Samples) (x c y : ℕ) → c ≡ partner_of X → AllSixOfBoth true W p x c y across → AllSixOfBoth false W p x c y samples →
         (u : ℕ) → u < W → slice_index result u ≡ quarter X Y (λ i j. at p (x + u + i) (y + j)) }
 {

@@ -104,16 +104,17 @@ pub fn sum_rounded(a: i16x8, b: i16x8, c: i16x8) -> u16x8
         .cast::<u16>()
 }
 
-/// A 32nd of the differences of two numbers, as samples.
+/// A 32nd of the differences of two numbers and a third one, added, as samples.
 #[inline(always)]
-pub fn difference(a: u16x8, b: u16x8) -> u16x8
+pub fn difference_and(a: u16x8, b: u16x8, more: u16x8) -> u16x8
     requires a { (k : ℕ) → k < 8 → get_or a k 0 ≤ 16383 }
     requires b { (k : ℕ) → k < 8 → get_or b k 0 ≤ 16383 }
-    ensures { (k : ℕ) → k < 8 → get_or result k 0 ≡ clip1 (int_shr (pos (get_or a k 0) -ℤ pos (get_or b k 0)) 5) }
+    requires more { (k : ℕ) → k < 8 → get_or more k 0 ≤ 16383 }
+    ensures { (k : ℕ) → k < 8 → get_or result k 0 ≡ clip1 (int_shr (pos (get_or a k 0) -ℤ pos (get_or b k 0)) 5 +ℤ pos (get_or more k 0)) }
 {
     let parts = (a.cast::<i16>() - b.cast::<i16>()) >> i16x8::splat(5);
-    parts
-        .simd_max(i16x8::splat(0))
+    let sums = parts + more.cast::<i16>();
+    sums.simd_max(i16x8::splat(0))
         .simd_min(i16x8::splat(255))
         .cast::<u16>()
 }

@@ -1,9 +1,9 @@
 ghost use Rattle.std.specs.Prelude.{◌≡◌, ℕ, ◌+◌, ◌<◌, ◌≤◌, length, get_or, ℤ, pos, ◌+ℤ◌};
-ghost use Rattle.h264_plane.specs.Samples.{at};
 ghost use Rattle.h264_inter.specs.Luma.{six};
-ghost use Rattle.h264_inter.specs.Rows.{IsRow, LastFive, AllSix, LastFiveOfBoth, AllSixOfBoth};
+ghost use Rattle.h264_plane.specs.Samples.{Samples, at};
+ghost use Rattle.h264_inter.specs.Rows.{IsRow, IsHeld, LastFive, AllSix, LastFiveOfBoth, AllSixOfBoth};
 
-use crate::lanes::{load, taps8};
+use crate::lanes::{load, plus, taps8};
 use crate::lines::Lines;
 use crate::window::{Window, Windows};
 use std::simd::prelude::*;
@@ -42,6 +42,14 @@ fn row8<const ACROSS: bool>(p: &Lines<'_>, x: usize, c: usize, y: usize, r: usiz
     }
 }
 
+/// A row as a window holds it: values across as they are, samples added to those of the row below.
+#[inline(always)]
+fn held<const ACROSS: bool>(row: u16x8, below: u16x8) -> u16x8
+    ensures { (p : Samples) (x c y r : ℕ) → IsRow ACROSS p x c y r row → IsRow ACROSS p x c y (r + 1) below → IsHeld ACROSS p x c y r result }
+{
+    if ACROSS { row } else { plus(row, below) }
+}
+
 /// A window whose last five rows are those from row `y` on.
 #[inline(always)]
 fn first_rows<const ACROSS: bool>(p: &Lines<'_>, x: usize, c: usize, y: usize) -> Window
@@ -51,13 +59,17 @@ fn first_rows<const ACROSS: bool>(p: &Lines<'_>, x: usize, c: usize, y: usize) -
     ensures { LastFive ACROSS p.now x c y result }
 {
     let f = row8::<ACROSS>(p, x, c, y, 0);
+    let g = row8::<ACROSS>(p, x, c, y, 1);
+    let h = row8::<ACROSS>(p, x, c, y, 2);
+    let i = row8::<ACROSS>(p, x, c, y, 3);
+    let j = row8::<ACROSS>(p, x, c, y, 4);
     Window {
         e: f,
-        f,
-        g: row8::<ACROSS>(p, x, c, y, 1),
-        h: row8::<ACROSS>(p, x, c, y, 2),
-        i: row8::<ACROSS>(p, x, c, y, 3),
-        j: row8::<ACROSS>(p, x, c, y, 4),
+        f: held::<ACROSS>(f, g),
+        g: held::<ACROSS>(g, h),
+        h: held::<ACROSS>(h, i),
+        i: held::<ACROSS>(i, j),
+        j,
     }
 }
 
@@ -70,13 +82,14 @@ fn next_row<const ACROSS: bool>(w: Window, p: &Lines<'_>, x: usize, c: usize, y:
     requires above { LastFive ACROSS p.now x c y w }
     ensures { AllSix ACROSS p.now x c y result }
 {
+    let j = row8::<ACROSS>(p, x, c, y, 5);
     Window {
         e: w.f,
         f: w.g,
         g: w.h,
         h: w.i,
-        i: w.j,
-        j: row8::<ACROSS>(p, x, c, y, 5),
+        i: held::<ACROSS>(w.j, j),
+        j,
     }
 }
 

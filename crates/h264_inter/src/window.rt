@@ -1,6 +1,6 @@
 use std::simd::prelude::*;
 
-/// Six rows of eight numbers, each below the one before.
+/// Six rows of eight numbers, each below the one before: values across, or samples, of which all rows but the last are added to the one below.
 #[derive(Clone, Copy)]
 pub struct Window {
     pub e: u16x8,

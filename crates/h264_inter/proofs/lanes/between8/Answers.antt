@@ -1,4 +1,7 @@
-use Rattle.std.proofs.Common.{◌≡◌, ◌+◌, ◌*◌, get_or, ◌∙◌, arith}
+use Rattle.std.proofs.Common.{◌≡◌, ◌+◌, ◌*◌, get_or, replicate, ap, ◌∙◌, arith, pos, ◌+ℤ◌, ◌-ℤ◌}
+use Rattle.std.proofs.lemmas.Simd.{get_or-replicate}
+use Rattle.std.specs.Int.{int_shr}
+use Rattle.h264_inter.specs.Reference.{clip1}
 use Rattle.h264_inter.proofs.Eight.{between_lane}
 use Rattle.h264_inter.proofs.lanes.between8.Goals as goal
 
@@ -9,4 +12,7 @@ returns-clause-each c k p =
     let up : get_or c.plus-4.result k 0 ≡ get_or a.e k 0 + get_or a.j k 0 + 16 + 20 * (get_or a.g k 0 + get_or a.h k 0) =
     omega (arith, r.e k p, r.j k p, r.g k p, r.h k p, c.plus.ensures k p, c.raised-outer.ensures k p, c.plus-2.ensures k p, c.times-inner.ensures k p, c.plus-4.ensures k p) in
     let down : get_or c.times-between.result k 0 ≡ 5 * (get_or a.f k 0 + get_or a.i k 0) = omega (arith, r.f k p, r.i k p, c.plus-3.ensures k p, c.times-between.ensures k p) in
-    c.difference.ensures k p ∙ rw (up, down) (between_lane (get_or a.e k 0) (get_or a.f k 0) (get_or a.g k 0) (get_or a.h k 0) (get_or a.i k 0) (get_or a.j k 0))
+    let none : get_or (replicate 8 0) k 0 ≡ 0 = get_or-replicate 8 k 0 0 p in
+    c.difference_and.ensures k p
+    ∙ ap (λ n. clip1 (int_shr (pos (get_or c.plus-4.result k 0) -ℤ pos (get_or c.times-between.result k 0)) 5 +ℤ pos n)) none
+    ∙ rw (up, down) (between_lane (get_or a.e k 0) (get_or a.f k 0) (get_or a.g k 0) (get_or a.h k 0) (get_or a.i k 0) (get_or a.j k 0))

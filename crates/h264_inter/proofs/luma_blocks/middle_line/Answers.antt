@@ -3,14 +3,14 @@ use Rattle.std.proofs.lemmas.List.{get_or-take}
 use Rattle.h264_plane.specs.Samples.{at}
 use Rattle.h264_inter.specs.Luma.{quarter}
 use Rattle.h264_inter.proofs.Blocks.{block_more, row_inside}
-use Rattle.h264_inter.proofs.Moved.{both_moved, samples_up_to, sums_up_to}
+use Rattle.h264_inter.proofs.Moved.{both_moved, sums_up_to, values_up_to}
 use Rattle.h264_inter.proofs.luma_blocks.middle_line.Goals as goal
 
 pub middle_row-row-requires-clause-left : goal.middle_row-row-requires-clause-left
-middle_row-row-requires-clause-left g c = (sums_up_to _ _ _ _ _ c.next_windows-across.ensures.left, samples_up_to _ _ _ _ _ c.next_windows-samples.ensures.left)
+middle_row-row-requires-clause-left g c = (values_up_to _ _ _ _ _ c.next_windows-across.ensures.left, sums_up_to _ _ _ _ _ c.next_windows-samples.ensures.left)
 
 pub middle_row-row-requires-clause-right : goal.middle_row-row-requires-clause-right
-middle_row-row-requires-clause-right g c more = (sums_up_to _ _ _ _ _ (c.next_windows-across.ensures.right more), samples_up_to _ _ _ _ _ (c.next_windows-samples.ensures.right more))
+middle_row-row-requires-clause-right g c more = (values_up_to _ _ _ _ _ (c.next_windows-across.ensures.right more), sums_up_to _ _ _ _ _ (c.next_windows-samples.ensures.right more))
 
 pub returns-clause-across : goal.returns-clause-across
 returns-clause-across g c = both_moved true g.row.W c.args.p.now c.args.x c.args.c (c.args.y + c.args.v) (c.args.y + (c.args.v + 1)) _ (omega arith) c.next_windows-across.ensures
