@@ -108,6 +108,15 @@ entry-short table y e f =
     let few = (row-short (rows_of table) r.0 (rows_of-words table) is.0).few in
     omega arith
 
+-- so is one that stands for no word
+pub entry_if-short : (coded : Bool) (table : Table) (y : ℕ) (e : Entry) → (coded ≡ true → Some e ≡ option_map entry_of (front_of 16 (rows_of table) y)) → (coded ≡ false → Some e ≡ Some (record { length = 0; value = 0 })) → e.length ≤ 16
+entry_if-short true table y e word nothing = entry-short table y e (word refl)
+entry_if-short false table y e word nothing = let none : e.length ≡ 0 = ap length-of (nothing refl) in omega arith
+  where
+    length-of : Option Entry → ℕ
+    length-of None = 0
+    length-of (Some x) = x.length
+
 -- the same by what was found
 module _ (table : Table) (bytes : List ℕ) (i y : ℕ) (is : y ≡ peek_at 16 bytes i) where
   pub entry-inside : (e : Entry) → Some e ≡ option_map entry_of (front_of 16 (rows_of table) y) → e.length ≤ 8 * length bytes - i → value_at (Words (code_table table)) bytes i ≡ Some (pos e.value, i + e.length)

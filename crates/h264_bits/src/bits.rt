@@ -1,7 +1,7 @@
 //! The bits of an RBSP, read one code word after another.
 #![tactic(auto)]
 
-ghost use Rattle.std.specs.Prelude.{◌≡◌, ℕ, ℤ, pos, neg_ℤ, ◌+◌, ◌-◌, ◌*◌, ◌<◌, ◌≤◌, ◌≤ℤ◌, ◌^◌, length, OnOk, OnErr, IfOk, IfSome, Option, None};
+ghost use Rattle.std.specs.Prelude.{◌≡◌, ℕ, ℤ, pos, neg_ℤ, ◌+◌, ◌-◌, ◌*◌, ◌<◌, ◌≤◌, ◌≤ℤ◌, ◌^◌, length, OnOk, OnErr, IfOk, IfSome, Option, Some, None, Ok, true, false};
 ghost use Rattle.std.specs.Option.{option_map};
 ghost use Rattle.h264_base.specs.Body.{Body, place};
 ghost use Rattle.h264_base.specs.Word.{Fixed, Unsigned, Signed, Words, Reads, no_zero_at, padding};
@@ -98,6 +98,15 @@ impl<'a> Bits<'a> {
             self.upcoming = loaded(self.bytes, self.at, self.stretch.last);
         }
         first_of(self.upcoming, n)
+    }
+
+    /// Loads the bits that come next, as many as one load gives. It changes nothing that is read; the elements that follow then seldom need a load of
+    /// their own, whose place is predicted wrongly.
+    #[inline(always)]
+    pub fn load_ahead(&mut self)
+        ensures { self.new ≡ self.old }
+    {
+        self.upcoming = loaded(self.bytes, self.at, self.stretch.last);
     }
 
     /// Passes `n` bits, and none where fewer are left.
@@ -253,6 +262,27 @@ impl<'a> Bits<'a> {
         ensures small { IfOk result (λ v. v ≤ greatest_value table) }
         ensures none { OnErr result (HasNoWord (Words (code_table table)) self.old.body.bytes self.old.at) }
         ensures kept { OnErr result (self.new ≡ self.old) }
+    {
+        self.entry_if(true, table, entry)
+    }
+
+    /// Reads a word of a table, as `entry`, where one is coded. Where none is, its entry is one of no bits and of value 0, so that no choice stands here.
+    #[inline(always)]
+    pub fn entry_if(
+        &mut self,
+        coded: bool,
+        table: Table,
+        entry: Option<Entry>,
+    ) -> Result<u8, NoWord>
+        requires word { coded ≡ true → entry ≡ option_map entry_of (front_of 16 (rows_of table) (peek_at 16 self.old.body.bytes self.old.at)) }
+        requires known { coded ≡ true → IfSome entry (λ e. e.value ≤ greatest_value table) }
+        requires nothing { coded ≡ false → entry ≡ Some (record { length = 0; value = 0 }) }
+        ensures word { coded ≡ true → IfOk result (λ v. Reads (Words (code_table table)) self.old.body.bytes self.old.at (pos v) self.new.at) }
+        ensures body { self.new.body ≡ self.old.body }
+        ensures small { coded ≡ true → IfOk result (λ v. v ≤ greatest_value table) }
+        ensures none { coded ≡ true → OnErr result (HasNoWord (Words (code_table table)) self.old.body.bytes self.old.at) }
+        ensures kept { OnErr result (self.new ≡ self.old) }
+        ensures nothing { coded ≡ false → (result ≡ Ok 0) × (self.new ≡ self.old) }
     {
         let Some(entry) = entry else {
             return Err(NoWord);

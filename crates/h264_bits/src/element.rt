@@ -1,9 +1,9 @@
 //! Syntax elements, each read and told to a sink (7.2, 7.3).
 #![tactic(auto)]
 
-ghost use Rattle.std.specs.Prelude.{◌≡◌, ℕ, ℤ, pos, neg_ℤ, ◌-◌, ◌<◌, ◌≤◌, ◌≤ℤ◌, ◌^◌, length, OnOk, IfOk, IfSome, Option, Ok};
+ghost use Rattle.std.specs.Prelude.{◌≡◌, ℕ, ℤ, pos, neg_ℤ, ◌-◌, ◌<◌, ◌≤◌, ◌≤ℤ◌, ◌^◌, length, OnOk, IfOk, IfSome, Option, Some, Ok, true, false};
 ghost use Rattle.h264_base.specs.Word.{Fixed, Unsigned, Signed, Words};
-ghost use Rattle.h264_base.specs.Grammar.{read_word as word_form, element, residual_element, more, align, raw_bytes, trailing};
+ghost use Rattle.h264_base.specs.Grammar.{Done, read_word as word_form, element, residual_element, more, align, raw_bytes, trailing};
 ghost use Rattle.h264_base.specs.Meets.{Meets, Is, Checks};
 ghost use Rattle.std.specs.Option.{option_map};
 ghost use Rattle.h264_bits.specs.Peek.{peek_at};
@@ -291,6 +291,40 @@ pub fn read_entry<S: Elements>(
         Ok(()) => Ok(Found { bit, value }),
         Err(_) => Err(Stop::Write),
     }
+}
+
+/// Reads an element by a table of words, as `read_entry`, where one is coded. Where none is, its entry is one of no bits and of value 0, nothing is told,
+/// and the value is 0: for a sink that forgets what it is told no choice is left.
+#[inline(always)]
+pub fn read_entry_if<S: Elements>(
+    bits: &mut Bits,
+    coded: bool,
+    rule: Rule,
+    name: ElementName,
+    table: Table,
+    entry: Option<Entry>,
+    sink: &mut S,
+) -> Result<Found<u8>, Stop>
+    requires word { coded ≡ true → entry ≡ option_map entry_of (front_of 16 (rows_of table) (peek_at 16 bits.old.body.bytes bits.old.at)) }
+    requires known { coded ≡ true → IfSome entry (λ e. e.value ≤ greatest_value table) }
+    requires nothing { coded ≡ false → entry ≡ Some (record { length = 0; value = 0 }) }
+    requires room { S.failures sink.old < 2 ^ 64 - 1 }
+    ensures meets { coded ≡ true → Meets S.took S.failures (Is seen_unsigned) (word_form rule name (Words (code_table table))) bits.old bits.new sink.old sink.new result }
+    ensures nothing { coded ≡ false → Meets S.took S.failures (Is (λ f. f.value)) (Done 0) bits.old bits.new sink.old sink.new result }
+    ensures small { coded ≡ true → IfOk result (λ f. f.value ≤ greatest_value table) }
+    ensures zero { coded ≡ false → IfOk result (λ f. f.value ≡ 0) }
+    ensures quiet { OnOk result (S.failures sink.new ≡ S.failures sink.old) }
+{
+    let bit = bits.stream_bit();
+    let Ok(value) = bits.entry_if(coded, table, entry) else {
+        return Err(Stop::No { bit, rule });
+    };
+    if coded {
+        let Ok(()) = sink.element(name, bit, value as i64) else {
+            return Err(Stop::Write);
+        };
+    }
+    Ok(Found { bit, value })
 }
 
 /// Takes `n` bytes, as those of a PCM macroblock, which the sink is not told. The bit that is next is the first of a byte.

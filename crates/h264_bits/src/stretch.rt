@@ -7,7 +7,10 @@ ghost use Rattle.h264_bits.specs.Stretch.{IsStretch};
 use h264_rbsp::Rbsp;
 
 /// How far ahead the end of a stretch is looked for, in bits.
-const FAR: usize = 512;
+const FAR: usize = 2048;
+
+/// The same where a byte was dropped before that.
+const NEAR: usize = 512;
 
 /// Bits of an RBSP that stand together in the stream.
 #[derive(Clone, Copy)]
@@ -18,19 +21,23 @@ pub struct Stretch {
     pub last: usize,
 }
 
-/// Bits from bit `i` on that stand together: the next 512, or all that are left, where these do.
+/// Bits from bit `i` on that stand together: the next 2048, or all that are left, where these do; else the next 512, or those up to the end of the byte.
 #[cold]
 #[inline(never)]
 pub fn stretch_from(rbsp: &Rbsp, i: usize) -> Stretch
     requires { i ≤ 8 * length rbsp.now.bytes }
     ensures stands { IsStretch rbsp.now i result }
-    ensures found { (s : Stretch) → IsStretch rbsp.now i s → s.last ≡ min (i + 512) (8 * length rbsp.now.bytes) → result ≡ s }
+    ensures found { (s : Stretch) → IsStretch rbsp.now i s → s.last ≡ min (i + 2048) (8 * length rbsp.now.bytes) → result ≡ s }
 {
     let end = 8 * rbsp.bytes().len();
     let shift = rbsp.stream_bit(i) - i as u64;
     let far = (i + FAR).min(end);
     if rbsp.stream_bit(far) - far as u64 == shift {
         return Stretch { shift, last: far };
+    }
+    let near = (i + NEAR).min(end);
+    if rbsp.stream_bit(near) - near as u64 == shift {
+        return Stretch { shift, last: near };
     }
     Stretch {
         shift,

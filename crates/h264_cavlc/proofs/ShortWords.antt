@@ -1,7 +1,7 @@
 -- The words of run_before by three bits, those of total_zeros by six or nine, and those of coeff_token by eight.
-use Rattle.std.proofs.Common.{◌≡◌, ◌≢◌, ℕ, zero, suc, ◌+◌, ◌*◌, ◌-◌, ◌/◌, ◌^◌, ◌<◌, ◌≤◌, Bool, true, false, ◌&&◌, List, [], ◌∷◌, length, take, drop, get_or, min, nat_lt, Option, Some, None, inl, inr, lt-ltb, refl, ap, ◌∙◌, arith}
+use Rattle.std.proofs.Common.{◌≡◌, ◌≢◌, ℕ, zero, suc, ◌+◌, ◌*◌, ◌-◌, ◌/◌, ◌^◌, ◌<◌, ◌≤◌, Bool, true, false, ◌&&◌, ◌||◌, List, [], ◌∷◌, length, take, drop, get_or, min, nat_lt, ◌==◌, Option, Some, None, inl, inr, lt-ltb, refl, ap, ◌∙◌, arith}
 use Rattle.std.specs.Option.{option_map}
-use Rattle.std.proofs.lemmas.Bool.{and_parts, ne_eqb, ltb-true, cases_lt}
+use Rattle.std.proofs.lemmas.Bool.{and_parts, eqb-true, ne_eqb, ltb-true, cases_lt}
 use Rattle.std.proofs.lemmas.List.{get_or-take, get_or-drop}
 use Rattle.h264_base.specs.Table.{Row}
 use Rattle.h264_tables.specs.Front.{front_of, found_of}
@@ -75,9 +75,34 @@ found-some m s n y lengths values rows j long all some =
     let fits = some-fit-at s 0 (y / 2 ^ s) (part m n lengths) (part m n values) rows all (omega arith) (rw here some) in
     entry-is 16 s y _ _ rows (rw (zero_more, here, part-at m n values (y / 2 ^ s) j) at fits)
 
-three-bits : (n y : ℕ) (rows : List Row) → y < 2 ^ 16 → length (part 8 n run.WORD_LENGTHS) ≡ 8 → some_fit 13 0 (part 8 n run.WORD_LENGTHS) (part 8 n run.WORD_VALUES) rows ≡ true → 0 < get_or run.WORD_LENGTHS (n + y / 2 ^ 13) 0 →
-    (get_or run.WORD_LENGTHS (n + y / 2 ^ 13) 0, get_or run.WORD_VALUES (n + y / 2 ^ 13) 0) ≡ found_of (front_of 16 rows y)
-three-bits n y rows h long all some = found-some 8 13 n y run.WORD_LENGTHS run.WORD_VALUES rows (omega arith) long all some
+-- as all_fit, but a length of 16 says nothing
+unfoldable short_fit : ℕ → ℕ → List ℕ → List ℕ → List Row → Bool
+short_fit s k [] values rows = true
+short_fit s k (l ∷ lengths) [] rows = false
+short_fit s k (l ∷ lengths) (v ∷ values) rows = (l == 16 || (nat_lt 0 l && entry_fits 16 s k l v rows)) && short_fit s (suc k) lengths values rows
+
+short-fit-at : (s k j : ℕ) (lengths values : List ℕ) (rows : List Row) → short_fit s k lengths values rows ≡ true → j < length lengths → get_or lengths j 0 ≢ 16 →
+    (0 < get_or lengths j 0) × (entry_fits 16 s (k + j) (get_or lengths j 0) (get_or values j 0) rows ≡ true)
+unfolding short_fit
+short-fit-at s k j [] values rows h g other = absurd (omega arith)
+short-fit-at s k j (l ∷ lengths) [] rows h g other = absurd (cc)
+short-fit-at s k zero (l ∷ lengths) (v ∷ values) rows h g other =
+    let e : k + 0 ≡ k = omega arith in
+    let here : (l == 16 || (nat_lt 0 l && entry_fits 16 s k l v rows)) ≡ true = (and_parts _ _ h).0 in
+    let fits = rw (ne_eqb l 16 other) at here in
+    rw e (ltb-true _ _ (and_parts _ _ fits).0, (and_parts _ _ fits).1)
+short-fit-at s k (suc j) (l ∷ lengths) (v ∷ values) rows h g other = let e : k + suc j ≡ suc k + j = omega arith in rw e (short-fit-at s (suc k) j lengths values rows (and_parts _ _ h).1 (omega arith) other)
+
+three-bits : (n y : ℕ) (rows : List Row) → y < 2 ^ 16 → length (part 8 n run.WORD_LENGTHS) ≡ 8 → short_fit 13 0 (part 8 n run.WORD_LENGTHS) (part 8 n run.WORD_VALUES) rows ≡ true → get_or run.WORD_LENGTHS (n + y / 2 ^ 13) 0 ≢ 16 →
+    (0 < get_or run.WORD_LENGTHS (n + y / 2 ^ 13) 0) × ((get_or run.WORD_LENGTHS (n + y / 2 ^ 13) 0, get_or run.WORD_VALUES (n + y / 2 ^ 13) 0) ≡ found_of (front_of 16 rows y))
+three-bits n y rows h long all other =
+    let j : y / 2 ^ 13 < 8 = omega arith in
+    let zero_more : 0 + y / 2 ^ 13 ≡ y / 2 ^ 13 = omega arith in
+    let lengths = part-at 8 n run.WORD_LENGTHS (y / 2 ^ 13) j in
+    let values = part-at 8 n run.WORD_VALUES (y / 2 ^ 13) j in
+    let fits = short-fit-at 13 0 (y / 2 ^ 13) (part 8 n run.WORD_LENGTHS) (part 8 n run.WORD_VALUES) rows all (omega arith) (rw lengths other) in
+    let same = rw (zero_more, lengths, values) at fits in
+    (same.0, entry-is 16 13 y _ _ rows same.1)
 
 six-bits : (n y : ℕ) (rows : List Row) → y < 2 ^ 16 → length (part 64 n total.WORD_LENGTHS) ≡ 64 → all_fit 10 0 (part 64 n total.WORD_LENGTHS) (part 64 n total.WORD_VALUES) rows ≡ true →
     (get_or total.WORD_LENGTHS (n + y / 2 ^ 10) 0, get_or total.WORD_VALUES (n + y / 2 ^ 10) 0) ≡ found_of (front_of 16 rows y)
@@ -87,52 +112,74 @@ eight-bits : (m n y : ℕ) (rows : List Row) → n ≡ m → y < 2 ^ 16 → leng
     (get_or token.WORD_LENGTHS (n + y / 2 ^ 8) 0, get_or token.WORD_VALUES (n + y / 2 ^ 8) 0) ≡ found_of (front_of 16 rows y)
 eight-bits m n y rows e h long all some = rw e (found-some 256 8 m y token.WORD_LENGTHS token.WORD_VALUES rows (omega arith) long all (rw e at some))
 
-pub short-found : (z y : ℕ) → 0 < z → z ≤ 15 → y < 2 ^ 16 → 0 < get_or run.WORD_LENGTHS (8 * (z - 1) + y / 2 ^ 13) 0 →
-    (get_or run.WORD_LENGTHS (8 * (z - 1) + y / 2 ^ 13) 0, get_or run.WORD_VALUES (8 * (z - 1) + y / 2 ^ 13) 0) ≡ found_of (front_of 16 (rows_of (run_before_table z)) y)
-unfolding part some_fit entry_fits agrees run_before_table run_before_tables run_before_1 run_before_2 run_before_3 run_before_4 run_before_5 run_before_6 run_before_7
-short-found zero y p q h some = absurd (omega arith)
-short-found (suc zero) y p q h some = three-bits 0 y run_before_1 h refl refl some
-short-found (suc (suc zero)) y p q h some = three-bits 8 y run_before_2 h refl refl some
-short-found (suc (suc (suc zero))) y p q h some = three-bits 16 y run_before_3 h refl refl some
-short-found (suc (suc (suc (suc zero)))) y p q h some = three-bits 24 y run_before_4 h refl refl some
-short-found (suc (suc (suc (suc (suc zero))))) y p q h some = three-bits 32 y run_before_5 h refl refl some
-short-found (suc (suc (suc (suc (suc (suc zero)))))) y p q h some = three-bits 40 y run_before_6 h refl refl some
-short-found (suc (suc (suc (suc (suc (suc (suc zero))))))) y p q h some = three-bits 48 y run_before_7 h refl refl some
-short-found (suc (suc (suc (suc (suc (suc (suc (suc zero)))))))) y p q h some = three-bits 56 y run_before_7 h refl refl some
-short-found (suc (suc (suc (suc (suc (suc (suc (suc (suc zero))))))))) y p q h some = three-bits 64 y run_before_7 h refl refl some
-short-found (suc (suc (suc (suc (suc (suc (suc (suc (suc (suc zero)))))))))) y p q h some = three-bits 72 y run_before_7 h refl refl some
-short-found (suc (suc (suc (suc (suc (suc (suc (suc (suc (suc (suc zero))))))))))) y p q h some = three-bits 80 y run_before_7 h refl refl some
-short-found (suc (suc (suc (suc (suc (suc (suc (suc (suc (suc (suc (suc zero)))))))))))) y p q h some = three-bits 88 y run_before_7 h refl refl some
-short-found (suc (suc (suc (suc (suc (suc (suc (suc (suc (suc (suc (suc (suc zero))))))))))))) y p q h some = three-bits 96 y run_before_7 h refl refl some
-short-found (suc (suc (suc (suc (suc (suc (suc (suc (suc (suc (suc (suc (suc (suc zero)))))))))))))) y p q h some = three-bits 104 y run_before_7 h refl refl some
-short-found (suc (suc (suc (suc (suc (suc (suc (suc (suc (suc (suc (suc (suc (suc (suc zero))))))))))))))) y p q h some = three-bits 112 y run_before_7 h refl refl some
-short-found (suc (suc (suc (suc (suc (suc (suc (suc (suc (suc (suc (suc (suc (suc (suc (suc z)))))))))))))))) y p q h some = absurd (omega arith)
+pub short-found : (z y : ℕ) → 0 < z → z ≤ 15 → y < 2 ^ 16 → get_or run.WORD_LENGTHS (8 * z + y / 2 ^ 13) 0 ≢ 16 →
+    (0 < get_or run.WORD_LENGTHS (8 * z + y / 2 ^ 13) 0) × ((get_or run.WORD_LENGTHS (8 * z + y / 2 ^ 13) 0, get_or run.WORD_VALUES (8 * z + y / 2 ^ 13) 0) ≡ found_of (front_of 16 (rows_of (run_before_table z)) y))
+unfolding part short_fit entry_fits agrees run_before_table run_before_tables run_before_1 run_before_2 run_before_3 run_before_4 run_before_5 run_before_6 run_before_7
+short-found zero y p q h other = absurd (omega arith)
+short-found (suc zero) y p q h other = three-bits 8 y run_before_1 h refl refl other
+short-found (suc (suc zero)) y p q h other = three-bits 16 y run_before_2 h refl refl other
+short-found (suc (suc (suc zero))) y p q h other = three-bits 24 y run_before_3 h refl refl other
+short-found (suc (suc (suc (suc zero)))) y p q h other = three-bits 32 y run_before_4 h refl refl other
+short-found (suc (suc (suc (suc (suc zero))))) y p q h other = three-bits 40 y run_before_5 h refl refl other
+short-found (suc (suc (suc (suc (suc (suc zero)))))) y p q h other = three-bits 48 y run_before_6 h refl refl other
+short-found (suc (suc (suc (suc (suc (suc (suc zero))))))) y p q h other = three-bits 56 y run_before_7 h refl refl other
+short-found (suc (suc (suc (suc (suc (suc (suc (suc zero)))))))) y p q h other = three-bits 64 y run_before_7 h refl refl other
+short-found (suc (suc (suc (suc (suc (suc (suc (suc (suc zero))))))))) y p q h other = three-bits 72 y run_before_7 h refl refl other
+short-found (suc (suc (suc (suc (suc (suc (suc (suc (suc (suc zero)))))))))) y p q h other = three-bits 80 y run_before_7 h refl refl other
+short-found (suc (suc (suc (suc (suc (suc (suc (suc (suc (suc (suc zero))))))))))) y p q h other = three-bits 88 y run_before_7 h refl refl other
+short-found (suc (suc (suc (suc (suc (suc (suc (suc (suc (suc (suc (suc zero)))))))))))) y p q h other = three-bits 96 y run_before_7 h refl refl other
+short-found (suc (suc (suc (suc (suc (suc (suc (suc (suc (suc (suc (suc (suc zero))))))))))))) y p q h other = three-bits 104 y run_before_7 h refl refl other
+short-found (suc (suc (suc (suc (suc (suc (suc (suc (suc (suc (suc (suc (suc (suc zero)))))))))))))) y p q h other = three-bits 112 y run_before_7 h refl refl other
+short-found (suc (suc (suc (suc (suc (suc (suc (suc (suc (suc (suc (suc (suc (suc (suc zero))))))))))))))) y p q h other = three-bits 120 y run_before_7 h refl refl other
+short-found (suc (suc (suc (suc (suc (suc (suc (suc (suc (suc (suc (suc (suc (suc (suc (suc z)))))))))))))))) y p q h other = absurd (omega arith)
 
-unfoldable has_no_zero : List ℕ → Bool
-has_no_zero [] = true
-has_no_zero (x ∷ xs) = nat_lt 0 x && has_no_zero xs
+-- up to zerosLeft 6 no word has more than three bits
+unfoldable has_no_16 : List ℕ → Bool
+has_no_16 [] = true
+has_no_16 (x ∷ xs) = nat_lt x 16 && has_no_16 xs
 
-no-zero-at : (xs : List ℕ) (k : ℕ) → has_no_zero xs ≡ true → k < length xs → 0 < get_or xs k 0
-unfolding has_no_zero
-no-zero-at [] k e h = absurd (omega arith)
-no-zero-at (x ∷ xs) zero e h = ltb-true _ _ (and_parts _ _ e).0
-no-zero-at (x ∷ xs) (suc k) e h = no-zero-at xs k (and_parts _ _ e).1 (omega arith)
+no-16-at : (xs : List ℕ) (k : ℕ) → has_no_16 xs ≡ true → k < length xs → get_or xs k 0 < 16
+unfolding has_no_16
+no-16-at [] k e h = absurd (omega arith)
+no-16-at (x ∷ xs) zero e h = ltb-true _ _ (and_parts _ _ e).0
+no-16-at (x ∷ xs) (suc k) e h = no-16-at xs k (and_parts _ _ e).1 (omega arith)
 
--- up to zerosLeft 6 any three bits begin with a word
-short-there : (z y : ℕ) → 0 < z → z ≤ 6 → y < 2 ^ 16 → 0 < get_or run.WORD_LENGTHS (8 * (z - 1) + y / 2 ^ 13) 0
-unfolding part has_no_zero
-short-there z y p q h =
-    let t = no-zero-at (part 48 0 run.WORD_LENGTHS) (8 * (z - 1) + y / 2 ^ 13) refl in
-    let long : length (part 48 0 run.WORD_LENGTHS) ≡ 48 = refl in
-    let e = part-at 48 0 run.WORD_LENGTHS (8 * (z - 1) + y / 2 ^ 13) (omega arith) in
-    let f : 0 + (8 * (z - 1) + y / 2 ^ 13) ≡ 8 * (z - 1) + y / 2 ^ 13 = omega arith in
-    rw (e, f) at (t (omega arith))
+few-short : (z y : ℕ) → z ≤ 6 → y < 2 ^ 16 → get_or run.WORD_LENGTHS (8 * z + y / 2 ^ 13) 0 < 16
+unfolding part has_no_16
+few-short z y q h =
+    let j = 8 * z + y / 2 ^ 13 in
+    let e = part-at 56 0 run.WORD_LENGTHS j (omega arith) in
+    let f : 0 + j ≡ j = omega arith in
+    let long : length (part 56 0 run.WORD_LENGTHS) ≡ 56 = refl in
+    rw (e, f) at (no-16-at (part 56 0 run.WORD_LENGTHS) j refl (omega arith))
 
-pub short-long : (z y : ℕ) → 0 < z → y < 2 ^ 16 → get_or run.WORD_LENGTHS (8 * (z - 1) + y / 2 ^ 13) 0 ≡ 0 → 6 < z
-short-long z y p h none = elim (cases_lt 6 z) [
+pub short-long : (z y : ℕ) → y < 2 ^ 16 → get_or run.WORD_LENGTHS (8 * z + y / 2 ^ 13) 0 ≡ 16 → 6 < z
+short-long z y h long = elim (cases_lt 6 z) [
   | inl many ↦ many
-  | inr few ↦ let t = short-there z y p (omega arith) h in absurd (omega arith)
+  | inr few ↦ let t = few-short z y (omega arith) h in absurd (omega arith)
 ]
+
+-- where no zeros are left
+unfoldable is_empty : List ℕ → Bool
+is_empty [] = true
+is_empty (x ∷ xs) = x == 0 && is_empty xs
+
+empty-at : (xs : List ℕ) (k : ℕ) → is_empty xs ≡ true → k < length xs → get_or xs k 0 ≡ 0
+unfolding is_empty
+empty-at [] k e h = absurd (omega arith)
+empty-at (x ∷ xs) zero e h = eqb-true _ _ (and_parts _ _ e).0
+empty-at (x ∷ xs) (suc k) e h = empty-at xs k (and_parts _ _ e).1 (omega arith)
+
+pub short-none : (z y : ℕ) → z ≡ 0 → y < 2 ^ 16 → ◌≡◌ {A = ℕ × ℕ} (get_or run.WORD_LENGTHS (8 * z + y / 2 ^ 13) 0, get_or run.WORD_VALUES (8 * z + y / 2 ^ 13) 0) (0, 0)
+unfolding part is_empty
+short-none z y none h =
+    let j = y / 2 ^ 13 in
+    let f : 8 * z + j ≡ 0 + j = omega arith in
+    let a = part-at 8 0 run.WORD_LENGTHS j (omega arith) in
+    let b = part-at 8 0 run.WORD_VALUES j (omega arith) in
+    let lengths : length (part 8 0 run.WORD_LENGTHS) ≡ 8 = refl in
+    let nothing = empty-at (part 8 0 run.WORD_LENGTHS) j refl (omega arith) in
+    rw (f, ← a, ← b, nothing) refl
 
 pub six-found : (t y : ℕ) → 1 < t → t ≤ 15 → y < 2 ^ 16 →
     (get_or total.WORD_LENGTHS (64 * (t - 2) + y / 2 ^ 10) 0, get_or total.WORD_VALUES (64 * (t - 2) + y / 2 ^ 10) 0) ≡ found_of (front_of 16 (rows_of (total_zeros_table 16 t)) y)

@@ -125,6 +125,7 @@ fn read_coefficients<const N: usize, S: Elements>(
     if token.total == 1 {
         read_one::<N, S>(bits, token, by_place, sink)
     } else {
+        bits.load_ahead();
         read_several::<N, S>(bits, token, by_place, sink)
     }
 }

@@ -6,11 +6,11 @@ ghost use Rattle.h264_base.specs.Meets.{Meets, Is};
 ghost use Rattle.h264_cavlc.specs.Zeros as syntax;
 ghost use Rattle.h264_cavlc.specs.Place.{by_place as standing};
 
-use crate::runs::run_before_word;
+use crate::runs::{LONG, short_run_word};
 use crate::totals::{total_zeros_table, total_zeros_word};
 use h264_base::{ElementName, Elements, Rule, Stop};
-use h264_bits::{Bits, check, read_entry};
-use h264_tables::Table;
+use h264_bits::{Bits, check, read_entry, read_entry_if, read_word};
+use h264_tables::{Entry, Table};
 
 /// Reads total_zeros of a block that has `total` coefficients.
 #[inline(always)]
@@ -49,17 +49,39 @@ pub(crate) fn read_total_zeros<S: Elements>(
     Ok(zeros)
 }
 
-/// The table of run_before.
+/// The table of run_before, where one is coded.
 #[tactic(auto, unfolding(crate::specs::Zeros::run_before_table))]
 #[inline(always)]
 fn run_before_table(zeros_left: u8) -> Table
-    requires { 0 < zeros_left }
-    ensures { result ≡ syntax.run_before_table zeros_left }
+    ensures { 0 < zeros_left → result ≡ syntax.run_before_table zeros_left }
 {
-    Table::run_before(zeros_left)
+    Table::run_before(zeros_left.max(1))
 }
 
-/// Reads run_before.
+/// Reads run_before where more than six zeros are left, of a word of any length.
+#[inline(always)]
+fn read_long_run_before<S: Elements>(
+    bits: &mut Bits,
+    zeros_left: u8,
+    sink: &mut S,
+) -> Result<u8, Stop>
+    requires many { 6 < zeros_left }
+    requires room { S.failures sink.old < 2 ^ 64 - 1 }
+    ensures meets { Meets S.took S.failures (Is (λ x. x)) (syntax.run_before zeros_left) bits.old bits.new sink.old sink.new result }
+    ensures within { IfOk result (λ r. r ≤ zeros_left) }
+{
+    let found = read_word(
+        bits,
+        Rule::ResidualWord,
+        ElementName::RunBefore,
+        Table::RunBefore7,
+        sink,
+    )?;
+    check(found.value <= zeros_left, Rule::BlockSize, found.bit)?;
+    Ok(found.value)
+}
+
+/// Reads run_before. Where no zeros are left none is coded, and a word of no bits stands for it: a choice there would often be predicted wrongly.
 #[inline(always)]
 fn read_run_before<S: Elements>(bits: &mut Bits, zeros_left: u8, sink: &mut S) -> Result<u8, Stop>
     requires few { zeros_left ≤ 15 }
@@ -67,17 +89,18 @@ fn read_run_before<S: Elements>(bits: &mut Bits, zeros_left: u8, sink: &mut S) -
     ensures meets { Meets S.took S.failures (Is (λ x. x)) (syntax.run_before zeros_left) bits.old bits.new sink.old sink.new result }
     ensures within { IfOk result (λ r. r ≤ zeros_left) }
 {
-    if zeros_left == 0 {
-        return Ok(0);
-    }
     let table = run_before_table(zeros_left);
-    let entry = run_before_word(zeros_left, bits.next_16());
-    let found = read_entry(
+    let (length, value) = short_run_word(zeros_left, bits.next_16());
+    if length == LONG {
+        return read_long_run_before(bits, zeros_left, sink);
+    }
+    let found = read_entry_if(
         bits,
+        zeros_left > 0,
         Rule::ResidualWord,
         ElementName::RunBefore,
         table,
-        entry,
+        Some(Entry { length, value }),
         sink,
     )?;
     let run = found.value;

@@ -30,6 +30,34 @@ returns-then-stream_bit-far-clause-found c s stands most =
     let last : c.min-far.result ≡ s.last = omega arith in
     rw (shift, last) refl
 
+pub overflow_sub-stream_bit-2 : goal.overflow_sub-stream_bit-2
+overflow_sub-stream_bit-2 c = let b = place-behind c.args.rbsp.now c.min-near.result in let e = c.stream_bit-3.ensures in omega arith
+
+pub returns-then-stream_bit-near-clause-stands : goal.returns-then-stream_bit-near-clause-stands
+returns-then-stream_bit-near-clause-stands c =
+    let l = ap (λ (b : List ℕ). length b) c.bytes.ensures.bytes in
+    let m = c.min-near.ensures in
+    let a = place-behind c.args.rbsp.now c.args.i in
+    let b = place-behind c.args.rbsp.now c.min-near.result in
+    let d = c.stream_bit.ensures in
+    let e = c.stream_bit-3.ensures in
+    let same = c.if-stream_bit-near.true in
+    let fits = c.stream_bit-3.type_inv in
+    between c.args.rbsp.now c.args.i c.min-near.result (c.stream_bit.result - c.args.i) (omega arith) (omega arith) (omega arith) (omega arith) (omega arith)
+
+pub returns-then-stream_bit-near-clause-found : goal.returns-then-stream_bit-near-clause-found
+returns-then-stream_bit-near-clause-found c s stands most =
+    let l = ap (λ (b : List ℕ). length b) c.bytes.ensures.bytes in
+    let m = c.min-far.ensures in
+    let d = c.stream_bit.ensures in
+    let e = c.stream_bit-2.ensures in
+    let ends = ends-of c.args.rbsp.now c.args.i s stands in
+    let p = ends.0 in
+    let last : c.min-far.result ≡ s.last = omega arith in
+    let q = rw (← last) at ends.1 in
+    let other = c.if-stream_bit-far.false in
+    absurd (omega arith)
+
 pub returns-clause-found : goal.returns-clause-found
 returns-clause-found c s stands most =
     let l = ap (λ (b : List ℕ). length b) c.bytes.ensures.bytes in
