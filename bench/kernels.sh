@@ -21,7 +21,7 @@ done
 cp "$top/bench/kernels/kernels.rs" "$top/bench/kernels/blocks.rs" "$work/"
 python3 "$top/bench/kernels/tables.py" "$top/crates/h264_tables" > "$work/tables.rs"
 rustc --edition 2021 -C opt-level=3 -C target-cpu=x86-64-v2 "$work/kernels.rs" -o "$work/rust"
-python3 - "$work/crates/kernels/out/kernels" "$work/rust" "${1:-5}" <<'PYTHON'
+python3 - "$work/crates/kernels/out/kernels" "$work/rust" "${1:-15}" <<'PYTHON'
 import subprocess, sys
 
 programs, runs = sys.argv[1:3], int(sys.argv[3])

@@ -475,7 +475,7 @@ pub fn all() {
             put_block(&mut out, &block, count);
         }
         out.put(1, 1);
-        time(&format!("levels_{count}"), || (0..20).fold(0u32, |sum, _| sum.wrapping_mul(7).wrapping_add(read(&out.bytes, 4000, count))));
+        time(&format!("levels_{count}"), || (0..100).fold(0u32, |sum, _| sum.wrapping_mul(7).wrapping_add(read(&out.bytes, 4000, count))));
     }
     for count in [1, 3, 8] {
         time(&format!("residual_{count}"), || residual(count));
