@@ -267,6 +267,7 @@ impl<'a> Bits<'a> {
     }
 
     /// Reads a word of a table, as `entry`, where one is coded. Where none is, its entry is one of no bits and of value 0, so that no choice stands here.
+    /// NoWord: one is coded, and no word stands there, or the bits end before its end; then no bit is passed.
     #[inline(always)]
     pub fn entry_if(
         &mut self,

@@ -294,7 +294,8 @@ pub fn read_entry<S: Elements>(
 }
 
 /// Reads an element by a table of words, as `read_entry`, where one is coded. Where none is, its entry is one of no bits and of value 0, nothing is told,
-/// and the value is 0: for a sink that forgets what it is told no choice is left.
+/// and the value is 0: for a sink that forgets what it is told no choice is left. So run_before is read (7.3.5.3.2, 9.2.3).
+/// No: one is coded and no whole word stands there, the rule at its first stream bit. Write: the sink failed.
 #[inline(always)]
 pub fn read_entry_if<S: Elements>(
     bits: &mut Bits,
