@@ -1,7 +1,7 @@
 -- The names of the syntax elements, as the standard spells them.
 use Rattle.std.specs.Prelude.{ℕ, List, codes}
 use Rattle.h264_base.specs.declared.element_name.ElementName.{ElementName}
-use Rattle.h264_base.specs.declared.element_name.ElementName.TheVariants.{ProfileIdc, ConstraintSet0Flag, ConstraintSet1Flag, ConstraintSet2Flag, ConstraintSet3Flag, ConstraintSet4Flag, ConstraintSet5Flag, ReservedZero2bits, LevelIdc, SeqParameterSetId, Log2MaxFrameNumMinus4, PicOrderCntType, Log2MaxPicOrderCntLsbMinus4, DeltaPicOrderAlwaysZeroFlag, OffsetForNonRefPic, OffsetForTopToBottomField, NumRefFramesInPicOrderCntCycle, OffsetForRefFrame, MaxNumRefFrames, GapsInFrameNumValueAllowedFlag, PicWidthInMbsMinus1, PicHeightInMapUnitsMinus1, FrameMbsOnlyFlag, Direct8x8InferenceFlag, FrameCroppingFlag, FrameCropLeftOffset, FrameCropRightOffset, FrameCropTopOffset, FrameCropBottomOffset, VuiParametersPresentFlag, AspectRatioInfoPresentFlag, AspectRatioIdc, SarWidth, SarHeight, OverscanInfoPresentFlag, OverscanAppropriateFlag, VideoSignalTypePresentFlag, VideoFormat, VideoFullRangeFlag, ColourDescriptionPresentFlag, ColourPrimaries, TransferCharacteristics, MatrixCoefficients, ChromaLocInfoPresentFlag, ChromaSampleLocTypeTopField, ChromaSampleLocTypeBottomField, TimingInfoPresentFlag, NumUnitsInTick, TimeScale, FixedFrameRateFlag, NalHrdParametersPresentFlag, VclHrdParametersPresentFlag, CpbCntMinus1, BitRateScale, CpbSizeScale, BitRateValueMinus1, CpbSizeValueMinus1, CbrFlag, InitialCpbRemovalDelayLengthMinus1, CpbRemovalDelayLengthMinus1, DpbOutputDelayLengthMinus1, TimeOffsetLength, LowDelayHrdFlag, PicStructPresentFlag, BitstreamRestrictionFlag, MotionVectorsOverPicBoundariesFlag, MaxBytesPerPicDenom, MaxBitsPerMbDenom, Log2MaxMvLengthHorizontal, Log2MaxMvLengthVertical, MaxNumReorderFrames, MaxDecFrameBuffering, PicParameterSetId, EntropyCodingModeFlag, BottomFieldPicOrderInFramePresentFlag, NumSliceGroupsMinus1, NumRefIdxL0DefaultActiveMinus1, NumRefIdxL1DefaultActiveMinus1, WeightedPredFlag, WeightedBipredIdc, PicInitQpMinus26, PicInitQsMinus26, ChromaQpIndexOffset, DeblockingFilterControlPresentFlag, ConstrainedIntraPredFlag, RedundantPicCntPresentFlag, FirstMbInSlice, SliceType, FrameNum, IdrPicId, PicOrderCntLsb, DeltaPicOrderCntBottom, DeltaPicOrderCnt, NumRefIdxActiveOverrideFlag, NumRefIdxL0ActiveMinus1, RefPicListModificationFlagL0, ModificationOfPicNumsIdc, AbsDiffPicNumMinus1, LongTermPicNum, NoOutputOfPriorPicsFlag, LongTermReferenceFlag, AdaptiveRefPicMarkingModeFlag, MemoryManagementControlOperation, DifferenceOfPicNumsMinus1, LongTermFrameIdx, MaxLongTermFrameIdxPlus1, SliceQpDelta, DisableDeblockingFilterIdc, SliceAlphaC0OffsetDiv2, SliceBetaOffsetDiv2, MbSkipRun, MbType, SubMbType, PrevIntra4x4PredModeFlag, RemIntra4x4PredMode, IntraChromaPredMode, RefIdxL0, MvdL0, CodedBlockPattern, MbQpDelta, CoeffToken, TrailingOnesSignFlag, LevelPrefix, LevelSuffix, TotalZeros, RunBefore}
+use Rattle.h264_base.specs.declared.element_name.ElementName.TheVariants.{ProfileIdc, ConstraintSet0Flag, ConstraintSet1Flag, ConstraintSet2Flag, ConstraintSet3Flag, ConstraintSet4Flag, ConstraintSet5Flag, ReservedZero2bits, LevelIdc, SeqParameterSetId, Log2MaxFrameNumMinus4, PicOrderCntType, Log2MaxPicOrderCntLsbMinus4, DeltaPicOrderAlwaysZeroFlag, OffsetForNonRefPic, OffsetForTopToBottomField, NumRefFramesInPicOrderCntCycle, OffsetForRefFrame, MaxNumRefFrames, GapsInFrameNumValueAllowedFlag, PicWidthInMbsMinus1, PicHeightInMapUnitsMinus1, FrameMbsOnlyFlag, Direct8x8InferenceFlag, FrameCroppingFlag, FrameCropLeftOffset, FrameCropRightOffset, FrameCropTopOffset, FrameCropBottomOffset, VuiParametersPresentFlag, AspectRatioInfoPresentFlag, AspectRatioIdc, SarWidth, SarHeight, OverscanInfoPresentFlag, OverscanAppropriateFlag, VideoSignalTypePresentFlag, VideoFormat, VideoFullRangeFlag, ColourDescriptionPresentFlag, ColourPrimaries, TransferCharacteristics, MatrixCoefficients, ChromaLocInfoPresentFlag, ChromaSampleLocTypeTopField, ChromaSampleLocTypeBottomField, TimingInfoPresentFlag, NumUnitsInTick, TimeScale, FixedFrameRateFlag, NalHrdParametersPresentFlag, VclHrdParametersPresentFlag, CpbCntMinus1, BitRateScale, CpbSizeScale, BitRateValueMinus1, CpbSizeValueMinus1, CbrFlag, InitialCpbRemovalDelayLengthMinus1, CpbRemovalDelayLengthMinus1, DpbOutputDelayLengthMinus1, TimeOffsetLength, LowDelayHrdFlag, PicStructPresentFlag, BitstreamRestrictionFlag, MotionVectorsOverPicBoundariesFlag, MaxBytesPerPicDenom, MaxBitsPerMbDenom, Log2MaxMvLengthHorizontal, Log2MaxMvLengthVertical, MaxNumReorderFrames, MaxDecFrameBuffering, PicParameterSetId, EntropyCodingModeFlag, BottomFieldPicOrderInFramePresentFlag, NumSliceGroupsMinus1, NumRefIdxL0DefaultActiveMinus1, NumRefIdxL1DefaultActiveMinus1, WeightedPredFlag, WeightedBipredIdc, PicInitQpMinus26, PicInitQsMinus26, ChromaQpIndexOffset, DeblockingFilterControlPresentFlag, ConstrainedIntraPredFlag, RedundantPicCntPresentFlag, FirstMbInSlice, SliceType, FrameNum, IdrPicId, PicOrderCntLsb, DeltaPicOrderCntBottom, DeltaPicOrderCnt, NumRefIdxActiveOverrideFlag, NumRefIdxL0ActiveMinus1, RefPicListModificationFlagL0, ModificationOfPicNumsIdc, AbsDiffPicNumMinus1, LongTermPicNum, LumaLog2WeightDenom, ChromaLog2WeightDenom, LumaWeightL0Flag, LumaWeightL0, LumaOffsetL0, ChromaWeightL0Flag, ChromaWeightL0, ChromaOffsetL0, NoOutputOfPriorPicsFlag, LongTermReferenceFlag, AdaptiveRefPicMarkingModeFlag, MemoryManagementControlOperation, DifferenceOfPicNumsMinus1, LongTermFrameIdx, MaxLongTermFrameIdxPlus1, SliceQpDelta, DisableDeblockingFilterIdc, SliceAlphaC0OffsetDiv2, SliceBetaOffsetDiv2, MbSkipRun, MbType, SubMbType, PrevIntra4x4PredModeFlag, RemIntra4x4PredMode, IntraChromaPredMode, RefIdxL0, MvdL0, CodedBlockPattern, MbQpDelta, CoeffToken, TrailingOnesSignFlag, LevelPrefix, LevelSuffix, TotalZeros, RunBefore}
 
 unfoldable pub text_of : ElementName → List ℕ
 text_of ProfileIdc = codes "profile_idc"
@@ -103,6 +103,14 @@ text_of RefPicListModificationFlagL0 = codes "ref_pic_list_modification_flag_l0"
 text_of ModificationOfPicNumsIdc = codes "modification_of_pic_nums_idc"
 text_of AbsDiffPicNumMinus1 = codes "abs_diff_pic_num_minus1"
 text_of LongTermPicNum = codes "long_term_pic_num"
+text_of LumaLog2WeightDenom = codes "luma_log2_weight_denom"
+text_of ChromaLog2WeightDenom = codes "chroma_log2_weight_denom"
+text_of LumaWeightL0Flag = codes "luma_weight_l0_flag"
+text_of LumaWeightL0 = codes "luma_weight_l0"
+text_of LumaOffsetL0 = codes "luma_offset_l0"
+text_of ChromaWeightL0Flag = codes "chroma_weight_l0_flag"
+text_of ChromaWeightL0 = codes "chroma_weight_l0"
+text_of ChromaOffsetL0 = codes "chroma_offset_l0"
 text_of NoOutputOfPriorPicsFlag = codes "no_output_of_prior_pics_flag"
 text_of LongTermReferenceFlag = codes "long_term_reference_flag"
 text_of AdaptiveRefPicMarkingModeFlag = codes "adaptive_ref_pic_marking_mode_flag"

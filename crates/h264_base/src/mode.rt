@@ -17,6 +17,8 @@ pub enum Mode {
 pub enum Target {
     /// Constrained Baseline (A.2.1.1), 8 bits, 4:2:0, progressive, levels 1 to 5.2.
     Baseline,
+    /// Main's progressive streams of I and P slices in CAVLC, with explicit weighted prediction (A.2.2, 8.4.2.3).
+    MainIP,
 }
 
 /// The type of a slice (7.4.3), less the statement on the other slices of its picture.
