@@ -3,6 +3,7 @@
 
 use arrayvec::ArrayVec;
 use h264_bits::Found;
+use h264_weights::PredWeightTable;
 
 /// What the header of a unit says of the slice in it.
 #[derive(Clone, Copy)]
@@ -75,13 +76,15 @@ impl Default for PicNumModification {
     }
 }
 
-/// What a P slice says of its reference picture list.
+/// What a P slice says of its reference picture list, and of prediction from the pictures in it.
 #[derive(Drop)]
 pub struct RefPicList0 {
     /// num_ref_idx_l0_active_minus1 + 1, the slice's own or the picture parameter set's: 1 to 16 places.
     pub num_ref_idx_l0_active: u32,
     /// At most as many as there are places.
     pub modifications: ArrayVec<PicNumModification, 16>,
+    /// The weights of each place; there where weighted_pred_flag is 1.
+    pub pred_weight_table: Option<PredWeightTable>,
 }
 
 /// The type of a slice, with what only slices of that type have (7.4.3).
