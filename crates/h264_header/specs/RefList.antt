@@ -8,7 +8,7 @@ use Rattle.h264_base.specs.declared.mode.SliceType.TheVariants as slice_type
 use Rattle.h264_base.specs.Word.{Fixed, Unsigned}
 use Rattle.h264_base.specs.Grammar.{Grammar, Done, ◌>>=◌, element, check}
 use Rattle.h264_bits.specs.Forms.{natural, flag, unsigned, unsigned_to, optional}
-use Rattle.h264_weights.specs.PredWeightTable.{pred_weight_table}
+use Rattle.h264_header.specs.PredWeightTable.{pred_weight_table}
 use Rattle.h264_header.specs.declared.header.Modification.{Modification}
 use Rattle.h264_header.specs.declared.header.Modification.TheVariants.{Subtract, Add, LongTerm}
 use Rattle.h264_header.specs.declared.header.PicNumModification.{PicNumModification}

@@ -21,8 +21,9 @@ mod tests;
 mod weights;
 
 pub use header::{
-    Deblocking, FilterOffsets, Header, Marking, MarkingOperation, Modification, Operation,
-    PicNumModification, PicOrderCnt, PictureElements, RefPicList0, SliceKind, SliceUnit,
+    Deblocking, FilterOffsets, Header, IndexWeights, Marking, MarkingOperation, Modification,
+    Operation, PicNumModification, PicOrderCnt, PictureElements, PredWeightTable, RefPicList0,
+    SliceKind, SliceUnit,
 };
 pub use layout::named_sets;
 pub use picture::{begins_picture, picture_elements};

@@ -5,17 +5,17 @@ ghost use Rattle.std.specs.Prelude.{◌≡◌, ℕ, ◌+◌, ◌-◌, ◌<◌, �
 ghost use Rattle.arrayvec.specs.ArrayVec.{array_vec_len};
 ghost use Rattle.h264_base.specs.Meets.{Meets, Is};
 ghost use Rattle.h264_bits.specs.Forms.{optional};
-ghost use Rattle.h264_weights.specs.PredWeightTable.{pred_weight_table};
+ghost use Rattle.h264_header.specs.PredWeightTable.{pred_weight_table};
 ghost use Rattle.h264_header.specs.declared.header.SliceKind.TheVariants.{P};
 ghost use Rattle.h264_header.specs.RefList.{num_ref_idx_l0_active_minus1, command, is_command_allowed, modification, modifications_if, ref_pic_list0, slice_kind};
 
-use crate::header::{Modification, PicNumModification, RefPicList0, SliceKind};
+use crate::header::{Modification, PicNumModification, PredWeightTable, RefPicList0, SliceKind};
 use crate::layout::Layout;
+use crate::weights::read_pred_weight_table;
 use arrayvec::ArrayVec;
 use h264_base::{ElementName, Elements, Rule, SliceType, Stop};
 use h264_bits::forms::{flag_value, ue_up_to, ue_value};
 use h264_bits::{Bits, check, read_flag, read_ue};
-use h264_weights::{PredWeightTable, read_pred_weight_table};
 
 /// The idc that ends the commands.
 const END: u32 = 3;

@@ -4,8 +4,8 @@ use Rattle.std.proofs.lemmas.Int.{to_z-of_z}
 use Rattle.std.specs.Int.{w16, w32}
 use mir.Val.{SFits}
 use Rattle.h264_base.proofs.Steps.{bind, stop, done}
-use Rattle.h264_weights.specs.PredWeightTable.{stated_weight}
-use Rattle.h264_weights.proofs.read.read_stated_weight.Goals as goal
+use Rattle.h264_header.specs.PredWeightTable.{stated_weight}
+use Rattle.h264_header.proofs.weights.read_stated_weight.Goals as goal
 
 pub returns-in_err-weight : goal.returns-in_err-weight
 unfolding stated_weight

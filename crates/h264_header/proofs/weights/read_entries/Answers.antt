@@ -2,8 +2,8 @@ use Rattle.std.proofs.Common.{◌+◌, length, refl, ap, ◌∙◌}
 use Rattle.std.proofs.lemmas.Result.{err_from_is_err_and}
 use Rattle.h264_base.proofs.Steps.{kept}
 use Rattle.h264_bits.proofs.Repeated.{repeated-starts, repeated-next, repeated-stop, repeated-over}
-use Rattle.h264_weights.specs.PredWeightTable.{index_weights}
-use Rattle.h264_weights.proofs.read.read_entries.Goals as goal
+use Rattle.h264_header.specs.PredWeightTable.{index_weights}
+use Rattle.h264_header.proofs.weights.read_entries.Goals as goal
 
 pub loop-index-init : goal.loop-index-init
 loop-index-init g c = record { rest = repeated-starts (index_weights c.args.luma_denom c.args.chroma_denom) c.args.active c.args.entries.now.items _ _ c.requires.empty; sized = ap length c.requires.empty; room = c.requires.room }

@@ -1,8 +1,8 @@
 use Rattle.std.proofs.Common.{refl}
 use Rattle.std.proofs.lemmas.Result.{err_from_is_err_and}
 use Rattle.h264_base.proofs.Steps.{bind, stop, done}
-use Rattle.h264_weights.specs.PredWeightTable.{index_weights, with_chroma}
-use Rattle.h264_weights.proofs.read.read_index_weights.Goals as goal
+use Rattle.h264_header.specs.PredWeightTable.{index_weights, with_chroma}
+use Rattle.h264_header.proofs.weights.read_index_weights.Goals as goal
 
 pub returns-in_err-luma_given : goal.returns-in_err-luma_given
 unfolding index_weights with_chroma

@@ -1,15 +1,13 @@
 -- pred_weight_table() (7.3.3.2), with the rules on its values and the values that are inferred (7.4.3.2). To be read beside the standard.
-use Rattle.std.specs.Prelude.{ℕ, pos, negsuc, ◌^◌, Bool, true, false, Option, []}
-use Rattle.std.specs.Option.{option_map}
-use Rattle.std.specs.Prelude.{slice_get}
+use Rattle.std.specs.Prelude.{ℕ, pos, negsuc, ◌^◌, Bool, true, false, []}
 use Rattle.h264_base.specs.declared.element_name.ElementName.{ElementName}
 use Rattle.h264_base.specs.declared.element_name.ElementName.TheVariants.{LumaLog2WeightDenom, ChromaLog2WeightDenom, LumaWeightL0Flag, LumaWeightL0, LumaOffsetL0, ChromaWeightL0Flag, ChromaWeightL0, ChromaOffsetL0}
 use Rattle.h264_base.specs.declared.weight.Weight.{Weight}
 use Rattle.h264_base.specs.declared.weight.Weights.{Weights}
 use Rattle.h264_base.specs.Grammar.{Grammar, Done, ◌>>=◌}
 use Rattle.h264_bits.specs.Forms.{flag, unsigned_to, signed_within, repeated}
-use Rattle.h264_weights.specs.declared.table.IndexWeights.{IndexWeights}
-use Rattle.h264_weights.specs.declared.table.PredWeightTable.{PredWeightTable}
+use Rattle.h264_header.specs.declared.header.IndexWeights.{IndexWeights}
+use Rattle.h264_header.specs.declared.header.PredWeightTable.{PredWeightTable}
 
 -- the weight and the offset of a plane, where they are there
 unfoldable pub stated_weight : ElementName → ElementName → ℕ → Grammar Weight
@@ -49,7 +47,3 @@ pred_weight_table active = do
   chroma_denom ← unsigned_to ChromaLog2WeightDenom 7
   entries ← repeated (index_weights luma_denom chroma_denom) [] active
   Done (record { entries = record { items = entries } })
-
--- The weights of a reference index; none beyond the active places.
-abbrev pub weights_at : PredWeightTable → ℕ → Option Weights
-weights_at table ref_idx = option_map (λ (e : IndexWeights). e.weights) (slice_get table.entries.items ref_idx)

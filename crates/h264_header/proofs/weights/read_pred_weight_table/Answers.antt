@@ -1,8 +1,8 @@
 use Rattle.std.proofs.Common.{refl}
 use Rattle.std.proofs.lemmas.Result.{err_from_is_err_and}
 use Rattle.h264_base.proofs.Steps.{bind, stop, done}
-use Rattle.h264_weights.specs.PredWeightTable.{pred_weight_table}
-use Rattle.h264_weights.proofs.read.read_pred_weight_table.Goals as goal
+use Rattle.h264_header.specs.PredWeightTable.{pred_weight_table}
+use Rattle.h264_header.proofs.weights.read_pred_weight_table.Goals as goal
 
 pub returns-in_err-luma_denom : goal.returns-in_err-luma_denom
 unfolding pred_weight_table

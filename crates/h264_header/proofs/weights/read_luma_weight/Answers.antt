@@ -1,7 +1,7 @@
 use Rattle.std.proofs.Common.{refl}
 use Rattle.h264_base.proofs.Steps.{done}
-use Rattle.h264_weights.specs.PredWeightTable.{luma_weight}
-use Rattle.h264_weights.proofs.read.read_luma_weight.Goals as goal
+use Rattle.h264_header.specs.PredWeightTable.{luma_weight}
+use Rattle.h264_header.proofs.weights.read_luma_weight.Goals as goal
 
 pub returns-then-not-given : goal.returns-then-not-given
 unfolding luma_weight

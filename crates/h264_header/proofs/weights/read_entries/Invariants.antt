@@ -1,8 +1,8 @@
 use Rattle.std.proofs.Common.{◌≡◌, ◌-◌, ◌<◌, ◌^◌, [], length}
 use Rattle.h264_base.proofs.Steps.{Leads}
 use Rattle.h264_bits.specs.Forms.{repeated}
-use Rattle.h264_weights.specs.PredWeightTable.{index_weights}
-use Rattle.h264_weights.proofs.read.read_entries.Given as goal
+use Rattle.h264_header.specs.PredWeightTable.{index_weights}
+use Rattle.h264_header.proofs.weights.read_entries.Given as goal
 
 abbrev pub invariant-loop-index : goal.invariant-loop-index
 invariant-loop-index g l = record {
