@@ -1,24 +1,26 @@
 -- What a command comes to: what it writes to standard output and to standard error, and its exit status.
 use Rattle.std.specs.Prelude.{◌≡◌, ℕ, Bool, true, false, List, Option, Some, Result, Err, IsErrOf, ◌⊎◌}
 use Rattle.h264_base.specs.declared.mode.Mode.TheVariants as modes
+use Rattle.h264_base.specs.declared.mode.Target.TheVariants as targets
 use Rattle.h264_base.specs.declared.stop.Stop.{Stop}
 use Rattle.h264_base.specs.declared.stop.Stop.TheVariants.{Memory, Read, Write}
 use Rattle.h264_report.specs.Sent.{Takes}
 use Rattle.h264_report.specs.Written.{OfBytes, Lists, Checks, Decodes, last_line, status_of}
 use Rattle.h264_report.specs.declared.listing.Listing.TheVariants as listings
 use Rattle.h264_judge.specs.declared.state.Summary.{Summary}
+use Rattle.h264_judge.specs.Units.{terms_of}
 use Rattle.h264_words.specs.Words.{program, asks, name_of, IsRefusable}
 use Rattle.h264_words.specs.declared.Task.{Task}
 use Rattle.h264_words.specs.declared.Task.TheVariants as tasks
 use Rattle.clap.specs.Words.{Text}
 
--- What a task writes of a stream, and the answer that it tells; standard error is written to by `decode` alone.
+-- What a task writes of a stream, judged for Constrained Baseline, and the answer that it tells; standard error is written to by `decode` alone.
 abbrev pub Performs : Task → List ℕ → Result Summary Stop → Bool → (old new err_old err_new : Option (List ℕ)) → Type 0
-Performs tasks.Check bytes answer written old new err_old err_new = Checks bytes answer written old new × (err_new ≡ err_old)
-Performs tasks.Units bytes answer written old new err_old err_new = Lists modes.Units listings.Units bytes answer written old new × (err_new ≡ err_old)
-Performs tasks.Headers bytes answer written old new err_old err_new = Lists modes.Headers listings.Slices bytes answer written old new × (err_new ≡ err_old)
-Performs tasks.Frames bytes answer written old new err_old err_new = Lists modes.Full listings.Frames bytes answer written old new × (err_new ≡ err_old)
-Performs tasks.Decode bytes answer written old new err_old err_new = Decodes bytes answer written old new err_old err_new
+Performs tasks.Check bytes answer written old new err_old err_new = Checks targets.Baseline bytes answer written old new × (err_new ≡ err_old)
+Performs tasks.Units bytes answer written old new err_old err_new = Lists (terms_of modes.Units targets.Baseline) listings.Units bytes answer written old new × (err_new ≡ err_old)
+Performs tasks.Headers bytes answer written old new err_old err_new = Lists (terms_of modes.Headers targets.Baseline) listings.Slices bytes answer written old new × (err_new ≡ err_old)
+Performs tasks.Frames bytes answer written old new err_old err_new = Lists (terms_of modes.Full targets.Baseline) listings.Frames bytes answer written old new × (err_new ≡ err_old)
+Performs tasks.Decode bytes answer written old new err_old err_new = Decodes targets.Baseline bytes answer written old new err_old err_new
 
 -- A last line alone, where a task writes its last line.
 abbrev pub SaysAlone : Task → Result Summary Stop → Bool → (old new err_old err_new : Option (List ℕ)) → Type 0

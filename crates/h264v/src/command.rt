@@ -4,6 +4,8 @@
 ghost use Rattle.std.specs.Prelude.{◌≡◌, ◌-◌, ◌<◌, ◌^◌, true, false, List, map, string_bytes};
 ghost use Rattle.clap.specs.Words.{Text, takes, kind_of};
 ghost use Rattle.clap.specs.declared.error.kind.ErrorKind.TheVariants as kinds;
+ghost use Rattle.h264_base.specs.declared.mode.Target.TheVariants as targets;
+ghost use Rattle.h264_judge.specs.Units.{terms_of};
 ghost use Rattle.h264_report.specs.Written.{OfBytes};
 ghost use Rattle.h264v.specs.Commands.{Performs, SaysAlone, IsUnread, HasFailed, IsExcused, Faults, Comes};
 ghost use Rattle.h264v.specs.Files.{HasFailedToRead};
@@ -12,9 +14,9 @@ ghost use Rattle.h264_words.specs.Words.{program};
 use crate::files::Files;
 use clap::Error;
 use clap::error::ErrorKind;
-use h264_base::{Mode, Stop};
+use h264_base::{Mode, Stop, Target};
 use h264_report::{Device, Ending, Listing, check, decode, list, put_answer, put_memory};
-use h264_verify::Source;
+use h264_verify::{Source, Terms};
 use h264_words::{Task, asked};
 use std::alloc::Global;
 use std::io::Write;
@@ -27,6 +29,16 @@ const NO_TASK: &str = "h264v: no command is given; h264v --help lists them\n";
 
 /// The exit status of a fault of the words.
 const FAULT: u8 = 64;
+
+/// What a stream is judged by so far, where the words name no target.
+fn terms(mode: Mode) -> Terms
+    ensures { result ≡ terms_of mode targets.Baseline }
+{
+    Terms {
+        mode,
+        target: Target::Baseline,
+    }
+}
 
 /// Does a task with a file that can be opened.
 fn perform<R: Source, W: Device, E: Device>(
@@ -41,11 +53,11 @@ fn perform<R: Source, W: Device, E: Device>(
     ensures performs { OfBytes (R.left source.old) (λ bytes. Performs task bytes result.answer result.written (W.contents out.old) (W.contents out.new) (E.contents err.old) (E.contents err.new)) }
 {
     match task {
-        Task::Check => check(alloc, source, out),
-        Task::Units => list(alloc, Mode::Units, Listing::Units, source, out),
-        Task::Headers => list(alloc, Mode::Headers, Listing::Slices, source, out),
-        Task::Frames => list(alloc, Mode::Full, Listing::Frames, source, out),
-        Task::Decode => decode(alloc, source, out, err),
+        Task::Check => check(alloc, Target::Baseline, source, out),
+        Task::Units => list(alloc, terms(Mode::Units), Listing::Units, source, out),
+        Task::Headers => list(alloc, terms(Mode::Headers), Listing::Slices, source, out),
+        Task::Frames => list(alloc, terms(Mode::Full), Listing::Frames, source, out),
+        Task::Decode => decode(alloc, Target::Baseline, source, out, err),
     }
 }
 

@@ -28,6 +28,8 @@ mod set_tests;
 #[cfg(test)]
 mod stream_tests;
 #[cfg(test)]
+mod target_tests;
+#[cfg(test)]
 mod tests;
 mod words;
 

@@ -21,7 +21,7 @@ const STREAM: &[u8] = &[
 
 /// Counts what it is told.
 #[derive(Drop)]
-struct Counter {
+pub struct Counter {
     units: u32,
     slices: u32,
     elements: u32,
@@ -71,7 +71,7 @@ impl FrameSink for Counter {
     }
 }
 
-fn nothing_told() -> Counter {
+pub fn nothing_told() -> Counter {
     Counter {
         units: 0,
         slices: 0,
@@ -110,7 +110,13 @@ fn a_session(rt: HostRuntime) -> Result<(), Fail> {
 /// The headers of a stream that comes in these pieces.
 fn headers_of_pieces(rt: &(impl Abort + AllocGlobal), pieces: &[Vec<u8>]) -> Result<(), Fail> {
     let mut sink = nothing_told();
-    let summary = run_pieces(rt.alloc(), pieces, &mut sink, Mode::Headers)?;
+    let summary = run_pieces(
+        rt.alloc(),
+        pieces,
+        &mut sink,
+        Mode::Headers,
+        Target::Baseline,
+    )?;
     assert_eq!(rt; summary, SUMMARY);
     assert_eq!(rt; sink.slices, 2);
     Ok(())
@@ -205,7 +211,7 @@ const DELIMITERS: &[u8] = &[
 
 /// Gives bytes one at a time, and counts how often it was read.
 #[derive(Drop)]
-struct Bytes<'a> {
+pub struct Bytes<'a> {
     left: &'a [u8],
     reads: u64,
 }
@@ -237,7 +243,7 @@ fn behind_first(bytes: &[u8]) -> &[u8]
     &bytes[1..]
 }
 
-fn source_of(left: &[u8]) -> Bytes<'_> {
+pub fn source_of(left: &[u8]) -> Bytes<'_> {
     Bytes { left, reads: 0 }
 }
 
@@ -245,7 +251,13 @@ fn source_of(left: &[u8]) -> Bytes<'_> {
 fn headers_of_a_source(rt: &(impl Abort + AllocGlobal)) -> Result<(), Fail> {
     let mut sink = nothing_told();
     let mut source = source_of(STREAM);
-    let summary = run(rt.alloc(), &mut source, &mut sink, Mode::Headers)?;
+    let summary = run(
+        rt.alloc(),
+        &mut source,
+        &mut sink,
+        Mode::Headers,
+        Target::Baseline,
+    )?;
     assert_eq!(rt; summary, SUMMARY);
     assert_eq!(rt; source.reads, 35);
     Ok(())
@@ -254,7 +266,13 @@ fn headers_of_a_source(rt: &(impl Abort + AllocGlobal)) -> Result<(), Fail> {
 /// The units alone.
 fn units_of_a_source(rt: &(impl Abort + AllocGlobal)) -> Result<(), Fail> {
     let mut sink = nothing_told();
-    let units = run(rt.alloc(), &mut source_of(STREAM), &mut sink, Mode::Units)?;
+    let units = run(
+        rt.alloc(),
+        &mut source_of(STREAM),
+        &mut sink,
+        Mode::Units,
+        Target::Baseline,
+    )?;
     assert_eq!(rt; units.pictures, 0);
     assert_eq!(rt; sink.units, 4);
     assert_eq!(rt; sink.frames, 0);
@@ -264,7 +282,13 @@ fn units_of_a_source(rt: &(impl Abort + AllocGlobal)) -> Result<(), Fail> {
 /// Slice data too: four elements of each macroblock beside those of sets and headers, mb_type, intra_chroma_pred_mode, mb_qp_delta, coeff_token.
 fn frames_of_a_source(rt: &(impl Abort + AllocGlobal)) -> Result<(), Fail> {
     let mut all = nothing_told();
-    let whole = run(rt.alloc(), &mut source_of(STREAM), &mut all, Mode::Full)?;
+    let whole = run(
+        rt.alloc(),
+        &mut source_of(STREAM),
+        &mut all,
+        Mode::Full,
+        Target::Baseline,
+    )?;
     assert_eq!(rt; whole, WHOLE);
     assert_eq!(rt; all.slices, 2);
     assert_eq!(rt; all.elements, 59);
@@ -279,6 +303,7 @@ fn a_source(rt: HostRuntime) -> Result<(), Fail> {
     frames_of_a_source(&rt)?;
     laws::one_verdict();
     laws::some_verdict();
+    laws::baseline_is_main_ip();
     Ok(())
 }
 
@@ -295,7 +320,14 @@ fn none_kept(alloc: Global) -> Units
 /// Stops where a sink is told the first element, which it refuses.
 fn refused(rt: &(impl Abort + AllocGlobal)) -> Result<(), Fail> {
     let mut other = none_kept(rt.alloc());
-    let stop = run(rt.alloc(), &mut source_of(STREAM), &mut other, Mode::Units).err();
+    let stop = run(
+        rt.alloc(),
+        &mut source_of(STREAM),
+        &mut other,
+        Mode::Units,
+        Target::Baseline,
+    )
+    .err();
     assert!(rt; matches!(stop, Some(Stop::Write)));
     assert_eq!(rt; other.told.len(), 1);
     assert_eq!(rt; other.failures, 1);
@@ -306,7 +338,13 @@ fn refused(rt: &(impl Abort + AllocGlobal)) -> Result<(), Fail> {
 fn keep_units(rt: &(impl Abort + AllocGlobal), sink: &mut Units) -> Result<(), Fail>
     requires { sink.old.failures ≡ 0 }
 {
-    let summary = run(rt.alloc(), &mut source_of(DELIMITERS), sink, Mode::Units)?;
+    let summary = run(
+        rt.alloc(),
+        &mut source_of(DELIMITERS),
+        sink,
+        Mode::Units,
+        Target::Baseline,
+    )?;
     assert_eq!(rt; summary.units, 3);
     assert_eq!(rt; sink.told.len(), 3);
     assert_eq!(rt; sink.told[1].byte, 8);
