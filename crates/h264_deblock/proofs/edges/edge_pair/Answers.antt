@@ -1,6 +1,5 @@
-use Rattle.std.proofs.Common.{◌+◌, true, inl, inr, arith}
+use Rattle.std.proofs.Common.{◌+◌}
 use Rattle.h264_deblock.specs.Inner.{inner_of, limits_at}
-use Rattle.h264_deblock.proofs.Beside.{edge_stays, lines_idle}
 use Rattle.h264_deblock.proofs.Groups.{first_half, second_half}
 use Rattle.h264_deblock.proofs.Nearest.{edge_by_nearest}
 use Rattle.h264_deblock.proofs.edges.edge_pair.Goals as goal
@@ -14,15 +13,3 @@ pub returns-clause-cr : goal.returns-clause-cr
 returns-clause-cr g c =
     edge_by_nearest _ c.args.cr.now c.write_nearest-2.new.plane c.args.e.now c.args.along c.args.across (λ n. limits_at c.limits_of-limits.result (8 + n))
     (λ n. inner_of c.read_inner-before.result (8 + n)) c.filtered_pair.result.1 c.read_inner-before.ensures.cr c.filtered_pair.ensures.cr (second_half _ _ c.limits_of-limits.ensures) c.write_nearest-2.ensures
-
-pub returns-then-limits-eq0-clause-cb : goal.returns-then-limits-eq0-clause-cb
-returns-then-limits-eq0-clause-cb g c = edge_stays _ _ c.args.cb.now c.args.e.now c.args.along c.args.across c.requires.before (λ n l i. lines_idle true c.args.e.now c.limits_of-limits.result (c.limits_of-limits.ensures 0 (omega arith)) (inl c.if-limits-eq0.true) n l)
-
-pub returns-then-limits-eq0-clause-cr : goal.returns-then-limits-eq0-clause-cr
-returns-then-limits-eq0-clause-cr g c = edge_stays _ _ c.args.cr.now c.args.e.now c.args.along c.args.across c.requires.before (λ n l i. lines_idle true c.args.e.now c.limits_of-limits.result (c.limits_of-limits.ensures 0 (omega arith)) (inl c.if-limits-eq0.true) n l)
-
-pub returns-then-limits-eq0-2-clause-cb : goal.returns-then-limits-eq0-2-clause-cb
-returns-then-limits-eq0-2-clause-cb g c = edge_stays _ _ c.args.cb.now c.args.e.now c.args.along c.args.across c.requires.before (λ n l i. lines_idle true c.args.e.now c.limits_of-limits.result (c.limits_of-limits.ensures 0 (omega arith)) (inr c.if-limits-eq0-2.true) n l)
-
-pub returns-then-limits-eq0-2-clause-cr : goal.returns-then-limits-eq0-2-clause-cr
-returns-then-limits-eq0-2-clause-cr g c = edge_stays _ _ c.args.cr.now c.args.e.now c.args.along c.args.across c.requires.before (λ n l i. lines_idle true c.args.e.now c.limits_of-limits.result (c.limits_of-limits.ensures 0 (omega arith)) (inr c.if-limits-eq0-2.true) n l)
