@@ -5,6 +5,7 @@ use Rattle.std.specs.Option.{is_some, option_map, option_map_or, option_and_then
 use Rattle.std.proofs.lemmas.Nat.{mul-le}
 use Rattle.std.proofs.lemmas.Bool.{le-leb, leb-true, lt-ltb}
 use Rattle.std.proofs.lemmas.Bool.Decides.{nat_tests}
+use Rattle.h264_base.specs.declared.mode.Target.{Target}
 use Rattle.h264_base.specs.Grammar.{Grammar, ◌>>=◌, read_word, check, support}
 use Rattle.h264_base.specs.declared.element_name.ElementName.TheVariants.{FrameCroppingFlag, VuiParametersPresentFlag, BitstreamRestrictionFlag}
 use Rattle.h264_base.specs.declared.rule.Rule.{Rule}
@@ -69,9 +70,9 @@ level-gives set3 = λ e _ t. let l = level-of (limits_of (natural e.value) set3)
 abbrev HasFront : ProfileAndLevel → Type 0
 HasFront f = HasLevel f.flags.set3 f.named
 
-front-gives : Gives profile_and_level HasFront
+front-gives : (target : Target) → Gives (profile_and_level target) HasFront
 unfolding profile_and_level check
-front-gives = gives-behind _ _ _ (λ profile. gives-behind _ _ _ (λ flags. gives-behind _ _ _ (λ _. gives-behind _ _ _ (λ reserved. gives-met (level flags.set3) _ (HasLevel flags.set3) _ (level-gives flags.set3) (λ named h. h)))))
+front-gives target = gives-behind _ _ _ (λ profile. gives-behind _ _ _ (λ flags. gives-behind _ _ _ (λ _. gives-behind _ _ _ (λ reserved. gives-met (level flags.set3) _ (HasLevel flags.set3) _ (level-gives flags.set3) (λ named h. h)))))
 
 -- the size is one of the level
 record HasSize (limits : Limits) (refs : ℕ) (size : Size) : Type 0 where
@@ -160,9 +161,9 @@ frame-of limits refs size small h =
     (both _ _ (le-leb (size.width * size.height) 36864 (let m = h.macroblocks in omega (arith, m, small)))
     (both _ _ (le-leb size.width 543 (side size.width limits.max_fs h.across small)) (le-leb size.height 543 (side size.height limits.max_fs h.down small)))))
 
-sps-gives : Gives sps HasRanges
+sps-gives : (target : Target) → Gives (sps target) HasRanges
 unfolding sps is_usable
-sps-gives = gives-met profile_and_level _ HasFront _ front-gives (λ front level. gives-to _ _ _ _ (λ id low. gives-to _ _ _ _ (λ log2 short. gives-met counting _ HasCount _ counts (λ count e. gives-behind _ _ _ (λ refs. gives-behind _ _ _ (λ _. gives-met (frame_size front.named.limits refs) _ (HasSize front.named.limits refs) _ (size-gives front.named.limits refs) (λ size fits. gives-behind _ _ _ (λ _. gives-behind _ _ _ (λ _.
+sps-gives target = gives-met (profile_and_level target) _ HasFront _ (front-gives target) (λ front level. gives-to _ _ _ _ (λ id low. gives-to _ _ _ _ (λ log2 short. gives-met counting _ HasCount _ counts (λ count e. gives-behind _ _ _ (λ refs. gives-behind _ _ _ (λ _. gives-met (frame_size front.named.limits refs) _ (HasSize front.named.limits refs) _ (size-gives front.named.limits refs) (λ size fits. gives-behind _ _ _ (λ _. gives-behind _ _ _ (λ _.
     gives-met (flagged (flag FrameCroppingFlag) (frame_cropping size)) _ (HasCrop size) _ (flagged-gives (flag FrameCroppingFlag) (frame_cropping size) (HasCrop size) refl (crop-gives size)) (λ crop within.
     gives-met (flagged (flag VuiParametersPresentFlag) (vui refs (max_dpb_frames front.named.limits size))) _ (HasBuffering refs (max_dpb_frames front.named.limits size)) _ (flagged-gives (flag VuiParametersPresentFlag) (vui refs (max_dpb_frames front.named.limits size)) (HasBuffering refs (max_dpb_frames front.named.limits size)) (none-given refs (max_dpb_frames front.named.limits size)) (vui-gives refs (max_dpb_frames front.named.limits size))) (λ usability buffering.
     gives-behind _ _ _ (λ _.
@@ -178,13 +179,13 @@ sps-gives = gives-met profile_and_level _ HasFront _ front-gives (λ front level
 abbrev HasId : Pps → Type 0
 HasId p = p.seq_parameter_set_id ≤ 31
 
-pps-gives : Gives pps HasId
+pps-gives : (target : Target) → Gives (pps target) HasId
 unfolding pps
-pps-gives = gives-behind _ _ _ (λ id. gives-to _ _ _ _ (λ sps low. gives-behind _ _ _ (λ _. gives-behind _ _ _ (λ _. gives-behind _ _ _ (λ _. gives-behind _ _ _ (λ _. gives-behind _ _ _ (λ _. gives-behind _ _ _ (λ _. gives-behind _ _ _ (λ _. gives-behind _ _ _ (λ _. gives-behind _ _ _ (λ _. gives-behind _ _ _ (λ _. gives-behind _ _ _ (λ _. gives-behind _ _ _ (λ _. gives-behind _ _ _ (λ _. gives-behind _ _ _ (λ _. low))))))))))))))))
+pps-gives target = gives-behind _ _ _ (λ id. gives-to _ _ _ _ (λ sps low. gives-behind _ _ _ (λ _. gives-behind _ _ _ (λ _. gives-behind _ _ _ (λ _. gives-behind _ _ _ (λ _. gives-behind _ _ _ (λ _. gives-behind _ _ _ (λ _. gives-behind _ _ _ (λ _. gives-behind _ _ _ (λ _. gives-behind _ _ _ (λ _. gives-behind _ _ _ (λ _. gives-behind _ _ _ (λ _. gives-behind _ _ _ (λ _. gives-behind _ _ _ (λ _. gives-behind _ _ _ (λ _. low))))))))))))))))
 
 -- a set that some unit gives is never left out
-pub named-accepted : (maps : Maps) (id : ℕ) (p : Pps) (s : Sps) → IsAcceptedPps p → IsAcceptedSps s → pps_of maps id ≡ Some p → sps_of maps p.seq_parameter_set_id ≡ Some s → sets_of maps id ≡ Some (p, s)
-named-accepted maps id p s a b e f =
-    let low = gives-derived pps HasId a.body a.from a.elements a.to p pps-gives a.derives in
-    let ranges = gives-derived sps HasRanges b.body b.from b.elements b.to s sps-gives b.derives in
+pub named-accepted : (target : Target) (maps : Maps) (id : ℕ) (p : Pps) (s : Sps) → IsAcceptedPps target p → IsAcceptedSps target s → pps_of maps id ≡ Some p → sps_of maps p.seq_parameter_set_id ≡ Some s → sets_of maps id ≡ Some (p, s)
+named-accepted target maps id p s a b e f =
+    let low = gives-derived (pps target) HasId a.body a.from a.elements a.to p (pps-gives target) a.derives in
+    let ranges = gives-derived (sps target) HasRanges b.body b.from b.elements b.to s (sps-gives target) b.derives in
     rw (e, le-leb _ _ low, f, ranges.lengths, ranges.usable) refl

@@ -1,5 +1,6 @@
 -- Parameter sets that some unit gives (7.3.2.1.1, 7.3.2.2).
 use Rattle.std.specs.Prelude.{ℕ, List}
+use Rattle.h264_base.specs.declared.mode.Target.{Target}
 use Rattle.h264_base.specs.Body.{Body}
 use Rattle.h264_base.specs.Grammar.{Grammar, Element, Derives}
 use Rattle.h264_sps.specs.declared.sps.Sps.{Sps}
@@ -15,8 +16,8 @@ pub record IsAccepted {A : Type 0} (g : Grammar A) (v : A) : Type 0 where
   pub to : ℕ
   pub derives : Derives g body from elements to v
 
-abbrev pub IsAcceptedSps : Sps → Type 0
-IsAcceptedSps s = IsAccepted sps s
+abbrev pub IsAcceptedSps : Target → Sps → Type 0
+IsAcceptedSps target s = IsAccepted (sps target) s
 
-abbrev pub IsAcceptedPps : Pps → Type 0
-IsAcceptedPps p = IsAccepted pps p
+abbrev pub IsAcceptedPps : Target → Pps → Type 0
+IsAcceptedPps target p = IsAccepted (pps target) p

@@ -47,11 +47,12 @@ layout_of sets = record {
   count = count_elements_of sets.1.count_type;
   has_bottom = sets.0.bottom_field_pic_order_in_frame_present_flag;
   default_active_minus1 = sets.0.num_ref_idx_l0_default_active_minus1;
+  has_weights = sets.0.weighted_pred_flag;
   has_deblocking_control = sets.0.deblocking_filter_control_present_flag;
 }
 
 abbrev pub no_layout : Layout
-no_layout = record { frame_num_length = 0; count = DecodingOrder; has_bottom = false; default_active_minus1 = 0; has_deblocking_control = false }
+no_layout = record { frame_num_length = 0; count = DecodingOrder; has_bottom = false; default_active_minus1 = 0; has_weights = false; has_deblocking_control = false }
 
 -- the lengths are at most 16
 abbrev pub IsShortCount : CountElements → Type 0

@@ -1,6 +1,8 @@
 pub mod Layout
 pub mod Listed
 pub mod RefList
+pub mod PredWeightTable
+pub mod Weights
 pub mod Marking
 pub mod Header
 pub mod Parts

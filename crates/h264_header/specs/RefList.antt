@@ -1,4 +1,5 @@
--- What a P slice says of its reference picture list: num_ref_idx_active_override_flag and ref_pic_list_modification() (7.3.3, 7.3.3.1).
+-- What a P slice says of its reference picture list and of prediction from it: num_ref_idx_active_override_flag, ref_pic_list_modification()
+-- and, where weighted_pred_flag is 1, pred_weight_table() (7.3.3, 7.3.3.1, 7.3.3.2).
 use Rattle.std.specs.Prelude.{ℕ, zero, suc, ◌+◌, ◌-◌, ◌==◌, ◌^◌, ◌&&◌, nat_le, nat_lt, Bool, true, false, Option, Some, None, List, [], length, if◌then◌else◌}
 use Rattle.h264_base.specs.declared.element_name.ElementName.TheVariants.{NumRefIdxActiveOverrideFlag, NumRefIdxL0ActiveMinus1, RefPicListModificationFlagL0, ModificationOfPicNumsIdc, AbsDiffPicNumMinus1, LongTermPicNum}
 use Rattle.h264_base.specs.declared.rule.Rule.TheVariants.{Range}
@@ -6,7 +7,8 @@ use Rattle.h264_base.specs.declared.mode.SliceType.{SliceType}
 use Rattle.h264_base.specs.declared.mode.SliceType.TheVariants as slice_type
 use Rattle.h264_base.specs.Word.{Fixed, Unsigned}
 use Rattle.h264_base.specs.Grammar.{Grammar, Done, ◌>>=◌, element, check}
-use Rattle.h264_bits.specs.Forms.{natural, flag, unsigned, unsigned_to}
+use Rattle.h264_bits.specs.Forms.{natural, flag, unsigned, unsigned_to, optional}
+use Rattle.h264_header.specs.PredWeightTable.{pred_weight_table}
 use Rattle.h264_header.specs.declared.header.Modification.{Modification}
 use Rattle.h264_header.specs.declared.header.Modification.TheVariants.{Subtract, Add, LongTerm}
 use Rattle.h264_header.specs.declared.header.PicNumModification.{PicNumModification}
@@ -68,7 +70,8 @@ ref_pic_list0 layout = do
   minus1 ← num_ref_idx_l0_active_minus1 layout.default_active_minus1
   modified ← flag RefPicListModificationFlagL0
   commands ← modifications_if (2 ^ layout.frame_num_length - 1) (minus1 + 1) modified
-  Done (record { num_ref_idx_l0_active = minus1 + 1; modifications = record { items = commands } })
+  table ← optional layout.has_weights (pred_weight_table (minus1 + 1))
+  Done (record { num_ref_idx_l0_active = minus1 + 1; modifications = record { items = commands }; pred_weight_table = table })
 
 unfoldable pub slice_kind : Layout → SliceType → Grammar SliceKind
 slice_kind layout slice_type.P = do

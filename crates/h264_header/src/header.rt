@@ -2,6 +2,7 @@
 #![tactic(auto)]
 
 use arrayvec::ArrayVec;
+use h264_base::{Weight, Weights};
 use h264_bits::Found;
 
 /// What the header of a unit says of the slice in it.
@@ -75,13 +76,53 @@ impl Default for PicNumModification {
     }
 }
 
-/// What a P slice says of its reference picture list.
+/// The weights of a reference index, as a table of weights keeps them.
+#[derive(Clone, Copy)]
+pub struct IndexWeights {
+    pub weights: Weights,
+}
+
+/// What an unused place of a table of weights holds for a plane.
+const UNUSED_WEIGHT: Weight = Weight {
+    log2_weight_denom: 0,
+    weight: 1,
+    offset: 0,
+};
+
+/// What an unused place of a table of weights holds.
+impl Default for IndexWeights {
+    ghost use Rattle.std.specs.Prelude.{◌≡◌};
+    ghost use Rattle.h264_header.specs.PredWeightTable.{inferred_weight};
+
+    ghost is_default = { λ e. e ≡ record { weights = record { luma = inferred_weight 0; cb = inferred_weight 0; cr = inferred_weight 0 } } };
+
+    fn default() -> Self {
+        IndexWeights {
+            weights: Weights {
+                luma: UNUSED_WEIGHT,
+                cb: UNUSED_WEIGHT,
+                cr: UNUSED_WEIGHT,
+            },
+        }
+    }
+}
+
+/// The weights of each reference index of a P slice, from index 0 on (7.3.3.2); those that the header does not have are inferred (7.4.3.2).
+#[derive(Drop)]
+pub struct PredWeightTable {
+    /// As many as the slice's list has active places, 1 to 16.
+    pub entries: ArrayVec<IndexWeights, 16>,
+}
+
+/// What a P slice says of its reference picture list, and of prediction from the pictures in it.
 #[derive(Drop)]
 pub struct RefPicList0 {
     /// num_ref_idx_l0_active_minus1 + 1, the slice's own or the picture parameter set's: 1 to 16 places.
     pub num_ref_idx_l0_active: u32,
     /// At most as many as there are places.
     pub modifications: ArrayVec<PicNumModification, 16>,
+    /// The weights of each place; there where weighted_pred_flag is 1.
+    pub pred_weight_table: Option<PredWeightTable>,
 }
 
 /// The type of a slice, with what only slices of that type have (7.4.3).

@@ -2,6 +2,7 @@
 #![tactic(auto)]
 
 ghost use Rattle.std.specs.Prelude.{◌≡◌, ◌↔◌, ℕ, IsTrue, Some};
+ghost use Rattle.h264_base.specs.declared.mode.Target.{Target};
 ghost use Rattle.h264_sps.specs.declared.sps.Sps.{Sps};
 ghost use Rattle.h264_pps.specs.declared.Pps.{Pps};
 ghost use Rattle.h264_sets.specs.Sets.{Maps, sps_of, pps_of};
@@ -15,7 +16,7 @@ ghost use Rattle.h264_header.specs.contracts.header.MarkingPartialEq.TheImpl as 
 /// A slice that names a picture parameter set finds it and its sequence parameter set, where both are there and some unit gave
 /// them: the bounds on ids and lengths in `sets_of` leave none of these out (7.4.1.2.1).
 pub fn accepted_sets()
-    ensures { (maps : Maps) (id : ℕ) (p : Pps) (s : Sps) → IsAcceptedPps p → IsAcceptedSps s →
+    ensures { (target : Target) (maps : Maps) (id : ℕ) (p : Pps) (s : Sps) → IsAcceptedPps target p → IsAcceptedSps target s →
         pps_of maps id ≡ Some p → sps_of maps p.seq_parameter_set_id ≡ Some s → sets_of maps id ≡ Some (p, s) }
 {}
 

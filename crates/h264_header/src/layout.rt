@@ -34,6 +34,8 @@ pub(crate) struct Layout {
     pub(crate) has_bottom: bool,
     /// num_ref_idx_l0_default_active_minus1.
     pub(crate) default_active_minus1: u32,
+    /// weighted_pred_flag.
+    pub(crate) has_weights: bool,
     /// deblocking_filter_control_present_flag.
     pub(crate) has_deblocking_control: bool,
 }
@@ -94,6 +96,7 @@ pub(crate) fn layout_of(pps: &Pps, sps: &Sps) -> Layout
         count: count_elements(&sps.count_type),
         has_bottom: pps.bottom_field_pic_order_in_frame_present_flag,
         default_active_minus1: pps.num_ref_idx_l0_default_active_minus1,
+        has_weights: pps.weighted_pred_flag,
         has_deblocking_control: pps.deblocking_filter_control_present_flag,
     }
 }

@@ -1,14 +1,17 @@
-//! Reading what a P slice says of its reference picture list (7.3.3, 7.3.3.1).
+//! Reading what a P slice says of its reference picture list, and of prediction from it (7.3.3, 7.3.3.1, 7.3.3.2).
 #![tactic(auto)]
 
 ghost use Rattle.std.specs.Prelude.{◌≡◌, ℕ, ◌+◌, ◌-◌, ◌<◌, ◌≤◌, ◌^◌, Some, [], IfOk, OnSome};
 ghost use Rattle.arrayvec.specs.ArrayVec.{array_vec_len};
 ghost use Rattle.h264_base.specs.Meets.{Meets, Is};
+ghost use Rattle.h264_bits.specs.Forms.{optional};
+ghost use Rattle.h264_header.specs.PredWeightTable.{pred_weight_table};
 ghost use Rattle.h264_header.specs.declared.header.SliceKind.TheVariants.{P};
 ghost use Rattle.h264_header.specs.RefList.{num_ref_idx_l0_active_minus1, command, is_command_allowed, modification, modifications_if, ref_pic_list0, slice_kind};
 
-use crate::header::{Modification, PicNumModification, RefPicList0, SliceKind};
+use crate::header::{Modification, PicNumModification, PredWeightTable, RefPicList0, SliceKind};
 use crate::layout::Layout;
+use crate::weights::read_pred_weight_table;
 use arrayvec::ArrayVec;
 use h264_base::{ElementName, Elements, Rule, SliceType, Stop};
 use h264_bits::forms::{flag_value, ue_up_to, ue_value};
@@ -136,6 +139,25 @@ fn greatest_of(frame_num_length: u32) -> u32
     (1 << frame_num_length) - 1
 }
 
+/// The table of weights, where it is present, else none, in a place of the caller: it is large to move.
+fn read_weights<S: Elements>(
+    present: bool,
+    active: u32,
+    table: &mut Option<PredWeightTable>,
+    bits: &mut Bits,
+    sink: &mut S,
+) -> Result<(), Stop>
+    requires few { active ≤ 16 }
+    requires room { S.failures sink.old < 2 ^ 64 - 1 }
+    ensures { Meets S.took S.failures (Is (λ _. table.new)) (optional present (pred_weight_table active)) bits.old bits.new sink.old sink.new result }
+{
+    if !present {
+        *table = None;
+        return Ok(());
+    }
+    read_pred_weight_table(active, table, bits, sink)
+}
+
 /// What a P slice says of its list, in a place of the caller: it is large to move.
 fn read_ref_pic_list0<S: Elements>(
     layout: Layout,
@@ -153,9 +175,12 @@ fn read_ref_pic_list0<S: Elements>(
     let greatest = greatest_of(layout.frame_num_length);
     let mut modifications = ArrayVec::new();
     read_modifications(greatest, active, modified, &mut modifications, bits, sink)?;
+    let mut table = None;
+    read_weights(layout.has_weights, active, &mut table, bits, sink)?;
     *kind = SliceKind::P(RefPicList0 {
         num_ref_idx_l0_active: active,
         modifications,
+        pred_weight_table: table,
     });
     Ok(())
 }

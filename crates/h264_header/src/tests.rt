@@ -5,9 +5,9 @@ ghost use Rattle.std.specs.Prelude.{◌≤◌, IfOk};
 
 use crate::{
     Deblocking, Header, Marking, MarkingOperation, Modification, Operation, PicNumModification,
-    PicOrderCnt, SliceKind, SliceUnit, begins_picture, picture_elements, read_header,
+    PicOrderCnt, SliceKind, SliceUnit, begins_picture, picture_elements, read_header, weights_of,
 };
-use h264_base::{ElementName, Elements, Failed, Rule, Stop};
+use h264_base::{ElementName, Elements, Failed, Rule, Stop, Target, Weight};
 use h264_bits::{Bits, Found};
 use h264_pps::{Pps, read_pps};
 use h264_rbsp::Rbsp;
@@ -55,7 +55,11 @@ fn sps_read(alloc: Global, stream: &[u8]) -> Result<Sps, Stop>
     ensures { IfOk result (λ s. s.seq_parameter_set_id ≤ 31) }
 {
     let body = rbsp(alloc, stream)?;
-    read_sps(&mut Bits::new(&body), &mut Heard { count: 0 })
+    read_sps(
+        Target::MainIP,
+        &mut Bits::new(&body),
+        &mut Heard { count: 0 },
+    )
 }
 
 /// The picture parameter set in a stream of one unit.
@@ -63,7 +67,11 @@ fn pps_read(alloc: Global, stream: &[u8]) -> Result<Pps, Stop>
     ensures { IfOk result (λ p. p.pic_parameter_set_id ≤ 255) }
 {
     let body = rbsp(alloc, stream)?;
-    read_pps(&mut Bits::new(&body), &mut Heard { count: 0 })
+    read_pps(
+        Target::MainIP,
+        &mut Bits::new(&body),
+        &mut Heard { count: 0 },
+    )
 }
 
 /// The sets of two units, each with its start code.
@@ -111,6 +119,8 @@ fn pps(default_active_minus1: u32, has_bottom: bool, has_control: bool) -> Pps {
         bottom_field_pic_order_in_frame_present_flag: has_bottom,
         num_ref_idx_l0_default_active_minus1: default_active_minus1,
         num_ref_idx_l1_default_active_minus1: 0,
+        weighted_pred_flag: false,
+        weighted_bipred_idc: 0,
         pic_init_qp_minus26: 0,
         pic_init_qs_minus26: 0,
         chroma_qp_index_offset: 0,
@@ -313,6 +323,49 @@ const DEBLOCKING: &[Case] = &[
     ("1 011 1 0001 0 1 1 1 0001111", Some((13, RANGE))),
 ];
 
+/// The table of weights of P slices whose picture parameter set has weighted_pred_flag 1.
+const WEIGHTS: &[Case] = &[
+    ("1 00110 1 0001 0 0 1 1 0 0 0 1", None),
+    ("1 011 1 0001 0 1", None),
+    ("1 00110 1 0001 0 0 0001000 0001000 0 0 0 1", None),
+    ("1 00110 1 0001 0 0 0001001 1", Some((13, RANGE))),
+    ("1 00110 1 0001 0 0 1 0001001 1", Some((14, RANGE))),
+    (
+        "1 00110 1 0001 0 0 1 1 1 000000011111110 00000000100000001 0 0 1",
+        None,
+    ),
+    (
+        "1 00110 1 0001 0 0 1 1 1 00000000100000001 000000011111110 0 0 1",
+        None,
+    ),
+    (
+        "1 00110 1 0001 0 0 1 1 1 00000000100000000 1",
+        Some((16, RANGE)),
+    ),
+    (
+        "1 00110 1 0001 0 0 1 1 1 00000000100000011 1",
+        Some((16, RANGE)),
+    ),
+    (
+        "1 00110 1 0001 0 0 1 1 1 1 00000000100000000",
+        Some((17, RANGE)),
+    ),
+    (
+        "1 00110 1 0001 0 0 1 1 0 1 1 1 00000000100000000 1",
+        Some((19, RANGE)),
+    ),
+    (
+        "1 00110 1 0001 0 0 1 1 0 1 1 1 1 00000000100000011",
+        Some((20, RANGE)),
+    ),
+    ("1 00110 1 0001 0 1 1 1 00100 0001001 1", Some((20, RANGE))),
+    (
+        "1 00110 1 0001 1 010 0 1 1 0 0 1 00000000100000000 1",
+        Some((21, RANGE)),
+    ),
+    ("1 00110 1 0001 1 010 0 1 1 0 0 0 0 0 1", None),
+];
+
 /// idr_pic_id.
 const IDR_PIC_ID: &[Case] = &[
     (
@@ -340,6 +393,16 @@ fn edges_behind_lists(rt: &(impl Abort + AllocGlobal)) -> Result<(), Fail> {
     let alloc = rt.alloc();
     assert!(rt; p_refusals_are(alloc, 0, false, MARKING)?);
     assert!(rt; p_refusals_are(alloc, 0, true, DEBLOCKING)?);
+    Ok(())
+}
+
+/// The table of weights.
+fn tables_of_weights(rt: &(impl Abort + AllocGlobal)) -> Result<(), Fail> {
+    let alloc = rt.alloc();
+    let mut pps = pps(0, false, false);
+    pps.weighted_pred_flag = true;
+    let sets = sets_of(alloc, &sps(CountType::DecodingOrder), &pps)?;
+    assert!(rt; refusals_are(alloc, &sets, false, WEIGHTS)?);
     Ok(())
 }
 
@@ -566,6 +629,29 @@ fn p_slice_that_marks_long_terms(rt: &(impl Abort + AllocGlobal)) -> Result<(), 
     Ok(())
 }
 
+/// Whether a plane is weighted so.
+fn is_weight(weight: &Weight, denom: u8, factor: i16, offset: i16) -> bool {
+    weight.log2_weight_denom == denom && weight.weight == factor && weight.offset == offset
+}
+
+/// Denominators 1 and 0, and for the one index a luma weight of 3 with offset -2; the chroma weights are inferred.
+fn p_slice_with_weights(rt: &(impl Abort + AllocGlobal)) -> Result<(), Fail> {
+    let alloc = rt.alloc();
+    let pps = [0, 0, 1, 0x68, 0xCF, 0x38, 0x80];
+    let slice = [0, 0, 1, 0x61, 0x9A, 0x22, 0xCC, 0x52, 0xA0];
+    let header = header_after(alloc, SPS, pps.as_slice(), slice.as_slice(), false, 3)?;
+    match weights_of(&header, 0) {
+        Some(weights) => {
+            assert!(rt; is_weight(&weights.luma, 1, 3, -2));
+            assert!(rt; is_weight(&weights.cb, 0, 1, 0));
+            assert!(rt; is_weight(&weights.cr, 0, 1, 0));
+        }
+        None => assert!(rt; false),
+    }
+    assert!(rt; weights_of(&header, 1).is_none());
+    Ok(())
+}
+
 /// modification_of_pic_nums_idc 0 with difference 2, then the end.
 fn p_slice_that_modifies(rt: &(impl Abort + AllocGlobal)) -> Result<(), Fail> {
     let header = p_slice(rt.alloc(), &[0, 0, 1, 0x61, 0x9A, 0x2D, 0x11, 0x50])?;
@@ -738,6 +824,7 @@ fn deltas(rt: &(impl Abort + AllocGlobal)) -> Result<(), Fail> {
 fn edges_of_each_part(rt: HostRuntime) -> Result<(), Fail> {
     edges_of_p_slices(&rt)?;
     edges_behind_lists(&rt)?;
+    tables_of_weights(&rt)?;
     number_of_operations(&rt)?;
     idr(&rt)
 }
@@ -751,6 +838,7 @@ fn whole_headers(rt: HostRuntime) -> Result<(), Fail> {
     p_slices_that_mark(&rt)?;
     p_slice_that_marks_long_terms(&rt)?;
     p_slice_that_modifies(&rt)?;
+    p_slice_with_weights(&rt)?;
     lsb_slices(&rt)?;
     lsb_pictures(&rt)?;
     deltas(&rt)

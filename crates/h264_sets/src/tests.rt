@@ -51,6 +51,8 @@ fn pps() -> Pps
         bottom_field_pic_order_in_frame_present_flag: false,
         num_ref_idx_l0_default_active_minus1: 0,
         num_ref_idx_l1_default_active_minus1: 0,
+        weighted_pred_flag: false,
+        weighted_bipred_idc: 0,
         pic_init_qp_minus26: 0,
         pic_init_qs_minus26: 0,
         chroma_qp_index_offset: 0,

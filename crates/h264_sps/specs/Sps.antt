@@ -1,6 +1,8 @@
 -- seq_parameter_set_data() (7.3.2.1.1), with the rules on its values (7.4.2.1.1, A.2, A.3).
 use Rattle.std.specs.Prelude.{ℕ, ◌+◌, ◌*◌, ◌/◌, min, nat_le, nat_lt, ◌==◌, ◌&&◌, ◌||◌, Bool, not, unwrap_or}
 use Rattle.std.specs.Option.{is_some}
+use Rattle.h264_base.specs.declared.mode.Target.{Target}
+use Rattle.h264_base.specs.declared.mode.Target.TheVariants as targets
 use Rattle.h264_base.specs.declared.element_name.ElementName.TheVariants.{ProfileIdc, ConstraintSet0Flag, ConstraintSet1Flag, ConstraintSet2Flag, ConstraintSet3Flag, ConstraintSet4Flag, ConstraintSet5Flag, ReservedZero2bits, LevelIdc, SeqParameterSetId, Log2MaxFrameNumMinus4, MaxNumRefFrames, GapsInFrameNumValueAllowedFlag, PicWidthInMbsMinus1, PicHeightInMapUnitsMinus1, FrameMbsOnlyFlag, Direct8x8InferenceFlag, FrameCroppingFlag, FrameCropLeftOffset, FrameCropRightOffset, FrameCropTopOffset, FrameCropBottomOffset, VuiParametersPresentFlag}
 use Rattle.h264_base.specs.declared.rule.Rule.TheVariants.{Profile, Range, FrameSize, Crop}
 use Rattle.h264_base.specs.declared.stop.Feature.TheVariants.{Level6}
@@ -16,9 +18,10 @@ use Rattle.h264_sps.specs.declared.sps.Sps.{Sps}
 use Rattle.h264_sps.specs.Counting.{counting}
 use Rattle.h264_vui.specs.Vui.{flagged, vui}
 
--- Baseline, or Main or Extended where the stream says that a Baseline decoder decodes it too
-abbrev pub is_judged_profile : ℕ → Bool → Bool
-is_judged_profile profile_idc set0 = profile_idc == 66 || (profile_idc == 77 || profile_idc == 88) && set0
+-- Baseline, or Main or Extended where the stream says that a Baseline decoder decodes it too (A.2.1); Main itself where the target has its tools (A.2.2)
+abbrev pub is_judged_profile : Target → ℕ → Bool → Bool
+is_judged_profile targets.Baseline profile_idc set0 = profile_idc == 66 || (profile_idc == 77 || profile_idc == 88) && set0
+is_judged_profile targets.MainIP profile_idc set0 = profile_idc == 66 || profile_idc == 77 || profile_idc == 88 && set0
 
 unfoldable pub constraint_set_flags : Grammar ConstraintSetFlags
 constraint_set_flags = do
@@ -56,11 +59,11 @@ pub record ProfileAndLevel : Type 0 where
   pub reserved : ℕ
   pub named : LevelNamed
 
-unfoldable pub profile_and_level : Grammar ProfileAndLevel
-profile_and_level = do
+unfoldable pub profile_and_level : Target → Grammar ProfileAndLevel
+profile_and_level target = do
   profile ← element ProfileIdc (Fixed 8)
   flags ← constraint_set_flags
-  _ ← check Profile profile.bit (is_judged_profile (natural profile.value) flags.set0)
+  _ ← check Profile profile.bit (is_judged_profile target (natural profile.value) flags.set0)
   reserved ← bits ReservedZero2bits 2
   named ← level flags.set3
   Done (record { profile_idc = natural profile.value; flags = flags; reserved = reserved; named = named })
@@ -95,9 +98,9 @@ frame_cropping size = do
   _ ← check Crop bottom.bit (nat_lt (2 * (natural top.value + natural bottom.value)) (16 * size.height))
   Done (record { left = natural left.value; right = natural right.value; top = natural top.value; bottom = natural bottom.value })
 
-unfoldable pub sps : Grammar Sps
-sps = do
-  front ← profile_and_level
+unfoldable pub sps : Target → Grammar Sps
+sps target = do
+  front ← profile_and_level target
   id ← unsigned_to SeqParameterSetId 31
   log2_minus4 ← unsigned_to Log2MaxFrameNumMinus4 12
   count_type ← counting

@@ -12,7 +12,7 @@ ghost use Rattle.h264_sps.specs.Sps.{constraint_set_flags, level, profile_and_le
 
 use crate::count_type::{CountType, read_count_type};
 use crate::sps::{ConstraintSetFlags, FrameCropping, FrameSize, Sps};
-use h264_base::{ElementName, Elements, Feature, Rule, Stop};
+use h264_base::{ElementName, Elements, Feature, Rule, Stop, Target};
 use h264_bits::forms::{flag_value, u_must_be, u_value, u_values, ue_up_to};
 use h264_bits::{Bits, check, read_trailing, read_u, read_ue, support};
 use h264_tables::{Limits, limits};
@@ -45,10 +45,13 @@ pub(crate) struct Start {
     gaps_in_frame_num_value_allowed_flag: bool,
 }
 
-fn is_judged_profile(profile_idc: u32, set0: bool) -> bool
-    ensures { result ≡ is_judged_profile profile_idc set0 }
+fn is_judged_profile(target: Target, profile_idc: u32, set0: bool) -> bool
+    ensures { result ≡ is_judged_profile target profile_idc set0 }
 {
-    profile_idc == 66 || (profile_idc == 77 || profile_idc == 88) && set0
+    match target {
+        Target::Baseline => profile_idc == 66 || (profile_idc == 77 || profile_idc == 88) && set0,
+        Target::MainIP => profile_idc == 66 || profile_idc == 77 || profile_idc == 88 && set0,
+    }
 }
 
 fn is_level_6(level_idc: u32) -> bool
@@ -101,14 +104,14 @@ fn read_level<S: Elements>(set3: bool, bits: &mut Bits, sink: &mut S) -> Result<
 }
 
 /// The profile, the flags and the level.
-fn read_front<S: Elements>(bits: &mut Bits, sink: &mut S) -> Result<Front, Stop>
+fn read_front<S: Elements>(target: Target, bits: &mut Bits, sink: &mut S) -> Result<Front, Stop>
     requires { S.failures sink.old < 2 ^ 64 - 1 }
-    ensures { Meets S.took S.failures (Is front_seen) profile_and_level bits.old bits.new sink.old sink.new result }
+    ensures { Meets S.took S.failures (Is front_seen) (profile_and_level target) bits.old bits.new sink.old sink.new result }
 {
     let profile = read_u::<8, S>(bits, ElementName::ProfileIdc, sink)?;
     let flags = read_flags(bits, sink)?;
     check(
-        is_judged_profile(profile.value, flags.set0),
+        is_judged_profile(target, profile.value, flags.set0),
         Rule::Profile,
         profile.bit,
     )?;
@@ -266,12 +269,12 @@ fn sps_from_size<S: Elements>(start: &Start, bits: &mut Bits, sink: &mut S) -> R
 }
 
 /// The set, element by element.
-fn sps_steps<S: Elements>(bits: &mut Bits, sink: &mut S) -> Result<Sps, Stop>
+fn sps_steps<S: Elements>(target: Target, bits: &mut Bits, sink: &mut S) -> Result<Sps, Stop>
     requires { S.failures sink.old < 2 ^ 64 - 1 }
-    ensures meets { Meets S.took S.failures (Is (λ x. x)) sps bits.old bits.new sink.old sink.new result }
+    ensures meets { Meets S.took S.failures (Is (λ x. x)) (sps target) bits.old bits.new sink.old sink.new result }
     ensures id { IfOk result (λ s. s.seq_parameter_set_id ≤ 31) }
 {
-    let front = read_front(bits, sink)?;
+    let front = read_front(target, bits, sink)?;
     let id = ue_up_to(bits, ElementName::SeqParameterSetId, 31, sink)?;
     let log2_minus4 = ue_up_to(bits, ElementName::Log2MaxFrameNumMinus4, 12, sink)?;
     let count_type = read_count_type(bits, sink)?;
@@ -288,16 +291,16 @@ fn sps_steps<S: Elements>(bits: &mut Bits, sink: &mut S) -> Result<Sps, Stop>
     sps_from_size(&start, bits, sink)
 }
 
-/// Reads a sequence parameter set, which is all of the unit's RBSP.
+/// Reads a sequence parameter set, which is all of the unit's RBSP, for this target.
 ///
 /// Ok: the set; the elements that the sink was told are its one derivation, with every rule met.
 /// No: the first rule that it breaks, at its stream bit. Outside: its level is one that is not judged. Write: the sink failed.
 /// After an Err the reader may have moved.
-pub fn read_sps<S: Elements>(bits: &mut Bits, sink: &mut S) -> Result<Sps, Stop>
+pub fn read_sps<S: Elements>(target: Target, bits: &mut Bits, sink: &mut S) -> Result<Sps, Stop>
     requires { S.failures sink.old < 2 ^ 64 - 1 }
-    ensures answers { Answers S.took S.failures (Is (λ x. x)) sps bits.old bits.new sink.old sink.new result }
-    ensures meets { Meets S.took S.failures (Is (λ x. x)) sps bits.old bits.new sink.old sink.new result }
+    ensures answers { Answers S.took S.failures (Is (λ x. x)) (sps target) bits.old bits.new sink.old sink.new result }
+    ensures meets { Meets S.took S.failures (Is (λ x. x)) (sps target) bits.old bits.new sink.old sink.new result }
     ensures id { IfOk result (λ s. s.seq_parameter_set_id ≤ 31) }
 {
-    sps_steps(bits, sink)
+    sps_steps(target, bits, sink)
 }
