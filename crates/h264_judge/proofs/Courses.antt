@@ -32,6 +32,7 @@ use Rattle.h264_slices.specs.Keeping.{ended_pictures, close_steps}
 use Rattle.h264_slices.specs.Closing.{whole_at, whole_picture, whole_steps}
 use Rattle.h264_slices.specs.Demands.{Demand}
 use Rattle.h264_judge.specs.declared.state.Summary.{Summary}
+use Rattle.h264_judge.specs.declared.state.Terms.{Terms}
 use Rattle.h264_judge.specs.Units.{unit_call, is_slice, slice_unit, other_content, content, content_steps, data_course, content_course, frames_at, end_steps, picture_demand, summary_of}
 use Rattle.h264_slices.specs.StepOutcome.{steps_outcome, structure_from, course_outcome}
 use Rattle.h264_judge.specs.UnitOutcome.{sps_outcome, pps_outcome, slice_outcome, header_content, whole_slice, joined, joined_on, joined_other, joined_by, unit_by_steps, unit_outcome, end_outcome}
@@ -118,13 +119,13 @@ module _ (before : History) (unit : NalUnit) where
   unfolding course_outcome
   none-header h bit = refl
 
-  sps-is : (mode : Mode) → on mode (◌bind◌ sps (λ set. Done (contents.OfSps set))) ≡ joined mode before unit (sps_outcome unit)
+  sps-is : (terms : Terms) → on terms.mode (◌bind◌ (sps terms.target) (λ set. Done (contents.OfSps set))) ≡ joined terms.mode before unit (sps_outcome terms.target unit)
   unfolding sps_outcome
-  sps-is mode = plain mode before unit contents.OfSps (none-sps mode) sps
+  sps-is terms = plain terms.mode before unit contents.OfSps (none-sps terms.mode) (sps terms.target)
 
-  pps-is : (mode : Mode) → on mode (◌bind◌ pps (λ set. Done (contents.OfPps set))) ≡ joined mode before unit (pps_outcome unit)
+  pps-is : (terms : Terms) → on terms.mode (◌bind◌ (pps terms.target) (λ set. Done (contents.OfPps set))) ≡ joined terms.mode before unit (pps_outcome terms.target unit)
   unfolding pps_outcome
-  pps-is mode = plain mode before unit contents.OfPps (none-pps mode) pps
+  pps-is terms = plain terms.mode before unit contents.OfPps (none-pps terms.mode) (pps terms.target)
 
   header-is : on modes.Headers (header_content before unit) ≡ joined modes.Headers before unit (slice_outcome before unit)
   unfolding slice_outcome
@@ -144,41 +145,41 @@ module _ (before : History) (unit : NalUnit) where
   other-is modes.Headers kind = other-by (is_slice kind) modes.Headers (joined modes.Headers before unit (slice_outcome before unit)) header-is
   other-is modes.Full kind = other-by (is_slice kind) modes.Full (whole_slice before unit) whole-is
 
-  content-by : (a b : Bool) (mode : Mode) (kind : ℕ) → on mode (if a then ◌bind◌ sps (λ set. Done (contents.OfSps set)) else (if b then ◌bind◌ pps (λ set. Done (contents.OfPps set)) else other_content mode kind before unit)) ≡ (if a then joined mode before unit (sps_outcome unit) else (if b then joined mode before unit (pps_outcome unit) else joined_other mode kind before unit))
-  content-by true b mode kind = sps-is mode
-  content-by false true mode kind = pps-is mode
-  content-by false false mode kind = other-is mode kind
+  content-by : (a b : Bool) (terms : Terms) (kind : ℕ) → on terms.mode (if a then ◌bind◌ (sps terms.target) (λ set. Done (contents.OfSps set)) else (if b then ◌bind◌ (pps terms.target) (λ set. Done (contents.OfPps set)) else other_content terms.mode kind before unit)) ≡ (if a then joined terms.mode before unit (sps_outcome terms.target unit) else (if b then joined terms.mode before unit (pps_outcome terms.target unit) else joined_other terms.mode kind before unit))
+  content-by true b terms kind = sps-is terms
+  content-by false true terms kind = pps-is terms
+  content-by false false terms kind = other-is terms.mode kind
 
-  content-is : (mode : Mode) (kind : ℕ) → on mode (content mode kind before unit) ≡ joined_by mode kind before unit
+  content-is : (terms : Terms) (kind : ℕ) → on terms.mode (content terms kind before unit) ≡ joined_by terms kind before unit
   unfolding content joined_by
-  content-is mode kind = content-by (kind == 7) (kind == 8) mode kind
+  content-is terms kind = content-by (kind == 7) (kind == 8) terms kind
 
   -- what is in a unit, by its course and by its parts
-  content-joined : (mode : Mode) → (course_outcome (body_of unit) (content_course mode before unit) >>= λ found. gives (record { unit = unit; content = found } ∷ before)) ≡ joined_by mode (nal_unit_type (header_of unit)) before unit
+  content-joined : (terms : Terms) → (course_outcome (body_of unit) (content_course terms before unit) >>= λ found. gives (record { unit = unit; content = found } ∷ before)) ≡ joined_by terms (nal_unit_type (header_of unit)) before unit
   unfolding course_outcome
-  content-joined mode =
+  content-joined terms =
       let join : Content → Outcome History = λ found. gives (record { unit = unit; content = found } ∷ before) in
-      let read = structure_from (content mode (nal_unit_type (header_of unit)) before unit) (body_of unit) 0 in
-      bind-assoc read (λ x. steps_outcome (content_steps mode before unit x.0) >>= λ _. course_outcome (body_of unit) (data_course mode before unit x.0 x.1)) join
-      ∙ bind-same read (λ x. (steps_outcome (content_steps mode before unit x.0) >>= λ _. course_outcome (body_of unit) (data_course mode before unit x.0 x.1)) >>= join) (λ x. steps_outcome (content_steps mode before unit x.0) >>= λ _. course_outcome (body_of unit) (data_course mode before unit x.0 x.1) >>= join) (λ x. bind-assoc (steps_outcome (content_steps mode before unit x.0)) (λ _. course_outcome (body_of unit) (data_course mode before unit x.0 x.1)) join)
-      ∙ content-is mode (nal_unit_type (header_of unit))
+      let read = structure_from (content terms (nal_unit_type (header_of unit)) before unit) (body_of unit) 0 in
+      bind-assoc read (λ x. steps_outcome (content_steps terms.mode before unit x.0) >>= λ _. course_outcome (body_of unit) (data_course terms.mode before unit x.0 x.1)) join
+      ∙ bind-same read (λ x. (steps_outcome (content_steps terms.mode before unit x.0) >>= λ _. course_outcome (body_of unit) (data_course terms.mode before unit x.0 x.1)) >>= join) (λ x. steps_outcome (content_steps terms.mode before unit x.0) >>= λ _. course_outcome (body_of unit) (data_course terms.mode before unit x.0 x.1) >>= join) (λ x. bind-assoc (steps_outcome (content_steps terms.mode before unit x.0)) (λ _. course_outcome (body_of unit) (data_course terms.mode before unit x.0 x.1)) join)
+      ∙ content-is terms (nal_unit_type (header_of unit))
 
 -- What comes of a unit, step by step.
-pub by-steps : (mode : Mode) (before : History) (unit : NalUnit) → unit_outcome mode before unit ≡ unit_by_steps mode before unit
+pub by-steps : (terms : Terms) (before : History) (unit : NalUnit) → unit_outcome terms before unit ≡ unit_by_steps terms before unit
 unfolding unit_outcome unit_by_steps course_outcome
-by-steps mode before unit =
+by-steps terms before unit =
     let call = Said (unit_call unit.from (header_of unit) (length unit.body)) in
     let hs = header_demands (8 * unit.from) (header_of unit) in
-    let cs = whole_at mode (nal_unit_type (header_of unit)) before ++ (needs (closing_at (nal_unit_type (header_of unit)) before) ++ frames_at mode (nal_unit_type (header_of unit)) before) in
-    let o = course_outcome (body_of unit) (content_course mode before unit) in
+    let cs = whole_at terms.mode (nal_unit_type (header_of unit)) before ++ (needs (closing_at (nal_unit_type (header_of unit)) before) ++ frames_at terms.mode (nal_unit_type (header_of unit)) before) in
+    let o = course_outcome (body_of unit) (content_course terms before unit) in
     let join : Content → Outcome History = λ found. gives (record { unit = unit; content = found } ∷ before) in
     ap (λ (q : Outcome History). answers (emulation_checked unit.from unit.body) >>= λ _. q)
     (bind-assoc (steps_outcome (needs hs)) (λ _. tells call >>= λ _. steps_outcome cs >>= λ _. o) join
-    ∙ ap (λ (q : Outcome History). steps_outcome (needs hs) >>= λ _. q) (bind-assoc (tells call) (λ _. steps_outcome cs >>= λ _. o) join ∙ ap (λ (q : Outcome History). tells call >>= λ _. q) (bind-assoc (steps_outcome cs) (λ _. o) join ∙ ap (λ (q : Outcome History). steps_outcome cs >>= λ _. q) (content-joined before unit mode)))
-    ∙ ap (λ (q : Outcome (Unit {0})). q >>= λ _. tells call >>= λ _. steps_outcome cs >>= λ _. joined_by mode (nal_unit_type (header_of unit)) before unit) (needs-judged hs))
+    ∙ ap (λ (q : Outcome History). steps_outcome (needs hs) >>= λ _. q) (bind-assoc (tells call) (λ _. steps_outcome cs >>= λ _. o) join ∙ ap (λ (q : Outcome History). tells call >>= λ _. q) (bind-assoc (steps_outcome cs) (λ _. o) join ∙ ap (λ (q : Outcome History). steps_outcome cs >>= λ _. q) (content-joined before unit terms)))
+    ∙ ap (λ (q : Outcome (Unit {0})). q >>= λ _. tells call >>= λ _. steps_outcome cs >>= λ _. joined_by terms (nal_unit_type (header_of unit)) before unit) (needs-judged hs))
 
-pub plays-course : {S X : Type 0} (took : S → List Told → Type 0) (failures : S → ℕ) (view : X → History) (mode : Mode) (before : History) (unit : NalUnit) (s s' : S) (r : Result X Stop) → Plays took failures view (unit_by_steps mode before unit) s s' r → Plays took failures view (unit_outcome mode before unit) s s' r
-plays-course took failures view mode before unit s s' r p = subst (λ o. Plays took failures view o s s' r) (sym (by-steps mode before unit)) p
+pub plays-course : {S X : Type 0} (took : S → List Told → Type 0) (failures : S → ℕ) (view : X → History) (terms : Terms) (before : History) (unit : NalUnit) (s s' : S) (r : Result X Stop) → Plays took failures view (unit_by_steps terms before unit) s s' r → Plays took failures view (unit_outcome terms before unit) s s' r
+plays-course took failures view terms before unit s s' r p = subst (λ o. Plays took failures view o s s' r) (sym (by-steps terms before unit)) p
 
 -- no fewer pictures have ended once the newest has
 pub ended-grows : (on ends : Bool) (pictures : List CodedPicture) → length (ended_pictures on false pictures) ≤ length (ended_pictures on ends pictures)

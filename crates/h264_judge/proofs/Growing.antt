@@ -52,6 +52,7 @@ use Rattle.h264_slices.specs.Pictures.{CodedSlice, CodedPicture, sets_at, with_s
 use Rattle.h264_slices.specs.Closing.{whole_picture, whole_steps, whole_at}
 use Rattle.h264_slices.specs.Slices.{is_idr_due, new_num_demand, gap_rules, first_mb_demands, first_slice_rules, rules_of, steps_by, slice_steps}
 use Rattle.h264_slices.specs.Data.{slice_data_at}
+use Rattle.h264_judge.specs.declared.state.Terms.{Terms}
 use Rattle.h264_judge.specs.Units.{unit_call, is_slice, slice_unit, header_or_passed, other_content, content, content_steps, data_course, frames_at, content_course, unit_course, end_steps}
 use Rattle.h264_slices.specs.Outcome.{Outcome, ◌>>=◌, goes_on as outcome_on, answers, gives}
 use Rattle.h264_slices.specs.StepOutcome.{steps_outcome, structure_from, course_outcome}
@@ -369,14 +370,14 @@ other-gives modes.Units kind before unit = passed-gives kind before
 other-gives modes.Headers kind before unit = header-or kind before unit
 other-gives modes.Full kind before unit = header-or kind before unit
 
-content-gives : (mode : Mode) (kind : ℕ) (before : History) (unit : NalUnit) → Gives (IsSound kind before) (content mode kind before unit)
+content-gives : (terms : Terms) (kind : ℕ) (before : History) (unit : NalUnit) → Gives (IsSound kind before) (content terms kind before unit)
 unfolding content
-content-gives mode kind before unit =
+content-gives terms kind before unit =
     gives-choice (kind == 7) _ _
-    (λ _. gives-bind (gives-any sps) (λ set _. gives-done (contents.OfSps set) tt))
+    (λ _. gives-bind (gives-any (sps terms.target)) (λ set _. gives-done (contents.OfSps set) tt))
     (λ _. gives-choice (kind == 8) _ _
-    (λ _. gives-bind (gives-any pps) (λ set _. gives-done (contents.OfPps set) tt))
-    (λ _. other-gives mode kind before unit))
+    (λ _. gives-bind (gives-any (pps terms.target)) (λ set _. gives-done (contents.OfPps set) tt))
+    (λ _. other-gives terms.mode kind before unit))
 
 -- slice data give the macroblocks of a slice
 abbrev pub IsWith : Content → Content → Type 0
@@ -537,14 +538,14 @@ record UnitGrows (mode : Mode) (before after : History) (unit : NalUnit) (c : Co
   ends : Begins (ended_in after) (ends_picture (nal_unit_type (header_of unit))) (runs_of before)
   steps : StepsOf (ended_in after) (content_steps mode before unit c)
 
-module _ (mode : Mode) (before : History) (unit : NalUnit) where
+module _ (terms : Terms) (before : History) (unit : NalUnit) where
   abbrev pub kind : ℕ
   kind = nal_unit_type (header_of unit)
 
   abbrev one_more : Content → History
   one_more found = record { unit = unit; content = found } ∷ before
 
-  sets-grow : (h : Header) (ms : List CodedMacroblock) (o : Option (Pps × Sps)) → is_some o ≡ true → is_slice kind ≡ true → sets_at before h ≡ o → UnitGrows mode before (one_more (contents.OfSlice h ms)) unit (contents.OfSlice h [])
+  sets-grow : (h : Header) (ms : List CodedMacroblock) (o : Option (Pps × Sps)) → is_some o ≡ true → is_slice kind ≡ true → sets_at before h ≡ o → UnitGrows terms.mode before (one_more (contents.OfSlice h ms)) unit (contents.OfSlice h [])
   sets-grow h ms None some slice e = absurd cc
   sets-grow h ms (Some sets) some slice e =
       let runs : runs_of (one_more (contents.OfSlice h ms)) ≡ joined_to (begins_at before h) (with_sets unit h ms sets) (runs_of before) =
@@ -554,15 +555,15 @@ module _ (mode : Mode) (before : History) (unit : NalUnit) where
       record {
         grows = subst (λ (ps : List CodedPicture). ended_in before ≤ ended_by true ps) (sym runs) (slice-grows (goes_on before) (runs_of before) (with_sets unit h ms sets) (begins_at before h) refl);
         ends = λ t. absurd (let no = slice-goes kind slice in cc);
-        steps = slice-of (ended_in (one_more (contents.OfSlice h ms))) mode before unit h begins;
+        steps = slice-of (ended_in (one_more (contents.OfSlice h ms))) terms.mode before unit h begins;
       }
 
-  content-grows : (c : Content) → IsSound kind before c → (found : Content) → IsWith c found → UnitGrows mode before (one_more found) unit c
+  content-grows : (c : Content) → IsSound kind before c → (found : Content) → IsWith c found → UnitGrows terms.mode before (one_more found) unit c
   content-grows (contents.OfSps set) sound found e = rw e (record { grows = passed-grows (ends_picture kind) (goes_on before) (runs_of before); ends = passed-begins (ends_picture kind) (goes_on before) (runs_of before); steps = tt })
   content-grows (contents.OfPps set) sound found e = rw e (record { grows = passed-grows (ends_picture kind) (goes_on before) (runs_of before); ends = passed-begins (ends_picture kind) (goes_on before) (runs_of before); steps = tt })
   content-grows (contents.OfSlice h macroblocks) sound found e = rw e.1 (slice-any h macroblocks (sets-grow h e.0 (sets_at before h) sound.1 sound.0 refl))
     where
-      slice-any : (h : Header) (ms : List CodedMacroblock) → {after : History} → UnitGrows mode before after unit (contents.OfSlice h []) → UnitGrows mode before after unit (contents.OfSlice h ms)
+      slice-any : (h : Header) (ms : List CodedMacroblock) → {after : History} → UnitGrows terms.mode before after unit (contents.OfSlice h []) → UnitGrows terms.mode before after unit (contents.OfSlice h ms)
       slice-any h ms g = record { grows = g.grows; ends = g.ends; steps = g.steps }
   content-grows contents.Passed sound found e = rw e (record { grows = passed-grows (ends_picture kind) (goes_on before) (runs_of before); ends = passed-begins (ends_picture kind) (goes_on before) (runs_of before); steps = tt })
 
@@ -570,12 +571,12 @@ module _ (mode : Mode) (before : History) (unit : NalUnit) where
   Grows after calls = (ended_in before ≤ ended_in after) × AreOf (ended_in after) calls
 
   abbrev pub picture_end : List Step
-  picture_end = whole_at mode kind before ++ (needs (closing_at kind before) ++ frames_at mode kind before)
+  picture_end = whole_at terms.mode kind before ++ (needs (closing_at kind before) ++ frames_at terms.mode kind before)
 
   pub picture-end-of : (n : ℕ) → Begins n (ends_picture kind) (runs_of before) → StepsOf n picture_end
   picture-end-of n l =
-      steps-both n (whole_at mode kind before) _ (steps-if n (ends_picture kind) (whole_steps mode before) [] (whole-of n mode before) tt)
-      (steps-both n (needs (closing_at kind before)) (frames_at mode kind before) (needs-of n (closing_at kind before)) (closing-if n mode before (ends_picture kind) l))
+      steps-both n (whole_at terms.mode kind before) _ (steps-if n (ends_picture kind) (whole_steps terms.mode before) [] (whole-of n terms.mode before) tt)
+      (steps-both n (needs (closing_at kind before)) (frames_at terms.mode kind before) (needs-of n (closing_at kind before)) (closing-if n terms.mode before (ends_picture kind) l))
 
   -- the same once what stands behind the content is read
   record ContentEnds (found : Content) (calls : List Told) : Type 0 where
@@ -584,27 +585,27 @@ module _ (mode : Mode) (before : History) (unit : NalUnit) where
     of : AreOf (ended_in (one_more found)) calls
 
   abbrev course : Course
-  course = content_course mode before unit
+  course = content_course terms before unit
 
   content-ends : (found : Content) → (course_outcome (body_of unit) course).answer ≡ Ok found → ContentEnds found (course_outcome (body_of unit) course).calls
   unfolding course_outcome
   content-ends found e =
       let n = ended_in (one_more found) in
-      let g = content mode kind before unit in
+      let g = content terms kind before unit in
       let body = body_of unit in
-      let behind : Content × ℕ → Outcome Content = λ x. course_outcome body (data_course mode before unit x.0 x.1) in
-      let read = in-turn (structure_from g body 0) (λ x. steps_outcome (content_steps mode before unit x.0) >>= λ _. behind x) found e in
+      let behind : Content × ℕ → Outcome Content = λ x. course_outcome body (data_course terms.mode before unit x.0 x.1) in
+      let read = in-turn (structure_from g body 0) (λ x. steps_outcome (content_steps terms.mode before unit x.0) >>= λ _. behind x) found e in
       let x = read.value in
-      let met = in-turn (steps_outcome (content_steps mode before unit x.0)) (λ _. behind x) found read.ends in
-      let rest = data-ends mode before unit x.0 x.1 found met.ends in
-      let grown = content-grows x.0 (given body 0 (content-gives mode kind before unit) x read.is) found rest.same in
+      let met = in-turn (steps_outcome (content_steps terms.mode before unit x.0)) (λ _. behind x) found read.ends in
+      let rest = data-ends terms.mode before unit x.0 x.1 found met.ends in
+      let grown = content-grows x.0 (given body 0 (content-gives terms kind before unit) x read.is) found rest.same in
       record {
         grows = grown.grows;
         ends = grown.ends;
-        of = in-turn-of n read (elements-of n body (run g body 0).elements) (in-turn-of n met (steps-of n (content_steps mode before unit x.0) grown.steps) (rest.any n));
+        of = in-turn-of n read (elements-of n body (run g body 0).elements) (in-turn-of n met (steps-of n (content_steps terms.mode before unit x.0) grown.steps) (rest.any n));
       }
 
-  course-grows : (found : Content) → (course_outcome (body_of unit) (unit_course mode before unit)).answer ≡ Ok found → Grows (one_more found) (course_outcome (body_of unit) (unit_course mode before unit)).calls
+  course-grows : (found : Content) → (course_outcome (body_of unit) (unit_course terms before unit)).answer ≡ Ok found → Grows (one_more found) (course_outcome (body_of unit) (unit_course terms before unit)).calls
   unfolding course_outcome
   course-grows found e =
       let n = ended_in (one_more found) in
@@ -620,15 +621,15 @@ module _ (mode : Mode) (before : History) (unit : NalUnit) where
       let inner = content-ends found three.ends in
       (inner.grows, in-turn-of n one (steps-of n first (needs-of n (header_demands (8 * unit.from) (header_of unit)))) (in-turn-of n two (tt, tt) (in-turn-of n three (steps-of n picture_end (picture-end-of n inner.ends)) inner.of)))
 
-pub unit-grows : (mode : Mode) (before after : History) (unit : NalUnit) → (unit_outcome mode before unit).answer ≡ Ok after → (ended_in before ≤ ended_in after) × AreOf (ended_in after) (unit_outcome mode before unit).calls
+pub unit-grows : (terms : Terms) (before after : History) (unit : NalUnit) → (unit_outcome terms before unit).answer ≡ Ok after → (ended_in before ≤ ended_in after) × AreOf (ended_in after) (unit_outcome terms before unit).calls
 unfolding unit_outcome
-unit-grows mode before after unit e =
+unit-grows terms before after unit e =
     let more : Content → Outcome History = λ found. gives (record { unit = unit; content = found } ∷ before) in
-    let course = course_outcome (body_of unit) (unit_course mode before unit) in
+    let course = course_outcome (body_of unit) (unit_course terms before unit) in
     let sound = in-turn (answers (emulation_checked unit.from unit.body)) (λ _. course >>= more) after e in
     let whole = in-turn course more after sound.ends in
     let same : (record { unit = unit; content = whole.value } ∷ before) ≡ after = cc (whole.ends) in
-    let grown = subst (λ (later : History). (ended_in before ≤ ended_in later) × AreOf (ended_in later) course.calls) same (course-grows mode before unit whole.value whole.is) in
+    let grown = subst (λ (later : History). (ended_in before ≤ ended_in later) × AreOf (ended_in later) course.calls) same (course-grows terms before unit whole.value whole.is) in
     (grown.0, in-turn-of (ended_in after) sound tt (in-turn-of (ended_in after) whole grown.1 tt))
 
 -- what the end of the input tells is of all pictures

@@ -7,6 +7,7 @@ use Rattle.h264_plane.specs.declared.frame.Frame.{Frame}
 use Rattle.h264_units.specs.Stream.{NalUnit}
 use Rattle.h264_judge.specs.declared.state.State.{State}
 use Rattle.h264_judge.specs.declared.state.Summary.{Summary}
+use Rattle.h264_judge.specs.declared.state.Terms.{Terms}
 use Rattle.h264_slices.specs.Telling.{took_with, Agree}
 use Rattle.h264_slices.specs.Outcome.{Outcome, Plays}
 use Rattle.h264_slices.specs.History.{History}
@@ -15,12 +16,12 @@ use Rattle.h264_slices.specs.Keeping.{ended_in}
 use Rattle.h264_judge.specs.UnitOutcome.{unit_outcome, end_outcome}
 
 -- Behind these units a unit was judged, and the sink was told what comes of it.
-pub record Turns {S X : Type 0} (mode : Mode) (took : S → List Call → Type 0) (failures : S → ℕ) (frames : ℕ → Frame) (before : History) (unit : NalUnit) (new : State) (s s' : S) (result : Result X Stop) : Type 0 where
+pub record Turns {S X : Type 0} (terms : Terms) (took : S → List Call → Type 0) (failures : S → ℕ) (frames : ℕ → Frame) (before : History) (unit : NalUnit) (new : State) (s s' : S) (result : Result X Stop) : Type 0 where
   pub made : ℕ → Frame
   pub same : Agree (ended_in before) frames made
   pub after : History
-  pub plays : Plays (took_with made took) failures (λ (x : X). after) (unit_outcome mode before unit) s s' result
-  pub keeps : OnOk result (Keeps mode made after new)
+  pub plays : Plays (took_with made took) failures (λ (x : X). after) (unit_outcome terms before unit) s s' result
+  pub keeps : OnOk result (Keeps terms.mode made after new)
 
 -- What is in a unit was read and judged, where so many pictures had ended, and the sink was told what comes of it.
 pub record Joins {S X : Type 0} (mode : Mode) (took : S → List Call → Type 0) (failures : S → ℕ) (frames : ℕ → Frame) (ended : ℕ) (o : Outcome History) (new : State) (s s' : S) (result : Result X Stop) : Type 0 where

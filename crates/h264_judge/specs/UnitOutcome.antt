@@ -1,6 +1,7 @@
 -- What comes of one unit behind those before it, and of the end of the input. A working form of `Units`, which the code is proved against.
 use Rattle.std.specs.Prelude.{ℕ, ◌*◌, [], ◌∷◌, ◌++◌, length, ◌==◌, if◌then◌else◌}
 use Rattle.h264_base.specs.declared.mode.Mode.{Mode}
+use Rattle.h264_base.specs.declared.mode.Target.{Target}
 use Rattle.h264_base.specs.declared.mode.Mode.TheVariants as modes
 use Rattle.h264_base.specs.Grammar.{Grammar, Done, ◌>>=◌ as ◌bind◌}
 use Rattle.h264_slices.specs.Telling.{Said}
@@ -12,6 +13,7 @@ use Rattle.h264_pps.specs.Pps.{pps}
 use Rattle.h264_header.specs.Layout.{sets_of}
 use Rattle.h264_header.specs.Header.{header}
 use Rattle.h264_judge.specs.declared.state.Summary.{Summary}
+use Rattle.h264_judge.specs.declared.state.Terms.{Terms}
 use Rattle.h264_slices.specs.Content.{Content}
 use Rattle.h264_slices.specs.Content as contents
 use Rattle.h264_slices.specs.Demands.{judged}
@@ -25,14 +27,14 @@ use Rattle.h264_judge.specs.Units.{unit_call, is_slice, slice_unit, content_step
 use Rattle.h264_slices.specs.StepOutcome.{course_outcome, steps_outcome, structure_from}
 
 -- a parameter set is read
-unfoldable pub sps_outcome : NalUnit → Outcome Content
-sps_outcome unit = do
-  set ← structure_outcome sps (body_of unit)
+unfoldable pub sps_outcome : Target → NalUnit → Outcome Content
+sps_outcome target unit = do
+  set ← structure_outcome (sps target) (body_of unit)
   gives (contents.OfSps set)
 
-unfoldable pub pps_outcome : NalUnit → Outcome Content
-pps_outcome unit = do
-  set ← structure_outcome pps (body_of unit)
+unfoldable pub pps_outcome : Target → NalUnit → Outcome Content
+pps_outcome target unit = do
+  set ← structure_outcome (pps target) (body_of unit)
   gives (contents.OfPps set)
 
 unfoldable pub slice_outcome : History → NalUnit → Outcome Content
@@ -68,26 +70,26 @@ joined_other modes.Units kind before unit = joined modes.Units before unit (give
 joined_other modes.Headers kind before unit = if is_slice kind then joined modes.Headers before unit (slice_outcome before unit) else joined modes.Headers before unit (gives contents.Passed)
 joined_other modes.Full kind before unit = if is_slice kind then whole_slice before unit else joined modes.Full before unit (gives contents.Passed)
 
-unfoldable pub joined_by : Mode → ℕ → History → NalUnit → Outcome History
-joined_by mode kind before unit =
-    if kind == 7 then joined mode before unit (sps_outcome unit)
-    else (if kind == 8 then joined mode before unit (pps_outcome unit)
-    else joined_other mode kind before unit)
+unfoldable pub joined_by : Terms → ℕ → History → NalUnit → Outcome History
+joined_by terms kind before unit =
+    if kind == 7 then joined terms.mode before unit (sps_outcome terms.target unit)
+    else (if kind == 8 then joined terms.mode before unit (pps_outcome terms.target unit)
+    else joined_other terms.mode kind before unit)
 
 -- the course of a unit step by step
-unfoldable pub unit_by_steps : Mode → History → NalUnit → Outcome History
-unit_by_steps mode before unit = do
+unfoldable pub unit_by_steps : Terms → History → NalUnit → Outcome History
+unit_by_steps terms before unit = do
   _ ← answers (emulation_checked unit.from unit.body)
   _ ← answers (judged (header_demands (8 * unit.from) (header_of unit)))
   _ ← tells (Said (unit_call unit.from (header_of unit) (length unit.body)))
-  _ ← steps_outcome (whole_at mode (nal_unit_type (header_of unit)) before ++ (needs (closing_at (nal_unit_type (header_of unit)) before) ++ frames_at mode (nal_unit_type (header_of unit)) before))
-  joined_by mode (nal_unit_type (header_of unit)) before unit
+  _ ← steps_outcome (whole_at terms.mode (nal_unit_type (header_of unit)) before ++ (needs (closing_at (nal_unit_type (header_of unit)) before) ++ frames_at terms.mode (nal_unit_type (header_of unit)) before))
+  joined_by terms (nal_unit_type (header_of unit)) before unit
 
 -- what comes of a unit: it joins those before it, once its course has come to its end
-unfoldable pub unit_outcome : Mode → History → NalUnit → Outcome History
-unit_outcome mode before unit = do
+unfoldable pub unit_outcome : Terms → History → NalUnit → Outcome History
+unit_outcome terms before unit = do
   _ ← answers (emulation_checked unit.from unit.body)
-  found ← course_outcome (body_of unit) (unit_course mode before unit)
+  found ← course_outcome (body_of unit) (unit_course terms before unit)
   gives (record { unit = unit; content = found } ∷ before)
 
 -- the end of the input, at this bit: the picture that may go on ends, and then the stream

@@ -2,6 +2,7 @@
 use Rattle.std.specs.Prelude.{ℕ, ◌*◌, Bool, true, false, List, [], ◌∷◌, ◌++◌, length, ◌==◌, ◌||◌, if◌then◌else◌}
 use Rattle.h264_base.specs.declared.mode.Mode.{Mode}
 use Rattle.h264_base.specs.declared.mode.Mode.TheVariants as modes
+use Rattle.h264_base.specs.declared.mode.Target.{Target}
 use Rattle.h264_base.specs.declared.rule.Rule.TheVariants.{NoPicture}
 use Rattle.h264_base.specs.Call.{Call, OfUnit}
 use Rattle.h264_base.specs.Grammar.{Grammar, ◌>>=◌, Done}
@@ -12,6 +13,7 @@ use Rattle.h264_header.specs.declared.header.SliceUnit.{SliceUnit}
 use Rattle.h264_header.specs.Layout.{sets_of}
 use Rattle.h264_header.specs.Header.{header}
 use Rattle.h264_judge.specs.declared.state.Summary.{Summary}
+use Rattle.h264_judge.specs.declared.state.Terms.{Terms}
 use Rattle.h264_slices.specs.Content.{Content}
 use Rattle.h264_slices.specs.Content as contents
 use Rattle.h264_slices.specs.Demands.{Demand}
@@ -53,12 +55,16 @@ other_content modes.Units kind before unit = Done contents.Passed
 other_content modes.Headers kind before unit = header_or_passed kind before unit
 other_content modes.Full kind before unit = header_or_passed kind before unit
 
+-- Judged so far, and for such a decoder.
+abbrev pub terms_of : Mode → Target → Terms
+terms_of mode target = record { mode = mode; target = target }
+
 -- The syntax structure in a unit of this type, behind these units; of a slice its header (7.3.1, table 7-1).
-unfoldable pub content : Mode → ℕ → History → NalUnit → Grammar Content
-content mode kind before unit =
-    if kind == 7 then sps >>= (λ set. Done (contents.OfSps set))
-    else (if kind == 8 then pps >>= (λ set. Done (contents.OfPps set))
-    else other_content mode kind before unit)
+unfoldable pub content : Terms → ℕ → History → NalUnit → Grammar Content
+content terms kind before unit =
+    if kind == 7 then sps terms.target >>= (λ set. Done (contents.OfSps set))
+    else (if kind == 8 then pps terms.target >>= (λ set. Done (contents.OfPps set))
+    else other_content terms.mode kind before unit)
 
 -- The rules on what is in a unit, beside its own syntax, and what the sink is told once they are met.
 abbrev pub content_steps : Mode → History → NalUnit → Content → List Step
@@ -81,20 +87,20 @@ abbrev pub frames_at : Mode → ℕ → History → List Step
 frames_at mode kind before = if ends_picture kind then closing_frames mode before else []
 
 -- Behind the unit's first byte: its elements, the rules on what they give, and the elements behind these.
-abbrev pub content_course : Mode → History → NalUnit → Course
-content_course mode before unit =
-    Reads (content mode (nal_unit_type (header_of unit)) before unit) 0 (λ found bit.
-    Takes (content_steps mode before unit found)
-    (data_course mode before unit found bit))
+abbrev pub content_course : Terms → History → NalUnit → Course
+content_course terms before unit =
+    Reads (content terms (nal_unit_type (header_of unit)) before unit) 0 (λ found bit.
+    Takes (content_steps terms.mode before unit found)
+    (data_course terms.mode before unit found bit))
 
 -- The course of a unit whose bytes are sound: the rules of its first byte, the sink is told of it, a picture ends before it, and
 -- then comes what is in it.
-abbrev pub unit_course : Mode → History → NalUnit → Course
-unit_course mode before unit =
+abbrev pub unit_course : Terms → History → NalUnit → Course
+unit_course terms before unit =
     Takes (needs (header_demands (8 * unit.from) (header_of unit)))
     (Takes (step.Tells (Said (unit_call unit.from (header_of unit) (length unit.body))) ∷ [])
-    (Takes (whole_at mode (nal_unit_type (header_of unit)) before ++ (needs (closing_at (nal_unit_type (header_of unit)) before) ++ frames_at mode (nal_unit_type (header_of unit)) before))
-    (content_course mode before unit)))
+    (Takes (whole_at terms.mode (nal_unit_type (header_of unit)) before ++ (needs (closing_at (nal_unit_type (header_of unit)) before) ++ frames_at terms.mode (nal_unit_type (header_of unit)) before))
+    (content_course terms before unit)))
 
 -- a stream whose slices are read has a picture
 abbrev pub has_pictures : Mode → List CodedPicture → Bool

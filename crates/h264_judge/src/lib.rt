@@ -17,4 +17,4 @@ pub mod slice;
 pub mod state;
 pub mod unit;
 
-pub use state::{State, Summary};
+pub use state::{State, Summary, Terms};

@@ -1,7 +1,7 @@
 //! What is kept from unit to unit, and what is known of a whole stream.
 #![tactic(auto)]
 
-use h264_base::Stop;
+use h264_base::{Mode, Stop, Target};
 use h264_header::Header;
 use h264_sets::Sets;
 use h264_slices::decoder::Decoder;
@@ -17,6 +17,15 @@ pub struct Summary {
     pub pictures: u64,
     /// The frames that were written; 0 where none are made.
     pub frames: u64,
+}
+
+/// What a stream is judged by.
+#[derive(Clone, Copy)]
+pub struct Terms {
+    /// How far it is judged.
+    pub mode: Mode,
+    /// The decoder that it has to suit.
+    pub target: Target,
 }
 
 /// What the units so far left.

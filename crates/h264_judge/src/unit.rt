@@ -30,7 +30,7 @@ ghost use Rattle.h264_base.specs.declared.mode.Mode.TheVariants as modes;
 use crate::close::close_if;
 use crate::data::read_data;
 use crate::slice::judge_slice;
-use crate::state::{State, Summary};
+use crate::state::{State, Summary, Terms};
 use h264_base::{Failed, Mode, Rule, Stop};
 use h264_bits::Bits;
 use h264_header::{Header, SliceUnit, read_header};
@@ -150,7 +150,7 @@ fn pass(state: &mut State, kind: u8)
 #[inline(never)]
 fn join_sps<S: FrameSink>(
     alloc: Global,
-    mode: Mode,
+    terms: Terms,
     state: &mut State,
     kind: u8,
     unit: &NalUnit,
@@ -160,14 +160,14 @@ fn join_sps<S: FrameSink>(
     requires units { state.old.units ≤ 2 ^ 40 }
     requires pictures { state.old.slices.pictures ≤ state.old.units }
     requires kind { kind ≡ nal_unit_type (header_of unit.now) }
-    ensures joins { (frames : ℕ → Frame) (before : History) → KeepsWithin mode frames before (ends_picture kind) state.old → Joins mode S.took S.failures frames (length (ended_pictures (goes_on before) (ends_picture kind) (runs_of before))) (joined mode before unit.now (sps_outcome unit.now)) state.new sink.old sink.new result }
+    ensures joins { (frames : ℕ → Frame) (before : History) → KeepsWithin terms.mode frames before (ends_picture kind) state.old → Joins terms.mode S.took S.failures frames (length (ended_pictures (goes_on before) (ends_picture kind) (runs_of before))) (joined terms.mode before unit.now (sps_outcome terms.target unit.now)) state.new sink.old sink.new result }
     ensures counts { OnOk result (state.new.units ≡ state.old.units + 1) }
     ensures pictures { OnOk result (state.new.slices.pictures ≤ state.new.units) }
     ensures kept { OnOk result (S.failures sink.new ≡ S.failures sink.old) }
 {
     let rbsp = Rbsp::of(alloc, unit)?;
     let mut bits = Bits::new(&rbsp);
-    let set = read_sps(&mut bits, sink)?;
+    let set = read_sps(terms.target, &mut bits, sink)?;
     state.sets.put_sps(set);
     pass(state, kind);
     Ok(())
@@ -176,7 +176,7 @@ fn join_sps<S: FrameSink>(
 /// A picture parameter set is read, and kept.
 fn join_pps<S: FrameSink>(
     alloc: Global,
-    mode: Mode,
+    terms: Terms,
     state: &mut State,
     kind: u8,
     unit: &NalUnit,
@@ -187,14 +187,14 @@ fn join_pps<S: FrameSink>(
     requires pictures { state.old.slices.pictures ≤ state.old.units }
     requires ends { ends_picture kind ≡ true }
     requires kind { kind ≡ nal_unit_type (header_of unit.now) }
-    ensures joins { (frames : ℕ → Frame) (before : History) → KeepsWithin mode frames before (ends_picture kind) state.old → Joins mode S.took S.failures frames (length (ended_pictures (goes_on before) (ends_picture kind) (runs_of before))) (joined mode before unit.now (pps_outcome unit.now)) state.new sink.old sink.new result }
+    ensures joins { (frames : ℕ → Frame) (before : History) → KeepsWithin terms.mode frames before (ends_picture kind) state.old → Joins terms.mode S.took S.failures frames (length (ended_pictures (goes_on before) (ends_picture kind) (runs_of before))) (joined terms.mode before unit.now (pps_outcome terms.target unit.now)) state.new sink.old sink.new result }
     ensures counts { OnOk result (state.new.units ≡ state.old.units + 1) }
     ensures pictures { OnOk result (state.new.slices.pictures ≤ state.new.units) }
     ensures kept { OnOk result (S.failures sink.new ≡ S.failures sink.old) }
 {
     let rbsp = Rbsp::of(alloc, unit)?;
     let mut bits = Bits::new(&rbsp);
-    let set = read_pps(&mut bits, sink)?;
+    let set = read_pps(terms.target, &mut bits, sink)?;
     state.sets.put_pps(set);
     pass(state, kind);
     Ok(())
@@ -318,7 +318,7 @@ fn is_slice(kind: u8) -> bool
 /// A unit of this type is read and judged, and joins those before it.
 fn join<S: FrameSink>(
     alloc: Global,
-    mode: Mode,
+    terms: Terms,
     state: &mut State,
     header: u8,
     unit: &NalUnit,
@@ -329,23 +329,23 @@ fn join<S: FrameSink>(
     requires pictures { state.old.slices.pictures ≤ state.old.units }
     requires header { header ≡ header_of unit.now }
     requires fits { fits_kind (nal_unit_type header) (nal_ref_idc header) ≡ true }
-    requires kept { KeepsSome mode (ends_picture (nal_unit_type header)) state.old }
-    ensures joins { (frames : ℕ → Frame) (before : History) → KeepsWithin mode frames before (ends_picture (nal_unit_type header)) state.old → Joins mode S.took S.failures frames (length (ended_pictures (goes_on before) (ends_picture (nal_unit_type header)) (runs_of before))) (joined_by mode (nal_unit_type header) before unit.now) state.new sink.old sink.new result }
+    requires kept { KeepsSome terms.mode (ends_picture (nal_unit_type header)) state.old }
+    ensures joins { (frames : ℕ → Frame) (before : History) → KeepsWithin terms.mode frames before (ends_picture (nal_unit_type header)) state.old → Joins terms.mode S.took S.failures frames (length (ended_pictures (goes_on before) (ends_picture (nal_unit_type header)) (runs_of before))) (joined_by terms (nal_unit_type header) before unit.now) state.new sink.old sink.new result }
     ensures counts { OnOk result (state.new.units ≡ state.old.units + 1) }
     ensures pictures { OnOk result (state.new.slices.pictures ≤ state.new.units) }
     ensures kept { OnOk result (S.failures sink.new ≡ S.failures sink.old) }
 {
     if header % 32 == 7 {
-        return join_sps(alloc, mode, state, header % 32, unit, sink);
+        return join_sps(alloc, terms, state, header % 32, unit, sink);
     }
     if header % 32 == 8 {
-        return join_pps(alloc, mode, state, header % 32, unit, sink);
+        return join_pps(alloc, terms, state, header % 32, unit, sink);
     }
     if !is_slice(header % 32) {
         pass(state, header % 32);
         return Ok(());
     }
-    match mode {
+    match terms.mode {
         Mode::Units => {
             pass(state, header % 32);
             Ok(())
@@ -361,7 +361,7 @@ fn join<S: FrameSink>(
 /// failed. After an Err what is kept is of no use.
 pub fn judge_unit<S: FrameSink>(
     alloc: Global,
-    mode: Mode,
+    terms: Terms,
     state: &mut State,
     unit: &NalUnit,
     sink: &mut S,
@@ -369,8 +369,8 @@ pub fn judge_unit<S: FrameSink>(
     requires count { S.failures sink.old < 2 ^ 64 - 1 }
     requires units { state.old.units ≤ 2 ^ 40 }
     requires pictures { state.old.slices.pictures ≤ state.old.units }
-    requires kept { KeepsSome mode false state.old }
-    ensures turns { (frames : ℕ → Frame) (before : History) → Keeps mode frames before state.old → Turns mode S.took S.failures frames before unit.now state.new sink.old sink.new result }
+    requires kept { KeepsSome terms.mode false state.old }
+    ensures turns { (frames : ℕ → Frame) (before : History) → Keeps terms.mode frames before state.old → Turns terms S.took S.failures frames before unit.now state.new sink.old sink.new result }
     ensures counts { OnOk result (state.new.units ≡ state.old.units + 1) }
     ensures pictures { OnOk result (state.new.slices.pictures ≤ state.new.units) }
     ensures kept { OnOk result (S.failures sink.new ≡ S.failures sink.old) }
@@ -382,8 +382,14 @@ pub fn judge_unit<S: FrameSink>(
     check_header(from, header)?;
     tell_unit(from, header, body.len() as u64, sink)?;
     let ends = ends_picture(header % 32);
-    close_if(mode, ends, &mut state.slices, &mut state.decoder, sink)?;
-    join(alloc, mode, state, header, unit, sink)
+    close_if(
+        terms.mode,
+        ends,
+        &mut state.slices,
+        &mut state.decoder,
+        sink,
+    )?;
+    join(alloc, terms, state, header, unit, sink)
 }
 
 /// Whether a stream that is judged so has the pictures that it must have.

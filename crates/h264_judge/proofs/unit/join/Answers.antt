@@ -14,28 +14,29 @@ use Rattle.h264_slices.specs.Pictures.{ends_picture, goes_on, runs_of}
 use Rattle.h264_slices.specs.Keeping.{ended_pictures, ended_in}
 use Rattle.h264_slices.proofs.Playing.{gives-plays}
 use Rattle.h264_judge.specs.declared.state.State.{State}
+use Rattle.h264_judge.specs.declared.state.Terms.{Terms}
 use Rattle.h264_judge.specs.Keeping.{KeepsWithin}
 use Rattle.h264_judge.specs.Turning.{Joins}
 use Rattle.h264_judge.specs.UnitOutcome.{sps_outcome, pps_outcome, joined, joined_by}
 use Rattle.h264_judge.proofs.Joining.{joins-on, passed-joins, passed-other, units-other, slice-other, whole-other}
 use Rattle.h264_judge.proofs.unit.join.Goals as goal
 
-joined-seven : (mode : Mode) (kind : ℕ) (before : History) (unit : NalUnit) → kind ≡ 7 → joined_by mode kind before unit ≡ joined mode before unit (sps_outcome unit)
+joined-seven : (terms : Terms) (kind : ℕ) (before : History) (unit : NalUnit) → kind ≡ 7 → joined_by terms kind before unit ≡ joined terms.mode before unit (sps_outcome terms.target unit)
 unfolding joined_by
-joined-seven mode kind before unit e = subst (λ (k : ℕ). joined_by mode k before unit ≡ joined mode before unit (sps_outcome unit)) (sym e) refl
+joined-seven terms kind before unit e = subst (λ (k : ℕ). joined_by terms k before unit ≡ joined terms.mode before unit (sps_outcome terms.target unit)) (sym e) refl
 
-joined-eight : (mode : Mode) (kind : ℕ) (before : History) (unit : NalUnit) → kind ≡ 8 → joined_by mode kind before unit ≡ joined mode before unit (pps_outcome unit)
+joined-eight : (terms : Terms) (kind : ℕ) (before : History) (unit : NalUnit) → kind ≡ 8 → joined_by terms kind before unit ≡ joined terms.mode before unit (pps_outcome terms.target unit)
 unfolding joined_by
-joined-eight mode kind before unit e = subst (λ (k : ℕ). joined_by mode k before unit ≡ joined mode before unit (pps_outcome unit)) (sym e) refl
+joined-eight terms kind before unit e = subst (λ (k : ℕ). joined_by terms k before unit ≡ joined terms.mode before unit (pps_outcome terms.target unit)) (sym e) refl
 
 pub join_pps-requires-clause-ends : goal.join_pps-requires-clause-ends
 join_pps-requires-clause-ends g c = ap (λ (k : ℕ). ends_picture k) c.if-header-eq8.true
 
 pub returns-then-header-eq7-clause-joins : goal.returns-then-header-eq7-clause-joins
-returns-then-header-eq7-clause-joins g c = λ frames before k. rw (joined-seven c.args.mode _ before c.args.unit.now c.if-header-eq7.true) (c.join_sps.ensures.joins frames before k)
+returns-then-header-eq7-clause-joins g c = λ frames before k. rw (joined-seven c.args.terms _ before c.args.unit.now c.if-header-eq7.true) (c.join_sps.ensures.joins frames before k)
 
 pub returns-then-header-eq8-clause-joins : goal.returns-then-header-eq8-clause-joins
-returns-then-header-eq8-clause-joins g c = λ frames before k. rw (joined-eight c.args.mode _ before c.args.unit.now c.if-header-eq8.true) (c.join_pps.ensures.joins frames before k)
+returns-then-header-eq8-clause-joins g c = λ frames before k. rw (joined-eight c.args.terms _ before c.args.unit.now c.if-header-eq8.true) (c.join_pps.ensures.joins frames before k)
 
 -- where no picture ends
 joins-here : {S X : Type 0} (mode : Mode) (took : S → List Call → Type 0) (failures : S → ℕ) (frames : ℕ → Frame) (before : History) (ends : Bool) (o : Outcome History) (new : State) (s s' : S) (r : Result X Stop) → ends ≡ false → Joins {X = X} mode took failures frames (ended_in before) o new s s' r → Joins {X = X} mode took failures frames (length (ended_pictures (goes_on before) ends (runs_of before))) o new s s' r
@@ -43,7 +44,7 @@ joins-here {S} {X} mode took failures frames before ends o new s s' r e j = subs
 
 pub returns-then-not-is_slice-clause-joins : goal.returns-then-not-is_slice-clause-joins
 unfolding joined_by
-returns-then-not-is_slice-clause-joins g c = λ frames before k. rw (ne_eqb _ _ c.if-header-eq7.false, ne_eqb _ _ c.if-header-eq8.false, passed-other c.args.mode _ before c.args.unit.now (sym c.is_slice.ensures.value ∙ c.if-not-is_slice.true)) (joins-on c.args.mode frames _ _ _ before _ _ _ (λ (u : Unit {0}). contents.Passed) _ _ _ tt _ (gives-plays _ _ (λ (u : Unit {0}). contents.Passed) tt _) (gives-plays _ _ (λ (u : Unit {0}). u) tt _) (passed-joins c.args.mode frames before c.args.unit.now contents.Passed (nal_unit_type c.args.header) c.args.state.now _ tt tt (rw c.requires.header refl) k c.pass.ensures.units (c.pass.ensures.sets ∙ k.sets) c.pass.ensures.picture c.pass.ensures.due c.pass.ensures.others c.pass.ensures.decoder))
+returns-then-not-is_slice-clause-joins g c = λ frames before k. rw (ne_eqb _ _ c.if-header-eq7.false, ne_eqb _ _ c.if-header-eq8.false, passed-other c.args.terms.mode _ before c.args.unit.now (sym c.is_slice.ensures.value ∙ c.if-not-is_slice.true)) (joins-on c.args.terms.mode frames _ _ _ before _ _ _ (λ (u : Unit {0}). contents.Passed) _ _ _ tt _ (gives-plays _ _ (λ (u : Unit {0}). contents.Passed) tt _) (gives-plays _ _ (λ (u : Unit {0}). u) tt _) (passed-joins c.args.terms.mode frames before c.args.unit.now contents.Passed (nal_unit_type c.args.header) c.args.state.now _ tt tt (rw c.requires.header refl) k c.pass.ensures.units (c.pass.ensures.sets ∙ k.sets) c.pass.ensures.picture c.pass.ensures.due c.pass.ensures.others c.pass.ensures.decoder))
 
 pub returns-in-Headers-clause-joins : goal.returns-in-Headers-clause-joins
 unfolding joined_by

@@ -1,11 +1,11 @@
 use Rattle.std.proofs.Common.{◌≡◌, ℕ, ◌-◌, ◌*◌, ◌<◌, ◌^◌, [], Bool, List, Result, Ok, Err, OnOk, refl, ap, sym, ◌∙◌, subst, length}
-use Rattle.h264_base.specs.declared.mode.Mode.{Mode}
 use Rattle.h264_base.specs.declared.stop.Stop.{Stop}
 use Rattle.h264_base.specs.Call.{Call}
 use Rattle.h264_plane.specs.declared.frame.Frame.{Frame}
 use Rattle.h264_units.specs.Stream.{NalUnit}
 use Rattle.h264_rbsp.specs.Emulation.{emulation_checked}
 use Rattle.h264_judge.specs.declared.state.State.{State}
+use Rattle.h264_judge.specs.declared.state.Terms.{Terms}
 use Rattle.h264_slices.specs.declared.decoder.Decoder.{Decoder}
 use Rattle.h264_slices.specs.Telling.{Said, took_with}
 use Rattle.h264_slices.specs.Demands.{judged}
@@ -29,24 +29,24 @@ use Rattle.h264_judge.proofs.Courses.{plays-course, ended-grows, closing-all}
 use Rattle.h264_judge.proofs.unit.judge_unit.Goals as goal
 
 -- a unit that is sound, part by part
-module _ {S : Type 0} (mode : Mode) (took : S → List Call → Type 0) (failures : S → ℕ) (frames : ℕ → Frame) (before : History) (unit : NalUnit) where
+module _ {S : Type 0} (terms : Terms) (took : S → List Call → Type 0) (failures : S → ℕ) (frames : ℕ → Frame) (before : History) (unit : NalUnit) where
   abbrev kind : ℕ
   kind = nal_unit_type (header_of unit)
 
   abbrev ends : Bool
   ends = ends_picture kind
 
-  turns-by : (mid : Decoder) (new : State) (s0 s1 s2 s3 : S) (x y z w : Unit {0}) (r : Result (Unit {0}) Stop) → (let a : Result (Unit {0}) Stop = Ok x in a ≡ emulation_checked unit.from unit.body) → (let a : Result (Unit {0}) Stop = Ok y in a ≡ judged (header_demands (8 * unit.from) (header_of unit))) → ((made : ℕ → Frame) → Plays (took_with made took) failures (λ (q : Unit {0}). q) (tells (Said (unit_call unit.from (header_of unit) (length unit.body)))) s0 s1 (Ok z)) → (e : EndsFrames mode took failures frames (goes_on before) ends (runs_of before) (steps_outcome (close_steps mode ends before)) mid s1 s2 (Ok w)) → Joins {X = Unit {0}} mode took failures e.made (length (ended_pictures (goes_on before) ends (runs_of before))) (joined_by mode kind before unit) new s2 s3 r → Turns {X = Unit {0}} mode took failures frames before unit new s0 s3 r
+  turns-by : (mid : Decoder) (new : State) (s0 s1 s2 s3 : S) (x y z w : Unit {0}) (r : Result (Unit {0}) Stop) → (let a : Result (Unit {0}) Stop = Ok x in a ≡ emulation_checked unit.from unit.body) → (let a : Result (Unit {0}) Stop = Ok y in a ≡ judged (header_demands (8 * unit.from) (header_of unit))) → ((made : ℕ → Frame) → Plays (took_with made took) failures (λ (q : Unit {0}). q) (tells (Said (unit_call unit.from (header_of unit) (length unit.body)))) s0 s1 (Ok z)) → (e : EndsFrames terms.mode took failures frames (goes_on before) ends (runs_of before) (steps_outcome (close_steps terms.mode ends before)) mid s1 s2 (Ok w)) → Joins {X = Unit {0}} terms.mode took failures e.made (length (ended_pictures (goes_on before) ends (runs_of before))) (joined_by terms kind before unit) new s2 s3 r → Turns {X = Unit {0}} terms took failures frames before unit new s0 s3 r
   unfolding unit_by_steps
   turns-by mid new s0 s1 s2 s3 x y z w r sound header told e j =
       let n = length (ended_pictures (goes_on before) ends (runs_of before)) in
-      let ended = plays-agree took n e.made j.made failures (λ (q : Unit {0}). q) (steps_outcome (close_steps mode ends before)) s1 s2 (Ok w) j.same (closing-all ends mode before) e.plays in
+      let ended = plays-agree took n e.made j.made failures (λ (q : Unit {0}). q) (steps_outcome (close_steps terms.mode ends before)) s1 s2 (Ok w) j.same (closing-all ends terms.mode before) e.plays in
       let view : Unit {0} → History = λ q. j.after in
       record {
         made = j.made;
         same = agree-then (ended_in before) frames e.made j.made e.same (agree-less (ended_in before) n e.made j.made (ended-grows (goes_on before) ends (runs_of before)) j.same);
         after = j.after;
-        plays = plays-course (took_with j.made took) failures view mode before unit s0 s3 r
+        plays = plays-course (took_with j.made took) failures view terms before unit s0 s3 r
             (answer-on (took_with j.made took) failures view _ _ s0 s3 x r (ap answers (sym sound))
             (answer-on (took_with j.made took) failures view _ _ s0 s3 y r (ap answers (sym header))
             (plays-on (took_with j.made took) failures (λ (q : Unit {0}). q) view _ _ s0 s1 s3 z r (told j.made)
@@ -55,11 +55,11 @@ module _ {S : Type 0} (mode : Mode) (took : S → List Call → Type 0) (failure
       }
 
   -- a unit that stops at its bytes, at its header, at the sink, or at the end of the picture before it
-  stops-sound : (new : State) (s : S) (e : Stop) → (let a : Result (Unit {0}) Stop = Err e in a ≡ emulation_checked unit.from unit.body) → IsNamed e → Turns {X = Unit {0}} mode took failures frames before unit new s s (Err e)
+  stops-sound : (new : State) (s : S) (e : Stop) → (let a : Result (Unit {0}) Stop = Err e in a ≡ emulation_checked unit.from unit.body) → IsNamed e → Turns {X = Unit {0}} terms took failures frames before unit new s s (Err e)
   unfolding unit_by_steps
-  stops-sound new s e sound named = record { made = frames; same = λ n h. refl; after = []; plays = plays-course (took_with frames took) failures (λ (q : Unit {0}). []) mode before unit s s (Err e) (answer-stops (took_with frames took) failures (λ (q : Unit {0}). []) _ _ s e (ap answers (sym sound)) named); keeps = tt }
+  stops-sound new s e sound named = record { made = frames; same = λ n h. refl; after = []; plays = plays-course (took_with frames took) failures (λ (q : Unit {0}). []) terms before unit s s (Err e) (answer-stops (took_with frames took) failures (λ (q : Unit {0}). []) _ _ s e (ap answers (sym sound)) named); keeps = tt }
 
-  stops-header : (new : State) (s : S) (x : Unit {0}) (e : Stop) → (let a : Result (Unit {0}) Stop = Ok x in a ≡ emulation_checked unit.from unit.body) → (let a : Result (Unit {0}) Stop = Err e in a ≡ judged (header_demands (8 * unit.from) (header_of unit))) → Turns {X = Unit {0}} mode took failures frames before unit new s s (Err e)
+  stops-header : (new : State) (s : S) (x : Unit {0}) (e : Stop) → (let a : Result (Unit {0}) Stop = Ok x in a ≡ emulation_checked unit.from unit.body) → (let a : Result (Unit {0}) Stop = Err e in a ≡ judged (header_demands (8 * unit.from) (header_of unit))) → Turns {X = Unit {0}} terms took failures frames before unit new s s (Err e)
   unfolding unit_by_steps
   stops-header new s x e sound header =
       let view : Unit {0} → History = λ q. [] in
@@ -67,13 +67,13 @@ module _ {S : Type 0} (mode : Mode) (took : S → List Call → Type 0) (failure
         made = frames;
         same = λ n h. refl;
         after = [];
-        plays = plays-course (took_with frames took) failures view mode before unit s s (Err e)
+        plays = plays-course (took_with frames took) failures view terms before unit s s (Err e)
             (answer-on (took_with frames took) failures view _ _ s s x (Err e) (ap answers (sym sound))
             (answer-stops (took_with frames took) failures view _ _ s e (ap answers (sym header)) (err-named (header_demands (8 * unit.from) (header_of unit)) e (sym header))));
         keeps = tt;
       }
 
-  stops-told : (new : State) (s s' : S) (x y : Unit {0}) (e : Stop) → (let a : Result (Unit {0}) Stop = Ok x in a ≡ emulation_checked unit.from unit.body) → (let a : Result (Unit {0}) Stop = Ok y in a ≡ judged (header_demands (8 * unit.from) (header_of unit))) → Plays (took_with frames took) failures (λ (q : Unit {0}). q) (tells (Said (unit_call unit.from (header_of unit) (length unit.body)))) s s' (Err e) → Turns {X = Unit {0}} mode took failures frames before unit new s s' (Err e)
+  stops-told : (new : State) (s s' : S) (x y : Unit {0}) (e : Stop) → (let a : Result (Unit {0}) Stop = Ok x in a ≡ emulation_checked unit.from unit.body) → (let a : Result (Unit {0}) Stop = Ok y in a ≡ judged (header_demands (8 * unit.from) (header_of unit))) → Plays (took_with frames took) failures (λ (q : Unit {0}). q) (tells (Said (unit_call unit.from (header_of unit) (length unit.body)))) s s' (Err e) → Turns {X = Unit {0}} terms took failures frames before unit new s s' (Err e)
   unfolding unit_by_steps
   stops-told new s s' x y e sound header told =
       let view : Unit {0} → History = λ q. [] in
@@ -81,14 +81,14 @@ module _ {S : Type 0} (mode : Mode) (took : S → List Call → Type 0) (failure
         made = frames;
         same = λ n h. refl;
         after = [];
-        plays = plays-course (took_with frames took) failures view mode before unit s s' (Err e)
+        plays = plays-course (took_with frames took) failures view terms before unit s s' (Err e)
             (answer-on (took_with frames took) failures view _ _ s s' x (Err e) (ap answers (sym sound))
             (answer-on (took_with frames took) failures view _ _ s s' y (Err e) (ap answers (sym header))
             (plays-stops (took_with frames took) failures (λ (q : Unit {0}). q) view _ _ s s' e told)));
         keeps = tt;
       }
 
-  stops-closing : (mid : Decoder) (new : State) (s0 s1 s2 : S) (x y z : Unit {0}) (stop : Stop) → (let a : Result (Unit {0}) Stop = Ok x in a ≡ emulation_checked unit.from unit.body) → (let a : Result (Unit {0}) Stop = Ok y in a ≡ judged (header_demands (8 * unit.from) (header_of unit))) → ((made : ℕ → Frame) → Plays (took_with made took) failures (λ (q : Unit {0}). q) (tells (Said (unit_call unit.from (header_of unit) (length unit.body)))) s0 s1 (Ok z)) → EndsFrames mode took failures frames (goes_on before) ends (runs_of before) (steps_outcome (close_steps mode ends before)) mid s1 s2 (Err stop) → Turns {X = Unit {0}} mode took failures frames before unit new s0 s2 (Err stop)
+  stops-closing : (mid : Decoder) (new : State) (s0 s1 s2 : S) (x y z : Unit {0}) (stop : Stop) → (let a : Result (Unit {0}) Stop = Ok x in a ≡ emulation_checked unit.from unit.body) → (let a : Result (Unit {0}) Stop = Ok y in a ≡ judged (header_demands (8 * unit.from) (header_of unit))) → ((made : ℕ → Frame) → Plays (took_with made took) failures (λ (q : Unit {0}). q) (tells (Said (unit_call unit.from (header_of unit) (length unit.body)))) s0 s1 (Ok z)) → EndsFrames terms.mode took failures frames (goes_on before) ends (runs_of before) (steps_outcome (close_steps terms.mode ends before)) mid s1 s2 (Err stop) → Turns {X = Unit {0}} terms took failures frames before unit new s0 s2 (Err stop)
   unfolding unit_by_steps
   stops-closing mid new s0 s1 s2 x y z stop sound header told e =
       let view : Unit {0} → History = λ q. [] in
@@ -96,7 +96,7 @@ module _ {S : Type 0} (mode : Mode) (took : S → List Call → Type 0) (failure
         made = e.made;
         same = e.same;
         after = [];
-        plays = plays-course (took_with e.made took) failures view mode before unit s0 s2 (Err stop)
+        plays = plays-course (took_with e.made took) failures view terms before unit s0 s2 (Err stop)
             (answer-on (took_with e.made took) failures view _ _ s0 s2 x (Err stop) (ap answers (sym sound))
             (answer-on (took_with e.made took) failures view _ _ s0 s2 y (Err stop) (ap answers (sym header))
             (plays-on (took_with e.made took) failures (λ (q : Unit {0}). q) view _ _ s0 s1 s2 z (Err stop) (told e.made)
@@ -128,26 +128,26 @@ join-requires-clause-kept g c =
     let k = c.requires.kept in
     let ended = c.in_ok-close_if.ensures.ended k.before k.keeps.slices in
     let e = c.in_ok-close_if.ensures.closes k.frames k.before k.keeps.slices k.keeps.decoder in
-    record { frames = e.made; before = k.before; keeps = within {mode = c.args.mode} {frames = k.frames} {made = e.made} {before = k.before} c.args.state.now c.close_if.new.slices c.close_if.new.decoder k.keeps (rw c.ends_picture-ends.ensures at ended) (rw c.ends_picture-ends.ensures at e.keeps) }
+    record { frames = e.made; before = k.before; keeps = within {mode = c.args.terms.mode} {frames = k.frames} {made = e.made} {before = k.before} c.args.state.now c.close_if.new.slices c.close_if.new.decoder k.keeps (rw c.ends_picture-ends.ensures at ended) (rw c.ends_picture-ends.ensures at e.keeps) }
 
 pub returns-in_err-check_emulation-clause-turns : goal.returns-in_err-check_emulation-clause-turns
 returns-in_err-check_emulation-clause-turns g c =
     let p = err_from_is_err_and c.from_residual.result c.from_residual.ensures.1 in
     let n = c.in_err-check_emulation.ensures.err in
-    rw (p.1, p.2) (λ frames before k. stops-sound c.args.mode _ _ frames before c.args.unit.now _ _ _ c.in_err-check_emulation.ensures.value (named-by _ _ _ n.1))
+    rw (p.1, p.2) (λ frames before k. stops-sound c.args.terms _ _ frames before c.args.unit.now _ _ _ c.in_err-check_emulation.ensures.value (named-by _ _ _ n.1))
 
 pub returns-in_err-check_header-clause-turns : goal.returns-in_err-check_header-clause-turns
 returns-in_err-check_header-clause-turns g c =
     let p = err_from_is_err_and c.from_residual-in_err-check_header.result c.from_residual-in_err-check_header.ensures.1 in
     let header = rw (c.from-from.ensures.value, c.body-body.ensures.value) at c.in_err-check_header.ensures in
-    rw (p.1, p.2) (λ frames before k. stops-header c.args.mode _ _ frames before c.args.unit.now _ _ _ _ c.in_ok-check_emulation.ensures.value header)
+    rw (p.1, p.2) (λ frames before k. stops-header c.args.terms _ _ frames before c.args.unit.now _ _ _ _ c.in_ok-check_emulation.ensures.value header)
 
 pub returns-in_err-tell_unit-clause-turns : goal.returns-in_err-tell_unit-clause-turns
 returns-in_err-tell_unit-clause-turns g c =
     let p = err_from_is_err_and c.from_residual-in_err-tell_unit.result c.from_residual-in_err-tell_unit.ensures.1 in
     let header = rw (c.from-from.ensures.value, c.body-body.ensures.value) at c.in_ok-check_header.ensures in
     let says = rw (c.from-from.ensures.value, c.body-body.ensures.value) at c.in_err-tell_unit.ensures.plays in
-    rw (p.1, p.2) (λ frames before k. stops-told c.args.mode _ _ frames before c.args.unit.now _ _ _ _ _ _ c.in_ok-check_emulation.ensures.value header (says frames))
+    rw (p.1, p.2) (λ frames before k. stops-told c.args.terms _ _ frames before c.args.unit.now _ _ _ _ _ _ c.in_ok-check_emulation.ensures.value header (says frames))
 
 pub returns-in_err-close_if-clause-turns : goal.returns-in_err-close_if-clause-turns
 returns-in_err-close_if-clause-turns g c =
@@ -155,7 +155,7 @@ returns-in_err-close_if-clause-turns g c =
     let header = rw (c.from-from.ensures.value, c.body-body.ensures.value) at c.in_ok-check_header.ensures in
     let says = rw (c.from-from.ensures.value, c.body-body.ensures.value) at c.in_ok-tell_unit.ensures.plays in
     let closes = rw (c.ends_picture-ends.ensures, c.body-body.ensures.value) at c.in_err-close_if.ensures.closes in
-    rw (p.1, p.2) (λ frames before k. stops-closing c.args.mode _ _ frames before c.args.unit.now _ _ _ _ _ _ _ _ _ c.in_ok-check_emulation.ensures.value header says (closes frames before k.slices k.decoder))
+    rw (p.1, p.2) (λ frames before k. stops-closing c.args.terms _ _ frames before c.args.unit.now _ _ _ _ _ _ _ _ _ c.in_ok-check_emulation.ensures.value header says (closes frames before k.slices k.decoder))
 
 pub returns-clause-turns : goal.returns-clause-turns
 returns-clause-turns g c =
@@ -166,5 +166,5 @@ returns-clause-turns g c =
     λ frames before k.
     let slices = rw (c.ends_picture-ends.ensures, c.body-body.ensures.value) at (c.in_ok-close_if.ensures.ended before k.slices) in
     let e = closes frames before k.slices k.decoder in
-    let j = joins e.made before (within {mode = c.args.mode} {frames = frames} {made = e.made} {before = before} c.args.state.now c.close_if.new.slices c.close_if.new.decoder k slices e.keeps) in
-    turns-by c.args.mode _ _ frames before c.args.unit.now _ _ _ _ _ _ _ _ _ _ _ c.in_ok-check_emulation.ensures.value header says e j
+    let j = joins e.made before (within {mode = c.args.terms.mode} {frames = frames} {made = e.made} {before = before} c.args.state.now c.close_if.new.slices c.close_if.new.decoder k slices e.keeps) in
+    turns-by c.args.terms _ _ frames before c.args.unit.now _ _ _ _ _ _ _ _ _ _ _ c.in_ok-check_emulation.ensures.value header says e j
