@@ -1,5 +1,5 @@
 -- The command line: a simple command of clap with one level of subcommands, each of which takes one FILE or more, and options.
-use Rattle.std.specs.Prelude.{◌≡◌, ℕ, true, List, Option, Some, None, option_map, codes}
+use Rattle.std.specs.Prelude.{◌≡◌, ℕ, Bool, true, false, List, Option, Some, None, option_map, codes}
 use Rattle.clap.specs.Lexer.{usize_max}
 use Rattle.clap.specs.Words.{App, Rule, Shape, Text, new_app, first_of, new_rule, subcommand_of, subcommand_rows_of, takes, with_rule, with_subcommand}
 use Rattle.clap.specs.declared.builder.action.ArgAction.TheVariants.{Set, SetTrue}
@@ -62,6 +62,18 @@ name_of tasks.Elements = codes "elements"
 name_of tasks.Info = codes "info"
 name_of tasks.Report = codes "report"
 name_of tasks.Explain = codes "explain"
+
+-- it judges a stream with lines or frames as its answer
+abbrev pub is_judging : Task → Bool
+is_judging tasks.Check = true
+is_judging tasks.Units = true
+is_judging tasks.Headers = true
+is_judging tasks.Frames = true
+is_judging tasks.Decode = true
+is_judging tasks.Elements = true
+is_judging tasks.Info = false
+is_judging tasks.Report = false
+is_judging tasks.Explain = false
 
 -- the subcommand that words ask for, and the first FILE that they give it
 abbrev pub asks : App → List Text → Option (Text × Option Text)

@@ -10,7 +10,7 @@ ghost use Rattle.std.specs.Prelude.{◌≡◌, true, false, map, None, Some, IfO
 ghost use Rattle.clap.specs.Words.{app_of, takes, kind_of, with_rule};
 ghost use Rattle.clap.specs.declared.error.kind.ErrorKind.TheVariants as kinds;
 ghost use Rattle.clap.specs.declared.builder.command.Command.TheViews.{out-Command as fields_of};
-ghost use Rattle.h264_words.specs.Words.{files_rule, flag_rule, value_rule, with_flags, with_values, file_app, with_file, bare, program, name_of, found_by, IsRequest, AsksFor};
+ghost use Rattle.h264_words.specs.Words.{files_rule, flag_rule, value_rule, with_flags, with_values, file_app, with_file, bare, program, name_of, is_judging, found_by, IsRequest, AsksFor};
 ghost use Rattle.h264_words.specs.declared.Task.{Task as TaskView};
 
 use clap::{Arg, ArgAction, ArgMatches, Command, Error};
@@ -37,6 +37,25 @@ pub enum Task {
     Report,
     /// Tells what a rule says; its FILE is the rule's label.
     Explain,
+}
+
+impl Task {
+    /// Whether it judges a stream with lines or frames as its answer.
+    pub fn is_judging(self) -> bool
+        ensures { result ≡ is_judging self }
+    {
+        match self {
+            Task::Check => true,
+            Task::Units => true,
+            Task::Headers => true,
+            Task::Frames => true,
+            Task::Decode => true,
+            Task::Elements => true,
+            Task::Info => false,
+            Task::Report => false,
+            Task::Explain => false,
+        }
+    }
 }
 
 /// A task, and the name of its first file.
@@ -106,9 +125,14 @@ impl<'a> Wanted<'a> {
             || self.value("mb").is_some()
     }
 
-    /// Whether the words have one FILE, which is not standard input, and no option.
-    pub fn is_plain(&self) -> bool {
-        self.has_one_file() && self.request.file != "-" && !self.has_option()
+    /// Whether the words ask for a judgement of one FILE, which is not standard input, and have no option.
+    pub fn is_plain(&self) -> bool
+        ensures { result ≡ true → is_judging self.now.request.task ≡ true }
+    {
+        self.request.task.is_judging()
+            && self.has_one_file()
+            && self.request.file != "-"
+            && !self.has_option()
     }
 }
 
