@@ -1,6 +1,7 @@
 #!/usr/bin/env bash
 # encoders.sh [PROGRAM]: makes small streams by x264 (through ffmpeg) and by OpenH264 (through GStreamer), and compares what `h264v decode` writes of each with what
 # ffmpeg's own decoder gives, byte for byte. With no PROGRAM it proves and builds h264v. It prints each stream that is no yes or whose frames differ, with its options, and how many agreed.
+# Main profile streams of x264 with weighted prediction are judged with --target main-ip.
 # On Debian: apt-get install ffmpeg gstreamer1.0-tools gstreamer1.0-plugins-base gstreamer1.0-plugins-bad
 set -eu
 top=$(cd "$(dirname "$0")/.." && pwd)
@@ -13,10 +14,12 @@ trap 'rm -r "$made"' EXIT
 agreed=0
 differed=0
 
+target=baseline
 # compare STREAM OPTIONS..
 compare() {
-    local ours theirs
-    ours=$("$program" decode "$1" 2> "$made/verdict" | md5sum) || true
+    local ours theirs words=()
+    [ "$target" = baseline ] || words=(--target "$target")
+    ours=$("$program" decode "${words[@]}" "$1" 2> "$made/verdict" | md5sum) || true
     theirs=$(ffmpeg -v error -threads 1 -i "$1" -f rawvideo -pix_fmt yuv420p - | md5sum)
     if [ "$ours" = "$theirs" ] && grep -q '^yes' "$made/verdict"; then
         agreed=$((agreed + 1))
@@ -40,6 +43,19 @@ if ffmpeg -v error -encoders 2> /dev/null | grep -q libx264; then
             done
         done
     done
+    target=main-ip
+    for size in 176x144 64x48 130x98; do
+        for source in "testsrc2=size=$size:rate=25,fade=in:0:20,fade=out:25:15" "mandelbrot=size=$size:rate=25,fade=in:0:30:color=white" \
+            "life=size=$size:rate=25:mold=10,format=yuv420p,fade=out:5:30:color=red"; do
+            for options in weightp=1:ref=1 weightp=2:ref=4 weightp=2:ref=16:slices=3:sliced-threads=1:threads=3 weightp=2:ref=3:crf=1:keyint=12 \
+                weightp=2:ref=5:partitions=all:me=umh:subme=9:deblock=3,-2 weightp=1:ref=2:constrained-intra=1:crf=40; do
+                ffmpeg -v error -y -f lavfi -i "$source" -frames:v 40 -pix_fmt yuv420p -c:v libx264 -profile:v main -threads 1 \
+                    -x264-params "bframes=0:cabac=0:8x8dct=0:$options" -f h264 "$made/x264.264"
+                compare "$made/x264.264" x264 main-ip "$source" "$options"
+            done
+        done
+    done
+    target=baseline
 else
     echo "ffmpeg with libx264 is not installed"
 fi

@@ -1,9 +1,10 @@
 #!/usr/bin/env python3
-"""mutated.py PROGRAM SECONDS [SEED] [STREAM..]: flips bits of small legal streams, loses, doubles and exchanges their units, and compares what PROGRAM (h264v) says of them with ffmpeg's own decoder:
+"""mutated.py PROGRAM SECONDS [--main-ip] [SEED] [STREAM..]: flips bits of small legal streams, loses, doubles and exchanges their units, and compares what PROGRAM (h264v) says of them with ffmpeg's own decoder:
 of each stream that is still a yes, the digest of each frame. With no STREAM it makes some by x264. It prints how many were yes, no and outside, and names each stream whose frames differ, which it keeps
 in the working directory. Counted apart: streams with a parameter set that ffmpeg does not take (a picture parameter set before the sequence parameter set that it names, which the standard allows, or values of the VUI,
 which h264v does not judge), and streams with two frames of one order count in a row, a rule that h264v does not check, which leaves their order open. Streams that may have gaps
 in frame_num are not for this: where more than max_num_ref_frames are missing, ffmpeg passes over them, and counts otherwise.
+With --main-ip the streams are of the Main profile with weighted prediction, and PROGRAM judges them with --target main-ip.
 On Debian: apt-get install ffmpeg x264"""
 import collections
 import random
@@ -25,20 +26,29 @@ OPTIONS = [
     "--qp 33 --ref 5 --keyint 4",
     "--qp 28 --ref 3 --chroma-qp-offset 5",
 ]
+WEIGHTED = [
+    "--qp 20 --ref 1 --weightp 1",
+    "--qp 30 --ref 3 --slices 2 --weightp 2",
+    "--qp 38 --ref 4 --partitions all --me umh --subme 9 --weightp 2",
+    "--qp 26 --deblock -2:3 --slice-max-mbs 3 --ref 2 --weightp 2",
+    "--qp 33 --ref 5 --keyint 4 --weightp 2",
+]
 SOURCES = ["testsrc", "mandelbrot", "cellauto"]
 SIZES = ["48x48", "64x32", "96x64"]
 
 
-def made(folder):
+def made(folder, main_ip):
     """Small streams of x264, by options, sizes and pictures."""
-    for options in OPTIONS:
+    profile = ["main", "--no-cabac", "--bframes", "0", "--no-8x8dct"] if main_ip else ["baseline"]
+    for options in WEIGHTED if main_ip else OPTIONS:
         for size in SIZES:
             for source in SOURCES:
-                pictures = f"{source}=size={size}:rate=10"
+                fade = ",fade=in:0:5" if main_ip else ""
+                pictures = f"{source}=size={size}:rate=10{fade}"
                 lavfi = ["ffmpeg", "-v", "error", "-f", "lavfi", "-i", pictures, "-frames:v", "6", "-pix_fmt", "yuv420p"]
                 raw = subprocess.run([*lavfi, "-f", "yuv4mpegpipe", "-"], capture_output=True, check=True).stdout
                 path = f"{folder}/made.264"
-                x264 = ["x264", "--quiet", "--profile", "baseline", "--preset", "slow", *options.split(), "--demuxer", "y4m"]
+                x264 = ["x264", "--quiet", "--profile", *profile, "--preset", "slow", *options.split(), "--demuxer", "y4m"]
                 subprocess.run([*x264, "-o", path, "-"], input=raw, check=True, capture_output=True)
                 with open(path, "rb") as it:
                     yield it.read()
@@ -80,9 +90,9 @@ def changed(stream, chance):
     return front + b"".join(units)
 
 
-def ours(program, path):
+def ours(program, words, path):
     """The status, and of each frame its order count and its digest."""
-    ran = subprocess.run([program, "frames", path], capture_output=True, text=True, errors="replace")
+    ran = subprocess.run([program, "frames", *words, path], capture_output=True, text=True, errors="replace")
     lines = [it.split() for it in ran.stdout.splitlines() if it.startswith("frame ")]
     return ran.returncode, [it[3] for it in lines], [it[-1] for it in lines]
 
@@ -95,18 +105,21 @@ def theirs(path):
     return "non-existing PPS" in ran.stderr, frames
 
 
-def main(program, seconds, seed="1", *paths):
+def main(program, seconds, *more):
+    main_ip = "--main-ip" in more
+    seed, *paths = [it for it in more if it != "--main-ip"] or ["1"]
+    words = ["--target", "main-ip"] if main_ip else []
     chance = random.Random(int(seed))
     counts = collections.Counter()
     end = time.time() + float(seconds)
     with tempfile.TemporaryDirectory() as folder:
-        streams = list(made(folder)) if not paths else [open(it, "rb").read() for it in paths]
+        streams = list(made(folder, main_ip)) if not paths else [open(it, "rb").read() for it in paths]
         path = f"{folder}/changed.264"
         while time.time() < end:
             stream = changed(chance.choice(streams), chance)
             with open(path, "wb") as it:
                 it.write(stream)
-            status, order, frames = ours(program, path)
+            status, order, frames = ours(program, words, path)
             counts[{0: "yes", 1: "no", 2: "outside"}.get(status, f"status {status}")] += 1
             if status != 0:
                 continue

@@ -1,10 +1,12 @@
--- What is known of the four bS of an edge, and of the numbers of its filters, before its lines are filtered.
-use Rattle.std.specs.Prelude.{◌≡◌, ◌≢◌, ℕ, ◌/◌, ◌%◌, ◌<◌, Bool, List, get_or, if◌then◌else◌, ⊤}
+-- What is known of an edge before its lines are filtered: of its four bS, its filters and its thresholds. A working form.
+use Rattle.std.specs.Prelude.{◌≡◌, ◌≢◌, ℕ, ◌/◌, ◌%◌, ◌<◌, Bool, List, get_or, if◌then◌else◌, ◌⊎◌, ⊤}
+use Rattle.h264_deblock.specs.Edge.{limits}
 use Rattle.h264_deblock.specs.Rows.{any_filter, filter_by}
 use Rattle.h264_deblock.specs.declared.line.Filter.TheVariants.{Strong}
 use Rattle.h264_deblock.specs.declared.limits.Mix.{Mix}
 use Rattle.h264_deblock.specs.declared.limits.Mix.TheVariants.{NoFour, AllFour, SomeFour}
 use Rattle.h264_deblock.specs.declared.edge_parameters.BoundaryStrength.{BoundaryStrength}
+use Rattle.h264_deblock.specs.declared.edge_parameters.EdgeParameters.{EdgeParameters}
 use Rattle.h264_deblock.specs.declared.edge_parameters.BoundaryStrength.TheVariants.{Zero}
 
 -- each bS is this one
@@ -24,3 +26,7 @@ abbrev pub Suits : Mix → ℕ → Type 0
 Suits NoFour t = any_filter t ≡ filter_by t
 Suits AllFour t = any_filter t ≡ Strong
 Suits SomeFour t = ⊤
+
+-- alpha or beta is 0, by which no line is filtered (8.7.2.2)
+abbrev pub IsIdle : EdgeParameters → Type 0
+IsIdle e = (n : ℕ) → ((limits e n).alpha ≡ 0) ⊎ ((limits e n).beta ≡ 0)

@@ -2,7 +2,7 @@ ghost use Rattle.std.specs.Prelude.{◌≡◌, ℕ, ◌<◌, ◌≤◌, slice_in
 ghost use Rattle.h264_deblock.specs.Edge.{filter_of, limits};
 ghost use Rattle.h264_deblock.specs.Rows.{any_filter};
 ghost use Rattle.h264_deblock.specs.Inner.{limits_at};
-ghost use Rattle.h264_deblock.specs.Limits.{AreAll, AreOther, quarter};
+ghost use Rattle.h264_deblock.specs.Limits.{AreAll, AreOther, IsIdle, quarter};
 ghost use Rattle.h264_deblock.specs.declared.edge_parameters.BoundaryStrength.TheVariants.{Zero};
 
 use crate::edge_parameters::{BoundaryStrength, EdgeParameters, index};
@@ -96,6 +96,16 @@ fn numbers<const CHROMA: bool>(index_a: u8, strengths: &[BoundaryStrength; 4]) -
         number(index_a, strengths[2]),
         number(index_a, strengths[3]),
     ])
+}
+
+/// Whether alpha or beta of an edge is 0, so that none of its lines is filtered.
+#[inline(always)]
+pub fn is_idle(e: &EdgeParameters) -> bool
+    ensures idle { result ≡ true → IsIdle e.now }
+{
+    let by_a = index(e.qp_p, e.qp_q, e.filter_offset_a);
+    let by_b = index(e.qp_p, e.qp_q, e.filter_offset_b);
+    alpha(by_a) == 0 || beta(by_b) == 0
 }
 
 /// What the filter of an edge's lines depends on: of 16 lines of luma, or of 8 lines of each of two planes of chroma.

@@ -10,7 +10,8 @@ use Rattle.h264_vectors.specs.declared.slice.SliceContext.{SliceContext}
 use Rattle.h264_mbsyntax.specs.Possible as read
 use Rattle.h264_recon.specs.Constructed.{Coded, IsPossible}
 use Rattle.h264_recon.specs.Given.{given}
-use Rattle.h264_recon.specs.Placed.{PointsInto}
+use Rattle.h264_base.specs.declared.weight.Weights.{Weights}
+use Rattle.h264_recon.specs.Placed.{PointsInto, weights_by}
 use Rattle.h264_recon.specs.Pool.{IsShown, AreShown}
 use Rattle.h264_recon.specs.Predicted.{Prediction, Intra, Inter, Pcm}
 use Rattle.h264_recon.proofs.Possible.{given-allowed}
@@ -63,18 +64,18 @@ begun-holds width size old new v k a s n = record {
 
 -- what is given by the slice's parameters
 pub given-by : (across width : ℕ) (picture : List CodedMacroblock) (making : Making) (slice : SliceContext) (s : Sequence) (m : CodedMacroblock) (g : Coded) → across ≡ width → MakesSlice making slice s → m.slice ≡ slice.number →
-    g ≡ given width picture making.place slice.constrained_intra slice.chroma_qp_index_offset m → g ≡ given_by across picture making.place (making.slices m.slice) m
+    g ≡ given width picture making.place (weights_by s.weights) slice.constrained_intra slice.chroma_qp_index_offset m → g ≡ given_by across picture making.place (making.slices m.slice) m
 given-by across width picture making slice s m g w h e is =
-    let parameters : making.slices m.slice ≡ record { constrained_intra = slice.constrained_intra; filter = s.filter } = ap making.slices e ∙ h.parameters in
+    let parameters : making.slices m.slice ≡ record { constrained_intra = slice.constrained_intra; filter = s.filter; weights = weights_by s.weights } = ap making.slices e ∙ h.parameters in
     rw (parameters, h.offset, w) is
 
 pub filter-by : (making : Making) (slice : SliceContext) (s : Sequence) (m : CodedMacroblock) → MakesSlice making slice s → m.slice ≡ slice.number → (making.slices m.slice).filter ≡ s.filter
 filter-by making slice s m h e = ap (λ (p : Parameters). p.filter) (ap making.slices e ∙ h.parameters)
 
 -- its modes refer to sides that there are
-pub possible : (width : ℕ) (slice : SliceContext) (picture : List CodedMacroblock) (place : ℕ → ℕ) (offset : ℤ) (m : CodedMacroblock) (c r : ℕ) (g : Coded) → length picture ≡ r * width + c → c < width → m.slice ≡ slice.number → read.IsPossible width slice picture m.prediction →
-    g ≡ given width picture place slice.constrained_intra offset m → IsPossible g.prediction g.available
-possible width slice picture place offset m c r g n i e h is = subst (λ (x : Coded). IsPossible x.prediction x.available) (sym is) (given-allowed width slice picture place offset m c r n i e h).possible
+pub possible : (width : ℕ) (slice : SliceContext) (picture : List CodedMacroblock) (place : ℕ → ℕ) (weights : List (Option Weights)) (offset : ℤ) (m : CodedMacroblock) (c r : ℕ) (g : Coded) → length picture ≡ r * width + c → c < width → m.slice ≡ slice.number → read.IsPossible width slice picture m.prediction →
+    g ≡ given width picture place weights slice.constrained_intra offset m → IsPossible g.prediction g.available
+possible width slice picture place weights offset m c r g n i e h is = subst (λ (x : Coded). IsPossible x.prediction x.available) (sym is) (given-allowed width slice picture place weights offset m c r n i e h).possible
 
 -- a whole picture is decoded
 pub whole-made : (width size : ℕ) (making : Making) (picture : List CodedMacroblock) (s : Sequence) (f : Option Frame) → HoldsMade width size (Some making) picture s → length picture ≡ size → f ≡ Some s.frames.frame → IsMadeOf (setting_of s) making picture f

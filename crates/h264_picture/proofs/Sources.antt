@@ -22,7 +22,9 @@ use Rattle.h264_inter.specs.Luma.{predicted_luma}
 use Rattle.h264_inter.specs.Chroma.{predicted_chroma}
 use Rattle.h264_recon.specs.Inter.{Setting, predicted_from, no_motion}
 use Rattle.h264_recon.specs.Constructed.{Coded, window, predicted_inter, made_by, made, Constructed}
-use Rattle.h264_recon.specs.Given.{available, motion_of, motions_of, prediction_of, given}
+use Rattle.h264_base.specs.declared.weight.Weights.{Weights}
+use Rattle.h264_recon.specs.Given.{available, motion_of, motions_of, prediction_of, weights_of, given}
+use Rattle.h264_recon.specs.Weights.{weights_at, weighted_if}
 use Rattle.h264_recon.specs.Levels.{levels_of}
 use Rattle.h264_recon.specs.declared.macroblock.Available.{Available}
 use Rattle.h264_recon.specs.declared.macroblock.Motion.{Motion}
@@ -71,16 +73,16 @@ module _ (across down : ℕ) (s t : Sources) where
 
   -- ---- construction
 
-  abbrev with_prediction : Sources → Available → Levels → coded.Prediction → Coded
-  with_prediction z a l prediction = record { available = a; prediction = prediction_of z.place prediction; levels = l }
+  abbrev with_prediction : Sources → Available → Levels → List (Option Weights) → coded.Prediction → Coded
+  with_prediction z a l ws prediction = record { available = a; prediction = prediction_of z.place prediction; levels = l; weights = ws }
 
-  prediction-shared : (prediction : coded.Prediction) (a : Available) (l : Levels) (c r : ℕ) (p : Component) (w : ℕ → ℕ → ℕ) (x y : ℕ) → c < across → r < down → x < side p → y < side p → AreSharedBy across down s t prediction →
-      made_by (prediction_of s.place prediction) (setting s) c r (with_prediction s a l prediction) p w x y ≡ made_by (prediction_of t.place prediction) (setting t) c r (with_prediction t a l prediction) p w x y
+  prediction-shared : (prediction : coded.Prediction) (a : Available) (l : Levels) (ws : List (Option Weights)) (c r : ℕ) (p : Component) (w : ℕ → ℕ → ℕ) (x y : ℕ) → c < across → r < down → x < side p → y < side p → AreSharedBy across down s t prediction →
+      made_by (prediction_of s.place prediction) (setting s) c r (with_prediction s a l ws prediction) p w x y ≡ made_by (prediction_of t.place prediction) (setting t) c r (with_prediction t a l ws prediction) p w x y
   unfolding made_by prediction_of
-  prediction-shared (coded.Intra4x4 modes chroma) a l c r p w x y i j u v h = refl
-  prediction-shared (coded.Intra16x16 mode chroma) a l c r p w x y i j u v h = refl
-  prediction-shared (coded.Pcm samples) a l c r p w x y i j u v h = refl
-  prediction-shared (coded.Inter motions) a l c r p w x y i j u v h = ap (λ n. clip1 (pos n +ℤ residual l p x y)) (inter-shared c r motions p x y i j u v h)
+  prediction-shared (coded.Intra4x4 modes chroma) a l ws c r p w x y i j u v h = refl
+  prediction-shared (coded.Intra16x16 mode chroma) a l ws c r p w x y i j u v h = refl
+  prediction-shared (coded.Pcm samples) a l ws c r p w x y i j u v h = refl
+  prediction-shared (coded.Inter motions) a l ws c r p w x y i j u v h = ap (λ n. clip1 (pos (weighted_if p (weights_at ws p x y) n) +ℤ residual l p x y)) (inter-shared c r motions p x y i j u v h)
 
   module _ (picture : List CodedMacroblock) (shared : AreShared across down s t picture) where
     macroblock-shared : (a : ℕ) → a < length picture → (c r : ℕ) (p : Component) (w : ℕ → ℕ → ℕ) (x y : ℕ) → c < across → r < down → x < side p → y < side p →
@@ -89,7 +91,7 @@ module _ (across down : ℕ) (s t : Sources) where
     macroblock-shared a long c r p w x y i j u v =
         let m = get_or picture a nothing in
         let at = slice_get-get_or picture a nothing long in
-        rw (shared.parameters a m at) (prediction-shared m.prediction (available across (take a picture) m.slice (t.slices m.slice).constrained_intra) (levels_of (t.slices m.slice).filter.chroma_qp_index_offset m) c r p w x y i j u v (shared.references a m at))
+        rw (shared.parameters a m at) (prediction-shared m.prediction (available across (take a picture) m.slice (t.slices m.slice).constrained_intra) (levels_of (t.slices m.slice).filter.chroma_qp_index_offset m) (weights_of (t.slices m.slice).weights m.prediction) c r p w x y i j u v (shared.references a m at))
 
     constructed-shared : (u : Component → ℕ → ℕ → ℕ) → length picture ≡ down * across → Constructed (setting s) (macroblock_at s.slices s.place across picture) u → Constructed (setting t) (macroblock_at t.slices t.place across picture) u
     constructed-shared u whole h = record {

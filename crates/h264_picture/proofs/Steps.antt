@@ -108,10 +108,10 @@ pub same-samples : (making : Option Making) (picture : List CodedMacroblock) (ol
 same-samples None picture old new a d l f h = tt
 same-samples (Some making) picture old new a d l f h = rw (a, d, l, f) h
 
-pub same-makes : (making : Option Making) (slice : SliceContext) (old new : Sequence) → new.places ≡ old.places → new.filter ≡ old.filter → MakesIn making slice old → MakesIn making slice new
-same-makes None slice old new p f h = tt
-same-makes (Some making) slice old new p f h = record {
-  parameters = rw f h.parameters;
+pub same-makes : (making : Option Making) (slice : SliceContext) (old new : Sequence) → new.places ≡ old.places → new.filter ≡ old.filter → new.weights ≡ old.weights → MakesIn making slice old → MakesIn making slice new
+same-makes None slice old new p f w h = tt
+same-makes (Some making) slice old new p f w h = record {
+  parameters = rw (f, w) h.parameters;
   offset = rw f h.offset;
   offsets = rw f h.offsets;
   placed = rw p h.placed;
@@ -119,11 +119,11 @@ same-makes (Some making) slice old new p f h = record {
 
 -- a slice begins, with the places of its reference pictures among the frames
 pub makes-with : (making : Option Making) (slice : SliceContext) (samples : SliceSamples) (base : ℕ) (old new : Sequence) →
-    ((n : ℕ) → n < 16 → base ≤ get_or samples.places n 0 → IsPlace old.frames (get_or samples.places n 0 - base) → get_or new.places n 0 ≡ get_or samples.places n 0 - base) → new.filter ≡ samples.filter →
+    ((n : ℕ) → n < 16 → base ≤ get_or samples.places n 0 → IsPlace old.frames (get_or samples.places n 0 - base) → get_or new.places n 0 ≡ get_or samples.places n 0 - base) → new.filter ≡ samples.filter → new.weights ≡ samples.weights →
     MakesWith making slice samples base old → MakesIn making slice new
-makes-with None slice samples base old new values f h = tt
-makes-with (Some making) slice samples base old new values f h = record {
-  parameters = rw f h.parameters;
+makes-with None slice samples base old new values f w h = tt
+makes-with (Some making) slice samples base old new values f w h = record {
+  parameters = rw (f, w) h.parameters;
   offset = rw f h.offset;
   offsets = rw f h.offsets;
   placed = record {

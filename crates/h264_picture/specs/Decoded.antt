@@ -1,6 +1,7 @@
 -- The samples of a picture (8), by its coded macroblocks in decoding order, the parameters of each slice by its number, the places of its reference
 -- pictures in the pool by their numbers, and these pictures.
 use Rattle.std.specs.Prelude.{◌≡◌, ℕ, ◌*◌, ◌<◌, Bool, List, [], length, take, slice_get, get_or, Option, Some, None}
+use Rattle.h264_base.specs.declared.weight.Weights.{Weights}
 use Rattle.h264_plane.specs.declared.frame.Component.{Component}
 use Rattle.h264_plane.specs.Places.{side}
 use Rattle.h264_near.specs.Coded as coded
@@ -12,17 +13,19 @@ use Rattle.h264_deblock.specs.declared.slice_filter.SliceFilter.{SliceFilter}
 use Rattle.h264_deblock.specs.Filtering.{PlaneEdges, filtered_by, is_chroma}
 use Rattle.h264_deblock.specs.CodedEdges.{coded_edges}
 
--- what the samples of a slice's macroblocks depend on beside these: constrained_intra_pred_flag, and its filter with chroma_qp_index_offset
+-- what the samples of a slice's macroblocks depend on beside these: constrained_intra_pred_flag, its filter with chroma_qp_index_offset, and the weights
+-- of its reference indexes, by refIdxL0, where they have any
 pub record Parameters : Type 0 where
   pub constrained_intra : Bool
   pub filter : SliceFilter
+  pub weights : List (Option Weights)
 
 abbrev pub filters : (ℕ → Parameters) → ℕ → SliceFilter
 filters slices n = (slices n).filter
 
 -- the macroblock m of a slice with these parameters, after these macroblocks
 abbrev pub given_by : ℕ → List CodedMacroblock → (ℕ → ℕ) → Parameters → CodedMacroblock → Coded
-given_by width picture place s m = given width picture place s.constrained_intra s.filter.chroma_qp_index_offset m
+given_by width picture place s m = given width picture place s.weights s.constrained_intra s.filter.chroma_qp_index_offset m
 
 -- what stands where no macroblock is
 abbrev pub nothing : CodedMacroblock

@@ -10,4 +10,5 @@ pub mod Decoded
 pub mod Held
 pub mod Making
 pub mod Filter
+pub mod Weights
 pub mod Sources

@@ -8,7 +8,7 @@ use Rattle.h264_near.specs.Coded.{CodedMacroblock}
 use Rattle.h264_mbsyntax.specs.Macroblock.{predicted_qp}
 use Rattle.h264_vectors.specs.declared.slice.SliceContext.{SliceContext}
 use Rattle.h264_recon.specs.Inter.{Setting}
-use Rattle.h264_recon.specs.Placed.{ArePlaced}
+use Rattle.h264_recon.specs.Placed.{ArePlaced, weights_by}
 use Rattle.h264_picture.specs.declared.samples.SliceSamples.{SliceSamples}
 use Rattle.h264_picture.specs.declared.sequence.Sequence.{Sequence}
 use Rattle.h264_picture.specs.declared.work.Work.{Work}
@@ -36,7 +36,7 @@ HasSamples (Some making) picture s = IsHeld (setting_of s) making.place making.s
 
 -- it makes the samples of this slice
 pub record MakesSlice (making : Making) (slice : SliceContext) (s : Sequence) : Type 0 where
-  pub parameters : making.slices slice.number ≡ record { constrained_intra = slice.constrained_intra; filter = s.filter }
+  pub parameters : making.slices slice.number ≡ record { constrained_intra = slice.constrained_intra; filter = s.filter; weights = weights_by s.weights }
   pub offset : s.filter.chroma_qp_index_offset ≡ slice.chroma_qp_index_offset
   pub offsets : (n : ℕ) → (making.slices n).filter.chroma_qp_index_offset ≡ s.filter.chroma_qp_index_offset
   pub placed : ArePlaced slice s.places making.place
@@ -47,7 +47,7 @@ MakesIn (Some making) slice s = MakesSlice making slice s
 
 -- so it will, with what goes with the slice, where the places of its frames begin with `base`
 pub record MakesSliceWith (making : Making) (slice : SliceContext) (samples : SliceSamples) (base : ℕ) (s : Sequence) : Type 0 where
-  pub parameters : making.slices slice.number ≡ record { constrained_intra = slice.constrained_intra; filter = samples.filter }
+  pub parameters : making.slices slice.number ≡ record { constrained_intra = slice.constrained_intra; filter = samples.filter; weights = weights_by samples.weights }
   pub offset : samples.filter.chroma_qp_index_offset ≡ slice.chroma_qp_index_offset
   pub offsets : (n : ℕ) → (making.slices n).filter.chroma_qp_index_offset ≡ samples.filter.chroma_qp_index_offset
   pub placed : (k n : ℕ) → k < 16 → get_or slice.references k None ≡ Some n → (get_or samples.places k 0 ≡ base + making.place n) × IsPlace s.frames (making.place n)

@@ -9,7 +9,7 @@ ghost use Rattle.h264_mbsyntax.specs.Possible.{IsPossible};
 ghost use Rattle.h264_recon.specs.Constructed.{coded as coded_as};
 ghost use Rattle.h264_recon.specs.Given.{given as given_of};
 ghost use Rattle.h264_recon.specs.Levels.{levels_of};
-ghost use Rattle.h264_recon.specs.Placed.{ArePlaced, PointsInto};
+ghost use Rattle.h264_recon.specs.Placed.{ArePlaced, PointsInto, weights_by};
 ghost use Rattle.h264_recon.specs.Predicted.{prediction_in};
 
 use crate::in_place::go_on;
@@ -17,7 +17,7 @@ use crate::sequence::Sequence;
 use h264_deblock::coded_edges;
 use h264_mbsyntax::Macroblock as Read;
 use h264_near::Near;
-use h264_recon::{Available, Macroblock, given};
+use h264_recon::{Available, Macroblock, SliceWeights, given};
 use h264_scale::Residuals;
 use h264_vectors::SliceContext;
 
@@ -46,6 +46,7 @@ fn given_within<'a>(
     near: &Near,
     slice: &SliceContext,
     places: &[u8; 16],
+    weights: &'a SliceWeights,
     across: usize,
     column: usize,
     row: usize,
@@ -54,9 +55,9 @@ fn given_within<'a>(
     ensures points { PointsInto places.now (prediction_in result.prediction) }
     ensures more { IsTrue result.available.above_right → column + 1 < across }
     ensures given { (width : ℕ) (picture : List CodedMacroblock) (place : ℕ → ℕ) (coded : CodedMacroblock) → across ≡ width → Keeps width picture near.now → length picture ≡ row * width + column → column < width → HoldsMacroblock read.now coded → coded.slice ≡ slice.now.number →
-        IsPossible width slice.now picture coded.prediction → ArePlaced slice.now places.now place → coded_as result (levels_of slice.now.chroma_qp_index_offset coded) ≡ given_of width picture place slice.now.constrained_intra slice.now.chroma_qp_index_offset coded }
+        IsPossible width slice.now picture coded.prediction → ArePlaced slice.now places.now place → coded_as result (levels_of slice.now.chroma_qp_index_offset coded) ≡ given_of width picture place (weights_by weights.now) slice.now.constrained_intra slice.now.chroma_qp_index_offset coded }
 {
-    let mut m = given(read, near, slice, places, column, row);
+    let mut m = given(read, near, slice, places, weights, column, row);
     m.available = within_row(m.available, across, column);
     m
 }
@@ -87,6 +88,7 @@ impl Sequence {
             &self.near,
             slice,
             &self.places,
+            &self.weights,
             self.across,
             self.column,
             self.row,

@@ -13,7 +13,7 @@ use h264_bits::{Bits, check, look};
 use h264_deblock::{Deblocking, SliceFilter};
 use h264_mbsyntax::Macroblock;
 use h264_near::Near;
-use h264_recon::Lines;
+use h264_recon::{Lines, SliceWeights};
 use h264_sps::sps::Sps;
 use h264_vectors::SliceContext;
 use std::alloc::{AllocError, Global};
@@ -42,6 +42,7 @@ pub struct Sequence {
     /// The places of the reference pictures of the slice.
     pub(crate) places: [u8; 16],
     pub(crate) filter: SliceFilter,
+    pub(crate) weights: SliceWeights,
 
     ghost within: { next ≤ size },
     ghost sound: { IsSound across down size next column row lines frames places },
@@ -93,6 +94,7 @@ impl Sequence {
             mb: Macroblock::none(),
             places: [1; 16],
             filter: NO_FILTER,
+            weights: SliceWeights::NONE,
         })
     }
 
@@ -168,6 +170,7 @@ impl Sequence {
     {
         self.places = places_within(&self.frames, &samples.places, base);
         self.filter = samples.filter;
+        self.weights = samples.weights;
         self.read_slice_data(bits, slice, sink)
     }
 }

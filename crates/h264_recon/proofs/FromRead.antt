@@ -1,5 +1,5 @@
 -- The levels of a macroblock that was read are those of the coded macroblock.
-use Rattle.std.proofs.Common.{◌≡◌, ℕ, ◌+◌, ◌*◌, ◌≤◌, Bool, List, [], get_or, take, drop, replicate, ℤ, pos, refl, ap, sym, ◌∙◌, arith}
+use Rattle.std.proofs.Common.{◌≡◌, ℕ, ◌+◌, ◌*◌, ◌≤◌, Bool, List, [], get_or, Option, take, drop, replicate, ℤ, pos, refl, ap, sym, ◌∙◌, arith}
 use Rattle.h264_tables.specs.ChromaQp.{chroma_qp_of}
 use Rattle.h264_near.specs.Coded as coded
 use Rattle.h264_near.specs.Coded.{CodedMacroblock}
@@ -11,7 +11,8 @@ use Rattle.h264_scale.specs.declared.levels.ChromaLevels.{ChromaLevels}
 use Rattle.h264_scale.specs.declared.levels.ChromaLevels.TheVariants as chroma
 use Rattle.h264_scale.specs.declared.levels.Levels.{Levels}
 use Rattle.h264_recon.specs.Constructed.{Coded}
-use Rattle.h264_recon.specs.Given.{available, prediction_of, given}
+use Rattle.h264_base.specs.declared.weight.Weights.{Weights}
+use Rattle.h264_recon.specs.Given.{available, prediction_of, weights_of, given}
 use Rattle.h264_recon.specs.Table.{table}
 use Rattle.h264_recon.specs.declared.macroblock.Available.{Available}
 use Rattle.h264_recon.specs.Predicted.{Prediction}
@@ -84,10 +85,12 @@ levels-are offset m l cb cr qp qc a b d q e =
 
 -- ---- the whole macroblock
 
-abbrev assembled : Available → Prediction → Levels → Coded
-assembled a p l = record { available = a; prediction = p; levels = l }
+abbrev assembled : Available → Prediction → Levels → List (Option Weights) → Coded
+assembled a p l ws = record { available = a; prediction = p; levels = l; weights = ws }
 
-pub given-is : (w : ℕ) (xs : List CodedMacroblock) (place : ℕ → ℕ) (constrained : Bool) (offset : ℤ) (m : CodedMacroblock) (a : Available) (p : Prediction) → a ≡ available w xs m.slice constrained → p ≡ prediction_of place m.prediction →
-    assembled a p (levels_of offset m) ≡ given w xs place constrained offset m
+pub given-is : (w : ℕ) (xs : List CodedMacroblock) (place : ℕ → ℕ) (weights : List (Option Weights)) (constrained : Bool) (offset : ℤ) (m : CodedMacroblock) (a : Available) (p : Prediction) (ws : List (Option Weights)) →
+    a ≡ available w xs m.slice constrained → p ≡ prediction_of place m.prediction → ws ≡ weights_of weights m.prediction → assembled a p (levels_of offset m) ws ≡ given w xs place weights constrained offset m
 unfolding given
-given-is w xs place constrained offset m a p e f = ap (λ z. assembled z p (levels_of offset m)) e ∙ ap (λ z. assembled (available w xs m.slice constrained) z (levels_of offset m)) f
+given-is w xs place weights constrained offset m a p ws e f g =
+    ap (λ z. assembled z p (levels_of offset m) ws) e ∙ ap (λ z. assembled (available w xs m.slice constrained) z (levels_of offset m) ws) f
+    ∙ ap (assembled (available w xs m.slice constrained) (prediction_of place m.prediction) (levels_of offset m)) g

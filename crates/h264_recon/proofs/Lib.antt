@@ -19,3 +19,4 @@ pub mod Within
 pub mod Placed
 pub mod Possible
 pub mod FromLevels
+pub mod Weighted

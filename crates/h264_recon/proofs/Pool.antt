@@ -11,7 +11,10 @@ use Rattle.h264_inter.proofs.Depends.{luma_depends, chroma_depends}
 use Rattle.h264_plane.specs.Places.{side}
 use Rattle.h264_scale.specs.Macroblock.{residual, IsResidual}
 use Rattle.h264_recon.specs.Inter.{Setting, predicted_from, predicted_at, motion_at, no_motion}
-use Rattle.h264_recon.specs.Constructed.{predicted_inter, made_by, made, Coded}
+use Rattle.h264_recon.specs.Constructed.{predicted_inter, weighted_inter, made_by, made, Coded}
+use Rattle.h264_recon.specs.declared.weighing.PlaceWeights.{PlaceWeights}
+use Rattle.h264_recon.specs.Weighing.{in_place, AreThose, ArePlacesWeighted}
+use Rattle.h264_recon.specs.Weights.{weights_at, weighted_if}
 use Rattle.h264_recon.specs.Lines.{local, IsMadeFrom, chroma_plane}
 use Rattle.h264_recon.specs.Pool.{HasRoom, HaveRoom, IsShown, AreShown, of_frames, from_pool}
 use Rattle.h264_recon.specs.declared.macroblock.Motion.{Motion}
@@ -47,7 +50,7 @@ chroma_room false frames c r n f q room ef eq = rw (eq, ef) room.cb
 -- ---- the samples
 
 made_inter : (k : Setting) (c r : ℕ) (m : Coded) (p : Component) (s : ℕ → ℕ → ℕ) (x y : ℕ) (motion : List Motion) → m.prediction ≡ Inter motion →
-    made k c r m p s x y ≡ clip1 (pos (predicted_inter k c r motion p x y) +ℤ residual m.levels p x y)
+    made k c r m p s x y ≡ clip1 (pos (weighted_inter k c r motion m.weights p x y) +ℤ residual m.levels p x y)
 unfolding made_by
 made_inter k c r m p s x y motion e = rw e refl
 
@@ -73,24 +76,32 @@ inter_is k frames c r motion p x y a b shown i j =
     shown_at p k frames (motion_at motion p x y) (side p * c + x) (side p * r + y) (shown _ (motion_inside p x y i j))
     (inside_some p c k.across a) (inside_some p r k.down b)
 
-pub inter_made : (k : Setting) (frames : List Frame) (c r : ℕ) (m : Coded) (p : Component) (l : Store) (motion : List Motion) (predicted own : List ℕ) (res : List ℤ) → c < k.across → r < k.down →
+pub inter_made : (k : Setting) (frames : List Frame) (c r : ℕ) (m : Coded) (p : Component) (l : Store) (motion : List Motion) (predicted weighted own : List ℕ) (res : List ℤ) → c < k.across → r < k.down →
     m.prediction ≡ Inter motion → AreShown k frames m.prediction → IsResidual m.levels p res →
     ((x y : ℕ) → x < side p → y < side p → slice_index predicted (side p * y + x) ≡ from_pool frames motion c r p x y) →
-    ((x y : ℕ) → x < side p → y < side p → slice_index own (side p * y + x) ≡ clip1 (pos (slice_index predicted (side p * y + x)) +ℤ get_or res (side p * y + x) (pos 0))) → IsMadeFrom k c r m p l own
-inter_made k frames c r m p l motion predicted own res a b e shown is has sum =
+    ((x y : ℕ) → x < side p → y < side p → slice_index weighted (side p * y + x) ≡ weighted_if p (weights_at m.weights p x y) (slice_index predicted (side p * y + x))) →
+    ((x y : ℕ) → x < side p → y < side p → slice_index own (side p * y + x) ≡ clip1 (pos (slice_index weighted (side p * y + x)) +ℤ get_or res (side p * y + x) (pos 0))) → IsMadeFrom k c r m p l own
+inter_made k frames c r m p l motion predicted weighted own res a b e shown is has weighs sum =
     let there : AreShown k frames (Inter motion) = rw e at shown in
     record {
       each = λ x y i j. sum x y i j
-          ∙ ap (λ n. clip1 (pos n +ℤ get_or res (side p * y + x) (pos 0))) (has x y i j ∙ inter_is k frames c r motion p x y a b there i j)
-          ∙ ap (λ z. clip1 (pos (predicted_inter k c r motion p x y) +ℤ z)) (is.each x y i j)
+          ∙ ap (λ n. clip1 (pos n +ℤ get_or res (side p * y + x) (pos 0))) (weighs x y i j ∙ ap (weighted_if p (weights_at m.weights p x y)) (has x y i j ∙ inter_is k frames c r motion p x y a b there i j))
+          ∙ ap (λ z. clip1 (pos (weighted_inter k c r motion m.weights p x y) +ℤ z)) (is.each x y i j)
           ∙ sym (made_inter k c r m p (local (side p) l c own) x y motion e);
     }
 
-pub chroma_inter : (t : Bool) (k : Setting) (frames : List Frame) (c r : ℕ) (m : Coded) (l : Store) (motion : List Motion) (predicted own : List ℕ) (res : List ℤ) → c < k.across → r < k.down →
-    m.prediction ≡ Inter motion → AreShown k frames m.prediction → IsResidual m.levels (chroma_plane t) res →
+-- the weights that the code has are those of the macroblock
+pub weighted-is : (p : Component) (m : Coded) (weights : PlaceWeights) (old new : List ℕ) → AreThose weights m.weights → ArePlacesWeighted (side p) p (in_place weights) old new → (x y : ℕ) → x < side p → y < side p →
+    slice_index new (side p * y + x) ≡ weighted_if p (weights_at m.weights p x y) (slice_index old (side p * y + x))
+weighted-is p m weights old new those h x y i j =
+    h.each x y i j ∙ ap (λ o. weighted_if p o (slice_index old (side p * y + x))) (those.each (4 * (4 * y / side p) + 4 * x / side p) (motion_inside p x y i j))
+
+pub chroma_inter : (t : Bool) (k : Setting) (frames : List Frame) (c r : ℕ) (m : Coded) (l : Store) (weights : PlaceWeights) (motion : List Motion) (predicted weighted own : List ℕ) (res : List ℤ) → c < k.across → r < k.down →
+    m.prediction ≡ Inter motion → AreShown k frames m.prediction → AreThose weights m.weights → IsResidual m.levels (chroma_plane t) res →
     ((x y : ℕ) → x < 8 → y < 8 → slice_index predicted (8 * y + x) ≡ from_pool frames motion c r (chroma_plane t) x y) →
-    ((n : ℕ) → n < 64 → slice_index own n ≡ clip1 (pos (slice_index predicted n) +ℤ get_or res n (pos 0))) → IsMadeFrom k c r m (chroma_plane t) l own
-chroma_inter true k frames c r m l motion predicted own res a b e shown is has sum =
-    inter_made k frames c r m Cr l motion predicted own res a b e shown is has (λ x y i j. sum (8 * y + x) (omega arith))
-chroma_inter false k frames c r m l motion predicted own res a b e shown is has sum =
-    inter_made k frames c r m Cb l motion predicted own res a b e shown is has (λ x y i j. sum (8 * y + x) (omega arith))
+    ArePlacesWeighted 8 (chroma_plane t) (in_place weights) predicted weighted →
+    ((n : ℕ) → n < 64 → slice_index own n ≡ clip1 (pos (slice_index weighted n) +ℤ get_or res n (pos 0))) → IsMadeFrom k c r m (chroma_plane t) l own
+chroma_inter true k frames c r m l weights motion predicted weighted own res a b e shown those is has weighs sum =
+    inter_made k frames c r m Cr l motion predicted weighted own res a b e shown is has (weighted-is Cr m weights predicted weighted those weighs) (λ x y i j. sum (8 * y + x) (omega arith))
+chroma_inter false k frames c r m l weights motion predicted weighted own res a b e shown those is has weighs sum =
+    inter_made k frames c r m Cb l motion predicted weighted own res a b e shown is has (weighted-is Cb m weights predicted weighted those weighs) (λ x y i j. sum (8 * y + x) (omega arith))

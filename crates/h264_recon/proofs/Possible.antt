@@ -23,6 +23,7 @@ use Rattle.h264_mbsyntax.specs.Intra.{fits_block, fits_luma, fits_chroma}
 use Rattle.h264_mbsyntax.specs.Possible as read
 use Rattle.h264_recon.specs.Blocks.{sides_of, sides4_of, left_there, above_there, corner_there}
 use Rattle.h264_recon.specs.Constructed.{IsPossible, IsPossibleLuma, IsAllowed, mode_at}
+use Rattle.h264_base.specs.declared.weight.Weights.{Weights}
 use Rattle.h264_recon.specs.Given.{available, mode4_of, mode16_of, chroma_mode_of, modes4_of, prediction_of, given}
 use Rattle.h264_recon.specs.declared.macroblock.IntraLuma.TheVariants.{Blocks}
 use Rattle.h264_recon.specs.Table.{table}
@@ -220,10 +221,10 @@ possible-as-read w slice picture place (coded.Inter motions) some h = tt
 
 -- ---- what is given is allowed
 
-pub given-allowed : (w : ℕ) (slice : SliceContext) (picture : List CodedMacroblock) (place : ℕ → ℕ) (offset : ℤ) (m : CodedMacroblock) (c r : ℕ) → length picture ≡ r * w + c → c < w → m.slice ≡ slice.number → read.IsPossible w slice picture m.prediction →
-    IsAllowed (given w picture place slice.constrained_intra offset m) w c r
+pub given-allowed : (w : ℕ) (slice : SliceContext) (picture : List CodedMacroblock) (place : ℕ → ℕ) (weights : List (Option Weights)) (offset : ℤ) (m : CodedMacroblock) (c r : ℕ) → length picture ≡ r * w + c → c < w → m.slice ≡ slice.number → read.IsPossible w slice picture m.prediction →
+    IsAllowed (given w picture place weights slice.constrained_intra offset m) w c r
 unfolding given
-given-allowed w slice picture place offset m c r e k n h = record {
+given-allowed w slice picture place weights offset m c r e k n h = record {
   within = within w picture m.slice slice.constrained_intra c r e k;
   possible = rw n (possible-as-read w slice picture place m.prediction (omega arith) h);
 }

@@ -10,6 +10,7 @@ use Rattle.h264_recon.specs.Inter.{Setting, predicted_from, motion_at}
 use Rattle.h264_recon.specs.Constructed.{Coded, window, predicted_inter, made_by, made, Constructed, SameReferences}
 use Rattle.h264_recon.specs.declared.macroblock.Motion.{Motion}
 use Rattle.h264_recon.specs.Predicted.{Prediction, Intra, Inter, Pcm}
+use Rattle.h264_recon.specs.Weights.{weights_at, weighted_if}
 use Rattle.h264_recon.proofs.Pool.{motion_inside, inside_some}
 
 abbrev pub setting : ℕ → ℕ → (ℕ → Component → ℕ → ℕ → ℕ) → Setting
@@ -33,7 +34,7 @@ made_same : (d : Prediction) (across down : ℕ) (f g : ℕ → Component → �
 unfolding made_by
 made_same (Intra modes) across down f g c r m p s x y a b i j same = refl
 made_same (Inter motion) across down f g c r m p s x y a b i j same =
-    ap (λ n. clip1 (pos n +ℤ residual m.levels p x y)) (inter_same across down f g c r motion p x y a b i j same)
+    ap (λ n. clip1 (pos (weighted_if p (weights_at m.weights p x y) n) +ℤ residual m.levels p x y)) (inter_same across down f g c r motion p x y a b i j same)
 made_same (Pcm bytes) across down f g c r m p s x y a b i j same = refl
 
 pub references_alone : (across down : ℕ) (f g : ℕ → Component → ℕ → ℕ → ℕ) (macroblock : ℕ → Coded) (u : Component → ℕ → ℕ → ℕ) →

@@ -1,5 +1,6 @@
 -- The constructed samples u of a picture, before the deblocking filter (8.3, 8.4.2, 8.5.14): a system of equations over the whole picture.
-use Rattle.std.specs.Prelude.{◌≡◌, ℕ, ◌+◌, ◌-◌, ◌*◌, ◌/◌, ◌%◌, ◌<◌, IsTrue, List, get_or, slice_index, pos, ◌+ℤ◌}
+use Rattle.std.specs.Prelude.{◌≡◌, ℕ, ◌+◌, ◌-◌, ◌*◌, ◌/◌, ◌%◌, ◌<◌, IsTrue, List, get_or, slice_index, Option, pos, ◌+ℤ◌}
+use Rattle.h264_base.specs.declared.weight.Weights.{Weights}
 use Rattle.h264_plane.specs.Clip.{clip1}
 use Rattle.h264_plane.specs.Places.{side, index_of}
 use Rattle.h264_plane.specs.declared.frame.Component.{Component}
@@ -13,7 +14,9 @@ use Rattle.h264_scale.specs.Macroblock.{residual}
 use Rattle.h264_scale.specs.declared.levels.Levels.{Levels}
 use Rattle.h264_recon.specs.Blocks.{sides_of, sides4_of}
 use Rattle.h264_recon.specs.Inter.{Setting, predicted_at, motion_at, no_motion}
+use Rattle.h264_recon.specs.Placed.{weights_in}
 use Rattle.h264_recon.specs.Predicted.{PcmSamples, Prediction, Intra, Inter, Pcm, prediction_in}
+use Rattle.h264_recon.specs.Weights.{weights_at, weighted_if}
 use Rattle.h264_recon.specs.declared.macroblock.Available.{Available}
 use Rattle.h264_recon.specs.declared.macroblock.IntraLuma.{IntraLuma}
 use Rattle.h264_recon.specs.declared.macroblock.IntraLuma.TheVariants.{Blocks, Whole}
@@ -21,14 +24,16 @@ use Rattle.h264_recon.specs.declared.macroblock.IntraModes.{IntraModes}
 use Rattle.h264_recon.specs.declared.macroblock.Motion.{Motion}
 use Rattle.h264_recon.specs.declared.macroblock.Macroblock.{Macroblock}
 
--- a macroblock as it was decoded: the sides that intra prediction may use, how it is predicted, and its levels
+-- a macroblock as it was decoded: the sides that intra prediction may use, how it is predicted, its levels, and the weights of its 4x4 places, row by row,
+-- where their reference indexes have any
 pub record Coded : Type 0 where
   pub available : Available
   pub prediction : Prediction
   pub levels : Levels
+  pub weights : List (Option Weights)
 
 abbrev pub coded : Macroblock → Levels → Coded
-coded m l = record { available = m.available; prediction = prediction_in m.prediction; levels = l }
+coded m l = record { available = m.available; prediction = prediction_in m.prediction; levels = l; weights = weights_in m.weighting }
 
 -- Samples s round a macroblock: the standard's p[-1, -1] is s 0 0, the row above is s (x + 1) 0, the column to the left is s 0 (y + 1), and the
 -- macroblock's own samples are s (x + 1) (y + 1).
@@ -60,6 +65,10 @@ predicted_intra modes a Cr s x y = predicted_chroma modes.chroma (sides_of a) s 
 unfoldable pub predicted_inter : Setting → ℕ → ℕ → List Motion → Component → ℕ → ℕ → ℕ
 predicted_inter k c r motion p x y = predicted_at k (motion_at motion p x y) p (side p * c + x) (side p * r + y)
 
+-- and weighted (8.4.2.3), by the weights of each place
+abbrev pub weighted_inter : Setting → ℕ → ℕ → List Motion → List (Option Weights) → Component → ℕ → ℕ → ℕ
+weighted_inter k c r motion weights p x y = weighted_if p (weights_at weights p x y) (predicted_inter k c r motion p x y)
+
 -- ---- the constructed sample there
 
 abbrev pub pcm_sample : PcmSamples → Component → ℕ → ℕ → ℕ
@@ -69,7 +78,7 @@ pcm_sample b Cr x y = slice_index b.cr (8 * y + x)
 
 unfoldable pub made_by : Prediction → Setting → ℕ → ℕ → Coded → Component → (ℕ → ℕ → ℕ) → ℕ → ℕ → ℕ
 made_by (Intra modes) k c r m p s x y = clip1 (pos (predicted_intra modes m.available p s x y) +ℤ residual m.levels p x y)
-made_by (Inter motion) k c r m p s x y = clip1 (pos (predicted_inter k c r motion p x y) +ℤ residual m.levels p x y)
+made_by (Inter motion) k c r m p s x y = clip1 (pos (weighted_inter k c r motion m.weights p x y) +ℤ residual m.levels p x y)
 made_by (Pcm bytes) k c r m p s x y = pcm_sample bytes p x y
 
 abbrev pub made : Setting → ℕ → ℕ → Coded → Component → (ℕ → ℕ → ℕ) → ℕ → ℕ → ℕ

@@ -1,6 +1,7 @@
 -- What a macroblock of the coded picture gives to its construction.
 use Rattle.std.specs.Prelude.{ℕ, zero, suc, ◌/◌, ◌%◌, Bool, List, [], get_or, Option, Some, None, ℤ}
-use Rattle.std.specs.Option.{is_some}
+use Rattle.std.specs.Option.{is_some, option_and_then}
+use Rattle.h264_base.specs.declared.weight.Weights.{Weights}
 use Rattle.h264_intra.specs.declared.luma4.Intra4x4PredMode.{Intra4x4PredMode}
 use Rattle.h264_intra.specs.declared.luma4.Intra4x4PredMode.TheVariants as mode4
 use Rattle.h264_intra.specs.declared.luma16.Intra16x16PredMode.{Intra16x16PredMode}
@@ -9,7 +10,7 @@ use Rattle.h264_intra.specs.declared.chroma.IntraChromaPredMode.{IntraChromaPred
 use Rattle.h264_intra.specs.declared.chroma.IntraChromaPredMode.TheVariants as mode8
 use Rattle.h264_near.specs.declared.motion.Motion as derived
 use Rattle.h264_near.specs.Coded as coded
-use Rattle.h264_near.specs.Coded.{CodedMacroblock, mode_part, number_of}
+use Rattle.h264_near.specs.Coded.{CodedMacroblock, mode_part, motion_in, number_of}
 use Rattle.h264_near.specs.Intra.{with_modes, macroblock_samples}
 use Rattle.h264_near.specs.Place.{around}
 use Rattle.h264_recon.specs.Constructed.{Coded}
@@ -17,6 +18,7 @@ use Rattle.h264_recon.specs.Inter.{no_motion}
 use Rattle.h264_recon.specs.Levels.{levels_of}
 use Rattle.h264_recon.specs.Predicted.{Prediction, Intra, Inter, Pcm, pcm_of}
 use Rattle.h264_recon.specs.Table.{table}
+use Rattle.h264_recon.specs.Weights.{index_weights}
 use Rattle.h264_recon.specs.declared.macroblock.Available.{Available}
 use Rattle.h264_recon.specs.declared.macroblock.IntraLuma.TheVariants.{Blocks, Whole}
 use Rattle.h264_recon.specs.declared.macroblock.Motion.{Motion}
@@ -79,10 +81,18 @@ prediction_of place (coded.Intra16x16 mode chroma) = Intra (record { luma = Whol
 prediction_of place (coded.Pcm samples) = Pcm (pcm_of samples)
 prediction_of place (coded.Inter motions) = Inter (motions_of place motions)
 
--- ---- the macroblock m after these, in a picture that is so many macroblocks wide, by constrained_intra_pred_flag and chroma_qp_index_offset
-unfoldable pub given : ℕ → List CodedMacroblock → (ℕ → ℕ) → Bool → ℤ → CodedMacroblock → Coded
-given width picture place constrained offset m = record {
+-- ---- weights, by those of the slice's reference indexes
+
+-- of the 4x4 places of a macroblock, row by row
+unfoldable pub weights_of : List (Option Weights) → coded.Prediction → List (Option Weights)
+weights_of weights p = table 16 (λ k. index_weights weights (option_and_then (λ m. m) (motion_in p (number_of (k % 4) (k / 4)))))
+
+-- ---- the macroblock m after these, in a picture that is so many macroblocks wide, by the weights of its slice's reference indexes,
+-- constrained_intra_pred_flag and chroma_qp_index_offset
+unfoldable pub given : ℕ → List CodedMacroblock → (ℕ → ℕ) → List (Option Weights) → Bool → ℤ → CodedMacroblock → Coded
+given width picture place weights constrained offset m = record {
   available = available width picture m.slice constrained;
   prediction = prediction_of place m.prediction;
   levels = levels_of offset m;
+  weights = weights_of weights m.prediction;
 }

@@ -1,6 +1,7 @@
 pub mod Blocks
 pub mod Inter
 pub mod Predicted
+pub mod Weights
 pub mod Constructed
 pub mod Around
 pub mod Lines
@@ -13,3 +14,4 @@ pub mod Levels
 pub mod Given
 pub mod Placed
 pub mod Residuals
+pub mod Weighing

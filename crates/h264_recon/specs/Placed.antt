@@ -1,5 +1,5 @@
 -- The motions that the code has, by the places that indexes of the reference list name.
-use Rattle.std.specs.Prelude.{◌≡◌, ℕ, ◌%◌, ◌/◌, ◌<◌, List, get_or, Option, Some, None, pos}
+use Rattle.std.specs.Prelude.{◌≡◌, ℕ, ◌%◌, ◌/◌, ◌<◌, List, get_or, replicate, Option, Some, None, unwrap_or, pos}
 use Rattle.h264_near.specs.declared.motion.Motion as derived
 use Rattle.h264_near.specs.Coded.{number_of}
 use Rattle.h264_vectors.specs.declared.slice.SliceContext.{SliceContext}
@@ -7,6 +7,10 @@ use Rattle.h264_recon.specs.Inter.{no_motion}
 use Rattle.h264_recon.specs.Table.{table}
 use Rattle.h264_recon.specs.declared.macroblock.Motion.{Motion}
 use Rattle.h264_recon.specs.Predicted.{Prediction, Intra, Inter, Pcm}
+use Rattle.h264_recon.specs.Weights.{index_weights}
+use Rattle.h264_base.specs.declared.weight.Weights.{Weights}
+use Rattle.h264_recon.specs.declared.macroblock.Weighting.{Weighting}
+use Rattle.h264_recon.specs.declared.weights.SliceWeights.{SliceWeights}
 
 -- the places of the slice's reference pictures, by refIdxL0, are those of their numbers
 pub record ArePlaced (slice : SliceContext) (places : List ℕ) (place : ℕ → ℕ) : Type 0 where
@@ -31,3 +35,19 @@ placed_at places motions k = placed_motion places (get_or motions (number_of (k 
 
 unfoldable pub placed_motions : List ℕ → List (Option derived.Motion) → List Motion
 placed_motions places motions = table 16 (placed_at places motions)
+
+-- ---- the weights that the code has
+
+-- of a slice's reference indexes
+abbrev pub weights_by : SliceWeights → List (Option Weights)
+weights_by w = unwrap_or w.by_index (replicate 16 None)
+
+abbrev pub weights_placed_at : List (Option Weights) → List (Option derived.Motion) → ℕ → Option Weights
+weights_placed_at weights motions k = index_weights weights (get_or motions (number_of (k % 4) (k / 4)) None)
+
+-- of a macroblock's 4x4 places, row by row
+unfoldable pub placed_weights : List (Option Weights) → List (Option derived.Motion) → List (Option Weights)
+placed_weights weights motions = table 16 (weights_placed_at weights motions)
+
+abbrev pub weights_in : Weighting → List (Option Weights)
+weights_in w = placed_weights (weights_by w.weights.now) w.motions.now

@@ -11,11 +11,12 @@ ghost use Rattle.h264_recon.specs.Constructed.{coded as coded_as, IsWithin};
 ghost use Rattle.h264_recon.specs.Levels.{levels_of};
 ghost use Rattle.h264_recon.specs.Given.{available as available_of, mode4_of, mode16_of, chroma_mode_of, modes4_of, prediction_of, given as given_of};
 ghost use Rattle.h264_recon.specs.Predicted.{motions_in, prediction_in};
-ghost use Rattle.h264_recon.specs.Placed.{ArePlaced, PointsInto, placed_motion, placed_motions};
+ghost use Rattle.h264_recon.specs.Placed.{ArePlaced, PointsInto, placed_motion, placed_motions, weights_by};
 
 use crate::macroblock::{
-    Available, IntraLuma, IntraModes, Macroblock, Motion, Motions, Prediction,
+    Available, IntraLuma, IntraModes, Macroblock, Motion, Motions, Prediction, Weighting,
 };
+use crate::weights::SliceWeights;
 use h264_inter::MotionVector;
 use h264_intra::{Intra4x4PredMode, Intra16x16PredMode, IntraChromaPredMode};
 use h264_mbsyntax::{Kind, Macroblock as Read};
@@ -224,12 +225,14 @@ fn count(references: &[Option<u64>; 16]) -> usize
 }
 
 /// What a macroblock that was read, behind those that `near` keeps and at this column and row of macroblocks, gives to its construction: the sides
-/// that intra prediction may use, and its modes, motions or samples. `places` are those of the reference pictures in the pool of frames, by refIdxL0.
+/// that intra prediction may use, its modes, motions or samples, and the weights of the latter. `places` are those of the reference pictures in the
+/// pool of frames, and `weights` are the weights, both by refIdxL0.
 pub fn given<'a>(
     read: &'a Read,
     near: &Near,
     slice: &SliceContext,
     places: &[u8; 16],
+    weights: &'a SliceWeights,
     column: usize,
     row: usize,
 ) -> Macroblock<'a>
@@ -237,11 +240,15 @@ pub fn given<'a>(
     ensures within { IsWithin result.available (width_of near.now) column row }
     ensures points { PointsInto places.now (prediction_in result.prediction) }
     ensures given { (width : ℕ) (picture : List CodedMacroblock) (place : ℕ → ℕ) (coded : CodedMacroblock) → Keeps width picture near.now → length picture ≡ row * width + column → column < width → Holds read.now coded → coded.slice ≡ slice.now.number →
-        IsPossible width slice.now picture coded.prediction → ArePlaced slice.now places.now place → coded_as result (levels_of slice.now.chroma_qp_index_offset coded) ≡ given_of width picture place slice.now.constrained_intra slice.now.chroma_qp_index_offset coded }
+        IsPossible width slice.now picture coded.prediction → ArePlaced slice.now places.now place → coded_as result (levels_of slice.now.chroma_qp_index_offset coded) ≡ given_of width picture place (weights_by weights.now) slice.now.constrained_intra slice.now.chroma_qp_index_offset coded }
 {
     let _all = count(&slice.references);
     Macroblock {
         available: available(near, slice.number, slice.constrained_intra, column, row),
         prediction: prediction(read, places),
+        weighting: Weighting {
+            weights,
+            motions: &read.contexts.motions,
+        },
     }
 }

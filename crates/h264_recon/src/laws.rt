@@ -1,7 +1,8 @@
 //! What holds of the equations of a picture. Nothing here runs.
 #![tactic(auto)]
 
-ghost use Rattle.std.specs.Prelude.{◌≡◌, ℕ, ◌+◌, ◌*◌, ◌<◌, List, length, ℤ};
+ghost use Rattle.std.specs.Prelude.{◌≡◌, ℕ, ◌+◌, ◌*◌, ◌<◌, List, length, Option, ℤ};
+ghost use Rattle.h264_base.specs.declared.weight.Weights.{Weights};
 ghost use Rattle.h264_near.specs.Coded.{CodedMacroblock};
 ghost use Rattle.h264_vectors.specs.declared.slice.SliceContext.{SliceContext};
 ghost use Rattle.h264_mbsyntax.specs.Possible.{IsPossible};
@@ -43,6 +44,6 @@ pub fn next_row()
 /// What a macroblock of the coded picture gives to its construction is allowed, where its modes have their samples (8.3.1.2, 8.3.3, 8.3.4): intra prediction
 /// takes no macroblock from outside the picture, and no mode a side that is not there.
 pub fn given_is_allowed()
-    ensures { (width : ℕ) (slice : SliceContext) (picture : List CodedMacroblock) (place : ℕ → ℕ) (offset : ℤ) (coded : CodedMacroblock) (c r : ℕ) → length picture ≡ r * width + c → c < width →
-        coded.slice ≡ slice.number → IsPossible width slice picture coded.prediction → IsAllowed (given width picture place slice.constrained_intra offset coded) width c r }
+    ensures { (width : ℕ) (slice : SliceContext) (picture : List CodedMacroblock) (place : ℕ → ℕ) (weights : List (Option Weights)) (offset : ℤ) (coded : CodedMacroblock) (c r : ℕ) → length picture ≡ r * width + c → c < width →
+        coded.slice ≡ slice.number → IsPossible width slice picture coded.prediction → IsAllowed (given width picture place weights slice.constrained_intra offset coded) width c r }
 {}

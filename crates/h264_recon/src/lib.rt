@@ -20,12 +20,17 @@ mod run;
 mod scaled;
 mod store;
 mod sum;
+mod weighing;
+mod weights;
 
 pub use in_place::construct;
 pub use input::{available, given};
-pub use macroblock::{Available, IntraLuma, IntraModes, Macroblock, Motion, Motions, Prediction};
+pub use macroblock::{
+    Available, IntraLuma, IntraModes, Macroblock, Motion, Motions, Prediction, Weighting,
+};
 pub use scaled::residuals;
 pub use store::{Lines, Store};
+pub use weights::SliceWeights;
 
 #[cfg(test)]
 mod tests;

@@ -1,5 +1,7 @@
+use crate::weights::SliceWeights;
 use h264_inter::MotionVector;
 use h264_intra::{Intra4x4PredMode, Intra16x16PredMode, IntraChromaPredMode};
+use h264_near::Motion as Derived;
 
 /// Which of the macroblocks beside this one intra prediction may use (6.4.9, 8.3.1.2).
 #[derive(Clone, Copy)]
@@ -52,9 +54,19 @@ pub enum Prediction<'a> {
     Pcm(&'a [u8; 384]),
 }
 
+/// What weighs the predicted samples of an inter macroblock (8.4.2.3): each 4x4 place by its reference index.
+#[derive(Clone, Copy)]
+pub struct Weighting<'a> {
+    /// The weights of the slice's reference indexes.
+    pub weights: &'a SliceWeights,
+    /// What the macroblock's blocks are predicted from, by their number (6.4.3).
+    pub motions: &'a [Option<Derived>; 16],
+}
+
 /// What constructs the samples of a macroblock, beside its residual.
 #[derive(Clone, Copy)]
 pub struct Macroblock<'a> {
     pub available: Available,
     pub prediction: Prediction<'a>,
+    pub weighting: Weighting<'a>,
 }

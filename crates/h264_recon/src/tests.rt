@@ -1,10 +1,10 @@
 ghost use Rattle.std.specs.Prelude.{◌≡◌, ◌<◌, ◌≤◌, vec_len, length};
 
 use crate::{
-    Available, IntraLuma, IntraModes, Lines, Macroblock, Motion, Motions, Prediction, available,
-    construct, given, residuals,
+    Available, IntraLuma, IntraModes, Lines, Macroblock, Motion, Motions, Prediction, SliceWeights,
+    Weighting, available, construct, given, residuals,
 };
-use h264_base::SliceType;
+use h264_base::{SliceType, Weight, Weights};
 use h264_inter::MotionVector;
 use h264_intra::{Intra4x4PredMode, Intra16x16PredMode, IntraChromaPredMode};
 use h264_mbsyntax::{Kind, Macroblock as Read};
@@ -14,6 +14,16 @@ use h264_scale::Residuals;
 use h264_vectors::SliceContext;
 use std::alloc::AllocError;
 use std::process::Abort;
+
+const NO_MOTIONS: [Option<Derived>; 16] = [None; 16];
+
+/// What weighs nothing.
+fn unweighted(weights: &SliceWeights) -> Weighting<'_> {
+    Weighting {
+        weights,
+        motions: &NO_MOTIONS,
+    }
+}
 
 const NO_SIDE: Available = Available {
     left: false,
@@ -79,9 +89,11 @@ fn put_samples(
     row: usize,
 ) {
     assert_room(rt, canvas, column, row);
+    let weights = SliceWeights::NONE;
     let m = Macroblock {
         available: NO_SIDE,
         prediction: Prediction::Pcm(samples),
+        weighting: unweighted(&weights),
     };
     construct(
         &mut canvas.lines,
@@ -106,9 +118,11 @@ fn put_intra(
     row: usize,
 ) {
     assert_room(rt, canvas, column, row);
+    let weights = SliceWeights::NONE;
     let m = Macroblock {
         available,
         prediction: Prediction::Intra(modes),
+        weighting: unweighted(&weights),
     };
     let residuals = Residuals {
         y: Some(y),
@@ -131,6 +145,7 @@ fn put_inter(
     canvas: &mut Canvas,
     pool: &Pool,
     vector: MotionVector,
+    weighting: Weighting,
     column: usize,
     row: usize,
 ) {
@@ -147,6 +162,7 @@ fn put_inter(
     let m = Macroblock {
         available: NO_SIDE,
         prediction: Prediction::Inter(Motions::Whole(motion)),
+        weighting,
     };
     construct(
         &mut canvas.lines,
@@ -274,12 +290,73 @@ fn below_raw(rt: &impl Abort, canvas: &mut Canvas, pool: &Pool) {
 
 /// Macroblock 3 is two luma samples to the left and one above: one chroma sample, and half of one.
 fn moved_macroblock(rt: &impl Abort, canvas: &mut Canvas, pool: &Pool) {
-    put_inter(rt, canvas, pool, MotionVector { x: -8, y: -4 }, 1, 1);
+    let weights = SliceWeights::NONE;
+    let vector = MotionVector { x: -8, y: -4 };
+    put_inter(rt, canvas, pool, vector, unweighted(&weights), 1, 1);
     assert_eq!(rt; get(rt, &canvas.frame.y, 16, 16), 117);
     assert_eq!(rt; get(rt, &canvas.frame.y, 31, 31), 237);
     assert_eq!(rt; get(rt, &canvas.frame.cb, 8, 8), 57);
     assert_eq!(rt; get(rt, &canvas.frame.cr, 8, 8), 75);
     assert_eq!(rt; get(rt, &canvas.frame.cb, 15, 15), 113);
+}
+
+const fn weight(log2_weight_denom: u8, weight: i16, offset: i16) -> Weight {
+    Weight {
+        log2_weight_denom,
+        weight,
+        offset,
+    }
+}
+
+/// Motions of one vector and one picture, by index 0 in the first quarter of a macroblock, and by index 1 in the others.
+fn two_indexes() -> [Option<Derived>; 16] {
+    let motion = Derived {
+        ref_idx: 1,
+        picture: 40,
+        vector: Vector { x: 0, y: 0 },
+    };
+    let mut motions = [Some(motion); 16];
+    for k in 0..4 {
+        motions[k] = Some(Derived {
+            ref_idx: 0,
+            ..motion
+        });
+    }
+    motions
+}
+
+/// Macroblock 3 is predicted from one picture by two indexes with other weights: (s + 1) >> 1 and s - 20 of luma, 3 * s and s of Cb, s and s + 9 of Cr.
+fn weighted_macroblock(rt: &impl Abort, canvas: &mut Canvas, pool: &Pool) {
+    let mut weights = [None; 16];
+    weights[0] = Some(Weights {
+        luma: weight(1, 1, 0),
+        cb: weight(0, 3, 0),
+        cr: weight(5, 32, 0),
+    });
+    weights[1] = Some(Weights {
+        luma: weight(0, 1, -20),
+        cb: weight(7, 128, 0),
+        cr: weight(2, 4, 9),
+    });
+    let weighting = Weighting {
+        weights: &SliceWeights::new(&weights),
+        motions: &two_indexes(),
+    };
+    put_inter(
+        rt,
+        canvas,
+        pool,
+        MotionVector { x: 0, y: 0 },
+        weighting,
+        1,
+        1,
+    );
+    assert_eq!(rt; get(rt, &canvas.frame.y, 16, 16), 64);
+    assert_eq!(rt; get(rt, &canvas.frame.y, 24, 16), 132);
+    assert_eq!(rt; get(rt, &canvas.frame.cb, 8, 8), 192);
+    assert_eq!(rt; get(rt, &canvas.frame.cb, 8, 12), 68);
+    assert_eq!(rt; get(rt, &canvas.frame.cr, 8, 8), 80);
+    assert_eq!(rt; get(rt, &canvas.frame.cr, 12, 8), 93);
 }
 
 #[test]
@@ -288,6 +365,7 @@ fn macroblocks(rt: HostRuntime) -> Result<(), AllocError> {
     beside_raw(&rt, &mut canvas, &pool);
     below_raw(&rt, &mut canvas, &pool);
     moved_macroblock(&rt, &mut canvas, &pool);
+    weighted_macroblock(&rt, &mut canvas, &pool);
     as_read(&rt)
 }
 
@@ -347,9 +425,10 @@ fn two_read(rt: &(impl Abort + AllocGlobal)) -> Result<(Near, Read), AllocError>
 
 /// The first macroblock, which moves. Block 4 stands in the third column of the first row.
 fn moved_as_read(rt: &(impl Abort + AllocGlobal)) -> Result<(), AllocError> {
+    let weights = SliceWeights::NONE;
     let near = Near::new(rt.alloc(), 2)?;
     let read = moved();
-    let first = given(&read, &near, &SLICE, &PLACES, 0, 0);
+    let first = given(&read, &near, &SLICE, &PLACES, &weights, 0, 0);
     assert!(rt; !first.available.left && !first.available.above && !first.available.above_right);
     match first.prediction {
         Prediction::Inter(Motions::Each(motion)) => {
@@ -398,8 +477,9 @@ fn are_its_modes(modes: &IntraModes) -> bool {
 /// The first macroblock of the second row, with the modes of the intra one. Under constrained_intra_pred_flag the inter macroblock above is no
 /// side; those of another slice are none.
 fn intra_as_read(rt: &(impl Abort + AllocGlobal)) -> Result<(), AllocError> {
+    let weights = SliceWeights::NONE;
     let (near, read) = two_read(rt)?;
-    let intra = given(&read, &near, &SLICE, &PLACES, 0, 1);
+    let intra = given(&read, &near, &SLICE, &PLACES, &weights, 0, 1);
     assert!(rt; intra.available.above && intra.available.above_right && !intra.available.left);
     match intra.prediction {
         Prediction::Intra(modes) => assert!(rt; are_its_modes(&modes)),
@@ -414,9 +494,10 @@ fn intra_as_read(rt: &(impl Abort + AllocGlobal)) -> Result<(), AllocError> {
 
 /// One of Intra 16x16, and I_PCM.
 fn others_as_read(rt: &(impl Abort + AllocGlobal)) -> Result<(), AllocError> {
+    let weights = SliceWeights::NONE;
     let (near, mut read) = two_read(rt)?;
     read.kind = Kind::Intra16x16 { mode: 3 };
-    match given(&read, &near, &SLICE, &PLACES, 0, 1).prediction {
+    match given(&read, &near, &SLICE, &PLACES, &weights, 0, 1).prediction {
         Prediction::Intra(modes) => {
             assert!(rt; matches!(modes.luma, IntraLuma::Whole(Intra16x16PredMode::Plane)));
         }
@@ -426,7 +507,7 @@ fn others_as_read(rt: &(impl Abort + AllocGlobal)) -> Result<(), AllocError> {
     read.pcm[255] = 1;
     read.pcm[256] = 2;
     read.pcm[383] = 3;
-    match given(&read, &near, &SLICE, &PLACES, 0, 1).prediction {
+    match given(&read, &near, &SLICE, &PLACES, &weights, 0, 1).prediction {
         Prediction::Pcm(samples) => {
             assert_eq!(rt; (samples[255], samples[256], samples[383]), (1, 2, 3));
         }

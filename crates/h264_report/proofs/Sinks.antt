@@ -1,12 +1,10 @@
 -- What a sink's writer holds, from one call to the next.
 use Rattle.std.proofs.Common.{Bool, ◌≡◌, Result, Ok, Err, OnOk, OnErr, ℕ, ℤ, ◌+◌, ◌<◌, List, [], ◌∷◌, ◌++◌, Option, refl, sym, ap, ◌∙◌, subst, arith}
 use Rattle.std.proofs.lemmas.List.{append-nil, length-append}
-use Rattle.h264_base.specs.Call.{Call, OfElement}
-use Rattle.h264_base.specs.declared.element_name.ElementName.{ElementName}
+use Rattle.h264_base.specs.Call.{Call}
 use Rattle.h264_report.specs.Sent.{Sends, SendsFront, HoldsSent}
 use Rattle.h264_report.specs.Told.{ended, line_of, lines_of, counted, counted_of, bytes_in, bytes_of, HoldsLines, TookLines, TookFrames, IsFrame}
 use Rattle.h264_report.specs.declared.listing.Listing.{Listing}
-use Rattle.h264_report.specs.declared.listing.Listing.TheVariants as listings
 use Rattle.h264_report.proofs.Known.{sends-is, sends-more, front-is, appends-none}
 use Rattle.h264_report.proofs.Calls.{bytes-more, lines-more, counted-more}
 
@@ -78,15 +76,3 @@ skip-bytes before call none h = sent-is (sym (bytes-more before call ∙ ap (λ 
 -- the same of a sink
 pub passed : {name reference : ℕ} {start : Option (List ℕ)} {n : ℕ} {failed : Bool} {k : Option (List ℕ)} (before : List Call) (call : Call) → bytes_in call ≡ [] → TookFrames name start reference n failed k before → TookFrames name start reference n failed k (before ++ call ∷ [])
 passed before call none h = record { same_reference = h.same_reference; holds = skip-bytes before call none h.holds; blamed = h.blamed }
-
-pub no-line : (l : Listing) (m : ℕ) (name : ElementName) (bit : ℕ) (value : ℤ) → line_of l m (OfElement name bit value) ≡ []
-no-line listings.Nothing m name bit value = refl
-no-line listings.Units m name bit value = refl
-no-line listings.Slices m name bit value = refl
-no-line listings.Frames m name bit value = refl
-
-pub no-frame : (l : Listing) (name : ElementName) (bit : ℕ) (value : ℤ) → counted l (OfElement name bit value) ≡ 0
-no-frame listings.Nothing name bit value = refl
-no-frame listings.Units name bit value = refl
-no-frame listings.Slices name bit value = refl
-no-frame listings.Frames name bit value = refl

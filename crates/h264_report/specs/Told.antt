@@ -1,7 +1,7 @@
 -- What sinks make of the calls of a stream: lines, bytes of frames, and the last elements.
 use Rattle.std.specs.Prelude.{Bool, false, ℕ, ◌+◌, ◌≡◌, ◌∷◌, ◌++◌, Option, List, []}
 use Rattle.h264_base.specs.Call.{Call, OfUnit, OfSlice, OfElement, OfFrame}
-use Rattle.h264_report.specs.Lines.{unit_text, slice_text, frame_text}
+use Rattle.h264_report.specs.Lines.{unit_text, slice_text, element_text, frame_text}
 use Rattle.h264_report.specs.Sent.{HoldsSent, IsBlamed}
 use Rattle.h264_report.specs.declared.listing.Listing.{Listing}
 use Rattle.h264_report.specs.declared.listing.Listing.TheVariants as listings
@@ -16,6 +16,9 @@ abbrev pub line_of : Listing → ℕ → Call → List ℕ
 line_of listings.Units n (OfUnit byte kind reference length) = ended (unit_text byte kind reference length)
 line_of listings.Slices n (OfSlice byte mb kind frame_num count) = ended (slice_text byte mb kind frame_num count)
 line_of listings.Frames n (OfFrame count width height bytes) = ended (frame_text n count width height bytes)
+line_of listings.Elements n (OfUnit byte kind reference length) = ended (unit_text byte kind reference length)
+line_of listings.Elements n (OfSlice byte mb kind frame_num count) = ended (slice_text byte mb kind frame_num count)
+line_of listings.Elements n (OfElement name bit value) = ended (element_text name bit value)
 line_of listing n call = []
 
 -- how many frames with lines are told by a call

@@ -42,6 +42,8 @@ pub struct WriteDevice<W: Write + Drop> {
     pub writer: W,
     /// Whether it failed, took nothing, or was interrupted each time.
     pub failed: bool,
+    /// The system's cause of the failure, where it gave one.
+    pub cause: Option<io::Error>,
 }
 
 impl<W: Write + Drop> WriteDevice<W> {
@@ -53,6 +55,7 @@ impl<W: Write + Drop> WriteDevice<W> {
         WriteDevice {
             writer,
             failed: false,
+            cause: None,
         }
     }
 }
@@ -83,6 +86,7 @@ impl<W: Write + Drop> Device for WriteDevice<W> {
                 Err(error) => {
                     if error.kind() != ErrorKind::Interrupted {
                         self.failed = true;
+                        self.cause = Some(error);
                         return Err(Failed);
                     }
                 }
@@ -95,8 +99,9 @@ impl<W: Write + Drop> Device for WriteDevice<W> {
     fn send_rest(&mut self) -> Result<(), Failed> {
         match self.writer.flush() {
             Ok(()) => Ok(()),
-            Err(_) => {
+            Err(error) => {
                 self.failed = true;
+                self.cause = Some(error);
                 Err(Failed)
             }
         }

@@ -9,23 +9,35 @@
 
 pub mod device;
 mod frames;
+pub mod json_sink;
 pub mod judging;
 pub mod line_sink;
 pub mod lines;
 pub mod listing;
+pub mod page_sink;
+pub mod pages;
 mod rows;
+pub mod rules;
 mod send;
 pub mod sheet;
+pub mod survey;
 pub mod trail;
 pub mod trail_sink;
+pub mod y4m_sink;
 pub mod yuv_sink;
 
 pub use device::{Device, WriteDevice};
+pub use json_sink::JsonSink;
 pub use judging::{Ending, check, decode, list, put_answer, put_memory};
 pub use line_sink::LineSink;
 pub use lines::{element_line, frame_line, slice_line, unit_line, verdict_line};
 pub use listing::Listing;
+pub use page_sink::PageSink;
+pub use rules::{
+    FeatureEntry, RuleEntry, entry_by_label, entry_of, entry_of_feature, feature_by_name,
+};
 pub use sheet::{Pen, Sheet};
 pub use trail::{Element, Trail};
 pub use trail_sink::TrailSink;
+pub use y4m_sink::Y4mSink;
 pub use yuv_sink::YuvSink;

@@ -6,7 +6,7 @@ ghost use Rattle.h264_report.specs.Sent.{Sends, SendsFront, IsBlamed};
 ghost use Rattle.h264_report.specs.Told.{ended};
 
 use crate::device::Device;
-use crate::lines::{frame_line, slice_line, unit_line};
+use crate::lines::{element_line, frame_line, slice_line, unit_line};
 use crate::listing::Listing;
 use crate::send::send;
 use crate::sheet::{Pen, Sheet};
@@ -17,7 +17,7 @@ use h264_verify::FrameSink;
 use std::alloc::{AllocError, Global};
 use std::marker::PhantomData;
 
-/// Writes a line for each unit, slice or frame of a stream, as the listing says, and passes over all else.
+/// Writes a line for each unit, slice, element or frame of a stream, as the listing says, and passes over all else.
 ///
 /// A writer that tells its bytes holds, behind what it held, the lines of the calls taken, in order, followed after a failure by a part of the next
 /// line, which is not the whole. After a failure each call fails and nothing more is written.
@@ -108,9 +108,10 @@ impl<'a, W: Device, K: Sheet> LineSink<'a, W, K> {
 
 impl<'a, W: Device, K: Sheet> LineSink<'a, W, K> {
     ghost use Rattle.std.specs.Prelude.{◌≡◌, ℕ, ◌+◌, ◌-◌, ◌<◌, ◌^◌, List, [], ◌∷◌, ◌++◌, Option, IsTrue, OnOk, OnErr};
-    ghost use Rattle.h264_base.specs.Call.{Call, OfUnit, OfSlice};
+    ghost use Rattle.h264_base.specs.Call.{Call, OfUnit, OfSlice, OfElement};
     ghost use Rattle.h264_dpb.specs.Shown.{fits, frame_call};
-    ghost use Rattle.h264_report.specs.Told.{HoldsLines};
+    ghost use Rattle.h264_report.specs.Lines.{unit_text, slice_text};
+    ghost use Rattle.h264_report.specs.Told.{HoldsLines, line_of, counted};
     ghost use Rattle.h264_report.specs.declared.listing.Listing.TheVariants as listings;
 
     /// Writes the line of a unit.
@@ -121,7 +122,8 @@ impl<'a, W: Device, K: Sheet> LineSink<'a, W, K> {
         nal_ref_idc: u8,
         length: u64,
     ) -> Result<(), Failed>
-        requires listing { self.old.listing ≡ listings.Units }
+        requires line { (n : ℕ) → line_of self.old.listing n (OfUnit byte nal_unit_type nal_ref_idc length) ≡ ended (unit_text byte nal_unit_type nal_ref_idc length) }
+        requires uncounted { counted self.old.listing (OfUnit byte nal_unit_type nal_ref_idc length) ≡ 0 }
         requires room { self.old.failures < 2 ^ 64 - 1 }
         ensures listing { self.new.listing ≡ self.old.listing }
         ensures same_reference { self.new.pen.out.ghost_name ≡ self.old.pen.out.ghost_name }
@@ -147,7 +149,8 @@ impl<'a, W: Device, K: Sheet> LineSink<'a, W, K> {
         frame_num: u32,
         count: i32,
     ) -> Result<(), Failed>
-        requires listing { self.old.listing ≡ listings.Slices }
+        requires line { (n : ℕ) → line_of self.old.listing n (OfSlice byte first_mb_in_slice slice_type frame_num count) ≡ ended (slice_text byte first_mb_in_slice slice_type frame_num count) }
+        requires uncounted { counted self.old.listing (OfSlice byte first_mb_in_slice slice_type frame_num count) ≡ 0 }
         requires room { self.old.failures < 2 ^ 64 - 1 }
         ensures listing { self.new.listing ≡ self.old.listing }
         ensures same_reference { self.new.pen.out.ghost_name ≡ self.old.pen.out.ghost_name }
@@ -168,6 +171,25 @@ impl<'a, W: Device, K: Sheet> LineSink<'a, W, K> {
             frame_num,
             count,
         );
+        self.put_line(made)
+    }
+
+    /// Writes the line of an element.
+    fn put_element(&mut self, name: ElementName, bit: u64, value: i64) -> Result<(), Failed>
+        requires listing { self.old.listing ≡ listings.Elements }
+        requires room { self.old.failures < 2 ^ 64 - 1 }
+        ensures listing { self.new.listing ≡ self.old.listing }
+        ensures same_reference { self.new.pen.out.ghost_name ≡ self.old.pen.out.ghost_name }
+        ensures ok { (start : Option (List ℕ)) (before : List Call) → HoldsLines self.old.listing start self.old.frames self.old.failures (W.contents self.old.pen.out.now) before → OnOk result (HoldsLines self.new.listing start self.new.frames self.new.failures (W.contents self.new.pen.out.now) (before ++ OfElement name bit value ∷ [])) }
+        ensures refused { (start : Option (List ℕ)) (before : List Call) → HoldsLines self.old.listing start self.old.frames self.old.failures (W.contents self.old.pen.out.now) before → OnErr result (HoldsLines self.new.listing start self.new.frames self.new.failures (W.contents self.new.pen.out.now) before) }
+        ensures kept { OnOk result (self.new.failures ≡ self.old.failures) }
+        ensures failed { OnErr result (self.new.failures ≡ self.old.failures + 1) }
+        ensures blamed { IsBlamed self.old.failures self.old.short_of_memory (W.has_failed self.old.pen.out.now) → IsBlamed self.new.failures self.new.short_of_memory (W.has_failed self.new.pen.out.now) }
+    {
+        if self.failures > 0 {
+            return self.fail();
+        }
+        let made = element_line(&mut self.line, name, bit, value);
         self.put_line(made)
     }
 
@@ -217,8 +239,14 @@ impl<'a, W: Device, K: Sheet> Elements for LineSink<'a, W, K> {
 
     ghost failures = { λ s. s.failures };
 
-    fn element(&mut self, _name: ElementName, _bit: u64, _value: i64) -> Result<(), Failed> {
-        Ok(())
+    fn element(&mut self, name: ElementName, bit: u64, value: i64) -> Result<(), Failed> {
+        match self.listing {
+            Listing::Elements => self.put_element(name, bit, value),
+            Listing::Nothing => Ok(()),
+            Listing::Units => Ok(()),
+            Listing::Slices => Ok(()),
+            Listing::Frames => Ok(()),
+        }
     }
 }
 
@@ -229,6 +257,7 @@ impl<'a, W: Device, K: Sheet> FrameOut for LineSink<'a, W, K> {
             Listing::Nothing => Ok(()),
             Listing::Units => Ok(()),
             Listing::Slices => Ok(()),
+            Listing::Elements => Ok(()),
         }
     }
 }
@@ -243,6 +272,7 @@ impl<'a, W: Device, K: Sheet> FrameSink for LineSink<'a, W, K> {
     ) -> Result<(), Failed> {
         match self.listing {
             Listing::Units => self.put_unit(byte, nal_unit_type, nal_ref_idc, length),
+            Listing::Elements => self.put_unit(byte, nal_unit_type, nal_ref_idc, length),
             Listing::Nothing => Ok(()),
             Listing::Slices => Ok(()),
             Listing::Frames => Ok(()),
@@ -259,6 +289,9 @@ impl<'a, W: Device, K: Sheet> FrameSink for LineSink<'a, W, K> {
     ) -> Result<(), Failed> {
         match self.listing {
             Listing::Slices => {
+                self.put_slice(byte, first_mb_in_slice, slice_type, frame_num, count)
+            }
+            Listing::Elements => {
                 self.put_slice(byte, first_mb_in_slice, slice_type, frame_num, count)
             }
             Listing::Nothing => Ok(()),

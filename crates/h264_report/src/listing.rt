@@ -12,4 +12,6 @@ pub enum Listing {
     Slices,
     /// The frames, in the order of output.
     Frames,
+    /// The units, the slices, and the syntax elements.
+    Elements,
 }

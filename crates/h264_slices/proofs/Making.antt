@@ -16,6 +16,8 @@ use Rattle.h264_header.specs.declared.header.Deblocking.{Deblocking}
 use Rattle.h264_header.specs.declared.header.Deblocking.TheVariants as stated
 use Rattle.h264_vectors.specs.declared.slice.SliceContext.{SliceContext}
 use Rattle.h264_lists.specs.declared.slot.RefSlot.{RefSlot}
+use Rattle.h264_recon.specs.Placed.{weights_by}
+use Rattle.h264_picture.specs.Weights.{slice_weights}
 use Rattle.h264_picture.specs.declared.sequence.Sequence.{Sequence}
 use Rattle.h264_picture.specs.declared.work.Work.{Work}
 use Rattle.h264_picture.specs.declared.samples.SliceSamples.{SliceSamples}
@@ -68,7 +70,7 @@ context-intra s list = refl
 
 -- A slice of the picture that is decoded, with the places of its reference pictures.
 module _ (frames : ℕ → Frame) (p : CodedPicture) (ps : List CodedPicture) (slices : List CodedSlice) (s : CodedSlice) (ms : List CodedMacroblock) (t : Turn) (old new : Decoder) (slice : SliceContext) (samples : SliceSamples)
-    (is : slice ≡ context_in (p ∷ ps) s) (filter : samples.filter ≡ slice_filter s.pps s.header) (o : KeepsOutput frames t (length ps) old) (h : HoldsBegun frames p ps slices ms old)
+    (is : slice ≡ context_in (p ∷ ps) s) (filter : samples.filter ≡ slice_filter s.pps s.header) (weights : weights_by samples.weights ≡ slice_weights s.header) (o : KeepsOutput frames t (length ps) old) (h : HoldsBegun frames p ps slices ms old)
     (number : number_of s ≡ length ms) (set : s.pps ≡ p.first.pps)
     (near : (k n : ℕ) → k < 16 → get_or slice.references k None ≡ Some n → IsNear old n (get_or samples.places k 0)) where
   pub number-is : slice.number ≡ number_of s
@@ -83,7 +85,8 @@ module _ (frames : ℕ → Frame) (p : CodedPicture) (ps : List CodedPicture) (s
   -- what its samples depend on is that of the slices with it
   pub is-slice : (making : Making) → EachSlice (λ s. making.slices (number_of s) ≡ parameters_of s) (s ∷ slices) → ((n : ℕ) → (making.slices n).filter.chroma_qp_index_offset ≡ p.first.pps.chroma_qp_index_offset) → ((n : ℕ) → making.place n ≡ place_by old n) → IsSliceOf making slice samples old.work
   is-slice making params offsets places-are = active-and (λ (q : Sequence). (q.frames.begun ≡ true) × (old.work.base + q.frames.place ≡ old.place)) (MakesSliceWith making slice samples old.work.base) old.work.active h.begun (λ q a b. record {
-    parameters = ap making.slices number-is ∙ params.0 ∙ ap (λ (c : Bool). record { constrained_intra = c; filter = slice_filter s.pps s.header }) (sym (ap (λ (c : SliceContext). c.constrained_intra) is ∙ context-intra s (list_in (p ∷ ps) s))) ∙ ap (λ (f : _). record { constrained_intra = slice.constrained_intra; filter = f }) (sym filter);
+    parameters = ap making.slices number-is ∙ params.0 ∙ ap (λ (c : Bool). record { constrained_intra = c; filter = slice_filter s.pps s.header; weights = slice_weights s.header }) (sym (ap (λ (c : SliceContext). c.constrained_intra) is ∙ context-intra s (list_in (p ∷ ps) s))) ∙ ap (λ (f : _). record { constrained_intra = slice.constrained_intra; filter = f; weights = slice_weights s.header }) (sym filter)
+    ∙ ap (λ (w : _). record { constrained_intra = slice.constrained_intra; filter = samples.filter; weights = w }) (sym weights);
     offset = filter-chroma;
     offsets = λ n. offsets n ∙ ap (λ (x : Pps). x.chroma_qp_index_offset) (sym set) ∙ sym chroma-is ∙ sym filter-chroma;
     placed = λ k n small e.

@@ -20,6 +20,7 @@ use Rattle.h264_mbsyntax.specs.Slice.{slice_data}
 use Rattle.h264_picture.specs.Context.{slice_context}
 use Rattle.h264_picture.specs.Levels.{transform_fits}
 use Rattle.h264_picture.specs.Filter.{slice_filter}
+use Rattle.h264_picture.specs.Weights.{slice_weights}
 use Rattle.h264_slices.specs.Lists.{context_in, list_of}
 use Rattle.h264_slices.specs.Sound.{HasPps}
 use Rattle.h264_slices.specs.Decoding.{slices_of}
@@ -108,6 +109,13 @@ pub filter-is : (s : CodedSlice) (sets : Maps) (header : Header) (pps : Pps) (sp
 filter-is s sets header pps sps named names h =
     let same = sym named ∙ ap (λ (x : Header). sets_of sets x.pic_parameter_set_id.value) h ∙ names in
     ap (λ (x : Pps). slice_filter x header) (some-first pps s.pps sps s.sps same) ∙ ap (λ (x : Header). slice_filter s.pps x) h ∙ filter-same s.pps s.header header.marking
+
+weights-same : (h : Header) (m : Option (Found Marking)) → slice_weights (record h { marking = m }) ≡ slice_weights h
+unfolding slice_weights
+weights-same h m = refl
+
+pub weights-are : (s : CodedSlice) (header : Header) → header ≡ record s.header { marking = header.marking } → slice_weights header ≡ slice_weights s.header
+weights-are s header h = ap slice_weights h ∙ weights-same s.header header.marking
 
 -- a slice that was read belongs to its picture
 begun-first : (frames : ℕ → Frame) (s : CodedSlice) (pictures : List CodedPicture) (ms : List CodedMacroblock) (d : Decoder) → HoldsBegun frames (record { first = s; later = [] }) pictures (s ∷ []) ms d → HoldsBegun frames (record { first = record s { macroblocks = ms }; later = [] }) pictures (record s { macroblocks = ms } ∷ []) ms d

@@ -6,6 +6,7 @@ use Rattle.h264_plane.specs.Frames.{IsFrame, plane_of}
 use Rattle.h264_plane.specs.Samples.{at}
 use Rattle.h264_picture.specs.Decoded.{Parameters, IsDecoded as IsDecodedBy}
 use Rattle.h264_picture.specs.Filter.{slice_filter}
+use Rattle.h264_picture.specs.Weights.{slice_weights}
 use Rattle.h264_slices.specs.Pictures.{CodedSlice, CodedPicture, last_slice}
 use Rattle.h264_slices.specs.Lists.{named_in}
 
@@ -23,7 +24,7 @@ number_of s = s.header.first_mb_in_slice.value
 
 -- what the samples of its macroblocks take from its header and its picture parameter set
 abbrev pub parameters_of : CodedSlice → Parameters
-parameters_of s = record { constrained_intra = s.pps.constrained_intra_pred_flag; filter = slice_filter s.pps s.header }
+parameters_of s = record { constrained_intra = s.pps.constrained_intra_pred_flag; filter = slice_filter s.pps s.header; weights = slice_weights s.header }
 
 -- Each picture that a slice's list names is one of those before, and at its place these reference samples are its frame's.
 pub record Refers (frames : ℕ → Frame) (p : CodedPicture) (ps : List CodedPicture) (place : ℕ → ℕ) (reference : ℕ → Component → ℕ → ℕ → ℕ) (s : CodedSlice) : Type 0 where

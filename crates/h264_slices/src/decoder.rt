@@ -58,6 +58,7 @@ impl Decoder {
     ghost use Rattle.h264_mbsyntax.specs.Slice.{slice_data};
     ghost use Rattle.h264_picture.specs.Levels.{transform_fits};
     ghost use Rattle.h264_picture.specs.Filter.{slice_filter};
+    ghost use Rattle.h264_picture.specs.Weights.{slice_weights};
     ghost use Rattle.h264_picture.specs.Places.{lent, first_place, is_active_place, IsReleased, KeepsFrames as KeepsLent};
     ghost use Rattle.h264_slices.specs.declared.decoder.Format.{Format as FormatView};
     ghost use Rattle.h264_dpb.specs.Bumping.{missing_in};
@@ -167,7 +168,7 @@ impl Decoder {
         requires qp { slice.now.qp ≤ 51 }
         requires room { S.failures sink.old < 2 ^ 64 - 1 }
         requires kept { SlicesSome slice.now.number slice.now.references self.old }
-        ensures reads { (frames : ℕ → Frame) (p : CodedPicture) (ps : List CodedPicture) (slices : List CodedSlice) (s : CodedSlice) (macroblocks : List CodedMacroblock) (t : Turn) → slice.now ≡ context_in (p ∷ ps) s → slice_filter pps.now header.now ≡ slice_filter s.pps s.header → number_of s ≡ length macroblocks → s.pps ≡ p.first.pps → KeepsOutput frames t (length ps) self.old → HoldsBegun frames p ps slices macroblocks self.old → ReadsSlice S.took S.failures frames (structure_from (slice_data (transform_fits slice.now) p.first.sps.frame_size.width (picture_size p.first.sps) slice.now macroblocks) bits.old.body bits.old.at) (λ ms. HoldsBegun frames p ps (s ∷ slices) ms self.new × KeepsOutput frames t (length ps) self.new) sink.old sink.new result }
+        ensures reads { (frames : ℕ → Frame) (p : CodedPicture) (ps : List CodedPicture) (slices : List CodedSlice) (s : CodedSlice) (macroblocks : List CodedMacroblock) (t : Turn) → slice.now ≡ context_in (p ∷ ps) s → slice_filter pps.now header.now ≡ slice_filter s.pps s.header → slice_weights header.now ≡ slice_weights s.header → number_of s ≡ length macroblocks → s.pps ≡ p.first.pps → KeepsOutput frames t (length ps) self.old → HoldsBegun frames p ps slices macroblocks self.old → ReadsSlice S.took S.failures frames (structure_from (slice_data (transform_fits slice.now) p.first.sps.frame_size.width (picture_size p.first.sps) slice.now macroblocks) bits.old.body bits.old.at) (λ ms. HoldsBegun frames p ps (s ∷ slices) ms self.new × KeepsOutput frames t (length ps) self.new) sink.old sink.new result }
         ensures no_memory { IsErrOf result Stop.Memory → ⊥ }
         ensures kept { OnOk result (S.failures sink.new ≡ S.failures sink.old) }
     {

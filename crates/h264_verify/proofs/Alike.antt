@@ -206,7 +206,7 @@ module _ (frames others : ℕ → Frame) (p : CodedPicture) (ps : List CodedPict
         let context = context_in (p ∷ ps) i.slice in
         let parameters : e.slices m.slice ≡ parameters_of i.slice = ap (λ n. e.slices n) (number-at i.slice (take a picture) m i.is) ∙ i.has.1.0.1 in
         let same : (e.slices m.slice).constrained_intra ≡ context.constrained_intra = ap (λ (q : Parameters). q.constrained_intra) parameters ∙ sym (context-intra (p ∷ ps) i.slice) in
-        rw same (given-allowed across context (take a picture) e.place (e.slices m.slice).filter.chroma_qp_index_offset m c r (length-taken picture a (omega arith)) k i.is.number i.is.possible).possible
+        rw same (given-allowed across context (take a picture) e.place (e.slices m.slice).weights (e.slices m.slice).filter.chroma_qp_index_offset m c r (length-taken picture a (omega arith)) k i.is.number i.is.possible).possible
 
     pub alike : HaveSameSamplesIn f g
     alike = λ c x y i j.

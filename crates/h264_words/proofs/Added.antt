@@ -32,6 +32,6 @@ pub added-none : added [] ≡ bare
 unfolding added added_to
 added-none = refl
 
-pub added-all : added (codes "check" ∷ codes "units" ∷ codes "headers" ∷ codes "frames" ∷ codes "decode" ∷ []) ≡ program
+pub added-all : added (codes "check" ∷ codes "units" ∷ codes "headers" ∷ codes "frames" ∷ codes "decode" ∷ codes "elements" ∷ codes "info" ∷ codes "report" ∷ codes "explain" ∷ []) ≡ program
 unfolding added added_to
 added-all = refl

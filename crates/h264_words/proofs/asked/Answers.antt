@@ -1,9 +1,9 @@
 use Rattle.std.proofs.Common.{◌≡◌, List, Option, Some, None, option_map, map, string_bytes, true, refl, sym, ap, ◌∙◌, codes}
 use Rattle.std.proofs.lemmas.Result.{err_from_is_err_and}
-use Rattle.clap.specs.Words.{App, Row, Text, first_of, is_simple, subcommand_of, takes}
+use Rattle.clap.specs.Words.{App, HasMatchesOf, Row, Text, first_of, is_simple, subcommand_of, takes}
 use Rattle.clap.proofs.OnLiterals.{clap_on_literals}
 use Rattle.h264_words.specs.declared.Request.{Request}
-use Rattle.h264_words.specs.Words.{program, asks, IsRequest, AsksFor}
+use Rattle.h264_words.specs.Words.{program, asks, found_by, IsRequest, AsksFor}
 use Rattle.h264_words.proofs.asked.Goals as goal
 
 simple : is_simple program ≡ true
@@ -20,9 +20,15 @@ returns-in_err-matches-clause-refused c =
     let p = err_from_is_err_and c.from_residual-in_err-matches.result c.from_residual-in_err-matches.ensures.1 in
     rw (p.1, p.2) (λ t. c.in_err-matches.ensures.passes (ap (λ (a : App). takes a (map (λ w. string_bytes w) c.args.words.now)) c.in_ok-command.ensures ∙ t))
 
+found-by : (matches : _) (words : List Text) (app : App) → app ≡ program → HasMatchesOf app words matches → found_by matches ≡ asks program words
+found-by matches words app e h =
+    let pick : Text × List Row → Text × Option Text = λ p. (p.0, first_of (codes "FILE") p.1) in
+    ap (option_map pick) ((h (ap is_simple e ∙ simple)).1 ∙ ap (λ (a : App). subcommand_of a words) e)
+
+pub returns-in-Some-clause-words : goal.returns-in-Some-clause-words
+returns-in-Some-clause-words c =
+    of-words (map (λ w. string_bytes w) c.args.words.now) _ (Some c.in-Some.request) (found-by _ _ _ c.in_ok-command.ensures c.in_ok-matches.ensures.matches) (rw c.in-Some.is at c.request_of.ensures)
+
 pub returns-clause-words : goal.returns-clause-words
 returns-clause-words c =
-    let words = map (λ w. string_bytes w) c.args.words.now in
-    let app = c.in_ok-command.ensures in
-    let pick : Text × List Row → Text × Option Text = λ p. (p.0, first_of (codes "FILE") p.1) in
-    of-words words _ c.request_of.result (ap (option_map pick) ((c.in_ok-matches.ensures.matches (ap is_simple app ∙ simple)).1 ∙ ap (λ (a : App). subcommand_of a words) app)) c.request_of.ensures
+    of-words (map (λ w. string_bytes w) c.args.words.now) _ None (found-by _ _ _ c.in_ok-command.ensures c.in_ok-matches.ensures.matches) (rw c.in-None.is at c.request_of.ensures)

@@ -13,5 +13,5 @@ loop-name-preserved c = record {
 
 pub returns : goal.returns
 returns c =
-    let last : c.loop-name.name-index ≡ 5 = (let t = c.loop-name-test.false in let e = c.loop-name.auto.name-index-end in omega arith) in
+    let last : c.loop-name.name-index ≡ 9 = (let t = c.loop-name-test.false in let e = c.loop-name.auto.name-index-end in omega arith) in
     (rw last at c.loop-name.invariant.app) ∙ added-all

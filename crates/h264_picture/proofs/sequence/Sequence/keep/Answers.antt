@@ -6,7 +6,7 @@ use Rattle.h264_picture.proofs.sequence.Sequence.keep.Goals as goal
 
 pub returns-clause-reads : goal.returns-clause-reads
 returns-clause-reads c width size making slice picture coded h f m e s n =
-    kept-on width size making slice picture coded c.args.self.now _ h refl f (c.push.ensures width picture coded h.keeps m.contexts) m.qp e refl refl (same-samples making _ c.args.self.now _ refl refl refl refl s) (same-makes making slice c.args.self.now _ refl refl n)
+    kept-on width size making slice picture coded c.args.self.now _ h refl f (c.push.ensures width picture coded h.keeps m.contexts) m.qp e refl refl (same-samples making _ c.args.self.now _ refl refl refl refl s) (same-makes making slice c.args.self.now _ refl refl refl n)
 
 pub invariant_of-self-clause-sound : goal.invariant_of-self-clause-sound
 invariant_of-self-clause-sound c = next-sound _ _ _ _ _ _ _ _ _ _ _ c.args.self.now.sound c.place_behind-column.ensures.column c.place_behind-column.ensures.next

@@ -1,6 +1,7 @@
 use Rattle.std.proofs.Common.{◌≡◌, ◌+◌, ◌*◌, ◌<◌, length, Some, None, refl, sym, ap, ◌∙◌, subst}
 use Rattle.h264_deblock.specs.CodedEdges.{coded_edges}
 use Rattle.h264_recon.specs.Levels.{levels_of}
+use Rattle.h264_recon.specs.Placed.{weights_by}
 use Rattle.h264_picture.specs.Decoded.{filters}
 use Rattle.h264_picture.specs.Making.{setting_of}
 use Rattle.h264_picture.proofs.Made.{are-shown, possible, given-by, filter-by}
@@ -52,7 +53,7 @@ returns-clause-samples c width size (Some making) picture coded h s m r e p a =
     let i : old.column < width = subst (λ x. old.column < x) w old.sound.column in
     let is = c.given_within-m.ensures.given width picture making.place coded w h.keeps n' i r e p m.placed in
     c.go_on.ensures.held (setting_of old) making.place making.slices picture coded (levels_of slice.chroma_qp_index_offset coded) n old.sound.column (in-rows _ _ _ _ _ _ _ _ _ old.sound c.requires) (are-shown old _ c.given_within-m.ensures.points) a
-    (possible width slice picture making.place slice.chroma_qp_index_offset coded old.column old.row _ n' i e p is)
+    (possible width slice picture making.place (weights_by old.weights) slice.chroma_qp_index_offset coded old.column old.row _ n' i e p is)
     (given-by old.across width picture making slice old coded _ w m e is)
     (λ q. c.coded_edges-edges.ensures.edges (filters making.slices) width picture coded h.keeps r.contexts n' i (filter-by making slice old coded m e) m.offsets q ∙ ap (λ x. coded_edges (filters making.slices) x picture coded q) (sym w)) s
 
@@ -60,4 +61,4 @@ pub go_on-requires-clause-inside : goal.go_on-requires-clause-inside
 go_on-requires-clause-inside c = c.coded_edges-edges.ensures.inside
 
 pub returns-clause-makes : goal.returns-clause-makes
-returns-clause-makes c making h = same-makes making c.args.slice.now c.args.self.now _ refl refl h
+returns-clause-makes c making h = same-makes making c.args.slice.now c.args.self.now _ refl refl refl h

@@ -20,7 +20,7 @@ returns-clause-meets g c width size making picture h n m =
       first = omega arith;
       predicted = qp-first c.args.slice.now picture n k.past;
       samples = same-samples making picture c.args.self.now _ refl refl refl refl h.samples;
-      makes = same-makes making c.args.slice.now c.args.self.now _ refl refl m;
+      makes = same-makes making c.args.slice.now c.args.self.now _ refl refl refl m;
     }))))
 
 pub invariant_of-self : goal.invariant_of-self

@@ -20,7 +20,7 @@ returns-in-None-clause-meets g c width size making picture k = bind _ c.look-ahe
 
 pub returns-in-Some-clause-meets : goal.returns-in-Some-clause-meets
 unfolding unskipped
-returns-in-Some-clause-meets g c width size making picture k = bind _ c.look-ahead.ensures (bind _ (checked _ _ _ _ c.in_ok-check.ensures) (bind_as _ (c.in_ok-bit.ensures.meets width picture k.holds.keeps k.predicted) (λ v e. rw e.placed (bind _ (checked _ _ _ _ (in-range _ _ _ (c.residuals_of.ensures.range v.macroblock e.holds) c.in-Some.is)) (done _ _ _ _ _ _ _ (refl, c.keep.ensures.reads width size making c.args.slice.now picture v.macroblock (moved width size picture _ _ k.holds c.make.ensures.syntax.near c.make.ensures.same.across c.make.ensures.syntax.size c.make.ensures.syntax.next) k.first (subst (λ m. HoldsMacroblock m v.macroblock) (sym c.make.ensures.syntax.mb) e.holds) (e.holds.contexts.slice ∙ c.in_ok-bit.ensures.same) (c.make.ensures.samples width size making picture v.macroblock (moved width size picture _ _ k.holds refl refl refl refl) (same-samples making picture c.args.self.now _ refl refl refl refl k.samples) (same-makes making c.args.slice.now c.args.self.now _ refl refl k.makes) e.holds (e.holds.contexts.slice ∙ c.in_ok-bit.ensures.same) e.possible (rw c.in-Some.is at (c.residuals_of.ensures.residual v.macroblock e.holds))) (c.make.ensures.makes making (same-makes making c.args.slice.now c.args.self.now _ refl refl k.makes))))))))
+returns-in-Some-clause-meets g c width size making picture k = bind _ c.look-ahead.ensures (bind _ (checked _ _ _ _ c.in_ok-check.ensures) (bind_as _ (c.in_ok-bit.ensures.meets width picture k.holds.keeps k.predicted) (λ v e. rw e.placed (bind _ (checked _ _ _ _ (in-range _ _ _ (c.residuals_of.ensures.range v.macroblock e.holds) c.in-Some.is)) (done _ _ _ _ _ _ _ (refl, c.keep.ensures.reads width size making c.args.slice.now picture v.macroblock (moved width size picture _ _ k.holds c.make.ensures.syntax.near c.make.ensures.same.across c.make.ensures.syntax.size c.make.ensures.syntax.next) k.first (subst (λ m. HoldsMacroblock m v.macroblock) (sym c.make.ensures.syntax.mb) e.holds) (e.holds.contexts.slice ∙ c.in_ok-bit.ensures.same) (c.make.ensures.samples width size making picture v.macroblock (moved width size picture _ _ k.holds refl refl refl refl) (same-samples making picture c.args.self.now _ refl refl refl refl k.samples) (same-makes making c.args.slice.now c.args.self.now _ refl refl refl k.makes) e.holds (e.holds.contexts.slice ∙ c.in_ok-bit.ensures.same) e.possible (rw c.in-Some.is at (c.residuals_of.ensures.residual v.macroblock e.holds))) (c.make.ensures.makes making (same-makes making c.args.slice.now c.args.self.now _ refl refl refl k.makes))))))))
 
 pub make-requires : goal.make-requires
 make-requires g c = one-left c.args.self.now.next c.args.self.now.size c.args.left c.in_ok-check.ensures.checks c.requires.left

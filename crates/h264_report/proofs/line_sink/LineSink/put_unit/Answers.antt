@@ -9,11 +9,11 @@ returns-clause-ok g c start before h =
     let call = OfUnit c.args.byte c.args.nal_unit_type c.args.nal_ref_idc c.args.length in
     let none : c.args.self.now.failures ≡ 0 = let f = c.if-self-gt0.false in omega arith in
     let same : c.put_line.new.self.frames ≡ c.args.self.now.frames + counted c.args.self.now.listing call =
-    let e = c.put_line.ensures.frames in let d = ap (λ l. counted l call) c.requires.listing in omega (arith, e, d) in
-    rw c.put_line.ensures.listing (on-ok c.put_line.result (λ still s. take-line call (ap (λ l. line_of l c.args.self.now.frames call) c.requires.listing) none still same h s) c.put_line.ensures.kept (c.put_line.ensures.ok _ c.unit_line-made.ensures))
+    let e = c.put_line.ensures.frames in let d = c.requires.uncounted in omega (arith, e, d) in
+    rw c.put_line.ensures.listing (on-ok c.put_line.result (λ still s. take-line call (c.requires.line c.args.self.now.frames) none still same h s) c.put_line.ensures.kept (c.put_line.ensures.ok _ c.unit_line-made.ensures))
 
 pub returns-clause-refused : goal.returns-clause-refused
 returns-clause-refused g c start before h =
     let call = OfUnit c.args.byte c.args.nal_unit_type c.args.nal_ref_idc c.args.length in
     let none : c.args.self.now.failures ≡ 0 = let f = c.if-self-gt0.false in omega arith in
-    rw c.put_line.ensures.listing (on-err c.put_line.result (λ one s. fail-line call (ap (λ l. line_of l c.args.self.now.frames call) c.requires.listing) none one c.put_line.ensures.frames h s) c.put_line.ensures.failed (c.put_line.ensures.front _ c.unit_line-made.ensures))
+    rw c.put_line.ensures.listing (on-err c.put_line.result (λ one s. fail-line call (c.requires.line c.args.self.now.frames) none one c.put_line.ensures.frames h s) c.put_line.ensures.failed (c.put_line.ensures.front _ c.unit_line-made.ensures))

@@ -18,3 +18,8 @@ pub returns-in-Slices : goal.returns-in-Slices
 returns-in-Slices g c =
     let call = frame_call c.args.count c.args.frame.now c.args.rectangle in
     record { ok = record { told = λ before h. skipped call (λ m. ap (λ l. line_of l m call) c.in-Slices.is) (ap (λ l. counted l call) c.in-Slices.is) h }; kept = refl; refused = tt; failed = tt }
+
+pub returns-in-Elements : goal.returns-in-Elements
+returns-in-Elements g c =
+    let call = frame_call c.args.count c.args.frame.now c.args.rectangle in
+    record { ok = record { told = λ before h. skipped call (λ m. ap (λ l. line_of l m call) c.in-Elements.is) (ap (λ l. counted l call) c.in-Elements.is) h }; kept = refl; refused = tt; failed = tt }

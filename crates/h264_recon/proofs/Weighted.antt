@@ -1,0 +1,107 @@
+-- The weights of a macroblock's places.
+use Rattle.std.proofs.Common.{◌≡◌, ◌≢◌, ℕ, zero, suc, ◌+◌, ◌-◌, ◌*◌, ◌/◌, ◌%◌, ◌<◌, ◌≤◌, ⊎_elim, List, get_or, replicate, slice_index, length, Option, Some, None, unwrap_or, refl, sym, ap, ◌∙◌, subst, arith}
+use Rattle.std.specs.List.{slice_set}
+use Rattle.std.proofs.lemmas.Bool.{cases_lt}
+use Rattle.std.proofs.lemmas.List.{get_or-set_same, get_or-set_other}
+use Rattle.h264_plane.specs.declared.frame.Component.{Component}
+use Rattle.std.specs.Option.{option_and_then, ForSome}
+use Rattle.h264_base.specs.declared.weight.Weights.{Weights}
+use Rattle.h264_near.specs.declared.motion.Motion.{Motion}
+use Rattle.h264_near.specs.Coded.{CodedMacroblock, number_of, motion_in}
+use Rattle.h264_near.specs.Keeps.{Shows}
+use Rattle.h264_near.specs.declared.context.Contexts.{Contexts}
+use Rattle.h264_recon.specs.Given.{weights_of}
+use Rattle.h264_recon.specs.Placed.{weights_placed_at, placed_weights}
+use Rattle.h264_recon.specs.Weights.{AreInRange, index_weights, weighted_if}
+use Rattle.h264_recon.specs.Weighing.{index_of, in_place, AreThose, IsRunWeighted}
+use Rattle.h264_recon.specs.declared.weighing.PlaceWeights.TheVariants.{Plain, Whole, Each}
+use Rattle.h264_recon.proofs.Tables.{table-ext, table-at}
+
+pub few : (k : ℕ) → k < 16 → number_of (k % 4) (k / 4) < 16
+unfolding number_of
+few k h = omega arith
+
+-- those of the blocks that were read are those of the coded macroblock
+pub weights-given : (c : Contexts) (m : CodedMacroblock) (weights : List (Option Weights)) → Shows c m → placed_weights weights c.motions ≡ weights_of weights m.prediction
+unfolding placed_weights weights_of
+weights-given c m weights s =
+    table-ext 16 _ _ (λ k h. ap (λ o. index_weights weights (option_and_then (λ x. x) o)) (sym (s.motions (number_of (k % 4) (k / 4)) (few k h))))
+
+-- the weights of a place
+pub placed-at : (weights : List (Option Weights)) (motions : List (Option Motion)) (k : ℕ) → k < 16 → get_or (placed_weights weights motions) k None ≡ weights_placed_at weights motions k
+unfolding placed_weights
+placed-at weights motions k h = table-at 16 (weights_placed_at weights motions) k None h
+
+-- no index has weights
+none-at : (n k : ℕ) → ◌≡◌ {A = Option Weights} (get_or (replicate n None) k None) None
+none-at zero k = refl
+none-at (suc n) zero = refl
+none-at (suc n) (suc k) = none-at n k
+
+none-of : (o : Option Motion) → index_weights (replicate 16 None) o ≡ None
+none-of None = refl
+none-of (Some m) = none-at 16 m.ref_idx
+
+plain-are : (motions : List (Option Motion)) → AreThose Plain (placed_weights (replicate 16 None) motions)
+plain-are motions = record {
+  each = λ k h. sym (placed-at (replicate 16 None) motions k h ∙ none-of (get_or motions (number_of (k % 4) (k / 4)) None));
+  in_range = λ k h. λ w e. absurd (cc);
+}
+
+pub none-are : (all : Option (List (Option Weights))) (motions : List (Option Motion)) → all ≡ None → AreThose Plain (placed_weights (unwrap_or all (replicate 16 None)) motions)
+none-are all motions e = rw e (plain-are motions)
+
+-- blocks of one index have the same weights
+same-index : (weights : List (Option Weights)) (a b : Option Motion) → index_of b ≡ index_of a → index_weights weights b ≡ index_weights weights a
+same-index weights None None e = refl
+same-index weights None (Some b) e = absurd (cc)
+same-index weights (Some a) None e = absurd (cc)
+same-index weights (Some a) (Some b) e = let i : b.ref_idx ≡ a.ref_idx = cc in ap (λ n. get_or weights n None) i
+
+pub one-are : (weights : List (Option Weights)) (motions : List (Option Motion)) → ((k : ℕ) → k < 16 → index_of (get_or motions k None) ≡ index_of (get_or motions 0 None)) →
+    (k : ℕ) → k < 16 → index_weights weights (get_or motions 0 None) ≡ get_or (placed_weights weights motions) k None
+one-are weights motions all k h =
+    let n = number_of (k % 4) (k / 4) in
+    sym (placed-at weights motions k h ∙ same-index weights (get_or motions 0 None) (get_or motions n None) (all n (few k h)))
+
+pub alike : (weights : List (Option Weights)) (motions : List (Option Motion)) (o : Option Weights) → ((k : ℕ) → k < 16 → index_of (get_or motions k None) ≡ index_of (get_or motions 0 None)) →
+    o ≡ index_weights weights (get_or motions 0 None) → (k : ℕ) → k < 16 → o ≡ get_or (placed_weights weights motions) k None
+alike weights motions o all e k h = e ∙ one-are weights motions all k h
+
+-- one more place whose weights are in their ranges
+pub range-grown : (each : List (Option Weights)) (n : ℕ) (o : Option Weights) → n < length each → ((k : ℕ) → k < n → ForSome (get_or each k None) AreInRange) → ForSome o AreInRange →
+    (k : ℕ) → k < n + 1 → ForSome (get_or (slice_set each n o) k None) AreInRange
+range-grown each n o h before own k i = ⊎_elim
+    (λ (q : k < n). let differs : k ≢ n = λ e. absurd (omega arith) in subst (λ z. ForSome z AreInRange) (sym (get_or-set_other each n k o None differs)) (before k q))
+    (λ (q : n ≤ k). let e : k ≡ n = omega arith in rw e (subst (λ z. ForSome z AreInRange) (sym (get_or-set_same each n o None h)) own))
+    (cases_lt k n)
+
+-- ---- runs of samples
+
+-- one run more, of four samples
+pub four-more : (p : Component) (r : ℕ) (weights : List (Option Weights)) (first old new : List ℕ) →
+    ((n : ℕ) → n < 4 * r → slice_index old n ≡ weighted_if p (get_or weights (4 * (n / 64) + n % 16 / 4) None) (slice_index first n)) → ((n : ℕ) → 4 * r ≤ n → slice_index old n ≡ slice_index first n) →
+    IsRunWeighted 4 (4 * r) p (get_or weights (4 * (r / 16) + r % 4) None) old new →
+    (n : ℕ) → n < 4 * (r + 1) → slice_index new n ≡ weighted_if p (get_or weights (4 * (n / 64) + n % 16 / 4) None) (slice_index first n)
+four-more p r weights first old new done rest run n h = ⊎_elim
+    (λ (l : n < 4 * r). run.before n l ∙ done n l)
+    (λ (g : 4 * r ≤ n).
+    let at : 4 * r + (n - 4 * r) ≡ n = omega arith in
+    let place : 4 * (r / 16) + r % 4 ≡ 4 * (n / 64) + n % 16 / 4 = omega arith in
+    (rw at at (run.here (n - 4 * r) (omega arith))) ∙ ap (λ z. weighted_if p (get_or weights (4 * (r / 16) + r % 4) None) z) (rest n g)
+    ∙ ap (λ z. weighted_if p (get_or weights z None) (slice_index first n)) place)
+    (cases_lt n (4 * r))
+
+-- and of two
+pub two-more : (p : Component) (r : ℕ) (weights : List (Option Weights)) (first old new : List ℕ) →
+    ((n : ℕ) → n < 2 * r → slice_index old n ≡ weighted_if p (get_or weights (4 * (n / 16) + n % 8 / 2) None) (slice_index first n)) → ((n : ℕ) → 2 * r ≤ n → slice_index old n ≡ slice_index first n) →
+    IsRunWeighted 2 (2 * r) p (get_or weights (4 * (r / 8) + r % 4) None) old new →
+    (n : ℕ) → n < 2 * (r + 1) → slice_index new n ≡ weighted_if p (get_or weights (4 * (n / 16) + n % 8 / 2) None) (slice_index first n)
+two-more p r weights first old new done rest run n h = ⊎_elim
+    (λ (l : n < 2 * r). run.before n l ∙ done n l)
+    (λ (g : 2 * r ≤ n).
+    let at : 2 * r + (n - 2 * r) ≡ n = omega arith in
+    let place : 4 * (r / 8) + r % 4 ≡ 4 * (n / 16) + n % 8 / 2 = omega arith in
+    (rw at at (run.here (n - 2 * r) (omega arith))) ∙ ap (λ z. weighted_if p (get_or weights (4 * (r / 8) + r % 4) None) z) (rest n g)
+    ∙ ap (λ z. weighted_if p (get_or weights z None) (slice_index first n)) place)
+    (cases_lt n (2 * r))

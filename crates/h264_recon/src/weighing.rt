@@ -1,0 +1,193 @@
+//! Weighted samples of a macroblock (8.4.2.3), those of each 4x4 place by the weights of its reference index.
+#![tactic(auto)]
+
+ghost use Rattle.std.specs.Prelude.{◌≡◌, ℕ, ◌+◌, ◌<◌, ◌≤◌, IsTrue, length, get_or, None};
+ghost use Rattle.std.specs.Option.{ForSome};
+ghost use Rattle.h264_plane.specs.declared.frame.Component.TheVariants.{Y};
+ghost use Rattle.h264_recon.specs.Lines.{chroma_plane};
+ghost use Rattle.h264_recon.specs.Placed.{placed_weights};
+ghost use Rattle.h264_recon.specs.Weights.{index_weights, weight_of, AreInRange, EachInRange};
+ghost use Rattle.h264_recon.specs.Weighing.{index_of, in_place, AreThose, IsRunWeighted, ArePlacesWeighted};
+
+use h264_base::{Weight, Weights};
+use h264_inter::weigh;
+use h264_near::Motion as Derived;
+use h264_near::block::number;
+use h264_plane::Component;
+
+/// The weights of the 4x4 places of a macroblock.
+#[derive(Clone, Copy)]
+pub enum PlaceWeights {
+    /// None at any place.
+    Plain,
+    /// The same at all places.
+    Whole(Weights),
+    /// Those of each place, row by row.
+    Each([Option<Weights>; 16]),
+}
+
+/// The weights of what a block is predicted from.
+#[inline(always)]
+fn of_motion(weights: &[Option<Weights>; 16], motion: Option<Derived>) -> Option<Weights>
+    requires { EachInRange weights.now }
+    ensures here { result ≡ index_weights weights.now motion }
+    ensures in_range { ForSome result AreInRange }
+{
+    match motion {
+        None => None,
+        Some(m) => {
+            let n = usize::from(m.ref_idx);
+            if n < 16 { weights[n] } else { None }
+        }
+    }
+}
+
+/// Whether two blocks have one reference index.
+#[inline(always)]
+fn is_of_one_index(a: Option<Derived>, b: Option<Derived>) -> bool
+    ensures { IsTrue result → index_of b ≡ index_of a }
+{
+    match (a, b) {
+        (Some(a), Some(b)) => a.ref_idx == b.ref_idx,
+        (Some(_), None) => false,
+        (None, Some(_)) => false,
+        (None, None) => true,
+    }
+}
+
+/// Whether all blocks have.
+fn are_of_one_index(motions: &[Option<Derived>; 16]) -> bool
+    ensures { IsTrue result → (k : ℕ) → k < 16 → index_of (get_or motions.now k None) ≡ index_of (get_or motions.now 0 None) }
+{
+    let first = motions[0];
+    for n in 1..16 {
+        if !is_of_one_index(first, motions[n]) {
+            return false;
+        }
+    }
+    true
+}
+
+/// The weights of each place, row by row.
+fn of_places(
+    weights: &[Option<Weights>; 16],
+    motions: &[Option<Derived>; 16],
+) -> [Option<Weights>; 16]
+    requires { EachInRange weights.now }
+    ensures here { result ≡ placed_weights weights.now motions.now }
+    ensures in_range { (k : ℕ) → k < 16 → ForSome (get_or result k None) AreInRange }
+{
+    let mut each = [None; 16];
+    for k in 0..16 {
+        each[k] = of_motion(weights, motions[number(k % 4, k / 4)]);
+    }
+    each
+}
+
+/// The weights of a macroblock's places, by the slice's weights and what its blocks are predicted from.
+pub fn place_weights(
+    weights: &[Option<Weights>; 16],
+    motions: &[Option<Derived>; 16],
+) -> PlaceWeights
+    requires { EachInRange weights.now }
+    ensures { AreThose result (placed_weights weights.now motions.now) }
+{
+    if are_of_one_index(motions) {
+        return match of_motion(weights, motions[0]) {
+            None => PlaceWeights::Plain,
+            Some(weights) => PlaceWeights::Whole(weights),
+        };
+    }
+    PlaceWeights::Each(of_places(weights, motions))
+}
+
+/// The weight of a plane.
+#[inline(always)]
+fn of_plane(weights: Weights, plane: Component) -> Weight
+    ensures { result ≡ weight_of plane weights }
+{
+    match plane {
+        Component::Y => weights.luma,
+        Component::Cb => weights.cb,
+        Component::Cr => weights.cr,
+    }
+}
+
+/// Weighs `N` samples of a plane from a place on, where there are weights.
+#[inline(always)]
+fn weigh_run<const N: usize>(
+    samples: &mut [u8],
+    start: usize,
+    weights: Option<Weights>,
+    plane: Component,
+)
+    requires range { ForSome weights AreInRange }
+    requires within { start + N ≤ length samples.old }
+    ensures { IsRunWeighted N start plane weights samples.old samples.new }
+{
+    match weights {
+        None => {}
+        Some(weights) => weigh::<N>(samples, start, of_plane(weights, plane)),
+    }
+}
+
+/// Weighs the predicted luma samples of a macroblock by runs of four, each of one place.
+#[inline(never)]
+fn weigh_luma_runs(weights: &[Option<Weights>; 16], out: &mut [u8; 256])
+    requires { (k : ℕ) → k < 16 → ForSome (get_or weights.now k None) AreInRange }
+    ensures { ArePlacesWeighted 16 Y (λ k. get_or weights.now k None) out.old out.new }
+{
+    for r in 0..64 {
+        weigh_run::<4>(out, 4 * r, weights[4 * (r / 16) + r % 4], Component::Y);
+    }
+}
+
+/// Weighs the predicted luma samples of a macroblock.
+#[inline(always)]
+pub fn weigh_luma(weights: &PlaceWeights, out: &mut [u8; 256])
+    requires { (k : ℕ) → k < 16 → ForSome (in_place weights.now k) AreInRange }
+    ensures { ArePlacesWeighted 16 Y (in_place weights.now) out.old out.new }
+{
+    match weights {
+        PlaceWeights::Plain => {}
+        PlaceWeights::Whole(weights) => {
+            weigh_run::<256>(out, 0, Some(*weights), Component::Y);
+        }
+        PlaceWeights::Each(weights) => weigh_luma_runs(weights, out),
+    }
+}
+
+/// A chroma plane.
+#[inline(always)]
+fn chroma_component<const CR: bool>() -> Component
+    ensures { result ≡ chroma_plane CR }
+{
+    if CR { Component::Cr } else { Component::Cb }
+}
+
+/// Weighs the predicted samples of a chroma plane of a macroblock by runs of two, each of one place.
+#[inline(never)]
+fn weigh_chroma_runs<const CR: bool>(weights: &[Option<Weights>; 16], out: &mut [u8; 64])
+    requires { (k : ℕ) → k < 16 → ForSome (get_or weights.now k None) AreInRange }
+    ensures { ArePlacesWeighted 8 (chroma_plane CR) (λ k. get_or weights.now k None) out.old out.new }
+{
+    let plane = chroma_component::<CR>();
+    for r in 0..32 {
+        weigh_run::<2>(out, 2 * r, weights[4 * (r / 8) + r % 4], plane);
+    }
+}
+
+/// Weighs the predicted samples of a chroma plane of a macroblock.
+#[inline(always)]
+pub fn weigh_chroma<const CR: bool>(weights: &PlaceWeights, out: &mut [u8; 64])
+    requires { (k : ℕ) → k < 16 → ForSome (in_place weights.now k) AreInRange }
+    ensures { ArePlacesWeighted 8 (chroma_plane CR) (in_place weights.now) out.old out.new }
+{
+    match weights {
+        PlaceWeights::Plain => {}
+        PlaceWeights::Whole(weights) => {
+            weigh_run::<64>(out, 0, Some(*weights), chroma_component::<CR>());
+        }
+        PlaceWeights::Each(weights) => weigh_chroma_runs::<CR>(weights, out),
+    }
+}

@@ -1,0 +1,28 @@
+//! Texts on a stream that was surveyed: the explanation of a no, objects of JSON, a summary, and an HTML page.
+//!
+//! `Finding::of` says where a verdict stands and what was found there. `put_explanation` and `put_verdict` write it as lines and as an object of JSON, `put_info`
+//! and `put_info_object` what a stream has, and `put_page` an HTML page. All write into a `Page`, which notes a want of memory and never fails a call.
+//! Nothing is promised of the texts but that each call is safe and ends: they are tested.
+#![tactic(auto)]
+
+pub mod album;
+pub mod allowed;
+pub mod container;
+pub mod explanation;
+pub mod finding;
+pub mod html;
+pub mod info;
+pub mod object;
+pub mod page;
+pub mod plot;
+pub mod profile;
+pub mod ranges;
+
+pub use album::Album;
+pub use container::{Container, Start};
+pub use explanation::put_explanation;
+pub use finding::{Answer, Finding, Guide};
+pub use html::{Sheets, put_page};
+pub use info::{put_info, put_info_object};
+pub use object::put_verdict;
+pub use page::Page;

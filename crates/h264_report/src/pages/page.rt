@@ -1,0 +1,163 @@
+//! A text that is made piece by piece.
+#![tactic(auto)]
+
+use std::alloc::Global;
+
+/// A text that grows at its end. Once memory was wanting it is a part of what it should be, and says so.
+#[derive(Drop)]
+pub struct Page {
+    text: String,
+    is_short: bool,
+}
+
+impl Page {
+    /// A page of no text.
+    pub fn new(alloc: Global) -> Page {
+        Page {
+            text: String::new(alloc),
+            is_short: false,
+        }
+    }
+
+    /// Whether memory was wanting.
+    pub fn is_short(&self) -> bool {
+        self.is_short
+    }
+
+    /// Notes that memory was wanting for what was to come.
+    pub fn give_up(&mut self) {
+        self.is_short = true;
+    }
+
+    /// The text.
+    pub fn as_str(&self) -> &str {
+        self.text.as_str()
+    }
+
+    /// Lets go of the text, and keeps its memory.
+    pub fn clear(&mut self) {
+        self.text.clear();
+    }
+
+    /// Adds a text.
+    pub fn put(&mut self, text: &str) {
+        if self.text.push_str(text).is_err() {
+            self.is_short = true;
+        }
+    }
+
+    /// Adds a number.
+    pub fn number(&mut self, value: u64) {
+        if write!(self.text, "{value}").is_err() {
+            self.is_short = true;
+        }
+    }
+
+    /// Adds a number that may be negative.
+    pub fn signed(&mut self, value: i64) {
+        if write!(self.text, "{value}").is_err() {
+            self.is_short = true;
+        }
+    }
+
+    /// Adds a number with three decimals: so many thousandths.
+    pub fn thousandths(&mut self, value: u64) {
+        let whole = value / 1000;
+        let rest = value % 1000;
+        if write!(self.text, "{whole}.{rest:03}").is_err() {
+            self.is_short = true;
+        }
+    }
+
+    /// Adds a character.
+    pub fn character(&mut self, c: char) {
+        if self.text.push(c).is_err() {
+            self.is_short = true;
+        }
+    }
+
+    /// Adds a control character as JSON escapes it (RFC 8259, 7).
+    fn control(&mut self, c: char) {
+        let code = u32::from(c);
+        if write!(self.text, "\\u{code:04x}").is_err() {
+            self.is_short = true;
+        }
+    }
+
+    /// Adds a text as a string of JSON, between its quotation marks (RFC 8259, 7).
+    pub fn quoted(&mut self, text: &str) {
+        self.character('"');
+        for c in text.chars() {
+            match c {
+                '"' => self.put("\\\""),
+                '\\' => self.put("\\\\"),
+                '\u{0}'..='\u{1f}' => self.control(c),
+                _ => self.character(c),
+            }
+        }
+        self.character('"');
+    }
+
+    /// Adds a text as HTML writes it between tags and in attributes.
+    pub fn escaped(&mut self, text: &str) {
+        for c in text.chars() {
+            match c {
+                '&' => self.put("&amp;"),
+                '<' => self.put("&lt;"),
+                '>' => self.put("&gt;"),
+                '"' => self.put("&quot;"),
+                _ => self.character(c),
+            }
+        }
+    }
+
+    /// Adds the name of a field of JSON, with a comma before it.
+    pub fn name(&mut self, name: &str) {
+        self.character(',');
+        self.quoted(name);
+        self.character(':');
+    }
+
+    /// Adds a field of JSON that is a number.
+    pub fn number_field(&mut self, name: &str, value: u64) {
+        self.name(name);
+        self.number(value);
+    }
+
+    /// Adds a field of JSON that is a number which may be negative.
+    pub fn signed_field(&mut self, name: &str, value: i64) {
+        self.name(name);
+        self.signed(value);
+    }
+
+    /// Adds a field of JSON that is a text.
+    pub fn text_field(&mut self, name: &str, value: &str) {
+        self.name(name);
+        self.quoted(value);
+    }
+
+    /// Adds a field of JSON that is true or false.
+    pub fn bool_field(&mut self, name: &str, value: bool) {
+        self.name(name);
+        self.put(if value { "true" } else { "false" });
+    }
+
+    /// Adds a field of JSON that is a number, where there is one.
+    pub fn maybe_field(&mut self, name: &str, value: Option<u64>) {
+        if let Some(value) = value {
+            self.number_field(name, value);
+        }
+    }
+
+    /// Begins an object of JSON: its file and its kind.
+    pub fn open_object(&mut self, file: &str, kind: &str) {
+        self.put("{\"file\":");
+        self.quoted(file);
+        self.text_field("kind", kind);
+    }
+
+    /// Ends an object of JSON, and its line.
+    pub fn close_object(&mut self) {
+        self.put("}\n");
+    }
+}

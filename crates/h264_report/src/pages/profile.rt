@@ -1,0 +1,55 @@
+//! The names of profiles and levels.
+#![tactic(auto)]
+
+use crate::pages::page::Page;
+use crate::survey::Sequence;
+
+/// The name of a profile, by profile_idc and constraint_set1_flag (A.2).
+pub fn profile_name(profile_idc: u64, constraint_set1: bool) -> &'static str {
+    match profile_idc {
+        66 => {
+            if constraint_set1 {
+                "Constrained Baseline"
+            } else {
+                "Baseline"
+            }
+        }
+        77 => "Main",
+        88 => "Extended",
+        100 => "High",
+        110 => "High 10",
+        122 => "High 4:2:2",
+        244 => "High 4:4:4 Predictive",
+        44 => "CAVLC 4:4:4 Intra",
+        83 => "Scalable Baseline",
+        86 => "Scalable High",
+        118 => "Multiview High",
+        128 => "Stereo High",
+        138 => "Multiview Depth High",
+        _ => "unknown",
+    }
+}
+
+/// The name of a set's profile.
+pub fn profile_of(set: &Sequence) -> &'static str {
+    profile_name(set.profile_idc, set.constraint_set1)
+}
+
+/// level_idc 11, which is level 1b with constraint_set3_flag (A.3.1).
+const LEVEL_11: u64 = 11;
+
+/// level_idc 9, which is level 1b.
+const LEVEL_1B: u64 = 9;
+
+/// Adds the name of a set's level, such as 3.1.
+pub fn put_level(page: &mut Page, set: &Sequence) {
+    if set.level_idc == LEVEL_1B || (set.level_idc == LEVEL_11 && set.constraint_set3) {
+        page.put("1b");
+        return;
+    }
+    page.number(set.level_idc / 10);
+    if set.level_idc % 10 != 0 {
+        page.put(".");
+        page.number(set.level_idc % 10);
+    }
+}

@@ -1,0 +1,23 @@
+//! A survey of a stream: what its calls tell of sets, units, slices, pictures and macroblocks.
+//!
+//! `Surveyed` stands around another sink: it notes each call in a `Survey` and hands it on. Promised: the sink inside takes the calls as if it stood
+//! alone, and the survey is safe, total, and never fails a call. What it notes is tested, and not proved. Its memory grows with the pictures alone.
+#![tactic(auto)]
+
+pub mod counts;
+pub mod element;
+pub mod meter;
+pub mod narrowed;
+pub mod notes;
+pub mod picture;
+pub mod sequence;
+pub mod surveyed;
+
+pub use counts::MacroblockCounts;
+pub use element::ReadElement;
+pub use meter::{Meter, NoMeter};
+pub use narrowed::{Choice, Narrowed};
+pub use notes::{Slice, Survey, Unit};
+pub use picture::{Picture, PictureKind};
+pub use sequence::{Cropping, PictureSet, Sequence, Timing};
+pub use surveyed::Surveyed;

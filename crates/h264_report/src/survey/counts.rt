@@ -1,0 +1,73 @@
+//! How many macroblocks of each type a stream has (tables 7-11 and 7-13).
+#![tactic(auto)]
+
+use h264_base::SliceType;
+
+/// How many macroblocks were read, by type.
+#[derive(Clone, Copy, Default)]
+pub struct MacroblockCounts {
+    /// I_NxN: intra prediction of each 4x4 block.
+    pub intra_4x4: u64,
+    /// I_16x16_0_0_0 and its kin: intra prediction of the whole macroblock.
+    pub intra_16x16: u64,
+    /// I_PCM: samples as they are.
+    pub pcm: u64,
+    /// P_L0_16x16.
+    pub inter_16x16: u64,
+    /// P_L0_L0_16x8.
+    pub inter_16x8: u64,
+    /// P_L0_L0_8x16.
+    pub inter_8x16: u64,
+    /// P_8x8 and P_8x8ref0.
+    pub inter_8x8: u64,
+    /// P_Skip.
+    pub skipped: u64,
+}
+
+/// mb_type 25 of an I slice.
+const I_PCM: u64 = 25;
+
+/// How many values of mb_type in a P slice are of inter prediction.
+const INTER_TYPES: u64 = 5;
+
+impl MacroblockCounts {
+    /// Counts a macroblock of this mb_type in an I slice (table 7-11).
+    fn add_intra(&mut self, mb_type: u64) {
+        if mb_type == 0 {
+            self.intra_4x4 = self.intra_4x4.saturating_add(1);
+        } else if mb_type == I_PCM {
+            self.pcm = self.pcm.saturating_add(1);
+        } else {
+            self.intra_16x16 = self.intra_16x16.saturating_add(1);
+        }
+    }
+
+    /// Counts an inter macroblock of this mb_type in a P slice (table 7-13).
+    fn add_inter(&mut self, mb_type: u64) {
+        match mb_type {
+            0 => self.inter_16x16 = self.inter_16x16.saturating_add(1),
+            1 => self.inter_16x8 = self.inter_16x8.saturating_add(1),
+            2 => self.inter_8x16 = self.inter_8x16.saturating_add(1),
+            _ => self.inter_8x8 = self.inter_8x8.saturating_add(1),
+        }
+    }
+
+    /// Counts a macroblock of this mb_type in a slice of this type.
+    pub fn add(&mut self, slice_type: SliceType, mb_type: u64) {
+        match slice_type {
+            SliceType::I => self.add_intra(mb_type),
+            SliceType::P => {
+                if mb_type < INTER_TYPES {
+                    self.add_inter(mb_type);
+                } else {
+                    self.add_intra(mb_type - INTER_TYPES);
+                }
+            }
+        }
+    }
+
+    /// Counts so many macroblocks that are skipped.
+    pub fn skip(&mut self, run: u64) {
+        self.skipped = self.skipped.saturating_add(run);
+    }
+}

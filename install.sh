@@ -1,0 +1,49 @@
+#!/bin/sh
+# Builds h264v with all its proofs, and installs the program, its man page and shell completions.
+#
+#   ./install.sh [PREFIX]      PREFIX is ~/.local where it is left out
+#
+# Needs the kit's rt on the path, some 24 GB of memory and 6 GB of disk below ${TMPDIR:-/tmp}. JOBS=N sets how many
+# processors it takes, CPU=x86-64-v2 the processor that it builds for, KEEP=1 leaves the folder in which it built.
+set -eu
+
+prefix=${1:-$HOME/.local}
+top=$(cd "$(dirname "$0")" && pwd)
+jobs=${JOBS:-$(nproc)}
+
+say() { printf 'install.sh: %s\n' "$*" >&2; }
+
+command -v rt >/dev/null || { say "rt is not on the path. Without the kit, ./quick.sh builds a program of which nothing is proved."; exit 1; }
+
+cpu=${CPU:-x86-64-v2}
+if [ -z "${CPU:-}" ] && [ "$(grep -m 1 '^flags' /proc/cpuinfo | grep -owE 'avx2|bmi1|bmi2|fma|movbe|f16c' | sort -u | wc -l)" = 6 ]; then
+  cpu=x86-64-v3
+fi
+
+build=$(mktemp -d "${TMPDIR:-/tmp}/h264v-build.XXXXXX")
+[ -n "${KEEP:-}" ] || trap 'rm -rf "$build"' EXIT INT TERM
+say "builds in $build for $cpu, on $jobs processors"
+cp -r "$top/crates" "$top/HANDLES" "$build"
+rm -rf "$build"/crates/*/out
+
+# Crates that stand side by side are proved side by side, one processor each. The crates of the long chain above them come after, one
+# after another, with all processors each.
+chain=' h264_marking h264_lists h264_poc h264_dpb h264_picture h264_slices h264_judge h264_verify h264_report h264v '
+while read -r line; do
+  case "$chain" in *" ${line%%:*} "*) ;; *) printf '%s\n' "$line" ;; esac
+done <"$top/crates.txt" >"$build/crates.txt"
+
+say "step 1 of 2: the crates that stand side by side"
+(cd "$build" && mkdir later && for name in $chain; do mv "crates/$name" later/; done && rt all check --jobs "$jobs") >"$build/log" 2>&1 ||
+  { tail -n 20 "$build/log" >&2; exit 1; }
+say "step 2 of 2: the chain, and the program"
+(cd "$build" && mv later/* crates/ && cp "$top/crates.txt" . && cd crates/h264v && rt run --jobs "$jobs" --cpu "$cpu" -- --version) >>"$build/log" 2>&1 ||
+  { tail -n 20 "$build/log" >&2; exit 1; }
+
+install -D "$build/crates/h264v/out/h264v" "$prefix/bin/h264v"
+install -D -m 644 "$top/share/h264v.1" "$prefix/share/man/man1/h264v.1"
+install -D -m 644 "$top/share/h264v.bash" "$prefix/share/bash-completion/completions/h264v"
+install -D -m 644 "$top/share/_h264v" "$prefix/share/zsh/site-functions/_h264v"
+install -D -m 644 "$top/share/h264v.fish" "$prefix/share/fish/vendor_completions.d/h264v.fish"
+say "installed $prefix/bin/h264v, built for $cpu, with every proof passed"
+case ":$PATH:" in *":$prefix/bin:"*) ;; *) say "$prefix/bin is not on your path" ;; esac

@@ -1,0 +1,24 @@
+# Completion of h264v for bash.
+_h264v() {
+  local word=${COMP_WORDS[COMP_CWORD]} before=${COMP_WORDS[COMP_CWORD - 1]} command=${COMP_WORDS[1]}
+  local options='--explain --json --quiet --progress --target'
+  if [ "$COMP_CWORD" = 1 ]; then
+    COMPREPLY=($(compgen -W 'check units headers frames decode elements info report explain --help --version' -- "$word"))
+    return
+  fi
+  case $command in
+  decode) options="$options --y4m --output" ;;
+  report) options="$options --output" ;;
+  elements) options="$options --picture --mb" ;;
+  explain)
+    COMPREPLY=($(compgen -W 'ByteStream EmptyUnit Emulation ForbiddenBit RefIdc Partition CodeWord ResidualWord Range Tool Profile FrameSize Crop Vui Trailing NoSet FirstPicture SetChanged FirstMb SliceType FrameNum IdrPicId Qp Count ListCommand MarkCommand MarkDiffers SliceEmpty MbPast NoReference IntraMode BlockSize VectorRange TransformRange Incomplete NoPicture Level6 UnitTooLong InputTooLong' -- "$word"))
+    return
+    ;;
+  esac
+  case $before/$word in
+  --target/*) COMPREPLY=($(compgen -W 'baseline main-ip' -- "$word")) ;;
+  */-*) COMPREPLY=($(compgen -W "$options" -- "$word")) ;;
+  *) COMPREPLY=($(compgen -f -- "$word")) ;;
+  esac
+}
+complete -o filenames -F _h264v h264v

@@ -1,0 +1,208 @@
+//! The commands over a plain copy of the sources, of which nothing is proved (plain.py puts the modules above).
+use h264_base::{ElementName, Elements, Failed, Mode, SliceType, Stop, Target};
+use h264_dpb::{FrameOut, Rectangle};
+use h264_plane::{Frame, Plane};
+use h264_verify::{FrameSink, Session, Summary};
+use std::collections::VecDeque;
+use std::io::{Read, Write};
+
+const USAGE: &str = "usage: h264v-quick check|units|headers|frames|decode [--target baseline|main-ip] FILE";
+const NOT_PROVED: &str = "h264v-quick: a plain build, of which nothing is proved";
+const PIECE: usize = 1 << 16;
+
+#[derive(PartialEq)]
+enum Task {
+    Check,
+    Units,
+    Headers,
+    Frames,
+    Decode,
+}
+
+struct Sink<W: Write> {
+    task: Task,
+    out: W,
+    frames: u64,
+    last: VecDeque<(ElementName, u64, i64)>,
+}
+
+/// The rows of a plane that are shown, without so many samples on each side.
+fn rows(plane: &Plane, left: usize, right: usize, top: usize, bottom: usize) -> impl Iterator<Item = &[u8]> {
+    (top..plane.height() - bottom).map(move |y| &plane.row(y)[left..plane.width() - right])
+}
+
+/// Every row of a frame that is shown: of Y, then of Cb, then of Cr.
+fn shown(frame: &Frame, r: Rectangle) -> impl Iterator<Item = &[u8]> {
+    rows(&frame.y, 2 * r.left, 2 * r.right, 2 * r.top, 2 * r.bottom)
+        .chain(rows(&frame.cb, r.left, r.right, r.top, r.bottom))
+        .chain(rows(&frame.cr, r.left, r.right, r.top, r.bottom))
+}
+
+impl<W: Write> Sink<W> {
+    fn done(result: std::io::Result<()>) -> Result<(), Failed> {
+        result.map_err(|_| Failed)
+    }
+}
+
+impl<W: Write> Elements for Sink<W> {
+    fn element(&mut self, name: ElementName, bit: u64, value: i64) -> Result<(), Failed> {
+        if self.task == Task::Check {
+            if self.last.len() == 16 {
+                self.last.pop_front();
+            }
+            self.last.push_back((name, bit, value));
+        }
+        Ok(())
+    }
+}
+
+impl<W: Write> FrameOut for Sink<W> {
+    fn frame(&mut self, count: i32, frame: &Frame, r: Rectangle) -> Result<(), Failed> {
+        match self.task {
+            Task::Decode => {
+                for row in shown(frame, r) {
+                    Self::done(self.out.write_all(row))?;
+                }
+            }
+            Task::Frames => {
+                let mut bytes = std::vec::Vec::new();
+                shown(frame, r).for_each(|row| bytes.extend_from_slice(row));
+                let width = frame.y.width() - 2 * (r.left + r.right);
+                let height = frame.y.height() - 2 * (r.top + r.bottom);
+                let index = self.frames;
+                let digest = md5(&bytes);
+                Self::done(writeln!(self.out, "frame {index} count {count} {width}x{height} md5 {digest}"))?;
+            }
+            _ => {}
+        }
+        self.frames += 1;
+        Ok(())
+    }
+}
+
+impl<W: Write> FrameSink for Sink<W> {
+    fn unit(&mut self, byte: u64, nal_unit_type: u8, nal_ref_idc: u8, length: u64) -> Result<(), Failed> {
+        if self.task != Task::Units {
+            return Ok(());
+        }
+        Self::done(writeln!(self.out, "unit {byte} type {nal_unit_type} ref {nal_ref_idc} bytes {length}"))
+    }
+
+    fn slice(&mut self, byte: u64, mb: u32, slice_type: SliceType, frame_num: u32, count: i32) -> Result<(), Failed> {
+        if self.task != Task::Headers {
+            return Ok(());
+        }
+        Self::done(writeln!(self.out, "slice {byte} mb {mb} type {slice_type:?} frame {frame_num} count {count}"))
+    }
+}
+
+/// The MD5 digest (RFC 1321) as hexadecimal digits.
+fn md5(bytes: &[u8]) -> std::string::String {
+    const SHIFTS: [[u32; 4]; 4] = [[7, 12, 17, 22], [5, 9, 14, 20], [4, 11, 16, 23], [6, 10, 15, 21]];
+    let mut state = [0x67452301u32, 0xefcdab89, 0x98badcfe, 0x10325476];
+    let mut padded = bytes.to_vec();
+    padded.push(0x80);
+    while padded.len() % 64 != 56 {
+        padded.push(0);
+    }
+    padded.extend_from_slice(&(8 * bytes.len() as u64).to_le_bytes());
+    let factors: std::vec::Vec<u32> = (0..64).map(|i| (f64::from(i + 1).sin().abs() * 4294967296.0) as u32).collect();
+    for block in padded.chunks(64) {
+        let words: std::vec::Vec<u32> = block.chunks(4).map(|w| u32::from_le_bytes(w.try_into().unwrap())).collect();
+        let [mut a, mut b, mut c, mut d] = state;
+        for i in 0..64 {
+            let (f, g) = match i / 16 {
+                0 => ((b & c) | (!b & d), i),
+                1 => ((d & b) | (!d & c), (5 * i + 1) % 16),
+                2 => (b ^ c ^ d, (3 * i + 5) % 16),
+                _ => (c ^ (b | !d), (7 * i) % 16),
+            };
+            let sum = a.wrapping_add(f).wrapping_add(factors[i]).wrapping_add(words[g]);
+            (a, d, c) = (d, c, b);
+            b = b.wrapping_add(sum.rotate_left(SHIFTS[i / 16][i % 4]));
+        }
+        for (old, new) in state.iter_mut().zip([a, b, c, d]) {
+            *old = old.wrapping_add(new);
+        }
+    }
+    state.iter().flat_map(|word| word.to_le_bytes()).map(|byte| format!("{byte:02x}")).collect()
+}
+
+fn last_line(task: &Task, answer: &Result<Summary, Stop>) -> (std::string::String, i32) {
+    match answer {
+        Ok(s) => {
+            let mut line = format!("yes: units {}", s.units);
+            if *task != Task::Units {
+                line += &format!(" pictures {}", s.pictures);
+            }
+            if *task != Task::Units && *task != Task::Headers {
+                line += &format!(" frames {}", s.frames);
+            }
+            (line, 0)
+        }
+        Err(Stop::No { bit, rule }) => (format!("no: bit {bit}: {} (clause {})", rule.label(), rule.clause()), 1),
+        Err(Stop::Outside { bit, feature }) => (format!("outside: bit {bit}: {}", feature.text()), 2),
+        Err(Stop::Memory) => ("memory".into(), 3),
+        Err(Stop::Read) => ("read failed".into(), 4),
+        Err(Stop::Write) => ("write failed".into(), 4),
+    }
+}
+
+fn judge<W: Write>(file: &str, mode: Mode, target: Target, sink: &mut Sink<W>) -> Result<Summary, Stop> {
+    let mut input: Box<dyn Read> = match file {
+        "-" => Box::new(std::io::stdin()),
+        _ => Box::new(std::fs::File::open(file).map_err(|_| Stop::Read)?),
+    };
+    let mut session = Session::new(rt::Global, mode, target)?;
+    let mut piece = std::vec![0; PIECE];
+    loop {
+        match input.read(&mut piece).map_err(|_| Stop::Read)? {
+            0 => return session.finish(sink),
+            n => session.feed(&piece[..n], sink)?,
+        }
+    }
+}
+
+fn fault() -> ! {
+    eprintln!("{USAGE}");
+    std::process::exit(64);
+}
+
+fn main() {
+    let mut words: std::vec::Vec<std::string::String> = std::env::args().skip(1).collect();
+    let target = match words.iter().position(|w| w == "--target") {
+        Some(at) => match words.drain(at..words.len().min(at + 2)).nth(1).as_deref() {
+            Some("main-ip") => Target::MainIP,
+            Some("baseline") => Target::Baseline,
+            _ => fault(),
+        },
+        None => Target::Baseline,
+    };
+    let [command, file] = &words[..] else { fault() };
+    let (task, mode) = match command.as_str() {
+        "check" => (Task::Check, Mode::Full),
+        "units" => (Task::Units, Mode::Units),
+        "headers" => (Task::Headers, Mode::Headers),
+        "frames" => (Task::Frames, Mode::Full),
+        "decode" => (Task::Decode, Mode::Full),
+        _ => fault(),
+    };
+    eprintln!("{NOT_PROVED}");
+    let out = std::io::BufWriter::with_capacity(PIECE, std::io::stdout());
+    let mut sink = Sink { task, out, frames: 0, last: VecDeque::new() };
+    let answer = judge(file, mode, target, &mut sink);
+    let (line, status) = last_line(&sink.task, &answer);
+    let mut written = Ok(());
+    if let Err(Stop::No { .. }) = answer {
+        for (name, bit, value) in &sink.last {
+            written = written.and(writeln!(sink.out, "element {} bit {bit} value {value}", name.text()));
+        }
+    }
+    if sink.task == Task::Decode {
+        eprintln!("{line}");
+    } else {
+        written = written.and(writeln!(sink.out, "{line}"));
+    }
+    written = written.and(sink.out.flush());
+    std::process::exit(if written.is_ok() { status } else { 4 });
+}
