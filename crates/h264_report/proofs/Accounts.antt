@@ -4,7 +4,7 @@ use Rattle.std.proofs.lemmas.List.{append-nil}
 use Rattle.std.specs.Io.KnownBytes.{Keeps}
 use Rattle.circular_buffer.specs.Buffer.{keep_last}
 use Rattle.h264_base.specs.Call.{Call, OfUnit}
-use Rattle.h264_base.specs.declared.mode.Mode.{Mode}
+use Rattle.h264_base.specs.declared.mode.Target.{Target}
 use Rattle.h264_base.specs.declared.mode.Mode.TheVariants.{Full}
 use Rattle.h264_base.specs.declared.stop.Stop.{Stop}
 use Rattle.h264_base.specs.declared.stop.Stop.TheVariants.{No, Outside, Memory, Read, Write}
@@ -20,6 +20,8 @@ use Rattle.h264_report.proofs.Known.{sends-more, sends-none, sends-keeps, some-b
 use Rattle.h264_slices.specs.Telling.{Told, Tells, took_with, calls_of, AreDecoded}
 use Rattle.h264_verify.specs.Verdict.{Verdict, JudgedBy, Judged}
 use Rattle.h264_judge.specs.declared.state.Summary.{Summary}
+use Rattle.h264_judge.specs.declared.state.Terms.{Terms}
+use Rattle.h264_judge.specs.Units.{terms_of}
 use Rattle.h264_verify.proofs.Verdicts.{judges-judged, none-judged}
 
 -- what is told last can be broken off before it begins
@@ -44,9 +46,9 @@ taken : {S : Type 0} (frames : ℕ → Frame) (took : S → List Call → Type 0
 unfolding took_with
 taken frames took s s' more h t = t.told [] (tt, h)
 
-module _ {S : Type 0} (took : S → List Call → Type 0) (failures : S → ℕ) (mode : Mode) (bytes : List ℕ) (s s' : S) where
+module _ {S : Type 0} (took : S → List Call → Type 0) (failures : S → ℕ) (terms : Terms) (bytes : List ℕ) (s s' : S) where
   module _ {Next : List ℕ → Type 0} (some : SomeNext Next) (all : List Call → List ℕ) (start known : Option (List ℕ)) (none : took s []) (quiet : failures s ≡ 0) (holds : (calls : List Call) → took s' calls → HoldsSent Next start (failures s') known (all calls)) where
-    by : (frames : ℕ → Frame) (answer : Result Summary Stop) → JudgedBy mode (took_with frames took) failures bytes [] s s' answer → Writes Next all mode bytes answer start known
+    by : (frames : ℕ → Frame) (answer : Result Summary Stop) → JudgedBy terms (took_with frames took) failures bytes [] s s' answer → Writes Next all terms bytes answer start known
     by frames (Ok summary) j =
         let t = taken frames took s s' j.0.more none j.0.tells in
         record { account = record { frames = frames; told = j.0.more; decoded = t.0; answers = j.0.verdict }; text = all (calls_of frames j.0.more); is_written = refl; sends = (holds _ t.1).whole (j.1 ∙ quiet) }
@@ -69,7 +71,7 @@ module _ {S : Type 0} (took : S → List Call → Type 0) (failures : S → ℕ)
         record { account = record { frames = frames; told = j.0.more; decoded = t.0; answers = record { rest = j.0.rest; answer = j.0.answer; verdict = j.0.verdict } }; text = all (calls_of frames j.0.more) ++ f.part; is_written = record { next = f.next; is_next = f.is_next; part = f.part; rest = f.proper.rest; next_is = f.proper.whole; bytes_are = refl }; sends = f.sends }
 
   -- what the sink took
-  account : (none : took s []) (frames : ℕ → Frame) (answer : Result Summary Stop) → JudgedBy mode (took_with frames took) failures bytes [] s s' answer → (a : Account mode bytes answer) × took s' (calls_in a)
+  account : (none : took s []) (frames : ℕ → Frame) (answer : Result Summary Stop) → JudgedBy terms (took_with frames took) failures bytes [] s s' answer → (a : Account terms bytes answer) × took s' (calls_in a)
   account none frames (Ok summary) j = let t = taken frames took s s' j.0.more none j.0.tells in (record { frames = frames; told = j.0.more; decoded = t.0; answers = j.0.verdict }, t.1)
   account none frames (Err (No bit rule)) j = let t = taken frames took s s' j.0.more none j.0.tells in (record { frames = frames; told = j.0.more; decoded = t.0; answers = j.0.verdict }, t.1)
   account none frames (Err (Outside bit feature)) j = let t = taken frames took s s' j.0.more none j.0.tells in (record { frames = frames; told = j.0.more; decoded = t.0; answers = j.0.verdict }, t.1)
@@ -78,24 +80,24 @@ module _ {S : Type 0} (took : S → List Call → Type 0) (failures : S → ℕ)
   account none frames (Err Write) j = let t = taken frames took s s' j.0.more none j.0.tells in (record { frames = frames; told = j.0.more; decoded = t.0; answers = record { rest = j.0.rest; answer = j.0.answer; verdict = j.0.verdict } }, t.1)
 
 -- What the writer behind a sink took that had taken nothing.
-pub writes : {S : Type 0} {took : S → List Call → Type 0} {failures : S → ℕ} {mode : Mode} {bytes : List ℕ} {frames : ℕ → Frame} {s s' : S} {answer : Result Summary Stop} {Next : List ℕ → Type 0} (all : List Call → List ℕ) (start known : Option (List ℕ)) →
-    Judged mode took failures bytes frames [] s s' answer → SomeNext Next → took s [] → failures s ≡ 0 → ((calls : List Call) → took s' calls → HoldsSent Next start (failures s') known (all calls)) → Writes Next all mode bytes answer start known
-writes {S} {took} {failures} {mode} {bytes} {frames} {s} {s'} {answer} all start known j some none quiet holds = by took failures mode bytes s s' some all start known none quiet holds j.made answer j.judged
+pub writes : {S : Type 0} {took : S → List Call → Type 0} {failures : S → ℕ} {terms : Terms} {bytes : List ℕ} {frames : ℕ → Frame} {s s' : S} {answer : Result Summary Stop} {Next : List ℕ → Type 0} (all : List Call → List ℕ) (start known : Option (List ℕ)) →
+    Judged terms took failures bytes frames [] s s' answer → SomeNext Next → took s [] → failures s ≡ 0 → ((calls : List Call) → took s' calls → HoldsSent Next start (failures s') known (all calls)) → Writes Next all terms bytes answer start known
+writes {S} {took} {failures} {terms} {bytes} {frames} {s} {s'} {answer} all start known j some none quiet holds = by took failures terms bytes s s' some all start known none quiet holds j.made answer j.judged
 
 -- what the sink took
-pub accounts : {S : Type 0} {took : S → List Call → Type 0} {failures : S → ℕ} {mode : Mode} {bytes : List ℕ} {frames : ℕ → Frame} {s s' : S} {answer : Result Summary Stop} → Judged mode took failures bytes frames [] s s' answer → took s [] → (a : Account mode bytes answer) × took s' (calls_in a)
-accounts {S} {took} {failures} {mode} {bytes} {frames} {s} {s'} {answer} j none = account took failures mode bytes s s' none j.made answer j.judged
+pub accounts : {S : Type 0} {took : S → List Call → Type 0} {failures : S → ℕ} {terms : Terms} {bytes : List ℕ} {frames : ℕ → Frame} {s s' : S} {answer : Result Summary Stop} → Judged terms took failures bytes frames [] s s' answer → took s [] → (a : Account terms bytes answer) × took s' (calls_in a)
+accounts {S} {took} {failures} {terms} {bytes} {frames} {s} {s'} {answer} j none = account took failures terms bytes s s' none j.made answer j.judged
 
 -- ---- with another answer
 
 -- what was told up to any answer is the first of the stream's
-pub front-of : (mode : Mode) (bytes : List ℕ) (told : List Told) (answer : Result Summary Stop) → Answers mode bytes told answer → IsFront mode bytes told
-front-of mode bytes told (Ok summary) v = record { rest = []; answer = Ok summary; verdict = subst (λ l. Verdict mode bytes l (Ok summary)) (sym (append-nil told)) v }
-front-of mode bytes told (Err (No bit rule)) v = record { rest = []; answer = Err (No bit rule); verdict = subst (λ l. Verdict mode bytes l (Err (No bit rule))) (sym (append-nil told)) v }
-front-of mode bytes told (Err (Outside bit feature)) v = record { rest = []; answer = Err (Outside bit feature); verdict = subst (λ l. Verdict mode bytes l (Err (Outside bit feature))) (sym (append-nil told)) v }
-front-of mode bytes told (Err Memory) v = v
-front-of mode bytes told (Err Read) v = v
-front-of mode bytes told (Err Write) v = v
+pub front-of : (terms : Terms) (bytes : List ℕ) (told : List Told) (answer : Result Summary Stop) → Answers terms bytes told answer → IsFront terms bytes told
+front-of terms bytes told (Ok summary) v = record { rest = []; answer = Ok summary; verdict = subst (λ l. Verdict terms bytes l (Ok summary)) (sym (append-nil told)) v }
+front-of terms bytes told (Err (No bit rule)) v = record { rest = []; answer = Err (No bit rule); verdict = subst (λ l. Verdict terms bytes l (Err (No bit rule))) (sym (append-nil told)) v }
+front-of terms bytes told (Err (Outside bit feature)) v = record { rest = []; answer = Err (Outside bit feature); verdict = subst (λ l. Verdict terms bytes l (Err (Outside bit feature))) (sym (append-nil told)) v }
+front-of terms bytes told (Err Memory) v = v
+front-of terms bytes told (Err Read) v = v
+front-of terms bytes told (Err Write) v = v
 
 pub breaks-off : {Next : List ℕ → Type 0} → SomeNext Next → (answer : Result Summary Stop) (all bytes : List ℕ) → IsWritten Next answer all bytes → BreaksOff Next all bytes
 breaks-off {Next} some (Ok summary) all bytes e = subst (BreaksOff Next all) (sym e) (whole some all)
@@ -106,7 +108,7 @@ breaks-off some (Err Memory) all bytes b = b
 breaks-off some (Err Write) all bytes b = b
 
 -- the same, with memory wanting for what was to come
-pub short : {Next : List ℕ → Type 0} {all : List Call → List ℕ} {mode : Mode} {bytes : List ℕ} {old new : Option (List ℕ)} → SomeNext Next → (answer : Result Summary Stop) → Writes Next all mode bytes answer old new → Writes Next all mode bytes (Err Memory) old new
+pub short : {Next : List ℕ → Type 0} {all : List Call → List ℕ} {terms : Terms} {bytes : List ℕ} {old new : Option (List ℕ)} → SomeNext Next → (answer : Result Summary Stop) → Writes Next all terms bytes answer old new → Writes Next all terms bytes (Err Memory) old new
 short some answer w = record {
   account = record { frames = w.account.frames; told = w.account.told; decoded = w.account.decoded; answers = front-of _ _ _ answer w.account.answers };
   text = w.text;
@@ -115,7 +117,7 @@ short some answer w = record {
 }
 
 -- and with a write that failed
-pub failed : {Next : List ℕ → Type 0} {all : List Call → List ℕ} {mode : Mode} {bytes : List ℕ} {old new : Option (List ℕ)} → SomeNext Next → (answer : Result Summary Stop) → Writes Next all mode bytes answer old new → Writes Next all mode bytes (Err Write) old new
+pub failed : {Next : List ℕ → Type 0} {all : List Call → List ℕ} {terms : Terms} {bytes : List ℕ} {old new : Option (List ℕ)} → SomeNext Next → (answer : Result Summary Stop) → Writes Next all terms bytes answer old new → Writes Next all terms bytes (Err Write) old new
 failed some answer w = record {
   account = record { frames = w.account.frames; told = w.account.told; decoded = w.account.decoded; answers = front-of _ _ _ answer w.account.answers };
   text = w.text;
@@ -124,9 +126,9 @@ failed some answer w = record {
 }
 
 -- the answer that is told in place of another
-pub told-answer : {Next : List ℕ → Type 0} {all : List Call → List ℕ} {mode : Mode} {bytes : List ℕ} {old new : Option (List ℕ)} → SomeNext Next → (answer said : Result Summary Stop) → (said ≡ answer) ⊎ (said ≡ Err Memory) → Writes Next all mode bytes answer old new → Writes Next all mode bytes said old new
-told-answer {Next} {all} {mode} {bytes} {old} {new} some answer said (inl e) w = subst (λ a. Writes Next all mode bytes a old new) (sym e) w
-told-answer {Next} {all} {mode} {bytes} {old} {new} some answer said (inr e) w = subst (λ a. Writes Next all mode bytes a old new) (sym e) (short some answer w)
+pub told-answer : {Next : List ℕ → Type 0} {all : List Call → List ℕ} {terms : Terms} {bytes : List ℕ} {old new : Option (List ℕ)} → SomeNext Next → (answer said : Result Summary Stop) → (said ≡ answer) ⊎ (said ≡ Err Memory) → Writes Next all terms bytes answer old new → Writes Next all terms bytes said old new
+told-answer {Next} {all} {terms} {bytes} {old} {new} some answer said (inl e) w = subst (λ a. Writes Next all terms bytes a old new) (sym e) w
+told-answer {Next} {all} {terms} {bytes} {old} {new} some answer said (inr e) w = subst (λ a. Writes Next all terms bytes a old new) (sym e) (short some answer w)
 
 -- ---- one text behind another
 
@@ -182,17 +184,17 @@ pub was-read : (answer said : Result Summary Stop) → (said ≡ answer) ⊎ (sa
 was-read answer said t r = ⊎_elim (λ e. sym e ∙ r) (λ e. absurd (let d = sym e ∙ r in cc)) t
 
 -- the answer that is told where a sink was short of memory
-pub told-short : {Next : List ℕ → Type 0} {all : List Call → List ℕ} {mode : Mode} {bytes : List ℕ} {old new : Option (List ℕ)} → SomeNext Next → (answer said : Result Summary Stop) → (said ≡ answer) ⊎ ((answer ≡ Err Write) × (said ≡ Err Memory)) → Writes Next all mode bytes answer old new → Writes Next all mode bytes said old new
+pub told-short : {Next : List ℕ → Type 0} {all : List Call → List ℕ} {terms : Terms} {bytes : List ℕ} {old new : Option (List ℕ)} → SomeNext Next → (answer said : Result Summary Stop) → (said ≡ answer) ⊎ ((answer ≡ Err Write) × (said ≡ Err Memory)) → Writes Next all terms bytes answer old new → Writes Next all terms bytes said old new
 told-short some answer said (inl e) w = told-answer some answer said (inl e) w
 told-short some answer said (inr e) w = told-answer some answer said (inr e.1) w
 
 -- what was told up to the answer in whose place another is told
-pub told-account : {mode : Mode} {bytes : List ℕ} (answer said : Result Summary Stop) → (said ≡ answer) ⊎ (said ≡ Err Memory) → (a : Account mode bytes answer) → (b : Account mode bytes said) × (calls_in b ≡ calls_in a)
-told-account {mode} {bytes} answer said (inl e) a = subst (λ x. (b : Account mode bytes x) × (calls_in b ≡ calls_in a)) (sym e) (a, refl)
-told-account {mode} {bytes} answer said (inr e) a = subst (λ x. (b : Account mode bytes x) × (calls_in b ≡ calls_in a)) (sym e) (record { frames = a.frames; told = a.told; decoded = a.decoded; answers = front-of mode bytes a.told answer a.answers }, refl)
+pub told-account : {terms : Terms} {bytes : List ℕ} (answer said : Result Summary Stop) → (said ≡ answer) ⊎ (said ≡ Err Memory) → (a : Account terms bytes answer) → (b : Account terms bytes said) × (calls_in b ≡ calls_in a)
+told-account {terms} {bytes} answer said (inl e) a = subst (λ x. (b : Account terms bytes x) × (calls_in b ≡ calls_in a)) (sym e) (a, refl)
+told-account {terms} {bytes} answer said (inr e) a = subst (λ x. (b : Account terms bytes x) × (calls_in b ≡ calls_in a)) (sym e) (record { frames = a.frames; told = a.told; decoded = a.decoded; answers = front-of terms bytes a.told answer a.answers }, refl)
 
 -- and then what was held back was written
-pub kept : {Next : List ℕ → Type 0} {all : List Call → List ℕ} {mode : Mode} {bytes : List ℕ} {answer : Result Summary Stop} {old mid new : Option (List ℕ)} → Writes Next all mode bytes answer old mid → Keeps mid new → Writes Next all mode bytes answer old new
+pub kept : {Next : List ℕ → Type 0} {all : List Call → List ℕ} {terms : Terms} {bytes : List ℕ} {answer : Result Summary Stop} {old mid new : Option (List ℕ)} → Writes Next all terms bytes answer old mid → Keeps mid new → Writes Next all terms bytes answer old new
 kept w k = record { account = w.account; text = w.text; is_written = w.is_written; sends = sends-keeps w.sends k }
 
 pub none-elements : (s : List Element) → s ≡ [] → s ≡ keep_last 16 (elements_of [])
@@ -202,14 +204,14 @@ none-elements s e = e
 -- ---- the commands
 
 -- the lines and the last line
-pub listed : {mode : Mode} {listing : Listing} {bytes : List ℕ} (answer said : Result Summary Stop) (written : Bool) (old mid new : Option (List ℕ)) → (said ≡ answer) ⊎ (said ≡ Err Memory) → Writes (IsLine listing) (lines_of listing 0) mode bytes answer old mid → Takes written mid new (last_line mode said) → Lists mode listing bytes said written old new
-listed {mode} {listing} answer said written old mid new e w t =
+pub listed : {terms : Terms} {listing : Listing} {bytes : List ℕ} (answer said : Result Summary Stop) (written : Bool) (old mid new : Option (List ℕ)) → (said ≡ answer) ⊎ (said ≡ Err Memory) → Writes (IsLine listing) (lines_of listing 0) terms bytes answer old mid → Takes written mid new (last_line terms.mode said) → Lists terms listing bytes said written old new
+listed {terms} {listing} answer said written old mid new e w t =
     let v = told-answer (some-line listing) answer said e w in
-    record { account = v.account; lines = v.text; are_lines = v.is_written; text = takes-behind written new (last_line mode said) v.sends t }
+    record { account = v.account; lines = v.text; are_lines = v.is_written; text = takes-behind written new (last_line terms.mode said) v.sends t }
 
 -- the last elements of what a sink took, and the last line
-pub checked : {S : Type 0} {took : S → List Call → Type 0} {failures : S → ℕ} {bytes : List ℕ} {frames : ℕ → Frame} {s s' : S} {answer said : Result Summary Stop} {written : Bool} (trail : S → List Element) (old new : Option (List ℕ)) →
-    Judged Full took failures bytes frames [] s s' answer → took s [] → ((calls : List Call) → took s' calls → trail s' ≡ keep_last 16 (elements_of calls)) → (said ≡ answer) ⊎ (said ≡ Err Memory) → Takes written old new (trail_text (trail s') said ++ last_line Full said) → Checks bytes said written old new
+pub checked : {S : Type 0} {target : Target} {took : S → List Call → Type 0} {failures : S → ℕ} {bytes : List ℕ} {frames : ℕ → Frame} {s s' : S} {answer said : Result Summary Stop} {written : Bool} (trail : S → List Element) (old new : Option (List ℕ)) →
+    Judged (terms_of Full target) took failures bytes frames [] s s' answer → took s [] → ((calls : List Call) → took s' calls → trail s' ≡ keep_last 16 (elements_of calls)) → (said ≡ answer) ⊎ (said ≡ Err Memory) → Takes written old new (trail_text (trail s') said ++ last_line Full said) → Checks target bytes said written old new
 checked {s' = s'} {answer = answer} {said = said} {written = written} trail old new j none holds e t =
     let a = accounts j none in
     let b = told-account answer said e a.0 in
@@ -217,17 +219,17 @@ checked {s' = s'} {answer = answer} {said = said} {written = written} trail old 
     record { account = b.0; text = subst (λ es. Takes written old new (trail_text es said ++ last_line Full said)) is t }
 
 -- there was no memory for a sink
-pub none-checked : (bytes : List ℕ) (said : Result Summary Stop) (written : Bool) (old new : Option (List ℕ)) → said ≡ Err Memory → Takes written old new (last_line Full (Err Memory)) → Checks bytes said written old new
-none-checked bytes said written old new e t =
+pub none-checked : (target : Target) (bytes : List ℕ) (said : Result Summary Stop) (written : Bool) (old new : Option (List ℕ)) → said ≡ Err Memory → Takes written old new (last_line Full (Err Memory)) → Checks target bytes said written old new
+none-checked target bytes said written old new e t =
     let none : ℕ = 0 in
     let took : Unit {0} → List Call → Type 0 = λ s calls. Unit {0} in
-    let j = judges-judged Full took (λ s. none) bytes (λ k. no_frame) tt tt (Err Memory) (none-judged Full took (λ s. none) bytes (λ k. no_frame) tt) in
+    let j = judges-judged (terms_of Full target) took (λ s. none) bytes (λ k. no_frame) tt tt (Err Memory) (none-judged (terms_of Full target) took (λ s. none) bytes (λ k. no_frame) tt) in
     let a = (accounts j tt).0 in
-    let c : Checks bytes (Err Memory) written old new = record { account = a; text = t } in
-    subst (λ x. Checks bytes x written old new) (sym e) c
+    let c : Checks target bytes (Err Memory) written old new = record { account = a; text = t } in
+    subst (λ x. Checks target bytes x written old new) (sym e) c
 
 -- the frames, and the last line elsewhere
-pub decoded : {bytes : List ℕ} (answer said : Result Summary Stop) (written : Bool) (old mid new err_old err_new : Option (List ℕ)) → (said ≡ answer) ⊎ (said ≡ Err Memory) → Writes IsFrame bytes_of Full bytes answer old mid → Keeps mid new → Takes written err_old err_new (last_line Full said) → Decodes bytes said written old new err_old err_new
+pub decoded : {target : Target} {bytes : List ℕ} (answer said : Result Summary Stop) (written : Bool) (old mid new err_old err_new : Option (List ℕ)) → (said ≡ answer) ⊎ (said ≡ Err Memory) → Writes IsFrame bytes_of (terms_of Full target) bytes answer old mid → Keeps mid new → Takes written err_old err_new (last_line Full said) → Decodes target bytes said written old new err_old err_new
 decoded answer said written old mid new err_old err_new e w k t = record { frames = kept (told-answer some-frame answer said e w) k; text = t }
 
 -- ---- what is known of a source

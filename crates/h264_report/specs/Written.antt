@@ -4,6 +4,7 @@ use Rattle.circular_buffer.specs.Buffer.{keep_last}
 use Rattle.h264_base.specs.Call.{Call}
 use Rattle.h264_base.specs.declared.mode.Mode.{Mode}
 use Rattle.h264_base.specs.declared.mode.Mode.TheVariants as modes
+use Rattle.h264_base.specs.declared.mode.Target.{Target}
 use Rattle.h264_base.specs.declared.stop.Stop.{Stop}
 use Rattle.h264_base.specs.declared.stop.Stop.TheVariants.{No, Outside, Memory, Read, Write}
 use Rattle.h264_plane.specs.declared.frame.Frame.{Frame}
@@ -16,6 +17,8 @@ use Rattle.h264_report.specs.declared.trail.Element.{Element}
 use Rattle.h264_slices.specs.Telling.{Told, calls_of, AreDecoded}
 use Rattle.h264_verify.specs.Verdict.{Verdict}
 use Rattle.h264_judge.specs.declared.state.Summary.{Summary}
+use Rattle.h264_judge.specs.declared.state.Terms.{Terms}
+use Rattle.h264_judge.specs.Units.{terms_of}
 
 -- Of the bytes that a source gives; where it does not tell them, of some bytes.
 abbrev pub OfBytes : Option (List ℕ) → (List ℕ → Type 0) → Type 0
@@ -25,30 +28,30 @@ OfBytes (Some bytes) Is = Is bytes
 -- ---- what was told of a stream up to an answer
 
 -- It is the first of what comes to pass as this stream is judged.
-pub record IsFront (mode : Mode) (bytes : List ℕ) (told : List Told) : Type 0 where
+pub record IsFront (terms : Terms) (bytes : List ℕ) (told : List Told) : Type 0 where
   pub rest : List Told
   pub answer : Result Summary Stop
-  pub verdict : Verdict mode bytes (told ++ rest) answer
+  pub verdict : Verdict terms bytes (told ++ rest) answer
 
 -- A yes, a no and an outside are the verdict on this stream, and this is all that comes to pass up to there; memory, read and write
 -- come with the first of it.
-abbrev pub Answers : Mode → List ℕ → List Told → Result Summary Stop → Type 0
-Answers mode bytes told (Ok summary) = Verdict mode bytes told (Ok summary)
-Answers mode bytes told (Err (No bit rule)) = Verdict mode bytes told (Err (No bit rule))
-Answers mode bytes told (Err (Outside bit feature)) = Verdict mode bytes told (Err (Outside bit feature))
-Answers mode bytes told (Err Memory) = IsFront mode bytes told
-Answers mode bytes told (Err Read) = IsFront mode bytes told
-Answers mode bytes told (Err Write) = IsFront mode bytes told
+abbrev pub Answers : Terms → List ℕ → List Told → Result Summary Stop → Type 0
+Answers terms bytes told (Ok summary) = Verdict terms bytes told (Ok summary)
+Answers terms bytes told (Err (No bit rule)) = Verdict terms bytes told (Err (No bit rule))
+Answers terms bytes told (Err (Outside bit feature)) = Verdict terms bytes told (Err (Outside bit feature))
+Answers terms bytes told (Err Memory) = IsFront terms bytes told
+Answers terms bytes told (Err Read) = IsFront terms bytes told
+Answers terms bytes told (Err Write) = IsFront terms bytes told
 
 -- what was told of a stream up to an answer, with a family of frames in which the pictures are decoded
-pub record Account (mode : Mode) (bytes : List ℕ) (answer : Result Summary Stop) : Type 0 where
+pub record Account (terms : Terms) (bytes : List ℕ) (answer : Result Summary Stop) : Type 0 where
   pub frames : ℕ → Frame
   pub told : List Told
   pub decoded : AreDecoded frames told
-  pub answers : Answers mode bytes told answer
+  pub answers : Answers terms bytes told answer
 
 -- the calls of a sink
-abbrev pub calls_in : {mode : Mode} {bytes : List ℕ} {answer : Result Summary Stop} → Account mode bytes answer → List Call
+abbrev pub calls_in : {terms : Terms} {bytes : List ℕ} {answer : Result Summary Stop} → Account terms bytes answer → List Call
 calls_in a = calls_of a.frames a.told
 
 -- ---- what is written of the calls
@@ -72,8 +75,8 @@ IsWritten Next (Err Memory) all bytes = BreaksOff Next all bytes
 IsWritten Next (Err Write) all bytes = BreaksOff Next all bytes
 
 -- What was written of the calls of this stream up to this answer, as `all` says.
-pub record Writes (Next : List ℕ → Type 0) (all : List Call → List ℕ) (mode : Mode) (bytes : List ℕ) (answer : Result Summary Stop) (old new : Option (List ℕ)) : Type 0 where
-  pub account : Account mode bytes answer
+pub record Writes (Next : List ℕ → Type 0) (all : List Call → List ℕ) (terms : Terms) (bytes : List ℕ) (answer : Result Summary Stop) (old new : Option (List ℕ)) : Type 0 where
+  pub account : Account terms bytes answer
   pub text : List ℕ
   pub is_written : IsWritten Next answer (all (calls_in account)) text
   pub sends : Sends old new text
@@ -85,11 +88,11 @@ last_line mode answer = ended (verdict_text mode answer)
 -- ---- the commands
 
 -- The lines of a listing, and behind them the last line.
-pub record Lists (mode : Mode) (listing : Listing) (bytes : List ℕ) (answer : Result Summary Stop) (written : Bool) (old new : Option (List ℕ)) : Type 0 where
-  pub account : Account mode bytes answer
+pub record Lists (terms : Terms) (listing : Listing) (bytes : List ℕ) (answer : Result Summary Stop) (written : Bool) (old new : Option (List ℕ)) : Type 0 where
+  pub account : Account terms bytes answer
   pub lines : List ℕ
   pub are_lines : IsWritten (IsLine listing) answer (lines_of listing 0 (calls_in account)) lines
-  pub text : Takes written old new (lines ++ last_line mode answer)
+  pub text : Takes written old new (lines ++ last_line terms.mode answer)
 
 -- the lines of these elements after a no, and none after any other answer
 abbrev pub trail_text : List Element → Result Summary Stop → List ℕ
@@ -101,13 +104,13 @@ trail_text es (Err Read) = []
 trail_text es (Err Write) = []
 
 -- After a no the last 16 elements, the oldest first, and behind them the last line; else the last line alone.
-pub record Checks (bytes : List ℕ) (answer : Result Summary Stop) (written : Bool) (old new : Option (List ℕ)) : Type 0 where
-  pub account : Account modes.Full bytes answer
+pub record Checks (target : Target) (bytes : List ℕ) (answer : Result Summary Stop) (written : Bool) (old new : Option (List ℕ)) : Type 0 where
+  pub account : Account (terms_of modes.Full target) bytes answer
   pub text : Takes written old new (trail_text (keep_last 16 (elements_of (calls_in account))) answer ++ last_line modes.Full answer)
 
 -- The frames to one writer, the last line to the other.
-pub record Decodes (bytes : List ℕ) (answer : Result Summary Stop) (written : Bool) (old new err_old err_new : Option (List ℕ)) : Type 0 where
-  pub frames : Writes IsFrame bytes_of modes.Full bytes answer old new
+pub record Decodes (target : Target) (bytes : List ℕ) (answer : Result Summary Stop) (written : Bool) (old new err_old err_new : Option (List ℕ)) : Type 0 where
+  pub frames : Writes IsFrame bytes_of (terms_of modes.Full target) bytes answer old new
   pub text : Takes written err_old err_new (last_line modes.Full answer)
 
 -- ---- the exit status

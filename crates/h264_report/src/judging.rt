@@ -3,6 +3,7 @@
 
 ghost use Rattle.std.specs.Prelude.{◌≡◌, ℕ, ◌+◌, ◌-◌, ◌<◌, ◌⊎◌, ◌^◌, true, false, List, ◌++◌, Some, Ok, Err, IfOk, IsErrOf, string_bytes};
 ghost use Rattle.h264_base.specs.declared.mode.Mode.TheVariants as modes;
+ghost use Rattle.h264_judge.specs.Units.{terms_of};
 ghost use Rattle.h264_report.specs.Sent.{Takes};
 ghost use Rattle.h264_report.specs.Told.{ended, lines_of, bytes_of, IsLine, IsFrame};
 ghost use Rattle.h264_report.specs.Written.{OfBytes, Writes, Lists, Checks, Decodes, last_line, trail_text, answer_status, status_of};
@@ -16,8 +17,8 @@ use crate::sheet::{Pen, Sheet};
 use crate::trail::Trail;
 use crate::trail_sink::TrailSink;
 use crate::yuv_sink::YuvSink;
-use h264_base::{Failed, Mode, Stop};
-use h264_verify::{Source, Summary, run};
+use h264_base::{Failed, Mode, Stop, Target};
+use h264_verify::{Source, Summary, Terms, run};
 use std::alloc::{AllocError, Global};
 use std::marker::Brand;
 
@@ -127,7 +128,7 @@ fn told_answer(answer: Result<Summary, Stop>, short: bool) -> Result<Summary, St
 /// Judges a stream, and writes the lines of its calls through a pen.
 fn run_lines<'a, K: Sheet, R: Source, W: Device>(
     alloc: Global,
-    mode: Mode,
+    terms: Terms,
     listing: Listing,
     source: &mut R,
     pen: Pen<'a, W>,
@@ -137,13 +138,13 @@ fn run_lines<'a, K: Sheet, R: Source, W: Device>(
     requires start { W.contents pen.out.now ≡ K.start }
     requires listing { listing ≡ K.listing }
     ensures same_reference { result.0.out.ghost_name ≡ K.name }
-    ensures lines { (bytes : List ℕ) → R.left source.old ≡ Some bytes → Writes (IsLine K.listing) (lines_of K.listing 0) mode bytes result.1 K.start (W.contents result.0.out.now) }
-    ensures some { (bytes : List ℕ) × Writes (IsLine K.listing) (lines_of K.listing 0) mode bytes result.1 K.start (W.contents result.0.out.now) }
+    ensures lines { (bytes : List ℕ) → R.left source.old ≡ Some bytes → Writes (IsLine K.listing) (lines_of K.listing 0) terms bytes result.1 K.start (W.contents result.0.out.now) }
+    ensures some { (bytes : List ℕ) × Writes (IsLine K.listing) (lines_of K.listing 0) terms bytes result.1 K.start (W.contents result.0.out.now) }
     ensures read { IsErrOf result.1 Stop.Read → (R.failures source.new ≡ R.failures source.old + 1) ⊎ ((n : ℕ) → R.was_read source.old n → R.was_read source.new (n + 2 ^ 41)) }
     ensures write { IsErrOf result.1 Stop.Write → W.has_failed result.0.out.now ≡ true }
 {
     let mut sink: LineSink<'_, W, K> = LineSink::new(alloc, listing, pen);
-    let answer = run(alloc, source, &mut sink, mode);
+    let answer = run(alloc, source, &mut sink, terms.mode, terms.target);
     let short = sink.short_of_memory();
     (sink.into_pen(), told_answer(answer, short))
 }
@@ -151,38 +152,38 @@ fn run_lines<'a, K: Sheet, R: Source, W: Device>(
 /// Judges a stream, and writes the lines of its calls; the answer that is to be told.
 fn write_lines<R: Source, W: Device>(
     alloc: Global,
-    mode: Mode,
+    terms: Terms,
     listing: Listing,
     source: &mut R,
     out: &mut W,
 ) -> Result<Summary, Stop>
     requires { R.failures source.old < 2 ^ 64 - 1 }
-    ensures lines { (bytes : List ℕ) → R.left source.old ≡ Some bytes → Writes (IsLine listing) (lines_of listing 0) mode bytes result (W.contents out.old) (W.contents out.new) }
-    ensures some { (bytes : List ℕ) × Writes (IsLine listing) (lines_of listing 0) mode bytes result (W.contents out.old) (W.contents out.new) }
+    ensures lines { (bytes : List ℕ) → R.left source.old ≡ Some bytes → Writes (IsLine listing) (lines_of listing 0) terms bytes result (W.contents out.old) (W.contents out.new) }
+    ensures some { (bytes : List ℕ) × Writes (IsLine listing) (lines_of listing 0) terms bytes result (W.contents out.old) (W.contents out.new) }
     ensures read { IsErrOf result Stop.Read → (R.failures source.new ≡ R.failures source.old + 1) ⊎ ((n : ℕ) → R.was_read source.old n → R.was_read source.new (n + 2 ^ 41)) }
     ensures write { IsErrOf result Stop.Write → W.has_failed out.new ≡ true }
 {
     let pen = Pen { out };
-    let (_, answer) = run_lines::<Brand, R, W>(alloc, mode, listing, source, pen);
+    let (_, answer) = run_lines::<Brand, R, W>(alloc, terms, listing, source, pen);
     answer
 }
 
-/// Judges a stream, with a line for each call of the listing, and then the last line.
+/// Judges a stream by these terms, with a line for each call of the listing, and then the last line.
 pub fn list<R: Source, W: Device>(
     alloc: Global,
-    mode: Mode,
+    terms: Terms,
     listing: Listing,
     source: &mut R,
     out: &mut W,
 ) -> Ending
     requires { R.failures source.old < 2 ^ 64 - 1 }
-    ensures lists { OfBytes (R.left source.old) (λ bytes. Lists mode listing bytes result.answer result.written (W.contents out.old) (W.contents out.new)) }
+    ensures lists { OfBytes (R.left source.old) (λ bytes. Lists terms listing bytes result.answer result.written (W.contents out.old) (W.contents out.new)) }
     ensures read { IsErrOf result.answer Stop.Read → (R.failures source.new ≡ R.failures source.old + 1) ⊎ ((n : ℕ) → R.was_read source.old n → R.was_read source.new (n + 2 ^ 41)) }
     ensures write { IsErrOf result.answer Stop.Write → W.has_failed out.new ≡ true }
     ensures failed { result.written ≡ false → W.has_failed out.new ≡ true }
 {
-    let answer = write_lines(alloc, mode, listing, source, out);
-    put_answer(alloc, mode, answer, out)
+    let answer = write_lines(alloc, terms, listing, source, out);
+    put_answer(alloc, terms.mode, answer, out)
 }
 
 /// What stands before the last line: after a no the lines of the last elements.
@@ -227,10 +228,15 @@ fn put_trail<W: Device>(
     }
 }
 
-/// Judges a stream whole. After a no its last elements are written, the oldest first, and then the last line; else that alone.
-pub fn check<R: Source, W: Device>(alloc: Global, source: &mut R, out: &mut W) -> Ending
+/// Judges a stream whole, for this target. After a no its last elements are written, the oldest first, and then the last line; else that alone.
+pub fn check<R: Source, W: Device>(
+    alloc: Global,
+    target: Target,
+    source: &mut R,
+    out: &mut W,
+) -> Ending
     requires { R.failures source.old < 2 ^ 64 - 1 }
-    ensures checks { OfBytes (R.left source.old) (λ bytes. Checks bytes result.answer result.written (W.contents out.old) (W.contents out.new)) }
+    ensures checks { OfBytes (R.left source.old) (λ bytes. Checks target bytes result.answer result.written (W.contents out.old) (W.contents out.new)) }
     ensures read { IsErrOf result.answer Stop.Read → (R.failures source.new ≡ R.failures source.old + 1) ⊎ ((n : ℕ) → R.was_read source.old n → R.was_read source.new (n + 2 ^ 41)) }
     ensures write { IsErrOf result.answer Stop.Write → ⊥ }
     ensures failed { result.written ≡ false → W.has_failed out.new ≡ true }
@@ -238,13 +244,14 @@ pub fn check<R: Source, W: Device>(alloc: Global, source: &mut R, out: &mut W) -
     let Ok(mut sink) = TrailSink::new(alloc) else {
         return put_memory(out);
     };
-    let answer = run(alloc, source, &mut sink, Mode::Full);
+    let answer = run(alloc, source, &mut sink, Mode::Full, target);
     put_trail(alloc, sink.trail(), answer, out)
 }
 
 /// Judges a stream whole, and writes its frames through a pen.
 fn run_frames<'a, K: Sheet, R: Source, W: Device>(
     alloc: Global,
+    target: Target,
     source: &mut R,
     pen: Pen<'a, W>,
 ) -> (Pen<'a, W>, Result<Summary, Stop>)
@@ -252,47 +259,49 @@ fn run_frames<'a, K: Sheet, R: Source, W: Device>(
     requires name { pen.out.ghost_name ≡ K.name }
     requires start { W.contents pen.out.now ≡ K.start }
     ensures same_reference { result.0.out.ghost_name ≡ K.name }
-    ensures frames { (bytes : List ℕ) → R.left source.old ≡ Some bytes → Writes IsFrame bytes_of modes.Full bytes result.1 K.start (W.contents result.0.out.now) }
-    ensures some { (bytes : List ℕ) × Writes IsFrame bytes_of modes.Full bytes result.1 K.start (W.contents result.0.out.now) }
+    ensures frames { (bytes : List ℕ) → R.left source.old ≡ Some bytes → Writes IsFrame bytes_of (terms_of modes.Full target) bytes result.1 K.start (W.contents result.0.out.now) }
+    ensures some { (bytes : List ℕ) × Writes IsFrame bytes_of (terms_of modes.Full target) bytes result.1 K.start (W.contents result.0.out.now) }
     ensures read { IsErrOf result.1 Stop.Read → (R.failures source.new ≡ R.failures source.old + 1) ⊎ ((n : ℕ) → R.was_read source.old n → R.was_read source.new (n + 2 ^ 41)) }
     ensures write { IsErrOf result.1 Stop.Write → W.has_failed result.0.out.now ≡ true }
 {
     let mut sink: YuvSink<'_, W, K> = YuvSink::new(pen);
-    let answer = run(alloc, source, &mut sink, Mode::Full);
+    let answer = run(alloc, source, &mut sink, Mode::Full, target);
     (sink.into_pen(), answer)
 }
 
 /// Judges a stream whole, and writes its frames; the answer that is to be told.
 fn write_frames<R: Source, W: Device>(
     alloc: Global,
+    target: Target,
     source: &mut R,
     out: &mut W,
 ) -> Result<Summary, Stop>
     requires { R.failures source.old < 2 ^ 64 - 1 }
-    ensures frames { (bytes : List ℕ) → R.left source.old ≡ Some bytes → Writes IsFrame bytes_of modes.Full bytes result (W.contents out.old) (W.contents out.new) }
-    ensures some { (bytes : List ℕ) × Writes IsFrame bytes_of modes.Full bytes result (W.contents out.old) (W.contents out.new) }
+    ensures frames { (bytes : List ℕ) → R.left source.old ≡ Some bytes → Writes IsFrame bytes_of (terms_of modes.Full target) bytes result (W.contents out.old) (W.contents out.new) }
+    ensures some { (bytes : List ℕ) × Writes IsFrame bytes_of (terms_of modes.Full target) bytes result (W.contents out.old) (W.contents out.new) }
     ensures read { IsErrOf result Stop.Read → (R.failures source.new ≡ R.failures source.old + 1) ⊎ ((n : ℕ) → R.was_read source.old n → R.was_read source.new (n + 2 ^ 41)) }
     ensures write { IsErrOf result Stop.Write → W.has_failed out.new ≡ true }
 {
     let pen = Pen { out };
-    let (_, answer) = run_frames::<Brand, R, W>(alloc, source, pen);
+    let (_, answer) = run_frames::<Brand, R, W>(alloc, target, source, pen);
     answer
 }
 
-/// Judges a stream whole, and writes its frames to `out`; the last line goes to `err`.
+/// Judges a stream whole, for this target, and writes its frames to `out`; the last line goes to `err`.
 pub fn decode<R: Source, W: Device, E: Device>(
     alloc: Global,
+    target: Target,
     source: &mut R,
     out: &mut W,
     err: &mut E,
 ) -> Ending
     requires { R.failures source.old < 2 ^ 64 - 1 }
-    ensures decodes { OfBytes (R.left source.old) (λ bytes. Decodes bytes result.answer result.written (W.contents out.old) (W.contents out.new) (E.contents err.old) (E.contents err.new)) }
+    ensures decodes { OfBytes (R.left source.old) (λ bytes. Decodes target bytes result.answer result.written (W.contents out.old) (W.contents out.new) (E.contents err.old) (E.contents err.new)) }
     ensures read { IsErrOf result.answer Stop.Read → (R.failures source.new ≡ R.failures source.old + 1) ⊎ ((n : ℕ) → R.was_read source.old n → R.was_read source.new (n + 2 ^ 41)) }
     ensures write { IsErrOf result.answer Stop.Write → W.has_failed out.new ≡ true }
     ensures failed { result.written ≡ false → E.has_failed err.new ≡ true }
 {
-    let answer = write_frames(alloc, source, out);
+    let answer = write_frames(alloc, target, source, out);
     if let Err(Failed) = out.send_rest() {
         return put_answer(alloc, Mode::Full, Err(Stop::Write), err);
     }

@@ -1,5 +1,7 @@
 -- What the verdict says of predictions and of the buffer, at each picture of a stream.
 use Rattle.std.proofs.Common.{◌≡◌, ℕ, Bool, true, false, List, ◌∷◌, ◌++◌, sym, ◌∙◌, subst}
+use Rattle.h264_judge.specs.Units.{terms_of}
+use Rattle.h264_base.specs.declared.mode.Target.{Target}
 use Rattle.h264_base.specs.declared.mode.Mode.TheVariants as modes
 use Rattle.h264_judge.specs.declared.state.Summary.{Summary}
 use Rattle.h264_slices.specs.Telling.{Told}
@@ -35,12 +37,12 @@ ends-within p ps s = let new = after-sits (p ∷ ps) s in record { within = new.
 
 -- ---- of units that are legal
 
-module _ (before : History) (told : List Told) (l : AreLegal modes.Full before told) (later : List CodedPicture) (p : CodedPicture) (ps : List CodedPicture) where
+module _ (target : Target) (before : History) (told : List Told) (l : AreLegal (terms_of modes.Full target) before told) (later : List CodedPicture) (p : CodedPicture) (ps : List CodedPicture) where
   newest : runs_of before ≡ later ++ p ∷ ps → (e : Bool) × AreSound e (p ∷ ps)
-  newest e = sound-at (has_ended (goes_on before) false) later p ps (subst (λ (all : List CodedPicture). AreSound (has_ended (goes_on before) false) all) e (stands before told l).sound)
+  newest e = sound-at (has_ended (goes_on before) false) later p ps (subst (λ (all : List CodedPicture). AreSound (has_ended (goes_on before) false) all) e (stands target before told l).sound)
 
   pub legal-predicted : runs_of before ≡ later ++ p ∷ ps → ArePredicted p ps
-  legal-predicted e = are-predicted p ps (read-at later p ps (subst AreRead e (stands before told l).read)).slices
+  legal-predicted e = are-predicted p ps (read-at later p ps (subst AreRead e (stands target before told l).read)).slices
 
   pub legal-among : runs_of before ≡ later ++ p ∷ ps → AreAmong (held_in (p ∷ ps)) (within_newest (p ∷ ps)).buffer
   legal-among e = let s = newest e in among-within s.0 p ps s.1
@@ -49,9 +51,9 @@ module _ (before : History) (told : List Told) (l : AreLegal modes.Full before t
   legal-decodes e = let s = newest e in decodes-within s.0 p ps s.1
 
   pub legal-ends : ended_pictures (goes_on before) false (runs_of before) ≡ later ++ p ∷ ps → EndsWithin p ps
-  legal-ends e = ends-within p ps (ended-at later p ps (subst (λ (all : List CodedPicture). AreSound true all) e (ended-are (goes_on before) (runs_of before) (stands before told l).sound)))
+  legal-ends e = ends-within p ps (ended-at later p ps (subst (λ (all : List CodedPicture). AreSound true all) e (ended-are (goes_on before) (runs_of before) (stands target before told l).sound)))
 
 -- ---- of a stream with a yes
 
-pub whole-ends : (bytes : List ℕ) (told : List Told) (summary : Summary) (h : Holds modes.Full bytes told summary) (later : List CodedPicture) (p : CodedPicture) (ps : List CodedPicture) → runs_of h.units ≡ later ++ p ∷ ps → EndsWithin p ps
-whole-ends bytes told summary h later p ps e = ends-within p ps (ended-at later p ps (subst (λ (all : List CodedPicture). AreSound true all) e (all-sound bytes told summary h)))
+pub whole-ends : (target : Target) (bytes : List ℕ) (told : List Told) (summary : Summary) (h : Holds (terms_of modes.Full target) bytes told summary) (later : List CodedPicture) (p : CodedPicture) (ps : List CodedPicture) → runs_of h.units ≡ later ++ p ∷ ps → EndsWithin p ps
+whole-ends target bytes told summary h later p ps e = ends-within p ps (ended-at later p ps (subst (λ (all : List CodedPicture). AreSound true all) e (all-sound target bytes told summary h)))

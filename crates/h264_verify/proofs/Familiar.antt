@@ -2,7 +2,7 @@
 use Rattle.std.proofs.Common.{◌≡◌, ℕ, ◌≤◌, ◌==◌, true, false, IsFalse, drop, List, [], ◌++◌, length, ◌+◌, ◌*◌, Option, Result, Ok, refl, sym, ◌∙◌, subst, arith}
 use Rattle.std.proofs.lemmas.Bool.{eqb-true}
 use Rattle.std.proofs.lemmas.List.{nil_from_length}
-use Rattle.h264_base.specs.declared.mode.Mode.{Mode}
+use Rattle.h264_judge.specs.declared.state.Terms.{Terms}
 use Rattle.h264_base.specs.declared.stop.Stop.{Stop}
 use Rattle.h264_base.specs.Call.{Call}
 use Rattle.h264_plane.specs.declared.frame.Frame.{Frame}
@@ -52,9 +52,9 @@ goes-agree took n f g {s} {s'} a x o = record { calls = x.calls; tells = tells-a
 unfoldable pub fed-agree : {State Summary S : Type 0} {j : Judging State Summary} (took : S → List Call → Type 0) (n : ℕ) (f g : ℕ → Frame) {known : Option (List ℕ)} {bytes : List ℕ} {old new : Standing State} {s s' : S} → Agree n f g → (x : Fed j (took_with f took) known bytes old new s s') → AreOf n x.goes.calls → Fed j (took_with g took) known bytes old new s s'
 fed-agree took n f g a x o = record { fed = x.fed; left = x.left; known_is = x.known_is; whole = x.whole; goes = goes-agree took n f g a x.goes o }
 
-module _ {S : Type 0} {mode : Mode} {took : S → List Call → Type 0} {frames : ℕ → Frame} {old : Standing History} where
+module _ {S : Type 0} {terms : Terms} {took : S → List Call → Type 0} {frames : ℕ → Frame} {old : Standing History} where
   -- two steps
-  pub on-both : {mid split : Splitting} {first state : State} {piece left last : List ℕ} {s0 s1 s2 : S} (a : GoesOn mode took frames old mid first piece left s0 s1) → GoesOn mode took a.made (behind mid a.after) split state left last s1 s2 → GoesOn mode took frames old split state piece last s0 s2
+  pub on-both : {mid split : Splitting} {first state : State} {piece left last : List ℕ} {s0 s1 s2 : S} (a : GoesOn terms took frames old mid first piece left s0 s1) → GoesOn terms took a.made (behind mid a.after) split state left last s1 s2 → GoesOn terms took frames old split state piece last s0 s2
   unfolding goes-both goes-agree
   on-both a b =
       let l : ended_in a.after ≤ ended_in b.after = b.grows in
@@ -69,66 +69,66 @@ module _ {S : Type 0} {mode : Mode} {took : S → List Call → Type 0} {frames 
       }
 
   -- a step, and then a stop
-  pub on-stops : {mid : Splitting} {first : State} {failures : S → ℕ} {piece left : List ℕ} {s0 s1 s2 : S} {stop : Stop} (a : GoesOn mode took frames old mid first piece left s0 s1) → failures s1 ≡ failures s0 → StopsOn mode took failures a.made (behind mid a.after) left s1 s2 stop → StopsOn mode took failures frames old piece s0 s2 stop
+  pub on-stops : {mid : Splitting} {first : State} {failures : S → ℕ} {piece left : List ℕ} {s0 s1 s2 : S} {stop : Stop} (a : GoesOn terms took frames old mid first piece left s0 s1) → failures s1 ≡ failures s0 → StopsOn terms took failures a.made (behind mid a.after) left s1 s2 stop → StopsOn terms took failures frames old piece s0 s2 stop
   on-stops {mid} {failures} {piece} {left} {s0} {s1} {s2} {stop} a k b = record {
     made = b.made;
     same = agree-both (ended_in old.state) (ended_in a.after) frames a.made b.made a.same a.grows b.same;
-    stops = stops-after (judging mode) (took_with b.made took) failures old (behind mid a.after) piece left s0 s1 s2 stop (goes-agree took (ended_in a.after) a.made b.made b.same a.goes a.of) k b.stops;
+    stops = stops-after (judging terms) (took_with b.made took) failures old (behind mid a.after) piece left s0 s1 s2 stop (goes-agree took (ended_in a.after) a.made b.made b.same a.goes a.of) k b.stops;
   }
 
 -- two pieces, one after another, are as one
-pub on-then : {S : Type 0} {mode : Mode} {took : S → List Call → Type 0} {frames : ℕ → Frame} {old : Standing History} {mid split : Splitting} {first state : State} {a b : List ℕ} {s0 s1 s2 : S} (f : GoesOn mode took frames old mid first a [] s0 s1) → GoesOn mode took f.made (behind mid f.after) split state b [] s1 s2 → GoesOn mode took frames old split state (a ++ b) [] s0 s2
+pub on-then : {S : Type 0} {terms : Terms} {took : S → List Call → Type 0} {frames : ℕ → Frame} {old : Standing History} {mid split : Splitting} {first state : State} {a b : List ℕ} {s0 s1 s2 : S} (f : GoesOn terms took frames old mid first a [] s0 s1) → GoesOn terms took f.made (behind mid f.after) split state b [] s1 s2 → GoesOn terms took frames old split state (a ++ b) [] s0 s2
 unfolding goes-more
-on-then {mode} {took} {frames} {old} {mid} {first} {a} {b} {s0} {s1} f g =
-    let more : GoesOn mode took frames old mid first (a ++ b) b s0 s1 = record { made = f.made; same = f.same; after = f.after; grows = f.grows; keeps = f.keeps; goes = goes-more b f.goes; of = f.of } in
+on-then {terms} {took} {frames} {old} {mid} {first} {a} {b} {s0} {s1} f g =
+    let more : GoesOn terms took frames old mid first (a ++ b) b s0 s1 = record { made = f.made; same = f.same; after = f.after; grows = f.grows; keeps = f.keeps; goes = goes-more b f.goes; of = f.of } in
     on-both more g
 
 -- no step yet
-pub on-none : {S : Type 0} (mode : Mode) (took : S → List Call → Type 0) (frames : ℕ → Frame) (split : Splitting) (before : History) (state : State) (piece : List ℕ) (s : S) → Keeps mode frames before state → GoesOn mode took frames (behind split before) split state piece piece s s
+pub on-none : {S : Type 0} (terms : Terms) (took : S → List Call → Type 0) (frames : ℕ → Frame) (split : Splitting) (before : History) (state : State) (piece : List ℕ) (s : S) → Keeps terms.mode frames before state → GoesOn terms took frames (behind split before) split state piece piece s s
 unfolding goes-none
-on-none mode took frames split before state piece s k = record { made = frames; same = agree-none (ended_in before) frames; after = before; grows = not-less (ended_in before); keeps = k; goes = goes-none (judging mode) (took_with frames took) (behind split before) piece s; of = tt }
+on-none terms took frames split before state piece s k = record { made = frames; same = agree-none (ended_in before) frames; after = before; grows = not-less (ended_in before); keeps = k; goes = goes-none (judging terms) (took_with frames took) (behind split before) piece s; of = tt }
 
 -- nothing of the piece is left
-pub on-end : {S : Type 0} {mode : Mode} {took : S → List Call → Type 0} {frames : ℕ → Frame} {old : Standing History} {split : Splitting} {state : State} {piece rest : List ℕ} {s s' : S} → rest ≡ [] → GoesOn mode took frames old split state piece rest s s' → GoesOn mode took frames old split state piece [] s s'
-on-end {mode} {took} {frames} {old} {split} {state} {piece} {s} {s'} e g = subst (λ left. GoesOn mode took frames old split state piece left s s') e g
+pub on-end : {S : Type 0} {terms : Terms} {took : S → List Call → Type 0} {frames : ℕ → Frame} {old : Standing History} {split : Splitting} {state : State} {piece rest : List ℕ} {s s' : S} → rest ≡ [] → GoesOn terms took frames old split state piece rest s s' → GoesOn terms took frames old split state piece [] s s'
+on-end {terms} {took} {frames} {old} {split} {state} {piece} {s} {s'} e g = subst (λ left. GoesOn terms took frames old split state piece left s s') e g
 
 pub none-left : (rest : List ℕ) → (length rest == 0) ≡ true → rest ≡ []
 none-left rest e = nil_from_length rest (eqb-true (length rest) 0 e)
 
 -- no unit has come yet
-pub on-push : {S : Type 0} (mode : Mode) (took : S → List Call → Type 0) (frames : ℕ → Frame) (before : History) (state : State) (s : S) {old mid new : Splitting} {piece : List ℕ} {n : ℕ} → Pushed old mid piece n → new ≡ mid → Keeps mode frames before state → GoesOn mode took frames (behind old before) new state piece (drop n piece) s s
+pub on-push : {S : Type 0} (terms : Terms) (took : S → List Call → Type 0) (frames : ℕ → Frame) (before : History) (state : State) (s : S) {old mid new : Splitting} {piece : List ℕ} {n : ℕ} → Pushed old mid piece n → new ≡ mid → Keeps terms.mode frames before state → GoesOn terms took frames (behind old before) new state piece (drop n piece) s s
 unfolding goes-none-taken goes-push
-on-push mode took frames before state s {old} {mid} {new} {piece} {n} p e k = record { made = frames; same = agree-none (ended_in before) frames; after = before; grows = not-less (ended_in before); keeps = k; goes = goes-none-taken (judging mode) (took_with frames took) old mid new before piece n s p e; of = tt }
+on-push terms took frames before state s {old} {mid} {new} {piece} {n} p e k = record { made = frames; same = agree-none (ended_in before) frames; after = before; grows = not-less (ended_in before); keeps = k; goes = goes-none-taken (judging terms) (took_with frames took) old mid new before piece n s p e; of = tt }
 
 -- a unit
-pub on-unit : {S X : Type 0} {mode : Mode} {took : S → List Call → Type 0} {failures : S → ℕ} {frames : ℕ → Frame} {before : History} {unit : NalUnit} {state : State} {s s' : S} {x : X} {old mid new : Splitting} {piece : List ℕ} {n : ℕ} → Pushed old mid piece n → Taken mid new unit → IsFalse mid.ended → Turns mode took failures frames before unit state s s' (Ok x) → GoesOn mode took frames (behind old before) new state piece (drop n piece) s s'
+pub on-unit : {S X : Type 0} {terms : Terms} {took : S → List Call → Type 0} {failures : S → ℕ} {frames : ℕ → Frame} {before : History} {unit : NalUnit} {state : State} {s s' : S} {x : X} {old mid new : Splitting} {piece : List ℕ} {n : ℕ} → Pushed old mid piece n → Taken mid new unit → IsFalse mid.ended → Turns terms took failures frames before unit state s s' (Ok x) → GoesOn terms took frames (behind old before) new state piece (drop n piece) s s'
 unfolding goes-both goes-push goes-unit
-on-unit {X} {mode} {took} {failures} {frames} {before} {unit} {s} {s'} {x} {old} {mid} {new} {piece} {n} p t live turn =
-    let grows = unit-grows mode before turn.after unit turn.plays.plays.0 in
+on-unit {X} {terms} {took} {failures} {frames} {before} {unit} {s} {s'} {x} {old} {mid} {new} {piece} {n} p t live turn =
+    let grows = unit-grows terms before turn.after unit turn.plays.plays.0 in
     record {
       made = turn.made;
       same = turn.same;
       after = turn.after;
       grows = grows.0;
       keeps = turn.keeps;
-      goes = goes-both (goes-push (judging mode) (took_with turn.made took) old mid before piece n s p) (goes-unit (judging mode) (took_with turn.made took) failures (λ (y : X). turn.after) mid new before unit (drop n piece) s s' x t live turn.plays);
+      goes = goes-both (goes-push (judging terms) (took_with turn.made took) old mid before piece n s p) (goes-unit (judging terms) (took_with turn.made took) failures (λ (y : X). turn.after) mid new before unit (drop n piece) s s' x t live turn.plays);
       of = grows.1;
     }
 
 -- there are units and frames of which it is kept
-pub on-keeps : {S : Type 0} {mode : Mode} {took : S → List Call → Type 0} {frames : ℕ → Frame} {old : Standing History} {split : Splitting} {state : State} {piece left : List ℕ} {s s' : S} → GoesOn mode took frames old split state piece left s s' → KeepsSome mode false state
+pub on-keeps : {S : Type 0} {terms : Terms} {took : S → List Call → Type 0} {frames : ℕ → Frame} {old : Standing History} {split : Splitting} {state : State} {piece left : List ℕ} {s s' : S} → GoesOn terms took frames old split state piece left s s' → KeepsSome terms.mode false state
 on-keeps g = record { frames = g.made; before = g.after; keeps = g.keeps }
 
 -- ---- the end of the input
 
 -- a unit, and then the end
-pub finishes-both : {S X : Type 0} {mode : Mode} {took : S → List Call → Type 0} {failures : S → ℕ} {frames : ℕ → Frame} {before : History} {unit : NalUnit} {state : State} {bit : ℕ} {s s' s'' : S} {x : X} {r : Result Summary Stop} (old mid new : Splitting) (end : ℕ) → Finished old mid → Taken mid new unit → end ≡ new.at + length new.rest → bit ≡ 8 * end → (t : Turns mode took failures frames before unit state s s' (Ok x)) → EndsAll mode took failures t.made t.after bit (λ (y : Summary). y) s' s'' r → FinishesOn mode took failures frames (behind old before) s s'' r
-finishes-both {X} {mode} {took} {failures} {frames} {before} {unit} {s} {s'} {s''} {x} {r} old mid new end f t n e turn last =
-    let grows = unit-grows mode before turn.after unit turn.plays.plays.0 in
-    let first : Plays (took_with last.made took) failures (λ (y : X). turn.after) (unit_outcome mode before unit) s s' (Ok x) = plays-agree took (ended_in turn.after) turn.made last.made failures (λ (y : X). turn.after) (unit_outcome mode before unit) s s' (Ok x) last.same grows.1 turn.plays in
-    let ends : Plays (took_with last.made took) failures (λ (y : Summary). y) (end_outcome mode turn.after (8 * end)) s' s'' r = subst (λ (b : ℕ). Plays (took_with last.made took) failures (λ (y : Summary). y) (end_outcome mode turn.after b) s' s'' r) e last.plays in
+pub finishes-both : {S X : Type 0} {terms : Terms} {took : S → List Call → Type 0} {failures : S → ℕ} {frames : ℕ → Frame} {before : History} {unit : NalUnit} {state : State} {bit : ℕ} {s s' s'' : S} {x : X} {r : Result Summary Stop} (old mid new : Splitting) (end : ℕ) → Finished old mid → Taken mid new unit → end ≡ new.at + length new.rest → bit ≡ 8 * end → (t : Turns terms took failures frames before unit state s s' (Ok x)) → EndsAll terms.mode took failures t.made t.after bit (λ (y : Summary). y) s' s'' r → FinishesOn terms took failures frames (behind old before) s s'' r
+finishes-both {X} {terms} {took} {failures} {frames} {before} {unit} {s} {s'} {s''} {x} {r} old mid new end f t n e turn last =
+    let grows = unit-grows terms before turn.after unit turn.plays.plays.0 in
+    let first : Plays (took_with last.made took) failures (λ (y : X). turn.after) (unit_outcome terms before unit) s s' (Ok x) = plays-agree took (ended_in turn.after) turn.made last.made failures (λ (y : X). turn.after) (unit_outcome terms before unit) s s' (Ok x) last.same grows.1 turn.plays in
+    let ends : Plays (took_with last.made took) failures (λ (y : Summary). y) (end_outcome terms.mode turn.after (8 * end)) s' s'' r = subst (λ (b : ℕ). Plays (took_with last.made took) failures (λ (y : Summary). y) (end_outcome terms.mode turn.after b) s' s'' r) e last.plays in
     record {
       made = last.made;
       same = agree-both (ended_in before) (ended_in turn.after) frames turn.made last.made turn.same grows.0 last.same;
-      finishes = finish-unit (judging mode) (took_with last.made took) failures (λ (y : X). turn.after) old mid new before unit s s' s'' end x r f t first n ends;
+      finishes = finish-unit (judging terms) (took_with last.made took) failures (λ (y : X). turn.after) old mid new before unit s s' s'' end x r f t first n ends;
     }

@@ -1,5 +1,7 @@
 -- A stream has one family of frames.
 use Rattle.std.proofs.Common.{ℕ, Bool, true, false, List, [], ◌∷◌, length, inl, inr, sym, subst}
+use Rattle.h264_judge.specs.Units.{terms_of}
+use Rattle.h264_base.specs.declared.mode.Target.{Target}
 use Rattle.h264_base.specs.declared.mode.Mode.TheVariants as modes
 use Rattle.h264_sps.specs.declared.sps.FrameSize.{FrameSize}
 use Rattle.h264_plane.specs.declared.frame.Frame.{Frame}
@@ -36,11 +38,11 @@ module _ (frames others : ℕ → Frame) where
   ended-read false (p ∷ ps) r = r
 
   -- of the pictures that have ended in units that are legal
-  pub legal-family : (before : History) (calls : List Told) → AreLegal modes.Full before calls → AreDecoded frames calls → AreDecoded others calls → AreSameOn frames others (ended_pictures (goes_on before) false (runs_of before))
-  legal-family before calls l d e =
-      let s = stands before calls l in
+  pub legal-family : (target : Target) (before : History) (calls : List Told) → AreLegal (terms_of modes.Full target) before calls → AreDecoded frames calls → AreDecoded others calls → AreSameOn frames others (ended_pictures (goes_on before) false (runs_of before))
+  legal-family target before calls l d e =
+      let s = stands target before calls l in
       same-on (ended_pictures (goes_on before) false (runs_of before)) (ended-read (goes_on before) (runs_of before) s.read) (s.frames frames d) (s.frames others e)
 
   -- of all pictures of a stream
-  pub one-family : (bytes : List ℕ) (calls : List Told) (summary : Summary) (h : Holds modes.Full bytes calls summary) → AreDecoded frames calls → AreDecoded others calls → AreSameOn frames others (runs_of h.units)
-  one-family bytes calls summary h d e = same-on (runs_of h.units) (stands h.units h.first h.legal).read (all-frames bytes calls summary h frames d) (all-frames bytes calls summary h others e)
+  pub one-family : (target : Target) (bytes : List ℕ) (calls : List Told) (summary : Summary) (h : Holds (terms_of modes.Full target) bytes calls summary) → AreDecoded frames calls → AreDecoded others calls → AreSameOn frames others (runs_of h.units)
+  one-family target bytes calls summary h d e = same-on (runs_of h.units) (stands target h.units h.first h.legal).read (all-frames target bytes calls summary h frames d) (all-frames target bytes calls summary h others e)

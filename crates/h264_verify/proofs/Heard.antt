@@ -1,7 +1,7 @@
 -- A source whose bytes are not known: what it gave so far is judged as a stream of those bytes.
 use Rattle.std.proofs.Common.{◌≡◌, ℕ, zero, suc, List, [], ◌∷◌, ◌++◌, take, drop, Some, refl, ap, sym, ◌∙◌, subst, Err}
 use Rattle.std.proofs.lemmas.List.{append-nil}
-use Rattle.h264_base.specs.declared.mode.Mode.{Mode}
+use Rattle.h264_judge.specs.declared.state.Terms.{Terms}
 use Rattle.h264_base.specs.declared.stop.Stop.{Stop}
 use Rattle.h264_base.specs.declared.stop.Stop.TheVariants.{Read}
 use Rattle.h264_base.specs.Call.{Call}
@@ -25,9 +25,9 @@ read-whole n xs left e =
     (l ∙ sym (append-nil (take n xs)) ∙ ap (λ k. take n xs ++ k) (sym none), ap Some (sym none))
 
 -- These bytes are still to come.
-unfoldable pub fed-ahead : {S : Type 0} {mode : Mode} {took : S → List Call → Type 0} {bytes : List ℕ} {session : Progress} {s s' : S} (more : List ℕ) → FedOn mode took (Some []) bytes session s s' → FedOn mode took (Some more) (bytes ++ more) session s s'
+unfoldable pub fed-ahead : {S : Type 0} {terms : Terms} {took : S → List Call → Type 0} {bytes : List ℕ} {session : Progress} {s s' : S} (more : List ℕ) → FedOn terms took (Some []) bytes session s s' → FedOn terms took (Some more) (bytes ++ more) session s s'
 fed-ahead {bytes = bytes} more f = record {
-  mode_is = f.mode_is;
+  terms_is = f.terms_is;
   frames = f.frames;
   after = f.after;
   keeps = f.keeps;
@@ -36,19 +36,19 @@ fed-ahead {bytes = bytes} more f = record {
 }
 
 -- a piece more
-pub heard-more : {S : Type 0} {mode : Mode} {took : S → List Call → Type 0} {bytes : List ℕ} {old new : Progress} {s0 s1 s2 : S} (piece : List ℕ) (n : ℕ) → new.mode ≡ old.mode → (f : FedOn mode took (Some []) bytes old s0 s1) → GoesOn old.mode took f.frames (behind old.split f.after) new.split new.state (take n piece) [] s1 s2 → FedOn mode took (Some []) (bytes ++ take n piece) new s0 s2
+pub heard-more : {S : Type 0} {terms : Terms} {took : S → List Call → Type 0} {bytes : List ℕ} {old new : Progress} {s0 s1 s2 : S} (piece : List ℕ) (n : ℕ) → new.terms ≡ old.terms → (f : FedOn terms took (Some []) bytes old s0 s1) → GoesOn old.terms took f.frames (behind old.split f.after) new.split new.state (take n piece) [] s1 s2 → FedOn terms took (Some []) (bytes ++ take n piece) new s0 s2
 unfolding fed-ahead
 heard-more piece n m f q = fed-more (Some []) piece n m (read-whole n piece) (fed-ahead (take n piece) f) q
 
 -- a stop at one
-pub heard-halts : {S : Type 0} {mode : Mode} {took : S → List Call → Type 0} {failures : S → ℕ} {bytes : List ℕ} {old : Progress} {s0 s1 s2 : S} {stop : Stop} (piece : List ℕ) (n : ℕ) → (f : FedOn mode took (Some []) bytes old s0 s1) → failures s1 ≡ failures s0 → StopsOn old.mode took failures f.frames (behind old.split f.after) (take n piece) s1 s2 stop → JudgesWith mode took failures (bytes ++ take n piece) s0 s2 (Err stop)
+pub heard-halts : {S : Type 0} {terms : Terms} {took : S → List Call → Type 0} {failures : S → ℕ} {bytes : List ℕ} {old : Progress} {s0 s1 s2 : S} {stop : Stop} (piece : List ℕ) (n : ℕ) → (f : FedOn terms took (Some []) bytes old s0 s1) → failures s1 ≡ failures s0 → StopsOn old.terms took failures f.frames (behind old.split f.after) (take n piece) s1 s2 stop → JudgesWith terms took failures (bytes ++ take n piece) s0 s2 (Err stop)
 unfolding fed-ahead
 heard-halts piece n f k q = fed-halts (Some []) piece n (read-whole n piece) (fed-ahead (take n piece) f) k q
 
 -- none
-pub heard-none : {S : Type 0} {mode : Mode} {took : S → List Call → Type 0} {bytes : List ℕ} {session : Progress} {s s' : S} → FedOn mode took (Some []) bytes session s s' → FedOn mode took (Some []) (bytes ++ []) session s s'
-heard-none {S} {mode} {took} {bytes} {session} {s} {s'} f = subst (λ l. FedOn mode took (Some []) l session s s') (sym (append-nil bytes)) f
+pub heard-none : {S : Type 0} {terms : Terms} {took : S → List Call → Type 0} {bytes : List ℕ} {session : Progress} {s s' : S} → FedOn terms took (Some []) bytes session s s' → FedOn terms took (Some []) (bytes ++ []) session s s'
+heard-none {S} {terms} {took} {bytes} {session} {s} {s'} f = subst (λ l. FedOn terms took (Some []) l session s s') (sym (append-nil bytes)) f
 
 -- the source failed
-pub heard-fails : {S : Type 0} {mode : Mode} {took : S → List Call → Type 0} {failures : S → ℕ} {bytes : List ℕ} {session : Progress} {s s' : S} → FedOn mode took (Some []) bytes session s s' → failures s' ≡ failures s → JudgesWith mode took failures (bytes ++ []) s s' (Err Read)
-heard-fails {S} {mode} {took} {failures} {bytes} {session} {s} {s'} f k = subst (λ l. JudgesWith mode took failures l s s' (Err Read)) (sym (append-nil bytes)) (fed-fails f k)
+pub heard-fails : {S : Type 0} {terms : Terms} {took : S → List Call → Type 0} {failures : S → ℕ} {bytes : List ℕ} {session : Progress} {s s' : S} → FedOn terms took (Some []) bytes session s s' → failures s' ≡ failures s → JudgesWith terms took failures (bytes ++ []) s s' (Err Read)
+heard-fails {S} {terms} {took} {failures} {bytes} {session} {s} {s'} f k = subst (λ l. JudgesWith terms took failures l s s' (Err Read)) (sym (append-nil bytes)) (fed-fails f k)

@@ -1,6 +1,8 @@
 -- What legal units leave: slices that were read, pictures that are sound, and frames of those that have ended.
 use Rattle.std.proofs.Common.{◌≡◌, ℕ, ◌*◌, ◌||◌, ◌&&◌, not, Bool, true, false, List, [], ◌∷◌, ◌++◌, length, Option, Some, None, Ok, refl, sym, ◌∙◌, subst, if◌then◌else◌}
 use Rattle.std.specs.Option.{is_some}
+use Rattle.h264_judge.specs.Units.{terms_of}
+use Rattle.h264_base.specs.declared.mode.Target.{Target}
 use Rattle.h264_base.specs.declared.mode.Mode.TheVariants as modes
 use Rattle.h264_base.specs.Grammar.{Done, ◌>>=◌}
 use Rattle.h264_cavlc.proofs.Gives.{Gives, gives-done, gives-bind}
@@ -256,26 +258,26 @@ module _ (before : History) (unit : NalUnit) (earlier last : List Told) (s : Sta
   by-content c (contents.OfSlice h ms) bit rest top e k m d r = with-data h c bit rest top k m d r (sets_at before h) refl k.named
   by-content c contents.Passed bit rest top e k m d r = subst (λ y. Stands (one_more y) (earlier ++ last)) (sym (rest-ends (body_of unit) contents.Passed c rest r)) (passed-stands e contents.Passed tt)
 
-stands-next : (before : History) (r : ReadUnit) (earlier last : List Told) → Stands before earlier → IsLegal modes.Full before r last → Stands (r ∷ before) (earlier ++ last)
-stands-next before r earlier last s l =
-    let m = has-met before r last l in
-    by-content before r.unit earlier last s r.content m.found m.bit m.rest m.header m.ends (is-content before r.unit r.content last m) m.rules m.frames m.behind
+stands-next : (target : Target) (before : History) (r : ReadUnit) (earlier last : List Told) → Stands before earlier → IsLegal (terms_of modes.Full target) before r last → Stands (r ∷ before) (earlier ++ last)
+stands-next target before r earlier last s l =
+    let m = has-met target before r last l in
+    by-content before r.unit earlier last s r.content m.found m.bit m.rest m.header m.ends (is-content target before r.unit r.content last m) m.rules m.frames m.behind
 
-pub stands : (before : History) (calls : List Told) → AreLegal modes.Full before calls → Stands before calls
-stands [] calls l = record { read = tt; active = refl; sound = tt; frames = λ frames d. tt }
-stands (r ∷ before) calls l = subst (Stands (r ∷ before)) (sym l.4) (stands-next before r l.0 l.1 (stands before l.0 l.2) l.3)
+pub stands : (target : Target) (before : History) (calls : List Told) → AreLegal (terms_of modes.Full target) before calls → Stands before calls
+stands target [] calls l = record { read = tt; active = refl; sound = tt; frames = λ frames d. tt }
+stands target (r ∷ before) calls l = subst (Stands (r ∷ before)) (sym l.4) (stands-next target before r l.0 l.1 (stands target before l.0 l.2) l.3)
 
 -- their slices were read
-pub legal-read : (before : History) (calls : List Told) → AreLegal modes.Full before calls → AreRead (runs_of before)
-legal-read before calls l = (stands before calls l).read
+pub legal-read : (target : Target) (before : History) (calls : List Told) → AreLegal (terms_of modes.Full target) before calls → AreRead (runs_of before)
+legal-read target before calls l = (stands target before calls l).read
 
 -- the pictures that have ended have their frames
-pub legal-frames : (before : History) (calls : List Told) → AreLegal modes.Full before calls → (frames : ℕ → Frame) → AreDecoded frames calls → HaveFrames frames (ended_pictures (goes_on before) false (runs_of before))
-legal-frames before calls l frames d = (stands before calls l).frames frames d
+pub legal-frames : (target : Target) (before : History) (calls : List Told) → AreLegal (terms_of modes.Full target) before calls → (frames : ℕ → Frame) → AreDecoded frames calls → HaveFrames frames (ended_pictures (goes_on before) false (runs_of before))
+legal-frames target before calls l frames d = (stands target before calls l).frames frames d
 
 -- ---- at the end of the input
 
-module _ (bytes : List ℕ) (calls : List Told) (summary : Summary) (h : Holds modes.Full bytes calls summary) where
+module _ (target : Target) (bytes : List ℕ) (calls : List Told) (summary : Summary) (h : Holds (terms_of modes.Full target) bytes calls summary) where
   abbrev shown : List Step
   shown = needs (picture_demand modes.Full h.units (8 * length bytes) ∷ []) ++ last_frames modes.Full (runs_of h.units)
 
@@ -284,12 +286,12 @@ module _ (bytes : List ℕ) (calls : List Told) (summary : Summary) (h : Holds m
   all-frames frames d =
       let all = subst (AreDecoded frames) h.calls_are d in
       let last = have-decoded frames (end_steps modes.Full h.units (8 * length bytes)) h.last h.end (decoded-last frames h.first h.last all) in
-      closes frames (goes_on h.units) (runs_of h.units) (legal-frames h.units h.first h.legal frames (decoded-first frames h.first h.last all))
+      closes frames (goes_on h.units) (runs_of h.units) (legal-frames target h.units h.first h.legal frames (decoded-first frames h.first h.last all))
       (have-first frames (closing_frames modes.Full h.units) shown (have-last frames (needs (closing_demands h.units)) (closing_frames modes.Full h.units ++ shown) (have-last frames (whole_steps modes.Full h.units) (needs (closing_demands h.units) ++ (closing_frames modes.Full h.units ++ shown)) last)))
 
   -- and all have ended
   pub all-sound : AreSound true (runs_of h.units)
   all-sound =
       let last = met (end_steps modes.Full h.units (8 * length bytes)) h.last h.end in
-      closes-sound (goes_on h.units) (runs_of h.units) (stands h.units h.first h.legal).sound
+      closes-sound (goes_on h.units) (runs_of h.units) (stands target h.units h.first h.legal).sound
       (met-first (needs (closing_demands h.units)) (closing_frames modes.Full h.units ++ shown) (met-last (whole_steps modes.Full h.units) (needs (closing_demands h.units) ++ (closing_frames modes.Full h.units ++ shown)) last))

@@ -1,6 +1,8 @@
 -- What a unit that is legal has met, and what it tells of decoded pictures.
 use Rattle.std.proofs.Common.{◌≡◌, ℕ, ◌*◌, ◌==◌, Bool, true, false, IsTrue, List, [], ◌∷◌, ◌++◌, length, inl, inr, Option, Some, None, Result, Ok, Err, refl, ap, sym, subst, if◌then◌else◌}
 use Rattle.std.specs.Option.{is_some}
+use Rattle.h264_judge.specs.Units.{terms_of}
+use Rattle.h264_base.specs.declared.mode.Target.{Target}
 use Rattle.h264_base.specs.declared.mode.Mode.TheVariants as modes
 use Rattle.h264_base.specs.declared.stop.Stop.{Stop}
 use Rattle.h264_base.specs.declared.stop.Stop.TheVariants.{No}
@@ -151,28 +153,28 @@ pub record HasEnded (before : History) (unit : NalUnit) (calls : List Told) : Ty
   pub decoded : (frames : ℕ → Frame) → AreDecoded frames calls → HaveDecoded frames (end_steps_at before unit)
 
 -- What a unit behind these with this content has met, in its parts.
-pub record HasMet (before : History) (unit : NalUnit) (c : Content) (calls : List Told) : Type 0 where
+pub record HasMet (target : Target) (before : History) (unit : NalUnit) (c : Content) (calls : List Told) : Type 0 where
   pub header : Met (byte_steps unit)
   pub ends : HasEnded before unit calls
   pub found : Content
   pub bit : ℕ
   pub elements : List Element
-  pub says : Says (content modes.Full (nal_unit_type (header_of unit)) before unit) (body_of unit) 0 elements (Ok (found, bit))
+  pub says : Says (content (terms_of modes.Full target) (nal_unit_type (header_of unit)) before unit) (body_of unit) 0 elements (Ok (found, bit))
   pub rules : Met (content_steps modes.Full before unit found)
   pub frames : (frames : ℕ → Frame) → AreDecoded frames calls → HaveDecoded frames (content_steps modes.Full before unit found)
   pub rest : List Told
   pub behind : Runs (body_of unit) (data_course modes.Full before unit found bit) rest (Ok c)
 
-pub has-met : (before : History) (r : ReadUnit) (calls : List Told) → IsLegal modes.Full before r calls → HasMet before r.unit r.content calls
-has-met before r calls l =
+pub has-met : (target : Target) (before : History) (r : ReadUnit) (calls : List Told) → IsLegal (terms_of modes.Full target) before r calls → HasMet target before r.unit r.content calls
+has-met target before r calls l =
     let unit = r.unit in
     let body = body_of unit in
     let kind = nal_unit_type (header_of unit) in
     let c = r.content in
-    let first = takes body (byte_steps unit) (Takes (said_steps unit) (Takes (end_steps_at before unit) (content_course modes.Full before unit))) calls c l.runs in
-    let second = takes body (said_steps unit) (Takes (end_steps_at before unit) (content_course modes.Full before unit)) first.1 c first.3 in
-    let third = takes body (end_steps_at before unit) (content_course modes.Full before unit) second.1 c second.3 in
-    let fourth = reads body (content modes.Full kind before unit) 0 (behind_content before unit) third.1 c third.3 in
+    let first = takes body (byte_steps unit) (Takes (said_steps unit) (Takes (end_steps_at before unit) (content_course (terms_of modes.Full target) before unit))) calls c l.runs in
+    let second = takes body (said_steps unit) (Takes (end_steps_at before unit) (content_course (terms_of modes.Full target) before unit)) first.1 c first.3 in
+    let third = takes body (end_steps_at before unit) (content_course (terms_of modes.Full target) before unit) second.1 c second.3 in
+    let fourth = reads body (content (terms_of modes.Full target) kind before unit) 0 (behind_content before unit) third.1 c third.3 in
     let fifth = takes body (content_steps modes.Full before unit fourth.1) (data_course modes.Full before unit fourth.1 fourth.2) fourth.3 c fourth.5 in
     let inner : (frames : ℕ → Frame) → AreDecoded frames calls → AreDecoded frames second.1 = λ frames d.
     decoded-behind frames first.1 second.0 second.1 second.4 (decoded-behind frames calls first.0 first.1 first.4 d) in
@@ -233,14 +235,14 @@ IsContent before unit contents.Passed = Unit {0}
 other-gives : (kind : ℕ) (before : History) (unit : NalUnit) → Gives (other_content modes.Full kind before unit) (IsContent before unit)
 other-gives kind before unit = gives-if (IsContent before unit) (is_slice kind) _ _ (gives-bind _ (IsContent before unit) _ _ (header-gives (sets_of (maps_of before)) (slice_unit unit)) (λ h i. gives-done (IsContent before unit) _ i)) (gives-done (IsContent before unit) _ tt)
 
-content-gives : (kind : ℕ) (before : History) (unit : NalUnit) → Gives (content modes.Full kind before unit) (IsContent before unit)
+content-gives : (target : Target) (kind : ℕ) (before : History) (unit : NalUnit) → Gives (content (terms_of modes.Full target) kind before unit) (IsContent before unit)
 unfolding content
-content-gives kind before unit =
-    gives-if (IsContent before unit) (kind == 7) _ _ (gives-bind _ (IsContent before unit) _ _ (gives-any sps) (λ set a. gives-done (IsContent before unit) _ tt))
-    (gives-if (IsContent before unit) (kind == 8) _ _ (gives-bind _ (IsContent before unit) _ _ (gives-any pps) (λ set a. gives-done (IsContent before unit) _ tt)) (other-gives kind before unit))
+content-gives target kind before unit =
+    gives-if (IsContent before unit) (kind == 7) _ _ (gives-bind _ (IsContent before unit) _ _ (gives-any (sps target)) (λ set a. gives-done (IsContent before unit) _ tt))
+    (gives-if (IsContent before unit) (kind == 8) _ _ (gives-bind _ (IsContent before unit) _ _ (gives-any (pps target)) (λ set a. gives-done (IsContent before unit) _ tt)) (other-gives kind before unit))
 
-pub is-content : (before : History) (unit : NalUnit) (c : Content) (calls : List Told) (m : HasMet before unit c calls) → IsContent before unit m.found
-is-content before unit c calls m = given (IsContent before unit) _ (body_of unit) 0 m.elements m.found m.bit (content-gives (nal_unit_type (header_of unit)) before unit) m.says
+pub is-content : (target : Target) (before : History) (unit : NalUnit) (c : Content) (calls : List Told) (m : HasMet target before unit c calls) → IsContent before unit m.found
+is-content target before unit c calls m = given (IsContent before unit) _ (body_of unit) 0 m.elements m.found m.bit (content-gives target (nal_unit_type (header_of unit)) before unit) m.says
 
 -- a slice of an IDR picture has a marking that leaves its frame alone
 leaves-alone : (marking : Option (Found Marking)) → is_some marking ≡ true → is_own marking ≡ true → LeavesAlone marking

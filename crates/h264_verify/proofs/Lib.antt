@@ -16,3 +16,4 @@ pub mod Bounds
 pub mod Family
 pub mod Output
 pub mod Stopping
+pub mod Targets

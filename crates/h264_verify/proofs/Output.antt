@@ -1,6 +1,8 @@
 -- What a sink is told of a stream, frames among it, is one list of calls.
 use Rattle.std.proofs.Common.{◌≡◌, ℕ, false, ◌+◌, ◌-◌, ◌*◌, ◌<◌, ◌≤◌, List, [], ◌∷◌, length, ℤ, refl, ap, sym, ◌∙◌, subst, arith, ⊎_elim}
 use Rattle.std.proofs.lemmas.Bool.{cases_lt}
+use Rattle.h264_judge.specs.Units.{terms_of}
+use Rattle.h264_base.specs.declared.mode.Target.{Target}
 use Rattle.h264_base.specs.declared.mode.Mode.TheVariants as modes
 use Rattle.h264_base.specs.Call.{Call, OfFrame}
 use Rattle.h264_plane.specs.declared.frame.Component.{Component}
@@ -74,24 +76,24 @@ module _ (frames others : ℕ → Frame) where
 
 -- ---- what legal units tell is of the pictures that have ended
 
-pub legal-of : (before : History) (told : List Told) → AreLegal modes.Full before told → AreOf (ended_in before) told
-legal-of [] told l = subst (AreOf (ended_in [])) (sym l) tt
-legal-of (r ∷ before) told l =
-    let e = legal-unit modes.Full before r l.1 l.3 in
-    let g = unit-grows modes.Full before (r ∷ before) r.unit (ap (λ (o : Outcome History). o.answer) e) in
+pub legal-of : (target : Target) (before : History) (told : List Told) → AreLegal (terms_of modes.Full target) before told → AreOf (ended_in before) told
+legal-of target [] told l = subst (AreOf (ended_in [])) (sym l) tt
+legal-of target (r ∷ before) told l =
+    let e = legal-unit (terms_of modes.Full target) before r l.1 l.3 in
+    let g = unit-grows (terms_of modes.Full target) before (r ∷ before) r.unit (ap (λ (o : Outcome History). o.answer) e) in
     let last : AreOf (ended_in (r ∷ before)) l.1 = subst (AreOf (ended_in (r ∷ before))) (ap (λ (o : Outcome History). o.calls) e) g.1 in
-    subst (AreOf (ended_in (r ∷ before))) (sym l.4) (of-both (ended_in (r ∷ before)) l.0 l.1 (of-more (ended_in before) (ended_in (r ∷ before)) l.0 g.0 (legal-of before l.0 l.2)) last)
+    subst (AreOf (ended_in (r ∷ before))) (sym l.4) (of-both (ended_in (r ∷ before)) l.0 l.1 (of-more (ended_in before) (ended_in (r ∷ before)) l.0 g.0 (legal-of target before l.0 l.2)) last)
 
 module _ (frames others : ℕ → Frame) where
-  pub legal-output : (before : History) (told : List Told) → AreLegal modes.Full before told → AreDecoded frames told → AreDecoded others told → calls_of frames told ≡ calls_of others told
-  legal-output before told l d e =
+  pub legal-output : (target : Target) (before : History) (told : List Told) → AreLegal (terms_of modes.Full target) before told → AreDecoded frames told → AreDecoded others told → calls_of frames told ≡ calls_of others told
+  legal-output target before told l d e =
       let pictures = ended_pictures (goes_on before) false (runs_of before) in
-      calls-same frames others (length pictures) told (shown-alike frames others pictures (legal-family frames others before told l d e) (legal-frames before told l frames d) (legal-frames before told l others e)) (legal-of before told l)
+      calls-same frames others (length pictures) told (shown-alike frames others pictures (legal-family frames others target before told l d e) (legal-frames target before told l frames d) (legal-frames target before told l others e)) (legal-of target before told l)
 
-  pub one-output : (bytes : List ℕ) (told : List Told) (summary : Summary) → Holds modes.Full bytes told summary → AreDecoded frames told → AreDecoded others told → calls_of frames told ≡ calls_of others told
-  one-output bytes told summary h d e =
+  pub one-output : (target : Target) (bytes : List ℕ) (told : List Told) (summary : Summary) → Holds (terms_of modes.Full target) bytes told summary → AreDecoded frames told → AreDecoded others told → calls_of frames told ≡ calls_of others told
+  one-output target bytes told summary h d e =
       let n = length (runs_of h.units) in
       let met : (steps_outcome (end_steps modes.Full h.units (8 * length bytes))).calls ≡ h.last = ap (λ (o : Outcome (Unit {0})). o.calls) (met-is (end_steps modes.Full h.units (8 * length bytes)) h.last h.end) in
       let last : AreOf n h.last = subst (AreOf n) met (end-of modes.Full h.units (8 * length bytes)) in
-      let first : AreOf n h.first = of-more (ended_in h.units) n h.first (ended-few (goes_on h.units) (runs_of h.units)) (legal-of h.units h.first h.legal) in
-      calls-same frames others n told (shown-alike frames others (runs_of h.units) (one-family frames others bytes told summary h d e) (all-frames bytes told summary h frames d) (all-frames bytes told summary h others e)) (subst (AreOf n) (sym h.calls_are) (of-both n h.first h.last first last))
+      let first : AreOf n h.first = of-more (ended_in h.units) n h.first (ended-few (goes_on h.units) (runs_of h.units)) (legal-of target h.units h.first h.legal) in
+      calls-same frames others n told (shown-alike frames others (runs_of h.units) (one-family frames others target bytes told summary h d e) (all-frames target bytes told summary h frames d) (all-frames target bytes told summary h others e)) (subst (AreOf n) (sym h.calls_are) (of-both n h.first h.last first last))

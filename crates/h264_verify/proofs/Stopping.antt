@@ -1,5 +1,7 @@
 -- What a sink is told of a stream up to a stop is one list of calls too.
 use Rattle.std.proofs.Common.{◌≡◌, ℕ, ◌*◌, arith, Bool, true, false, List, [], ◌∷◌, ◌++◌, length, ◌⊎◌, inl, inr, Option, Some, None, Result, Ok, Err, refl, ap, sym, ◌∙◌, subst, if◌then◌else◌}
+use Rattle.h264_judge.specs.Units.{terms_of}
+use Rattle.h264_base.specs.declared.mode.Target.{Target}
 use Rattle.h264_base.specs.declared.mode.Mode.TheVariants as modes
 use Rattle.h264_base.specs.declared.stop.Stop.{Stop}
 use Rattle.h264_base.specs.Body.{Body}
@@ -78,12 +80,12 @@ module _ (Q : List Told → Type 0) where
   data-keeps before unit (contents.OfSlice h ms) bit = λ found end. tt
   data-keeps before unit contents.Passed bit = tt
 
-  unit-keeps : (before : History) (unit : NalUnit) → UnitKeeps before unit → AreKept (unit_course modes.Full before unit)
-  unit-keeps before unit k = (k.rules (header_demands (8 * unit.from) (header_of unit)), (k.said (unit_call unit.from (header_of unit) (length unit.body)), (k.ends, λ found bit. (content-keeps before unit k found, data-keeps before unit found bit))))
+  unit-keeps : (target : Target) (before : History) (unit : NalUnit) → UnitKeeps before unit → AreKept (unit_course (terms_of modes.Full target) before unit)
+  unit-keeps target before unit k = (k.rules (header_demands (8 * unit.from) (header_of unit)), (k.said (unit_call unit.from (header_of unit) (length unit.body)), (k.ends, λ found bit. (content-keeps before unit k found, data-keeps before unit found bit))))
 
-  stop-keeps : IsClosed → (before : History) (unit : NalUnit) → UnitKeeps before unit → (stop : Stop) (calls : List Told) → IsStop modes.Full before unit stop calls → Q calls
-  stop-keeps c before unit k stop calls (AtBytes place fault e n) = subst Q (sym n) c.none
-  stop-keeps c before unit k stop calls (InCourse sound runs) = course-keeps c (body_of unit) (unit_course modes.Full before unit) (unit-keeps before unit k) calls (Err stop) runs
+  stop-keeps : IsClosed → (target : Target) (before : History) (unit : NalUnit) → UnitKeeps before unit → (stop : Stop) (calls : List Told) → IsStop (terms_of modes.Full target) before unit stop calls → Q calls
+  stop-keeps c target before unit k stop calls (AtBytes place fault e n) = subst Q (sym n) c.none
+  stop-keeps c target before unit k stop calls (InCourse sound runs) = course-keeps c (body_of unit) (unit_course (terms_of modes.Full target) before unit) (unit-keeps target before unit k) calls (Err stop) runs
 
 -- ---- it is of the pictures so far
 
@@ -96,13 +98,13 @@ of-keeps n steps h = record {
   stops = λ calls stop m. subst (AreOf n) (ap (λ (o : Outcome (Unit {0})). o.calls) (stop-is steps calls stop m)) (steps-of n steps h);
 }
 
-of-unit : (before : History) (unit : NalUnit) → UnitKeeps (AreOf (length (runs_of before))) before unit
-of-unit before unit =
+of-unit : (target : Target) (before : History) (unit : NalUnit) → UnitKeeps (AreOf (length (runs_of before))) before unit
+of-unit target before unit =
     let n = length (runs_of before) in
     record {
       rules = λ ds. of-keeps n (needs ds) (needs-of n ds);
       said = λ call. of-keeps n (Tells (Said call) ∷ []) (tt, tt);
-      ends = of-keeps n (end_steps_at before unit) (picture-end-of modes.Full before unit n (λ e. omega arith));
+      ends = of-keeps n (end_steps_at before unit) (picture-end-of (terms_of modes.Full target) before unit n (λ e. omega arith));
       slice = λ h. of-keeps n (slice_steps modes.Full before unit h) (slice-of n modes.Full before unit h (λ e. omega arith));
     }
 
@@ -248,17 +250,17 @@ module _ (before : History) (p : CodedPicture) (ps : List CodedPicture) (runs : 
       steps-fair (whole_steps modes.Full before) (needs (closing_demands before) ++ rest) whole-fair
       (steps-fair (needs (closing_demands before)) rest (needs-fair (closing_demands before)) (closing-fair (needs (picture_demand modes.Full before bit ∷ []) ++ last_frames modes.Full (runs_of before))))
 
-  behind-fair : (units : List NalUnit) (tail : Tail) (end : ℕ) (stop : Stop) (calls : List Told) → IsStopBehind modes.Full before units tail end stop calls → IsFair calls
-  behind-fair units tail end stop calls (AtNext unit later e h) = stop-keeps IsFair fair-closed before unit (fair-unit unit) stop calls h
-  behind-fair units tail end stop calls (AtTail e h n) = none-fair calls n
-  behind-fair units tail end stop calls (AtEnd e t h) = stop-fair (end_steps modes.Full before (8 * end)) (end-fair (8 * end)) calls stop h
+  behind-fair : (target : Target) (units : List NalUnit) (tail : Tail) (end : ℕ) (stop : Stop) (calls : List Told) → IsStopBehind (terms_of modes.Full target) before units tail end stop calls → IsFair calls
+  behind-fair target units tail end stop calls (AtNext unit later e h) = stop-keeps IsFair fair-closed target before unit (fair-unit unit) stop calls h
+  behind-fair target units tail end stop calls (AtTail e h n) = none-fair calls n
+  behind-fair target units tail end stop calls (AtEnd e t h) = stop-fair (end_steps modes.Full before (8 * end)) (end-fair (8 * end)) calls stop h
 
 -- ---- a stop
 
-behind-of : (before : History) (units : List NalUnit) (tail : Tail) (end : ℕ) (stop : Stop) (calls : List Told) → IsStopBehind modes.Full before units tail end stop calls → AreOf (length (runs_of before)) calls
-behind-of before units tail end stop calls (AtNext unit later e h) = stop-keeps (AreOf (length (runs_of before))) (of-closed (length (runs_of before))) before unit (of-unit before unit) stop calls h
-behind-of before units tail end stop calls (AtTail e h n) = subst (AreOf (length (runs_of before))) (sym n) tt
-behind-of before units tail end stop calls (AtEnd e t h) = subst (AreOf (length (runs_of before))) (ap (λ (o : Outcome (Unit {0})). o.calls) (stop-is (end_steps modes.Full before (8 * end)) calls stop h)) (end-of modes.Full before (8 * end))
+behind-of : (target : Target) (before : History) (units : List NalUnit) (tail : Tail) (end : ℕ) (stop : Stop) (calls : List Told) → IsStopBehind (terms_of modes.Full target) before units tail end stop calls → AreOf (length (runs_of before)) calls
+behind-of target before units tail end stop calls (AtNext unit later e h) = stop-keeps (AreOf (length (runs_of before))) (of-closed (length (runs_of before))) target before unit (of-unit target before unit) stop calls h
+behind-of target before units tail end stop calls (AtTail e h n) = subst (AreOf (length (runs_of before))) (sym n) tt
+behind-of target before units tail end stop calls (AtEnd e t h) = subst (AreOf (length (runs_of before))) (ap (λ (o : Outcome (Unit {0})). o.calls) (stop-is (end_steps modes.Full before (8 * end)) calls stop h)) (end-of modes.Full before (8 * end))
 
 shy-of : (before : History) (p : CodedPicture) (ps : List CodedPicture) (runs : runs_of before ≡ p ∷ ps) (on : goes_on before ≡ true) (n : ℕ) (calls : List Told) → AreShy before p ps runs on calls → AreOf n calls
 shy-of before p ps runs on n [] h = tt
@@ -270,16 +272,16 @@ shy-of before p ps runs on n (Shows e ∷ calls) h = absurd h
 abbrev IsEnded : History → List Told → Type 0
 IsEnded before calls = AreOf (ended_in before) calls ⊎ (AreOf (length (runs_of before)) calls × ((frames : ℕ → Frame) → AreDecoded frames calls → HasFrame frames (runs_of before)))
 
-behind-ended : (before : History) (units : List NalUnit) (tail : Tail) (end : ℕ) (stop : Stop) (calls : List Told) → IsStopBehind modes.Full before units tail end stop calls → (on : Bool) → goes_on before ≡ on → (pictures : List CodedPicture) → runs_of before ≡ pictures → IsEnded before calls
-behind-ended before units tail end stop calls h false on pictures runs =
+behind-ended : (target : Target) (before : History) (units : List NalUnit) (tail : Tail) (end : ℕ) (stop : Stop) (calls : List Told) → IsStopBehind (terms_of modes.Full target) before units tail end stop calls → (on : Bool) → goes_on before ≡ on → (pictures : List CodedPicture) → runs_of before ≡ pictures → IsEnded before calls
+behind-ended target before units tail end stop calls h false on pictures runs =
     let same : ended_in before ≡ length (runs_of before) = ap (λ (b : Bool). length (ended_pictures b false (runs_of before))) on ∙ ended-whole (runs_of before) in
-    inl (subst (λ n. AreOf n calls) (sym same) (behind-of before units tail end stop calls h))
-behind-ended before units tail end stop calls h true on [] runs = inr (behind-of before units tail end stop calls h, λ frames d. subst (HasFrame frames) (sym runs) tt)
-behind-ended before units tail end stop calls h true on (p ∷ ps) runs = by (behind-fair before p ps runs on units tail end stop calls h)
+    inl (subst (λ n. AreOf n calls) (sym same) (behind-of target before units tail end stop calls h))
+behind-ended target before units tail end stop calls h true on [] runs = inr (behind-of target before units tail end stop calls h, λ frames d. subst (HasFrame frames) (sym runs) tt)
+behind-ended target before units tail end stop calls h true on (p ∷ ps) runs = by (behind-fair before p ps runs on target units tail end stop calls h)
   where
     by : IsFair before p ps runs on calls → IsEnded before calls
     by (inl shy) = inl (shy-of before p ps runs on (ended_in before) calls shy)
-    by (inr knows) = inr (behind-of before units tail end stop calls h, λ frames d. subst (HasFrame frames) (sym runs) (knows frames d))
+    by (inr knows) = inr (behind-of target before units tail end stop calls h, λ frames d. subst (HasFrame frames) (sym runs) (knows frames d))
 
 -- the newest of these pictures has ended too
 newest-frames : (frames : ℕ → Frame) (on : Bool) (pictures : List CodedPicture) → HaveFrames frames (ended_pictures on false pictures) → HasFrame frames pictures → HaveFrames frames pictures
@@ -288,24 +290,24 @@ newest-frames frames true (p ∷ ps) h k = (k, h)
 newest-frames frames false (p ∷ ps) h k = h
 
 module _ (frames others : ℕ → Frame) where
-  stop-output : (before : History) (first last all : List Told) → AreLegal modes.Full before first → all ≡ first ++ last → IsEnded before last → AreDecoded frames all → AreDecoded others all → calls_of frames all ≡ calls_of others all
-  stop-output before first last all l e (inl of) d d' =
+  stop-output : (target : Target) (before : History) (first last all : List Told) → AreLegal (terms_of modes.Full target) before first → all ≡ first ++ last → IsEnded before last → AreDecoded frames all → AreDecoded others all → calls_of frames all ≡ calls_of others all
+  stop-output target before first last all l e (inl of) d d' =
       let pictures = ended_pictures (goes_on before) false (runs_of before) in
       let one = decoded-first frames first last (subst (AreDecoded frames) e d) in
       let other = decoded-first others first last (subst (AreDecoded others) e d') in
-      let shown = shown-alike frames others pictures (legal-family frames others before first l one other) (legal-frames before first l frames one) (legal-frames before first l others other) in
-      calls-same frames others (length pictures) all shown (subst (AreOf (length pictures)) (sym e) (of-both (length pictures) first last (legal-of before first l) of))
-  stop-output before first last all l e (inr more) d d' =
+      let shown = shown-alike frames others pictures (legal-family frames others target before first l one other) (legal-frames target before first l frames one) (legal-frames target before first l others other) in
+      calls-same frames others (length pictures) all shown (subst (AreOf (length pictures)) (sym e) (of-both (length pictures) first last (legal-of target before first l) of))
+  stop-output target before first last all l e (inr more) d d' =
       let pictures = runs_of before in
       let n = length pictures in
       let whole : (family : ℕ → Frame) → AreDecoded family all → HaveFrames family pictures = λ family x.
       let y = subst (AreDecoded family) e x in
-      newest-frames family (goes_on before) pictures (legal-frames before first l family (decoded-first family first last y)) (more.1 family (decoded-last family first last y)) in
-      let shown = shown-alike frames others pictures (same-on frames others pictures (legal-read before first l) (whole frames d) (whole others d')) (whole frames d) (whole others d') in
-      let of = of-both n first last (of-more (ended_in before) n first (ended-few (goes_on before) pictures) (legal-of before first l)) more.0 in
+      newest-frames family (goes_on before) pictures (legal-frames target before first l family (decoded-first family first last y)) (more.1 family (decoded-last family first last y)) in
+      let shown = shown-alike frames others pictures (same-on frames others pictures (legal-read target before first l) (whole frames d) (whole others d')) (whole frames d) (whole others d') in
+      let of = of-both n first last (of-more (ended_in before) n first (ended-few (goes_on before) pictures) (legal-of target before first l)) more.0 in
       calls-same frames others n all shown (subst (AreOf n) (sym e) of)
 
   -- of a stream, whatever its verdict
-  pub verdict-output : (bytes : List ℕ) (all : List Told) (answer : Result Summary Stop) → Verdict modes.Full bytes all answer → AreDecoded frames all → AreDecoded others all → calls_of frames all ≡ calls_of others all
-  verdict-output bytes all (Ok summary) h d d' = one-output frames others bytes all summary h d d'
-  verdict-output bytes all (Err stop) h d d' = stop-output h.before h.first h.last all h.legal h.calls_are (behind-ended h.before h.units h.tail (length bytes) stop h.last h.stops (goes_on h.before) refl (runs_of h.before) refl) d d'
+  pub verdict-output : (target : Target) (bytes : List ℕ) (all : List Told) (answer : Result Summary Stop) → Verdict (terms_of modes.Full target) bytes all answer → AreDecoded frames all → AreDecoded others all → calls_of frames all ≡ calls_of others all
+  verdict-output target bytes all (Ok summary) h d d' = one-output frames others target bytes all summary h d d'
+  verdict-output target bytes all (Err stop) h d d' = stop-output target h.before h.first h.last all h.legal h.calls_are (behind-ended target h.before h.units h.tail (length bytes) stop h.last h.stops (goes_on h.before) refl (runs_of h.before) refl) d d'

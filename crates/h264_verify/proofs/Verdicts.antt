@@ -2,7 +2,7 @@
 use Rattle.std.proofs.Common.{OnOk, IfErr, Option, Some, None, ◌≡◌, ℕ, ◌+◌, ◌*◌, inl, inr, List, [], ◌∷◌, ◌++◌, length, take, drop, get_or, ◌<◌, Result, Ok, Err, refl, ap, sym, ◌∙◌, subst, arith, append_assoc, MatchResult}
 use Rattle.std.specs.List.{flat_map}
 use Rattle.std.proofs.lemmas.List.{append-nil}
-use Rattle.h264_base.specs.declared.mode.Mode.{Mode}
+use Rattle.h264_judge.specs.declared.state.Terms.{Terms}
 use Rattle.h264_base.specs.declared.rule.Rule.TheVariants.{Emulation}
 use Rattle.h264_base.specs.declared.stop.Stop.{Stop}
 use Rattle.h264_base.specs.declared.stop.Stop.TheVariants.{No, Outside, Memory, Read, Write}
@@ -40,22 +40,22 @@ use Rattle.h264_slices.proofs.Stepping as stepping
 use Rattle.h264_verify.proofs.Ways.{way-none, shows-as, shows-both, shows-more}
 
 -- A legal unit comes to its calls, and joins those before it.
-pub legal-unit : (mode : Mode) (before : History) (r : ReadUnit) (calls : List Told) → IsLegal mode before r calls → unit_outcome mode before r.unit ≡ outcome calls (Ok (r ∷ before))
+pub legal-unit : (terms : Terms) (before : History) (r : ReadUnit) (calls : List Told) → IsLegal terms before r calls → unit_outcome terms before r.unit ≡ outcome calls (Ok (r ∷ before))
 unfolding unit_outcome
-legal-unit mode before r calls l =
+legal-unit terms before r calls l =
     bound (answers (emulation_checked r.unit.from r.unit.body)) _ [] tt _ (ap (λ (x : Result (Unit {0}) Stop). answers x) (sym (none-checked r.unit.from r.unit.body l.sound)))
-    (bound (course_outcome (body_of r.unit) (unit_course mode before r.unit)) _ calls r.content _ (runs-outcome (body_of r.unit) (unit_course mode before r.unit) calls (Ok r.content) l.runs) refl)
+    (bound (course_outcome (body_of r.unit) (unit_course terms before r.unit)) _ calls r.content _ (runs-outcome (body_of r.unit) (unit_course terms before r.unit) calls (Ok r.content) l.runs) refl)
     ∙ ap (λ c. outcome c (Ok (r ∷ before))) (append-nil calls)
 
 -- A unit at which the verdict falls comes to the calls up to there.
-stop-unit : (mode : Mode) (before : History) (unit : NalUnit) (stop : Stop) (calls : List Told) → IsStop mode before unit stop calls → unit_outcome mode before unit ≡ outcome calls (Err stop)
+stop-unit : (terms : Terms) (before : History) (unit : NalUnit) (stop : Stop) (calls : List Told) → IsStop terms before unit stop calls → unit_outcome terms before unit ≡ outcome calls (Err stop)
 unfolding unit_outcome
-stop-unit mode before unit stop calls (AtBytes place fault e n) =
+stop-unit terms before unit stop calls (AtBytes place fault e n) =
     bind-stop (answers (emulation_checked unit.from unit.body)) _ [] (No (8 * (unit.from + place)) Emulation) (ap (λ (x : Result (Unit {0}) Stop). answers x) (sym (some-checked unit.from unit.body place fault)))
     ∙ rw (e, n) refl
-stop-unit mode before unit stop calls (InCourse sound runs) =
+stop-unit terms before unit stop calls (InCourse sound runs) =
     bound (answers (emulation_checked unit.from unit.body)) _ [] tt _ (ap (λ (x : Result (Unit {0}) Stop). answers x) (sym (none-checked unit.from unit.body sound)))
-    (bind-stop (course_outcome (body_of unit) (unit_course mode before unit)) _ calls stop (runs-outcome (body_of unit) (unit_course mode before unit) calls (Err stop) runs))
+    (bind-stop (course_outcome (body_of unit) (unit_course terms before unit)) _ calls stop (runs-outcome (body_of unit) (unit_course terms before unit) calls (Err stop) runs))
 
 stopped-not : (a b : List Told) (stop : Stop) (h : History) → outcome a (Err stop) ≡ outcome b (Ok h) → ⊥
 stopped-not a b stop h e = let f : Err stop ≡ Ok h = ap (λ (o : Outcome History). o.answer) e in cc
@@ -64,182 +64,182 @@ ok-same : (a b : History) → (let r : Result History Stop = Ok a in r ≡ Ok b)
 ok-same a b e = cc
 
 -- a unit is legal, or the verdict falls at it
-data Either (mode : Mode) (before : History) (unit : NalUnit) : Type 0 where
-  Legal : (c : Content) (calls : List Told) → IsLegal mode before (record { unit = unit; content = c }) calls → Either mode before unit
-  Fails : (stop : Stop) (calls : List Told) → IsStop mode before unit stop calls → Either mode before unit
+data Either (terms : Terms) (before : History) (unit : NalUnit) : Type 0 where
+  Legal : (c : Content) (calls : List Told) → IsLegal terms before (record { unit = unit; content = c }) calls → Either terms before unit
+  Fails : (stop : Stop) (calls : List Told) → IsStop terms before unit stop calls → Either terms before unit
 
-either-unit : (mode : Mode) (before : History) (unit : NalUnit) → Either mode before unit
-either-unit mode before unit = by (emulation_checked unit.from unit.body) (is-checked unit.from unit.body)
+either-unit : (terms : Terms) (before : History) (unit : NalUnit) → Either terms before unit
+either-unit terms before unit = by (emulation_checked unit.from unit.body) (is-checked unit.from unit.body)
   where
-    course : IsSound unit → (calls : List Told) (a : Result Content Stop) → Runs (body_of unit) (unit_course mode before unit) calls a → Either mode before unit
+    course : IsSound unit → (calls : List Told) (a : Result Content Stop) → Runs (body_of unit) (unit_course terms before unit) calls a → Either terms before unit
     course sound calls (Ok found) runs = Legal found calls (record { sound = sound; runs = runs })
     course sound calls (Err stop) runs = Fails stop calls (InCourse sound runs)
 
-    by : (r : Result (Unit {0}) Stop) → MatchResult r (λ _. (place : ℕ) → IsFault unit.body place → ⊥) (λ stop. (place : ℕ) × (stop ≡ No (8 * (unit.from + place)) Emulation) × IsFirstFault unit.body place) → Either mode before unit
-    by (Ok x) f = let r : SomeRun (body_of unit) (unit_course mode before unit) = some-run (body_of unit) (unit_course mode before unit) in course f r.calls r.answer r.runs
+    by : (r : Result (Unit {0}) Stop) → MatchResult r (λ _. (place : ℕ) → IsFault unit.body place → ⊥) (λ stop. (place : ℕ) × (stop ≡ No (8 * (unit.from + place)) Emulation) × IsFirstFault unit.body place) → Either terms before unit
+    by (Ok x) f = let r : SomeRun (body_of unit) (unit_course terms before unit) = some-run (body_of unit) (unit_course terms before unit) in course f r.calls r.answer r.runs
     by (Err stop) f = Fails stop [] (AtBytes f.0 f.2 f.1 refl)
 
 -- units that lead somewhere are legal, with their calls
-module _ (mode : Mode) (after : History) where
+module _ (terms : Terms) (after : History) where
   abbrev IsLed : History → List NalUnit → List Told → List Told → Type 0
-  IsLed before units calls earlier = AreLegal mode after (earlier ++ calls) × (in_order after [] ≡ in_order before units)
+  IsLed before units calls earlier = AreLegal terms after (earlier ++ calls) × (in_order after [] ≡ in_order before units)
 
-  led-unit : (before : History) (unit : NalUnit) (units : List NalUnit) (calls earlier : List Told) → AreLegal mode before earlier → (l : Leads (judging mode) before (unit ∷ units) calls after) → ((cs : List Told) → Leads (judging mode) l.0 units l.2 after → AreLegal mode l.0 (earlier ++ cs) → IsLed l.0 units l.2 (earlier ++ cs)) → Either mode before unit → IsLed before (unit ∷ units) calls earlier
-  led-unit before unit units calls earlier legal l next (Fails stop cs h) = let e : outcome cs (Err stop) ≡ outcome l.1 (Ok l.0) = sym (stop-unit mode before unit stop cs h) ∙ l.3 in absurd (stopped-not cs l.1 stop l.0 e)
+  led-unit : (before : History) (unit : NalUnit) (units : List NalUnit) (calls earlier : List Told) → AreLegal terms before earlier → (l : Leads (judging terms) before (unit ∷ units) calls after) → ((cs : List Told) → Leads (judging terms) l.0 units l.2 after → AreLegal terms l.0 (earlier ++ cs) → IsLed l.0 units l.2 (earlier ++ cs)) → Either terms before unit → IsLed before (unit ∷ units) calls earlier
+  led-unit before unit units calls earlier legal l next (Fails stop cs h) = let e : outcome cs (Err stop) ≡ outcome l.1 (Ok l.0) = sym (stop-unit terms before unit stop cs h) ∙ l.3 in absurd (stopped-not cs l.1 stop l.0 e)
   led-unit before unit units calls earlier legal l next (Legal c cs h) =
       let r : ReadUnit = record { unit = unit; content = c } in
-      let e : outcome cs (Ok (r ∷ before)) ≡ outcome l.1 (Ok l.0) = sym (legal-unit mode before r cs h) ∙ l.3 in
+      let e : outcome cs (Ok (r ∷ before)) ≡ outcome l.1 (Ok l.0) = sym (legal-unit terms before r cs h) ∙ l.3 in
       let first : cs ≡ l.1 = ap (λ (o : Outcome History). o.calls) e in
       let mid : r ∷ before ≡ l.0 = ok-same (r ∷ before) l.0 (ap (λ (o : Outcome History). o.answer) e) in
-      let rest = next cs l.4 (subst (λ m. AreLegal mode m (earlier ++ cs)) mid (earlier, cs, legal, h, refl)) in (
-        subst (AreLegal mode after) (append_assoc earlier cs l.2 ∙ ap (λ c. earlier ++ (c ++ l.2)) first ∙ ap (λ c. earlier ++ c) (sym l.5)) rest.0,
+      let rest = next cs l.4 (subst (λ m. AreLegal terms m (earlier ++ cs)) mid (earlier, cs, legal, h, refl)) in (
+        subst (AreLegal terms after) (append_assoc earlier cs l.2 ∙ ap (λ c. earlier ++ (c ++ l.2)) first ∙ ap (λ c. earlier ++ c) (sym l.5)) rest.0,
         rest.1 ∙ ap (λ m. in_order m units) (sym mid),
       )
 
-  pub leads-legal : (before : History) (units : List NalUnit) (calls earlier : List Told) → Leads (judging mode) before units calls after → AreLegal mode before earlier → IsLed before units calls earlier
-  leads-legal before [] calls earlier l legal = (subst (λ h. AreLegal mode h (earlier ++ calls)) (sym l.1) (subst (AreLegal mode before) (sym (append-nil earlier) ∙ ap (λ c. earlier ++ c) (sym l.0)) legal), ap (λ h. in_order h []) l.1)
-  leads-legal before (unit ∷ units) calls earlier l legal = led-unit before unit units calls earlier legal l (λ cs rest before-legal. leads-legal l.0 units l.2 (earlier ++ cs) rest before-legal) (either-unit mode before unit)
+  pub leads-legal : (before : History) (units : List NalUnit) (calls earlier : List Told) → Leads (judging terms) before units calls after → AreLegal terms before earlier → IsLed before units calls earlier
+  leads-legal before [] calls earlier l legal = (subst (λ h. AreLegal terms h (earlier ++ calls)) (sym l.1) (subst (AreLegal terms before) (sym (append-nil earlier) ∙ ap (λ c. earlier ++ c) (sym l.0)) legal), ap (λ h. in_order h []) l.1)
+  leads-legal before (unit ∷ units) calls earlier l legal = led-unit before unit units calls earlier legal l (λ cs rest before-legal. leads-legal l.0 units l.2 (earlier ++ cs) rest before-legal) (either-unit terms before unit)
 
-legal-units : (mode : Mode) (reads : History) (units : List NalUnit) (tail : Tail) (end : ℕ) (calls : List Told) → AreLegal mode reads calls → units_outcome (judging mode) [] (in_order reads units) tail end ≡ with_calls calls (units_outcome (judging mode) reads units tail end)
+legal-units : (terms : Terms) (reads : History) (units : List NalUnit) (tail : Tail) (end : ℕ) (calls : List Told) → AreLegal terms reads calls → units_outcome (judging terms) [] (in_order reads units) tail end ≡ with_calls calls (units_outcome (judging terms) reads units tail end)
 unfolding ◌>>=◌
-legal-units mode [] units tail end calls l = rw l refl
-legal-units mode (r ∷ before) units tail end calls l =
-    legal-units mode before (r.unit ∷ units) tail end l.0 l.2
-    ∙ ap (λ (o : Outcome History). with_calls l.0 (o >>= λ after. units_outcome (judging mode) after units tail end)) (legal-unit mode before r l.1 l.3)
-    ∙ sym (with-both l.0 l.1 (units_outcome (judging mode) (r ∷ before) units tail end))
-    ∙ ap (λ c. with_calls c (units_outcome (judging mode) (r ∷ before) units tail end)) (sym l.4)
+legal-units terms [] units tail end calls l = rw l refl
+legal-units terms (r ∷ before) units tail end calls l =
+    legal-units terms before (r.unit ∷ units) tail end l.0 l.2
+    ∙ ap (λ (o : Outcome History). with_calls l.0 (o >>= λ after. units_outcome (judging terms) after units tail end)) (legal-unit terms before r l.1 l.3)
+    ∙ sym (with-both l.0 l.1 (units_outcome (judging terms) (r ∷ before) units tail end))
+    ∙ ap (λ c. with_calls c (units_outcome (judging terms) (r ∷ before) units tail end)) (sym l.4)
 
 -- the end of the input
-met-end : (mode : Mode) (before : History) (bit : ℕ) (calls : List Told) → AreMet (end_steps mode before bit) calls → end_outcome mode before bit ≡ outcome calls (Ok (summary_of mode before))
+met-end : (terms : Terms) (before : History) (bit : ℕ) (calls : List Told) → AreMet (end_steps terms.mode before bit) calls → end_outcome terms.mode before bit ≡ outcome calls (Ok (summary_of terms.mode before))
 unfolding end_outcome
-met-end mode before bit calls h = bound (steps_outcome (end_steps mode before bit)) _ calls tt _ (met-is (end_steps mode before bit) calls h) refl ∙ ap (λ l. outcome l (Ok (summary_of mode before))) (append-nil calls)
+met-end terms before bit calls h = bound (steps_outcome (end_steps terms.mode before bit)) _ calls tt _ (met-is (end_steps terms.mode before bit) calls h) refl ∙ ap (λ l. outcome l (Ok (summary_of terms.mode before))) (append-nil calls)
 
-unmet-end : (mode : Mode) (before : History) (bit : ℕ) (calls : List Told) (stop : Stop) → IsFirstStop (end_steps mode before bit) calls stop → end_outcome mode before bit ≡ outcome calls (Err stop)
+unmet-end : (terms : Terms) (before : History) (bit : ℕ) (calls : List Told) (stop : Stop) → IsFirstStop (end_steps terms.mode before bit) calls stop → end_outcome terms.mode before bit ≡ outcome calls (Err stop)
 unfolding end_outcome
-unmet-end mode before bit calls stop h = bind-stop (steps_outcome (end_steps mode before bit)) _ calls stop (stop-is (end_steps mode before bit) calls stop h)
+unmet-end terms before bit calls stop h = bind-stop (steps_outcome (end_steps terms.mode before bit)) _ calls stop (stop-is (end_steps terms.mode before bit) calls stop h)
 
 -- What the relation says is what comes of the stream.
-holds-comes : (mode : Mode) (bytes : List ℕ) (calls : List Told) (summary : Summary) → Holds mode bytes calls summary → Comes (judging mode) 0 [] bytes (record { calls = calls; answer = Ok summary })
-holds-comes mode bytes calls summary h = record {
+holds-comes : (terms : Terms) (bytes : List ℕ) (calls : List Told) (summary : Summary) → Holds terms bytes calls summary → Comes (judging terms) 0 [] bytes (record { calls = calls; answer = Ok summary })
+holds-comes terms bytes calls summary h = record {
   units = in_order h.units [];
   tail = Zeros;
   splits = h.stream;
   is = sym (
-      legal-units mode h.units [] Zeros (0 + length bytes) h.first h.legal
-      ∙ ap (with_calls h.first) (at-length (length bytes) ∙ met-end mode h.units (8 * length bytes) h.last h.end)
-      ∙ ap (λ (c : List Told). let o : Outcome Summary = record { calls = c; answer = Ok (summary_of mode h.units) } in o) (sym h.calls_are)
+      legal-units terms h.units [] Zeros (0 + length bytes) h.first h.legal
+      ∙ ap (with_calls h.first) (at-length (length bytes) ∙ met-end terms h.units (8 * length bytes) h.last h.end)
+      ∙ ap (λ (c : List Told). let o : Outcome Summary = record { calls = c; answer = Ok (summary_of terms.mode h.units) } in o) (sym h.calls_are)
       ∙ ap (λ (w : Summary). let o : Outcome Summary = record { calls = calls; answer = Ok w } in o) (sym h.summary_is)
       );
 }
   where
-    at-length : (n : ℕ) → end_outcome mode h.units (8 * (0 + n)) ≡ end_outcome mode h.units (8 * n)
-    at-length n = let e : 0 + n ≡ n = omega arith in ap (λ k. end_outcome mode h.units (8 * k)) e
+    at-length : (n : ℕ) → end_outcome terms.mode h.units (8 * (0 + n)) ≡ end_outcome terms.mode h.units (8 * n)
+    at-length n = let e : 0 + n ≡ n = omega arith in ap (λ k. end_outcome terms.mode h.units (8 * k)) e
 
-stop-behind : (mode : Mode) (before : History) (units : List NalUnit) (tail : Tail) (end : ℕ) (stop : Stop) (calls : List Told) → IsStopBehind mode before units tail end stop calls → units_outcome (judging mode) before units tail end ≡ record { calls = calls; answer = Err stop }
+stop-behind : (terms : Terms) (before : History) (units : List NalUnit) (tail : Tail) (end : ℕ) (stop : Stop) (calls : List Told) → IsStopBehind terms before units tail end stop calls → units_outcome (judging terms) before units tail end ≡ record { calls = calls; answer = Err stop }
 unfolding ◌>>=◌
-stop-behind mode before units tail end stop calls (AtNext unit later e h) =
-    ap (λ us. units_outcome (judging mode) before us tail end) e
-    ∙ ap (λ (o : Outcome History). o >>= λ after. units_outcome (judging mode) after later tail end) (stop-unit mode before unit stop calls h)
-stop-behind mode before units tail end stop calls (AtTail e h n) =
-    ap (λ us. units_outcome (judging mode) before us tail end) e
-    ∙ ap (λ o. unless o (end_outcome mode before (8 * end))) h
+stop-behind terms before units tail end stop calls (AtNext unit later e h) =
+    ap (λ us. units_outcome (judging terms) before us tail end) e
+    ∙ ap (λ (o : Outcome History). o >>= λ after. units_outcome (judging terms) after later tail end) (stop-unit terms before unit stop calls h)
+stop-behind terms before units tail end stop calls (AtTail e h n) =
+    ap (λ us. units_outcome (judging terms) before us tail end) e
+    ∙ ap (λ o. unless o (end_outcome terms.mode before (8 * end))) h
     ∙ ap (λ (c : List Told). let o : Outcome Summary = record { calls = c; answer = Err stop } in o) (sym n)
-stop-behind mode before units tail end stop calls (AtEnd e t h) =
-    ap (λ us. units_outcome (judging mode) before us tail end) e
-    ∙ ap (λ z. tail_outcome (judging mode) before z end) t
-    ∙ unmet-end mode before (8 * end) calls stop h
+stop-behind terms before units tail end stop calls (AtEnd e t h) =
+    ap (λ us. units_outcome (judging terms) before us tail end) e
+    ∙ ap (λ z. tail_outcome (judging terms) before z end) t
+    ∙ unmet-end terms before (8 * end) calls stop h
 
-stops-comes : (mode : Mode) (bytes : List ℕ) (calls : List Told) (stop : Stop) → StopsAt mode bytes calls stop → Comes (judging mode) 0 [] bytes (record { calls = calls; answer = Err stop })
-stops-comes mode bytes calls stop h = record {
+stops-comes : (terms : Terms) (bytes : List ℕ) (calls : List Told) (stop : Stop) → StopsAt terms bytes calls stop → Comes (judging terms) 0 [] bytes (record { calls = calls; answer = Err stop })
+stops-comes terms bytes calls stop h = record {
   units = in_order h.before h.units;
   tail = h.tail;
   splits = h.stream;
   is = sym (
-      legal-units mode h.before h.units h.tail (0 + length bytes) h.first h.legal
-      ∙ ap (with_calls h.first) (at-length (length bytes) ∙ stop-behind mode h.before h.units h.tail (length bytes) stop h.last h.stops)
+      legal-units terms h.before h.units h.tail (0 + length bytes) h.first h.legal
+      ∙ ap (with_calls h.first) (at-length (length bytes) ∙ stop-behind terms h.before h.units h.tail (length bytes) stop h.last h.stops)
       ∙ ap (λ (c : List Told). let o : Outcome Summary = record { calls = c; answer = Err stop } in o) (sym h.calls_are)
       );
 }
   where
-    at-length : (n : ℕ) → units_outcome (judging mode) h.before h.units h.tail (0 + n) ≡ units_outcome (judging mode) h.before h.units h.tail n
-    at-length n = let e : 0 + n ≡ n = omega arith in ap (λ k. units_outcome (judging mode) h.before h.units h.tail k) e
+    at-length : (n : ℕ) → units_outcome (judging terms) h.before h.units h.tail (0 + n) ≡ units_outcome (judging terms) h.before h.units h.tail n
+    at-length n = let e : 0 + n ≡ n = omega arith in ap (λ k. units_outcome (judging terms) h.before h.units h.tail k) e
 
-pub verdict-comes : (mode : Mode) (bytes : List ℕ) (calls : List Told) (answer : Result Summary Stop) → Verdict mode bytes calls answer → Comes (judging mode) 0 [] bytes (record { calls = calls; answer = answer })
-verdict-comes mode bytes calls (Ok summary) h = holds-comes mode bytes calls summary h
-verdict-comes mode bytes calls (Err stop) h = stops-comes mode bytes calls stop h
+pub verdict-comes : (terms : Terms) (bytes : List ℕ) (calls : List Told) (answer : Result Summary Stop) → Verdict terms bytes calls answer → Comes (judging terms) 0 [] bytes (record { calls = calls; answer = answer })
+verdict-comes terms bytes calls (Ok summary) h = holds-comes terms bytes calls summary h
+verdict-comes terms bytes calls (Err stop) h = stops-comes terms bytes calls stop h
 
 -- all is legal, or the verdict falls somewhere
-data Among (mode : Mode) (units : List NalUnit) (tail : Tail) (end : ℕ) : Type 0 where
-  AllLegal : (reads : History) (first last : List Told) → units ≡ in_order reads [] → tail ≡ Zeros → AreLegal mode reads first → AreMet (end_steps mode reads (8 * end)) last → Among mode units tail end
-  Falls : (before : History) (rest : List NalUnit) (first last : List Told) (stop : Stop) → units ≡ in_order before rest → AreLegal mode before first → IsStopBehind mode before rest tail end stop last → Among mode units tail end
+data Among (terms : Terms) (units : List NalUnit) (tail : Tail) (end : ℕ) : Type 0 where
+  AllLegal : (reads : History) (first last : List Told) → units ≡ in_order reads [] → tail ≡ Zeros → AreLegal terms reads first → AreMet (end_steps terms.mode reads (8 * end)) last → Among terms units tail end
+  Falls : (before : History) (rest : List NalUnit) (first last : List Told) (stop : Stop) → units ≡ in_order before rest → AreLegal terms before first → IsStopBehind terms before rest tail end stop last → Among terms units tail end
 
-among-end : (mode : Mode) (before : History) (earlier : List Told) (end : ℕ) → AreLegal mode before earlier → stepping.Either (end_steps mode before (8 * end)) → Among mode (in_order before []) Zeros end
-among-end mode before earlier end l (inl h) = AllLegal before earlier h.0 refl refl l h.1
-among-end mode before earlier end l (inr h) = Falls before [] earlier h.0 h.1 refl l (AtEnd refl refl h.2)
+among-end : (terms : Terms) (before : History) (earlier : List Told) (end : ℕ) → AreLegal terms before earlier → stepping.Either (end_steps terms.mode before (8 * end)) → Among terms (in_order before []) Zeros end
+among-end terms before earlier end l (inl h) = AllLegal before earlier h.0 refl refl l h.1
+among-end terms before earlier end l (inr h) = Falls before [] earlier h.0 h.1 refl l (AtEnd refl refl h.2)
 
-among-tail : (mode : Mode) (before : History) (earlier : List Told) (end : ℕ) → AreLegal mode before earlier → (tail : Tail) → Among mode (in_order before []) tail end
-among-tail mode before earlier end l Zeros = among-end mode before earlier end l (either (end_steps mode before (8 * end)))
-among-tail mode before earlier end l (Stray place) = Falls before [] earlier [] _ refl l (AtTail refl refl refl)
-among-tail mode before earlier end l (Bare place) = Falls before [] earlier [] _ refl l (AtTail refl refl refl)
-among-tail mode before earlier end l (Long place) = Falls before [] earlier [] _ refl l (AtTail refl refl refl)
-among-tail mode before earlier end l Cut = Falls before [] earlier [] _ refl l (AtTail refl refl refl)
+among-tail : (terms : Terms) (before : History) (earlier : List Told) (end : ℕ) → AreLegal terms before earlier → (tail : Tail) → Among terms (in_order before []) tail end
+among-tail terms before earlier end l Zeros = among-end terms before earlier end l (either (end_steps terms.mode before (8 * end)))
+among-tail terms before earlier end l (Stray place) = Falls before [] earlier [] _ refl l (AtTail refl refl refl)
+among-tail terms before earlier end l (Bare place) = Falls before [] earlier [] _ refl l (AtTail refl refl refl)
+among-tail terms before earlier end l (Long place) = Falls before [] earlier [] _ refl l (AtTail refl refl refl)
+among-tail terms before earlier end l Cut = Falls before [] earlier [] _ refl l (AtTail refl refl refl)
 
-among : (mode : Mode) (before : History) (earlier : List Told) (end : ℕ) → AreLegal mode before earlier → (units : List NalUnit) (tail : Tail) → Among mode (in_order before units) tail end
-among mode before earlier end l [] tail = among-tail mode before earlier end l tail
-among mode before earlier end l (unit ∷ units) tail = by (either-unit mode before unit) (λ c calls h. among mode (record { unit = unit; content = c } ∷ before) (earlier ++ calls) end (earlier, calls, l, h, refl) units tail)
+among : (terms : Terms) (before : History) (earlier : List Told) (end : ℕ) → AreLegal terms before earlier → (units : List NalUnit) (tail : Tail) → Among terms (in_order before units) tail end
+among terms before earlier end l [] tail = among-tail terms before earlier end l tail
+among terms before earlier end l (unit ∷ units) tail = by (either-unit terms before unit) (λ c calls h. among terms (record { unit = unit; content = c } ∷ before) (earlier ++ calls) end (earlier, calls, l, h, refl) units tail)
   where
-    by : Either mode before unit → ((c : Content) (calls : List Told) → IsLegal mode before (record { unit = unit; content = c }) calls → Among mode (in_order before (unit ∷ units)) tail end) → Among mode (in_order before (unit ∷ units)) tail end
+    by : Either terms before unit → ((c : Content) (calls : List Told) → IsLegal terms before (record { unit = unit; content = c }) calls → Among terms (in_order before (unit ∷ units)) tail end) → Among terms (in_order before (unit ∷ units)) tail end
     by (Fails stop calls h) next = Falls before (unit ∷ units) earlier calls stop refl l (AtNext unit units refl h)
     by (Legal c calls h) next = next c calls h
 
 -- some verdict, with its calls
-pub record SomeVerdict (mode : Mode) (bytes : List ℕ) : Type 0 where
+pub record SomeVerdict (terms : Terms) (bytes : List ℕ) : Type 0 where
   pub calls : List Told
   pub answer : Result Summary Stop
-  pub verdict : Verdict mode bytes calls answer
+  pub verdict : Verdict terms bytes calls answer
 
-of-split : (mode : Mode) (bytes : List ℕ) (units : List NalUnit) (tail : Tail) → Splits 0 bytes units tail → Among mode units tail (length bytes) → SomeVerdict mode bytes
-of-split mode bytes units tail s (AllLegal reads first last e t l h) = record {
+of-split : (terms : Terms) (bytes : List ℕ) (units : List NalUnit) (tail : Tail) → Splits 0 bytes units tail → Among terms units tail (length bytes) → SomeVerdict terms bytes
+of-split terms bytes units tail s (AllLegal reads first last e t l h) = record {
   calls = first ++ last;
-  answer = Ok (summary_of mode reads);
+  answer = Ok (summary_of terms.mode reads);
   verdict = record { units = reads; stream = subst (λ us. Splits 0 bytes us Zeros) e (subst (Splits 0 bytes units) t s); first = first; last = last; legal = l; end = h; calls_are = refl; summary_is = refl };
 }
-of-split mode bytes units tail s (Falls before rest first last stop e l f) = record {
+of-split terms bytes units tail s (Falls before rest first last stop e l f) = record {
   calls = first ++ last;
   answer = Err stop;
   verdict = record { before = before; units = rest; tail = tail; stream = subst (λ us. Splits 0 bytes us tail) e s; first = first; last = last; legal = l; stops = f; calls_are = refl };
 }
 
 -- What comes of the stream is what the relation says.
-pub comes-verdict : (mode : Mode) (bytes : List ℕ) (o : Outcome Summary) → Comes (judging mode) 0 [] bytes o → Verdict mode bytes o.calls o.answer
-comes-verdict mode bytes o c =
-    let v = of-split mode bytes c.units c.tail c.splits (among mode [] [] (length bytes) refl c.units c.tail) in
-    let e = one-outcome (judging mode) [] bytes (record { calls = v.calls; answer = v.answer }) o (verdict-comes mode bytes v.calls v.answer v.verdict) c in
-    subst (λ (w : Outcome Summary). Verdict mode bytes w.calls w.answer) e v.verdict
+pub comes-verdict : (terms : Terms) (bytes : List ℕ) (o : Outcome Summary) → Comes (judging terms) 0 [] bytes o → Verdict terms bytes o.calls o.answer
+comes-verdict terms bytes o c =
+    let v = of-split terms bytes c.units c.tail c.splits (among terms [] [] (length bytes) refl c.units c.tail) in
+    let e = one-outcome (judging terms) [] bytes (record { calls = v.calls; answer = v.answer }) o (verdict-comes terms bytes v.calls v.answer v.verdict) c in
+    subst (λ (w : Outcome Summary). Verdict terms bytes w.calls w.answer) e v.verdict
 
-pub some-verdict : (mode : Mode) (bytes : List ℕ) → SomeVerdict mode bytes
-some-verdict mode bytes = let o = some-outcome (judging mode) [] bytes in of-split mode bytes o.1.units o.1.tail o.1.splits (among mode [] [] (length bytes) refl o.1.units o.1.tail)
+pub some-verdict : (terms : Terms) (bytes : List ℕ) → SomeVerdict terms bytes
+some-verdict terms bytes = let o = some-outcome (judging terms) [] bytes in of-split terms bytes o.1.units o.1.tail o.1.splits (among terms [] [] (length bytes) refl o.1.units o.1.tail)
 
-pub one-verdict : (mode : Mode) (bytes : List ℕ) (calls others : List Told) (one other : Result Summary Stop) → Verdict mode bytes calls one → Verdict mode bytes others other → (calls ≡ others) × (one ≡ other)
-one-verdict mode bytes calls others one other a b =
-    let e = one-outcome (judging mode) [] bytes (record { calls = calls; answer = one }) (record { calls = others; answer = other }) (verdict-comes mode bytes calls one a) (verdict-comes mode bytes others other b) in
+pub one-verdict : (terms : Terms) (bytes : List ℕ) (calls others : List Told) (one other : Result Summary Stop) → Verdict terms bytes calls one → Verdict terms bytes others other → (calls ≡ others) × (one ≡ other)
+one-verdict terms bytes calls others one other a b =
+    let e = one-outcome (judging terms) [] bytes (record { calls = calls; answer = one }) (record { calls = others; answer = other }) (verdict-comes terms bytes calls one a) (verdict-comes terms bytes others other b) in
     (ap (λ (o : Outcome Summary). o.calls) e, ap (λ (o : Outcome Summary). o.answer) e)
 
 -- What was played of the stream's outcome, behind what a sink was told before, is its verdict.
-module _ {S : Type 0} (mode : Mode) (took : S → List Told → Type 0) (failures : S → ℕ) (bytes : List ℕ) (calls : List Told) (later : Outcome Summary) (s s' : S) (v : (answer : Result Summary Stop) → later.answer ≡ answer → Verdict mode bytes (calls ++ later.calls) answer) where
-  whole : (answer : Result Summary Stop) → later.answer ≡ answer → Tells took s s' later.calls → Whole mode took bytes calls s s' answer
+module _ {S : Type 0} (terms : Terms) (took : S → List Told → Type 0) (failures : S → ℕ) (bytes : List ℕ) (calls : List Told) (later : Outcome Summary) (s s' : S) (v : (answer : Result Summary Stop) → later.answer ≡ answer → Verdict terms bytes (calls ++ later.calls) answer) where
+  whole : (answer : Result Summary Stop) → later.answer ≡ answer → Tells took s s' later.calls → Whole terms took bytes calls s s' answer
   whole answer e t = record { more = later.calls; tells = t; verdict = v answer e }
 
-  front : TellsFront took s s' later.calls → Front mode took bytes calls s s'
+  front : TellsFront took s s' later.calls → Front terms took bytes calls s s'
   front t = record {
     more = t.front;
     tells = t.tells;
     rest = t.rest;
     answer = later.answer;
-    verdict = subst (λ l. Verdict mode bytes l later.answer) (ap (λ l. calls ++ l) t.whole ∙ sym (append_assoc calls t.front t.rest)) (v later.answer refl);
+    verdict = subst (λ l. Verdict terms bytes l later.answer) (ap (λ l. calls ++ l) t.whole ∙ sym (append_assoc calls t.front t.rest)) (v later.answer refl);
   }
 
-  judged-by : (result : Result Summary Stop) → RansBy took failures later s s' result → JudgedBy mode took failures bytes calls s s' result
+  judged-by : (result : Result Summary Stop) → RansBy took failures later s s' result → JudgedBy terms took failures bytes calls s s' result
   judged-by (Ok x) p = (whole (Ok x) p.plays.0 p.plays.1, p.plays.2)
   judged-by (Err (No bit rule)) p = (whole (Err (No bit rule)) p.plays.0 p.plays.1, p.plays.2)
   judged-by (Err (Outside bit feature)) p = (whole (Err (Outside bit feature)) p.plays.0 p.plays.1, p.plays.2)
@@ -248,13 +248,13 @@ module _ {S : Type 0} (mode : Mode) (took : S → List Told → Type 0) (failure
   judged-by (Err Write) p = (front p.plays.0, p.plays.1)
 
 -- what was judged by the fold has this verdict
-pub judges-judged : {S : Type 0} (mode : Mode) (took : S → List Call → Type 0) (failures : S → ℕ) (bytes : List ℕ) (frames : ℕ → Frame) (s s' : S) (result : Result Summary Stop) → JudgesWith mode took failures bytes s s' result → Judged mode took failures bytes frames [] s s' result
-judges-judged mode took failures bytes frames s s' result w =
+pub judges-judged : {S : Type 0} (terms : Terms) (took : S → List Call → Type 0) (failures : S → ℕ) (bytes : List ℕ) (frames : ℕ → Frame) (s s' : S) (result : Result Summary Stop) → JudgesWith terms took failures bytes s s' result → Judged terms took failures bytes frames [] s s' result
+judges-judged terms took failures bytes frames s s' result w =
     let j = w.judges in
     record {
       made = w.frames;
       same = record { calls = refl; decoded = λ x. x };
-      judged = judged-by mode (took_with w.frames took) failures bytes [] j.outcome s s' (λ answer e. subst (Verdict mode bytes j.outcome.calls) e (comes-verdict mode bytes j.outcome j.comes)) result j.ran;
+      judged = judged-by terms (took_with w.frames took) failures bytes [] j.outcome s s' (λ answer e. subst (Verdict terms bytes j.outcome.calls) e (comes-verdict terms bytes j.outcome j.comes)) result j.ran;
     }
 
 plays-rans : {S : Type 0} (took : S → List Told → Type 0) (failures : S → ℕ) (o : Outcome Summary) (s s' : S) (r : Result Summary Stop) → Plays took failures (λ (x : Summary). x) o s s' r → RansBy took failures o s s' r
@@ -266,9 +266,9 @@ plays-rans took failures o s s' (Err Read) p = absurd p.plays
 plays-rans took failures o s s' (Err Write) p = p
 
 -- before the first byte
-pub fed-nothing : (mode : Mode) (session : Progress) (frames : ℕ → Frame) → IsFresh session mode → WasFed mode session [] frames []
-fed-nothing mode session frames f = record {
-  mode_is = f.mode_is;
+pub fed-nothing : (terms : Terms) (session : Progress) (frames : ℕ → Frame) → IsFresh session terms → WasFed terms session [] frames []
+fed-nothing terms session frames f = record {
+  terms_is = f.terms_is;
   runs = f.stop;
   before = [];
   keeps = f.keeps frames;
@@ -276,48 +276,48 @@ fed-nothing mode session frames f = record {
   undecided = subst (λ (split : Splitting). IsUndecided split.rest) (sym f.split) (inl (0, refl));
   legal = refl;
   of = tt;
-  goes = λ more o c. (o, subst (λ split. ToCome (judging mode) (behind split []) more o) (sym f.split) c, refl);
+  goes = λ more o c. (o, subst (λ split. ToCome (judging terms) (behind split []) more o) (sym f.split) c, refl);
 }
 
-fed-later : {mode : Mode} {session : Progress} {bytes : List ℕ} {frames : ℕ → Frame} {told : List Told} (w : WasFed mode session bytes frames told) (more : List ℕ) (o : Outcome Summary) → Comes (judging mode) 0 [] (bytes ++ more) o → (later : Outcome Summary) × ToCome (judging mode) (behind session.split w.before) more later × ((answer : Result Summary Stop) → later.answer ≡ answer → Verdict mode (bytes ++ more) (told ++ later.calls) answer)
-fed-later {mode} {session} {bytes} {told} w more o c =
+fed-later : {terms : Terms} {session : Progress} {bytes : List ℕ} {frames : ℕ → Frame} {told : List Told} (w : WasFed terms session bytes frames told) (more : List ℕ) (o : Outcome Summary) → Comes (judging terms) 0 [] (bytes ++ more) o → (later : Outcome Summary) × ToCome (judging terms) (behind session.split w.before) more later × ((answer : Result Summary Stop) → later.answer ≡ answer → Verdict terms (bytes ++ more) (told ++ later.calls) answer)
+fed-later {terms} {session} {bytes} {told} w more o c =
     let f = w.goes more o c in
-    (f.0, f.1, λ answer e. subst (Verdict mode (bytes ++ more) (told ++ f.0.calls)) e (subst (λ (q : Outcome Summary). Verdict mode (bytes ++ more) q.calls q.answer) f.2 (comes-verdict mode (bytes ++ more) o c)))
+    (f.0, f.1, λ answer e. subst (Verdict terms (bytes ++ more) (told ++ f.0.calls)) e (subst (λ (q : Outcome Summary). Verdict terms (bytes ++ more) q.calls q.answer) f.2 (comes-verdict terms (bytes ++ more) o c)))
 
--- the same mode
-pub keeps-as : {frames : ℕ → Frame} {before : History} {state : State} {m m' : Mode} → m ≡ m' → Keeps m frames before state → Keeps m' frames before state
-keeps-as {frames} {before} {state} e k = subst (λ m. Keeps m frames before state) e k
+-- the same terms
+pub keeps-as : {frames : ℕ → Frame} {before : History} {state : State} {t t' : Terms} → t ≡ t' → Keeps t.mode frames before state → Keeps t'.mode frames before state
+keeps-as {frames} {before} {state} e k = subst (λ (t : Terms). Keeps t.mode frames before state) e k
 
-pub goes-as : {S : Type 0} {took : S → List Call → Type 0} {frames : ℕ → Frame} {old : Standing History} {split : Splitting} {state : State} {piece left : List ℕ} {s s' : S} {m m' : Mode} → m ≡ m' → GoesOn m took frames old split state piece left s s' → GoesOn m' took frames old split state piece left s s'
-goes-as {took} {frames} {old} {split} {state} {piece} {left} {s} {s'} e f = subst (λ m. GoesOn m took frames old split state piece left s s') e f
+pub goes-as : {S : Type 0} {took : S → List Call → Type 0} {frames : ℕ → Frame} {old : Standing History} {split : Splitting} {state : State} {piece left : List ℕ} {s s' : S} {t t' : Terms} → t ≡ t' → GoesOn t took frames old split state piece left s s' → GoesOn t' took frames old split state piece left s s'
+goes-as {took} {frames} {old} {split} {state} {piece} {left} {s} {s'} e f = subst (λ t. GoesOn t took frames old split state piece left s s') e f
 
-pub stops-as : {S : Type 0} {took : S → List Call → Type 0} {failures : S → ℕ} {frames : ℕ → Frame} {old : Standing History} {piece : List ℕ} {s s' : S} {stop : Stop} {m m' : Mode} → m ≡ m' → StopsOn m took failures frames old piece s s' stop → StopsOn m' took failures frames old piece s s' stop
-stops-as {took} {failures} {frames} {old} {piece} {s} {s'} {stop} e f = subst (λ m. StopsOn m took failures frames old piece s s' stop) e f
+pub stops-as : {S : Type 0} {took : S → List Call → Type 0} {failures : S → ℕ} {frames : ℕ → Frame} {old : Standing History} {piece : List ℕ} {s s' : S} {stop : Stop} {t t' : Terms} → t ≡ t' → StopsOn t took failures frames old piece s s' stop → StopsOn t' took failures frames old piece s s' stop
+stops-as {took} {failures} {frames} {old} {piece} {s} {s'} {stop} e f = subst (λ t. StopsOn t took failures frames old piece s s' stop) e f
 
-pub finishes-as : {S : Type 0} {took : S → List Call → Type 0} {failures : S → ℕ} {frames : ℕ → Frame} {old : Standing History} {s s' : S} {r : Result Summary Stop} {m m' : Mode} → m ≡ m' → FinishesOn m took failures frames old s s' r → FinishesOn m' took failures frames old s s' r
-finishes-as {took} {failures} {frames} {old} {s} {s'} {r} e f = subst (λ m. FinishesOn m took failures frames old s s' r) e f
+pub finishes-as : {S : Type 0} {took : S → List Call → Type 0} {failures : S → ℕ} {frames : ℕ → Frame} {old : Standing History} {s s' : S} {r : Result Summary Stop} {t t' : Terms} → t ≡ t' → FinishesOn t took failures frames old s s' r → FinishesOn t' took failures frames old s s' r
+finishes-as {took} {failures} {frames} {old} {s} {s'} {r} e f = subst (λ t. FinishesOn t took failures frames old s s' r) e f
 
 -- a piece more
-fed-piece : {S : Type 0} (mode : Mode) (took : S → List Call → Type 0) (failures : S → ℕ) (old new : Progress) (bytes piece : List ℕ) (frames : ℕ → Frame) (told : List Told) (s s' : S) (w : WasFed mode old bytes frames told) → new.mode ≡ old.mode → new.stop ≡ None → IsUndecided new.split.rest → GoesOn mode took frames (behind old.split w.before) new.split new.state piece [] s s' → failures s' ≡ failures s → IsFed mode took failures new (bytes ++ piece) frames told s s'
-fed-piece mode took failures old new bytes piece frames told s s' w m runs u on k =
+fed-piece : {S : Type 0} (terms : Terms) (took : S → List Call → Type 0) (failures : S → ℕ) (old new : Progress) (bytes piece : List ℕ) (frames : ℕ → Frame) (told : List Told) (s s' : S) (w : WasFed terms old bytes frames told) → new.terms ≡ old.terms → new.stop ≡ None → IsUndecided new.split.rest → GoesOn terms took frames (behind old.split w.before) new.split new.state piece [] s s' → failures s' ≡ failures s → IsFed terms took failures new (bytes ++ piece) frames told s s'
+fed-piece terms took failures old new bytes piece frames told s s' w m runs u on k =
     let g = on.goes in
-    let legal = leads-legal mode on.after w.before g.way.units g.calls told g.way.led w.legal in
+    let legal = leads-legal terms on.after w.before g.way.units g.calls told g.way.led w.legal in
     record {
       made = on.made;
       same = told-agree (ended_in w.before) frames on.made told on.same w.of;
       more = g.calls;
       tells = g.tells;
       fed = record {
-        mode_is = m ∙ w.mode_is;
+        terms_is = m ∙ w.terms_is;
         runs = runs;
         before = on.after;
-        keeps = keeps-as (sym (m ∙ w.mode_is)) on.keeps;
+        keeps = keeps-as (sym (m ∙ w.terms_is)) on.keeps;
         shown = subst (λ us. Shows 0 (bytes ++ piece) us new.split.at new.split.rest) (sym legal.1) (shown-on g.way.units w.shown g.way.shown);
         undecided = u;
         legal = legal.0;
         of = of-both (ended_in on.after) told g.calls (of-more (ended_in w.before) (ended_in on.after) told on.grows w.of) on.of;
         goes = λ more o c.
-            let f = w.goes (piece ++ more) o (subst (λ l. Comes (judging mode) 0 [] l o) (append_assoc bytes piece more) c) in
+            let f = w.goes (piece ++ more) o (subst (λ l. Comes (judging terms) 0 [] l o) (append_assoc bytes piece more) c) in
             let n = g.after more f.0 f.1 in
             (n.0, n.1, f.2 ∙ ap (with_calls told) n.2 ∙ sym (with-both told g.calls n.0));
       };
@@ -334,142 +334,142 @@ fed-piece mode took failures old new bytes piece frames told s s' w m runs u on 
         (shows-both 0 (bytes ++ piece) (in_order w.before []) units old.split.at new.split.at (old.split.rest ++ piece) new.split.rest (shows-more 0 bytes (in_order w.before []) old.split.at old.split.rest piece a) (shows-as old.split.at new.split.at units _ _ _ _ refl (append-nil new.split.rest) b))
 
 -- a stop, however the input goes on
-fed-stop : {S : Type 0} (mode : Mode) (took : S → List Call → Type 0) (failures : S → ℕ) (old : Progress) (bytes piece : List ℕ) (frames : ℕ → Frame) (told : List Told) (s s' : S) (stop : Stop) (w : WasFed mode old bytes frames told) → StopsOn mode took failures frames (behind old.split w.before) piece s s' stop → (later : List ℕ) → Judged mode took failures ((bytes ++ piece) ++ later) frames told s s' (Err stop)
-fed-stop mode took failures old bytes piece frames told s s' stop w p later =
-    let o = some-outcome (judging mode) [] (bytes ++ (piece ++ later)) in
+fed-stop : {S : Type 0} (terms : Terms) (took : S → List Call → Type 0) (failures : S → ℕ) (old : Progress) (bytes piece : List ℕ) (frames : ℕ → Frame) (told : List Told) (s s' : S) (stop : Stop) (w : WasFed terms old bytes frames told) → StopsOn terms took failures frames (behind old.split w.before) piece s s' stop → (later : List ℕ) → Judged terms took failures ((bytes ++ piece) ++ later) frames told s s' (Err stop)
+fed-stop terms took failures old bytes piece frames told s s' stop w p later =
+    let o = some-outcome (judging terms) [] (bytes ++ (piece ++ later)) in
     let f = fed-later w (piece ++ later) o.0 o.1 in
-    subst (λ l. Judged mode took failures l frames told s s' (Err stop)) (sym (append_assoc bytes piece later))
+    subst (λ l. Judged terms took failures l frames told s s' (Err stop)) (sym (append_assoc bytes piece later))
     (record {
       made = p.made;
       same = told-agree (ended_in w.before) frames p.made told p.same w.of;
-      judged = judged-by mode (took_with p.made took) failures (bytes ++ (piece ++ later)) told f.0 s s' f.2 (Err stop) (stops-plays (judging mode) (took_with p.made took) failures (behind old.split w.before) piece later s s' stop f.0 p.stops.stops f.1);
+      judged = judged-by terms (took_with p.made took) failures (bytes ++ (piece ++ later)) told f.0 s s' f.2 (Err stop) (stops-plays (judging terms) (took_with p.made took) failures (behind old.split w.before) piece later s s' stop f.0 p.stops.stops f.1);
     })
 
 -- the end of the input
-pub fed-end : {S : Type 0} (mode : Mode) (took : S → List Call → Type 0) (failures : S → ℕ) (session : Progress) (bytes : List ℕ) (frames : ℕ → Frame) (told : List Told) (s s' : S) (r : Result Summary Stop) (w : WasFed mode session bytes frames told) → FinishesOn session.mode took failures frames (behind session.split w.before) s s' r → Judged mode took failures bytes frames told s s' r
-fed-end mode took failures session bytes frames told s s' r w q =
-    let p = finishes-as w.mode_is q in
-    let o = some-outcome (judging mode) [] (bytes ++ []) in
+pub fed-end : {S : Type 0} (terms : Terms) (took : S → List Call → Type 0) (failures : S → ℕ) (session : Progress) (bytes : List ℕ) (frames : ℕ → Frame) (told : List Told) (s s' : S) (r : Result Summary Stop) (w : WasFed terms session bytes frames told) → FinishesOn session.terms took failures frames (behind session.split w.before) s s' r → Judged terms took failures bytes frames told s s' r
+fed-end terms took failures session bytes frames told s s' r w q =
+    let p = finishes-as w.terms_is q in
+    let o = some-outcome (judging terms) [] (bytes ++ []) in
     let f = fed-later w [] o.0 o.1 in
-    subst (λ l. Judged mode took failures l frames told s s' r) (append-nil bytes)
+    subst (λ l. Judged terms took failures l frames told s s' r) (append-nil bytes)
     (record {
       made = p.made;
       same = told-agree (ended_in w.before) frames p.made told p.same w.of;
-      judged = judged-by mode (took_with p.made took) failures (bytes ++ []) told f.0 s s' f.2 r (plays-rans (took_with p.made took) failures f.0 s s' r (p.finishes.finishes f.0 f.1));
+      judged = judged-by terms (took_with p.made took) failures (bytes ++ []) told f.0 s s' f.2 r (plays-rans (took_with p.made took) failures f.0 s s' r (p.finishes.finishes f.0 f.1));
     })
 
 -- as the answer of a call
-pub fed-ok : {S : Type 0} (mode : Mode) (took : S → List Call → Type 0) (failures : S → ℕ) (old new : Progress) (bytes piece : List ℕ) (frames : ℕ → Frame) (told : List Told) (s s' : S) (r : Result (Unit {0}) Stop) (w : WasFed mode old bytes frames told) → new.mode ≡ old.mode → OnOk r (new.stop ≡ None) → OnOk r (IsUndecided old.split.rest → IsUndecided new.split.rest) → OnOk r (GoesOn old.mode took frames (behind old.split w.before) new.split new.state piece [] s s') → OnOk r (failures s' ≡ failures s) → OnOk r (IsFed mode took failures new (bytes ++ piece) frames told s s')
-fed-ok mode took failures old new bytes piece frames told s s' (Ok x) w m runs u g k = fed-piece mode took failures old new bytes piece frames told s s' w m runs (u w.undecided) (goes-as w.mode_is g) k
-fed-ok mode took failures old new bytes piece frames told s s' (Err e) w m runs u g k = tt
+pub fed-ok : {S : Type 0} (terms : Terms) (took : S → List Call → Type 0) (failures : S → ℕ) (old new : Progress) (bytes piece : List ℕ) (frames : ℕ → Frame) (told : List Told) (s s' : S) (r : Result (Unit {0}) Stop) (w : WasFed terms old bytes frames told) → new.terms ≡ old.terms → OnOk r (new.stop ≡ None) → OnOk r (IsUndecided old.split.rest → IsUndecided new.split.rest) → OnOk r (GoesOn old.terms took frames (behind old.split w.before) new.split new.state piece [] s s') → OnOk r (failures s' ≡ failures s) → OnOk r (IsFed terms took failures new (bytes ++ piece) frames told s s')
+fed-ok terms took failures old new bytes piece frames told s s' (Ok x) w m runs u g k = fed-piece terms took failures old new bytes piece frames told s s' w m runs (u w.undecided) (goes-as w.terms_is g) k
+fed-ok terms took failures old new bytes piece frames told s s' (Err e) w m runs u g k = tt
 
-pub fed-err : {S : Type 0} (mode : Mode) (took : S → List Call → Type 0) (failures : S → ℕ) (old : Progress) (bytes piece : List ℕ) (frames : ℕ → Frame) (told : List Told) (s s' : S) (r : Result (Unit {0}) Stop) (w : WasFed mode old bytes frames told) → IfErr r (StopsOn old.mode took failures frames (behind old.split w.before) piece s s') → IfErr r (λ stop. (later : List ℕ) → Judged mode took failures ((bytes ++ piece) ++ later) frames told s s' (Err stop))
-fed-err mode took failures old bytes piece frames told s s' (Ok x) w p = tt
-fed-err mode took failures old bytes piece frames told s s' (Err stop) w p = fed-stop mode took failures old bytes piece frames told s s' stop w (stops-as w.mode_is p)
+pub fed-err : {S : Type 0} (terms : Terms) (took : S → List Call → Type 0) (failures : S → ℕ) (old : Progress) (bytes piece : List ℕ) (frames : ℕ → Frame) (told : List Told) (s s' : S) (r : Result (Unit {0}) Stop) (w : WasFed terms old bytes frames told) → IfErr r (StopsOn old.terms took failures frames (behind old.split w.before) piece s s') → IfErr r (λ stop. (later : List ℕ) → Judged terms took failures ((bytes ++ piece) ++ later) frames told s s' (Err stop))
+fed-err terms took failures old bytes piece frames told s s' (Ok x) w p = tt
+fed-err terms took failures old bytes piece frames told s s' (Err stop) w p = fed-stop terms took failures old bytes piece frames told s s' stop w (stops-as w.terms_is p)
 
 -- ---- a source
 
 -- before its first read
-none-yet : {S : Type 0} (mode : Mode) (took : S → List Told → Type 0) (split : Splitting) (s : S) → split ≡ at_start → Goes (judging mode) took (behind at_start []) (behind split []) [] [] s s
-none-yet mode took split s e = record {
+none-yet : {S : Type 0} (terms : Terms) (took : S → List Told → Type 0) (split : Splitting) (s : S) → split ≡ at_start → Goes (judging terms) took (behind at_start []) (behind split []) [] [] s s
+none-yet terms took split s e = record {
   calls = [];
   tells = tells-none took s;
-  way = subst (λ (w : Splitting). Way (judging mode) (behind at_start []) (behind w []) [] [] []) (sym e) (way-none (judging mode) (behind at_start []) []);
-  after = λ more o c. (o, subst (λ (w : Splitting). ToCome (judging mode) (behind w []) more o) (sym e) c, refl);
+  way = subst (λ (w : Splitting). Way (judging terms) (behind at_start []) (behind w []) [] [] []) (sym e) (way-none (judging terms) (behind at_start []) []);
+  after = λ more o c. (o, subst (λ (w : Splitting). ToCome (judging terms) (behind w []) more o) (sym e) c, refl);
 }
 
-pub fed-first : {S : Type 0} (mode : Mode) (took : S → List Call → Type 0) (known : Option (List ℕ)) (bytes : List ℕ) (session : Progress) (frames : ℕ → Frame) (s : S) → IsFresh session mode → known ≡ Some bytes → FedOn mode took known bytes session s s
+pub fed-first : {S : Type 0} (terms : Terms) (took : S → List Call → Type 0) (known : Option (List ℕ)) (bytes : List ℕ) (session : Progress) (frames : ℕ → Frame) (s : S) → IsFresh session terms → known ≡ Some bytes → FedOn terms took known bytes session s s
 unfolding none-yet
-fed-first mode took known bytes session frames s f h = record {
-  mode_is = f.mode_is;
+fed-first terms took known bytes session frames s f h = record {
+  terms_is = f.terms_is;
   frames = frames;
   after = [];
   keeps = f.keeps frames;
-  fed = record { fed = []; left = bytes; known_is = h; whole = refl; goes = none-yet mode (took_with frames took) session.split s f.split };
+  fed = record { fed = []; left = bytes; known_is = h; whole = refl; goes = none-yet terms (took_with frames took) session.split s f.split };
   of = tt;
 }
 
 -- an interrupted read took no byte
-pub fed-again : {S : Type 0} {mode : Mode} {took : S → List Call → Type 0} {known : Option (List ℕ)} {bytes : List ℕ} {session : Progress} {s s' : S} (known' : Option (List ℕ)) → ((left : List ℕ) → known ≡ Some left → known' ≡ Some left) → FedOn mode took known bytes session s s' → FedOn mode took known' bytes session s s'
+pub fed-again : {S : Type 0} {terms : Terms} {took : S → List Call → Type 0} {known : Option (List ℕ)} {bytes : List ℕ} {session : Progress} {s s' : S} (known' : Option (List ℕ)) → ((left : List ℕ) → known ≡ Some left → known' ≡ Some left) → FedOn terms took known bytes session s s' → FedOn terms took known' bytes session s s'
 unfolding fed-same
-fed-again {mode} {took} {known} {bytes} {session} {s} {s'} known' r f = record {
-  mode_is = f.mode_is;
+fed-again {terms} {took} {known} {bytes} {session} {s} {s'} known' r f = record {
+  terms_is = f.terms_is;
   frames = f.frames;
   after = f.after;
   keeps = f.keeps;
-  fed = fed-same (judging mode) (took_with f.frames took) known known' bytes (behind at_start []) (behind session.split f.after) s s' r f.fed;
+  fed = fed-same (judging terms) (took_with f.frames took) known known' bytes (behind at_start []) (behind session.split f.after) s s' r f.fed;
   of = f.of;
 }
 
 -- a piece more
-pub fed-more : {S : Type 0} {mode : Mode} {took : S → List Call → Type 0} {known : Option (List ℕ)} {bytes : List ℕ} {old new : Progress} {s0 s1 s2 : S} (known' : Option (List ℕ)) (piece : List ℕ) (n : ℕ) → new.mode ≡ old.mode → ((left : List ℕ) → known ≡ Some left → (left ≡ take n piece ++ drop n left) × (known' ≡ Some (drop n left))) → (f : FedOn mode took known bytes old s0 s1) → GoesOn old.mode took f.frames (behind old.split f.after) new.split new.state (take n piece) [] s1 s2 → FedOn mode took known' bytes new s0 s2
+pub fed-more : {S : Type 0} {terms : Terms} {took : S → List Call → Type 0} {known : Option (List ℕ)} {bytes : List ℕ} {old new : Progress} {s0 s1 s2 : S} (known' : Option (List ℕ)) (piece : List ℕ) (n : ℕ) → new.terms ≡ old.terms → ((left : List ℕ) → known ≡ Some left → (left ≡ take n piece ++ drop n left) × (known' ≡ Some (drop n left))) → (f : FedOn terms took known bytes old s0 s1) → GoesOn old.terms took f.frames (behind old.split f.after) new.split new.state (take n piece) [] s1 s2 → FedOn terms took known' bytes new s0 s2
 unfolding fed-on fed-agree goes-agree goes-then goes-both goes-more
-fed-more {mode} {took} {known} {bytes} {old} {new} {s0} {s1} {s2} known' piece n m r f q =
-    let g = goes-as f.mode_is q in
+fed-more {terms} {took} {known} {bytes} {old} {new} {s0} {s1} {s2} known' piece n m r f q =
+    let g = goes-as f.terms_is q in
     record {
-      mode_is = m ∙ f.mode_is;
+      terms_is = m ∙ f.terms_is;
       frames = g.made;
       after = g.after;
-      keeps = keeps-as (sym (m ∙ f.mode_is)) g.keeps;
-      fed = fed-on (judging mode) (took_with g.made took) known known' bytes piece n (behind at_start []) (behind old.split f.after) (behind new.split g.after) s0 s1 s2 r (fed-agree took (ended_in f.after) f.frames g.made g.same f.fed f.of) g.goes;
+      keeps = keeps-as (sym (m ∙ f.terms_is)) g.keeps;
+      fed = fed-on (judging terms) (took_with g.made took) known known' bytes piece n (behind at_start []) (behind old.split f.after) (behind new.split g.after) s0 s1 s2 r (fed-agree took (ended_in f.after) f.frames g.made g.same f.fed f.of) g.goes;
       of = of-both (ended_in g.after) f.fed.goes.calls g.goes.calls (of-more (ended_in f.after) (ended_in g.after) f.fed.goes.calls g.grows f.of) g.of;
     }
 
 -- a stop at a piece
-pub fed-halts : {S : Type 0} {mode : Mode} {took : S → List Call → Type 0} {failures : S → ℕ} {known : Option (List ℕ)} {bytes : List ℕ} {old : Progress} {s0 s1 s2 : S} {stop : Stop} (known' : Option (List ℕ)) (piece : List ℕ) (n : ℕ) → ((left : List ℕ) → known ≡ Some left → (left ≡ take n piece ++ drop n left) × (known' ≡ Some (drop n left))) → (f : FedOn mode took known bytes old s0 s1) → failures s1 ≡ failures s0 → StopsOn old.mode took failures f.frames (behind old.split f.after) (take n piece) s1 s2 stop → JudgesWith mode took failures bytes s0 s2 (Err stop)
-fed-halts {mode} {took} {failures} {known} {bytes} {old} {s0} {s1} {s2} {stop} known' piece n r f k q =
-    let p = stops-as f.mode_is q in
+pub fed-halts : {S : Type 0} {terms : Terms} {took : S → List Call → Type 0} {failures : S → ℕ} {known : Option (List ℕ)} {bytes : List ℕ} {old : Progress} {s0 s1 s2 : S} {stop : Stop} (known' : Option (List ℕ)) (piece : List ℕ) (n : ℕ) → ((left : List ℕ) → known ≡ Some left → (left ≡ take n piece ++ drop n left) × (known' ≡ Some (drop n left))) → (f : FedOn terms took known bytes old s0 s1) → failures s1 ≡ failures s0 → StopsOn old.terms took failures f.frames (behind old.split f.after) (take n piece) s1 s2 stop → JudgesWith terms took failures bytes s0 s2 (Err stop)
+fed-halts {terms} {took} {failures} {known} {bytes} {old} {s0} {s1} {s2} {stop} known' piece n r f k q =
+    let p = stops-as f.terms_is q in
     record {
       frames = p.made;
-      judges = fed-stops (judging mode) [] (took_with p.made took) failures known known' bytes piece n (behind old.split f.after) s0 s1 s2 stop r (fed-agree took (ended_in f.after) f.frames p.made p.same f.fed f.of) k p.stops;
+      judges = fed-stops (judging terms) [] (took_with p.made took) failures known known' bytes piece n (behind old.split f.after) s0 s1 s2 stop r (fed-agree took (ended_in f.after) f.frames p.made p.same f.fed f.of) k p.stops;
     }
 
 -- the source failed
-pub fed-fails : {S : Type 0} {mode : Mode} {took : S → List Call → Type 0} {failures : S → ℕ} {known : Option (List ℕ)} {bytes : List ℕ} {session : Progress} {s s' : S} → FedOn mode took known bytes session s s' → failures s' ≡ failures s → JudgesWith mode took failures bytes s s' (Err Read)
-fed-fails {mode} {took} {failures} {known} {bytes} {session} {s} {s'} f k = record { frames = f.frames; judges = fed-read (judging mode) [] (took_with f.frames took) failures known bytes (behind session.split f.after) s s' f.fed k }
+pub fed-fails : {S : Type 0} {terms : Terms} {took : S → List Call → Type 0} {failures : S → ℕ} {known : Option (List ℕ)} {bytes : List ℕ} {session : Progress} {s s' : S} → FedOn terms took known bytes session s s' → failures s' ≡ failures s → JudgesWith terms took failures bytes s s' (Err Read)
+fed-fails {terms} {took} {failures} {known} {bytes} {session} {s} {s'} f k = record { frames = f.frames; judges = fed-read (judging terms) [] (took_with f.frames took) failures known bytes (behind session.split f.after) s s' f.fed k }
 
 -- it has no more bytes
-pub fed-last : {S : Type 0} (mode : Mode) (took : S → List Call → Type 0) (failures : S → ℕ) (known : Option (List ℕ)) (bytes : List ℕ) (old new : Progress) (s0 s1 s1' s2 : S) (r : Result Summary Stop) → new ≡ old → s1' ≡ s1 → ((left : List ℕ) → known ≡ Some left → left ≡ []) → FedOn mode took known bytes old s0 s1 → failures s1 ≡ failures s0 → ((frames : ℕ → Frame) (before : History) → Keeps new.mode frames before new.state → FinishesOn new.mode took failures frames (behind new.split before) s1' s2 r) → JudgesWith mode took failures bytes s0 s2 r
-fed-last mode took failures known bytes old new s0 s1 s1' s2 r e d none f k p =
-    let keeps = subst (λ (w : Progress). Keeps w.mode f.frames f.after w.state) (sym e) f.keeps in
-    let m : new.mode ≡ mode = ap (λ (w : Progress). w.mode) e ∙ f.mode_is in
+pub fed-last : {S : Type 0} (terms : Terms) (took : S → List Call → Type 0) (failures : S → ℕ) (known : Option (List ℕ)) (bytes : List ℕ) (old new : Progress) (s0 s1 s1' s2 : S) (r : Result Summary Stop) → new ≡ old → s1' ≡ s1 → ((left : List ℕ) → known ≡ Some left → left ≡ []) → FedOn terms took known bytes old s0 s1 → failures s1 ≡ failures s0 → ((frames : ℕ → Frame) (before : History) → Keeps new.terms.mode frames before new.state → FinishesOn new.terms took failures frames (behind new.split before) s1' s2 r) → JudgesWith terms took failures bytes s0 s2 r
+fed-last terms took failures known bytes old new s0 s1 s1' s2 r e d none f k p =
+    let keeps = subst (λ (w : Progress). Keeps w.terms.mode f.frames f.after w.state) (sym e) f.keeps in
+    let m : new.terms ≡ terms = ap (λ (w : Progress). w.terms) e ∙ f.terms_is in
     let q = finishes-as m (p f.frames f.after keeps) in
     record {
       frames = q.made;
-      judges = fed-ends (judging mode) [] (took_with q.made took) failures known bytes (behind old.split f.after) (behind new.split f.after) s0 s1 s1' s2 r (ap (λ (w : Progress). behind w.split f.after) e) d none (fed-agree took (ended_in f.after) f.frames q.made q.same f.fed f.of) k q.finishes;
+      judges = fed-ends (judging terms) [] (took_with q.made took) failures known bytes (behind old.split f.after) (behind new.split f.after) s0 s1 s1' s2 r (ap (λ (w : Progress). behind w.split f.after) e) d none (fed-agree took (ended_in f.after) f.frames q.made q.same f.fed f.of) k q.finishes;
     }
 
 -- nothing was fed: memory was refused at once
-pub none-judged : {S : Type 0} (mode : Mode) (took : S → List Call → Type 0) (failures : S → ℕ) (bytes : List ℕ) (frames : ℕ → Frame) (s : S) → JudgesWith mode took failures bytes s s (Err Memory)
-none-judged mode took failures bytes frames s = record { frames = frames; judges = judges-memory (judging mode) [] (took_with frames took) failures bytes s }
+pub none-judged : {S : Type 0} (terms : Terms) (took : S → List Call → Type 0) (failures : S → ℕ) (bytes : List ℕ) (frames : ℕ → Frame) (s : S) → JudgesWith terms took failures bytes s s (Err Memory)
+none-judged terms took failures bytes frames s = record { frames = frames; judges = judges-memory (judging terms) [] (took_with frames took) failures bytes s }
 
 -- ---- pieces
 
 -- no piece yet
-pub pieces-first : {S : Type 0} (mode : Mode) (took : S → List Call → Type 0) (session : Progress) (frames : ℕ → Frame) (s : S) → IsFresh session mode → GoesOn mode took frames (behind at_start []) session.split session.state [] [] s s
-pieces-first mode took session frames s f =
-    subst (λ (split : Splitting). GoesOn mode took frames (behind at_start []) split session.state [] [] s s) (sym f.split)
-    (on-none mode took frames at_start [] session.state [] s (keeps-as f.mode_is (f.keeps frames)))
+pub pieces-first : {S : Type 0} (terms : Terms) (took : S → List Call → Type 0) (session : Progress) (frames : ℕ → Frame) (s : S) → IsFresh session terms → GoesOn terms took frames (behind at_start []) session.split session.state [] [] s s
+pieces-first terms took session frames s f =
+    subst (λ (split : Splitting). GoesOn terms took frames (behind at_start []) split session.state [] [] s s) (sym f.split)
+    (on-none terms took frames at_start [] session.state [] s (keeps-as f.terms_is (f.keeps frames)))
 
 -- one more
-pub pieces-on : {S X : Type 0} {mode : Mode} {took : S → List Call → Type 0} {frames : ℕ → Frame} {mid split : Splitting} {first state : State} {s0 s1 s2 : S} (f : X → List ℕ) (xs : List X) (i : ℕ) (x : X) (piece : List ℕ) → i < length xs → x ≡ get_or xs i x → piece ≡ f x → (a : GoesOn mode took frames (behind at_start []) mid first (flat_map f (take i xs)) [] s0 s1) → GoesOn mode took a.made (behind mid a.after) split state piece [] s1 s2 → GoesOn mode took frames (behind at_start []) split state (flat_map f (take (i + 1) xs)) [] s0 s2
-pieces-on {mode} {took} {frames} {mid} {split} {first} {state} {s0} {s2} f xs i x piece h e p a b =
-    subst (λ (l : List ℕ). GoesOn mode took frames (behind at_start []) split state l [] s0 s2) (piece-more f xs i x piece h e p) (on-then a b)
+pub pieces-on : {S X : Type 0} {terms : Terms} {took : S → List Call → Type 0} {frames : ℕ → Frame} {mid split : Splitting} {first state : State} {s0 s1 s2 : S} (f : X → List ℕ) (xs : List X) (i : ℕ) (x : X) (piece : List ℕ) → i < length xs → x ≡ get_or xs i x → piece ≡ f x → (a : GoesOn terms took frames (behind at_start []) mid first (flat_map f (take i xs)) [] s0 s1) → GoesOn terms took a.made (behind mid a.after) split state piece [] s1 s2 → GoesOn terms took frames (behind at_start []) split state (flat_map f (take (i + 1) xs)) [] s0 s2
+pieces-on {terms} {took} {frames} {mid} {split} {first} {state} {s0} {s2} f xs i x piece h e p a b =
+    subst (λ (l : List ℕ). GoesOn terms took frames (behind at_start []) split state l [] s0 s2) (piece-more f xs i x piece h e p) (on-then a b)
 
 -- a stop at one
-pub pieces-halt : {S : Type 0} {mode : Mode} {took : S → List Call → Type 0} {failures : S → ℕ} {frames : ℕ → Frame} {mid : Splitting} {first : State} {s0 s1 s2 : S} {stop : Stop} (bytes before piece later : List ℕ) → bytes ≡ before ++ (piece ++ later) → (a : GoesOn mode took frames (behind at_start []) mid first before [] s0 s1) → failures s1 ≡ failures s0 → StopsOn mode took failures a.made (behind mid a.after) piece s1 s2 stop → JudgesWith mode took failures bytes s0 s2 (Err stop)
-pieces-halt {mode} {took} {failures} {frames} {mid} {s0} {s1} {s2} {stop} bytes before piece later e a k p = record {
+pub pieces-halt : {S : Type 0} {terms : Terms} {took : S → List Call → Type 0} {failures : S → ℕ} {frames : ℕ → Frame} {mid : Splitting} {first : State} {s0 s1 s2 : S} {stop : Stop} (bytes before piece later : List ℕ) → bytes ≡ before ++ (piece ++ later) → (a : GoesOn terms took frames (behind at_start []) mid first before [] s0 s1) → failures s1 ≡ failures s0 → StopsOn terms took failures a.made (behind mid a.after) piece s1 s2 stop → JudgesWith terms took failures bytes s0 s2 (Err stop)
+pieces-halt {terms} {took} {failures} {frames} {mid} {s0} {s1} {s2} {stop} bytes before piece later e a k p = record {
   frames = p.made;
-  judges = pieces-stop (judging mode) [] (took_with p.made took) failures bytes before piece later (behind mid a.after) s0 s1 s2 stop e (goes-agree took (ended_in a.after) a.made p.made p.same a.goes a.of) k p.stops;
+  judges = pieces-stop (judging terms) [] (took_with p.made took) failures bytes before piece later (behind mid a.after) s0 s1 s2 stop e (goes-agree took (ended_in a.after) a.made p.made p.same a.goes a.of) k p.stops;
 }
 
 -- all of them
-pub pieces-end : {S X : Type 0} {mode : Mode} {took : S → List Call → Type 0} {failures : S → ℕ} {frames : ℕ → Frame} {mid : Splitting} {first : State} {s0 s1 s2 : S} {r : Result Summary Stop} (f : X → List ℕ) (xs : List X) (n : ℕ) → n ≡ length xs → (a : GoesOn mode took frames (behind at_start []) mid first (flat_map f (take n xs)) [] s0 s1) → failures s1 ≡ failures s0 → FinishesOn mode took failures a.made (behind mid a.after) s1 s2 r → JudgesWith mode took failures (flat_map f xs) s0 s2 r
-pieces-end {mode} {took} {failures} {frames} {mid} {s0} {s1} {s2} {r} f xs n e a k p = record {
+pub pieces-end : {S X : Type 0} {terms : Terms} {took : S → List Call → Type 0} {failures : S → ℕ} {frames : ℕ → Frame} {mid : Splitting} {first : State} {s0 s1 s2 : S} {r : Result Summary Stop} (f : X → List ℕ) (xs : List X) (n : ℕ) → n ≡ length xs → (a : GoesOn terms took frames (behind at_start []) mid first (flat_map f (take n xs)) [] s0 s1) → failures s1 ≡ failures s0 → FinishesOn terms took failures a.made (behind mid a.after) s1 s2 r → JudgesWith terms took failures (flat_map f xs) s0 s2 r
+pieces-end {terms} {took} {failures} {frames} {mid} {s0} {s1} {s2} {r} f xs n e a k p = record {
   frames = p.made;
-  judges = pieces-finish (judging mode) [] (took_with p.made took) failures (flat_map f xs) (behind mid a.after) s0 s1 s2 r (goes-all f xs n e (goes-agree took (ended_in a.after) a.made p.made p.same a.goes a.of)) k p.finishes;
+  judges = pieces-finish (judging terms) [] (took_with p.made took) failures (flat_map f xs) (behind mid a.after) s0 s1 s2 r (goes-all f xs n e (goes-agree took (ended_in a.after) a.made p.made p.same a.goes a.of)) k p.finishes;
 }
 
--- the same mode
-pub fed-as : {S : Type 0} {took : S → List Call → Type 0} {known : Option (List ℕ)} {bytes : List ℕ} {session : Progress} {s s' : S} {m m' : Mode} → m ≡ m' → FedOn m took known bytes session s s' → FedOn m' took known bytes session s s'
-fed-as {took} {known} {bytes} {session} {s} {s'} e f = subst (λ m. FedOn m took known bytes session s s') e f
+-- the same terms
+pub fed-as : {S : Type 0} {took : S → List Call → Type 0} {known : Option (List ℕ)} {bytes : List ℕ} {session : Progress} {s s' : S} {t t' : Terms} → t ≡ t' → FedOn t took known bytes session s s' → FedOn t' took known bytes session s s'
+fed-as {took} {known} {bytes} {session} {s} {s'} e f = subst (λ t. FedOn t took known bytes session s s') e f

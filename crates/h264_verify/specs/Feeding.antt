@@ -1,6 +1,6 @@
 -- What a session was fed. A working form.
 use Rattle.std.specs.Prelude.{◌≡◌, ◌≤◌, ℕ, List, [], ◌++◌, None, Option, Result}
-use Rattle.h264_base.specs.declared.mode.Mode.{Mode}
+use Rattle.h264_judge.specs.declared.state.Terms.{Terms}
 use Rattle.h264_base.specs.declared.stop.Stop.{Stop}
 use Rattle.h264_base.specs.Call.{Call}
 use Rattle.h264_plane.specs.declared.frame.Frame.{Frame}
@@ -23,60 +23,60 @@ abbrev pub behind : Splitting → History → Standing History
 behind split before = record { split = split; state = before }
 
 -- However the input goes on, what comes of old is what the sink was told and what comes of where the session stands.
-pub record GoesOn {S : Type 0} (mode : Mode) (took : S → List Call → Type 0) (frames : ℕ → Frame) (old : Standing History) (split : Splitting) (state : State) (piece left : List ℕ) (s s' : S) : Type 0 where
+pub record GoesOn {S : Type 0} (terms : Terms) (took : S → List Call → Type 0) (frames : ℕ → Frame) (old : Standing History) (split : Splitting) (state : State) (piece left : List ℕ) (s s' : S) : Type 0 where
   pub made : ℕ → Frame
   pub same : Agree (ended_in old.state) frames made
   pub after : History
   pub grows : ended_in old.state ≤ ended_in after
-  pub keeps : Keeps mode made after state
-  pub goes : Goes (judging mode) (took_with made took) old (behind split after) piece left s s'
+  pub keeps : Keeps terms.mode made after state
+  pub goes : Goes (judging terms) (took_with made took) old (behind split after) piece left s s'
   pub of : AreOf (ended_in after) goes.calls
 
 -- The stop is the stream's, however it goes on; or the sink failed, or memory was refused, when only its first calls were made.
-pub record StopsOn {S : Type 0} (mode : Mode) (took : S → List Call → Type 0) (failures : S → ℕ) (frames : ℕ → Frame) (old : Standing History) (piece : List ℕ) (s s' : S) (stop : Stop) : Type 0 where
+pub record StopsOn {S : Type 0} (terms : Terms) (took : S → List Call → Type 0) (failures : S → ℕ) (frames : ℕ → Frame) (old : Standing History) (piece : List ℕ) (s s' : S) (stop : Stop) : Type 0 where
   pub made : ℕ → Frame
   pub same : Agree (ended_in old.state) frames made
-  pub stops : Stops (judging mode) (took_with made took) failures old piece s s' stop
+  pub stops : Stops (judging terms) (took_with made took) failures old piece s s' stop
 
 -- The input ends here, and this is told and answered of it.
-pub record FinishesOn {S : Type 0} (mode : Mode) (took : S → List Call → Type 0) (failures : S → ℕ) (frames : ℕ → Frame) (old : Standing History) (s s' : S) (result : Result Summary Stop) : Type 0 where
+pub record FinishesOn {S : Type 0} (terms : Terms) (took : S → List Call → Type 0) (failures : S → ℕ) (frames : ℕ → Frame) (old : Standing History) (s s' : S) (result : Result Summary Stop) : Type 0 where
   pub made : ℕ → Frame
   pub same : Agree (ended_in old.state) frames made
-  pub finishes : Finishes (judging mode) (took_with made took) failures old s s' result
+  pub finishes : Finishes (judging terms) (took_with made took) failures old s s' result
 
 -- The source gave these bytes so far, less those that are left.
-pub record FedOn {S : Type 0} (mode : Mode) (took : S → List Call → Type 0) (known : Option (List ℕ)) (bytes : List ℕ) (session : Progress) (s s' : S) : Type 0 where
-  pub mode_is : session.mode ≡ mode
+pub record FedOn {S : Type 0} (terms : Terms) (took : S → List Call → Type 0) (known : Option (List ℕ)) (bytes : List ℕ) (session : Progress) (s s' : S) : Type 0 where
+  pub terms_is : session.terms ≡ terms
   pub frames : ℕ → Frame
   pub after : History
-  pub keeps : Keeps session.mode frames after session.state
-  pub fed : Fed (judging mode) (took_with frames took) known bytes (behind at_start []) (behind session.split after) s s'
+  pub keeps : Keeps session.terms.mode frames after session.state
+  pub fed : Fed (judging terms) (took_with frames took) known bytes (behind at_start []) (behind session.split after) s s'
   pub of : AreOf (ended_in after) fed.goes.calls
 
 -- With some frames, what was told and answered of these bytes, the whole input.
-pub record JudgesWith {S : Type 0} (mode : Mode) (took : S → List Call → Type 0) (failures : S → ℕ) (bytes : List ℕ) (s s' : S) (result : Result Summary Stop) : Type 0 where
+pub record JudgesWith {S : Type 0} (terms : Terms) (took : S → List Call → Type 0) (failures : S → ℕ) (bytes : List ℕ) (s s' : S) (result : Result Summary Stop) : Type 0 where
   pub frames : ℕ → Frame
-  pub judges : Judges (judging mode) [] (took_with frames took) failures bytes s s' result
+  pub judges : Judges (judging terms) [] (took_with frames took) failures bytes s s' result
 
 -- The session was fed these bytes, and with these frames sinks were told this of them. It is that of all units whose ends these bytes
 -- show, and these units are legal; and however the input goes on, what comes of the whole is this, and then what comes of
 -- where the session stands.
-pub record WasFed (mode : Mode) (session : Progress) (bytes : List ℕ) (frames : ℕ → Frame) (told : List Told) : Type 0 where
-  pub mode_is : session.mode ≡ mode
+pub record WasFed (terms : Terms) (session : Progress) (bytes : List ℕ) (frames : ℕ → Frame) (told : List Told) : Type 0 where
+  pub terms_is : session.terms ≡ terms
   pub runs : session.stop ≡ None
   pub before : History
-  pub keeps : Keeps session.mode frames before session.state
+  pub keeps : Keeps session.terms.mode frames before session.state
   pub shown : Shows 0 bytes (in_order before []) session.split.at session.split.rest
   pub undecided : IsUndecided session.split.rest
-  pub legal : AreLegal mode before told
+  pub legal : AreLegal terms before told
   pub of : AreOf (ended_in before) told
-  pub goes : (more : List ℕ) (o : Outcome Summary) → Comes (judging mode) 0 [] (bytes ++ more) o → (later : Outcome Summary) × ToCome (judging mode) (behind session.split before) more later × (o ≡ with_calls told later)
+  pub goes : (more : List ℕ) (o : Outcome Summary) → Comes (judging terms) 0 [] (bytes ++ more) o → (later : Outcome Summary) × ToCome (judging terms) (behind session.split before) more later × (o ≡ with_calls told later)
 
 -- The session was then fed these bytes, and the sink was told what comes of them behind that, with these frames and some more.
-pub record IsFed {S : Type 0} (mode : Mode) (took : S → List Call → Type 0) (failures : S → ℕ) (session : Progress) (bytes : List ℕ) (frames : ℕ → Frame) (told : List Told) (s s' : S) : Type 0 where
+pub record IsFed {S : Type 0} (terms : Terms) (took : S → List Call → Type 0) (failures : S → ℕ) (session : Progress) (bytes : List ℕ) (frames : ℕ → Frame) (told : List Told) (s s' : S) : Type 0 where
   pub made : ℕ → Frame
   pub same : SameTold frames made told
   pub more : List Told
   pub tells : Tells (took_with made took) s s' more
-  pub fed : WasFed mode session bytes made (told ++ more)
+  pub fed : WasFed terms session bytes made (told ++ more)
   pub kept : failures s' ≡ failures s

@@ -1,6 +1,6 @@
 -- A stream judged unit by unit, whatever is judged of a unit. A working form.
 use Rattle.std.specs.Prelude.{◌≡◌, ℕ, ◌+◌, ◌*◌, List, [], ◌∷◌, length, Option, Some, None, Err}
-use Rattle.h264_base.specs.declared.mode.Mode.{Mode}
+use Rattle.h264_judge.specs.declared.state.Terms.{Terms}
 use Rattle.h264_base.specs.declared.stop.Stop.{Stop}
 use Rattle.h264_units.specs.Stream.{NalUnit, Tail, Splits, tail_stop}
 use Rattle.h264_slices.specs.Outcome.{Outcome, ◌>>=◌, answers}
@@ -34,6 +34,6 @@ pub record Comes {State Summary : Type 0} (j : Judging State Summary) (at : ℕ)
   pub splits : Splits at bytes units tail
   pub is : o ≡ units_outcome j state units tail (at + length bytes)
 
--- the units of a stream in a mode, behind one another
-abbrev pub judging : Mode → Judging History Summary
-judging mode = record { unit = unit_outcome mode; end = end_outcome mode }
+-- the units of a stream judged by these terms, behind one another
+abbrev pub judging : Terms → Judging History Summary
+judging terms = record { unit = unit_outcome terms; end = end_outcome terms.mode }

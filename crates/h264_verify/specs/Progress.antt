@@ -1,6 +1,7 @@
 -- What a session is to its callers. A working form.
 use Rattle.std.specs.Prelude.{◌≡◌, ◌≤◌, ℕ, false, IsFalse, Option, Some, None, []}
 use Rattle.h264_base.specs.declared.mode.Mode.{Mode}
+use Rattle.h264_judge.specs.declared.state.Terms.{Terms}
 use Rattle.h264_base.specs.declared.stop.Stop.{Stop}
 use Rattle.h264_units.specs.Splitting.{Splitting, at_start}
 use Rattle.h264_judge.specs.declared.state.State.{State}
@@ -9,7 +10,7 @@ use Rattle.h264_judge.specs.Keeping.{Keeps, KeepsSome}
 
 -- what its splitter holds, what is kept of the units taken, and whether it has stopped
 pub record Progress : Type 0 where
-  pub mode : Mode
+  pub terms : Terms
   pub split : Splitting
   pub state : State
   pub stop : Option Stop
@@ -23,8 +24,8 @@ IsSession mode None split state = IsReady mode split state
 IsSession mode (Some stop) split state = Unit {0}
 
 -- before the first byte nothing was kept
-pub record IsFresh (session : Progress) (mode : Mode) : Type 0 where
-  pub mode_is : session.mode ≡ mode
+pub record IsFresh (session : Progress) (terms : Terms) : Type 0 where
+  pub terms_is : session.terms ≡ terms
   pub split : session.split ≡ at_start
-  pub keeps : (frames : ℕ → Frame) → Keeps session.mode frames [] session.state
+  pub keeps : (frames : ℕ → Frame) → Keeps session.terms.mode frames [] session.state
   pub stop : session.stop ≡ None

@@ -1,7 +1,7 @@
 -- To be read beside the standard. The verdict on a stream: a yes with its derivation, a no with the first rule that is broken and its
 -- bit, or the first feature that is not judged (7.3, 7.4, 8.2.1, B.1).
 use Rattle.std.specs.Prelude.{◌≡◌, ℕ, ◌+◌, ◌*◌, List, [], ◌∷◌, ◌++◌, length, Some, Result, Ok, Err}
-use Rattle.h264_base.specs.declared.mode.Mode.{Mode}
+use Rattle.h264_judge.specs.declared.state.Terms.{Terms}
 use Rattle.h264_base.specs.declared.rule.Rule.{Rule}
 use Rattle.h264_base.specs.declared.rule.Rule.TheVariants.{Emulation}
 use Rattle.h264_base.specs.declared.stop.Feature.{Feature}
@@ -23,21 +23,21 @@ abbrev pub IsSound : NalUnit → Type 0
 IsSound unit = (place : ℕ) → IsFault unit.body place → ⊥
 
 -- A unit behind these whose course comes to its end: with every rule met, no feature among them, and a derivation of its content.
-pub record IsLegal (mode : Mode) (before : History) (r : ReadUnit) (calls : List Told) : Type 0 where
+pub record IsLegal (terms : Terms) (before : History) (r : ReadUnit) (calls : List Told) : Type 0 where
   pub sound : IsSound r.unit
-  pub runs : Runs (body_of r.unit) (unit_course mode before r.unit) calls (Ok r.content)
+  pub runs : Runs (body_of r.unit) (unit_course terms before r.unit) calls (Ok r.content)
 
 -- A unit behind these at which the verdict falls, with what was told of it before.
-pub data IsStop (mode : Mode) (before : History) (unit : NalUnit) (stop : Stop) (calls : List Told) : Type 0 where
+pub data IsStop (terms : Terms) (before : History) (unit : NalUnit) (stop : Stop) (calls : List Told) : Type 0 where
   -- its bytes break emulation prevention: nothing is told
-  AtBytes : (place : ℕ) → IsFirstFault unit.body place → stop ≡ No (8 * (unit.from + place)) Emulation → calls ≡ [] → IsStop mode before unit stop calls
+  AtBytes : (place : ℕ) → IsFirstFault unit.body place → stop ≡ No (8 * (unit.from + place)) Emulation → calls ≡ [] → IsStop terms before unit stop calls
   -- its course stops
-  InCourse : IsSound unit → Runs (body_of unit) (unit_course mode before unit) calls (Err stop) → IsStop mode before unit stop calls
+  InCourse : IsSound unit → Runs (body_of unit) (unit_course terms before unit) calls (Err stop) → IsStop terms before unit stop calls
 
 -- All of these units are legal, and the sink is told of each in turn. The last one stands first.
-abbrev pub AreLegal : Mode → History → List Told → Type 0
-AreLegal mode [] calls = calls ≡ []
-AreLegal mode (r ∷ before) calls = (earlier : List Told) × (last : List Told) × AreLegal mode before earlier × IsLegal mode before r last × (calls ≡ earlier ++ last)
+abbrev pub AreLegal : Terms → History → List Told → Type 0
+AreLegal terms [] calls = calls ≡ []
+AreLegal terms (r ∷ before) calls = (earlier : List Told) × (last : List Told) × AreLegal terms before earlier × IsLegal terms before r last × (calls ≡ earlier ++ last)
 
 -- the units in their order, and these behind them
 abbrev pub in_order : History → List NalUnit → List NalUnit
@@ -46,68 +46,68 @@ in_order (r ∷ before) units = in_order before (r.unit ∷ units)
 
 -- The bytes are a byte stream, all its units are legal, and so is its end: there is a derivation that meets every rule, and no
 -- feature that is not judged.
-pub record Holds (mode : Mode) (bytes : List ℕ) (calls : List Told) (summary : Summary) : Type 0 where
+pub record Holds (terms : Terms) (bytes : List ℕ) (calls : List Told) (summary : Summary) : Type 0 where
   pub units : History
   pub stream : Splits 0 bytes (in_order units []) Zeros
   pub first : List Told
   pub last : List Told
-  pub legal : AreLegal mode units first
-  pub end : AreMet (end_steps mode units (8 * length bytes)) last
+  pub legal : AreLegal terms units first
+  pub end : AreMet (end_steps terms.mode units (8 * length bytes)) last
   pub calls_are : calls ≡ first ++ last
-  pub summary_is : summary ≡ summary_of mode units
+  pub summary_is : summary ≡ summary_of terms.mode units
 
 -- Behind the legal units the verdict falls at the next, or at what follows the last, or at the end of the input.
-pub data IsStopBehind (mode : Mode) (before : History) (units : List NalUnit) (tail : Tail) (end : ℕ) (stop : Stop) (calls : List Told) : Type 0 where
-  AtNext : (unit : NalUnit) (later : List NalUnit) → units ≡ unit ∷ later → IsStop mode before unit stop calls → IsStopBehind mode before units tail end stop calls
-  AtTail : units ≡ [] → tail_stop tail ≡ Some stop → calls ≡ [] → IsStopBehind mode before units tail end stop calls
-  AtEnd : units ≡ [] → tail ≡ Zeros → IsFirstStop (end_steps mode before (8 * end)) calls stop → IsStopBehind mode before units tail end stop calls
+pub data IsStopBehind (terms : Terms) (before : History) (units : List NalUnit) (tail : Tail) (end : ℕ) (stop : Stop) (calls : List Told) : Type 0 where
+  AtNext : (unit : NalUnit) (later : List NalUnit) → units ≡ unit ∷ later → IsStop terms before unit stop calls → IsStopBehind terms before units tail end stop calls
+  AtTail : units ≡ [] → tail_stop tail ≡ Some stop → calls ≡ [] → IsStopBehind terms before units tail end stop calls
+  AtEnd : units ≡ [] → tail ≡ Zeros → IsFirstStop (end_steps terms.mode before (8 * end)) calls stop → IsStopBehind terms before units tail end stop calls
 
 -- The units before are legal, and then the verdict falls.
-pub record StopsAt (mode : Mode) (bytes : List ℕ) (calls : List Told) (stop : Stop) : Type 0 where
+pub record StopsAt (terms : Terms) (bytes : List ℕ) (calls : List Told) (stop : Stop) : Type 0 where
   pub before : History
   pub units : List NalUnit
   pub tail : Tail
   pub stream : Splits 0 bytes (in_order before units) tail
   pub first : List Told
   pub last : List Told
-  pub legal : AreLegal mode before first
-  pub stops : IsStopBehind mode before units tail (length bytes) stop last
+  pub legal : AreLegal terms before first
+  pub stops : IsStopBehind terms before units tail (length bytes) stop last
   pub calls_are : calls ≡ first ++ last
 
 -- All rules before this one are met, it fails, and this is its bit.
-abbrev pub Breaks : Mode → List ℕ → List Told → ℕ → Rule → Type 0
-Breaks mode bytes calls bit rule = StopsAt mode bytes calls (No bit rule)
+abbrev pub Breaks : Terms → List ℕ → List Told → ℕ → Rule → Type 0
+Breaks terms bytes calls bit rule = StopsAt terms bytes calls (No bit rule)
 
 -- All rules before are met, and here stands a feature that is not judged.
-abbrev pub MayStop : Mode → List ℕ → List Told → ℕ → Feature → Type 0
-MayStop mode bytes calls bit feature = StopsAt mode bytes calls (Outside bit feature)
+abbrev pub MayStop : Terms → List ℕ → List Told → ℕ → Feature → Type 0
+MayStop terms bytes calls bit feature = StopsAt terms bytes calls (Outside bit feature)
 
 -- what is said of a stream, and what a sink is told of it up to there
-abbrev pub Verdict : Mode → List ℕ → List Told → Result Summary Stop → Type 0
-Verdict mode bytes calls (Ok summary) = Holds mode bytes calls summary
-Verdict mode bytes calls (Err stop) = StopsAt mode bytes calls stop
+abbrev pub Verdict : Terms → List ℕ → List Told → Result Summary Stop → Type 0
+Verdict terms bytes calls (Ok summary) = Holds terms bytes calls summary
+Verdict terms bytes calls (Err stop) = StopsAt terms bytes calls stop
 
 -- A sink that took some of a stream's calls has taken some more, and they are all that the stream has up to this verdict.
-pub record Whole {S : Type 0} (mode : Mode) (took : S → List Told → Type 0) (bytes : List ℕ) (calls : List Told) (s s' : S) (answer : Result Summary Stop) : Type 0 where
+pub record Whole {S : Type 0} (terms : Terms) (took : S → List Told → Type 0) (bytes : List ℕ) (calls : List Told) (s s' : S) (answer : Result Summary Stop) : Type 0 where
   pub more : List Told
   pub tells : Tells took s s' more
-  pub verdict : Verdict mode bytes (calls ++ more) answer
+  pub verdict : Verdict terms bytes (calls ++ more) answer
 
 -- They are the first of those that the stream has.
-pub record Front {S : Type 0} (mode : Mode) (took : S → List Told → Type 0) (bytes : List ℕ) (calls : List Told) (s s' : S) : Type 0 where
+pub record Front {S : Type 0} (terms : Terms) (took : S → List Told → Type 0) (bytes : List ℕ) (calls : List Told) (s s' : S) : Type 0 where
   pub more : List Told
   pub tells : Tells took s s' more
   pub rest : List Told
   pub answer : Result Summary Stop
-  pub verdict : Verdict mode bytes ((calls ++ more) ++ rest) answer
+  pub verdict : Verdict terms bytes ((calls ++ more) ++ rest) answer
 
-abbrev pub JudgedBy : {S : Type 0} → Mode → (S → List Told → Type 0) → (S → ℕ) → List ℕ → List Told → S → S → Result Summary Stop → Type 0
-JudgedBy mode took failures bytes calls s s' (Ok summary) = Whole mode took bytes calls s s' (Ok summary) × (failures s' ≡ failures s)
-JudgedBy mode took failures bytes calls s s' (Err (No bit rule)) = Whole mode took bytes calls s s' (Err (No bit rule)) × (failures s' ≡ failures s)
-JudgedBy mode took failures bytes calls s s' (Err (Outside bit feature)) = Whole mode took bytes calls s s' (Err (Outside bit feature)) × (failures s' ≡ failures s)
-JudgedBy mode took failures bytes calls s s' (Err Memory) = Front mode took bytes calls s s' × (failures s' ≡ failures s)
-JudgedBy mode took failures bytes calls s s' (Err Read) = Front mode took bytes calls s s' × (failures s' ≡ failures s)
-JudgedBy mode took failures bytes calls s s' (Err Write) = Front mode took bytes calls s s' × (failures s' ≡ failures s + 1)
+abbrev pub JudgedBy : {S : Type 0} → Terms → (S → List Told → Type 0) → (S → ℕ) → List ℕ → List Told → S → S → Result Summary Stop → Type 0
+JudgedBy terms took failures bytes calls s s' (Ok summary) = Whole terms took bytes calls s s' (Ok summary) × (failures s' ≡ failures s)
+JudgedBy terms took failures bytes calls s s' (Err (No bit rule)) = Whole terms took bytes calls s s' (Err (No bit rule)) × (failures s' ≡ failures s)
+JudgedBy terms took failures bytes calls s s' (Err (Outside bit feature)) = Whole terms took bytes calls s s' (Err (Outside bit feature)) × (failures s' ≡ failures s)
+JudgedBy terms took failures bytes calls s s' (Err Memory) = Front terms took bytes calls s s' × (failures s' ≡ failures s)
+JudgedBy terms took failures bytes calls s s' (Err Read) = Front terms took bytes calls s s' × (failures s' ≡ failures s)
+JudgedBy terms took failures bytes calls s s' (Err Write) = Front terms took bytes calls s s' × (failures s' ≡ failures s + 1)
 
 -- Of what was told with these frames the same is told with others, and the pictures are decoded as they were.
 pub record SameTold (frames others : ℕ → Frame) (told : List Told) : Type 0 where
@@ -116,7 +116,7 @@ pub record SameTold (frames others : ℕ → Frame) (told : List Told) : Type 0 
 
 -- Of this stream, of which this was told with these frames, a yes has Holds, a no Breaks, an outside MayStop, and a sink was then told
 -- exactly what comes up to there, with the frames of the pictures, decoded; memory, read and write come with the first of it.
-pub record Judged {S : Type 0} (mode : Mode) (took : S → List Call → Type 0) (failures : S → ℕ) (bytes : List ℕ) (frames : ℕ → Frame) (told : List Told) (s s' : S) (answer : Result Summary Stop) : Type 0 where
+pub record Judged {S : Type 0} (terms : Terms) (took : S → List Call → Type 0) (failures : S → ℕ) (bytes : List ℕ) (frames : ℕ → Frame) (told : List Told) (s s' : S) (answer : Result Summary Stop) : Type 0 where
   pub made : ℕ → Frame
   pub same : SameTold frames made told
-  pub judged : JudgedBy mode (took_with made took) failures bytes told s s' answer
+  pub judged : JudgedBy terms (took_with made took) failures bytes told s s' answer

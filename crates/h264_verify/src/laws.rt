@@ -3,9 +3,13 @@
 
 ghost use Rattle.std.specs.Prelude.{◌≡◌, ℕ, false, List, ◌∷◌, ◌++◌, Result};
 ghost use Rattle.h264_base.specs.declared.mode.Mode.{Mode};
+ghost use Rattle.h264_base.specs.declared.mode.Target.{Target};
+ghost use Rattle.h264_base.specs.declared.mode.Target.TheVariants.{Baseline, MainIP};
 ghost use Rattle.h264_base.specs.declared.stop.Stop.{Stop};
 ghost use Rattle.h264_slices.specs.Telling.{Told};
 ghost use Rattle.h264_judge.specs.declared.state.Summary.{Summary};
+ghost use Rattle.h264_judge.specs.declared.state.Terms.{Terms};
+ghost use Rattle.h264_judge.specs.Units.{terms_of};
 ghost use Rattle.h264_slices.specs.Pictures.{CodedPicture, goes_on, held_in, runs_of};
 ghost use Rattle.h264_slices.specs.Buffering.{within_newest};
 ghost use Rattle.h264_slices.specs.Held.{AreAmong};
@@ -22,30 +26,30 @@ ghost use Rattle.h264_base.specs.declared.mode.Mode.TheVariants.{Full};
 /// A stream has one verdict: a derivation that meets every rule, a first broken rule with its bit, and a feature with its bit
 /// exclude one another, and so do two of a kind. What a sink is told up to there is one list of calls.
 pub fn one_verdict()
-    ensures { (mode : Mode) (bytes : List ℕ) (calls others : List Told) (one other : Result Summary Stop) →
-        Verdict mode bytes calls one → Verdict mode bytes others other → (calls ≡ others) × (one ≡ other) }
+    ensures { (terms : Terms) (bytes : List ℕ) (calls others : List Told) (one other : Result Summary Stop) →
+        Verdict terms bytes calls one → Verdict terms bytes others other → (calls ≡ others) × (one ≡ other) }
 {}
 
 /// Each stream has a verdict.
 pub fn some_verdict()
-    ensures { (mode : Mode) (bytes : List ℕ) → (told : List Told) × (answer : Result Summary Stop) × Verdict mode bytes told answer }
+    ensures { (terms : Terms) (bytes : List ℕ) → (told : List Told) × (answer : Result Summary Stop) × Verdict terms bytes told answer }
 {}
 
 /// Every prediction refers to a held picture (8.4.2.1): each of the sixteen blocks of an inter macroblock of a picture `p` behind others, `ps`, refers to a picture that
 /// is held while `p` is decoded, in a stream with a yes (`whole`), and in units that are legal, whatever follows them (`legal`).
 pub fn predictions_are_held()
-    ensures whole { (bytes : List ℕ) (told : List Told) (summary : Summary) (h : Holds Full bytes told summary) (later : List CodedPicture) (p : CodedPicture) (ps : List CodedPicture) →
+    ensures whole { (target : Target) (bytes : List ℕ) (told : List Told) (summary : Summary) (h : Holds (terms_of Full target) bytes told summary) (later : List CodedPicture) (p : CodedPicture) (ps : List CodedPicture) →
         runs_of h.units ≡ later ++ p ∷ ps → ArePredicted p ps }
-    ensures legal { (before : History) (told : List Told) → AreLegal Full before told → (later : List CodedPicture) (p : CodedPicture) (ps : List CodedPicture) →
+    ensures legal { (target : Target) (before : History) (told : List Told) → AreLegal (terms_of Full target) before told → (later : List CodedPicture) (p : CodedPicture) (ps : List CodedPicture) →
         runs_of before ≡ later ++ p ∷ ps → ArePredicted p ps }
 {}
 
 /// While a picture is decoded, each picture that is held for reference has its frame in the buffer (C.4.4, C.4.5): of each picture `p` behind others, `ps`, of a stream
 /// with a yes (`whole`), and of units that are legal, whatever follows them (`legal`).
 pub fn held_pictures_stand()
-    ensures whole { (bytes : List ℕ) (told : List Told) (summary : Summary) (h : Holds Full bytes told summary) (later : List CodedPicture) (p : CodedPicture) (ps : List CodedPicture) →
+    ensures whole { (target : Target) (bytes : List ℕ) (told : List Told) (summary : Summary) (h : Holds (terms_of Full target) bytes told summary) (later : List CodedPicture) (p : CodedPicture) (ps : List CodedPicture) →
         runs_of h.units ≡ later ++ p ∷ ps → AreAmong (held_in (p ∷ ps)) (within_newest (p ∷ ps)).buffer }
-    ensures legal { (before : History) (told : List Told) → AreLegal Full before told → (later : List CodedPicture) (p : CodedPicture) (ps : List CodedPicture) →
+    ensures legal { (target : Target) (before : History) (told : List Told) → AreLegal (terms_of Full target) before told → (later : List CodedPicture) (p : CodedPicture) (ps : List CodedPicture) →
         runs_of before ≡ later ++ p ∷ ps → AreAmong (held_in (p ∷ ps)) (within_newest (p ∷ ps)).buffer }
 {}
 
@@ -54,11 +58,11 @@ pub fn held_pictures_stand()
 /// whatever follows them, each picture does while it is decoded (`decoded`), and each that has ended does then (`ended`). The buffer has the size that the sequence
 /// of the picture that ended last gives it, at most MaxDpbFrames of that sequence's level, or one place (A.3.1, E.2.1).
 pub fn buffer_stays_within()
-    ensures whole { (bytes : List ℕ) (told : List Told) (summary : Summary) (h : Holds Full bytes told summary) (later : List CodedPicture) (p : CodedPicture) (ps : List CodedPicture) →
+    ensures whole { (target : Target) (bytes : List ℕ) (told : List Told) (summary : Summary) (h : Holds (terms_of Full target) bytes told summary) (later : List CodedPicture) (p : CodedPicture) (ps : List CodedPicture) →
         runs_of h.units ≡ later ++ p ∷ ps → DecodesWithin p ps × EndsWithin p ps }
-    ensures decoded { (before : History) (told : List Told) → AreLegal Full before told → (later : List CodedPicture) (p : CodedPicture) (ps : List CodedPicture) →
+    ensures decoded { (target : Target) (before : History) (told : List Told) → AreLegal (terms_of Full target) before told → (later : List CodedPicture) (p : CodedPicture) (ps : List CodedPicture) →
         runs_of before ≡ later ++ p ∷ ps → DecodesWithin p ps }
-    ensures ended { (before : History) (told : List Told) → AreLegal Full before told → (later : List CodedPicture) (p : CodedPicture) (ps : List CodedPicture) →
+    ensures ended { (target : Target) (before : History) (told : List Told) → AreLegal (terms_of Full target) before told → (later : List CodedPicture) (p : CodedPicture) (ps : List CodedPicture) →
         ended_pictures (goes_on before) false (runs_of before) ≡ later ++ p ∷ ps → EndsWithin p ps }
 {}
 
@@ -66,17 +70,23 @@ pub fn buffer_stays_within()
 /// name, have the same sample at every place of every picture. So of the pictures of a stream with a yes (`whole`), and of those that have ended in units
 /// that are legal, whatever follows them (`legal`).
 pub fn one_family()
-    ensures whole { (bytes : List ℕ) (told : List Told) (summary : Summary) (h : Holds Full bytes told summary) (frames others : ℕ → Frame) →
+    ensures whole { (target : Target) (bytes : List ℕ) (told : List Told) (summary : Summary) (h : Holds (terms_of Full target) bytes told summary) (frames others : ℕ → Frame) →
         AreDecoded frames told → AreDecoded others told → AreSameOn frames others (runs_of h.units) }
-    ensures legal { (before : History) (told : List Told) → AreLegal Full before told → (frames others : ℕ → Frame) →
+    ensures legal { (target : Target) (before : History) (told : List Told) → AreLegal (terms_of Full target) before told → (frames others : ℕ → Frame) →
         AreDecoded frames told → AreDecoded others told → AreSameOn frames others (ended_pictures (goes_on before) false (runs_of before)) }
 {}
 
 /// What a sink is told of a stream up to its verdict, frames among it, is one list of calls, whichever family the frames are of (`verdict`); and so is what it
 /// is told of units that are legal, whatever follows them (`legal`).
 pub fn one_output()
-    ensures verdict { (bytes : List ℕ) (told : List Told) (answer : Result Summary Stop) → Verdict Full bytes told answer → (frames others : ℕ → Frame) →
+    ensures verdict { (target : Target) (bytes : List ℕ) (told : List Told) (answer : Result Summary Stop) → Verdict (terms_of Full target) bytes told answer → (frames others : ℕ → Frame) →
         AreDecoded frames told → AreDecoded others told → calls_of frames told ≡ calls_of others told }
-    ensures legal { (before : History) (told : List Told) → AreLegal Full before told → (frames others : ℕ → Frame) →
+    ensures legal { (target : Target) (before : History) (told : List Told) → AreLegal (terms_of Full target) before told → (frames others : ℕ → Frame) →
         AreDecoded frames told → AreDecoded others told → calls_of frames told ≡ calls_of others told }
+{}
+
+/// A stream that is legal for the target `Baseline` is legal for `MainIP`, with the same calls, frames among them, and the same summary.
+pub fn baseline_is_main_ip()
+    ensures { (mode : Mode) (bytes : List ℕ) (told : List Told) (summary : Summary) →
+        Holds (terms_of mode Baseline) bytes told summary → Holds (terms_of mode MainIP) bytes told summary }
 {}

@@ -1,7 +1,7 @@
 //! The verdict on a stream: what `run` and a `Session` tell a sink, and whether the stream is legal.
 //!
 //! A `Session` takes the bytes in pieces of any size; `run` reads a `Source` to its end. Each unit is judged as soon as its end
-//! is known, in the stated order of checks, by the mode: its own rules and the parameter sets; slice headers too, with the
+//! is known, in the stated order of checks, for the target, by the mode: its own rules and the parameter sets; slice headers too, with the
 //! pictures and counts that they give; or slice data too, with the pictures' samples. The sink is told each unit, each syntax
 //! element and each slice, and each frame in the order of output.
 //!
@@ -17,7 +17,7 @@ pub mod running;
 pub mod session;
 pub mod source;
 
-pub use h264_judge::Summary;
+pub use h264_judge::{Summary, Terms};
 pub use h264_slices::FrameSink;
 pub use running::run;
 pub use session::Session;

@@ -3,7 +3,8 @@
 
 ghost use Rattle.std.specs.Prelude.{◌≡◌, ℕ, ◌+◌, ◌-◌, ◌*◌, ◌<◌, ◌≤◌, ◌^◌, ◌⊎◌, List, [], ◌∷◌, ◌++◌, length, take, OnOk, OnErr, IfOk, IfErr, Ok, Err, None, Some, IsErrOf, IsTrue, IsFalse};
 ghost use Rattle.std.specs.List.{flat_map};
-ghost use Rattle.h264_base.specs.declared.mode.Mode.{Mode};
+ghost use Rattle.h264_judge.specs.Units.{terms_of};
+ghost use Rattle.h264_judge.specs.declared.state.Terms.{Terms};
 ghost use Rattle.h264_plane.specs.declared.frame.Frame.{Frame};
 ghost use Rattle.h264_verify.specs.Feeding.{FedOn, JudgesWith};
 ghost use Rattle.h264_verify.specs.Verdict.{Judged};
@@ -36,12 +37,12 @@ fn turn<R: Source, S: FrameSink>(
     requires source { R.failures source.old < 2 ^ 64 - 1 }
     requires room { 0 < length piece.old }
     requires runs { session.old.stop ≡ None }
-    ensures more { IfOk result (λ more. IsTrue more → (mode : Mode) (bytes : List ℕ) (first : _) → FedOn mode S.took (R.left source.old) bytes session.old first sink.old → FedOn mode S.took (R.left source.new) bytes session.new first sink.new) }
+    ensures more { IfOk result (λ more. IsTrue more → (terms : Terms) (bytes : List ℕ) (first : _) → FedOn terms S.took (R.left source.old) bytes session.old first sink.old → FedOn terms S.took (R.left source.new) bytes session.new first sink.new) }
     ensures end { IfOk result (λ more. IsFalse more → (session.new ≡ session.old) × (sink.new ≡ sink.old) × ((left : List ℕ) → R.left source.old ≡ Some left → left ≡ [])) }
-    ensures stops { IfErr result (λ stop. (mode : Mode) (bytes : List ℕ) (first : _) → FedOn mode S.took (R.left source.old) bytes session.old first sink.old → S.failures sink.old ≡ S.failures first → JudgesWith mode S.took S.failures bytes first sink.new (Err stop)) }
+    ensures stops { IfErr result (λ stop. (terms : Terms) (bytes : List ℕ) (first : _) → FedOn terms S.took (R.left source.old) bytes session.old first sink.old → S.failures sink.old ≡ S.failures first → JudgesWith terms S.took S.failures bytes first sink.new (Err stop)) }
     // What the source gave so far, whether it tells or not.
-    ensures heard { IfOk result (λ more. IsTrue more → (mode : Mode) (bytes : List ℕ) (first : _) → FedOn mode S.took (Some []) bytes session.old first sink.old → (piece : List ℕ) × FedOn mode S.took (Some []) (bytes ++ piece) session.new first sink.new) }
-    ensures heard_stop { IfErr result (λ stop. (mode : Mode) (bytes : List ℕ) (first : _) → FedOn mode S.took (Some []) bytes session.old first sink.old → S.failures sink.old ≡ S.failures first → (piece : List ℕ) × JudgesWith mode S.took S.failures (bytes ++ piece) first sink.new (Err stop)) }
+    ensures heard { IfOk result (λ more. IsTrue more → (terms : Terms) (bytes : List ℕ) (first : _) → FedOn terms S.took (Some []) bytes session.old first sink.old → (piece : List ℕ) × FedOn terms S.took (Some []) (bytes ++ piece) session.new first sink.new) }
+    ensures heard_stop { IfErr result (λ stop. (terms : Terms) (bytes : List ℕ) (first : _) → FedOn terms S.took (Some []) bytes session.old first sink.old → S.failures sink.old ≡ S.failures first → (piece : List ℕ) × JudgesWith terms S.took S.failures (bytes ++ piece) first sink.new (Err stop)) }
     ensures kept { OnOk result ((session.new.stop ≡ None) × (S.failures sink.new ≡ S.failures sink.old) × (R.failures source.new ≡ R.failures source.old)) }
     ensures again { (n : ℕ) → R.was_read source.old n → R.was_read source.new (n + 1) }
     ensures read { IsErrOf result Stop.Read → R.failures source.new ≡ R.failures source.old + 1 }
@@ -70,11 +71,11 @@ fn read_all<R: Source, S: FrameSink>(
     requires sink { S.failures sink.old < 2 ^ 64 - 1 }
     requires source { R.failures source.old < 2 ^ 64 - 1 }
     requires runs { session.old.stop ≡ None }
-    ensures fed { OnOk result ((mode : Mode) (bytes : List ℕ) (first : _) → FedOn mode S.took (R.left source.old) bytes session.old first sink.old → FedOn mode S.took (Some []) bytes session.new first sink.new) }
-    ensures stops { IfErr result (λ stop. (mode : Mode) (bytes : List ℕ) (first : _) → FedOn mode S.took (R.left source.old) bytes session.old first sink.old → S.failures sink.old ≡ S.failures first → JudgesWith mode S.took S.failures bytes first sink.new (Err stop)) }
+    ensures fed { OnOk result ((terms : Terms) (bytes : List ℕ) (first : _) → FedOn terms S.took (R.left source.old) bytes session.old first sink.old → FedOn terms S.took (Some []) bytes session.new first sink.new) }
+    ensures stops { IfErr result (λ stop. (terms : Terms) (bytes : List ℕ) (first : _) → FedOn terms S.took (R.left source.old) bytes session.old first sink.old → S.failures sink.old ≡ S.failures first → JudgesWith terms S.took S.failures bytes first sink.new (Err stop)) }
     // What the source gave, whether it tells or not.
-    ensures heard { OnOk result ((mode : Mode) (bytes : List ℕ) (first : _) → FedOn mode S.took (Some []) bytes session.old first sink.old → (more : List ℕ) × FedOn mode S.took (Some []) (bytes ++ more) session.new first sink.new) }
-    ensures heard_stop { IfErr result (λ stop. (mode : Mode) (bytes : List ℕ) (first : _) → FedOn mode S.took (Some []) bytes session.old first sink.old → S.failures sink.old ≡ S.failures first → (more : List ℕ) × JudgesWith mode S.took S.failures (bytes ++ more) first sink.new (Err stop)) }
+    ensures heard { OnOk result ((terms : Terms) (bytes : List ℕ) (first : _) → FedOn terms S.took (Some []) bytes session.old first sink.old → (more : List ℕ) × FedOn terms S.took (Some []) (bytes ++ more) session.new first sink.new) }
+    ensures heard_stop { IfErr result (λ stop. (terms : Terms) (bytes : List ℕ) (first : _) → FedOn terms S.took (Some []) bytes session.old first sink.old → S.failures sink.old ≡ S.failures first → (more : List ℕ) × JudgesWith terms S.took S.failures (bytes ++ more) first sink.new (Err stop)) }
     ensures kept { OnOk result ((session.new.stop ≡ None) × (S.failures sink.new ≡ S.failures sink.old)) }
     ensures read { IsErrOf result Stop.Read → (R.failures source.new ≡ R.failures source.old + 1) ⊎ ((n : ℕ) → R.was_read source.old n → R.was_read source.new (n + 2 ^ 41)) }
     ensures write { IsErrOf result Stop.Write → S.failures sink.new ≡ S.failures sink.old + 1 }
@@ -88,7 +89,7 @@ fn read_all<R: Source, S: FrameSink>(
     Err(Stop::Read)
 }
 
-/// The verdict on the stream that a source gives, read in pieces of 4,096 bytes. An interrupted read is tried again.
+/// The verdict on the stream that a source gives, for this target. It is read in pieces of 4,096 bytes. An interrupted read is tried again.
 ///
 /// Ok: the stream is legal. No: the first rule that it breaks, and where. Outside: the first feature that is not judged.
 /// Memory: a growth was refused. Read: the source failed, or was read 2^41 times. Write: the sink failed.
@@ -97,17 +98,18 @@ pub fn run<R: Source, S: FrameSink>(
     source: &mut R,
     sink: &mut S,
     mode: Mode,
+    target: Target,
 ) -> Result<Summary, Stop>
     requires sink { S.failures sink.old < 2 ^ 64 - 1 }
     requires source { R.failures source.old < 2 ^ 64 - 1 }
     // Yes, no and outside are those of the stream, with the calls up to there; memory, read and write come with the first calls.
-    ensures verdict { (bytes : List ℕ) → R.left source.old ≡ Some bytes → (frames : ℕ → Frame) → Judged mode S.took S.failures bytes frames [] sink.old sink.new result }
+    ensures verdict { (bytes : List ℕ) → R.left source.old ≡ Some bytes → (frames : ℕ → Frame) → Judged (terms_of mode target) S.took S.failures bytes frames [] sink.old sink.new result }
     // Of a source whose bytes are not known it is the verdict on some bytes.
-    ensures some { (frames : ℕ → Frame) → (bytes : List ℕ) × Judged mode S.took S.failures bytes frames [] sink.old sink.new result }
+    ensures some { (frames : ℕ → Frame) → (bytes : List ℕ) × Judged (terms_of mode target) S.took S.failures bytes frames [] sink.old sink.new result }
     ensures read { IsErrOf result Stop.Read → (R.failures source.new ≡ R.failures source.old + 1) ⊎ ((n : ℕ) → R.was_read source.old n → R.was_read source.new (n + 2 ^ 41)) }
     ensures write { IsErrOf result Stop.Write → S.failures sink.new ≡ S.failures sink.old + 1 }
 {
-    let mut session = match Session::new(alloc, mode, Target::Baseline) {
+    let mut session = match Session::new(alloc, mode, target) {
         Ok(session) => session,
         Err(stop) => return Err(stop),
     };
@@ -120,17 +122,18 @@ pub fn run<R: Source, S: FrameSink>(
     }
 }
 
-/// The verdict on a stream that comes in these pieces: that of their bytes, however they were cut.
+/// The verdict on a stream that comes in these pieces, for this target: that of their bytes, however they were cut.
 pub fn run_pieces<S: FrameSink>(
     alloc: Global,
     pieces: &[Vec<u8>],
     sink: &mut S,
     mode: Mode,
+    target: Target,
 ) -> Result<Summary, Stop>
     requires { S.failures sink.old < 2 ^ 64 - 1 }
-    ensures { (frames : ℕ → Frame) → Judged mode S.took S.failures (flat_map (λ piece. piece.items) pieces.now) frames [] sink.old sink.new result }
+    ensures { (frames : ℕ → Frame) → Judged (terms_of mode target) S.took S.failures (flat_map (λ piece. piece.items) pieces.now) frames [] sink.old sink.new result }
 {
-    let mut session = match Session::new(alloc, mode, Target::Baseline) {
+    let mut session = match Session::new(alloc, mode, target) {
         Ok(session) => session,
         Err(stop) => return Err(stop),
     };

@@ -4,17 +4,18 @@
 ghost use Rattle.std.specs.Prelude.{◌≡◌, ℕ, ◌+◌, ◌-◌, ◌*◌, ◌<◌, ◌≤◌, ◌^◌, List, [], ◌∷◌, ◌++◌, length, OnOk, OnErr, IfOk, IfErr, Ok, Err, None, drop, false, IsFalse, IfSome, Some, IsErrOf};
 ghost use Rattle.h264_units.specs.Stream.{IsUndecided};
 ghost use Rattle.h264_verify.specs.Progress.{IsFresh};
-ghost use Rattle.h264_base.specs.declared.mode.Mode.{Mode};
 ghost use Rattle.h264_plane.specs.declared.frame.Frame.{Frame};
 ghost use Rattle.h264_slices.specs.Telling.{Told};
 ghost use Rattle.h264_slices.specs.History.{History};
 ghost use Rattle.h264_judge.specs.Keeping.{Keeps, KeepsSome};
+ghost use Rattle.h264_judge.specs.Units.{terms_of};
+ghost use Rattle.h264_judge.specs.declared.state.Terms.{Terms};
 ghost use Rattle.h264_verify.specs.Feeding.{behind, GoesOn, StopsOn, FinishesOn, WasFed, IsFed};
 ghost use Rattle.h264_verify.specs.Verdict.{Judged};
 
 use h264_base::{Mode, Stop, Target};
 use h264_judge::unit::{judge_end, judge_unit};
-use h264_judge::{State, Summary};
+use h264_judge::{State, Summary, Terms};
 use h264_slices::sink::FrameSink;
 use h264_units::Splitter;
 use std::alloc::Global;
@@ -23,7 +24,7 @@ use std::marker::Model;
 /// Bytes up to the end of a unit, and the unit.
 fn feed_some<S: FrameSink>(
     alloc: Global,
-    mode: Mode,
+    terms: Terms,
     splitter: &mut Splitter,
     state: &mut State,
     piece: &[u8],
@@ -34,21 +35,21 @@ fn feed_some<S: FrameSink>(
     requires runs { (splitter.old.stop ≡ None) × IsFalse splitter.old.waiting × IsFalse splitter.old.ended }
     requires counted { state.old.units ≤ splitter.old.at }
     requires pictures { state.old.slices.pictures ≤ state.old.units }
-    requires keeps { KeepsSome mode false state.old }
+    requires keeps { KeepsSome terms.mode false state.old }
     ensures within { IfOk result (λ n. (0 < n) × (n ≤ length piece.now)) }
-    ensures goes { (frames : ℕ → Frame) (before : History) → Keeps mode frames before state.old → IfOk result (λ n. GoesOn mode S.took frames (behind splitter.old before) splitter.new state.new piece.now (drop n piece.now) sink.old sink.new) }
+    ensures goes { (frames : ℕ → Frame) (before : History) → Keeps terms.mode frames before state.old → IfOk result (λ n. GoesOn terms S.took frames (behind splitter.old before) splitter.new state.new piece.now (drop n piece.now) sink.old sink.new) }
     ensures runs { OnOk result ((splitter.new.stop ≡ None) × IsFalse splitter.new.waiting × IsFalse splitter.new.ended) }
     ensures counted { OnOk result (state.new.units ≤ splitter.new.at) }
     ensures pictures { OnOk result (state.new.slices.pictures ≤ state.new.units) }
     ensures undecided { OnOk result (IsUndecided splitter.new.rest) }
     ensures kept { OnOk result (S.failures sink.new ≡ S.failures sink.old) }
-    ensures stops { (frames : ℕ → Frame) (before : History) → Keeps mode frames before state.old → IfErr result (StopsOn mode S.took S.failures frames (behind splitter.old before) piece.now sink.old sink.new) }
+    ensures stops { (frames : ℕ → Frame) (before : History) → Keeps terms.mode frames before state.old → IfErr result (StopsOn terms S.took S.failures frames (behind splitter.old before) piece.now sink.old sink.new) }
 {
     let n = splitter.push(piece)?;
     match splitter.take_unit() {
         None => Ok(n),
         Some(unit) => {
-            judge_unit(alloc, mode, state, &unit, sink)?;
+            judge_unit(alloc, terms, state, &unit, sink)?;
             Ok(n)
         }
     }
@@ -64,7 +65,7 @@ fn after(piece: &[u8], n: usize) -> &[u8]
 /// All of a piece.
 fn feed_all<S: FrameSink>(
     alloc: Global,
-    mode: Mode,
+    terms: Terms,
     splitter: &mut Splitter,
     state: &mut State,
     piece: &[u8],
@@ -74,18 +75,18 @@ fn feed_all<S: FrameSink>(
     requires runs { (splitter.old.stop ≡ None) × IsFalse splitter.old.waiting × IsFalse splitter.old.ended }
     requires counted { state.old.units ≤ splitter.old.at }
     requires pictures { state.old.slices.pictures ≤ state.old.units }
-    requires keeps { KeepsSome mode false state.old }
-    ensures goes { (frames : ℕ → Frame) (before : History) → Keeps mode frames before state.old → OnOk result (GoesOn mode S.took frames (behind splitter.old before) splitter.new state.new piece.now [] sink.old sink.new) }
+    requires keeps { KeepsSome terms.mode false state.old }
+    ensures goes { (frames : ℕ → Frame) (before : History) → Keeps terms.mode frames before state.old → OnOk result (GoesOn terms S.took frames (behind splitter.old before) splitter.new state.new piece.now [] sink.old sink.new) }
     ensures runs { OnOk result ((splitter.new.stop ≡ None) × IsFalse splitter.new.waiting × IsFalse splitter.new.ended) }
     ensures counted { OnOk result (state.new.units ≤ splitter.new.at) }
     ensures pictures { OnOk result (state.new.slices.pictures ≤ state.new.units) }
     ensures undecided { OnOk result (IsUndecided splitter.old.rest → IsUndecided splitter.new.rest) }
     ensures kept { OnOk result (S.failures sink.new ≡ S.failures sink.old) }
-    ensures stops { (frames : ℕ → Frame) (before : History) → Keeps mode frames before state.old → IfErr result (StopsOn mode S.took S.failures frames (behind splitter.old before) piece.now sink.old sink.new) }
+    ensures stops { (frames : ℕ → Frame) (before : History) → Keeps terms.mode frames before state.old → IfErr result (StopsOn terms S.took S.failures frames (behind splitter.old before) piece.now sink.old sink.new) }
 {
     let mut rest = piece;
     while !rest.is_empty() {
-        let n = feed_some(alloc, mode, splitter, state, rest, sink)?;
+        let n = feed_some(alloc, terms, splitter, state, rest, sink)?;
         rest = after(rest, n);
     }
     Ok(())
@@ -94,7 +95,7 @@ fn feed_all<S: FrameSink>(
 /// What is left at the end of the input.
 fn finish_all<S: FrameSink>(
     alloc: Global,
-    mode: Mode,
+    terms: Terms,
     splitter: &mut Splitter,
     state: &mut State,
     sink: &mut S,
@@ -103,15 +104,15 @@ fn finish_all<S: FrameSink>(
     requires runs { (splitter.old.stop ≡ None) × IsFalse splitter.old.waiting × IsFalse splitter.old.ended }
     requires counted { state.old.units ≤ splitter.old.at }
     requires pictures { state.old.slices.pictures ≤ state.old.units }
-    requires keeps { KeepsSome mode false state.old }
-    ensures { (frames : ℕ → Frame) (before : History) → Keeps mode frames before state.old → FinishesOn mode S.took S.failures frames (behind splitter.old before) sink.old sink.new result }
+    requires keeps { KeepsSome terms.mode false state.old }
+    ensures { (frames : ℕ → Frame) (before : History) → Keeps terms.mode frames before state.old → FinishesOn terms S.took S.failures frames (behind splitter.old before) sink.old sink.new result }
 {
     splitter.finish()?;
     match splitter.take_unit() {
-        None => judge_end(mode, state, 8 * splitter.length(), sink),
+        None => judge_end(terms.mode, state, 8 * splitter.length(), sink),
         Some(unit) => {
-            judge_unit(alloc, mode, state, &unit, sink)?;
-            judge_end(mode, state, 8 * splitter.length(), sink)
+            judge_unit(alloc, terms, state, &unit, sink)?;
+            judge_end(terms.mode, state, 8 * splitter.length(), sink)
         }
     }
 }
@@ -123,7 +124,7 @@ fn let_go(_splitter: Splitter, _state: State) {}
 #[derive(Drop)]
 pub struct Session {
     alloc: Global,
-    mode: Mode,
+    terms: Terms,
     splitter: Splitter,
     state: State,
     stop: Option<Stop>,
@@ -134,22 +135,22 @@ impl Model for Session {
 
     ghost Value = { Progress };
 
-    ghost view = { λ s. record { mode = s.mode; split = s.splitter; state = s.state; stop = s.stop } };
+    ghost view = { λ s. record { terms = s.terms; split = s.splitter; state = s.state; stop = s.stop } };
 
-    ghost invariant = { λ s. IsSession s.mode s.stop s.splitter s.state };
+    ghost invariant = { λ s. IsSession s.terms.mode s.stop s.splitter s.state };
 }
 
 impl Session {
-    /// A session before the first byte. It takes the places of the parameter sets and a first place of contexts: Memory where they are refused.
-    pub fn new(alloc: Global, mode: Mode, _target: Target) -> Result<Session, Stop>
-        ensures fresh { IfOk result (λ s. IsFresh s mode) }
-        ensures fed { IfOk result (λ s. (frames : ℕ → Frame) → WasFed mode s [] frames []) }
+    /// A session before the first byte, of a stream that is judged so far and for this target. It takes the places of the parameter sets and a first place of contexts: Memory where they are refused.
+    pub fn new(alloc: Global, mode: Mode, target: Target) -> Result<Session, Stop>
+        ensures fresh { IfOk result (λ s. IsFresh s (terms_of mode target)) }
+        ensures fed { IfOk result (λ s. (frames : ℕ → Frame) → WasFed (terms_of mode target) s [] frames []) }
         ensures err { IfErr result (λ e. e ≡ Stop.Memory) }
     {
         let state = State::new(alloc)?;
         Ok(Session {
             alloc,
-            mode,
+            terms: Terms { mode, target },
             splitter: Splitter::new(alloc),
             state,
             stop: None,
@@ -161,20 +162,20 @@ impl Session {
         requires count { S.failures sink.old < 2 ^ 64 - 1 }
         requires runs { self.old.stop ≡ None }
         // However the input goes on, what comes is what the sink was told now and what comes later.
-        ensures goes { (frames : ℕ → Frame) (before : History) → Keeps self.old.mode frames before self.old.state → OnOk result (GoesOn self.old.mode S.took frames (behind self.old.split before) self.new.split self.new.state piece.now [] sink.old sink.new) }
+        ensures goes { (frames : ℕ → Frame) (before : History) → Keeps self.old.terms.mode frames before self.old.state → OnOk result (GoesOn self.old.terms S.took frames (behind self.old.split before) self.new.split self.new.state piece.now [] sink.old sink.new) }
         ensures undecided { OnOk result (IsUndecided self.old.split.rest → IsUndecided self.new.split.rest) }
         ensures going { OnOk result (self.new.stop ≡ None) }
         ensures kept { OnOk result (S.failures sink.new ≡ S.failures sink.old) }
         // The stop is the stream's, or the sink failed, or memory was refused.
-        ensures stops { (frames : ℕ → Frame) (before : History) → Keeps self.old.mode frames before self.old.state → IfErr result (StopsOn self.old.mode S.took S.failures frames (behind self.old.split before) piece.now sink.old sink.new) }
+        ensures stops { (frames : ℕ → Frame) (before : History) → Keeps self.old.terms.mode frames before self.old.state → IfErr result (StopsOn self.old.terms S.took S.failures frames (behind self.old.split before) piece.now sink.old sink.new) }
         ensures stopped { IfErr result (λ stop. self.new.stop ≡ Some stop) }
-        ensures mode { self.new.mode ≡ self.old.mode }
+        ensures terms { self.new.terms ≡ self.old.terms }
         ensures write { IsErrOf result Stop.Write → S.failures sink.new ≡ S.failures sink.old + 1 }
         ensures no_read { IsErrOf result Stop.Read → ⊥ }
     {
         match feed_all(
             self.alloc,
-            self.mode,
+            self.terms,
             &mut self.splitter,
             &mut self.state,
             piece,
@@ -192,13 +193,13 @@ impl Session {
     pub(crate) fn conclude<S: FrameSink>(self, sink: &mut S) -> Result<Summary, Stop>
         requires count { S.failures sink.old < 2 ^ 64 - 1 }
         requires runs { self.stop ≡ None }
-        ensures finishes { (frames : ℕ → Frame) (before : History) → Keeps self.mode frames before self.state → FinishesOn self.mode S.took S.failures frames (behind self.split before) sink.old sink.new result }
+        ensures finishes { (frames : ℕ → Frame) (before : History) → Keeps self.terms.mode frames before self.state → FinishesOn self.terms S.took S.failures frames (behind self.split before) sink.old sink.new result }
         ensures write { IsErrOf result Stop.Write → S.failures sink.new ≡ S.failures sink.old + 1 }
         ensures no_read { IsErrOf result Stop.Read → ⊥ }
     {
         let mut splitter = self.splitter;
         let mut state = self.state;
-        let judged = finish_all(self.alloc, self.mode, &mut splitter, &mut state, sink);
+        let judged = finish_all(self.alloc, self.terms, &mut splitter, &mut state, sink);
         let_go(splitter, state);
         judged
     }
@@ -213,12 +214,12 @@ impl Session {
     pub fn feed<S: FrameSink>(&mut self, piece: &[u8], sink: &mut S) -> Result<(), Stop>
         requires { self.old.stop ≡ None → S.failures sink.old < 2 ^ 64 - 1 }
         // It was then fed the piece too.
-        ensures fed { (mode : Mode) (bytes : List ℕ) (frames : ℕ → Frame) (told : List Told) → WasFed mode self.old bytes frames told → OnOk result (IsFed mode S.took S.failures self.new (bytes ++ piece.now) frames told sink.old sink.new) }
+        ensures fed { (terms : Terms) (bytes : List ℕ) (frames : ℕ → Frame) (told : List Told) → WasFed terms self.old bytes frames told → OnOk result (IsFed terms S.took S.failures self.new (bytes ++ piece.now) frames told sink.old sink.new) }
         // However the input goes on, this is its verdict.
-        ensures stops { (mode : Mode) (bytes : List ℕ) (frames : ℕ → Frame) (told : List Told) → WasFed mode self.old bytes frames told → IfErr result (λ stop. (later : List ℕ) → Judged mode S.took S.failures ((bytes ++ piece.now) ++ later) frames told sink.old sink.new (Err stop)) }
+        ensures stops { (terms : Terms) (bytes : List ℕ) (frames : ℕ → Frame) (told : List Told) → WasFed terms self.old bytes frames told → IfErr result (λ stop. (later : List ℕ) → Judged terms S.took S.failures ((bytes ++ piece.now) ++ later) frames told sink.old sink.new (Err stop)) }
         ensures stopped { IfErr result (λ stop. self.new.stop ≡ Some stop) }
         ensures no_read { self.old.stop ≡ None → IsErrOf result Stop.Read → ⊥ }
-        ensures mode { self.new.mode ≡ self.old.mode }
+        ensures terms { self.new.terms ≡ self.old.terms }
         // A stopped session repeats its stop, and touches no sink.
         ensures again { IfSome self.old.stop (λ stop. (result ≡ Err stop) × (self.new ≡ self.old) × (sink.new ≡ sink.old)) }
     {
@@ -232,7 +233,7 @@ impl Session {
     pub fn finish<S: FrameSink>(self, sink: &mut S) -> Result<Summary, Stop>
         requires { self.stop ≡ None → S.failures sink.old < 2 ^ 64 - 1 }
         // The verdict on all that it was fed.
-        ensures verdict { (mode : Mode) (bytes : List ℕ) (frames : ℕ → Frame) (told : List Told) → WasFed mode self bytes frames told → Judged mode S.took S.failures bytes frames told sink.old sink.new result }
+        ensures verdict { (terms : Terms) (bytes : List ℕ) (frames : ℕ → Frame) (told : List Told) → WasFed terms self bytes frames told → Judged terms S.took S.failures bytes frames told sink.old sink.new result }
         ensures no_read { self.stop ≡ None → IsErrOf result Stop.Read → ⊥ }
         ensures again { IfSome self.stop (λ stop. (result ≡ Err stop) × (sink.new ≡ sink.old)) }
     {

@@ -6,8 +6,8 @@ use Rattle.h264_verify.proofs.running.read_all.Goals as goal
 
 pub loop-init : goal.loop-init
 loop-init g c = record {
-  fed = λ mode bytes first f. f;
-  heard = λ mode bytes first f. ([], heard-none f);
+  fed = λ terms bytes first f. f;
+  heard = λ terms bytes first f. ([], heard-none f);
   runs = c.requires.runs;
   kept = refl;
   quiet = refl;
@@ -16,8 +16,8 @@ loop-init g c = record {
 
 pub loop-preserved : goal.loop-preserved
 loop-preserved g c = record {
-  fed = λ mode bytes first f. c.in_ok-turn.ensures.more c.if-not-branch.false mode bytes first (c.loop.invariant.fed mode bytes first f);
-  heard = λ mode bytes first f. let h = c.loop.invariant.heard mode bytes first f in let s = c.in_ok-turn.ensures.heard c.if-not-branch.false mode (bytes ++ h.0) first h.1 in (h.0 ++ s.0, rw append_assoc at s.1);
+  fed = λ terms bytes first f. c.in_ok-turn.ensures.more c.if-not-branch.false terms bytes first (c.loop.invariant.fed terms bytes first f);
+  heard = λ terms bytes first f. let h = c.loop.invariant.heard terms bytes first f in let s = c.in_ok-turn.ensures.heard c.if-not-branch.false terms (bytes ++ h.0) first h.1 in (h.0 ++ s.0, rw append_assoc at s.1);
   runs = c.in_ok-turn.ensures.kept.0;
   kept = c.in_ok-turn.ensures.kept.1 ∙ c.loop.invariant.kept;
   quiet = c.in_ok-turn.ensures.kept.2 ∙ c.loop.invariant.quiet;
@@ -25,32 +25,32 @@ loop-preserved g c = record {
 }
 
 pub returns-in_err-turn-clause-stops : goal.returns-in_err-turn-clause-stops
-returns-in_err-turn-clause-stops g c = let p = err_from_is_err_and c.from_residual.result c.from_residual.ensures.1 in rw (p.1, p.2) (λ mode bytes first f k. c.in_err-turn.ensures.stops mode bytes first (c.loop.invariant.fed mode bytes first f) (c.loop.invariant.kept ∙ k))
+returns-in_err-turn-clause-stops g c = let p = err_from_is_err_and c.from_residual.result c.from_residual.ensures.1 in rw (p.1, p.2) (λ terms bytes first f k. c.in_err-turn.ensures.stops terms bytes first (c.loop.invariant.fed terms bytes first f) (c.loop.invariant.kept ∙ k))
 
 pub returns-in_err-turn-clause-heard_stop : goal.returns-in_err-turn-clause-heard_stop
 returns-in_err-turn-clause-heard_stop g c =
     let p = err_from_is_err_and c.from_residual.result c.from_residual.ensures.1 in
-    rw (p.1, p.2) (λ mode bytes first f k.
-    let h = c.loop.invariant.heard mode bytes first f in
-    let s = c.in_err-turn.ensures.heard_stop mode (bytes ++ h.0) first h.1 (c.loop.invariant.kept ∙ k) in
+    rw (p.1, p.2) (λ terms bytes first f k.
+    let h = c.loop.invariant.heard terms bytes first f in
+    let s = c.in_err-turn.ensures.heard_stop terms (bytes ++ h.0) first h.1 (c.loop.invariant.kept ∙ k) in
     (h.0 ++ s.0, rw append_assoc at s.1))
 
 pub returns-then-not-branch-clause-fed : goal.returns-then-not-branch-clause-fed
-returns-then-not-branch-clause-fed g c = λ mode bytes first f.
+returns-then-not-branch-clause-fed g c = λ terms bytes first f.
     let e = c.in_ok-turn.ensures.end c.if-not-branch.true in
-    rw (e.0, e.1) (fed-again (Some []) (λ left same. let none : left ≡ [] = e.2 left same in rw none refl) (c.loop.invariant.fed mode bytes first f))
+    rw (e.0, e.1) (fed-again (Some []) (λ left same. let none : left ≡ [] = e.2 left same in rw none refl) (c.loop.invariant.fed terms bytes first f))
 
 pub returns-then-not-branch-clause-heard : goal.returns-then-not-branch-clause-heard
-returns-then-not-branch-clause-heard g c = λ mode bytes first f.
+returns-then-not-branch-clause-heard g c = λ terms bytes first f.
     let e = c.in_ok-turn.ensures.end c.if-not-branch.true in
-    rw (e.0, e.1) (c.loop.invariant.heard mode bytes first f)
+    rw (e.0, e.1) (c.loop.invariant.heard terms bytes first f)
 
 pub returns-clause-stops : goal.returns-clause-stops
-returns-clause-stops g c = λ mode bytes first f k. fed-fails (c.loop.invariant.fed mode bytes first f) (c.loop.invariant.kept ∙ k)
+returns-clause-stops g c = λ terms bytes first f k. fed-fails (c.loop.invariant.fed terms bytes first f) (c.loop.invariant.kept ∙ k)
 
 pub returns-clause-heard_stop : goal.returns-clause-heard_stop
-returns-clause-heard_stop g c = λ mode bytes first f k.
-    let h = c.loop.invariant.heard mode bytes first f in
+returns-clause-heard_stop g c = λ terms bytes first f k.
+    let h = c.loop.invariant.heard terms bytes first f in
     (h.0, fed-fails h.1 (c.loop.invariant.kept ∙ k))
 
 pub returns-clause-read : goal.returns-clause-read

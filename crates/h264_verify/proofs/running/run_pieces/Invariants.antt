@@ -7,8 +7,8 @@ use Rattle.h264_verify.proofs.running.run_pieces.Given as goal
 
 abbrev pub invariant-loop-piece : goal.invariant-loop-piece
 invariant-loop-piece g l = record {
-  goes : (frames : ℕ → Frame) → GoesOn l.initial.session.mode g.S.Elements.took frames (behind at_start []) l.session.split l.session.state (flat_map (λ piece. piece.items) (take l.piece-index l.pieces)) [] l.initial.sink l.sink;
+  goes : (frames : ℕ → Frame) → GoesOn l.initial.session.terms g.S.Elements.took frames (behind at_start []) l.session.split l.session.state (flat_map (λ piece. piece.items) (take l.piece-index l.pieces)) [] l.initial.sink l.sink;
   runs : l.session.stop ≡ None;
-  mode_is : l.session.mode ≡ l.initial.session.mode;
+  terms_is : l.session.terms ≡ l.initial.session.terms;
   kept : g.S.Elements.failures l.sink ≡ g.S.Elements.failures l.initial.sink;
 }

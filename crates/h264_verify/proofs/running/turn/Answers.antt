@@ -21,9 +21,9 @@ pub returns-in-Err : goal.returns-in-Err
 returns-in-Err g c = record {
   more = tt;
   end = tt;
-  stops = λ mode bytes first f k. fed-fails f k;
+  stops = λ terms bytes first f k. fed-fails f k;
   heard = tt;
-  heard_stop = λ mode bytes first f k. ([], heard-fails f k);
+  heard_stop = λ terms bytes first f k. ([], heard-fails f k);
   kept = tt;
   again = c.read.ensures.again;
   read = λ h. c.in-Err.ensures.failed;
@@ -33,10 +33,10 @@ returns-in-Err g c = record {
 
 pub returns-in-Ok-None : goal.returns-in-Ok-None
 returns-in-Ok-None g c = record {
-  more = λ h mode bytes first f. fed-again _ (rw c.in-Ok-None.field-0-is at c.in-Ok-None.ensures.interrupted) f;
+  more = λ h terms bytes first f. fed-again _ (rw c.in-Ok-None.field-0-is at c.in-Ok-None.ensures.interrupted) f;
   end = λ h. absurd (true-not-false h);
   stops = tt;
-  heard = λ h mode bytes first f. ([], heard-none f);
+  heard = λ h terms bytes first f. ([], heard-none f);
   heard_stop = tt;
   kept = (c.requires.runs, refl, c.in-Ok-None.ensures.kept);
   again = c.read.ensures.again;
@@ -51,9 +51,9 @@ returns-in_err-advance-in-Ok-Some g c =
     rw (p.1, p.2) (record {
       more = tt;
       end = tt;
-      stops = λ mode bytes first f k. fed-halts (g.R.Source.left c.read.new.self) c.read.new.piece c.in-Ok-Some.n (rw c.in-Ok-Some.field-0-is at c.in-Ok-Some.ensures.bytes) f k (rw c.front.ensures at (c.in_err-advance-in-Ok-Some.ensures.stops f.frames f.after f.keeps));
+      stops = λ terms bytes first f k. fed-halts (g.R.Source.left c.read.new.self) c.read.new.piece c.in-Ok-Some.n (rw c.in-Ok-Some.field-0-is at c.in-Ok-Some.ensures.bytes) f k (rw c.front.ensures at (c.in_err-advance-in-Ok-Some.ensures.stops f.frames f.after f.keeps));
       heard = tt;
-      heard_stop = λ mode bytes first f k. (take c.in-Ok-Some.n c.read.new.piece, heard-halts c.read.new.piece c.in-Ok-Some.n f k (rw c.front.ensures at (c.in_err-advance-in-Ok-Some.ensures.stops f.frames f.after f.keeps)));
+      heard_stop = λ terms bytes first f k. (take c.in-Ok-Some.n c.read.new.piece, heard-halts c.read.new.piece c.in-Ok-Some.n f k (rw c.front.ensures at (c.in_err-advance-in-Ok-Some.ensures.stops f.frames f.after f.keeps)));
       kept = tt;
       again = c.read.ensures.again;
       read = λ h. absurd (c.in_err-advance-in-Ok-Some.ensures.no_read (err-as _ _ h));
@@ -63,10 +63,10 @@ returns-in_err-advance-in-Ok-Some g c =
 
 pub returns-in_ok-advance-in-Ok-Some : goal.returns-in_ok-advance-in-Ok-Some
 returns-in_ok-advance-in-Ok-Some g c = record {
-  more = λ h mode bytes first f. fed-more (g.R.Source.left c.read.new.self) c.read.new.piece c.in-Ok-Some.n c.in_ok-advance-in-Ok-Some.ensures.mode (rw c.in-Ok-Some.field-0-is at c.in-Ok-Some.ensures.bytes) f (rw c.front.ensures at (c.in_ok-advance-in-Ok-Some.ensures.goes f.frames f.after f.keeps));
+  more = λ h terms bytes first f. fed-more (g.R.Source.left c.read.new.self) c.read.new.piece c.in-Ok-Some.n c.in_ok-advance-in-Ok-Some.ensures.terms (rw c.in-Ok-Some.field-0-is at c.in-Ok-Some.ensures.bytes) f (rw c.front.ensures at (c.in_ok-advance-in-Ok-Some.ensures.goes f.frames f.after f.keeps));
   end = λ h. absurd (true-not-false h);
   stops = tt;
-  heard = λ h mode bytes first f. (take c.in-Ok-Some.n c.read.new.piece, heard-more c.read.new.piece c.in-Ok-Some.n c.in_ok-advance-in-Ok-Some.ensures.mode f (rw c.front.ensures at (c.in_ok-advance-in-Ok-Some.ensures.goes f.frames f.after f.keeps)));
+  heard = λ h terms bytes first f. (take c.in-Ok-Some.n c.read.new.piece, heard-more c.read.new.piece c.in-Ok-Some.n c.in_ok-advance-in-Ok-Some.ensures.terms f (rw c.front.ensures at (c.in_ok-advance-in-Ok-Some.ensures.goes f.frames f.after f.keeps)));
   heard_stop = tt;
   kept = (c.in_ok-advance-in-Ok-Some.ensures.going, c.in_ok-advance-in-Ok-Some.ensures.kept, c.in-Ok-Some.ensures.kept);
   again = c.read.ensures.again;

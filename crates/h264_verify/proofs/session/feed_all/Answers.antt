@@ -4,7 +4,7 @@ use Rattle.h264_verify.proofs.Familiar.{on-both, on-stops, on-none, on-end, none
 use Rattle.h264_verify.proofs.session.feed_all.Goals as goal
 
 pub loop-rest-init : goal.loop-rest-init
-loop-rest-init g c = record { goes = λ frames before k. on-none c.args.mode _ frames _ before _ _ _ k; undecided = λ u. u; runs = c.requires.runs; counted = c.requires.counted; pictures = c.requires.pictures; kept = refl }
+loop-rest-init g c = record { goes = λ frames before k. on-none c.args.terms _ frames _ before _ _ _ k; undecided = λ u. u; runs = c.requires.runs; counted = c.requires.counted; pictures = c.requires.pictures; kept = refl }
 
 pub feed_some-requires-clause-keeps : goal.feed_some-requires-clause-keeps
 feed_some-requires-clause-keeps g c = let k = c.requires.keeps in on-keeps (c.loop-rest.invariant.goes k.frames k.before k.keeps)

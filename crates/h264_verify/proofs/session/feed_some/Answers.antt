@@ -16,11 +16,11 @@ returns-in_err-n g c =
       pictures = tt;
       undecided = tt;
       kept = tt;
-      stops = λ frames before k. record { made = frames; same = agree-none _ frames; stops = stops-push (judging c.args.mode) _ _ _ _ _ _ _ _ (c.in_err-n.ensures.err c.requires.runs.0) };
+      stops = λ frames before k. record { made = frames; same = agree-none _ frames; stops = stops-push (judging c.args.terms) _ _ _ _ _ _ _ _ (c.in_err-n.ensures.err c.requires.runs.0) };
     })
 
 pub returns-in-None-clause-goes : goal.returns-in-None-clause-goes
-returns-in-None-clause-goes g c = λ frames before k. on-push c.args.mode _ frames before _ _ c.in_ok-n.ensures.ok c.in-None.ensures.none k
+returns-in-None-clause-goes g c = λ frames before k. on-push c.args.terms _ frames before _ _ c.in_ok-n.ensures.ok c.in-None.ensures.none k
 
 pub returns-in_err-judge_unit-in-Some : goal.returns-in_err-judge_unit-in-Some
 returns-in_err-judge_unit-in-Some g c =
@@ -33,7 +33,7 @@ returns-in_err-judge_unit-in-Some g c =
       pictures = tt;
       undecided = tt;
       kept = tt;
-      stops = λ frames before k. let t = c.in_err-judge_unit-in-Some.ensures.turns frames before k in record { made = t.made; same = t.same; stops = stops-after (judging c.args.mode) _ _ _ _ _ _ _ _ _ _ (goes-push (judging c.args.mode) _ _ _ _ _ _ _ c.in_ok-n.ensures.ok) refl (stops-unit (judging c.args.mode) _ _ (λ x. t.after) _ c.take_unit.new.self _ _ _ _ _ _ c.in-Some.ensures.some (c.in_ok-n.ensures.ok.ended_is ∙ c.requires.runs.2) t.plays) };
+      stops = λ frames before k. let t = c.in_err-judge_unit-in-Some.ensures.turns frames before k in record { made = t.made; same = t.same; stops = stops-after (judging c.args.terms) _ _ _ _ _ _ _ _ _ _ (goes-push (judging c.args.terms) _ _ _ _ _ _ _ c.in_ok-n.ensures.ok) refl (stops-unit (judging c.args.terms) _ _ (λ x. t.after) _ c.take_unit.new.self _ _ _ _ _ _ c.in-Some.ensures.some (c.in_ok-n.ensures.ok.ended_is ∙ c.requires.runs.2) t.plays) };
     })
 
 pub returns-in_ok-judge_unit-in-Some-clause-goes : goal.returns-in_ok-judge_unit-in-Some-clause-goes

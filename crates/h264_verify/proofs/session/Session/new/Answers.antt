@@ -1,5 +1,6 @@
 use Rattle.std.proofs.Common.{◌≡◌, ℕ, refl, ap, arith, []}
 use Rattle.h264_base.specs.declared.mode.Mode.{Mode}
+use Rattle.h264_judge.specs.Units.{terms_of}
 use Rattle.h264_plane.specs.declared.frame.Frame.{Frame}
 use Rattle.h264_plane.specs.Frames.{no_frame}
 use Rattle.h264_units.specs.Splitting.{Splitting, at_start}
@@ -16,10 +17,10 @@ ready-first mode split state e k =
     ((ap (λ (s : Splitting). s.stop) e, ap (λ (s : Splitting). s.waiting) e, ap (λ (s : Splitting). s.ended) e), (let n = kept.units in omega (arith, n)), (let n = kept.slices.kept.pictures_are in omega (arith, n)), record { frames = λ n. no_frame; before = []; keeps = kept })
 
 pub returns-clause-fresh : goal.returns-clause-fresh
-returns-clause-fresh c = record { mode_is = refl; split = c.new-2.ensures; keeps = λ frames. c.in_ok-state.ensures.keeps c.args.mode frames; stop = refl }
+returns-clause-fresh c = record { terms_is = refl; split = c.new-2.ensures; keeps = λ frames. c.in_ok-state.ensures.keeps c.args.mode frames; stop = refl }
 
 pub returns-clause-fed : goal.returns-clause-fed
-returns-clause-fed c = λ frames. fed-nothing c.args.mode _ frames (record { mode_is = refl; split = c.new-2.ensures; keeps = λ f. c.in_ok-state.ensures.keeps c.args.mode f; stop = refl })
+returns-clause-fed c = λ frames. fed-nothing (terms_of c.args.mode c.args.target) _ frames (record { terms_is = refl; split = c.new-2.ensures; keeps = λ f. c.in_ok-state.ensures.keeps c.args.mode f; stop = refl })
 
 pub invariant_of-result : goal.invariant_of-result
 invariant_of-result c = ready-first _ _ _ c.new-2.ensures (λ m frames. c.in_ok-state.ensures.keeps m frames)

@@ -1,0 +1,5 @@
+use Rattle.h264_verify.proofs.Targets.{holds-follows}
+use Rattle.h264_verify.proofs.laws.baseline_is_main_ip.Goals as goal
+
+pub returns : goal.returns
+returns c = holds-follows
