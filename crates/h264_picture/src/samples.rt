@@ -7,8 +7,8 @@ ghost use Rattle.h264_recon.specs.Placed.{weights_by};
 ghost use Rattle.h264_picture.specs.Weights.{slice_weights};
 ghost use Rattle.h264_picture.specs.Filter.{clip_6, filter_by as filter_of_offsets, filter_in, slice_filter as filter_of_slice};
 
-use h264_deblock::{Deblocking, SliceFilter};
 use h264_base::Weights;
+use h264_deblock::{Deblocking, SliceFilter};
 use h264_header::{Deblocking as HeaderDeblocking, FilterOffsets, Header, SliceKind, weights_of};
 use h264_pps::Pps;
 use h264_recon::SliceWeights;

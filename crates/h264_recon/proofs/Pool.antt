@@ -1,5 +1,5 @@
 -- Prediction from the frames of a pool.
-use Rattle.std.proofs.Common.{Bool, true, false, ◌≡◌, ℕ, ◌+◌, ◌*◌, ◌/◌, ◌<◌, ◌≤◌, List, slice_index, get_or, ℤ, pos, ◌+ℤ◌, arith, refl, sym, ap, ◌∙◌}
+use Rattle.std.proofs.Common.{Bool, true, false, ◌≡◌, ℕ, ◌+◌, ◌*◌, ◌/◌, ◌<◌, ◌≤◌, List, slice_index, get_or, None, ℤ, pos, ◌+ℤ◌, arith, refl, sym, ap, ◌∙◌}
 use Rattle.std.proofs.lemmas.Nat.{mul-le}
 use Rattle.h264_plane.specs.Samples.{Samples}
 use Rattle.h264_plane.specs.Frames.{plane_of, frame_at}
@@ -12,8 +12,7 @@ use Rattle.h264_plane.specs.Places.{side}
 use Rattle.h264_scale.specs.Macroblock.{residual, IsResidual}
 use Rattle.h264_recon.specs.Inter.{Setting, predicted_from, predicted_at, motion_at, no_motion}
 use Rattle.h264_recon.specs.Constructed.{predicted_inter, weighted_inter, made_by, made, Coded}
-use Rattle.h264_recon.specs.declared.weighing.PlaceWeights.{PlaceWeights}
-use Rattle.h264_recon.specs.Weighing.{in_place, AreThose, ArePlacesWeighted}
+use Rattle.h264_recon.specs.Weighing.{ArePlacesWeighted}
 use Rattle.h264_recon.specs.Weights.{weights_at, weighted_if}
 use Rattle.h264_recon.specs.Lines.{local, IsMadeFrom, chroma_plane}
 use Rattle.h264_recon.specs.Pool.{HasRoom, HaveRoom, IsShown, AreShown, of_frames, from_pool}
@@ -90,18 +89,12 @@ inter_made k frames c r m p l motion predicted weighted own res a b e shown is h
           ∙ sym (made_inter k c r m p (local (side p) l c own) x y motion e);
     }
 
--- the weights that the code has are those of the macroblock
-pub weighted-is : (p : Component) (m : Coded) (weights : PlaceWeights) (old new : List ℕ) → AreThose weights m.weights → ArePlacesWeighted (side p) p (in_place weights) old new → (x y : ℕ) → x < side p → y < side p →
-    slice_index new (side p * y + x) ≡ weighted_if p (weights_at m.weights p x y) (slice_index old (side p * y + x))
-weighted-is p m weights old new those h x y i j =
-    h.each x y i j ∙ ap (λ o. weighted_if p o (slice_index old (side p * y + x))) (those.each (4 * (4 * y / side p) + 4 * x / side p) (motion_inside p x y i j))
-
-pub chroma_inter : (t : Bool) (k : Setting) (frames : List Frame) (c r : ℕ) (m : Coded) (l : Store) (weights : PlaceWeights) (motion : List Motion) (predicted weighted own : List ℕ) (res : List ℤ) → c < k.across → r < k.down →
-    m.prediction ≡ Inter motion → AreShown k frames m.prediction → AreThose weights m.weights → IsResidual m.levels (chroma_plane t) res →
+pub chroma_inter : (t : Bool) (k : Setting) (frames : List Frame) (c r : ℕ) (m : Coded) (l : Store) (motion : List Motion) (predicted weighted own : List ℕ) (res : List ℤ) → c < k.across → r < k.down →
+    m.prediction ≡ Inter motion → AreShown k frames m.prediction → IsResidual m.levels (chroma_plane t) res →
     ((x y : ℕ) → x < 8 → y < 8 → slice_index predicted (8 * y + x) ≡ from_pool frames motion c r (chroma_plane t) x y) →
-    ArePlacesWeighted 8 (chroma_plane t) (in_place weights) predicted weighted →
+    ArePlacesWeighted 8 (chroma_plane t) (λ n. get_or m.weights n None) predicted weighted →
     ((n : ℕ) → n < 64 → slice_index own n ≡ clip1 (pos (slice_index weighted n) +ℤ get_or res n (pos 0))) → IsMadeFrom k c r m (chroma_plane t) l own
-chroma_inter true k frames c r m l weights motion predicted weighted own res a b e shown those is has weighs sum =
-    inter_made k frames c r m Cr l motion predicted weighted own res a b e shown is has (weighted-is Cr m weights predicted weighted those weighs) (λ x y i j. sum (8 * y + x) (omega arith))
-chroma_inter false k frames c r m l weights motion predicted weighted own res a b e shown those is has weighs sum =
-    inter_made k frames c r m Cb l motion predicted weighted own res a b e shown is has (weighted-is Cb m weights predicted weighted those weighs) (λ x y i j. sum (8 * y + x) (omega arith))
+chroma_inter true k frames c r m l motion predicted weighted own res a b e shown is has weighs sum =
+    inter_made k frames c r m Cr l motion predicted weighted own res a b e shown is has weighs.each (λ x y i j. sum (8 * y + x) (omega arith))
+chroma_inter false k frames c r m l motion predicted weighted own res a b e shown is has weighs sum =
+    inter_made k frames c r m Cb l motion predicted weighted own res a b e shown is has weighs.each (λ x y i j. sum (8 * y + x) (omega arith))

@@ -7,14 +7,16 @@ use Rattle.h264_plane.specs.declared.frame.Component.{Component}
 use Rattle.std.specs.Option.{option_and_then, ForSome}
 use Rattle.h264_base.specs.declared.weight.Weights.{Weights}
 use Rattle.h264_near.specs.declared.motion.Motion.{Motion}
-use Rattle.h264_near.specs.Coded.{CodedMacroblock, number_of, motion_in}
+use Rattle.h264_near.specs.Coded.{CodedMacroblock, number_of}
 use Rattle.h264_near.specs.Keeps.{Shows}
 use Rattle.h264_near.specs.declared.context.Contexts.{Contexts}
 use Rattle.h264_recon.specs.Given.{weights_of}
 use Rattle.h264_recon.specs.Placed.{weights_placed_at, placed_weights}
 use Rattle.h264_recon.specs.Weights.{AreInRange, index_weights, weighted_if}
-use Rattle.h264_recon.specs.Weighing.{index_of, in_place, AreThose, IsRunWeighted}
-use Rattle.h264_recon.specs.declared.weighing.PlaceWeights.TheVariants.{Plain, Whole, Each}
+use Rattle.h264_recon.specs.Weighing.{index_of, in_place, AreThose, IsRunWeighted, ArePlacesWeighted}
+use Rattle.h264_plane.specs.declared.frame.Component.TheVariants.{Y}
+use Rattle.h264_recon.specs.declared.weighing.PlaceWeights.{PlaceWeights}
+use Rattle.h264_recon.specs.declared.weighing.PlaceWeights.TheVariants.{Plain}
 use Rattle.h264_recon.proofs.Tables.{table-ext, table-at}
 
 pub few : (k : ℕ) → k < 16 → number_of (k % 4) (k / 4) < 16
@@ -48,7 +50,7 @@ plain-are motions = record {
   in_range = λ k h. λ w e. absurd (cc);
 }
 
-pub none-are : (all : Option (List (Option Weights))) (motions : List (Option Motion)) → all ≡ None → AreThose Plain (placed_weights (unwrap_or all (replicate 16 None)) motions)
+none-are : (all : Option (List (Option Weights))) (motions : List (Option Motion)) → all ≡ None → AreThose Plain (placed_weights (unwrap_or all (replicate 16 None)) motions)
 none-are all motions e = rw e (plain-are motions)
 
 -- blocks of one index have the same weights
@@ -75,6 +77,36 @@ range-grown each n o h before own k i = ⊎_elim
     (λ (q : k < n). let differs : k ≢ n = λ e. absurd (omega arith) in subst (λ z. ForSome z AreInRange) (sym (get_or-set_other each n k o None differs)) (before k q))
     (λ (q : n ≤ k). let e : k ≡ n = omega arith in rw e (subst (λ z. ForSome z AreInRange) (sym (get_or-set_same each n o None h)) own))
     (cases_lt k n)
+
+-- ---- a macroblock whose places have the weights of a list
+
+luma_place : (x y : ℕ) → x < 16 → y < 16 → 4 * (4 * y / 16) + 4 * x / 16 < 16
+luma_place x y i j = omega arith
+
+chroma_place : (x y : ℕ) → x < 8 → y < 8 → 4 * (4 * y / 8) + 4 * x / 8 < 16
+chroma_place x y i j = omega arith
+
+pub luma-by : (weights : PlaceWeights) (list : List (Option Weights)) (old new : List ℕ) → AreThose weights list → ArePlacesWeighted 16 Y (in_place weights) old new → ArePlacesWeighted 16 Y (λ k. get_or list k None) old new
+luma-by weights list old new those h = record {
+  each = λ x y i j. h.each x y i j ∙ ap (λ o. weighted_if Y o (slice_index old (16 * y + x))) (those.each (4 * (4 * y / 16) + 4 * x / 16) (luma_place x y i j));
+}
+
+pub chroma-by : (p : Component) (weights : PlaceWeights) (list : List (Option Weights)) (old new : List ℕ) → AreThose weights list → ArePlacesWeighted 8 p (in_place weights) old new → ArePlacesWeighted 8 p (λ k. get_or list k None) old new
+chroma-by p weights list old new those h = record {
+  each = λ x y i j. h.each x y i j ∙ ap (λ o. weighted_if p o (slice_index old (8 * y + x))) (those.each (4 * (4 * y / 8) + 4 * x / 8) (chroma_place x y i j));
+}
+
+-- nothing is weighted
+pub luma-kept : (all : Option (List (Option Weights))) (motions : List (Option Motion)) (samples : List ℕ) → all ≡ None → ArePlacesWeighted 16 Y (λ k. get_or (placed_weights (unwrap_or all (replicate 16 None)) motions) k None) samples samples
+luma-kept all motions samples e = luma-by Plain _ samples samples (none-are all motions e) (record { each = λ x y i j. refl })
+
+pub chroma-kept : (p : Component) (all : Option (List (Option Weights))) (motions : List (Option Motion)) (samples : List ℕ) → all ≡ None → ArePlacesWeighted 8 p (λ k. get_or (placed_weights (unwrap_or all (replicate 16 None)) motions) k None) samples samples
+chroma-kept p all motions samples e = chroma-by p Plain _ samples samples (none-are all motions e) (record { each = λ x y i j. refl })
+
+-- all are, by these weights
+pub weighted-by : (n : ℕ) (p : Component) (all : Option (List (Option Weights))) (weights : List (Option Weights)) (motions : List (Option Motion)) (old new : List ℕ) → all ≡ Some weights → ArePlacesWeighted n p (λ k. get_or (placed_weights weights motions) k None) old new →
+    ArePlacesWeighted n p (λ k. get_or (placed_weights (unwrap_or all (replicate 16 None)) motions) k None) old new
+weighted-by n p all weights motions old new e h = rw e h
 
 -- ---- runs of samples
 

@@ -10,10 +10,7 @@ ghost use Rattle.h264_scale.specs.Macroblock.{IsResidual, AreResiduals};
 ghost use Rattle.h264_scale.specs.declared.levels.Levels.{Levels};
 ghost use Rattle.h264_recon.specs.Constructed.{coded, IsPossibleLuma, IsPossible, IsAllowed, IsMade};
 ghost use Rattle.h264_recon.specs.Lines.{IsMadeFrom, IsLumaMade, IsChromaMade, AreStored, store_of, chroma_plane};
-ghost use Rattle.h264_recon.specs.Placed.{weights_by, weights_in};
 ghost use Rattle.h264_recon.specs.Predicted.{prediction_in};
-ghost use Rattle.h264_recon.specs.Weights.{EachInRange};
-ghost use Rattle.h264_recon.specs.Weighing.{AreThose as AreThoseWeights};
 ghost use Rattle.h264_recon.specs.Pool.{AreShown, AreUsable};
 ghost use Rattle.h264_recon.specs.Step.{list_of, ArePlaced, AreSaved, Shows, joined};
 
@@ -24,8 +21,7 @@ use crate::macroblock::{Available, IntraLuma, Macroblock, Prediction};
 use crate::pcm;
 use crate::store::{Lines, Store};
 use crate::sum::add;
-use crate::weighing::{PlaceWeights, place_weights, weigh_chroma, weigh_luma};
-use h264_base::Weights;
+use crate::weighing::{weigh_chroma, weigh_luma};
 use h264_intra::{IntraChromaPredMode, predict_chroma as predict_intra_chroma, predict16};
 use h264_plane::{Component, Frame, Pool};
 use h264_scale::Residuals;
@@ -58,7 +54,6 @@ fn luma_intra(
 #[inline(always)]
 fn luma(
     m: &Macroblock,
-    weights: &PlaceWeights,
     residual: &Option<[i16; 256]>,
     store: &Store,
     pool: &Pool,
@@ -67,7 +62,6 @@ fn luma(
     out: &mut [u8; 256],
 )
     requires usable { AreUsable pool.now column row (prediction_in m.now.prediction) }
-    requires weights { AreThoseWeights weights.now (weights_in m.now.weighting) }
     requires columns { 16 * column + 16 ≤ vec_len store.now.above }
     requires more { IsTrue m.now.available.above_right → 16 * column + 20 ≤ vec_len store.now.above }
     requires small { (column < 1024) × (row < 1024) }
@@ -79,7 +73,7 @@ fn luma(
         }
         Prediction::Inter(motions) => {
             predict_luma(motions, pool, column, row, out);
-            weigh_luma(weights, out);
+            weigh_luma(&m.weighting, out);
             add::<256>(out, residual);
         }
         Prediction::Pcm(samples) => {
@@ -110,7 +104,6 @@ fn chroma_intra(
 #[inline(always)]
 fn chroma<const CR: bool>(
     m: &Macroblock,
-    weights: &PlaceWeights,
     residual: &Option<[i16; 64]>,
     store: &Store,
     pool: &Pool,
@@ -119,7 +112,6 @@ fn chroma<const CR: bool>(
     out: &mut [u8; 64],
 )
     requires usable { AreUsable pool.now column row (prediction_in m.now.prediction) }
-    requires weights { AreThoseWeights weights.now (weights_in m.now.weighting) }
     requires columns { 8 * column + 8 ≤ vec_len store.now.above }
     requires small { (column < 1024) × (row < 1024) }
     ensures { (k : Setting) (l : Levels) → column < k.across → row < k.down → IsPossible (prediction_in m.now.prediction) m.now.available → AreShown k pool.now (prediction_in m.now.prediction) → IsResidual l (chroma_plane CR) (unwrap_or residual.now []) → IsMadeFrom k column row (coded m.now l) (chroma_plane CR) store.now out.new }
@@ -130,7 +122,7 @@ fn chroma<const CR: bool>(
         }
         Prediction::Inter(motions) => {
             predict_chroma::<CR>(motions, pool, column, row, out);
-            weigh_chroma::<CR>(weights, out);
+            weigh_chroma::<CR>(&m.weighting, out);
             add::<64>(out, residual);
         }
         Prediction::Pcm(samples) => {
@@ -167,106 +159,6 @@ fn save(lines: &mut Lines, column: usize, y: &[u8; 256], cb: &[u8; 64], cr: &[u8
     lines.cr.save_chroma(column, cr);
 }
 
-/// Constructs a macroblock whose places have these weights.
-#[inline(always)]
-fn construct_by(
-    lines: &mut Lines,
-    frame: &mut Frame,
-    m: &Macroblock,
-    weights: &PlaceWeights,
-    residuals: &Residuals,
-    pool: &Pool,
-    column: usize,
-    row: usize,
-)
-    requires usable { AreUsable pool.now column row (prediction_in m.now.prediction) }
-    requires weights { AreThoseWeights weights.now (weights_in m.now.weighting) }
-    requires y { (16 * column + 16 ≤ frame.old.y.width) × (16 * row + 16 ≤ frame.old.y.height) }
-    requires cb { (8 * column + 8 ≤ frame.old.cb.width) × (8 * row + 8 ≤ frame.old.cb.height) }
-    requires cr { (8 * column + 8 ≤ frame.old.cr.width) × (8 * row + 8 ≤ frame.old.cr.height) }
-    requires small { (column < 1024) × (row < 1024) }
-    requires y_lines { 16 * column + 16 ≤ vec_len lines.old.y.above }
-    requires cb_lines { 8 * column + 8 ≤ vec_len lines.old.cb.above }
-    requires cr_lines { 8 * column + 8 ≤ vec_len lines.old.cr.above }
-    requires more { IsTrue m.now.available.above_right → 16 * column + 20 ≤ vec_len lines.old.y.above }
-    ensures lines { (p : Component) → vec_len (store_of p lines.new).above ≡ vec_len (store_of p lines.old).above }
-    ensures size { (p : Component) → IsSized (plane_of p frame.new) (plane_of p frame.old).width (plane_of p frame.old).height }
-    ensures step { (k : Setting) (l : Levels) (u : Component → ℕ → ℕ → ℕ) → column < k.across → row < k.down → IsAllowed (coded m.now l) k.across column row →
-        AreShown k pool.now (prediction_in m.now.prediction) → AreResiduals l residuals.now → IsMade k column row (coded m.now l) u → AreStored k.across column row u lines.old → AreStored k.across (column + 1) row u lines.new × Shows column row u frame.old frame.new }
-    ensures some { (k : Setting) (l : Levels) (u : Component → ℕ → ℕ → ℕ) → column < k.across → row < k.down → IsAllowed (coded m.now l) k.across column row →
-        AreShown k pool.now (prediction_in m.now.prediction) → AreResiduals l residuals.now → AreStored k.across column row u lines.old → IsMade k column row (coded m.now l) (joined column row frame.new u) }
-{
-    let mut y = [0; 256];
-    luma(
-        m,
-        weights,
-        &residuals.y,
-        &lines.y,
-        pool,
-        column,
-        row,
-        &mut y,
-    );
-    let mut cb = [0; 64];
-    chroma::<false>(
-        m,
-        weights,
-        &residuals.cb,
-        &lines.cb,
-        pool,
-        column,
-        row,
-        &mut cb,
-    );
-    let mut cr = [0; 64];
-    chroma::<true>(
-        m,
-        weights,
-        &residuals.cr,
-        &lines.cr,
-        pool,
-        column,
-        row,
-        &mut cr,
-    );
-    place(frame, column, row, &y, &cb, &cr);
-    save(lines, column, &y, &cb, &cr);
-}
-
-/// Constructs a macroblock of a slice with weights. A function of its own, so that those of other slices do not pay for it.
-#[inline(never)]
-fn construct_weighted(
-    lines: &mut Lines,
-    frame: &mut Frame,
-    m: &Macroblock,
-    weights: &[Option<Weights>; 16],
-    residuals: &Residuals,
-    pool: &Pool,
-    column: usize,
-    row: usize,
-)
-    requires usable { AreUsable pool.now column row (prediction_in m.now.prediction) }
-    requires weights { weights_by m.now.weighting.weights.now ≡ weights.now }
-    requires range { EachInRange weights.now }
-    requires y { (16 * column + 16 ≤ frame.old.y.width) × (16 * row + 16 ≤ frame.old.y.height) }
-    requires cb { (8 * column + 8 ≤ frame.old.cb.width) × (8 * row + 8 ≤ frame.old.cb.height) }
-    requires cr { (8 * column + 8 ≤ frame.old.cr.width) × (8 * row + 8 ≤ frame.old.cr.height) }
-    requires small { (column < 1024) × (row < 1024) }
-    requires y_lines { 16 * column + 16 ≤ vec_len lines.old.y.above }
-    requires cb_lines { 8 * column + 8 ≤ vec_len lines.old.cb.above }
-    requires cr_lines { 8 * column + 8 ≤ vec_len lines.old.cr.above }
-    requires more { IsTrue m.now.available.above_right → 16 * column + 20 ≤ vec_len lines.old.y.above }
-    ensures lines { (p : Component) → vec_len (store_of p lines.new).above ≡ vec_len (store_of p lines.old).above }
-    ensures size { (p : Component) → IsSized (plane_of p frame.new) (plane_of p frame.old).width (plane_of p frame.old).height }
-    ensures step { (k : Setting) (l : Levels) (u : Component → ℕ → ℕ → ℕ) → column < k.across → row < k.down → IsAllowed (coded m.now l) k.across column row →
-        AreShown k pool.now (prediction_in m.now.prediction) → AreResiduals l residuals.now → IsMade k column row (coded m.now l) u → AreStored k.across column row u lines.old → AreStored k.across (column + 1) row u lines.new × Shows column row u frame.old frame.new }
-    ensures some { (k : Setting) (l : Levels) (u : Component → ℕ → ℕ → ℕ) → column < k.across → row < k.down → IsAllowed (coded m.now l) k.across column row →
-        AreShown k pool.now (prediction_in m.now.prediction) → AreResiduals l residuals.now → AreStored k.across column row u lines.old → IsMade k column row (coded m.now l) (joined column row frame.new u) }
-{
-    let weights = place_weights(weights, m.weighting.motions);
-    construct_by(lines, frame, m, &weights, residuals, pool, column, row);
-}
-
 /// Constructs the macroblock at this column and row of macroblocks in the frame, from the lines, and brings these up to date. Touches each of
 /// its samples, and no other one of the frame.
 pub fn construct(
@@ -294,13 +186,12 @@ pub fn construct(
     ensures some { (k : Setting) (l : Levels) (u : Component → ℕ → ℕ → ℕ) → column < k.across → row < k.down → IsAllowed (coded m.now l) k.across column row →
         AreShown k pool.now (prediction_in m.now.prediction) → AreResiduals l residuals.now → AreStored k.across column row u lines.old → IsMade k column row (coded m.now l) (joined column row frame.new u) }
 {
-    match &m.weighting.weights.by_index {
-        None => {
-            let weights = PlaceWeights::Plain;
-            construct_by(lines, frame, m, &weights, residuals, pool, column, row);
-        }
-        Some(weights) => {
-            construct_weighted(lines, frame, m, weights, residuals, pool, column, row);
-        }
-    }
+    let mut y = [0; 256];
+    luma(m, &residuals.y, &lines.y, pool, column, row, &mut y);
+    let mut cb = [0; 64];
+    chroma::<false>(m, &residuals.cb, &lines.cb, pool, column, row, &mut cb);
+    let mut cr = [0; 64];
+    chroma::<true>(m, &residuals.cr, &lines.cr, pool, column, row, &mut cr);
+    place(frame, column, row, &y, &cb, &cr);
+    save(lines, column, &y, &cb, &cr);
 }

@@ -5,10 +5,11 @@ ghost use Rattle.std.specs.Prelude.{◌≡◌, ℕ, ◌+◌, ◌<◌, ◌≤◌,
 ghost use Rattle.std.specs.Option.{ForSome};
 ghost use Rattle.h264_plane.specs.declared.frame.Component.TheVariants.{Y};
 ghost use Rattle.h264_recon.specs.Lines.{chroma_plane};
-ghost use Rattle.h264_recon.specs.Placed.{placed_weights};
+ghost use Rattle.h264_recon.specs.Placed.{placed_weights, weights_in};
 ghost use Rattle.h264_recon.specs.Weights.{index_weights, weight_of, AreInRange, EachInRange};
 ghost use Rattle.h264_recon.specs.Weighing.{index_of, in_place, AreThose, IsRunWeighted, ArePlacesWeighted};
 
+use crate::macroblock::Weighting;
 use h264_base::{Weight, Weights};
 use h264_inter::weigh;
 use h264_near::Motion as Derived;
@@ -17,7 +18,7 @@ use h264_plane::Component;
 
 /// The weights of the 4x4 places of a macroblock.
 #[derive(Clone, Copy)]
-pub enum PlaceWeights {
+enum PlaceWeights {
     /// None at any place.
     Plain,
     /// The same at all places.
@@ -85,10 +86,7 @@ fn of_places(
 }
 
 /// The weights of a macroblock's places, by the slice's weights and what its blocks are predicted from.
-pub fn place_weights(
-    weights: &[Option<Weights>; 16],
-    motions: &[Option<Derived>; 16],
-) -> PlaceWeights
+fn place_weights(weights: &[Option<Weights>; 16], motions: &[Option<Derived>; 16]) -> PlaceWeights
     requires { EachInRange weights.now }
     ensures { AreThose result (placed_weights weights.now motions.now) }
 {
@@ -142,9 +140,9 @@ fn weigh_luma_runs(weights: &[Option<Weights>; 16], out: &mut [u8; 256])
     }
 }
 
-/// Weighs the predicted luma samples of a macroblock.
+/// Weighs the predicted luma samples of a macroblock by the weights of its places.
 #[inline(always)]
-pub fn weigh_luma(weights: &PlaceWeights, out: &mut [u8; 256])
+fn weigh_luma_places(weights: &PlaceWeights, out: &mut [u8; 256])
     requires { (k : ℕ) → k < 16 → ForSome (in_place weights.now k) AreInRange }
     ensures { ArePlacesWeighted 16 Y (in_place weights.now) out.old out.new }
 {
@@ -154,6 +152,31 @@ pub fn weigh_luma(weights: &PlaceWeights, out: &mut [u8; 256])
             weigh_run::<256>(out, 0, Some(*weights), Component::Y);
         }
         PlaceWeights::Each(weights) => weigh_luma_runs(weights, out),
+    }
+}
+
+/// Weighs the predicted luma samples of a macroblock of a slice with these weights. A function of its own, so that those of other slices do not pay
+/// for it.
+#[inline(never)]
+fn weigh_luma_by(
+    weights: &[Option<Weights>; 16],
+    motions: &[Option<Derived>; 16],
+    out: &mut [u8; 256],
+)
+    requires { EachInRange weights.now }
+    ensures { ArePlacesWeighted 16 Y (λ k. get_or (placed_weights weights.now motions.now) k None) out.old out.new }
+{
+    weigh_luma_places(&place_weights(weights, motions), out);
+}
+
+/// Weighs the predicted luma samples of a macroblock.
+#[inline(always)]
+pub fn weigh_luma(weighting: &Weighting, out: &mut [u8; 256])
+    ensures { ArePlacesWeighted 16 Y (λ k. get_or (weights_in weighting.now) k None) out.old out.new }
+{
+    match &weighting.weights.by_index {
+        None => {}
+        Some(weights) => weigh_luma_by(weights, weighting.motions, out),
     }
 }
 
@@ -177,9 +200,9 @@ fn weigh_chroma_runs<const CR: bool>(weights: &[Option<Weights>; 16], out: &mut 
     }
 }
 
-/// Weighs the predicted samples of a chroma plane of a macroblock.
+/// Weighs the predicted samples of a chroma plane of a macroblock by the weights of its places.
 #[inline(always)]
-pub fn weigh_chroma<const CR: bool>(weights: &PlaceWeights, out: &mut [u8; 64])
+fn weigh_chroma_places<const CR: bool>(weights: &PlaceWeights, out: &mut [u8; 64])
     requires { (k : ℕ) → k < 16 → ForSome (in_place weights.now k) AreInRange }
     ensures { ArePlacesWeighted 8 (chroma_plane CR) (in_place weights.now) out.old out.new }
 {
@@ -189,5 +212,29 @@ pub fn weigh_chroma<const CR: bool>(weights: &PlaceWeights, out: &mut [u8; 64])
             weigh_run::<64>(out, 0, Some(*weights), chroma_component::<CR>());
         }
         PlaceWeights::Each(weights) => weigh_chroma_runs::<CR>(weights, out),
+    }
+}
+
+/// Weighs the predicted samples of a chroma plane of a macroblock of a slice with these weights, likewise.
+#[inline(never)]
+fn weigh_chroma_by<const CR: bool>(
+    weights: &[Option<Weights>; 16],
+    motions: &[Option<Derived>; 16],
+    out: &mut [u8; 64],
+)
+    requires { EachInRange weights.now }
+    ensures { ArePlacesWeighted 8 (chroma_plane CR) (λ k. get_or (placed_weights weights.now motions.now) k None) out.old out.new }
+{
+    weigh_chroma_places::<CR>(&place_weights(weights, motions), out);
+}
+
+/// Weighs the predicted samples of a chroma plane of a macroblock.
+#[inline(always)]
+pub fn weigh_chroma<const CR: bool>(weighting: &Weighting, out: &mut [u8; 64])
+    ensures { ArePlacesWeighted 8 (chroma_plane CR) (λ k. get_or (weights_in weighting.now) k None) out.old out.new }
+{
+    match &weighting.weights.by_index {
+        None => {}
+        Some(weights) => weigh_chroma_by::<CR>(weights, weighting.motions, out),
     }
 }

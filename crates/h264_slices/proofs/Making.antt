@@ -86,7 +86,7 @@ module _ (frames : ℕ → Frame) (p : CodedPicture) (ps : List CodedPicture) (s
   pub is-slice : (making : Making) → EachSlice (λ s. making.slices (number_of s) ≡ parameters_of s) (s ∷ slices) → ((n : ℕ) → (making.slices n).filter.chroma_qp_index_offset ≡ p.first.pps.chroma_qp_index_offset) → ((n : ℕ) → making.place n ≡ place_by old n) → IsSliceOf making slice samples old.work
   is-slice making params offsets places-are = active-and (λ (q : Sequence). (q.frames.begun ≡ true) × (old.work.base + q.frames.place ≡ old.place)) (MakesSliceWith making slice samples old.work.base) old.work.active h.begun (λ q a b. record {
     parameters = ap making.slices number-is ∙ params.0 ∙ ap (λ (c : Bool). record { constrained_intra = c; filter = slice_filter s.pps s.header; weights = slice_weights s.header }) (sym (ap (λ (c : SliceContext). c.constrained_intra) is ∙ context-intra s (list_in (p ∷ ps) s))) ∙ ap (λ (f : _). record { constrained_intra = slice.constrained_intra; filter = f; weights = slice_weights s.header }) (sym filter)
-    ∙ ap (λ (w : _). record { constrained_intra = slice.constrained_intra; filter = samples.filter; weights = w }) (sym weights);
+        ∙ ap (λ (w : _). record { constrained_intra = slice.constrained_intra; filter = samples.filter; weights = w }) (sym weights);
     offset = filter-chroma;
     offsets = λ n. offsets n ∙ ap (λ (x : Pps). x.chroma_qp_index_offset) (sym set) ∙ sym chroma-is ∙ sym filter-chroma;
     placed = λ k n small e.

@@ -17,8 +17,8 @@ pub returns-in-Inter : goal.returns-in-Inter
 returns-in-Inter g c =
     let a = c.args in
     λ k l inside below ok shown is.
-    chroma_inter (CR-type (number g.row.CR)) k a.pool.now a.column a.row (coded a.m.now l) a.store.now a.weights.now (motions_in c.in-Inter.motions) c.predict_chroma.new.out c.weigh_chroma.new.out c.add.new.samples (unwrap_or a.residual.now []) inside below
-    (ap prediction_in c.in-Inter.is) shown c.requires.weights is c.predict_chroma.ensures.each c.weigh_chroma.ensures c.add.ensures
+    chroma_inter (CR-type (number g.row.CR)) k a.pool.now a.column a.row (coded a.m.now l) a.store.now (motions_in c.in-Inter.motions) c.predict_chroma.new.out c.weigh_chroma.new.out c.add.new.samples (unwrap_or a.residual.now []) inside below
+    (ap prediction_in c.in-Inter.is) shown is c.predict_chroma.ensures.each c.weigh_chroma.ensures c.add.ensures
 
 pub returns-in-Pcm : goal.returns-in-Pcm
 returns-in-Pcm g c = λ k l inside below ok shown is. chroma_pcm _ k _ _ (coded c.args.m.now l) _ (pcm_of c.in-Pcm.samples.now) _ (ap prediction_in c.in-Pcm.is) c.chroma.ensures

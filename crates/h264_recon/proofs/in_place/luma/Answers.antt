@@ -3,7 +3,7 @@ use Rattle.h264_plane.specs.declared.frame.Component.TheVariants.{Y}
 use Rattle.h264_recon.specs.Constructed.{coded}
 use Rattle.h264_recon.specs.Predicted.{motions_in, prediction_in, pcm_of}
 use Rattle.h264_recon.proofs.Kernels.{luma_made, luma_pcm}
-use Rattle.h264_recon.proofs.Pool.{inter_made, weighted-is}
+use Rattle.h264_recon.proofs.Pool.{inter_made}
 use Rattle.h264_recon.proofs.in_place.luma.Goals as goal
 
 pub returns-in-Intra : goal.returns-in-Intra
@@ -16,7 +16,7 @@ returns-in-Inter c =
     λ k l inside below ok shown is.
     let m = coded a.m.now l in
     inter_made k a.pool.now a.column a.row m Y a.store.now (motions_in c.in-Inter.motions) c.predict_luma.new.out c.weigh_luma.new.out c.add.new.samples (unwrap_or a.residual.now []) inside below (ap prediction_in c.in-Inter.is) shown is
-    c.predict_luma.ensures.each (weighted-is Y m a.weights.now c.predict_luma.new.out c.weigh_luma.new.out c.requires.weights c.weigh_luma.ensures) (λ x y i j. c.add.ensures (16 * y + x) (omega arith))
+    c.predict_luma.ensures.each c.weigh_luma.ensures.each (λ x y i j. c.add.ensures (16 * y + x) (omega arith))
 
 pub returns-in-Pcm : goal.returns-in-Pcm
 returns-in-Pcm c = λ k l inside below ok shown is. rw c.luma.ensures (luma_pcm k _ _ (coded c.args.m.now l) _ (pcm_of c.in-Pcm.samples.now) (ap prediction_in c.in-Pcm.is))

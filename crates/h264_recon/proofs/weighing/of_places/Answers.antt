@@ -1,4 +1,4 @@
-use Rattle.std.proofs.Common.{◌+◌, ◌*◌, ◌/◌, ◌%◌, ◌≡◌, ◌<◌, ℕ, get_or, None, ◌∙◌, ap, sym, subst, length, arith}
+use Rattle.std.proofs.Common.{◌<◌, get_or, None, ◌∙◌, ap, length, arith}
 use Rattle.std.proofs.lemmas.List.{length-set}
 use Rattle.h264_recon.specs.Placed.{weights_placed_at, placed_weights}
 use Rattle.h264_recon.specs.Weights.{index_weights}

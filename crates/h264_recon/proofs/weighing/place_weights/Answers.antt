@@ -1,4 +1,4 @@
-use Rattle.std.proofs.Common.{◌≡◌, None, Some, ◌∙◌, sym}
+use Rattle.std.proofs.Common.{None, Some}
 use Rattle.h264_recon.proofs.Weighted.{alike}
 use Rattle.h264_recon.proofs.weighing.place_weights.Goals as goal
 

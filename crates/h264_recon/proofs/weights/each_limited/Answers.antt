@@ -1,4 +1,4 @@
-use Rattle.std.proofs.Common.{◌≡◌, ◌<◌, get_or, None, ◌∙◌, length, arith}
+use Rattle.std.proofs.Common.{◌<◌, None, ◌∙◌, length, arith}
 use Rattle.std.proofs.lemmas.List.{length-set}
 use Rattle.h264_recon.specs.Weights.{limited_at}
 use Rattle.h264_recon.proofs.Tables.{table-same, grown}
