@@ -6,3 +6,4 @@ pub mod Runs
 pub mod Fits
 pub mod Sinks
 pub mod Accounts
+mod Framed

@@ -5,3 +5,4 @@ pub mod Frames
 pub mod Told
 pub mod Trail
 pub mod Written
+pub mod Y4m

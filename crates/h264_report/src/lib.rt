@@ -9,6 +9,7 @@
 
 pub mod device;
 mod frames;
+pub mod head;
 pub mod json_sink;
 pub mod judging;
 pub mod line_sink;

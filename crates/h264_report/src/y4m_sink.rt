@@ -1,83 +1,142 @@
 //! A sink that writes YUV4MPEG2.
 #![tactic(auto)]
 
-ghost use Rattle.std.specs.Prelude.{◌≡◌, ◌+◌, ◌-◌, ◌<◌, ◌^◌, IsTrue, OnOk, OnErr};
+ghost use Rattle.std.specs.Prelude.{◌≡◌, ◌+◌, ◌-◌, ◌<◌, ◌++◌, ◌^◌, IsTrue, None, Some, OnOk, OnErr, string_bytes};
 ghost use Rattle.h264_dpb.specs.Shown.{fits};
+ghost use Rattle.h264_report.specs.Frames.{shown_bytes};
+ghost use Rattle.h264_report.specs.Sent.{Sends, SendsFront};
+ghost use Rattle.h264_report.specs.Told.{ended};
+ghost use Rattle.h264_report.specs.Y4m.{head_text, framed};
 
 use crate::device::Device;
 use crate::frames::send_frame;
-use crate::pages::page::Page;
+use crate::head::Head;
 use crate::rows::{height, width};
 use crate::send::send;
+use crate::sheet::{Pen, Sheet};
 use h264_base::{ElementName, Elements, Failed, SliceType};
 use h264_dpb::{FrameOut, Rectangle};
 use h264_plane::Frame;
 use h264_verify::FrameSink;
-use std::alloc::Global;
+use std::alloc::{AllocError, Global};
+use std::marker::PhantomData;
 
-/// Frames a second, as a fraction.
-#[derive(Clone, Copy, PartialEq, Eq)]
-pub struct Rate {
-    /// time_scale, or how many frames.
-    pub frames: u64,
-    /// 2 * num_units_in_tick, or in how many seconds.
-    pub seconds: u64,
-}
+/// Frames a second of a stream without timing.
+const USUAL_RATE: u64 = 25;
 
-/// The rate of a stream without timing.
-const USUAL: Rate = Rate {
-    frames: 25,
-    seconds: 1,
-};
-
-/// Luma samples in a row and in a column.
-#[derive(Clone, Copy, PartialEq, Eq)]
-pub struct Size {
-    pub width: usize,
-    pub height: usize,
+/// The timing of the last sequence parameter set; zeros where it gives none.
+#[derive(Clone, Copy, Default)]
+struct Timing {
+    num_units_in_tick: u64,
+    time_scale: u64,
 }
 
 /// Writes YUV4MPEG2: a header with size and rate before the first frame; for each frame the line FRAME, and the samples as `YuvSink` writes them.
 ///
-/// A frame of another size than the first one fails, since no second header is possible. After a failure each frame fails and nothing more is written.
+/// A writer that tells its bytes holds, after what it held, the header and the frames taken, in order, followed after a failure by a part of the next frame with
+/// its line, which is not the whole. A frame of another size than the first one fails, since no second header is possible. After a failure each frame fails and
+/// nothing more is written.
 #[derive(Drop)]
-pub struct Y4mSink<'a, W: Device> {
-    out: &'a mut W,
-    header: Page,
-    /// num_units_in_tick of the last sequence parameter set; 0 where it gives none.
-    num_units_in_tick: u64,
-    /// time_scale of the last sequence parameter set; 0 where it gives none.
-    time_scale: u64,
-    /// The size of the first frame.
-    size: Option<Size>,
-    /// The size of a frame that has another one.
-    other_size: Option<Size>,
+pub struct Y4mSink<'a, W: Device, K: Sheet> {
+    pen: Pen<'a, W>,
+    sheet: PhantomData<K>,
+    line: String,
+    timing: Timing,
+    /// The header that was written.
+    head: Option<Head>,
+    /// The header of a frame with another size.
+    other: Option<Head>,
     short_of_memory: bool,
     /// How many calls failed.
     pub failures: u64,
 }
 
-impl<'a, W: Device> Y4mSink<'a, W> {
+/// Makes a line that of a header. AllocError where there is no memory for it; the line is then a part of it.
+fn head_line(line: &mut String, head: Head) -> Result<(), AllocError>
+    ensures { OnOk result (string_bytes line.new ≡ head_text head) }
+{
+    let width = head.width;
+    let height = head.height;
+    let frames = head.frames;
+    let seconds = head.seconds;
+    line.clear();
+    write!(
+        line,
+        "YUV4MPEG2 W{width} H{height} F{frames}:{seconds} Ip C420"
+    )?;
+    Ok(())
+}
+
+/// Writes the line FRAME and what is shown of a frame.
+///
+/// Failed: the device failed, and it was sent a part of them, which is not the whole.
+fn send_framed<W: Device>(out: &mut W, frame: &Frame, rectangle: Rectangle) -> Result<(), Failed>
+    requires { IsTrue (fits rectangle frame.now) }
+    ensures ok { OnOk result (Sends (W.contents out.old) (W.contents out.new) (framed (shown_bytes frame.now rectangle))) }
+    ensures front { OnErr result (SendsFront (W.contents out.old) (W.contents out.new) (framed (shown_bytes frame.now rectangle))) }
+{
+    match send(out, b"FRAME\n") {
+        Ok(()) => send_frame(out, frame, rectangle),
+        Err(Failed) => Err(Failed),
+    }
+}
+
+/// Writes a line with its end, and a frame with its line.
+///
+/// Failed: the device failed, and it was sent a part of them, which is not the whole.
+fn send_first<W: Device>(
+    out: &mut W,
+    line: &str,
+    frame: &Frame,
+    rectangle: Rectangle,
+) -> Result<(), Failed>
+    requires { IsTrue (fits rectangle frame.now) }
+    ensures ok { OnOk result (Sends (W.contents out.old) (W.contents out.new) (ended line.now ++ framed (shown_bytes frame.now rectangle))) }
+    ensures front { OnErr result (SendsFront (W.contents out.old) (W.contents out.new) (ended line.now ++ framed (shown_bytes frame.now rectangle))) }
+{
+    match send_line(out, line) {
+        Ok(()) => send_framed(out, frame, rectangle),
+        Err(Failed) => Err(Failed),
+    }
+}
+
+/// Writes a line with its end.
+///
+/// Failed: the device failed, and it was sent a part of them, which is not the whole.
+fn send_line<W: Device>(out: &mut W, line: &str) -> Result<(), Failed>
+    ensures ok { OnOk result (Sends (W.contents out.old) (W.contents out.new) (ended line.now)) }
+    ensures front { OnErr result (SendsFront (W.contents out.old) (W.contents out.new) (ended line.now)) }
+{
+    match send(out, line.as_bytes()) {
+        Ok(()) => send(out, b"\n"),
+        Err(Failed) => Err(Failed),
+    }
+}
+
+impl<'a, W: Device, K: Sheet> Y4mSink<'a, W, K> {
     /// A sink that was told nothing, with no failure.
-    pub fn new(alloc: Global, out: &'a mut W) -> Y4mSink<'a, W>
-        ensures { result.failures ≡ 0 }
+    pub fn new(alloc: Global, pen: Pen<'a, W>) -> Y4mSink<'a, W, K>
+        ensures quiet { result.failures ≡ 0 }
+        ensures same_reference { result.pen.out.ghost_name ≡ pen.entry.out.ghost_name }
+        ensures unwritten { result.pen.out.now ≡ pen.entry.out.now }
+        ensures headless { result.head ≡ None }
     {
         Y4mSink {
-            out,
-            header: Page::new(alloc),
-            num_units_in_tick: 0,
-            time_scale: 0,
-            size: None,
-            other_size: None,
+            pen,
+            sheet: PhantomData,
+            line: String::new(alloc),
+            timing: Timing::default(),
+            head: None,
+            other: None,
             short_of_memory: false,
             failures: 0,
         }
     }
 
-    /// The size of the first frame, and that of a frame with another one, which was refused.
-    pub fn changed_size(&self) -> Option<(Size, Size)> {
-        match (self.size, self.other_size) {
-            (Some(first), Some(other)) => Some((first, other)),
+    /// The header that was written, and that of a frame with another size, which was refused.
+    pub fn changed_size(&self) -> Option<(Head, Head)> {
+        match (self.head, self.other) {
+            (Some(head), Some(other)) => Some((head, other)),
             _ => None,
         }
     }
@@ -87,103 +146,101 @@ impl<'a, W: Device> Y4mSink<'a, W> {
         self.short_of_memory
     }
 
-    /// The rate of the frames: that of the last set's timing, else 25.
-    fn rate(&self) -> Rate {
-        if self.num_units_in_tick == 0 || self.time_scale == 0 {
-            return USUAL;
-        }
-        Rate {
-            frames: self.time_scale,
-            seconds: self.num_units_in_tick.saturating_mul(2),
-        }
-    }
-
-    /// Makes the header.
-    fn make_header(&mut self, size: Size)
-        ensures { self.new.failures ≡ self.old.failures }
-    {
-        let rate = self.rate();
-        self.header.put("YUV4MPEG2 W");
-        self.header.number(size.width as u64);
-        self.header.put(" H");
-        self.header.number(size.height as u64);
-        self.header.put(" F");
-        self.header.number(rate.frames);
-        self.header.put(":");
-        self.header.number(rate.seconds);
-        self.header.put(" Ip C420\n");
-    }
-
-    /// Writes the header before the first frame; whether this was possible, and the frame has the size of the first.
-    fn put_header(&mut self, size: Size) -> bool
-        ensures { self.new.failures ≡ self.old.failures }
-    {
-        if let Some(first) = self.size {
-            if first == size {
-                return true;
-            }
-            self.other_size = Some(size);
-            return false;
-        }
-        self.size = Some(size);
-        self.make_header(size);
-        if self.header.is_short() {
-            self.short_of_memory = true;
-            return false;
-        }
-        send(self.out, self.header.as_str().as_bytes()).is_ok()
-    }
-
-    /// Writes the frame's line and its samples; whether this was possible.
-    fn put_frame(&mut self, frame: &Frame, rectangle: Rectangle) -> bool
+    /// The header of a frame, with the rate of the last timing.
+    fn head_for(&self, frame: &Frame, rectangle: Rectangle) -> Head
         requires { IsTrue (fits rectangle frame.now) }
-        ensures { self.new.failures ≡ self.old.failures }
     {
-        let size = Size {
+        let timing = self.timing;
+        let is_given = timing.num_units_in_tick != 0 && timing.time_scale != 0;
+        Head {
             width: width(frame, rectangle),
             height: height(frame, rectangle),
-        };
-        if !self.put_header(size) {
-            return false;
+            frames: if is_given {
+                timing.time_scale
+            } else {
+                USUAL_RATE
+            },
+            seconds: if is_given {
+                timing.num_units_in_tick.saturating_mul(2)
+            } else {
+                1
+            },
         }
-        if send(self.out, b"FRAME\n").is_err() {
-            return false;
+    }
+
+    /// Writes the first frame, after its header.
+    fn put_first(&mut self, head: Head, frame: &Frame, rectangle: Rectangle) -> Result<(), Failed>
+        requires inside { IsTrue (fits rectangle frame.now) }
+        requires quiet { self.old.failures ≡ 0 }
+        ensures same_reference { self.new.pen.out.ghost_name ≡ self.old.pen.out.ghost_name }
+        ensures kept { OnOk result ((self.new.failures ≡ 0) × (self.new.head ≡ Some head)) }
+        ensures failed { OnErr result ((self.new.failures ≡ 1) × (self.new.head ≡ self.old.head)) }
+        ensures ok { OnOk result (Sends (W.contents self.old.pen.out.now) (W.contents self.new.pen.out.now) (ended (head_text head) ++ framed (shown_bytes frame.now rectangle))) }
+        ensures front { OnErr result (SendsFront (W.contents self.old.pen.out.now) (W.contents self.new.pen.out.now) (ended (head_text head) ++ framed (shown_bytes frame.now rectangle))) }
+    {
+        if head_line(&mut self.line, head).is_err() {
+            self.short_of_memory = true;
+            self.failures += 1;
+            return Err(Failed);
         }
-        send_frame(self.out, frame, rectangle).is_ok()
+        match send_first(self.pen.out, self.line.as_str(), frame, rectangle) {
+            Ok(()) => {
+                self.head = Some(head);
+                Ok(())
+            }
+            Err(Failed) => {
+                self.failures += 1;
+                Err(Failed)
+            }
+        }
     }
 }
 
-impl<'a, W: Device> Elements for Y4mSink<'a, W> {
-    ghost took = { λ _ _. Unit {0} };
+impl<'a, W: Device, K: Sheet> Elements for Y4mSink<'a, W, K> {
+    ghost use Rattle.h264_report.specs.Y4m.{TookY4m};
+
+    ghost took = { λ s calls. TookY4m K.name K.start s.pen.out.ghost_name s.head s.failures (W.contents s.pen.out.now) calls };
 
     ghost failures = { λ s. s.failures };
 
     fn element(&mut self, name: ElementName, _bit: u64, value: i64) -> Result<(), Failed> {
         let value = u64::try_from(value).unwrap_or(0);
         match name {
-            ElementName::ProfileIdc => {
-                self.num_units_in_tick = 0;
-                self.time_scale = 0;
-            }
-            ElementName::NumUnitsInTick => self.num_units_in_tick = value,
-            ElementName::TimeScale => self.time_scale = value,
+            ElementName::ProfileIdc => self.timing = Timing::default(),
+            ElementName::NumUnitsInTick => self.timing.num_units_in_tick = value,
+            ElementName::TimeScale => self.timing.time_scale = value,
             _ => {}
         }
         Ok(())
     }
 }
 
-impl<'a, W: Device> FrameOut for Y4mSink<'a, W> {
+impl<'a, W: Device, K: Sheet> FrameOut for Y4mSink<'a, W, K> {
     fn frame(&mut self, _count: i32, frame: &Frame, rectangle: Rectangle) -> Result<(), Failed> {
-        if self.failures == 0 && self.put_frame(frame, rectangle) {
-            return Ok(());
+        if self.failures > 0 {
+            self.failures += 1;
+            return Err(Failed);
         }
-        self.failures += 1;
-        Err(Failed)
+        let head = self.head_for(frame, rectangle);
+        let Some(first) = self.head else {
+            return self.put_first(head, frame, rectangle);
+        };
+        if first.width != head.width || first.height != head.height {
+            self.other = Some(head);
+            self.failures += 1;
+            return Err(Failed);
+        }
+        match send_framed(self.pen.out, frame, rectangle) {
+            Ok(()) => Ok(()),
+            Err(Failed) => {
+                self.failures += 1;
+                Err(Failed)
+            }
+        }
     }
 }
 
-impl<'a, W: Device> FrameSink for Y4mSink<'a, W> {
+impl<'a, W: Device, K: Sheet> FrameSink for Y4mSink<'a, W, K> {
     fn unit(
         &mut self,
         _byte: u64,

@@ -30,7 +30,7 @@ abbrev pub with_value : App → Text → ℕ → App
 with_value a option letter = with_rule a (value_rule option letter)
 
 abbrev pub with_values : App → App
-with_values a = with_value (with_value (with_value a (codes "output") 111) (codes "picture") 112) (codes "mb") 109
+with_values a = with_value (with_value (with_value (with_value a (codes "output") 111) (codes "picture") 112) (codes "mb") 109) (codes "target") 116
 
 -- a subcommand
 abbrev pub file_app : Text → App

@@ -123,6 +123,7 @@ impl<'a> Wanted<'a> {
             || self.value("output").is_some()
             || self.value("picture").is_some()
             || self.value("mb").is_some()
+            || self.value("target").is_some()
     }
 
     /// Whether the words ask for a judgement of one FILE, which is not standard input, and have no option.
@@ -286,6 +287,12 @@ const OUTPUT_HELP: (&str, &str) = (
     "Writes to this file in the place of standard output",
 );
 
+/// What the help says of `--target` and its value.
+const TARGET_HELP: (&str, &str) = (
+    "TARGET",
+    "What the stream has to suit: baseline, or main-ip for Main's progressive CAVLC streams with weighted prediction",
+);
+
 /// What the help says of `--picture` and its value.
 const PICTURE_HELP: (&str, &str) = (
     "NUMBER",
@@ -329,7 +336,9 @@ fn with_values<'a>(
     let first = with_value(alloc, command, "output", 'o', OUTPUT_HELP, hidden)?;
     let hidden = !is_shown("picture", name);
     let second = with_value(alloc, first, "picture", 'p', PICTURE_HELP, hidden)?;
-    with_value(alloc, second, "mb", 'm', MB_HELP, !is_shown("mb", name))
+    let third = with_value(alloc, second, "mb", 'm', MB_HELP, !is_shown("mb", name))?;
+    let hidden = !is_shown("target", name);
+    with_value(alloc, third, "target", 't', TARGET_HELP, hidden)
 }
 
 /// A subcommand that takes one FILE or more, and the options; its help says `about`.

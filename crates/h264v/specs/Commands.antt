@@ -13,14 +13,21 @@ use Rattle.h264_words.specs.Words.{program, asks, name_of, IsRefusable}
 use Rattle.h264_words.specs.declared.Task.{Task}
 use Rattle.h264_words.specs.declared.Task.TheVariants as tasks
 use Rattle.clap.specs.Words.{Text}
+use Rattle.h264v.specs.declared.outcome.Outcome.{Outcome}
+use Rattle.h264v.specs.declared.outcome.Outcome.TheVariants as outcomes
 
--- What a task writes of a stream, judged for Constrained Baseline, and the answer that it tells; standard error is written to by `decode` alone.
+-- What a task writes of a stream, judged for Constrained Baseline, and the answer that it tells; standard error is written to by `decode` alone. The tasks that do
+-- not judge a stream with lines or frames as their answer are none of these.
 abbrev pub Performs : Task → List ℕ → Result Summary Stop → Bool → (old new err_old err_new : Option (List ℕ)) → Type 0
 Performs tasks.Check bytes answer written old new err_old err_new = Checks targets.Baseline bytes answer written old new × (err_new ≡ err_old)
 Performs tasks.Units bytes answer written old new err_old err_new = Lists (terms_of modes.Units targets.Baseline) listings.Units bytes answer written old new × (err_new ≡ err_old)
 Performs tasks.Headers bytes answer written old new err_old err_new = Lists (terms_of modes.Headers targets.Baseline) listings.Slices bytes answer written old new × (err_new ≡ err_old)
 Performs tasks.Frames bytes answer written old new err_old err_new = Lists (terms_of modes.Full targets.Baseline) listings.Frames bytes answer written old new × (err_new ≡ err_old)
 Performs tasks.Decode bytes answer written old new err_old err_new = Decodes targets.Baseline bytes answer written old new err_old err_new
+Performs tasks.Elements bytes answer written old new err_old err_new = Lists (terms_of modes.Full targets.Baseline) listings.Elements bytes answer written old new × (err_new ≡ err_old)
+Performs tasks.Info bytes answer written old new err_old err_new = ⊥
+Performs tasks.Report bytes answer written old new err_old err_new = ⊥
+Performs tasks.Explain bytes answer written old new err_old err_new = ⊥
 
 -- A last line alone, where a task writes its last line.
 abbrev pub SaysAlone : Task → Result Summary Stop → Bool → (old new err_old err_new : Option (List ℕ)) → Type 0
@@ -29,6 +36,10 @@ SaysAlone tasks.Units answer written old new err_old err_new = Takes written old
 SaysAlone tasks.Headers answer written old new err_old err_new = Takes written old new (last_line modes.Full answer) × (err_new ≡ err_old)
 SaysAlone tasks.Frames answer written old new err_old err_new = Takes written old new (last_line modes.Full answer) × (err_new ≡ err_old)
 SaysAlone tasks.Decode answer written old new err_old err_new = Takes written err_old err_new (last_line modes.Full answer) × (new ≡ old)
+SaysAlone tasks.Elements answer written old new err_old err_new = Takes written old new (last_line modes.Full answer) × (err_new ≡ err_old)
+SaysAlone tasks.Info answer written old new err_old err_new = ⊥
+SaysAlone tasks.Report answer written old new err_old err_new = ⊥
+SaysAlone tasks.Explain answer written old new err_old err_new = ⊥
 
 -- the answer where a file can't be opened, or where there was no memory to say so
 abbrev pub IsUnread : Result Summary Stop → Type 0
@@ -63,3 +74,8 @@ pub data Comes (words : List Text) (file : Text → Option (List ℕ)) (ReadFail
   -- they ask for a task with a file, and it was done
   Done : (task : Task) (name : Text) (answer : Result Summary Stop) (written : Bool) → asks program words ≡ Some (name_of task, Some name) → status ≡ status_of written answer → IsExcused ReadFailed answer written out_failed err_failed →
       OfBytes (file name) (λ bytes. Performs task bytes answer written old new err_old err_new) → Comes words file ReadFailed status old new err_old err_new out_failed err_failed
+
+-- What comes of these words: it is done; or they ask for more than a judgement of one FILE, nothing is written, and what they ask is handed on.
+abbrev pub ComesTo : (words : List Text) (file : Text → Option (List ℕ)) (ReadFailed : Type 0) (outcome : Outcome) (old new err_old err_new : Option (List ℕ)) (out_failed err_failed : Bool) → Type 0
+ComesTo words file ReadFailed (outcomes.Done status) old new err_old err_new out_failed err_failed = Comes words file ReadFailed status old new err_old err_new out_failed err_failed
+ComesTo words file ReadFailed (outcomes.More wanted) old new err_old err_new out_failed err_failed = (asks program words ≡ Some (name_of wanted.request.task, Some wanted.request.file.now)) × (new ≡ old) × (err_new ≡ err_old)

@@ -1,23 +1,24 @@
 //! The command line.
 #![tactic(auto)]
 
-ghost use Rattle.std.specs.Prelude.{◌≡◌, ◌-◌, ◌<◌, ◌^◌, true, false, List, map, string_bytes};
+ghost use Rattle.std.specs.Prelude.{◌≡◌, ◌-◌, ◌<◌, ◌^◌, true, false, List, Some, map, string_bytes};
 ghost use Rattle.clap.specs.Words.{Text, takes, kind_of};
 ghost use Rattle.clap.specs.declared.error.kind.ErrorKind.TheVariants as kinds;
 ghost use Rattle.h264_base.specs.declared.mode.Target.TheVariants as targets;
 ghost use Rattle.h264_judge.specs.Units.{terms_of};
 ghost use Rattle.h264_report.specs.Written.{OfBytes};
-ghost use Rattle.h264v.specs.Commands.{Performs, SaysAlone, IsUnread, HasFailed, IsExcused, Faults, Comes};
+ghost use Rattle.h264v.specs.Commands.{Performs, SaysAlone, IsUnread, HasFailed, IsExcused, Faults, Comes, ComesTo};
 ghost use Rattle.h264v.specs.Files.{HasFailedToRead};
-ghost use Rattle.h264_words.specs.Words.{program};
+ghost use Rattle.h264_words.specs.Words.{program, asks, name_of, is_judging};
 
 use crate::files::Files;
+use crate::outcome::Outcome;
 use clap::Error;
 use clap::error::ErrorKind;
 use h264_base::{Mode, Stop, Target};
 use h264_report::{Device, Ending, Listing, check, decode, list, put_answer, put_memory};
 use h264_verify::{Source, Terms};
-use h264_words::{Task, asked};
+use h264_words::{Request, Task, asked};
 use std::alloc::Global;
 use std::io::Write;
 
@@ -28,9 +29,9 @@ const NOT_TEXT: &str = "h264v: a word is not UTF-8\n";
 const NO_TASK: &str = "h264v: no command is given; h264v --help lists them\n";
 
 /// The exit status of a fault of the words.
-const FAULT: u8 = 64;
+pub const FAULT: u8 = 64;
 
-/// What a stream is judged by so far, where the words name no target.
+/// What a stream is judged by where the words name no target.
 fn terms(mode: Mode) -> Terms
     ensures { result ≡ terms_of mode targets.Baseline }
 {
@@ -48,7 +49,8 @@ fn perform<R: Source, W: Device, E: Device>(
     out: &mut W,
     err: &mut E,
 ) -> Ending
-    requires { R.failures source.old < 2 ^ 64 - 1 }
+    requires room { R.failures source.old < 2 ^ 64 - 1 }
+    requires judging { is_judging task ≡ true }
     ensures excused { IsExcused (HasFailedToRead (R.failures source.old) (R.failures source.new) (R.was_read source.old) (R.was_read source.new)) result.answer result.written (W.has_failed out.new) (E.has_failed err.new) }
     ensures performs { OfBytes (R.left source.old) (λ bytes. Performs task bytes result.answer result.written (W.contents out.old) (W.contents out.new) (E.contents err.old) (E.contents err.new)) }
 {
@@ -58,11 +60,16 @@ fn perform<R: Source, W: Device, E: Device>(
         Task::Headers => list(alloc, terms(Mode::Headers), Listing::Slices, source, out),
         Task::Frames => list(alloc, terms(Mode::Full), Listing::Frames, source, out),
         Task::Decode => decode(alloc, Target::Baseline, source, out, err),
+        Task::Elements => list(alloc, terms(Mode::Full), Listing::Elements, source, out),
+        Task::Info => unreachable!(),
+        Task::Report => unreachable!(),
+        Task::Explain => unreachable!(),
     }
 }
 
 /// Says that a file can't be opened.
 fn no_file<W: Device, E: Device>(alloc: Global, task: Task, out: &mut W, err: &mut E) -> Ending
+    requires { is_judging task ≡ true }
     ensures answer { IsUnread result.answer }
     ensures unwritten { result.written ≡ false → HasFailed (W.has_failed out.new) (E.has_failed err.new) }
     ensures says { SaysAlone task result.answer result.written (W.contents out.old) (W.contents out.new) (E.contents err.old) (E.contents err.new) }
@@ -73,6 +80,10 @@ fn no_file<W: Device, E: Device>(alloc: Global, task: Task, out: &mut W, err: &m
         Task::Units => put_answer(alloc, Mode::Full, Err(Stop::Read), out),
         Task::Headers => put_answer(alloc, Mode::Full, Err(Stop::Read), out),
         Task::Frames => put_answer(alloc, Mode::Full, Err(Stop::Read), out),
+        Task::Elements => put_answer(alloc, Mode::Full, Err(Stop::Read), out),
+        Task::Info => unreachable!(),
+        Task::Report => unreachable!(),
+        Task::Explain => unreachable!(),
     }
 }
 
@@ -95,28 +106,49 @@ fn fault<W: Device, E: Device>(error: &Error, out: &mut W, err: &mut E) -> u8
     FAULT
 }
 
-/// Does what the words ask, the program's name first among them, and gives the exit status: 0 yes, 1 no, 2 outside, 3 memory,
-/// 4 a device failed, 64 a fault of the words, whose text goes to `err`.
-pub fn command<F: Files, W: Device, E: Device>(
+/// Does what is asked of a file that stands for itself.
+fn serve<F: Files, W: Device, E: Device>(
     alloc: Global,
-    words: &[String],
+    request: Request<'_>,
     files: &mut F,
     out: &mut W,
     err: &mut E,
 ) -> u8
+    requires room { F.failures files.old < 2 ^ 64 - 1 }
+    requires judging { is_judging request.task ≡ true }
+    ensures { (words : List Text) → asks program words ≡ Some (name_of request.entry.task, Some request.entry.file.now) → Comes words (λ name. F.holds files.old name) (HasFailedToRead (F.failures files.old) (F.failures files.new) (F.was_read files.old) (F.was_read files.new)) result
+        (W.contents out.old) (W.contents out.new) (E.contents err.old) (E.contents err.new) (W.has_failed out.new) (E.has_failed err.new) }
+{
+    match files.open(request.file) {
+        Ok(()) => perform(alloc, request.task, files, out, err).status(),
+        Err(_) => no_file(alloc, request.task, out, err).status(),
+    }
+}
+
+/// Does what the words ask, the program's name first among them, where they ask for a judgement of one FILE and have no option, and gives the exit status: 0 yes,
+/// 1 no, 2 outside, 3 memory, 4 a device failed, 64 a fault of the words, whose text goes to `err`. Else nothing is written, and what they ask is handed on.
+pub fn command<'a, F: Files, W: Device, E: Device>(
+    alloc: Global,
+    words: &'a [String],
+    files: &mut F,
+    out: &mut W,
+    err: &mut E,
+) -> Outcome<'a>
     requires { F.failures files.old < 2 ^ 64 - 1 }
-    ensures { Comes (map (λ w. string_bytes w) words.now) (λ name. F.holds files.old name) (HasFailedToRead (F.failures files.old) (F.failures files.new) (F.was_read files.old) (F.was_read files.new)) result
+    ensures { ComesTo (map (λ w. string_bytes w) words.now) (λ name. F.holds files.old name) (HasFailedToRead (F.failures files.old) (F.failures files.new) (F.was_read files.old) (F.was_read files.new)) result
         (W.contents out.old) (W.contents out.new) (E.contents err.old) (E.contents err.new) (W.has_failed out.new) (E.has_failed err.new) }
 {
     match asked(alloc, words) {
-        Err(error) => fault(&error, out, err),
+        Err(error) => Outcome::Done(fault(&error, out, err)),
         Ok(None) => {
             let _ = err.write_all(NO_TASK.as_bytes());
-            FAULT
+            Outcome::Done(FAULT)
         }
-        Ok(Some(asked)) => match files.open(asked.file) {
-            Ok(()) => perform(alloc, asked.task, files, out, err).status(),
-            Err(_) => no_file(alloc, asked.task, out, err).status(),
-        },
+        Ok(Some(wanted)) => {
+            if wanted.is_plain() {
+                return Outcome::Done(serve(alloc, wanted.request, files, out, err));
+            }
+            Outcome::More(wanted)
+        }
     }
 }

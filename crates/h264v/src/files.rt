@@ -7,6 +7,7 @@ ghost use Rattle.std.specs.Io.KnownBytes.{Keeps};
 ghost use Rattle.h264v.specs.Files.{left_of};
 
 use h264_base::Failed;
+use h264_report::pages::Start;
 use h264_verify::Source;
 use std::io;
 use std::io::{ErrorKind, Read};
@@ -40,6 +41,37 @@ pub trait Files: Source {
         ensures failed { OnErr result (Self.failures self.new ≡ Self.failures self.old + 1) };
 }
 
+/// What was seen of the file that was opened last.
+#[derive(Clone, Copy)]
+pub struct Seen {
+    /// Its first bytes.
+    pub start: Start,
+    /// Whether its end was read.
+    pub ended: bool,
+}
+
+impl Seen {
+    /// Nothing was seen.
+    pub fn new() -> Seen {
+        Seen {
+            start: Start::new(),
+            ended: false,
+        }
+    }
+
+    /// Notes a read, which put so many bytes at the front of a piece.
+    fn note(&mut self, piece: &[u8], read: Option<usize>) {
+        let Some(count) = read else {
+            return;
+        };
+        if count == 0 {
+            self.ended = true;
+        } else if count <= piece.len() {
+            self.start.note(&piece[..count]);
+        }
+    }
+}
+
 /// The files of an opener.
 #[derive(Drop)]
 pub struct OpenedFiles<O: Opener + Drop> {
@@ -50,6 +82,9 @@ pub struct OpenedFiles<O: Opener + Drop> {
     pub reads: u64,
     /// How often one could not be opened or read.
     pub failures: u64,
+    pub seen: Seen,
+    /// The system's cause of the last failure.
+    pub cause: Option<io::Error>,
 }
 
 impl<O: Opener + Drop> OpenedFiles<O> {
@@ -64,6 +99,8 @@ impl<O: Opener + Drop> OpenedFiles<O> {
             reader: None,
             reads: 0,
             failures: 0,
+            seen: Seen::new(),
+            cause: None,
         }
     }
 
@@ -88,8 +125,8 @@ fn is_interruption(error: &io::Error) -> bool
 
 /// What came of a read: so many bytes; or None where it was interrupted, which is no failure.
 ///
-/// Failed: it failed by any other cause.
-fn outcome(read: io::Result<usize>) -> Result<Option<usize>, Failed>
+/// Failed: it failed by any other cause, which is kept.
+fn outcome(read: io::Result<usize>, cause: &mut Option<io::Error>) -> Result<Option<usize>, Failed>
     ensures bytes { IfOk read (λ n. result ≡ Ok (Some n)) }
     ensures interrupted { IfErr read (λ e. error_kind e ≡ kind_in os_error_kinds 4 → result ≡ Ok None) }
     ensures failed { IfErr read (λ e. (error_kind e ≡ kind_in os_error_kinds 4 → ⊥) → OnOk result ⊥) }
@@ -100,6 +137,7 @@ fn outcome(read: io::Result<usize>) -> Result<Option<usize>, Failed>
             if is_interruption(&error) {
                 Ok(None)
             } else {
+                *cause = Some(error);
                 Err(Failed)
             }
         }
@@ -121,8 +159,11 @@ impl<O: Opener + Drop> Source for OpenedFiles<O> {
         let Some(reader) = &mut self.reader else {
             return self.fail();
         };
-        match outcome(reader.read(piece)) {
-            Ok(bytes) => Ok(bytes),
+        match outcome(reader.read(piece), &mut self.cause) {
+            Ok(bytes) => {
+                self.seen.note(piece, bytes);
+                Ok(bytes)
+            }
             Err(Failed) => self.fail(),
         }
     }
@@ -135,9 +176,13 @@ impl<O: Opener + Drop> Files for OpenedFiles<O> {
         match self.opener.open(name) {
             Ok(reader) => {
                 self.reader = Some(reader);
+                self.seen = Seen::new();
                 Ok(())
             }
-            Err(_) => self.fail(),
+            Err(error) => {
+                self.cause = Some(error);
+                self.fail()
+            }
         }
     }
 }

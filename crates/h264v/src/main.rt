@@ -1,6 +1,7 @@
 //! The program `h264v`: whether an H.264 stream is legal.
 //!
-//! `main` hands the arguments, the files and the standard streams to `command`, and its status to the system.
+//! `main` hands the arguments, the files and the standard streams to `command`, what asks for more than the judgement of one file to `more`, and the status to the
+//! system.
 #![tactic(auto)]
 
 ghost use Rattle.std.specs.Prelude.{◌≡◌, ◌⊎◌};
@@ -8,17 +9,26 @@ ghost use Rattle.std.specs.Prelude.{◌≡◌, ◌⊎◌};
 #[cfg(test)]
 mod check_tests;
 mod command;
+mod explaining;
 mod files;
 #[cfg(test)]
 mod frame_tests;
 #[cfg(test)]
 mod header_tests;
+mod job;
 #[cfg(test)]
 mod large_tests;
+mod more;
+#[cfg(test)]
+mod more_tests;
+mod options;
+mod outcome;
 #[cfg(test)]
 mod picture_tests;
 #[cfg(test)]
 mod plain;
+mod prefixed;
+mod progress;
 #[cfg(test)]
 mod scene;
 #[cfg(test)]
@@ -36,6 +46,9 @@ mod words;
 use command::{command, not_text};
 use files::{OpenedFiles, Opener};
 use h264_report::WriteDevice;
+use more::{Maker, blame, blame_output, more};
+use outcome::Outcome;
+use progress::Progress;
 use std::alloc::Global;
 use std::fs::File;
 use std::io::{BufWriter, Write};
@@ -57,12 +70,53 @@ impl Opener for SystemFiles<'_> {
     }
 }
 
+impl Maker for SystemFiles<'_> {
+    type Output = BufWriter<File>;
+
+    fn make(&mut self, name: &str) -> io::Result<BufWriter<File>> {
+        BufWriter::new(self.rt.alloc(), fs::create(self.rt, name)?)
+    }
+
+    fn is_same(&mut self, name: &str, other: &str) -> bool {
+        match (
+            fs::canonicalize(self.rt, name),
+            fs::canonicalize(self.rt, other),
+        ) {
+            (Ok(name), Ok(other)) => name == other,
+            _ => false,
+        }
+    }
+}
+
+/// Says why the file that the words name last could not be read, where it could not.
+fn blame_last(files: &OpenedFiles<SystemFiles<'_>>, words: &[String], err: &mut impl Write) {
+    if let (Some(cause), Some(word)) = (&files.cause, words.last()) {
+        blame(err, word.as_str(), cause);
+    }
+}
+
 /// Runs the command that these words ask for, with the files and streams of the system: the exit status.
 fn run_command(rt: &HostRuntime, alloc: Global, words: &[String]) -> io::Result<u8> {
     let mut out = WriteDevice::new(BufWriter::new(alloc, io::writer(rt))?);
     let mut err = WriteDevice::new(rt.stderr());
     let mut files = OpenedFiles::new(SystemFiles { rt });
-    Ok(command(alloc, words, &mut files, &mut out, &mut err))
+    let status = match command(alloc, words, &mut files, &mut out, &mut err) {
+        Outcome::Done(status) => status,
+        Outcome::More(wanted) => {
+            let meter = Progress::new(rt, wanted.has("progress"));
+            more(
+                alloc,
+                &wanted,
+                SystemFiles { rt },
+                &mut out,
+                &mut err,
+                meter,
+            )
+        }
+    };
+    blame_last(&files, words, &mut err);
+    blame_output(&out, &mut err, "standard output");
+    Ok(status)
 }
 
 /// Runs the command that the arguments ask for. Want of memory before that is status 3.

@@ -5,6 +5,7 @@
 use crate::check_tests::ONE_FRAME;
 use crate::command::{command, not_text};
 use crate::files::{OpenedFiles, Opener};
+use crate::outcome::Outcome;
 use crate::words::words_of;
 use h264_report::WriteDevice;
 use std::alloc::Global;
@@ -124,8 +125,16 @@ pub struct Answer {
     pub status: u8,
 }
 
+/// The status of words that ask for one judgement, or for nothing.
+fn status_of(outcome: Outcome<'_>) -> u8 {
+    match outcome {
+        Outcome::Done(status) => status,
+        Outcome::More(_) => u8::MAX,
+    }
+}
+
 /// The words of a command line.
-fn words(alloc: Global, given: &[&str]) -> Result<Vec<String>, Fail> {
+pub fn words(alloc: Global, given: &[&str]) -> Result<Vec<String>, Fail> {
     let mut words: Vec<String> = Vec::new(alloc);
     for word in given {
         words.push(String::from_str(alloc, word)?)?;
@@ -184,7 +193,7 @@ fn outcome_with(
     let mut files = OpenedFiles::new(file);
     let mut out = WriteDevice::new(out);
     let mut err = WriteDevice::new(err);
-    let status = command(alloc, words.as_slice(), &mut files, &mut out, &mut err);
+    let status = status_of(command(alloc, words.as_slice(), &mut files, &mut out, &mut err));
     let WriteDevice { writer: out, .. } = out;
     let WriteDevice { writer: err, .. } = err;
     Ok(Written {
@@ -514,7 +523,7 @@ const FAULTS: [Fault; 13] = [
         says: "Usage: ",
     },
     Fault {
-        words: &["h264v", "units", "stream", "stream"],
+        words: &["h264v", "units", "--none", "stream"],
         says: "Usage: ",
     },
     Fault {
@@ -565,7 +574,7 @@ fn fault_of(rt: &(impl Abort + AllocGlobal), words: &[String], says: &str) -> Re
     let mut files = OpenedFiles::new(whole(ONE_FRAME));
     let mut out: WriteDevice<Vec<u8>> = WriteDevice::new(Vec::new(alloc));
     let mut err: WriteDevice<Vec<u8>> = WriteDevice::new(Vec::new(alloc));
-    let status = command(alloc, words, &mut files, &mut out, &mut err);
+    let status = status_of(command(alloc, words, &mut files, &mut out, &mut err));
     assert_eq!(rt; status, 64);
     assert!(rt; out.writer.is_empty());
     check_says(rt, err.writer, says)
@@ -586,7 +595,7 @@ fn no_such_file(rt: &(impl Abort + AllocGlobal)) -> Result<(), Fail> {
     let mut files = OpenedFiles::new(whole(ONE_FRAME));
     let mut out: WriteDevice<Vec<u8>> = WriteDevice::new(Vec::new(alloc));
     let mut err: WriteDevice<Vec<u8>> = WriteDevice::new(Vec::new(alloc));
-    let status = command(alloc, words.as_slice(), &mut files, &mut out, &mut err);
+    let status = status_of(command(alloc, words.as_slice(), &mut files, &mut out, &mut err));
     assert_eq!(rt; status, 4);
     assert_eq!(rt; files.failures, 1);
     assert_eq!(rt; out.writer.as_slice(), b"read failed\n".as_slice());

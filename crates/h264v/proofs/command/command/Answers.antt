@@ -1,22 +1,6 @@
-use Rattle.std.proofs.Common.{◌≡◌, ℕ, ◌+◌, map, string_bytes, refl, ap, sym, ◌∙◌, inl, inr, ⊎_elim, Result, IsErrOf}
-use Rattle.h264_base.specs.declared.stop.Stop.{Stop}
-use Rattle.h264_base.specs.declared.stop.Stop.TheVariants.{Write}
-use Rattle.h264_judge.specs.declared.state.Summary.{Summary}
-use Rattle.h264v.specs.Files.{HasFailedToRead}
-use Rattle.h264_report.proofs.Accounts.{of-kept}
-use Rattle.h264v.specs.Commands.{IsUnread, Performs, Refused, Faulted, Unopened, Done}
+use Rattle.std.proofs.Common.{map, string_bytes, refl}
+use Rattle.h264v.specs.Commands.{Refused, Faulted}
 use Rattle.h264v.proofs.command.command.Goals as goal
-
--- a read that failed behind the opening
-read-since : {f f' f'' : ℕ} {was was' : ℕ → Type 0} (was'' : ℕ → Type 0) → f' ≡ f → ((n : ℕ) → was n → was' n) → HasFailedToRead f' f'' was' was'' → HasFailedToRead f f'' was was''
-read-since was'' kept reads h = ⊎_elim (λ e. inl (e ∙ ap (λ n. n + 1) kept)) (λ m. inr (λ n r. m n (reads n r))) h
-
-unread : {A : Type 0} {answer : Result Summary Stop} → IsUnread answer → IsErrOf answer Write → A
-unread u w = absurd (⊎_elim (λ e. let d = sym e ∙ w in cc) (λ e. let d = sym e ∙ w in cc) u)
-
-pub returns-in-Err-open : goal.returns-in-Err-open
-returns-in-Err-open g c = Unopened c.in-Ok-Some.asked.task c.in-Ok-Some.asked.file.now c.no_file.result.answer c.no_file.result.written (rw c.in-Ok-Some.field-0-is at c.in-Ok-Some.ensures.words) c.status-in-Err-open.ensures c.no_file.ensures.answer (inl c.in-Err-open.ensures.failed)
-    (record { unwritten = c.no_file.ensures.unwritten; write = unread c.no_file.ensures.answer; read = λ e. inl c.in-Err-open.ensures.failed }) c.no_file.ensures.says
 
 pub returns-in-Err : goal.returns-in-Err
 returns-in-Err g c = Faulted (c.fault.ensures (map (λ w. string_bytes w) c.args.words.now) c.in-Err.ensures.refused)
@@ -24,10 +8,8 @@ returns-in-Err g c = Faulted (c.fault.ensures (map (λ w. string_bytes w) c.args
 pub returns-in-Ok-None : goal.returns-in-Ok-None
 returns-in-Ok-None g c = Faulted (Refused (λ t. rw c.in-Ok-None.field-0-is at c.in-Ok-None.ensures.words) refl refl)
 
-pub returns-in-Ok : goal.returns-in-Ok
-returns-in-Ok g c =
-    Done c.in-Ok-Some.asked.task c.in-Ok-Some.asked.file.now c.perform.result.answer c.perform.result.written (rw c.in-Ok-Some.field-0-is at c.in-Ok-Some.ensures.words) c.status.ensures
-    (record { unwritten = c.perform.ensures.excused.unwritten; write = c.perform.ensures.excused.write; read = λ e. read-since (g.F.Source.was_read c.perform.new.source) c.in-Ok.ensures.kept c.in-Ok.ensures.reads (c.perform.ensures.excused.read e) })
-    (of-kept (g.F.Files.holds c.args.files.now c.in-Ok-Some.asked.file.now) _
-    (λ bytes. Performs c.in-Ok-Some.asked.task bytes c.perform.result.answer c.perform.result.written (g.W.Write.contents c.args.out.now) (g.W.Write.contents c.perform.new.out) (g.E.Write.contents c.args.err.now) (g.E.Write.contents c.perform.new.err))
-    c.in-Ok.ensures.opened c.perform.ensures.performs)
+pub returns-then-is_plain : goal.returns-then-is_plain
+returns-then-is_plain g c = c.serve.ensures (map (λ w. string_bytes w) c.args.words.now) (rw c.in-Ok-Some.field-0-is at c.in-Ok-Some.ensures.words)
+
+pub returns-else-is_plain : goal.returns-else-is_plain
+returns-else-is_plain g c = (rw c.in-Ok-Some.field-0-is at c.in-Ok-Some.ensures.words, refl, refl)

@@ -30,3 +30,9 @@ returns-in-Frames-clause-unwritten g c = λ e. inl (c.put_answer-in-Frames.ensur
 
 pub returns-in-Decode-clause-unwritten : goal.returns-in-Decode-clause-unwritten
 returns-in-Decode-clause-unwritten g c = λ e. inr (c.put_answer.ensures.failed e)
+
+pub returns-in-Elements-clause-says : goal.returns-in-Elements-clause-says
+returns-in-Elements-clause-says g c = rw c.in-Elements.is (c.put_answer-in-Elements.ensures.text, refl)
+
+pub returns-in-Elements-clause-unwritten : goal.returns-in-Elements-clause-unwritten
+returns-in-Elements-clause-unwritten g c = λ e. inl (c.put_answer-in-Elements.ensures.failed e)

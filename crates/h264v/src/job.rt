@@ -1,0 +1,559 @@
+//! One file, judged as the options say.
+#![tactic(auto)]
+
+ghost use Rattle.std.specs.Prelude.{◌≡◌, ◌-◌, ◌<◌, ◌^◌};
+
+use crate::explaining::guide_of;
+use crate::files::{OpenedFiles, Opener, Seen};
+use crate::options::Options;
+use h264_base::{Mode, Stop};
+use h264_report::head::Head;
+use h264_report::pages::{
+    Answer, Finding, Page, Sheets, put_explanation, put_info, put_info_object, put_page,
+    put_verdict,
+};
+use h264_report::survey::{Meter, Narrowed, Survey, Surveyed};
+use h264_report::{
+    Device, JsonSink, LineSink, Listing, PageSink, Pen, TrailSink, Y4mSink, YuvSink, verdict_line,
+};
+use h264_verify::{FrameSink, run};
+use h264_words::Task;
+use std::alloc::Global;
+use std::io::Write;
+use std::marker::Brand;
+
+/// What is to be done with a file.
+#[derive(Clone, Copy)]
+pub struct Job<'a> {
+    pub alloc: Global,
+    pub task: Task,
+    pub options: Options<'a>,
+    /// The file's name, as the words give it.
+    pub file: &'a str,
+}
+
+/// What was found of a file.
+#[derive(Drop)]
+pub struct Found {
+    pub answer: Answer,
+    pub survey: Survey,
+    pub seen: Seen,
+    /// What stands before the last lines.
+    pub before: String,
+}
+
+/// What became of a file.
+#[derive(Clone, Copy)]
+pub struct Done {
+    pub answer: Answer,
+    /// Whether all was written.
+    pub written: bool,
+}
+
+/// A judgement for which memory is wanting.
+pub const SHORT: Done = Done {
+    answer: Err(Stop::Memory),
+    written: true,
+};
+
+impl Done {
+    /// The exit status: 0 yes, 1 no, 2 outside, 3 memory, 4 a device failed.
+    pub fn status(self) -> u8 {
+        if !self.written {
+            return 4;
+        }
+        match self.answer {
+            Ok(_) => 0,
+            Err(Stop::No { .. }) => 1,
+            Err(Stop::Outside { .. }) => 2,
+            Err(Stop::Memory) => 3,
+            Err(Stop::Read) => 4,
+            Err(Stop::Write) => 4,
+        }
+    }
+}
+
+/// How far a task judges.
+fn mode_of(task: Task) -> Mode {
+    match task {
+        Task::Units => Mode::Units,
+        Task::Headers => Mode::Headers,
+        _ => Mode::Full,
+    }
+}
+
+/// Which calls have a line in a task.
+fn listing_of(job: &Job<'_>) -> Listing {
+    if job.options.quiet {
+        return Listing::Nothing;
+    }
+    match job.task {
+        Task::Units => Listing::Units,
+        Task::Headers => Listing::Slices,
+        Task::Frames => Listing::Frames,
+        Task::Elements => Listing::Elements,
+        _ => Listing::Nothing,
+    }
+}
+
+/// The answer that is told: where a sink was short of memory, a write that failed is that.
+fn told(answer: Answer, short: bool) -> Answer {
+    match answer {
+        Err(Stop::Write) => Err(if short { Stop::Memory } else { Stop::Write }),
+        other => other,
+    }
+}
+
+/// Judges the open file with a sink, and surveys its calls. None where memory is wanting for the survey.
+fn judge<S: FrameSink + Drop, O: Opener + Drop, M: Meter + Drop>(
+    job: &Job<'_>,
+    files: &mut OpenedFiles<O>,
+    sink: S,
+    meter: M,
+) -> Option<(Surveyed<S, M>, Answer)>
+    requires sink { S.failures sink < 2 ^ 64 - 1 }
+    requires source { files.old.failures < 2 ^ 64 - 1 }
+{
+    let Ok(survey) = Survey::new(job.alloc) else {
+        return None;
+    };
+    let mut surveyed = Surveyed {
+        sink,
+        survey,
+        meter,
+    };
+    let (mode, target) = (mode_of(job.task), job.options.target);
+    let answer = run(job.alloc, files, &mut surveyed, mode, target);
+    tell_end(&mut surveyed);
+    Some((surveyed, answer))
+}
+
+/// Tells the meter that a judgement has ended.
+fn tell_end<S: FrameSink + Drop, M: Meter + Drop>(surveyed: &mut Surveyed<S, M>) {
+    let byte = match surveyed.survey.unit() {
+        Some(unit) => unit.byte.saturating_add(unit.length),
+        None => 0,
+    };
+    let pictures = surveyed.survey.picture_count();
+    let frames = surveyed.survey.frames();
+    surveyed.meter.end(byte, pictures, frames);
+}
+
+/// Judges the open file for its last elements.
+pub fn check_file<O: Opener + Drop, M: Meter + Drop>(
+    job: &Job<'_>,
+    files: &mut OpenedFiles<O>,
+    meter: M,
+) -> Option<Found>
+    requires { files.old.failures < 2 ^ 64 - 1 }
+{
+    let Ok(sink) = TrailSink::new(job.alloc) else {
+        return None;
+    };
+    let (surveyed, answer) = judge(job, files, sink, meter)?;
+    let Surveyed { sink, survey, .. } = surveyed;
+    let before = match answer {
+        Err(Stop::No { .. }) => match sink.trail().lines(job.alloc) {
+            Ok(lines) => lines,
+            Err(_) => return None,
+        },
+        _ => String::new(job.alloc),
+    };
+    Some(Found {
+        answer,
+        survey,
+        seen: files.seen,
+        before,
+    })
+}
+
+/// Judges the open file with a line for each call of the task's listing.
+fn list_lines<O: Opener + Drop, W: Device, M: Meter + Drop>(
+    job: &Job<'_>,
+    files: &mut OpenedFiles<O>,
+    out: &mut W,
+    meter: M,
+) -> Option<Found>
+    requires { files.old.failures < 2 ^ 64 - 1 }
+{
+    let pen = Pen { out };
+    let sink: LineSink<'_, W, Brand> = LineSink::new(job.alloc, listing_of(job), pen);
+    let (surveyed, answer) = judge(job, files, sink, meter)?;
+    let Surveyed { sink, survey, .. } = surveyed;
+    Some(Found {
+        answer: told(answer, sink.short_of_memory()),
+        survey,
+        seen: files.seen,
+        before: String::new(job.alloc),
+    })
+}
+
+/// Judges the open file with an object for each call of the task's listing.
+fn list_objects<O: Opener + Drop, W: Device, M: Meter + Drop>(
+    job: &Job<'_>,
+    files: &mut OpenedFiles<O>,
+    out: &mut W,
+    meter: M,
+) -> Option<Found>
+    requires { files.old.failures < 2 ^ 64 - 1 }
+{
+    let sink = JsonSink::new(job.alloc, listing_of(job), job.file, out);
+    let (surveyed, answer) = judge(job, files, sink, meter)?;
+    let Surveyed { sink, survey, .. } = surveyed;
+    Some(Found {
+        answer: told(answer, sink.short_of_memory()),
+        survey,
+        seen: files.seen,
+        before: String::new(job.alloc),
+    })
+}
+
+/// Judges the open file with a sink that is told what is chosen alone. None where memory is wanting for the survey.
+fn judge_chosen<S: FrameSink + Drop, O: Opener + Drop>(
+    job: &Job<'_>,
+    files: &mut OpenedFiles<O>,
+    sink: S,
+) -> Option<(Narrowed<S>, Answer)>
+    requires sink { S.failures sink < 2 ^ 64 - 1 }
+    requires source { files.old.failures < 2 ^ 64 - 1 }
+{
+    let Ok(survey) = Survey::new(job.alloc) else {
+        return None;
+    };
+    let mut narrowed = Narrowed {
+        sink,
+        survey,
+        choice: job.options.choice,
+        pending: None,
+    };
+    let (mode, target) = (mode_of(job.task), job.options.target);
+    let answer = run(job.alloc, files, &mut narrowed, mode, target);
+    Some((narrowed, answer))
+}
+
+/// Judges the open file with a line for each element that is chosen.
+fn chosen_lines<O: Opener + Drop, W: Device>(
+    job: &Job<'_>,
+    files: &mut OpenedFiles<O>,
+    out: &mut W,
+) -> Option<Found>
+    requires { files.old.failures < 2 ^ 64 - 1 }
+{
+    let pen = Pen { out };
+    let sink: LineSink<'_, W, Brand> = LineSink::new(job.alloc, listing_of(job), pen);
+    let (narrowed, answer) = judge_chosen(job, files, sink)?;
+    let Narrowed { sink, survey, .. } = narrowed;
+    Some(Found {
+        answer: told(answer, sink.short_of_memory()),
+        survey,
+        seen: files.seen,
+        before: String::new(job.alloc),
+    })
+}
+
+/// Judges the open file with an object for each element that is chosen.
+fn chosen_objects<O: Opener + Drop, W: Device>(
+    job: &Job<'_>,
+    files: &mut OpenedFiles<O>,
+    out: &mut W,
+) -> Option<Found>
+    requires { files.old.failures < 2 ^ 64 - 1 }
+{
+    let sink = JsonSink::new(job.alloc, listing_of(job), job.file, out);
+    let (narrowed, answer) = judge_chosen(job, files, sink)?;
+    let Narrowed { sink, survey, .. } = narrowed;
+    Some(Found {
+        answer: told(answer, sink.short_of_memory()),
+        survey,
+        seen: files.seen,
+        before: String::new(job.alloc),
+    })
+}
+
+/// Judges the open file with what the task lists, in lines or in objects.
+pub fn list_file<O: Opener + Drop, W: Device, M: Meter + Drop>(
+    job: &Job<'_>,
+    files: &mut OpenedFiles<O>,
+    out: &mut W,
+    meter: M,
+) -> Option<Found>
+    requires { files.old.failures < 2 ^ 64 - 1 }
+{
+    match (job.options.choice.is_some(), job.options.json) {
+        (false, false) => list_lines(job, files, out, meter),
+        (false, true) => list_objects(job, files, out, meter),
+        (true, false) => chosen_lines(job, files, out),
+        (true, true) => chosen_objects(job, files, out),
+    }
+}
+
+/// Judges the open file, and writes the samples of its frames.
+fn decode_samples<O: Opener + Drop, W: Device, M: Meter + Drop>(
+    job: &Job<'_>,
+    files: &mut OpenedFiles<O>,
+    out: &mut W,
+    meter: M,
+) -> Option<Found>
+    requires { files.old.failures < 2 ^ 64 - 1 }
+{
+    let sink: YuvSink<'_, W, Brand> = YuvSink::new(Pen { out });
+    let (surveyed, answer) = judge(job, files, sink, meter)?;
+    let Surveyed { survey, .. } = surveyed;
+    Some(Found {
+        answer,
+        survey,
+        seen: files.seen,
+        before: String::new(job.alloc),
+    })
+}
+
+/// The line that says which sizes follow one another; no text where they are the same.
+fn size_line(alloc: Global, sizes: Option<(Head, Head)>) -> Option<String> {
+    let Some((first, other)) = sizes else {
+        return Some(String::new(alloc));
+    };
+    let mut page = Page::new(alloc);
+    page.put("size changes from ");
+    page.number(first.width as u64);
+    page.put("x");
+    page.number(first.height as u64);
+    page.put(" to ");
+    page.number(other.width as u64);
+    page.put("x");
+    page.number(other.height as u64);
+    page.put(", and YUV4MPEG2 has no second header\n");
+    if page.is_short() {
+        return None;
+    }
+    String::from_str(alloc, page.as_str()).ok()
+}
+
+/// Judges the open file, and writes its frames as YUV4MPEG2.
+fn decode_y4m<O: Opener + Drop, W: Device, M: Meter + Drop>(
+    job: &Job<'_>,
+    files: &mut OpenedFiles<O>,
+    out: &mut W,
+    meter: M,
+) -> Option<Found>
+    requires { files.old.failures < 2 ^ 64 - 1 }
+{
+    let sink: Y4mSink<'_, W, Brand> = Y4mSink::new(job.alloc, Pen { out });
+    let (surveyed, answer) = judge(job, files, sink, meter)?;
+    let Surveyed { sink, survey, .. } = surveyed;
+    let before = size_line(job.alloc, sink.changed_size())?;
+    Some(Found {
+        answer: told(answer, sink.short_of_memory()),
+        survey,
+        seen: files.seen,
+        before,
+    })
+}
+
+/// Judges the open file, and writes its frames.
+pub fn decode_file<O: Opener + Drop, W: Device, M: Meter + Drop>(
+    job: &Job<'_>,
+    files: &mut OpenedFiles<O>,
+    out: &mut W,
+    meter: M,
+) -> Option<Found>
+    requires { files.old.failures < 2 ^ 64 - 1 }
+{
+    let mut found = if job.options.y4m {
+        decode_y4m(job, files, out, meter)?
+    } else {
+        decode_samples(job, files, out, meter)?
+    };
+    if out.send_rest().is_err() {
+        found.answer = Err(Stop::Write);
+    }
+    Some(found)
+}
+
+/// Judges the open file for what it has.
+pub fn info_file<O: Opener + Drop, M: Meter + Drop>(
+    job: &Job<'_>,
+    files: &mut OpenedFiles<O>,
+    meter: M,
+) -> Option<Found>
+    requires { files.old.failures < 2 ^ 64 - 1 }
+{
+    let Ok(sink) = TrailSink::new(job.alloc) else {
+        return None;
+    };
+    let (surveyed, answer) = judge(job, files, sink, meter)?;
+    let Surveyed { survey, .. } = surveyed;
+    let mut page = Page::new(job.alloc);
+    if job.options.json {
+        put_info_object(&mut page, job.file, &survey);
+    } else {
+        put_info(&mut page, &survey);
+    }
+    if page.is_short() || survey.is_short() {
+        return None;
+    }
+    let before = String::from_str(job.alloc, page.as_str()).ok()?;
+    Some(Found {
+        answer,
+        survey,
+        seen: files.seen,
+        before,
+    })
+}
+
+/// Writes a text and all that was held back; whether this was possible.
+pub fn put_text<W: Write>(out: &mut W, text: &str) -> bool {
+    if out.write_all(text.as_bytes()).is_err() {
+        return false;
+    }
+    out.flush().is_ok()
+}
+
+/// Where the answer of a judgement stands.
+fn finding_of(found: &Found) -> Option<Finding> {
+    Finding::of(
+        found.answer,
+        &found.survey,
+        &found.seen.start,
+        found.seen.ended,
+    )
+}
+
+/// Adds the last lines: what explains the answer, where that is asked, and the answer.
+fn put_last_lines(job: &Job<'_>, page: &mut Page, found: &Found) {
+    if job.options.explain {
+        put_explanation(
+            job.alloc,
+            page,
+            found.answer,
+            &found.survey,
+            finding_of(found),
+            guide_of(found.answer),
+        );
+    }
+    match verdict_line(job.alloc, mode_of(job.task), found.answer) {
+        Ok(line) => page.put(line.as_str()),
+        Err(_) => page.give_up(),
+    }
+    page.put("\n");
+}
+
+/// Writes the end of a judgement: lines, or an object of JSON; nothing where quiet is asked.
+pub fn put_found<W: Write>(job: &Job<'_>, out: &mut W, found: &Found) -> Done {
+    let mut page = Page::new(job.alloc);
+    if !job.options.quiet {
+        if !job.options.json || job.task == Task::Info {
+            page.put(found.before.as_str());
+        }
+        if job.options.json {
+            if job.task == Task::Decode && found.before.as_str() != "" {
+                page.open_object(job.file, "change");
+                page.text_field("text", found.before.as_str().trim_end());
+                page.close_object();
+            }
+            put_verdict(
+                job.alloc,
+                &mut page,
+                job.file,
+                found.answer,
+                &found.survey,
+                finding_of(found),
+                guide_of(found.answer),
+            );
+        } else {
+            put_last_lines(job, &mut page, found);
+        }
+    }
+    if page.is_short() {
+        return Done {
+            answer: Err(Stop::Memory),
+            written: put_text(out, "memory\n"),
+        };
+    }
+    Done {
+        answer: found.answer,
+        written: put_text(out, page.as_str()),
+    }
+}
+
+/// Writes that a file was not judged, by an answer of memory or of a device.
+pub fn put_unjudged<W: Write>(job: &Job<'_>, out: &mut W, stop: Stop) -> Done {
+    let text = match stop {
+        Stop::Read => "read failed",
+        Stop::Write => "write failed",
+        _ => "memory",
+    };
+    let mut page = Page::new(job.alloc);
+    if job.options.json {
+        page.open_object(job.file, "verdict");
+        page.text_field("verdict", text);
+        page.number_field("status", if text == "memory" { 3 } else { 4 });
+        page.close_object();
+    } else {
+        page.put(text);
+        page.put("\n");
+    }
+    if job.options.quiet {
+        page.clear();
+    }
+    Done {
+        answer: Err(stop),
+        written: put_text(out, page.as_str()),
+    }
+}
+
+/// Adds the page of a file that was judged.
+fn put_report(job: &Job<'_>, page: &mut Page, found: &Found, sink: &PageSink) {
+    let mut explanation = Page::new(job.alloc);
+    put_explanation(
+        job.alloc,
+        &mut explanation,
+        found.answer,
+        &found.survey,
+        finding_of(found),
+        guide_of(found.answer),
+    );
+    let Ok(verdict) = verdict_line(job.alloc, Mode::Full, found.answer) else {
+        page.give_up();
+        return;
+    };
+    if explanation.is_short() || sink.is_short() || found.survey.is_short() {
+        page.give_up();
+    }
+    let sheets = Sheets {
+        file: job.file,
+        answer: found.answer,
+        finding: finding_of(found),
+        verdict: verdict.as_str(),
+        explanation: explanation.as_str(),
+        digests: sink.digests(),
+    };
+    put_page(job.alloc, page, &found.survey, sink.album(), &sheets);
+}
+
+/// Judges the open file, and writes a page on it.
+pub fn report_file<O: Opener + Drop, W: Device, M: Meter + Drop>(
+    job: &Job<'_>,
+    files: &mut OpenedFiles<O>,
+    out: &mut W,
+    meter: M,
+) -> Option<Found>
+    requires { files.old.failures < 2 ^ 64 - 1 }
+{
+    let (surveyed, answer) = judge(job, files, PageSink::new(job.alloc), meter)?;
+    let Surveyed { sink, survey, .. } = surveyed;
+    let mut found = Found {
+        answer,
+        survey,
+        seen: files.seen,
+        before: String::new(job.alloc),
+    };
+    let mut page = Page::new(job.alloc);
+    put_report(job, &mut page, &found, &sink);
+    if page.is_short() {
+        return None;
+    }
+    if !put_text(out, page.as_str()) {
+        found.answer = Err(Stop::Write);
+    }
+    Some(found)
+}

@@ -1,0 +1,345 @@
+//! What the words ask for beside the judgement of one file: options, several files, and the tasks that make texts of their own.
+#![tactic(auto)]
+
+ghost use Rattle.std.specs.Prelude.{◌≡◌, ◌-◌, ◌<◌, ◌^◌};
+
+use crate::command::FAULT;
+use crate::explaining::put_entry;
+use crate::files::{Files, OpenedFiles, Opener};
+use crate::job::{
+    Done, Found, Job, SHORT, check_file, decode_file, info_file, list_file, put_found, put_text,
+    put_unjudged, report_file,
+};
+use crate::options::{Options, Refusal, options_of};
+use crate::prefixed::Prefixed;
+use h264_base::Stop;
+use h264_report::pages::Page;
+use h264_report::survey::Meter;
+use h264_report::{Device, WriteDevice};
+use h264_words::{Task, Wanted};
+use std::alloc::Global;
+use std::io;
+use std::io::Write;
+
+/// Makes files to write to.
+pub trait Maker {
+    /// What is written to.
+    type Output: Write + Drop;
+
+    /// A new file of this name, or the emptied one.
+    fn make(&mut self, name: &str) -> io::Result<Self::Output>;
+
+    /// Whether two names stand for one file.
+    fn is_same(&mut self, name: &str, other: &str) -> bool;
+}
+
+/// How many files had which answer.
+#[derive(Clone, Copy, Default)]
+struct Totals {
+    files: u64,
+    yes: u64,
+    no: u64,
+    outside: u64,
+    memory: u64,
+    failed: u64,
+    /// The greatest exit status.
+    worst: u8,
+}
+
+impl Totals {
+    /// Counts a file by its exit status.
+    fn add(&mut self, status: u8) {
+        self.files = self.files.saturating_add(1);
+        self.worst = self.worst.max(status);
+        match status {
+            0 => self.yes = self.yes.saturating_add(1),
+            1 => self.no = self.no.saturating_add(1),
+            2 => self.outside = self.outside.saturating_add(1),
+            3 => self.memory = self.memory.saturating_add(1),
+            _ => self.failed = self.failed.saturating_add(1),
+        }
+    }
+
+    /// Adds the last line of several files.
+    fn put(&self, page: &mut Page) {
+        page.put("total: files ");
+        page.number(self.files);
+        page.put(" yes ");
+        page.number(self.yes);
+        page.put(" no ");
+        page.number(self.no);
+        page.put(" outside ");
+        page.number(self.outside);
+        page.put(" memory ");
+        page.number(self.memory);
+        page.put(" failed ");
+        page.number(self.failed);
+        page.put("\n");
+    }
+
+    /// Adds the last object of several files.
+    fn put_object(&self, page: &mut Page) {
+        page.put("{\"kind\":\"total\"");
+        page.number_field("files", self.files);
+        page.number_field("yes", self.yes);
+        page.number_field("no", self.no);
+        page.number_field("outside", self.outside);
+        page.number_field("memory", self.memory);
+        page.number_field("failed", self.failed);
+        page.close_object();
+    }
+}
+
+/// Writes a line of the program's own to standard error: who, and why.
+pub fn complain<E: Write>(alloc: Global, err: &mut E, parts: &[&str]) {
+    let mut page = Page::new(alloc);
+    page.put("h264v: ");
+    for part in parts.iter() {
+        page.put(part);
+    }
+    page.put("\n");
+    let _ = err.write_all(page.as_str().as_bytes());
+}
+
+/// Says why a device or a file failed, by the system's cause.
+pub fn blame<E: Write>(err: &mut E, name: &str, cause: &io::Error) {
+    let _ = writeln!(err, "h264v: {name}: {cause}");
+}
+
+/// Refuses the words, with a line that says why: the exit status.
+fn refuse<E: Write>(alloc: Global, err: &mut E, refusal: Refusal) -> u8 {
+    complain(alloc, err, &[refusal]);
+    FAULT
+}
+
+/// Tells the entries of labels: the exit status. Where one label is unknown, nothing is told.
+fn explain_labels<W: Write, E: Write>(
+    alloc: Global,
+    labels: &[&str],
+    json: bool,
+    out: &mut W,
+    err: &mut E,
+) -> u8 {
+    let mut page = Page::new(alloc);
+    for label in labels.iter() {
+        if !put_entry(&mut page, label, json) {
+            complain(alloc, err, &["no rule has the label ", label]);
+            return FAULT;
+        }
+    }
+    if page.is_short() {
+        return if put_text(out, "memory\n") { 3 } else { 4 };
+    }
+    if put_text(out, page.as_str()) { 0 } else { 4 }
+}
+
+/// Judges the open file as the task says. What the answer is written to is left to the caller.
+fn find<O: Opener + Drop, W: Device, M: Meter + Drop>(
+    job: &Job<'_>,
+    files: &mut OpenedFiles<O>,
+    out: &mut W,
+    meter: M,
+) -> Option<Found>
+    requires { files.old.failures < 2 ^ 64 - 1 }
+{
+    match job.task {
+        Task::Check => check_file(job, files, meter),
+        Task::Decode => decode_file(job, files, out, meter),
+        Task::Info => info_file(job, files, meter),
+        Task::Report => report_file(job, files, out, meter),
+        _ => list_file(job, files, out, meter),
+    }
+}
+
+/// The name by which the system knows a file: standard input for `-`.
+fn system_name(file: &str) -> &str {
+    if file == "-" { "/dev/stdin" } else { file }
+}
+
+/// Whether the answer of a task goes to standard error, since its output is something else.
+fn answers_aside(task: Task) -> bool {
+    task == Task::Decode || task == Task::Report
+}
+
+/// Judges a file, and writes its answer to `out`, or to `err` where the task writes something else to `out`.
+fn do_file<O: Opener + Drop, W: Device, E: Write, M: Meter + Drop>(
+    job: &Job<'_>,
+    files: &mut OpenedFiles<O>,
+    out: &mut W,
+    err: &mut E,
+    meter: M,
+) -> Done
+    requires { files.old.failures < 2 ^ 64 - 1 }
+{
+    if files.open(system_name(job.file)).is_err() {
+        if answers_aside(job.task) {
+            return put_unjudged(job, err, Stop::Read);
+        }
+        return put_unjudged(job, out, Stop::Read);
+    }
+    let found = find(job, files, out, meter);
+    put_answer(job, found, out, err)
+}
+
+/// Writes what was found; where there is nothing, memory was wanting.
+fn put_answer<W: Write, E: Write>(
+    job: &Job<'_>,
+    found: Option<Found>,
+    out: &mut W,
+    err: &mut E,
+) -> Done {
+    match (found, answers_aside(job.task)) {
+        (Some(found), true) => put_found(job, err, &found),
+        (Some(found), false) => put_found(job, out, &found),
+        (None, true) => put_unjudged(job, err, Stop::Memory),
+        (None, false) => put_unjudged(job, out, Stop::Memory),
+    }
+}
+
+/// Says why a file could not be read, where it could not.
+fn blame_file<O: Opener + Drop, E: Write>(files: &mut OpenedFiles<O>, err: &mut E, name: &str) {
+    if let Some(cause) = &files.cause {
+        blame(err, name, cause);
+    }
+    files.cause = None;
+}
+
+/// Says why an output failed, where it did.
+pub fn blame_output<W: Write + Drop, E: Write>(device: &WriteDevice<W>, err: &mut E, name: &str) {
+    if let Some(cause) = &device.cause {
+        blame(err, name, cause);
+    }
+}
+
+/// Judges one of several files, whose lines begin with its name.
+fn do_named<O: Opener + Drop, W: Device, E: Write, M: Meter + Drop>(
+    job: &Job<'_>,
+    files: &mut OpenedFiles<O>,
+    out: &mut W,
+    err: &mut E,
+    meter: M,
+) -> Done
+    requires { files.old.failures < 2 ^ 64 - 1 }
+{
+    if job.options.json {
+        return do_file(job, files, out, err, meter);
+    }
+    let mut prefix = Page::new(job.alloc);
+    prefix.put(job.file);
+    prefix.put(": ");
+    if prefix.is_short() {
+        return put_unjudged(job, out, Stop::Memory);
+    }
+    let mut device = WriteDevice::new(Prefixed::new(out, prefix.as_str()));
+    let done = do_file(job, files, &mut device, err, meter);
+    blame_output(&device, err, "standard output");
+    done
+}
+
+/// Judges several files, and writes their totals: the worst exit status.
+fn do_files<O: Opener + Drop, W: Device, E: Write, M: Meter + Drop + Copy>(
+    job: &Job<'_>,
+    names: &[&str],
+    opener: O,
+    out: &mut W,
+    err: &mut E,
+    meter: M,
+) -> u8 {
+    let mut files = OpenedFiles::new(opener);
+    let mut totals = Totals::default();
+    for name in names.iter() {
+        let one = Job { file: name, ..*job };
+        files.failures = 0;
+        files.reads = 0;
+        let done = do_named(&one, &mut files, out, err, meter);
+        blame_file(&mut files, err, name);
+        totals.add(done.status());
+    }
+    let mut page = Page::new(job.alloc);
+    if job.options.json {
+        totals.put_object(&mut page);
+    } else if !job.options.quiet {
+        totals.put(&mut page);
+    }
+    if put_text(out, page.as_str()) {
+        totals.worst
+    } else {
+        4
+    }
+}
+
+/// Judges one file: the exit status.
+fn do_one<O: Opener + Drop, W: Device, E: Write, M: Meter + Drop>(
+    job: &Job<'_>,
+    opener: O,
+    out: &mut W,
+    err: &mut E,
+    meter: M,
+) -> u8 {
+    let mut files = OpenedFiles::new(opener);
+    let done = do_file(job, &mut files, out, err, meter);
+    blame_file(&mut files, err, job.file);
+    done.status()
+}
+
+/// The job of these words.
+fn job_of<'a>(alloc: Global, wanted: &Wanted<'a>, options: Options<'a>) -> Job<'a> {
+    Job {
+        alloc,
+        task: wanted.request.task,
+        options,
+        file: wanted.request.file,
+    }
+}
+
+/// Judges one file with its output in a file of its own: the exit status.
+fn do_output<O: Opener + Maker + Drop, E: Write, M: Meter + Drop>(
+    job: &Job<'_>,
+    mut opener: O,
+    output: &str,
+    err: &mut E,
+    meter: M,
+) -> u8 {
+    if opener.is_same(system_name(job.file), output) {
+        return refuse(job.alloc, err, "the output is the input");
+    }
+    let made = match opener.make(output) {
+        Ok(made) => made,
+        Err(cause) => {
+            blame(err, output, &cause);
+            return put_unjudged(job, err, Stop::Write).status();
+        }
+    };
+    let mut device = WriteDevice::new(made);
+    let status = do_one(job, opener, &mut device, err, meter);
+    blame_output(&device, err, output);
+    status
+}
+
+/// Does what the words ask beside a judgement of one file without options, and gives the exit status: the worst of the files', 64 for a fault of the words, whose
+/// text goes to `err`.
+pub fn more<O: Opener + Maker + Drop, W: Device, E: Write, M: Meter + Drop + Copy>(
+    alloc: Global,
+    wanted: &Wanted<'_>,
+    opener: O,
+    out: &mut W,
+    err: &mut E,
+    meter: M,
+) -> u8 {
+    let options = match options_of(wanted) {
+        Ok(options) => options,
+        Err(refusal) => return refuse(alloc, err, refusal),
+    };
+    let names = wanted.files().unwrap_or(&[]);
+    let job = job_of(alloc, wanted, options);
+    if job.task == Task::Explain {
+        return explain_labels(alloc, names, options.json, out, err);
+    }
+    if let Some(output) = options.output {
+        return do_output(&job, opener, output, err, meter);
+    }
+    if names.len() > 1 {
+        return do_files(&job, names, opener, out, err, meter);
+    }
+    do_one(&job, opener, out, err, meter)
+}

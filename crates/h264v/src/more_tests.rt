@@ -1,0 +1,359 @@
+//! What the commands write with options, for several files, and as texts of their own: the examples of docs/OUTPUT.md.
+#![tactic(auto)]
+
+use crate::command::command;
+use crate::files::{OpenedFiles, Opener};
+use crate::more::{Maker, more};
+use crate::outcome::Outcome;
+use crate::tests::words;
+use h264_report::WriteDevice;
+use h264_report::survey::NoMeter;
+use std::io;
+use std::io::ErrorKind;
+use std::process::Abort;
+use std::test::Fail;
+
+/// Opens the one stream that there is, by any name that begins with `stream`, and makes no file.
+#[derive(Clone, Copy)]
+struct OneStream<'a> {
+    bytes: &'a [u8],
+}
+
+impl<'a> Opener for OneStream<'a> {
+    type File = &'a [u8];
+
+    fn open(&mut self, name: &str) -> io::Result<&'a [u8]> {
+        if !name.starts_with("stream") {
+            return Err(io::Error::from(ErrorKind::NotFound));
+        }
+        Ok(self.bytes)
+    }
+}
+
+impl Maker for OneStream<'_> {
+    type Output = Vec<u8>;
+
+    fn make(&mut self, _name: &str) -> io::Result<Vec<u8>> {
+        Err(io::Error::from(ErrorKind::PermissionDenied))
+    }
+
+    fn is_same(&mut self, name: &str, other: &str) -> bool {
+        name == other
+    }
+}
+
+/// Words, the stream in hexadecimal digits, parts of what is written, and the status.
+struct Asking {
+    words: &'static [&'static str],
+    stream: &'static str,
+    out: &'static [&'static str],
+    err: &'static str,
+    status: u8,
+}
+
+/// One picture of one macroblock.
+const ONE: &str = "000000016742c00ada710000000168ce388000000165888493c0";
+
+/// The same, and a picture whose frame_num is 2.
+const GAP: &str = "000000016742c00ada710000000168ce388000000165888493c0000001619a42a0";
+
+/// The same, and a picture whose frame_num is 1: its macroblock is skipped.
+const TWO: &str = "000000016742c00ada710000000168ce388000000165888493c0000001619a22a0";
+
+/// Verdicts with what explains them, in lines and in JSON.
+const VERDICTS: [Asking; 8] = [
+    Asking {
+        words: &["h264v", "check", "--explain", "stream"],
+        stream: GAP,
+        out: &[
+            "explain bit 247 byte 30 unit 29 type 1\nexplain picture 1 frame 2 slice 0\nexplain found frame_num bit 247 value 2\n\
+explain allowed 1, which follows PrevRefFrameNum 0 modulo MaxFrameNum 16; 0 in an IDR picture; 0 in a picture that is no reference; gaps are not allowed\n",
+            "explain end the input ends in this unit\nno: bit 247: FrameNum (clause 7.4.3)\n",
+        ],
+        err: "",
+        status: 1,
+    },
+    Asking {
+        words: &["h264v", "check", "--explain", "stream"],
+        stream: ONE,
+        out: &["yes: units 3 pictures 1 frames 1\n"],
+        err: "",
+        status: 0,
+    },
+    Asking {
+        words: &["h264v", "check", "--json", "stream"],
+        stream: GAP,
+        out: &[
+            "{\"file\":\"stream\",\"kind\":\"verdict\",\"verdict\":\"no\",\"status\":1,\"rule\":\"FrameNum\",\"clause\":\"7.4.3\",\"bit\":247,\"byte\":30,\
+\"unit\":29,\"nal_unit_type\":1,\"picture\":1,\"frame_num\":2,\"slice\":0,\"element\":\"frame_num\",\"value\":2,\"ends_in_unit\":true,\"allowed\":\"1, which",
+        ],
+        err: "",
+        status: 1,
+    },
+    Asking {
+        words: &["h264v", "check", "--json", "stream"],
+        stream: ONE,
+        out: &[
+            "{\"file\":\"stream\",\"kind\":\"verdict\",\"verdict\":\"yes\",\"status\":0,\"units\":3,\"pictures\":1,\"frames\":1}\n",
+        ],
+        err: "",
+        status: 0,
+    },
+    // profile_idc 77 without its flag.
+    Asking {
+        words: &["h264v", "check", "--explain", "stream"],
+        stream: "00000001674d000ada71",
+        out: &[
+            "explain found profile_idc bit 40 value 77\nexplain allowed profile_idc 66; or 77 or 88 with constraint_set0_flag 1\n",
+            "explain reason other-profile Main\n",
+        ],
+        err: "",
+        status: 1,
+    },
+    // The first bytes of an MP4 file.
+    Asking {
+        words: &["h264v", "check", "--json", "stream"],
+        stream: "0000001866747970",
+        out: &["\"reason\":\"container\",\"container\":\"mp4\""],
+        err: "",
+        status: 1,
+    },
+    // The first bytes of a stream of HEVC.
+    Asking {
+        words: &["h264v", "check", "--json", "stream"],
+        stream: "0000000140010c01",
+        out: &["\"reason\":\"hevc\""],
+        err: "",
+        status: 1,
+    },
+    Asking {
+        words: &["h264v", "check", "--quiet", "stream"],
+        stream: GAP,
+        out: &[],
+        err: "",
+        status: 1,
+    },
+];
+
+/// Listings, in lines and in JSON.
+const LISTINGS: [Asking; 7] = [
+    Asking {
+        words: &["h264v", "units", "--json", "stream"],
+        stream: ONE,
+        out: &[
+            "{\"file\":\"stream\",\"kind\":\"unit\",\"byte\":4,\"nal_unit_type\":7,\"nal_ref_idc\":3,\"bytes\":6}\n",
+        ],
+        err: "",
+        status: 0,
+    },
+    Asking {
+        words: &["h264v", "headers", "--json", "stream"],
+        stream: TWO,
+        out: &[
+            "{\"file\":\"stream\",\"kind\":\"slice\",\"byte\":29,\"first_mb_in_slice\":0,\"slice_type\":\"P\",\"frame_num\":1,\"count\":2}\n",
+        ],
+        err: "",
+        status: 0,
+    },
+    // 256 + 64 + 64 bytes of 80.
+    Asking {
+        words: &["h264v", "frames", "--json", "stream"],
+        stream: ONE,
+        out: &[
+            "{\"file\":\"stream\",\"kind\":\"frame\",\"index\":0,\"count\":0,\"width\":16,\"height\":16,\"md5\":\"",
+        ],
+        err: "",
+        status: 0,
+    },
+    Asking {
+        words: &["h264v", "elements", "--picture", "1", "stream"],
+        stream: TWO,
+        out: &[
+            "unit 29 type 1 ref 3 bytes 4\nelement first_mb_in_slice bit 240 value 0\nelement slice_type bit 241 value 5\n",
+            "slice 29 mb 0 type P frame 1 count 2\nelement mb_skip_run bit 255 value 1\nyes: units 4 pictures 2 frames 2\n",
+        ],
+        err: "",
+        status: 0,
+    },
+    Asking {
+        words: &["h264v", "elements", "--mb", "0", "--json", "stream"],
+        stream: TWO,
+        out: &[
+            "{\"file\":\"stream\",\"kind\":\"element\",\"name\":\"mb_skip_run\",\"bit\":255,\"value\":1}\n",
+        ],
+        err: "",
+        status: 0,
+    },
+    Asking {
+        words: &["h264v", "info", "stream"],
+        stream: TWO,
+        out: &[
+            "info set 0 profile 66 (Constrained Baseline) level 1\ninfo size 16x16 coded 16x16 macroblocks 1x1\ninfo reference frames 1\n\
+info pictures 2 idr 1 i 0 p 1\ninfo bytes 9 a picture 4 largest 5\ninfo macroblocks i4x4 0 i16x16 1 pcm 0 p16x16 0 p16x8 0 p8x16 0 p8x8 0 skip 1\n\
+yes: units 4 pictures 2 frames 2\n",
+        ],
+        err: "",
+        status: 0,
+    },
+    Asking {
+        words: &["h264v", "info", "--json", "stream"],
+        stream: TWO,
+        out: &[
+            "\"pictures\":2,\"idr\":1,\"i\":0,\"p\":1,\"bytes\":9,\"largest\":5,\"macroblocks\":{\"i4x4\":0,\"i16x16\":1,",
+        ],
+        err: "",
+        status: 0,
+    },
+];
+
+/// Several files, frames, pages, and words that are refused.
+const REST: [Asking; 11] = [
+    Asking {
+        words: &["h264v", "check", "stream", "stream2", "none"],
+        stream: ONE,
+        out: &[
+            "stream: yes: units 3 pictures 1 frames 1\nstream2: yes: units 3 pictures 1 frames 1\nnone: read failed\n\
+total: files 3 yes 2 no 0 outside 0 memory 0 failed 1\n",
+        ],
+        err: "h264v: none: ",
+        status: 4,
+    },
+    Asking {
+        words: &["h264v", "check", "--json", "stream", "stream2"],
+        stream: ONE,
+        out: &[
+            "{\"kind\":\"total\",\"files\":2,\"yes\":2,\"no\":0,\"outside\":0,\"memory\":0,\"failed\":0}\n",
+        ],
+        err: "",
+        status: 0,
+    },
+    Asking {
+        words: &["h264v", "decode", "--y4m", "stream"],
+        stream: ONE,
+        out: &["YUV4MPEG2 W16 H16 F25:1 Ip C420\nFRAME\nPPPP"],
+        err: "yes: units 3 pictures 1 frames 1\n",
+        status: 0,
+    },
+    Asking {
+        words: &["h264v", "report", "stream"],
+        stream: GAP,
+        out: &[
+            "<!DOCTYPE html>",
+            "no: bit 247: FrameNum (clause 7.4.3)",
+            "explain picture 1 frame 2 slice 0",
+            "data:image/bmp;base64,Qk",
+            "</html>\n",
+        ],
+        err: "no: bit 247: FrameNum (clause 7.4.3)\n",
+        status: 1,
+    },
+    Asking {
+        words: &["h264v", "explain", "VectorRange"],
+        stream: "",
+        out: &["VectorRange (clause A.3)\nbreaks: "],
+        err: "",
+        status: 0,
+    },
+    Asking {
+        words: &["h264v", "explain", "VectorRange", "Vector"],
+        stream: "",
+        out: &[],
+        err: "h264v: no rule has the label Vector\n",
+        status: 64,
+    },
+    Asking {
+        words: &["h264v", "check", "--y4m", "stream"],
+        stream: ONE,
+        out: &[],
+        err: "h264v: --y4m belongs to decode\n",
+        status: 64,
+    },
+    Asking {
+        words: &["h264v", "check", "--quiet", "--json", "stream"],
+        stream: ONE,
+        out: &[],
+        err: "h264v: --quiet and --json exclude one another\n",
+        status: 64,
+    },
+    Asking {
+        words: &["h264v", "decode", "-o", "stream", "stream"],
+        stream: ONE,
+        out: &[],
+        err: "h264v: the output is the input\n",
+        status: 64,
+    },
+    Asking {
+        words: &["h264v", "decode", "-o", "full", "stream"],
+        stream: ONE,
+        out: &[],
+        err: "h264v: full: ",
+        status: 4,
+    },
+    Asking {
+        words: &["h264v", "elements", "--picture", "x", "stream"],
+        stream: ONE,
+        out: &[],
+        err: "h264v: --picture wants the number of a picture, from 0\n",
+        status: 64,
+    },
+];
+
+/// That these parts stand in a text; that it is empty, where there are none.
+fn check_parts(rt: &(impl Abort + AllocGlobal), text: &str, parts: &[&str], word: &str) {
+    if parts.is_empty() {
+        assert_eq!(rt; text, "", "{word}");
+    }
+    for part in parts.iter() {
+        assert!(rt; text.contains(part), "{word}: {part} in {text}");
+    }
+}
+
+/// That this is written and answered.
+fn check_asking(rt: &(impl Abort + AllocGlobal), asking: &Asking) -> Result<(), Fail> {
+    let alloc = rt.alloc();
+    let stream = hex::decode(alloc, asking.stream)?;
+    let opener = OneStream {
+        bytes: stream.as_slice(),
+    };
+    let words = words(alloc, asking.words)?;
+    let mut files = OpenedFiles::new(opener);
+    let mut out: WriteDevice<Vec<u8>> = WriteDevice::new(Vec::new(alloc));
+    let mut err: WriteDevice<Vec<u8>> = WriteDevice::new(Vec::new(alloc));
+    let status = match command(alloc, words.as_slice(), &mut files, &mut out, &mut err) {
+        Outcome::Done(status) => status,
+        Outcome::More(wanted) => more(alloc, &wanted, opener, &mut out, &mut err, NoMeter),
+    };
+    check_written(rt, asking, out.writer, err.writer, status)
+}
+
+/// That these bytes are what is to be written.
+fn check_written(
+    rt: &(impl Abort + AllocGlobal),
+    asking: &Asking,
+    out: Vec<u8>,
+    err: Vec<u8>,
+    status: u8,
+) -> Result<(), Fail> {
+    let word = asking.words.get(1).copied().unwrap_or("");
+    assert_eq!(rt; status, asking.status, "{word}");
+    let err = String::from_utf8(err)?;
+    assert!(rt; err.as_str().starts_with(asking.err), "{word}: {err}");
+    let out = String::from_utf8(out)?;
+    check_parts(rt, out.as_str(), asking.out, word);
+    Ok(())
+}
+
+/// That each of these is.
+fn check_all(rt: &(impl Abort + AllocGlobal), askings: &[Asking]) -> Result<(), Fail> {
+    for asking in askings.iter() {
+        check_asking(rt, asking)?;
+    }
+    Ok(())
+}
+
+#[test]
+fn options(rt: HostRuntime) -> Result<(), Fail> {
+    check_all(&rt, &VERDICTS)?;
+    check_all(&rt, &LISTINGS)?;
+    check_all(&rt, &REST)
+}
