@@ -82,7 +82,8 @@ fn misplaced(task: Task, options: &Options<'_>) -> Option<Refusal> {
     if options.explain && !task.is_judging() {
         return Some("--explain belongs to check, units, headers, frames, decode and elements");
     }
-    if task == Task::Explain && (options.quiet || options.progress) {
+    let names_target = options.target == Target::MainIP;
+    if task == Task::Explain && (options.quiet || options.progress || names_target) {
         return Some("explain takes no option but --json");
     }
     None
