@@ -121,9 +121,9 @@ fn put_pictures(page: &mut Page, survey: &Survey, sheets: &Sheets<'_>) {
     page.put("<h2>Bytes a picture</h2>");
     put_byte_plot(page, pictures, counts.largest, failed);
     page.put(KEY);
-    page.put("<p>A bar stands for ");
+    page.put("<p>Pictures stand in decoding order, ");
     page.number(pictures_a_bar(pictures.len()) as u64);
-    page.put(" in decoding order; the highest is ");
+    page.put(" a bar; the highest has ");
     page.number(counts.largest);
     page.put(" bytes.</p><table>");
     put_row(page, "pictures", pictures.len() as u64);

@@ -92,10 +92,21 @@ pub fn pictures_a_bar(pictures: usize) -> usize
     pictures / MOST_BARS + 1
 }
 
+/// How many bars so many pictures have.
+fn bars(pictures: usize, group: usize) -> u64
+    requires { 0 < group }
+{
+    let whole = (pictures / group) as u64;
+    if pictures % group == 0 {
+        return whole;
+    }
+    whole.saturating_add(1)
+}
+
 /// Adds the plot of bytes a picture, with the picture of a failure marked.
 pub fn put_byte_plot(page: &mut Page, pictures: &[Picture], most: u64, failed: Option<u64>) {
     let group = pictures_a_bar(pictures.len());
-    let count = (pictures.len() / group).saturating_add(1) as u64;
+    let count = bars(pictures.len(), group);
     open_plot(page, "bytes a picture");
     let mut place = 0;
     for some in pictures.chunks(group) {
@@ -128,7 +139,7 @@ fn most_waiting(pictures: &[Picture]) -> u64 {
 /// Adds the plot of frames that wait for their output, picture by picture.
 pub fn put_buffer_plot(page: &mut Page, pictures: &[Picture]) {
     let group = pictures_a_bar(pictures.len());
-    let count = (pictures.len() / group).saturating_add(1) as u64;
+    let count = bars(pictures.len(), group);
     let most = most_waiting(pictures);
     open_plot(page, "frames that wait for output");
     let mut place = 0;
