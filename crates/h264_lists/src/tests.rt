@@ -125,6 +125,7 @@ fn list(places: u32, commands: &[Command]) -> RefPicList0 {
     RefPicList0 {
         num_ref_idx_l0_active: places,
         modifications,
+        pred_weight_table: None,
     }
 }
 
