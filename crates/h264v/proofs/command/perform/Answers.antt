@@ -42,7 +42,7 @@ pub returns-in-Decode-clause-excused : goal.returns-in-Decode-clause-excused
 returns-in-Decode-clause-excused g c = record { unwritten = λ e. inr (c.decode.ensures.failed e); write = λ e. inl (c.decode.ensures.write e); read = c.decode.ensures.read }
 
 pub returns-in-Elements-clause-performs : goal.returns-in-Elements-clause-performs
-returns-in-Elements-clause-performs g c = rw c.in-Elements.is (beside (g.R.Source.left c.args.source.now) (λ bytes. Lists modes.Full listings.Elements bytes c.list-in-Elements.result.answer c.list-in-Elements.result.written (g.W.Write.contents c.args.out.now) (g.W.Write.contents c.list-in-Elements.new.out)) (g.E.Write.contents c.args.err.now) c.list-in-Elements.ensures.lists)
+returns-in-Elements-clause-performs g c = rw c.in-Elements.is (beside (g.R.Source.left c.args.source.now) (λ bytes. Lists (terms_of modes.Full targets.Baseline) listings.Elements bytes c.list-in-Elements.result.answer c.list-in-Elements.result.written (g.W.Write.contents c.args.out.now) (g.W.Write.contents c.list-in-Elements.new.out)) (g.E.Write.contents c.args.err.now) (rw c.terms-in-Elements.ensures at c.list-in-Elements.ensures.lists))
 
 pub returns-in-Elements-clause-excused : goal.returns-in-Elements-clause-excused
 returns-in-Elements-clause-excused g c = record { unwritten = λ e. inl (c.list-in-Elements.ensures.failed e); write = λ e. inl (c.list-in-Elements.ensures.write e); read = c.list-in-Elements.ensures.read }
