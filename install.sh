@@ -23,8 +23,7 @@ fi
 build=$(mktemp -d "${TMPDIR:-/tmp}/h264v-build.XXXXXX")
 [ -n "${KEEP:-}" ] || trap 'rm -rf "$build"' EXIT INT TERM
 say "builds in $build for $cpu, on $jobs processors"
-cp -r "$top/crates" "$top/HANDLES" "$build"
-rm -rf "$build"/crates/*/out
+tar -C "$top" -c --exclude='crates/*/out' crates HANDLES | tar -C "$build" -x
 
 # Crates that stand side by side are proved side by side, one processor each. The crates of the long chain above them come after, one
 # after another, with all processors each.
