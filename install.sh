@@ -23,23 +23,29 @@ fi
 build=$(mktemp -d "${TMPDIR:-/tmp}/h264v-build.XXXXXX")
 [ -n "${KEEP:-}" ] || trap 'rm -rf "$build"' EXIT INT TERM
 say "builds in $build for $cpu, on $jobs processors"
-tar -C "$top" -c --exclude='crates/*/out' crates HANDLES | tar -C "$build" -x
+mkdir "$build/work" "$build/later"
+tar -C "$top" -c --exclude='crates/*/out' crates HANDLES | tar -C "$build/work" -x
 
 # Crates that stand side by side are proved side by side, one processor each. The crates of the long chain above them come after, one
 # after another, with all processors each.
 chain=' h264_marking h264_lists h264_poc h264_dpb h264_picture h264_slices h264_judge h264_verify h264_report h264v '
 while read -r line; do
   case "$chain" in *" ${line%%:*} "*) ;; *) printf '%s\n' "$line" ;; esac
-done <"$top/crates.txt" >"$build/crates.txt"
+done <"$top/crates.txt" >"$build/work/crates.txt"
 
-say "step 1 of 2: the crates that stand side by side"
-(cd "$build" && mkdir later && for name in $chain; do mv "crates/$name" later/; done && rt all check --jobs "$jobs") >"$build/log" 2>&1 ||
-  { tail -n 20 "$build/log" >&2; exit 1; }
-say "step 2 of 2: the chain, and the program"
-(cd "$build" && mv later/* crates/ && cp "$top/crates.txt" . && cd crates/h264v && rt run --jobs "$jobs" --cpu "$cpu" -- --version) >>"$build/log" 2>&1 ||
-  { tail -n 20 "$build/log" >&2; exit 1; }
+# step TEXT COMMAND..: says what it does, and shows the end of the log where it fails
+step() {
+  say "$1"
+  shift
+  "$@" >>"$build/log" 2>&1 || { tail -n 20 "$build/log" >&2; exit 1; }
+}
 
-install -D "$build/crates/h264v/out/h264v" "$prefix/bin/h264v"
+side_by_side() { for name in $chain; do mv "$build/work/crates/$name" "$build/later/"; done && cd "$build/work" && rt all check --jobs "$jobs"; }
+one_by_one() { mv "$build"/later/* "$build/work/crates/" && cp "$top/crates.txt" "$build/work/" && cd "$build/work/crates/h264v" && rt run --jobs "$jobs" --cpu "$cpu" -- --version; }
+step "step 1 of 2: the crates that stand side by side" side_by_side
+step "step 2 of 2: the chain, and the program" one_by_one
+
+install -D "$build/work/crates/h264v/out/h264v" "$prefix/bin/h264v"
 install -D -m 644 "$top/share/h264v.1" "$prefix/share/man/man1/h264v.1"
 install -D -m 644 "$top/share/h264v.bash" "$prefix/share/bash-completion/completions/h264v"
 install -D -m 644 "$top/share/_h264v" "$prefix/share/zsh/site-functions/_h264v"
