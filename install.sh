@@ -41,7 +41,7 @@ step() {
 }
 
 side_by_side() { for name in $chain; do mv "$build/work/crates/$name" "$build/later/"; done && cd "$build/work" && rt all check --jobs "$jobs"; }
-one_by_one() { mv "$build"/later/* "$build/work/crates/" && cp "$top/crates.txt" "$build/work/" && cd "$build/work/crates/h264v" && rt run --jobs "$jobs" --cpu "$cpu" -- --version; }
+one_by_one() { mv "$build"/later/* "$build/work/crates/" && cp "$top/crates.txt" "$build/work/" && cd "$build/work/crates/h264v" && rt run --jobs "$jobs" --cpu "$cpu" -- check "$top/samples/one_frame.264"; }
 step "step 1 of 2: the crates that stand side by side" side_by_side
 step "step 2 of 2: the chain, and the program" one_by_one
 
