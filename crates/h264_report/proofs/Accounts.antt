@@ -3,17 +3,17 @@ use Rattle.std.proofs.Common.{⊎_elim, ◌≡◌, ℕ, ◌+◌, ◌<◌, Bool, 
 use Rattle.std.proofs.lemmas.List.{append-nil}
 use Rattle.std.specs.Io.KnownBytes.{Keeps}
 use Rattle.circular_buffer.specs.Buffer.{keep_last}
-use Rattle.h264_base.specs.Call.{Call, OfUnit}
+use Rattle.h264_base.specs.Call.{Call}
 use Rattle.h264_base.specs.declared.mode.Target.{Target}
 use Rattle.h264_base.specs.declared.mode.Mode.TheVariants.{Full}
 use Rattle.h264_base.specs.declared.stop.Stop.{Stop}
 use Rattle.h264_base.specs.declared.stop.Stop.TheVariants.{No, Outside, Memory, Read, Write}
 use Rattle.h264_plane.specs.Frames.{no_frame}
 use Rattle.h264_plane.specs.declared.frame.Frame.{Frame}
-use Rattle.h264_report.specs.Sent.{Sends, HoldsSent, Takes, IsBlamed}
-use Rattle.std.proofs.lemmas.Bool.{false≢true}
-use Rattle.h264_report.specs.Told.{line_of, lines_of, bytes_of, elements_of, IsLine, IsFrame, TookLines, TookFrames}
-use Rattle.h264_report.specs.Written.{OfBytes, IsFront, Answers, Account, calls_in, BreaksOff, IsWritten, Writes, last_line, Lists, trail_text, Checks, Decodes}
+use Rattle.h264_report.specs.Sent.{Sends, Takes, IsBlamed}
+use Rattle.h264_report.specs.Told.{lines_of, bytes_of, elements_of, BreaksOff, HoldsCalls, TookLines, TookFrames}
+use Rattle.h264_report.specs.Written.{OfBytes, IsFront, Answers, Account, calls_in, told_of, IsWritten, Writes, last_line, Lists, is_no, trail_text, Checks, Decodes}
+use Rattle.h264_report.specs.Trail.{element_lines}
 use Rattle.h264_report.specs.declared.listing.Listing.{Listing}
 use Rattle.h264_report.specs.declared.trail.Element.{Element}
 use Rattle.h264_report.proofs.Known.{sends-more, sends-none, sends-keeps, some-behind}
@@ -24,21 +24,6 @@ use Rattle.h264_judge.specs.declared.state.Terms.{Terms}
 use Rattle.h264_judge.specs.Units.{terms_of}
 use Rattle.h264_verify.proofs.Verdicts.{judges-judged, none-judged}
 
--- what is told last can be broken off before it begins
-pub record SomeNext (Next : List ℕ → Type 0) : Type 0 where
-  pub next : List ℕ
-  pub is_next : Next next
-
-pub some-line : (listing : Listing) → SomeNext (IsLine listing)
-some-line listing = record { next = line_of listing 0 (OfUnit 0 0 0 0); is_next = record { n = 0; call = OfUnit 0 0 0 0; is = refl } }
-
-pub some-frame : SomeNext IsFrame
-some-frame = record { next = []; is_next = record { call = OfUnit 0 0 0 0; is = refl } }
-
--- nothing breaks off
-pub whole : {Next : List ℕ → Type 0} → SomeNext Next → (all : List ℕ) → BreaksOff Next all all
-whole n all = record { next = n.next; is_next = n.is_next; part = []; rest = n.next; next_is = refl; bytes_are = sym (append-nil all) }
-
 -- ---- from a sink's account
 
 -- A sink that had taken nothing took this.
@@ -47,29 +32,6 @@ unfolding took_with
 taken frames took s s' more h t = t.told [] (tt, h)
 
 module _ {S : Type 0} (took : S → List Call → Type 0) (failures : S → ℕ) (terms : Terms) (bytes : List ℕ) (s s' : S) where
-  module _ {Next : List ℕ → Type 0} (some : SomeNext Next) (all : List Call → List ℕ) (start known : Option (List ℕ)) (none : took s []) (quiet : failures s ≡ 0) (holds : (calls : List Call) → took s' calls → HoldsSent Next start (failures s') known (all calls)) where
-    by : (frames : ℕ → Frame) (answer : Result Summary Stop) → JudgedBy terms (took_with frames took) failures bytes [] s s' answer → Writes Next all terms bytes answer start known
-    by frames (Ok summary) j =
-        let t = taken frames took s s' j.0.more none j.0.tells in
-        record { account = record { frames = frames; told = j.0.more; decoded = t.0; answers = j.0.verdict }; text = all (calls_of frames j.0.more); is_written = refl; sends = (holds _ t.1).whole (j.1 ∙ quiet) }
-    by frames (Err (No bit rule)) j =
-        let t = taken frames took s s' j.0.more none j.0.tells in
-        record { account = record { frames = frames; told = j.0.more; decoded = t.0; answers = j.0.verdict }; text = all (calls_of frames j.0.more); is_written = refl; sends = (holds _ t.1).whole (j.1 ∙ quiet) }
-    by frames (Err (Outside bit feature)) j =
-        let t = taken frames took s s' j.0.more none j.0.tells in
-        record { account = record { frames = frames; told = j.0.more; decoded = t.0; answers = j.0.verdict }; text = all (calls_of frames j.0.more); is_written = refl; sends = (holds _ t.1).whole (j.1 ∙ quiet) }
-    by frames (Err Memory) j =
-        let t = taken frames took s s' j.0.more none j.0.tells in
-        record { account = record { frames = frames; told = j.0.more; decoded = t.0; answers = record { rest = j.0.rest; answer = j.0.answer; verdict = j.0.verdict } }; text = all (calls_of frames j.0.more); is_written = whole some _; sends = (holds _ t.1).whole (j.1 ∙ quiet) }
-    by frames (Err Read) j =
-        let t = taken frames took s s' j.0.more none j.0.tells in
-        record { account = record { frames = frames; told = j.0.more; decoded = t.0; answers = record { rest = j.0.rest; answer = j.0.answer; verdict = j.0.verdict } }; text = all (calls_of frames j.0.more); is_written = refl; sends = (holds _ t.1).whole (j.1 ∙ quiet) }
-    by frames (Err Write) j =
-        let t = taken frames took s s' j.0.more none j.0.tells in
-        let rose : 0 < failures s' = let e = j.1 in omega (arith, e) in
-        let f = (holds _ t.1).front rose in
-        record { account = record { frames = frames; told = j.0.more; decoded = t.0; answers = record { rest = j.0.rest; answer = j.0.answer; verdict = j.0.verdict } }; text = all (calls_of frames j.0.more) ++ f.part; is_written = record { next = f.next; is_next = f.is_next; part = f.part; rest = f.proper.rest; next_is = f.proper.whole; bytes_are = refl }; sends = f.sends }
-
   -- what the sink took
   account : (none : took s []) (frames : ℕ → Frame) (answer : Result Summary Stop) → JudgedBy terms (took_with frames took) failures bytes [] s s' answer → (a : Account terms bytes answer) × took s' (calls_in a)
   account none frames (Ok summary) j = let t = taken frames took s s' j.0.more none j.0.tells in (record { frames = frames; told = j.0.more; decoded = t.0; answers = j.0.verdict }, t.1)
@@ -78,11 +40,6 @@ module _ {S : Type 0} (took : S → List Call → Type 0) (failures : S → ℕ)
   account none frames (Err Memory) j = let t = taken frames took s s' j.0.more none j.0.tells in (record { frames = frames; told = j.0.more; decoded = t.0; answers = record { rest = j.0.rest; answer = j.0.answer; verdict = j.0.verdict } }, t.1)
   account none frames (Err Read) j = let t = taken frames took s s' j.0.more none j.0.tells in (record { frames = frames; told = j.0.more; decoded = t.0; answers = record { rest = j.0.rest; answer = j.0.answer; verdict = j.0.verdict } }, t.1)
   account none frames (Err Write) j = let t = taken frames took s s' j.0.more none j.0.tells in (record { frames = frames; told = j.0.more; decoded = t.0; answers = record { rest = j.0.rest; answer = j.0.answer; verdict = j.0.verdict } }, t.1)
-
--- What the writer behind a sink took that had taken nothing.
-pub writes : {S : Type 0} {took : S → List Call → Type 0} {failures : S → ℕ} {terms : Terms} {bytes : List ℕ} {frames : ℕ → Frame} {s s' : S} {answer : Result Summary Stop} {Next : List ℕ → Type 0} (all : List Call → List ℕ) (start known : Option (List ℕ)) →
-    Judged terms took failures bytes frames [] s s' answer → SomeNext Next → took s [] → failures s ≡ 0 → ((calls : List Call) → took s' calls → HoldsSent Next start (failures s') known (all calls)) → Writes Next all terms bytes answer start known
-writes {S} {took} {failures} {terms} {bytes} {frames} {s} {s'} {answer} all start known j some none quiet holds = by took failures terms bytes s s' some all start known none quiet holds j.made answer j.judged
 
 -- what the sink took
 pub accounts : {S : Type 0} {took : S → List Call → Type 0} {failures : S → ℕ} {terms : Terms} {bytes : List ℕ} {frames : ℕ → Frame} {s s' : S} {answer : Result Summary Stop} → Judged terms took failures bytes frames [] s s' answer → took s [] → (a : Account terms bytes answer) × took s' (calls_in a)
@@ -99,36 +56,86 @@ front-of terms bytes told (Err Memory) v = v
 front-of terms bytes told (Err Read) v = v
 front-of terms bytes told (Err Write) v = v
 
-pub breaks-off : {Next : List ℕ → Type 0} → SomeNext Next → (answer : Result Summary Stop) (all bytes : List ℕ) → IsWritten Next answer all bytes → BreaksOff Next all bytes
-breaks-off {Next} some (Ok summary) all bytes e = subst (BreaksOff Next all) (sym e) (whole some all)
-breaks-off {Next} some (Err (No bit rule)) all bytes e = subst (BreaksOff Next all) (sym e) (whole some all)
-breaks-off {Next} some (Err (Outside bit feature)) all bytes e = subst (BreaksOff Next all) (sym e) (whole some all)
-breaks-off {Next} some (Err Read) all bytes e = subst (BreaksOff Next all) (sym e) (whole some all)
-breaks-off some (Err Memory) all bytes b = b
-breaks-off some (Err Write) all bytes b = b
+module _ {terms : Terms} {bytes : List ℕ} where
+  -- the same calls, up to a want of memory
+  abbrev up-to-memory : (answer : Result Summary Stop) → Account terms bytes answer → Account terms bytes (Err Memory)
+  up-to-memory answer a = record { frames = a.frames; told = a.told; decoded = a.decoded; answers = front-of terms bytes a.told answer a.answers }
 
--- the same, with memory wanting for what was to come
-pub short : {Next : List ℕ → Type 0} {all : List Call → List ℕ} {terms : Terms} {bytes : List ℕ} {old new : Option (List ℕ)} → SomeNext Next → (answer : Result Summary Stop) → Writes Next all terms bytes answer old new → Writes Next all terms bytes (Err Memory) old new
-short some answer w = record {
-  account = record { frames = w.account.frames; told = w.account.told; decoded = w.account.decoded; answers = front-of _ _ _ answer w.account.answers };
-  text = w.text;
-  is_written = breaks-off some answer _ _ w.is_written;
-  sends = w.sends;
-}
+  -- and up to a write that failed
+  abbrev up-to-write : (answer : Result Summary Stop) → Account terms bytes answer → Account terms bytes (Err Write)
+  up-to-write answer a = record { frames = a.frames; told = a.told; decoded = a.decoded; answers = front-of terms bytes a.told answer a.answers }
 
--- and with a write that failed
-pub failed : {Next : List ℕ → Type 0} {all : List Call → List ℕ} {terms : Terms} {bytes : List ℕ} {old new : Option (List ℕ)} → SomeNext Next → (answer : Result Summary Stop) → Writes Next all terms bytes answer old new → Writes Next all terms bytes (Err Write) old new
-failed some answer w = record {
-  account = record { frames = w.account.frames; told = w.account.told; decoded = w.account.decoded; answers = front-of _ _ _ answer w.account.answers };
-  text = w.text;
-  is_written = breaks-off some answer _ _ w.is_written;
-  sends = w.sends;
-}
+  module _ {make : List Call → List ℕ} {start known : Option (List ℕ)} where
+    -- What is told of a stream of which a writer took this.
+    took-writes : (broke_off : Bool) (answer : Result Summary Stop) (a : Account terms bytes answer) → HoldsCalls broke_off make start known (calls_in a) → Writes make terms bytes (told_of broke_off answer) start known
+    took-writes true answer a h = record { account = up-to-write answer a; text = h.bytes; is_written = inr h.breaks_off; sends = h.sends }
+    took-writes false (Ok summary) a h = record { account = a; text = make (calls_in a); is_written = refl; sends = h }
+    took-writes false (Err (No bit rule)) a h = record { account = a; text = make (calls_in a); is_written = refl; sends = h }
+    took-writes false (Err (Outside bit feature)) a h = record { account = a; text = make (calls_in a); is_written = refl; sends = h }
+    took-writes false (Err Memory) a h = record { account = a; text = make (calls_in a); is_written = refl; sends = h }
+    took-writes false (Err Read) a h = record { account = a; text = make (calls_in a); is_written = refl; sends = h }
+    took-writes false (Err Write) a h = record { account = up-to-memory (Err Write) a; text = make (calls_in a); is_written = refl; sends = h }
 
--- the answer that is told in place of another
-pub told-answer : {Next : List ℕ → Type 0} {all : List Call → List ℕ} {terms : Terms} {bytes : List ℕ} {old new : Option (List ℕ)} → SomeNext Next → (answer said : Result Summary Stop) → (said ≡ answer) ⊎ (said ≡ Err Memory) → Writes Next all terms bytes answer old new → Writes Next all terms bytes said old new
-told-answer {Next} {all} {terms} {bytes} {old} {new} some answer said (inl e) w = subst (λ a. Writes Next all terms bytes a old new) (sym e) w
-told-answer {Next} {all} {terms} {bytes} {old} {new} some answer said (inr e) w = subst (λ a. Writes Next all terms bytes a old new) (sym e) (short some answer w)
+    -- With memory wanting for what was to come.
+    short : (answer : Result Summary Stop) → (answer ≡ Err Write → ⊥) → Writes make terms bytes answer start known → Writes make terms bytes (Err Memory) start known
+    short (Ok summary) never w = record { account = up-to-memory (Ok summary) w.account; text = w.text; is_written = w.is_written; sends = w.sends }
+    short (Err (No bit rule)) never w = record { account = up-to-memory (Err (No bit rule)) w.account; text = w.text; is_written = w.is_written; sends = w.sends }
+    short (Err (Outside bit feature)) never w = record { account = up-to-memory (Err (Outside bit feature)) w.account; text = w.text; is_written = w.is_written; sends = w.sends }
+    short (Err Memory) never w = w
+    short (Err Read) never w = record { account = up-to-memory (Err Read) w.account; text = w.text; is_written = w.is_written; sends = w.sends }
+    short (Err Write) never w = absurd (never refl)
+
+    -- And where the writer failed as it handed over what it had held back.
+    pub failed : (answer : Result Summary Stop) → Writes make terms bytes answer start known → Writes make terms bytes (Err Write) start known
+    failed (Ok summary) w = record { account = up-to-write (Ok summary) w.account; text = w.text; is_written = inl w.is_written; sends = w.sends }
+    failed (Err (No bit rule)) w = record { account = up-to-write (Err (No bit rule)) w.account; text = w.text; is_written = inl w.is_written; sends = w.sends }
+    failed (Err (Outside bit feature)) w = record { account = up-to-write (Err (Outside bit feature)) w.account; text = w.text; is_written = inl w.is_written; sends = w.sends }
+    failed (Err Memory) w = record { account = up-to-write (Err Memory) w.account; text = w.text; is_written = inl w.is_written; sends = w.sends }
+    failed (Err Read) w = record { account = up-to-write (Err Read) w.account; text = w.text; is_written = inl w.is_written; sends = w.sends }
+    failed (Err Write) w = w
+
+    -- the answer that is said, where there was no memory for the last line of a verdict
+    pub said-answer : (answer said : Result Summary Stop) → (said ≡ answer) ⊎ (said ≡ Err Memory) → (answer ≡ Err Write → said ≡ Err Write) → Writes make terms bytes answer start known → Writes make terms bytes said start known
+    said-answer answer said (inl e) stays w = subst (λ a. Writes make terms bytes a start known) (sym e) w
+    said-answer answer said (inr e) stays w = subst (λ a. Writes make terms bytes a start known) (sym e) (short answer (λ is. let d = sym e ∙ stays is in cc) w)
+
+-- What the writer behind a sink took that had taken nothing.
+pub writes : {S : Type 0} {took : S → List Call → Type 0} {failures : S → ℕ} {terms : Terms} {bytes : List ℕ} {frames : ℕ → Frame} {s s' : S} {answer said : Result Summary Stop} (make : List Call → List ℕ) (start known : Option (List ℕ)) (broke_off : Bool) →
+    said ≡ told_of broke_off answer → Judged terms took failures bytes frames [] s s' answer → took s [] → ((calls : List Call) → took s' calls → HoldsCalls broke_off make start known calls) → Writes make terms bytes said start known
+writes {terms = terms} {bytes = bytes} {answer = answer} make start known broke_off is j none holds =
+    let a = accounts j none in
+    subst (λ x. Writes make terms bytes x start known) (sym is) (took-writes {make = make} {start = start} {known = known} broke_off answer a.0 (holds (calls_in a.0) a.1))
+
+-- ---- which devices have failed
+
+-- Where a write is told to have failed, the device has.
+pub write-failed : (broke_off was failed : Bool) (answer : Result Summary Stop) {said : Result Summary Stop} → said ≡ told_of broke_off answer → IsBlamed broke_off was failed → said ≡ Err Write → failed ≡ true
+write-failed true was failed answer is b w = b
+write-failed false was failed (Ok summary) is b w = absurd (let d = sym is ∙ w in cc)
+write-failed false was failed (Err (No bit rule)) is b w = absurd (let d = sym is ∙ w in cc)
+write-failed false was failed (Err (Outside bit feature)) is b w = absurd (let d = sym is ∙ w in cc)
+write-failed false was failed (Err Memory) is b w = absurd (let d = sym is ∙ w in cc)
+write-failed false was failed (Err Read) is b w = absurd (let d = sym is ∙ w in cc)
+write-failed false was failed (Err Write) is b w = absurd (let d = sym is ∙ w in cc)
+
+-- Where none is, the device is as it was.
+pub none-failed : (broke_off was failed : Bool) (answer : Result Summary Stop) {said : Result Summary Stop} → said ≡ told_of broke_off answer → IsBlamed broke_off was failed → (said ≡ Err Write → ⊥) → failed ≡ was
+none-failed true was failed answer is b never = absurd (never is)
+none-failed false was failed answer is b never = b
+
+-- a read that is told to have failed did
+pub read-told : (broke_off : Bool) (answer : Result Summary Stop) {said : Result Summary Stop} → said ≡ told_of broke_off answer → said ≡ Err Read → answer ≡ Err Read
+read-told true answer is r = absurd (let d = sym is ∙ r in cc)
+read-told false (Ok summary) is r = absurd (let d = sym is ∙ r in cc)
+read-told false (Err (No bit rule)) is r = absurd (let d = sym is ∙ r in cc)
+read-told false (Err (Outside bit feature)) is r = absurd (let d = sym is ∙ r in cc)
+read-told false (Err Memory) is r = absurd (let d = sym is ∙ r in cc)
+read-told false (Err Read) is r = refl
+read-told false (Err Write) is r = absurd (let d = sym is ∙ r in cc)
+
+-- an answer that is said is that a write failed only where the answer was
+pub never-write : {answer said : Result Summary Stop} → (answer ≡ Err Write → said ≡ Err Write) → (said ≡ Err Write → ⊥) → answer ≡ Err Write → ⊥
+never-write stays never is = never (stays is)
 
 -- ---- one text behind another
 
@@ -138,55 +145,42 @@ takes-behind false {a} {b} c {bs} cs p q = some-behind p q
 
 -- ---- sinks that were told nothing
 
-pub none-lines : {name reference : ℕ} {listing l : Listing} {start known : Option (List ℕ)} {frames failures : ℕ} {short broken : Bool} → reference ≡ name → l ≡ listing → known ≡ start → frames ≡ 0 → failures ≡ 0 → TookLines name listing start reference l frames failures short broken known []
+pub none-lines : {name reference : ℕ} {listing l : Listing} {start known : Option (List ℕ)} {was : Bool} {frames : ℕ} {broke_off broken : Bool} → reference ≡ name → l ≡ listing → known ≡ start → broken ≡ was → frames ≡ 0 → broke_off ≡ false → TookLines name listing start was reference l frames broke_off broken known []
 unfolding lines_of
-none-lines {name} {reference} {listing} {l} {start} {known} same lists unwritten frames quiet = record {
-  blamed = λ p. absurd (omega (arith, p, quiet));
+none-lines {name} {reference} {listing} {l} {start} {known} {was} {frames} {broke_off} {broken} same lists unwritten quiet zero whole = record {
   same_reference = same;
   same_listing = lists;
-  holds = record {
-    counts = frames;
-    sent = record { whole = λ e. subst (λ k. Sends start k []) (sym unwritten) (sends-none start); front = λ p. absurd (omega (arith, p, quiet)) };
+  lines = record {
+    counts = zero;
+    holds = subst (λ b. HoldsCalls b (lines_of l 0) start known []) (sym whole) (subst (λ k. Sends start k []) (sym unwritten) (sends-none start));
+    blamed = subst (λ b. IsBlamed b was broken) (sym whole) quiet;
   };
 }
 
-pub none-frames : {name reference : ℕ} {start known : Option (List ℕ)} {failures : ℕ} {broken : Bool} → reference ≡ name → known ≡ start → failures ≡ 0 → TookFrames name start reference failures broken known []
+pub none-frames : {name reference : ℕ} {start known : Option (List ℕ)} {was broke_off broken : Bool} → reference ≡ name → known ≡ start → broken ≡ was → broke_off ≡ false → TookFrames name start was reference broke_off broken known []
 unfolding bytes_of
-none-frames {name} {reference} {start} {known} same unwritten quiet = record {
-  blamed = λ p. absurd (omega (arith, p, quiet));
+none-frames {name} {reference} {start} {known} {was} {broke_off} {broken} same unwritten quiet whole = record {
   same_reference = same;
-  holds = record { whole = λ e. subst (λ k. Sends start k []) (sym unwritten) (sends-none start); front = λ p. absurd (omega (arith, p, quiet)) };
+  holds = subst (λ b. HoldsCalls b bytes_of start known []) (sym whole) (subst (λ k. Sends start k []) (sym unwritten) (sends-none start));
+  blamed = subst (λ b. IsBlamed b was broken) (sym whole) quiet;
 }
 
 -- what a sink holds is that of the listing for which it was made
-pub of-listing : {name reference : ℕ} {listing l : Listing} {start known : Option (List ℕ)} {frames failures : ℕ} {short broken : Bool} {calls : List Call} → TookLines name listing start reference l frames failures short broken known calls → HoldsSent (IsLine listing) start failures known (lines_of listing 0 calls)
-of-listing {name} {reference} {listing} {l} {start} {known} {frames} {failures} {calls} h = subst (λ x. HoldsSent (IsLine x) start failures known (lines_of x 0 calls)) h.same_listing h.holds.sent
-
--- the first failure, where memory was not short, is the device's
-pub device-blamed : {n : ℕ} {broken : Bool} → n ≡ 0 + 1 → IsBlamed n false broken → broken ≡ true
-device-blamed e b = ⊎_elim (λ f. absurd (false≢true f)) (λ t. t) (b (omega (arith, e)))
+pub of-listing : {name reference : ℕ} {listing l : Listing} {start known : Option (List ℕ)} {was : Bool} {frames : ℕ} {broke_off broken : Bool} {calls : List Call} → TookLines name listing start was reference l frames broke_off broken known calls → HoldsCalls broke_off (lines_of listing 0) start known calls
+of-listing {start = start} {known = known} {broke_off = broke_off} {calls = calls} h = subst (λ x. HoldsCalls broke_off (lines_of x 0) start known calls) h.same_listing h.lines.holds
 
 -- what has failed stays so
 pub still-failed : (written mid new : Bool) → (written ≡ true → new ≡ mid) → (written ≡ false → new ≡ true) → mid ≡ true → new ≡ true
 still-failed true mid new same broke e = same refl ∙ e
 still-failed false mid new same broke e = broke refl
 
--- an answer that is told, where want of memory may stand in its place
+-- a write that is said to have failed did
 pub is-write : {answer said : Result Summary Stop} → said ≡ Err Write → (said ≡ answer) ⊎ (said ≡ Err Memory) → answer ≡ Err Write
 is-write w t = ⊎_elim (λ e. sym e ∙ w) (λ e. absurd (let d = sym e ∙ w in cc)) t
 
--- a write that is told to have failed did
-pub was-write : (answer said : Result Summary Stop) → said ≡ Err Write → (said ≡ answer) ⊎ ((answer ≡ Err Write) × (said ≡ Err Memory)) → answer ≡ Err Write
-was-write answer said w t = is-write w (⊎_elim (λ e. inl e) (λ m. inr m.1) t)
-
--- a read that is told to have failed did
+-- a read that is said to have failed did
 pub was-read : (answer said : Result Summary Stop) → (said ≡ answer) ⊎ (said ≡ Err Memory) → said ≡ Err Read → answer ≡ Err Read
 was-read answer said t r = ⊎_elim (λ e. sym e ∙ r) (λ e. absurd (let d = sym e ∙ r in cc)) t
-
--- the answer that is told where a sink was short of memory
-pub told-short : {Next : List ℕ → Type 0} {all : List Call → List ℕ} {terms : Terms} {bytes : List ℕ} {old new : Option (List ℕ)} → SomeNext Next → (answer said : Result Summary Stop) → (said ≡ answer) ⊎ ((answer ≡ Err Write) × (said ≡ Err Memory)) → Writes Next all terms bytes answer old new → Writes Next all terms bytes said old new
-told-short some answer said (inl e) w = told-answer some answer said (inl e) w
-told-short some answer said (inr e) w = told-answer some answer said (inr e.1) w
 
 -- what was told up to the answer in whose place another is told
 pub told-account : {terms : Terms} {bytes : List ℕ} (answer said : Result Summary Stop) → (said ≡ answer) ⊎ (said ≡ Err Memory) → (a : Account terms bytes answer) → (b : Account terms bytes said) × (calls_in b ≡ calls_in a)
@@ -194,8 +188,36 @@ told-account {terms} {bytes} answer said (inl e) a = subst (λ x. (b : Account t
 told-account {terms} {bytes} answer said (inr e) a = subst (λ x. (b : Account terms bytes x) × (calls_in b ≡ calls_in a)) (sym e) (record { frames = a.frames; told = a.told; decoded = a.decoded; answers = front-of terms bytes a.told answer a.answers }, refl)
 
 -- and then what was held back was written
-pub kept : {Next : List ℕ → Type 0} {all : List Call → List ℕ} {terms : Terms} {bytes : List ℕ} {answer : Result Summary Stop} {old mid new : Option (List ℕ)} → Writes Next all terms bytes answer old mid → Keeps mid new → Writes Next all terms bytes answer old new
+pub kept : {make : List Call → List ℕ} {terms : Terms} {bytes : List ℕ} {answer : Result Summary Stop} {old mid new : Option (List ℕ)} → Writes make terms bytes answer old mid → Keeps mid new → Writes make terms bytes answer old new
 kept w k = record { account = w.account; text = w.text; is_written = w.is_written; sends = sends-keeps w.sends k }
+
+-- ---- the last elements after a no
+
+module _ (es : List Element) where
+  pub bare-answer : (answer : Result Summary Stop) → is_no answer ≡ false → trail_text es answer ≡ []
+  bare-answer (Ok summary) e = refl
+  bare-answer (Err (No bit rule)) e = absurd (let d : true ≡ false = e in cc)
+  bare-answer (Err (Outside bit feature)) e = refl
+  bare-answer (Err Memory) e = refl
+  bare-answer (Err Read) e = refl
+  bare-answer (Err Write) e = refl
+
+  pub trail-of-no : (answer : Result Summary Stop) → is_no answer ≡ true → trail_text es answer ≡ element_lines es
+  trail-of-no (Ok summary) e = absurd (let d : false ≡ true = e in cc)
+  trail-of-no (Err (No bit rule)) e = refl
+  trail-of-no (Err (Outside bit feature)) e = absurd (let d : false ≡ true = e in cc)
+  trail-of-no (Err Memory) e = absurd (let d : false ≡ true = e in cc)
+  trail-of-no (Err Read) e = absurd (let d : false ≡ true = e in cc)
+  trail-of-no (Err Write) e = absurd (let d : false ≡ true = e in cc)
+
+  -- without them the last line stands alone
+  pub takes-bare : (answer said : Result Summary Stop) (written : Bool) (old new : Option (List ℕ)) → is_no answer ≡ false → (said ≡ answer) ⊎ (said ≡ Err Memory) → Takes written old new (last_line Full said) → Takes written old new (trail_text es said ++ last_line Full said)
+  takes-bare answer said written old new e t takes =
+      let none : trail_text es said ≡ [] = ⊎_elim (λ same. ap (trail_text es) same ∙ bare-answer answer e) (λ memory. ap (trail_text es) memory) t in
+      subst (λ l. Takes written old new (l ++ last_line Full said)) (sym none) takes
+
+pub not-read : {A : Type 0} (answer : Result Summary Stop) → is_no answer ≡ true → answer ≡ Err Read → A
+not-read answer e r = absurd (let d : false ≡ true = sym (ap is_no r) ∙ e in cc)
 
 pub none-elements : (s : List Element) → s ≡ [] → s ≡ keep_last 16 (elements_of [])
 unfolding elements_of
@@ -204,9 +226,9 @@ none-elements s e = e
 -- ---- the commands
 
 -- the lines and the last line
-pub listed : {terms : Terms} {listing : Listing} {bytes : List ℕ} (answer said : Result Summary Stop) (written : Bool) (old mid new : Option (List ℕ)) → (said ≡ answer) ⊎ (said ≡ Err Memory) → Writes (IsLine listing) (lines_of listing 0) terms bytes answer old mid → Takes written mid new (last_line terms.mode said) → Lists terms listing bytes said written old new
-listed {terms} {listing} answer said written old mid new e w t =
-    let v = told-answer (some-line listing) answer said e w in
+pub listed : {terms : Terms} {listing : Listing} {bytes : List ℕ} (answer said : Result Summary Stop) (written : Bool) (old mid new : Option (List ℕ)) → (said ≡ answer) ⊎ (said ≡ Err Memory) → (answer ≡ Err Write → said ≡ Err Write) → Writes (lines_of listing 0) terms bytes answer old mid → Takes written mid new (last_line terms.mode said) → Lists terms listing bytes said written old new
+listed {terms} {listing} answer said written old mid new e stays w t =
+    let v = said-answer answer said e stays w in
     record { account = v.account; lines = v.text; are_lines = v.is_written; text = takes-behind written new (last_line terms.mode said) v.sends t }
 
 -- the last elements of what a sink took, and the last line
@@ -229,8 +251,8 @@ none-checked target bytes said written old new e t =
     subst (λ x. Checks target bytes x written old new) (sym e) c
 
 -- the frames, and the last line elsewhere
-pub decoded : {target : Target} {bytes : List ℕ} (answer said : Result Summary Stop) (written : Bool) (old mid new err_old err_new : Option (List ℕ)) → (said ≡ answer) ⊎ (said ≡ Err Memory) → Writes IsFrame bytes_of (terms_of Full target) bytes answer old mid → Keeps mid new → Takes written err_old err_new (last_line Full said) → Decodes target bytes said written old new err_old err_new
-decoded answer said written old mid new err_old err_new e w k t = record { frames = kept (told-answer some-frame answer said e w) k; text = t }
+pub decoded : {target : Target} {bytes : List ℕ} (answer said : Result Summary Stop) (written : Bool) (old mid new err_old err_new : Option (List ℕ)) → (said ≡ answer) ⊎ (said ≡ Err Memory) → (answer ≡ Err Write → said ≡ Err Write) → Writes bytes_of (terms_of Full target) bytes answer old mid → Keeps mid new → Takes written err_old err_new (last_line Full said) → Decodes target bytes said written old new err_old err_new
+decoded answer said written old mid new err_old err_new e stays w k t = record { frames = kept (said-answer answer said e stays w) k; text = t }
 
 -- ---- what is known of a source
 

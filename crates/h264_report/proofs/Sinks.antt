@@ -1,11 +1,12 @@
 -- What a sink's writer holds, from one call to the next.
-use Rattle.std.proofs.Common.{Bool, ◌≡◌, Result, Ok, Err, OnOk, OnErr, ℕ, ℤ, ◌+◌, ◌<◌, List, [], ◌∷◌, ◌++◌, Option, refl, sym, ap, ◌∙◌, subst, arith}
-use Rattle.std.proofs.lemmas.List.{append-nil, length-append}
-use Rattle.h264_base.specs.Call.{Call}
-use Rattle.h264_report.specs.Sent.{Sends, SendsFront, HoldsSent}
-use Rattle.h264_report.specs.Told.{ended, line_of, lines_of, counted, counted_of, bytes_in, bytes_of, HoldsLines, TookLines, TookFrames, IsFrame}
+use Rattle.std.proofs.Common.{Bool, true, false, ◌≡◌, Result, Ok, Err, OnOk, OnErr, ℕ, ◌+◌, ◌<◌, List, [], ◌∷◌, ◌++◌, Option, refl, sym, ap, ◌∙◌, subst, arith}
+use Rattle.std.proofs.lemmas.Bool.{true≢false}
+use Rattle.std.proofs.lemmas.List.{append-nil, append_assoc}
+use Rattle.h264_base.specs.Call.{Call, Tells}
+use Rattle.h264_report.specs.Sent.{Sends, SendsFront, HoldsSent, SendsOrBreaksOff, IsBlamed}
+use Rattle.h264_report.specs.Told.{line_of, lines_of, counted, counted_of, bytes_in, bytes_of, HoldsCalls, HoldsLines, TookLines, TookFrames}
 use Rattle.h264_report.specs.declared.listing.Listing.{Listing}
-use Rattle.h264_report.proofs.Known.{sends-is, sends-more, front-is, appends-none}
+use Rattle.h264_report.proofs.Known.{sends-is, sends-more}
 use Rattle.h264_report.proofs.Calls.{bytes-more, lines-more, counted-more}
 
 module _ {Next : List ℕ → Type 0} {start : Option (List ℕ)} where
@@ -21,34 +22,60 @@ module _ {Next : List ℕ → Type 0} {start : Option (List ℕ)} where
     front = λ p. record { next = next; is_next = i; part = s.part; proper = s.proper; sends = sends-more (h.whole none) (record { appends = s.appends }) };
   }
 
-  pub sent-still : {n : ℕ} {k : Option (List ℕ)} {bs : List ℕ} → 0 < n → HoldsSent Next start n k bs → HoldsSent Next start (n + 1) k bs
-  sent-still {n} some h = record { whole = λ e. absurd (omega (arith, e)); front = λ p. h.front some }
+-- ---- what the calls made that a writer took
+
+module _ (make : List Call → List ℕ) (start : Option (List ℕ)) where
+  -- with one call more, which may break off
+  pub calls-more : (broke broke' : Bool) (k k' : Option (List ℕ)) (before : List Call) (text : List ℕ) (call : Call) → broke ≡ false → make (before ++ call ∷ []) ≡ make before ++ text → HoldsCalls broke make start k before → SendsOrBreaksOff broke' k k' text → HoldsCalls broke' make start k' (before ++ call ∷ [])
+  calls-more true broke' k k' before text call whole more h s = absurd (true≢false whole)
+  calls-more false false k k' before text call whole more h s = sends-is (sym more) (sends-more h s)
+  calls-more false true k k' before text call whole more h s = record {
+    bytes = make before ++ s.part;
+    breaks_off = record {
+      before = before;
+      last = call;
+      calls_are = refl;
+      part = s.part;
+      bytes_are = refl;
+      less = record { rest = s.proper.rest; whole = more ∙ ap (λ l. make before ++ l) s.proper.whole ∙ sym (append_assoc (make before) s.part s.proper.rest); more = s.proper.more };
+    };
+    sends = sends-more h (record { appends = s.appends });
+  }
+
+  -- and with one that makes nothing
+  pub calls-pass : (broke : Bool) (k : Option (List ℕ)) (before : List Call) (call : Call) → broke ≡ false → make (before ++ call ∷ []) ≡ make before → HoldsCalls broke make start k before → HoldsCalls broke make start k (before ++ call ∷ [])
+  calls-pass true k before call whole same h = absurd (true≢false whole)
+  calls-pass false k before call whole same h = sends-is (sym same) h
+
+-- a device is blamed for a call more
+pub blamed-more : (broke broke' was failed failed' : Bool) → broke ≡ false → IsBlamed broke was failed → IsBlamed broke' failed failed' → IsBlamed broke' was failed'
+blamed-more true broke' was failed failed' whole b c = absurd (true≢false whole)
+blamed-more false true was failed failed' whole b c = c
+blamed-more false false was failed failed' whole b c = c ∙ b
 
 -- a call without a line
-pub skip-line : {l : Listing} {start : Option (List ℕ)} {f n : ℕ} {k : Option (List ℕ)} {before : List Call} (call : Call) → ((m : ℕ) → line_of l m call ≡ []) → counted l call ≡ 0 → HoldsLines l start f n k before → HoldsLines l start f n k (before ++ call ∷ [])
-skip-line {l} {start} {f} {n} {k} {before} call none zero h = record {
+pub skip-line : {l : Listing} {start : Option (List ℕ)} {was : Bool} {f : ℕ} {broke failed : Bool} {k : Option (List ℕ)} {before : List Call} (call : Call) → ((m : ℕ) → line_of l m call ≡ []) → counted l call ≡ 0 → broke ≡ false → HoldsLines l start was f broke failed k before → HoldsLines l start was f broke failed k (before ++ call ∷ [])
+skip-line {l} {start} {was} {f} {broke} {k = k} {before = before} call none zero whole h = record {
   counts = let c = h.counts in let d = counted-more l before call in omega (arith, c, d, zero);
-  sent = sent-is (sym (lines-more l 0 (counted_of l before) before call (omega arith) ∙ ap (λ x. lines_of l 0 before ++ x) (none (counted_of l before)) ∙ append-nil (lines_of l 0 before))) h.sent;
+  holds = calls-pass (lines_of l 0) start broke k before call whole (lines-more l 0 (counted_of l before) before call (omega arith) ∙ ap (λ x. lines_of l 0 before ++ x) (none (counted_of l before)) ∙ append-nil (lines_of l 0 before)) h.holds;
+  blamed = h.blamed;
 }
 
 -- the same of a sink
-pub skipped : {name reference : ℕ} {listing l : Listing} {start : Option (List ℕ)} {f n : ℕ} {short failed : Bool} {k : Option (List ℕ)} {before : List Call} (call : Call) → ((m : ℕ) → line_of l m call ≡ []) → counted l call ≡ 0 → TookLines name listing start reference l f n short failed k before → TookLines name listing start reference l f n short failed k (before ++ call ∷ [])
-skipped call none zero h = record { same_reference = h.same_reference; same_listing = h.same_listing; holds = skip-line call none zero h.holds; blamed = h.blamed }
+pub skipped : {name reference : ℕ} {listing l : Listing} {start : Option (List ℕ)} {was : Bool} {f : ℕ} {broke failed : Bool} {k : Option (List ℕ)} {before : List Call} (call : Call) → ((m : ℕ) → line_of l m call ≡ []) → counted l call ≡ 0 → broke ≡ false → TookLines name listing start was reference l f broke failed k before → TookLines name listing start was reference l f broke failed k (before ++ call ∷ [])
+skipped call none zero whole h = record { same_reference = h.same_reference; same_listing = h.same_listing; lines = skip-line call none zero whole h.lines }
 
--- a call whose line was written
-pub take-line : {l : Listing} {start : Option (List ℕ)} {f f' n n' : ℕ} {k k' : Option (List ℕ)} {before : List Call} {text : List ℕ} (call : Call) → line_of l f call ≡ text → n ≡ 0 → n' ≡ 0 → f' ≡ f + counted l call → HoldsLines l start f n k before → Sends k k' text → HoldsLines l start f' n' k' (before ++ call ∷ [])
-take-line {l} {start} {f} {f'} {n} {n'} {k} {k'} {before} call line none still e h s = record {
+-- a call whose line was written, or broke off
+pub take-line : {l : Listing} {start : Option (List ℕ)} {was : Bool} {f f' : ℕ} {broke broke' failed failed' : Bool} {k k' : Option (List ℕ)} {before : List Call} {text : List ℕ} (call : Call) → line_of l f call ≡ text → broke ≡ false → f' ≡ f + counted l call → HoldsLines l start was f broke failed k before → SendsOrBreaksOff broke' k k' text → IsBlamed broke' failed failed' → HoldsLines l start was f' broke' failed' k' (before ++ call ∷ [])
+take-line {l} {start} {was} {f} {f'} {broke} {broke'} {failed} {failed'} {k} {k'} {before} {text} call line whole e h s b = record {
   counts = let c = h.counts in let d = counted-more l before call in omega (arith, c, d, e);
-  sent = sent-is (sym (lines-more l 0 f before call (let c = h.counts in omega (arith, c)))) (sent-more none still h.sent (sends-is (sym line) s));
+  holds = calls-more (lines_of l 0) start broke broke' k k' before text call whole (lines-more l 0 f before call (let c = h.counts in omega (arith, c)) ∙ ap (λ x. lines_of l 0 before ++ x) line) h.holds s;
+  blamed = blamed-more broke broke' was failed failed' whole h.blamed b;
 }
 
--- one whose line was not
-pub fail-line : {l : Listing} {start : Option (List ℕ)} {f f' n n' : ℕ} {k k' : Option (List ℕ)} {before : List Call} {text : List ℕ} (call : Call) → line_of l f call ≡ text → n ≡ 0 → n' ≡ 1 → f' ≡ f → HoldsLines l start f n k before → SendsFront k k' text → HoldsLines l start f' n' k' before
-fail-line {l} {start} {f} {f'} {n} {n'} {k} {k'} {before} call line none one e h s = record { counts = e ∙ h.counts; sent = sent-part none one (record { n = f; call = call; is = refl }) h.sent (front-is (sym line) s) }
-
--- nothing was sent of a line
-pub none-sent : (k : Option (List ℕ)) (text : List ℕ) → SendsFront k k (ended text)
-none-sent k text = record { part = []; proper = record { rest = ended text; whole = refl; more = let e = length-append text (10 ∷ []) in omega (arith, e) }; appends = appends-none k }
+-- a call that failed, at which nothing was written
+pub unsent-line : {l l' : Listing} {start : Option (List ℕ)} {was : Bool} {f f' : ℕ} {broke broke' failed failed' : Bool} {k k' : Option (List ℕ)} {before : List Call} → l' ≡ l → f' ≡ f → broke' ≡ broke → failed' ≡ failed → k' ≡ k → HoldsLines l start was f broke failed k before → HoldsLines l' start was f' broke' failed' k' before
+unsent-line {start = start} {was = was} {before = before} lists frames breaks fails holds h = rw (lists, frames, breaks, fails, holds) h
 
 pub on-ok : {X E : Type 0} {A B C : Type 0} (r : Result X E) → (A → B → C) → OnOk r A → OnOk r B → OnOk r C
 on-ok (Ok x) f a b = f a b
@@ -58,21 +85,42 @@ pub on-err : {X E : Type 0} {A B C : Type 0} (r : Result X E) → (A → B → C
 on-err (Ok x) f a b = tt
 on-err (Err e) f a b = f a b
 
+pub ok-map : {X E : Type 0} {A B : Type 0} (r : Result X E) → (A → B) → OnOk r A → OnOk r B
+ok-map (Ok x) f a = f a
+ok-map (Err e) f a = tt
+
+pub err-map : {X E : Type 0} {A B : Type 0} (r : Result X E) → (A → B) → OnErr r A → OnErr r B
+err-map (Ok x) f a = tt
+err-map (Err e) f a = f a
+
 pub on-err-all : {X E : Type 0} {A : Type 0} (r : Result X E) → A → OnErr r A
 on-err-all (Ok x) a = tt
 on-err-all (Err e) a = a
 
-pub still-line : {l : Listing} {start : Option (List ℕ)} {f n : ℕ} {k : Option (List ℕ)} {before : List Call} → 0 < n → HoldsLines l start f n k before → HoldsLines l start f (n + 1) k before
-still-line some h = record { counts = h.counts; sent = sent-still some h.sent }
-
 -- nothing more was told
-pub lines-none : {l : Listing} {start : Option (List ℕ)} {f n : ℕ} {k : Option (List ℕ)} {before : List Call} → HoldsLines l start f n k before → HoldsLines l start f n k (before ++ [])
-lines-none {l} {start} {f} {n} {k} {before} h = subst (HoldsLines l start f n k) (sym (append-nil before)) h
+pub lines-none : {name reference : ℕ} {listing l : Listing} {start : Option (List ℕ)} {was : Bool} {f : ℕ} {broke failed : Bool} {k : Option (List ℕ)} {before : List Call} → TookLines name listing start was reference l f broke failed k before → TookLines name listing start was reference l f broke failed k (before ++ [])
+lines-none {name} {reference} {listing} {l} {start} {was} {f} {broke} {failed} {k} {before} h = subst (TookLines name listing start was reference l f broke failed k) (sym (append-nil before)) h
+
+pub frames-none : {name reference : ℕ} {start : Option (List ℕ)} {was broke failed : Bool} {k : Option (List ℕ)} {before : List Call} → TookFrames name start was reference broke failed k before → TookFrames name start was reference broke failed k (before ++ [])
+frames-none {name} {reference} {start} {was} {broke} {failed} {k} {before} h = subst (TookFrames name start was reference broke failed k) (sym (append-nil before)) h
 
 -- a call without bytes
-pub skip-bytes : {start : Option (List ℕ)} {n : ℕ} {k : Option (List ℕ)} (before : List Call) (call : Call) → bytes_in call ≡ [] → HoldsSent IsFrame start n k (bytes_of before) → HoldsSent IsFrame start n k (bytes_of (before ++ call ∷ []))
-skip-bytes before call none h = sent-is (sym (bytes-more before call ∙ ap (λ x. bytes_of before ++ x) none ∙ append-nil (bytes_of before))) h
+pub passed : {name reference : ℕ} {start : Option (List ℕ)} {was : Bool} (broke : Bool) {failed : Bool} {k : Option (List ℕ)} (before : List Call) (call : Call) → broke ≡ false → bytes_in call ≡ [] → TookFrames name start was reference broke failed k before → TookFrames name start was reference broke failed k (before ++ call ∷ [])
+passed {start = start} broke {k = k} before call whole none h = record {
+  same_reference = h.same_reference;
+  holds = calls-pass bytes_of start broke k before call whole (bytes-more before call ∙ ap (λ x. bytes_of before ++ x) none ∙ append-nil (bytes_of before)) h.holds;
+  blamed = h.blamed;
+}
 
--- the same of a sink
-pub passed : {name reference : ℕ} {start : Option (List ℕ)} {n : ℕ} {failed : Bool} {k : Option (List ℕ)} (before : List Call) (call : Call) → bytes_in call ≡ [] → TookFrames name start reference n failed k before → TookFrames name start reference n failed k (before ++ call ∷ [])
-passed before call none h = record { same_reference = h.same_reference; holds = skip-bytes before call none h.holds; blamed = h.blamed }
+-- a frame that was written, or broke off
+pub take-frame : {name reference : ℕ} {start : Option (List ℕ)} {was : Bool} (broke broke' : Bool) {failed failed' : Bool} {k k' : Option (List ℕ)} (before : List Call) (call : Call) → broke ≡ false → SendsOrBreaksOff broke' k k' (bytes_in call) → IsBlamed broke' failed failed' → TookFrames name start was reference broke failed k before → TookFrames name start was reference broke' failed' k' (before ++ call ∷ [])
+take-frame {start = start} {was} broke broke' {failed} {failed'} {k} {k'} before call whole s b h = record { same_reference = h.same_reference; holds = calls-more bytes_of start broke broke' k k' before (bytes_in call) call whole (bytes-more before call) h.holds s; blamed = blamed-more broke broke' was failed failed' whole h.blamed b }
+
+-- a sink is told what its state shows of each account before
+pub ok-tells : {X E : Type 0} (r : Result X E) {S : Type 0} (took : S → List Call → Type 0) (old new : S) (calls : List Call) → ((before : List Call) → took old before → OnOk r (took new (before ++ calls))) → OnOk r (Tells took old new calls)
+ok-tells (Ok x) took old new calls f = record { told = f }
+ok-tells (Err e) took old new calls f = tt
+
+pub err-tells : {X E : Type 0} (r : Result X E) {S : Type 0} (took : S → List Call → Type 0) (old new : S) (calls : List Call) → ((before : List Call) → took old before → OnErr r (took new (before ++ calls))) → OnErr r (Tells took old new calls)
+err-tells (Ok x) took old new calls f = tt
+err-tells (Err e) took old new calls f = record { told = f }

@@ -1,5 +1,5 @@
 -- What a writer holds that was sent bytes, where it tells what it holds.
-use Rattle.std.specs.Prelude.{◌≡◌, ◌<◌, ℕ, Bool, true, false, List, ◌++◌, length, Option, ◌⊎◌}
+use Rattle.std.specs.Prelude.{◌≡◌, ◌<◌, ℕ, Bool, true, false, List, ◌++◌, length, Option}
 use Rattle.std.specs.Io.KnownBytes.{Appends}
 
 -- part stands at the front of bytes, and is not all of them
@@ -43,6 +43,12 @@ abbrev pub Takes : Bool → Option (List ℕ) → Option (List ℕ) → List ℕ
 Takes true old new bytes = Sends old new bytes
 Takes false old new bytes = SendsSome old new bytes
 
--- After a failure memory was short, or the device has failed.
-abbrev pub IsBlamed : (failures : ℕ) (short failed : Bool) → Type 0
-IsBlamed failures short failed = 0 < failures → (short ≡ true) ⊎ (failed ≡ true)
+-- The writer took these bytes; or, where it broke off, a part of them.
+abbrev pub SendsOrBreaksOff : Bool → Option (List ℕ) → Option (List ℕ) → List ℕ → Type 0
+SendsOrBreaksOff false old new bytes = Sends old new bytes
+SendsOrBreaksOff true old new bytes = SendsFront old new bytes
+
+-- A device has failed where a call broke off; else it has failed where it had before.
+abbrev pub IsBlamed : (broke_off was_failed failed : Bool) → Type 0
+IsBlamed true was_failed failed = failed ≡ true
+IsBlamed false was_failed failed = failed ≡ was_failed

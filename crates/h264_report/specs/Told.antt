@@ -1,8 +1,8 @@
 -- What sinks make of the calls of a stream: lines, bytes of frames, and the last elements.
-use Rattle.std.specs.Prelude.{Bool, false, ℕ, ◌+◌, ◌≡◌, ◌∷◌, ◌++◌, Option, List, []}
+use Rattle.std.specs.Prelude.{Bool, true, false, ℕ, ◌+◌, ◌≡◌, ◌∷◌, ◌++◌, Option, List, []}
 use Rattle.h264_base.specs.Call.{Call, OfUnit, OfSlice, OfElement, OfFrame}
 use Rattle.h264_report.specs.Lines.{unit_text, slice_text, element_text, frame_text}
-use Rattle.h264_report.specs.Sent.{HoldsSent, IsBlamed}
+use Rattle.h264_report.specs.Sent.{IsProperFront, Sends, IsBlamed}
 use Rattle.h264_report.specs.declared.listing.Listing.{Listing}
 use Rattle.h264_report.specs.declared.listing.Listing.TheVariants as listings
 use Rattle.h264_report.specs.declared.trail.Element.{Element}
@@ -53,31 +53,42 @@ unfoldable pub elements_of : List Call → List Element
 elements_of [] = []
 elements_of (call ∷ calls) = elements_in call ++ elements_of calls
 
--- the line of some call of a frame
-pub record IsLine (listing : Listing) (text : List ℕ) : Type 0 where
-  pub n : ℕ
-  pub call : Call
-  pub is : text ≡ line_of listing n call
+-- ---- what a writer took of calls
 
--- the bytes of some frame
-pub record IsFrame (bytes : List ℕ) : Type 0 where
-  pub call : Call
-  pub is : bytes ≡ bytes_in call
+-- The last of these calls broke off: the bytes are what the calls before it make and a part of its own, and less than all that they make.
+pub record BreaksOff (make : List Call → List ℕ) (calls : List Call) (bytes : List ℕ) : Type 0 where
+  pub before : List Call
+  pub last : Call
+  pub calls_are : calls ≡ before ++ last ∷ []
+  pub part : List ℕ
+  pub bytes_are : bytes ≡ make before ++ part
+  pub less : IsProperFront bytes (make calls)
 
--- After so many frames with lines and so many failures the writer took the lines of these calls since the start.
-pub record HoldsLines (listing : Listing) (start : Option (List ℕ)) (frames failures : ℕ) (known : Option (List ℕ)) (calls : List Call) : Type 0 where
+-- the writer took such bytes since the start
+pub record HoldsBrokenOff (make : List Call → List ℕ) (start known : Option (List ℕ)) (calls : List Call) : Type 0 where
+  pub bytes : List ℕ
+  pub breaks_off : BreaksOff make calls bytes
+  pub sends : Sends start known bytes
+
+-- Since the start the writer took what these calls make; or the last of them broke off.
+abbrev pub HoldsCalls : (broke_off : Bool) → (List Call → List ℕ) → (start known : Option (List ℕ)) → List Call → Type 0
+HoldsCalls false make start known calls = Sends start known (make calls)
+HoldsCalls true make start known calls = HoldsBrokenOff make start known calls
+
+-- After so many frames with lines the writer took the lines of these calls since the start.
+pub record HoldsLines (listing : Listing) (start : Option (List ℕ)) (was_failed : Bool) (frames : ℕ) (broke_off failed : Bool) (known : Option (List ℕ)) (calls : List Call) : Type 0 where
   pub counts : frames ≡ counted_of listing calls
-  pub sent : HoldsSent (IsLine listing) start failures known (lines_of listing 0 calls)
+  pub holds : HoldsCalls broke_off (lines_of listing 0) start known calls
+  pub blamed : IsBlamed broke_off was_failed failed
 
--- The same through this reference and for this listing; each failure is one of memory or of the device.
-pub record TookLines (name : ℕ) (listing : Listing) (start : Option (List ℕ)) (reference : ℕ) (lists : Listing) (frames failures : ℕ) (short failed : Bool) (known : Option (List ℕ)) (calls : List Call) : Type 0 where
+-- The same through this reference and for this listing.
+pub record TookLines (name : ℕ) (listing : Listing) (start : Option (List ℕ)) (was_failed : Bool) (reference : ℕ) (lists : Listing) (frames : ℕ) (broke_off failed : Bool) (known : Option (List ℕ)) (calls : List Call) : Type 0 where
   pub same_reference : reference ≡ name
   pub same_listing : lists ≡ listing
-  pub holds : HoldsLines lists start frames failures known calls
-  pub blamed : IsBlamed failures short failed
+  pub lines : HoldsLines lists start was_failed frames broke_off failed known calls
 
--- Through this reference the writer took the bytes of the frames of these calls since the start; each failure is one of the device.
-pub record TookFrames (name : ℕ) (start : Option (List ℕ)) (reference : ℕ) (failures : ℕ) (failed : Bool) (known : Option (List ℕ)) (calls : List Call) : Type 0 where
+-- Through this reference the writer took the bytes of the frames of these calls since the start.
+pub record TookFrames (name : ℕ) (start : Option (List ℕ)) (was_failed : Bool) (reference : ℕ) (broke_off failed : Bool) (known : Option (List ℕ)) (calls : List Call) : Type 0 where
   pub same_reference : reference ≡ name
-  pub holds : HoldsSent IsFrame start failures known (bytes_of calls)
-  pub blamed : IsBlamed failures false failed
+  pub holds : HoldsCalls broke_off bytes_of start known calls
+  pub blamed : IsBlamed broke_off was_failed failed

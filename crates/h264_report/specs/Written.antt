@@ -1,5 +1,5 @@
 -- What the commands write of a stream: what stands before the last line, and the last line.
-use Rattle.std.specs.Prelude.{◌≡◌, ℕ, Bool, true, false, List, [], ◌++◌, Option, None, Some, Result, Ok, Err}
+use Rattle.std.specs.Prelude.{◌≡◌, ℕ, Bool, true, false, List, [], ◌++◌, Option, None, Some, Result, Ok, Err, ◌⊎◌}
 use Rattle.circular_buffer.specs.Buffer.{keep_last}
 use Rattle.h264_base.specs.Call.{Call}
 use Rattle.h264_base.specs.declared.mode.Mode.{Mode}
@@ -10,7 +10,7 @@ use Rattle.h264_base.specs.declared.stop.Stop.TheVariants.{No, Outside, Memory, 
 use Rattle.h264_plane.specs.declared.frame.Frame.{Frame}
 use Rattle.h264_report.specs.Lines.{verdict_text}
 use Rattle.h264_report.specs.Sent.{Sends, Takes}
-use Rattle.h264_report.specs.Told.{ended, lines_of, bytes_of, elements_of, IsLine, IsFrame}
+use Rattle.h264_report.specs.Told.{ended, lines_of, bytes_of, elements_of, BreaksOff}
 use Rattle.h264_report.specs.Trail.{element_lines}
 use Rattle.h264_report.specs.declared.listing.Listing.{Listing}
 use Rattle.h264_report.specs.declared.trail.Element.{Element}
@@ -56,29 +56,30 @@ calls_in a = calls_of a.frames a.told
 
 -- ---- what is written of the calls
 
--- These bytes are all of it, and perhaps a part of what would have come next.
-pub record BreaksOff (Next : List ℕ → Type 0) (all bytes : List ℕ) : Type 0 where
-  pub next : List ℕ
-  pub is_next : Next next
-  pub part : List ℕ
-  pub rest : List ℕ
-  pub next_is : next ≡ part ++ rest
-  pub bytes_are : bytes ≡ all ++ part
+-- The answer that is told: that a write failed where a sink broke off; where none did, a call that failed was for want of memory.
+abbrev pub told_of : (broke_off : Bool) → Result Summary Stop → Result Summary Stop
+told_of true answer = Err Write
+told_of false (Ok summary) = Ok summary
+told_of false (Err (No bit rule)) = Err (No bit rule)
+told_of false (Err (Outside bit feature)) = Err (Outside bit feature)
+told_of false (Err Memory) = Err Memory
+told_of false (Err Read) = Err Read
+told_of false (Err Write) = Err Memory
 
--- Where memory was wanting or a write failed, what was written may break off.
-abbrev pub IsWritten : (List ℕ → Type 0) → Result Summary Stop → List ℕ → List ℕ → Type 0
-IsWritten Next (Ok summary) all bytes = bytes ≡ all
-IsWritten Next (Err (No bit rule)) all bytes = bytes ≡ all
-IsWritten Next (Err (Outside bit feature)) all bytes = bytes ≡ all
-IsWritten Next (Err Read) all bytes = bytes ≡ all
-IsWritten Next (Err Memory) all bytes = BreaksOff Next all bytes
-IsWritten Next (Err Write) all bytes = BreaksOff Next all bytes
+-- These bytes are all that the calls make; only where a write failed the last of the calls may break off.
+abbrev pub IsWritten : (List Call → List ℕ) → Result Summary Stop → List Call → List ℕ → Type 0
+IsWritten make (Ok summary) calls bytes = bytes ≡ make calls
+IsWritten make (Err (No bit rule)) calls bytes = bytes ≡ make calls
+IsWritten make (Err (Outside bit feature)) calls bytes = bytes ≡ make calls
+IsWritten make (Err Memory) calls bytes = bytes ≡ make calls
+IsWritten make (Err Read) calls bytes = bytes ≡ make calls
+IsWritten make (Err Write) calls bytes = (bytes ≡ make calls) ⊎ BreaksOff make calls bytes
 
--- What was written of the calls of this stream up to this answer, as `all` says.
-pub record Writes (Next : List ℕ → Type 0) (all : List Call → List ℕ) (terms : Terms) (bytes : List ℕ) (answer : Result Summary Stop) (old new : Option (List ℕ)) : Type 0 where
+-- What was written of the calls of this stream up to this answer.
+pub record Writes (make : List Call → List ℕ) (terms : Terms) (bytes : List ℕ) (answer : Result Summary Stop) (old new : Option (List ℕ)) : Type 0 where
   pub account : Account terms bytes answer
   pub text : List ℕ
-  pub is_written : IsWritten Next answer (all (calls_in account)) text
+  pub is_written : IsWritten make answer (calls_in account) text
   pub sends : Sends old new text
 
 -- the last line of an answer
@@ -87,12 +88,21 @@ last_line mode answer = ended (verdict_text mode answer)
 
 -- ---- the commands
 
--- The lines of a listing, and behind them the last line.
+-- The lines of a listing, and after them the last line.
 pub record Lists (terms : Terms) (listing : Listing) (bytes : List ℕ) (answer : Result Summary Stop) (written : Bool) (old new : Option (List ℕ)) : Type 0 where
   pub account : Account terms bytes answer
   pub lines : List ℕ
-  pub are_lines : IsWritten (IsLine listing) answer (lines_of listing 0 (calls_in account)) lines
+  pub are_lines : IsWritten (lines_of listing 0) answer (calls_in account) lines
   pub text : Takes written old new (lines ++ last_line terms.mode answer)
+
+-- a rule is broken
+abbrev pub is_no : Result Summary Stop → Bool
+is_no (Ok summary) = false
+is_no (Err (No bit rule)) = true
+is_no (Err (Outside bit feature)) = false
+is_no (Err Memory) = false
+is_no (Err Read) = false
+is_no (Err Write) = false
 
 -- the lines of these elements after a no, and none after any other answer
 abbrev pub trail_text : List Element → Result Summary Stop → List ℕ
@@ -103,14 +113,14 @@ trail_text es (Err Memory) = []
 trail_text es (Err Read) = []
 trail_text es (Err Write) = []
 
--- After a no the last 16 elements, the oldest first, and behind them the last line; else the last line alone.
+-- After a no the last 16 elements, the oldest first, and after them the last line; else the last line alone.
 pub record Checks (target : Target) (bytes : List ℕ) (answer : Result Summary Stop) (written : Bool) (old new : Option (List ℕ)) : Type 0 where
   pub account : Account (terms_of modes.Full target) bytes answer
   pub text : Takes written old new (trail_text (keep_last 16 (elements_of (calls_in account))) answer ++ last_line modes.Full answer)
 
 -- The frames to one writer, the last line to the other.
 pub record Decodes (target : Target) (bytes : List ℕ) (answer : Result Summary Stop) (written : Bool) (old new err_old err_new : Option (List ℕ)) : Type 0 where
-  pub frames : Writes IsFrame bytes_of (terms_of modes.Full target) bytes answer old new
+  pub frames : Writes bytes_of (terms_of modes.Full target) bytes answer old new
   pub text : Takes written err_old err_new (last_line modes.Full answer)
 
 -- ---- the exit status

@@ -11,12 +11,15 @@ use std::io::{ErrorKind, Write};
 /// How often an interrupted write is tried again.
 const TRIES: u32 = 1 << 20;
 
-/// A writer that tells whether it has failed.
+/// A writer that tells whether it has failed, and whether it holds back some of what it took.
 pub trait Device: Write {
     /// Whether it has failed.
     ghost has_failed: { Self → Bool };
 
-    /// Writes some of these bytes, and tells how many.
+    /// Whether it may hold back bytes that it took, and hand them over later.
+    ghost holds_back: { Self → Bool };
+
+    /// Takes some of these bytes, and tells how many. It may hold them back.
     ///
     /// Failed: the device failed. It then holds what it held before.
     fn send_some(&mut self, bytes: &[u8]) -> Result<usize, Failed>
@@ -27,11 +30,12 @@ pub trait Device: Write {
         ensures quiet { OnOk result (has_failed self.new ≡ has_failed self.old) }
         ensures failed { OnErr result (has_failed self.new ≡ true) };
 
-    /// Writes what was held back.
+    /// Hands over what it held back.
     ///
     /// Failed: the device failed.
     fn send_rest(&mut self) -> Result<(), Failed>
         ensures kept { Keeps (Self.Write.contents self.old) (Self.Write.contents self.new) }
+        ensures handed_over { OnOk result (holds_back self.new ≡ false) }
         ensures quiet { OnOk result (has_failed self.new ≡ has_failed self.old) }
         ensures failed { OnErr result (has_failed self.new ≡ true) };
 }
@@ -42,6 +46,8 @@ pub struct WriteDevice<W: Write + Drop> {
     pub writer: W,
     /// Whether it failed, took nothing, or was interrupted each time.
     pub failed: bool,
+    /// Whether it may hold back bytes: it was written to since it was flushed last.
+    pub held_back: bool,
     /// The system's cause of the failure, where it gave one.
     pub cause: Option<io::Error>,
 }
@@ -55,6 +61,7 @@ impl<W: Write + Drop> WriteDevice<W> {
         WriteDevice {
             writer,
             failed: false,
+            held_back: false,
             cause: None,
         }
     }
@@ -64,18 +71,26 @@ impl<W: Write + Drop> Write for WriteDevice<W> {
     ghost contents = { λ d. W.contents d.writer };
 
     fn write(&mut self, buf: &[u8]) -> io::Result<usize> {
+        self.held_back = true;
         self.writer.write(buf)
     }
 
     fn flush(&mut self) -> io::Result<()> {
-        self.writer.flush()
+        let flushed = self.writer.flush();
+        if flushed.is_ok() {
+            self.held_back = false;
+        }
+        flushed
     }
 }
 
 impl<W: Write + Drop> Device for WriteDevice<W> {
     ghost has_failed = { λ d. d.failed };
 
+    ghost holds_back = { λ d. d.held_back };
+
     fn send_some(&mut self, bytes: &[u8]) -> Result<usize, Failed> {
+        self.held_back = true;
         for _ in 0..TRIES {
             match self.writer.write(bytes) {
                 Ok(0) => {
@@ -98,7 +113,10 @@ impl<W: Write + Drop> Device for WriteDevice<W> {
 
     fn send_rest(&mut self) -> Result<(), Failed> {
         match self.writer.flush() {
-            Ok(()) => Ok(()),
+            Ok(()) => {
+                self.held_back = false;
+                Ok(())
+            }
             Err(error) => {
                 self.failed = true;
                 self.cause = Some(error);

@@ -51,9 +51,9 @@ impl<'a, W: Device> JsonSink<'a, W> {
         }
     }
 
-    /// Whether the first failure was a want of memory; if not, the device failed.
-    pub fn short_of_memory(&self) -> bool {
-        self.short_of_memory
+    /// Whether the device failed within the newest object. Where it did not, a call that failed did so for want of memory.
+    pub fn broke_off(&self) -> bool {
+        self.failures > 0 && !self.short_of_memory
     }
 
     /// Counts a failure.

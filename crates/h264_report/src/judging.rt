@@ -1,12 +1,12 @@
 //! A stream judged, and what is found written: lines, the last elements or the frames, and the last line.
 #![tactic(auto)]
 
-ghost use Rattle.std.specs.Prelude.{◌≡◌, ℕ, ◌+◌, ◌-◌, ◌<◌, ◌⊎◌, ◌^◌, true, false, List, ◌++◌, Some, Ok, Err, IfOk, IsErrOf, string_bytes};
+ghost use Rattle.std.specs.Prelude.{◌≡◌, ◌≢◌, ℕ, ◌+◌, ◌-◌, ◌<◌, ◌⊎◌, ◌^◌, true, false, List, ◌++◌, Some, Ok, Err, IsErrOf};
 ghost use Rattle.h264_base.specs.declared.mode.Mode.TheVariants as modes;
 ghost use Rattle.h264_judge.specs.Units.{terms_of};
 ghost use Rattle.h264_report.specs.Sent.{Takes};
-ghost use Rattle.h264_report.specs.Told.{ended, lines_of, bytes_of, IsLine, IsFrame};
-ghost use Rattle.h264_report.specs.Written.{OfBytes, Writes, Lists, Checks, Decodes, last_line, trail_text, answer_status, status_of};
+ghost use Rattle.h264_report.specs.Told.{ended, lines_of, bytes_of};
+ghost use Rattle.h264_report.specs.Written.{OfBytes, Writes, Lists, Checks, Decodes, told_of, is_no, last_line, trail_text, answer_status, status_of};
 
 use crate::device::Device;
 use crate::line_sink::LineSink;
@@ -19,7 +19,7 @@ use crate::trail_sink::TrailSink;
 use crate::yuv_sink::YuvSink;
 use h264_base::{Failed, Mode, Stop, Target};
 use h264_verify::{Source, Summary, Terms, run};
-use std::alloc::{AllocError, Global};
+use std::alloc::Global;
 use std::marker::Brand;
 
 /// How a judgement ended.
@@ -57,9 +57,10 @@ impl Ending {
     }
 }
 
-/// Writes a text, and a line with its end behind it, and all that was held back; whether that was possible.
+/// Writes a text, and after it a line with its end, and hands over all that was held back; whether that was possible.
 fn put<W: Device>(text: &str, line: &str, out: &mut W) -> bool
     ensures text { Takes result (W.contents out.old) (W.contents out.new) (text.now ++ ended line.now) }
+    ensures handed_over { result ≡ true → W.holds_back out.new ≡ false }
     ensures quiet { result ≡ true → W.has_failed out.new ≡ W.has_failed out.old }
     ensures failed { result ≡ false → W.has_failed out.new ≡ true }
 {
@@ -82,6 +83,7 @@ fn put<W: Device>(text: &str, line: &str, out: &mut W) -> bool
 pub fn put_memory<W: Device>(out: &mut W) -> Ending
     ensures answer { result.answer ≡ Err Stop.Memory }
     ensures text { Takes result.written (W.contents out.old) (W.contents out.new) (last_line modes.Full (Err Stop.Memory)) }
+    ensures handed_over { result.written ≡ true → W.holds_back out.new ≡ false }
     ensures quiet { result.written ≡ true → W.has_failed out.new ≡ W.has_failed out.old }
     ensures failed { result.written ≡ false → W.has_failed out.new ≡ true }
 {
@@ -91,8 +93,8 @@ pub fn put_memory<W: Device>(out: &mut W) -> Ending
     }
 }
 
-/// Writes the last line of an answer; where there is no memory for it, that is said in its place.
-pub fn put_answer<W: Device>(
+/// Writes the last line of a verdict; where there is no memory for it, that is said in its place.
+fn put_verdict<W: Device>(
     alloc: Global,
     mode: Mode,
     answer: Result<Summary, Stop>,
@@ -100,6 +102,7 @@ pub fn put_answer<W: Device>(
 ) -> Ending
     ensures answer { (result.answer ≡ answer) ⊎ (result.answer ≡ Err Stop.Memory) }
     ensures text { Takes result.written (W.contents out.old) (W.contents out.new) (last_line mode result.answer) }
+    ensures handed_over { result.written ≡ true → W.holds_back out.new ≡ false }
     ensures quiet { result.written ≡ true → W.has_failed out.new ≡ W.has_failed out.old }
     ensures failed { result.written ≡ false → W.has_failed out.new ≡ true }
 {
@@ -112,17 +115,52 @@ pub fn put_answer<W: Device>(
     }
 }
 
-/// The answer that is told: where a sink was short of memory, a write that failed is that.
-fn told_answer(answer: Result<Summary, Stop>, short: bool) -> Result<Summary, Stop>
-    ensures told { (result ≡ answer) ⊎ ((answer ≡ Err Stop.Write) × (result ≡ Err Stop.Memory)) }
-    ensures not_short { result ≡ Err Stop.Write → short ≡ false }
+/// Writes the last line of an answer. Where there is no memory for the line of a verdict, that is said in its place; the other lines take none.
+pub fn put_answer<W: Device>(
+    alloc: Global,
+    mode: Mode,
+    answer: Result<Summary, Stop>,
+    out: &mut W,
+) -> Ending
+    ensures answer { (result.answer ≡ answer) ⊎ (result.answer ≡ Err Stop.Memory) }
+    ensures read { answer ≡ Err Stop.Read → result.answer ≡ Err Stop.Read }
+    ensures write { answer ≡ Err Stop.Write → result.answer ≡ Err Stop.Write }
+    ensures text { Takes result.written (W.contents out.old) (W.contents out.new) (last_line mode result.answer) }
+    ensures handed_over { result.written ≡ true → W.holds_back out.new ≡ false }
+    ensures quiet { result.written ≡ true → W.has_failed out.new ≡ W.has_failed out.old }
+    ensures failed { result.written ≡ false → W.has_failed out.new ≡ true }
 {
-    if short {
-        if let Err(Stop::Write) = answer {
-            return Err(Stop::Memory);
-        }
+    match answer {
+        Ok(_) => put_verdict(alloc, mode, answer, out),
+        Err(Stop::No { .. }) => put_verdict(alloc, mode, answer, out),
+        Err(Stop::Outside { .. }) => put_verdict(alloc, mode, answer, out),
+        Err(Stop::Read) => Ending {
+            answer,
+            written: put("", "read failed", out),
+        },
+        Err(Stop::Write) => Ending {
+            answer,
+            written: put("", "write failed", out),
+        },
+        Err(Stop::Memory) => put_memory(out),
     }
-    answer
+}
+
+/// The answer that is told: that a write failed, where a sink broke off; where it did not, a call of it that failed was for want of memory.
+pub fn told_answer(answer: Result<Summary, Stop>, broke_off: bool) -> Result<Summary, Stop>
+    ensures { result ≡ told_of broke_off answer }
+{
+    if broke_off {
+        return Err(Stop::Write);
+    }
+    match answer {
+        Ok(summary) => Ok(summary),
+        Err(Stop::No { bit, rule }) => Err(Stop::No { bit, rule }),
+        Err(Stop::Outside { bit, feature }) => Err(Stop::Outside { bit, feature }),
+        Err(Stop::Read) => Err(Stop::Read),
+        Err(Stop::Memory) => Err(Stop::Memory),
+        Err(Stop::Write) => Err(Stop::Memory),
+    }
 }
 
 /// Judges a stream, and writes the lines of its calls through a pen.
@@ -136,17 +174,19 @@ fn run_lines<'a, K: Sheet, R: Source, W: Device>(
     requires count { R.failures source.old < 2 ^ 64 - 1 }
     requires name { pen.out.ghost_name ≡ K.name }
     requires start { W.contents pen.out.now ≡ K.start }
+    requires was_failed { W.has_failed pen.out.now ≡ K.was_failed }
     requires listing { listing ≡ K.listing }
     ensures same_reference { result.0.out.ghost_name ≡ K.name }
-    ensures lines { (bytes : List ℕ) → R.left source.old ≡ Some bytes → Writes (IsLine K.listing) (lines_of K.listing 0) terms bytes result.1 K.start (W.contents result.0.out.now) }
-    ensures some { (bytes : List ℕ) × Writes (IsLine K.listing) (lines_of K.listing 0) terms bytes result.1 K.start (W.contents result.0.out.now) }
+    ensures lines { (bytes : List ℕ) → R.left source.old ≡ Some bytes → Writes (lines_of K.listing 0) terms bytes result.1 K.start (W.contents result.0.out.now) }
+    ensures some { (bytes : List ℕ) × Writes (lines_of K.listing 0) terms bytes result.1 K.start (W.contents result.0.out.now) }
     ensures read { IsErrOf result.1 Stop.Read → (R.failures source.new ≡ R.failures source.old + 1) ⊎ ((n : ℕ) → R.was_read source.old n → R.was_read source.new (n + 2 ^ 41)) }
     ensures write { IsErrOf result.1 Stop.Write → W.has_failed result.0.out.now ≡ true }
+    ensures quiet { result.1 ≢ Err Stop.Write → W.has_failed result.0.out.now ≡ K.was_failed }
 {
     let mut sink: LineSink<'_, W, K> = LineSink::new(alloc, listing, pen);
     let answer = run(alloc, source, &mut sink, terms.mode, terms.target);
-    let short = sink.short_of_memory();
-    (sink.into_pen(), told_answer(answer, short))
+    let broke_off = sink.broke_off();
+    (sink.into_pen(), told_answer(answer, broke_off))
 }
 
 /// Judges a stream, and writes the lines of its calls; the answer that is to be told.
@@ -158,10 +198,11 @@ fn write_lines<R: Source, W: Device>(
     out: &mut W,
 ) -> Result<Summary, Stop>
     requires { R.failures source.old < 2 ^ 64 - 1 }
-    ensures lines { (bytes : List ℕ) → R.left source.old ≡ Some bytes → Writes (IsLine listing) (lines_of listing 0) terms bytes result (W.contents out.old) (W.contents out.new) }
-    ensures some { (bytes : List ℕ) × Writes (IsLine listing) (lines_of listing 0) terms bytes result (W.contents out.old) (W.contents out.new) }
+    ensures lines { (bytes : List ℕ) → R.left source.old ≡ Some bytes → Writes (lines_of listing 0) terms bytes result (W.contents out.old) (W.contents out.new) }
+    ensures some { (bytes : List ℕ) × Writes (lines_of listing 0) terms bytes result (W.contents out.old) (W.contents out.new) }
     ensures read { IsErrOf result Stop.Read → (R.failures source.new ≡ R.failures source.old + 1) ⊎ ((n : ℕ) → R.was_read source.old n → R.was_read source.new (n + 2 ^ 41)) }
     ensures write { IsErrOf result Stop.Write → W.has_failed out.new ≡ true }
+    ensures quiet { result ≢ Err Stop.Write → W.has_failed out.new ≡ W.has_failed out.old }
 {
     let pen = Pen { out };
     let (_, answer) = run_lines::<Brand, R, W>(alloc, terms, listing, source, pen);
@@ -180,31 +221,29 @@ pub fn list<R: Source, W: Device>(
     ensures lists { OfBytes (R.left source.old) (λ bytes. Lists terms listing bytes result.answer result.written (W.contents out.old) (W.contents out.new)) }
     ensures read { IsErrOf result.answer Stop.Read → (R.failures source.new ≡ R.failures source.old + 1) ⊎ ((n : ℕ) → R.was_read source.old n → R.was_read source.new (n + 2 ^ 41)) }
     ensures write { IsErrOf result.answer Stop.Write → W.has_failed out.new ≡ true }
+    ensures quiet { result.answer ≢ Err Stop.Write → result.written ≡ true → W.has_failed out.new ≡ W.has_failed out.old }
+    ensures handed_over { result.written ≡ true → W.holds_back out.new ≡ false }
     ensures failed { result.written ≡ false → W.has_failed out.new ≡ true }
 {
     let answer = write_lines(alloc, terms, listing, source, out);
     put_answer(alloc, terms.mode, answer, out)
 }
 
-/// What stands before the last line: after a no the lines of the last elements.
-fn trail_text(
-    alloc: Global,
-    trail: &Trail,
-    answer: Result<Summary, Stop>,
-) -> Result<String, AllocError>
-    ensures { IfOk result (λ s. string_bytes s ≡ trail_text trail.now answer) }
+/// Whether a rule is broken.
+fn is_no(answer: Result<Summary, Stop>) -> bool
+    ensures { result ≡ is_no answer }
 {
     match answer {
-        Err(Stop::No { .. }) => trail.lines(alloc),
-        Err(Stop::Outside { .. }) => Ok(String::new(alloc)),
-        Err(Stop::Memory) => Ok(String::new(alloc)),
-        Err(Stop::Read) => Ok(String::new(alloc)),
-        Err(Stop::Write) => Ok(String::new(alloc)),
-        Ok(_) => Ok(String::new(alloc)),
+        Ok(_) => false,
+        Err(Stop::No { .. }) => true,
+        Err(Stop::Outside { .. }) => false,
+        Err(Stop::Memory) => false,
+        Err(Stop::Read) => false,
+        Err(Stop::Write) => false,
     }
 }
 
-/// Writes after a no the last elements, and then the last line; where there is no memory for both, that is said in their place.
+/// Writes after a no the last elements, and then the last line; where there is no memory for both, that is said in their place. Else it writes the last line alone.
 fn put_trail<W: Device>(
     alloc: Global,
     trail: &Trail,
@@ -212,11 +251,16 @@ fn put_trail<W: Device>(
     out: &mut W,
 ) -> Ending
     ensures answer { (result.answer ≡ answer) ⊎ (result.answer ≡ Err Stop.Memory) }
+    ensures read { answer ≡ Err Stop.Read → result.answer ≡ Err Stop.Read }
     ensures text { Takes result.written (W.contents out.old) (W.contents out.new) (trail_text trail.now result.answer ++ last_line modes.Full result.answer) }
+    ensures handed_over { result.written ≡ true → W.holds_back out.new ≡ false }
     ensures quiet { result.written ≡ true → W.has_failed out.new ≡ W.has_failed out.old }
     ensures failed { result.written ≡ false → W.has_failed out.new ≡ true }
 {
-    let Ok(text) = trail_text(alloc, trail, answer) else {
+    if !is_no(answer) {
+        return put_answer(alloc, Mode::Full, answer, out);
+    }
+    let Ok(text) = trail.lines(alloc) else {
         return put_memory(out);
     };
     let Ok(line) = verdict_line(alloc, Mode::Full, answer) else {
@@ -239,6 +283,8 @@ pub fn check<R: Source, W: Device>(
     ensures checks { OfBytes (R.left source.old) (λ bytes. Checks target bytes result.answer result.written (W.contents out.old) (W.contents out.new)) }
     ensures read { IsErrOf result.answer Stop.Read → (R.failures source.new ≡ R.failures source.old + 1) ⊎ ((n : ℕ) → R.was_read source.old n → R.was_read source.new (n + 2 ^ 41)) }
     ensures write { IsErrOf result.answer Stop.Write → ⊥ }
+    ensures quiet { result.written ≡ true → W.has_failed out.new ≡ W.has_failed out.old }
+    ensures handed_over { result.written ≡ true → W.holds_back out.new ≡ false }
     ensures failed { result.written ≡ false → W.has_failed out.new ≡ true }
 {
     let Ok(mut sink) = TrailSink::new(alloc) else {
@@ -258,15 +304,18 @@ fn run_frames<'a, K: Sheet, R: Source, W: Device>(
     requires count { R.failures source.old < 2 ^ 64 - 1 }
     requires name { pen.out.ghost_name ≡ K.name }
     requires start { W.contents pen.out.now ≡ K.start }
+    requires was_failed { W.has_failed pen.out.now ≡ K.was_failed }
     ensures same_reference { result.0.out.ghost_name ≡ K.name }
-    ensures frames { (bytes : List ℕ) → R.left source.old ≡ Some bytes → Writes IsFrame bytes_of (terms_of modes.Full target) bytes result.1 K.start (W.contents result.0.out.now) }
-    ensures some { (bytes : List ℕ) × Writes IsFrame bytes_of (terms_of modes.Full target) bytes result.1 K.start (W.contents result.0.out.now) }
+    ensures frames { (bytes : List ℕ) → R.left source.old ≡ Some bytes → Writes bytes_of (terms_of modes.Full target) bytes result.1 K.start (W.contents result.0.out.now) }
+    ensures some { (bytes : List ℕ) × Writes bytes_of (terms_of modes.Full target) bytes result.1 K.start (W.contents result.0.out.now) }
     ensures read { IsErrOf result.1 Stop.Read → (R.failures source.new ≡ R.failures source.old + 1) ⊎ ((n : ℕ) → R.was_read source.old n → R.was_read source.new (n + 2 ^ 41)) }
     ensures write { IsErrOf result.1 Stop.Write → W.has_failed result.0.out.now ≡ true }
+    ensures quiet { result.1 ≢ Err Stop.Write → W.has_failed result.0.out.now ≡ K.was_failed }
 {
     let mut sink: YuvSink<'_, W, K> = YuvSink::new(pen);
     let answer = run(alloc, source, &mut sink, Mode::Full, target);
-    (sink.into_pen(), answer)
+    let broke_off = sink.broke_off();
+    (sink.into_pen(), told_answer(answer, broke_off))
 }
 
 /// Judges a stream whole, and writes its frames; the answer that is to be told.
@@ -277,10 +326,11 @@ fn write_frames<R: Source, W: Device>(
     out: &mut W,
 ) -> Result<Summary, Stop>
     requires { R.failures source.old < 2 ^ 64 - 1 }
-    ensures frames { (bytes : List ℕ) → R.left source.old ≡ Some bytes → Writes IsFrame bytes_of (terms_of modes.Full target) bytes result (W.contents out.old) (W.contents out.new) }
-    ensures some { (bytes : List ℕ) × Writes IsFrame bytes_of (terms_of modes.Full target) bytes result (W.contents out.old) (W.contents out.new) }
+    ensures frames { (bytes : List ℕ) → R.left source.old ≡ Some bytes → Writes bytes_of (terms_of modes.Full target) bytes result (W.contents out.old) (W.contents out.new) }
+    ensures some { (bytes : List ℕ) × Writes bytes_of (terms_of modes.Full target) bytes result (W.contents out.old) (W.contents out.new) }
     ensures read { IsErrOf result Stop.Read → (R.failures source.new ≡ R.failures source.old + 1) ⊎ ((n : ℕ) → R.was_read source.old n → R.was_read source.new (n + 2 ^ 41)) }
     ensures write { IsErrOf result Stop.Write → W.has_failed out.new ≡ true }
+    ensures quiet { result ≢ Err Stop.Write → W.has_failed out.new ≡ W.has_failed out.old }
 {
     let pen = Pen { out };
     let (_, answer) = run_frames::<Brand, R, W>(alloc, target, source, pen);
@@ -299,6 +349,10 @@ pub fn decode<R: Source, W: Device, E: Device>(
     ensures decodes { OfBytes (R.left source.old) (λ bytes. Decodes target bytes result.answer result.written (W.contents out.old) (W.contents out.new) (E.contents err.old) (E.contents err.new)) }
     ensures read { IsErrOf result.answer Stop.Read → (R.failures source.new ≡ R.failures source.old + 1) ⊎ ((n : ℕ) → R.was_read source.old n → R.was_read source.new (n + 2 ^ 41)) }
     ensures write { IsErrOf result.answer Stop.Write → W.has_failed out.new ≡ true }
+    ensures quiet { result.answer ≢ Err Stop.Write → W.has_failed out.new ≡ W.has_failed out.old }
+    ensures handed_over { result.answer ≢ Err Stop.Write → W.holds_back out.new ≡ false }
+    ensures quiet_err { result.written ≡ true → E.has_failed err.new ≡ E.has_failed err.old }
+    ensures handed_over_err { result.written ≡ true → E.holds_back err.new ≡ false }
     ensures failed { result.written ≡ false → E.has_failed err.new ≡ true }
 {
     let answer = write_frames(alloc, target, source, out);

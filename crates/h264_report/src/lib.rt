@@ -3,7 +3,7 @@
 //! `unit_line`, `slice_line`, `frame_line`, `element_line` and `verdict_line` make each line without its line end, in ASCII. `LineSink` writes a line for
 //! each unit, slice or frame to a writer, `YuvSink` the samples of each frame, and `TrailSink` keeps the last 16 elements. `list`, `check` and `decode` judge
 //! a stream with one of them, and write the last line. Promised: exactly the texts of `specs/Lines.antt`; that a writer which tells its bytes holds the lines
-//! or the samples of the calls taken, in order, and after a failure a part of the next; that a trail has the last 16 elements; and of the three that run a
+//! or the samples of the calls taken, in order, and after a failure a part of the last; that a trail has the last 16 elements; and of the three that run a
 //! judgement, what stands in `specs/Written.antt`: the last line is that of the answer in this mode, and what stands before it is of the calls up to there.
 #![tactic(auto)]
 
@@ -29,7 +29,7 @@ pub mod yuv_sink;
 
 pub use device::{Device, WriteDevice};
 pub use json_sink::JsonSink;
-pub use judging::{Ending, check, decode, list, put_answer, put_memory};
+pub use judging::{Ending, check, decode, list, put_answer, put_memory, told_answer};
 pub use line_sink::LineSink;
 pub use lines::{element_line, frame_line, slice_line, unit_line, verdict_line};
 pub use listing::Listing;

@@ -1,8 +1,8 @@
 //! A sink that writes lines.
 #![tactic(auto)]
 
-ghost use Rattle.std.specs.Prelude.{◌≡◌, ℕ, ◌+◌, ◌-◌, ◌<◌, ◌^◌, List, OnOk, OnErr, string_bytes};
-ghost use Rattle.h264_report.specs.Sent.{Sends, SendsFront, IsBlamed};
+ghost use Rattle.std.specs.Prelude.{◌≡◌, ℕ, ◌+◌, ◌-◌, ◌<◌, ◌^◌, false, List, OnOk, OnErr, string_bytes};
+ghost use Rattle.h264_report.specs.Sent.{SendsOrBreaksOff, IsBlamed};
 ghost use Rattle.h264_report.specs.Told.{ended};
 
 use crate::device::Device;
@@ -19,8 +19,9 @@ use std::marker::PhantomData;
 
 /// Writes a line for each unit, slice, element or frame of a stream, as the listing says, and passes over all else.
 ///
-/// A writer that tells its bytes holds, behind what it held, the lines of the calls taken, in order, followed after a failure by a part of the next
-/// line, which is not the whole. After a failure each call fails and nothing more is written.
+/// A writer that tells its bytes holds, after what it held, the lines of the calls taken, in order. Where the device fails within a line, its call is taken, and
+/// the writer holds a part of the line, which is not the whole. Where memory is wanting for a line, its call fails, and nothing is written of it. Then each call
+/// fails, and nothing more is written.
 #[derive(Drop)]
 pub struct LineSink<'a, W: Device, K: Sheet> {
     alloc: Global,
@@ -29,7 +30,8 @@ pub struct LineSink<'a, W: Device, K: Sheet> {
     listing: Listing,
     /// How many calls failed.
     pub failures: u64,
-    short_of_memory: bool,
+    /// Whether the device failed within the newest line.
+    broke_off: bool,
     /// How many frames were told.
     frames: u64,
     /// The newest line, in whose memory the next one is made.
@@ -44,6 +46,7 @@ impl<'a, W: Device, K: Sheet> LineSink<'a, W, K> {
         ensures unwritten { result.pen.out.now ≡ pen.entry.out.now }
         ensures listing { result.listing ≡ listing }
         ensures frames { result.frames ≡ 0 }
+        ensures whole { result.broke_off ≡ false }
     {
         LineSink {
             alloc,
@@ -51,17 +54,24 @@ impl<'a, W: Device, K: Sheet> LineSink<'a, W, K> {
             sheet: PhantomData,
             listing,
             failures: 0,
-            short_of_memory: false,
+            broke_off: false,
             frames: 0,
             line: String::new(alloc),
         }
     }
 
-    /// Whether the first failure was a want of memory for a line; if not, the device failed.
-    pub fn short_of_memory(&self) -> bool
-        ensures { result ≡ self.now.short_of_memory }
+    /// Whether the device failed within the newest line. Where it did not, a call that failed did so for want of memory.
+    pub fn broke_off(&self) -> bool
+        ensures { result ≡ self.now.broke_off }
     {
-        self.short_of_memory
+        self.broke_off
+    }
+
+    /// Whether no more lines are written.
+    fn is_stopped(&self) -> bool
+        ensures { result ≡ false → self.now.broke_off ≡ false }
+    {
+        self.broke_off || self.failures > 0
     }
 
     /// Gives the pen back.
@@ -73,7 +83,7 @@ impl<'a, W: Device, K: Sheet> LineSink<'a, W, K> {
         pen
     }
 
-    /// Counts a failure behind others, at which nothing is written.
+    /// Counts a failure, at which nothing is written.
     fn fail(&mut self) -> Result<(), Failed>
         requires { self.old.failures < 2 ^ 64 - 1 }
         ensures err { OnOk result ⊥ }
@@ -85,29 +95,32 @@ impl<'a, W: Device, K: Sheet> LineSink<'a, W, K> {
 
     /// Writes the line that was made, and its end, where there was memory for them.
     fn put_line(&mut self, made: Result<(), AllocError>) -> Result<(), Failed>
-        requires { self.old.failures ≡ 0 }
-        ensures kept { OnOk result (self.new.failures ≡ 0) }
-        ensures failed { OnErr result (self.new.failures ≡ 1) }
-        ensures blamed { IsBlamed self.new.failures self.new.short_of_memory (W.has_failed self.new.pen.out.now) }
+        requires whole { self.old.broke_off ≡ false }
+        requires room { self.old.failures < 2 ^ 64 - 1 }
+        ensures kept { OnOk result (self.new.failures ≡ self.old.failures) }
+        ensures failed { OnErr result (self.new.failures ≡ self.old.failures + 1) }
         ensures listing { self.new.listing ≡ self.old.listing }
         ensures frames { self.new.frames ≡ self.old.frames }
         ensures same_reference { self.new.pen.out.ghost_name ≡ self.old.pen.out.ghost_name }
-        ensures ok { (text : List ℕ) → OnOk made (string_bytes self.old.line ≡ text) → OnOk result (Sends (W.contents self.old.pen.out.now) (W.contents self.new.pen.out.now) (ended text)) }
-        ensures front { (text : List ℕ) → OnOk made (string_bytes self.old.line ≡ text) → OnErr result (SendsFront (W.contents self.old.pen.out.now) (W.contents self.new.pen.out.now) (ended text)) }
+        ensures ok { (text : List ℕ) → OnOk made (string_bytes self.old.line ≡ text) → OnOk result (SendsOrBreaksOff self.new.broke_off (W.contents self.old.pen.out.now) (W.contents self.new.pen.out.now) (ended text)) }
+        ensures blamed { OnOk result (IsBlamed self.new.broke_off (W.has_failed self.old.pen.out.now) (W.has_failed self.new.pen.out.now)) }
+        ensures unsent { OnErr result ((self.new.broke_off ≡ self.old.broke_off) × (self.new.pen.out.now ≡ self.old.pen.out.now)) }
     {
         if made.is_err() || self.line.push('\n').is_err() {
-            self.short_of_memory = true;
             return self.fail();
         }
-        if send(self.pen.out, self.line.as_bytes()).is_err() {
-            return self.fail();
+        match send(self.pen.out, self.line.as_bytes()) {
+            Ok(()) => Ok(()),
+            Err(Failed) => {
+                self.broke_off = true;
+                Ok(())
+            }
         }
-        Ok(())
     }
 }
 
 impl<'a, W: Device, K: Sheet> LineSink<'a, W, K> {
-    ghost use Rattle.std.specs.Prelude.{◌≡◌, ℕ, ◌+◌, ◌-◌, ◌<◌, ◌^◌, List, [], ◌∷◌, ◌++◌, Option, IsTrue, OnOk, OnErr};
+    ghost use Rattle.std.specs.Prelude.{◌≡◌, ℕ, ◌+◌, ◌-◌, ◌<◌, ◌^◌, Bool, false, List, [], ◌∷◌, ◌++◌, Option, IsTrue, OnOk, OnErr};
     ghost use Rattle.h264_base.specs.Call.{Call, OfUnit, OfSlice, OfElement};
     ghost use Rattle.h264_dpb.specs.Shown.{fits, frame_call};
     ghost use Rattle.h264_report.specs.Lines.{unit_text, slice_text};
@@ -124,18 +137,15 @@ impl<'a, W: Device, K: Sheet> LineSink<'a, W, K> {
     ) -> Result<(), Failed>
         requires line { (n : ℕ) → line_of self.old.listing n (OfUnit byte nal_unit_type nal_ref_idc length) ≡ ended (unit_text byte nal_unit_type nal_ref_idc length) }
         requires uncounted { counted self.old.listing (OfUnit byte nal_unit_type nal_ref_idc length) ≡ 0 }
+        requires whole { self.old.broke_off ≡ false }
         requires room { self.old.failures < 2 ^ 64 - 1 }
         ensures listing { self.new.listing ≡ self.old.listing }
         ensures same_reference { self.new.pen.out.ghost_name ≡ self.old.pen.out.ghost_name }
-        ensures ok { (start : Option (List ℕ)) (before : List Call) → HoldsLines self.old.listing start self.old.frames self.old.failures (W.contents self.old.pen.out.now) before → OnOk result (HoldsLines self.new.listing start self.new.frames self.new.failures (W.contents self.new.pen.out.now) (before ++ OfUnit byte nal_unit_type nal_ref_idc length ∷ [])) }
-        ensures refused { (start : Option (List ℕ)) (before : List Call) → HoldsLines self.old.listing start self.old.frames self.old.failures (W.contents self.old.pen.out.now) before → OnErr result (HoldsLines self.new.listing start self.new.frames self.new.failures (W.contents self.new.pen.out.now) before) }
+        ensures ok { (start : Option (List ℕ)) (was_failed : Bool) (before : List Call) → HoldsLines self.old.listing start was_failed self.old.frames self.old.broke_off (W.has_failed self.old.pen.out.now) (W.contents self.old.pen.out.now) before → OnOk result (HoldsLines self.new.listing start was_failed self.new.frames self.new.broke_off (W.has_failed self.new.pen.out.now) (W.contents self.new.pen.out.now) (before ++ OfUnit byte nal_unit_type nal_ref_idc length ∷ [])) }
+        ensures refused { (start : Option (List ℕ)) (was_failed : Bool) (before : List Call) → HoldsLines self.old.listing start was_failed self.old.frames self.old.broke_off (W.has_failed self.old.pen.out.now) (W.contents self.old.pen.out.now) before → OnErr result (HoldsLines self.new.listing start was_failed self.new.frames self.new.broke_off (W.has_failed self.new.pen.out.now) (W.contents self.new.pen.out.now) before) }
         ensures kept { OnOk result (self.new.failures ≡ self.old.failures) }
         ensures failed { OnErr result (self.new.failures ≡ self.old.failures + 1) }
-        ensures blamed { IsBlamed self.old.failures self.old.short_of_memory (W.has_failed self.old.pen.out.now) → IsBlamed self.new.failures self.new.short_of_memory (W.has_failed self.new.pen.out.now) }
     {
-        if self.failures > 0 {
-            return self.fail();
-        }
         let made = unit_line(&mut self.line, byte, nal_unit_type, nal_ref_idc, length);
         self.put_line(made)
     }
@@ -151,18 +161,15 @@ impl<'a, W: Device, K: Sheet> LineSink<'a, W, K> {
     ) -> Result<(), Failed>
         requires line { (n : ℕ) → line_of self.old.listing n (OfSlice byte first_mb_in_slice slice_type frame_num count) ≡ ended (slice_text byte first_mb_in_slice slice_type frame_num count) }
         requires uncounted { counted self.old.listing (OfSlice byte first_mb_in_slice slice_type frame_num count) ≡ 0 }
+        requires whole { self.old.broke_off ≡ false }
         requires room { self.old.failures < 2 ^ 64 - 1 }
         ensures listing { self.new.listing ≡ self.old.listing }
         ensures same_reference { self.new.pen.out.ghost_name ≡ self.old.pen.out.ghost_name }
-        ensures ok { (start : Option (List ℕ)) (before : List Call) → HoldsLines self.old.listing start self.old.frames self.old.failures (W.contents self.old.pen.out.now) before → OnOk result (HoldsLines self.new.listing start self.new.frames self.new.failures (W.contents self.new.pen.out.now) (before ++ OfSlice byte first_mb_in_slice slice_type frame_num count ∷ [])) }
-        ensures refused { (start : Option (List ℕ)) (before : List Call) → HoldsLines self.old.listing start self.old.frames self.old.failures (W.contents self.old.pen.out.now) before → OnErr result (HoldsLines self.new.listing start self.new.frames self.new.failures (W.contents self.new.pen.out.now) before) }
+        ensures ok { (start : Option (List ℕ)) (was_failed : Bool) (before : List Call) → HoldsLines self.old.listing start was_failed self.old.frames self.old.broke_off (W.has_failed self.old.pen.out.now) (W.contents self.old.pen.out.now) before → OnOk result (HoldsLines self.new.listing start was_failed self.new.frames self.new.broke_off (W.has_failed self.new.pen.out.now) (W.contents self.new.pen.out.now) (before ++ OfSlice byte first_mb_in_slice slice_type frame_num count ∷ [])) }
+        ensures refused { (start : Option (List ℕ)) (was_failed : Bool) (before : List Call) → HoldsLines self.old.listing start was_failed self.old.frames self.old.broke_off (W.has_failed self.old.pen.out.now) (W.contents self.old.pen.out.now) before → OnErr result (HoldsLines self.new.listing start was_failed self.new.frames self.new.broke_off (W.has_failed self.new.pen.out.now) (W.contents self.new.pen.out.now) before) }
         ensures kept { OnOk result (self.new.failures ≡ self.old.failures) }
         ensures failed { OnErr result (self.new.failures ≡ self.old.failures + 1) }
-        ensures blamed { IsBlamed self.old.failures self.old.short_of_memory (W.has_failed self.old.pen.out.now) → IsBlamed self.new.failures self.new.short_of_memory (W.has_failed self.new.pen.out.now) }
     {
-        if self.failures > 0 {
-            return self.fail();
-        }
         let made = slice_line(
             &mut self.line,
             byte,
@@ -177,18 +184,15 @@ impl<'a, W: Device, K: Sheet> LineSink<'a, W, K> {
     /// Writes the line of an element.
     fn put_element(&mut self, name: ElementName, bit: u64, value: i64) -> Result<(), Failed>
         requires listing { self.old.listing ≡ listings.Elements }
+        requires whole { self.old.broke_off ≡ false }
         requires room { self.old.failures < 2 ^ 64 - 1 }
         ensures listing { self.new.listing ≡ self.old.listing }
         ensures same_reference { self.new.pen.out.ghost_name ≡ self.old.pen.out.ghost_name }
-        ensures ok { (start : Option (List ℕ)) (before : List Call) → HoldsLines self.old.listing start self.old.frames self.old.failures (W.contents self.old.pen.out.now) before → OnOk result (HoldsLines self.new.listing start self.new.frames self.new.failures (W.contents self.new.pen.out.now) (before ++ OfElement name bit value ∷ [])) }
-        ensures refused { (start : Option (List ℕ)) (before : List Call) → HoldsLines self.old.listing start self.old.frames self.old.failures (W.contents self.old.pen.out.now) before → OnErr result (HoldsLines self.new.listing start self.new.frames self.new.failures (W.contents self.new.pen.out.now) before) }
+        ensures ok { (start : Option (List ℕ)) (was_failed : Bool) (before : List Call) → HoldsLines self.old.listing start was_failed self.old.frames self.old.broke_off (W.has_failed self.old.pen.out.now) (W.contents self.old.pen.out.now) before → OnOk result (HoldsLines self.new.listing start was_failed self.new.frames self.new.broke_off (W.has_failed self.new.pen.out.now) (W.contents self.new.pen.out.now) (before ++ OfElement name bit value ∷ [])) }
+        ensures refused { (start : Option (List ℕ)) (was_failed : Bool) (before : List Call) → HoldsLines self.old.listing start was_failed self.old.frames self.old.broke_off (W.has_failed self.old.pen.out.now) (W.contents self.old.pen.out.now) before → OnErr result (HoldsLines self.new.listing start was_failed self.new.frames self.new.broke_off (W.has_failed self.new.pen.out.now) (W.contents self.new.pen.out.now) before) }
         ensures kept { OnOk result (self.new.failures ≡ self.old.failures) }
         ensures failed { OnErr result (self.new.failures ≡ self.old.failures + 1) }
-        ensures blamed { IsBlamed self.old.failures self.old.short_of_memory (W.has_failed self.old.pen.out.now) → IsBlamed self.new.failures self.new.short_of_memory (W.has_failed self.new.pen.out.now) }
     {
-        if self.failures > 0 {
-            return self.fail();
-        }
         let made = element_line(&mut self.line, name, bit, value);
         self.put_line(made)
     }
@@ -197,22 +201,17 @@ impl<'a, W: Device, K: Sheet> LineSink<'a, W, K> {
     fn put_frame(&mut self, count: i32, frame: &Frame, rectangle: Rectangle) -> Result<(), Failed>
         requires listing { self.old.listing ≡ listings.Frames }
         requires inside { IsTrue (fits rectangle frame.now) }
+        requires whole { self.old.broke_off ≡ false }
         requires room { self.old.failures < 2 ^ 64 - 1 }
         ensures listing { self.new.listing ≡ self.old.listing }
         ensures same_reference { self.new.pen.out.ghost_name ≡ self.old.pen.out.ghost_name }
-        ensures ok { (start : Option (List ℕ)) (before : List Call) → HoldsLines self.old.listing start self.old.frames self.old.failures (W.contents self.old.pen.out.now) before → OnOk result (HoldsLines self.new.listing start self.new.frames self.new.failures (W.contents self.new.pen.out.now) (before ++ frame_call count frame.now rectangle ∷ [])) }
-        ensures refused { (start : Option (List ℕ)) (before : List Call) → HoldsLines self.old.listing start self.old.frames self.old.failures (W.contents self.old.pen.out.now) before → OnErr result (HoldsLines self.new.listing start self.new.frames self.new.failures (W.contents self.new.pen.out.now) before) }
+        ensures ok { (start : Option (List ℕ)) (was_failed : Bool) (before : List Call) → HoldsLines self.old.listing start was_failed self.old.frames self.old.broke_off (W.has_failed self.old.pen.out.now) (W.contents self.old.pen.out.now) before → OnOk result (HoldsLines self.new.listing start was_failed self.new.frames self.new.broke_off (W.has_failed self.new.pen.out.now) (W.contents self.new.pen.out.now) (before ++ frame_call count frame.now rectangle ∷ [])) }
+        ensures refused { (start : Option (List ℕ)) (was_failed : Bool) (before : List Call) → HoldsLines self.old.listing start was_failed self.old.frames self.old.broke_off (W.has_failed self.old.pen.out.now) (W.contents self.old.pen.out.now) before → OnErr result (HoldsLines self.new.listing start was_failed self.new.frames self.new.broke_off (W.has_failed self.new.pen.out.now) (W.contents self.new.pen.out.now) before) }
         ensures kept { OnOk result (self.new.failures ≡ self.old.failures) }
         ensures failed { OnErr result (self.new.failures ≡ self.old.failures + 1) }
-        ensures blamed { IsBlamed self.old.failures self.old.short_of_memory (W.has_failed self.old.pen.out.now) → IsBlamed self.new.failures self.new.short_of_memory (W.has_failed self.new.pen.out.now) }
     {
-        if self.failures > 0 {
-            return self.fail();
-        }
         if self.frames == u64::MAX {
-            self.short_of_memory = true;
-            self.failures = 1;
-            return Err(Failed);
+            return self.fail();
         }
         let made = frame_line(
             self.alloc,
@@ -235,11 +234,14 @@ impl<'a, W: Device, K: Sheet> LineSink<'a, W, K> {
 impl<'a, W: Device, K: Sheet> Elements for LineSink<'a, W, K> {
     ghost use Rattle.h264_report.specs.Told.{TookLines};
 
-    ghost took = { λ s calls. TookLines K.name K.listing K.start s.pen.out.ghost_name s.listing s.frames s.failures s.short_of_memory (W.has_failed s.pen.out.now) (W.contents s.pen.out.now) calls };
+    ghost took = { λ s calls. TookLines K.name K.listing K.start K.was_failed s.pen.out.ghost_name s.listing s.frames s.broke_off (W.has_failed s.pen.out.now) (W.contents s.pen.out.now) calls };
 
     ghost failures = { λ s. s.failures };
 
     fn element(&mut self, name: ElementName, bit: u64, value: i64) -> Result<(), Failed> {
+        if self.is_stopped() {
+            return self.fail();
+        }
         match self.listing {
             Listing::Elements => self.put_element(name, bit, value),
             Listing::Nothing => Ok(()),
@@ -252,6 +254,9 @@ impl<'a, W: Device, K: Sheet> Elements for LineSink<'a, W, K> {
 
 impl<'a, W: Device, K: Sheet> FrameOut for LineSink<'a, W, K> {
     fn frame(&mut self, count: i32, frame: &Frame, rectangle: Rectangle) -> Result<(), Failed> {
+        if self.is_stopped() {
+            return self.fail();
+        }
         match self.listing {
             Listing::Frames => self.put_frame(count, frame, rectangle),
             Listing::Nothing => Ok(()),
@@ -270,6 +275,9 @@ impl<'a, W: Device, K: Sheet> FrameSink for LineSink<'a, W, K> {
         nal_ref_idc: u8,
         length: u64,
     ) -> Result<(), Failed> {
+        if self.is_stopped() {
+            return self.fail();
+        }
         match self.listing {
             Listing::Units => self.put_unit(byte, nal_unit_type, nal_ref_idc, length),
             Listing::Elements => self.put_unit(byte, nal_unit_type, nal_ref_idc, length),
@@ -287,6 +295,9 @@ impl<'a, W: Device, K: Sheet> FrameSink for LineSink<'a, W, K> {
         frame_num: u32,
         count: i32,
     ) -> Result<(), Failed> {
+        if self.is_stopped() {
+            return self.fail();
+        }
         match self.listing {
             Listing::Slices => {
                 self.put_slice(byte, first_mb_in_slice, slice_type, frame_num, count)

@@ -6,7 +6,7 @@ use std::marker::Brand;
 
 /// For proofs alone: what a sink was made for. Whoever runs a sink picks it, so that the sink is known to stay that for which it was made.
 pub trait Sheet {
-    ghost use Rattle.std.specs.Prelude.{ℕ, List, Option};
+    ghost use Rattle.std.specs.Prelude.{ℕ, Bool, List, Option};
     ghost use Rattle.h264_report.specs.declared.listing.Listing.{Listing};
 
     /// The reference to the writer.
@@ -15,17 +15,22 @@ pub trait Sheet {
     /// What the writer held before, where it tells.
     ghost start: { Option (List ℕ) };
 
+    /// Whether the writer had failed before.
+    ghost was_failed: { Bool };
+
     /// The calls that have lines.
     ghost listing: { Listing };
 }
 
 impl Sheet for Brand {
-    ghost use Rattle.std.specs.Prelude.{None};
+    ghost use Rattle.std.specs.Prelude.{None, false};
     ghost use Rattle.h264_report.specs.declared.listing.Listing.TheVariants as listings;
 
     ghost name = { 0 };
 
     ghost start = { None };
+
+    ghost was_failed = { false };
 
     ghost listing = { listings.Nothing };
 }

@@ -141,9 +141,9 @@ impl<'a, W: Device, K: Sheet> Y4mSink<'a, W, K> {
         }
     }
 
-    /// Whether the first failure was a want of memory.
-    pub fn short_of_memory(&self) -> bool {
-        self.short_of_memory
+    /// Whether the newest frame could not be written: the device failed, or the frame has another size. Where it could, a call that failed did so for want of memory.
+    pub fn broke_off(&self) -> bool {
+        self.failures > 0 && !self.short_of_memory
     }
 
     /// The header of a frame, with the rate of the last timing.

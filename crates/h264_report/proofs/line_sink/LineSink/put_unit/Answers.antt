@@ -1,19 +1,16 @@
 use Rattle.std.proofs.Common.{◌≡◌, ◌+◌, ap, arith}
 use Rattle.h264_base.specs.Call.{OfUnit}
-use Rattle.h264_report.specs.Told.{line_of, counted}
-use Rattle.h264_report.proofs.Sinks.{take-line, fail-line, on-ok, on-err}
+use Rattle.h264_report.specs.Told.{counted}
+use Rattle.h264_report.proofs.Sinks.{take-line, unsent-line, on-ok, err-map}
 use Rattle.h264_report.proofs.line_sink.LineSink.put_unit.Goals as goal
 
 pub returns-clause-ok : goal.returns-clause-ok
-returns-clause-ok g c start before h =
+returns-clause-ok g c start was before h =
     let call = OfUnit c.args.byte c.args.nal_unit_type c.args.nal_ref_idc c.args.length in
-    let none : c.args.self.now.failures ≡ 0 = let f = c.if-self-gt0.false in omega arith in
     let same : c.put_line.new.self.frames ≡ c.args.self.now.frames + counted c.args.self.now.listing call =
     let e = c.put_line.ensures.frames in let d = c.requires.uncounted in omega (arith, e, d) in
-    rw c.put_line.ensures.listing (on-ok c.put_line.result (λ still s. take-line call (c.requires.line c.args.self.now.frames) none still same h s) c.put_line.ensures.kept (c.put_line.ensures.ok _ c.unit_line-made.ensures))
+    rw c.put_line.ensures.listing (on-ok c.put_line.result (λ b s. take-line call (c.requires.line c.args.self.now.frames) c.requires.whole same h s b) c.put_line.ensures.blamed (c.put_line.ensures.ok _ c.unit_line-made.ensures))
 
 pub returns-clause-refused : goal.returns-clause-refused
-returns-clause-refused g c start before h =
-    let call = OfUnit c.args.byte c.args.nal_unit_type c.args.nal_ref_idc c.args.length in
-    let none : c.args.self.now.failures ≡ 0 = let f = c.if-self-gt0.false in omega arith in
-    rw c.put_line.ensures.listing (on-err c.put_line.result (λ one s. fail-line call (c.requires.line c.args.self.now.frames) none one c.put_line.ensures.frames h s) c.put_line.ensures.failed (c.put_line.ensures.front _ c.unit_line-made.ensures))
+returns-clause-refused g c start was before h =
+    err-map c.put_line.result (λ u. unsent-line c.put_line.ensures.listing c.put_line.ensures.frames u.0 (ap g.W.Device.has_failed u.1) (ap g.W.Write.contents u.1) h) c.put_line.ensures.unsent
