@@ -1,5 +1,8 @@
 -- What holds of a result that is no Ok.
-use Rattle.std.proofs.Common.{◌≡◌, ℕ, ◌+◌, ◌<◌, ◌≤◌, ◌⊎◌, inr, arith, Result, Ok, Err, IfOk, OnOk, OnErr}
+use Rattle.std.proofs.Common.{◌≡◌, ℕ, ◌+◌, ◌<◌, ◌≤◌, ◌⊎◌, inr, arith, Result, Ok, Err, IfOk, OnOk, OnErr, sym, ◌∙◌}
+use Rattle.h264_base.specs.declared.stop.Stop.{Stop}
+use Rattle.h264_base.specs.declared.stop.Stop.TheVariants.{Read, Write}
+use Rattle.h264_judge.specs.declared.state.Summary.{Summary}
 
 pub no-value : {T E : Type 0} (P : T → Type 0) (r : Result T E) → OnOk r ⊥ → IfOk r P
 no-value P (Ok x) h = absurd h
@@ -16,3 +19,7 @@ on-error P (Err e) h = h
 -- a failure was counted
 pub counted : (n reads reads' failures failures' : ℕ) → failures' ≡ failures + 1 → (n + 1 ≤ reads') ⊎ (0 < failures')
 counted n reads reads' failures failures' e = inr (omega (arith, e))
+
+-- a failed read is no failed write
+pub not-write : {A : Type 0} (answer : Result Summary Stop) → answer ≡ Err Read → answer ≡ Err Write → A
+not-write answer r w = absurd (let d = sym r ∙ w in cc)

@@ -1,11 +1,12 @@
 -- What a command comes to: what it writes to standard output and to standard error, and its exit status.
-use Rattle.std.specs.Prelude.{◌≡◌, ℕ, Bool, true, false, List, Option, Some, Result, Err, IsErrOf, ◌⊎◌}
+use Rattle.std.specs.Prelude.{◌≡◌, ◌≢◌, ℕ, Bool, true, false, List, Option, Some, Result, Err, IsErrOf, ◌⊎◌}
 use Rattle.h264_base.specs.declared.mode.Mode.TheVariants as modes
 use Rattle.h264_base.specs.declared.mode.Target.TheVariants as targets
 use Rattle.h264_base.specs.declared.stop.Stop.{Stop}
 use Rattle.h264_base.specs.declared.stop.Stop.TheVariants.{Memory, Read, Write}
 use Rattle.h264_report.specs.Sent.{Takes}
 use Rattle.h264_report.specs.Written.{OfBytes, Lists, Checks, Decodes, last_line, status_of}
+use Rattle.h264_report.specs.declared.device.WriteDevice.{WriteDevice}
 use Rattle.h264_report.specs.declared.listing.Listing.TheVariants as listings
 use Rattle.h264_judge.specs.declared.state.Summary.{Summary}
 use Rattle.h264_judge.specs.Units.{terms_of}
@@ -41,41 +42,64 @@ SaysAlone tasks.Info answer written old new err_old err_new = ⊥
 SaysAlone tasks.Report answer written old new err_old err_new = ⊥
 SaysAlone tasks.Explain answer written old new err_old err_new = ⊥
 
--- the answer where a file can't be opened, or where there was no memory to say so
-abbrev pub IsUnread : Result Summary Stop → Type 0
-IsUnread answer = (answer ≡ Err Read) ⊎ (answer ≡ Err Memory)
+-- ---- the devices
 
--- ---- why something is not written, or not read
+-- what is known of a device: the bytes that it took, where it tells them; whether it has failed; whether it may hold back some of what it took
+pub record Output : Type 0 where
+  pub bytes : Option (List ℕ)
+  pub has_failed : Bool
+  pub holds_back : Bool
+
+abbrev pub output_of : {D : Type 0} → (D → Option (List ℕ)) → (has_failed holds_back : D → Bool) → D → Output
+output_of contents has_failed holds_back d = record { bytes = contents d; has_failed = has_failed d; holds_back = holds_back d }
+
+abbrev pub output_by : {W : Type 0} → (W → Option (List ℕ)) → WriteDevice W → Output
+output_by contents d = record { bytes = contents d.writer; has_failed = d.failed; holds_back = d.held_back }
 
 -- Standard output or standard error has failed.
-abbrev pub HasFailed : (out err : Bool) → Type 0
-HasFailed out err = (out ≡ true) ⊎ (err ≡ true)
+abbrev pub HasFailed : (out err : Output) → Type 0
+HasFailed out err = (out.has_failed ≡ true) ⊎ (err.has_failed ≡ true)
 
--- A device has failed where not all was written, where the answer is that a write failed, and where it is that a read did.
-pub record IsExcused (ReadFailed : Type 0) (answer : Result Summary Stop) (written out_failed err_failed : Bool) : Type 0 where
-  pub unwritten : written ≡ false → HasFailed out_failed err_failed
-  pub write : IsErrOf answer Write → HasFailed out_failed err_failed
+-- The device holds nothing back, or nothing was written to it.
+abbrev pub IsHandedOver : (old new : Output) → Type 0
+IsHandedOver old new = (new.holds_back ≡ false) ⊎ (new ≡ old)
+
+-- The device holds nothing back, or it has failed.
+abbrev pub HoldsNothing : Output → Type 0
+HoldsNothing device = (device.holds_back ≡ false) ⊎ (device.has_failed ≡ true)
+
+-- A device has failed where not all was written, and where the answer is that a write failed. Else none has failed since, and all is handed over.
+pub record TellsFailures (answer : Result Summary Stop) (written : Bool) (out out' err err' : Output) : Type 0 where
+  pub unwritten : written ≡ false → HasFailed out' err'
+  pub write : IsErrOf answer Write → HasFailed out' err'
+  pub quiet : answer ≢ Err Write → written ≡ true → (out'.has_failed ≡ out.has_failed) × (err'.has_failed ≡ err.has_failed)
+  pub handed_over : answer ≢ Err Write → written ≡ true → IsHandedOver out out' × IsHandedOver err err'
+
+-- A failure is told exactly where a device failed, and a failed read only where a read did.
+pub record IsExcused (ReadFailed : Type 0) (answer : Result Summary Stop) (written : Bool) (out out' err err' : Output) : Type 0 where
+  pub failures : TellsFailures answer written out out' err err'
   pub read : IsErrOf answer Read → ReadFailed
 
 -- ---- what comes of the words
 
 -- The words ask for nothing, and standard output is as it was; or there was no memory to find that out, or to say why.
-pub data Faults (words : List Text) (status : ℕ) (old new err_old err_new : Option (List ℕ)) (out_failed : Bool) : Type 0 where
-  Refused : IsRefusable words → status ≡ 64 → new ≡ old → Faults words status old new err_old err_new out_failed
-  Short : (written : Bool) → status ≡ status_of written (Err Memory) → (written ≡ false → out_failed ≡ true) → Takes written old new (last_line modes.Full (Err Memory)) → err_new ≡ err_old → Faults words status old new err_old err_new out_failed
+pub data Faults (words : List Text) (status : ℕ) (out out' err err' : Output) : Type 0 where
+  Refused : IsRefusable words → status ≡ 64 → out' ≡ out → HoldsNothing err' → Faults words status out out' err err'
+  Short : (written : Bool) → status ≡ status_of written (Err Memory) → (written ≡ false → out'.has_failed ≡ true) → (written ≡ true → out'.holds_back ≡ false) →
+      Takes written out.bytes out'.bytes (last_line modes.Full (Err Memory)) → err' ≡ err → Faults words status out out' err err'
 
 -- What comes of these words, where a file of a name holds these bytes, as far as that is known.
-pub data Comes (words : List Text) (file : Text → Option (List ℕ)) (ReadFailed : Type 0) (status : ℕ) (old new err_old err_new : Option (List ℕ)) (out_failed err_failed : Bool) : Type 0 where
+pub data Comes (words : List Text) (file : Text → Option (List ℕ)) (ReadFailed : Type 0) (status : ℕ) (out out' err err' : Output) : Type 0 where
   -- they ask for nothing
-  Faulted : Faults words status old new err_old err_new out_failed → Comes words file ReadFailed status old new err_old err_new out_failed err_failed
+  Faulted : Faults words status out out' err err' → Comes words file ReadFailed status out out' err err'
   -- they ask for a task with a file that can't be opened
-  Unopened : (task : Task) (name : Text) (answer : Result Summary Stop) (written : Bool) → asks program words ≡ Some (name_of task, Some name) → status ≡ status_of written answer → IsUnread answer → ReadFailed → IsExcused ReadFailed answer written out_failed err_failed →
-      SaysAlone task answer written old new err_old err_new → Comes words file ReadFailed status old new err_old err_new out_failed err_failed
+  Unopened : (task : Task) (name : Text) (written : Bool) → asks program words ≡ Some (name_of task, Some name) → status ≡ status_of written (Err Read) → ReadFailed →
+      TellsFailures (Err Read) written out out' err err' → SaysAlone task (Err Read) written out.bytes out'.bytes err.bytes err'.bytes → Comes words file ReadFailed status out out' err err'
   -- they ask for a task with a file, and it was done
-  Done : (task : Task) (name : Text) (answer : Result Summary Stop) (written : Bool) → asks program words ≡ Some (name_of task, Some name) → status ≡ status_of written answer → IsExcused ReadFailed answer written out_failed err_failed →
-      OfBytes (file name) (λ bytes. Performs task bytes answer written old new err_old err_new) → Comes words file ReadFailed status old new err_old err_new out_failed err_failed
+  Done : (task : Task) (name : Text) (answer : Result Summary Stop) (written : Bool) → asks program words ≡ Some (name_of task, Some name) → status ≡ status_of written answer →
+      IsExcused ReadFailed answer written out out' err err' → OfBytes (file name) (λ bytes. Performs task bytes answer written out.bytes out'.bytes err.bytes err'.bytes) → Comes words file ReadFailed status out out' err err'
 
 -- What comes of these words: it is done; or they ask for more than a judgement of one FILE, nothing is written, and what they ask is handed on.
-abbrev pub ComesTo : (words : List Text) (file : Text → Option (List ℕ)) (ReadFailed : Type 0) (outcome : Outcome) (old new err_old err_new : Option (List ℕ)) (out_failed err_failed : Bool) → Type 0
-ComesTo words file ReadFailed (outcomes.Done status) old new err_old err_new out_failed err_failed = Comes words file ReadFailed status old new err_old err_new out_failed err_failed
-ComesTo words file ReadFailed (outcomes.More wanted) old new err_old err_new out_failed err_failed = (asks program words ≡ Some (name_of wanted.request.task, Some wanted.request.file.now)) × (new ≡ old) × (err_new ≡ err_old)
+abbrev pub ComesTo : (words : List Text) (file : Text → Option (List ℕ)) (ReadFailed : Type 0) (outcome : Outcome) (out out' err err' : Output) → Type 0
+ComesTo words file ReadFailed (outcomes.Done status) out out' err err' = Comes words file ReadFailed status out out' err err'
+ComesTo words file ReadFailed (outcomes.More wanted) out out' err err' = (asks program words ≡ Some (name_of wanted.request.task, Some wanted.request.file.now)) × (out' ≡ out) × (err' ≡ err)

@@ -1,13 +1,15 @@
 //! The command line.
 #![tactic(auto)]
 
-ghost use Rattle.std.specs.Prelude.{◌≡◌, ◌-◌, ◌<◌, ◌^◌, true, false, List, Some, map, string_bytes};
+ghost use Rattle.std.specs.Prelude.{◌≡◌, ◌-◌, ◌<◌, ◌^◌, ◌⊎◌, true, false, List, Some, Err, map, string_bytes};
 ghost use Rattle.clap.specs.Words.{Text, takes, kind_of};
 ghost use Rattle.clap.specs.declared.error.kind.ErrorKind.TheVariants as kinds;
+ghost use Rattle.h264_base.specs.declared.mode.Mode.TheVariants as modes;
 ghost use Rattle.h264_base.specs.declared.mode.Target.TheVariants as targets;
 ghost use Rattle.h264_judge.specs.Units.{terms_of};
-ghost use Rattle.h264_report.specs.Written.{OfBytes};
-ghost use Rattle.h264v.specs.Commands.{Performs, SaysAlone, IsUnread, HasFailed, IsExcused, Faults, Comes, ComesTo};
+ghost use Rattle.h264_report.specs.Sent.{Takes};
+ghost use Rattle.h264_report.specs.Written.{OfBytes, last_line};
+ghost use Rattle.h264v.specs.Commands.{Performs, SaysAlone, TellsFailures, IsExcused, Faults, Comes, ComesTo, output_of};
 ghost use Rattle.h264v.specs.Files.{HasFailedToRead};
 ghost use Rattle.h264_words.specs.Words.{program, asks, name_of, is_judging};
 
@@ -15,15 +17,14 @@ use crate::files::Files;
 use crate::outcome::Outcome;
 use clap::Error;
 use clap::error::ErrorKind;
-use h264_base::{Mode, Stop, Target};
+use h264_base::{Failed, Mode, Stop, Target};
 use h264_report::{Device, Ending, Listing, check, decode, list, put_answer, put_memory};
 use h264_verify::{Source, Terms};
 use h264_words::{Request, Task, asked};
 use std::alloc::Global;
-use std::io::Write;
 
 /// What is said where a word is no text.
-const NOT_TEXT: &str = "h264v: a word is not UTF-8\n";
+const NOT_TEXT: &str = "h264v: a word is not UTF-8; a file with such a name is judged from standard input: h264v check - <FILE\n";
 
 /// What is said where the words name no task.
 const NO_TASK: &str = "h264v: no command is given; h264v --help lists them\n";
@@ -51,7 +52,8 @@ fn perform<R: Source, W: Device, E: Device>(
 ) -> Ending
     requires room { R.failures source.old < 2 ^ 64 - 1 }
     requires judging { is_judging task ≡ true }
-    ensures excused { IsExcused (HasFailedToRead (R.failures source.old) (R.failures source.new) (R.was_read source.old) (R.was_read source.new)) result.answer result.written (W.has_failed out.new) (E.has_failed err.new) }
+    ensures excused { IsExcused (HasFailedToRead (R.failures source.old) (R.failures source.new) (R.was_read source.old) (R.was_read source.new)) result.answer result.written
+        (output_of W.contents W.has_failed W.holds_back out.old) (output_of W.contents W.has_failed W.holds_back out.new) (output_of E.contents E.has_failed E.holds_back err.old) (output_of E.contents E.has_failed E.holds_back err.new) }
     ensures performs { OfBytes (R.left source.old) (λ bytes. Performs task bytes result.answer result.written (W.contents out.old) (W.contents out.new) (E.contents err.old) (E.contents err.new)) }
 {
     match task {
@@ -67,43 +69,68 @@ fn perform<R: Source, W: Device, E: Device>(
     }
 }
 
+/// Says on a device that a file can't be read.
+fn put_unread<D: Device>(alloc: Global, device: &mut D) -> Ending
+    ensures answer { result.answer ≡ Err Stop.Read }
+    ensures says { Takes result.written (D.contents device.old) (D.contents device.new) (last_line modes.Full (Err Stop.Read)) }
+    ensures handed_over { result.written ≡ true → D.holds_back device.new ≡ false }
+    ensures quiet { result.written ≡ true → D.has_failed device.new ≡ D.has_failed device.old }
+    ensures unwritten { result.written ≡ false → D.has_failed device.new ≡ true }
+{
+    put_answer(alloc, Mode::Full, Err(Stop::Read), device)
+}
+
 /// Says that a file can't be opened.
 fn no_file<W: Device, E: Device>(alloc: Global, task: Task, out: &mut W, err: &mut E) -> Ending
     requires { is_judging task ≡ true }
-    ensures answer { IsUnread result.answer }
-    ensures unwritten { result.written ≡ false → HasFailed (W.has_failed out.new) (E.has_failed err.new) }
-    ensures says { SaysAlone task result.answer result.written (W.contents out.old) (W.contents out.new) (E.contents err.old) (E.contents err.new) }
+    ensures answer { result.answer ≡ Err Stop.Read }
+    ensures failures { TellsFailures (Err Stop.Read) result.written
+        (output_of W.contents W.has_failed W.holds_back out.old) (output_of W.contents W.has_failed W.holds_back out.new) (output_of E.contents E.has_failed E.holds_back err.old) (output_of E.contents E.has_failed E.holds_back err.new) }
+    ensures says { SaysAlone task (Err Stop.Read) result.written (W.contents out.old) (W.contents out.new) (E.contents err.old) (E.contents err.new) }
 {
     match task {
-        Task::Decode => put_answer(alloc, Mode::Full, Err(Stop::Read), err),
-        Task::Check => put_answer(alloc, Mode::Full, Err(Stop::Read), out),
-        Task::Units => put_answer(alloc, Mode::Full, Err(Stop::Read), out),
-        Task::Headers => put_answer(alloc, Mode::Full, Err(Stop::Read), out),
-        Task::Frames => put_answer(alloc, Mode::Full, Err(Stop::Read), out),
-        Task::Elements => put_answer(alloc, Mode::Full, Err(Stop::Read), out),
+        Task::Decode => put_unread(alloc, err),
+        Task::Check => put_unread(alloc, out),
+        Task::Units => put_unread(alloc, out),
+        Task::Headers => put_unread(alloc, out),
+        Task::Frames => put_unread(alloc, out),
+        Task::Elements => put_unread(alloc, out),
         Task::Info => unreachable!(),
         Task::Report => unreachable!(),
         Task::Explain => unreachable!(),
     }
 }
 
-/// Says that a word is no text, where no file has a name that can be opened: the exit status of a fault of the words.
-pub fn not_text<E: Write>(err: &mut E) -> u8
+/// Hands over a text that says why words are refused: the exit status of a fault of the words.
+fn refused<E: Device>(err: &mut E) -> u8
     ensures status { result ≡ 64 }
+    ensures handed_over { (E.holds_back err.new ≡ false) ⊎ (E.has_failed err.new ≡ true) }
+{
+    match err.send_rest() {
+        Ok(()) => FAULT,
+        Err(Failed) => FAULT,
+    }
+}
+
+/// Says that a word is no text, where no file has a name that can be opened: the exit status of a fault of the words.
+pub fn not_text<E: Device>(err: &mut E) -> u8
+    ensures status { result ≡ 64 }
+    ensures handed_over { (E.holds_back err.new ≡ false) ⊎ (E.has_failed err.new ≡ true) }
 {
     let _ = err.write_all(NOT_TEXT.as_bytes());
-    FAULT
+    refused(err)
 }
 
 /// Says why the words ask for nothing: the exit status of a fault of the words. Where memory was wanting for that, it is said on `out`.
 fn fault<W: Device, E: Device>(error: &Error, out: &mut W, err: &mut E) -> u8
-    ensures { (words : List Text) → (takes program words ≡ true → kind_of error.now ≡ kinds.OutOfMemory) → Faults words result (W.contents out.old) (W.contents out.new) (E.contents err.old) (E.contents err.new) (W.has_failed out.new) }
+    ensures { (words : List Text) → (takes program words ≡ true → kind_of error.now ≡ kinds.OutOfMemory) → Faults words result
+        (output_of W.contents W.has_failed W.holds_back out.old) (output_of W.contents W.has_failed W.holds_back out.new) (output_of E.contents E.has_failed E.holds_back err.old) (output_of E.contents E.has_failed E.holds_back err.new) }
 {
     if error.kind() == ErrorKind::OutOfMemory {
         return put_memory(out).status();
     }
     let _ = err.write_fmt(error);
-    FAULT
+    refused(err)
 }
 
 /// Does what is asked of a file that stands for itself.
@@ -117,7 +144,7 @@ fn serve<F: Files, W: Device, E: Device>(
     requires room { F.failures files.old < 2 ^ 64 - 1 }
     requires judging { is_judging request.task ≡ true }
     ensures { (words : List Text) → asks program words ≡ Some (name_of request.entry.task, Some request.entry.file.now) → Comes words (λ name. F.holds files.old name) (HasFailedToRead (F.failures files.old) (F.failures files.new) (F.was_read files.old) (F.was_read files.new)) result
-        (W.contents out.old) (W.contents out.new) (E.contents err.old) (E.contents err.new) (W.has_failed out.new) (E.has_failed err.new) }
+        (output_of W.contents W.has_failed W.holds_back out.old) (output_of W.contents W.has_failed W.holds_back out.new) (output_of E.contents E.has_failed E.holds_back err.old) (output_of E.contents E.has_failed E.holds_back err.new) }
 {
     match files.open(request.file) {
         Ok(()) => perform(alloc, request.task, files, out, err).status(),
@@ -136,13 +163,13 @@ pub fn command<'a, F: Files, W: Device, E: Device>(
 ) -> Outcome<'a>
     requires { F.failures files.old < 2 ^ 64 - 1 }
     ensures { ComesTo (map (λ w. string_bytes w) words.now) (λ name. F.holds files.old name) (HasFailedToRead (F.failures files.old) (F.failures files.new) (F.was_read files.old) (F.was_read files.new)) result
-        (W.contents out.old) (W.contents out.new) (E.contents err.old) (E.contents err.new) (W.has_failed out.new) (E.has_failed err.new) }
+        (output_of W.contents W.has_failed W.holds_back out.old) (output_of W.contents W.has_failed W.holds_back out.new) (output_of E.contents E.has_failed E.holds_back err.old) (output_of E.contents E.has_failed E.holds_back err.new) }
 {
     match asked(alloc, words) {
         Err(error) => Outcome::Done(fault(&error, out, err)),
         Ok(None) => {
             let _ = err.write_all(NO_TASK.as_bytes());
-            Outcome::Done(FAULT)
+            Outcome::Done(refused(err))
         }
         Ok(Some(wanted)) => {
             if wanted.is_plain() {

@@ -14,7 +14,8 @@ use h264_report::pages::{
 };
 use h264_report::survey::{Meter, Narrowed, Survey, Surveyed};
 use h264_report::{
-    Device, JsonSink, LineSink, Listing, PageSink, Pen, TrailSink, Y4mSink, YuvSink, verdict_line,
+    Device, Ending, JsonSink, LineSink, Listing, PageSink, Pen, TrailSink, Y4mSink, YuvSink,
+    told_answer, verdict_line,
 };
 use h264_verify::{FrameSink, run};
 use h264_words::Task;
@@ -42,37 +43,6 @@ pub struct Found {
     pub before: String,
 }
 
-/// What became of a file.
-#[derive(Clone, Copy)]
-pub struct Done {
-    pub answer: Answer,
-    /// Whether all was written.
-    pub written: bool,
-}
-
-/// A judgement for which memory is wanting.
-pub const SHORT: Done = Done {
-    answer: Err(Stop::Memory),
-    written: true,
-};
-
-impl Done {
-    /// The exit status: 0 yes, 1 no, 2 outside, 3 memory, 4 a device failed.
-    pub fn status(self) -> u8 {
-        if !self.written {
-            return 4;
-        }
-        match self.answer {
-            Ok(_) => 0,
-            Err(Stop::No { .. }) => 1,
-            Err(Stop::Outside { .. }) => 2,
-            Err(Stop::Memory) => 3,
-            Err(Stop::Read) => 4,
-            Err(Stop::Write) => 4,
-        }
-    }
-}
-
 /// How far a task judges.
 fn mode_of(task: Task) -> Mode {
     match task {
@@ -93,14 +63,6 @@ fn listing_of(job: &Job<'_>) -> Listing {
         Task::Frames => Listing::Frames,
         Task::Elements => Listing::Elements,
         _ => Listing::Nothing,
-    }
-}
-
-/// The answer that is told: where a sink was short of memory, a write that failed is that.
-fn told(answer: Answer, short: bool) -> Answer {
-    match answer {
-        Err(Stop::Write) => Err(if short { Stop::Memory } else { Stop::Write }),
-        other => other,
     }
 }
 
@@ -181,7 +143,7 @@ fn list_lines<O: Opener + Drop, W: Device, M: Meter + Drop>(
     let (surveyed, answer) = judge(job, files, sink, meter)?;
     let Surveyed { sink, survey, .. } = surveyed;
     Some(Found {
-        answer: told(answer, sink.short_of_memory()),
+        answer: told_answer(answer, sink.broke_off()),
         survey,
         seen: files.seen,
         before: String::new(job.alloc),
@@ -201,7 +163,7 @@ fn list_objects<O: Opener + Drop, W: Device, M: Meter + Drop>(
     let (surveyed, answer) = judge(job, files, sink, meter)?;
     let Surveyed { sink, survey, .. } = surveyed;
     Some(Found {
-        answer: told(answer, sink.short_of_memory()),
+        answer: told_answer(answer, sink.broke_off()),
         survey,
         seen: files.seen,
         before: String::new(job.alloc),
@@ -244,7 +206,7 @@ fn chosen_lines<O: Opener + Drop, W: Device>(
     let (narrowed, answer) = judge_chosen(job, files, sink)?;
     let Narrowed { sink, survey, .. } = narrowed;
     Some(Found {
-        answer: told(answer, sink.short_of_memory()),
+        answer: told_answer(answer, sink.broke_off()),
         survey,
         seen: files.seen,
         before: String::new(job.alloc),
@@ -263,7 +225,7 @@ fn chosen_objects<O: Opener + Drop, W: Device>(
     let (narrowed, answer) = judge_chosen(job, files, sink)?;
     let Narrowed { sink, survey, .. } = narrowed;
     Some(Found {
-        answer: told(answer, sink.short_of_memory()),
+        answer: told_answer(answer, sink.broke_off()),
         survey,
         seen: files.seen,
         before: String::new(job.alloc),
@@ -298,9 +260,9 @@ fn decode_samples<O: Opener + Drop, W: Device, M: Meter + Drop>(
 {
     let sink: YuvSink<'_, W, Brand> = YuvSink::new(Pen { out });
     let (surveyed, answer) = judge(job, files, sink, meter)?;
-    let Surveyed { survey, .. } = surveyed;
+    let Surveyed { sink, survey, .. } = surveyed;
     Some(Found {
-        answer,
+        answer: told_answer(answer, sink.broke_off()),
         survey,
         seen: files.seen,
         before: String::new(job.alloc),
@@ -342,7 +304,7 @@ fn decode_y4m<O: Opener + Drop, W: Device, M: Meter + Drop>(
     let Surveyed { sink, survey, .. } = surveyed;
     let before = size_line(job.alloc, sink.changed_size())?;
     Some(Found {
-        answer: told(answer, sink.short_of_memory()),
+        answer: told_answer(answer, sink.broke_off()),
         survey,
         seen: files.seen,
         before,
@@ -438,7 +400,7 @@ fn put_last_lines(job: &Job<'_>, page: &mut Page, found: &Found) {
 }
 
 /// Writes the end of a judgement: lines, or an object of JSON; nothing where quiet is asked.
-pub fn put_found<W: Write>(job: &Job<'_>, out: &mut W, found: &Found) -> Done {
+pub fn put_found<W: Write>(job: &Job<'_>, out: &mut W, found: &Found) -> Ending {
     let mut page = Page::new(job.alloc);
     if !job.options.quiet {
         if !job.options.json || job.task == Task::Info {
@@ -464,19 +426,19 @@ pub fn put_found<W: Write>(job: &Job<'_>, out: &mut W, found: &Found) -> Done {
         }
     }
     if page.is_short() {
-        return Done {
+        return Ending {
             answer: Err(Stop::Memory),
             written: put_text(out, "memory\n"),
         };
     }
-    Done {
+    Ending {
         answer: found.answer,
         written: put_text(out, page.as_str()),
     }
 }
 
 /// Writes that a file was not judged, by an answer of memory or of a device.
-pub fn put_unjudged<W: Write>(job: &Job<'_>, out: &mut W, stop: Stop) -> Done {
+pub fn put_unjudged<W: Write>(job: &Job<'_>, out: &mut W, stop: Stop) -> Ending {
     let text = match stop {
         Stop::Read => "read failed",
         Stop::Write => "write failed",
@@ -495,7 +457,7 @@ pub fn put_unjudged<W: Write>(job: &Job<'_>, out: &mut W, stop: Stop) -> Done {
     if job.options.quiet {
         page.clear();
     }
-    Done {
+    Ending {
         answer: Err(stop),
         written: put_text(out, page.as_str()),
     }

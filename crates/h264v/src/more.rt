@@ -1,21 +1,24 @@
 //! What the words ask for beside the judgement of one file: options, several files, and the tasks that make texts of their own.
 #![tactic(auto)]
 
-ghost use Rattle.std.specs.Prelude.{◌≡◌, ◌-◌, ◌<◌, ◌^◌};
+ghost use Rattle.std.specs.Prelude.{◌≡◌, ◌-◌, ◌<◌, ◌^◌, ◌⊎◌, max, List, length};
+ghost use Rattle.h264_report.specs.Written.{status_of};
+ghost use Rattle.h264_report.specs.declared.judging.Ending.{Ending as EndingView};
+ghost use Rattle.h264v.specs.More.{worst, IsStatus};
 
 use crate::command::FAULT;
 use crate::explaining::put_entry;
 use crate::files::{Files, OpenedFiles, Opener};
 use crate::job::{
-    Done, Found, Job, SHORT, check_file, decode_file, info_file, list_file, put_found, put_text,
-    put_unjudged, report_file,
+    Found, Job, check_file, decode_file, info_file, list_file, put_found, put_text, put_unjudged,
+    report_file,
 };
 use crate::options::{Options, Refusal, options_of};
 use crate::prefixed::Prefixed;
 use h264_base::Stop;
 use h264_report::pages::Page;
 use h264_report::survey::Meter;
-use h264_report::{Device, WriteDevice};
+use h264_report::{Device, Ending, WriteDevice};
 use h264_words::{Task, Wanted};
 use std::alloc::Global;
 use std::io;
@@ -48,7 +51,9 @@ struct Totals {
 
 impl Totals {
     /// Counts a file by its exit status.
-    fn add(&mut self, status: u8) {
+    fn add(&mut self, status: u8)
+        ensures { self.new.worst ≡ max self.old.worst status }
+    {
         self.files = self.files.saturating_add(1);
         self.worst = self.worst.max(status);
         match status {
@@ -107,7 +112,9 @@ pub fn blame<E: Write>(err: &mut E, name: &str, cause: &io::Error) {
 }
 
 /// Refuses the words, with a line that says why: the exit status.
-fn refuse<E: Write>(alloc: Global, err: &mut E, refusal: Refusal) -> u8 {
+fn refuse<E: Write>(alloc: Global, err: &mut E, refusal: Refusal) -> u8
+    ensures { result ≡ 64 }
+{
     complain(alloc, err, &[refusal]);
     FAULT
 }
@@ -119,7 +126,9 @@ fn explain_labels<W: Write, E: Write>(
     json: bool,
     out: &mut W,
     err: &mut E,
-) -> u8 {
+) -> u8
+    ensures { IsStatus result }
+{
     let mut page = Page::new(alloc);
     for label in labels.iter() {
         if !put_entry(&mut page, label, json) {
@@ -128,9 +137,16 @@ fn explain_labels<W: Write, E: Write>(
         }
     }
     if page.is_short() {
-        return if put_text(out, "memory\n") { 3 } else { 4 };
+        let short = Ending {
+            answer: Err(Stop::Memory),
+            written: put_text(out, "memory\n"),
+        };
+        return short.status();
     }
-    if put_text(out, page.as_str()) { 0 } else { 4 }
+    if put_text(out, page.as_str()) {
+        return 0;
+    }
+    4
 }
 
 /// Judges the open file as the task says. What the answer is written to is left to the caller.
@@ -161,14 +177,14 @@ fn answers_aside(task: Task) -> bool {
     task == Task::Decode || task == Task::Report
 }
 
-/// Judges a file, and writes its answer to `out`, or to `err` where the task writes something else to `out`.
+/// Opens a file and judges it, and writes its answer to `out`, or to `err` where the task writes something else to `out`.
 fn do_file<O: Opener + Drop, W: Device, E: Write, M: Meter + Drop>(
     job: &Job<'_>,
     files: &mut OpenedFiles<O>,
     out: &mut W,
     err: &mut E,
     meter: M,
-) -> Done
+) -> Ending
     requires { files.old.failures < 2 ^ 64 - 1 }
 {
     if files.open(system_name(job.file)).is_err() {
@@ -177,6 +193,19 @@ fn do_file<O: Opener + Drop, W: Device, E: Write, M: Meter + Drop>(
         }
         return put_unjudged(job, out, Stop::Read);
     }
+    judge_opened(job, files, out, err, meter)
+}
+
+/// Judges the open file, and writes its answer to `out`, or to `err` where the task writes something else to `out`.
+fn judge_opened<O: Opener + Drop, W: Device, E: Write, M: Meter + Drop>(
+    job: &Job<'_>,
+    files: &mut OpenedFiles<O>,
+    out: &mut W,
+    err: &mut E,
+    meter: M,
+) -> Ending
+    requires { files.old.failures < 2 ^ 64 - 1 }
+{
     let found = find(job, files, out, meter);
     put_answer(job, found, out, err)
 }
@@ -187,7 +216,7 @@ fn put_answer<W: Write, E: Write>(
     found: Option<Found>,
     out: &mut W,
     err: &mut E,
-) -> Done {
+) -> Ending {
     match (found, answers_aside(job.task)) {
         (Some(found), true) => put_found(job, err, &found),
         (Some(found), false) => put_found(job, out, &found),
@@ -218,7 +247,7 @@ fn do_named<O: Opener + Drop, W: Device, E: Write, M: Meter + Drop>(
     out: &mut W,
     err: &mut E,
     meter: M,
-) -> Done
+) -> Ending
     requires { files.old.failures < 2 ^ 64 - 1 }
 {
     if job.options.json {
@@ -244,7 +273,9 @@ fn do_files<O: Opener + Drop, W: Device, E: Write, M: Meter + Drop + Copy>(
     out: &mut W,
     err: &mut E,
     meter: M,
-) -> u8 {
+) -> u8
+    ensures { ((endings : List EndingView) × (length endings ≡ length names.now) × (result ≡ worst endings)) ⊎ (result ≡ 4) }
+{
     let mut files = OpenedFiles::new(opener);
     let mut totals = Totals::default();
     for name in names.iter() {
@@ -261,25 +292,24 @@ fn do_files<O: Opener + Drop, W: Device, E: Write, M: Meter + Drop + Copy>(
     } else if !job.options.quiet {
         totals.put(&mut page);
     }
-    if put_text(out, page.as_str()) {
-        totals.worst
-    } else {
-        4
+    if !put_text(out, page.as_str()) {
+        return 4;
     }
+    totals.worst
 }
 
-/// Judges one file: the exit status.
+/// Judges one file: how that ended.
 fn do_one<O: Opener + Drop, W: Device, E: Write, M: Meter + Drop>(
     job: &Job<'_>,
     opener: O,
     out: &mut W,
     err: &mut E,
     meter: M,
-) -> u8 {
+) -> Ending {
     let mut files = OpenedFiles::new(opener);
     let done = do_file(job, &mut files, out, err, meter);
     blame_file(&mut files, err, job.file);
-    done.status()
+    done
 }
 
 /// The job of these words.
@@ -292,28 +322,32 @@ fn job_of<'a>(alloc: Global, wanted: &Wanted<'a>, options: Options<'a>) -> Job<'
     }
 }
 
-/// Judges one file with its output in a file of its own: the exit status.
+/// Judges one file with its output in a file of its own, which is made once the input is open: how that ended.
 fn do_output<O: Opener + Maker + Drop, E: Write, M: Meter + Drop>(
     job: &Job<'_>,
-    mut opener: O,
+    opener: O,
     output: &str,
     err: &mut E,
     meter: M,
-) -> u8 {
-    if opener.is_same(system_name(job.file), output) {
-        return refuse(job.alloc, err, "the output is the input");
+) -> Ending {
+    let mut files = OpenedFiles::new(opener);
+    if files.open(system_name(job.file)).is_err() {
+        let done = put_unjudged(job, err, Stop::Read);
+        blame_file(&mut files, err, job.file);
+        return done;
     }
-    let made = match opener.make(output) {
+    let made = match files.opener.make(output) {
         Ok(made) => made,
         Err(cause) => {
             blame(err, output, &cause);
-            return put_unjudged(job, err, Stop::Write).status();
+            return put_unjudged(job, err, Stop::Write);
         }
     };
     let mut device = WriteDevice::new(made);
-    let status = do_one(job, opener, &mut device, err, meter);
+    let done = judge_opened(job, &mut files, &mut device, err, meter);
+    blame_file(&mut files, err, job.file);
     blame_output(&device, err, output);
-    status
+    done
 }
 
 /// Does what the words ask beside a judgement of one file without options, and gives the exit status: the worst of the files', 64 for a fault of the words, whose
@@ -321,11 +355,13 @@ fn do_output<O: Opener + Maker + Drop, E: Write, M: Meter + Drop>(
 pub fn more<O: Opener + Maker + Drop, W: Device, E: Write, M: Meter + Drop + Copy>(
     alloc: Global,
     wanted: &Wanted<'_>,
-    opener: O,
+    mut opener: O,
     out: &mut W,
     err: &mut E,
     meter: M,
-) -> u8 {
+) -> u8
+    ensures { IsStatus result }
+{
     let options = match options_of(wanted) {
         Ok(options) => options,
         Err(refusal) => return refuse(alloc, err, refusal),
@@ -336,10 +372,13 @@ pub fn more<O: Opener + Maker + Drop, W: Device, E: Write, M: Meter + Drop + Cop
         return explain_labels(alloc, names, options.json, out, err);
     }
     if let Some(output) = options.output {
-        return do_output(&job, opener, output, err, meter);
+        if opener.is_same(system_name(job.file), output) {
+            return refuse(alloc, err, "the output is the input");
+        }
+        return do_output(&job, opener, output, err, meter).status();
     }
     if names.len() > 1 {
         return do_files(&job, names, opener, out, err, meter);
     }
-    do_one(&job, opener, out, err, meter)
+    do_one(&job, opener, out, err, meter).status()
 }

@@ -60,6 +60,9 @@ const GAP: &str = "000000016742c00ada710000000168ce388000000165888493c0000001619
 /// The same, and a picture whose frame_num is 1: its macroblock is skipped.
 const TWO: &str = "000000016742c00ada710000000168ce388000000165888493c0000001619a22a0";
 
+/// The first picture, and after it one of two macroblocks beside one another, with a sequence parameter set of its own.
+const SIZES: &str = "000000016742c00ada710000000168ce388000000165888493c0000000016742c00ada2c400000000168ce38800000000165888224e4f0";
+
 /// Verdicts with what explains them, in lines and in JSON.
 const VERDICTS: [Asking; 8] = [
     Asking {
@@ -207,7 +210,7 @@ yes: units 4 pictures 2 frames 2\n",
 ];
 
 /// Several files, frames, pages, and words that are refused.
-const REST: [Asking; 12] = [
+const REST: [Asking; 14] = [
     Asking {
         words: &["h264v", "check", "stream", "stream2", "none"],
         stream: ONE,
@@ -293,6 +296,21 @@ total: files 3 yes 2 no 0 outside 0 memory 0 failed 1\n",
         stream: ONE,
         out: &[],
         err: "h264v: full: ",
+        status: 4,
+    },
+    // No output is made where the input can't be opened.
+    Asking {
+        words: &["h264v", "decode", "-o", "full", "none"],
+        stream: ONE,
+        out: &[],
+        err: "read failed\nh264v: none: ",
+        status: 4,
+    },
+    Asking {
+        words: &["h264v", "decode", "--y4m", "stream"],
+        stream: SIZES,
+        out: &["YUV4MPEG2 W16 H16 F25:1 Ip C420\nFRAME\n????"],
+        err: "size changes from 16x16 to 32x16, and YUV4MPEG2 has no second header\nwrite failed\n",
         status: 4,
     },
     Asking {

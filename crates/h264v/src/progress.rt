@@ -9,17 +9,20 @@ use std::time::{Duration, Instant};
 #[derive(Clone, Copy)]
 pub struct Progress<'a> {
     rt: &'a HostRuntime,
-    /// When it began; none where nothing is to be told.
+    /// When it began; none where the clock can't be read, and then nothing is told.
     began: Option<Instant>,
     /// The second that was told last.
     told: u64,
 }
 
 impl<'a> Progress<'a> {
-    /// One that tells, if that is asked and the clock can be read.
-    pub fn new(rt: &'a HostRuntime, asked: bool) -> Progress<'a> {
-        let began = if asked { Instant::now(rt).ok() } else { None };
-        Progress { rt, began, told: 0 }
+    /// One that begins now.
+    pub fn new(rt: &'a HostRuntime) -> Progress<'a> {
+        Progress {
+            rt,
+            began: Instant::now(rt).ok(),
+            told: 0,
+        }
     }
 
     /// How long it has run; none where nothing is to be told.

@@ -26,23 +26,41 @@ returns-in-Frames-clause-performs g c = rw c.in-Frames.is (beside (g.R.Source.le
 pub returns-in-Decode-clause-performs : goal.returns-in-Decode-clause-performs
 returns-in-Decode-clause-performs g c = rw c.in-Decode.is c.decode.ensures.decodes
 
-pub returns-in-Check-clause-excused : goal.returns-in-Check-clause-excused
-returns-in-Check-clause-excused g c = record { unwritten = λ e. inl (c.check.ensures.failed e); write = λ e. absurd (c.check.ensures.write e); read = c.check.ensures.read }
-
-pub returns-in-Units-clause-excused : goal.returns-in-Units-clause-excused
-returns-in-Units-clause-excused g c = record { unwritten = λ e. inl (c.list.ensures.failed e); write = λ e. inl (c.list.ensures.write e); read = c.list.ensures.read }
-
-pub returns-in-Headers-clause-excused : goal.returns-in-Headers-clause-excused
-returns-in-Headers-clause-excused g c = record { unwritten = λ e. inl (c.list-in-Headers.ensures.failed e); write = λ e. inl (c.list-in-Headers.ensures.write e); read = c.list-in-Headers.ensures.read }
-
-pub returns-in-Frames-clause-excused : goal.returns-in-Frames-clause-excused
-returns-in-Frames-clause-excused g c = record { unwritten = λ e. inl (c.list-in-Frames.ensures.failed e); write = λ e. inl (c.list-in-Frames.ensures.write e); read = c.list-in-Frames.ensures.read }
-
-pub returns-in-Decode-clause-excused : goal.returns-in-Decode-clause-excused
-returns-in-Decode-clause-excused g c = record { unwritten = λ e. inr (c.decode.ensures.failed e); write = λ e. inl (c.decode.ensures.write e); read = c.decode.ensures.read }
-
 pub returns-in-Elements-clause-performs : goal.returns-in-Elements-clause-performs
 returns-in-Elements-clause-performs g c = rw c.in-Elements.is (beside (g.R.Source.left c.args.source.now) (λ bytes. Lists (terms_of modes.Full targets.Baseline) listings.Elements bytes c.list-in-Elements.result.answer c.list-in-Elements.result.written (g.W.Write.contents c.args.out.now) (g.W.Write.contents c.list-in-Elements.new.out)) (g.E.Write.contents c.args.err.now) (rw c.terms-in-Elements.ensures at c.list-in-Elements.ensures.lists))
 
+pub returns-in-Check-clause-excused : goal.returns-in-Check-clause-excused
+returns-in-Check-clause-excused g c = record {
+  failures = record { unwritten = λ e. inl (c.check.ensures.failed e); write = λ e. absurd (c.check.ensures.write e); quiet = λ never e. (c.check.ensures.quiet e, refl); handed_over = λ never e. (inl (c.check.ensures.handed_over e), inr refl) };
+  read = c.check.ensures.read;
+}
+
+pub returns-in-Units-clause-excused : goal.returns-in-Units-clause-excused
+returns-in-Units-clause-excused g c = record {
+  failures = record { unwritten = λ e. inl (c.list.ensures.failed e); write = λ e. inl (c.list.ensures.write e); quiet = λ never e. (c.list.ensures.quiet never e, refl); handed_over = λ never e. (inl (c.list.ensures.handed_over e), inr refl) };
+  read = c.list.ensures.read;
+}
+
+pub returns-in-Headers-clause-excused : goal.returns-in-Headers-clause-excused
+returns-in-Headers-clause-excused g c = record {
+  failures = record { unwritten = λ e. inl (c.list-in-Headers.ensures.failed e); write = λ e. inl (c.list-in-Headers.ensures.write e); quiet = λ never e. (c.list-in-Headers.ensures.quiet never e, refl); handed_over = λ never e. (inl (c.list-in-Headers.ensures.handed_over e), inr refl) };
+  read = c.list-in-Headers.ensures.read;
+}
+
+pub returns-in-Frames-clause-excused : goal.returns-in-Frames-clause-excused
+returns-in-Frames-clause-excused g c = record {
+  failures = record { unwritten = λ e. inl (c.list-in-Frames.ensures.failed e); write = λ e. inl (c.list-in-Frames.ensures.write e); quiet = λ never e. (c.list-in-Frames.ensures.quiet never e, refl); handed_over = λ never e. (inl (c.list-in-Frames.ensures.handed_over e), inr refl) };
+  read = c.list-in-Frames.ensures.read;
+}
+
 pub returns-in-Elements-clause-excused : goal.returns-in-Elements-clause-excused
-returns-in-Elements-clause-excused g c = record { unwritten = λ e. inl (c.list-in-Elements.ensures.failed e); write = λ e. inl (c.list-in-Elements.ensures.write e); read = c.list-in-Elements.ensures.read }
+returns-in-Elements-clause-excused g c = record {
+  failures = record { unwritten = λ e. inl (c.list-in-Elements.ensures.failed e); write = λ e. inl (c.list-in-Elements.ensures.write e); quiet = λ never e. (c.list-in-Elements.ensures.quiet never e, refl); handed_over = λ never e. (inl (c.list-in-Elements.ensures.handed_over e), inr refl) };
+  read = c.list-in-Elements.ensures.read;
+}
+
+pub returns-in-Decode-clause-excused : goal.returns-in-Decode-clause-excused
+returns-in-Decode-clause-excused g c = record {
+  failures = record { unwritten = λ e. inr (c.decode.ensures.failed e); write = λ e. inl (c.decode.ensures.write e); quiet = λ never e. (c.decode.ensures.quiet never, c.decode.ensures.quiet_err e); handed_over = λ never e. (inl (c.decode.ensures.handed_over never), inl (c.decode.ensures.handed_over_err e)) };
+  read = c.decode.ensures.read;
+}

@@ -1,27 +1,21 @@
-use Rattle.std.proofs.Common.{◌≡◌, ℕ, ◌+◌, ap, sym, ◌∙◌, inl, inr, ⊎_elim, Result, IsErrOf}
-use Rattle.h264_base.specs.declared.stop.Stop.{Stop}
-use Rattle.h264_base.specs.declared.stop.Stop.TheVariants.{Write}
-use Rattle.h264_judge.specs.declared.state.Summary.{Summary}
+use Rattle.std.proofs.Common.{◌≡◌, ℕ, ◌+◌, ap, ◌∙◌, inl, inr, ⊎_elim}
 use Rattle.h264v.specs.Files.{HasFailedToRead}
 use Rattle.h264_report.proofs.Accounts.{of-kept}
-use Rattle.h264v.specs.Commands.{IsUnread, Performs, Unopened, Done}
+use Rattle.h264_report.specs.Written.{status_of}
+use Rattle.h264v.specs.Commands.{Performs, Unopened, Done}
 use Rattle.h264v.proofs.command.serve.Goals as goal
 
 -- a read that failed behind the opening
 read-since : {f f' f'' : ℕ} {was was' : ℕ → Type 0} (was'' : ℕ → Type 0) → f' ≡ f → ((n : ℕ) → was n → was' n) → HasFailedToRead f' f'' was' was'' → HasFailedToRead f f'' was was''
 read-since was'' kept reads h = ⊎_elim (λ e. inl (e ∙ ap (λ n. n + 1) kept)) (λ m. inr (λ n r. m n (reads n r))) h
 
-unread : {A : Type 0} {answer : Result Summary Stop} → IsUnread answer → IsErrOf answer Write → A
-unread u w = absurd (⊎_elim (λ e. let d = sym e ∙ w in cc) (λ e. let d = sym e ∙ w in cc) u)
-
 pub returns-in-Err : goal.returns-in-Err
-returns-in-Err g c words asks = Unopened c.args.request.task c.args.request.file.now c.no_file.result.answer c.no_file.result.written asks c.status-in-Err.ensures c.no_file.ensures.answer (inl c.in-Err.ensures.failed)
-    (record { unwritten = c.no_file.ensures.unwritten; write = unread c.no_file.ensures.answer; read = λ e. inl c.in-Err.ensures.failed }) c.no_file.ensures.says
+returns-in-Err g c words asks = Unopened c.args.request.task c.args.request.file.now c.no_file.result.written asks (c.status-in-Err.ensures ∙ ap (λ answer. status_of c.no_file.result.written answer) c.no_file.ensures.answer) (inl c.in-Err.ensures.failed) c.no_file.ensures.failures c.no_file.ensures.says
 
 pub returns-in-Ok : goal.returns-in-Ok
 returns-in-Ok g c words asks =
     Done c.args.request.task c.args.request.file.now c.perform.result.answer c.perform.result.written asks c.status.ensures
-    (record { unwritten = c.perform.ensures.excused.unwritten; write = c.perform.ensures.excused.write; read = λ e. read-since (g.F.Source.was_read c.perform.new.source) c.in-Ok.ensures.kept c.in-Ok.ensures.reads (c.perform.ensures.excused.read e) })
+    (record { failures = c.perform.ensures.excused.failures; read = λ e. read-since (g.F.Source.was_read c.perform.new.source) c.in-Ok.ensures.kept c.in-Ok.ensures.reads (c.perform.ensures.excused.read e) })
     (of-kept (g.F.Files.holds c.args.files.now c.args.request.file.now) _
     (λ bytes. Performs c.args.request.task bytes c.perform.result.answer c.perform.result.written (g.W.Write.contents c.args.out.now) (g.W.Write.contents c.perform.new.out) (g.E.Write.contents c.args.err.now) (g.E.Write.contents c.perform.new.err))
     c.in-Ok.ensures.opened c.perform.ensures.performs)

@@ -1,0 +1,125 @@
+//! The program, over any words, files and streams.
+#![tactic(auto)]
+
+ghost use Rattle.std.specs.Prelude.{◌≡◌, ℕ, ◌-◌, ◌<◌, ◌≤◌, ◌⊎◌, ◌^◌, List, Some, map, string_bytes};
+ghost use Rattle.clap.specs.Words.{Text};
+ghost use Rattle.h264v.specs.Commands.{output_by};
+ghost use Rattle.h264v.specs.Files.{HasFailedToRead};
+ghost use Rattle.h264v.specs.More.{IsStatus, Ends, Runs};
+
+use crate::command::{command, not_text};
+use crate::files::{OpenedFiles, Opener};
+use crate::more::{Maker, blame, blame_output, more};
+use crate::outcome::Outcome;
+use crate::words::Words;
+use h264_report::survey::{Meter, NoMeter};
+use h264_report::{Device, WriteDevice, put_memory};
+use h264_words::Wanted;
+use std::alloc::Global;
+use std::io::Write;
+
+/// Does what the words ask beside a judgement of one FILE, and tells the meter how far it has come, where that is asked: the exit status.
+fn run_more<O, W, E, M>(
+    alloc: Global,
+    wanted: &Wanted<'_>,
+    opener: O,
+    out: &mut W,
+    err: &mut E,
+    meter: M,
+) -> u8
+where
+    O: Opener + Maker + Drop,
+    W: Device,
+    E: Write,
+    M: Meter + Drop + Copy,
+    ensures { IsStatus result }
+{
+    if wanted.has("progress") {
+        return more(alloc, wanted, opener, out, err, meter);
+    }
+    more(alloc, wanted, opener, out, err, NoMeter)
+}
+
+/// Does what these words ask, the program's name first among them: the exit status.
+fn answer_words<O, W, E, M>(
+    alloc: Global,
+    words: &[String],
+    files: &mut OpenedFiles<O>,
+    out: &mut WriteDevice<W>,
+    err: &mut WriteDevice<E>,
+    meter: M,
+) -> u8
+where
+    O: Opener + Maker + Drop + Copy,
+    W: Write + Drop,
+    E: Write + Drop,
+    M: Meter + Drop + Copy,
+    requires { files.old.failures < 2 ^ 64 - 1 }
+    ensures { Ends (map (λ w. string_bytes w) words.now) (λ name. O.holds files.old.opener name) (HasFailedToRead files.old.failures files.new.failures (λ n. (n ≤ files.old.reads) ⊎ (0 < files.old.failures)) (λ n. (n ≤ files.new.reads) ⊎ (0 < files.new.failures))) result
+        (output_by W.contents out.old) (output_by W.contents out.new) (output_by E.contents err.old) }
+{
+    let opener = files.opener;
+    match command(alloc, words, files, out, err) {
+        Outcome::Done(status) => status,
+        Outcome::More(wanted) => run_more(alloc, &wanted, opener, out, err, meter),
+    }
+}
+
+/// Says why the file that the words name last could not be read, where it could not.
+fn blame_last<O: Opener + Drop>(files: &OpenedFiles<O>, words: &[String], err: &mut impl Write) {
+    if let (Some(cause), Some(word)) = (&files.cause, words.last()) {
+        blame(err, word.as_str(), cause);
+    }
+}
+
+/// Does what these words ask, the program's name first among them: the exit status. Then standard error is told why a file or standard output failed, where one did.
+pub fn run_words<O, W, E, M>(
+    alloc: Global,
+    words: &[String],
+    files: &mut OpenedFiles<O>,
+    out: &mut WriteDevice<W>,
+    err: &mut WriteDevice<E>,
+    meter: M,
+) -> u8
+where
+    O: Opener + Maker + Drop + Copy,
+    W: Write + Drop,
+    E: Write + Drop,
+    M: Meter + Drop + Copy,
+    requires { files.old.failures < 2 ^ 64 - 1 }
+    ensures { Ends (map (λ w. string_bytes w) words.now) (λ name. O.holds files.old.opener name) (HasFailedToRead files.old.failures files.new.failures (λ n. (n ≤ files.old.reads) ⊎ (0 < files.old.failures)) (λ n. (n ≤ files.new.reads) ⊎ (0 < files.new.failures))) result
+        (output_by W.contents out.old) (output_by W.contents out.new) (output_by E.contents err.old) }
+{
+    let status = answer_words(alloc, words, files, out, err, meter);
+    blame_last(files, words, err);
+    blame_output(out, err, "standard output");
+    status
+}
+
+/// The program: does what the words ask, and gives the exit status. 64 where a word is no text; 3 where memory is wanting for the words.
+pub fn program<A, O, W, E, M>(
+    alloc: Global,
+    words: &A,
+    files: &mut OpenedFiles<O>,
+    out: &mut WriteDevice<W>,
+    err: &mut WriteDevice<E>,
+    meter: M,
+) -> u8
+where
+    A: Words,
+    O: Opener + Maker + Drop + Copy,
+    W: Write + Drop,
+    E: Write + Drop,
+    M: Meter + Drop + Copy,
+    requires { files.old.failures < 2 ^ 64 - 1 }
+    ensures known { (words' : List Text) → A.known words.now ≡ Some words' → Runs words' (λ name. O.holds files.old.opener name) (HasFailedToRead files.old.failures files.new.failures (λ n. (n ≤ files.old.reads) ⊎ (0 < files.old.failures)) (λ n. (n ≤ files.new.reads) ⊎ (0 < files.new.failures))) result
+        (output_by W.contents out.old) (output_by W.contents out.new) (output_by E.contents err.old) }
+    ensures some { (words' : List Text) × Runs words' (λ name. O.holds files.old.opener name) (HasFailedToRead files.old.failures files.new.failures (λ n. (n ≤ files.old.reads) ⊎ (0 < files.old.failures)) (λ n. (n ≤ files.new.reads) ⊎ (0 < files.new.failures))) result
+        (output_by W.contents out.old) (output_by W.contents out.new) (output_by E.contents err.old) }
+{
+    match words.words(alloc) {
+        Ok(Some(given)) => run_words(alloc, given.as_slice(), files, out, err, meter),
+        Ok(None) => not_text(err),
+        Err(_) => put_memory(out).status(),
+    }
+}
