@@ -9,6 +9,6 @@ alone e status is =
     let same : max 0 (status_of e.written e.answer) ≡ status_of e.written e.answer = omega arith in
     Judged (e ∷ []) (omega arith) (is ∙ sym same)
 
-pub several : (files status : ℕ) → 0 < files → ((endings : List Ending) × (length endings ≡ files) × (status ≡ worst endings)) ⊎ (status ≡ 4) → IsStatus status
-several files status some (inl t) = Judged t.0 (let e = t.1 in omega (arith, e, some)) t.2
-several files status some (inr e) = Unwritten e
+pub several : (files status : ℕ) → ((endings : List Ending) × (length endings ≡ files) × (status ≡ worst endings)) ⊎ (status ≡ 4) → 0 < files → IsStatus status
+several files status (inl t) some = Judged t.0 (let e = t.1 in omega (arith, e, some)) t.2
+several files status (inr e) some = Unwritten e

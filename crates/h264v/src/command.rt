@@ -24,7 +24,8 @@ use h264_words::{Request, Task, asked};
 use std::alloc::Global;
 
 /// What is said where a word is no text.
-const NOT_TEXT: &str = "h264v: a word is not UTF-8; a file with such a name is judged from standard input: h264v check - <FILE\n";
+const NOT_TEXT: &str =
+    "h264v: a word is not UTF-8; a file with such a name is judged from standard input: h264v check - <FILE\n";
 
 /// What is said where the words name no task.
 const NO_TASK: &str = "h264v: no command is given; h264v --help lists them\n";

@@ -37,7 +37,7 @@ pub trait Maker {
 }
 
 /// How many files had which answer.
-#[derive(Clone, Copy, Default)]
+#[derive(Clone, Copy)]
 struct Totals {
     files: u64,
     yes: u64,
@@ -50,6 +50,21 @@ struct Totals {
 }
 
 impl Totals {
+    /// The totals of no files.
+    fn none() -> Totals
+        ensures { result.worst ≡ 0 }
+    {
+        Totals {
+            files: 0,
+            yes: 0,
+            no: 0,
+            outside: 0,
+            memory: 0,
+            failed: 0,
+            worst: 0,
+        }
+    }
+
     /// Counts a file by its exit status.
     fn add(&mut self, status: u8)
         ensures { self.new.worst ≡ max self.old.worst status }
@@ -277,7 +292,7 @@ fn do_files<O: Opener + Drop, W: Device, E: Write, M: Meter + Drop + Copy>(
     ensures { ((endings : List EndingView) × (length endings ≡ length names.now) × (result ≡ worst endings)) ⊎ (result ≡ 4) }
 {
     let mut files = OpenedFiles::new(opener);
-    let mut totals = Totals::default();
+    let mut totals = Totals::none();
     for name in names.iter() {
         let one = Job { file: name, ..*job };
         files.failures = 0;

@@ -61,7 +61,8 @@ const GAP: &str = "000000016742c00ada710000000168ce388000000165888493c0000001619
 const TWO: &str = "000000016742c00ada710000000168ce388000000165888493c0000001619a22a0";
 
 /// The first picture, and after it one of two macroblocks beside one another, with a sequence parameter set of its own.
-const SIZES: &str = "000000016742c00ada710000000168ce388000000165888493c0000000016742c00ada2c400000000168ce38800000000165888224e4f0";
+const SIZES: &str =
+    "000000016742c00ada710000000168ce388000000165888493c0000000016742c00ada2c400000000168ce38800000000165888224e4f0";
 
 /// Verdicts with what explains them, in lines and in JSON.
 const VERDICTS: [Asking; 8] = [

@@ -651,7 +651,8 @@ fn word_that_is_no_text(rt: &(impl Abort + AllocGlobal)) -> Result<(), Fail> {
     assert!(rt; refused.is_none());
     let mut err: WriteDevice<Vec<u8>> = WriteDevice::new(Vec::new(alloc));
     assert_eq!(rt; not_text(&mut err), 64);
-    let text = b"h264v: a word is not UTF-8; a file with such a name is judged from standard input: h264v check - <FILE\n";
+    let text =
+        b"h264v: a word is not UTF-8; a file with such a name is judged from standard input: h264v check - <FILE\n";
     assert_eq!(rt; err.writer.as_slice(), text.as_slice());
     Ok(())
 }

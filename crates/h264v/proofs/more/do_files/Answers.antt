@@ -3,7 +3,7 @@ use Rattle.h264v.specs.More.{worst}
 use Rattle.h264v.proofs.more.do_files.Goals as goal
 
 pub loop-name-init : goal.loop-name-init
-loop-name-init g c = ([], refl, refl)
+loop-name-init g c = ([], refl, c.none-totals.ensures)
 
 pub loop-name-preserved : goal.loop-name-preserved
 loop-name-preserved g c =
