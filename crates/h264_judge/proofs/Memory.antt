@@ -1,5 +1,5 @@
 -- Where want of memory comes from.
-use Rattle.std.proofs.Common.{◌≡◌, ◌≢◌, ℕ, ◌==◌, ◌&&◌, ◌||◌, Bool, true, false, Option, Some, None, List, [], ◌∷◌, Result, Ok, Err, refl, ap, sym, ◌∙◌, subst, if◌then◌else◌, eqb-true}
+use Rattle.std.proofs.Common.{◌≡◌, ℕ, ◌==◌, ◌&&◌, ◌||◌, Bool, true, false, Option, Some, None, List, [], ◌∷◌, Result, Ok, Err, refl, ap, sym, ◌∙◌, subst, if◌then◌else◌, eqb-true}
 use Rattle.std.specs.Prelude.{IsErrOf}
 use Rattle.h264_base.specs.declared.mode.Mode.{Mode}
 use Rattle.h264_base.specs.declared.mode.Mode.TheVariants as modes
@@ -19,10 +19,10 @@ use Rattle.h264_header.specs.Layout.{sets_of}
 use Rattle.h264_header.specs.Header.{header as header_syntax}
 use Rattle.h264_sets.specs.Sets.{Maps}
 use Rattle.h264_slices.specs.Content as contents
-use Rattle.h264_slices.specs.Outcome.{Outcome, IsNamed, gives}
+use Rattle.h264_slices.specs.Outcome.{IsNamed, gives}
 use Rattle.h264_slices.specs.UnitHeader.{header_of, nal_unit_type}
 use Rattle.h264_slices.specs.History.{History, maps_of}
-use Rattle.h264_slices.specs.Pictures.{CodedPicture, ends_picture, goes_on, runs_of, begins_at}
+use Rattle.h264_slices.specs.Pictures.{CodedPicture, ends_picture, runs_of, begins_at}
 use Rattle.h264_plane.specs.declared.frame.Frame.{Frame}
 use Rattle.h264_slices.specs.declared.decoder.Decoder.{Decoder}
 use Rattle.h264_slices.specs.declared.decoder.Format.{Format}
