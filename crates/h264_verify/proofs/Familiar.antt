@@ -1,9 +1,10 @@
 -- The steps of a session one after another, with frames to which more come.
-use Rattle.std.proofs.Common.{◌≡◌, ℕ, ◌≤◌, ◌==◌, true, false, IsFalse, drop, List, [], ◌++◌, length, ◌+◌, ◌*◌, Option, Result, Ok, refl, sym, ◌∙◌, subst, arith}
+use Rattle.std.proofs.Common.{◌≡◌, ℕ, ◌≤◌, ◌==◌, true, false, IsFalse, drop, List, [], ◌++◌, length, ◌+◌, ◌*◌, ◌⊎◌, inl, inr, Option, Result, Ok, Err, refl, ap, sym, ◌∙◌, subst, arith}
 use Rattle.std.proofs.lemmas.Bool.{eqb-true}
 use Rattle.std.proofs.lemmas.List.{nil_from_length}
 use Rattle.h264_judge.specs.declared.state.Terms.{Terms}
 use Rattle.h264_base.specs.declared.stop.Stop.{Stop}
+use Rattle.h264_base.specs.declared.stop.Stop.TheVariants.{No, Outside, Memory, Read, Write}
 use Rattle.h264_base.specs.Call.{Call}
 use Rattle.h264_plane.specs.declared.frame.Frame.{Frame}
 use Rattle.h264_units.specs.Stream.{NalUnit}
@@ -13,7 +14,7 @@ use Rattle.h264_judge.specs.declared.state.Summary.{Summary}
 use Rattle.h264_slices.specs.Outcome.{Plays}
 use Rattle.h264_slices.specs.Telling.{Told, took_with, Agree, AreOf}
 use Rattle.h264_verify.specs.Judging.{Judging, judging}
-use Rattle.h264_verify.specs.Session.{Standing, Goes, Fed}
+use Rattle.h264_verify.specs.Session.{Standing, Goes, Fed, StopsBy}
 use Rattle.h264_slices.specs.History.{History}
 use Rattle.h264_judge.specs.Keeping.{Keeps, KeepsSome}
 use Rattle.h264_slices.specs.Keeping.{ended_in}
@@ -75,6 +76,22 @@ module _ {S : Type 0} {terms : Terms} {took : S → List Call → Type 0} {frame
     same = agree-both (ended_in old.state) (ended_in a.after) frames a.made b.made a.same a.grows b.same;
     stops = stops-after (judging terms) (took_with b.made took) failures old (behind mid a.after) piece left s0 s1 s2 stop (goes-agree took (ended_in a.after) a.made b.made b.same a.goes a.of) k b.stops;
   }
+
+-- where the sink failed, that is the stop
+pub stops-told : {S : Type 0} {terms : Terms} {took : S → List Call → Type 0} {failures : S → ℕ} {frames : ℕ → Frame} {old : Standing History} {piece : List ℕ} {s s' : S} {stop : Stop} → StopsOn terms took failures frames old piece s s' stop → (failures s' ≡ failures s) ⊎ (stop ≡ Write)
+stops-told {terms = terms} {took = took} {failures = failures} {old = old} {piece = piece} {s = s} {s' = s'} {stop = stop} q = by stop q.stops.stops
+  where
+    by : (e : Stop) → StopsBy (judging terms) (took_with q.made took) failures old piece s s' e → (failures s' ≡ failures s) ⊎ (e ≡ Write)
+    by (No bit rule) p = inl p.1
+    by (Outside bit feature) p = inl p.1
+    by Memory p = inl p.1
+    by Read p = absurd p
+    by Write p = inr refl
+
+-- as an answer
+pub told-err : {X : Type 0} {a b : ℕ} (stop : Stop) → (a ≡ b) ⊎ (stop ≡ Write) → (a ≡ b) ⊎ (let r : Result X Stop = Err stop in r ≡ Err Write)
+told-err stop (inl e) = inl e
+told-err stop (inr e) = inr (ap Err e)
 
 -- two pieces, one after another, are as one
 pub on-then : {S : Type 0} {terms : Terms} {took : S → List Call → Type 0} {frames : ℕ → Frame} {old : Standing History} {mid split : Splitting} {first state : State} {a b : List ℕ} {s0 s1 s2 : S} (f : GoesOn terms took frames old mid first a [] s0 s1) → GoesOn terms took f.made (behind mid f.after) split state b [] s1 s2 → GoesOn terms took frames old split state (a ++ b) [] s0 s2

@@ -1,5 +1,5 @@
 -- The end of the input.
-use Rattle.std.proofs.Common.{◌≡◌, ℕ, ◌+◌, ◌*◌, ◌↔◌, Bool, true, false, IsFalse, List, [], length, Some, Result, Ok, Err, refl, ap, sym, ◌∙◌, subst}
+use Rattle.std.proofs.Common.{◌≡◌, ℕ, ◌+◌, ◌*◌, ◌⊎◌, inl, inr, ◌↔◌, Bool, true, false, IsFalse, List, [], length, Some, Result, Ok, Err, refl, ap, sym, ◌∙◌, subst}
 use Rattle.std.proofs.lemmas.List.{append-nil}
 use Rattle.h264_base.specs.declared.stop.Stop.{Stop}
 use Rattle.h264_base.specs.declared.stop.Stop.TheVariants.{No, Outside, Memory, Read, Write}
@@ -7,7 +7,7 @@ use Rattle.h264_slices.specs.Telling.{Told}
 use Rattle.h264_units.specs.Stream.{NalUnit, Next, past, Tail, Zeros, Stray, Bare, Long, Cut, HasTail, tail_stop}
 use Rattle.h264_units.specs.Splitting.{Splitting, Taken, Finished, FinishStops}
 use Rattle.h264_units.proofs.Streams.{same-units}
-use Rattle.h264_slices.specs.Outcome.{Outcome, ◌>>=◌, answers, Plays, IsNamed}
+use Rattle.h264_slices.specs.Outcome.{Outcome, ◌>>=◌, answers, Plays, PlaysBy, IsNamed}
 use Rattle.h264_verify.specs.Judging.{Judging, tail_outcome, units_outcome, Comes}
 use Rattle.h264_verify.specs.Session.{Standing, ToCome, Finishes}
 use Rattle.h264_verify.proofs.Feeding.{tail-answer, tail-stops, first-judged}
@@ -35,6 +35,28 @@ tail-named (Bare p) Write e = cc
 tail-named (Long p) Write e = cc
 tail-named Cut Write e = cc
 
+err-same : {X Y : Type 0} (stop other : Stop) → (let r : Result X Stop = Err stop in r ≡ Err other) → (let r : Result Y Stop = Err stop in r ≡ Err other)
+err-same stop other e = let f : stop ≡ other = cc in ap Err f
+
+-- no write failed, or that is told
+told-by : {X A S : Type 0} (took : S → List Told → Type 0) (failures : S → ℕ) (view : X → A) (o : Outcome A) (s s' : S) (r : Result X Stop) → PlaysBy took failures view o s s' r → (failures s' ≡ failures s) ⊎ (r ≡ Err Write)
+told-by took failures view o s s' (Ok x) p = inl p.2
+told-by took failures view o s s' (Err (No bit rule)) p = inl p.2
+told-by took failures view o s s' (Err (Outside bit feature)) p = inl p.2
+told-by took failures view o s s' (Err Memory) p = inl p.1
+told-by took failures view o s s' (Err Read) p = absurd p
+told-by took failures view o s s' (Err Write) p = inr refl
+
+-- behind calls at which none failed
+pub told-behind : {W : Type 0} {a b c : ℕ} → b ≡ a → (c ≡ b) ⊎ W → (c ≡ a) ⊎ W
+told-behind e (inl f) = inl (f ∙ e)
+told-behind e (inr w) = inr w
+
+-- the same stop of a call that gives another value
+pub told-as : {X Y : Type 0} {a b : ℕ} {told : Stop} (stop : Stop) → (a ≡ b) ⊎ (let r : Result X Stop = Err stop in r ≡ Err told) → (a ≡ b) ⊎ (let r : Result Y Stop = Err stop in r ≡ Err told)
+told-as stop (inl e) = inl e
+told-as {X} {Y} {told = told} stop (inr e) = inr (err-same {X = X} {Y = Y} stop told e)
+
 pub finish-stops : {State Summary : Type 0} (j : Judging State Summary) {S : Type 0} (took : S → List Told → Type 0) (failures : S → ℕ) (old new : Splitting) (state : State) (s : S) (stop : Stop) → FinishStops old new stop → Finishes j took failures (record { split = old; state = state }) s s (Err stop)
 finish-stops {Summary} j took failures old new state s stop f =
     let p : Plays {X = Summary} took failures (λ (x : Summary). x) (answers (Err stop)) s s (Err stop) = answers-plays took failures stop s (tail-named f.tail stop f.stop_is) in
@@ -44,6 +66,7 @@ finish-stops {Summary} j took failures old new state s stop f =
           subst (λ r. Plays {X = Summary} took failures (λ (x : Summary). x) r s s (Err stop)) (sym e) p;
       no_read = plays-not-read took failures (λ (x : Summary). x) _ s s (Err stop) p;
       write = plays-write took failures (λ (x : Summary). x) _ s s (Err stop) p;
+      write_told = inl refl;
     }
 
 pub finish-end : {State Summary : Type 0} (j : Judging State Summary) {S : Type 0} (took : S → List Told → Type 0) (failures : S → ℕ) (old mid new : Splitting) (state : State) (s s' : S) (end : ℕ) (r : Result Summary Stop) → Finished old mid → IsFalse mid.waiting → new ≡ mid → end ≡ new.at + length new.rest → Plays took failures (λ (x : Summary). x) (j.end state (8 * end)) s s' r → Finishes j took failures (record { split = old; state = state }) s s' r
@@ -54,6 +77,7 @@ finish-end {Summary} j took failures old mid new state s s' end r f w m n p = re
       subst (λ r'. Plays took failures (λ (x : Summary). x) r' s s' r) (ap (λ z. j.end state (8 * z)) k ∙ sym e) p;
   no_read = plays-not-read took failures (λ (x : Summary). x) _ s s' r p;
   write = plays-write took failures (λ (x : Summary). x) _ s s' r p;
+  write_told = told-by took failures (λ (x : Summary). x) _ s s' r p.plays;
 }
 
 last-judged : {State Summary : Type 0} (j : Judging State Summary) (old mid new : Splitting) (state : State) (unit : NalUnit) (o : Outcome Summary) → Finished old mid → Taken mid new unit → ToCome j (record { split = old; state = state }) [] o → o ≡ (j.unit state unit >>= λ s. j.end s (8 * (new.at + length new.rest)))
@@ -66,15 +90,13 @@ last-judged j old mid new state unit o f t c =
     ∙ ap (λ tail. j.unit state unit >>= λ s. tail_outcome j s tail (past unit + length new.rest)) same.tail_is
     ∙ ap (λ a. j.unit state unit >>= λ s. j.end s (8 * (a + length new.rest))) (sym t.at_is)
 
-err-same : {X Y : Type 0} (stop other : Stop) → (let r : Result X Stop = Err stop in r ≡ Err other) → (let r : Result Y Stop = Err stop in r ≡ Err other)
-err-same stop other e = let f : stop ≡ other = cc in ap Err f
-
 pub finish-unit-stops : {State Summary : Type 0} (j : Judging State Summary) {S X : Type 0} (took : S → List Told → Type 0) (failures : S → ℕ) (view : X → State) (old mid new : Splitting) (state : State) (unit : NalUnit) (s s' : S) (stop : Stop) → Finished old mid → Taken mid new unit → Plays {X = X} took failures view (j.unit state unit) s s' (Err stop) → Finishes j took failures (record { split = old; state = state }) s s' (Err stop)
 finish-unit-stops {Summary} j {X} took failures view old mid new state unit s s' stop f t p = record {
   finishes = λ o c.
       subst (λ r. Plays {X = Summary} took failures (λ (x : Summary). x) r s s' (Err stop)) (sym (last-judged j old mid new state unit o f t c)) (plays-stops took failures view (λ (x : Summary). x) (j.unit state unit) _ s s' stop p);
   no_read = λ e. plays-not-read {X = X} took failures view _ s s' (Err stop) p (err-same {X = Summary} {Y = X} stop Read e);
   write = λ e. plays-write {X = X} took failures view _ s s' (Err stop) p (err-same {X = Summary} {Y = X} stop Write e);
+  write_told = told-as {X = X} {Y = Summary} stop (told-by {X = X} took failures view _ s s' (Err stop) p.plays);
 }
 
 pub finish-unit : {State Summary : Type 0} (j : Judging State Summary) {S X : Type 0} (took : S → List Told → Type 0) (failures : S → ℕ) (view : X → State) (old mid new : Splitting) (state : State) (unit : NalUnit) (s s' s'' : S) (end : ℕ) (x : X) (r : Result Summary Stop) → Finished old mid → Taken mid new unit → Plays took failures view (j.unit state unit) s s' (Ok x) → end ≡ new.at + length new.rest → Plays took failures (λ (x : Summary). x) (j.end (view x) (8 * end)) s' s'' r → Finishes j took failures (record { split = old; state = state }) s s'' r
@@ -84,6 +106,7 @@ finish-unit {Summary} j took failures view old mid new state unit s s' s'' end x
       (plays-on took failures view (λ (x : Summary). x) (j.unit state unit) (λ s. j.end s (8 * (new.at + length new.rest))) s s' s'' x r p (subst (λ z. Plays took failures (λ (x : Summary). x) (j.end (view x) (8 * z)) s' s'' r) n q));
   no_read = plays-not-read took failures (λ (x : Summary). x) _ s' s'' r q;
   write = λ e. plays-write took failures (λ (x : Summary). x) _ s' s'' r q e ∙ ap (λ n. n + 1) p.plays.2;
+  write_told = told-behind p.plays.2 (told-by took failures (λ (x : Summary). x) _ s' s'' r q.plays);
 }
 
 pub not-waiting : (b : Bool) → ((false ≡ true) ↔ (b ≡ true)) → b ≡ false

@@ -37,6 +37,7 @@ use Rattle.h264_verify.proofs.Familiar.{told-agree, goes-agree, fed-agree, on-th
 use Rattle.h264_verify.proofs.Sources.{one-outcome, some-outcome, goes-more, goes-then, stops-plays, fed-same, fed-on, fed-stops, fed-read, fed-ends, judges-memory, piece-more, pieces-stop, pieces-finish, goes-all}
 use Rattle.h264_slices.proofs.Stepping.{outcome, met-is, stop-is, either, bound, bind-stop, runs-outcome, SomeRun, some-run}
 use Rattle.h264_slices.proofs.Stepping as stepping
+use Rattle.h264_verify.proofs.Bounds.{are-decodable}
 use Rattle.h264_verify.proofs.Ways.{way-none, shows-as, shows-both, shows-more}
 
 -- A legal unit comes to its calls, and joins those before it.
@@ -48,7 +49,7 @@ legal-unit terms before r calls l =
     ∙ ap (λ c. outcome c (Ok (r ∷ before))) (append-nil calls)
 
 -- A unit at which the verdict falls comes to the calls up to there.
-stop-unit : (terms : Terms) (before : History) (unit : NalUnit) (stop : Stop) (calls : List Told) → IsStop terms before unit stop calls → unit_outcome terms before unit ≡ outcome calls (Err stop)
+pub stop-unit : (terms : Terms) (before : History) (unit : NalUnit) (stop : Stop) (calls : List Told) → IsStop terms before unit stop calls → unit_outcome terms before unit ≡ outcome calls (Err stop)
 unfolding unit_outcome
 stop-unit terms before unit stop calls (AtBytes place fault e n) =
     bind-stop (answers (emulation_checked unit.from unit.body)) _ [] (No (8 * (unit.from + place)) Emulation) (ap (λ (x : Result (Unit {0}) Stop). answers x) (sym (some-checked unit.from unit.body place fault)))
@@ -57,10 +58,10 @@ stop-unit terms before unit stop calls (InCourse sound runs) =
     bound (answers (emulation_checked unit.from unit.body)) _ [] tt _ (ap (λ (x : Result (Unit {0}) Stop). answers x) (sym (none-checked unit.from unit.body sound)))
     (bind-stop (course_outcome (body_of unit) (unit_course terms before unit)) _ calls stop (runs-outcome (body_of unit) (unit_course terms before unit) calls (Err stop) runs))
 
-stopped-not : (a b : List Told) (stop : Stop) (h : History) → outcome a (Err stop) ≡ outcome b (Ok h) → ⊥
+pub stopped-not : (a b : List Told) (stop : Stop) (h : History) → outcome a (Err stop) ≡ outcome b (Ok h) → ⊥
 stopped-not a b stop h e = let f : Err stop ≡ Ok h = ap (λ (o : Outcome History). o.answer) e in cc
 
-ok-same : (a b : History) → (let r : Result History Stop = Ok a in r ≡ Ok b) → a ≡ b
+pub ok-same : (a b : History) → (let r : Result History Stop = Ok a in r ≡ Ok b) → a ≡ b
 ok-same a b e = cc
 
 -- a unit is legal, or the verdict falls at it
@@ -202,7 +203,7 @@ of-split : (terms : Terms) (bytes : List ℕ) (units : List NalUnit) (tail : Tai
 of-split terms bytes units tail s (AllLegal reads first last e t l h) = record {
   calls = first ++ last;
   answer = Ok (summary_of terms.mode reads);
-  verdict = record { units = reads; stream = subst (λ us. Splits 0 bytes us Zeros) e (subst (Splits 0 bytes units) t s); first = first; last = last; legal = l; end = h; calls_are = refl; summary_is = refl };
+  verdict = record { units = reads; stream = subst (λ us. Splits 0 bytes us Zeros) e (subst (Splits 0 bytes units) t s); first = first; last = last; legal = l; end = h; calls_are = refl; summary_is = refl; pictures = are-decodable terms.mode terms.target reads first last (8 * length bytes) l h };
 }
 of-split terms bytes units tail s (Falls before rest first last stop e l f) = record {
   calls = first ++ last;
@@ -297,6 +298,10 @@ stops-as {took} {failures} {frames} {old} {piece} {s} {s'} {stop} e f = subst (�
 pub finishes-as : {S : Type 0} {took : S → List Call → Type 0} {failures : S → ℕ} {frames : ℕ → Frame} {old : Standing History} {s s' : S} {r : Result Summary Stop} {t t' : Terms} → t ≡ t' → FinishesOn t took failures frames old s s' r → FinishesOn t' took failures frames old s s' r
 finishes-as {took} {failures} {frames} {old} {s} {s'} {r} e f = subst (λ t. FinishesOn t took failures frames old s s' r) e f
 
+pub in-order : (h : History) (us : List NalUnit) → in_order h us ≡ in_order h [] ++ us
+in-order [] us = refl
+in-order (r ∷ h) us = in-order h (r.unit ∷ us) ∙ sym (append_assoc (in_order h []) (r.unit ∷ []) us) ∙ ap (λ l. l ++ us) (sym (in-order h (r.unit ∷ [])))
+
 -- a piece more
 fed-piece : {S : Type 0} (terms : Terms) (took : S → List Call → Type 0) (failures : S → ℕ) (old new : Progress) (bytes piece : List ℕ) (frames : ℕ → Frame) (told : List Told) (s s' : S) (w : WasFed terms old bytes frames told) → new.terms ≡ old.terms → new.stop ≡ None → IsUndecided new.split.rest → GoesOn terms took frames (behind old.split w.before) new.split new.state piece [] s s' → failures s' ≡ failures s → IsFed terms took failures new (bytes ++ piece) frames told s s'
 fed-piece terms took failures old new bytes piece frames told s s' w m runs u on k =
@@ -324,10 +329,6 @@ fed-piece terms took failures old new bytes piece frames told s s' w m runs u on
       kept = k;
     }
   where
-    in-order : (h : History) (us : List NalUnit) → in_order h us ≡ in_order h [] ++ us
-    in-order [] us = refl
-    in-order (r ∷ h) us = in-order h (r.unit ∷ us) ∙ sym (append_assoc (in_order h []) (r.unit ∷ []) us) ∙ ap (λ l. l ++ us) (sym (in-order h (r.unit ∷ [])))
-
     shown-on : (units : List NalUnit) → Shows 0 bytes (in_order w.before []) old.split.at old.split.rest → Shows old.split.at (old.split.rest ++ piece) units new.split.at (new.split.rest ++ []) → Shows 0 (bytes ++ piece) (in_order w.before units) new.split.at new.split.rest
     shown-on units a b =
         subst (λ us. Shows 0 (bytes ++ piece) us new.split.at new.split.rest) (sym (in-order w.before units))

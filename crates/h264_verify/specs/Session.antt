@@ -1,5 +1,5 @@
 -- A stream judged in pieces: what comes of a session, however its input goes on. A working form.
-use Rattle.std.specs.Prelude.{◌≡◌, ℕ, ◌+◌, List, [], ◌∷◌, ◌++◌, Option, Some, Result, Ok, Err}
+use Rattle.std.specs.Prelude.{◌≡◌, ℕ, ◌+◌, ◌⊎◌, List, [], ◌∷◌, ◌++◌, Option, Some, Result, Ok, Err}
 use Rattle.h264_base.specs.declared.stop.Stop.{Stop}
 use Rattle.h264_base.specs.declared.stop.Stop.TheVariants.{No, Outside, Memory, Read, Write}
 use Rattle.h264_slices.specs.Telling.{Told, Tells, TellsFront}
@@ -68,6 +68,7 @@ pub record Finishes {State Summary S : Type 0} (j : Judging State Summary) (took
   pub finishes : (o : Outcome Summary) → ToCome j old [] o → Plays took failures (λ (x : Summary). x) o s s' result
   pub no_read : result ≡ Err Read → ⊥
   pub write : result ≡ Err Write → failures s' ≡ failures s + 1
+  pub write_told : (failures s' ≡ failures s) ⊎ (result ≡ Err Write)
 
 -- the calls of these bytes' outcome up to here, of which the source may still have the last
 pub record Fed {State Summary S : Type 0} (j : Judging State Summary) (took : S → List Told → Type 0) (known : Option (List ℕ)) (bytes : List ℕ) (old new : Standing State) (s s' : S) : Type 0 where

@@ -16,7 +16,9 @@ use Rattle.h264_rbsp.specs.Rbsp.{body_of}
 use Rattle.h264_judge.specs.declared.state.Summary.{Summary}
 use Rattle.h264_slices.specs.Steps.{AreMet, IsFirstStop, Runs}
 use Rattle.h264_slices.specs.History.{History, ReadUnit}
+use Rattle.h264_slices.specs.Pictures.{runs_of}
 use Rattle.h264_judge.specs.Units.{unit_course, end_steps, summary_of}
+use Rattle.h264_verify.specs.Decodable.{AreDecodable}
 
 -- The bytes of a unit break no rule of emulation prevention (7.4.1).
 abbrev pub IsSound : NalUnit → Type 0
@@ -45,7 +47,7 @@ in_order [] units = units
 in_order (r ∷ before) units = in_order before (r.unit ∷ units)
 
 -- The bytes are a byte stream, all its units are legal, and so is its end: there is a derivation that meets every rule, and no
--- feature that is not judged.
+-- feature that is not judged. So every prediction refers to a held picture, and the buffer stays within its level's frames.
 pub record Holds (terms : Terms) (bytes : List ℕ) (calls : List Told) (summary : Summary) : Type 0 where
   pub units : History
   pub stream : Splits 0 bytes (in_order units []) Zeros
@@ -55,6 +57,7 @@ pub record Holds (terms : Terms) (bytes : List ℕ) (calls : List Told) (summary
   pub end : AreMet (end_steps terms.mode units (8 * length bytes)) last
   pub calls_are : calls ≡ first ++ last
   pub summary_is : summary ≡ summary_of terms.mode units
+  pub pictures : AreDecodable terms.mode (runs_of units)
 
 -- Behind the legal units the verdict falls at the next, or at what follows the last, or at the end of the input.
 pub data IsStopBehind (terms : Terms) (before : History) (units : List NalUnit) (tail : Tail) (end : ℕ) (stop : Stop) (calls : List Told) : Type 0 where

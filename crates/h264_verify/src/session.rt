@@ -1,7 +1,7 @@
 //! A session over a stream.
 #![tactic(auto)]
 
-ghost use Rattle.std.specs.Prelude.{◌≡◌, ℕ, ◌+◌, ◌-◌, ◌*◌, ◌<◌, ◌≤◌, ◌^◌, List, [], ◌∷◌, ◌++◌, length, OnOk, OnErr, IfOk, IfErr, Ok, Err, None, drop, false, IsFalse, IfSome, Some, IsErrOf};
+ghost use Rattle.std.specs.Prelude.{◌≡◌, ℕ, ◌+◌, ◌-◌, ◌*◌, ◌<◌, ◌≤◌, ◌^◌, ◌⊎◌, List, [], ◌∷◌, ◌++◌, length, OnOk, OnErr, IfOk, IfErr, Ok, Err, None, drop, false, IsFalse, IfSome, Some, IsErrOf};
 ghost use Rattle.h264_units.specs.Stream.{IsUndecided};
 ghost use Rattle.h264_verify.specs.Progress.{IsFresh};
 ghost use Rattle.h264_plane.specs.declared.frame.Frame.{Frame};
@@ -83,6 +83,7 @@ fn feed_all<S: FrameSink>(
     ensures undecided { OnOk result (IsUndecided splitter.old.rest → IsUndecided splitter.new.rest) }
     ensures kept { OnOk result (S.failures sink.new ≡ S.failures sink.old) }
     ensures stops { (frames : ℕ → Frame) (before : History) → Keeps terms.mode frames before state.old → IfErr result (StopsOn terms S.took S.failures frames (behind splitter.old before) piece.now sink.old sink.new) }
+    ensures no_bytes { piece.now ≡ [] → (result ≡ Ok tt) × (splitter.new ≡ splitter.old) × (state.new ≡ state.old) × (sink.new ≡ sink.old) }
 {
     let mut rest = piece;
     while !rest.is_empty() {
@@ -171,7 +172,9 @@ impl Session {
         ensures stopped { IfErr result (λ stop. self.new.stop ≡ Some stop) }
         ensures terms { self.new.terms ≡ self.old.terms }
         ensures write { IsErrOf result Stop.Write → S.failures sink.new ≡ S.failures sink.old + 1 }
+        ensures write_told { (S.failures sink.new ≡ S.failures sink.old) ⊎ IsErrOf result Stop.Write }
         ensures no_read { IsErrOf result Stop.Read → ⊥ }
+        ensures no_bytes { piece.now ≡ [] → (result ≡ Ok tt) × (self.new ≡ self.old) × (sink.new ≡ sink.old) }
     {
         match feed_all(
             self.alloc,
@@ -195,6 +198,7 @@ impl Session {
         requires runs { self.stop ≡ None }
         ensures finishes { (frames : ℕ → Frame) (before : History) → Keeps self.terms.mode frames before self.state → FinishesOn self.terms S.took S.failures frames (behind self.split before) sink.old sink.new result }
         ensures write { IsErrOf result Stop.Write → S.failures sink.new ≡ S.failures sink.old + 1 }
+        ensures write_told { (S.failures sink.new ≡ S.failures sink.old) ⊎ IsErrOf result Stop.Write }
         ensures no_read { IsErrOf result Stop.Read → ⊥ }
     {
         let mut splitter = self.splitter;
@@ -218,6 +222,11 @@ impl Session {
         // However the input goes on, this is its verdict.
         ensures stops { (terms : Terms) (bytes : List ℕ) (frames : ℕ → Frame) (told : List Told) → WasFed terms self.old bytes frames told → IfErr result (λ stop. (later : List ℕ) → Judged terms S.took S.failures ((bytes ++ piece.now) ++ later) frames told sink.old sink.new (Err stop)) }
         ensures stopped { IfErr result (λ stop. self.new.stop ≡ Some stop) }
+        // No bytes change nothing.
+        ensures no_bytes { piece.now ≡ [] → self.old.stop ≡ None → (result ≡ Ok tt) × (self.new ≡ self.old) × (sink.new ≡ sink.old) }
+        // Write comes where the sink failed, and only there.
+        ensures write { self.old.stop ≡ None → IsErrOf result Stop.Write → S.failures sink.new ≡ S.failures sink.old + 1 }
+        ensures write_told { (S.failures sink.new ≡ S.failures sink.old) ⊎ IsErrOf result Stop.Write }
         ensures no_read { self.old.stop ≡ None → IsErrOf result Stop.Read → ⊥ }
         ensures terms { self.new.terms ≡ self.old.terms }
         // A stopped session repeats its stop, and touches no sink.
@@ -234,6 +243,9 @@ impl Session {
         requires { self.stop ≡ None → S.failures sink.old < 2 ^ 64 - 1 }
         // The verdict on all that it was fed.
         ensures verdict { (terms : Terms) (bytes : List ℕ) (frames : ℕ → Frame) (told : List Told) → WasFed terms self bytes frames told → Judged terms S.took S.failures bytes frames told sink.old sink.new result }
+        // Write comes where the sink failed, and only there.
+        ensures write { self.stop ≡ None → IsErrOf result Stop.Write → S.failures sink.new ≡ S.failures sink.old + 1 }
+        ensures write_told { (S.failures sink.new ≡ S.failures sink.old) ⊎ IsErrOf result Stop.Write }
         ensures no_read { self.stop ≡ None → IsErrOf result Stop.Read → ⊥ }
         ensures again { IfSome self.stop (λ stop. (result ≡ Err stop) × (sink.new ≡ sink.old)) }
     {
