@@ -24,8 +24,9 @@ use h264_recon::{Lines, Macroblock, construct};
 use h264_scale::Residuals;
 
 /// Goes on by the macroblock at this column and row: constructs it in the frame from the lines, brings these up to date, and filters its edges. Where
-/// frame and lines hold a coded picture so far, they hold it with this macroblock.
-pub(crate) fn go_on(
+/// frame and lines hold a coded picture so far, they hold it with this macroblock: after every macroblock of a slice there are samples that meet the
+/// equations of all macroblocks so far (8.3, 8.4, 8.5), and the frame holds them, filtered by the edges so far (8.7).
+pub fn go_on(
     lines: &mut Lines,
     frame: &mut Frame,
     m: &Macroblock,
