@@ -1,4 +1,5 @@
 pub mod Ways
+pub mod Lacking
 pub mod Feeding
 pub mod Finishing
 pub mod Familiar

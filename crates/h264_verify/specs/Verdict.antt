@@ -17,6 +17,7 @@ use Rattle.h264_judge.specs.declared.state.Summary.{Summary}
 use Rattle.h264_slices.specs.Steps.{AreMet, IsFirstStop, Runs}
 use Rattle.h264_slices.specs.History.{History, ReadUnit}
 use Rattle.h264_slices.specs.Pictures.{runs_of}
+use Rattle.h264_judge.specs.Memory.{ChangesFormat}
 use Rattle.h264_judge.specs.Units.{unit_course, end_steps, summary_of}
 use Rattle.h264_verify.specs.Decodable.{AreDecodable}
 
@@ -104,11 +105,38 @@ pub record Front {S : Type 0} (terms : Terms) (took : S → List Told → Type 0
   pub answer : Result Summary Stop
   pub verdict : Verdict terms bytes ((calls ++ more) ++ rest) answer
 
+-- Memory is wanting behind legal units: before anything is told of the next, for its bytes, or at the beginning for the places of
+-- parameter sets; or in the next, whose slice begins a picture of another format than that of the picture before it. So a slice of
+-- a picture that has begun wants memory for its bytes alone.
+pub data IsWanting (terms : Terms) (before : History) (units : List NalUnit) (calls : List Told) : Type 0 where
+  BeforeNext : calls ≡ [] → IsWanting terms before units calls
+  ForPicture : (unit : NalUnit) (later : List NalUnit) → units ≡ unit ∷ later → ChangesFormat terms.mode before unit →
+      IsWanting terms before units calls
+
+-- The units before are legal, and then memory is wanting.
+pub record WantsAt (terms : Terms) (bytes : List ℕ) (calls : List Told) : Type 0 where
+  pub before : History
+  pub units : List NalUnit
+  pub tail : Tail
+  pub stream : Splits 0 bytes (in_order before units) tail
+  pub first : List Told
+  pub last : List Told
+  pub legal : AreLegal terms before first
+  pub wants : IsWanting terms before units last
+  pub calls_are : calls ≡ first ++ last
+
+-- A sink that took some of a stream's calls has taken some more, and then memory was wanting.
+pub record Wanting {S : Type 0} (terms : Terms) (took : S → List Told → Type 0) (bytes : List ℕ) (calls : List Told) (s s' : S) : Type 0 where
+  pub more : List Told
+  pub tells : Tells took s s' more
+  pub wants : WantsAt terms bytes (calls ++ more)
+
 abbrev pub JudgedBy : {S : Type 0} → Terms → (S → List Told → Type 0) → (S → ℕ) → List ℕ → List Told → S → S → Result Summary Stop → Type 0
 JudgedBy terms took failures bytes calls s s' (Ok summary) = Whole terms took bytes calls s s' (Ok summary) × (failures s' ≡ failures s)
 JudgedBy terms took failures bytes calls s s' (Err (No bit rule)) = Whole terms took bytes calls s s' (Err (No bit rule)) × (failures s' ≡ failures s)
 JudgedBy terms took failures bytes calls s s' (Err (Outside bit feature)) = Whole terms took bytes calls s s' (Err (Outside bit feature)) × (failures s' ≡ failures s)
-JudgedBy terms took failures bytes calls s s' (Err Memory) = Front terms took bytes calls s s' × (failures s' ≡ failures s)
+JudgedBy terms took failures bytes calls s s' (Err Memory) =
+    Front terms took bytes calls s s' × (failures s' ≡ failures s) × Wanting terms took bytes calls s s'
 JudgedBy terms took failures bytes calls s s' (Err Read) = Front terms took bytes calls s s' × (failures s' ≡ failures s)
 JudgedBy terms took failures bytes calls s s' (Err Write) = Front terms took bytes calls s s' × (failures s' ≡ failures s + 1)
 
@@ -118,7 +146,8 @@ pub record SameTold (frames others : ℕ → Frame) (told : List Told) : Type 0 
   pub decoded : AreDecoded frames told → AreDecoded others told
 
 -- Of this stream, of which this was told with these frames, a yes has Holds, a no Breaks, an outside MayStop, and a sink was then told
--- exactly what comes up to there, with the frames of the pictures, decoded; memory, read and write come with the first of it.
+-- exactly what comes up to there, with the frames of the pictures, decoded; memory, read and write come with the first of it, memory
+-- only where it is wanting.
 pub record Judged {S : Type 0} (terms : Terms) (took : S → List Call → Type 0) (failures : S → ℕ) (bytes : List ℕ) (frames : ℕ → Frame) (told : List Told) (s s' : S) (answer : Result Summary Stop) : Type 0 where
   pub made : ℕ → Frame
   pub same : SameTold frames made told

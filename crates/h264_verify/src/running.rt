@@ -96,7 +96,8 @@ fn read_all<R: Source, S: FrameSink>(
 /// The verdict on the stream that a source gives, for this target. It is read in pieces of 4,096 bytes. An interrupted read is tried again.
 ///
 /// Ok: the stream is legal. No: the first rule that it breaks, and where. Outside: the first feature that is not judged.
-/// Memory: a growth was refused. Read: the source failed, or was read 2^41 times. Write: the sink failed.
+/// Memory: a growth was refused, for the places of parameter sets before the first byte, for bytes of the stream, or for a picture of
+/// another format than the one before it. Read: the source failed, or was read 2^41 times. Write: the sink failed.
 pub fn run<R: Source, S: FrameSink>(
     alloc: Global,
     source: &mut R,

@@ -2,6 +2,7 @@ use Rattle.std.proofs.Common.{◌≡◌, ℕ, ◌⊎◌, inl, inr, Result, Ok, E
 use Rattle.h264_base.specs.declared.stop.Stop.{Stop}
 use Rattle.h264_base.specs.declared.stop.Stop.TheVariants.{Memory, Read, Write}
 use Rattle.h264_plane.specs.Frames.{no_frame}
+use Rattle.h264_verify.proofs.Lacking.{same-stop}
 use Rattle.h264_verify.proofs.Finishing.{told-as, told-behind}
 use Rattle.h264_verify.proofs.Verdicts.{judges-judged, none-judged, fed-first, fed-last}
 use Rattle.h264_judge.specs.Units.{terms_of}
@@ -40,9 +41,6 @@ returns-in-Ok-read_all-clause-write g c = λ h. c.conclude.ensures.write h ∙ a
 quiet-source : {X : Type 0} {a b : ℕ} (x : X) → (a ≡ b) ⊎ (let r : Result X Stop = Ok x in r ≡ Err Read) → a ≡ b
 quiet-source x (inl e) = e
 quiet-source x (inr e) = cc
-
-same-stop : {X : Type 0} (a b : Stop) → (let r : Result X Stop = Err a in r ≡ Err b) → a ≡ b
-same-stop a b e = cc
 
 read-not-memory : Read ≡ Memory → ⊥
 read-not-memory e = cc
