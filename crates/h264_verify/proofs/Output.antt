@@ -83,17 +83,3 @@ legal-of target (r ∷ before) told l =
     let g = unit-grows (terms_of modes.Full target) before (r ∷ before) r.unit (ap (λ (o : Outcome History). o.answer) e) in
     let last : AreOf (ended_in (r ∷ before)) l.1 = subst (AreOf (ended_in (r ∷ before))) (ap (λ (o : Outcome History). o.calls) e) g.1 in
     subst (AreOf (ended_in (r ∷ before))) (sym l.4) (of-both (ended_in (r ∷ before)) l.0 l.1 (of-more (ended_in before) (ended_in (r ∷ before)) l.0 g.0 (legal-of target before l.0 l.2)) last)
-
-module _ (frames others : ℕ → Frame) where
-  pub legal-output : (target : Target) (before : History) (told : List Told) → AreLegal (terms_of modes.Full target) before told → AreDecoded frames told → AreDecoded others told → calls_of frames told ≡ calls_of others told
-  legal-output target before told l d e =
-      let pictures = ended_pictures (goes_on before) false (runs_of before) in
-      calls-same frames others (length pictures) told (shown-alike frames others pictures (legal-family frames others target before told l d e) (legal-frames target before told l frames d) (legal-frames target before told l others e)) (legal-of target before told l)
-
-  pub one-output : (target : Target) (bytes : List ℕ) (told : List Told) (summary : Summary) → Holds (terms_of modes.Full target) bytes told summary → AreDecoded frames told → AreDecoded others told → calls_of frames told ≡ calls_of others told
-  one-output target bytes told summary h d e =
-      let n = length (runs_of h.units) in
-      let met : (steps_outcome (end_steps modes.Full h.units (8 * length bytes))).calls ≡ h.last = ap (λ (o : Outcome (Unit {0})). o.calls) (met-is (end_steps modes.Full h.units (8 * length bytes)) h.last h.end) in
-      let last : AreOf n h.last = subst (AreOf n) met (end-of modes.Full h.units (8 * length bytes)) in
-      let first : AreOf n h.first = of-more (ended_in h.units) n h.first (ended-few (goes_on h.units) (runs_of h.units)) (legal-of target h.units h.first h.legal) in
-      calls-same frames others n told (shown-alike frames others (runs_of h.units) (one-family frames others target bytes told summary h d e) (all-frames target bytes told summary h frames d) (all-frames target bytes told summary h others e)) (subst (AreOf n) (sym h.calls_are) (of-both n h.first h.last first last))

@@ -173,4 +173,5 @@ module _ (mode : Mode) where
     end = h.end;
     calls_are = h.calls_are;
     summary_is = h.summary_is;
+    pictures = h.pictures;
   }
