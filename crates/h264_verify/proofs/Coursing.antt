@@ -1,5 +1,5 @@
 -- What a course has told, wherever it stops: a property of calls that its parts keep.
-use Rattle.std.proofs.Common.{◌≡◌, ℕ, ◌*◌, List, [], ◌∷◌, ◌++◌, length, inl, inr, Result, Ok, Err, sym, subst}
+use Rattle.std.proofs.Common.{ℕ, ◌*◌, List, [], ◌∷◌, ◌++◌, length, inl, inr, Result, Err, sym, subst}
 use Rattle.h264_judge.specs.Units.{terms_of}
 use Rattle.h264_base.specs.declared.mode.Target.{Target}
 use Rattle.h264_base.specs.declared.mode.Mode.TheVariants as modes

@@ -1,15 +1,14 @@
 -- A stream has one derivation: its units are those of its bytes, and what stands in each is what its course gives.
-use Rattle.std.proofs.Common.{◌≡◌, ℕ, List, [], ◌∷◌, ◌++◌, length, Ok, Err, refl, ap, sym, ◌∙◌, subst, append_assoc}
-use Rattle.std.proofs.lemmas.List.{append-nil}
+use Rattle.std.proofs.Common.{◌≡◌, ℕ, List, [], ◌∷◌, ◌++◌, length, Ok, refl, ap, sym, ◌∙◌, subst, append_assoc}
 use Rattle.h264_base.specs.declared.stop.Stop.{Stop}
-use Rattle.h264_units.specs.Stream.{NalUnit, Tail, Zeros, Splits}
+use Rattle.h264_units.specs.Stream.{NalUnit, Tail, Zeros}
 use Rattle.h264_units.proofs.Streams.{same-units}
 use Rattle.h264_judge.specs.declared.state.Summary.{Summary}
 use Rattle.h264_judge.specs.declared.state.Terms.{Terms}
 use Rattle.h264_judge.specs.UnitOutcome.{unit_outcome}
 use Rattle.h264_slices.specs.Telling.{Told}
 use Rattle.h264_slices.specs.Outcome.{Outcome}
-use Rattle.h264_slices.specs.History.{History, ReadUnit}
+use Rattle.h264_slices.specs.History.{History}
 use Rattle.h264_slices.proofs.Stepping.{outcome}
 use Rattle.h264_verify.specs.Judging.{judging}
 use Rattle.h264_verify.specs.Session.{Leads}

@@ -1,5 +1,5 @@
 -- Each picture of whose end is told has met its marking before: the buffer stays within its places.
-use Rattle.std.proofs.Common.{◌≡◌, ℕ, ◌*◌, Bool, true, false, IsTrue, List, [], ◌∷◌, ◌++◌, map, length, inl, inr, Option, Some, None, Result, Ok, Err, refl, sym, subst, if◌then◌else◌}
+use Rattle.std.proofs.Common.{◌≡◌, ℕ, ◌*◌, Bool, true, false, IsTrue, List, [], ◌∷◌, ◌++◌, length, inl, inr, Option, Some, None, Result, Ok, Err, sym, subst, if◌then◌else◌}
 use Rattle.h264_judge.specs.Units.{terms_of}
 use Rattle.h264_base.specs.declared.mode.Target.{Target}
 use Rattle.h264_base.specs.declared.mode.Mode.TheVariants as modes
@@ -25,7 +25,7 @@ use Rattle.h264_slices.specs.Telling.{Told, Said, Decodes, Shows}
 use Rattle.h264_slices.specs.Demands.{Demand}
 use Rattle.h264_slices.specs.Steps.{Step, Needs, Tells, needs, AreMet, IsFirstStop, told}
 use Rattle.h264_slices.specs.UnitHeader.{header_of, nal_unit_type}
-use Rattle.h264_slices.specs.History.{History, ReadUnit, maps_of}
+use Rattle.h264_slices.specs.History.{History, maps_of}
 use Rattle.h264_slices.specs.Pictures.{CodedSlice, CodedPicture, ends_picture, with_sets, sets_at, goes_on, held_after, joined_to, runs_of, begins_at, prev_ref_frame_num_of, end_of_picture, closing_at, closing_demands}
 use Rattle.h264_slices.specs.Closing.{whole_picture, whole_steps, whole_at}
 use Rattle.h264_slices.specs.Buffering.{ended_turn, after_all, within_newest, missing_before, missing_on, missing_steps, told_frames, end_frames, closing_frames, last_frames}

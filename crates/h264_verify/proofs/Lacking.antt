@@ -6,7 +6,7 @@ use Rattle.h264_units.specs.Stream.{NalUnit, Tail, Splits}
 use Rattle.h264_slices.specs.Telling.{Told, Tells}
 use Rattle.h264_slices.proofs.Tellings.{tells-none, tells-both}
 use Rattle.h264_verify.specs.Judging.{Judging}
-use Rattle.h264_verify.specs.Session.{Standing, Goes, StopsBy, ForBytes, ForUnit, Lacks, Lacking}
+use Rattle.h264_verify.specs.Session.{Standing, Goes, StopsBy, ForBytes, ForUnit, Lacking}
 use Rattle.h264_verify.proofs.Ways.{splits-shown, leads-both}
 
 pub same-stop : {X : Type 0} (a b : Stop) → (let r : Result X Stop = Err a in r ≡ Err b) → a ≡ b

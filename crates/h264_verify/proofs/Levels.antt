@@ -1,8 +1,8 @@
 -- The level of a set has a place for a frame of its size at least: MaxDpbFrames is not 0 (A.3.1, Table A-1).
-use Rattle.std.proofs.Common.{◌≡◌, ℕ, zero, suc, ◌+◌, ◌*◌, ◌/◌, ◌<◌, ◌≤◌, nat_le, ◌==◌, ◌&&◌, min, Bool, true, false, IsTrue, List, [], ◌∷◌, ◌++◌, replicate, find, Option, Some, None, Result, Ok, refl, ap, sym, subst, arith, if◌then◌else◌}
+use Rattle.std.proofs.Common.{◌≡◌, ℕ, zero, suc, ◌+◌, ◌*◌, ◌<◌, ◌≤◌, nat_le, ◌==◌, ◌&&◌, Bool, true, false, List, [], ◌∷◌, ◌++◌, replicate, find, Option, Some, None, Ok, refl, ap, sym, subst, arith}
 use Rattle.std.specs.Prelude.{unwrap_or, IfSome, slice_set}
-use Rattle.std.specs.List.{list_all, slice_get}
-use Rattle.std.specs.Option.{is_some, option_map, option_map_or, option_and_then}
+use Rattle.std.specs.List.{list_all}
+use Rattle.std.specs.Option.{is_some, option_map, option_map_or}
 use Rattle.std.proofs.lemmas.Nat.{le-div, mul-le}
 use Rattle.std.proofs.lemmas.Bool.{leb-true}
 use Rattle.h264_base.specs.declared.mode.Target.{Target}
@@ -38,7 +38,7 @@ use Rattle.h264_slices.specs.Steps.{Runs}
 use Rattle.h264_slices.specs.UnitHeader.{header_of, nal_unit_type}
 use Rattle.h264_judge.specs.Units.{terms_of, is_slice, other_content, content, data_course}
 use Rattle.h264_verify.specs.Verdict.{IsLegal, AreLegal}
-use Rattle.h264_verify.proofs.Legal.{given, HasMet, has-met, rest-ends, rest-reads}
+use Rattle.h264_verify.proofs.Legal.{given, has-met, rest-ends, rest-reads}
 
 abbrev pub HasRoom : Sps → Type 0
 HasRoom set = 0 < dpb_frames set

@@ -1,5 +1,5 @@
 -- What a sink is told of a stream, frames among it, is one list of calls.
-use Rattle.std.proofs.Common.{◌≡◌, ℕ, false, ◌+◌, ◌-◌, ◌*◌, ◌<◌, ◌≤◌, List, [], ◌∷◌, length, ℤ, refl, ap, sym, ◌∙◌, subst, arith, ⊎_elim}
+use Rattle.std.proofs.Common.{◌≡◌, ℕ, ◌+◌, ◌-◌, ◌*◌, ◌<◌, ◌≤◌, List, [], ◌∷◌, length, ℤ, refl, ap, sym, ◌∙◌, subst, arith, ⊎_elim}
 use Rattle.std.proofs.lemmas.Bool.{cases_lt}
 use Rattle.h264_judge.specs.Units.{terms_of}
 use Rattle.h264_base.specs.declared.mode.Target.{Target}
@@ -16,21 +16,16 @@ use Rattle.h264_plane.proofs.Rows.{bytes_same}
 use Rattle.h264_dpb.specs.Shown.{width_in, height_in, cropped, frame_call}
 use Rattle.h264_dpb.specs.Kept.{shown_call}
 use Rattle.h264_dpb.specs.declared.entry.Rectangle.{Rectangle}
-use Rattle.h264_judge.specs.declared.state.Summary.{Summary}
-use Rattle.h264_slices.specs.Telling.{Told, Said, Decodes, Shows, calls_of, AreDecoded, AreOf}
+use Rattle.h264_slices.specs.Telling.{Told, Said, Decodes, Shows, calls_of, AreOf}
 use Rattle.h264_slices.specs.Outcome.{Outcome}
 use Rattle.h264_slices.specs.History.{History}
-use Rattle.h264_slices.specs.Pictures.{CodedPicture, goes_on, runs_of}
-use Rattle.h264_slices.specs.Keeping.{ended_pictures, ended_in}
-use Rattle.h264_judge.specs.Units.{end_steps}
-use Rattle.h264_slices.specs.StepOutcome.{steps_outcome}
-use Rattle.h264_verify.specs.Verdict.{AreLegal, Holds}
+use Rattle.h264_slices.specs.Pictures.{CodedPicture}
+use Rattle.h264_slices.specs.Keeping.{ended_in}
+use Rattle.h264_verify.specs.Verdict.{AreLegal}
 use Rattle.h264_verify.specs.Family.{AreSameOn}
 use Rattle.h264_judge.proofs.Agreeing.{of-both, of-more}
-use Rattle.h264_verify.proofs.Family.{legal-family, one-family}
-use Rattle.h264_judge.proofs.Growing.{ended-few, unit-grows, end-of}
-use Rattle.h264_verify.proofs.Leaving.{HaveFrames, legal-frames, all-frames}
-use Rattle.h264_slices.proofs.Stepping.{met-is}
+use Rattle.h264_judge.proofs.Growing.{unit-grows}
+use Rattle.h264_verify.proofs.Leaving.{HaveFrames}
 use Rattle.h264_verify.proofs.Verdicts.{legal-unit}
 
 -- ---- a frame

@@ -16,12 +16,10 @@ use Rattle.h264_header.specs.declared.header.Header.{Header}
 use Rattle.h264_plane.specs.declared.frame.Frame.{Frame}
 use Rattle.h264_judge.specs.declared.state.Summary.{Summary}
 use Rattle.h264_slices.specs.Telling.{Told, Said, Decodes, Shows, calls_of, HasFrame, AreDecoded, AreOf}
-use Rattle.h264_slices.specs.Content.{Content}
-use Rattle.h264_slices.specs.Content as contents
 use Rattle.h264_slices.specs.Demands.{Demand}
 use Rattle.h264_slices.specs.Outcome.{Outcome}
-use Rattle.h264_slices.specs.Steps.{Step, Needs, Tells, needs, AreMet, IsFirstStop, Course, Takes, Reads, Ends, told, Runs}
-use Rattle.h264_slices.specs.UnitHeader.{header_of, nal_unit_type, header_demands}
+use Rattle.h264_slices.specs.Steps.{Step, Needs, Tells, needs, AreMet, IsFirstStop, told}
+use Rattle.h264_slices.specs.UnitHeader.{header_of, nal_unit_type}
 use Rattle.h264_dpb.specs.Kept.{shown_call}
 use Rattle.h264_slices.specs.History.{History, ReadUnit, maps_of}
 use Rattle.h264_slices.specs.Pictures.{CodedPicture, ends_picture, with_sets, sets_at, goes_on, joined_to, runs_of, begins_at, closing_at, closing_demands}
@@ -29,9 +27,9 @@ use Rattle.h264_slices.specs.Closing.{whole_picture, whole_steps, whole_at}
 use Rattle.h264_slices.specs.Buffering.{end_frames, closing_frames, last_frames}
 use Rattle.h264_slices.specs.Keeping.{ended_pictures, ended_in}
 use Rattle.h264_slices.specs.Slices.{is_idr_due, rules_of, slice_call, steps_by, slice_steps}
-use Rattle.h264_judge.specs.Units.{unit_call, content_steps, data_course, frames_at, unit_course, picture_demand, end_steps}
+use Rattle.h264_judge.specs.Units.{frames_at, unit_course, picture_demand, end_steps}
 use Rattle.h264_verify.specs.Family.{IsFrontOf}
-use Rattle.h264_verify.specs.Verdict.{IsStop, AtBytes, InCourse, IsLegal, AreLegal, IsStopBehind, AtNext, AtTail, AtEnd, Verdict}
+use Rattle.h264_verify.specs.Verdict.{IsLegal, AreLegal, IsStopBehind, AtNext, AtTail, AtEnd, Verdict}
 use Rattle.h264_judge.proofs.Agreeing.{of-both, of-more, decoded-last}
 use Rattle.h264_verify.proofs.Family.{same-on, legal-family}
 use Rattle.h264_judge.proofs.Growing.{StepsOf, needs-of, steps-of, elements-of, slice-of, picture-end-of, ended-few, ended-whole, end-of}
