@@ -1,5 +1,5 @@
 -- What the code has of the edges of a macroblock before it knows the plane.
-use Rattle.std.specs.Prelude.{ℕ, ◌==◌, ◌&&◌, Bool, true, false, if◌then◌else◌, List, [], ◌∷◌, get_or, nat_lt, Option, Some, None, ℤ}
+use Rattle.std.specs.Prelude.{◌≡◌, ℕ, ◌==◌, ◌&&◌, Bool, true, false, if◌then◌else◌, List, [], ◌∷◌, get_or, nat_lt, Option, Some, None, ℤ}
 use Rattle.std.specs.Ordering.{int_eq}
 use Rattle.std.specs.List.{list_all}
 use Rattle.std.specs.Option.{option_map}
@@ -18,6 +18,7 @@ use Rattle.h264_deblock.specs.declared.edge_parameters.BoundaryStrength.{Boundar
 use Rattle.h264_deblock.specs.declared.edge_parameters.BoundaryStrength.TheVariants.{Zero, BelowFour}
 use Rattle.h264_deblock.specs.declared.slice_filter.SliceFilter.{SliceFilter}
 use Rattle.h264_deblock.specs.CodedEdges.{filters, strengths}
+use Rattle.h264_deblock.specs.Limits.{AreAll}
 
 -- an edge lies along the right column, or the lower row, of the macroblock beside
 abbrev pub IsBeside : Bool → Edge → CodedMacroblock → Type 0
@@ -40,6 +41,15 @@ inter_strength coded p q = if coded then BelowFour Two else if moves_apart p q t
 -- the strengths of the inner edges of a direction
 unfoldable pub inner_lines : Bool → CodedMacroblock → List (List BoundaryStrength)
 inner_lines vertical q = strengths vertical 1 q q ∷ strengths vertical 2 q q ∷ strengths vertical 3 q q ∷ []
+
+-- those of edges along which nothing differs
+abbrev pub still_line : List BoundaryStrength
+still_line = Zero ∷ Zero ∷ Zero ∷ Zero ∷ []
+
+-- no inner edge has a bS but 0
+pub record HasStillLines (q : CodedMacroblock) : Type 0 where
+  pub vertical : still_line ∷ still_line ∷ still_line ∷ [] ≡ inner_lines true q
+  pub horizontal : still_line ∷ still_line ∷ still_line ∷ [] ≡ inner_lines false q
 
 -- one picture and one vector
 abbrev pub alike : Option Motion → Option Motion → Bool
@@ -76,6 +86,11 @@ parameters qp_p qp_q filter strengths = record { qp_p = qp_p; qp_q = qp_q; filte
 unfoldable pub border_of : SliceFilter → Bool → Option CodedMacroblock → CodedMacroblock → Option Border
 border_of filter vertical None q = None
 border_of filter vertical (Some p) q = if filters filter.deblocking (p.slice == q.slice) then Some (record { qp = filter_qp_of p.prediction p.qp; strengths = strengths vertical 0 p q }) else None
+
+-- it is not filtered, or has no bS but 0
+abbrev pub IsStill : Option Border → Type 0
+IsStill None = Unit {0}
+IsStill (Some b) = AreAll Zero b.strengths
 
 -- and in a plane
 abbrev pub border_edge : Bool → ℕ → SliceFilter → Option Border → Option EdgeParameters

@@ -1,21 +1,27 @@
 //! The edges of a macroblock of the coded picture (8.7).
 #![tactic(auto)]
 
-ghost use Rattle.std.specs.Prelude.{◌≡◌, ℕ, ◌+◌, ◌*◌, ◌<◌, ◌≤◌, ◌==◌, Bool, true, false, IsTrue, List, [], ◌∷◌, length, get_or, Option, Some, None, is_some};
+ghost use Rattle.std.specs.Prelude.{◌≡◌, ℕ, ◌+◌, ◌*◌, ◌<◌, ◌≤◌, ◌%◌, ◌==◌, Bool, true, false, IsTrue, List, [], ◌∷◌, length, get_or, Option, Some, None, is_some};
 ghost use Rattle.h264_tables.specs.ChromaQp.{clip_51};
 ghost use Rattle.h264_plane.specs.declared.frame.Component.{Component};
+ghost use Rattle.h264_plane.specs.Frames.{plane_of};
+ghost use Rattle.h264_plane.specs.Places.{side};
+ghost use Rattle.h264_plane.specs.Samples.{at, Holds, IsSized};
+ghost use Rattle.h264_near.specs.Raster.{last_in, last_left};
 ghost use Rattle.h264_near.specs.Coded.{CodedMacroblock};
 ghost use Rattle.h264_near.specs.Keeps.{Keeps, Shows, IsEdge};
-ghost use Rattle.h264_deblock.specs.Filtering.{edges_of, AreInside};
+ghost use Rattle.h264_deblock.specs.Filtering.{edges_of, edges_done, is_chroma, AreInside};
 ghost use Rattle.h264_deblock.specs.declared.slice_filter.SliceFilter.{SliceFilter as Filter};
 ghost use Rattle.h264_deblock.specs.CodedEdges.{filters, coded_edges as edges_of_coded};
-ghost use Rattle.h264_deblock.specs.Steps.{IsBeside, is_even, side_qp, parameters, border_of, border_edge, inner_edge};
+ghost use Rattle.h264_deblock.specs.Steps.{IsBeside, is_even, side_qp, parameters, border_of, border_edge, inner_edge, IsStill};
 
 use crate::edge_parameters::{BoundaryStrength, EdgeParameters};
-use crate::filtering::{ChromaEdges, Edges, LumaEdges, NO_EDGES};
+use crate::filtering::{ChromaEdges, Edges, LumaEdges, NO_EDGES, macroblock};
+use crate::limits::are_all;
 use crate::slice_filter::{Deblocking, SliceFilter, is_filtered};
-use crate::strengths::{border_strengths, inner_strengths, is_even};
+use crate::strengths::{border_strengths, inner_strengths, is_even, is_uniform};
 use h264_near::{Contexts, Edge, Near};
+use h264_plane::Frame;
 use h264_tables::chroma_qp;
 
 /// The edge between a macroblock and the one beside it: the quantisation parameter of that one, and the strengths.
@@ -162,6 +168,47 @@ fn chroma_along(
     ]
 }
 
+/// Whether an edge is not filtered, or has no bS but 0: no sample changes by it.
+#[inline]
+fn is_still(border: &Option<Border>) -> bool
+    ensures { result ≡ true → IsStill border.now }
+{
+    match border {
+        None => true,
+        Some(border) => are_all(&border.strengths, BoundaryStrength::Zero),
+    }
+}
+
+/// The edges of a macroblock, by those to the macroblocks beside it.
+fn edges_by(
+    left: &Option<Border>,
+    above: &Option<Border>,
+    own: &Contexts,
+    even: bool,
+    filter: &SliceFilter,
+) -> Edges
+    requires filtered { filters filter.now.deblocking true ≡ true }
+    requires even { even ≡ true → is_even own.now ≡ true }
+    ensures inside { (column row : ℕ) → (IsTrue (is_some left.now) → 0 < column) → (IsTrue (is_some above.now) → 0 < row) → (p : Component) → AreInside column row (edges_of result p) }
+    ensures edges { (slices : ℕ → Filter) (width : ℕ) (picture : List CodedMacroblock) (coded : CodedMacroblock) → Shows own.now coded → slices coded.slice ≡ filter.now →
+        ((n : ℕ) → (slices n).chroma_qp_index_offset ≡ filter.now.chroma_qp_index_offset) → left.now ≡ border_of filter.now true (last_left width picture) coded →
+        above.now ≡ border_of filter.now false (last_in width picture (length picture % width)) coded → (p : Component) → edges_of result p ≡ edges_of_coded slices width picture coded p }
+{
+    let inner = inner_strengths(own, even);
+    let qp = qp_in(true, own.qp, *filter);
+    Edges {
+        y: LumaEdges {
+            vertical: luma_along(left, &inner.vertical, own.qp, *filter),
+            horizontal: luma_along(above, &inner.horizontal, own.qp, *filter),
+        },
+        cb: ChromaEdges {
+            vertical: chroma_along(left, &inner.vertical, qp, *filter),
+            horizontal: chroma_along(above, &inner.horizontal, qp, *filter),
+        },
+        cr: None,
+    }
+}
+
 /// The edges of the macroblock behind those that `near` keeps, at this column and row of macroblocks, by its slice's filter (8.7): bS by intra
 /// prediction, coefficients, reference pictures and vectors on both sides; no edge at the picture's border, and those to other slices or none as
 /// disable_deblocking_filter_idc says.
@@ -183,17 +230,41 @@ pub fn coded_edges(
     let even = is_even(own);
     let left = border_of(near.left_edge(), own, even, true, filter, column);
     let above = border_of(near.above_edge(), own, even, false, filter, row);
-    let inner = inner_strengths(own, even);
-    let qp = qp_in(true, own.qp, *filter);
-    Edges {
-        y: LumaEdges {
-            vertical: luma_along(&left, &inner.vertical, own.qp, *filter),
-            horizontal: luma_along(&above, &inner.horizontal, own.qp, *filter),
-        },
-        cb: ChromaEdges {
-            vertical: chroma_along(&left, &inner.vertical, qp, *filter),
-            horizontal: chroma_along(&above, &inner.horizontal, qp, *filter),
-        },
-        cr: None,
+    edges_by(&left, &above, own, even, filter)
+}
+
+/// A macroblock of the coded picture whose edges are to be filtered.
+#[derive(Clone, Copy)]
+pub struct Coded<'a> {
+    /// What is kept of the macroblocks before it.
+    pub near: &'a Near,
+    pub own: &'a Contexts,
+    /// The filter of its slice.
+    pub filter: &'a SliceFilter,
+}
+
+/// Filters the edges of a macroblock of the coded picture, which stands at this column and row of macroblocks (8.7), in place and in the order of `macroblock`:
+/// the edges are those of `coded_edges`. Where nothing tells its blocks from one another and from those beside it, that look is all that it costs.
+pub fn filter_coded(frame: &mut Frame, coded: &Coded<'_>, column: usize, row: usize)
+    requires y { (16 * column + 16 ≤ frame.old.y.width) × (16 * row + 16 ≤ frame.old.y.height) }
+    requires cb { (8 * column + 8 ≤ frame.old.cb.width) × (8 * row + 8 ≤ frame.old.cb.height) }
+    requires cr { (8 * column + 8 ≤ frame.old.cr.width) × (8 * row + 8 ≤ frame.old.cr.height) }
+    requires small { (column < 1024) × (row < 1024) }
+    ensures size { (p : Component) → IsSized (plane_of p frame.new) (plane_of p frame.old).width (plane_of p frame.old).height }
+    ensures filtered { (slices : ℕ → Filter) (width : ℕ) (picture : List CodedMacroblock) (q : CodedMacroblock) → Keeps width picture coded.now.near.now → Shows coded.now.own.now q →
+        length picture ≡ row * width + column → column < width → slices q.slice ≡ coded.now.filter.now → ((n : ℕ) → (slices n).chroma_qp_index_offset ≡ coded.now.filter.now.chroma_qp_index_offset) →
+        (p : Component) → Holds (plane_of p frame.old) (plane_of p frame.new) (edges_done (side p) (is_chroma p) (edges_of_coded slices width picture q p) column row (at (plane_of p frame.old))) }
+{
+    let (own, filter) = (coded.own, coded.filter);
+    if let Deblocking::Off = filter.deblocking {
+        return;
     }
+    let even = is_even(own);
+    let left = border_of(coded.near.left_edge(), own, even, true, filter, column);
+    let above = border_of(coded.near.above_edge(), own, even, false, filter, row);
+    if is_uniform(own, even) && is_still(&left) && is_still(&above) {
+        return;
+    }
+    let edges = edges_by(&left, &above, own, even, filter);
+    macroblock(frame, &edges, column, row);
 }

@@ -6,7 +6,7 @@ ghost use Rattle.h264_near.specs.Coded.{CodedMacroblock};
 ghost use Rattle.h264_near.specs.Keeps.{Shows};
 ghost use Rattle.h264_near.specs.Strength.{moves_apart};
 ghost use Rattle.h264_deblock.specs.CodedEdges.{strength_at, strengths};
-ghost use Rattle.h264_deblock.specs.Steps.{IsBeside, inter_strength, number_at, inner_lines, alike, are_blank, are_like, are_alike, is_even, goes_on};
+ghost use Rattle.h264_deblock.specs.Steps.{IsBeside, inter_strength, number_at, inner_lines, alike, are_blank, are_like, are_alike, is_even, goes_on, HasStillLines};
 
 use crate::edge_parameters::BoundaryStrength;
 use h264_near::block::number;
@@ -276,6 +276,18 @@ pub(crate) fn is_even(own: &Contexts) -> bool
         return false;
     }
     are_alike(&own.motions)
+}
+
+/// Whether a macroblock is inter and nothing tells its blocks apart, which `even` says: no inner edge has a bS but 0.
+#[inline]
+pub(crate) fn is_uniform(own: &Contexts, even: bool) -> bool
+    requires { even ≡ true → is_even own.now ≡ true }
+    ensures { result ≡ true → (coded : CodedMacroblock) → Shows own.now coded → HasStillLines coded }
+{
+    if own.intra {
+        return false;
+    }
+    even
 }
 
 /// The strengths of the inner edges of a macroblock; `even` says that nothing tells its blocks apart.

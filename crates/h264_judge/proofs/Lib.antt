@@ -4,3 +4,4 @@ pub mod Marked
 pub mod Joining
 pub mod Courses
 pub mod Reading
+pub mod Memory

@@ -1,4 +1,5 @@
 pub mod Keeping
+pub mod Memory
 pub mod Units
 pub mod UnitOutcome
 pub mod Turning

@@ -72,6 +72,7 @@ fn end_frame_if<S: FrameSink>(
     requires pictures { slices.now.pictures ≤ 2 ^ 42 }
     requires kept { KeepsSomeFrames mode ends slices.now decoder.old }
     ensures ends { (frames : ℕ → Frame) (before : History) → KeepsSlices before ends slices.now → answers (Ok tt) ≡ steps_outcome (if ends then whole_steps mode before else []) → KeepsDecoder mode frames (goes_on before) false (runs_of before) decoder.old → EndsFrames mode S.took S.failures frames (goes_on before) ends (runs_of before) (steps_outcome (if ends then closing_frames mode before else [])) decoder.new sink.old sink.new result }
+    ensures format { decoder.new.format ≡ decoder.old.format }
     ensures kept { OnOk result (S.failures sink.new ≡ S.failures sink.old) }
     ensures no_memory { IfErr result (λ e. e ≡ Stop.Write) }
 {
@@ -104,6 +105,7 @@ pub fn close_if<S: FrameSink>(
     ensures closes { (frames : ℕ → Frame) (before : History) → KeepsSlices before false slices.old → KeepsDecoder mode frames (goes_on before) false (runs_of before) decoder.old → EndsFrames mode S.took S.failures frames (goes_on before) ends (runs_of before) (steps_outcome (close_steps mode ends before)) decoder.new sink.old sink.new result }
     ensures ended { (before : History) → KeepsSlices before false slices.old → OnOk result (KeepsSlices before ends slices.new) }
     ensures others { slices.new ≡ record slices.old { held = slices.new.held } }
+    ensures format { decoder.new.format ≡ decoder.old.format }
     ensures no_memory { IsErrOf result Stop.Memory → ⊥ }
     ensures kept { OnOk result (S.failures sink.new ≡ S.failures sink.old) }
 {

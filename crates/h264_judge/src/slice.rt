@@ -83,6 +83,7 @@ pub fn judge_slice<S: FrameSink>(
     ensures named { OnOk result (is_some (sets_of sets.new header.new.pic_parameter_set_id.value) ≡ true) }
     ensures id { OnOk result (header.new.pic_parameter_set_id.value ≤ 255) }
     ensures typed { OnOk result (is_typed header.old ≡ true) }
+    ensures format { decoder.new.format ≡ decoder.old.format }
     ensures pictures { OnOk result (slices.new.pictures ≤ slices.old.pictures + 1) }
     ensures no_memory { IsErrOf result Stop.Memory → ⊥ }
     ensures kept { OnOk result (S.failures sink.new ≡ S.failures sink.old) }

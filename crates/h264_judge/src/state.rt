@@ -62,7 +62,7 @@ impl State {
             sets,
             slices: no_slices(),
             header: Header::unread(),
-            decoder: Decoder::new(alloc),
+            decoder: Decoder::new(),
         })
     }
 }

@@ -21,7 +21,8 @@ ghost use Rattle.h264_judge.specs.Keeping.{Keeps, KeepsWithin, KeepsSome};
 ghost use Rattle.h264_slices.specs.Keeping.{KeepsGap, KeepsSomeGap, IsLeft, ended_pictures, ended_in};
 ghost use Rattle.h264_slices.specs.Pictures.{CodedPicture, ends_picture, goes_on, runs_of};
 ghost use Rattle.h264_judge.specs.Turning.{Turns, Joins, EndsAll};
-ghost use Rattle.h264_judge.specs.Units.{unit_call, is_slice, slice_unit_of, has_pictures};
+ghost use Rattle.h264_judge.specs.Units.{unit_call, slice_unit_of, has_pictures};
+ghost use Rattle.h264_judge.specs.Memory.{bytes_of, BeginsAnotherFormat, ChangesFormat};
 ghost use Rattle.h264_slices.specs.StepOutcome.{steps_outcome};
 ghost use Rattle.h264_judge.specs.UnitOutcome.{sps_outcome, pps_outcome, slice_outcome, whole_slice, joined, joined_by};
 ghost use Rattle.h264_base.specs.declared.mode.Mode.{Mode};
@@ -112,22 +113,21 @@ fn slice_unit(header: u8) -> SliceUnit
 
 /// Reads the header of a slice into a place of the caller.
 fn read_slice_unit<S: FrameSink>(
-    alloc: Global,
     header: u8,
     sets: &Sets,
-    unit: &NalUnit,
+    rbsp: &Rbsp,
     found: &mut Header,
     sink: &mut S,
 ) -> Result<(), Stop>
     requires { S.failures sink.old < 2 ^ 64 - 1 }
-    ensures plays { (frames : ℕ → Frame) (before : History) → sets.now ≡ maps_of before → header ≡ header_of unit.now → Plays (took_with frames S.took) S.failures (λ _. contents.OfSlice found.new []) (slice_outcome before unit.now) sink.old sink.new result }
+    ensures plays { (frames : ℕ → Frame) (before : History) (unit : UnitView) → sets.now ≡ maps_of before → header ≡ header_of unit → rbsp.now ≡ body_of unit → Plays (took_with frames S.took) S.failures (λ _. contents.OfSlice found.new []) (slice_outcome before unit) sink.old sink.new result }
     ensures id { OnOk result (found.new.pic_parameter_set_id.value ≤ 255) }
     ensures named { OnOk result (is_some (sets_of sets.now found.new.pic_parameter_set_id.value) ≡ true) }
     ensures marked { fits_kind (nal_unit_type header) (nal_ref_idc header) ≡ true → OnOk result (IsMarked found.new) }
+    ensures no_memory { IsErrOf result Stop.Memory → ⊥ }
     ensures kept { OnOk result (S.failures sink.new ≡ S.failures sink.old) }
 {
-    let rbsp = Rbsp::of(alloc, unit)?;
-    let mut bits = Bits::new(&rbsp);
+    let mut bits = Bits::new(rbsp);
     let slice_unit = slice_unit(header);
     read_header(&mut bits, sets, slice_unit, found, sink)
 }
@@ -149,24 +149,25 @@ fn pass(state: &mut State, kind: u8)
 /// A sequence parameter set is read, and kept. Apart, so that a slice does not pay for the place of a set.
 #[inline(never)]
 fn join_sps<S: FrameSink>(
-    alloc: Global,
     terms: Terms,
     state: &mut State,
     kind: u8,
     unit: &NalUnit,
+    rbsp: &Rbsp,
     sink: &mut S,
 ) -> Result<(), Stop>
     requires room { S.failures sink.old < 2 ^ 64 - 1 }
     requires units { state.old.units ≤ 2 ^ 40 }
     requires pictures { state.old.slices.pictures ≤ state.old.units }
     requires kind { kind ≡ nal_unit_type (header_of unit.now) }
+    requires rbsp { rbsp.now ≡ body_of unit.now }
     ensures joins { (frames : ℕ → Frame) (before : History) → KeepsWithin terms.mode frames before (ends_picture kind) state.old → Joins terms.mode S.took S.failures frames (length (ended_pictures (goes_on before) (ends_picture kind) (runs_of before))) (joined terms.mode before unit.now (sps_outcome terms.target unit.now)) state.new sink.old sink.new result }
     ensures counts { OnOk result (state.new.units ≡ state.old.units + 1) }
     ensures pictures { OnOk result (state.new.slices.pictures ≤ state.new.units) }
+    ensures no_memory { IsErrOf result Stop.Memory → ⊥ }
     ensures kept { OnOk result (S.failures sink.new ≡ S.failures sink.old) }
 {
-    let rbsp = Rbsp::of(alloc, unit)?;
-    let mut bits = Bits::new(&rbsp);
+    let mut bits = Bits::new(rbsp);
     let set = read_sps(terms.target, &mut bits, sink)?;
     state.sets.put_sps(set);
     pass(state, kind);
@@ -175,11 +176,11 @@ fn join_sps<S: FrameSink>(
 
 /// A picture parameter set is read, and kept.
 fn join_pps<S: FrameSink>(
-    alloc: Global,
     terms: Terms,
     state: &mut State,
     kind: u8,
     unit: &NalUnit,
+    rbsp: &Rbsp,
     sink: &mut S,
 ) -> Result<(), Stop>
     requires room { S.failures sink.old < 2 ^ 64 - 1 }
@@ -187,13 +188,14 @@ fn join_pps<S: FrameSink>(
     requires pictures { state.old.slices.pictures ≤ state.old.units }
     requires ends { ends_picture kind ≡ true }
     requires kind { kind ≡ nal_unit_type (header_of unit.now) }
+    requires rbsp { rbsp.now ≡ body_of unit.now }
     ensures joins { (frames : ℕ → Frame) (before : History) → KeepsWithin terms.mode frames before (ends_picture kind) state.old → Joins terms.mode S.took S.failures frames (length (ended_pictures (goes_on before) (ends_picture kind) (runs_of before))) (joined terms.mode before unit.now (pps_outcome terms.target unit.now)) state.new sink.old sink.new result }
     ensures counts { OnOk result (state.new.units ≡ state.old.units + 1) }
     ensures pictures { OnOk result (state.new.slices.pictures ≤ state.new.units) }
+    ensures no_memory { IsErrOf result Stop.Memory → ⊥ }
     ensures kept { OnOk result (S.failures sink.new ≡ S.failures sink.old) }
 {
-    let rbsp = Rbsp::of(alloc, unit)?;
-    let mut bits = Bits::new(&rbsp);
+    let mut bits = Bits::new(rbsp);
     let set = read_pps(terms.target, &mut bits, sink)?;
     state.sets.put_pps(set);
     pass(state, kind);
@@ -202,10 +204,10 @@ fn join_pps<S: FrameSink>(
 
 /// The header of a slice is read and judged, and the slice joins those before it.
 fn join_slice<S: FrameSink>(
-    alloc: Global,
     state: &mut State,
     header: u8,
     unit: &NalUnit,
+    rbsp: &Rbsp,
     sink: &mut S,
 ) -> Result<(), Stop>
     requires room { S.failures sink.old < 2 ^ 64 - 1 }
@@ -213,14 +215,16 @@ fn join_slice<S: FrameSink>(
     requires pictures { state.old.slices.pictures ≤ state.old.units }
     requires goes_on { ends_picture (nal_unit_type header) ≡ false }
     requires header { header ≡ header_of unit.now }
+    requires rbsp { rbsp.now ≡ body_of unit.now }
     requires fits { fits_kind (nal_unit_type header) (nal_ref_idc header) ≡ true }
     requires kept { KeepsSome modes.Headers false state.old }
     ensures joins { (frames : ℕ → Frame) (before : History) → KeepsWithin modes.Headers frames before (ends_picture (nal_unit_type header)) state.old → Joins modes.Headers S.took S.failures frames (ended_in before) (joined modes.Headers before unit.now (slice_outcome before unit.now)) state.new sink.old sink.new result }
     ensures counts { OnOk result (state.new.units ≡ state.old.units + 1) }
     ensures pictures { OnOk result (state.new.slices.pictures ≤ state.new.units) }
+    ensures no_memory { IsErrOf result Stop.Memory → ⊥ }
     ensures kept { OnOk result (S.failures sink.new ≡ S.failures sink.old) }
 {
-    read_slice_unit(alloc, header, &state.sets, unit, &mut state.header, sink)?;
+    read_slice_unit(header, &state.sets, rbsp, &mut state.header, sink)?;
     let begins = begins(&state.slices.picture, &state.header);
     judge_slice(
         Mode::Headers,
@@ -238,6 +242,7 @@ fn join_slice<S: FrameSink>(
 
 /// The header of a slice and its slice data are read from the first bit of its unit and judged, and the slice joins those before it.
 fn join_read<S: FrameSink>(
+    alloc: Global,
     state: &mut State,
     header: u8,
     unit: &NalUnit,
@@ -255,6 +260,7 @@ fn join_read<S: FrameSink>(
     ensures joins { (frames : ℕ → Frame) (before : History) → KeepsWithin modes.Full frames before (ends_picture (nal_unit_type header)) state.old → Joins modes.Full S.took S.failures frames (ended_in before) (whole_slice before unit.now) state.new sink.old sink.new result }
     ensures counts { OnOk result (state.new.units ≡ state.old.units + 1) }
     ensures pictures { OnOk result (state.new.slices.pictures ≤ state.new.units) }
+    ensures no_memory { (frames : ℕ → Frame) (before : History) → KeepsWithin modes.Full frames before (ends_picture (nal_unit_type header)) state.old → IsErrOf result Stop.Memory → BeginsAnotherFormat before unit.now }
     ensures kept { OnOk result (S.failures sink.new ≡ S.failures sink.old) }
 {
     let slice_unit = slice_unit(header);
@@ -272,6 +278,7 @@ fn join_read<S: FrameSink>(
     )?;
     state.units += 1;
     read_data(
+        alloc,
         begins,
         &state.slices.held,
         &state.sets,
@@ -288,6 +295,7 @@ fn join_whole_slice<S: FrameSink>(
     state: &mut State,
     header: u8,
     unit: &NalUnit,
+    rbsp: &Rbsp,
     sink: &mut S,
 ) -> Result<(), Stop>
     requires room { S.failures sink.old < 2 ^ 64 - 1 }
@@ -295,24 +303,17 @@ fn join_whole_slice<S: FrameSink>(
     requires pictures { state.old.slices.pictures ≤ state.old.units }
     requires goes_on { ends_picture (nal_unit_type header) ≡ false }
     requires header { header ≡ header_of unit.now }
+    requires rbsp { rbsp.now ≡ body_of unit.now }
     requires fits { fits_kind (nal_unit_type header) (nal_ref_idc header) ≡ true }
     requires kept { KeepsSome modes.Full false state.old }
     ensures joins { (frames : ℕ → Frame) (before : History) → KeepsWithin modes.Full frames before (ends_picture (nal_unit_type header)) state.old → Joins modes.Full S.took S.failures frames (ended_in before) (whole_slice before unit.now) state.new sink.old sink.new result }
     ensures counts { OnOk result (state.new.units ≡ state.old.units + 1) }
     ensures pictures { OnOk result (state.new.slices.pictures ≤ state.new.units) }
+    ensures no_memory { (frames : ℕ → Frame) (before : History) → KeepsWithin modes.Full frames before (ends_picture (nal_unit_type header)) state.old → IsErrOf result Stop.Memory → BeginsAnotherFormat before unit.now }
     ensures kept { OnOk result (S.failures sink.new ≡ S.failures sink.old) }
 {
-    let rbsp = Rbsp::of(alloc, unit)?;
-    let mut bits = Bits::new(&rbsp);
-    join_read(state, header, unit, &mut bits, sink)
-}
-
-/// Whether a unit of this type is a slice, at which no picture ends before its elements.
-fn is_slice(kind: u8) -> bool
-    ensures value { result ≡ is_slice kind }
-    ensures goes_on { IsTrue result → ends_picture kind ≡ false }
-{
-    kind == 1 || kind == 5
+    let mut bits = Bits::new(rbsp);
+    join_read(alloc, state, header, unit, &mut bits, sink)
 }
 
 /// A unit of this type is read and judged, and joins those before it.
@@ -322,57 +323,61 @@ fn join<S: FrameSink>(
     state: &mut State,
     header: u8,
     unit: &NalUnit,
+    rbsp: &Option<Rbsp>,
     sink: &mut S,
 ) -> Result<(), Stop>
     requires room { S.failures sink.old < 2 ^ 64 - 1 }
     requires units { state.old.units ≤ 2 ^ 40 }
     requires pictures { state.old.slices.pictures ≤ state.old.units }
     requires header { header ≡ header_of unit.now }
+    requires bytes { rbsp.now ≡ bytes_of terms.mode unit.now }
     requires fits { fits_kind (nal_unit_type header) (nal_ref_idc header) ≡ true }
     requires kept { KeepsSome terms.mode (ends_picture (nal_unit_type header)) state.old }
     ensures joins { (frames : ℕ → Frame) (before : History) → KeepsWithin terms.mode frames before (ends_picture (nal_unit_type header)) state.old → Joins terms.mode S.took S.failures frames (length (ended_pictures (goes_on before) (ends_picture (nal_unit_type header)) (runs_of before))) (joined_by terms (nal_unit_type header) before unit.now) state.new sink.old sink.new result }
     ensures counts { OnOk result (state.new.units ≡ state.old.units + 1) }
     ensures pictures { OnOk result (state.new.slices.pictures ≤ state.new.units) }
+    ensures no_memory { (frames : ℕ → Frame) (before : History) → KeepsWithin terms.mode frames before (ends_picture (nal_unit_type header)) state.old → IsErrOf result Stop.Memory → ChangesFormat terms.mode before unit.now }
     ensures kept { OnOk result (S.failures sink.new ≡ S.failures sink.old) }
 {
-    if header % 32 == 7 {
-        return join_sps(alloc, terms, state, header % 32, unit, sink);
-    }
-    if header % 32 == 8 {
-        return join_pps(alloc, terms, state, header % 32, unit, sink);
-    }
-    if !is_slice(header % 32) {
+    let Some(rbsp) = rbsp else {
         pass(state, header % 32);
         return Ok(());
+    };
+    if header % 32 == 7 {
+        return join_sps(terms, state, header % 32, unit, rbsp, sink);
+    }
+    if header % 32 == 8 {
+        return join_pps(terms, state, header % 32, unit, rbsp, sink);
     }
     match terms.mode {
-        Mode::Units => {
-            pass(state, header % 32);
-            Ok(())
-        }
-        Mode::Headers => join_slice(alloc, state, header, unit, sink),
-        Mode::Full => join_whole_slice(alloc, state, header, unit, sink),
+        Mode::Units => unreachable!(),
+        Mode::Headers => join_slice(state, header, unit, rbsp, sink),
+        Mode::Full => join_whole_slice(alloc, state, header, unit, rbsp, sink),
     }
 }
 
-/// What comes of a unit: the sink is told of it and of what is in it, and it joins those before it.
+/// What comes of a unit, with the RBSP that `read_bytes` made of it: the sink is told of the unit and of what is in it, and it joins
+/// those before it. The allocator is lent to a picture of another format alone.
 ///
-/// Err: the first check of the unit's course that fails, with its bit; Memory where a growth was refused; Write where the sink
-/// failed. After an Err what is kept is of no use.
+/// Err: the first check of the unit's course that fails, with its bit; Memory where a growth was refused, which is only where a slice
+/// begins a picture of another format than the one before it; Write where the sink failed. After an Err what is kept is of no use.
 pub fn judge_unit<S: FrameSink>(
     alloc: Global,
     terms: Terms,
     state: &mut State,
     unit: &NalUnit,
+    rbsp: &Option<Rbsp>,
     sink: &mut S,
 ) -> Result<(), Stop>
     requires count { S.failures sink.old < 2 ^ 64 - 1 }
     requires units { state.old.units ≤ 2 ^ 40 }
     requires pictures { state.old.slices.pictures ≤ state.old.units }
+    requires bytes { rbsp.now ≡ bytes_of terms.mode unit.now }
     requires kept { KeepsSome terms.mode false state.old }
     ensures turns { (frames : ℕ → Frame) (before : History) → Keeps terms.mode frames before state.old → Turns terms S.took S.failures frames before unit.now state.new sink.old sink.new result }
     ensures counts { OnOk result (state.new.units ≡ state.old.units + 1) }
     ensures pictures { OnOk result (state.new.slices.pictures ≤ state.new.units) }
+    ensures no_memory { (frames : ℕ → Frame) (before : History) → Keeps terms.mode frames before state.old → IsErrOf result Stop.Memory → ChangesFormat terms.mode before unit.now }
     ensures kept { OnOk result (S.failures sink.new ≡ S.failures sink.old) }
 {
     check_emulation(unit)?;
@@ -389,7 +394,7 @@ pub fn judge_unit<S: FrameSink>(
         &mut state.decoder,
         sink,
     )?;
-    join(alloc, terms, state, header, unit, sink)
+    join(alloc, terms, state, header, unit, rbsp, sink)
 }
 
 /// Whether a stream that is judged so has the pictures that it must have.
@@ -444,6 +449,7 @@ pub fn judge_end<S: FrameSink>(
     requires pictures { state.old.slices.pictures ≤ state.old.units }
     requires kept { KeepsSome mode false state.old }
     ensures ends { (frames : ℕ → Frame) (before : History) → Keeps mode frames before state.old → EndsAll mode S.took S.failures frames before bit (λ x. x) sink.old sink.new result }
+    ensures no_memory { IsErrOf result Stop.Memory → ⊥ }
 {
     close_if(mode, true, &mut state.slices, &mut state.decoder, sink)?;
     let pictures = state.slices.pictures;

@@ -1,6 +1,6 @@
 -- Turns of the loops over modes and over blocks, and how blocks lie in their arrays.
-use Rattle.std.proofs.Common.{◌≡◌, ◌≢◌, ℕ, zero, suc, ◌+◌, ◌-◌, ◌<◌, ◌≤◌, Bool, true, List, [], ◌∷◌, ◌++◌, length, take, replicate, get_or, slice_set, ℤ, pos, Some, Result, Ok, Err, refl, ap, sym, ◌∙◌, subst, arith, inl, inr, ◌⊎◌, length-append}
-use Rattle.std.proofs.Common.{get_or-set_other, get_or-set_same, length-set}
+use Rattle.std.proofs.Common.{◌≡◌, ◌≢◌, ℕ, zero, suc, ◌+◌, ◌-◌, ◌<◌, ◌≤◌, Bool, true, false, List, [], ◌∷◌, ◌++◌, length, take, replicate, get_or, slice_set, ℤ, pos, Some, Result, Ok, Err, refl, ap, sym, ◌∙◌, subst, arith, inl, inr, ◌⊎◌, length-append}
+use Rattle.std.proofs.Common.{get_or-set_other, get_or-set_same}
 use Rattle.std.specs.List.{slice_get}
 use Rattle.std.proofs.lemmas.List.{take_more_set, map-append}
 use Rattle.h264_base.specs.declared.stop.Stop.{Stop}
@@ -8,14 +8,14 @@ use Rattle.h264_base.specs.Call.{Call}
 use Rattle.h264_base.specs.Grammar.{Grammar}
 use Rattle.h264_base.specs.Meets.{Reader, Meets, Is}
 use Rattle.h264_base.proofs.Steps.{Leads, leads-on, stop, done, finish}
-use Rattle.h264_cavlc.specs.Block.{Block}
+use Rattle.h264_cavlc.specs.Block.{Block, residual_block}
 use Rattle.h264_near.specs.declared.samples.Samples.{Samples}
 use Rattle.h264_near.specs.Coded.{CodedMacroblock}
 use Rattle.h264_near.specs.Intra.{predicted_mode, block_samples, luma_nc, chroma_nc}
 use Rattle.h264_near.proofs.Places.{front, seam}
 use Rattle.h264_mbsyntax.specs.Intra.{block_mode, block_modes}
 use Rattle.h264_mbsyntax.specs.Residual.{block_if, is_coded, blocks_by, luma_block, chroma_block, no_block, totals_of, levels_of}
-use Rattle.h264_mbsyntax.specs.Stored.{Stored, kept, shown, IsBlank}
+use Rattle.h264_mbsyntax.specs.Stored.{Stored, shown, IsBlank}
 
 module _ {S : Type 0} {took : S → List Call → Type 0} {failures : S → ℕ} where
   -- one more mode
@@ -71,6 +71,14 @@ module _ {S : Type 0} {took : S → List Call → Type 0} {failures : S → ℕ}
   unfolding luma_block
   luma-met width picture slice size pattern b nc coded totals blocks n t p q m = rw (n, t, sym p, sym q) m
 
+  pub coded-met : {X : Type 0} {view : X → Block} {now mid : Reader} {s s' : S} {r : Result X Stop} (coded : Bool) (size nc : ℕ) → coded ≡ true → Meets took failures (Is view) (residual_block size nc) now mid s s' r → Meets took failures (Is view) (block_if coded size nc) now mid s s' r
+  unfolding block_if
+  coded-met coded size nc e m = rw e m
+
+  pub uncoded-met : {now : Reader} {s : S} (coded : Bool) (size nc : ℕ) → coded ≡ false → Meets {X = Unit {0}} took failures (Is (λ x. no_block size)) (block_if coded size nc) now now s s (Ok tt)
+  unfolding block_if
+  uncoded-met {now} {s} coded size nc e = rw e (done took failures (Is (λ x. no_block size)) (no_block size) now s tt refl)
+
   pub chroma-met : {X : Type 0} {view : X → Block} {now mid : Reader} {s s' : S} {r : Result X Stop} (width : ℕ) (picture : List CodedMacroblock) (slice nc : ℕ) (totals : List ℕ) (blocks : List Block) → totals_of blocks ≡ totals → nc ≡ chroma_nc width picture slice totals → Meets took failures (Is view) (block_if true 15 nc) now mid s s' r → Meets took failures (Is view) (chroma_block width picture slice blocks) now mid s s' r
   unfolding chroma_block
   chroma-met width picture slice nc totals blocks t q m = rw (t, sym q) m
@@ -81,29 +89,18 @@ whole [] (suc n) h = refl
 whole (x ∷ xs) zero h = absurd (omega arith)
 whole (x ∷ xs) (suc n) h = ap (λ l. x ∷ l) (whole xs n (omega arith))
 
--- the arrays keep their lengths
-pub kept-length : (levels : List (List ℤ)) (b total : ℕ) (by_place : List ℤ) → length (kept levels b total by_place) ≡ length levels
-unfolding kept
-kept-length levels b zero by_place = refl
-kept-length levels b (suc t) by_place = length-set levels b by_place
-
-kept-other : (levels : List (List ℤ)) (b k total : ℕ) (by_place d : List ℤ) → k ≢ b → get_or (kept levels b total by_place) k d ≡ get_or levels k d
-unfolding kept
-kept-other levels b k zero by_place d h = refl
-kept-other levels b k (suc t) by_place d h = get_or-set_other levels b k by_place d h
-
-kept-same : (size : ℕ) (levels : List (List ℤ)) (b total : ℕ) (by_place d : List ℤ) → b < length levels → IsBlank size by_place total → by_place ≡ shown size total (get_or (kept levels b total by_place) b d)
-unfolding kept
-kept-same size levels b zero by_place d h z = z refl
-kept-same size levels b (suc t) by_place d h z = sym (get_or-set_same levels b by_place d h)
-
 -- no block is there yet
 pub stored-none : (size : ℕ) (totals : List ℕ) (levels : List (List ℤ)) → Stored size 0 totals levels []
 stored-none size totals levels = record { count = refl; counted = refl; each = λ k h. absurd (omega arith) }
 
--- one more block
-pub stored-next : (size b : ℕ) (totals : List ℕ) (levels : List (List ℤ)) (blocks : List Block) (v : Block) → b < length totals → b < length levels → IsBlank size v.by_place v.total → Stored size b totals levels blocks → Stored size (b + 1) (slice_set totals b v.total) (kept levels b v.total v.by_place) (blocks ++ v ∷ [])
-stored-next size b totals levels blocks v ht hl z s = record {
+-- a block that stands in its place
+pub shown-of : (size total : ℕ) (by_place : List ℤ) → IsBlank size by_place total → by_place ≡ shown size total by_place
+shown-of size zero by_place z = z refl
+shown-of size (suc t) by_place z = refl
+
+-- one more block, where its place shows it and the other places stay
+stored-more : (size b : ℕ) (totals : List ℕ) (levels after : List (List ℤ)) (blocks : List Block) (v : Block) → b < length totals → ((k : ℕ) → k ≢ b → get_or after k (replicate size (pos 0)) ≡ get_or levels k (replicate size (pos 0))) → v.by_place ≡ shown size v.total (get_or after b (replicate size (pos 0))) → Stored size b totals levels blocks → Stored size (b + 1) (slice_set totals b v.total) after (blocks ++ v ∷ [])
+stored-more size b totals levels after blocks v ht others own s = record {
   count = length-append blocks (v ∷ []) ∙ ap (λ n. n + 1) s.count;
   counted = map-append (λ (x : Block). x.total) blocks (v ∷ []) ∙ ap (λ t. t ++ v.total ∷ []) s.counted ∙ sym (take_more_set totals b v.total ht);
   each = λ k h. go k h (apart k b h);
@@ -119,14 +116,26 @@ stored-next size b totals levels blocks v ht hl z s = record {
         map-length [] = refl
         map-length (x ∷ xs) = ap suc (map-length xs)
 
-    go : (k : ℕ) → k < b + 1 → (k < b) ⊎ (k ≡ b) → slice_get (levels_of (blocks ++ v ∷ [])) k ≡ Some (shown size (get_or (slice_set totals b v.total) k 0) (get_or (kept levels b v.total v.by_place) k (replicate size (pos 0))))
+    go : (k : ℕ) → k < b + 1 → (k < b) ⊎ (k ≡ b) → slice_get (levels_of (blocks ++ v ∷ [])) k ≡ Some (shown size (get_or (slice_set totals b v.total) k 0) (get_or after k (replicate size (pos 0))))
     go k h (inl l) =
         let differs : k ≢ b = λ e. absurd (omega arith) in
-        rw (map-append (λ (x : Block). x.by_place) blocks (v ∷ []), get_or-set_other totals b k v.total 0 differs, kept-other levels b k v.total v.by_place (replicate size (pos 0)) differs)
+        rw (map-append (λ (x : Block). x.by_place) blocks (v ∷ []), get_or-set_other totals b k v.total 0 differs, others k differs)
         (front (levels_of blocks) (v.by_place ∷ []) k (let n = lengths in omega arith) ∙ s.each k l)
     go k h (inr e) =
         rw (e, map-append (λ (x : Block). x.by_place) blocks (v ∷ []), get_or-set_same totals b v.total 0 ht)
-        (seam (levels_of blocks) v.by_place [] b (sym lengths) ∙ ap Some (kept-same size levels b v.total v.by_place (replicate size (pos 0)) hl z))
+        (seam (levels_of blocks) v.by_place [] b (sym lengths) ∙ ap Some own)
+
+-- one more block, whose levels are written into its place
+pub stored-next : (size b total : ℕ) (totals : List ℕ) (levels : List (List ℤ)) (by_place : List ℤ) (blocks : List Block) → b < length totals → b < length levels → IsBlank size by_place total → Stored size b totals levels blocks → Stored size (b + 1) (slice_set totals b total) (slice_set levels b by_place) (blocks ++ record { by_place = by_place; total = total } ∷ [])
+stored-next size b total totals levels by_place blocks ht hl z s =
+    stored-more size b totals levels (slice_set levels b by_place) blocks (record { by_place = by_place; total = total }) ht
+    (λ k differs. get_or-set_other levels b k by_place _ differs)
+    (shown-of size total by_place z ∙ ap (shown size total) (sym (get_or-set_same levels b by_place _ hl))) s
+
+-- one more block that is not coded: nothing is written
+pub stored-skip : (size b : ℕ) (totals : List ℕ) (levels : List (List ℤ)) (blocks : List Block) → b < length totals → Stored size b totals levels blocks → Stored size (b + 1) (slice_set totals b 0) levels (blocks ++ no_block size ∷ [])
+unfolding no_block
+stored-skip size b totals levels blocks ht s = stored-more size b totals levels levels blocks (no_block size) ht (λ k differs. refl) refl s
 
 -- no block is coded
 pub stored-blank : (size n : ℕ) (totals : List ℕ) (levels : List (List ℤ)) → totals ≡ replicate n 0 → Stored size n totals levels (replicate n (no_block size))
@@ -157,18 +166,3 @@ stored-blank size n totals levels e = record { count = tally n; counted = zeros 
 
     shown-none : (n k : ℕ) → k < n → replicate size (pos 0) ≡ shown size (get_or (replicate n 0) k 0) (get_or levels k (replicate size (pos 0)))
     shown-none n k h = rw (none_at n k) refl
-
-pub kept-some : (levels : List (List ℤ)) (b total : ℕ) (by_place : List ℤ) → 0 < total → slice_set levels b by_place ≡ kept levels b total by_place
-unfolding kept
-kept-some levels b zero by_place h = absurd (omega arith)
-kept-some levels b (suc t) by_place h = refl
-
-pub kept-none : (levels : List (List ℤ)) (b total : ℕ) (by_place : List ℤ) → total ≡ 0 → levels ≡ kept levels b total by_place
-unfolding kept
-kept-none levels b zero by_place h = refl
-kept-none levels b (suc t) by_place h = absurd (omega arith)
-
--- a block that stands in its place
-pub shown-of : (size total : ℕ) (by_place : List ℤ) → IsBlank size by_place total → by_place ≡ shown size total by_place
-shown-of size zero by_place z = z refl
-shown-of size (suc t) by_place z = refl

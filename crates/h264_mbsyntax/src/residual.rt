@@ -14,7 +14,7 @@ ghost use Rattle.h264_mbsyntax.specs.Coded.{HasCoefficients, HasCoefficients16, 
 use crate::macroblock::Macroblock;
 use h264_base::{ElementName, Elements, Rule, Stop};
 use h264_bits::{Bits, check, read_se, read_word};
-use h264_cavlc::{Levels, block, block_into};
+use h264_cavlc::block_into;
 use h264_near::Near;
 use h264_tables::Table;
 
@@ -87,39 +87,6 @@ fn is_coded(pattern: u8, b: usize) -> bool
     pattern / (1 << (b / 4)) % 2 == 1
 }
 
-/// Reads a block, if it is coded.
-#[inline]
-fn read_block_if<const N: usize, S: Elements>(
-    bits: &mut Bits,
-    coded: bool,
-    nc: u8,
-    sink: &mut S,
-) -> Result<Levels<N>, Stop>
-    requires size { N ≤ 16 }
-    requires room { S.failures sink.old < 2 ^ 64 - 1 }
-    ensures meets { Meets S.took S.failures (Is (λ b. record { by_place = b.by_place; total = b.total })) (syntax.block_if coded N nc) bits.old bits.new sink.old sink.new result }
-    ensures zeros { IfOk result (λ b. stored.IsBlank N b.by_place b.total) }
-{
-    if coded {
-        return block::<N, S>(bits, nc, sink);
-    }
-    Ok(Levels {
-        by_place: [0; N],
-        total: 0,
-    })
-}
-
-/// Keeps the levels of a block that has some.
-#[inline]
-fn keep<const N: usize, const M: usize>(levels: &mut [[i16; N]; M], b: usize, read: &Levels<N>)
-    requires { b < M }
-    ensures { levels.new ≡ stored.kept levels.old b read.now.total read.now.by_place }
-{
-    if read.total > 0 {
-        levels[b] = read.by_place;
-    }
-}
-
 /// Reads the luma blocks of size `N`, 16 or 15, into the places of their numbers.
 pub(crate) fn read_luma<const N: usize, S: Elements>(
     bits: &mut Bits,
@@ -137,10 +104,12 @@ pub(crate) fn read_luma<const N: usize, S: Elements>(
     ensures quiet { OnOk result (S.failures sink.new ≡ S.failures sink.old) }
 {
     for b in 0..16 {
-        let nc = near.nc(slice, totals, b);
-        let read = read_block_if::<N, S>(bits, is_coded(pattern, b), nc, sink)?;
-        totals[b] = read.total;
-        keep::<N, 16>(levels, b, &read);
+        if is_coded(pattern, b) {
+            let nc = near.nc(slice, totals, b);
+            totals[b] = block_into::<N, S>(bits, nc, &mut levels[b], sink)?;
+        } else {
+            totals[b] = 0;
+        }
     }
     Ok(())
 }
@@ -160,12 +129,8 @@ fn read_chroma_dc<S: Elements>(
         *totals = [0; 2];
         return Ok(());
     }
-    let cb = read_block_if::<4, S>(bits, true, 0, sink)?;
-    totals[0] = cb.total;
-    keep::<4, 2>(levels, 0, &cb);
-    let cr = read_block_if::<4, S>(bits, true, 0, sink)?;
-    totals[1] = cr.total;
-    keep::<4, 2>(levels, 1, &cr);
+    totals[0] = block_into::<4, S>(bits, 0, &mut levels[0], sink)?;
+    totals[1] = block_into::<4, S>(bits, 0, &mut levels[1], sink)?;
     Ok(())
 }
 
@@ -184,9 +149,7 @@ fn read_all_ac<S: Elements>(
 {
     for b in 0..8 {
         let nc = near.chroma_nc(slice, totals, b);
-        let read = read_block_if::<15, S>(bits, true, nc, sink)?;
-        totals[b] = read.total;
-        keep::<15, 8>(levels, b, &read);
+        totals[b] = block_into::<15, S>(bits, nc, &mut levels[b], sink)?;
     }
     Ok(())
 }

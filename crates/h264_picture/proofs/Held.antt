@@ -16,9 +16,8 @@ use Rattle.h264_recon.specs.Lines.{AreStored, store_of}
 use Rattle.h264_recon.specs.Step.{Shows, joined}
 use Rattle.h264_recon.specs.declared.store.Lines.{Lines}
 use Rattle.h264_recon.proofs.Step.{stored_wrap, stored_none, stored_moves, joined_before}
-use Rattle.h264_deblock.specs.Filtering.{edges_of, edges_done, is_chroma, IsOf}
+use Rattle.h264_deblock.specs.Filtering.{PlaneEdges, edges_done, is_chroma, IsOf}
 use Rattle.h264_deblock.specs.CodedEdges.{coded_edges}
-use Rattle.h264_deblock.specs.declared.filtering.Edges.{Edges}
 use Rattle.h264_deblock.proofs.Macroblocks.{side_lines, reached_more, reached_wrap, local}
 use Rattle.h264_picture.specs.Decoded.{Parameters, filters, given_by, macroblock_at, edges_at, IsDecoded}
 use Rattle.h264_picture.specs.Held.{IsSolved, IsHeld, AreReached}
@@ -62,9 +61,9 @@ samples-moved k slices picture u v c r f i j agree reached = λ p. record {
 }
 
 -- the macroblock is constructed, and its edges are filtered
-filtered-more : (k : Setting) (slices : ℕ → Parameters) (picture : List CodedMacroblock) (u : Component → ℕ → ℕ → ℕ) (e : Edges) (c r : ℕ) (before put after : Frame) → c < k.across → r < k.down → IsOf k.across k.down before →
-    ((p : Component) → edges_at slices k.across picture p (r * k.across + c) ≡ edges_of e p) → Shows c r u before put →
-    ((p : Component) → Holds (plane_of p put) (plane_of p after) (edges_done (side p) (is_chroma p) (edges_of e p) c r (at (plane_of p put)))) →
+filtered-more : (k : Setting) (slices : ℕ → Parameters) (picture : List CodedMacroblock) (u : Component → ℕ → ℕ → ℕ) (e : Component → PlaneEdges) (c r : ℕ) (before put after : Frame) → c < k.across → r < k.down → IsOf k.across k.down before →
+    ((p : Component) → edges_at slices k.across picture p (r * k.across + c) ≡ e p) → Shows c r u before put →
+    ((p : Component) → Holds (plane_of p put) (plane_of p after) (edges_done (side p) (is_chroma p) (e p) c r (at (plane_of p put)))) →
     AreReached k (edges_at slices k.across picture) u c r before → AreReached k (edges_at slices k.across picture) u (c + 1) r after
 filtered-more k slices picture u e c r before put after i j size here shown filtered reached = λ p.
     reached_more k.across k.down (side p) (is_chroma p) (edges_at slices k.across picture p) (u p) c r (plane_of p before) (plane_of p put) (plane_of p after) (side_lines p) (side_least p) (fits k slices picture p) i j
@@ -117,14 +116,14 @@ held-next k place slices picture m u v lines frame c r n i solved agree own stor
     }
 
 -- one macroblock, by what its construction and its filter promise
-pub held-step : (k : Setting) (place : ℕ → ℕ) (slices : ℕ → Parameters) (picture : List CodedMacroblock) (m : CodedMacroblock) (g : Coded) (e : Edges) (old new : Lines) (before put after : Frame) (c r : ℕ) →
-    length picture ≡ r * k.across + c → c < k.across → r < k.down → g ≡ given_by k.across picture place (slices m.slice) m → ((p : Component) → edges_of e p ≡ coded_edges (filters slices) k.across picture m p) →
+pub held-step : (k : Setting) (place : ℕ → ℕ) (slices : ℕ → Parameters) (picture : List CodedMacroblock) (m : CodedMacroblock) (g : Coded) (old new : Lines) (before put after : Frame) (c r : ℕ) →
+    length picture ≡ r * k.across + c → c < k.across → r < k.down → g ≡ given_by k.across picture place (slices m.slice) m →
     IsPossible g.prediction g.available → ((p : Component) → IsSized (plane_of p after) (plane_of p before).width (plane_of p before).height) →
     ((u : Component → ℕ → ℕ → ℕ) → IsAllowed g k.across c r → AreStored k.across c r u old → IsMade k c r g (joined c r put u)) →
     ((u : Component → ℕ → ℕ → ℕ) → IsAllowed g k.across c r → IsMade k c r g u → AreStored k.across c r u old → AreStored k.across (c + 1) r u new × Shows c r u before put) →
-    ((p : Component) → Holds (plane_of p put) (plane_of p after) (edges_done (side p) (is_chroma p) (edges_of e p) c r (at (plane_of p put)))) →
+    ((p : Component) → Holds (plane_of p put) (plane_of p after) (edges_done (side p) (is_chroma p) (coded_edges (filters slices) k.across picture m p) c r (at (plane_of p put)))) →
     IsHeld k place slices old before picture → IsHeld k place slices new after (picture ++ m ∷ [])
-held-step k place slices picture m g e old new before put after c r n i j is edges possible size some step filtered held =
+held-step k place slices picture m g old new before put after c r n i j is possible size some step filtered held =
     let column : length picture % k.across ≡ c = remainder (length picture) k.across r c i n in
     let row : length picture / k.across ≡ r = quotient (length picture) k.across r c i n in
     let stored : AreStored k.across c r held.u old = rw (column, row) at held.stored in
@@ -137,10 +136,10 @@ held-step k place slices picture m g e old new before put after c r n i j is edg
     let done = step v allowed made kept in
     let all = picture ++ m ∷ [] in
     let over : AreReached k (edges_at slices k.across all) v c r before = samples-moved k slices all held.u v c r before i j agree (edges-more k place slices picture (m ∷ []) held.u c r before n i j reached) in
-    let here : (p : Component) → edges_at slices k.across all p (r * k.across + c) ≡ edges_of e p = λ p. edges-next slices place k.across picture m p (r * k.across + c) n ∙ sym (edges p) in
+    let here : (p : Component) → edges_at slices k.across all p (r * k.across + c) ≡ coded_edges (filters slices) k.across picture m p = λ p. edges-next slices place k.across picture m p (r * k.across + c) n in
     let own : IsSolved k c r g v = record { made = made; possible = possible } in
     held-next k place slices picture m held.u v new after c r n i held.solved agree (subst (λ x. IsSolved k c r x v) is own) done.0
-    (filtered-more k slices all v e c r before put after i j held.size here done.1 filtered over)
+    (filtered-more k slices all v (coded_edges (filters slices) k.across picture m) c r before put after i j held.size here done.1 filtered over)
     (λ p. record { columns = (size p).columns ∙ (held.size p).columns; rows = (size p).rows ∙ (held.size p).rows })
 
 -- ---- the whole picture

@@ -2,12 +2,17 @@
 use Rattle.std.proofs.Common.{◌≡◌, ◌≢◌, ℕ, ◌<◌, ◌==◌, ◌&&◌, Bool, true, false, if◌then◌else◌, List, length, Some, None, slice_set, arith, ◌∙◌, refl, sym, ap}
 use Rattle.std.proofs.lemmas.Bool.{eqb-true, eqb-false}
 use Rattle.std.proofs.Math.ListN.{length-set}
+use Rattle.std.proofs.lemmas.List.{set-set}
 use Rattle.std.proofs.lemmas.Grind.{common_steps}
 use Rattle.h264_plane.specs.declared.frame.Frame.{Frame}
 use Rattle.h264_plane.specs.Frames.{frame_at, IsFrame, KeepsOtherFrames}
 use Rattle.h264_picture.specs.declared.frames.Frames.{Frames}
 use Rattle.std.specs.Prelude.{nat_lt}
 use Rattle.h264_picture.specs.Lent.{AreFrames, frame_within, lent_within}
+
+-- what is put where a frame was taken out stands there as in the pool before
+pub put-again : (pool taken mid : List Frame) (place : ℕ) (none frame : Frame) → taken ≡ slice_set pool place none → mid ≡ slice_set taken place frame → mid ≡ slice_set pool place frame
+put-again pool taken mid place none frame e f = f ∙ ap (λ (p : List Frame). slice_set p place frame) e ∙ set-set pool place none frame
 
 -- what was lent and is not written is lent
 still : (t u v : Bool) (x y : Frame) → x ≡ y → v ≡ false → (if t then (if u then None else Some y) else None) ≢ None → (if t then (if v then None else Some x) else None) ≡ (if t then (if u then None else Some y) else None)

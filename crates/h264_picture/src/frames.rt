@@ -55,7 +55,7 @@ impl Frames {
     }
 
     /// A picture begins in the frame at this place, which is moved out, as the one that was is put back.
-    pub(crate) fn begin(&mut self, alloc: Global, place: usize)
+    pub(crate) fn begin(&mut self, place: usize)
         requires { place < length self.old.pool }
         ensures count { length self.new.pool ≡ length self.old.pool }
         ensures place { self.new.place ≡ place }
@@ -65,7 +65,8 @@ impl Frames {
         ensures none { lent_within self.new place ≡ None }
         ensures others { (k : ℕ) → k ≢ place → lent_within self.old k ≢ None → lent_within self.new k ≡ lent_within self.old k }
     {
-        let frame = mem::replace(&mut self.frame, Frame::none(alloc));
+        let none = self.pool.take(self.place);
+        let frame = mem::replace(&mut self.frame, none);
         self.pool.put_back(self.place, frame);
         self.frame = self.pool.take(place);
         self.place = place;

@@ -6,6 +6,7 @@ ghost use Rattle.h264_plane.specs.Samples.{IsSized};
 ghost use Rattle.h264_plane.specs.Frames.{plane_of};
 ghost use Rattle.h264_plane.specs.declared.frame.Component.{Component};
 ghost use Rattle.h264_near.specs.Coded.{CodedMacroblock};
+ghost use Rattle.h264_near.specs.Keeps.{Keeps, Shows};
 ghost use Rattle.h264_scale.specs.Macroblock.{AreResiduals};
 ghost use Rattle.h264_scale.specs.declared.levels.Levels.{Levels};
 ghost use Rattle.h264_recon.specs.Inter.{Setting};
@@ -13,24 +14,23 @@ ghost use Rattle.h264_recon.specs.Constructed.{coded as coded_as, IsPossible};
 ghost use Rattle.h264_recon.specs.Lines.{store_of};
 ghost use Rattle.h264_recon.specs.Predicted.{prediction_in};
 ghost use Rattle.h264_recon.specs.Pool.{AreShown, AreUsable};
-ghost use Rattle.h264_deblock.specs.Filtering.{AreInside, edges_of};
-ghost use Rattle.h264_deblock.specs.CodedEdges.{coded_edges};
 ghost use Rattle.h264_picture.specs.Decoded.{Parameters, filters, given_by};
 ghost use Rattle.h264_picture.specs.Held.{IsHeld};
 
-use h264_deblock::{Edges, macroblock};
+use h264_deblock::{Coded, filter_coded};
 use h264_plane::{Frame, Pool};
 use h264_recon::{Lines, Macroblock, construct};
 use h264_scale::Residuals;
 
 /// Goes on by the macroblock at this column and row: constructs it in the frame from the lines, brings these up to date, and filters its edges. Where
-/// frame and lines hold a coded picture so far, they hold it with this macroblock.
-pub(crate) fn go_on(
+/// frame and lines hold a coded picture so far, they hold it with this macroblock: after every macroblock of a slice there are samples that meet the
+/// equations of all macroblocks so far (8.3, 8.4, 8.5), and the frame holds them, filtered by the edges so far (8.7).
+pub fn go_on(
     lines: &mut Lines,
     frame: &mut Frame,
     m: &Macroblock,
     residuals: &Residuals,
-    edges: &Edges,
+    coded: &Coded<'_>,
     pool: &Pool,
     column: usize,
     row: usize,
@@ -44,13 +44,13 @@ pub(crate) fn go_on(
     requires cb_lines { 8 * column + 8 ≤ vec_len lines.old.cb.above }
     requires cr_lines { 8 * column + 8 ≤ vec_len lines.old.cr.above }
     requires more { IsTrue m.now.available.above_right → 16 * column + 20 ≤ vec_len lines.old.y.above }
-    requires inside { (p : Component) → AreInside column row (edges_of edges.now p) }
     ensures lines { (p : Component) → vec_len (store_of p lines.new).above ≡ vec_len (store_of p lines.old).above }
     ensures size { (p : Component) → IsSized (plane_of p frame.new) (plane_of p frame.old).width (plane_of p frame.old).height }
-    ensures held { (k : Setting) (place : ℕ → ℕ) (slices : ℕ → Parameters) (picture : List CodedMacroblock) (coded : CodedMacroblock) (l : Levels) → length picture ≡ row * k.across + column → column < k.across → row < k.down →
-        AreShown k pool.now (prediction_in m.now.prediction) → AreResiduals l residuals.now → IsPossible (prediction_in m.now.prediction) m.now.available → coded_as m.now l ≡ given_by k.across picture place (slices coded.slice) coded →
-        ((p : Component) → edges_of edges.now p ≡ coded_edges (filters slices) k.across picture coded p) → IsHeld k place slices lines.old frame.old picture → IsHeld k place slices lines.new frame.new (picture ++ coded ∷ []) }
+    ensures held { (k : Setting) (place : ℕ → ℕ) (slices : ℕ → Parameters) (picture : List CodedMacroblock) (q : CodedMacroblock) (l : Levels) → length picture ≡ row * k.across + column → column < k.across → row < k.down →
+        AreShown k pool.now (prediction_in m.now.prediction) → AreResiduals l residuals.now → IsPossible (prediction_in m.now.prediction) m.now.available → coded_as m.now l ≡ given_by k.across picture place (slices q.slice) q →
+        Keeps k.across picture coded.now.near.now → Shows coded.now.own.now q → filters slices q.slice ≡ coded.now.filter.now → ((n : ℕ) → (filters slices n).chroma_qp_index_offset ≡ coded.now.filter.now.chroma_qp_index_offset) →
+        IsHeld k place slices lines.old frame.old picture → IsHeld k place slices lines.new frame.new (picture ++ q ∷ []) }
 {
     construct(lines, frame, m, residuals, pool, column, row);
-    macroblock(frame, edges, column, row);
+    filter_coded(frame, coded, column, row);
 }

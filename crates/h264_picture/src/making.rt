@@ -14,7 +14,7 @@ ghost use Rattle.h264_recon.specs.Predicted.{prediction_in};
 
 use crate::in_place::go_on;
 use crate::sequence::Sequence;
-use h264_deblock::coded_edges;
+use h264_deblock::Coded;
 use h264_mbsyntax::Macroblock as Read;
 use h264_near::Near;
 use h264_recon::{Available, Macroblock, SliceWeights, given};
@@ -76,16 +76,15 @@ impl Sequence {
         ensures makes { (making : Option Making) → MakesIn making slice.now self.old → MakesIn making slice.now self.new }
         ensures samples { (width size : ℕ) (making : Option Making) (picture : List CodedMacroblock) (coded : CodedMacroblock) → HoldsIn width size picture self.old → HasSamples making picture self.old → MakesIn making slice.now self.old → HoldsMacroblock self.old.mb coded → coded.slice ≡ slice.now.number → IsPossible width slice.now picture coded.prediction → AreResiduals (levels_of slice.now.chroma_qp_index_offset coded) residuals.now → HasSamples making (picture ++ coded ∷ []) self.new }
     {
-        let edges = coded_edges(
-            &self.near,
-            &self.mb.contexts,
-            &self.filter,
-            self.column,
-            self.row,
-        );
+        let (read, near) = (&self.mb, &self.near);
+        let coded = Coded {
+            near,
+            own: &read.contexts,
+            filter: &self.filter,
+        };
         let m = given_within(
-            &self.mb,
-            &self.near,
+            read,
+            near,
             slice,
             &self.places,
             &self.weights,
@@ -98,7 +97,7 @@ impl Sequence {
             &mut self.frames.frame,
             &m,
             residuals,
-            &edges,
+            &coded,
             &self.frames.pool,
             self.column,
             self.row,

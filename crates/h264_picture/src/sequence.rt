@@ -99,7 +99,7 @@ impl Sequence {
     }
 
     /// Begins a picture in the frame at a place.
-    pub(crate) fn begin(&mut self, alloc: Global, place: usize)
+    pub(crate) fn begin(&mut self, place: usize)
         requires { place < length self.old.frames.pool }
         ensures made { (width size : ℕ) (making : Option Making) → ServesIn width size self.old → HoldsMade width size making [] self.new }
         ensures count { length self.new.frames.pool ≡ length self.old.frames.pool }
@@ -109,7 +109,7 @@ impl Sequence {
         ensures none { lent_within self.new.frames place ≡ None }
         ensures others { (k : ℕ) → k ≢ place → lent_within self.old.frames k ≢ None → lent_within self.new.frames k ≡ lent_within self.old.frames k }
     {
-        self.frames.begin(alloc, place);
+        self.frames.begin(place);
         self.places = [another_than(place); 16];
         self.near.clear();
         self.next = 0;

@@ -23,7 +23,6 @@ use std::mem;
 /// sequence are released.
 #[derive(Drop)]
 pub struct Work {
-    alloc: Global,
     /// The first place of the active sequence: 0 or 17.
     pub(crate) base: usize,
     pub(crate) active: Option<Sequence>,
@@ -55,13 +54,12 @@ impl Work {
     ghost use Rattle.h264_picture.specs.Making.{Making, HoldsSamples, IsSliceOf, IsDecodedIn};
     ghost use Rattle.h264_picture.specs.Places.{first_place, is_active_place, places as places_of, lent, IsReleased, HasBegun, HasSize, KeepsOthers, KeepsFrames, IsFrameOf};
 
-    /// A place for no pictures yet, which takes no memory.
-    pub fn new(alloc: Global) -> Work
+    /// A place for no pictures yet. It has no allocator.
+    pub fn new() -> Work
         ensures none { (p : ℕ) → lent result p ≡ None }
         ensures released { IsReleased result }
     {
         Work {
-            alloc,
             base: 0,
             active: None,
             older: None,
@@ -70,7 +68,7 @@ impl Work {
 
     /// Takes all memory of the pictures of a sequence: contexts, lines, and a frame more than its picture buffer holds. The frames that there were
     /// keep their places until they are released; those that were not released before go. Memory: it was refused, and all is as before.
-    pub fn activate(&mut self, sps: &Sps) -> Result<(), Stop>
+    pub fn activate(&mut self, alloc: Global, sps: &Sps) -> Result<(), Stop>
         requires { is_frame_size sps.now.frame_size ≡ true }
         ensures serves { OnOk result (Serves sps.now.frame_size.width (sps.now.frame_size.width * sps.now.frame_size.height) self.new) }
         ensures places { OnOk result (places_of self.new ≡ buffer_size sps.now + 1) }
@@ -79,7 +77,7 @@ impl Work {
         ensures older { OnOk result (IsReleased self.old → (p : ℕ) → lent self.old p ≢ None → is_active_place (first_place self.new) p ≡ false) }
         ensures err { IfErr result (λ e. (e ≡ Stop.Memory) × (self.new ≡ self.old)) }
     {
-        let Ok(sequence) = Sequence::new(self.alloc, sps) else {
+        let Ok(sequence) = Sequence::new(alloc, sps) else {
             return Err(Stop::Memory);
         };
         self.older = frames_of(mem::replace(&mut self.active, Some(sequence)));
@@ -137,7 +135,7 @@ impl Work {
         let k = place - self.base;
         match &mut self.active {
             None => {}
-            Some(sequence) => sequence.begin(self.alloc, k),
+            Some(sequence) => sequence.begin(k),
         }
     }
 

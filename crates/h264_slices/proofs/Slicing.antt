@@ -10,7 +10,7 @@ use Rattle.h264_units.specs.Stream.{NalUnit}
 use Rattle.h264_sps.specs.declared.sps.Sps.{Sps}
 use Rattle.h264_pps.specs.declared.Pps.{Pps}
 use Rattle.h264_sets.specs.Sets.{Maps, pair_of, with_active, IsActive}
-use Rattle.h264_sets.proofs.Content.{decides-sps}
+use Rattle.h264_sps.proofs.Content.{decides-sps}
 use Rattle.h264_header.proofs.Named.{named-pair}
 use Rattle.h264_sets.specs.declared.SetPair.{SetPair}
 use Rattle.h264_header.specs.declared.header.Header.{Header}

@@ -48,7 +48,7 @@ fn format_of(sps: &Sps) -> Format
 }
 
 impl Decoder {
-    ghost use Rattle.std.specs.Prelude.{◌≡◌, ℕ, ◌+◌, ◌-◌, ◌<◌, ◌≤◌, ◌^◌, ◌⊎◌, true, false, [], ◌∷◌, List, Some, None, length, get_or, OnOk, IfErr, IsErrOf};
+    ghost use Rattle.std.specs.Prelude.{◌≡◌, ℕ, ◌+◌, ◌-◌, ◌<◌, ◌≤◌, ◌^◌, ◌⊎◌, true, false, [], ◌∷◌, List, Some, None, length, get_or, Ok, OnOk, IfErr, IsErrOf};
     ghost use Rattle.h264_base.specs.declared.mode.Mode.{Mode};
     ghost use Rattle.h264_base.specs.declared.mode.Mode.TheVariants as modes;
     ghost use Rattle.h264_plane.specs.declared.frame.Frame.{Frame};
@@ -75,25 +75,26 @@ impl Decoder {
     ghost use Rattle.h264_slices.specs.Framing.{EndsFrames, ReadsSlice};
 
     /// Before the first picture. It takes no memory.
-    pub fn new(alloc: Global) -> Decoder
+    pub fn new() -> Decoder
         ensures { (mode : Mode) (frames : ℕ → Frame) → KeepsDecoder mode frames false false [] result }
     {
         Decoder {
-            work: Work::new(alloc),
+            work: Work::new(),
             output: Output::new(),
             format: None,
             place: 0,
         }
     }
 
-    /// Room for the pictures of a sequence; another format comes with an IDR picture alone. Memory: it was refused.
+    /// Room for the pictures of a sequence; another format comes with an IDR picture alone, and takes memory. Memory: it was refused.
     #[tactic(auto, using(crate::proofs::Reading::usable_size))]
-    fn activate(&mut self, sps: &Sps) -> Result<(), Stop>
+    fn activate(&mut self, alloc: Global, sps: &Sps) -> Result<(), Stop>
         requires { is_usable sps.now ≡ true }
         ensures room { HasFormat self.old.format self.old.work → OnOk result (IsRoomFor (format_of sps.now) self.new.work) }
         ensures format { OnOk result (self.new.format ≡ Some (format_of sps.now)) }
         ensures kept { IsReleased self.old.work → OnOk result (KeepsLent self.old.work self.new.work) }
         ensures others { self.old.format ≡ Some (format_of sps.now) → OnOk result (self.new ≡ self.old) }
+        ensures stands { self.old.format ≡ Some (format_of sps.now) → result ≡ Ok tt }
         ensures output { self.new.output ≡ self.old.output }
         ensures sized { IsReleased self.old.work → IsSized self.old.format self.old.output → OnOk result (IsSized self.new.format self.new.output ⊎ AreOlder self.old.work self.new.work) }
         ensures err { IfErr result (λ e. e ≡ Stop.Memory) }
@@ -102,21 +103,22 @@ impl Decoder {
         if self.format == Some(format) {
             return Ok(());
         }
-        self.work.activate(sps)?;
+        self.work.activate(alloc, sps)?;
         self.format = Some(format);
         Ok(())
     }
 
     /// Begins a picture at a place where no frame of the buffer stands (C.4.4), with the places of its sequence where it is the first of one.
     ///
-    /// Err: Memory alone, where a growth was refused.
-    pub fn begin(&mut self, sps: &Sps) -> Result<(), Stop>
+    /// Err: Memory alone, where a growth was refused; never where the format stands.
+    pub fn begin(&mut self, alloc: Global, sps: &Sps) -> Result<(), Stop>
         requires usable { is_usable sps.now ≡ true }
         requires kept { EntersSome self.old }
         ensures begins { (frames : ℕ → Frame) (slice : CodedSlice) (pictures : List CodedPicture) → slice.sps ≡ sps.now → EntersFrames frames slice pictures self.old → OnOk result (BegunFrames frames slice pictures self.new) }
+        ensures stands { self.old.format ≡ Some (format_of sps.now) → result ≡ Ok tt }
         ensures err { IfErr result (λ e. e ≡ Stop.Memory) }
     {
-        self.activate(sps)?;
+        self.activate(alloc, sps)?;
         let first = self.work.first_place();
         let Some(place) = self.output.free_place(first, self.work.places()) else {
             unreachable!()
@@ -204,6 +206,7 @@ impl Decoder {
         requires few { picture.now.picture < 2 ^ 62 }
         requires kept { KeepsSomeEnd picture.now held.now self.old }
         ensures ends { (frames : ℕ → Frame) (p : CodedPicture) (ps : List CodedPicture) → picture.now ≡ ended_picture p ps → held.now ≡ held_after (p ∷ ps) → length (last_slice p).macroblocks ≡ picture_size p.first.sps → KeepsFrames frames true false (p ∷ ps) self.old → EndsFrames modes.Full S.took S.failures frames true true (p ∷ ps) (steps_outcome (end_frames modes.Full (p ∷ ps))) self.new sink.old sink.new result }
+        ensures format { self.new.format ≡ self.old.format }
         ensures kept { OnOk result (S.failures sink.new ≡ S.failures sink.old) }
         ensures no_memory { IfErr result (λ e. e ≡ Stop.Write) }
     {

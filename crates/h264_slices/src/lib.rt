@@ -8,7 +8,8 @@
 //! (`specs/Slices.antt`). What a whole unit and a stream come to stands above.
 //!
 //! Promised: each call does what the steps of the definitions say, in their order, and stops at the first rule that is not met;
-//! what it keeps is that of the units so far (`specs/Keeping.antt`). Memory comes from `Decoder::begin` alone.
+//! what it keeps is that of the units so far (`specs/Keeping.antt`). Memory comes from `Decoder::begin` alone, and only
+//! where a picture has another format than the decoder; to it alone the allocator is lent.
 #![tactic(auto)]
 
 pub mod decoder;

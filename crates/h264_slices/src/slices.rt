@@ -193,6 +193,7 @@ fn check_rules<S: FrameSink>(
     ensures frames { (frames : ℕ → Frame) (before : History) (unit : UnitView) → KeepsSlices before begins slices.old → begins ≡ begins_at before header.now → KeepsDecoder mode frames (goes_on before) begins (runs_of before) decoder.old → OnOk result (EntersDecoder mode frames begins (with_sets unit header.now [] (pps.now, sps.now)) (goes_on before) (runs_of before) decoder.new) }
     ensures filled { begins ≡ true → OnOk result (all_filled (numbering_of sps.now header.now) (unused_short_term_frame_nums (is_idr header.now) slices.old.prev_ref_frame_num (numbering_of sps.now header.now)) slices.old.held ≡ Some slices.new.held) }
     ensures typed { OnOk result (is_typed header.now ≡ true) }
+    ensures format { decoder.new.format ≡ decoder.old.format }
     ensures pictures { slices.new.pictures ≡ slices.old.pictures }
     ensures no_memory { IsErrOf result Stop.Memory → ⊥ }
     ensures kept { OnOk result (S.failures sink.new ≡ S.failures sink.old) }
@@ -307,6 +308,7 @@ pub fn judge_rules<S: FrameSink>(
     ensures due { OnOk result (slices.new.due ≡ false) }
     ensures header { header.new ≡ record header.old { marking = header.new.marking } }
     ensures typed { OnOk result (is_typed header.old ≡ true) }
+    ensures format { decoder.new.format ≡ decoder.old.format }
     ensures pictures { slices.new.pictures ≤ slices.old.pictures + 1 }
     ensures no_memory { IsErrOf result Stop.Memory → ⊥ }
     ensures kept { OnOk result (S.failures sink.new ≡ S.failures sink.old) }

@@ -1,3 +1,4 @@
+pub mod Content
 pub mod Padded
 pub mod Regroup
 pub mod Types

@@ -1,11 +1,14 @@
 -- What the verdict says of predictions and of the buffer, at each picture of a stream.
-use Rattle.std.proofs.Common.{◌≡◌, ℕ, Bool, true, false, List, ◌∷◌, ◌++◌, sym, ◌∙◌, subst}
+use Rattle.std.proofs.Common.{◌≡◌, ℕ, Bool, true, false, List, [], ◌∷◌, ◌++◌, refl, sym, ◌∙◌, subst, arith, append_assoc}
 use Rattle.h264_judge.specs.Units.{terms_of}
 use Rattle.h264_base.specs.declared.mode.Target.{Target}
+use Rattle.h264_base.specs.declared.mode.Mode.{Mode}
 use Rattle.h264_base.specs.declared.mode.Mode.TheVariants as modes
 use Rattle.h264_judge.specs.declared.state.Summary.{Summary}
 use Rattle.h264_slices.specs.Telling.{Told}
 use Rattle.h264_slices.specs.History.{History}
+use Rattle.h264_slices.specs.Steps.{AreMet}
+use Rattle.h264_judge.specs.Units.{end_steps}
 use Rattle.h264_slices.specs.Pictures.{CodedPicture, goes_on, held_in, runs_of}
 use Rattle.h264_slices.specs.Buffering.{within_newest}
 use Rattle.h264_slices.specs.Keeping.{ended_pictures}
@@ -13,7 +16,9 @@ use Rattle.h264_slices.specs.Sound.{AreSound, has_ended}
 use Rattle.h264_slices.specs.Held.{AreAmong}
 use Rattle.h264_verify.specs.Predicting.{ArePredicted}
 use Rattle.h264_verify.specs.Within.{DecodesWithin, EndsWithin}
+use Rattle.h264_verify.specs.Decodable.{IsDecodable, EachIsDecodable, AreDecodable}
 use Rattle.h264_verify.specs.Verdict.{AreLegal, Holds}
+use Rattle.h264_verify.proofs.Levels.{HasRoom, EachRoom, legal-room, ended-room, room-at}
 use Rattle.h264_verify.proofs.Leaving.{stands, all-sound}
 use Rattle.h264_verify.proofs.Named.{AreRead}
 use Rattle.h264_verify.proofs.Predicting.{read-at, are-predicted}
@@ -32,8 +37,11 @@ decodes-within ended p ps s =
       filling = λ numbers others m. let f = filling-sits ended p ps numbers others s m in (f.within, f.sized ∙ sym old.sized);
     }
 
-ends-within : (p : CodedPicture) (ps : List CodedPicture) → AreSound true (p ∷ ps) → EndsWithin p ps
-ends-within p ps s = let new = after-sits (p ∷ ps) s in record { within = new.within; size = new.sized; level = size-fits p.first.sps s.0.usable }
+pub ends-within : (p : CodedPicture) (ps : List CodedPicture) → AreSound true (p ∷ ps) → HasRoom p.first.sps → EndsWithin p ps
+ends-within p ps s room =
+    let new = after-sits (p ∷ ps) s in
+    let fits = size-fits p.first.sps s.0.usable in
+    record { within = new.within; size = new.sized; level = omega (arith, fits, room) }
 
 -- ---- of units that are legal
 
@@ -51,9 +59,35 @@ module _ (target : Target) (before : History) (told : List Told) (l : AreLegal (
   legal-decodes e = let s = newest e in decodes-within s.0 p ps s.1
 
   pub legal-ends : ended_pictures (goes_on before) false (runs_of before) ≡ later ++ p ∷ ps → EndsWithin p ps
-  legal-ends e = ends-within p ps (ended-at later p ps (subst (λ (all : List CodedPicture). AreSound true all) e (ended-are (goes_on before) (runs_of before) (stands target before told l).sound)))
+  legal-ends e =
+      ends-within p ps (ended-at later p ps (subst (λ (all : List CodedPicture). AreSound true all) e (ended-are (goes_on before) (runs_of before) (stands target before told l).sound)))
+      (room-at later p ps (subst EachRoom e (ended-room (goes_on before) (runs_of before) (legal-room target before told l))))
 
--- ---- of a stream with a yes
+-- ---- of a stream whose end is legal too
 
-pub whole-ends : (target : Target) (bytes : List ℕ) (told : List Told) (summary : Summary) (h : Holds (terms_of modes.Full target) bytes told summary) (later : List CodedPicture) (p : CodedPicture) (ps : List CodedPicture) → runs_of h.units ≡ later ++ p ∷ ps → EndsWithin p ps
-whole-ends target bytes told summary h later p ps e = ends-within p ps (ended-at later p ps (subst (λ (all : List CodedPicture). AreSound true all) e (all-sound target bytes told summary h)))
+module _ (target : Target) (units : History) (first last : List Told) (bit : ℕ) (l : AreLegal (terms_of modes.Full target) units first) (end : AreMet (end_steps modes.Full units bit) last) where
+  is-decodable : (later : List CodedPicture) (p : CodedPicture) (ps : List CodedPicture) → runs_of units ≡ later ++ p ∷ ps → IsDecodable p ps
+  is-decodable later p ps e = record {
+    predicted = legal-predicted target units first l later p ps e;
+    held = legal-among target units first l later p ps e;
+    decodes = legal-decodes target units first l later p ps e;
+    ends = ends-within p ps (ended-at later p ps (subst (λ (all : List CodedPicture). AreSound true all) e (all-sound target units first last bit l end))) (room-at later p ps (subst EachRoom e (legal-room target units first l)));
+  }
+
+  each-decodable : (later ps : List CodedPicture) → runs_of units ≡ later ++ ps → EachIsDecodable ps
+  each-decodable later [] e = tt
+  each-decodable later (p ∷ ps) e = (is-decodable later p ps e, each-decodable (later ++ p ∷ []) ps (e ∙ sym (append_assoc later (p ∷ []) ps)))
+
+-- its pictures, where slice data are read
+pub are-decodable : (mode : Mode) (target : Target) (units : History) (first last : List Told) (bit : ℕ) → AreLegal (terms_of mode target) units first → AreMet (end_steps mode units bit) last → AreDecodable mode (runs_of units)
+are-decodable modes.Units target units first last bit l e = tt
+are-decodable modes.Headers target units first last bit l e = tt
+are-decodable modes.Full target units first last bit l e = each-decodable target units first last bit l e [] (runs_of units) refl
+
+-- one of them
+pub decodable-at : (later : List CodedPicture) (p : CodedPicture) (ps : List CodedPicture) → EachIsDecodable (later ++ p ∷ ps) → IsDecodable p ps
+decodable-at [] p ps d = d.0
+decodable-at (q ∷ later) p ps d = decodable-at later p ps d.1
+
+pub whole-decodable : (target : Target) (bytes : List ℕ) (told : List Told) (summary : Summary) (h : Holds (terms_of modes.Full target) bytes told summary) (later : List CodedPicture) (p : CodedPicture) (ps : List CodedPicture) → runs_of h.units ≡ later ++ p ∷ ps → IsDecodable p ps
+whole-decodable target bytes told summary h later p ps e = decodable-at later p ps (subst EachIsDecodable e h.pictures)

@@ -1,19 +1,20 @@
 -- The steps of a session one after another, with frames to which more come.
-use Rattle.std.proofs.Common.{◌≡◌, ℕ, ◌≤◌, ◌==◌, true, false, IsFalse, drop, List, [], ◌++◌, length, ◌+◌, ◌*◌, Option, Result, Ok, refl, sym, ◌∙◌, subst, arith}
+use Rattle.std.proofs.Common.{◌≡◌, ℕ, ◌≤◌, ◌==◌, ◌||◌, ◌&&◌, Bool, true, false, IsFalse, drop, List, [], ◌++◌, length, ◌+◌, ◌*◌, ◌⊎◌, inl, inr, Option, Result, Ok, Err, refl, ap, sym, ◌∙◌, subst, arith}
 use Rattle.std.proofs.lemmas.Bool.{eqb-true}
 use Rattle.std.proofs.lemmas.List.{nil_from_length}
 use Rattle.h264_judge.specs.declared.state.Terms.{Terms}
 use Rattle.h264_base.specs.declared.stop.Stop.{Stop}
+use Rattle.h264_base.specs.declared.stop.Stop.TheVariants.{No, Outside, Memory, Read, Write}
 use Rattle.h264_base.specs.Call.{Call}
 use Rattle.h264_plane.specs.declared.frame.Frame.{Frame}
-use Rattle.h264_units.specs.Stream.{NalUnit}
+use Rattle.h264_units.specs.Stream.{NalUnit, Next}
 use Rattle.h264_units.specs.Splitting.{Splitting, Pushed, Taken, Finished}
 use Rattle.h264_judge.specs.declared.state.State.{State}
 use Rattle.h264_judge.specs.declared.state.Summary.{Summary}
 use Rattle.h264_slices.specs.Outcome.{Plays}
 use Rattle.h264_slices.specs.Telling.{Told, took_with, Agree, AreOf}
 use Rattle.h264_verify.specs.Judging.{Judging, judging}
-use Rattle.h264_verify.specs.Session.{Standing, Goes, Fed}
+use Rattle.h264_verify.specs.Session.{Standing, Goes, Fed, StopsBy}
 use Rattle.h264_slices.specs.History.{History}
 use Rattle.h264_judge.specs.Keeping.{Keeps, KeepsSome}
 use Rattle.h264_slices.specs.Keeping.{ended_in}
@@ -22,9 +23,14 @@ use Rattle.h264_judge.specs.Turning.{Turns, EndsAll}
 use Rattle.h264_verify.specs.Feeding.{behind, GoesOn, StopsOn, FinishesOn}
 use Rattle.h264_verify.specs.Verdict.{SameTold}
 use Rattle.h264_judge.proofs.Agreeing.{of-more, of-both, calls-agree, decoded-told-agree, tells-agree, plays-agree}
+use Rattle.h264_judge.specs.Memory.{is_read, ChangesFormat}
+use Rattle.h264_judge.specs.Units.{is_slice}
+use Rattle.h264_slices.specs.UnitHeader.{header_of, nal_unit_type}
+use Rattle.h264_base.specs.declared.mode.Mode.{Mode}
+use Rattle.h264_verify.specs.Progress.{LastIsRead}
 use Rattle.h264_judge.proofs.Growing.{unit-grows}
-use Rattle.h264_verify.proofs.Finishing.{finish-unit}
-use Rattle.h264_verify.proofs.Feeding.{goes-push, goes-unit, goes-none-taken, goes-both, goes-none, stops-after}
+use Rattle.h264_verify.proofs.Finishing.{finish-unit, finish-bytes}
+use Rattle.h264_verify.proofs.Feeding.{memory-stops, goes-push, goes-unit, goes-none-taken, goes-both, goes-none, stops-after}
 use Rattle.h264_verify.proofs.Sources.{goes-more}
 
 pub not-less : (n : ℕ) → n ≤ n
@@ -76,6 +82,22 @@ module _ {S : Type 0} {terms : Terms} {took : S → List Call → Type 0} {frame
     stops = stops-after (judging terms) (took_with b.made took) failures old (behind mid a.after) piece left s0 s1 s2 stop (goes-agree took (ended_in a.after) a.made b.made b.same a.goes a.of) k b.stops;
   }
 
+-- where the sink failed, that is the stop
+pub stops-told : {S : Type 0} {terms : Terms} {took : S → List Call → Type 0} {failures : S → ℕ} {frames : ℕ → Frame} {old : Standing History} {piece : List ℕ} {s s' : S} {stop : Stop} → StopsOn terms took failures frames old piece s s' stop → (failures s' ≡ failures s) ⊎ (stop ≡ Write)
+stops-told {terms = terms} {took = took} {failures = failures} {old = old} {piece = piece} {s = s} {s' = s'} {stop = stop} q = by stop q.stops.stops
+  where
+    by : (e : Stop) → StopsBy (judging terms) (took_with q.made took) failures old piece s s' e → (failures s' ≡ failures s) ⊎ (e ≡ Write)
+    by (No bit rule) p = inl p.1
+    by (Outside bit feature) p = inl p.1
+    by Memory p = inl p.1
+    by Read p = absurd p
+    by Write p = inr refl
+
+-- as an answer
+pub told-err : {X : Type 0} {a b : ℕ} (stop : Stop) → (a ≡ b) ⊎ (stop ≡ Write) → (a ≡ b) ⊎ (let r : Result X Stop = Err stop in r ≡ Err Write)
+told-err stop (inl e) = inl e
+told-err stop (inr e) = inr (ap Err e)
+
 -- two pieces, one after another, are as one
 pub on-then : {S : Type 0} {terms : Terms} {took : S → List Call → Type 0} {frames : ℕ → Frame} {old : Standing History} {mid split : Splitting} {first state : State} {a b : List ℕ} {s0 s1 s2 : S} (f : GoesOn terms took frames old mid first a [] s0 s1) → GoesOn terms took f.made (behind mid f.after) split state b [] s1 s2 → GoesOn terms took frames old split state (a ++ b) [] s0 s2
 unfolding goes-more
@@ -122,13 +144,48 @@ on-keeps g = record { frames = g.made; before = g.after; keeps = g.keeps }
 -- ---- the end of the input
 
 -- a unit, and then the end
-pub finishes-both : {S X : Type 0} {terms : Terms} {took : S → List Call → Type 0} {failures : S → ℕ} {frames : ℕ → Frame} {before : History} {unit : NalUnit} {state : State} {bit : ℕ} {s s' s'' : S} {x : X} {r : Result Summary Stop} (old mid new : Splitting) (end : ℕ) → Finished old mid → Taken mid new unit → end ≡ new.at + length new.rest → bit ≡ 8 * end → (t : Turns terms took failures frames before unit state s s' (Ok x)) → EndsAll terms.mode took failures t.made t.after bit (λ (y : Summary). y) s' s'' r → FinishesOn terms took failures frames (behind old before) s s'' r
-finishes-both {X} {terms} {took} {failures} {frames} {before} {unit} {s} {s'} {s''} {x} {r} old mid new end f t n e turn last =
+pub finishes-both : {S X : Type 0} {terms : Terms} {took : S → List Call → Type 0} {failures : S → ℕ} {frames : ℕ → Frame} {before : History} {unit : NalUnit} {state : State} {bit : ℕ} {s s' s'' : S} {x : X} {r : Result Summary Stop} (old mid new : Splitting) (end : ℕ) → Finished old mid → Taken mid new unit → end ≡ new.at + length new.rest → bit ≡ 8 * end → (r ≡ Err Memory → ⊥) → (t : Turns terms took failures frames before unit state s s' (Ok x)) → EndsAll terms.mode took failures t.made t.after bit (λ (y : Summary). y) s' s'' r → FinishesOn terms took failures frames (behind old before) s s'' r
+finishes-both {X} {terms} {took} {failures} {frames} {before} {unit} {s} {s'} {s''} {x} {r} old mid new end f t n e quiet turn last =
     let grows = unit-grows terms before turn.after unit turn.plays.plays.0 in
     let first : Plays (took_with last.made took) failures (λ (y : X). turn.after) (unit_outcome terms before unit) s s' (Ok x) = plays-agree took (ended_in turn.after) turn.made last.made failures (λ (y : X). turn.after) (unit_outcome terms before unit) s s' (Ok x) last.same grows.1 turn.plays in
     let ends : Plays (took_with last.made took) failures (λ (y : Summary). y) (end_outcome terms.mode turn.after (8 * end)) s' s'' r = subst (λ (b : ℕ). Plays (took_with last.made took) failures (λ (y : Summary). y) (end_outcome terms.mode turn.after b) s' s'' r) e last.plays in
     record {
       made = last.made;
       same = agree-both (ended_in before) (ended_in turn.after) frames turn.made last.made turn.same grows.0 last.same;
-      finishes = finish-unit (judging terms) (took_with last.made took) failures (λ (y : X). turn.after) old mid new before unit s s' s'' end x r f t first n ends;
+      finishes = finish-unit (judging terms) (took_with last.made took) failures (λ (y : X). turn.after) old mid new before unit s s' s'' end x r f t first n quiet ends;
     }
+
+-- ---- want of memory
+
+-- it was refused for bytes
+pub on-bytes : {S : Type 0} (terms : Terms) (took : S → List Call → Type 0) (failures : S → ℕ) (frames : ℕ → Frame) (old : Standing History) (piece : List ℕ) (s : S) (stop : Stop) → stop ≡ Memory → StopsOn terms took failures frames old piece s s stop
+on-bytes {S} terms took failures frames old piece s stop e =
+    subst (λ (x : Stop). StopsOn terms took failures frames old piece s s x) (sym e)
+    (record { made = frames; same = agree-none (ended_in old.state) frames; stops = memory-stops (judging terms) (took_with frames took) failures old piece s })
+
+-- at the end of the input
+pub finishes-bytes : {S : Type 0} (terms : Terms) (took : S → List Call → Type 0) (failures : S → ℕ) (frames : ℕ → Frame) (old : Standing History) (s : S) (stop : Stop) → stop ≡ Memory → FinishesOn terms took failures frames old s s (Err stop)
+finishes-bytes {S} terms took failures frames old s stop e =
+    subst (λ (x : Stop). FinishesOn terms took failures frames old s s (Err x)) (sym e)
+    (record { made = frames; same = agree-none (ended_in old.state) frames; finishes = finish-bytes (judging terms) (took_with frames took) failures old s })
+
+-- a unit was left open, and is read
+pub last-read : (mode : Mode) (old mid new : Splitting) (unit : NalUnit) → Finished old mid → Taken mid new unit → is_read mode unit ≡ true → LastIsRead mode old
+last-read mode old mid new unit f t r = record {
+  unit = unit;
+  rest = new.rest;
+  next = subst (λ (a : ℕ). Next a old.rest unit new.rest) f.at_is (subst (λ (l : List ℕ). Next mid.at l unit new.rest) f.rest_is t.next);
+  read = r;
+}
+
+or-slice : (x y z : Bool) → z ≡ true → (x || y || z && true) ≡ true
+or-slice true y z e = refl
+or-slice false true z e = refl
+or-slice false false true e = refl
+or-slice false false false e = cc
+
+-- a unit whose slice begins a picture of another format is
+pub changes-read : (mode : Mode) (before : History) (unit : NalUnit) → ChangesFormat mode before unit → is_read mode unit ≡ true
+changes-read mode before unit c =
+    let kind = nal_unit_type (header_of unit) in
+    subst (λ (m : Mode). is_read m unit ≡ true) (sym c.full) (or-slice (kind == 7) (kind == 8) (is_slice kind) c.slice)

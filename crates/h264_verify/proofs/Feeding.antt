@@ -10,8 +10,9 @@ use Rattle.h264_units.proofs.Streams.{same-units, same-first, first-length, firs
 use Rattle.h264_slices.specs.Outcome.{Outcome, ◌>>=◌, answers, with_calls, goes_on, Plays, PlaysBy}
 use Rattle.h264_verify.specs.Judging.{Judging, unless, tail_outcome, units_outcome, Comes}
 use Rattle.h264_verify.specs.Session.{Standing, ToCome, Goes, Ends, Begins, Stops, StopsBy}
+use Rattle.h264_verify.proofs.Lacking.{lacks-bytes, lacks-unit, lacks-after}
 use Rattle.h264_slices.proofs.Tellings.{tells-none, tells-both}
-use Rattle.h264_verify.proofs.Ways.{way-none, way-push, way-unit, way-both}
+use Rattle.h264_verify.proofs.Ways.{splits-first, way-none, way-push, way-unit, way-both}
 
 -- the same bytes
 pub comes-along : {State Summary : Type 0} (j : Judging State Summary) (at : ℕ) (s : State) (a b : List ℕ) (o : Outcome Summary) → a ≡ b → Comes j at s a o → Comes j at s b o
@@ -50,10 +51,14 @@ refused-ends j took old state piece s stop r = record {
       ∙ tail-stops j state r.tail stop _ r.stop_is;
 }
 
+-- memory was refused for bytes
+pub memory-stops : {State Summary : Type 0} (j : Judging State Summary) {S : Type 0} (took : S → List Told → Type 0) (failures : S → ℕ) (old : Standing State) (piece : List ℕ) (s : S) → Stops j took failures old piece s s Memory
+memory-stops j took failures old piece s = record { stops = (record { calls = []; tells = tells-none took s; after = λ more o c. (o.calls, refl) }, refl, λ more. lacks-bytes j took old.split.at old.state (old.split.rest ++ (piece ++ more)) s) }
+
 pub stops-push : {State Summary : Type 0} (j : Judging State Summary) {S : Type 0} (took : S → List Told → Type 0) (failures : S → ℕ) (old new : Splitting) (state : State) (piece : List ℕ) (s : S) (stop : Stop) → PushStops old new piece stop → Stops j took failures (record { split = old; state = state }) piece s s stop
 stops-push j took failures old new state piece s (No bit rule) p = record { stops = (refused-ends j took old state piece s (No bit rule) p.0, refl) }
 stops-push j took failures old new state piece s (Outside bit feature) p = record { stops = (refused-ends j took old state piece s (Outside bit feature) p.0, refl) }
-stops-push j took failures old new state piece s Memory p = record { stops = (record { calls = []; tells = tells-none took s; after = λ more o c. (o.calls, refl) }, refl) }
+stops-push j took failures old new state piece s Memory p = memory-stops j took failures (record { split = old; state = state }) piece s
 stops-push j took failures old new state piece s Read p = absurd p
 stops-push j took failures old new state piece s Write p = absurd p
 
@@ -113,9 +118,9 @@ unit-first j old new state unit more o t live c =
     record { next = λ s. units_outcome j s f.units f.tail (past unit + length (new.rest ++ more)); is = f.is }
 
 -- a unit stopped the session
-pub stops-unit : {State Summary : Type 0} (j : Judging State Summary) {S X : Type 0} (took : S → List Told → Type 0) (failures : S → ℕ) (view : X → State) (old new : Splitting) (state : State) (unit : NalUnit) (left : List ℕ) (s s' : S) (stop : Stop) → Taken old new unit → IsFalse old.ended → Plays {X = X} took failures view (j.unit state unit) s s' (Err stop) → Stops j took failures (record { split = old; state = state }) left s s' stop
+pub stops-unit : {State Summary : Type 0} (j : Judging State Summary) {S X : Type 0} (took : S → List Told → Type 0) (failures : S → ℕ) (view : X → State) (old new : Splitting) (state : State) (unit : NalUnit) (left : List ℕ) (s s' : S) (stop : Stop) → Taken old new unit → IsFalse old.ended → (stop ≡ Memory → j.grows state unit) → Plays {X = X} took failures view (j.unit state unit) s s' (Err stop) → Stops j took failures (record { split = old; state = state }) left s s' stop
 unfolding ◌>>=◌
-stops-unit {State} {Summary} j {S} {X} took failures view old new state unit left s s' stop t live p = by stop p.plays
+stops-unit {State} {Summary} j {S} {X} took failures view old new state unit left s s' stop t live grows p = by stop grows p.plays
   where
     ends : (e : Stop) → (j.unit state unit).answer ≡ Err e → Tells took s s' (j.unit state unit).calls → Ends j took (record { split = old; state = state }) left s s' e
     ends e a k = record { calls = (j.unit state unit).calls; tells = k; after = λ more o c. let f = unit-first j old new state unit (left ++ more) o t live c in f.is ∙ ap (goes_on (j.unit state unit).calls f.next) a }
@@ -130,12 +135,15 @@ stops-unit {State} {Summary} j {S} {X} took failures view old new state unit lef
           (k.rest ++ b.0, ap (λ r. Outcome.calls r) f.is ∙ b.1 ∙ ap (λ l. l ++ b.0) k.whole ∙ append_assoc k.front k.rest b.0);
     }
 
-    by : (stop : Stop) → PlaysBy {X = X} took failures view (j.unit state unit) s s' (Err stop) → Stops j took failures (record { split = old; state = state }) left s s' stop
-    by (No bit rule) p = record { stops = (ends (No bit rule) p.0 p.1, p.2) }
-    by (Outside bit feature) p = record { stops = (ends (Outside bit feature) p.0 p.1, p.2) }
-    by Memory p = record { stops = (front p.0, p.1) }
-    by Read p = absurd p
-    by Write p = record { stops = (front p.0, p.1) }
+    first : (more : List ℕ) (units : List NalUnit) (tail : Tail) → Splits old.at (old.rest ++ (left ++ more)) units tail → (later : List NalUnit) × (units ≡ unit ∷ later)
+    first more units tail sp = let f = splits-first old.at (old.rest ++ (left ++ more)) unit (new.rest ++ (left ++ more)) units tail (t.decided live (left ++ more)) sp in (f.0, f.1)
+
+    by : (stop : Stop) → (stop ≡ Memory → j.grows state unit) → PlaysBy {X = X} took failures view (j.unit state unit) s s' (Err stop) → Stops j took failures (record { split = old; state = state }) left s s' stop
+    by (No bit rule) g p = record { stops = (ends (No bit rule) p.0 p.1, p.2) }
+    by (Outside bit feature) g p = record { stops = (ends (Outside bit feature) p.0 p.1, p.2) }
+    by Memory g p = record { stops = (front p.0, p.1, λ more. lacks-unit j took old.at state (old.rest ++ (left ++ more)) s s' unit p.0.front (g refl) p.0.tells (first more)) }
+    by Read g p = absurd p
+    by Write g p = record { stops = (front p.0, p.1) }
 
 pub with-both : {A : Type 0} (xs ys : List Told) (o : Outcome A) → with_calls (xs ++ ys) o ≡ with_calls xs (with_calls ys o)
 with-both {A} xs ys o = ap (λ (l : List Told). let q : Outcome A = record { calls = l; answer = o.answer } in q) (append_assoc xs ys o.calls)
@@ -178,7 +186,7 @@ stops-after {State} {Summary} j {S} took failures old mid piece left s0 s1 s2 st
     by : (stop : Stop) → StopsBy j took failures mid left s1 s2 stop → Stops j took failures old piece s0 s2 stop
     by (No bit rule) p = record { stops = (ends (No bit rule) p.0, p.1 ∙ k) }
     by (Outside bit feature) p = record { stops = (ends (Outside bit feature) p.0, p.1 ∙ k) }
-    by Memory p = record { stops = (begins p.0, p.1 ∙ k) }
+    by Memory p = record { stops = (begins p.0, p.1 ∙ k, λ more. lacks-after j took old mid piece left more s0 s1 s2 g (p.2 more)) }
     by Read p = absurd p
     by Write p = record { stops = (begins p.0, p.1 ∙ ap (λ n. n + 1) k) }
 

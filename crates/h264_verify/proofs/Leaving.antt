@@ -24,7 +24,7 @@ use Rattle.h264_judge.specs.declared.state.Summary.{Summary}
 use Rattle.h264_slices.specs.Telling.{Told, Said, HasFrame, AreDecoded}
 use Rattle.h264_slices.specs.Content.{Content}
 use Rattle.h264_slices.specs.Content as contents
-use Rattle.h264_slices.specs.Steps.{Step, needs, Reads, Ends, Runs}
+use Rattle.h264_slices.specs.Steps.{Step, needs, AreMet, Reads, Ends, Runs}
 use Rattle.h264_slices.specs.UnitHeader.{header_of, nal_unit_type}
 use Rattle.h264_slices.specs.History.{History, ReadUnit, maps_of, maps_with}
 use Rattle.h264_slices.specs.Pictures.{CodedSlice, CodedPicture, last_in, last_slice, picture_size, ends_picture, with_sets, sets_at, goes_on, open_of, begins_after, begins_at, joined_to, runs_of, coded_of, closing_at, closing_demands}
@@ -277,6 +277,13 @@ legal-frames target before calls l frames d = (stands target before calls l).fra
 
 -- ---- at the end of the input
 
+-- all pictures have ended
+pub all-sound : (target : Target) (units : History) (first last : List Told) (bit : ℕ) → AreLegal (terms_of modes.Full target) units first → AreMet (end_steps modes.Full units bit) last → AreSound true (runs_of units)
+all-sound target units first last bit l e =
+    let rest = closing_frames modes.Full units ++ (needs (picture_demand modes.Full units bit ∷ []) ++ last_frames modes.Full (runs_of units)) in
+    closes-sound (goes_on units) (runs_of units) (stands target units first l).sound
+    (met-first (needs (closing_demands units)) rest (met-last (whole_steps modes.Full units) (needs (closing_demands units) ++ rest) (met (end_steps modes.Full units bit) last e)))
+
 module _ (target : Target) (bytes : List ℕ) (calls : List Told) (summary : Summary) (h : Holds (terms_of modes.Full target) bytes calls summary) where
   abbrev shown : List Step
   shown = needs (picture_demand modes.Full h.units (8 * length bytes) ∷ []) ++ last_frames modes.Full (runs_of h.units)
@@ -288,10 +295,3 @@ module _ (target : Target) (bytes : List ℕ) (calls : List Told) (summary : Sum
       let last = have-decoded frames (end_steps modes.Full h.units (8 * length bytes)) h.last h.end (decoded-last frames h.first h.last all) in
       closes frames (goes_on h.units) (runs_of h.units) (legal-frames target h.units h.first h.legal frames (decoded-first frames h.first h.last all))
       (have-first frames (closing_frames modes.Full h.units) shown (have-last frames (needs (closing_demands h.units)) (closing_frames modes.Full h.units ++ shown) (have-last frames (whole_steps modes.Full h.units) (needs (closing_demands h.units) ++ (closing_frames modes.Full h.units ++ shown)) last)))
-
-  -- and all have ended
-  pub all-sound : AreSound true (runs_of h.units)
-  all-sound =
-      let last = met (end_steps modes.Full h.units (8 * length bytes)) h.last h.end in
-      closes-sound (goes_on h.units) (runs_of h.units) (stands target h.units h.first h.legal).sound
-      (met-first (needs (closing_demands h.units)) (closing_frames modes.Full h.units ++ shown) (met-last (whole_steps modes.Full h.units) (needs (closing_demands h.units) ++ (closing_frames modes.Full h.units ++ shown)) last))

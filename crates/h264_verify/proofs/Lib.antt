@@ -1,10 +1,12 @@
 pub mod Ways
+pub mod Lacking
 pub mod Feeding
 pub mod Finishing
 pub mod Familiar
 pub mod Sources
 pub mod Within
 pub mod Verdicts
+pub mod Derivation
 pub mod Heard
 pub mod Alike
 pub mod Named
@@ -12,8 +14,11 @@ pub mod Legal
 pub mod Soundness
 pub mod Leaving
 pub mod Predicting
+pub mod Levels
 pub mod Bounds
 pub mod Family
 pub mod Output
+pub mod Coursing
 pub mod Stopping
+pub mod Ending
 pub mod Targets

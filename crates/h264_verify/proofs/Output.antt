@@ -1,5 +1,5 @@
 -- What a sink is told of a stream, frames among it, is one list of calls.
-use Rattle.std.proofs.Common.{◌≡◌, ℕ, false, ◌+◌, ◌-◌, ◌*◌, ◌<◌, ◌≤◌, List, [], ◌∷◌, length, ℤ, refl, ap, sym, ◌∙◌, subst, arith, ⊎_elim}
+use Rattle.std.proofs.Common.{◌≡◌, ℕ, ◌+◌, ◌-◌, ◌*◌, ◌<◌, ◌≤◌, List, [], ◌∷◌, length, ℤ, refl, ap, sym, ◌∙◌, subst, arith, ⊎_elim}
 use Rattle.std.proofs.lemmas.Bool.{cases_lt}
 use Rattle.h264_judge.specs.Units.{terms_of}
 use Rattle.h264_base.specs.declared.mode.Target.{Target}
@@ -16,21 +16,16 @@ use Rattle.h264_plane.proofs.Rows.{bytes_same}
 use Rattle.h264_dpb.specs.Shown.{width_in, height_in, cropped, frame_call}
 use Rattle.h264_dpb.specs.Kept.{shown_call}
 use Rattle.h264_dpb.specs.declared.entry.Rectangle.{Rectangle}
-use Rattle.h264_judge.specs.declared.state.Summary.{Summary}
-use Rattle.h264_slices.specs.Telling.{Told, Said, Decodes, Shows, calls_of, AreDecoded, AreOf}
+use Rattle.h264_slices.specs.Telling.{Told, Said, Decodes, Shows, calls_of, AreOf}
 use Rattle.h264_slices.specs.Outcome.{Outcome}
 use Rattle.h264_slices.specs.History.{History}
-use Rattle.h264_slices.specs.Pictures.{CodedPicture, goes_on, runs_of}
-use Rattle.h264_slices.specs.Keeping.{ended_pictures, ended_in}
-use Rattle.h264_judge.specs.Units.{end_steps}
-use Rattle.h264_slices.specs.StepOutcome.{steps_outcome}
-use Rattle.h264_verify.specs.Verdict.{AreLegal, Holds}
+use Rattle.h264_slices.specs.Pictures.{CodedPicture}
+use Rattle.h264_slices.specs.Keeping.{ended_in}
+use Rattle.h264_verify.specs.Verdict.{AreLegal}
 use Rattle.h264_verify.specs.Family.{AreSameOn}
 use Rattle.h264_judge.proofs.Agreeing.{of-both, of-more}
-use Rattle.h264_verify.proofs.Family.{legal-family, one-family}
-use Rattle.h264_judge.proofs.Growing.{ended-few, unit-grows, end-of}
-use Rattle.h264_verify.proofs.Leaving.{HaveFrames, legal-frames, all-frames}
-use Rattle.h264_slices.proofs.Stepping.{met-is}
+use Rattle.h264_judge.proofs.Growing.{unit-grows}
+use Rattle.h264_verify.proofs.Leaving.{HaveFrames}
 use Rattle.h264_verify.proofs.Verdicts.{legal-unit}
 
 -- ---- a frame
@@ -83,17 +78,3 @@ legal-of target (r ∷ before) told l =
     let g = unit-grows (terms_of modes.Full target) before (r ∷ before) r.unit (ap (λ (o : Outcome History). o.answer) e) in
     let last : AreOf (ended_in (r ∷ before)) l.1 = subst (AreOf (ended_in (r ∷ before))) (ap (λ (o : Outcome History). o.calls) e) g.1 in
     subst (AreOf (ended_in (r ∷ before))) (sym l.4) (of-both (ended_in (r ∷ before)) l.0 l.1 (of-more (ended_in before) (ended_in (r ∷ before)) l.0 g.0 (legal-of target before l.0 l.2)) last)
-
-module _ (frames others : ℕ → Frame) where
-  pub legal-output : (target : Target) (before : History) (told : List Told) → AreLegal (terms_of modes.Full target) before told → AreDecoded frames told → AreDecoded others told → calls_of frames told ≡ calls_of others told
-  legal-output target before told l d e =
-      let pictures = ended_pictures (goes_on before) false (runs_of before) in
-      calls-same frames others (length pictures) told (shown-alike frames others pictures (legal-family frames others target before told l d e) (legal-frames target before told l frames d) (legal-frames target before told l others e)) (legal-of target before told l)
-
-  pub one-output : (target : Target) (bytes : List ℕ) (told : List Told) (summary : Summary) → Holds (terms_of modes.Full target) bytes told summary → AreDecoded frames told → AreDecoded others told → calls_of frames told ≡ calls_of others told
-  one-output target bytes told summary h d e =
-      let n = length (runs_of h.units) in
-      let met : (steps_outcome (end_steps modes.Full h.units (8 * length bytes))).calls ≡ h.last = ap (λ (o : Outcome (Unit {0})). o.calls) (met-is (end_steps modes.Full h.units (8 * length bytes)) h.last h.end) in
-      let last : AreOf n h.last = subst (AreOf n) met (end-of modes.Full h.units (8 * length bytes)) in
-      let first : AreOf n h.first = of-more (ended_in h.units) n h.first (ended-few (goes_on h.units) (runs_of h.units)) (legal-of target h.units h.first h.legal) in
-      calls-same frames others n told (shown-alike frames others (runs_of h.units) (one-family frames others target bytes told summary h d e) (all-frames target bytes told summary h frames d) (all-frames target bytes told summary h others e)) (subst (AreOf n) (sym h.calls_are) (of-both n h.first h.last first last))

@@ -12,7 +12,8 @@ use Rattle.h264_units.proofs.Total.{some-split}
 use Rattle.h264_slices.specs.Outcome.{Outcome, with_calls, PlaysBy}
 use Rattle.h264_verify.specs.Judging.{Judging, units_outcome, Comes}
 use Rattle.h264_verify.proofs.Ways.{way-more}
-use Rattle.h264_verify.specs.Session.{Standing, ToCome, Goes, Stops, StopsBy, Finishes, Fed, RansBy, Judges}
+use Rattle.h264_verify.proofs.Lacking.{same-stop, lacks-bytes, lacks-after, stops-lacks}
+use Rattle.h264_verify.specs.Session.{Standing, ToCome, Lacking, Goes, Stops, StopsBy, Finishes, Fed, RansBy, Judges}
 use Rattle.h264_slices.proofs.Tellings.{tells-none, tells-both, front-after}
 use Rattle.h264_verify.proofs.Feeding.{goes-both, stops-after}
 
@@ -30,10 +31,10 @@ one-outcome j start bytes one other a b =
     let s = same-units 0 bytes a.units b.units a.tail b.tail a.splits b.splits in
     a.is ∙ ap (λ us. units_outcome j start us a.tail (0 + length bytes)) s.units_are ∙ ap (λ t. units_outcome j start b.units t (0 + length bytes)) s.tail_is ∙ sym b.is
 
-judged : {State Summary : Type 0} {j : Judging State Summary} {start : State} {S : Type 0} {took : S → List Told → Type 0} {failures : S → ℕ} {bytes : List ℕ} {s s' : S} {result : Result Summary Stop} → ((o : Outcome Summary) → Comes j 0 start bytes o → RansBy took failures o s s' result) → Judges j start took failures bytes s s' result
-judged {j} {start} {bytes} f =
+judged : {State Summary : Type 0} {j : Judging State Summary} {start : State} {S : Type 0} {took : S → List Told → Type 0} {failures : S → ℕ} {bytes : List ℕ} {s s' : S} {result : Result Summary Stop} → ((o : Outcome Summary) → Comes j 0 start bytes o → RansBy took failures o s s' result) → (result ≡ Err Memory → Lacking j took 0 start bytes s s') → Judges j start took failures bytes s s' result
+judged {j} {start} {bytes} f m =
     let v = some-outcome j start bytes in
-    record { outcome = v.0; comes = v.1; ran = f v.0 v.1 }
+    record { outcome = v.0; comes = v.1; ran = f v.0 v.1; lacks = m }
 
 -- bytes that come later come later
 unfoldable pub goes-more : {State Summary : Type 0} {j : Judging State Summary} {S : Type 0} {took : S → List Told → Type 0} {old new : Standing State} {a : List ℕ} {s s' : S} (b : List ℕ) → Goes j took old new a [] s s' → Goes j took old new (a ++ b) b s s'
@@ -74,14 +75,17 @@ pub fed-stops : {State Summary : Type 0} (j : Judging State Summary) {S : Type 0
 fed-stops j start took failures known known' bytes piece n mid s0 s1 s2 stop r f k p =
     let e = r f.left f.known_is in
     let whole : bytes ≡ (f.fed ++ take n piece) ++ drop n f.left = f.whole ∙ ap (λ l. f.fed ++ l) e.0 ∙ sym (append_assoc f.fed (take n piece) (drop n f.left)) in
-    judged (λ o c. stops-plays j took failures (fresh start) (f.fed ++ take n piece) (drop n f.left) s0 s2 stop o
-    (stops-after j took failures (fresh start) mid (f.fed ++ take n piece) (take n piece) s0 s1 s2 stop (goes-more (take n piece) f.goes) k p).stops
-    (subst (λ l. Comes j 0 start l o) whole c))
+    let stops = (stops-after j took failures (fresh start) mid (f.fed ++ take n piece) (take n piece) s0 s1 s2 stop (goes-more (take n piece) f.goes) k p).stops in
+    judged (λ o c. stops-plays j took failures (fresh start) (f.fed ++ take n piece) (drop n f.left) s0 s2 stop o stops (subst (λ l. Comes j 0 start l o) whole c))
+    (λ m. subst (λ l. Lacking j took 0 start l s0 s2) (sym whole) (stops-lacks j took failures (fresh start) (f.fed ++ take n piece) (drop n f.left) s0 s2 stop stops (same-stop stop Memory m)))
+
+read-not-memory : {X : Type 0} → (let r : Result X Stop = Err Read in r ≡ Err Memory) → ⊥
+read-not-memory e = cc
 
 pub fed-read : {State Summary : Type 0} (j : Judging State Summary) {S : Type 0} (start : State) (took : S → List Told → Type 0) (failures : S → ℕ) (known : Option (List ℕ)) (bytes : List ℕ) (mid : Standing State) (s0 s1 : S) → Fed j took known bytes (fresh start) mid s0 s1 → failures s1 ≡ failures s0 → Judges j start took failures bytes s0 s1 (Err Read)
 fed-read j start took failures known bytes mid s0 s1 f k = judged (λ o c.
     let e = f.goes.after f.left o (subst (λ l. Comes j 0 start l o) f.whole c) in
-    (record { front = f.goes.calls; rest = e.0.calls; whole = ap (λ r. Outcome.calls r) e.2; tells = f.goes.tells }, k))
+    (record { front = f.goes.calls; rest = e.0.calls; whole = ap (λ r. Outcome.calls r) e.2; tells = f.goes.tells }, k)) (λ m. absurd (read-not-memory m))
 
 plays-after : {Summary S : Type 0} (took : S → List Told → Type 0) (failures : S → ℕ) (calls : List Told) (o later : Outcome Summary) (s0 s1 s2 : S) (r : Result Summary Stop) → o ≡ with_calls calls later → Tells took s0 s1 calls → failures s1 ≡ failures s0 → PlaysBy took failures (λ (x : Summary). x) later s1 s2 r → RansBy took failures o s0 s2 r
 plays-after {Summary} {S} took failures calls o later s0 s1 s2 r e t k p = subst (λ w. RansBy took failures w s0 s2 r) (sym e) (by r p)
@@ -95,13 +99,16 @@ plays-after {Summary} {S} took failures calls o later s0 s1 s2 r e t k p = subst
     by (Err Write) p = record { plays = (front-after t p.0, p.1 ∙ ap (λ n. n + 1) k) }
 
 pub fed-finishes : {State Summary : Type 0} (j : Judging State Summary) {S : Type 0} (start : State) (took : S → List Told → Type 0) (failures : S → ℕ) (known : Option (List ℕ)) (bytes : List ℕ) (mid : Standing State) (s0 s1 s2 : S) (r : Result Summary Stop) → ((left : List ℕ) → known ≡ Some left → left ≡ []) → Fed j took known bytes (fresh start) mid s0 s1 → failures s1 ≡ failures s0 → Finishes j took failures mid s1 s2 r → Judges j start took failures bytes s0 s2 r
-fed-finishes j start took failures known bytes mid s0 s1 s2 r none f k p = judged (λ o c.
-    let e = f.goes.after [] o (subst (λ l. Comes j 0 start l o) (f.whole ∙ ap (λ l. f.fed ++ l) (none f.left f.known_is)) c) in
+fed-finishes j start took failures known bytes mid s0 s1 s2 r none f k p =
+    let whole : bytes ≡ f.fed ++ [] = f.whole ∙ ap (λ l. f.fed ++ l) (none f.left f.known_is) in
+    judged (λ o c.
+    let e = f.goes.after [] o (subst (λ l. Comes j 0 start l o) whole c) in
     plays-after took failures f.goes.calls o e.0 s0 s1 s2 r e.2 f.goes.tells k (p.finishes e.0 e.1).plays)
+    (λ m. subst (λ l. Lacking j took 0 start l s0 s2) (sym whole) (lacks-after j took (fresh start) mid f.fed [] [] s0 s1 s2 f.goes (p.lacks m)))
 
 -- nothing was fed: memory was refused at once
 pub judges-memory : {State Summary : Type 0} (j : Judging State Summary) {S : Type 0} (start : State) (took : S → List Told → Type 0) (failures : S → ℕ) (bytes : List ℕ) (s : S) → Judges {Summary = Summary} j start took failures bytes s s (Err Memory)
-judges-memory j start took failures bytes s = judged (λ o c. record { plays = (front-none o.calls, refl) })
+judges-memory j start took failures bytes s = judged (λ o c. record { plays = (front-none o.calls, refl) }) (λ m. lacks-bytes j took 0 start bytes s)
   where
     front-none : (calls : List Told) → TellsFront took s s calls
     front-none calls = record { front = []; rest = calls; whole = refl; tells = tells-none took s }
@@ -119,10 +126,11 @@ pub pieces-finish : {State Summary : Type 0} (j : Judging State Summary) {S : Ty
 pieces-finish j start took failures bytes mid s0 s1 s2 r g k p = fed-finishes j start took failures (Some []) bytes mid s0 s1 s2 r (λ left e. cc) (record { fed = bytes; left = []; known_is = refl; whole = sym (append-nil bytes); goes = g }) k p
 
 pub pieces-stop : {State Summary : Type 0} (j : Judging State Summary) {S : Type 0} (start : State) (took : S → List Told → Type 0) (failures : S → ℕ) (bytes before piece later : List ℕ) (mid : Standing State) (s0 s1 s2 : S) (stop : Stop) → bytes ≡ before ++ (piece ++ later) → Goes j took (fresh start) mid before [] s0 s1 → failures s1 ≡ failures s0 → Stops j took failures mid piece s1 s2 stop → Judges j start took failures bytes s0 s2 (Err stop)
-pieces-stop j start took failures bytes before piece later mid s0 s1 s2 stop e g k p = judged (λ o c.
-    stops-plays j took failures (fresh start) (before ++ piece) later s0 s2 stop o
-    (stops-after j took failures (fresh start) mid (before ++ piece) piece s0 s1 s2 stop (goes-more piece g) k p).stops
-    (subst (λ l. Comes j 0 start l o) (e ∙ sym (append_assoc before piece later)) c))
+pieces-stop j start took failures bytes before piece later mid s0 s1 s2 stop e g k p =
+    let whole : bytes ≡ (before ++ piece) ++ later = e ∙ sym (append_assoc before piece later) in
+    let stops = (stops-after j took failures (fresh start) mid (before ++ piece) piece s0 s1 s2 stop (goes-more piece g) k p).stops in
+    judged (λ o c. stops-plays j took failures (fresh start) (before ++ piece) later s0 s2 stop o stops (subst (λ l. Comes j 0 start l o) whole c))
+    (λ m. subst (λ l. Lacking j took 0 start l s0 s2) (sym whole) (stops-lacks j took failures (fresh start) (before ++ piece) later s0 s2 stop stops (same-stop stop Memory m)))
 
 pub pieces-split : {X : Type 0} (f : X → List ℕ) (xs : List X) (i : ℕ) (d : X) → i < length xs → flat_map f xs ≡ flat_map f (take i xs) ++ (f (get_or xs i d) ++ flat_map f (drop (suc i) xs))
 pieces-split f [] i d h = absurd (omega arith)

@@ -1,5 +1,6 @@
--- What a sink is told of a stream up to a stop is one list of calls too.
-use Rattle.std.proofs.Common.{◌≡◌, ℕ, ◌*◌, arith, Bool, true, false, List, [], ◌∷◌, ◌++◌, length, ◌⊎◌, inl, inr, Option, Some, None, Result, Ok, Err, refl, ap, sym, ◌∙◌, subst, if◌then◌else◌}
+-- What a sink is told of a stream, or a front of it, is one list of calls.
+use Rattle.std.proofs.Common.{◌≡◌, ℕ, ◌*◌, arith, append_assoc, ⊎_elim, Bool, true, false, List, [], ◌∷◌, ◌++◌, length, ◌⊎◌, inl, inr, Option, Some, None, Result, Ok, Err, refl, ap, sym, ◌∙◌, subst, if◌then◌else◌}
+use Rattle.std.proofs.lemmas.List.{append-nil}
 use Rattle.h264_judge.specs.Units.{terms_of}
 use Rattle.h264_base.specs.declared.mode.Target.{Target}
 use Rattle.h264_base.specs.declared.mode.Mode.TheVariants as modes
@@ -15,77 +16,29 @@ use Rattle.h264_header.specs.declared.header.Header.{Header}
 use Rattle.h264_plane.specs.declared.frame.Frame.{Frame}
 use Rattle.h264_judge.specs.declared.state.Summary.{Summary}
 use Rattle.h264_slices.specs.Telling.{Told, Said, Decodes, Shows, calls_of, HasFrame, AreDecoded, AreOf}
-use Rattle.h264_slices.specs.Content.{Content}
-use Rattle.h264_slices.specs.Content as contents
 use Rattle.h264_slices.specs.Demands.{Demand}
 use Rattle.h264_slices.specs.Outcome.{Outcome}
-use Rattle.h264_slices.specs.Steps.{Step, Needs, Tells, needs, AreMet, IsFirstStop, Course, Takes, Reads, Ends, told, Runs}
-use Rattle.h264_slices.specs.UnitHeader.{header_of, nal_unit_type, header_demands}
-use Rattle.h264_slices.specs.History.{History, maps_of}
+use Rattle.h264_slices.specs.Steps.{Step, Needs, Tells, needs, AreMet, IsFirstStop, told}
+use Rattle.h264_slices.specs.UnitHeader.{header_of, nal_unit_type}
+use Rattle.h264_dpb.specs.Kept.{shown_call}
+use Rattle.h264_slices.specs.History.{History, ReadUnit, maps_of}
 use Rattle.h264_slices.specs.Pictures.{CodedPicture, ends_picture, with_sets, sets_at, goes_on, joined_to, runs_of, begins_at, closing_at, closing_demands}
 use Rattle.h264_slices.specs.Closing.{whole_picture, whole_steps, whole_at}
 use Rattle.h264_slices.specs.Buffering.{end_frames, closing_frames, last_frames}
 use Rattle.h264_slices.specs.Keeping.{ended_pictures, ended_in}
 use Rattle.h264_slices.specs.Slices.{is_idr_due, rules_of, slice_call, steps_by, slice_steps}
-use Rattle.h264_judge.specs.Units.{unit_call, content_steps, data_course, frames_at, unit_course, picture_demand, end_steps}
-use Rattle.h264_verify.specs.Verdict.{IsStop, AtBytes, InCourse, AreLegal, IsStopBehind, AtNext, AtTail, AtEnd, Verdict}
+use Rattle.h264_judge.specs.Units.{frames_at, unit_course, picture_demand, end_steps}
+use Rattle.h264_verify.specs.Family.{IsFrontOf}
+use Rattle.h264_verify.specs.Verdict.{IsLegal, AreLegal, IsStopBehind, AtNext, AtTail, AtEnd, Verdict}
 use Rattle.h264_judge.proofs.Agreeing.{of-both, of-more, decoded-last}
 use Rattle.h264_verify.proofs.Family.{same-on, legal-family}
 use Rattle.h264_judge.proofs.Growing.{StepsOf, needs-of, steps-of, elements-of, slice-of, picture-end-of, ended-few, ended-whole, end-of}
+use Rattle.h264_verify.proofs.Coursing.{IsClosed, Keeps, course-keeps, UnitKeeps, unit-keeps, stop-keeps}
 use Rattle.h264_verify.proofs.Leaving.{HaveFrames, legal-read, legal-frames}
 use Rattle.h264_verify.proofs.Legal.{decoded-first, end_steps_at}
-use Rattle.h264_verify.proofs.Output.{shown-alike, calls-same, legal-of, one-output}
+use Rattle.h264_verify.proofs.Output.{shown-alike, calls-same, legal-of}
+use Rattle.h264_verify.proofs.Verdicts.{one-verdict}
 use Rattle.h264_slices.proofs.Stepping.{met-is, stop-is}
-
--- ---- what a course has told, wherever it stops
-
-module _ (Q : List Told → Type 0) where
-  record IsClosed : Type 0 where
-    none : Q []
-    both : (xs ys : List Told) → Q xs → Q ys → Q (xs ++ ys)
-    elements : (body : Body) (es : List Element) → Q (told body es)
-
-  record Keeps (steps : List Step) : Type 0 where
-    met : (calls : List Told) → AreMet steps calls → Q calls
-    stops : (calls : List Told) (stop : Stop) → IsFirstStop steps calls stop → Q calls
-
-  abbrev AreKept : Course → Type 0
-  AreKept (Takes steps course) = Keeps steps × AreKept course
-  AreKept (Reads g bit next) = (found : Content) (end : ℕ) → AreKept (next found end)
-  AreKept (Ends found) = Unit {0}
-
-  course-keeps : IsClosed → (body : Body) (course : Course) → AreKept course → (calls : List Told) (answer : Result Content Stop) → Runs body course calls answer → Q calls
-  course-keeps c body (Takes steps course) k calls answer (inl h) = subst Q (sym h.4) (c.both h.0 h.1 (k.0.met h.0 h.2) (course-keeps c body course k.1 h.1 answer h.3))
-  course-keeps c body (Takes steps course) k calls answer (inr h) = k.0.stops calls h.0 h.1
-  course-keeps c body (Reads g bit next) k calls answer (inl h) = subst Q (sym h.6) (c.both (told body h.0) h.3 (c.elements body h.0) (course-keeps c body (next h.1 h.2) (k h.1 h.2) h.3 answer h.5))
-  course-keeps c body (Reads g bit next) k calls answer (inr h) = subst Q (sym h.3) (c.elements body h.0)
-  course-keeps c body (Ends found) k calls answer h = subst Q (sym h.0) c.none
-
-  -- the parts of a unit
-  record UnitKeeps (before : History) (unit : NalUnit) : Type 0 where
-    rules : (ds : List Demand) → Keeps (needs ds)
-    said : (call : Call) → Keeps (Tells (Said call) ∷ [])
-    ends : Keeps (end_steps_at before unit)
-    slice : (h : Header) → Keeps (slice_steps modes.Full before unit h)
-
-  content-keeps : (before : History) (unit : NalUnit) → UnitKeeps before unit → (found : Content) → Keeps (content_steps modes.Full before unit found)
-  content-keeps before unit k (contents.OfSps set) = k.rules []
-  content-keeps before unit k (contents.OfPps set) = k.rules []
-  content-keeps before unit k (contents.OfSlice h ms) = k.slice h
-  content-keeps before unit k contents.Passed = k.rules []
-
-  data-keeps : (before : History) (unit : NalUnit) (found : Content) (bit : ℕ) → AreKept (data_course modes.Full before unit found bit)
-  data-keeps before unit (contents.OfSps set) bit = tt
-  data-keeps before unit (contents.OfPps set) bit = tt
-  data-keeps before unit (contents.OfSlice h ms) bit = λ found end. tt
-  data-keeps before unit contents.Passed bit = tt
-
-  unit-keeps : (target : Target) (before : History) (unit : NalUnit) → UnitKeeps before unit → AreKept (unit_course (terms_of modes.Full target) before unit)
-  unit-keeps target before unit k = (k.rules (header_demands (8 * unit.from) (header_of unit)), (k.said (unit_call unit.from (header_of unit) (length unit.body)), (k.ends, λ found bit. (content-keeps before unit k found, data-keeps before unit found bit))))
-
-  stop-keeps : IsClosed → (target : Target) (before : History) (unit : NalUnit) → UnitKeeps before unit → (stop : Stop) (calls : List Told) → IsStop (terms_of modes.Full target) before unit stop calls → Q calls
-  stop-keeps c target before unit k stop calls (AtBytes place fault e n) = subst Q (sym n) c.none
-  stop-keeps c target before unit k stop calls (InCourse sound runs) = course-keeps c (body_of unit) (unit_course (terms_of modes.Full target) before unit) (unit-keeps target before unit k) calls (Err stop) runs
 
 -- ---- it is of the pictures so far
 
@@ -111,36 +64,42 @@ of-unit target before unit =
 -- ---- it tells of no frame before the picture that may go on has ended
 
 module _ (before : History) (p : CodedPicture) (ps : List CodedPicture) (runs : runs_of before ≡ p ∷ ps) (on : goes_on before ≡ true) where
-  -- no frame is told, and no picture has ended
-  abbrev AreShy : List Told → Type 0
-  AreShy [] = Unit {0}
-  AreShy (Said call ∷ calls) = AreShy calls
-  AreShy (Decodes pictures ∷ calls) = ⊥
-  AreShy (Shows e ∷ calls) = ⊥
+  -- before a frame is told, it is told that the picture has ended
+  abbrev IsFair : List Told → Type 0
+  IsFair [] = Unit {0}
+  IsFair (Said call ∷ calls) = IsFair calls
+  IsFair (Decodes pictures ∷ calls) = pictures ≡ p ∷ ps
+  IsFair (Shows e ∷ calls) = ⊥
 
+  fair-both : (xs ys : List Told) → IsFair xs → IsFair ys → IsFair (xs ++ ys)
+  fair-both [] ys h k = k
+  fair-both (Said call ∷ xs) ys h k = fair-both xs ys h k
+  fair-both (Decodes pictures ∷ xs) ys h k = h
+  fair-both (Shows e ∷ xs) ys h k = absurd h
+
+  -- so of the first of these calls
+  fair-first : (xs ys : List Told) → IsFair (xs ++ ys) → IsFair xs
+  fair-first [] ys h = tt
+  fair-first (Said call ∷ xs) ys h = fair-first xs ys h
+  fair-first (Decodes pictures ∷ xs) ys h = h
+  fair-first (Shows e ∷ xs) ys h = absurd h
+
+  fair-elements : (body : Body) (es : List Element) → IsFair (told body es)
+  fair-elements body [] = tt
+  fair-elements body (e ∷ es) = fair-elements body es
+
+  fair-closed : IsClosed IsFair
+  fair-closed = record { none = tt; both = fair-both; elements = fair-elements }
+
+  -- the picture has its frame, or no picture is told
   abbrev Knows : List Told → Type 0
   Knows calls = (frames : ℕ → Frame) → AreDecoded frames calls → HasFrame frames (p ∷ ps)
 
-  abbrev IsFair : List Told → Type 0
-  IsFair calls = AreShy calls ⊎ Knows calls
-
-  shy-both : (xs ys : List Told) → AreShy xs → AreShy ys → AreShy (xs ++ ys)
-  shy-both [] ys h k = k
-  shy-both (Said call ∷ xs) ys h k = shy-both xs ys h k
-  shy-both (Decodes pictures ∷ xs) ys h k = absurd h
-  shy-both (Shows e ∷ xs) ys h k = absurd h
-
-  fair-both : (xs ys : List Told) → IsFair xs → IsFair ys → IsFair (xs ++ ys)
-  fair-both xs ys (inl h) (inl k) = inl (shy-both xs ys h k)
-  fair-both xs ys (inl h) (inr k) = inr (λ frames d. k frames (decoded-last frames xs ys d))
-  fair-both xs ys (inr h) k = inr (λ frames d. h frames (decoded-first frames xs ys d))
-
-  shy-elements : (body : Body) (es : List Element) → AreShy (told body es)
-  shy-elements body [] = tt
-  shy-elements body (e ∷ es) = shy-elements body es
-
-  fair-closed : IsClosed IsFair
-  fair-closed = record { none = inl tt; both = fair-both; elements = λ body es. inl (shy-elements body es) }
+  fair-frames : (n : ℕ) (calls : List Told) → IsFair calls → AreOf n calls ⊎ Knows calls
+  fair-frames n [] h = inl tt
+  fair-frames n (Said call ∷ calls) h = ⊎_elim (λ (k : AreOf n calls). inl (tt, k)) (λ (k : Knows calls). inr k) (fair-frames n calls h)
+  fair-frames n (Decodes pictures ∷ calls) h = inr (λ frames d. subst (HasFrame frames) h d.0)
+  fair-frames n (Shows e ∷ calls) h = absurd h
 
   -- before it tells of a frame, these steps tell that the picture has ended
   abbrev AreFair : List Step → Type 0
@@ -150,29 +109,22 @@ module _ (before : History) (p : CodedPicture) (ps : List CodedPicture) (runs : 
   AreFair (Tells (Decodes pictures) ∷ steps) = pictures ≡ p ∷ ps
   AreFair (Tells (Shows e) ∷ steps) = ⊥
 
-  said-fair : (call : Call) (calls : List Told) → IsFair calls → IsFair (Said call ∷ calls)
-  said-fair call calls (inl h) = inl h
-  said-fair call calls (inr h) = inr h
-
-  ended-fair : (pictures : List CodedPicture) (calls : List Told) → pictures ≡ p ∷ ps → IsFair (Decodes pictures ∷ calls)
-  ended-fair pictures calls e = inr (λ frames d. subst (HasFrame frames) e d.0)
-
   none-fair : (calls : List Told) → calls ≡ [] → IsFair calls
-  none-fair calls e = subst IsFair (sym e) (inl tt)
+  none-fair calls e = subst IsFair (sym e) tt
 
   met-fair : (steps : List Step) → AreFair steps → (calls : List Told) → AreMet steps calls → IsFair calls
   met-fair [] f calls h = none-fair calls h
   met-fair (Needs d ∷ steps) f calls h = met-fair steps f calls h.1
-  met-fair (Tells (Said call) ∷ steps) f calls h = subst IsFair (sym h.1) (said-fair call h.0 (met-fair steps f h.0 h.2))
-  met-fair (Tells (Decodes pictures) ∷ steps) f calls h = subst IsFair (sym h.1) (ended-fair pictures h.0 f)
+  met-fair (Tells (Said call) ∷ steps) f calls h = subst IsFair (sym h.1) (met-fair steps f h.0 h.2)
+  met-fair (Tells (Decodes pictures) ∷ steps) f calls h = subst IsFair (sym h.1) f
   met-fair (Tells (Shows e) ∷ steps) f calls h = absurd f
 
   stop-fair : (steps : List Step) → AreFair steps → (calls : List Told) (stop : Stop) → IsFirstStop steps calls stop → IsFair calls
   stop-fair [] f calls stop h = absurd h
   stop-fair (Needs d ∷ steps) f calls stop (inl h) = none-fair calls h.2
   stop-fair (Needs d ∷ steps) f calls stop (inr h) = stop-fair steps f calls stop h.1
-  stop-fair (Tells (Said call) ∷ steps) f calls stop h = subst IsFair (sym h.1) (said-fair call h.0 (stop-fair steps f h.0 stop h.2))
-  stop-fair (Tells (Decodes pictures) ∷ steps) f calls stop h = subst IsFair (sym h.1) (ended-fair pictures h.0 f)
+  stop-fair (Tells (Said call) ∷ steps) f calls stop h = subst IsFair (sym h.1) (stop-fair steps f h.0 stop h.2)
+  stop-fair (Tells (Decodes pictures) ∷ steps) f calls stop h = subst IsFair (sym h.1) f
   stop-fair (Tells (Shows e) ∷ steps) f calls stop h = absurd f
 
   fair-keeps : (steps : List Step) → AreFair steps → Keeps IsFair steps
@@ -255,33 +207,70 @@ module _ (before : History) (p : CodedPicture) (ps : List CodedPicture) (runs : 
   behind-fair target units tail end stop calls (AtTail e h n) = none-fair calls n
   behind-fair target units tail end stop calls (AtEnd e t h) = stop-fair (end_steps modes.Full before (8 * end)) (end-fair (8 * end)) calls stop h
 
--- ---- a stop
+-- ---- what is told behind legal units
 
+-- It is of the pictures so far, and of the newest, if that may go on, no frame is told before it has ended.
+record IsTold (before : History) (calls : List Told) : Type 0 where
+  of : AreOf (length (runs_of before)) calls
+  fair : (p : CodedPicture) (ps : List CodedPicture) (runs : runs_of before ≡ p ∷ ps) (on : goes_on before ≡ true) → IsFair before p ps runs on calls
+
+of-first : (n : ℕ) (xs ys : List Told) → AreOf n (xs ++ ys) → AreOf n xs
+of-first n [] ys h = tt
+of-first n (x ∷ xs) ys h = (h.0, of-first n xs ys h.1)
+
+-- so is the first of it
+told-first : (before : History) (calls xs ys : List Told) → calls ≡ xs ++ ys → IsTold before calls → IsTold before xs
+told-first before calls xs ys e t = record {
+  of = of-first (length (runs_of before)) xs ys (subst (AreOf (length (runs_of before))) e t.of);
+  fair = λ p ps runs on. fair-first before p ps runs on xs ys (subst (IsFair before p ps runs on) e (t.fair p ps runs on));
+}
+
+-- a unit that is legal
+told-unit : (target : Target) (before : History) (r : ReadUnit) (calls : List Told) → IsLegal (terms_of modes.Full target) before r calls → IsTold before calls
+told-unit target before r calls l =
+    let n = length (runs_of before) in
+    record {
+      of = course-keeps (AreOf n) (of-closed n) (body_of r.unit) (unit_course (terms_of modes.Full target) before r.unit) (unit-keeps (AreOf n) target before r.unit (of-unit target before r.unit)) calls (Ok r.content) l.runs;
+      fair = λ p ps runs on.
+          let Q = IsFair before p ps runs on in
+          course-keeps Q (fair-closed before p ps runs on) (body_of r.unit) (unit_course (terms_of modes.Full target) before r.unit) (unit-keeps Q target before r.unit (fair-unit before p ps runs on r.unit)) calls (Ok r.content) l.runs;
+    }
+
+-- the end of the input
+told-end : (before : History) (bit : ℕ) (calls : List Told) → AreMet (end_steps modes.Full before bit) calls → IsTold before calls
+told-end before bit calls h = record {
+  of = subst (AreOf (length (runs_of before))) (ap (λ (o : Outcome (Unit {0})). o.calls) (met-is (end_steps modes.Full before bit) calls h)) (end-of modes.Full before bit);
+  fair = λ p ps runs on. met-fair before p ps runs on (end_steps modes.Full before bit) (end-fair before p ps runs on bit) calls h;
+}
+
+-- a stop
 behind-of : (target : Target) (before : History) (units : List NalUnit) (tail : Tail) (end : ℕ) (stop : Stop) (calls : List Told) → IsStopBehind (terms_of modes.Full target) before units tail end stop calls → AreOf (length (runs_of before)) calls
 behind-of target before units tail end stop calls (AtNext unit later e h) = stop-keeps (AreOf (length (runs_of before))) (of-closed (length (runs_of before))) target before unit (of-unit target before unit) stop calls h
 behind-of target before units tail end stop calls (AtTail e h n) = subst (AreOf (length (runs_of before))) (sym n) tt
 behind-of target before units tail end stop calls (AtEnd e t h) = subst (AreOf (length (runs_of before))) (ap (λ (o : Outcome (Unit {0})). o.calls) (stop-is (end_steps modes.Full before (8 * end)) calls stop h)) (end-of modes.Full before (8 * end))
 
-shy-of : (before : History) (p : CodedPicture) (ps : List CodedPicture) (runs : runs_of before ≡ p ∷ ps) (on : goes_on before ≡ true) (n : ℕ) (calls : List Told) → AreShy before p ps runs on calls → AreOf n calls
-shy-of before p ps runs on n [] h = tt
-shy-of before p ps runs on n (Said call ∷ calls) h = (tt, shy-of before p ps runs on n calls h)
-shy-of before p ps runs on n (Decodes pictures ∷ calls) h = absurd h
-shy-of before p ps runs on n (Shows e ∷ calls) h = absurd h
+told-stop : (target : Target) (before : History) (units : List NalUnit) (tail : Tail) (end : ℕ) (stop : Stop) (calls : List Told) → IsStopBehind (terms_of modes.Full target) before units tail end stop calls → IsTold before calls
+told-stop target before units tail end stop calls h = record {
+  of = behind-of target before units tail end stop calls h;
+  fair = λ p ps runs on. behind-fair before p ps runs on target units tail end stop calls h;
+}
 
--- a stop tells of the pictures that have ended, or of all, of which the newest has then ended
+-- it is of the pictures that have ended, or of all, of which the newest has then ended
 abbrev IsEnded : History → List Told → Type 0
 IsEnded before calls = AreOf (ended_in before) calls ⊎ (AreOf (length (runs_of before)) calls × ((frames : ℕ → Frame) → AreDecoded frames calls → HasFrame frames (runs_of before)))
 
-behind-ended : (target : Target) (before : History) (units : List NalUnit) (tail : Tail) (end : ℕ) (stop : Stop) (calls : List Told) → IsStopBehind (terms_of modes.Full target) before units tail end stop calls → (on : Bool) → goes_on before ≡ on → (pictures : List CodedPicture) → runs_of before ≡ pictures → IsEnded before calls
-behind-ended target before units tail end stop calls h false on pictures runs =
-    let same : ended_in before ≡ length (runs_of before) = ap (λ (b : Bool). length (ended_pictures b false (runs_of before))) on ∙ ended-whole (runs_of before) in
-    inl (subst (λ n. AreOf n calls) (sym same) (behind-of target before units tail end stop calls h))
-behind-ended target before units tail end stop calls h true on [] runs = inr (behind-of target before units tail end stop calls h, λ frames d. subst (HasFrame frames) (sym runs) tt)
-behind-ended target before units tail end stop calls h true on (p ∷ ps) runs = by (behind-fair before p ps runs on target units tail end stop calls h)
+told-ended : (before : History) (calls : List Told) → IsTold before calls → IsEnded before calls
+told-ended before calls t = by (goes_on before) refl (runs_of before) refl
   where
-    by : IsFair before p ps runs on calls → IsEnded before calls
-    by (inl shy) = inl (shy-of before p ps runs on (ended_in before) calls shy)
-    by (inr knows) = inr (behind-of target before units tail end stop calls h, λ frames d. subst (HasFrame frames) (sym runs) (knows frames d))
+    by : (on : Bool) → goes_on before ≡ on → (pictures : List CodedPicture) → runs_of before ≡ pictures → IsEnded before calls
+    by false on pictures runs =
+        let same : ended_in before ≡ length (runs_of before) = ap (λ (b : Bool). length (ended_pictures b false (runs_of before))) on ∙ ended-whole (runs_of before) in
+        inl (subst (λ n. AreOf n calls) (sym same) t.of)
+    by true on [] runs = inr (t.of, λ frames d. subst (HasFrame frames) (sym runs) tt)
+    by true on (p ∷ ps) runs = ⊎_elim
+        (λ (of : AreOf (ended_in before) calls). inl of)
+        (λ (k : Knows before p ps runs on calls). inr (t.of, λ frames d. subst (HasFrame frames) (sym runs) (k frames d)))
+        (fair-frames before p ps runs on (ended_in before) calls (t.fair p ps runs on))
 
 -- the newest of these pictures has ended too
 newest-frames : (frames : ℕ → Frame) (on : Bool) (pictures : List CodedPicture) → HaveFrames frames (ended_pictures on false pictures) → HasFrame frames pictures → HaveFrames frames pictures
@@ -289,15 +278,31 @@ newest-frames frames on [] h k = tt
 newest-frames frames true (p ∷ ps) h k = (k, h)
 newest-frames frames false (p ∷ ps) h k = h
 
+-- ---- a front of what is told
+
+-- a front of two lists in turn is one of the first, or has all of that and a front of the second
+pub front-of : (told rest xs ys : List Told) → told ++ rest ≡ xs ++ ys → ((more : List Told) × (xs ≡ told ++ more)) ⊎ ((part : List Told) × (told ≡ xs ++ part) × (ys ≡ part ++ rest))
+front-of [] rest xs ys e = inl (xs, refl)
+front-of (t ∷ told) rest [] ys e = inr (t ∷ told, refl, sym e)
+front-of (t ∷ told) rest (x ∷ xs) ys e =
+    let head : t ≡ x = cc in
+    let tail : told ++ rest ≡ xs ++ ys = cc in
+    by head (front-of told rest xs ys tail)
+  where
+    by : t ≡ x → ((more : List Told) × (xs ≡ told ++ more)) ⊎ ((part : List Told) × (told ≡ xs ++ part) × (ys ≡ part ++ rest)) → ((more : List Told) × (x ∷ xs ≡ (t ∷ told) ++ more)) ⊎ ((part : List Told) × (t ∷ told ≡ (x ∷ xs) ++ part) × (ys ≡ part ++ rest))
+    by head (inl m) = inl (m.0, ap (λ (y : Told). y ∷ xs) (sym head) ∙ ap (λ (l : List Told). t ∷ l) m.1)
+    by head (inr m) = inr (m.0, ap (λ (y : Told). y ∷ told) head ∙ ap (λ (l : List Told). x ∷ l) m.1, m.2)
+
 module _ (frames others : ℕ → Frame) where
-  stop-output : (target : Target) (before : History) (first last all : List Told) → AreLegal (terms_of modes.Full target) before first → all ≡ first ++ last → IsEnded before last → AreDecoded frames all → AreDecoded others all → calls_of frames all ≡ calls_of others all
-  stop-output target before first last all l e (inl of) d d' =
+  -- behind legal units
+  behind-output : (target : Target) (before : History) (first last all : List Told) → AreLegal (terms_of modes.Full target) before first → all ≡ first ++ last → IsEnded before last → AreDecoded frames all → AreDecoded others all → calls_of frames all ≡ calls_of others all
+  behind-output target before first last all l e (inl of) d d' =
       let pictures = ended_pictures (goes_on before) false (runs_of before) in
       let one = decoded-first frames first last (subst (AreDecoded frames) e d) in
       let other = decoded-first others first last (subst (AreDecoded others) e d') in
       let shown = shown-alike frames others pictures (legal-family frames others target before first l one other) (legal-frames target before first l frames one) (legal-frames target before first l others other) in
       calls-same frames others (length pictures) all shown (subst (AreOf (length pictures)) (sym e) (of-both (length pictures) first last (legal-of target before first l) of))
-  stop-output target before first last all l e (inr more) d d' =
+  behind-output target before first last all l e (inr more) d d' =
       let pictures = runs_of before in
       let n = length pictures in
       let whole : (family : ℕ → Frame) → AreDecoded family all → HaveFrames family pictures = λ family x.
@@ -307,7 +312,53 @@ module _ (frames others : ℕ → Frame) where
       let of = of-both n first last (of-more (ended_in before) n first (ended-few (goes_on before) pictures) (legal-of target before first l)) more.0 in
       calls-same frames others n all shown (subst (AreOf n) (sym e) of)
 
-  -- of a stream, whatever its verdict
+  part-output : (target : Target) (before : History) (first last part rest told : List Told) → AreLegal (terms_of modes.Full target) before first → IsTold before last → told ≡ first ++ part → last ≡ part ++ rest → AreDecoded frames told → AreDecoded others told → calls_of frames told ≡ calls_of others told
+  part-output target before first last part rest told l t e p d d' = behind-output target before first part told l e (told-ended before part (told-first before last part rest p t)) d d'
+
+  legal-front : (target : Target) (before : History) (calls told rest : List Told) → AreLegal (terms_of modes.Full target) before calls → told ++ rest ≡ calls → AreDecoded frames told → AreDecoded others told → calls_of frames told ≡ calls_of others told
+  legal-front target [] calls [] rest l e d d' = refl
+  legal-front target [] calls (t ∷ told) rest l e d d' = absurd (let none : t ∷ (told ++ rest) ≡ [] = e ∙ l in cc)
+  legal-front target (r ∷ before) calls told rest l e d d' = ⊎_elim
+      (λ (m : (more : List Told) × (l.0 ≡ told ++ more)). legal-front target before l.0 told m.0 l.2 (sym m.1) d d')
+      (λ (m : (part : List Told) × (told ≡ l.0 ++ part) × (l.1 ≡ part ++ rest)). part-output target before l.0 l.1 m.0 rest told l.2 (told-unit target before r l.1 l.3) m.1 m.2 d d')
+      (front-of told rest l.0 l.1 (e ∙ l.4))
+
+  behind-front : (target : Target) (before : History) (first last told rest : List Told) → AreLegal (terms_of modes.Full target) before first → IsTold before last → told ++ rest ≡ first ++ last → AreDecoded frames told → AreDecoded others told → calls_of frames told ≡ calls_of others told
+  behind-front target before first last told rest l t e d d' = ⊎_elim
+      (λ (m : (more : List Told) × (first ≡ told ++ more)). legal-front target before first told m.0 l (sym m.1) d d')
+      (λ (m : (part : List Told) × (told ≡ first ++ part) × (last ≡ part ++ rest)). part-output target before first last m.0 rest told l t m.1 m.2 d d')
+      (front-of told rest first last e)
+
+  -- a front of what is told of a stream up to its verdict
+  pub front-output : (target : Target) (bytes : List ℕ) (told rest : List Told) (answer : Result Summary Stop) → Verdict (terms_of modes.Full target) bytes (told ++ rest) answer → AreDecoded frames told → AreDecoded others told → calls_of frames told ≡ calls_of others told
+  front-output target bytes told rest (Ok summary) h d d' = behind-front target h.units h.first h.last told rest h.legal (told-end h.units (8 * length bytes) h.last h.end) h.calls_are d d'
+  front-output target bytes told rest (Err stop) h d d' = behind-front target h.before h.first h.last told rest h.legal (told-stop target h.before h.units h.tail (length bytes) stop h.last h.stops) h.calls_are d d'
+
+  -- all of it
   pub verdict-output : (target : Target) (bytes : List ℕ) (all : List Told) (answer : Result Summary Stop) → Verdict (terms_of modes.Full target) bytes all answer → AreDecoded frames all → AreDecoded others all → calls_of frames all ≡ calls_of others all
-  verdict-output target bytes all (Ok summary) h d d' = one-output frames others target bytes all summary h d d'
-  verdict-output target bytes all (Err stop) h d d' = stop-output target h.before h.first h.last all h.legal h.calls_are (behind-ended target h.before h.units h.tail (length bytes) stop h.last h.stops (goes_on h.before) refl (runs_of h.before) refl) d d'
+  verdict-output target bytes all answer h d d' = front-output target bytes all [] answer (subst (λ (l : List Told). Verdict (terms_of modes.Full target) bytes l answer) (sym (append-nil all)) h) d d'
+
+  -- what legal units tell
+  pub legal-output : (target : Target) (before : History) (told : List Told) → AreLegal (terms_of modes.Full target) before told → AreDecoded frames told → AreDecoded others told → calls_of frames told ≡ calls_of others told
+  legal-output target before told l d d' = legal-front target before told told [] l (append-nil told) d d'
+
+calls-both : (frames : ℕ → Frame) (xs ys : List Told) → calls_of frames (xs ++ ys) ≡ calls_of frames xs ++ calls_of frames ys
+calls-both frames [] ys = refl
+calls-both frames (Said call ∷ xs) ys = ap (λ (l : List Call). call ∷ l) (calls-both frames xs ys)
+calls-both frames (Decodes pictures ∷ xs) ys = calls-both frames xs ys
+calls-both frames (Shows e ∷ xs) ys = ap (λ (l : List Call). shown_call frames e ∷ l) (calls-both frames xs ys)
+
+-- the longer of two fronts begins with the shorter
+longer : (frames others : ℕ → Frame) (target : Target) (bytes : List ℕ) (told other part more : List Told) (answer : Result Summary Stop) → other ≡ told ++ part → Verdict (terms_of modes.Full target) bytes (other ++ more) answer → AreDecoded frames told → AreDecoded others other → (rest : List Call) × (calls_of others other ≡ calls_of frames told ++ rest)
+longer frames others target bytes told other part more answer e v d d' =
+    let first = decoded-first others told part (subst (AreDecoded others) e d') in
+    let front = subst (λ (l : List Told). Verdict (terms_of modes.Full target) bytes l answer) (ap (λ (l : List Told). l ++ more) e ∙ append_assoc told part more) v in
+    let same = front-output frames others target bytes told (part ++ more) answer front d first in
+    (calls_of others part, ap (λ (l : List Told). calls_of others l) e ∙ calls-both others told part ∙ ap (λ (l : List Call). l ++ calls_of others part) (sym same))
+
+-- two fronts, with two families: one begins with the other
+pub fronts-output : (target : Target) (bytes : List ℕ) (told rest other more : List Told) (answer another : Result Summary Stop) → Verdict (terms_of modes.Full target) bytes (told ++ rest) answer → Verdict (terms_of modes.Full target) bytes (other ++ more) another → (frames others : ℕ → Frame) → AreDecoded frames told → AreDecoded others other → IsFrontOf (calls_of frames told) (calls_of others other) ⊎ IsFrontOf (calls_of others other) (calls_of frames told)
+fronts-output target bytes told rest other more answer another v w frames others d d' = ⊎_elim
+    (λ (m : (extra : List Told) × (other ≡ told ++ extra)). let l = longer frames others target bytes told other m.0 more another m.1 w d d' in inl (record { rest = l.0; whole = l.1 }))
+    (λ (m : (part : List Told) × (told ≡ other ++ part) × (more ≡ part ++ rest)). let l = longer others frames target bytes other told m.0 rest answer m.1 v d' d in inr (record { rest = l.0; whole = l.1 }))
+    (front-of told rest other more (one-verdict (terms_of modes.Full target) bytes (told ++ rest) (other ++ more) answer another v w).0)

@@ -7,18 +7,17 @@ use Rattle.h264_base.specs.declared.rule.Rule.{Rule}
 use Rattle.h264_base.specs.declared.stop.Stop.{Stop}
 use Rattle.h264_base.specs.declared.stop.Stop.TheVariants.{No}
 use Rattle.h264_base.specs.Body.{Body}
-use Rattle.h264_base.specs.Grammar.{Grammar, Done, ◌>>=◌, check, Element, Says}
+use Rattle.h264_base.specs.Grammar.{Grammar, ◌>>=◌, check, Element, Says}
 use Rattle.h264_base.specs.Run.{Run, run, stopped}
 use Rattle.h264_base.proofs.Steps.{going_on, then_run, run-bind}
 use Rattle.h264_base.proofs.OneAnswer.{run-says, run-one}
 use Rattle.h264_bits.specs.Forms.{natural}
 use Rattle.h264_sps.specs.Sps.{is_judged_profile, profile_and_level, sps}
-use Rattle.h264_pps.specs.Pps.{is_weighting_judged, weighted_pred, weighted_bipred, pps}
+use Rattle.h264_pps.specs.Pps.{weighted_pred, weighted_bipred, pps}
 use Rattle.h264_units.specs.Stream.{NalUnit}
 use Rattle.h264_rbsp.specs.Rbsp.{body_of}
 use Rattle.h264_slices.specs.Telling.{Told, Said}
 use Rattle.h264_slices.specs.Content.{Content}
-use Rattle.h264_slices.specs.Content as contents
 use Rattle.h264_slices.specs.Steps.{Step, Tells, needs, Course, Takes, Reads, Runs}
 use Rattle.h264_slices.specs.UnitHeader.{header_of, nal_unit_type, header_demands}
 use Rattle.h264_slices.specs.Pictures.{closing_at}
@@ -26,7 +25,7 @@ use Rattle.h264_slices.specs.Closing.{whole_at}
 use Rattle.h264_slices.specs.History.{History}
 use Rattle.h264_judge.specs.declared.state.Summary.{Summary}
 use Rattle.h264_judge.specs.Units.{terms_of, content, other_content, content_steps, data_course, frames_at, unit_call, unit_course}
-use Rattle.h264_verify.specs.Verdict.{IsLegal, AreLegal, Holds}
+use Rattle.h264_verify.specs.Verdict.{AreLegal, Holds}
 
 -- where the first structure gives a value, the second runs as it does
 pub record Follows {A : Type 0} (g g' : Grammar A) : Type 0 where
@@ -173,4 +172,5 @@ module _ (mode : Mode) where
     end = h.end;
     calls_are = h.calls_are;
     summary_is = h.summary_is;
+    pictures = h.pictures;
   }

@@ -19,7 +19,10 @@ use Rattle.h264_judge.specs.declared.state.Summary.{Summary}
 use Rattle.h264_slices.specs.Content.{Content}
 use Rattle.h264_slices.specs.Outcome.{Outcome, ◌>>=◌, with_calls, answers, Plays}
 use Rattle.h264_verify.specs.Judging.{unless, tail_outcome, units_outcome, Comes, judging}
-use Rattle.h264_verify.specs.Session.{Standing, ToCome, Shows, Leads, Way, Goes, RansBy}
+use Rattle.h264_verify.specs.Session.{Standing, ToCome, Shows, Leads, Way, Goes, RansBy, LacksNext, Lacks, Lacking}
+use Rattle.h264_verify.specs.Session as lacking
+use Rattle.h264_units.proofs.Total.{some-split}
+use Rattle.h264_verify.proofs.Lacking.{same-stop, stops-lacks}
 use Rattle.h264_slices.specs.Steps.{AreMet, IsFirstStop, Runs}
 use Rattle.h264_slices.specs.History.{History, ReadUnit}
 use Rattle.h264_judge.specs.Keeping.{Keeps}
@@ -29,7 +32,7 @@ use Rattle.h264_slices.specs.StepOutcome.{steps_outcome, course_outcome}
 use Rattle.h264_judge.specs.UnitOutcome.{unit_outcome, end_outcome}
 use Rattle.h264_verify.specs.Progress.{Progress, IsFresh}
 use Rattle.h264_verify.specs.Feeding.{behind, GoesOn, StopsOn, FinishesOn, FedOn, JudgesWith, WasFed, IsFed}
-use Rattle.h264_verify.specs.Verdict.{IsSound, IsLegal, IsStop, AtBytes, InCourse, in_order, AreLegal, Holds, IsStopBehind, AtNext, AtTail, AtEnd, StopsAt, Verdict, Whole, Front, JudgedBy, Judged}
+use Rattle.h264_verify.specs.Verdict.{IsSound, IsLegal, IsStop, AtBytes, InCourse, in_order, AreLegal, Holds, IsStopBehind, AtNext, AtTail, AtEnd, StopsAt, Verdict, Whole, Front, IsWanting, BeforeNext, ForPicture, WantsAt, Wanting, JudgedBy, Judged}
 use Rattle.h264_slices.proofs.Tellings.{tells-none}
 use Rattle.h264_judge.proofs.Agreeing.{of-both, of-more}
 use Rattle.h264_verify.proofs.Feeding.{with-both, goes-both}
@@ -37,7 +40,8 @@ use Rattle.h264_verify.proofs.Familiar.{told-agree, goes-agree, fed-agree, on-th
 use Rattle.h264_verify.proofs.Sources.{one-outcome, some-outcome, goes-more, goes-then, stops-plays, fed-same, fed-on, fed-stops, fed-read, fed-ends, judges-memory, piece-more, pieces-stop, pieces-finish, goes-all}
 use Rattle.h264_slices.proofs.Stepping.{outcome, met-is, stop-is, either, bound, bind-stop, runs-outcome, SomeRun, some-run}
 use Rattle.h264_slices.proofs.Stepping as stepping
-use Rattle.h264_verify.proofs.Ways.{way-none, shows-as, shows-both, shows-more}
+use Rattle.h264_verify.proofs.Bounds.{are-decodable}
+use Rattle.h264_verify.proofs.Ways.{splits-shown, way-none, shows-as, shows-both, shows-more}
 
 -- A legal unit comes to its calls, and joins those before it.
 pub legal-unit : (terms : Terms) (before : History) (r : ReadUnit) (calls : List Told) → IsLegal terms before r calls → unit_outcome terms before r.unit ≡ outcome calls (Ok (r ∷ before))
@@ -48,7 +52,7 @@ legal-unit terms before r calls l =
     ∙ ap (λ c. outcome c (Ok (r ∷ before))) (append-nil calls)
 
 -- A unit at which the verdict falls comes to the calls up to there.
-stop-unit : (terms : Terms) (before : History) (unit : NalUnit) (stop : Stop) (calls : List Told) → IsStop terms before unit stop calls → unit_outcome terms before unit ≡ outcome calls (Err stop)
+pub stop-unit : (terms : Terms) (before : History) (unit : NalUnit) (stop : Stop) (calls : List Told) → IsStop terms before unit stop calls → unit_outcome terms before unit ≡ outcome calls (Err stop)
 unfolding unit_outcome
 stop-unit terms before unit stop calls (AtBytes place fault e n) =
     bind-stop (answers (emulation_checked unit.from unit.body)) _ [] (No (8 * (unit.from + place)) Emulation) (ap (λ (x : Result (Unit {0}) Stop). answers x) (sym (some-checked unit.from unit.body place fault)))
@@ -57,10 +61,10 @@ stop-unit terms before unit stop calls (InCourse sound runs) =
     bound (answers (emulation_checked unit.from unit.body)) _ [] tt _ (ap (λ (x : Result (Unit {0}) Stop). answers x) (sym (none-checked unit.from unit.body sound)))
     (bind-stop (course_outcome (body_of unit) (unit_course terms before unit)) _ calls stop (runs-outcome (body_of unit) (unit_course terms before unit) calls (Err stop) runs))
 
-stopped-not : (a b : List Told) (stop : Stop) (h : History) → outcome a (Err stop) ≡ outcome b (Ok h) → ⊥
+pub stopped-not : (a b : List Told) (stop : Stop) (h : History) → outcome a (Err stop) ≡ outcome b (Ok h) → ⊥
 stopped-not a b stop h e = let f : Err stop ≡ Ok h = ap (λ (o : Outcome History). o.answer) e in cc
 
-ok-same : (a b : History) → (let r : Result History Stop = Ok a in r ≡ Ok b) → a ≡ b
+pub ok-same : (a b : History) → (let r : Result History Stop = Ok a in r ≡ Ok b) → a ≡ b
 ok-same a b e = cc
 
 -- a unit is legal, or the verdict falls at it
@@ -202,7 +206,7 @@ of-split : (terms : Terms) (bytes : List ℕ) (units : List NalUnit) (tail : Tai
 of-split terms bytes units tail s (AllLegal reads first last e t l h) = record {
   calls = first ++ last;
   answer = Ok (summary_of terms.mode reads);
-  verdict = record { units = reads; stream = subst (λ us. Splits 0 bytes us Zeros) e (subst (Splits 0 bytes units) t s); first = first; last = last; legal = l; end = h; calls_are = refl; summary_is = refl };
+  verdict = record { units = reads; stream = subst (λ us. Splits 0 bytes us Zeros) e (subst (Splits 0 bytes units) t s); first = first; last = last; legal = l; end = h; calls_are = refl; summary_is = refl; pictures = are-decodable terms.mode terms.target reads first last (8 * length bytes) l h };
 }
 of-split terms bytes units tail s (Falls before rest first last stop e l f) = record {
   calls = first ++ last;
@@ -225,6 +229,36 @@ one-verdict terms bytes calls others one other a b =
     let e = one-outcome (judging terms) [] bytes (record { calls = calls; answer = one }) (record { calls = others; answer = other }) (verdict-comes terms bytes calls one a) (verdict-comes terms bytes others other b) in
     (ap (λ (o : Outcome Summary). o.calls) e, ap (λ (o : Outcome Summary). o.answer) e)
 
+pub in-order : (h : History) (us : List NalUnit) → in_order h us ≡ in_order h [] ++ us
+in-order [] us = refl
+in-order (r ∷ h) us = in-order h (r.unit ∷ us) ∙ sym (append_assoc (in_order h []) (r.unit ∷ []) us) ∙ ap (λ l. l ++ us) (sym (in-order h (r.unit ∷ [])))
+
+-- where memory was wanting, behind legal units
+wants-behind : (terms : Terms) (before : History) (units : List NalUnit) (calls : List Told) → LacksNext (judging terms) before units calls → IsWanting terms before units calls
+wants-behind terms before units calls (lacking.ForBytes e) = BeforeNext e
+wants-behind terms before units calls (lacking.ForUnit unit later e g) = ForPicture unit later e g
+
+wants-at : (terms : Terms) (bytes : List ℕ) (before : History) (told : List Told) (all units : List NalUnit) (tail : Tail) (calls : List Told) → AreLegal terms before told → Splits 0 bytes all tail → all ≡ in_order before [] ++ units → Lacks (judging terms) before units calls → WantsAt terms bytes (told ++ calls)
+wants-at terms bytes before told all units tail calls l s e k =
+    let legal = leads-legal terms k.mid before k.judged k.first told k.led l in
+    record {
+      before = k.mid;
+      units = k.later;
+      tail = tail;
+      stream = subst (λ us. Splits 0 bytes us tail) (e ∙ ap (λ us. in_order before [] ++ us) k.units_are ∙ sym (append_assoc (in_order before []) k.judged k.later) ∙ ap (λ us. us ++ k.later) (sym (in-order before k.judged) ∙ sym legal.1) ∙ sym (in-order k.mid k.later)) s;
+      first = told ++ k.first;
+      last = k.last;
+      legal = legal.0;
+      wants = wants-behind terms k.mid k.later k.last k.lacks;
+      calls_are = ap (λ c. told ++ c) k.calls_are ∙ sym (append_assoc told k.first k.last);
+    }
+
+wanting : {S : Type 0} (terms : Terms) (took : S → List Told → Type 0) (bytes : List ℕ) (before : History) (told : List Told) (at : ℕ) (rest : List ℕ) (s s' : S) → AreLegal terms before told → ((all : List NalUnit) (tail : Tail) → Splits 0 bytes all tail → (units : List NalUnit) × (all ≡ in_order before [] ++ units) × Splits at rest units tail) → Lacking (judging terms) took at before rest s s' → Wanting terms took bytes told s s'
+wanting terms took bytes before told at rest s s' l cut k =
+    let all = some-split 0 bytes (omega arith) in
+    let u = cut all.units all.tail all.splits in
+    record { more = k.calls; tells = k.tells; wants = wants-at terms bytes before told all.units u.0 all.tail k.calls l all.splits u.1 (k.lacks u.0 all.tail u.2) }
+
 -- What was played of the stream's outcome, behind what a sink was told before, is its verdict.
 module _ {S : Type 0} (terms : Terms) (took : S → List Told → Type 0) (failures : S → ℕ) (bytes : List ℕ) (calls : List Told) (later : Outcome Summary) (s s' : S) (v : (answer : Result Summary Stop) → later.answer ≡ answer → Verdict terms bytes (calls ++ later.calls) answer) where
   whole : (answer : Result Summary Stop) → later.answer ≡ answer → Tells took s s' later.calls → Whole terms took bytes calls s s' answer
@@ -239,13 +273,13 @@ module _ {S : Type 0} (terms : Terms) (took : S → List Told → Type 0) (failu
     verdict = subst (λ l. Verdict terms bytes l later.answer) (ap (λ l. calls ++ l) t.whole ∙ sym (append_assoc calls t.front t.rest)) (v later.answer refl);
   }
 
-  judged-by : (result : Result Summary Stop) → RansBy took failures later s s' result → JudgedBy terms took failures bytes calls s s' result
-  judged-by (Ok x) p = (whole (Ok x) p.plays.0 p.plays.1, p.plays.2)
-  judged-by (Err (No bit rule)) p = (whole (Err (No bit rule)) p.plays.0 p.plays.1, p.plays.2)
-  judged-by (Err (Outside bit feature)) p = (whole (Err (Outside bit feature)) p.plays.0 p.plays.1, p.plays.2)
-  judged-by (Err Memory) p = (front p.plays.0, p.plays.1)
-  judged-by (Err Read) p = (front p.0, p.1)
-  judged-by (Err Write) p = (front p.plays.0, p.plays.1)
+  judged-by : (result : Result Summary Stop) → RansBy took failures later s s' result → (result ≡ Err Memory → Wanting terms took bytes calls s s') → JudgedBy terms took failures bytes calls s s' result
+  judged-by (Ok x) p w = (whole (Ok x) p.plays.0 p.plays.1, p.plays.2)
+  judged-by (Err (No bit rule)) p w = (whole (Err (No bit rule)) p.plays.0 p.plays.1, p.plays.2)
+  judged-by (Err (Outside bit feature)) p w = (whole (Err (Outside bit feature)) p.plays.0 p.plays.1, p.plays.2)
+  judged-by (Err Memory) p w = (front p.plays.0, p.plays.1, w refl)
+  judged-by (Err Read) p w = (front p.0, p.1)
+  judged-by (Err Write) p w = (front p.plays.0, p.plays.1)
 
 -- what was judged by the fold has this verdict
 pub judges-judged : {S : Type 0} (terms : Terms) (took : S → List Call → Type 0) (failures : S → ℕ) (bytes : List ℕ) (frames : ℕ → Frame) (s s' : S) (result : Result Summary Stop) → JudgesWith terms took failures bytes s s' result → Judged terms took failures bytes frames [] s s' result
@@ -254,7 +288,8 @@ judges-judged terms took failures bytes frames s s' result w =
     record {
       made = w.frames;
       same = record { calls = refl; decoded = λ x. x };
-      judged = judged-by terms (took_with w.frames took) failures bytes [] j.outcome s s' (λ answer e. subst (Verdict terms bytes j.outcome.calls) e (comes-verdict terms bytes j.outcome j.comes)) result j.ran;
+      judged = judged-by terms (took_with w.frames took) failures bytes [] j.outcome s s' (λ answer e. subst (Verdict terms bytes j.outcome.calls) e (comes-verdict terms bytes j.outcome j.comes)) result j.ran
+          (λ e. wanting terms (took_with w.frames took) bytes [] [] 0 bytes s s' refl (λ all tail sp. (all, refl, sp)) (j.lacks e));
     }
 
 plays-rans : {S : Type 0} (took : S → List Told → Type 0) (failures : S → ℕ) (o : Outcome Summary) (s s' : S) (r : Result Summary Stop) → Plays took failures (λ (x : Summary). x) o s s' r → RansBy took failures o s s' r
@@ -324,10 +359,6 @@ fed-piece terms took failures old new bytes piece frames told s s' w m runs u on
       kept = k;
     }
   where
-    in-order : (h : History) (us : List NalUnit) → in_order h us ≡ in_order h [] ++ us
-    in-order [] us = refl
-    in-order (r ∷ h) us = in-order h (r.unit ∷ us) ∙ sym (append_assoc (in_order h []) (r.unit ∷ []) us) ∙ ap (λ l. l ++ us) (sym (in-order h (r.unit ∷ [])))
-
     shown-on : (units : List NalUnit) → Shows 0 bytes (in_order w.before []) old.split.at old.split.rest → Shows old.split.at (old.split.rest ++ piece) units new.split.at (new.split.rest ++ []) → Shows 0 (bytes ++ piece) (in_order w.before units) new.split.at new.split.rest
     shown-on units a b =
         subst (λ us. Shows 0 (bytes ++ piece) us new.split.at new.split.rest) (sym (in-order w.before units))
@@ -338,11 +369,13 @@ fed-stop : {S : Type 0} (terms : Terms) (took : S → List Call → Type 0) (fai
 fed-stop terms took failures old bytes piece frames told s s' stop w p later =
     let o = some-outcome (judging terms) [] (bytes ++ (piece ++ later)) in
     let f = fed-later w (piece ++ later) o.0 o.1 in
+    let cut = λ (all : List NalUnit) (tail : Tail) (sp : Splits 0 (bytes ++ (piece ++ later)) all tail). splits-shown 0 bytes (in_order w.before []) old.split.at old.split.rest (piece ++ later) all tail w.shown sp in
     subst (λ l. Judged terms took failures l frames told s s' (Err stop)) (sym (append_assoc bytes piece later))
     (record {
       made = p.made;
       same = told-agree (ended_in w.before) frames p.made told p.same w.of;
-      judged = judged-by terms (took_with p.made took) failures (bytes ++ (piece ++ later)) told f.0 s s' f.2 (Err stop) (stops-plays (judging terms) (took_with p.made took) failures (behind old.split w.before) piece later s s' stop f.0 p.stops.stops f.1);
+      judged = judged-by terms (took_with p.made took) failures (bytes ++ (piece ++ later)) told f.0 s s' f.2 (Err stop) (stops-plays (judging terms) (took_with p.made took) failures (behind old.split w.before) piece later s s' stop f.0 p.stops.stops f.1)
+          (λ e. wanting terms (took_with p.made took) (bytes ++ (piece ++ later)) w.before told old.split.at (old.split.rest ++ (piece ++ later)) s s' w.legal cut (stops-lacks (judging terms) (took_with p.made took) failures (behind old.split w.before) piece later s s' stop p.stops.stops (same-stop stop Memory e)));
     })
 
 -- the end of the input
@@ -351,11 +384,13 @@ fed-end terms took failures session bytes frames told s s' r w q =
     let p = finishes-as w.terms_is q in
     let o = some-outcome (judging terms) [] (bytes ++ []) in
     let f = fed-later w [] o.0 o.1 in
+    let cut = λ (all : List NalUnit) (tail : Tail) (sp : Splits 0 (bytes ++ []) all tail). splits-shown 0 bytes (in_order w.before []) session.split.at session.split.rest [] all tail w.shown sp in
     subst (λ l. Judged terms took failures l frames told s s' r) (append-nil bytes)
     (record {
       made = p.made;
       same = told-agree (ended_in w.before) frames p.made told p.same w.of;
-      judged = judged-by terms (took_with p.made took) failures (bytes ++ []) told f.0 s s' f.2 r (plays-rans (took_with p.made took) failures f.0 s s' r (p.finishes.finishes f.0 f.1));
+      judged = judged-by terms (took_with p.made took) failures (bytes ++ []) told f.0 s s' f.2 r (plays-rans (took_with p.made took) failures f.0 s s' r (p.finishes.finishes f.0 f.1))
+          (λ e. wanting terms (took_with p.made took) (bytes ++ []) w.before told session.split.at (session.split.rest ++ []) s s' w.legal cut (p.finishes.lacks e));
     })
 
 -- as the answer of a call

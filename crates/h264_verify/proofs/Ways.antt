@@ -3,7 +3,8 @@ use Rattle.std.proofs.Common.{◌≡◌, ℕ, IsFalse, List, [], ◌∷◌, ◌+
 use Rattle.std.proofs.lemmas.List.{append-nil, take-append-drop}
 use Rattle.h264_base.specs.declared.stop.Stop.{Stop}
 use Rattle.h264_slices.specs.Telling.{Told}
-use Rattle.h264_units.specs.Stream.{NalUnit, Next, past}
+use Rattle.h264_units.specs.Stream.{NalUnit, Next, past, Tail, Splits}
+use Rattle.h264_units.proofs.Streams.{same-first, first-not-tail, splits-after}
 use Rattle.h264_units.specs.Splitting.{Splitting, Pushed, Taken}
 use Rattle.h264_slices.specs.Outcome.{Outcome}
 use Rattle.h264_verify.specs.Judging.{Judging}
@@ -23,6 +24,21 @@ shows-more at bytes (u ∷ us) end rest more a = (a.0 ++ more, λ later. moved a
   where
     moved : (at : ℕ) (u : NalUnit) (bytes left more later : List ℕ) → Next at (bytes ++ (more ++ later)) u (left ++ (more ++ later)) → Next at ((bytes ++ more) ++ later) u ((left ++ more) ++ later)
     moved at u bytes left more later n = subst (λ l. Next at l u ((left ++ more) ++ later)) (sym (append_assoc bytes more later)) (subst (λ l. Next at (bytes ++ (more ++ later)) u l) (sym (append_assoc left more later)) n)
+
+-- the first of the units of these bytes
+pub splits-first : (at : ℕ) (bytes : List ℕ) (unit : NalUnit) (rest : List ℕ) (units : List NalUnit) (tail : Tail) → Next at bytes unit rest → Splits at bytes units tail → (later : List NalUnit) × (units ≡ unit ∷ later) × Splits (past unit) rest later tail
+splits-first at bytes unit rest [] tail n s = absurd (first-not-tail at bytes unit rest tail n s)
+splits-first at bytes unit rest (u ∷ us) tail n s =
+    let same = same-first at bytes unit u rest s.0 n.first s.1.first in
+    (us, ap (λ (v : NalUnit). v ∷ us) (sym same.unit_is), splits-after at bytes unit u rest s.0 us tail n.first s.1.first s.2)
+
+-- those that were shown are the first, however the bytes go on
+pub splits-shown : (at : ℕ) (bytes : List ℕ) (shown : List NalUnit) (end : ℕ) (rest more : List ℕ) (units : List NalUnit) (tail : Tail) → Shows at bytes shown end rest → Splits at (bytes ++ more) units tail → (later : List NalUnit) × (units ≡ shown ++ later) × Splits end (rest ++ more) later tail
+splits-shown at bytes [] end rest more units tail a s = (units, refl, subst (λ n. Splits n (rest ++ more) units tail) (sym a.0) (subst (λ l. Splits at (l ++ more) units tail) (sym a.1) s))
+splits-shown at bytes (u ∷ shown) end rest more units tail a s =
+    let f = splits-first at (bytes ++ more) u (a.0 ++ more) units tail (a.1 more) s in
+    let r = splits-shown (past u) a.0 shown end rest more f.0 tail a.2 f.2 in
+    (r.0, f.1 ∙ ap (λ l. u ∷ l) r.1, r.2)
 
 pub leads-both : {State Summary : Type 0} (j : Judging State Summary) (old mid new : State) (us vs : List NalUnit) (xs ys : List Told) → Leads j old us xs mid → Leads j mid vs ys new → Leads j old (us ++ vs) (xs ++ ys) new
 leads-both j old mid new [] vs xs ys a b = subst (λ l. Leads j old vs (l ++ ys) new) (sym a.0) (subst (λ s. Leads j s vs ys new) a.1 b)

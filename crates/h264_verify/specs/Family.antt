@@ -1,5 +1,6 @@
--- Two families of frames, by number in decoding order, beside the pictures of a stream. To be read beside the standard.
-use Rattle.std.specs.Prelude.{◌≡◌, ℕ, ◌*◌, ◌<◌, List, [], ◌∷◌, length}
+-- Two families of frames, by number in decoding order, beside the pictures of a stream, and what sinks are told of it. To be read beside the standard.
+use Rattle.std.specs.Prelude.{◌≡◌, ℕ, ◌*◌, ◌<◌, List, [], ◌∷◌, ◌++◌, length}
+use Rattle.h264_base.specs.Call.{Call}
 use Rattle.h264_plane.specs.declared.frame.Component.{Component}
 use Rattle.h264_plane.specs.declared.frame.Frame.{Frame}
 use Rattle.h264_plane.specs.Frames.{plane_of}
@@ -16,3 +17,8 @@ HaveSameSamples frames others n size = (c : Component) (x y : ℕ) → x < side 
 abbrev pub AreSameOn : (frames others : ℕ → Frame) → List CodedPicture → Type 0
 AreSameOn frames others [] = Unit {0}
 AreSameOn frames others (p ∷ ps) = HaveSameSamples frames others (length ps) p.first.sps.frame_size × AreSameOn frames others ps
+
+-- a sink that took the first list may go on to the second
+pub record IsFrontOf (calls more : List Call) : Type 0 where
+  pub rest : List Call
+  pub whole : more ≡ calls ++ rest

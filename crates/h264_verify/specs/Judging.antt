@@ -6,12 +6,15 @@ use Rattle.h264_units.specs.Stream.{NalUnit, Tail, Splits, tail_stop}
 use Rattle.h264_slices.specs.Outcome.{Outcome, ◌>>=◌, answers}
 use Rattle.h264_slices.specs.History.{History}
 use Rattle.h264_judge.specs.declared.state.Summary.{Summary}
+use Rattle.h264_judge.specs.Memory.{ChangesFormat}
 use Rattle.h264_judge.specs.UnitOutcome.{unit_outcome, end_outcome}
 
--- What comes of a unit, in the state that the units before it left, and of the end of the input at this bit.
-pub record Judging (State Summary : Type 0) : Type 0 where
+-- What comes of a unit, in the state that the units before it left, and of the end of the input at this bit; and which units want
+-- memory beside that for their bytes.
+pub record Judging (State Summary : Type 0) : Type 1 where
   pub unit : State → NalUnit → Outcome State
   pub end : State → ℕ → Outcome Summary
+  pub grows : State → NalUnit → Type 0
 
 -- an outcome, unless there is a stop
 abbrev pub unless : {A : Type 0} → Option Stop → Outcome A → Outcome A
@@ -36,4 +39,4 @@ pub record Comes {State Summary : Type 0} (j : Judging State Summary) (at : ℕ)
 
 -- the units of a stream judged by these terms, behind one another
 abbrev pub judging : Terms → Judging History Summary
-judging terms = record { unit = unit_outcome terms; end = end_outcome terms.mode }
+judging terms = record { unit = unit_outcome terms; end = end_outcome terms.mode; grows = ChangesFormat terms.mode }

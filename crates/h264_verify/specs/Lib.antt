@@ -2,6 +2,7 @@ pub mod Judging
 pub mod Session
 pub mod Within
 pub mod Predicting
+pub mod Decodable
 pub mod Progress
 pub mod Verdict
 pub mod Feeding

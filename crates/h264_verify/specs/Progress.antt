@@ -1,8 +1,10 @@
 -- What a session is to its callers. A working form.
-use Rattle.std.specs.Prelude.{◌≡◌, ◌≤◌, ℕ, false, IsFalse, Option, Some, None, []}
+use Rattle.std.specs.Prelude.{◌≡◌, ◌≤◌, ℕ, true, false, IsFalse, Option, Some, None, List, []}
 use Rattle.h264_base.specs.declared.mode.Mode.{Mode}
 use Rattle.h264_judge.specs.declared.state.Terms.{Terms}
 use Rattle.h264_base.specs.declared.stop.Stop.{Stop}
+use Rattle.h264_units.specs.Stream.{NalUnit, Next}
+use Rattle.h264_judge.specs.Memory.{is_read}
 use Rattle.h264_units.specs.Splitting.{Splitting, at_start}
 use Rattle.h264_judge.specs.declared.state.State.{State}
 use Rattle.h264_plane.specs.declared.frame.Frame.{Frame}
@@ -22,6 +24,13 @@ IsReady mode split state = ((split.stop ≡ None) × IsFalse split.waiting × Is
 abbrev pub IsSession : Mode → Option Stop → Splitting → State → Type 0
 IsSession mode None split state = IsReady mode split state
 IsSession mode (Some stop) split state = Unit {0}
+
+-- where the input ends here, it leaves a unit, which is read in this mode
+pub record LastIsRead (mode : Mode) (split : Splitting) : Type 0 where
+  pub unit : NalUnit
+  pub rest : List ℕ
+  pub next : Next split.at split.rest unit rest
+  pub read : is_read mode unit ≡ true
 
 -- before the first byte nothing was kept
 pub record IsFresh (session : Progress) (terms : Terms) : Type 0 where

@@ -1,9 +1,9 @@
 -- A stream judged in pieces: what comes of a session, however its input goes on. A working form.
-use Rattle.std.specs.Prelude.{◌≡◌, ℕ, ◌+◌, List, [], ◌∷◌, ◌++◌, Option, Some, Result, Ok, Err}
+use Rattle.std.specs.Prelude.{◌≡◌, ℕ, ◌+◌, ◌⊎◌, List, [], ◌∷◌, ◌++◌, Option, Some, Result, Ok, Err}
 use Rattle.h264_base.specs.declared.stop.Stop.{Stop}
 use Rattle.h264_base.specs.declared.stop.Stop.TheVariants.{No, Outside, Memory, Read, Write}
 use Rattle.h264_slices.specs.Telling.{Told, Tells, TellsFront}
-use Rattle.h264_units.specs.Stream.{NalUnit, Next, past}
+use Rattle.h264_units.specs.Stream.{NalUnit, Next, past, Tail, Splits}
 use Rattle.h264_units.specs.Splitting.{Splitting}
 use Rattle.h264_slices.specs.Outcome.{Outcome, with_calls, Plays}
 use Rattle.h264_verify.specs.Judging.{Judging, Comes}
@@ -40,6 +40,33 @@ pub record Goes {State Summary S : Type 0} (j : Judging State Summary) (took : S
   pub way : Way j old new piece left calls
   pub after : (more : List ℕ) (o : Outcome Summary) → ToCome j old (piece ++ more) o → (later : Outcome Summary) × ToCome j new (left ++ more) later × (o ≡ with_calls calls later)
 
+-- Behind a state memory is wanting: for the bytes of the next unit, of which nothing is told, or for that unit.
+pub data LacksNext {State Summary : Type 0} (j : Judging State Summary) (state : State) (units : List NalUnit) (calls : List Told) : Type 0 where
+  ForBytes : calls ≡ [] → LacksNext j state units calls
+  ForUnit : (unit : NalUnit) (later : List NalUnit) → units ≡ unit ∷ later → j.grows state unit → LacksNext j state units calls
+
+-- The first of these units were judged, and then memory was wanting.
+pub record Lacks {State Summary : Type 0} (j : Judging State Summary) (state : State) (units : List NalUnit) (calls : List Told) : Type 0 where
+  pub judged : List NalUnit
+  pub later : List NalUnit
+  pub units_are : units ≡ judged ++ later
+  pub mid : State
+  pub first : List Told
+  pub last : List Told
+  pub led : Leads j state judged first mid
+  pub lacks : LacksNext j mid later last
+  pub calls_are : calls ≡ first ++ last
+
+-- Of these bytes, from this place and state on, this was told, and then memory was wanting.
+pub record Lacking {State Summary S : Type 0} (j : Judging State Summary) (took : S → List Told → Type 0) (at : ℕ) (state : State) (bytes : List ℕ) (s s' : S) : Type 0 where
+  pub calls : List Told
+  pub tells : Tells took s s' calls
+  pub lacks : (units : List NalUnit) (tail : Tail) → Splits at bytes units tail → Lacks j state units calls
+
+-- so it was, however the input goes on behind this piece
+abbrev pub LacksBehind : {State Summary S : Type 0} → Judging State Summary → (S → List Told → Type 0) → Standing State → List ℕ → S → S → Type 0
+LacksBehind j took old piece s s' = (more : List ℕ) → Lacking j took old.split.at old.state (old.split.rest ++ (piece ++ more)) s s'
+
 -- However the input goes on, it comes to these calls and this stop.
 pub record Ends {State Summary S : Type 0} (j : Judging State Summary) (took : S → List Told → Type 0) (old : Standing State) (piece : List ℕ) (s s' : S) (stop : Stop) : Type 0 where
   pub calls : List Told
@@ -55,7 +82,7 @@ pub record Begins {State Summary S : Type 0} (j : Judging State Summary) (took :
 abbrev pub StopsBy : {State Summary S : Type 0} → Judging State Summary → (S → List Told → Type 0) → (S → ℕ) → Standing State → List ℕ → S → S → Stop → Type 0
 StopsBy j took failures old piece s s' (No bit rule) = Ends j took old piece s s' (No bit rule) × (failures s' ≡ failures s)
 StopsBy j took failures old piece s s' (Outside bit feature) = Ends j took old piece s s' (Outside bit feature) × (failures s' ≡ failures s)
-StopsBy j took failures old piece s s' Memory = Begins j took old piece s s' × (failures s' ≡ failures s)
+StopsBy j took failures old piece s s' Memory = Begins j took old piece s s' × (failures s' ≡ failures s) × LacksBehind j took old piece s s'
 StopsBy j took failures old piece s s' Read = ⊥
 StopsBy j took failures old piece s s' Write = Begins j took old piece s s' × (failures s' ≡ failures s + 1)
 
@@ -68,6 +95,8 @@ pub record Finishes {State Summary S : Type 0} (j : Judging State Summary) (took
   pub finishes : (o : Outcome Summary) → ToCome j old [] o → Plays took failures (λ (x : Summary). x) o s s' result
   pub no_read : result ≡ Err Read → ⊥
   pub write : result ≡ Err Write → failures s' ≡ failures s + 1
+  pub write_told : (failures s' ≡ failures s) ⊎ (result ≡ Err Write)
+  pub lacks : result ≡ Err Memory → Lacking j took old.split.at old.state (old.split.rest ++ []) s s'
 
 -- the calls of these bytes' outcome up to here, of which the source may still have the last
 pub record Fed {State Summary S : Type 0} (j : Judging State Summary) (took : S → List Told → Type 0) (known : Option (List ℕ)) (bytes : List ℕ) (old new : Standing State) (s s' : S) : Type 0 where
@@ -91,3 +120,4 @@ pub record Judges {State Summary S : Type 0} (j : Judging State Summary) (start 
   pub outcome : Outcome Summary
   pub comes : Comes j 0 start bytes outcome
   pub ran : RansBy took failures outcome s s' result
+  pub lacks : result ≡ Err Memory → Lacking j took 0 start bytes s s'

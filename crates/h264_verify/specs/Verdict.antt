@@ -16,7 +16,10 @@ use Rattle.h264_rbsp.specs.Rbsp.{body_of}
 use Rattle.h264_judge.specs.declared.state.Summary.{Summary}
 use Rattle.h264_slices.specs.Steps.{AreMet, IsFirstStop, Runs}
 use Rattle.h264_slices.specs.History.{History, ReadUnit}
+use Rattle.h264_slices.specs.Pictures.{runs_of}
+use Rattle.h264_judge.specs.Memory.{ChangesFormat}
 use Rattle.h264_judge.specs.Units.{unit_course, end_steps, summary_of}
+use Rattle.h264_verify.specs.Decodable.{AreDecodable}
 
 -- The bytes of a unit break no rule of emulation prevention (7.4.1).
 abbrev pub IsSound : NalUnit → Type 0
@@ -45,7 +48,7 @@ in_order [] units = units
 in_order (r ∷ before) units = in_order before (r.unit ∷ units)
 
 -- The bytes are a byte stream, all its units are legal, and so is its end: there is a derivation that meets every rule, and no
--- feature that is not judged.
+-- feature that is not judged. So every prediction refers to a held picture, and the buffer stays within its level's frames.
 pub record Holds (terms : Terms) (bytes : List ℕ) (calls : List Told) (summary : Summary) : Type 0 where
   pub units : History
   pub stream : Splits 0 bytes (in_order units []) Zeros
@@ -55,6 +58,7 @@ pub record Holds (terms : Terms) (bytes : List ℕ) (calls : List Told) (summary
   pub end : AreMet (end_steps terms.mode units (8 * length bytes)) last
   pub calls_are : calls ≡ first ++ last
   pub summary_is : summary ≡ summary_of terms.mode units
+  pub pictures : AreDecodable terms.mode (runs_of units)
 
 -- Behind the legal units the verdict falls at the next, or at what follows the last, or at the end of the input.
 pub data IsStopBehind (terms : Terms) (before : History) (units : List NalUnit) (tail : Tail) (end : ℕ) (stop : Stop) (calls : List Told) : Type 0 where
@@ -101,11 +105,38 @@ pub record Front {S : Type 0} (terms : Terms) (took : S → List Told → Type 0
   pub answer : Result Summary Stop
   pub verdict : Verdict terms bytes ((calls ++ more) ++ rest) answer
 
+-- Memory is wanting behind legal units: before anything is told of the next, for its bytes, or at the beginning for the places of
+-- parameter sets; or in the next, whose slice begins a picture of another format than that of the picture before it. So a slice of
+-- a picture that has begun wants memory for its bytes alone.
+pub data IsWanting (terms : Terms) (before : History) (units : List NalUnit) (calls : List Told) : Type 0 where
+  BeforeNext : calls ≡ [] → IsWanting terms before units calls
+  ForPicture : (unit : NalUnit) (later : List NalUnit) → units ≡ unit ∷ later → ChangesFormat terms.mode before unit →
+      IsWanting terms before units calls
+
+-- The units before are legal, and then memory is wanting.
+pub record WantsAt (terms : Terms) (bytes : List ℕ) (calls : List Told) : Type 0 where
+  pub before : History
+  pub units : List NalUnit
+  pub tail : Tail
+  pub stream : Splits 0 bytes (in_order before units) tail
+  pub first : List Told
+  pub last : List Told
+  pub legal : AreLegal terms before first
+  pub wants : IsWanting terms before units last
+  pub calls_are : calls ≡ first ++ last
+
+-- A sink that took some of a stream's calls has taken some more, and then memory was wanting.
+pub record Wanting {S : Type 0} (terms : Terms) (took : S → List Told → Type 0) (bytes : List ℕ) (calls : List Told) (s s' : S) : Type 0 where
+  pub more : List Told
+  pub tells : Tells took s s' more
+  pub wants : WantsAt terms bytes (calls ++ more)
+
 abbrev pub JudgedBy : {S : Type 0} → Terms → (S → List Told → Type 0) → (S → ℕ) → List ℕ → List Told → S → S → Result Summary Stop → Type 0
 JudgedBy terms took failures bytes calls s s' (Ok summary) = Whole terms took bytes calls s s' (Ok summary) × (failures s' ≡ failures s)
 JudgedBy terms took failures bytes calls s s' (Err (No bit rule)) = Whole terms took bytes calls s s' (Err (No bit rule)) × (failures s' ≡ failures s)
 JudgedBy terms took failures bytes calls s s' (Err (Outside bit feature)) = Whole terms took bytes calls s s' (Err (Outside bit feature)) × (failures s' ≡ failures s)
-JudgedBy terms took failures bytes calls s s' (Err Memory) = Front terms took bytes calls s s' × (failures s' ≡ failures s)
+JudgedBy terms took failures bytes calls s s' (Err Memory) =
+    Front terms took bytes calls s s' × (failures s' ≡ failures s) × Wanting terms took bytes calls s s'
 JudgedBy terms took failures bytes calls s s' (Err Read) = Front terms took bytes calls s s' × (failures s' ≡ failures s)
 JudgedBy terms took failures bytes calls s s' (Err Write) = Front terms took bytes calls s s' × (failures s' ≡ failures s + 1)
 
@@ -115,7 +146,8 @@ pub record SameTold (frames others : ℕ → Frame) (told : List Told) : Type 0 
   pub decoded : AreDecoded frames told → AreDecoded others told
 
 -- Of this stream, of which this was told with these frames, a yes has Holds, a no Breaks, an outside MayStop, and a sink was then told
--- exactly what comes up to there, with the frames of the pictures, decoded; memory, read and write come with the first of it.
+-- exactly what comes up to there, with the frames of the pictures, decoded; memory, read and write come with the first of it, memory
+-- only where it is wanting.
 pub record Judged {S : Type 0} (terms : Terms) (took : S → List Call → Type 0) (failures : S → ℕ) (bytes : List ℕ) (frames : ℕ → Frame) (told : List Told) (s s' : S) (answer : Result Summary Stop) : Type 0 where
   pub made : ℕ → Frame
   pub same : SameTold frames made told

@@ -1,5 +1,5 @@
 -- The decoded picture buffer stays within its places (C.4.2, C.4.4, C.4.5). To be read beside the standard.
-use Rattle.std.specs.Prelude.{◌≡◌, ℕ, ◌≤◌, max, List, ◌∷◌, ◌++◌}
+use Rattle.std.specs.Prelude.{◌≡◌, ℕ, ◌≤◌, List, ◌∷◌, ◌++◌}
 use Rattle.h264_marking.specs.Ended.{numbering_of}
 use Rattle.h264_sets.specs.Usable.{dpb_frames}
 use Rattle.h264_picture.specs.Buffer.{buffer_size}
@@ -18,8 +18,8 @@ pub record DecodesWithin (p : CodedPicture) (ps : List CodedPicture) : Type 0 wh
   pub size : (within_newest (p ∷ ps)).buffer.size ≡ (after_all ps).buffer.size
   pub filling : (numbers others : List ℕ) → missing_before p ps ≡ numbers ++ others → StaysWithin (filled_up_to p ps numbers) × ((filled_up_to p ps numbers).size ≡ (after_all ps).buffer.size)
 
--- So it does once the picture has ended. It then has the size that the picture's sequence gives it, at most MaxDpbFrames of the sequence's level, or one place.
+-- So it does once the picture has ended. It then has the size that the picture's sequence gives it, at most MaxDpbFrames of the sequence's level.
 pub record EndsWithin (p : CodedPicture) (ps : List CodedPicture) : Type 0 where
   pub within : StaysWithin (after_all (p ∷ ps)).buffer
   pub size : (after_all (p ∷ ps)).buffer.size ≡ buffer_size p.first.sps
-  pub level : buffer_size p.first.sps ≤ max 1 (dpb_frames p.first.sps)
+  pub level : buffer_size p.first.sps ≤ dpb_frames p.first.sps

@@ -1,12 +1,12 @@
 //! What the definitions imply. Nothing here runs.
 #![tactic(auto)]
 
-ghost use Rattle.std.specs.Prelude.{◌≡◌, ℕ, false, List, ◌∷◌, ◌++◌, Result};
+ghost use Rattle.std.specs.Prelude.{◌≡◌, ℕ, false, ◌⊎◌, List, ◌∷◌, ◌++◌, Result};
 ghost use Rattle.h264_base.specs.declared.mode.Mode.{Mode};
 ghost use Rattle.h264_base.specs.declared.mode.Target.{Target};
 ghost use Rattle.h264_base.specs.declared.mode.Target.TheVariants.{Baseline, MainIP};
 ghost use Rattle.h264_base.specs.declared.stop.Stop.{Stop};
-ghost use Rattle.h264_slices.specs.Telling.{Told};
+ghost use Rattle.h264_slices.specs.Telling.{Told, Decodes};
 ghost use Rattle.h264_judge.specs.declared.state.Summary.{Summary};
 ghost use Rattle.h264_judge.specs.declared.state.Terms.{Terms};
 ghost use Rattle.h264_judge.specs.Units.{terms_of};
@@ -15,11 +15,11 @@ ghost use Rattle.h264_slices.specs.Buffering.{within_newest};
 ghost use Rattle.h264_slices.specs.Held.{AreAmong};
 ghost use Rattle.h264_verify.specs.Predicting.{ArePredicted};
 ghost use Rattle.h264_verify.specs.Within.{DecodesWithin, EndsWithin};
-ghost use Rattle.h264_verify.specs.Verdict.{Verdict, AreLegal, Holds};
+ghost use Rattle.h264_verify.specs.Verdict.{Verdict, AreLegal, Holds, StopsAt};
 ghost use Rattle.h264_slices.specs.Telling.{calls_of, AreDecoded};
 ghost use Rattle.h264_slices.specs.History.{History};
 ghost use Rattle.h264_slices.specs.Keeping.{ended_pictures};
-ghost use Rattle.h264_verify.specs.Family.{AreSameOn};
+ghost use Rattle.h264_verify.specs.Family.{AreSameOn, IsFrontOf};
 ghost use Rattle.h264_plane.specs.declared.frame.Frame.{Frame};
 ghost use Rattle.h264_base.specs.declared.mode.Mode.TheVariants.{Full};
 
@@ -33,6 +33,15 @@ pub fn one_verdict()
 /// Each stream has a verdict.
 pub fn some_verdict()
     ensures { (terms : Terms) (bytes : List ℕ) → (told : List Told) × (answer : Result Summary Stop) × Verdict terms bytes told answer }
+{}
+
+/// A stream has one derivation: two that meet every rule have the same units with the same contents (`whole`), and so have two that
+/// stop, up to the unit, or the end, at which the verdict falls (`stop`).
+pub fn one_derivation()
+    ensures whole { (terms : Terms) (bytes : List ℕ) (told others : List Told) (summary other : Summary) →
+        (h : Holds terms bytes told summary) (k : Holds terms bytes others other) → h.units ≡ k.units }
+    ensures stop { (terms : Terms) (bytes : List ℕ) (told others : List Told) (stop other : Stop) →
+        (h : StopsAt terms bytes told stop) (k : StopsAt terms bytes others other) → h.before ≡ k.before }
 {}
 
 /// Every prediction refers to a held picture (8.4.2.1): each of the sixteen blocks of an inter macroblock of a picture `p` behind others, `ps`, refers to a picture that
@@ -55,8 +64,9 @@ pub fn held_pictures_stand()
 
 /// The buffer stays within its places, for the frames in it and those that do not exist together (C.4.2, C.4.4, C.4.5). Each picture `p` behind others, `ps`, of a
 /// stream with a yes keeps it so while the missing numbers before it are filled, while it is decoded, and once it has ended (`whole`); and of units that are legal,
-/// whatever follows them, each picture does while it is decoded (`decoded`), and each that has ended does then (`ended`). The buffer has the size that the sequence
-/// of the picture that ended last gives it, at most MaxDpbFrames of that sequence's level, or one place (A.3.1, E.2.1).
+/// whatever follows them, each picture does while it is decoded (`decoded`), and each that has ended does then (`ended`). So does
+/// each picture that ends before the verdict, whatever that is (`told`), also within the unit at which it falls. The buffer has the
+/// size that the sequence of the picture that ended last gives it, at most MaxDpbFrames of that sequence's level (A.3.1, E.2.1).
 pub fn buffer_stays_within()
     ensures whole { (target : Target) (bytes : List ℕ) (told : List Told) (summary : Summary) (h : Holds (terms_of Full target) bytes told summary) (later : List CodedPicture) (p : CodedPicture) (ps : List CodedPicture) →
         runs_of h.units ≡ later ++ p ∷ ps → DecodesWithin p ps × EndsWithin p ps }
@@ -64,6 +74,8 @@ pub fn buffer_stays_within()
         runs_of before ≡ later ++ p ∷ ps → DecodesWithin p ps }
     ensures ended { (target : Target) (before : History) (told : List Told) → AreLegal (terms_of Full target) before told → (later : List CodedPicture) (p : CodedPicture) (ps : List CodedPicture) →
         ended_pictures (goes_on before) false (runs_of before) ≡ later ++ p ∷ ps → EndsWithin p ps }
+    ensures told { (target : Target) (bytes : List ℕ) (told : List Told) (answer : Result Summary Stop) → Verdict (terms_of Full target) bytes told answer →
+        (first later : List Told) (p : CodedPicture) (ps : List CodedPicture) → told ≡ first ++ Decodes (p ∷ ps) ∷ later → EndsWithin p ps }
 {}
 
 /// A stream has one family of frames: two families, by number in decoding order, in each of which every picture is decoded from the frames that its lists
@@ -76,13 +88,22 @@ pub fn one_family()
         AreDecoded frames told → AreDecoded others told → AreSameOn frames others (ended_pictures (goes_on before) false (runs_of before)) }
 {}
 
-/// What a sink is told of a stream up to its verdict, frames among it, is one list of calls, whichever family the frames are of (`verdict`); and so is what it
-/// is told of units that are legal, whatever follows them (`legal`).
+/// What a sink is told of a stream up to its verdict, frames among it, is one list of calls, whichever family the frames are of
+/// (`verdict`); so is what it is told of units that are legal, whatever follows them (`legal`), and any front of what it is told up
+/// to the verdict (`front`). So sinks that were told two such fronts, as they are where memory is wanting or a source or a sink
+/// fails, took two lists of which one begins with the other (`fronts`).
 pub fn one_output()
     ensures verdict { (target : Target) (bytes : List ℕ) (told : List Told) (answer : Result Summary Stop) → Verdict (terms_of Full target) bytes told answer → (frames others : ℕ → Frame) →
         AreDecoded frames told → AreDecoded others told → calls_of frames told ≡ calls_of others told }
     ensures legal { (target : Target) (before : History) (told : List Told) → AreLegal (terms_of Full target) before told → (frames others : ℕ → Frame) →
         AreDecoded frames told → AreDecoded others told → calls_of frames told ≡ calls_of others told }
+    ensures front { (target : Target) (bytes : List ℕ) (told rest : List Told) (answer : Result Summary Stop) →
+        Verdict (terms_of Full target) bytes (told ++ rest) answer → (frames others : ℕ → Frame) →
+        AreDecoded frames told → AreDecoded others told → calls_of frames told ≡ calls_of others told }
+    ensures fronts { (target : Target) (bytes : List ℕ) (told rest other more : List Told) (answer another : Result Summary Stop) →
+        Verdict (terms_of Full target) bytes (told ++ rest) answer → Verdict (terms_of Full target) bytes (other ++ more) another →
+        (frames others : ℕ → Frame) → AreDecoded frames told → AreDecoded others other →
+        IsFrontOf (calls_of frames told) (calls_of others other) ⊎ IsFrontOf (calls_of others other) (calls_of frames told) }
 {}
 
 /// A stream that is legal for the target `Baseline` is legal for `MainIP`, with the same calls, frames among them, and the same summary.

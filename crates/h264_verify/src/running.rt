@@ -46,7 +46,9 @@ fn turn<R: Source, S: FrameSink>(
     ensures kept { OnOk result ((session.new.stop ≡ None) × (S.failures sink.new ≡ S.failures sink.old) × (R.failures source.new ≡ R.failures source.old)) }
     ensures again { (n : ℕ) → R.was_read source.old n → R.was_read source.new (n + 1) }
     ensures read { IsErrOf result Stop.Read → R.failures source.new ≡ R.failures source.old + 1 }
+    ensures read_told { (R.failures source.new ≡ R.failures source.old) ⊎ IsErrOf result Stop.Read }
     ensures write { IsErrOf result Stop.Write → S.failures sink.new ≡ S.failures sink.old + 1 }
+    ensures write_told { (S.failures sink.new ≡ S.failures sink.old) ⊎ IsErrOf result Stop.Write }
     ensures piece { length piece.new ≡ length piece.old }
 {
     match source.read(piece) {
@@ -78,7 +80,9 @@ fn read_all<R: Source, S: FrameSink>(
     ensures heard_stop { IfErr result (λ stop. (terms : Terms) (bytes : List ℕ) (first : _) → FedOn terms S.took (Some []) bytes session.old first sink.old → S.failures sink.old ≡ S.failures first → (more : List ℕ) × JudgesWith terms S.took S.failures (bytes ++ more) first sink.new (Err stop)) }
     ensures kept { OnOk result ((session.new.stop ≡ None) × (S.failures sink.new ≡ S.failures sink.old)) }
     ensures read { IsErrOf result Stop.Read → (R.failures source.new ≡ R.failures source.old + 1) ⊎ ((n : ℕ) → R.was_read source.old n → R.was_read source.new (n + 2 ^ 41)) }
+    ensures read_told { (R.failures source.new ≡ R.failures source.old) ⊎ IsErrOf result Stop.Read }
     ensures write { IsErrOf result Stop.Write → S.failures sink.new ≡ S.failures sink.old + 1 }
+    ensures write_told { (S.failures sink.new ≡ S.failures sink.old) ⊎ IsErrOf result Stop.Write }
 {
     let mut piece = [0u8; PIECE];
     for _ in 0..2_199_023_255_552u64 {
@@ -92,7 +96,8 @@ fn read_all<R: Source, S: FrameSink>(
 /// The verdict on the stream that a source gives, for this target. It is read in pieces of 4,096 bytes. An interrupted read is tried again.
 ///
 /// Ok: the stream is legal. No: the first rule that it breaks, and where. Outside: the first feature that is not judged.
-/// Memory: a growth was refused. Read: the source failed, or was read 2^41 times. Write: the sink failed.
+/// Memory: a growth was refused, for the places of parameter sets before the first byte, for bytes of the stream, or for a picture of
+/// another format than the one before it. Read: the source failed, or was read 2^41 times. Write: the sink failed.
 pub fn run<R: Source, S: FrameSink>(
     alloc: Global,
     source: &mut R,
@@ -107,7 +112,12 @@ pub fn run<R: Source, S: FrameSink>(
     // Of a source whose bytes are not known it is the verdict on some bytes.
     ensures some { (frames : ℕ → Frame) → (bytes : List ℕ) × Judged (terms_of mode target) S.took S.failures bytes frames [] sink.old sink.new result }
     ensures read { IsErrOf result Stop.Read → (R.failures source.new ≡ R.failures source.old + 1) ⊎ ((n : ℕ) → R.was_read source.old n → R.was_read source.new (n + 2 ^ 41)) }
+    // A read that failed is told as Read, and a write that failed as Write.
+    ensures read_told { (R.failures source.new ≡ R.failures source.old) ⊎ IsErrOf result Stop.Read }
     ensures write { IsErrOf result Stop.Write → S.failures sink.new ≡ S.failures sink.old + 1 }
+    ensures write_told { (S.failures sink.new ≡ S.failures sink.old) ⊎ IsErrOf result Stop.Write }
+    // Memory comes only where neither failed.
+    ensures memory { IsErrOf result Stop.Memory → (R.failures source.new ≡ R.failures source.old) × (S.failures sink.new ≡ S.failures sink.old) }
 {
     let mut session = match Session::new(alloc, mode, target) {
         Ok(session) => session,
@@ -131,7 +141,11 @@ pub fn run_pieces<S: FrameSink>(
     target: Target,
 ) -> Result<Summary, Stop>
     requires { S.failures sink.old < 2 ^ 64 - 1 }
-    ensures { (frames : ℕ → Frame) → Judged (terms_of mode target) S.took S.failures (flat_map (λ piece. piece.items) pieces.now) frames [] sink.old sink.new result }
+    ensures verdict { (frames : ℕ → Frame) → Judged (terms_of mode target) S.took S.failures (flat_map (λ piece. piece.items) pieces.now) frames [] sink.old sink.new result }
+    // Nothing is read, so that no read fails; a write that failed is told as Write, and nothing else is.
+    ensures no_read { IsErrOf result Stop.Read → ⊥ }
+    ensures write { IsErrOf result Stop.Write → S.failures sink.new ≡ S.failures sink.old + 1 }
+    ensures write_told { (S.failures sink.new ≡ S.failures sink.old) ⊎ IsErrOf result Stop.Write }
 {
     let mut session = match Session::new(alloc, mode, target) {
         Ok(session) => session,

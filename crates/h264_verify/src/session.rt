@@ -1,9 +1,9 @@
 //! A session over a stream.
 #![tactic(auto)]
 
-ghost use Rattle.std.specs.Prelude.{◌≡◌, ℕ, ◌+◌, ◌-◌, ◌*◌, ◌<◌, ◌≤◌, ◌^◌, List, [], ◌∷◌, ◌++◌, length, OnOk, OnErr, IfOk, IfErr, Ok, Err, None, drop, false, IsFalse, IfSome, Some, IsErrOf};
+ghost use Rattle.std.specs.Prelude.{◌≡◌, ℕ, ◌+◌, ◌-◌, ◌*◌, ◌<◌, ◌≤◌, ◌^◌, ◌⊎◌, List, [], ◌∷◌, ◌++◌, length, OnOk, OnErr, IfOk, IfErr, Ok, Err, None, drop, false, IsFalse, IfSome, Some, IsErrOf};
 ghost use Rattle.h264_units.specs.Stream.{IsUndecided};
-ghost use Rattle.h264_verify.specs.Progress.{IsFresh};
+ghost use Rattle.h264_verify.specs.Progress.{IsFresh, LastIsRead};
 ghost use Rattle.h264_plane.specs.declared.frame.Frame.{Frame};
 ghost use Rattle.h264_slices.specs.Telling.{Told};
 ghost use Rattle.h264_slices.specs.History.{History};
@@ -14,6 +14,7 @@ ghost use Rattle.h264_verify.specs.Feeding.{behind, GoesOn, StopsOn, FinishesOn,
 ghost use Rattle.h264_verify.specs.Verdict.{Judged};
 
 use h264_base::{Mode, Stop, Target};
+use h264_judge::bytes::read_bytes;
 use h264_judge::unit::{judge_end, judge_unit};
 use h264_judge::{State, Summary, Terms};
 use h264_slices::sink::FrameSink;
@@ -49,7 +50,8 @@ fn feed_some<S: FrameSink>(
     match splitter.take_unit() {
         None => Ok(n),
         Some(unit) => {
-            judge_unit(alloc, terms, state, &unit, sink)?;
+            let bytes = read_bytes(alloc, terms.mode, &unit)?;
+            judge_unit(alloc, terms, state, &unit, &bytes, sink)?;
             Ok(n)
         }
     }
@@ -83,6 +85,7 @@ fn feed_all<S: FrameSink>(
     ensures undecided { OnOk result (IsUndecided splitter.old.rest → IsUndecided splitter.new.rest) }
     ensures kept { OnOk result (S.failures sink.new ≡ S.failures sink.old) }
     ensures stops { (frames : ℕ → Frame) (before : History) → Keeps terms.mode frames before state.old → IfErr result (StopsOn terms S.took S.failures frames (behind splitter.old before) piece.now sink.old sink.new) }
+    ensures no_bytes { piece.now ≡ [] → (result ≡ Ok tt) × (splitter.new ≡ splitter.old) × (state.new ≡ state.old) × (sink.new ≡ sink.old) }
 {
     let mut rest = piece;
     while !rest.is_empty() {
@@ -105,13 +108,15 @@ fn finish_all<S: FrameSink>(
     requires counted { state.old.units ≤ splitter.old.at }
     requires pictures { state.old.slices.pictures ≤ state.old.units }
     requires keeps { KeepsSome terms.mode false state.old }
-    ensures { (frames : ℕ → Frame) (before : History) → Keeps terms.mode frames before state.old → FinishesOn terms S.took S.failures frames (behind splitter.old before) sink.old sink.new result }
+    ensures finishes { (frames : ℕ → Frame) (before : History) → Keeps terms.mode frames before state.old → FinishesOn terms S.took S.failures frames (behind splitter.old before) sink.old sink.new result }
+    ensures memory { IsErrOf result Stop.Memory → LastIsRead terms.mode splitter.old }
 {
     splitter.finish()?;
     match splitter.take_unit() {
         None => judge_end(terms.mode, state, 8 * splitter.length(), sink),
         Some(unit) => {
-            judge_unit(alloc, terms, state, &unit, sink)?;
+            let bytes = read_bytes(alloc, terms.mode, &unit)?;
+            judge_unit(alloc, terms, state, &unit, &bytes, sink)?;
             judge_end(terms.mode, state, 8 * splitter.length(), sink)
         }
     }
@@ -171,7 +176,9 @@ impl Session {
         ensures stopped { IfErr result (λ stop. self.new.stop ≡ Some stop) }
         ensures terms { self.new.terms ≡ self.old.terms }
         ensures write { IsErrOf result Stop.Write → S.failures sink.new ≡ S.failures sink.old + 1 }
+        ensures write_told { (S.failures sink.new ≡ S.failures sink.old) ⊎ IsErrOf result Stop.Write }
         ensures no_read { IsErrOf result Stop.Read → ⊥ }
+        ensures no_bytes { piece.now ≡ [] → (result ≡ Ok tt) × (self.new ≡ self.old) × (sink.new ≡ sink.old) }
     {
         match feed_all(
             self.alloc,
@@ -195,7 +202,9 @@ impl Session {
         requires runs { self.stop ≡ None }
         ensures finishes { (frames : ℕ → Frame) (before : History) → Keeps self.terms.mode frames before self.state → FinishesOn self.terms S.took S.failures frames (behind self.split before) sink.old sink.new result }
         ensures write { IsErrOf result Stop.Write → S.failures sink.new ≡ S.failures sink.old + 1 }
+        ensures write_told { (S.failures sink.new ≡ S.failures sink.old) ⊎ IsErrOf result Stop.Write }
         ensures no_read { IsErrOf result Stop.Read → ⊥ }
+        ensures memory { IsErrOf result Stop.Memory → LastIsRead self.terms.mode self.split }
     {
         let mut splitter = self.splitter;
         let mut state = self.state;
@@ -209,8 +218,8 @@ impl Session {
         let_go(self.splitter, self.state)
     }
 
-    /// Judges the next piece of the input. Err: the stop of the stream, Memory where a growth was refused, Write where the
-    /// sink failed; from then on each call answers it again.
+    /// Judges the next piece of the input. Err: the stop of the stream; Memory where a growth was refused, for bytes or for a picture
+    /// of another format than the one before it; Write where the sink failed. From then on each call answers it again.
     pub fn feed<S: FrameSink>(&mut self, piece: &[u8], sink: &mut S) -> Result<(), Stop>
         requires { self.old.stop ≡ None → S.failures sink.old < 2 ^ 64 - 1 }
         // It was then fed the piece too.
@@ -218,6 +227,11 @@ impl Session {
         // However the input goes on, this is its verdict.
         ensures stops { (terms : Terms) (bytes : List ℕ) (frames : ℕ → Frame) (told : List Told) → WasFed terms self.old bytes frames told → IfErr result (λ stop. (later : List ℕ) → Judged terms S.took S.failures ((bytes ++ piece.now) ++ later) frames told sink.old sink.new (Err stop)) }
         ensures stopped { IfErr result (λ stop. self.new.stop ≡ Some stop) }
+        // No bytes change nothing.
+        ensures no_bytes { piece.now ≡ [] → self.old.stop ≡ None → (result ≡ Ok tt) × (self.new ≡ self.old) × (sink.new ≡ sink.old) }
+        // Write comes where the sink failed, and only there.
+        ensures write { self.old.stop ≡ None → IsErrOf result Stop.Write → S.failures sink.new ≡ S.failures sink.old + 1 }
+        ensures write_told { (S.failures sink.new ≡ S.failures sink.old) ⊎ IsErrOf result Stop.Write }
         ensures no_read { self.old.stop ≡ None → IsErrOf result Stop.Read → ⊥ }
         ensures terms { self.new.terms ≡ self.old.terms }
         // A stopped session repeats its stop, and touches no sink.
@@ -234,7 +248,12 @@ impl Session {
         requires { self.stop ≡ None → S.failures sink.old < 2 ^ 64 - 1 }
         // The verdict on all that it was fed.
         ensures verdict { (terms : Terms) (bytes : List ℕ) (frames : ℕ → Frame) (told : List Told) → WasFed terms self bytes frames told → Judged terms S.took S.failures bytes frames told sink.old sink.new result }
+        // Write comes where the sink failed, and only there.
+        ensures write { self.stop ≡ None → IsErrOf result Stop.Write → S.failures sink.new ≡ S.failures sink.old + 1 }
+        ensures write_told { (S.failures sink.new ≡ S.failures sink.old) ⊎ IsErrOf result Stop.Write }
         ensures no_read { self.stop ≡ None → IsErrOf result Stop.Read → ⊥ }
+        // Memory comes only where a unit was left open, and is read.
+        ensures memory { self.stop ≡ None → IsErrOf result Stop.Memory → LastIsRead self.terms.mode self.split }
         ensures again { IfSome self.stop (λ stop. (result ≡ Err stop) × (sink.new ≡ sink.old)) }
     {
         match self.stop {

@@ -1,11 +1,15 @@
-use Rattle.std.proofs.Common.{sym, ◌∙◌, subst, List, []}
+use Rattle.std.proofs.Common.{sym, ap, ◌∙◌, subst, Some, List, []}
 use Rattle.std.proofs.lemmas.Result.{err_from_is_err_and}
 use Rattle.h264_base.specs.Grammar.{Grammar}
+use Rattle.h264_sps.specs.declared.sps.Sps.{Sps}
+use Rattle.h264_pps.specs.declared.Pps.{Pps}
 use Rattle.h264_near.specs.Coded.{CodedMacroblock}
 use Rattle.h264_slices.specs.Pictures.{joined_to, picture_size}
 use Rattle.h264_slices.specs.Data.{picture_set, coded_so_far}
 use Rattle.h264_slices.specs.Framing.{ReadsData}
 use Rattle.h264_slices.specs.StepOutcome.{structure_from}
+use Rattle.h264_slices.specs.Keeping.{format_of}
+use Rattle.h264_slices.proofs.Judged.{one-pair}
 use Rattle.h264_slices.proofs.Playing.{memory-plays}
 use Rattle.h264_slices.proofs.Holding.{enters-some}
 use Rattle.h264_slices.proofs.Naming.{slices-some}
@@ -28,6 +32,15 @@ pub returns-in_err-begin_if-clause-reads : goal.returns-in_err-begin_if-clause-r
 returns-in_err-begin_if-clause-reads g c =
     let p = err_from_is_err_and c.from_residual.result c.from_residual.ensures.1 in
     rw (p.1, p.2, c.in_err-begin_if.ensures.err) (λ frames on pictures s n h held met none live set k. record { macroblocks = []; end = 0; plays = memory-plays _ _ _ _ _; keeps = tt })
+
+pub returns-in_err-begin_if-clause-stands : goal.returns-in_err-begin_if-clause-stands
+returns-in_err-begin_if-clause-stands g c = λ named is f m.
+    let e = one-pair _ _ named c.in-Some.ensures.some is in
+    let stands = c.in_err-begin_if.ensures.stands (f ∙ ap (λ (x : Pps × Sps). Some (format_of x.1)) (sym e)) in
+    cc
+
+pub returns-clause-stands : goal.returns-clause-stands
+returns-clause-stands g c = λ named is f m. c.slice.ensures.no_memory m
 
 pub returns-clause-reads : goal.returns-clause-reads
 returns-clause-reads g c = λ frames on pictures s n h held place none live set k.

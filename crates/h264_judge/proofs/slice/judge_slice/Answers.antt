@@ -62,6 +62,7 @@ returns-in_err-close_if g c =
       id = tt;
       typed = tt;
       pictures = tt;
+      format = c.in_err-close_if.ensures.format;
       no_memory = c.in_err-close_if.ensures.no_memory;
       kept = tt;
     })
@@ -90,6 +91,7 @@ returns-in_err-check_standing g c =
       id = tt;
       typed = tt;
       pictures = tt;
+      format = c.in_ok-close_if.ensures.format;
       no_memory = c.in_err-check_standing.ensures.no_memory;
       kept = tt;
     })
@@ -119,6 +121,7 @@ returns-in_err-check_first_mb g c =
       id = tt;
       typed = tt;
       pictures = tt;
+      format = c.in_ok-close_if.ensures.format;
       no_memory = c.in_err-check_first_mb.ensures.no_memory;
       kept = tt;
     })
@@ -164,6 +167,7 @@ returns g c = record {
   id = ok-any c.judge_rules.result (subst (λ (h : Header). h.pic_parameter_set_id.value ≤ 255) (sym c.judge_rules.ensures.header) c.requires.id);
   typed = c.judge_rules.ensures.typed;
   pictures = ok-any c.judge_rules.result (subst (λ (s : Slices). c.judge_rules.new.slices.pictures ≤ s.pictures + 1) c.in_ok-close_if.ensures.others c.judge_rules.ensures.pictures);
+  format = c.judge_rules.ensures.format ∙ c.in_ok-close_if.ensures.format;
   no_memory = c.judge_rules.ensures.no_memory;
   kept = on-kept c.judge_rules.result _ _ _ c.in_ok-close_if.ensures.kept c.judge_rules.ensures.kept;
 }

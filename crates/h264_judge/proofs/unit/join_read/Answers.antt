@@ -1,8 +1,9 @@
-use Rattle.std.proofs.Common.{[], ◌∷◌, List, Bool, true, false, subst, sym, ◌∙◌, ap, refl}
+use Rattle.std.proofs.Common.{◌≡◌, [], ◌∷◌, List, Bool, true, false, Some, subst, sym, ◌∙◌, ap, refl}
 use Rattle.std.proofs.lemmas.Result.{err_from_is_err_and}
 use Rattle.h264_base.specs.Meets.{Reader}
 use Rattle.h264_base.specs.declared.mode.Mode.TheVariants as modes
 use Rattle.h264_rbsp.specs.Rbsp.{body_of}
+use Rattle.h264_header.specs.declared.header.Header.{Header}
 use Rattle.h264_header.specs.Layout.{sets_of}
 use Rattle.h264_slices.specs.Content as contents
 use Rattle.h264_slices.specs.History.{maps_with}
@@ -18,6 +19,7 @@ use Rattle.h264_sets.specs.Sets.{Maps}
 use Rattle.h264_slices.specs.Sound.{AreSound, NamesSet}
 use Rattle.h264_slices.proofs.Standing.{later-set}
 use Rattle.h264_judge.proofs.Marked.{read-marked}
+use Rattle.h264_judge.proofs.Memory.{answers-memory, begun-if, is-another, begins-another}
 use Rattle.h264_judge.proofs.unit.join_read.Goals as goal
 
 pub judge_slice-requires-clause-kept : goal.judge_slice-requires-clause-kept
@@ -64,6 +66,7 @@ returns-in_err-read_header g c =
       };
       counts = tt;
       pictures = tt;
+      no_memory = λ frames before k m. absurd (answers-memory _ _ _ _ _ _ _ _ _ c.in_err-read_header.ensures.meets c.in_err-read_header.ensures.answers m);
       kept = tt;
     })
 
@@ -85,6 +88,7 @@ returns-in_err-judge_slice g c =
           };
       counts = tt;
       pictures = tt;
+      no_memory = λ frames before k m. absurd (c.in_err-judge_slice.ensures.no_memory m);
       kept = tt;
     })
 
@@ -117,3 +121,15 @@ returns-clause-joins g c = λ frames before k.
         decoder = subst (λ (ps : List CodedPicture). KeepsDecoder modes.Full j.made true false ps c.read_data.new.decoder) (runs-with before unit h d.macroblocks _ _ some.0 b k.sets some.1) kept_on;
       }) d.keeps;
     }
+
+pub returns-clause-no_memory : goal.returns-clause-no_memory
+returns-clause-no_memory g c = λ frames before k m.
+    let h = c.read_header.new.header in
+    let kept = subst (λ (b : Bool). KeepsWithin modes.Full frames before b c.args.state.now) c.requires.goes_on k in
+    let some = some-of _ c.in_ok-read_header.ensures.named in
+    let b = begins-as before h c.args.state.now.slices _ kept.slices c.begins-begins.ensures in
+    let begun = begun-if _ (λ e. c.read_data.ensures.no_memory e m) in
+    let named = sets-before _ _ h _ c.in_ok-judge_slice.ensures.sets some.1 in
+    let now = subst (λ (q : Header). sets_of c.judge_slice.new.sets q.pic_parameter_set_id.value ≡ Some some.0) (sym c.in_ok-judge_slice.ensures.header) named in
+    begins-another {X = Unit {0}} _ _ before c.args.unit.now _ k.sets c.args.header c.requires.header _ c.slice_unit-slice_unit.ensures h _ _ _ _ _ c.requires.first c.in_ok-read_header.ensures.meets c.in_ok-read_header.ensures.answers some.0 some.1 (sym b ∙ begun)
+    (is-another frames (goes_on before) (runs_of before) c.args.state.now.decoder c.judge_slice.new.decoder some.0.1 kept.decoder c.in_ok-judge_slice.ensures.format (λ f. c.read_data.ensures.stands some.0 now f m))

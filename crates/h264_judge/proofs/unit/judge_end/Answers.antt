@@ -12,6 +12,7 @@ use Rattle.h264_slices.proofs.Stepping.{needs-ok, needs-err}
 use Rattle.h264_slices.proofs.Holding.{ended-gap}
 use Rattle.h264_slices.proofs.Playing.{plays-as}
 use Rattle.h264_judge.proofs.Courses.{end-stops, end-broken, end-gives}
+use Rattle.h264_judge.proofs.Memory.{error-as, named-memory, write-alone}
 use Rattle.h264_judge.proofs.unit.judge_end.Goals as goal
 
 check-err : (holds : Bool) (rule : Rule) (bit : ℕ) (e : Stop) → (let r : Result (Unit {0}) Stop = Err e in r ≡ (if holds then Ok tt else Err (No bit rule))) → e ≡ No bit rule
@@ -34,6 +35,7 @@ returns-in_err-close_if g c =
       ends = λ frames before k.
           let e = c.in_err-close_if.ensures.closes frames before k.slices k.decoder in
           record { made = e.made; same = e.same; plays = end-stops _ _ c.args.mode before c.args.bit _ _ _ e.plays };
+      no_memory = error-as _ c.in_err-close_if.ensures.no_memory;
     })
 
 pub returns-in_err-check : goal.returns-in_err-check
@@ -46,6 +48,7 @@ returns-in_err-check g c =
           let met = rw (c.has_pictures.ensures (runs_of before) ended.kept.pictures_are) at c.in_err-check.ensures in
           let ds = picture_demand c.args.mode before c.args.bit ∷ [] in
           record { made = e.made; same = e.same; plays = end-broken _ _ c.args.mode before c.args.bit _ _ _ _ e.plays _ (plays-as _ _ (λ x. x) _ _ _ _ _ (needs-err ds (last_frames c.args.mode (runs_of before)) _ (sym met)) (answers-plays _ _ _ _ (named-by _ _ _ (check-err _ _ _ _ c.in_err-check.ensures)))) };
+      no_memory = named-memory _ (named-by _ _ _ (check-err _ _ _ _ c.in_err-check.ensures));
     })
 
 pub returns-in_err-finish_frames : goal.returns-in_err-finish_frames
@@ -59,6 +62,7 @@ returns-in_err-finish_frames g c =
           let ds = picture_demand c.args.mode before c.args.bit ∷ [] in
           let gap = ended-gap c.args.mode e.made (goes_on before) (runs_of before) _ e.keeps in
           record { made = e.made; same = e.same; plays = end-broken _ _ c.args.mode before c.args.bit _ _ _ _ e.plays _ (plays-as _ _ (λ x. x) _ _ _ _ _ (needs-ok ds (last_frames c.args.mode (runs_of before)) _ (sym met)) (c.in_err-finish_frames.ensures.plays e.made (after_all (runs_of before)) (length (runs_of before)) gap)) };
+      no_memory = λ m. write-alone _ c.in_err-finish_frames.ensures.no_memory m;
     })
 
 pub returns : goal.returns
@@ -71,4 +75,5 @@ returns g c = record {
       let gap = ended-gap c.args.mode e.made (goes_on before) (runs_of before) _ e.keeps in
       let written = c.frames_told.ensures (runs_of before) (λ m. c.in_ok-finish_frames.ensures.written e.made (after_all (runs_of before)) (length (runs_of before)) m gap) in
       record { made = e.made; same = e.same; plays = end-gives _ _ c.args.mode before c.args.bit _ _ _ _ e.plays _ _ (plays-as _ _ (λ x. x) _ _ _ _ _ (needs-ok ds (last_frames c.args.mode (runs_of before)) _ (sym met)) (c.in_ok-finish_frames.ensures.plays e.made (after_all (runs_of before)) (length (runs_of before)) gap)) (rw (k.units, ended.kept.pictures_are, written) refl) };
+  no_memory = λ m. cc;
 }

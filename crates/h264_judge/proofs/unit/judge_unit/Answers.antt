@@ -23,6 +23,7 @@ use Rattle.h264_judge.specs.UnitOutcome.{joined_by, unit_by_steps}
 use Rattle.h264_judge.proofs.Agreeing.{agree-less, agree-then, plays-agree}
 use Rattle.h264_slices.proofs.Playing.{answer-stops, answer-on, plays-stops, plays-on, named-by}
 use Rattle.h264_judge.proofs.Joining.{within}
+use Rattle.h264_judge.proofs.Memory.{named-memory}
 use Rattle.h264_slices.proofs.Slicing.{err-named}
 use Rattle.h264_slices.proofs.Standing.{first-met}
 use Rattle.h264_judge.proofs.Courses.{plays-course, ended-grows, closing-all}
@@ -168,3 +169,34 @@ returns-clause-turns g c =
     let e = closes frames before k.slices k.decoder in
     let j = joins e.made before (within {mode = c.args.terms.mode} {frames = frames} {made = e.made} {before = before} c.args.state.now c.close_if.new.slices c.close_if.new.decoder k slices e.keeps) in
     turns-by c.args.terms _ _ frames before c.args.unit.now _ _ _ _ _ _ _ _ _ _ _ c.in_ok-check_emulation.ensures.value header says e j
+
+pub returns-in_err-check_emulation-clause-no_memory : goal.returns-in_err-check_emulation-clause-no_memory
+returns-in_err-check_emulation-clause-no_memory g c =
+    let p = err_from_is_err_and c.from_residual.result c.from_residual.ensures.1 in
+    let n = c.in_err-check_emulation.ensures.err in
+    rw (p.1, p.2) (λ frames before k m. absurd (named-memory _ (named-by _ _ _ n.1) m))
+
+pub returns-in_err-check_header-clause-no_memory : goal.returns-in_err-check_header-clause-no_memory
+returns-in_err-check_header-clause-no_memory g c =
+    let p = err_from_is_err_and c.from_residual-in_err-check_header.result c.from_residual-in_err-check_header.ensures.1 in
+    let header = rw (c.from-from.ensures.value, c.body-body.ensures.value) at c.in_err-check_header.ensures in
+    rw (p.1, p.2) (λ frames before k m. absurd (named-memory _ (err-named (header_demands (8 * c.args.unit.now.from) (header_of c.args.unit.now)) _ (sym header)) m))
+
+pub returns-in_err-tell_unit-clause-no_memory : goal.returns-in_err-tell_unit-clause-no_memory
+returns-in_err-tell_unit-clause-no_memory g c =
+    let p = err_from_is_err_and c.from_residual-in_err-tell_unit.result c.from_residual-in_err-tell_unit.ensures.1 in
+    rw (p.1, p.2) (λ frames before k m. absurd (c.in_err-tell_unit.ensures.no_memory m))
+
+pub returns-in_err-close_if-clause-no_memory : goal.returns-in_err-close_if-clause-no_memory
+returns-in_err-close_if-clause-no_memory g c =
+    let p = err_from_is_err_and c.from_residual-in_err-close_if.result c.from_residual-in_err-close_if.ensures.1 in
+    rw (p.1, p.2) (λ frames before k m. absurd (c.in_err-close_if.ensures.no_memory m))
+
+pub returns-clause-no_memory : goal.returns-clause-no_memory
+returns-clause-no_memory g c =
+    let closes = rw (c.ends_picture-ends.ensures, c.body-body.ensures.value) at c.in_ok-close_if.ensures.closes in
+    let joins = rw c.body-body.ensures.value at c.join.ensures.no_memory in
+    λ frames before k m.
+    let slices = rw (c.ends_picture-ends.ensures, c.body-body.ensures.value) at (c.in_ok-close_if.ensures.ended before k.slices) in
+    let e = closes frames before k.slices k.decoder in
+    joins e.made before (within {mode = c.args.terms.mode} {frames = frames} {made = e.made} {before = before} c.args.state.now c.close_if.new.slices c.close_if.new.decoder k slices e.keeps) m

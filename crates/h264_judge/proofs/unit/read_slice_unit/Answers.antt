@@ -1,19 +1,19 @@
 use Rattle.std.proofs.Common.{[]}
-use Rattle.std.proofs.lemmas.Result.{err_from_is_err_and}
 use Rattle.h264_header.specs.Layout.{sets_of}
 use Rattle.h264_header.specs.Header.{header}
 use Rattle.h264_slices.specs.Content as contents
 use Rattle.h264_judge.specs.UnitOutcome.{slice_outcome}
-use Rattle.h264_slices.proofs.Playing.{plays-gives, memory-plays, meets-plays}
+use Rattle.h264_slices.proofs.Playing.{plays-gives, meets-plays}
 use Rattle.h264_judge.proofs.Marked.{read-marked}
+use Rattle.h264_judge.proofs.Memory.{answers-memory}
 use Rattle.h264_judge.proofs.unit.read_slice_unit.Goals as goal
-
-pub returns-in_err-rbsp-clause-plays : goal.returns-in_err-rbsp-clause-plays
-returns-in_err-rbsp-clause-plays g c = let p = err_from_is_err_and c.from_residual.result c.from_residual.ensures.1 in rw (p.1, p.2, c.in_err-rbsp.ensures.err) (λ frames before m h. memory-plays _ _ _ _ _)
 
 pub returns-clause-plays : goal.returns-clause-plays
 unfolding slice_outcome
-returns-clause-plays g c = λ frames before m h. rw (← c.in_ok-rbsp.ensures.ok, ← m, ← h, ← c.slice_unit-slice_unit.ensures) (plays-gives _ _ (λ _. c.read_header.new.header) (λ h. contents.OfSlice h []) _ _ _ _ (meets-plays frames _ _ _ (header (sets_of c.args.sets.now) _) _ _ _ _ _ _ c.new-bits.ensures c.read_header.ensures.meets c.read_header.ensures.answers))
+returns-clause-plays g c = λ frames before unit m h b. rw (← b, ← m, ← h, ← c.slice_unit-slice_unit.ensures) (plays-gives _ _ (λ _. c.read_header.new.header) (λ h. contents.OfSlice h []) _ _ _ _ (meets-plays frames _ _ _ (header (sets_of c.args.sets.now) _) _ _ _ _ _ _ c.new-bits.ensures c.read_header.ensures.meets c.read_header.ensures.answers))
 
 pub returns-clause-marked : goal.returns-clause-marked
 returns-clause-marked g c = λ fits. read-marked _ _ _ _ c.args.header _ _ _ _ _ _ c.slice_unit-slice_unit.ensures fits c.read_header.ensures.meets
+
+pub returns-clause-no_memory : goal.returns-clause-no_memory
+returns-clause-no_memory g c = answers-memory _ _ _ _ _ _ _ _ _ c.read_header.ensures.meets c.read_header.ensures.answers

@@ -1,5 +1,6 @@
-use Rattle.std.proofs.Common.{◌≡◌, ◌+◌, ◌++◌, ◌∙◌, [], Some, inr, refl, arith, append_assoc}
+use Rattle.std.proofs.Common.{◌≡◌, ◌+◌, ◌++◌, ◌∙◌, [], Some, inl, inr, refl, arith, append_assoc}
 use Rattle.std.proofs.lemmas.Result.{err_from_is_err_and}
+use Rattle.h264_verify.proofs.Finishing.{told-as, told-behind}
 use Rattle.h264_verify.proofs.Heard.{heard-none}
 use Rattle.h264_verify.proofs.Verdicts.{fed-again, fed-fails}
 use Rattle.h264_verify.proofs.running.read_all.Goals as goal
@@ -57,3 +58,21 @@ pub returns-clause-read : goal.returns-clause-read
 returns-clause-read g c = λ h. inr (λ n r.
     let e : n + c.loop.counter ≡ n + 2199023255552 = let t = c.loop-test.false in let a = c.loop.auto.counter-end in omega arith in
     rw (← e) (c.loop.invariant.turns n r))
+
+pub returns-in_err-turn-clause-read_told : goal.returns-in_err-turn-clause-read_told
+returns-in_err-turn-clause-read_told g c = let p = err_from_is_err_and c.from_residual.result c.from_residual.ensures.1 in rw (p.1, p.2) (told-behind c.loop.invariant.quiet (told-as _ c.in_err-turn.ensures.read_told))
+
+pub returns-in_err-turn-clause-write_told : goal.returns-in_err-turn-clause-write_told
+returns-in_err-turn-clause-write_told g c = let p = err_from_is_err_and c.from_residual.result c.from_residual.ensures.1 in rw (p.1, p.2) (told-behind c.loop.invariant.kept (told-as _ c.in_err-turn.ensures.write_told))
+
+pub returns-then-not-branch-clause-read_told : goal.returns-then-not-branch-clause-read_told
+returns-then-not-branch-clause-read_told g c = inl (c.in_ok-turn.ensures.kept.2 ∙ c.loop.invariant.quiet)
+
+pub returns-then-not-branch-clause-write_told : goal.returns-then-not-branch-clause-write_told
+returns-then-not-branch-clause-write_told g c = inl (c.in_ok-turn.ensures.kept.1 ∙ c.loop.invariant.kept)
+
+pub returns-clause-read_told : goal.returns-clause-read_told
+returns-clause-read_told g c = inr refl
+
+pub returns-clause-write_told : goal.returns-clause-write_told
+returns-clause-write_told g c = inl c.loop.invariant.kept

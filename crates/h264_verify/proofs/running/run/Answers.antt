@@ -1,5 +1,9 @@
-use Rattle.std.proofs.Common.{refl, ap, ◌∙◌, ◌+◌, [], ◌++◌, Some}
+use Rattle.std.proofs.Common.{◌≡◌, ℕ, ◌⊎◌, inl, inr, Result, Ok, Err, refl, sym, ap, ◌∙◌, ◌+◌, [], ◌++◌, Some}
+use Rattle.h264_base.specs.declared.stop.Stop.{Stop}
+use Rattle.h264_base.specs.declared.stop.Stop.TheVariants.{Memory, Read, Write}
 use Rattle.h264_plane.specs.Frames.{no_frame}
+use Rattle.h264_verify.proofs.Lacking.{same-stop}
+use Rattle.h264_verify.proofs.Finishing.{told-as, told-behind}
 use Rattle.h264_verify.proofs.Verdicts.{judges-judged, none-judged, fed-first, fed-last}
 use Rattle.h264_judge.specs.Units.{terms_of}
 use Rattle.h264_verify.proofs.running.run.Goals as goal
@@ -32,3 +36,37 @@ returns-in-Ok-read_all-clause-some g c = λ frames.
 
 pub returns-in-Ok-read_all-clause-write : goal.returns-in-Ok-read_all-clause-write
 returns-in-Ok-read_all-clause-write g c = λ h. c.conclude.ensures.write h ∙ ap (λ n. n + 1) c.in-Ok-read_all.ensures.kept.1
+
+-- the source told its failures, and none was told
+quiet-source : {X : Type 0} {a b : ℕ} (x : X) → (a ≡ b) ⊎ (let r : Result X Stop = Ok x in r ≡ Err Read) → a ≡ b
+quiet-source x (inl e) = e
+quiet-source x (inr e) = cc
+
+read-not-memory : Read ≡ Memory → ⊥
+read-not-memory e = cc
+
+write-not-memory : Write ≡ Memory → ⊥
+write-not-memory e = cc
+
+-- want of memory is no failure
+not-told : {X : Type 0} {a b : ℕ} (r : Result X Stop) (stop : Stop) → (stop ≡ Memory → ⊥) → (a ≡ b) ⊎ (r ≡ Err stop) → r ≡ Err Memory → a ≡ b
+not-told r stop n (inl e) h = e
+not-told {X} r stop n (inr e) h = absurd (n (same-stop {X = X} stop Memory (sym e ∙ h)))
+
+pub returns-in-Err-read_all-clause-read_told : goal.returns-in-Err-read_all-clause-read_told
+returns-in-Err-read_all-clause-read_told g c = told-as _ c.in-Err-read_all.ensures.read_told
+
+pub returns-in-Err-read_all-clause-write_told : goal.returns-in-Err-read_all-clause-write_told
+returns-in-Err-read_all-clause-write_told g c = told-as _ c.in-Err-read_all.ensures.write_told
+
+pub returns-in-Err-read_all-clause-memory : goal.returns-in-Err-read_all-clause-memory
+returns-in-Err-read_all-clause-memory g c = λ h. (not-told _ Read read-not-memory (told-as _ c.in-Err-read_all.ensures.read_told) h, not-told _ Write write-not-memory (told-as _ c.in-Err-read_all.ensures.write_told) h)
+
+pub returns-in-Ok-read_all-clause-read_told : goal.returns-in-Ok-read_all-clause-read_told
+returns-in-Ok-read_all-clause-read_told g c = inl (quiet-source _ c.in-Ok-read_all.ensures.read_told)
+
+pub returns-in-Ok-read_all-clause-write_told : goal.returns-in-Ok-read_all-clause-write_told
+returns-in-Ok-read_all-clause-write_told g c = told-behind c.in-Ok-read_all.ensures.kept.1 c.conclude.ensures.write_told
+
+pub returns-in-Ok-read_all-clause-memory : goal.returns-in-Ok-read_all-clause-memory
+returns-in-Ok-read_all-clause-memory g c = λ h. (quiet-source _ c.in-Ok-read_all.ensures.read_told, not-told _ Write write-not-memory (told-behind c.in-Ok-read_all.ensures.kept.1 c.conclude.ensures.write_told) h)

@@ -1,17 +1,19 @@
-use Rattle.std.proofs.Common.{sym, arith, refl, ◌∙◌, ◌≡◌, length}
+use Rattle.std.proofs.Common.{sym, ap, arith, refl, ◌∙◌, ◌≡◌, ◌+◌, length}
+use Rattle.h264_slices.proofs.Playing.{err-as}
+use Rattle.h264_verify.proofs.Finishing.{told-as, told-behind}
 use Rattle.h264_verify.proofs.Sources.{pieces-split-at}
 use Rattle.h264_verify.proofs.Verdicts.{judges-judged, none-judged, pieces-first, pieces-on, pieces-halt, pieces-end, keeps-as, goes-as, stops-as, finishes-as}
 use Rattle.h264_judge.specs.Units.{terms_of}
 use Rattle.h264_verify.proofs.running.run_pieces.Goals as goal
 
-pub returns-in-Err : goal.returns-in-Err
-returns-in-Err g c = rw c.in-Err.ensures.err (λ frames. judges-judged (terms_of c.args.mode c.args.target) _ _ _ frames _ _ _ (none-judged (terms_of c.args.mode c.args.target) _ _ _ frames _))
+pub returns-in-Err-clause-verdict : goal.returns-in-Err-clause-verdict
+returns-in-Err-clause-verdict g c = rw c.in-Err.ensures.err (λ frames. judges-judged (terms_of c.args.mode c.args.target) _ _ _ frames _ _ _ (none-judged (terms_of c.args.mode c.args.target) _ _ _ frames _))
 
 pub loop-piece-init : goal.loop-piece-init
 loop-piece-init g c = record { goes = λ frames. goes-as (sym c.in-Ok.ensures.fresh.terms_is) (pieces-first (terms_of c.args.mode c.args.target) _ _ frames _ c.in-Ok.ensures.fresh); runs = c.in-Ok.ensures.fresh.stop; terms_is = refl; kept = refl }
 
-pub returns-in-Err-advance : goal.returns-in-Err-advance
-returns-in-Err-advance g c = λ frames.
+pub returns-in-Err-advance-clause-verdict : goal.returns-in-Err-advance-clause-verdict
+returns-in-Err-advance-clause-verdict g c = λ frames.
     let inv = goes-as c.in-Ok.ensures.fresh.terms_is (c.loop-piece.invariant.goes frames) in
     let m = c.loop-piece.invariant.terms_is ∙ c.in-Ok.ensures.fresh.terms_is in
     judges-judged (terms_of c.args.mode c.args.target) _ _ _ frames _ _ _ (pieces-halt _ _ _ _ (pieces-split-at (λ piece. piece.items) c.args.pieces.now c.loop-piece.piece-index c.piece-item.result _ c.loop-piece-test.true c.piece-item.is c.as_slice.ensures.value) inv c.loop-piece.invariant.kept (stops-as m (c.in-Err-advance.ensures.stops inv.made inv.after (keeps-as (sym m) inv.keeps))))
@@ -27,9 +29,24 @@ loop-piece-preserved g c = record {
   kept = c.in-Ok-advance.ensures.kept ∙ c.loop-piece.invariant.kept;
 }
 
-pub returns : goal.returns
-returns g c = λ frames.
+pub returns-clause-verdict : goal.returns-clause-verdict
+returns-clause-verdict g c = λ frames.
     let inv = goes-as c.in-Ok.ensures.fresh.terms_is (c.loop-piece.invariant.goes frames) in
     let m = c.loop-piece.invariant.terms_is ∙ c.in-Ok.ensures.fresh.terms_is in
     let n : c.loop-piece.piece-index ≡ length c.args.pieces.now = omega arith in
     judges-judged (terms_of c.args.mode c.args.target) _ _ _ frames _ _ _ (pieces-end (λ piece. piece.items) c.args.pieces.now c.loop-piece.piece-index n inv c.loop-piece.invariant.kept (finishes-as m (c.conclude.ensures.finishes inv.made inv.after (keeps-as (sym m) inv.keeps))))
+
+pub returns-in-Err-advance-clause-no_read : goal.returns-in-Err-advance-clause-no_read
+returns-in-Err-advance-clause-no_read g c = λ h. c.in-Err-advance.ensures.no_read (err-as _ _ h)
+
+pub returns-in-Err-advance-clause-write : goal.returns-in-Err-advance-clause-write
+returns-in-Err-advance-clause-write g c = λ h. c.in-Err-advance.ensures.write (err-as _ _ h) ∙ ap (λ n. n + 1) c.loop-piece.invariant.kept
+
+pub returns-in-Err-advance-clause-write_told : goal.returns-in-Err-advance-clause-write_told
+returns-in-Err-advance-clause-write_told g c = told-behind c.loop-piece.invariant.kept (told-as _ c.in-Err-advance.ensures.write_told)
+
+pub returns-clause-write : goal.returns-clause-write
+returns-clause-write g c = λ h. c.conclude.ensures.write h ∙ ap (λ n. n + 1) c.loop-piece.invariant.kept
+
+pub returns-clause-write_told : goal.returns-clause-write_told
+returns-clause-write_told g c = told-behind c.loop-piece.invariant.kept c.conclude.ensures.write_told

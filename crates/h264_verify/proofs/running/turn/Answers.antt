@@ -1,8 +1,9 @@
-use Rattle.std.proofs.Common.{◌≡◌, Bool, true, IsFalse, Result, Ok, Err, [], refl, rules, take}
+use Rattle.std.proofs.Common.{◌≡◌, Bool, true, IsFalse, Result, Ok, Err, [], inl, inr, refl, rules, take}
 use Rattle.std.proofs.lemmas.Result.{err_from_is_err_and}
 use Rattle.h264_base.specs.declared.stop.Stop.{Stop}
 use Rattle.h264_base.specs.declared.stop.Stop.TheVariants.{Read, Write}
 use Rattle.h264_slices.proofs.Playing.{err-as}
+use Rattle.h264_verify.proofs.Finishing.{told-as}
 use Rattle.h264_verify.proofs.Verdicts.{fed-more, fed-again, fed-halts, fed-fails}
 use Rattle.h264_verify.proofs.Heard.{heard-more, heard-halts, heard-none, heard-fails}
 use Rattle.h264_verify.proofs.running.turn.Goals as goal
@@ -27,7 +28,9 @@ returns-in-Err g c = record {
   kept = tt;
   again = c.read.ensures.again;
   read = λ h. c.in-Err.ensures.failed;
+  read_told = inr refl;
   write = λ h. absurd (read-not-write h);
+  write_told = inl refl;
   piece = search rules;
 }
 
@@ -41,7 +44,9 @@ returns-in-Ok-None g c = record {
   kept = (c.requires.runs, refl, c.in-Ok-None.ensures.kept);
   again = c.read.ensures.again;
   read = λ h. absurd (well-not-stopped true Read h);
+  read_told = inl c.in-Ok-None.ensures.kept;
   write = λ h. absurd (well-not-stopped true Write h);
+  write_told = inl refl;
   piece = search rules;
 }
 
@@ -57,7 +62,9 @@ returns-in_err-advance-in-Ok-Some g c =
       kept = tt;
       again = c.read.ensures.again;
       read = λ h. absurd (c.in_err-advance-in-Ok-Some.ensures.no_read (err-as _ _ h));
+      read_told = inl c.in-Ok-Some.ensures.kept;
       write = λ h. c.in_err-advance-in-Ok-Some.ensures.write (err-as _ _ h);
+      write_told = told-as _ c.in_err-advance-in-Ok-Some.ensures.write_told;
       piece = search rules;
     })
 
@@ -71,6 +78,8 @@ returns-in_ok-advance-in-Ok-Some g c = record {
   kept = (c.in_ok-advance-in-Ok-Some.ensures.going, c.in_ok-advance-in-Ok-Some.ensures.kept, c.in-Ok-Some.ensures.kept);
   again = c.read.ensures.again;
   read = λ h. absurd (well-not-stopped true Read h);
+  read_told = inl c.in-Ok-Some.ensures.kept;
   write = λ h. absurd (well-not-stopped true Write h);
+  write_told = inl c.in_ok-advance-in-Ok-Some.ensures.kept;
   piece = search rules;
 }

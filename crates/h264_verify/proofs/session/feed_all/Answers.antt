@@ -1,10 +1,14 @@
-use Rattle.std.proofs.Common.{◌≡◌, ◌<◌, ◌≤◌, ℕ, List, drop, length, length-drop, arith, refl, sym, ◌∙◌}
+use Rattle.std.proofs.Common.{◌≡◌, ◌<◌, ◌≤◌, ◌==◌, ℕ, true, false, List, [], ap, drop, length, length-drop, arith, refl, sym, ◌∙◌}
 use Rattle.std.proofs.lemmas.Result.{err_from_is_err_and}
 use Rattle.h264_verify.proofs.Familiar.{on-both, on-stops, on-none, on-end, none-left, on-keeps}
 use Rattle.h264_verify.proofs.session.feed_all.Goals as goal
 
+-- where no bytes are left, the loop is over
+none-more : (rest : List ℕ) → rest ≡ [] → (length rest == 0) ≡ false → ⊥
+none-more rest e h = let f : (length rest == 0) ≡ true = ap (λ (l : List ℕ). length l == 0) e in cc
+
 pub loop-rest-init : goal.loop-rest-init
-loop-rest-init g c = record { goes = λ frames before k. on-none c.args.terms _ frames _ before _ _ _ k; undecided = λ u. u; runs = c.requires.runs; counted = c.requires.counted; pictures = c.requires.pictures; kept = refl }
+loop-rest-init g c = record { goes = λ frames before k. on-none c.args.terms _ frames _ before _ _ _ k; undecided = λ u. u; runs = c.requires.runs; counted = c.requires.counted; pictures = c.requires.pictures; kept = refl; no_bytes = λ e. (e, refl, refl, refl) }
 
 pub feed_some-requires-clause-keeps : goal.feed_some-requires-clause-keeps
 feed_some-requires-clause-keeps g c = let k = c.requires.keeps in on-keeps (c.loop-rest.invariant.goes k.frames k.before k.keeps)
@@ -20,6 +24,7 @@ returns-in_err-n g c =
       undecided = tt;
       kept = tt;
       stops = λ frames before k. let f = c.loop-rest.invariant.goes frames before k in on-stops f c.loop-rest.invariant.kept (c.in_err-n.ensures.stops f.made f.after f.keeps);
+      no_bytes = λ e. absurd (none-more _ (c.loop-rest.invariant.no_bytes e).0 (sym c.is_empty.ensures ∙ c.loop-rest-test.true));
     })
 
 pub loop-rest-preserved : goal.loop-rest-preserved
@@ -30,10 +35,14 @@ loop-rest-preserved g c = record {
   counted = c.in_ok-n.ensures.counted;
   pictures = c.in_ok-n.ensures.pictures;
   kept = c.in_ok-n.ensures.kept ∙ c.loop-rest.invariant.kept;
+  no_bytes = λ e. absurd (none-more _ (c.loop-rest.invariant.no_bytes e).0 (sym c.is_empty.ensures ∙ c.loop-rest-test.true));
 }
 
 pub returns-clause-goes : goal.returns-clause-goes
 returns-clause-goes g c = λ frames before k. on-end (none-left c.loop-rest.rest.now (sym c.is_empty.ensures ∙ c.loop-rest-test.false)) (c.loop-rest.invariant.goes frames before k)
+
+pub returns-clause-no_bytes : goal.returns-clause-no_bytes
+returns-clause-no_bytes g c = λ e. let k = c.loop-rest.invariant.no_bytes e in (refl, k.1, k.2, k.3)
 
 pub returns-clause-undecided : goal.returns-clause-undecided
 returns-clause-undecided g c = c.loop-rest.invariant.undecided

@@ -1,5 +1,5 @@
 use Rattle.h264_units.specs.Stream.{IsUndecided}
-use Rattle.std.proofs.Common.{◌≡◌, ◌≤◌, ℕ, IsFalse, None, length}
+use Rattle.std.proofs.Common.{◌≡◌, ◌≤◌, ℕ, IsFalse, None, [], length}
 use Rattle.h264_plane.specs.declared.frame.Frame.{Frame}
 use Rattle.h264_slices.specs.History.{History}
 use Rattle.h264_judge.specs.Keeping.{Keeps}
@@ -14,6 +14,7 @@ invariant-loop-rest g l = record {
   counted : l.state.units ≤ l.splitter.at;
   pictures : l.state.slices.pictures ≤ l.state.units;
   kept : g.S.Elements.failures l.sink ≡ g.S.Elements.failures l.initial.sink;
+  no_bytes : l.piece ≡ [] → (l.rest ≡ []) × (l.splitter ≡ l.initial.splitter) × (l.state ≡ l.initial.state) × (l.sink ≡ l.initial.sink);
 }
 
 abbrev pub decreases-loop-rest : goal.decreases-loop-rest

@@ -1,7 +1,7 @@
-use Rattle.std.proofs.Common.{refl, ◌∙◌}
+use Rattle.std.proofs.Common.{Err, refl, ap, ◌∙◌}
 use Rattle.std.proofs.lemmas.Result.{err_from_is_err_and}
 use Rattle.h264_verify.specs.Judging.{judging}
-use Rattle.h264_verify.proofs.Familiar.{agree-none, on-push, on-unit}
+use Rattle.h264_verify.proofs.Familiar.{agree-none, on-push, on-unit, on-bytes}
 use Rattle.h264_verify.proofs.Feeding.{stops-push, goes-push, stops-unit, stops-after}
 use Rattle.h264_verify.proofs.session.feed_some.Goals as goal
 
@@ -22,6 +22,20 @@ returns-in_err-n g c =
 pub returns-in-None-clause-goes : goal.returns-in-None-clause-goes
 returns-in-None-clause-goes g c = λ frames before k. on-push c.args.terms _ frames before _ _ c.in_ok-n.ensures.ok c.in-None.ensures.none k
 
+pub returns-in_err-bytes-in-Some : goal.returns-in_err-bytes-in-Some
+returns-in_err-bytes-in-Some g c =
+    let p = err_from_is_err_and c.from_residual-in_err-bytes-in-Some.result c.from_residual-in_err-bytes-in-Some.ensures.1 in
+    rw (p.1, p.2) (record {
+      within = tt;
+      goes = λ frames before k. tt;
+      runs = tt;
+      counted = tt;
+      pictures = tt;
+      undecided = tt;
+      kept = tt;
+      stops = λ frames before k. on-bytes c.args.terms _ _ frames _ _ _ _ c.in_err-bytes-in-Some.ensures.err.0;
+    })
+
 pub returns-in_err-judge_unit-in-Some : goal.returns-in_err-judge_unit-in-Some
 returns-in_err-judge_unit-in-Some g c =
     let p = err_from_is_err_and c.from_residual-in_err-judge_unit-in-Some.result c.from_residual-in_err-judge_unit-in-Some.ensures.1 in
@@ -33,7 +47,7 @@ returns-in_err-judge_unit-in-Some g c =
       pictures = tt;
       undecided = tt;
       kept = tt;
-      stops = λ frames before k. let t = c.in_err-judge_unit-in-Some.ensures.turns frames before k in record { made = t.made; same = t.same; stops = stops-after (judging c.args.terms) _ _ _ _ _ _ _ _ _ _ (goes-push (judging c.args.terms) _ _ _ _ _ _ _ c.in_ok-n.ensures.ok) refl (stops-unit (judging c.args.terms) _ _ (λ x. t.after) _ c.take_unit.new.self _ _ _ _ _ _ c.in-Some.ensures.some (c.in_ok-n.ensures.ok.ended_is ∙ c.requires.runs.2) t.plays) };
+      stops = λ frames before k. let t = c.in_err-judge_unit-in-Some.ensures.turns frames before k in record { made = t.made; same = t.same; stops = stops-after (judging c.args.terms) _ _ _ _ _ _ _ _ _ _ (goes-push (judging c.args.terms) _ _ _ _ _ _ _ c.in_ok-n.ensures.ok) refl (stops-unit (judging c.args.terms) _ _ (λ x. t.after) _ c.take_unit.new.self _ _ _ _ _ _ c.in-Some.ensures.some (c.in_ok-n.ensures.ok.ended_is ∙ c.requires.runs.2) (λ e. c.in_err-judge_unit-in-Some.ensures.no_memory frames before k (ap Err e)) t.plays) };
     })
 
 pub returns-in_ok-judge_unit-in-Some-clause-goes : goal.returns-in_ok-judge_unit-in-Some-clause-goes

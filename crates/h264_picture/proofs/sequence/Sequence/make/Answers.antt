@@ -1,8 +1,7 @@
-use Rattle.std.proofs.Common.{◌≡◌, ◌+◌, ◌*◌, ◌<◌, length, Some, None, refl, sym, ap, ◌∙◌, subst}
-use Rattle.h264_deblock.specs.CodedEdges.{coded_edges}
+use Rattle.std.proofs.Common.{◌≡◌, ◌+◌, ◌*◌, ◌<◌, length, Some, None, refl, sym, ◌∙◌, subst}
+use Rattle.h264_near.specs.Keeps.{Keeps}
 use Rattle.h264_recon.specs.Levels.{levels_of}
 use Rattle.h264_recon.specs.Placed.{weights_by}
-use Rattle.h264_picture.specs.Decoded.{filters}
 use Rattle.h264_picture.specs.Making.{setting_of}
 use Rattle.h264_picture.proofs.Made.{are-shown, possible, given-by, filter-by}
 use Rattle.h264_picture.proofs.Room.{in-rows, is-small, own-room, are-usable, y-lines, cb-lines, cr-lines, more-lines, made}
@@ -55,10 +54,7 @@ returns-clause-samples c width size (Some making) picture coded h s m r e p a =
     c.go_on.ensures.held (setting_of old) making.place making.slices picture coded (levels_of slice.chroma_qp_index_offset coded) n old.sound.column (in-rows _ _ _ _ _ _ _ _ _ old.sound c.requires) (are-shown old _ c.given_within-m.ensures.points) a
     (possible width slice picture making.place (weights_by old.weights) slice.chroma_qp_index_offset coded old.column old.row _ n' i e p is)
     (given-by old.across width picture making slice old coded _ w m e is)
-    (λ q. c.coded_edges-edges.ensures.edges (filters making.slices) width picture coded h.keeps r.contexts n' i (filter-by making slice old coded m e) m.offsets q ∙ ap (λ x. coded_edges (filters making.slices) x picture coded q) (sym w)) s
-
-pub go_on-requires-clause-inside : goal.go_on-requires-clause-inside
-go_on-requires-clause-inside c = c.coded_edges-edges.ensures.inside
+    (subst (λ x. Keeps x picture old.near) (sym w) h.keeps) r.contexts (filter-by making slice old coded m e) m.offsets s
 
 pub returns-clause-makes : goal.returns-clause-makes
 returns-clause-makes c making h = same-makes making c.args.slice.now c.args.self.now _ refl refl refl h

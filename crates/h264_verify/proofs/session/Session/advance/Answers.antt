@@ -5,7 +5,7 @@ use Rattle.h264_units.specs.Stream.{IsUndecided}
 use Rattle.h264_units.specs.Splitting.{Splitting}
 use Rattle.h264_judge.specs.declared.state.State.{State}
 use Rattle.h264_verify.specs.Progress.{Progress, IsReady, IsSession}
-use Rattle.h264_verify.proofs.Familiar.{on-keeps}
+use Rattle.h264_verify.proofs.Familiar.{on-keeps, stops-told, told-err}
 use Rattle.h264_verify.proofs.session.Session.advance.Goals as goal
 
 -- a session that has not stopped
@@ -23,3 +23,9 @@ invariant_of-self g c =
     let none = ap (λ (p : Progress). p.stop) c.self.view_is ∙ c.requires.runs in
     let ready = ready-of _ _ _ _ none c.self.invariant in
     session-of _ _ _ _ none (c.in-Ok.ensures.runs, c.in-Ok.ensures.counted, c.in-Ok.ensures.pictures, on-keeps (c.in-Ok.ensures.goes ready.3.frames ready.3.before ready.3.keeps))
+
+pub returns-in-Err-clause-write_told : goal.returns-in-Err-clause-write_told
+returns-in-Err-clause-write_told g c =
+    let none = ap (λ (p : Progress). p.stop) c.self.view_is ∙ c.requires.runs in
+    let ready = ready-of _ _ _ _ none c.self.invariant in
+    told-err _ (stops-told (c.in-Err.ensures.stops ready.3.frames ready.3.before ready.3.keeps))
