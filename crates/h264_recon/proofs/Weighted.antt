@@ -13,10 +13,8 @@ use Rattle.h264_near.specs.declared.context.Contexts.{Contexts}
 use Rattle.h264_recon.specs.Given.{weights_of}
 use Rattle.h264_recon.specs.Placed.{weights_placed_at, placed_weights}
 use Rattle.h264_recon.specs.Weights.{AreInRange, index_weights, weighted_if}
-use Rattle.h264_recon.specs.Weighing.{index_of, in_place, AreThose, IsRunWeighted, ArePlacesWeighted}
+use Rattle.h264_recon.specs.Weighing.{index_of, IsRunWeighted, ArePlacesWeighted}
 use Rattle.h264_plane.specs.declared.frame.Component.TheVariants.{Y}
-use Rattle.h264_recon.specs.declared.weighing.PlaceWeights.{PlaceWeights}
-use Rattle.h264_recon.specs.declared.weighing.PlaceWeights.TheVariants.{Plain}
 use Rattle.h264_recon.proofs.Tables.{table-ext, table-at}
 
 pub few : (k : ℕ) → k < 16 → number_of (k % 4) (k / 4) < 16
@@ -44,14 +42,8 @@ none-of : (o : Option Motion) → index_weights (replicate 16 None) o ≡ None
 none-of None = refl
 none-of (Some m) = none-at 16 m.ref_idx
 
-plain-are : (motions : List (Option Motion)) → AreThose Plain (placed_weights (replicate 16 None) motions)
-plain-are motions = record {
-  each = λ k h. sym (placed-at (replicate 16 None) motions k h ∙ none-of (get_or motions (number_of (k % 4) (k / 4)) None));
-  in_range = λ k h. λ w e. absurd (cc);
-}
-
-none-are : (all : Option (List (Option Weights))) (motions : List (Option Motion)) → all ≡ None → AreThose Plain (placed_weights (unwrap_or all (replicate 16 None)) motions)
-none-are all motions e = rw e (plain-are motions)
+none-placed : (motions : List (Option Motion)) (k : ℕ) → k < 16 → get_or (placed_weights (replicate 16 None) motions) k None ≡ None
+none-placed motions k h = placed-at (replicate 16 None) motions k h ∙ none-of (get_or motions (number_of (k % 4) (k / 4)) None)
 
 -- blocks of one index have the same weights
 same-index : (weights : List (Option Weights)) (a b : Option Motion) → index_of b ≡ index_of a → index_weights weights b ≡ index_weights weights a
@@ -86,22 +78,26 @@ luma_place x y i j = omega arith
 chroma_place : (x y : ℕ) → x < 8 → y < 8 → 4 * (4 * y / 8) + 4 * x / 8 < 16
 chroma_place x y i j = omega arith
 
-pub luma-by : (weights : PlaceWeights) (list : List (Option Weights)) (old new : List ℕ) → AreThose weights list → ArePlacesWeighted 16 Y (in_place weights) old new → ArePlacesWeighted 16 Y (λ k. get_or list k None) old new
-luma-by weights list old new those h = record {
-  each = λ x y i j. h.each x y i j ∙ ap (λ o. weighted_if Y o (slice_index old (16 * y + x))) (those.each (4 * (4 * y / 16) + 4 * x / 16) (luma_place x y i j));
+nothing-added : (n : ℕ) → 0 + n ≡ n
+nothing-added n = omega arith
+
+-- all its samples are weighted alike
+pub luma-alike : (o : Option Weights) (list : List (Option Weights)) (old new : List ℕ) → ((k : ℕ) → k < 16 → o ≡ get_or list k None) → IsRunWeighted 256 0 Y o old new → ArePlacesWeighted 16 Y (λ k. get_or list k None) old new
+luma-alike o list old new all run = record {
+  each = λ x y i j. (rw (nothing-added (16 * y + x)) at (run.here (16 * y + x) (omega arith))) ∙ ap (λ z. weighted_if Y z (slice_index old (16 * y + x))) (all (4 * (4 * y / 16) + 4 * x / 16) (luma_place x y i j));
 }
 
-pub chroma-by : (p : Component) (weights : PlaceWeights) (list : List (Option Weights)) (old new : List ℕ) → AreThose weights list → ArePlacesWeighted 8 p (in_place weights) old new → ArePlacesWeighted 8 p (λ k. get_or list k None) old new
-chroma-by p weights list old new those h = record {
-  each = λ x y i j. h.each x y i j ∙ ap (λ o. weighted_if p o (slice_index old (8 * y + x))) (those.each (4 * (4 * y / 8) + 4 * x / 8) (chroma_place x y i j));
+pub chroma-alike : (p : Component) (o : Option Weights) (list : List (Option Weights)) (old new : List ℕ) → ((k : ℕ) → k < 16 → o ≡ get_or list k None) → IsRunWeighted 64 0 p o old new → ArePlacesWeighted 8 p (λ k. get_or list k None) old new
+chroma-alike p o list old new all run = record {
+  each = λ x y i j. (rw (nothing-added (8 * y + x)) at (run.here (8 * y + x) (omega arith))) ∙ ap (λ z. weighted_if p z (slice_index old (8 * y + x))) (all (4 * (4 * y / 8) + 4 * x / 8) (chroma_place x y i j));
 }
 
 -- nothing is weighted
 pub luma-kept : (all : Option (List (Option Weights))) (motions : List (Option Motion)) (samples : List ℕ) → all ≡ None → ArePlacesWeighted 16 Y (λ k. get_or (placed_weights (unwrap_or all (replicate 16 None)) motions) k None) samples samples
-luma-kept all motions samples e = luma-by Plain _ samples samples (none-are all motions e) (record { each = λ x y i j. refl })
+luma-kept all motions samples e = rw e (record { each = λ x y i j. ap (λ z. weighted_if Y z (slice_index samples (16 * y + x))) (sym (none-placed motions (4 * (4 * y / 16) + 4 * x / 16) (luma_place x y i j))) })
 
 pub chroma-kept : (p : Component) (all : Option (List (Option Weights))) (motions : List (Option Motion)) (samples : List ℕ) → all ≡ None → ArePlacesWeighted 8 p (λ k. get_or (placed_weights (unwrap_or all (replicate 16 None)) motions) k None) samples samples
-chroma-kept p all motions samples e = chroma-by p Plain _ samples samples (none-are all motions e) (record { each = λ x y i j. refl })
+chroma-kept p all motions samples e = rw e (record { each = λ x y i j. ap (λ z. weighted_if p z (slice_index samples (8 * y + x))) (sym (none-placed motions (4 * (4 * y / 8) + 4 * x / 8) (chroma_place x y i j))) })
 
 -- all are, by these weights
 pub weighted-by : (n : ℕ) (p : Component) (all : Option (List (Option Weights))) (weights : List (Option Weights)) (motions : List (Option Motion)) (old new : List ℕ) → all ≡ Some weights → ArePlacesWeighted n p (λ k. get_or (placed_weights weights motions) k None) old new →

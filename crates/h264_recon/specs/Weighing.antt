@@ -1,27 +1,14 @@
--- A working form: the weights of the 4x4 places of a macroblock as the code has them, and samples that are weighted run by run.
-use Rattle.std.specs.Prelude.{◌≡◌, ℕ, ◌+◌, ◌*◌, ◌/◌, ◌<◌, ◌≤◌, List, slice_index, get_or, Option, Some, None}
-use Rattle.std.specs.Option.{ForSome, option_map}
+-- A working form: the reference index of a block, and samples that are weighted run by run.
+use Rattle.std.specs.Prelude.{◌≡◌, ℕ, ◌+◌, ◌*◌, ◌/◌, ◌<◌, ◌≤◌, List, slice_index, Option}
+use Rattle.std.specs.Option.{option_map}
 use Rattle.h264_base.specs.declared.weight.Weights.{Weights}
 use Rattle.h264_near.specs.declared.motion.Motion.{Motion}
 use Rattle.h264_plane.specs.declared.frame.Component.{Component}
-use Rattle.h264_recon.specs.Weights.{AreInRange, weighted_if}
-use Rattle.h264_recon.specs.declared.weighing.PlaceWeights.{PlaceWeights}
-use Rattle.h264_recon.specs.declared.weighing.PlaceWeights.TheVariants.{Plain, Whole, Each}
+use Rattle.h264_recon.specs.Weights.{weighted_if}
 
 -- the reference index of a block
 abbrev pub index_of : Option Motion → Option ℕ
 index_of m = option_map (λ (m : Motion). m.ref_idx) m
-
--- the weights of place k, row by row
-abbrev pub in_place : PlaceWeights → ℕ → Option Weights
-in_place Plain k = None
-in_place (Whole w) k = Some w
-in_place (Each weights) k = get_or weights k None
-
--- they are those of a list, each in its range
-pub record AreThose (weights : PlaceWeights) (list : List (Option Weights)) : Type 0 where
-  pub each : (k : ℕ) → k < 16 → in_place weights k ≡ get_or list k None
-  pub in_range : (k : ℕ) → k < 16 → ForSome (in_place weights k) AreInRange
 
 -- count samples from a place on are weighted, and each other one is kept
 pub record IsRunWeighted (count start : ℕ) (p : Component) (weights : Option Weights) (old new : List ℕ) : Type 0 where

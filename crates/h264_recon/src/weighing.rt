@@ -7,7 +7,7 @@ ghost use Rattle.h264_plane.specs.declared.frame.Component.TheVariants.{Y};
 ghost use Rattle.h264_recon.specs.Lines.{chroma_plane};
 ghost use Rattle.h264_recon.specs.Placed.{placed_weights, weights_in};
 ghost use Rattle.h264_recon.specs.Weights.{index_weights, weight_of, AreInRange, EachInRange};
-ghost use Rattle.h264_recon.specs.Weighing.{index_of, in_place, AreThose, IsRunWeighted, ArePlacesWeighted};
+ghost use Rattle.h264_recon.specs.Weighing.{index_of, IsRunWeighted, ArePlacesWeighted};
 
 use crate::macroblock::Weighting;
 use h264_base::{Weight, Weights};
@@ -15,17 +15,6 @@ use h264_inter::weigh;
 use h264_near::Motion as Derived;
 use h264_near::block::number;
 use h264_plane::Component;
-
-/// The weights of the 4x4 places of a macroblock.
-#[derive(Clone, Copy)]
-enum PlaceWeights {
-    /// None at any place.
-    Plain,
-    /// The same at all places.
-    Whole(Weights),
-    /// Those of each place, row by row.
-    Each([Option<Weights>; 16]),
-}
 
 /// The weights of what a block is predicted from.
 #[inline(always)]
@@ -85,20 +74,6 @@ fn of_places(
     each
 }
 
-/// The weights of a macroblock's places, by the slice's weights and what its blocks are predicted from.
-fn place_weights(weights: &[Option<Weights>; 16], motions: &[Option<Derived>; 16]) -> PlaceWeights
-    requires { EachInRange weights.now }
-    ensures { AreThose result (placed_weights weights.now motions.now) }
-{
-    if are_of_one_index(motions) {
-        return match of_motion(weights, motions[0]) {
-            None => PlaceWeights::Plain,
-            Some(weights) => PlaceWeights::Whole(weights),
-        };
-    }
-    PlaceWeights::Each(of_places(weights, motions))
-}
-
 /// The weight of a plane.
 #[inline(always)]
 fn of_plane(weights: Weights, plane: Component) -> Weight
@@ -140,21 +115,6 @@ fn weigh_luma_runs(weights: &[Option<Weights>; 16], out: &mut [u8; 256])
     }
 }
 
-/// Weighs the predicted luma samples of a macroblock by the weights of its places.
-#[inline(always)]
-fn weigh_luma_places(weights: &PlaceWeights, out: &mut [u8; 256])
-    requires { (k : ℕ) → k < 16 → ForSome (in_place weights.now k) AreInRange }
-    ensures { ArePlacesWeighted 16 Y (in_place weights.now) out.old out.new }
-{
-    match weights {
-        PlaceWeights::Plain => {}
-        PlaceWeights::Whole(weights) => {
-            weigh_run::<256>(out, 0, Some(*weights), Component::Y);
-        }
-        PlaceWeights::Each(weights) => weigh_luma_runs(weights, out),
-    }
-}
-
 /// Weighs the predicted luma samples of a macroblock of a slice with these weights. A function of its own, so that those of other slices do not pay
 /// for it.
 #[inline(never)]
@@ -166,7 +126,11 @@ fn weigh_luma_by(
     requires { EachInRange weights.now }
     ensures { ArePlacesWeighted 16 Y (λ k. get_or (placed_weights weights.now motions.now) k None) out.old out.new }
 {
-    weigh_luma_places(&place_weights(weights, motions), out);
+    if are_of_one_index(motions) {
+        weigh_run::<256>(out, 0, of_motion(weights, motions[0]), Component::Y);
+        return;
+    }
+    weigh_luma_runs(&of_places(weights, motions), out);
 }
 
 /// Weighs the predicted luma samples of a macroblock.
@@ -200,21 +164,6 @@ fn weigh_chroma_runs<const CR: bool>(weights: &[Option<Weights>; 16], out: &mut 
     }
 }
 
-/// Weighs the predicted samples of a chroma plane of a macroblock by the weights of its places.
-#[inline(always)]
-fn weigh_chroma_places<const CR: bool>(weights: &PlaceWeights, out: &mut [u8; 64])
-    requires { (k : ℕ) → k < 16 → ForSome (in_place weights.now k) AreInRange }
-    ensures { ArePlacesWeighted 8 (chroma_plane CR) (in_place weights.now) out.old out.new }
-{
-    match weights {
-        PlaceWeights::Plain => {}
-        PlaceWeights::Whole(weights) => {
-            weigh_run::<64>(out, 0, Some(*weights), chroma_component::<CR>());
-        }
-        PlaceWeights::Each(weights) => weigh_chroma_runs::<CR>(weights, out),
-    }
-}
-
 /// Weighs the predicted samples of a chroma plane of a macroblock of a slice with these weights, likewise.
 #[inline(never)]
 fn weigh_chroma_by<const CR: bool>(
@@ -225,7 +174,12 @@ fn weigh_chroma_by<const CR: bool>(
     requires { EachInRange weights.now }
     ensures { ArePlacesWeighted 8 (chroma_plane CR) (λ k. get_or (placed_weights weights.now motions.now) k None) out.old out.new }
 {
-    weigh_chroma_places::<CR>(&place_weights(weights, motions), out);
+    if are_of_one_index(motions) {
+        let weights = of_motion(weights, motions[0]);
+        weigh_run::<64>(out, 0, weights, chroma_component::<CR>());
+        return;
+    }
+    weigh_chroma_runs::<CR>(&of_places(weights, motions), out);
 }
 
 /// Weighs the predicted samples of a chroma plane of a macroblock.
