@@ -1,4 +1,4 @@
--- The bytes of a unit's RBSP, and where each of its bits stands in the stream (7.3.1).
+-- The bytes of a unit's RBSP, and where each of its bits stands in the stream (7.3.1). To be read beside the standard.
 use Rattle.std.specs.Prelude.{ℕ, ◌+◌, ◌*◌, ◌/◌, List, nat_le}
 use Rattle.std.specs.List.{count_by}
 
@@ -7,7 +7,7 @@ pub record Body : Type 0 where
   pub bytes : List ℕ
   -- the stream bit of the first bit of the first byte
   pub first : ℕ
-  -- before which of these bytes, counted from 0, an emulation_prevention_three_byte was dropped; the length where behind the last
+  -- before which of these bytes, counted from 0, an emulation_prevention_three_byte was dropped; the length where after the last
   pub dropped : List ℕ
 
 -- the stream bit of RBSP bit i; for i equal to the RBSP's length the first bit after the unit

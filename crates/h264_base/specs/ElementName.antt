@@ -1,4 +1,4 @@
--- The names of the syntax elements, as the standard spells them.
+-- The names of the syntax elements, as the standard spells them. To be read beside the standard.
 use Rattle.std.specs.Prelude.{ℕ, List, codes}
 use Rattle.h264_base.specs.declared.element_name.ElementName.{ElementName}
 use Rattle.h264_base.specs.declared.element_name.ElementName.TheVariants.{ProfileIdc, ConstraintSet0Flag, ConstraintSet1Flag, ConstraintSet2Flag, ConstraintSet3Flag, ConstraintSet4Flag, ConstraintSet5Flag, ReservedZero2bits, LevelIdc, SeqParameterSetId, Log2MaxFrameNumMinus4, PicOrderCntType, Log2MaxPicOrderCntLsbMinus4, DeltaPicOrderAlwaysZeroFlag, OffsetForNonRefPic, OffsetForTopToBottomField, NumRefFramesInPicOrderCntCycle, OffsetForRefFrame, MaxNumRefFrames, GapsInFrameNumValueAllowedFlag, PicWidthInMbsMinus1, PicHeightInMapUnitsMinus1, FrameMbsOnlyFlag, Direct8x8InferenceFlag, FrameCroppingFlag, FrameCropLeftOffset, FrameCropRightOffset, FrameCropTopOffset, FrameCropBottomOffset, VuiParametersPresentFlag, AspectRatioInfoPresentFlag, AspectRatioIdc, SarWidth, SarHeight, OverscanInfoPresentFlag, OverscanAppropriateFlag, VideoSignalTypePresentFlag, VideoFormat, VideoFullRangeFlag, ColourDescriptionPresentFlag, ColourPrimaries, TransferCharacteristics, MatrixCoefficients, ChromaLocInfoPresentFlag, ChromaSampleLocTypeTopField, ChromaSampleLocTypeBottomField, TimingInfoPresentFlag, NumUnitsInTick, TimeScale, FixedFrameRateFlag, NalHrdParametersPresentFlag, VclHrdParametersPresentFlag, CpbCntMinus1, BitRateScale, CpbSizeScale, BitRateValueMinus1, CpbSizeValueMinus1, CbrFlag, InitialCpbRemovalDelayLengthMinus1, CpbRemovalDelayLengthMinus1, DpbOutputDelayLengthMinus1, TimeOffsetLength, LowDelayHrdFlag, PicStructPresentFlag, BitstreamRestrictionFlag, MotionVectorsOverPicBoundariesFlag, MaxBytesPerPicDenom, MaxBitsPerMbDenom, Log2MaxMvLengthHorizontal, Log2MaxMvLengthVertical, MaxNumReorderFrames, MaxDecFrameBuffering, PicParameterSetId, EntropyCodingModeFlag, BottomFieldPicOrderInFramePresentFlag, NumSliceGroupsMinus1, NumRefIdxL0DefaultActiveMinus1, NumRefIdxL1DefaultActiveMinus1, WeightedPredFlag, WeightedBipredIdc, PicInitQpMinus26, PicInitQsMinus26, ChromaQpIndexOffset, DeblockingFilterControlPresentFlag, ConstrainedIntraPredFlag, RedundantPicCntPresentFlag, FirstMbInSlice, SliceType, FrameNum, IdrPicId, PicOrderCntLsb, DeltaPicOrderCntBottom, DeltaPicOrderCnt, NumRefIdxActiveOverrideFlag, NumRefIdxL0ActiveMinus1, RefPicListModificationFlagL0, ModificationOfPicNumsIdc, AbsDiffPicNumMinus1, LongTermPicNum, LumaLog2WeightDenom, ChromaLog2WeightDenom, LumaWeightL0Flag, LumaWeightL0, LumaOffsetL0, ChromaWeightL0Flag, ChromaWeightL0, ChromaOffsetL0, NoOutputOfPriorPicsFlag, LongTermReferenceFlag, AdaptiveRefPicMarkingModeFlag, MemoryManagementControlOperation, DifferenceOfPicNumsMinus1, LongTermFrameIdx, MaxLongTermFrameIdxPlus1, SliceQpDelta, DisableDeblockingFilterIdc, SliceAlphaC0OffsetDiv2, SliceBetaOffsetDiv2, MbSkipRun, MbType, SubMbType, PrevIntra4x4PredModeFlag, RemIntra4x4PredMode, IntraChromaPredMode, RefIdxL0, MvdL0, CodedBlockPattern, MbQpDelta, CoeffToken, TrailingOnesSignFlag, LevelPrefix, LevelSuffix, TotalZeros, RunBefore}

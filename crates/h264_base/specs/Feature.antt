@@ -1,4 +1,4 @@
--- The features' names.
+-- The features' names. To be read beside the standard.
 use Rattle.std.specs.Prelude.{ℕ, List, codes}
 use Rattle.h264_base.specs.declared.stop.Feature.{Feature}
 use Rattle.h264_base.specs.declared.stop.Feature.TheVariants.{Level6, UnitTooLong, InputTooLong}

@@ -1,4 +1,4 @@
--- What a function that reads a syntax structure does.
+-- What a function that reads a syntax structure does. A working form.
 use Rattle.std.specs.Prelude.{◌≡◌, ℕ, ◌+◌, List, [], ◌∷◌, ◌++◌, map, Result, Ok, Err, Bool, IsTrue, IsFalse}
 use Rattle.h264_base.specs.declared.rule.Rule.{Rule}
 use Rattle.h264_base.specs.declared.stop.Stop.{Stop}

@@ -1,4 +1,4 @@
--- A grammar run on the bits of a body: the elements, and the answer.
+-- A grammar run on the bits of a body: the elements, and the answer. A working form.
 use Rattle.std.specs.Prelude.{ℕ, ◌+◌, ◌*◌, not, List, [], ◌∷◌, length, ℤ, Option, Some, None, nat_le, if◌then◌else◌, Result, Ok, Err}
 use Rattle.h264_base.specs.declared.element_name.ElementName.{ElementName}
 use Rattle.h264_base.specs.declared.rule.Rule.{Rule}

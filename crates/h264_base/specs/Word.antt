@@ -1,4 +1,4 @@
--- Code words and where they stand (7.2, 9.1).
+-- Code words and where they stand (7.2, 9.1). To be read beside the standard.
 use Rattle.std.specs.Prelude.{◌≡◌, ℕ, zero, suc, ◌+◌, ◌-◌, ◌*◌, ◌/◌, ◌%◌, ◌^◌, ◌<◌, ◌≤◌, Bool, true, false, List, [], ◌∷◌, ◌++◌, length, replicate, ℤ, pos, negsuc, Option, Some, None, slice_get, ◌==◌, if◌then◌else◌, neg_ℤ, not, nat_lt, nat_le, ◌&&◌}
 use Rattle.std.specs.Option.{option_map, option_and_then}
 use Rattle.h264_base.specs.Table.{Row, CodeTable, IsRow}
@@ -58,7 +58,7 @@ Reads code bytes i v j = (w : Word) × IsWord code w v × StandsAt bytes i w × 
 abbrev pub padding : ℕ → ℕ
 padding i = (8 - i % 8) % 8
 
--- The same as functions.
+-- These as functions.
 unfoldable pub number_at : ℕ → List ℕ → ℕ → Option ℕ
 number_at zero bytes i = Some 0
 number_at (suc n) bytes i = option_and_then (λ b. option_map (λ v. digit b * 2 ^ n + v) (number_at n bytes (i + 1))) (bit_of bytes i)

@@ -39,7 +39,7 @@ module _ {A S : Type 0} {took : S → List Call → Type 0} {failures : S → �
       let P : ℕ → Type 0 = λ k. Leads took failures g (repeated part before k) old now s s' in
       finish (subst P k l) (done took failures R before now s' y r)
 
--- the places behind the first i + 1 are as they were
+-- the places after the first i + 1 are as they were
 pub rest-kept : {X : Type 0} (xs : List X) (i n : ℕ) (z : X) → i < n → drop i xs ≡ replicate (n - i) z → drop (i + 1) xs ≡ replicate (n - (i + 1)) z
 rest-kept xs i n z h e =
     let k : n - i ≡ suc (n - (i + 1)) = omega arith in

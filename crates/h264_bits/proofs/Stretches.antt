@@ -41,7 +41,7 @@ pub place-behind : (body : Body) (i : ℕ) → i ≤ place body i
 unfolding place
 place-behind body i = omega arith
 
--- bits stand together where the first and the last of them are as far behind
+-- bits stand together where the first and the last of them are as far apart
 pub between : (body : Body) (from last shift : ℕ) → from ≤ last → last ≤ 8 * length body.bytes → place body from ≡ from + shift → place body last ≡ last + shift → last + shift < 2 ^ 64 → IsStretch body from (record { shift = shift; last = last })
 between body from last shift some inside a b fits = record {
   some = some;

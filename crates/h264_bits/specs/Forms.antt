@@ -1,4 +1,4 @@
--- Forms of elements that many syntax structures share.
+-- Forms of elements that many syntax structures share. To be read beside the standard.
 use Rattle.std.specs.Prelude.{ℕ, zero, suc, ℤ, pos, negsuc, nat_le, int_le, ◌==◌, Bool, true, false, Option, Some, None, List, [], ◌∷◌, ◌++◌}
 use Rattle.h264_base.specs.declared.element_name.ElementName.{ElementName}
 use Rattle.h264_base.specs.declared.rule.Rule.TheVariants.{Range, Tool}

@@ -1,4 +1,4 @@
--- The next bits as a number, with zeros past the end of the bytes.
+-- The next bits as a number, with zeros past the end of the bytes. A working form.
 use Rattle.std.specs.Prelude.{◌≡◌, ℕ, zero, suc, ◌+◌, ◌*◌, ◌/◌, ◌%◌, ◌-◌, ◌^◌, ◌≤◌, ◌==◌, List, length, ℤ, Option, Some, None, slice_index}
 use Rattle.h264_base.specs.Word.{Code, value_at, ends_at}
 

@@ -1,4 +1,4 @@
--- What the readers of elements give, as the grammars see it.
+-- What the readers of elements give, as the grammars see it. A working form.
 use Rattle.std.specs.Prelude.{ℕ, ℤ, pos, Bool}
 use Rattle.h264_base.specs.Word.{digit}
 use Rattle.h264_base.specs.Grammar.{Found as Seen, Ahead as SeenAhead}

@@ -1,4 +1,4 @@
--- What a test of a feature says.
+-- What a test of a feature says. A working form.
 use Rattle.std.specs.Prelude.{◌≡◌, ℕ, Bool, IsTrue, IsFalse, Result, Ok, Err}
 use Rattle.h264_base.specs.declared.stop.Feature.{Feature}
 use Rattle.h264_base.specs.declared.stop.Stop.{Stop}

@@ -1,4 +1,4 @@
--- That nothing can be read.
+-- That nothing can be read. A working form.
 use Rattle.std.specs.Prelude.{ℕ, ℤ, List}
 use Rattle.h264_base.specs.Word.{Code, Reads}
 

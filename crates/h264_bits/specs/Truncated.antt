@@ -1,4 +1,4 @@
--- te(v): truncated Exp-Golomb words (9.1).
+-- te(v): truncated Exp-Golomb words (9.1). To be read beside the standard.
 use Rattle.std.specs.Prelude.{ℕ, ◌==◌, if◌then◌else◌}
 use Rattle.h264_base.specs.Word.{Code, Unsigned, Words}
 use Rattle.h264_tables.specs.declared.table.Table.TheVariants.{InvertedBit}

@@ -1,4 +1,4 @@
--- Bits that were loaded ahead.
+-- Bits that were loaded ahead. A working form.
 use Rattle.std.specs.Prelude.{◌≡◌, ℕ, ◌-◌, ◌/◌, ◌^◌, ◌≤◌, List}
 use Rattle.h264_bits.specs.Peek.{peek_at}
 use Rattle.h264_bits.specs.declared.window.Upcoming.{Upcoming}

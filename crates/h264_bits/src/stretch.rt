@@ -9,13 +9,13 @@ use h264_rbsp::Rbsp;
 /// How far ahead the end of a stretch is looked for, in bits.
 const FAR: usize = 2048;
 
-/// The same where a byte was dropped before that.
+/// How far ahead it is looked for where a byte was dropped before that, in bits.
 const NEAR: usize = 512;
 
 /// Bits of an RBSP that stand together in the stream.
 #[derive(Clone, Copy)]
 pub struct Stretch {
-    /// How far each of them stands behind its place in the RBSP, in bits.
+    /// How far each of them stands after its place in the RBSP, in bits.
     pub shift: u64,
     /// The last of them.
     pub last: usize,
@@ -45,7 +45,7 @@ pub fn stretch_from(rbsp: &Rbsp, i: usize) -> Stretch
     }
 }
 
-/// The same behind the `n` bits from bit `at` on; None where fewer are left.
+/// The stretch after the `n` bits from bit `at` on; None where fewer are left.
 #[cold]
 #[inline(never)]
 pub fn stretch_behind(rbsp: &Rbsp, at: usize, n: u32) -> Option<Stretch>

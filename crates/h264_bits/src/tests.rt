@@ -76,7 +76,7 @@ fn numbers_are(bits: &mut Bits, sink: &mut Last, numbers: &[(u32, u64)]) -> Resu
     Ok(true)
 }
 
-/// The same for words of signed numbers.
+/// Whether words of signed numbers are read so.
 fn signed_are(bits: &mut Bits, sink: &mut Last, numbers: &[(i32, u64)]) -> Result<bool, Stop> {
     for (value, bit) in numbers {
         let found = read_se(bits, ElementName::MvdL0, sink)?;
@@ -87,7 +87,7 @@ fn signed_are(bits: &mut Bits, sink: &mut Last, numbers: &[(i32, u64)]) -> Resul
     Ok(true)
 }
 
-/// The same for words of tables.
+/// Whether words of tables are read so.
 fn words_are(bits: &mut Bits, sink: &mut Last, words: &[(Table, u8, u64)]) -> Result<bool, Stop> {
     for (table, value, bit) in words {
         let found = read_word(
@@ -117,7 +117,7 @@ const SET_FIELDS: [(u32, u32, u64); 6] = [
     (8, 10, 56),
 ];
 
-/// Its numbers behind them.
+/// Its numbers after them.
 const SET_NUMBERS: [(u32, u64); 4] = [(0, 64), (0, 65), (2, 66), (1, 69)];
 
 fn a_parameter_set_reads(rt: &(impl Abort + AllocGlobal)) -> Result<(), Fail> {
@@ -144,7 +144,7 @@ fn a_parameter_set_ends(rt: &(impl Abort + AllocGlobal)) -> Result<(), Fail> {
     Ok(())
 }
 
-/// 1, 010, 011, 00100, 00101, 0001000, and a 1 behind them.
+/// 1, 010, 011, 00100, 00101, 0001000, and a 1 after them.
 const GOLOMB: [u8; 8] = [
     0,
     0,
@@ -247,7 +247,7 @@ fn no_word_of_a_table(rt: &(impl Abort + AllocGlobal)) -> Result<(), Fail> {
     Ok(())
 }
 
-/// Each 03 behind 00 00 is dropped, so that the bits behind it stand one byte further on.
+/// Each 03 after 00 00 is dropped, so that the bits after it stand one byte further on.
 const DROPPED: [u8; 14] = [0, 0, 1, 0x65, 0xAA, 0, 0, 3, 1, 0, 0, 3, 1, 0x80];
 
 const DROPPED_FIELDS: [(u32, u32, u64); 7] = [

@@ -93,7 +93,7 @@ pub fn first_of(k: Upcoming, n: u32) -> u64
     (k.number >> 1) >> (63 - n)
 }
 
-/// Those behind the first `n` bits.
+/// The bits after the first `n`.
 #[inline(always)]
 pub fn behind(k: Upcoming, n: u32) -> Upcoming
     requires few { n < 64 }

@@ -9,7 +9,7 @@ use Rattle.h264_cavlc.specs.Level.{level, more_levels, is_never_one, next_suffix
 use Rattle.h264_cavlc.specs.Zeros.{run_before, runs_before}
 
 module _ {S : Type 0} {took : S → List Call → Type 0} {failures : S → ℕ} where
-  -- the first level behind the trailing ones
+  -- the first level after the trailing ones
   pub levels-start : (ones n s i : ℕ) (before : List ℤ) (m : ℕ) (old : Reader) (z : S) → s ≡ i → n ≡ m → Leads took failures (more_levels ones before s n) (more_levels ones before i m) old old z z
   levels-start ones n s i before m old z e f = rw (e, f) (leads-starts took failures (more_levels ones before i m) old z)
 

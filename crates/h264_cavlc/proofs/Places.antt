@@ -56,7 +56,7 @@ placed-run n total total_zeros r levels runs out h before = record {
   empty = λ p none. before.empty p (λ k q e. none k q (place-kept total total_zeros r runs k (omega arith) ∙ e));
 }
 
--- the place of the level behind the last run
+-- the place of the level after the last run
 pub place-next : (total total_zeros : ℕ) (runs : List ℕ) (k : ℕ) → length runs ≡ k → place_of total total_zeros runs k ≡ total - 1 - k + (total_zeros - sum_by (λ x. x) runs)
 unfolding place_of
 place-next total total_zeros runs k e = ap (λ (t : List ℕ). total - 1 - k + (total_zeros - sum_by (λ x. x) t)) (ap (λ m. take m runs) (sym e) ∙ take-length runs)

@@ -1,4 +1,4 @@
--- residual_block_cavlc() (7.3.5.3.2), with the rules on its size (9.2).
+-- residual_block_cavlc() (7.3.5.3.2), with the rules on its size (9.2). To be read beside the standard.
 use Rattle.std.specs.Prelude.{ℕ, ◌-◌, ◌==◌, if◌then◌else◌, List, [], replicate, ℤ, pos, nat_lt, unsigned_abs, count_by}
 use Rattle.h264_base.specs.Grammar.{Grammar, Done, ◌>>=◌}
 use Rattle.h264_bits.specs.Forms.{repeated}

@@ -1,4 +1,4 @@
--- The levels that are no trailing ones (9.2.2, 9.2.2.1).
+-- The levels that are no trailing ones (9.2.2, 9.2.2.1). To be read beside the standard.
 use Rattle.std.specs.Prelude.{ℕ, zero, suc, ◌+◌, ◌-◌, ◌*◌, ◌/◌, ◌%◌, ◌^◌, max, Bool, ◌==◌, ◌&&◌, nat_lt, if◌then◌else◌, List, [], ◌∷◌, ◌++◌, length, ℤ, pos, neg_ℤ, unsigned_abs}
 use Rattle.h264_base.specs.declared.element_name.ElementName.TheVariants.{LevelPrefix, LevelSuffix}
 use Rattle.h264_base.specs.Word.{Fixed, Words}
@@ -12,7 +12,7 @@ use Rattle.h264_cavlc.specs.declared.token.Token.{Token}
 unfoldable pub first_suffix_length : Token → ℕ
 first_suffix_length token = if nat_lt 10 token.total && nat_lt token.ones 3 then 1 else 0
 
--- suffixLength of the level behind one of this suffixLength and value
+-- suffixLength of the level after one of this suffixLength and value
 unfoldable pub next_suffix_length : ℕ → ℤ → ℕ
 next_suffix_length suffix_length level =
     let used = max suffix_length 1 in

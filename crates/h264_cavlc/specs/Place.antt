@@ -1,8 +1,9 @@
--- Where the levels of a block stand (9.2.4). Places count from 0 in the order of the scan; levels count from 0, the first at the highest place.
+-- To be read beside the standard. Where the levels of a block stand (9.2.4). Places count from 0 in the order of the scan; levels count from 0, the
+-- first at the highest place.
 use Rattle.std.specs.Prelude.{ℕ, ◌+◌, ◌-◌, ◌==◌, List, length, map, take, sum_by, slice_index_or, ℤ, pos}
 use Rattle.std.specs.List.{position_or_len, range_with_len}
 
--- The place of level k of so many: below it are the levels behind it, and the zeros that the runs before it leave.
+-- The place of level k of so many: below it are the levels after it, and the zeros that the runs before it leave.
 unfoldable pub place_of : ℕ → ℕ → List ℕ → ℕ → ℕ
 place_of total zeros runs k = total - 1 - k + (zeros - sum_by (λ run. run) (take k runs))
 

@@ -1,4 +1,4 @@
--- coeff_token and the trailing ones (9.2.1, 9.2.2).
+-- coeff_token and the trailing ones (9.2.1, 9.2.2). To be read beside the standard.
 use Rattle.std.specs.Prelude.{ℕ, ℤ, pos, negsuc, ◌/◌, ◌%◌, ◌==◌, nat_le, if◌then◌else◌}
 use Rattle.h264_base.specs.declared.element_name.ElementName.TheVariants.{CoeffToken, TrailingOnesSignFlag}
 use Rattle.h264_base.specs.declared.rule.Rule.TheVariants.{BlockSize}

@@ -1,4 +1,4 @@
--- The zeros below the highest coefficient, and the runs of zeros before each (9.2.3).
+-- The zeros below the highest coefficient, and the runs of zeros before each (9.2.3). To be read beside the standard.
 use Rattle.std.specs.Prelude.{ℕ, zero, suc, ◌+◌, ◌-◌, ◌==◌, min, nat_le, nat_lt, if◌then◌else◌, List, [], ◌∷◌, ◌++◌, slice_get, unwrap_or}
 use Rattle.h264_base.specs.declared.element_name.ElementName.TheVariants.{TotalZeros, RunBefore}
 use Rattle.h264_base.specs.declared.rule.Rule.TheVariants.{BlockSize}

@@ -24,10 +24,10 @@ fn first_suffix_length(token: Token) -> u32
     }
 }
 
-/// The greatest size of a level behind which suffixLength stays as it is, by suffixLength; it is 1 then where it was 0. Behind 6 it stays always.
+/// The greatest size of a level after which suffixLength stays as it is, by suffixLength; it is 1 then where it was 0. A suffixLength of 6 always stays.
 const GREATEST: [u16; 7] = [3, 3, 6, 12, 24, 48, u16::MAX];
 
-/// suffixLength of the level behind this one.
+/// suffixLength of the level after this one.
 #[inline(always)]
 fn next_suffix_length(suffix_length: u32, level: i16) -> u32
     requires { suffix_length ≤ 6 }
@@ -131,7 +131,7 @@ pub(crate) fn read_level<S: Elements>(
     Ok(level_value(code))
 }
 
-/// Whether the first level behind so many trailing ones can't be 1 or -1.
+/// Whether the first level after so many trailing ones can't be 1 or -1.
 #[tactic(auto, unfolding(crate::specs::Level::is_never_one))]
 #[inline(always)]
 fn is_never_one(ones: u8) -> bool
@@ -140,7 +140,7 @@ fn is_never_one(ones: u8) -> bool
     ones < 3
 }
 
-/// Reads the levels behind the trailing ones.
+/// Reads the levels after the trailing ones.
 #[inline(always)]
 pub(crate) fn read_more_levels<S: Elements>(
     bits: &mut Bits,

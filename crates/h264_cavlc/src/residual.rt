@@ -130,7 +130,7 @@ fn read_coefficients<const N: usize, S: Elements>(
     }
 }
 
-/// The same as `block_into`.
+/// Reads a block, as `block_into` does.
 #[inline(always)]
 fn read_block<const N: usize, S: Elements>(
     bits: &mut Bits,
@@ -186,7 +186,7 @@ pub fn block_into<const N: usize, S: Elements>(
     total
 }
 
-/// The same as `block_into`, with the levels in the answer.
+/// Reads a block as `block_into` does, and answers its levels.
 pub fn block<const N: usize, S: Elements>(
     bits: &mut Bits,
     nc: u8,

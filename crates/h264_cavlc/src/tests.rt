@@ -129,7 +129,7 @@ fn block_of_16(alloc: Global, nc: u8, text: &str) -> Result<(Levels<16>, u64), S
     Ok((levels, bits.stream_bit()))
 }
 
-/// The same for a block of 15.
+/// The block of 15 that these bits begin with, and the stream bit after it.
 fn block_of_15(alloc: Global, nc: u8, text: &str) -> Result<(Levels<15>, u64), Stop> {
     let Ok(bytes) = stream(alloc, text) else {
         return Err(Stop::Memory);
@@ -141,7 +141,7 @@ fn block_of_15(alloc: Global, nc: u8, text: &str) -> Result<(Levels<15>, u64), S
     Ok((levels, bits.stream_bit()))
 }
 
-/// The same for a chroma DC block.
+/// The chroma DC block that these bits begin with, and the stream bit after it.
 fn block_of_4(alloc: Global, text: &str) -> Result<(Levels<4>, u64), Stop> {
     let Ok(bytes) = stream(alloc, text) else {
         return Err(Stop::Memory);
@@ -247,7 +247,7 @@ const EMPTY: [Case; 4] = [
     },
 ];
 
-/// One level behind no trailing one, of suffixLength 0: coeff_token 000101, the level, total_zeros 1.
+/// One level after no trailing one, of suffixLength 0: coeff_token 000101, the level, total_zeros 1.
 const OF_SUFFIX_LENGTH_0: [(&str, i16, u64); 7] = [
     ("000101 1 1", 2, 40),
     ("000101 01 1 1", -2, 41),
@@ -318,13 +318,13 @@ const REFUSED: [(u8, &str, u64, Rule); 7] = [
     (0, "001 00 0011 00001 1", 41, Rule::BlockSize),
     // coeff_token: sixteen zeros
     (0, "00000000 00000000 1", 32, Rule::ResidualWord),
-    // the sign behind three coefficients with one 1
+    // the sign after three coefficients with one 1
     (0, "00000110", 40, Rule::ResidualWord),
-    // level_prefix behind two coefficients without a 1
+    // level_prefix after two coefficients without a 1
     (0, "00000111", 40, Rule::ResidualWord),
     // level_suffix of 12 bits, of which two are there
     (0, "000101 0000000000000001 00", 54, Rule::ResidualWord),
-    // total_zeros behind one coefficient
+    // total_zeros after one coefficient
     (8, "000001 1 0", 39, Rule::ResidualWord),
     // run_before of two coefficients with 11 zeros
     (8, "000110 11 000011 00", 46, Rule::ResidualWord),
@@ -403,7 +403,7 @@ fn each_element_is_told(rt: &(impl Abort + AllocGlobal)) -> Result<(), Fail> {
     Ok(())
 }
 
-// The slice data of three pictures of one macroblock, behind their headers.
+// The slice data of three pictures of one macroblock, after their headers.
 
 fn a_prefix_of_16_zeros(rt: &(impl Abort + AllocGlobal)) -> Result<(), Fail> {
     let unit = [0, 0, 1, 0x65, 0x88, 0x84, 0x93, 0x14, 0, 3, 0x80];

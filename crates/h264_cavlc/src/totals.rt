@@ -153,7 +153,7 @@ fn six_bit_word(total: u8, bits: u16) -> (u8, u8)
     (WORD_LENGTHS[entry], WORD_VALUES[entry])
 }
 
-/// The same for any number of coefficients.
+/// The length and the value of that word for any number of coefficients.
 #[inline(always)]
 fn short_word(total: u8, bits: u16) -> (u8, u8)
     requires some { 0 < total }

@@ -238,7 +238,7 @@ after_more k v chroma es a b p q t s e is i j d held edge =
       samples = λ x y i j. more.samples x y i j ∙ sym (step_some k v chroma es a b s e is x y) ∙ ap (λ z. edges_after z v chroma es a b s x y) (sym next);
     }
 
--- an edge that may be filtered, alone and behind others
+-- an edge that may be filtered, alone and after others
 pub or_none : (v chroma : Bool) (a b : ℕ) (p : Samples) → Holds p p (edge_or None v chroma a b (at p))
 unfolding edge_or
 or_none v chroma a b p = holds_self p

@@ -1,4 +1,5 @@
--- The edges of a macroblock of the coded picture: which are filtered, and by what (8.7, 8.7.2.1, 8.7.2.2). Each slice is known by its number.
+-- To be read beside the standard. The edges of a macroblock of the coded picture: which are filtered, and by what (8.7, 8.7.2.1, 8.7.2.2). Each slice is
+-- known by its number.
 use Rattle.std.specs.Prelude.{ℕ, zero, suc, ◌+◌, ◌%◌, Bool, true, false, ◌==◌, if◌then◌else◌, List, [], ◌∷◌, length, Option, Some, None}
 use Rattle.h264_tables.specs.ChromaQp.{chroma_qp_of}
 use Rattle.h264_tables.specs.declared.thresholds.Strength.TheVariants.{One, Two, Three}

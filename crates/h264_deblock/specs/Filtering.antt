@@ -1,6 +1,6 @@
--- The edges of a macroblock of n columns and rows in one plane, one after another (8.7): the vertical ones from left to right and then the
--- horizontal ones from top to bottom, each 4 samples from the one before. A luma macroblock has 16 columns and four edges of each direction,
--- one of a chroma plane 8 columns and two.
+-- To be read beside the standard. The edges of a macroblock of n columns and rows in one plane, one after another (8.7): the vertical ones from left to
+-- right and then the horizontal ones from top to bottom, each 4 samples from the one before. A luma macroblock has 16 columns and four edges of each
+-- direction, one of a chroma plane 8 columns and two.
 use Rattle.std.specs.Prelude.{◌≡◌, ℕ, zero, suc, ◌+◌, ◌*◌, ◌/◌, ◌%◌, ◌<◌, Bool, true, false, IsTrue, List, get_or, Option, Some, None, is_some}
 use Rattle.h264_plane.specs.Samples.{Samples, at, IsSized}
 use Rattle.h264_plane.specs.Frames.{plane_of}

@@ -1,4 +1,4 @@
--- The lines of an edge of chroma: the filter reads two samples on each side of it and changes one (8.7.2).
+-- The lines of an edge of chroma: the filter reads two samples on each side of it and changes one (8.7.2). A working form.
 use Rattle.std.specs.Prelude.{◌≡◌, ℕ, ◌+◌, ◌<◌, Bool, true, slice_index}
 use Rattle.h264_plane.specs.Samples.{Samples, look}
 use Rattle.h264_deblock.specs.Line.{filtered}

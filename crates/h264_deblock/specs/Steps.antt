@@ -1,4 +1,4 @@
--- What the code has of the edges of a macroblock before it knows the plane.
+-- What the code has of the edges of a macroblock before it knows the plane. A working form.
 use Rattle.std.specs.Prelude.{◌≡◌, ℕ, ◌==◌, ◌&&◌, Bool, true, false, if◌then◌else◌, List, [], ◌∷◌, get_or, nat_lt, Option, Some, None, ℤ}
 use Rattle.std.specs.Ordering.{int_eq}
 use Rattle.std.specs.List.{list_all}

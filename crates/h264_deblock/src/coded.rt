@@ -100,7 +100,7 @@ fn border_of(
     }
 }
 
-/// The same in a plane, by the quantisation parameter of the macroblock there.
+/// That edge in a plane, by the quantisation parameter of the macroblock there.
 #[inline]
 fn border_edge(
     border: &Option<Border>,
@@ -209,7 +209,7 @@ fn edges_by(
     }
 }
 
-/// The edges of the macroblock behind those that `near` keeps, at this column and row of macroblocks, by its slice's filter (8.7): bS by intra
+/// The edges of the macroblock after those that `near` keeps, at this column and row of macroblocks, by its slice's filter (8.7): bS by intra
 /// prediction, coefficients, reference pictures and vectors on both sides; no edge at the picture's border, and those to other slices or none as
 /// disable_deblocking_filter_idc says.
 pub fn coded_edges(

@@ -113,7 +113,7 @@ fn chroma_alone(plane: &mut Plane, edges: &ChromaEdges, column: usize, row: usiz
 
 /// Filters the edges of the macroblock at this column and row of macroblocks (8.7), in place: in each plane the vertical ones from left to right,
 /// then the horizontal ones from top to bottom. No edge at the picture's border is filtered. Where the planes hold the macroblocks before it as the
-/// filter left them, and this one as it was constructed, they hold them behind it as the filter leaves the picture once this macroblock is done.
+/// filter left them, and this one as it was constructed, they hold them after it as the filter leaves the picture once this macroblock is done.
 pub fn macroblock(frame: &mut Frame, edges: &Edges, column: usize, row: usize)
     requires y { (16 * column + 16 ≤ frame.old.y.width) × (16 * row + 16 ≤ frame.old.y.height) }
     requires cb { (8 * column + 8 ≤ frame.old.cb.width) × (8 * row + 8 ≤ frame.old.cb.height) }

@@ -185,7 +185,7 @@ fn inner_line(own: &Contexts, alike: bool, vertical: bool, line: usize) -> [Boun
     ]
 }
 
-/// Those of the inner edges of one direction.
+/// The strengths of the inner edges of one direction.
 #[inline(always)]
 fn inner_lines(own: &Contexts, alike: bool, vertical: bool) -> [[BoundaryStrength; 4]; 3]
     requires inter { own.now.intra ≡ false }
@@ -199,7 +199,7 @@ fn inner_lines(own: &Contexts, alike: bool, vertical: bool) -> [[BoundaryStrengt
     ]
 }
 
-/// Those of both directions of a macroblock that is not intra; where one picture and one vector predict all its blocks, coefficients alone tell
+/// The strengths in both directions of a macroblock that is not intra; where one picture and one vector predict all its blocks, coefficients alone tell
 /// them apart.
 #[inline(never)]
 fn by_blocks<const ALIKE: bool>(own: &Contexts) -> InnerStrengths

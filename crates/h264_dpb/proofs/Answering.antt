@@ -35,7 +35,7 @@ module _ {X S : Type 0} (took : S → List Call → Type 0) (failures : S → �
   pub turn-written : (new : List (Entry Placed)) (s s' : S) (result : Result X Stop) (frames : ℕ → Frame) → Steps took failures lent step new s s' result → Each (IsAtPlace frames lent) step.written → Writes took failures (shown_calls frames t.written) s s' result
   turn-written new s s' result frames h each = written-is took failures lent step (of_turn t) f.is new s s' result frames h each
 
-  -- what is kept behind it
+  -- what is kept after it
   pub turn-kept : (new : Output) (s s' : S) (x : X) (old written joins waited : ℕ) → Steps took failures lent step new.buffer.entries s s' (Ok x) → new.buffer.missing ≡ missing → new.buffer.size ≡ size → old ≡ written → length step.written + waiting_in step.entries ≡ waited + joins → new.frames ≡ old + (waited + joins - waiting_in new.buffer.entries) → KeepsBuffer t.buffer (written + length t.written) new
   turn-kept new s s' x old written joins waited h m z o counts frames = record {
     same = record { entries = entries-are took failures lent step (of_turn t) f.is new.buffer.entries s s' x h; missing = f.missing_is ∙ sym m; size = f.size_is ∙ sym z };

@@ -1,4 +1,4 @@
--- How many frames a step writes: as many as wait before it and do not wait behind it.
+-- How many frames a step writes: as many as wait before it and do not wait after it.
 use Rattle.std.proofs.Common.{◌≡◌, ℕ, zero, suc, ◌+◌, Bool, true, false, Option, Some, None, List, [], ◌∷◌, ◌++◌, length, map, cond, refl, ap, sym, ◌∙◌, subst, ℤ, arith}
 use Rattle.std.specs.Prelude.{nat_lt, ◌&&◌, ◌||◌}
 use Rattle.std.specs.List.{filter}
@@ -17,7 +17,7 @@ module _ {N : Type 0} where
   waiting-append [] ys = omega arith
   waiting-append (x ∷ xs) ys = let a = waiting-cons x (xs ++ ys) in let b = waiting-cons x xs in let c = waiting-append xs ys in omega (arith, a, b, c)
 
-  -- so many more frames are written than are counted behind the step
+  -- so many more frames are written than are counted after the step
   abbrev pub Counts : ℕ → Step N → Type 0
   Counts n s = length s.written + waiting_in s.entries ≡ n
 

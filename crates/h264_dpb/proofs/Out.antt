@@ -16,7 +16,7 @@ pub refilled : {X : Type 0} (n : ℕ) (xs ws : List X) → length ws ≡ n → l
 refilled n xs ws l m = ap (λ k. take k (ws ++ drop (length ws) xs)) (sym l) ∙ take-append_seam ws (drop (length ws) xs)
 
 module _ {N : Type 0} where
-  -- one more frame, from behind
+  -- one more frame, at the end
   pub least-more : (es : List (Entry N)) (i : ℕ) (d : Entry N) → 0 < i → i ≤ length es → (let e = get_or es (i - 1) d in least_count (drop (i - 1) es) ≡ (if e.waiting then Some (least_with e.count (least_count (drop i es))) else least_count (drop i es)))
   least-more es i d h k =
       let next : (i - 1) + 1 ≡ i = omega arith in

@@ -1,4 +1,4 @@
--- The buffer, and what is stored in it. What names a picture is left open.
+-- The buffer, and what is stored in it. What names a picture is left open. To be read beside the standard.
 use Rattle.std.specs.Prelude.{◌≡◌, ℕ, ◌+◌, ◌-◌, ◌<◌, ◌≤◌, not, ◌||◌, Bool, true, false, IsTrue, cond, List, [], ◌∷◌, length, Option, Result, Ok, Err}
 use Rattle.h264_base.specs.declared.stop.Stop.{Stop}
 use Rattle.h264_base.specs.declared.stop.Stop.TheVariants.{Write}

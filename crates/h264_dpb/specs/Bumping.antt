@@ -1,4 +1,5 @@
--- The order of output (C.4.4, C.4.5.3), as steps on the list of frames in the buffer, in decoding order. What names a picture is left open.
+-- To be read beside the standard. The order of output (C.4.4, C.4.5.3), as steps on the list of frames in the buffer, in decoding order. What names a
+-- picture is left open.
 use Rattle.std.specs.Prelude.{ℕ, zero, suc, nat_lt, ◌==◌, ◌&&◌, ◌||◌, Bool, true, false, Option, Some, None, List, [], ◌∷◌, ◌++◌, map, length, ℤ, int_lt, if◌then◌else◌}
 use Rattle.std.specs.List.{filter, list_any, count_by}
 use Rattle.std.specs.Int.{int_min}

@@ -1,4 +1,4 @@
--- What the buffer is told of a picture, by the header of its first slice (7.4.3.3, 8.2.1).
+-- What the buffer is told of a picture, by the header of its first slice (7.4.3.3, 8.2.1). To be read beside the standard.
 use Rattle.std.specs.Prelude.{ℕ, ℤ, pos, Bool, false, Option, Some, None, if◌then◌else◌}
 use Rattle.h264_bits.specs.declared.element.Found.{Found}
 use Rattle.h264_sps.specs.declared.sps.Sps.{Sps}

@@ -1,4 +1,4 @@
--- What is kept of the buffer of a stream: a frame is named by its place, and a store lends it.
+-- What is kept of the buffer of a stream: a frame is named by its place, and a store lends it. A working form.
 use Rattle.std.specs.Prelude.{◌≡◌, ℕ, ◌+◌, ◌≤◌, Bool, true, false, IsTrue, Option, Some, List, [], ◌∷◌, map, length}
 use Rattle.std.specs.List.{count_by}
 use Rattle.h264_base.specs.Call.{Call}

@@ -1,4 +1,4 @@
--- Numbers and places of the frames in the buffer.
+-- Numbers and places of the frames in the buffer. A working form.
 use Rattle.std.specs.Prelude.{ℕ, ◌+◌, ◌≤◌, ◌==◌, Bool, Option, Some, None, List, [], ◌∷◌, if◌then◌else◌}
 use Rattle.std.specs.List.{list_any}
 use Rattle.h264_dpb.specs.declared.entry.Entry.{Entry}

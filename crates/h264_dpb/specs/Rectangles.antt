@@ -1,4 +1,4 @@
--- What is shown of a frame: the cropping rectangle (7.4.2.1.1).
+-- What is shown of a frame: the cropping rectangle (7.4.2.1.1). To be read beside the standard.
 use Rattle.std.specs.Prelude.{ℕ, ◌+◌, ◌*◌, ◌&&◌, nat_lt, Bool, Option, Some, None, if◌then◌else◌}
 use Rattle.h264_sps.specs.declared.sps.Sps.{Sps}
 use Rattle.h264_sps.specs.declared.sps.FrameSize.{FrameSize}

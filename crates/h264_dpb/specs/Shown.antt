@@ -1,4 +1,4 @@
--- The frames that are lent by place, and what is shown of them: the cropping rectangle (7.4.2.1.1).
+-- The frames that are lent by place, and what is shown of them: the cropping rectangle (7.4.2.1.1). A working form.
 use Rattle.std.specs.Prelude.{ℕ, ◌+◌, ◌-◌, ◌*◌, ◌/◌, ◌==◌, ◌&&◌, nat_le, nat_lt, Bool, false, ℤ, Option, Some, None, unwrap_or, List, length, if◌then◌else◌}
 use Rattle.h264_base.specs.Call.{Call, OfFrame}
 use Rattle.h264_plane.specs.Frames.{frame_at, no_frame}

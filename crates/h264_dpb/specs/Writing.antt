@@ -1,4 +1,4 @@
--- What a sink is told of frames.
+-- What a sink is told of frames. A working form.
 use Rattle.std.specs.Prelude.{◌≡◌, ℕ, ◌+◌, Option, List, map, Result, Ok, Err}
 use Rattle.h264_base.specs.declared.stop.Stop.{Stop}
 use Rattle.h264_base.specs.declared.stop.Stop.TheVariants.{Write}

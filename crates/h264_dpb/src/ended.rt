@@ -24,7 +24,7 @@ pub struct Ended {
     pub reference: bool,
     /// Its number in decoding order.
     pub picture: u64,
-    /// PicOrderCnt of its frame; 0 behind operation 5.
+    /// PicOrderCnt of its frame; 0 after operation 5.
     pub count: i32,
     /// What is shown of its frame.
     pub rectangle: Rectangle,

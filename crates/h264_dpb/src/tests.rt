@@ -8,7 +8,7 @@ use h264_plane::{Frame, Pool};
 use std::alloc::AllocError;
 use std::process::Abort;
 
-/// Keeps the counts of the frames that it takes, in order, and refuses the frames behind so many.
+/// Keeps the counts of the frames that it takes, in order, and refuses the frames after so many.
 #[derive(Drop)]
 struct Counts {
     told: [i32; 8],
@@ -168,7 +168,7 @@ fn order_of_output(rt: HostRuntime) -> Result<(), AllocError> {
     Ok(())
 }
 
-/// The frame of a missing frame_num in a buffer of one place, and a picture behind it.
+/// The frame of a missing frame_num in a buffer of one place, and a picture after it.
 fn gap(rt: &impl Abort, pool: &Pool, sink: &mut Counts) -> Result<(), Stop> {
     let mut buffer = Buffer::new();
     assert!(rt; sink.failures < 100);
@@ -211,7 +211,7 @@ fn part(rt: &impl Abort, pool: &Pool, sink: &mut Counts) -> Result<(), Stop> {
     buffer.flush(pool, true, 1, sink)
 }
 
-// A frame that does not exist takes the only place and is never written, so the picture behind it is written at once. Of the picture with a rectangle
+// A frame that does not exist takes the only place and is never written, so the picture after it is written at once. Of the picture with a rectangle
 // the first sample that is shown is the one at column 3 of row 2 of chroma.
 #[test]
 fn gaps_and_rectangles(rt: HostRuntime) -> Result<(), AllocError> {

@@ -76,7 +76,7 @@ module _ {A S : Type 0} {took : S → List Call → Type 0} {failures : S → �
       let P : ℕ → Type 0 = λ k. Leads took failures g (listed entry k before) old now s s' in
       finish (subst P k l) (done took failures R before now s' y r)
 
--- what may stand behind others and does not end them has room
+-- what may stand after others and does not end them has room
 pub command-room : (active before idc : ℕ) → idc ≢ 3 → IsTrue (is_command_allowed active before idc) → before < active
 command-room active before idc h t = grind (arith, nat_tests)
 

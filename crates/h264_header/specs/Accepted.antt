@@ -1,4 +1,4 @@
--- Parameter sets that some unit gives (7.3.2.1.1, 7.3.2.2).
+-- Parameter sets that some unit gives (7.3.2.1.1, 7.3.2.2). To be read beside the standard.
 use Rattle.std.specs.Prelude.{ℕ, List}
 use Rattle.h264_base.specs.declared.mode.Target.{Target}
 use Rattle.h264_base.specs.Body.{Body}

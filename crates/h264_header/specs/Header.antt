@@ -1,4 +1,4 @@
--- slice_header() (7.3.3), with the rules on its values (7.4.3, A.2.1).
+-- slice_header() (7.3.3), with the rules on its values (7.4.3, A.2.1). To be read beside the standard.
 use Rattle.std.specs.Prelude.{ℕ, zero, suc, ◌%◌, ◌==◌, ◌||◌, nat_le, nat_lt, negsuc, pos, Bool, true, false, Option, None, unwrap_or, if◌then◌else◌}
 use Rattle.std.specs.Option.{is_some, option_map}
 use Rattle.h264_base.specs.declared.element_name.ElementName.TheVariants as name

@@ -1,4 +1,4 @@
--- The parameter sets of a slice, and what they say of the elements of its header (7.3.3, 7.4.1.2.1).
+-- The parameter sets of a slice, and what they say of the elements of its header (7.3.3, 7.4.1.2.1). To be read beside the standard.
 use Rattle.std.specs.Prelude.{ℕ, ◌≤◌, nat_le, ◌&&◌, Bool, true, false, Option, Some, None, if◌then◌else◌}
 use Rattle.std.specs.Option.{option_and_then}
 use Rattle.h264_sps.specs.declared.sps.Sps.{Sps}

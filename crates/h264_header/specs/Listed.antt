@@ -1,4 +1,4 @@
--- Syntax structures that the elements of many parts of a header share.
+-- Syntax structures that the elements of many parts of a header share. A working form.
 use Rattle.std.specs.Prelude.{ℕ, zero, suc, ℤ, pos, Bool, true, false, Option, Some, None, List, [], ◌∷◌, ◌++◌}
 use Rattle.h264_base.specs.Grammar.{Grammar, Found as Seen, Done, ◌>>=◌}
 use Rattle.h264_bits.specs.Forms.{natural}
@@ -21,7 +21,7 @@ abbrev pub goes_on : {A : Type 0} → (List A → Grammar (List A)) → List A �
 goes_on rest before None = Done before
 goes_on rest before (Some x) = rest (before ++ x ∷ [])
 
--- The entries of a list behind these, up to one that ends it; at most so many are read, that one among them.
+-- The entries of a list after these, up to one that ends it; at most so many are read, that one among them.
 unfoldable pub listed : {A : Type 0} → (List A → Grammar (Option A)) → ℕ → List A → Grammar (List A)
 listed entry zero before = Done before
 listed entry (suc n) before = entry before >>= goes_on (listed entry n) before

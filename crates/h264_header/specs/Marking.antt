@@ -1,4 +1,4 @@
--- dec_ref_pic_marking() (7.3.3.3), with the rules on its values (7.4.3.3).
+-- dec_ref_pic_marking() (7.3.3.3), with the rules on its values (7.4.3.3). To be read beside the standard.
 use Rattle.std.specs.Prelude.{ℕ, zero, suc, ◌==◌, ◌&&◌, ◌||◌, nat_le, nat_lt, not, Bool, true, false, Option, Some, None, List, [], length}
 use Rattle.std.specs.List.{list_any}
 use Rattle.h264_base.specs.declared.element_name.ElementName.TheVariants.{NoOutputOfPriorPicsFlag, LongTermReferenceFlag, AdaptiveRefPicMarkingModeFlag, MemoryManagementControlOperation, DifferenceOfPicNumsMinus1, LongTermPicNum, LongTermFrameIdx, MaxLongTermFrameIdxPlus1}
@@ -57,7 +57,7 @@ abbrev pub placed_operation : ℕ → Option Operation → Option MarkingOperati
 placed_operation bit None = None
 placed_operation bit (Some o) = Some (record { bit = bit; operation = o })
 
--- one more operation behind these, or the end
+-- one more operation after these, or the end
 unfoldable pub operation : List MarkingOperation → Grammar (Option MarkingOperation)
 operation before = do
   e ← element MemoryManagementControlOperation Unsigned

@@ -1,5 +1,5 @@
 -- A working form, for the functions that read a slice header part by part: the operands of marking operations by their names, and the rest of a header,
--- from an element on, behind what it has so far.
+-- from an element on, after what it has so far.
 use Rattle.std.specs.Prelude.{ℕ, nat_lt, ◌==◌, if◌then◌else◌}
 use Rattle.h264_base.specs.declared.element_name.ElementName.{ElementName}
 use Rattle.h264_base.specs.declared.element_name.ElementName.TheVariants as name

@@ -1,4 +1,4 @@
--- Where a picture begins (7.4.1.2.4).
+-- Where a picture begins (7.4.1.2.4). To be read beside the standard.
 use Rattle.std.specs.Prelude.{ℕ, ◌==◌, ◌||◌, ◌&&◌, not, Bool, true, false, Option, Some, None}
 use Rattle.std.specs.Option.{is_some}
 use Rattle.h264_bits.specs.declared.element.Found.{Found}

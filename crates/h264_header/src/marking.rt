@@ -92,7 +92,7 @@ fn has_number(before: &[MarkingOperation], number: u32) -> bool
     before.iter().any(|m| number_of(m.operation) == number)
 }
 
-/// Whether an operation of this number may stand behind these.
+/// Whether an operation of this number may stand after these.
 fn is_operation_allowed(before: &[MarkingOperation], number: u32) -> bool
     ensures { result ≡ is_operation_allowed before.now number }
 {

@@ -65,7 +65,7 @@ fn read_command<S: Elements>(
     }
 }
 
-/// Whether this command may stand behind so many others.
+/// Whether this command may stand after so many others.
 fn is_command_allowed(active: u32, before: usize, idc: u32) -> bool
     ensures { result ≡ is_command_allowed active before idc }
 {

@@ -224,7 +224,7 @@ fn refusals_are(alloc: Global, sets: &Sets, idr: bool, cases: &[Case]) -> Result
     Ok(true)
 }
 
-/// The same of P slices with no order counts, where the picture parameter set says this of the list's length and of the filter.
+/// Whether headers of P slices with no order counts are refused so, where the picture parameter set says this of the list's length and of the filter.
 fn p_refusals_are(
     alloc: Global,
     default_active_minus1: u32,
@@ -466,7 +466,7 @@ fn idr_slice(rt: &(impl Abort + AllocGlobal)) -> Result<(), Fail> {
     Ok(())
 }
 
-/// The same slice from frame_num on.
+/// That slice from frame_num on.
 fn rest_of_idr_slice(rt: &(impl Abort + AllocGlobal)) -> Result<(), Fail> {
     let header = header_after(rt.alloc(), SPS, PPS, IDR, true, 3)?;
     assert!(rt; header.frame_num == Found { bit: 41, value: 0 });
@@ -564,7 +564,7 @@ fn p_slice_of_frame_1(rt: &(impl Abort + AllocGlobal)) -> Result<(), Fail> {
     Ok(())
 }
 
-/// The same with frame_num 2 or 0; then 1 00110 1 0001 1 010 0 0 1.
+/// P slices with frame_num 2 or 0; then 1 00110 1 0001 1 010 0 0 1.
 fn other_p_slices(rt: &(impl Abort + AllocGlobal)) -> Result<(), Fail> {
     let alloc = rt.alloc();
     let gap = p_slice(alloc, &[0, 0, 1, 0x61, 0x9A, 0x42, 0xA0])?;
@@ -722,7 +722,7 @@ fn lsb_slices(rt: &(impl Abort + AllocGlobal)) -> Result<(), Fail> {
     Ok(())
 }
 
-/// The second begins a picture behind the first, and none behind itself.
+/// The second begins a picture after the first, and none after itself.
 fn lsb_pictures(rt: &(impl Abort + AllocGlobal)) -> Result<(), Fail> {
     let first = picture_elements(&first_lsb_slice(rt.alloc())?);
     let later = picture_elements(&later_lsb_slice(rt.alloc())?);

@@ -47,7 +47,7 @@ fn pair(p: &Lines<'_>, x: usize, y: usize, r: usize) -> Pair
     }
 }
 
-/// The same for a block of `W` columns.
+/// These samples for a block of `W` columns.
 #[inline(always)]
 fn pairs<const W: usize>(p: &Lines<'_>, x: usize, y: usize, r: usize) -> Pairs
     requires small { (x ≤ 16376) × (y ≤ 16400) × (r ≤ 1) }

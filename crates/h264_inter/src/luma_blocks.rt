@@ -88,7 +88,7 @@ fn partner<const X: usize>() -> usize
     if X == 3 { 3 } else { 2 }
 }
 
-/// Eight samples between two rows of a window. Of the sums of each two rows the six taps are 1, -6, 26, -6 and 1. 26 is 32 less 6, and a 32nd of 32
+/// Eight samples between two rows of a window. Over the sums of each two rows the six taps are 1, -6, 26, -6 and 1. 26 is 32 less 6, and a 32nd of 32
 /// sums is the sum itself.
 #[inline(always)]
 fn h8(w: Window) -> u16x8
@@ -455,7 +455,7 @@ fn middle_block<const W: usize, const H: usize, const X: usize, const Y: usize>(
     }
 }
 
-/// The same two rows at a time, so that few of a window's rows have to be moved: blocks of more than eight columns are made faster so.
+/// Such a block, two rows at a time. Few of a window's rows have to be moved then, and blocks of more than eight columns are made faster.
 #[inline(never)]
 fn middle_block_in_pairs<const W: usize, const H: usize, const X: usize, const Y: usize>(
     p: Lines<'_>,

@@ -25,7 +25,7 @@ pub struct Pair {
     pub b: u16x8,
 }
 
-/// Those of a block's first eight columns and of those beyond. A block of up to eight columns uses the left one alone.
+/// The pairs of a block's first eight columns, and of its other columns. A block of up to eight columns uses the left one alone.
 #[derive(Clone, Copy)]
 pub struct Pairs {
     pub left: Pair,

@@ -1,4 +1,4 @@
--- Prediction of the 8x8 samples of a chroma plane of a macroblock (8.3.4).
+-- Prediction of the 8x8 samples of a chroma plane of a macroblock (8.3.4). To be read beside the standard.
 use Rattle.std.specs.Prelude.{ℕ, ◌+◌, ◌*◌, ◌/◌, Bool, true, ◌==◌, ◌&&◌, if◌then◌else◌, List, slice_index, is_some, ℤ, pos}
 use Rattle.h264_intra.specs.Filters.{total, mean}
 use Rattle.h264_intra.specs.Sides.{Sides, beside}

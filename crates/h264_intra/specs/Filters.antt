@@ -1,5 +1,5 @@
--- What the intra modes share (8.3). The samples round a block are p: p 0 0 is the standard's p[-1, -1], the sample above and to the
--- left of the block; p (x + 1) 0 is p[x, -1] and p 0 (y + 1) is p[-1, y].
+-- To be read beside the standard. What the intra modes share (8.3). The samples round a block are p: p 0 0 is the standard's p[-1, -1], the sample above
+-- and to the left of the block; p (x + 1) 0 is p[x, -1] and p 0 (y + 1) is p[-1, y].
 use Rattle.std.specs.Prelude.{◌≡◌, ◌<◌, List, slice_index, ℕ, zero, suc, ◌+◌, ◌*◌, ◌/◌, Bool, ◌&&◌, if◌then◌else◌}
 
 -- the weighted means of three and of two neighbours

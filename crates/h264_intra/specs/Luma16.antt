@@ -1,4 +1,4 @@
--- Prediction of the 16x16 luma samples of a macroblock (8.3.3).
+-- Prediction of the 16x16 luma samples of a macroblock (8.3.3). To be read beside the standard.
 use Rattle.std.specs.Prelude.{ℕ, ◌+◌, Bool, true, ◌==◌, ◌&&◌, if◌then◌else◌, List, slice_index, is_some, ℤ, pos}
 use Rattle.h264_intra.specs.Filters.{total, mean}
 use Rattle.h264_intra.specs.Sides.{Sides, beside}

@@ -1,4 +1,4 @@
--- Prediction of a 4x4 luma block (8.3.1.2).
+-- Prediction of a 4x4 luma block (8.3.1.2). To be read beside the standard.
 use Rattle.std.specs.Prelude.{◌<◌, ◌≡◌, ℕ, ◌+◌, ◌-◌, ◌*◌, ◌/◌, ◌%◌, ◌≤◌, Bool, true, ◌==◌, ◌&&◌, if◌then◌else◌, nat_lt, List, [], slice_index, unwrap_or, is_some, IsTrue}
 pub use Rattle.h264_intra.specs.declared.sides.Sides4.{Sides4}
 use Rattle.h264_intra.specs.Filters.{f3, f2, total, mean}

@@ -1,4 +1,4 @@
--- Plane prediction (8.3.3.4, 8.3.4.4), of a block of twice `half` rows and columns.
+-- Plane prediction (8.3.3.4, 8.3.4.4), of a block of twice `half` rows and columns. To be read beside the standard.
 use Rattle.std.specs.Prelude.{ℕ, zero, suc, ◌+◌, ◌-◌, ◌*◌, ℤ, pos, ◌+ℤ◌, ◌-ℤ◌, ◌*ℤ◌}
 use Rattle.std.specs.Int.{int_shr}
 use Rattle.h264_plane.specs.Clip.{clip1}

@@ -57,7 +57,7 @@ bind-assoc {A} {B} {C} o f g = by o.answer
     by (Ok x) = bind-calls o.calls (f x) g
     by (Err e) = refl
 
--- the same behind each value
+-- the same after each value
 pub bind-same : {A B : Type 0} (o : Outcome A) (f g : A → Outcome B) → ((x : A) → f x ≡ g x) → (o >>= f) ≡ (o >>= g)
 unfolding ◌>>=◌
 bind-same {A} {B} o f g h = by o.answer
@@ -80,7 +80,7 @@ module _ {A B : Type 0} (body : Body) (f : A → B) where
   pub structure-seen : (g : Grammar A) (i : ℕ) → structure_from (◌bind◌ g (λ x. Done (f x))) body i ≡ outcome (structure_from g body i).calls (seen f (structure_from g body i).answer)
   structure-seen g i = ap (λ (r : Run B). outcome (map (said_of body) r.elements) r.answer) (run-bind g (λ x. Done (f x)) body i) ∙ as-seen (run g body i).elements (run g body i).answer
 
--- what was read is judged, and nothing is read behind it
+-- what was read is judged, and nothing is read after it
 module _ {A : Type 0} (mode : Mode) (before : History) (unit : NalUnit) (f : A → Content) (none : (x : A) (bit : ℕ) → course_outcome (body_of unit) (data_course mode before unit (f x) bit) ≡ gives (f x)) where
   abbrev one_more : Content → History
   one_more found = record { unit = unit; content = found } ∷ before
@@ -243,7 +243,7 @@ module _ {S : Type 0} (took : S → List Told → Type 0) (failures : S → ℕ)
     end-steps : (r : Result (Unit {0}) Stop) → Plays took failures (λ u. u) (steps_outcome behind_last) s1 s2 r → Plays took failures (λ u. u) (steps_outcome (end_steps mode before bit)) s s2 r
     end-steps r p = plays-as took failures (λ u. u) _ _ s s2 r end-is (plays-on took failures (λ u. u) (λ u. u) (steps_outcome (close_steps mode true before)) (λ _. steps_outcome behind_last) s s1 s2 z r ended p)
 
-    -- it stops behind that
+    -- it stops after that
     pub end-broken : (e : Stop) → Plays {X = Unit {0}} took failures (λ u. u) (steps_outcome behind_last) s1 s2 (Err e) → Plays {X = Summary} took failures (λ u. u) (end_outcome mode before bit) s s2 (Err e)
     unfolding end_outcome
     end-broken e p = plays-stops {X = Unit {0}} took failures (λ u. u) (λ u. u) (steps_outcome (end_steps mode before bit)) _ s s2 e (end-steps (Err e) p)

@@ -1,4 +1,4 @@
--- What a unit tells is of the pictures that have ended behind it, and no fewer have ended behind a unit than before it.
+-- What a unit tells is of the pictures that have ended after it, and no fewer have ended after a unit than before it.
 use Rattle.std.proofs.Common.{◌≡◌, ℕ, ◌+◌, ◌<◌, ◌≤◌, ◌*◌, nat_le, ℤ, Bool, true, false, not, ◌&&◌, ◌||◌, ◌==◌, List, [], ◌∷◌, ◌++◌, map, length, Option, Some, None, Result, Ok, Err, refl, ap, sym, subst, arith, if◌then◌else◌}
 use Rattle.std.specs.Option.{is_some, option_map}
 use Rattle.std.proofs.lemmas.Bool.Decides.{nat_tests}
@@ -417,7 +417,7 @@ pub elements-of : (n : ℕ) (body : Body) (es : List Element) → AreOf n (map (
 elements-of n body [] = tt
 elements-of n body (e ∷ es) = (tt, elements-of n body es)
 
--- what stands behind the content in a unit
+-- what stands after the content in a unit
 record DataEnds (c found : Content) (told : List Told) : Type 0 where
   same : IsWith c found
   any : (n : ℕ) → AreOf n told
@@ -578,7 +578,7 @@ module _ (terms : Terms) (before : History) (unit : NalUnit) where
       steps-both n (whole_at terms.mode kind before) _ (steps-if n (ends_picture kind) (whole_steps terms.mode before) [] (whole-of n terms.mode before) tt)
       (steps-both n (needs (closing_at kind before)) (frames_at terms.mode kind before) (needs-of n (closing_at kind before)) (closing-if n terms.mode before (ends_picture kind) l))
 
-  -- the same once what stands behind the content is read
+  -- the same once what stands after the content is read
   record ContentEnds (found : Content) (calls : List Told) : Type 0 where
     grows : ended_in before ≤ ended_in (one_more found)
     ends : Begins (ended_in (one_more found)) (ends_picture kind) (runs_of before)

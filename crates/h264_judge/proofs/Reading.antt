@@ -43,7 +43,7 @@ use Rattle.h264_slices.proofs.Playing.{plays-on, plays-stops, plays-gives}
 use Rattle.h264_slices.proofs.Stepping.{outcome}
 use Rattle.h264_judge.proofs.Courses.{seen, structure-seen}
 
--- What meets a grammar from a bit on plays its outcome, with the bit behind it.
+-- What meets a grammar from a bit on plays its outcome, with the bit after it.
 module _ {A S X : Type 0} (frames : ℕ → Frame) (took : S → List Call → Type 0) (failures : S → ℕ) (view : X → A) (g : Grammar A) (body : Body) (i j : ℕ) (s s' : S) where
   from-meets : (r : Result X Stop) → MeetsBy took failures (Is view) g body i j s s' r → AnswersBy took failures (Is view) g body i j s s' r → PlaysBy (took_with frames took) failures (λ (x : X). (view x, j)) (structure_from g body i) s s' r
   from-meets (Ok x) m a = (m.2 ∙ ap (λ (v : A). let r : Result (A × ℕ) Stop = Ok (v, j) in r) m.1, elements-tell frames took s s' body (run g body i).elements m.3, m.4)

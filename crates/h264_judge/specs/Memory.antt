@@ -1,4 +1,4 @@
--- Where judging a unit may want memory: for the bytes of one that is read, and for a picture of another format than the one before it.
+-- A working form. Where judging a unit may want memory: for the bytes of one that is read, and for a picture of another format than the one before it.
 use Rattle.std.specs.Prelude.{◌≡◌, ◌≢◌, ℕ, ◌==◌, ◌&&◌, ◌||◌, Bool, true, false, Option, Some, None, List, [], ◌∷◌, if◌then◌else◌}
 use Rattle.h264_base.specs.declared.mode.Mode.{Mode}
 use Rattle.h264_base.specs.declared.mode.Mode.TheVariants as modes

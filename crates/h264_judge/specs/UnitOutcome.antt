@@ -1,4 +1,4 @@
--- What comes of one unit behind those before it, and of the end of the input. A working form of `Units`, which the code is proved against.
+-- What comes of one unit after those before it, and of the end of the input. A working form of `Units`, which the code is proved against.
 use Rattle.std.specs.Prelude.{ℕ, ◌*◌, [], ◌∷◌, ◌++◌, length, ◌==◌, if◌then◌else◌}
 use Rattle.h264_base.specs.declared.mode.Mode.{Mode}
 use Rattle.h264_base.specs.declared.mode.Target.{Target}
@@ -49,7 +49,7 @@ joined mode before unit content = do
   _ ← steps_outcome (content_steps mode before unit found)
   gives (record { unit = unit; content = found } ∷ before)
 
--- what is in a unit is judged with what stands behind it, and belongs to the history then
+-- what is in a unit is judged with what stands after it, and belongs to the history then
 abbrev pub joined_on : Mode → History → NalUnit → Outcome (Content × ℕ) → Outcome History
 joined_on mode before unit content = do
   x ← content

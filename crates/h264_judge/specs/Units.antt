@@ -1,4 +1,4 @@
--- The course of a unit behind those before it, and the rules of the end of the input (7.3.1, 7.4). To be read beside the standard.
+-- The course of a unit after those before it, and the rules of the end of the input (7.3.1, 7.4). To be read beside the standard.
 use Rattle.std.specs.Prelude.{ℕ, ◌*◌, Bool, true, false, List, [], ◌∷◌, ◌++◌, length, ◌==◌, ◌||◌, if◌then◌else◌}
 use Rattle.h264_base.specs.declared.mode.Mode.{Mode}
 use Rattle.h264_base.specs.declared.mode.Mode.TheVariants as modes
@@ -59,7 +59,7 @@ other_content modes.Full kind before unit = header_or_passed kind before unit
 abbrev pub terms_of : Mode → Target → Terms
 terms_of mode target = record { mode = mode; target = target }
 
--- The syntax structure in a unit of this type, behind these units; of a slice its header (7.3.1, table 7-1).
+-- The syntax structure in a unit of this type, after these units; of a slice its header (7.3.1, table 7-1).
 unfoldable pub content : Terms → ℕ → History → NalUnit → Grammar Content
 content terms kind before unit =
     if kind == 7 then sps terms.target >>= (λ set. Done (contents.OfSps set))
@@ -73,7 +73,7 @@ content_steps mode before unit (contents.OfPps set) = []
 content_steps mode before unit (contents.OfSlice h macroblocks) = slice_steps mode before unit h
 content_steps mode before unit contents.Passed = []
 
--- What stands behind that in the unit: slice data behind the header of a slice, from this bit on, where they are read.
+-- What stands after that in the unit: slice data after the header of a slice, from this bit on, where they are read.
 abbrev pub data_course : Mode → History → NalUnit → Content → ℕ → Course
 data_course mode before unit (contents.OfSps set) bit = Ends (contents.OfSps set)
 data_course mode before unit (contents.OfPps set) bit = Ends (contents.OfPps set)
@@ -86,7 +86,7 @@ data_course mode before unit contents.Passed bit = Ends contents.Passed
 abbrev pub frames_at : Mode → ℕ → History → List Step
 frames_at mode kind before = if ends_picture kind then closing_frames mode before else []
 
--- Behind the unit's first byte: its elements, the rules on what they give, and the elements behind these.
+-- Behind the unit's first byte: its elements, the rules on what they give, and the elements after these.
 abbrev pub content_course : Terms → History → NalUnit → Course
 content_course terms before unit =
     Reads (content terms (nal_unit_type (header_of unit)) before unit) 0 (λ found bit.

@@ -57,7 +57,7 @@ fn begin_if(alloc: Global, begins: bool, sps: &Sps, decoder: &mut Decoder) -> Re
     decoder.begin(alloc, sps)
 }
 
-/// Reads the slice data behind a header whose rules are met (7.3.4), into the frame of its picture. Err: the first rule that is not met,
+/// Reads the slice data after a header whose rules are met (7.3.4), into the frame of its picture. Err: the first rule that is not met,
 /// with its bit, Write where the sink failed, or Memory where a picture begins whose sequence has another format than the decoder, and its
 /// places are refused.
 pub fn read_data<S: Elements>(

@@ -1,4 +1,4 @@
-//! What comes of one unit behind those before it, and of the end of the input.
+//! What comes of one unit after those before it, and of the end of the input.
 //!
 //! `read_bytes` makes the RBSP of a unit that is read. `judge_unit` judges a unit in the stated order of checks: its bytes, its
 //! first byte, the end of the picture before it, and what is in it: a parameter set, or by the mode a slice's header and slice

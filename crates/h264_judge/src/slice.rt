@@ -1,4 +1,4 @@
-//! A slice behind those so far, up to its slice data.
+//! A slice after those so far, up to its slice data.
 #![tactic(auto)]
 
 ghost use Rattle.std.specs.Prelude.{◌≡◌, ℕ, false, ◌+◌, ◌-◌, ◌<◌, ◌≤◌, ◌^◌, true, Some, List, [], ◌∷◌, Ok, OnOk, IsErrOf};
@@ -54,9 +54,9 @@ fn check_first_mb(mode: Mode, begins: bool, work: &Work, header: &Header) -> Res
     }
 }
 
-/// A slice behind those so far, up to its slice data: a picture before it ends where it begins one, its rules are judged in their
-/// order, missing frames are filled in, the sink is told the slice, and it is kept. The header's place is to be read into anew behind
-/// it. Err: the first rule that is not met, with its bit (of the unit, the header's element, or the end of the picture before), or
+/// A slice after those so far, up to its slice data: a picture before it ends where it begins one, its rules are judged in their
+/// order, missing frames are filled in, the sink is told the slice, and it is kept. The next header is to be read into a place of its own.
+/// Err: the first rule that is not met, with its bit (of the unit, the header's element, or the end of the picture before), or
 /// Write where the sink failed; what is kept is then of no use.
 pub fn judge_slice<S: FrameSink>(
     mode: Mode,

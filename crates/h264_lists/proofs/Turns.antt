@@ -46,7 +46,7 @@ remove-at is slots k h =
     let whole = take-append-drop k slots in
     ap (λ (x : List RefSlot). take k slots ++ x) (without-removes is (drop k slots)) ∙ rw (begun, whole) at (remove-behind (take k slots) (drop k slots) (position_or_len is (drop k slots)))
 
--- the frame leaves a place at or behind k
+-- the frame leaves a place at or after k
 pub leaves-its : (is : RefSlot → Bool) (slots : List RefSlot) (k j : ℕ) → k < length slots → position is (drop k slots) ≡ Some j → (k + j < length slots) × (take (length slots - 1) (take k slots ++ without_first is (drop k slots)) ≡ remove slots (k + j))
 leaves-its is slots k j h e =
     let found = position-some is (drop k slots) j e in
@@ -82,7 +82,7 @@ put-in named f slots left new k h e n =
     let put = rw (all, begun) at (insert-take (take k slots) (without_first (is_in named) (drop k slots)) (Held f) (length slots - 1) (omega arith)) in
     n ∙ sym (ap (λ (l : List RefSlot). insert l k (Held f)) e) ∙ sym put
 
--- at or behind the list's length nothing changes
+-- at or after the list's length nothing changes
 pub put-behind : (named : ReferenceFrame → Bool) (f : ReferenceFrame) (slots : List RefSlot) (k : ℕ) → length slots ≤ k → slots ≡ put_at (length slots) k named f slots
 put-behind named f slots k h =
     let all = take_all k slots h in
@@ -90,7 +90,7 @@ put-behind named f slots k h =
     let e = take-append-le (length slots) (take k slots) (Held f ∷ without_first (is_in named) (drop k slots)) (omega arith) in
     sym (e ∙ ap (take (length slots)) all ∙ take_all (length slots) slots (omega arith))
 
--- the list behind one more modification
+-- the list after one more modification
 abbrev pub turned : Numbering → ℕ → List ReferenceFrame → ℕ → ℤ → PicNumModification → List PicNumModification → List RefSlot → Result (List RefSlot) ℕ
 turned current places frames k now m ms slots =
     go_on (find (is_named current now m.modification) frames) m.bit (λ f. modified current places frames (k + 1) now ms (put_at places k (is_named current now m.modification) f slots))

@@ -1,4 +1,4 @@
--- The reference picture list of a P slice (8.2.4).
+-- The reference picture list of a P slice (8.2.4). To be read beside the standard.
 use Rattle.std.specs.Prelude.{ℕ, pos, Result, Ok, Err, List, [], ◌∷◌}
 use Rattle.arrayvec.specs.ArrayVec.{ArrayVec}
 use Rattle.h264_base.specs.declared.rule.Rule.TheVariants.{ListCommand}

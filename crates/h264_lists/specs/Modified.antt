@@ -1,4 +1,4 @@
--- Modification of a reference picture list (8.2.4.3).
+-- Modification of a reference picture list (8.2.4.3). To be read beside the standard.
 use Rattle.std.specs.Prelude.{ℕ, ℤ, pos, neg_ℤ, ◌+◌, ◌*◌, ◌^◌, ◌≤ℤ◌, ◌+ℤ◌, ◌-ℤ◌, int_lt, int_le, Bool, false, Option, Some, None, Result, Ok, Err, List, [], ◌∷◌, ◌++◌, take, drop, if◌then◌else◌}
 use Rattle.std.specs.List.{find}
 use Rattle.h264_header.specs.declared.header.Modification.{Modification}
@@ -21,7 +21,7 @@ raised current pred abs_diff_minus1 =
     let number : ℤ = pred +ℤ pos (abs_diff_minus1 + 1) in
     if int_le (pos current.max_frame_num) number then number -ℤ pos current.max_frame_num else number
 
--- picNumL0NoWrap behind this modification; a long-term one does not change it
+-- picNumL0NoWrap after this modification; a long-term one does not change it
 abbrev pub pred_after : Numbering → ℤ → Modification → ℤ
 pred_after current pred (Subtract abs_diff_minus1) = lowered current pred abs_diff_minus1
 pred_after current pred (Add abs_diff_minus1) = raised current pred abs_diff_minus1

@@ -39,7 +39,7 @@ fn raised(current: &Numbering, pred: i64, abs_diff_pic_num_minus1: u32) -> i64
     number
 }
 
-/// picNumL0NoWrap behind a modification.
+/// picNumL0NoWrap after a modification.
 fn pred_after(current: &Numbering, pred: i64, modification: Modification) -> i64
     requires { IsWithin 16 pred }
     ensures value { result ≡ pred_after current.now pred modification }
@@ -127,7 +127,7 @@ fn occurrence(
         .position(|slot| is_in(current, no_wrap, modification, slot))
 }
 
-/// The place that the named frame leaves as it moves to index k: its first at or behind k, or else the last of the list.
+/// The place that the named frame leaves as it moves to index k: its first at or after k, or else the last of the list.
 fn left_place(
     current: &Numbering,
     no_wrap: i64,

@@ -289,7 +289,7 @@ const IN_TURN: [Row; 6] = [
     ),
     // A frame that the cut list does not hold comes in, and the last place goes.
     (HELD, 2, &[Subtract(4)], Ok(&[Short(14), Short(2)])),
-    // A place without a picture stays behind.
+    // A place without a picture comes last.
     (
         &[Short(1), Short(2), Long(0)],
         5,

@@ -9,7 +9,7 @@ use Rattle.h264_marking.specs.Frames.{References}
 use Rattle.h264_marking.specs.Window.{filled}
 use Rattle.h264_marking.specs.Gaps.{numbers_from, last_or, all_filled}
 
--- the missing numbers behind this one
+-- the missing numbers after this one
 abbrev numbers_behind : ℕ → ℕ → ℕ → List ℕ
 numbers_behind count number max_frame_num = numbers_from count ((number + 1) % max_frame_num) max_frame_num
 

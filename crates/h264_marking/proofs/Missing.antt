@@ -7,7 +7,7 @@ use Rattle.h264_marking.specs.declared.frame.Numbering.{Numbering}
 use Rattle.h264_marking.specs.Gaps.{numbers_from, gap_before, unused_short_term_frame_nums, last_or}
 use Rattle.h264_marking.specs.Unused.{Succeed, Avoid, IsGap}
 
--- the number behind another
+-- the number after another
 module _ (m : ℕ) where
   abbrev Behind : ℕ → Type 0
   Behind q = (((q + 1) % m ≡ q + 1) × (q + 1 < m)) ⊎ (((q + 1) % m ≡ 0) × (q + 1 ≡ m))
@@ -23,7 +23,7 @@ module _ (m : ℕ) where
       le q h = omega (arith, h)
 
   module _ (p f : ℕ) (in-range : p < m) (f-in : f < m) where
-    -- i numbers behind p, with k numbers left before f
+    -- i numbers after p, with k numbers left before f
     pub record Stands (q i k : ℕ) : Type 0 where
       pub within : q < m
       pub few : i + k + 1 < m + 1

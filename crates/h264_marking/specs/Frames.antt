@@ -1,4 +1,4 @@
--- Held reference frames, and their numbers (8.2.4.1).
+-- Held reference frames, and their numbers (8.2.4.1). To be read beside the standard.
 use Rattle.std.specs.Prelude.{ℕ, ℤ, pos, ◌-ℤ◌, nat_lt, ◌==◌, ◌&&◌, not, min, max, Bool, true, false, Option, Some, None, List, if◌then◌else◌}
 use Rattle.std.specs.List.{filter}
 use Rattle.std.specs.Option.{is_some}

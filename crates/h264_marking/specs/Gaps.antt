@@ -1,4 +1,5 @@
--- Gaps in frame_num (7.4.3, 8.2.5.2): the numbers that are missing before a picture, and what is held once each has its frame.
+-- To be read beside the standard. Gaps in frame_num (7.4.3, 8.2.5.2): the numbers that are missing before a picture, and what is held once each has its
+-- frame.
 use Rattle.std.specs.Prelude.{ℕ, zero, suc, ◌+◌, ◌-◌, ◌%◌, ◌&&◌, ◌||◌, ◌==◌, not, Bool, Option, Some, unwrap_or, List, [], ◌∷◌, if◌then◌else◌}
 use Rattle.std.specs.List.{list_any}
 use Rattle.std.specs.Option.{option_and_then}
@@ -15,7 +16,7 @@ numbers_from (suc n) number max_frame_num = number ∷ numbers_from n ((number +
 abbrev pub gap_before : Bool → ℕ → Numbering → ℕ
 gap_before idr prev n = if idr || n.frame_num == prev then 0 else (n.frame_num + n.max_frame_num - (prev + 1)) % n.max_frame_num
 
--- The values of UnusedShortTermFrameNum before a picture: the numbers behind PrevRefFrameNum that are missing (7.4.3).
+-- The values of UnusedShortTermFrameNum before a picture: the numbers after PrevRefFrameNum that are missing (7.4.3).
 abbrev pub unused_short_term_frame_nums : Bool → ℕ → Numbering → List ℕ
 unused_short_term_frame_nums idr prev n = numbers_from (gap_before idr prev n) ((prev + 1) % n.max_frame_num) n.max_frame_num
 

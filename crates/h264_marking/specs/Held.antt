@@ -1,4 +1,4 @@
--- Marking at the end of a reference picture (8.2.5.1).
+-- Marking at the end of a reference picture (8.2.5.1). To be read beside the standard.
 use Rattle.std.specs.Prelude.{ℕ, nat_lt, Bool, true, false, Option, Some, None, Result, Ok, Err, [], ◌∷◌, ◌++◌, length, if◌then◌else◌}
 use Rattle.std.specs.Option.{option_and_then, ok_or}
 use Rattle.h264_base.specs.declared.rule.Rule.TheVariants.{MarkCommand}

@@ -1,4 +1,4 @@
--- Memory management control operations (8.2.5.4).
+-- Memory management control operations (8.2.5.4). To be read beside the standard.
 use Rattle.std.specs.Prelude.{ℕ, ℤ, pos, ◌+◌, ◌-ℤ◌, nat_lt, nat_le, ◌&&◌, not, Bool, true, false, Option, Some, None, Result, Ok, Err, List, [], ◌∷◌, map, if◌then◌else◌}
 use Rattle.std.specs.List.{filter, list_any}
 use Rattle.h264_header.specs.declared.header.Operation.{Operation}

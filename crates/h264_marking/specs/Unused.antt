@@ -3,7 +3,7 @@ use Rattle.std.specs.Prelude.{◌≡◌, ◌≢◌, ℕ, ◌+◌, ◌%◌, List,
 use Rattle.h264_marking.specs.declared.frame.Numbering.{Numbering}
 use Rattle.h264_marking.specs.Gaps.{last_or}
 
--- each of these numbers is the one behind the number before it, modulo MaxFrameNum
+-- each of these numbers is the one after the number before it, modulo MaxFrameNum
 abbrev pub Succeed : ℕ → ℕ → List ℕ → Type 0
 Succeed max_frame_num number [] = Unit {0}
 Succeed max_frame_num number (n ∷ ns) = (n ≡ (number + 1) % max_frame_num) × Succeed max_frame_num n ns
@@ -13,7 +13,7 @@ abbrev pub Avoid : ℕ → ℕ → List ℕ → Type 0
 Avoid a b [] = Unit {0}
 Avoid a b (n ∷ ns) = (n ≢ a) × (n ≢ b) × Avoid a b ns
 
--- From behind PrevRefFrameNum one number follows another up to the one before frame_num, and none is PrevRefFrameNum or frame_num.
+-- After PrevRefFrameNum one number follows another up to the one before frame_num, and none is PrevRefFrameNum or frame_num.
 pub record IsGap (prev_ref_frame_num : ℕ) (n : Numbering) (ns : List ℕ) : Type 0 where
   pub succeed : Succeed n.max_frame_num prev_ref_frame_num ns
   pub ends : n.frame_num ≡ (last_or prev_ref_frame_num ns + 1) % n.max_frame_num

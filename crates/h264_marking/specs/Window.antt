@@ -1,4 +1,4 @@
--- The sliding window (8.2.5.3), and gaps in frame_num (8.2.5.2).
+-- The sliding window (8.2.5.3), and gaps in frame_num (8.2.5.2). To be read beside the standard.
 use Rattle.std.specs.Prelude.{ℕ, ℤ, nat_lt, Option, Some, None, List, [], ◌∷◌, ◌++◌, length, if◌then◌else◌}
 use Rattle.std.specs.List.{list_any}
 use Rattle.std.specs.Option.{option_map, option_and_then}

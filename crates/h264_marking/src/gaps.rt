@@ -26,7 +26,7 @@ pub fn gap_before(idr: bool, prev: u32, numbering: &Numbering) -> u32
     ((numbering.frame_num as u64 + max).saturating_sub(behind) % max) as u32
 }
 
-/// The number behind this one.
+/// The number after this one.
 fn successor(number: u32, max_frame_num: u32) -> u32
     requires { (0 < max_frame_num) × (max_frame_num ≤ 65536) }
     ensures { result ≡ (number + 1) % max_frame_num }
@@ -34,7 +34,7 @@ fn successor(number: u32, max_frame_num: u32) -> u32
     ((number as u64 + 1) % max_frame_num as u64) as u32
 }
 
-/// Fills so many numbers behind `prev`, one after another (8.2.5.2), and gives the last of them, or `prev` where there is none.
+/// Fills so many numbers after `prev`, one after another (8.2.5.2), and gives the last of them, or `prev` where there is none.
 /// FrameNum at this stream bit where one of them cannot be filled; then the first ones are.
 pub fn fill_gaps(
     prev: u32,

@@ -25,7 +25,7 @@ pub(crate) fn has_place(current: &Numbering, places: &Places) -> bool
     places.len() < frame_places(current.max_num_ref_frames) as usize
 }
 
-/// The same frames in places of their own.
+/// A copy of these frames.
 pub(crate) fn copied(places: &Places) -> Places
     ensures { result.items ≡ places.now.items }
 {

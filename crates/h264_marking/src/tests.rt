@@ -27,7 +27,7 @@ enum Frame {
     Missing(u32),
     /// A short-term frame that has FrameNum 0 since operation 5.
     Reset(u32),
-    /// The same, with LongTermFrameIdx.
+    /// Such a frame with LongTermFrameIdx.
     ResetLong(u32, u32),
 }
 

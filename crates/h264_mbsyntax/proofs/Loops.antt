@@ -66,7 +66,7 @@ module _ {S : Type 0} {took : S → List Call → Type 0} {failures : S → ℕ}
       let P : ℕ → Type 0 = λ k. Leads took failures g (blocks_by part k blocks) old now s s' in
       finish (subst P e l) (done took failures R blocks now s' y r)
 
-  -- the block that was read is the one behind those before
+  -- the block that was read is the one after those before
   pub luma-met : {X : Type 0} {view : X → Block} {now mid : Reader} {s s' : S} {r : Result X Stop} (width : ℕ) (picture : List CodedMacroblock) (slice size pattern b nc : ℕ) (coded : Bool) (totals : List ℕ) (blocks : List Block) → length blocks ≡ b → totals_of blocks ≡ totals → coded ≡ is_coded pattern b → nc ≡ luma_nc width picture slice totals → Meets took failures (Is view) (block_if coded size nc) now mid s s' r → Meets took failures (Is view) (luma_block width picture slice size pattern blocks) now mid s s' r
   unfolding luma_block
   luma-met width picture slice size pattern b nc coded totals blocks n t p q m = rw (n, t, sym p, sym q) m

@@ -1,4 +1,4 @@
--- What stands in the code's macroblock once its residual is read.
+-- What stands in the code's macroblock once its residual is read. A working form.
 use Rattle.std.specs.Prelude.{◌≡◌, ℕ, length, List}
 use Rattle.h264_base.specs.declared.element_name.ElementName.TheVariants.{CodedBlockPattern}
 use Rattle.h264_base.specs.Word.{Words}

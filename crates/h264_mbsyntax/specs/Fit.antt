@@ -1,4 +1,4 @@
--- The range of the vectors of a macroblock as one test over its sixteen blocks (A.3.1).
+-- The range of the vectors of a macroblock as one test over its sixteen blocks (A.3.1). A working form.
 use Rattle.std.specs.Prelude.{ℕ, Bool, true, List, Option, Some, None, get_or}
 use Rattle.std.specs.List.{list_all, range_with_len}
 use Rattle.h264_near.specs.declared.motion.Motion.{Motion}

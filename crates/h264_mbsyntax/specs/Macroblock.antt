@@ -1,4 +1,4 @@
--- macroblock_layer() (7.3.5).
+-- macroblock_layer() (7.3.5). To be read beside the standard.
 use Rattle.std.specs.Prelude.{ℕ, ◌+◌, ◌-◌, ◌*◌, ◌/◌, ◌%◌, ◌==◌, nat_lt, nat_le, List, [], length, replicate, Option, Some, None, slice_get, if◌then◌else◌}
 use Rattle.h264_base.specs.declared.element_name.ElementName.TheVariants.{MbType, CodedBlockPattern}
 use Rattle.h264_base.specs.declared.rule.Rule.TheVariants.{Range, IntraMode, VectorRange}

@@ -12,7 +12,7 @@ IsDerived (Intra16x16 mode chroma) = Unit {0}
 IsDerived (Pcm samples) = Unit {0}
 IsDerived (Inter motions) = map is_some motions ≡ replicate 16 true
 
--- A macroblock of this slice behind these: it has the slice's number, what it refers to is there, and all its blocks are derived.
+-- A macroblock of this slice after these: it has the slice's number, what it refers to is there, and all its blocks are derived.
 pub record IsOfSlice (width : ℕ) (slice : SliceContext) (before : List CodedMacroblock) (m : CodedMacroblock) : Type 0 where
   pub number : m.slice ≡ slice.number
   pub possible : IsPossible width slice before m.prediction

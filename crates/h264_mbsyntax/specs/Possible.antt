@@ -1,4 +1,4 @@
--- What a macroblock refers to is there: the sides of intra blocks (8.3), the pictures of inter ones (8.4.2).
+-- What a macroblock refers to is there: the sides of intra blocks (8.3), the pictures of inter ones (8.4.2). To be read beside the standard.
 use Rattle.std.specs.Prelude.{◌≡◌, ℕ, ◌<◌, ◌≤◌, IsTrue, List, take, length, Option, Some, None}
 use Rattle.std.specs.List.{AllByRecursion}
 use Rattle.std.proofs.Common.{get_or}

@@ -1,4 +1,4 @@
--- slice_data() (7.3.4), one macroblock after another.
+-- slice_data() (7.3.4), one macroblock after another. To be read beside the standard.
 use Rattle.std.specs.Prelude.{◌≡◌, ℕ, zero, suc, ◌-◌, ◌==◌, ◌||◌, nat_lt, nat_le, Bool, List, [], ◌∷◌, ◌++◌, length, replicate, Option, Some, None, if◌then◌else◌}
 use Rattle.h264_base.specs.declared.element_name.ElementName.TheVariants.{MbSkipRun}
 use Rattle.h264_base.specs.declared.mode.SliceType.{SliceType}

@@ -18,7 +18,7 @@ use h264_cavlc::block_into;
 use h264_near::Near;
 use h264_tables::Table;
 
-/// The levels of a macroblock, by block and by place of the scan. Those of a block without coefficients mean nothing (zeros, or what stood there
+/// The levels of a macroblock, by block and by place of the scan. A block without coefficients has levels that mean nothing (zeros, or what stood there
 /// before): whoever reads them looks at the totals first.
 #[derive(Clone, Copy)]
 pub struct Residual {

@@ -166,7 +166,7 @@ fn read_whole(
     Ok(())
 }
 
-/// The same of a text.
+/// Reads a macroblock from a text.
 fn read_text(
     rt: &(impl Abort + AllocGlobal),
     slice: &SliceContext,

@@ -1,4 +1,4 @@
--- What an edge says of its blocks, to macroblocks of this slice.
+-- What an edge says of its blocks, to macroblocks of this slice. A working form.
 use Rattle.std.specs.Prelude.{ℕ, ◌+◌, ◌*◌, Bool, not, nat_lt, Option, Some, None, ◌==◌, ◌&&◌, ◌||◌, if◌then◌else◌}
 use Rattle.std.proofs.Common.{get_or}
 use Rattle.h264_near.specs.declared.context.Edge.{Edge}

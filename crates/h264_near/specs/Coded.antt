@@ -1,4 +1,4 @@
--- The coded picture: what the macroblocks of a picture say, in decoding order, as far as they are decoded (7.4.5).
+-- The coded picture: what the macroblocks of a picture say, in decoding order, as far as they are decoded (7.4.5). To be read beside the standard.
 use Rattle.std.specs.Prelude.{ℕ, ◌+◌, ◌*◌, ◌/◌, ◌%◌, Bool, true, false, not, List, [], Option, Some, None, ℤ, ◌==◌, ◌&&◌, ◌||◌, if◌then◌else◌, slice_get}
 use Rattle.std.specs.Option.{option_map}
 use Rattle.std.proofs.Common.{get_or}

@@ -1,4 +1,4 @@
--- What a macroblock takes from its neighbours: nC, predicted intra modes, and which samples there are.
+-- What a macroblock takes from its neighbours: nC, predicted intra modes, and which samples there are. A working form.
 use Rattle.std.specs.Prelude.{ℕ, suc, ◌+◌, ◌/◌, ◌%◌, min, Bool, List, [], length, Option, Some, None}
 use Rattle.std.specs.Option.{is_some}
 use Rattle.h264_near.specs.Coded.{CodedMacroblock, Intra4x4, Inter, no_residual, total_part, chroma_part, mode_part, column_of, row_of}
@@ -19,7 +19,7 @@ mean None (Some b) = b
 mean (Some a) None = a
 mean (Some a) (Some b) = (a + b + 1) / 2
 
--- nC of the luma block behind those with these totals
+-- nC of the luma block after those with these totals
 unfoldable pub luma_nc : ℕ → List CodedMacroblock → ℕ → List ℕ → ℕ
 luma_nc width picture slice totals =
     let current = with_totals slice totals [] in
@@ -27,7 +27,7 @@ luma_nc width picture slice totals =
     let y = row_of (length totals) in
     mean (around 4 (total_part slice) width picture current x (suc y)) (around 4 (total_part slice) width picture current (suc x) y)
 
--- nC of the chroma AC block behind those with these totals, four of Cb and then of Cr
+-- nC of the chroma AC block after those with these totals, four of Cb and then of Cr
 unfoldable pub chroma_nc : ℕ → List CodedMacroblock → ℕ → List ℕ → ℕ
 chroma_nc width picture slice totals =
     let current = with_totals slice [] totals in
@@ -43,7 +43,7 @@ lesser_mode None (Some b) = 2
 lesser_mode (Some a) None = 2
 lesser_mode (Some a) (Some b) = min a b
 
--- the predicted mode of the block behind those with these modes
+-- the predicted mode of the block after those with these modes
 unfoldable pub predicted_mode : ℕ → List CodedMacroblock → ℕ → Bool → List ℕ → ℕ
 predicted_mode width picture slice constrained modes =
     let current = with_modes slice modes in
@@ -51,7 +51,7 @@ predicted_mode width picture slice constrained modes =
     let y = row_of (length modes) in
     lesser_mode (around 4 (mode_part slice constrained) width picture current x (suc y)) (around 4 (mode_part slice constrained) width picture current (suc x) y)
 
--- which of the samples above, to the left and at the corner the block behind those with these modes can be predicted from (8.3.1.2)
+-- which of the samples above, to the left and at the corner the block after those with these modes can be predicted from (8.3.1.2)
 unfoldable pub block_samples : ℕ → List CodedMacroblock → ℕ → Bool → List ℕ → Samples
 block_samples width picture slice constrained modes =
     let current = with_modes slice modes in

@@ -1,4 +1,4 @@
--- What the row of contexts, the left column and the corner hold.
+-- What the row of contexts, the left column and the corner hold. A working form.
 use Rattle.std.specs.Prelude.{◌≡◌, ℕ, ◌+◌, ◌*◌, ◌%◌, ◌<◌, List, length, Option, Some, None, vec_len, slice_get}
 use Rattle.std.proofs.Common.{get_or}
 use Rattle.h264_near.specs.declared.context.Contexts.{Contexts}

@@ -1,4 +1,4 @@
--- What the blocks around are predicted from (8.4.1.3.2).
+-- What the blocks around are predicted from (8.4.1.3.2). To be read beside the standard.
 use Rattle.std.specs.Prelude.{ℕ, List, [], Option}
 use Rattle.h264_near.specs.Coded.{CodedMacroblock, Inter, no_residual, motion_part}
 use Rattle.h264_near.specs.Place.{around}

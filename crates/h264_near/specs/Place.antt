@@ -1,4 +1,4 @@
--- Parts of the macroblocks of a picture by where they stand in it (6.4).
+-- Parts of the macroblocks of a picture by where they stand in it (6.4). To be read beside the standard.
 use Rattle.std.specs.Prelude.{ℕ, zero, suc, ◌+◌, ◌*◌, ◌/◌, ◌%◌, nat_lt, List, [], ◌∷◌, ◌++◌, length, Option, None, if◌then◌else◌, slice_get}
 use Rattle.std.specs.Option.{option_and_then}
 

@@ -1,4 +1,4 @@
--- What the deblocking filter takes from two neighbouring 4x4 blocks, whatever their slices: bS (8.7.2.1).
+-- What the deblocking filter takes from two neighbouring 4x4 blocks, whatever their slices: bS (8.7.2.1). To be read beside the standard.
 use Rattle.std.specs.Prelude.{ℕ, ◌-◌, ◌/◌, ◌==◌, nat_lt, nat_le, not, Bool, false, ◌&&◌, ◌||◌, List, Option, Some, None, ◌-ℤ◌, unsigned_abs, if◌then◌else◌}
 use Rattle.std.specs.Option.{option_and_then}
 use Rattle.std.proofs.Common.{get_or}

@@ -13,7 +13,7 @@ pub struct Contexts {
     pub qp: u8,
     /// How many coefficients each luma block has.
     pub totals: [u8; 16],
-    /// The same of the chroma blocks: four of Cb, then of Cr.
+    /// How many coefficients each chroma block has: four of Cb, then of Cr.
     pub chroma_totals: [u8; 8],
     /// The intra mode of each luma block, 2 where it has none.
     pub modes: [u8; 16],

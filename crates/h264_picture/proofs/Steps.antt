@@ -1,4 +1,4 @@
--- What the work holds behind one macroblock more.
+-- What the work holds after one macroblock more.
 use Rattle.std.proofs.Common.{rules, Bool, true, false, ◌==◌, Option, nat_lt, if◌then◌else◌, Result, Ok, Err, IsErrOf, ◌≡◌, ℕ, ◌+◌, ◌-◌, ◌<◌, ◌≤◌, List, [], ◌∷◌, ◌++◌, length, Some, None, refl, sym, ◌∙◌, arith, length-append, subst}
 use Rattle.std.specs.List.{slice_get}
 use Rattle.h264_near.specs.Coded.{CodedMacroblock}

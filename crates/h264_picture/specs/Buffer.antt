@@ -1,4 +1,4 @@
--- How many frames the decoded picture buffer holds (A.3.1, C.4.5.3, E.2.1).
+-- How many frames the decoded picture buffer holds (A.3.1, C.4.5.3, E.2.1). To be read beside the standard.
 use Rattle.std.specs.Prelude.{ℕ, min, max, unwrap_or}
 use Rattle.h264_sps.specs.declared.sps.Sps.{Sps}
 use Rattle.h264_sets.specs.Usable.{given_frames, dpb_frames}

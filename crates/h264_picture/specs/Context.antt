@@ -1,4 +1,4 @@
--- What macroblocks take from their slice, by its header, its parameter sets and its reference list (7.4.3, 7.4.5).
+-- What macroblocks take from their slice, by its header, its parameter sets and its reference list (7.4.3, 7.4.5). To be read beside the standard.
 use Rattle.std.specs.Prelude.{ℕ, ◌*◌, min, List, length, Option, None, pos, ◌+ℤ◌, slice_get}
 use Rattle.std.specs.Option.{option_and_then, option_map_or}
 use Rattle.h264_base.specs.declared.mode.SliceType.{SliceType}

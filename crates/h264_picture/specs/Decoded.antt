@@ -1,5 +1,5 @@
--- The samples of a picture (8), by its coded macroblocks in decoding order, the parameters of each slice by its number, the places of its reference
--- pictures in the pool by their numbers, and these pictures.
+-- To be read beside the standard. The samples of a picture (8), by its coded macroblocks in decoding order, the parameters of each slice by its number,
+-- the places of its reference pictures in the pool by their numbers, and these pictures.
 use Rattle.std.specs.Prelude.{◌≡◌, ℕ, ◌*◌, ◌<◌, Bool, List, [], length, take, slice_get, get_or, Option, Some, None}
 use Rattle.h264_base.specs.declared.weight.Weights.{Weights}
 use Rattle.h264_plane.specs.declared.frame.Component.{Component}

@@ -1,4 +1,4 @@
--- The deblocking filter of a slice, by its header and its picture parameter set (7.4.3).
+-- The deblocking filter of a slice, by its header and its picture parameter set (7.4.3). To be read beside the standard.
 use Rattle.std.specs.Prelude.{ℤ, pos, negsuc, ◌*ℤ◌, min}
 use Rattle.h264_pps.specs.declared.Pps.{Pps}
 use Rattle.h264_header.specs.declared.header.Deblocking.{Deblocking}

@@ -1,4 +1,4 @@
--- A picture in the making: what the frame and the lines hold after the macroblocks so far.
+-- A picture in the making: what the frame and the lines hold after the macroblocks so far. A working form.
 use Rattle.std.specs.Prelude.{ℕ, ◌+◌, ◌*◌, ◌/◌, ◌%◌, ◌<◌, List, length}
 use Rattle.h264_plane.specs.Frames.{plane_of}
 use Rattle.h264_plane.specs.Places.{side}

@@ -1,4 +1,4 @@
--- The frames that are lent, by place.
+-- The frames that are lent, by place. A working form.
 use Rattle.std.specs.Prelude.{◌≡◌, ◌≢◌, ℕ, ◌<◌, ◌==◌, ◌&&◌, nat_lt, Option, Some, None, length, if◌then◌else◌}
 use Rattle.h264_plane.specs.Frames.{frame_at, IsFrame}
 use Rattle.h264_plane.specs.declared.frame.Frame.{Frame}

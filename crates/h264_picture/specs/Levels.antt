@@ -1,4 +1,4 @@
--- The range of the transform (8.5).
+-- The range of the transform (8.5). To be read beside the standard.
 use Rattle.std.specs.Prelude.{◌≡◌, Bool}
 use Rattle.h264_near.specs.Coded.{CodedMacroblock}
 use Rattle.h264_scale.specs.Macroblock.{levels_fit}

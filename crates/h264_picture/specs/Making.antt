@@ -1,4 +1,4 @@
--- A picture in the making: its samples so far.
+-- A picture in the making: its samples so far. A working form.
 use Rattle.std.specs.Prelude.{◌≡◌, ℕ, ◌+◌, ◌<◌, ◌≤◌, List, length, get_or, Option, Some, None}
 use Rattle.h264_plane.specs.Samples.{at}
 use Rattle.h264_plane.specs.Frames.{plane_of, frame_at}

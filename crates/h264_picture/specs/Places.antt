@@ -1,4 +1,4 @@
--- The places of the frames of two sequences, the active one and the one before.
+-- The places of the frames of two sequences, the active one and the one before. A working form.
 use Rattle.std.specs.Prelude.{◌≡◌, ◌≢◌, ℕ, ◌+◌, ◌-◌, ◌*◌, nat_le, nat_lt, ◌&&◌, Bool, true, Option, Some, None, length, if◌then◌else◌}
 use Rattle.std.specs.Option.{option_map, option_map_or}
 use Rattle.h264_plane.specs.Frames.{IsFrame}

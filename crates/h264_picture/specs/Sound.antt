@@ -1,4 +1,4 @@
--- What is always so of the memory of a sequence.
+-- What is always so of the memory of a sequence. A working form.
 use Rattle.std.specs.Prelude.{◌≡◌, ◌≢◌, ℕ, ◌+◌, ◌*◌, ◌<◌, ◌≤◌, List, length, get_or, vec_len}
 use Rattle.h264_plane.specs.Places.{side}
 use Rattle.h264_plane.specs.declared.frame.Component.{Component}

@@ -1,4 +1,4 @@
--- What the samples of a picture depend on beside its coded macroblocks: its reference pictures and the parameters of its slices.
+-- What the samples of a picture depend on beside its coded macroblocks: its reference pictures and the parameters of its slices. A working form.
 use Rattle.std.specs.Prelude.{◌≡◌, ℕ, ◌*◌, ◌<◌, List, slice_get, get_or, Option, Some, None}
 use Rattle.h264_plane.specs.declared.frame.Component.{Component}
 use Rattle.h264_plane.specs.Places.{side}

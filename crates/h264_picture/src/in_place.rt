@@ -1,4 +1,4 @@
-//! One macroblock of a picture in the making: constructed in place (8.3, 8.4, 8.5), and filtered behind it (8.7).
+//! One macroblock of a picture in the making: constructed in place (8.3, 8.4, 8.5), and filtered after it (8.7).
 #![tactic(auto)]
 
 ghost use Rattle.std.specs.Prelude.{◌≡◌, ℕ, ◌+◌, ◌*◌, ◌<◌, ◌≤◌, IsTrue, List, [], ◌∷◌, ◌++◌, length, vec_len};

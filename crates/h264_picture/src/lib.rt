@@ -4,7 +4,7 @@
 //! slice more, and promises that they are a derivation, or the first rule that they break, as the grammar `slice_data` of
 //! h264_mbsyntax says it with the range of the transform by h264_scale; no call in a slice takes memory.
 //! `slice_context` is what macroblocks take from the slice's header, its parameter sets and its reference list.
-//! The samples of each macroblock are made behind its levels, in place in a frame of the sequence: after each the equations hold of
+//! The samples of each macroblock are made after its levels, in place in a frame of the sequence: after each the equations hold of
 //! the macroblocks so far (`in_place::go_on`).
 //! The allocator is lent to `Work::activate` alone; nothing that is kept has one, but for the `Vec`s of planes, lines and contexts.
 #![tactic(auto)]

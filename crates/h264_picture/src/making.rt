@@ -1,4 +1,4 @@
-//! The samples of a macroblock: construction (8.3, 8.4.2, 8.5) and, behind it, the deblocking filter (8.7).
+//! The samples of a macroblock: construction (8.3, 8.4.2, 8.5) and, after it, the deblocking filter (8.7).
 #![tactic(auto)]
 
 ghost use Rattle.std.specs.Prelude.{◌≡◌, ℕ, ◌+◌, ◌*◌, ◌<◌, IsTrue, List, length};

@@ -30,7 +30,7 @@ fn place_within(frames: &Frames, place: u8, base: usize) -> u8
     another_than(frames.place)
 }
 
-/// Those of sixteen frames.
+/// The places of sixteen frames.
 pub(crate) fn places_within(frames: &Frames, places: &[u8; 16], base: usize) -> [u8; 16]
     requires { 1 < length frames.now.pool }
     ensures stand { ArePlaces frames.now result }

@@ -28,7 +28,7 @@ pub struct Sequence {
     pub(crate) frames: Frames,
     /// How many macroblocks a picture has in a row.
     pub(crate) across: usize,
-    /// And in a column.
+    /// How many macroblocks a picture has in a column.
     pub(crate) down: usize,
     /// How many macroblocks a picture has.
     pub(crate) size: u32,
@@ -130,7 +130,7 @@ impl Sequence {
         self.frames.end();
     }
 
-    /// What stands behind the header of a slice.
+    /// What stands after the header of a slice.
     fn read_slice_data<S: Elements>(
         &mut self,
         bits: &mut Bits,

@@ -22,7 +22,7 @@ fn has_reference(slice: &SliceContext, run: u32) -> bool
     has_picture(slice, 0)
 }
 
-/// The column and the row of the macroblock behind one, where so many stand in a row.
+/// The column and the row of the macroblock after one, where so many stand in a row.
 #[inline]
 fn place_behind(across: usize, column: usize, row: usize) -> (usize, usize)
     requires column { column < across }
@@ -134,7 +134,7 @@ impl Sequence {
         Ok(Some(Standing::Skipping { bit, more }))
     }
 
-    /// Reads mb_skip_run, and the first macroblock of it or the one behind it.
+    /// Reads mb_skip_run, and the first macroblock of it or the one after it.
     fn read_run<S: Elements>(
         &mut self,
         bits: &mut Bits,
@@ -193,7 +193,7 @@ impl Sequence {
         }
     }
 
-    /// Reads the macroblock behind a run of skipped ones, if there is one.
+    /// Reads the macroblock after a run of skipped ones, if there is one.
     fn read_behind_skips<S: Elements>(
         &mut self,
         bits: &mut Bits,

@@ -177,7 +177,7 @@ impl Work {
         }
     }
 
-    /// Reads the slice data of a slice from this bit on, behind the macroblocks that it holds (7.3.4).
+    /// Reads the slice data of a slice from this bit on, after the macroblocks that it holds (7.3.4).
     ///
     /// Ok: the elements that the sink was told are the one derivation of the slice data, with every rule met, and the work holds
     /// the picture with the slice's macroblocks, and with their samples where it held those of the macroblocks before. No: the first rule

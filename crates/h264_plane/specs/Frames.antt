@@ -1,3 +1,4 @@
+-- Frames by their three planes. A working form.
 use Rattle.std.specs.Prelude.{◌≡◌, ◌≢◌, ℕ, ◌/◌, ◌%◌, List, length, get_or}
 use Rattle.std.specs.Borrow.{Lends, MutBor, Fml}
 use Rattle.h264_plane.specs.Samples.{Samples, Holds, IsSized, no_samples}
@@ -38,7 +39,7 @@ pub record IsWritten (c : Component) (old new : Frame) (s : ℕ → ℕ → ℕ)
   pub written : Holds (plane_of c old) (plane_of c new) s
   pub kept : KeepsOtherPlanes c old new
 
--- f ends with the last plane behind r at component c
+-- f ends with the last plane after r at component c
 abbrev pub LendsPlane : Component → MutBor Frame → MutBor Samples → Fml
 LendsPlane c f r = Lends frame.the_row plane.the_row f r (with_plane c f.now)
 

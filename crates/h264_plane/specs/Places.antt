@@ -1,4 +1,5 @@
--- Places of a plane by macroblocks of n columns and rows, w to a row, in raster order (6.4.1). A macroblock is named by its column c and its row r.
+-- To be read beside the standard. Places of a plane by macroblocks of n columns and rows, w to a row, in raster order (6.4.1). A macroblock is named by
+-- its column c and its row r.
 use Rattle.std.specs.Prelude.{◌≡◌, ◌⊎◌, ℕ, ◌+◌, ◌*◌, ◌/◌, ◌%◌, ◌<◌, ◌≤◌, ◌&&◌, nat_le, nat_lt, if◌then◌else◌}
 use Rattle.h264_plane.specs.declared.frame.Component.{Component}
 use Rattle.h264_plane.specs.declared.frame.Component.TheVariants.{Y, Cb, Cr}

@@ -1,4 +1,4 @@
--- The samples of a plane and of a frame as lists, row by row.
+-- The samples of a plane and of a frame as lists, row by row. To be read beside the standard.
 use Rattle.std.specs.Prelude.{ℕ, ◌/◌, List, map, ◌++◌}
 use Rattle.std.specs.List.{range_with_len, flat_map}
 use Rattle.h264_plane.specs.Samples.{at}

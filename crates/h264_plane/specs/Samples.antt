@@ -1,3 +1,4 @@
+-- Samples of a plane by column and row. To be read beside the standard.
 use Rattle.std.specs.Prelude.{◌≡◌, ◌≢◌, ◌⊎◌, ℕ, ◌+◌, ◌*◌, ◌<◌, ◌≤◌, ◌-◌, ◌==◌, ◌&&◌, nat_le, nat_lt, length, List, [], slice_index, Bool, true, false, if◌then◌else◌}
 use Rattle.h264_plane.specs.declared.plane.TheConstants.{MAX_SIDE}
 

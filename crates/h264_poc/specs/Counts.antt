@@ -1,4 +1,4 @@
--- Picture order counts (8.2.1), as functions of the pictures before in decoding order, the newest first.
+-- Picture order counts (8.2.1), as functions of the pictures before in decoding order, the newest first. To be read beside the standard.
 use Rattle.std.specs.Prelude.{◌≡◌, ℕ, ◌+◌, ◌*◌, ◌^◌, ◌<◌, nat_lt, ◌&&◌, ◌||◌, not, Bool, true, false, Option, None, List, [], ◌∷◌, ℤ, pos, neg_ℤ, ◌-ℤ◌, ◌≤ℤ◌, if◌then◌else◌}
 use Rattle.h264_poc.specs.declared.picture.Picture.{Picture}
 use Rattle.h264_poc.specs.declared.picture.Order.{Order}

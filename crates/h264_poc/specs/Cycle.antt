@@ -1,4 +1,4 @@
--- pic_order_cnt_type 1 (8.2.1.2).
+-- pic_order_cnt_type 1 (8.2.1.2). To be read beside the standard.
 use Rattle.std.specs.Prelude.{ℕ, ◌+◌, ◌-◌, ◌/◌, ◌%◌, ◌==◌, ◌^◌, ◌⊎◌, neg_ℤ, ◌≤ℤ◌, Bool, List, [], ◌∷◌, length, take, ℤ, pos, ◌+ℤ◌, ◌*ℤ◌, if◌then◌else◌}
 use Rattle.h264_poc.specs.declared.cycle.Deltas.{Deltas}
 use Rattle.h264_poc.specs.declared.within.FieldCounts.{FieldCounts}

@@ -1,4 +1,4 @@
--- pic_order_cnt_type 0 (8.2.1.1).
+-- pic_order_cnt_type 0 (8.2.1.1). To be read beside the standard.
 use Rattle.std.specs.Prelude.{ℕ, ◌-◌, ◌/◌, nat_lt, nat_le, ◌&&◌, Bool, ℤ, pos, ◌+ℤ◌, ◌-ℤ◌, if◌then◌else◌}
 use Rattle.std.specs.Int.{int_gap, int_min}
 use Rattle.h264_poc.specs.declared.lsb.Prev.{Prev}

@@ -1,4 +1,4 @@
--- The range of counts (8.2.1).
+-- The range of counts (8.2.1). To be read beside the standard.
 use Rattle.std.specs.Prelude.{◌-◌, ◌^◌, ◌&&◌, Bool, Option, Some, None, ℤ, pos, neg_ℤ, int_le, if◌then◌else◌}
 use Rattle.h264_poc.specs.declared.picture.Count.{Count}
 use Rattle.h264_poc.specs.declared.within.FieldCounts.{FieldCounts}

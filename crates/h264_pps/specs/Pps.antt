@@ -1,4 +1,4 @@
--- pic_parameter_set_rbsp() (7.3.2.2), with the rules on its values (7.4.2.2, A.2.1).
+-- pic_parameter_set_rbsp() (7.3.2.2), with the rules on its values (7.4.2.2, A.2.1). To be read beside the standard.
 use Rattle.std.specs.Prelude.{ℕ, pos, negsuc, nat_le, ◌==◌, Bool, true}
 use Rattle.h264_base.specs.declared.mode.Target.{Target}
 use Rattle.h264_base.specs.declared.mode.Target.TheVariants as targets

@@ -4,7 +4,7 @@ use Rattle.std.proofs.lemmas.Bool.{cases_lt}
 use Rattle.h264_rbsp.specs.Emulation.{BehindZeros, IsFourth, IsBroken, IsFault, IsFirstFault}
 use Rattle.h264_rbsp.specs.Found.{IsFound}
 
--- the rule is not broken behind two 00 bytes before this place
+-- the rule is not broken after two 00 bytes before this place
 abbrev pub NoneBelow : List ℕ → ℕ → Type 0
 NoneBelow body n = (third place : ℕ) → third < n → BehindZeros body third → IsBroken body third place → ⊥
 
@@ -42,7 +42,7 @@ module _ (body : List ℕ) (start here : ℕ) (below : NoneBelow body (start + 2
   pub first-last : IsFound body 2 here → get_or body here 0 ≢ 2 → here + 1 ≡ length body → IsFirstFault body here
   first-last f n e = first-here f.zeros (inr (inl (record { byte = three f n; last = e; place_is = refl })))
 
-  -- behind the third byte alone
+  -- after the third byte alone
   not-here : get_or body here 0 ≢ 2 → here + 1 ≢ length body → (place : ℕ) → IsBroken body here place → IsFourth body here place
   not-here n m place (inl b) = absurd (n b.byte)
   not-here n m place (inr (inl b)) = absurd (m b.last)

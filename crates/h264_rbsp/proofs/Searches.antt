@@ -3,7 +3,7 @@ use Rattle.std.proofs.Common.{◌≡◌, ◌≢◌, inl, inr, ℕ, ◌+◌, ◌-
 use Rattle.std.proofs.lemmas.Bool.{cases_lt}
 use Rattle.h264_rbsp.specs.Found.{IsFound}
 
--- where another byte than 00 stands that is not found itself, nothing is found before the third place behind it
+-- where another byte than 00 stands that is not found itself, nothing is found before the third place after it
 pub behind-other : (bytes : List ℕ) (least p place : ℕ) → get_or bytes p 0 ≢ 0 → (IsFound bytes least p → ⊥) → p ≤ place → place < p + 3 → IsFound bytes least place → ⊥
 behind-other bytes least p place other none low high f = elim (cases_lt p place) [
   | inr h ↦ let e : place ≡ p = omega arith in none (subst (λ q. IsFound bytes least q) e f)

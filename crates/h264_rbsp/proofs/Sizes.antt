@@ -37,7 +37,7 @@ below-here : (n : ℕ) (l : List ℕ) (top : ℕ) → n ≤ top → ((k d : ℕ)
 below-here n l top h next zero d lt = h
 below-here n l top h next (suc k) d lt = next k d (omega arith)
 
--- nor behind the last byte of the RBSP
+-- nor after the last byte of the RBSP
 pub below : (m : ℕ) (l : List ℕ) (k d : ℕ) → k < length (dropped_from m l) → get_or (dropped_from m l) k d ≤ m + length (rbsp_bytes l)
 unfolding dropped_from
 below m [] k d h = absurd (omega arith)

@@ -90,7 +90,7 @@ test-two x y z p q e = and_from ((x == 0) && (y == 0)) (z == 2) (and_from (x == 
 test-three : (x y z : ℕ) → x ≡ 0 → y ≡ 0 → z ≡ 3 → ((x == 0) && (y == 0) && (z == 3)) ≡ true
 test-three x y z p q e = and_from ((x == 0) && (y == 0)) (z == 3) (and_from (x == 0) (y == 0) (eq-eqb x 0 p) (eq-eqb y 0 q)) (eq-eqb z 3 e)
 
--- a fault of four bytes or more is one of its first, or lies behind
+-- a fault of four bytes or more is one of its first, or lies after them
 module _ (x y z w : ℕ) (r : List ℕ) where
   head : ((x == 0) && (y == 0) && (z == 2)) ≡ false → ((x == 0) && (y == 0) && (z == 3) && nat_lt 3 w) ≡ false → (place : ℕ) → BehindZeros (x ∷ y ∷ z ∷ w ∷ r) 2 → IsBroken (x ∷ y ∷ z ∷ w ∷ r) 2 place → ⊥
   head two three place b (inl c) = let q = zeros-there x y z (w ∷ r) b in both_ways _ two (test-two x y z q.0 q.1 c.byte)

@@ -1,4 +1,4 @@
--- The RBSP up to the next emulation prevention byte, and behind it.
+-- The RBSP up to the next emulation prevention byte, and after it.
 use Rattle.std.proofs.Common.{◌≡◌, ℕ, zero, suc, ◌+◌, ◌-◌, ◌<◌, ◌≤◌, min, true, false, ◌&&◌, List, [], ◌∷◌, ◌++◌, length, take, drop, get_or, refl, ap, sym, ◌∙◌, arith, append_assoc, length-append}
 use Rattle.std.specs.Prelude.{◌==◌}
 use Rattle.std.proofs.lemmas.Bool.{and_parts, and_from, eqb-true, eq-eqb, cond-true, cond-false, false_from_ne_true}
@@ -54,7 +54,7 @@ NoneTo l n = (p : ℕ) → 2 ≤ p → p < n → IsFound l 3 p → ⊥
 none-behind : (x : ℕ) (l : List ℕ) (n : ℕ) → NoneTo (x ∷ l) (suc n) → NoneTo l n
 none-behind x l n h p low lt f = h (suc p) (omega arith) (omega arith) (found-on x l p f)
 
--- up to the next, and behind it
+-- up to the next, and after it
 pub bytes-front : (l : List ℕ) (n : ℕ) → IsFound l 3 n → NoneTo l n → rbsp_bytes l ≡ take n l ++ rbsp_bytes (drop (n + 1) l)
 bytes-front l zero f h = absurd (omega (arith, f.zeros.behind))
 bytes-front l (suc zero) f h = absurd (omega (arith, f.zeros.behind))

@@ -1,10 +1,10 @@
--- Emulation prevention in a NAL unit (7.4.1). Places count the bytes of the unit from 0, the header among them.
+-- Emulation prevention in a NAL unit (7.4.1). Places count the bytes of the unit from 0, the header among them. To be read beside the standard.
 use Rattle.std.specs.Prelude.{◌≡◌, ℕ, ◌+◌, ◌-◌, ◌*◌, ◌<◌, ◌≤◌, ◌⊎◌, List, [], ◌∷◌, length, slice_index, Option, Some, None, Result, Ok, Err, ◌==◌, ◌&&◌, ◌||◌, nat_lt, if◌then◌else◌}
 use Rattle.h264_base.specs.declared.rule.Rule.TheVariants.{Emulation}
 use Rattle.h264_base.specs.declared.stop.Stop.{Stop}
 use Rattle.h264_base.specs.declared.stop.Stop.TheVariants.{No}
 
--- this byte stands behind two 00 bytes
+-- this byte stands after two 00 bytes
 pub record BehindZeros (body : List ℕ) (place : ℕ) : Type 0 where
   pub behind : 2 ≤ place
   pub within : place < length body
@@ -43,7 +43,7 @@ pub record IsFirstFault (body : List ℕ) (place : ℕ) : Type 0 where
   pub fault : IsFault body place
   pub before : (other : ℕ) → other < place → IsFault body other → ⊥
 
--- The same as a function: n bytes of the unit stand before these.
+-- This place as a function: n bytes of the unit stand before these.
 unfoldable pub fault_from : ℕ → List ℕ → Option ℕ
 fault_from n [] = None
 fault_from n (x ∷ []) = None

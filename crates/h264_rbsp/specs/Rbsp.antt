@@ -1,4 +1,4 @@
--- The RBSP of a NAL unit (7.3.1).
+-- The RBSP of a NAL unit (7.3.1). To be read beside the standard.
 use Rattle.std.specs.Prelude.{◌≡◌, ℕ, ◌+◌, ◌-◌, ◌*◌, ◌/◌, ◌<◌, ◌≤◌, Bool, List, [], ◌∷◌, length, drop, Option, slice_get, ◌==◌, ◌&&◌, if◌then◌else◌}
 use Rattle.std.specs.List.Sorted.{IsNonDecreasingBy}
 use Rattle.h264_base.specs.Body.{Body, place}
@@ -8,7 +8,7 @@ use Rattle.h264_units.specs.Stream.{NalUnit, past, unit_limit, input_limit}
 abbrev pub is_prevention : ℕ → ℕ → ℕ → Bool
 is_prevention x y z = (x == 0) && (y == 0) && (z == 3)
 
--- The bytes of the RBSP, from the bytes behind the unit's header.
+-- The bytes of the RBSP, from the bytes after the unit's header.
 unfoldable pub rbsp_bytes : List ℕ → List ℕ
 rbsp_bytes [] = []
 rbsp_bytes (x ∷ []) = x ∷ []
@@ -43,7 +43,7 @@ pub record IsSound (bytes : List ℕ) (first : ℕ) (dropped : List ℕ) : Type 
 abbrev pub unit_byte : NalUnit → ℕ → Option ℕ
 unit_byte unit at = slice_get unit.body (at - unit.from)
 
--- Each byte of the RBSP is the unit's at its place, and behind the last is the first byte after the unit.
+-- Each byte of the RBSP is the unit's at its place, and after the last is the first byte after the unit.
 pub record IsPlaced (unit : NalUnit) : Type 0 where
   pub bytes : (k : ℕ) → k < length (body_of unit).bytes → unit_byte unit (place (body_of unit) (8 * k) / 8) ≡ slice_get (body_of unit).bytes k
   pub end : place (body_of unit) (8 * length (body_of unit).bytes) ≡ 8 * past unit

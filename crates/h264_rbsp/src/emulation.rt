@@ -8,7 +8,7 @@ use crate::scan::next_behind_zeros;
 use h264_base::{Rule, Stop};
 use h264_units::NalUnit;
 
-/// The greatest byte that may stand behind 00 00 03.
+/// The greatest byte that may stand after 00 00 03.
 const GREATEST_ESCAPED: u8 = 3;
 
 /// The first place where the bytes of a unit break the rule.
@@ -34,7 +34,7 @@ fn first_fault(body: &[u8]) -> Option<usize>
 }
 
 /// Whether the unit keeps to emulation prevention: else `Stop::No` names the first bit of the first byte at fault, which is
-/// the 02 of 00 00 02, the byte behind 00 00 03 where it is above 03, or the 03 of 00 00 03 at the unit's end (7.4.1).
+/// the 02 of 00 00 02, the byte after 00 00 03 where it is above 03, or the 03 of 00 00 03 at the unit's end (7.4.1).
 pub fn check_emulation(unit: &NalUnit) -> Result<(), Stop>
     ensures value { result ≡ emulation_checked unit.now.from unit.now.body }
     ensures ok { OnOk result ((place : ℕ) → IsFault unit.now.body place → ⊥) }

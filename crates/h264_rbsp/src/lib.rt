@@ -1,6 +1,6 @@
 //! The RBSP of a NAL unit, and emulation prevention (7.3.1, 7.4.1).
 //!
-//! `Rbsp::of` takes a unit and gives the bytes behind its header without the emulation prevention bytes; `stream_bit` says
+//! `Rbsp::of` takes a unit and gives the bytes after its header without the emulation prevention bytes; `stream_bit` says
 //! where each of their bits stands in the input. `check_emulation` judges the unit's bytes: 00 00 02 does not stand in it,
 //! 00 00 03 only before 00 to 03, and not at its end.
 //!

@@ -8,7 +8,7 @@ use smallvec::SmallVec;
 use std::alloc::{AllocError, Global};
 use std::marker::Model;
 
-/// The bytes of a NAL unit behind its header, without the emulation prevention bytes, and where they stood in the input.
+/// The bytes of a NAL unit after its header, without the emulation prevention bytes, and where they stood in the input.
 #[derive(Drop)]
 pub struct Rbsp {
     bytes: Vec<u8>,

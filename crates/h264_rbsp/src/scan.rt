@@ -18,7 +18,7 @@ fn behind_high(bytes: &[u8], start: usize) -> usize
     place
 }
 
-/// Whether a byte from `least` to 03 stands at this place, behind two 00 bytes.
+/// Whether a byte from `least` to 03 stands at this place, after two 00 bytes.
 fn is_found(bytes: &[u8], place: usize, least: u8) -> bool
     requires { (2 ≤ place) × (place < length bytes.now) }
     ensures found { IsTrue result → IsFound bytes.now least place }
@@ -28,7 +28,7 @@ fn is_found(bytes: &[u8], place: usize, least: u8) -> bool
     byte <= 3 && least <= byte && bytes[place - 1] == 0 && bytes[place - 2] == 0
 }
 
-/// The first place at which a byte from `least` to 03 stands behind two 00 bytes that stand at `start` or later, or the number
+/// The first place at which a byte from `least` to 03 stands after two 00 bytes that stand at `start` or later, or the number
 /// of bytes. `least` is not 0.
 pub(crate) fn next_behind_zeros(bytes: &[u8], start: usize, least: u8) -> usize
     requires start { start ≤ length bytes.now }

@@ -7,7 +7,7 @@ use std::alloc::Global;
 use std::process::Abort;
 use std::test::Fail;
 
-/// The unit of these bytes, behind the start code that an input begins with.
+/// The unit of these bytes, after the start code that an input begins with.
 fn unit_of(alloc: Global, bytes: &[u8]) -> Result<NalUnit, Stop> {
     let mut splitter = Splitter::new(alloc);
     splitter.push(b"\0\0\x01")?;

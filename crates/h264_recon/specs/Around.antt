@@ -1,4 +1,4 @@
--- Samples round a macroblock that agree.
+-- Samples round a macroblock that agree. A working form.
 use Rattle.std.specs.Prelude.{◌≡◌, ℕ, ◌+◌, ◌*◌, ◌<◌, ◌≤◌, IsTrue}
 use Rattle.h264_plane.specs.Places.{index_of}
 use Rattle.h264_recon.specs.declared.macroblock.Available.{Available}

@@ -1,4 +1,4 @@
--- The blocks of a macroblock, and which sides of them are available.
+-- The blocks of a macroblock, and which sides of them are available. To be read beside the standard.
 use Rattle.std.specs.Prelude.{ℕ, ◌+◌, ◌-◌, Bool, ◌&&◌, ◌||◌, ◌==◌, if◌then◌else◌, nat_lt}
 use Rattle.h264_plane.specs.Places.{index_of}
 use Rattle.h264_intra.specs.declared.sides.Sides.{Sides}

@@ -1,4 +1,4 @@
--- Intra_4x4 blocks of a macroblock, constructed one after another.
+-- Intra_4x4 blocks of a macroblock, constructed one after another. A working form.
 use Rattle.std.specs.Prelude.{◌≡◌, ◌≢◌, ◌⊎◌, ℕ, ◌+◌, ◌*◌, ◌<◌, List, slice_index, get_or, ℤ, pos, ◌+ℤ◌}
 use Rattle.h264_intra.specs.Luma4.{predicted4}
 use Rattle.h264_intra.specs.declared.luma4.Intra4x4PredMode.{Intra4x4PredMode}

@@ -1,4 +1,5 @@
--- The constructed samples u of a picture, before the deblocking filter (8.3, 8.4.2, 8.5.14): a system of equations over the whole picture.
+-- To be read beside the standard. The constructed samples u of a picture, before the deblocking filter (8.3, 8.4.2, 8.5.14): a system of equations over
+-- the whole picture.
 use Rattle.std.specs.Prelude.{◌≡◌, ℕ, ◌+◌, ◌-◌, ◌*◌, ◌/◌, ◌%◌, ◌<◌, IsTrue, List, get_or, slice_index, Option, pos, ◌+ℤ◌}
 use Rattle.h264_base.specs.declared.weight.Weights.{Weights}
 use Rattle.h264_plane.specs.Clip.{clip1}

@@ -1,4 +1,4 @@
--- What a macroblock of the coded picture gives to its construction.
+-- What a macroblock of the coded picture gives to its construction. A working form.
 use Rattle.std.specs.Prelude.{ℕ, zero, suc, ◌/◌, ◌%◌, Bool, List, [], get_or, Option, Some, None, ℤ}
 use Rattle.std.specs.Option.{is_some, option_and_then}
 use Rattle.h264_base.specs.declared.weight.Weights.{Weights}

@@ -1,4 +1,4 @@
--- Inter prediction (8.4.2.2) from reference pictures that are functions: their samples by column and row.
+-- Inter prediction (8.4.2.2) from reference pictures that are functions: their samples by column and row. To be read beside the standard.
 use Rattle.std.specs.Prelude.{ℕ, ◌+◌, ◌*◌, ◌/◌, List, get_or, pos}
 use Rattle.h264_plane.specs.Places.{side}
 use Rattle.h264_plane.specs.declared.frame.Component.{Component}

@@ -1,4 +1,4 @@
--- What is kept of the macroblocks before this one, as they were constructed.
+-- What is kept of the macroblocks before this one, as they were constructed. A working form.
 use Rattle.std.specs.Prelude.{◌≡◌, ℕ, ◌+◌, ◌-◌, ◌*◌, ◌<◌, ◌≤◌, ◌==◌, if◌then◌else◌, List, slice_index, vec_len, pos, ◌+ℤ◌, Bool, true, false}
 use Rattle.h264_plane.specs.declared.frame.Component.{Component}
 use Rattle.h264_plane.specs.declared.frame.Component.TheVariants.{Y, Cb, Cr}

@@ -1,4 +1,4 @@
--- A macroblock of w columns and rows by parts of n columns and rows, row by row.
+-- A macroblock of w columns and rows by parts of n columns and rows, row by row. A working form.
 use Rattle.std.specs.Prelude.{◌≡◌, ◌≢◌, ◌⊎◌, ℕ, ◌+◌, ◌*◌, ◌<◌, ◌≤◌, List, length, slice_index, get_or}
 use Rattle.h264_recon.specs.Inter.{no_motion}
 use Rattle.h264_recon.specs.declared.macroblock.Motion.{Motion}

@@ -1,4 +1,4 @@
--- The motions that the code has, by the places that indexes of the reference list name.
+-- The motions that the code has, by the places that indexes of the reference list name. A working form.
 use Rattle.std.specs.Prelude.{◌≡◌, ℕ, ◌%◌, ◌/◌, ◌<◌, List, get_or, replicate, Option, Some, None, unwrap_or, pos}
 use Rattle.h264_near.specs.declared.motion.Motion as derived
 use Rattle.h264_near.specs.Coded.{number_of}

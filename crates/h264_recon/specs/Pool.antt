@@ -1,4 +1,4 @@
--- Reference pictures as frames of a pool.
+-- Reference pictures as frames of a pool. A working form.
 use Rattle.std.specs.Prelude.{◌≡◌, ℕ, ◌+◌, ◌*◌, ◌<◌, ◌≤◌, List, length, get_or}
 use Rattle.h264_plane.specs.Samples.{at, IsSized}
 use Rattle.h264_plane.specs.Frames.{plane_of, frame_at}

@@ -1,4 +1,4 @@
--- How a macroblock is predicted, as its equations have it, and as the code has it.
+-- How a macroblock is predicted, as its equations have it, and as the code has it. A working form.
 use Rattle.std.specs.Prelude.{ℕ, ◌+◌, List, get_or, replicate}
 use Rattle.h264_recon.specs.Table.{table}
 use Rattle.h264_recon.specs.declared.macroblock.IntraModes.{IntraModes}

@@ -1,4 +1,5 @@
--- The residual of a plane of a macroblock, as the code answers it: none where each number is 0, and an error where a value of the transform is out of range.
+-- A working form. The residual of a plane of a macroblock, as the code answers it: none where each number is 0, and an error where a value of the
+-- transform is out of range.
 use Rattle.std.specs.Prelude.{◌≡◌, ◌↔◌, ℕ, ◌+◌, ◌*◌, ◌<◌, ◌≤◌, List, [], Option, unwrap_or, get_or, Result, IsOk, IfOk, IsTrue, ℤ, pos}
 use Rattle.h264_plane.specs.Places.{index_of}
 use Rattle.h264_scale.specs.Residual.{residual_at}

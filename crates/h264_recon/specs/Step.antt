@@ -1,4 +1,4 @@
--- One macroblock in place: the frame and the stores.
+-- One macroblock in place: the frame and the stores. A working form.
 use Rattle.std.specs.Prelude.{ℕ, ◌*◌, List}
 use Rattle.h264_plane.specs.Samples.{at, Holds, with_block}
 use Rattle.h264_plane.specs.Frames.{plane_of}

@@ -224,7 +224,7 @@ fn count(references: &[Option<u64>; 16]) -> usize
     references.len()
 }
 
-/// What a macroblock that was read, behind those that `near` keeps and at this column and row of macroblocks, gives to its construction: the sides
+/// What a macroblock that was read, after those that `near` keeps and at this column and row of macroblocks, gives to its construction: the sides
 /// that intra prediction may use, its modes, motions or samples, and the weights of the latter. `places` are those of the reference pictures in the
 /// pool of frames, and `weights` are the weights, both by refIdxL0.
 pub fn given<'a>(

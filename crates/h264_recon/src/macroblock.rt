@@ -39,7 +39,7 @@ pub struct Motion {
 /// The motion of the 4x4 places of a macroblock.
 #[derive(Clone, Copy)]
 pub enum Motions {
-    /// The same at all places.
+    /// One motion at all places.
     Whole(Motion),
     /// That of each place, row by row.
     Each([Motion; 16]),

@@ -48,7 +48,7 @@ fn put_levels(
     Ok(())
 }
 
-/// The same, by how many levels of each block are not 0, and the levels.
+/// Puts a block, by how many of its levels are not 0, and the levels.
 #[inline(always)]
 fn put_block(
     out: &mut [i16; 256],

@@ -99,7 +99,7 @@ module _ {terms : Terms} {bytes : List ℕ} where
     said-answer answer said (inl e) stays w = subst (λ a. Writes make terms bytes a start known) (sym e) w
     said-answer answer said (inr e) stays w = subst (λ a. Writes make terms bytes a start known) (sym e) (short answer (λ is. let d = sym e ∙ stays is in cc) w)
 
--- What the writer behind a sink took that had taken nothing.
+-- What the writer after a sink took that had taken nothing.
 pub writes : {S : Type 0} {took : S → List Call → Type 0} {failures : S → ℕ} {terms : Terms} {bytes : List ℕ} {frames : ℕ → Frame} {s s' : S} {answer said : Result Summary Stop} (make : List Call → List ℕ) (start known : Option (List ℕ)) (broke_off : Bool) →
     said ≡ told_of broke_off answer → Judged terms took failures bytes frames [] s s' answer → took s [] → ((calls : List Call) → took s' calls → HoldsCalls broke_off make start known calls) → Writes make terms bytes said start known
 writes {terms = terms} {bytes = bytes} {answer = answer} make start known broke_off is j none holds =
@@ -137,7 +137,7 @@ read-told false (Err Write) is r = absurd (let d = sym is ∙ r in cc)
 pub never-write : {answer said : Result Summary Stop} → (answer ≡ Err Write → said ≡ Err Write) → (said ≡ Err Write → ⊥) → answer ≡ Err Write → ⊥
 never-write stays never is = never (stays is)
 
--- ---- one text behind another
+-- ---- one text after another
 
 pub takes-behind : (written : Bool) {a b : Option (List ℕ)} (c : Option (List ℕ)) {bs : List ℕ} (cs : List ℕ) → Sends a b bs → Takes written b c cs → Takes written a c (bs ++ cs)
 takes-behind true c cs p q = sends-more p q

@@ -31,7 +31,7 @@ module _ (w h : ℕ) (s : Component → ℕ → ℕ → ℕ) where
       ap (λ l. flat_map (row_at w h s) (range_with_len 0 k) ++ l) (sym (append-nil (row_at w h s k)))
       ∙ sym (flat_split (row_at w h s) 0 k 1 (k + 1) k (omega arith) (omega arith))
 
-  -- the first rows, the next, and those behind it
+  -- the first rows, the next, and those after it
   pub row-between : (k : ℕ) → k < row_count h → rows_before w h s (row_count h) ≡ rows_before w h s k ++ (row_at w h s k ++ flat_map (row_at w h s) (range_with_len (k + 1) (row_count h - (k + 1))))
   row-between k within = flat_split (row_at w h s) 0 k (suc (row_count h - (k + 1))) (row_count h) k (omega arith) (omega arith)
 

@@ -53,7 +53,7 @@ sends-is {a} {b} e p = subst (Sends a b) e p
 pub front-is : {a b : Option (List ℕ)} {bs cs : List ℕ} → bs ≡ cs → SendsFront a b bs → SendsFront a b cs
 front-is {a} {b} e p = subst (SendsFront a b) e p
 
--- a part of what comes behind bytes that were sent is a part of the whole
+-- a part of what comes after bytes that were sent is a part of the whole
 pub front-behind : {a b c : Option (List ℕ)} {bs cs : List ℕ} → Sends a b bs → SendsFront b c cs → SendsFront a c (bs ++ cs)
 front-behind {a} {b} {c} {bs} {cs} p q = record {
   part = bs ++ q.part;

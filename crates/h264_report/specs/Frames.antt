@@ -1,4 +1,4 @@
--- What is shown of a frame, as bytes.
+-- What is shown of a frame, as bytes. To be read beside docs/OUTPUT.md.
 use Rattle.std.specs.Prelude.{List, ℕ}
 use Rattle.h264_plane.specs.Rows.{picture_bytes}
 use Rattle.h264_plane.specs.declared.frame.Frame.{Frame}

@@ -1,4 +1,4 @@
--- The lines' texts, in ASCII and without a line end.
+-- The lines' texts, in ASCII and without a line end. To be read beside docs/OUTPUT.md.
 use Rattle.std.specs.Prelude.{ℕ, ℤ, List, ◌++◌, codes, Result, Ok, Err}
 use Rattle.std.specs.Fmt.{decimal, signed_decimal}
 use Rattle.hex.specs.Hex.{encode_lower}

@@ -1,4 +1,4 @@
--- The rows of a picture in the order in which they are written: those of Y, then of Cb, then of Cr.
+-- The rows of a picture in the order in which they are written: those of Y, then of Cb, then of Cr. To be read beside docs/OUTPUT.md.
 use Rattle.std.specs.Prelude.{ℕ, ◌+◌, ◌-◌, ◌/◌, nat_lt, Bool, true, false, List, if◌then◌else◌}
 use Rattle.std.specs.List.{range_with_len, flat_map}
 use Rattle.h264_plane.specs.declared.frame.Component.{Component}

@@ -1,4 +1,4 @@
--- What a writer holds that was sent bytes, where it tells what it holds.
+-- What a writer holds that was sent bytes, where it tells what it holds. A working form.
 use Rattle.std.specs.Prelude.{◌≡◌, ◌<◌, ℕ, Bool, true, false, List, ◌++◌, length, Option}
 use Rattle.std.specs.Io.KnownBytes.{Appends}
 

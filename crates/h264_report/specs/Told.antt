@@ -1,4 +1,4 @@
--- What sinks make of the calls of a stream: lines, bytes of frames, and the last elements.
+-- What sinks make of the calls of a stream: lines, bytes of frames, and the last elements. A working form.
 use Rattle.std.specs.Prelude.{Bool, true, false, ℕ, ◌+◌, ◌≡◌, ◌∷◌, ◌++◌, Option, List, []}
 use Rattle.h264_base.specs.Call.{Call, OfUnit, OfSlice, OfElement, OfFrame}
 use Rattle.h264_report.specs.Lines.{unit_text, slice_text, element_text, frame_text}
@@ -35,7 +35,7 @@ unfoldable pub lines_of : Listing → ℕ → List Call → List ℕ
 lines_of listing n [] = []
 lines_of listing n (call ∷ calls) = line_of listing n call ++ lines_of listing (counted listing call + n) calls
 
--- the bytes of the frames of these calls, one behind another
+-- the bytes of the frames of these calls, one after another
 abbrev pub bytes_in : Call → List ℕ
 bytes_in (OfFrame count width height bytes) = bytes
 bytes_in call = []
@@ -81,7 +81,7 @@ pub record HoldsLines (listing : Listing) (start : Option (List ℕ)) (was_faile
   pub holds : HoldsCalls broke_off (lines_of listing 0) start known calls
   pub blamed : IsBlamed broke_off was_failed failed
 
--- The same through this reference and for this listing.
+-- The writer took them through this reference and for this listing.
 pub record TookLines (name : ℕ) (listing : Listing) (start : Option (List ℕ)) (was_failed : Bool) (reference : ℕ) (lists : Listing) (frames : ℕ) (broke_off failed : Bool) (known : Option (List ℕ)) (calls : List Call) : Type 0 where
   pub same_reference : reference ≡ name
   pub same_listing : lists ≡ listing

@@ -1,4 +1,4 @@
--- The lines of elements.
+-- The lines of elements. To be read beside docs/OUTPUT.md.
 use Rattle.std.specs.Prelude.{ℕ, ◌∷◌, ◌++◌, List, []}
 use Rattle.h264_report.specs.Lines.{element_text}
 use Rattle.h264_report.specs.Told.{ended}

@@ -1,4 +1,4 @@
--- What the commands write of a stream: what stands before the last line, and the last line.
+-- What the commands write of a stream: what stands before the last line, and the last line. To be read beside docs/OUTPUT.md.
 use Rattle.std.specs.Prelude.{◌≡◌, ℕ, Bool, true, false, List, [], ◌++◌, Option, None, Some, Result, Ok, Err, ◌⊎◌}
 use Rattle.circular_buffer.specs.Buffer.{keep_last}
 use Rattle.h264_base.specs.Call.{Call}
@@ -20,7 +20,7 @@ use Rattle.h264_judge.specs.declared.state.Summary.{Summary}
 use Rattle.h264_judge.specs.declared.state.Terms.{Terms}
 use Rattle.h264_judge.specs.Units.{terms_of}
 
--- Of the bytes that a source gives; where it does not tell them, of some bytes.
+-- This holds of the bytes that a source gives. Where it does not tell them, it holds of some bytes.
 abbrev pub OfBytes : Option (List ℕ) → (List ℕ → Type 0) → Type 0
 OfBytes None Is = (bytes : List ℕ) × Is bytes
 OfBytes (Some bytes) Is = Is bytes

@@ -7,7 +7,7 @@ ghost use Rattle.h264_report.specs.Sent.{Sends, SendsFront};
 use crate::device::Device;
 use h264_base::Failed;
 
-/// The bytes behind the first `n`.
+/// The bytes after the first `n`.
 fn behind(bytes: &[u8], n: usize) -> &[u8]
     requires { n ≤ length bytes.now }
     ensures { result.now ≡ drop n bytes.now }

@@ -106,7 +106,7 @@ dc_only_with x dc l qp none e =
     let first : pos 0 ≡ get_or (pos 0 ∷ l) 0 (pos 0) *ℤ pos (factor_at qp 0 0) = sym (zero_times (factor_at qp 0 0)) in
     ap dc_only e ∙ ap (with_dc dc) (dc_only_is (pos 0 ∷ l) qp (pos 0) (λ k p. rw add-one (none k p)) first)
 
--- levels that are 0 behind the first
+-- levels that are 0 after the first
 pub none_after : (l : List ℤ) → length l ≡ 16 → ((k : ℕ) → k < length (mid_of 1 15 l) → get_or (mid_of 1 15 l) k (pos 0) ≡ pos 0) → (k : ℕ) → k < 15 → get_or l (k + 1) (pos 0) ≡ pos 0
 none_after l e none k p =
     let whole : length (mid_of 1 15 l) ≡ 15 = grind (arith, elements) in

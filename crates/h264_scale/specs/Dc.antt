@@ -1,4 +1,4 @@
--- The DC coefficients of Intra 16x16 luma and of chroma (8.5.10, 8.5.11).
+-- The DC coefficients of Intra 16x16 luma and of chroma (8.5.10, 8.5.11). To be read beside the standard.
 use Rattle.std.specs.Prelude.{◌≡◌, ℕ, ◌<◌, ◌+◌, ◌-◌, ◌*◌, ◌/◌, ◌%◌, ◌^◌, Bool, ◌&&◌, nat_le, if◌then◌else◌, List, [], ◌∷◌, get_or, ℤ, pos, negsuc, ◌+ℤ◌, ◌*ℤ◌}
 use Rattle.std.specs.Int.{int_shr}
 use Rattle.h264_scale.specs.Residual.{fits16, all_entries, coefficient, level_scale, pick}

@@ -1,4 +1,4 @@
--- Matrices as the code keeps them: four rows of four numbers.
+-- Matrices as the code keeps them: four rows of four numbers. A working form.
 use Rattle.std.specs.Prelude.{Bool, ◌&&◌, ℕ, ◌≤◌, ◌+◌, ◌*◌, ◌/◌, ◌%◌, ◌^◌, List, [], ◌∷◌, ℤ, pos, negsuc, ◌+ℤ◌, ◌-ℤ◌, ◌*ℤ◌, ◌≤ℤ◌, unsigned_abs}
 use Rattle.std.specs.Int.{int_shr}
 use Rattle.h264_scale.specs.Residual.{IsIn, fits16, fits_last, norm_adjust}

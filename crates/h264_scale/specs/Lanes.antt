@@ -1,4 +1,4 @@
--- Matrices as vectors keep them: four rows of four lanes, or sixteen entries by place of the scan.
+-- Matrices as vectors keep them: four rows of four lanes, or sixteen entries by place of the scan. A working form.
 use Rattle.std.specs.Prelude.{◌≡◌, ℕ, zero, suc, ◌+◌, ◌<◌, ◌&&◌, ◌==◌, if◌then◌else◌, List, [], ◌∷◌, get_or, ℤ, pos, unsigned_abs, FitsSigned}
 use Rattle.std.specs.Int.{w32}
 use Rattle.h264_scale.specs.Fours.{row_then}

@@ -1,4 +1,5 @@
--- The residual of a macroblock (8.5.1, 8.5.2, 8.5.4), and whether all values of its transform are in range. Blocks are named by their column x and row y of blocks.
+-- To be read beside the standard. The residual of a macroblock (8.5.1, 8.5.2, 8.5.4), and whether all values of its transform are in range. Blocks are
+-- named by their column x and row y of blocks.
 use Rattle.std.specs.Prelude.{◌≡◌, ◌≢◌, ◌⊎◌, ◌≤◌, ℕ, zero, suc, ◌+◌, ◌*◌, ◌/◌, ◌%◌, ◌<◌, Bool, true, ◌&&◌, List, [], unwrap_or, get_or, ℤ, pos}
 use Rattle.h264_plane.specs.declared.frame.Component.{Component}
 use Rattle.h264_plane.specs.declared.frame.Component.TheVariants.{Y, Cb, Cr}

@@ -90,7 +90,7 @@ fn rows_come_first(rt: &impl Abort) {
     assert_eq!(rt; residual4(&levels, 1), Ok(residual));
 }
 
-/// The DC, the 15 levels behind it, QP, and the residual.
+/// The DC, the 15 levels after it, QP, and the residual.
 const BEHIND_A_DC: [(i16, [i16; 15], u8, Answer); 9] = [
     // A macroblock of one Intra 16x16 level.
     (884, [0; 15], 26, Ok([14; 16])),

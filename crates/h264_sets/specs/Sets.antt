@@ -1,4 +1,4 @@
--- The sets by id.
+-- The sets by id. To be read beside the standard.
 use Rattle.std.specs.Prelude.{◌≡◌, ◌≢◌, ℕ, List, Option, Some, None, replicate, slice_set, slice_get}
 use Rattle.std.specs.Option.{option_map, option_and_then}
 use Rattle.h264_sps.specs.declared.sps.Sps.{Sps}

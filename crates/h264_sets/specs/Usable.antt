@@ -1,4 +1,5 @@
--- What holds of each sequence parameter set that some unit gives, beside the ranges of its elements (7.4.2.1.1, A.3.1, E.2.1).
+-- To be read beside the standard. What holds of each sequence parameter set that some unit gives, beside the ranges of its elements (7.4.2.1.1, A.3.1,
+-- E.2.1).
 use Rattle.std.specs.Prelude.{ℕ, ◌+◌, ◌*◌, nat_le, nat_lt, ◌&&◌, Bool, true, Option, Some, None, unwrap_or}
 use Rattle.std.specs.Option.{option_and_then, option_map, option_map_or}
 use Rattle.h264_tables.specs.declared.level.Limits.{Limits}

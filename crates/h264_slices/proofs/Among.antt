@@ -137,7 +137,7 @@ marked-holds n c picture bit mode.SlidingWindow refs next is h =
     or-on (picture == n) _ _ (λ k. slid-holds n c refs.frames s.0 s.1 k) (own-holds n c picture (with_frames (marks_of refs) s.0) next s.2 h)
 marked-holds n c picture bit (mode.Adaptive operations) refs next is h = joined-holds n c picture bit operations.items refs next _ refl is h
 
--- ---- where nothing else is held: behind an IDR picture and operation 5
+-- ---- where nothing else is held: after an IDR picture and operation 5
 
 abbrev IsBare : Marks → Type 0
 IsBare marks = marks.held.frames ≡ []

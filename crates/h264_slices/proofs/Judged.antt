@@ -39,7 +39,7 @@ module _ {S : Type 0} (took : S → List Told → Type 0) (failures : S → ℕ)
   three : (xs ys zs ts : List Step) → (xs ++ (ys ++ zs)) ++ ts ≡ xs ++ (ys ++ (zs ++ ts))
   three xs ys zs ts = append_assoc xs (ys ++ zs) ts ∙ ap (λ (l : List Step). xs ++ l) (append_assoc ys zs ts)
 
-  -- behind the end of the picture before it
+  -- after the end of the picture before it
   closed-is : slice_steps mode before unit h ≡ close_steps mode begins before ++ own_steps mode before unit h begins b
   closed-is =
       let at = begins_at before h in

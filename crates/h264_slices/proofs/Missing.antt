@@ -71,14 +71,14 @@ bind-ok o next x e = ap (goes_on o.calls next) e
 with-both : {A : Type 0} (xs ys : List Told) (o : Outcome A) → with_calls xs (with_calls ys o) ≡ with_calls (xs ++ ys) o
 with-both xs ys o = ap (λ (l : List Told). record { calls = l; answer = o.answer }) (sym (append_assoc xs ys o.calls))
 
--- what is played behind what was told
+-- what is played after what was told
 behind-plays : {A S X : Type 0} (took : S → List Told → Type 0) (failures : S → ℕ) (view : X → A) (told : List Told) (o : Outcome A) (s0 s1 s2 : S) (r : Result X Stop) → Tells took s0 s1 told → failures s1 ≡ failures s0 → Plays took failures view o s1 s2 r → Plays took failures view (with_calls told o) s0 s2 r
 unfolding ◌>>=◌
 behind-plays took failures view told o s0 s1 s2 r t k p = plays-on took failures (λ (x : Unit {0}). x) view (record { calls = told; answer = Ok tt }) (λ _. o) s0 s1 s2 tt r (record { plays = (refl, t, k) }) p
 
 -- ---- the steps
 
--- so many numbers behind this one
+-- so many numbers after this one
 abbrev behind : Numbering → ℕ → ℕ → List ℕ
 behind n count number = numbers_from count ((number + 1) % n.max_frame_num) n.max_frame_num
 
@@ -111,7 +111,7 @@ module _ {S : Type 0} (mode : Mode) (bit : ℕ) (n : Numbering) (count prev : �
   abbrev pub all_steps : List Step
   all_steps = missing_steps mode bit n (behind n count prev) held t.buffer
 
-  -- so many numbers behind the last one are left: what was told of the others, and what is kept
+  -- so many numbers after the last one are left: what was told of the others, and what is kept
   pub record Fills (left last : ℕ) (now : References) (new : S) (d : Decoder) : Type 0 where
     pub turn : Turn
     pub told : List Told

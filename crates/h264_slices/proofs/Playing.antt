@@ -136,7 +136,7 @@ pub plays-gives : {A B S X : Type 0} (took : S → List Told → Type 0) (failur
 plays-gives took failures found view o s s' (Ok x) p = plays-on took failures found (λ x. view (found x)) o (λ x. gives (view x)) s s' s' x (Ok x) p (gives-plays took failures (λ x. view (found x)) x s')
 plays-gives took failures found view o s s' (Err e) p = plays-stops took failures found (λ x. view (found x)) o (λ x. gives (view x)) s s' e p
 
--- a value given behind what was played
+-- a value given after what was played
 pub plays-then : {A S : Type 0} (took : S → List Told → Type 0) (failures : S → ℕ) (o : Outcome (Unit {0})) (y : A) (s s' : S) (r : Result (Unit {0}) Stop) → Plays took failures (λ (x : Unit {0}). x) o s s' r → Plays took failures (λ (x : Unit {0}). y) (o >>= λ _. gives y) s s' r
 plays-then took failures o y s s' (Ok x) p = plays-on took failures (λ (x : Unit {0}). x) (λ (x : Unit {0}). y) o (λ _. gives y) s s' s' x (Ok x) p (gives-plays took failures (λ (x : Unit {0}). y) x s')
 plays-then took failures o y s s' (Err e) p = plays-stops took failures (λ (x : Unit {0}). x) (λ (x : Unit {0}). y) o (λ _. gives y) s s' e p

@@ -1,4 +1,4 @@
--- Slice data behind what is kept before them.
+-- Slice data after what is kept before them.
 use Rattle.std.proofs.Common.{◌≡◌, ℕ, Bool, ◌&&◌, true, false, List, [], ◌∷◌, Option, Some, Result, refl, ap, sym, ◌∙◌, length}
 use Rattle.h264_base.specs.declared.mode.Mode.TheVariants as modes
 use Rattle.h264_base.specs.declared.stop.Stop.{Stop}
@@ -165,7 +165,7 @@ module _ {S X : Type 0} (took : S → List Call → Type 0) (failures : S → �
   pub later-read : (o : Outcome (List CodedMacroblock × ℕ)) (p : CodedPicture) (ps : List CodedPicture) → ReadsSlice took failures frames o (λ ms. HoldsBegun frames p ps (slice ∷ slices_of p) ms new × KeepsOutput frames (within_newest (p ∷ ps)) (length ps) new) s s' r → ReadsData took failures frames o (λ ms. joined_to false (record slice { macroblocks = ms }) (p ∷ ps)) new s s' r
   later-read o p ps k = record { macroblocks = k.macroblocks; end = k.end; plays = k.plays; keeps = where-ok r (later-kept frames slice p ps k.macroblocks new) k.keeps }
 
--- the slice data of a slice behind what is kept before them
+-- the slice data of a slice after what is kept before them
 pub read-behind : {S X : Type 0} (took : S → List Call → Type 0) (failures : S → ℕ) (frames : ℕ → Frame) (old new : Decoder) (s s' : S) (r : Result X Stop) (begins : Bool) (pictures : List CodedPicture) (slice : CodedSlice) (c : SliceContext) (body : Body) (at : ℕ) →
     c ≡ context_in (joined_to begins slice pictures) slice → slice.header.first_mb_in_slice.value ≡ length (coded_so_far begins pictures) → (begins ≡ false → HasPps slice.pps pictures) → BeginsFrames frames begins slice pictures old →
     ((p : CodedPicture) (ps : List CodedPicture) (slices : List CodedSlice) (ms : List CodedMacroblock) (t : Turn) → c ≡ context_in (p ∷ ps) slice → slice.header.first_mb_in_slice.value ≡ length ms → slice.pps ≡ p.first.pps → KeepsOutput frames t (length ps) old → HoldsBegun frames p ps slices ms old →

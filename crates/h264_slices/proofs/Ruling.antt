@@ -55,7 +55,7 @@ pub first-rules : (mode : Mode) (on : Bool) (pictures : List CodedPicture) (slic
 first-rules mode true pictures slices pps sps h unit bit k e = rw (k.newest_idr, k.prev_ref, k.held, e) refl
 first-rules mode false pictures slices pps sps h unit bit k e = rw (k.newest_idr, k.prev_ref, k.held, e) refl
 
--- behind the gap
+-- after the gap
 enters-held : (mode : Mode) (frames : ℕ → Frame) (on : Bool) (pictures : List CodedPicture) (slice : CodedSlice) (d : Decoder) → (is_idr slice.header ≡ false → IsMadeAs mode (format_of slice.sps) d) →
     KeepsGap mode frames (turn_then (after_all pictures) (gaps_turn (numbering_of slice.sps slice.header) (unused_short_term_frame_nums (is_idr slice.header) (prev_ref_frame_num_of pictures) (numbering_of slice.sps slice.header)) (held_after pictures))) (length pictures) d →
     EntersDecoder mode frames true slice on pictures d

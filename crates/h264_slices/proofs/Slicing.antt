@@ -166,7 +166,7 @@ unmodified n list frames e = unmodified-by n (list_places list.num_ref_idx_l0_ac
 pub refused : {S : Type 0} (took : S → List Told → Type 0) (failures : S → ℕ) (steps : List Step) (s : S) (e : Stop) → steps_outcome steps ≡ answers (Err e) → IsNamed e → Plays took failures (λ (x : Unit {0}). x) (steps_outcome steps) s s (Err e)
 refused took failures steps s e h n = subst (λ (o : Outcome (Unit {0})). Plays took failures (λ (x : Unit {0}). x) o s s (Err e)) (sym h) (answers-plays took failures e s n)
 
--- The steps of a slice, behind what is kept of the units before it.
+-- The steps of a slice, after what is kept of the units before it.
 module _ (mode : Mode) (before : History) (unit : NalUnit) (h : Header) (begins : Bool) (b : begins ≡ begins_at before h) where
   -- its own rules, and that it is told
   abbrev pub own_steps : List Step

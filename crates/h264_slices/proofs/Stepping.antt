@@ -63,7 +63,7 @@ needs-judged (d ∷ ds) = by d.met refl (needs-judged ds)
     by true e h = choice-met d.met _ _ e ∙ h ∙ sym (ap (λ (r : Result (Unit {0}) Stop). answers r) (choice-met d.met _ _ e))
     by false e h = choice-unmet d.met _ _ e ∙ sym (ap (λ (r : Result (Unit {0}) Stop). answers r) (choice-unmet d.met _ _ e))
 
--- what comes of steps behind rules with this answer
+-- what comes of steps after rules with this answer
 abbrev pub behind_rules : Result (Unit {0}) Stop → List Step → Outcome (Unit {0})
 behind_rules (Ok x) steps = steps_outcome steps
 behind_rules (Err stop) steps = answers (Err stop)

@@ -35,7 +35,7 @@ abbrev pub frame_count : Option Count → ℤ
 frame_count None = pos 0
 frame_count (Some count) = int_min count.top count.bottom
 
--- A picture behind these, as the buffer sees it: with its number in decoding order, its count, and the size of its sequence's buffer.
+-- A picture after these, as the buffer sees it: with its number in decoding order, its count, and the size of its sequence's buffer.
 abbrev pub ended_picture : CodedPicture → List CodedPicture → Ended
 ended_picture p ps = ended_of p.first.sps p.first.header (length ps) (frame_count (newest_count (map counted (p ∷ ps)))) (buffer_size p.first.sps)
 
@@ -50,14 +50,14 @@ abbrev pub gaps_turn : Numbering → List ℕ → References → Buffered Shown 
 gaps_turn n [] refs b = stays b
 gaps_turn n (number ∷ numbers) refs b = gap_on (filled (record n { frame_num = number }) refs) (λ held. turn_then (missing_turn held b) (gaps_turn n numbers held)) b
 
--- the numbers that are missing before a picture behind these
+-- the numbers that are missing before a picture after these
 abbrev pub missing_before : CodedPicture → List CodedPicture → List ℕ
 missing_before p ps = unused_short_term_frame_nums (is_idr p.first.header) (prev_ref_frame_num_of ps) (numbering_of p.first.sps p.first.header)
 
 abbrev pub gaps_before : CodedPicture → List CodedPicture → Buffered Shown → Turn
 gaps_before p ps b = gaps_turn (numbering_of p.first.sps p.first.header) (missing_before p ps) (held_after ps) b
 
--- the end of a picture behind these
+-- the end of a picture after these
 abbrev pub ended_turn : CodedPicture → List CodedPicture → Buffered Shown → Turn
 ended_turn p ps b = end_turn (ended_picture p ps) (held_after (p ∷ ps)) b
 
@@ -66,7 +66,7 @@ abbrev pub after_all : List CodedPicture → Turn
 after_all [] = stays no_buffer
 after_all (p ∷ ps) = turn_then (turn_then (after_all ps) (gaps_before p ps)) (ended_turn p ps)
 
--- The same while the newest is decoded.
+-- What all but the newest have written, and the buffer while the newest is decoded.
 abbrev pub within_newest : List CodedPicture → Turn
 within_newest [] = stays no_buffer
 within_newest (p ∷ ps) = turn_then (after_all ps) (gaps_before p ps)
@@ -90,7 +90,7 @@ abbrev pub end_frames : Mode → List CodedPicture → List Step
 end_frames mode [] = []
 end_frames mode (p ∷ ps) = told_picture mode (p ∷ ps) ++ told_frames mode (ended_turn p ps (within_newest (p ∷ ps)).buffer).written
 
--- those of the picture that may go on behind these units, if there is such a picture
+-- those of the picture that may go on after these units, if there is such a picture
 abbrev pub closing_frames : Mode → History → List Step
 closing_frames mode before = if goes_on before then end_frames mode (runs_of before) else []
 

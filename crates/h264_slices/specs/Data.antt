@@ -1,4 +1,4 @@
--- Slice data behind a slice's header, by what the units so far give (7.3.4). To be read beside the standard.
+-- Slice data after a slice's header, by what the units so far give (7.3.4). To be read beside the standard.
 use Rattle.std.specs.Prelude.{ℕ, Bool, true, false, Option, Some, None, List, [], ◌∷◌}
 use Rattle.h264_base.specs.Grammar.{Grammar, Done}
 use Rattle.h264_units.specs.Stream.{NalUnit}
@@ -25,11 +25,11 @@ abbrev pub coded_so_far : Bool → List CodedPicture → List CodedMacroblock
 coded_so_far true pictures = []
 coded_so_far false pictures = coded_of pictures
 
--- slice data by the parameter sets, the header and the reference list, behind the macroblocks so far of a picture of this size
+-- slice data by the parameter sets, the header and the reference list, after the macroblocks so far of a picture of this size
 unfoldable pub slice_syntax : ℕ → ℕ → Pps → Sps → Header → List RefSlot → List CodedMacroblock → Grammar (List CodedMacroblock)
 slice_syntax width size pps sps h list picture = slice_data (transform_fits (slice_context pps sps h list)) width size (slice_context pps sps h list) picture
 
--- slice data of a slice that begins a picture behind these pictures, or belongs to the newest
+-- slice data of a slice that begins a picture after these pictures, or belongs to the newest
 abbrev pub data_in : Bool → List CodedPicture → CodedSlice → Grammar (List CodedMacroblock)
 data_in begins pictures s =
     slice_syntax (picture_set begins s pictures).frame_size.width (picture_size (picture_set begins s pictures)) s.pps s.sps s.header
@@ -39,6 +39,6 @@ abbrev pub data_by : Option (Pps × Sps) → History → NalUnit → Header → 
 data_by None before unit h = Done []
 data_by (Some sets) before unit h = data_in (begins_at before h) (runs_of before) (with_sets unit h [] sets)
 
--- Slice data in this unit behind these units, with the sets that its header names; a header that was read has them.
+-- Slice data in this unit after these units, with the sets that its header names; a header that was read has them.
 unfoldable pub slice_data_at : History → NalUnit → Header → Grammar (List CodedMacroblock)
 slice_data_at before unit h = data_by (sets_at before h) before unit h

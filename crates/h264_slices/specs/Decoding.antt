@@ -31,7 +31,7 @@ pub record Refers (frames : ℕ → Frame) (p : CodedPicture) (ps : List CodedPi
   pub before : (k n : ℕ) → k < 16 → get_or (named_in (p ∷ ps) s) k None ≡ Some n → n < length ps
   pub samples : (k n : ℕ) → k < 16 → get_or (named_in (p ∷ ps) s) k None ≡ Some n → (c : Component) (x y : ℕ) → reference (place n) c x y ≡ at (plane_of c (frames n)) x y
 
--- The frame is the picture behind these, decoded from the frames of the pictures that its lists name: it is as large, and its samples are those of the
+-- The frame is the picture after these, decoded from the frames of the pictures that its lists name: it is as large, and its samples are those of the
 -- equations (8), with the parameters of each slice by its number.
 pub record IsDecoded (frames : ℕ → Frame) (p : CodedPicture) (ps : List CodedPicture) (frame : Frame) : Type 0 where
   pub size : IsFrame frame (16 * p.first.sps.frame_size.width) (16 * p.first.sps.frame_size.height)

@@ -37,6 +37,6 @@ abbrev pub is_own : Option (Found Marking) → Bool
 is_own None = true
 is_own (Some found) = is_idr_marking found.value
 
--- the gap before a picture behind these was filled (8.2.5.2)
+-- the gap before a picture after these was filled (8.2.5.2)
 abbrev pub has_gap_filled : CodedPicture → List CodedPicture → Bool
 has_gap_filled p ps = is_some (all_filled (numbering_of p.first.sps p.first.header) (missing_before p ps) (held_after ps))

@@ -97,7 +97,7 @@ IsLeft false old new = new ≡ old
 abbrev pub held_by : Bool → Bool → List CodedPicture → References
 held_by ended on pictures = if on then (if ended then held_after pictures else held_in pictures) else held_after pictures
 
--- the first bit behind the last slice of the newest picture
+-- the first bit after the last slice of the newest picture
 abbrev pub EndsAt : List CodedPicture → ℕ → Type 0
 EndsAt [] bit = Unit {0}
 EndsAt (p ∷ pictures) bit = bit ≡ bit_behind (last_slice p).unit
@@ -133,7 +133,7 @@ abbrev pub HoldsCoded : Option CodedPicture → Work → Type 0
 HoldsCoded None work = Unit {0}
 HoldsCoded (Some p) work = Holds p.first.sps.frame_size.width (picture_size p.first.sps) (last_slice p).macroblocks work
 
--- what is kept of the macroblocks of the newest picture, behind which a slice begins a picture or not
+-- what is kept of the macroblocks of the newest picture, after which a slice begins a picture or not
 abbrev pub HoldsNewest : Bool → List CodedPicture → Work → Type 0
 HoldsNewest true pictures work = Unit {0}
 HoldsNewest false [] work = ⊥
@@ -249,7 +249,7 @@ pub record HoldsSlices (frames : ℕ → Frame) (p : CodedPicture) (ps : List Co
   pub references : EachSlice (HasReferences frames (p ∷ ps) (length ps) d) slices
   pub samples : (making : Making) → IsMaking p.first.pps.chroma_qp_index_offset slices d making → HoldsSamples p.first.sps.frame_size.width (picture_size p.first.sps) making macroblocks d.work
 
--- what is kept of a picture that is decoded behind these: where, its format, and its slices so far
+-- what is kept of a picture that is decoded after these: where, its format, and its slices so far
 pub record HoldsBegun (frames : ℕ → Frame) (p : CodedPicture) (ps : List CodedPicture) (slices : List CodedSlice) (macroblocks : List CodedMacroblock) (d : Decoder) : Type 0 where
   pub begun : HasBegun d.place d.work
   pub active : is_active_place (first_place d.work) d.place ≡ true
@@ -281,7 +281,7 @@ KeepsDecoder modes.Units frames on ended pictures d = Unit {0}
 KeepsDecoder modes.Headers frames on ended pictures d = Unit {0}
 KeepsDecoder modes.Full frames on ended pictures d = KeepsFrames frames on ended pictures d
 
--- what is kept of them once the rules of a slice are met: behind the gap before a picture that it begins, nothing is decoded yet
+-- what is kept of them once the rules of a slice are met: after the gap before a picture that it begins, nothing is decoded yet
 pub record EntersFrames (frames : ℕ → Frame) (slice : CodedSlice) (pictures : List CodedPicture) (d : Decoder) : Type 0 where
   pub format : is_idr slice.header ≡ false → d.format ≡ Some (format_of slice.sps)
   pub output : KeepsOutput frames (within_newest (joined_to true slice pictures)) (length pictures) d
@@ -454,7 +454,7 @@ abbrev pub standing_demands : Bool → Sps → Bool → Maps → ℕ → Header 
 standing_demands true sps due maps bit h = idr_demand due bit h ∷ set_demand (is_idr h) maps sps h ∷ []
 standing_demands false sps due maps bit h = set_demand false maps sps h ∷ []
 
--- The rules behind these, by the pictures.
+-- The rules after these, by the pictures.
 abbrev pub slice_rules : Mode → Bool → List CodedPicture → CodedSlice → List Step
 slice_rules mode true pictures s = first_slice_rules mode pictures s
 slice_rules mode false pictures s = needs (later_slice_rules pictures s)

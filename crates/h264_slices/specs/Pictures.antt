@@ -59,7 +59,7 @@ coded_of (p ∷ pictures) = (last_slice p).macroblocks
 abbrev pub picture_size : Sps → ℕ
 picture_size sps = sps.frame_size.width * sps.frame_size.height
 
--- the first stream bit behind a unit
+-- the first stream bit after a unit
 abbrev pub bit_behind : NalUnit → ℕ
 bit_behind unit = 8 * past unit
 
@@ -77,14 +77,14 @@ slice_in maps unit (contents.OfPps set) = None
 slice_in maps unit (contents.OfSlice h macroblocks) = option_map (with_sets unit h macroblocks) (sets_of maps h.pic_parameter_set_id.value)
 slice_in maps unit contents.Passed = None
 
--- whether more slices may come to the newest picture behind this unit
+-- whether more slices may come to the newest picture after this unit
 abbrev pub goes_on_behind : Content → ℕ → Bool → Bool
 goes_on_behind (contents.OfSps set) kind on = not (ends_picture kind) && on
 goes_on_behind (contents.OfPps set) kind on = not (ends_picture kind) && on
 goes_on_behind (contents.OfSlice h macroblocks) kind on = true
 goes_on_behind contents.Passed kind on = not (ends_picture kind) && on
 
--- There is a slice behind which no unit ended its picture.
+-- There is a slice after which no unit ended its picture.
 abbrev pub goes_on : History → Bool
 goes_on [] = false
 goes_on (r ∷ before) = goes_on_behind r.content (nal_unit_type (header_of r.unit)) (goes_on before)
@@ -114,7 +114,7 @@ abbrev pub runs_of : History → List CodedPicture
 runs_of [] = []
 runs_of (r ∷ before) = joined_by (slice_in (maps_of before) r.unit r.content) (goes_on before) (runs_of before)
 
--- whether a slice begins a picture behind these units
+-- whether a slice begins a picture after these units
 abbrev pub begins_at : History → Header → Bool
 begins_at before h = begins_after (open_of (goes_on before) (runs_of before)) h
 
@@ -124,7 +124,7 @@ counted p = picture_of p.first.sps p.first.header
 abbrev pub pictures_of : History → List Picture
 pictures_of before = map counted (runs_of before)
 
--- PrevRefFrameNum behind a picture: its frame_num, or 0 after operation 5, where it is a reference; else that of the last missing
+-- PrevRefFrameNum after a picture: its frame_num, or 0 after operation 5, where it is a reference; else that of the last missing
 -- frame, where there was one.
 abbrev pub prev_ref_frame_num_behind : Bool → Bool → Bool → Numbering → ℕ → ℕ
 prev_ref_frame_num_behind idr reference resets n prev = if reference then (if resets then 0 else n.frame_num) else last_or prev (unused_short_term_frame_nums idr prev n)
@@ -173,7 +173,7 @@ abbrev pub end_of_picture : List CodedPicture → List Demand
 end_of_picture [] = []
 end_of_picture (p ∷ ps) = mark_demand (ended_by p (length ps) (held_in (p ∷ ps))) ∷ []
 
--- The rules at the end of the picture that may go on behind these units, if there is one.
+-- The rules at the end of the picture that may go on after these units, if there is one.
 abbrev pub closing_demands : History → List Demand
 closing_demands before = if goes_on before then end_of_picture (runs_of before) else []
 

@@ -84,7 +84,7 @@ changes_id (Some newest) (Some id) = not (newest == id.value)
 abbrev pub is_qp : ℤ → ℤ → Bool
 is_qp init delta = int_le (pos 0) ((pos 26 +ℤ init) +ℤ delta) && int_le ((pos 26 +ℤ init) +ℤ delta) (pos 51)
 
--- An IDR picture is due at the beginning, and behind an end of sequence or of stream (7.4.1.2.1).
+-- An IDR picture is due at the beginning, and after an end of sequence or of stream (7.4.1.2.1).
 abbrev pub due_behind : Content → ℕ → Bool → Bool
 due_behind (contents.OfSlice h macroblocks) kind due = false
 due_behind (contents.OfSps set) kind due = (kind == 10 || kind == 11) || due
@@ -188,7 +188,7 @@ gap_rules mode idr reference gaps_allowed bit prev n refs b =
     ++ (missing_steps mode bit n (unused_short_term_frame_nums idr prev n) refs b
     ++ needs (new_num_demand idr reference bit prev n refs ∷ []))
 
--- The rules of a picture's first slice behind these pictures, the newest of which has ended, from its type on.
+-- The rules of a picture's first slice after these pictures, the newest of which has ended, from its type on.
 abbrev pub first_slice_rules : Mode → List CodedPicture → CodedSlice → List Step
 first_slice_rules mode pictures s =
     needs (type_demand s.sps s.header ∷ idr_num_demand s.header ∷ [])
@@ -199,7 +199,7 @@ first_slice_rules mode pictures s =
     ∷ list_demand (list_of s.header.kind.value (numbering_of s.sps s.header) (held_in (joined_to true s pictures)))
     ∷ []))
 
--- Those of a later slice of the newest of these pictures.
+-- The rules of a later slice of the newest of these pictures.
 abbrev pub later_slice_rules : List CodedPicture → CodedSlice → List Demand
 later_slice_rules pictures s =
     type_demand s.sps s.header
@@ -239,7 +239,7 @@ steps_by mode (Some sets) before unit h =
     ++ step.Tells (Said (slice_call (joined_to (begins_at before h) (with_sets unit h [] sets) (runs_of before)) (with_sets unit h [] sets)))
     ∷ []
 
--- A slice behind these units: where it begins a picture, the one before it ends first; then come its rules, and it is told.
+-- A slice after these units: where it begins a picture, the one before it ends first; then come its rules, and it is told.
 abbrev pub slice_steps : Mode → History → NalUnit → Header → List Step
 slice_steps mode before unit h =
     (if begins_at before h then whole_steps mode before else [])

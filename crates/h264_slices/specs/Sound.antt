@@ -27,7 +27,7 @@ abbrev pub HasPps : Pps → List CodedPicture → Type 0
 HasPps pps [] = ⊥
 HasPps pps (p ∷ ps) = p.first.pps ≡ pps
 
--- a picture behind these: one that is no IDR picture has the set of the one before it (7.4.1.2.1), the gap before it was filled (8.2.5.2), and its last slice is of
+-- a picture after these: one that is no IDR picture has the set of the one before it (7.4.1.2.1), the gap before it was filled (8.2.5.2), and its last slice is of
 -- an IDR picture where its first one is (7.4.1.2.4)
 pub record Follows (p : CodedPicture) (ps : List CodedPicture) : Type 0 where
   pub marked : IsMarked p.first.header
@@ -40,7 +40,7 @@ pub record Follows (p : CodedPicture) (ps : List CodedPicture) : Type 0 where
 abbrev pub IsMet : CodedPicture → List CodedPicture → Type 0
 IsMet p ps = is_met (ended_by p (length ps) (held_in (p ∷ ps))) ≡ true
 
--- each of these pictures is one behind the others, and its marking was met; that of the newest, if it has ended
+-- each of these pictures is one after the others, and its marking was met; that of the newest, if it has ended
 abbrev pub AreSound : Bool → List CodedPicture → Type 0
 AreSound ended [] = Unit {0}
 AreSound ended (p ∷ ps) = Follows p ps × (ended ≡ true → IsMet p ps) × AreSound true ps

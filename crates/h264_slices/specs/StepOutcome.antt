@@ -15,7 +15,7 @@ steps_outcome [] = gives tt
 steps_outcome (Needs d ∷ steps) = if d.met then steps_outcome steps else answers (Err (No d.bit d.rule))
 steps_outcome (Tells call ∷ steps) = with_calls (call ∷ []) (steps_outcome steps)
 
--- a syntax structure from a bit on, and the bit behind it
+-- a syntax structure from a bit on, and the bit after it
 abbrev pub structure_from : {A : Type 0} → Grammar A → Body → ℕ → Outcome (A × ℕ)
 structure_from g body bit = record { calls = map (said_of body) (run g body bit).elements; answer = (run g body bit).answer }
 

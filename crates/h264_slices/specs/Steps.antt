@@ -30,11 +30,11 @@ IsFirstStop [] calls stop = ⊥
 IsFirstStop (Needs d ∷ steps) calls stop = (IsFalse d.met × (stop ≡ No d.bit d.rule) × (calls ≡ [])) ⊎ (IsTrue d.met × IsFirstStop steps calls stop)
 IsFirstStop (Tells call ∷ steps) calls stop = (later : List Told) × (calls ≡ call ∷ later) × IsFirstStop steps later stop
 
--- The course of a unit: groups of steps, and syntax structures, on whose content depends what comes behind them.
+-- The course of a unit: groups of steps, and syntax structures, on whose content depends what comes after them.
 pub data Course : Type 0 where
   -- these steps, and then the rest
   Takes : List Step → Course → Course
-  -- a syntax structure from this bit of the RBSP on, and then the rest by what it gives and the bit behind it
+  -- a syntax structure from this bit of the RBSP on, and then the rest by what it gives and the bit after it
   Reads : Grammar Content → ℕ → (Content → ℕ → Course) → Course
   -- this stands in the unit
   Ends : Content → Course

@@ -179,7 +179,7 @@ impl Decoder {
             .slice(bits, slice, &slice_samples(pps, header, places), sink)
     }
 
-    /// Lets go of the frames of the sequence before, behind a picture that emptied the buffer.
+    /// Lets go of the frames of the sequence before, after a picture that emptied the buffer.
     fn settle(&mut self, picture: &Ended)
         ensures released { empties picture.now ≡ true → IsReleased self.new.work }
         ensures stays { empties picture.now ≡ false → self.new ≡ self.old }

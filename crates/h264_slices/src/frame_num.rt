@@ -32,7 +32,7 @@ use h264_marking::gaps::{gap_before, is_new_num};
 use h264_marking::{Held, Numbering, numbering_of, resets};
 use h264_sps::sps::Sps;
 
-/// PrevRefFrameNum behind a picture, where `last` is the last missing number, or the one before.
+/// PrevRefFrameNum after a picture, where `last` is the last missing number, or the one before.
 fn prev_ref_behind(reference: bool, resets: bool, frame_num: u32, last: u32) -> u32
     ensures { result ≡ (if reference then (if resets then 0 else frame_num) else last) }
 {
@@ -53,7 +53,7 @@ pub(crate) fn check_idr_num(header: &Header) -> Result<(), Stop>
     check(fits, Rule::FrameNum, header.frame_num.bit)
 }
 
-/// The number behind this one.
+/// The number after this one.
 fn successor(number: u32, max_frame_num: u32) -> u32
     requires { 0 < max_frame_num }
     ensures { result ≡ (number + 1) % max_frame_num }
@@ -87,7 +87,7 @@ fn miss<S: FrameSink>(
     }
 }
 
-/// Fills so many numbers behind `prev`, one after another (8.2.5.2), and gives the last of them, or `prev` where there is none.
+/// Fills so many numbers after `prev`, one after another (8.2.5.2), and gives the last of them, or `prev` where there is none.
 fn fill_frames<S: FrameSink>(
     mode: Mode,
     prev: u32,

@@ -1,4 +1,4 @@
-//! What a slice's header comes to behind the units so far: the rules that it meets in their order, the picture that it begins or
+//! What a slice's header comes to after the units so far: the rules that it meets in their order, the picture that it begins or
 //! goes on with, and the frames of the pictures.
 //!
 //! `judge_rules` judges a slice's rules from its type on, fills a gap in frame_num, and tells the sink the slice; `check_standing`

@@ -49,7 +49,7 @@ pub(crate) fn is_i(kind: &SliceKind) -> bool
     }
 }
 
-/// Whether a slice is the first of a picture, behind the slices of this one, if more may come to it (7.4.1.2.4).
+/// Whether a slice is the first of a picture, after the slices of this one, if more may come to it (7.4.1.2.4).
 pub fn begins(picture: &Option<OpenPicture>, header: &Header) -> bool
     ensures { result ≡ begins_by picture.now header.now }
 {

@@ -57,9 +57,9 @@ pub struct Slices {
     pub count: Option<Count>,
     /// How many pictures have begun.
     pub pictures: u64,
-    /// The first stream bit behind the last slice's unit.
+    /// The first stream bit after the last slice's unit.
     pub behind: u64,
-    /// PrevRefFrameNum behind the newest picture.
+    /// PrevRefFrameNum after the newest picture.
     pub prev_ref_frame_num: u32,
     /// The reference frames.
     pub held: Held,
@@ -93,7 +93,7 @@ fn count_picture(
     Ok(())
 }
 
-/// The rules of a picture's first slice behind those on its frame_num, once the missing frames are held: on idr_pic_id, counts, QP and list.
+/// The rules of a picture's first slice after those on its frame_num, once the missing frames are held: on idr_pic_id, counts, QP and list.
 fn check_new_picture(
     slices: &mut Slices,
     pps: &Pps,
@@ -205,7 +205,7 @@ fn check_rules<S: FrameSink>(
     }
 }
 
-/// The first stream bit behind a unit.
+/// The first stream bit after a unit.
 fn bit_behind(unit: &NalUnit) -> u64
     ensures { result ≡ bit_behind unit.now }
 {
@@ -281,7 +281,7 @@ fn enter(
 }
 
 /// The rules of a slice from its type on (7.4.3, 8.2), what the sink is told of it, and what it leaves. The header's place is to be read into
-/// anew behind it.
+/// anew after it.
 ///
 /// Err: the first that is not met of SliceType, FrameNum, IdrPicId, Count, Qp, ListCommand and MarkDiffers, at its element's bit (Count at the
 /// first of the unit), or Write where the sink failed. What is kept is then of no use.
@@ -345,7 +345,7 @@ pub fn no_slices() -> Slices
     }
 }
 
-/// A unit of this nal_unit_type that is no slice ends the picture before it, or does not (7.4.1.2.3); behind the end of a sequence
+/// A unit of this nal_unit_type that is no slice ends the picture before it, or does not (7.4.1.2.3); after the end of a sequence
 /// or of the stream an IDR picture is due.
 pub fn pass_by(slices: &mut Slices, kind: u8)
     ensures picture { IsLeft (ends_picture kind) slices.old.picture slices.new.picture }

@@ -1,4 +1,4 @@
--- How pictures are counted: the part of the sequence parameter set from pic_order_cnt_type on (7.3.2.1.1).
+-- How pictures are counted: the part of the sequence parameter set from pic_order_cnt_type on (7.3.2.1.1). To be read beside the standard.
 use Rattle.std.specs.Prelude.{ℕ, ℤ, zero, suc, ◌+◌, ◌-◌, pos, List, [], ◌++◌, length, replicate}
 use Rattle.h264_base.specs.declared.element_name.ElementName.TheVariants.{PicOrderCntType, Log2MaxPicOrderCntLsbMinus4, DeltaPicOrderAlwaysZeroFlag, OffsetForNonRefPic, OffsetForTopToBottomField, NumRefFramesInPicOrderCntCycle, OffsetForRefFrame}
 use Rattle.h264_base.specs.Grammar.{Grammar, Done, ◌>>=◌}
@@ -7,7 +7,7 @@ use Rattle.h264_sps.specs.declared.count_type.Cycle.{Cycle}
 use Rattle.h264_sps.specs.declared.count_type.CountType.{CountType}
 use Rattle.h264_sps.specs.declared.count_type.CountType.TheVariants as count_type
 
--- the offsets, and 0 in the places behind them
+-- the offsets, and 0 in the places after them
 abbrev pub cycle_of : List ℤ → Cycle
 cycle_of offsets = record {
   offset_for_ref_frame = offsets ++ replicate (255 - length offsets) (pos 0);

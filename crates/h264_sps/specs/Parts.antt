@@ -1,5 +1,5 @@
--- Parts of the structure that stands whole in Sps: what the functions meet that read a structure part by part.
--- `sps_from_size` is the rest of it, from the size on.
+-- A working form. Parts of the structure that stands whole in Sps: what the functions meet that read a structure part by part. `sps_from_size` is the
+-- rest of it, from the size on.
 use Rattle.std.specs.Prelude.{ℕ, ◌+◌, ◌*◌, nat_le, nat_lt, ◌&&◌, Bool}
 use Rattle.h264_base.specs.declared.element_name.ElementName.{ElementName}
 use Rattle.h264_base.specs.declared.element_name.ElementName.TheVariants.{FrameMbsOnlyFlag, Direct8x8InferenceFlag, FrameCroppingFlag, VuiParametersPresentFlag}

@@ -1,4 +1,4 @@
--- What the reader's own types show.
+-- What the reader's own types show. A working form.
 use Rattle.h264_sps.specs.declared.read.Level.{Level}
 use Rattle.h264_sps.specs.declared.read.Front.{Front}
 use Rattle.h264_sps.specs.Sps.{LevelNamed, ProfileAndLevel}

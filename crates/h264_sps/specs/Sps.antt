@@ -1,4 +1,4 @@
--- seq_parameter_set_data() (7.3.2.1.1), with the rules on its values (7.4.2.1.1, A.2, A.3).
+-- seq_parameter_set_data() (7.3.2.1.1), with the rules on its values (7.4.2.1.1, A.2, A.3). To be read beside the standard.
 use Rattle.std.specs.Prelude.{ℕ, ◌+◌, ◌*◌, ◌/◌, min, nat_le, nat_lt, ◌==◌, ◌&&◌, ◌||◌, Bool, not, unwrap_or}
 use Rattle.std.specs.Option.{is_some}
 use Rattle.h264_base.specs.declared.mode.Target.{Target}

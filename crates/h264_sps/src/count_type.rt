@@ -11,7 +11,7 @@ use h264_base::{ElementName, Elements, Stop};
 use h264_bits::Bits;
 use h264_bits::forms::{flag_value, se_value, ue_up_to};
 
-/// The offsets of a cycle of reference frames: `length` of them, and 0 behind them.
+/// The offsets of a cycle of reference frames: `length` of them, and 0 after them.
 #[derive(Clone, Copy, PartialEq)]
 pub struct Cycle {
     pub offset_for_ref_frame: [i32; 255],

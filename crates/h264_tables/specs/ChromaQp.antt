@@ -1,4 +1,4 @@
--- The quantisation parameter of chroma (8.5.8).
+-- The quantisation parameter of chroma (8.5.8). To be read beside the standard.
 use Rattle.std.specs.Prelude.{ℕ, ◌-◌, List, [], ◌∷◌, ℤ, pos, negsuc, ◌+ℤ◌, min, nat_lt, slice_index, if◌then◌else◌}
 
 -- Clip3(0, 51, z)

@@ -1,4 +1,4 @@
--- A code word, by its row.
+-- A code word, by its row. To be read beside the standard.
 use Rattle.h264_base.specs.Table.{Row}
 use Rattle.h264_tables.specs.declared.code_words.CodeWord.{CodeWord}
 

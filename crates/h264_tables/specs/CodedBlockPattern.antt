@@ -1,4 +1,5 @@
--- coded_block_pattern (9.1.2, Table 9-4, for chroma_format_idc 1): the Exp-Golomb word of each codeNum stands for a pattern, the luma pattern and 16 times the chroma pattern.
+-- To be read beside the standard. coded_block_pattern (9.1.2, Table 9-4, for chroma_format_idc 1): the Exp-Golomb word of each codeNum stands for a
+-- pattern, the luma pattern and 16 times the chroma pattern.
 use Rattle.std.specs.Prelude.{ℕ, suc, ◌+◌, ◌*◌, List, [], ◌∷◌, ◌++◌}
 use Rattle.h264_base.specs.Table.{Row, row}
 

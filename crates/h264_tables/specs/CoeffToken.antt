@@ -1,4 +1,4 @@
--- coeff_token (9.2.1, Table 9-5): the value is 4 * TotalCoeff + TrailingOnes.
+-- coeff_token (9.2.1, Table 9-5): the value is 4 * TotalCoeff + TrailingOnes. To be read beside the standard.
 use Rattle.std.specs.Prelude.{List, [], ◌∷◌}
 use Rattle.h264_base.specs.Table.{Row, row}
 

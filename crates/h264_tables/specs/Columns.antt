@@ -1,4 +1,4 @@
--- Rows by their columns.
+-- Rows by their columns. A working form.
 use Rattle.std.specs.Prelude.{ℕ, List, [], ◌∷◌}
 use Rattle.h264_base.specs.Table.{Row, row}
 

@@ -1,4 +1,4 @@
--- A code word that was found, by its row.
+-- A code word that was found, by its row. A working form.
 use Rattle.h264_base.specs.Table.{Row}
 use Rattle.h264_tables.specs.declared.front.Entry.{Entry}
 

@@ -1,4 +1,4 @@
--- The word that some bits begin with.
+-- The word that some bits begin with. A working form.
 use Rattle.std.specs.Prelude.{ℕ, ◌-◌, ◌/◌, ◌^◌, Bool, List, [], ◌∷◌, ◌==◌, Option, Some, None, if◌then◌else◌}
 use Rattle.h264_base.specs.Table.{Row}
 

@@ -1,4 +1,4 @@
--- The greatest value of each table of code words.
+-- The greatest value of each table of code words. A working form.
 use Rattle.std.specs.Prelude.{ℕ}
 use Rattle.h264_tables.specs.declared.table.Table.{Table}
 use Rattle.h264_tables.specs.declared.table.Table.TheVariants.{CoeffTokenNc0, CoeffTokenNc2, CoeffTokenNc4, CoeffTokenNc8, CoeffTokenChromaDc, TotalZeros1, TotalZeros2, TotalZeros3, TotalZeros4, TotalZeros5, TotalZeros6, TotalZeros7, TotalZeros8, TotalZeros9, TotalZeros10, TotalZeros11, TotalZeros12, TotalZeros13, TotalZeros14, TotalZeros15, TotalZerosChromaDc1, TotalZerosChromaDc2, TotalZerosChromaDc3, RunBefore1, RunBefore2, RunBefore3, RunBefore4, RunBefore5, RunBefore6, RunBefore7, CodedBlockPatternIntra, CodedBlockPatternInter, InvertedBit, LevelPrefix}

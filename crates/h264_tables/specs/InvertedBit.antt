@@ -1,4 +1,4 @@
--- te(v) of an element with the range 0 to 1: the inverted bit (9.1).
+-- te(v) of an element with the range 0 to 1: the inverted bit (9.1). To be read beside the standard.
 use Rattle.std.specs.Prelude.{List, [], ◌∷◌}
 use Rattle.h264_base.specs.Table.{Row, row}
 

@@ -1,4 +1,4 @@
--- What the levels allow (A.3.1, Table A-1).
+-- What the levels allow (A.3.1, Table A-1). To be read beside the standard.
 use Rattle.std.specs.Prelude.{ℕ, Bool, List, [], ◌∷◌, ◌==◌, ◌&&◌, Option, find, if◌then◌else◌}
 use Rattle.std.specs.Option.{option_map}
 use Rattle.h264_tables.specs.declared.level.Limits.{Limits}

@@ -1,4 +1,4 @@
--- level_prefix (9.2.2.1): so many zeros and a 1, with at most 15 zeros in the profiles that are judged here.
+-- level_prefix (9.2.2.1): so many zeros and a 1, with at most 15 zeros in the profiles that are judged here. To be read beside the standard.
 use Rattle.std.specs.Prelude.{ℕ, zero, suc, List, [], ◌∷◌}
 use Rattle.h264_base.specs.Table.{Row, row}
 

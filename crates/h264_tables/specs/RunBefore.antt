@@ -1,4 +1,4 @@
--- run_before (9.2.3, Table 9-10): the value is run_before.
+-- run_before (9.2.3, Table 9-10): the value is run_before. To be read beside the standard.
 use Rattle.std.specs.Prelude.{List, [], ◌∷◌}
 use Rattle.h264_base.specs.Table.{Row, row}
 

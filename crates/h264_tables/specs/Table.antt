@@ -1,4 +1,4 @@
--- The tables of code words.
+-- The tables of code words. To be read beside the standard.
 use Rattle.std.specs.Prelude.{◌≡◌, true, refl, List}
 use Rattle.h264_base.specs.Table.{Row, CodeTable, is_prefix_free, is_apart, is_prefix}
 use Rattle.h264_tables.specs.declared.table.Table.{Table}

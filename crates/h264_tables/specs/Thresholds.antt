@@ -1,4 +1,4 @@
--- The thresholds of the deblocking filter (8.7.2.2, Tables 8-16 and 8-17), by indexA or indexB from 0 to 51.
+-- The thresholds of the deblocking filter (8.7.2.2, Tables 8-16 and 8-17), by indexA or indexB from 0 to 51. To be read beside the standard.
 use Rattle.std.specs.Prelude.{ℕ, List, [], ◌∷◌}
 use Rattle.h264_tables.specs.declared.thresholds.Strength.{Strength}
 use Rattle.h264_tables.specs.declared.thresholds.Strength.TheVariants.{One, Two, Three}

@@ -1,4 +1,4 @@
--- total_zeros (9.2.3, Tables 9-7, 9-8 and 9-9): the value is total_zeros. tzVlcIndex is TotalCoeff.
+-- total_zeros (9.2.3, Tables 9-7, 9-8 and 9-9): the value is total_zeros. tzVlcIndex is TotalCoeff. To be read beside the standard.
 use Rattle.std.specs.Prelude.{List, [], ◌∷◌}
 use Rattle.h264_base.specs.Table.{Row, row}
 

@@ -44,7 +44,7 @@ const TABLES: [(Table, usize); 34] = [
     (Table::LevelPrefix, 16),
 ];
 
-/// The bits of a text of 0s and 1s, with 0s behind them up to 16.
+/// The bits of a text of 0s and 1s, with 0s after them up to 16.
 fn bits(text: &str) -> u16 {
     let mut all = 0u32;
     let mut left = 16u32;
@@ -57,7 +57,7 @@ fn bits(text: &str) -> u16 {
     (all & 0xffff) as u16
 }
 
-/// Sees that the word of a row is found, with 0s behind it and with 1s.
+/// Sees that the word of a row is found, with 0s after it and with 1s.
 fn row_is_found(rt: &impl Abort, table: Table, i: usize) {
     let Some(word) = code_word(table, i) else {
         assert!(rt; false, "row {i} of {table:?}");

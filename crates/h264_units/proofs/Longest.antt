@@ -1,4 +1,4 @@
--- The units of an input with a fault behind them are those of its longest part that is a byte stream.
+-- The units of an input with a fault after them are those of its longest part that is a byte stream.
 use Rattle.std.proofs.Common.{◌≡◌, ℕ, suc, ◌+◌, ◌<◌, ◌≤◌, List, [], ◌∷◌, ◌++◌, length, replicate, take, drop, refl, ap, sym, ◌∙◌, subst, arith, append_assoc, length-append}
 use Rattle.std.specs.List.{All}
 use Rattle.std.proofs.lemmas.List.{length-replicate, take_at, take-append-le, take-append-drop}
@@ -35,7 +35,7 @@ same-body (c ∷ a) (d ∷ b) x y l p q ex ey e h =
     let r = same-body a b x y l p.1 q.1 ex ey tails (omega arith) in
     record { body_is = cc (heads, r.body_is); rest_is = r.rest_is }
 
--- the start code and the bytes behind it, where a longer part is a byte stream
+-- the start code and the bytes after it, where a longer part is a byte stream
 record Begun (at : ℕ) (m : ℕ) (x : List ℕ) (left : List ℕ) (longer : List ℕ) : Type 0 where
   pub unit : NalUnit
   pub units : List NalUnit

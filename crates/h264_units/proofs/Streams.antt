@@ -3,7 +3,7 @@ use Rattle.std.proofs.Common.{◌≡◌, ◌≢◌, ◌⊎◌, inl, inr, ℕ, ze
 use Rattle.std.proofs.lemmas.List.{length-replicate}
 use Rattle.h264_units.specs.Stream.{NalUnit, EndsUnit, IsInner, IsBody, started, First, past, unit_limit, input_limit, shown_by, Next, Tail, Zeros, Stray, Bare, Long, Cut, IsStray, IsBare, IsLong, IsOpenUnit, IsCut, HasTail, Splits, SameUnits}
 
--- more bytes behind it end no unit before it
+-- more bytes after it end no unit before it
 pub inner-more : (x : ℕ) (b r : List ℕ) → (EndsUnit (x ∷ b) → ⊥) → EndsUnit ((x ∷ b) ++ r) → ⊥
 inner-more x [] [] n h = n h
 inner-more x [] (y ∷ []) n h = n h.0
@@ -118,7 +118,7 @@ first-length at bytes u rest f =
     let c : u.from ≡ at + f.zeros + 3 = f.from in
     omega arith
 
--- a start code reaches behind the zeros before it
+-- a start code reaches after the zeros before it
 pub code-alone : (m n : ℕ) (x y : List ℕ) → started m x ≡ replicate n 0 ++ y → n ≤ m + 2
 code-alone m n x y e = zeros-before (m + 2) n 1 x y one-not-zero (sym (code-zeros m x) ∙ e)
 
@@ -157,7 +157,7 @@ long-not-open (c ∷ a) r (d ∷ b) y held p w more short =
     let t : a ++ r ≡ (b ++ replicate held 0) ++ y = cc in
     long-not-open a r b y held p.1 t (omega arith) (omega arith)
 
--- A start code in bytes that are cut: the bytes behind it reach over the cut, or what they show of a unit is open.
+-- A start code in bytes that are cut: the bytes after it reach over the cut, or what they show of a unit is open.
 pub record Reaches (at m : ℕ) (x : List ℕ) (rest : List ℕ) : Type 0 where
   pub body : List ℕ
   pub held : ℕ

@@ -30,7 +30,7 @@ live-last : (stop : Option Stop) (held : ℕ) → IsLive stop (Last held) → st
 live-last None held h = refl
 live-last (Some stop) held h = absurd h
 
--- what is left behind a unit shows no other
+-- what is left after a unit shows no other
 code-undecided : (code : Bool) → IsUndecided (0 ∷ 0 ∷ third code ∷ [])
 code-undecided true = inr (record { zeros = 0; body = []; held = 0; whole = refl; inner = tt; fits = omega arith; few = omega arith })
 code-undecided false = inl (3, refl)

@@ -86,7 +86,7 @@ pub record SomeSplit (at : ℕ) (bytes : List ℕ) : Type 0 where
   pub tail : Tail
   pub splits : Splits at bytes units tail
 
--- These bytes are judged: no more follow, or so many follow that the input's limit is behind these.
+-- These bytes are judged: no more follow, or so many follow that the input's limit is after these.
 abbrev IsFront : ℕ → List ℕ → List ℕ → Type 0
 IsFront at front more = ((more ≡ []) × (at + length front ≤ input_limit)) ⊎ ((0 < length more) × (at + length front ≡ input_limit))
 

@@ -1,4 +1,4 @@
--- What a splitter keeps, and what the scan of a piece finds.
+-- What a splitter keeps, and what the scan of a piece finds. A working form.
 use Rattle.std.specs.Prelude.{◌≡◌, ℕ, zero, suc, ◌+◌, ◌-◌, ◌<◌, ◌≤◌, Bool, true, false, List, [], ◌∷◌, ◌++◌, length, take, drop, replicate, Option, Some, None}
 use Rattle.h264_base.specs.declared.stop.Stop.{Stop}
 use Rattle.h264_units.specs.Stream.{IsInner, IsBody, started, unit_limit, input_limit}
@@ -11,7 +11,7 @@ abbrev pub third : Bool → ℕ
 third true = 1
 third false = 0
 
--- the bytes behind those that are surely the unit's
+-- the bytes after those that are surely the unit's
 abbrev pub ending : Phase → List ℕ
 ending Between = []
 ending (Inside zeros) = replicate zeros 0
@@ -79,7 +79,7 @@ IsRunning (Waiting code) = Unit {0}
 IsRunning (Last zeros) = ⊥
 IsRunning Over = ⊥
 
--- how a scan of a unit's bytes ends: behind the unit, or with some zeros held back
+-- how a scan of a unit's bytes ends: after the unit, or with some zeros held back
 abbrev pub IsInUnit : Phase → Type 0
 IsInUnit Between = ⊥
 IsInUnit (Inside zeros) = zeros < 3

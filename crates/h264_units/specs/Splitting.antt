@@ -1,4 +1,4 @@
--- What a splitter is to its callers, and what its calls do.
+-- What a splitter is to its callers, and what its calls do. A working form.
 use Rattle.std.specs.Prelude.{◌≡◌, ℕ, ◌+◌, ◌≤◌, ◌⊎◌, Bool, false, IsTrue, IsFalse, List, [], ◌++◌, length, take, Option, Some, None}
 use Rattle.h264_base.specs.declared.stop.Stop.{Stop}
 use Rattle.h264_base.specs.declared.stop.Stop.TheVariants.{No, Outside, Memory, Read, Write}
@@ -21,7 +21,7 @@ at_start = record { at = 0; rest = []; waiting = false; ended = false; stop = No
 abbrev pub stopped_by : Stop → Splitting → Splitting
 stopped_by stop s = record s { stop = Some stop }
 
--- no byte behind the input's limit was taken
+-- no byte after the input's limit was taken
 abbrev pub IsWithin : Splitting → Type 0
 IsWithin s = s.at + length s.rest ≤ input_limit
 
@@ -37,7 +37,7 @@ pub record Pushed (old new : Splitting) (piece : List ℕ) (n : ℕ) : Type 0 wh
   pub at_is : new.at ≡ old.at
   pub rest_is : new.rest ≡ old.rest ++ take n piece
   pub all : IsFalse new.waiting → IsFalse new.ended → n ≡ length piece
-  -- no whole unit is left behind
+  -- no whole unit is left
   pub undecided : IsFalse new.waiting → IsUndecided new.rest
   pub ended_is : new.ended ≡ old.ended
   pub stop_is : new.stop ≡ None
@@ -61,7 +61,7 @@ pub record Taken (old new : Splitting) (unit : NalUnit) : Type 0 where
   pub last : IsTrue old.ended → HasTail new.at new.rest Zeros
   pub at_is : new.at ≡ past unit
   pub waits_no_more : IsFalse new.waiting
-  -- no whole unit is left behind
+  -- no whole unit is left
   pub undecided : IsUndecided new.rest
   pub ended_is : new.ended ≡ old.ended
   pub stop_is : new.stop ≡ None

@@ -1,4 +1,4 @@
--- Byte streams and their NAL units (7.3.1, B.1.1, B.1.2). Places count the bytes of the input from 0.
+-- Byte streams and their NAL units (7.3.1, B.1.1, B.1.2). Places count the bytes of the input from 0. To be read beside the standard.
 use Rattle.std.specs.Prelude.{◌≡◌, ◌≢◌, ℕ, ◌+◌, ◌*◌, ◌^◌, ◌<◌, ◌≤◌, ◌⊎◌, min, List, [], ◌∷◌, ◌++◌, length, replicate, Option, Some, None}
 use Rattle.h264_base.specs.declared.rule.Rule.TheVariants.{ByteStream, EmptyUnit}
 use Rattle.h264_base.specs.declared.stop.Feature.TheVariants.{UnitTooLong, InputTooLong}
@@ -10,7 +10,7 @@ pub record NalUnit : Type 0 where
   pub from : ℕ
   pub body : List ℕ
 
--- the place behind it
+-- the place after it
 abbrev pub past : NalUnit → ℕ
 past unit = unit.from + length unit.body
 
@@ -55,7 +55,7 @@ unit_limit = 2 ^ 28
 abbrev pub input_limit : ℕ
 input_limit = 2 ^ 40
 
--- the place behind the bytes that show that a unit ended at this place, before the rest: three, or all where the input has no more
+-- the place after the bytes that show that a unit ended at this place, before the rest: three, or all where the input has no more
 abbrev pub shown_by : ℕ → List ℕ → ℕ
 shown_by place rest = place + min 3 (length rest)
 
@@ -65,13 +65,13 @@ pub record Next (at : ℕ) (bytes : List ℕ) (unit : NalUnit) (rest : List ℕ)
   pub fits : length unit.body ≤ unit_limit
   pub shown : shown_by (past unit) rest ≤ input_limit
 
--- How any input goes on behind its last whole unit.
+-- How any input goes on after its last whole unit.
 pub data Tail : Type 0 where
   -- 00 bytes to its end
   Zeros : Tail
   -- at this place a byte that is no 00 and belongs to no start code
   Stray : ℕ → Tail
-  -- a start code, which ends at this place, and no byte of a unit behind it
+  -- a start code, which ends at this place, and no byte of a unit after it
   Bare : ℕ → Tail
   -- at this place a unit begins that has too many bytes
   Long : ℕ → Tail
@@ -137,7 +137,7 @@ HasTail at bytes (Bare place) = IsBare at bytes place
 HasTail at bytes (Long place) = IsLong at bytes place
 HasTail at bytes Cut = IsCut at bytes
 
--- Any bytes from this place to the end of the input: the units that are judged, and how the bytes go on behind the last.
+-- Any bytes from this place to the end of the input: the units that are judged, and how the bytes go on after the last.
 abbrev pub Splits : ℕ → List ℕ → List NalUnit → Tail → Type 0
 Splits at bytes [] tail = HasTail at bytes tail
 Splits at bytes (unit ∷ units) tail = (rest : List ℕ) × Next at bytes unit rest × Splits (past unit) rest units tail

@@ -48,7 +48,7 @@ pub(crate) fn is_open(phase: Phase) -> bool
     matches!(phase, Phase::Between | Phase::Inside(_))
 }
 
-/// How many bytes of the input were taken, with these behind the last unit taken, which ended at this place.
+/// How many bytes of the input were taken, with these after the last unit taken, which ended at this place.
 pub(crate) fn length(at: u64, lead: u64, body: &[u8], phase: Phase) -> u64
     requires { at + length (rest_of phase lead body.now) ≤ input_limit }
     ensures { result ≡ at + length (rest_of phase lead body.now) }
@@ -73,7 +73,7 @@ fn kept(taken: usize, phase: Phase) -> usize
     }
 }
 
-/// How many of the 00 bytes held back are the unit's, where so many bytes behind them are.
+/// How many of the 00 bytes held back are the unit's, where so many bytes after them are.
 fn gained(held: u8, kept: usize) -> u8
     ensures { result ≡ zeros_gained held kept }
 {

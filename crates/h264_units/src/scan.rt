@@ -10,11 +10,11 @@ ghost use Rattle.h264_units.specs.Scanned.{Scans, IsOpen};
 pub(crate) enum Phase {
     /// Between units, where only 00 bytes stand.
     Between,
-    /// In a unit, with so many 00 bytes at its end, two at most, that it may go on behind them or end before them.
+    /// In a unit, with so many 00 bytes at its end, two at most, that it may go on after them or end before them.
     Inside(u8),
-    /// Behind a unit that waits, and behind the bytes that ended it: 00 00 01 if true, else 00 00 00.
+    /// Behind a unit that waits, and after the bytes that ended it: 00 00 01 if true, else 00 00 00.
     Waiting(bool),
-    /// At the end of the input, with a unit that waits, and so many 00 bytes behind it.
+    /// At the end of the input, with a unit that waits, and so many 00 bytes after it.
     Last(u8),
     /// At the end of the input, with no unit left.
     Over,

@@ -1,4 +1,4 @@
--- What the code has of the references and vectors of a macroblock's blocks.
+-- What the code has of the references and vectors of a macroblock's blocks. A working form.
 use Rattle.std.specs.Prelude.{◌≡◌, ◌≤◌, Bool, true, false, List, [], ◌∷◌, map, Option, Some, None, if◌then◌else◌}
 use Rattle.std.specs.Option.{is_some}
 use Rattle.std.specs.List.{range_with_len}

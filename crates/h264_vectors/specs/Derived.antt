@@ -1,4 +1,4 @@
--- References and vectors of a macroblock's blocks, part by part (8.4.1), and the range of vectors (A.3.1).
+-- References and vectors of a macroblock's blocks, part by part (8.4.1), and the range of vectors (A.3.1). To be read beside the standard.
 use Rattle.std.specs.Prelude.{ℕ, zero, suc, ◌+◌, nat_lt, int_le, Bool, true, ◌&&◌, not, List, [], ◌∷◌, map, replicate, Option, Some, None, ℤ, pos, ◌+ℤ◌, slice_get, if◌then◌else◌}
 use Rattle.std.specs.Option.{is_some, unwrap_or, option_and_then}
 use Rattle.std.specs.Int.Signed.{lt_z}

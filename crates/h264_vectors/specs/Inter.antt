@@ -1,4 +1,4 @@
--- mb_pred() and sub_mb_pred() of inter macroblocks (7.3.5.1, 7.3.5.2), with their references and vectors (8.4.1).
+-- mb_pred() and sub_mb_pred() of inter macroblocks (7.3.5.1, 7.3.5.2), with their references and vectors (8.4.1). To be read beside the standard.
 use Rattle.std.specs.Prelude.{ℕ, ◌-◌, ◌==◌, nat_lt, nat_le, Bool, ◌||◌, not, List, [], ◌∷◌, if◌then◌else◌}
 use Rattle.h264_base.specs.declared.element_name.ElementName.TheVariants.{SubMbType, RefIdxL0, MvdL0}
 use Rattle.h264_base.specs.declared.rule.Rule.TheVariants.{Range, NoReference}

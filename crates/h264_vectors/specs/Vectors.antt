@@ -1,4 +1,4 @@
--- Predicted vectors (8.4.1.1, 8.4.1.3).
+-- Predicted vectors (8.4.1.1, 8.4.1.3). To be read beside the standard.
 use Rattle.std.specs.Prelude.{ℕ, ℤ, pos, ◌+◌, Bool, true, false, int_le, List, replicate, Option, Some, None, ◌==◌, ◌&&◌, ◌||◌, if◌then◌else◌}
 use Rattle.std.specs.Ordering.{int_eq}
 use Rattle.h264_near.specs.Coded.{CodedMacroblock}

@@ -42,7 +42,7 @@ abbrev pub macroblocks_of : List CodedSlice → List CodedMacroblock
 macroblocks_of [] = []
 macroblocks_of (s ∷ slices) = s.macroblocks
 
--- behind these pictures, in a picture with this first slice, these slices have the macroblocks of those before and their own
+-- after these pictures, in a picture with this first slice, these slices have the macroblocks of those before and their own
 abbrev pub AreReadSlices : CodedSlice → List CodedPicture → List CodedSlice → Type 0
 AreReadSlices first ps [] = Unit {0}
 AreReadSlices first ps (s ∷ slices) = AreOfSlice first.sps.frame_size.width (context_in (with_first first ∷ ps) s) (macroblocks_of slices) s.macroblocks × AreReadSlices first ps slices

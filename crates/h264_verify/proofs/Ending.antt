@@ -104,7 +104,7 @@ stop-all (Tells (Shows e) ∷ steps) f calls stop h = subst EndAll (sym h.1) (st
 all-keeps : (steps : List Step) → StepsEnd steps → Keeps EndAll steps
 all-keeps steps f = record { met = met-all steps f; stops = stop-all steps f }
 
--- behind the rules of some of them
+-- after the rules of some of them
 ends-behind : (xs ys : List Step) → StepsEnd xs → (Met xs → StepsEnd ys) → StepsEnd (xs ++ ys)
 ends-behind [] ys h k = k tt
 ends-behind (Needs d ∷ xs) ys h k = λ t. ends-behind xs ys (h t) (λ m. k (t, m))
@@ -164,7 +164,7 @@ closes-end false pictures s r m = tt
 closes-end true [] s r m = tt
 closes-end true (p ∷ ps) s r m = (ends-within p ps (closes-sound true (p ∷ ps) s m) r.0, frames-end (ended_turn p ps (within_newest (p ∷ ps)).buffer).written)
 
--- ---- behind legal units
+-- ---- after legal units
 
 module _ (target : Target) (before : History) (first : List Told) (l : AreLegal (terms_of modes.Full target) before first) where
   closing-end : Met (needs (closing_demands before)) → StepsEnd (closing_frames modes.Full before)

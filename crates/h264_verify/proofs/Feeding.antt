@@ -62,7 +62,7 @@ stops-push j took failures old new state piece s Memory p = memory-stops j took 
 stops-push j took failures old new state piece s Read p = absurd p
 stops-push j took failures old new state piece s Write p = absurd p
 
--- the units behind the first, and the outcome from the first on
+-- the units after the first, and the outcome from the first on
 pub record FirstJudged {State Summary : Type 0} (j : Judging State Summary) (state : State) (unit : NalUnit) (rest : List ℕ) (o : Outcome Summary) : Type 0 where
   pub units : List NalUnit
   pub tail : Tail

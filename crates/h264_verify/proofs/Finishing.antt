@@ -49,7 +49,7 @@ told-by took failures view o s s' (Err Memory) p = inl p.1
 told-by took failures view o s s' (Err Read) p = absurd p
 told-by took failures view o s s' (Err Write) p = inr refl
 
--- behind calls at which none failed
+-- after calls at which none failed
 pub told-behind : {W : Type 0} {a b c : ℕ} → b ≡ a → (c ≡ b) ⊎ W → (c ≡ a) ⊎ W
 told-behind e (inl f) = inl (f ∙ e)
 told-behind e (inr w) = inr w

@@ -28,7 +28,7 @@ lacks-unit j took at state bytes s s' unit calls g t first = record {
   lacks = λ units tail sp. let f = first units tail sp in record { judged = []; later = units; units_are = refl; mid = state; first = []; last = calls; led = (refl, refl); lacks = ForUnit unit f.0 f.1 g; calls_are = refl };
 }
 
--- behind units that were taken
+-- after units that were taken
 pub lacks-after : {State Summary : Type 0} (j : Judging State Summary) {S : Type 0} (took : S → List Told → Type 0) (old mid : Standing State) (piece left more : List ℕ) (s0 s1 s2 : S) → Goes j took old mid piece left s0 s1 → Lacking j took mid.split.at mid.state (mid.split.rest ++ (left ++ more)) s1 s2 → Lacking j took old.split.at old.state (old.split.rest ++ (piece ++ more)) s0 s2
 lacks-after j took old mid piece left more s0 s1 s2 g b = record {
   calls = g.calls ++ b.calls;

@@ -152,7 +152,7 @@ pub record HasEnded (before : History) (unit : NalUnit) (calls : List Told) : Ty
   pub met : Met (end_steps_at before unit)
   pub decoded : (frames : ℕ → Frame) → AreDecoded frames calls → HaveDecoded frames (end_steps_at before unit)
 
--- What a unit behind these with this content has met, in its parts.
+-- What a unit after these with this content has met, in its parts.
 pub record HasMet (target : Target) (before : History) (unit : NalUnit) (c : Content) (calls : List Told) : Type 0 where
   pub header : Met (byte_steps unit)
   pub ends : HasEnded before unit calls
@@ -258,7 +258,7 @@ header-marked before unit h m k = marked-of (header_of unit) (slice_unit unit) h
 
 -- ---- slice data
 
--- what stands behind content that is no slice
+-- what stands after content that is no slice
 pub rest-ends : (body : Body) (found c : Content) (calls : List Told) → Runs body (Ends found) calls (Ok c) → c ≡ found
 rest-ends body found c calls h = let e = h.1 in cc
 

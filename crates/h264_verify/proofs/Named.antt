@@ -50,7 +50,7 @@ pub record IsOfKind (first s : CodedSlice) : Type 0 where
   pub idr : is_idr s.header ≡ is_idr first.header
   pub intra : is_idr s.header ≡ true → is_i s.header.kind.value ≡ true
 
--- A picture behind these: one that is no IDR picture has the sequence parameter set of the one before it, an IDR picture leaves its own frame alone, and
+-- A picture after these: one that is no IDR picture has the sequence parameter set of the one before it, an IDR picture leaves its own frame alone, and
 -- its slices were read.
 pub record IsRead (p : CodedPicture) (ps : List CodedPicture) : Type 0 where
   pub set : is_idr p.first.header ≡ false → HasSet p.first.sps ps

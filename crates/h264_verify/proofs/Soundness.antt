@@ -32,7 +32,7 @@ closes-sound on [] s m = tt
 closes-sound true (p ∷ ps) s m = (s.0, λ e. m.0, s.2)
 closes-sound false (p ∷ ps) s m = s
 
--- behind a unit that is no slice
+-- after a unit that is no slice
 pub passed-sound : (ends on : Bool) (pictures : List CodedPicture) → AreSound (has_ended on false) pictures → Met (needs (if ends then (if on then end_of_picture pictures else []) else [])) → AreSound (has_ended (not ends && on) false) pictures
 passed-sound true on pictures s m = closes-sound on pictures s m
 passed-sound false on pictures s m = s

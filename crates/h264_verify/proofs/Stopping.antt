@@ -154,7 +154,7 @@ module _ (before : History) (p : CodedPicture) (ps : List CodedPicture) (runs : 
       by [] = tt
       by (q ∷ qs) = tt
 
-  -- the end of the picture, and whatever comes behind it
+  -- the end of the picture, and whatever comes after it
   closing-fair : (more : List Step) → AreFair (closing_frames modes.Full before ++ more)
   closing-fair more =
       let go : AreFair (end_frames modes.Full (runs_of before) ++ more) = subst (λ pictures. AreFair (end_frames modes.Full pictures ++ more)) (sym runs) refl in
@@ -207,7 +207,7 @@ module _ (before : History) (p : CodedPicture) (ps : List CodedPicture) (runs : 
   behind-fair target units tail end stop calls (AtTail e h n) = none-fair calls n
   behind-fair target units tail end stop calls (AtEnd e t h) = stop-fair (end_steps modes.Full before (8 * end)) (end-fair (8 * end)) calls stop h
 
--- ---- what is told behind legal units
+-- ---- what is told after legal units
 
 -- It is of the pictures so far, and of the newest, if that may go on, no frame is told before it has ended.
 record IsTold (before : History) (calls : List Told) : Type 0 where
@@ -294,7 +294,7 @@ front-of (t ∷ told) rest (x ∷ xs) ys e =
     by head (inr m) = inr (m.0, ap (λ (y : Told). y ∷ told) head ∙ ap (λ (l : List Told). x ∷ l) m.1, m.2)
 
 module _ (frames others : ℕ → Frame) where
-  -- behind legal units
+  -- after legal units
   behind-output : (target : Target) (before : History) (first last all : List Told) → AreLegal (terms_of modes.Full target) before first → all ≡ first ++ last → IsEnded before last → AreDecoded frames all → AreDecoded others all → calls_of frames all ≡ calls_of others all
   behind-output target before first last all l e (inl of) d d' =
       let pictures = ended_pictures (goes_on before) false (runs_of before) in

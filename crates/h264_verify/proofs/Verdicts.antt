@@ -233,7 +233,7 @@ pub in-order : (h : History) (us : List NalUnit) → in_order h us ≡ in_order 
 in-order [] us = refl
 in-order (r ∷ h) us = in-order h (r.unit ∷ us) ∙ sym (append_assoc (in_order h []) (r.unit ∷ []) us) ∙ ap (λ l. l ++ us) (sym (in-order h (r.unit ∷ [])))
 
--- where memory was wanting, behind legal units
+-- where memory was wanting, after legal units
 wants-behind : (terms : Terms) (before : History) (units : List NalUnit) (calls : List Told) → LacksNext (judging terms) before units calls → IsWanting terms before units calls
 wants-behind terms before units calls (lacking.ForBytes e) = BeforeNext e
 wants-behind terms before units calls (lacking.ForUnit unit later e g) = ForPicture unit later e g
@@ -259,7 +259,7 @@ wanting terms took bytes before told at rest s s' l cut k =
     let u = cut all.units all.tail all.splits in
     record { more = k.calls; tells = k.tells; wants = wants-at terms bytes before told all.units u.0 all.tail k.calls l all.splits u.1 (k.lacks u.0 all.tail u.2) }
 
--- What was played of the stream's outcome, behind what a sink was told before, is its verdict.
+-- What was played of the stream's outcome, after what a sink was told before, is its verdict.
 module _ {S : Type 0} (terms : Terms) (took : S → List Told → Type 0) (failures : S → ℕ) (bytes : List ℕ) (calls : List Told) (later : Outcome Summary) (s s' : S) (v : (answer : Result Summary Stop) → later.answer ≡ answer → Verdict terms bytes (calls ++ later.calls) answer) where
   whole : (answer : Result Summary Stop) → later.answer ≡ answer → Tells took s s' later.calls → Whole terms took bytes calls s s' answer
   whole answer e t = record { more = later.calls; tells = t; verdict = v answer e }

@@ -1,5 +1,5 @@
--- What holds of each picture of a stream that is legal: its predictions refer to pictures that are held, and the buffer stays
--- within its level's frames (8.4.2.1, A.3.1, C.4.2, C.4.4, C.4.5). To be read beside the standard.
+-- To be read beside the standard. What holds of each picture of a stream that is legal: its predictions refer to pictures that are held, and the buffer
+-- stays within its level's frames (8.4.2.1, A.3.1, C.4.2, C.4.4, C.4.5).
 use Rattle.std.specs.Prelude.{List, [], ◌∷◌}
 use Rattle.h264_base.specs.declared.mode.Mode.{Mode}
 use Rattle.h264_base.specs.declared.mode.Mode.TheVariants as modes
@@ -9,7 +9,7 @@ use Rattle.h264_slices.specs.Held.{AreAmong}
 use Rattle.h264_verify.specs.Predicting.{ArePredicted}
 use Rattle.h264_verify.specs.Within.{DecodesWithin, EndsWithin}
 
--- A picture behind these. Each block of its inter macroblocks refers to a picture that is held while it is decoded, and each
+-- A picture after these. Each block of its inter macroblocks refers to a picture that is held while it is decoded, and each
 -- picture that is held then has its frame in the buffer. The buffer stays within its places before it, while it is decoded, and
 -- once it has ended; there are then at most MaxDpbFrames of its level.
 pub record IsDecodable (p : CodedPicture) (ps : List CodedPicture) : Type 0 where

@@ -18,7 +18,7 @@ use Rattle.h264_verify.specs.Session.{Standing, ToCome, Shows, Goes, Stops, Fini
 use Rattle.h264_verify.specs.Verdict.{in_order, AreLegal, SameTold}
 use Rattle.h264_verify.specs.Progress.{Progress}
 
--- where a session stands behind these units
+-- where a session stands after these units
 abbrev pub behind : Splitting → History → Standing History
 behind split before = record { split = split; state = before }
 
@@ -72,7 +72,7 @@ pub record WasFed (terms : Terms) (session : Progress) (bytes : List ℕ) (frame
   pub of : AreOf (ended_in before) told
   pub goes : (more : List ℕ) (o : Outcome Summary) → Comes (judging terms) 0 [] (bytes ++ more) o → (later : Outcome Summary) × ToCome (judging terms) (behind session.split before) more later × (o ≡ with_calls told later)
 
--- The session was then fed these bytes, and the sink was told what comes of them behind that, with these frames and some more.
+-- The session was then fed these bytes, and the sink was told what comes of them after that, with these frames and some more.
 pub record IsFed {S : Type 0} (terms : Terms) (took : S → List Call → Type 0) (failures : S → ℕ) (session : Progress) (bytes : List ℕ) (frames : ℕ → Frame) (told : List Told) (s s' : S) : Type 0 where
   pub made : ℕ → Frame
   pub same : SameTold frames made told

@@ -37,6 +37,6 @@ pub record Comes {State Summary : Type 0} (j : Judging State Summary) (at : ℕ)
   pub splits : Splits at bytes units tail
   pub is : o ≡ units_outcome j state units tail (at + length bytes)
 
--- the units of a stream judged by these terms, behind one another
+-- the units of a stream judged by these terms, after one another
 abbrev pub judging : Terms → Judging History Summary
 judging terms = record { unit = unit_outcome terms; end = end_outcome terms.mode; grows = ChangesFormat terms.mode }

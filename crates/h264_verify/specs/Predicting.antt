@@ -19,6 +19,6 @@ PredictsFrom held (Intra16x16 mode chroma) = Unit {0}
 PredictsFrom held (Pcm samples) = Unit {0}
 PredictsFrom held (Inter motions) = (b : ℕ) → b < 16 → RefersTo held (get_or motions b None)
 
--- The macroblocks of a picture behind these are predicted from pictures that are held while it is decoded.
+-- The macroblocks of a picture after these are predicted from pictures that are held while it is decoded.
 abbrev pub ArePredicted : CodedPicture → List CodedPicture → Type 0
 ArePredicted p ps = (a : ℕ) (m : CodedMacroblock) → slice_get (last_slice p).macroblocks a ≡ Some m → PredictsFrom (held_in (p ∷ ps)) m.prediction

@@ -17,7 +17,7 @@ pub record Standing (State : Type 0) : Type 0 where
 abbrev pub ToCome : {State Summary : Type 0} → Judging State Summary → Standing State → List ℕ → Outcome Summary → Type 0
 ToCome j p bytes o = Comes j p.split.at p.state (p.split.rest ++ bytes) o
 
--- From this place on these bytes show these units, each with its end whatever follows, and behind them stands this rest.
+-- From this place on these bytes show these units, each with its end whatever follows, and after them stands this rest.
 abbrev pub Shows : ℕ → List ℕ → List NalUnit → ℕ → List ℕ → Type 0
 Shows at bytes [] end rest = (end ≡ at) × (rest ≡ bytes)
 Shows at bytes (unit ∷ units) end rest = (left : List ℕ) × ((more : List ℕ) → Next at (bytes ++ more) unit (left ++ more)) × Shows (past unit) left units end rest
@@ -57,13 +57,13 @@ pub record Lacks {State Summary : Type 0} (j : Judging State Summary) (state : S
   pub lacks : LacksNext j mid later last
   pub calls_are : calls ≡ first ++ last
 
--- Of these bytes, from this place and state on, this was told, and then memory was wanting.
+-- From this place and state on, this was told of these bytes, and then memory was wanting.
 pub record Lacking {State Summary S : Type 0} (j : Judging State Summary) (took : S → List Told → Type 0) (at : ℕ) (state : State) (bytes : List ℕ) (s s' : S) : Type 0 where
   pub calls : List Told
   pub tells : Tells took s s' calls
   pub lacks : (units : List NalUnit) (tail : Tail) → Splits at bytes units tail → Lacks j state units calls
 
--- so it was, however the input goes on behind this piece
+-- so it was, however the input goes on after this piece
 abbrev pub LacksBehind : {State Summary S : Type 0} → Judging State Summary → (S → List Told → Type 0) → Standing State → List ℕ → S → S → Type 0
 LacksBehind j took old piece s s' = (more : List ℕ) → Lacking j took old.split.at old.state (old.split.rest ++ (piece ++ more)) s s'
 

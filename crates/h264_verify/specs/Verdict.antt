@@ -25,12 +25,12 @@ use Rattle.h264_verify.specs.Decodable.{AreDecodable}
 abbrev pub IsSound : NalUnit → Type 0
 IsSound unit = (place : ℕ) → IsFault unit.body place → ⊥
 
--- A unit behind these whose course comes to its end: with every rule met, no feature among them, and a derivation of its content.
+-- A unit after these whose course comes to its end: with every rule met, no feature among them, and a derivation of its content.
 pub record IsLegal (terms : Terms) (before : History) (r : ReadUnit) (calls : List Told) : Type 0 where
   pub sound : IsSound r.unit
   pub runs : Runs (body_of r.unit) (unit_course terms before r.unit) calls (Ok r.content)
 
--- A unit behind these at which the verdict falls, with what was told of it before.
+-- A unit after these at which the verdict falls, with what was told of it before.
 pub data IsStop (terms : Terms) (before : History) (unit : NalUnit) (stop : Stop) (calls : List Told) : Type 0 where
   -- its bytes break emulation prevention: nothing is told
   AtBytes : (place : ℕ) → IsFirstFault unit.body place → stop ≡ No (8 * (unit.from + place)) Emulation → calls ≡ [] → IsStop terms before unit stop calls
@@ -42,7 +42,7 @@ abbrev pub AreLegal : Terms → History → List Told → Type 0
 AreLegal terms [] calls = calls ≡ []
 AreLegal terms (r ∷ before) calls = (earlier : List Told) × (last : List Told) × AreLegal terms before earlier × IsLegal terms before r last × (calls ≡ earlier ++ last)
 
--- the units in their order, and these behind them
+-- the units in their order, and these after them
 abbrev pub in_order : History → List NalUnit → List NalUnit
 in_order [] units = units
 in_order (r ∷ before) units = in_order before (r.unit ∷ units)
@@ -105,7 +105,7 @@ pub record Front {S : Type 0} (terms : Terms) (took : S → List Told → Type 0
   pub answer : Result Summary Stop
   pub verdict : Verdict terms bytes ((calls ++ more) ++ rest) answer
 
--- Memory is wanting behind legal units: before anything is told of the next, for its bytes, or at the beginning for the places of
+-- Memory is wanting after legal units: before anything is told of the next, for its bytes, or at the beginning for the places of
 -- parameter sets; or in the next, whose slice begins a picture of another format than that of the picture before it. So a slice of
 -- a picture that has begun wants memory for its bytes alone.
 pub data IsWanting (terms : Terms) (before : History) (units : List NalUnit) (calls : List Told) : Type 0 where

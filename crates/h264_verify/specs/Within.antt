@@ -8,11 +8,11 @@ use Rattle.h264_dpb.specs.Turns.{Shown}
 use Rattle.h264_slices.specs.Pictures.{CodedPicture, held_after}
 use Rattle.h264_slices.specs.Buffering.{after_all, within_newest, missing_before, gaps_turn}
 
--- the buffer before a picture behind these, once these of the missing numbers are filled
+-- the buffer before a picture after these, once these of the missing numbers are filled
 abbrev pub filled_up_to : CodedPicture → List CodedPicture → List ℕ → Buffered Shown
 filled_up_to p ps numbers = (gaps_turn (numbering_of p.first.sps p.first.header) numbers (held_after ps) (after_all ps).buffer).buffer
 
--- The buffer has places for what is in it while a picture behind these is decoded, and before that behind each of the missing numbers that are filled. It still has the size that it had before.
+-- The buffer has places for what is in it while a picture after these is decoded, and before that after each of the missing numbers that are filled. It still has the size that it had before.
 pub record DecodesWithin (p : CodedPicture) (ps : List CodedPicture) : Type 0 where
   pub within : StaysWithin (within_newest (p ∷ ps)).buffer
   pub size : (within_newest (p ∷ ps)).buffer.size ≡ (after_all ps).buffer.size

@@ -44,7 +44,7 @@ pub fn one_derivation()
         (h : StopsAt terms bytes told stop) (k : StopsAt terms bytes others other) → h.before ≡ k.before }
 {}
 
-/// Every prediction refers to a held picture (8.4.2.1): each of the sixteen blocks of an inter macroblock of a picture `p` behind others, `ps`, refers to a picture that
+/// Every prediction refers to a held picture (8.4.2.1): each of the sixteen blocks of an inter macroblock of a picture `p` after others, `ps`, refers to a picture that
 /// is held while `p` is decoded, in a stream with a yes (`whole`), and in units that are legal, whatever follows them (`legal`).
 pub fn predictions_are_held()
     ensures whole { (target : Target) (bytes : List ℕ) (told : List Told) (summary : Summary) (h : Holds (terms_of Full target) bytes told summary) (later : List CodedPicture) (p : CodedPicture) (ps : List CodedPicture) →
@@ -53,7 +53,7 @@ pub fn predictions_are_held()
         runs_of before ≡ later ++ p ∷ ps → ArePredicted p ps }
 {}
 
-/// While a picture is decoded, each picture that is held for reference has its frame in the buffer (C.4.4, C.4.5): of each picture `p` behind others, `ps`, of a stream
+/// While a picture is decoded, each picture that is held for reference has its frame in the buffer (C.4.4, C.4.5): of each picture `p` after others, `ps`, of a stream
 /// with a yes (`whole`), and of units that are legal, whatever follows them (`legal`).
 pub fn held_pictures_stand()
     ensures whole { (target : Target) (bytes : List ℕ) (told : List Told) (summary : Summary) (h : Holds (terms_of Full target) bytes told summary) (later : List CodedPicture) (p : CodedPicture) (ps : List CodedPicture) →
@@ -62,7 +62,7 @@ pub fn held_pictures_stand()
         runs_of before ≡ later ++ p ∷ ps → AreAmong (held_in (p ∷ ps)) (within_newest (p ∷ ps)).buffer }
 {}
 
-/// The buffer stays within its places, for the frames in it and those that do not exist together (C.4.2, C.4.4, C.4.5). Each picture `p` behind others, `ps`, of a
+/// The buffer stays within its places, for the frames in it and those that do not exist together (C.4.2, C.4.4, C.4.5). Each picture `p` after others, `ps`, of a
 /// stream with a yes keeps it so while the missing numbers before it are filled, while it is decoded, and once it has ended (`whole`); and of units that are legal,
 /// whatever follows them, each picture does while it is decoded (`decoded`), and each that has ended does then (`ended`). So does
 /// each picture that ends before the verdict, whatever that is (`told`), also within the unit at which it falls. The buffer has the

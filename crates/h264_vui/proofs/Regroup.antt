@@ -31,7 +31,7 @@ pub cpb-by_values : cpb ≡ (each unsigned [] (BitRateValueMinus1 ∷ CpbSizeVal
 unfolding cpb each unsigned flag read_word ◌>>=◌
 cpb-by_values = refl
 
--- HRD parameters from initial_cpb_removal_delay_length_minus1 on, behind the scales and the buffers
+-- HRD parameters from initial_cpb_removal_delay_length_minus1 on, after the scales and the buffers
 unfoldable pub hrd_from_lengths : List ℕ → Cpbs → Grammar Hrd
 hrd_from_lengths scales cpbs = do
   l ← each (λ name. bits name 5) [] (InitialCpbRemovalDelayLengthMinus1 ∷ CpbRemovalDelayLengthMinus1 ∷ DpbOutputDelayLengthMinus1 ∷ TimeOffsetLength ∷ [])
@@ -77,7 +77,7 @@ restriction_of over l n = record {
   max_dec_frame_buffering = n;
 }
 
--- the restriction behind max_dec_frame_buffering, which stands at this bit and is n, with its rules one by one
+-- the restriction after max_dec_frame_buffering, which stands at this bit and is n, with its rules one by one
 unfoldable pub restriction_judged : ℕ → ℕ → Bool → List ℕ → ℕ → ℕ → Grammar BitstreamRestriction
 restriction_judged refs buffer over l bit n = do
   _ ← check VuiRule bit (nat_le (get_or l 4 0) n)

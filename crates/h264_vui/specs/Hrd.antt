@@ -1,4 +1,4 @@
--- hrd_parameters() (E.1.2).
+-- hrd_parameters() (E.1.2). To be read beside the standard.
 use Rattle.std.specs.Prelude.{◌+◌, ◌-◌, false, List, [], ◌++◌, length, replicate}
 use Rattle.h264_base.specs.declared.element_name.ElementName.TheVariants.{CpbCntMinus1, BitRateScale, CpbSizeScale, BitRateValueMinus1, CpbSizeValueMinus1, CbrFlag, InitialCpbRemovalDelayLengthMinus1, CpbRemovalDelayLengthMinus1, DpbOutputDelayLengthMinus1, TimeOffsetLength}
 use Rattle.h264_base.specs.Grammar.{Grammar, Done, ◌>>=◌}
@@ -17,7 +17,7 @@ cpb = do
 abbrev pub no_cpb : Cpb
 no_cpb = record { bit_rate_value_minus1 = 0; cpb_size_value_minus1 = 0; cbr_flag = false }
 
--- the buffers, and zeros in the places behind them
+-- the buffers, and zeros in the places after them
 abbrev pub cpbs_of : List Cpb → Cpbs
 cpbs_of cpbs = record { entries = cpbs ++ replicate (32 - length cpbs) no_cpb; count = length cpbs }
 

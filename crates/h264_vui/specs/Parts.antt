@@ -1,5 +1,5 @@
--- Parts of the structures that stand whole in Hrd and Vui: what the functions meet that read a structure part by part.
--- Each `.._from_..` is the rest of a structure, from the named element on.
+-- A working form. Parts of the structures that stand whole in Hrd and Vui: what the functions meet that read a structure part by part. Each `.._from_..`
+-- is the rest of a structure, from the named element on.
 use Rattle.std.specs.Prelude.{ℕ, nat_le, ◌&&◌, ◌||◌, Bool, Result, Ok, Err, Option, Some}
 use Rattle.std.specs.Option.{is_some}
 use Rattle.h264_base.specs.declared.element_name.ElementName.TheVariants.{NalHrdParametersPresentFlag, VclHrdParametersPresentFlag, LowDelayHrdFlag, PicStructPresentFlag, BitstreamRestrictionFlag}

@@ -1,4 +1,4 @@
--- vui_parameters() (E.1.1), with the rules on the picture buffer (E.2.1).
+-- vui_parameters() (E.1.1), with the rules on the picture buffer (E.2.1). To be read beside the standard.
 use Rattle.std.specs.Prelude.{ℕ, nat_le, ◌==◌, ◌||◌, Bool, Option}
 use Rattle.std.specs.Option.{is_some}
 use Rattle.h264_base.specs.declared.element_name.ElementName.TheVariants.{AspectRatioInfoPresentFlag, AspectRatioIdc, SarWidth, SarHeight, OverscanInfoPresentFlag, OverscanAppropriateFlag, VideoSignalTypePresentFlag, VideoFormat, VideoFullRangeFlag, ColourDescriptionPresentFlag, ColourPrimaries, TransferCharacteristics, MatrixCoefficients, ChromaLocInfoPresentFlag, ChromaSampleLocTypeTopField, ChromaSampleLocTypeBottomField, TimingInfoPresentFlag, NumUnitsInTick, TimeScale, FixedFrameRateFlag, NalHrdParametersPresentFlag, VclHrdParametersPresentFlag, LowDelayHrdFlag, PicStructPresentFlag, BitstreamRestrictionFlag, MotionVectorsOverPicBoundariesFlag, MaxBytesPerPicDenom, MaxBitsPerMbDenom, Log2MaxMvLengthHorizontal, Log2MaxMvLengthVertical, MaxNumReorderFrames, MaxDecFrameBuffering}

@@ -18,7 +18,7 @@ pub struct Cpb {
     pub cbr_flag: bool,
 }
 
-/// Coded picture buffers: `count` of them, and zeros behind them.
+/// Coded picture buffers: `count` of them, and zeros after them.
 #[derive(Clone, Copy, PartialEq)]
 pub struct Cpbs {
     pub entries: [Cpb; 32],

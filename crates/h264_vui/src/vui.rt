@@ -318,7 +318,7 @@ fn read_timing_info<S: Elements>(bits: &mut Bits, sink: &mut S) -> Result<Option
     }))
 }
 
-/// The HRD parameters behind this flag, where they are present.
+/// The HRD parameters after this flag, where they are present.
 fn read_hrd_info<S: Elements>(
     flag_name: ElementName,
     bits: &mut Bits,
@@ -421,7 +421,7 @@ fn read_vui<S: Elements>(frames: Frames, bits: &mut Bits, sink: &mut S) -> Resul
     vui_from_hrd(&shown, frames, bits, sink)
 }
 
-/// The usability information behind its flag, where it is present, of a stream with so many reference frames, at a level whose buffer holds so many
+/// The usability information after its flag, where it is present, of a stream with so many reference frames, at a level whose buffer holds so many
 /// frames of its size (MaxDpbFrames).
 ///
 /// Ok: the elements that the sink was told are its one derivation, with every rule met. No: the first rule that it breaks, at its stream bit. Write: the sink failed.

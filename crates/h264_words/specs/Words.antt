@@ -1,4 +1,5 @@
--- The command line: a simple command of clap with one level of subcommands, each of which takes one FILE or more, and options.
+-- To be read beside docs/OUTPUT.md. The command line: a simple command of clap with one level of subcommands, each of which takes one FILE or more, and
+-- options.
 use Rattle.std.specs.Prelude.{◌≡◌, ℕ, Bool, true, false, List, Option, Some, None, option_map, codes}
 use Rattle.clap.specs.Lexer.{usize_max}
 use Rattle.clap.specs.Words.{App, Rule, Shape, Text, new_app, first_of, new_rule, subcommand_of, subcommand_rows_of, takes, with_rule, with_subcommand}

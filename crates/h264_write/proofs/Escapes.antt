@@ -80,14 +80,14 @@ prevention-left : (w : List ℕ) → rbsp_bytes (0 ∷ 0 ∷ 3 ∷ w) ≡ 0 ∷ 
 unfolding rbsp_bytes
 prevention-left w = refl
 
--- the bytes behind none, one and two bytes 00
+-- the bytes after none, one and two bytes 00
 abbrev Unescapes : List ℕ → Type 0
 Unescapes s = (rbsp_bytes (escaped 0 s) ≡ s) × (rbsp_bytes (0 ∷ escaped 1 s) ≡ 0 ∷ s) × (rbsp_bytes (0 ∷ 0 ∷ escaped 2 s) ≡ 0 ∷ 0 ∷ s)
 
 behind-other : (z b : ℕ) → (b == 0) ≡ false → zeros_behind z b ≡ 0
 behind-other z b e = choose-false (b == 0) (z + 1) 0 e
 
--- a byte behind none of them
+-- a byte after none of them
 pub plain : (b : ℕ) (s : List ℕ) → Unescapes s → rbsp_bytes (b ∷ escaped (zeros_behind 0 b) s) ≡ b ∷ s
 plain b s r = go (b == 0) refl
   where

@@ -52,7 +52,7 @@ spelled-over n i v now old h e =
     let f = rw k at e in
     sym (append-nil now) ∙ f
 
--- an Exp-Golomb word, as its zeros and the number behind them
+-- an Exp-Golomb word, as its zeros and the number after them
 pub golomb-spelled : (k c value : ℕ) → k < 32 → 2 ^ k ≤ c → c < 2 ^ (suc k) → c ≡ value + 1 → IsGolomb (spelled k 0 ++ spelled (k + 1) c) value
 unfolding spelled
 golomb-spelled k c value few low high is =
@@ -68,7 +68,7 @@ golomb-spelled k c value few low high is =
     let first : (c / 2 ^ k % 2 == 1) ≡ true = rw one refl in
     (spelled k c, rw l few, rw (l, spelled-zero k, more, first) refl, rw (l, n) (let t = rw one at s in omega arith))
 
--- the word of ue(v) has as many zeros as its number has bits behind the first
+-- the word of ue(v) has as many zeros as its number has bits after the first
 pub golomb-leading : (value zeros : ℕ) → zeros ≡ 31 - count_leading_zeros 32 (value + 1) → value + 1 < 2 ^ 32 → IsWord Unsigned (spelled zeros 0 ++ spelled (zeros + 1) (value + 1)) (pos value)
 golomb-leading value zeros is h =
     let t = leading_top 32 (value + 1) (omega arith) h in

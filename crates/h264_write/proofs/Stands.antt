@@ -1,4 +1,4 @@
--- Words behind one another.
+-- Words one after another.
 use Rattle.std.proofs.Common.{◌≡◌, ℕ, suc, ◌+◌, ◌-◌, ◌%◌, ◌<◌, true, false, List, [], ◌∷◌, ◌++◌, length, replicate, get_or, Some, ℤ, pos, ap, ◌∙◌, subst, arith, length-append, append_assoc}
 use Rattle.std.proofs.lemmas.List.{length-replicate}
 use Rattle.h264_base.specs.Word.{Code, Unsigned, Signed, Word, signed, IsWord, StandsAt, Reads, bit_of}
@@ -10,7 +10,7 @@ stands-behind : (bytes : List ℕ) (i : ℕ) (u w : Word) → StandsAt bytes i (
 stands-behind bytes i [] w s = let e : i + 0 ≡ i = omega arith in rw e s
 stands-behind bytes i (b ∷ u) w s = let e : i + suc (length u) ≡ i + 1 + length u = omega arith in rw e (stands-behind bytes (i + 1) u w s.1)
 
--- what stands behind the old bits
+-- what stands after the old bits
 behind : (bytes : List ℕ) (old word new : Word) → new ≡ old ++ word → StandsAt bytes 0 new → StandsAt bytes (length old) word
 behind bytes old word new e s =
     let P : Word → Type 0 = λ w. StandsAt bytes 0 w in

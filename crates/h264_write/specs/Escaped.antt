@@ -1,7 +1,7 @@
--- Emulation prevention (7.4.1): a byte 03 before each byte up to 03 that follows two bytes 00.
+-- Emulation prevention (7.4.1): a byte 03 before each byte up to 03 that follows two bytes 00. To be read beside the standard.
 use Rattle.std.specs.Prelude.{ℕ, ◌+◌, ◌==◌, ◌&&◌, nat_le, Bool, if◌then◌else◌, List, [], ◌∷◌}
 
--- how many bytes 00 stand behind this byte, where so many stand before it
+-- how many bytes 00 stand after this byte, where so many stand before it
 abbrev pub zeros_behind : ℕ → ℕ → ℕ
 zeros_behind count byte = if byte == 0 then count + 1 else 0
 
@@ -9,7 +9,7 @@ zeros_behind count byte = if byte == 0 then count + 1 else 0
 abbrev pub needs_prevention : ℕ → ℕ → Bool
 needs_prevention count byte = nat_le 2 count && nat_le byte 3
 
--- the bytes, behind so many bytes 00
+-- the bytes, after so many bytes 00
 unfoldable pub escaped : ℕ → List ℕ → List ℕ
 escaped count [] = []
 escaped count (byte ∷ bytes) =

@@ -1,9 +1,9 @@
--- Bits in bytes, the highest bit of a byte first.
+-- Bits in bytes, the highest bit of a byte first. A working form.
 use Rattle.std.specs.Prelude.{ℕ, ◌+◌, ◌*◌, false, slice_index_or, drop, map, List}
 use Rattle.std.specs.List.{range_with_len}
 use Rattle.h264_base.specs.Word.{Word, digit}
 
--- bit i as a number, 0 behind the last
+-- bit i as a number, 0 after the last
 abbrev pub digit_at : Word → ℕ → ℕ
 digit_at bits i = digit (slice_index_or bits i false)
 

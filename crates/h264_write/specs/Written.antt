@@ -1,4 +1,4 @@
--- What a writer writes: bits, from the first bit of an RBSP on.
+-- What a writer writes: bits, from the first bit of an RBSP on. A working form.
 use Rattle.std.specs.Prelude.{◌≡◌, ℕ, zero, suc, ◌*◌, ◌/◌, ◌%◌, ◌^◌, ◌==◌, ℤ, List, [], ◌∷◌, ◌++◌, length}
 use Rattle.h264_base.specs.Table.{IsRow, Row}
 use Rattle.h264_base.specs.Word.{Code, Word, StandsAt, Reads}
@@ -13,13 +13,13 @@ unfoldable pub spelled : ℕ → ℕ → Word
 spelled zero v = []
 spelled (suc n) v = (v / 2 ^ n % 2 == 1) ∷ spelled n v
 
--- A word was written behind the old bits: in all bytes that begin with the new bits, this value stands there.
+-- A word was written after the old bits: in all bytes that begin with the new bits, this value stands there.
 pub record Writes (code : Code) (value : ℤ) (old new : Word) : Type 0 where
   pub word : Word
   pub whole : new ≡ old ++ word
   pub reads : (bytes : List ℕ) → StandsAt bytes 0 new → Reads code bytes (length old) value (length new)
 
--- The trailing bits were written behind the old bits: the new bits fill bytes, and where there are no more bytes, they close the RBSP.
+-- The trailing bits were written after the old bits: the new bits fill bytes, and where there are no more bytes, they close the RBSP.
 pub record Closes (old new : Word) : Type 0 where
   pub word : Word
   pub whole : new ≡ old ++ word

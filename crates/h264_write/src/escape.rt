@@ -8,14 +8,14 @@ ghost use Rattle.h264_write.specs.Escaped as form;
 
 use std::alloc::{AllocError, Global};
 
-/// Whether a byte 03 has to stand before this byte, behind so many bytes 00.
+/// Whether a byte 03 has to stand before this byte, after so many bytes 00.
 fn needs_prevention(zeros: u32, byte: u8) -> bool
     ensures { result ≡ form.needs_prevention zeros byte }
 {
     zeros >= 2 && byte <= 3
 }
 
-/// How many bytes 00 stand behind this byte.
+/// How many bytes 00 stand after this byte.
 fn zeros_behind(zeros: u32, byte: u8) -> u32
     requires { zeros ≤ 2 }
     ensures { result ≡ form.zeros_behind zeros byte }
@@ -38,7 +38,7 @@ fn append(body: &mut Vec<u8>, zeros: u32, byte: u8) -> Result<u32, AllocError>
     Ok(zeros_behind(zeros, byte))
 }
 
-/// The header, and the bytes behind it.
+/// The header, and the bytes after it.
 fn escape(alloc: Global, header: u8, rbsp: &[u8]) -> Result<Vec<u8>, AllocError>
     ensures { IfOk result (λ v. v.items ≡ header ∷ form.escaped 0 rbsp.now) }
 {

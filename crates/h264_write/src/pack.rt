@@ -6,7 +6,7 @@ ghost use Rattle.h264_write.specs.Packed as form;
 
 use std::alloc::{AllocError, Global};
 
-/// Bit `i` as a number, 0 behind the last.
+/// Bit `i` as a number, 0 after the last.
 fn digit_at(bits: &[bool], i: usize) -> u8
     ensures digit { result ≡ form.digit_at bits.now i }
     ensures small { result ≤ 1 }
@@ -14,7 +14,7 @@ fn digit_at(bits: &[bool], i: usize) -> u8
     if i < bits.len() && bits[i] { 1 } else { 0 }
 }
 
-/// The byte that the first eight bits make, with zeros behind the last.
+/// The byte that the first eight bits make, with zeros after the last.
 #[tactic(auto, unfolding(crate::specs::Packed::first_byte))]
 fn first_byte(bits: &[bool]) -> u8
     ensures { result ≡ form.first_byte bits.now }
@@ -29,7 +29,7 @@ fn first_byte(bits: &[bool]) -> u8
         + digit_at(bits, 7)
 }
 
-/// The bytes that these bits fill, with zeros behind the last bit.
+/// The bytes that these bits fill, with zeros after the last bit.
 pub(crate) fn pack(alloc: Global, bits: &[bool]) -> Result<Vec<u8>, AllocError>
     ensures bytes { IfOk result (λ v. v.items ≡ form.packed ((length bits.now + 7) / 8) bits.now) }
     ensures count { IfOk result (λ v. vec_len v ≡ (length bits.now + 7) / 8) }

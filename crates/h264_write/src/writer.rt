@@ -124,7 +124,7 @@ impl Writer {
         Ok(())
     }
 
-    /// The bytes of the RBSP, with zeros behind its last bit up to the end of its byte.
+    /// The bytes of the RBSP, with zeros after its last bit up to the end of its byte.
     pub fn bytes(&self, alloc: Global) -> Result<Vec<u8>, AllocError>
         ensures stand { IfOk result (λ v. StandsAt v.items 0 self.now) }
         ensures count { IfOk result (λ v. vec_len v ≡ (length self.now + 7) / 8) }

@@ -1,4 +1,4 @@
--- What a command comes to: what it writes to standard output and to standard error, and its exit status.
+-- What a command comes to: what it writes to standard output and to standard error, and its exit status. To be read beside docs/OUTPUT.md.
 use Rattle.std.specs.Prelude.{◌≡◌, ◌≢◌, ℕ, Bool, true, false, List, Option, Some, Result, Err, IsErrOf, ◌⊎◌}
 use Rattle.h264_base.specs.declared.mode.Mode.TheVariants as modes
 use Rattle.h264_base.specs.declared.mode.Target.TheVariants as targets

@@ -1,4 +1,4 @@
--- What is known of files that are opened and read.
+-- What is known of files that are opened and read. A working form.
 use Rattle.std.specs.Prelude.{◌≡◌, ℕ, ◌+◌, ◌^◌, List, Option, Some, None, ◌⊎◌}
 
 -- the bytes that the open file will give, where there is one and it tells them

@@ -1,4 +1,4 @@
--- What the program comes to, whatever its words ask: the exit status, and what it writes to standard output.
+-- What the program comes to, whatever its words ask: the exit status, and what it writes to standard output. To be read beside docs/OUTPUT.md.
 use Rattle.std.specs.Prelude.{◌≡◌, ℕ, ◌<◌, max, Bool, true, false, List, [], ◌∷◌, length, Option, Some, Err, if◌then◌else◌}
 use Rattle.h264_base.specs.declared.mode.Mode.TheVariants as modes
 use Rattle.h264_base.specs.declared.stop.Stop.TheVariants.{Memory}

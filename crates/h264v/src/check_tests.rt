@@ -92,7 +92,7 @@ const SLICE_DATA: [Case; 18] = [
         text: "no: bit 201: MbPast (clause 7.3.4)\n",
         status: 1,
     },
-    // Trailing bits behind the header.
+    // Trailing bits after the header.
     Case {
         name: "empty slice",
         stream: "000000016742c00ada710000000168ce3880000001658884c0",
@@ -222,7 +222,7 @@ pub const ONE_FRAME: &[u8] = &[
     0x38, 0x80, 0x00, 0x00, 0x01, 0x65, 0x88, 0x84, 0x93, 0xC0,
 ];
 
-/// What `check` says last of each front of it, from no byte on: each breaks a rule behind its last byte.
+/// What `check` says last of each front of it, from no byte on: each breaks a rule after its last byte.
 const FRONTS: [&str; 26] = [
     "no: bit 0: NoPicture (clause 7.4.1)\n",
     "no: bit 8: NoPicture (clause 7.4.1)\n",

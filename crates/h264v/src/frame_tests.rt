@@ -24,7 +24,7 @@ const FRAMES: [Case; 6] = [
         text: "frame 0 count 0 16x16 md5 02b5d5d5ba2a5de00017b31c40c527bc\nyes: units 3 pictures 1 frames 1\n",
         status: 0,
     },
-    // The same, and a skipped macroblock.
+    // That picture, and one of a skipped macroblock.
     Case {
         name: "two frames",
         stream: "000000016742c00ada710000000168ce388000000165888493c0000001619a22a0",
@@ -98,7 +98,7 @@ const COMPUTED: [Case; 20] = [
         text: "frame 0 count 0 16x16 md5 02b5d5d5ba2a5de00017b31c40c527bc\nframe 1 count 8 16x16 md5 02b5d5d5ba2a5de00017b31c40c527bc\nframe 2 count 4 16x16 md5 02b5d5d5ba2a5de00017b31c40c527bc\nyes: units 5 pictures 3 frames 3\n",
         status: 0,
     },
-    // The same with a frame more.
+    // These pictures, with one frame more in the buffer.
     Case {
         name: "buffer of two frames",
         stream: "000000016742c00af4e403f4e00000000168ce3880000001658884093c000001019a3054000001019a2854",

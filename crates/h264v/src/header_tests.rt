@@ -35,7 +35,7 @@ const PICTURES: [Case; 14] = [
         text: "slice 21 mb 0 type I frame 0 count 0\nslice 29 mb 0 type I frame 0 count 0\nyes: units 4 pictures 2\n",
         status: 0,
     },
-    // The same header again is a second slice of the picture.
+    // A header that comes again is a second slice of the picture.
     Case {
         name: "two slices of a picture",
         stream: "000000016742c00ada710000000168ce388000000165888493c000000165888493c0",
@@ -91,7 +91,7 @@ const PICTURES: [Case; 14] = [
         text: "no: bit 184: NoSet (clause 7.4.1)\n",
         status: 1,
     },
-    // A P picture behind the IDR picture.
+    // A P picture after the IDR picture.
     Case {
         name: "p picture",
         stream: "000000016742c00ada710000000168ce388000000165888493c0000001619a22a0",
@@ -109,7 +109,7 @@ const PICTURES: [Case; 14] = [
 
 /// Numbers of frames, gaps, markings and lists.
 const MARKINGS: [Case; 12] = [
-    // frame_num 2 behind 0, where no gap is allowed.
+    // frame_num 2 after 0, where no gap is allowed.
     Case {
         name: "gap not allowed",
         stream: "000000016742c00ada710000000168ce388000000165888493c0000001619a42a0",
@@ -123,7 +123,7 @@ const MARKINGS: [Case; 12] = [
         text: "slice 21 mb 0 type I frame 0 count 0\nno: bit 247: FrameNum (clause 7.4.3)\n",
         status: 1,
     },
-    // frame_num 4 behind 0 with two reference frames: 1, 2 and 3 are missing, and the IDR picture leaves.
+    // frame_num 4 after 0 with two reference frames: 1, 2 and 3 are missing, and the IDR picture leaves.
     Case {
         name: "gap filled",
         stream: "000000016742c00adbf10000000168ce388000000165888493c0000001619a82a0",
@@ -186,7 +186,7 @@ const MARKINGS: [Case; 12] = [
         text: "slice 21 mb 0 type I frame 0 count 0\nslice 29 mb 0 type P frame 1 count 2\nno: bit 254: MarkCommand (clause 8.2.5)\n",
         status: 1,
     },
-    // frame_num 2 behind 0 with two reference frames: 1 is missing, and two places of the list are active.
+    // frame_num 2 after 0 with two reference frames: 1 is missing, and two places of the list are active.
     Case {
         name: "gap of one",
         stream: "000000016742c00adbf10000000168ce388000000165888493c0000001619a547780",

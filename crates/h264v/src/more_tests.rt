@@ -54,10 +54,10 @@ struct Asking {
 /// One picture of one macroblock.
 const ONE: &str = "000000016742c00ada710000000168ce388000000165888493c0";
 
-/// The same, and a picture whose frame_num is 2.
+/// That picture, and one whose frame_num is 2.
 const GAP: &str = "000000016742c00ada710000000168ce388000000165888493c0000001619a42a0";
 
-/// The same, and a picture whose frame_num is 1: its macroblock is skipped.
+/// That picture, and one whose frame_num is 1: its macroblock is skipped.
 const TWO: &str = "000000016742c00ada710000000168ce388000000165888493c0000001619a22a0";
 
 /// The first picture, and after it one of two macroblocks beside one another, with a sequence parameter set of its own.

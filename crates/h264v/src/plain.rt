@@ -377,7 +377,7 @@ fn filter_plane<'a>(
     }
 }
 
-/// Filters the lines of an edge (8.7.1), which lies so many samples behind the macroblock's corner.
+/// Filters the lines of an edge (8.7.1), which lies so many samples after the macroblock's corner.
 fn filter_edge(
     plane: &mut Samples,
     corner: (u16, u16),

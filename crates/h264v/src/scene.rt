@@ -339,7 +339,7 @@ fn write_header(
     write_qp_and_filter(writer, slice)
 }
 
-/// Adds a unit of the byte stream with these bytes behind its header, the last of which is not 0.
+/// Adds a unit of the byte stream with these bytes after its header, the last of which is not 0.
 fn add_bytes(
     rt: &(impl Abort + AllocGlobal),
     stream: &mut Vec<u8>,

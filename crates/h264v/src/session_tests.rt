@@ -86,7 +86,7 @@ const SUMMARY: Summary = Summary {
     frames: 0,
 };
 
-/// The same where slice data are read.
+/// What comes of it where slice data are read.
 const WHOLE: Summary = Summary {
     units: 4,
     pictures: 2,

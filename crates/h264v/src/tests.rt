@@ -160,7 +160,7 @@ pub fn outcome_of(
     outcome_with(alloc, command_word, file, out, err)
 }
 
-/// The same, where each write takes one byte, and that of this number on standard output fails.
+/// What it writes where each write takes one byte, and that of this number on standard output fails.
 pub fn outcome_by_bytes(
     alloc: Global,
     command_word: &str,
@@ -460,7 +460,7 @@ const SETS: [Case; 16] = [
     },
 ];
 
-/// What `units` says last of each front of the stream of one frame, from no byte on: the rule that it breaks behind its last byte, or yes.
+/// What `units` says last of each front of the stream of one frame, from no byte on: the rule that it breaks after its last byte, or yes.
 const FRONTS: [&str; 26] = [
     "yes: units 0\n",
     "yes: units 0\n",

@@ -25,7 +25,7 @@ here z y inside high low =
     let first : y / 2 ^ (16 - suc z) ≡ 1 = rw whole at one in
     rw first refl
 
--- a 1 behind z zeros is the word of z
+-- a 1 after z zeros is the word of z
 one-behind : (n k z y : ℕ) → k ≤ z → z < k + n → k + n ≤ 16 → y < 2 ^ (16 - z) → 2 ^ (16 - suc z) ≤ y → found_of (front_of 16 (prefix_rows n k) y) ≡ (suc z, z)
 unfolding front_of prefix_rows
 one-behind zero k z y from to all high low = absurd (omega arith)

@@ -5,7 +5,7 @@ use Rattle.h264_report.specs.Written.{status_of}
 use Rattle.h264v.specs.Commands.{Performs, Unopened, Done}
 use Rattle.h264v.proofs.command.serve.Goals as goal
 
--- a read that failed behind the opening
+-- a read that failed after the opening
 read-since : {f f' f'' : ℕ} {was was' : ℕ → Type 0} (was'' : ℕ → Type 0) → f' ≡ f → ((n : ℕ) → was n → was' n) → HasFailedToRead f' f'' was' was'' → HasFailedToRead f f'' was was''
 read-since was'' kept reads h = ⊎_elim (λ e. inl (e ∙ ap (λ n. n + 1) kept)) (λ m. inr (λ n r. m n (reads n r))) h
 
