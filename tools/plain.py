@@ -9,7 +9,7 @@ import os
 import re
 import sys
 
-CRATES = """base units plane tables scale rbsp bits vui sps pps sets slices judge verify intra header cavlc poc inter deblock
+CRATES = """base units plane tables scale rbsp bits sps pps sets verify intra header cavlc poc inter deblock
 marking lists near vectors mbsyntax picture recon dpb""".split()
 OPEN, CLOSE = "([{", ")]}"
 HERE = os.path.dirname(os.path.abspath(__file__))

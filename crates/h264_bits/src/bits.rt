@@ -1,7 +1,8 @@
 //! The bits of an RBSP, read one code word after another.
 #![tactic(auto)]
 
-ghost use Rattle.std.specs.Prelude.{◌≡◌, ℕ, ℤ, pos, neg_ℤ, ◌+◌, ◌-◌, ◌*◌, ◌<◌, ◌≤◌, ◌≤ℤ◌, ◌^◌, length, OnOk, OnErr, IfOk, IfSome, Option, Some, None, Ok, true, false};
+ghost use Rattle.std.specs.Prelude.{◌≡◌, ℕ, ℤ, pos, neg_ℤ, ◌+◌, ◌-◌, ◌*◌, ◌<◌, ◌≤◌, ◌≤ℤ◌, ◌^◌, length, OnOk, OnErr, IfOk, IfSome, Option, Some, None};
+ghost use Rattle.std.specs.Prelude.{Ok, true, false};
 ghost use Rattle.std.specs.Option.{option_map};
 ghost use Rattle.h264_base.specs.Body.{Body, place};
 ghost use Rattle.h264_base.specs.Word.{Fixed, Unsigned, Signed, Words, Reads, no_zero_at, padding};
@@ -44,7 +45,9 @@ impl<'a> Model for Bits<'a> {
 
     ghost view = { λ r. record { body = r.rbsp.now; at = r.at } };
 
-    ghost invariant = { λ r. (r.bytes.now ≡ r.rbsp.now.bytes) × (r.at ≤ 8 * length r.bytes.now) × (length r.bytes.now ≤ 2 ^ 28) × IsLastOne r.bytes.now r.last_one × IsStretch r.rbsp.now r.at r.stretch × IsUpcoming r.bytes.now r.at r.upcoming × (r.at + r.upcoming.count ≤ r.stretch.last) };
+    ghost invariant = { λ r. (r.bytes.now ≡ r.rbsp.now.bytes) × (r.at ≤ 8 * length r.bytes.now) × (length r.bytes.now ≤ 2 ^ 28)
+        × IsLastOne r.bytes.now r.last_one × IsStretch r.rbsp.now r.at r.stretch × IsUpcoming r.bytes.now r.at r.upcoming
+        × (r.at + r.upcoming.count ≤ r.stretch.last) };
 }
 
 impl<'a> Bits<'a> {

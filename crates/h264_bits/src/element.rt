@@ -310,7 +310,8 @@ pub fn read_entry_if<S: Elements>(
     requires known { coded ≡ true → IfSome entry (λ e. e.value ≤ greatest_value table) }
     requires nothing { coded ≡ false → entry ≡ Some (record { length = 0; value = 0 }) }
     requires room { S.failures sink.old < 2 ^ 64 - 1 }
-    ensures meets { coded ≡ true → Meets S.took S.failures (Is seen_unsigned) (word_form rule name (Words (code_table table))) bits.old bits.new sink.old sink.new result }
+    ensures meets { coded ≡ true → Meets S.took S.failures (Is seen_unsigned)
+        (word_form rule name (Words (code_table table))) bits.old bits.new sink.old sink.new result }
     ensures nothing { coded ≡ false → Meets S.took S.failures (Is (λ f. f.value)) (Done 0) bits.old bits.new sink.old sink.new result }
     ensures small { coded ≡ true → IfOk result (λ f. f.value ≤ greatest_value table) }
     ensures zero { coded ≡ false → IfOk result (λ f. f.value ≡ 0) }

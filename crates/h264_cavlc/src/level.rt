@@ -151,7 +151,9 @@ pub(crate) fn read_more_levels<S: Elements>(
     requires few { token.total ≤ 16 }
     requires within { token.ones ≤ token.total }
     requires room { S.failures sink.old < 2 ^ 64 - 1 }
-    ensures { Meets S.took S.failures (λ _ l. l ≡ take token.total levels.new) (syntax.more_levels token.ones (take token.ones levels.old) (syntax.first_suffix_length token) (token.total - token.ones)) bits.old bits.new sink.old sink.new result }
+    ensures { Meets S.took S.failures (λ _ l. l ≡ take token.total levels.new)
+        (syntax.more_levels token.ones (take token.ones levels.old) (syntax.first_suffix_length token) (token.total - token.ones)) bits.old bits.new
+        sink.old sink.new result }
 {
     if token.ones == token.total {
         return Ok(());

@@ -66,7 +66,8 @@ fn read_one<const N: usize, S: Elements>(
     requires few { N ≤ 16 }
     requires within { token.ones ≤ token.total }
     requires room { S.failures sink.old < 2 ^ 64 - 1 }
-    ensures meets { Meets S.took S.failures (Is (λ _. record { by_place = by_place.new; total = token.total })) (coefficients_form N token) bits.old bits.new sink.old sink.new result }
+    ensures meets { Meets S.took S.failures (Is (λ _. record { by_place = by_place.new; total = token.total }))
+        (coefficients_form N token) bits.old bits.new sink.old sink.new result }
     ensures nonzero { OnOk result (nonzero_count by_place.new ≡ token.total) }
     ensures inside { bits.old.at ≤ 8 * length bits.old.body.bytes → OnOk result (bits.new.at ≤ 8 * length bits.new.body.bytes) }
     ensures quiet { OnOk result (S.failures sink.new ≡ S.failures sink.old) }
@@ -92,7 +93,8 @@ fn read_several<const N: usize, S: Elements>(
     requires few { N ≤ 16 }
     requires within { token.ones ≤ token.total }
     requires room { S.failures sink.old < 2 ^ 64 - 1 }
-    ensures meets { Meets S.took S.failures (Is (λ _. record { by_place = by_place.new; total = token.total })) (coefficients_form N token) bits.old bits.new sink.old sink.new result }
+    ensures meets { Meets S.took S.failures (Is (λ _. record { by_place = by_place.new; total = token.total }))
+        (coefficients_form N token) bits.old bits.new sink.old sink.new result }
     ensures nonzero { OnOk result (nonzero_count by_place.new ≡ token.total) }
     ensures inside { bits.old.at ≤ 8 * length bits.old.body.bytes → OnOk result (bits.new.at ≤ 8 * length bits.new.body.bytes) }
     ensures quiet { OnOk result (S.failures sink.new ≡ S.failures sink.old) }
@@ -117,7 +119,8 @@ fn read_coefficients<const N: usize, S: Elements>(
     requires few { N ≤ 16 }
     requires within { token.ones ≤ token.total }
     requires room { S.failures sink.old < 2 ^ 64 - 1 }
-    ensures meets { Meets S.took S.failures (Is (λ _. record { by_place = by_place.new; total = token.total })) (coefficients_form N token) bits.old bits.new sink.old sink.new result }
+    ensures meets { Meets S.took S.failures (Is (λ _. record { by_place = by_place.new; total = token.total }))
+        (coefficients_form N token) bits.old bits.new sink.old sink.new result }
     ensures nonzero { OnOk result (nonzero_count by_place.new ≡ token.total) }
     ensures inside { bits.old.at ≤ 8 * length bits.old.body.bytes → OnOk result (bits.new.at ≤ 8 * length bits.new.body.bytes) }
     ensures quiet { OnOk result (S.failures sink.new ≡ S.failures sink.old) }
@@ -140,7 +143,8 @@ fn read_block<const N: usize, S: Elements>(
 ) -> Result<u8, Stop>
     requires size { N ≤ 16 }
     requires room { S.failures sink.old < 2 ^ 64 - 1 }
-    ensures meets { Meets S.took S.failures (Is (λ total. record { by_place = by_place.new; total = total })) (residual_block N nc) bits.old bits.new sink.old sink.new result }
+    ensures meets { Meets S.took S.failures (Is (λ total. record { by_place = by_place.new; total = total }))
+        (residual_block N nc) bits.old bits.new sink.old sink.new result }
     ensures total { IfOk result (λ total. total ≤ N) }
     ensures nonzero { IfOk result (λ total. nonzero_count by_place.new ≡ total) }
     ensures none { IfOk result (λ total. total ≡ 0 → by_place.new ≡ replicate N (pos 0)) }
@@ -172,8 +176,10 @@ pub fn block_into<const N: usize, S: Elements>(
 ) -> Result<u8, Stop>
     requires size { N ≤ 16 }
     requires room { S.failures sink.old < 2 ^ 64 - 1 }
-    ensures answers { Answers S.took S.failures (Is (λ total. record { by_place = by_place.new; total = total })) (residual_block N nc) bits.old bits.new sink.old sink.new result }
-    ensures meets { Meets S.took S.failures (Is (λ total. record { by_place = by_place.new; total = total })) (residual_block N nc) bits.old bits.new sink.old sink.new result }
+    ensures answers { Answers S.took S.failures (Is (λ total. record { by_place = by_place.new; total = total }))
+        (residual_block N nc) bits.old bits.new sink.old sink.new result }
+    ensures meets { Meets S.took S.failures (Is (λ total. record { by_place = by_place.new; total = total }))
+        (residual_block N nc) bits.old bits.new sink.old sink.new result }
     ensures total { IfOk result (λ total. total ≤ N) }
     ensures nonzero { IfOk result (λ total. nonzero_count by_place.new ≡ total) }
     ensures none { IfOk result (λ total. total ≡ 0 → by_place.new ≡ replicate N (pos 0)) }
@@ -194,8 +200,10 @@ pub fn block<const N: usize, S: Elements>(
 ) -> Result<Levels<N>, Stop>
     requires size { N ≤ 16 }
     requires room { S.failures sink.old < 2 ^ 64 - 1 }
-    ensures answers { Answers S.took S.failures (Is (λ b. record { by_place = b.by_place; total = b.total })) (residual_block N nc) bits.old bits.new sink.old sink.new result }
-    ensures meets { Meets S.took S.failures (Is (λ b. record { by_place = b.by_place; total = b.total })) (residual_block N nc) bits.old bits.new sink.old sink.new result }
+    ensures answers { Answers S.took S.failures (Is (λ b. record { by_place = b.by_place; total = b.total }))
+        (residual_block N nc) bits.old bits.new sink.old sink.new result }
+    ensures meets { Meets S.took S.failures (Is (λ b. record { by_place = b.by_place; total = b.total }))
+        (residual_block N nc) bits.old bits.new sink.old sink.new result }
     ensures total { IfOk result (λ b. b.total ≤ N) }
     ensures nonzero { IfOk result (λ b. nonzero_count b.by_place ≡ b.total) }
     ensures none { IfOk result (λ b. b.total ≡ 0 → b.by_place ≡ replicate N (pos 0)) }

@@ -122,7 +122,8 @@ pub(crate) fn read_places<const N: usize, S: Elements>(
     requires few { N ≤ 16 }
     requires fits { total + zeros ≤ N }
     requires room { S.failures sink.old < 2 ^ 64 - 1 }
-    ensures { Meets S.took S.failures (λ _ runs. by_place.new ≡ standing N (take total levels.now) zeros runs) (syntax.runs_before [] zeros (total - 1)) bits.old bits.new sink.old sink.new result }
+    ensures { Meets S.took S.failures (λ _ runs. by_place.new ≡ standing N (take total levels.now) zeros runs)
+        (syntax.runs_before [] zeros (total - 1)) bits.old bits.new sink.old sink.new result }
 {
     let none = [0i16; N];
     *by_place = none;

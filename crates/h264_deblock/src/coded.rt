@@ -1,7 +1,8 @@
 //! The edges of a macroblock of the coded picture (8.7).
 #![tactic(auto)]
 
-ghost use Rattle.std.specs.Prelude.{◌≡◌, ℕ, ◌+◌, ◌*◌, ◌<◌, ◌≤◌, ◌%◌, ◌==◌, Bool, true, false, IsTrue, List, [], ◌∷◌, length, get_or, Option, Some, None, is_some};
+ghost use Rattle.std.specs.Prelude.{◌≡◌, ℕ, ◌+◌, ◌*◌, ◌<◌, ◌≤◌, ◌%◌, ◌==◌, Bool, true, false, IsTrue, List, [], ◌∷◌, length, get_or, Option, Some};
+ghost use Rattle.std.specs.Prelude.{None, is_some};
 ghost use Rattle.h264_tables.specs.ChromaQp.{clip_51};
 ghost use Rattle.h264_plane.specs.declared.frame.Component.{Component};
 ghost use Rattle.h264_plane.specs.Frames.{plane_of};
@@ -81,7 +82,8 @@ fn border_of(
 ) -> Option<Border>
     requires { even ≡ true → is_even own.now ≡ true }
     ensures inside { IsTrue (is_some result) → 0 < place }
-    ensures here { (p : Option CodedMacroblock) (q : CodedMacroblock) → IsEdge (IsBeside vertical) beside.now p → Shows own.now q → (place ≡ 0 → p ≡ None) → result ≡ border_of filter.now vertical p q }
+    ensures here { (p : Option CodedMacroblock) (q : CodedMacroblock) → IsEdge (IsBeside vertical) beside.now p → Shows own.now q →
+        (place ≡ 0 → p ≡ None) → result ≡ border_of filter.now vertical p q }
 {
     if place == 0 {
         return None;
@@ -142,7 +144,8 @@ fn luma_along(
     filter: SliceFilter,
 ) -> [Option<EdgeParameters>; 4]
     requires { filters filter.deblocking true ≡ true }
-    ensures { result ≡ border_edge false qp filter border.now ∷ inner_edge qp filter (get_or inner.now 0 []) ∷ inner_edge qp filter (get_or inner.now 1 []) ∷ inner_edge qp filter (get_or inner.now 2 []) ∷ [] }
+    ensures { result ≡ border_edge false qp filter border.now ∷ inner_edge qp filter (get_or inner.now 0 []) ∷
+        inner_edge qp filter (get_or inner.now 1 []) ∷ inner_edge qp filter (get_or inner.now 2 []) ∷ [] }
 {
     [
         border_edge(border, false, qp, filter),
@@ -189,10 +192,13 @@ fn edges_by(
 ) -> Edges
     requires filtered { filters filter.now.deblocking true ≡ true }
     requires even { even ≡ true → is_even own.now ≡ true }
-    ensures inside { (column row : ℕ) → (IsTrue (is_some left.now) → 0 < column) → (IsTrue (is_some above.now) → 0 < row) → (p : Component) → AreInside column row (edges_of result p) }
-    ensures edges { (slices : ℕ → Filter) (width : ℕ) (picture : List CodedMacroblock) (coded : CodedMacroblock) → Shows own.now coded → slices coded.slice ≡ filter.now →
-        ((n : ℕ) → (slices n).chroma_qp_index_offset ≡ filter.now.chroma_qp_index_offset) → left.now ≡ border_of filter.now true (last_left width picture) coded →
-        above.now ≡ border_of filter.now false (last_in width picture (length picture % width)) coded → (p : Component) → edges_of result p ≡ edges_of_coded slices width picture coded p }
+    ensures inside { (column row : ℕ) → (IsTrue (is_some left.now) → 0 < column) → (IsTrue (is_some above.now) → 0 < row) → (p : Component) →
+        AreInside column row (edges_of result p) }
+    ensures edges { (slices : ℕ → Filter) (width : ℕ) (picture : List CodedMacroblock) (coded : CodedMacroblock) → Shows own.now coded →
+        slices coded.slice ≡ filter.now → ((n : ℕ) → (slices n).chroma_qp_index_offset ≡ filter.now.chroma_qp_index_offset) →
+        left.now ≡ border_of filter.now true (last_left width picture) coded →
+        above.now ≡ border_of filter.now false (last_in width picture (length picture % width)) coded → (p : Component) →
+        edges_of result p ≡ edges_of_coded slices width picture coded p }
 {
     let inner = inner_strengths(own, even);
     let qp = qp_in(true, own.qp, *filter);
@@ -220,9 +226,10 @@ pub fn coded_edges(
     row: usize,
 ) -> Edges
     ensures inside { (p : Component) → AreInside column row (edges_of result p) }
-    ensures edges { (slices : ℕ → Filter) (width : ℕ) (picture : List CodedMacroblock) (coded : CodedMacroblock) → Keeps width picture near.now → Shows own.now coded →
-        length picture ≡ row * width + column → column < width → slices coded.slice ≡ filter.now → ((n : ℕ) → (slices n).chroma_qp_index_offset ≡ filter.now.chroma_qp_index_offset) →
-        (p : Component) → edges_of result p ≡ edges_of_coded slices width picture coded p }
+    ensures edges { (slices : ℕ → Filter) (width : ℕ) (picture : List CodedMacroblock) (coded : CodedMacroblock) → Keeps width picture near.now →
+        Shows own.now coded → length picture ≡ row * width + column → column < width → slices coded.slice ≡ filter.now →
+        ((n : ℕ) → (slices n).chroma_qp_index_offset ≡ filter.now.chroma_qp_index_offset) → (p : Component) →
+        edges_of result p ≡ edges_of_coded slices width picture coded p }
 {
     if let Deblocking::Off = filter.deblocking {
         return NO_EDGES;
@@ -251,9 +258,11 @@ pub fn filter_coded(frame: &mut Frame, coded: &Coded<'_>, column: usize, row: us
     requires cr { (8 * column + 8 ≤ frame.old.cr.width) × (8 * row + 8 ≤ frame.old.cr.height) }
     requires small { (column < 1024) × (row < 1024) }
     ensures size { (p : Component) → IsSized (plane_of p frame.new) (plane_of p frame.old).width (plane_of p frame.old).height }
-    ensures filtered { (slices : ℕ → Filter) (width : ℕ) (picture : List CodedMacroblock) (q : CodedMacroblock) → Keeps width picture coded.now.near.now → Shows coded.now.own.now q →
-        length picture ≡ row * width + column → column < width → slices q.slice ≡ coded.now.filter.now → ((n : ℕ) → (slices n).chroma_qp_index_offset ≡ coded.now.filter.now.chroma_qp_index_offset) →
-        (p : Component) → Holds (plane_of p frame.old) (plane_of p frame.new) (edges_done (side p) (is_chroma p) (edges_of_coded slices width picture q p) column row (at (plane_of p frame.old))) }
+    ensures filtered { (slices : ℕ → Filter) (width : ℕ) (picture : List CodedMacroblock) (q : CodedMacroblock) →
+        Keeps width picture coded.now.near.now → Shows coded.now.own.now q → length picture ≡ row * width + column → column < width →
+        slices q.slice ≡ coded.now.filter.now → ((n : ℕ) → (slices n).chroma_qp_index_offset ≡ coded.now.filter.now.chroma_qp_index_offset) →
+        (p : Component) → Holds (plane_of p frame.old) (plane_of p frame.new)
+        (edges_done (side p) (is_chroma p) (edges_of_coded slices width picture q p) column row (at (plane_of p frame.old))) }
 {
     let (own, filter) = (coded.own, coded.filter);
     if let Deblocking::Off = filter.deblocking {

@@ -82,7 +82,8 @@ fn read_in_turn(a: &Plane, y: usize, b: &Plane, z: usize, x: usize) -> [u8; 128]
     requires b_columns { x + 8 ≤ b.now.width }
     requires a_rows { y + 8 ≤ a.now.height }
     requires b_rows { z + 8 ≤ b.now.height }
-    ensures { (v : ℕ) → v < 8 → (u : ℕ) → u < 16 → slice_index result (16 * v + u) ≡ in_turn (at a.now (x + u / 2) (y + v)) (at b.now (x + u / 2) (z + v)) u }
+    ensures { (v : ℕ) → v < 8 → (u : ℕ) → u < 16 → slice_index result (16 * v + u) ≡ in_turn (at a.now (x + u / 2) (y + v))
+        (at b.now (x + u / 2) (z + v)) u }
 {
     let mut samples = [0u8; 128];
     for v in 0..8usize {

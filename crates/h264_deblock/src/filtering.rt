@@ -4,7 +4,8 @@ ghost use Rattle.h264_plane.specs.Frames.{plane_of};
 ghost use Rattle.h264_plane.specs.Places.{side, Agree};
 ghost use Rattle.h264_plane.specs.declared.frame.Component.{Component};
 ghost use Rattle.h264_deblock.specs.Edge.{lines_of};
-ghost use Rattle.h264_deblock.specs.Filtering.{edges_after, edges_done, luma_edges, chroma_edges as chroma_edges_of, edges_of, is_chroma, AreInside, AreEdges, IsOf, PlaneEdges, filtered_by};
+ghost use Rattle.h264_deblock.specs.Filtering.{edges_after, edges_done, luma_edges, chroma_edges as chroma_edges_of, edges_of, is_chroma, AreInside};
+ghost use Rattle.h264_deblock.specs.Filtering.{AreEdges, IsOf, PlaneEdges, filtered_by};
 
 use crate::edge_parameters::EdgeParameters;
 use crate::edges::{chroma_edges, edge};
@@ -120,10 +121,14 @@ pub fn macroblock(frame: &mut Frame, edges: &Edges, column: usize, row: usize)
     requires cr { (8 * column + 8 ≤ frame.old.cr.width) × (8 * row + 8 ≤ frame.old.cr.height) }
     requires small { (column < 1024) × (row < 1024) }
     requires inside { (p : Component) → AreInside column row (edges_of edges.now p) }
-    ensures filtered { (p : Component) → Holds (plane_of p frame.old) (plane_of p frame.new) (edges_done (side p) (is_chroma p) (edges_of edges.now p) column row (at (plane_of p frame.old))) }
-    ensures step { (across down : ℕ) (all : Component → ℕ → PlaneEdges) (u : Component → ℕ → ℕ → ℕ) → column < across → row < down → IsOf across down frame.old → AreEdges across all edges.now column row →
-        ((p : Component) → Agree (side p) across (column + 1) row (at (plane_of p frame.old)) (filtered_by (row * across + column) across (side p) (is_chroma p) (all p) (u p))) →
-        (p : Component) → Agree (side p) across (column + 1) row (at (plane_of p frame.new)) (filtered_by (row * across + (column + 1)) across (side p) (is_chroma p) (all p) (u p)) }
+    ensures filtered { (p : Component) → Holds (plane_of p frame.old) (plane_of p frame.new)
+        (edges_done (side p) (is_chroma p) (edges_of edges.now p) column row (at (plane_of p frame.old))) }
+    ensures step { (across down : ℕ) (all : Component → ℕ → PlaneEdges) (u : Component → ℕ → ℕ → ℕ) → column < across → row < down →
+        IsOf across down frame.old → AreEdges across all edges.now column row →
+        ((p : Component) → Agree (side p) across (column + 1) row (at (plane_of p frame.old))
+        (filtered_by (row * across + column) across (side p) (is_chroma p) (all p) (u p))) → (p : Component) →
+        Agree (side p) across (column + 1) row (at (plane_of p frame.new))
+        (filtered_by (row * across + (column + 1)) across (side p) (is_chroma p) (all p) (u p)) }
 {
     luma(&mut frame.y, &edges.y, column, row);
     let Some(others) = &edges.cr else {

@@ -6,7 +6,8 @@ ghost use Rattle.h264_near.specs.Coded.{CodedMacroblock};
 ghost use Rattle.h264_near.specs.Keeps.{Shows};
 ghost use Rattle.h264_near.specs.Strength.{moves_apart};
 ghost use Rattle.h264_deblock.specs.CodedEdges.{strength_at, strengths};
-ghost use Rattle.h264_deblock.specs.Steps.{IsBeside, inter_strength, number_at, inner_lines, alike, are_blank, are_like, are_alike, is_even, goes_on, HasStillLines};
+ghost use Rattle.h264_deblock.specs.Steps.{IsBeside, inter_strength, number_at, inner_lines, alike, are_blank, are_like, are_alike, is_even, goes_on};
+ghost use Rattle.h264_deblock.specs.Steps.{HasStillLines};
 
 use crate::edge_parameters::BoundaryStrength;
 use h264_near::block::number;

@@ -1,7 +1,7 @@
 -- The frames that are lent by place, and what is shown of them: the cropping rectangle (7.4.2.1.1). A working form.
-use Rattle.std.specs.Prelude.{ℕ, ◌+◌, ◌-◌, ◌*◌, ◌/◌, ◌==◌, ◌&&◌, nat_le, nat_lt, Bool, false, ℤ, Option, Some, None, unwrap_or, List, length, if◌then◌else◌}
+use Rattle.std.specs.Prelude.{ℕ, ◌+◌, ◌-◌, ◌*◌, ◌/◌, ◌==◌, ◌&&◌, nat_le, Bool, false, ℤ, Option, Some, None, unwrap_or}
 use Rattle.h264_base.specs.Call.{Call, OfFrame}
-use Rattle.h264_plane.specs.Frames.{frame_at, no_frame}
+use Rattle.h264_plane.specs.Frames.{no_frame}
 use Rattle.h264_plane.specs.Rows.{picture_bytes, samples_of}
 use Rattle.h264_plane.specs.declared.frame.Frame.{Frame}
 use Rattle.h264_plane.specs.declared.frame.Component.{Component}
@@ -39,10 +39,6 @@ abbrev pub frame_call : ℤ → Frame → Rectangle → Call
 frame_call count f r = OfFrame count (width_in r f) (height_in r f) (picture_bytes (width_in r f) (height_in r f) (cropped r f))
 
 -- ---- frames by place
-
--- the frames of a pool
-abbrev pub lent_by : List Frame → ℕ → Option Frame
-lent_by frames place = if nat_lt place (length frames) then Some (frame_at frames place) else None
 
 abbrev pub fits_in : Rectangle → Option Frame → Bool
 fits_in r None = false

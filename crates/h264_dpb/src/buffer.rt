@@ -1,10 +1,10 @@
 use crate::bumping::{empty, store};
 use crate::entry::{Entry, Picture, Placed};
-use crate::frame_store::FrameStore;
 use crate::places::free_place;
 use crate::sink::FrameOut;
 use arrayvec::ArrayVec;
 use h264_base::Stop;
+use h264_plane::FrameStore;
 use std::marker::Model;
 
 /// The frames that wait for output or are used for reference, in decoding order.
@@ -77,7 +77,8 @@ impl Buffer {
         requires ready { AreReady (F.lent frames.now) self.old.entries }
         requires own { IsShownBy picture.now.kind (F.lent frames.now) picture.now }
         requires few { HasRoomBy picture.now.kind picture.now self.old }
-        ensures steps { Steps S.took S.failures (F.lent frames.now) (stored_by picture.now.kind picture.now self.old) self.new.entries sink.old sink.new result }
+        ensures steps { Steps S.took S.failures (F.lent frames.now)
+            (stored_by picture.now.kind picture.now self.old) self.new.entries sink.old sink.new result }
         ensures missing { OnOk result (self.new.missing ≡ missing_by picture.now.kind picture.now self.old) }
         ensures size { self.new.size ≡ self.old.size }
         ensures within { StaysWithin self.old → OnOk result (StaysWithin self.new) }

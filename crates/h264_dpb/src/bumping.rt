@@ -1,16 +1,19 @@
-ghost use Rattle.std.specs.Prelude.{◌≡◌, ◌||◌, ◌+◌, ◌-◌, ◌<◌, ◌≤◌, ◌^◌, true, false, IsTrue, [], ◌∷◌, ◌++◌, Some, length, map, slice_set, OnOk, IfOk, if◌then◌else◌};
+ghost use Rattle.std.specs.Prelude.{◌≡◌, ◌||◌, ◌+◌, ◌-◌, ◌<◌, ◌≤◌, ◌^◌, true, false, IsTrue, [], ◌∷◌, ◌++◌, Some, length, map, slice_set, OnOk, IfOk};
+ghost use Rattle.std.specs.Prelude.{if◌then◌else◌};
 ghost use Rattle.std.specs.List.{position, filter};
 ghost use Rattle.arrayvec.specs.ArrayVec.{array_vec_len};
 ghost use Rattle.h264_dpb.specs.Shown.{is_shown};
-ghost use Rattle.h264_dpb.specs.Bumping.{least_with, least_count, is_next, is_below, left_at, bumped, made_room, stored_other, stored_reference, is_picture, is_held, missing_in, marked_by, is_in_use, marked, flushed};
+ghost use Rattle.h264_dpb.specs.Bumping.{least_with, least_count, is_next, is_below, left_at, bumped, made_room, stored_other, stored_reference};
+ghost use Rattle.h264_dpb.specs.Bumping.{is_picture, is_held, missing_in, marked_by, is_in_use, marked, flushed};
 ghost use Rattle.h264_dpb.specs.Writing.{Writes, call_of};
-ghost use Rattle.h264_dpb.specs.Buffered.{AreReady, AreUsed, Steps, is_ready, references, entry_of, still, room_step, stored_by, missing_by, HasRoomBy, IsShownBy};
+ghost use Rattle.h264_dpb.specs.Buffered.{AreReady, AreUsed, Steps, is_ready, references, entry_of, still, room_step, stored_by, missing_by};
+ghost use Rattle.h264_dpb.specs.Buffered.{HasRoomBy, IsShownBy};
 
 use crate::entry::{Entry, Kind, Picture, Placed};
-use crate::frame_store::FrameStore;
 use crate::sink::FrameOut;
 use arrayvec::ArrayVec;
 use h264_base::{Failed, Stop};
+use h264_plane::FrameStore;
 
 pub(crate) type Entries = ArrayVec<Entry<Placed>, 16>;
 
@@ -136,7 +139,8 @@ pub(crate) fn make_room<F: FrameStore, S: FrameOut>(
 ) -> Result<(), Stop>
     requires room { S.failures sink.old < 2 ^ 64 - 1 }
     requires ready { AreReady (F.lent frames.now) entries.old.items }
-    ensures { Steps S.took S.failures (F.lent frames.now) (made_room (length entries.old.items) places entries.old.items) entries.new.items sink.old sink.new result }
+    ensures { Steps S.took S.failures (F.lent frames.now) (made_room (length entries.old.items) places entries.old.items) entries.new.items sink.old
+        sink.new result }
 {
     for _turn in 0..entries.len() {
         if entries.len() < places {
@@ -284,7 +288,8 @@ pub(crate) fn store_marked<F: FrameStore, S: FrameOut>(
     requires ready { AreReady (F.lent frames.now) entries.old.items }
     requires few { references (marked (still picture.now) entries.old.items) + missing_in picture.now.held.now < size }
     requires most { size ≤ 16 }
-    ensures { Steps S.took S.failures (F.lent frames.now) (stored_reference (size - missing_in picture.now.held.now) (entry_of picture.now true) (marked (still picture.now) entries.old.items)) entries.new.items sink.old sink.new result }
+    ensures { Steps S.took S.failures (F.lent frames.now) (stored_reference (size - missing_in picture.now.held.now) (entry_of picture.now true)
+        (marked (still picture.now) entries.old.items)) entries.new.items sink.old sink.new result }
 {
     mark(picture.held, entries);
     let places = size.saturating_sub(missing_in(picture.held));
@@ -301,7 +306,8 @@ pub(crate) fn store_missing<F: FrameStore, S: FrameOut>(
 ) -> Result<(), Stop>
     requires room { S.failures sink.old < 2 ^ 64 - 1 }
     requires ready { AreReady (F.lent frames.now) entries.old.items }
-    ensures { Steps S.took S.failures (F.lent frames.now) (room_step (size - (missing_in picture.now.held.now - 1)) (marked (still picture.now) entries.old.items)) entries.new.items sink.old sink.new result }
+    ensures { Steps S.took S.failures (F.lent frames.now) (room_step (size - (missing_in picture.now.held.now - 1))
+        (marked (still picture.now) entries.old.items)) entries.new.items sink.old sink.new result }
 {
     mark(picture.held, entries);
     let others = missing_in(picture.held).saturating_sub(1);
@@ -320,7 +326,8 @@ pub(crate) fn store_other<F: FrameStore, S: FrameOut>(
     requires ready { AreReady (F.lent frames.now) entries.old.items }
     requires own { IsTrue (is_shown (F.lent frames.now) picture.now.of) }
     requires few { places ≤ 16 }
-    ensures { Steps S.took S.failures (F.lent frames.now) (stored_other places (entry_of picture.now false) entries.old.items) entries.new.items sink.old sink.new result }
+    ensures { Steps S.took S.failures (F.lent frames.now) (stored_other places (entry_of picture.now false) entries.old.items) entries.new.items
+        sink.old sink.new result }
 {
     place(places, held_entry(picture, false), entries, frames, sink)
 }
@@ -360,8 +367,11 @@ pub(crate) fn store<F: FrameStore, S: FrameOut>(
     requires own { IsShownBy picture.now.kind (F.lent frames.now) picture.now }
     requires few { HasRoomBy picture.now.kind picture.now (record { entries = entries.old.items; missing = missing; size = size }) }
     requires most { size ≤ 16 }
-    ensures steps { Steps S.took S.failures (F.lent frames.now) (stored_by picture.now.kind picture.now (record { entries = entries.old.items; missing = missing; size = size })) entries.new.items sink.old sink.new result }
-    ensures missing { IfOk result (λ n. n ≡ missing_by picture.now.kind picture.now (record { entries = entries.old.items; missing = missing; size = size })) }
+    ensures steps { Steps S.took S.failures (F.lent frames.now)
+        (stored_by picture.now.kind picture.now (record { entries = entries.old.items; missing = missing; size = size })) entries.new.items sink.old
+        sink.new result }
+    ensures missing { IfOk result (λ n. n ≡ missing_by picture.now.kind picture.now
+        (record { entries = entries.old.items; missing = missing; size = size })) }
     ensures within { length entries.old.items + missing ≤ size → IfOk result (λ n. length entries.new.items + n ≤ size) }
     ensures ready { OnOk result (AreReady (F.lent frames.now) entries.new.items) }
 {

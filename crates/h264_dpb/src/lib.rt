@@ -15,7 +15,6 @@ mod bumping;
 mod ended;
 mod entry;
 mod format;
-mod frame_store;
 pub mod laws;
 mod output;
 mod places;
@@ -25,7 +24,6 @@ pub use buffer::Buffer;
 pub use ended::{Ended, ended_of};
 pub use entry::{Entry, Kind, Picture, Placed, Rectangle};
 pub use format::rectangle_of;
-pub use frame_store::FrameStore;
 pub use output::Output;
 pub use sink::FrameOut;
 

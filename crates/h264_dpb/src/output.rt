@@ -10,10 +10,11 @@ ghost use Rattle.h264_dpb.specs.Kept.{waiting_in, kind_of, placed_at};
 use crate::ended::Ended;
 use crate::format::whole;
 use crate::places::place_at;
-use crate::{Buffer, Entry, FrameOut, FrameStore, Kind, Picture, Placed};
+use crate::{Buffer, Entry, FrameOut, Kind, Picture, Placed};
 use arrayvec::ArrayVec;
 use h264_base::Stop;
 use h264_marking::{Held, ReferenceFrame};
+use h264_plane::FrameStore;
 
 /// The decoded picture buffer of a stream.
 #[derive(Drop)]
@@ -97,14 +98,16 @@ fn missing(held: &[Option<u64>]) -> Picture<'_>
 }
 
 impl Output {
-    ghost use Rattle.std.specs.Prelude.{◌≡◌, ℕ, ◌+◌, ◌-◌, ◌*◌, ◌<◌, ◌≤◌, ◌^◌, Bool, true, false, IsTrue, not, is_some, length, [], Some, OnOk, IfOk, IfSome, if◌then◌else◌};
+    ghost use Rattle.std.specs.Prelude.{◌≡◌, ℕ, ◌+◌, ◌-◌, ◌*◌, ◌<◌, ◌≤◌, ◌^◌, Bool, true, false, IsTrue, not, is_some, length, [], Some, OnOk, IfOk};
+    ghost use Rattle.std.specs.Prelude.{IfSome, if◌then◌else◌};
     ghost use Rattle.h264_plane.specs.declared.frame.Frame.{Frame};
     ghost use Rattle.h264_dpb.specs.Bumping.{flushed, is_held, missing_in};
     ghost use Rattle.h264_dpb.specs.Buffered.{Buffered, AreReady, Steps, HasRoomBy, IsShownBy, StaysWithin, stored_by, missing_by};
     ghost use Rattle.h264_dpb.specs.Shown.{is_shown};
     ghost use Rattle.h264_dpb.specs.Writing.{Writes};
     ghost use Rattle.h264_dpb.specs.Turns.{Shown, no_buffer, names, empties, flush_turn, way_turn, store_turn, missing_turn, last_turn};
-    ghost use Rattle.h264_dpb.specs.Kept.{KeepsBuffer, HasFrames, IsOrdered, IsReady, IsEmpty, IsAtPlace, is_free, place_of, size_of, placed_at, shown_calls, waiting_in};
+    ghost use Rattle.h264_dpb.specs.Kept.{KeepsBuffer, HasFrames, IsOrdered, IsReady, IsEmpty, IsAtPlace, is_free, place_of, size_of, placed_at};
+    ghost use Rattle.h264_dpb.specs.Kept.{shown_calls, waiting_in};
 
     /// Before the first picture.
     pub fn new() -> Output
@@ -159,8 +162,11 @@ impl Output {
         requires some { 0 < size }
         requires few { size ≤ 16 }
         requires counted { self.old.frames + waiting_in self.old.buffer.entries < 2 ^ 63 }
-        ensures writes { (frames : ℕ → Frame) (b : Buffered Shown) (written : ℕ) → KeepsBuffer b written self.old → HasFrames frames (F.lent store.now) self.old → Writes S.took S.failures (shown_calls frames (flush_turn write size b).written) sink.old sink.new result }
-        ensures keeps { (b : Buffered Shown) (written : ℕ) → KeepsBuffer b written self.old → OnOk result (KeepsBuffer (flush_turn write size b).buffer (written + length (flush_turn write size b).written) self.new) }
+        ensures writes { (frames : ℕ → Frame) (b : Buffered Shown) (written : ℕ) → KeepsBuffer b written self.old →
+            HasFrames frames (F.lent store.now) self.old → Writes S.took S.failures
+            (shown_calls frames (flush_turn write size b).written) sink.old sink.new result }
+        ensures keeps { (b : Buffered Shown) (written : ℕ) → KeepsBuffer b written self.old →
+            OnOk result (KeepsBuffer (flush_turn write size b).buffer (written + length (flush_turn write size b).written) self.new) }
         ensures emptied { OnOk result (self.new.buffer ≡ record { entries = []; missing = 0; size = size }) }
         ensures frames { OnOk result (self.new.frames ≤ self.old.frames + waiting_in self.old.buffer.entries) }
     {
@@ -186,12 +192,14 @@ impl Output {
         requires few { HasRoomBy picture.now.kind picture.now self.old.buffer }
         requires joins { joins ≤ 1 }
         requires counted { self.old.frames + waiting_in self.old.buffer.entries < 2 ^ 63 }
-        ensures steps { Steps S.took S.failures (F.lent store.now) (stored_by picture.now.kind picture.now self.old.buffer) self.new.buffer.entries sink.old sink.new result }
+        ensures steps { Steps S.took S.failures (F.lent store.now)
+            (stored_by picture.now.kind picture.now self.old.buffer) self.new.buffer.entries sink.old sink.new result }
         ensures missing { OnOk result (self.new.buffer.missing ≡ missing_by picture.now.kind picture.now self.old.buffer) }
         ensures size { self.new.buffer.size ≡ self.old.buffer.size }
         ensures within { StaysWithin self.old.buffer → OnOk result (StaysWithin self.new.buffer) }
         ensures ready { OnOk result (AreReady (F.lent store.now) self.new.buffer.entries) }
-        ensures frames { OnOk result (self.new.frames ≡ self.old.frames + (waiting_in self.old.buffer.entries + joins - waiting_in self.new.buffer.entries)) }
+        ensures frames { OnOk result (self.new.frames ≡ self.old.frames +
+            (waiting_in self.old.buffer.entries + joins - waiting_in self.new.buffer.entries)) }
     {
         let before = waiting(self.buffer.entries());
         self.buffer.store(store, picture, sink)?;
@@ -214,8 +222,11 @@ impl Output {
         requires early { picture.now.picture < 2 ^ 62 }
         requires size { (0 < picture.now.size) × (picture.now.size ≤ 16) }
         requires ready { IsReady (F.lent store.now) self.old }
-        ensures writes { (frames : ℕ → Frame) (b : Buffered Shown) (written : ℕ) → KeepsBuffer b written self.old → HasFrames frames (F.lent store.now) self.old → Writes S.took S.failures (shown_calls frames (way_turn picture.now b).written) sink.old sink.new result }
-        ensures keeps { (b : Buffered Shown) (written : ℕ) → KeepsBuffer b written self.old → OnOk result (KeepsBuffer (way_turn picture.now b).buffer (written + length (way_turn picture.now b).written) self.new) }
+        ensures writes { (frames : ℕ → Frame) (b : Buffered Shown) (written : ℕ) → KeepsBuffer b written self.old →
+            HasFrames frames (F.lent store.now) self.old → Writes S.took S.failures
+            (shown_calls frames (way_turn picture.now b).written) sink.old sink.new result }
+        ensures keeps { (b : Buffered Shown) (written : ℕ) → KeepsBuffer b written self.old →
+            OnOk result (KeepsBuffer (way_turn picture.now b).buffer (written + length (way_turn picture.now b).written) self.new) }
         ensures ordered { OnOk result (IsOrdered picture.now.picture self.new) }
         ensures others { empties picture.now ≡ false → OnOk result (self.new ≡ self.old) }
         ensures emptied { empties picture.now ≡ true → OnOk result (IsEmpty self.new) }
@@ -246,9 +257,13 @@ impl Output {
         requires own { IsTrue (is_shown (F.lent store.now) (placed_at picture.now place)) }
         requires marked { picture.now.reference ≡ true → is_held (names held.now) picture.now.picture ≡ true }
         requires few { length held.now.frames ≤ size_of self.old }
-        ensures writes { (frames : ℕ → Frame) (b : Buffered Shown) (written : ℕ) → KeepsBuffer b written self.old → HasFrames frames (F.lent store.now) self.old → IsAtPlace frames (F.lent store.now) (placed_at picture.now place) → Writes S.took S.failures (shown_calls frames (store_turn picture.now held.now b).written) sink.old sink.new result }
-        ensures keeps { (b : Buffered Shown) (written : ℕ) → KeepsBuffer b written self.old → OnOk result (KeepsBuffer (store_turn picture.now held.now b).buffer (written + length (store_turn picture.now held.now b).written) self.new) }
-        ensures frames { (frames : ℕ → Frame) → HasFrames frames (F.lent store.now) self.old → IsAtPlace frames (F.lent store.now) (placed_at picture.now place) → OnOk result (HasFrames frames (F.lent store.now) self.new) }
+        ensures writes { (frames : ℕ → Frame) (b : Buffered Shown) (written : ℕ) → KeepsBuffer b written self.old →
+            HasFrames frames (F.lent store.now) self.old → IsAtPlace frames (F.lent store.now) (placed_at picture.now place) →
+            Writes S.took S.failures (shown_calls frames (store_turn picture.now held.now b).written) sink.old sink.new result }
+        ensures keeps { (b : Buffered Shown) (written : ℕ) → KeepsBuffer b written self.old →
+            OnOk result (KeepsBuffer (store_turn picture.now held.now b).buffer (written + length (store_turn picture.now held.now b).written) self.new) }
+        ensures frames { (frames : ℕ → Frame) → HasFrames frames (F.lent store.now) self.old →
+            IsAtPlace frames (F.lent store.now) (placed_at picture.now place) → OnOk result (HasFrames frames (F.lent store.now) self.new) }
         ensures ordered { OnOk result (IsOrdered (picture.now.picture + 1) self.new) }
         ensures ready { OnOk result (IsReady (F.lent store.now) self.new) }
     {
@@ -272,8 +287,11 @@ impl Output {
         requires missing { 0 < missing_in (names held.now) }
         requires few { length held.now.frames ≤ size_of self.old }
         ensures size { size_of self.new ≡ size_of self.old }
-        ensures writes { (frames : ℕ → Frame) (b : Buffered Shown) (written : ℕ) → KeepsBuffer b written self.old → HasFrames frames (F.lent store.now) self.old → Writes S.took S.failures (shown_calls frames (missing_turn held.now b).written) sink.old sink.new result }
-        ensures keeps { (b : Buffered Shown) (written : ℕ) → KeepsBuffer b written self.old → OnOk result (KeepsBuffer (missing_turn held.now b).buffer (written + length (missing_turn held.now b).written) self.new) }
+        ensures writes { (frames : ℕ → Frame) (b : Buffered Shown) (written : ℕ) → KeepsBuffer b written self.old →
+            HasFrames frames (F.lent store.now) self.old → Writes S.took S.failures
+            (shown_calls frames (missing_turn held.now b).written) sink.old sink.new result }
+        ensures keeps { (b : Buffered Shown) (written : ℕ) → KeepsBuffer b written self.old →
+            OnOk result (KeepsBuffer (missing_turn held.now b).buffer (written + length (missing_turn held.now b).written) self.new) }
         ensures frames { (frames : ℕ → Frame) → HasFrames frames (F.lent store.now) self.old → OnOk result (HasFrames frames (F.lent store.now) self.new) }
         ensures ordered { (next : ℕ) → IsOrdered next self.old → OnOk result (IsOrdered next self.new) }
         ensures ready { OnOk result (IsReady (F.lent store.now) self.new) }
@@ -294,8 +312,10 @@ impl Output {
         requires room { S.failures sink.old < 2 ^ 64 - 1 }
         requires ordered { (next : ℕ) × (next < 2 ^ 62) × IsOrdered next self.old }
         requires ready { IsReady (F.lent store.now) self.old }
-        ensures writes { (frames : ℕ → Frame) (b : Buffered Shown) (written : ℕ) → KeepsBuffer b written self.old → HasFrames frames (F.lent store.now) self.old → Writes S.took S.failures (shown_calls frames (last_turn b).written) sink.old sink.new result }
-        ensures keeps { (b : Buffered Shown) (written : ℕ) → KeepsBuffer b written self.old → OnOk result (KeepsBuffer (last_turn b).buffer (written + length (last_turn b).written) self.new) }
+        ensures writes { (frames : ℕ → Frame) (b : Buffered Shown) (written : ℕ) → KeepsBuffer b written self.old →
+            HasFrames frames (F.lent store.now) self.old → Writes S.took S.failures (shown_calls frames (last_turn b).written) sink.old sink.new result }
+        ensures keeps { (b : Buffered Shown) (written : ℕ) → KeepsBuffer b written self.old →
+            OnOk result (KeepsBuffer (last_turn b).buffer (written + length (last_turn b).written) self.new) }
     {
         self.flush(true, 1, store, sink)
     }

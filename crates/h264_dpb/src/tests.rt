@@ -1,10 +1,10 @@
 ghost use Rattle.std.specs.Prelude.{◌≡◌, ◌-◌, ◌<◌, ◌≤◌, ◌^◌, OnOk, IfOk, IsTrue};
-ghost use Rattle.h264_dpb.specs.Shown.{lent_by, is_shown};
+ghost use Rattle.h264_dpb.specs.Shown.{is_shown};
 ghost use Rattle.h264_dpb.specs.Buffered.{AreReady};
 
-use crate::{Buffer, FrameOut, FrameStore, Kind, Picture, Placed, Rectangle};
+use crate::{Buffer, FrameOut, Kind, Picture, Placed, Rectangle};
 use h264_base::{ElementName, Elements, Failed, Stop};
-use h264_plane::{Frame, Pool};
+use h264_plane::{Frame, FrameStore, Pool};
 use std::alloc::AllocError;
 use std::process::Abort;
 

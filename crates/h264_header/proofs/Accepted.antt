@@ -14,10 +14,10 @@ use Rattle.h264_tables.specs.Level.{limits_of}
 use Rattle.h264_bits.specs.Forms.{natural, flag, optional}
 use Rattle.h264_sps.specs.declared.sps.FrameSize.{FrameSize as Size}
 use Rattle.h264_sps.specs.declared.sps.FrameCropping.{FrameCropping}
-use Rattle.h264_vui.specs.declared.vui.Vui.{Vui}
-use Rattle.h264_vui.specs.declared.vui.BitstreamRestriction.{BitstreamRestriction}
+use Rattle.h264_sps.specs.declared.vui.Vui.{Vui}
+use Rattle.h264_sps.specs.declared.vui.BitstreamRestriction.{BitstreamRestriction}
 use Rattle.h264_sets.specs.Usable.{is_frame_size, is_within, crops_within, is_usable}
-use Rattle.h264_vui.specs.Vui.{bitstream_restriction, flagged, vui}
+use Rattle.h264_sps.specs.Vui.{bitstream_restriction, flagged, vui}
 use Rattle.h264_sets.proofs.Limits.{limits-bounded}
 use Rattle.h264_sps.specs.declared.sps.Sps.{Sps}
 use Rattle.h264_sps.specs.declared.count_type.CountType.{CountType}

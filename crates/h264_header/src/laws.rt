@@ -16,8 +16,8 @@ ghost use Rattle.h264_header.specs.contracts.header.MarkingPartialEq.TheImpl as 
 /// A slice that names a picture parameter set finds it and its sequence parameter set, where both are there and some unit gave
 /// them: the bounds on ids and lengths in `sets_of` leave none of these out (7.4.1.2.1).
 pub fn accepted_sets()
-    ensures { (target : Target) (maps : Maps) (id : ℕ) (p : Pps) (s : Sps) → IsAcceptedPps target p → IsAcceptedSps target s →
-        pps_of maps id ≡ Some p → sps_of maps p.seq_parameter_set_id ≡ Some s → sets_of maps id ≡ Some (p, s) }
+    ensures { (target : Target) (maps : Maps) (id : ℕ) (p : Pps) (s : Sps) → IsAcceptedPps target p → IsAcceptedSps target s → pps_of maps id ≡ Some p →
+        sps_of maps p.seq_parameter_set_id ≡ Some s → sets_of maps id ≡ Some (p, s) }
 {}
 
 /// `==` finds two operations equal exactly where they are one: the same operation with the same operands.

@@ -6,7 +6,8 @@ ghost use Rattle.std.specs.List.{list_any};
 ghost use Rattle.arrayvec.specs.ArrayVec.{array_vec_len};
 ghost use Rattle.h264_base.specs.Meets.{Meets, Is};
 ghost use Rattle.h264_bits.specs.Forms.{optional};
-ghost use Rattle.h264_header.specs.Marking.{number_of, operands, is_operation_allowed, operation, operations, idr_marking, marking_mode, other_marking, dec_ref_pic_marking};
+ghost use Rattle.h264_header.specs.Marking.{number_of, operands, is_operation_allowed, operation, operations, idr_marking, marking_mode};
+ghost use Rattle.h264_header.specs.Marking.{other_marking, dec_ref_pic_marking};
 ghost use Rattle.h264_header.specs.Parts.{operand_name, with_operand};
 
 use crate::header::{Marking, MarkingOperation, Operation};
@@ -180,7 +181,8 @@ fn read_adaptive<S: Elements>(
     sink: &mut S,
 ) -> Result<(), Stop>
     requires { S.failures sink.old < 2 ^ 64 - 1 }
-    ensures { Meets S.took S.failures (λ _ m. marking.new ≡ Some (record { bit = bit; value = m })) (marking_mode true) bits.old bits.new sink.old sink.new result }
+    ensures { Meets S.took S.failures (λ _ m. marking.new ≡ Some (record { bit = bit; value = m }))
+        (marking_mode true) bits.old bits.new sink.old sink.new result }
 {
     let operations = read_operations(bits, sink)?;
     *marking = Some(Found {

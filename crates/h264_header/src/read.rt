@@ -227,7 +227,8 @@ fn header_from_frame_num<S: Elements>(
 ) -> Result<(), Stop>
     requires short { IsShort layout }
     requires room { S.failures sink.old < 2 ^ 64 - 1 }
-    ensures { Meets S.took S.failures (Is (λ _. header.new)) (header_from_frame_num header.old unit stated layout) bits.old bits.new sink.old sink.new result }
+    ensures { Meets S.took S.failures (Is (λ _. header.new)) (header_from_frame_num header.old unit stated layout) bits.old bits.new sink.old sink.new
+        result }
 {
     header.frame_num = read_bits(bits, ElementName::FrameNum, layout.frame_num_length, sink)?;
     header.idr_pic_id = read_idr(unit.idr_pic_flag, bits, sink)?;

@@ -7,7 +7,8 @@ ghost use Rattle.h264_base.specs.Meets.{Meets, Is};
 ghost use Rattle.h264_bits.specs.Forms.{optional};
 ghost use Rattle.h264_header.specs.PredWeightTable.{pred_weight_table};
 ghost use Rattle.h264_header.specs.declared.header.SliceKind.TheVariants.{P};
-ghost use Rattle.h264_header.specs.RefList.{num_ref_idx_l0_active_minus1, command, is_command_allowed, modification, modifications_if, ref_pic_list0, slice_kind};
+ghost use Rattle.h264_header.specs.RefList.{num_ref_idx_l0_active_minus1, command, is_command_allowed, modification, modifications_if, ref_pic_list0};
+ghost use Rattle.h264_header.specs.RefList.{slice_kind};
 
 use crate::header::{Modification, PicNumModification, PredWeightTable, RefPicList0, SliceKind};
 use crate::layout::Layout;
@@ -116,7 +117,8 @@ fn read_modifications<S: Elements>(
     requires few { active ≤ 16 }
     requires empty { commands.old.items ≡ [] }
     requires room { S.failures sink.old < 2 ^ 64 - 1 }
-    ensures { Meets S.took S.failures (Is (λ _. commands.new.items)) (modifications_if greatest active modified) bits.old bits.new sink.old sink.new result }
+    ensures { Meets S.took S.failures (Is (λ _. commands.new.items))
+        (modifications_if greatest active modified) bits.old bits.new sink.old sink.new result }
 {
     if !modified {
         return Ok(());

@@ -110,7 +110,8 @@ fn read_entries<S: Elements>(
     requires few { active ≤ 16 }
     requires empty { entries.old.items ≡ [] }
     requires room { S.failures sink.old < 2 ^ 64 - 1 }
-    ensures { Meets S.took S.failures (Is (λ _. entries.new.items)) (repeated (index_weights luma_denom chroma_denom) [] active) bits.old bits.new sink.old sink.new result }
+    ensures { Meets S.took S.failures (Is (λ _. entries.new.items))
+        (repeated (index_weights luma_denom chroma_denom) [] active) bits.old bits.new sink.old sink.new result }
 {
     for _index in 0..active {
         let next = read_index_weights(luma_denom, chroma_denom, bits, sink)?;

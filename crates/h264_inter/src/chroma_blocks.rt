@@ -70,8 +70,8 @@ fn pairs<const W: usize>(p: &Lines<'_>, x: usize, y: usize, r: usize) -> Pairs
 fn means8(w: Weights, upper: Pair, lower: Pair) -> [u8; 8]
     requires weights { w.a + w.b + w.c + w.d ≡ 64 }
     requires bytes { AreBytes upper × AreBytes lower }
-    ensures { (p : Samples) (x y : ℕ) → IsPair p x y 0 upper → IsPair p x y 1 lower →
-        (k : ℕ) → k < 8 → slice_index result k ≡ weighted w.a w.b w.c w.d (λ i j. at p (x + k + i) (y + j)) }
+    ensures { (p : Samples) (x y : ℕ) → IsPair p x y 0 upper → IsPair p x y 1 lower → (k : ℕ) → k < 8 →
+        slice_index result k ≡ weighted w.a w.b w.c w.d (λ i j. at p (x + k + i) (y + j)) }
 {
     let upper = plus(times(upper.a, w.a), times(upper.b, w.b));
     let lower = plus(times(lower.a, w.c), times(lower.b, w.d));
@@ -85,8 +85,8 @@ fn row<const W: usize>(w: Weights, upper: Pairs, lower: Pairs) -> [u8; 16]
     requires weights { w.a + w.b + w.c + w.d ≡ 64 }
     requires left { AreBytes upper.left × AreBytes lower.left }
     requires right { 8 < W → AreBytes upper.right × AreBytes lower.right }
-    ensures { (p : Samples) (x y : ℕ) → ArePairs W p x y 0 upper → ArePairs W p x y 1 lower →
-        (u : ℕ) → u < W → slice_index result u ≡ weighted w.a w.b w.c w.d (λ i j. at p (x + u + i) (y + j)) }
+    ensures { (p : Samples) (x y : ℕ) → ArePairs W p x y 0 upper → ArePairs W p x y 1 lower → (u : ℕ) → u < W →
+        slice_index result u ≡ weighted w.a w.b w.c w.d (λ i j. at p (x + u + i) (y + j)) }
 {
     let lo = means8(w, upper.left, lower.left);
     if W > 8 {

@@ -18,10 +18,10 @@ pub fn places_depend_on_samples()
 /// A predicted sample depends on the samples of the reference picture alone, of `w` columns and `h` rows, and not on what a function says of
 /// places outside it (8.4.2.2).
 pub fn predictions_depend_on_picture()
-    ensures luma { (w h : ℕ) (s t : ℕ → ℕ → ℕ) (mv : MotionVector) (x y : ℕ) → 0 < w → 0 < h →
-        ((i j : ℕ) → i < w → j < h → s i j ≡ t i j) → predicted_luma w h s mv x y ≡ predicted_luma w h t mv x y }
-    ensures chroma { (w h : ℕ) (s t : ℕ → ℕ → ℕ) (mv : MotionVector) (x y : ℕ) → 0 < w → 0 < h →
-        ((i j : ℕ) → i < w → j < h → s i j ≡ t i j) → predicted_chroma w h s mv x y ≡ predicted_chroma w h t mv x y }
+    ensures luma { (w h : ℕ) (s t : ℕ → ℕ → ℕ) (mv : MotionVector) (x y : ℕ) → 0 < w → 0 < h → ((i j : ℕ) → i < w → j < h → s i j ≡ t i j) →
+        predicted_luma w h s mv x y ≡ predicted_luma w h t mv x y }
+    ensures chroma { (w h : ℕ) (s t : ℕ → ℕ → ℕ) (mv : MotionVector) (x y : ℕ) → 0 < w → 0 < h → ((i j : ℕ) → i < w → j < h → s i j ≡ t i j) →
+        predicted_chroma w h s mv x y ≡ predicted_chroma w h t mv x y }
 {}
 
 /// A weight of 1 with no offset leaves each sample as it is, whatever its denominator (8.4.2.3.2).

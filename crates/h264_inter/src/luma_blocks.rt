@@ -93,7 +93,8 @@ fn partner<const X: usize>() -> usize
 #[inline(always)]
 fn h8(w: Window) -> u16x8
     requires sums { AreUpTo 510 w }
-    ensures each { (p : Samples) (x c y : ℕ) → AllSix false p x c y w → (k : ℕ) → k < 8 → get_or result k 0 ≡ half_of (six (λ i. pos (at p (x + k + c) (y + i)))) }
+    ensures each { (p : Samples) (x c y : ℕ) → AllSix false p x c y w → (k : ℕ) → k < 8 →
+        get_or result k 0 ≡ half_of (six (λ i. pos (at p (x + k + c) (y + i)))) }
     ensures small { (k : ℕ) → k < 8 → get_or result k 0 < 256 }
 {
     let outer = raised(plus(w.e, w.i), 16);
@@ -105,7 +106,8 @@ fn h8(w: Window) -> u16x8
 #[inline(always)]
 fn j8(w: Window) -> u16x8
     requires across { AreUpTo 13260 w }
-    ensures each { (p : Samples) (x c y : ℕ) → AllSix true p x c y w → (k : ℕ) → k < 8 → get_or result k 0 ≡ central_of (middle (λ i j. at p (x + k + i) (y + j))) }
+    ensures each { (p : Samples) (x c y : ℕ) → AllSix true p x c y w → (k : ℕ) → k < 8 →
+        get_or result k 0 ≡ central_of (middle (λ i j. at p (x + k + i) (y + j))) }
     ensures small { (k : ℕ) → k < 8 → get_or result k 0 < 256 }
 {
     central8(w.e, w.f, w.g, w.h, w.i, w.j)
@@ -190,7 +192,8 @@ fn down_row<const W: usize>(w: Windows) -> [u8; 16]
     requires size { W ≤ 16 }
     requires left { AreUpTo 510 w.left }
     requires right { 8 < W → AreUpTo 510 w.right }
-    ensures { (p : Samples) (x c y : ℕ) → AllSixOfBoth false W p x c y w → (u : ℕ) → u < W → slice_index result u ≡ half_of (six (λ i. pos (at p (x + u + c) (y + i)))) }
+    ensures { (p : Samples) (x c y : ℕ) → AllSixOfBoth false W p x c y w → (u : ℕ) → u < W →
+        slice_index result u ≡ half_of (six (λ i. pos (at p (x + u + c) (y + i)))) }
 {
     let lo = h8(w.left);
     if W > 8 {
@@ -350,8 +353,8 @@ fn middle8<const X: usize, const Y: usize>(across: Window, samples: Window) -> [
     requires not_at_0 { (0 < X) × (0 < Y) }
     requires across { AreUpTo 13260 across }
     requires samples { AreUpTo 510 samples }
-    ensures { (p : Samples) (x c y : ℕ) → c ≡ partner_of X → AllSix true p x c y across → AllSix false p x c y samples →
-        (k : ℕ) → k < 8 → slice_index result k ≡ quarter X Y (λ i j. at p (x + k + i) (y + j)) }
+    ensures { (p : Samples) (x c y : ℕ) → c ≡ partner_of X → AllSix true p x c y across → AllSix false p x c y samples → (k : ℕ) → k < 8 →
+        slice_index result k ≡ quarter X Y (λ i j. at p (x + k + i) (y + j)) }
 {
     let j = j8(across);
     if X == 1 {
@@ -379,8 +382,8 @@ fn middle_row<const W: usize, const X: usize, const Y: usize>(
     requires not_at_0 { (0 < X) × (0 < Y) }
     requires left { AreUpTo 13260 across.left × AreUpTo 510 samples.left }
     requires right { 8 < W → AreUpTo 13260 across.right × AreUpTo 510 samples.right }
-    ensures { (p : Samples) (x c y : ℕ) → c ≡ partner_of X → AllSixOfBoth true W p x c y across → AllSixOfBoth false W p x c y samples →
-        (u : ℕ) → u < W → slice_index result u ≡ quarter X Y (λ i j. at p (x + u + i) (y + j)) }
+    ensures { (p : Samples) (x c y : ℕ) → c ≡ partner_of X → AllSixOfBoth true W p x c y across → AllSixOfBoth false W p x c y samples → (u : ℕ) →
+        u < W → slice_index result u ≡ quarter X Y (λ i j. at p (x + u + i) (y + j)) }
 {
     let lo = middle8::<X, Y>(across.left, samples.left);
     if W > 8 {

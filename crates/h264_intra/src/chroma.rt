@@ -1,7 +1,8 @@
 ghost use Rattle.std.specs.Prelude.{◌≡◌, ◌+◌, ◌*◌, ◌<◌, ◌≤◌, IsTrue, slice_index};
 ghost use Rattle.h264_intra.specs.Filters.{total, HasSamples};
 ghost use Rattle.h264_intra.specs.Sides.{IsGentle};
-ghost use Rattle.h264_intra.specs.Chroma.{is_possible_chroma, number_chroma, mode_chroma_of, block_dc, predicted_chroma, sides_chroma, around_chroma, chosen_chroma};
+ghost use Rattle.h264_intra.specs.Chroma.{is_possible_chroma, number_chroma, mode_chroma_of, block_dc, predicted_chroma, sides_chroma, around_chroma};
+ghost use Rattle.h264_intra.specs.Chroma.{chosen_chroma};
 
 use crate::sides::Sides;
 use crate::slope::Plane;
@@ -140,7 +141,8 @@ fn fill<const MODE: u8>(left: &[u8; 8], above: &[u8; 8], flats: &[u8; 4], plane:
 /// The prediction of the samples of a chroma plane of a macroblock, row by row (8.3.4), where there are the sides that the mode needs.
 /// Touches 17 samples beside the macroblock and 64 in it.
 pub fn predict_chroma(mode: IntraChromaPredMode, neighbours: &NeighboursChroma) -> [u8; 64]
-    ensures { IsTrue (is_possible_chroma mode (sides_chroma neighbours.now)) → HasSamples 8 result (predicted_chroma mode (sides_chroma neighbours.now) (around_chroma neighbours.now)) }
+    ensures { IsTrue (is_possible_chroma mode (sides_chroma neighbours.now)) →
+        HasSamples 8 result (predicted_chroma mode (sides_chroma neighbours.now) (around_chroma neighbours.now)) }
 {
     let left = neighbours.left.unwrap_or([0; 8]);
     let above = neighbours.above.unwrap_or([0; 8]);

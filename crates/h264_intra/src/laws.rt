@@ -12,8 +12,8 @@ ghost use Rattle.h264_intra.specs.declared.chroma.IntraChromaPredMode.{IntraChro
 
 /// The prediction of a 4x4 block depends on the sides that are available, and on no other sample (8.3.1.2).
 pub fn predicted4_same()
-    ensures { (mode : Intra4x4PredMode) (s : Sides4) (p q : ℕ → ℕ → ℕ) (x y : ℕ) → IsTrue (is_possible4 mode s) → x < 4 → y < 4 →
-        SameSides4 s p q → predicted4 mode s p x y ≡ predicted4 mode s q x y }
+    ensures { (mode : Intra4x4PredMode) (s : Sides4) (p q : ℕ → ℕ → ℕ) (x y : ℕ) → IsTrue (is_possible4 mode s) → x < 4 → y < 4 → SameSides4 s p q →
+        predicted4 mode s p x y ≡ predicted4 mode s q x y }
 {}
 
 /// So does that of the luma samples of a macroblock (8.3.3).

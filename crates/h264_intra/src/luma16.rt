@@ -127,7 +127,8 @@ fn fill<const MODE: u8>(left: &[u8; 16], above: &[u8; 16], flat: u8, plane: Plan
 /// The prediction of the luma samples of a macroblock, row by row (8.3.3), where there are the sides that the mode needs. Touches 33
 /// samples beside the macroblock and 256 in it.
 pub fn predict16(mode: Intra16x16PredMode, neighbours: &Neighbours16) -> [u8; 256]
-    ensures { IsTrue (is_possible16 mode (sides16 neighbours.now)) → HasSamples 16 result (predicted16 mode (sides16 neighbours.now) (around16 neighbours.now)) }
+    ensures { IsTrue (is_possible16 mode (sides16 neighbours.now)) →
+        HasSamples 16 result (predicted16 mode (sides16 neighbours.now) (around16 neighbours.now)) }
 {
     let left = neighbours.left.unwrap_or([0; 16]);
     let above = neighbours.above.unwrap_or([0; 16]);

@@ -1,6 +1,9 @@
 ghost use Rattle.std.specs.Prelude.{◌≡◌, ◌<◌, ◌≤◌, IsTrue, slice_index};
 ghost use Rattle.h264_intra.specs.Filters.{f3 as f3_of, f2 as f2_of, total, HasSamples};
-ghost use Rattle.h264_intra.specs.Luma4.{from_border, diagonal_down_left as diagonal_down_left_of, diagonal_down_right as diagonal_down_right_of, vertical_right as vertical_right_of, horizontal_down as horizontal_down_of, vertical_left as vertical_left_of, horizontal_up as horizontal_up_of, directed, filled, dc, sides4, around4, SameRound4, is_possible4, number4, mode4_of, predicted4};
+ghost use Rattle.h264_intra.specs.Luma4.{from_border, diagonal_down_left as diagonal_down_left_of, diagonal_down_right as diagonal_down_right_of};
+ghost use Rattle.h264_intra.specs.Luma4.{vertical_right as vertical_right_of, horizontal_down as horizontal_down_of};
+ghost use Rattle.h264_intra.specs.Luma4.{vertical_left as vertical_left_of, horizontal_up as horizontal_up_of, directed, filled, dc, sides4, around4};
+ghost use Rattle.h264_intra.specs.Luma4.{SameRound4, is_possible4, number4, mode4_of, predicted4};
 
 use crate::sides::Sides4;
 

@@ -138,7 +138,8 @@ fn left_place(
     requires bound { IsWithin 16 no_wrap }
     requires in_list { k < length slots.now }
     ensures within { result < length slots.now }
-    ensures others { take (length slots.now - 1) (take k slots.now ++ without_first (is_in (is_named current.now no_wrap modification)) (drop k slots.now)) ≡ remove slots.now result }
+    ensures others { take (length slots.now - 1) (take k slots.now ++ without_first (is_in (is_named current.now no_wrap modification))
+        (drop k slots.now)) ≡ remove slots.now result }
 {
     match occurrence(current, no_wrap, modification, &slots[k..]) {
         Some(behind) => k + behind,
@@ -177,7 +178,8 @@ pub(crate) fn modify(
     slots: &mut ArrayVec<RefSlot, 16>,
 ) -> Result<(), Stop>
     requires { length modifications.now ≤ 16 }
-    ensures { result_map_both (λ _. slots.new) (λ stop. stop) result ≡ list_answer (modified current.now (length slots.old.items) frames.now 0 (pos current.now.frame_num) modifications.now slots.old.items) }
+    ensures { result_map_both (λ _. slots.new) (λ stop. stop) result ≡ list_answer
+        (modified current.now (length slots.old.items) frames.now 0 (pos current.now.frame_num) modifications.now slots.old.items) }
 {
     let mut no_wrap = current.frame_num as i64;
     for (k, command) in modifications.iter().enumerate() {

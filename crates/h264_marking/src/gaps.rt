@@ -45,8 +45,10 @@ pub fn fill_gaps(
 ) -> Result<u32, Stop>
     requires { (0 < numbering.now.max_frame_num) × (numbering.now.max_frame_num ≤ 65536) }
     ensures last { IfOk result (λ last. last ≡ last_or prev (numbers_from count ((prev + 1) % numbering.now.max_frame_num) numbering.now.max_frame_num)) }
-    ensures held { OnOk result (all_filled numbering.now (numbers_from count ((prev + 1) % numbering.now.max_frame_num) numbering.now.max_frame_num) held.old ≡ Some held.new) }
-    ensures refused { IfErr result (λ e. (all_filled numbering.now (numbers_from count ((prev + 1) % numbering.now.max_frame_num) numbering.now.max_frame_num) held.old ≡ None) × (e ≡ No bit rule.FrameNum)) }
+    ensures held { OnOk result (all_filled numbering.now (numbers_from count ((prev + 1) % numbering.now.max_frame_num) numbering.now.max_frame_num)
+        held.old ≡ Some held.new) }
+    ensures refused { IfErr result (λ e. (all_filled numbering.now
+        (numbers_from count ((prev + 1) % numbering.now.max_frame_num) numbering.now.max_frame_num) held.old ≡ None) × (e ≡ No bit rule.FrameNum)) }
 {
     let mut last = prev;
     for _turn in 0..count {

@@ -68,7 +68,8 @@ impl Held {
     pub fn fill_gap(&mut self, missing: &Numbering, bit: u64) -> Result<(), Stop>
         ensures answer { result ≡ (if is_some (filled missing.now self.old) then Ok tt else Err (No bit rule.FrameNum)) }
         ensures held { self.new ≡ unwrap_or (filled missing.now self.old) self.old }
-        ensures bounded { length self.old.frames ≤ frame_places missing.now.max_num_ref_frames → length self.new.frames ≤ frame_places missing.now.max_num_ref_frames }
+        ensures bounded { length self.old.frames ≤ frame_places missing.now.max_num_ref_frames →
+            length self.new.frames ≤ frame_places missing.now.max_num_ref_frames }
     {
         if !fill(missing, &mut self.frames) {
             return Err(Stop::No {

@@ -3,7 +3,8 @@
 //! `Held` keeps the frames of a sequence in sixteen places. `fill_gap` takes a frame_num that is missing, `mark` the marking of
 //! a picture: that of an IDR picture, the sliding window, or memory management control operations. Both promise what
 //! `specs/Held.antt` and `specs/Window.antt` define on the list of held frames, and refuse exactly what cannot be met; then
-//! nothing has changed. `mark_end` marks at the end of a picture by the header of its first slice. `gaps` has the numbers that are missing before a picture. What a picture predicts from is not decided here.
+//! nothing has changed. `mark_end` marks at the end of a picture by the header of its first slice. `gaps` has the numbers that are missing before a
+//! picture. What a picture predicts from is not decided here.
 #![tactic(auto)]
 
 mod ending;

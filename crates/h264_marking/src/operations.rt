@@ -29,7 +29,12 @@ impl Model for Marks {
 
     ghost Value = { Marks };
 
-    ghost view = { λ m. record { held = record { frames = m.places.items; max_long_term_frame_idx_plus1 = m.max_long_term_frame_idx_plus1 }; current = m.current; resets = m.resets } };
+    ghost view = { λ m. record {
+      held = record { frames = m.places.items; max_long_term_frame_idx_plus1 = m.max_long_term_frame_idx_plus1 };
+      current =
+          m.current;
+      resets = m.resets;
+    } };
 }
 
 /// picNumX.

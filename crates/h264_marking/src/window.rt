@@ -64,7 +64,8 @@ pub(crate) fn count_others(current: &Numbering, number: i64, frames: &[Reference
 #[tactic(auto, using(crate::proofs::Kept::any_kept))]
 pub(crate) fn fill(missing: &Numbering, places: &mut Places) -> bool
     ensures met { result ≡ is_some (option_and_then (with_missing missing.now.frame_num) (slide missing.now places.old.items)) }
-    ensures left { places.new.items ≡ unwrap_or (option_and_then (with_missing missing.now.frame_num) (slide missing.now places.old.items)) places.old.items }
+    ensures left { places.new.items ≡ unwrap_or (option_and_then (with_missing missing.now.frame_num) (slide missing.now places.old.items))
+        places.old.items }
 {
     if has_place(missing, places) {
         if some_has_frame_num(missing.frame_num, places.as_slice()) {

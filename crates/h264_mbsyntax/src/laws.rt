@@ -15,13 +15,13 @@ ghost use Rattle.h264_mbsyntax.specs.Slice.{slice_data};
 /// The flag of an inter macroblock, which goes from part to part, says whether the vectors of its sixteen blocks lie in their
 /// range.
 pub fn one_flag()
-    ensures { (width : ℕ) (slice : SliceContext) (picture : List CodedMacroblock) (bit kind : ℕ) (body : Body) (i j : ℕ) (es : List Element) (d : Derived) →
-        Derives (motions width slice picture bit kind) body i es j d → d.fit ≡ all_fit slice.vector_limit d.motions }
+    ensures { (width : ℕ) (slice : SliceContext) (picture : List CodedMacroblock) (bit kind : ℕ) (body : Body) (i j : ℕ) (es : List Element)
+        (d : Derived) → Derives (motions width slice picture bit kind) body i es j d → d.fit ≡ all_fit slice.vector_limit d.motions }
 {}
 
 /// Slice data give the macroblocks before the slice, and then macroblocks of the slice (7.3.4): each has the slice's number; its intra modes refer to
 /// sides that there are; and each of the sixteen blocks of an inter macroblock, a skipped one among them, refers to a picture that the slice's list names.
 pub fn slice_macroblocks()
-    ensures { (fits : CodedMacroblock → Bool) (width size : ℕ) (slice : SliceContext) (before after : List CodedMacroblock) (body : Body) (i j : ℕ) (es : List Element) →
-        Derives (slice_data fits width size slice before) body i es j after → AreOfSlice width slice before after }
+    ensures { (fits : CodedMacroblock → Bool) (width size : ℕ) (slice : SliceContext) (before after : List CodedMacroblock) (body : Body) (i j : ℕ)
+        (es : List Element) → Derives (slice_data fits width size slice before) body i es j after → AreOfSlice width slice before after }
 {}

@@ -168,7 +168,8 @@ fn read_intra4x4<S: Elements>(
 ) -> Result<(), Stop>
     requires qp { qp ≤ 51 }
     requires room { S.failures sink.old < 2 ^ 64 - 1 }
-    ensures meets { (width : ℕ) (picture : List CodedMacroblock) → Keeps width picture near.now → qp ≡ syntax.predicted_qp slice.now picture → Meets S.took S.failures (λ _ m. Holds mb.new m) (syntax.intra4x4 width slice.now picture) bits.old bits.new sink.old sink.new result }
+    ensures meets { (width : ℕ) (picture : List CodedMacroblock) → Keeps width picture near.now → qp ≡ syntax.predicted_qp slice.now picture →
+        Meets S.took S.failures (λ _ m. Holds mb.new m) (syntax.intra4x4 width slice.now picture) bits.old bits.new sink.old sink.new result }
     ensures quiet { OnOk result (S.failures sink.new ≡ S.failures sink.old) }
     ensures within { OnOk result (mb.new.qp ≤ 51) }
     ensures same { OnOk result (mb.new.contexts.slice ≡ slice.now.number) }
@@ -190,7 +191,8 @@ fn read_pcm<S: Elements>(
     sink: &mut S,
 ) -> Result<(), Stop>
     requires { qp ≤ 51 }
-    ensures meets { (picture : List CodedMacroblock) → qp ≡ syntax.predicted_qp slice.now picture → Meets S.took S.failures (λ _ m. Holds mb.new m) (syntax.pcm slice.now picture) bits.old bits.new sink.old sink.new result }
+    ensures meets { (picture : List CodedMacroblock) → qp ≡ syntax.predicted_qp slice.now picture →
+        Meets S.took S.failures (λ _ m. Holds mb.new m) (syntax.pcm slice.now picture) bits.old bits.new sink.old sink.new result }
     ensures within { OnOk result (mb.new.qp ≤ 51) }
     ensures quiet { OnOk result (S.failures sink.new ≡ S.failures sink.old) }
     ensures same { OnOk result (mb.new.contexts.slice ≡ slice.now.number) }
@@ -233,7 +235,8 @@ fn read_intra16x16<S: Elements>(
     requires few { kind < 25 }
     requires qp { qp ≤ 51 }
     requires room { S.failures sink.old < 2 ^ 64 - 1 }
-    ensures meets { (width : ℕ) (picture : List CodedMacroblock) → Keeps width picture near.now → qp ≡ syntax.predicted_qp slice.now picture → Meets S.took S.failures (λ _ m. Holds mb.new m) (syntax.intra16x16 width slice.now picture bit kind) bits.old bits.new sink.old sink.new result }
+    ensures meets { (width : ℕ) (picture : List CodedMacroblock) → Keeps width picture near.now → qp ≡ syntax.predicted_qp slice.now picture →
+        Meets S.took S.failures (λ _ m. Holds mb.new m) (syntax.intra16x16 width slice.now picture bit kind) bits.old bits.new sink.old sink.new result }
     ensures quiet { OnOk result (S.failures sink.new ≡ S.failures sink.old) }
     ensures within { OnOk result (mb.new.qp ≤ 51) }
     ensures same { OnOk result (mb.new.contexts.slice ≡ slice.now.number) }
@@ -267,7 +270,8 @@ fn read_inter<S: Elements>(
     requires qp { qp ≤ 51 }
     requires usable { Usable slice.now }
     requires room { S.failures sink.old < 2 ^ 64 - 1 }
-    ensures meets { (width : ℕ) (picture : List CodedMacroblock) → Keeps width picture near.now → qp ≡ syntax.predicted_qp slice.now picture → Meets S.took S.failures (λ _ m. Holds mb.new m) (syntax.inter width slice.now picture bit kind) bits.old bits.new sink.old sink.new result }
+    ensures meets { (width : ℕ) (picture : List CodedMacroblock) → Keeps width picture near.now → qp ≡ syntax.predicted_qp slice.now picture →
+        Meets S.took S.failures (λ _ m. Holds mb.new m) (syntax.inter width slice.now picture bit kind) bits.old bits.new sink.old sink.new result }
     ensures quiet { OnOk result (S.failures sink.new ≡ S.failures sink.old) }
     ensures within { OnOk result (mb.new.qp ≤ 51) }
     ensures same { OnOk result (mb.new.contexts.slice ≡ slice.now.number) }
@@ -292,7 +296,9 @@ fn read_of_i<S: Elements>(
 ) -> Result<(), Stop>
     requires qp { qp ≤ 51 }
     requires room { S.failures sink.old < 2 ^ 64 - 1 }
-    ensures meets { (width : ℕ) (picture : List CodedMacroblock) → Keeps width picture near.now → qp ≡ syntax.predicted_qp slice.now picture → Meets S.took S.failures (λ _ m. Holds mb.new m) (syntax.by_type slice_type.I width slice.now picture bit kind) bits.old bits.new sink.old sink.new result }
+    ensures meets { (width : ℕ) (picture : List CodedMacroblock) → Keeps width picture near.now → qp ≡ syntax.predicted_qp slice.now picture →
+        Meets S.took S.failures (λ _ m. Holds mb.new m) (syntax.by_type slice_type.I width slice.now picture bit kind) bits.old bits.new sink.old
+        sink.new result }
     ensures quiet { OnOk result (S.failures sink.new ≡ S.failures sink.old) }
     ensures within { OnOk result (mb.new.qp ≤ 51) }
     ensures same { OnOk result (mb.new.contexts.slice ≡ slice.now.number) }
@@ -321,7 +327,9 @@ fn read_by_type<S: Elements>(
     requires qp { qp ≤ 51 }
     requires usable { Usable slice.now }
     requires room { S.failures sink.old < 2 ^ 64 - 1 }
-    ensures meets { (width : ℕ) (picture : List CodedMacroblock) → Keeps width picture near.now → qp ≡ syntax.predicted_qp slice.now picture → Meets S.took S.failures (λ _ m. Holds mb.new m) (syntax.by_type slice.now.slice_type width slice.now picture bit kind) bits.old bits.new sink.old sink.new result }
+    ensures meets { (width : ℕ) (picture : List CodedMacroblock) → Keeps width picture near.now → qp ≡ syntax.predicted_qp slice.now picture →
+        Meets S.took S.failures (λ _ m. Holds mb.new m) (syntax.by_type slice.now.slice_type width slice.now picture bit kind) bits.old bits.new
+        sink.old sink.new result }
     ensures quiet { OnOk result (S.failures sink.new ≡ S.failures sink.old) }
     ensures within { OnOk result (mb.new.qp ≤ 51) }
     ensures same { OnOk result (mb.new.contexts.slice ≡ slice.now.number) }
@@ -354,8 +362,12 @@ pub fn read_macroblock<S: Elements>(
     requires qp { qp ≤ 51 }
     requires usable { Usable slice.now }
     requires room { S.failures sink.old < 2 ^ 64 - 1 }
-    ensures answers { (width : ℕ) (picture : List CodedMacroblock) → Keeps width picture near.now → qp ≡ syntax.predicted_qp slice.now picture → Answers S.took S.failures (IsRead width slice.now picture mb.new) (syntax.macroblock width slice.now picture) bits.old bits.new sink.old sink.new result }
-    ensures meets { (width : ℕ) (picture : List CodedMacroblock) → Keeps width picture near.now → qp ≡ syntax.predicted_qp slice.now picture → Meets S.took S.failures (IsRead width slice.now picture mb.new) (syntax.macroblock width slice.now picture) bits.old bits.new sink.old sink.new result }
+    ensures answers { (width : ℕ) (picture : List CodedMacroblock) → Keeps width picture near.now → qp ≡ syntax.predicted_qp slice.now picture →
+        Answers S.took S.failures (IsRead width slice.now picture mb.new)
+        (syntax.macroblock width slice.now picture) bits.old bits.new sink.old sink.new result }
+    ensures meets { (width : ℕ) (picture : List CodedMacroblock) → Keeps width picture near.now → qp ≡ syntax.predicted_qp slice.now picture →
+        Meets S.took S.failures (IsRead width slice.now picture mb.new)
+        (syntax.macroblock width slice.now picture) bits.old bits.new sink.old sink.new result }
     ensures quiet { OnOk result (S.failures sink.new ≡ S.failures sink.old) }
     ensures within { OnOk result (mb.new.qp ≤ 51) }
     ensures same { OnOk result (mb.new.contexts.slice ≡ slice.now.number) }

@@ -99,7 +99,9 @@ pub(crate) fn read_luma<const N: usize, S: Elements>(
 ) -> Result<(), Stop>
     requires size { N ≤ 16 }
     requires room { S.failures sink.old < 2 ^ 64 - 1 }
-    ensures meets { (width : ℕ) (picture : List CodedMacroblock) → Keeps width picture near.now → Meets S.took S.failures (λ _ blocks. stored.Stored N 16 totals.new levels.new blocks) (syntax.luma_blocks width picture slice N pattern) bits.old bits.new sink.old sink.new result }
+    ensures meets { (width : ℕ) (picture : List CodedMacroblock) → Keeps width picture near.now →
+        Meets S.took S.failures (λ _ blocks. stored.Stored N 16 totals.new levels.new blocks)
+        (syntax.luma_blocks width picture slice N pattern) bits.old bits.new sink.old sink.new result }
     ensures sized { length totals.new ≡ 16 }
     ensures quiet { OnOk result (S.failures sink.new ≡ S.failures sink.old) }
 {
@@ -123,7 +125,8 @@ fn read_chroma_dc<S: Elements>(
     sink: &mut S,
 ) -> Result<(), Stop>
     requires { S.failures sink.old < 2 ^ 64 - 1 }
-    ensures { Meets S.took S.failures (λ _ blocks. stored.Stored 4 2 totals.new levels.new blocks) (syntax.chroma_dc_if coded) bits.old bits.new sink.old sink.new result }
+    ensures { Meets S.took S.failures (λ _ blocks. stored.Stored 4 2 totals.new levels.new blocks)
+        (syntax.chroma_dc_if coded) bits.old bits.new sink.old sink.new result }
 {
     if !coded {
         *totals = [0; 2];
@@ -144,7 +147,9 @@ fn read_all_ac<S: Elements>(
     sink: &mut S,
 ) -> Result<(), Stop>
     requires { S.failures sink.old < 2 ^ 64 - 1 }
-    ensures meets { (width : ℕ) (picture : List CodedMacroblock) → Keeps width picture near.now → Meets S.took S.failures (λ _ blocks. stored.Stored 15 8 totals.new levels.new blocks) (syntax.chroma_blocks width picture slice) bits.old bits.new sink.old sink.new result }
+    ensures meets { (width : ℕ) (picture : List CodedMacroblock) → Keeps width picture near.now →
+        Meets S.took S.failures (λ _ blocks. stored.Stored 15 8 totals.new levels.new blocks)
+        (syntax.chroma_blocks width picture slice) bits.old bits.new sink.old sink.new result }
     ensures quiet { OnOk result (S.failures sink.new ≡ S.failures sink.old) }
 {
     for b in 0..8 {
@@ -165,7 +170,9 @@ fn read_chroma<S: Elements>(
     sink: &mut S,
 ) -> Result<(), Stop>
     requires { S.failures sink.old < 2 ^ 64 - 1 }
-    ensures meets { (width : ℕ) (picture : List CodedMacroblock) → Keeps width picture near.now → Meets S.took S.failures (λ _ v. stored.StoredChroma totals.new residual.new.chroma_ac residual.new.chroma_dc_totals residual.new.chroma_dc v) (syntax.chroma width picture slice pattern) bits.old bits.new sink.old sink.new result }
+    ensures meets { (width : ℕ) (picture : List CodedMacroblock) → Keeps width picture near.now →
+        Meets S.took S.failures (λ _ v. stored.StoredChroma totals.new residual.new.chroma_ac residual.new.chroma_dc_totals residual.new.chroma_dc v)
+        (syntax.chroma width picture slice pattern) bits.old bits.new sink.old sink.new result }
     ensures sized { length totals.new ≡ 8 }
     ensures luma { residual.new.luma ≡ residual.old.luma }
     ensures luma_ac { residual.new.luma_ac ≡ residual.old.luma_ac }
@@ -214,7 +221,9 @@ pub(crate) fn read_coefficients<S: Elements>(
 ) -> Result<(), Stop>
     requires predicted { predicted_qp ≤ 51 }
     requires room { S.failures sink.old < 2 ^ 64 - 1 }
-    ensures meets { (width : ℕ) (picture : List CodedMacroblock) → Keeps width picture near.now → Meets S.took S.failures (λ _ v. HasCoefficients mb.new v) (patterned table width picture slice predicted_qp) bits.old bits.new sink.old sink.new result }
+    ensures meets { (width : ℕ) (picture : List CodedMacroblock) → Keeps width picture near.now →
+        Meets S.took S.failures (λ _ v. HasCoefficients mb.new v)
+        (patterned table width picture slice predicted_qp) bits.old bits.new sink.old sink.new result }
     ensures within { OnOk result (mb.new.qp ≤ 51) }
     ensures quiet { OnOk result (S.failures sink.new ≡ S.failures sink.old) }
     ensures same { IsSame mb.old mb.new }
@@ -266,7 +275,9 @@ pub(crate) fn read_coefficients16<S: Elements>(
 ) -> Result<(), Stop>
     requires predicted { predicted_qp ≤ 51 }
     requires room { S.failures sink.old < 2 ^ 64 - 1 }
-    ensures meets { (width : ℕ) (picture : List CodedMacroblock) → Keeps width picture near.now → Meets S.took S.failures (λ _ v. HasCoefficients16 mb.new v) (syntax.coefficients16 width picture slice predicted_qp pattern) bits.old bits.new sink.old sink.new result }
+    ensures meets { (width : ℕ) (picture : List CodedMacroblock) → Keeps width picture near.now →
+        Meets S.took S.failures (λ _ v. HasCoefficients16 mb.new v)
+        (syntax.coefficients16 width picture slice predicted_qp pattern) bits.old bits.new sink.old sink.new result }
     ensures within { OnOk result (mb.new.qp ≤ 51) }
     ensures quiet { OnOk result (S.failures sink.new ≡ S.failures sink.old) }
     ensures same { IsSame mb.old mb.new }

@@ -69,7 +69,8 @@ impl Near {
     #[inline(always)]
     fn left_total(&self, slice: u32, totals: &[u8; 16], b: usize) -> Option<u8>
         requires { b < 16 }
-        ensures { (width : ℕ) (picture : List CodedMacroblock) → Keeps width picture self.now → result ≡ around 4 (total_part slice) width picture (with_totals slice (take b totals.now) []) (column_of b) (suc (row_of b)) }
+        ensures { (width : ℕ) (picture : List CodedMacroblock) → Keeps width picture self.now →
+            result ≡ around 4 (total_part slice) width picture (with_totals slice (take b totals.now) []) (column_of b) (suc (row_of b)) }
     {
         let x = column(b);
         let y = row(b);
@@ -82,7 +83,8 @@ impl Near {
     #[inline(always)]
     fn upper_total(&self, slice: u32, totals: &[u8; 16], b: usize) -> Option<u8>
         requires { b < 16 }
-        ensures { (width : ℕ) (picture : List CodedMacroblock) → Keeps width picture self.now → result ≡ around 4 (total_part slice) width picture (with_totals slice (take b totals.now) []) (suc (column_of b)) (row_of b) }
+        ensures { (width : ℕ) (picture : List CodedMacroblock) → Keeps width picture self.now →
+            result ≡ around 4 (total_part slice) width picture (with_totals slice (take b totals.now) []) (suc (column_of b)) (row_of b) }
     {
         let x = column(b);
         let y = row(b);
@@ -106,7 +108,8 @@ impl Near {
     #[inline(always)]
     fn left_chroma(&self, slice: u32, totals: &[u8; 8], b: usize) -> Option<u8>
         requires { b < 8 }
-        ensures { (width : ℕ) (picture : List CodedMacroblock) → Keeps width picture self.now → result ≡ around 2 (chroma_part slice (b / 4)) width picture (with_totals slice [] (take b totals.now)) (b % 2) (suc (b / 2 % 2)) }
+        ensures { (width : ℕ) (picture : List CodedMacroblock) → Keeps width picture self.now →
+            result ≡ around 2 (chroma_part slice (b / 4)) width picture (with_totals slice [] (take b totals.now)) (b % 2) (suc (b / 2 % 2)) }
     {
         if b % 2 > 0 {
             return Some(totals[b - 1]);
@@ -117,7 +120,8 @@ impl Near {
     #[inline(always)]
     fn upper_chroma(&self, slice: u32, totals: &[u8; 8], b: usize) -> Option<u8>
         requires { b < 8 }
-        ensures { (width : ℕ) (picture : List CodedMacroblock) → Keeps width picture self.now → result ≡ around 2 (chroma_part slice (b / 4)) width picture (with_totals slice [] (take b totals.now)) (suc (b % 2)) (b / 2 % 2) }
+        ensures { (width : ℕ) (picture : List CodedMacroblock) → Keeps width picture self.now →
+            result ≡ around 2 (chroma_part slice (b / 4)) width picture (with_totals slice [] (take b totals.now)) (suc (b % 2)) (b / 2 % 2) }
     {
         if b / 2 % 2 > 0 {
             return Some(totals[b - 2]);
@@ -129,7 +133,8 @@ impl Near {
     #[inline]
     pub fn chroma_nc(&self, slice: u32, totals: &[u8; 8], b: usize) -> u8
         requires { b < 8 }
-        ensures { (width : ℕ) (picture : List CodedMacroblock) → Keeps width picture self.now → result ≡ chroma_nc_of width picture slice (take b totals.now) }
+        ensures { (width : ℕ) (picture : List CodedMacroblock) → Keeps width picture self.now →
+            result ≡ chroma_nc_of width picture slice (take b totals.now) }
     {
         let left = self.left_chroma(slice, totals, b);
         let above = self.upper_chroma(slice, totals, b);
@@ -139,7 +144,8 @@ impl Near {
     #[inline(always)]
     fn left_mode(&self, slice: u32, constrained: bool, modes: &[u8; 16], b: usize) -> Option<u8>
         requires { b < 16 }
-        ensures { (width : ℕ) (picture : List CodedMacroblock) → Keeps width picture self.now → result ≡ around 4 (mode_part slice constrained) width picture (with_modes slice (take b modes.now)) (column_of b) (suc (row_of b)) }
+        ensures { (width : ℕ) (picture : List CodedMacroblock) → Keeps width picture self.now →
+            result ≡ around 4 (mode_part slice constrained) width picture (with_modes slice (take b modes.now)) (column_of b) (suc (row_of b)) }
     {
         let x = column(b);
         let y = row(b);
@@ -152,7 +158,8 @@ impl Near {
     #[inline(always)]
     fn upper_mode(&self, slice: u32, constrained: bool, modes: &[u8; 16], b: usize) -> Option<u8>
         requires { b < 16 }
-        ensures { (width : ℕ) (picture : List CodedMacroblock) → Keeps width picture self.now → result ≡ around 4 (mode_part slice constrained) width picture (with_modes slice (take b modes.now)) (suc (column_of b)) (row_of b) }
+        ensures { (width : ℕ) (picture : List CodedMacroblock) → Keeps width picture self.now →
+            result ≡ around 4 (mode_part slice constrained) width picture (with_modes slice (take b modes.now)) (suc (column_of b)) (row_of b) }
     {
         let x = column(b);
         let y = row(b);
@@ -165,7 +172,8 @@ impl Near {
     #[inline(always)]
     fn corner_mode(&self, slice: u32, constrained: bool, modes: &[u8; 16], b: usize) -> Option<u8>
         requires { b < 16 }
-        ensures { (width : ℕ) (picture : List CodedMacroblock) → Keeps width picture self.now → result ≡ around 4 (mode_part slice constrained) width picture (with_modes slice (take b modes.now)) (column_of b) (row_of b) }
+        ensures { (width : ℕ) (picture : List CodedMacroblock) → Keeps width picture self.now →
+            result ≡ around 4 (mode_part slice constrained) width picture (with_modes slice (take b modes.now)) (column_of b) (row_of b) }
     {
         let x = column(b);
         let y = row(b);
@@ -186,7 +194,8 @@ impl Near {
     #[inline]
     pub fn mode(&self, slice: u32, constrained: bool, modes: &[u8; 16], b: usize) -> u8
         requires { b < 16 }
-        ensures { (width : ℕ) (picture : List CodedMacroblock) → Keeps width picture self.now → result ≡ predicted_mode width picture slice constrained (take b modes.now) }
+        ensures { (width : ℕ) (picture : List CodedMacroblock) → Keeps width picture self.now →
+            result ≡ predicted_mode width picture slice constrained (take b modes.now) }
     {
         let left = self.left_mode(slice, constrained, modes, b);
         let above = self.upper_mode(slice, constrained, modes, b);
@@ -197,7 +206,8 @@ impl Near {
     #[inline]
     pub fn samples(&self, slice: u32, constrained: bool, modes: &[u8; 16], b: usize) -> Samples
         requires { b < 16 }
-        ensures { (width : ℕ) (picture : List CodedMacroblock) → Keeps width picture self.now → result ≡ block_samples width picture slice constrained (take b modes.now) }
+        ensures { (width : ℕ) (picture : List CodedMacroblock) → Keeps width picture self.now →
+            result ≡ block_samples width picture slice constrained (take b modes.now) }
     {
         let above = self.upper_mode(slice, constrained, modes, b);
         let left = self.left_mode(slice, constrained, modes, b);
@@ -213,7 +223,8 @@ impl Near {
     #[inline(always)]
     fn upper_motion(&self, slice: u32, x: usize) -> Option<Option<Motion>>
         requires { x < 6 }
-        ensures { (width : ℕ) (picture : List CodedMacroblock) (current : CodedMacroblock) → Keeps width picture self.now → result ≡ around 4 (motion_part slice) width picture current x 0 }
+        ensures { (width : ℕ) (picture : List CodedMacroblock) (current : CodedMacroblock) → Keeps width picture self.now →
+            result ≡ around 4 (motion_part slice) width picture current x 0 }
     {
         if x == 0 {
             return motion_along(&self.corner, slice, 3);
@@ -256,7 +267,8 @@ impl Near {
     /// Whether the macroblock above and to the right can be used for intra prediction of this one (8.3.1.2).
     #[inline]
     pub fn above_right(&self, slice: u32, constrained: bool) -> bool
-        ensures { (width : ℕ) (picture : List CodedMacroblock) → Keeps width picture self.now → result ≡ is_some (around 4 (mode_part slice constrained) width picture (with_modes slice []) 5 0) }
+        ensures { (width : ℕ) (picture : List CodedMacroblock) → Keeps width picture self.now →
+            result ≡ is_some (around 4 (mode_part slice constrained) width picture (with_modes slice []) 5 0) }
     {
         if self.column + 1 < self.above.len() {
             return mode_along(&self.above[self.column + 1], slice, constrained, 0).is_some();
@@ -275,7 +287,8 @@ impl Near {
     /// The edge of the macroblock above.
     #[inline]
     pub fn above_edge(&self) -> &Option<Edge>
-        ensures { (width : ℕ) (picture : List CodedMacroblock) → Keeps width picture self.now → IsEdge Lower result.now (last_in width picture (length picture % width)) }
+        ensures { (width : ℕ) (picture : List CodedMacroblock) → Keeps width picture self.now →
+            IsEdge Lower result.now (last_in width picture (length picture % width)) }
     {
         &self.above[self.column]
     }
@@ -284,7 +297,8 @@ impl Near {
     #[inline]
     pub fn left_side(&self, y: usize) -> Option<Side>
         requires { y < 4 }
-        ensures { (width : ℕ) (picture : List CodedMacroblock) (current : CodedMacroblock) → Keeps width picture self.now → result ≡ around 4 side_part width picture current 0 (suc y) }
+        ensures { (width : ℕ) (picture : List CodedMacroblock) (current : CodedMacroblock) → Keeps width picture self.now →
+            result ≡ around 4 side_part width picture current 0 (suc y) }
     {
         side_along(&self.left, y)
     }
@@ -293,14 +307,16 @@ impl Near {
     #[inline]
     pub fn upper_side(&self, x: usize) -> Option<Side>
         requires { x < 4 }
-        ensures { (width : ℕ) (picture : List CodedMacroblock) (current : CodedMacroblock) → Keeps width picture self.now → result ≡ around 4 side_part width picture current (suc x) 0 }
+        ensures { (width : ℕ) (picture : List CodedMacroblock) (current : CodedMacroblock) → Keeps width picture self.now →
+            result ≡ around 4 side_part width picture current (suc x) 0 }
     {
         side_along(&self.above[self.column], x)
     }
 
     /// Goes on after a macroblock.
     pub fn push(&mut self, m: &Contexts)
-        ensures { (width : ℕ) (picture : List CodedMacroblock) (coded : CodedMacroblock) → Keeps width picture self.old → Shows m.now coded → Keeps width (picture ++ coded ∷ []) self.new }
+        ensures { (width : ℕ) (picture : List CodedMacroblock) (coded : CodedMacroblock) → Keeps width picture self.old → Shows m.now coded →
+            Keeps width (picture ++ coded ∷ []) self.new }
     {
         let corner = self.above[self.column];
         self.above[self.column] = Some(Edge {

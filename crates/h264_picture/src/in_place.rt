@@ -46,10 +46,13 @@ pub fn go_on(
     requires more { IsTrue m.now.available.above_right → 16 * column + 20 ≤ vec_len lines.old.y.above }
     ensures lines { (p : Component) → vec_len (store_of p lines.new).above ≡ vec_len (store_of p lines.old).above }
     ensures size { (p : Component) → IsSized (plane_of p frame.new) (plane_of p frame.old).width (plane_of p frame.old).height }
-    ensures held { (k : Setting) (place : ℕ → ℕ) (slices : ℕ → Parameters) (picture : List CodedMacroblock) (q : CodedMacroblock) (l : Levels) → length picture ≡ row * k.across + column → column < k.across → row < k.down →
-        AreShown k pool.now (prediction_in m.now.prediction) → AreResiduals l residuals.now → IsPossible (prediction_in m.now.prediction) m.now.available → coded_as m.now l ≡ given_by k.across picture place (slices q.slice) q →
-        Keeps k.across picture coded.now.near.now → Shows coded.now.own.now q → filters slices q.slice ≡ coded.now.filter.now → ((n : ℕ) → (filters slices n).chroma_qp_index_offset ≡ coded.now.filter.now.chroma_qp_index_offset) →
-        IsHeld k place slices lines.old frame.old picture → IsHeld k place slices lines.new frame.new (picture ++ q ∷ []) }
+    ensures held { (k : Setting) (place : ℕ → ℕ) (slices : ℕ → Parameters) (picture : List CodedMacroblock) (q : CodedMacroblock) (l : Levels) →
+        length picture ≡ row * k.across + column → column < k.across → row < k.down → AreShown k pool.now (prediction_in m.now.prediction) →
+        AreResiduals l residuals.now → IsPossible (prediction_in m.now.prediction) m.now.available →
+        coded_as m.now l ≡ given_by k.across picture place (slices q.slice) q → Keeps k.across picture coded.now.near.now → Shows coded.now.own.now q →
+        filters slices q.slice ≡ coded.now.filter.now → ((n : ℕ) → (filters slices
+        n).chroma_qp_index_offset ≡ coded.now.filter.now.chroma_qp_index_offset) → IsHeld k place slices lines.old frame.old picture →
+        IsHeld k place slices lines.new frame.new (picture ++ q ∷ []) }
 {
     construct(lines, frame, m, residuals, pool, column, row);
     filter_coded(frame, coded, column, row);

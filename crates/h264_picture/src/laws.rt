@@ -20,15 +20,17 @@ ghost use Rattle.h264_picture.specs.Sources.{Sources, IsDecodedFrom, AreShared};
 /// sides that there are.
 pub fn one_decoded()
     ensures { (k : Setting) (place : ℕ → ℕ) (slices : ℕ → Parameters) (picture : List CodedMacroblock) (f g : Component → ℕ → ℕ → ℕ) →
-        ((c r : ℕ) → c < k.across → r < k.down → IsPossible (macroblock_at slices place k.across picture (r * k.across + c)).prediction (macroblock_at slices place k.across picture (r * k.across + c)).available) →
-        IsDecoded k place slices picture f → IsDecoded k place slices picture g → (p : Component) (x y : ℕ) → x < side p * k.across → y < side p * k.down → f p x y ≡ g p x y }
+        ((c r : ℕ) → c < k.across → r < k.down → IsPossible (macroblock_at slices place k.across picture (r * k.across + c)).prediction
+        (macroblock_at slices place k.across picture (r * k.across + c)).available) → IsDecoded k place slices picture f →
+        IsDecoded k place slices picture g → (p : Component) (x y : ℕ) → x < side p * k.across → y < side p * k.down → f p x y ≡ g p x y }
 {}
 
 /// And it has one, where it is whole.
 pub fn some_decoded()
     ensures { (k : Setting) (place : ℕ → ℕ) (slices : ℕ → Parameters) (picture : List CodedMacroblock) → length picture ≡ k.down * k.across →
-        ((c r : ℕ) → c < k.across → r < k.down → IsPossible (macroblock_at slices place k.across picture (r * k.across + c)).prediction (macroblock_at slices place k.across picture (r * k.across + c)).available) →
-        (final : Component → ℕ → ℕ → ℕ) × IsDecoded k place slices picture final }
+        ((c r : ℕ) → c < k.across → r < k.down → IsPossible (macroblock_at slices place k.across picture (r * k.across + c)).prediction
+        (macroblock_at slices place k.across picture (r * k.across + c)).available) → (final : Component → ℕ → ℕ → ℕ)
+        × IsDecoded k place slices picture final }
 {}
 
 /// Of what it is decoded from, a picture depends on the samples of those pictures to which its macroblocks refer, inside the picture, and on the

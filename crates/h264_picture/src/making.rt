@@ -54,8 +54,11 @@ fn given_within<'a>(
     requires small { column < 1024 }
     ensures points { PointsInto places.now (prediction_in result.prediction) }
     ensures more { IsTrue result.available.above_right → column + 1 < across }
-    ensures given { (width : ℕ) (picture : List CodedMacroblock) (place : ℕ → ℕ) (coded : CodedMacroblock) → across ≡ width → Keeps width picture near.now → length picture ≡ row * width + column → column < width → HoldsMacroblock read.now coded → coded.slice ≡ slice.now.number →
-        IsPossible width slice.now picture coded.prediction → ArePlaced slice.now places.now place → coded_as result (levels_of slice.now.chroma_qp_index_offset coded) ≡ given_of width picture place (weights_by weights.now) slice.now.constrained_intra slice.now.chroma_qp_index_offset coded }
+    ensures given { (width : ℕ) (picture : List CodedMacroblock) (place : ℕ → ℕ) (coded : CodedMacroblock) → across ≡ width →
+        Keeps width picture near.now → length picture ≡ row * width + column → column < width → HoldsMacroblock read.now coded →
+        coded.slice ≡ slice.now.number → IsPossible width slice.now picture coded.prediction → ArePlaced slice.now places.now place →
+        coded_as result (levels_of slice.now.chroma_qp_index_offset coded) ≡ given_of width picture place
+        (weights_by weights.now) slice.now.constrained_intra slice.now.chroma_qp_index_offset coded }
 {
     let mut m = given(read, near, slice, places, weights, column, row);
     m.available = within_row(m.available, across, column);
@@ -74,7 +77,10 @@ impl Sequence {
         ensures same { KeepsPlace self.old self.new }
         ensures syntax { KeepsSyntax self.old self.new }
         ensures makes { (making : Option Making) → MakesIn making slice.now self.old → MakesIn making slice.now self.new }
-        ensures samples { (width size : ℕ) (making : Option Making) (picture : List CodedMacroblock) (coded : CodedMacroblock) → HoldsIn width size picture self.old → HasSamples making picture self.old → MakesIn making slice.now self.old → HoldsMacroblock self.old.mb coded → coded.slice ≡ slice.now.number → IsPossible width slice.now picture coded.prediction → AreResiduals (levels_of slice.now.chroma_qp_index_offset coded) residuals.now → HasSamples making (picture ++ coded ∷ []) self.new }
+        ensures samples { (width size : ℕ) (making : Option Making) (picture : List CodedMacroblock) (coded : CodedMacroblock) →
+            HoldsIn width size picture self.old → HasSamples making picture self.old → MakesIn making slice.now self.old →
+            HoldsMacroblock self.old.mb coded → coded.slice ≡ slice.now.number → IsPossible width slice.now picture coded.prediction →
+            AreResiduals (levels_of slice.now.chroma_qp_index_offset coded) residuals.now → HasSamples making (picture ++ coded ∷ []) self.new }
     {
         let (read, near) = (&self.mb, &self.near);
         let coded = Coded {

@@ -34,7 +34,8 @@ fn place_within(frames: &Frames, place: u8, base: usize) -> u8
 pub(crate) fn places_within(frames: &Frames, places: &[u8; 16], base: usize) -> [u8; 16]
     requires { 1 < length frames.now.pool }
     ensures stand { ArePlaces frames.now result }
-    ensures values { (n : ℕ) → n < 16 → base ≤ get_or places.now n 0 → IsPlace frames.now (get_or places.now n 0 - base) → get_or result n 0 ≡ get_or places.now n 0 - base }
+    ensures values { (n : ℕ) → n < 16 → base ≤ get_or places.now n 0 → IsPlace frames.now (get_or places.now n 0 - base) →
+        get_or result n 0 ≡ get_or places.now n 0 - base }
 {
     let mut own = [0; 16];
     for n in 0..16 {

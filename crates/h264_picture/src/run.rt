@@ -30,7 +30,9 @@ impl Sequence {
         requires left { self.old.next + left ≤ self.old.size }
         requires usable { Usable slice.now }
         requires room { S.failures sink.old < 2 ^ 64 - 1 }
-        ensures meets { (width size : ℕ) (making : Option Making) (picture : List CodedMacroblock) → Reads width size making slice.now picture self.old → Meets S.took S.failures (λ _ after. HoldsMade width size making after self.new) (syntax.macroblocks (transform_fits slice.now) width slice.now left standings.Next picture) bits.old bits.new sink.old sink.new result }
+        ensures meets { (width size : ℕ) (making : Option Making) (picture : List CodedMacroblock) →
+            Reads width size making slice.now picture self.old → Meets S.took S.failures (λ _ after. HoldsMade width size making after self.new)
+            (syntax.macroblocks (transform_fits slice.now) width slice.now left standings.Next picture) bits.old bits.new sink.old sink.new result }
         ensures quiet { OnOk result (S.failures sink.new ≡ S.failures sink.old) }
         ensures same { KeepsPlace self.old self.new }
     {

@@ -123,7 +123,8 @@ impl Sequence {
         ensures count { length self.new.frames.pool ≡ length self.old.frames.pool }
         ensures size { (self.new.across ≡ self.old.across) × (self.new.down ≡ self.old.down) }
         ensures ended { IsFrameOf self.old.across self.old.down (lent_within self.new.frames self.old.frames.place) }
-        ensures decoded { (width size : ℕ) (making : Making) (picture : List CodedMacroblock) → HoldsMade width size (Some making) picture self.old → length picture ≡ size → IsMadeOf (setting_of self.old) making picture (lent_within self.new.frames self.old.frames.place) }
+        ensures decoded { (width size : ℕ) (making : Making) (picture : List CodedMacroblock) → HoldsMade width size (Some making) picture self.old →
+            length picture ≡ size → IsMadeOf (setting_of self.old) making picture (lent_within self.new.frames self.old.frames.place) }
         ensures serves { (width size : ℕ) → ServesIn width size self.old → ServesIn width size self.new }
         ensures holds { (width size : ℕ) (picture : List CodedMacroblock) → HoldsIn width size picture self.old → ServesIn width size self.new }
     {
@@ -140,7 +141,10 @@ impl Sequence {
         requires usable { Usable slice.now }
         requires qp { slice.now.qp ≤ 51 }
         requires room { S.failures sink.old < 2 ^ 64 - 1 }
-        ensures meets { (width size : ℕ) (making : Option Making) (picture : List CodedMacroblock) → HoldsMade width size making picture self.old → slice.now.number ≡ length picture → MakesIn making slice.now self.old → Meets S.took S.failures (λ _ after. HoldsMade width size making after self.new) (slice_data (transform_fits slice.now) width size slice.now picture) bits.old bits.new sink.old sink.new result }
+        ensures meets { (width size : ℕ) (making : Option Making) (picture : List CodedMacroblock) → HoldsMade width size making picture self.old →
+            slice.now.number ≡ length picture → MakesIn making slice.now self.old →
+            Meets S.took S.failures (λ _ after. HoldsMade width size making after self.new)
+            (slice_data (transform_fits slice.now) width size slice.now picture) bits.old bits.new sink.old sink.new result }
         ensures quiet { OnOk result (S.failures sink.new ≡ S.failures sink.old) }
         ensures same { KeepsPlace self.old self.new }
     {
@@ -163,7 +167,10 @@ impl Sequence {
         requires usable { Usable slice.now }
         requires qp { slice.now.qp ≤ 51 }
         requires room { S.failures sink.old < 2 ^ 64 - 1 }
-        ensures meets { (width size : ℕ) (making : Option Making) (picture : List CodedMacroblock) → HoldsMade width size making picture self.old → slice.now.number ≡ length picture → MakesWith making slice.now samples.now base self.old → Meets S.took S.failures (λ _ after. HoldsMade width size making after self.new) (slice_data (transform_fits slice.now) width size slice.now picture) bits.old bits.new sink.old sink.new result }
+        ensures meets { (width size : ℕ) (making : Option Making) (picture : List CodedMacroblock) → HoldsMade width size making picture self.old →
+            slice.now.number ≡ length picture → MakesWith making slice.now samples.now base self.old →
+            Meets S.took S.failures (λ _ after. HoldsMade width size making after self.new)
+            (slice_data (transform_fits slice.now) width size slice.now picture) bits.old bits.new sink.old sink.new result }
         ensures quiet { OnOk result (S.failures sink.new ≡ S.failures sink.old) }
         ensures frames { self.old.frames.begun ≡ true → KeepsLent self.old.frames self.new.frames }
         ensures same { KeepsPlace self.old self.new }

@@ -53,7 +53,10 @@ impl Sequence {
     #[inline]
     fn keep(&mut self)
         requires { self.old.next < self.old.size }
-        ensures reads { (width size : ℕ) (making : Option Making) (slice : Context) (picture : List CodedMacroblock) (coded : CodedMacroblock) → HoldsIn width size picture self.old → slice.number ≤ length picture → HoldsMacroblock self.old.mb coded → coded.slice ≡ slice.number → HasSamples making (picture ++ coded ∷ []) self.old → MakesIn making slice self.old → Reads width size making slice (picture ++ coded ∷ []) self.new }
+        ensures reads { (width size : ℕ) (making : Option Making) (slice : Context) (picture : List CodedMacroblock) (coded : CodedMacroblock) →
+            HoldsIn width size picture self.old → slice.number ≤ length picture → HoldsMacroblock self.old.mb coded → coded.slice ≡ slice.number →
+            HasSamples making (picture ++ coded ∷ []) self.old → MakesIn making slice self.old →
+            Reads width size making slice (picture ++ coded ∷ []) self.new }
         ensures next { self.new.next ≡ self.old.next + 1 }
         ensures size { self.new.size ≡ self.old.size }
         ensures same { KeepsPlace self.old self.new }
@@ -78,7 +81,10 @@ impl Sequence {
         requires left { self.old.next + left ≤ self.old.size }
         requires usable { Usable slice.now }
         requires room { S.failures sink.old < 2 ^ 64 - 1 }
-        ensures meets { (width size : ℕ) (making : Option Making) (picture : List CodedMacroblock) → Reads width size making slice.now picture self.old → Meets S.took S.failures (syntax.Goes (λ p. Reads width size making slice.now p self.new) picture) (syntax.unskipped (transform_fits slice.now) width slice.now left picture) bits.old bits.new sink.old sink.new result }
+        ensures meets { (width size : ℕ) (making : Option Making) (picture : List CodedMacroblock) →
+            Reads width size making slice.now picture self.old → Meets S.took S.failures
+            (syntax.Goes (λ p. Reads width size making slice.now p self.new) picture)
+            (syntax.unskipped (transform_fits slice.now) width slice.now left picture) bits.old bits.new sink.old sink.new result }
         ensures quiet { OnOk result (S.failures sink.new ≡ S.failures sink.old) }
         ensures within { OnOk result (self.new.mb.qp ≤ 51) }
         ensures moves { IfOk result (Moves left self.old.next self.new.next) }
@@ -118,7 +124,10 @@ impl Sequence {
         requires refers { has_picture_of slice.now 0 ≡ true }
         requires left { self.old.next + left ≤ self.old.size }
         requires usable { Usable slice.now }
-        ensures meets { (width size : ℕ) (making : Option Making) (picture : List CodedMacroblock) → Reads width size making slice.now picture self.old → Meets S.took S.failures (syntax.Goes (λ p. Reads width size making slice.now p self.new) picture) (syntax.skip width slice.now picture bit more) bits.now bits.now sink.now sink.now result }
+        ensures meets { (width size : ℕ) (making : Option Making) (picture : List CodedMacroblock) →
+            Reads width size making slice.now picture self.old → Meets S.took S.failures
+            (syntax.Goes (λ p. Reads width size making slice.now p self.new) picture)
+            (syntax.skip width slice.now picture bit more) bits.now bits.now sink.now sink.now result }
         ensures within { OnOk result (self.new.mb.qp ≤ 51) }
         ensures moves { IfOk result (Moves left self.old.next self.new.next) }
         ensures size { self.new.size ≡ self.old.size }
@@ -146,7 +155,10 @@ impl Sequence {
         requires left { self.old.next + left ≤ self.old.size }
         requires usable { Usable slice.now }
         requires room { S.failures sink.old < 2 ^ 64 - 1 }
-        ensures meets { (width size : ℕ) (making : Option Making) (picture : List CodedMacroblock) → Reads width size making slice.now picture self.old → Meets S.took S.failures (syntax.Goes (λ p. Reads width size making slice.now p self.new) picture) (syntax.run_of_skips (transform_fits slice.now) width slice.now left picture) bits.old bits.new sink.old sink.new result }
+        ensures meets { (width size : ℕ) (making : Option Making) (picture : List CodedMacroblock) →
+            Reads width size making slice.now picture self.old → Meets S.took S.failures
+            (syntax.Goes (λ p. Reads width size making slice.now p self.new) picture)
+            (syntax.run_of_skips (transform_fits slice.now) width slice.now left picture) bits.old bits.new sink.old sink.new result }
         ensures quiet { OnOk result (S.failures sink.new ≡ S.failures sink.old) }
         ensures within { OnOk result (self.new.mb.qp ≤ 51) }
         ensures moves { IfOk result (Moves left self.old.next self.new.next) }
@@ -175,7 +187,10 @@ impl Sequence {
         requires left { self.old.next + left ≤ self.old.size }
         requires usable { Usable slice.now }
         requires room { S.failures sink.old < 2 ^ 64 - 1 }
-        ensures meets { (width size : ℕ) (making : Option Making) (picture : List CodedMacroblock) → Reads width size making slice.now picture self.old → Meets S.took S.failures (syntax.Goes (λ p. Reads width size making slice.now p self.new) picture) (syntax.next (transform_fits slice.now) width slice.now left picture standings.Next) bits.old bits.new sink.old sink.new result }
+        ensures meets { (width size : ℕ) (making : Option Making) (picture : List CodedMacroblock) →
+            Reads width size making slice.now picture self.old → Meets S.took S.failures
+            (syntax.Goes (λ p. Reads width size making slice.now p self.new) picture)
+            (syntax.next (transform_fits slice.now) width slice.now left picture standings.Next) bits.old bits.new sink.old sink.new result }
         ensures quiet { OnOk result (S.failures sink.new ≡ S.failures sink.old) }
         ensures within { OnOk result (self.new.mb.qp ≤ 51) }
         ensures moves { IfOk result (Moves left self.old.next self.new.next) }
@@ -206,7 +221,10 @@ impl Sequence {
         requires left { self.old.next + left ≤ self.old.size }
         requires usable { Usable slice.now }
         requires room { S.failures sink.old < 2 ^ 64 - 1 }
-        ensures meets { (width size : ℕ) (making : Option Making) (picture : List CodedMacroblock) → Reads width size making slice.now picture self.old → Meets S.took S.failures (syntax.Goes (λ p. Reads width size making slice.now p self.new) picture) (syntax.next (transform_fits slice.now) width slice.now left picture (standings.Skipping bit 0)) bits.old bits.new sink.old sink.new result }
+        ensures meets { (width size : ℕ) (making : Option Making) (picture : List CodedMacroblock) →
+            Reads width size making slice.now picture self.old → Meets S.took S.failures
+            (syntax.Goes (λ p. Reads width size making slice.now p self.new) picture)
+            (syntax.next (transform_fits slice.now) width slice.now left picture (standings.Skipping bit 0)) bits.old bits.new sink.old sink.new result }
         ensures quiet { OnOk result (S.failures sink.new ≡ S.failures sink.old) }
         ensures within { OnOk result (self.new.mb.qp ≤ 51) }
         ensures moves { IfOk result (Moves left self.old.next self.new.next) }
@@ -236,7 +254,10 @@ impl Sequence {
         requires refers { RefersOn slice.now standing }
         requires usable { Usable slice.now }
         requires room { S.failures sink.old < 2 ^ 64 - 1 }
-        ensures meets { (width size : ℕ) (making : Option Making) (picture : List CodedMacroblock) → Reads width size making slice.now picture self.old → Meets S.took S.failures (syntax.Goes (λ p. Reads width size making slice.now p self.new) picture) (syntax.next (transform_fits slice.now) width slice.now left picture standing) bits.old bits.new sink.old sink.new result }
+        ensures meets { (width size : ℕ) (making : Option Making) (picture : List CodedMacroblock) →
+            Reads width size making slice.now picture self.old → Meets S.took S.failures
+            (syntax.Goes (λ p. Reads width size making slice.now p self.new) picture)
+            (syntax.next (transform_fits slice.now) width slice.now left picture standing) bits.old bits.new sink.old sink.new result }
         ensures quiet { OnOk result (S.failures sink.new ≡ S.failures sink.old) }
         ensures within { OnOk result (self.new.mb.qp ≤ 51) }
         ensures moves { IfOk result (Moves left self.old.next self.new.next) }

@@ -10,8 +10,7 @@ use crate::samples::SliceSamples;
 use crate::sequence::Sequence;
 use h264_base::{Elements, Stop};
 use h264_bits::Bits;
-use h264_dpb::FrameStore;
-use h264_plane::Frame;
+use h264_plane::{Frame, FrameStore};
 use h264_sps::sps::Sps;
 use h264_vectors::SliceContext;
 use std::alloc::Global;
@@ -52,7 +51,8 @@ impl Work {
     ghost use Rattle.h264_picture.specs.Levels.{transform_fits};
     ghost use Rattle.h264_picture.specs.Holds.{is_frame_size, Serves, Holds};
     ghost use Rattle.h264_picture.specs.Making.{Making, HoldsSamples, IsSliceOf, IsDecodedIn};
-    ghost use Rattle.h264_picture.specs.Places.{first_place, is_active_place, places as places_of, lent, IsReleased, HasBegun, HasSize, KeepsOthers, KeepsFrames, IsFrameOf};
+    ghost use Rattle.h264_picture.specs.Places.{first_place, is_active_place, places as places_of, lent, IsReleased, HasBegun, HasSize, KeepsOthers};
+    ghost use Rattle.h264_picture.specs.Places.{KeepsFrames, IsFrameOf};
 
     /// A place for no pictures yet. It has no allocator.
     pub fn new() -> Work
@@ -143,7 +143,8 @@ impl Work {
     pub fn end(&mut self)
         ensures kept { KeepsFrames self.old self.new }
         ensures ended { (width height place : ℕ) → HasSize width height self.old → HasBegun place self.old → IsFrameOf width height (lent self.new place) }
-        ensures decoded { (width size place : ℕ) (making : Making) (picture : List CodedMacroblock) → HoldsSamples width size making picture self.old → length picture ≡ size → HasBegun place self.old → IsDecodedIn self.old making picture (lent self.new place) }
+        ensures decoded { (width size place : ℕ) (making : Making) (picture : List CodedMacroblock) → HoldsSamples width size making picture self.old →
+            length picture ≡ size → HasBegun place self.old → IsDecodedIn self.old making picture (lent self.new place) }
         ensures holds { (width size : ℕ) (picture : List CodedMacroblock) → Holds width size picture self.old → Serves width size self.new }
         ensures serves { (width size : ℕ) → Serves width size self.old → Serves width size self.new }
         ensures first { first_place self.new ≡ first_place self.old }
@@ -194,10 +195,18 @@ impl Work {
         requires usable { Usable slice.now }
         requires qp { slice.now.qp ≤ 51 }
         requires room { S.failures sink.old < 2 ^ 64 - 1 }
-        ensures answers { (width size : ℕ) (picture : List CodedMacroblock) → Holds width size picture self.old → slice.now.number ≡ length picture → Answers S.took S.failures (λ _ after. Holds width size after self.new) (slice_data (transform_fits slice.now) width size slice.now picture) bits.old bits.new sink.old sink.new result }
-        ensures meets { (width size : ℕ) (picture : List CodedMacroblock) → Holds width size picture self.old → slice.now.number ≡ length picture → Meets S.took S.failures (λ _ after. Holds width size after self.new) (slice_data (transform_fits slice.now) width size slice.now picture) bits.old bits.new sink.old sink.new result }
-        ensures samples { (width size : ℕ) (making : Making) (picture : List CodedMacroblock) → HoldsSamples width size making picture self.old → slice.now.number ≡ length picture → IsSliceOf making slice.now samples.now self.old → Meets S.took S.failures (λ _ after. HoldsSamples width size making after self.new) (slice_data (transform_fits slice.now) width size slice.now picture) bits.old bits.new sink.old sink.new result }
-        ensures no_memory { (width size : ℕ) (picture : List CodedMacroblock) → Holds width size picture self.old → slice.now.number ≡ length picture → IsErrOf result Stop.Memory → ⊥ }
+        ensures answers { (width size : ℕ) (picture : List CodedMacroblock) → Holds width size picture self.old → slice.now.number ≡ length picture →
+            Answers S.took S.failures (λ _ after. Holds width size after self.new)
+            (slice_data (transform_fits slice.now) width size slice.now picture) bits.old bits.new sink.old sink.new result }
+        ensures meets { (width size : ℕ) (picture : List CodedMacroblock) → Holds width size picture self.old → slice.now.number ≡ length picture →
+            Meets S.took S.failures (λ _ after. Holds width size after self.new)
+            (slice_data (transform_fits slice.now) width size slice.now picture) bits.old bits.new sink.old sink.new result }
+        ensures samples { (width size : ℕ) (making : Making) (picture : List CodedMacroblock) → HoldsSamples width size making picture self.old →
+            slice.now.number ≡ length picture → IsSliceOf making slice.now samples.now self.old →
+            Meets S.took S.failures (λ _ after. HoldsSamples width size making after self.new)
+            (slice_data (transform_fits slice.now) width size slice.now picture) bits.old bits.new sink.old sink.new result }
+        ensures no_memory { (width size : ℕ) (picture : List CodedMacroblock) → Holds width size picture self.old → slice.now.number ≡ length picture →
+            IsErrOf result Stop.Memory → ⊥ }
         ensures quiet { OnOk result (S.failures sink.new ≡ S.failures sink.old) }
         ensures kept { (place : ℕ) → HasBegun place self.old → KeepsFrames self.old self.new }
         ensures begun { (place : ℕ) → HasBegun place self.old → HasBegun place self.new }

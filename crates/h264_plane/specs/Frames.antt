@@ -1,5 +1,5 @@
 -- Frames by their three planes. A working form.
-use Rattle.std.specs.Prelude.{◌≡◌, ◌≢◌, ℕ, ◌/◌, ◌%◌, List, length, get_or}
+use Rattle.std.specs.Prelude.{◌≡◌, ◌≢◌, ℕ, ◌/◌, ◌%◌, nat_lt, List, length, get_or, Option, Some, None, if◌then◌else◌}
 use Rattle.std.specs.Borrow.{Lends, MutBor, Fml}
 use Rattle.h264_plane.specs.Samples.{Samples, Holds, IsSized, no_samples}
 use Rattle.h264_plane.specs.declared.frame.Component.{Component}
@@ -55,3 +55,7 @@ frame_at frames place = get_or frames place no_frame
 pub record KeepsOtherFrames (old new : List Frame) (place : ℕ) : Type 0 where
   pub count : length new ≡ length old
   pub kept : (k : ℕ) → k ≢ place → frame_at new k ≡ frame_at old k
+
+-- the frames of a pool by place, where there is one
+abbrev pub lent_by : List Frame → ℕ → Option Frame
+lent_by frames place = if nat_lt place (length frames) then Some (frame_at frames place) else None

@@ -5,7 +5,8 @@ ghost use Rattle.std.specs.Prelude.{◌≡◌, ℕ, ◌+◌, ◌-◌, ◌^◌, �
 ghost use Rattle.std.specs.Option.{option_map, SomeIff};
 ghost use Rattle.h264_poc.specs.Lsb.{no_prev, msb_of, lsb_counts, prev_after};
 ghost use Rattle.h264_poc.specs.Within.{count_within};
-ghost use Rattle.h264_poc.specs.Counts.{start_of, prev_by, has_frame_num_offset, frame_num_offset, decoding_order_count, order_counts, field_counts, may_follow, count_with, offset_of, history_after, IsSmall, IsSmallPrev};
+ghost use Rattle.h264_poc.specs.Counts.{start_of, prev_by, has_frame_num_offset, frame_num_offset, decoding_order_count, order_counts, field_counts};
+ghost use Rattle.h264_poc.specs.Counts.{may_follow, count_with, offset_of, history_after, IsSmall, IsSmallPrev};
 
 use crate::cycle::{Deltas, cycle_count};
 use crate::lsb::{Prev, lsb_counts, msb_of, prev_after};
@@ -203,7 +204,8 @@ fn history_after(history: History, picture: &Picture, prev: Prev, offset: u64) -
 pub(crate) fn counted_next(history: History, picture: &Picture) -> Option<Step>
     requires { IsSmall history }
     ensures count { option_map (λ s. s.count) result ≡ count_with picture.now history.prev (offset_of history picture.now) history.non_reference }
-    ensures history { IfSome result (λ s. s.history ≡ history_after history picture.now (prev_by picture.now.order picture.now.resets (start_of picture.now.idr history.prev)) (offset_of history picture.now)) }
+    ensures history { IfSome result (λ s. s.history ≡ history_after history picture.now
+        (prev_by picture.now.order picture.now.resets (start_of picture.now.idr history.prev)) (offset_of history picture.now)) }
     ensures small { IfSome result (λ s. IsSmall s.history) }
 {
     let offset = frame_num_offset(picture, history.frame_num, history.frame_num_offset)?;

@@ -15,7 +15,6 @@ pub fn placed_bytes()
 
 /// The answer that a check of any bytes gives is right: none is at fault, or the first is named.
 pub fn checked_bytes()
-    ensures { (from : ℕ) (body : List ℕ) → MatchResult (emulation_checked from body)
-        (λ _. (place : ℕ) → IsFault body place → ⊥)
+    ensures { (from : ℕ) (body : List ℕ) → MatchResult (emulation_checked from body) (λ _. (place : ℕ) → IsFault body place → ⊥)
         (λ stop. (place : ℕ) × (stop ≡ No (8 * (from + place)) Emulation) × IsFirstFault body place) }
 {}

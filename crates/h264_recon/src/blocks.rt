@@ -45,7 +45,8 @@ fn put4(
     residual: &Option<[i16; 256]>,
 )
     requires { (x < 4) × (y < 4) }
-    ensures { IsPut4 own.old own.new x y (λ i j. clip1 (pos (slice_index predicted.now (4 * j + i)) +ℤ get_or (unwrap_or residual.now []) (place4 x y i j) (pos 0))) }
+    ensures { IsPut4 own.old own.new x y (λ i j. clip1 (pos (slice_index predicted.now (4 * j + i)) +ℤ get_or (unwrap_or residual.now [])
+        (place4 x y i j) (pos 0))) }
 {
     match residual {
         None => put_block4(own, x, y, predicted),
@@ -68,7 +69,8 @@ pub fn luma4(
     requires columns { 16 * column + 16 ≤ vec_len store.now.above }
     requires more { IsTrue a.above_right → 16 * column + 20 ≤ vec_len store.now.above }
     requires small { column < 1024 }
-    ensures { ((x y : ℕ) → x < 4 → y < 4 → IsTrue (is_possible4 (mode_at modes.now x y) (sides4_of a x y))) → AreMade4 16 modes.now a (unwrap_or residual.now []) store.now column result }
+    ensures { ((x y : ℕ) → x < 4 → y < 4 → IsTrue (is_possible4 (mode_at modes.now x y) (sides4_of a x y))) →
+        AreMade4 16 modes.now a (unwrap_or residual.now []) store.now column result }
 {
     let mut own = [0; 256];
     for b in 0..16 {

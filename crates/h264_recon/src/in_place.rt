@@ -38,7 +38,8 @@ fn luma_intra(
     requires columns { 16 * column + 16 ≤ vec_len store.now.above }
     requires more { IsTrue available.above_right → 16 * column + 20 ≤ vec_len store.now.above }
     requires small { column < 1024 }
-    ensures { (l : Levels) → IsPossibleLuma luma.now available → IsResidual l Y (unwrap_or residual.now []) → IsLumaMade luma.now available l column store.now result }
+    ensures { (l : Levels) → IsPossibleLuma luma.now available → IsResidual l Y (unwrap_or residual.now []) →
+        IsLumaMade luma.now available l column store.now result }
 {
     match luma {
         IntraLuma::Blocks(modes) => luma4(modes, available, residual, store, column),
@@ -65,7 +66,9 @@ fn luma(
     requires columns { 16 * column + 16 ≤ vec_len store.now.above }
     requires more { IsTrue m.now.available.above_right → 16 * column + 20 ≤ vec_len store.now.above }
     requires small { (column < 1024) × (row < 1024) }
-    ensures { (k : Setting) (l : Levels) → column < k.across → row < k.down → IsPossible (prediction_in m.now.prediction) m.now.available → AreShown k pool.now (prediction_in m.now.prediction) → IsResidual l Y (unwrap_or residual.now []) → IsMadeFrom k column row (coded m.now l) Y store.now out.new }
+    ensures { (k : Setting) (l : Levels) → column < k.across → row < k.down → IsPossible (prediction_in m.now.prediction) m.now.available →
+        AreShown k pool.now (prediction_in m.now.prediction) → IsResidual l Y (unwrap_or residual.now []) →
+        IsMadeFrom k column row (coded m.now l) Y store.now out.new }
 {
     match &m.prediction {
         Prediction::Intra(modes) => {
@@ -93,7 +96,8 @@ fn chroma_intra(
 ) -> [u8; 64]
     requires columns { 8 * column + 8 ≤ vec_len store.now.above }
     requires small { column < 1024 }
-    ensures { (cr : Bool) (l : Levels) → IsTrue (is_possible_chroma mode (sides_of available)) → IsResidual l (chroma_plane cr) (unwrap_or residual.now []) → IsChromaMade mode available l (chroma_plane cr) column store.now result }
+    ensures { (cr : Bool) (l : Levels) → IsTrue (is_possible_chroma mode (sides_of available)) →
+        IsResidual l (chroma_plane cr) (unwrap_or residual.now []) → IsChromaMade mode available l (chroma_plane cr) column store.now result }
 {
     let mut own = predict_intra_chroma(mode, &neighbours_chroma(store, column, available));
     add::<64>(&mut own, residual);
@@ -114,7 +118,9 @@ fn chroma<const CR: bool>(
     requires usable { AreUsable pool.now column row (prediction_in m.now.prediction) }
     requires columns { 8 * column + 8 ≤ vec_len store.now.above }
     requires small { (column < 1024) × (row < 1024) }
-    ensures { (k : Setting) (l : Levels) → column < k.across → row < k.down → IsPossible (prediction_in m.now.prediction) m.now.available → AreShown k pool.now (prediction_in m.now.prediction) → IsResidual l (chroma_plane CR) (unwrap_or residual.now []) → IsMadeFrom k column row (coded m.now l) (chroma_plane CR) store.now out.new }
+    ensures { (k : Setting) (l : Levels) → column < k.across → row < k.down → IsPossible (prediction_in m.now.prediction) m.now.available →
+        AreShown k pool.now (prediction_in m.now.prediction) → IsResidual l (chroma_plane CR) (unwrap_or residual.now []) →
+        IsMadeFrom k column row (coded m.now l) (chroma_plane CR) store.now out.new }
 {
     match &m.prediction {
         Prediction::Intra(modes) => {
@@ -181,10 +187,13 @@ pub fn construct(
     requires more { IsTrue m.now.available.above_right → 16 * column + 20 ≤ vec_len lines.old.y.above }
     ensures lines { (p : Component) → vec_len (store_of p lines.new).above ≡ vec_len (store_of p lines.old).above }
     ensures size { (p : Component) → IsSized (plane_of p frame.new) (plane_of p frame.old).width (plane_of p frame.old).height }
-    ensures step { (k : Setting) (l : Levels) (u : Component → ℕ → ℕ → ℕ) → column < k.across → row < k.down → IsAllowed (coded m.now l) k.across column row →
-        AreShown k pool.now (prediction_in m.now.prediction) → AreResiduals l residuals.now → IsMade k column row (coded m.now l) u → AreStored k.across column row u lines.old → AreStored k.across (column + 1) row u lines.new × Shows column row u frame.old frame.new }
-    ensures some { (k : Setting) (l : Levels) (u : Component → ℕ → ℕ → ℕ) → column < k.across → row < k.down → IsAllowed (coded m.now l) k.across column row →
-        AreShown k pool.now (prediction_in m.now.prediction) → AreResiduals l residuals.now → AreStored k.across column row u lines.old → IsMade k column row (coded m.now l) (joined column row frame.new u) }
+    ensures step { (k : Setting) (l : Levels) (u : Component → ℕ → ℕ → ℕ) → column < k.across → row < k.down →
+        IsAllowed (coded m.now l) k.across column row → AreShown k pool.now (prediction_in m.now.prediction) → AreResiduals l residuals.now →
+        IsMade k column row (coded m.now l) u → AreStored k.across column row u lines.old → AreStored k.across (column + 1) row u lines.new
+        × Shows column row u frame.old frame.new }
+    ensures some { (k : Setting) (l : Levels) (u : Component → ℕ → ℕ → ℕ) → column < k.across → row < k.down →
+        IsAllowed (coded m.now l) k.across column row → AreShown k pool.now (prediction_in m.now.prediction) → AreResiduals l residuals.now →
+        AreStored k.across column row u lines.old → IsMade k column row (coded m.now l) (joined column row frame.new u) }
 {
     let mut y = [0; 256];
     luma(m, &residuals.y, &lines.y, pool, column, row, &mut y);

@@ -40,7 +40,8 @@ fn lies(inside: bool, available: bool) -> bool
 pub fn available(near: &Near, slice: u32, constrained: bool, column: usize, row: usize) -> Available
     requires small { column < 1024 }
     ensures within { IsWithin result (width_of near.now) column row }
-    ensures here { (width : ℕ) (picture : List CodedMacroblock) → Keeps width picture near.now → length picture ≡ row * width + column → column < width → result ≡ available_of width picture slice constrained }
+    ensures here { (width : ℕ) (picture : List CodedMacroblock) → Keeps width picture near.now → length picture ≡ row * width + column →
+        column < width → result ≡ available_of width picture slice constrained }
 {
     let samples = near.samples(slice, constrained, &[0; 16], 0);
     let right = near.above_right(slice, constrained);
@@ -200,7 +201,9 @@ fn motions(derived: &[Option<Derived>; 16], places: &[u8; 16]) -> Motions
 /// How a macroblock is predicted.
 fn prediction<'a>(read: &'a Read, places: &[u8; 16]) -> Prediction<'a>
     ensures points { PointsInto places.now (prediction_in result) }
-    ensures here { (slice : Context) (place : ℕ → ℕ) (width : ℕ) (picture : List CodedMacroblock) (coded : CodedMacroblock) → Holds read.now coded → IsPossible width slice picture coded.prediction → length slice.references ≡ 16 → ArePlaced slice places.now place → prediction_in result ≡ prediction_of place coded.prediction }
+    ensures here { (slice : Context) (place : ℕ → ℕ) (width : ℕ) (picture : List CodedMacroblock) (coded : CodedMacroblock) → Holds read.now coded →
+        IsPossible width slice picture coded.prediction → length slice.references ≡ 16 → ArePlaced slice places.now place →
+        prediction_in result ≡ prediction_of place coded.prediction }
 {
     match read.kind {
         Kind::Intra4x4 => Prediction::Intra(IntraModes {
@@ -239,8 +242,11 @@ pub fn given<'a>(
     requires small { column < 1024 }
     ensures within { IsWithin result.available (width_of near.now) column row }
     ensures points { PointsInto places.now (prediction_in result.prediction) }
-    ensures given { (width : ℕ) (picture : List CodedMacroblock) (place : ℕ → ℕ) (coded : CodedMacroblock) → Keeps width picture near.now → length picture ≡ row * width + column → column < width → Holds read.now coded → coded.slice ≡ slice.now.number →
-        IsPossible width slice.now picture coded.prediction → ArePlaced slice.now places.now place → coded_as result (levels_of slice.now.chroma_qp_index_offset coded) ≡ given_of width picture place (weights_by weights.now) slice.now.constrained_intra slice.now.chroma_qp_index_offset coded }
+    ensures given { (width : ℕ) (picture : List CodedMacroblock) (place : ℕ → ℕ) (coded : CodedMacroblock) → Keeps width picture near.now →
+        length picture ≡ row * width + column → column < width → Holds read.now coded → coded.slice ≡ slice.now.number →
+        IsPossible width slice.now picture coded.prediction → ArePlaced slice.now places.now place →
+        coded_as result (levels_of slice.now.chroma_qp_index_offset coded) ≡ given_of width picture place
+        (weights_by weights.now) slice.now.constrained_intra slice.now.chroma_qp_index_offset coded }
 {
     let _all = count(&slice.references);
     Macroblock {

@@ -1,4 +1,5 @@
-ghost use Rattle.std.specs.Prelude.{◌≡◌, ℕ, ◌+◌, ◌-◌, ◌*◌, ◌<◌, ◌≤◌, if◌then◌else◌, List, length, slice_index, vec_len, Some, None, [], IsTrue, is_some, unwrap_or};
+ghost use Rattle.std.specs.Prelude.{◌≡◌, ℕ, ◌+◌, ◌-◌, ◌*◌, ◌<◌, ◌≤◌, if◌then◌else◌, List, length, slice_index, vec_len, Some, None, [], IsTrue};
+ghost use Rattle.std.specs.Prelude.{is_some, unwrap_or};
 ghost use Rattle.h264_intra.specs.Sides.{SameSides};
 ghost use Rattle.h264_intra.specs.Luma4.{SameSides4, sides4, around4};
 ghost use Rattle.h264_intra.specs.Luma16.{sides16, around16};

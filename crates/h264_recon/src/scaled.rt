@@ -12,7 +12,9 @@ ghost use Rattle.h264_scale.specs.declared.levels.LumaLevels.TheVariants as luma
 ghost use Rattle.h264_scale.specs.declared.levels.ChromaLevels.TheVariants as chroma_variants;
 ghost use Rattle.h264_recon.specs.Table.{table};
 ghost use Rattle.h264_recon.specs.Residuals.{IsLumaOf, IsChromaOf, IsClear};
-ghost use Rattle.h264_recon.specs.Levels.{are_zero as are_zero_of, are_blank as are_blank_of, luma_blocks as luma_blocks_of, luma_levels as luma_levels_of, chroma_blocks as chroma_blocks_of, chroma_levels as chroma_levels_of, levels_of};
+ghost use Rattle.h264_recon.specs.Levels.{are_zero as are_zero_of, are_blank as are_blank_of, luma_blocks as luma_blocks_of};
+ghost use Rattle.h264_recon.specs.Levels.{luma_levels as luma_levels_of, chroma_blocks as chroma_blocks_of, chroma_levels as chroma_levels_of};
+ghost use Rattle.h264_recon.specs.Levels.{levels_of};
 
 use crate::coefficients::{are_blank, are_zero, qp_of_chroma, shown4, shown16};
 use h264_mbsyntax::{Kind, Macroblock, Residual};
@@ -33,7 +35,8 @@ fn put_levels(
     requires block { b < 16 }
     requires qp { qp ≤ 51 }
     ensures range { IsOk result ↔ IsTrue (residual_fits (d_of (shown 16 total levels.now) qp)) }
-    ensures put { IfOk result (λ u. (block : List ℤ) → HasEntries block (residual_at (d_of (shown 16 total levels.now) qp)) → IsClear 16 (column_of b) (row_of b) out.old → IsPut 16 out.old out.new (column_of b) (row_of b) block) }
+    ensures put { IfOk result (λ u. (block : List ℤ) → HasEntries block (residual_at (d_of (shown 16 total levels.now) qp)) →
+        IsClear 16 (column_of b) (row_of b) out.old → IsPut 16 out.old out.new (column_of b) (row_of b) block) }
 {
     if total == 0 {
         return Ok(());
@@ -59,8 +62,11 @@ fn put_block(
 ) -> Result<(), TransformRange>
     requires block { b < 16 }
     requires qp { qp ≤ 51 }
-    ensures range { IsOk result ↔ IsTrue (residual_fits (d_of (get_or (table 16 (λ k. shown 16 (get_or totals.now k 0) (get_or stands.now k (replicate 16 (pos 0))))) b []) qp)) }
-    ensures put { IfOk result (λ u. (block : List ℤ) → HasEntries block (residual_at (d_of (get_or (table 16 (λ k. shown 16 (get_or totals.now k 0) (get_or stands.now k (replicate 16 (pos 0))))) b []) qp)) → IsClear 16 (column_of b) (row_of b) out.old → IsPut 16 out.old out.new (column_of b) (row_of b) block) }
+    ensures range { IsOk result ↔ IsTrue (residual_fits (d_of (get_or
+        (table 16 (λ k. shown 16 (get_or totals.now k 0) (get_or stands.now k (replicate 16 (pos 0))))) b []) qp)) }
+    ensures put { IfOk result (λ u. (block : List ℤ) → HasEntries block
+        (residual_at (d_of (get_or (table 16 (λ k. shown 16 (get_or totals.now k 0) (get_or stands.now k (replicate 16 (pos 0))))) b []) qp)) →
+        IsClear 16 (column_of b) (row_of b) out.old → IsPut 16 out.old out.new (column_of b) (row_of b) block) }
 {
     put_levels(out, totals[b], &stands[b], b, qp)
 }
@@ -89,8 +95,10 @@ fn luma_block(
 ) -> Result<[i16; 16], TransformRange>
     requires block { b < 16 }
     requires qp { qp ≤ 51 }
-    ensures range { IsOk result ↔ IsTrue (residual_fits (d_with_dc dc (get_or (table 16 (λ k. shown 15 (get_or totals.now k 0) (get_or stands.now k (replicate 15 (pos 0))))) b []) qp)) }
-    ensures residual { IfOk result (λ r. HasEntries r (residual_at (d_with_dc dc (get_or (table 16 (λ k. shown 15 (get_or totals.now k 0) (get_or stands.now k (replicate 15 (pos 0))))) b []) qp))) }
+    ensures range { IsOk result ↔ IsTrue (residual_fits (d_with_dc dc
+        (get_or (table 16 (λ k. shown 15 (get_or totals.now k 0) (get_or stands.now k (replicate 15 (pos 0))))) b []) qp)) }
+    ensures residual { IfOk result (λ r. HasEntries r (residual_at
+        (d_with_dc dc (get_or (table 16 (λ k. shown 15 (get_or totals.now k 0) (get_or stands.now k (replicate 15 (pos 0))))) b []) qp))) }
 {
     with_levels(dc, totals[b], &stands[b], qp)
 }
@@ -107,8 +115,11 @@ fn chroma_block(
 ) -> Result<[i16; 16], TransformRange>
     requires place { (c < 2) × (b < 4) }
     requires qp { qp ≤ 51 }
-    ensures range { IsOk result ↔ IsTrue (residual_fits (d_with_dc dc (get_or (table 4 (λ k. shown 15 (get_or totals.now (4 * c + k) 0) (get_or stands.now (4 * c + k) (replicate 15 (pos 0))))) b []) qp)) }
-    ensures residual { IfOk result (λ r. HasEntries r (residual_at (d_with_dc dc (get_or (table 4 (λ k. shown 15 (get_or totals.now (4 * c + k) 0) (get_or stands.now (4 * c + k) (replicate 15 (pos 0))))) b []) qp))) }
+    ensures range { IsOk result ↔ IsTrue (residual_fits (d_with_dc dc
+        (get_or (table 4 (λ k. shown 15 (get_or totals.now (4 * c + k) 0) (get_or stands.now (4 * c + k) (replicate 15 (pos 0))))) b []) qp)) }
+    ensures residual { IfOk result (λ r. HasEntries r (residual_at
+        (d_with_dc dc (get_or (table 4 (λ k. shown 15 (get_or totals.now (4 * c + k) 0) (get_or stands.now (4 * c + k) (replicate 15 (pos 0))))) b [])
+        qp))) }
 {
     with_levels(dc, totals[4 * c + b], &stands[4 * c + b], qp)
 }
@@ -121,8 +132,11 @@ fn blocks(
     qp: u8,
 ) -> Result<Option<[i16; 256]>, TransformRange>
     requires { qp ≤ 51 }
-    ensures range { IsOk result ↔ IsTrue (luma_fits qp (luma_variants.Blocks (table 16 (λ k. shown 16 (get_or totals.now k 0) (get_or stands.now k (replicate 16 (pos 0))))))) }
-    ensures made { IfOk result (λ r. AreScaled 16 16 index_of (λ x y. residual_at (luma_d qp (luma_variants.Blocks (table 16 (λ k. shown 16 (get_or totals.now k 0) (get_or stands.now k (replicate 16 (pos 0)))))) x y)) (unwrap_or r [])) }
+    ensures range { IsOk result ↔ IsTrue (luma_fits qp (luma_variants.Blocks
+        (table 16 (λ k. shown 16 (get_or totals.now k 0) (get_or stands.now k (replicate 16 (pos 0))))))) }
+    ensures made { IfOk result (λ r. AreScaled 16 16 index_of (λ x y. residual_at
+        (luma_d qp (luma_variants.Blocks (table 16 (λ k. shown 16 (get_or totals.now k 0) (get_or stands.now k (replicate 16 (pos 0)))))) x y))
+        (unwrap_or r [])) }
 {
     let mut out = [0; 256];
     for b in 0..16 {
@@ -140,8 +154,14 @@ fn with_dc(
     qp: u8,
 ) -> Result<Option<[i16; 256]>, TransformRange>
     requires { qp ≤ 51 }
-    ensures range { IsOk result ↔ IsTrue (luma_fits qp (luma_variants.WithDc (record { dc = dc.now; ac = table 16 (λ k. shown 15 (get_or totals.now k 0) (get_or stands.now k (replicate 15 (pos 0)))) }))) }
-    ensures made { IfOk result (λ r. AreScaled 16 16 index_of (λ x y. residual_at (luma_d qp (luma_variants.WithDc (record { dc = dc.now; ac = table 16 (λ k. shown 15 (get_or totals.now k 0) (get_or stands.now k (replicate 15 (pos 0)))) })) x y)) (unwrap_or r [])) }
+    ensures range { IsOk result ↔ IsTrue (luma_fits qp (luma_variants.WithDc
+        (record { dc = dc.now; ac = table 16 (λ k. shown 15 (get_or totals.now k 0) (get_or stands.now k (replicate 15 (pos 0)))) }))) }
+    ensures made { IfOk result (λ r. AreScaled 16 16 index_of (λ x y. residual_at
+        (luma_d qp (luma_variants.WithDc (record {
+          dc = dc.now;
+          ac = table 16
+              (λ k. shown 15 (get_or totals.now k 0) (get_or stands.now k (replicate 15 (pos 0))));
+        })) x y)) (unwrap_or r [])) }
 {
     let dc = dc16(dc, qp)?;
     let mut out = [0; 256];
@@ -165,8 +185,14 @@ fn chroma_with_dc(
 ) -> Result<Option<[i16; 64]>, TransformRange>
     requires plane { c < 2 }
     requires qp { qp ≤ 51 }
-    ensures range { IsOk result ↔ IsTrue (chroma_fits qp (chroma_variants.WithDc (record { dc = dc.now; ac = table 4 (λ k. shown 15 (get_or totals.now (4 * c + k) 0) (get_or stands.now (4 * c + k) (replicate 15 (pos 0)))) }))) }
-    ensures made { IfOk result (λ r. AreScaled 8 4 raster (λ x y. residual_at (chroma_d qp (chroma_variants.WithDc (record { dc = dc.now; ac = table 4 (λ k. shown 15 (get_or totals.now (4 * c + k) 0) (get_or stands.now (4 * c + k) (replicate 15 (pos 0)))) })) x y)) (unwrap_or r [])) }
+    ensures range { IsOk result ↔ IsTrue (chroma_fits qp (chroma_variants.WithDc
+        (record { dc = dc.now; ac = table 4 (λ k. shown 15 (get_or totals.now (4 * c + k) 0) (get_or stands.now (4 * c + k) (replicate 15 (pos 0)))) }))) }
+    ensures made { IfOk result (λ r. AreScaled 8 4 raster (λ x y. residual_at
+        (chroma_d qp (chroma_variants.WithDc (record {
+          dc = dc.now;
+          ac = table 4
+              (λ k. shown 15 (get_or totals.now (4 * c + k) 0) (get_or stands.now (4 * c + k) (replicate 15 (pos 0))));
+        })) x y)) (unwrap_or r [])) }
 {
     let dc = dc2(dc, qp)?;
     let mut out = [0; 64];
@@ -187,7 +213,8 @@ fn luma_blocks(
     qp: u8,
 ) -> Result<Option<[i16; 256]>, TransformRange>
     requires { qp ≤ 51 }
-    ensures { IsLumaOf qp (luma_blocks_of totals.now (table 16 (λ k. shown 16 (get_or totals.now k 0) (get_or stands.now k (replicate 16 (pos 0)))))) result }
+    ensures { IsLumaOf qp (luma_blocks_of totals.now (table 16 (λ k. shown 16 (get_or totals.now k 0) (get_or stands.now k (replicate 16 (pos 0))))))
+        result }
 {
     if are_blank(totals) {
         return Ok(None);
@@ -242,7 +269,9 @@ fn chroma_blocks(
 ) -> Result<Option<[i16; 64]>, TransformRange>
     requires plane { c < 2 }
     requires qp { qp ≤ 51 }
-    ensures { IsChromaOf qp (chroma_blocks_of (take 4 (drop (4 * c) totals.now)) (shown 4 (get_or residual.now.chroma_dc_totals c 0) (get_or residual.now.chroma_dc c (replicate 4 (pos 0)))) (table 4 (λ k. shown 15 (get_or totals.now (4 * c + k) 0) (get_or residual.now.chroma_ac (4 * c + k) (replicate 15 (pos 0)))))) result }
+    ensures { IsChromaOf qp (chroma_blocks_of (take 4 (drop (4 * c) totals.now))
+        (shown 4 (get_or residual.now.chroma_dc_totals c 0) (get_or residual.now.chroma_dc c (replicate 4 (pos 0))))
+        (table 4 (λ k. shown 15 (get_or totals.now (4 * c + k) 0) (get_or residual.now.chroma_ac (4 * c + k) (replicate 15 (pos 0)))))) result }
 {
     let dc = dc_levels(&residual.chroma_dc_totals, &residual.chroma_dc, c);
     if is_plane_uncoded(&dc, totals, c) {
@@ -256,7 +285,8 @@ fn chroma_blocks(
 fn chroma(mb: &Macroblock, c: usize, qp: u8) -> Result<Option<[i16; 64]>, TransformRange>
     requires plane { c < 2 }
     requires qp { qp ≤ 51 }
-    ensures { (coded : CodedMacroblock) → Holds mb.now coded → IsChromaOf qp (chroma_levels_of c coded.prediction coded.chroma_totals coded.residual) result }
+    ensures { (coded : CodedMacroblock) → Holds mb.now coded → IsChromaOf qp
+        (chroma_levels_of c coded.prediction coded.chroma_totals coded.residual) result }
 {
     match mb.kind {
         Kind::Pcm => Ok(None),

@@ -17,11 +17,11 @@ use Rattle.h264_report.specs.Trail.{element_lines}
 use Rattle.h264_report.specs.declared.listing.Listing.{Listing}
 use Rattle.h264_report.specs.declared.trail.Element.{Element}
 use Rattle.h264_report.proofs.Known.{sends-more, sends-none, sends-keeps, some-behind}
-use Rattle.h264_slices.specs.Telling.{Told, Tells, took_with, calls_of, AreDecoded}
+use Rattle.h264_verify.specs.Telling.{Told, Tells, took_with, calls_of, AreDecoded}
 use Rattle.h264_verify.specs.Verdict.{Verdict, JudgedBy, Judged}
-use Rattle.h264_judge.specs.declared.state.Summary.{Summary}
-use Rattle.h264_judge.specs.declared.state.Terms.{Terms}
-use Rattle.h264_judge.specs.Units.{terms_of}
+use Rattle.h264_verify.specs.declared.state.Summary.{Summary}
+use Rattle.h264_verify.specs.declared.state.Terms.{Terms}
+use Rattle.h264_verify.specs.Units.{terms_of}
 use Rattle.h264_verify.proofs.Verdicts.{judges-judged, none-judged}
 
 -- ---- from a sink's account

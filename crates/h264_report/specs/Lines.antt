@@ -15,7 +15,7 @@ use Rattle.h264_base.specs.declared.stop.Stop.{Stop}
 use Rattle.h264_base.specs.declared.stop.Stop.TheVariants.{No, Outside, Memory, Read, Write}
 use Rattle.h264_base.specs.Rule.{label_of, clause_of}
 use Rattle.h264_base.specs.Feature.{text_of}
-use Rattle.h264_judge.specs.declared.state.Summary.{Summary}
+use Rattle.h264_verify.specs.declared.state.Summary.{Summary}
 
 -- unit BYTE type T ref R bytes L
 abbrev pub unit_text : ℕ → ℕ → ℕ → ℕ → List ℕ

@@ -14,11 +14,11 @@ use Rattle.h264_report.specs.Told.{ended, lines_of, bytes_of, elements_of, Break
 use Rattle.h264_report.specs.Trail.{element_lines}
 use Rattle.h264_report.specs.declared.listing.Listing.{Listing}
 use Rattle.h264_report.specs.declared.trail.Element.{Element}
-use Rattle.h264_slices.specs.Telling.{Told, calls_of, AreDecoded}
+use Rattle.h264_verify.specs.Telling.{Told, calls_of, AreDecoded}
 use Rattle.h264_verify.specs.Verdict.{Verdict}
-use Rattle.h264_judge.specs.declared.state.Summary.{Summary}
-use Rattle.h264_judge.specs.declared.state.Terms.{Terms}
-use Rattle.h264_judge.specs.Units.{terms_of}
+use Rattle.h264_verify.specs.declared.state.Summary.{Summary}
+use Rattle.h264_verify.specs.declared.state.Terms.{Terms}
+use Rattle.h264_verify.specs.Units.{terms_of}
 
 -- This holds of the bytes that a source gives. Where it does not tell them, it holds of some bytes.
 abbrev pub OfBytes : Option (List ℕ) → (List ℕ → Type 0) → Type 0

@@ -3,7 +3,7 @@
 
 ghost use Rattle.std.specs.Prelude.{◌≡◌, ◌≢◌, ℕ, ◌+◌, ◌-◌, ◌<◌, ◌⊎◌, ◌^◌, true, false, List, ◌++◌, Some, Ok, Err, IsErrOf};
 ghost use Rattle.h264_base.specs.declared.mode.Mode.TheVariants as modes;
-ghost use Rattle.h264_judge.specs.Units.{terms_of};
+ghost use Rattle.h264_verify.specs.Units.{terms_of};
 ghost use Rattle.h264_report.specs.Sent.{Takes};
 ghost use Rattle.h264_report.specs.Told.{ended, lines_of, bytes_of};
 ghost use Rattle.h264_report.specs.Written.{OfBytes, Writes, Lists, Checks, Decodes, told_of, is_no, last_line, trail_text, answer_status, status_of};
@@ -177,9 +177,11 @@ fn run_lines<'a, K: Sheet, R: Source, W: Device>(
     requires was_failed { W.has_failed pen.out.now ≡ K.was_failed }
     requires listing { listing ≡ K.listing }
     ensures same_reference { result.0.out.ghost_name ≡ K.name }
-    ensures lines { (bytes : List ℕ) → R.left source.old ≡ Some bytes → Writes (lines_of K.listing 0) terms bytes result.1 K.start (W.contents result.0.out.now) }
+    ensures lines { (bytes : List ℕ) → R.left source.old ≡ Some bytes →
+        Writes (lines_of K.listing 0) terms bytes result.1 K.start (W.contents result.0.out.now) }
     ensures some { (bytes : List ℕ) × Writes (lines_of K.listing 0) terms bytes result.1 K.start (W.contents result.0.out.now) }
-    ensures read { IsErrOf result.1 Stop.Read → (R.failures source.new ≡ R.failures source.old + 1) ⊎ ((n : ℕ) → R.was_read source.old n → R.was_read source.new (n + 2 ^ 41)) }
+    ensures read { IsErrOf result.1 Stop.Read → (R.failures source.new ≡ R.failures source.old + 1)
+        ⊎ ((n : ℕ) → R.was_read source.old n → R.was_read source.new (n + 2 ^ 41)) }
     ensures write { IsErrOf result.1 Stop.Write → W.has_failed result.0.out.now ≡ true }
     ensures quiet { result.1 ≢ Err Stop.Write → W.has_failed result.0.out.now ≡ K.was_failed }
 {
@@ -198,9 +200,11 @@ fn write_lines<R: Source, W: Device>(
     out: &mut W,
 ) -> Result<Summary, Stop>
     requires { R.failures source.old < 2 ^ 64 - 1 }
-    ensures lines { (bytes : List ℕ) → R.left source.old ≡ Some bytes → Writes (lines_of listing 0) terms bytes result (W.contents out.old) (W.contents out.new) }
+    ensures lines { (bytes : List ℕ) → R.left source.old ≡ Some bytes →
+        Writes (lines_of listing 0) terms bytes result (W.contents out.old) (W.contents out.new) }
     ensures some { (bytes : List ℕ) × Writes (lines_of listing 0) terms bytes result (W.contents out.old) (W.contents out.new) }
-    ensures read { IsErrOf result Stop.Read → (R.failures source.new ≡ R.failures source.old + 1) ⊎ ((n : ℕ) → R.was_read source.old n → R.was_read source.new (n + 2 ^ 41)) }
+    ensures read { IsErrOf result Stop.Read → (R.failures source.new ≡ R.failures source.old + 1)
+        ⊎ ((n : ℕ) → R.was_read source.old n → R.was_read source.new (n + 2 ^ 41)) }
     ensures write { IsErrOf result Stop.Write → W.has_failed out.new ≡ true }
     ensures quiet { result ≢ Err Stop.Write → W.has_failed out.new ≡ W.has_failed out.old }
 {
@@ -218,8 +222,10 @@ pub fn list<R: Source, W: Device>(
     out: &mut W,
 ) -> Ending
     requires { R.failures source.old < 2 ^ 64 - 1 }
-    ensures lists { OfBytes (R.left source.old) (λ bytes. Lists terms listing bytes result.answer result.written (W.contents out.old) (W.contents out.new)) }
-    ensures read { IsErrOf result.answer Stop.Read → (R.failures source.new ≡ R.failures source.old + 1) ⊎ ((n : ℕ) → R.was_read source.old n → R.was_read source.new (n + 2 ^ 41)) }
+    ensures lists { OfBytes (R.left source.old) (λ bytes. Lists terms listing bytes result.answer result.written (W.contents out.old)
+        (W.contents out.new)) }
+    ensures read { IsErrOf result.answer Stop.Read → (R.failures source.new ≡ R.failures source.old + 1)
+        ⊎ ((n : ℕ) → R.was_read source.old n → R.was_read source.new (n + 2 ^ 41)) }
     ensures write { IsErrOf result.answer Stop.Write → W.has_failed out.new ≡ true }
     ensures quiet { result.answer ≢ Err Stop.Write → result.written ≡ true → W.has_failed out.new ≡ W.has_failed out.old }
     ensures handed_over { result.written ≡ true → W.holds_back out.new ≡ false }
@@ -243,7 +249,8 @@ fn is_no(answer: Result<Summary, Stop>) -> bool
     }
 }
 
-/// Writes after a no the last elements, and then the last line; where there is no memory for both, that is said in their place. Else it writes the last line alone.
+/// Writes after a no the last elements, and then the last line; where there is no memory for both, that is said in their place. Else it writes the
+/// last line alone.
 fn put_trail<W: Device>(
     alloc: Global,
     trail: &Trail,
@@ -252,7 +259,8 @@ fn put_trail<W: Device>(
 ) -> Ending
     ensures answer { (result.answer ≡ answer) ⊎ (result.answer ≡ Err Stop.Memory) }
     ensures read { answer ≡ Err Stop.Read → result.answer ≡ Err Stop.Read }
-    ensures text { Takes result.written (W.contents out.old) (W.contents out.new) (trail_text trail.now result.answer ++ last_line modes.Full result.answer) }
+    ensures text { Takes result.written (W.contents out.old) (W.contents out.new)
+        (trail_text trail.now result.answer ++ last_line modes.Full result.answer) }
     ensures handed_over { result.written ≡ true → W.holds_back out.new ≡ false }
     ensures quiet { result.written ≡ true → W.has_failed out.new ≡ W.has_failed out.old }
     ensures failed { result.written ≡ false → W.has_failed out.new ≡ true }
@@ -281,7 +289,8 @@ pub fn check<R: Source, W: Device>(
 ) -> Ending
     requires { R.failures source.old < 2 ^ 64 - 1 }
     ensures checks { OfBytes (R.left source.old) (λ bytes. Checks target bytes result.answer result.written (W.contents out.old) (W.contents out.new)) }
-    ensures read { IsErrOf result.answer Stop.Read → (R.failures source.new ≡ R.failures source.old + 1) ⊎ ((n : ℕ) → R.was_read source.old n → R.was_read source.new (n + 2 ^ 41)) }
+    ensures read { IsErrOf result.answer Stop.Read → (R.failures source.new ≡ R.failures source.old + 1)
+        ⊎ ((n : ℕ) → R.was_read source.old n → R.was_read source.new (n + 2 ^ 41)) }
     ensures write { IsErrOf result.answer Stop.Write → ⊥ }
     ensures quiet { result.written ≡ true → W.has_failed out.new ≡ W.has_failed out.old }
     ensures handed_over { result.written ≡ true → W.holds_back out.new ≡ false }
@@ -306,9 +315,11 @@ fn run_frames<'a, K: Sheet, R: Source, W: Device>(
     requires start { W.contents pen.out.now ≡ K.start }
     requires was_failed { W.has_failed pen.out.now ≡ K.was_failed }
     ensures same_reference { result.0.out.ghost_name ≡ K.name }
-    ensures frames { (bytes : List ℕ) → R.left source.old ≡ Some bytes → Writes bytes_of (terms_of modes.Full target) bytes result.1 K.start (W.contents result.0.out.now) }
+    ensures frames { (bytes : List ℕ) → R.left source.old ≡ Some bytes →
+        Writes bytes_of (terms_of modes.Full target) bytes result.1 K.start (W.contents result.0.out.now) }
     ensures some { (bytes : List ℕ) × Writes bytes_of (terms_of modes.Full target) bytes result.1 K.start (W.contents result.0.out.now) }
-    ensures read { IsErrOf result.1 Stop.Read → (R.failures source.new ≡ R.failures source.old + 1) ⊎ ((n : ℕ) → R.was_read source.old n → R.was_read source.new (n + 2 ^ 41)) }
+    ensures read { IsErrOf result.1 Stop.Read → (R.failures source.new ≡ R.failures source.old + 1)
+        ⊎ ((n : ℕ) → R.was_read source.old n → R.was_read source.new (n + 2 ^ 41)) }
     ensures write { IsErrOf result.1 Stop.Write → W.has_failed result.0.out.now ≡ true }
     ensures quiet { result.1 ≢ Err Stop.Write → W.has_failed result.0.out.now ≡ K.was_failed }
 {
@@ -326,9 +337,11 @@ fn write_frames<R: Source, W: Device>(
     out: &mut W,
 ) -> Result<Summary, Stop>
     requires { R.failures source.old < 2 ^ 64 - 1 }
-    ensures frames { (bytes : List ℕ) → R.left source.old ≡ Some bytes → Writes bytes_of (terms_of modes.Full target) bytes result (W.contents out.old) (W.contents out.new) }
+    ensures frames { (bytes : List ℕ) → R.left source.old ≡ Some bytes →
+        Writes bytes_of (terms_of modes.Full target) bytes result (W.contents out.old) (W.contents out.new) }
     ensures some { (bytes : List ℕ) × Writes bytes_of (terms_of modes.Full target) bytes result (W.contents out.old) (W.contents out.new) }
-    ensures read { IsErrOf result Stop.Read → (R.failures source.new ≡ R.failures source.old + 1) ⊎ ((n : ℕ) → R.was_read source.old n → R.was_read source.new (n + 2 ^ 41)) }
+    ensures read { IsErrOf result Stop.Read → (R.failures source.new ≡ R.failures source.old + 1)
+        ⊎ ((n : ℕ) → R.was_read source.old n → R.was_read source.new (n + 2 ^ 41)) }
     ensures write { IsErrOf result Stop.Write → W.has_failed out.new ≡ true }
     ensures quiet { result ≢ Err Stop.Write → W.has_failed out.new ≡ W.has_failed out.old }
 {
@@ -346,8 +359,10 @@ pub fn decode<R: Source, W: Device, E: Device>(
     err: &mut E,
 ) -> Ending
     requires { R.failures source.old < 2 ^ 64 - 1 }
-    ensures decodes { OfBytes (R.left source.old) (λ bytes. Decodes target bytes result.answer result.written (W.contents out.old) (W.contents out.new) (E.contents err.old) (E.contents err.new)) }
-    ensures read { IsErrOf result.answer Stop.Read → (R.failures source.new ≡ R.failures source.old + 1) ⊎ ((n : ℕ) → R.was_read source.old n → R.was_read source.new (n + 2 ^ 41)) }
+    ensures decodes { OfBytes (R.left source.old) (λ bytes. Decodes target bytes result.answer result.written (W.contents out.old)
+        (W.contents out.new) (E.contents err.old) (E.contents err.new)) }
+    ensures read { IsErrOf result.answer Stop.Read → (R.failures source.new ≡ R.failures source.old + 1)
+        ⊎ ((n : ℕ) → R.was_read source.old n → R.was_read source.new (n + 2 ^ 41)) }
     ensures write { IsErrOf result.answer Stop.Write → W.has_failed out.new ≡ true }
     ensures quiet { result.answer ≢ Err Stop.Write → W.has_failed out.new ≡ W.has_failed out.old }
     ensures handed_over { result.answer ≢ Err Stop.Write → W.holds_back out.new ≡ false }

@@ -19,9 +19,9 @@ use std::marker::PhantomData;
 
 /// Writes a line for each unit, slice, element or frame of a stream, as the listing says, and passes over all else.
 ///
-/// A writer that tells its bytes holds, after what it held, the lines of the calls taken, in order. Where the device fails within a line, its call is taken, and
-/// the writer holds a part of the line, which is not the whole. Where memory is wanting for a line, its call fails, and nothing is written of it. Then each call
-/// fails, and nothing more is written.
+/// A writer that tells its bytes holds, after what it held, the lines of the calls taken, in order. Where the device fails within a line, its call is
+/// taken, and the writer holds a part of the line, which is not the whole. Where memory is wanting for a line, its call fails, and nothing is written
+/// of it. Then each call fails, and nothing more is written.
 #[derive(Drop)]
 pub struct LineSink<'a, W: Device, K: Sheet> {
     alloc: Global,
@@ -102,7 +102,8 @@ impl<'a, W: Device, K: Sheet> LineSink<'a, W, K> {
         ensures listing { self.new.listing ≡ self.old.listing }
         ensures frames { self.new.frames ≡ self.old.frames }
         ensures same_reference { self.new.pen.out.ghost_name ≡ self.old.pen.out.ghost_name }
-        ensures ok { (text : List ℕ) → OnOk made (string_bytes self.old.line ≡ text) → OnOk result (SendsOrBreaksOff self.new.broke_off (W.contents self.old.pen.out.now) (W.contents self.new.pen.out.now) (ended text)) }
+        ensures ok { (text : List ℕ) → OnOk made (string_bytes self.old.line ≡ text) →
+            OnOk result (SendsOrBreaksOff self.new.broke_off (W.contents self.old.pen.out.now) (W.contents self.new.pen.out.now) (ended text)) }
         ensures blamed { OnOk result (IsBlamed self.new.broke_off (W.has_failed self.old.pen.out.now) (W.has_failed self.new.pen.out.now)) }
         ensures unsent { OnErr result ((self.new.broke_off ≡ self.old.broke_off) × (self.new.pen.out.now ≡ self.old.pen.out.now)) }
     {
@@ -135,14 +136,21 @@ impl<'a, W: Device, K: Sheet> LineSink<'a, W, K> {
         nal_ref_idc: u8,
         length: u64,
     ) -> Result<(), Failed>
-        requires line { (n : ℕ) → line_of self.old.listing n (OfUnit byte nal_unit_type nal_ref_idc length) ≡ ended (unit_text byte nal_unit_type nal_ref_idc length) }
+        requires line { (n : ℕ) → line_of self.old.listing n (OfUnit byte nal_unit_type nal_ref_idc length) ≡ ended
+            (unit_text byte nal_unit_type nal_ref_idc length) }
         requires uncounted { counted self.old.listing (OfUnit byte nal_unit_type nal_ref_idc length) ≡ 0 }
         requires whole { self.old.broke_off ≡ false }
         requires room { self.old.failures < 2 ^ 64 - 1 }
         ensures listing { self.new.listing ≡ self.old.listing }
         ensures same_reference { self.new.pen.out.ghost_name ≡ self.old.pen.out.ghost_name }
-        ensures ok { (start : Option (List ℕ)) (was_failed : Bool) (before : List Call) → HoldsLines self.old.listing start was_failed self.old.frames self.old.broke_off (W.has_failed self.old.pen.out.now) (W.contents self.old.pen.out.now) before → OnOk result (HoldsLines self.new.listing start was_failed self.new.frames self.new.broke_off (W.has_failed self.new.pen.out.now) (W.contents self.new.pen.out.now) (before ++ OfUnit byte nal_unit_type nal_ref_idc length ∷ [])) }
-        ensures refused { (start : Option (List ℕ)) (was_failed : Bool) (before : List Call) → HoldsLines self.old.listing start was_failed self.old.frames self.old.broke_off (W.has_failed self.old.pen.out.now) (W.contents self.old.pen.out.now) before → OnErr result (HoldsLines self.new.listing start was_failed self.new.frames self.new.broke_off (W.has_failed self.new.pen.out.now) (W.contents self.new.pen.out.now) before) }
+        ensures ok { (start : Option (List ℕ)) (was_failed : Bool) (before : List Call) →
+            HoldsLines self.old.listing start was_failed self.old.frames self.old.broke_off (W.has_failed self.old.pen.out.now)
+            (W.contents self.old.pen.out.now) before → OnOk result (HoldsLines self.new.listing start was_failed self.new.frames self.new.broke_off
+            (W.has_failed self.new.pen.out.now) (W.contents self.new.pen.out.now) (before ++ OfUnit byte nal_unit_type nal_ref_idc length ∷ [])) }
+        ensures refused { (start : Option (List ℕ)) (was_failed : Bool) (before : List Call) →
+            HoldsLines self.old.listing start was_failed self.old.frames self.old.broke_off (W.has_failed self.old.pen.out.now)
+            (W.contents self.old.pen.out.now) before → OnErr result (HoldsLines self.new.listing start was_failed self.new.frames self.new.broke_off
+            (W.has_failed self.new.pen.out.now) (W.contents self.new.pen.out.now) before) }
         ensures kept { OnOk result (self.new.failures ≡ self.old.failures) }
         ensures failed { OnErr result (self.new.failures ≡ self.old.failures + 1) }
     {
@@ -159,14 +167,22 @@ impl<'a, W: Device, K: Sheet> LineSink<'a, W, K> {
         frame_num: u32,
         count: i32,
     ) -> Result<(), Failed>
-        requires line { (n : ℕ) → line_of self.old.listing n (OfSlice byte first_mb_in_slice slice_type frame_num count) ≡ ended (slice_text byte first_mb_in_slice slice_type frame_num count) }
+        requires line { (n : ℕ) → line_of self.old.listing n (OfSlice byte first_mb_in_slice slice_type frame_num count) ≡ ended
+            (slice_text byte first_mb_in_slice slice_type frame_num count) }
         requires uncounted { counted self.old.listing (OfSlice byte first_mb_in_slice slice_type frame_num count) ≡ 0 }
         requires whole { self.old.broke_off ≡ false }
         requires room { self.old.failures < 2 ^ 64 - 1 }
         ensures listing { self.new.listing ≡ self.old.listing }
         ensures same_reference { self.new.pen.out.ghost_name ≡ self.old.pen.out.ghost_name }
-        ensures ok { (start : Option (List ℕ)) (was_failed : Bool) (before : List Call) → HoldsLines self.old.listing start was_failed self.old.frames self.old.broke_off (W.has_failed self.old.pen.out.now) (W.contents self.old.pen.out.now) before → OnOk result (HoldsLines self.new.listing start was_failed self.new.frames self.new.broke_off (W.has_failed self.new.pen.out.now) (W.contents self.new.pen.out.now) (before ++ OfSlice byte first_mb_in_slice slice_type frame_num count ∷ [])) }
-        ensures refused { (start : Option (List ℕ)) (was_failed : Bool) (before : List Call) → HoldsLines self.old.listing start was_failed self.old.frames self.old.broke_off (W.has_failed self.old.pen.out.now) (W.contents self.old.pen.out.now) before → OnErr result (HoldsLines self.new.listing start was_failed self.new.frames self.new.broke_off (W.has_failed self.new.pen.out.now) (W.contents self.new.pen.out.now) before) }
+        ensures ok { (start : Option (List ℕ)) (was_failed : Bool) (before : List Call) →
+            HoldsLines self.old.listing start was_failed self.old.frames self.old.broke_off (W.has_failed self.old.pen.out.now)
+            (W.contents self.old.pen.out.now) before → OnOk result (HoldsLines self.new.listing start was_failed self.new.frames self.new.broke_off
+            (W.has_failed self.new.pen.out.now) (W.contents self.new.pen.out.now)
+            (before ++ OfSlice byte first_mb_in_slice slice_type frame_num count ∷ [])) }
+        ensures refused { (start : Option (List ℕ)) (was_failed : Bool) (before : List Call) →
+            HoldsLines self.old.listing start was_failed self.old.frames self.old.broke_off (W.has_failed self.old.pen.out.now)
+            (W.contents self.old.pen.out.now) before → OnErr result (HoldsLines self.new.listing start was_failed self.new.frames self.new.broke_off
+            (W.has_failed self.new.pen.out.now) (W.contents self.new.pen.out.now) before) }
         ensures kept { OnOk result (self.new.failures ≡ self.old.failures) }
         ensures failed { OnErr result (self.new.failures ≡ self.old.failures + 1) }
     {
@@ -188,8 +204,14 @@ impl<'a, W: Device, K: Sheet> LineSink<'a, W, K> {
         requires room { self.old.failures < 2 ^ 64 - 1 }
         ensures listing { self.new.listing ≡ self.old.listing }
         ensures same_reference { self.new.pen.out.ghost_name ≡ self.old.pen.out.ghost_name }
-        ensures ok { (start : Option (List ℕ)) (was_failed : Bool) (before : List Call) → HoldsLines self.old.listing start was_failed self.old.frames self.old.broke_off (W.has_failed self.old.pen.out.now) (W.contents self.old.pen.out.now) before → OnOk result (HoldsLines self.new.listing start was_failed self.new.frames self.new.broke_off (W.has_failed self.new.pen.out.now) (W.contents self.new.pen.out.now) (before ++ OfElement name bit value ∷ [])) }
-        ensures refused { (start : Option (List ℕ)) (was_failed : Bool) (before : List Call) → HoldsLines self.old.listing start was_failed self.old.frames self.old.broke_off (W.has_failed self.old.pen.out.now) (W.contents self.old.pen.out.now) before → OnErr result (HoldsLines self.new.listing start was_failed self.new.frames self.new.broke_off (W.has_failed self.new.pen.out.now) (W.contents self.new.pen.out.now) before) }
+        ensures ok { (start : Option (List ℕ)) (was_failed : Bool) (before : List Call) →
+            HoldsLines self.old.listing start was_failed self.old.frames self.old.broke_off (W.has_failed self.old.pen.out.now)
+            (W.contents self.old.pen.out.now) before → OnOk result (HoldsLines self.new.listing start was_failed self.new.frames self.new.broke_off
+            (W.has_failed self.new.pen.out.now) (W.contents self.new.pen.out.now) (before ++ OfElement name bit value ∷ [])) }
+        ensures refused { (start : Option (List ℕ)) (was_failed : Bool) (before : List Call) →
+            HoldsLines self.old.listing start was_failed self.old.frames self.old.broke_off (W.has_failed self.old.pen.out.now)
+            (W.contents self.old.pen.out.now) before → OnErr result (HoldsLines self.new.listing start was_failed self.new.frames self.new.broke_off
+            (W.has_failed self.new.pen.out.now) (W.contents self.new.pen.out.now) before) }
         ensures kept { OnOk result (self.new.failures ≡ self.old.failures) }
         ensures failed { OnErr result (self.new.failures ≡ self.old.failures + 1) }
     {
@@ -205,8 +227,14 @@ impl<'a, W: Device, K: Sheet> LineSink<'a, W, K> {
         requires room { self.old.failures < 2 ^ 64 - 1 }
         ensures listing { self.new.listing ≡ self.old.listing }
         ensures same_reference { self.new.pen.out.ghost_name ≡ self.old.pen.out.ghost_name }
-        ensures ok { (start : Option (List ℕ)) (was_failed : Bool) (before : List Call) → HoldsLines self.old.listing start was_failed self.old.frames self.old.broke_off (W.has_failed self.old.pen.out.now) (W.contents self.old.pen.out.now) before → OnOk result (HoldsLines self.new.listing start was_failed self.new.frames self.new.broke_off (W.has_failed self.new.pen.out.now) (W.contents self.new.pen.out.now) (before ++ frame_call count frame.now rectangle ∷ [])) }
-        ensures refused { (start : Option (List ℕ)) (was_failed : Bool) (before : List Call) → HoldsLines self.old.listing start was_failed self.old.frames self.old.broke_off (W.has_failed self.old.pen.out.now) (W.contents self.old.pen.out.now) before → OnErr result (HoldsLines self.new.listing start was_failed self.new.frames self.new.broke_off (W.has_failed self.new.pen.out.now) (W.contents self.new.pen.out.now) before) }
+        ensures ok { (start : Option (List ℕ)) (was_failed : Bool) (before : List Call) →
+            HoldsLines self.old.listing start was_failed self.old.frames self.old.broke_off (W.has_failed self.old.pen.out.now)
+            (W.contents self.old.pen.out.now) before → OnOk result (HoldsLines self.new.listing start was_failed self.new.frames self.new.broke_off
+            (W.has_failed self.new.pen.out.now) (W.contents self.new.pen.out.now) (before ++ frame_call count frame.now rectangle ∷ [])) }
+        ensures refused { (start : Option (List ℕ)) (was_failed : Bool) (before : List Call) →
+            HoldsLines self.old.listing start was_failed self.old.frames self.old.broke_off (W.has_failed self.old.pen.out.now)
+            (W.contents self.old.pen.out.now) before → OnErr result (HoldsLines self.new.listing start was_failed self.new.frames self.new.broke_off
+            (W.has_failed self.new.pen.out.now) (W.contents self.new.pen.out.now) before) }
         ensures kept { OnOk result (self.new.failures ≡ self.old.failures) }
         ensures failed { OnErr result (self.new.failures ≡ self.old.failures + 1) }
     {
@@ -234,7 +262,8 @@ impl<'a, W: Device, K: Sheet> LineSink<'a, W, K> {
 impl<'a, W: Device, K: Sheet> Elements for LineSink<'a, W, K> {
     ghost use Rattle.h264_report.specs.Told.{TookLines};
 
-    ghost took = { λ s calls. TookLines K.name K.listing K.start K.was_failed s.pen.out.ghost_name s.listing s.frames s.broke_off (W.has_failed s.pen.out.now) (W.contents s.pen.out.now) calls };
+    ghost took = { λ s calls. TookLines K.name K.listing K.start K.was_failed s.pen.out.ghost_name s.listing s.frames s.broke_off
+        (W.has_failed s.pen.out.now) (W.contents s.pen.out.now) calls };
 
     ghost failures = { λ s. s.failures };
 

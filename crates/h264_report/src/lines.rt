@@ -76,7 +76,8 @@ pub fn frame_line(
     rectangle: Rectangle,
 ) -> Result<(), AllocError>
     requires { IsTrue (fits rectangle frame.now) }
-    ensures { OnOk result (string_bytes line.new ≡ frame_text index count (width_in rectangle frame.now) (height_in rectangle frame.now) (shown_bytes frame.now rectangle)) }
+    ensures { OnOk result (string_bytes line.new ≡ frame_text index count (width_in rectangle frame.now) (height_in rectangle frame.now)
+        (shown_bytes frame.now rectangle)) }
 {
     let width = width(frame, rectangle);
     let height = height(frame, rectangle);

@@ -1,8 +1,8 @@
 //! Texts on a stream that was surveyed: the explanation of a no, objects of JSON, a summary, and an HTML page.
 //!
-//! `Finding::of` says where a verdict stands and what was found there. `put_explanation` and `put_verdict` write it as lines and as an object of JSON, `put_info`
-//! and `put_info_object` what a stream has, and `put_page` an HTML page. All write into a `Page`, which notes a want of memory and never fails a call.
-//! Nothing is promised of the texts but that each call is safe and ends: they are tested.
+//! `Finding::of` says where a verdict stands and what was found there. `put_explanation` and `put_verdict` write it as lines and as an object of
+//! JSON, `put_info` and `put_info_object` what a stream has, and `put_page` an HTML page. All write into a `Page`, which notes a want of memory and
+//! never fails a call. Nothing is promised of the texts but that each call is safe and ends: they are tested.
 #![tactic(auto)]
 
 pub mod album;

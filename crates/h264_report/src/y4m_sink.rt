@@ -33,9 +33,9 @@ struct Timing {
 
 /// Writes YUV4MPEG2: a header with size and rate before the first frame; for each frame the line FRAME, and the samples as `YuvSink` writes them.
 ///
-/// A writer that tells its bytes holds, after what it held, the header and the frames taken, in order, followed after a failure by a part of the next frame with
-/// its line, which is not the whole. A frame of another size than the first one fails, since no second header is possible. After a failure each frame fails and
-/// nothing more is written.
+/// A writer that tells its bytes holds, after what it held, the header and the frames taken, in order, followed after a failure by a part of the next
+/// frame with its line, which is not the whole. A frame of another size than the first one fails, since no second header is possible. After a failure
+/// each frame fails and nothing more is written.
 #[derive(Drop)]
 pub struct Y4mSink<'a, W: Device, K: Sheet> {
     pen: Pen<'a, W>,
@@ -141,7 +141,8 @@ impl<'a, W: Device, K: Sheet> Y4mSink<'a, W, K> {
         }
     }
 
-    /// Whether the newest frame could not be written: the device failed, or the frame has another size. Where it could, a call that failed did so for want of memory.
+    /// Whether the newest frame could not be written: the device failed, or the frame has another size. Where it could, a call that failed did so for
+    /// want of memory.
     pub fn broke_off(&self) -> bool {
         self.failures > 0 && !self.short_of_memory
     }
@@ -175,8 +176,10 @@ impl<'a, W: Device, K: Sheet> Y4mSink<'a, W, K> {
         ensures same_reference { self.new.pen.out.ghost_name ≡ self.old.pen.out.ghost_name }
         ensures kept { OnOk result ((self.new.failures ≡ 0) × (self.new.head ≡ Some head)) }
         ensures failed { OnErr result ((self.new.failures ≡ 1) × (self.new.head ≡ self.old.head)) }
-        ensures ok { OnOk result (Sends (W.contents self.old.pen.out.now) (W.contents self.new.pen.out.now) (ended (head_text head) ++ framed (shown_bytes frame.now rectangle))) }
-        ensures front { OnErr result (SendsFront (W.contents self.old.pen.out.now) (W.contents self.new.pen.out.now) (ended (head_text head) ++ framed (shown_bytes frame.now rectangle))) }
+        ensures ok { OnOk result (Sends (W.contents self.old.pen.out.now) (W.contents self.new.pen.out.now)
+            (ended (head_text head) ++ framed (shown_bytes frame.now rectangle))) }
+        ensures front { OnErr result (SendsFront (W.contents self.old.pen.out.now) (W.contents self.new.pen.out.now)
+            (ended (head_text head) ++ framed (shown_bytes frame.now rectangle))) }
     {
         if head_line(&mut self.line, head).is_err() {
             self.short_of_memory = true;

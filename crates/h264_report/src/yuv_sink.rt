@@ -14,8 +14,8 @@ use std::marker::PhantomData;
 
 /// Writes what is shown of each frame of a stream, in the order of output: the rows of Y, then of Cb, then of Cr, a byte a sample.
 ///
-/// A writer that tells its bytes holds, after what it held, those of the frames taken, in order. Where the device fails within a frame, the frame is taken, and the
-/// writer holds a part of it, which is not the whole. Then each call fails, and nothing more is written.
+/// A writer that tells its bytes holds, after what it held, those of the frames taken, in order. Where the device fails within a frame, the frame is
+/// taken, and the writer holds a part of it, which is not the whole. Then each call fails, and nothing more is written.
 #[derive(Drop)]
 pub struct YuvSink<'a, W: Device, K: Sheet> {
     pen: Pen<'a, W>,
@@ -72,7 +72,8 @@ impl<'a, W: Device, K: Sheet> YuvSink<'a, W, K> {
 impl<'a, W: Device, K: Sheet> Elements for YuvSink<'a, W, K> {
     ghost use Rattle.h264_report.specs.Told.{TookFrames};
 
-    ghost took = { λ s calls. TookFrames K.name K.start K.was_failed s.pen.out.ghost_name s.broke_off (W.has_failed s.pen.out.now) (W.contents s.pen.out.now) calls };
+    ghost took = { λ s calls. TookFrames K.name K.start K.was_failed s.pen.out.ghost_name s.broke_off (W.has_failed s.pen.out.now)
+        (W.contents s.pen.out.now) calls };
 
     ghost failures = { λ s. s.failures };
 

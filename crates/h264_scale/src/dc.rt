@@ -1,7 +1,8 @@
 ghost use Rattle.std.specs.Prelude.{◌≡◌, ◌↔◌, ◌≤◌, IsTrue, IsOk, IfOk, true, false, MatchResult};
 ghost use Rattle.h264_scale.specs.Residual.{HasEntries};
 ghost use Rattle.h264_scale.specs.Dc.{dc16_at, dc16_fits, chroma_coefficient, dc2_at, dc2_fits, HasEntries2};
-ghost use Rattle.h264_scale.specs.Fours.{IsShort, IsShortFour, IsShortBlock, dc_scaled, dc_four, dc_block as dc_block_of, block_dc_fits, block_dc, dc2_scaled, dc2_four, four_dc_fits, four_dc, matrix_four};
+ghost use Rattle.h264_scale.specs.Fours.{IsShort, IsShortFour, IsShortBlock, dc_scaled, dc_four, dc_block as dc_block_of, block_dc_fits, block_dc};
+ghost use Rattle.h264_scale.specs.Fours.{dc2_scaled, dc2_four, four_dc_fits, four_dc, matrix_four};
 
 use crate::fours::{Block, Four};
 use crate::residual::{V0, coefficients, factor, four_at};

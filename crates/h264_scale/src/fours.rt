@@ -1,7 +1,9 @@
 ghost use Rattle.std.specs.Prelude.{◌≡◌, []};
 ghost use Rattle.std.specs.Int.{int_shr};
 ghost use Rattle.h264_scale.specs.Residual.{fits16 as fits16_of, fits_last as fits_last_of};
-ghost use Rattle.h264_scale.specs.Fours.{IsShort, IsShortFour, IsShortBlock, IsWithin, AreWithin, four_fits, block_fits, four_fits_last, block_fits_last, plus, minus, half, transposed as transposed_of, halves as halves_of, joined as joined_of, summed as summed_of, block_e, block_f, hadamard_block, rows_of, row_then, corners};
+ghost use Rattle.h264_scale.specs.Fours.{IsShort, IsShortFour, IsShortBlock, IsWithin, AreWithin, four_fits, block_fits, four_fits_last};
+ghost use Rattle.h264_scale.specs.Fours.{block_fits_last, plus, minus, half, transposed as transposed_of, halves as halves_of, joined as joined_of};
+ghost use Rattle.h264_scale.specs.Fours.{summed as summed_of, block_e, block_f, hadamard_block, rows_of, row_then, corners};
 
 /// Four numbers of a row.
 #[derive(Clone, Copy)]

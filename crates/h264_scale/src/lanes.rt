@@ -1,6 +1,8 @@
 ghost use Rattle.std.specs.Prelude.{◌≡◌, [], ◌∷◌, ◌*ℤ◌, ◌+◌, ◌<◌, ◌≤◌, ◌↔◌, ℕ, ℤ, pos, get_or, length, IsTrue, IfSome, IsSome, true};
 ghost use Rattle.h264_scale.specs.Residual.{IsIn, AreIn, coefficient};
-ghost use Rattle.h264_scale.specs.Fours.{IsShort, IsShortFour, IsShortBlock, IsSmall, AreWithin, plus as plus_of, minus as minus_of, half as half_of, halves as halves_of, joined as joined_of, transposed as transposed_of, block_of, with_dc, factor_at, rounded_block, scaled_block, block_residual_fits, block_residual};
+ghost use Rattle.h264_scale.specs.Fours.{IsShort, IsShortFour, IsShortBlock, IsSmall, AreWithin, plus as plus_of, minus as minus_of, half as half_of};
+ghost use Rattle.h264_scale.specs.Fours.{halves as halves_of, joined as joined_of, transposed as transposed_of, block_of, with_dc, factor_at};
+ghost use Rattle.h264_scale.specs.Fours.{rounded_block, scaled_block, block_residual_fits, block_residual};
 ghost use Rattle.h264_scale.specs.Lanes.{lanes, AreRows, AreWide, by_place, size_below, with_first as with_first_of};
 ghost use Rattle.h264_scale.specs.declared.fours.Four.{Four};
 ghost use Rattle.h264_scale.specs.declared.fours.Block.{Block};
@@ -44,7 +46,8 @@ fn half(v: i16x4) -> i16x4
 /// The transform of each column.
 #[inline(always)]
 fn step(m: Rows) -> Rows
-    ensures { (x : Block) → AreRows m x → IsShortBlock x → IsShortBlock (halves_of x) → IsShortBlock (joined_of (halves_of x)) → AreRows result (joined_of (halves_of x)) }
+    ensures { (x : Block) → AreRows m x → IsShortBlock x → IsShortBlock (halves_of x) → IsShortBlock (joined_of (halves_of x)) →
+        AreRows result (joined_of (halves_of x)) }
 {
     let e0 = plus(m.r0, m.r2);
     let e1 = minus(m.r0, m.r2);
@@ -206,7 +209,8 @@ fn transform(columns: Rows) -> [i16; 16]
 #[inline(always)]
 pub fn small_residual(levels: &[i16; 16], qp: u8) -> Option<[i16; 16]>
     requires { qp ≤ 51 }
-    ensures value { IfSome result (λ r. (block_residual_fits (scaled_block qp (block_of (coefficient levels.now))) ≡ true) × (r ≡ block_residual (scaled_block qp (block_of (coefficient levels.now))))) }
+    ensures value { IfSome result (λ r. (block_residual_fits (scaled_block qp (block_of (coefficient levels.now))) ≡ true)
+        × (r ≡ block_residual (scaled_block qp (block_of (coefficient levels.now))))) }
     ensures answers { IsSmall (scaled_block qp (block_of (coefficient levels.now))) → IsSome result }
     ensures bound { IfSome result (AreIn 512) }
 {
@@ -218,7 +222,9 @@ pub fn small_residual(levels: &[i16; 16], qp: u8) -> Option<[i16; 16]>
 #[inline(always)]
 pub fn small_residual_with_dc(dc: i16, levels: &[i16; 15], qp: u8) -> Option<[i16; 16]>
     requires { qp ≤ 51 }
-    ensures value { IfSome result (λ r. (block_residual_fits (with_dc dc (scaled_block qp (block_of (coefficient (get_or levels.now 0 (pos 0) ∷ levels.now))))) ≡ true) × (r ≡ block_residual (with_dc dc (scaled_block qp (block_of (coefficient (get_or levels.now 0 (pos 0) ∷ levels.now))))))) }
+    ensures value { IfSome result (λ r. (block_residual_fits (with_dc dc
+        (scaled_block qp (block_of (coefficient (get_or levels.now 0 (pos 0) ∷ levels.now))))) ≡ true)
+        × (r ≡ block_residual (with_dc dc (scaled_block qp (block_of (coefficient (get_or levels.now 0 (pos 0) ∷ levels.now))))))) }
     ensures answers { IsSmall (with_dc dc (scaled_block qp (block_of (coefficient (get_or levels.now 0 (pos 0) ∷ levels.now))))) → IsSome result }
     ensures bound { IfSome result (AreIn 512) }
 {

@@ -61,7 +61,8 @@ fn rounded_rows(h: Block) -> [i16; 16]
 /// The residual of a block whose DC coefficient is this one, and whose others are 0: each sample is the same.
 #[inline(always)]
 pub fn flat(dc: i32) -> Result<[i16; 16], TransformRange>
-    ensures value { MatchResult result (λ r. (block_residual_fits (dc_only dc) ≡ true) × (r ≡ block_residual (dc_only dc))) (λ _. block_residual_fits (dc_only dc) ≡ false) }
+    ensures value { MatchResult result (λ r. (block_residual_fits (dc_only dc) ≡ true) × (r ≡ block_residual (dc_only dc)))
+        (λ _. block_residual_fits (dc_only dc) ≡ false) }
     ensures bound { IfOk result (AreIn 512) }
 {
     if !fits_last(dc) {

@@ -7,8 +7,8 @@ use Rattle.h264_tables.specs.Level.{limits_of}
 use Rattle.h264_sps.specs.declared.sps.FrameCropping.{FrameCropping}
 use Rattle.h264_sps.specs.declared.sps.FrameSize.{FrameSize}
 use Rattle.h264_sps.specs.declared.sps.Sps.{Sps}
-use Rattle.h264_vui.specs.declared.vui.Vui.{Vui}
-use Rattle.h264_vui.specs.declared.vui.BitstreamRestriction.{BitstreamRestriction}
+use Rattle.h264_sps.specs.declared.vui.Vui.{Vui}
+use Rattle.h264_sps.specs.declared.vui.BitstreamRestriction.{BitstreamRestriction}
 use Rattle.h264_sps.specs.Sps.{max_dpb_frames}
 
 -- a frame of some macroblocks, of no more than the greatest MaxFS, in rows and columns of no more than Sqrt(8 * MaxFS) (A.3.1)

@@ -173,8 +173,10 @@ impl Sets {
     /// changed then.
     pub fn activate(&mut self, pic_parameter_set_id: u32, bit: u64, idr: bool) -> Result<(), Stop>
         ensures missing { pair_of self.old pic_parameter_set_id ≡ None → result ≡ Err (No bit NoSet) }
-        ensures ok { (pair : SetPair) → pair_of self.old pic_parameter_set_id ≡ Some pair → (IsTrue idr ⊎ IsActive self.old pair.sps) → (result ≡ Ok tt) × (self.new ≡ with_active self.old pair) }
-        ensures changed { (pair : SetPair) → pair_of self.old pic_parameter_set_id ≡ Some pair → IsFalse idr → (IsActive self.old pair.sps → ⊥) → result ≡ Err (No bit SetChanged) }
+        ensures ok { (pair : SetPair) → pair_of self.old pic_parameter_set_id ≡ Some pair → (IsTrue idr ⊎ IsActive self.old pair.sps) →
+            (result ≡ Ok tt) × (self.new ≡ with_active self.old pair) }
+        ensures changed { (pair : SetPair) → pair_of self.old pic_parameter_set_id ≡ Some pair → IsFalse idr → (IsActive self.old pair.sps → ⊥) →
+            result ≡ Err (No bit SetChanged) }
         ensures kept { OnErr result (self.new ≡ self.old) }
     {
         let missing = Stop::No {

@@ -11,28 +11,28 @@ use Rattle.h264_sps.specs.declared.sps.FrameSize.{FrameSize}
 use Rattle.h264_sps.specs.contracts.sps.FrameSizePartialEq.TheImpl as eq_frame_size
 use Rattle.h264_sps.specs.declared.sps.FrameCropping.{FrameCropping}
 use Rattle.h264_sps.specs.contracts.sps.FrameCroppingPartialEq.TheImpl as eq_frame_cropping
-use Rattle.h264_vui.specs.declared.vui.ExtendedRatio.{ExtendedRatio}
-use Rattle.h264_vui.specs.contracts.vui.ExtendedRatioPartialEq.TheImpl as eq_extended_ratio
-use Rattle.h264_vui.specs.declared.vui.SampleAspectRatio.{SampleAspectRatio}
-use Rattle.h264_vui.specs.contracts.vui.SampleAspectRatioPartialEq.TheImpl as eq_sample_aspect_ratio
-use Rattle.h264_vui.specs.declared.vui.ColourDescription.{ColourDescription}
-use Rattle.h264_vui.specs.contracts.vui.ColourDescriptionPartialEq.TheImpl as eq_colour_description
-use Rattle.h264_vui.specs.declared.vui.VideoSignalType.{VideoSignalType}
-use Rattle.h264_vui.specs.contracts.vui.VideoSignalTypePartialEq.TheImpl as eq_video_signal_type
-use Rattle.h264_vui.specs.declared.vui.ChromaLocation.{ChromaLocation}
-use Rattle.h264_vui.specs.contracts.vui.ChromaLocationPartialEq.TheImpl as eq_chroma_location
-use Rattle.h264_vui.specs.declared.vui.Timing.{Timing}
-use Rattle.h264_vui.specs.contracts.vui.TimingPartialEq.TheImpl as eq_timing
-use Rattle.h264_vui.specs.declared.hrd.Cpb.{Cpb}
-use Rattle.h264_vui.specs.contracts.hrd.CpbPartialEq.TheImpl as eq_cpb
-use Rattle.h264_vui.specs.declared.hrd.Cpbs.{Cpbs}
-use Rattle.h264_vui.specs.contracts.hrd.CpbsPartialEq.TheImpl as eq_cpbs
-use Rattle.h264_vui.specs.declared.hrd.Hrd.{Hrd}
-use Rattle.h264_vui.specs.contracts.hrd.HrdPartialEq.TheImpl as eq_hrd
-use Rattle.h264_vui.specs.declared.vui.BitstreamRestriction.{BitstreamRestriction}
-use Rattle.h264_vui.specs.contracts.vui.BitstreamRestrictionPartialEq.TheImpl as eq_bitstream_restriction
-use Rattle.h264_vui.specs.declared.vui.Vui.{Vui}
-use Rattle.h264_vui.specs.contracts.vui.VuiPartialEq.TheImpl as eq_vui
+use Rattle.h264_sps.specs.declared.vui.ExtendedRatio.{ExtendedRatio}
+use Rattle.h264_sps.specs.contracts.vui.ExtendedRatioPartialEq.TheImpl as eq_extended_ratio
+use Rattle.h264_sps.specs.declared.vui.SampleAspectRatio.{SampleAspectRatio}
+use Rattle.h264_sps.specs.contracts.vui.SampleAspectRatioPartialEq.TheImpl as eq_sample_aspect_ratio
+use Rattle.h264_sps.specs.declared.vui.ColourDescription.{ColourDescription}
+use Rattle.h264_sps.specs.contracts.vui.ColourDescriptionPartialEq.TheImpl as eq_colour_description
+use Rattle.h264_sps.specs.declared.vui.VideoSignalType.{VideoSignalType}
+use Rattle.h264_sps.specs.contracts.vui.VideoSignalTypePartialEq.TheImpl as eq_video_signal_type
+use Rattle.h264_sps.specs.declared.vui.ChromaLocation.{ChromaLocation}
+use Rattle.h264_sps.specs.contracts.vui.ChromaLocationPartialEq.TheImpl as eq_chroma_location
+use Rattle.h264_sps.specs.declared.vui.Timing.{Timing}
+use Rattle.h264_sps.specs.contracts.vui.TimingPartialEq.TheImpl as eq_timing
+use Rattle.h264_sps.specs.declared.hrd.Cpb.{Cpb}
+use Rattle.h264_sps.specs.contracts.hrd.CpbPartialEq.TheImpl as eq_cpb
+use Rattle.h264_sps.specs.declared.hrd.Cpbs.{Cpbs}
+use Rattle.h264_sps.specs.contracts.hrd.CpbsPartialEq.TheImpl as eq_cpbs
+use Rattle.h264_sps.specs.declared.hrd.Hrd.{Hrd}
+use Rattle.h264_sps.specs.contracts.hrd.HrdPartialEq.TheImpl as eq_hrd
+use Rattle.h264_sps.specs.declared.vui.BitstreamRestriction.{BitstreamRestriction}
+use Rattle.h264_sps.specs.contracts.vui.BitstreamRestrictionPartialEq.TheImpl as eq_bitstream_restriction
+use Rattle.h264_sps.specs.declared.vui.Vui.{Vui}
+use Rattle.h264_sps.specs.contracts.vui.VuiPartialEq.TheImpl as eq_vui
 use Rattle.h264_sps.specs.declared.count_type.Cycle.{Cycle}
 use Rattle.h264_sps.specs.contracts.count_type.CyclePartialEq.TheImpl as eq_cycle
 use Rattle.h264_sps.specs.declared.sps.Sps.{Sps}

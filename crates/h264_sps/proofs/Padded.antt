@@ -2,7 +2,7 @@
 use Rattle.std.proofs.Common.{◌≡◌, ℕ, ℤ, pos, ◌-◌, ◌≤◌, List, ◌++◌, take, drop, length, replicate, ap, ◌∙◌, arith}
 use Rattle.std.proofs.lemmas.List.{length-take-le}
 use Rattle.h264_sps.specs.declared.count_type.Cycle.{Cycle}
-use Rattle.h264_vui.proofs.Padded.{padded}
+use Rattle.h264_sps.proofs.VuiPadded.{padded}
 use Rattle.h264_sps.specs.Counting.{cycle_of}
 
 pub cycle-is : (xs : List ℤ) (i length' : ℕ) → i ≡ length' → length' ≤ 255 → length xs ≡ 255 → drop i xs ≡ replicate (255 - i) (pos 0) → (let c : Cycle = record { offset_for_ref_frame = xs; length = length' } in c) ≡ cycle_of (take i xs)

@@ -1,3 +1,6 @@
+pub mod Hrd
+pub mod Vui
+pub mod VuiParts
 pub mod Counting
 pub mod Sps
 pub mod Parts

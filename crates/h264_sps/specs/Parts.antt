@@ -12,7 +12,7 @@ use Rattle.h264_sps.specs.declared.read.Start.{Start}
 use Rattle.h264_sps.specs.declared.sps.FrameSize.{FrameSize as Size}
 use Rattle.h264_sps.specs.declared.sps.Sps.{Sps}
 use Rattle.h264_sps.specs.Sps.{max_dpb_frames, frame_size, frame_cropping}
-use Rattle.h264_vui.specs.Vui.{flagged, vui}
+use Rattle.h264_sps.specs.Vui.{flagged, vui}
 
 -- the offsets at two sides of a frame of so many macroblocks from one to the other, which leave something
 unfoldable pub crop_offsets : ElementName → ElementName → ℕ → Grammar (ℕ × ℕ)

@@ -16,7 +16,7 @@ use Rattle.h264_sps.specs.declared.sps.FrameSize.{FrameSize as Size}
 use Rattle.h264_sps.specs.declared.sps.FrameCropping.{FrameCropping}
 use Rattle.h264_sps.specs.declared.sps.Sps.{Sps}
 use Rattle.h264_sps.specs.Counting.{counting}
-use Rattle.h264_vui.specs.Vui.{flagged, vui}
+use Rattle.h264_sps.specs.Vui.{flagged, vui}
 
 -- Baseline, or Main or Extended where the stream says that a Baseline decoder decodes it too (A.2.1); Main itself where the target has its tools (A.2.2)
 abbrev pub is_judged_profile : Target → ℕ → Bool → Bool

@@ -5,18 +5,19 @@ ghost use Rattle.std.specs.Prelude.{◌≡◌, ℕ, ◌+◌, ◌-◌, ◌<◌, �
 ghost use Rattle.h264_base.specs.Meets.{Meets, Is, Answers};
 ghost use Rattle.h264_base.specs.declared.element_name.ElementName.TheVariants.{FrameCroppingFlag};
 ghost use Rattle.h264_bits.specs.Forms.{flag};
-ghost use Rattle.h264_vui.specs.Vui.{flagged, vui};
+ghost use Rattle.h264_sps.specs.Vui.{flagged, vui};
 ghost use Rattle.h264_sps.specs.Parts.{crop_offsets, is_size_allowed, sps_from_size};
 ghost use Rattle.h264_sps.specs.Seen.{level_seen, front_seen};
-ghost use Rattle.h264_sps.specs.Sps.{constraint_set_flags, level, profile_and_level, frame_size, frame_cropping, max_dpb_frames as max_dpb_frames_of, is_judged_profile, is_level_6, sps};
+ghost use Rattle.h264_sps.specs.Sps.{constraint_set_flags, level, profile_and_level, frame_size, frame_cropping, max_dpb_frames as max_dpb_frames_of};
+ghost use Rattle.h264_sps.specs.Sps.{is_judged_profile, is_level_6, sps};
 
 use crate::count_type::{CountType, read_count_type};
 use crate::sps::{ConstraintSetFlags, FrameCropping, FrameSize, Sps};
+use crate::vui::read_vui_info;
 use h264_base::{ElementName, Elements, Feature, Rule, Stop, Target};
 use h264_bits::forms::{flag_value, u_must_be, u_value, u_values, ue_up_to};
 use h264_bits::{Bits, check, read_trailing, read_u, read_ue, support};
 use h264_tables::{Limits, limits};
-use h264_vui::vui::read_vui_info;
 
 /// level_idc, and what the level allows.
 #[derive(Clone, Copy)]
@@ -145,7 +146,8 @@ fn allowed_size(
 ) -> Option<FrameSize>
     requires across { (0 < width) × (width ≤ 2 ^ 32) }
     requires down { (0 < height) × (height ≤ 2 ^ 32) }
-    ensures { result ≡ cond (is_size_allowed limits max_num_ref_frames (record { width = width; height = height })) (Some (record { width = width; height = height })) None }
+    ensures { result ≡ cond (is_size_allowed limits max_num_ref_frames (record { width = width; height = height }))
+        (Some (record { width = width; height = height })) None }
 {
     let most = limits.max_fs as u64;
     if width > most || height > most {

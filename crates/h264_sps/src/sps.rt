@@ -2,7 +2,7 @@
 #![tactic(auto)]
 
 use crate::count_type::CountType;
-use h264_vui::vui::Vui;
+use crate::vui::Vui;
 
 /// constraint_set0_flag to constraint_set5_flag (7.4.2.1.1).
 #[derive(Clone, Copy, PartialEq)]

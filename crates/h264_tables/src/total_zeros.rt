@@ -3,7 +3,10 @@
 
 ghost use Rattle.std.specs.Prelude.{◌≡◌};
 ghost use Rattle.h264_tables.specs.Front.{front_of, found_of};
-ghost use Rattle.h264_tables.specs.TotalZeros.{total_zeros_1, total_zeros_2, total_zeros_3, total_zeros_4, total_zeros_5, total_zeros_6, total_zeros_7, total_zeros_8, total_zeros_9, total_zeros_10, total_zeros_11, total_zeros_12, total_zeros_13, total_zeros_14, total_zeros_15, total_zeros_chroma_dc_1, total_zeros_chroma_dc_2, total_zeros_chroma_dc_3};
+ghost use Rattle.h264_tables.specs.TotalZeros.{total_zeros_1, total_zeros_2, total_zeros_3, total_zeros_4, total_zeros_5, total_zeros_6};
+ghost use Rattle.h264_tables.specs.TotalZeros.{total_zeros_7, total_zeros_8, total_zeros_9, total_zeros_10, total_zeros_11, total_zeros_12};
+ghost use Rattle.h264_tables.specs.TotalZeros.{total_zeros_13, total_zeros_14, total_zeros_15, total_zeros_chroma_dc_1, total_zeros_chroma_dc_2};
+ghost use Rattle.h264_tables.specs.TotalZeros.{total_zeros_chroma_dc_3};
 
 /// The value of each row; a table has as many of them as rows.
 pub const VALUES: [u8; 16] = [0, 1, 2, 3, 4, 5, 6, 7, 8, 9, 10, 11, 12, 13, 14, 15];

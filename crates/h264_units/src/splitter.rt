@@ -27,7 +27,14 @@ impl Model for Splitter {
 
     ghost Value = { Splitting };
 
-    ghost view = { λ s. record { at = s.at; rest = rest_of s.phase s.lead s.body.items; waiting = waits s.phase; ended = has_ended s.phase; stop = s.stop } };
+    ghost view = { λ s. record {
+      at = s.at;
+      rest = rest_of s.phase s.lead s.body.items;
+      waiting = waits s.phase;
+      ended = has_ended s.phase;
+      stop =
+          s.stop;
+    } };
 
     ghost invariant = { λ s. IsKept s.phase s.at s.lead s.body.items × IsLive s.stop s.phase };
 }

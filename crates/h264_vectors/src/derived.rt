@@ -88,7 +88,9 @@ pub fn derive(
     requires high { 0 < part.high }
     requires index { index < 16 }
     requires usable { Usable slice.now }
-    ensures { (width : ℕ) (picture : List CodedMacroblock) (places : List Bool) (d : Derived) → Keeps width picture near.now → Agrees fits motions.old places d → Agrees result motions.new (places_with places part) (derived.derive width slice.now picture d part index across down) }
+    ensures { (width : ℕ) (picture : List CodedMacroblock) (places : List Bool) (d : Derived) → Keeps width picture near.now →
+        Agrees fits motions.old places d → Agrees result motions.new (places_with places part)
+        (derived.derive width slice.now picture d part index across down) }
 {
     if !fits {
         return false;

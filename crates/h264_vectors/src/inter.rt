@@ -79,7 +79,9 @@ fn read_part<S: Elements>(
     requires index { index < 16 }
     requires usable { Usable slice.now }
     requires room { S.failures sink.old < 2 ^ 64 - 1 }
-    ensures meets { (width : ℕ) (picture : List CodedMacroblock) (places : List Bool) (d : Derived) → Keeps width picture near.now → Agrees fits motions.old places d → Meets S.took S.failures (λ w next. Agrees w motions.new (places_with places part) next) (syntax.part_motion width slice.now picture part index d) bits.old bits.new sink.old sink.new result }
+    ensures meets { (width : ℕ) (picture : List CodedMacroblock) (places : List Bool) (d : Derived) → Keeps width picture near.now →
+        Agrees fits motions.old places d → Meets S.took S.failures (λ w next. Agrees w motions.new (places_with places part) next)
+        (syntax.part_motion width slice.now picture part index d) bits.old bits.new sink.old sink.new result }
     ensures quiet { OnOk result (S.failures sink.new ≡ S.failures sink.old) }
 {
     let across = read_se(bits, ElementName::MvdL0, sink)?;
@@ -117,7 +119,9 @@ fn read_pair<S: Elements>(
     requires index { index < 16 }
     requires usable { Usable slice.now }
     requires room { S.failures sink.old < 2 ^ 64 - 1 }
-    ensures meets { (width : ℕ) (picture : List CodedMacroblock) (places : List Bool) (d : Derived) → Keeps width picture near.now → Agrees fits motions.old places d → Meets S.took S.failures (λ w next. Agrees w motions.new (places_after places (p ∷ q ∷ [])) next) (syntax.part_motions width slice.now picture index (p ∷ q ∷ []) d) bits.old bits.new sink.old sink.new result }
+    ensures meets { (width : ℕ) (picture : List CodedMacroblock) (places : List Bool) (d : Derived) → Keeps width picture near.now →
+        Agrees fits motions.old places d → Meets S.took S.failures (λ w next. Agrees w motions.new (places_after places (p ∷ q ∷ [])) next)
+        (syntax.part_motions width slice.now picture index (p ∷ q ∷ []) d) bits.old bits.new sink.old sink.new result }
     ensures quiet { OnOk result (S.failures sink.new ≡ S.failures sink.old) }
 {
     let first = read_part(bits, near, slice, p, index, fits, motions, sink)?;
@@ -142,7 +146,10 @@ fn read_four<S: Elements>(
     requires index { index < 16 }
     requires usable { Usable slice.now }
     requires room { S.failures sink.old < 2 ^ 64 - 1 }
-    ensures meets { (width : ℕ) (picture : List CodedMacroblock) (places : List Bool) (d : Derived) → Keeps width picture near.now → Agrees fits motions.old places d → Meets S.took S.failures (λ w next. Agrees w motions.new (places_after places (derived.sub_parts_of x y 3)) next) (syntax.part_motions width slice.now picture index (derived.sub_parts_of x y 3) d) bits.old bits.new sink.old sink.new result }
+    ensures meets { (width : ℕ) (picture : List CodedMacroblock) (places : List Bool) (d : Derived) → Keeps width picture near.now →
+        Agrees fits motions.old places d → Meets S.took S.failures
+        (λ w next. Agrees w motions.new (places_after places (derived.sub_parts_of x y 3)) next)
+        (syntax.part_motions width slice.now picture index (derived.sub_parts_of x y 3) d) bits.old bits.new sink.old sink.new result }
     ensures quiet { OnOk result (S.failures sink.new ≡ S.failures sink.old) }
 {
     let a = Part {
@@ -198,7 +205,10 @@ fn read_quarter<S: Elements>(
     requires index { index < 16 }
     requires usable { Usable slice.now }
     requires room { S.failures sink.old < 2 ^ 64 - 1 }
-    ensures meets { (width : ℕ) (picture : List CodedMacroblock) (places : List Bool) (d : Derived) → Keeps width picture near.now → Agrees fits motions.old places d → Meets S.took S.failures (λ w next. Agrees w motions.new (places_after places (derived.sub_parts_of x y kind)) next) (syntax.part_motions width slice.now picture index (derived.sub_parts_of x y kind) d) bits.old bits.new sink.old sink.new result }
+    ensures meets { (width : ℕ) (picture : List CodedMacroblock) (places : List Bool) (d : Derived) → Keeps width picture near.now →
+        Agrees fits motions.old places d → Meets S.took S.failures
+        (λ w next. Agrees w motions.new (places_after places (derived.sub_parts_of x y kind)) next)
+        (syntax.part_motions width slice.now picture index (derived.sub_parts_of x y kind) d) bits.old bits.new sink.old sink.new result }
     ensures quiet { OnOk result (S.failures sink.new ≡ S.failures sink.old) }
 {
     if kind == 0 {
@@ -266,7 +276,10 @@ fn read_quarters<S: Elements>(
     requires fourth { indices.3 < 16 }
     requires usable { Usable slice.now }
     requires room { S.failures sink.old < 2 ^ 64 - 1 }
-    ensures meets { (width : ℕ) (picture : List CodedMacroblock) → Keeps width picture near.now → Meets S.took S.failures (λ w next. Agrees w motions.new (replicate 16 true) next) (syntax.quarters width slice.now picture kinds.0 kinds.1 kinds.2 kinds.3 indices.0 indices.1 indices.2 indices.3) bits.old bits.new sink.old sink.new result }
+    ensures meets { (width : ℕ) (picture : List CodedMacroblock) → Keeps width picture near.now →
+        Meets S.took S.failures (λ w next. Agrees w motions.new (replicate 16 true) next)
+        (syntax.quarters width slice.now picture kinds.0 kinds.1 kinds.2 kinds.3 indices.0 indices.1 indices.2 indices.3) bits.old bits.new sink.old
+        sink.new result }
     ensures quiet { OnOk result (S.failures sink.new ≡ S.failures sink.old) }
 {
     let a = read_quarter(
@@ -296,7 +309,9 @@ fn read_split<S: Elements>(
     requires some { inferred ≡ false → 1 < slice.now.active }
     requires usable { Usable slice.now }
     requires room { S.failures sink.old < 2 ^ 64 - 1 }
-    ensures meets { (width : ℕ) (picture : List CodedMacroblock) → Keeps width picture near.now → Meets S.took S.failures (λ w next. Agrees w motions.new (replicate 16 true) next) (syntax.split_parts width slice.now picture inferred) bits.old bits.new sink.old sink.new result }
+    ensures meets { (width : ℕ) (picture : List CodedMacroblock) → Keeps width picture near.now →
+        Meets S.took S.failures (λ w next. Agrees w motions.new (replicate 16 true) next)
+        (syntax.split_parts width slice.now picture inferred) bits.old bits.new sink.old sink.new result }
     ensures quiet { OnOk result (S.failures sink.new ≡ S.failures sink.old) }
 {
     let t0 = ue_up_to(bits, ElementName::SubMbType, 3, sink)?;
@@ -331,7 +346,9 @@ fn read_one_part<S: Elements>(
     requires some { inferred ≡ false → 1 < slice.now.active }
     requires usable { Usable slice.now }
     requires room { S.failures sink.old < 2 ^ 64 - 1 }
-    ensures meets { (width : ℕ) (picture : List CodedMacroblock) → Keeps width picture near.now → Meets S.took S.failures (λ w next. Agrees w motions.new (replicate 16 true) next) (syntax.one_part width slice.now picture inferred (derived.part 0 0 4 4 direction.Median)) bits.old bits.new sink.old sink.new result }
+    ensures meets { (width : ℕ) (picture : List CodedMacroblock) → Keeps width picture near.now →
+        Meets S.took S.failures (λ w next. Agrees w motions.new (replicate 16 true) next)
+        (syntax.one_part width slice.now picture inferred (derived.part 0 0 4 4 direction.Median)) bits.old bits.new sink.old sink.new result }
     ensures quiet { OnOk result (S.failures sink.new ≡ S.failures sink.old) }
 {
     let i = read_ref_index(bits, slice, inferred, sink)?;
@@ -366,7 +383,9 @@ fn read_two_parts<S: Elements>(
     requires some { inferred ≡ false → 1 < slice.now.active }
     requires usable { Usable slice.now }
     requires room { S.failures sink.old < 2 ^ 64 - 1 }
-    ensures meets { (width : ℕ) (picture : List CodedMacroblock) → Keeps width picture near.now → Meets S.took S.failures (λ w next. Agrees w motions.new (places_after (replicate 16 false) (p ∷ q ∷ [])) next) (syntax.two_parts width slice.now picture inferred p q) bits.old bits.new sink.old sink.new result }
+    ensures meets { (width : ℕ) (picture : List CodedMacroblock) → Keeps width picture near.now →
+        Meets S.took S.failures (λ w next. Agrees w motions.new (places_after (replicate 16 false) (p ∷ q ∷ [])) next)
+        (syntax.two_parts width slice.now picture inferred p q) bits.old bits.new sink.old sink.new result }
     ensures quiet { OnOk result (S.failures sink.new ≡ S.failures sink.old) }
 {
     let i = read_ref_index(bits, slice, inferred, sink)?;
@@ -389,7 +408,9 @@ fn read_motions_by<S: Elements>(
     requires some { inferred ≡ false → 1 < slice.now.active }
     requires usable { Usable slice.now }
     requires room { S.failures sink.old < 2 ^ 64 - 1 }
-    ensures meets { (width : ℕ) (picture : List CodedMacroblock) → Keeps width picture near.now → Meets S.took S.failures (λ w next. Agrees w motions.new (replicate 16 true) next) (syntax.motions_by width slice.now picture inferred kind) bits.old bits.new sink.old sink.new result }
+    ensures meets { (width : ℕ) (picture : List CodedMacroblock) → Keeps width picture near.now →
+        Meets S.took S.failures (λ w next. Agrees w motions.new (replicate 16 true) next)
+        (syntax.motions_by width slice.now picture inferred kind) bits.old bits.new sink.old sink.new result }
     ensures quiet { OnOk result (S.failures sink.new ≡ S.failures sink.old) }
 {
     if kind == 0 {
@@ -472,7 +493,9 @@ pub fn read_motions<S: Elements>(
     requires none { motions.old ≡ replicate 16 None }
     requires usable { Usable slice.now }
     requires room { S.failures sink.old < 2 ^ 64 - 1 }
-    ensures meets { (width : ℕ) (picture : List CodedMacroblock) → Keeps width picture near.now → Meets S.took S.failures (λ w next. Agrees w motions.new (replicate 16 true) next) (syntax.motions width slice.now picture bit kind) bits.old bits.new sink.old sink.new result }
+    ensures meets { (width : ℕ) (picture : List CodedMacroblock) → Keeps width picture near.now →
+        Meets S.took S.failures (λ w next. Agrees w motions.new (replicate 16 true) next)
+        (syntax.motions width slice.now picture bit kind) bits.old bits.new sink.old sink.new result }
     ensures quiet { OnOk result (S.failures sink.new ≡ S.failures sink.old) }
 {
     let inferred = is_inferred(slice, kind);

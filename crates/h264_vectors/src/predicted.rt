@@ -151,7 +151,8 @@ pub fn predicted_vector(
 ) -> Vector
     requires columns { x + wide ≤ 4 }
     requires rows { y < 4 }
-    ensures { (width : ℕ) (picture : List CodedMacroblock) → Keeps width picture near.now → result ≡ syntax.predicted_vector width picture slice motions.now direction ref_idx x y wide }
+    ensures { (width : ℕ) (picture : List CodedMacroblock) → Keeps width picture near.now →
+        result ≡ syntax.predicted_vector width picture slice motions.now direction ref_idx x y wide }
 {
     let a = near.neighbour(slice, motions, x, y + 1);
     let b = near.neighbour(slice, motions, x + 1, y);

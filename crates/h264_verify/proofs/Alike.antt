@@ -26,9 +26,9 @@ use Rattle.h264_picture.specs.Sources.{Sources, IsSharedBy, AreSharedBy, AreShar
 use Rattle.h264_picture.specs.Table.{table}
 use Rattle.h264_picture.proofs.Sources.{decoded-shared}
 use Rattle.h264_picture.proofs.Unique.{one_decoded}
-use Rattle.h264_slices.specs.Pictures.{CodedSlice, CodedPicture, last_in, last_slice}
-use Rattle.h264_slices.specs.Lists.{context_in, named_in}
-use Rattle.h264_slices.specs.Decoding.{slices_of, EachSlice, number_of, parameters_of, Refers, IsDecoded}
+use Rattle.h264_verify.specs.Pictures.{CodedSlice, CodedPicture, last_in, last_slice}
+use Rattle.h264_verify.specs.Lists.{context_in, named_in}
+use Rattle.h264_verify.specs.Decoding.{slices_of, EachSlice, number_of, parameters_of, Refers, IsDecoded}
 use Rattle.h264_verify.specs.Family.{HaveSameSamples}
 
 -- ---- the slices of a picture, the last one first, as they were read

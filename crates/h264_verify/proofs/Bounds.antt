@@ -1,19 +1,19 @@
 -- What the verdict says of predictions and of the buffer, at each picture of a stream.
 use Rattle.std.proofs.Common.{◌≡◌, ℕ, Bool, true, false, List, [], ◌∷◌, ◌++◌, refl, sym, ◌∙◌, subst, arith, append_assoc}
-use Rattle.h264_judge.specs.Units.{terms_of}
+use Rattle.h264_verify.specs.Units.{terms_of}
 use Rattle.h264_base.specs.declared.mode.Target.{Target}
 use Rattle.h264_base.specs.declared.mode.Mode.{Mode}
 use Rattle.h264_base.specs.declared.mode.Mode.TheVariants as modes
-use Rattle.h264_judge.specs.declared.state.Summary.{Summary}
-use Rattle.h264_slices.specs.Telling.{Told}
-use Rattle.h264_slices.specs.History.{History}
-use Rattle.h264_slices.specs.Steps.{AreMet}
-use Rattle.h264_judge.specs.Units.{end_steps}
-use Rattle.h264_slices.specs.Pictures.{CodedPicture, goes_on, held_in, runs_of}
-use Rattle.h264_slices.specs.Buffering.{within_newest}
-use Rattle.h264_slices.specs.Keeping.{ended_pictures}
-use Rattle.h264_slices.specs.Sound.{AreSound, has_ended}
-use Rattle.h264_slices.specs.Held.{AreAmong}
+use Rattle.h264_verify.specs.declared.state.Summary.{Summary}
+use Rattle.h264_verify.specs.Telling.{Told}
+use Rattle.h264_verify.specs.History.{History}
+use Rattle.h264_verify.specs.Steps.{AreMet}
+use Rattle.h264_verify.specs.Units.{end_steps}
+use Rattle.h264_verify.specs.Pictures.{CodedPicture, goes_on, held_in, runs_of}
+use Rattle.h264_verify.specs.Buffering.{within_newest}
+use Rattle.h264_verify.specs.Keeping.{ended_pictures}
+use Rattle.h264_verify.specs.Sound.{AreSound, has_ended}
+use Rattle.h264_verify.specs.Held.{AreAmong}
 use Rattle.h264_verify.specs.Predicting.{ArePredicted}
 use Rattle.h264_verify.specs.Within.{DecodesWithin, EndsWithin}
 use Rattle.h264_verify.specs.Decodable.{IsDecodable, EachIsDecodable, AreDecodable}
@@ -23,8 +23,8 @@ use Rattle.h264_verify.proofs.Leaving.{stands, all-sound}
 use Rattle.h264_verify.proofs.Named.{AreRead}
 use Rattle.h264_verify.proofs.Predicting.{read-at, are-predicted}
 use Rattle.h264_verify.proofs.Soundness.{ended-are, sound-at, ended-at}
-use Rattle.h264_slices.proofs.Sound.{size-fits}
-use Rattle.h264_slices.proofs.Referring.{among-within}
+use Rattle.h264_verify.proofs.Sound.{size-fits}
+use Rattle.h264_verify.proofs.Referring.{among-within}
 use Rattle.h264_verify.proofs.Within.{after-sits, newest-sits, filling-sits}
 
 decodes-within : (ended : Bool) (p : CodedPicture) (ps : List CodedPicture) → AreSound ended (p ∷ ps) → DecodesWithin p ps

@@ -1,6 +1,6 @@
 -- What a course has told, wherever it stops: a property of calls that its parts keep.
 use Rattle.std.proofs.Common.{ℕ, ◌*◌, List, [], ◌∷◌, ◌++◌, length, inl, inr, Result, Err, sym, subst}
-use Rattle.h264_judge.specs.Units.{terms_of}
+use Rattle.h264_verify.specs.Units.{terms_of}
 use Rattle.h264_base.specs.declared.mode.Target.{Target}
 use Rattle.h264_base.specs.declared.mode.Mode.TheVariants as modes
 use Rattle.h264_base.specs.declared.stop.Stop.{Stop}
@@ -10,15 +10,15 @@ use Rattle.h264_base.specs.Grammar.{Element}
 use Rattle.h264_rbsp.specs.Rbsp.{body_of}
 use Rattle.h264_units.specs.Stream.{NalUnit}
 use Rattle.h264_header.specs.declared.header.Header.{Header}
-use Rattle.h264_slices.specs.Telling.{Told, Said}
-use Rattle.h264_slices.specs.Content.{Content}
-use Rattle.h264_slices.specs.Content as contents
-use Rattle.h264_slices.specs.Demands.{Demand}
-use Rattle.h264_slices.specs.Steps.{Step, Tells, needs, AreMet, IsFirstStop, Course, Takes, Reads, Ends, told, Runs}
-use Rattle.h264_slices.specs.UnitHeader.{header_of, header_demands}
-use Rattle.h264_slices.specs.History.{History}
-use Rattle.h264_slices.specs.Slices.{slice_steps}
-use Rattle.h264_judge.specs.Units.{unit_call, content_steps, data_course, unit_course}
+use Rattle.h264_verify.specs.Telling.{Told, Said}
+use Rattle.h264_verify.specs.Content.{Content}
+use Rattle.h264_verify.specs.Content as contents
+use Rattle.h264_verify.specs.Demands.{Demand}
+use Rattle.h264_verify.specs.Steps.{Step, Tells, needs, AreMet, IsFirstStop, Course, Takes, Reads, Ends, told, Runs}
+use Rattle.h264_verify.specs.UnitHeader.{header_of, header_demands}
+use Rattle.h264_verify.specs.History.{History}
+use Rattle.h264_verify.specs.Slices.{slice_steps}
+use Rattle.h264_verify.specs.Units.{unit_call, content_steps, data_course, unit_course}
 use Rattle.h264_verify.specs.Verdict.{IsStop, AtBytes, InCourse}
 use Rattle.h264_verify.proofs.Legal.{end_steps_at}
 

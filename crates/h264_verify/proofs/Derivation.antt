@@ -3,13 +3,13 @@ use Rattle.std.proofs.Common.{◌≡◌, ℕ, List, [], ◌∷◌, ◌++◌, len
 use Rattle.h264_base.specs.declared.stop.Stop.{Stop}
 use Rattle.h264_units.specs.Stream.{NalUnit, Tail, Zeros}
 use Rattle.h264_units.proofs.Streams.{same-units}
-use Rattle.h264_judge.specs.declared.state.Summary.{Summary}
-use Rattle.h264_judge.specs.declared.state.Terms.{Terms}
-use Rattle.h264_judge.specs.UnitOutcome.{unit_outcome}
-use Rattle.h264_slices.specs.Telling.{Told}
-use Rattle.h264_slices.specs.Outcome.{Outcome}
-use Rattle.h264_slices.specs.History.{History}
-use Rattle.h264_slices.proofs.Stepping.{outcome}
+use Rattle.h264_verify.specs.declared.state.Summary.{Summary}
+use Rattle.h264_verify.specs.declared.state.Terms.{Terms}
+use Rattle.h264_verify.specs.UnitOutcome.{unit_outcome}
+use Rattle.h264_verify.specs.Telling.{Told}
+use Rattle.h264_verify.specs.Outcome.{Outcome}
+use Rattle.h264_verify.specs.History.{History}
+use Rattle.h264_verify.proofs.Stepping.{outcome}
 use Rattle.h264_verify.specs.Judging.{judging}
 use Rattle.h264_verify.specs.Session.{Leads}
 use Rattle.h264_verify.specs.Verdict.{in_order, AreLegal, Holds, IsStopBehind, AtNext, AtTail, AtEnd, StopsAt}

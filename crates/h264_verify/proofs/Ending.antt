@@ -1,6 +1,6 @@
 -- Each picture of whose end is told has met its marking before: the buffer stays within its places.
 use Rattle.std.proofs.Common.{◌≡◌, ℕ, ◌*◌, Bool, true, false, IsTrue, List, [], ◌∷◌, ◌++◌, length, inl, inr, Option, Some, None, Result, Ok, Err, sym, subst, if◌then◌else◌}
-use Rattle.h264_judge.specs.Units.{terms_of}
+use Rattle.h264_verify.specs.Units.{terms_of}
 use Rattle.h264_base.specs.declared.mode.Target.{Target}
 use Rattle.h264_base.specs.declared.mode.Mode.TheVariants as modes
 use Rattle.h264_base.specs.declared.stop.Stop.{Stop}
@@ -20,18 +20,18 @@ use Rattle.h264_dpb.specs.declared.entry.Entry.{Entry}
 use Rattle.h264_dpb.specs.Buffered.{Buffered}
 use Rattle.h264_dpb.specs.Turns.{Shown, missing_turn, last_turn}
 use Rattle.h264_sets.specs.Sets.{Maps}
-use Rattle.h264_judge.specs.declared.state.Summary.{Summary}
-use Rattle.h264_slices.specs.Telling.{Told, Said, Decodes, Shows}
-use Rattle.h264_slices.specs.Demands.{Demand}
-use Rattle.h264_slices.specs.Steps.{Step, Needs, Tells, needs, AreMet, IsFirstStop, told}
-use Rattle.h264_slices.specs.UnitHeader.{header_of, nal_unit_type}
-use Rattle.h264_slices.specs.History.{History, maps_of}
-use Rattle.h264_slices.specs.Pictures.{CodedSlice, CodedPicture, ends_picture, with_sets, sets_at, goes_on, held_after, joined_to, runs_of, begins_at, prev_ref_frame_num_of, end_of_picture, closing_at, closing_demands}
-use Rattle.h264_slices.specs.Closing.{whole_picture, whole_steps, whole_at}
-use Rattle.h264_slices.specs.Buffering.{ended_turn, after_all, within_newest, missing_before, missing_on, missing_steps, told_frames, end_frames, closing_frames, last_frames}
-use Rattle.h264_slices.specs.Slices.{is_idr_due, new_num_demand, rules_of, slice_call, steps_by, slice_steps}
-use Rattle.h264_slices.specs.Sound.{AreSound, has_ended}
-use Rattle.h264_judge.specs.Units.{frames_at, unit_course, picture_demand, end_steps}
+use Rattle.h264_verify.specs.declared.state.Summary.{Summary}
+use Rattle.h264_verify.specs.Telling.{Told, Said, Decodes, Shows}
+use Rattle.h264_verify.specs.Demands.{Demand}
+use Rattle.h264_verify.specs.Steps.{Step, Needs, Tells, needs, AreMet, IsFirstStop, told}
+use Rattle.h264_verify.specs.UnitHeader.{header_of, nal_unit_type}
+use Rattle.h264_verify.specs.History.{History, maps_of}
+use Rattle.h264_verify.specs.Pictures.{CodedSlice, CodedPicture, ends_picture, with_sets, sets_at, goes_on, held_after, joined_to, runs_of, begins_at, prev_ref_frame_num_of, end_of_picture, closing_at, closing_demands}
+use Rattle.h264_verify.specs.Closing.{whole_picture, whole_steps, whole_at}
+use Rattle.h264_verify.specs.Buffering.{ended_turn, after_all, within_newest, missing_before, missing_on, missing_steps, told_frames, end_frames, closing_frames, last_frames}
+use Rattle.h264_verify.specs.Slices.{is_idr_due, new_num_demand, rules_of, slice_call, steps_by, slice_steps}
+use Rattle.h264_verify.specs.Sound.{AreSound, has_ended}
+use Rattle.h264_verify.specs.Units.{frames_at, unit_course, picture_demand, end_steps}
 use Rattle.h264_verify.specs.Within.{EndsWithin}
 use Rattle.h264_verify.specs.Verdict.{AreLegal, IsStopBehind, AtNext, AtTail, AtEnd, Verdict}
 use Rattle.h264_verify.proofs.Legal.{Met, end_steps_at}

@@ -2,33 +2,33 @@
 use Rattle.std.proofs.Common.{◌≡◌, ℕ, ◌≤◌, ◌==◌, ◌||◌, ◌&&◌, Bool, true, false, IsFalse, drop, List, [], ◌++◌, length, ◌+◌, ◌*◌, ◌⊎◌, inl, inr, Option, Result, Ok, Err, refl, ap, sym, ◌∙◌, subst, arith}
 use Rattle.std.proofs.lemmas.Bool.{eqb-true}
 use Rattle.std.proofs.lemmas.List.{nil_from_length}
-use Rattle.h264_judge.specs.declared.state.Terms.{Terms}
+use Rattle.h264_verify.specs.declared.state.Terms.{Terms}
 use Rattle.h264_base.specs.declared.stop.Stop.{Stop}
 use Rattle.h264_base.specs.declared.stop.Stop.TheVariants.{No, Outside, Memory, Read, Write}
 use Rattle.h264_base.specs.Call.{Call}
 use Rattle.h264_plane.specs.declared.frame.Frame.{Frame}
 use Rattle.h264_units.specs.Stream.{NalUnit, Next}
 use Rattle.h264_units.specs.Splitting.{Splitting, Pushed, Taken, Finished}
-use Rattle.h264_judge.specs.declared.state.State.{State}
-use Rattle.h264_judge.specs.declared.state.Summary.{Summary}
-use Rattle.h264_slices.specs.Outcome.{Plays}
-use Rattle.h264_slices.specs.Telling.{Told, took_with, Agree, AreOf}
+use Rattle.h264_verify.specs.declared.state.State.{State}
+use Rattle.h264_verify.specs.declared.state.Summary.{Summary}
+use Rattle.h264_verify.specs.Outcome.{Plays}
+use Rattle.h264_verify.specs.Telling.{Told, took_with, Agree, AreOf}
 use Rattle.h264_verify.specs.Judging.{Judging, judging}
 use Rattle.h264_verify.specs.Session.{Standing, Goes, Fed, StopsBy}
-use Rattle.h264_slices.specs.History.{History}
-use Rattle.h264_judge.specs.Keeping.{Keeps, KeepsSome}
-use Rattle.h264_slices.specs.Keeping.{ended_in}
-use Rattle.h264_judge.specs.UnitOutcome.{unit_outcome, end_outcome}
-use Rattle.h264_judge.specs.Turning.{Turns, EndsAll}
+use Rattle.h264_verify.specs.History.{History}
+use Rattle.h264_verify.specs.KeepingUnits.{Keeps, KeepsSome}
+use Rattle.h264_verify.specs.Keeping.{ended_in}
+use Rattle.h264_verify.specs.UnitOutcome.{unit_outcome, end_outcome}
+use Rattle.h264_verify.specs.Turning.{Turns, EndsAll}
 use Rattle.h264_verify.specs.Feeding.{behind, GoesOn, StopsOn, FinishesOn}
 use Rattle.h264_verify.specs.Verdict.{SameTold}
-use Rattle.h264_judge.proofs.Agreeing.{of-more, of-both, calls-agree, decoded-told-agree, tells-agree, plays-agree}
-use Rattle.h264_judge.specs.Memory.{is_read, ChangesFormat}
-use Rattle.h264_judge.specs.Units.{is_slice}
-use Rattle.h264_slices.specs.UnitHeader.{header_of, nal_unit_type}
+use Rattle.h264_verify.proofs.AgreeingUnits.{of-more, of-both, calls-agree, decoded-told-agree, tells-agree, plays-agree}
+use Rattle.h264_verify.specs.Memory.{is_read, ChangesFormat}
+use Rattle.h264_verify.specs.Units.{is_slice}
+use Rattle.h264_verify.specs.UnitHeader.{header_of, nal_unit_type}
 use Rattle.h264_base.specs.declared.mode.Mode.{Mode}
 use Rattle.h264_verify.specs.Progress.{LastIsRead}
-use Rattle.h264_judge.proofs.Growing.{unit-grows}
+use Rattle.h264_verify.proofs.Growing.{unit-grows}
 use Rattle.h264_verify.proofs.Finishing.{finish-unit, finish-bytes}
 use Rattle.h264_verify.proofs.Feeding.{memory-stops, goes-push, goes-unit, goes-none-taken, goes-both, goes-none, stops-after}
 use Rattle.h264_verify.proofs.Sources.{goes-more}

@@ -1,19 +1,19 @@
 -- A stream has one family of frames.
 use Rattle.std.proofs.Common.{ℕ, Bool, true, false, List, [], ◌∷◌, length, inl, inr, sym, subst}
-use Rattle.h264_judge.specs.Units.{terms_of}
+use Rattle.h264_verify.specs.Units.{terms_of}
 use Rattle.h264_base.specs.declared.mode.Target.{Target}
 use Rattle.h264_base.specs.declared.mode.Mode.TheVariants as modes
 use Rattle.h264_sps.specs.declared.sps.FrameSize.{FrameSize}
 use Rattle.h264_plane.specs.declared.frame.Frame.{Frame}
-use Rattle.h264_judge.specs.declared.state.Summary.{Summary}
-use Rattle.h264_slices.specs.Telling.{Told, AreDecoded}
-use Rattle.h264_slices.specs.History.{History}
-use Rattle.h264_slices.specs.Pictures.{CodedPicture, goes_on, runs_of}
-use Rattle.h264_slices.specs.Decoding.{slices_of}
-use Rattle.h264_slices.specs.Keeping.{ended_pictures}
+use Rattle.h264_verify.specs.declared.state.Summary.{Summary}
+use Rattle.h264_verify.specs.Telling.{Told, AreDecoded}
+use Rattle.h264_verify.specs.History.{History}
+use Rattle.h264_verify.specs.Pictures.{CodedPicture, goes_on, runs_of}
+use Rattle.h264_verify.specs.Decoding.{slices_of}
+use Rattle.h264_verify.specs.Keeping.{ended_pictures}
 use Rattle.h264_verify.specs.Verdict.{AreLegal, Holds}
 use Rattle.h264_verify.specs.Family.{HaveSameSamples, AreSameOn}
-use Rattle.h264_slices.proofs.Agreeing.{each-slice}
+use Rattle.h264_verify.proofs.Agreeing.{each-slice}
 use Rattle.h264_verify.proofs.Alike.{alike}
 use Rattle.h264_verify.proofs.Leaving.{HaveFrames, stands, all-frames}
 use Rattle.h264_verify.proofs.Named.{AreRead, HasSize, names-size}

@@ -3,15 +3,15 @@ use Rattle.std.proofs.Common.{◌≡◌, ℕ, ◌+◌, ◌*◌, IsFalse, List, [
 use Rattle.std.proofs.lemmas.List.{append-nil, take-append-drop}
 use Rattle.h264_base.specs.declared.stop.Stop.{Stop}
 use Rattle.h264_base.specs.declared.stop.Stop.TheVariants.{No, Outside, Memory, Read, Write}
-use Rattle.h264_slices.specs.Telling.{Told, Tells, TellsFront}
+use Rattle.h264_verify.specs.Telling.{Told, Tells, TellsFront}
 use Rattle.h264_units.specs.Stream.{NalUnit, Next, past, Tail, HasTail, Splits, tail_stop}
 use Rattle.h264_units.specs.Splitting.{Splitting, Refused, Pushed, PushStops, Taken}
 use Rattle.h264_units.proofs.Streams.{same-units, same-first, first-length, first-not-tail, splits-after}
-use Rattle.h264_slices.specs.Outcome.{Outcome, ◌>>=◌, answers, with_calls, goes_on, Plays, PlaysBy}
+use Rattle.h264_verify.specs.Outcome.{Outcome, ◌>>=◌, answers, with_calls, goes_on, Plays, PlaysBy}
 use Rattle.h264_verify.specs.Judging.{Judging, unless, tail_outcome, units_outcome, Comes}
 use Rattle.h264_verify.specs.Session.{Standing, ToCome, Goes, Ends, Begins, Stops, StopsBy}
 use Rattle.h264_verify.proofs.Lacking.{lacks-bytes, lacks-unit, lacks-after}
-use Rattle.h264_slices.proofs.Tellings.{tells-none, tells-both}
+use Rattle.h264_verify.proofs.Tellings.{tells-none, tells-both}
 use Rattle.h264_verify.proofs.Ways.{splits-first, way-none, way-push, way-unit, way-both}
 
 -- the same bytes

@@ -3,17 +3,17 @@ use Rattle.std.proofs.Common.{◌≡◌, ℕ, ◌+◌, ◌*◌, ◌⊎◌, inl, 
 use Rattle.std.proofs.lemmas.List.{append-nil}
 use Rattle.h264_base.specs.declared.stop.Stop.{Stop}
 use Rattle.h264_base.specs.declared.stop.Stop.TheVariants.{No, Outside, Memory, Read, Write}
-use Rattle.h264_slices.specs.Telling.{Told}
+use Rattle.h264_verify.specs.Telling.{Told}
 use Rattle.h264_units.specs.Stream.{NalUnit, Next, past, Tail, Splits, Zeros, Stray, Bare, Long, Cut, HasTail, tail_stop}
 use Rattle.h264_units.specs.Splitting.{Splitting, Taken, Finished, FinishStops}
 use Rattle.h264_units.proofs.Streams.{same-units}
-use Rattle.h264_slices.specs.Outcome.{Outcome, ◌>>=◌, answers, Plays, PlaysBy, IsNamed}
+use Rattle.h264_verify.specs.Outcome.{Outcome, ◌>>=◌, answers, Plays, PlaysBy, IsNamed}
 use Rattle.h264_verify.specs.Judging.{Judging, tail_outcome, units_outcome, Comes}
 use Rattle.h264_verify.specs.Session.{Standing, ToCome, Lacking, Finishes}
 use Rattle.h264_verify.proofs.Ways.{splits-first}
 use Rattle.h264_verify.proofs.Lacking.{same-stop, lacks-bytes, lacks-unit}
 use Rattle.h264_verify.proofs.Feeding.{tail-answer, tail-stops, first-judged}
-use Rattle.h264_slices.proofs.Playing.{memory-plays, plays-stops, plays-on, plays-not-read, plays-write, answers-plays}
+use Rattle.h264_verify.proofs.Playing.{memory-plays, plays-stops, plays-on, plays-not-read, plays-write, answers-plays}
 
 nothing-more : {State Summary : Type 0} (j : Judging State Summary) (p : Standing State) (o : Outcome Summary) → ToCome j p [] o → Comes j p.split.at p.state p.split.rest o
 nothing-more j p o c = subst (λ l. Comes j p.split.at p.state l o) (append-nil p.split.rest) c

@@ -1,7 +1,7 @@
 -- A source whose bytes are not known: what it gave so far is judged as a stream of those bytes.
 use Rattle.std.proofs.Common.{◌≡◌, ℕ, zero, suc, List, [], ◌∷◌, ◌++◌, take, drop, Some, refl, ap, sym, ◌∙◌, subst, Err}
 use Rattle.std.proofs.lemmas.List.{append-nil}
-use Rattle.h264_judge.specs.declared.state.Terms.{Terms}
+use Rattle.h264_verify.specs.declared.state.Terms.{Terms}
 use Rattle.h264_base.specs.declared.stop.Stop.{Stop}
 use Rattle.h264_base.specs.declared.stop.Stop.TheVariants.{Read}
 use Rattle.h264_base.specs.Call.{Call}

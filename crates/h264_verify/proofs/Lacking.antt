@@ -3,8 +3,8 @@ use Rattle.std.proofs.Common.{◌≡◌, ℕ, List, [], ◌∷◌, ◌++◌, Res
 use Rattle.h264_base.specs.declared.stop.Stop.{Stop}
 use Rattle.h264_base.specs.declared.stop.Stop.TheVariants.{No, Outside, Memory, Read, Write}
 use Rattle.h264_units.specs.Stream.{NalUnit, Tail, Splits}
-use Rattle.h264_slices.specs.Telling.{Told, Tells}
-use Rattle.h264_slices.proofs.Tellings.{tells-none, tells-both}
+use Rattle.h264_verify.specs.Telling.{Told, Tells}
+use Rattle.h264_verify.proofs.Tellings.{tells-none, tells-both}
 use Rattle.h264_verify.specs.Judging.{Judging}
 use Rattle.h264_verify.specs.Session.{Standing, Goes, StopsBy, ForBytes, ForUnit, Lacking}
 use Rattle.h264_verify.proofs.Ways.{splits-shown, leads-both}

@@ -1,7 +1,7 @@
 -- What legal units leave: slices that were read, pictures that are sound, and frames of those that have ended.
 use Rattle.std.proofs.Common.{◌≡◌, ℕ, ◌*◌, ◌||◌, ◌&&◌, not, Bool, true, false, List, [], ◌∷◌, ◌++◌, length, Option, Some, None, Ok, refl, sym, ◌∙◌, subst, if◌then◌else◌}
 use Rattle.std.specs.Option.{is_some}
-use Rattle.h264_judge.specs.Units.{terms_of}
+use Rattle.h264_verify.specs.Units.{terms_of}
 use Rattle.h264_base.specs.declared.mode.Target.{Target}
 use Rattle.h264_base.specs.declared.mode.Mode.TheVariants as modes
 use Rattle.h264_base.specs.Grammar.{Done, ◌>>=◌}
@@ -20,33 +20,33 @@ use Rattle.h264_vectors.specs.declared.slice.SliceContext.{SliceContext}
 use Rattle.h264_picture.specs.Context.{slice_context}
 use Rattle.h264_picture.specs.Levels.{transform_fits}
 use Rattle.h264_plane.specs.declared.frame.Frame.{Frame}
-use Rattle.h264_judge.specs.declared.state.Summary.{Summary}
-use Rattle.h264_slices.specs.Telling.{Told, Said, HasFrame, AreDecoded}
-use Rattle.h264_slices.specs.Content.{Content}
-use Rattle.h264_slices.specs.Content as contents
-use Rattle.h264_slices.specs.Steps.{Step, needs, AreMet, Reads, Ends, Runs}
-use Rattle.h264_slices.specs.UnitHeader.{header_of, nal_unit_type}
-use Rattle.h264_slices.specs.History.{History, ReadUnit, maps_of, maps_with}
-use Rattle.h264_slices.specs.Pictures.{CodedSlice, CodedPicture, last_in, last_slice, picture_size, ends_picture, with_sets, sets_at, goes_on, open_of, begins_after, begins_at, joined_to, runs_of, coded_of, closing_at, closing_demands}
-use Rattle.h264_slices.specs.Closing.{whole_at, whole_steps}
-use Rattle.h264_slices.specs.Lists.{list_in}
-use Rattle.h264_slices.specs.Slices.{is_idr_due, first_mb_demands, first_slice_rules, later_slice_rules, rules_of, slice_call, steps_by, slice_steps}
-use Rattle.h264_slices.specs.Steps as step
-use Rattle.h264_slices.specs.Data.{picture_set, coded_so_far, slice_syntax, data_by, slice_data_at}
-use Rattle.h264_slices.specs.Decoding.{EachSlice}
-use Rattle.h264_slices.specs.Buffering.{end_frames, closing_frames, last_frames}
-use Rattle.h264_slices.specs.Keeping.{ended_pictures, standing_demands}
-use Rattle.h264_slices.specs.Sound.{IsMarked, AreSound, has_ended, HasActive}
-use Rattle.h264_judge.specs.Units.{slice_unit, content_steps, data_course, frames_at, picture_demand, end_steps}
+use Rattle.h264_verify.specs.declared.state.Summary.{Summary}
+use Rattle.h264_verify.specs.Telling.{Told, Said, HasFrame, AreDecoded}
+use Rattle.h264_verify.specs.Content.{Content}
+use Rattle.h264_verify.specs.Content as contents
+use Rattle.h264_verify.specs.Steps.{Step, needs, AreMet, Reads, Ends, Runs}
+use Rattle.h264_verify.specs.UnitHeader.{header_of, nal_unit_type}
+use Rattle.h264_verify.specs.History.{History, ReadUnit, maps_of, maps_with}
+use Rattle.h264_verify.specs.Pictures.{CodedSlice, CodedPicture, last_in, last_slice, picture_size, ends_picture, with_sets, sets_at, goes_on, open_of, begins_after, begins_at, joined_to, runs_of, coded_of, closing_at, closing_demands}
+use Rattle.h264_verify.specs.Closing.{whole_at, whole_steps}
+use Rattle.h264_verify.specs.Lists.{list_in}
+use Rattle.h264_verify.specs.Slices.{is_idr_due, first_mb_demands, first_slice_rules, later_slice_rules, rules_of, slice_call, steps_by, slice_steps}
+use Rattle.h264_verify.specs.Steps as step
+use Rattle.h264_verify.specs.Data.{picture_set, coded_so_far, slice_syntax, data_by, slice_data_at}
+use Rattle.h264_verify.specs.Decoding.{EachSlice}
+use Rattle.h264_verify.specs.Buffering.{end_frames, closing_frames, last_frames}
+use Rattle.h264_verify.specs.Keeping.{ended_pictures, standing_demands}
+use Rattle.h264_verify.specs.Sound.{IsMarked, AreSound, has_ended, HasActive}
+use Rattle.h264_verify.specs.Units.{slice_unit, content_steps, data_course, frames_at, picture_demand, end_steps}
 use Rattle.h264_verify.specs.Verdict.{IsLegal, AreLegal, Holds}
-use Rattle.h264_judge.proofs.Agreeing.{decoded-last}
+use Rattle.h264_verify.proofs.AgreeingUnits.{decoded-last}
 use Rattle.h264_verify.proofs.Alike.{last-of}
-use Rattle.h264_slices.proofs.Entering.{IsNoSlice, left-active}
-use Rattle.h264_judge.proofs.Joining.{runs-with}
+use Rattle.h264_verify.proofs.Entering.{IsNoSlice, left-active}
+use Rattle.h264_verify.proofs.Joining.{runs-with}
 use Rattle.h264_verify.proofs.Legal.{byte_steps, Met, met-first, met-last, met-judged, HaveDecoded, have-decoded, have-first, have-last, decoded-first, met, HasEnded, has-met, IsHeader, IsContent, is-content, marked-alone, header-marked, rest-ends, rest-reads}
 use Rattle.h264_verify.proofs.Named.{IsOfKind, AreRead}
 use Rattle.h264_verify.proofs.Soundness.{closes-sound, passed-sound, begun-sound, begun-filled}
-use Rattle.h264_slices.proofs.Standing.{stands-set, stands-if, usable-set, idr-same, joined-sound, joined-active}
+use Rattle.h264_verify.proofs.Standing.{stands-set, stands-if, usable-set, idr-same, joined-sound, joined-active}
 
 -- ---- frames of the pictures that have ended
 

@@ -1,7 +1,7 @@
 -- What a unit that is legal has met, and what it tells of decoded pictures.
 use Rattle.std.proofs.Common.{◌≡◌, ℕ, ◌*◌, ◌==◌, Bool, true, false, IsTrue, List, [], ◌∷◌, ◌++◌, length, inl, inr, Option, Some, None, Result, Ok, Err, refl, ap, sym, subst, if◌then◌else◌}
 use Rattle.std.specs.Option.{is_some}
-use Rattle.h264_judge.specs.Units.{terms_of}
+use Rattle.h264_verify.specs.Units.{terms_of}
 use Rattle.h264_base.specs.declared.mode.Target.{Target}
 use Rattle.h264_base.specs.declared.mode.Mode.TheVariants as modes
 use Rattle.h264_base.specs.declared.stop.Stop.{Stop}
@@ -26,23 +26,23 @@ use Rattle.h264_header.specs.Header.{header, named_sets}
 use Rattle.h264_header.specs.Layout.{layout_of, sets_of}
 use Rattle.h264_header.specs.Picture.{is_idr}
 use Rattle.h264_plane.specs.declared.frame.Frame.{Frame}
-use Rattle.h264_slices.specs.Telling.{Told, Said, Decodes, Shows, HasFrame, AreDecoded}
-use Rattle.h264_slices.specs.Content.{Content}
-use Rattle.h264_slices.specs.Content as contents
-use Rattle.h264_slices.specs.Demands.{Demand, judged}
-use Rattle.h264_slices.specs.Steps.{Step, Needs, Tells, needs, AreMet, Course, Takes, Reads, Ends, told, Runs}
-use Rattle.h264_slices.specs.UnitHeader.{header_of, nal_unit_type, header_demands}
-use Rattle.h264_slices.specs.History.{History, ReadUnit, maps_of}
-use Rattle.h264_slices.specs.Pictures.{closing_at}
-use Rattle.h264_slices.specs.Closing.{whole_at}
-use Rattle.h264_judge.specs.Units.{unit_call, is_slice, slice_unit, other_content, content, content_steps, data_course, frames_at, content_course}
+use Rattle.h264_verify.specs.Telling.{Told, Said, Decodes, Shows, HasFrame, AreDecoded}
+use Rattle.h264_verify.specs.Content.{Content}
+use Rattle.h264_verify.specs.Content as contents
+use Rattle.h264_verify.specs.Demands.{Demand, judged}
+use Rattle.h264_verify.specs.Steps.{Step, Needs, Tells, needs, AreMet, Course, Takes, Reads, Ends, told, Runs}
+use Rattle.h264_verify.specs.UnitHeader.{header_of, nal_unit_type, header_demands}
+use Rattle.h264_verify.specs.History.{History, ReadUnit, maps_of}
+use Rattle.h264_verify.specs.Pictures.{closing_at}
+use Rattle.h264_verify.specs.Closing.{whole_at}
+use Rattle.h264_verify.specs.Units.{unit_call, is_slice, slice_unit, other_content, content, content_steps, data_course, frames_at, content_course}
 use Rattle.h264_verify.specs.Verdict.{IsLegal}
-use Rattle.h264_judge.proofs.Agreeing.{decoded-last}
-use Rattle.h264_judge.proofs.Growing.{some-mapped}
-use Rattle.h264_judge.proofs.Marked.{IsOfUnit, header-of, marked-of}
+use Rattle.h264_verify.proofs.AgreeingUnits.{decoded-last}
+use Rattle.h264_verify.proofs.Growing.{some-mapped}
+use Rattle.h264_verify.proofs.Marked.{IsOfUnit, header-of, marked-of}
 use Rattle.h264_verify.proofs.Named.{LeavesAlone}
-use Rattle.h264_slices.specs.Held.{is_own}
-use Rattle.h264_slices.specs.Sound.{IsMarked}
+use Rattle.h264_verify.specs.Held.{is_own}
+use Rattle.h264_verify.specs.Sound.{IsMarked}
 
 -- ---- steps
 

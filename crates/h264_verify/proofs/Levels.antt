@@ -27,16 +27,16 @@ use Rattle.h264_header.specs.declared.header.Header.{Header}
 use Rattle.h264_header.specs.Layout.{sets_of}
 use Rattle.h264_header.proofs.Named.{named-pair}
 use Rattle.h264_near.specs.Coded.{CodedMacroblock}
-use Rattle.h264_slices.specs.Telling.{Told}
-use Rattle.h264_slices.specs.Content.{Content}
-use Rattle.h264_slices.specs.Content as contents
-use Rattle.h264_slices.specs.Data.{slice_data_at}
-use Rattle.h264_slices.specs.History.{History, ReadUnit, with_pair, maps_with, maps_of}
-use Rattle.h264_slices.specs.Keeping.{ended_pictures}
-use Rattle.h264_slices.specs.Pictures.{CodedSlice, CodedPicture, with_sets, slice_in, goes_on, joined_to, joined_by, begins_after, open_of, runs_of}
-use Rattle.h264_slices.specs.Steps.{Runs}
-use Rattle.h264_slices.specs.UnitHeader.{header_of, nal_unit_type}
-use Rattle.h264_judge.specs.Units.{terms_of, is_slice, other_content, content, data_course}
+use Rattle.h264_verify.specs.Telling.{Told}
+use Rattle.h264_verify.specs.Content.{Content}
+use Rattle.h264_verify.specs.Content as contents
+use Rattle.h264_verify.specs.Data.{slice_data_at}
+use Rattle.h264_verify.specs.History.{History, ReadUnit, with_pair, maps_with, maps_of}
+use Rattle.h264_verify.specs.Keeping.{ended_pictures}
+use Rattle.h264_verify.specs.Pictures.{CodedSlice, CodedPicture, with_sets, slice_in, goes_on, joined_to, joined_by, begins_after, open_of, runs_of}
+use Rattle.h264_verify.specs.Steps.{Runs}
+use Rattle.h264_verify.specs.UnitHeader.{header_of, nal_unit_type}
+use Rattle.h264_verify.specs.Units.{terms_of, is_slice, other_content, content, data_course}
 use Rattle.h264_verify.specs.Verdict.{IsLegal, AreLegal}
 use Rattle.h264_verify.proofs.Legal.{given, has-met, rest-ends, rest-reads}
 

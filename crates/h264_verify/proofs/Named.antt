@@ -27,15 +27,15 @@ use Rattle.h264_lists.proofs.Held.{built-held}
 use Rattle.h264_dpb.specs.Bumping.{is_picture, is_held}
 use Rattle.h264_picture.specs.Context.{picture_in, slice_context}
 use Rattle.h264_picture.specs.Table.{table}
-use Rattle.h264_slices.specs.Pictures.{CodedSlice, CodedPicture, prev_ref_frame_num_of, held_after, held_in}
-use Rattle.h264_slices.specs.Lists.{list_of, list_in, named_in}
-use Rattle.h264_slices.specs.Slices.{is_i}
-use Rattle.h264_slices.specs.Decoding.{slices_of, EachSlice}
-use Rattle.h264_slices.specs.Sound.{HasSet}
-use Rattle.h264_slices.specs.Held.{is_idr_marking}
-use Rattle.h264_slices.proofs.Agreeing.{each-slice}
+use Rattle.h264_verify.specs.Pictures.{CodedSlice, CodedPicture, prev_ref_frame_num_of, held_after, held_in}
+use Rattle.h264_verify.specs.Lists.{list_of, list_in, named_in}
+use Rattle.h264_verify.specs.Slices.{is_i}
+use Rattle.h264_verify.specs.Decoding.{slices_of, EachSlice}
+use Rattle.h264_verify.specs.Sound.{HasSet}
+use Rattle.h264_verify.specs.Held.{is_idr_marking}
+use Rattle.h264_verify.proofs.Agreeing.{each-slice}
 use Rattle.h264_verify.proofs.Alike.{AreReadSlices}
-use Rattle.h264_slices.proofs.Among.{pictures_in, Holds, filled-holds, marked-holds}
+use Rattle.h264_verify.proofs.Among.{pictures_in, Holds, filled-holds, marked-holds}
 use Rattle.h264_dpb.proofs.Truths.{is-same, true-or, or-true}
 
 -- ---- pictures whose slices were read

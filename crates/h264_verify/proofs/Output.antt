@@ -1,7 +1,7 @@
 -- What a sink is told of a stream, frames among it, is one list of calls.
 use Rattle.std.proofs.Common.{◌≡◌, ℕ, ◌+◌, ◌-◌, ◌*◌, ◌<◌, ◌≤◌, List, [], ◌∷◌, length, ℤ, refl, ap, sym, ◌∙◌, subst, arith, ⊎_elim}
 use Rattle.std.proofs.lemmas.Bool.{cases_lt}
-use Rattle.h264_judge.specs.Units.{terms_of}
+use Rattle.h264_verify.specs.Units.{terms_of}
 use Rattle.h264_base.specs.declared.mode.Target.{Target}
 use Rattle.h264_base.specs.declared.mode.Mode.TheVariants as modes
 use Rattle.h264_base.specs.Call.{Call, OfFrame}
@@ -16,15 +16,15 @@ use Rattle.h264_plane.proofs.Rows.{bytes_same}
 use Rattle.h264_dpb.specs.Shown.{width_in, height_in, cropped, frame_call}
 use Rattle.h264_dpb.specs.Kept.{shown_call}
 use Rattle.h264_dpb.specs.declared.entry.Rectangle.{Rectangle}
-use Rattle.h264_slices.specs.Telling.{Told, Said, Decodes, Shows, calls_of, AreOf}
-use Rattle.h264_slices.specs.Outcome.{Outcome}
-use Rattle.h264_slices.specs.History.{History}
-use Rattle.h264_slices.specs.Pictures.{CodedPicture}
-use Rattle.h264_slices.specs.Keeping.{ended_in}
+use Rattle.h264_verify.specs.Telling.{Told, Said, Decodes, Shows, calls_of, AreOf}
+use Rattle.h264_verify.specs.Outcome.{Outcome}
+use Rattle.h264_verify.specs.History.{History}
+use Rattle.h264_verify.specs.Pictures.{CodedPicture}
+use Rattle.h264_verify.specs.Keeping.{ended_in}
 use Rattle.h264_verify.specs.Verdict.{AreLegal}
 use Rattle.h264_verify.specs.Family.{AreSameOn}
-use Rattle.h264_judge.proofs.Agreeing.{of-both, of-more}
-use Rattle.h264_judge.proofs.Growing.{unit-grows}
+use Rattle.h264_verify.proofs.AgreeingUnits.{of-both, of-more}
+use Rattle.h264_verify.proofs.Growing.{unit-grows}
 use Rattle.h264_verify.proofs.Leaving.{HaveFrames}
 use Rattle.h264_verify.proofs.Verdicts.{legal-unit}
 

@@ -6,9 +6,9 @@ use Rattle.h264_near.specs.declared.motion.Motion.{Motion}
 use Rattle.h264_near.specs.Coded.{CodedMacroblock, Prediction, Intra4x4, Intra16x16, Pcm, Inter}
 use Rattle.h264_mbsyntax.specs.Possible.{Refers, IsPossible}
 use Rattle.h264_mbsyntax.specs.OfSlice.{IsDerived}
-use Rattle.h264_slices.specs.Pictures.{CodedSlice, CodedPicture, held_in}
-use Rattle.h264_slices.specs.Lists.{context_in}
-use Rattle.h264_slices.specs.Decoding.{slices_of, EachSlice}
+use Rattle.h264_verify.specs.Pictures.{CodedSlice, CodedPicture, held_in}
+use Rattle.h264_verify.specs.Lists.{context_in}
+use Rattle.h264_verify.specs.Decoding.{slices_of, EachSlice}
 use Rattle.h264_verify.specs.Predicting.{RefersTo, PredictsFrom, ArePredicted}
 use Rattle.h264_verify.proofs.Alike.{AreReadSlices, macroblocks_of, last-of, found, context-length, named-at, inside-at, motion-at, some-at}
 use Rattle.h264_verify.proofs.Named.{AreRead, IsRead, named-held}

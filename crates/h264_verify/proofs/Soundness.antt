@@ -11,15 +11,15 @@ use Rattle.h264_marking.specs.Ended.{numbering_of}
 use Rattle.h264_sets.specs.Sets.{Maps}
 use Rattle.h264_dpb.specs.Buffered.{Buffered}
 use Rattle.h264_dpb.specs.Turns.{Shown, missing_turn}
-use Rattle.h264_slices.specs.Steps.{Step, needs}
-use Rattle.h264_slices.specs.Pictures.{CodedSlice, CodedPicture, held_after, end_of_picture}
-use Rattle.h264_slices.specs.Buffering.{told_frames, missing_steps, missing_on, missing_before, after_all}
-use Rattle.h264_slices.specs.Slices.{rules_of}
-use Rattle.h264_slices.specs.Held.{has_gap_filled}
-use Rattle.h264_slices.specs.Sound.{AreSound, has_ended}
-use Rattle.h264_slices.specs.Keeping.{ended_pictures}
+use Rattle.h264_verify.specs.Steps.{Step, needs}
+use Rattle.h264_verify.specs.Pictures.{CodedSlice, CodedPicture, held_after, end_of_picture}
+use Rattle.h264_verify.specs.Buffering.{told_frames, missing_steps, missing_on, missing_before, after_all}
+use Rattle.h264_verify.specs.Slices.{rules_of}
+use Rattle.h264_verify.specs.Held.{has_gap_filled}
+use Rattle.h264_verify.specs.Sound.{AreSound, has_ended}
+use Rattle.h264_verify.specs.Keeping.{ended_pictures}
 use Rattle.h264_verify.proofs.Legal.{Met, met-first, met-last}
-use Rattle.h264_slices.proofs.Sound.{sound-ended}
+use Rattle.h264_verify.proofs.Sound.{sound-ended}
 
 -- ---- the end of a picture
 

@@ -5,16 +5,16 @@ use Rattle.std.proofs.Math.Seq.{take-length}
 use Rattle.std.proofs.lemmas.List.{append-nil}
 use Rattle.h264_base.specs.declared.stop.Stop.{Stop}
 use Rattle.h264_base.specs.declared.stop.Stop.TheVariants.{No, Outside, Memory, Read, Write}
-use Rattle.h264_slices.specs.Telling.{Told, Tells, TellsFront}
+use Rattle.h264_verify.specs.Telling.{Told, Tells, TellsFront}
 use Rattle.h264_units.specs.Splitting.{at_start}
 use Rattle.h264_units.proofs.Streams.{same-units}
 use Rattle.h264_units.proofs.Total.{some-split}
-use Rattle.h264_slices.specs.Outcome.{Outcome, with_calls, PlaysBy}
+use Rattle.h264_verify.specs.Outcome.{Outcome, with_calls, PlaysBy}
 use Rattle.h264_verify.specs.Judging.{Judging, units_outcome, Comes}
 use Rattle.h264_verify.proofs.Ways.{way-more}
 use Rattle.h264_verify.proofs.Lacking.{same-stop, lacks-bytes, lacks-after, stops-lacks}
 use Rattle.h264_verify.specs.Session.{Standing, ToCome, Lacking, Goes, Stops, StopsBy, Finishes, Fed, RansBy, Judges}
-use Rattle.h264_slices.proofs.Tellings.{tells-none, tells-both, front-after}
+use Rattle.h264_verify.proofs.Tellings.{tells-none, tells-both, front-after}
 use Rattle.h264_verify.proofs.Feeding.{goes-both, stops-after}
 
 -- before the first byte

@@ -1,7 +1,7 @@
 -- What a sink is told of a stream, or a front of it, is one list of calls.
 use Rattle.std.proofs.Common.{◌≡◌, ℕ, ◌*◌, arith, append_assoc, ⊎_elim, Bool, true, false, List, [], ◌∷◌, ◌++◌, length, ◌⊎◌, inl, inr, Option, Some, None, Result, Ok, Err, refl, ap, sym, ◌∙◌, subst, if◌then◌else◌}
 use Rattle.std.proofs.lemmas.List.{append-nil}
-use Rattle.h264_judge.specs.Units.{terms_of}
+use Rattle.h264_verify.specs.Units.{terms_of}
 use Rattle.h264_base.specs.declared.mode.Target.{Target}
 use Rattle.h264_base.specs.declared.mode.Mode.TheVariants as modes
 use Rattle.h264_base.specs.declared.stop.Stop.{Stop}
@@ -14,31 +14,31 @@ use Rattle.h264_sps.specs.declared.sps.Sps.{Sps}
 use Rattle.h264_pps.specs.declared.Pps.{Pps}
 use Rattle.h264_header.specs.declared.header.Header.{Header}
 use Rattle.h264_plane.specs.declared.frame.Frame.{Frame}
-use Rattle.h264_judge.specs.declared.state.Summary.{Summary}
-use Rattle.h264_slices.specs.Telling.{Told, Said, Decodes, Shows, calls_of, HasFrame, AreDecoded, AreOf}
-use Rattle.h264_slices.specs.Demands.{Demand}
-use Rattle.h264_slices.specs.Outcome.{Outcome}
-use Rattle.h264_slices.specs.Steps.{Step, Needs, Tells, needs, AreMet, IsFirstStop, told}
-use Rattle.h264_slices.specs.UnitHeader.{header_of, nal_unit_type}
+use Rattle.h264_verify.specs.declared.state.Summary.{Summary}
+use Rattle.h264_verify.specs.Telling.{Told, Said, Decodes, Shows, calls_of, HasFrame, AreDecoded, AreOf}
+use Rattle.h264_verify.specs.Demands.{Demand}
+use Rattle.h264_verify.specs.Outcome.{Outcome}
+use Rattle.h264_verify.specs.Steps.{Step, Needs, Tells, needs, AreMet, IsFirstStop, told}
+use Rattle.h264_verify.specs.UnitHeader.{header_of, nal_unit_type}
 use Rattle.h264_dpb.specs.Kept.{shown_call}
-use Rattle.h264_slices.specs.History.{History, ReadUnit, maps_of}
-use Rattle.h264_slices.specs.Pictures.{CodedPicture, ends_picture, with_sets, sets_at, goes_on, joined_to, runs_of, begins_at, closing_at, closing_demands}
-use Rattle.h264_slices.specs.Closing.{whole_picture, whole_steps, whole_at}
-use Rattle.h264_slices.specs.Buffering.{end_frames, closing_frames, last_frames}
-use Rattle.h264_slices.specs.Keeping.{ended_pictures, ended_in}
-use Rattle.h264_slices.specs.Slices.{is_idr_due, rules_of, slice_call, steps_by, slice_steps}
-use Rattle.h264_judge.specs.Units.{frames_at, unit_course, picture_demand, end_steps}
+use Rattle.h264_verify.specs.History.{History, ReadUnit, maps_of}
+use Rattle.h264_verify.specs.Pictures.{CodedPicture, ends_picture, with_sets, sets_at, goes_on, joined_to, runs_of, begins_at, closing_at, closing_demands}
+use Rattle.h264_verify.specs.Closing.{whole_picture, whole_steps, whole_at}
+use Rattle.h264_verify.specs.Buffering.{end_frames, closing_frames, last_frames}
+use Rattle.h264_verify.specs.Keeping.{ended_pictures, ended_in}
+use Rattle.h264_verify.specs.Slices.{is_idr_due, rules_of, slice_call, steps_by, slice_steps}
+use Rattle.h264_verify.specs.Units.{frames_at, unit_course, picture_demand, end_steps}
 use Rattle.h264_verify.specs.Family.{IsFrontOf}
 use Rattle.h264_verify.specs.Verdict.{IsLegal, AreLegal, IsStopBehind, AtNext, AtTail, AtEnd, Verdict}
-use Rattle.h264_judge.proofs.Agreeing.{of-both, of-more, decoded-last}
+use Rattle.h264_verify.proofs.AgreeingUnits.{of-both, of-more, decoded-last}
 use Rattle.h264_verify.proofs.Family.{same-on, legal-family}
-use Rattle.h264_judge.proofs.Growing.{StepsOf, needs-of, steps-of, elements-of, slice-of, picture-end-of, ended-few, ended-whole, end-of}
+use Rattle.h264_verify.proofs.Growing.{StepsOf, needs-of, steps-of, elements-of, slice-of, picture-end-of, ended-few, ended-whole, end-of}
 use Rattle.h264_verify.proofs.Coursing.{IsClosed, Keeps, course-keeps, UnitKeeps, unit-keeps, stop-keeps}
 use Rattle.h264_verify.proofs.Leaving.{HaveFrames, legal-read, legal-frames}
 use Rattle.h264_verify.proofs.Legal.{decoded-first, end_steps_at}
 use Rattle.h264_verify.proofs.Output.{shown-alike, calls-same, legal-of}
 use Rattle.h264_verify.proofs.Verdicts.{one-verdict}
-use Rattle.h264_slices.proofs.Stepping.{met-is, stop-is}
+use Rattle.h264_verify.proofs.Stepping.{met-is, stop-is}
 
 -- ---- it is of the pictures so far
 

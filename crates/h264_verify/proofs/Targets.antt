@@ -16,15 +16,15 @@ use Rattle.h264_sps.specs.Sps.{is_judged_profile, profile_and_level, sps}
 use Rattle.h264_pps.specs.Pps.{weighted_pred, weighted_bipred, pps}
 use Rattle.h264_units.specs.Stream.{NalUnit}
 use Rattle.h264_rbsp.specs.Rbsp.{body_of}
-use Rattle.h264_slices.specs.Telling.{Told, Said}
-use Rattle.h264_slices.specs.Content.{Content}
-use Rattle.h264_slices.specs.Steps.{Step, Tells, needs, Course, Takes, Reads, Runs}
-use Rattle.h264_slices.specs.UnitHeader.{header_of, nal_unit_type, header_demands}
-use Rattle.h264_slices.specs.Pictures.{closing_at}
-use Rattle.h264_slices.specs.Closing.{whole_at}
-use Rattle.h264_slices.specs.History.{History}
-use Rattle.h264_judge.specs.declared.state.Summary.{Summary}
-use Rattle.h264_judge.specs.Units.{terms_of, content, other_content, content_steps, data_course, frames_at, unit_call, unit_course}
+use Rattle.h264_verify.specs.Telling.{Told, Said}
+use Rattle.h264_verify.specs.Content.{Content}
+use Rattle.h264_verify.specs.Steps.{Step, Tells, needs, Course, Takes, Reads, Runs}
+use Rattle.h264_verify.specs.UnitHeader.{header_of, nal_unit_type, header_demands}
+use Rattle.h264_verify.specs.Pictures.{closing_at}
+use Rattle.h264_verify.specs.Closing.{whole_at}
+use Rattle.h264_verify.specs.History.{History}
+use Rattle.h264_verify.specs.declared.state.Summary.{Summary}
+use Rattle.h264_verify.specs.Units.{terms_of, content, other_content, content_steps, data_course, frames_at, unit_call, unit_course}
 use Rattle.h264_verify.specs.Verdict.{AreLegal, Holds}
 
 -- where the first structure gives a value, the second runs as it does

@@ -2,44 +2,44 @@
 use Rattle.std.proofs.Common.{OnOk, IfErr, Option, Some, None, ◌≡◌, ℕ, ◌+◌, ◌*◌, inl, inr, List, [], ◌∷◌, ◌++◌, length, take, drop, get_or, ◌<◌, Result, Ok, Err, refl, ap, sym, ◌∙◌, subst, arith, append_assoc, MatchResult}
 use Rattle.std.specs.List.{flat_map}
 use Rattle.std.proofs.lemmas.List.{append-nil}
-use Rattle.h264_judge.specs.declared.state.Terms.{Terms}
+use Rattle.h264_verify.specs.declared.state.Terms.{Terms}
 use Rattle.h264_base.specs.declared.rule.Rule.TheVariants.{Emulation}
 use Rattle.h264_base.specs.declared.stop.Stop.{Stop}
 use Rattle.h264_base.specs.declared.stop.Stop.TheVariants.{No, Outside, Memory, Read, Write}
 use Rattle.h264_base.specs.Call.{Call}
 use Rattle.h264_plane.specs.declared.frame.Frame.{Frame}
-use Rattle.h264_slices.specs.Telling.{Told, Tells, TellsFront, took_with}
+use Rattle.h264_verify.specs.Telling.{Told, Tells, TellsFront, took_with}
 use Rattle.h264_units.specs.Stream.{NalUnit, IsUndecided, Tail, Zeros, Stray, Bare, Long, Cut, Splits}
 use Rattle.h264_units.specs.Splitting.{Splitting, at_start}
 use Rattle.h264_rbsp.specs.Emulation.{IsFault, IsFirstFault, emulation_checked}
 use Rattle.h264_rbsp.specs.Rbsp.{body_of}
 use Rattle.h264_rbsp.proofs.Told.{is-checked, none-checked, some-checked}
-use Rattle.h264_judge.specs.declared.state.State.{State}
-use Rattle.h264_judge.specs.declared.state.Summary.{Summary}
-use Rattle.h264_slices.specs.Content.{Content}
-use Rattle.h264_slices.specs.Outcome.{Outcome, ◌>>=◌, with_calls, answers, Plays}
+use Rattle.h264_verify.specs.declared.state.State.{State}
+use Rattle.h264_verify.specs.declared.state.Summary.{Summary}
+use Rattle.h264_verify.specs.Content.{Content}
+use Rattle.h264_verify.specs.Outcome.{Outcome, ◌>>=◌, with_calls, answers, Plays}
 use Rattle.h264_verify.specs.Judging.{unless, tail_outcome, units_outcome, Comes, judging}
 use Rattle.h264_verify.specs.Session.{Standing, ToCome, Shows, Leads, Way, Goes, RansBy, LacksNext, Lacks, Lacking}
 use Rattle.h264_verify.specs.Session as lacking
 use Rattle.h264_units.proofs.Total.{some-split}
 use Rattle.h264_verify.proofs.Lacking.{same-stop, stops-lacks}
-use Rattle.h264_slices.specs.Steps.{AreMet, IsFirstStop, Runs}
-use Rattle.h264_slices.specs.History.{History, ReadUnit}
-use Rattle.h264_judge.specs.Keeping.{Keeps}
-use Rattle.h264_slices.specs.Keeping.{ended_in}
-use Rattle.h264_judge.specs.Units.{unit_course, end_steps, summary_of}
-use Rattle.h264_slices.specs.StepOutcome.{steps_outcome, course_outcome}
-use Rattle.h264_judge.specs.UnitOutcome.{unit_outcome, end_outcome}
+use Rattle.h264_verify.specs.Steps.{AreMet, IsFirstStop, Runs}
+use Rattle.h264_verify.specs.History.{History, ReadUnit}
+use Rattle.h264_verify.specs.KeepingUnits.{Keeps}
+use Rattle.h264_verify.specs.Keeping.{ended_in}
+use Rattle.h264_verify.specs.Units.{unit_course, end_steps, summary_of}
+use Rattle.h264_verify.specs.StepOutcome.{steps_outcome, course_outcome}
+use Rattle.h264_verify.specs.UnitOutcome.{unit_outcome, end_outcome}
 use Rattle.h264_verify.specs.Progress.{Progress, IsFresh}
 use Rattle.h264_verify.specs.Feeding.{behind, GoesOn, StopsOn, FinishesOn, FedOn, JudgesWith, WasFed, IsFed}
 use Rattle.h264_verify.specs.Verdict.{IsSound, IsLegal, IsStop, AtBytes, InCourse, in_order, AreLegal, Holds, IsStopBehind, AtNext, AtTail, AtEnd, StopsAt, Verdict, Whole, Front, IsWanting, BeforeNext, ForPicture, WantsAt, Wanting, JudgedBy, Judged}
-use Rattle.h264_slices.proofs.Tellings.{tells-none}
-use Rattle.h264_judge.proofs.Agreeing.{of-both, of-more}
+use Rattle.h264_verify.proofs.Tellings.{tells-none}
+use Rattle.h264_verify.proofs.AgreeingUnits.{of-both, of-more}
 use Rattle.h264_verify.proofs.Feeding.{with-both, goes-both}
 use Rattle.h264_verify.proofs.Familiar.{told-agree, goes-agree, fed-agree, on-then, on-none}
 use Rattle.h264_verify.proofs.Sources.{one-outcome, some-outcome, goes-more, goes-then, stops-plays, fed-same, fed-on, fed-stops, fed-read, fed-ends, judges-memory, piece-more, pieces-stop, pieces-finish, goes-all}
-use Rattle.h264_slices.proofs.Stepping.{outcome, met-is, stop-is, either, bound, bind-stop, runs-outcome, SomeRun, some-run}
-use Rattle.h264_slices.proofs.Stepping as stepping
+use Rattle.h264_verify.proofs.Stepping.{outcome, met-is, stop-is, either, bound, bind-stop, runs-outcome, SomeRun, some-run}
+use Rattle.h264_verify.proofs.Stepping as stepping
 use Rattle.h264_verify.proofs.Bounds.{are-decodable}
 use Rattle.h264_verify.proofs.Ways.{splits-shown, way-none, shows-as, shows-both, shows-more}
 

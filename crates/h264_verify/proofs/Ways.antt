@@ -2,11 +2,11 @@
 use Rattle.std.proofs.Common.{◌≡◌, ℕ, IsFalse, List, [], ◌∷◌, ◌++◌, take, drop, Result, Ok, refl, ap, sym, ◌∙◌, subst, append_assoc}
 use Rattle.std.proofs.lemmas.List.{append-nil, take-append-drop}
 use Rattle.h264_base.specs.declared.stop.Stop.{Stop}
-use Rattle.h264_slices.specs.Telling.{Told}
+use Rattle.h264_verify.specs.Telling.{Told}
 use Rattle.h264_units.specs.Stream.{NalUnit, Next, past, Tail, Splits}
 use Rattle.h264_units.proofs.Streams.{same-first, first-not-tail, splits-after}
 use Rattle.h264_units.specs.Splitting.{Splitting, Pushed, Taken}
-use Rattle.h264_slices.specs.Outcome.{Outcome}
+use Rattle.h264_verify.specs.Outcome.{Outcome}
 use Rattle.h264_verify.specs.Judging.{Judging}
 use Rattle.h264_verify.specs.Session.{Standing, Shows, Leads, Way}
 

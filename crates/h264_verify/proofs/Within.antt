@@ -22,11 +22,11 @@ use Rattle.h264_dpb.specs.Turns.{Shown, Turn, turn_then, stays, names, still, mi
 use Rattle.h264_dpb.proofs.Room.{short-placed}
 use Rattle.h264_dpb.proofs.Bounded.{used-marked, made_room-frees}
 use Rattle.h264_dpb.proofs.Rising.{marked-counted, few, few-other, rising-made_room, rising-marked, rising-reference, rising-other}
-use Rattle.h264_slices.specs.Pictures.{CodedPicture, held_after, prev_ref_frame_num_of}
-use Rattle.h264_slices.specs.Buffering.{gap_on, gaps_turn, missing_before, ended_picture, after_all, within_newest}
-use Rattle.h264_slices.specs.Sound.{HasSet, Follows, AreSound}
-use Rattle.h264_slices.proofs.Sound.{set-few, places-fit, after-few, after-among}
-use Rattle.h264_slices.proofs.Missing.{some-missing}
+use Rattle.h264_verify.specs.Pictures.{CodedPicture, held_after, prev_ref_frame_num_of}
+use Rattle.h264_verify.specs.Buffering.{gap_on, gaps_turn, missing_before, ended_picture, after_all, within_newest}
+use Rattle.h264_verify.specs.Sound.{HasSet, Follows, AreSound}
+use Rattle.h264_verify.proofs.Sound.{set-few, places-fit, after-few, after-among}
+use Rattle.h264_verify.proofs.Missing.{some-missing}
 
 abbrev number_of : Shown → ℕ
 number_of n = n.picture

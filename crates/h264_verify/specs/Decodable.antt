@@ -3,9 +3,9 @@
 use Rattle.std.specs.Prelude.{List, [], ◌∷◌}
 use Rattle.h264_base.specs.declared.mode.Mode.{Mode}
 use Rattle.h264_base.specs.declared.mode.Mode.TheVariants as modes
-use Rattle.h264_slices.specs.Pictures.{CodedPicture, held_in}
-use Rattle.h264_slices.specs.Buffering.{within_newest}
-use Rattle.h264_slices.specs.Held.{AreAmong}
+use Rattle.h264_verify.specs.Pictures.{CodedPicture, held_in}
+use Rattle.h264_verify.specs.Buffering.{within_newest}
+use Rattle.h264_verify.specs.Held.{AreAmong}
 use Rattle.h264_verify.specs.Predicting.{ArePredicted}
 use Rattle.h264_verify.specs.Within.{DecodesWithin, EndsWithin}
 

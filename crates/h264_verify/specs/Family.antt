@@ -7,7 +7,7 @@ use Rattle.h264_plane.specs.Frames.{plane_of}
 use Rattle.h264_plane.specs.Places.{side}
 use Rattle.h264_plane.specs.Samples.{at}
 use Rattle.h264_sps.specs.declared.sps.FrameSize.{FrameSize}
-use Rattle.h264_slices.specs.Pictures.{CodedPicture}
+use Rattle.h264_verify.specs.Pictures.{CodedPicture}
 
 -- They have the same sample at each place of this picture, in each plane.
 abbrev pub HaveSameSamples : (frames others : ℕ → Frame) → ℕ → FrameSize → Type 0

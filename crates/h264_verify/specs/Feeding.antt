@@ -1,19 +1,19 @@
 -- What a session was fed. A working form.
 use Rattle.std.specs.Prelude.{◌≡◌, ◌≤◌, ℕ, List, [], ◌++◌, None, Option, Result}
-use Rattle.h264_judge.specs.declared.state.Terms.{Terms}
+use Rattle.h264_verify.specs.declared.state.Terms.{Terms}
 use Rattle.h264_base.specs.declared.stop.Stop.{Stop}
 use Rattle.h264_base.specs.Call.{Call}
 use Rattle.h264_plane.specs.declared.frame.Frame.{Frame}
 use Rattle.h264_units.specs.Stream.{IsUndecided}
 use Rattle.h264_units.specs.Splitting.{Splitting, at_start}
-use Rattle.h264_judge.specs.declared.state.State.{State}
-use Rattle.h264_judge.specs.declared.state.Summary.{Summary}
-use Rattle.h264_slices.specs.Telling.{Told, Tells, took_with, Agree, AreOf}
-use Rattle.h264_slices.specs.Outcome.{Outcome, with_calls}
+use Rattle.h264_verify.specs.declared.state.State.{State}
+use Rattle.h264_verify.specs.declared.state.Summary.{Summary}
+use Rattle.h264_verify.specs.Telling.{Told, Tells, took_with, Agree, AreOf}
+use Rattle.h264_verify.specs.Outcome.{Outcome, with_calls}
 use Rattle.h264_verify.specs.Judging.{Comes, judging}
-use Rattle.h264_slices.specs.History.{History}
-use Rattle.h264_judge.specs.Keeping.{Keeps}
-use Rattle.h264_slices.specs.Keeping.{ended_in}
+use Rattle.h264_verify.specs.History.{History}
+use Rattle.h264_verify.specs.KeepingUnits.{Keeps}
+use Rattle.h264_verify.specs.Keeping.{ended_in}
 use Rattle.h264_verify.specs.Session.{Standing, ToCome, Shows, Goes, Stops, Finishes, Fed, Judges}
 use Rattle.h264_verify.specs.Verdict.{in_order, AreLegal, SameTold}
 use Rattle.h264_verify.specs.Progress.{Progress}

@@ -1,13 +1,13 @@
 -- A stream judged unit by unit, whatever is judged of a unit. A working form.
 use Rattle.std.specs.Prelude.{◌≡◌, ℕ, ◌+◌, ◌*◌, List, [], ◌∷◌, length, Option, Some, None, Err}
-use Rattle.h264_judge.specs.declared.state.Terms.{Terms}
+use Rattle.h264_verify.specs.declared.state.Terms.{Terms}
 use Rattle.h264_base.specs.declared.stop.Stop.{Stop}
 use Rattle.h264_units.specs.Stream.{NalUnit, Tail, Splits, tail_stop}
-use Rattle.h264_slices.specs.Outcome.{Outcome, ◌>>=◌, answers}
-use Rattle.h264_slices.specs.History.{History}
-use Rattle.h264_judge.specs.declared.state.Summary.{Summary}
-use Rattle.h264_judge.specs.Memory.{ChangesFormat}
-use Rattle.h264_judge.specs.UnitOutcome.{unit_outcome, end_outcome}
+use Rattle.h264_verify.specs.Outcome.{Outcome, ◌>>=◌, answers}
+use Rattle.h264_verify.specs.History.{History}
+use Rattle.h264_verify.specs.declared.state.Summary.{Summary}
+use Rattle.h264_verify.specs.Memory.{ChangesFormat}
+use Rattle.h264_verify.specs.UnitOutcome.{unit_outcome, end_outcome}
 
 -- What comes of a unit, in the state that the units before it left, and of the end of the input at this bit; and which units want
 -- memory beside that for their bytes.

@@ -5,7 +5,7 @@ use Rattle.h264_near.specs.Coded.{CodedMacroblock, Prediction, Intra4x4, Intra16
 use Rattle.h264_marking.specs.Frames.{References}
 use Rattle.h264_dpb.specs.Bumping.{is_held}
 use Rattle.h264_dpb.specs.Turns.{names}
-use Rattle.h264_slices.specs.Pictures.{CodedPicture, last_slice, held_in}
+use Rattle.h264_verify.specs.Pictures.{CodedPicture, last_slice, held_in}
 
 -- a block refers to a picture, which is held
 abbrev pub RefersTo : References → Option Motion → Type 0

@@ -1,14 +1,14 @@
 -- What a session is to its callers. A working form.
 use Rattle.std.specs.Prelude.{◌≡◌, ◌≤◌, ℕ, true, false, IsFalse, Option, Some, None, List, []}
 use Rattle.h264_base.specs.declared.mode.Mode.{Mode}
-use Rattle.h264_judge.specs.declared.state.Terms.{Terms}
+use Rattle.h264_verify.specs.declared.state.Terms.{Terms}
 use Rattle.h264_base.specs.declared.stop.Stop.{Stop}
 use Rattle.h264_units.specs.Stream.{NalUnit, Next}
-use Rattle.h264_judge.specs.Memory.{is_read}
+use Rattle.h264_verify.specs.Memory.{is_read}
 use Rattle.h264_units.specs.Splitting.{Splitting, at_start}
-use Rattle.h264_judge.specs.declared.state.State.{State}
+use Rattle.h264_verify.specs.declared.state.State.{State}
 use Rattle.h264_plane.specs.declared.frame.Frame.{Frame}
-use Rattle.h264_judge.specs.Keeping.{Keeps, KeepsSome}
+use Rattle.h264_verify.specs.KeepingUnits.{Keeps, KeepsSome}
 
 -- what its splitter holds, what is kept of the units taken, and whether it has stopped
 pub record Progress : Type 0 where

@@ -2,10 +2,10 @@
 use Rattle.std.specs.Prelude.{◌≡◌, ℕ, ◌+◌, ◌⊎◌, List, [], ◌∷◌, ◌++◌, Option, Some, Result, Ok, Err}
 use Rattle.h264_base.specs.declared.stop.Stop.{Stop}
 use Rattle.h264_base.specs.declared.stop.Stop.TheVariants.{No, Outside, Memory, Read, Write}
-use Rattle.h264_slices.specs.Telling.{Told, Tells, TellsFront}
+use Rattle.h264_verify.specs.Telling.{Told, Tells, TellsFront}
 use Rattle.h264_units.specs.Stream.{NalUnit, Next, past, Tail, Splits}
 use Rattle.h264_units.specs.Splitting.{Splitting}
-use Rattle.h264_slices.specs.Outcome.{Outcome, with_calls, Plays}
+use Rattle.h264_verify.specs.Outcome.{Outcome, with_calls, Plays}
 use Rattle.h264_verify.specs.Judging.{Judging, Comes}
 
 -- where a session stands: what its splitter holds, and the state that the units taken left

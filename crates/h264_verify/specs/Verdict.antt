@@ -1,7 +1,7 @@
 -- To be read beside the standard. The verdict on a stream: a yes with its derivation, a no with the first rule that is broken and its
 -- bit, or the first feature that is not judged (7.3, 7.4, 8.2.1, B.1).
 use Rattle.std.specs.Prelude.{◌≡◌, ℕ, ◌+◌, ◌*◌, List, [], ◌∷◌, ◌++◌, length, Some, Result, Ok, Err}
-use Rattle.h264_judge.specs.declared.state.Terms.{Terms}
+use Rattle.h264_verify.specs.declared.state.Terms.{Terms}
 use Rattle.h264_base.specs.declared.rule.Rule.{Rule}
 use Rattle.h264_base.specs.declared.rule.Rule.TheVariants.{Emulation}
 use Rattle.h264_base.specs.declared.stop.Feature.{Feature}
@@ -9,16 +9,16 @@ use Rattle.h264_base.specs.declared.stop.Stop.{Stop}
 use Rattle.h264_base.specs.declared.stop.Stop.TheVariants.{No, Outside, Memory, Read, Write}
 use Rattle.h264_base.specs.Call.{Call}
 use Rattle.h264_plane.specs.declared.frame.Frame.{Frame}
-use Rattle.h264_slices.specs.Telling.{Told, Tells, took_with, calls_of, AreDecoded}
+use Rattle.h264_verify.specs.Telling.{Told, Tells, took_with, calls_of, AreDecoded}
 use Rattle.h264_units.specs.Stream.{NalUnit, Tail, Zeros, Splits, tail_stop}
 use Rattle.h264_rbsp.specs.Emulation.{IsFault, IsFirstFault}
 use Rattle.h264_rbsp.specs.Rbsp.{body_of}
-use Rattle.h264_judge.specs.declared.state.Summary.{Summary}
-use Rattle.h264_slices.specs.Steps.{AreMet, IsFirstStop, Runs}
-use Rattle.h264_slices.specs.History.{History, ReadUnit}
-use Rattle.h264_slices.specs.Pictures.{runs_of}
-use Rattle.h264_judge.specs.Memory.{ChangesFormat}
-use Rattle.h264_judge.specs.Units.{unit_course, end_steps, summary_of}
+use Rattle.h264_verify.specs.declared.state.Summary.{Summary}
+use Rattle.h264_verify.specs.Steps.{AreMet, IsFirstStop, Runs}
+use Rattle.h264_verify.specs.History.{History, ReadUnit}
+use Rattle.h264_verify.specs.Pictures.{runs_of}
+use Rattle.h264_verify.specs.Memory.{ChangesFormat}
+use Rattle.h264_verify.specs.Units.{unit_course, end_steps, summary_of}
 use Rattle.h264_verify.specs.Decodable.{AreDecodable}
 
 -- The bytes of a unit break no rule of emulation prevention (7.4.1).

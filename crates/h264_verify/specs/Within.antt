@@ -5,8 +5,8 @@ use Rattle.h264_sets.specs.Usable.{dpb_frames}
 use Rattle.h264_picture.specs.Buffer.{buffer_size}
 use Rattle.h264_dpb.specs.Buffered.{Buffered, StaysWithin}
 use Rattle.h264_dpb.specs.Turns.{Shown}
-use Rattle.h264_slices.specs.Pictures.{CodedPicture, held_after}
-use Rattle.h264_slices.specs.Buffering.{after_all, within_newest, missing_before, gaps_turn}
+use Rattle.h264_verify.specs.Pictures.{CodedPicture, held_after}
+use Rattle.h264_verify.specs.Buffering.{after_all, within_newest, missing_before, gaps_turn}
 
 -- the buffer before a picture after these, once these of the missing numbers are filled
 abbrev pub filled_up_to : CodedPicture → List CodedPicture → List ℕ → Buffered Shown

@@ -5,21 +5,38 @@
 //! pictures and counts that they give; or slice data too, with the pictures' samples. The sink is told each unit, each syntax
 //! element and each slice, and each frame in the order of output.
 //!
+//! From the whole to its parts: `running` and `session` take a stream; `unit` judges a unit, and the end of the input; `slice` a slice up to its
+//! slice data; `data` reads these into its picture's frame; `close` ends a picture. `slices` and `rules` have a slice's rules in their order,
+//! `frame_num` the gaps, `picture` the picture that is open, `decoder` the place where pictures are decoded and their frames wait. A
+//! `State` is what the units so far left. `laws` has what follows for any stream.
+//!
 //! Promised, for every byte string and every cutting of it: a yes, a no or an outside is the verdict of `specs/Verdict.antt`, of
 //! which each stream has exactly one, and the sink was told exactly its calls, with frames whose samples are those of the
 //! standard's equations; a stopped session repeats its stop and touches no sink; Write comes where the sink failed, and there only;
 //! Read where the source failed, and else only where it was read 2^41 times; Memory only for the bytes of a unit, or for a picture
-//! of another format than that of the one before it.
+//! of another format than that of the one before it (`specs/Memory.antt`).
 //! Not promised: that memory suffices.
 #![tactic(auto)]
 
+pub mod bytes;
+pub mod close;
+pub mod data;
+pub mod decoder;
+mod frame_num;
 pub mod laws;
+pub mod picture;
+pub mod rules;
 pub mod running;
 pub mod session;
+pub mod sink;
+pub mod slice;
+pub mod slices;
 pub mod source;
+pub mod state;
+pub mod unit;
 
-pub use h264_judge::{Summary, Terms};
-pub use h264_slices::FrameSink;
 pub use running::run;
 pub use session::Session;
+pub use sink::FrameSink;
 pub use source::Source;
+pub use state::{State, Summary, Terms};

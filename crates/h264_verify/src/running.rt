@@ -1,19 +1,20 @@
 //! A source judged to its end.
 #![tactic(auto)]
 
-ghost use Rattle.std.specs.Prelude.{◌≡◌, ℕ, ◌+◌, ◌-◌, ◌*◌, ◌<◌, ◌≤◌, ◌^◌, ◌⊎◌, List, [], ◌∷◌, ◌++◌, length, take, OnOk, OnErr, IfOk, IfErr, Ok, Err, None, Some, IsErrOf, IsTrue, IsFalse};
+ghost use Rattle.std.specs.Prelude.{◌≡◌, ℕ, ◌+◌, ◌-◌, ◌*◌, ◌<◌, ◌≤◌, ◌^◌, ◌⊎◌, List, [], ◌∷◌, ◌++◌, length, take, OnOk, OnErr, IfOk, IfErr, Ok, Err};
+ghost use Rattle.std.specs.Prelude.{None, Some, IsErrOf, IsTrue, IsFalse};
 ghost use Rattle.std.specs.List.{flat_map};
-ghost use Rattle.h264_judge.specs.Units.{terms_of};
-ghost use Rattle.h264_judge.specs.declared.state.Terms.{Terms};
+ghost use Rattle.h264_verify.specs.Units.{terms_of};
+ghost use Rattle.h264_verify.specs.declared.state.Terms.{Terms};
 ghost use Rattle.h264_plane.specs.declared.frame.Frame.{Frame};
 ghost use Rattle.h264_verify.specs.Feeding.{FedOn, JudgesWith};
 ghost use Rattle.h264_verify.specs.Verdict.{Judged};
 
+use crate::Summary;
 use crate::session::Session;
+use crate::sink::FrameSink;
 use crate::source::Source;
 use h264_base::{Mode, Stop, Target};
-use h264_judge::Summary;
-use h264_slices::sink::FrameSink;
 use std::alloc::Global;
 
 /// How many bytes are asked of a source at a time.
@@ -37,12 +38,20 @@ fn turn<R: Source, S: FrameSink>(
     requires source { R.failures source.old < 2 ^ 64 - 1 }
     requires room { 0 < length piece.old }
     requires runs { session.old.stop ≡ None }
-    ensures more { IfOk result (λ more. IsTrue more → (terms : Terms) (bytes : List ℕ) (first : _) → FedOn terms S.took (R.left source.old) bytes session.old first sink.old → FedOn terms S.took (R.left source.new) bytes session.new first sink.new) }
-    ensures end { IfOk result (λ more. IsFalse more → (session.new ≡ session.old) × (sink.new ≡ sink.old) × ((left : List ℕ) → R.left source.old ≡ Some left → left ≡ [])) }
-    ensures stops { IfErr result (λ stop. (terms : Terms) (bytes : List ℕ) (first : _) → FedOn terms S.took (R.left source.old) bytes session.old first sink.old → S.failures sink.old ≡ S.failures first → JudgesWith terms S.took S.failures bytes first sink.new (Err stop)) }
+    ensures more { IfOk result (λ more. IsTrue more → (terms : Terms) (bytes : List ℕ) (first : _) →
+        FedOn terms S.took (R.left source.old) bytes session.old first sink.old → FedOn terms S.took (R.left source.new) bytes session.new first sink.new) }
+    ensures end { IfOk result (λ more. IsFalse more → (session.new ≡ session.old) × (sink.new ≡ sink.old)
+        × ((left : List ℕ) → R.left source.old ≡ Some left → left ≡ [])) }
+    ensures stops { IfErr result (λ stop. (terms : Terms) (bytes : List ℕ) (first : _) →
+        FedOn terms S.took (R.left source.old) bytes session.old first sink.old → S.failures sink.old ≡ S.failures first →
+        JudgesWith terms S.took S.failures bytes first sink.new (Err stop)) }
     // What the source gave so far, whether it tells or not.
-    ensures heard { IfOk result (λ more. IsTrue more → (terms : Terms) (bytes : List ℕ) (first : _) → FedOn terms S.took (Some []) bytes session.old first sink.old → (piece : List ℕ) × FedOn terms S.took (Some []) (bytes ++ piece) session.new first sink.new) }
-    ensures heard_stop { IfErr result (λ stop. (terms : Terms) (bytes : List ℕ) (first : _) → FedOn terms S.took (Some []) bytes session.old first sink.old → S.failures sink.old ≡ S.failures first → (piece : List ℕ) × JudgesWith terms S.took S.failures (bytes ++ piece) first sink.new (Err stop)) }
+    ensures heard { IfOk result (λ more. IsTrue more → (terms : Terms) (bytes : List ℕ) (first : _) →
+        FedOn terms S.took (Some []) bytes session.old first sink.old → (piece : List ℕ)
+        × FedOn terms S.took (Some []) (bytes ++ piece) session.new first sink.new) }
+    ensures heard_stop { IfErr result (λ stop. (terms : Terms) (bytes : List ℕ) (first : _) →
+        FedOn terms S.took (Some []) bytes session.old first sink.old → S.failures sink.old ≡ S.failures first → (piece : List ℕ)
+        × JudgesWith terms S.took S.failures (bytes ++ piece) first sink.new (Err stop)) }
     ensures kept { OnOk result ((session.new.stop ≡ None) × (S.failures sink.new ≡ S.failures sink.old) × (R.failures source.new ≡ R.failures source.old)) }
     ensures again { (n : ℕ) → R.was_read source.old n → R.was_read source.new (n + 1) }
     ensures read { IsErrOf result Stop.Read → R.failures source.new ≡ R.failures source.old + 1 }
@@ -73,13 +82,20 @@ fn read_all<R: Source, S: FrameSink>(
     requires sink { S.failures sink.old < 2 ^ 64 - 1 }
     requires source { R.failures source.old < 2 ^ 64 - 1 }
     requires runs { session.old.stop ≡ None }
-    ensures fed { OnOk result ((terms : Terms) (bytes : List ℕ) (first : _) → FedOn terms S.took (R.left source.old) bytes session.old first sink.old → FedOn terms S.took (Some []) bytes session.new first sink.new) }
-    ensures stops { IfErr result (λ stop. (terms : Terms) (bytes : List ℕ) (first : _) → FedOn terms S.took (R.left source.old) bytes session.old first sink.old → S.failures sink.old ≡ S.failures first → JudgesWith terms S.took S.failures bytes first sink.new (Err stop)) }
+    ensures fed { OnOk result ((terms : Terms) (bytes : List ℕ) (first : _) → FedOn terms S.took (R.left source.old) bytes session.old first sink.old →
+        FedOn terms S.took (Some []) bytes session.new first sink.new) }
+    ensures stops { IfErr result (λ stop. (terms : Terms) (bytes : List ℕ) (first : _) →
+        FedOn terms S.took (R.left source.old) bytes session.old first sink.old → S.failures sink.old ≡ S.failures first →
+        JudgesWith terms S.took S.failures bytes first sink.new (Err stop)) }
     // What the source gave, whether it tells or not.
-    ensures heard { OnOk result ((terms : Terms) (bytes : List ℕ) (first : _) → FedOn terms S.took (Some []) bytes session.old first sink.old → (more : List ℕ) × FedOn terms S.took (Some []) (bytes ++ more) session.new first sink.new) }
-    ensures heard_stop { IfErr result (λ stop. (terms : Terms) (bytes : List ℕ) (first : _) → FedOn terms S.took (Some []) bytes session.old first sink.old → S.failures sink.old ≡ S.failures first → (more : List ℕ) × JudgesWith terms S.took S.failures (bytes ++ more) first sink.new (Err stop)) }
+    ensures heard { OnOk result ((terms : Terms) (bytes : List ℕ) (first : _) → FedOn terms S.took (Some []) bytes session.old first sink.old →
+        (more : List ℕ) × FedOn terms S.took (Some []) (bytes ++ more) session.new first sink.new) }
+    ensures heard_stop { IfErr result (λ stop. (terms : Terms) (bytes : List ℕ) (first : _) →
+        FedOn terms S.took (Some []) bytes session.old first sink.old → S.failures sink.old ≡ S.failures first → (more : List ℕ)
+        × JudgesWith terms S.took S.failures (bytes ++ more) first sink.new (Err stop)) }
     ensures kept { OnOk result ((session.new.stop ≡ None) × (S.failures sink.new ≡ S.failures sink.old)) }
-    ensures read { IsErrOf result Stop.Read → (R.failures source.new ≡ R.failures source.old + 1) ⊎ ((n : ℕ) → R.was_read source.old n → R.was_read source.new (n + 2 ^ 41)) }
+    ensures read { IsErrOf result Stop.Read → (R.failures source.new ≡ R.failures source.old + 1)
+        ⊎ ((n : ℕ) → R.was_read source.old n → R.was_read source.new (n + 2 ^ 41)) }
     ensures read_told { (R.failures source.new ≡ R.failures source.old) ⊎ IsErrOf result Stop.Read }
     ensures write { IsErrOf result Stop.Write → S.failures sink.new ≡ S.failures sink.old + 1 }
     ensures write_told { (S.failures sink.new ≡ S.failures sink.old) ⊎ IsErrOf result Stop.Write }
@@ -108,10 +124,12 @@ pub fn run<R: Source, S: FrameSink>(
     requires sink { S.failures sink.old < 2 ^ 64 - 1 }
     requires source { R.failures source.old < 2 ^ 64 - 1 }
     // Yes, no and outside are those of the stream, with the calls up to there; memory, read and write come with the first calls.
-    ensures verdict { (bytes : List ℕ) → R.left source.old ≡ Some bytes → (frames : ℕ → Frame) → Judged (terms_of mode target) S.took S.failures bytes frames [] sink.old sink.new result }
+    ensures verdict { (bytes : List ℕ) → R.left source.old ≡ Some bytes → (frames : ℕ → Frame) →
+        Judged (terms_of mode target) S.took S.failures bytes frames [] sink.old sink.new result }
     // Of a source whose bytes are not known it is the verdict on some bytes.
     ensures some { (frames : ℕ → Frame) → (bytes : List ℕ) × Judged (terms_of mode target) S.took S.failures bytes frames [] sink.old sink.new result }
-    ensures read { IsErrOf result Stop.Read → (R.failures source.new ≡ R.failures source.old + 1) ⊎ ((n : ℕ) → R.was_read source.old n → R.was_read source.new (n + 2 ^ 41)) }
+    ensures read { IsErrOf result Stop.Read → (R.failures source.new ≡ R.failures source.old + 1)
+        ⊎ ((n : ℕ) → R.was_read source.old n → R.was_read source.new (n + 2 ^ 41)) }
     // A read that failed is told as Read, and a write that failed as Write.
     ensures read_told { (R.failures source.new ≡ R.failures source.old) ⊎ IsErrOf result Stop.Read }
     ensures write { IsErrOf result Stop.Write → S.failures sink.new ≡ S.failures sink.old + 1 }
@@ -141,7 +159,8 @@ pub fn run_pieces<S: FrameSink>(
     target: Target,
 ) -> Result<Summary, Stop>
     requires { S.failures sink.old < 2 ^ 64 - 1 }
-    ensures verdict { (frames : ℕ → Frame) → Judged (terms_of mode target) S.took S.failures (flat_map (λ piece. piece.items) pieces.now) frames [] sink.old sink.new result }
+    ensures verdict { (frames : ℕ → Frame) → Judged (terms_of mode target) S.took S.failures (flat_map (λ piece. piece.items) pieces.now) frames
+        [] sink.old sink.new result }
     // Nothing is read, so that no read fails; a write that failed is told as Write, and nothing else is.
     ensures no_read { IsErrOf result Stop.Read → ⊥ }
     ensures write { IsErrOf result Stop.Write → S.failures sink.new ≡ S.failures sink.old + 1 }

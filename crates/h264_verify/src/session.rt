@@ -1,23 +1,24 @@
 //! A session over a stream.
 #![tactic(auto)]
 
-ghost use Rattle.std.specs.Prelude.{◌≡◌, ℕ, ◌+◌, ◌-◌, ◌*◌, ◌<◌, ◌≤◌, ◌^◌, ◌⊎◌, List, [], ◌∷◌, ◌++◌, length, OnOk, OnErr, IfOk, IfErr, Ok, Err, None, drop, false, IsFalse, IfSome, Some, IsErrOf};
+ghost use Rattle.std.specs.Prelude.{◌≡◌, ℕ, ◌+◌, ◌-◌, ◌*◌, ◌<◌, ◌≤◌, ◌^◌, ◌⊎◌, List, [], ◌∷◌, ◌++◌, length, OnOk, OnErr, IfOk, IfErr, Ok, Err, None};
+ghost use Rattle.std.specs.Prelude.{drop, false, IsFalse, IfSome, Some, IsErrOf};
 ghost use Rattle.h264_units.specs.Stream.{IsUndecided};
 ghost use Rattle.h264_verify.specs.Progress.{IsFresh, LastIsRead};
 ghost use Rattle.h264_plane.specs.declared.frame.Frame.{Frame};
-ghost use Rattle.h264_slices.specs.Telling.{Told};
-ghost use Rattle.h264_slices.specs.History.{History};
-ghost use Rattle.h264_judge.specs.Keeping.{Keeps, KeepsSome};
-ghost use Rattle.h264_judge.specs.Units.{terms_of};
-ghost use Rattle.h264_judge.specs.declared.state.Terms.{Terms};
+ghost use Rattle.h264_verify.specs.Telling.{Told};
+ghost use Rattle.h264_verify.specs.History.{History};
+ghost use Rattle.h264_verify.specs.KeepingUnits.{Keeps, KeepsSome};
+ghost use Rattle.h264_verify.specs.Units.{terms_of};
+ghost use Rattle.h264_verify.specs.declared.state.Terms.{Terms};
 ghost use Rattle.h264_verify.specs.Feeding.{behind, GoesOn, StopsOn, FinishesOn, WasFed, IsFed};
 ghost use Rattle.h264_verify.specs.Verdict.{Judged};
 
+use crate::bytes::read_bytes;
+use crate::sink::FrameSink;
+use crate::unit::{judge_end, judge_unit};
+use crate::{State, Summary, Terms};
 use h264_base::{Mode, Stop, Target};
-use h264_judge::bytes::read_bytes;
-use h264_judge::unit::{judge_end, judge_unit};
-use h264_judge::{State, Summary, Terms};
-use h264_slices::sink::FrameSink;
 use h264_units::Splitter;
 use std::alloc::Global;
 use std::marker::Model;
@@ -38,13 +39,15 @@ fn feed_some<S: FrameSink>(
     requires pictures { state.old.slices.pictures ≤ state.old.units }
     requires keeps { KeepsSome terms.mode false state.old }
     ensures within { IfOk result (λ n. (0 < n) × (n ≤ length piece.now)) }
-    ensures goes { (frames : ℕ → Frame) (before : History) → Keeps terms.mode frames before state.old → IfOk result (λ n. GoesOn terms S.took frames (behind splitter.old before) splitter.new state.new piece.now (drop n piece.now) sink.old sink.new) }
+    ensures goes { (frames : ℕ → Frame) (before : History) → Keeps terms.mode frames before state.old →
+        IfOk result (λ n. GoesOn terms S.took frames (behind splitter.old before) splitter.new state.new piece.now (drop n piece.now) sink.old sink.new) }
     ensures runs { OnOk result ((splitter.new.stop ≡ None) × IsFalse splitter.new.waiting × IsFalse splitter.new.ended) }
     ensures counted { OnOk result (state.new.units ≤ splitter.new.at) }
     ensures pictures { OnOk result (state.new.slices.pictures ≤ state.new.units) }
     ensures undecided { OnOk result (IsUndecided splitter.new.rest) }
     ensures kept { OnOk result (S.failures sink.new ≡ S.failures sink.old) }
-    ensures stops { (frames : ℕ → Frame) (before : History) → Keeps terms.mode frames before state.old → IfErr result (StopsOn terms S.took S.failures frames (behind splitter.old before) piece.now sink.old sink.new) }
+    ensures stops { (frames : ℕ → Frame) (before : History) → Keeps terms.mode frames before state.old →
+        IfErr result (StopsOn terms S.took S.failures frames (behind splitter.old before) piece.now sink.old sink.new) }
 {
     let n = splitter.push(piece)?;
     match splitter.take_unit() {
@@ -78,13 +81,15 @@ fn feed_all<S: FrameSink>(
     requires counted { state.old.units ≤ splitter.old.at }
     requires pictures { state.old.slices.pictures ≤ state.old.units }
     requires keeps { KeepsSome terms.mode false state.old }
-    ensures goes { (frames : ℕ → Frame) (before : History) → Keeps terms.mode frames before state.old → OnOk result (GoesOn terms S.took frames (behind splitter.old before) splitter.new state.new piece.now [] sink.old sink.new) }
+    ensures goes { (frames : ℕ → Frame) (before : History) → Keeps terms.mode frames before state.old →
+        OnOk result (GoesOn terms S.took frames (behind splitter.old before) splitter.new state.new piece.now [] sink.old sink.new) }
     ensures runs { OnOk result ((splitter.new.stop ≡ None) × IsFalse splitter.new.waiting × IsFalse splitter.new.ended) }
     ensures counted { OnOk result (state.new.units ≤ splitter.new.at) }
     ensures pictures { OnOk result (state.new.slices.pictures ≤ state.new.units) }
     ensures undecided { OnOk result (IsUndecided splitter.old.rest → IsUndecided splitter.new.rest) }
     ensures kept { OnOk result (S.failures sink.new ≡ S.failures sink.old) }
-    ensures stops { (frames : ℕ → Frame) (before : History) → Keeps terms.mode frames before state.old → IfErr result (StopsOn terms S.took S.failures frames (behind splitter.old before) piece.now sink.old sink.new) }
+    ensures stops { (frames : ℕ → Frame) (before : History) → Keeps terms.mode frames before state.old →
+        IfErr result (StopsOn terms S.took S.failures frames (behind splitter.old before) piece.now sink.old sink.new) }
     ensures no_bytes { piece.now ≡ [] → (result ≡ Ok tt) × (splitter.new ≡ splitter.old) × (state.new ≡ state.old) × (sink.new ≡ sink.old) }
 {
     let mut rest = piece;
@@ -108,7 +113,8 @@ fn finish_all<S: FrameSink>(
     requires counted { state.old.units ≤ splitter.old.at }
     requires pictures { state.old.slices.pictures ≤ state.old.units }
     requires keeps { KeepsSome terms.mode false state.old }
-    ensures finishes { (frames : ℕ → Frame) (before : History) → Keeps terms.mode frames before state.old → FinishesOn terms S.took S.failures frames (behind splitter.old before) sink.old sink.new result }
+    ensures finishes { (frames : ℕ → Frame) (before : History) → Keeps terms.mode frames before state.old →
+        FinishesOn terms S.took S.failures frames (behind splitter.old before) sink.old sink.new result }
     ensures memory { IsErrOf result Stop.Memory → LastIsRead terms.mode splitter.old }
 {
     splitter.finish()?;
@@ -146,7 +152,8 @@ impl Model for Session {
 }
 
 impl Session {
-    /// A session before the first byte, of a stream that is judged so far and for this target. It takes the places of the parameter sets and a first place of contexts: Memory where they are refused.
+    /// A session before the first byte, of a stream that is judged so far and for this target. It takes the places of the parameter sets and a first
+    /// place of contexts: Memory where they are refused.
     pub fn new(alloc: Global, mode: Mode, target: Target) -> Result<Session, Stop>
         ensures fresh { IfOk result (λ s. IsFresh s (terms_of mode target)) }
         ensures fed { IfOk result (λ s. (frames : ℕ → Frame) → WasFed (terms_of mode target) s [] frames []) }
@@ -167,12 +174,14 @@ impl Session {
         requires count { S.failures sink.old < 2 ^ 64 - 1 }
         requires runs { self.old.stop ≡ None }
         // However the input goes on, what comes is what the sink was told now and what comes later.
-        ensures goes { (frames : ℕ → Frame) (before : History) → Keeps self.old.terms.mode frames before self.old.state → OnOk result (GoesOn self.old.terms S.took frames (behind self.old.split before) self.new.split self.new.state piece.now [] sink.old sink.new) }
+        ensures goes { (frames : ℕ → Frame) (before : History) → Keeps self.old.terms.mode frames before self.old.state →
+            OnOk result (GoesOn self.old.terms S.took frames (behind self.old.split before) self.new.split self.new.state piece.now [] sink.old sink.new) }
         ensures undecided { OnOk result (IsUndecided self.old.split.rest → IsUndecided self.new.split.rest) }
         ensures going { OnOk result (self.new.stop ≡ None) }
         ensures kept { OnOk result (S.failures sink.new ≡ S.failures sink.old) }
         // The stop is the stream's, or the sink failed, or memory was refused.
-        ensures stops { (frames : ℕ → Frame) (before : History) → Keeps self.old.terms.mode frames before self.old.state → IfErr result (StopsOn self.old.terms S.took S.failures frames (behind self.old.split before) piece.now sink.old sink.new) }
+        ensures stops { (frames : ℕ → Frame) (before : History) → Keeps self.old.terms.mode frames before self.old.state →
+            IfErr result (StopsOn self.old.terms S.took S.failures frames (behind self.old.split before) piece.now sink.old sink.new) }
         ensures stopped { IfErr result (λ stop. self.new.stop ≡ Some stop) }
         ensures terms { self.new.terms ≡ self.old.terms }
         ensures write { IsErrOf result Stop.Write → S.failures sink.new ≡ S.failures sink.old + 1 }
@@ -200,7 +209,8 @@ impl Session {
     pub(crate) fn conclude<S: FrameSink>(self, sink: &mut S) -> Result<Summary, Stop>
         requires count { S.failures sink.old < 2 ^ 64 - 1 }
         requires runs { self.stop ≡ None }
-        ensures finishes { (frames : ℕ → Frame) (before : History) → Keeps self.terms.mode frames before self.state → FinishesOn self.terms S.took S.failures frames (behind self.split before) sink.old sink.new result }
+        ensures finishes { (frames : ℕ → Frame) (before : History) → Keeps self.terms.mode frames before self.state →
+            FinishesOn self.terms S.took S.failures frames (behind self.split before) sink.old sink.new result }
         ensures write { IsErrOf result Stop.Write → S.failures sink.new ≡ S.failures sink.old + 1 }
         ensures write_told { (S.failures sink.new ≡ S.failures sink.old) ⊎ IsErrOf result Stop.Write }
         ensures no_read { IsErrOf result Stop.Read → ⊥ }
@@ -223,9 +233,12 @@ impl Session {
     pub fn feed<S: FrameSink>(&mut self, piece: &[u8], sink: &mut S) -> Result<(), Stop>
         requires { self.old.stop ≡ None → S.failures sink.old < 2 ^ 64 - 1 }
         // It was then fed the piece too.
-        ensures fed { (terms : Terms) (bytes : List ℕ) (frames : ℕ → Frame) (told : List Told) → WasFed terms self.old bytes frames told → OnOk result (IsFed terms S.took S.failures self.new (bytes ++ piece.now) frames told sink.old sink.new) }
+        ensures fed { (terms : Terms) (bytes : List ℕ) (frames : ℕ → Frame) (told : List Told) → WasFed terms self.old bytes frames told →
+            OnOk result (IsFed terms S.took S.failures self.new (bytes ++ piece.now) frames told sink.old sink.new) }
         // However the input goes on, this is its verdict.
-        ensures stops { (terms : Terms) (bytes : List ℕ) (frames : ℕ → Frame) (told : List Told) → WasFed terms self.old bytes frames told → IfErr result (λ stop. (later : List ℕ) → Judged terms S.took S.failures ((bytes ++ piece.now) ++ later) frames told sink.old sink.new (Err stop)) }
+        ensures stops { (terms : Terms) (bytes : List ℕ) (frames : ℕ → Frame) (told : List Told) → WasFed terms self.old bytes frames told →
+            IfErr result (λ stop. (later : List ℕ) → Judged terms S.took S.failures ((bytes ++ piece.now) ++ later) frames told sink.old sink.new
+            (Err stop)) }
         ensures stopped { IfErr result (λ stop. self.new.stop ≡ Some stop) }
         // No bytes change nothing.
         ensures no_bytes { piece.now ≡ [] → self.old.stop ≡ None → (result ≡ Ok tt) × (self.new ≡ self.old) × (sink.new ≡ sink.old) }
@@ -247,7 +260,8 @@ impl Session {
     pub fn finish<S: FrameSink>(self, sink: &mut S) -> Result<Summary, Stop>
         requires { self.stop ≡ None → S.failures sink.old < 2 ^ 64 - 1 }
         // The verdict on all that it was fed.
-        ensures verdict { (terms : Terms) (bytes : List ℕ) (frames : ℕ → Frame) (told : List Told) → WasFed terms self bytes frames told → Judged terms S.took S.failures bytes frames told sink.old sink.new result }
+        ensures verdict { (terms : Terms) (bytes : List ℕ) (frames : ℕ → Frame) (told : List Told) → WasFed terms self bytes frames told →
+            Judged terms S.took S.failures bytes frames told sink.old sink.new result }
         // Write comes where the sink failed, and only there.
         ensures write { self.stop ≡ None → IsErrOf result Stop.Write → S.failures sink.new ≡ S.failures sink.old + 1 }
         ensures write_told { (S.failures sink.new ≡ S.failures sink.old) ⊎ IsErrOf result Stop.Write }

@@ -23,7 +23,8 @@ pub trait Source {
         requires count { failures self.old < 2 ^ 64 - 1 }
         ensures again { (n : ℕ) → was_read self.old n → was_read self.new (n + 1) }
         ensures fits { IfOk result (λ o. IfSome o (λ n. n ≤ length piece.old)) }
-        ensures bytes { IfOk result (λ o. IfSome o (λ n. (bytes : List ℕ) → left self.old ≡ Some bytes → (bytes ≡ take n piece.new ++ drop n bytes) × (left self.new ≡ Some (drop n bytes)))) }
+        ensures bytes { IfOk result (λ o. IfSome o (λ n. (bytes : List ℕ) → left self.old ≡ Some bytes → (bytes ≡ take n piece.new ++ drop n bytes)
+            × (left self.new ≡ Some (drop n bytes)))) }
         ensures end { IfOk result (λ o. IfSome o (λ n. (bytes : List ℕ) → left self.old ≡ Some bytes → n ≡ 0 → bytes ≡ [])) }
         ensures interrupted { IfOk result (λ o. IfNone o ((bytes : List ℕ) → left self.old ≡ Some bytes → left self.new ≡ Some bytes)) }
         ensures kept { OnOk result (failures self.new ≡ failures self.old) }

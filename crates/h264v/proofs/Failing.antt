@@ -2,7 +2,7 @@
 use Rattle.std.proofs.Common.{◌≡◌, ℕ, ◌+◌, ◌<◌, ◌≤◌, ◌⊎◌, inr, arith, Result, Ok, Err, IfOk, OnOk, OnErr, sym, ◌∙◌}
 use Rattle.h264_base.specs.declared.stop.Stop.{Stop}
 use Rattle.h264_base.specs.declared.stop.Stop.TheVariants.{Read, Write}
-use Rattle.h264_judge.specs.declared.state.Summary.{Summary}
+use Rattle.h264_verify.specs.declared.state.Summary.{Summary}
 
 pub no-value : {T E : Type 0} (P : T → Type 0) (r : Result T E) → OnOk r ⊥ → IfOk r P
 no-value P (Ok x) h = absurd h

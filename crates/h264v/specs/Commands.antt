@@ -8,11 +8,11 @@ use Rattle.h264_report.specs.Sent.{Takes}
 use Rattle.h264_report.specs.Written.{OfBytes, Lists, Checks, Decodes, last_line, status_of}
 use Rattle.h264_report.specs.declared.device.WriteDevice.{WriteDevice}
 use Rattle.h264_report.specs.declared.listing.Listing.TheVariants as listings
-use Rattle.h264_judge.specs.declared.state.Summary.{Summary}
-use Rattle.h264_judge.specs.Units.{terms_of}
-use Rattle.h264_words.specs.Words.{program, asks, name_of, IsRefusable}
-use Rattle.h264_words.specs.declared.Task.{Task}
-use Rattle.h264_words.specs.declared.Task.TheVariants as tasks
+use Rattle.h264_verify.specs.declared.state.Summary.{Summary}
+use Rattle.h264_verify.specs.Units.{terms_of}
+use Rattle.h264v.specs.Words.{program, asks, name_of, IsRefusable}
+use Rattle.h264v.specs.declared.command_line.Task.{Task}
+use Rattle.h264v.specs.declared.command_line.Task.TheVariants as tasks
 use Rattle.clap.specs.Words.{Text}
 use Rattle.h264v.specs.declared.outcome.Outcome.{Outcome}
 use Rattle.h264v.specs.declared.outcome.Outcome.TheVariants as outcomes

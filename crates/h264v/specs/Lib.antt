@@ -1,3 +1,4 @@
+pub mod Words
 pub mod Files
 pub mod Commands
 pub mod More

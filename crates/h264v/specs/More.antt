@@ -5,8 +5,8 @@ use Rattle.h264_base.specs.declared.stop.Stop.TheVariants.{Memory}
 use Rattle.h264_report.specs.Sent.{Takes}
 use Rattle.h264_report.specs.Written.{last_line, status_of}
 use Rattle.h264_report.specs.declared.judging.Ending.{Ending}
-use Rattle.h264_words.specs.Words.{program, asks, name_of}
-use Rattle.h264_words.specs.declared.Task.{Task}
+use Rattle.h264v.specs.Words.{program, asks, name_of}
+use Rattle.h264v.specs.declared.command_line.Task.{Task}
 use Rattle.clap.specs.Words.{Text}
 use Rattle.h264v.specs.Commands.{Output, Comes}
 

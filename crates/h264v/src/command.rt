@@ -6,13 +6,14 @@ ghost use Rattle.clap.specs.Words.{Text, takes, kind_of};
 ghost use Rattle.clap.specs.declared.error.kind.ErrorKind.TheVariants as kinds;
 ghost use Rattle.h264_base.specs.declared.mode.Mode.TheVariants as modes;
 ghost use Rattle.h264_base.specs.declared.mode.Target.TheVariants as targets;
-ghost use Rattle.h264_judge.specs.Units.{terms_of};
+ghost use Rattle.h264_verify.specs.Units.{terms_of};
 ghost use Rattle.h264_report.specs.Sent.{Takes};
 ghost use Rattle.h264_report.specs.Written.{OfBytes, last_line};
 ghost use Rattle.h264v.specs.Commands.{Performs, SaysAlone, TellsFailures, IsExcused, Faults, Comes, ComesTo, output_of};
 ghost use Rattle.h264v.specs.Files.{HasFailedToRead};
-ghost use Rattle.h264_words.specs.Words.{program, asks, name_of, is_judging};
+ghost use Rattle.h264v.specs.Words.{program, asks, name_of, is_judging};
 
+use crate::command_line::{Request, Task, asked};
 use crate::files::Files;
 use crate::outcome::Outcome;
 use clap::Error;
@@ -20,7 +21,6 @@ use clap::error::ErrorKind;
 use h264_base::{Failed, Mode, Stop, Target};
 use h264_report::{Device, Ending, Listing, check, decode, list, put_answer, put_memory};
 use h264_verify::{Source, Terms};
-use h264_words::{Request, Task, asked};
 use std::alloc::Global;
 
 /// What is said where a word is no text.
@@ -53,9 +53,11 @@ fn perform<R: Source, W: Device, E: Device>(
 ) -> Ending
     requires room { R.failures source.old < 2 ^ 64 - 1 }
     requires judging { is_judging task ≡ true }
-    ensures excused { IsExcused (HasFailedToRead (R.failures source.old) (R.failures source.new) (R.was_read source.old) (R.was_read source.new)) result.answer result.written
-        (output_of W.contents W.has_failed W.holds_back out.old) (output_of W.contents W.has_failed W.holds_back out.new) (output_of E.contents E.has_failed E.holds_back err.old) (output_of E.contents E.has_failed E.holds_back err.new) }
-    ensures performs { OfBytes (R.left source.old) (λ bytes. Performs task bytes result.answer result.written (W.contents out.old) (W.contents out.new) (E.contents err.old) (E.contents err.new)) }
+    ensures excused { IsExcused (HasFailedToRead (R.failures source.old) (R.failures source.new) (R.was_read source.old) (R.was_read source.new))
+        result.answer result.written (output_of W.contents W.has_failed W.holds_back out.old) (output_of W.contents W.has_failed W.holds_back out.new)
+        (output_of E.contents E.has_failed E.holds_back err.old) (output_of E.contents E.has_failed E.holds_back err.new) }
+    ensures performs { OfBytes (R.left source.old) (λ bytes. Performs task bytes result.answer result.written (W.contents out.old)
+        (W.contents out.new) (E.contents err.old) (E.contents err.new)) }
 {
     match task {
         Task::Check => check(alloc, Target::Baseline, source, out),
@@ -85,8 +87,9 @@ fn put_unread<D: Device>(alloc: Global, device: &mut D) -> Ending
 fn no_file<W: Device, E: Device>(alloc: Global, task: Task, out: &mut W, err: &mut E) -> Ending
     requires { is_judging task ≡ true }
     ensures answer { result.answer ≡ Err Stop.Read }
-    ensures failures { TellsFailures (Err Stop.Read) result.written
-        (output_of W.contents W.has_failed W.holds_back out.old) (output_of W.contents W.has_failed W.holds_back out.new) (output_of E.contents E.has_failed E.holds_back err.old) (output_of E.contents E.has_failed E.holds_back err.new) }
+    ensures failures { TellsFailures (Err Stop.Read) result.written (output_of W.contents W.has_failed W.holds_back out.old)
+        (output_of W.contents W.has_failed W.holds_back out.new) (output_of E.contents E.has_failed E.holds_back err.old)
+        (output_of E.contents E.has_failed E.holds_back err.new) }
     ensures says { SaysAlone task (Err Stop.Read) result.written (W.contents out.old) (W.contents out.new) (E.contents err.old) (E.contents err.new) }
 {
     match task {
@@ -124,8 +127,9 @@ pub fn not_text<E: Device>(err: &mut E) -> u8
 
 /// Says why the words ask for nothing: the exit status of a fault of the words. Where memory was wanting for that, it is said on `out`.
 fn fault<W: Device, E: Device>(error: &Error, out: &mut W, err: &mut E) -> u8
-    ensures { (words : List Text) → (takes program words ≡ true → kind_of error.now ≡ kinds.OutOfMemory) → Faults words result
-        (output_of W.contents W.has_failed W.holds_back out.old) (output_of W.contents W.has_failed W.holds_back out.new) (output_of E.contents E.has_failed E.holds_back err.old) (output_of E.contents E.has_failed E.holds_back err.new) }
+    ensures { (words : List Text) → (takes program words ≡ true → kind_of error.now ≡ kinds.OutOfMemory) →
+        Faults words result (output_of W.contents W.has_failed W.holds_back out.old) (output_of W.contents W.has_failed W.holds_back out.new)
+        (output_of E.contents E.has_failed E.holds_back err.old) (output_of E.contents E.has_failed E.holds_back err.new) }
 {
     if error.kind() == ErrorKind::OutOfMemory {
         return put_memory(out).status();
@@ -144,8 +148,11 @@ fn serve<F: Files, W: Device, E: Device>(
 ) -> u8
     requires room { F.failures files.old < 2 ^ 64 - 1 }
     requires judging { is_judging request.task ≡ true }
-    ensures { (words : List Text) → asks program words ≡ Some (name_of request.entry.task, Some request.entry.file.now) → Comes words (λ name. F.holds files.old name) (HasFailedToRead (F.failures files.old) (F.failures files.new) (F.was_read files.old) (F.was_read files.new)) result
-        (output_of W.contents W.has_failed W.holds_back out.old) (output_of W.contents W.has_failed W.holds_back out.new) (output_of E.contents E.has_failed E.holds_back err.old) (output_of E.contents E.has_failed E.holds_back err.new) }
+    ensures { (words : List Text) → asks program words ≡ Some (name_of request.entry.task, Some request.entry.file.now) →
+        Comes words (λ name. F.holds files.old name) (HasFailedToRead (F.failures files.old) (F.failures files.new) (F.was_read files.old)
+        (F.was_read files.new)) result (output_of W.contents W.has_failed W.holds_back out.old)
+        (output_of W.contents W.has_failed W.holds_back out.new) (output_of E.contents E.has_failed E.holds_back err.old)
+        (output_of E.contents E.has_failed E.holds_back err.new) }
 {
     match files.open(request.file) {
         Ok(()) => perform(alloc, request.task, files, out, err).status(),
@@ -153,8 +160,9 @@ fn serve<F: Files, W: Device, E: Device>(
     }
 }
 
-/// Does what the words ask, the program's name first among them, where they ask for a judgement of one FILE and have no option, and gives the exit status: 0 yes,
-/// 1 no, 2 outside, 3 memory, 4 a device failed, 64 a fault of the words, whose text goes to `err`. Else nothing is written, and what they ask is handed on.
+/// Does what the words ask, the program's name first among them, where they ask for a judgement of one FILE and have no option, and gives the exit
+/// status: 0 yes, 1 no, 2 outside, 3 memory, 4 a device failed, 64 a fault of the words, whose text goes to `err`. Else nothing is written, and what
+/// they ask is handed on.
 pub fn command<'a, F: Files, W: Device, E: Device>(
     alloc: Global,
     words: &'a [String],
@@ -163,8 +171,10 @@ pub fn command<'a, F: Files, W: Device, E: Device>(
     err: &mut E,
 ) -> Outcome<'a>
     requires { F.failures files.old < 2 ^ 64 - 1 }
-    ensures { ComesTo (map (λ w. string_bytes w) words.now) (λ name. F.holds files.old name) (HasFailedToRead (F.failures files.old) (F.failures files.new) (F.was_read files.old) (F.was_read files.new)) result
-        (output_of W.contents W.has_failed W.holds_back out.old) (output_of W.contents W.has_failed W.holds_back out.new) (output_of E.contents E.has_failed E.holds_back err.old) (output_of E.contents E.has_failed E.holds_back err.new) }
+    ensures { ComesTo (map (λ w. string_bytes w) words.now) (λ name. F.holds files.old name)
+        (HasFailedToRead (F.failures files.old) (F.failures files.new) (F.was_read files.old) (F.was_read files.new)) result
+        (output_of W.contents W.has_failed W.holds_back out.old) (output_of W.contents W.has_failed W.holds_back out.new)
+        (output_of E.contents E.has_failed E.holds_back err.old) (output_of E.contents E.has_failed E.holds_back err.new) }
 {
     match asked(alloc, words) {
         Err(error) => Outcome::Done(fault(&error, out, err)),

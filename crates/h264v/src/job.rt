@@ -3,6 +3,7 @@
 
 ghost use Rattle.std.specs.Prelude.{◌≡◌, ◌-◌, ◌<◌, ◌^◌};
 
+use crate::command_line::Task;
 use crate::explaining::guide_of;
 use crate::files::{OpenedFiles, Opener, Seen};
 use crate::options::Options;
@@ -18,7 +19,6 @@ use h264_report::{
     told_answer, verdict_line,
 };
 use h264_verify::{FrameSink, run};
-use h264_words::Task;
 use std::alloc::Global;
 use std::io::Write;
 use std::marker::Brand;

@@ -6,6 +6,7 @@
 #[cfg(test)]
 mod check_tests;
 mod command;
+mod command_line;
 mod explaining;
 mod files;
 #[cfg(test)]

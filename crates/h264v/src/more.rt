@@ -7,6 +7,7 @@ ghost use Rattle.h264_report.specs.declared.judging.Ending.{Ending as EndingView
 ghost use Rattle.h264v.specs.More.{worst, IsStatus};
 
 use crate::command::FAULT;
+use crate::command_line::{Task, Wanted};
 use crate::explaining::put_entry;
 use crate::files::{Files, OpenedFiles, Opener};
 use crate::job::{
@@ -19,7 +20,6 @@ use h264_base::Stop;
 use h264_report::pages::Page;
 use h264_report::survey::Meter;
 use h264_report::{Device, Ending, WriteDevice};
-use h264_words::{Task, Wanted};
 use std::alloc::Global;
 use std::io;
 use std::io::Write;
@@ -365,8 +365,8 @@ fn do_output<O: Opener + Maker + Drop, E: Write, M: Meter + Drop>(
     done
 }
 
-/// Does what the words ask beside a judgement of one file without options, and gives the exit status: the worst of the files', 64 for a fault of the words, whose
-/// text goes to `err`.
+/// Does what the words ask beside a judgement of one file without options, and gives the exit status: the worst of the files', 64 for a fault of the
+/// words, whose text goes to `err`.
 pub fn more<O: Opener + Maker + Drop, W: Device, E: Write, M: Meter + Drop + Copy>(
     alloc: Global,
     wanted: &Wanted<'_>,

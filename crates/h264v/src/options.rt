@@ -1,9 +1,9 @@
 //! The options of a command line, and which of them go together.
 #![tactic(auto)]
 
+use crate::command_line::{Task, Wanted};
 use h264_base::Target;
 use h264_report::survey::Choice;
-use h264_words::{Task, Wanted};
 
 /// What the words say beside the task and its files.
 #[derive(Clone, Copy)]

@@ -8,13 +8,13 @@ ghost use Rattle.h264v.specs.Files.{HasFailedToRead};
 ghost use Rattle.h264v.specs.More.{IsStatus, Ends, Runs};
 
 use crate::command::{command, not_text};
+use crate::command_line::Wanted;
 use crate::files::{OpenedFiles, Opener};
 use crate::more::{Maker, blame, blame_output, more};
 use crate::outcome::Outcome;
 use crate::words::Words;
 use h264_report::survey::{Meter, NoMeter};
 use h264_report::{Device, WriteDevice, put_memory};
-use h264_words::Wanted;
 use std::alloc::Global;
 use std::io::Write;
 
@@ -55,8 +55,10 @@ where
     E: Write + Drop,
     M: Meter + Drop + Copy,
     requires { files.old.failures < 2 ^ 64 - 1 }
-    ensures { Ends (map (λ w. string_bytes w) words.now) (λ name. O.holds files.old.opener name) (HasFailedToRead files.old.failures files.new.failures (λ n. (n ≤ files.old.reads) ⊎ (0 < files.old.failures)) (λ n. (n ≤ files.new.reads) ⊎ (0 < files.new.failures))) result
-        (output_by W.contents out.old) (output_by W.contents out.new) (output_by E.contents err.old) }
+    ensures { Ends (map (λ w. string_bytes w) words.now) (λ name. O.holds files.old.opener name)
+        (HasFailedToRead files.old.failures files.new.failures (λ n. (n ≤ files.old.reads) ⊎ (0 < files.old.failures))
+        (λ n. (n ≤ files.new.reads) ⊎ (0 < files.new.failures))) result (output_by W.contents out.old) (output_by W.contents out.new)
+        (output_by E.contents err.old) }
 {
     let opener = files.opener;
     match command(alloc, words, files, out, err) {
@@ -72,7 +74,8 @@ fn blame_last<O: Opener + Drop>(files: &OpenedFiles<O>, words: &[String], err: &
     }
 }
 
-/// Does what these words ask, the program's name first among them: the exit status. Then standard error is told why a file or standard output failed, where one did.
+/// Does what these words ask, the program's name first among them: the exit status. Then standard error is told why a file or standard output failed,
+/// where one did.
 pub fn run_words<O, W, E, M>(
     alloc: Global,
     words: &[String],
@@ -87,8 +90,10 @@ where
     E: Write + Drop,
     M: Meter + Drop + Copy,
     requires { files.old.failures < 2 ^ 64 - 1 }
-    ensures { Ends (map (λ w. string_bytes w) words.now) (λ name. O.holds files.old.opener name) (HasFailedToRead files.old.failures files.new.failures (λ n. (n ≤ files.old.reads) ⊎ (0 < files.old.failures)) (λ n. (n ≤ files.new.reads) ⊎ (0 < files.new.failures))) result
-        (output_by W.contents out.old) (output_by W.contents out.new) (output_by E.contents err.old) }
+    ensures { Ends (map (λ w. string_bytes w) words.now) (λ name. O.holds files.old.opener name)
+        (HasFailedToRead files.old.failures files.new.failures (λ n. (n ≤ files.old.reads) ⊎ (0 < files.old.failures))
+        (λ n. (n ≤ files.new.reads) ⊎ (0 < files.new.failures))) result (output_by W.contents out.old) (output_by W.contents out.new)
+        (output_by E.contents err.old) }
 {
     let status = answer_words(alloc, words, files, out, err, meter);
     blame_last(files, words, err);
@@ -112,10 +117,14 @@ where
     E: Write + Drop,
     M: Meter + Drop + Copy,
     requires { files.old.failures < 2 ^ 64 - 1 }
-    ensures known { (words' : List Text) → A.known words.now ≡ Some words' → Runs words' (λ name. O.holds files.old.opener name) (HasFailedToRead files.old.failures files.new.failures (λ n. (n ≤ files.old.reads) ⊎ (0 < files.old.failures)) (λ n. (n ≤ files.new.reads) ⊎ (0 < files.new.failures))) result
+    ensures known { (words' : List Text) → A.known words.now ≡ Some words' →
+        Runs words' (λ name. O.holds files.old.opener name) (HasFailedToRead files.old.failures files.new.failures
+        (λ n. (n ≤ files.old.reads) ⊎ (0 < files.old.failures)) (λ n. (n ≤ files.new.reads) ⊎ (0 < files.new.failures))) result
         (output_by W.contents out.old) (output_by W.contents out.new) (output_by E.contents err.old) }
-    ensures some { (words' : List Text) × Runs words' (λ name. O.holds files.old.opener name) (HasFailedToRead files.old.failures files.new.failures (λ n. (n ≤ files.old.reads) ⊎ (0 < files.old.failures)) (λ n. (n ≤ files.new.reads) ⊎ (0 < files.new.failures))) result
-        (output_by W.contents out.old) (output_by W.contents out.new) (output_by E.contents err.old) }
+    ensures some { (words' : List Text) × Runs words' (λ name. O.holds files.old.opener name)
+        (HasFailedToRead files.old.failures files.new.failures (λ n. (n ≤ files.old.reads) ⊎ (0 < files.old.failures))
+        (λ n. (n ≤ files.new.reads) ⊎ (0 < files.new.failures))) result (output_by W.contents out.old) (output_by W.contents out.new)
+        (output_by E.contents err.old) }
 {
     match words.words(alloc) {
         Ok(Some(given)) => run_words(alloc, given.as_slice(), files, out, err, meter),

@@ -17,7 +17,8 @@ const STYLE: &str =
 h1{font-size:1.4rem}h2{font-size:1.1rem;margin-top:2rem}pre{background:#f4f4f4;padding:.8rem;overflow-x:auto;white-space:pre-wrap}\
 table{border-collapse:collapse}td,th{text-align:left;padding:.2rem 1rem .2rem 0;border-bottom:1px solid #ddd;font-weight:normal}\
 .yes{color:#1e7d3c}.no{color:#b3261e}.other{color:#8a5a00}svg{width:100%;height:12rem;background:#f4f4f4}\
-figure{display:inline-block;margin:0 1rem 1rem 0}figcaption{font-size:.85rem}.key span{display:inline-block;width:.8rem;height:.8rem;margin:0 .3rem 0 1rem}</style>";
+figure{display:inline-block;margin:0 1rem 1rem 0}figcaption{font-size:.85rem}\
+.key span{display:inline-block;width:.8rem;height:.8rem;margin:0 .3rem 0 1rem}</style>";
 
 /// The key of the plot of bytes.
 const KEY: &str =

@@ -2,7 +2,7 @@ use Rattle.std.proofs.Common.{rules, refl}
 use Rattle.h264_base.proofs.Steps.{bind, stop, done}
 use Rattle.h264_sps.specs.Counting.{counting, of_type}
 use Rattle.h264_sps.proofs.Types.{of_type-other}
-use Rattle.h264_vui.proofs.Ways.{passed-on}
+use Rattle.h264_sps.proofs.Ways.{passed-on}
 use Rattle.h264_sps.proofs.count_type.read_count_type.Goals as goal
 
 pub returns-in_err-kind : goal.returns-in_err-kind

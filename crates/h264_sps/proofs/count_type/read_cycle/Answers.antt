@@ -8,7 +8,7 @@ use Rattle.h264_base.proofs.Steps.{kept}
 use Rattle.h264_bits.specs.Forms.{signed}
 use Rattle.h264_bits.proofs.Repeated.{repeated-starts, repeated-next, repeated-stop, repeated-over, rest-kept}
 use Rattle.h264_sps.proofs.Padded.{cycle-is}
-use Rattle.h264_vui.proofs.Ways.{passed-on}
+use Rattle.h264_sps.proofs.Ways.{passed-on}
 use Rattle.h264_sps.proofs.count_type.read_cycle.Goals as goal
 
 pub loop-i-init : goal.loop-i-init

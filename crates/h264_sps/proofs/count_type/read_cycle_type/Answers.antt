@@ -5,7 +5,7 @@ use Rattle.std.proofs.lemmas.Int.{to_z-of_z}
 use Rattle.std.specs.Int.{w32}
 use mir.Val.{SFits}
 use Rattle.h264_sps.specs.Counting.{cycle_type}
-use Rattle.h264_vui.proofs.Ways.{passed-on, still}
+use Rattle.h264_sps.proofs.Ways.{passed-on, still}
 use Rattle.h264_sps.proofs.count_type.read_cycle_type.Goals as goal
 
 pub returns-in_err-always_zero : goal.returns-in_err-always_zero

@@ -1,7 +1,7 @@
 use Rattle.std.proofs.Common.{refl}
 use Rattle.h264_base.proofs.Steps.{bind, stop, done}
 use Rattle.h264_sps.specs.Counting.{lsb_type}
-use Rattle.h264_vui.proofs.Ways.{passed-on}
+use Rattle.h264_sps.proofs.Ways.{passed-on}
 use Rattle.h264_sps.proofs.count_type.read_lsb_type.Goals as goal
 
 pub returns-in_err-log2_minus4 : goal.returns-in_err-log2_minus4

@@ -1,8 +1,8 @@
 use Rattle.std.proofs.Common.{refl}
 use Rattle.h264_base.proofs.Steps.{bind, stop, done}
-use Rattle.h264_vui.specs.Vui.{flagged}
+use Rattle.h264_sps.specs.Vui.{flagged}
 use Rattle.h264_sps.proofs.Regroup.{crop-by_sides}
-use Rattle.h264_vui.proofs.Ways.{passed-on, as-parts, absent, there-stop, there-read}
+use Rattle.h264_sps.proofs.Ways.{passed-on, as-parts, absent, there-stop, there-read}
 use Rattle.h264_sps.proofs.read.read_crop_info.Goals as goal
 
 pub returns-in_err-present : goal.returns-in_err-present

@@ -1,7 +1,7 @@
 use Rattle.std.proofs.Common.{refl}
 use Rattle.h264_base.proofs.Steps.{bind, stop, done, checked}
 use Rattle.h264_sps.specs.Parts.{crop_offsets}
-use Rattle.h264_vui.proofs.Ways.{passed-on}
+use Rattle.h264_sps.proofs.Ways.{passed-on}
 use Rattle.h264_sps.proofs.read.read_crop_offsets.Goals as goal
 
 pub returns-in_err-before : goal.returns-in_err-before

@@ -1,7 +1,7 @@
 use Rattle.std.proofs.Common.{refl}
 use Rattle.h264_base.proofs.Steps.{bind, stop, done}
 use Rattle.h264_sps.proofs.Regroup.{flags-by_values}
-use Rattle.h264_vui.proofs.Ways.{passed-on, as-parts}
+use Rattle.h264_sps.proofs.Ways.{passed-on, as-parts}
 use Rattle.h264_sps.proofs.read.read_flags.Goals as goal
 
 pub returns-in_err-set0 : goal.returns-in_err-set0

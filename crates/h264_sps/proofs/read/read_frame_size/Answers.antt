@@ -2,7 +2,7 @@ use Rattle.std.proofs.Common.{refl, ◌∙◌, sym}
 use Rattle.h264_base.proofs.Steps.{bind, stop, done, checked}
 use Rattle.h264_sps.specs.Sps.{fits, frame_size}
 use Rattle.h264_sps.proofs.Regroup.{four-checks, found-some, found-none}
-use Rattle.h264_vui.proofs.Ways.{passed-on, by-run}
+use Rattle.h264_sps.proofs.Ways.{passed-on, by-run}
 use Rattle.h264_sps.proofs.read.read_frame_size.Goals as goal
 
 pub returns-in_err-width_minus1 : goal.returns-in_err-width_minus1

@@ -1,7 +1,7 @@
 use Rattle.std.proofs.Common.{refl}
 use Rattle.h264_base.proofs.Steps.{bind, stop, done}
 use Rattle.h264_sps.specs.Sps.{profile_and_level}
-use Rattle.h264_vui.proofs.Ways.{passed-on, checked-so, still}
+use Rattle.h264_sps.proofs.Ways.{passed-on, checked-so, still}
 use Rattle.h264_sps.proofs.read.read_front.Goals as goal
 
 pub returns-in_err-profile : goal.returns-in_err-profile

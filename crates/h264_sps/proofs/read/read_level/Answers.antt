@@ -2,7 +2,7 @@ use Rattle.std.proofs.Common.{refl, ◌∙◌, sym}
 use Rattle.h264_base.proofs.Steps.{bind, stop, done, checked}
 use Rattle.h264_bits.proofs.Supported.{supported}
 use Rattle.h264_sps.specs.Sps.{level}
-use Rattle.h264_vui.proofs.Ways.{passed-on}
+use Rattle.h264_sps.proofs.Ways.{passed-on}
 use Rattle.h264_sps.proofs.read.read_level.Goals as goal
 
 pub returns-in_err-level : goal.returns-in_err-level

@@ -1,7 +1,7 @@
 use Rattle.std.proofs.Common.{refl}
 use Rattle.h264_base.proofs.Steps.{bind, stop, done}
 use Rattle.h264_sps.specs.Parts.{sps_from_size}
-use Rattle.h264_vui.proofs.Ways.{passed-on, still}
+use Rattle.h264_sps.proofs.Ways.{passed-on, still}
 use Rattle.h264_sps.proofs.read.sps_from_size.Goals as goal
 
 pub returns-in_err-size-clause-meets : goal.returns-in_err-size-clause-meets

@@ -4,7 +4,7 @@ use Rattle.h264_base.proofs.Steps.{bind, stop}
 use Rattle.h264_sps.specs.declared.sps.Sps.{Sps}
 use Rattle.h264_sps.specs.Sps.{sps}
 use Rattle.h264_sps.specs.Parts.{sps_from_size}
-use Rattle.h264_vui.proofs.Ways.{passed-on, still}
+use Rattle.h264_sps.proofs.Ways.{passed-on, still}
 use Rattle.h264_sps.proofs.read.sps_steps.Goals as goal
 
 pub returns-in_err-front-clause-meets : goal.returns-in_err-front-clause-meets

@@ -1,5 +1,5 @@
 use Rattle.std.proofs.Common.{◌≡◌, ◌+◌, ◌++◌, List, [], ℕ, None, Some}
-use Rattle.h264_judge.specs.declared.state.Terms.{Terms}
+use Rattle.h264_verify.specs.declared.state.Terms.{Terms}
 use Rattle.h264_verify.specs.Feeding.{FedOn}
 use Rattle.h264_verify.proofs.running.read_all.Given as goal
 

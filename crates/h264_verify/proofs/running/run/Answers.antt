@@ -5,7 +5,7 @@ use Rattle.h264_plane.specs.Frames.{no_frame}
 use Rattle.h264_verify.proofs.Lacking.{same-stop}
 use Rattle.h264_verify.proofs.Finishing.{told-as, told-behind}
 use Rattle.h264_verify.proofs.Verdicts.{judges-judged, none-judged, fed-first, fed-last}
-use Rattle.h264_judge.specs.Units.{terms_of}
+use Rattle.h264_verify.specs.Units.{terms_of}
 use Rattle.h264_verify.proofs.running.run.Goals as goal
 
 pub returns-in-Err-clause-verdict : goal.returns-in-Err-clause-verdict

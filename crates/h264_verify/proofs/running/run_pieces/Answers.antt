@@ -1,9 +1,9 @@
 use Rattle.std.proofs.Common.{sym, ap, arith, refl, ◌∙◌, ◌≡◌, ◌+◌, length}
-use Rattle.h264_slices.proofs.Playing.{err-as}
+use Rattle.h264_verify.proofs.Playing.{err-as}
 use Rattle.h264_verify.proofs.Finishing.{told-as, told-behind}
 use Rattle.h264_verify.proofs.Sources.{pieces-split-at}
 use Rattle.h264_verify.proofs.Verdicts.{judges-judged, none-judged, pieces-first, pieces-on, pieces-halt, pieces-end, keeps-as, goes-as, stops-as, finishes-as}
-use Rattle.h264_judge.specs.Units.{terms_of}
+use Rattle.h264_verify.specs.Units.{terms_of}
 use Rattle.h264_verify.proofs.running.run_pieces.Goals as goal
 
 pub returns-in-Err-clause-verdict : goal.returns-in-Err-clause-verdict

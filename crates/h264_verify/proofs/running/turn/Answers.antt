@@ -2,7 +2,7 @@ use Rattle.std.proofs.Common.{◌≡◌, Bool, true, IsFalse, Result, Ok, Err, [
 use Rattle.std.proofs.lemmas.Result.{err_from_is_err_and}
 use Rattle.h264_base.specs.declared.stop.Stop.{Stop}
 use Rattle.h264_base.specs.declared.stop.Stop.TheVariants.{Read, Write}
-use Rattle.h264_slices.proofs.Playing.{err-as}
+use Rattle.h264_verify.proofs.Playing.{err-as}
 use Rattle.h264_verify.proofs.Finishing.{told-as}
 use Rattle.h264_verify.proofs.Verdicts.{fed-more, fed-again, fed-halts, fed-fails}
 use Rattle.h264_verify.proofs.Heard.{heard-more, heard-halts, heard-none, heard-fails}

@@ -1,8 +1,8 @@
 use Rattle.h264_units.specs.Stream.{IsUndecided}
 use Rattle.std.proofs.Common.{◌≡◌, ◌≤◌, ℕ, IsFalse, None, [], length}
 use Rattle.h264_plane.specs.declared.frame.Frame.{Frame}
-use Rattle.h264_slices.specs.History.{History}
-use Rattle.h264_judge.specs.Keeping.{Keeps}
+use Rattle.h264_verify.specs.History.{History}
+use Rattle.h264_verify.specs.KeepingUnits.{Keeps}
 use Rattle.h264_verify.specs.Feeding.{behind, GoesOn}
 use Rattle.h264_verify.proofs.session.feed_all.Given as goal
 

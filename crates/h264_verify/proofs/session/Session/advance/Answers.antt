@@ -3,7 +3,7 @@ use Rattle.h264_base.specs.declared.mode.Mode.{Mode}
 use Rattle.h264_base.specs.declared.stop.Stop.{Stop}
 use Rattle.h264_units.specs.Stream.{IsUndecided}
 use Rattle.h264_units.specs.Splitting.{Splitting}
-use Rattle.h264_judge.specs.declared.state.State.{State}
+use Rattle.h264_verify.specs.declared.state.State.{State}
 use Rattle.h264_verify.specs.Progress.{Progress, IsReady, IsSession}
 use Rattle.h264_verify.proofs.Familiar.{on-keeps, stops-told, told-err}
 use Rattle.h264_verify.proofs.session.Session.advance.Goals as goal

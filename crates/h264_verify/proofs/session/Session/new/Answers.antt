@@ -1,11 +1,11 @@
 use Rattle.std.proofs.Common.{◌≡◌, ℕ, refl, ap, arith, []}
 use Rattle.h264_base.specs.declared.mode.Mode.{Mode}
-use Rattle.h264_judge.specs.Units.{terms_of}
+use Rattle.h264_verify.specs.Units.{terms_of}
 use Rattle.h264_plane.specs.declared.frame.Frame.{Frame}
 use Rattle.h264_plane.specs.Frames.{no_frame}
 use Rattle.h264_units.specs.Splitting.{Splitting, at_start}
-use Rattle.h264_judge.specs.declared.state.State.{State}
-use Rattle.h264_judge.specs.Keeping.{Keeps}
+use Rattle.h264_verify.specs.declared.state.State.{State}
+use Rattle.h264_verify.specs.KeepingUnits.{Keeps}
 use Rattle.h264_verify.specs.Progress.{IsReady}
 use Rattle.h264_verify.proofs.Verdicts.{fed-nothing}
 use Rattle.h264_verify.proofs.session.Session.new.Goals as goal

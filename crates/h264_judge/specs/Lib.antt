@@ -1,5 +1,0 @@
-pub mod Keeping
-pub mod Memory
-pub mod Units
-pub mod UnitOutcome
-pub mod Turning

@@ -1,0 +1,256 @@
+-- The course of a unit, and the same step by step.
+use Rattle.std.proofs.Common.{◌≡◌, ℕ, ◌*◌, Bool, true, false, List, [], ◌∷◌, ◌++◌, map, length, Result, Ok, Err, refl, ap, sym, ◌∙◌, subst, append_assoc, ◌==◌, ◌≤◌, arith, if◌then◌else◌}
+use Rattle.std.proofs.lemmas.List.{append-nil}
+use Rattle.h264_base.specs.declared.mode.Mode.{Mode}
+use Rattle.h264_base.specs.declared.mode.Mode.TheVariants as modes
+use Rattle.h264_base.specs.declared.stop.Stop.{Stop}
+use Rattle.h264_base.specs.declared.stop.Stop.TheVariants.{No}
+use Rattle.h264_verify.specs.Telling.{Told, Said, said_of, AreOf}
+use Rattle.h264_base.specs.Body.{Body}
+use Rattle.h264_base.specs.Grammar.{Grammar, ◌>>=◌ as ◌bind◌, Done, Element}
+use Rattle.h264_base.specs.Run.{Run, run}
+use Rattle.h264_base.proofs.Steps.{then_run, run-bind}
+use Rattle.h264_units.specs.Stream.{NalUnit}
+use Rattle.h264_rbsp.specs.Emulation.{emulation_checked}
+use Rattle.h264_rbsp.specs.Rbsp.{body_of}
+use Rattle.h264_sps.specs.declared.sps.Sps.{Sps}
+use Rattle.h264_pps.specs.declared.Pps.{Pps}
+use Rattle.h264_header.specs.declared.header.Header.{Header}
+use Rattle.h264_sps.specs.Sps.{sps}
+use Rattle.h264_pps.specs.Pps.{pps}
+use Rattle.h264_header.specs.Layout.{sets_of}
+use Rattle.h264_header.specs.Header.{header}
+use Rattle.h264_verify.specs.Content.{Content}
+use Rattle.h264_verify.specs.Content as contents
+use Rattle.h264_verify.specs.Outcome.{Outcome, ◌>>=◌, with_calls, goes_on, answers, gives, tells, value_of, structure_outcome, Plays}
+use Rattle.h264_verify.specs.Steps.{Step, needs}
+use Rattle.h264_verify.specs.UnitHeader.{header_of, nal_unit_type, header_demands}
+use Rattle.h264_verify.specs.History.{History, maps_of}
+use Rattle.h264_verify.specs.Pictures.{CodedPicture, goes_on as may_go_on, runs_of, closing_at, closing_demands}
+use Rattle.h264_verify.specs.Buffering.{closing_frames, last_frames}
+use Rattle.h264_verify.specs.Keeping.{ended_pictures, close_steps}
+use Rattle.h264_verify.specs.Closing.{whole_at, whole_picture, whole_steps}
+use Rattle.h264_verify.specs.Demands.{Demand}
+use Rattle.h264_verify.specs.declared.state.Summary.{Summary}
+use Rattle.h264_verify.specs.declared.state.Terms.{Terms}
+use Rattle.h264_verify.specs.Units.{unit_call, is_slice, slice_unit, other_content, content, content_steps, data_course, content_course, frames_at, end_steps, picture_demand, summary_of}
+use Rattle.h264_verify.specs.StepOutcome.{steps_outcome, structure_from, course_outcome}
+use Rattle.h264_verify.specs.UnitOutcome.{sps_outcome, pps_outcome, slice_outcome, header_content, whole_slice, joined, joined_on, joined_other, joined_by, unit_by_steps, unit_outcome, end_outcome}
+use Rattle.h264_verify.proofs.Stepping.{outcome, needs-judged, steps-append}
+use Rattle.h264_verify.proofs.Playing.{plays-on, plays-stops, gives-plays, plays-as}
+use Rattle.h264_verify.proofs.Growing.{closing-of}
+
+-- one part after another, in either bracketing
+bind-calls : {A B : Type 0} (calls : List Told) (o : Outcome A) (g : A → Outcome B) → (with_calls calls o >>= g) ≡ with_calls calls (o >>= g)
+unfolding ◌>>=◌
+bind-calls {A} {B} calls o g = by o.calls o.answer
+  where
+    by : (later : List Told) (a : Result A Stop) → goes_on (calls ++ later) g a ≡ with_calls calls (goes_on later g a)
+    by later (Ok y) = ap (λ (l : List Told). outcome l (g y).answer) (append_assoc calls later (g y).calls)
+    by later (Err e) = refl
+
+pub bind-assoc : {A B C : Type 0} (o : Outcome A) (f : A → Outcome B) (g : B → Outcome C) → ((o >>= f) >>= g) ≡ (o >>= λ x. f x >>= g)
+unfolding ◌>>=◌
+bind-assoc {A} {B} {C} o f g = by o.answer
+  where
+    by : (a : Result A Stop) → (goes_on o.calls f a >>= g) ≡ goes_on o.calls (λ x. f x >>= g) a
+    by (Ok x) = bind-calls o.calls (f x) g
+    by (Err e) = refl
+
+-- the same after each value
+pub bind-same : {A B : Type 0} (o : Outcome A) (f g : A → Outcome B) → ((x : A) → f x ≡ g x) → (o >>= f) ≡ (o >>= g)
+unfolding ◌>>=◌
+bind-same {A} {B} o f g h = by o.answer
+  where
+    by : (a : Result A Stop) → goes_on o.calls f a ≡ goes_on o.calls g a
+    by (Ok x) = ap (with_calls o.calls) (h x)
+    by (Err e) = refl
+
+-- a structure whose value is seen otherwise
+abbrev pub seen : {A B : Type 0} → (A → B) → Result (A × ℕ) Stop → Result (B × ℕ) Stop
+seen f (Ok x) = Ok (f x.0, x.1)
+seen f (Err e) = Err e
+
+module _ {A B : Type 0} (body : Body) (f : A → B) where
+  as-seen : (es : List Element) (a : Result (A × ℕ) Stop) → (let r : Run B = then_run (record { elements = es; answer = a }) (λ x j. run (Done (f x)) body j) in outcome (map (said_of body) r.elements) r.answer ≡ outcome (map (said_of body) es) (seen f a))
+  unfolding run
+  as-seen es (Ok x) = ap (λ (l : List Element). outcome (map (said_of body) l) (let r : Result (B × ℕ) Stop = Ok (f x.0, x.1) in r)) (append-nil es)
+  as-seen es (Err e) = refl
+
+  pub structure-seen : (g : Grammar A) (i : ℕ) → structure_from (◌bind◌ g (λ x. Done (f x))) body i ≡ outcome (structure_from g body i).calls (seen f (structure_from g body i).answer)
+  structure-seen g i = ap (λ (r : Run B). outcome (map (said_of body) r.elements) r.answer) (run-bind g (λ x. Done (f x)) body i) ∙ as-seen (run g body i).elements (run g body i).answer
+
+-- what was read is judged, and nothing is read after it
+module _ {A : Type 0} (mode : Mode) (before : History) (unit : NalUnit) (f : A → Content) (none : (x : A) (bit : ℕ) → course_outcome (body_of unit) (data_course mode before unit (f x) bit) ≡ gives (f x)) where
+  abbrev one_more : Content → History
+  one_more found = record { unit = unit; content = found } ∷ before
+
+  plain-by : (told : List Told) (a : Result (A × ℕ) Stop) → joined_on mode before unit (outcome told (seen f a)) ≡ joined mode before unit (outcome told (value_of a) >>= λ x. gives (f x))
+  unfolding ◌>>=◌
+  plain-by told (Ok x) =
+      ap (λ (o : Outcome Content). with_calls told (steps_outcome (content_steps mode before unit (f x.0)) >>= λ _. o >>= λ found. gives (one_more found))) (none x.0 x.1)
+      ∙ ap (λ (l : List Told). with_calls l (steps_outcome (content_steps mode before unit (f x.0)) >>= λ _. gives (one_more (f x.0)))) (sym (append-nil told))
+  plain-by told (Err e) = refl
+
+  plain : (g : Grammar A) → joined_on mode before unit (structure_from (◌bind◌ g (λ x. Done (f x))) (body_of unit) 0) ≡ joined mode before unit (structure_outcome g (body_of unit) >>= λ x. gives (f x))
+  plain g = ap (λ (o : Outcome (Content × ℕ)). joined_on mode before unit o) (structure-seen (body_of unit) f g 0) ∙ plain-by (structure_from g (body_of unit) 0).calls (structure_from g (body_of unit) 0).answer
+
+-- by the type of the unit
+choice-is : {A : Type 0} (b c : Bool) (x y : A) → b ≡ c → (if b then x else y) ≡ (if c then x else y)
+choice-is b c x y e = ap (λ d. if d then x else y) e
+
+module _ (before : History) (unit : NalUnit) where
+  abbrev on : Mode → Grammar Content → Outcome History
+  on mode g = joined_on mode before unit (structure_from g (body_of unit) 0)
+
+  passed-is : (mode : Mode) → on mode (Done contents.Passed) ≡ joined mode before unit (gives contents.Passed)
+  unfolding ◌>>=◌ run course_outcome
+  passed-is mode = refl
+
+  none-sps : (mode : Mode) (set : Sps) (bit : ℕ) → course_outcome (body_of unit) (data_course mode before unit (contents.OfSps set) bit) ≡ gives (contents.OfSps set)
+  unfolding course_outcome
+  none-sps mode set bit = refl
+
+  none-pps : (mode : Mode) (set : Pps) (bit : ℕ) → course_outcome (body_of unit) (data_course mode before unit (contents.OfPps set) bit) ≡ gives (contents.OfPps set)
+  unfolding course_outcome
+  none-pps mode set bit = refl
+
+  none-header : (h : Header) (bit : ℕ) → course_outcome (body_of unit) (data_course modes.Headers before unit (contents.OfSlice h []) bit) ≡ gives (contents.OfSlice h [])
+  unfolding course_outcome
+  none-header h bit = refl
+
+  sps-is : (terms : Terms) → on terms.mode (◌bind◌ (sps terms.target) (λ set. Done (contents.OfSps set))) ≡ joined terms.mode before unit (sps_outcome terms.target unit)
+  unfolding sps_outcome
+  sps-is terms = plain terms.mode before unit contents.OfSps (none-sps terms.mode) (sps terms.target)
+
+  pps-is : (terms : Terms) → on terms.mode (◌bind◌ (pps terms.target) (λ set. Done (contents.OfPps set))) ≡ joined terms.mode before unit (pps_outcome terms.target unit)
+  unfolding pps_outcome
+  pps-is terms = plain terms.mode before unit contents.OfPps (none-pps terms.mode) (pps terms.target)
+
+  header-is : on modes.Headers (header_content before unit) ≡ joined modes.Headers before unit (slice_outcome before unit)
+  unfolding slice_outcome
+  header-is = plain modes.Headers before unit (λ h. contents.OfSlice h []) none-header (header (sets_of (maps_of before)) (slice_unit unit))
+
+  whole-is : on modes.Full (header_content before unit) ≡ whole_slice before unit
+  unfolding whole_slice
+  whole-is = refl
+
+  other-by : (b : Bool) (mode : Mode) (slice : Outcome History) → on mode (header_content before unit) ≡ slice → on mode (if b then header_content before unit else Done contents.Passed) ≡ (if b then slice else joined mode before unit (gives contents.Passed))
+  other-by true mode slice e = e
+  other-by false mode slice e = passed-is mode
+
+  other-is : (mode : Mode) (kind : ℕ) → on mode (other_content mode kind before unit) ≡ joined_other mode kind before unit
+  unfolding joined_other
+  other-is modes.Units kind = passed-is modes.Units
+  other-is modes.Headers kind = other-by (is_slice kind) modes.Headers (joined modes.Headers before unit (slice_outcome before unit)) header-is
+  other-is modes.Full kind = other-by (is_slice kind) modes.Full (whole_slice before unit) whole-is
+
+  content-by : (a b : Bool) (terms : Terms) (kind : ℕ) → on terms.mode (if a then ◌bind◌ (sps terms.target) (λ set. Done (contents.OfSps set)) else (if b then ◌bind◌ (pps terms.target) (λ set. Done (contents.OfPps set)) else other_content terms.mode kind before unit)) ≡ (if a then joined terms.mode before unit (sps_outcome terms.target unit) else (if b then joined terms.mode before unit (pps_outcome terms.target unit) else joined_other terms.mode kind before unit))
+  content-by true b terms kind = sps-is terms
+  content-by false true terms kind = pps-is terms
+  content-by false false terms kind = other-is terms.mode kind
+
+  content-is : (terms : Terms) (kind : ℕ) → on terms.mode (content terms kind before unit) ≡ joined_by terms kind before unit
+  unfolding content joined_by
+  content-is terms kind = content-by (kind == 7) (kind == 8) terms kind
+
+  -- what is in a unit, by its course and by its parts
+  content-joined : (terms : Terms) → (course_outcome (body_of unit) (content_course terms before unit) >>= λ found. gives (record { unit = unit; content = found } ∷ before)) ≡ joined_by terms (nal_unit_type (header_of unit)) before unit
+  unfolding course_outcome
+  content-joined terms =
+      let join : Content → Outcome History = λ found. gives (record { unit = unit; content = found } ∷ before) in
+      let read = structure_from (content terms (nal_unit_type (header_of unit)) before unit) (body_of unit) 0 in
+      bind-assoc read (λ x. steps_outcome (content_steps terms.mode before unit x.0) >>= λ _. course_outcome (body_of unit) (data_course terms.mode before unit x.0 x.1)) join
+      ∙ bind-same read (λ x. (steps_outcome (content_steps terms.mode before unit x.0) >>= λ _. course_outcome (body_of unit) (data_course terms.mode before unit x.0 x.1)) >>= join) (λ x. steps_outcome (content_steps terms.mode before unit x.0) >>= λ _. course_outcome (body_of unit) (data_course terms.mode before unit x.0 x.1) >>= join) (λ x. bind-assoc (steps_outcome (content_steps terms.mode before unit x.0)) (λ _. course_outcome (body_of unit) (data_course terms.mode before unit x.0 x.1)) join)
+      ∙ content-is terms (nal_unit_type (header_of unit))
+
+-- What comes of a unit, step by step.
+pub by-steps : (terms : Terms) (before : History) (unit : NalUnit) → unit_outcome terms before unit ≡ unit_by_steps terms before unit
+unfolding unit_outcome unit_by_steps course_outcome
+by-steps terms before unit =
+    let call = Said (unit_call unit.from (header_of unit) (length unit.body)) in
+    let hs = header_demands (8 * unit.from) (header_of unit) in
+    let cs = whole_at terms.mode (nal_unit_type (header_of unit)) before ++ (needs (closing_at (nal_unit_type (header_of unit)) before) ++ frames_at terms.mode (nal_unit_type (header_of unit)) before) in
+    let o = course_outcome (body_of unit) (content_course terms before unit) in
+    let join : Content → Outcome History = λ found. gives (record { unit = unit; content = found } ∷ before) in
+    ap (λ (q : Outcome History). answers (emulation_checked unit.from unit.body) >>= λ _. q)
+    (bind-assoc (steps_outcome (needs hs)) (λ _. tells call >>= λ _. steps_outcome cs >>= λ _. o) join
+    ∙ ap (λ (q : Outcome History). steps_outcome (needs hs) >>= λ _. q) (bind-assoc (tells call) (λ _. steps_outcome cs >>= λ _. o) join ∙ ap (λ (q : Outcome History). tells call >>= λ _. q) (bind-assoc (steps_outcome cs) (λ _. o) join ∙ ap (λ (q : Outcome History). steps_outcome cs >>= λ _. q) (content-joined before unit terms)))
+    ∙ ap (λ (q : Outcome (Unit {0})). q >>= λ _. tells call >>= λ _. steps_outcome cs >>= λ _. joined_by terms (nal_unit_type (header_of unit)) before unit) (needs-judged hs))
+
+pub plays-course : {S X : Type 0} (took : S → List Told → Type 0) (failures : S → ℕ) (view : X → History) (terms : Terms) (before : History) (unit : NalUnit) (s s' : S) (r : Result X Stop) → Plays took failures view (unit_by_steps terms before unit) s s' r → Plays took failures view (unit_outcome terms before unit) s s' r
+plays-course took failures view terms before unit s s' r p = subst (λ o. Plays took failures view o s s' r) (sym (by-steps terms before unit)) p
+
+-- no fewer pictures have ended once the newest has
+pub ended-grows : (on ends : Bool) (pictures : List CodedPicture) → length (ended_pictures on false pictures) ≤ length (ended_pictures on ends pictures)
+ended-grows on ends [] = omega arith
+ended-grows true true (p ∷ ps) = omega arith
+ended-grows true false (p ∷ ps) = omega arith
+ended-grows false ends (p ∷ ps) = omega arith
+
+-- what the end of a picture tells, if it ends
+frames-of : (ends : Bool) (mode : Mode) (before : History) → AreOf (length (ended_pictures (may_go_on before) ends (runs_of before))) (steps_outcome (if ends then closing_frames mode before else [])).calls
+frames-of true mode before = closing-of mode before
+frames-of false mode before = tt
+
+of-either : (n : ℕ) (b : Bool) (o : Outcome (Unit {0})) (e : Stop) → AreOf n o.calls → AreOf n (if b then o else answers (Err e)).calls
+of-either n true o e h = h
+of-either n false o e h = tt
+
+of-needs : (n : ℕ) (ds : List Demand) (steps : List Step) → AreOf n (steps_outcome steps).calls → AreOf n (steps_outcome (needs ds ++ steps)).calls
+of-needs n [] steps h = h
+of-needs n (d ∷ ds) steps h = of-either n d.met (steps_outcome (needs ds ++ steps)) (No d.bit d.rule) (of-needs n ds steps h)
+
+of-picture : (n : ℕ) (pictures : List CodedPicture) (steps : List Step) → AreOf n (steps_outcome steps).calls → AreOf n (steps_outcome (whole_picture pictures ++ steps)).calls
+of-picture n [] steps h = h
+of-picture n (p ∷ ps) steps h = of-either n _ (steps_outcome steps) _ h
+
+of-open : (n : ℕ) (on : Bool) (pictures : List CodedPicture) (steps : List Step) → AreOf n (steps_outcome steps).calls → AreOf n (steps_outcome ((if on then whole_picture pictures else []) ++ steps)).calls
+of-open n true pictures steps h = of-picture n pictures steps h
+of-open n false pictures steps h = h
+
+of-whole : (n : ℕ) (mode : Mode) (before : History) (steps : List Step) → AreOf n (steps_outcome steps).calls → AreOf n (steps_outcome (whole_steps mode before ++ steps)).calls
+of-whole n modes.Units before steps h = h
+of-whole n modes.Headers before steps h = h
+of-whole n modes.Full before steps h = of-open n (may_go_on before) (runs_of before) steps h
+
+of-ended : (n : ℕ) (ends : Bool) (mode : Mode) (before : History) (steps : List Step) → AreOf n (steps_outcome steps).calls → AreOf n (steps_outcome ((if ends then whole_steps mode before else []) ++ steps)).calls
+of-ended n true mode before steps h = of-whole n mode before steps h
+of-ended n false mode before steps h = h
+
+pub closing-all : (ends : Bool) (mode : Mode) (before : History) → AreOf (length (ended_pictures (may_go_on before) ends (runs_of before))) (steps_outcome (close_steps mode ends before)).calls
+closing-all ends mode before =
+    let n = length (ended_pictures (may_go_on before) ends (runs_of before)) in
+    of-ended n ends mode before _ (of-needs n (if ends then closing_demands before else []) _ (frames-of ends mode before))
+
+-- The end of the input, part by part.
+module _ {S : Type 0} (took : S → List Told → Type 0) (failures : S → ℕ) (mode : Mode) (before : History) (bit : ℕ) where
+  abbrev behind_last : List Step
+  behind_last = needs (picture_demand mode before bit ∷ []) ++ last_frames mode (runs_of before)
+
+  three : (xs ys zs ts : List Step) → (xs ++ (ys ++ zs)) ++ ts ≡ xs ++ (ys ++ (zs ++ ts))
+  three xs ys zs ts = append_assoc xs (ys ++ zs) ts ∙ ap (λ (l : List Step). xs ++ l) (append_assoc ys zs ts)
+
+  end-is : steps_outcome (end_steps mode before bit) ≡ (steps_outcome (close_steps mode true before) >>= λ _. steps_outcome behind_last)
+  end-is = ap steps_outcome (sym (three (whole_steps mode before) (needs (closing_demands before)) (closing_frames mode before) behind_last)) ∙ steps-append (close_steps mode true before) behind_last
+
+  -- it stops while the last picture ends
+  pub end-stops : (s s' : S) (e : Stop) → Plays {X = Unit {0}} took failures (λ u. u) (steps_outcome (close_steps mode true before)) s s' (Err e) → Plays {X = Summary} took failures (λ u. u) (end_outcome mode before bit) s s' (Err e)
+  unfolding end_outcome
+  end-stops s s' e p = plays-stops {X = Unit {0}} took failures (λ u. u) (λ u. u) (steps_outcome (end_steps mode before bit)) _ s s' e (plays-as took failures (λ u. u) _ _ s s' (Err e) end-is (plays-stops took failures (λ u. u) (λ u. u) (steps_outcome (close_steps mode true before)) _ s s' e p))
+
+  module _ (s s1 s2 : S) (z : Unit {0}) (ended : Plays took failures (λ (u : Unit {0}). u) (steps_outcome (close_steps mode true before)) s s1 (Ok z)) where
+    end-steps : (r : Result (Unit {0}) Stop) → Plays took failures (λ u. u) (steps_outcome behind_last) s1 s2 r → Plays took failures (λ u. u) (steps_outcome (end_steps mode before bit)) s s2 r
+    end-steps r p = plays-as took failures (λ u. u) _ _ s s2 r end-is (plays-on took failures (λ u. u) (λ u. u) (steps_outcome (close_steps mode true before)) (λ _. steps_outcome behind_last) s s1 s2 z r ended p)
+
+    -- it stops after that
+    pub end-broken : (e : Stop) → Plays {X = Unit {0}} took failures (λ u. u) (steps_outcome behind_last) s1 s2 (Err e) → Plays {X = Summary} took failures (λ u. u) (end_outcome mode before bit) s s2 (Err e)
+    unfolding end_outcome
+    end-broken e p = plays-stops {X = Unit {0}} took failures (λ u. u) (λ u. u) (steps_outcome (end_steps mode before bit)) _ s s2 e (end-steps (Err e) p)
+
+    -- all rules are met
+    pub end-gives : (v : Unit {0}) (summary : Summary) → Plays took failures (λ (u : Unit {0}). u) (steps_outcome behind_last) s1 s2 (Ok v) → summary ≡ summary_of mode before → Plays took failures (λ u. u) (end_outcome mode before bit) s s2 (Ok summary)
+    unfolding end_outcome
+    end-gives v summary p e =
+        subst (λ (w : Summary). Plays took failures (λ u. u) (end_outcome mode before bit) s s2 (Ok w)) (sym e)
+        (plays-on took failures (λ (u : Unit {0}). u) (λ u. u) (steps_outcome (end_steps mode before bit)) (λ _. gives (summary_of mode before)) s s2 s2 v (Ok (summary_of mode before)) (end-steps (Ok v) p) (gives-plays took failures (λ u. u) (summary_of mode before) s2))

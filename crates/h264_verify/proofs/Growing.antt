@@ -1,0 +1,642 @@
+-- What a unit tells is of the pictures that have ended after it, and no fewer have ended after a unit than before it.
+use Rattle.std.proofs.Common.{◌≡◌, ℕ, ◌+◌, ◌<◌, ◌≤◌, ◌*◌, nat_le, ℤ, Bool, true, false, not, ◌&&◌, ◌||◌, ◌==◌, List, [], ◌∷◌, ◌++◌, map, length, Option, Some, None, Result, Ok, Err, refl, ap, sym, subst, arith, if◌then◌else◌}
+use Rattle.std.specs.Option.{is_some, option_map}
+use Rattle.std.proofs.lemmas.Bool.Decides.{nat_tests}
+use Rattle.h264_base.specs.declared.mode.Mode.{Mode}
+use Rattle.h264_base.specs.declared.mode.Mode.TheVariants as modes
+use Rattle.h264_base.specs.declared.rule.Rule.{Rule}
+use Rattle.h264_base.specs.declared.rule.Rule.TheVariants.{CodeWord, Trailing}
+use Rattle.h264_base.specs.declared.element_name.ElementName.{ElementName}
+use Rattle.h264_base.specs.declared.stop.Stop.{Stop}
+use Rattle.h264_base.specs.declared.stop.Stop.TheVariants.{No, Outside}
+use Rattle.h264_base.specs.Body.{Body, place}
+use Rattle.h264_base.specs.Word.{value_at, closes_at, ends_at, no_zero_at, padding}
+use Rattle.h264_base.specs.Grammar.{Grammar, Element, Found, found as found_at, Ahead, ahead, bytes_at, Done, Read, Check, Support, More, Align, Bytes, Close, ◌>>=◌ as ◌bind◌, check}
+use Rattle.h264_base.specs.Run.{Run, run, stopped, element_run, align_run}
+use Rattle.h264_bits.specs.Forms.{natural}
+use Rattle.h264_units.specs.Stream.{NalUnit}
+use Rattle.h264_rbsp.specs.Emulation.{emulation_checked}
+use Rattle.h264_rbsp.specs.Rbsp.{body_of}
+use Rattle.h264_near.specs.Coded.{CodedMacroblock}
+use Rattle.h264_sps.specs.declared.sps.Sps.{Sps}
+use Rattle.h264_sps.specs.Sps.{sps}
+use Rattle.h264_pps.specs.declared.Pps.{Pps}
+use Rattle.h264_pps.specs.Pps.{pps}
+use Rattle.h264_sets.specs.Sets.{Maps}
+use Rattle.h264_header.specs.declared.header.Header.{Header}
+use Rattle.h264_header.specs.declared.header.SliceUnit.{SliceUnit}
+use Rattle.h264_header.specs.Layout.{layout_of, sets_of}
+use Rattle.h264_header.specs.Picture.{is_idr, is_reference}
+use Rattle.h264_header.specs.Header.{named_sets, header}
+use Rattle.h264_marking.specs.Frames.{References}
+use Rattle.h264_marking.specs.declared.frame.Numbering.{Numbering}
+use Rattle.h264_marking.specs.Window.{filled}
+use Rattle.h264_marking.specs.Gaps.{unused_short_term_frame_nums}
+use Rattle.h264_marking.specs.Ended.{numbering_of}
+use Rattle.h264_dpb.specs.declared.entry.Entry.{Entry}
+use Rattle.h264_dpb.specs.declared.ended.Ended.{Ended}
+use Rattle.h264_dpb.specs.Bumping.{marked}
+use Rattle.h264_dpb.specs.Buffered.{Buffered}
+use Rattle.h264_dpb.specs.Ending.{ended_of}
+use Rattle.h264_dpb.specs.Kept.{Each}
+use Rattle.h264_dpb.specs.Turns.{Shown, Turn, turn_then, stays, still, entry_of, empties, flush_turn, reference_turn, other_turn, missing_turn, way_turn, store_turn, end_turn}
+use Rattle.h264_dpb.proofs.Every.{each-append, each-marked, both-flushed, both-made_room, both-reference, both-other}
+use Rattle.h264_verify.specs.Telling.{Told, Said, Decodes, Shows, said_of, IsOf, AreOf}
+use Rattle.h264_verify.specs.Content.{Content}
+use Rattle.h264_verify.specs.Content as contents
+use Rattle.h264_verify.specs.Demands.{Demand}
+use Rattle.h264_verify.specs.Steps.{Step, Needs, Tells, needs, Course}
+use Rattle.h264_verify.specs.UnitHeader.{header_of, nal_unit_type, header_demands}
+use Rattle.h264_verify.specs.History.{History, maps_of}
+use Rattle.h264_verify.specs.Pictures.{CodedSlice, CodedPicture, sets_at, with_sets, ends_picture, goes_on, open_of, begins_after, begins_at, joined_to, joined_by, runs_of, coded_of, prev_ref_frame_num_of, held_after, closing_demands, closing_at}
+use Rattle.h264_verify.specs.Closing.{whole_picture, whole_steps, whole_at}
+use Rattle.h264_verify.specs.Slices.{is_idr_due, new_num_demand, gap_rules, first_mb_demands, first_slice_rules, rules_of, steps_by, slice_steps}
+use Rattle.h264_verify.specs.Data.{slice_data_at}
+use Rattle.h264_verify.specs.declared.state.Terms.{Terms}
+use Rattle.h264_verify.specs.Units.{unit_call, is_slice, slice_unit, header_or_passed, other_content, content, content_steps, data_course, frames_at, content_course, unit_course, end_steps}
+use Rattle.h264_verify.specs.Outcome.{Outcome, ◌>>=◌, goes_on as outcome_on, answers, gives}
+use Rattle.h264_verify.specs.StepOutcome.{steps_outcome, structure_from, course_outcome}
+use Rattle.h264_verify.specs.UnitOutcome.{unit_outcome}
+use Rattle.h264_verify.specs.Keeping.{ended_pictures, ended_in}
+use Rattle.h264_verify.specs.Buffering.{gap_on, gaps_turn, missing_before, gaps_before, ended_picture, ended_turn, after_all, within_newest, told_frames, told_picture, end_frames, closing_frames, missing_on, missing_steps, last_frames}
+
+-- ---- frames in the buffer
+
+-- a picture among the first, so many
+abbrev pub IsFirst : ℕ → Shown → Type 0
+IsFirst n s = s.picture < n
+
+-- all that is written and left is of the first pictures
+abbrev pub TurnOf : ℕ → Turn → Type 0
+TurnOf n t = Each (IsFirst n) t.written × Each (IsFirst n) t.buffer.entries
+
+each-more : (m n : ℕ) (es : List (Entry Shown)) → m ≤ n → Each (IsFirst m) es → Each (IsFirst n) es
+each-more m n [] l h = tt
+each-more m n (e ∷ es) l h = (omega (arith, l, h.0), each-more m n es l h.1)
+
+turn-more : (m n : ℕ) (t : Turn) → m ≤ n → TurnOf m t → TurnOf n t
+turn-more m n t l h = (each-more m n t.written l h.0, each-more m n t.buffer.entries l h.1)
+
+then-of : (n : ℕ) (t : Turn) (next : Buffered Shown → Turn) → TurnOf n t → TurnOf n (next t.buffer) → TurnOf n (turn_then t next)
+then-of n t next h k = (each-append (IsFirst n) t.written (next t.buffer).written h.0 k.0, k.1)
+
+flush-of : (n : ℕ) (write : Bool) (size : ℕ) (b : Buffered Shown) → Each (IsFirst n) b.entries → TurnOf n (flush_turn write size b)
+unfolding flush_turn
+flush-of n write size b h = both-flushed (IsFirst n) write b.entries h
+
+way-by : (n : ℕ) (b : Bool) (s t : Turn) → TurnOf n s → TurnOf n t → TurnOf n (if b then s else t)
+way-by n true s t h k = h
+way-by n false s t h k = k
+
+way-of : (n : ℕ) (p : Ended) (b : Buffered Shown) → Each (IsFirst n) b.entries → TurnOf n (way_turn p b)
+unfolding way_turn
+way-of n p b h = way-by n (empties p) (flush_turn (not p.drops) p.size b) (stays b) (flush-of n (not p.drops) p.size b h) (tt, h)
+
+missing-of : (n : ℕ) (refs : References) (b : Buffered Shown) → Each (IsFirst n) b.entries → TurnOf n (missing_turn refs b)
+unfolding missing_turn
+missing-of n refs b h = both-made_room (IsFirst n) _ _ (marked (still refs) b.entries) (each-marked (IsFirst n) (still refs) b.entries h)
+
+reference-of : (n : ℕ) (e : Entry Shown) (refs : References) (b : Buffered Shown) → e.of.picture < n → Each (IsFirst n) b.entries → TurnOf n (reference_turn e refs b)
+unfolding reference_turn
+reference-of n e refs b l h = both-reference (IsFirst n) _ e (marked (still refs) b.entries) l (each-marked (IsFirst n) (still refs) b.entries h)
+
+other-of : (n : ℕ) (e : Entry Shown) (b : Buffered Shown) → e.of.picture < n → Each (IsFirst n) b.entries → TurnOf n (other_turn e b)
+unfolding other_turn
+other-of n e b l h = both-other (IsFirst n) _ e b.entries l h
+
+store-of : (n : ℕ) (p : Ended) (refs : References) (b : Buffered Shown) → p.picture < n → Each (IsFirst n) b.entries → TurnOf n (store_turn p refs b)
+unfolding store_turn
+store-of n p refs b l h = way-by n p.reference (reference_turn (entry_of p) refs b) (other_turn (entry_of p) b) (reference-of n (entry_of p) refs b l h) (other-of n (entry_of p) b l h)
+
+end-turn-of : (n : ℕ) (p : Ended) (refs : References) (b : Buffered Shown) → p.picture < n → Each (IsFirst n) b.entries → TurnOf n (end_turn p refs b)
+end-turn-of n p refs b l h =
+    let way = way-of n p b h in
+    then-of n (way_turn p b) (store_turn p refs) way (store-of n p refs (way_turn p b).buffer l way.1)
+
+-- ---- those of a stream
+
+number-is : (p : CodedPicture) (ps : List CodedPicture) → (ended_picture p ps).picture ≡ length ps
+unfolding ended_of
+number-is p ps = refl
+
+gaps-of : (n : ℕ) (current : Numbering) (numbers : List ℕ) (refs : References) (b : Buffered Shown) → Each (IsFirst n) b.entries → TurnOf n (gaps_turn current numbers refs b)
+gaps-of n current [] refs b h = (tt, h)
+gaps-of n current (number ∷ numbers) refs b h = by (filled (record current { frame_num = number }) refs) (gaps-of n current numbers)
+  where
+    by : (o : Option References) → ((held : References) (left : Buffered Shown) → Each (IsFirst n) left.entries → TurnOf n (gaps_turn current numbers held left)) → TurnOf n (gap_on o (λ held. turn_then (missing_turn held b) (gaps_turn current numbers held)) b)
+    by None more = (tt, h)
+    by (Some held) more = let one = missing-of n held b h in then-of n (missing_turn held b) (gaps_turn current numbers held) one (more held (missing_turn held b).buffer one.1)
+
+ended-of : (p : CodedPicture) (ps : List CodedPicture) (b : Buffered Shown) → Each (IsFirst (length ps)) b.entries → TurnOf (length (p ∷ ps)) (ended_turn p ps b)
+ended-of p ps b h =
+    let number = number-is p ps in
+    end-turn-of (length (p ∷ ps)) (ended_picture p ps) _ b (omega (arith, number)) (each-more (length ps) (length (p ∷ ps)) b.entries (omega arith) h)
+
+within-by : (p : CodedPicture) (ps : List CodedPicture) → TurnOf (length ps) (after_all ps) → TurnOf (length ps) (within_newest (p ∷ ps))
+within-by p ps h = then-of (length ps) (after_all ps) (gaps_before p ps) h (gaps-of (length ps) (numbering_of p.first.sps p.first.header) (missing_before p ps) (held_after ps) (after_all ps).buffer h.1)
+
+-- the frames that are written and that wait are of the pictures so far
+pub after-of : (ps : List CodedPicture) → TurnOf (length ps) (after_all ps)
+after-of [] = (tt, tt)
+after-of (p ∷ ps) =
+    let within = within-by p ps (after-of ps) in
+    then-of (length (p ∷ ps)) (within_newest (p ∷ ps)) (ended_turn p ps) (turn-more (length ps) (length (p ∷ ps)) (within_newest (p ∷ ps)) (omega arith) within) (ended-of p ps (within_newest (p ∷ ps)).buffer within.1)
+
+pub within-of : (p : CodedPicture) (ps : List CodedPicture) → TurnOf (length ps) (within_newest (p ∷ ps))
+within-of p ps = within-by p ps (after-of ps)
+
+-- ---- steps
+
+-- what these steps tell is of the first pictures
+abbrev pub StepsOf : ℕ → List Step → Type 0
+StepsOf n [] = Unit {0}
+StepsOf n (Needs d ∷ steps) = StepsOf n steps
+StepsOf n (Tells t ∷ steps) = IsOf n t × StepsOf n steps
+
+steps-both : (n : ℕ) (xs ys : List Step) → StepsOf n xs → StepsOf n ys → StepsOf n (xs ++ ys)
+steps-both n [] ys h k = k
+steps-both n (Needs d ∷ xs) ys h k = steps-both n xs ys h k
+steps-both n (Tells t ∷ xs) ys h k = (h.0, steps-both n xs ys h.1 k)
+
+pub needs-of : (n : ℕ) (ds : List Demand) → StepsOf n (needs ds)
+needs-of n [] = tt
+needs-of n (d ∷ ds) = needs-of n ds
+
+steps-if : (n : ℕ) (b : Bool) (xs ys : List Step) → StepsOf n xs → StepsOf n ys → StepsOf n (if b then xs else ys)
+steps-if n true xs ys h k = h
+steps-if n false xs ys h k = k
+
+pub steps-of : (n : ℕ) (steps : List Step) → StepsOf n steps → AreOf n (steps_outcome steps).calls
+steps-of n [] h = tt
+steps-of n (Needs d ∷ steps) h = by d.met (steps-of n steps h)
+  where
+    by : (b : Bool) → AreOf n (steps_outcome steps).calls → AreOf n (let o : Outcome (Unit {0}) = if b then steps_outcome steps else answers (Err (No d.bit d.rule)) in o.calls)
+    by true k = k
+    by false k = tt
+steps-of n (Tells t ∷ steps) h = (h.0, steps-of n steps h.1)
+
+written-of : (n : ℕ) (mode : Mode) (written : List (Entry Shown)) → Each (IsFirst n) written → StepsOf n (told_frames mode written)
+written-of n modes.Units written h = tt
+written-of n modes.Headers written h = tt
+written-of n modes.Full [] h = tt
+written-of n modes.Full (e ∷ written) h = (h.0, written-of n modes.Full written h.1)
+
+picture-of : (n : ℕ) (mode : Mode) (pictures : List CodedPicture) → length pictures ≤ n → StepsOf n (told_picture mode pictures)
+picture-of n modes.Units pictures h = tt
+picture-of n modes.Headers pictures h = tt
+picture-of n modes.Full pictures h = (h, tt)
+
+-- the end of the newest picture tells of the pictures so far
+pub end-frames-of : (mode : Mode) (pictures : List CodedPicture) → StepsOf (length pictures) (end_frames mode pictures)
+end-frames-of mode [] = tt
+end-frames-of mode (p ∷ ps) =
+    steps-both (length (p ∷ ps)) (told_picture mode (p ∷ ps)) _
+    (picture-of (length (p ∷ ps)) mode (p ∷ ps) (omega arith))
+    (written-of (length (p ∷ ps)) mode _ (ended-of p ps (within_newest (p ∷ ps)).buffer (within-of p ps).1).0)
+
+-- those of missing numbers
+pub gap-of : (n : ℕ) (mode : Mode) (bit : ℕ) (current : Numbering) (numbers : List ℕ) (refs : References) (b : Buffered Shown) → Each (IsFirst n) b.entries → StepsOf n (missing_steps mode bit current numbers refs b)
+gap-of n mode bit current [] refs b h = tt
+gap-of n mode bit current (number ∷ numbers) refs b h = by (filled (record current { frame_num = number }) refs) (gap-of n mode bit current numbers)
+  where
+    by : (o : Option References) → ((held : References) (left : Buffered Shown) → Each (IsFirst n) left.entries → StepsOf n (missing_steps mode bit current numbers held left)) → StepsOf n (missing_on o (λ held. told_frames mode (missing_turn held b).written ++ missing_steps mode bit current numbers held (missing_turn held b).buffer))
+    by None more = tt
+    by (Some held) more =
+        let one = missing-of n held b h in
+        steps-both n (told_frames mode (missing_turn held b).written) _ (written-of n mode (missing_turn held b).written one.0) (more held (missing_turn held b).buffer one.1)
+
+-- and those that are left at the end of the input
+pub last-of : (mode : Mode) (pictures : List CodedPicture) → StepsOf (length pictures) (last_frames mode pictures)
+last-of mode pictures = written-of (length pictures) mode _ (flush-of (length pictures) true 1 (after_all pictures).buffer (after-of pictures).1).0
+
+-- ---- the end of the picture that may go on
+
+pub all-ended : (on : Bool) (pictures : List CodedPicture) → ended_pictures on true pictures ≡ pictures
+all-ended on [] = refl
+all-ended true (p ∷ ps) = refl
+all-ended false (p ∷ ps) = refl
+
+pub closing-steps : (mode : Mode) (before : History) → StepsOf (length (runs_of before)) (closing_frames mode before)
+closing-steps mode before = steps-if (length (runs_of before)) (goes_on before) (end_frames mode (runs_of before)) [] (end-frames-of mode (runs_of before)) tt
+
+pub closing-of : (mode : Mode) (before : History) → AreOf (length (ended_pictures (goes_on before) true (runs_of before))) (steps_outcome (closing_frames mode before)).calls
+closing-of mode before = subst (λ (ps : List CodedPicture). AreOf (length ps) (steps_outcome (closing_frames mode before)).calls) (sym (all-ended (goes_on before) (runs_of before))) (steps-of (length (runs_of before)) (closing_frames mode before) (closing-steps mode before))
+
+-- ---- what a structure gives
+
+-- this holds of all that it may give
+abbrev pub GivesAll : {A : Type 0} → (A → Type 0) → Grammar A → Type 0
+GivesAll P (Done x) = P x
+GivesAll P (Read name rule code k) = (e : Found) → GivesAll P (k e)
+GivesAll P (Check rule bit holds g) = holds ≡ true → GivesAll P g
+GivesAll P (Support feature bit holds g) = GivesAll P g
+GivesAll P (More k) = (b : Ahead) → GivesAll P (k b)
+GivesAll P (Align g) = GivesAll P g
+GivesAll P (Bytes n k) = (bytes : List ℕ) → GivesAll P (k bytes)
+GivesAll P (Close g) = GivesAll P g
+
+pub record Gives {A : Type 0} (P : A → Type 0) (g : Grammar A) : Type 0 where
+  pub all : GivesAll P g
+
+abbrev Any : {A : Type 0} → A → Type 0
+Any x = Unit {0}
+
+all-any : {A : Type 0} (g : Grammar A) → GivesAll Any g
+all-any (Done x) = tt
+all-any (Read name rule code k) = λ e. all-any (k e)
+all-any (Check rule bit holds g) = λ h. all-any g
+all-any (Support feature bit holds g) = all-any g
+all-any (More k) = λ b. all-any (k b)
+all-any (Align g) = all-any g
+all-any (Bytes n k) = λ bytes. all-any (k bytes)
+all-any (Close g) = all-any g
+
+gives-any : {A : Type 0} (g : Grammar A) → Gives Any g
+gives-any g = record { all = all-any g }
+
+all-bind : {A B : Type 0} (P : A → Type 0) (Q : B → Type 0) (g : Grammar A) (f : A → Grammar B) → GivesAll P g → ((x : A) → P x → GivesAll Q (f x)) → GivesAll Q (◌bind◌ g f)
+unfolding ◌bind◌
+all-bind P Q (Done x) f h k = k x h
+all-bind P Q (Read name rule code next) f h k = λ e. all-bind P Q (next e) f (h e) k
+all-bind P Q (Check rule bit holds g) f h k = λ t. all-bind P Q g f (h t) k
+all-bind P Q (Support feature bit holds g) f h k = all-bind P Q g f h k
+all-bind P Q (More next) f h k = λ b. all-bind P Q (next b) f (h b) k
+all-bind P Q (Align g) f h k = all-bind P Q g f h k
+all-bind P Q (Bytes n next) f h k = λ bytes. all-bind P Q (next bytes) f (h bytes) k
+all-bind P Q (Close g) f h k = all-bind P Q g f h k
+
+gives-bind : {A B : Type 0} {P : A → Type 0} {Q : B → Type 0} {g : Grammar A} {f : A → Grammar B} → Gives P g → ((x : A) → P x → Gives Q (f x)) → Gives Q (◌bind◌ g f)
+gives-bind {P} {Q} {g} {f} h k = record { all = all-bind P Q g f h.all (λ x p. (k x p).all) }
+
+gives-done : {A : Type 0} {P : A → Type 0} (x : A) → P x → Gives P (Done x)
+gives-done x h = record { all = h }
+
+gives-check : (rule : Rule) (bit : ℕ) (holds : Bool) → Gives (λ (u : Unit {0}). holds ≡ true) (check rule bit holds)
+unfolding check
+gives-check rule bit holds = record { all = λ t. t }
+
+gives-choice : {A : Type 0} {P : A → Type 0} (b : Bool) (g h : Grammar A) → (b ≡ true → Gives P g) → (b ≡ false → Gives P h) → Gives P (if b then g else h)
+gives-choice true g h k l = k refl
+gives-choice false g h k l = l refl
+
+-- an answer has it, if there is one
+abbrev GivenBy : {A : Type 0} → (A → Type 0) → Result (A × ℕ) Stop → Type 0
+GivenBy {A} P r = (x : A × ℕ) → r ≡ Ok x → P x.0
+
+given-err : {A : Type 0} (P : A → Type 0) (s : Stop) → GivenBy P (Err s)
+given-err P s x e = absurd cc
+
+given-test : {A : Type 0} (P : A → Type 0) (b : Bool) (r : Run A) (s : Stop) → (b ≡ true → GivenBy P r.answer) → GivenBy P (let q : Run A = if b then r else stopped s in q.answer)
+given-test P true r s h = h refl
+given-test P false r s h = given-err P s
+
+given-element : {A : Type 0} (P : A → Type 0) (body : Body) (name : ElementName) (rule : Rule) (i : ℕ) (next : ℕ → Found → Run A) (o : Option (ℤ × ℕ)) → ((j : ℕ) (e : Found) → GivenBy P (next j e).answer) → GivenBy P (element_run body name rule i next o).answer
+given-element P body name rule i next None h = given-err P (No (place body i) rule)
+given-element P body name rule i next (Some x) h = h x.1 (found_at body (record { name = name; from = i; to = x.1; value = x.0 }))
+
+given-align : {A : Type 0} (P : A → Type 0) (body : Body) (next : Run A) (o : Option ℕ) → GivenBy P next.answer → GivenBy P (align_run body next o).answer
+given-align P body next None h = h
+given-align P body next (Some j) h = given-err P (No (place body j) CodeWord)
+
+given-all : {A : Type 0} (P : A → Type 0) (g : Grammar A) (body : Body) (i : ℕ) → GivesAll P g → GivenBy P (run g body i).answer
+unfolding run
+given-all {A} P (Done x) body i h = λ y e. let same : (x, i) ≡ y = cc in subst (λ (z : A × ℕ). P z.0) same h
+given-all P (Read name rule code k) body i h = given-element P body name rule i (λ j e. run (k e) body j) (value_at code body.bytes i) (λ j e. given-all P (k e) body j (h e))
+given-all P (Check rule bit holds g) body i h = given-test P holds (run g body i) (No bit rule) (λ t. given-all P g body i (h t))
+given-all P (Support feature bit holds g) body i h = given-test P holds (run g body i) (Outside bit feature) (λ t. given-all P g body i h)
+given-all P (More k) body i h = given-all P (k (ahead body i (not (ends_at body.bytes i)))) body i (h (ahead body i (not (ends_at body.bytes i))))
+given-all P (Align g) body i h = given-align P body (run g body (i + padding i)) (no_zero_at (padding i) body.bytes i) (given-all P g body (i + padding i) h)
+given-all P (Bytes n k) body i h = given-test P (nat_le (i + 8 * n) (8 * length body.bytes)) (run (k (bytes_at n body.bytes i)) body (i + 8 * n)) (No (place body (8 * length body.bytes)) CodeWord) (λ t. given-all P (k (bytes_at n body.bytes i)) body (i + 8 * n) (h (bytes_at n body.bytes i)))
+given-all P (Close g) body i h = given-test P (closes_at body.bytes i) (run g body (8 * length body.bytes)) (No (place body i) Trailing) (λ t. given-all P g body (8 * length body.bytes) h)
+
+given : {A : Type 0} {P : A → Type 0} {g : Grammar A} (body : Body) (i : ℕ) → Gives P g → GivenBy P (run g body i).answer
+given {P} {g} body i h = given-all P g body i h.all
+
+-- ---- what is in a unit
+
+pub some-mapped : {A B : Type 0} (f : A → B) (o : Option A) → is_some (option_map f o) ≡ true → is_some o ≡ true
+some-mapped f None h = h
+some-mapped f (Some x) h = refl
+
+abbrev HasSets : (ℕ → Option (Pps × Sps)) → ℕ → Type 0
+HasSets sets id = is_some (sets id) ≡ true
+
+-- the same, where the structure says what it gives
+abbrev Giving : {A : Type 0} → Grammar A → (A → Type 0) → Type 0
+Giving g P = Gives P g
+
+named-gives : (sets : ℕ → Option (Pps × Sps)) → Giving (named_sets sets) (λ n. HasSets sets n.id.value)
+unfolding named_sets
+named-gives sets =
+    gives-bind (gives-any _) (λ e _.
+    gives-bind (gives-any _) (λ _ _.
+    gives-bind (gives-check _ _ _) (λ _ t.
+    gives-done _ (some-mapped layout_of (sets (natural e.value)) t))))
+
+-- a header that was read has its sets
+header-gives : (sets : ℕ → Option (Pps × Sps)) (unit : SliceUnit) → Gives (λ (h : Header). HasSets sets h.pic_parameter_set_id.value) (header sets unit)
+unfolding header
+header-gives sets unit =
+    gives-bind (gives-any _) (λ _ _.
+    gives-bind (gives-any _) (λ _ _.
+    gives-bind (named-gives sets) (λ named has.
+    gives-bind (gives-any _) (λ _ _.
+    gives-bind (gives-any _) (λ _ _.
+    gives-bind (gives-any _) (λ _ _.
+    gives-bind (gives-any _) (λ _ _.
+    gives-bind (gives-any _) (λ _ _.
+    gives-bind (gives-any _) (λ _ _.
+    gives-bind (gives-any _) (λ _ _.
+    gives-done _ has))))))))))
+
+-- a slice stands in the unit of a slice, and has its sets
+abbrev pub IsSound : ℕ → History → Content → Type 0
+IsSound kind before (contents.OfSps set) = Unit {0}
+IsSound kind before (contents.OfPps set) = Unit {0}
+IsSound kind before (contents.OfSlice h macroblocks) = (is_slice kind ≡ true) × (is_some (sets_at before h) ≡ true)
+IsSound kind before contents.Passed = Unit {0}
+
+passed-gives : (kind : ℕ) (before : History) → Gives (IsSound kind before) (Done contents.Passed)
+passed-gives kind before = gives-done contents.Passed tt
+
+header-or : (kind : ℕ) (before : History) (unit : NalUnit) → Gives (IsSound kind before) (header_or_passed kind before unit)
+header-or kind before unit =
+    gives-choice (is_slice kind) _ _
+    (λ slice. gives-bind (header-gives (sets_of (maps_of before)) (slice_unit unit)) (λ h has. gives-done (contents.OfSlice h []) (slice, has)))
+    (λ _. passed-gives kind before)
+
+other-gives : (mode : Mode) (kind : ℕ) (before : History) (unit : NalUnit) → Gives (IsSound kind before) (other_content mode kind before unit)
+other-gives modes.Units kind before unit = passed-gives kind before
+other-gives modes.Headers kind before unit = header-or kind before unit
+other-gives modes.Full kind before unit = header-or kind before unit
+
+content-gives : (terms : Terms) (kind : ℕ) (before : History) (unit : NalUnit) → Gives (IsSound kind before) (content terms kind before unit)
+unfolding content
+content-gives terms kind before unit =
+    gives-choice (kind == 7) _ _
+    (λ _. gives-bind (gives-any (sps terms.target)) (λ set _. gives-done (contents.OfSps set) tt))
+    (λ _. gives-choice (kind == 8) _ _
+    (λ _. gives-bind (gives-any (pps terms.target)) (λ set _. gives-done (contents.OfPps set) tt))
+    (λ _. other-gives terms.mode kind before unit))
+
+-- slice data give the macroblocks of a slice
+abbrev pub IsWith : Content → Content → Type 0
+IsWith (contents.OfSps set) found = found ≡ contents.OfSps set
+IsWith (contents.OfPps set) found = found ≡ contents.OfPps set
+IsWith (contents.OfSlice h macroblocks) found = (ms : List CodedMacroblock) × (found ≡ contents.OfSlice h ms)
+IsWith contents.Passed found = found ≡ contents.Passed
+
+whole-gives : (before : History) (unit : NalUnit) (h : Header) (macroblocks : List CodedMacroblock) → Gives (IsWith (contents.OfSlice h macroblocks)) (◌bind◌ (slice_data_at before unit h) (λ ms. Done (contents.OfSlice h ms)))
+whole-gives before unit h macroblocks = gives-bind (gives-any (slice_data_at before unit h)) (λ ms _. gives-done (contents.OfSlice h ms) (ms, refl))
+
+-- ---- one part after another
+
+-- a part that comes to its end, and the next one
+record InTurn {A B : Type 0} (o : Outcome A) (next : A → Outcome B) (y : B) : Type 0 where
+  value : A
+  is : o.answer ≡ Ok value
+  ends : (next value).answer ≡ Ok y
+  calls : (o >>= next).calls ≡ o.calls ++ (next value).calls
+
+in-turn : {A B : Type 0} (o : Outcome A) (next : A → Outcome B) (y : B) → (o >>= next).answer ≡ Ok y → InTurn o next y
+unfolding ◌>>=◌
+in-turn {A} {B} o next y e = by o.answer refl e
+  where
+    by : (a : Result A Stop) → o.answer ≡ a → (outcome_on o.calls next a).answer ≡ Ok y → InTurn o next y
+    by (Ok x) q t = record { value = x; is = q; ends = t; calls = ap (λ (r : Result A Stop). (outcome_on o.calls next r).calls) q }
+    by (Err s) q t = absurd cc
+
+told-both : (n : ℕ) (xs ys : List Told) → AreOf n xs → AreOf n ys → AreOf n (xs ++ ys)
+told-both n [] ys h k = k
+told-both n (x ∷ xs) ys h k = (h.0, told-both n xs ys h.1 k)
+
+in-turn-of : {A B : Type 0} {o : Outcome A} {next : A → Outcome B} {y : B} (n : ℕ) (j : InTurn o next y) → AreOf n o.calls → AreOf n (next j.value).calls → AreOf n (o >>= next).calls
+in-turn-of {o} {next} n j h k = subst (AreOf n) (sym j.calls) (told-both n o.calls (next j.value).calls h k)
+
+pub elements-of : (n : ℕ) (body : Body) (es : List Element) → AreOf n (map (said_of body) es)
+elements-of n body [] = tt
+elements-of n body (e ∷ es) = (tt, elements-of n body es)
+
+-- what stands after the content in a unit
+record DataEnds (c found : Content) (told : List Told) : Type 0 where
+  same : IsWith c found
+  any : (n : ℕ) → AreOf n told
+
+data-ends : (mode : Mode) (before : History) (unit : NalUnit) (c : Content) (bit : ℕ) (found : Content) → (course_outcome (body_of unit) (data_course mode before unit c bit)).answer ≡ Ok found → DataEnds c found (course_outcome (body_of unit) (data_course mode before unit c bit)).calls
+unfolding course_outcome
+data-ends mode before unit (contents.OfSps set) bit found e = record { same = cc; any = λ n. tt }
+data-ends mode before unit (contents.OfPps set) bit found e = record { same = cc; any = λ n. tt }
+data-ends modes.Units before unit (contents.OfSlice h macroblocks) bit found e = record { same = (macroblocks, cc); any = λ n. tt }
+data-ends modes.Headers before unit (contents.OfSlice h macroblocks) bit found e = record { same = (macroblocks, cc); any = λ n. tt }
+data-ends modes.Full before unit (contents.OfSlice h macroblocks) bit found e =
+    let g = ◌bind◌ (slice_data_at before unit h) (λ ms. Done (contents.OfSlice h ms)) in
+    let j = in-turn (structure_from g (body_of unit) bit) (λ x. gives x.0) found e in
+    let same : j.value.0 ≡ found = cc (j.ends) in
+    record {
+      same = subst (IsWith (contents.OfSlice h macroblocks)) same (given (body_of unit) bit (whole-gives before unit h macroblocks) j.value j.is);
+      any = λ n. in-turn-of n j (elements-of n (body_of unit) (run g (body_of unit) bit).elements) tt;
+    }
+data-ends mode before unit contents.Passed bit found e = record { same = cc; any = λ n. tt }
+
+-- ---- the rules of a slice
+
+gap-rules-of : (n : ℕ) (mode : Mode) (idr reference gaps_allowed : Bool) (bit prev : ℕ) (current : Numbering) (refs : References) (b : Buffered Shown) → Each (IsFirst n) b.entries → StepsOf n (gap_rules mode idr reference gaps_allowed bit prev current refs b)
+gap-rules-of n mode idr reference gaps_allowed bit prev current refs b h =
+    steps-both n (missing_steps mode bit current (unused_short_term_frame_nums idr prev current) refs b) (needs (new_num_demand idr reference bit prev current refs ∷ []))
+    (gap-of n mode bit current (unused_short_term_frame_nums idr prev current) refs b h) tt
+
+-- where a slice begins a picture, the pictures before it are among the first
+abbrev pub Begins : ℕ → Bool → List CodedPicture → Type 0
+Begins n begins pictures = begins ≡ true → length pictures ≤ n
+
+first-of : (n : ℕ) (mode : Mode) (pictures : List CodedPicture) (s : CodedSlice) → length pictures ≤ n → StepsOf n (first_slice_rules mode pictures s)
+first-of n mode pictures s l =
+    steps-both n
+    (gap_rules mode (is_idr s.header) (is_reference s.header) s.sps.gaps_in_frame_num_value_allowed_flag s.header.frame_num.bit (prev_ref_frame_num_of pictures) (numbering_of s.sps s.header) (held_after pictures) (after_all pictures).buffer) _
+    (gap-rules-of n mode (is_idr s.header) (is_reference s.header) s.sps.gaps_in_frame_num_value_allowed_flag s.header.frame_num.bit (prev_ref_frame_num_of pictures) (numbering_of s.sps s.header) (held_after pictures) (after_all pictures).buffer (each-more (length pictures) n (after_all pictures).buffer.entries l (after-of pictures).1)) tt
+
+rules-of : (n : ℕ) (mode : Mode) (begins due : Bool) (maps : Maps) (pictures : List CodedPicture) (s : CodedSlice) → Begins n begins pictures → StepsOf n (rules_of mode begins due maps pictures s)
+rules-of n mode true due maps pictures s l = steps-both n (needs (first_mb_demands mode 0 s.header)) _ (needs-of n (first_mb_demands mode 0 s.header)) (first-of n mode pictures s (l refl))
+rules-of n mode false due maps pictures s l = steps-both n (needs (first_mb_demands mode (length (coded_of pictures)) s.header)) _ (needs-of n (first_mb_demands mode (length (coded_of pictures)) s.header)) tt
+
+steps-by : (n : ℕ) (mode : Mode) (o : Option (Pps × Sps)) (before : History) (unit : NalUnit) (h : Header) → Begins n (begins_at before h) (runs_of before) → StepsOf n (steps_by mode o before unit h)
+steps-by n mode None before unit h l = tt
+steps-by n mode (Some sets) before unit h l = steps-both n (rules_of mode (begins_at before h) (is_idr_due before) (maps_of before) (runs_of before) (with_sets unit h [] sets)) _ (rules-of n mode (begins_at before h) (is_idr_due before) (maps_of before) (runs_of before) (with_sets unit h [] sets) l) (tt, tt)
+
+picture-whole : (n : ℕ) (pictures : List CodedPicture) → StepsOf n (whole_picture pictures)
+picture-whole n [] = tt
+picture-whole n (p ∷ ps) = tt
+
+whole-of : (n : ℕ) (mode : Mode) (before : History) → StepsOf n (whole_steps mode before)
+whole-of n modes.Units before = tt
+whole-of n modes.Headers before = tt
+whole-of n modes.Full before = steps-if n (goes_on before) (whole_picture (runs_of before)) [] (picture-whole n (runs_of before)) tt
+
+steps-more : (m n : ℕ) (steps : List Step) → m ≤ n → StepsOf m steps → StepsOf n steps
+steps-more m n [] l h = tt
+steps-more m n (Needs d ∷ steps) l h = steps-more m n steps l h
+steps-more m n (Tells (Said call) ∷ steps) l h = (tt, steps-more m n steps l h.1)
+steps-more m n (Tells (Decodes ps) ∷ steps) l h = (omega (arith, l, h.0), steps-more m n steps l h.1)
+steps-more m n (Tells (Shows e) ∷ steps) l h = (omega (arith, l, h.0), steps-more m n steps l h.1)
+
+closing-if : (n : ℕ) (mode : Mode) (before : History) (b : Bool) → Begins n b (runs_of before) → StepsOf n (if b then closing_frames mode before else [])
+closing-if n mode before true l = steps-more (length (runs_of before)) n (closing_frames mode before) (l refl) (closing-steps mode before)
+closing-if n mode before false l = tt
+
+pub slice-of : (n : ℕ) (mode : Mode) (before : History) (unit : NalUnit) (h : Header) → Begins n (begins_at before h) (runs_of before) → StepsOf n (slice_steps mode before unit h)
+slice-of n mode before unit h l =
+    steps-both n (if begins_at before h then whole_steps mode before else []) _ (steps-if n (begins_at before h) (whole_steps mode before) [] (whole-of n mode before) tt)
+    (steps-both n (needs (if begins_at before h then closing_demands before else [])) _ (needs-of n (if begins_at before h then closing_demands before else []))
+    (steps-both n (if begins_at before h then closing_frames mode before else []) _ (closing-if n mode before (begins_at before h) l) (steps-by n mode (sets_at before h) before unit h l)))
+
+-- ---- how many pictures have ended
+
+-- where more slices may come to the newest, or not
+abbrev pub ended_by : Bool → List CodedPicture → ℕ
+ended_by on pictures = length (ended_pictures on false pictures)
+
+pub ended-few : (on : Bool) (pictures : List CodedPicture) → ended_by on pictures ≤ length pictures
+ended-few on [] = omega arith
+ended-few true (p ∷ ps) = omega arith
+ended-few false (p ∷ ps) = omega arith
+
+pub ended-whole : (pictures : List CodedPicture) → ended_by false pictures ≡ length pictures
+ended-whole [] = refl
+ended-whole (p ∷ ps) = refl
+
+passed-grows : (ends on : Bool) (pictures : List CodedPicture) → ended_by on pictures ≤ ended_by (not ends && on) pictures
+passed-grows true on pictures = let few = ended-few on pictures in let whole = ended-whole pictures in omega arith
+passed-grows false on pictures = omega arith
+
+passed-begins : (ends on : Bool) (pictures : List CodedPicture) → Begins (ended_by (not ends && on) pictures) ends pictures
+passed-begins true on pictures e = let whole = ended-whole pictures in omega arith
+passed-begins false on pictures e = absurd cc
+
+slice-grows : (on : Bool) (pictures : List CodedPicture) (s : CodedSlice) (b : Bool) → begins_after (open_of on pictures) s.header ≡ b → ended_by on pictures ≤ ended_by true (joined_to b s pictures)
+slice-grows on pictures s true e = ended-few on pictures
+slice-grows on [] s false e = absurd cc
+slice-grows true (p ∷ ps) s false e = omega arith
+slice-grows false (p ∷ ps) s false e = absurd cc
+
+slice-begins : (b : Bool) (pictures : List CodedPicture) (s : CodedSlice) → Begins (ended_by true (joined_to b s pictures)) b pictures
+slice-begins true pictures s e = omega arith
+slice-begins false pictures s e = absurd cc
+
+-- ---- a unit
+
+slice-goes : (kind : ℕ) → is_slice kind ≡ true → ends_picture kind ≡ false
+slice-goes kind h = by (kind == 1) refl (kind == 5) refl h
+  where
+    by : (a : Bool) → (kind == 1) ≡ a → (b : Bool) → (kind == 5) ≡ b → (a || b) ≡ true → ends_picture kind ≡ false
+    by true e b f t = let one : kind ≡ 1 = grind (arith, nat_tests) in rw one refl
+    by false e true f t = let five : kind ≡ 5 = grind (arith, nat_tests) in rw five refl
+    by false e false f t = absurd cc
+
+-- no fewer pictures have ended with this content, and its steps tell of those
+record UnitGrows (mode : Mode) (before after : History) (unit : NalUnit) (c : Content) : Type 0 where
+  grows : ended_in before ≤ ended_in after
+  ends : Begins (ended_in after) (ends_picture (nal_unit_type (header_of unit))) (runs_of before)
+  steps : StepsOf (ended_in after) (content_steps mode before unit c)
+
+module _ (terms : Terms) (before : History) (unit : NalUnit) where
+  abbrev pub kind : ℕ
+  kind = nal_unit_type (header_of unit)
+
+  abbrev one_more : Content → History
+  one_more found = record { unit = unit; content = found } ∷ before
+
+  sets-grow : (h : Header) (ms : List CodedMacroblock) (o : Option (Pps × Sps)) → is_some o ≡ true → is_slice kind ≡ true → sets_at before h ≡ o → UnitGrows terms.mode before (one_more (contents.OfSlice h ms)) unit (contents.OfSlice h [])
+  sets-grow h ms None some slice e = absurd cc
+  sets-grow h ms (Some sets) some slice e =
+      let runs : runs_of (one_more (contents.OfSlice h ms)) ≡ joined_to (begins_at before h) (with_sets unit h ms sets) (runs_of before) =
+      ap (λ (o : Option (Pps × Sps)). joined_by (option_map (with_sets unit h ms) o) (goes_on before) (runs_of before)) e in
+      let begins : Begins (ended_in (one_more (contents.OfSlice h ms))) (begins_at before h) (runs_of before) =
+      subst (λ (ps : List CodedPicture). Begins (ended_by true ps) (begins_at before h) (runs_of before)) (sym runs) (slice-begins (begins_at before h) (runs_of before) (with_sets unit h ms sets)) in
+      record {
+        grows = subst (λ (ps : List CodedPicture). ended_in before ≤ ended_by true ps) (sym runs) (slice-grows (goes_on before) (runs_of before) (with_sets unit h ms sets) (begins_at before h) refl);
+        ends = λ t. absurd (let no = slice-goes kind slice in cc);
+        steps = slice-of (ended_in (one_more (contents.OfSlice h ms))) terms.mode before unit h begins;
+      }
+
+  content-grows : (c : Content) → IsSound kind before c → (found : Content) → IsWith c found → UnitGrows terms.mode before (one_more found) unit c
+  content-grows (contents.OfSps set) sound found e = rw e (record { grows = passed-grows (ends_picture kind) (goes_on before) (runs_of before); ends = passed-begins (ends_picture kind) (goes_on before) (runs_of before); steps = tt })
+  content-grows (contents.OfPps set) sound found e = rw e (record { grows = passed-grows (ends_picture kind) (goes_on before) (runs_of before); ends = passed-begins (ends_picture kind) (goes_on before) (runs_of before); steps = tt })
+  content-grows (contents.OfSlice h macroblocks) sound found e = rw e.1 (slice-any h macroblocks (sets-grow h e.0 (sets_at before h) sound.1 sound.0 refl))
+    where
+      slice-any : (h : Header) (ms : List CodedMacroblock) → {after : History} → UnitGrows terms.mode before after unit (contents.OfSlice h []) → UnitGrows terms.mode before after unit (contents.OfSlice h ms)
+      slice-any h ms g = record { grows = g.grows; ends = g.ends; steps = g.steps }
+  content-grows contents.Passed sound found e = rw e (record { grows = passed-grows (ends_picture kind) (goes_on before) (runs_of before); ends = passed-begins (ends_picture kind) (goes_on before) (runs_of before); steps = tt })
+
+  abbrev Grows : History → List Told → Type 0
+  Grows after calls = (ended_in before ≤ ended_in after) × AreOf (ended_in after) calls
+
+  abbrev pub picture_end : List Step
+  picture_end = whole_at terms.mode kind before ++ (needs (closing_at kind before) ++ frames_at terms.mode kind before)
+
+  pub picture-end-of : (n : ℕ) → Begins n (ends_picture kind) (runs_of before) → StepsOf n picture_end
+  picture-end-of n l =
+      steps-both n (whole_at terms.mode kind before) _ (steps-if n (ends_picture kind) (whole_steps terms.mode before) [] (whole-of n terms.mode before) tt)
+      (steps-both n (needs (closing_at kind before)) (frames_at terms.mode kind before) (needs-of n (closing_at kind before)) (closing-if n terms.mode before (ends_picture kind) l))
+
+  -- the same once what stands after the content is read
+  record ContentEnds (found : Content) (calls : List Told) : Type 0 where
+    grows : ended_in before ≤ ended_in (one_more found)
+    ends : Begins (ended_in (one_more found)) (ends_picture kind) (runs_of before)
+    of : AreOf (ended_in (one_more found)) calls
+
+  abbrev course : Course
+  course = content_course terms before unit
+
+  content-ends : (found : Content) → (course_outcome (body_of unit) course).answer ≡ Ok found → ContentEnds found (course_outcome (body_of unit) course).calls
+  unfolding course_outcome
+  content-ends found e =
+      let n = ended_in (one_more found) in
+      let g = content terms kind before unit in
+      let body = body_of unit in
+      let behind : Content × ℕ → Outcome Content = λ x. course_outcome body (data_course terms.mode before unit x.0 x.1) in
+      let read = in-turn (structure_from g body 0) (λ x. steps_outcome (content_steps terms.mode before unit x.0) >>= λ _. behind x) found e in
+      let x = read.value in
+      let met = in-turn (steps_outcome (content_steps terms.mode before unit x.0)) (λ _. behind x) found read.ends in
+      let rest = data-ends terms.mode before unit x.0 x.1 found met.ends in
+      let grown = content-grows x.0 (given body 0 (content-gives terms kind before unit) x read.is) found rest.same in
+      record {
+        grows = grown.grows;
+        ends = grown.ends;
+        of = in-turn-of n read (elements-of n body (run g body 0).elements) (in-turn-of n met (steps-of n (content_steps terms.mode before unit x.0) grown.steps) (rest.any n));
+      }
+
+  course-grows : (found : Content) → (course_outcome (body_of unit) (unit_course terms before unit)).answer ≡ Ok found → Grows (one_more found) (course_outcome (body_of unit) (unit_course terms before unit)).calls
+  unfolding course_outcome
+  course-grows found e =
+      let n = ended_in (one_more found) in
+      let body = body_of unit in
+      let first = needs (header_demands (8 * unit.from) (header_of unit)) in
+      let said : List Step = Tells (Said (unit_call unit.from (header_of unit) (length unit.body))) ∷ [] in
+      let last : Outcome Content = course_outcome body course in
+      let third : Outcome Content = steps_outcome picture_end >>= λ _. last in
+      let second : Outcome Content = steps_outcome said >>= λ _. third in
+      let one = in-turn (steps_outcome first) (λ _. second) found e in
+      let two = in-turn (steps_outcome said) (λ _. third) found one.ends in
+      let three = in-turn (steps_outcome picture_end) (λ _. last) found two.ends in
+      let inner = content-ends found three.ends in
+      (inner.grows, in-turn-of n one (steps-of n first (needs-of n (header_demands (8 * unit.from) (header_of unit)))) (in-turn-of n two (tt, tt) (in-turn-of n three (steps-of n picture_end (picture-end-of n inner.ends)) inner.of)))
+
+pub unit-grows : (terms : Terms) (before after : History) (unit : NalUnit) → (unit_outcome terms before unit).answer ≡ Ok after → (ended_in before ≤ ended_in after) × AreOf (ended_in after) (unit_outcome terms before unit).calls
+unfolding unit_outcome
+unit-grows terms before after unit e =
+    let more : Content → Outcome History = λ found. gives (record { unit = unit; content = found } ∷ before) in
+    let course = course_outcome (body_of unit) (unit_course terms before unit) in
+    let sound = in-turn (answers (emulation_checked unit.from unit.body)) (λ _. course >>= more) after e in
+    let whole = in-turn course more after sound.ends in
+    let same : (record { unit = unit; content = whole.value } ∷ before) ≡ after = cc (whole.ends) in
+    let grown = subst (λ (later : History). (ended_in before ≤ ended_in later) × AreOf (ended_in later) course.calls) same (course-grows terms before unit whole.value whole.is) in
+    (grown.0, in-turn-of (ended_in after) sound tt (in-turn-of (ended_in after) whole grown.1 tt))
+
+-- what the end of the input tells is of all pictures
+pub end-of : (mode : Mode) (before : History) (bit : ℕ) → AreOf (length (runs_of before)) (steps_outcome (end_steps mode before bit)).calls
+end-of mode before bit =
+    let n = length (runs_of before) in
+    steps-of n (end_steps mode before bit)
+    (steps-both n (whole_steps mode before) _ (whole-of n mode before)
+    (steps-both n (needs (closing_demands before)) _ (needs-of n (closing_demands before))
+    (steps-both n (closing_frames mode before) _ (closing-steps mode before) (last-of mode (runs_of before)))))

@@ -1,0 +1,98 @@
+-- A slice is judged: what comes to pass, one part after another.
+use Rattle.std.proofs.Common.{◌≡◌, ℕ, ◌*◌, Bool, true, false, List, [], ◌++◌, Option, Some, Result, Ok, Err, refl, ap, sym, ◌∙◌, subst, append_assoc, if◌then◌else◌}
+use Rattle.h264_base.specs.declared.mode.Mode.{Mode}
+use Rattle.h264_base.specs.declared.mode.Mode.TheVariants as modes
+use Rattle.h264_base.specs.declared.stop.Stop.{Stop}
+use Rattle.h264_units.specs.Stream.{NalUnit}
+use Rattle.h264_sps.specs.declared.sps.Sps.{Sps}
+use Rattle.h264_pps.specs.declared.Pps.{Pps}
+use Rattle.h264_picture.specs.Buffer.{buffer_size}
+use Rattle.h264_sets.specs.Sets.{Maps}
+use Rattle.h264_header.specs.declared.header.Header.{Header}
+use Rattle.h264_header.specs.Layout.{sets_of}
+use Rattle.h264_plane.specs.declared.frame.Frame.{Frame}
+use Rattle.h264_dpb.specs.Ending.{ended_of}
+use Rattle.h264_verify.specs.declared.decoder.Decoder.{Decoder}
+use Rattle.h264_verify.specs.declared.slices.Slices.{Slices}
+use Rattle.h264_verify.specs.Telling.{Told}
+use Rattle.h264_verify.specs.Outcome.{Outcome, Plays}
+use Rattle.h264_verify.specs.Demands.{judged}
+use Rattle.h264_verify.specs.History.{History, maps_of}
+use Rattle.h264_verify.specs.Closing.{whole_steps}
+use Rattle.h264_verify.specs.Buffering.{closing_frames, ended_picture, frame_count}
+use Rattle.h264_verify.specs.StepOutcome.{steps_outcome}
+use Rattle.h264_verify.specs.Slices.{first_mb_demands, is_idr_due, slice_steps}
+use Rattle.h264_verify.specs.Pictures.{CodedSlice, CodedPicture, with_sets, open_of, begins_after, begins_at, runs_of, closing_demands}
+use Rattle.h264_verify.specs.Keeping.{KeepsDecoder, HoldsData, HoldsBefore, Entered, standing_demands, told_rules, coded_before, close_steps}
+use Rattle.h264_verify.specs.Steps.{Step, needs}
+use Rattle.h264_verify.proofs.Slicing.{refused, err-named, own_steps, at-standing, at-place, behind-place}
+use Rattle.h264_verify.proofs.Stepwise.{steps-stop, steps-on}
+use Rattle.h264_verify.proofs.Holding.{data-held, holds-newest}
+
+module _ {S : Type 0} (took : S → List Told → Type 0) (failures : S → ℕ) (mode : Mode) (before : History) (unit : NalUnit) (h : Header) (begins : Bool) (b : begins ≡ begins_at before h) where
+  abbrev PlaysOf : Outcome (Unit {0}) → S → S → Result (Unit {0}) Stop → Type 0
+  PlaysOf o s s' r = Plays took failures (λ (x : Unit {0}). x) o s s' r
+
+  abbrev own : Outcome (Unit {0})
+  own = steps_outcome (own_steps mode before unit h begins b)
+
+  three : (xs ys zs ts : List Step) → (xs ++ (ys ++ zs)) ++ ts ≡ xs ++ (ys ++ (zs ++ ts))
+  three xs ys zs ts = append_assoc xs (ys ++ zs) ts ∙ ap (λ (l : List Step). xs ++ l) (append_assoc ys zs ts)
+
+  -- after the end of the picture before it
+  closed-is : slice_steps mode before unit h ≡ close_steps mode begins before ++ own_steps mode before unit h begins b
+  closed-is =
+      let at = begins_at before h in
+      sym (three (if at then whole_steps mode before else []) (needs (if at then closing_demands before else [])) (if at then closing_frames mode before else []) (own_steps mode before unit h begins b))
+      ∙ ap (λ (x : Bool). close_steps mode x before ++ own_steps mode before unit h begins b) (sym b)
+
+  pub closed-stop : (s s' : S) (e : Stop) → PlaysOf (steps_outcome (close_steps mode begins before)) s s' (Err e) → PlaysOf (steps_outcome (slice_steps mode before unit h)) s s' (Err e)
+  closed-stop s s' e p = subst (λ (l : List Step). PlaysOf (steps_outcome l) s s' (Err e)) (sym closed-is) (steps-stop took failures (λ (x : Unit {0}). x) (close_steps mode begins before) (own_steps mode before unit h begins b) s s' e p)
+
+  pub closed-on : (s0 s1 s2 : S) (x : Unit {0}) (r : Result (Unit {0}) Stop) → PlaysOf (steps_outcome (close_steps mode begins before)) s0 s1 (Ok x) → PlaysOf own s1 s2 r → PlaysOf (steps_outcome (slice_steps mode before unit h)) s0 s2 r
+  closed-on s0 s1 s2 x r p q = subst (λ (l : List Step). PlaysOf (steps_outcome l) s0 s2 r) (sym closed-is) (steps-on took failures (λ (x : Unit {0}). x) (close_steps mode begins before) (own_steps mode before unit h begins b) s0 s1 s2 x r p q)
+
+  -- its own rules, and that it is told
+  module _ (due : Bool) (maps : Maps) (due-is : due ≡ is_idr_due before) (maps-are : maps ≡ maps_of before) (sets : Pps × Sps) (named : sets_of maps h.pic_parameter_set_id.value ≡ Some sets) where
+    abbrev slice : CodedSlice
+    slice = with_sets unit h [] sets
+
+    pub standing-stop : (s : S) (e : Stop) → (let r : Result (Unit {0}) Stop = Err e in r ≡ judged (standing_demands begins sets.1 due maps (8 * unit.from) h)) → PlaysOf own s s (Err e)
+    standing-stop s e p = refused took failures (own_steps mode before unit h begins b) s e (at-standing mode before unit h begins b due maps due-is maps-are sets named e p) (err-named (standing_demands begins sets.1 due maps (8 * unit.from) h) e (sym p))
+
+    module _ (x : Unit {0}) (stands : Ok x ≡ judged (standing_demands begins sets.1 due maps (8 * unit.from) h)) where
+      pub place-stop : (s : S) (e : Stop) → (let r : Result (Unit {0}) Stop = Err e in r ≡ judged (first_mb_demands mode (coded_before begins (runs_of before)) h)) → PlaysOf own s s (Err e)
+      place-stop s e p = refused took failures (own_steps mode before unit h begins b) s e (at-place mode before unit h begins b due maps due-is maps-are sets named x stands e p) (err-named (first_mb_demands mode (coded_before begins (runs_of before)) h) e (sym p))
+
+      module _ (y : Unit {0}) (placed : Ok y ≡ judged (first_mb_demands mode (coded_before begins (runs_of before)) h)) where
+        pub own-then : (s s' : S) (r : Result (Unit {0}) Stop) → PlaysOf (steps_outcome (told_rules mode begins (runs_of before) slice)) s s' r → PlaysOf own s s' r
+        own-then s s' r p = subst (λ (o : Outcome (Unit {0})). PlaysOf o s s' r) (sym (behind-place mode before unit h begins b due maps due-is maps-are sets named x stands y placed)) p
+
+-- the macroblocks of its picture before it
+held-on : (mode : Mode) (frames : ℕ → Frame) (on : Bool) (pictures : List CodedPicture) (h : Header) (d : Decoder) → (let begins : Bool = false in begins ≡ begins_after (open_of on pictures) h) → KeepsDecoder mode frames on false pictures d → HoldsBefore mode false pictures d.work
+unfolding KeepsDecoder HoldsBefore HoldsData
+held-on modes.Units frames on pictures h d b k = tt
+held-on modes.Headers frames on pictures h d b k = tt
+held-on modes.Full frames on pictures h d b k = holds-newest on pictures h false d.work b (data-held modes.Full frames on pictures d k)
+
+held-new : (mode : Mode) (pictures : List CodedPicture) (d : Decoder) → HoldsBefore mode true pictures d.work
+unfolding HoldsBefore
+held-new modes.Units pictures d = tt
+held-new modes.Headers pictures d = tt
+held-new modes.Full pictures d = tt
+
+pub before-held : (mode : Mode) (frames : ℕ → Frame) (on begins : Bool) (pictures : List CodedPicture) (h : Header) (d : Decoder) → begins ≡ begins_after (open_of on pictures) h → KeepsDecoder mode frames on begins pictures d → HoldsBefore mode begins pictures d.work
+before-held mode frames on true pictures h d b k = held-new mode pictures d
+before-held mode frames on false pictures h d b k = held-on mode frames on pictures h d b k
+
+-- what the buffer is told of its picture, where it begins one
+pub ended-is : (before : History) (begins : Bool) (slice : CodedSlice) (slices : Slices) → Entered before begins slice slices → begins ≡ true → ended_of slice.sps slice.header slices.pictures (frame_count slices.count) (buffer_size slice.sps) ≡ ended_picture (record { first = slice; later = [] }) (runs_of before)
+ended-is before true slice slices e b = rw (e.pictures_are, e.count) refl
+ended-is before false slice slices e b = cc
+
+-- a slice has one pair of sets
+pub one-pair : (o : Option (Pps × Sps)) (x y : Pps × Sps) → o ≡ Some x → o ≡ Some y → x ≡ y
+one-pair o x y e f = by (sym e ∙ f)
+  where
+    by : Some x ≡ Some y → x ≡ y
+    by e = cc

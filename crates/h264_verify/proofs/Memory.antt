@@ -1,0 +1,140 @@
+-- Where want of memory comes from.
+use Rattle.std.proofs.Common.{◌≡◌, ℕ, ◌==◌, ◌&&◌, ◌||◌, Bool, true, false, Option, Some, None, List, [], ◌∷◌, Result, Ok, Err, refl, ap, sym, ◌∙◌, subst, if◌then◌else◌, eqb-true}
+use Rattle.std.specs.Prelude.{IsErrOf}
+use Rattle.h264_base.specs.declared.mode.Mode.{Mode}
+use Rattle.h264_base.specs.declared.mode.Mode.TheVariants as modes
+use Rattle.h264_base.specs.declared.stop.Stop.{Stop}
+use Rattle.h264_base.specs.declared.stop.Stop.TheVariants.{No, Outside, Memory, Read, Write}
+use Rattle.h264_base.specs.Call.{Call}
+use Rattle.h264_base.specs.Body.{Body}
+use Rattle.h264_base.specs.Grammar.{Grammar}
+use Rattle.h264_base.specs.Meets.{Reader, Meets, Answers, Is}
+use Rattle.h264_units.specs.Stream.{NalUnit}
+use Rattle.h264_rbsp.specs.Rbsp.{body_of}
+use Rattle.h264_sps.specs.declared.sps.Sps.{Sps}
+use Rattle.h264_pps.specs.declared.Pps.{Pps}
+use Rattle.h264_header.specs.declared.header.Header.{Header}
+use Rattle.h264_header.specs.declared.header.SliceUnit.{SliceUnit}
+use Rattle.h264_header.specs.Layout.{sets_of}
+use Rattle.h264_header.specs.Header.{header as header_syntax}
+use Rattle.h264_sets.specs.Sets.{Maps}
+use Rattle.h264_verify.specs.Content as contents
+use Rattle.h264_verify.specs.Outcome.{IsNamed, gives}
+use Rattle.h264_verify.specs.UnitHeader.{header_of, nal_unit_type}
+use Rattle.h264_verify.specs.History.{History, maps_of}
+use Rattle.h264_verify.specs.Pictures.{CodedPicture, ends_picture, runs_of, begins_at}
+use Rattle.h264_plane.specs.declared.frame.Frame.{Frame}
+use Rattle.h264_verify.specs.declared.decoder.Decoder.{Decoder}
+use Rattle.h264_verify.specs.declared.decoder.Format.{Format}
+use Rattle.h264_verify.specs.Keeping.{KeepsDecoder, format_of}
+use Rattle.h264_verify.specs.declared.state.Terms.{Terms}
+use Rattle.h264_verify.specs.Units.{is_slice, slice_unit, slice_unit_of}
+use Rattle.h264_verify.specs.UnitOutcome.{joined, joined_by, joined_other}
+use Rattle.h264_verify.specs.Memory.{reads_slices, is_kind_read, bytes_of, HasAnotherFormat, BeginsAnotherFormat}
+use Rattle.h264_verify.proofs.Joining.{units-other, passed-other}
+
+-- a reader wants no memory
+pub answers-memory : {X A S : Type 0} (took : S → List Call → Type 0) (failures : S → ℕ) (R : X → A → Type 0) (g : Grammar A) (old new : Reader) (s s' : S) (r : Result X Stop) → Meets took failures R g old new s s' r → Answers took failures R g old new s s' r → IsErrOf r Memory → ⊥
+answers-memory {X} took failures R g old new s s' r read a m = subst (λ (q : Result X Stop). Answers took failures R g old new s s' q) m a
+
+-- nor does a rule that is not met
+pub named-memory : {X : Type 0} (e : Stop) → IsNamed e → (let r : Result X Stop = Err e in IsErrOf r Memory) → ⊥
+named-memory (No bit rule) n m = cc
+named-memory (Outside bit feature) n m = cc
+named-memory Memory n m = n
+named-memory Read n m = n
+named-memory Write n m = n
+
+-- one error in two types
+pub error-as : {X Y : Type 0} (e : Stop) → ((let r : Result X Stop = Err e in IsErrOf r Memory) → ⊥) → (let r : Result Y Stop = Err e in IsErrOf r Memory) → ⊥
+error-as {X} e h m = let is : e ≡ Memory = cc in h (ap (λ (x : Stop). let r : Result X Stop = Err x in r) is)
+
+-- nor a sink that failed
+pub write-alone : {X : Type 0} (e : Stop) → e ≡ Write → (let r : Result X Stop = Err e in IsErrOf r Memory) → ⊥
+write-alone e w m = cc
+
+-- what does not come where none begins comes where one begins
+pub begun-if : (begins : Bool) → (begins ≡ false → ⊥) → begins ≡ true
+begun-if true never = refl
+begun-if false never = absurd (never refl)
+
+-- ---- what is read
+
+pub unread : (t : Bool) (b : Body) (o : Option Body) → o ≡ None → o ≡ (if t then Some b else None) → t ≡ false
+unread true b o n e = cc
+unread false b o n e = refl
+
+pub read-bytes : (t : Bool) (b x : Body) (o : Option Body) → o ≡ Some x → o ≡ (if t then Some b else None) → (t ≡ true) × (x ≡ b)
+read-bytes true b x o s e = (refl, cc)
+read-bytes false b x o s e = cc
+
+pub bytes-by : (mode : Mode) (unit : NalUnit) (byte : ℕ) (o : Option Body) → byte ≡ header_of unit → o ≡ bytes_of mode unit → o ≡ (if is_kind_read mode (nal_unit_type byte) then Some (body_of unit) else None)
+bytes-by mode unit byte o e b = subst (λ (x : ℕ). o ≡ (if is_kind_read mode (nal_unit_type x) then Some (body_of unit) else None)) (sym e) b
+
+no-and : (b : Bool) → (b && true) ≡ false → b ≡ false
+no-and true e = e
+no-and false e = refl
+
+other-passed : (mode : Mode) (kind : ℕ) (before : History) (unit : NalUnit) → (is_slice kind && reads_slices mode) ≡ false → joined_other mode kind before unit ≡ joined mode before unit (gives contents.Passed)
+other-passed modes.Units kind before unit e = units-other kind before unit
+other-passed modes.Headers kind before unit e = passed-other modes.Headers kind before unit (no-and (is_slice kind) e)
+other-passed modes.Full kind before unit e = passed-other modes.Full kind before unit (no-and (is_slice kind) e)
+
+third : {A : Type 0} (one two three : Bool) (a b c p : A) → (one || two || three) ≡ false → (three ≡ false → c ≡ p) → (if one then a else (if two then b else c)) ≡ p
+third true two three a b c p e f = cc
+third false true three a b c p e f = cc
+third false false three a b c p e f = f e
+
+-- a unit that is not read is passed over
+pub passed-by : (terms : Terms) (kind : ℕ) (before : History) (unit : NalUnit) → is_kind_read terms.mode kind ≡ false → joined_by terms kind before unit ≡ joined terms.mode before unit (gives contents.Passed)
+unfolding joined_by
+passed-by terms kind before unit e = third (kind == 7) (kind == 8) (is_slice kind && reads_slices terms.mode) _ _ (joined_other terms.mode kind before unit) _ e (other-passed terms.mode kind before unit)
+
+and-both : (a b : Bool) → (a && b) ≡ true → (a ≡ true) × (b ≡ true)
+and-both true b e = (refl, e)
+and-both false b e = cc
+
+last-of : (one two three : Bool) → (one || two || three) ≡ true → one ≡ false → two ≡ false → three ≡ true
+last-of true two three e f g = cc
+last-of false true three e f g = cc
+last-of false false three e f g = e
+
+-- and one that is read, and no set, is a slice
+pub read-slice : (mode : Mode) (kind : ℕ) → is_kind_read mode kind ≡ true → (kind == 7) ≡ false → (kind == 8) ≡ false → (is_slice kind ≡ true) × (reads_slices mode ≡ true)
+read-slice mode kind e f g = and-both (is_slice kind) (reads_slices mode) (last-of (kind == 7) (kind == 8) (is_slice kind && reads_slices mode) e f g)
+
+-- at a slice no picture ends before its elements
+pub slice-goes-on : (kind : ℕ) → is_slice kind ≡ true → ends_picture kind ≡ false
+slice-goes-on kind e = by (kind == 1) (kind == 5) refl refl e
+  where
+    by : (one five : Bool) → (kind == 1) ≡ one → (kind == 5) ≡ five → (one || five) ≡ true → ends_picture kind ≡ false
+    by true five p q e = ap (λ (k : ℕ). ends_picture k) (eqb-true kind 1 p)
+    by false true p q e = ap (λ (k : ℕ). ends_picture k) (eqb-true kind 5 q)
+    by false false p q e = cc
+
+-- ---- a picture of another format
+
+-- the decoder has the format of the newest picture
+pub is-another : (frames : ℕ → Frame) (on : Bool) (pictures : List CodedPicture) (old new : Decoder) (sps : Sps) → KeepsDecoder modes.Full frames on false pictures old → new.format ≡ old.format → (new.format ≡ Some (format_of sps) → ⊥) → HasAnotherFormat pictures sps
+unfolding KeepsDecoder
+is-another frames on [] old new sps k e never = tt
+is-another frames on (p ∷ ps) old new sps k e never = λ same. never (e ∙ k.format ∙ ap (λ (f : Format). Some f) (sym same))
+
+-- the slice of this header begins such a picture
+module _ {X S : Type 0} (took : S → List Call → Type 0) (failures : S → ℕ) (before : History) (unit : NalUnit) (maps : Maps) (maps-are : maps ≡ maps_of before) (byte : ℕ) (byte-is : byte ≡ header_of unit) (of : SliceUnit) (of-is : of ≡ slice_unit_of byte) (h : Header) where
+  pub begins-another : (old new : Reader) (s s' : S) (x : X) → old ≡ record { body = body_of unit; at = 0 } → Meets took failures (Is (λ (y : X). h)) (header_syntax (sets_of maps) of) old new s s' (let r : Result X Stop = Ok x in r) → Answers took failures (Is (λ (y : X). h)) (header_syntax (sets_of maps) of) old new s s' (let r : Result X Stop = Ok x in r) → (sets : Pps × Sps) → sets_of maps h.pic_parameter_set_id.value ≡ Some sets → begins_at before h ≡ true → HasAnotherFormat (runs_of before) sets.1 → BeginsAnotherFormat before unit
+  begins-another old new s s' x first read answers sets names begins another =
+      let unit-is : of ≡ slice_unit unit = of-is ∙ ap (λ (b : ℕ). slice_unit_of b) byte-is in
+      let a = subst (λ (o : Reader). Answers took failures (Is (λ (y : X). h)) (header_syntax (sets_of maps) of) o new s s' (let r : Result X Stop = Ok x in r)) first answers in
+      let b = subst (λ (m : Maps). Answers took failures (Is (λ (y : X). h)) (header_syntax (sets_of m) of) (record { body = body_of unit; at = 0 }) new s s' (let r : Result X Stop = Ok x in r)) maps-are a in
+      let d = subst (λ (u : SliceUnit). Answers took failures (Is (λ (y : X). h)) (header_syntax (sets_of (maps_of before)) u) (record { body = body_of unit; at = 0 }) new s s' (let r : Result X Stop = Ok x in r)) unit-is b in
+      record {
+        header = d.1;
+        elements = d.0;
+        end = new.at;
+        derives = d.3;
+        sets = sets;
+        names = subst (λ (q : Header). sets_of (maps_of before) q.pic_parameter_set_id.value ≡ Some sets) (sym d.2) (subst (λ (m : Maps). sets_of m h.pic_parameter_set_id.value ≡ Some sets) maps-are names);
+        begins = subst (λ (q : Header). begins_at before q ≡ true) (sym d.2) begins;
+        is_another = another;
+      }

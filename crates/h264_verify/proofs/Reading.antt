@@ -1,0 +1,176 @@
+-- Slice data after what is kept before them.
+use Rattle.std.proofs.Common.{◌≡◌, ℕ, Bool, ◌&&◌, true, false, List, [], ◌∷◌, Option, Some, Result, refl, ap, sym, ◌∙◌, length}
+use Rattle.h264_base.specs.declared.mode.Mode.TheVariants as modes
+use Rattle.h264_base.specs.declared.stop.Stop.{Stop}
+use Rattle.h264_base.specs.Call.{Call}
+use Rattle.h264_plane.specs.declared.frame.Frame.{Frame}
+use Rattle.h264_base.specs.Body.{Body}
+use Rattle.h264_sps.specs.declared.sps.Sps.{Sps}
+use Rattle.h264_pps.specs.declared.Pps.{Pps}
+use Rattle.h264_header.specs.declared.header.Header.{Header}
+use Rattle.h264_near.specs.Coded.{CodedMacroblock}
+use Rattle.h264_sets.specs.Sets.{Maps}
+use Rattle.h264_header.specs.Layout.{sets_of}
+use Rattle.h264_marking.specs.declared.frame.Numbering.{Numbering}
+use Rattle.h264_marking.specs.Frames.{References}
+use Rattle.h264_lists.specs.declared.slot.RefSlot.{RefSlot}
+use Rattle.h264_sets.specs.Usable.{is_usable, crops_within, holds_references, buffers_within}
+use Rattle.h264_picture.specs.Holds.{is_frame_size}
+use Rattle.h264_mbsyntax.specs.Slice.{slice_data}
+use Rattle.h264_picture.specs.Context.{slice_context}
+use Rattle.h264_picture.specs.Levels.{transform_fits}
+use Rattle.h264_picture.specs.Filter.{slice_filter}
+use Rattle.h264_picture.specs.Weights.{slice_weights}
+use Rattle.h264_verify.specs.Lists.{context_in, list_of}
+use Rattle.h264_verify.specs.Sound.{HasPps}
+use Rattle.h264_verify.specs.Decoding.{slices_of}
+use Rattle.h264_verify.proofs.Agreeing.{each-slice}
+use Rattle.h264_verify.specs.declared.decoder.Decoder.{Decoder}
+use Rattle.h264_verify.specs.Buffering.{within_newest}
+use Rattle.h264_verify.specs.Keeping.{HoldsBegun, KeepsOutput, KeepsDecoder, BeginsFrames}
+use Rattle.h264_dpb.specs.Turns.{Turn}
+use Rattle.h264_verify.specs.Framing.{ReadsSlice, ReadsData}
+use Rattle.h264_vectors.specs.declared.slice.SliceContext.{SliceContext}
+use Rattle.h264_bits.specs.declared.element.Found.{Found}
+use Rattle.h264_header.specs.declared.header.Marking.{Marking}
+use Rattle.std.specs.Result.{result_unwrap_or}
+use Rattle.h264_verify.specs.Outcome.{Outcome}
+use Rattle.h264_verify.specs.Pictures.{CodedSlice, CodedPicture, last_slice, joined_to, picture_size, held_in}
+use Rattle.h264_marking.specs.Ended.{numbering_of}
+use Rattle.h264_verify.specs.Data.{picture_set, coded_so_far, slice_syntax, data_in}
+use Rattle.h264_header.specs.Header.{header}
+use Rattle.h264_header.proofs.Entries.{where-ok}
+use Rattle.h264_verify.specs.StepOutcome.{structure_from}
+
+-- what macroblocks take from their slice says nothing of the marking
+context-same : (pps : Pps) (sps : Sps) (h : Header) (m : Option (Found Marking)) (list : List RefSlot) → slice_context pps sps (record h { marking = m }) list ≡ slice_context pps sps h list
+unfolding slice_context
+context-same pps sps h m list = refl
+
+pub syntax-is : (width size : ℕ) (pps : Pps) (sps : Sps) (h : Header) (list : List RefSlot) (picture : List CodedMacroblock) (c : SliceContext) → c ≡ slice_context pps sps h list → slice_data (transform_fits c) width size c picture ≡ slice_syntax width size pps sps h list picture
+unfolding slice_syntax
+syntax-is width size pps sps h list picture c e = ap (λ (x : SliceContext). slice_data (transform_fits x) width size x picture) e
+
+syntax-same : (width size : ℕ) (pps : Pps) (sps : Sps) (h : Header) (m : Option (Found Marking)) (list : List RefSlot) (picture : List CodedMacroblock) → slice_syntax width size pps sps (record h { marking = m }) list picture ≡ slice_syntax width size pps sps h list picture
+syntax-same width size pps sps h m list picture = sym (syntax-is width size pps sps (record h { marking = m }) list picture _ refl) ∙ syntax-is width size pps sps h list picture _ (context-same pps sps h m list)
+
+some-first : {A B : Type 0} (a b : A) (c d : B) → (let x : Option (A × B) = Some (a, c) in x ≡ Some (b, d)) → a ≡ b
+some-first {A} {B} a b c d e = let p : ◌≡◌ {A = A × B} (a, c) (b, d) = cc in ap (λ (x : A × B). x.0) p
+
+some-second : {A B : Type 0} (a b : A) (c d : B) → (let x : Option (A × B) = Some (a, c) in x ≡ Some (b, d)) → c ≡ d
+some-second {A} {B} a b c d e = let p : ◌≡◌ {A = A × B} (a, c) (b, d) = cc in ap (λ (x : A × B). x.1) p
+
+-- what the code reads slice data by is what the units so far give
+pub data-same : (begins : Bool) (pictures : List CodedPicture) (s : CodedSlice) (sets : Maps) (header : Header) (pps : Pps) (sps : Sps) (n : Numbering) (held : References) (items : List RefSlot) → sets_of sets header.pic_parameter_set_id.value ≡ Some (pps, sps) → sets_of sets s.header.pic_parameter_set_id.value ≡ Some (s.pps, s.sps) → header ≡ record s.header { marking = header.marking } → n ≡ numbering_of sps header → held ≡ held_in (joined_to begins s pictures) → items ≡ result_unwrap_or (list_of header.kind.value n held) [] → slice_syntax (picture_set begins s pictures).frame_size.width (picture_size (picture_set begins s pictures)) pps sps header items (coded_so_far begins pictures) ≡ data_in begins pictures s
+data-same begins pictures s sets header pps sps n held items named names h ns hs list =
+    let same = sym named ∙ ap (λ (x : Header). sets_of sets x.pic_parameter_set_id.value) h ∙ names in
+    let pps-is = some-first pps s.pps sps s.sps same in
+    let sps-is = some-second pps s.pps sps s.sps same in
+    let listed = ap (λ (x : Header). list_of x.kind.value (numbering_of s.sps s.header) (held_in (joined_to begins s pictures))) (sym h) ∙ ap (λ (m : Numbering). list_of header.kind.value m (held_in (joined_to begins s pictures))) (ap (λ (x : Sps). numbering_of x s.header) (sym sps-is) ∙ ap (λ (x : Header). numbering_of sps x) (sym h) ∙ sym ns) ∙ ap (λ (r : References). list_of header.kind.value n r) (sym hs) in
+    let width = (picture_set begins s pictures).frame_size.width in
+    let size = picture_size (picture_set begins s pictures) in
+    let coded = coded_so_far begins pictures in
+    ap (λ (x : Pps). slice_syntax width size x sps header items coded) pps-is
+    ∙ ap (λ (x : Sps). slice_syntax width size s.pps x header items coded) sps-is
+    ∙ ap (λ (x : Header). slice_syntax width size s.pps s.sps x items coded) h
+    ∙ syntax-same width size s.pps s.sps s.header header.marking items coded
+    ∙ ap (λ (l : List RefSlot). slice_syntax width size s.pps s.sps s.header l coded) (list ∙ sym (ap (λ (r : Result (List RefSlot) ℕ). result_unwrap_or r []) listed))
+
+pub named-set : (sets : Maps) (header : Header) (s : CodedSlice) (pps : Pps) (sps : Sps) → sets_of sets header.pic_parameter_set_id.value ≡ Some (pps, sps) → sets_of sets s.header.pic_parameter_set_id.value ≡ Some (s.pps, s.sps) → header ≡ record s.header { marking = header.marking } → sps ≡ s.sps
+named-set sets header s pps sps named names h = some-second pps s.pps sps s.sps (sym named ∙ ap (λ (x : Header). sets_of sets x.pic_parameter_set_id.value) h ∙ names)
+
+-- the frames of a set that may be given are no larger than the greatest MaxFS
+first-of : (a r : Bool) → (a && r) ≡ true → a ≡ true
+first-of true r h = refl
+first-of false r h = h
+
+pub usable_size : (sps : Sps) → is_usable sps ≡ true → is_frame_size sps.frame_size ≡ true
+unfolding is_usable
+usable_size sps e = first-of (is_frame_size sps.frame_size) (crops_within sps.frame_size sps.frame_cropping && (holds_references sps && buffers_within sps)) e
+
+-- what the code takes from the header is what the slice has
+pub context-is : (begins : Bool) (pictures : List CodedPicture) (s : CodedSlice) (sets : Maps) (header : Header) (pps : Pps) (sps : Sps) (n : Numbering) (held : References) (items : List RefSlot) (c : SliceContext) → c ≡ slice_context pps sps header items → sets_of sets header.pic_parameter_set_id.value ≡ Some (pps, sps) → sets_of sets s.header.pic_parameter_set_id.value ≡ Some (s.pps, s.sps) → header ≡ record s.header { marking = header.marking } → n ≡ numbering_of sps header → held ≡ held_in (joined_to begins s pictures) → items ≡ result_unwrap_or (list_of header.kind.value n held) [] → c ≡ context_in (joined_to begins s pictures) s
+context-is begins pictures s sets header pps sps n held items c is named names h ns hs list =
+    let same = sym named ∙ ap (λ (x : Header). sets_of sets x.pic_parameter_set_id.value) h ∙ names in
+    let pps-is = some-first pps s.pps sps s.sps same in
+    let sps-is = some-second pps s.pps sps s.sps same in
+    let listed = ap (λ (x : Header). list_of x.kind.value (numbering_of s.sps s.header) (held_in (joined_to begins s pictures))) (sym h) ∙ ap (λ (m : Numbering). list_of header.kind.value m (held_in (joined_to begins s pictures))) (ap (λ (x : Sps). numbering_of x s.header) (sym sps-is) ∙ ap (λ (x : Header). numbering_of sps x) (sym h) ∙ sym ns) ∙ ap (λ (r : References). list_of header.kind.value n r) (sym hs) in
+    is ∙ ap (λ (x : Pps). slice_context x sps header items) pps-is
+    ∙ ap (λ (x : Sps). slice_context s.pps x header items) sps-is
+    ∙ ap (λ (x : Header). slice_context s.pps s.sps x items) h
+    ∙ context-same s.pps s.sps s.header header.marking items
+    ∙ ap (λ (l : List RefSlot). slice_context s.pps s.sps s.header l) (list ∙ sym (ap (λ (r : Result (List RefSlot) ℕ). result_unwrap_or r []) listed))
+
+filter-same : (pps : Pps) (h : Header) (m : Option (Found Marking)) → slice_filter pps (record h { marking = m }) ≡ slice_filter pps h
+unfolding slice_filter
+filter-same pps h m = refl
+
+pub filter-is : (s : CodedSlice) (sets : Maps) (header : Header) (pps : Pps) (sps : Sps) → sets_of sets header.pic_parameter_set_id.value ≡ Some (pps, sps) → sets_of sets s.header.pic_parameter_set_id.value ≡ Some (s.pps, s.sps) → header ≡ record s.header { marking = header.marking } → slice_filter pps header ≡ slice_filter s.pps s.header
+filter-is s sets header pps sps named names h =
+    let same = sym named ∙ ap (λ (x : Header). sets_of sets x.pic_parameter_set_id.value) h ∙ names in
+    ap (λ (x : Pps). slice_filter x header) (some-first pps s.pps sps s.sps same) ∙ ap (λ (x : Header). slice_filter s.pps x) h ∙ filter-same s.pps s.header header.marking
+
+weights-same : (h : Header) (m : Option (Found Marking)) → slice_weights (record h { marking = m }) ≡ slice_weights h
+unfolding slice_weights
+weights-same h m = refl
+
+pub weights-are : (s : CodedSlice) (header : Header) → header ≡ record s.header { marking = header.marking } → slice_weights header ≡ slice_weights s.header
+weights-are s header h = ap slice_weights h ∙ weights-same s.header header.marking
+
+-- a slice that was read belongs to its picture
+begun-first : (frames : ℕ → Frame) (s : CodedSlice) (pictures : List CodedPicture) (ms : List CodedMacroblock) (d : Decoder) → HoldsBegun frames (record { first = s; later = [] }) pictures (s ∷ []) ms d → HoldsBegun frames (record { first = record s { macroblocks = ms }; later = [] }) pictures (record s { macroblocks = ms } ∷ []) ms d
+begun-first frames s pictures ms d h = record {
+  begun = h.begun;
+  active = h.active;
+  free = h.free;
+  format = h.format;
+  settled = h.settled;
+  so_far = record {
+    holds = h.so_far.holds;
+    numbers = (h.so_far.numbers.0, tt);
+    sets = (h.so_far.sets.0, tt);
+    references = (record { each = h.so_far.references.0.each }, tt);
+    samples = λ making m. h.so_far.samples making (record { parameters = (m.parameters.0, tt); offsets = m.offsets; places = m.places });
+  };
+}
+
+begun-later : (frames : ℕ → Frame) (s : CodedSlice) (p : CodedPicture) (ps : List CodedPicture) (ms : List CodedMacroblock) (d : Decoder) → HoldsBegun frames p ps (s ∷ slices_of p) ms d → HoldsBegun frames (record p { later = record s { macroblocks = ms } ∷ p.later }) ps (record s { macroblocks = ms } ∷ slices_of p) ms d
+begun-later frames s p ps ms d h = record {
+  begun = h.begun;
+  active = h.active;
+  free = h.free;
+  format = h.format;
+  settled = h.settled;
+  so_far = record {
+    holds = h.so_far.holds;
+    numbers = (h.so_far.numbers.0, h.so_far.numbers.1);
+    sets = (h.so_far.sets.0, h.so_far.sets.1);
+    references = (record { each = h.so_far.references.0.each }, each-slice (λ t k. record { each = k.each }) (slices_of p) h.so_far.references.1);
+    samples = λ making m. h.so_far.samples making (record { parameters = (m.parameters.0, m.parameters.1); offsets = m.offsets; places = m.places });
+  };
+}
+
+first-kept : (frames : ℕ → Frame) (s : CodedSlice) (pictures : List CodedPicture) (ms : List CodedMacroblock) (d : Decoder) → HoldsBegun frames (record { first = s; later = [] }) pictures (s ∷ []) ms d × KeepsOutput frames (within_newest (record { first = s; later = [] } ∷ pictures)) (length pictures) d → KeepsDecoder modes.Full frames true false (joined_to true (record s { macroblocks = ms }) pictures) d
+unfolding KeepsDecoder
+first-kept frames s pictures ms d h = record { format = h.0.format; output = h.1; picture = begun-first frames s pictures ms d h.0 }
+
+later-kept : (frames : ℕ → Frame) (s : CodedSlice) (p : CodedPicture) (ps : List CodedPicture) (ms : List CodedMacroblock) (d : Decoder) → HoldsBegun frames p ps (s ∷ slices_of p) ms d × KeepsOutput frames (within_newest (p ∷ ps)) (length ps) d → KeepsDecoder modes.Full frames true false (joined_to false (record s { macroblocks = ms }) (p ∷ ps)) d
+unfolding KeepsDecoder
+later-kept frames s p ps ms d h = record { format = h.0.format; output = h.1; picture = begun-later frames s p ps ms d h.0 }
+
+module _ {S X : Type 0} (took : S → List Call → Type 0) (failures : S → ℕ) (frames : ℕ → Frame) (new : Decoder) (s s' : S) (r : Result X Stop) (slice : CodedSlice) where
+  pub first-read : (o : Outcome (List CodedMacroblock × ℕ)) (pictures : List CodedPicture) → ReadsSlice took failures frames o (λ ms. HoldsBegun frames (record { first = slice; later = [] }) pictures (slice ∷ []) ms new × KeepsOutput frames (within_newest (record { first = slice; later = [] } ∷ pictures)) (length pictures) new) s s' r → ReadsData took failures frames o (λ ms. joined_to true (record slice { macroblocks = ms }) pictures) new s s' r
+  first-read o pictures k = record { macroblocks = k.macroblocks; end = k.end; plays = k.plays; keeps = where-ok r (first-kept frames slice pictures k.macroblocks new) k.keeps }
+
+  pub later-read : (o : Outcome (List CodedMacroblock × ℕ)) (p : CodedPicture) (ps : List CodedPicture) → ReadsSlice took failures frames o (λ ms. HoldsBegun frames p ps (slice ∷ slices_of p) ms new × KeepsOutput frames (within_newest (p ∷ ps)) (length ps) new) s s' r → ReadsData took failures frames o (λ ms. joined_to false (record slice { macroblocks = ms }) (p ∷ ps)) new s s' r
+  later-read o p ps k = record { macroblocks = k.macroblocks; end = k.end; plays = k.plays; keeps = where-ok r (later-kept frames slice p ps k.macroblocks new) k.keeps }
+
+-- the slice data of a slice after what is kept before them
+pub read-behind : {S X : Type 0} (took : S → List Call → Type 0) (failures : S → ℕ) (frames : ℕ → Frame) (old new : Decoder) (s s' : S) (r : Result X Stop) (begins : Bool) (pictures : List CodedPicture) (slice : CodedSlice) (c : SliceContext) (body : Body) (at : ℕ) →
+    c ≡ context_in (joined_to begins slice pictures) slice → slice.header.first_mb_in_slice.value ≡ length (coded_so_far begins pictures) → (begins ≡ false → HasPps slice.pps pictures) → BeginsFrames frames begins slice pictures old →
+    ((p : CodedPicture) (ps : List CodedPicture) (slices : List CodedSlice) (ms : List CodedMacroblock) (t : Turn) → c ≡ context_in (p ∷ ps) slice → slice.header.first_mb_in_slice.value ≡ length ms → slice.pps ≡ p.first.pps → KeepsOutput frames t (length ps) old → HoldsBegun frames p ps slices ms old →
+    ReadsSlice took failures frames (structure_from (slice_data (transform_fits c) p.first.sps.frame_size.width (picture_size p.first.sps) c ms) body at) (λ ms'. HoldsBegun frames p ps (slice ∷ slices) ms' new × KeepsOutput frames t (length ps) new) s s' r) →
+    ReadsData took failures frames (structure_from (slice_data (transform_fits c) (picture_set begins slice pictures).frame_size.width (picture_size (picture_set begins slice pictures)) c (coded_so_far begins pictures)) body at) (λ ms. joined_to begins (record slice { macroblocks = ms }) pictures) new s s' r
+read-behind took failures frames old new s s' r true pictures slice c body at is n set k f = first-read took failures frames new s s' r slice _ pictures (f (record { first = slice; later = [] }) pictures [] [] (within_newest (record { first = slice; later = [] } ∷ pictures)) is n refl k.output k.picture)
+read-behind took failures frames old new s s' r false [] slice c body at is n set k f = absurd k
+read-behind took failures frames old new s s' r false (p ∷ ps) slice c body at is n set k f = later-read took failures frames new s s' r slice _ p ps (f p ps (slices_of p) (last_slice p).macroblocks (within_newest (p ∷ ps)) is n (sym (set refl)) k.output k.picture)

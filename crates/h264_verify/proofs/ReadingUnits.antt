@@ -1,0 +1,141 @@
+-- Structures that are read from a bit on, and a slice with its slice data.
+use Rattle.std.proofs.Common.{◌≡◌, ℕ, Bool, true, false, List, [], ◌∷◌, Some, Result, Ok, Err, refl, ap, sym, ◌∙◌, subst, length, ◌==◌, eqb-true}
+use Rattle.h264_base.specs.declared.mode.Mode.TheVariants as modes
+use Rattle.h264_base.specs.declared.stop.Stop.{Stop}
+use Rattle.h264_base.specs.declared.stop.Stop.TheVariants.{No, Outside, Memory, Read, Write}
+use Rattle.h264_base.specs.Call.{Call}
+use Rattle.h264_base.specs.Run.{run}
+use Rattle.h264_plane.specs.declared.frame.Frame.{Frame}
+use Rattle.h264_verify.specs.Telling.{Told, took_with}
+use Rattle.h264_verify.proofs.Saying.{elements-tell, elements-front}
+use Rattle.h264_base.specs.Body.{Body}
+use Rattle.h264_base.specs.Grammar.{Grammar, Done, ◌>>=◌ as ◌bind◌}
+use Rattle.h264_base.specs.Meets.{Reader, Meets, MeetsBy, Answers, AnswersBy, Is}
+use Rattle.h264_units.specs.Stream.{NalUnit}
+use Rattle.h264_rbsp.specs.Rbsp.{body_of}
+use Rattle.h264_sps.specs.declared.sps.Sps.{Sps}
+use Rattle.h264_pps.specs.declared.Pps.{Pps}
+use Rattle.h264_header.specs.declared.header.Header.{Header}
+use Rattle.h264_near.specs.Coded.{CodedMacroblock}
+use Rattle.h264_sets.specs.Sets.{Maps}
+use Rattle.h264_header.specs.Layout.{sets_of}
+use Rattle.h264_lists.specs.declared.slot.RefSlot.{RefSlot}
+use Rattle.h264_picture.specs.Context.{slice_context}
+use Rattle.h264_vectors.specs.declared.slice.SliceContext.{SliceContext}
+use Rattle.h264_verify.specs.Content.{Content}
+use Rattle.h264_verify.specs.Content as contents
+use Rattle.h264_verify.specs.Outcome.{Outcome, answers, Plays, PlaysBy}
+use Rattle.h264_verify.specs.History.{History, maps_of}
+use Rattle.h264_verify.specs.Pictures.{CodedSlice, CodedPicture, with_sets, sets_at, begins_at, runs_of}
+use Rattle.h264_verify.specs.Slices.{first_mb_demands, slice_steps}
+use Rattle.h264_verify.specs.Data.{coded_so_far, data_in, data_by, slice_data_at}
+use Rattle.h264_header.specs.declared.header.SliceUnit.{SliceUnit}
+use Rattle.h264_header.specs.Header.{header}
+use Rattle.h264_base.specs.declared.rule.Rule.TheVariants.{FirstMb}
+use Rattle.h264_verify.specs.Demands.{judged}
+use Rattle.h264_verify.specs.UnitHeader.{header_of}
+use Rattle.h264_verify.specs.Keeping.{coded_before}
+use Rattle.h264_verify.specs.Units.{slice_unit, slice_unit_of}
+use Rattle.h264_verify.proofs.Slicing.{ok-true}
+use Rattle.h264_verify.specs.StepOutcome.{steps_outcome, structure_from, course_outcome}
+use Rattle.h264_verify.specs.UnitOutcome.{header_content, whole_slice}
+use Rattle.h264_verify.proofs.Playing.{plays-on, plays-stops, plays-gives}
+use Rattle.h264_verify.proofs.Stepping.{outcome}
+use Rattle.h264_verify.proofs.Courses.{seen, structure-seen}
+
+-- What meets a grammar from a bit on plays its outcome, with the bit after it.
+module _ {A S X : Type 0} (frames : ℕ → Frame) (took : S → List Call → Type 0) (failures : S → ℕ) (view : X → A) (g : Grammar A) (body : Body) (i j : ℕ) (s s' : S) where
+  from-meets : (r : Result X Stop) → MeetsBy took failures (Is view) g body i j s s' r → AnswersBy took failures (Is view) g body i j s s' r → PlaysBy (took_with frames took) failures (λ (x : X). (view x, j)) (structure_from g body i) s s' r
+  from-meets (Ok x) m a = (m.2 ∙ ap (λ (v : A). let r : Result (A × ℕ) Stop = Ok (v, j) in r) m.1, elements-tell frames took s s' body (run g body i).elements m.3, m.4)
+  from-meets (Err (No bit rule)) m a = (m.0, elements-tell frames took s s' body (run g body i).elements m.1, m.2)
+  from-meets (Err (Outside bit feature)) m a = (m.0, elements-tell frames took s s' body (run g body i).elements m.1, m.2)
+  from-meets (Err Memory) m a = absurd a
+  from-meets (Err Read) m a = absurd a
+  from-meets (Err Write) m a = (elements-front frames took s s' body (run g body i).elements m.0, m.1)
+
+-- the same for a value that is seen otherwise
+module _ {A B S X : Type 0} (took : S → List Told → Type 0) (failures : S → ℕ) (view : X → A × ℕ) (f : A → B) (g : Grammar A) (body : Body) (i : ℕ) (s s' : S) where
+  abbrev as_seen : Outcome (B × ℕ)
+  as_seen = outcome (structure_from g body i).calls (seen f (structure_from g body i).answer)
+
+  seen-by : (r : Result X Stop) → PlaysBy took failures view (structure_from g body i) s s' r → PlaysBy took failures (λ (x : X). (f (view x).0, (view x).1)) as_seen s s' r
+  seen-by (Ok x) p = (ap (seen f) p.0, p.1, p.2)
+  seen-by (Err (No bit rule)) p = (ap (seen f) p.0, p.1, p.2)
+  seen-by (Err (Outside bit feature)) p = (ap (seen f) p.0, p.1, p.2)
+  seen-by (Err Memory) p = p
+  seen-by (Err Read) p = p
+  seen-by (Err Write) p = p
+
+  pub plays-seen : (r : Result X Stop) → Plays took failures view (structure_from g body i) s s' r → Plays took failures (λ (x : X). (f (view x).0, (view x).1)) (structure_from (◌bind◌ g (λ y. Done (f y))) body i) s s' r
+  plays-seen r p = subst (λ (o : Outcome (B × ℕ)). Plays took failures (λ (x : X). (f (view x).0, (view x).1)) o s s' r) (sym (structure-seen body f g i)) (record { plays = seen-by r p.plays })
+
+pub meets-from : {A S X : Type 0} (frames : ℕ → Frame) (took : S → List Call → Type 0) (failures : S → ℕ) (view : X → A) (g : Grammar A) (body : Body) (i : ℕ) (old new : Reader) (s s' : S) (r : Result X Stop) → old ≡ record { body = body; at = i } → Meets took failures (Is view) g old new s s' r → Answers took failures (Is view) g old new s s' r → Plays (took_with frames took) failures (λ (x : X). (view x, new.at)) (structure_from g body i) s s' r
+meets-from frames took failures view g body i old new s s' r e m a =
+    let m' = subst (λ o. Meets took failures (Is view) g o new s s' r) e m in
+    let a' = subst (λ o. Answers took failures (Is view) g o new s s' r) e a in
+    record { plays = from-meets frames took failures view g body i new.at s s' r m'.meets a' }
+
+-- a slice's number is its first_mb_in_slice
+pub number-is : (pps : Pps) (sps : Sps) (header : Header) (list : List RefSlot) (s : CodedSlice) (n : ℕ) (c : SliceContext) → c ≡ slice_context pps sps header list → header ≡ record s.header { marking = header.marking } → s.header.first_mb_in_slice.value ≡ n → c.number ≡ n
+unfolding slice_context
+number-is pps sps header list s n c e h f = ap (λ (x : SliceContext). x.number) e ∙ ap (λ (x : Header). x.first_mb_in_slice.value) h ∙ f
+
+-- how many macroblocks are coded before a slice, by its rule
+coded-same : (begins : Bool) (pictures : List CodedPicture) → coded_before begins pictures ≡ length (coded_so_far begins pictures)
+coded-same true pictures = refl
+coded-same false pictures = refl
+
+place-by : (a b bit : ℕ) → (let r : Result (Unit {0}) Stop = Ok tt in r ≡ judged (record { rule = FirstMb; bit = bit; met = a == b } ∷ [])) → a ≡ b
+place-by a b bit h = eqb-true a b (ok-true (a == b) tt (No bit FirstMb) h)
+
+pub placed : (begins : Bool) (pictures : List CodedPicture) (h : Header) → (let r : Result (Unit {0}) Stop = Ok tt in r ≡ judged (first_mb_demands modes.Full (coded_before begins pictures) h)) → h.first_mb_in_slice.value ≡ length (coded_so_far begins pictures)
+placed begins pictures h p = place-by h.first_mb_in_slice.value (coded_before begins pictures) h.first_mb_in_slice.bit p ∙ coded-same begins pictures
+
+-- the header of a slice was read
+pub header-read : {S X : Type 0} (frames : ℕ → Frame) (took : S → List Call → Type 0) (failures : S → ℕ) (before : History) (unit : NalUnit) (byte : ℕ) (sets : Maps) (u : SliceUnit) (h : Header) (old new : Reader) (s s' : S) (r : Result X Stop) → sets ≡ maps_of before → byte ≡ header_of unit → u ≡ slice_unit_of byte → old ≡ record { body = body_of unit; at = 0 } → Meets took failures (Is (λ (x : X). h)) (header (sets_of sets) u) old new s s' r → Answers took failures (Is (λ (x : X). h)) (header (sets_of sets) u) old new s s' r → Plays (took_with frames took) failures (λ (x : X). (contents.OfSlice h [], new.at)) (structure_from (header_content before unit) (body_of unit) 0) s s' r
+header-read {X} frames took failures before unit byte sets u h old new s s' r m b e o meets answers =
+    let unit-is : u ≡ slice_unit unit = e ∙ ap slice_unit_of b in
+    let p = meets-from frames took failures (λ (x : X). h) (header (sets_of sets) u) (body_of unit) 0 old new s s' r o meets answers in
+    let q = subst (λ (w : Maps). Plays (took_with frames took) failures (λ (x : X). (h, new.at)) (structure_from (header (sets_of w) u) (body_of unit) 0) s s' r) m p in
+    let w = subst (λ (v : SliceUnit). Plays (took_with frames took) failures (λ (x : X). (h, new.at)) (structure_from (header (sets_of (maps_of before)) v) (body_of unit) 0) s s' r) unit-is q in
+    plays-seen (took_with frames took) failures (λ (x : X). (h, new.at)) (λ k. contents.OfSlice k []) (header (sets_of (maps_of before)) (slice_unit unit)) (body_of unit) 0 s s' r w
+
+-- the same structure at the same bit
+pub data-there : {S X : Type 0} (took : S → List Told → Type 0) (failures : S → ℕ) (view : X → List CodedMacroblock × ℕ) (pictures : List CodedPicture) (s : CodedSlice) (begins there : Bool) (body at_body : Body) (bit : ℕ) (s1 s2 : S) (r : Result X Stop) → begins ≡ there → body ≡ at_body → Plays took failures view (structure_from (data_in begins pictures s) body bit) s1 s2 r → Plays took failures view (structure_from (data_in there pictures s) at_body bit) s1 s2 r
+data-there took failures view pictures s begins there body at_body bit s1 s2 r e b p =
+    subst (λ (x : Bool). Plays took failures view (structure_from (data_in x pictures s) at_body bit) s1 s2 r) e (subst (λ (w : Body). Plays took failures view (structure_from (data_in begins pictures s) w bit) s1 s2 r) b p)
+
+-- A slice with its slice data, part by part.
+module _ {S : Type 0} (took : S → List Told → Type 0) (failures : S → ℕ) (before : History) (unit : NalUnit) (h : Header) (bit : ℕ) where
+  abbrev header_view : Unit {0} → Content × ℕ
+  header_view x = (contents.OfSlice h [], bit)
+
+  -- its header is no header
+  pub slice-stops : (s s' : S) (e : Stop) → Plays {X = Unit {0}} took failures header_view (structure_from (header_content before unit) (body_of unit) 0) s s' (Err e) → Plays {X = Unit {0}} took failures (λ x. []) (whole_slice before unit) s s' (Err e)
+  unfolding whole_slice
+  slice-stops s s' e p = plays-stops took failures header_view (λ x. []) _ _ s s' e p
+
+  module _ (s s1 : S) (x : Unit {0}) (read : Plays took failures header_view (structure_from (header_content before unit) (body_of unit) 0) s s1 (Ok x)) where
+    -- a rule on it is broken
+    pub slice-broken : (s2 : S) (e : Stop) → Plays {X = Unit {0}} took failures (λ x. x) (steps_outcome (slice_steps modes.Full before unit h)) s1 s2 (Err e) → Plays {X = Unit {0}} took failures (λ x. []) (whole_slice before unit) s s2 (Err e)
+    unfolding whole_slice
+    slice-broken s2 e p = plays-on took failures header_view (λ x. []) _ _ s s1 s2 x (Err e) read (plays-stops took failures (λ (x : Unit {0}). x) (λ x. []) _ _ s1 s2 e p)
+
+    module _ (s2 : S) (y : Unit {0}) (met : Plays took failures (λ (x : Unit {0}). x) (steps_outcome (slice_steps modes.Full before unit h)) s1 s2 (Ok y)) (sets : Pps × Sps) (named : sets_at before h ≡ Some sets) (ms : List CodedMacroblock) (end : ℕ) (s3 : S) where
+      abbrev body_data : Grammar (List CodedMacroblock)
+      body_data = data_in (begins_at before h) (runs_of before) (with_sets unit h [] sets)
+
+      data-is : slice_data_at before unit h ≡ body_data
+      unfolding slice_data_at
+      data-is = ap (λ o. data_by o before unit h) named
+
+      -- slice data were read, or stop
+      pub slice-reads : (r : Result (Unit {0}) Stop) → Plays took failures (λ x. (ms, end)) (structure_from body_data (body_of unit) bit) s2 s3 r → Plays took failures (λ x. record { unit = unit; content = contents.OfSlice h ms } ∷ before) (whole_slice before unit) s s3 r
+      unfolding whole_slice course_outcome
+      slice-reads r p =
+          let d = subst (λ (g : Grammar (List CodedMacroblock)). Plays took failures (λ (x : Unit {0}). (ms, end)) (structure_from g (body_of unit) bit) s2 s3 r) (sym data-is) p in
+          let content = plays-seen took failures (λ (x : Unit {0}). (ms, end)) (contents.OfSlice h) (slice_data_at before unit h) (body_of unit) bit s2 s3 r d in
+          plays-on took failures header_view (λ x. record { unit = unit; content = contents.OfSlice h ms } ∷ before) _ _ s s1 s3 x r read
+          (plays-on took failures (λ (x : Unit {0}). x) (λ x. record { unit = unit; content = contents.OfSlice h ms } ∷ before) _ _ s1 s2 s3 y r met
+          (plays-gives took failures (λ (x : Unit {0}). contents.OfSlice h ms) (λ c. record { unit = unit; content = c } ∷ before) _ s2 s3 r
+          (plays-gives took failures (λ (x : Unit {0}). (contents.OfSlice h ms, end)) (λ (w : Content × ℕ). w.0) _ s2 s3 r content)))

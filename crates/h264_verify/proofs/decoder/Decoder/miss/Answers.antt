@@ -1,0 +1,26 @@
+use Rattle.h264_dpb.specs.Turns.{missing_turn}
+use Rattle.h264_verify.proofs.Showing.{writes-plays, writes-kept, writes-alone}
+use Rattle.h264_verify.proofs.Filling.{gap-ordered, gap-ready, gap-full, gap-filled}
+use Rattle.h264_verify.proofs.decoder.Decoder.miss.Goals as goal
+
+pub miss-requires-clause-ordered : goal.miss-requires-clause-ordered
+miss-requires-clause-ordered g c = gap-ordered _ c.requires.kept
+
+pub miss-requires-clause-ready : goal.miss-requires-clause-ready
+miss-requires-clause-ready g c = gap-ready _ c.requires.kept
+
+pub returns-clause-plays : goal.returns-clause-plays
+returns-clause-plays g c = λ frames t next k. writes-plays frames _ _ (missing_turn c.args.held.now t.buffer).written _ _ _ (c.miss.ensures.writes frames t.buffer _ k.output.buffer k.output.frames_are)
+
+pub returns-clause-keeps : goal.returns-clause-keeps
+returns-clause-keeps g c = λ frames t next k. gap-filled frames t next c.args.held.now c.args.self.now _ _ k (c.miss.ensures.keeps t.buffer _ k.output.buffer) (c.miss.ensures.frames frames k.output.frames_are) (c.miss.ensures.ordered next k.output.ordered) c.miss.ensures.ready
+
+pub returns-clause-kept : goal.returns-clause-kept
+returns-clause-kept g c =
+    let k = gap-full c.args.self.now c.requires.kept in
+    writes-kept _ _ _ _ _ _ (c.miss.ensures.writes c.requires.kept.frames c.requires.kept.turn.buffer _ k.output.buffer k.output.frames_are)
+
+pub returns-clause-no_memory : goal.returns-clause-no_memory
+returns-clause-no_memory g c =
+    let k = gap-full c.args.self.now c.requires.kept in
+    writes-alone _ _ _ _ _ _ (c.miss.ensures.writes c.requires.kept.frames c.requires.kept.turn.buffer _ k.output.buffer k.output.frames_are)

@@ -1,0 +1,139 @@
+use Rattle.std.proofs.Common.{◌≡◌, ℕ, ◌∷◌, ◌∙◌, Some, refl, sym, ap}
+use Rattle.std.proofs.lemmas.Result.{err_from_is_err_and}
+use Rattle.h264_marking.specs.Frames.{References}
+use Rattle.h264_marking.specs.Gaps.{entered}
+use Rattle.h264_header.specs.Picture.{is_idr, is_reference}
+use Rattle.h264_poc.specs.OfSlice.{picture_of}
+use Rattle.h264_marking.specs.Ended.{numbering_of}
+use Rattle.h264_verify.specs.declared.slices.Slices.{Slices}
+use Rattle.h264_verify.specs.Telling.{took_with}
+use Rattle.h264_verify.specs.Slices.{type_demand, idr_num_demand, gap_rules, id_demand, count_demand, qp_demand, list_demand}
+use Rattle.h264_verify.specs.Lists.{list_of}
+use Rattle.h264_verify.proofs.Playing.{no-memory}
+use Rattle.h264_verify.proofs.Stepwise.{at-first, at-second, at-between, behind-between}
+use Rattle.h264_verify.proofs.Ruling.{ok-any, type-met}
+use Rattle.h264_verify.proofs.slices.check_first_slice.Goals as goal
+
+pub returns-in_err-check_type : goal.returns-in_err-check_type
+returns-in_err-check_type g c =
+    let p = err_from_is_err_and c.from_residual.result c.from_residual.ensures.1 in
+    rw (p.1, p.2) (record {
+      plays = λ frames t next pictures k kept.
+          let n = numbering_of c.args.sps.now c.args.header.now in
+          let idr = is_idr c.args.header.now in
+          let prev = c.args.slices.now.prev_ref_frame_num in
+          let type = type_demand c.args.sps.now c.args.header.now in
+          let num = idr_num_demand c.args.header.now in
+          let gap = gap_rules c.args.mode idr (is_reference c.args.header.now) c.args.sps.now.gaps_in_frame_num_value_allowed_flag c.args.header.now.frame_num.bit prev n c.args.slices.now.held t.buffer in
+          let id = id_demand c.args.slices.now.newest_idr c.args.header.now in
+          let count = count_demand (picture_of c.args.sps.now c.args.header.now ∷ pictures) c.args.bit in
+          let qp = qp_demand c.args.pps.now c.args.header.now in
+          let list = list_demand (list_of c.args.header.now.kind.value n (entered idr prev n c.args.slices.now.held)) in
+          at-first (took_with frames g.S.Elements.took) g.S.Elements.failures type num gap id count qp list c.args.sink.now _ c.in_err-check_type.ensures;
+      gap = λ frames t next k. tt;
+      no_memory = no-memory _ _ _ _ c.in_err-check_type.ensures;
+      format = refl;
+      counts = λ pictures k. tt;
+      count = λ pictures k. tt;
+      held = tt;
+      filled = tt;
+      typed = tt;
+      prev = tt;
+      others = refl;
+      kept = tt;
+    })
+
+pub returns-in_err-check_idr_num : goal.returns-in_err-check_idr_num
+returns-in_err-check_idr_num g c =
+    let p = err_from_is_err_and c.from_residual-in_err-check_idr_num.result c.from_residual-in_err-check_idr_num.ensures.1 in
+    rw (p.1, p.2) (record {
+      plays = λ frames t next pictures k kept.
+          let n = numbering_of c.args.sps.now c.args.header.now in
+          let idr = is_idr c.args.header.now in
+          let prev = c.args.slices.now.prev_ref_frame_num in
+          let type = type_demand c.args.sps.now c.args.header.now in
+          let num = idr_num_demand c.args.header.now in
+          let gap = gap_rules c.args.mode idr (is_reference c.args.header.now) c.args.sps.now.gaps_in_frame_num_value_allowed_flag c.args.header.now.frame_num.bit prev n c.args.slices.now.held t.buffer in
+          let id = id_demand c.args.slices.now.newest_idr c.args.header.now in
+          let count = count_demand (picture_of c.args.sps.now c.args.header.now ∷ pictures) c.args.bit in
+          let qp = qp_demand c.args.pps.now c.args.header.now in
+          let list = list_demand (list_of c.args.header.now.kind.value n (entered idr prev n c.args.slices.now.held)) in
+          at-second (took_with frames g.S.Elements.took) g.S.Elements.failures type num gap id count qp list c.args.sink.now _ c.in_ok-check_type.ensures _ c.in_err-check_idr_num.ensures;
+      gap = λ frames t next k. tt;
+      no_memory = no-memory _ _ _ _ c.in_err-check_idr_num.ensures;
+      format = refl;
+      counts = λ pictures k. tt;
+      count = λ pictures k. tt;
+      held = tt;
+      filled = tt;
+      typed = tt;
+      prev = tt;
+      others = refl;
+      kept = tt;
+    })
+
+pub returns-in_err-check_gap : goal.returns-in_err-check_gap
+returns-in_err-check_gap g c =
+    let p = err_from_is_err_and c.from_residual-in_err-check_gap.result c.from_residual-in_err-check_gap.ensures.1 in
+    rw (p.1, p.2) (record {
+      plays = λ frames t next pictures k kept.
+          let n = numbering_of c.args.sps.now c.args.header.now in
+          let idr = is_idr c.args.header.now in
+          let prev = c.args.slices.now.prev_ref_frame_num in
+          let type = type_demand c.args.sps.now c.args.header.now in
+          let num = idr_num_demand c.args.header.now in
+          let gap = gap_rules c.args.mode idr (is_reference c.args.header.now) c.args.sps.now.gaps_in_frame_num_value_allowed_flag c.args.header.now.frame_num.bit prev n c.args.slices.now.held t.buffer in
+          let id = id_demand c.args.slices.now.newest_idr c.args.header.now in
+          let count = count_demand (picture_of c.args.sps.now c.args.header.now ∷ pictures) c.args.bit in
+          let qp = qp_demand c.args.pps.now c.args.header.now in
+          let list = list_demand (list_of c.args.header.now.kind.value n (entered idr prev n c.args.slices.now.held)) in
+          at-between (took_with frames g.S.Elements.took) g.S.Elements.failures type num gap id count qp list c.args.sink.now _ c.in_ok-check_type.ensures _ c.in_ok-check_idr_num.ensures _ _ (c.in_err-check_gap.ensures.plays frames t next k);
+      gap = λ frames t next k. tt;
+      no_memory = c.in_err-check_gap.ensures.no_memory;
+      format = c.in_err-check_gap.ensures.format;
+      counts = λ pictures k. tt;
+      count = λ pictures k. tt;
+      held = tt;
+      filled = tt;
+      typed = tt;
+      prev = tt;
+      others = refl;
+      kept = tt;
+    })
+
+-- what is kept of the slices, but for frame_num and the held frames
+others-of : (old new : Slices) (prev : ℕ) (held : References) → new ≡ record old { counts = new.counts; count = new.count; prev_ref_frame_num = prev; held = held } → new ≡ record old { counts = new.counts; count = new.count; prev_ref_frame_num = new.prev_ref_frame_num; held = new.held }
+others-of old new prev held e =
+    let p : new.prev_ref_frame_num ≡ prev = ap (λ (s : Slices). s.prev_ref_frame_num) e in
+    let h : new.held ≡ held = ap (λ (s : Slices). s.held) e in
+    e ∙ ap (λ (x : ℕ). record old { counts = new.counts; count = new.count; prev_ref_frame_num = x; held = held }) (sym p) ∙ ap (λ (x : References). record old { counts = new.counts; count = new.count; prev_ref_frame_num = new.prev_ref_frame_num; held = x }) (sym h)
+
+pub returns : goal.returns
+returns g c =
+    let same = c.check_new_picture.ensures.others in
+    let r = c.check_new_picture.result in
+    record {
+      plays = λ frames t next pictures k kept.
+          let n = numbering_of c.args.sps.now c.args.header.now in
+          let idr = is_idr c.args.header.now in
+          let prev = c.args.slices.now.prev_ref_frame_num in
+          let type = type_demand c.args.sps.now c.args.header.now in
+          let num = idr_num_demand c.args.header.now in
+          let gap = gap_rules c.args.mode idr (is_reference c.args.header.now) c.args.sps.now.gaps_in_frame_num_value_allowed_flag c.args.header.now.frame_num.bit prev n c.args.slices.now.held t.buffer in
+          let id = id_demand c.args.slices.now.newest_idr c.args.header.now in
+          let count = count_demand (picture_of c.args.sps.now c.args.header.now ∷ pictures) c.args.bit in
+          let qp = qp_demand c.args.pps.now c.args.header.now in
+          let list = list_demand (list_of c.args.header.now.kind.value n (entered idr prev n c.args.slices.now.held)) in
+          behind-between (took_with frames g.S.Elements.took) g.S.Elements.failures type num gap id count qp list c.args.sink.now _ c.in_ok-check_type.ensures _ c.in_ok-check_idr_num.ensures _ _ _ (c.in_ok-check_gap.ensures.plays frames t next k) (rw c.in_ok-check_gap.ensures.held at (c.check_new_picture.ensures.judged pictures kept));
+      gap = λ frames t next k. ok-any r (c.in_ok-check_gap.ensures.keeps frames t next k);
+      no_memory = c.check_new_picture.ensures.no_memory;
+      format = c.in_ok-check_gap.ensures.format;
+      counts = c.check_new_picture.ensures.counts;
+      count = c.check_new_picture.ensures.count;
+      held = ok-any r (ap (λ (s : Slices). s.held) same ∙ c.in_ok-check_gap.ensures.held);
+      filled = ok-any r (c.in_ok-check_gap.ensures.filled ∙ ap (λ (s : Slices). Some s.held) (sym same));
+      typed = ok-any r (type-met c.args.sps.now c.args.header.now _ c.in_ok-check_type.ensures);
+      prev = ok-any r (ap (λ (s : Slices). s.prev_ref_frame_num) same ∙ c.in_ok-check_gap.ensures.prev);
+      others = others-of c.args.slices.now _ _ _ same;
+      kept = ok-any r c.in_ok-check_gap.ensures.kept;
+    }

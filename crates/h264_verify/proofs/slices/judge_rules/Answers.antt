@@ -1,0 +1,103 @@
+use Rattle.std.proofs.Common.{◌≡◌, ◌≤◌, ◌+◌, ℕ, Bool, true, false, Result, Ok, Err, if◌then◌else◌, refl, rules, arith, ap, ◌∙◌, [], ◌∷◌, ◌*◌}
+use Rattle.std.proofs.lemmas.Result.{err_from_is_err_and}
+use Rattle.std.proofs.lemmas.Int.{to_z-of_z}
+use Rattle.std.specs.Int.{w32}
+use mir.Val.{SFits}
+use Rattle.h264_base.specs.declared.stop.Stop.{Stop}
+use Rattle.h264_base.specs.declared.stop.Stop.TheVariants.{Memory}
+use Rattle.h264_pps.specs.declared.Pps.{Pps}
+use Rattle.h264_sps.specs.declared.sps.Sps.{Sps}
+use Rattle.h264_picture.specs.Buffer.{buffer_size}
+use Rattle.h264_dpb.specs.Ending.{ended_of}
+use Rattle.h264_verify.specs.Buffering.{frame_count}
+use Rattle.h264_verify.specs.Telling.{Said, took_with}
+use Rattle.h264_verify.specs.Steps.{Tells}
+use Rattle.h264_verify.specs.Slices.{slice_call}
+use Rattle.h264_verify.specs.Pictures.{goes_on, runs_of, joined_to, with_sets}
+use Rattle.h264_verify.specs.Keeping.{slice_rules}
+use Rattle.h264_verify.proofs.Stepwise.{steps-stop, steps-on}
+use Rattle.h264_verify.proofs.Entering.{slice-kept}
+use Rattle.h264_verify.proofs.Judged.{ended-is}
+use Rattle.h264_verify.proofs.slices.judge_rules.Goals as goal
+
+-- how many pictures have begun
+more-of : (a b : ℕ) → a ≡ b → a ≤ b + 1
+more-of a b e = omega (arith, e)
+
+entered-more : (begins : Bool) (old mid new : ℕ) → new ≡ (if begins then mid + 1 else mid) → mid ≡ old → new ≤ old + 1
+entered-more true old mid new n e = omega (arith, n, e)
+entered-more false old mid new n e = omega (arith, n, e)
+
+-- what is well is no want of memory
+no-error : (let r : Result (Unit {0}) Stop = Ok tt in r ≡ Err Memory) → ⊥
+no-error e = cc
+
+pub returns-in_err-check_rules : goal.returns-in_err-check_rules
+returns-in_err-check_rules g c =
+    let p = err_from_is_err_and c.from_residual.result c.from_residual.ensures.1 in
+    rw (p.1, p.2) (record {
+      plays = λ frames before k b d.
+          let slice = with_sets c.args.unit.now c.args.header.now [] (c.args.pps.now, c.args.sps.now) in
+          steps-stop (took_with frames g.S.Elements.took) g.S.Elements.failures (λ (x : Unit {0}). x) (slice_rules c.args.mode c.args.begins (runs_of before) slice) (Tells (Said (slice_call (joined_to c.args.begins slice (runs_of before)) slice)) ∷ []) _ _ _
+          (c.in_err-check_rules.ensures.plays frames before c.args.unit.now (ap (λ x. 8 * x) c.from-bit.ensures.value) k b d);
+      entered = λ before ms k b. tt;
+      frames = λ frames before k b d. tt;
+      filled = λ begun. tt;
+      due = tt;
+      header = refl;
+      typed = tt;
+      format = c.in_err-check_rules.ensures.format;
+      pictures = more-of _ _ c.in_err-check_rules.ensures.pictures;
+      no_memory = c.in_err-check_rules.ensures.no_memory;
+      kept = tt;
+    })
+
+pub returns-in_err-tell_slice : goal.returns-in_err-tell_slice
+returns-in_err-tell_slice g c =
+    let p = err_from_is_err_and c.from_residual-in_err-tell_slice.result c.from_residual-in_err-tell_slice.ensures.1 in
+    rw (p.1, p.2) (record {
+      plays = λ frames before k b d.
+          let slice = with_sets c.args.unit.now c.args.header.now [] (c.args.pps.now, c.args.sps.now) in
+          let entered = c.in_ok-check_rules.ensures.entered before c.args.unit.now [] (ap (λ x. 8 * x) c.from-bit.ensures.value) k b in
+          let told = rw (c.from.ensures.value, entered.count) at (c.in_err-tell_slice.ensures.plays frames) in
+          steps-on (took_with frames g.S.Elements.took) g.S.Elements.failures (λ (x : Unit {0}). x) (slice_rules c.args.mode c.args.begins (runs_of before) slice) (Tells (Said (slice_call (joined_to c.args.begins slice (runs_of before)) slice)) ∷ []) _ _ _ _ _
+          (c.in_ok-check_rules.ensures.plays frames before c.args.unit.now (ap (λ x. 8 * x) c.from-bit.ensures.value) k b d) told;
+      entered = λ before ms k b. tt;
+      frames = λ frames before k b d. tt;
+      filled = λ begun. tt;
+      due = tt;
+      header = refl;
+      typed = tt;
+      format = c.in_ok-check_rules.ensures.format;
+      pictures = more-of _ _ c.in_ok-check_rules.ensures.pictures;
+      no_memory = c.in_err-tell_slice.ensures.no_memory;
+      kept = tt;
+    })
+
+pub returns : goal.returns
+returns g c = record {
+  plays = λ frames before k b d.
+      let slice = with_sets c.args.unit.now c.args.header.now [] (c.args.pps.now, c.args.sps.now) in
+      let entered = c.in_ok-check_rules.ensures.entered before c.args.unit.now [] (ap (λ x. 8 * x) c.from-bit.ensures.value) k b in
+      let told = rw (c.from.ensures.value, entered.count) at (c.in_ok-tell_slice.ensures.plays frames) in
+      steps-on (took_with frames g.S.Elements.took) g.S.Elements.failures (λ (x : Unit {0}). x) (slice_rules c.args.mode c.args.begins (runs_of before) slice) (Tells (Said (slice_call (joined_to c.args.begins slice (runs_of before)) slice)) ∷ []) _ _ _ _ _
+      (c.in_ok-check_rules.ensures.plays frames before c.args.unit.now (ap (λ x. 8 * x) c.from-bit.ensures.value) k b d) told;
+  entered = λ before ms k b.
+      let sets : Pps × Sps = (c.args.pps.now, c.args.sps.now) in
+      let slice = with_sets c.args.unit.now c.args.header.now ms sets in
+      let entered = c.in_ok-check_rules.ensures.entered before c.args.unit.now ms (ap (λ x. 8 * x) c.from-bit.ensures.value) k b in
+      let opened = c.enter.ensures.picture (goes_on before) (runs_of before) slice refl entered.picture b c.numbering_of-numbering.ensures in
+      let fits : SFits w32 c.frame_count.result = search rules in
+      let told : c.ended_of-ended.result ≡ ended_of c.args.sps.now c.args.header.now c.check_rules.new.slices.pictures (frame_count c.check_rules.new.slices.count) (buffer_size c.args.sps.now) = rw (to_z-of_z w32 c.frame_count.result fits, c.frame_count.ensures, c.buffer_size.ensures.value) at c.ended_of-ended.ensures in
+      let end = c.enter.ensures.end (goes_on before) (runs_of before) slice (λ begun. told ∙ ended-is before c.args.begins slice c.check_rules.new.slices entered begun) entered.picture entered.end b in
+      slice-kept before c.args.unit.now c.args.header.now ms c.check_rules.new.slices c.enter.new.slices c.args.begins sets entered opened end c.enter.ensures.newest c.enter.ensures.pictures (c.enter.ensures.behind ∙ c.bit_behind.ensures) c.enter.ensures.others;
+  frames = λ frames before k b d. c.in_ok-check_rules.ensures.frames frames before c.args.unit.now k b d;
+  filled = λ begun. rw c.enter.ensures.others (c.in_ok-check_rules.ensures.filled begun);
+  due = c.enter.ensures.due;
+  header = c.enter.ensures.header;
+  typed = c.in_ok-check_rules.ensures.typed;
+  format = c.in_ok-check_rules.ensures.format;
+  pictures = entered-more c.args.begins _ _ _ c.enter.ensures.pictures c.in_ok-check_rules.ensures.pictures;
+  no_memory = no-error;
+  kept = (c.in_ok-tell_slice.ensures.plays c.requires.kept.frames).plays.2 ∙ c.in_ok-check_rules.ensures.kept;
+}

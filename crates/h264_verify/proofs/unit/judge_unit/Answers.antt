@@ -1,0 +1,202 @@
+use Rattle.std.proofs.Common.{◌≡◌, ℕ, ◌-◌, ◌*◌, ◌<◌, ◌^◌, [], Bool, List, Result, Ok, Err, OnOk, refl, ap, sym, ◌∙◌, subst, length}
+use Rattle.h264_base.specs.declared.stop.Stop.{Stop}
+use Rattle.h264_base.specs.Call.{Call}
+use Rattle.h264_plane.specs.declared.frame.Frame.{Frame}
+use Rattle.h264_units.specs.Stream.{NalUnit}
+use Rattle.h264_rbsp.specs.Emulation.{emulation_checked}
+use Rattle.h264_verify.specs.declared.state.State.{State}
+use Rattle.h264_verify.specs.declared.state.Terms.{Terms}
+use Rattle.h264_verify.specs.declared.decoder.Decoder.{Decoder}
+use Rattle.h264_verify.specs.Telling.{Said, took_with}
+use Rattle.h264_verify.specs.Demands.{judged}
+use Rattle.h264_verify.specs.History.{History}
+use Rattle.h264_verify.specs.Framing.{EndsFrames}
+use Rattle.h264_verify.specs.Turning.{Joins, Turns}
+use Rattle.std.proofs.lemmas.Result.{err_from_is_err_and}
+use Rattle.h264_verify.specs.Outcome.{answers, tells, Plays, IsNamed}
+use Rattle.h264_verify.specs.UnitHeader.{header_of, nal_unit_type, header_demands}
+use Rattle.h264_verify.specs.Pictures.{goes_on, runs_of, ends_picture}
+use Rattle.h264_verify.specs.Keeping.{ended_pictures, ended_in, close_steps}
+use Rattle.h264_verify.specs.Units.{unit_call}
+use Rattle.h264_verify.specs.StepOutcome.{steps_outcome}
+use Rattle.h264_verify.specs.UnitOutcome.{joined_by, unit_by_steps}
+use Rattle.h264_verify.proofs.AgreeingUnits.{agree-less, agree-then, plays-agree}
+use Rattle.h264_verify.proofs.Playing.{answer-stops, answer-on, plays-stops, plays-on, named-by}
+use Rattle.h264_verify.proofs.Joining.{within}
+use Rattle.h264_verify.proofs.Memory.{named-memory}
+use Rattle.h264_verify.proofs.Slicing.{err-named}
+use Rattle.h264_verify.proofs.Standing.{first-met}
+use Rattle.h264_verify.proofs.Courses.{plays-course, ended-grows, closing-all}
+use Rattle.h264_verify.proofs.unit.judge_unit.Goals as goal
+
+-- a unit that is sound, part by part
+module _ {S : Type 0} (terms : Terms) (took : S → List Call → Type 0) (failures : S → ℕ) (frames : ℕ → Frame) (before : History) (unit : NalUnit) where
+  abbrev kind : ℕ
+  kind = nal_unit_type (header_of unit)
+
+  abbrev ends : Bool
+  ends = ends_picture kind
+
+  turns-by : (mid : Decoder) (new : State) (s0 s1 s2 s3 : S) (x y z w : Unit {0}) (r : Result (Unit {0}) Stop) → (let a : Result (Unit {0}) Stop = Ok x in a ≡ emulation_checked unit.from unit.body) → (let a : Result (Unit {0}) Stop = Ok y in a ≡ judged (header_demands (8 * unit.from) (header_of unit))) → ((made : ℕ → Frame) → Plays (took_with made took) failures (λ (q : Unit {0}). q) (tells (Said (unit_call unit.from (header_of unit) (length unit.body)))) s0 s1 (Ok z)) → (e : EndsFrames terms.mode took failures frames (goes_on before) ends (runs_of before) (steps_outcome (close_steps terms.mode ends before)) mid s1 s2 (Ok w)) → Joins {X = Unit {0}} terms.mode took failures e.made (length (ended_pictures (goes_on before) ends (runs_of before))) (joined_by terms kind before unit) new s2 s3 r → Turns {X = Unit {0}} terms took failures frames before unit new s0 s3 r
+  unfolding unit_by_steps
+  turns-by mid new s0 s1 s2 s3 x y z w r sound header told e j =
+      let n = length (ended_pictures (goes_on before) ends (runs_of before)) in
+      let ended = plays-agree took n e.made j.made failures (λ (q : Unit {0}). q) (steps_outcome (close_steps terms.mode ends before)) s1 s2 (Ok w) j.same (closing-all ends terms.mode before) e.plays in
+      let view : Unit {0} → History = λ q. j.after in
+      record {
+        made = j.made;
+        same = agree-then (ended_in before) frames e.made j.made e.same (agree-less (ended_in before) n e.made j.made (ended-grows (goes_on before) ends (runs_of before)) j.same);
+        after = j.after;
+        plays = plays-course (took_with j.made took) failures view terms before unit s0 s3 r
+            (answer-on (took_with j.made took) failures view _ _ s0 s3 x r (ap answers (sym sound))
+            (answer-on (took_with j.made took) failures view _ _ s0 s3 y r (ap answers (sym header))
+            (plays-on (took_with j.made took) failures (λ (q : Unit {0}). q) view _ _ s0 s1 s3 z r (told j.made)
+            (plays-on (took_with j.made took) failures (λ (q : Unit {0}). q) view _ _ s1 s2 s3 w r ended j.plays))));
+        keeps = j.keeps;
+      }
+
+  -- a unit that stops at its bytes, at its header, at the sink, or at the end of the picture before it
+  stops-sound : (new : State) (s : S) (e : Stop) → (let a : Result (Unit {0}) Stop = Err e in a ≡ emulation_checked unit.from unit.body) → IsNamed e → Turns {X = Unit {0}} terms took failures frames before unit new s s (Err e)
+  unfolding unit_by_steps
+  stops-sound new s e sound named = record { made = frames; same = λ n h. refl; after = []; plays = plays-course (took_with frames took) failures (λ (q : Unit {0}). []) terms before unit s s (Err e) (answer-stops (took_with frames took) failures (λ (q : Unit {0}). []) _ _ s e (ap answers (sym sound)) named); keeps = tt }
+
+  stops-header : (new : State) (s : S) (x : Unit {0}) (e : Stop) → (let a : Result (Unit {0}) Stop = Ok x in a ≡ emulation_checked unit.from unit.body) → (let a : Result (Unit {0}) Stop = Err e in a ≡ judged (header_demands (8 * unit.from) (header_of unit))) → Turns {X = Unit {0}} terms took failures frames before unit new s s (Err e)
+  unfolding unit_by_steps
+  stops-header new s x e sound header =
+      let view : Unit {0} → History = λ q. [] in
+      record {
+        made = frames;
+        same = λ n h. refl;
+        after = [];
+        plays = plays-course (took_with frames took) failures view terms before unit s s (Err e)
+            (answer-on (took_with frames took) failures view _ _ s s x (Err e) (ap answers (sym sound))
+            (answer-stops (took_with frames took) failures view _ _ s e (ap answers (sym header)) (err-named (header_demands (8 * unit.from) (header_of unit)) e (sym header))));
+        keeps = tt;
+      }
+
+  stops-told : (new : State) (s s' : S) (x y : Unit {0}) (e : Stop) → (let a : Result (Unit {0}) Stop = Ok x in a ≡ emulation_checked unit.from unit.body) → (let a : Result (Unit {0}) Stop = Ok y in a ≡ judged (header_demands (8 * unit.from) (header_of unit))) → Plays (took_with frames took) failures (λ (q : Unit {0}). q) (tells (Said (unit_call unit.from (header_of unit) (length unit.body)))) s s' (Err e) → Turns {X = Unit {0}} terms took failures frames before unit new s s' (Err e)
+  unfolding unit_by_steps
+  stops-told new s s' x y e sound header told =
+      let view : Unit {0} → History = λ q. [] in
+      record {
+        made = frames;
+        same = λ n h. refl;
+        after = [];
+        plays = plays-course (took_with frames took) failures view terms before unit s s' (Err e)
+            (answer-on (took_with frames took) failures view _ _ s s' x (Err e) (ap answers (sym sound))
+            (answer-on (took_with frames took) failures view _ _ s s' y (Err e) (ap answers (sym header))
+            (plays-stops (took_with frames took) failures (λ (q : Unit {0}). q) view _ _ s s' e told)));
+        keeps = tt;
+      }
+
+  stops-closing : (mid : Decoder) (new : State) (s0 s1 s2 : S) (x y z : Unit {0}) (stop : Stop) → (let a : Result (Unit {0}) Stop = Ok x in a ≡ emulation_checked unit.from unit.body) → (let a : Result (Unit {0}) Stop = Ok y in a ≡ judged (header_demands (8 * unit.from) (header_of unit))) → ((made : ℕ → Frame) → Plays (took_with made took) failures (λ (q : Unit {0}). q) (tells (Said (unit_call unit.from (header_of unit) (length unit.body)))) s0 s1 (Ok z)) → EndsFrames terms.mode took failures frames (goes_on before) ends (runs_of before) (steps_outcome (close_steps terms.mode ends before)) mid s1 s2 (Err stop) → Turns {X = Unit {0}} terms took failures frames before unit new s0 s2 (Err stop)
+  unfolding unit_by_steps
+  stops-closing mid new s0 s1 s2 x y z stop sound header told e =
+      let view : Unit {0} → History = λ q. [] in
+      record {
+        made = e.made;
+        same = e.same;
+        after = [];
+        plays = plays-course (took_with e.made took) failures view terms before unit s0 s2 (Err stop)
+            (answer-on (took_with e.made took) failures view _ _ s0 s2 x (Err stop) (ap answers (sym sound))
+            (answer-on (took_with e.made took) failures view _ _ s0 s2 y (Err stop) (ap answers (sym header))
+            (plays-on (took_with e.made took) failures (λ (q : Unit {0}). q) view _ _ s0 s1 s2 z (Err stop) (told e.made)
+            (plays-stops (took_with e.made took) failures (λ (q : Unit {0}). q) view _ _ s1 s2 stop e.plays))));
+        keeps = tt;
+      }
+
+-- sinks that failed as often
+kept-on : {X : Type 0} (r : Result X Stop) (a b n : ℕ) → b ≡ a → OnOk r (n ≡ b) → OnOk r (n ≡ a)
+kept-on r a b n e h = subst (λ (m : ℕ). OnOk r (n ≡ m)) e h
+
+pub close_if-requires-clause-room : goal.close_if-requires-clause-room
+close_if-requires-clause-room g c = subst (λ (n : ℕ). n < 2 ^ 64 - 1) (sym (c.in_ok-tell_unit.ensures.plays c.requires.kept.frames).plays.2) c.requires.count
+
+pub join-requires-clause-room : goal.join-requires-clause-room
+join-requires-clause-room g c = subst (λ (n : ℕ). n < 2 ^ 64 - 1) (sym (c.in_ok-close_if.ensures.kept ∙ (c.in_ok-tell_unit.ensures.plays c.requires.kept.frames).plays.2)) c.requires.count
+
+pub join-requires-clause-fits : goal.join-requires-clause-fits
+join-requires-clause-fits g c = (first-met _ _ _ (first-met _ _ _ c.in_ok-check_header.ensures).1).0
+
+pub returns-clause-kept : goal.returns-clause-kept
+returns-clause-kept g c = kept-on c.join.result _ _ _ (c.in_ok-close_if.ensures.kept ∙ (c.in_ok-tell_unit.ensures.plays c.requires.kept.frames).plays.2) c.join.ensures.kept
+
+pub close_if-requires-clause-kept : goal.close_if-requires-clause-kept
+close_if-requires-clause-kept g c = let k = c.requires.kept in record { frames = k.frames; before = k.before; slices_are = k.keeps.slices; keeps = k.keeps.decoder }
+
+pub join-requires-clause-kept : goal.join-requires-clause-kept
+join-requires-clause-kept g c =
+    let k = c.requires.kept in
+    let ended = c.in_ok-close_if.ensures.ended k.before k.keeps.slices in
+    let e = c.in_ok-close_if.ensures.closes k.frames k.before k.keeps.slices k.keeps.decoder in
+    record { frames = e.made; before = k.before; keeps = within {mode = c.args.terms.mode} {frames = k.frames} {made = e.made} {before = k.before} c.args.state.now c.close_if.new.slices c.close_if.new.decoder k.keeps (rw c.ends_picture-ends.ensures at ended) (rw c.ends_picture-ends.ensures at e.keeps) }
+
+pub returns-in_err-check_emulation-clause-turns : goal.returns-in_err-check_emulation-clause-turns
+returns-in_err-check_emulation-clause-turns g c =
+    let p = err_from_is_err_and c.from_residual.result c.from_residual.ensures.1 in
+    let n = c.in_err-check_emulation.ensures.err in
+    rw (p.1, p.2) (λ frames before k. stops-sound c.args.terms _ _ frames before c.args.unit.now _ _ _ c.in_err-check_emulation.ensures.value (named-by _ _ _ n.1))
+
+pub returns-in_err-check_header-clause-turns : goal.returns-in_err-check_header-clause-turns
+returns-in_err-check_header-clause-turns g c =
+    let p = err_from_is_err_and c.from_residual-in_err-check_header.result c.from_residual-in_err-check_header.ensures.1 in
+    let header = rw (c.from-from.ensures.value, c.body-body.ensures.value) at c.in_err-check_header.ensures in
+    rw (p.1, p.2) (λ frames before k. stops-header c.args.terms _ _ frames before c.args.unit.now _ _ _ _ c.in_ok-check_emulation.ensures.value header)
+
+pub returns-in_err-tell_unit-clause-turns : goal.returns-in_err-tell_unit-clause-turns
+returns-in_err-tell_unit-clause-turns g c =
+    let p = err_from_is_err_and c.from_residual-in_err-tell_unit.result c.from_residual-in_err-tell_unit.ensures.1 in
+    let header = rw (c.from-from.ensures.value, c.body-body.ensures.value) at c.in_ok-check_header.ensures in
+    let says = rw (c.from-from.ensures.value, c.body-body.ensures.value) at c.in_err-tell_unit.ensures.plays in
+    rw (p.1, p.2) (λ frames before k. stops-told c.args.terms _ _ frames before c.args.unit.now _ _ _ _ _ _ c.in_ok-check_emulation.ensures.value header (says frames))
+
+pub returns-in_err-close_if-clause-turns : goal.returns-in_err-close_if-clause-turns
+returns-in_err-close_if-clause-turns g c =
+    let p = err_from_is_err_and c.from_residual-in_err-close_if.result c.from_residual-in_err-close_if.ensures.1 in
+    let header = rw (c.from-from.ensures.value, c.body-body.ensures.value) at c.in_ok-check_header.ensures in
+    let says = rw (c.from-from.ensures.value, c.body-body.ensures.value) at c.in_ok-tell_unit.ensures.plays in
+    let closes = rw (c.ends_picture-ends.ensures, c.body-body.ensures.value) at c.in_err-close_if.ensures.closes in
+    rw (p.1, p.2) (λ frames before k. stops-closing c.args.terms _ _ frames before c.args.unit.now _ _ _ _ _ _ _ _ _ c.in_ok-check_emulation.ensures.value header says (closes frames before k.slices k.decoder))
+
+pub returns-clause-turns : goal.returns-clause-turns
+returns-clause-turns g c =
+    let header = rw (c.from-from.ensures.value, c.body-body.ensures.value) at c.in_ok-check_header.ensures in
+    let says = rw (c.from-from.ensures.value, c.body-body.ensures.value) at c.in_ok-tell_unit.ensures.plays in
+    let closes = rw (c.ends_picture-ends.ensures, c.body-body.ensures.value) at c.in_ok-close_if.ensures.closes in
+    let joins = rw c.body-body.ensures.value at c.join.ensures.joins in
+    λ frames before k.
+    let slices = rw (c.ends_picture-ends.ensures, c.body-body.ensures.value) at (c.in_ok-close_if.ensures.ended before k.slices) in
+    let e = closes frames before k.slices k.decoder in
+    let j = joins e.made before (within {mode = c.args.terms.mode} {frames = frames} {made = e.made} {before = before} c.args.state.now c.close_if.new.slices c.close_if.new.decoder k slices e.keeps) in
+    turns-by c.args.terms _ _ frames before c.args.unit.now _ _ _ _ _ _ _ _ _ _ _ c.in_ok-check_emulation.ensures.value header says e j
+
+pub returns-in_err-check_emulation-clause-no_memory : goal.returns-in_err-check_emulation-clause-no_memory
+returns-in_err-check_emulation-clause-no_memory g c =
+    let p = err_from_is_err_and c.from_residual.result c.from_residual.ensures.1 in
+    let n = c.in_err-check_emulation.ensures.err in
+    rw (p.1, p.2) (λ frames before k m. absurd (named-memory _ (named-by _ _ _ n.1) m))
+
+pub returns-in_err-check_header-clause-no_memory : goal.returns-in_err-check_header-clause-no_memory
+returns-in_err-check_header-clause-no_memory g c =
+    let p = err_from_is_err_and c.from_residual-in_err-check_header.result c.from_residual-in_err-check_header.ensures.1 in
+    let header = rw (c.from-from.ensures.value, c.body-body.ensures.value) at c.in_err-check_header.ensures in
+    rw (p.1, p.2) (λ frames before k m. absurd (named-memory _ (err-named (header_demands (8 * c.args.unit.now.from) (header_of c.args.unit.now)) _ (sym header)) m))
+
+pub returns-in_err-tell_unit-clause-no_memory : goal.returns-in_err-tell_unit-clause-no_memory
+returns-in_err-tell_unit-clause-no_memory g c =
+    let p = err_from_is_err_and c.from_residual-in_err-tell_unit.result c.from_residual-in_err-tell_unit.ensures.1 in
+    rw (p.1, p.2) (λ frames before k m. absurd (c.in_err-tell_unit.ensures.no_memory m))
+
+pub returns-in_err-close_if-clause-no_memory : goal.returns-in_err-close_if-clause-no_memory
+returns-in_err-close_if-clause-no_memory g c =
+    let p = err_from_is_err_and c.from_residual-in_err-close_if.result c.from_residual-in_err-close_if.ensures.1 in
+    rw (p.1, p.2) (λ frames before k m. absurd (c.in_err-close_if.ensures.no_memory m))
+
+pub returns-clause-no_memory : goal.returns-clause-no_memory
+returns-clause-no_memory g c =
+    let closes = rw (c.ends_picture-ends.ensures, c.body-body.ensures.value) at c.in_ok-close_if.ensures.closes in
+    let joins = rw c.body-body.ensures.value at c.join.ensures.no_memory in
+    λ frames before k m.
+    let slices = rw (c.ends_picture-ends.ensures, c.body-body.ensures.value) at (c.in_ok-close_if.ensures.ended before k.slices) in
+    let e = closes frames before k.slices k.decoder in
+    joins e.made before (within {mode = c.args.terms.mode} {frames = frames} {made = e.made} {before = before} c.args.state.now c.close_if.new.slices c.close_if.new.decoder k slices e.keeps) m

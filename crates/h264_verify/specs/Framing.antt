@@ -1,0 +1,48 @@
+-- What judging does to the frames of the pictures. A working form.
+use Rattle.std.specs.Prelude.{ℕ, Bool, true, false, List, [], length, OnOk, Result}
+use Rattle.h264_base.specs.declared.mode.Mode.{Mode}
+use Rattle.h264_base.specs.declared.mode.Mode.TheVariants as modes
+use Rattle.h264_base.specs.declared.stop.Stop.{Stop}
+use Rattle.h264_base.specs.Call.{Call}
+use Rattle.h264_plane.specs.declared.frame.Frame.{Frame}
+use Rattle.h264_units.specs.Stream.{NalUnit}
+use Rattle.h264_near.specs.Coded.{CodedMacroblock}
+use Rattle.h264_verify.specs.declared.decoder.Decoder.{Decoder}
+use Rattle.h264_verify.specs.Telling.{took_with, Agree}
+use Rattle.h264_verify.specs.Outcome.{Outcome, Plays}
+use Rattle.h264_verify.specs.History.{History}
+use Rattle.h264_pps.specs.declared.Pps.{Pps}
+use Rattle.h264_sps.specs.declared.sps.Sps.{Sps}
+use Rattle.h264_header.specs.declared.header.Header.{Header}
+use Rattle.h264_verify.specs.Pictures.{CodedPicture, with_sets, goes_on, runs_of}
+use Rattle.h264_verify.specs.Slices.{slice_steps}
+use Rattle.h264_verify.specs.Keeping.{KeepsDecoder, EntersDecoder, ended_pictures, ended_in}
+use Rattle.h264_verify.specs.StepOutcome.{steps_outcome}
+
+-- The picture that may go on has ended, or not; with these frames and one more, if it has, this was told, and that is kept.
+pub record EndsFrames {S : Type 0} (mode : Mode) (took : S → List Call → Type 0) (failures : S → ℕ) (frames : ℕ → Frame) (on ends : Bool) (pictures : List CodedPicture) (o : Outcome (Unit {0})) (new : Decoder) (s s' : S) (result : Result (Unit {0}) Stop) : Type 0 where
+  pub made : ℕ → Frame
+  pub same : Agree (length (ended_pictures on false pictures)) frames made
+  pub plays : Plays (took_with made took) failures (λ (x : Unit {0}). x) o s s' result
+  pub keeps : OnOk result (KeepsDecoder mode made on ends pictures new)
+
+-- The rules of a slice of these sets were judged; where they are met, its slice data may come.
+pub record JudgesSlice {S : Type 0} (mode : Mode) (took : S → List Call → Type 0) (failures : S → ℕ) (frames : ℕ → Frame) (before : History) (unit : NalUnit) (h : Header) (named : Pps × Sps) (begins : Bool) (new : Decoder) (s s' : S) (result : Result (Unit {0}) Stop) : Type 0 where
+  pub made : ℕ → Frame
+  pub same : Agree (ended_in before) frames made
+  pub plays : Plays (took_with made took) failures (λ (x : Unit {0}). x) (steps_outcome (slice_steps mode before unit h)) s s' result
+  pub enters : OnOk result (EntersDecoder mode made begins (with_sets unit h [] named) (goes_on before) (runs_of before) new)
+
+-- Slice data were read, and the sink was told what comes of them; this is kept of the macroblocks up to there.
+pub record ReadsSlice {S X : Type 0} (took : S → List Call → Type 0) (failures : S → ℕ) (frames : ℕ → Frame) (o : Outcome (List CodedMacroblock × ℕ)) (K : List CodedMacroblock → Type 0) (s s' : S) (result : Result X Stop) : Type 0 where
+  pub macroblocks : List CodedMacroblock
+  pub end : ℕ
+  pub plays : Plays (took_with frames took) failures (λ (x : X). (macroblocks, end)) o s s' result
+  pub keeps : OnOk result (K macroblocks)
+
+-- Slice data were read, and the sink was told what comes of them; the frames of the pictures are kept, with the macroblocks of the newest up to there.
+pub record ReadsData {S X : Type 0} (took : S → List Call → Type 0) (failures : S → ℕ) (frames : ℕ → Frame) (o : Outcome (List CodedMacroblock × ℕ)) (pictures : List CodedMacroblock → List CodedPicture) (new : Decoder) (s s' : S) (result : Result X Stop) : Type 0 where
+  pub macroblocks : List CodedMacroblock
+  pub end : ℕ
+  pub plays : Plays (took_with frames took) failures (λ (x : X). (macroblocks, end)) o s s' result
+  pub keeps : OnOk result (KeepsDecoder modes.Full frames true false (pictures macroblocks) new)

@@ -1,0 +1,476 @@
+-- What is kept of the slices so far. A working form: it ties values of the program to the list of units.
+use Rattle.std.specs.Prelude.{◌≡◌, ◌≢◌, ℕ, ◌+◌, ◌-◌, ◌*◌, ◌<◌, ◌≤◌, ◌^◌, get_or, not, ◌||◌, List, [], ◌∷◌, ◌++◌, map, length, ℤ, Option, Some, None, Bool, true, false, if◌then◌else◌}
+use Rattle.std.specs.Option.{option_map_or}
+use Rattle.h264_near.specs.Coded.{CodedMacroblock}
+use Rattle.h264_bits.specs.declared.element.Found.{Found}
+use Rattle.h264_marking.specs.Frames.{References, frame_places}
+use Rattle.h264_marking.specs.Gaps.{entered}
+use Rattle.h264_dpb.specs.Buffered.{Buffered}
+use Rattle.h264_poc.specs.declared.picture.Picture.{Picture}
+use Rattle.h264_poc.specs.Counts.{Keeps as KeepsCounts}
+use Rattle.h264_pps.specs.declared.Pps.{Pps}
+use Rattle.h264_sps.specs.declared.sps.Sps.{Sps}
+use Rattle.h264_header.specs.declared.header.Header.{Header}
+use Rattle.h264_header.specs.declared.header.Marking.{Marking}
+use Rattle.h264_header.specs.Layout.{sets_of}
+use Rattle.h264_header.specs.Picture.{begins_picture, picture_elements, is_idr, is_reference}
+use Rattle.h264_sets.specs.Sets.{Maps}
+use Rattle.h264_verify.specs.declared.slices.Slices.{Slices}
+use Rattle.h264_verify.specs.declared.picture.OpenPicture.{OpenPicture}
+use Rattle.h264_verify.specs.declared.picture.Types.{Types}
+use Rattle.h264_base.specs.declared.mode.Mode.{Mode}
+use Rattle.h264_base.specs.declared.mode.Mode.TheVariants as modes
+use Rattle.h264_base.specs.declared.rule.Rule.TheVariants.{SliceType}
+use Rattle.h264_picture.specs.declared.work.Work.{Work}
+use Rattle.h264_picture.specs.Holds.{Holds, Serves}
+use Rattle.h264_picture.specs.Making.{Making, HoldsSamples}
+use Rattle.h264_picture.specs.declared.frames.TheConstants.{PLACES}
+use Rattle.h264_picture.specs.Places.{lent, first_place, places, is_active_place, IsReleased, HasBegun, HasSize}
+use Rattle.h264_plane.specs.declared.frame.Frame.{Frame}
+use Rattle.h264_dpb.specs.Bumping.{is_held}
+use Rattle.h264_dpb.specs.Turns.{Shown, Turn, stays, no_buffer, names}
+use Rattle.h264_dpb.specs.Kept.{KeepsBuffer, HasFrames, IsOrdered, is_free, place_of, size_of, IsReady as AreReady}
+use Rattle.h264_dpb.specs.declared.output.Output.{Output}
+use Rattle.h264_dpb.specs.declared.ended.Ended.{Ended}
+use Rattle.h264_picture.specs.Buffer.{buffer_size}
+use Rattle.h264_verify.specs.declared.decoder.Decoder.{Decoder}
+use Rattle.h264_verify.specs.declared.decoder.Format.{Format}
+use Rattle.h264_verify.specs.Buffering.{newest_count, after_all, within_newest, ended_picture, closing_frames}
+use Rattle.h264_verify.specs.Decoding.{slices_of, EachSlice, number_of, parameters_of}
+use Rattle.h264_verify.specs.Demands.{Demand}
+use Rattle.h264_verify.specs.History.{History, maps_of}
+use Rattle.h264_verify.specs.Pictures.{CodedSlice, CodedPicture, last_slice, coded_of, picture_size, bit_behind, goes_on, open_of, joined_to, runs_of, counted, prev_ref_frame_num_of, held_after, held_in, closing_demands}
+use Rattle.h264_verify.specs.Closing.{whole_steps}
+use Rattle.h264_poc.specs.OfSlice.{picture_of}
+use Rattle.h264_marking.specs.Ended.{numbering_of}
+use Rattle.h264_verify.specs.Telling.{Said}
+use Rattle.h264_verify.specs.Steps.{Step, Tells, needs}
+use Rattle.h264_verify.specs.Slices.{is_i, has_i, has_p, states_type, is_idr_due, newest_idr_of, first_slice_rules, later_slice_rules, idr_demand, set_demand, type_demand, idr_num_demand, gap_rules, id_demand, count_demand, qp_demand, list_demand, marking_demand, slice_call}
+use Rattle.h264_verify.specs.Lists.{list_of, named_in}
+use Rattle.h264_verify.specs.Data.{coded_so_far}
+use Rattle.h264_verify.specs.Sound.{AreSound, has_ended, HasActive, NamesSet}
+
+-- a slice of an IDR picture is I (7.4.3)
+abbrev pub is_typed : Header → Bool
+is_typed h = is_i h.kind.value || not (is_idr h)
+
+-- which types these slices have, and whether one says that all have its type
+abbrev pub types_of : List CodedSlice → Types
+types_of slices = record { i = has_i slices; p = has_p slices; stated = states_type slices }
+
+-- what is kept of this picture, to which more slices may come
+pub record HoldsPicture (p : CodedPicture) (o : OpenPicture) : Type 0 where
+  pub last : o.last ≡ picture_elements (last_slice p).header
+  pub types : o.types ≡ types_of (p.later ++ p.first ∷ [])
+  pub marking : o.marking ≡ p.first.header.marking
+  pub numbering : o.numbering ≡ numbering_of p.first.sps p.first.header
+
+abbrev pub HoldsOpen : Option CodedPicture → Option OpenPicture → Type 0
+HoldsOpen None None = Unit {0}
+HoldsOpen None (Some o) = ⊥
+HoldsOpen (Some p) None = ⊥
+HoldsOpen (Some p) (Some o) = HoldsPicture p o
+
+-- whether a slice begins a picture, by what is kept
+abbrev pub begins_by : Option OpenPicture → Header → Bool
+begins_by None h = true
+begins_by (Some o) h = begins_picture o.last (picture_elements h)
+
+abbrev pub marking_by : Option OpenPicture → Option (Found Marking)
+marking_by None = None
+marking_by (Some o) = o.marking
+
+abbrev pub types_by : Option OpenPicture → Types
+types_by None = types_of []
+types_by (Some o) = o.types
+
+-- where one says so, slices of these types and this one have one type
+abbrev pub agrees_by : Types → Header → Bool
+agrees_by types h = not (h.same_type_in_picture || types.stated) || not (if is_i h.kind.value then types.p else types.i)
+
+-- nothing is left of a picture that has ended
+abbrev pub IsLeft : Bool → Option OpenPicture → Option OpenPicture → Type 0
+IsLeft true old new = new ≡ None
+IsLeft false old new = new ≡ old
+
+-- what is held: while the newest of these pictures may go on, and once it has ended
+abbrev pub held_by : Bool → Bool → List CodedPicture → References
+held_by ended on pictures = if on then (if ended then held_after pictures else held_in pictures) else held_after pictures
+
+-- the first bit after the last slice of the newest picture
+abbrev pub EndsAt : List CodedPicture → ℕ → Type 0
+EndsAt [] bit = Unit {0}
+EndsAt (p ∷ pictures) bit = bit ≡ bit_behind (last_slice p).unit
+
+-- what the end of the newest picture tells the buffer of frames
+abbrev pub HoldsEnd : List CodedPicture → Option OpenPicture → Type 0
+HoldsEnd [] o = Unit {0}
+HoldsEnd (p ∷ ps) None = Unit {0}
+HoldsEnd (p ∷ ps) (Some o) = o.ended ≡ ended_picture p ps
+
+-- What is kept of these pictures: more slices may come to the newest, or not; it has ended, or not.
+pub record KeepsPictures (on ended : Bool) (pictures : List CodedPicture) (slices : Slices) : Type 0 where
+  pub picture : HoldsOpen (open_of on pictures) slices.picture
+  pub end : HoldsEnd pictures slices.picture
+  pub newest_idr : slices.newest_idr ≡ newest_idr_of pictures
+  pub counts : KeepsCounts (map counted pictures) slices.counts
+  pub count : slices.count ≡ newest_count (map counted pictures)
+  pub pictures_are : slices.pictures ≡ length pictures
+  pub behind : EndsAt pictures slices.behind
+  pub prev_ref : slices.prev_ref_frame_num ≡ prev_ref_frame_num_of pictures
+  pub held : slices.held ≡ held_by ended on pictures
+
+-- what is kept of the slices of these units
+pub record KeepsSlices (before : History) (ended : Bool) (slices : Slices) : Type 0 where
+  pub due : slices.due ≡ is_idr_due before
+  pub kept : KeepsPictures (goes_on before) ended (runs_of before) slices
+  pub sound : AreSound (has_ended (goes_on before) ended) (runs_of before)
+  pub active : HasActive (is_idr_due before) (runs_of before) (maps_of before)
+  pub named : NamesSet (goes_on before) (runs_of before) (maps_of before)
+
+-- where slice data are read, what is kept of the macroblocks of the picture that may go on
+abbrev pub HoldsCoded : Option CodedPicture → Work → Type 0
+HoldsCoded None work = Unit {0}
+HoldsCoded (Some p) work = Holds p.first.sps.frame_size.width (picture_size p.first.sps) (last_slice p).macroblocks work
+
+-- what is kept of the macroblocks of the newest picture, after which a slice begins a picture or not
+abbrev pub HoldsNewest : Bool → List CodedPicture → Work → Type 0
+HoldsNewest true pictures work = Unit {0}
+HoldsNewest false [] work = ⊥
+HoldsNewest false (p ∷ pictures) work = HoldsCoded (Some p) work
+
+-- ---- frames, where they are made
+
+-- the pictures that have ended, where more slices may come to the newest, or it has ended
+abbrev pub ended_pictures : Bool → Bool → List CodedPicture → List CodedPicture
+ended_pictures on ended [] = []
+ended_pictures true true (p ∷ ps) = p ∷ ps
+ended_pictures true false (p ∷ ps) = ps
+ended_pictures false ended (p ∷ ps) = p ∷ ps
+
+-- how many of these units' pictures have ended before a unit that may go on with the newest
+abbrev pub ended_in : History → ℕ
+ended_in before = length (ended_pictures (goes_on before) false (runs_of before))
+
+-- what is written so far, and the buffer
+abbrev pub buffer_by : Bool → Bool → List CodedPicture → Turn
+buffer_by on ended [] = stays no_buffer
+buffer_by true true (p ∷ ps) = after_all (p ∷ ps)
+buffer_by true false (p ∷ ps) = within_newest (p ∷ ps)
+buffer_by false ended (p ∷ ps) = after_all (p ∷ ps)
+
+-- the work has room for pictures of a format
+pub record IsRoomFor (f : Format) (work : Work) : Type 0 where
+  pub serves : Serves f.size.width (f.size.width * f.size.height) work
+  pub size : HasSize f.size.width f.size.height work
+  pub places : places work ≡ f.frames + 1
+
+abbrev pub HasFormat : Option Format → Work → Type 0
+HasFormat None work = Unit {0}
+HasFormat (Some f) work = IsRoomFor f work
+
+-- the format of a sequence's pictures
+abbrev pub format_of : Sps → Format
+format_of sps = record { size = sps.frame_size; frames = buffer_size sps }
+
+-- what was lent stands at none of the active sequence's places
+abbrev pub AreOlder : Work → Work → Type 0
+AreOlder old new = (p : ℕ) → lent old p ≢ None → is_active_place (first_place new) p ≡ false
+
+-- the buffer has as many places as the format says
+abbrev pub IsSized : Option Format → Output → Type 0
+IsSized None output = Unit {0}
+IsSized (Some f) output = size_of output ≡ f.frames
+
+-- no IDR picture is decoded: the frames of the sequence before are gone, and the buffer is as large as the sequence's
+pub record IsSettled (d : Decoder) : Type 0 where
+  pub released : IsReleased d.work
+  pub sized : IsSized d.format d.output
+
+-- what is kept of the buffer: it is this one, each frame in it is lent at its place, and the pictures in it are among so many
+pub record KeepsOutput (frames : ℕ → Frame) (t : Turn) (next : ℕ) (d : Decoder) : Type 0 where
+  pub buffer : KeepsBuffer t.buffer (length t.written) d.output
+  pub frames_are : HasFrames frames (lent d.work) d.output
+  pub ordered : IsOrdered next d.output
+  pub ready : AreReady (lent d.work) d.output
+  pub format : HasFormat d.format d.work
+
+-- the place of a picture's frame, counted from the first one of the sequence
+abbrev pub place_by : Decoder → ℕ → ℕ
+place_by d n = option_map_or (λ (place : ℕ). place - first_place d.work) (place_of d.output n) 0
+
+-- what the samples of these slices depend on, which have this chroma_qp_index_offset
+pub record IsMaking (chroma : ℤ) (slices : List CodedSlice) (d : Decoder) (making : Making) : Type 0 where
+  pub parameters : EachSlice (λ s. making.slices (number_of s) ≡ parameters_of s) slices
+  pub offsets : (n : ℕ) → (making.slices n).filter.chroma_qp_index_offset ≡ chroma
+  pub places : (n : ℕ) → making.place n ≡ place_by d n
+
+-- the frame of a picture among so many is lent at its place
+pub record IsReference (frames : ℕ → Frame) (count : ℕ) (d : Decoder) (n : ℕ) : Type 0 where
+  pub before : n < count
+  pub near : place_by d n < PLACES
+  pub lent_is : lent d.work (first_place d.work + place_by d n) ≡ Some (frames n)
+
+-- a picture has this place among those of the sequence
+pub record IsNear (d : Decoder) (n place : ℕ) : Type 0 where
+  pub found : place_of d.output n ≡ Some place
+  pub from : first_place d.work ≤ place
+  pub to : place < first_place d.work + places d.work
+  pub near : place < first_place d.work + PLACES
+
+-- it has such a place
+pub record HasPlace (d : Decoder) (n : ℕ) : Type 0 where
+  pub place : ℕ
+  pub near : IsNear d n place
+
+-- the work holds the macroblocks before a slice of this number, and each picture that the slice's list names has its place
+pub record SlicesSome (number : ℕ) (references : List (Option ℕ)) (d : Decoder) : Type 0 where
+  pub width : ℕ
+  pub size : ℕ
+  pub macroblocks : List CodedMacroblock
+  pub holds : Holds width size macroblocks d.work
+  pub next : number ≡ length macroblocks
+  pub named : (k n : ℕ) → k < 16 → get_or references k None ≡ Some n → HasPlace d n
+
+-- those that the list of a slice names are
+pub record HasReferences (frames : ℕ → Frame) (pictures : List CodedPicture) (count : ℕ) (d : Decoder) (s : CodedSlice) : Type 0 where
+  pub each : (k n : ℕ) → k < 16 → get_or (named_in pictures s) k None ≡ Some n → IsReference frames count d n
+
+-- the numbers of these slices fall, the last one first
+abbrev pub AreFalling : ℕ → List CodedSlice → Type 0
+AreFalling high [] = Unit {0}
+AreFalling high (s ∷ slices) = (number_of s < high) × AreFalling (number_of s) slices
+
+-- what is kept of these slices of a picture, and of their macroblocks
+pub record HoldsSlices (frames : ℕ → Frame) (p : CodedPicture) (ps : List CodedPicture) (slices : List CodedSlice) (macroblocks : List CodedMacroblock) (d : Decoder) : Type 0 where
+  pub holds : Holds p.first.sps.frame_size.width (picture_size p.first.sps) macroblocks d.work
+  pub numbers : AreFalling (length macroblocks) slices
+  pub sets : EachSlice (λ s. s.pps ≡ p.first.pps) slices
+  pub references : EachSlice (HasReferences frames (p ∷ ps) (length ps) d) slices
+  pub samples : (making : Making) → IsMaking p.first.pps.chroma_qp_index_offset slices d making → HoldsSamples p.first.sps.frame_size.width (picture_size p.first.sps) making macroblocks d.work
+
+-- what is kept of a picture that is decoded after these: where, its format, and its slices so far
+pub record HoldsBegun (frames : ℕ → Frame) (p : CodedPicture) (ps : List CodedPicture) (slices : List CodedSlice) (macroblocks : List CodedMacroblock) (d : Decoder) : Type 0 where
+  pub begun : HasBegun d.place d.work
+  pub active : is_active_place (first_place d.work) d.place ≡ true
+  pub free : is_free d.place d.output ≡ false
+  pub format : d.format ≡ Some (format_of p.first.sps)
+  pub settled : is_idr p.first.header ≡ false → IsSettled d
+  pub so_far : HoldsSlices frames p ps slices macroblocks d
+
+-- the picture that is decoded, if there is one: more slices may come to the newest, which has not ended
+abbrev pub HoldsFrame : (ℕ → Frame) → Bool → Bool → List CodedPicture → Decoder → Type 0
+HoldsFrame frames on ended [] d = IsSettled d
+HoldsFrame frames true true (p ∷ ps) d = IsSettled d
+HoldsFrame frames true false (p ∷ ps) d = HoldsBegun frames p ps (slices_of p) (last_slice p).macroblocks d
+HoldsFrame frames false ended (p ∷ ps) d = IsSettled d
+
+-- the frames are those of the newest picture's sequence
+abbrev pub HasFormatOf : List CodedPicture → Decoder → Type 0
+HasFormatOf [] d = Unit {0}
+HasFormatOf (p ∷ ps) d = d.format ≡ Some (format_of p.first.sps)
+
+-- what is kept of the frames of these pictures
+pub record KeepsFrames (frames : ℕ → Frame) (on ended : Bool) (pictures : List CodedPicture) (d : Decoder) : Type 0 where
+  pub format : HasFormatOf pictures d
+  pub output : KeepsOutput frames (buffer_by on ended pictures) (length (ended_pictures on ended pictures)) d
+  pub picture : HoldsFrame frames on ended pictures d
+
+unfoldable pub KeepsDecoder : Mode → (ℕ → Frame) → Bool → Bool → List CodedPicture → Decoder → Type 0
+KeepsDecoder modes.Units frames on ended pictures d = Unit {0}
+KeepsDecoder modes.Headers frames on ended pictures d = Unit {0}
+KeepsDecoder modes.Full frames on ended pictures d = KeepsFrames frames on ended pictures d
+
+-- what is kept of them once the rules of a slice are met: after the gap before a picture that it begins, nothing is decoded yet
+pub record EntersFrames (frames : ℕ → Frame) (slice : CodedSlice) (pictures : List CodedPicture) (d : Decoder) : Type 0 where
+  pub format : is_idr slice.header ≡ false → d.format ≡ Some (format_of slice.sps)
+  pub output : KeepsOutput frames (within_newest (joined_to true slice pictures)) (length pictures) d
+  pub settled : IsSettled d
+
+-- there is a picture before whose first slice data this is kept
+pub record EntersSome (d : Decoder) : Type 0 where
+  pub frames : ℕ → Frame
+  pub slice : CodedSlice
+  pub pictures : List CodedPicture
+  pub keeps : EntersFrames frames slice pictures d
+
+abbrev pub EntersBy : (ℕ → Frame) → Bool → CodedSlice → Bool → List CodedPicture → Decoder → Type 0
+EntersBy frames true slice on pictures d = EntersFrames frames slice pictures d
+EntersBy frames false slice on [] d = ⊥
+EntersBy frames false slice on (p ∷ ps) d = KeepsFrames frames on false (p ∷ ps) d
+
+-- what is kept of them where a picture begins with this slice, of which nothing was read
+pub record BegunFrames (frames : ℕ → Frame) (slice : CodedSlice) (pictures : List CodedPicture) (d : Decoder) : Type 0 where
+  pub output : KeepsOutput frames (within_newest (joined_to true slice pictures)) (length pictures) d
+  pub picture : HoldsBegun frames (record { first = slice; later = [] }) pictures [] [] d
+
+-- what is kept before slice data are read
+abbrev pub BeginsFrames : (ℕ → Frame) → Bool → CodedSlice → List CodedPicture → Decoder → Type 0
+BeginsFrames frames true slice pictures d = BegunFrames frames slice pictures d
+BeginsFrames frames false slice [] d = ⊥
+BeginsFrames frames false slice (p ∷ ps) d = KeepsFrames frames true false (p ∷ ps) d
+
+-- there is a slice whose rules are met, with these sets and this header, before whose data this is kept
+pub record ReadsSome (begins : Bool) (held : References) (sets : Maps) (header : Header) (d : Decoder) : Type 0 where
+  pub frames : ℕ → Frame
+  pub on : Bool
+  pub pictures : List CodedPicture
+  pub slice : CodedSlice
+  pub sets_are : sets_of sets slice.header.pic_parameter_set_id.value ≡ Some (slice.pps, slice.sps)
+  pub header_is : header ≡ record slice.header { marking = header.marking }
+  pub held_are : held ≡ held_in (joined_to begins slice pictures)
+  pub next : number_of slice ≡ length (coded_so_far begins pictures)
+  pub live : begins ≡ false → on ≡ true
+  pub sound : AreSound false (joined_to begins slice pictures)
+  pub typed : is_typed slice.header ≡ true
+  pub keeps : EntersBy frames begins slice on pictures d
+
+unfoldable pub EntersDecoder : Mode → (ℕ → Frame) → Bool → CodedSlice → Bool → List CodedPicture → Decoder → Type 0
+EntersDecoder modes.Units frames begins slice on pictures d = Unit {0}
+EntersDecoder modes.Headers frames begins slice on pictures d = Unit {0}
+EntersDecoder modes.Full frames begins slice on pictures d = EntersBy frames begins slice on pictures d
+
+-- what is kept while the missing numbers before a picture are filled, where frames are made
+pub record FillsFrames (frames : ℕ → Frame) (t : Turn) (next : ℕ) (d : Decoder) : Type 0 where
+  pub output : KeepsOutput frames t next d
+  pub settled : IsSettled d
+
+unfoldable pub KeepsGap : Mode → (ℕ → Frame) → Turn → ℕ → Decoder → Type 0
+KeepsGap modes.Units frames t next d = Unit {0}
+KeepsGap modes.Headers frames t next d = Unit {0}
+KeepsGap modes.Full frames t next d = FillsFrames frames t next d
+
+-- where frames are made, the buffer has so many places
+unfoldable pub HasPlaces : Mode → ℕ → Decoder → Type 0
+HasPlaces modes.Units n d = Unit {0}
+HasPlaces modes.Headers n d = Unit {0}
+HasPlaces modes.Full n d = n ≤ size_of d.output
+
+-- where they are made, they are of this format
+unfoldable pub IsMadeAs : Mode → Format → Decoder → Type 0
+IsMadeAs modes.Units f d = Unit {0}
+IsMadeAs modes.Headers f d = Unit {0}
+IsMadeAs modes.Full f d = d.format ≡ Some f
+
+-- A picture of this sequence parameter set that is no IDR picture goes on with the sequence: as many frames as may be held have places.
+pub record GoesWith (mode : Mode) (sps : Sps) (held : References) (d : Decoder) : Type 0 where
+  pub few : length held.frames ≤ frame_places sps.max_num_ref_frames
+  pub places : HasPlaces mode (frame_places sps.max_num_ref_frames) d
+  pub format : IsMadeAs mode (format_of sps) d
+
+-- there are frames of which this is kept
+pub record KeepsSomeGap (mode : Mode) (d : Decoder) : Type 0 where
+  pub frames : ℕ → Frame
+  pub turn : Turn
+  pub next : ℕ
+  pub few : next < 2 ^ 62
+  pub keeps : KeepsGap mode frames turn next d
+
+-- there is a picture that is decoded, and of which the buffer is told this, where these frames are held: no more than there are places, and a reference picture
+-- among them
+pub record KeepsSomeEnd (ended : Ended) (held : References) (d : Decoder) : Type 0 where
+  pub frames : ℕ → Frame
+  pub p : CodedPicture
+  pub ps : List CodedPicture
+  pub is : ended ≡ ended_picture p ps
+  pub few : length held.frames ≤ buffer_size p.first.sps
+  pub marked : ended.reference ≡ true → is_held (names held) ended.picture ≡ true
+  pub keeps : KeepsFrames frames true false (p ∷ ps) d
+
+-- there are pictures of which this is kept; the newest has been marked, or not
+pub record KeepsSomeFrames (mode : Mode) (ended : Bool) (slices : Slices) (d : Decoder) : Type 0 where
+  pub frames : ℕ → Frame
+  pub before : History
+  pub slices_are : KeepsSlices before ended slices
+  pub keeps : KeepsDecoder mode frames (goes_on before) false (runs_of before) d
+
+-- there are pictures of which this is kept, the newest of which has ended here, or not
+pub record KeepsSomeRules (mode : Mode) (ended : Bool) (slices : Slices) (d : Decoder) : Type 0 where
+  pub frames : ℕ → Frame
+  pub before : History
+  pub slices_are : KeepsSlices before ended slices
+  pub keeps : KeepsDecoder mode frames (goes_on before) ended (runs_of before) d
+
+-- there are units of which this is kept
+pub record KeepsSomeSlice (mode : Mode) (slices : Slices) (sets : Maps) (d : Decoder) : Type 0 where
+  pub frames : ℕ → Frame
+  pub before : History
+  pub sets_are : sets ≡ maps_of before
+  pub slices_are : KeepsSlices before false slices
+  pub keeps : KeepsDecoder mode frames (goes_on before) false (runs_of before) d
+
+-- the macroblocks of the picture that may go on, where slice data are read
+unfoldable pub HoldsData : Mode → Option CodedPicture → Work → Type 0
+HoldsData modes.Units picture work = Unit {0}
+HoldsData modes.Headers picture work = Unit {0}
+HoldsData modes.Full picture work = HoldsCoded picture work
+
+-- those before a slice that goes on with the newest picture
+unfoldable pub HoldsBefore : Mode → Bool → List CodedPicture → Work → Type 0
+HoldsBefore modes.Units begins pictures work = Unit {0}
+HoldsBefore modes.Headers begins pictures work = Unit {0}
+HoldsBefore modes.Full begins pictures work = HoldsNewest begins pictures work
+
+-- The rules of a picture's first slice from its type on, by what is kept of the pictures before it.
+abbrev pub first_by : Mode → Slices → List Picture → Buffered Shown → Pps → Sps → Header → ℕ → List Step
+first_by mode slices pictures b pps sps h bit =
+    needs (type_demand sps h ∷ idr_num_demand h ∷ [])
+    ++ (gap_rules mode (is_idr h) (is_reference h) sps.gaps_in_frame_num_value_allowed_flag h.frame_num.bit slices.prev_ref_frame_num (numbering_of sps h) slices.held b
+    ++ needs (id_demand slices.newest_idr h
+    ∷ count_demand (picture_of sps h ∷ pictures) bit
+    ∷ qp_demand pps h
+    ∷ list_demand (list_of h.kind.value (numbering_of sps h) (entered (is_idr h) slices.prev_ref_frame_num (numbering_of sps h) slices.held))
+    ∷ []))
+
+-- where one says so, the slices of the picture that may go on have one type
+abbrev pub same_type_by : Option OpenPicture → Header → Demand
+same_type_by o h = record { rule = SliceType; bit = h.kind.bit; met = agrees_by (types_by o) h }
+
+-- The rules of a later slice from its type on, by what is kept of its picture.
+abbrev pub later_by : Slices → Pps → Sps → Header → List Demand
+later_by slices pps sps h =
+    type_demand sps h
+    ∷ same_type_by slices.picture h
+    ∷ idr_num_demand h
+    ∷ qp_demand pps h
+    ∷ list_demand (list_of h.kind.value (numbering_of sps h) slices.held)
+    ∷ marking_demand (marking_by slices.picture) h
+    ∷ []
+
+-- What is kept once the rules of a slice are met, before it is entered: the open picture, the newest idr_pic_id and the number of
+-- pictures are those before it; counts and held frames are those of the pictures with it.
+pub record Entered (before : History) (begins : Bool) (slice : CodedSlice) (slices : Slices) : Type 0 where
+  pub picture : HoldsOpen (open_of (goes_on before) (runs_of before)) slices.picture
+  pub end : HoldsEnd (runs_of before) slices.picture
+  pub newest_idr : slices.newest_idr ≡ newest_idr_of (runs_of before)
+  pub pictures_are : slices.pictures ≡ length (runs_of before)
+  pub counts : KeepsCounts (map counted (joined_to begins slice (runs_of before))) slices.counts
+  pub count : slices.count ≡ newest_count (map counted (joined_to begins slice (runs_of before)))
+  pub prev_ref : slices.prev_ref_frame_num ≡ prev_ref_frame_num_of (joined_to begins slice (runs_of before))
+  pub held : slices.held ≡ held_in (joined_to begins slice (runs_of before))
+
+-- The rules on where a slice stands and with which sets.
+abbrev pub standing_demands : Bool → Sps → Bool → Maps → ℕ → Header → List Demand
+standing_demands true sps due maps bit h = idr_demand due bit h ∷ set_demand (is_idr h) maps sps h ∷ []
+standing_demands false sps due maps bit h = set_demand false maps sps h ∷ []
+
+-- The rules after these, by the pictures.
+abbrev pub slice_rules : Mode → Bool → List CodedPicture → CodedSlice → List Step
+slice_rules mode true pictures s = first_slice_rules mode pictures s
+slice_rules mode false pictures s = needs (later_slice_rules pictures s)
+
+-- These rules, and then the slice is told.
+abbrev pub told_rules : Mode → Bool → List CodedPicture → CodedSlice → List Step
+told_rules mode begins pictures s = slice_rules mode begins pictures s ++ Tells (Said (slice_call (joined_to begins s pictures) s)) ∷ []
+
+-- how many macroblocks are coded before a slice
+abbrev pub coded_before : Bool → List CodedPicture → ℕ
+coded_before true pictures = 0
+coded_before false pictures = length (coded_of pictures)
+
+-- What the end of the picture that may go on goes through, where it ends here: its macroblocks, its marking, its frame.
+abbrev pub close_steps : Mode → Bool → History → List Step
+close_steps mode ends before =
+    (if ends then whole_steps mode before else [])
+    ++ (needs (if ends then closing_demands before else [])
+    ++ (if ends then closing_frames mode before else []))

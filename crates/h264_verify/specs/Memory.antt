@@ -1,0 +1,57 @@
+-- A working form. Where judging a unit may want memory: for the bytes of one that is read, and for a picture of another format than the one before it.
+use Rattle.std.specs.Prelude.{◌≡◌, ◌≢◌, ℕ, ◌==◌, ◌&&◌, ◌||◌, Bool, true, false, Option, Some, None, List, [], ◌∷◌, if◌then◌else◌}
+use Rattle.h264_base.specs.declared.mode.Mode.{Mode}
+use Rattle.h264_base.specs.declared.mode.Mode.TheVariants as modes
+use Rattle.h264_base.specs.Body.{Body}
+use Rattle.h264_base.specs.Grammar.{Element, Derives}
+use Rattle.h264_units.specs.Stream.{NalUnit}
+use Rattle.h264_rbsp.specs.Rbsp.{body_of}
+use Rattle.h264_sps.specs.declared.sps.Sps.{Sps}
+use Rattle.h264_pps.specs.declared.Pps.{Pps}
+use Rattle.h264_header.specs.declared.header.Header.{Header}
+use Rattle.h264_header.specs.Layout.{sets_of}
+use Rattle.h264_header.specs.Header.{header as header_syntax}
+use Rattle.h264_verify.specs.UnitHeader.{header_of, nal_unit_type}
+use Rattle.h264_verify.specs.History.{History, maps_of}
+use Rattle.h264_verify.specs.Pictures.{CodedPicture, sets_at, begins_at, runs_of}
+use Rattle.h264_verify.specs.Keeping.{format_of}
+use Rattle.h264_verify.specs.Units.{is_slice, slice_unit}
+
+-- in Units slices are passed over
+abbrev pub reads_slices : Mode → Bool
+reads_slices modes.Units = false
+reads_slices modes.Headers = true
+reads_slices modes.Full = true
+
+-- a unit of this type is read: a parameter set, or a slice where slices are read
+abbrev pub is_kind_read : Mode → ℕ → Bool
+is_kind_read mode kind = kind == 7 || kind == 8 || is_slice kind && reads_slices mode
+
+abbrev pub is_read : Mode → NalUnit → Bool
+is_read mode unit = is_kind_read mode (nal_unit_type (header_of unit))
+
+-- the RBSP of a unit that is read
+abbrev pub bytes_of : Mode → NalUnit → Option Body
+bytes_of mode unit = if is_read mode unit then Some (body_of unit) else None
+
+-- pictures of this sequence have frames of another size, or another number of them in the buffer, than the newest of these, or are the first
+abbrev pub HasAnotherFormat : List CodedPicture → Sps → Type 0
+HasAnotherFormat [] sps = Unit {0}
+HasAnotherFormat (p ∷ ps) sps = format_of sps ≢ format_of p.first.sps
+
+-- The slice in this unit has a header that derives in its grammar, begins a picture, and its pictures have another format than the one before it.
+pub record BeginsAnotherFormat (before : History) (unit : NalUnit) : Type 0 where
+  pub header : Header
+  pub elements : List Element
+  pub end : ℕ
+  pub derives : Derives (header_syntax (sets_of (maps_of before)) (slice_unit unit)) (body_of unit) 0 elements end header
+  pub sets : Pps × Sps
+  pub names : sets_at before header ≡ Some sets
+  pub begins : begins_at before header ≡ true
+  pub is_another : HasAnotherFormat (runs_of before) sets.1
+
+-- Slice data are read, and such a slice stands in this unit.
+pub record ChangesFormat (mode : Mode) (before : History) (unit : NalUnit) : Type 0 where
+  pub full : mode ≡ modes.Full
+  pub slice : is_slice (nal_unit_type (header_of unit)) ≡ true
+  pub begins : BeginsAnotherFormat before unit

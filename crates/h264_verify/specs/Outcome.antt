@@ -1,0 +1,67 @@
+-- What a sink is told, and what is answered. A working form.
+use Rattle.std.specs.Prelude.{◌≡◌, ℕ, ◌+◌, Bool, List, [], ◌∷◌, ◌++◌, map, Result, Ok, Err, if◌then◌else◌}
+use Rattle.h264_base.specs.declared.rule.Rule.{Rule}
+use Rattle.h264_base.specs.declared.stop.Stop.{Stop}
+use Rattle.h264_base.specs.declared.stop.Stop.TheVariants.{No, Outside, Memory, Read, Write}
+use Rattle.h264_base.specs.Body.{Body}
+use Rattle.h264_base.specs.Grammar.{Grammar}
+use Rattle.h264_base.specs.Run.{run}
+use Rattle.h264_verify.specs.Telling.{Told, said_of, Tells, TellsFront}
+
+pub record Outcome (A : Type 0) : Type 0 where
+  pub calls : List Told
+  pub answer : Result A Stop
+
+-- what is told first, and then an outcome
+abbrev pub with_calls : {A : Type 0} → List Told → Outcome A → Outcome A
+with_calls calls o = record { calls = calls ++ o.calls; answer = o.answer }
+
+abbrev pub goes_on : {A B : Type 0} → List Told → (A → Outcome B) → Result A Stop → Outcome B
+goes_on calls next (Ok x) = with_calls calls (next x)
+goes_on calls next (Err stop) = record { calls = calls; answer = Err stop }
+
+infixl 10 ◌>>=◌
+unfoldable pub ◌>>=◌ : {A B : Type 0} → Outcome A → (A → Outcome B) → Outcome B
+o >>= next = goes_on o.calls next o.answer
+
+abbrev pub answers : {A : Type 0} → Result A Stop → Outcome A
+answers answer = record { calls = []; answer = answer }
+
+abbrev pub gives : {A : Type 0} → A → Outcome A
+gives x = answers (Ok x)
+
+abbrev pub tells : Told → Outcome (Unit {0})
+tells call = record { calls = call ∷ []; answer = Ok tt }
+
+-- the stop names a rule or a feature
+abbrev pub IsNamed : Stop → Type 0
+IsNamed (No bit rule) = Unit {0}
+IsNamed (Outside bit feature) = Unit {0}
+IsNamed Memory = ⊥
+IsNamed Read = ⊥
+IsNamed Write = ⊥
+
+-- a rule that is checked, with the stream bit that it names
+abbrev pub holds : Rule → ℕ → Bool → Outcome (Unit {0})
+holds rule bit test = answers (if test then Ok tt else Err (No bit rule))
+
+-- the value without the bit after it
+abbrev pub value_of : {A : Type 0} → Result (A × ℕ) Stop → Result A Stop
+value_of (Ok x) = Ok x.0
+value_of (Err stop) = Err stop
+
+-- a syntax structure read from the first bit of an RBSP
+abbrev pub structure_outcome : {A : Type 0} → Grammar A → Body → Outcome A
+structure_outcome g body = record { calls = map (said_of body) (run g body 0).elements; answer = value_of (run g body 0).answer }
+
+-- The sink was told this, and this was answered; or the sink failed, or memory was refused, with only the first calls made.
+abbrev pub PlaysBy : {X A S : Type 0} → (S → List Told → Type 0) → (S → ℕ) → (X → A) → Outcome A → S → S → Result X Stop → Type 0
+PlaysBy took failures view o s s' (Ok x) = (o.answer ≡ Ok (view x)) × Tells took s s' o.calls × (failures s' ≡ failures s)
+PlaysBy took failures view o s s' (Err Write) = TellsFront took s s' o.calls × (failures s' ≡ failures s + 1)
+PlaysBy took failures view o s s' (Err Memory) = TellsFront took s s' o.calls × (failures s' ≡ failures s)
+PlaysBy took failures view o s s' (Err Read) = ⊥
+PlaysBy took failures view o s s' (Err (No bit rule)) = (o.answer ≡ Err (No bit rule)) × Tells took s s' o.calls × (failures s' ≡ failures s)
+PlaysBy took failures view o s s' (Err (Outside bit feature)) = (o.answer ≡ Err (Outside bit feature)) × Tells took s s' o.calls × (failures s' ≡ failures s)
+
+pub record Plays {X A S : Type 0} (took : S → List Told → Type 0) (failures : S → ℕ) (view : X → A) (o : Outcome A) (s s' : S) (result : Result X Stop) : Type 0 where
+  pub plays : PlaysBy took failures view o s s' result

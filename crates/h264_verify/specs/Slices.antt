@@ -1,0 +1,248 @@
+-- The rules that a slice meets beside its own syntax (7.4.1.2, 7.4.3, 8.2.1, 8.2.4). To be read beside the standard.
+use Rattle.std.specs.Prelude.{ℕ, ◌*◌, ◌==◌, ◌&&◌, ◌||◌, not, Bool, true, false, Option, Some, None, Result, List, [], ◌∷◌, ◌++◌, map, length, ℤ, pos, ◌+ℤ◌, int_le, if◌then◌else◌}
+use Rattle.std.specs.List.{list_any}
+use Rattle.std.specs.Option.{is_some}
+use Rattle.h264_base.specs.declared.rule.Rule.TheVariants as rule
+use Rattle.h264_base.specs.declared.mode.Mode.{Mode}
+use Rattle.h264_base.specs.declared.mode.Mode.TheVariants as modes
+use Rattle.h264_base.specs.declared.mode.SliceType.{SliceType}
+use Rattle.h264_base.specs.declared.mode.SliceType.TheVariants as slice_type
+use Rattle.h264_base.specs.Call.{Call, OfSlice}
+use Rattle.h264_bits.specs.declared.element.Found.{Found}
+use Rattle.h264_units.specs.Stream.{NalUnit}
+use Rattle.h264_sps.specs.declared.sps.Sps.{Sps}
+use Rattle.h264_sps.specs.contracts.sps.SpsPartialEq.TheImpl as eq_sps
+use Rattle.h264_pps.specs.declared.Pps.{Pps}
+use Rattle.h264_sets.specs.Sets.{Maps}
+use Rattle.h264_sets.specs.declared.SetPair.{SetPair}
+use Rattle.h264_header.specs.declared.header.Header.{Header}
+use Rattle.h264_header.specs.declared.header.SliceKind.{SliceKind}
+use Rattle.h264_header.specs.declared.header.SliceKind.TheVariants as kinds
+use Rattle.h264_header.specs.declared.header.Marking.{Marking}
+use Rattle.h264_header.specs.SameMarking.{same_marking}
+use Rattle.h264_poc.specs.declared.picture.Picture.{Picture}
+use Rattle.h264_marking.specs.declared.frame.Numbering.{Numbering}
+use Rattle.h264_marking.specs.Frames.{References}
+use Rattle.h264_marking.specs.Gaps.{is_new_num, gap_before, unused_short_term_frame_nums, entered}
+use Rattle.h264_lists.specs.declared.slot.RefSlot.{RefSlot}
+use Rattle.h264_dpb.specs.Buffered.{Buffered}
+use Rattle.h264_dpb.specs.Turns.{Shown}
+use Rattle.h264_verify.specs.Content.{Content}
+use Rattle.h264_verify.specs.Content as contents
+use Rattle.h264_verify.specs.Steps.{Step, needs}
+use Rattle.h264_verify.specs.Steps as step
+use Rattle.h264_verify.specs.Demands.{Demand}
+use Rattle.h264_verify.specs.Lists.{list_of}
+use Rattle.h264_verify.specs.Telling.{Said}
+use Rattle.h264_verify.specs.Closing.{whole_steps}
+use Rattle.h264_verify.specs.Buffering.{newest_count, frame_count, after_all, missing_steps, closing_frames}
+use Rattle.h264_verify.specs.UnitHeader.{header_of, nal_unit_type}
+use Rattle.h264_verify.specs.History.{History, maps_of}
+use Rattle.h264_verify.specs.Pictures.{CodedSlice, CodedPicture, sets_at, with_sets, joined_to, runs_of, begins_at, prev_ref_frame_num_of, held_after, held_in, bit_of, is_met, counted, coded_of, closing_demands}
+use Rattle.h264_header.specs.Picture.{is_idr, is_reference}
+use Rattle.h264_poc.specs.OfSlice.{picture_of}
+use Rattle.h264_marking.specs.Ended.{numbering_of}
+
+abbrev pub is_i : SliceKind → Bool
+is_i kinds.I = true
+is_i (kinds.P list) = false
+
+abbrev pub type_of : SliceKind → SliceType
+type_of kinds.I = slice_type.I
+type_of (kinds.P list) = slice_type.P
+
+-- idr_pic_id of the newest picture, where it is an IDR picture
+abbrev pub idr_id : Option (Found ℕ) → Option ℕ
+idr_id None = None
+idr_id (Some found) = Some found.value
+
+abbrev pub newest_idr_of : List CodedPicture → Option ℕ
+newest_idr_of [] = None
+newest_idr_of (p ∷ pictures) = idr_id p.first.header.idr_pic_id
+
+-- the marking of the newest picture, which its first slice gives
+abbrev pub newest_marking : List CodedPicture → Option (Found Marking)
+newest_marking [] = None
+newest_marking (p ∷ pictures) = p.first.header.marking
+
+-- the bit of an element that may not be there
+abbrev pub bit_of_id : Option (Found ℕ) → ℕ
+bit_of_id None = 0
+bit_of_id (Some found) = found.bit
+
+abbrev pub bit_of_marking : Option (Found Marking) → ℕ
+bit_of_marking None = 0
+bit_of_marking (Some found) = found.bit
+
+-- an IDR picture that directly follows an IDR picture has another idr_pic_id
+abbrev pub changes_id : Option ℕ → Option (Found ℕ) → Bool
+changes_id None id = true
+changes_id (Some newest) None = true
+changes_id (Some newest) (Some id) = not (newest == id.value)
+
+-- 26 + pic_init_qp_minus26 + slice_qp_delta lies in 0 to 51
+abbrev pub is_qp : ℤ → ℤ → Bool
+is_qp init delta = int_le (pos 0) ((pos 26 +ℤ init) +ℤ delta) && int_le ((pos 26 +ℤ init) +ℤ delta) (pos 51)
+
+-- An IDR picture is due at the beginning, and after an end of sequence or of stream (7.4.1.2.1).
+abbrev pub due_behind : Content → ℕ → Bool → Bool
+due_behind (contents.OfSlice h macroblocks) kind due = false
+due_behind (contents.OfSps set) kind due = (kind == 10 || kind == 11) || due
+due_behind (contents.OfPps set) kind due = (kind == 10 || kind == 11) || due
+due_behind contents.Passed kind due = (kind == 10 || kind == 11) || due
+
+abbrev pub is_idr_due : History → Bool
+is_idr_due [] = true
+is_idr_due (r ∷ before) = due_behind r.content (nal_unit_type (header_of r.unit)) (is_idr_due before)
+
+-- the sequence parameter set of a pair has this content
+abbrev pub has_content : Sps → Option SetPair → Bool
+has_content sps None = false
+has_content sps (Some pair) = eq_sps.ghosts.eq pair.sps sps
+
+-- that of the pair that the last slice named
+abbrev pub is_active : Maps → Sps → Bool
+is_active maps sps = has_content sps maps.active
+
+-- where a slice says that all slices of its picture have one type, those of this list have it (7.4.3)
+abbrev pub has_i : List CodedSlice → Bool
+has_i slices = list_any (λ s. is_i s.header.kind.value) slices
+
+abbrev pub has_p : List CodedSlice → Bool
+has_p slices = list_any (λ s. not (is_i s.header.kind.value)) slices
+
+abbrev pub states_type : List CodedSlice → Bool
+states_type slices = list_any (λ s. s.header.same_type_in_picture) slices
+
+abbrev pub agrees : List CodedSlice → Header → Bool
+agrees slices h = not (h.same_type_in_picture || states_type slices) || not (if is_i h.kind.value then has_p slices else has_i slices)
+
+-- An IDR picture comes where one is due (7.4.1.2.1).
+abbrev pub idr_demand : Bool → ℕ → Header → Demand
+idr_demand due bit h = record { rule = rule.FirstPicture; bit = bit; met = not due || is_idr h }
+
+-- Only a picture that is an IDR picture changes the sequence parameter set (7.4.1.2.1).
+abbrev pub set_demand : Bool → Maps → Sps → Header → Demand
+set_demand renews maps sps h = record { rule = rule.SetChanged; bit = h.pic_parameter_set_id.bit; met = renews || is_active maps sps }
+
+-- first_mb_in_slice is the number of macroblocks that are already coded in the picture (7.4.3). Slice data tell it.
+abbrev pub first_mb_demands : Mode → ℕ → Header → List Demand
+first_mb_demands modes.Units coded h = []
+first_mb_demands modes.Headers coded h = []
+first_mb_demands modes.Full coded h = record { rule = rule.FirstMb; bit = h.first_mb_in_slice.bit; met = h.first_mb_in_slice.value == coded } ∷ []
+
+-- IDR slices, and all where there are no reference frames, are I (7.4.3).
+abbrev pub type_demand : Sps → Header → Demand
+type_demand sps h = record { rule = rule.SliceType; bit = h.kind.bit; met = is_i h.kind.value || not (is_idr h || sps.max_num_ref_frames == 0) }
+
+-- Where one says so, the slices of a picture have one type (7.4.3).
+abbrev pub same_type_demand : List CodedSlice → Header → Demand
+same_type_demand slices h = record { rule = rule.SliceType; bit = h.kind.bit; met = agrees slices h }
+
+-- frame_num of an IDR picture is 0 (7.4.3).
+abbrev pub idr_num_demand : Header → Demand
+idr_num_demand h = record { rule = rule.FrameNum; bit = h.frame_num.bit; met = not (is_idr h) || h.frame_num.value == 0 }
+
+-- frame_num of another picture follows PrevRefFrameNum, or there is a gap, where the sequence allows gaps (7.4.3).
+abbrev pub gap_demand : Bool → Bool → ℕ → ℕ → Numbering → Demand
+gap_demand idr gaps_allowed bit prev n = record { rule = rule.FrameNum; bit = bit; met = gap_before idr prev n == 0 || gaps_allowed }
+
+-- Once the gap is filled it is a new number, if the picture is a reference (7.4.3).
+abbrev pub new_num_demand : Bool → Bool → ℕ → ℕ → Numbering → References → Demand
+new_num_demand idr reference bit prev n refs = record { rule = rule.FrameNum; bit = bit; met = idr || not reference || is_new_num prev n.frame_num (entered idr prev n refs) }
+
+-- An IDR picture that directly follows an IDR picture has another idr_pic_id (7.4.3).
+abbrev pub id_demand : Option ℕ → Header → Demand
+id_demand newest_idr h = record { rule = rule.IdrPicId; bit = bit_of_id h.idr_pic_id; met = changes_id newest_idr h.idr_pic_id }
+
+-- The counts of the newest of these pictures are in range (8.2.1).
+abbrev pub count_demand : List Picture → ℕ → Demand
+count_demand pictures bit = record { rule = rule.Count; bit = bit; met = is_some (newest_count pictures) }
+
+-- SliceQPY is in range (7.4.3).
+abbrev pub qp_demand : Pps → Header → Demand
+qp_demand pps h = record { rule = rule.Qp; bit = h.slice_qp_delta.bit; met = is_qp pps.pic_init_qp_minus26 h.slice_qp_delta.value }
+
+-- The modifications of the list name held frames (8.2.4.3).
+abbrev pub list_demand : Result (List RefSlot) ℕ → Demand
+list_demand r = record { rule = rule.ListCommand; bit = bit_of r; met = is_met r }
+
+-- Later slices of a picture are marked as the first is (7.4.3.3).
+abbrev pub marking_demand : Option (Found Marking) → Header → Demand
+marking_demand first h = record { rule = rule.MarkDiffers; bit = bit_of_marking h.marking; met = same_marking first h.marking }
+
+-- the slices of the newest picture, the last one first
+abbrev pub newest_slices : List CodedPicture → List CodedSlice
+newest_slices [] = []
+newest_slices (p ∷ pictures) = p.later ++ p.first ∷ []
+
+-- the first bit of a slice's unit
+abbrev pub first_bit : CodedSlice → ℕ
+first_bit s = 8 * s.unit.from
+
+-- The rules on frame_num of a picture that begins, and between them the missing numbers before it, each of which is filled, where these
+-- frames are held.
+abbrev pub gap_rules : Mode → Bool → Bool → Bool → ℕ → ℕ → Numbering → References → Buffered Shown → List Step
+gap_rules mode idr reference gaps_allowed bit prev n refs b =
+    needs (gap_demand idr gaps_allowed bit prev n ∷ [])
+    ++ (missing_steps mode bit n (unused_short_term_frame_nums idr prev n) refs b
+    ++ needs (new_num_demand idr reference bit prev n refs ∷ []))
+
+-- The rules of a picture's first slice after these pictures, the newest of which has ended, from its type on.
+abbrev pub first_slice_rules : Mode → List CodedPicture → CodedSlice → List Step
+first_slice_rules mode pictures s =
+    needs (type_demand s.sps s.header ∷ idr_num_demand s.header ∷ [])
+    ++ (gap_rules mode (is_idr s.header) (is_reference s.header) s.sps.gaps_in_frame_num_value_allowed_flag s.header.frame_num.bit (prev_ref_frame_num_of pictures) (numbering_of s.sps s.header) (held_after pictures) (after_all pictures).buffer
+    ++ needs (id_demand (newest_idr_of pictures) s.header
+    ∷ count_demand (picture_of s.sps s.header ∷ map counted pictures) (first_bit s)
+    ∷ qp_demand s.pps s.header
+    ∷ list_demand (list_of s.header.kind.value (numbering_of s.sps s.header) (held_in (joined_to true s pictures)))
+    ∷ []))
+
+-- The rules of a later slice of the newest of these pictures.
+abbrev pub later_slice_rules : List CodedPicture → CodedSlice → List Demand
+later_slice_rules pictures s =
+    type_demand s.sps s.header
+    ∷ same_type_demand (newest_slices pictures) s.header
+    ∷ idr_num_demand s.header
+    ∷ qp_demand s.pps s.header
+    ∷ list_demand (list_of s.header.kind.value (numbering_of s.sps s.header) (held_in pictures))
+    ∷ marking_demand (newest_marking pictures) s.header
+    ∷ []
+
+-- All rules of a picture's first slice, and of a later slice.
+abbrev pub first_slice_demands : Mode → Bool → Maps → List CodedPicture → CodedSlice → List Step
+first_slice_demands mode due maps pictures s =
+    needs (idr_demand due (first_bit s) s.header ∷ set_demand (is_idr s.header) maps s.sps s.header ∷ [])
+    ++ (needs (first_mb_demands mode 0 s.header)
+    ++ first_slice_rules mode pictures s)
+
+abbrev pub later_slice_demands : Mode → Maps → List CodedPicture → CodedSlice → List Step
+later_slice_demands mode maps pictures s =
+    needs (set_demand false maps s.sps s.header ∷ [])
+    ++ (needs (first_mb_demands mode (length (coded_of pictures)) s.header)
+    ++ needs (later_slice_rules pictures s))
+
+abbrev pub rules_of : Mode → Bool → Bool → Maps → List CodedPicture → CodedSlice → List Step
+rules_of mode true due maps pictures s = first_slice_demands mode due maps pictures s
+rules_of mode false due maps pictures s = later_slice_demands mode maps pictures s
+
+-- what the sink is told of a slice: the byte where its unit begins, first_mb_in_slice, its type, frame_num, and its picture's count
+abbrev pub slice_call : List CodedPicture → CodedSlice → Call
+slice_call pictures s = OfSlice s.unit.from s.header.first_mb_in_slice.value (type_of s.header.kind.value) s.header.frame_num.value (frame_count (newest_count (map counted pictures)))
+
+-- the steps of a slice with its sets; a header that was read has them
+abbrev pub steps_by : Mode → Option (Pps × Sps) → History → NalUnit → Header → List Step
+steps_by mode None before unit h = []
+steps_by mode (Some sets) before unit h =
+    rules_of mode (begins_at before h) (is_idr_due before) (maps_of before) (runs_of before) (with_sets unit h [] sets)
+    ++ step.Tells (Said (slice_call (joined_to (begins_at before h) (with_sets unit h [] sets) (runs_of before)) (with_sets unit h [] sets)))
+    ∷ []
+
+-- A slice after these units: where it begins a picture, the one before it ends first; then come its rules, and it is told.
+abbrev pub slice_steps : Mode → History → NalUnit → Header → List Step
+slice_steps mode before unit h =
+    (if begins_at before h then whole_steps mode before else [])
+    ++ (needs (if begins_at before h then closing_demands before else [])
+    ++ ((if begins_at before h then closing_frames mode before else [])
+    ++ steps_by mode (sets_at before h) before unit h))

@@ -1,0 +1,77 @@
+-- What comes to pass as a stream is judged, frames among it, before anything is said of their samples. To be read beside the standard.
+use Rattle.std.specs.Prelude.{◌≡◌, ℕ, ◌<◌, ◌≤◌, List, [], ◌∷◌, ◌++◌, length}
+use Rattle.h264_base.specs.Call.{Call}
+use Rattle.h264_base.specs.Body.{Body}
+use Rattle.h264_base.specs.Grammar.{Element}
+use Rattle.h264_base.specs.Run.{call_of}
+use Rattle.h264_plane.specs.declared.frame.Frame.{Frame}
+use Rattle.h264_dpb.specs.declared.entry.Entry.{Entry}
+use Rattle.h264_dpb.specs.Turns.{Shown}
+use Rattle.h264_dpb.specs.Kept.{shown_call}
+use Rattle.h264_verify.specs.Pictures.{CodedPicture}
+use Rattle.h264_verify.specs.Decoding.{IsDecoded}
+
+pub data Told : Type 0 where
+  -- a sink is told this
+  Said : Call → Told
+  -- the newest of these pictures has ended, and is decoded; a sink is not told so
+  Decodes : List CodedPicture → Told
+  -- a sink is told the frame of this picture
+  Shows : Entry Shown → Told
+
+abbrev pub said_of : Body → Element → Told
+said_of body e = Said (call_of body e)
+
+-- ---- with the frames of the pictures, by their numbers in decoding order
+
+-- what a sink is told
+abbrev pub calls_of : (ℕ → Frame) → List Told → List Call
+calls_of frames [] = []
+calls_of frames (Said call ∷ told) = call ∷ calls_of frames told
+calls_of frames (Decodes pictures ∷ told) = calls_of frames told
+calls_of frames (Shows e ∷ told) = shown_call frames e ∷ calls_of frames told
+
+-- the newest of these pictures has its frame
+abbrev pub HasFrame : (ℕ → Frame) → List CodedPicture → Type 0
+HasFrame frames [] = Unit {0}
+HasFrame frames (p ∷ ps) = IsDecoded frames p ps (frames (length ps))
+
+-- Each picture that has ended has its frame.
+abbrev pub AreDecoded : (ℕ → Frame) → List Told → Type 0
+AreDecoded frames [] = Unit {0}
+AreDecoded frames (Said call ∷ told) = AreDecoded frames told
+AreDecoded frames (Decodes pictures ∷ told) = HasFrame frames pictures × AreDecoded frames told
+AreDecoded frames (Shows e ∷ told) = AreDecoded frames told
+
+-- ---- a sink
+
+-- With these frames a sink took what is told, and the pictures are decoded.
+unfoldable pub took_with : {S : Type 0} → (ℕ → Frame) → (S → List Call → Type 0) → S → List Told → Type 0
+took_with frames took s told = AreDecoded frames told × took s (calls_of frames told)
+
+-- from old to new this was told, whatever was told before
+pub record Tells {S : Type 0} (took : S → List Told → Type 0) (old new : S) (more : List Told) : Type 0 where
+  pub told : (before : List Told) → took old before → took new (before ++ more)
+
+-- only the first of this was told
+pub record TellsFront {S : Type 0} (took : S → List Told → Type 0) (old new : S) (calls : List Told) : Type 0 where
+  pub front : List Told
+  pub rest : List Told
+  pub whole : calls ≡ front ++ rest
+  pub tells : Tells took old new front
+
+-- ---- two families of frames
+
+-- they have the same first frames, so many
+abbrev pub Agree : ℕ → (ℕ → Frame) → (ℕ → Frame) → Type 0
+Agree n frames others = (k : ℕ) → k < n → frames k ≡ others k
+
+-- it is of the first pictures alone, so many
+abbrev pub IsOf : ℕ → Told → Type 0
+IsOf n (Said call) = Unit {0}
+IsOf n (Decodes pictures) = length pictures ≤ n
+IsOf n (Shows e) = e.of.picture < n
+
+abbrev pub AreOf : ℕ → List Told → Type 0
+AreOf n [] = Unit {0}
+AreOf n (t ∷ told) = IsOf n t × AreOf n told

@@ -1,0 +1,52 @@
+//! The bytes of a unit that is read. They are all that judging a unit takes memory for, but for a picture of another format.
+#![tactic(auto)]
+
+ghost use Rattle.std.specs.Prelude.{◌≡◌, true, IfOk, IfErr};
+ghost use Rattle.h264_verify.specs.Units.{is_slice};
+ghost use Rattle.h264_verify.specs.Memory.{reads_slices, is_kind_read, is_read, bytes_of};
+
+use h264_base::{Mode, Stop};
+use h264_rbsp::Rbsp;
+use h264_units::NalUnit;
+use std::alloc::Global;
+
+/// Whether slices are read.
+fn reads_slices(mode: Mode) -> bool
+    ensures { result ≡ reads_slices mode }
+{
+    match mode {
+        Mode::Units => false,
+        Mode::Headers => true,
+        Mode::Full => true,
+    }
+}
+
+/// Whether a unit of this type is a slice.
+fn is_slice(kind: u8) -> bool
+    ensures { result ≡ is_slice kind }
+{
+    kind == 1 || kind == 5
+}
+
+/// Whether a unit of this type is read: a parameter set, or a slice where slices are read.
+fn is_kind_read(mode: Mode, kind: u8) -> bool
+    ensures { result ≡ is_kind_read mode kind }
+{
+    kind == 7 || kind == 8 || is_slice(kind) && reads_slices(mode)
+}
+
+/// The RBSP of a unit that is read in this mode (7.3.1); None for one that is passed over, of which no byte is copied.
+///
+/// Err: Memory alone, and only for a unit that is read.
+pub fn read_bytes(alloc: Global, mode: Mode, unit: &NalUnit) -> Result<Option<Rbsp>, Stop>
+    ensures bytes { IfOk result (λ rbsp. rbsp ≡ bytes_of mode unit.now) }
+    ensures err { IfErr result (λ e. (e ≡ Stop.Memory) × (is_read mode unit.now ≡ true)) }
+{
+    if !is_kind_read(mode, unit.body()[0] % 32) {
+        return Ok(None);
+    }
+    match Rbsp::of(alloc, unit) {
+        Ok(rbsp) => Ok(Some(rbsp)),
+        Err(stop) => Err(stop),
+    }
+}

@@ -1,0 +1,123 @@
+//! The end of a picture, before what ends it.
+#![tactic(auto)]
+
+ghost use Rattle.std.specs.Prelude.{◌≡◌, ℕ, ◌-◌, ◌<◌, ◌≤◌, ◌^◌, false, OnOk, IsErrOf, Ok, [], IfErr, if◌then◌else◌};
+ghost use Rattle.h264_plane.specs.declared.frame.Frame.{Frame};
+ghost use Rattle.h264_verify.specs.History.{History};
+ghost use Rattle.h264_verify.specs.Pictures.{goes_on, runs_of, open_of, closing_demands};
+ghost use Rattle.h264_verify.specs.Keeping.{KeepsSlices, KeepsDecoder, KeepsSomeFrames, close_steps, HoldsData};
+ghost use Rattle.h264_verify.specs.StepOutcome.{steps_outcome};
+ghost use Rattle.h264_verify.specs.Framing.{EndsFrames};
+ghost use Rattle.h264_verify.specs.Demands.{judged};
+ghost use Rattle.h264_verify.specs.Outcome.{IsNamed, answers};
+ghost use Rattle.h264_verify.specs.Closing.{whole_steps};
+ghost use Rattle.h264_verify.specs.Buffering.{closing_frames};
+
+use crate::decoder::Decoder;
+use crate::rules::check;
+use crate::sink::FrameSink;
+use crate::slices::Slices;
+use h264_base::{Mode, Rule, Stop};
+use h264_marking::mark_end;
+use h264_picture::Work;
+
+/// The end of the slice data of the picture that may go on, where they are read and it ends here: all its macroblocks are coded.
+fn end_data_if(mode: Mode, ends: bool, slices: &Slices, work: &Work) -> Result<(), Stop>
+    ensures judged { (before : History) → KeepsSlices before false slices.now → HoldsData mode (open_of (goes_on before) (runs_of before)) work.now →
+        answers result ≡ steps_outcome (if ends then whole_steps mode before else []) }
+    ensures named { IfErr result IsNamed }
+{
+    if !ends {
+        return Ok(());
+    }
+    match mode {
+        Mode::Units => Ok(()),
+        Mode::Headers => Ok(()),
+        Mode::Full => match slices.picture {
+            None => Ok(()),
+            Some(_) => check(work.is_whole(), Rule::Incomplete, slices.behind),
+        },
+    }
+}
+
+/// The end of the picture that may go on, where there is one and it ends here.
+fn end_if(ends: bool, slices: &mut Slices) -> Result<(), Stop>
+    ensures judged { (before : History) → KeepsSlices before false slices.old → result ≡ judged (if ends then closing_demands before else []) }
+    ensures ended { (before : History) → KeepsSlices before false slices.old → OnOk result (KeepsSlices before ends slices.new) }
+    ensures others { slices.new ≡ record slices.old { held = slices.new.held } }
+    ensures no_memory { IsErrOf result Stop.Memory → ⊥ }
+{
+    if !ends {
+        return Ok(());
+    }
+    match &slices.picture {
+        None => Ok(()),
+        Some(picture) => mark_end(
+            &picture.marking,
+            &picture.numbering,
+            slices.pictures.saturating_sub(1),
+            &mut slices.held,
+        ),
+    }
+}
+
+/// The frame of the picture that may go on takes its place, where frames are made and it ends here.
+fn end_frame_if<S: FrameSink>(
+    mode: Mode,
+    ends: bool,
+    slices: &Slices,
+    decoder: &mut Decoder,
+    sink: &mut S,
+) -> Result<(), Stop>
+    requires room { S.failures sink.old < 2 ^ 64 - 1 }
+    requires pictures { slices.now.pictures ≤ 2 ^ 42 }
+    requires kept { KeepsSomeFrames mode ends slices.now decoder.old }
+    ensures ends { (frames : ℕ → Frame) (before : History) → KeepsSlices before ends slices.now →
+        answers (Ok tt) ≡ steps_outcome (if ends then whole_steps mode before else []) →
+        KeepsDecoder mode frames (goes_on before) false (runs_of before) decoder.old →
+        EndsFrames mode S.took S.failures frames (goes_on before) ends (runs_of before)
+        (steps_outcome (if ends then closing_frames mode before else [])) decoder.new sink.old sink.new result }
+    ensures format { decoder.new.format ≡ decoder.old.format }
+    ensures kept { OnOk result (S.failures sink.new ≡ S.failures sink.old) }
+    ensures no_memory { IfErr result (λ e. e ≡ Stop.Write) }
+{
+    if !ends {
+        return Ok(());
+    }
+    match mode {
+        Mode::Units => Ok(()),
+        Mode::Headers => Ok(()),
+        Mode::Full => match &slices.picture {
+            None => Ok(()),
+            Some(picture) => decoder.end(&picture.ended, &slices.held, sink),
+        },
+    }
+}
+
+/// The end of the picture that may go on, where there is one and it ends here: all its macroblocks are coded (7.4.3), it is marked
+/// (8.2.5), and its frame takes its place in the picture buffer (C.4). Err: Incomplete or MarkCommand, with its bit, or Write where the
+/// sink failed.
+pub fn close_if<S: FrameSink>(
+    mode: Mode,
+    ends: bool,
+    slices: &mut Slices,
+    decoder: &mut Decoder,
+    sink: &mut S,
+) -> Result<(), Stop>
+    requires room { S.failures sink.old < 2 ^ 64 - 1 }
+    requires pictures { slices.old.pictures ≤ 2 ^ 42 }
+    requires kept { KeepsSomeFrames mode false slices.old decoder.old }
+    ensures closes { (frames : ℕ → Frame) (before : History) → KeepsSlices before false slices.old →
+        KeepsDecoder mode frames (goes_on before) false (runs_of before) decoder.old →
+        EndsFrames mode S.took S.failures frames (goes_on before) ends (runs_of before)
+        (steps_outcome (close_steps mode ends before)) decoder.new sink.old sink.new result }
+    ensures ended { (before : History) → KeepsSlices before false slices.old → OnOk result (KeepsSlices before ends slices.new) }
+    ensures others { slices.new ≡ record slices.old { held = slices.new.held } }
+    ensures format { decoder.new.format ≡ decoder.old.format }
+    ensures no_memory { IsErrOf result Stop.Memory → ⊥ }
+    ensures kept { OnOk result (S.failures sink.new ≡ S.failures sink.old) }
+{
+    end_data_if(mode, ends, slices, &decoder.work)?;
+    end_if(ends, slices)?;
+    end_frame_if(mode, ends, slices, decoder, sink)
+}

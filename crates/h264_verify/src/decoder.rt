@@ -1,0 +1,267 @@
+//! The frames of a stream's pictures: where they are decoded, and when they are written.
+#![tactic(auto)]
+
+ghost use Rattle.std.specs.Prelude.{◌≡◌};
+ghost use Rattle.h264_verify.specs.Keeping.{format_of};
+
+use crate::sink::FrameSink;
+use h264_base::{Elements, Stop};
+use h264_bits::Bits;
+use h264_dpb::{Ended, Output};
+use h264_header::Header;
+use h264_marking::Held;
+use h264_picture::{Work, buffer_size, slice_samples};
+use h264_pps::Pps;
+use h264_sps::sps::{FrameSize, Sps};
+use h264_vectors::SliceContext;
+use std::alloc::Global;
+
+/// What the frames of a sequence have in common.
+#[derive(Clone, Copy, PartialEq)]
+pub struct Format {
+    /// Their size.
+    pub size: FrameSize,
+    /// How many of them the picture buffer holds: 1 to 16.
+    pub frames: usize,
+}
+
+/// The place in which the pictures of a stream are decoded, and the buffer in which their frames wait.
+#[derive(Drop)]
+pub struct Decoder {
+    /// The macroblocks of the newest picture, and the frames.
+    pub work: Work,
+    /// The frames that wait, and the order in which they are written.
+    pub output: Output,
+    /// What the work has room for.
+    pub format: Option<Format>,
+    /// Where the newest picture is decoded.
+    pub place: usize,
+}
+
+fn format_of(sps: &Sps) -> Format
+    ensures { result ≡ format_of sps.now }
+{
+    Format {
+        size: sps.frame_size,
+        frames: buffer_size(sps),
+    }
+}
+
+impl Decoder {
+    ghost use Rattle.std.specs.Prelude.{◌≡◌, ℕ, ◌+◌, ◌-◌, ◌<◌, ◌≤◌, ◌^◌, ◌⊎◌, true, false, [], ◌∷◌, List, Some, None, length, get_or, Ok, OnOk, IfErr, IsErrOf};
+    ghost use Rattle.h264_base.specs.declared.mode.Mode.{Mode};
+    ghost use Rattle.h264_base.specs.declared.mode.Mode.TheVariants as modes;
+    ghost use Rattle.h264_plane.specs.declared.frame.Frame.{Frame};
+    ghost use Rattle.h264_sets.specs.Usable.{is_usable};
+    ghost use Rattle.h264_near.specs.Coded.{CodedMacroblock};
+    ghost use Rattle.h264_vectors.specs.Agrees.{Usable};
+    ghost use Rattle.h264_mbsyntax.specs.Slice.{slice_data};
+    ghost use Rattle.h264_picture.specs.Levels.{transform_fits};
+    ghost use Rattle.h264_picture.specs.Filter.{slice_filter};
+    ghost use Rattle.h264_picture.specs.Weights.{slice_weights};
+    ghost use Rattle.h264_picture.specs.Places.{lent, first_place, is_active_place, IsReleased, KeepsFrames as KeepsLent};
+    ghost use Rattle.h264_verify.specs.declared.decoder.Format.{Format as FormatView};
+    ghost use Rattle.h264_dpb.specs.Bumping.{missing_in};
+    ghost use Rattle.h264_dpb.specs.Turns.{Turn, turn_then, names, empties, missing_turn, last_turn};
+    ghost use Rattle.h264_dpb.specs.Kept.{KeepsBuffer, size_of};
+    ghost use Rattle.h264_verify.specs.Telling.{took_with};
+    ghost use Rattle.h264_verify.specs.Outcome.{Plays};
+    ghost use Rattle.h264_verify.specs.Pictures.{CodedSlice, CodedPicture, held_after, last_slice, picture_size};
+    ghost use Rattle.h264_verify.specs.Lists.{context_in};
+    ghost use Rattle.h264_verify.specs.Decoding.{number_of};
+    ghost use Rattle.h264_verify.specs.Buffering.{ended_picture, told_frames, end_frames};
+    ghost use Rattle.h264_verify.specs.Keeping.{format_of, HasFormat, IsSized, AreOlder, EntersSome, IsRoomFor, KeepsOutput, FillsFrames};
+    ghost use Rattle.h264_verify.specs.Keeping.{KeepsFrames, KeepsDecoder, KeepsSomeGap, KeepsSomeEnd, EntersFrames, BegunFrames, HoldsBegun, IsNear};
+    ghost use Rattle.h264_verify.specs.Keeping.{HasPlace, SlicesSome};
+    ghost use Rattle.h264_verify.specs.StepOutcome.{steps_outcome, structure_from};
+    ghost use Rattle.h264_verify.specs.Framing.{EndsFrames, ReadsSlice};
+
+    /// Before the first picture. It takes no memory.
+    pub fn new() -> Decoder
+        ensures { (mode : Mode) (frames : ℕ → Frame) → KeepsDecoder mode frames false false [] result }
+    {
+        Decoder {
+            work: Work::new(),
+            output: Output::new(),
+            format: None,
+            place: 0,
+        }
+    }
+
+    /// Room for the pictures of a sequence; another format comes with an IDR picture alone, and takes memory. Memory: it was refused.
+    #[tactic(auto, using(crate::proofs::Reading::usable_size))]
+    fn activate(&mut self, alloc: Global, sps: &Sps) -> Result<(), Stop>
+        requires { is_usable sps.now ≡ true }
+        ensures room { HasFormat self.old.format self.old.work → OnOk result (IsRoomFor (format_of sps.now) self.new.work) }
+        ensures format { OnOk result (self.new.format ≡ Some (format_of sps.now)) }
+        ensures kept { IsReleased self.old.work → OnOk result (KeepsLent self.old.work self.new.work) }
+        ensures others { self.old.format ≡ Some (format_of sps.now) → OnOk result (self.new ≡ self.old) }
+        ensures stands { self.old.format ≡ Some (format_of sps.now) → result ≡ Ok tt }
+        ensures output { self.new.output ≡ self.old.output }
+        ensures sized { IsReleased self.old.work → IsSized self.old.format self.old.output →
+            OnOk result (IsSized self.new.format self.new.output ⊎ AreOlder self.old.work self.new.work) }
+        ensures err { IfErr result (λ e. e ≡ Stop.Memory) }
+    {
+        let format = format_of(sps);
+        if self.format == Some(format) {
+            return Ok(());
+        }
+        self.work.activate(alloc, sps)?;
+        self.format = Some(format);
+        Ok(())
+    }
+
+    /// Begins a picture at a place where no frame of the buffer stands (C.4.4), with the places of its sequence where it is the first of one.
+    ///
+    /// Err: Memory alone, where a growth was refused; never where the format stands.
+    pub fn begin(&mut self, alloc: Global, sps: &Sps) -> Result<(), Stop>
+        requires usable { is_usable sps.now ≡ true }
+        requires kept { EntersSome self.old }
+        ensures begins { (frames : ℕ → Frame) (slice : CodedSlice) (pictures : List CodedPicture) → slice.sps ≡ sps.now →
+            EntersFrames frames slice pictures self.old → OnOk result (BegunFrames frames slice pictures self.new) }
+        ensures stands { self.old.format ≡ Some (format_of sps.now) → result ≡ Ok tt }
+        ensures err { IfErr result (λ e. e ≡ Stop.Memory) }
+    {
+        self.activate(alloc, sps)?;
+        let first = self.work.first_place();
+        let Some(place) = self.output.free_place(first, self.work.places()) else {
+            unreachable!()
+        };
+        self.work.begin(place);
+        self.place = place;
+        Ok(())
+    }
+
+    /// The place of a reference picture: one of the sequence's.
+    fn place_of(&self, picture: u64) -> u8
+        requires { HasPlace self.now picture }
+        ensures { IsNear self.now picture result }
+    {
+        let first = self.work.first_place();
+        let Some(place) = self.output.place_of(picture) else {
+            unreachable!()
+        };
+        prove!(place < first + 17);
+        place as u8
+    }
+
+    /// The places of reference pictures by refIdxL0; 0 where there is none.
+    fn places(&self, references: &[Option<u64>; 16]) -> [u8; 16]
+        requires { (k n : ℕ) → k < 16 → get_or references.now k None ≡ Some n → HasPlace self.now n }
+        ensures { (k n : ℕ) → k < 16 → get_or references.now k None ≡ Some n → IsNear self.now n (get_or result k 0) }
+    {
+        let mut places = [0u8; 16];
+        for k in 0..16 {
+            if let Some(picture) = references[k] {
+                places[k] = self.place_of(picture);
+            }
+        }
+        places
+    }
+
+    /// Reads the slice data of a slice of the picture that was begun, whose reference pictures have places (7.3.4, 8.3 to 8.7). Takes no memory.
+    ///
+    /// Err: the first rule of slice data that is not met, at its element's bit, or Write where the sink failed.
+    pub fn slice<S: Elements>(
+        &mut self,
+        bits: &mut Bits,
+        slice: &SliceContext,
+        pps: &Pps,
+        header: &Header,
+        sink: &mut S,
+    ) -> Result<(), Stop>
+        requires usable { Usable slice.now }
+        requires qp { slice.now.qp ≤ 51 }
+        requires room { S.failures sink.old < 2 ^ 64 - 1 }
+        requires kept { SlicesSome slice.now.number slice.now.references self.old }
+        ensures reads { (frames : ℕ → Frame) (p : CodedPicture) (ps : List CodedPicture) (slices : List CodedSlice) (s : CodedSlice)
+            (macroblocks : List CodedMacroblock) (t : Turn) → slice.now ≡ context_in (p ∷ ps) s →
+            slice_filter pps.now header.now ≡ slice_filter s.pps s.header → slice_weights header.now ≡ slice_weights s.header →
+            number_of s ≡ length macroblocks → s.pps ≡ p.first.pps → KeepsOutput frames t (length ps) self.old →
+            HoldsBegun frames p ps slices macroblocks self.old → ReadsSlice S.took S.failures frames
+            (structure_from (slice_data (transform_fits slice.now) p.first.sps.frame_size.width (picture_size p.first.sps) slice.now macroblocks)
+            bits.old.body bits.old.at) (λ ms. HoldsBegun frames p ps (s ∷ slices) ms self.new × KeepsOutput frames t (length ps) self.new) sink.old
+            sink.new result }
+        ensures no_memory { IsErrOf result Stop.Memory → ⊥ }
+        ensures kept { OnOk result (S.failures sink.new ≡ S.failures sink.old) }
+    {
+        let places = self.places(&slice.references);
+        self.work
+            .slice(bits, slice, &slice_samples(pps, header, places), sink)
+    }
+
+    /// Lets go of the frames of the sequence before, after a picture that emptied the buffer.
+    fn settle(&mut self, picture: &Ended)
+        ensures released { empties picture.now ≡ true → IsReleased self.new.work }
+        ensures stays { empties picture.now ≡ false → self.new ≡ self.old }
+        ensures kept { (p : ℕ) → is_active_place (first_place self.old.work) p ≡ true → lent self.new.work p ≡ lent self.old.work p }
+        ensures room { (f : FormatView) → IsRoomFor f self.old.work → IsRoomFor f self.new.work }
+        ensures others { self.new ≡ record self.old { work = self.new.work } }
+    {
+        if picture.idr || picture.resets {
+            self.work.release();
+        }
+    }
+
+    /// The end of the picture that was begun, once it is marked and these frames are held: it is decoded, frames make way for it, and it takes its
+    /// place in the picture buffer (C.4.4, C.4.5.1 to C.4.5.3).
+    ///
+    /// Err: Write alone, where the sink failed.
+    pub fn end<S: FrameSink>(
+        &mut self,
+        picture: &Ended,
+        held: &Held,
+        sink: &mut S,
+    ) -> Result<(), Stop>
+        requires room { S.failures sink.old < 2 ^ 64 - 1 }
+        requires few { picture.now.picture < 2 ^ 62 }
+        requires kept { KeepsSomeEnd picture.now held.now self.old }
+        ensures ends { (frames : ℕ → Frame) (p : CodedPicture) (ps : List CodedPicture) → picture.now ≡ ended_picture p ps →
+            held.now ≡ held_after (p ∷ ps) → length (last_slice p).macroblocks ≡ picture_size p.first.sps →
+            KeepsFrames frames true false (p ∷ ps) self.old → EndsFrames modes.Full S.took S.failures frames true true (p ∷ ps)
+            (steps_outcome (end_frames modes.Full (p ∷ ps))) self.new sink.old sink.new result }
+        ensures format { self.new.format ≡ self.old.format }
+        ensures kept { OnOk result (S.failures sink.new ≡ S.failures sink.old) }
+        ensures no_memory { IfErr result (λ e. e ≡ Stop.Write) }
+    {
+        self.work.end();
+        self.output.make_way(picture, &self.work, sink)?;
+        self.settle(picture);
+        self.output
+            .store(picture, self.place, held, &self.work, sink)
+    }
+
+    /// The frame of a missing frame_num, where these frames are held with it. Write: the sink failed.
+    pub(crate) fn miss<S: FrameSink>(&mut self, held: &Held, sink: &mut S) -> Result<(), Stop>
+        requires room { S.failures sink.old < 2 ^ 64 - 1 }
+        requires missing { 0 < missing_in (names held.now) }
+        requires few { length held.now.frames ≤ size_of self.old.output }
+        requires kept { KeepsSomeGap modes.Full self.old }
+        ensures plays { (frames : ℕ → Frame) (t : Turn) (next : ℕ) → FillsFrames frames t next self.old →
+            Plays (took_with frames S.took) S.failures (λ x. x) (steps_outcome (told_frames modes.Full (missing_turn held.now t.buffer).written))
+            sink.old sink.new result }
+        ensures keeps { (frames : ℕ → Frame) (t : Turn) (next : ℕ) → FillsFrames frames t next self.old →
+            OnOk result (FillsFrames frames (turn_then t (missing_turn held.now)) next self.new) }
+        ensures sized { size_of self.new.output ≡ size_of self.old.output }
+        ensures format { self.new.format ≡ self.old.format }
+        ensures kept { OnOk result (S.failures sink.new ≡ S.failures sink.old) }
+        ensures no_memory { IfErr result (λ e. e ≡ Stop.Write) }
+    {
+        self.output.miss(held, &self.work, sink)
+    }
+
+    /// The end of the input: all frames that wait are written (C.4.5.3). Write: the sink failed.
+    pub fn finish<S: FrameSink>(&mut self, sink: &mut S) -> Result<(), Stop>
+        requires room { S.failures sink.old < 2 ^ 64 - 1 }
+        requires kept { KeepsSomeGap modes.Full self.old }
+        ensures plays { (frames : ℕ → Frame) (t : Turn) (next : ℕ) → FillsFrames frames t next self.old →
+            Plays (took_with frames S.took) S.failures (λ x. x) (steps_outcome (told_frames modes.Full (last_turn t.buffer).written)) sink.old
+            sink.new result }
+        ensures written { (frames : ℕ → Frame) (t : Turn) (next : ℕ) → FillsFrames frames t next self.old →
+            OnOk result (KeepsBuffer (last_turn t.buffer).buffer (length t.written + length (last_turn t.buffer).written) self.new.output) }
+        ensures others { self.new ≡ record self.old { output = self.new.output } }
+        ensures no_memory { IfErr result (λ e. e ≡ Stop.Write) }
+    {
+        self.output.finish(&self.work, sink)
+    }
+}

@@ -1,0 +1,207 @@
+//! frame_num of a slice, and the frames that are missing before its picture (7.4.3, 8.2.5.2).
+#![tactic(auto)]
+
+ghost use Rattle.std.specs.Prelude.{◌≡◌, ℕ, ◌+◌, ◌-◌, ◌%◌, ◌<◌, ◌≤◌, ◌^◌, ◌&&◌, ◌||◌, not, ◌==◌, true, false, length, [], ◌∷◌, Some, None, Ok, Err};
+ghost use Rattle.std.specs.Prelude.{OnOk, IfOk, IfErr, IsErrOf, if◌then◌else◌};
+ghost use Rattle.h264_header.specs.Layout.{has_lengths};
+ghost use Rattle.std.specs.Prelude.{List};
+ghost use Rattle.h264_plane.specs.declared.frame.Frame.{Frame};
+ghost use Rattle.h264_dpb.specs.Bumping.{missing_in};
+ghost use Rattle.h264_dpb.specs.Kept.{size_of};
+ghost use Rattle.h264_marking.specs.Frames.{frame_places};
+ghost use Rattle.h264_dpb.specs.Turns.{Turn, turn_then, names, missing_turn};
+ghost use Rattle.h264_base.specs.declared.rule.Rule.TheVariants.{FrameNum};
+ghost use Rattle.h264_base.specs.declared.stop.Stop.TheVariants.{No};
+ghost use Rattle.h264_marking.specs.Gaps.{is_new_num, entered, numbers_from, last_or, all_filled, unused_short_term_frame_nums};
+ghost use Rattle.h264_verify.specs.Telling.{took_with};
+ghost use Rattle.h264_verify.specs.Outcome.{Plays};
+ghost use Rattle.h264_verify.specs.Buffering.{told_frames, gaps_turn, missing_steps};
+ghost use Rattle.h264_verify.specs.Keeping.{KeepsGap, KeepsSomeGap, HasPlaces, GoesWith};
+ghost use Rattle.h264_verify.specs.StepOutcome.{steps_outcome};
+ghost use Rattle.h264_verify.specs.Demands.{judged};
+ghost use Rattle.h264_verify.specs.Pictures.{prev_ref_frame_num_behind};
+ghost use Rattle.h264_header.specs.Picture.{is_idr, is_reference};
+ghost use Rattle.h264_marking.specs.Ended.{resets, numbering_of};
+ghost use Rattle.h264_verify.specs.Slices.{idr_num_demand, gap_rules};
+
+use crate::decoder::Decoder;
+use crate::rules::check;
+use crate::sink::FrameSink;
+use h264_base::{Mode, Rule, Stop};
+use h264_header::Header;
+use h264_marking::gaps::{gap_before, is_new_num};
+use h264_marking::{Held, Numbering, numbering_of, resets};
+use h264_sps::sps::Sps;
+
+/// PrevRefFrameNum after a picture, where `last` is the last missing number, or the one before.
+fn prev_ref_behind(reference: bool, resets: bool, frame_num: u32, last: u32) -> u32
+    ensures { result ≡ (if reference then (if resets then 0 else frame_num) else last) }
+{
+    if !reference {
+        return last;
+    }
+    if resets {
+        return 0;
+    }
+    frame_num
+}
+
+/// The rule on frame_num of an IDR picture's slices.
+pub(crate) fn check_idr_num(header: &Header) -> Result<(), Stop>
+    ensures { result ≡ judged (idr_num_demand header.now ∷ []) }
+{
+    let fits = header.idr_pic_id.is_none() || header.frame_num.value == 0;
+    check(fits, Rule::FrameNum, header.frame_num.bit)
+}
+
+/// The number after this one.
+fn successor(number: u32, max_frame_num: u32) -> u32
+    requires { 0 < max_frame_num }
+    ensures { result ≡ (number + 1) % max_frame_num }
+{
+    ((number as u64 + 1) % max_frame_num as u64) as u32
+}
+
+/// The frame of a missing number takes its place, where frames are made.
+#[tactic(auto, unfolding(crate::specs::Keeping::KeepsGap))]
+fn miss<S: FrameSink>(
+    mode: Mode,
+    held: &Held,
+    decoder: &mut Decoder,
+    sink: &mut S,
+) -> Result<(), Stop>
+    requires room { S.failures sink.old < 2 ^ 64 - 1 }
+    requires missing { 0 < missing_in (names held.now) }
+    requires few { HasPlaces mode (length held.now.frames) decoder.old }
+    requires kept { KeepsSomeGap mode decoder.old }
+    ensures plays { (frames : ℕ → Frame) (t : Turn) (next : ℕ) → KeepsGap mode frames t next decoder.old →
+        Plays (took_with frames S.took) S.failures (λ x. x) (steps_outcome (told_frames mode (missing_turn held.now t.buffer).written)) sink.old
+        sink.new result }
+    ensures keeps { (frames : ℕ → Frame) (t : Turn) (next : ℕ) → KeepsGap mode frames t next decoder.old →
+        OnOk result (KeepsGap mode frames (turn_then t (missing_turn held.now)) next decoder.new) }
+    ensures no_memory { IfErr result (λ e. e ≡ Stop.Write) }
+    ensures sized { size_of decoder.new.output ≡ size_of decoder.old.output }
+    ensures format { decoder.new.format ≡ decoder.old.format }
+    ensures kept { OnOk result (S.failures sink.new ≡ S.failures sink.old) }
+{
+    match mode {
+        Mode::Units => Ok(()),
+        Mode::Headers => Ok(()),
+        Mode::Full => decoder.miss(held, sink),
+    }
+}
+
+/// Fills so many numbers after `prev`, one after another (8.2.5.2), and gives the last of them, or `prev` where there is none.
+fn fill_frames<S: FrameSink>(
+    mode: Mode,
+    prev: u32,
+    count: u32,
+    numbering: &Numbering,
+    bit: u64,
+    held: &mut Held,
+    decoder: &mut Decoder,
+    sink: &mut S,
+) -> Result<u32, Stop>
+    requires room { S.failures sink.old < 2 ^ 64 - 1 }
+    requires numbers { 0 < numbering.now.max_frame_num }
+    requires few { 0 < count → length held.old.frames ≤ frame_places numbering.now.max_num_ref_frames }
+    requires places { 0 < count → HasPlaces mode (frame_places numbering.now.max_num_ref_frames) decoder.old }
+    requires kept { KeepsSomeGap mode decoder.old }
+    ensures plays { (frames : ℕ → Frame) (t : Turn) (next : ℕ) → KeepsGap mode frames t next decoder.old →
+        Plays (took_with frames S.took) S.failures (λ _. tt) (steps_outcome
+        (missing_steps mode bit numbering.now (numbers_from count ((prev + 1) % numbering.now.max_frame_num) numbering.now.max_frame_num) held.old
+        t.buffer)) sink.old sink.new result }
+    ensures keeps { (frames : ℕ → Frame) (t : Turn) (next : ℕ) → KeepsGap mode frames t next decoder.old →
+        OnOk result (KeepsGap mode frames (turn_then t (gaps_turn numbering.now
+        (numbers_from count ((prev + 1) % numbering.now.max_frame_num) numbering.now.max_frame_num) held.old)) next decoder.new) }
+    ensures no_memory { IsErrOf result Stop.Memory → ⊥ }
+    ensures format { decoder.new.format ≡ decoder.old.format }
+    ensures last { IfOk result (λ last. last ≡ last_or prev (numbers_from count ((prev + 1) % numbering.now.max_frame_num) numbering.now.max_frame_num)) }
+    ensures held { OnOk result (all_filled numbering.now (numbers_from count ((prev + 1) % numbering.now.max_frame_num) numbering.now.max_frame_num)
+        held.old ≡ Some held.new) }
+    ensures kept { OnOk result (S.failures sink.new ≡ S.failures sink.old) }
+{
+    let mut last = prev;
+    for _turn in 0..count {
+        let missing = Numbering {
+            frame_num: successor(last, numbering.max_frame_num),
+            max_frame_num: numbering.max_frame_num,
+            max_num_ref_frames: numbering.max_num_ref_frames,
+        };
+        held.fill_gap(&missing, bit)?;
+        miss(mode, held, decoder, sink)?;
+        last = missing.frame_num;
+    }
+    Ok(last)
+}
+
+/// The rule on a gap of so many numbers: there is none, or there may be gaps.
+fn check_missing(gap: u32, gaps_allowed: bool, bit: u64) -> Result<(), Stop>
+    ensures { result ≡ (if gap == 0 || gaps_allowed then Ok tt else Err (No bit FrameNum)) }
+{
+    let may_miss = gap == 0 || gaps_allowed;
+    check(may_miss, Rule::FrameNum, bit)
+}
+
+/// The rule on the number of a reference picture that is no IDR picture, once the gap is filled.
+fn check_new(
+    idr: bool,
+    reference: bool,
+    prev: u32,
+    frame_num: u32,
+    held: &Held,
+    bit: u64,
+) -> Result<(), Stop>
+    ensures { result ≡ (if idr || not reference || is_new_num prev frame_num held.now then Ok tt else Err (No bit FrameNum)) }
+{
+    let is_new = idr || !reference || is_new_num(prev, frame_num, held);
+    check(is_new, Rule::FrameNum, bit)
+}
+
+/// The rules on a picture's frame_num, and what the picture leaves of the numbers before it: the gap is filled.
+pub(crate) fn check_gap<S: FrameSink>(
+    mode: Mode,
+    sps: &Sps,
+    header: &Header,
+    prev_ref_frame_num: &mut u32,
+    held: &mut Held,
+    decoder: &mut Decoder,
+    sink: &mut S,
+) -> Result<(), Stop>
+    requires lengths { has_lengths sps.now ≡ true }
+    requires room { S.failures sink.old < 2 ^ 64 - 1 }
+    requires goes { is_idr header.now ≡ false → GoesWith mode sps.now held.old decoder.old }
+    requires kept { KeepsSomeGap mode decoder.old }
+    ensures plays { (frames : ℕ → Frame) (t : Turn) (next : ℕ) → KeepsGap mode frames t next decoder.old →
+        Plays (took_with frames S.took) S.failures (λ x. x) (steps_outcome
+        (gap_rules mode (is_idr header.now) (is_reference header.now) sps.now.gaps_in_frame_num_value_allowed_flag header.now.frame_num.bit
+        prev_ref_frame_num.old (numbering_of sps.now header.now) held.old t.buffer)) sink.old sink.new result }
+    ensures keeps { (frames : ℕ → Frame) (t : Turn) (next : ℕ) → KeepsGap mode frames t next decoder.old →
+        OnOk result (KeepsGap mode frames (turn_then t (gaps_turn (numbering_of sps.now header.now)
+        (unused_short_term_frame_nums (is_idr header.now) prev_ref_frame_num.old (numbering_of sps.now header.now)) held.old)) next decoder.new) }
+    ensures no_memory { IsErrOf result Stop.Memory → ⊥ }
+    ensures format { decoder.new.format ≡ decoder.old.format }
+    ensures held { OnOk result (held.new ≡ entered (is_idr header.now) prev_ref_frame_num.old (numbering_of sps.now header.now) held.old) }
+    ensures filled { OnOk result (all_filled (numbering_of sps.now header.now)
+        (unused_short_term_frame_nums (is_idr header.now) prev_ref_frame_num.old (numbering_of sps.now header.now)) held.old ≡ Some held.new) }
+    ensures prev { OnOk result (prev_ref_frame_num.new ≡ prev_ref_frame_num_behind (is_idr header.now) (is_reference header.now)
+        (resets header.now.marking) (numbering_of sps.now header.now) prev_ref_frame_num.old) }
+    ensures kept { OnOk result (S.failures sink.new ≡ S.failures sink.old) }
+{
+    let idr = header.idr_pic_id.is_some();
+    let reference = header.nal_ref_idc != 0;
+    let bit = header.frame_num.bit;
+    let prev = *prev_ref_frame_num;
+    let numbering = numbering_of(sps, header);
+    let gap = gap_before(idr, prev, &numbering);
+    check_missing(gap, sps.gaps_in_frame_num_value_allowed_flag, bit)?;
+    let last = fill_frames(mode, prev, gap, &numbering, bit, held, decoder, sink)?;
+    check_new(idr, reference, prev, numbering.frame_num, held, bit)?;
+    *prev_ref_frame_num = prev_ref_behind(
+        reference,
+        resets(&header.marking),
+        numbering.frame_num,
+        last,
+    );
+    Ok(())
+}

@@ -1,0 +1,426 @@
+//! The slices so far, the pictures that they begin, and the rules that a slice meets beside its own syntax.
+#![tactic(auto)]
+
+ghost use Rattle.std.specs.Prelude.{◌≡◌, ℕ, Bool, false, ◌==◌, ◌||◌, ◌+◌, ◌-◌, ◌*◌, ◌<◌, ◌≤◌, ◌^◌, true, Some, List, [], ◌∷◌, if◌then◌else◌, OnOk, IsErrOf};
+ghost use Rattle.h264_base.specs.Call.{OfSlice};
+ghost use Rattle.h264_header.specs.Layout.{has_lengths};
+ghost use Rattle.h264_marking.specs.Gaps.{entered, all_filled, unused_short_term_frame_nums};
+ghost use Rattle.h264_near.specs.Coded.{CodedMacroblock};
+ghost use Rattle.h264_poc.specs.declared.picture.Picture.{Picture};
+ghost use Rattle.h264_poc.specs.Counts.{Keeps as KeepsCounts};
+ghost use Rattle.h264_verify.specs.Outcome.{Plays, tells};
+ghost use Rattle.h264_verify.specs.Demands.{judged};
+ghost use Rattle.h264_verify.specs.History.{History};
+ghost use Rattle.h264_plane.specs.declared.frame.Frame.{Frame};
+ghost use Rattle.h264_dpb.specs.Turns.{Turn, turn_then};
+ghost use Rattle.h264_verify.specs.Telling.{Said, took_with};
+ghost use Rattle.h264_verify.specs.Buffering.{gaps_turn, ended_picture, frame_count, newest_count};
+ghost use Rattle.h264_verify.specs.Keeping.{KeepsSlices, KeepsDecoder, KeepsGap, KeepsSomeGap, GoesWith, KeepsSomeRules, EntersDecoder, HoldsEnd};
+ghost use Rattle.h264_verify.specs.Keeping.{HoldsOpen, IsLeft, first_by, later_by, slice_rules, told_rules, KeepsPictures, Entered, is_typed};
+ghost use Rattle.h264_verify.specs.StepOutcome.{steps_outcome};
+ghost use Rattle.h264_units.specs.Stream.{NalUnit as UnitView};
+ghost use Rattle.h264_verify.specs.Pictures.{CodedSlice, CodedPicture, open_of, joined_to, runs_of, with_sets, goes_on, bit_behind};
+ghost use Rattle.h264_verify.specs.Pictures.{prev_ref_frame_num_behind, begins_at, begins_after, ends_picture};
+ghost use Rattle.h264_poc.specs.OfSlice.{picture_of};
+ghost use Rattle.h264_marking.specs.Ended.{numbering_of, resets};
+ghost use Rattle.h264_header.specs.Picture.{is_idr, is_reference};
+ghost use Rattle.h264_verify.specs.Slices.{type_of, idr_id, id_demand, count_demand, qp_demand, list_demand};
+ghost use Rattle.h264_verify.specs.Lists.{list_of};
+
+use crate::decoder::Decoder;
+use crate::frame_num::{check_gap, check_idr_num};
+use crate::picture::{OpenPicture, begin, go_on};
+use crate::rules::{
+    check_id, check_list, check_marking, check_qp, check_same_type, check_type, idr_id,
+};
+use crate::sink::FrameSink;
+use h264_base::{Failed, Mode, SliceType, Stop};
+use h264_dpb::{Ended, ended_of};
+use h264_header::{Header, SliceKind};
+use h264_marking::{Held, Numbering, numbering_of};
+use h264_picture::buffer_size;
+use h264_poc::{Count, Counts, picture_of};
+use h264_pps::Pps;
+use h264_sps::sps::Sps;
+use h264_units::NalUnit;
+
+/// What is kept of the slices so far.
+#[derive(Drop)]
+pub struct Slices {
+    /// The picture to which more slices may come.
+    pub picture: Option<OpenPicture>,
+    /// An IDR picture is due.
+    pub due: bool,
+    /// idr_pic_id of the newest picture, where it is an IDR picture.
+    pub newest_idr: Option<u32>,
+    /// What the picture order counts of the next picture depend on.
+    pub counts: Counts,
+    /// The counts of the newest picture.
+    pub count: Option<Count>,
+    /// How many pictures have begun.
+    pub pictures: u64,
+    /// The first stream bit after the last slice's unit.
+    pub behind: u64,
+    /// PrevRefFrameNum after the newest picture.
+    pub prev_ref_frame_num: u32,
+    /// The reference frames.
+    pub held: Held,
+}
+
+fn type_of(kind: &SliceKind) -> SliceType
+    ensures { result ≡ type_of kind.now }
+{
+    match kind {
+        SliceKind::I => SliceType::I,
+        SliceKind::P(_) => SliceType::P,
+    }
+}
+
+/// The counts of a picture.
+fn count_picture(
+    sps: &Sps,
+    header: &Header,
+    bit: u64,
+    counts: &mut Counts,
+    count: &mut Option<Count>,
+) -> Result<(), Stop>
+    requires { has_lengths sps.now ≡ true }
+    ensures judged { (pictures : List Picture) → KeepsCounts pictures counts.old →
+        result ≡ judged (count_demand (picture_of sps.now header.now ∷ pictures) bit ∷ []) }
+    ensures kept { (pictures : List Picture) → KeepsCounts pictures counts.old →
+        OnOk result (KeepsCounts (picture_of sps.now header.now ∷ pictures) counts.new) }
+    ensures count { (pictures : List Picture) → KeepsCounts pictures counts.old →
+        OnOk result (count.new ≡ newest_count (picture_of sps.now header.now ∷ pictures)) }
+    ensures no_memory { IsErrOf result Stop.Memory → ⊥ }
+{
+    let next = counts.next(&picture_of(sps, header), bit)?;
+    *count = Some(next);
+    Ok(())
+}
+
+/// The rules of a picture's first slice after those on its frame_num, once the missing frames are held: on idr_pic_id, counts, QP and list.
+fn check_new_picture(
+    slices: &mut Slices,
+    pps: &Pps,
+    sps: &Sps,
+    header: &Header,
+    bit: u64,
+) -> Result<(), Stop>
+    requires { has_lengths sps.now ≡ true }
+    ensures judged { (pictures : List Picture) → KeepsCounts pictures slices.old.counts →
+        result ≡ judged (id_demand slices.old.newest_idr header.now ∷ count_demand (picture_of sps.now header.now ∷ pictures) bit ∷
+        qp_demand pps.now header.now ∷ list_demand (list_of header.now.kind.value (numbering_of sps.now header.now) slices.old.held) ∷ []) }
+    ensures no_memory { IsErrOf result Stop.Memory → ⊥ }
+    ensures counts { (pictures : List Picture) → KeepsCounts pictures slices.old.counts →
+        OnOk result (KeepsCounts (picture_of sps.now header.now ∷ pictures) slices.new.counts) }
+    ensures count { (pictures : List Picture) → KeepsCounts pictures slices.old.counts →
+        OnOk result (slices.new.count ≡ newest_count (picture_of sps.now header.now ∷ pictures)) }
+    ensures others { slices.new ≡ record slices.old { counts = slices.new.counts; count = slices.new.count } }
+{
+    check_id(slices.newest_idr, header)?;
+    count_picture(sps, header, bit, &mut slices.counts, &mut slices.count)?;
+    check_qp(pps, header)?;
+    check_list(&header.kind.value, &numbering_of(sps, header), &slices.held)
+}
+
+/// The rules of a picture's first slice from its type on, where the picture before has ended; and what the picture leaves.
+fn check_first_slice<S: FrameSink>(
+    mode: Mode,
+    slices: &mut Slices,
+    pps: &Pps,
+    sps: &Sps,
+    header: &Header,
+    bit: u64,
+    decoder: &mut Decoder,
+    sink: &mut S,
+) -> Result<(), Stop>
+    requires lengths { has_lengths sps.now ≡ true }
+    requires room { S.failures sink.old < 2 ^ 64 - 1 }
+    requires goes { is_idr header.now ≡ false → GoesWith mode sps.now slices.old.held decoder.old }
+    requires kept { KeepsSomeGap mode decoder.old }
+    ensures plays { (frames : ℕ → Frame) (t : Turn) (next : ℕ) (pictures : List Picture) → KeepsGap mode frames t next decoder.old →
+        KeepsCounts pictures slices.old.counts → Plays (took_with frames S.took) S.failures (λ x. x)
+        (steps_outcome (first_by mode slices.old pictures t.buffer pps.now sps.now header.now bit)) sink.old sink.new result }
+    ensures gap { (frames : ℕ → Frame) (t : Turn) (next : ℕ) → KeepsGap mode frames t next decoder.old →
+        OnOk result (KeepsGap mode frames (turn_then t (gaps_turn (numbering_of sps.now header.now)
+        (unused_short_term_frame_nums (is_idr header.now) slices.old.prev_ref_frame_num (numbering_of sps.now header.now)) slices.old.held)) next
+        decoder.new) }
+    ensures no_memory { IsErrOf result Stop.Memory → ⊥ }
+    ensures format { decoder.new.format ≡ decoder.old.format }
+    ensures counts { (pictures : List Picture) → KeepsCounts pictures slices.old.counts →
+        OnOk result (KeepsCounts (picture_of sps.now header.now ∷ pictures) slices.new.counts) }
+    ensures count { (pictures : List Picture) → KeepsCounts pictures slices.old.counts →
+        OnOk result (slices.new.count ≡ newest_count (picture_of sps.now header.now ∷ pictures)) }
+    ensures held { OnOk result (slices.new.held ≡ entered (is_idr header.now) slices.old.prev_ref_frame_num
+        (numbering_of sps.now header.now) slices.old.held) }
+    ensures filled { OnOk result (all_filled (numbering_of sps.now header.now)
+        (unused_short_term_frame_nums (is_idr header.now) slices.old.prev_ref_frame_num (numbering_of sps.now header.now)) slices.old.held ≡ Some
+        slices.new.held) }
+    ensures typed { OnOk result (is_typed header.now ≡ true) }
+    ensures prev { OnOk result (slices.new.prev_ref_frame_num ≡ prev_ref_frame_num_behind (is_idr header.now) (is_reference header.now)
+        (resets header.now.marking) (numbering_of sps.now header.now) slices.old.prev_ref_frame_num) }
+    ensures others { slices.new ≡ record slices.old {
+      counts = slices.new.counts;
+      count = slices.new.count;
+      prev_ref_frame_num =
+          slices.new.prev_ref_frame_num;
+      held = slices.new.held;
+    } }
+    ensures kept { OnOk result (S.failures sink.new ≡ S.failures sink.old) }
+{
+    check_type(sps, header)?;
+    check_idr_num(header)?;
+    check_gap(
+        mode,
+        sps,
+        header,
+        &mut slices.prev_ref_frame_num,
+        &mut slices.held,
+        decoder,
+        sink,
+    )?;
+    check_new_picture(slices, pps, sps, header, bit)
+}
+
+/// The rules of a picture's later slice from its type on.
+fn check_later_slice(slices: &Slices, pps: &Pps, sps: &Sps, header: &Header) -> Result<(), Stop>
+    requires { has_lengths sps.now ≡ true }
+    ensures judged { result ≡ judged (later_by slices.now pps.now sps.now header.now) }
+    ensures typed { OnOk result (is_typed header.now ≡ true) }
+    ensures no_memory { IsErrOf result Stop.Memory → ⊥ }
+{
+    check_type(sps, header)?;
+    check_same_type(&slices.picture, header)?;
+    check_idr_num(header)?;
+    check_qp(pps, header)?;
+    check_list(&header.kind.value, &numbering_of(sps, header), &slices.held)?;
+    check_marking(&slices.picture, header)
+}
+
+/// The rules of a slice from its type on, and what a picture that begins leaves.
+fn check_rules<S: FrameSink>(
+    mode: Mode,
+    slices: &mut Slices,
+    begins: bool,
+    pps: &Pps,
+    sps: &Sps,
+    header: &Header,
+    bit: u64,
+    decoder: &mut Decoder,
+    sink: &mut S,
+) -> Result<(), Stop>
+    requires lengths { has_lengths sps.now ≡ true }
+    requires room { S.failures sink.old < 2 ^ 64 - 1 }
+    requires pictures { slices.old.pictures < 2 ^ 42 }
+    requires goes { begins ≡ true → is_idr header.now ≡ false → GoesWith mode sps.now slices.old.held decoder.old }
+    requires kept { KeepsSomeRules mode begins slices.old decoder.old }
+    ensures plays { (frames : ℕ → Frame) (before : History) (unit : UnitView) → bit ≡ 8 * unit.from → KeepsSlices before begins slices.old →
+        begins ≡ begins_at before header.now → KeepsDecoder mode frames (goes_on before) begins (runs_of before) decoder.old →
+        Plays (took_with frames S.took) S.failures (λ x. x) (steps_outcome
+        (slice_rules mode begins (runs_of before) (with_sets unit header.now [] (pps.now, sps.now)))) sink.old sink.new result }
+    ensures entered { (before : History) (unit : UnitView) (macroblocks : List CodedMacroblock) → bit ≡ 8 * unit.from →
+        KeepsSlices before begins slices.old → begins ≡ begins_at before header.now →
+        OnOk result (Entered before begins (with_sets unit header.now macroblocks (pps.now, sps.now)) slices.new) }
+    ensures frames { (frames : ℕ → Frame) (before : History) (unit : UnitView) → KeepsSlices before begins slices.old →
+        begins ≡ begins_at before header.now → KeepsDecoder mode frames (goes_on before) begins (runs_of before) decoder.old →
+        OnOk result (EntersDecoder mode frames begins (with_sets unit header.now [] (pps.now, sps.now)) (goes_on before) (runs_of before) decoder.new) }
+    ensures filled { begins ≡ true → OnOk result (all_filled (numbering_of sps.now header.now)
+        (unused_short_term_frame_nums (is_idr header.now) slices.old.prev_ref_frame_num (numbering_of sps.now header.now)) slices.old.held ≡ Some
+        slices.new.held) }
+    ensures typed { OnOk result (is_typed header.now ≡ true) }
+    ensures format { decoder.new.format ≡ decoder.old.format }
+    ensures pictures { slices.new.pictures ≡ slices.old.pictures }
+    ensures no_memory { IsErrOf result Stop.Memory → ⊥ }
+    ensures kept { OnOk result (S.failures sink.new ≡ S.failures sink.old) }
+{
+    if begins {
+        check_first_slice(mode, slices, pps, sps, header, bit, decoder, sink)
+    } else {
+        check_later_slice(slices, pps, sps, header)
+    }
+}
+
+/// The first stream bit after a unit.
+fn bit_behind(unit: &NalUnit) -> u64
+    ensures { result ≡ bit_behind unit.now }
+{
+    8 * (unit.from() + unit.body().len() as u64)
+}
+
+/// Tells a slice of a picture with these counts.
+fn tell_slice<S: FrameSink>(
+    byte: u64,
+    header: &Header,
+    count: Option<Count>,
+    sink: &mut S,
+) -> Result<(), Stop>
+    requires { S.failures sink.old < 2 ^ 64 - 1 }
+    ensures plays { (frames : ℕ → Frame) → Plays (took_with frames S.took) S.failures (λ x. x)
+        (tells (Said (OfSlice byte header.now.first_mb_in_slice.value (type_of header.now.kind.value) header.now.frame_num.value
+        (frame_count count)))) sink.old sink.new result }
+    ensures no_memory { IsErrOf result Stop.Memory → ⊥ }
+{
+    let count = frame_count(count);
+    let mb = header.first_mb_in_slice.value;
+    match sink.slice(
+        byte,
+        mb,
+        type_of(&header.kind.value),
+        header.frame_num.value,
+        count,
+    ) {
+        Ok(()) => Ok(()),
+        Err(Failed) => Err(Stop::Write),
+    }
+}
+
+/// The lesser of the counts of a frame's fields.
+fn frame_count(count: Option<Count>) -> i32
+    ensures { result ≡ frame_count count }
+{
+    match count {
+        None => 0,
+        Some(count) => count.top.min(count.bottom),
+    }
+}
+
+/// What a slice leaves that begins a picture, or goes on with one, where its unit ends before this bit. The marking may leave the
+/// header's place.
+fn enter(
+    slices: &mut Slices,
+    begins: bool,
+    header: &mut Header,
+    numbering: Numbering,
+    ended: Ended,
+    behind: u64,
+)
+    requires { slices.old.pictures < 2 ^ 42 }
+    ensures picture { (on : Bool) (pictures : List CodedPicture) (slice : CodedSlice) → slice.header ≡ header.old →
+        HoldsOpen (open_of on pictures) slices.old.picture → begins ≡ begins_after (open_of on pictures) header.old →
+        numbering ≡ numbering_of slice.sps slice.header → HoldsOpen (open_of true (joined_to begins slice pictures)) slices.new.picture }
+    ensures end { (on : Bool) (pictures : List CodedPicture) (slice : CodedSlice) →
+        (begins ≡ true → ended ≡ ended_picture (record { first = slice; later = [] }) pictures) → HoldsOpen (open_of on pictures) slices.old.picture →
+        HoldsEnd pictures slices.old.picture → begins ≡ begins_after (open_of on pictures) header.old →
+        HoldsEnd (joined_to begins slice pictures) slices.new.picture }
+    ensures newest { slices.new.newest_idr ≡ (if begins then idr_id header.old.idr_pic_id else slices.old.newest_idr) }
+    ensures pictures { slices.new.pictures ≡ (if begins then slices.old.pictures + 1 else slices.old.pictures) }
+    ensures due { slices.new.due ≡ false }
+    ensures behind { slices.new.behind ≡ behind }
+    ensures others { slices.new ≡ record slices.old {
+      picture = slices.new.picture;
+      newest_idr = slices.new.newest_idr;
+      pictures =
+          slices.new.pictures;
+      due = slices.new.due;
+      behind = slices.new.behind;
+    } }
+    ensures header { header.new ≡ record header.old { marking = header.new.marking } }
+{
+    slices.due = false;
+    slices.behind = behind;
+    if begins {
+        slices.pictures += 1;
+        slices.newest_idr = idr_id(header.idr_pic_id);
+        begin(&mut slices.picture, header, numbering, ended);
+        return;
+    }
+    if let Some(picture) = &mut slices.picture {
+        go_on(picture, header);
+    }
+}
+
+/// The rules of a slice from its type on (7.4.3, 8.2), what the sink is told of it, and what it leaves. The header's place is to be read into
+/// anew after it.
+///
+/// Err: the first that is not met of SliceType, FrameNum, IdrPicId, Count, Qp, ListCommand and MarkDiffers, at its element's bit (Count at the
+/// first of the unit), or Write where the sink failed. What is kept is then of no use.
+pub fn judge_rules<S: FrameSink>(
+    mode: Mode,
+    begins: bool,
+    slices: &mut Slices,
+    pps: &Pps,
+    sps: &Sps,
+    decoder: &mut Decoder,
+    unit: &NalUnit,
+    header: &mut Header,
+    sink: &mut S,
+) -> Result<(), Stop>
+    requires lengths { has_lengths sps.now ≡ true }
+    requires room { S.failures sink.old < 2 ^ 64 - 1 }
+    requires pictures { slices.old.pictures < 2 ^ 42 }
+    requires goes { begins ≡ true → is_idr header.old ≡ false → GoesWith mode sps.now slices.old.held decoder.old }
+    requires kept { KeepsSomeRules mode begins slices.old decoder.old }
+    ensures plays { (frames : ℕ → Frame) (before : History) → KeepsSlices before begins slices.old → begins ≡ begins_at before header.old →
+        KeepsDecoder mode frames (goes_on before) begins (runs_of before) decoder.old →
+        Plays (took_with frames S.took) S.failures (λ x. x) (steps_outcome
+        (told_rules mode begins (runs_of before) (with_sets unit.now header.old [] (pps.now, sps.now)))) sink.old sink.new result }
+    ensures entered { (before : History) (macroblocks : List CodedMacroblock) → KeepsSlices before begins slices.old →
+        begins ≡ begins_at before header.old → OnOk result (KeepsPictures true false
+        (joined_to begins (with_sets unit.now header.old macroblocks (pps.now, sps.now)) (runs_of before)) slices.new) }
+    ensures frames { (frames : ℕ → Frame) (before : History) → KeepsSlices before begins slices.old → begins ≡ begins_at before header.old →
+        KeepsDecoder mode frames (goes_on before) begins (runs_of before) decoder.old →
+        OnOk result (EntersDecoder mode frames begins (with_sets unit.now header.old [] (pps.now, sps.now)) (goes_on before) (runs_of before) decoder.new) }
+    ensures filled { begins ≡ true → OnOk result (all_filled (numbering_of sps.now header.old)
+        (unused_short_term_frame_nums (is_idr header.old) slices.old.prev_ref_frame_num (numbering_of sps.now header.old)) slices.old.held ≡ Some
+        slices.new.held) }
+    ensures due { OnOk result (slices.new.due ≡ false) }
+    ensures header { header.new ≡ record header.old { marking = header.new.marking } }
+    ensures typed { OnOk result (is_typed header.old ≡ true) }
+    ensures format { decoder.new.format ≡ decoder.old.format }
+    ensures pictures { slices.new.pictures ≤ slices.old.pictures + 1 }
+    ensures no_memory { IsErrOf result Stop.Memory → ⊥ }
+    ensures kept { OnOk result (S.failures sink.new ≡ S.failures sink.old) }
+{
+    let bit = 8 * unit.from();
+    check_rules(mode, slices, begins, pps, sps, header, bit, decoder, sink)?;
+    tell_slice(unit.from(), header, slices.count, sink)?;
+    let numbering = numbering_of(sps, header);
+    let ended = ended_of(
+        sps,
+        header,
+        slices.pictures,
+        frame_count(slices.count),
+        buffer_size(sps),
+    );
+    enter(slices, begins, header, numbering, ended, bit_behind(unit));
+    Ok(())
+}
+
+/// Before the first slice, when an IDR picture is due (7.4.1.2.1).
+pub fn no_slices() -> Slices
+    ensures { KeepsSlices [] false result }
+{
+    Slices {
+        picture: None,
+        due: true,
+        newest_idr: None,
+        counts: Counts::new(),
+        count: None,
+        pictures: 0,
+        behind: 0,
+        prev_ref_frame_num: 0,
+        held: Held::new(),
+    }
+}
+
+/// A unit of this nal_unit_type that is no slice ends the picture before it, or does not (7.4.1.2.3); after the end of a sequence
+/// or of the stream an IDR picture is due.
+pub fn pass_by(slices: &mut Slices, kind: u8)
+    ensures picture { IsLeft (ends_picture kind) slices.old.picture slices.new.picture }
+    ensures due { slices.new.due ≡ ((kind == 10 || kind == 11) || slices.old.due) }
+    ensures others { slices.new ≡ record slices.old { picture = slices.new.picture; due = slices.new.due } }
+{
+    if kind == 10 || kind == 11 {
+        slices.due = true;
+    }
+    if ends_picture(kind) {
+        slices.picture = None;
+    }
+}
+
+/// Whether a unit of this nal_unit_type ends the picture before it: 6 to 11 (7.4.1.2.3).
+pub fn ends_picture(kind: u8) -> bool
+    ensures { result ≡ ends_picture kind }
+{
+    6 <= kind && kind <= 11
+}

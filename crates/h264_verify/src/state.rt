@@ -1,0 +1,68 @@
+//! What is kept from unit to unit, and what is known of a whole stream.
+#![tactic(auto)]
+
+use crate::decoder::Decoder;
+use crate::slices::{Slices, no_slices};
+use h264_base::{Mode, Stop, Target};
+use h264_header::Header;
+use h264_sets::Sets;
+use std::alloc::Global;
+
+/// What a whole stream has, where it is legal.
+#[derive(Clone, Copy, Debug, PartialEq, Eq)]
+pub struct Summary {
+    /// The units.
+    pub units: u64,
+    /// The pictures; 0 where slices are passed over.
+    pub pictures: u64,
+    /// The frames that were written; 0 where none are made.
+    pub frames: u64,
+}
+
+/// What a stream is judged by.
+#[derive(Clone, Copy)]
+pub struct Terms {
+    /// How far it is judged.
+    pub mode: Mode,
+    /// The decoder that it has to suit.
+    pub target: Target,
+}
+
+/// What the units so far left.
+#[derive(Drop)]
+pub struct State {
+    /// How many units there were.
+    pub units: u64,
+    /// The parameter sets that they gave.
+    pub sets: Sets,
+    /// The slices that were read.
+    pub slices: Slices,
+    /// The place into which the header of a slice is read: it is large to move.
+    pub header: Header,
+    /// The picture whose slice data are read, and the frames of those before it.
+    pub decoder: Decoder,
+}
+
+impl State {
+    ghost use Rattle.std.specs.Prelude.{◌≡◌, ℕ, IfOk, IfErr, []};
+    ghost use Rattle.h264_base.specs.declared.mode.Mode.{Mode};
+    ghost use Rattle.h264_plane.specs.declared.frame.Frame.{Frame};
+    ghost use Rattle.h264_verify.specs.KeepingUnits.{Keeps};
+
+    /// Before the first unit. It takes the places of the parameter sets: Memory where they are refused.
+    pub fn new(alloc: Global) -> Result<State, Stop>
+        ensures keeps { IfOk result (λ s. (mode : Mode) (frames : ℕ → Frame) → Keeps mode frames [] s) }
+        ensures err { IfErr result (λ e. e ≡ Stop.Memory) }
+    {
+        let Ok(sets) = Sets::new(alloc) else {
+            return Err(Stop::Memory);
+        };
+        Ok(State {
+            units: 0,
+            sets,
+            slices: no_slices(),
+            header: Header::unread(),
+            decoder: Decoder::new(),
+        })
+    }
+}

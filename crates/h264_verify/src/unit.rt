@@ -1,0 +1,489 @@
+//! One unit.
+#![tactic(auto)]
+
+ghost use Rattle.std.specs.Prelude.{◌≡◌, true, false, IsTrue, ℕ, ◌+◌, ◌-◌, ◌*◌, ◌<◌, ◌≤◌, ◌^◌, List, [], ◌∷◌, length, ◌==◌, ◌||◌, OnOk, IfOk, IfErr};
+ghost use Rattle.std.specs.Prelude.{IsErrOf, Ok, Err, if◌then◌else◌};
+ghost use Rattle.std.specs.Option.{is_some};
+ghost use Rattle.h264_rbsp.specs.Rbsp.{body_of};
+ghost use Rattle.h264_header.specs.Layout.{sets_of};
+ghost use Rattle.h264_units.specs.Stream.{NalUnit as UnitView};
+ghost use Rattle.h264_verify.specs.Outcome.{Plays, tells};
+ghost use Rattle.h264_verify.specs.Demands.{judged};
+ghost use Rattle.h264_verify.specs.UnitHeader.{header_of, nal_unit_type, nal_ref_idc, is_partition, is_always_reference, is_never_reference};
+ghost use Rattle.h264_verify.specs.UnitHeader.{fits_kind, header_demands};
+ghost use Rattle.h264_verify.specs.History.{History, maps_of};
+ghost use Rattle.h264_verify.specs.Content as contents;
+ghost use Rattle.h264_plane.specs.declared.frame.Frame.{Frame};
+ghost use Rattle.h264_dpb.specs.Turns.{Turn, last_turn};
+ghost use Rattle.h264_dpb.specs.Kept.{KeepsBuffer};
+ghost use Rattle.h264_verify.specs.Telling.{Said, took_with};
+ghost use Rattle.h264_verify.specs.Buffering.{told_frames, after_all, frames_written};
+ghost use Rattle.h264_verify.specs.Sound.{IsMarked};
+ghost use Rattle.h264_verify.specs.KeepingUnits.{Keeps, KeepsWithin, KeepsSome};
+ghost use Rattle.h264_verify.specs.Keeping.{KeepsGap, KeepsSomeGap, IsLeft, ended_pictures, ended_in};
+ghost use Rattle.h264_verify.specs.Pictures.{CodedPicture, ends_picture, goes_on, runs_of};
+ghost use Rattle.h264_verify.specs.Turning.{Turns, Joins, EndsAll};
+ghost use Rattle.h264_verify.specs.Units.{unit_call, slice_unit_of, has_pictures};
+ghost use Rattle.h264_verify.specs.Memory.{bytes_of, BeginsAnotherFormat, ChangesFormat};
+ghost use Rattle.h264_verify.specs.StepOutcome.{steps_outcome};
+ghost use Rattle.h264_verify.specs.UnitOutcome.{sps_outcome, pps_outcome, slice_outcome, whole_slice, joined, joined_by};
+ghost use Rattle.h264_base.specs.declared.mode.Mode.{Mode};
+ghost use Rattle.h264_base.specs.declared.mode.Mode.TheVariants as modes;
+
+use crate::close::close_if;
+use crate::data::read_data;
+use crate::decoder::Decoder;
+use crate::picture::begins;
+use crate::rules::check;
+use crate::sink::FrameSink;
+use crate::slice::judge_slice;
+use crate::slices::{ends_picture, pass_by};
+use crate::state::{State, Summary, Terms};
+use h264_base::{Failed, Mode, Rule, Stop};
+use h264_bits::Bits;
+use h264_header::{Header, SliceUnit, read_header};
+use h264_pps::read_pps;
+use h264_rbsp::{Rbsp, check_emulation};
+use h264_sets::Sets;
+use h264_sps::read::read_sps;
+use h264_units::NalUnit;
+use std::alloc::Global;
+
+fn is_partition(kind: u8) -> bool
+    ensures { result ≡ is_partition kind }
+{
+    2 <= kind && kind <= 4
+}
+
+fn is_always_reference(kind: u8) -> bool
+    ensures { result ≡ is_always_reference kind }
+{
+    kind == 5 || kind == 7 || kind == 8
+}
+
+fn is_never_reference(kind: u8) -> bool
+    ensures { result ≡ is_never_reference kind }
+{
+    kind == 6 || 9 <= kind && kind <= 12
+}
+
+/// Whether a unit of this type may have this nal_ref_idc.
+fn fits_kind(kind: u8, reference: u8) -> bool
+    ensures { result ≡ fits_kind kind reference }
+{
+    if is_always_reference(kind) {
+        reference != 0
+    } else if is_never_reference(kind) {
+        reference == 0
+    } else {
+        true
+    }
+}
+
+/// The rules of a unit's first byte.
+fn check_header(from: u64, header: u8) -> Result<(), Stop>
+    requires { from ≤ 2 ^ 40 }
+    ensures { result ≡ judged (header_demands (8 * from) header) }
+{
+    let bit = 8 * from;
+    let kind = header % 32;
+    check(header / 128 == 0, Rule::ForbiddenBit, bit)?;
+    check(fits_kind(kind, header / 32 % 4), Rule::RefIdc, bit)?;
+    check(!is_partition(kind), Rule::Partition, bit)
+}
+
+fn tell_unit<S: FrameSink>(from: u64, header: u8, length: u64, sink: &mut S) -> Result<(), Stop>
+    requires { S.failures sink.old < 2 ^ 64 - 1 }
+    ensures plays { (frames : ℕ → Frame) → Plays (took_with frames S.took) S.failures (λ x. x)
+        (tells (Said (unit_call from header length))) sink.old sink.new result }
+    ensures no_memory { IsErrOf result Stop.Memory → ⊥ }
+{
+    match sink.unit(from, header % 32, header / 32 % 4, length) {
+        Ok(()) => Ok(()),
+        Err(Failed) => Err(Stop::Write),
+    }
+}
+
+/// What a unit's first byte says of the slice in it.
+fn slice_unit(header: u8) -> SliceUnit
+    ensures { result ≡ slice_unit_of header }
+{
+    SliceUnit {
+        idr_pic_flag: header % 32 == 5,
+        nal_ref_idc: (header / 32 % 4) as u32,
+    }
+}
+
+/// Reads the header of a slice into a place of the caller.
+fn read_slice_unit<S: FrameSink>(
+    header: u8,
+    sets: &Sets,
+    rbsp: &Rbsp,
+    found: &mut Header,
+    sink: &mut S,
+) -> Result<(), Stop>
+    requires { S.failures sink.old < 2 ^ 64 - 1 }
+    ensures plays { (frames : ℕ → Frame) (before : History) (unit : UnitView) → sets.now ≡ maps_of before → header ≡ header_of unit →
+        rbsp.now ≡ body_of unit → Plays (took_with frames S.took) S.failures (λ _. contents.OfSlice found.new [])
+        (slice_outcome before unit) sink.old sink.new result }
+    ensures id { OnOk result (found.new.pic_parameter_set_id.value ≤ 255) }
+    ensures named { OnOk result (is_some (sets_of sets.now found.new.pic_parameter_set_id.value) ≡ true) }
+    ensures marked { fits_kind (nal_unit_type header) (nal_ref_idc header) ≡ true → OnOk result (IsMarked found.new) }
+    ensures no_memory { IsErrOf result Stop.Memory → ⊥ }
+    ensures kept { OnOk result (S.failures sink.new ≡ S.failures sink.old) }
+{
+    let mut bits = Bits::new(rbsp);
+    let slice_unit = slice_unit(header);
+    read_header(&mut bits, sets, slice_unit, found, sink)
+}
+
+/// A unit that is no slice joins those before it.
+fn pass(state: &mut State, kind: u8)
+    requires { state.old.units ≤ 2 ^ 40 }
+    ensures units { state.new.units ≡ state.old.units + 1 }
+    ensures sets { state.new.sets ≡ state.old.sets }
+    ensures picture { IsLeft (ends_picture kind) state.old.slices.picture state.new.slices.picture }
+    ensures due { state.new.slices.due ≡ ((kind == 10 || kind == 11) || state.old.slices.due) }
+    ensures decoder { state.new.decoder ≡ state.old.decoder }
+    ensures others { state.new.slices ≡ record state.old.slices { picture = state.new.slices.picture; due = state.new.slices.due } }
+{
+    pass_by(&mut state.slices, kind);
+    state.units += 1;
+}
+
+/// A sequence parameter set is read, and kept. Apart, so that a slice does not pay for the place of a set.
+#[inline(never)]
+fn join_sps<S: FrameSink>(
+    terms: Terms,
+    state: &mut State,
+    kind: u8,
+    unit: &NalUnit,
+    rbsp: &Rbsp,
+    sink: &mut S,
+) -> Result<(), Stop>
+    requires room { S.failures sink.old < 2 ^ 64 - 1 }
+    requires units { state.old.units ≤ 2 ^ 40 }
+    requires pictures { state.old.slices.pictures ≤ state.old.units }
+    requires kind { kind ≡ nal_unit_type (header_of unit.now) }
+    requires rbsp { rbsp.now ≡ body_of unit.now }
+    ensures joins { (frames : ℕ → Frame) (before : History) → KeepsWithin terms.mode frames before (ends_picture kind) state.old →
+        Joins terms.mode S.took S.failures frames (length (ended_pictures (goes_on before) (ends_picture kind) (runs_of before)))
+        (joined terms.mode before unit.now (sps_outcome terms.target unit.now)) state.new sink.old sink.new result }
+    ensures counts { OnOk result (state.new.units ≡ state.old.units + 1) }
+    ensures pictures { OnOk result (state.new.slices.pictures ≤ state.new.units) }
+    ensures no_memory { IsErrOf result Stop.Memory → ⊥ }
+    ensures kept { OnOk result (S.failures sink.new ≡ S.failures sink.old) }
+{
+    let mut bits = Bits::new(rbsp);
+    let set = read_sps(terms.target, &mut bits, sink)?;
+    state.sets.put_sps(set);
+    pass(state, kind);
+    Ok(())
+}
+
+/// A picture parameter set is read, and kept.
+fn join_pps<S: FrameSink>(
+    terms: Terms,
+    state: &mut State,
+    kind: u8,
+    unit: &NalUnit,
+    rbsp: &Rbsp,
+    sink: &mut S,
+) -> Result<(), Stop>
+    requires room { S.failures sink.old < 2 ^ 64 - 1 }
+    requires units { state.old.units ≤ 2 ^ 40 }
+    requires pictures { state.old.slices.pictures ≤ state.old.units }
+    requires ends { ends_picture kind ≡ true }
+    requires kind { kind ≡ nal_unit_type (header_of unit.now) }
+    requires rbsp { rbsp.now ≡ body_of unit.now }
+    ensures joins { (frames : ℕ → Frame) (before : History) → KeepsWithin terms.mode frames before (ends_picture kind) state.old →
+        Joins terms.mode S.took S.failures frames (length (ended_pictures (goes_on before) (ends_picture kind) (runs_of before)))
+        (joined terms.mode before unit.now (pps_outcome terms.target unit.now)) state.new sink.old sink.new result }
+    ensures counts { OnOk result (state.new.units ≡ state.old.units + 1) }
+    ensures pictures { OnOk result (state.new.slices.pictures ≤ state.new.units) }
+    ensures no_memory { IsErrOf result Stop.Memory → ⊥ }
+    ensures kept { OnOk result (S.failures sink.new ≡ S.failures sink.old) }
+{
+    let mut bits = Bits::new(rbsp);
+    let set = read_pps(terms.target, &mut bits, sink)?;
+    state.sets.put_pps(set);
+    pass(state, kind);
+    Ok(())
+}
+
+/// The header of a slice is read and judged, and the slice joins those before it.
+fn join_slice<S: FrameSink>(
+    state: &mut State,
+    header: u8,
+    unit: &NalUnit,
+    rbsp: &Rbsp,
+    sink: &mut S,
+) -> Result<(), Stop>
+    requires room { S.failures sink.old < 2 ^ 64 - 1 }
+    requires units { state.old.units ≤ 2 ^ 40 }
+    requires pictures { state.old.slices.pictures ≤ state.old.units }
+    requires goes_on { ends_picture (nal_unit_type header) ≡ false }
+    requires header { header ≡ header_of unit.now }
+    requires rbsp { rbsp.now ≡ body_of unit.now }
+    requires fits { fits_kind (nal_unit_type header) (nal_ref_idc header) ≡ true }
+    requires kept { KeepsSome modes.Headers false state.old }
+    ensures joins { (frames : ℕ → Frame) (before : History) → KeepsWithin modes.Headers frames before (ends_picture (nal_unit_type header)) state.old →
+        Joins modes.Headers S.took S.failures frames (ended_in before)
+        (joined modes.Headers before unit.now (slice_outcome before unit.now)) state.new sink.old sink.new result }
+    ensures counts { OnOk result (state.new.units ≡ state.old.units + 1) }
+    ensures pictures { OnOk result (state.new.slices.pictures ≤ state.new.units) }
+    ensures no_memory { IsErrOf result Stop.Memory → ⊥ }
+    ensures kept { OnOk result (S.failures sink.new ≡ S.failures sink.old) }
+{
+    read_slice_unit(header, &state.sets, rbsp, &mut state.header, sink)?;
+    let begins = begins(&state.slices.picture, &state.header);
+    judge_slice(
+        Mode::Headers,
+        begins,
+        &mut state.slices,
+        &mut state.sets,
+        &mut state.decoder,
+        unit,
+        &mut state.header,
+        sink,
+    )?;
+    state.units += 1;
+    Ok(())
+}
+
+/// The header of a slice and its slice data are read from the first bit of its unit and judged, and the slice joins those before it.
+fn join_read<S: FrameSink>(
+    alloc: Global,
+    state: &mut State,
+    header: u8,
+    unit: &NalUnit,
+    bits: &mut Bits,
+    sink: &mut S,
+) -> Result<(), Stop>
+    requires first { bits.old ≡ record { body = body_of unit.now; at = 0 } }
+    requires room { S.failures sink.old < 2 ^ 64 - 1 }
+    requires units { state.old.units ≤ 2 ^ 40 }
+    requires pictures { state.old.slices.pictures ≤ state.old.units }
+    requires goes_on { ends_picture (nal_unit_type header) ≡ false }
+    requires header { header ≡ header_of unit.now }
+    requires fits { fits_kind (nal_unit_type header) (nal_ref_idc header) ≡ true }
+    requires kept { KeepsSome modes.Full false state.old }
+    ensures joins { (frames : ℕ → Frame) (before : History) → KeepsWithin modes.Full frames before (ends_picture (nal_unit_type header)) state.old →
+        Joins modes.Full S.took S.failures frames (ended_in before) (whole_slice before unit.now) state.new sink.old sink.new result }
+    ensures counts { OnOk result (state.new.units ≡ state.old.units + 1) }
+    ensures pictures { OnOk result (state.new.slices.pictures ≤ state.new.units) }
+    ensures no_memory { (frames : ℕ → Frame) (before : History) → KeepsWithin modes.Full frames before (ends_picture (nal_unit_type header)) state.old →
+        IsErrOf result Stop.Memory → BeginsAnotherFormat before unit.now }
+    ensures kept { OnOk result (S.failures sink.new ≡ S.failures sink.old) }
+{
+    let slice_unit = slice_unit(header);
+    read_header(bits, &state.sets, slice_unit, &mut state.header, sink)?;
+    let begins = begins(&state.slices.picture, &state.header);
+    judge_slice(
+        Mode::Full,
+        begins,
+        &mut state.slices,
+        &mut state.sets,
+        &mut state.decoder,
+        unit,
+        &mut state.header,
+        sink,
+    )?;
+    state.units += 1;
+    read_data(
+        alloc,
+        begins,
+        &state.slices.held,
+        &state.sets,
+        &state.header,
+        &mut state.decoder,
+        bits,
+        sink,
+    )
+}
+
+/// A slice with its slice data is read and judged, and joins those before it.
+fn join_whole_slice<S: FrameSink>(
+    alloc: Global,
+    state: &mut State,
+    header: u8,
+    unit: &NalUnit,
+    rbsp: &Rbsp,
+    sink: &mut S,
+) -> Result<(), Stop>
+    requires room { S.failures sink.old < 2 ^ 64 - 1 }
+    requires units { state.old.units ≤ 2 ^ 40 }
+    requires pictures { state.old.slices.pictures ≤ state.old.units }
+    requires goes_on { ends_picture (nal_unit_type header) ≡ false }
+    requires header { header ≡ header_of unit.now }
+    requires rbsp { rbsp.now ≡ body_of unit.now }
+    requires fits { fits_kind (nal_unit_type header) (nal_ref_idc header) ≡ true }
+    requires kept { KeepsSome modes.Full false state.old }
+    ensures joins { (frames : ℕ → Frame) (before : History) → KeepsWithin modes.Full frames before (ends_picture (nal_unit_type header)) state.old →
+        Joins modes.Full S.took S.failures frames (ended_in before) (whole_slice before unit.now) state.new sink.old sink.new result }
+    ensures counts { OnOk result (state.new.units ≡ state.old.units + 1) }
+    ensures pictures { OnOk result (state.new.slices.pictures ≤ state.new.units) }
+    ensures no_memory { (frames : ℕ → Frame) (before : History) → KeepsWithin modes.Full frames before (ends_picture (nal_unit_type header)) state.old →
+        IsErrOf result Stop.Memory → BeginsAnotherFormat before unit.now }
+    ensures kept { OnOk result (S.failures sink.new ≡ S.failures sink.old) }
+{
+    let mut bits = Bits::new(rbsp);
+    join_read(alloc, state, header, unit, &mut bits, sink)
+}
+
+/// A unit of this type is read and judged, and joins those before it.
+fn join<S: FrameSink>(
+    alloc: Global,
+    terms: Terms,
+    state: &mut State,
+    header: u8,
+    unit: &NalUnit,
+    rbsp: &Option<Rbsp>,
+    sink: &mut S,
+) -> Result<(), Stop>
+    requires room { S.failures sink.old < 2 ^ 64 - 1 }
+    requires units { state.old.units ≤ 2 ^ 40 }
+    requires pictures { state.old.slices.pictures ≤ state.old.units }
+    requires header { header ≡ header_of unit.now }
+    requires bytes { rbsp.now ≡ bytes_of terms.mode unit.now }
+    requires fits { fits_kind (nal_unit_type header) (nal_ref_idc header) ≡ true }
+    requires kept { KeepsSome terms.mode (ends_picture (nal_unit_type header)) state.old }
+    ensures joins { (frames : ℕ → Frame) (before : History) → KeepsWithin terms.mode frames before (ends_picture (nal_unit_type header)) state.old →
+        Joins terms.mode S.took S.failures frames (length (ended_pictures (goes_on before) (ends_picture (nal_unit_type header)) (runs_of before)))
+        (joined_by terms (nal_unit_type header) before unit.now) state.new sink.old sink.new result }
+    ensures counts { OnOk result (state.new.units ≡ state.old.units + 1) }
+    ensures pictures { OnOk result (state.new.slices.pictures ≤ state.new.units) }
+    ensures no_memory { (frames : ℕ → Frame) (before : History) → KeepsWithin terms.mode frames before (ends_picture (nal_unit_type header)) state.old →
+        IsErrOf result Stop.Memory → ChangesFormat terms.mode before unit.now }
+    ensures kept { OnOk result (S.failures sink.new ≡ S.failures sink.old) }
+{
+    let Some(rbsp) = rbsp else {
+        pass(state, header % 32);
+        return Ok(());
+    };
+    if header % 32 == 7 {
+        return join_sps(terms, state, header % 32, unit, rbsp, sink);
+    }
+    if header % 32 == 8 {
+        return join_pps(terms, state, header % 32, unit, rbsp, sink);
+    }
+    match terms.mode {
+        Mode::Units => unreachable!(),
+        Mode::Headers => join_slice(state, header, unit, rbsp, sink),
+        Mode::Full => join_whole_slice(alloc, state, header, unit, rbsp, sink),
+    }
+}
+
+/// What comes of a unit, with the RBSP that `read_bytes` made of it: the sink is told of the unit and of what is in it, and it joins
+/// those before it. The allocator is lent to a picture of another format alone.
+///
+/// Err: the first check of the unit's course that fails, with its bit; Memory where a growth was refused, which is only where a slice
+/// begins a picture of another format than the one before it; Write where the sink failed. After an Err what is kept is of no use.
+pub fn judge_unit<S: FrameSink>(
+    alloc: Global,
+    terms: Terms,
+    state: &mut State,
+    unit: &NalUnit,
+    rbsp: &Option<Rbsp>,
+    sink: &mut S,
+) -> Result<(), Stop>
+    requires count { S.failures sink.old < 2 ^ 64 - 1 }
+    requires units { state.old.units ≤ 2 ^ 40 }
+    requires pictures { state.old.slices.pictures ≤ state.old.units }
+    requires bytes { rbsp.now ≡ bytes_of terms.mode unit.now }
+    requires kept { KeepsSome terms.mode false state.old }
+    ensures turns { (frames : ℕ → Frame) (before : History) → Keeps terms.mode frames before state.old →
+        Turns terms S.took S.failures frames before unit.now state.new sink.old sink.new result }
+    ensures counts { OnOk result (state.new.units ≡ state.old.units + 1) }
+    ensures pictures { OnOk result (state.new.slices.pictures ≤ state.new.units) }
+    ensures no_memory { (frames : ℕ → Frame) (before : History) → Keeps terms.mode frames before state.old → IsErrOf result Stop.Memory →
+        ChangesFormat terms.mode before unit.now }
+    ensures kept { OnOk result (S.failures sink.new ≡ S.failures sink.old) }
+{
+    check_emulation(unit)?;
+    let from = unit.from();
+    let body = unit.body();
+    let header = body[0];
+    check_header(from, header)?;
+    tell_unit(from, header, body.len() as u64, sink)?;
+    let ends = ends_picture(header % 32);
+    close_if(
+        terms.mode,
+        ends,
+        &mut state.slices,
+        &mut state.decoder,
+        sink,
+    )?;
+    join(alloc, terms, state, header, unit, rbsp, sink)
+}
+
+/// Whether a stream that is judged so has the pictures that it must have.
+fn has_pictures(mode: Mode, pictures: u64) -> bool
+    ensures { (of : List CodedPicture) → pictures ≡ length of → result ≡ has_pictures mode of }
+{
+    match mode {
+        Mode::Units => true,
+        Mode::Headers => pictures != 0,
+        Mode::Full => pictures != 0,
+    }
+}
+
+/// All frames that wait are written at the end of the input, where frames are made.
+fn finish_frames<S: FrameSink>(mode: Mode, decoder: &mut Decoder, sink: &mut S) -> Result<(), Stop>
+    requires room { S.failures sink.old < 2 ^ 64 - 1 }
+    requires kept { KeepsSomeGap mode decoder.old }
+    ensures plays { (frames : ℕ → Frame) (t : Turn) (next : ℕ) → KeepsGap mode frames t next decoder.old →
+        Plays (took_with frames S.took) S.failures (λ x. x) (steps_outcome (told_frames mode (last_turn t.buffer).written)) sink.old sink.new result }
+    ensures written { (frames : ℕ → Frame) (t : Turn) (next : ℕ) → mode ≡ modes.Full → KeepsGap mode frames t next decoder.old →
+        OnOk result (KeepsBuffer (last_turn t.buffer).buffer (length t.written + length (last_turn t.buffer).written) decoder.new.output) }
+    ensures no_memory { IfErr result (λ e. e ≡ Stop.Write) }
+{
+    match mode {
+        Mode::Units => Ok(()),
+        Mode::Headers => Ok(()),
+        Mode::Full => decoder.finish(sink),
+    }
+}
+
+/// How many frames were written; 0 where none are made.
+fn frames_told(mode: Mode, decoder: &Decoder) -> u64
+    ensures { (pictures : List CodedPicture) → (mode ≡ modes.Full →
+        KeepsBuffer (last_turn (after_all pictures).buffer).buffer
+        (length (after_all pictures).written + length (last_turn (after_all pictures).buffer).written) decoder.now.output) →
+        result ≡ frames_written mode pictures }
+{
+    match mode {
+        Mode::Units => 0,
+        Mode::Headers => 0,
+        Mode::Full => decoder.output.frames(),
+    }
+}
+
+/// What comes of the end of the input, at this bit: the last picture ends, there is one where slices are read, and the frames that
+/// wait are written.
+///
+/// Err: Incomplete, MarkCommand or NoPicture, with its bit, or Write where the sink failed.
+pub fn judge_end<S: FrameSink>(
+    mode: Mode,
+    state: &mut State,
+    bit: u64,
+    sink: &mut S,
+) -> Result<Summary, Stop>
+    requires room { S.failures sink.old < 2 ^ 64 - 1 }
+    requires units { state.old.units ≤ 2 ^ 41 }
+    requires pictures { state.old.slices.pictures ≤ state.old.units }
+    requires kept { KeepsSome mode false state.old }
+    ensures ends { (frames : ℕ → Frame) (before : History) → Keeps mode frames before state.old →
+        EndsAll mode S.took S.failures frames before bit (λ x. x) sink.old sink.new result }
+    ensures no_memory { IsErrOf result Stop.Memory → ⊥ }
+{
+    close_if(mode, true, &mut state.slices, &mut state.decoder, sink)?;
+    let pictures = state.slices.pictures;
+    check(has_pictures(mode, pictures), Rule::NoPicture, bit)?;
+    finish_frames(mode, &mut state.decoder, sink)?;
+    Ok(Summary {
+        units: state.units,
+        pictures,
+        frames: frames_told(mode, &state.decoder),
+    })
+}

@@ -1,3 +1,0 @@
-pub mod Hrd
-pub mod Vui
-pub mod Parts
