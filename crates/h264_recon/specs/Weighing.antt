@@ -1,5 +1,5 @@
 -- A working form: the reference index of a block, and samples that are weighted run by run.
-use Rattle.std.specs.Prelude.{◌≡◌, ℕ, ◌+◌, ◌*◌, ◌/◌, ◌<◌, ◌≤◌, List, slice_index, Option}
+use Rattle.std.specs.Prelude.{◌≡◌, ℕ, ◌+◌, ◌*◌, ◌/◌, ◌<◌, ◌≤◌, Bool, IsTrue, List, slice_index, get_or, Option, None}
 use Rattle.std.specs.Option.{option_map}
 use Rattle.h264_base.specs.declared.weight.Weights.{Weights}
 use Rattle.h264_near.specs.declared.motion.Motion.{Motion}
@@ -9,6 +9,10 @@ use Rattle.h264_recon.specs.Weights.{weighted_if}
 -- the reference index of a block
 abbrev pub index_of : Option Motion → Option ℕ
 index_of m = option_map (λ (m : Motion). m.ref_idx) m
+
+-- where this is known, the sixteen blocks have one reference index
+abbrev pub AreOfOneIndex : (known : Bool) → List (Option Motion) → Type 0
+AreOfOneIndex known motions = IsTrue known → (k : ℕ) → k < 16 → index_of (get_or motions k None) ≡ index_of (get_or motions 0 None)
 
 -- count samples from a place on are weighted, and each other one is kept
 pub record IsRunWeighted (count start : ℕ) (p : Component) (weights : Option Weights) (old new : List ℕ) : Type 0 where

@@ -252,9 +252,6 @@ pub fn given<'a>(
     Macroblock {
         available: available(near, slice.number, slice.constrained_intra, column, row),
         prediction: prediction(read, places),
-        weighting: Weighting {
-            weights,
-            motions: &read.contexts.motions,
-        },
+        weighting: Weighting::new(weights, &read.contexts.motions),
     }
 }

@@ -33,7 +33,7 @@ pub fn neighbours16(store: &Store, column: usize, a: Available) -> Neighbours16
     ensures sides { sides16 result ≡ sides_of a }
     ensures samples { (own : List ℕ) → SameSides 16 (sides_of a) (around16 result) (local 16 store.now column own) }
 {
-    let above = part::<16>(store.above.as_slice(), 16 * column);
+    let above = part::<16>(store.bottom_rows(), 16 * column);
     Neighbours16 {
         left: a.left.then_some(store.left),
         above: a.above.then_some(above),
@@ -50,7 +50,7 @@ pub fn neighbours_chroma(store: &Store, column: usize, a: Available) -> Neighbou
     ensures samples { (own : List ℕ) → SameSides 8 (sides_of a) (around_chroma result) (local 8 store.now column own) }
 {
     let left = part::<8>(&store.left, 0);
-    let above = part::<8>(store.above.as_slice(), 8 * column);
+    let above = part::<8>(store.bottom_rows(), 8 * column);
     NeighboursChroma {
         left: a.left.then_some(left),
         above: a.above.then_some(above),
@@ -71,7 +71,7 @@ fn sample(store: &Store, column: usize, own: &[u8; 256], x: usize, y: usize) -> 
         if x == 0 {
             store.corner
         } else {
-            store.above[16 * column + (x - 1)]
+            store.bottom_rows()[16 * column + (x - 1)]
         }
     } else if x == 0 {
         store.left[y - 1]
@@ -90,7 +90,7 @@ fn across(store: &Store, column: usize, own: &[u8; 256], x: usize, y: usize) -> 
     ensures { (k : ℕ) → k < 4 → slice_index result k ≡ local 16 store.now column own.now (x + k) y }
 {
     if y == 0 {
-        part::<4>(store.above.as_slice(), 16 * column + (x - 1))
+        part::<4>(store.bottom_rows(), 16 * column + (x - 1))
     } else {
         part::<4>(own, 16 * (y - 1) + (x - 1))
     }

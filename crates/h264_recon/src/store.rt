@@ -8,7 +8,7 @@ use std::alloc::{AllocError, Global};
 #[derive(Drop)]
 pub struct Store {
     /// Bottom rows: those of this row of macroblocks up to the one before, and from there on those of the row above.
-    pub above: Vec<u8>,
+    above: Vec<u8>,
     /// The right column of the macroblock before, of chroma in the first 8 places.
     pub left: [u8; 16],
     /// The sample above that column.
@@ -25,6 +25,15 @@ impl Store {
             left: [0; 16],
             corner: 0,
         })
+    }
+
+    /// The bottom rows, column by column.
+    #[inline(always)]
+    pub fn bottom_rows(&self) -> &[u8]
+        ensures value { result.now ≡ self.now.above.items }
+        ensures len { length result.now ≡ vec_len self.now.above }
+    {
+        self.above.as_slice()
     }
 
     /// Keeps the border of the luma macroblock at this column.

@@ -19,10 +19,7 @@ const NO_MOTIONS: [Option<Derived>; 16] = [None; 16];
 
 /// What weighs nothing.
 fn unweighted(weights: &SliceWeights) -> Weighting<'_> {
-    Weighting {
-        weights,
-        motions: &NO_MOTIONS,
-    }
+    Weighting::new(weights, &NO_MOTIONS)
 }
 
 const NO_SIDE: Available = Available {
@@ -338,10 +335,9 @@ fn weighted_macroblock(rt: &impl Abort, canvas: &mut Canvas, pool: &Pool) {
         cb: weight(7, 128, 0),
         cr: weight(2, 4, 9),
     });
-    let weighting = Weighting {
-        weights: &SliceWeights::new(&weights),
-        motions: &two_indexes(),
-    };
+    let slice_weights = SliceWeights::new(&weights);
+    let motions = two_indexes();
+    let weighting = Weighting::new(&slice_weights, &motions);
     put_inter(
         rt,
         canvas,

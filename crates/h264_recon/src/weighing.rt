@@ -7,9 +7,10 @@ ghost use Rattle.h264_plane.specs.declared.frame.Component.TheVariants.{Y};
 ghost use Rattle.h264_recon.specs.Lines.{chroma_plane};
 ghost use Rattle.h264_recon.specs.Placed.{placed_weights, weights_in};
 ghost use Rattle.h264_recon.specs.Weights.{index_weights, weight_of, AreInRange, EachInRange};
-ghost use Rattle.h264_recon.specs.Weighing.{index_of, IsRunWeighted, ArePlacesWeighted};
+ghost use Rattle.h264_recon.specs.Weighing.{index_of, AreOfOneIndex, IsRunWeighted, ArePlacesWeighted};
 
 use crate::macroblock::Weighting;
+use crate::weights::SliceWeights;
 use h264_base::{Weight, Weights};
 use h264_inter::weigh;
 use h264_near::Motion as Derived;
@@ -47,7 +48,7 @@ fn is_of_one_index(a: Option<Derived>, b: Option<Derived>) -> bool
 
 /// Whether all blocks have.
 fn are_of_one_index(motions: &[Option<Derived>; 16]) -> bool
-    ensures { IsTrue result → (k : ℕ) → k < 16 → index_of (get_or motions.now k None) ≡ index_of (get_or motions.now 0 None) }
+    ensures { AreOfOneIndex result motions.now }
 {
     let first = motions[0];
     for n in 1..16 {
@@ -56,6 +57,22 @@ fn are_of_one_index(motions: &[Option<Derived>; 16]) -> bool
         }
     }
     true
+}
+
+impl<'a> Weighting<'a> {
+    /// What weighs the predicted samples of a macroblock of a slice with these weights, where its blocks are predicted from these motions.
+    #[inline]
+    pub fn new(weights: &'a SliceWeights, motions: &'a [Option<Derived>; 16]) -> Weighting<'a>
+        ensures weights { result.weights.now ≡ weights.now }
+        ensures motions { result.motions.now ≡ motions.now }
+    {
+        let one_index = weights.by_index.is_some() && are_of_one_index(motions);
+        Weighting {
+            weights,
+            motions,
+            one_index,
+        }
+    }
 }
 
 /// The weights of each place, row by row.
@@ -118,15 +135,12 @@ fn weigh_luma_runs(weights: &[Option<Weights>; 16], out: &mut [u8; 256])
 /// Weighs the predicted luma samples of a macroblock of a slice with these weights. A function of its own, so that those of other slices do not pay
 /// for it.
 #[inline(never)]
-fn weigh_luma_by(
-    weights: &[Option<Weights>; 16],
-    motions: &[Option<Derived>; 16],
-    out: &mut [u8; 256],
-)
+fn weigh_luma_by(weights: &[Option<Weights>; 16], weighting: &Weighting, out: &mut [u8; 256])
     requires { EachInRange weights.now }
-    ensures { ArePlacesWeighted 16 Y (λ k. get_or (placed_weights weights.now motions.now) k None) out.old out.new }
+    ensures { ArePlacesWeighted 16 Y (λ k. get_or (placed_weights weights.now weighting.now.motions.now) k None) out.old out.new }
 {
-    if are_of_one_index(motions) {
+    let motions = weighting.motions;
+    if weighting.one_index {
         weigh_run::<256>(out, 0, of_motion(weights, motions[0]), Component::Y);
         return;
     }
@@ -140,7 +154,7 @@ pub fn weigh_luma(weighting: &Weighting, out: &mut [u8; 256])
 {
     match &weighting.weights.by_index {
         None => {}
-        Some(weights) => weigh_luma_by(weights, weighting.motions, out),
+        Some(weights) => weigh_luma_by(weights, weighting, out),
     }
 }
 
@@ -168,13 +182,14 @@ fn weigh_chroma_runs<const CR: bool>(weights: &[Option<Weights>; 16], out: &mut 
 #[inline(never)]
 fn weigh_chroma_by<const CR: bool>(
     weights: &[Option<Weights>; 16],
-    motions: &[Option<Derived>; 16],
+    weighting: &Weighting,
     out: &mut [u8; 64],
 )
     requires { EachInRange weights.now }
-    ensures { ArePlacesWeighted 8 (chroma_plane CR) (λ k. get_or (placed_weights weights.now motions.now) k None) out.old out.new }
+    ensures { ArePlacesWeighted 8 (chroma_plane CR) (λ k. get_or (placed_weights weights.now weighting.now.motions.now) k None) out.old out.new }
 {
-    if are_of_one_index(motions) {
+    let motions = weighting.motions;
+    if weighting.one_index {
         let weights = of_motion(weights, motions[0]);
         weigh_run::<64>(out, 0, weights, chroma_component::<CR>());
         return;
@@ -189,6 +204,6 @@ pub fn weigh_chroma<const CR: bool>(weighting: &Weighting, out: &mut [u8; 64])
 {
     match &weighting.weights.by_index {
         None => {}
-        Some(weights) => weigh_chroma_by::<CR>(weights, weighting.motions, out),
+        Some(weights) => weigh_chroma_by::<CR>(weights, weighting, out),
     }
 }
