@@ -25,7 +25,7 @@ pub record SendsFront (old new : Option (List ℕ)) (bytes : List ℕ) : Type 0 
   pub proper : IsProperFront part bytes
   pub appends : Appends old new part
 
--- Behind what the writer held at the start stand these bytes, and then a part of what would have come next.
+-- After what the writer held at the start stand these bytes, and then a part of what would have come next.
 pub record HasSentFront (Next : List ℕ → Type 0) (start known : Option (List ℕ)) (bytes : List ℕ) : Type 0 where
   pub next : List ℕ
   pub is_next : Next next

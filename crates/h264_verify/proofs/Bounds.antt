@@ -8,7 +8,7 @@ use Rattle.h264_verify.specs.declared.state.Summary.{Summary}
 use Rattle.h264_verify.specs.Telling.{Told}
 use Rattle.h264_verify.specs.History.{History}
 use Rattle.h264_verify.specs.Steps.{AreMet}
-use Rattle.h264_verify.specs.Units.{end_steps}
+use Rattle.h264_verify.specs.Order.{end_steps}
 use Rattle.h264_verify.specs.Pictures.{CodedPicture, goes_on, held_in, runs_of}
 use Rattle.h264_verify.specs.Buffering.{within_newest}
 use Rattle.h264_verify.specs.Keeping.{ended_pictures}

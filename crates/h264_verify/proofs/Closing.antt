@@ -13,7 +13,8 @@ use Rattle.h264_verify.specs.declared.slices.Slices.{Slices}
 use Rattle.h264_verify.specs.declared.picture.OpenPicture.{OpenPicture}
 use Rattle.h264_verify.specs.Demands.{judged}
 use Rattle.h264_verify.specs.History.{History}
-use Rattle.h264_verify.specs.Pictures.{CodedPicture, goes_on, open_of, runs_of, counted, held_in, ended_by, mark_demand, end_of_picture, closing_demands}
+use Rattle.h264_verify.specs.Pictures.{CodedPicture, goes_on, open_of, runs_of, counted, held_in, ended_by, mark_demand, end_of_picture}
+use Rattle.h264_verify.specs.Order.{closing_demands}
 use Rattle.h264_verify.specs.Keeping.{HoldsOpen, HoldsEnd, EndsAt, KeepsPictures, KeepsSlices, held_by}
 use Rattle.h264_verify.proofs.Sound.{ended-sound, sound-ended}
 

@@ -24,16 +24,19 @@ use Rattle.h264_verify.specs.Content.{Content}
 use Rattle.h264_verify.specs.Content as contents
 use Rattle.h264_verify.specs.Outcome.{Outcome, ◌>>=◌, with_calls, goes_on, answers, gives, tells, value_of, structure_outcome, Plays}
 use Rattle.h264_verify.specs.Steps.{Step, needs}
-use Rattle.h264_verify.specs.UnitHeader.{header_of, nal_unit_type, header_demands}
+use Rattle.h264_verify.specs.UnitHeader.{header_of, nal_unit_type}
+use Rattle.h264_verify.specs.Order.{header_demands}
 use Rattle.h264_verify.specs.History.{History, maps_of}
-use Rattle.h264_verify.specs.Pictures.{CodedPicture, goes_on as may_go_on, runs_of, closing_at, closing_demands}
+use Rattle.h264_verify.specs.Pictures.{CodedPicture, goes_on as may_go_on, runs_of}
+use Rattle.h264_verify.specs.Order.{closing_at, closing_demands}
 use Rattle.h264_verify.specs.Buffering.{closing_frames, last_frames}
 use Rattle.h264_verify.specs.Keeping.{ended_pictures, close_steps}
-use Rattle.h264_verify.specs.Closing.{whole_at, whole_picture, whole_steps}
+use Rattle.h264_verify.specs.Order.{whole_at, whole_picture, whole_steps}
 use Rattle.h264_verify.specs.Demands.{Demand}
 use Rattle.h264_verify.specs.declared.state.Summary.{Summary}
 use Rattle.h264_verify.specs.declared.state.Terms.{Terms}
-use Rattle.h264_verify.specs.Units.{unit_call, is_slice, slice_unit, other_content, content, content_steps, data_course, content_course, frames_at, end_steps, picture_demand, summary_of}
+use Rattle.h264_verify.specs.Units.{unit_call, is_slice, slice_unit, other_content, picture_demand, summary_of}
+use Rattle.h264_verify.specs.Order.{content, content_steps, data_course, content_course, frames_at, end_steps}
 use Rattle.h264_verify.specs.StepOutcome.{steps_outcome, structure_from, course_outcome}
 use Rattle.h264_verify.specs.UnitOutcome.{sps_outcome, pps_outcome, slice_outcome, header_content, whole_slice, joined, joined_on, joined_other, joined_by, unit_by_steps, unit_outcome, end_outcome}
 use Rattle.h264_verify.proofs.Stepping.{outcome, needs-judged, steps-append}
@@ -225,14 +228,14 @@ closing-all ends mode before =
 
 -- The end of the input, part by part.
 module _ {S : Type 0} (took : S → List Told → Type 0) (failures : S → ℕ) (mode : Mode) (before : History) (bit : ℕ) where
-  abbrev behind_last : List Step
-  behind_last = needs (picture_demand mode before bit ∷ []) ++ last_frames mode (runs_of before)
+  abbrev after_last : List Step
+  after_last = needs (picture_demand mode before bit ∷ []) ++ last_frames mode (runs_of before)
 
   three : (xs ys zs ts : List Step) → (xs ++ (ys ++ zs)) ++ ts ≡ xs ++ (ys ++ (zs ++ ts))
   three xs ys zs ts = append_assoc xs (ys ++ zs) ts ∙ ap (λ (l : List Step). xs ++ l) (append_assoc ys zs ts)
 
-  end-is : steps_outcome (end_steps mode before bit) ≡ (steps_outcome (close_steps mode true before) >>= λ _. steps_outcome behind_last)
-  end-is = ap steps_outcome (sym (three (whole_steps mode before) (needs (closing_demands before)) (closing_frames mode before) behind_last)) ∙ steps-append (close_steps mode true before) behind_last
+  end-is : steps_outcome (end_steps mode before bit) ≡ (steps_outcome (close_steps mode true before) >>= λ _. steps_outcome after_last)
+  end-is = ap steps_outcome (sym (three (whole_steps mode before) (needs (closing_demands before)) (closing_frames mode before) after_last)) ∙ steps-append (close_steps mode true before) after_last
 
   -- it stops while the last picture ends
   pub end-stops : (s s' : S) (e : Stop) → Plays {X = Unit {0}} took failures (λ u. u) (steps_outcome (close_steps mode true before)) s s' (Err e) → Plays {X = Summary} took failures (λ u. u) (end_outcome mode before bit) s s' (Err e)
@@ -240,16 +243,16 @@ module _ {S : Type 0} (took : S → List Told → Type 0) (failures : S → ℕ)
   end-stops s s' e p = plays-stops {X = Unit {0}} took failures (λ u. u) (λ u. u) (steps_outcome (end_steps mode before bit)) _ s s' e (plays-as took failures (λ u. u) _ _ s s' (Err e) end-is (plays-stops took failures (λ u. u) (λ u. u) (steps_outcome (close_steps mode true before)) _ s s' e p))
 
   module _ (s s1 s2 : S) (z : Unit {0}) (ended : Plays took failures (λ (u : Unit {0}). u) (steps_outcome (close_steps mode true before)) s s1 (Ok z)) where
-    end-steps : (r : Result (Unit {0}) Stop) → Plays took failures (λ u. u) (steps_outcome behind_last) s1 s2 r → Plays took failures (λ u. u) (steps_outcome (end_steps mode before bit)) s s2 r
-    end-steps r p = plays-as took failures (λ u. u) _ _ s s2 r end-is (plays-on took failures (λ u. u) (λ u. u) (steps_outcome (close_steps mode true before)) (λ _. steps_outcome behind_last) s s1 s2 z r ended p)
+    end-steps : (r : Result (Unit {0}) Stop) → Plays took failures (λ u. u) (steps_outcome after_last) s1 s2 r → Plays took failures (λ u. u) (steps_outcome (end_steps mode before bit)) s s2 r
+    end-steps r p = plays-as took failures (λ u. u) _ _ s s2 r end-is (plays-on took failures (λ u. u) (λ u. u) (steps_outcome (close_steps mode true before)) (λ _. steps_outcome after_last) s s1 s2 z r ended p)
 
     -- it stops after that
-    pub end-broken : (e : Stop) → Plays {X = Unit {0}} took failures (λ u. u) (steps_outcome behind_last) s1 s2 (Err e) → Plays {X = Summary} took failures (λ u. u) (end_outcome mode before bit) s s2 (Err e)
+    pub end-broken : (e : Stop) → Plays {X = Unit {0}} took failures (λ u. u) (steps_outcome after_last) s1 s2 (Err e) → Plays {X = Summary} took failures (λ u. u) (end_outcome mode before bit) s s2 (Err e)
     unfolding end_outcome
     end-broken e p = plays-stops {X = Unit {0}} took failures (λ u. u) (λ u. u) (steps_outcome (end_steps mode before bit)) _ s s2 e (end-steps (Err e) p)
 
     -- all rules are met
-    pub end-gives : (v : Unit {0}) (summary : Summary) → Plays took failures (λ (u : Unit {0}). u) (steps_outcome behind_last) s1 s2 (Ok v) → summary ≡ summary_of mode before → Plays took failures (λ u. u) (end_outcome mode before bit) s s2 (Ok summary)
+    pub end-gives : (v : Unit {0}) (summary : Summary) → Plays took failures (λ (u : Unit {0}). u) (steps_outcome after_last) s1 s2 (Ok v) → summary ≡ summary_of mode before → Plays took failures (λ u. u) (end_outcome mode before bit) s s2 (Ok summary)
     unfolding end_outcome
     end-gives v summary p e =
         subst (λ (w : Summary). Plays took failures (λ u. u) (end_outcome mode before bit) s s2 (Ok w)) (sym e)

@@ -15,10 +15,12 @@ use Rattle.h264_verify.specs.Content.{Content}
 use Rattle.h264_verify.specs.Content as contents
 use Rattle.h264_verify.specs.Demands.{Demand}
 use Rattle.h264_verify.specs.Steps.{Step, Tells, needs, AreMet, IsFirstStop, Course, Takes, Reads, Ends, told, Runs}
-use Rattle.h264_verify.specs.UnitHeader.{header_of, header_demands}
+use Rattle.h264_verify.specs.UnitHeader.{header_of}
+use Rattle.h264_verify.specs.Order.{header_demands}
 use Rattle.h264_verify.specs.History.{History}
-use Rattle.h264_verify.specs.Slices.{slice_steps}
-use Rattle.h264_verify.specs.Units.{unit_call, content_steps, data_course, unit_course}
+use Rattle.h264_verify.specs.Order.{slice_steps}
+use Rattle.h264_verify.specs.Units.{unit_call}
+use Rattle.h264_verify.specs.Order.{content_steps, data_course, unit_course}
 use Rattle.h264_verify.specs.Verdict.{IsStop, AtBytes, InCourse}
 use Rattle.h264_verify.proofs.Legal.{end_steps_at}
 

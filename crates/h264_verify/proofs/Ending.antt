@@ -26,14 +26,17 @@ use Rattle.h264_verify.specs.Demands.{Demand}
 use Rattle.h264_verify.specs.Steps.{Step, Needs, Tells, needs, AreMet, IsFirstStop, told}
 use Rattle.h264_verify.specs.UnitHeader.{header_of, nal_unit_type}
 use Rattle.h264_verify.specs.History.{History, maps_of}
-use Rattle.h264_verify.specs.Pictures.{CodedSlice, CodedPicture, ends_picture, with_sets, sets_at, goes_on, held_after, joined_to, runs_of, begins_at, prev_ref_frame_num_of, end_of_picture, closing_at, closing_demands}
-use Rattle.h264_verify.specs.Closing.{whole_picture, whole_steps, whole_at}
+use Rattle.h264_verify.specs.Pictures.{CodedSlice, CodedPicture, ends_picture, with_sets, sets_at, goes_on, held_after, joined_to, runs_of, begins_at, prev_ref_frame_num_of, end_of_picture}
+use Rattle.h264_verify.specs.Order.{closing_at, closing_demands}
+use Rattle.h264_verify.specs.Order.{whole_picture, whole_steps, whole_at}
 use Rattle.h264_verify.specs.Buffering.{ended_turn, after_all, within_newest, missing_before, missing_on, missing_steps, told_frames, end_frames, closing_frames, last_frames}
-use Rattle.h264_verify.specs.Slices.{is_idr_due, new_num_demand, rules_of, slice_call, steps_by, slice_steps}
+use Rattle.h264_verify.specs.Slices.{is_idr_due, new_num_demand, slice_call}
+use Rattle.h264_verify.specs.Order.{rules_of, steps_by, slice_steps}
 use Rattle.h264_verify.specs.Sound.{AreSound, has_ended}
-use Rattle.h264_verify.specs.Units.{frames_at, unit_course, picture_demand, end_steps}
+use Rattle.h264_verify.specs.Units.{picture_demand}
+use Rattle.h264_verify.specs.Order.{frames_at, unit_course, end_steps}
 use Rattle.h264_verify.specs.Within.{EndsWithin}
-use Rattle.h264_verify.specs.Verdict.{AreLegal, IsStopBehind, AtNext, AtTail, AtEnd, Verdict}
+use Rattle.h264_verify.specs.Verdict.{AreLegal, IsStopAfter, AtNext, AtTail, AtEnd, Verdict}
 use Rattle.h264_verify.proofs.Legal.{Met, end_steps_at}
 use Rattle.h264_verify.proofs.Leaving.{stands}
 use Rattle.h264_verify.proofs.Levels.{EachRoom, legal-room}
@@ -206,7 +209,7 @@ module _ (target : Target) (before : History) (first : List Told) (l : AreLegal 
       ends-both (whole_steps modes.Full before) (needs (closing_demands before) ++ (closing_frames modes.Full before ++ shown)) whole-steps-end
       (ends-behind (needs (closing_demands before)) (closing_frames modes.Full before ++ shown) (needs-end (closing_demands before)) (λ m. ends-both (closing_frames modes.Full before) shown (closing-end m) (λ t. frames-end (last_turn (after_all (runs_of before)).buffer).written)))
 
-  behind-all : (units : List NalUnit) (tail : Tail) (end : ℕ) (stop : Stop) (calls : List Told) → IsStopBehind (terms_of modes.Full target) before units tail end stop calls → EndAll calls
+  behind-all : (units : List NalUnit) (tail : Tail) (end : ℕ) (stop : Stop) (calls : List Told) → IsStopAfter (terms_of modes.Full target) before units tail end stop calls → EndAll calls
   behind-all units tail end stop calls (AtNext unit later e h) = stop-keeps EndAll all-closed target before unit (unit-all unit) stop calls h
   behind-all units tail end stop calls (AtTail e h n) = none-all calls n
   behind-all units tail end stop calls (AtEnd e t h) = stop-all (end_steps modes.Full before (8 * end)) (input-end (8 * end)) calls stop h

@@ -19,7 +19,7 @@ use Rattle.h264_verify.specs.History.{History, maps_with, maps_of}
 use Rattle.h264_verify.specs.Sound.{AreSound, has_ended, HasActive, NamesSet}
 use Rattle.h264_near.specs.Coded.{CodedMacroblock}
 use Rattle.h264_verify.specs.Keeping.{EndsAt, HoldsEnd, HoldsOpen, IsLeft, KeepsPictures, KeepsSlices, Entered, held_by, begins_by}
-use Rattle.h264_verify.specs.Pictures.{CodedSlice, CodedPicture, last_slice, with_sets, goes_on, open_of, begins_after, begins_at, joined_to, joined_by, runs_of, ends_picture, bit_behind, counted}
+use Rattle.h264_verify.specs.Pictures.{CodedSlice, CodedPicture, last_slice, with_sets, goes_on, open_of, begins_after, begins_at, joined_to, joined_by, runs_of, ends_picture, bit_after, counted}
 use Rattle.h264_verify.specs.Slices.{idr_id, is_idr_due, newest_idr_of}
 
 -- it begins a picture, as the code finds it
@@ -133,7 +133,7 @@ module _ (before : History) (unit : NalUnit) (h : Header) (ms : List CodedMacrob
   newest false [] = refl
   newest false (p ∷ ps) = refl
 
-  last-behind : (x : Bool) (ps : List CodedPicture) (bit : ℕ) → bit ≡ bit_behind unit → EndsAt (joined_to x slice ps) bit
+  last-behind : (x : Bool) (ps : List CodedPicture) (bit : ℕ) → bit ≡ bit_after unit → EndsAt (joined_to x slice ps) bit
   last-behind true ps bit e = e
   last-behind false [] bit e = tt
   last-behind false (p ∷ ps) bit e = e
@@ -143,7 +143,7 @@ module _ (before : History) (unit : NalUnit) (h : Header) (ms : List CodedMacrob
   one-more false [] = refl
   one-more false (p ∷ ps) = refl
 
-  pub slice-kept : HoldsOpen (open_of true pictures) new.picture → HoldsEnd pictures new.picture → new.newest_idr ≡ (if begins then idr_id h.idr_pic_id else old.newest_idr) → new.pictures ≡ (if begins then old.pictures + 1 else old.pictures) → new.behind ≡ bit_behind unit → new ≡ record old { picture = new.picture; newest_idr = new.newest_idr; pictures = new.pictures; due = new.due; behind = new.behind } → KeepsPictures true false pictures new
+  pub slice-kept : HoldsOpen (open_of true pictures) new.picture → HoldsEnd pictures new.picture → new.newest_idr ≡ (if begins then idr_id h.idr_pic_id else old.newest_idr) → new.pictures ≡ (if begins then old.pictures + 1 else old.pictures) → new.behind ≡ bit_after unit → new ≡ record old { picture = new.picture; newest_idr = new.newest_idr; pictures = new.pictures; due = new.due; behind = new.behind } → KeepsPictures true false pictures new
   slice-kept picture end id n bit same = record {
     picture = picture;
     end = end;

@@ -20,7 +20,7 @@ use Rattle.h264_verify.specs.KeepingUnits.{Keeps, KeepsSome}
 use Rattle.h264_verify.specs.Keeping.{ended_in}
 use Rattle.h264_verify.specs.UnitOutcome.{unit_outcome, end_outcome}
 use Rattle.h264_verify.specs.Turning.{Turns, EndsAll}
-use Rattle.h264_verify.specs.Feeding.{behind, GoesOn, StopsOn, FinishesOn}
+use Rattle.h264_verify.specs.Feeding.{standing_after, GoesOn, StopsOn, FinishesOn}
 use Rattle.h264_verify.specs.Verdict.{SameTold}
 use Rattle.h264_verify.proofs.AgreeingUnits.{of-more, of-both, calls-agree, decoded-told-agree, tells-agree, plays-agree}
 use Rattle.h264_verify.specs.Memory.{is_read, ChangesFormat}
@@ -60,7 +60,7 @@ fed-agree took n f g a x o = record { fed = x.fed; left = x.left; known_is = x.k
 
 module _ {S : Type 0} {terms : Terms} {took : S → List Call → Type 0} {frames : ℕ → Frame} {old : Standing History} where
   -- two steps
-  pub on-both : {mid split : Splitting} {first state : State} {piece left last : List ℕ} {s0 s1 s2 : S} (a : GoesOn terms took frames old mid first piece left s0 s1) → GoesOn terms took a.made (behind mid a.after) split state left last s1 s2 → GoesOn terms took frames old split state piece last s0 s2
+  pub on-both : {mid split : Splitting} {first state : State} {piece left last : List ℕ} {s0 s1 s2 : S} (a : GoesOn terms took frames old mid first piece left s0 s1) → GoesOn terms took a.made (standing_after mid a.after) split state left last s1 s2 → GoesOn terms took frames old split state piece last s0 s2
   unfolding goes-both goes-agree
   on-both a b =
       let l : ended_in a.after ≤ ended_in b.after = b.grows in
@@ -75,11 +75,11 @@ module _ {S : Type 0} {terms : Terms} {took : S → List Call → Type 0} {frame
       }
 
   -- a step, and then a stop
-  pub on-stops : {mid : Splitting} {first : State} {failures : S → ℕ} {piece left : List ℕ} {s0 s1 s2 : S} {stop : Stop} (a : GoesOn terms took frames old mid first piece left s0 s1) → failures s1 ≡ failures s0 → StopsOn terms took failures a.made (behind mid a.after) left s1 s2 stop → StopsOn terms took failures frames old piece s0 s2 stop
+  pub on-stops : {mid : Splitting} {first : State} {failures : S → ℕ} {piece left : List ℕ} {s0 s1 s2 : S} {stop : Stop} (a : GoesOn terms took frames old mid first piece left s0 s1) → failures s1 ≡ failures s0 → StopsOn terms took failures a.made (standing_after mid a.after) left s1 s2 stop → StopsOn terms took failures frames old piece s0 s2 stop
   on-stops {mid} {failures} {piece} {left} {s0} {s1} {s2} {stop} a k b = record {
     made = b.made;
     same = agree-both (ended_in old.state) (ended_in a.after) frames a.made b.made a.same a.grows b.same;
-    stops = stops-after (judging terms) (took_with b.made took) failures old (behind mid a.after) piece left s0 s1 s2 stop (goes-agree took (ended_in a.after) a.made b.made b.same a.goes a.of) k b.stops;
+    stops = stops-after (judging terms) (took_with b.made took) failures old (standing_after mid a.after) piece left s0 s1 s2 stop (goes-agree took (ended_in a.after) a.made b.made b.same a.goes a.of) k b.stops;
   }
 
 -- where the sink failed, that is the stop
@@ -99,16 +99,16 @@ told-err stop (inl e) = inl e
 told-err stop (inr e) = inr (ap Err e)
 
 -- two pieces, one after another, are as one
-pub on-then : {S : Type 0} {terms : Terms} {took : S → List Call → Type 0} {frames : ℕ → Frame} {old : Standing History} {mid split : Splitting} {first state : State} {a b : List ℕ} {s0 s1 s2 : S} (f : GoesOn terms took frames old mid first a [] s0 s1) → GoesOn terms took f.made (behind mid f.after) split state b [] s1 s2 → GoesOn terms took frames old split state (a ++ b) [] s0 s2
+pub on-then : {S : Type 0} {terms : Terms} {took : S → List Call → Type 0} {frames : ℕ → Frame} {old : Standing History} {mid split : Splitting} {first state : State} {a b : List ℕ} {s0 s1 s2 : S} (f : GoesOn terms took frames old mid first a [] s0 s1) → GoesOn terms took f.made (standing_after mid f.after) split state b [] s1 s2 → GoesOn terms took frames old split state (a ++ b) [] s0 s2
 unfolding goes-more
 on-then {terms} {took} {frames} {old} {mid} {first} {a} {b} {s0} {s1} f g =
     let more : GoesOn terms took frames old mid first (a ++ b) b s0 s1 = record { made = f.made; same = f.same; after = f.after; grows = f.grows; keeps = f.keeps; goes = goes-more b f.goes; of = f.of } in
     on-both more g
 
 -- no step yet
-pub on-none : {S : Type 0} (terms : Terms) (took : S → List Call → Type 0) (frames : ℕ → Frame) (split : Splitting) (before : History) (state : State) (piece : List ℕ) (s : S) → Keeps terms.mode frames before state → GoesOn terms took frames (behind split before) split state piece piece s s
+pub on-none : {S : Type 0} (terms : Terms) (took : S → List Call → Type 0) (frames : ℕ → Frame) (split : Splitting) (before : History) (state : State) (piece : List ℕ) (s : S) → Keeps terms.mode frames before state → GoesOn terms took frames (standing_after split before) split state piece piece s s
 unfolding goes-none
-on-none terms took frames split before state piece s k = record { made = frames; same = agree-none (ended_in before) frames; after = before; grows = not-less (ended_in before); keeps = k; goes = goes-none (judging terms) (took_with frames took) (behind split before) piece s; of = tt }
+on-none terms took frames split before state piece s k = record { made = frames; same = agree-none (ended_in before) frames; after = before; grows = not-less (ended_in before); keeps = k; goes = goes-none (judging terms) (took_with frames took) (standing_after split before) piece s; of = tt }
 
 -- nothing of the piece is left
 pub on-end : {S : Type 0} {terms : Terms} {took : S → List Call → Type 0} {frames : ℕ → Frame} {old : Standing History} {split : Splitting} {state : State} {piece rest : List ℕ} {s s' : S} → rest ≡ [] → GoesOn terms took frames old split state piece rest s s' → GoesOn terms took frames old split state piece [] s s'
@@ -118,12 +118,12 @@ pub none-left : (rest : List ℕ) → (length rest == 0) ≡ true → rest ≡ [
 none-left rest e = nil_from_length rest (eqb-true (length rest) 0 e)
 
 -- no unit has come yet
-pub on-push : {S : Type 0} (terms : Terms) (took : S → List Call → Type 0) (frames : ℕ → Frame) (before : History) (state : State) (s : S) {old mid new : Splitting} {piece : List ℕ} {n : ℕ} → Pushed old mid piece n → new ≡ mid → Keeps terms.mode frames before state → GoesOn terms took frames (behind old before) new state piece (drop n piece) s s
+pub on-push : {S : Type 0} (terms : Terms) (took : S → List Call → Type 0) (frames : ℕ → Frame) (before : History) (state : State) (s : S) {old mid new : Splitting} {piece : List ℕ} {n : ℕ} → Pushed old mid piece n → new ≡ mid → Keeps terms.mode frames before state → GoesOn terms took frames (standing_after old before) new state piece (drop n piece) s s
 unfolding goes-none-taken goes-push
 on-push terms took frames before state s {old} {mid} {new} {piece} {n} p e k = record { made = frames; same = agree-none (ended_in before) frames; after = before; grows = not-less (ended_in before); keeps = k; goes = goes-none-taken (judging terms) (took_with frames took) old mid new before piece n s p e; of = tt }
 
 -- a unit
-pub on-unit : {S X : Type 0} {terms : Terms} {took : S → List Call → Type 0} {failures : S → ℕ} {frames : ℕ → Frame} {before : History} {unit : NalUnit} {state : State} {s s' : S} {x : X} {old mid new : Splitting} {piece : List ℕ} {n : ℕ} → Pushed old mid piece n → Taken mid new unit → IsFalse mid.ended → Turns terms took failures frames before unit state s s' (Ok x) → GoesOn terms took frames (behind old before) new state piece (drop n piece) s s'
+pub on-unit : {S X : Type 0} {terms : Terms} {took : S → List Call → Type 0} {failures : S → ℕ} {frames : ℕ → Frame} {before : History} {unit : NalUnit} {state : State} {s s' : S} {x : X} {old mid new : Splitting} {piece : List ℕ} {n : ℕ} → Pushed old mid piece n → Taken mid new unit → IsFalse mid.ended → Turns terms took failures frames before unit state s s' (Ok x) → GoesOn terms took frames (standing_after old before) new state piece (drop n piece) s s'
 unfolding goes-both goes-push goes-unit
 on-unit {X} {terms} {took} {failures} {frames} {before} {unit} {s} {s'} {x} {old} {mid} {new} {piece} {n} p t live turn =
     let grows = unit-grows terms before turn.after unit turn.plays.plays.0 in
@@ -144,7 +144,7 @@ on-keeps g = record { frames = g.made; before = g.after; keeps = g.keeps }
 -- ---- the end of the input
 
 -- a unit, and then the end
-pub finishes-both : {S X : Type 0} {terms : Terms} {took : S → List Call → Type 0} {failures : S → ℕ} {frames : ℕ → Frame} {before : History} {unit : NalUnit} {state : State} {bit : ℕ} {s s' s'' : S} {x : X} {r : Result Summary Stop} (old mid new : Splitting) (end : ℕ) → Finished old mid → Taken mid new unit → end ≡ new.at + length new.rest → bit ≡ 8 * end → (r ≡ Err Memory → ⊥) → (t : Turns terms took failures frames before unit state s s' (Ok x)) → EndsAll terms.mode took failures t.made t.after bit (λ (y : Summary). y) s' s'' r → FinishesOn terms took failures frames (behind old before) s s'' r
+pub finishes-both : {S X : Type 0} {terms : Terms} {took : S → List Call → Type 0} {failures : S → ℕ} {frames : ℕ → Frame} {before : History} {unit : NalUnit} {state : State} {bit : ℕ} {s s' s'' : S} {x : X} {r : Result Summary Stop} (old mid new : Splitting) (end : ℕ) → Finished old mid → Taken mid new unit → end ≡ new.at + length new.rest → bit ≡ 8 * end → (r ≡ Err Memory → ⊥) → (t : Turns terms took failures frames before unit state s s' (Ok x)) → EndsAll terms.mode took failures t.made t.after bit (λ (y : Summary). y) s' s'' r → FinishesOn terms took failures frames (standing_after old before) s s'' r
 finishes-both {X} {terms} {took} {failures} {frames} {before} {unit} {s} {s'} {s''} {x} {r} old mid new end f t n e quiet turn last =
     let grows = unit-grows terms before turn.after unit turn.plays.plays.0 in
     let first : Plays (took_with last.made took) failures (λ (y : X). turn.after) (unit_outcome terms before unit) s s' (Ok x) = plays-agree took (ended_in turn.after) turn.made last.made failures (λ (y : X). turn.after) (unit_outcome terms before unit) s s' (Ok x) last.same grows.1 turn.plays in

@@ -12,7 +12,7 @@ use Rattle.h264_verify.specs.declared.slices.Slices.{Slices}
 use Rattle.h264_verify.specs.declared.picture.OpenPicture.{OpenPicture}
 use Rattle.h264_verify.specs.Telling.{took_with}
 use Rattle.h264_verify.specs.History.{History}
-use Rattle.h264_verify.specs.Pictures.{CodedPicture, last_slice, picture_size, bit_behind, goes_on, open_of, runs_of, held_after}
+use Rattle.h264_verify.specs.Pictures.{CodedPicture, last_slice, picture_size, bit_after, goes_on, open_of, runs_of, held_after}
 use Rattle.h264_verify.specs.Buffering.{ended_picture, end_frames}
 use Rattle.h264_header.specs.Picture.{is_reference}
 use Rattle.h264_picture.specs.Buffer.{buffer_size}
@@ -22,7 +22,7 @@ use Rattle.h264_verify.specs.Sound.{AreSound}
 use Rattle.h264_verify.proofs.Sound.{ended-sound-of, after-few, after-among}
 use Rattle.h264_verify.specs.Keeping.{KeepsFrames, KeepsDecoder, KeepsSlices, KeepsSomeEnd, KeepsSomeFrames, HoldsOpen, HoldsEnd, held_by}
 use Rattle.h264_verify.specs.Outcome.{Outcome, answers, gives, Plays}
-use Rattle.h264_verify.specs.Closing.{whole_picture}
+use Rattle.h264_verify.specs.Order.{whole_picture}
 use Rattle.h264_base.specs.declared.stop.Stop.TheVariants.{No}
 use Rattle.h264_base.specs.declared.rule.Rule.TheVariants.{Incomplete}
 use Rattle.h264_verify.specs.Steps.{Step}
@@ -98,7 +98,7 @@ is-met true bit e = refl
 is-met false bit e = let r : ◌≡◌ {A = Result (Unit {0}) Stop} (Ok tt) (Err (No bit Incomplete)) = ap (λ (o : Outcome (Unit {0})). o.answer) e in cc
 
 whole-of : (p : CodedPicture) (ps : List CodedPicture) → answers {A = Unit {0}} (Ok tt) ≡ steps_outcome (whole_picture (p ∷ ps)) → length (last_slice p).macroblocks ≡ picture_size p.first.sps
-whole-of p ps e = eqb-true _ _ (is-met (length (last_slice p).macroblocks == picture_size p.first.sps) (bit_behind (last_slice p).unit) e)
+whole-of p ps e = eqb-true _ _ (is-met (length (last_slice p).macroblocks == picture_size p.first.sps) (bit_after (last_slice p).unit) e)
 
 -- all its macroblocks are coded
 pub is-whole : (on : Bool) (pictures : List CodedPicture) (o : OpenPicture) (i : IsOpen on pictures o) → answers {A = Unit {0}} (Ok tt) ≡ steps_outcome (if on then whole_picture pictures else []) → length (last_slice i.p).macroblocks ≡ picture_size i.p.first.sps

@@ -6,7 +6,7 @@ use Rattle.h264_base.specs.declared.stop.Stop.{Stop}
 use Rattle.h264_base.specs.declared.stop.Stop.TheVariants.{Read}
 use Rattle.h264_base.specs.Call.{Call}
 use Rattle.h264_verify.specs.Progress.{Progress}
-use Rattle.h264_verify.specs.Feeding.{behind, GoesOn, StopsOn, FedOn, JudgesWith}
+use Rattle.h264_verify.specs.Feeding.{standing_after, GoesOn, StopsOn, FedOn, JudgesWith}
 use Rattle.h264_verify.proofs.Verdicts.{fed-more, fed-halts, fed-fails}
 
 pub some-is : (a b : List ℕ) → Some a ≡ Some b → b ≡ a
@@ -36,12 +36,12 @@ fed-ahead {bytes = bytes} more f = record {
 }
 
 -- a piece more
-pub heard-more : {S : Type 0} {terms : Terms} {took : S → List Call → Type 0} {bytes : List ℕ} {old new : Progress} {s0 s1 s2 : S} (piece : List ℕ) (n : ℕ) → new.terms ≡ old.terms → (f : FedOn terms took (Some []) bytes old s0 s1) → GoesOn old.terms took f.frames (behind old.split f.after) new.split new.state (take n piece) [] s1 s2 → FedOn terms took (Some []) (bytes ++ take n piece) new s0 s2
+pub heard-more : {S : Type 0} {terms : Terms} {took : S → List Call → Type 0} {bytes : List ℕ} {old new : Progress} {s0 s1 s2 : S} (piece : List ℕ) (n : ℕ) → new.terms ≡ old.terms → (f : FedOn terms took (Some []) bytes old s0 s1) → GoesOn old.terms took f.frames (standing_after old.split f.after) new.split new.state (take n piece) [] s1 s2 → FedOn terms took (Some []) (bytes ++ take n piece) new s0 s2
 unfolding fed-ahead
 heard-more piece n m f q = fed-more (Some []) piece n m (read-whole n piece) (fed-ahead (take n piece) f) q
 
 -- a stop at one
-pub heard-halts : {S : Type 0} {terms : Terms} {took : S → List Call → Type 0} {failures : S → ℕ} {bytes : List ℕ} {old : Progress} {s0 s1 s2 : S} {stop : Stop} (piece : List ℕ) (n : ℕ) → (f : FedOn terms took (Some []) bytes old s0 s1) → failures s1 ≡ failures s0 → StopsOn old.terms took failures f.frames (behind old.split f.after) (take n piece) s1 s2 stop → JudgesWith terms took failures (bytes ++ take n piece) s0 s2 (Err stop)
+pub heard-halts : {S : Type 0} {terms : Terms} {took : S → List Call → Type 0} {failures : S → ℕ} {bytes : List ℕ} {old : Progress} {s0 s1 s2 : S} {stop : Stop} (piece : List ℕ) (n : ℕ) → (f : FedOn terms took (Some []) bytes old s0 s1) → failures s1 ≡ failures s0 → StopsOn old.terms took failures f.frames (standing_after old.split f.after) (take n piece) s1 s2 stop → JudgesWith terms took failures (bytes ++ take n piece) s0 s2 (Err stop)
 unfolding fed-ahead
 heard-halts piece n f k q = fed-halts (Some []) piece n (read-whole n piece) (fed-ahead (take n piece) f) k q
 

@@ -25,7 +25,8 @@ use Rattle.h264_header.specs.Layout.{sets_of}
 use Rattle.h264_verify.specs.KeepingUnits.{Keeps, KeepsWithin, KeepsSome}
 use Rattle.h264_verify.specs.Keeping.{KeepsSomeSlice, KeepsFrames, KeepsDecoder, EntersDecoder, EntersBy, IsLeft, KeepsSlices}
 use Rattle.h264_header.specs.declared.header.Header.{Header}
-use Rattle.h264_verify.specs.Units.{is_slice, content_steps}
+use Rattle.h264_verify.specs.Units.{is_slice}
+use Rattle.h264_verify.specs.Order.{content_steps}
 use Rattle.h264_verify.specs.StepOutcome.{steps_outcome}
 use Rattle.h264_verify.specs.UnitOutcome.{slice_outcome, whole_slice, joined, joined_other}
 use Rattle.h264_verify.specs.Turning.{Joins}

@@ -18,11 +18,13 @@ use Rattle.h264_verify.specs.Telling.{Told}
 use Rattle.h264_verify.specs.Outcome.{Outcome, Plays}
 use Rattle.h264_verify.specs.Demands.{judged}
 use Rattle.h264_verify.specs.History.{History, maps_of}
-use Rattle.h264_verify.specs.Closing.{whole_steps}
+use Rattle.h264_verify.specs.Order.{whole_steps}
 use Rattle.h264_verify.specs.Buffering.{closing_frames, ended_picture, frame_count}
 use Rattle.h264_verify.specs.StepOutcome.{steps_outcome}
-use Rattle.h264_verify.specs.Slices.{first_mb_demands, is_idr_due, slice_steps}
-use Rattle.h264_verify.specs.Pictures.{CodedSlice, CodedPicture, with_sets, open_of, begins_after, begins_at, runs_of, closing_demands}
+use Rattle.h264_verify.specs.Slices.{first_mb_demands, is_idr_due}
+use Rattle.h264_verify.specs.Order.{slice_steps}
+use Rattle.h264_verify.specs.Pictures.{CodedSlice, CodedPicture, with_sets, open_of, begins_after, begins_at, runs_of}
+use Rattle.h264_verify.specs.Order.{closing_demands}
 use Rattle.h264_verify.specs.Keeping.{KeepsDecoder, HoldsData, HoldsBefore, Entered, standing_demands, told_rules, coded_before, close_steps}
 use Rattle.h264_verify.specs.Steps.{Step, needs}
 use Rattle.h264_verify.proofs.Slicing.{refused, err-named, own_steps, at-standing, at-place, behind-place}

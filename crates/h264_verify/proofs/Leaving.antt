@@ -27,17 +27,20 @@ use Rattle.h264_verify.specs.Content as contents
 use Rattle.h264_verify.specs.Steps.{Step, needs, AreMet, Reads, Ends, Runs}
 use Rattle.h264_verify.specs.UnitHeader.{header_of, nal_unit_type}
 use Rattle.h264_verify.specs.History.{History, ReadUnit, maps_of, maps_with}
-use Rattle.h264_verify.specs.Pictures.{CodedSlice, CodedPicture, last_in, last_slice, picture_size, ends_picture, with_sets, sets_at, goes_on, open_of, begins_after, begins_at, joined_to, runs_of, coded_of, closing_at, closing_demands}
-use Rattle.h264_verify.specs.Closing.{whole_at, whole_steps}
+use Rattle.h264_verify.specs.Pictures.{CodedSlice, CodedPicture, last_in, last_slice, picture_size, ends_picture, with_sets, sets_at, goes_on, open_of, begins_after, begins_at, joined_to, runs_of, coded_of}
+use Rattle.h264_verify.specs.Order.{closing_at, closing_demands}
+use Rattle.h264_verify.specs.Order.{whole_at, whole_steps}
 use Rattle.h264_verify.specs.Lists.{list_in}
-use Rattle.h264_verify.specs.Slices.{is_idr_due, first_mb_demands, first_slice_rules, later_slice_rules, rules_of, slice_call, steps_by, slice_steps}
+use Rattle.h264_verify.specs.Slices.{is_idr_due, first_mb_demands, slice_call}
+use Rattle.h264_verify.specs.Order.{first_slice_rules, later_slice_rules, rules_of, steps_by, slice_steps}
 use Rattle.h264_verify.specs.Steps as step
 use Rattle.h264_verify.specs.Data.{picture_set, coded_so_far, slice_syntax, data_by, slice_data_at}
 use Rattle.h264_verify.specs.Decoding.{EachSlice}
 use Rattle.h264_verify.specs.Buffering.{end_frames, closing_frames, last_frames}
 use Rattle.h264_verify.specs.Keeping.{ended_pictures, standing_demands}
 use Rattle.h264_verify.specs.Sound.{IsMarked, AreSound, has_ended, HasActive}
-use Rattle.h264_verify.specs.Units.{slice_unit, content_steps, data_course, frames_at, picture_demand, end_steps}
+use Rattle.h264_verify.specs.Units.{slice_unit, picture_demand}
+use Rattle.h264_verify.specs.Order.{content_steps, data_course, frames_at, end_steps}
 use Rattle.h264_verify.specs.Verdict.{IsLegal, AreLegal, Holds}
 use Rattle.h264_verify.proofs.AgreeingUnits.{decoded-last}
 use Rattle.h264_verify.proofs.Alike.{last-of}

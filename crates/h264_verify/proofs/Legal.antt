@@ -31,11 +31,13 @@ use Rattle.h264_verify.specs.Content.{Content}
 use Rattle.h264_verify.specs.Content as contents
 use Rattle.h264_verify.specs.Demands.{Demand, judged}
 use Rattle.h264_verify.specs.Steps.{Step, Needs, Tells, needs, AreMet, Course, Takes, Reads, Ends, told, Runs}
-use Rattle.h264_verify.specs.UnitHeader.{header_of, nal_unit_type, header_demands}
+use Rattle.h264_verify.specs.UnitHeader.{header_of, nal_unit_type}
+use Rattle.h264_verify.specs.Order.{header_demands}
 use Rattle.h264_verify.specs.History.{History, ReadUnit, maps_of}
-use Rattle.h264_verify.specs.Pictures.{closing_at}
-use Rattle.h264_verify.specs.Closing.{whole_at}
-use Rattle.h264_verify.specs.Units.{unit_call, is_slice, slice_unit, other_content, content, content_steps, data_course, frames_at, content_course}
+use Rattle.h264_verify.specs.Order.{closing_at}
+use Rattle.h264_verify.specs.Order.{whole_at}
+use Rattle.h264_verify.specs.Units.{unit_call, is_slice, slice_unit, other_content}
+use Rattle.h264_verify.specs.Order.{content, content_steps, data_course, frames_at, content_course}
 use Rattle.h264_verify.specs.Verdict.{IsLegal}
 use Rattle.h264_verify.proofs.AgreeingUnits.{decoded-last}
 use Rattle.h264_verify.proofs.Growing.{some-mapped}
@@ -144,8 +146,8 @@ abbrev pub end_steps_at : History → NalUnit → List Step
 end_steps_at before unit = whole_at modes.Full (nal_unit_type (header_of unit)) before ++ (needs (closing_at (nal_unit_type (header_of unit)) before) ++ frames_at modes.Full (nal_unit_type (header_of unit)) before)
 
 -- what follows its content
-abbrev behind_content : History → NalUnit → Content → ℕ → Course
-behind_content before unit found bit = Takes (content_steps modes.Full before unit found) (data_course modes.Full before unit found bit)
+abbrev after_content : History → NalUnit → Content → ℕ → Course
+after_content before unit found bit = Takes (content_steps modes.Full before unit found) (data_course modes.Full before unit found bit)
 
 -- before its content the picture that may go on has ended, if it ends there
 pub record HasEnded (before : History) (unit : NalUnit) (calls : List Told) : Type 0 where
@@ -174,7 +176,7 @@ has-met target before r calls l =
     let first = takes body (byte_steps unit) (Takes (said_steps unit) (Takes (end_steps_at before unit) (content_course (terms_of modes.Full target) before unit))) calls c l.runs in
     let second = takes body (said_steps unit) (Takes (end_steps_at before unit) (content_course (terms_of modes.Full target) before unit)) first.1 c first.3 in
     let third = takes body (end_steps_at before unit) (content_course (terms_of modes.Full target) before unit) second.1 c second.3 in
-    let fourth = reads body (content (terms_of modes.Full target) kind before unit) 0 (behind_content before unit) third.1 c third.3 in
+    let fourth = reads body (content (terms_of modes.Full target) kind before unit) 0 (after_content before unit) third.1 c third.3 in
     let fifth = takes body (content_steps modes.Full before unit fourth.1) (data_course modes.Full before unit fourth.1 fourth.2) fourth.3 c fourth.5 in
     let inner : (frames : ℕ → Frame) → AreDecoded frames calls → AreDecoded frames second.1 = λ frames d.
     decoded-behind frames first.1 second.0 second.1 second.4 (decoded-behind frames calls first.0 first.1 first.4 d) in

@@ -27,7 +27,8 @@ use Rattle.h264_verify.specs.Content as contents
 use Rattle.h264_verify.specs.Outcome.{Outcome, answers, Plays, PlaysBy}
 use Rattle.h264_verify.specs.History.{History, maps_of}
 use Rattle.h264_verify.specs.Pictures.{CodedSlice, CodedPicture, with_sets, sets_at, begins_at, runs_of}
-use Rattle.h264_verify.specs.Slices.{first_mb_demands, slice_steps}
+use Rattle.h264_verify.specs.Slices.{first_mb_demands}
+use Rattle.h264_verify.specs.Order.{slice_steps}
 use Rattle.h264_verify.specs.Data.{coded_so_far, data_in, data_by, slice_data_at}
 use Rattle.h264_header.specs.declared.header.SliceUnit.{SliceUnit}
 use Rattle.h264_header.specs.Header.{header}

@@ -16,7 +16,8 @@ use Rattle.h264_verify.specs.declared.slices.Slices.{Slices}
 use Rattle.h264_verify.specs.declared.picture.OpenPicture.{OpenPicture}
 use Rattle.h264_verify.specs.Buffering.{after_all, gaps_turn}
 use Rattle.h264_verify.specs.Demands.{judged}
-use Rattle.h264_verify.specs.Slices.{is_i, type_demand, first_slice_rules, later_slice_rules}
+use Rattle.h264_verify.specs.Slices.{is_i, type_demand}
+use Rattle.h264_verify.specs.Order.{first_slice_rules, later_slice_rules}
 use Rattle.h264_verify.specs.Pictures.{CodedSlice, CodedPicture, with_sets, open_of, begins_after, goes_on, runs_of, counted, prev_ref_frame_num_of, held_after, held_in}
 use Rattle.h264_verify.proofs.Holding.{ended-gap}
 use Rattle.h264_verify.proofs.Filling.{sized}

@@ -28,13 +28,14 @@ use Rattle.h264_verify.specs.Content as contents
 use Rattle.h264_verify.specs.Outcome.{Outcome, answers, Plays, IsNamed}
 use Rattle.h264_verify.specs.Demands.{Demand, judged}
 use Rattle.h264_verify.specs.History.{History, with_pair, maps_with, maps_of}
-use Rattle.h264_verify.specs.Slices.{has_content, is_active, set_demand, list_demand, first_mb_demands, is_idr_due, rules_of, slice_call, steps_by}
+use Rattle.h264_verify.specs.Slices.{has_content, is_active, set_demand, list_demand, first_mb_demands, is_idr_due, slice_call}
+use Rattle.h264_verify.specs.Order.{rules_of, steps_by}
 use Rattle.h264_verify.specs.Steps.{Step, Tells, needs}
 use Rattle.h264_verify.specs.StepOutcome.{steps_outcome}
 use Rattle.h264_verify.specs.Pictures.{CodedSlice, with_sets, sets_at, begins_at, joined_to, runs_of}
 use Rattle.h264_verify.specs.Keeping.{standing_demands, slice_rules, told_rules, coded_before}
 use Rattle.h264_verify.proofs.Playing.{answers-plays}
-use Rattle.h264_verify.proofs.Stepping.{needs-first, needs-ok, needs-err, behind_rules}
+use Rattle.h264_verify.proofs.Stepping.{needs-first, needs-ok, needs-err, after_rules}
 
 -- one rule before others: met, or not
 one-met : (d : Demand) (r : Result (Unit {0}) Stop) → d.met ≡ true → (if d.met then r else Err (No d.bit d.rule)) ≡ r
@@ -193,7 +194,7 @@ module _ (mode : Mode) (before : History) (unit : NalUnit) (h : Header) (begins 
     standing-rest true sets ts = three (needs (standing_demands true sets.1 due maps (8 * unit.from) h)) (needs (first_mb_demands mode 0 h)) (slice_rules mode true (runs_of before) (slice sets)) ts
     standing-rest false sets ts = three (needs (standing_demands false sets.1 due maps (8 * unit.from) h)) (needs (first_mb_demands mode (coded_before false (runs_of before)) h)) (slice_rules mode false (runs_of before) (slice sets)) ts
 
-    with-sets : (sets : Pps × Sps) → sets_of maps h.pic_parameter_set_id.value ≡ Some sets → steps_outcome own_steps ≡ behind_rules (judged (standing_demands begins sets.1 due maps (8 * unit.from) h)) (needs place ++ rules_then sets)
+    with-sets : (sets : Pps × Sps) → sets_of maps h.pic_parameter_set_id.value ≡ Some sets → steps_outcome own_steps ≡ after_rules (judged (standing_demands begins sets.1 due maps (8 * unit.from) h)) (needs place ++ rules_then sets)
     with-sets sets n =
         ap (λ o. steps_outcome (steps_by mode o before unit h)) (ap (λ m. sets_of m h.pic_parameter_set_id.value) (sym maps-are) ∙ n)
         ∙ ap (λ x. steps_outcome (rules_of mode x (is_idr_due before) (maps_of before) (runs_of before) (slice sets) ++ Tells (Said (slice_call (joined_to x (slice sets) (runs_of before)) (slice sets))) ∷ [])) (sym b)
@@ -204,11 +205,11 @@ module _ (mode : Mode) (before : History) (unit : NalUnit) (h : Header) (begins 
 
     -- where it stands is against a rule
     pub at-standing : (sets : Pps × Sps) → sets_of maps h.pic_parameter_set_id.value ≡ Some sets → (e : Stop) → Err e ≡ judged (standing_demands begins sets.1 due maps (8 * unit.from) h) → steps_outcome own_steps ≡ answers (Err e)
-    at-standing sets n e p = with-sets sets n ∙ ap (λ r. behind_rules r (needs place ++ rules_then sets)) (sym p)
+    at-standing sets n e p = with-sets sets n ∙ ap (λ r. after_rules r (needs place ++ rules_then sets)) (sym p)
 
     module _ (sets : Pps × Sps) (named : sets_of maps h.pic_parameter_set_id.value ≡ Some sets) (x : Unit {0}) (stands : Ok x ≡ judged (standing_demands begins sets.1 due maps (8 * unit.from) h)) where
       behind-standing : steps_outcome own_steps ≡ steps_outcome (needs place ++ rules_then sets)
-      behind-standing = with-sets sets named ∙ ap (λ r. behind_rules r (needs place ++ rules_then sets)) (sym stands)
+      behind-standing = with-sets sets named ∙ ap (λ r. after_rules r (needs place ++ rules_then sets)) (sym stands)
 
       -- it does not begin where the macroblocks so far end
       pub at-place : (e : Stop) → Err e ≡ judged place → steps_outcome own_steps ≡ answers (Err e)

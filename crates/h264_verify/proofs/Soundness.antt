@@ -14,7 +14,7 @@ use Rattle.h264_dpb.specs.Turns.{Shown, missing_turn}
 use Rattle.h264_verify.specs.Steps.{Step, needs}
 use Rattle.h264_verify.specs.Pictures.{CodedSlice, CodedPicture, held_after, end_of_picture}
 use Rattle.h264_verify.specs.Buffering.{told_frames, missing_steps, missing_on, missing_before, after_all}
-use Rattle.h264_verify.specs.Slices.{rules_of}
+use Rattle.h264_verify.specs.Order.{rules_of}
 use Rattle.h264_verify.specs.Held.{has_gap_filled}
 use Rattle.h264_verify.specs.Sound.{AreSound, has_ended}
 use Rattle.h264_verify.specs.Keeping.{ended_pictures}

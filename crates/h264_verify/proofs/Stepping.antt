@@ -64,23 +64,23 @@ needs-judged (d ∷ ds) = by d.met refl (needs-judged ds)
     by false e h = choice-unmet d.met _ _ e ∙ sym (ap (λ (r : Result (Unit {0}) Stop). answers r) (choice-unmet d.met _ _ e))
 
 -- what comes of steps after rules with this answer
-abbrev pub behind_rules : Result (Unit {0}) Stop → List Step → Outcome (Unit {0})
-behind_rules (Ok x) steps = steps_outcome steps
-behind_rules (Err stop) steps = answers (Err stop)
+abbrev pub after_rules : Result (Unit {0}) Stop → List Step → Outcome (Unit {0})
+after_rules (Ok x) steps = steps_outcome steps
+after_rules (Err stop) steps = answers (Err stop)
 
-pub needs-first : (ds : List Demand) (steps : List Step) → steps_outcome (needs ds ++ steps) ≡ behind_rules (judged ds) steps
+pub needs-first : (ds : List Demand) (steps : List Step) → steps_outcome (needs ds ++ steps) ≡ after_rules (judged ds) steps
 needs-first [] steps = refl
 needs-first (d ∷ ds) steps = by d.met refl (needs-first ds steps)
   where
-    by : (b : Bool) → d.met ≡ b → steps_outcome (needs ds ++ steps) ≡ behind_rules (judged ds) steps → steps_outcome (needs (d ∷ ds) ++ steps) ≡ behind_rules (judged (d ∷ ds)) steps
-    by true e h = choice-met d.met _ _ e ∙ h ∙ sym (ap (λ r. behind_rules r steps) (choice-met d.met _ _ e))
-    by false e h = choice-unmet d.met _ _ e ∙ sym (ap (λ r. behind_rules r steps) (choice-unmet d.met _ _ e))
+    by : (b : Bool) → d.met ≡ b → steps_outcome (needs ds ++ steps) ≡ after_rules (judged ds) steps → steps_outcome (needs (d ∷ ds) ++ steps) ≡ after_rules (judged (d ∷ ds)) steps
+    by true e h = choice-met d.met _ _ e ∙ h ∙ sym (ap (λ r. after_rules r steps) (choice-met d.met _ _ e))
+    by false e h = choice-unmet d.met _ _ e ∙ sym (ap (λ r. after_rules r steps) (choice-unmet d.met _ _ e))
 
 pub needs-ok : (ds : List Demand) (steps : List Step) (x : Unit {0}) → judged ds ≡ Ok x → steps_outcome (needs ds ++ steps) ≡ steps_outcome steps
-needs-ok ds steps x h = needs-first ds steps ∙ ap (λ r. behind_rules r steps) h
+needs-ok ds steps x h = needs-first ds steps ∙ ap (λ r. after_rules r steps) h
 
 pub needs-err : (ds : List Demand) (steps : List Step) (e : Stop) → judged ds ≡ Err e → steps_outcome (needs ds ++ steps) ≡ answers (Err e)
-needs-err ds steps e h = needs-first ds steps ∙ ap (λ r. behind_rules r steps) h
+needs-err ds steps e h = needs-first ds steps ∙ ap (λ r. after_rules r steps) h
 
 -- steps before others
 more-by : (call : Told) (next : Outcome (Unit {0})) (calls : List Told) (a : Result (Unit {0}) Stop) → with_calls (call ∷ []) (goes_on calls (λ _. next) a) ≡ goes_on (call ∷ calls) (λ _. next) a

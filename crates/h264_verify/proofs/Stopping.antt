@@ -22,14 +22,17 @@ use Rattle.h264_verify.specs.Steps.{Step, Needs, Tells, needs, AreMet, IsFirstSt
 use Rattle.h264_verify.specs.UnitHeader.{header_of, nal_unit_type}
 use Rattle.h264_dpb.specs.Kept.{shown_call}
 use Rattle.h264_verify.specs.History.{History, ReadUnit, maps_of}
-use Rattle.h264_verify.specs.Pictures.{CodedPicture, ends_picture, with_sets, sets_at, goes_on, joined_to, runs_of, begins_at, closing_at, closing_demands}
-use Rattle.h264_verify.specs.Closing.{whole_picture, whole_steps, whole_at}
+use Rattle.h264_verify.specs.Pictures.{CodedPicture, ends_picture, with_sets, sets_at, goes_on, joined_to, runs_of, begins_at}
+use Rattle.h264_verify.specs.Order.{closing_at, closing_demands}
+use Rattle.h264_verify.specs.Order.{whole_picture, whole_steps, whole_at}
 use Rattle.h264_verify.specs.Buffering.{end_frames, closing_frames, last_frames}
 use Rattle.h264_verify.specs.Keeping.{ended_pictures, ended_in}
-use Rattle.h264_verify.specs.Slices.{is_idr_due, rules_of, slice_call, steps_by, slice_steps}
-use Rattle.h264_verify.specs.Units.{frames_at, unit_course, picture_demand, end_steps}
+use Rattle.h264_verify.specs.Slices.{is_idr_due, slice_call}
+use Rattle.h264_verify.specs.Order.{rules_of, steps_by, slice_steps}
+use Rattle.h264_verify.specs.Units.{picture_demand}
+use Rattle.h264_verify.specs.Order.{frames_at, unit_course, end_steps}
 use Rattle.h264_verify.specs.Family.{IsFrontOf}
-use Rattle.h264_verify.specs.Verdict.{IsLegal, AreLegal, IsStopBehind, AtNext, AtTail, AtEnd, Verdict}
+use Rattle.h264_verify.specs.Verdict.{IsLegal, AreLegal, IsStopAfter, AtNext, AtTail, AtEnd, Verdict}
 use Rattle.h264_verify.proofs.AgreeingUnits.{of-both, of-more, decoded-last}
 use Rattle.h264_verify.proofs.Family.{same-on, legal-family}
 use Rattle.h264_verify.proofs.Growing.{StepsOf, needs-of, steps-of, elements-of, slice-of, picture-end-of, ended-few, ended-whole, end-of}
@@ -202,7 +205,7 @@ module _ (before : History) (p : CodedPicture) (ps : List CodedPicture) (runs : 
       steps-fair (whole_steps modes.Full before) (needs (closing_demands before) ++ rest) whole-fair
       (steps-fair (needs (closing_demands before)) rest (needs-fair (closing_demands before)) (closing-fair (needs (picture_demand modes.Full before bit ∷ []) ++ last_frames modes.Full (runs_of before))))
 
-  behind-fair : (target : Target) (units : List NalUnit) (tail : Tail) (end : ℕ) (stop : Stop) (calls : List Told) → IsStopBehind (terms_of modes.Full target) before units tail end stop calls → IsFair calls
+  behind-fair : (target : Target) (units : List NalUnit) (tail : Tail) (end : ℕ) (stop : Stop) (calls : List Told) → IsStopAfter (terms_of modes.Full target) before units tail end stop calls → IsFair calls
   behind-fair target units tail end stop calls (AtNext unit later e h) = stop-keeps IsFair fair-closed target before unit (fair-unit unit) stop calls h
   behind-fair target units tail end stop calls (AtTail e h n) = none-fair calls n
   behind-fair target units tail end stop calls (AtEnd e t h) = stop-fair (end_steps modes.Full before (8 * end)) (end-fair (8 * end)) calls stop h
@@ -244,12 +247,12 @@ told-end before bit calls h = record {
 }
 
 -- a stop
-behind-of : (target : Target) (before : History) (units : List NalUnit) (tail : Tail) (end : ℕ) (stop : Stop) (calls : List Told) → IsStopBehind (terms_of modes.Full target) before units tail end stop calls → AreOf (length (runs_of before)) calls
+behind-of : (target : Target) (before : History) (units : List NalUnit) (tail : Tail) (end : ℕ) (stop : Stop) (calls : List Told) → IsStopAfter (terms_of modes.Full target) before units tail end stop calls → AreOf (length (runs_of before)) calls
 behind-of target before units tail end stop calls (AtNext unit later e h) = stop-keeps (AreOf (length (runs_of before))) (of-closed (length (runs_of before))) target before unit (of-unit target before unit) stop calls h
 behind-of target before units tail end stop calls (AtTail e h n) = subst (AreOf (length (runs_of before))) (sym n) tt
 behind-of target before units tail end stop calls (AtEnd e t h) = subst (AreOf (length (runs_of before))) (ap (λ (o : Outcome (Unit {0})). o.calls) (stop-is (end_steps modes.Full before (8 * end)) calls stop h)) (end-of modes.Full before (8 * end))
 
-told-stop : (target : Target) (before : History) (units : List NalUnit) (tail : Tail) (end : ℕ) (stop : Stop) (calls : List Told) → IsStopBehind (terms_of modes.Full target) before units tail end stop calls → IsTold before calls
+told-stop : (target : Target) (before : History) (units : List NalUnit) (tail : Tail) (end : ℕ) (stop : Stop) (calls : List Told) → IsStopAfter (terms_of modes.Full target) before units tail end stop calls → IsTold before calls
 told-stop target before units tail end stop calls h = record {
   of = behind-of target before units tail end stop calls h;
   fair = λ p ps runs on. behind-fair before p ps runs on target units tail end stop calls h;

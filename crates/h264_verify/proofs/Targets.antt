@@ -19,12 +19,14 @@ use Rattle.h264_rbsp.specs.Rbsp.{body_of}
 use Rattle.h264_verify.specs.Telling.{Told, Said}
 use Rattle.h264_verify.specs.Content.{Content}
 use Rattle.h264_verify.specs.Steps.{Step, Tells, needs, Course, Takes, Reads, Runs}
-use Rattle.h264_verify.specs.UnitHeader.{header_of, nal_unit_type, header_demands}
-use Rattle.h264_verify.specs.Pictures.{closing_at}
-use Rattle.h264_verify.specs.Closing.{whole_at}
+use Rattle.h264_verify.specs.UnitHeader.{header_of, nal_unit_type}
+use Rattle.h264_verify.specs.Order.{header_demands}
+use Rattle.h264_verify.specs.Order.{closing_at}
+use Rattle.h264_verify.specs.Order.{whole_at}
 use Rattle.h264_verify.specs.History.{History}
 use Rattle.h264_verify.specs.declared.state.Summary.{Summary}
-use Rattle.h264_verify.specs.Units.{terms_of, content, other_content, content_steps, data_course, frames_at, unit_call, unit_course}
+use Rattle.h264_verify.specs.Units.{terms_of, other_content, unit_call}
+use Rattle.h264_verify.specs.Order.{content, content_steps, data_course, frames_at, unit_course}
 use Rattle.h264_verify.specs.Verdict.{AreLegal, Holds}
 
 -- where the first structure gives a value, the second runs as it does
@@ -141,11 +143,11 @@ module _ (mode : Mode) where
   abbrev ending_steps : History → NalUnit → List Step
   ending_steps before unit = whole_at mode (nal_unit_type (header_of unit)) before ++ (needs (closing_at (nal_unit_type (header_of unit)) before) ++ frames_at mode (nal_unit_type (header_of unit)) before)
 
-  abbrev behind_content : History → NalUnit → Content → ℕ → Course
-  behind_content before unit found bit = Takes (content_steps mode before unit found) (data_course mode before unit found bit)
+  abbrev after_content : History → NalUnit → Content → ℕ → Course
+  after_content before unit found bit = Takes (content_steps mode before unit found) (data_course mode before unit found bit)
 
   abbrev read_for : Target → History → NalUnit → Course
-  read_for target before unit = Reads (content (terms_of mode target) (nal_unit_type (header_of unit)) before unit) 0 (behind_content before unit)
+  read_for target before unit = Reads (content (terms_of mode target) (nal_unit_type (header_of unit)) before unit) 0 (after_content before unit)
 
   unit-follows : (before : History) (unit : NalUnit) (c : Content) (calls : List Told) → Runs (body_of unit) (unit_course (terms_of mode Baseline) before unit) calls (Ok c) → Runs (body_of unit) (unit_course (terms_of mode MainIP) before unit) calls (Ok c)
   unit-follows before unit c calls r =
@@ -155,7 +157,7 @@ module _ (mode : Mode) where
       takes-follows body (byte_steps unit) (told Baseline) (told MainIP) c
       (takes-follows body (said_steps unit) (ended Baseline) (ended MainIP) c
       (takes-follows body (ending_steps before unit) (read_for Baseline before unit) (read_for MainIP before unit) c
-      (reads-follows body (behind_content before unit) c (content-follows (nal_unit_type (header_of unit)) before unit))))
+      (reads-follows body (after_content before unit) c (content-follows (nal_unit_type (header_of unit)) before unit))))
       calls r
 
   legal-follows : (units : History) (calls : List Told) → AreLegal (terms_of mode Baseline) units calls → AreLegal (terms_of mode MainIP) units calls

@@ -27,12 +27,13 @@ use Rattle.h264_verify.specs.Steps.{AreMet, IsFirstStop, Runs}
 use Rattle.h264_verify.specs.History.{History, ReadUnit}
 use Rattle.h264_verify.specs.KeepingUnits.{Keeps}
 use Rattle.h264_verify.specs.Keeping.{ended_in}
-use Rattle.h264_verify.specs.Units.{unit_course, end_steps, summary_of}
+use Rattle.h264_verify.specs.Units.{summary_of}
+use Rattle.h264_verify.specs.Order.{unit_course, end_steps}
 use Rattle.h264_verify.specs.StepOutcome.{steps_outcome, course_outcome}
 use Rattle.h264_verify.specs.UnitOutcome.{unit_outcome, end_outcome}
 use Rattle.h264_verify.specs.Progress.{Progress, IsFresh}
-use Rattle.h264_verify.specs.Feeding.{behind, GoesOn, StopsOn, FinishesOn, FedOn, JudgesWith, WasFed, IsFed}
-use Rattle.h264_verify.specs.Verdict.{IsSound, IsLegal, IsStop, AtBytes, InCourse, in_order, AreLegal, Holds, IsStopBehind, AtNext, AtTail, AtEnd, StopsAt, Verdict, Whole, Front, IsWanting, BeforeNext, ForPicture, WantsAt, Wanting, JudgedBy, Judged}
+use Rattle.h264_verify.specs.Feeding.{standing_after, GoesOn, StopsOn, FinishesOn, FedOn, JudgesWith, WasFed, IsFed}
+use Rattle.h264_verify.specs.Verdict.{IsSound, IsLegal, IsStop, AtBytes, InCourse, in_order, AreLegal, Holds, IsStopAfter, AtNext, AtTail, AtEnd, StopsAt, Verdict, Whole, Front, IsWanting, BeforeNext, ForPicture, WantsAt, Wanting, JudgedBy, Judged}
 use Rattle.h264_verify.proofs.Tellings.{tells-none}
 use Rattle.h264_verify.proofs.AgreeingUnits.{of-both, of-more}
 use Rattle.h264_verify.proofs.Feeding.{with-both, goes-both}
@@ -139,7 +140,7 @@ holds-comes terms bytes calls summary h = record {
     at-length : (n : ℕ) → end_outcome terms.mode h.units (8 * (0 + n)) ≡ end_outcome terms.mode h.units (8 * n)
     at-length n = let e : 0 + n ≡ n = omega arith in ap (λ k. end_outcome terms.mode h.units (8 * k)) e
 
-stop-behind : (terms : Terms) (before : History) (units : List NalUnit) (tail : Tail) (end : ℕ) (stop : Stop) (calls : List Told) → IsStopBehind terms before units tail end stop calls → units_outcome (judging terms) before units tail end ≡ record { calls = calls; answer = Err stop }
+stop-behind : (terms : Terms) (before : History) (units : List NalUnit) (tail : Tail) (end : ℕ) (stop : Stop) (calls : List Told) → IsStopAfter terms before units tail end stop calls → units_outcome (judging terms) before units tail end ≡ record { calls = calls; answer = Err stop }
 unfolding ◌>>=◌
 stop-behind terms before units tail end stop calls (AtNext unit later e h) =
     ap (λ us. units_outcome (judging terms) before us tail end) e
@@ -175,7 +176,7 @@ verdict-comes terms bytes calls (Err stop) h = stops-comes terms bytes calls sto
 -- all is legal, or the verdict falls somewhere
 data Among (terms : Terms) (units : List NalUnit) (tail : Tail) (end : ℕ) : Type 0 where
   AllLegal : (reads : History) (first last : List Told) → units ≡ in_order reads [] → tail ≡ Zeros → AreLegal terms reads first → AreMet (end_steps terms.mode reads (8 * end)) last → Among terms units tail end
-  Falls : (before : History) (rest : List NalUnit) (first last : List Told) (stop : Stop) → units ≡ in_order before rest → AreLegal terms before first → IsStopBehind terms before rest tail end stop last → Among terms units tail end
+  Falls : (before : History) (rest : List NalUnit) (first last : List Told) (stop : Stop) → units ≡ in_order before rest → AreLegal terms before first → IsStopAfter terms before rest tail end stop last → Among terms units tail end
 
 among-end : (terms : Terms) (before : History) (earlier : List Told) (end : ℕ) → AreLegal terms before earlier → stepping.Either (end_steps terms.mode before (8 * end)) → Among terms (in_order before []) Zeros end
 among-end terms before earlier end l (inl h) = AllLegal before earlier h.0 refl refl l h.1
@@ -311,10 +312,10 @@ fed-nothing terms session frames f = record {
   undecided = subst (λ (split : Splitting). IsUndecided split.rest) (sym f.split) (inl (0, refl));
   legal = refl;
   of = tt;
-  goes = λ more o c. (o, subst (λ split. ToCome (judging terms) (behind split []) more o) (sym f.split) c, refl);
+  goes = λ more o c. (o, subst (λ split. ToCome (judging terms) (standing_after split []) more o) (sym f.split) c, refl);
 }
 
-fed-later : {terms : Terms} {session : Progress} {bytes : List ℕ} {frames : ℕ → Frame} {told : List Told} (w : WasFed terms session bytes frames told) (more : List ℕ) (o : Outcome Summary) → Comes (judging terms) 0 [] (bytes ++ more) o → (later : Outcome Summary) × ToCome (judging terms) (behind session.split w.before) more later × ((answer : Result Summary Stop) → later.answer ≡ answer → Verdict terms (bytes ++ more) (told ++ later.calls) answer)
+fed-later : {terms : Terms} {session : Progress} {bytes : List ℕ} {frames : ℕ → Frame} {told : List Told} (w : WasFed terms session bytes frames told) (more : List ℕ) (o : Outcome Summary) → Comes (judging terms) 0 [] (bytes ++ more) o → (later : Outcome Summary) × ToCome (judging terms) (standing_after session.split w.before) more later × ((answer : Result Summary Stop) → later.answer ≡ answer → Verdict terms (bytes ++ more) (told ++ later.calls) answer)
 fed-later {terms} {session} {bytes} {told} w more o c =
     let f = w.goes more o c in
     (f.0, f.1, λ answer e. subst (Verdict terms (bytes ++ more) (told ++ f.0.calls)) e (subst (λ (q : Outcome Summary). Verdict terms (bytes ++ more) q.calls q.answer) f.2 (comes-verdict terms (bytes ++ more) o c)))
@@ -333,7 +334,7 @@ pub finishes-as : {S : Type 0} {took : S → List Call → Type 0} {failures : S
 finishes-as {took} {failures} {frames} {old} {s} {s'} {r} e f = subst (λ t. FinishesOn t took failures frames old s s' r) e f
 
 -- a piece more
-fed-piece : {S : Type 0} (terms : Terms) (took : S → List Call → Type 0) (failures : S → ℕ) (old new : Progress) (bytes piece : List ℕ) (frames : ℕ → Frame) (told : List Told) (s s' : S) (w : WasFed terms old bytes frames told) → new.terms ≡ old.terms → new.stop ≡ None → IsUndecided new.split.rest → GoesOn terms took frames (behind old.split w.before) new.split new.state piece [] s s' → failures s' ≡ failures s → IsFed terms took failures new (bytes ++ piece) frames told s s'
+fed-piece : {S : Type 0} (terms : Terms) (took : S → List Call → Type 0) (failures : S → ℕ) (old new : Progress) (bytes piece : List ℕ) (frames : ℕ → Frame) (told : List Told) (s s' : S) (w : WasFed terms old bytes frames told) → new.terms ≡ old.terms → new.stop ≡ None → IsUndecided new.split.rest → GoesOn terms took frames (standing_after old.split w.before) new.split new.state piece [] s s' → failures s' ≡ failures s → IsFed terms took failures new (bytes ++ piece) frames told s s'
 fed-piece terms took failures old new bytes piece frames told s s' w m runs u on k =
     let g = on.goes in
     let legal = leads-legal terms on.after w.before g.way.units g.calls told g.way.led w.legal in
@@ -365,7 +366,7 @@ fed-piece terms took failures old new bytes piece frames told s s' w m runs u on
         (shows-both 0 (bytes ++ piece) (in_order w.before []) units old.split.at new.split.at (old.split.rest ++ piece) new.split.rest (shows-more 0 bytes (in_order w.before []) old.split.at old.split.rest piece a) (shows-as old.split.at new.split.at units _ _ _ _ refl (append-nil new.split.rest) b))
 
 -- a stop, however the input goes on
-fed-stop : {S : Type 0} (terms : Terms) (took : S → List Call → Type 0) (failures : S → ℕ) (old : Progress) (bytes piece : List ℕ) (frames : ℕ → Frame) (told : List Told) (s s' : S) (stop : Stop) (w : WasFed terms old bytes frames told) → StopsOn terms took failures frames (behind old.split w.before) piece s s' stop → (later : List ℕ) → Judged terms took failures ((bytes ++ piece) ++ later) frames told s s' (Err stop)
+fed-stop : {S : Type 0} (terms : Terms) (took : S → List Call → Type 0) (failures : S → ℕ) (old : Progress) (bytes piece : List ℕ) (frames : ℕ → Frame) (told : List Told) (s s' : S) (stop : Stop) (w : WasFed terms old bytes frames told) → StopsOn terms took failures frames (standing_after old.split w.before) piece s s' stop → (later : List ℕ) → Judged terms took failures ((bytes ++ piece) ++ later) frames told s s' (Err stop)
 fed-stop terms took failures old bytes piece frames told s s' stop w p later =
     let o = some-outcome (judging terms) [] (bytes ++ (piece ++ later)) in
     let f = fed-later w (piece ++ later) o.0 o.1 in
@@ -374,12 +375,12 @@ fed-stop terms took failures old bytes piece frames told s s' stop w p later =
     (record {
       made = p.made;
       same = told-agree (ended_in w.before) frames p.made told p.same w.of;
-      judged = judged-by terms (took_with p.made took) failures (bytes ++ (piece ++ later)) told f.0 s s' f.2 (Err stop) (stops-plays (judging terms) (took_with p.made took) failures (behind old.split w.before) piece later s s' stop f.0 p.stops.stops f.1)
-          (λ e. wanting terms (took_with p.made took) (bytes ++ (piece ++ later)) w.before told old.split.at (old.split.rest ++ (piece ++ later)) s s' w.legal cut (stops-lacks (judging terms) (took_with p.made took) failures (behind old.split w.before) piece later s s' stop p.stops.stops (same-stop stop Memory e)));
+      judged = judged-by terms (took_with p.made took) failures (bytes ++ (piece ++ later)) told f.0 s s' f.2 (Err stop) (stops-plays (judging terms) (took_with p.made took) failures (standing_after old.split w.before) piece later s s' stop f.0 p.stops.stops f.1)
+          (λ e. wanting terms (took_with p.made took) (bytes ++ (piece ++ later)) w.before told old.split.at (old.split.rest ++ (piece ++ later)) s s' w.legal cut (stops-lacks (judging terms) (took_with p.made took) failures (standing_after old.split w.before) piece later s s' stop p.stops.stops (same-stop stop Memory e)));
     })
 
 -- the end of the input
-pub fed-end : {S : Type 0} (terms : Terms) (took : S → List Call → Type 0) (failures : S → ℕ) (session : Progress) (bytes : List ℕ) (frames : ℕ → Frame) (told : List Told) (s s' : S) (r : Result Summary Stop) (w : WasFed terms session bytes frames told) → FinishesOn session.terms took failures frames (behind session.split w.before) s s' r → Judged terms took failures bytes frames told s s' r
+pub fed-end : {S : Type 0} (terms : Terms) (took : S → List Call → Type 0) (failures : S → ℕ) (session : Progress) (bytes : List ℕ) (frames : ℕ → Frame) (told : List Told) (s s' : S) (r : Result Summary Stop) (w : WasFed terms session bytes frames told) → FinishesOn session.terms took failures frames (standing_after session.split w.before) s s' r → Judged terms took failures bytes frames told s s' r
 fed-end terms took failures session bytes frames told s s' r w q =
     let p = finishes-as w.terms_is q in
     let o = some-outcome (judging terms) [] (bytes ++ []) in
@@ -394,23 +395,23 @@ fed-end terms took failures session bytes frames told s s' r w q =
     })
 
 -- as the answer of a call
-pub fed-ok : {S : Type 0} (terms : Terms) (took : S → List Call → Type 0) (failures : S → ℕ) (old new : Progress) (bytes piece : List ℕ) (frames : ℕ → Frame) (told : List Told) (s s' : S) (r : Result (Unit {0}) Stop) (w : WasFed terms old bytes frames told) → new.terms ≡ old.terms → OnOk r (new.stop ≡ None) → OnOk r (IsUndecided old.split.rest → IsUndecided new.split.rest) → OnOk r (GoesOn old.terms took frames (behind old.split w.before) new.split new.state piece [] s s') → OnOk r (failures s' ≡ failures s) → OnOk r (IsFed terms took failures new (bytes ++ piece) frames told s s')
+pub fed-ok : {S : Type 0} (terms : Terms) (took : S → List Call → Type 0) (failures : S → ℕ) (old new : Progress) (bytes piece : List ℕ) (frames : ℕ → Frame) (told : List Told) (s s' : S) (r : Result (Unit {0}) Stop) (w : WasFed terms old bytes frames told) → new.terms ≡ old.terms → OnOk r (new.stop ≡ None) → OnOk r (IsUndecided old.split.rest → IsUndecided new.split.rest) → OnOk r (GoesOn old.terms took frames (standing_after old.split w.before) new.split new.state piece [] s s') → OnOk r (failures s' ≡ failures s) → OnOk r (IsFed terms took failures new (bytes ++ piece) frames told s s')
 fed-ok terms took failures old new bytes piece frames told s s' (Ok x) w m runs u g k = fed-piece terms took failures old new bytes piece frames told s s' w m runs (u w.undecided) (goes-as w.terms_is g) k
 fed-ok terms took failures old new bytes piece frames told s s' (Err e) w m runs u g k = tt
 
-pub fed-err : {S : Type 0} (terms : Terms) (took : S → List Call → Type 0) (failures : S → ℕ) (old : Progress) (bytes piece : List ℕ) (frames : ℕ → Frame) (told : List Told) (s s' : S) (r : Result (Unit {0}) Stop) (w : WasFed terms old bytes frames told) → IfErr r (StopsOn old.terms took failures frames (behind old.split w.before) piece s s') → IfErr r (λ stop. (later : List ℕ) → Judged terms took failures ((bytes ++ piece) ++ later) frames told s s' (Err stop))
+pub fed-err : {S : Type 0} (terms : Terms) (took : S → List Call → Type 0) (failures : S → ℕ) (old : Progress) (bytes piece : List ℕ) (frames : ℕ → Frame) (told : List Told) (s s' : S) (r : Result (Unit {0}) Stop) (w : WasFed terms old bytes frames told) → IfErr r (StopsOn old.terms took failures frames (standing_after old.split w.before) piece s s') → IfErr r (λ stop. (later : List ℕ) → Judged terms took failures ((bytes ++ piece) ++ later) frames told s s' (Err stop))
 fed-err terms took failures old bytes piece frames told s s' (Ok x) w p = tt
 fed-err terms took failures old bytes piece frames told s s' (Err stop) w p = fed-stop terms took failures old bytes piece frames told s s' stop w (stops-as w.terms_is p)
 
 -- ---- a source
 
 -- before its first read
-none-yet : {S : Type 0} (terms : Terms) (took : S → List Told → Type 0) (split : Splitting) (s : S) → split ≡ at_start → Goes (judging terms) took (behind at_start []) (behind split []) [] [] s s
+none-yet : {S : Type 0} (terms : Terms) (took : S → List Told → Type 0) (split : Splitting) (s : S) → split ≡ at_start → Goes (judging terms) took (standing_after at_start []) (standing_after split []) [] [] s s
 none-yet terms took split s e = record {
   calls = [];
   tells = tells-none took s;
-  way = subst (λ (w : Splitting). Way (judging terms) (behind at_start []) (behind w []) [] [] []) (sym e) (way-none (judging terms) (behind at_start []) []);
-  after = λ more o c. (o, subst (λ (w : Splitting). ToCome (judging terms) (behind w []) more o) (sym e) c, refl);
+  way = subst (λ (w : Splitting). Way (judging terms) (standing_after at_start []) (standing_after w []) [] [] []) (sym e) (way-none (judging terms) (standing_after at_start []) []);
+  after = λ more o c. (o, subst (λ (w : Splitting). ToCome (judging terms) (standing_after w []) more o) (sym e) c, refl);
 }
 
 pub fed-first : {S : Type 0} (terms : Terms) (took : S → List Call → Type 0) (known : Option (List ℕ)) (bytes : List ℕ) (session : Progress) (frames : ℕ → Frame) (s : S) → IsFresh session terms → known ≡ Some bytes → FedOn terms took known bytes session s s
@@ -432,12 +433,12 @@ fed-again {terms} {took} {known} {bytes} {session} {s} {s'} known' r f = record 
   frames = f.frames;
   after = f.after;
   keeps = f.keeps;
-  fed = fed-same (judging terms) (took_with f.frames took) known known' bytes (behind at_start []) (behind session.split f.after) s s' r f.fed;
+  fed = fed-same (judging terms) (took_with f.frames took) known known' bytes (standing_after at_start []) (standing_after session.split f.after) s s' r f.fed;
   of = f.of;
 }
 
 -- a piece more
-pub fed-more : {S : Type 0} {terms : Terms} {took : S → List Call → Type 0} {known : Option (List ℕ)} {bytes : List ℕ} {old new : Progress} {s0 s1 s2 : S} (known' : Option (List ℕ)) (piece : List ℕ) (n : ℕ) → new.terms ≡ old.terms → ((left : List ℕ) → known ≡ Some left → (left ≡ take n piece ++ drop n left) × (known' ≡ Some (drop n left))) → (f : FedOn terms took known bytes old s0 s1) → GoesOn old.terms took f.frames (behind old.split f.after) new.split new.state (take n piece) [] s1 s2 → FedOn terms took known' bytes new s0 s2
+pub fed-more : {S : Type 0} {terms : Terms} {took : S → List Call → Type 0} {known : Option (List ℕ)} {bytes : List ℕ} {old new : Progress} {s0 s1 s2 : S} (known' : Option (List ℕ)) (piece : List ℕ) (n : ℕ) → new.terms ≡ old.terms → ((left : List ℕ) → known ≡ Some left → (left ≡ take n piece ++ drop n left) × (known' ≡ Some (drop n left))) → (f : FedOn terms took known bytes old s0 s1) → GoesOn old.terms took f.frames (standing_after old.split f.after) new.split new.state (take n piece) [] s1 s2 → FedOn terms took known' bytes new s0 s2
 unfolding fed-on fed-agree goes-agree goes-then goes-both goes-more
 fed-more {terms} {took} {known} {bytes} {old} {new} {s0} {s1} {s2} known' piece n m r f q =
     let g = goes-as f.terms_is q in
@@ -446,32 +447,32 @@ fed-more {terms} {took} {known} {bytes} {old} {new} {s0} {s1} {s2} known' piece 
       frames = g.made;
       after = g.after;
       keeps = keeps-as (sym (m ∙ f.terms_is)) g.keeps;
-      fed = fed-on (judging terms) (took_with g.made took) known known' bytes piece n (behind at_start []) (behind old.split f.after) (behind new.split g.after) s0 s1 s2 r (fed-agree took (ended_in f.after) f.frames g.made g.same f.fed f.of) g.goes;
+      fed = fed-on (judging terms) (took_with g.made took) known known' bytes piece n (standing_after at_start []) (standing_after old.split f.after) (standing_after new.split g.after) s0 s1 s2 r (fed-agree took (ended_in f.after) f.frames g.made g.same f.fed f.of) g.goes;
       of = of-both (ended_in g.after) f.fed.goes.calls g.goes.calls (of-more (ended_in f.after) (ended_in g.after) f.fed.goes.calls g.grows f.of) g.of;
     }
 
 -- a stop at a piece
-pub fed-halts : {S : Type 0} {terms : Terms} {took : S → List Call → Type 0} {failures : S → ℕ} {known : Option (List ℕ)} {bytes : List ℕ} {old : Progress} {s0 s1 s2 : S} {stop : Stop} (known' : Option (List ℕ)) (piece : List ℕ) (n : ℕ) → ((left : List ℕ) → known ≡ Some left → (left ≡ take n piece ++ drop n left) × (known' ≡ Some (drop n left))) → (f : FedOn terms took known bytes old s0 s1) → failures s1 ≡ failures s0 → StopsOn old.terms took failures f.frames (behind old.split f.after) (take n piece) s1 s2 stop → JudgesWith terms took failures bytes s0 s2 (Err stop)
+pub fed-halts : {S : Type 0} {terms : Terms} {took : S → List Call → Type 0} {failures : S → ℕ} {known : Option (List ℕ)} {bytes : List ℕ} {old : Progress} {s0 s1 s2 : S} {stop : Stop} (known' : Option (List ℕ)) (piece : List ℕ) (n : ℕ) → ((left : List ℕ) → known ≡ Some left → (left ≡ take n piece ++ drop n left) × (known' ≡ Some (drop n left))) → (f : FedOn terms took known bytes old s0 s1) → failures s1 ≡ failures s0 → StopsOn old.terms took failures f.frames (standing_after old.split f.after) (take n piece) s1 s2 stop → JudgesWith terms took failures bytes s0 s2 (Err stop)
 fed-halts {terms} {took} {failures} {known} {bytes} {old} {s0} {s1} {s2} {stop} known' piece n r f k q =
     let p = stops-as f.terms_is q in
     record {
       frames = p.made;
-      judges = fed-stops (judging terms) [] (took_with p.made took) failures known known' bytes piece n (behind old.split f.after) s0 s1 s2 stop r (fed-agree took (ended_in f.after) f.frames p.made p.same f.fed f.of) k p.stops;
+      judges = fed-stops (judging terms) [] (took_with p.made took) failures known known' bytes piece n (standing_after old.split f.after) s0 s1 s2 stop r (fed-agree took (ended_in f.after) f.frames p.made p.same f.fed f.of) k p.stops;
     }
 
 -- the source failed
 pub fed-fails : {S : Type 0} {terms : Terms} {took : S → List Call → Type 0} {failures : S → ℕ} {known : Option (List ℕ)} {bytes : List ℕ} {session : Progress} {s s' : S} → FedOn terms took known bytes session s s' → failures s' ≡ failures s → JudgesWith terms took failures bytes s s' (Err Read)
-fed-fails {terms} {took} {failures} {known} {bytes} {session} {s} {s'} f k = record { frames = f.frames; judges = fed-read (judging terms) [] (took_with f.frames took) failures known bytes (behind session.split f.after) s s' f.fed k }
+fed-fails {terms} {took} {failures} {known} {bytes} {session} {s} {s'} f k = record { frames = f.frames; judges = fed-read (judging terms) [] (took_with f.frames took) failures known bytes (standing_after session.split f.after) s s' f.fed k }
 
 -- it has no more bytes
-pub fed-last : {S : Type 0} (terms : Terms) (took : S → List Call → Type 0) (failures : S → ℕ) (known : Option (List ℕ)) (bytes : List ℕ) (old new : Progress) (s0 s1 s1' s2 : S) (r : Result Summary Stop) → new ≡ old → s1' ≡ s1 → ((left : List ℕ) → known ≡ Some left → left ≡ []) → FedOn terms took known bytes old s0 s1 → failures s1 ≡ failures s0 → ((frames : ℕ → Frame) (before : History) → Keeps new.terms.mode frames before new.state → FinishesOn new.terms took failures frames (behind new.split before) s1' s2 r) → JudgesWith terms took failures bytes s0 s2 r
+pub fed-last : {S : Type 0} (terms : Terms) (took : S → List Call → Type 0) (failures : S → ℕ) (known : Option (List ℕ)) (bytes : List ℕ) (old new : Progress) (s0 s1 s1' s2 : S) (r : Result Summary Stop) → new ≡ old → s1' ≡ s1 → ((left : List ℕ) → known ≡ Some left → left ≡ []) → FedOn terms took known bytes old s0 s1 → failures s1 ≡ failures s0 → ((frames : ℕ → Frame) (before : History) → Keeps new.terms.mode frames before new.state → FinishesOn new.terms took failures frames (standing_after new.split before) s1' s2 r) → JudgesWith terms took failures bytes s0 s2 r
 fed-last terms took failures known bytes old new s0 s1 s1' s2 r e d none f k p =
     let keeps = subst (λ (w : Progress). Keeps w.terms.mode f.frames f.after w.state) (sym e) f.keeps in
     let m : new.terms ≡ terms = ap (λ (w : Progress). w.terms) e ∙ f.terms_is in
     let q = finishes-as m (p f.frames f.after keeps) in
     record {
       frames = q.made;
-      judges = fed-ends (judging terms) [] (took_with q.made took) failures known bytes (behind old.split f.after) (behind new.split f.after) s0 s1 s1' s2 r (ap (λ (w : Progress). behind w.split f.after) e) d none (fed-agree took (ended_in f.after) f.frames q.made q.same f.fed f.of) k q.finishes;
+      judges = fed-ends (judging terms) [] (took_with q.made took) failures known bytes (standing_after old.split f.after) (standing_after new.split f.after) s0 s1 s1' s2 r (ap (λ (w : Progress). standing_after w.split f.after) e) d none (fed-agree took (ended_in f.after) f.frames q.made q.same f.fed f.of) k q.finishes;
     }
 
 -- nothing was fed: memory was refused at once
@@ -481,28 +482,28 @@ none-judged terms took failures bytes frames s = record { frames = frames; judge
 -- ---- pieces
 
 -- no piece yet
-pub pieces-first : {S : Type 0} (terms : Terms) (took : S → List Call → Type 0) (session : Progress) (frames : ℕ → Frame) (s : S) → IsFresh session terms → GoesOn terms took frames (behind at_start []) session.split session.state [] [] s s
+pub pieces-first : {S : Type 0} (terms : Terms) (took : S → List Call → Type 0) (session : Progress) (frames : ℕ → Frame) (s : S) → IsFresh session terms → GoesOn terms took frames (standing_after at_start []) session.split session.state [] [] s s
 pieces-first terms took session frames s f =
-    subst (λ (split : Splitting). GoesOn terms took frames (behind at_start []) split session.state [] [] s s) (sym f.split)
+    subst (λ (split : Splitting). GoesOn terms took frames (standing_after at_start []) split session.state [] [] s s) (sym f.split)
     (on-none terms took frames at_start [] session.state [] s (keeps-as f.terms_is (f.keeps frames)))
 
 -- one more
-pub pieces-on : {S X : Type 0} {terms : Terms} {took : S → List Call → Type 0} {frames : ℕ → Frame} {mid split : Splitting} {first state : State} {s0 s1 s2 : S} (f : X → List ℕ) (xs : List X) (i : ℕ) (x : X) (piece : List ℕ) → i < length xs → x ≡ get_or xs i x → piece ≡ f x → (a : GoesOn terms took frames (behind at_start []) mid first (flat_map f (take i xs)) [] s0 s1) → GoesOn terms took a.made (behind mid a.after) split state piece [] s1 s2 → GoesOn terms took frames (behind at_start []) split state (flat_map f (take (i + 1) xs)) [] s0 s2
+pub pieces-on : {S X : Type 0} {terms : Terms} {took : S → List Call → Type 0} {frames : ℕ → Frame} {mid split : Splitting} {first state : State} {s0 s1 s2 : S} (f : X → List ℕ) (xs : List X) (i : ℕ) (x : X) (piece : List ℕ) → i < length xs → x ≡ get_or xs i x → piece ≡ f x → (a : GoesOn terms took frames (standing_after at_start []) mid first (flat_map f (take i xs)) [] s0 s1) → GoesOn terms took a.made (standing_after mid a.after) split state piece [] s1 s2 → GoesOn terms took frames (standing_after at_start []) split state (flat_map f (take (i + 1) xs)) [] s0 s2
 pieces-on {terms} {took} {frames} {mid} {split} {first} {state} {s0} {s2} f xs i x piece h e p a b =
-    subst (λ (l : List ℕ). GoesOn terms took frames (behind at_start []) split state l [] s0 s2) (piece-more f xs i x piece h e p) (on-then a b)
+    subst (λ (l : List ℕ). GoesOn terms took frames (standing_after at_start []) split state l [] s0 s2) (piece-more f xs i x piece h e p) (on-then a b)
 
 -- a stop at one
-pub pieces-halt : {S : Type 0} {terms : Terms} {took : S → List Call → Type 0} {failures : S → ℕ} {frames : ℕ → Frame} {mid : Splitting} {first : State} {s0 s1 s2 : S} {stop : Stop} (bytes before piece later : List ℕ) → bytes ≡ before ++ (piece ++ later) → (a : GoesOn terms took frames (behind at_start []) mid first before [] s0 s1) → failures s1 ≡ failures s0 → StopsOn terms took failures a.made (behind mid a.after) piece s1 s2 stop → JudgesWith terms took failures bytes s0 s2 (Err stop)
+pub pieces-halt : {S : Type 0} {terms : Terms} {took : S → List Call → Type 0} {failures : S → ℕ} {frames : ℕ → Frame} {mid : Splitting} {first : State} {s0 s1 s2 : S} {stop : Stop} (bytes before piece later : List ℕ) → bytes ≡ before ++ (piece ++ later) → (a : GoesOn terms took frames (standing_after at_start []) mid first before [] s0 s1) → failures s1 ≡ failures s0 → StopsOn terms took failures a.made (standing_after mid a.after) piece s1 s2 stop → JudgesWith terms took failures bytes s0 s2 (Err stop)
 pieces-halt {terms} {took} {failures} {frames} {mid} {s0} {s1} {s2} {stop} bytes before piece later e a k p = record {
   frames = p.made;
-  judges = pieces-stop (judging terms) [] (took_with p.made took) failures bytes before piece later (behind mid a.after) s0 s1 s2 stop e (goes-agree took (ended_in a.after) a.made p.made p.same a.goes a.of) k p.stops;
+  judges = pieces-stop (judging terms) [] (took_with p.made took) failures bytes before piece later (standing_after mid a.after) s0 s1 s2 stop e (goes-agree took (ended_in a.after) a.made p.made p.same a.goes a.of) k p.stops;
 }
 
 -- all of them
-pub pieces-end : {S X : Type 0} {terms : Terms} {took : S → List Call → Type 0} {failures : S → ℕ} {frames : ℕ → Frame} {mid : Splitting} {first : State} {s0 s1 s2 : S} {r : Result Summary Stop} (f : X → List ℕ) (xs : List X) (n : ℕ) → n ≡ length xs → (a : GoesOn terms took frames (behind at_start []) mid first (flat_map f (take n xs)) [] s0 s1) → failures s1 ≡ failures s0 → FinishesOn terms took failures a.made (behind mid a.after) s1 s2 r → JudgesWith terms took failures (flat_map f xs) s0 s2 r
+pub pieces-end : {S X : Type 0} {terms : Terms} {took : S → List Call → Type 0} {failures : S → ℕ} {frames : ℕ → Frame} {mid : Splitting} {first : State} {s0 s1 s2 : S} {r : Result Summary Stop} (f : X → List ℕ) (xs : List X) (n : ℕ) → n ≡ length xs → (a : GoesOn terms took frames (standing_after at_start []) mid first (flat_map f (take n xs)) [] s0 s1) → failures s1 ≡ failures s0 → FinishesOn terms took failures a.made (standing_after mid a.after) s1 s2 r → JudgesWith terms took failures (flat_map f xs) s0 s2 r
 pieces-end {terms} {took} {failures} {frames} {mid} {s0} {s1} {s2} {r} f xs n e a k p = record {
   frames = p.made;
-  judges = pieces-finish (judging terms) [] (took_with p.made took) failures (flat_map f xs) (behind mid a.after) s0 s1 s2 r (goes-all f xs n e (goes-agree took (ended_in a.after) a.made p.made p.same a.goes a.of)) k p.finishes;
+  judges = pieces-finish (judging terms) [] (took_with p.made took) failures (flat_map f xs) (standing_after mid a.after) s0 s1 s2 r (goes-all f xs n e (goes-agree took (ended_in a.after) a.made p.made p.same a.goes a.of)) k p.finishes;
 }
 
 -- the same terms

@@ -19,8 +19,8 @@ use Rattle.h264_verify.specs.Verdict.{in_order, AreLegal, SameTold}
 use Rattle.h264_verify.specs.Progress.{Progress}
 
 -- where a session stands after these units
-abbrev pub behind : Splitting → History → Standing History
-behind split before = record { split = split; state = before }
+abbrev pub standing_after : Splitting → History → Standing History
+standing_after split before = record { split = split; state = before }
 
 -- However the input goes on, what comes of old is what the sink was told and what comes of where the session stands.
 pub record GoesOn {S : Type 0} (terms : Terms) (took : S → List Call → Type 0) (frames : ℕ → Frame) (old : Standing History) (split : Splitting) (state : State) (piece left : List ℕ) (s s' : S) : Type 0 where
@@ -29,7 +29,7 @@ pub record GoesOn {S : Type 0} (terms : Terms) (took : S → List Call → Type 
   pub after : History
   pub grows : ended_in old.state ≤ ended_in after
   pub keeps : Keeps terms.mode made after state
-  pub goes : Goes (judging terms) (took_with made took) old (behind split after) piece left s s'
+  pub goes : Goes (judging terms) (took_with made took) old (standing_after split after) piece left s s'
   pub of : AreOf (ended_in after) goes.calls
 
 -- The stop is the stream's, however it goes on; or the sink failed, or memory was refused, when only its first calls were made.
@@ -50,7 +50,7 @@ pub record FedOn {S : Type 0} (terms : Terms) (took : S → List Call → Type 0
   pub frames : ℕ → Frame
   pub after : History
   pub keeps : Keeps session.terms.mode frames after session.state
-  pub fed : Fed (judging terms) (took_with frames took) known bytes (behind at_start []) (behind session.split after) s s'
+  pub fed : Fed (judging terms) (took_with frames took) known bytes (standing_after at_start []) (standing_after session.split after) s s'
   pub of : AreOf (ended_in after) fed.goes.calls
 
 -- With some frames, what was told and answered of these bytes, the whole input.
@@ -70,7 +70,7 @@ pub record WasFed (terms : Terms) (session : Progress) (bytes : List ℕ) (frame
   pub undecided : IsUndecided session.split.rest
   pub legal : AreLegal terms before told
   pub of : AreOf (ended_in before) told
-  pub goes : (more : List ℕ) (o : Outcome Summary) → Comes (judging terms) 0 [] (bytes ++ more) o → (later : Outcome Summary) × ToCome (judging terms) (behind session.split before) more later × (o ≡ with_calls told later)
+  pub goes : (more : List ℕ) (o : Outcome Summary) → Comes (judging terms) 0 [] (bytes ++ more) o → (later : Outcome Summary) × ToCome (judging terms) (standing_after session.split before) more later × (o ≡ with_calls told later)
 
 -- The session was then fed these bytes, and the sink was told what comes of them after that, with these frames and some more.
 pub record IsFed {S : Type 0} (terms : Terms) (took : S → List Call → Type 0) (failures : S → ℕ) (session : Progress) (bytes : List ℕ) (frames : ℕ → Frame) (told : List Told) (s s' : S) : Type 0 where

@@ -15,7 +15,7 @@ use Rattle.h264_pps.specs.declared.Pps.{Pps}
 use Rattle.h264_sps.specs.declared.sps.Sps.{Sps}
 use Rattle.h264_header.specs.declared.header.Header.{Header}
 use Rattle.h264_verify.specs.Pictures.{CodedPicture, with_sets, goes_on, runs_of}
-use Rattle.h264_verify.specs.Slices.{slice_steps}
+use Rattle.h264_verify.specs.Order.{slice_steps}
 use Rattle.h264_verify.specs.Keeping.{KeepsDecoder, EntersDecoder, ended_pictures, ended_in}
 use Rattle.h264_verify.specs.StepOutcome.{steps_outcome}
 

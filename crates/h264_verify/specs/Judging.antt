@@ -21,7 +21,7 @@ abbrev pub unless : {A : Type 0} → Option Stop → Outcome A → Outcome A
 unless None o = o
 unless (Some stop) o = answers (Err stop)
 
--- Behind the last unit comes the end of the input, or what breaks a rule or is not judged.
+-- After the last unit comes the end of the input, or what breaks a rule or is not judged.
 abbrev pub tail_outcome : {State Summary : Type 0} → Judging State Summary → State → Tail → ℕ → Outcome Summary
 tail_outcome j s tail end = unless (tail_stop tail) (j.end s (8 * end))
 

@@ -39,13 +39,15 @@ use Rattle.h264_verify.specs.Buffering.{newest_count, after_all, within_newest, 
 use Rattle.h264_verify.specs.Decoding.{slices_of, EachSlice, number_of, parameters_of}
 use Rattle.h264_verify.specs.Demands.{Demand}
 use Rattle.h264_verify.specs.History.{History, maps_of}
-use Rattle.h264_verify.specs.Pictures.{CodedSlice, CodedPicture, last_slice, coded_of, picture_size, bit_behind, goes_on, open_of, joined_to, runs_of, counted, prev_ref_frame_num_of, held_after, held_in, closing_demands}
-use Rattle.h264_verify.specs.Closing.{whole_steps}
+use Rattle.h264_verify.specs.Pictures.{CodedSlice, CodedPicture, last_slice, coded_of, picture_size, bit_after, goes_on, open_of, joined_to, runs_of, counted, prev_ref_frame_num_of, held_after, held_in}
+use Rattle.h264_verify.specs.Order.{closing_demands}
+use Rattle.h264_verify.specs.Order.{whole_steps}
 use Rattle.h264_poc.specs.OfSlice.{picture_of}
 use Rattle.h264_marking.specs.Ended.{numbering_of}
 use Rattle.h264_verify.specs.Telling.{Said}
 use Rattle.h264_verify.specs.Steps.{Step, Tells, needs}
-use Rattle.h264_verify.specs.Slices.{is_i, has_i, has_p, states_type, is_idr_due, newest_idr_of, first_slice_rules, later_slice_rules, idr_demand, set_demand, type_demand, idr_num_demand, gap_rules, id_demand, count_demand, qp_demand, list_demand, marking_demand, slice_call}
+use Rattle.h264_verify.specs.Slices.{is_i, has_i, has_p, states_type, is_idr_due, newest_idr_of, idr_demand, set_demand, type_demand, idr_num_demand, id_demand, count_demand, qp_demand, list_demand, marking_demand, slice_call}
+use Rattle.h264_verify.specs.Order.{first_slice_rules, later_slice_rules, gap_rules}
 use Rattle.h264_verify.specs.Lists.{list_of, named_in}
 use Rattle.h264_verify.specs.Data.{coded_so_far}
 use Rattle.h264_verify.specs.Sound.{AreSound, has_ended, HasActive, NamesSet}
@@ -100,7 +102,7 @@ held_by ended on pictures = if on then (if ended then held_after pictures else h
 -- the first bit after the last slice of the newest picture
 abbrev pub EndsAt : List CodedPicture → ℕ → Type 0
 EndsAt [] bit = Unit {0}
-EndsAt (p ∷ pictures) bit = bit ≡ bit_behind (last_slice p).unit
+EndsAt (p ∷ pictures) bit = bit ≡ bit_after (last_slice p).unit
 
 -- what the end of the newest picture tells the buffer of frames
 abbrev pub HoldsEnd : List CodedPicture → Option OpenPicture → Type 0

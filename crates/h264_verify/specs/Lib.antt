@@ -1,6 +1,7 @@
 pub mod KeepingUnits
 pub mod Memory
 pub mod Units
+pub mod Order
 pub mod UnitOutcome
 pub mod Turning
 pub mod Outcome
@@ -13,7 +14,6 @@ pub mod Pictures
 pub mod Lists
 pub mod Decoding
 pub mod Telling
-pub mod Closing
 pub mod Buffering
 pub mod Slices
 pub mod Data

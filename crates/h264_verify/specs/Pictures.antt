@@ -60,8 +60,8 @@ abbrev pub picture_size : Sps → ℕ
 picture_size sps = sps.frame_size.width * sps.frame_size.height
 
 -- the first stream bit after a unit
-abbrev pub bit_behind : NalUnit → ℕ
-bit_behind unit = 8 * past unit
+abbrev pub bit_after : NalUnit → ℕ
+bit_after unit = 8 * past unit
 
 -- the parameter sets that a slice names
 abbrev pub sets_at : History → Header → Option (Pps × Sps)
@@ -78,16 +78,16 @@ slice_in maps unit (contents.OfSlice h macroblocks) = option_map (with_sets unit
 slice_in maps unit contents.Passed = None
 
 -- whether more slices may come to the newest picture after this unit
-abbrev pub goes_on_behind : Content → ℕ → Bool → Bool
-goes_on_behind (contents.OfSps set) kind on = not (ends_picture kind) && on
-goes_on_behind (contents.OfPps set) kind on = not (ends_picture kind) && on
-goes_on_behind (contents.OfSlice h macroblocks) kind on = true
-goes_on_behind contents.Passed kind on = not (ends_picture kind) && on
+abbrev pub goes_on_after : Content → ℕ → Bool → Bool
+goes_on_after (contents.OfSps set) kind on = not (ends_picture kind) && on
+goes_on_after (contents.OfPps set) kind on = not (ends_picture kind) && on
+goes_on_after (contents.OfSlice h macroblocks) kind on = true
+goes_on_after contents.Passed kind on = not (ends_picture kind) && on
 
 -- There is a slice after which no unit ended its picture.
 abbrev pub goes_on : History → Bool
 goes_on [] = false
-goes_on (r ∷ before) = goes_on_behind r.content (nal_unit_type (header_of r.unit)) (goes_on before)
+goes_on (r ∷ before) = goes_on_after r.content (nal_unit_type (header_of r.unit)) (goes_on before)
 
 -- the newest of these pictures, if more slices may come to it
 abbrev pub open_of : Bool → List CodedPicture → Option CodedPicture
@@ -126,11 +126,11 @@ pictures_of before = map counted (runs_of before)
 
 -- PrevRefFrameNum after a picture: its frame_num, or 0 after operation 5, where it is a reference; else that of the last missing
 -- frame, where there was one.
-abbrev pub prev_ref_frame_num_behind : Bool → Bool → Bool → Numbering → ℕ → ℕ
-prev_ref_frame_num_behind idr reference resets n prev = if reference then (if resets then 0 else n.frame_num) else last_or prev (unused_short_term_frame_nums idr prev n)
+abbrev pub prev_ref_frame_num_after : Bool → Bool → Bool → Numbering → ℕ → ℕ
+prev_ref_frame_num_after idr reference resets n prev = if reference then (if resets then 0 else n.frame_num) else last_or prev (unused_short_term_frame_nums idr prev n)
 
 abbrev pub prev_ref_frame_num_by : CodedPicture → ℕ → ℕ
-prev_ref_frame_num_by p prev = prev_ref_frame_num_behind (is_idr p.first.header) (is_reference p.first.header) (resets p.first.header.marking) (numbering_of p.first.sps p.first.header) prev
+prev_ref_frame_num_by p prev = prev_ref_frame_num_after (is_idr p.first.header) (is_reference p.first.header) (resets p.first.header.marking) (numbering_of p.first.sps p.first.header) prev
 
 abbrev pub prev_ref_frame_num_of : List CodedPicture → ℕ
 prev_ref_frame_num_of [] = 0
@@ -143,13 +143,13 @@ abbrev pub ended_by : CodedPicture → ℕ → References → Result References 
 ended_by p number refs = ended p.first.header.marking (numbering_of p.first.sps p.first.header) number refs
 
 -- what is held once it has ended
-abbrev pub held_behind : CodedPicture → ℕ → References → References
-held_behind p number refs = result_unwrap_or (ended_by p number refs) refs
+abbrev pub held_at_end : CodedPicture → ℕ → References → References
+held_at_end p number refs = result_unwrap_or (ended_by p number refs) refs
 
 -- What is held once all these pictures have ended; the newest stands first, and the pictures are numbered in decoding order.
 abbrev pub held_after : List CodedPicture → References
 held_after [] = no_references
-held_after (p ∷ ps) = held_behind p (length ps) (entered_by p (prev_ref_frame_num_of ps) (held_after ps))
+held_after (p ∷ ps) = held_at_end p (length ps) (entered_by p (prev_ref_frame_num_of ps) (held_after ps))
 
 -- What is held while the newest is decoded.
 abbrev pub held_in : List CodedPicture → References
@@ -172,11 +172,3 @@ mark_demand r = record { rule = MarkCommand; bit = bit_of r; met = is_met r }
 abbrev pub end_of_picture : List CodedPicture → List Demand
 end_of_picture [] = []
 end_of_picture (p ∷ ps) = mark_demand (ended_by p (length ps) (held_in (p ∷ ps))) ∷ []
-
--- The rules at the end of the picture that may go on after these units, if there is one.
-abbrev pub closing_demands : History → List Demand
-closing_demands before = if goes_on before then end_of_picture (runs_of before) else []
-
--- those before the content of a unit of this type
-abbrev pub closing_at : ℕ → History → List Demand
-closing_at kind before = if ends_picture kind then closing_demands before else []

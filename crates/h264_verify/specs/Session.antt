@@ -40,7 +40,7 @@ pub record Goes {State Summary S : Type 0} (j : Judging State Summary) (took : S
   pub way : Way j old new piece left calls
   pub after : (more : List ℕ) (o : Outcome Summary) → ToCome j old (piece ++ more) o → (later : Outcome Summary) × ToCome j new (left ++ more) later × (o ≡ with_calls calls later)
 
--- Behind a state memory is wanting: for the bytes of the next unit, of which nothing is told, or for that unit.
+-- After a state memory is wanting: for the bytes of the next unit, of which nothing is told, or for that unit.
 pub data LacksNext {State Summary : Type 0} (j : Judging State Summary) (state : State) (units : List NalUnit) (calls : List Told) : Type 0 where
   ForBytes : calls ≡ [] → LacksNext j state units calls
   ForUnit : (unit : NalUnit) (later : List NalUnit) → units ≡ unit ∷ later → j.grows state unit → LacksNext j state units calls
@@ -64,8 +64,8 @@ pub record Lacking {State Summary S : Type 0} (j : Judging State Summary) (took 
   pub lacks : (units : List NalUnit) (tail : Tail) → Splits at bytes units tail → Lacks j state units calls
 
 -- so it was, however the input goes on after this piece
-abbrev pub LacksBehind : {State Summary S : Type 0} → Judging State Summary → (S → List Told → Type 0) → Standing State → List ℕ → S → S → Type 0
-LacksBehind j took old piece s s' = (more : List ℕ) → Lacking j took old.split.at old.state (old.split.rest ++ (piece ++ more)) s s'
+abbrev pub LacksAfter : {State Summary S : Type 0} → Judging State Summary → (S → List Told → Type 0) → Standing State → List ℕ → S → S → Type 0
+LacksAfter j took old piece s s' = (more : List ℕ) → Lacking j took old.split.at old.state (old.split.rest ++ (piece ++ more)) s s'
 
 -- However the input goes on, it comes to these calls and this stop.
 pub record Ends {State Summary S : Type 0} (j : Judging State Summary) (took : S → List Told → Type 0) (old : Standing State) (piece : List ℕ) (s s' : S) (stop : Stop) : Type 0 where
@@ -82,7 +82,7 @@ pub record Begins {State Summary S : Type 0} (j : Judging State Summary) (took :
 abbrev pub StopsBy : {State Summary S : Type 0} → Judging State Summary → (S → List Told → Type 0) → (S → ℕ) → Standing State → List ℕ → S → S → Stop → Type 0
 StopsBy j took failures old piece s s' (No bit rule) = Ends j took old piece s s' (No bit rule) × (failures s' ≡ failures s)
 StopsBy j took failures old piece s s' (Outside bit feature) = Ends j took old piece s s' (Outside bit feature) × (failures s' ≡ failures s)
-StopsBy j took failures old piece s s' Memory = Begins j took old piece s s' × (failures s' ≡ failures s) × LacksBehind j took old piece s s'
+StopsBy j took failures old piece s s' Memory = Begins j took old piece s s' × (failures s' ≡ failures s) × LacksAfter j took old piece s s'
 StopsBy j took failures old piece s s' Read = ⊥
 StopsBy j took failures old piece s s' Write = Begins j took old piece s s' × (failures s' ≡ failures s + 1)
 

@@ -34,11 +34,12 @@ use Rattle.h264_verify.specs.Steps as step
 use Rattle.h264_verify.specs.Demands.{Demand}
 use Rattle.h264_verify.specs.Lists.{list_of}
 use Rattle.h264_verify.specs.Telling.{Said}
-use Rattle.h264_verify.specs.Closing.{whole_steps}
+use Rattle.h264_verify.specs.Order.{whole_steps}
 use Rattle.h264_verify.specs.Buffering.{newest_count, frame_count, after_all, missing_steps, closing_frames}
 use Rattle.h264_verify.specs.UnitHeader.{header_of, nal_unit_type}
 use Rattle.h264_verify.specs.History.{History, maps_of}
-use Rattle.h264_verify.specs.Pictures.{CodedSlice, CodedPicture, sets_at, with_sets, joined_to, runs_of, begins_at, prev_ref_frame_num_of, held_after, held_in, bit_of, is_met, counted, coded_of, closing_demands}
+use Rattle.h264_verify.specs.Pictures.{CodedSlice, CodedPicture, sets_at, with_sets, joined_to, runs_of, begins_at, prev_ref_frame_num_of, held_after, held_in, bit_of, is_met, counted, coded_of}
+use Rattle.h264_verify.specs.Order.{closing_demands}
 use Rattle.h264_header.specs.Picture.{is_idr, is_reference}
 use Rattle.h264_poc.specs.OfSlice.{picture_of}
 use Rattle.h264_marking.specs.Ended.{numbering_of}
@@ -85,15 +86,15 @@ abbrev pub is_qp : ℤ → ℤ → Bool
 is_qp init delta = int_le (pos 0) ((pos 26 +ℤ init) +ℤ delta) && int_le ((pos 26 +ℤ init) +ℤ delta) (pos 51)
 
 -- An IDR picture is due at the beginning, and after an end of sequence or of stream (7.4.1.2.1).
-abbrev pub due_behind : Content → ℕ → Bool → Bool
-due_behind (contents.OfSlice h macroblocks) kind due = false
-due_behind (contents.OfSps set) kind due = (kind == 10 || kind == 11) || due
-due_behind (contents.OfPps set) kind due = (kind == 10 || kind == 11) || due
-due_behind contents.Passed kind due = (kind == 10 || kind == 11) || due
+abbrev pub due_after : Content → ℕ → Bool → Bool
+due_after (contents.OfSlice h macroblocks) kind due = false
+due_after (contents.OfSps set) kind due = (kind == 10 || kind == 11) || due
+due_after (contents.OfPps set) kind due = (kind == 10 || kind == 11) || due
+due_after contents.Passed kind due = (kind == 10 || kind == 11) || due
 
 abbrev pub is_idr_due : History → Bool
 is_idr_due [] = true
-is_idr_due (r ∷ before) = due_behind r.content (nal_unit_type (header_of r.unit)) (is_idr_due before)
+is_idr_due (r ∷ before) = due_after r.content (nal_unit_type (header_of r.unit)) (is_idr_due before)
 
 -- the sequence parameter set of a pair has this content
 abbrev pub has_content : Sps → Option SetPair → Bool
@@ -180,69 +181,6 @@ newest_slices (p ∷ pictures) = p.later ++ p.first ∷ []
 abbrev pub first_bit : CodedSlice → ℕ
 first_bit s = 8 * s.unit.from
 
--- The rules on frame_num of a picture that begins, and between them the missing numbers before it, each of which is filled, where these
--- frames are held.
-abbrev pub gap_rules : Mode → Bool → Bool → Bool → ℕ → ℕ → Numbering → References → Buffered Shown → List Step
-gap_rules mode idr reference gaps_allowed bit prev n refs b =
-    needs (gap_demand idr gaps_allowed bit prev n ∷ [])
-    ++ (missing_steps mode bit n (unused_short_term_frame_nums idr prev n) refs b
-    ++ needs (new_num_demand idr reference bit prev n refs ∷ []))
-
--- The rules of a picture's first slice after these pictures, the newest of which has ended, from its type on.
-abbrev pub first_slice_rules : Mode → List CodedPicture → CodedSlice → List Step
-first_slice_rules mode pictures s =
-    needs (type_demand s.sps s.header ∷ idr_num_demand s.header ∷ [])
-    ++ (gap_rules mode (is_idr s.header) (is_reference s.header) s.sps.gaps_in_frame_num_value_allowed_flag s.header.frame_num.bit (prev_ref_frame_num_of pictures) (numbering_of s.sps s.header) (held_after pictures) (after_all pictures).buffer
-    ++ needs (id_demand (newest_idr_of pictures) s.header
-    ∷ count_demand (picture_of s.sps s.header ∷ map counted pictures) (first_bit s)
-    ∷ qp_demand s.pps s.header
-    ∷ list_demand (list_of s.header.kind.value (numbering_of s.sps s.header) (held_in (joined_to true s pictures)))
-    ∷ []))
-
--- The rules of a later slice of the newest of these pictures.
-abbrev pub later_slice_rules : List CodedPicture → CodedSlice → List Demand
-later_slice_rules pictures s =
-    type_demand s.sps s.header
-    ∷ same_type_demand (newest_slices pictures) s.header
-    ∷ idr_num_demand s.header
-    ∷ qp_demand s.pps s.header
-    ∷ list_demand (list_of s.header.kind.value (numbering_of s.sps s.header) (held_in pictures))
-    ∷ marking_demand (newest_marking pictures) s.header
-    ∷ []
-
--- All rules of a picture's first slice, and of a later slice.
-abbrev pub first_slice_demands : Mode → Bool → Maps → List CodedPicture → CodedSlice → List Step
-first_slice_demands mode due maps pictures s =
-    needs (idr_demand due (first_bit s) s.header ∷ set_demand (is_idr s.header) maps s.sps s.header ∷ [])
-    ++ (needs (first_mb_demands mode 0 s.header)
-    ++ first_slice_rules mode pictures s)
-
-abbrev pub later_slice_demands : Mode → Maps → List CodedPicture → CodedSlice → List Step
-later_slice_demands mode maps pictures s =
-    needs (set_demand false maps s.sps s.header ∷ [])
-    ++ (needs (first_mb_demands mode (length (coded_of pictures)) s.header)
-    ++ needs (later_slice_rules pictures s))
-
-abbrev pub rules_of : Mode → Bool → Bool → Maps → List CodedPicture → CodedSlice → List Step
-rules_of mode true due maps pictures s = first_slice_demands mode due maps pictures s
-rules_of mode false due maps pictures s = later_slice_demands mode maps pictures s
-
 -- what the sink is told of a slice: the byte where its unit begins, first_mb_in_slice, its type, frame_num, and its picture's count
 abbrev pub slice_call : List CodedPicture → CodedSlice → Call
 slice_call pictures s = OfSlice s.unit.from s.header.first_mb_in_slice.value (type_of s.header.kind.value) s.header.frame_num.value (frame_count (newest_count (map counted pictures)))
-
--- the steps of a slice with its sets; a header that was read has them
-abbrev pub steps_by : Mode → Option (Pps × Sps) → History → NalUnit → Header → List Step
-steps_by mode None before unit h = []
-steps_by mode (Some sets) before unit h =
-    rules_of mode (begins_at before h) (is_idr_due before) (maps_of before) (runs_of before) (with_sets unit h [] sets)
-    ++ step.Tells (Said (slice_call (joined_to (begins_at before h) (with_sets unit h [] sets) (runs_of before)) (with_sets unit h [] sets)))
-    ∷ []
-
--- A slice after these units: where it begins a picture, the one before it ends first; then come its rules, and it is told.
-abbrev pub slice_steps : Mode → History → NalUnit → Header → List Step
-slice_steps mode before unit h =
-    (if begins_at before h then whole_steps mode before else [])
-    ++ (needs (if begins_at before h then closing_demands before else [])
-    ++ ((if begins_at before h then closing_frames mode before else [])
-    ++ steps_by mode (sets_at before h) before unit h))

@@ -15,7 +15,7 @@ use Rattle.h264_verify.specs.KeepingUnits.{Keeps}
 use Rattle.h264_verify.specs.Keeping.{ended_in}
 use Rattle.h264_verify.specs.UnitOutcome.{unit_outcome, end_outcome}
 
--- Behind these units a unit was judged, and the sink was told what comes of it.
+-- After these units a unit was judged, and the sink was told what comes of it.
 pub record Turns {S X : Type 0} (terms : Terms) (took : S → List Call → Type 0) (failures : S → ℕ) (frames : ℕ → Frame) (before : History) (unit : NalUnit) (new : State) (s s' : S) (result : Result X Stop) : Type 0 where
   pub made : ℕ → Frame
   pub same : Agree (ended_in before) frames made

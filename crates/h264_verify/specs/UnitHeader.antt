@@ -32,11 +32,3 @@ is_never_reference kind = kind == 6 || nat_le 9 kind && nat_le kind 12
 -- nal_ref_idc fits nal_unit_type (7.4.1)
 abbrev pub fits_kind : ℕ → ℕ → Bool
 fits_kind kind reference = if is_always_reference kind then not (reference == 0) else (if is_never_reference kind then reference == 0 else true)
-
--- the rules of that byte, at the unit's first bit
-abbrev pub header_demands : ℕ → ℕ → List Demand
-header_demands bit header =
-    record { rule = ForbiddenBit; bit = bit; met = forbidden_zero_bit header == 0 }
-    ∷ record { rule = RefIdc; bit = bit; met = fits_kind (nal_unit_type header) (nal_ref_idc header) }
-    ∷ record { rule = Partition; bit = bit; met = not (is_partition (nal_unit_type header)) }
-    ∷ []

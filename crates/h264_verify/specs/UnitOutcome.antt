@@ -19,11 +19,13 @@ use Rattle.h264_verify.specs.Content as contents
 use Rattle.h264_verify.specs.Demands.{judged}
 use Rattle.h264_verify.specs.Outcome.{Outcome, ◌>>=◌, answers, gives, tells, structure_outcome}
 use Rattle.h264_verify.specs.Steps.{needs}
-use Rattle.h264_verify.specs.UnitHeader.{header_of, nal_unit_type, header_demands}
+use Rattle.h264_verify.specs.UnitHeader.{header_of, nal_unit_type}
+use Rattle.h264_verify.specs.Order.{header_demands}
 use Rattle.h264_verify.specs.History.{History, maps_of}
-use Rattle.h264_verify.specs.Pictures.{closing_at}
-use Rattle.h264_verify.specs.Closing.{whole_at}
-use Rattle.h264_verify.specs.Units.{unit_call, is_slice, slice_unit, content_steps, data_course, frames_at, unit_course, end_steps, summary_of}
+use Rattle.h264_verify.specs.Order.{closing_at}
+use Rattle.h264_verify.specs.Order.{whole_at}
+use Rattle.h264_verify.specs.Units.{unit_call, is_slice, slice_unit, summary_of}
+use Rattle.h264_verify.specs.Order.{content_steps, data_course, frames_at, unit_course, end_steps}
 use Rattle.h264_verify.specs.StepOutcome.{course_outcome, steps_outcome, structure_from}
 
 -- a parameter set is read

@@ -19,13 +19,15 @@ use Rattle.h264_verify.specs.Content as contents
 use Rattle.h264_verify.specs.Demands.{Demand}
 use Rattle.h264_verify.specs.Steps.{Step, needs, Course, Takes, Reads, Ends}
 use Rattle.h264_verify.specs.Steps as step
-use Rattle.h264_verify.specs.UnitHeader.{header_of, nal_unit_type, nal_ref_idc, header_demands}
+use Rattle.h264_verify.specs.UnitHeader.{header_of, nal_unit_type, nal_ref_idc}
+use Rattle.h264_verify.specs.Order.{header_demands}
 use Rattle.h264_verify.specs.History.{History, maps_of}
-use Rattle.h264_verify.specs.Pictures.{CodedPicture, ends_picture, runs_of, closing_at, closing_demands}
+use Rattle.h264_verify.specs.Pictures.{CodedPicture, ends_picture, runs_of}
+use Rattle.h264_verify.specs.Order.{closing_at, closing_demands}
 use Rattle.h264_verify.specs.Telling.{Said}
-use Rattle.h264_verify.specs.Closing.{whole_at, whole_steps}
+use Rattle.h264_verify.specs.Order.{whole_at, whole_steps}
 use Rattle.h264_verify.specs.Buffering.{closing_frames, last_frames, frames_written}
-use Rattle.h264_verify.specs.Slices.{slice_steps}
+use Rattle.h264_verify.specs.Order.{slice_steps}
 use Rattle.h264_verify.specs.Data.{slice_data_at}
 
 -- what the sink is told of a unit: the byte where it begins, its type, nal_ref_idc, and its length in bytes
@@ -59,49 +61,6 @@ other_content modes.Full kind before unit = header_or_passed kind before unit
 abbrev pub terms_of : Mode → Target → Terms
 terms_of mode target = record { mode = mode; target = target }
 
--- The syntax structure in a unit of this type, after these units; of a slice its header (7.3.1, table 7-1).
-unfoldable pub content : Terms → ℕ → History → NalUnit → Grammar Content
-content terms kind before unit =
-    if kind == 7 then sps terms.target >>= (λ set. Done (contents.OfSps set))
-    else (if kind == 8 then pps terms.target >>= (λ set. Done (contents.OfPps set))
-    else other_content terms.mode kind before unit)
-
--- The rules on what is in a unit, beside its own syntax, and what the sink is told once they are met.
-abbrev pub content_steps : Mode → History → NalUnit → Content → List Step
-content_steps mode before unit (contents.OfSps set) = []
-content_steps mode before unit (contents.OfPps set) = []
-content_steps mode before unit (contents.OfSlice h macroblocks) = slice_steps mode before unit h
-content_steps mode before unit contents.Passed = []
-
--- What stands after that in the unit: slice data after the header of a slice, from this bit on, where they are read.
-abbrev pub data_course : Mode → History → NalUnit → Content → ℕ → Course
-data_course mode before unit (contents.OfSps set) bit = Ends (contents.OfSps set)
-data_course mode before unit (contents.OfPps set) bit = Ends (contents.OfPps set)
-data_course modes.Units before unit (contents.OfSlice h macroblocks) bit = Ends (contents.OfSlice h macroblocks)
-data_course modes.Headers before unit (contents.OfSlice h macroblocks) bit = Ends (contents.OfSlice h macroblocks)
-data_course modes.Full before unit (contents.OfSlice h macroblocks) bit = Reads (slice_data_at before unit h >>= (λ ms. Done (contents.OfSlice h ms))) bit (λ whole end. Ends whole)
-data_course mode before unit contents.Passed bit = Ends contents.Passed
-
--- the frames that are written before the content of a unit of this type
-abbrev pub frames_at : Mode → ℕ → History → List Step
-frames_at mode kind before = if ends_picture kind then closing_frames mode before else []
-
--- Behind the unit's first byte: its elements, the rules on what they give, and the elements after these.
-abbrev pub content_course : Terms → History → NalUnit → Course
-content_course terms before unit =
-    Reads (content terms (nal_unit_type (header_of unit)) before unit) 0 (λ found bit.
-    Takes (content_steps terms.mode before unit found)
-    (data_course terms.mode before unit found bit))
-
--- The course of a unit whose bytes are sound: the rules of its first byte, the sink is told of it, a picture ends before it, and
--- then comes what is in it.
-abbrev pub unit_course : Terms → History → NalUnit → Course
-unit_course terms before unit =
-    Takes (needs (header_demands (8 * unit.from) (header_of unit)))
-    (Takes (step.Tells (Said (unit_call unit.from (header_of unit) (length unit.body))) ∷ [])
-    (Takes (whole_at terms.mode (nal_unit_type (header_of unit)) before ++ (needs (closing_at (nal_unit_type (header_of unit)) before) ++ frames_at terms.mode (nal_unit_type (header_of unit)) before))
-    (content_course terms before unit)))
-
 -- a stream whose slices are read has a picture
 abbrev pub has_pictures : Mode → List CodedPicture → Bool
 has_pictures modes.Units pictures = true
@@ -112,15 +71,6 @@ has_pictures modes.Full (p ∷ pictures) = true
 
 abbrev pub picture_demand : Mode → History → ℕ → Demand
 picture_demand mode before bit = record { rule = NoPicture; bit = bit; met = has_pictures mode (runs_of before) }
-
--- The end of the input, at this bit: the last picture ends, there is one, and all frames that wait are written.
-abbrev pub end_steps : Mode → History → ℕ → List Step
-end_steps mode before bit =
-    whole_steps mode before
-    ++ (needs (closing_demands before)
-    ++ (closing_frames mode before
-    ++ (needs (picture_demand mode before bit ∷ [])
-    ++ last_frames mode (runs_of before))))
 
 abbrev pub summary_of : Mode → History → Summary
 summary_of mode before = record { units = length before; pictures = length (runs_of before); frames = frames_written mode (runs_of before) }

@@ -18,7 +18,8 @@ use Rattle.h264_verify.specs.Steps.{AreMet, IsFirstStop, Runs}
 use Rattle.h264_verify.specs.History.{History, ReadUnit}
 use Rattle.h264_verify.specs.Pictures.{runs_of}
 use Rattle.h264_verify.specs.Memory.{ChangesFormat}
-use Rattle.h264_verify.specs.Units.{unit_course, end_steps, summary_of}
+use Rattle.h264_verify.specs.Units.{summary_of}
+use Rattle.h264_verify.specs.Order.{unit_course, end_steps}
 use Rattle.h264_verify.specs.Decodable.{AreDecodable}
 
 -- The bytes of a unit break no rule of emulation prevention (7.4.1).
@@ -60,11 +61,11 @@ pub record Holds (terms : Terms) (bytes : List ℕ) (calls : List Told) (summary
   pub summary_is : summary ≡ summary_of terms.mode units
   pub pictures : AreDecodable terms.mode (runs_of units)
 
--- Behind the legal units the verdict falls at the next, or at what follows the last, or at the end of the input.
-pub data IsStopBehind (terms : Terms) (before : History) (units : List NalUnit) (tail : Tail) (end : ℕ) (stop : Stop) (calls : List Told) : Type 0 where
-  AtNext : (unit : NalUnit) (later : List NalUnit) → units ≡ unit ∷ later → IsStop terms before unit stop calls → IsStopBehind terms before units tail end stop calls
-  AtTail : units ≡ [] → tail_stop tail ≡ Some stop → calls ≡ [] → IsStopBehind terms before units tail end stop calls
-  AtEnd : units ≡ [] → tail ≡ Zeros → IsFirstStop (end_steps terms.mode before (8 * end)) calls stop → IsStopBehind terms before units tail end stop calls
+-- After the legal units the verdict falls at the next, or at what follows the last, or at the end of the input.
+pub data IsStopAfter (terms : Terms) (before : History) (units : List NalUnit) (tail : Tail) (end : ℕ) (stop : Stop) (calls : List Told) : Type 0 where
+  AtNext : (unit : NalUnit) (later : List NalUnit) → units ≡ unit ∷ later → IsStop terms before unit stop calls → IsStopAfter terms before units tail end stop calls
+  AtTail : units ≡ [] → tail_stop tail ≡ Some stop → calls ≡ [] → IsStopAfter terms before units tail end stop calls
+  AtEnd : units ≡ [] → tail ≡ Zeros → IsFirstStop (end_steps terms.mode before (8 * end)) calls stop → IsStopAfter terms before units tail end stop calls
 
 -- The units before are legal, and then the verdict falls.
 pub record StopsAt (terms : Terms) (bytes : List ℕ) (calls : List Told) (stop : Stop) : Type 0 where
@@ -75,7 +76,7 @@ pub record StopsAt (terms : Terms) (bytes : List ℕ) (calls : List Told) (stop 
   pub first : List Told
   pub last : List Told
   pub legal : AreLegal terms before first
-  pub stops : IsStopBehind terms before units tail (length bytes) stop last
+  pub stops : IsStopAfter terms before units tail (length bytes) stop last
   pub calls_are : calls ≡ first ++ last
 
 -- All rules before this one are met, it fails, and this is its bit.

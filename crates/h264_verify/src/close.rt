@@ -4,13 +4,14 @@
 ghost use Rattle.std.specs.Prelude.{◌≡◌, ℕ, ◌-◌, ◌<◌, ◌≤◌, ◌^◌, false, OnOk, IsErrOf, Ok, [], IfErr, if◌then◌else◌};
 ghost use Rattle.h264_plane.specs.declared.frame.Frame.{Frame};
 ghost use Rattle.h264_verify.specs.History.{History};
-ghost use Rattle.h264_verify.specs.Pictures.{goes_on, runs_of, open_of, closing_demands};
+ghost use Rattle.h264_verify.specs.Pictures.{goes_on, runs_of, open_of};
+ghost use Rattle.h264_verify.specs.Order.{closing_demands};
 ghost use Rattle.h264_verify.specs.Keeping.{KeepsSlices, KeepsDecoder, KeepsSomeFrames, close_steps, HoldsData};
 ghost use Rattle.h264_verify.specs.StepOutcome.{steps_outcome};
 ghost use Rattle.h264_verify.specs.Framing.{EndsFrames};
 ghost use Rattle.h264_verify.specs.Demands.{judged};
 ghost use Rattle.h264_verify.specs.Outcome.{IsNamed, answers};
-ghost use Rattle.h264_verify.specs.Closing.{whole_steps};
+ghost use Rattle.h264_verify.specs.Order.{whole_steps};
 ghost use Rattle.h264_verify.specs.Buffering.{closing_frames};
 
 use crate::decoder::Decoder;

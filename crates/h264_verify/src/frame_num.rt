@@ -19,10 +19,11 @@ ghost use Rattle.h264_verify.specs.Buffering.{told_frames, gaps_turn, missing_st
 ghost use Rattle.h264_verify.specs.Keeping.{KeepsGap, KeepsSomeGap, HasPlaces, GoesWith};
 ghost use Rattle.h264_verify.specs.StepOutcome.{steps_outcome};
 ghost use Rattle.h264_verify.specs.Demands.{judged};
-ghost use Rattle.h264_verify.specs.Pictures.{prev_ref_frame_num_behind};
+ghost use Rattle.h264_verify.specs.Pictures.{prev_ref_frame_num_after};
 ghost use Rattle.h264_header.specs.Picture.{is_idr, is_reference};
 ghost use Rattle.h264_marking.specs.Ended.{resets, numbering_of};
-ghost use Rattle.h264_verify.specs.Slices.{idr_num_demand, gap_rules};
+ghost use Rattle.h264_verify.specs.Slices.{idr_num_demand};
+ghost use Rattle.h264_verify.specs.Order.{gap_rules};
 
 use crate::decoder::Decoder;
 use crate::rules::check;
@@ -34,7 +35,7 @@ use h264_marking::{Held, Numbering, numbering_of, resets};
 use h264_sps::sps::Sps;
 
 /// PrevRefFrameNum after a picture, where `last` is the last missing number, or the one before.
-fn prev_ref_behind(reference: bool, resets: bool, frame_num: u32, last: u32) -> u32
+fn prev_ref_after(reference: bool, resets: bool, frame_num: u32, last: u32) -> u32
     ensures { result ≡ (if reference then (if resets then 0 else frame_num) else last) }
 {
     if !reference {
@@ -184,7 +185,7 @@ pub(crate) fn check_gap<S: FrameSink>(
     ensures held { OnOk result (held.new ≡ entered (is_idr header.now) prev_ref_frame_num.old (numbering_of sps.now header.now) held.old) }
     ensures filled { OnOk result (all_filled (numbering_of sps.now header.now)
         (unused_short_term_frame_nums (is_idr header.now) prev_ref_frame_num.old (numbering_of sps.now header.now)) held.old ≡ Some held.new) }
-    ensures prev { OnOk result (prev_ref_frame_num.new ≡ prev_ref_frame_num_behind (is_idr header.now) (is_reference header.now)
+    ensures prev { OnOk result (prev_ref_frame_num.new ≡ prev_ref_frame_num_after (is_idr header.now) (is_reference header.now)
         (resets header.now.marking) (numbering_of sps.now header.now) prev_ref_frame_num.old) }
     ensures kept { OnOk result (S.failures sink.new ≡ S.failures sink.old) }
 {
@@ -197,7 +198,7 @@ pub(crate) fn check_gap<S: FrameSink>(
     check_missing(gap, sps.gaps_in_frame_num_value_allowed_flag, bit)?;
     let last = fill_frames(mode, prev, gap, &numbering, bit, held, decoder, sink)?;
     check_new(idr, reference, prev, numbering.frame_num, held, bit)?;
-    *prev_ref_frame_num = prev_ref_behind(
+    *prev_ref_frame_num = prev_ref_after(
         reference,
         resets(&header.marking),
         numbering.frame_num,

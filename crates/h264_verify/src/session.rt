@@ -11,7 +11,7 @@ ghost use Rattle.h264_verify.specs.History.{History};
 ghost use Rattle.h264_verify.specs.KeepingUnits.{Keeps, KeepsSome};
 ghost use Rattle.h264_verify.specs.Units.{terms_of};
 ghost use Rattle.h264_verify.specs.declared.state.Terms.{Terms};
-ghost use Rattle.h264_verify.specs.Feeding.{behind, GoesOn, StopsOn, FinishesOn, WasFed, IsFed};
+ghost use Rattle.h264_verify.specs.Feeding.{standing_after, GoesOn, StopsOn, FinishesOn, WasFed, IsFed};
 ghost use Rattle.h264_verify.specs.Verdict.{Judged};
 
 use crate::bytes::read_bytes;
@@ -40,14 +40,14 @@ fn feed_some<S: FrameSink>(
     requires keeps { KeepsSome terms.mode false state.old }
     ensures within { IfOk result (λ n. (0 < n) × (n ≤ length piece.now)) }
     ensures goes { (frames : ℕ → Frame) (before : History) → Keeps terms.mode frames before state.old →
-        IfOk result (λ n. GoesOn terms S.took frames (behind splitter.old before) splitter.new state.new piece.now (drop n piece.now) sink.old sink.new) }
+        IfOk result (λ n. GoesOn terms S.took frames (standing_after splitter.old before) splitter.new state.new piece.now (drop n piece.now) sink.old sink.new) }
     ensures runs { OnOk result ((splitter.new.stop ≡ None) × IsFalse splitter.new.waiting × IsFalse splitter.new.ended) }
     ensures counted { OnOk result (state.new.units ≤ splitter.new.at) }
     ensures pictures { OnOk result (state.new.slices.pictures ≤ state.new.units) }
     ensures undecided { OnOk result (IsUndecided splitter.new.rest) }
     ensures kept { OnOk result (S.failures sink.new ≡ S.failures sink.old) }
     ensures stops { (frames : ℕ → Frame) (before : History) → Keeps terms.mode frames before state.old →
-        IfErr result (StopsOn terms S.took S.failures frames (behind splitter.old before) piece.now sink.old sink.new) }
+        IfErr result (StopsOn terms S.took S.failures frames (standing_after splitter.old before) piece.now sink.old sink.new) }
 {
     let n = splitter.push(piece)?;
     match splitter.take_unit() {
@@ -82,14 +82,14 @@ fn feed_all<S: FrameSink>(
     requires pictures { state.old.slices.pictures ≤ state.old.units }
     requires keeps { KeepsSome terms.mode false state.old }
     ensures goes { (frames : ℕ → Frame) (before : History) → Keeps terms.mode frames before state.old →
-        OnOk result (GoesOn terms S.took frames (behind splitter.old before) splitter.new state.new piece.now [] sink.old sink.new) }
+        OnOk result (GoesOn terms S.took frames (standing_after splitter.old before) splitter.new state.new piece.now [] sink.old sink.new) }
     ensures runs { OnOk result ((splitter.new.stop ≡ None) × IsFalse splitter.new.waiting × IsFalse splitter.new.ended) }
     ensures counted { OnOk result (state.new.units ≤ splitter.new.at) }
     ensures pictures { OnOk result (state.new.slices.pictures ≤ state.new.units) }
     ensures undecided { OnOk result (IsUndecided splitter.old.rest → IsUndecided splitter.new.rest) }
     ensures kept { OnOk result (S.failures sink.new ≡ S.failures sink.old) }
     ensures stops { (frames : ℕ → Frame) (before : History) → Keeps terms.mode frames before state.old →
-        IfErr result (StopsOn terms S.took S.failures frames (behind splitter.old before) piece.now sink.old sink.new) }
+        IfErr result (StopsOn terms S.took S.failures frames (standing_after splitter.old before) piece.now sink.old sink.new) }
     ensures no_bytes { piece.now ≡ [] → (result ≡ Ok tt) × (splitter.new ≡ splitter.old) × (state.new ≡ state.old) × (sink.new ≡ sink.old) }
 {
     let mut rest = piece;
@@ -114,7 +114,7 @@ fn finish_all<S: FrameSink>(
     requires pictures { state.old.slices.pictures ≤ state.old.units }
     requires keeps { KeepsSome terms.mode false state.old }
     ensures finishes { (frames : ℕ → Frame) (before : History) → Keeps terms.mode frames before state.old →
-        FinishesOn terms S.took S.failures frames (behind splitter.old before) sink.old sink.new result }
+        FinishesOn terms S.took S.failures frames (standing_after splitter.old before) sink.old sink.new result }
     ensures memory { IsErrOf result Stop.Memory → LastIsRead terms.mode splitter.old }
 {
     splitter.finish()?;
@@ -175,13 +175,13 @@ impl Session {
         requires runs { self.old.stop ≡ None }
         // However the input goes on, what comes is what the sink was told now and what comes later.
         ensures goes { (frames : ℕ → Frame) (before : History) → Keeps self.old.terms.mode frames before self.old.state →
-            OnOk result (GoesOn self.old.terms S.took frames (behind self.old.split before) self.new.split self.new.state piece.now [] sink.old sink.new) }
+            OnOk result (GoesOn self.old.terms S.took frames (standing_after self.old.split before) self.new.split self.new.state piece.now [] sink.old sink.new) }
         ensures undecided { OnOk result (IsUndecided self.old.split.rest → IsUndecided self.new.split.rest) }
         ensures going { OnOk result (self.new.stop ≡ None) }
         ensures kept { OnOk result (S.failures sink.new ≡ S.failures sink.old) }
         // The stop is the stream's, or the sink failed, or memory was refused.
         ensures stops { (frames : ℕ → Frame) (before : History) → Keeps self.old.terms.mode frames before self.old.state →
-            IfErr result (StopsOn self.old.terms S.took S.failures frames (behind self.old.split before) piece.now sink.old sink.new) }
+            IfErr result (StopsOn self.old.terms S.took S.failures frames (standing_after self.old.split before) piece.now sink.old sink.new) }
         ensures stopped { IfErr result (λ stop. self.new.stop ≡ Some stop) }
         ensures terms { self.new.terms ≡ self.old.terms }
         ensures write { IsErrOf result Stop.Write → S.failures sink.new ≡ S.failures sink.old + 1 }
@@ -210,7 +210,7 @@ impl Session {
         requires count { S.failures sink.old < 2 ^ 64 - 1 }
         requires runs { self.stop ≡ None }
         ensures finishes { (frames : ℕ → Frame) (before : History) → Keeps self.terms.mode frames before self.state →
-            FinishesOn self.terms S.took S.failures frames (behind self.split before) sink.old sink.new result }
+            FinishesOn self.terms S.took S.failures frames (standing_after self.split before) sink.old sink.new result }
         ensures write { IsErrOf result Stop.Write → S.failures sink.new ≡ S.failures sink.old + 1 }
         ensures write_told { (S.failures sink.new ≡ S.failures sink.old) ⊎ IsErrOf result Stop.Write }
         ensures no_read { IsErrOf result Stop.Read → ⊥ }

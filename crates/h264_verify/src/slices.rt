@@ -19,8 +19,8 @@ ghost use Rattle.h264_verify.specs.Keeping.{KeepsSlices, KeepsDecoder, KeepsGap,
 ghost use Rattle.h264_verify.specs.Keeping.{HoldsOpen, IsLeft, first_by, later_by, slice_rules, told_rules, KeepsPictures, Entered, is_typed};
 ghost use Rattle.h264_verify.specs.StepOutcome.{steps_outcome};
 ghost use Rattle.h264_units.specs.Stream.{NalUnit as UnitView};
-ghost use Rattle.h264_verify.specs.Pictures.{CodedSlice, CodedPicture, open_of, joined_to, runs_of, with_sets, goes_on, bit_behind};
-ghost use Rattle.h264_verify.specs.Pictures.{prev_ref_frame_num_behind, begins_at, begins_after, ends_picture};
+ghost use Rattle.h264_verify.specs.Pictures.{CodedSlice, CodedPicture, open_of, joined_to, runs_of, with_sets, goes_on, bit_after};
+ghost use Rattle.h264_verify.specs.Pictures.{prev_ref_frame_num_after, begins_at, begins_after, ends_picture};
 ghost use Rattle.h264_poc.specs.OfSlice.{picture_of};
 ghost use Rattle.h264_marking.specs.Ended.{numbering_of, resets};
 ghost use Rattle.h264_header.specs.Picture.{is_idr, is_reference};
@@ -157,7 +157,7 @@ fn check_first_slice<S: FrameSink>(
         (unused_short_term_frame_nums (is_idr header.now) slices.old.prev_ref_frame_num (numbering_of sps.now header.now)) slices.old.held ≡ Some
         slices.new.held) }
     ensures typed { OnOk result (is_typed header.now ≡ true) }
-    ensures prev { OnOk result (slices.new.prev_ref_frame_num ≡ prev_ref_frame_num_behind (is_idr header.now) (is_reference header.now)
+    ensures prev { OnOk result (slices.new.prev_ref_frame_num ≡ prev_ref_frame_num_after (is_idr header.now) (is_reference header.now)
         (resets header.now.marking) (numbering_of sps.now header.now) slices.old.prev_ref_frame_num) }
     ensures others { slices.new ≡ record slices.old {
       counts = slices.new.counts;
@@ -241,8 +241,8 @@ fn check_rules<S: FrameSink>(
 }
 
 /// The first stream bit after a unit.
-fn bit_behind(unit: &NalUnit) -> u64
-    ensures { result ≡ bit_behind unit.now }
+fn bit_after(unit: &NalUnit) -> u64
+    ensures { result ≡ bit_after unit.now }
 {
     8 * (unit.from() + unit.body().len() as u64)
 }
@@ -382,7 +382,7 @@ pub fn judge_rules<S: FrameSink>(
         frame_count(slices.count),
         buffer_size(sps),
     );
-    enter(slices, begins, header, numbering, ended, bit_behind(unit));
+    enter(slices, begins, header, numbering, ended, bit_after(unit));
     Ok(())
 }
 

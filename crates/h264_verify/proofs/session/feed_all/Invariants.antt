@@ -3,7 +3,7 @@ use Rattle.std.proofs.Common.{◌≡◌, ◌≤◌, ℕ, IsFalse, None, [], leng
 use Rattle.h264_plane.specs.declared.frame.Frame.{Frame}
 use Rattle.h264_verify.specs.History.{History}
 use Rattle.h264_verify.specs.KeepingUnits.{Keeps}
-use Rattle.h264_verify.specs.Feeding.{behind, GoesOn}
+use Rattle.h264_verify.specs.Feeding.{standing_after, GoesOn}
 use Rattle.h264_verify.proofs.session.feed_all.Given as goal
 
 abbrev pub invariant-loop-rest : goal.invariant-loop-rest

@@ -7,7 +7,8 @@ use Rattle.h264_poc.specs.OfSlice.{picture_of}
 use Rattle.h264_marking.specs.Ended.{numbering_of}
 use Rattle.h264_verify.specs.declared.slices.Slices.{Slices}
 use Rattle.h264_verify.specs.Telling.{took_with}
-use Rattle.h264_verify.specs.Slices.{type_demand, idr_num_demand, gap_rules, id_demand, count_demand, qp_demand, list_demand}
+use Rattle.h264_verify.specs.Slices.{type_demand, idr_num_demand, id_demand, count_demand, qp_demand, list_demand}
+use Rattle.h264_verify.specs.Order.{gap_rules}
 use Rattle.h264_verify.specs.Lists.{list_of}
 use Rattle.h264_verify.proofs.Playing.{no-memory}
 use Rattle.h264_verify.proofs.Stepwise.{at-first, at-second, at-between, behind-between}

@@ -5,7 +5,7 @@ use Rattle.h264_verify.specs.Demands.{Demand, judged}
 use Rattle.h264_verify.specs.Steps.{Step}
 use Rattle.h264_verify.specs.StepOutcome.{steps_outcome}
 use Rattle.h264_verify.specs.Buffering.{after_all}
-use Rattle.h264_verify.specs.Slices.{later_slice_rules}
+use Rattle.h264_verify.specs.Order.{later_slice_rules}
 use Rattle.h264_verify.specs.Pictures.{goes_on, runs_of, with_sets, counted}
 use Rattle.h264_verify.proofs.Stepwise.{rules-play}
 use Rattle.h264_verify.proofs.Filling.{made-same}
