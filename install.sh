@@ -28,7 +28,7 @@ tar -C "$top" -c --exclude='crates/*/out' crates HANDLES | tar -C "$build/work" 
 
 # Crates that stand side by side are proved side by side, one processor each. The crates of the long chain above them come after, one
 # after another, with all processors each.
-chain=' h264_picture h264_slices h264_judge h264_verify h264_report h264v '
+chain=' h264_picture h264_verify h264_report h264v '
 while read -r line; do
   case "$chain" in *" ${line%%:*} "*) ;; *) printf '%s\n' "$line" ;; esac
 done <"$top/crates.txt" >"$build/work/crates.txt"
