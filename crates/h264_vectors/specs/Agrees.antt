@@ -1,5 +1,5 @@
 -- What the code has of the references and vectors of a macroblock's blocks. A working form.
-use Rattle.std.specs.Prelude.{◌≡◌, ◌≤◌, Bool, true, false, List, [], ◌∷◌, map, Option, Some, None, if◌then◌else◌}
+use Rattle.std.specs.Prelude.{◌≡◌, ℕ, ◌<◌, ◌≤◌, Bool, true, false, List, [], ◌∷◌, map, Option, Some, None, if◌then◌else◌}
 use Rattle.std.specs.Option.{is_some}
 use Rattle.std.specs.List.{range_with_len}
 use Rattle.std.proofs.Common.{get_or}
@@ -26,6 +26,14 @@ pub record Agrees (within : Bool) (blocks : List (Option Motion)) (places : List
 abbrev pub if_fits : {A : Type 0} → Bool → A → Option A
 if_fits true v = Some v
 if_fits false v = None
+
+-- a part that is the whole macroblock
+abbrev pub IsWhole : Part → Type 0
+IsWhole p = (p.x ≡ 0) × (p.y ≡ 0) × (p.wide ≡ 4) × (p.high ≡ 4)
+
+-- all blocks have one reference and one vector
+pub record AreAlike (motions : List (Option Motion)) : Type 0 where
+  pub each : (k : ℕ) → k < 16 → get_or motions k None ≡ get_or motions 0 None
 
 -- what a slice of the profile says
 pub record Usable (slice : SliceContext) : Type 0 where

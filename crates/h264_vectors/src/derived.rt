@@ -1,12 +1,12 @@
 //! References and vectors of the blocks of a macroblock, part by part (8.4.1).
 #![tactic(auto)]
 
-ghost use Rattle.std.specs.Prelude.{◌≡◌, ℕ, ◌+◌, ◌<◌, ◌≤◌, Bool, List};
+ghost use Rattle.std.specs.Prelude.{◌≡◌, ℕ, ◌+◌, ◌<◌, ◌≤◌, Bool, IsTrue, List};
 ghost use Rattle.h264_near.specs.Coded.{CodedMacroblock};
 ghost use Rattle.h264_near.specs.Keeps.{Keeps};
 ghost use Rattle.h264_vectors.specs.Derived as derived;
 ghost use Rattle.h264_vectors.specs.Derived.{Derived};
-ghost use Rattle.h264_vectors.specs.Agrees.{Agrees, Usable, places_with};
+ghost use Rattle.h264_vectors.specs.Agrees.{Agrees, Usable, IsWhole, AreAlike, places_with};
 
 use crate::part::Part;
 use crate::predicted::predicted_vector;
@@ -44,6 +44,19 @@ fn after_part(part: Part, n: usize, motion: Motion, old: Option<Motion>) -> Opti
     Some(motion)
 }
 
+/// Whether a part is the whole macroblock.
+#[inline(always)]
+fn is_whole(part: Part) -> bool
+    requires columns { part.x + part.wide ≤ 4 }
+    requires rows { part.y + part.high ≤ 4 }
+    ensures { IsTrue result → IsWhole part }
+{
+    if part.wide == 4 {
+        return part.high == 4;
+    }
+    false
+}
+
 /// Keeps what the blocks of a part are predicted from.
 #[inline]
 fn fill(motions: &mut [Option<Motion>; 16], part: Part, motion: Motion)
@@ -51,6 +64,10 @@ fn fill(motions: &mut [Option<Motion>; 16], part: Part, motion: Motion)
     requires rows { part.y + part.high ≤ 4 }
     ensures { motions.new ≡ derived.with_part motions.old part motion }
 {
+    if is_whole(part) {
+        *motions = [Some(motion); 16];
+        return;
+    }
     *motions = [
         after_part(part, 0, motion, motions[0]),
         after_part(part, 1, motion, motions[1]),
@@ -88,9 +105,10 @@ pub fn derive(
     requires high { 0 < part.high }
     requires index { index < 16 }
     requires usable { Usable slice.now }
-    ensures { (width : ℕ) (picture : List CodedMacroblock) (places : List Bool) (d : Derived) → Keeps width picture near.now →
+    ensures agrees { (width : ℕ) (picture : List CodedMacroblock) (places : List Bool) (d : Derived) → Keeps width picture near.now →
         Agrees fits motions.old places d → Agrees result motions.new (places_with places part)
         (derived.derive width slice.now picture d part index across down) }
+    ensures alike { IsWhole part → AreAlike motions.old → AreAlike motions.new }
 {
     if !fits {
         return false;

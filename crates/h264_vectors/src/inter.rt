@@ -8,7 +8,7 @@ ghost use Rattle.h264_near.specs.Keeps.{Keeps};
 ghost use Rattle.h264_vectors.specs.declared.part.Direction.TheVariants as direction;
 ghost use Rattle.h264_vectors.specs.Derived as derived;
 ghost use Rattle.h264_vectors.specs.Derived.{Derived};
-ghost use Rattle.h264_vectors.specs.Agrees.{Agrees, Usable, places_with, places_after};
+ghost use Rattle.h264_vectors.specs.Agrees.{Agrees, Usable, IsWhole, AreAlike, places_with, places_after};
 ghost use Rattle.h264_vectors.specs.Inter as syntax;
 
 use crate::derived::derive;
@@ -82,6 +82,7 @@ fn read_part<S: Elements>(
     ensures meets { (width : ℕ) (picture : List CodedMacroblock) (places : List Bool) (d : Derived) → Keeps width picture near.now →
         Agrees fits motions.old places d → Meets S.took S.failures (λ w next. Agrees w motions.new (places_with places part) next)
         (syntax.part_motion width slice.now picture part index d) bits.old bits.new sink.old sink.new result }
+    ensures alike { IsWhole part → AreAlike motions.old → OnOk result (AreAlike motions.new) }
     ensures quiet { OnOk result (S.failures sink.new ≡ S.failures sink.old) }
 {
     let across = read_se(bits, ElementName::MvdL0, sink)?;
@@ -349,6 +350,7 @@ fn read_one_part<S: Elements>(
     ensures meets { (width : ℕ) (picture : List CodedMacroblock) → Keeps width picture near.now →
         Meets S.took S.failures (λ w next. Agrees w motions.new (replicate 16 true) next)
         (syntax.one_part width slice.now picture inferred (derived.part 0 0 4 4 direction.Median)) bits.old bits.new sink.old sink.new result }
+    ensures alike { OnOk result (AreAlike motions.new) }
     ensures quiet { OnOk result (S.failures sink.new ≡ S.failures sink.old) }
 {
     let i = read_ref_index(bits, slice, inferred, sink)?;
@@ -411,6 +413,7 @@ fn read_motions_by<S: Elements>(
     ensures meets { (width : ℕ) (picture : List CodedMacroblock) → Keeps width picture near.now →
         Meets S.took S.failures (λ w next. Agrees w motions.new (replicate 16 true) next)
         (syntax.motions_by width slice.now picture inferred kind) bits.old bits.new sink.old sink.new result }
+    ensures alike { kind ≡ 0 → OnOk result (AreAlike motions.new) }
     ensures quiet { OnOk result (S.failures sink.new ≡ S.failures sink.old) }
 {
     if kind == 0 {
@@ -477,7 +480,7 @@ fn has_inferred(slice: &SliceContext, inferred: bool) -> bool
 }
 
 /// Reads what the blocks of an inter macroblock are predicted from, by its mb_type, 0 to 4, which stands at this stream bit:
-/// whether all its vectors lie in their range. `motions` have the reference and the vector of each block, where they do.
+/// whether all its vectors lie in their range. `motions` have the reference and the vector of each block, where they do. With mb_type 0 they are alike.
 ///
 /// Ok: the elements that the sink was told are its one derivation, with every rule met but that on the range of vectors.
 /// No: the first rule that it breaks, at its stream bit. Write: the sink failed. After an Err the reader may have moved.
@@ -496,6 +499,7 @@ pub fn read_motions<S: Elements>(
     ensures meets { (width : ℕ) (picture : List CodedMacroblock) → Keeps width picture near.now →
         Meets S.took S.failures (λ w next. Agrees w motions.new (replicate 16 true) next)
         (syntax.motions width slice.now picture bit kind) bits.old bits.new sink.old sink.new result }
+    ensures alike { kind ≡ 0 → OnOk result (AreAlike motions.new) }
     ensures quiet { OnOk result (S.failures sink.new ≡ S.failures sink.old) }
 {
     let inferred = is_inferred(slice, kind);

@@ -20,3 +20,12 @@ returns-then-kind-eq2-clause-meets g c width picture k = rw (unequal c.args.kind
 pub returns-clause-meets : goal.returns-clause-meets
 unfolding motions_by
 returns-clause-meets g c width picture k = rw (unequal c.args.kind 0 c.if-kind-eq0.false, unequal c.args.kind 1 c.if-kind-eq1.false, unequal c.args.kind 2 c.if-kind-eq2.false) (c.read_split.ensures.meets width picture k)
+
+pub returns-then-kind-eq1-clause-alike : goal.returns-then-kind-eq1-clause-alike
+returns-then-kind-eq1-clause-alike g c e = absurd (c.if-kind-eq0.false e)
+
+pub returns-then-kind-eq2-clause-alike : goal.returns-then-kind-eq2-clause-alike
+returns-then-kind-eq2-clause-alike g c e = absurd (c.if-kind-eq0.false e)
+
+pub returns-clause-alike : goal.returns-clause-alike
+returns-clause-alike g c e = absurd (c.if-kind-eq0.false e)

@@ -17,4 +17,4 @@ returns-in_err-down-clause-meets g c width picture places d k a = let p = err_fr
 
 pub returns-clause-meets : goal.returns-clause-meets
 unfolding part_motion
-returns-clause-meets g c width picture places d k a = bind _ (c.in_ok-across.ensures.meets) (bind _ (c.in_ok-down.ensures.meets) (done _ _ _ _ _ _ _ (let f : SFits w32 c.in_ok-across.across.value = search rules in let e : SFits w32 c.in_ok-down.down.value = search rules in simp to_z-of_z at (c.derive.ensures width picture places d k a))))
+returns-clause-meets g c width picture places d k a = bind _ (c.in_ok-across.ensures.meets) (bind _ (c.in_ok-down.ensures.meets) (done _ _ _ _ _ _ _ (let f : SFits w32 c.in_ok-across.across.value = search rules in let e : SFits w32 c.in_ok-down.down.value = search rules in simp to_z-of_z at (c.derive.ensures.agrees width picture places d k a))))
