@@ -1,5 +1,6 @@
 ghost use Rattle.std.specs.Prelude.{◌≡◌, ◌-◌, ◌<◌, ◌≤◌, ◌^◌, OnOk, IfOk, IsTrue};
 ghost use Rattle.h264_dpb.specs.Shown.{is_shown};
+ghost use Rattle.h264_plane.specs.Frames.{lent_by};
 ghost use Rattle.h264_dpb.specs.Buffered.{AreReady};
 
 use crate::{Buffer, FrameOut, Kind, Picture, Placed, Rectangle};

@@ -37,7 +37,8 @@ use Rattle.h264_mbsyntax.proofs.Loops.{whole, stored-blank}
 use Rattle.std.specs.Option.{is_some, option_map}
 use Rattle.std.proofs.Math.ListN as math
 use Rattle.h264_vectors.specs.Derived.{Derived}
-use Rattle.h264_vectors.specs.Agrees.{Agrees}
+use Rattle.h264_vectors.specs.Agrees.{Agrees, AreAlike}
+use Rattle.h264_vectors.proofs.Parts.{alike-all}
 
 -- the part that is read last gives the whole
 pub ending : {X A B S : Type 0} {took : S → List Call → Type 0} {failures : S → ℕ} {R : X → A → Type 0} {R' : X → B → Type 0} {g : Grammar A} (f : A → B) {old new : Reader} {s s' : S} (r : Result X Stop) → ((x : X) (v : A) → R x v → R' x (f v)) → Meets took failures R g old new s s' r → Meets took failures R' (g >>= (λ v. Done (f v))) old new s s' r
@@ -144,9 +145,9 @@ some-at (Some x) e = refl
 pub all-derived : (motions : List (Option Motion)) (n : ℕ) → map is_some motions ≡ replicate 16 true → n < 16 → option_map (λ x. Some x) (get_or motions n None) ≡ Some (get_or motions n None)
 all-derived motions n e h = some-at (get_or motions n None) (sym (math.get_or-map is_some motions n None) ∙ (ap (λ l. get_or l n false) e ∙ get_or-replicate 16 n true false h))
 
-pub holds-inter : (mb : Macroblock) (slice : ℕ) (d : Derived) (within : Bool) (c : Coefficients) → mb.kind ≡ kind.Inter → Agrees within mb.contexts.motions (replicate 16 true) d → within ≡ true → mb.contexts.modes ≡ replicate 16 2 → mb.contexts.slice ≡ slice → mb.contexts.intra ≡ false → mb.contexts.qp ≡ mb.qp → mb.residual.luma_dc_total ≡ 0 → length mb.contexts.totals ≡ 16 → length mb.contexts.chroma_totals ≡ 8 → StoredCoefficients mb.qp mb.contexts.totals mb.residual.luma mb.contexts.chroma_totals mb.residual.chroma_ac mb.residual.chroma_dc_totals mb.residual.chroma_dc c → Holds mb (coded slice (Inter d.motions) c)
+pub holds-inter : (mb : Macroblock) (slice : ℕ) (d : Derived) (within parted : Bool) (c : Coefficients) → mb.kind ≡ kind.Inter parted → (IsTrue parted → AreAlike mb.contexts.motions) → Agrees within mb.contexts.motions (replicate 16 true) d → within ≡ true → mb.contexts.modes ≡ replicate 16 2 → mb.contexts.slice ≡ slice → mb.contexts.intra ≡ false → mb.contexts.qp ≡ mb.qp → mb.residual.luma_dc_total ≡ 0 → length mb.contexts.totals ≡ 16 → length mb.contexts.chroma_totals ≡ 8 → StoredCoefficients mb.qp mb.contexts.totals mb.residual.luma mb.contexts.chroma_totals mb.residual.chroma_ac mb.residual.chroma_dc_totals mb.residual.chroma_dc c → Holds mb (coded slice (Inter d.motions) c)
 unfolding coded no_block
-holds-inter mb slice d within c ek a w em es ei eq ed nt nc s = record {
+holds-inter mb slice d within parted c ek one a w em es ei eq ed nt nc s = record {
   contexts = record {
     slice = sym es;
     intra = sym ei;
@@ -157,7 +158,7 @@ holds-inter mb slice d within c ek a w em es ei eq ed nt nc s = record {
     motions = λ n h. rw (a.same w) (all-derived d.motions n a.derived h);
   };
   qp = s.qp;
-  prediction = rw ek (ap Inter (sym (a.same w)));
+  prediction = rw ek (ap Inter (sym (a.same w)), one);
   luma = rw ek (record { each = s.luma.each }, ap (λ (b : Block). b.by_place) s.luma_dc ∙ rw ed refl);
   chroma = rw ek (record { each = s.chroma.dc.each }, record { each = s.chroma.ac.each });
 }
@@ -175,12 +176,12 @@ shows-skipped c slice qp m ev em es ei eq et ec = record {
   motions = λ n h. rw ev (all-derived (replicate 16 (Some m)) n refl h);
 }
 
-pub holds-skipped : (mb : Macroblock) (slice : SliceContext) (picture : List CodedMacroblock) (v : Vector) → mb.kind ≡ kind.Inter → mb.contexts.motions ≡ replicate 16 (Some (motion_of slice 0 v)) → mb.contexts.modes ≡ replicate 16 2 → mb.contexts.slice ≡ slice.number → mb.contexts.intra ≡ false → mb.contexts.qp ≡ mb.qp → mb.contexts.totals ≡ replicate 16 0 → mb.contexts.chroma_totals ≡ replicate 8 0 → mb.residual.luma_dc_total ≡ 0 → mb.residual.chroma_dc_totals ≡ replicate 2 0 → mb.qp ≡ predicted_qp slice picture → Holds mb (skipped_of slice picture v)
+pub holds-skipped : (mb : Macroblock) (slice : SliceContext) (picture : List CodedMacroblock) (v : Vector) → mb.kind ≡ kind.Inter true → mb.contexts.motions ≡ replicate 16 (Some (motion_of slice 0 v)) → mb.contexts.modes ≡ replicate 16 2 → mb.contexts.slice ≡ slice.number → mb.contexts.intra ≡ false → mb.contexts.qp ≡ mb.qp → mb.contexts.totals ≡ replicate 16 0 → mb.contexts.chroma_totals ≡ replicate 8 0 → mb.residual.luma_dc_total ≡ 0 → mb.residual.chroma_dc_totals ≡ replicate 2 0 → mb.qp ≡ predicted_qp slice picture → Holds mb (skipped_of slice picture v)
 unfolding skipped_of coded no_coefficients no_chroma no_block
 holds-skipped mb slice picture v ek ev em es ei eq et ec ed eh p = record {
   contexts = shows-skipped mb.contexts slice.number (predicted_qp slice picture) (motion_of slice 0 v) ev em es ei (eq ∙ p) et ec;
   qp = sym p;
-  prediction = rw ek (ap Inter (sym ev));
+  prediction = rw ek (ap Inter (sym ev), λ t. rw ev (alike-all (Some (motion_of slice 0 v))));
   luma = rw ek (record { each = (stored-blank 16 16 mb.contexts.totals mb.residual.luma et).each }, rw ed refl);
   chroma = rw ek (record { each = (stored-blank 4 2 mb.residual.chroma_dc_totals mb.residual.chroma_dc eh).each }, record { each = (stored-blank 15 8 mb.contexts.chroma_totals mb.residual.chroma_ac ec).each });
 }

@@ -29,8 +29,8 @@ pub enum Kind {
     Intra16x16 { mode: u8 },
     /// I_PCM.
     Pcm,
-    /// P: references and vectors are the contexts'.
-    Inter,
+    /// P: references and vectors are the contexts'. If `whole`, all blocks have one reference and one vector.
+    Inter { whole: bool },
 }
 
 /// What a macroblock says. It is used again for the next one, so that levels and samples that this one does not have are older ones.
@@ -144,15 +144,15 @@ fn begin_intra(mb: &mut Macroblock, kind: Kind, slice: u32, modes: [u8; 16], chr
 }
 
 /// Makes `mb` an inter macroblock, of which references, vectors and residual are not read yet.
-fn begin_inter(mb: &mut Macroblock, slice: u32)
-    ensures kind { mb.new.kind ≡ kind.Inter }
+fn begin_inter(mb: &mut Macroblock, slice: u32, whole: bool)
+    ensures kind { mb.new.kind ≡ kind.Inter whole }
     ensures slice { mb.new.contexts.slice ≡ slice }
     ensures intra { mb.new.contexts.intra ≡ false }
     ensures modes { mb.new.contexts.modes ≡ replicate 16 2 }
     ensures motions { mb.new.contexts.motions ≡ replicate 16 None }
     ensures luma_dc_total { mb.new.residual.luma_dc_total ≡ 0 }
 {
-    mb.kind = Kind::Inter;
+    mb.kind = Kind::Inter { whole };
     mb.residual.luma_dc_total = 0;
     mb.contexts = inter_contexts(slice, 0, [0; 16], [0; 8], [None; 16]);
 }
@@ -276,7 +276,7 @@ fn read_inter<S: Elements>(
     ensures within { OnOk result (mb.new.qp ≤ 51) }
     ensures same { OnOk result (mb.new.contexts.slice ≡ slice.now.number) }
 {
-    begin_inter(mb, slice.number);
+    begin_inter(mb, slice.number, kind == 0);
     let fits = read_motions(bits, near, slice, bit, kind, &mut mb.contexts.motions, sink)?;
     let table = Table::CodedBlockPatternInter;
     read_coefficients(bits, near, slice.number, qp, table, mb, sink)?;

@@ -19,7 +19,7 @@ pub fn skip_macroblock(slice: &SliceContext, vector: Vector, mb: &mut Macroblock
     ensures same { mb.new.contexts.slice ≡ slice.now.number }
 {
     let motion = motion_of(slice, 0, vector);
-    mb.kind = Kind::Inter;
+    mb.kind = Kind::Inter { whole: true };
     mb.residual.luma_dc_total = 0;
     mb.residual.chroma_dc_totals = [0; 2];
     mb.contexts = inter_contexts(slice.number, mb.qp, [0; 16], [0; 8], [Some(motion); 16]);

@@ -317,7 +317,7 @@ fn parts(rt: &(impl Abort + AllocGlobal)) -> Result<(), Fail> {
     let mut mb = Macroblock::none();
     for (active, text, block, expected) in &PARTS {
         read_text(rt, &slice(SliceType::P, *active), text, &mut mb)?;
-        assert!(rt; matches!(mb.kind, Kind::Inter), "{text}");
+        assert!(rt; matches!(mb.kind, Kind::Inter { whole: _ }), "{text}");
         assert_eq!(rt;
             motion(&mb, *block),
             Some(*expected),
@@ -345,6 +345,6 @@ fn skipped(rt: &impl Abort) {
     let mut mb = Macroblock::none();
     mb.qp = 30;
     skip_macroblock(&slice(SliceType::P, 1), Vector { x: 3, y: -3 }, &mut mb);
-    assert!(rt; matches!(mb.kind, Kind::Inter));
+    assert!(rt; matches!(mb.kind, Kind::Inter { whole: _ }));
     assert_eq!(rt; (motion(&mb, 15), mb.qp), (Some((0, 5, 3, -3)), 30));
 }

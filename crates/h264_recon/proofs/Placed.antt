@@ -21,7 +21,7 @@ few k h = omega arith
 
 -- ---- an index names one of the places
 
-points-at : (places : List ℕ) (m : Option derived.Motion) → IsOneOf places (placed_motion places m).picture
+pub points-at : (places : List ℕ) (m : Option derived.Motion) → IsOneOf places (placed_motion places m).picture
 points-at places None = (0, omega arith, refl)
 points-at places (Some m) = (m.ref_idx % 16, omega arith, refl)
 

@@ -5,13 +5,15 @@ ghost use Rattle.std.specs.Prelude.{◌≡◌, ℕ, ◌+◌, ◌*◌, ◌<◌, �
 ghost use Rattle.h264_near.specs.Coded.{CodedMacroblock};
 ghost use Rattle.h264_near.specs.Keeps.{Keeps, width_of};
 ghost use Rattle.h264_vectors.specs.declared.slice.SliceContext.{SliceContext as Context};
+ghost use Rattle.h264_vectors.specs.Agrees.{AreAlike};
 ghost use Rattle.h264_mbsyntax.specs.Holds.{Holds};
 ghost use Rattle.h264_mbsyntax.specs.Possible.{IsPossible};
 ghost use Rattle.h264_recon.specs.Constructed.{coded as coded_as, IsWithin};
 ghost use Rattle.h264_recon.specs.Levels.{levels_of};
 ghost use Rattle.h264_recon.specs.Given.{available as available_of, mode4_of, mode16_of, chroma_mode_of, modes4_of, prediction_of, given as given_of};
+ghost use Rattle.h264_recon.specs.Inter.{no_motion};
 ghost use Rattle.h264_recon.specs.Predicted.{motions_in, prediction_in};
-ghost use Rattle.h264_recon.specs.Placed.{ArePlaced, PointsInto, placed_motion, placed_motions, weights_by};
+ghost use Rattle.h264_recon.specs.Placed.{ArePlaced, IsOneOf, PointsInto, placed_motion, placed_motions, weights_by};
 
 use crate::macroblock::{
     Available, IntraLuma, IntraModes, Macroblock, Motion, Motions, Prediction, Weighting,
@@ -187,13 +189,26 @@ fn placed(derived: &[Option<Derived>; 16], places: &[u8; 16]) -> [Motion; 16]
     out
 }
 
-/// The motions of a macroblock, and whether they are one.
-#[inline]
-fn motions(derived: &[Option<Derived>; 16], places: &[u8; 16]) -> Motions
-    ensures { motions_in result ≡ placed_motions places.now derived.now }
+/// The motion of the first block, for all.
+#[inline(always)]
+fn one_motion(derived: &[Option<Derived>; 16], places: &[u8; 16]) -> Motions
+    ensures points { (n : ℕ) → n < 16 → IsOneOf places.now (get_or (motions_in result) n no_motion).picture }
+    ensures here { AreAlike derived.now → motions_in result ≡ placed_motions places.now derived.now }
 {
+    Motions::Whole(motion(derived_at(derived, 0), places))
+}
+
+/// The motions of a macroblock, whose blocks are known to be alike or not, and whether they are one.
+#[inline]
+fn motions(derived: &[Option<Derived>; 16], whole: bool, places: &[u8; 16]) -> Motions
+    ensures points { (n : ℕ) → n < 16 → IsOneOf places.now (get_or (motions_in result) n no_motion).picture }
+    ensures here { (IsTrue whole → AreAlike derived.now) → motions_in result ≡ placed_motions places.now derived.now }
+{
+    if whole {
+        return one_motion(derived, places);
+    }
     if are_alike(derived) {
-        return Motions::Whole(motion(derived_at(derived, 0), places));
+        return one_motion(derived, places);
     }
     Motions::Each(placed(derived, places))
 }
@@ -215,7 +230,9 @@ fn prediction<'a>(read: &'a Read, places: &[u8; 16]) -> Prediction<'a>
             chroma: chroma_mode(read.chroma_mode),
         }),
         Kind::Pcm => Prediction::Pcm(&read.pcm),
-        Kind::Inter => Prediction::Inter(motions(&read.contexts.motions, places)),
+        Kind::Inter { whole } => {
+            Prediction::Inter(motions(&read.contexts.motions, whole, places))
+        }
     }
 }
 

@@ -235,7 +235,7 @@ fn luma(mb: &Macroblock) -> Result<Option<[i16; 256]>, TransformRange>
         }
         Kind::Pcm => Ok(None),
         Kind::Intra4x4 => luma_blocks(&mb.contexts.totals, &mb.residual.luma, mb.qp),
-        Kind::Inter => luma_blocks(&mb.contexts.totals, &mb.residual.luma, mb.qp),
+        Kind::Inter { whole: _ } => luma_blocks(&mb.contexts.totals, &mb.residual.luma, mb.qp),
     }
 }
 
@@ -294,7 +294,7 @@ fn chroma(mb: &Macroblock, c: usize, qp: u8) -> Result<Option<[i16; 64]>, Transf
         Kind::Intra16x16 { mode: _ } => {
             chroma_blocks(&mb.residual, &mb.contexts.chroma_totals, c, qp)
         }
-        Kind::Inter => chroma_blocks(&mb.residual, &mb.contexts.chroma_totals, c, qp),
+        Kind::Inter { whole: _ } => chroma_blocks(&mb.residual, &mb.contexts.chroma_totals, c, qp),
     }
 }
 

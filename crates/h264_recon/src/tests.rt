@@ -391,7 +391,7 @@ fn moved() -> Read {
         ..motion
     });
     let mut read = Read::none();
-    read.kind = Kind::Inter;
+    read.kind = Kind::Inter { whole: false };
     read.contexts = Contexts {
         intra: false,
         motions,

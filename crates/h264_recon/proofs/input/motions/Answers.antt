@@ -1,12 +1,14 @@
-use Rattle.std.proofs.Common.{◌/◌, ◌%◌, ◌∙◌, ap, sym, arith}
-use Rattle.h264_near.specs.Coded.{number_of}
-use Rattle.h264_recon.specs.Placed.{placed_motion, placed_at, placed_motions}
-use Rattle.h264_recon.proofs.Tables.{table-ext, table-replicate}
+use Rattle.h264_recon.proofs.Placed.{points}
 use Rattle.h264_recon.proofs.input.motions.Goals as goal
 
-pub returns-then-are_alike : goal.returns-then-are_alike
-unfolding placed_motions number_of
-returns-then-are_alike c =
-    let a = c.args in
-    table-replicate 16 c.motion.result ∙ table-ext 16 (λ k. c.motion.result) (placed_at a.places.now a.derived.now)
-    (λ k i. c.motion.ensures ∙ ap (placed_motion a.places.now) (c.derived_at.ensures ∙ sym (c.are_alike.ensures c.if-are_alike.true (number_of (k % 4) (k / 4)) (omega arith))))
+pub returns-then-whole-clause-here : goal.returns-then-whole-clause-here
+returns-then-whole-clause-here c known = c.one_motion.ensures.here (known c.if-whole.true)
+
+pub returns-then-are_alike-clause-here : goal.returns-then-are_alike-clause-here
+returns-then-are_alike-clause-here c known = c.one_motion-then-are_alike.ensures.here (record { each = c.are_alike.ensures c.if-are_alike.true })
+
+pub returns-clause-points : goal.returns-clause-points
+returns-clause-points c = points c.args.places.now c.args.derived.now c.placed.result c.placed.ensures
+
+pub returns-clause-here : goal.returns-clause-here
+returns-clause-here c known = c.placed.ensures

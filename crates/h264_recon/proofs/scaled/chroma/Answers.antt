@@ -17,5 +17,5 @@ returns-in-Intra16x16 c m h = let p = subst (λ z. IsPrediction z c.args.mb.now 
     (sym (element m.residual.chroma_dc c.args.c _ [] (l.0.each c.args.c c.requires.plane))) (blocks 15 (4 * c.args.c) 4 8 _ _ _ (let r = c.requires.plane in omega arith) l.1))
 
 pub returns-in-Inter : goal.returns-in-Inter
-returns-in-Inter c m h = let p = subst (λ z. IsPrediction z c.args.mb.now m.prediction) c.in-Inter.is h.prediction in let l = subst (λ z. HasChroma z c.args.mb.now m) c.in-Inter.is h.chroma in chroma_by _ _ _ _ c.chroma_blocks-in-Inter.ensures (chroma-inter c.args.c m.prediction m.residual _ _ _ _ _ _ p refl h.contexts.chroma_totals
+returns-in-Inter c m h = let p = subst (λ z. IsPrediction z c.args.mb.now m.prediction) c.in-Inter.is h.prediction in let l = subst (λ z. HasChroma z c.args.mb.now m) c.in-Inter.is h.chroma in chroma_by _ _ _ _ c.chroma_blocks-in-Inter.ensures (chroma-inter c.args.c m.prediction m.residual _ _ _ _ _ _ p.0 refl h.contexts.chroma_totals
     (sym (element m.residual.chroma_dc c.args.c _ [] (l.0.each c.args.c c.requires.plane))) (blocks 15 (4 * c.args.c) 4 8 _ _ _ (let r = c.requires.plane in omega arith) l.1))
