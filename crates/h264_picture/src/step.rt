@@ -24,7 +24,7 @@ fn has_reference(slice: &SliceContext, run: u32) -> bool
 
 /// The column and the row of the macroblock after one, where so many stand in a row.
 #[inline]
-fn place_behind(across: usize, column: usize, row: usize) -> (usize, usize)
+fn place_after(across: usize, column: usize, row: usize) -> (usize, usize)
     requires column { column < across }
     requires small { (across ≤ 1024) × (row ≤ 1024) }
     ensures column { result.0 < across }
@@ -64,7 +64,7 @@ impl Sequence {
     {
         self.near.push(&self.mb.contexts);
         self.next += 1;
-        let (column, row) = place_behind(self.across, self.column, self.row);
+        let (column, row) = place_after(self.across, self.column, self.row);
         self.column = column;
         self.row = row;
     }
@@ -209,7 +209,7 @@ impl Sequence {
     }
 
     /// Reads the macroblock after a run of skipped ones, if there is one.
-    fn read_behind_skips<S: Elements>(
+    fn read_after_skips<S: Elements>(
         &mut self,
         bits: &mut Bits,
         slice: &SliceContext,
@@ -269,7 +269,7 @@ impl Sequence {
             Standing::Next => self.read_at_next(bits, slice, left, sink),
             Standing::Skipping { bit, more } => {
                 if more == 0 {
-                    return self.read_behind_skips(bits, slice, bit, left, sink);
+                    return self.read_after_skips(bits, slice, bit, left, sink);
                 }
                 self.skip(bits, slice, bit, more - 1, left, sink)
             }

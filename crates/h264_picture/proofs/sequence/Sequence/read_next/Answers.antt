@@ -19,9 +19,9 @@ returns-in-Next g c =
 
 pub returns-then-more-eq0 : goal.returns-then-more-eq0
 returns-then-more-eq0 g c =
-    let e = c.read_behind_skips.ensures in
+    let e = c.read_after_skips.ensures in
     record {
-      meets = λ width size making picture k. rw (c.in-Skipping.is, c.if-more-eq0.true) (c.read_behind_skips.ensures.meets width size making picture k);
+      meets = λ width size making picture k. rw (c.in-Skipping.is, c.if-more-eq0.true) (c.read_after_skips.ensures.meets width size making picture k);
       quiet = e.quiet;
       within = e.within;
       moves = e.moves;

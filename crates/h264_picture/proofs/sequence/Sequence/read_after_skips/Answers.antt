@@ -1,7 +1,7 @@
 use Rattle.h264_base.proofs.Steps.{bind, done}
 use Rattle.h264_mbsyntax.specs.Slice.{next}
 use Rattle.h264_mbsyntax.proofs.Quantiser.{is-true, is-false}
-use Rattle.h264_picture.proofs.sequence.Sequence.read_behind_skips.Goals as goal
+use Rattle.h264_picture.proofs.sequence.Sequence.read_after_skips.Goals as goal
 
 pub returns-then-not-ahead-clause-meets : goal.returns-then-not-ahead-clause-meets
 unfolding next
