@@ -6,7 +6,6 @@ use Rattle.h264_base.specs.declared.mode.Mode.{Mode}
 use Rattle.h264_base.specs.declared.rule.Rule.TheVariants.{ForbiddenBit, RefIdc, Partition, Incomplete}
 use Rattle.h264_dpb.specs.Buffered.{Buffered}
 use Rattle.h264_dpb.specs.Turns.{Shown}
-use Rattle.h264_header.specs.Header.{header}
 use Rattle.h264_header.specs.Picture.{is_idr, is_reference}
 use Rattle.h264_header.specs.declared.header.Header.{Header}
 use Rattle.h264_marking.specs.Ended.{numbering_of}
