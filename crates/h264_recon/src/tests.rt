@@ -71,9 +71,9 @@ fn assert_room(rt: &impl Abort, canvas: &Canvas, column: usize, row: usize)
     assert_eq!(rt; canvas.frame.cb.height(), 16);
     assert_eq!(rt; canvas.frame.cr.width(), 16);
     assert_eq!(rt; canvas.frame.cr.height(), 16);
-    assert!(rt; canvas.lines.y.above.len() >= 36);
-    assert!(rt; canvas.lines.cb.above.len() >= 16);
-    assert!(rt; canvas.lines.cr.above.len() >= 16);
+    assert!(rt; canvas.lines.y.bottom_rows().len() >= 36);
+    assert!(rt; canvas.lines.cb.bottom_rows().len() >= 16);
+    assert!(rt; canvas.lines.cr.bottom_rows().len() >= 16);
 }
 
 /// Constructs an I_PCM macroblock.
