@@ -11,4 +11,4 @@ returns-clause-given c w xs place m k e h is n t a =
     let sized = c.count-all.ensures in
     given-is w xs place (weights_by c.args.weights.now) c.args.slice.now.constrained_intra c.args.slice.now.chroma_qp_index_offset m c.available.result (prediction_in c.prediction.result) _
     (c.available.ensures.here w xs k e h ∙ ap (λ z. available w xs z c.args.slice.now.constrained_intra) (sym n)) (c.prediction.ensures.here c.args.slice.now place w xs m is t sized a)
-    (weights-given c.args.read.now.contexts m (weights_by c.args.weights.now) is.contexts)
+    (rw (c.new.ensures.weights, c.new.ensures.motions) (weights-given c.args.read.now.contexts m (weights_by c.args.weights.now) is.contexts))
