@@ -95,7 +95,7 @@ abbrev pub first_slice_rules : Mode → List CodedPicture → CodedSlice → Lis
 first_slice_rules mode pictures s =
     needs (type_demand s.sps s.header ∷ idr_num_demand s.header ∷ [])
     ++ (gap_rules mode (is_idr s.header) (is_reference s.header) s.sps.gaps_in_frame_num_value_allowed_flag s.header.frame_num.bit
-        (prev_ref_frame_num_of pictures) (numbering_of s.sps s.header) (held_after pictures) (after_all pictures).buffer
+    (prev_ref_frame_num_of pictures) (numbering_of s.sps s.header) (held_after pictures) (after_all pictures).buffer
     ++ needs (id_demand (newest_idr_of pictures) s.header
     ∷ count_demand (picture_of s.sps s.header ∷ map counted pictures) (first_bit s)
     ∷ qp_demand s.pps s.header
