@@ -34,12 +34,10 @@ use Rattle.h264_verify.specs.Steps as step
 use Rattle.h264_verify.specs.Demands.{Demand}
 use Rattle.h264_verify.specs.Lists.{list_of}
 use Rattle.h264_verify.specs.Telling.{Said}
-use Rattle.h264_verify.specs.Order.{whole_steps}
 use Rattle.h264_verify.specs.Buffering.{newest_count, frame_count, after_all, missing_steps, closing_frames}
 use Rattle.h264_verify.specs.UnitHeader.{header_of, nal_unit_type}
 use Rattle.h264_verify.specs.History.{History, maps_of}
 use Rattle.h264_verify.specs.Pictures.{CodedSlice, CodedPicture, sets_at, with_sets, joined_to, runs_of, begins_at, prev_ref_frame_num_of, held_after, held_in, bit_of, is_met, counted, coded_of}
-use Rattle.h264_verify.specs.Order.{closing_demands}
 use Rattle.h264_header.specs.Picture.{is_idr, is_reference}
 use Rattle.h264_poc.specs.OfSlice.{picture_of}
 use Rattle.h264_marking.specs.Ended.{numbering_of}

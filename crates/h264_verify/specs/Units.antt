@@ -20,14 +20,10 @@ use Rattle.h264_verify.specs.Demands.{Demand}
 use Rattle.h264_verify.specs.Steps.{Step, needs, Course, Takes, Reads, Ends}
 use Rattle.h264_verify.specs.Steps as step
 use Rattle.h264_verify.specs.UnitHeader.{header_of, nal_unit_type, nal_ref_idc}
-use Rattle.h264_verify.specs.Order.{header_demands}
 use Rattle.h264_verify.specs.History.{History, maps_of}
 use Rattle.h264_verify.specs.Pictures.{CodedPicture, ends_picture, runs_of}
-use Rattle.h264_verify.specs.Order.{closing_at, closing_demands}
 use Rattle.h264_verify.specs.Telling.{Said}
-use Rattle.h264_verify.specs.Order.{whole_at, whole_steps}
 use Rattle.h264_verify.specs.Buffering.{closing_frames, last_frames, frames_written}
-use Rattle.h264_verify.specs.Order.{slice_steps}
 use Rattle.h264_verify.specs.Data.{slice_data_at}
 
 -- what the sink is told of a unit: the byte where it begins, its type, nal_ref_idc, and its length in bytes
