@@ -8,7 +8,7 @@ use Rattle.h264_verify.proofs.session.feed_all.Given as goal
 
 abbrev pub invariant-loop-rest : goal.invariant-loop-rest
 invariant-loop-rest g l = record {
-  goes : (frames : ℕ → Frame) (before : History) → Keeps l.terms.mode frames before l.initial.state → GoesOn l.terms g.S.Elements.took frames (behind l.initial.splitter before) l.splitter l.state l.piece l.rest l.initial.sink l.sink;
+  goes : (frames : ℕ → Frame) (before : History) → Keeps l.terms.mode frames before l.initial.state → GoesOn l.terms g.S.Elements.took frames (standing_after l.initial.splitter before) l.splitter l.state l.piece l.rest l.initial.sink l.sink;
   undecided : IsUndecided l.initial.splitter.rest → IsUndecided l.splitter.rest;
   runs : (l.splitter.stop ≡ None) × IsFalse l.splitter.waiting × IsFalse l.splitter.ended;
   counted : l.state.units ≤ l.splitter.at;
