@@ -1,5 +1,5 @@
 -- What a sink took of a stream that was judged, and what its writer holds of it.
-use Rattle.std.proofs.Common.{⊎_elim, ◌≡◌, ℕ, ◌+◌, ◌<◌, Bool, true, false, List, [], ◌++◌, Option, None, Some, Result, Ok, Err, ◌⊎◌, inl, inr, refl, sym, ap, ◌∙◌, subst, arith}
+use Rattle.std.proofs.Common.{⊎_elim, ◌≡◌, ℕ, Bool, true, false, List, [], ◌++◌, Option, None, Some, Result, Ok, Err, ◌⊎◌, inl, inr, refl, sym, ap, ◌∙◌, subst}
 use Rattle.std.proofs.lemmas.List.{append-nil}
 use Rattle.std.specs.Io.KnownBytes.{Keeps}
 use Rattle.circular_buffer.specs.Buffer.{keep_last}
@@ -11,12 +11,12 @@ use Rattle.h264_base.specs.declared.stop.Stop.TheVariants.{No, Outside, Memory, 
 use Rattle.h264_plane.specs.Frames.{no_frame}
 use Rattle.h264_plane.specs.declared.frame.Frame.{Frame}
 use Rattle.h264_report.specs.Sent.{Sends, Takes, IsBlamed}
-use Rattle.h264_report.specs.Told.{lines_of, bytes_of, elements_of, BreaksOff, HoldsCalls, TookLines, TookFrames}
-use Rattle.h264_report.specs.Written.{OfBytes, IsFront, Answers, Account, calls_in, told_of, IsWritten, Writes, last_line, Lists, is_no, trail_text, Checks, Decodes}
+use Rattle.h264_report.specs.Told.{lines_of, bytes_of, elements_of, HoldsCalls, TookLines, TookFrames}
+use Rattle.h264_report.specs.Written.{OfBytes, IsFront, Answers, Account, calls_in, told_of, Writes, last_line, Lists, is_no, trail_text, Checks, Decodes}
 use Rattle.h264_report.specs.Trail.{element_lines}
 use Rattle.h264_report.specs.declared.listing.Listing.{Listing}
 use Rattle.h264_report.specs.declared.trail.Element.{Element}
-use Rattle.h264_report.proofs.Known.{sends-more, sends-none, sends-keeps, some-behind}
+use Rattle.h264_report.proofs.Known.{sends-more, sends-none, sends-keeps, some-after}
 use Rattle.h264_verify.specs.Telling.{Told, Tells, took_with, calls_of, AreDecoded}
 use Rattle.h264_verify.specs.Verdict.{Verdict, JudgedBy, Judged}
 use Rattle.h264_verify.specs.declared.state.Summary.{Summary}
@@ -137,11 +137,24 @@ read-told false (Err Write) is r = absurd (let d = sym is ∙ r in cc)
 pub never-write : {answer said : Result Summary Stop} → (answer ≡ Err Write → said ≡ Err Write) → (said ≡ Err Write → ⊥) → answer ≡ Err Write → ⊥
 never-write stays never is = never (stays is)
 
+-- a read that failed is told, or that a write did
+pub still-told : {Quiet : Type 0} (broke_off : Bool) (answer : Result Summary Stop) {said : Result Summary Stop} → said ≡ told_of broke_off answer → Quiet ⊎ (answer ≡ Err Read) → Quiet ⊎ ((said ≡ Err Read) ⊎ (said ≡ Err Write))
+still-told true answer is (inl q) = inl q
+still-told true answer is (inr r) = inr (inr is)
+still-told false answer is (inl q) = inl q
+still-told false answer is (inr r) = inr (inl (is ∙ ap (told_of false) r))
+
+-- and stays so in the last line
+pub said-told : {Quiet : Type 0} (answer said : Result Summary Stop) → (answer ≡ Err Read → said ≡ Err Read) → (answer ≡ Err Write → said ≡ Err Write) → Quiet ⊎ ((answer ≡ Err Read) ⊎ (answer ≡ Err Write)) → Quiet ⊎ ((said ≡ Err Read) ⊎ (said ≡ Err Write))
+said-told answer said read write (inl q) = inl q
+said-told answer said read write (inr (inl r)) = inr (inl (read r))
+said-told answer said read write (inr (inr w)) = inr (inr (write w))
+
 -- ---- one text after another
 
-pub takes-behind : (written : Bool) {a b : Option (List ℕ)} (c : Option (List ℕ)) {bs : List ℕ} (cs : List ℕ) → Sends a b bs → Takes written b c cs → Takes written a c (bs ++ cs)
-takes-behind true c cs p q = sends-more p q
-takes-behind false {a} {b} c {bs} cs p q = some-behind p q
+pub takes-after : (written : Bool) {a b : Option (List ℕ)} (c : Option (List ℕ)) {bs : List ℕ} (cs : List ℕ) → Sends a b bs → Takes written b c cs → Takes written a c (bs ++ cs)
+takes-after true c cs p q = sends-more p q
+takes-after false {a} {b} c {bs} cs p q = some-after p q
 
 -- ---- sinks that were told nothing
 
@@ -229,7 +242,7 @@ none-elements s e = e
 pub listed : {terms : Terms} {listing : Listing} {bytes : List ℕ} (answer said : Result Summary Stop) (written : Bool) (old mid new : Option (List ℕ)) → (said ≡ answer) ⊎ (said ≡ Err Memory) → (answer ≡ Err Write → said ≡ Err Write) → Writes (lines_of listing 0) terms bytes answer old mid → Takes written mid new (last_line terms.mode said) → Lists terms listing bytes said written old new
 listed {terms} {listing} answer said written old mid new e stays w t =
     let v = said-answer answer said e stays w in
-    record { account = v.account; lines = v.text; are_lines = v.is_written; text = takes-behind written new (last_line terms.mode said) v.sends t }
+    record { account = v.account; lines = v.text; are_lines = v.is_written; text = takes-after written new (last_line terms.mode said) v.sends t }
 
 -- the last elements of what a sink took, and the last line
 pub checked : {S : Type 0} {target : Target} {took : S → List Call → Type 0} {failures : S → ℕ} {bytes : List ℕ} {frames : ℕ → Frame} {s s' : S} {answer said : Result Summary Stop} {written : Bool} (trail : S → List Element) (old new : Option (List ℕ)) →

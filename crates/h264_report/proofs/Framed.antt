@@ -1,55 +1,110 @@
 -- The frames of YUV4MPEG2, from one call to the next.
-use Rattle.std.proofs.Common.{◌≡◌, ℕ, ◌+◌, ◌<◌, List, [], ◌∷◌, ◌++◌, length, Option, None, Some, sym, ap, ◌∙◌, refl}
-use Rattle.std.proofs.lemmas.List.{append_assoc, append-nil}
-use Rattle.h264_base.specs.Call.{Call}
-use Rattle.h264_report.specs.Sent.{Sends, SendsFront, HoldsSent}
-use Rattle.h264_report.specs.Y4m.{head_of, framed_in, framed_of, IsFramed, TookY4m}
+use Rattle.std.proofs.Common.{◌≡◌, Bool, false, ℕ, ◌<◌, List, [], ◌∷◌, ◌++◌, length, Option, None, Some, refl, sym, ap, ◌∙◌, subst, arith}
+use Rattle.std.proofs.lemmas.List.{append_assoc, append-nil, length-append}
+use Rattle.std.proofs.lemmas.List.Elements.{All-nil, All-cons, All-push}
+use Rattle.std.specs.List.{All}
+use Rattle.h264_base.specs.Call.{Call, OfUnit, OfSlice, OfElement, OfFrame}
+use Rattle.h264_report.specs.Sent.{SendsOrBreaksOff, IsBlamed}
+use Rattle.h264_report.specs.Told.{ended}
+use Rattle.h264_report.specs.Y4m.{head_text, framed_in, framed_of, headed, y4m_of, HasSize, SuitsHead, TookY4m}
 use Rattle.h264_report.specs.declared.head.Head.{Head}
-use Rattle.h264_report.proofs.Known.{appends-none}
-use Rattle.h264_report.proofs.Sinks.{sent-is, sent-more, sent-part}
+use Rattle.h264_report.proofs.Known.{sends-is}
+use Rattle.h264_report.proofs.Sinks.{calls-more, calls-pass, blamed-more}
 
 pub framed-more : (calls : List Call) (call : Call) → framed_of (calls ++ call ∷ []) ≡ framed_of calls ++ framed_in call
 unfolding framed_of
 framed-more [] call = append-nil (framed_in call)
 framed-more (c ∷ calls) call = ap (λ l. framed_in c ++ l) (framed-more calls call) ∙ sym (append_assoc (framed_in c) (framed_of calls) (framed_in call))
 
-module _ {name reference : ℕ} {start : Option (List ℕ)} where
-  -- a call that is no frame
-  pub passed-y4m : {head : Option Head} {n : ℕ} {k : Option (List ℕ)} (before : List Call) (call : Call) → framed_in call ≡ [] → TookY4m name start reference head n k before → TookY4m name start reference head n k (before ++ call ∷ [])
-  passed-y4m {head} {n} {k} before call none h =
-      let same = framed-more before call ∙ ap (λ x. framed_of before ++ x) none ∙ append-nil (framed_of before) in
-      record { same_reference = h.same_reference; none = λ e. same ∙ h.none e; holds = sent-is (ap (λ l. head_of head ++ l) (sym same)) h.holds }
+-- a call that is no frame makes nothing
+framed-pass : (calls : List Call) (call : Call) → framed_in call ≡ [] → framed_of (calls ++ call ∷ []) ≡ framed_of calls
+framed-pass calls call none = framed-more calls call ∙ ap (λ x. framed_of calls ++ x) none ∙ append-nil (framed_of calls)
 
-  -- a later frame
-  pub later-frame : {old : Option Head} {head : Head} {n n' : ℕ} {k k' : Option (List ℕ)} (before : List Call) (call : Call) → old ≡ Some head → n ≡ 0 → n' ≡ 0 → TookY4m name start reference old n k before → Sends k k' (framed_in call) → TookY4m name start reference old n' k' (before ++ call ∷ [])
-  later-frame {old} {head} before call some zero still h s = record {
-    same_reference = h.same_reference;
-    none = λ e. absurd (let f : Some head ≡ None = sym some ∙ e in cc);
-    holds = sent-is (append_assoc (head_of old) (framed_of before) (framed_in call) ∙ ap (λ l. head_of old ++ l) (sym (framed-more before call))) (sent-more zero still h.holds s);
-  }
+-- ---- the header
 
-  -- the first frame, with its header
-  pub first-frame : {old new : Option Head} {head : Head} {reference' n n' : ℕ} {k k' : Option (List ℕ)} (before : List Call) (call : Call) → reference' ≡ reference → old ≡ None → new ≡ Some head → n ≡ 0 → n' ≡ 0 → TookY4m name start reference old n k before → Sends k k' (head_of (Some head) ++ framed_in call) → TookY4m name start reference' new n' k' (before ++ call ∷ [])
-  first-frame {old} {new} {head} before call r o w zero still h s =
-      let none = h.none o in
-      let held : head_of old ++ framed_of before ≡ [] = ap (λ x. head_of x ++ framed_of before) o ∙ none in
-      let whole : head_of new ++ framed_of (before ++ call ∷ []) ≡ head_of (Some head) ++ framed_in call = ap (λ x. head_of x ++ framed_of (before ++ call ∷ [])) w ∙ ap (λ l. head_of (Some head) ++ l) (framed-more before call ∙ ap (λ l. l ++ framed_in call) none) in
-      record {
-        same_reference = r ∙ h.same_reference;
-        none = λ e. absurd (let f : Some head ≡ None = sym w ∙ e in cc);
-        holds = sent-is (ap (λ l. l ++ (head_of (Some head) ++ framed_in call)) held ∙ sym whole) (sent-more zero still h.holds s);
-      }
+-- it stands before all frames
+headed-more : (head : Option Head) (bytes more : List ℕ) → 0 < length bytes → headed head (bytes ++ more) ≡ headed head bytes ++ more
+headed-more None bytes more some = refl
+headed-more (Some head) [] more some = absurd (omega (arith, some))
+headed-more (Some head) (b ∷ bytes) more some = sym (append_assoc (ended (head_text head)) (b ∷ bytes) more)
 
-  -- a frame that broke off
-  pub part-frame : {old new : Option Head} {reference' n n' : ℕ} {k k' : Option (List ℕ)} (before : List Call) (some : Option Head) (call : Call) → reference' ≡ reference → new ≡ old → n ≡ 0 → n' ≡ 1 → TookY4m name start reference old n k before → SendsFront k k' (head_of some ++ framed_in call) → TookY4m name start reference' new n' k' (before ++ [])
-  part-frame {old} {new} before some call r w zero one h s =
-      let same : head_of old ++ framed_of before ≡ head_of new ++ framed_of (before ++ []) = ap (λ x. head_of x ++ framed_of before) (sym w) ∙ ap (λ l. head_of new ++ framed_of l) (sym (append-nil before)) in
-      record {
-        same_reference = r ∙ h.same_reference;
-        none = λ e. ap framed_of (append-nil before) ∙ h.none (sym w ∙ e);
-        holds = sent-is same (sent-part zero one (record { head = some; call = call; is = refl }) h.holds s);
-      }
+-- and comes with the first of them
+headed-first : (head : Head) (more : List ℕ) → 0 < length more → headed (Some head) more ≡ ended (head_text head) ++ more
+headed-first head [] some = absurd (omega (arith, some))
+headed-first head (b ∷ more) some = refl
 
-  -- a frame of which nothing was sent
-  pub unsent-frame : {old : Option Head} {n n' : ℕ} {k : Option (List ℕ)} (before : List Call) (call : Call) → n ≡ 0 → n' ≡ 1 → TookY4m name start reference old n k before → 0 < length (framed_in call) → TookY4m name start reference old n' k (before ++ [])
-  unsent-frame {old} {k = k} before call zero one h more = part-frame before None call refl refl zero one h (record { part = []; proper = record { rest = framed_in call; whole = refl; more = more }; appends = appends-none k })
+-- ---- the sizes
+
+-- a call that makes nothing is no frame
+no-frame : (head : Head) (call : Call) (rest : List ℕ) → framed_in call ++ rest ≡ [] → HasSize head call
+no-frame head (OfUnit byte kind reference length) rest e = tt
+no-frame head (OfSlice byte mb kind frame_num count) rest e = tt
+no-frame head (OfElement name bit value) rest e = tt
+no-frame head (OfFrame count width height bytes) rest e = absurd (let n = ap length e in omega (arith, n))
+
+none-after : (a b : List ℕ) → a ++ b ≡ [] → b ≡ []
+none-after [] b e = e
+none-after (x ∷ a) b e = absurd (let n = ap length e in omega (arith, n))
+
+-- calls without a frame have any size
+none-sized : (head : Head) (calls : List Call) → framed_of calls ≡ [] → All (HasSize head) calls
+unfolding framed_of
+none-sized head [] e = All-nil (HasSize head)
+none-sized head (c ∷ calls) e = All-cons (HasSize head) c calls (no-frame head c (framed_of calls) e) (none-sized head calls (none-after (framed_in c) (framed_of calls) e))
+
+same-size : (first head : Head) (call : Call) → Some first ≡ Some head → HasSize head call → HasSize first call
+same-size first head call e sized = let d : head ≡ first = cc in subst (λ (x : Head). HasSize x call) d sized
+
+suits-pass : (head : Option Head) (calls : List Call) (call : Call) → framed_in call ≡ [] → ((h : Head) → HasSize h call) → SuitsHead head calls → SuitsHead head (calls ++ call ∷ [])
+suits-pass None calls call none sized s = framed-pass calls call none ∙ s
+suits-pass (Some head) calls call none sized s = (subst (λ l. 0 < length l) (sym (framed-pass calls call none)) s.0, All-push (HasSize head) calls call s.1 (sized head))
+
+longer : (a b : List ℕ) → 0 < length a → 0 < length (a ++ b)
+longer a b some = let e = length-append a b in omega (arith, some, e)
+
+-- ---- a sink's calls
+
+-- a call that is no frame
+pub passed-y4m : {name reference : ℕ} {start : Option (List ℕ)} {was : Bool} {head : Option Head} (broke : Bool) {failed : Bool} {k : Option (List ℕ)} (before : List Call) (call : Call) → broke ≡ false → framed_in call ≡ [] → ((h : Head) → HasSize h call) → TookY4m name start was reference head broke failed k before → TookY4m name start was reference head broke failed k (before ++ call ∷ [])
+passed-y4m {start = start} {head = head} broke {k = k} before call whole none sized h = record {
+  same_reference = h.same_reference;
+  suits = suits-pass head before call none sized h.suits;
+  holds = calls-pass (y4m_of head) start broke k before call whole (ap (headed head) (framed-pass before call none)) h.holds;
+  blamed = h.blamed;
+}
+
+-- nothing more was told
+pub y4m-none : {name reference : ℕ} {start : Option (List ℕ)} {was : Bool} {head : Option Head} {broke failed : Bool} {k : Option (List ℕ)} {before : List Call} → TookY4m name start was reference head broke failed k before → TookY4m name start was reference head broke failed k (before ++ [])
+y4m-none {name} {reference} {start} {was} {head} {broke} {failed} {k} {before} h = subst (TookY4m name start was reference head broke failed k) (sym (append-nil before)) h
+
+-- a call that failed, at which nothing was written
+pub unsent-y4m : {name reference reference' : ℕ} {start : Option (List ℕ)} {was : Bool} {head head' : Option Head} {broke broke' failed failed' : Bool} {k k' : Option (List ℕ)} {before : List Call} → reference' ≡ reference → head' ≡ head → broke' ≡ broke → failed' ≡ failed → k' ≡ k → TookY4m name start was reference head broke failed k before → TookY4m name start was reference' head' broke' failed' k' (before ++ [])
+unsent-y4m {before = before} refers heads breaks fails holds h = rw (refers, heads, breaks, fails, holds) (y4m-none h)
+
+-- a later frame, which was written or broke off
+pub later-frame : {name reference : ℕ} {start : Option (List ℕ)} {was : Bool} (old : Option Head) (head : Head) (broke broke' : Bool) {failed failed' : Bool} {k k' : Option (List ℕ)} (before : List Call) (call : Call) → old ≡ Some head → broke ≡ false → HasSize head call → SendsOrBreaksOff broke' k k' (framed_in call) → IsBlamed broke' failed failed' → TookY4m name start was reference old broke failed k before → TookY4m name start was reference old broke' failed' k' (before ++ call ∷ [])
+later-frame None head broke broke' before call some whole sized s b h = absurd (let d : None ≡ Some head = some in cc)
+later-frame {start = start} {was = was} (Some first) head broke broke' {failed} {failed'} {k} {k'} before call some whole sized s b h = record {
+  same_reference = h.same_reference;
+  suits = (subst (λ l. 0 < length l) (sym (framed-more before call)) (longer (framed_of before) (framed_in call) h.suits.0), All-push (HasSize first) before call h.suits.1 (same-size first head call some sized));
+  holds = calls-more (y4m_of (Some first)) start broke broke' k k' before (framed_in call) call whole (ap (headed (Some first)) (framed-more before call) ∙ headed-more (Some first) (framed_of before) (framed_in call) h.suits.0) h.holds s;
+  blamed = blamed-more broke broke' was failed failed' whole h.blamed b;
+}
+
+first-here : {name reference : ℕ} {start : Option (List ℕ)} {was : Bool} (head : Head) (broke' : Bool) {failed failed' : Bool} {k k' : Option (List ℕ)} (before : List Call) (call : Call) → 0 < length (framed_in call) → HasSize head call → SendsOrBreaksOff broke' k k' (ended (head_text head) ++ framed_in call) → IsBlamed broke' failed failed' → TookY4m name start was reference None false failed k before → TookY4m name start was reference (Some head) broke' failed' k' (before ++ call ∷ [])
+first-here {start = start} {was = was} head broke' {failed} {failed'} {k} {k'} before call more sized s b h =
+    let none = h.suits in
+    let text = ended (head_text head) ++ framed_in call in
+    let headless : headed (Some head) (framed_of before) ≡ [] = ap (headed (Some head)) none in
+    let first : framed_of (before ++ call ∷ []) ≡ framed_in call = framed-more before call ∙ ap (λ l. l ++ framed_in call) none in
+    let whole : headed (Some head) (framed_of (before ++ call ∷ [])) ≡ headed (Some head) (framed_of before) ++ text = ap (headed (Some head)) first ∙ headed-first head (framed_in call) more ∙ ap (λ l. l ++ text) (sym headless) in
+    record {
+      same_reference = h.same_reference;
+      suits = (subst (λ l. 0 < length l) (sym first) more, All-push (HasSize head) before call (none-sized head before none) sized);
+      holds = calls-more (y4m_of (Some head)) start false broke' k k' before text call refl whole (sends-is (none ∙ sym headless) h.holds) s;
+      blamed = blamed-more false broke' was failed failed' refl h.blamed b;
+    }
+
+-- the first frame with its header, which was written or broke off
+pub first-frame : {name reference reference' : ℕ} {start : Option (List ℕ)} {was : Bool} (old new : Option Head) (head : Head) (broke broke' : Bool) {failed failed' : Bool} {k k' : Option (List ℕ)} (before : List Call) (call : Call) → reference' ≡ reference → old ≡ None → new ≡ Some head → broke ≡ false → 0 < length (framed_in call) → HasSize head call → SendsOrBreaksOff broke' k k' (ended (head_text head) ++ framed_in call) → IsBlamed broke' failed failed' → TookY4m name start was reference old broke failed k before → TookY4m name start was reference' new broke' failed' k' (before ++ call ∷ [])
+first-frame old new head broke broke' before call refers none some whole more sized s b h = rw (refers, some) (first-here head broke' before call more sized s b (rw (none, whole) at h))

@@ -54,8 +54,8 @@ pub front-is : {a b : Option (List ℕ)} {bs cs : List ℕ} → bs ≡ cs → Se
 front-is {a} {b} e p = subst (SendsFront a b) e p
 
 -- a part of what comes after bytes that were sent is a part of the whole
-pub front-behind : {a b c : Option (List ℕ)} {bs cs : List ℕ} → Sends a b bs → SendsFront b c cs → SendsFront a c (bs ++ cs)
-front-behind {a} {b} {c} {bs} {cs} p q = record {
+pub front-after : {a b c : Option (List ℕ)} {bs cs : List ℕ} → Sends a b bs → SendsFront b c cs → SendsFront a c (bs ++ cs)
+front-after {a} {b} {c} {bs} {cs} p q = record {
   part = bs ++ q.part;
   proper = record { rest = q.proper.rest; whole = ap (λ l. bs ++ l) q.proper.whole ∙ sym (append_assoc bs q.part q.proper.rest); more = q.proper.more };
   appends = appends-appends a b c bs q.part p.appends q.appends;
@@ -87,5 +87,5 @@ some-front p = record { part = p.part; rest = p.proper.rest; whole = p.proper.wh
 pub some-longer : {a b : Option (List ℕ)} {bs : List ℕ} (cs : List ℕ) → SendsSome a b bs → SendsSome a b (bs ++ cs)
 some-longer {a} {b} {bs} cs p = record { part = p.part; rest = p.rest ++ cs; whole = ap (λ l. l ++ cs) p.whole ∙ append_assoc p.part p.rest cs; appends = p.appends }
 
-pub some-behind : {a b c : Option (List ℕ)} {bs cs : List ℕ} → Sends a b bs → SendsSome b c cs → SendsSome a c (bs ++ cs)
-some-behind {a} {b} {c} {bs} {cs} p q = record { part = bs ++ q.part; rest = q.rest; whole = ap (λ l. bs ++ l) q.whole ∙ sym (append_assoc bs q.part q.rest); appends = appends-appends a b c bs q.part p.appends q.appends }
+pub some-after : {a b c : Option (List ℕ)} {bs cs : List ℕ} → Sends a b bs → SendsSome b c cs → SendsSome a c (bs ++ cs)
+some-after {a} {b} {c} {bs} {cs} p q = record { part = bs ++ q.part; rest = q.rest; whole = ap (λ l. bs ++ l) q.whole ∙ sym (append_assoc bs q.part q.rest); appends = appends-appends a b c bs q.part p.appends q.appends }

@@ -1,26 +1,13 @@
 -- What a sink's writer holds, from one call to the next.
-use Rattle.std.proofs.Common.{Bool, true, false, ◌≡◌, Result, Ok, Err, OnOk, OnErr, ℕ, ◌+◌, ◌<◌, List, [], ◌∷◌, ◌++◌, Option, refl, sym, ap, ◌∙◌, subst, arith}
+use Rattle.std.proofs.Common.{Bool, true, false, ◌≡◌, Result, Ok, Err, OnOk, OnErr, ℕ, ◌+◌, List, [], ◌∷◌, ◌++◌, Option, refl, sym, ap, ◌∙◌, subst, arith}
 use Rattle.std.proofs.lemmas.Bool.{true≢false}
 use Rattle.std.proofs.lemmas.List.{append-nil, append_assoc}
 use Rattle.h264_base.specs.Call.{Call, Tells}
-use Rattle.h264_report.specs.Sent.{Sends, SendsFront, HoldsSent, SendsOrBreaksOff, IsBlamed}
+use Rattle.h264_report.specs.Sent.{SendsOrBreaksOff, IsBlamed}
 use Rattle.h264_report.specs.Told.{line_of, lines_of, counted, counted_of, bytes_in, bytes_of, HoldsCalls, HoldsLines, TookLines, TookFrames}
 use Rattle.h264_report.specs.declared.listing.Listing.{Listing}
 use Rattle.h264_report.proofs.Known.{sends-is, sends-more}
 use Rattle.h264_report.proofs.Calls.{bytes-more, lines-more, counted-more}
-
-module _ {Next : List ℕ → Type 0} {start : Option (List ℕ)} where
-  pub sent-is : {n : ℕ} {k : Option (List ℕ)} {bs cs : List ℕ} → bs ≡ cs → HoldsSent Next start n k bs → HoldsSent Next start n k cs
-  sent-is {n} {k} e h = subst (HoldsSent Next start n k) e h
-
-  pub sent-more : {n n' : ℕ} {k k' : Option (List ℕ)} {bs cs : List ℕ} → n ≡ 0 → n' ≡ 0 → HoldsSent Next start n k bs → Sends k k' cs → HoldsSent Next start n' k' (bs ++ cs)
-  sent-more {n} {n'} {k} {k'} {bs} {cs} none still h s = record { whole = λ e. sends-more (h.whole none) s; front = λ p. absurd (omega (arith, still, p)) }
-
-  pub sent-part : {n n' : ℕ} {k k' : Option (List ℕ)} {bs next : List ℕ} → n ≡ 0 → n' ≡ 1 → Next next → HoldsSent Next start n k bs → SendsFront k k' next → HoldsSent Next start n' k' bs
-  sent-part {n} {n'} {k} {k'} {bs} {next} none one i h s = record {
-    whole = λ e. absurd (omega (arith, e, one));
-    front = λ p. record { next = next; is_next = i; part = s.part; proper = s.proper; sends = sends-more (h.whole none) (record { appends = s.appends }) };
-  }
 
 -- ---- what the calls made that a writer took
 
@@ -80,6 +67,10 @@ unsent-line {start = start} {was = was} {before = before} lists frames breaks fa
 pub on-ok : {X E : Type 0} {A B C : Type 0} (r : Result X E) → (A → B → C) → OnOk r A → OnOk r B → OnOk r C
 on-ok (Ok x) f a b = f a b
 on-ok (Err e) f a b = tt
+
+pub on-ok-three : {X E : Type 0} {A B C D : Type 0} (r : Result X E) → (A → B → C → D) → OnOk r A → OnOk r B → OnOk r C → OnOk r D
+on-ok-three (Ok x) f a b c = f a b c
+on-ok-three (Err e) f a b c = tt
 
 pub on-err : {X E : Type 0} {A B C : Type 0} (r : Result X E) → (A → B → C) → OnErr r A → OnErr r B → OnErr r C
 on-err (Ok x) f a b = tt

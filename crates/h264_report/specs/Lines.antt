@@ -19,7 +19,8 @@ use Rattle.h264_verify.specs.declared.state.Summary.{Summary}
 
 -- unit BYTE type T ref R bytes L
 abbrev pub unit_text : ℕ → ℕ → ℕ → ℕ → List ℕ
-unit_text byte kind reference length = codes "unit " ++ (decimal byte ++ (codes " type " ++ (decimal kind ++ (codes " ref " ++ (decimal reference ++ (codes " bytes " ++ decimal length))))))
+unit_text byte kind reference length =
+    codes "unit " ++ (decimal byte ++ (codes " type " ++ (decimal kind ++ (codes " ref " ++ (decimal reference ++ (codes " bytes " ++ decimal length))))))
 
 -- P or I
 abbrev pub type_text : SliceType → List ℕ
@@ -28,11 +29,15 @@ type_text slice_type.I = codes "I"
 
 -- slice BYTE mb F type P|I frame N count C
 abbrev pub slice_text : ℕ → ℕ → SliceType → ℕ → ℤ → List ℕ
-slice_text byte mb kind frame_num count = codes "slice " ++ (decimal byte ++ (codes " mb " ++ (decimal mb ++ (codes " type " ++ (type_text kind ++ (codes " frame " ++ (decimal frame_num ++ (codes " count " ++ signed_decimal count))))))))
+slice_text byte mb kind frame_num count =
+    codes "slice " ++ (decimal byte ++ (codes " mb " ++ (decimal mb ++ (codes " type " ++ (type_text kind
+    ++ (codes " frame " ++ (decimal frame_num ++ (codes " count " ++ signed_decimal count))))))))
 
 -- frame I count C WxH md5 HEX, with the digest of these bytes
 abbrev pub frame_text : ℕ → ℤ → ℕ → ℕ → List ℕ → List ℕ
-frame_text index count width height bytes = codes "frame " ++ (decimal index ++ (codes " count " ++ (signed_decimal count ++ (codes " " ++ (decimal width ++ (codes "x" ++ (decimal height ++ (codes " md5 " ++ encode_lower (md5 bytes)))))))))
+frame_text index count width height bytes =
+    codes "frame " ++ (decimal index ++ (codes " count " ++ (signed_decimal count ++ (codes " " ++ (decimal width ++ (codes "x" ++ (decimal height
+    ++ (codes " md5 " ++ encode_lower (md5 bytes)))))))))
 
 -- element NAME bit N value V
 abbrev pub element_text : ElementName → ℕ → ℤ → List ℕ
@@ -42,7 +47,8 @@ element_text name bit value = codes "element " ++ (names.text_of name ++ (codes 
 abbrev pub yes_text : Mode → Summary → List ℕ
 yes_text modes.Units summary = codes "yes: units " ++ decimal summary.units
 yes_text modes.Headers summary = codes "yes: units " ++ (decimal summary.units ++ (codes " pictures " ++ decimal summary.pictures))
-yes_text modes.Full summary = codes "yes: units " ++ (decimal summary.units ++ (codes " pictures " ++ (decimal summary.pictures ++ (codes " frames " ++ decimal summary.frames))))
+yes_text modes.Full summary =
+    codes "yes: units " ++ (decimal summary.units ++ (codes " pictures " ++ (decimal summary.pictures ++ (codes " frames " ++ decimal summary.frames))))
 
 -- no: bit N: LABEL (clause C)
 abbrev pub no_text : ℕ → Rule → List ℕ

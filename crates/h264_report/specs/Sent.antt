@@ -25,19 +25,6 @@ pub record SendsFront (old new : Option (List ℕ)) (bytes : List ℕ) : Type 0 
   pub proper : IsProperFront part bytes
   pub appends : Appends old new part
 
--- After what the writer held at the start stand these bytes, and then a part of what would have come next.
-pub record HasSentFront (Next : List ℕ → Type 0) (start known : Option (List ℕ)) (bytes : List ℕ) : Type 0 where
-  pub next : List ℕ
-  pub is_next : Next next
-  pub part : List ℕ
-  pub proper : IsProperFront part next
-  pub sends : Sends start known (bytes ++ part)
-
--- After so many failures the writer took these bytes since the start, and from the first failure on a part of what would have come next.
-pub record HoldsSent (Next : List ℕ → Type 0) (start : Option (List ℕ)) (failures : ℕ) (known : Option (List ℕ)) (bytes : List ℕ) : Type 0 where
-  pub whole : failures ≡ 0 → Sends start known bytes
-  pub front : 0 < failures → HasSentFront Next start known bytes
-
 -- The writer took these bytes; or, where not all was written, the first of them.
 abbrev pub Takes : Bool → Option (List ℕ) → Option (List ℕ) → List ℕ → Type 0
 Takes true old new bytes = Sends old new bytes

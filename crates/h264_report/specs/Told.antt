@@ -76,19 +76,22 @@ HoldsCalls false make start known calls = Sends start known (make calls)
 HoldsCalls true make start known calls = HoldsBrokenOff make start known calls
 
 -- After so many frames with lines the writer took the lines of these calls since the start.
-pub record HoldsLines (listing : Listing) (start : Option (List ℕ)) (was_failed : Bool) (frames : ℕ) (broke_off failed : Bool) (known : Option (List ℕ)) (calls : List Call) : Type 0 where
+pub record HoldsLines (listing : Listing) (start : Option (List ℕ)) (was_failed : Bool) (frames : ℕ) (broke_off failed : Bool)
+    (known : Option (List ℕ)) (calls : List Call) : Type 0 where
   pub counts : frames ≡ counted_of listing calls
   pub holds : HoldsCalls broke_off (lines_of listing 0) start known calls
   pub blamed : IsBlamed broke_off was_failed failed
 
 -- The writer took them through this reference and for this listing.
-pub record TookLines (name : ℕ) (listing : Listing) (start : Option (List ℕ)) (was_failed : Bool) (reference : ℕ) (lists : Listing) (frames : ℕ) (broke_off failed : Bool) (known : Option (List ℕ)) (calls : List Call) : Type 0 where
+pub record TookLines (name : ℕ) (listing : Listing) (start : Option (List ℕ)) (was_failed : Bool) (reference : ℕ) (lists : Listing) (frames : ℕ)
+    (broke_off failed : Bool) (known : Option (List ℕ)) (calls : List Call) : Type 0 where
   pub same_reference : reference ≡ name
   pub same_listing : lists ≡ listing
   pub lines : HoldsLines lists start was_failed frames broke_off failed known calls
 
 -- Through this reference the writer took the bytes of the frames of these calls since the start.
-pub record TookFrames (name : ℕ) (start : Option (List ℕ)) (was_failed : Bool) (reference : ℕ) (broke_off failed : Bool) (known : Option (List ℕ)) (calls : List Call) : Type 0 where
+pub record TookFrames (name : ℕ) (start : Option (List ℕ)) (was_failed : Bool) (reference : ℕ) (broke_off failed : Bool) (known : Option (List ℕ))
+    (calls : List Call) : Type 0 where
   pub same_reference : reference ≡ name
   pub holds : HoldsCalls broke_off bytes_of start known calls
   pub blamed : IsBlamed broke_off was_failed failed

@@ -89,7 +89,8 @@ last_line mode answer = ended (verdict_text mode answer)
 -- ---- the commands
 
 -- The lines of a listing, and after them the last line.
-pub record Lists (terms : Terms) (listing : Listing) (bytes : List ℕ) (answer : Result Summary Stop) (written : Bool) (old new : Option (List ℕ)) : Type 0 where
+pub record Lists (terms : Terms) (listing : Listing) (bytes : List ℕ) (answer : Result Summary Stop)
+    (written : Bool) (old new : Option (List ℕ)) : Type 0 where
   pub account : Account terms bytes answer
   pub lines : List ℕ
   pub are_lines : IsWritten (lines_of listing 0) answer (calls_in account) lines
@@ -119,7 +120,8 @@ pub record Checks (target : Target) (bytes : List ℕ) (answer : Result Summary 
   pub text : Takes written old new (trail_text (keep_last 16 (elements_of (calls_in account))) answer ++ last_line modes.Full answer)
 
 -- The frames to one writer, the last line to the other.
-pub record Decodes (target : Target) (bytes : List ℕ) (answer : Result Summary Stop) (written : Bool) (old new err_old err_new : Option (List ℕ)) : Type 0 where
+pub record Decodes (target : Target) (bytes : List ℕ) (answer : Result Summary Stop)
+    (written : Bool) (old new err_old err_new : Option (List ℕ)) : Type 0 where
   pub frames : Writes bytes_of (terms_of modes.Full target) bytes answer old new
   pub text : Takes written err_old err_new (last_line modes.Full answer)
 

@@ -1,19 +1,17 @@
 -- YUV4MPEG2: a header, and each frame after a line of its own. To be read beside the description of that format.
-use Rattle.std.specs.Prelude.{◌≡◌, ℕ, List, [], ◌++◌, ◌∷◌, Option, None, Some, codes}
+use Rattle.std.specs.Prelude.{◌≡◌, ℕ, ◌<◌, Bool, List, [], ◌++◌, ◌∷◌, length, Option, None, Some, codes}
 use Rattle.std.specs.Fmt.{decimal}
+use Rattle.std.specs.List.{All}
 use Rattle.h264_base.specs.Call.{Call, OfFrame}
-use Rattle.h264_report.specs.Sent.{HoldsSent}
-use Rattle.h264_report.specs.Told.{ended}
+use Rattle.h264_report.specs.Sent.{IsBlamed}
+use Rattle.h264_report.specs.Told.{ended, HoldsCalls}
 use Rattle.h264_report.specs.declared.head.Head.{Head}
 
 -- YUV4MPEG2 WWIDTH HHEIGHT FFRAMES:SECONDS Ip C420
 abbrev pub head_text : Head → List ℕ
-head_text head = codes "YUV4MPEG2 W" ++ (decimal head.width ++ (codes " H" ++ (decimal head.height ++ (codes " F" ++ (decimal head.frames ++ (codes ":" ++ (decimal head.seconds ++ codes " Ip C420")))))))
-
--- what stands before the frames: nothing before the first of them
-abbrev pub head_of : Option Head → List ℕ
-head_of None = []
-head_of (Some head) = ended (head_text head)
+head_text head =
+    codes "YUV4MPEG2 W" ++ (decimal head.width ++ (codes " H" ++ (decimal head.height ++ (codes " F" ++ (decimal head.frames
+    ++ (codes ":" ++ (decimal head.seconds ++ codes " Ip C420")))))))
 
 -- a frame with its line
 abbrev pub framed : List ℕ → List ℕ
@@ -28,14 +26,30 @@ unfoldable pub framed_of : List Call → List ℕ
 framed_of [] = []
 framed_of (call ∷ calls) = framed_in call ++ framed_of calls
 
--- some frame with its line, after a header or not
-pub record IsFramed (bytes : List ℕ) : Type 0 where
-  pub head : Option Head
-  pub call : Call
-  pub is : bytes ≡ head_of head ++ framed_in call
+-- these frames with their lines, after the header; without a frame there is no header
+abbrev pub headed : Option Head → List ℕ → List ℕ
+headed None bytes = bytes
+headed (Some head) [] = []
+headed (Some head) (byte ∷ bytes) = ended (head_text head) ++ byte ∷ bytes
 
--- Through this reference the writer took the header and the frames of these calls since the start; no frame came before the header.
-pub record TookY4m (name : ℕ) (start : Option (List ℕ)) (reference : ℕ) (head : Option Head) (failures : ℕ) (known : Option (List ℕ)) (calls : List Call) : Type 0 where
+-- the bytes of the frames of these calls, after this header
+abbrev pub y4m_of : Option Head → List Call → List ℕ
+y4m_of head calls = headed head (framed_of calls)
+
+-- a frame has the size that the header names
+abbrev pub HasSize : Head → Call → Type 0
+HasSize head (OfFrame count width height bytes) = (width ≡ head.width) × (height ≡ head.height)
+HasSize head call = Unit {0}
+
+-- There is a header where there is a frame, and its size is that of each frame of these calls.
+abbrev pub SuitsHead : Option Head → List Call → Type 0
+SuitsHead None calls = framed_of calls ≡ []
+SuitsHead (Some head) calls = (0 < length (framed_of calls)) × All (HasSize head) calls
+
+-- Through this reference the writer took the header and the frames of these calls since the start; or the last of them broke off.
+pub record TookY4m (name : ℕ) (start : Option (List ℕ)) (was_failed : Bool) (reference : ℕ) (head : Option Head) (broke_off failed : Bool)
+    (known : Option (List ℕ)) (calls : List Call) : Type 0 where
   pub same_reference : reference ≡ name
-  pub none : head ≡ None → framed_of calls ≡ []
-  pub holds : HoldsSent IsFramed start failures known (head_of head ++ framed_of calls)
+  pub suits : SuitsHead head calls
+  pub holds : HoldsCalls broke_off (y4m_of head) start known calls
+  pub blamed : IsBlamed broke_off was_failed failed

@@ -8,7 +8,7 @@ use crate::device::Device;
 use h264_base::Failed;
 
 /// The bytes after the first `n`.
-fn behind(bytes: &[u8], n: usize) -> &[u8]
+fn bytes_after(bytes: &[u8], n: usize) -> &[u8]
     requires { n ≤ length bytes.now }
     ensures { result.now ≡ drop n bytes.now }
 {
@@ -30,7 +30,7 @@ pub(crate) fn send<W: Device>(out: &mut W, bytes: &[u8]) -> Result<(), Failed>
             return Ok(());
         }
         match out.send_some(rest) {
-            Ok(n) => rest = behind(rest, n),
+            Ok(n) => rest = bytes_after(rest, n),
             Err(Failed) => return Err(Failed),
         }
     }

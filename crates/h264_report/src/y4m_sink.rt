@@ -1,10 +1,10 @@
 //! A sink that writes YUV4MPEG2.
 #![tactic(auto)]
 
-ghost use Rattle.std.specs.Prelude.{◌≡◌, ◌+◌, ◌-◌, ◌<◌, ◌++◌, ◌^◌, IsTrue, None, Some, OnOk, OnErr, string_bytes};
-ghost use Rattle.h264_dpb.specs.Shown.{fits};
+ghost use Rattle.std.specs.Prelude.{◌≡◌, ◌+◌, ◌-◌, ◌<◌, ◌++◌, ◌^◌, IsTrue, true, false, None, Some, OnOk, OnErr, string_bytes};
+ghost use Rattle.h264_dpb.specs.Shown.{fits, width_in, height_in};
 ghost use Rattle.h264_report.specs.Frames.{shown_bytes};
-ghost use Rattle.h264_report.specs.Sent.{Sends, SendsFront};
+ghost use Rattle.h264_report.specs.Sent.{Sends, SendsFront, SendsOrBreaksOff, IsBlamed};
 ghost use Rattle.h264_report.specs.Told.{ended};
 ghost use Rattle.h264_report.specs.Y4m.{head_text, framed};
 
@@ -33,22 +33,24 @@ struct Timing {
 
 /// Writes YUV4MPEG2: a header with size and rate before the first frame; for each frame the line FRAME, and the samples as `YuvSink` writes them.
 ///
-/// A writer that tells its bytes holds, after what it held, the header and the frames taken, in order, followed after a failure by a part of the next
-/// frame with its line, which is not the whole. A frame of another size than the first one fails, since no second header is possible. After a failure
-/// each frame fails and nothing more is written.
+/// A writer that tells its bytes holds, after what it held, the header and the frames taken, in order. Where the device fails within a frame or the
+/// header before it, the frame is taken, and the writer holds a part of them, which is not the whole. A frame of another size than the first one fails,
+/// since no second header is possible, and so does the first one where memory is wanting for the header. Nothing is written of them. Then each call
+/// fails, and nothing more is written.
 #[derive(Drop)]
 pub struct Y4mSink<'a, W: Device, K: Sheet> {
     pen: Pen<'a, W>,
     sheet: PhantomData<K>,
     line: String,
     timing: Timing,
-    /// The header that was written.
+    /// The header, once the first frame was taken.
     head: Option<Head>,
-    /// The header of a frame with another size.
+    /// The header that a frame of another size would have.
     other: Option<Head>,
-    short_of_memory: bool,
     /// How many calls failed.
     pub failures: u64,
+    /// Whether the device failed within the newest frame or the header before it.
+    broke_off: bool,
 }
 
 /// Makes a line that of a header. AllocError where there is no memory for it; the line is then a part of it.
@@ -74,6 +76,8 @@ fn send_framed<W: Device>(out: &mut W, frame: &Frame, rectangle: Rectangle) -> R
     requires { IsTrue (fits rectangle frame.now) }
     ensures ok { OnOk result (Sends (W.contents out.old) (W.contents out.new) (framed (shown_bytes frame.now rectangle))) }
     ensures front { OnErr result (SendsFront (W.contents out.old) (W.contents out.new) (framed (shown_bytes frame.now rectangle))) }
+    ensures quiet { OnOk result (W.has_failed out.new ≡ W.has_failed out.old) }
+    ensures failed { OnErr result (W.has_failed out.new ≡ true) }
 {
     match send(out, b"FRAME\n") {
         Ok(()) => send_frame(out, frame, rectangle),
@@ -93,6 +97,8 @@ fn send_first<W: Device>(
     requires { IsTrue (fits rectangle frame.now) }
     ensures ok { OnOk result (Sends (W.contents out.old) (W.contents out.new) (ended line.now ++ framed (shown_bytes frame.now rectangle))) }
     ensures front { OnErr result (SendsFront (W.contents out.old) (W.contents out.new) (ended line.now ++ framed (shown_bytes frame.now rectangle))) }
+    ensures quiet { OnOk result (W.has_failed out.new ≡ W.has_failed out.old) }
+    ensures failed { OnErr result (W.has_failed out.new ≡ true) }
 {
     match send_line(out, line) {
         Ok(()) => send_framed(out, frame, rectangle),
@@ -106,6 +112,8 @@ fn send_first<W: Device>(
 fn send_line<W: Device>(out: &mut W, line: &str) -> Result<(), Failed>
     ensures ok { OnOk result (Sends (W.contents out.old) (W.contents out.new) (ended line.now)) }
     ensures front { OnErr result (SendsFront (W.contents out.old) (W.contents out.new) (ended line.now)) }
+    ensures quiet { OnOk result (W.has_failed out.new ≡ W.has_failed out.old) }
+    ensures failed { OnErr result (W.has_failed out.new ≡ true) }
 {
     match send(out, line.as_bytes()) {
         Ok(()) => send(out, b"\n"),
@@ -117,6 +125,7 @@ impl<'a, W: Device, K: Sheet> Y4mSink<'a, W, K> {
     /// A sink that was told nothing, with no failure.
     pub fn new(alloc: Global, pen: Pen<'a, W>) -> Y4mSink<'a, W, K>
         ensures quiet { result.failures ≡ 0 }
+        ensures whole { result.broke_off ≡ false }
         ensures same_reference { result.pen.out.ghost_name ≡ pen.entry.out.ghost_name }
         ensures unwritten { result.pen.out.now ≡ pen.entry.out.now }
         ensures headless { result.head ≡ None }
@@ -128,12 +137,12 @@ impl<'a, W: Device, K: Sheet> Y4mSink<'a, W, K> {
             timing: Timing::default(),
             head: None,
             other: None,
-            short_of_memory: false,
             failures: 0,
+            broke_off: false,
         }
     }
 
-    /// The header that was written, and that of a frame with another size, which was refused.
+    /// The header of the first frame, and that of a frame of another size, which was refused.
     pub fn changed_size(&self) -> Option<(Head, Head)> {
         match (self.head, self.other) {
             (Some(head), Some(other)) => Some((head, other)),
@@ -144,12 +153,31 @@ impl<'a, W: Device, K: Sheet> Y4mSink<'a, W, K> {
     /// Whether the newest frame could not be written: the device failed, or the frame has another size. Where it could, a call that failed did so for
     /// want of memory.
     pub fn broke_off(&self) -> bool {
-        self.failures > 0 && !self.short_of_memory
+        self.broke_off || self.other.is_some()
+    }
+
+    /// Whether no more is written.
+    fn is_stopped(&self) -> bool
+        ensures { result ≡ false → self.now.broke_off ≡ false }
+    {
+        self.broke_off || self.failures > 0
+    }
+
+    /// Counts a failure, at which nothing is written.
+    fn fail(&mut self) -> Result<(), Failed>
+        requires { self.old.failures < 2 ^ 64 - 1 }
+        ensures err { OnOk result ⊥ }
+        ensures others { self.new ≡ record self.old { failures = self.old.failures + 1 } }
+    {
+        self.failures += 1;
+        Err(Failed)
     }
 
     /// The header of a frame, with the rate of the last timing.
     fn head_for(&self, frame: &Frame, rectangle: Rectangle) -> Head
         requires { IsTrue (fits rectangle frame.now) }
+        ensures width { result.width ≡ width_in rectangle frame.now }
+        ensures height { result.height ≡ height_in rectangle frame.now }
     {
         let timing = self.timing;
         let is_given = timing.num_units_in_tick != 0 && timing.time_scale != 0;
@@ -170,30 +198,31 @@ impl<'a, W: Device, K: Sheet> Y4mSink<'a, W, K> {
     }
 
     /// Writes the first frame, after its header.
+    ///
+    /// Failed: there is no memory for the header, and nothing is written.
     fn put_first(&mut self, head: Head, frame: &Frame, rectangle: Rectangle) -> Result<(), Failed>
         requires inside { IsTrue (fits rectangle frame.now) }
-        requires quiet { self.old.failures ≡ 0 }
+        requires whole { self.old.broke_off ≡ false }
+        requires room { self.old.failures < 2 ^ 64 - 1 }
         ensures same_reference { self.new.pen.out.ghost_name ≡ self.old.pen.out.ghost_name }
-        ensures kept { OnOk result ((self.new.failures ≡ 0) × (self.new.head ≡ Some head)) }
-        ensures failed { OnErr result ((self.new.failures ≡ 1) × (self.new.head ≡ self.old.head)) }
-        ensures ok { OnOk result (Sends (W.contents self.old.pen.out.now) (W.contents self.new.pen.out.now)
+        ensures kept { OnOk result (self.new.failures ≡ self.old.failures) }
+        ensures failed { OnErr result (self.new.failures ≡ self.old.failures + 1) }
+        ensures headed { OnOk result (self.new.head ≡ Some head) }
+        ensures ok { OnOk result (SendsOrBreaksOff self.new.broke_off (W.contents self.old.pen.out.now) (W.contents self.new.pen.out.now)
             (ended (head_text head) ++ framed (shown_bytes frame.now rectangle))) }
-        ensures front { OnErr result (SendsFront (W.contents self.old.pen.out.now) (W.contents self.new.pen.out.now)
-            (ended (head_text head) ++ framed (shown_bytes frame.now rectangle))) }
+        ensures blamed { OnOk result (IsBlamed self.new.broke_off (W.has_failed self.old.pen.out.now) (W.has_failed self.new.pen.out.now)) }
+        ensures unsent { OnErr result ((self.new.head ≡ self.old.head) × (self.new.broke_off ≡ self.old.broke_off)
+            × (self.new.pen.out.now ≡ self.old.pen.out.now)) }
     {
         if head_line(&mut self.line, head).is_err() {
-            self.short_of_memory = true;
-            self.failures += 1;
-            return Err(Failed);
+            return self.fail();
         }
+        self.head = Some(head);
         match send_first(self.pen.out, self.line.as_str(), frame, rectangle) {
-            Ok(()) => {
-                self.head = Some(head);
-                Ok(())
-            }
+            Ok(()) => Ok(()),
             Err(Failed) => {
-                self.failures += 1;
-                Err(Failed)
+                self.broke_off = true;
+                Ok(())
             }
         }
     }
@@ -202,11 +231,15 @@ impl<'a, W: Device, K: Sheet> Y4mSink<'a, W, K> {
 impl<'a, W: Device, K: Sheet> Elements for Y4mSink<'a, W, K> {
     ghost use Rattle.h264_report.specs.Y4m.{TookY4m};
 
-    ghost took = { λ s calls. TookY4m K.name K.start s.pen.out.ghost_name s.head s.failures (W.contents s.pen.out.now) calls };
+    ghost took = { λ s calls. TookY4m K.name K.start K.was_failed s.pen.out.ghost_name s.head s.broke_off (W.has_failed s.pen.out.now)
+        (W.contents s.pen.out.now) calls };
 
     ghost failures = { λ s. s.failures };
 
     fn element(&mut self, name: ElementName, _bit: u64, value: i64) -> Result<(), Failed> {
+        if self.is_stopped() {
+            return self.fail();
+        }
         let value = u64::try_from(value).unwrap_or(0);
         match name {
             ElementName::ProfileIdc => self.timing = Timing::default(),
@@ -220,24 +253,22 @@ impl<'a, W: Device, K: Sheet> Elements for Y4mSink<'a, W, K> {
 
 impl<'a, W: Device, K: Sheet> FrameOut for Y4mSink<'a, W, K> {
     fn frame(&mut self, _count: i32, frame: &Frame, rectangle: Rectangle) -> Result<(), Failed> {
-        if self.failures > 0 {
-            self.failures += 1;
-            return Err(Failed);
+        if self.is_stopped() {
+            return self.fail();
         }
         let head = self.head_for(frame, rectangle);
         let Some(first) = self.head else {
             return self.put_first(head, frame, rectangle);
         };
-        if first.width != head.width || first.height != head.height {
+        if !first.has_size_of(head) {
             self.other = Some(head);
-            self.failures += 1;
-            return Err(Failed);
+            return self.fail();
         }
         match send_framed(self.pen.out, frame, rectangle) {
             Ok(()) => Ok(()),
             Err(Failed) => {
-                self.failures += 1;
-                Err(Failed)
+                self.broke_off = true;
+                Ok(())
             }
         }
     }
@@ -251,6 +282,9 @@ impl<'a, W: Device, K: Sheet> FrameSink for Y4mSink<'a, W, K> {
         _nal_ref_idc: u8,
         _length: u64,
     ) -> Result<(), Failed> {
+        if self.is_stopped() {
+            return self.fail();
+        }
         Ok(())
     }
 
@@ -262,6 +296,9 @@ impl<'a, W: Device, K: Sheet> FrameSink for Y4mSink<'a, W, K> {
         _frame_num: u32,
         _count: i32,
     ) -> Result<(), Failed> {
+        if self.is_stopped() {
+            return self.fail();
+        }
         Ok(())
     }
 }

@@ -2,7 +2,7 @@ use Rattle.std.proofs.Common.{refl, ◌≡◌, ◌+◌, ◌-◌, ap, sym, ◌∙
 use Rattle.std.specs.List.{range_with_len, flat_map}
 use Rattle.h264_dpb.specs.Shown.{width_in, height_in, cropped}
 use Rattle.h264_report.specs.Rows.{row_at, row_count, rows_before}
-use Rattle.h264_report.proofs.Known.{sends-none, sends-more, sends-is, front-is, front-behind, front-longer}
+use Rattle.h264_report.proofs.Known.{sends-none, sends-more, sends-is, front-is, front-after, front-longer}
 use Rattle.h264_report.proofs.Counted.{next-row, row-between, whole}
 use Rattle.h264_report.proofs.frames.send_frame.Goals as goal
 
@@ -16,7 +16,7 @@ returns-in-Err-clause-front g c =
     let s = cropped c.args.rectangle c.args.frame.now in
     let within : c.loop-k.k < row_count h = let t = c.loop-k-test.true in let e = c.row_count-k-end.ensures in omega arith in
     let later = flat_map (row_at w h s) (range_with_len (c.loop-k.k + 1) (row_count h - (c.loop-k.k + 1))) in
-    front-is (sym (row-between w h s c.loop-k.k within) ∙ whole w h s) (front-behind c.loop-k.invariant.0 (front-longer later (front-is c.row_at.ensures c.in-Err.ensures.front)))
+    front-is (sym (row-between w h s c.loop-k.k within) ∙ whole w h s) (front-after c.loop-k.invariant.0 (front-longer later (front-is c.row_at.ensures c.in-Err.ensures.front)))
 
 pub loop-k-preserved : goal.loop-k-preserved
 loop-k-preserved g c =

@@ -1,6 +1,6 @@
 use Rattle.std.proofs.Common.{◌≡◌, Result, Ok, Err, OnOk, OnErr, true, false, ◌∷◌, [], ◌∙◌}
 use Rattle.std.specs.Result.{is_err}
-use Rattle.h264_report.proofs.Known.{sends-more, sends-keeps, sends-is, front-is, some-all, some-front, some-longer, some-behind}
+use Rattle.h264_report.proofs.Known.{sends-more, sends-keeps, sends-is, front-is, some-all, some-front, some-longer, some-after}
 use Rattle.h264_report.proofs.judging.put.Goals as goal
 
 ok-of : {X E A : Type 0} (r : Result X E) → false ≡ is_err r → OnOk r A → A
@@ -18,13 +18,13 @@ returns-then-is_err-clause-text g c =
 pub returns-then-is_err-2-clause-text : goal.returns-then-is_err-2-clause-text
 returns-then-is_err-2-clause-text g c =
     let first = sends-is c.as_bytes.ensures.value (ok-of c.send.result c.if-is_err.ensures.value c.send.ensures.ok) in
-    some-behind first (some-longer (10 ∷ []) (some-front (front-is c.as_bytes-2.ensures.value (err-of c.send-2.result c.if-is_err-2.ensures.value c.send-2.ensures.front))))
+    some-after first (some-longer (10 ∷ []) (some-front (front-is c.as_bytes-2.ensures.value (err-of c.send-2.result c.if-is_err-2.ensures.value c.send-2.ensures.front))))
 
 pub returns-then-is_err-3-clause-text : goal.returns-then-is_err-3-clause-text
 returns-then-is_err-3-clause-text g c =
     let first = sends-is c.as_bytes.ensures.value (ok-of c.send.result c.if-is_err.ensures.value c.send.ensures.ok) in
     let second = sends-is c.as_bytes-2.ensures.value (ok-of c.send-2.result c.if-is_err-2.ensures.value c.send-2.ensures.ok) in
-    some-behind first (some-behind second (some-front (err-of c.send-3.result c.if-is_err-3.ensures.value c.send-3.ensures.front)))
+    some-after first (some-after second (some-front (err-of c.send-3.result c.if-is_err-3.ensures.value c.send-3.ensures.front)))
 
 pub returns-in-Ok-clause-text : goal.returns-in-Ok-clause-text
 returns-in-Ok-clause-text g c =

@@ -31,7 +31,7 @@ loop-preserved g c =
       sends = sends-more i.sends (record { appends = c.in-Ok.ensures.ok });
       left = omega (arith, d, some.0, some.1, left);
     } in
-    rw c.behind-rest.ensures (sent, c.in-Ok.ensures.quiet ∙ c.loop.invariant.1)
+    rw c.bytes_after-rest.ensures (sent, c.in-Ok.ensures.quiet ∙ c.loop.invariant.1)
 
 pub returns-then-is_empty-clause-ok : goal.returns-then-is_empty-clause-ok
 returns-then-is_empty-clause-ok g c =

@@ -1,4 +1,3 @@
-use Rattle.std.proofs.Common.{Result, Ok, Err, OnOk, ap, sym, ◌∙◌}
 use Rattle.h264_report.proofs.line_sink.LineSink.put_line.Goals as goal
 
 pub returns-in-Ok-clause-blamed : goal.returns-in-Ok-clause-blamed

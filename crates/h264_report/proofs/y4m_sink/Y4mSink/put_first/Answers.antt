@@ -3,14 +3,22 @@ use Rattle.std.specs.Result.{is_err}
 use Rattle.h264_report.specs.Frames.{shown_bytes}
 use Rattle.h264_report.specs.Told.{ended}
 use Rattle.h264_report.specs.Y4m.{framed}
-use Rattle.h264_report.proofs.Known.{front-is}
+use Rattle.h264_report.proofs.Known.{front-is, sends-is}
 use Rattle.h264_report.proofs.y4m_sink.Y4mSink.put_first.Goals as goal
 
 ok-of : {X E A : Type 0} (r : Result X E) → false ≡ is_err r → OnOk r A → A
 ok-of (Ok x) e a = a
 ok-of (Err x) e a = absurd (let f : false ≡ true = e in cc)
 
-pub returns-in-Err-clause-front : goal.returns-in-Err-clause-front
-returns-in-Err-clause-front g c =
+pub returns-in-Ok-clause-ok : goal.returns-in-Ok-clause-ok
+returns-in-Ok-clause-ok g c =
+    let same = c.as_str.ensures.value ∙ ok-of c.head_line.result c.if-is_err.ensures.value c.head_line.ensures in
+    rw c.requires.whole (sends-is (ap (λ l. ended l ++ framed (shown_bytes c.args.frame.now c.args.rectangle)) same) c.in-Ok.ensures.ok)
+
+pub returns-in-Ok-clause-blamed : goal.returns-in-Ok-clause-blamed
+returns-in-Ok-clause-blamed g c = rw c.requires.whole c.in-Ok.ensures.quiet
+
+pub returns-in-Err-clause-ok : goal.returns-in-Err-clause-ok
+returns-in-Err-clause-ok g c =
     let same = c.as_str.ensures.value ∙ ok-of c.head_line.result c.if-is_err.ensures.value c.head_line.ensures in
     front-is (ap (λ l. ended l ++ framed (shown_bytes c.args.frame.now c.args.rectangle)) same) c.in-Err.ensures.front
