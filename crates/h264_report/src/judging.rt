@@ -27,12 +27,12 @@ use std::marker::Brand;
 pub struct Ending {
     /// What the last line says.
     pub answer: Result<Summary, Stop>,
-    /// Whether all was written.
+    /// Whether the last line was written, with the text that comes with it, and handed over.
     pub written: bool,
 }
 
 /// The exit status of an answer.
-fn answer_status(answer: Result<Summary, Stop>) -> u8
+pub(crate) fn answer_status(answer: Result<Summary, Stop>) -> u8
     ensures { result ≡ answer_status answer }
 {
     match answer {
@@ -182,6 +182,7 @@ fn run_lines<'a, K: Sheet, R: Source, W: Device>(
     ensures some { (bytes : List ℕ) × Writes (lines_of K.listing 0) terms bytes result.1 K.start (W.contents result.0.out.now) }
     ensures read { IsErrOf result.1 Stop.Read → (R.failures source.new ≡ R.failures source.old + 1)
         ⊎ ((n : ℕ) → R.was_read source.old n → R.was_read source.new (n + 2 ^ 41)) }
+    ensures read_told { (R.failures source.new ≡ R.failures source.old) ⊎ (IsErrOf result.1 Stop.Read ⊎ IsErrOf result.1 Stop.Write) }
     ensures write { IsErrOf result.1 Stop.Write → W.has_failed result.0.out.now ≡ true }
     ensures quiet { result.1 ≢ Err Stop.Write → W.has_failed result.0.out.now ≡ K.was_failed }
 {
@@ -205,6 +206,7 @@ fn write_lines<R: Source, W: Device>(
     ensures some { (bytes : List ℕ) × Writes (lines_of listing 0) terms bytes result (W.contents out.old) (W.contents out.new) }
     ensures read { IsErrOf result Stop.Read → (R.failures source.new ≡ R.failures source.old + 1)
         ⊎ ((n : ℕ) → R.was_read source.old n → R.was_read source.new (n + 2 ^ 41)) }
+    ensures read_told { (R.failures source.new ≡ R.failures source.old) ⊎ (IsErrOf result Stop.Read ⊎ IsErrOf result Stop.Write) }
     ensures write { IsErrOf result Stop.Write → W.has_failed out.new ≡ true }
     ensures quiet { result ≢ Err Stop.Write → W.has_failed out.new ≡ W.has_failed out.old }
 {
@@ -214,6 +216,9 @@ fn write_lines<R: Source, W: Device>(
 }
 
 /// Judges a stream by these terms, with a line for each call of the listing, and then the last line.
+///
+/// The answer is Read where a read failed, or where the source was read 2^41 times; Write where the device failed within a line; Memory where memory
+/// was wanting.
 pub fn list<R: Source, W: Device>(
     alloc: Global,
     terms: Terms,
@@ -226,6 +231,8 @@ pub fn list<R: Source, W: Device>(
         (W.contents out.new)) }
     ensures read { IsErrOf result.answer Stop.Read → (R.failures source.new ≡ R.failures source.old + 1)
         ⊎ ((n : ℕ) → R.was_read source.old n → R.was_read source.new (n + 2 ^ 41)) }
+    // A read that failed is told as Read; or as Write, where a write failed too.
+    ensures read_told { (R.failures source.new ≡ R.failures source.old) ⊎ (IsErrOf result.answer Stop.Read ⊎ IsErrOf result.answer Stop.Write) }
     ensures write { IsErrOf result.answer Stop.Write → W.has_failed out.new ≡ true }
     ensures quiet { result.answer ≢ Err Stop.Write → result.written ≡ true → W.has_failed out.new ≡ W.has_failed out.old }
     ensures handed_over { result.written ≡ true → W.holds_back out.new ≡ false }
@@ -281,6 +288,8 @@ fn put_trail<W: Device>(
 }
 
 /// Judges a stream whole, for this target. After a no its last elements are written, the oldest first, and then the last line; else that alone.
+///
+/// The answer is Read where a read failed, or where the source was read 2^41 times; Memory where memory was wanting; never Write.
 pub fn check<R: Source, W: Device>(
     alloc: Global,
     target: Target,
@@ -291,6 +300,8 @@ pub fn check<R: Source, W: Device>(
     ensures checks { OfBytes (R.left source.old) (λ bytes. Checks target bytes result.answer result.written (W.contents out.old) (W.contents out.new)) }
     ensures read { IsErrOf result.answer Stop.Read → (R.failures source.new ≡ R.failures source.old + 1)
         ⊎ ((n : ℕ) → R.was_read source.old n → R.was_read source.new (n + 2 ^ 41)) }
+    // A read that failed is told as Read.
+    ensures read_told { (R.failures source.new ≡ R.failures source.old) ⊎ IsErrOf result.answer Stop.Read }
     ensures write { IsErrOf result.answer Stop.Write → ⊥ }
     ensures quiet { result.written ≡ true → W.has_failed out.new ≡ W.has_failed out.old }
     ensures handed_over { result.written ≡ true → W.holds_back out.new ≡ false }
@@ -320,6 +331,7 @@ fn run_frames<'a, K: Sheet, R: Source, W: Device>(
     ensures some { (bytes : List ℕ) × Writes bytes_of (terms_of modes.Full target) bytes result.1 K.start (W.contents result.0.out.now) }
     ensures read { IsErrOf result.1 Stop.Read → (R.failures source.new ≡ R.failures source.old + 1)
         ⊎ ((n : ℕ) → R.was_read source.old n → R.was_read source.new (n + 2 ^ 41)) }
+    ensures read_told { (R.failures source.new ≡ R.failures source.old) ⊎ (IsErrOf result.1 Stop.Read ⊎ IsErrOf result.1 Stop.Write) }
     ensures write { IsErrOf result.1 Stop.Write → W.has_failed result.0.out.now ≡ true }
     ensures quiet { result.1 ≢ Err Stop.Write → W.has_failed result.0.out.now ≡ K.was_failed }
 {
@@ -342,6 +354,7 @@ fn write_frames<R: Source, W: Device>(
     ensures some { (bytes : List ℕ) × Writes bytes_of (terms_of modes.Full target) bytes result (W.contents out.old) (W.contents out.new) }
     ensures read { IsErrOf result Stop.Read → (R.failures source.new ≡ R.failures source.old + 1)
         ⊎ ((n : ℕ) → R.was_read source.old n → R.was_read source.new (n + 2 ^ 41)) }
+    ensures read_told { (R.failures source.new ≡ R.failures source.old) ⊎ (IsErrOf result Stop.Read ⊎ IsErrOf result Stop.Write) }
     ensures write { IsErrOf result Stop.Write → W.has_failed out.new ≡ true }
     ensures quiet { result ≢ Err Stop.Write → W.has_failed out.new ≡ W.has_failed out.old }
 {
@@ -351,6 +364,8 @@ fn write_frames<R: Source, W: Device>(
 }
 
 /// Judges a stream whole, for this target, and writes its frames to `out`; the last line goes to `err`.
+///
+/// The answer is Read where a read failed, or where the source was read 2^41 times; Write where `out` failed; Memory where memory was wanting.
 pub fn decode<R: Source, W: Device, E: Device>(
     alloc: Global,
     target: Target,
@@ -363,6 +378,8 @@ pub fn decode<R: Source, W: Device, E: Device>(
         (W.contents out.new) (E.contents err.old) (E.contents err.new)) }
     ensures read { IsErrOf result.answer Stop.Read → (R.failures source.new ≡ R.failures source.old + 1)
         ⊎ ((n : ℕ) → R.was_read source.old n → R.was_read source.new (n + 2 ^ 41)) }
+    // A read that failed is told as Read; or as Write, where a write failed too.
+    ensures read_told { (R.failures source.new ≡ R.failures source.old) ⊎ (IsErrOf result.answer Stop.Read ⊎ IsErrOf result.answer Stop.Write) }
     ensures write { IsErrOf result.answer Stop.Write → W.has_failed out.new ≡ true }
     ensures quiet { result.answer ≢ Err Stop.Write → W.has_failed out.new ≡ W.has_failed out.old }
     ensures handed_over { result.answer ≢ Err Stop.Write → W.holds_back out.new ≡ false }

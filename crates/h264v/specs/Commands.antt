@@ -17,15 +17,19 @@ use Rattle.clap.specs.Words.{Text}
 use Rattle.h264v.specs.declared.outcome.Outcome.{Outcome}
 use Rattle.h264v.specs.declared.outcome.Outcome.TheVariants as outcomes
 
--- What a task writes of a stream, judged for Constrained Baseline, and the answer that it tells; standard error is written to by `decode` alone. The tasks that do
--- not judge a stream with lines or frames as their answer are none of these.
+-- What a task writes of a stream, judged for Constrained Baseline, and the answer that it tells; standard error is written to by `decode` alone.
+-- The tasks that do not judge a stream with lines or frames as their answer are none of these.
 abbrev pub Performs : Task → List ℕ → Result Summary Stop → Bool → (old new err_old err_new : Option (List ℕ)) → Type 0
 Performs tasks.Check bytes answer written old new err_old err_new = Checks targets.Baseline bytes answer written old new × (err_new ≡ err_old)
-Performs tasks.Units bytes answer written old new err_old err_new = Lists (terms_of modes.Units targets.Baseline) listings.Units bytes answer written old new × (err_new ≡ err_old)
-Performs tasks.Headers bytes answer written old new err_old err_new = Lists (terms_of modes.Headers targets.Baseline) listings.Slices bytes answer written old new × (err_new ≡ err_old)
-Performs tasks.Frames bytes answer written old new err_old err_new = Lists (terms_of modes.Full targets.Baseline) listings.Frames bytes answer written old new × (err_new ≡ err_old)
+Performs tasks.Units bytes answer written old new err_old err_new =
+    Lists (terms_of modes.Units targets.Baseline) listings.Units bytes answer written old new × (err_new ≡ err_old)
+Performs tasks.Headers bytes answer written old new err_old err_new =
+    Lists (terms_of modes.Headers targets.Baseline) listings.Slices bytes answer written old new × (err_new ≡ err_old)
+Performs tasks.Frames bytes answer written old new err_old err_new =
+    Lists (terms_of modes.Full targets.Baseline) listings.Frames bytes answer written old new × (err_new ≡ err_old)
 Performs tasks.Decode bytes answer written old new err_old err_new = Decodes targets.Baseline bytes answer written old new err_old err_new
-Performs tasks.Elements bytes answer written old new err_old err_new = Lists (terms_of modes.Full targets.Baseline) listings.Elements bytes answer written old new × (err_new ≡ err_old)
+Performs tasks.Elements bytes answer written old new err_old err_new =
+    Lists (terms_of modes.Full targets.Baseline) listings.Elements bytes answer written old new × (err_new ≡ err_old)
 Performs tasks.Info bytes answer written old new err_old err_new = ⊥
 Performs tasks.Report bytes answer written old new err_old err_new = ⊥
 Performs tasks.Explain bytes answer written old new err_old err_new = ⊥
@@ -75,31 +79,40 @@ pub record TellsFailures (answer : Result Summary Stop) (written : Bool) (out ou
   pub quiet : answer ≢ Err Write → written ≡ true → (out'.has_failed ≡ out.has_failed) × (err'.has_failed ≡ err.has_failed)
   pub handed_over : answer ≢ Err Write → written ≡ true → IsHandedOver out out' × IsHandedOver err err'
 
--- A failure is told exactly where a device failed, and a failed read only where a read did.
-pub record IsExcused (ReadFailed : Type 0) (answer : Result Summary Stop) (written : Bool) (out out' err err' : Output) : Type 0 where
+-- A failure is told exactly where a device failed, and a failed read only where a read did. A read that failed is told; or a write failed too, and that is.
+pub record IsExcused (ReadFailed ReadAll : Type 0) (answer : Result Summary Stop) (written : Bool) (out out' err err' : Output) : Type 0 where
   pub failures : TellsFailures answer written out out' err err'
   pub read : IsErrOf answer Read → ReadFailed
+  pub read_told : ReadAll ⊎ (IsErrOf answer Read ⊎ IsErrOf answer Write)
 
 -- ---- what comes of the words
 
 -- The words ask for nothing, and standard output is as it was; or there was no memory to find that out, or to say why.
 pub data Faults (words : List Text) (status : ℕ) (out out' err err' : Output) : Type 0 where
   Refused : IsRefusable words → status ≡ 64 → out' ≡ out → HoldsNothing err' → Faults words status out out' err err'
-  Short : (written : Bool) → status ≡ status_of written (Err Memory) → (written ≡ false → out'.has_failed ≡ true) → (written ≡ true → out'.holds_back ≡ false) →
+  Short : (written : Bool) → status ≡ status_of written (Err Memory) → (written ≡ false → out'.has_failed ≡ true) →
+      (written ≡ true → out'.holds_back ≡ false) →
       Takes written out.bytes out'.bytes (last_line modes.Full (Err Memory)) → err' ≡ err → Faults words status out out' err err'
 
 -- What comes of these words, where a file of a name holds these bytes, as far as that is known.
-pub data Comes (words : List Text) (file : Text → Option (List ℕ)) (ReadFailed : Type 0) (status : ℕ) (out out' err err' : Output) : Type 0 where
+pub data Comes (words : List Text) (file : Text → Option (List ℕ)) (ReadFailed ReadAll : Type 0) (status : ℕ) (out out' err err' : Output) : Type 0 where
   -- they ask for nothing
-  Faulted : Faults words status out out' err err' → Comes words file ReadFailed status out out' err err'
+  Faulted : Faults words status out out' err err' → Comes words file ReadFailed ReadAll status out out' err err'
   -- they ask for a task with a file that can't be opened
-  Unopened : (task : Task) (name : Text) (written : Bool) → asks program words ≡ Some (name_of task, Some name) → status ≡ status_of written (Err Read) → ReadFailed →
-      TellsFailures (Err Read) written out out' err err' → SaysAlone task (Err Read) written out.bytes out'.bytes err.bytes err'.bytes → Comes words file ReadFailed status out out' err err'
+  Unopened : (task : Task) (name : Text) (written : Bool) → asks program words ≡ Some (name_of task, Some name) →
+      status ≡ status_of written (Err Read) → ReadFailed →
+      TellsFailures (Err Read) written out out' err err' → SaysAlone task (Err Read) written out.bytes out'.bytes err.bytes err'.bytes →
+      Comes words file ReadFailed ReadAll status out out' err err'
   -- they ask for a task with a file, and it was done
-  Done : (task : Task) (name : Text) (answer : Result Summary Stop) (written : Bool) → asks program words ≡ Some (name_of task, Some name) → status ≡ status_of written answer →
-      IsExcused ReadFailed answer written out out' err err' → OfBytes (file name) (λ bytes. Performs task bytes answer written out.bytes out'.bytes err.bytes err'.bytes) → Comes words file ReadFailed status out out' err err'
+  Done : (task : Task) (name : Text) (answer : Result Summary Stop) (written : Bool) → asks program words ≡ Some (name_of task, Some name) →
+      status ≡ status_of written answer →
+      IsExcused ReadFailed ReadAll answer written out out' err err' →
+      OfBytes (file name) (λ bytes. Performs task bytes answer written out.bytes out'.bytes err.bytes err'.bytes) →
+      Comes words file ReadFailed ReadAll status out out' err err'
 
 -- What comes of these words: it is done; or they ask for more than a judgement of one FILE, nothing is written, and what they ask is handed on.
-abbrev pub ComesTo : (words : List Text) (file : Text → Option (List ℕ)) (ReadFailed : Type 0) (outcome : Outcome) (out out' err err' : Output) → Type 0
-ComesTo words file ReadFailed (outcomes.Done status) out out' err err' = Comes words file ReadFailed status out out' err err'
-ComesTo words file ReadFailed (outcomes.More wanted) out out' err err' = (asks program words ≡ Some (name_of wanted.request.task, Some wanted.request.file.now)) × (out' ≡ out) × (err' ≡ err)
+abbrev pub ComesTo : (words : List Text) (file : Text → Option (List ℕ)) (ReadFailed ReadAll : Type 0) (outcome : Outcome)
+    (out out' err err' : Output) → Type 0
+ComesTo words file ReadFailed ReadAll (outcomes.Done status) out out' err err' = Comes words file ReadFailed ReadAll status out out' err err'
+ComesTo words file ReadFailed ReadAll (outcomes.More wanted) out out' err err' =
+    (asks program words ≡ Some (name_of wanted.request.task, Some wanted.request.file.now)) × (out' ≡ out) × (err' ≡ err)

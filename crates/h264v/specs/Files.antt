@@ -9,3 +9,7 @@ left_of remaining (Some file) = remaining file
 -- One could not be opened or read, or was read too often.
 abbrev pub HasFailedToRead : (failures failures' : ℕ) (was_read was_read' : ℕ → Type 0) → Type 0
 HasFailedToRead failures failures' was_read was_read' = (failures' ≡ failures + 1) ⊎ ((n : ℕ) → was_read n → was_read' (n + 2 ^ 41))
+
+-- None failed to be opened or read.
+abbrev pub HasReadAll : (failures failures' : ℕ) → Type 0
+HasReadAll failures failures' = failures' ≡ failures

@@ -33,14 +33,16 @@ pub data IsStatus (status : ℕ) : Type 0 where
   Short : (written : Bool) → status ≡ status_of written (Err Memory) → IsStatus status
 
 -- What the words come to. Where a file or a device failed, standard error is then told why.
-pub data Ends (words : List Text) (file : Text → Option (List ℕ)) (ReadFailed : Type 0) (status : ℕ) (out out' err : Output) : Type 0 where
-  Plain : (err' : Output) → Comes words file ReadFailed status out out' err err' → Ends words file ReadFailed status out out' err
-  More : (task : Task) (name : Text) → asks program words ≡ Some (name_of task, Some name) → IsStatus status → Ends words file ReadFailed status out out' err
+pub data Ends (words : List Text) (file : Text → Option (List ℕ)) (ReadFailed ReadAll : Type 0) (status : ℕ) (out out' err : Output) : Type 0 where
+  Plain : (err' : Output) → Comes words file ReadFailed ReadAll status out out' err err' → Ends words file ReadFailed ReadAll status out out' err
+  More : (task : Task) (name : Text) → asks program words ≡ Some (name_of task, Some name) → IsStatus status →
+      Ends words file ReadFailed ReadAll status out out' err
 
 -- What the program comes to.
-pub data Runs (words : List Text) (file : Text → Option (List ℕ)) (ReadFailed : Type 0) (status : ℕ) (out out' err : Output) : Type 0 where
-  Asked : Ends words file ReadFailed status out out' err → Runs words file ReadFailed status out out' err
+pub data Runs (words : List Text) (file : Text → Option (List ℕ)) (ReadFailed ReadAll : Type 0) (status : ℕ) (out out' err : Output) : Type 0 where
+  Asked : Ends words file ReadFailed ReadAll status out out' err → Runs words file ReadFailed ReadAll status out out' err
   -- a word is no text
-  NotText : status ≡ 64 → out' ≡ out → Runs words file ReadFailed status out out' err
+  NotText : status ≡ 64 → out' ≡ out → Runs words file ReadFailed ReadAll status out out' err
   -- there was no memory for the words
-  NoWords : (written : Bool) → status ≡ status_of written (Err Memory) → (written ≡ true → out'.holds_back ≡ false) → Takes written out.bytes out'.bytes (last_line modes.Full (Err Memory)) → Runs words file ReadFailed status out out' err
+  NoWords : (written : Bool) → status ≡ status_of written (Err Memory) → (written ≡ true → out'.holds_back ≡ false) →
+      Takes written out.bytes out'.bytes (last_line modes.Full (Err Memory)) → Runs words file ReadFailed ReadAll status out out' err

@@ -49,7 +49,8 @@ with_file a name = with_subcommand a (file_app name).top
 
 abbrev pub program : App
 program =
-    let streams = with_file (with_file (with_file (with_file (with_file bare (codes "check")) (codes "units")) (codes "headers")) (codes "frames")) (codes "decode") in
+    let streams =
+    with_file (with_file (with_file (with_file (with_file bare (codes "check")) (codes "units")) (codes "headers")) (codes "frames")) (codes "decode") in
     with_file (with_file (with_file (with_file streams (codes "elements")) (codes "info")) (codes "report")) (codes "explain")
 
 -- the name of a task's subcommand

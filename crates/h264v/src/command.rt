@@ -10,7 +10,7 @@ ghost use Rattle.h264_verify.specs.Units.{terms_of};
 ghost use Rattle.h264_report.specs.Sent.{Takes};
 ghost use Rattle.h264_report.specs.Written.{OfBytes, last_line};
 ghost use Rattle.h264v.specs.Commands.{Performs, SaysAlone, TellsFailures, IsExcused, Faults, Comes, ComesTo, output_of};
-ghost use Rattle.h264v.specs.Files.{HasFailedToRead};
+ghost use Rattle.h264v.specs.Files.{HasFailedToRead, HasReadAll};
 ghost use Rattle.h264v.specs.Words.{program, asks, name_of, is_judging};
 
 use crate::command_line::{Request, Task, asked};
@@ -54,7 +54,8 @@ fn perform<R: Source, W: Device, E: Device>(
     requires room { R.failures source.old < 2 ^ 64 - 1 }
     requires judging { is_judging task ≡ true }
     ensures excused { IsExcused (HasFailedToRead (R.failures source.old) (R.failures source.new) (R.was_read source.old) (R.was_read source.new))
-        result.answer result.written (output_of W.contents W.has_failed W.holds_back out.old) (output_of W.contents W.has_failed W.holds_back out.new)
+        (HasReadAll (R.failures source.old) (R.failures source.new)) result.answer result.written
+        (output_of W.contents W.has_failed W.holds_back out.old) (output_of W.contents W.has_failed W.holds_back out.new)
         (output_of E.contents E.has_failed E.holds_back err.old) (output_of E.contents E.has_failed E.holds_back err.new) }
     ensures performs { OfBytes (R.left source.old) (λ bytes. Performs task bytes result.answer result.written (W.contents out.old)
         (W.contents out.new) (E.contents err.old) (E.contents err.new)) }
@@ -150,7 +151,7 @@ fn serve<F: Files, W: Device, E: Device>(
     requires judging { is_judging request.task ≡ true }
     ensures { (words : List Text) → asks program words ≡ Some (name_of request.entry.task, Some request.entry.file.now) →
         Comes words (λ name. F.holds files.old name) (HasFailedToRead (F.failures files.old) (F.failures files.new) (F.was_read files.old)
-        (F.was_read files.new)) result (output_of W.contents W.has_failed W.holds_back out.old)
+        (F.was_read files.new)) (HasReadAll (F.failures files.old) (F.failures files.new)) result (output_of W.contents W.has_failed W.holds_back out.old)
         (output_of W.contents W.has_failed W.holds_back out.new) (output_of E.contents E.has_failed E.holds_back err.old)
         (output_of E.contents E.has_failed E.holds_back err.new) }
 {
@@ -172,7 +173,8 @@ pub fn command<'a, F: Files, W: Device, E: Device>(
 ) -> Outcome<'a>
     requires { F.failures files.old < 2 ^ 64 - 1 }
     ensures { ComesTo (map (λ w. string_bytes w) words.now) (λ name. F.holds files.old name)
-        (HasFailedToRead (F.failures files.old) (F.failures files.new) (F.was_read files.old) (F.was_read files.new)) result
+        (HasFailedToRead (F.failures files.old) (F.failures files.new) (F.was_read files.old) (F.was_read files.new))
+        (HasReadAll (F.failures files.old) (F.failures files.new)) result
         (output_of W.contents W.has_failed W.holds_back out.old) (output_of W.contents W.has_failed W.holds_back out.new)
         (output_of E.contents E.has_failed E.holds_back err.old) (output_of E.contents E.has_failed E.holds_back err.new) }
 {

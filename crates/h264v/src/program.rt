@@ -4,7 +4,7 @@
 ghost use Rattle.std.specs.Prelude.{◌≡◌, ℕ, ◌-◌, ◌<◌, ◌≤◌, ◌⊎◌, ◌^◌, List, Some, map, string_bytes};
 ghost use Rattle.clap.specs.Words.{Text};
 ghost use Rattle.h264v.specs.Commands.{output_by};
-ghost use Rattle.h264v.specs.Files.{HasFailedToRead};
+ghost use Rattle.h264v.specs.Files.{HasFailedToRead, HasReadAll};
 ghost use Rattle.h264v.specs.More.{IsStatus, Ends, Runs};
 
 use crate::command::{command, not_text};
@@ -57,8 +57,8 @@ where
     requires { files.old.failures < 2 ^ 64 - 1 }
     ensures { Ends (map (λ w. string_bytes w) words.now) (λ name. O.holds files.old.opener name)
         (HasFailedToRead files.old.failures files.new.failures (λ n. (n ≤ files.old.reads) ⊎ (0 < files.old.failures))
-        (λ n. (n ≤ files.new.reads) ⊎ (0 < files.new.failures))) result (output_by W.contents out.old) (output_by W.contents out.new)
-        (output_by E.contents err.old) }
+        (λ n. (n ≤ files.new.reads) ⊎ (0 < files.new.failures))) (HasReadAll files.old.failures files.new.failures) result
+        (output_by W.contents out.old) (output_by W.contents out.new) (output_by E.contents err.old) }
 {
     let opener = files.opener;
     match command(alloc, words, files, out, err) {
@@ -92,8 +92,8 @@ where
     requires { files.old.failures < 2 ^ 64 - 1 }
     ensures { Ends (map (λ w. string_bytes w) words.now) (λ name. O.holds files.old.opener name)
         (HasFailedToRead files.old.failures files.new.failures (λ n. (n ≤ files.old.reads) ⊎ (0 < files.old.failures))
-        (λ n. (n ≤ files.new.reads) ⊎ (0 < files.new.failures))) result (output_by W.contents out.old) (output_by W.contents out.new)
-        (output_by E.contents err.old) }
+        (λ n. (n ≤ files.new.reads) ⊎ (0 < files.new.failures))) (HasReadAll files.old.failures files.new.failures) result
+        (output_by W.contents out.old) (output_by W.contents out.new) (output_by E.contents err.old) }
 {
     let status = answer_words(alloc, words, files, out, err, meter);
     blame_last(files, words, err);
@@ -119,12 +119,13 @@ where
     requires { files.old.failures < 2 ^ 64 - 1 }
     ensures known { (words' : List Text) → A.known words.now ≡ Some words' →
         Runs words' (λ name. O.holds files.old.opener name) (HasFailedToRead files.old.failures files.new.failures
-        (λ n. (n ≤ files.old.reads) ⊎ (0 < files.old.failures)) (λ n. (n ≤ files.new.reads) ⊎ (0 < files.new.failures))) result
-        (output_by W.contents out.old) (output_by W.contents out.new) (output_by E.contents err.old) }
+        (λ n. (n ≤ files.old.reads) ⊎ (0 < files.old.failures)) (λ n. (n ≤ files.new.reads) ⊎ (0 < files.new.failures)))
+        (HasReadAll files.old.failures files.new.failures) result (output_by W.contents out.old) (output_by W.contents out.new)
+        (output_by E.contents err.old) }
     ensures some { (words' : List Text) × Runs words' (λ name. O.holds files.old.opener name)
         (HasFailedToRead files.old.failures files.new.failures (λ n. (n ≤ files.old.reads) ⊎ (0 < files.old.failures))
-        (λ n. (n ≤ files.new.reads) ⊎ (0 < files.new.failures))) result (output_by W.contents out.old) (output_by W.contents out.new)
-        (output_by E.contents err.old) }
+        (λ n. (n ≤ files.new.reads) ⊎ (0 < files.new.failures))) (HasReadAll files.old.failures files.new.failures) result
+        (output_by W.contents out.old) (output_by W.contents out.new) (output_by E.contents err.old) }
 {
     match words.words(alloc) {
         Ok(Some(given)) => run_words(alloc, given.as_slice(), files, out, err, meter),

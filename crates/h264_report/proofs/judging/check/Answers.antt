@@ -1,4 +1,4 @@
-use Rattle.std.proofs.Common.{[]}
+use Rattle.std.proofs.Common.{[], refl, inl, inr, ⊎_elim}
 use Rattle.h264_plane.specs.Frames.{no_frame}
 use Rattle.h264_report.proofs.Accounts.{checked, none-checked, none-elements, of-bytes, was-read}
 use Rattle.h264_report.proofs.judging.check.Goals as goal
@@ -18,3 +18,9 @@ returns-clause-checks g c =
 
 pub returns-clause-read : goal.returns-clause-read
 returns-clause-read g c = λ e. c.run-answer.ensures.read (was-read _ _ c.put_trail.ensures.answer e)
+
+pub returns-in_default-clause-read_told : goal.returns-in_default-clause-read_told
+returns-in_default-clause-read_told g c = inl refl
+
+pub returns-clause-read_told : goal.returns-clause-read_told
+returns-clause-read_told g c = ⊎_elim (λ e. inl e) (λ r. inr (c.put_trail.ensures.read r)) c.run-answer.ensures.read_told

@@ -1,6 +1,6 @@
-use Rattle.std.proofs.Common.{Err, ◌∙◌, refl}
+use Rattle.std.proofs.Common.{Err, refl, inr}
 use Rattle.h264_base.specs.declared.stop.Stop.TheVariants.{Write}
-use Rattle.h264_report.proofs.Accounts.{failed, decoded, of-bytes, was-read, is-write, never-write}
+use Rattle.h264_report.proofs.Accounts.{failed, decoded, of-bytes, was-read, said-told}
 use Rattle.h264_report.proofs.judging.decode.Goals as goal
 
 pub returns-in-Err-clause-decodes : goal.returns-in-Err-clause-decodes
@@ -23,3 +23,9 @@ returns-clause-decodes g c = of-bytes _ _
 
 pub returns-clause-read : goal.returns-clause-read
 returns-clause-read g c = λ e. c.write_frames-answer.ensures.read (was-read _ _ c.put_answer-2.ensures.answer e)
+
+pub returns-in-Err-clause-read_told : goal.returns-in-Err-clause-read_told
+returns-in-Err-clause-read_told g c = inr (inr (c.put_answer.ensures.write refl))
+
+pub returns-clause-read_told : goal.returns-clause-read_told
+returns-clause-read_told g c = said-told _ _ c.put_answer-2.ensures.read c.put_answer-2.ensures.write c.write_frames-answer.ensures.read_told

@@ -1,4 +1,4 @@
-use Rattle.h264_report.proofs.Accounts.{listed, of-bytes, still-failed, is-write, never-write, was-read}
+use Rattle.h264_report.proofs.Accounts.{listed, of-bytes, still-failed, is-write, never-write, was-read, said-told}
 use Rattle.std.proofs.Common.{◌∙◌}
 use Rattle.h264_report.proofs.judging.list.Goals as goal
 
@@ -10,6 +10,9 @@ returns-clause-lists g c = of-bytes _ _
 
 pub returns-clause-read : goal.returns-clause-read
 returns-clause-read g c r = c.write_lines-answer.ensures.read (was-read _ _ c.put_answer.ensures.answer r)
+
+pub returns-clause-read_told : goal.returns-clause-read_told
+returns-clause-read_told g c = said-told _ _ c.put_answer.ensures.read c.put_answer.ensures.write c.write_lines-answer.ensures.read_told
 
 pub returns-clause-write : goal.returns-clause-write
 returns-clause-write g c w = still-failed c.put_answer.result.written _ _ c.put_answer.ensures.quiet c.put_answer.ensures.failed (c.write_lines-answer.ensures.write (is-write w c.put_answer.ensures.answer))

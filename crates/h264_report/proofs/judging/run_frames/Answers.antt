@@ -2,7 +2,7 @@ use Rattle.std.proofs.Common.{ap, ◌∙◌}
 use Rattle.h264_plane.specs.Frames.{no_frame}
 use Rattle.h264_report.specs.Told.{bytes_of}
 use Rattle.h264_report.specs.Written.{told_of}
-use Rattle.h264_report.proofs.Accounts.{accounts, writes, write-failed, none-failed, read-told, none-frames}
+use Rattle.h264_report.proofs.Accounts.{accounts, writes, write-failed, none-failed, read-told, still-told, none-frames}
 use Rattle.h264_report.proofs.judging.run_frames.Goals as goal
 
 pub returns-clause-same_reference : goal.returns-clause-same_reference
@@ -27,6 +27,11 @@ pub returns-clause-read : goal.returns-clause-read
 returns-clause-read g c r =
     let is = c.told_answer.ensures ∙ ap (λ b. told_of b c.run-answer.result) c.broke_off-broke_off.ensures in
     c.run-answer.ensures.read (read-told c.run-answer.new.sink.broke_off c.run-answer.result is r)
+
+pub returns-clause-read_told : goal.returns-clause-read_told
+returns-clause-read_told g c =
+    let is = c.told_answer.ensures ∙ ap (λ b. told_of b c.run-answer.result) c.broke_off-broke_off.ensures in
+    still-told c.run-answer.new.sink.broke_off c.run-answer.result is c.run-answer.ensures.read_told
 
 pub returns-clause-write : goal.returns-clause-write
 returns-clause-write g c w =

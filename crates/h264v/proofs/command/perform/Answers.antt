@@ -1,4 +1,4 @@
-use Rattle.std.proofs.Common.{◌≡◌, ℕ, List, Option, None, Some, refl, inl, inr}
+use Rattle.std.proofs.Common.{◌≡◌, ℕ, List, Option, None, Some, refl, inl, inr, ⊎_elim}
 use Rattle.h264_base.specs.declared.mode.Mode.TheVariants as modes
 use Rattle.h264_base.specs.declared.mode.Target.TheVariants as targets
 use Rattle.h264_verify.specs.Units.{terms_of}
@@ -33,34 +33,40 @@ pub returns-in-Check-clause-excused : goal.returns-in-Check-clause-excused
 returns-in-Check-clause-excused g c = record {
   failures = record { unwritten = λ e. inl (c.check.ensures.failed e); write = λ e. absurd (c.check.ensures.write e); quiet = λ never e. (c.check.ensures.quiet e, refl); handed_over = λ never e. (inl (c.check.ensures.handed_over e), inr refl) };
   read = c.check.ensures.read;
+  read_told = ⊎_elim (λ e. inl e) (λ r. inr (inl r)) c.check.ensures.read_told;
 }
 
 pub returns-in-Units-clause-excused : goal.returns-in-Units-clause-excused
 returns-in-Units-clause-excused g c = record {
   failures = record { unwritten = λ e. inl (c.list.ensures.failed e); write = λ e. inl (c.list.ensures.write e); quiet = λ never e. (c.list.ensures.quiet never e, refl); handed_over = λ never e. (inl (c.list.ensures.handed_over e), inr refl) };
   read = c.list.ensures.read;
+  read_told = c.list.ensures.read_told;
 }
 
 pub returns-in-Headers-clause-excused : goal.returns-in-Headers-clause-excused
 returns-in-Headers-clause-excused g c = record {
   failures = record { unwritten = λ e. inl (c.list-in-Headers.ensures.failed e); write = λ e. inl (c.list-in-Headers.ensures.write e); quiet = λ never e. (c.list-in-Headers.ensures.quiet never e, refl); handed_over = λ never e. (inl (c.list-in-Headers.ensures.handed_over e), inr refl) };
   read = c.list-in-Headers.ensures.read;
+  read_told = c.list-in-Headers.ensures.read_told;
 }
 
 pub returns-in-Frames-clause-excused : goal.returns-in-Frames-clause-excused
 returns-in-Frames-clause-excused g c = record {
   failures = record { unwritten = λ e. inl (c.list-in-Frames.ensures.failed e); write = λ e. inl (c.list-in-Frames.ensures.write e); quiet = λ never e. (c.list-in-Frames.ensures.quiet never e, refl); handed_over = λ never e. (inl (c.list-in-Frames.ensures.handed_over e), inr refl) };
   read = c.list-in-Frames.ensures.read;
+  read_told = c.list-in-Frames.ensures.read_told;
 }
 
 pub returns-in-Elements-clause-excused : goal.returns-in-Elements-clause-excused
 returns-in-Elements-clause-excused g c = record {
   failures = record { unwritten = λ e. inl (c.list-in-Elements.ensures.failed e); write = λ e. inl (c.list-in-Elements.ensures.write e); quiet = λ never e. (c.list-in-Elements.ensures.quiet never e, refl); handed_over = λ never e. (inl (c.list-in-Elements.ensures.handed_over e), inr refl) };
   read = c.list-in-Elements.ensures.read;
+  read_told = c.list-in-Elements.ensures.read_told;
 }
 
 pub returns-in-Decode-clause-excused : goal.returns-in-Decode-clause-excused
 returns-in-Decode-clause-excused g c = record {
   failures = record { unwritten = λ e. inr (c.decode.ensures.failed e); write = λ e. inl (c.decode.ensures.write e); quiet = λ never e. (c.decode.ensures.quiet never, c.decode.ensures.quiet_err e); handed_over = λ never e. (inl (c.decode.ensures.handed_over never), inl (c.decode.ensures.handed_over_err e)) };
   read = c.decode.ensures.read;
+  read_told = c.decode.ensures.read_told;
 }
