@@ -8,7 +8,7 @@ use h264_base::Failed;
 use std::io;
 use std::io::{ErrorKind, Write};
 
-/// How often an interrupted write is tried again.
+/// How often a write is tried while it is interrupted.
 const TRIES: u32 = 1 << 20;
 
 /// A writer that tells whether it has failed, and whether it holds back some of what it took.

@@ -8,6 +8,7 @@ use crate::device::Device;
 use crate::lines::frame_line;
 use crate::listing::Listing;
 use crate::pages::page::Page;
+use crate::rows::{height, width};
 use crate::send::send;
 use h264_base::{ElementName, Elements, Failed, SliceType};
 use h264_dpb::{FrameOut, Rectangle};
@@ -155,14 +156,10 @@ impl<'a, W: Device> JsonSink<'a, W> {
         self.page.open_object(self.file, "frame");
         self.page.number_field("index", self.frames);
         self.page.signed_field("count", i64::from(count));
-        self.page.number_field(
-            "width",
-            shown(frame.width(), rectangle.left, rectangle.right),
-        );
-        self.page.number_field(
-            "height",
-            shown(frame.height(), rectangle.top, rectangle.bottom),
-        );
+        self.page
+            .number_field("width", width(frame, rectangle) as u64);
+        self.page
+            .number_field("height", height(frame, rectangle) as u64);
         if made.is_err() {
             self.page.give_up();
         }
@@ -170,12 +167,6 @@ impl<'a, W: Device> JsonSink<'a, W> {
         self.page.close_object();
         self.frames = self.frames.saturating_add(1);
     }
-}
-
-/// Luma samples of a side that are shown.
-fn shown(side: usize, before: usize, after: usize) -> u64 {
-    let cut = before.saturating_add(after).saturating_mul(2);
-    side.saturating_sub(cut) as u64
 }
 
 /// The last word of a line.

@@ -1,10 +1,12 @@
 //! What the program prints of a stream: lines, frames as bytes, and the last elements.
 //!
 //! `unit_line`, `slice_line`, `frame_line`, `element_line` and `verdict_line` make each line without its line end, in ASCII. `LineSink` writes a line for
-//! each unit, slice or frame to a writer, `YuvSink` the samples of each frame, and `TrailSink` keeps the last 16 elements. `list`, `check` and `decode` judge
-//! a stream with one of them, and write the last line. Promised: exactly the texts of `specs/Lines.antt`; that a writer which tells its bytes holds the lines
-//! or the samples of the calls taken, in order, and after a failure a part of the last; that a trail has the last 16 elements; and of the three that run a
-//! judgement, what stands in `specs/Written.antt`: the last line is that of the answer in this mode, and what stands before it is of the calls up to there.
+//! each unit, slice, element or frame to a writer, `YuvSink` the samples of each frame, `Y4mSink` frames with their header, `JsonSink` objects; `TrailSink`
+//! keeps the last 16 elements, and `PageSink` what a page shows. `list`, `check` and `decode` judge a stream with one of them, and write the last line.
+//! Promised: exactly the texts of `specs/Lines.antt`; that a writer which tells its bytes holds the lines, the samples or the frames of the calls taken, in
+//! order, and after a failure a part of the last; that a trail has the last 16 elements; and of the three that run a judgement, what stands in
+//! `specs/Written.antt`: the last line is that of the answer in this mode, and what stands before it is of the calls up to there; a failed read or write is
+//! told, and only where there was one. Nothing is promised of what `JsonSink` and `PageSink` make.
 #![tactic(auto)]
 
 pub mod device;

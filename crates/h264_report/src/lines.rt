@@ -107,6 +107,7 @@ pub fn element_line(
     Ok(())
 }
 
+/// The last line of a yes. AllocError: there is no memory for it.
 fn yes_line(alloc: Global, mode: Mode, summary: Summary) -> Result<String, AllocError>
     ensures { IfOk result (λ s. string_bytes s ≡ yes_text mode summary) }
 {
@@ -122,6 +123,7 @@ fn yes_line(alloc: Global, mode: Mode, summary: Summary) -> Result<String, Alloc
     }
 }
 
+/// The last line of a no. AllocError: there is no memory for it.
 fn no_line(alloc: Global, bit: u64, rule: Rule) -> Result<String, AllocError>
     ensures { IfOk result (λ s. string_bytes s ≡ no_text bit rule) }
 {
@@ -130,6 +132,7 @@ fn no_line(alloc: Global, bit: u64, rule: Rule) -> Result<String, AllocError>
     format!(in alloc; "no: bit {bit}: {label} (clause {clause})")
 }
 
+/// The last line of an outside. AllocError: there is no memory for it.
 fn outside_line(alloc: Global, bit: u64, feature: Feature) -> Result<String, AllocError>
     ensures { IfOk result (λ s. string_bytes s ≡ outside_text bit feature) }
 {
@@ -137,13 +140,14 @@ fn outside_line(alloc: Global, bit: u64, feature: Feature) -> Result<String, All
     format!(in alloc; "outside: bit {bit}: {text}")
 }
 
+/// A line that is this text. AllocError: there is no memory for it.
 fn plain_line(alloc: Global, text: &str) -> Result<String, AllocError>
     ensures { IfOk result (λ s. string_bytes s ≡ text.now) }
 {
     format!(in alloc; "{text}")
 }
 
-/// The last line: the verdict on a stream that was judged so far.
+/// The last line, without its end: the verdict on a stream that was judged in this mode. AllocError: there is no memory for it.
 pub fn verdict_line(
     alloc: Global,
     mode: Mode,

@@ -1,6 +1,6 @@
 //! Texts on a stream that was surveyed: the explanation of a no, objects of JSON, a summary, and an HTML page.
 //!
-//! `Finding::of` says where a verdict stands and what was found there. `put_explanation` and `put_verdict` write it as lines and as an object of
+//! `Finding::of` says where a verdict stands and what was found there. `put_explanation` and `put_verdict_fields` write it as lines and as fields of
 //! JSON, `put_info` and `put_info_object` what a stream has, and `put_page` an HTML page. All write into a `Page`, which notes a want of memory and
 //! never fails a call. Nothing is promised of the texts but that each call is safe and ends: they are tested.
 #![tactic(auto)]
@@ -24,5 +24,5 @@ pub use explanation::put_explanation;
 pub use finding::{Answer, Finding, Guide};
 pub use html::{Sheets, put_page};
 pub use info::{put_info, put_info_object};
-pub use object::put_verdict;
+pub use object::{put_answer_fields, put_verdict_fields};
 pub use page::Page;

@@ -129,7 +129,7 @@ const SLICE_DATA: [Case; 18] = [
     },
     // The bytes of a unit are judged before the unit ends the picture.
     Case {
-        name: "unit behind a picture broken",
+        name: "unit after a picture broken",
         stream: "000000016742c00ada710000000168ce388000000165888493c000000106050000030480",
         text: "no: bit 272: Emulation (clause 7.4.1)\n",
         status: 1,

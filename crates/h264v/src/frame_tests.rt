@@ -128,7 +128,7 @@ const COMPUTED: [Case; 20] = [
     },
     // 1 is missing, and ref_idx_l0 is 1.
     Case {
-        name: "reference behind a gap",
+        name: "reference after a gap",
         stream: "000000016742c00adbf10000000168ce388000000165888493c0000001619a547780",
         text: "frame 0 count 0 16x16 md5 02b5d5d5ba2a5de00017b31c40c527bc\nframe 1 count 4 16x16 md5 02b5d5d5ba2a5de00017b31c40c527bc\n\
             yes: units 4 pictures 2 frames 2\n",
@@ -136,7 +136,7 @@ const COMPUTED: [Case; 20] = [
     },
     // 1, 2 and 3 are missing.
     Case {
-        name: "intra picture behind a gap",
+        name: "intra picture after a gap",
         stream: "000000016742c00adbf10000000168ce388000000165888493c00000016188a24f",
         text: "frame 0 count 0 16x16 md5 02b5d5d5ba2a5de00017b31c40c527bc\nframe 1 count 8 16x16 md5 02b5d5d5ba2a5de00017b31c40c527bc\n\
             yes: units 4 pictures 2 frames 2\n",
@@ -144,7 +144,7 @@ const COMPUTED: [Case; 20] = [
     },
     // 1 is missing once.
     Case {
-        name: "pictures of one number behind a gap",
+        name: "pictures of one number after a gap",
         stream: "000000016742c00adbf10000000168ce388000000165888493c00000010188949e0000016188924f",
         text: "frame 0 count 0 16x16 md5 02b5d5d5ba2a5de00017b31c40c527bc\nframe 1 count 3 16x16 md5 02b5d5d5ba2a5de00017b31c40c527bc\n\
             frame 2 count 4 16x16 md5 02b5d5d5ba2a5de00017b31c40c527bc\nyes: units 5 pictures 3 frames 3\n",

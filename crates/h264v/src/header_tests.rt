@@ -16,7 +16,7 @@ const PICTURES: [Case; 14] = [
     },
     // Parameter sets alone are no picture.
     Case {
-        name: "no picture behind sets",
+        name: "no picture after sets",
         stream: "000000016742c00ada710000000168ce3880",
         text: "no: bit 144: NoPicture (clause 7.4.1)\n",
         status: 1,

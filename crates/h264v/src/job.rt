@@ -10,8 +10,8 @@ use crate::options::Options;
 use h264_base::{Mode, Stop};
 use h264_report::head::Head;
 use h264_report::pages::{
-    Answer, Finding, Page, Sheets, put_explanation, put_info, put_info_object, put_page,
-    put_verdict,
+    Answer, Finding, Page, Sheets, put_answer_fields, put_explanation, put_info, put_info_object,
+    put_page, put_verdict_fields,
 };
 use h264_report::survey::{Meter, Narrowed, Survey, Surveyed};
 use h264_report::{
@@ -399,6 +399,38 @@ fn put_last_lines(job: &Job<'_>, page: &mut Page, found: &Found) {
     page.put("\n");
 }
 
+/// Adds the object of the answer.
+fn put_verdict_object(job: &Job<'_>, page: &mut Page, found: &Found) {
+    page.open_object(job.file, "verdict");
+    put_verdict_fields(
+        job.alloc,
+        page,
+        found.answer,
+        &found.survey,
+        finding_of(found),
+        guide_of(found.answer),
+    );
+    page.close_object();
+}
+
+/// The last line of an answer of memory or of a device, with its end.
+fn unjudged_line(stop: Stop) -> &'static str {
+    match stop {
+        Stop::Read => "read failed\n",
+        Stop::Write => "write failed\n",
+        _ => "memory\n",
+    }
+}
+
+/// What is said of an answer for which there was no memory: that a device failed, where the answer is that; else that memory was wanting.
+fn short_of(answer: Answer) -> Stop {
+    match answer {
+        Err(Stop::Read) => Stop::Read,
+        Err(Stop::Write) => Stop::Write,
+        _ => Stop::Memory,
+    }
+}
+
 /// Writes the end of a judgement: lines, or an object of JSON; nothing where quiet is asked.
 pub fn put_found<W: Write>(job: &Job<'_>, out: &mut W, found: &Found) -> Ending {
     let mut page = Page::new(job.alloc);
@@ -412,23 +444,16 @@ pub fn put_found<W: Write>(job: &Job<'_>, out: &mut W, found: &Found) -> Ending 
                 page.text_field("text", found.before.as_str().trim_end());
                 page.close_object();
             }
-            put_verdict(
-                job.alloc,
-                &mut page,
-                job.file,
-                found.answer,
-                &found.survey,
-                finding_of(found),
-                guide_of(found.answer),
-            );
+            put_verdict_object(job, &mut page, found);
         } else {
             put_last_lines(job, &mut page, found);
         }
     }
     if page.is_short() {
+        let stop = short_of(found.answer);
         return Ending {
-            answer: Err(Stop::Memory),
-            written: put_text(out, "memory\n"),
+            answer: Err(stop),
+            written: put_text(out, unjudged_line(stop)),
         };
     }
     Ending {
@@ -439,27 +464,20 @@ pub fn put_found<W: Write>(job: &Job<'_>, out: &mut W, found: &Found) -> Ending 
 
 /// Writes that a file was not judged, by an answer of memory or of a device.
 pub fn put_unjudged<W: Write>(job: &Job<'_>, out: &mut W, stop: Stop) -> Ending {
-    let text = match stop {
-        Stop::Read => "read failed",
-        Stop::Write => "write failed",
-        _ => "memory",
-    };
     let mut page = Page::new(job.alloc);
-    if job.options.json {
-        page.open_object(job.file, "verdict");
-        page.text_field("verdict", text);
-        page.number_field("status", if text == "memory" { 3 } else { 4 });
-        page.close_object();
+    page.open_object(job.file, "verdict");
+    put_answer_fields(&mut page, Err(stop));
+    page.close_object();
+    let text = if job.options.quiet {
+        ""
+    } else if job.options.json && !page.is_short() {
+        page.as_str()
     } else {
-        page.put(text);
-        page.put("\n");
-    }
-    if job.options.quiet {
-        page.clear();
-    }
+        unjudged_line(stop)
+    };
     Ending {
         answer: Err(stop),
-        written: put_text(out, page.as_str()),
+        written: put_text(out, text),
     }
 }
 

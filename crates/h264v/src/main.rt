@@ -98,6 +98,7 @@ impl Words for SystemWords<'_> {
     }
 }
 
+/// Hands what the system gives to the program, and its status to the system.
 fn main(rt: HostRuntime) -> ExitCode {
     let alloc: Global = rt.alloc();
     let mut err = WriteDevice::new(rt.stderr());

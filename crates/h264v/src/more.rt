@@ -24,6 +24,9 @@ use std::alloc::Global;
 use std::io;
 use std::io::Write;
 
+/// The exit status of a device that failed.
+const FAILED: u8 = 4;
+
 /// Makes files to write to.
 pub trait Maker {
     /// What is written to.
@@ -161,7 +164,7 @@ fn explain_labels<W: Write, E: Write>(
     if put_text(out, page.as_str()) {
         return 0;
     }
-    4
+    FAILED
 }
 
 /// Judges the open file as the task says. What the answer is written to is left to the caller.
@@ -308,7 +311,7 @@ fn do_files<O: Opener + Drop, W: Device, E: Write, M: Meter + Drop + Copy>(
         totals.put(&mut page);
     }
     if !put_text(out, page.as_str()) {
-        return 4;
+        return FAILED;
     }
     totals.worst
 }

@@ -65,7 +65,7 @@ const SIZES: &str =
     "000000016742c00ada710000000168ce388000000165888493c0000000016742c00ada2c400000000168ce38800000000165888224e4f0";
 
 /// Verdicts with what explains them, in lines and in JSON.
-const VERDICTS: [Asking; 8] = [
+const VERDICTS: [Asking; 9] = [
     Asking {
         words: &["h264v", "check", "--explain", "stream"],
         stream: GAP,
@@ -103,12 +103,25 @@ explain allowed 1, which follows PrevRefFrameNum 0 modulo MaxFrameNum 16; 0 in a
         err: "",
         status: 0,
     },
+    // The vector is 64 rows down, and what begins at the bit is the macroblock.
+    Asking {
+        words: &["h264v", "check", "--explain", "stream"],
+        stream: "000000016742c00ada710000000168ce388000000165888493c0000001619a23c01006",
+        out: &[
+            "explain bit 256 byte 32 unit 29 type 1\nexplain picture 1 frame 1 slice 0\nexplain macroblock 0 column 0 row 0\n\
+explain found mb_type bit 256 value 0\nexplain allowed vectors of -8192 to 8191 across and -256 to 255 down, in quarter samples, at level 1\n",
+            "no: bit 256: VectorRange (clause A.3)\n",
+        ],
+        err: "",
+        status: 1,
+    },
     // profile_idc 77 without its flag.
     Asking {
         words: &["h264v", "check", "--explain", "stream"],
         stream: "00000001674d000ada71",
         out: &[
-            "explain found profile_idc bit 40 value 77\nexplain allowed profile_idc 66; or 77 or 88 with constraint_set0_flag 1\n",
+            "explain found profile_idc bit 40 value 77\nexplain allowed profile_idc 66; or 77 or 88 with constraint_set0_flag 1; \
+the target main-ip takes 77 with any flags\n",
             "explain reason other-profile Main\n",
         ],
         err: "",
@@ -159,12 +172,12 @@ const LISTINGS: [Asking; 7] = [
         err: "",
         status: 0,
     },
-    // 256 + 64 + 64 bytes of 80.
+    // The digest is that of 256 + 64 + 64 bytes of 128.
     Asking {
         words: &["h264v", "frames", "--json", "stream"],
         stream: ONE,
         out: &[
-            "{\"file\":\"stream\",\"kind\":\"frame\",\"index\":0,\"count\":0,\"width\":16,\"height\":16,\"md5\":\"",
+            "{\"file\":\"stream\",\"kind\":\"frame\",\"index\":0,\"count\":0,\"width\":16,\"height\":16,\"md5\":\"02b5d5d5ba2a5de00017b31c40c527bc\"}\n",
         ],
         err: "",
         status: 0,
@@ -211,7 +224,7 @@ yes: units 4 pictures 2 frames 2\n",
 ];
 
 /// Several files, frames, pages, and words that are refused.
-const REST: [Asking; 14] = [
+const REST: [Asking; 18] = [
     Asking {
         words: &["h264v", "check", "stream", "stream2", "none"],
         stream: ONE,
@@ -265,6 +278,27 @@ total: files 3 yes 2 no 0 outside 0 memory 0 failed 1\n",
         status: 0,
     },
     Asking {
+        words: &["h264v", "explain", "--json", "VectorRange"],
+        stream: "",
+        out: &["{\"kind\":\"rule\",\"label\":\"VectorRange\",\"clause\":\"A.3\",\"breaks\":\""],
+        err: "",
+        status: 0,
+    },
+    Asking {
+        words: &["h264v", "explain", "--json", "Level6"],
+        stream: "",
+        out: &["{\"kind\":\"feature\",\"label\":\"Level6\",\"stands\":\""],
+        err: "",
+        status: 0,
+    },
+    Asking {
+        words: &["h264v", "explain", "--target", "baseline", "VectorRange"],
+        stream: "",
+        out: &[],
+        err: "h264v: explain takes no option but --json\n",
+        status: 64,
+    },
+    Asking {
         words: &["h264v", "explain", "VectorRange", "Vector"],
         stream: "",
         out: &[],
@@ -312,6 +346,14 @@ total: files 3 yes 2 no 0 outside 0 memory 0 failed 1\n",
         stream: SIZES,
         out: &["YUV4MPEG2 W16 H16 F25:1 Ip C420\nFRAME\n????"],
         err: "size changes from 16x16 to 32x16, and YUV4MPEG2 has no second header\nwrite failed\n",
+        status: 4,
+    },
+    Asking {
+        words: &["h264v", "decode", "--y4m", "--json", "stream"],
+        stream: SIZES,
+        out: &["YUV4MPEG2 W16 H16 F25:1 Ip C420\nFRAME\n????"],
+        err: "{\"file\":\"stream\",\"kind\":\"change\",\"text\":\"size changes from 16x16 to 32x16, and YUV4MPEG2 has no second header\"}\n\
+{\"file\":\"stream\",\"kind\":\"verdict\",\"verdict\":\"write failed\",\"status\":4}\n",
         status: 4,
     },
     Asking {

@@ -69,7 +69,7 @@ fn target_of(name: Option<&str>) -> Result<Target, Refusal> {
 }
 
 /// Why an option says nothing to a task.
-fn misplaced(task: Task, options: &Options<'_>) -> Option<Refusal> {
+fn misplaced(task: Task, options: &Options<'_>, names_target: bool) -> Option<Refusal> {
     if options.y4m && task != Task::Decode {
         return Some("--y4m belongs to decode");
     }
@@ -82,7 +82,6 @@ fn misplaced(task: Task, options: &Options<'_>) -> Option<Refusal> {
     if options.explain && !task.is_judging() {
         return Some("--explain belongs to check, units, headers, frames, decode and elements");
     }
-    let names_target = options.target == Target::MainIP;
     if task == Task::Explain && (options.quiet || options.progress || names_target) {
         return Some("explain takes no option but --json");
     }
@@ -141,7 +140,8 @@ pub fn options_of<'a>(wanted: &Wanted<'a>) -> Result<Options<'a>, Refusal> {
         target: target_of(wanted.value("target"))?,
     };
     let task = wanted.request.task;
-    if let Some(refusal) = misplaced(task, &options) {
+    let names_target = wanted.value("target").is_some();
+    if let Some(refusal) = misplaced(task, &options, names_target) {
         return Err(refusal);
     }
     if let Some(refusal) = exclusive(&options) {

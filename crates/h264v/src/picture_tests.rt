@@ -17,7 +17,7 @@ const ALL_EDGES: Slice<'static> = Slice {
 };
 
 /// An intra macroblock below and to the right of edges that the filter changes: its prediction comes from samples that are not filtered.
-const BEHIND_EDGES: Scene<'static> = Scene {
+const PAST_EDGES: Scene<'static> = Scene {
     across: 3,
     down: 3,
     constrained_intra_pred_flag: false,
@@ -195,7 +195,7 @@ fn check_scene(rt: &(impl Abort + AllocGlobal), name: &str, scene: &Scene) -> Re
 
 #[test]
 fn pictures(rt: HostRuntime) -> Result<(), Fail> {
-    check_scene(&rt, "behind edges", &BEHIND_EDGES)?;
+    check_scene(&rt, "past edges", &PAST_EDGES)?;
     check_scene(&rt, "other slices", &OTHER_SLICES)?;
     check_scene(&rt, "below one another", &BELOW_ONE_ANOTHER)?;
     check_scene(&rt, "constrained", &CONSTRAINED)?;

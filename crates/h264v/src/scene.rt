@@ -268,26 +268,26 @@ fn write_macroblock(
     address: usize,
     own: &Coded,
 ) -> Result<(), AllocError> {
-    let behind_p = if own.slice.p { 5 } else { 0 };
+    let inter_types = if own.slice.p { 5 } else { 0 };
     if own.slice.p {
         // mb_skip_run
         writer.ue(0)?;
     }
     match own.kind {
         Kind::Pcm(first) => {
-            writer.ue(25 + behind_p)?;
+            writer.ue(25 + inter_types)?;
             write_samples(writer, first)
         }
         Kind::Flat => {
             // I_16x16_2_0_0, intra_chroma_pred_mode, mb_qp_delta
-            writer.ue(3 + behind_p)?;
+            writer.ue(3 + inter_types)?;
             writer.ue(0)?;
             writer.se(0)?;
             write_no_coefficient(writer, picture, address)
         }
         Kind::DownLeft => {
             // I_NxN, modes, intra_chroma_pred_mode, coded_block_pattern 0
-            writer.ue(behind_p)?;
+            writer.ue(inter_types)?;
             write_modes(writer, picture, address)?;
             writer.ue(0)?;
             writer.ue(3)

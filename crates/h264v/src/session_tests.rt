@@ -231,12 +231,12 @@ impl<'a> Source for Bytes<'a> {
             return Ok(Some(0));
         }
         piece[0] = self.left[0];
-        self.left = behind_first(self.left);
+        self.left = after_first(self.left);
         Ok(Some(1))
     }
 }
 
-fn behind_first(bytes: &[u8]) -> &[u8]
+fn after_first(bytes: &[u8]) -> &[u8]
     requires { 0 < length bytes.now }
     ensures { result.now ≡ drop 1 bytes.now }
 {

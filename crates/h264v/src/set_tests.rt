@@ -212,7 +212,7 @@ const CASES_2: [Case; 16] = [
         text: "unit 3 type 7 ref 3 bytes 14\nno: bit 129: Vui (clause E.2)\n",
     },
     Case {
-        name: "set with a byte behind",
+        name: "set with a byte after it",
         stream: "0000016742c00af4e280",
         text: "unit 3 type 7 ref 3 bytes 7\nno: bit 70: Trailing (clause 7.3.2)\n",
     },

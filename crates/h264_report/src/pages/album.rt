@@ -71,7 +71,7 @@ fn colour_at(frame: &Frame, x: usize, y: usize) -> [u8; 3] {
     )
 }
 
-/// The bytes of a number of four bytes, the lowest first.
+/// Adds a number of four bytes, the lowest first; 0 for a greater one. Whether there was memory for it.
 fn put_u32(bytes: &mut Vec<u8>, value: usize) -> bool {
     let low = match u32::try_from(value) {
         Ok(low) => low,
@@ -87,13 +87,16 @@ fn put_u32(bytes: &mut Vec<u8>, value: usize) -> bool {
 /// The bytes of the head of a BMP.
 const HEAD: usize = 54;
 
-/// Adds the head of a BMP of 24 bits a sample, whose rows come from the top.
+/// The bytes of its second part, BITMAPINFOHEADER.
+const INFO: usize = 40;
+
+/// Adds the head of a BMP of 24 bits a place, whose samples take `size` bytes. Whether there was memory for it.
 fn put_head(bytes: &mut Vec<u8>, width: usize, height: usize, size: usize) -> bool {
     let mut done = bytes.extend_from_slice(b"BM").is_ok();
     done = put_u32(bytes, size.saturating_add(HEAD)) && done;
     done = put_u32(bytes, 0) && done;
     done = put_u32(bytes, HEAD) && done;
-    done = put_u32(bytes, 40) && done;
+    done = put_u32(bytes, INFO) && done;
     done = put_u32(bytes, width) && done;
     done = put_u32(bytes, height) && done;
     done = bytes.extend_from_slice(&[1, 0, 24, 0]).is_ok() && done;
@@ -131,7 +134,7 @@ fn grid_of(frame: &Frame, rectangle: Rectangle) -> Grid {
     }
 }
 
-/// Adds a row of a BMP, which is filled to four bytes.
+/// Adds a row of a BMP, which is filled to four bytes. Whether there was memory for it.
 fn put_row(bytes: &mut Vec<u8>, frame: &Frame, grid: Grid, row: usize) -> bool {
     let mut done = true;
     let y = grid.top.saturating_add(row.saturating_mul(grid.step));

@@ -164,7 +164,8 @@ fn put_complete(page: &mut Page, survey: &Survey) {
 /// What a rule allows, where the rule alone says it.
 fn fixed_text(rule: Rule) -> &'static str {
     match rule {
-        Rule::Profile => "profile_idc 66; or 77 or 88 with constraint_set0_flag 1",
+        Rule::Profile =>
+            "profile_idc 66; or 77 or 88 with constraint_set0_flag 1; the target main-ip takes 77 with any flags",
         Rule::IdrPicId => "another idr_pic_id than that of the IDR picture before",
         Rule::SliceType =>
             "I in an IDR picture and where no reference frame is held; after slice_type 5 or 7 that type in all slices of the picture",

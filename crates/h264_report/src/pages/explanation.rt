@@ -16,15 +16,12 @@ fn put_named(page: &mut Page, name: &str, value: Option<u64>) {
     }
 }
 
-/// The bits of a byte.
-const BYTE: u64 = 8;
-
 /// Adds the lines of the place: bit and byte, picture and slice, macroblock.
 fn put_place(page: &mut Page, survey: &Survey, finding: &Finding) {
     page.put("explain bit ");
     page.number(finding.bit);
     page.put(" byte ");
-    page.number(finding.bit / BYTE);
+    page.number(finding.byte());
     if let Some(unit) = survey.unit() {
         page.put(" unit ");
         page.number(unit.byte);

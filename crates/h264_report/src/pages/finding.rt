@@ -58,8 +58,8 @@ pub struct Finding {
     pub reason: Option<Reason>,
 }
 
-/// profile_idc of the profiles that are judged (A.2).
-const JUDGED_PROFILES: [u64; 3] = [66, 77, 88];
+/// The bits of a byte.
+const BITS_A_BYTE: u64 = 8;
 
 impl Reason {
     /// Its name in the field `reason`.
@@ -174,6 +174,11 @@ impl Finding {
         })
     }
 
+    /// The byte of the input with that bit.
+    pub fn byte(&self) -> u64 {
+        self.bit / BITS_A_BYTE
+    }
+
     /// The name of the element at the bit.
     pub fn element_name(&self) -> Option<ElementName> {
         match self.element {
@@ -181,9 +186,4 @@ impl Finding {
             None => None,
         }
     }
-}
-
-/// Whether a profile is one of those that are judged.
-pub fn is_judged(profile_idc: u64) -> bool {
-    JUDGED_PROFILES.contains(&profile_idc)
 }

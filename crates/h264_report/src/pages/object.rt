@@ -1,6 +1,7 @@
-//! The object of JSON of a verdict.
+//! The fields of JSON of a verdict.
 #![tactic(auto)]
 
+use crate::judging::answer_status;
 use crate::pages::allowed::put_allowed;
 use crate::pages::finding::{Answer, Finding, Guide, Reason};
 use crate::pages::page::Page;
@@ -9,42 +10,37 @@ use h264_base::Stop;
 use h264_verify::Summary;
 use std::alloc::Global;
 
-/// Adds the fields of a yes.
-fn put_yes(page: &mut Page, summary: Summary) {
-    page.text_field("verdict", "yes");
-    page.number_field("status", 0);
+/// The word of an answer in the field `verdict`.
+fn word_of(answer: Answer) -> &'static str {
+    match answer {
+        Ok(_) => "yes",
+        Err(Stop::No { .. }) => "no",
+        Err(Stop::Outside { .. }) => "outside",
+        Err(Stop::Memory) => "memory",
+        Err(Stop::Read) => "read failed",
+        Err(Stop::Write) => "write failed",
+    }
+}
+
+/// Adds the counts of a yes.
+fn put_summary(page: &mut Page, summary: Summary) {
     page.number_field("units", summary.units);
     page.number_field("pictures", summary.pictures);
     page.number_field("frames", summary.frames);
 }
 
-/// Adds the fields of an answer.
-fn put_answer(page: &mut Page, answer: Answer) {
+/// Adds the fields of an answer: its word and exit status; of a yes the counts, of a no the rule, of an outside the feature.
+pub fn put_answer_fields(page: &mut Page, answer: Answer) {
+    page.text_field("verdict", word_of(answer));
+    page.number_field("status", u64::from(answer_status(answer)));
     match answer {
-        Ok(summary) => put_yes(page, summary),
+        Ok(summary) => put_summary(page, summary),
         Err(Stop::No { rule, .. }) => {
-            page.text_field("verdict", "no");
-            page.number_field("status", 1);
             page.text_field("rule", rule.label());
             page.text_field("clause", rule.clause());
         }
-        Err(Stop::Outside { feature, .. }) => {
-            page.text_field("verdict", "outside");
-            page.number_field("status", 2);
-            page.text_field("feature", feature.text());
-        }
-        Err(Stop::Memory) => {
-            page.text_field("verdict", "memory");
-            page.number_field("status", 3);
-        }
-        Err(Stop::Read) => {
-            page.text_field("verdict", "read failed");
-            page.number_field("status", 4);
-        }
-        Err(Stop::Write) => {
-            page.text_field("verdict", "write failed");
-            page.number_field("status", 4);
-        }
+        Err(Stop::Outside { feature, .. }) => page.text_field("feature", feature.text()),
+        Err(_) => {}
     }
 }
 
@@ -64,13 +60,10 @@ fn put_reason(page: &mut Page, reason: Reason) {
     }
 }
 
-/// The bits of a byte.
-const BYTE: u64 = 8;
-
 /// Adds the fields of the place and of what was found there.
 fn put_finding(page: &mut Page, survey: &Survey, finding: &Finding) {
     page.number_field("bit", finding.bit);
-    page.number_field("byte", finding.bit / BYTE);
+    page.number_field("byte", finding.byte());
     if let Some(unit) = survey.unit() {
         page.number_field("unit", unit.byte);
         page.number_field("nal_unit_type", u64::from(unit.nal_unit_type));
@@ -111,18 +104,16 @@ fn put_allowed_field(
     }
 }
 
-/// Adds the object of a verdict, on a line of its own.
-pub fn put_verdict(
+/// Adds the fields of a verdict: the answer, where it stands and what was found there, and what is said of it to a reader.
+pub fn put_verdict_fields(
     alloc: Global,
     page: &mut Page,
-    file: &str,
     answer: Answer,
     survey: &Survey,
     finding: Option<Finding>,
     guide: Option<Guide<'_>>,
 ) {
-    page.open_object(file, "verdict");
-    put_answer(page, answer);
+    put_answer_fields(page, answer);
     if let Some(finding) = finding {
         put_finding(page, survey, &finding);
         put_allowed_field(alloc, page, answer, survey, &finding);
@@ -131,5 +122,4 @@ pub fn put_verdict(
         page.text_field("breaks", guide.breaks);
         page.text_field("cause", guide.cause);
     }
-    page.close_object();
 }

@@ -62,7 +62,7 @@ pub struct Slice {
 /// What the calls of a stream tell.
 #[derive(Drop)]
 pub struct Survey {
-    /// The last elements of the unit.
+    /// The last elements that were told.
     elements: HeapCircularBuffer<ReadElement>,
     pub(crate) units: u64,
     pub(crate) unit: Option<Unit>,

@@ -14,5 +14,5 @@ returns-clause-bytes c = λ bytes e.
     let b : c.args.self.now.left.now ≡ bytes = same c.args.self.now.left.now bytes e in
     let some : 0 < length c.args.self.now.left.now = search rules in (
       subst (λ l. l ≡ take 1 (slice_set c.args.piece.now 0 (slice_index c.args.self.now.left.now 0)) ++ drop 1 l) b (one-read c.args.self.now.left.now c.args.piece.now some c.requires.room),
-      ap (λ l. Some l) (c.behind_first-self.ensures ∙ ap (drop 1) b),
+      ap (λ l. Some l) (c.after_first-self.ensures ∙ ap (drop 1) b),
     )
