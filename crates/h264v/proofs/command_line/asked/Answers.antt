@@ -4,7 +4,7 @@ use Rattle.clap.specs.Words.{App, HasMatchesOf, Row, Text, first_of, is_simple, 
 use Rattle.clap.proofs.OnLiterals.{clap_on_literals}
 use Rattle.h264v.specs.declared.command_line.Request.{Request}
 use Rattle.h264v.specs.Words.{program, asks, found_by, IsRequest, AsksFor}
-use Rattle.h264v.proofs.asked.Goals as goal
+use Rattle.h264v.proofs.command_line.asked.Goals as goal
 
 simple : is_simple program ≡ true
 unfolding clap_on_literals

@@ -1,6 +1,6 @@
 use Rattle.std.proofs.Common.{◌≡◌, arith, refl, sym, ◌∙◌}
 use Rattle.h264v.proofs.Added.{added-none, added-one, added-all}
-use Rattle.h264v.proofs.program.Goals as goal
+use Rattle.h264v.proofs.command_line.program.Goals as goal
 
 pub loop-name-init : goal.loop-name-init
 loop-name-init c = record { local = c.bare-command.ensures.local; app = c.bare-command.ensures.app ∙ sym added-none }

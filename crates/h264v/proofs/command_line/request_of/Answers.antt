@@ -4,7 +4,7 @@ use Rattle.clap.specs.Walk.{rows_of}
 use Rattle.clap.specs.declared.parser.matches.ArgMatches.{ArgMatches}
 use Rattle.clap.proofs.WalkLemmas.{first_value-rows}
 use Rattle.h264v.specs.Words.{found_by, name_of}
-use Rattle.h264v.proofs.request_of.Goals as goal
+use Rattle.h264v.proofs.command_line.request_of.Goals as goal
 
 fused : {A B C : Type 0} (f : A → B) (g : B → C) (o : Option A) → option_map g (option_map f o) ≡ option_map (λ x. g (f x)) o
 fused f g None = refl

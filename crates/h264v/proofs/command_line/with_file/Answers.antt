@@ -1,7 +1,7 @@
 use Rattle.std.proofs.Common.{ap, ap₂, ◌∙◌, ◌||◌}
 use Rattle.std.proofs.lemmas.Result.{IfOk-weaker}
 use Rattle.clap.specs.Words.{App, app_of, with_subcommand}
-use Rattle.h264v.proofs.with_file.Goals as goal
+use Rattle.h264v.proofs.command_line.with_file.Goals as goal
 
 pub returns-clause-app : goal.returns-clause-app
 returns-clause-app c =

@@ -2,7 +2,7 @@ use Rattle.std.proofs.Common.{ap, ◌∙◌, codes}
 use Rattle.std.proofs.lemmas.Result.{IfOk-weaker}
 use Rattle.clap.specs.Words.{App}
 use Rattle.h264v.specs.Words.{with_flag}
-use Rattle.h264v.proofs.with_flags.Goals as goal
+use Rattle.h264v.proofs.command_line.with_flags.Goals as goal
 
 pub returns-clause-app : goal.returns-clause-app
 returns-clause-app c =
