@@ -4,6 +4,8 @@
 //! ask for nothing. It promises what `specs/Words.antt` defines on clap's own definition of a command line: that a request is the subcommand and the first
 //! FILE that the words name, and that words which the command line takes are refused for want of memory alone. Which options and which further files a
 //! request has is tested.
+#![tactic(auto)]
+
 ghost use Rattle.std.specs.Prelude.{◌≡◌, true, false, map, None, Some, IfOk, IfErr, IfSome, option_map, string_bytes};
 ghost use Rattle.clap.specs.Words.{app_of, takes, kind_of, with_rule};
 ghost use Rattle.clap.specs.declared.error.kind.ErrorKind.TheVariants as kinds;
