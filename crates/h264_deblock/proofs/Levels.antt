@@ -1,10 +1,9 @@
 -- What the filter of an edge's lines depends on, by what it has in common with other edges, and its strengths as numbers.
-use Rattle.std.proofs.Common.{◌≡◌, ◌≢◌, ℕ, zero, suc, ◌<◌, Bool, true, false, List, [], ◌∷◌, get_or, slice_index, arith, refl, sym, ap, ◌∙◌, subst, inl, inr}
+use Rattle.std.proofs.Common.{◌≡◌, ◌≢◌, ℕ, zero, suc, ◌<◌, Bool, true, false, List, [], ◌∷◌, get_or, slice_index, arith, refl, sym, ap, ◌∙◌, inl, inr}
 use Rattle.std.specs.Prelude.{replicate}
 use Rattle.std.proofs.lemmas.Simd.{get_or-replicate}
-use Rattle.h264_tables.specs.Thresholds.{alpha_rows, beta_rows}
 use Rattle.h264_deblock.specs.Edge.{index_of, filter_of, limits}
-use Rattle.h264_deblock.specs.Rows.{any_filter, filter_by}
+use Rattle.h264_deblock.specs.Rows.{any_filter}
 use Rattle.h264_deblock.specs.Limits.{quarter, IsIdle}
 use Rattle.h264_deblock.specs.CodedEdges.{named}
 use Rattle.h264_deblock.specs.Words.{names, fours, IsLevel, AreBelow}

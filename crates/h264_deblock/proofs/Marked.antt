@@ -1,12 +1,11 @@
 -- The edges of a macroblock by the strengths that the code has.
-use Rattle.std.proofs.Common.{◌≡◌, ℕ, ◌+◌, ◌*◌, ◌<◌, ◌≤◌, Bool, true, false, IsTrue, List, [], length, get_or, Option, is_some, refl, sym, ap, subst, arith}
+use Rattle.std.proofs.Common.{◌≡◌, ℕ, ◌<◌, true, false, List, [], length, get_or, refl, sym, ap, subst, arith}
 use Rattle.std.proofs.lemmas.List.{get_or_default}
 use Rattle.h264_plane.specs.Samples.{Samples, at, Holds}
 use Rattle.h264_deblock.specs.Filtering.{AreInside, edges_done}
 use Rattle.h264_deblock.specs.Steps.{side_qp, inner_edge}
 use Rattle.h264_deblock.specs.Words.{names, named_border, IsWord, AreWords}
 use Rattle.h264_deblock.specs.Marks.{AreMarks, luma_by, chroma_by, luma_list, chroma_list}
-use Rattle.h264_deblock.specs.declared.edge_parameters.EdgeParameters.{EdgeParameters}
 use Rattle.h264_deblock.specs.declared.by_level.Marks.{Marks}
 use Rattle.h264_deblock.specs.declared.slice_filter.SliceFilter.{SliceFilter}
 use Rattle.h264_deblock.proofs.CodedEdges.{inside}

@@ -1,6 +1,6 @@
 -- The strengths of an edge as numbers.
-use Rattle.std.proofs.Common.{◌≡◌, ◌≢◌, ℕ, zero, suc, ◌<◌, ◌≤◌, Bool, List, [], ◌∷◌, length, get_or, Option, Some, None, IsTrue, is_some, arith, refl, sym, ap, ◌∙◌, w32, subst}
-use Rattle.std.specs.Int.{from_le_bytes, to_le_bytes}
+use Rattle.std.proofs.Common.{◌≡◌, ℕ, zero, suc, ◌<◌, ◌≤◌, Bool, List, [], ◌∷◌, length, get_or, Option, Some, None, IsTrue, is_some, arith, refl, sym, w32, subst}
+use Rattle.std.specs.Int.{from_le_bytes}
 use Rattle.std.proofs.lemmas.Nat.{le_bytes_4}
 use Rattle.h264_plane.specs.Samples.{Samples, at, Holds}
 use Rattle.h264_deblock.specs.Edge.{edge_after}
@@ -9,7 +9,6 @@ use Rattle.h264_deblock.proofs.Beside.{edge_off}
 use Rattle.h264_deblock.specs.declared.plane_level.Border.{Border}
 use Rattle.h264_deblock.specs.Words.{named_border, names, zeros, fours, IsWord, AreWords}
 use Rattle.h264_deblock.specs.Limits.{AreAll}
-use Rattle.h264_deblock.specs.declared.edge_parameters.BoundaryStrength.{BoundaryStrength}
 use Rattle.h264_deblock.specs.declared.edge_parameters.BoundaryStrength.TheVariants.{Zero}
 
 -- none of four is 4

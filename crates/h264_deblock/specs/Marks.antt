@@ -1,5 +1,5 @@
 -- The strengths of the edges of a macroblock as the code has them. A working form.
-use Rattle.std.specs.Prelude.{ℕ, ◌<◌, Bool, true, false, IsTrue, List, [], ◌∷◌, get_or, Option, is_some}
+use Rattle.std.specs.Prelude.{ℕ, ◌<◌, true, false, IsTrue, List, [], ◌∷◌, get_or, Option, is_some}
 use Rattle.h264_deblock.specs.Filtering.{PlaneEdges}
 use Rattle.h264_deblock.specs.Steps.{border_edge, inner_edge}
 use Rattle.h264_deblock.specs.Words.{names, named_border, AreWords, HasWord}

@@ -1,4 +1,4 @@
-use Rattle.std.proofs.Common.{refl, arith, ◌*◌}
+use Rattle.std.proofs.Common.{refl, arith}
 use Rattle.h264_deblock.specs.Marks.{chroma_by}
 use Rattle.h264_deblock.proofs.Macroblocks.{four_edges}
 use Rattle.h264_deblock.proofs.Marked.{chroma-inside, word-at, edge-at}

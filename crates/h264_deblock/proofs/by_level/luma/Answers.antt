@@ -1,4 +1,4 @@
-use Rattle.std.proofs.Common.{refl, arith, ◌*◌}
+use Rattle.std.proofs.Common.{refl, arith}
 use Rattle.h264_deblock.specs.Marks.{luma_by}
 use Rattle.h264_deblock.proofs.Macroblocks.{eight_edges}
 use Rattle.h264_deblock.proofs.Marked.{luma-inside, word-at, edge-at}

@@ -1,4 +1,3 @@
-use Rattle.std.proofs.Common.{arith}
 use Rattle.h264_deblock.proofs.Groups.{is_four}
 use Rattle.h264_deblock.proofs.Levels.{strong-at, four-level, below-level, quarter-small}
 use Rattle.h264_deblock.proofs.limits.limits_at_level.Goals as goal
