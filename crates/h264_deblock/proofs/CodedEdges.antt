@@ -26,7 +26,7 @@ use Rattle.h264_deblock.specs.Filtering.{is_chroma, PlaneEdges, edges_of}
 use Rattle.h264_deblock.specs.declared.filtering.Edges.{Edges}
 use Rattle.h264_deblock.specs.declared.filtering.ChromaEdges.{ChromaEdges}
 use Rattle.h264_deblock.specs.declared.slice_filter.Deblocking.TheVariants.{Off}
-use Rattle.h264_deblock.specs.declared.coded.Border.{Border}
+use Rattle.h264_deblock.specs.Steps.{NamedBorder as Border}
 use Rattle.h264_deblock.specs.declared.edge_parameters.EdgeParameters.{EdgeParameters}
 use Rattle.h264_deblock.specs.declared.edge_parameters.BoundaryStrength.{BoundaryStrength}
 use Rattle.h264_deblock.specs.declared.edge_parameters.BoundaryStrength.TheVariants.{Zero, BelowFour, Four}

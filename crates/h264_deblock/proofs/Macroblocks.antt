@@ -295,6 +295,27 @@ four_edges e c r p q1 q2 q3 q4 o0 o1 o2 o3 wide tall inside e0 e1 e2 e3 h0 h1 h2
     let h = after_or 0 false true e.horizontal (8 * c) (8 * r) (8 * r) o2 p q2 q3 s (omega arith) e2 wide top (omega arith) (after_none false true e.horizontal (8 * c) (8 * r) p q2 s v1) h2 in
     edges_all 8 true e c r p q4 (after_or 1 false true e.horizontal (8 * c) (8 * r) (8 * r + 4) o3 p q3 q4 s refl e3 wide (λ h. omega arith) (omega arith) h h3)
 
+-- the eight edges of a macroblock of luma
+pub eight_edges : (e : PlaneEdges) (c r : ℕ) (p q1 q2 q3 q4 q5 q6 q7 q8 : Samples) (o0 o1 o2 o3 o4 o5 o6 o7 : Option EdgeParameters) → 16 * c + 16 ≤ p.width → 16 * r + 16 ≤ p.height → AreInside c r e →
+    o0 ≡ get_or e.vertical 0 None → o1 ≡ get_or e.vertical 1 None → o2 ≡ get_or e.vertical 2 None → o3 ≡ get_or e.vertical 3 None →
+    o4 ≡ get_or e.horizontal 0 None → o5 ≡ get_or e.horizontal 1 None → o6 ≡ get_or e.horizontal 2 None → o7 ≡ get_or e.horizontal 3 None →
+    Holds p q1 (edge_or o0 true false (16 * r) (16 * c) (at p)) → Holds q1 q2 (edge_or o1 true false (16 * r) (16 * c + 4) (at q1)) →
+    Holds q2 q3 (edge_or o2 true false (16 * r) (16 * c + 8) (at q2)) → Holds q3 q4 (edge_or o3 true false (16 * r) (16 * c + 12) (at q3)) →
+    Holds q4 q5 (edge_or o4 false false (16 * c) (16 * r) (at q4)) → Holds q5 q6 (edge_or o5 false false (16 * c) (16 * r + 4) (at q5)) →
+    Holds q6 q7 (edge_or o6 false false (16 * c) (16 * r + 8) (at q6)) → Holds q7 q8 (edge_or o7 false false (16 * c) (16 * r + 12) (at q7)) → Holds p q8 (edges_done 16 false e c r (at p))
+eight_edges e c r p q1 q2 q3 q4 q5 q6 q7 q8 o0 o1 o2 o3 o4 o5 o6 o7 wide tall inside e0 e1 e2 e3 e4 e5 e6 e7 h0 h1 h2 h3 h4 h5 h6 h7 =
+    let left : IsTrue (is_some o0) → 4 ≤ 16 * c = λ h. let i = inside.vertical (rw e0 at h) in omega (arith, i) in
+    let top : IsTrue (is_some o4) → 4 ≤ 16 * r = λ h. let i = inside.horizontal (rw e4 at h) in omega (arith, i) in
+    let s = edges_after 4 true false e.vertical (16 * r) (16 * c) (at p) in
+    let v0 = after_or 0 true false e.vertical (16 * r) (16 * c) (16 * c) o0 p p q1 (at p) (omega arith) e0 tall left (omega arith) (after_none true false e.vertical (16 * r) (16 * c) p p (at p) (holds_self p)) h0 in
+    let v1 = after_or 1 true false e.vertical (16 * r) (16 * c) (16 * c + 4) o1 p q1 q2 (at p) refl e1 tall (λ h. omega arith) (omega arith) v0 h1 in
+    let v2 = after_or 2 true false e.vertical (16 * r) (16 * c) (16 * c + 8) o2 p q2 q3 (at p) refl e2 tall (λ h. omega arith) (omega arith) v1 h2 in
+    let v3 = after_or 3 true false e.vertical (16 * r) (16 * c) (16 * c + 12) o3 p q3 q4 (at p) refl e3 tall (λ h. omega arith) (omega arith) v2 h3 in
+    let z0 = after_or 0 false false e.horizontal (16 * c) (16 * r) (16 * r) o4 p q4 q5 s (omega arith) e4 wide top (omega arith) (after_none false false e.horizontal (16 * c) (16 * r) p q4 s v3) h4 in
+    let z1 = after_or 1 false false e.horizontal (16 * c) (16 * r) (16 * r + 4) o5 p q5 q6 s refl e5 wide (λ h. omega arith) (omega arith) z0 h5 in
+    let z2 = after_or 2 false false e.horizontal (16 * c) (16 * r) (16 * r + 8) o6 p q6 q7 s refl e6 wide (λ h. omega arith) (omega arith) z1 h6 in
+    edges_all 16 false e c r p q8 (after_or 3 false false e.horizontal (16 * c) (16 * r) (16 * r + 12) o7 p q7 q8 s refl e7 wide (λ h. omega arith) (omega arith) z2 h7)
+
 -- ---- one macroblock further
 
 -- its edges are filtered in a plane that holds it as it was constructed

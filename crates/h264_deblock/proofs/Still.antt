@@ -9,7 +9,7 @@ use Rattle.h264_near.specs.Raster.{last_in, last_left}
 use Rattle.h264_deblock.specs.Edge.{lines_of}
 use Rattle.h264_deblock.specs.Filtering.{PlaneEdges, edges_after, edges_done, is_chroma}
 use Rattle.h264_deblock.specs.Limits.{AreAll}
-use Rattle.h264_deblock.specs.declared.coded.Border.{Border}
+use Rattle.h264_deblock.specs.Steps.{NamedBorder as Border}
 use Rattle.h264_deblock.specs.declared.edge_parameters.EdgeParameters.{EdgeParameters}
 use Rattle.h264_deblock.specs.declared.edge_parameters.BoundaryStrength.TheVariants.{Zero}
 use Rattle.h264_deblock.specs.declared.slice_filter.Deblocking.TheVariants.{Off}

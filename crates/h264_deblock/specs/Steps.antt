@@ -12,7 +12,6 @@ use Rattle.h264_near.specs.declared.context.Contexts.{Contexts}
 use Rattle.h264_near.specs.declared.context.Edge.{Edge}
 use Rattle.h264_near.specs.declared.motion.Motion.{Motion}
 use Rattle.h264_near.specs.declared.sides.Side.{Side}
-use Rattle.h264_deblock.specs.declared.coded.Border.{Border}
 use Rattle.h264_deblock.specs.declared.edge_parameters.EdgeParameters.{EdgeParameters}
 use Rattle.h264_deblock.specs.declared.edge_parameters.BoundaryStrength.{BoundaryStrength}
 use Rattle.h264_deblock.specs.declared.edge_parameters.BoundaryStrength.TheVariants.{Zero, BelowFour}
@@ -82,19 +81,24 @@ side_qp chroma qp offset = if chroma then chroma_qp_of qp offset else qp
 abbrev pub parameters : ℕ → ℕ → SliceFilter → List BoundaryStrength → EdgeParameters
 parameters qp_p qp_q filter strengths = record { qp_p = qp_p; qp_q = qp_q; filter_offset_a = filter.filter_offset_a; filter_offset_b = filter.filter_offset_b; strengths = strengths }
 
+-- the edge to a macroblock beside: the quantisation parameter of that one, and the strengths
+pub record NamedBorder : Type 0 where
+  pub qp : ℕ
+  pub strengths : List BoundaryStrength
+
 -- the edge to the macroblock p, whatever the plane
-unfoldable pub border_of : SliceFilter → Bool → Option CodedMacroblock → CodedMacroblock → Option Border
+unfoldable pub border_of : SliceFilter → Bool → Option CodedMacroblock → CodedMacroblock → Option NamedBorder
 border_of filter vertical None q = None
 border_of filter vertical (Some p) q = if filters filter.deblocking (p.slice == q.slice) then Some (record { qp = filter_qp_of p.prediction p.qp; strengths = strengths vertical 0 p q }) else None
 
 -- it is not filtered, or has no bS but 0
-abbrev pub IsStill : Option Border → Type 0
+abbrev pub IsStill : Option NamedBorder → Type 0
 IsStill None = Unit {0}
 IsStill (Some b) = AreAll Zero b.strengths
 
 -- and in a plane
-abbrev pub border_edge : Bool → ℕ → SliceFilter → Option Border → Option EdgeParameters
-border_edge chroma qp filter b = option_map (λ (e : Border). parameters (side_qp chroma e.qp filter.chroma_qp_index_offset) qp filter e.strengths) b
+abbrev pub border_edge : Bool → ℕ → SliceFilter → Option NamedBorder → Option EdgeParameters
+border_edge chroma qp filter b = option_map (λ (e : NamedBorder). parameters (side_qp chroma e.qp filter.chroma_qp_index_offset) qp filter e.strengths) b
 
 abbrev pub inner_edge : ℕ → SliceFilter → List BoundaryStrength → Option EdgeParameters
 inner_edge qp filter strengths = if filters filter.deblocking true then Some (parameters qp qp filter strengths) else None

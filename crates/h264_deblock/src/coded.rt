@@ -15,42 +15,18 @@ ghost use Rattle.h264_deblock.specs.Filtering.{edges_of, edges_done, is_chroma, 
 ghost use Rattle.h264_deblock.specs.declared.slice_filter.SliceFilter.{SliceFilter as Filter};
 ghost use Rattle.h264_deblock.specs.CodedEdges.{filters, coded_edges as edges_of_coded};
 ghost use Rattle.h264_deblock.specs.Steps.{IsBeside, is_even, side_qp, parameters, border_of, border_edge, inner_edge, IsStill};
+ghost use Rattle.h264_deblock.specs.Words.{names, named_border, IsWord};
 
+use crate::by_level::{Marks, filter_by};
 use crate::edge_parameters::{BoundaryStrength, EdgeParameters};
-use crate::filtering::{ChromaEdges, Edges, LumaEdges, NO_EDGES, macroblock};
-use crate::limits::are_all;
+use crate::filtering::{ChromaEdges, Edges, LumaEdges, NO_EDGES};
+use crate::named::{Word, is_zero, names};
+use crate::plane_level::{Border, qp_in};
 use crate::slice_filter::{Deblocking, SliceFilter, is_filtered};
 use crate::strengths::{border_strengths, inner_strengths, is_even, is_uniform};
 use h264_near::{Contexts, Edge, Near};
 use h264_plane::Frame;
 use h264_tables::chroma_qp;
-
-/// The edge between a macroblock and the one beside it: the quantisation parameter of that one, and the strengths.
-#[derive(Clone, Copy)]
-struct Border {
-    qp: u8,
-    strengths: [BoundaryStrength; 4],
-}
-
-/// Clip3(0, 51, z).
-#[inline]
-fn clip_51(z: i64) -> u8
-    ensures here { result ≡ clip_51 z }
-    ensures within { result ≤ 51 }
-{
-    z.clamp(0, 51) as u8
-}
-
-/// The quantisation parameter of luma, or of chroma: QPC by QPY and chroma_qp_index_offset (8.5.8).
-#[inline]
-fn qp_in(chroma: bool, qp: u8, filter: SliceFilter) -> u8
-    ensures { result ≡ side_qp chroma qp filter.chroma_qp_index_offset }
-{
-    if chroma {
-        return chroma_qp(clip_51(qp as i64 + filter.chroma_qp_index_offset as i64), 0);
-    }
-    qp
-}
 
 #[inline]
 fn parameters(
@@ -83,7 +59,8 @@ fn border_of(
     requires { even ≡ true → is_even own.now ≡ true }
     ensures inside { IsTrue (is_some result) → 0 < place }
     ensures here { (p : Option CodedMacroblock) (q : CodedMacroblock) → IsEdge (IsBeside vertical) beside.now p → Shows own.now q →
-        (place ≡ 0 → p ≡ None) → result ≡ border_of filter.now vertical p q }
+        (place ≡ 0 → p ≡ None) → named_border result ≡ border_of filter.now vertical p q }
+    ensures word { (b : Border) → result ≡ Some b → IsWord b.strengths }
 {
     if place == 0 {
         return None;
@@ -110,7 +87,7 @@ fn border_edge(
     qp: u8,
     filter: SliceFilter,
 ) -> Option<EdgeParameters>
-    ensures { result ≡ border_edge chroma qp filter border.now }
+    ensures { result ≡ border_edge chroma qp filter (named_border border.now) }
 {
     match border {
         None => None,
@@ -118,7 +95,7 @@ fn border_edge(
             qp_in(chroma, border.qp, filter),
             qp,
             filter,
-            border.strengths,
+            names(&border.strengths),
         )),
     }
 }
@@ -139,46 +116,46 @@ fn inner_edge(
 /// The luma edges of one direction.
 fn luma_along(
     border: &Option<Border>,
-    inner: &[[BoundaryStrength; 4]; 3],
+    inner: &[Word; 3],
     qp: u8,
     filter: SliceFilter,
 ) -> [Option<EdgeParameters>; 4]
     requires { filters filter.deblocking true ≡ true }
-    ensures { result ≡ border_edge false qp filter border.now ∷ inner_edge qp filter (get_or inner.now 0 []) ∷
-        inner_edge qp filter (get_or inner.now 1 []) ∷ inner_edge qp filter (get_or inner.now 2 []) ∷ [] }
+    ensures { result ≡ border_edge false qp filter (named_border border.now) ∷ inner_edge qp filter (names (get_or inner.now 0 [])) ∷
+        inner_edge qp filter (names (get_or inner.now 1 [])) ∷ inner_edge qp filter (names (get_or inner.now 2 [])) ∷ [] }
 {
     [
         border_edge(border, false, qp, filter),
-        inner_edge(inner[0], qp, filter),
-        inner_edge(inner[1], qp, filter),
-        inner_edge(inner[2], qp, filter),
+        inner_edge(names(&inner[0]), qp, filter),
+        inner_edge(names(&inner[1]), qp, filter),
+        inner_edge(names(&inner[2]), qp, filter),
     ]
 }
 
 /// And those of a chroma plane: the first one and the one in the middle.
 fn chroma_along(
     border: &Option<Border>,
-    inner: &[[BoundaryStrength; 4]; 3],
+    inner: &[Word; 3],
     qp: u8,
     filter: SliceFilter,
 ) -> [Option<EdgeParameters>; 2]
     requires { filters filter.deblocking true ≡ true }
-    ensures { result ≡ border_edge true qp filter border.now ∷ inner_edge qp filter (get_or inner.now 1 []) ∷ [] }
+    ensures { result ≡ border_edge true qp filter (named_border border.now) ∷ inner_edge qp filter (names (get_or inner.now 1 [])) ∷ [] }
 {
     [
         border_edge(border, true, qp, filter),
-        inner_edge(inner[1], qp, filter),
+        inner_edge(names(&inner[1]), qp, filter),
     ]
 }
 
 /// Whether an edge is not filtered, or has no bS but 0: no sample changes by it.
 #[inline]
 fn is_still(border: &Option<Border>) -> bool
-    ensures { result ≡ true → IsStill border.now }
+    ensures { result ≡ true → IsStill (named_border border.now) }
 {
     match border {
         None => true,
-        Some(border) => are_all(&border.strengths, BoundaryStrength::Zero),
+        Some(border) => is_zero(&border.strengths),
     }
 }
 
@@ -196,8 +173,8 @@ fn edges_by(
         AreInside column row (edges_of result p) }
     ensures edges { (slices : ℕ → Filter) (width : ℕ) (picture : List CodedMacroblock) (coded : CodedMacroblock) → Shows own.now coded →
         slices coded.slice ≡ filter.now → ((n : ℕ) → (slices n).chroma_qp_index_offset ≡ filter.now.chroma_qp_index_offset) →
-        left.now ≡ border_of filter.now true (last_left width picture) coded →
-        above.now ≡ border_of filter.now false (last_in width picture (length picture % width)) coded → (p : Component) →
+        named_border left.now ≡ border_of filter.now true (last_left width picture) coded →
+        named_border above.now ≡ border_of filter.now false (last_in width picture (length picture % width)) coded → (p : Component) →
         edges_of result p ≡ edges_of_coded slices width picture coded p }
 {
     let inner = inner_strengths(own, even);
@@ -274,6 +251,10 @@ pub fn filter_coded(frame: &mut Frame, coded: &Coded<'_>, column: usize, row: us
     if is_uniform(own, even) && is_still(&left) && is_still(&above) {
         return;
     }
-    let edges = edges_by(&left, &above, own, even, filter);
-    macroblock(frame, &edges, column, row);
+    let marks = Marks {
+        left,
+        above,
+        inner: inner_strengths(own, even),
+    };
+    filter_by(frame, &marks, own.qp, filter, column, row);
 }

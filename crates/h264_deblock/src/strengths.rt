@@ -5,31 +5,33 @@ ghost use Rattle.std.specs.Prelude.{◌≡◌, ◌<◌, nat_le, ◌-ℤ◌, unsi
 ghost use Rattle.h264_near.specs.Coded.{CodedMacroblock};
 ghost use Rattle.h264_near.specs.Keeps.{Shows};
 ghost use Rattle.h264_near.specs.Strength.{moves_apart};
-ghost use Rattle.h264_deblock.specs.CodedEdges.{strength_at, strengths};
+ghost use Rattle.h264_deblock.specs.CodedEdges.{named, strength_at, strengths};
+ghost use Rattle.h264_deblock.specs.Words.{names, all_names, IsWord, AreWords};
 ghost use Rattle.h264_deblock.specs.Steps.{IsBeside, inter_strength, number_at, inner_lines, alike, are_blank, are_like, are_alike, is_even, goes_on};
 ghost use Rattle.h264_deblock.specs.Steps.{HasStillLines};
 
-use crate::edge_parameters::BoundaryStrength;
+use crate::named::Word;
 use h264_near::block::number;
 use h264_near::{Contexts, Edge, Motion};
-use h264_tables::Strength;
 
 /// The strengths of the inner edges of a macroblock by their line of blocks, from 1 on, and the place along it.
 #[derive(Clone, Copy)]
 pub(crate) struct InnerStrengths {
-    pub vertical: [[BoundaryStrength; 4]; 3],
-    pub horizontal: [[BoundaryStrength; 4]; 3],
+    pub vertical: [Word; 3],
+    pub horizontal: [Word; 3],
 }
 
-const ZERO: [BoundaryStrength; 4] = [BoundaryStrength::Zero; 4];
+/// bS of blocks that have no coefficients and are predicted from different pictures, or by vectors a whole sample or more apart.
+const ONE: u8 = 1;
 
-const ONE: BoundaryStrength = BoundaryStrength::BelowFour(Strength::One);
+/// bS of blocks of which one has coefficients.
+const TWO: u8 = 2;
 
-const TWO: BoundaryStrength = BoundaryStrength::BelowFour(Strength::Two);
+const ZEROS: Word = [0; 4];
 
-const THREE: [BoundaryStrength; 4] = [BoundaryStrength::BelowFour(Strength::Three); 4];
+const THREES: Word = [3; 4];
 
-const FOUR: [BoundaryStrength; 4] = [BoundaryStrength::Four; 4];
+const FOURS: Word = [4; 4];
 
 /// Whether two components differ by a whole sample or more.
 #[inline(always)]
@@ -58,20 +60,21 @@ fn moves_apart(a: &Option<Motion>, b: &Option<Motion>) -> bool
 
 /// bS of two blocks of which neither is intra. `coded` says that one of them has coefficients, and `alike` that one picture and one vector predict both.
 #[inline(always)]
-fn inter(coded: bool, alike: bool, p: &Option<Motion>, q: &Option<Motion>) -> BoundaryStrength
+fn inter(coded: bool, alike: bool, p: &Option<Motion>, q: &Option<Motion>) -> u8
     requires { alike ≡ true → moves_apart p.now q.now ≡ false }
-    ensures { result ≡ inter_strength coded p.now q.now }
+    ensures here { named result ≡ inter_strength coded p.now q.now }
+    ensures small { result < 4 }
 {
     if coded {
         return TWO;
     }
     if alike {
-        return BoundaryStrength::Zero;
+        return 0;
     }
     if moves_apart(p, q) {
         return ONE;
     }
-    BoundaryStrength::Zero
+    0
 }
 
 /// The number of the block of a macroblock at this line of blocks, a column of them or a row, and the place along it.
@@ -90,11 +93,12 @@ fn number_at(vertical: bool, line: usize, k: usize) -> usize
 
 /// bS between a macroblock and the one beside it, neither of them intra.
 #[inline(always)]
-fn outer(edge: &Edge, own: &Contexts, vertical: bool, k: usize) -> BoundaryStrength
+fn outer(edge: &Edge, own: &Contexts, vertical: bool, k: usize) -> u8
     requires place { k < 4 }
     requires beside { edge.now.intra ≡ false }
     requires own { own.now.intra ≡ false }
-    ensures { (p q : CodedMacroblock) → IsBeside vertical edge.now p → Shows own.now q → result ≡ strength_at vertical 0 p q k }
+    ensures here { (p q : CodedMacroblock) → IsBeside vertical edge.now p → Shows own.now q → named result ≡ strength_at vertical 0 p q k }
+    ensures small { result < 4 }
 {
     let b = number_at(vertical, 0, k);
     let coded = (0 < edge.totals[k]) | (0 < own.totals[b]);
@@ -103,10 +107,11 @@ fn outer(edge: &Edge, own: &Contexts, vertical: bool, k: usize) -> BoundaryStren
 
 /// The strengths of the edge between two macroblocks of which neither is intra.
 #[inline(always)]
-fn outer_line(edge: &Edge, own: &Contexts, vertical: bool) -> [BoundaryStrength; 4]
+fn outer_line(edge: &Edge, own: &Contexts, vertical: bool) -> Word
     requires beside { edge.now.intra ≡ false }
     requires own { own.now.intra ≡ false }
-    ensures { (p q : CodedMacroblock) → IsBeside vertical edge.now p → Shows own.now q → result ≡ strengths vertical 0 p q }
+    ensures here { (p q : CodedMacroblock) → IsBeside vertical edge.now p → Shows own.now q → names result ≡ strengths vertical 0 p q }
+    ensures word { IsWord result }
 {
     [
         outer(edge, own, vertical, 0),
@@ -130,24 +135,20 @@ fn goes_on(edge: &Edge, motion: &Option<Motion>) -> bool
 /// The strengths of the edge between a macroblock and the one beside it, to the left or above. `even` says that nothing tells the blocks of the one
 /// apart: they have no coefficients, and one picture and one vector predict all of them.
 #[inline(always)]
-pub(crate) fn border_strengths(
-    edge: &Edge,
-    own: &Contexts,
-    even: bool,
-    vertical: bool,
-) -> [BoundaryStrength; 4]
+pub(crate) fn border_strengths(edge: &Edge, own: &Contexts, even: bool, vertical: bool) -> Word
     requires { even ≡ true → is_even own.now ≡ true }
-    ensures { (p q : CodedMacroblock) → IsBeside vertical edge.now p → Shows own.now q → result ≡ strengths vertical 0 p q }
+    ensures here { (p q : CodedMacroblock) → IsBeside vertical edge.now p → Shows own.now q → names result ≡ strengths vertical 0 p q }
+    ensures word { IsWord result }
 {
     if edge.intra {
-        return FOUR;
+        return FOURS;
     }
     if own.intra {
-        return FOUR;
+        return FOURS;
     }
     if even {
         if goes_on(edge, &own.motions[0]) {
-            return ZERO;
+            return ZEROS;
         }
     }
     outer_line(edge, own, vertical)
@@ -155,13 +156,14 @@ pub(crate) fn border_strengths(
 
 /// bS inside a macroblock that is not intra, before this line of blocks. `alike` says that one picture and one vector predict all its blocks.
 #[inline(always)]
-fn inner(own: &Contexts, alike: bool, vertical: bool, line: usize, k: usize) -> BoundaryStrength
+fn inner(own: &Contexts, alike: bool, vertical: bool, line: usize, k: usize) -> u8
     requires some { 0 < line }
     requires line { line < 4 }
     requires place { k < 4 }
     requires inter { own.now.intra ≡ false }
     requires alike { alike ≡ true → are_alike own.now.motions ≡ true }
-    ensures { (coded : CodedMacroblock) → Shows own.now coded → result ≡ strength_at vertical line coded coded k }
+    ensures here { (coded : CodedMacroblock) → Shows own.now coded → named result ≡ strength_at vertical line coded coded k }
+    ensures small { result < 4 }
 {
     let p = number_at(vertical, line - 1, k);
     let q = number_at(vertical, line, k);
@@ -171,12 +173,13 @@ fn inner(own: &Contexts, alike: bool, vertical: bool, line: usize, k: usize) -> 
 
 /// The strengths of the edge before a line of blocks, likewise.
 #[inline(always)]
-fn inner_line(own: &Contexts, alike: bool, vertical: bool, line: usize) -> [BoundaryStrength; 4]
+fn inner_line(own: &Contexts, alike: bool, vertical: bool, line: usize) -> Word
     requires some { 0 < line }
     requires line { line < 4 }
     requires inter { own.now.intra ≡ false }
     requires alike { alike ≡ true → are_alike own.now.motions ≡ true }
-    ensures { (coded : CodedMacroblock) → Shows own.now coded → result ≡ strengths vertical line coded coded }
+    ensures here { (coded : CodedMacroblock) → Shows own.now coded → names result ≡ strengths vertical line coded coded }
+    ensures word { IsWord result }
 {
     [
         inner(own, alike, vertical, line, 0),
@@ -188,10 +191,11 @@ fn inner_line(own: &Contexts, alike: bool, vertical: bool, line: usize) -> [Boun
 
 /// The strengths of the inner edges of one direction.
 #[inline(always)]
-fn inner_lines(own: &Contexts, alike: bool, vertical: bool) -> [[BoundaryStrength; 4]; 3]
+fn inner_lines(own: &Contexts, alike: bool, vertical: bool) -> [Word; 3]
     requires inter { own.now.intra ≡ false }
     requires alike { alike ≡ true → are_alike own.now.motions ≡ true }
-    ensures { (coded : CodedMacroblock) → Shows own.now coded → result ≡ inner_lines vertical coded }
+    ensures here { (coded : CodedMacroblock) → Shows own.now coded → all_names result ≡ inner_lines vertical coded }
+    ensures words { AreWords result }
 {
     [
         inner_line(own, alike, vertical, 1),
@@ -206,8 +210,10 @@ fn inner_lines(own: &Contexts, alike: bool, vertical: bool) -> [[BoundaryStrengt
 fn by_blocks<const ALIKE: bool>(own: &Contexts) -> InnerStrengths
     requires inter { own.now.intra ≡ false }
     requires alike { ALIKE ≡ true → are_alike own.now.motions ≡ true }
-    ensures vertical { (coded : CodedMacroblock) → Shows own.now coded → result.vertical ≡ inner_lines true coded }
-    ensures horizontal { (coded : CodedMacroblock) → Shows own.now coded → result.horizontal ≡ inner_lines false coded }
+    ensures vertical { (coded : CodedMacroblock) → Shows own.now coded → all_names result.vertical ≡ inner_lines true coded }
+    ensures horizontal { (coded : CodedMacroblock) → Shows own.now coded → all_names result.horizontal ≡ inner_lines false coded }
+    ensures vertical_words { AreWords result.vertical }
+    ensures horizontal_words { AreWords result.horizontal }
 {
     InnerStrengths {
         vertical: inner_lines(own, ALIKE, true),
@@ -294,19 +300,21 @@ pub(crate) fn is_uniform(own: &Contexts, even: bool) -> bool
 /// The strengths of the inner edges of a macroblock; `even` says that nothing tells its blocks apart.
 pub(crate) fn inner_strengths(own: &Contexts, even: bool) -> InnerStrengths
     requires { even ≡ true → is_even own.now ≡ true }
-    ensures vertical { (coded : CodedMacroblock) → Shows own.now coded → result.vertical ≡ inner_lines true coded }
-    ensures horizontal { (coded : CodedMacroblock) → Shows own.now coded → result.horizontal ≡ inner_lines false coded }
+    ensures vertical { (coded : CodedMacroblock) → Shows own.now coded → all_names result.vertical ≡ inner_lines true coded }
+    ensures horizontal { (coded : CodedMacroblock) → Shows own.now coded → all_names result.horizontal ≡ inner_lines false coded }
+    ensures vertical_words { AreWords result.vertical }
+    ensures horizontal_words { AreWords result.horizontal }
 {
     if own.intra {
         return InnerStrengths {
-            vertical: [THREE; 3],
-            horizontal: [THREE; 3],
+            vertical: [THREES; 3],
+            horizontal: [THREES; 3],
         };
     }
     if even {
         return InnerStrengths {
-            vertical: [ZERO; 3],
-            horizontal: [ZERO; 3],
+            vertical: [ZEROS; 3],
+            horizontal: [ZEROS; 3],
         };
     }
     if are_alike(&own.motions) {

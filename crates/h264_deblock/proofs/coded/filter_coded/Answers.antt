@@ -1,11 +1,16 @@
-use Rattle.std.proofs.Common.{◌+◌, ◌*◌, ◌≤◌, ◌%◌, length, subst}
+use Rattle.std.proofs.Common.{true, false, refl, ◌+◌, ◌*◌, ◌≤◌, ◌%◌, length, subst}
 use Rattle.h264_plane.specs.Frames.{plane_of}
 use Rattle.h264_plane.specs.Places.{side}
-use Rattle.h264_plane.specs.Samples.{at, Holds}
+use Rattle.h264_plane.specs.Samples.{at, Holds, IsSized}
+use Rattle.h264_plane.specs.declared.frame.Component.TheVariants.{Y, Cb, Cr}
 use Rattle.h264_plane.specs.declared.frame.Frame.{Frame}
 use Rattle.h264_near.specs.Raster.{last_in, last_left}
 use Rattle.h264_deblock.specs.Filtering.{PlaneEdges, edges_done, is_chroma}
-use Rattle.h264_deblock.proofs.CodedEdges.{by-plane, left-none, above-none}
+use Rattle.h264_deblock.specs.CodedEdges.{coded_edges}
+use Rattle.h264_deblock.specs.Steps.{side_qp}
+use Rattle.h264_deblock.proofs.CodedEdges.{by-plane, left-none, above-none, qp-is, pair-is, luma-list, chroma-list}
+use Rattle.h264_deblock.specs.Words.{all_names, named_border}
+use Rattle.h264_deblock.proofs.Numbers.{some-named}
 use Rattle.h264_deblock.proofs.Still.{off, still}
 use Rattle.h264_deblock.proofs.coded.filter_coded.Goals as goal
 
@@ -20,23 +25,55 @@ pub returns-then-is_still-2-clause-filtered : goal.returns-then-is_still-2-claus
 returns-then-is_still-2-clause-filtered c slices w xs q k s size h is o p =
     let f : Frame = c.args.frame.now in
     let own = c.is_uniform.ensures c.if-is_uniform.true q s in
-    still slices w xs q c.args.coded.now.filter.now c.border_of-left.result c.border_of-above.result is o
+    still slices w xs q c.args.coded.now.filter.now (named_border c.border_of-left.result) (named_border c.border_of-above.result) is o
     (c.border_of-left.ensures.here (last_left w xs) q (c.left_edge.ensures w xs k) s (left-none w xs c.args.column c.args.row size h))
     (c.border_of-above.ensures.here (last_in w xs (length xs % w)) q (c.above_edge.ensures w xs k) s (above-none w xs c.args.column c.args.row size h))
-    own.vertical own.horizontal (c.is_still.ensures c.if-is_still.true) (c.is_still-then-is_still.ensures c.if-is_still-2.true) c.args.column c.args.row c.border_of-left.ensures.inside c.border_of-above.ensures.inside p (plane_of p f)
+    own.vertical own.horizontal (c.is_still.ensures c.if-is_still.true) (c.is_still-then-is_still.ensures c.if-is_still-2.true) c.args.column c.args.row (λ h. c.border_of-left.ensures.inside (some-named c.border_of-left.result h)) (λ h. c.border_of-above.ensures.inside (some-named c.border_of-above.result h)) p (plane_of p f)
     (by-plane (λ z. side z * c.args.column + side z ≤ (plane_of z f).width) c.requires.y.0 c.requires.cb.0 c.requires.cr.0 p)
     (by-plane (λ z. side z * c.args.row + side z ≤ (plane_of z f).height) c.requires.y.1 c.requires.cb.1 c.requires.cr.1 p)
 
-pub macroblock-requires-clause-inside : goal.macroblock-requires-clause-inside
-macroblock-requires-clause-inside c = c.edges_by-edges.ensures.inside c.args.column c.args.row c.border_of-left.ensures.inside c.border_of-above.ensures.inside
+pub filter_by-requires-clause-marks : goal.filter_by-requires-clause-marks
+filter_by-requires-clause-marks c = record {
+  left = c.border_of-left.ensures.word;
+  above = c.border_of-above.ensures.word;
+  vertical = c.inner_strengths.ensures.vertical_words;
+  horizontal = c.inner_strengths.ensures.horizontal_words;
+  columns = c.border_of-left.ensures.inside;
+  rows = c.border_of-above.ensures.inside;
+}
 
 pub returns-clause-size : goal.returns-clause-size
-returns-clause-size c p = record { columns = (c.macroblock.ensures.filtered p).width; rows = (c.macroblock.ensures.filtered p).height }
+returns-clause-size c p =
+    by-plane (λ z. IsSized (plane_of z c.filter_by.new.frame) (plane_of z c.args.frame.now).width (plane_of z c.args.frame.now).height)
+    (record { columns = c.filter_by.ensures.y.width; rows = c.filter_by.ensures.y.height })
+    (record { columns = c.filter_by.ensures.cb.width; rows = c.filter_by.ensures.cb.height })
+    (record { columns = c.filter_by.ensures.cr.width; rows = c.filter_by.ensures.cr.height }) p
 
 pub returns-clause-filtered : goal.returns-clause-filtered
 returns-clause-filtered c slices w xs q k s size h is o p =
-    let f : Frame = c.args.frame.now in
+    let f = c.args.coded.now.filter.now in
+    let old : Frame = c.args.frame.now in
+    let new : Frame = c.filter_by.new.frame in
     let left = c.border_of-left.ensures.here (last_left w xs) q (c.left_edge.ensures w xs k) s (left-none w xs c.args.column c.args.row size h) in
     let above = c.border_of-above.ensures.here (last_in w xs (length xs % w)) q (c.above_edge.ensures w xs k) s (above-none w xs c.args.column c.args.row size h) in
-    subst (λ (e : PlaneEdges). Holds (plane_of p f) (plane_of p c.macroblock.new.frame) (edges_done (side p) (is_chroma p) e c.args.column c.args.row (at (plane_of p f))))
-    (c.edges_by-edges.ensures.edges slices w xs q s is o left above p) (c.macroblock.ensures.filtered p)
+    let own = c.args.coded.now.own.now in
+    let inner = c.inner_strengths.result in
+    let a = named_border c.border_of-left.result in
+    let b = named_border c.border_of-above.result in
+    let v = c.inner_strengths.ensures.vertical q s in
+    let z = c.inner_strengths.ensures.horizontal q s in
+    let qp = side_qp true own.qp f.chroma_qp_index_offset in
+    let y = qp-is slices Y q false own.qp f.chroma_qp_index_offset refl s.qp (o q.slice) in
+    let cb = qp-is slices Cb q true own.qp f.chroma_qp_index_offset refl s.qp (o q.slice) in
+    let cr = qp-is slices Cr q true own.qp f.chroma_qp_index_offset refl s.qp (o q.slice) in
+    by-plane (λ z. Holds (plane_of z old) (plane_of z new) (edges_done (side z) (is_chroma z) (coded_edges slices w xs q z) c.args.column c.args.row (at (plane_of z old))))
+    (subst (λ (e : PlaneEdges). Holds old.y new.y (edges_done 16 false e c.args.column c.args.row (at old.y)))
+    (pair-is slices w xs q Y _ _ (luma-list slices true (last_left w xs) q f own.qp a (all_names inner.vertical) is o left v y) (luma-list slices false (last_in w xs (length xs % w)) q f own.qp b (all_names inner.horizontal) is o above z y))
+    c.filter_by.ensures.y)
+    (subst (λ (e : PlaneEdges). Holds old.cb new.cb (edges_done 8 true e c.args.column c.args.row (at old.cb)))
+    (pair-is slices w xs q Cb _ _ (chroma-list slices true (last_left w xs) q f qp a (all_names inner.vertical) is o left v Cb refl cb) (chroma-list slices false (last_in w xs (length xs % w)) q f qp b (all_names inner.horizontal) is o above z Cb refl cb))
+    c.filter_by.ensures.cb)
+    (subst (λ (e : PlaneEdges). Holds old.cr new.cr (edges_done 8 true e c.args.column c.args.row (at old.cr)))
+    (pair-is slices w xs q Cr _ _ (chroma-list slices true (last_left w xs) q f qp a (all_names inner.vertical) is o left v Cr refl cr) (chroma-list slices false (last_in w xs (length xs % w)) q f qp b (all_names inner.horizontal) is o above z Cr refl cr))
+    c.filter_by.ensures.cr)
+    p

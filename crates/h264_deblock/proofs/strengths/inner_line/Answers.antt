@@ -1,5 +1,9 @@
 use Rattle.h264_deblock.proofs.CodedEdges.{four}
+use Rattle.h264_deblock.proofs.Numbers.{below-word}
 use Rattle.h264_deblock.proofs.strengths.inner_line.Goals as goal
 
-pub returns : goal.returns
-returns c m s = four c.args.vertical c.args.line m m _ _ _ _ (c.inner.ensures m s) (c.inner-2.ensures m s) (c.inner-3.ensures m s) (c.inner-4.ensures m s)
+pub returns-clause-here : goal.returns-clause-here
+returns-clause-here c m s = four c.args.vertical c.args.line m m _ _ _ _ (c.inner.ensures.here m s) (c.inner-2.ensures.here m s) (c.inner-3.ensures.here m s) (c.inner-4.ensures.here m s)
+
+pub returns-clause-word : goal.returns-clause-word
+returns-clause-word c = below-word _ _ _ _ c.inner.ensures.small c.inner-2.ensures.small c.inner-3.ensures.small c.inner-4.ensures.small

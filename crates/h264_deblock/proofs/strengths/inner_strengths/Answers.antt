@@ -1,5 +1,6 @@
 use Rattle.std.proofs.Common.{◌≡◌, true, false, length, arith}
 use Rattle.h264_deblock.proofs.CodedEdges.{strong-lines, even-lines}
+use Rattle.h264_deblock.proofs.Numbers.{threes-words, zeros-words}
 use Rattle.h264_deblock.proofs.strengths.inner_strengths.Goals as goal
 
 pub returns-then-own-clause-vertical : goal.returns-then-own-clause-vertical
@@ -15,4 +16,12 @@ returns-then-even c =
     record {
       vertical = λ m s. even-lines true own m s a c.if-own.false (c.requires c.if-even.true);
       horizontal = λ m s. even-lines false own m s a c.if-own.false (c.requires c.if-even.true);
+      vertical_words = zeros-words;
+      horizontal_words = zeros-words;
     }
+
+pub returns-then-own-clause-vertical_words : goal.returns-then-own-clause-vertical_words
+returns-then-own-clause-vertical_words c = threes-words
+
+pub returns-then-own-clause-horizontal_words : goal.returns-then-own-clause-horizontal_words
+returns-then-own-clause-horizontal_words c = threes-words

@@ -1,0 +1,212 @@
+//! The edges of a macroblock of the coded picture, filtered by their strengths and by what they have in common (8.7).
+#![tactic(auto)]
+
+ghost use Rattle.std.specs.Prelude.{◌≡◌, ◌+◌, ◌*◌, ◌<◌, ◌≤◌, true, false, IsTrue, is_some};
+ghost use Rattle.h264_plane.specs.Samples.{at, size_along, size_across, Holds};
+ghost use Rattle.h264_deblock.specs.Filtering.{edge_or, edges_done};
+ghost use Rattle.h264_deblock.specs.CodedEdges.{filters};
+ghost use Rattle.h264_deblock.specs.Steps.{side_qp, border_edge, inner_edge};
+ghost use Rattle.h264_deblock.specs.Words.{names, named_border, IsWord, HasWord, IsLevelOf};
+ghost use Rattle.h264_deblock.specs.Marks.{AreMarks, luma_by, chroma_by};
+
+use crate::edges::{luma_at_level, pair_at_level};
+use crate::named::{Word, is_zero};
+use crate::plane_level::{Border, PlaneLevel, level_beside, plane_level};
+use crate::slice_filter::SliceFilter;
+use crate::strengths::InnerStrengths;
+use h264_plane::{Frame, Plane};
+
+/// The strengths of the edges of a macroblock: to those beside it, where they are filtered, and inside it.
+#[derive(Clone, Copy)]
+pub(crate) struct Marks {
+    pub left: Option<Border>,
+    pub above: Option<Border>,
+    pub inner: InnerStrengths,
+}
+
+/// Filters the edge of luma to the macroblock beside, where it is filtered.
+#[inline(always)]
+fn luma_border<const VERTICAL: bool>(
+    plane: &mut Plane,
+    along: usize,
+    across: usize,
+    border: &Option<Border>,
+    own: &PlaneLevel<'_>,
+)
+    requires along { along + 16 ≤ size_along VERTICAL plane.old }
+    requires before { IsTrue (is_some border.now) → 4 ≤ across }
+    requires behind { across + 4 ≤ size_across VERTICAL plane.old }
+    requires word { HasWord border.now }
+    requires qp { own.now.qp ≡ side_qp false own.now.luma_qp own.now.filter.now.chroma_qp_index_offset }
+    requires inner { IsLevelOf own.now.inner own.now.qp own.now.qp own.now.filter.now }
+    ensures { Holds plane.old plane.new
+        (edge_or (border_edge false own.now.qp own.now.filter.now (named_border border.now)) VERTICAL false along across (at plane.old)) }
+{
+    let Some(border) = border else {
+        return;
+    };
+    if is_zero(&border.strengths) {
+        return;
+    }
+    let level = level_beside::<false>(border, own);
+    luma_at_level::<VERTICAL>(plane, along, across, &level, &border.strengths);
+}
+
+/// Filters an inner edge of luma.
+#[inline(always)]
+fn luma_inner<const VERTICAL: bool>(
+    plane: &mut Plane,
+    along: usize,
+    across: usize,
+    word: &Word,
+    own: &PlaneLevel<'_>,
+)
+    requires along { along + 16 ≤ size_along VERTICAL plane.old }
+    requires before { 4 ≤ across }
+    requires behind { across + 4 ≤ size_across VERTICAL plane.old }
+    requires word { IsWord word.now }
+    requires inner { IsLevelOf own.now.inner own.now.qp own.now.qp own.now.filter.now }
+    requires filtered { filters own.now.filter.now.deblocking true ≡ true }
+    ensures { Holds plane.old plane.new
+        (edge_or (inner_edge own.now.qp own.now.filter.now (names word.now)) VERTICAL false along across (at plane.old)) }
+{
+    luma_at_level::<VERTICAL>(plane, along, across, &own.inner, word);
+}
+
+/// Filters the luma edges of the macroblock at this column and row.
+#[inline(always)]
+fn luma(plane: &mut Plane, marks: &Marks, own: &PlaneLevel<'_>, column: usize, row: usize)
+    requires columns { 16 * column + 16 ≤ plane.old.width }
+    requires rows { 16 * row + 16 ≤ plane.old.height }
+    requires small { (column < 1024) × (row < 1024) }
+    requires marks { AreMarks marks.now column row }
+    requires qp { own.now.qp ≡ side_qp false own.now.luma_qp own.now.filter.now.chroma_qp_index_offset }
+    requires inner { IsLevelOf own.now.inner own.now.qp own.now.qp own.now.filter.now }
+    requires filtered { filters own.now.filter.now.deblocking true ≡ true }
+    ensures { Holds plane.old plane.new (edges_done 16 false (luma_by own.now.qp own.now.filter.now marks.now) column row (at plane.old)) }
+{
+    let (x, y) = (16 * column, 16 * row);
+    let (vertical, horizontal) = (&marks.inner.vertical, &marks.inner.horizontal);
+    luma_border::<true>(plane, y, x, &marks.left, own);
+    luma_inner::<true>(plane, y, x + 4, &vertical[0], own);
+    luma_inner::<true>(plane, y, x + 8, &vertical[1], own);
+    luma_inner::<true>(plane, y, x + 12, &vertical[2], own);
+    luma_border::<false>(plane, x, y, &marks.above, own);
+    luma_inner::<false>(plane, x, y + 4, &horizontal[0], own);
+    luma_inner::<false>(plane, x, y + 8, &horizontal[1], own);
+    luma_inner::<false>(plane, x, y + 12, &horizontal[2], own);
+}
+
+/// Filters the edge of both planes of chroma to the macroblock beside, where it is filtered.
+#[inline(always)]
+fn pair_border<const VERTICAL: bool>(
+    cb: &mut Plane,
+    cr: &mut Plane,
+    along: usize,
+    across: usize,
+    border: &Option<Border>,
+    own: &PlaneLevel<'_>,
+)
+    requires cb_along { along + 8 ≤ size_along VERTICAL cb.old }
+    requires cr_along { along + 8 ≤ size_along VERTICAL cr.old }
+    requires before { IsTrue (is_some border.now) → 4 ≤ across }
+    requires cb_behind { across + 4 ≤ size_across VERTICAL cb.old }
+    requires cr_behind { across + 4 ≤ size_across VERTICAL cr.old }
+    requires word { HasWord border.now }
+    requires qp { own.now.qp ≡ side_qp true own.now.luma_qp own.now.filter.now.chroma_qp_index_offset }
+    requires inner { IsLevelOf own.now.inner own.now.qp own.now.qp own.now.filter.now }
+    ensures cb { Holds cb.old cb.new
+        (edge_or (border_edge true own.now.qp own.now.filter.now (named_border border.now)) VERTICAL true along across (at cb.old)) }
+    ensures cr { Holds cr.old cr.new
+        (edge_or (border_edge true own.now.qp own.now.filter.now (named_border border.now)) VERTICAL true along across (at cr.old)) }
+{
+    let Some(border) = border else {
+        return;
+    };
+    if is_zero(&border.strengths) {
+        return;
+    }
+    let level = level_beside::<true>(border, own);
+    pair_at_level::<VERTICAL>(cb, cr, along, across, &level, &border.strengths);
+}
+
+/// Filters an inner edge of both planes of chroma.
+#[inline(always)]
+fn pair_inner<const VERTICAL: bool>(
+    cb: &mut Plane,
+    cr: &mut Plane,
+    along: usize,
+    across: usize,
+    word: &Word,
+    own: &PlaneLevel<'_>,
+)
+    requires cb_along { along + 8 ≤ size_along VERTICAL cb.old }
+    requires cr_along { along + 8 ≤ size_along VERTICAL cr.old }
+    requires before { 4 ≤ across }
+    requires cb_behind { across + 4 ≤ size_across VERTICAL cb.old }
+    requires cr_behind { across + 4 ≤ size_across VERTICAL cr.old }
+    requires word { IsWord word.now }
+    requires inner { IsLevelOf own.now.inner own.now.qp own.now.qp own.now.filter.now }
+    requires filtered { filters own.now.filter.now.deblocking true ≡ true }
+    ensures cb { Holds cb.old cb.new
+        (edge_or (inner_edge own.now.qp own.now.filter.now (names word.now)) VERTICAL true along across (at cb.old)) }
+    ensures cr { Holds cr.old cr.new
+        (edge_or (inner_edge own.now.qp own.now.filter.now (names word.now)) VERTICAL true along across (at cr.old)) }
+{
+    pair_at_level::<VERTICAL>(cb, cr, along, across, &own.inner, word);
+}
+
+/// Filters the chroma edges of the macroblock at this column and row, in both planes.
+#[inline(always)]
+fn chroma(
+    cb: &mut Plane,
+    cr: &mut Plane,
+    marks: &Marks,
+    own: &PlaneLevel<'_>,
+    column: usize,
+    row: usize,
+)
+    requires cb { (8 * column + 8 ≤ cb.old.width) × (8 * row + 8 ≤ cb.old.height) }
+    requires cr { (8 * column + 8 ≤ cr.old.width) × (8 * row + 8 ≤ cr.old.height) }
+    requires small { (column < 1024) × (row < 1024) }
+    requires marks { AreMarks marks.now column row }
+    requires qp { own.now.qp ≡ side_qp true own.now.luma_qp own.now.filter.now.chroma_qp_index_offset }
+    requires inner { IsLevelOf own.now.inner own.now.qp own.now.qp own.now.filter.now }
+    requires filtered { filters own.now.filter.now.deblocking true ≡ true }
+    ensures cb { Holds cb.old cb.new (edges_done 8 true (chroma_by own.now.qp own.now.filter.now marks.now) column row (at cb.old)) }
+    ensures cr { Holds cr.old cr.new (edges_done 8 true (chroma_by own.now.qp own.now.filter.now marks.now) column row (at cr.old)) }
+{
+    let (x, y) = (8 * column, 8 * row);
+    pair_border::<true>(cb, cr, y, x, &marks.left, own);
+    pair_inner::<true>(cb, cr, y, x + 4, &marks.inner.vertical[1], own);
+    pair_border::<false>(cb, cr, x, y, &marks.above, own);
+    pair_inner::<false>(cb, cr, x, y + 4, &marks.inner.horizontal[1], own);
+}
+
+/// Filters the edges of the macroblock at this column and row, whose quantisation parameter is `qp`.
+pub(crate) fn filter_by(
+    frame: &mut Frame,
+    marks: &Marks,
+    qp: u8,
+    filter: &SliceFilter,
+    column: usize,
+    row: usize,
+)
+    requires y { (16 * column + 16 ≤ frame.old.y.width) × (16 * row + 16 ≤ frame.old.y.height) }
+    requires cb { (8 * column + 8 ≤ frame.old.cb.width) × (8 * row + 8 ≤ frame.old.cb.height) }
+    requires cr { (8 * column + 8 ≤ frame.old.cr.width) × (8 * row + 8 ≤ frame.old.cr.height) }
+    requires small { (column < 1024) × (row < 1024) }
+    requires marks { AreMarks marks.now column row }
+    requires filtered { filters filter.now.deblocking true ≡ true }
+    ensures y { Holds frame.old.y frame.new.y
+        (edges_done 16 false (luma_by (side_qp false qp filter.now.chroma_qp_index_offset) filter.now marks.now) column row (at frame.old.y)) }
+    ensures cb { Holds frame.old.cb frame.new.cb
+        (edges_done 8 true (chroma_by (side_qp true qp filter.now.chroma_qp_index_offset) filter.now marks.now) column row (at frame.old.cb)) }
+    ensures cr { Holds frame.old.cr frame.new.cr
+        (edges_done 8 true (chroma_by (side_qp true qp filter.now.chroma_qp_index_offset) filter.now marks.now) column row (at frame.old.cr)) }
+{
+    let of_luma = plane_level::<false>(qp, filter);
+    luma(&mut frame.y, marks, &of_luma, column, row);
+    let of_chroma = plane_level::<true>(qp, filter);
+    chroma(&mut frame.cb, &mut frame.cr, marks, &of_chroma, column, row);
+}
