@@ -2,7 +2,6 @@
 #![tactic(auto)]
 
 ghost use Rattle.std.specs.Prelude.{◌≡◌, ◌<◌, ◌^◌};
-ghost use Rattle.std.specs.Vec.{vec_ptr};
 ghost use Rattle.h264_c.specs.Frames.{IsFrame};
 
 use h264_report::ShownFrame;
@@ -20,8 +19,7 @@ pub struct CFrame {
 
 /// What C reads of a frame, which owns the samples.
 pub(crate) fn frame_of(frame: &ShownFrame) -> CFrame
-    ensures samples { result.samples ≡ vec_ptr frame.now.samples }
-    ensures fields { IsFrame frame.now result }
+    ensures { IsFrame frame.now result }
 {
     CFrame {
         samples: frame.samples.as_ptr(),

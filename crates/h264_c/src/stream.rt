@@ -16,7 +16,7 @@ pub struct Stream {
 }
 
 impl Stream {
-    ghost use Rattle.std.specs.Prelude.{List, ◌∷◌, IfSome};
+    ghost use Rattle.std.specs.Prelude.{List, ◌∷◌, IfSome, Some};
     ghost use Rattle.h264_report.specs.declared.queue.ShownFrame.{ShownFrame};
     ghost use Rattle.h264_c.specs.Frames.{IsFrame};
 
@@ -35,7 +35,7 @@ impl Stream {
     #[tactic(auto)]
     pub fn lend(&mut self) -> Option<CFrame>
         ensures { IfSome result (λ frame. (shown : ShownFrame) × (later : List ShownFrame)
-            × (self.old.decoder.queue.waiting.items ≡ shown ∷ later) × IsFrame shown frame) }
+            × (self.old.decoder.queue.waiting.items ≡ shown ∷ later) × IsFrame shown frame × (self.new.lent ≡ Some shown)) }
     {
         self.lent = self.decoder.take_frame();
         match &self.lent {

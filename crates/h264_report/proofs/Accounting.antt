@@ -1,16 +1,16 @@
 -- The account of a stream of which only the verdict is asked.
-use Rattle.std.proofs.Common.{◌≡◌, ℕ, ◌+◌, List, [], ◌++◌, Result, Ok, Err, sym, ap, ◌∙◌, subst, arith}
+use Rattle.std.proofs.Common.{ℕ, List, [], ◌++◌, Result, Err, subst}
 use Rattle.std.proofs.lemmas.List.{append-nil}
 use Rattle.h264_base.specs.Call.{Call}
 use Rattle.h264_base.specs.declared.stop.Stop.{Stop}
-use Rattle.h264_base.specs.declared.stop.Stop.TheVariants.{Memory, Write}
+use Rattle.h264_base.specs.declared.stop.Stop.TheVariants.{Memory}
 use Rattle.h264_plane.specs.Frames.{no_frame}
 use Rattle.h264_plane.specs.declared.frame.Frame.{Frame}
 use Rattle.h264_report.specs.Written.{Account}
 use Rattle.h264_report.proofs.Decoded.{accounted}
 use Rattle.h264_verify.specs.Feeding.{WasFed, IsFed}
 use Rattle.h264_verify.specs.Progress.{Progress}
-use Rattle.h264_verify.specs.Telling.{Told, AreDecoded, Tells, took_with}
+use Rattle.h264_verify.specs.Telling.{Told, AreDecoded, took_with}
 use Rattle.h264_verify.specs.Verdict.{Judged}
 use Rattle.h264_verify.specs.declared.state.Summary.{Summary}
 use Rattle.h264_verify.specs.declared.state.Terms.{Terms}

@@ -1,5 +1,5 @@
 -- What a sink of frames took of a stream, from one piece of it to the next.
-use Rattle.std.proofs.Common.{◌≡◌, ℕ, ◌+◌, true, false, List, [], ◌∷◌, ◌++◌, Option, None, Some, Result, Ok, Err, refl, sym, ap, ◌∙◌, subst}
+use Rattle.std.proofs.Common.{◌≡◌, ℕ, ◌+◌, false, List, [], ◌∷◌, ◌++◌, Option, None, Some, Result, Ok, Err, refl, sym, ap, ◌∙◌, subst}
 use Rattle.std.specs.Prelude.{IfNone, IfSome}
 use Rattle.h264_base.specs.Call.{Call}
 use Rattle.h264_base.specs.declared.stop.Stop.{Stop}
@@ -15,7 +15,7 @@ use Rattle.h264_report.proofs.Queued.{waits-begun, waits-taken, waits-filled}
 use Rattle.h264_verify.specs.Feeding.{WasFed, IsFed}
 use Rattle.h264_verify.specs.Progress.{Progress}
 use Rattle.h264_verify.specs.Telling.{Told, Said, Decodes, Shows, Tells, took_with, calls_of, AreDecoded}
-use Rattle.h264_verify.specs.Verdict.{Judged, JudgedBy, SameTold}
+use Rattle.h264_verify.specs.Verdict.{Judged, JudgedBy}
 use Rattle.h264_verify.specs.declared.state.Summary.{Summary}
 use Rattle.h264_verify.specs.declared.state.Terms.{Terms}
 

@@ -1,6 +1,5 @@
 -- What was given to a decoder, by how far it is.
-use Rattle.std.proofs.Common.{◌≡◌, ℕ, List, Option, Result, Ok, Err, refl, sym, ap, ◌∙◌, subst}
-use Rattle.h264_base.specs.declared.stop.Stop.{Stop}
+use Rattle.std.proofs.Common.{◌≡◌, ℕ, List, sym, ap, ◌∙◌, subst}
 use Rattle.h264_report.specs.Decoding.{IsDecoding}
 use Rattle.h264_report.specs.Given.{IsGiven}
 use Rattle.h264_report.specs.declared.decoder.Decoder.{Decoder}

@@ -1,5 +1,5 @@
 -- What a decoder has of the bytes that it was given: the session's standing or the verdict, and the frames. To be read beside docs/LIBRARY.md.
-use Rattle.std.specs.Prelude.{◌≡◌, ℕ, List, ◌++◌, Result, Ok, Err}
+use Rattle.std.specs.Prelude.{◌≡◌, ℕ, List, Result, Err}
 use Rattle.h264_base.specs.Call.{Call}
 use Rattle.h264_base.specs.declared.stop.Stop.{Stop}
 use Rattle.h264_base.specs.declared.stop.Stop.TheVariants.{Read, Write}

@@ -1,4 +1,4 @@
-use Rattle.std.proofs.Common.{◌≡◌, ap, ◌∙◌}
+use Rattle.std.proofs.Common.{ap, ◌∙◌}
 use Rattle.h264_report.specs.Queue.{told_of_frames}
 use Rattle.h264_report.specs.declared.filling.Filling.{Filling}
 use Rattle.h264_report.proofs.Decoded.{falls, falls-grown}
