@@ -1,13 +1,15 @@
 #!/bin/sh
-# Builds h264v with all its proofs, and installs the program, its man page and shell completions.
+# Builds h264v and the library for C with all their proofs, and installs the program, its man page and shell completions, and the library with
+# its header and pkg-config file (docs/LIBRARY.md).
 #
 #   ./install.sh [PREFIX]      PREFIX is ~/.local where it is left out
 #
 # Needs the kit's rt on the path, some 24 GB of memory and 6 GB of disk below ${TMPDIR:-/tmp}. JOBS=N sets how many
-# processors it takes, CPU=x86-64-v2 the processor that it builds for, KEEP=1 leaves the folder in which it built.
+# processors it takes, CPU=x86-64-v2 the processor that it builds for, KEEP=1 leaves the folder in which it built. The library needs ar and cc.
 set -eu
 
 prefix=${1:-$HOME/.local}
+case $prefix in /*) ;; *) prefix=$PWD/$prefix ;; esac
 top=$(cd "$(dirname "$0")" && pwd)
 jobs=${JOBS:-$(nproc)}
 
@@ -28,7 +30,7 @@ tar -C "$top" -c --exclude='crates/*/out' crates HANDLES | tar -C "$build/work" 
 
 # Crates that stand side by side are proved side by side, one processor each. The crates of the long chain above them come after, one
 # after another, with all processors each.
-chain=' h264_picture h264_verify h264_report h264v '
+chain=' h264_picture h264_verify h264_report h264v h264_c '
 while read -r line; do
   case "$chain" in *" ${line%%:*} "*) ;; *) printf '%s\n' "$line" ;; esac
 done <"$top/crates.txt" >"$build/work/crates.txt"
@@ -42,13 +44,16 @@ step() {
 
 side_by_side() { for name in $chain; do mv "$build/work/crates/$name" "$build/later/"; done && cd "$build/work" && rt all check --jobs "$jobs"; }
 one_by_one() { mv "$build"/later/* "$build/work/crates/" && cp "$top/crates.txt" "$build/work/" && cd "$build/work/crates/h264v" && rt run --jobs "$jobs" --cpu "$cpu" -- check "$top/samples/one_frame.264"; }
-step "step 1 of 2: the crates that stand side by side" side_by_side
-step "step 2 of 2: the chain, and the program" one_by_one
+library() { cd "$build/work/crates/h264_c" && rt lib --jobs "$jobs" --cpu "$cpu" && sh "$top/tools/c_library.sh" out/libh264_c.a "$kit/c/liblibc_c.a" "$prefix"; }
+kit=$(dirname "$(dirname "$(realpath "$(command -v rt)")")")
+step "step 1 of 3: the crates that stand side by side" side_by_side
+step "step 2 of 3: the chain, and the program" one_by_one
+step "step 3 of 3: the library for C" library
 
 install -D "$build/work/crates/h264v/out/h264v" "$prefix/bin/h264v"
 install -D -m 644 "$top/share/h264v.1" "$prefix/share/man/man1/h264v.1"
 install -D -m 644 "$top/share/h264v.bash" "$prefix/share/bash-completion/completions/h264v"
 install -D -m 644 "$top/share/_h264v" "$prefix/share/zsh/site-functions/_h264v"
 install -D -m 644 "$top/share/h264v.fish" "$prefix/share/fish/vendor_completions.d/h264v.fish"
-say "installed $prefix/bin/h264v, built for $cpu, with every proof passed"
+say "installed $prefix/bin/h264v and $prefix/lib/libh264v.a and .so.1, built for $cpu, with every proof passed"
 case ":$PATH:" in *":$prefix/bin:"*) ;; *) say "$prefix/bin is not on your path" ;; esac

@@ -7,3 +7,7 @@ pub mod Fits
 pub mod Sinks
 pub mod Accounts
 mod Framed
+pub mod Queued
+pub mod Decoded
+pub mod Givens
+pub mod Accounting

@@ -6,3 +6,6 @@ pub mod Told
 pub mod Trail
 pub mod Written
 pub mod Y4m
+pub mod Queue
+pub mod Decoding
+pub mod Given

@@ -7,9 +7,15 @@
 //! order, and after a failure a part of the last; that a trail has the last 16 elements; and of the three that run a judgement, what stands in
 //! `specs/Written.antt`: the last line is that of the answer in this mode, and what stands before it is of the calls up to there; a failed read or write is
 //! told, and only where there was one. Nothing is promised of what `JsonSink` and `PageSink` make.
+//!
+//! For callers that hold the bytes themselves: a `Decoder` takes a stream in pieces and keeps each frame that is due until it is taken, and
+//! `judge_bytes` judges a stream in memory. Promised (`specs/Given.antt`): the frames taken and those that wait are the stream's, in order, up to the
+//! answer, which is the verdict on the bytes given, or Memory.
 #![tactic(auto)]
 
+pub mod decoder;
 pub mod device;
+mod filling;
 mod frames;
 pub mod head;
 pub mod json_sink;
@@ -19,6 +25,7 @@ pub mod lines;
 pub mod listing;
 pub mod page_sink;
 pub mod pages;
+pub mod queue;
 mod rows;
 pub mod rules;
 mod send;
@@ -26,9 +33,11 @@ pub mod sheet;
 pub mod survey;
 pub mod trail;
 pub mod trail_sink;
+pub mod whole;
 pub mod y4m_sink;
 pub mod yuv_sink;
 
+pub use decoder::Decoder;
 pub use device::{Device, WriteDevice};
 pub use json_sink::JsonSink;
 pub use judging::{Ending, check, decode, list, put_answer, put_memory, told_answer};
@@ -36,11 +45,13 @@ pub use line_sink::LineSink;
 pub use lines::{element_line, frame_line, slice_line, unit_line, verdict_line};
 pub use listing::Listing;
 pub use page_sink::PageSink;
+pub use queue::{FrameQueue, ShownFrame};
 pub use rules::{
     FeatureEntry, RuleEntry, entry_by_label, entry_of, entry_of_feature, feature_by_name,
 };
 pub use sheet::{Pen, Sheet};
 pub use trail::{Element, Trail};
 pub use trail_sink::TrailSink;
+pub use whole::judge_bytes;
 pub use y4m_sink::Y4mSink;
 pub use yuv_sink::YuvSink;

@@ -1,0 +1,8 @@
+use Rattle.std.proofs.Common.{sym, ◌∙◌, subst}
+use Rattle.h264_report.specs.Given.{IsGiven}
+use Rattle.h264_c.proofs.h264v_send.Goals as goal
+
+pub returns-in-Some-clause-verdict : goal.returns-in-Some-clause-verdict
+returns-in-Some-clause-verdict c terms before v is =
+    let given = subst (λ s. IsGiven terms s.decoder before) (sym (c.deref_mut.ensures.value ∙ c.into_box-stream.ensures)) v in
+    (c.in-Some.answer, c.send-answer.new.self, c.verdict_of.ensures, c.in-Some.ensures.answered terms before given)

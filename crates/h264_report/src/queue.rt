@@ -1,0 +1,109 @@
+//! Frames that wait to be taken.
+#![tactic(auto)]
+
+ghost use Rattle.std.specs.Prelude.{◌≡◌, ℕ, ◌+◌, ◌-◌, ◌*◌, ◌/◌, ◌<◌, ◌≤◌, ◌^◌, ◌⊎◌, [], ◌∷◌, ◌++◌, IsTrue, IfOk, OnOk, OnErr, IfSome, IfNone};
+ghost use Rattle.h264_dpb.specs.Shown.{fits, width_in, height_in};
+ghost use Rattle.h264_report.specs.Frames.{shown_bytes};
+
+use crate::rows::{height, row_at, row_count, width};
+use h264_dpb::Rectangle;
+use h264_plane::Frame;
+use std::alloc::{AllocError, Global};
+use std::collections::VecDeque;
+use std::mem;
+
+/// What is shown of a frame.
+#[derive(Drop)]
+pub struct ShownFrame {
+    /// Its picture order count.
+    pub count: i32,
+    /// Luma samples in a row. A row of Cb or Cr has half as many.
+    pub width: usize,
+    /// Luma samples in a column. A column of Cb or Cr has half as many.
+    pub height: usize,
+    /// The rows of Y, then of Cb, then of Cr, a byte a sample.
+    pub samples: Vec<u8>,
+}
+
+/// The samples that are shown of a frame. Err: memory was refused.
+fn samples_of(alloc: Global, frame: &Frame, rectangle: Rectangle) -> Result<Vec<u8>, AllocError>
+    requires { IsTrue (fits rectangle frame.now) }
+    ensures { IfOk result (λ samples. samples.items ≡ shown_bytes frame.now rectangle) }
+{
+    let luma = width(frame, rectangle) * height(frame, rectangle);
+    let mut samples = Vec::with_capacity(alloc, luma + luma / 2)?;
+    for k in 0..row_count(frame, rectangle) {
+        samples.extend_from_slice(row_at(frame, rectangle, k))?;
+    }
+    Ok(samples)
+}
+
+/// The frames of a stream that wait to be taken, in the order of output.
+#[derive(Drop)]
+pub struct FrameQueue {
+    alloc: Global,
+    waiting: VecDeque<ShownFrame>,
+    /// How many frames were taken from it.
+    handed_out: u64,
+}
+
+impl FrameQueue {
+    ghost use Rattle.h264_dpb.specs.Shown.{frame_call};
+    ghost use Rattle.h264_report.specs.Queue.{told_of_frame};
+
+    /// A queue of no frames, from which none was taken.
+    pub fn new(alloc: Global) -> FrameQueue
+        ensures waiting { result.waiting.items ≡ [] }
+        ensures handed_out { result.handed_out ≡ 0 }
+    {
+        FrameQueue {
+            alloc,
+            waiting: VecDeque::new(alloc),
+            handed_out: 0,
+        }
+    }
+
+    /// Hands over all that it has, and is empty then, as if new.
+    pub(crate) fn take_all(&mut self) -> FrameQueue
+        ensures { result ≡ self.old }
+    {
+        let none = FrameQueue::new(self.alloc);
+        mem::replace(self, none)
+    }
+
+    /// The next frame in the order of output. None where none waits, or where 2^64 - 1 were taken.
+    pub fn take_frame(&mut self) -> Option<ShownFrame>
+        ensures first { IfSome result (λ frame. self.old.waiting.items ≡ frame ∷ self.new.waiting.items) }
+        ensures counted { IfSome result (λ frame. self.new.handed_out ≡ self.old.handed_out + 1) }
+        ensures none { IfNone result ((self.old.waiting.items ≡ []) ⊎ (self.old.handed_out ≡ 2 ^ 64 - 1)) }
+        ensures kept { IfNone result ((self.new.waiting.items ≡ self.old.waiting.items) × (self.new.handed_out ≡ self.old.handed_out)) }
+    {
+        let handed_out = self.handed_out.checked_add(1)?;
+        let frame = self.waiting.pop_front()?;
+        self.handed_out = handed_out;
+        Some(frame)
+    }
+
+    /// Adds a frame at the end. Err: memory was refused, and nothing was added.
+    pub(crate) fn add(
+        &mut self,
+        count: i32,
+        frame: &Frame,
+        rectangle: Rectangle,
+    ) -> Result<(), AllocError>
+        requires { IsTrue (fits rectangle frame.now) }
+        ensures added { IfOk result (λ _. (shown : _) × (told_of_frame shown ≡ frame_call count frame.now rectangle)
+            × (self.new.waiting.items ≡ self.old.waiting.items ++ shown ∷ [])) }
+        ensures kept { OnErr result (self.new.waiting.items ≡ self.old.waiting.items) }
+        ensures handed_out { self.new.handed_out ≡ self.old.handed_out }
+    {
+        let shown = ShownFrame {
+            count,
+            width: width(frame, rectangle),
+            height: height(frame, rectangle),
+            samples: samples_of(self.alloc, frame, rectangle)?,
+        };
+        self.waiting.push_back(shown)?;
+        Ok(())
+    }
+}

@@ -1,0 +1,117 @@
+/* h264v: a proved verifier and decoder of H.264 byte streams (Annex B).
+ *
+ *     h264v *decoder;
+ *     if (h264v_open(H264V_FULL, H264V_BASELINE, &decoder) != H264V_OPENED) ..
+ *     send bytes, in pieces of any size, and after each piece receive frames until there is none
+ *     finish, and receive the last frames
+ *     close
+ *
+ * The library takes memory by malloc, realloc and free, starts no thread, and reads and writes nothing else. Each decoder
+ * stands alone: two threads may use two decoders at once, and one decoder from one thread at a time.
+ *
+ * What the caller owes, since the library cannot look at it:
+ *   - no pointer is null, not even that of no bytes;
+ *   - a decoder is one that h264v_open gave and that was not closed, and no other call uses it at the same time;
+ *   - as many bytes as are named stand where they are said to stand, and no call's parameters overlap.
+ *
+ * The proof covers the library's functions as they are called by such a caller. docs/LIBRARY.md says what is proved.
+ */
+#ifndef H264V_H
+#define H264V_H
+
+#include <stddef.h>
+#include <stdint.h>
+
+#ifdef __cplusplus
+extern "C" {
+#endif
+
+/* How far a stream is judged. */
+enum {
+    H264V_UNITS = 0,   /* the byte stream, its units, and the parameter sets */
+    H264V_HEADERS = 1, /* these, and slice headers */
+    H264V_FULL = 2     /* these, and slice data, of which the frames are made; the other two give no frames */
+};
+
+/* The decoder that a stream has to suit. */
+enum {
+    H264V_BASELINE = 0, /* Constrained Baseline, levels 1 to 5.2 */
+    H264V_MAIN_IP = 1   /* the progressive streams of I and P slices in CAVLC of the Main profile */
+};
+
+/* What is said of a stream. */
+enum {
+    H264V_YES = 0,     /* it is legal */
+    H264V_NO = 1,      /* it breaks a rule of the standard */
+    H264V_OUTSIDE = 2, /* it has something that is not judged, and nothing before it breaks a rule */
+    H264V_MEMORY = 3,  /* memory was refused, so there is no verdict */
+    H264V_MISUSE = 5   /* the mode or the target is none of the above (of h264v_check alone) */
+};
+
+/* What h264v_open answers. */
+enum { H264V_OPENED = 0 /* or H264V_MEMORY or H264V_MISUSE, and then there is no decoder */ };
+
+/* What h264v_send answers. */
+enum {
+    H264V_GOES_ON = 0, /* the stream is legal so far; the verdict was not written */
+    H264V_FELL = 1     /* the verdict stands, whatever bytes may still come, and was written */
+};
+
+/* What h264v_receive answers. */
+enum {
+    H264V_NO_FRAME = 0, /* none waits; the frame was not written */
+    H264V_FRAME = 1     /* one was lent */
+};
+
+/* A verdict. Fields that the kind does not have are 0. */
+typedef struct {
+    uint64_t bit;      /* NO and OUTSIDE: where it stands, in bits of the input from 0, the highest bit of a byte first */
+    uint64_t units;    /* YES: the units of the stream */
+    uint64_t pictures; /* YES: the coded pictures; 0 with H264V_UNITS */
+    uint64_t frames;   /* YES: the frames; 0 without H264V_FULL */
+    uint32_t kind;     /* H264V_YES and so on */
+    char label[24];    /* NO: the rule's name; OUTSIDE: the feature's name. ASCII, with a 0 at its end */
+    char clause[8];    /* NO: the clause of the standard that has the rule. ASCII, with a 0 at its end */
+} h264v_verdict;
+
+/* A frame that is lent: read it, and neither write nor free it. The samples stand one after another, a byte a sample: the
+ * rows of Y, width * height, then those of Cb, then those of Cr, each width / 2 * height / 2. Width and height are even, and
+ * cropping is done. */
+typedef struct {
+    const uint8_t *samples; /* they stay until the next h264v_receive or h264v_close of this decoder */
+    size_t size;            /* how many samples there are in all */
+    uint32_t width;         /* luma samples in a row */
+    uint32_t height;        /* luma samples in a column */
+    int32_t count;          /* the picture order count */
+} h264v_frame;
+
+/* A decoder. Its inside is hidden. */
+typedef struct h264v h264v;
+
+/* Makes a decoder for one stream, and writes it to *decoder. The caller owns it until h264v_close.
+ * Answers H264V_OPENED; H264V_MEMORY where memory was refused; H264V_MISUSE where the mode or the target is not known. */
+int32_t h264v_open(uint32_t mode, uint32_t target, h264v **decoder);
+
+/* Decodes the next `size` bytes of the stream. They are read before it returns, and not kept.
+ * Answers H264V_GOES_ON, or H264V_FELL: then the verdict is in *verdict, no frame comes after those that wait, and each
+ * further call of h264v_send and h264v_finish says that verdict again and changes nothing. */
+int32_t h264v_send(h264v *decoder, const uint8_t *bytes, size_t size, h264v_verdict *verdict);
+
+/* Lends the next frame in the order of output, and takes back the one lent before.
+ * Answers H264V_FRAME, or H264V_NO_FRAME. A frame that waits stays until it is received, after the verdict too. */
+int32_t h264v_receive(h264v *decoder, h264v_frame *frame);
+
+/* Decodes the end of the stream, and writes the verdict on all that was sent. A second call writes it again. After a call no
+ * further bytes are read. Frames may then wait. */
+void h264v_finish(h264v *decoder, h264v_verdict *verdict);
+
+/* Lets go of a decoder, of the frame that it lent and of those that wait. It is not to be used again. */
+void h264v_close(h264v *decoder);
+
+/* Judges a whole stream of `size` bytes, and writes the verdict. No frames are kept. */
+void h264v_check(const uint8_t *bytes, size_t size, uint32_t mode, uint32_t target, h264v_verdict *verdict);
+
+#ifdef __cplusplus
+}
+#endif
+#endif

@@ -1,0 +1,105 @@
+"""Tests of the module over the installed library. Expected values are those of samples/ and of the program.
+
+H264V_PROGRAM names the program, and H264V_STREAMS a folder of streams whose frames are compared with the program's."""
+import glob
+import hashlib
+import io
+import os
+import subprocess
+import sys
+import unittest
+
+HERE = os.path.dirname(os.path.abspath(__file__))
+sys.path.insert(0, os.path.dirname(HERE))
+import h264v  # noqa: E402
+
+SAMPLES = os.path.join(HERE, "..", "..", "samples")
+
+
+def read(name):
+    with open(os.path.join(SAMPLES, name), "rb") as file:
+        return file.read()
+
+
+class Check(unittest.TestCase):
+    def test_a_legal_stream(self):
+        verdict = h264v.check(read("one_frame.264"))
+        self.assertEqual(verdict, (h264v.Kind.YES, 0, 3, 1, 1, "", ""))
+
+    def test_a_broken_rule(self):
+        verdict = h264v.check(read("vector_too_long.264"))
+        self.assertEqual((verdict.kind, verdict.label), (h264v.Kind.NO, "VectorRange"))
+
+    def test_modes(self):
+        data = read("one_frame.264")
+        self.assertEqual(h264v.check(data, h264v.Mode.UNITS)[2:5], (3, 0, 0))
+        self.assertEqual(h264v.check(data, h264v.Mode.HEADERS)[2:5], (3, 1, 0))
+
+    def test_no_bytes(self):
+        self.assertEqual(h264v.check(b"").kind, h264v.Kind.NO)
+
+    def test_a_mode_that_is_none(self):
+        with self.assertRaises(ValueError):
+            h264v.check(b"", 7)
+
+
+class Decode(unittest.TestCase):
+    def test_planes(self):
+        decoder = h264v.Decoder(read("one_frame.264"))
+        (frame,) = decoder
+        self.assertEqual(frame.y.shape, (frame.height, frame.width))
+        self.assertEqual(frame.cb.shape, (frame.height // 2, frame.width // 2))
+        self.assertEqual(bytes(frame.samples), bytes(frame.y) + bytes(frame.cb) + bytes(frame.cr))
+        self.assertEqual(decoder.verdict.kind, h264v.Kind.YES)
+
+    def test_sources_give_the_same(self):
+        data = read("one_frame.264")
+        sources = (data, bytearray(data), io.BytesIO(data), [data[:7], b"", data[7:]], (bytes([b]) for b in data))
+        frames = [[bytes(f.samples) for f in h264v.Decoder(source)] for source in sources]
+        self.assertTrue(all(f == frames[0] for f in frames))
+
+    def test_lent_frames(self):
+        data = read("one_frame.264")
+        with h264v.Decoder(data, lend=True) as decoder:
+            lent = [bytes(frame.samples) for frame in decoder]
+        self.assertEqual(lent, [bytes(frame.samples) for frame in h264v.Decoder(data)])
+
+    def test_a_closed_decoder_gives_no_frame(self):
+        decoder = h264v.Decoder(read("one_frame.264"))
+        decoder.close()
+        decoder.close()
+        self.assertEqual(list(decoder), [])
+
+    def test_the_verdict_comes_at_the_end(self):
+        decoder = h264v.Decoder(read("one_frame.264"))
+        self.assertIsNone(decoder.verdict)
+        list(decoder)
+        self.assertEqual(decoder.verdict, h264v.check(read("one_frame.264")))
+
+    def test_numpy(self):
+        try:
+            import numpy
+        except ImportError:
+            self.skipTest("numpy is not installed")
+        (frame,) = h264v.Decoder(read("one_frame.264"))
+        plane = numpy.asarray(frame.y)
+        self.assertEqual(plane.shape, (frame.height, frame.width))
+        self.assertEqual(plane.tobytes(), bytes(frame.y))
+
+
+@unittest.skipUnless(os.environ.get("H264V_PROGRAM") and os.environ.get("H264V_STREAMS"), "no program or no streams are named")
+class Program(unittest.TestCase):
+    def test_frames_and_verdicts_are_the_programs(self):
+        names = sorted(glob.glob(os.path.join(os.environ["H264V_STREAMS"], "*.264")))
+        self.assertTrue(names)
+        for name in names:
+            with self.subTest(name), open(name, "rb") as file:
+                wanted = subprocess.run([os.environ["H264V_PROGRAM"], "decode", name], capture_output=True)
+                decoder = h264v.Decoder(file)
+                digest = hashlib.md5(b"".join(bytes(frame.samples) for frame in decoder)).hexdigest()
+                self.assertEqual(digest, hashlib.md5(wanted.stdout).hexdigest())
+                self.assertEqual(int(decoder.verdict.kind), wanted.returncode)
+
+
+if __name__ == "__main__":
+    unittest.main()
