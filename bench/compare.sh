@@ -4,7 +4,7 @@
 # and without (-cpuflags 0), and OpenH264's through GStreamer, where they are installed: the best of up to seven runs each, taken in turn, the ratios, and
 # h264v's peak memory; of pictures also nanoseconds a macroblock, and megabits of slice data a second. On Debian: apt-get install ffmpeg x264 gstreamer1.0-tools gstreamer1.0-plugins-base gstreamer1.0-plugins-bad
 # With no STREAM it makes four streams of 100 MB by slices.py, of slices of 100, 250, 1,000 and 5,000 bytes, which hold no pictures, and, where x264 and
-# ffmpeg are installed, four streams of pictures, and one large I picture alone and with a P picture behind it: the difference of these two is the P picture's.
+# ffmpeg are installed, four streams of pictures, and one large I picture alone and with a P picture after it: the difference of these two is the P picture's.
 # The whole takes some four minutes then, without the proofs of a first build.
 set -eu
 top=$(cd "$(dirname "$0")/.." && pwd)
