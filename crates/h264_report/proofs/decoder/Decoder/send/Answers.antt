@@ -1,3 +1,4 @@
+use Rattle.std.proofs.Common.{refl}
 use Rattle.h264_report.proofs.Givens.{given-decoding}
 use Rattle.h264_report.proofs.decoder.Decoder.send.Goals as goal
 
@@ -6,3 +7,10 @@ returns-in-None-clause-grows c terms bytes v = c.feed_queue.ensures.grows terms 
 
 pub returns-clause-grows : goal.returns-clause-grows
 returns-clause-grows c terms bytes v = c.feed_queue.ensures.grows terms bytes (given-decoding c.in-Running.is v)
+
+pub returns-in-None-clause-given : goal.returns-in-None-clause-given
+returns-in-None-clause-given c terms bytes v = record {
+  session = c.feed_queue.new.session;
+  runs = refl;
+  decoding = rw c.in-None.is at (c.feed_queue.ensures.goes terms bytes (given-decoding c.in-Running.is v));
+}
