@@ -85,6 +85,10 @@ HasRoomBy kinds.Reference p b = references (marked (still p) b.entries) + missin
 HasRoomBy kinds.Other p b = Unit {0}
 HasRoomBy kinds.Missing p b = (0 < missing_in p.held.now) × (references (marked (still p) b.entries) + missing_in p.held.now ≤ b.size)
 
+-- how many places are taken, by frames and by those that do not exist
+abbrev pub places_taken : {N : Type 0} → Buffered N → ℕ
+places_taken b = length b.entries + b.missing
+
 -- The frames and those that do not exist have places.
 abbrev pub StaysWithin : {N : Type 0} → Buffered N → Type 0
 StaysWithin b = length b.entries + b.missing ≤ b.size

@@ -33,7 +33,7 @@ impl Buffer {
     ghost use Rattle.std.specs.Prelude.{◌≡◌, ◌+◌, ◌-◌, ◌<◌, ◌≤◌, ◌^◌, IsTrue, false, is_some, length, [], OnOk, IfSome};
     ghost use Rattle.h264_dpb.specs.Numbered.{is_taken};
     ghost use Rattle.h264_dpb.specs.Bumping.{flushed};
-    ghost use Rattle.h264_dpb.specs.Buffered.{AreReady, Steps, HasRoomBy, StaysWithin, stored_by, missing_by, IsShownBy};
+    ghost use Rattle.h264_dpb.specs.Buffered.{AreReady, Steps, HasRoomBy, StaysWithin, places_taken, stored_by, missing_by, IsShownBy};
 
     /// A buffer of one place, which is free.
     pub fn new() -> Buffer
@@ -51,6 +51,13 @@ impl Buffer {
         ensures { result.now ≡ self.now.entries }
     {
         self.entries.as_slice()
+    }
+
+    /// How many places are taken: by frames, and by those that do not exist.
+    pub fn places_taken(&self) -> usize
+        ensures { StaysWithin self.now → result ≡ places_taken self.now }
+    {
+        self.entries.len().saturating_add(self.missing)
     }
 
     /// The first of `count` places from `first` on at which no frame of the buffer stands. Where the buffer has fewer frames than there are places,

@@ -102,7 +102,7 @@ impl Output {
     ghost use Rattle.std.specs.Prelude.{IfSome, if◌then◌else◌};
     ghost use Rattle.h264_plane.specs.declared.frame.Frame.{Frame};
     ghost use Rattle.h264_dpb.specs.Bumping.{flushed, is_held, missing_in};
-    ghost use Rattle.h264_dpb.specs.Buffered.{Buffered, AreReady, Steps, HasRoomBy, IsShownBy, StaysWithin, stored_by, missing_by};
+    ghost use Rattle.h264_dpb.specs.Buffered.{Buffered, AreReady, Steps, HasRoomBy, IsShownBy, StaysWithin, places_taken, stored_by, missing_by};
     ghost use Rattle.h264_dpb.specs.Shown.{is_shown};
     ghost use Rattle.h264_dpb.specs.Writing.{Writes};
     ghost use Rattle.h264_dpb.specs.Turns.{Shown, no_buffer, names, empties, flush_turn, way_turn, store_turn, missing_turn, last_turn};
@@ -127,6 +127,13 @@ impl Output {
         ensures { (b : Buffered Shown) (written : ℕ) → KeepsBuffer b written self.now → result ≡ written }
     {
         self.frames
+    }
+
+    /// How many of the buffer's places are taken: by frames that wait for output or are used for reference, and by those of missing numbers (C.4.2).
+    pub fn places_taken(&self) -> usize
+        ensures { (b : Buffered Shown) (written next : ℕ) → KeepsBuffer b written self.now → IsOrdered next self.now → result ≡ places_taken b }
+    {
+        self.buffer.places_taken()
     }
 
     /// The place of the picture with this number, if its frame is in the buffer.

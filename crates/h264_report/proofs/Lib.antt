@@ -11,3 +11,4 @@ pub mod Queued
 pub mod Decoded
 pub mod Givens
 pub mod Accounting
+pub mod Entries

@@ -9,3 +9,4 @@ pub mod Y4m
 pub mod Queue
 pub mod Decoding
 pub mod Given
+pub mod Entries

@@ -1,11 +1,14 @@
 //! What each rule says to a reader: what breaks it, which bit is named, and what usually causes it.
 //!
-//! docs/RULES.md is made of this table by `bench/rules.py`, in this order, which is the order in which the rules are judged.
+//! docs/RULES.md is made of this table by `tools/rules.py`, in this order, which is the order in which the rules are judged.
 #![tactic(auto)]
 
-ghost use Rattle.std.specs.Prelude.{◌≡◌, IfSome};
+ghost use Rattle.std.specs.Prelude.{◌≡◌, IfSome, IfNone};
 ghost use Rattle.h264_base.specs.Rule.{label_of};
+ghost use Rattle.h264_base.specs.declared.rule.Rule.{Rule};
 ghost use Rattle.h264_base.specs.Feature.{text_of};
+ghost use Rattle.h264_base.specs.declared.stop.Feature.{Feature};
+ghost use Rattle.h264_report.specs.Entries.{HaveOtherLabels, HaveOtherNames};
 
 use h264_base::{Feature, Rule};
 
@@ -292,62 +295,66 @@ const FEATURES: [FeatureEntry; 3] = [
     },
 ];
 
-/// This entry, if its rule has this label.
-fn if_labelled(entry: RuleEntry, label: &str) -> Option<RuleEntry>
-    ensures { IfSome result (λ e. label_of e.rule ≡ label.now) }
+/// The first of these entries whose rule has this label.
+#[tactic(auto, using(crate::proofs::Entries::one_more_label))]
+fn find_labelled(entries: &[RuleEntry], label: &str) -> Option<RuleEntry>
+    ensures is { IfSome result (λ e. label_of e.rule ≡ label.now) }
+    ensures none { IfNone result (HaveOtherLabels label.now entries.now) }
 {
-    if entry.rule.label() == label {
-        return Some(entry);
+    for entry in entries {
+        if entry.rule.label() == label {
+            return Some(*entry);
+        }
     }
     None
 }
 
 /// What is said of the rule with this label; none where no rule has it.
 pub fn entry_by_label(label: &str) -> Option<RuleEntry>
-    ensures { IfSome result (λ e. label_of e.rule ≡ label.now) }
+    ensures is { IfSome result (λ e. label_of e.rule ≡ label.now) }
+    ensures none { IfNone result ((rule : Rule) → label_of rule ≡ label.now → ⊥) }
 {
-    for entry in RULES {
-        let found = if_labelled(entry, label);
-        if found.is_some() {
-            return found;
-        }
-    }
-    None
+    find_labelled(&RULES, label)
 }
 
 /// What is said of a rule: the entry with its label.
-pub fn entry_of(rule: Rule) -> Option<RuleEntry>
-    ensures { IfSome result (λ e. label_of e.rule ≡ label_of rule) }
+pub fn entry_of(rule: Rule) -> RuleEntry
+    ensures { label_of result.rule ≡ label_of rule }
 {
-    entry_by_label(rule.label())
+    let Some(entry) = entry_by_label(rule.label()) else {
+        unreachable!()
+    };
+    entry
 }
 
-/// This entry, if its feature has this name.
-fn if_named(entry: FeatureEntry, name: &str) -> Option<FeatureEntry>
-    ensures { IfSome result (λ e. text_of e.feature ≡ name.now) }
+/// The first of these entries whose feature has this name.
+#[tactic(auto, using(crate::proofs::Entries::one_more_name))]
+fn find_named(entries: &[FeatureEntry], name: &str) -> Option<FeatureEntry>
+    ensures is { IfSome result (λ e. text_of e.feature ≡ name.now) }
+    ensures none { IfNone result (HaveOtherNames name.now entries.now) }
 {
-    if entry.feature.text() == name {
-        return Some(entry);
+    for entry in entries {
+        if entry.feature.text() == name {
+            return Some(*entry);
+        }
     }
     None
 }
 
 /// What is said of the feature with this name; none where no feature has it.
 pub fn feature_by_name(name: &str) -> Option<FeatureEntry>
-    ensures { IfSome result (λ e. text_of e.feature ≡ name.now) }
+    ensures is { IfSome result (λ e. text_of e.feature ≡ name.now) }
+    ensures none { IfNone result ((feature : Feature) → text_of feature ≡ name.now → ⊥) }
 {
-    for entry in FEATURES {
-        let found = if_named(entry, name);
-        if found.is_some() {
-            return found;
-        }
-    }
-    None
+    find_named(&FEATURES, name)
 }
 
 /// What is said of a feature: the entry with its name.
-pub fn entry_of_feature(feature: Feature) -> Option<FeatureEntry>
-    ensures { IfSome result (λ e. text_of e.feature ≡ text_of feature) }
+pub fn entry_of_feature(feature: Feature) -> FeatureEntry
+    ensures { text_of result.feature ≡ text_of feature }
 {
-    feature_by_name(feature.text())
+    let Some(entry) = feature_by_name(feature.text()) else {
+        unreachable!()
+    };
+    entry
 }

@@ -16,7 +16,7 @@ use Rattle.h264_marking.specs.Gaps.{unused_short_term_frame_nums}
 use Rattle.h264_marking.specs.Ended.{numbering_of}
 use Rattle.h264_picture.specs.Buffer.{buffer_size}
 use Rattle.h264_dpb.specs.declared.entry.Entry.{Entry}
-use Rattle.h264_dpb.specs.Buffered.{Buffered}
+use Rattle.h264_dpb.specs.Buffered.{Buffered, places_taken}
 use Rattle.h264_dpb.specs.declared.ended.Ended.{Ended}
 use Rattle.h264_dpb.specs.Ending.{ended_of}
 use Rattle.h264_dpb.specs.Turns.{Shown, Turn, turn_then, stays, no_buffer, missing_turn, end_turn, last_turn}
@@ -70,6 +70,10 @@ after_all (p ∷ ps) = turn_then (turn_then (after_all ps) (gaps_before p ps)) (
 abbrev pub within_newest : List CodedPicture → Turn
 within_newest [] = stays no_buffer
 within_newest (p ∷ ps) = turn_then (after_all ps) (gaps_before p ps)
+
+-- How many places of the buffer are taken after these units, while the newest picture is decoded or once it has ended (C.4.2).
+abbrev pub taken_after : History → ℕ
+taken_after before = places_taken (if goes_on before then within_newest (runs_of before) else after_all (runs_of before)).buffer
 
 -- ---- what comes to pass of frames
 

@@ -13,6 +13,8 @@ ghost use Rattle.h264_verify.specs.Units.{terms_of};
 ghost use Rattle.h264_verify.specs.declared.state.Terms.{Terms};
 ghost use Rattle.h264_verify.specs.Feeding.{standing_after, GoesOn, StopsOn, FinishesOn, WasFed, IsFed};
 ghost use Rattle.h264_verify.specs.Verdict.{Judged};
+ghost use Rattle.h264_base.specs.declared.mode.Mode.TheVariants as modes;
+ghost use Rattle.h264_verify.specs.Buffering.{taken_after};
 
 use crate::bytes::read_bytes;
 use crate::sink::FrameSink;
@@ -40,7 +42,8 @@ fn feed_some<S: FrameSink>(
     requires keeps { KeepsSome terms.mode false state.old }
     ensures within { IfOk result (λ n. (0 < n) × (n ≤ length piece.now)) }
     ensures goes { (frames : ℕ → Frame) (before : History) → Keeps terms.mode frames before state.old →
-        IfOk result (λ n. GoesOn terms S.took frames (standing_after splitter.old before) splitter.new state.new piece.now (drop n piece.now) sink.old sink.new) }
+        IfOk result (λ n. GoesOn terms S.took frames (standing_after splitter.old before) splitter.new state.new piece.now (drop n piece.now)
+        sink.old sink.new) }
     ensures runs { OnOk result ((splitter.new.stop ≡ None) × IsFalse splitter.new.waiting × IsFalse splitter.new.ended) }
     ensures counted { OnOk result (state.new.units ≤ splitter.new.at) }
     ensures pictures { OnOk result (state.new.slices.pictures ≤ state.new.units) }
@@ -175,7 +178,8 @@ impl Session {
         requires runs { self.old.stop ≡ None }
         // However the input goes on, what comes is what the sink was told now and what comes later.
         ensures goes { (frames : ℕ → Frame) (before : History) → Keeps self.old.terms.mode frames before self.old.state →
-            OnOk result (GoesOn self.old.terms S.took frames (standing_after self.old.split before) self.new.split self.new.state piece.now [] sink.old sink.new) }
+            OnOk result (GoesOn self.old.terms S.took frames (standing_after self.old.split before) self.new.split self.new.state piece.now []
+            sink.old sink.new) }
         ensures undecided { OnOk result (IsUndecided self.old.split.rest → IsUndecided self.new.split.rest) }
         ensures going { OnOk result (self.new.stop ≡ None) }
         ensures kept { OnOk result (S.failures sink.new ≡ S.failures sink.old) }
@@ -226,6 +230,15 @@ impl Session {
     /// Lets go of what it holds.
     pub(crate) fn close(self) {
         let_go(self.splitter, self.state)
+    }
+
+    /// How many places of the picture buffer are taken: by frames that wait for output or are used for reference, and by the frames of missing
+    /// numbers (C.4.2). Frames are made in `Mode::Full` alone.
+    pub fn places_taken(&self) -> usize
+        ensures { (bytes : List ℕ) (frames : ℕ → Frame) (told : List Told) → (fed : WasFed self.now.terms self.now bytes frames told) →
+            self.now.terms.mode ≡ modes.Full → result ≡ taken_after fed.before }
+    {
+        self.state.decoder.output.places_taken()
     }
 
     /// Judges the next piece of the input. Err: the stop of the stream; Memory where a growth was refused, for bytes or for a picture

@@ -10,20 +10,20 @@ use h264_report::{
 /// What is said to a reader of an answer.
 pub fn guide_of(answer: Answer) -> Option<Guide<'static>> {
     match answer {
-        Err(Stop::No { rule, .. }) => match entry_of(rule) {
-            Some(entry) => Some(Guide {
+        Err(Stop::No { rule, .. }) => {
+            let entry = entry_of(rule);
+            Some(Guide {
                 breaks: entry.breaks,
                 cause: entry.cause,
-            }),
-            None => None,
-        },
-        Err(Stop::Outside { feature, .. }) => match entry_of_feature(feature) {
-            Some(entry) => Some(Guide {
+            })
+        }
+        Err(Stop::Outside { feature, .. }) => {
+            let entry = entry_of_feature(feature);
+            Some(Guide {
                 breaks: entry.stands,
                 cause: entry.advice,
-            }),
-            None => None,
-        },
+            })
+        }
         _ => None,
     }
 }

@@ -7,6 +7,7 @@ use crate::command_line::Task;
 use crate::explaining::guide_of;
 use crate::files::{OpenedFiles, Opener, Seen};
 use crate::options::Options;
+use crate::watching::watch;
 use h264_base::{Mode, Stop};
 use h264_report::head::Head;
 use h264_report::pages::{
@@ -519,7 +520,16 @@ pub fn report_file<O: Opener + Drop, W: Device, M: Meter + Drop>(
 ) -> Option<Found>
     requires { files.old.failures < 2 ^ 64 - 1 }
 {
-    let (surveyed, answer) = judge(job, files, PageSink::new(job.alloc), meter)?;
+    let Ok(survey) = Survey::new(job.alloc) else {
+        return None;
+    };
+    let mut surveyed = Surveyed {
+        sink: PageSink::new(job.alloc),
+        survey,
+        meter,
+    };
+    let answer = watch(job.alloc, files, &mut surveyed, job.options.target);
+    tell_end(&mut surveyed);
     let Surveyed { sink, survey, .. } = surveyed;
     let mut found = Found {
         answer,

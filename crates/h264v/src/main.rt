@@ -40,6 +40,7 @@ mod stream_tests;
 mod target_tests;
 #[cfg(test)]
 mod tests;
+mod watching;
 mod words;
 
 use files::{OpenedFiles, Opener};

@@ -266,7 +266,10 @@ total: files 3 yes 2 no 0 outside 0 memory 0 failed 1\n",
     Asking {
         words: &["h264v", "report", "stream"],
         stream: ONE,
-        out: &["data:image/bmp;base64,Qk0"],
+        out: &[
+            "by frames of missing numbers: at most 0.</p>",
+            "data:image/bmp;base64,Qk0",
+        ],
         err: "yes: units 3 pictures 1 frames 1\n",
         status: 0,
     },

@@ -132,7 +132,7 @@ fn put_pictures(page: &mut Page, survey: &Survey, sheets: &Sheets<'_>) {
     put_row(page, "I", counts.intra);
     put_row(page, "P", counts.predicted);
     put_row(page, "bytes", counts.bytes);
-    page.put("</table><h2>Frames that wait for output</h2>");
+    page.put("</table><h2>Picture buffer</h2>");
     put_buffer_plot(page, pictures);
 }
 

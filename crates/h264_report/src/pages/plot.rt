@@ -127,33 +127,34 @@ pub fn put_byte_plot(page: &mut Page, pictures: &[Picture], most: u64, failed: O
     page.put("</svg>");
 }
 
-/// The most frames that wait at one of these pictures.
-fn most_waiting(pictures: &[Picture]) -> u64 {
+/// The most places of the picture buffer that are taken at one of these pictures.
+fn most_taken(pictures: &[Picture]) -> u64 {
     let mut most = 0;
     for picture in pictures.iter() {
-        most = picture.waiting.max(most);
+        most = picture.places_taken.unwrap_or(0).max(most);
     }
     most
 }
 
-/// Adds the plot of frames that wait for their output, picture by picture.
+/// Adds the plot of the places that are taken in the picture buffer, picture by picture.
 pub fn put_buffer_plot(page: &mut Page, pictures: &[Picture]) {
     let group = pictures_a_bar(pictures.len());
     let count = bars(pictures.len(), group);
-    let most = most_waiting(pictures);
-    open_plot(page, "frames that wait for output");
+    let most = most_taken(pictures);
+    open_plot(page, "places taken in the picture buffer");
     let mut place = 0;
     for some in pictures.chunks(group) {
         let bar = Bar {
             place,
             count,
-            value: most_waiting(some),
+            value: most_taken(some),
             most,
         };
         put_bar(page, bar, "#3f8f5f");
         place = place.saturating_add(1);
     }
-    page.put("</svg><p>At most ");
+    page.put("</svg><p>Places that are taken while a picture is decoded, by frames that wait for output or are held for reference, \
+        and by frames of missing numbers: at most ");
     page.number(most);
-    page.put(" frames wait at a picture.</p>");
+    page.put(".</p>");
 }

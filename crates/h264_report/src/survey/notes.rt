@@ -141,6 +141,15 @@ impl Survey {
         self.frames = self.frames.saturating_add(1);
     }
 
+    /// Notes how many places of the picture buffer are taken. The first note after a picture has begun is that picture's.
+    pub fn note_places_taken(&mut self, places: u64) {
+        if let Some(picture) = self.pictures.last_mut() {
+            if picture.places_taken.is_none() {
+                picture.places_taken = Some(places);
+            }
+        }
+    }
+
     /// Notes an element.
     pub fn note_element(&mut self, name: ElementName, bit: u64, value: i64) {
         let _ = self.elements.push_back(ReadElement { name, bit, value });
@@ -220,7 +229,6 @@ impl Survey {
                 self.previous_reference = Some(if before.resets { 0 } else { before.frame_num });
             }
         }
-        let waiting = (self.pictures.len() as u64).saturating_sub(self.frames);
         let picture = Picture {
             kind: if unit.nal_unit_type == IDR_SLICE {
                 PictureKind::Idr
@@ -233,7 +241,7 @@ impl Survey {
             bytes: 0,
             slices: 0,
             resets: false,
-            waiting,
+            places_taken: None,
         };
         if self.is_short || self.pictures.push(picture).is_err() {
             self.is_short = true;
