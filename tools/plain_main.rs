@@ -26,16 +26,18 @@ struct Sink<W: Write> {
     last: VecDeque<(ElementName, u64, i64)>,
 }
 
-/// The rows of a plane that are shown, without so many samples on each side.
-fn rows(plane: &Plane, left: usize, right: usize, top: usize, bottom: usize) -> impl Iterator<Item = &[u8]> {
-    (top..plane.height() - bottom).map(move |y| &plane.row(y)[left..plane.width() - right])
+/// What is shown of a plane, without so many samples on each side: all its rows at once where all columns are shown, else each by itself.
+fn parts(plane: &Plane, left: usize, right: usize, top: usize, bottom: usize) -> impl Iterator<Item = &[u8]> {
+    let (width, end) = (plane.width(), plane.height() - bottom);
+    let rows = if left + right == 0 { end - top } else { 1 };
+    (top..end).step_by(rows.max(1)).map(move |y| &plane.samples()[y * width + left..(y + rows) * width - right])
 }
 
-/// Every row of a frame that is shown: of Y, then of Cb, then of Cr.
+/// What is shown of a frame: of Y, then of Cb, then of Cr.
 fn shown(frame: &Frame, r: Rectangle) -> impl Iterator<Item = &[u8]> {
-    rows(&frame.y, 2 * r.left, 2 * r.right, 2 * r.top, 2 * r.bottom)
-        .chain(rows(&frame.cb, r.left, r.right, r.top, r.bottom))
-        .chain(rows(&frame.cr, r.left, r.right, r.top, r.bottom))
+    parts(&frame.y, 2 * r.left, 2 * r.right, 2 * r.top, 2 * r.bottom)
+        .chain(parts(&frame.cb, r.left, r.right, r.top, r.bottom))
+        .chain(parts(&frame.cr, r.left, r.right, r.top, r.bottom))
 }
 
 impl<W: Write> Sink<W> {
@@ -60,13 +62,13 @@ impl<W: Write> FrameOut for Sink<W> {
     fn frame(&mut self, count: i32, frame: &Frame, r: Rectangle) -> Result<(), Failed> {
         match self.task {
             Task::Decode => {
-                for row in shown(frame, r) {
-                    Self::done(self.out.write_all(row))?;
+                for part in shown(frame, r) {
+                    Self::done(self.out.write_all(part))?;
                 }
             }
             Task::Frames => {
                 let mut bytes = std::vec::Vec::new();
-                shown(frame, r).for_each(|row| bytes.extend_from_slice(row));
+                shown(frame, r).for_each(|part| bytes.extend_from_slice(part));
                 let width = frame.y.width() - 2 * (r.left + r.right);
                 let height = frame.y.height() - 2 * (r.top + r.bottom);
                 let index = self.frames;

@@ -1,5 +1,6 @@
 pub mod Known
 pub mod Counted
+pub mod PlaneRows
 pub mod Kept
 pub mod Calls
 pub mod Runs

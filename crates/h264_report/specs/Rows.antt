@@ -1,9 +1,11 @@
--- The rows of a picture in the order in which they are written: those of Y, then of Cb, then of Cr. To be read beside docs/OUTPUT.md.
-use Rattle.std.specs.Prelude.{ℕ, ◌+◌, ◌-◌, ◌/◌, nat_lt, Bool, true, false, List, if◌then◌else◌}
+-- A picture in the parts in which it is written: its rows, those of Y, then of Cb, then of Cr; or its planes. To be read beside docs/OUTPUT.md.
+use Rattle.std.specs.Prelude.{ℕ, ◌+◌, ◌-◌, ◌/◌, ◌==◌, ◌&&◌, nat_lt, Bool, true, false, List, if◌then◌else◌}
 use Rattle.std.specs.List.{range_with_len, flat_map}
 use Rattle.h264_plane.specs.declared.frame.Component.{Component}
 use Rattle.h264_plane.specs.declared.frame.Component.TheVariants.{Y, Cb, Cr}
-use Rattle.h264_plane.specs.Rows.{row_of}
+use Rattle.h264_plane.specs.Rows.{row_of, rows_of}
+use Rattle.h264_dpb.specs.declared.entry.Rectangle.{Rectangle}
+use Rattle.h264_report.specs.declared.rows.TheConstants.{PLANES}
 
 -- how many rows a picture of this many luma rows has in all planes
 abbrev pub row_count : ℕ → ℕ
@@ -21,6 +23,26 @@ is_chroma Y = false
 is_chroma Cb = true
 is_chroma Cr = true
 
--- the first n rows
-abbrev pub rows_before : ℕ → ℕ → (Component → ℕ → ℕ → ℕ) → ℕ → List ℕ
-rows_before width height s n = flat_map (row_at width height s) (range_with_len 0 n)
+-- whether all columns of each plane are shown
+abbrev pub shows_all_columns : Rectangle → Bool
+shows_all_columns r = (r.left == 0) && (r.right == 0)
+
+-- the rows of plane k of a picture of this many luma columns and rows
+abbrev pub plane_at : ℕ → ℕ → (Component → ℕ → ℕ → ℕ) → ℕ → List ℕ
+plane_at width height s k =
+    if k == 0 then rows_of width height (s Y)
+    else if k == 1 then rows_of (width / 2) (height / 2) (s Cb)
+    else rows_of (width / 2) (height / 2) (s Cr)
+
+-- how many parts there are: the planes, or the rows
+abbrev pub part_count : (by_planes : Bool) → ℕ → ℕ
+part_count true height = PLANES
+part_count false height = row_count height
+
+abbrev pub part_at : (by_planes : Bool) → ℕ → ℕ → (Component → ℕ → ℕ → ℕ) → ℕ → List ℕ
+part_at true = plane_at
+part_at false = row_at
+
+-- the first n parts
+abbrev pub parts_before : (by_planes : Bool) → ℕ → ℕ → (Component → ℕ → ℕ → ℕ) → ℕ → List ℕ
+parts_before by_planes width height s n = flat_map (part_at by_planes width height s) (range_with_len 0 n)

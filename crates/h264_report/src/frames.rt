@@ -5,11 +5,10 @@ ghost use Rattle.std.specs.Prelude.{◌≡◌, ℕ, ◌+◌, ◌++◌, ◌<◌, 
 ghost use Rattle.md5.specs.Md5.{md5, Holds};
 ghost use Rattle.h264_dpb.specs.Shown.{fits, width_in, height_in, cropped};
 ghost use Rattle.h264_report.specs.Sent.{Sends, SendsFront};
-ghost use Rattle.h264_report.specs.Rows.{row_count, rows_before};
 ghost use Rattle.h264_report.specs.Frames.{shown_bytes};
 
 use crate::device::Device;
-use crate::rows::{row_at, row_count};
+use crate::rows::{part_at, part_count};
 use crate::send::send;
 use h264_base::Failed;
 use h264_dpb::Rectangle;
@@ -30,8 +29,8 @@ pub(crate) fn send_frame<W: Device>(
     ensures quiet { OnOk result (W.has_failed out.new ≡ W.has_failed out.old) }
     ensures failed { OnErr result (W.has_failed out.new ≡ true) }
 {
-    for k in 0..row_count(frame, rectangle) {
-        match send(out, row_at(frame, rectangle, k)) {
+    for k in 0..part_count(frame, rectangle) {
+        match send(out, part_at(frame, rectangle, k)) {
             Ok(()) => {}
             Err(Failed) => return Err(Failed),
         }
@@ -45,8 +44,8 @@ pub(crate) fn digest(frame: &Frame, rectangle: Rectangle) -> [u8; 16]
     ensures { result ≡ md5 (shown_bytes frame.now rectangle) }
 {
     let mut hasher = Md5::new();
-    for k in 0..row_count(frame, rectangle) {
-        hasher.update(row_at(frame, rectangle, k));
+    for k in 0..part_count(frame, rectangle) {
+        hasher.update(part_at(frame, rectangle, k));
     }
     hasher.finalize()
 }

@@ -5,7 +5,7 @@ ghost use Rattle.std.specs.Prelude.{◌≡◌, ℕ, ◌+◌, ◌-◌, ◌*◌, �
 ghost use Rattle.h264_dpb.specs.Shown.{fits, width_in, height_in};
 ghost use Rattle.h264_report.specs.Frames.{shown_bytes};
 
-use crate::rows::{height, row_at, row_count, width};
+use crate::rows::{height, part_at, part_count, width};
 use h264_dpb::Rectangle;
 use h264_plane::Frame;
 use std::alloc::{AllocError, Global};
@@ -32,8 +32,8 @@ fn samples_of(alloc: Global, frame: &Frame, rectangle: Rectangle) -> Result<Vec<
 {
     let luma = width(frame, rectangle) * height(frame, rectangle);
     let mut samples = Vec::with_capacity(alloc, luma + luma / 2)?;
-    for k in 0..row_count(frame, rectangle) {
-        samples.extend_from_slice(row_at(frame, rectangle, k))?;
+    for k in 0..part_count(frame, rectangle) {
+        samples.extend_from_slice(part_at(frame, rectangle, k))?;
     }
     Ok(samples)
 }

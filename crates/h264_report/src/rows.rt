@@ -1,14 +1,18 @@
-//! The rows of a frame that are shown: those of Y, then of Cb, then of Cr.
+//! What is shown of a frame in parts: its three planes where all their columns are shown, else its rows, those of Y, then of Cb, then of Cr.
 #![tactic(auto)]
 
 ghost use Rattle.std.specs.Prelude.{◌≡◌, ◌+◌, ◌-◌, ◌*◌, ◌/◌, ◌<◌, ◌≤◌, IsTrue, length, take, drop};
 ghost use Rattle.h264_plane.specs.Frames.{plane_of};
-ghost use Rattle.h264_plane.specs.Rows.{row_of, samples_of};
+ghost use Rattle.h264_plane.specs.Samples.{at};
+ghost use Rattle.h264_plane.specs.Rows.{row_of, rows_of, samples_of};
 ghost use Rattle.h264_dpb.specs.Shown.{fits, width_in, height_in, cropped};
-ghost use Rattle.h264_report.specs.Rows.{row_count, row_at, is_chroma};
+ghost use Rattle.h264_report.specs.Rows.{row_count, row_at, is_chroma, shows_all_columns, plane_at, part_count, part_at};
 
 use h264_dpb::Rectangle;
-use h264_plane::{Component, Frame, MAX_SIDE};
+use h264_plane::{Component, Frame, MAX_SIDE, Plane};
+
+/// How many planes a frame has.
+const PLANES: usize = 3;
 
 /// Luma samples in a row of what is shown.
 pub(crate) fn width(frame: &Frame, rectangle: Rectangle) -> usize
@@ -31,7 +35,7 @@ pub(crate) fn height(frame: &Frame, rectangle: Rectangle) -> usize
 }
 
 /// How many rows the three planes have of what is shown.
-pub(crate) fn row_count(frame: &Frame, rectangle: Rectangle) -> usize
+fn row_count(frame: &Frame, rectangle: Rectangle) -> usize
     requires { IsTrue (fits rectangle frame.now) }
     ensures { result ≡ row_count (height_in rectangle frame.now) }
 {
@@ -61,7 +65,7 @@ fn chroma_row(frame: &Frame, rectangle: Rectangle, c: Component, y: usize) -> &[
 }
 
 /// Row `k` of what is shown, counted over the planes.
-pub(crate) fn row_at(frame: &Frame, rectangle: Rectangle, k: usize) -> &[u8]
+fn row_at(frame: &Frame, rectangle: Rectangle, k: usize) -> &[u8]
     requires fits { IsTrue (fits rectangle frame.now) }
     requires row { k < row_count (height_in rectangle frame.now) }
     ensures { result.now ≡ row_at (width_in rectangle frame.now) (height_in rectangle frame.now) (cropped rectangle frame.now) k }
@@ -81,4 +85,69 @@ pub(crate) fn row_at(frame: &Frame, rectangle: Rectangle, k: usize) -> &[u8]
         return chroma_row(frame, rectangle, Component::Cb, k - height);
     }
     chroma_row(frame, rectangle, Component::Cr, k - height - height / 2)
+}
+
+/// Whether all columns of each plane are shown.
+fn shows_all_columns(rectangle: Rectangle) -> bool
+    ensures { result ≡ shows_all_columns rectangle }
+{
+    rectangle.left == 0 && rectangle.right == 0
+}
+
+/// So many samples, from a place on.
+fn run_of(samples: &[u8], start: usize, n: usize) -> &[u8]
+    requires { start + n ≤ length samples.now }
+    ensures { result.now ≡ take n (drop start samples.now) }
+{
+    &samples[start..start + n]
+}
+
+/// So many rows of a plane, from row `top` on. Touches no sample.
+fn rows_of_plane(plane: &Plane, top: usize, n: usize) -> &[u8]
+    requires { top + n ≤ plane.now.height }
+    ensures { result.now ≡ rows_of plane.now.width n (λ x y. at plane.now x (top + y)) }
+{
+    let width = plane.width();
+    let _height = plane.height();
+    run_of(plane.samples(), top * width, n * width)
+}
+
+/// What is shown of a plane, where all its columns are.
+fn plane_at(frame: &Frame, rectangle: Rectangle, k: usize) -> &[u8]
+    requires fits { IsTrue (fits rectangle frame.now) }
+    requires all { IsTrue (shows_all_columns rectangle) }
+    requires plane { k < PLANES }
+    ensures { result.now ≡ plane_at (width_in rectangle frame.now) (height_in rectangle frame.now) (cropped rectangle frame.now) k }
+{
+    let height = height(frame, rectangle);
+    match k {
+        0 => rows_of_plane(&frame.y, 2 * rectangle.top, height),
+        1 => rows_of_plane(&frame.cb, rectangle.top, height / 2),
+        _ => rows_of_plane(&frame.cr, rectangle.top, height / 2),
+    }
+}
+
+/// In how many parts the bytes of what is shown come: its planes, or its rows.
+pub(crate) fn part_count(frame: &Frame, rectangle: Rectangle) -> usize
+    requires { IsTrue (fits rectangle frame.now) }
+    ensures { result ≡ part_count (shows_all_columns rectangle) (height_in rectangle frame.now) }
+{
+    if shows_all_columns(rectangle) {
+        PLANES
+    } else {
+        row_count(frame, rectangle)
+    }
+}
+
+/// Part `k` of what is shown.
+pub(crate) fn part_at(frame: &Frame, rectangle: Rectangle, k: usize) -> &[u8]
+    requires fits { IsTrue (fits rectangle frame.now) }
+    requires part { k < part_count (shows_all_columns rectangle) (height_in rectangle frame.now) }
+    ensures { result.now ≡ part_at (shows_all_columns rectangle) (width_in rectangle frame.now) (height_in rectangle frame.now) (cropped rectangle frame.now) k }
+{
+    if shows_all_columns(rectangle) {
+        plane_at(frame, rectangle, k)
+    } else {
+        row_at(frame, rectangle, k)
+    }
 }
