@@ -153,8 +153,10 @@ pub fn put_buffer_plot(page: &mut Page, pictures: &[Picture]) {
         put_bar(page, bar, "#3f8f5f");
         place = place.saturating_add(1);
     }
-    page.put("</svg><p>Places that are taken while a picture is decoded, by frames that wait for output or are held for reference, \
-        and by frames of missing numbers: at most ");
+    page.put(
+        "</svg><p>Places that are taken while a picture is decoded, by frames that wait for output or are held for reference, \
+        and by frames of missing numbers: at most ",
+    );
     page.number(most);
     page.put(".</p>");
 }
