@@ -156,9 +156,11 @@ fn judge<W: Write>(file: &str, mode: Mode, target: Target, sink: &mut Sink<W>) -
     let mut session = Session::new(rt::Global, mode, target)?;
     let mut piece = std::vec![0; PIECE];
     loop {
-        match input.read(&mut piece).map_err(|_| Stop::Read)? {
-            0 => return session.finish(sink),
-            n => session.feed(&piece[..n], sink)?,
+        match input.read(&mut piece) {
+            Ok(0) => return session.finish(sink),
+            Ok(n) => session.feed(&piece[..n], sink)?,
+            Err(error) if error.kind() == std::io::ErrorKind::Interrupted => {}
+            Err(_) => return Err(Stop::Read),
         }
     }
 }
@@ -168,7 +170,20 @@ fn fault() -> ! {
     std::process::exit(64);
 }
 
+unsafe extern "C" {
+    fn _exit(status: i32) -> !;
+}
+
+/// Answers a refused allocation of Rust's own, where no Result tells it. Standard output's own buffer may be what was refused, so none is used.
+fn memory(_: std::alloc::Layout) {
+    let stream = if std::env::args_os().nth(1).is_some_and(|word| word == "decode") { 2 } else { 1 };
+    let mut out = std::mem::ManuallyDrop::new(unsafe { <std::fs::File as std::os::fd::FromRawFd>::from_raw_fd(stream) });
+    let _ = out.write_all(b"memory\n");
+    unsafe { _exit(3) }
+}
+
 fn main() {
+    std::alloc::set_alloc_error_hook(memory);
     let mut words: std::vec::Vec<std::string::String> = std::env::args().skip(1).collect();
     let target = match words.iter().position(|w| w == "--target") {
         Some(at) => match words.drain(at..words.len().min(at + 2)).nth(1).as_deref() {
@@ -187,7 +202,7 @@ fn main() {
         "decode" => (Task::Decode, Mode::Full),
         _ => fault(),
     };
-    eprintln!("{NOT_PROVED}");
+    let _ = writeln!(std::io::stderr(), "{NOT_PROVED}");
     let out = std::io::BufWriter::with_capacity(PIECE, std::io::stdout());
     let mut sink = Sink { task, out, frames: 0, last: VecDeque::new() };
     let answer = judge(file, mode, target, &mut sink);
@@ -199,7 +214,7 @@ fn main() {
         }
     }
     if sink.task == Task::Decode {
-        eprintln!("{line}");
+        written = written.and(writeln!(std::io::stderr(), "{line}"));
     } else {
         written = written.and(writeln!(sink.out, "{line}"));
     }
