@@ -32,7 +32,7 @@ VERDICTS = {0: "yes", 1: "no", 2: "outside"}
 LAST_LINE = re.compile(r"yes: units \d+ pictures \d+ frames \d+|no: bit \d+: (\w+) \(clause [A-E\d.]+\)|outside: bit \d+: (\w+)")
 LABELS = set(re.findall(r"^### (\w+)$", (HERE.parent / "docs" / "RULES.md").read_text(), re.M))
 # What ffmpeg says of a stream that it does not take as the standard has it.
-LACKS_SET = ("non-existing PPS", "sps_id", "pps_id", "SPS", "PPS", "VUI", "crop", "cpb_count")
+LACKS_SET = ("non-existing PPS", "sps_id", "pps_id", "SPS", "PPS", "VUI", "crop", "cpb_count", "invalid SAR")
 
 
 def compiled(folder):
@@ -247,7 +247,7 @@ def excused(frames, order, theirs, complaints, tags):
     if theirs is not None and sorted(theirs) == sorted(frames):
         if any(a == b for a, b in zip(order, order[1:])):
             return "another order, of two frames of one count"
-        if "operation 5" in tags:
+        if "count below that of operation 5" in tags or {"operation 5", "changed"} <= tags:
             return "another order, with counts below that of operation 5"
     if tags & {"gap after no reference"}:
         return "a gap after a picture that is no reference"

@@ -4,6 +4,7 @@
        SHORT_READ=1        each read gives one byte; SHORT_WRITE=1 each write takes one
        INTERRUPT_READ=1    each read is interrupted (EINTR) before it is done; INTERRUPT_WRITE=1 each write
        SHRINK_FILE=NAME    the file is cut to SHRINK_TO bytes before the read of number SHRINK_AT
+       ZEROS=N             N zero bytes follow the end of a file that is read
        FIRED=NAME          this file is made when one of the calls above has gone wrong by its number
        WRITES=NAME         a line with the last byte of each write to standard output is added to this file */
 #define _GNU_SOURCE
@@ -45,6 +46,13 @@ void *malloc(size_t size) {
     return real(size);
 }
 
+void *calloc(size_t count, size_t size) {
+    static void *(*real)(size_t, size_t);
+    if (!real) real = dlsym(RTLD_NEXT, "calloc");
+    if (refused()) { errno = ENOMEM; return NULL; }
+    return real(count, size);
+}
+
 void *realloc(void *old, size_t size) {
     static void *(*real)(void *, size_t);
     if (!real) real = dlsym(RTLD_NEXT, "realloc");
@@ -73,6 +81,19 @@ static int ends(const char *fails, const char *interrupts, long *calls, int *int
     return 0;
 }
 
+/* The zero bytes that are read after the end of a file. */
+static ssize_t zeros(void *to, size_t size) {
+    static long given_so_far;
+    static void *filled;
+    long left = given("ZEROS") - given_so_far;
+    if (left <= 0) return 0;
+    if ((long)size > left) size = (size_t)left;
+    given_so_far += size;
+    if (filled != to) memset(to, 0, size); /* a piece that was filled before still is */
+    filled = to;
+    return (ssize_t)size;
+}
+
 ssize_t read(int from, void *to, size_t size) {
     static ssize_t (*real)(int, void *, size_t);
     static long calls, reads;
@@ -80,7 +101,8 @@ ssize_t read(int from, void *to, size_t size) {
     if (!real) real = dlsym(RTLD_NEXT, "read");
     if (is_due("SHRINK_AT", &reads) && truncate(getenv("SHRINK_FILE"), given("SHRINK_TO"))) abort();
     if (ends("FAIL_READ", "INTERRUPT_READ", &calls, &interrupted)) return -1;
-    return real(from, to, size && given("SHORT_READ") ? 1 : size);
+    ssize_t count = real(from, to, size && given("SHORT_READ") ? 1 : size);
+    return count == 0 && size ? zeros(to, size) : count;
 }
 
 /* Notes the last byte of a write to standard output. */

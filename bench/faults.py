@@ -17,7 +17,7 @@ from streams import legal
 HERE = pathlib.Path(__file__).resolve().parent
 COMMANDS = ["units", "headers", "check", "frames", "decode"]
 MEMORY, DEVICE = 3, 4
-NOTICE = b"h264v-quick: a plain build, of which nothing is proved\n"
+NOTICE = b"h264v-quick: a plain build, of which nothing is proved"
 SEEDS = [4, 8, 17]
 MOST_BYTES = 4000
 LONGEST = 20  # seconds that a run may take
@@ -49,7 +49,7 @@ class Answer:
     def last(self):
         """The last line, and what stands before it on standard output."""
         if self.lines_on_err:
-            lines = [it for it in self.err.splitlines() if not it.startswith((b"h264v: ", b"memory allocation"))]
+            lines = [it for it in self.err.splitlines() if not it.startswith((b"h264v: ", b"memory allocation", b"note: "))]
             return (lines or [b""])[-1], self.out
         front, _, last = self.out.removesuffix(b"\n").rpartition(b"\n")
         return last, front + b"\n" if front else b""

@@ -1,6 +1,6 @@
 /* Decodes byte streams by libavcodec and by OpenH264, many in one process: of each file whose name stands on a line of standard input the lines
        frame WIDTHxHEIGHT md5 DIGEST          of each frame in the order of output
-       error TEXT                             of each kind of complaint of ffmpeg's, up to eight
+       error TEXT                             of each kind of complaint or warning of ffmpeg's, up to sixteen
        errors NUMBER                          how often the decoder complained
        end
    go to standard output. judges ffmpeg|openh264. Built with -DWITH_OPENH264 where OpenH264's headers are installed. */
@@ -13,16 +13,16 @@
 #include <wels/codec_api.h>
 #endif
 
-enum { DIGEST = 16, PIECE = 65536, LONGEST_NAME = 4096, MOST_WAITING = 20, KINDS = 8 };
+enum { DIGEST = 16, PIECE = 65536, LONGEST_NAME = 4096, MOST_WAITING = 20, KINDS = 16 };
 
 static long errors;
 static const char *kinds[KINDS];
 
-/* Counts a complaint, and prints it if it is the first of its kind. */
+/* Counts a complaint, and prints it, or a warning, if it is the first of its kind. */
 static void count_error(void *context, int level, const char *format, va_list values) {
     (void)context, (void)values;
-    if (level > AV_LOG_ERROR) return;
-    errors++;
+    if (level > AV_LOG_WARNING) return;
+    errors += level <= AV_LOG_ERROR;
     for (int i = 0; i < KINDS; i++) {
         if (kinds[i] == format) return;
         if (!kinds[i]) {

@@ -38,6 +38,11 @@ fn shown(frame: &Frame, r: Rectangle) -> impl Iterator<Item = &[u8]> {
         .chain(rows(&frame.cr, r.left, r.right, r.top, r.bottom))
 }
 
+/// Writes a line in one piece, so that what a signal cuts off ends with a line.
+fn put_line(out: &mut impl Write, line: std::string::String) -> std::io::Result<()> {
+    out.write_all((line + "\n").as_bytes())
+}
+
 impl<W: Write> Sink<W> {
     fn done(result: std::io::Result<()>) -> Result<(), Failed> {
         result.map_err(|_| Failed)
@@ -71,7 +76,7 @@ impl<W: Write> FrameOut for Sink<W> {
                 let height = frame.y.height() - 2 * (r.top + r.bottom);
                 let index = self.frames;
                 let digest = md5(&bytes);
-                Self::done(writeln!(self.out, "frame {index} count {count} {width}x{height} md5 {digest}"))?;
+                Self::done(put_line(&mut self.out, format!("frame {index} count {count} {width}x{height} md5 {digest}")))?;
             }
             _ => {}
         }
@@ -85,14 +90,14 @@ impl<W: Write> FrameSink for Sink<W> {
         if self.task != Task::Units {
             return Ok(());
         }
-        Self::done(writeln!(self.out, "unit {byte} type {nal_unit_type} ref {nal_ref_idc} bytes {length}"))
+        Self::done(put_line(&mut self.out, format!("unit {byte} type {nal_unit_type} ref {nal_ref_idc} bytes {length}")))
     }
 
     fn slice(&mut self, byte: u64, mb: u32, slice_type: SliceType, frame_num: u32, count: i32) -> Result<(), Failed> {
         if self.task != Task::Headers {
             return Ok(());
         }
-        Self::done(writeln!(self.out, "slice {byte} mb {mb} type {slice_type:?} frame {frame_num} count {count}"))
+        Self::done(put_line(&mut self.out, format!("slice {byte} mb {mb} type {slice_type:?} frame {frame_num} count {count}")))
     }
 }
 
@@ -202,21 +207,24 @@ fn main() {
         "decode" => (Task::Decode, Mode::Full),
         _ => fault(),
     };
-    let _ = writeln!(std::io::stderr(), "{NOT_PROVED}");
+    let _ = put_line(&mut std::io::stderr(), NOT_PROVED.into());
     let out = std::io::BufWriter::with_capacity(PIECE, std::io::stdout());
     let mut sink = Sink { task, out, frames: 0, last: VecDeque::new() };
-    let answer = judge(file, mode, target, &mut sink);
+    let mut answer = judge(file, mode, target, &mut sink);
+    if sink.task == Task::Decode && sink.out.flush().is_err() {
+        answer = Err(Stop::Write);
+    }
     let (line, status) = last_line(&sink.task, &answer);
     let mut written = Ok(());
     if let Err(Stop::No { .. }) = answer {
         for (name, bit, value) in &sink.last {
-            written = written.and(writeln!(sink.out, "element {} bit {bit} value {value}", name.text()));
+            written = written.and(put_line(&mut sink.out, format!("element {} bit {bit} value {value}", name.text())));
         }
     }
     if sink.task == Task::Decode {
-        written = written.and(writeln!(std::io::stderr(), "{line}"));
+        written = written.and(put_line(&mut std::io::stderr(), line));
     } else {
-        written = written.and(writeln!(sink.out, "{line}"));
+        written = written.and(put_line(&mut sink.out, line));
     }
     written = written.and(sink.out.flush());
     std::process::exit(if written.is_ok() { status } else { 4 });
