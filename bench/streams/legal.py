@@ -257,7 +257,7 @@ class Stream:
         """A slice of so many macroblocks."""
         chance, pps = self.chance, head["pps"]
         out = Unit(head["ref_idc"], IDR if head["idr"] else SLICE)
-        is_p = not head["idr"] and chance.random() < 0.85
+        is_p = not head["idr"] and self.sps.references > 0 and chance.random() < 0.85
         out.ue("first_mb_in_slice", picture.coded)
         out.ue("slice_type", P_TYPE if is_p else chance.choice([I_TYPE, I_TYPE + ALL_SLICES]) if head["alone"] else I_TYPE)
         out.ue("pic_parameter_set_id", pps.set_id)
@@ -336,7 +336,7 @@ class Stream:
         if head["idr"]:
             self.buffer.flush()
             self.buffer.long_limit = 0
-            if self.chance.random() < 0.3:
+            if self.sps.references > 0 and self.chance.random() < 0.3:
                 frame.short, frame.long_index, self.buffer.long_limit = False, 0, 1
         elif head["ref_idc"]:
             if self.chance.random() < 0.5 or not self.buffer.slide(head["number"]):

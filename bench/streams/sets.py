@@ -186,7 +186,7 @@ def sequence_by_chance(chance, main_ip=False):
         sps.non_ref_offset = chance.choice([0, -1, -3, 1])
         sps.bottom_offset = chance.choice([0, 1, -1])
         sps.cycle = tuple(chance.randint(2, 6) for _ in range(chance.randrange(4)))
-    sps.references = chance.choice([1, 1, 2, 3, 4, 16])
+    sps.references = chance.choice([0, 1, 1, 1, 2, 2, 3, 3, 4, 4, 16, 16])
     sps.gaps = chance.random() < 0.3
     if chance.random() < 0.3:
         sps.crop = tuple(chance.randrange(MB_SIDE // 4) for _ in range(4))
@@ -202,7 +202,7 @@ def picture_set_by_chance(chance, sps, set_id, weighted=False):
         set_id,
         sps.set_id,
         bottom_counts=chance.random() < 0.3,
-        default_active=chance.choice([1, 1, min(2, sps.references), min(16, 2 * sps.references)]),
+        default_active=max(1, chance.choice([1, 1, min(2, sps.references), min(16, 2 * sps.references)])),
         weighted=weighted,
         qp=chance.choice([chance.randint(0, 51), chance.randint(18, 38)]),
         chroma_offset=chance.choice([0, 0, chance.randint(-12, 12)]),
