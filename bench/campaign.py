@@ -184,10 +184,10 @@ class Worker:
             self.counts["wrong answers"] += 1
             self.keep(name, wrong or f"legal by construction, and {last}", stream)
         elif status == 0:
-            self.compare_frames(name, stream, (frames, order), tags)
+            self.compare_frames(name, stream, (frames, order, dropped(last)), tags)
 
     def compare_frames(self, name, stream, mine, tags):
-        frames, order = mine
+        frames = mine[0]
         theirs, complaints = self.others["ffmpeg"].judged(self.path)
         second = self.others["openh264"].judged(self.path)[0] if "openh264" in self.others else None
         if second is not None:
@@ -195,7 +195,7 @@ class Worker:
         if theirs == frames:
             self.counts["ffmpeg: the same frames"] += 1
             return
-        excuse = excused(frames, order, theirs, complaints, tags)
+        excuse = excused(mine, theirs, complaints, tags)
         if excuse:
             self.counts[f"ffmpeg: {excuse}"] += 1
             return
@@ -240,8 +240,15 @@ def likeness(frames, theirs):
     return "other frames" if left else "fewer frames"
 
 
-def excused(frames, order, theirs, complaints, tags):
-    """The known way of ffmpeg's by which its frames differ, if there is one (docs/RELIABILITY.md)."""
+def dropped(last):
+    """How many pictures of a yes are never written."""
+    numbers = re.findall(r"(?:pictures|frames) (\d+)", last)
+    return int(numbers[0]) - int(numbers[1])
+
+
+def excused(mine, theirs, complaints, tags):
+    """The known way of ffmpeg's by which its frames differ, if there is one (docs/RELIABILITY.md). `mine` are the frames, their counts, and how many pictures are never written."""
+    frames, order, unwritten = mine
     if any(word in it for it in complaints for word in LACKS_SET):
         return "a parameter set that it does not take"
     if theirs is not None and sorted(theirs) == sorted(frames):
@@ -249,7 +256,11 @@ def excused(frames, order, theirs, complaints, tags):
             return "another order, of two frames of one count"
         if "count below that of operation 5" in tags or {"operation 5", "changed"} <= tags:
             return "another order, with counts below that of operation 5"
-    if tags & {"gap after no reference"}:
+    if theirs is not None and unwritten:
+        more, fewer = collections.Counter(theirs), collections.Counter(frames)
+        if not fewer - more and (more - fewer).total() <= unwritten:
+            return "frames that no_output_of_prior_pics_flag drops"
+    if "gap after no reference" in tags:
         return "a gap after a picture that is no reference"
     return ""
 

@@ -132,3 +132,7 @@ ssize_t writev(int to, const struct iovec *parts, int count) {
         if (parts[i].iov_len) return write(to, parts[i].iov_base, parts[i].iov_len);
     return 0;
 }
+
+ssize_t __write(int to, const void *bytes, size_t size) {
+    return write(to, bytes, size);
+}

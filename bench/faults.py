@@ -63,7 +63,7 @@ class Trial:
 
     def __init__(self, program, library, command, path, plain):
         self.program, self.library, self.command, self.path, self.plain = program, library, command, path, plain
-        self.whole = Answer(program, command, path)
+        self.whole, self.early = Answer(program, command, path), 0
 
     def answer(self, **fault):
         return Answer(self.program, self.command, self.path, self.library, **fault)
@@ -102,8 +102,15 @@ class Trial:
                 raise ValueError(f"{name}={number}: status {answer.status}\n{answer.out!r}\n{answer.err!r}")
 
     def is_memory(self, answer):
+        """Whether the answer is `memory`. Before the words are known, `decode` too says so on standard output (docs/RELIABILITY.md)."""
+        if self.lacks_words(answer):
+            self.early += 1
+            return True
         before_main = self.plain and answer.status < 0 and not answer.out and not answer.last()[0]
         return before_main or self.is_told(answer, MEMORY, b"memory")
+
+    def lacks_words(self, answer):
+        return self.command == "decode" and (answer.status, answer.out, answer.last()[0]) == (MEMORY, b"memory\n", b"")
 
     def run(self):
         """All faults in turn: what was tried."""
@@ -115,7 +122,8 @@ class Trial:
         for fault in ("SHORT_READ", "SHORT_WRITE", "INTERRUPT_READ", "INTERRUPT_WRITE"):
             if not self.answer(**{fault: 1}).is_same(self.whole):
                 raise ValueError(f"{fault} changes what is written")
-        return ", ".join(f"{name} {count}" for name, count in found.items())
+        early = {"told on standard output": self.early} if self.early else {}
+        return ", ".join(f"{name} {count}" for name, count in {**found, **early}.items())
 
 
 def made(folder):
