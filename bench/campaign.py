@@ -1,13 +1,16 @@
 #!/usr/bin/env python3
-"""campaign.py PROGRAM [--minutes M] [--jobs N] [--seed S] [--keep FOLDER] [--main-ip] [STREAM..]: judges small streams by PROGRAM (h264v, or h264v-quick) and by other decoders.
+"""campaign.py PROGRAM [--minutes M] [--jobs N] [--seed S] [--keep FOLDER] [--main-ip] [STREAM..]: judges small streams by PROGRAM (h264v, or h264v-quick) and
+by other decoders.
 
-Streams are made by bench/streams, legal by construction and with every tool of the profile, and some by x264 where it is installed; STREAM adds more. Of each a few changed ones
-are made: an element with another value, the code words after it whole; bits flipped; a byte inserted; the end cut off; units lost, doubled and exchanged.
+Streams are made by bench/streams, legal by construction and with every tool of the profile, and some by x264 where it is installed; STREAM adds more. Of
+each a few changed ones are made: an element with another value, the code words after it whole; bits flipped; a byte inserted; the end cut off; units lost,
+doubled and exchanged.
 
-Of each stream: `check`, `frames` and `decode` have to give one answer, with a status and a label that docs/ name; the bytes of `decode` have to be those frames; a stream that is
-legal by construction has to be a yes. Of each yes the frames have to be those of ffmpeg's decoder, and where they are not, OpenH264's are looked at too.
-A stream for which this does not hold is kept in FOLDER, by its seed, with a line in FOLDER/differs.txt. FOLDER/seeds.txt tells which seeds were gone through, and what they covered.
-Known ways in which ffmpeg does not follow the standard are counted apart (docs/RELIABILITY.md). With --main-ip pictures have explicit weights, and PROGRAM judges with --target main-ip.
+Of each stream: `check`, `frames` and `decode` have to give one answer, with a status and a label that docs/ name; the bytes of `decode` have to be those
+frames; a stream that is legal by construction has to be a yes. Of each yes the frames have to be those of ffmpeg's decoder, and where they are not,
+OpenH264's are looked at too. A stream for which this does not hold is kept in FOLDER, by its seed, with a line in FOLDER/differs.txt. FOLDER/seeds.txt
+tells which seeds were gone through, and what they covered. Known ways in which ffmpeg does not follow the standard are counted apart
+(docs/RELIABILITY.md). With --main-ip pictures have explicit weights, and PROGRAM judges with --target main-ip.
 
 Needs a C compiler and libavcodec; OpenH264 where it is installed. On Debian: apt-get install gcc libavcodec-dev libopenh264-dev ffmpeg x264"""
 import argparse
@@ -31,6 +34,9 @@ OTHERS = ["ffmpeg", "openh264"]
 VERDICTS = {0: "yes", 1: "no", 2: "outside"}
 LAST_LINE = re.compile(r"yes: units \d+ pictures \d+ frames \d+|no: bit \d+: (\w+) \(clause [A-E\d.]+\)|outside: bit \d+: (\w+)")
 LABELS = set(re.findall(r"^### (\w+)$", (HERE.parent / "docs" / "RULES.md").read_text(), re.M))
+# Elements of which each value is a tool.
+TOLD_BY_VALUE = {"mb_type", "sub_mb_type", "memory_management_control_operation", "modification_of_pic_nums_idc"}
+TOLD_BY_VALUE |= {"pic_order_cnt_type", "disable_deblocking_filter_idc"}
 # What ffmpeg says of a stream that it does not take as the standard has it.
 LACKS_SET = ("non-existing PPS", "sps_id", "pps_id", "SPS", "PPS", "VUI", "crop", "cpb_count", "invalid SAR")
 
@@ -187,6 +193,7 @@ class Worker:
             self.compare_frames(name, stream, (frames, order, dropped(last)), tags)
 
     def compare_frames(self, name, stream, mine, tags):
+        """Compares the frames of a yes with those of the other decoders, and counts what came of it."""
         frames = mine[0]
         theirs, complaints = self.others["ffmpeg"].judged(self.path)
         second = self.others["openh264"].judged(self.path)[0] if "openh264" in self.others else None
@@ -247,7 +254,9 @@ def dropped(last):
 
 
 def excused(mine, theirs, complaints, tags):
-    """The known way of ffmpeg's by which its frames differ, if there is one (docs/RELIABILITY.md). `mine` are the frames, their counts, and how many pictures are never written."""
+    """The known way of ffmpeg's by which its frames differ, if there is one (docs/RELIABILITY.md).
+
+    `mine` are the frames, their counts, and how many pictures are never written."""
     frames, order, unwritten = mine
     if any(word in it for it in complaints for word in LACKS_SET):
         return "a parameter set that it does not take"
@@ -273,7 +282,7 @@ def covered(units):
         for name, code, _, value, _ in unit.elements:
             if name == "slice_type":
                 is_p = value in (0, 5)
-            if name in ("mb_type", "sub_mb_type", "memory_management_control_operation", "modification_of_pic_nums_idc", "pic_order_cnt_type", "disable_deblocking_filter_idc"):
+            if name in TOLD_BY_VALUE:
                 found.add(f"{name} {value}" + (" in P" if name == "mb_type" and is_p else ""))
             elif code == "u" and name.endswith("flag") and value:
                 found.add(name)
@@ -307,8 +316,9 @@ def told(report, ways):
             number, last, found = it
             counts.update(found)
             left -= 1
+            target = ", main-ip" if ways.main_ip else ""
             with open(folder / "seeds.txt", "a") as file:
-                file.write(f"seeds {ways.seed + number} to {last} in steps of {ways.jobs}{', main-ip' if ways.main_ip else ''}: {dict(sorted(found.items()))}\n")
+                file.write(f"seeds {ways.seed + number} to {last} in steps of {ways.jobs}{target}: {dict(sorted(found.items()))}\n")
     return counts
 
 

@@ -1,9 +1,9 @@
 #!/usr/bin/env python3
-"""dearest.py PROGRAM [--command COMMAND] [CASE..]: makes the dearest streams that a level allows (streams/dear.py), judges each by PROGRAM (check), and prints processor time a byte
-and a macroblock, and the greatest memory.
+"""dearest.py PROGRAM [--command COMMAND] [CASE..]: makes the dearest streams that a level allows (streams/dear.py), judges each by PROGRAM (check), and
+prints processor time a byte and a macroblock, and the greatest memory.
 
-Each case is made in two sizes, the second twice the first. The last column is the processor time of the second over that of the first: about 2 where time grows with the input, 4
-where it grows with the input's square. It ends with 1 where an answer is not the one that the case must have."""
+Each case is made in two sizes, the second twice the first. The last column is the processor time of the second over that of the first: about 2 where time
+grows with the input, 4 where it grows with the input's square. It ends with 1 where an answer is not the one that the case must have."""
 import os
 import subprocess
 import sys
@@ -38,7 +38,8 @@ def measured(name, program, command, path):
         right = right and last.startswith(wanted)
         times.append(max(seconds, 1e-3))
     cost = NANOSECONDS * times[-1]
-    print(f"{name:20} {length:10} {macroblocks:8} {times[-1]:7.2f} {cost / length:10.1f} {cost / macroblocks:12.1f} {memory:7.0f} {times[-1] / times[0]:5.1f}  {last}", flush=True)
+    costs = f"{times[-1]:7.2f} {cost / length:10.1f} {cost / macroblocks:12.1f} {memory:7.0f} {times[-1] / times[0]:5.1f}"
+    print(f"{name:20} {length:10} {macroblocks:8} {costs}  {last}", flush=True)
     return right
 
 

@@ -1,11 +1,14 @@
 #!/usr/bin/env python3
-"""faults.py PROGRAM [--plain] [STREAM..]: runs each command of PROGRAM on small streams while one thing after another goes wrong, by a library that stands in front of the C library (faults.c).
+"""faults.py PROGRAM [--plain] [STREAM..]: runs each command of PROGRAM on small streams while one thing after another goes wrong, by a library that stands in
+front of the C library (faults.c).
 
-The Nth allocation is refused, for each N: `memory` and status 3. The Nth read fails: `read failed` and status 4. The Nth write fails: status 4. What was written before is the front of
-what the stream gives without the fault, whole lines and whole frames; after a failed write it may break off anywhere. Each read gives one byte, each write takes one, each is
-interrupted first: nothing changes. With no STREAM some are made. It prints a line for each command and stream, and ends with 1 at the first answer that is otherwise.
+The Nth allocation is refused, for each N: `memory` and status 3. The Nth read fails: `read failed` and status 4. The Nth write fails: status 4. What was
+written before is the front of what the stream gives without the fault, whole lines and whole frames; after a failed write it may break off anywhere. Each
+read gives one byte, each write takes one, each is interrupted first: nothing changes. With no STREAM some are made. It prints a line for each command and
+stream, and ends with 1 at the first answer that is otherwise.
 
-With --plain PROGRAM is h264v-quick: what Rust allocates before its main cannot be answered, and its notice need not be written; both are passed over. Needs a C compiler."""
+With --plain PROGRAM is h264v-quick: what Rust allocates before its main cannot be answered, and its notice need not be written; both are passed over.
+Needs a C compiler."""
 import os
 import pathlib
 import subprocess
@@ -41,7 +44,9 @@ class Answer:
     """What a run wrote, and its status."""
 
     def __init__(self, program, command, path, library="", **fault):
-        variables = {**os.environ, "RUST_BACKTRACE": "0", **({"LD_PRELOAD": library} if library else {}), **{name: str(value) for name, value in fault.items()}}
+        variables = {**os.environ, "RUST_BACKTRACE": "0", **{name: str(value) for name, value in fault.items()}}
+        if library:
+            variables["LD_PRELOAD"] = library
         ran = subprocess.run([program, command, path], capture_output=True, env=variables, timeout=LONGEST)
         self.status, self.out, self.err = ran.returncode, ran.stdout, ran.stderr.replace(NOTICE, b"")
         self.lines_on_err = command == "decode"

@@ -1,9 +1,11 @@
 #!/usr/bin/env python3
-"""files.py PROGRAM [--plain] [--whole]: files and streams as systems have them. It prints a line for each, and ends with 1 where one is not answered as docs/OUTPUT.md says.
+"""files.py PROGRAM [--plain] [--whole]: files and streams as systems have them. It prints a line for each, and ends with 1 where one is not answered as
+docs/OUTPUT.md says.
 
-Input above 4 GiB, in a sparse file; with --whole also input above 2^40 bytes, whose last ones are zeros that a library in front of the C library gives (faults.c; minutes to hours).
-A pipe that stalls, and one that brings a byte at a time. A file that is cut short while it is read. A missing file, and a folder in its place. Output to a full disk and to a pipe that
-nobody reads: status 4, and no text but a cause. Signals: what was written by then ends in a whole line.
+Input above 4 GiB, in a sparse file; with --whole also input above 2^40 bytes, whose last ones are zeros that a library in front of the C library gives
+(faults.c; minutes to hours). A pipe that stalls, and one that brings a byte at a time. A file that is cut short while it is read. A missing file, and a
+folder in its place. Output to a full disk and to a pipe that nobody reads: status 4, and no text but a cause. Signals: what was written by then ends in a
+whole line.
 
 With --plain PROGRAM is h264v-quick. Needs a C compiler, and 4 GiB of room for names of blocks in a sparse file, but no room on the disk."""
 import os
@@ -36,8 +38,9 @@ class Trials:
         pathlib.Path(self.stream).write_bytes(PICTURE)
 
     def ran(self, command, path, faults=None, **ways):
-        variables = {**os.environ, "LD_PRELOAD": self.library, **{name: str(value) for name, value in faults.items()}} if faults else None
-        return subprocess.run([self.program, command, path], env=variables, timeout=SECONDS, **{"stdout": subprocess.PIPE, "stderr": subprocess.PIPE, **ways})
+        variables = {**os.environ, **({"LD_PRELOAD": self.library} if faults else {}), **{name: str(value) for name, value in (faults or {}).items()}}
+        streams = {"stdout": subprocess.PIPE, "stderr": subprocess.PIPE, **ways}
+        return subprocess.run([self.program, command, path], env=variables, timeout=SECONDS, **streams)
 
     def answer(self, command, path, faults=None):
         it = self.ran(command, path, faults)
@@ -72,7 +75,8 @@ class Trials:
     def above_2_to_40(self):
         """A stream, and zero bytes until the input is too long."""
         begun = time.time()
-        it = subprocess.run([self.program, "check", self.stream], env={**os.environ, "LD_PRELOAD": self.library, "ZEROS": str(LONGEST_INPUT)}, capture_output=True)
+        variables = {**os.environ, "LD_PRELOAD": self.library, "ZEROS": str(LONGEST_INPUT)}
+        it = subprocess.run([self.program, "check", self.stream], env=variables, capture_output=True)
         wanted = f"outside: bit {8 * LONGEST_INPUT}: InputTooLong\n".encode()
         self.told("input above 2^40 bytes", it.returncode == OUTSIDE and it.stdout == wanted, f"{time.time() - begun:.0f} seconds")
 
@@ -128,6 +132,7 @@ class Trials:
         self.told("output to a full disk", right)
 
     def closed_pipe(self):
+        """Output to a pipe whose other end is closed: nothing is said but the cause."""
         right, texts = True, set()
         for command in COMMANDS:
             reader, writer = os.pipe()
@@ -148,9 +153,7 @@ class Trials:
             self.answer(command, path, {"WRITES": note})
             ends = pathlib.Path(note).read_text().split()
             right = right and all(int(it) == LINE_END for it in ends)
-            writes = len(ends)
         self.told("each write ends with a line", right)
-        return writes
 
     def signals(self):
         """A signal while the program waits for more of a pipe: what it has written ends in a whole line."""
@@ -170,10 +173,10 @@ class Trials:
 def main(program, *words):
     with tempfile.TemporaryDirectory() as folder:
         trials = Trials(program, folder, "--plain" in words)
-        for trial in (trials.pipes, trials.shrinking, trials.unreadable, trials.full_disk, trials.closed_pipe, trials.whole_writes, trials.signals, trials.above_4_gib):
+        all_of_them = [trials.pipes, trials.shrinking, trials.unreadable, trials.full_disk, trials.closed_pipe, trials.whole_writes, trials.signals]
+        all_of_them += [trials.above_4_gib] + [trials.above_2_to_40] * ("--whole" in words)
+        for trial in all_of_them:
             trial()
-        if "--whole" in words:
-            trials.above_2_to_40()
         return 1 if trials.failed else 0
 
 

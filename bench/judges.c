@@ -60,7 +60,8 @@ static void parse(AVCodecParserContext *parser, AVCodecContext *decoder, uint8_t
     AVPacket *packet = av_packet_alloc();
     AVFrame *frame = av_frame_alloc();
     do {
-        int used = av_parser_parse2(parser, decoder, &packet->data, &packet->size, bytes, (int)(length < PIECE ? length : PIECE), AV_NOPTS_VALUE, AV_NOPTS_VALUE, 0);
+        int most = (int)(length < PIECE ? length : PIECE);
+        int used = av_parser_parse2(parser, decoder, &packet->data, &packet->size, bytes, most, AV_NOPTS_VALUE, AV_NOPTS_VALUE, 0);
         bytes += used;
         length -= used;
         if (packet->size) drain(decoder, packet, frame);

@@ -107,7 +107,8 @@ class Stream:
     def __init__(self, seed, main_ip=False):
         self.chance = random.Random(seed)
         self.sps = sequence_by_chance(self.chance, main_ip)
-        self.sets = [picture_set_by_chance(self.chance, self.sps, i, main_ip and self.chance.random() < 0.8) for i in self.chance.choice([(0,), (0, 1), (3, 255)])]
+        ids = self.chance.choice([(0,), (0, 1), (3, 255)])
+        self.sets = [picture_set_by_chance(self.chance, self.sps, i, main_ip and self.chance.random() < 0.8) for i in ids]
         self.buffer, self.counts = Buffer(self.sps), Counts(self.sps)
         self.units, self.used, self.tags = [self.sps.unit(), *(it.unit() for it in self.sets)], set(), set()
         self.last_number = self.idr_id = 0

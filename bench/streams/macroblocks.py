@@ -142,10 +142,12 @@ class SliceData:
         if way < 0.5:
             vector = (chance.randint(-12, 12), chance.randint(-12, 12))
         elif way < 0.9:
-            edges = [(-16 * x - chance.randint(-12, 120), 16 * (self.p.columns * 4 - x) + chance.randint(-40, 90)), (-16 * y - chance.randint(-12, 120), 16 * (self.p.rows * 4 - y) + chance.randint(-40, 90))]
+            ends = [(x, 4 * self.p.columns), (y, 4 * self.p.rows)]
+            edges = [(-16 * at - chance.randint(-12, 120), 16 * (end - at) + chance.randint(-40, 90)) for at, end in ends]
             vector = tuple(chance.choice([near, far, chance.randint(-9, 9)]) for near, far in edges)
         else:
-            vector = (chance.choice([-ACROSS - 1, ACROSS, 0, chance.randint(-ACROSS, ACROSS)]), chance.choice([-self.greatest_down - 1, self.greatest_down, 0]))
+            across = chance.choice([-ACROSS - 1, ACROSS, 0, chance.randint(-ACROSS, ACROSS)])
+            vector = (across, chance.choice([-self.greatest_down - 1, self.greatest_down, 0]))
         down = max(-self.greatest_down - 1, min(self.greatest_down, vector[1]))
         return vector[0], down
 
