@@ -299,7 +299,7 @@ def words():
     parser.add_argument("--keep", default="campaign")
     parser.add_argument("--main-ip", action="store_true")
     parser.add_argument("streams", nargs="*")
-    return parser.parse_args()
+    return parser.parse_intermixed_args()
 
 
 def told(report, ways):

@@ -169,8 +169,8 @@ def pcm(size):
     return pcm_stream(4 * size), COLUMNS * ROWS * 4 * size
 
 
-def slices_stream(count):
-    dear = Dear()
+def slices_stream(count, columns=COLUMNS, rows=ROWS):
+    dear = Dear(columns, rows)
     yield dear.begun()
     for _ in range(count):
         dear.next()
@@ -180,6 +180,10 @@ def slices_stream(count):
 
 def slice_each(size):
     return slices_stream(30 * size), COLUMNS * ROWS * (30 * size + 1)
+
+
+def greatest_slices(size):
+    return slices_stream(size, GREATEST_COLUMNS, GREATEST_ROWS), GREATEST_COLUMNS * GREATEST_ROWS * (size + 1)
 
 
 def operations_stream(count):
@@ -279,6 +283,7 @@ CASES = {
     "longest_levels": (longest_levels, "yes"),
     "pcm": (pcm, "yes"),
     "slice_each": (slice_each, "yes"),
+    "greatest_slices": (greatest_slices, "yes"),
     "operations": (operations, "yes"),
     "empty_units": (empty_units, "yes"),
     "set_each": (set_each, "yes"),

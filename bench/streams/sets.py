@@ -184,7 +184,7 @@ def sequence_by_chance(chance, main_ip=False):
     if count_type == 1:
         sps.delta_always_zero = chance.random() < 0.4
         sps.non_ref_offset = chance.choice([0, -1, -3, 1])
-        sps.bottom_offset = chance.choice([0, 1, -1])
+        sps.bottom_offset = chance.choice([0, 1] if sps.delta_always_zero else [0, 1, -1])  # else an IDR picture's count would not be 0
         sps.cycle = tuple(chance.randint(2, 6) for _ in range(chance.randrange(4)))
     sps.references = chance.choice([0, 1, 1, 1, 2, 2, 3, 3, 4, 4, 16, 16])
     sps.gaps = chance.random() < 0.3
@@ -192,7 +192,7 @@ def sequence_by_chance(chance, main_ip=False):
         sps.crop = tuple(chance.randrange(MB_SIDE // 4) for _ in range(4))
     sps.vui = chance.random() < 0.3
     if sps.vui and chance.random() < 0.6:
-        sps.buffering = chance.randint(sps.references, sps.dpb_frames())
+        sps.buffering = chance.randint(max(1, sps.references), sps.dpb_frames())
     return sps
 
 
