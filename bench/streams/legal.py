@@ -365,7 +365,7 @@ class Stream:
             self.tags.add("count below that of operation 5")
         self.used.add(frame.count)
         self.after_other = not head["ref_idc"]
-        return self.buffer.store(frame) and self.buffer.rising
+        return self.buffer.store(frame) and self.buffer.is_in_order()
 
     def put_picture(self):
         """One picture; whether the stream is still legal."""

@@ -93,6 +93,10 @@ class Buffer:
         self.written = frame.count
         frame.waits = False
 
+    def is_in_order(self):
+        """Whether counts rise in what was written, and in what waits after it."""
+        return self.rising and all(self.written is None or it.count > self.written for it in self.frames if it.waits)
+
     def drop_idle(self):
         self.frames = [it for it in self.frames if it.is_reference() or it.waits]
 
