@@ -180,7 +180,7 @@ def main():
                 write(f"{out}/src/h264_{name}/{module}.rs", converted(name, open(f"{sources}/{file}").read()))
     write(f"{out}/src/rt.rs", open(f"{HERE}/plain_rt.rs").read())
     modules = "\n".join(f"mod h264_{name};" for name in CRATES)
-    head = f"#![feature(portable_simd)]\n#![allow(warnings)]\nmod rt;\n{modules}\n"
+    head = f"#![feature(portable_simd, alloc_error_hook)]\n#![allow(warnings)]\nmod rt;\n{modules}\n"
     write(f"{out}/src/main.rs", head + "\n".join(line for line in open(f"{HERE}/plain_main.rs") .read().split("\n") if not line.startswith("//!")))
     write(f"{out}/Cargo.toml", CARGO)
 

@@ -40,6 +40,11 @@ fn shown(frame: &Frame, r: Rectangle) -> impl Iterator<Item = &[u8]> {
         .chain(parts(&frame.cr, r.left, r.right, r.top, r.bottom))
 }
 
+/// Writes a line in one piece, so that what a signal cuts off ends with a line.
+fn put_line(out: &mut impl Write, line: std::string::String) -> std::io::Result<()> {
+    out.write_all((line + "\n").as_bytes())
+}
+
 impl<W: Write> Sink<W> {
     fn done(result: std::io::Result<()>) -> Result<(), Failed> {
         result.map_err(|_| Failed)
@@ -73,7 +78,7 @@ impl<W: Write> FrameOut for Sink<W> {
                 let height = frame.y.height() - 2 * (r.top + r.bottom);
                 let index = self.frames;
                 let digest = md5(&bytes);
-                Self::done(writeln!(self.out, "frame {index} count {count} {width}x{height} md5 {digest}"))?;
+                Self::done(put_line(&mut self.out, format!("frame {index} count {count} {width}x{height} md5 {digest}")))?;
             }
             _ => {}
         }
@@ -87,14 +92,14 @@ impl<W: Write> FrameSink for Sink<W> {
         if self.task != Task::Units {
             return Ok(());
         }
-        Self::done(writeln!(self.out, "unit {byte} type {nal_unit_type} ref {nal_ref_idc} bytes {length}"))
+        Self::done(put_line(&mut self.out, format!("unit {byte} type {nal_unit_type} ref {nal_ref_idc} bytes {length}")))
     }
 
     fn slice(&mut self, byte: u64, mb: u32, slice_type: SliceType, frame_num: u32, count: i32) -> Result<(), Failed> {
         if self.task != Task::Headers {
             return Ok(());
         }
-        Self::done(writeln!(self.out, "slice {byte} mb {mb} type {slice_type:?} frame {frame_num} count {count}"))
+        Self::done(put_line(&mut self.out, format!("slice {byte} mb {mb} type {slice_type:?} frame {frame_num} count {count}")))
     }
 }
 
@@ -158,9 +163,11 @@ fn judge<W: Write>(file: &str, mode: Mode, target: Target, sink: &mut Sink<W>) -
     let mut session = Session::new(rt::Global, mode, target)?;
     let mut piece = std::vec![0; PIECE];
     loop {
-        match input.read(&mut piece).map_err(|_| Stop::Read)? {
-            0 => return session.finish(sink),
-            n => session.feed(&piece[..n], sink)?,
+        match input.read(&mut piece) {
+            Ok(0) => return session.finish(sink),
+            Ok(n) => session.feed(&piece[..n], sink)?,
+            Err(error) if error.kind() == std::io::ErrorKind::Interrupted => {}
+            Err(_) => return Err(Stop::Read),
         }
     }
 }
@@ -170,7 +177,20 @@ fn fault() -> ! {
     std::process::exit(64);
 }
 
+unsafe extern "C" {
+    fn _exit(status: i32) -> !;
+}
+
+/// Answers a refused allocation of Rust's own, where no Result tells it. Standard output's own buffer may be what was refused, so none is used.
+fn memory(_: std::alloc::Layout) {
+    let stream = if std::env::args_os().nth(1).is_some_and(|word| word == "decode") { 2 } else { 1 };
+    let mut out = std::mem::ManuallyDrop::new(unsafe { <std::fs::File as std::os::fd::FromRawFd>::from_raw_fd(stream) });
+    let _ = out.write_all(b"memory\n");
+    unsafe { _exit(3) }
+}
+
 fn main() {
+    std::alloc::set_alloc_error_hook(memory);
     let mut words: std::vec::Vec<std::string::String> = std::env::args().skip(1).collect();
     let target = match words.iter().position(|w| w == "--target") {
         Some(at) => match words.drain(at..words.len().min(at + 2)).nth(1).as_deref() {
@@ -189,21 +209,24 @@ fn main() {
         "decode" => (Task::Decode, Mode::Full),
         _ => fault(),
     };
-    eprintln!("{NOT_PROVED}");
+    let _ = put_line(&mut std::io::stderr(), NOT_PROVED.into());
     let out = std::io::BufWriter::with_capacity(PIECE, std::io::stdout());
     let mut sink = Sink { task, out, frames: 0, last: VecDeque::new() };
-    let answer = judge(file, mode, target, &mut sink);
+    let mut answer = judge(file, mode, target, &mut sink);
+    if sink.task == Task::Decode && sink.out.flush().is_err() {
+        answer = Err(Stop::Write);
+    }
     let (line, status) = last_line(&sink.task, &answer);
     let mut written = Ok(());
     if let Err(Stop::No { .. }) = answer {
         for (name, bit, value) in &sink.last {
-            written = written.and(writeln!(sink.out, "element {} bit {bit} value {value}", name.text()));
+            written = written.and(put_line(&mut sink.out, format!("element {} bit {bit} value {value}", name.text())));
         }
     }
     if sink.task == Task::Decode {
-        eprintln!("{line}");
+        written = written.and(put_line(&mut std::io::stderr(), line));
     } else {
-        written = written.and(writeln!(sink.out, "{line}"));
+        written = written.and(put_line(&mut sink.out, line));
     }
     written = written.and(sink.out.flush());
     std::process::exit(if written.is_ok() { status } else { 4 });

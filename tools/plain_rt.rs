@@ -15,8 +15,8 @@ pub struct Vec<T>(std::vec::Vec<T>);
 pub fn filled<T: Clone>(x: T, n: usize) -> Result<Vec<T>, AllocError> { Ok(Vec(vec![x; n])) }
 impl<T> Vec<T> {
     pub fn new(_: Global) -> Vec<T> { Vec(std::vec::Vec::new()) }
-    pub fn with_capacity(_: Global, n: usize) -> Result<Vec<T>, AllocError> { Ok(Vec(std::vec::Vec::with_capacity(n))) }
-    #[inline] pub fn push(&mut self, x: T) -> Result<(), AllocError> { self.0.push(x); Ok(()) }
+    pub fn with_capacity(_: Global, n: usize) -> Result<Vec<T>, AllocError> { let mut v = std::vec::Vec::new(); v.try_reserve_exact(n).map_err(|_| AllocError)?; Ok(Vec(v)) }
+    #[inline] pub fn push(&mut self, x: T) -> Result<(), AllocError> { if self.0.len() == self.0.capacity() { self.0.try_reserve(1).map_err(|_| AllocError)?; } self.0.push(x); Ok(()) }
     #[inline] pub fn as_slice(&self) -> &[T] { &self.0 }
     #[inline] pub fn as_mut_slice(&mut self) -> &mut [T] { &mut self.0 }
     pub fn allocator(&self) -> &Global { &Global }
@@ -24,10 +24,10 @@ impl<T> Vec<T> {
     pub fn truncate(&mut self, n: usize) { self.0.truncate(n) }
     pub fn pop(&mut self) -> Option<T> { self.0.pop() }
     #[inline] pub fn push_reserved(&mut self, x: T) { self.0.push(x) }
-    pub fn reserve(&mut self, n: usize) -> Result<(), AllocError> { self.0.reserve(n); Ok(()) }
+    pub fn reserve(&mut self, n: usize) -> Result<(), AllocError> { self.0.try_reserve(n).map_err(|_| AllocError) }
 }
 impl<T: Clone> Vec<T> {
-    #[inline] pub fn extend_from_slice(&mut self, s: &[T]) -> Result<(), AllocError> { self.0.extend_from_slice(s); Ok(()) }
+    #[inline] pub fn extend_from_slice(&mut self, s: &[T]) -> Result<(), AllocError> { self.0.try_reserve(s.len()).map_err(|_| AllocError)?; self.0.extend_from_slice(s); Ok(()) }
 }
 impl<T> Deref for Vec<T> { type Target = [T]; #[inline(always)] fn deref(&self) -> &[T] { &self.0 } }
 impl<T> DerefMut for Vec<T> { #[inline(always)] fn deref_mut(&mut self) -> &mut [T] { &mut self.0 } }

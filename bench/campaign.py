@@ -1,0 +1,345 @@
+#!/usr/bin/env python3
+"""campaign.py PROGRAM [--minutes M] [--jobs N] [--seed S] [--keep FOLDER] [--main-ip] [STREAM..]: judges small streams by PROGRAM (h264v, or h264v-quick) and
+by other decoders.
+
+Streams are made by bench/streams, legal by construction and with every tool of the profile, and some by x264 where it is installed; STREAM adds more. Of
+each a few changed ones are made: an element with another value, the code words after it whole; bits flipped; a byte inserted; the end cut off; units lost,
+doubled and exchanged.
+
+Of each stream: `check`, `frames` and `decode` have to give one answer, with a status and a label that docs/ name; the bytes of `decode` have to be those
+frames; a stream that is legal by construction has to be a yes. Of each yes the frames have to be those of ffmpeg's decoder, and where they are not,
+OpenH264's are looked at too. A stream for which this does not hold is kept in FOLDER, by its seed, with a line in FOLDER/differs.txt. FOLDER/seeds.txt
+tells which seeds were gone through, and what they covered. Known ways in which ffmpeg does not follow the standard are counted apart
+(docs/RELIABILITY.md). With --main-ip pictures have explicit weights, and PROGRAM judges with --target main-ip.
+
+Needs a C compiler and libavcodec; OpenH264 where it is installed. On Debian: apt-get install gcc libavcodec-dev libopenh264-dev ffmpeg x264"""
+import argparse
+import collections
+import hashlib
+import multiprocessing
+import os
+import pathlib
+import random
+import re
+import subprocess
+import sys
+import tempfile
+import time
+
+from streams import encoded, legal
+
+HERE = pathlib.Path(__file__).resolve().parent
+CHANGED_OF_EACH = 6
+OTHERS = ["ffmpeg", "openh264"]
+VERDICTS = {0: "yes", 1: "no", 2: "outside"}
+LAST_LINE = re.compile(r"yes: units \d+ pictures \d+ frames \d+|no: bit \d+: (\w+) \(clause [A-E\d.]+\)|outside: bit \d+: (\w+)")
+LABELS = set(re.findall(r"^### (\w+)$", (HERE.parent / "docs" / "RULES.md").read_text(), re.M))
+# Elements of which each value is a tool.
+TOLD_BY_VALUE = {"mb_type", "sub_mb_type", "memory_management_control_operation", "modification_of_pic_nums_idc"}
+TOLD_BY_VALUE |= {"pic_order_cnt_type", "disable_deblocking_filter_idc"}
+# What ffmpeg says of a stream that it does not take as the standard has it.
+LACKS_SET = ("non-existing PPS", "sps_id", "pps_id", "SPS", "PPS", "VUI", "crop", "cpb_count", "invalid SAR")
+
+
+def compiled(folder):
+    """The decoders of judges.c, and which of them there are."""
+    program = f"{folder}/judges"
+    words = ["cc", "-O2", str(HERE / "judges.c"), "-o", program]
+    if subprocess.run([*words, "-DWITH_OPENH264", "-lavcodec", "-lavutil", "-lopenh264"], capture_output=True).returncode == 0:
+        return program, OTHERS
+    subprocess.run([*words, "-lavcodec", "-lavutil"], check=True)
+    return program, OTHERS[:1]
+
+
+class Other:
+    """Another decoder, in a process that goes on from stream to stream."""
+
+    def __init__(self, program, name):
+        self.words, self.process = [program, name], None
+
+    def judged(self, path):
+        """The frames and the complaints; None for the frames where it crashed."""
+        if self.process is None:
+            self.process = subprocess.Popen(self.words, stdin=subprocess.PIPE, stdout=subprocess.PIPE, text=True, errors="replace")
+        self.process.stdin.write(f"{path}\n")
+        self.process.stdin.flush()
+        frames, complaints = [], []
+        for line in self.process.stdout:
+            kind, _, rest = line.rstrip("\n").partition(" ")
+            if kind == "frame":
+                frames.append(rest.replace(" md5", ""))
+            elif kind == "error":
+                complaints.append(rest)
+            elif kind == "end":
+                return frames, complaints
+        self.process = None
+        return None, complaints
+
+
+class Judge:
+    """What PROGRAM says of a stream."""
+
+    def __init__(self, program, main_ip, path):
+        self.words, self.path = [program], path
+        self.more = ["--target", "main-ip"] if main_ip else []
+
+    def ran(self, command):
+        return subprocess.run([*self.words, command, *self.more, self.path], capture_output=True)
+
+    def judged(self):
+        """The status and the last line; each frame's size and digest, and its count; and what is wrong with the answers."""
+        check, frames, decode = (self.ran(it) for it in ("check", "frames", "decode"))
+        lines = frames.stdout.decode().splitlines()
+        last = lines[-1] if lines else ""
+        told = [it.split() for it in lines if it.startswith("frame ")]
+        digests, counts = [f"{it[4]} {it[6]}" for it in told], [int(it[3]) for it in told]
+        wrong = self.wrong(check, frames, decode, last) or self.unlike(decode.stdout, digests)
+        return frames.returncode, last, digests, counts, wrong
+
+    def wrong(self, check, frames, decode, last):
+        """What is wrong with the forms of the answers, if anything."""
+        found = LAST_LINE.fullmatch(last)
+        if frames.returncode not in VERDICTS or not found or not last.startswith(VERDICTS[frames.returncode]):
+            return f"frames: status {frames.returncode}, {last!r}"
+        if {found[1], found[2]} - {None} - LABELS:
+            return f"a label that docs/RULES.md does not name: {last}"
+        for name, ran, text in (("check", check, check.stdout), ("decode", decode, decode.stderr)):
+            other = [it for it in text.decode().splitlines() if not it.endswith("nothing is proved")][-1:]
+            if ran.returncode != frames.returncode or other != [last]:
+                return f"{name} says {other} with status {ran.returncode}, and frames {last!r}"
+        return ""
+
+    def unlike(self, samples, digests):
+        """Whether the bytes of `decode` are not those of the frames."""
+        at = 0
+        for digest in digests:
+            width, height = map(int, digest.split()[0].split("x"))
+            length = width * height * 3 // 2
+            if hashlib.md5(samples[at : at + length]).hexdigest() != digest.split()[1]:
+                return "decode writes other frames than frames"
+            at += length
+        return "" if at == len(samples) else "decode writes more than the frames"
+
+
+def units_of(stream):
+    """What stands before the first start code, and each unit with its own."""
+    starts = [it.start() for it in re.finditer(b"\0\0\1", stream)]
+    return stream[: starts[0]], [stream[a:b] for a, b in zip(starts, [*starts[1:], len(stream)])]
+
+
+def flipped(stream, chance):
+    """The stream with one or two bits flipped, mostly in slices, or a byte inserted, or its end cut off, or a unit lost, doubled or in another's place."""
+    front, units = units_of(stream)
+    slices = [i for i, unit in enumerate(units) if unit[3] & 31 in (1, 5)]
+    way = chance.random()
+    i = chance.choice(slices) if way < 0.75 else chance.randrange(len(units))
+    at = chance.randrange(3, len(units[i]))
+    if way < 0.8:
+        for _ in range(chance.choice([1, 1, 1, 2])):
+            unit = bytearray(units[i])
+            unit[chance.randrange(3, len(unit))] ^= 1 << chance.randrange(8)
+            units[i] = bytes(unit)
+    elif way < 0.84:
+        units[i] = units[i][:at] + bytes([chance.randrange(256)]) + units[i][at:]
+    elif way < 0.87:
+        units[i:] = [units[i][:at]]
+    elif way < 0.91:
+        del units[i]
+    elif way < 0.94:
+        units.insert(chance.randrange(len(units)), units[i])
+    else:
+        j = chance.randrange(len(units))
+        units[i], units[j] = units[j], units[i]
+    return front + b"".join(units)
+
+
+def changed(units, chance):
+    """The stream with another value at one element of one unit, mostly of a slice's front."""
+    slices = [i for i, unit in enumerate(units) if unit.header & 31 in (1, 5)]
+    at = chance.choice(slices) if chance.random() < 0.8 else chance.randrange(len(units))
+    front = chance.choice([None, 20, 60])
+    other = units[at].changed(chance, front)
+    return b"".join(unit.bytes() for unit in [*units[:at], other, *units[at + 1 :]])
+
+
+class Worker:
+    """One process of the campaign."""
+
+    def __init__(self, ways, number, folder, report):
+        self.ways, self.number, self.report = ways, number, report
+        self.path = f"{folder}/stream-{number}.264"
+        self.judge = Judge(ways.program, ways.main_ip, self.path)
+        self.others = {name: Other(ways.judges, name) for name in ways.others}
+        self.counts = collections.Counter()
+
+    def keep(self, name, why, stream):
+        """Keeps a stream that differs, and says why."""
+        folder = pathlib.Path(self.ways.keep)
+        (folder / f"{name}.264").write_bytes(stream)
+        self.report.put(f"{name}.264: {why}")
+
+    def compare(self, name, stream, tags, is_legal):
+        """Judges a stream, and counts what came of it."""
+        with open(self.path, "wb") as it:
+            it.write(stream)
+        status, last, frames, order, wrong = self.judge.judged()
+        self.counts[VERDICTS.get(status, f"status {status}")] += 1
+        if status == 1:
+            self.counts[f"rule {last.split()[3]}"] += 1
+        if wrong or is_legal and status != 0:
+            self.counts["wrong answers"] += 1
+            self.keep(name, wrong or f"legal by construction, and {last}", stream)
+        elif status == 0:
+            self.compare_frames(name, stream, (frames, order, dropped(last)), tags)
+
+    def compare_frames(self, name, stream, mine, tags):
+        """Compares the frames of a yes with those of the other decoders, and counts what came of it."""
+        frames = mine[0]
+        theirs, complaints = self.others["ffmpeg"].judged(self.path)
+        second = self.others["openh264"].judged(self.path)[0] if "openh264" in self.others else None
+        if second is not None:
+            self.counts[f"OpenH264: {likeness(frames, second)}"] += 1
+        if theirs == frames:
+            self.counts["ffmpeg: the same frames"] += 1
+            return
+        excuse = excused(mine, theirs, complaints, tags)
+        if excuse:
+            self.counts[f"ffmpeg: {excuse}"] += 1
+            return
+        kind = likeness(frames, theirs) + (", and OpenH264 agrees with h264v" if second is not None and sorted(second) == sorted(frames) else "")
+        self.counts[f"ffmpeg, not explained: {kind}"] += 1
+        self.keep(name, f"ffmpeg: {kind}; {'; '.join(sorted(tags))}; {' | '.join(complaints)}", stream)
+
+    def go_through(self, seed):
+        """The streams of one seed."""
+        chance = random.Random(f"changed {seed}")
+        if self.ways.streams and seed % 4 == 0:
+            stream, tags, units = chance.choice(self.ways.streams), set(), None
+        else:
+            units, tags = legal.stream(seed, self.ways.main_ip)
+            stream = b"".join(it.bytes() for it in units)
+            self.counts.update(f"covers {it}" for it in covered(units))
+            self.compare(f"legal-{seed}", stream, tags, True)
+        for i in range(CHANGED_OF_EACH):
+            if units and chance.random() < 0.6:
+                self.compare(f"element-{seed}-{i}", changed(units, chance), tags | {"changed"}, False)
+            else:
+                self.compare(f"flipped-{seed}-{i}", flipped(stream, chance), tags | {"changed"}, False)
+
+    def run(self):
+        seed = self.ways.seed + self.number
+        while time.time() < self.ways.end:
+            self.go_through(seed)
+            self.counts["seeds"] += 1
+            seed += self.ways.jobs
+        self.report.put((self.number, seed - self.ways.jobs, self.counts))
+
+
+def likeness(frames, theirs):
+    """How the frames of another decoder are like these."""
+    if theirs is None:
+        return "it crashed"
+    if theirs == frames:
+        return "the same frames"
+    if sorted(theirs) == sorted(frames):
+        return "the same frames in another order"
+    left = collections.Counter(theirs) - collections.Counter(frames)
+    return "other frames" if left else "fewer frames"
+
+
+def dropped(last):
+    """How many pictures of a yes are never written."""
+    numbers = re.findall(r"(?:pictures|frames) (\d+)", last)
+    return int(numbers[0]) - int(numbers[1])
+
+
+def excused(mine, theirs, complaints, tags):
+    """The known way of ffmpeg's by which its frames differ, if there is one (docs/RELIABILITY.md).
+
+    `mine` are the frames, their counts, and how many pictures are never written."""
+    frames, order, unwritten = mine
+    if any(word in it for it in complaints for word in LACKS_SET):
+        return "a parameter set that it does not take"
+    if theirs is not None and sorted(theirs) == sorted(frames):
+        if any(a == b for a, b in zip(order, order[1:])):
+            return "another order, of two frames of one count"
+        if "count below that of operation 5" in tags or {"operation 5", "changed"} <= tags:
+            return "another order, with counts below that of operation 5"
+    if theirs is not None and unwritten:
+        more, fewer = collections.Counter(theirs), collections.Counter(frames)
+        if not fewer - more and (more - fewer).total() <= unwritten:
+            return "frames that no_output_of_prior_pics_flag drops"
+    if "gap after no reference" in tags:
+        return "a gap after a picture that is no reference"
+    return ""
+
+
+def covered(units):
+    """The tools that a stream has, by its elements."""
+    found = set()
+    for unit in units:
+        is_p = False
+        for name, code, _, value, _ in unit.elements:
+            if name == "slice_type":
+                is_p = value in (0, 5)
+            if name in TOLD_BY_VALUE:
+                found.add(f"{name} {value}" + (" in P" if name == "mb_type" and is_p else ""))
+            elif code == "u" and name.endswith("flag") and value:
+                found.add(name)
+    return found
+
+
+def words():
+    """The words of the command line."""
+    parser = argparse.ArgumentParser(description=__doc__, formatter_class=argparse.RawDescriptionHelpFormatter)
+    parser.add_argument("program")
+    parser.add_argument("--minutes", type=float, default=1)
+    parser.add_argument("--jobs", type=int, default=os.cpu_count())
+    parser.add_argument("--seed", type=int, default=1)
+    parser.add_argument("--keep", default="campaign")
+    parser.add_argument("--main-ip", action="store_true")
+    parser.add_argument("streams", nargs="*")
+    return parser.parse_intermixed_args()
+
+
+def told(report, ways):
+    """Writes down what the workers report until each has ended: the counts of all."""
+    counts, left = collections.Counter(), ways.jobs
+    folder = pathlib.Path(ways.keep)
+    while left:
+        it = report.get()
+        if isinstance(it, str):
+            print(f"differs: {it}", flush=True)
+            with open(folder / "differs.txt", "a") as file:
+                file.write(f"{it}\n")
+        else:
+            number, last, found = it
+            counts.update(found)
+            left -= 1
+            target = ", main-ip" if ways.main_ip else ""
+            with open(folder / "seeds.txt", "a") as file:
+                file.write(f"seeds {ways.seed + number} to {last} in steps of {ways.jobs}{target}: {dict(sorted(found.items()))}\n")
+    return counts
+
+
+def main():
+    ways = words()
+    os.makedirs(ways.keep, exist_ok=True)
+    report = multiprocessing.Queue()
+    with tempfile.TemporaryDirectory() as folder:
+        ways.judges, ways.others = compiled(folder)
+        ways.streams = [pathlib.Path(it).read_bytes() for it in ways.streams] or list(encoded.streams(folder, ways.main_ip))
+        ways.end = time.time() + 60 * ways.minutes
+        workers = [multiprocessing.Process(target=Worker(ways, i, folder, report).run) for i in range(ways.jobs)]
+        for it in workers:
+            it.start()
+        counts = told(report, ways)
+        for it in workers:
+            it.join()
+    for name, count in sorted(counts.items()):
+        print(f"{name}: {count}")
+    return 1 if counts["wrong answers"] or any("not explained" in it for it in counts) else 0
+
+
+if __name__ == "__main__":
+    sys.exit(main())
