@@ -16,18 +16,27 @@ class ShownPage(Browser):
 
     def __init__(self, page, width=1000, height=1500):
         super().__init__(width, height)
+        self.call("Network.enable")
         self.call("Page.navigate", url="file://" + os.path.abspath(page))
         self.evaluate("new Promise((go) => document.readyState === 'complete' ? go() : addEventListener('load', go))")
         self.call("DOM.enable")
 
     def judge(self, name, target=0):
-        """The last line, and of each frame its count, size and CRC-32, of a file that is judged for the target of this number."""
+        """Has a file judged for the target of this number, as a user chooses it: the last line, and of each frame its count, size and CRC-32."""
         number = self.evaluate(f"get('target').value = {target}; current + 1")
-        self.put_file(name)
-        told = self.evaluate(WAIT % number)
-        return told["line"], [tuple(line.split()) for line in told["digests"].split("\n") if line]
-
-    def put_file(self, name):
-        """Puts a file into the page's field, as a user chooses one; the page begins to judge it."""
         field = self.call("Runtime.evaluate", expression="get('file').value = ''; get('file')")["result"]["objectId"]
         self.call("DOM.setFileInputFiles", files=[os.path.abspath(name)], objectId=field)
+        return self.told(number)
+
+    def drop(self, name):
+        """The same of a file that is dropped on the page."""
+        number = self.evaluate("current + 1")
+        data = {"items": [], "files": [os.path.abspath(name)], "dragOperationsMask": 1}
+        for kind in ("dragEnter", "dragOver", "drop"):
+            self.call("Input.dispatchDragEvent", type=kind, x=100, y=100, data=data)
+        return self.told(number)
+
+    def told(self, number):
+        """What the page says at the end of the judgement of this number."""
+        told = self.evaluate(WAIT % number)
+        return told["line"], [tuple(line.split()) for line in told["digests"].split("\n") if line]
