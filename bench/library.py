@@ -3,9 +3,10 @@
 
     bench/library.py PROGRAM LIBRARY FOLDER|FILE.. [--turns N]
 
-PROGRAM is h264v, LIBRARY the shared object (libh264v.so.1) built for the same processor. The library gets pieces of 64 KiB and each frame is read
-(library/receive.c); the program runs `decode` with its output to nothing; libavcodec gets the same pieces and each frame is read (library/avcodec.c).
-All take turns. Of each the least of N turns is told, 5 where N is left out, as user and system time of the process. Compare figures of one line only.
+PROGRAM is h264v, LIBRARY the shared object (libh264v.so.1) built for the same processor. The library (library/receive.c) gets pieces of 64 KiB, one unit
+a piece, and pieces of 64 KiB with a malloc that keeps what is freed; each frame is read. The program runs `decode` with its output to nothing. libavcodec
+(library/avcodec.c) gets pieces of 64 KiB, and each frame is read. All take turns. Of each the least of N turns counts, 5 where N is left out, as user and
+system time of the process. Compare figures of one line only.
 Prints a table for docs/SPEED.md. Needs cc; libavcodec is left out where its headers are missing.
 """
 import os
@@ -52,12 +53,21 @@ def names_in(words):
             yield word
 
 
+WAYS = ("pieces", "units", "kept")
+
+
 def row(name, best):
     """A line of the table."""
     told = lambda way: "{:.3f} + {:.3f}".format(*best[way])
-    ratio = lambda way: "{:.2f}".format(sum(best["library"]) / sum(best[way])) if way in best else "-"
-    stream = os.path.basename(name).replace(".264", "")
-    return f"| {stream} | {told('program')} | {told('library')} | {ratio('program')} | {ratio('assembly')} | {ratio('c')} |"
+    ratio = lambda way, other: "{:.2f}".format(sum(best[way]) / sum(best[other])) if other in best else "-"
+    cells = [os.path.basename(name).replace(".264", ""), told("program")]
+    for way in WAYS:
+        cells += [told(way), ratio(way, "program")]
+    cells += [ratio("kept", "assembly"), ratio("kept", "c")]
+    return "| " + " | ".join(cells) + " |"
+
+
+HEAD = "| stream | `decode`, user + system | pieces of 64 KiB | of `decode` | units | of `decode` | 64 KiB, pages kept | of `decode` | of libavcodec | of its C code |"
 
 
 def main():
@@ -78,9 +88,9 @@ def main():
         avcodec = built("avcodec", folder, "-lavcodec", "-lavutil")
         if not receive:
             sys.exit("library.py: library/receive.c can't be built")
-        print("| stream | `decode`, user + system | library | of `decode` | of libavcodec, with assembly | of its C code |\n|---|---|---|---|---|---|")
+        print(HEAD + "\n" + "|---" * HEAD.count(" |") + "|")
         for name in names_in(streams):
-            commands = {"program": [program, "decode", name], "library": [receive, name]}
+            commands = {"program": [program, "decode", name], **{way: [receive, name, way] for way in WAYS}}
             if avcodec:
                 commands.update({"assembly": [avcodec, name], "c": [avcodec, name, "c"]})
             best = least(commands, turns)
