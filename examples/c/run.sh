@@ -20,7 +20,7 @@ export LD_LIBRARY_PATH="$prefix/lib${LD_LIBRARY_PATH:+:$LD_LIBRARY_PATH}"
 build() {
   name=$1; kind=$2; shift 2
   # shellcheck disable=SC2046
-  cc -std=c11 -Wall -Wextra -Wpedantic -Werror "$@" "$here/$name.c" $(pkg-config --cflags --libs h264v) -o "$work/$name-$kind"
+  cc -std=c11 -pthread -Wall -Wextra -Wpedantic -Werror "$@" "$here/$name.c" $(pkg-config --cflags --libs h264v) -o "$work/$name-$kind"
 }
 
 # wants STATUS COMMAND..: runs a command that must end so
@@ -65,6 +65,12 @@ for word in closed-send closed-receive closed-twice past-the-end kept-frame null
   grep -q 'Invalid \|uninitialised' "$work/out" || { echo "run.sh: valgrind says nothing of $word" >&2; cat "$work/out" >&2; exit 1; }
 done
 echo "valgrind named each of 7 breaches of a caller's duties"
+
+# Threads with decoders of their own: the same frames, and no race.
+build threads plain -O1 -g
+wants 0 "$work/threads-plain" "$samples/one_frame.264"
+wants 0 valgrind --quiet --error-exitcode=99 --tool=helgrind "$work/threads-plain" "$samples/one_frame.264"
+echo "four threads decoded at once, without a race"
 
 # Static too: the archive needs nothing but the C library.
 cc -std=c11 -O2 -I"$prefix/include" "$here/decode.c" "$prefix/lib/libh264v.a" -o "$work/decode-static"
