@@ -5,7 +5,7 @@
 
 PROGRAM is h264v, LIBRARY the shared object (libh264v.so.1) built for the same processor. The library (library/receive.c) gets pieces of 64 KiB, one unit
 a piece, and pieces of 64 KiB with a malloc that keeps what is freed; each frame is read. The program runs `decode` with its output to nothing. libavcodec
-(library/avcodec.c) gets pieces of 64 KiB, and each frame is read. All take turns. Of each the least of N turns counts, 5 where N is left out, as user and
+(library/avcodec.c) gets pieces of 64 KiB, and each frame is read. All take turns. The least of N turns counts, 5 where N is left out, as user and
 system time of the process. Compare figures of one line only.
 Prints a table for docs/SPEED.md. Needs cc; libavcodec is left out where its headers are missing.
 """

@@ -29,7 +29,7 @@ class ShownPage(Browser):
         return self.told(number)
 
     def drop(self, name):
-        """The same of a file that is dropped on the page."""
+        """Has a file judged that is dropped on the page, and answers as judge does."""
         number = self.evaluate("current + 1")
         data = {"items": [], "files": [os.path.abspath(name)], "dragOperationsMask": 1}
         for kind in ("dragEnter", "dragOver", "drop"):
