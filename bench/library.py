@@ -67,7 +67,10 @@ def row(name, best):
     return "| " + " | ".join(cells) + " |"
 
 
-HEAD = "| stream | `decode`, user + system | pieces of 64 KiB | of `decode` | units | of `decode` | 64 KiB, pages kept | of `decode` | of libavcodec | of its C code |"
+HEAD = (
+    "| stream | `decode`, user + system | pieces of 64 KiB | of `decode` | units | of `decode` "
+    "| 64 KiB, pages kept | of `decode` | of libavcodec | of its C code |"
+)
 
 
 def main():

@@ -281,9 +281,13 @@ function surveyed(bytes, bit) {
     const picture = pictures[pictures.length - 1];
     picture.bytes += end - from;
     picture.end = end;
-    if (bit !== null && bit >= from * 8 && bit <= end * 8) failure = { picture: pictures.length - 1, ...macroblockAt(bytes, from, end, bit, sets, pictureSets) };
+    if (bit === null || bit < from * 8 || bit > end * 8) continue;
+    failure = { picture: pictures.length - 1, ...macroblockAt(bytes, from, end, bit, sets, pictureSets) };
   }
-  if (bit !== null && !failure) failure = { picture: pictures.findIndex((p) => bit >= (p.from - MARGIN) * 8 && bit <= (p.end + MARGIN) * 8), macroblock: null };
+  if (bit !== null && !failure) {
+    const picture = pictures.findIndex((p) => bit >= (p.from - MARGIN) * 8 && bit <= (p.end + MARGIN) * 8);
+    failure = { picture, macroblock: null };
+  }
   return { pictures, sets: [...sets.values()], failure };
 }
 

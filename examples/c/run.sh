@@ -76,4 +76,7 @@ echo "four threads decoded at once, without a race"
 cc -std=c11 -O2 -I"$prefix/include" "$here/decode.c" "$prefix/lib/libh264v.a" -o "$work/decode-static"
 wants 0 "$work/decode-static" "$samples/one_frame.264"
 
-"$work/refusals-plain" "$samples/one_frame.264" "$samples/vector_too_long.264" || { echo "run.sh: an allocation that is refused is not told as such" >&2; exit 1; }
+"$work/refusals-plain" "$samples/one_frame.264" "$samples/vector_too_long.264" || {
+  echo "run.sh: an allocation that is refused is not told as such" >&2
+  exit 1
+}
