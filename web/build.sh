@@ -15,22 +15,28 @@ work=$(mktemp -d "${TMPDIR:-/tmp}/h264v-web.XXXXXX")
 [ -n "${KEEP:-}" ] || trap 'rm -rf "$work"' EXIT INT TERM
 exports='h264v_open h264v_send h264v_receive h264v_finish h264v_close h264v_check'
 
-# The kit's toolchain as links, of which the compiler alone is another: it keeps a copy of each module that it is given. module_of.py has rt take it.
-mkdir -p "$work/toolchain/bin" "$work/modules"
-for part in "$kit"/toolchain/*; do [ "$(basename "$part")" = bin ] || ln -s "$part" "$work/toolchain/"; done
-for part in "$kit"/toolchain/bin/*; do [ "$(basename "$part")" = clang ] || ln -s "$part" "$work/toolchain/bin/"; done
-cat >"$work/toolchain/bin/clang" <<END
+# A kit of links, of which the compiler alone is another: it keeps a copy of each module that it is given.
+mkdir -p "$work/kit/bin" "$work/kit/toolchain/bin" "$work/modules"
+for part in "$kit"/*; do
+  case $(basename "$part") in bin | toolchain) ;; *) ln -s "$part" "$work/kit/" ;; esac
+done
+for part in "$kit"/toolchain/*; do [ "$(basename "$part")" = bin ] || ln -s "$part" "$work/kit/toolchain/"; done
+for part in "$kit"/toolchain/bin/*; do [ "$(basename "$part")" = clang ] || ln -s "$part" "$work/kit/toolchain/bin/"; done
+for part in "$kit"/bin/*; do
+  case $(basename "$part") in rt | rt*.py | rtlib.py) cp "$part" "$work/kit/bin/" ;; *) ln -s "$part" "$work/kit/bin/" ;; esac
+done
+cat >"$work/kit/toolchain/bin/clang" <<END
 #!/bin/bash
 for word in "\$@"; do
   case \$word in *.bc | *.ll) [ -f "\$word" ] && cp "\$word" "$work/modules/\$(date +%s%N)-\$(basename "\$word")" ;; esac
 done
 exec "$kit/toolchain/bin/clang" "\$@"
 END
-chmod +x "$work/toolchain/bin/clang"
+chmod +x "$work/kit/toolchain/bin/clang"
 
 module=${MODULE:-}
 if [ -z "$module" ]; then
-  (cd "${CRATES:-$top/crates}/h264_c" && python3 "$top/web/module_of.py" "$kit" "$work/toolchain" ${CPU:+--cpu "$CPU"})
+  (cd "${CRATES:-$top/crates}/h264_c" && rm -f out/libh264_c.a && python3 "$work/kit/bin/rt" lib ${CPU:+--cpu "$CPU"})
   module=$(ls -S "$work/modules"/* | head -n 1)
 fi
 
