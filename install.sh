@@ -2,12 +2,15 @@
 # Builds h264v and the library for C with all their proofs, and installs the program, its man page and shell completions, and the library with
 # its header and pkg-config file (docs/LIBRARY.md).
 #
-#   ./install.sh [PREFIX]      PREFIX is ~/.local where it is left out
+#   ./install.sh [PREFIX]                  PREFIX is ~/.local where it is left out
+#   ./install.sh --uninstall [PREFIX]      removes what an installation put there, and no folder
 #
 # Needs the kit's rt on the path, some 24 GB of memory and 6 GB of disk below ${TMPDIR:-/tmp}. JOBS=N sets how many
 # processors it takes, CPU=x86-64-v2 the processor that it builds for, KEEP=1 leaves the folder in which it built. The library needs ar and cc.
 set -eu
 
+uninstall=
+[ "${1:-}" != --uninstall ] || { uninstall=yes; shift; }
 prefix=${1:-$HOME/.local}
 case $prefix in /*) ;; *) prefix=$PWD/$prefix ;; esac
 top=$(cd "$(dirname "$0")" && pwd)
@@ -15,7 +18,19 @@ jobs=${JOBS:-$(nproc)}
 
 say() { printf 'install.sh: %s\n' "$*" >&2; }
 
+if [ -n "$uninstall" ]; then
+  for file in bin/h264v share/man/man1/h264v.1 share/bash-completion/completions/h264v share/zsh/site-functions/_h264v \
+    share/fish/vendor_completions.d/h264v.fish lib/libh264v.a lib/libh264v.so.1 lib/libh264v.so lib/pkgconfig/h264v.pc include/h264v.h; do
+    rm -f "$prefix/$file"
+  done
+  say "removed h264v and its library from $prefix"
+  exit 0
+fi
+
 command -v rt >/dev/null || { say "rt is not on the path. Without the kit, ./quick.sh builds a program of which nothing is proved."; exit 1; }
+for tool in ar cc; do
+  command -v "$tool" >/dev/null || { say "$tool is not on the path. The library needs it."; exit 1; }
+done
 
 cpu=${CPU:-x86-64-v2}
 if [ -z "${CPU:-}" ] && [ "$(grep -m 1 '^flags' /proc/cpuinfo | grep -owE 'avx2|bmi1|bmi2|fma|movbe|f16c' | sort -u | wc -l)" = 6 ]; then
@@ -32,7 +47,7 @@ tar -C "$top" -c --exclude='crates/*/out' crates HANDLES | tar -C "$build/work" 
 # after another, with all processors each.
 chain=' h264_picture h264_verify h264_report h264v h264_c '
 while read -r line; do
-  case "$chain" in *" ${line%%:*} "*) ;; *) printf '%s\n' "$line" ;; esac
+  case "$chain" in *" ${line%%[: ]*} "*) ;; *) printf '%s\n' "$line" ;; esac
 done <"$top/crates.txt" >"$build/work/crates.txt"
 
 # step TEXT COMMAND..: says what it does, and shows the end of the log where it fails

@@ -17,7 +17,8 @@ cp "$archive" "$work/program.a"
 cp "$allocator" "$work/allocator.a"
 (cd "$work" && printf 'create libh264v.a\naddlib program.a\naddlib allocator.a\nsave\nend\n' | ar -M && ar s libh264v.a)
 printf '{ global: h264v_*; local: *; };\n' >"$work/names"
-cc -shared -o "$work/libh264v.so.1" -Wl,-soname,libh264v.so.1 -Wl,--version-script="$work/names" -Wl,--whole-archive "$work/libh264v.a" -Wl,--no-whole-archive
+cc -shared -o "$work/libh264v.so.1" -Wl,-soname,libh264v.so.1 -Wl,-z,defs -Wl,--version-script="$work/names" \
+  -Wl,--whole-archive "$work/libh264v.a" -Wl,--no-whole-archive
 
 install -m 644 "$work/libh264v.a" "$prefix/lib/libh264v.a"
 install -m 755 "$work/libh264v.so.1" "$prefix/lib/libh264v.so.1"

@@ -1,4 +1,4 @@
-"""Headless Chromium for web/try.py: a client of its debugging protocol, over Python's own library."""
+"""Headless Chromium for scripts: a client of its debugging protocol, over Python's own library."""
 import base64
 import json
 import os
@@ -53,6 +53,7 @@ class Browser:
         line = next(line for line in self.process.stderr if "DevTools listening" in line)
         port, path = re.search(r"ws://127\.0\.0\.1:(\d+)(/\S+)", line).groups()
         self.socket, self.number = Socket(int(port), path), 0
+        self.events = []  # what was told beside answers, as (method, parameters)
         target = self.call("Target.createTarget", url="about:blank")["targetId"]
         self.session = self.call("Target.attachToTarget", targetId=target, flatten=True)["sessionId"]
         self.call("Page.enable")
@@ -66,6 +67,8 @@ class Browser:
         self.socket.send(json.dumps(message))
         while True:
             answer = json.loads(self.socket.receive())
+            if "method" in answer:
+                self.events.append((answer["method"], answer["params"]))
             if answer.get("id") == self.number:
                 if "error" in answer:
                     raise RuntimeError(answer["error"])
@@ -79,8 +82,12 @@ class Browser:
         return answer["result"].get("value")
 
     def screenshot(self, name):
+        """Writes the whole page as a PNG file."""
+        size = self.call("Page.getLayoutMetrics")["cssContentSize"]
+        clip = {"x": 0, "y": 0, "width": size["width"], "height": size["height"], "scale": 1}
+        shot = self.call("Page.captureScreenshot", format="png", captureBeyondViewport=True, clip=clip)
         with open(name, "wb") as file:
-            file.write(base64.b64decode(self.call("Page.captureScreenshot", format="png")["data"]))
+            file.write(base64.b64decode(shot["data"]))
 
     def __enter__(self):
         return self

@@ -1,5 +1,5 @@
 #!/usr/bin/env python3
-"""Writes the page: web/page.html with the module and the texts on rules in it.
+"""Writes the page: web/page.html with web/syntax.js, the module, the texts on rules and the code words in it.
 
     web/make_page.py TOP MODULE OUTPUT
 """
@@ -26,17 +26,47 @@ def rules(top):
     return told
 
 
+def numbers(source, name):
+    """The numbers of a constant of h264_tables."""
+    (found,) = re.findall(r"pub const %s: \[u\d+; \d+\] = \[([^\]]*)\];" % name, source)
+    return [int(number) for number in re.findall(r"\d+", found)]
+
+
+def tables(top):
+    """The code words of slice data, as lengths and bits of each row, and the values of the rows."""
+
+    def rows(source, names):
+        return [[numbers(source, f"{name}_{part}") for part in ("LENGTHS", "BITS")] for name in names]
+
+    def read(name):
+        with open(os.path.join(top, "crates", "h264_tables", "src", f"{name}.rt")) as file:
+            return file.read()
+
+    token, zeros, run, pattern = map(read, ("coeff_token", "total_zeros", "run_before", "coded_block_pattern"))
+    return {
+        "tokens": numbers(token, "VALUES"),
+        "token": rows(token, ["NC0", "NC2", "NC4", "NC8", "CHROMA_DC"]),
+        "zeros": rows(zeros, [f"INDEX_{index}" for index in range(1, 16)]),
+        "chromaZeros": rows(zeros, [f"CHROMA_DC_{index}" for index in range(1, 4)]),
+        "run": rows(run, [f"LEFT_{left}" for left in range(1, 8)]),
+        "intraPatterns": numbers(pattern, "INTRA_PATTERNS"),
+        "interPatterns": numbers(pattern, "INTER_PATTERNS"),
+    }
+
+
 def main():
     if len(sys.argv) != 4:
         sys.exit(__doc__)
     top, module, output = sys.argv[1:]
     with open(os.path.join(top, "web", "page.html")) as file:
         page = file.read()
+    with open(os.path.join(top, "web", "syntax.js")) as file:
+        syntax = file.read()
     with open(module, "rb") as file:
         module = base64.b64encode(file.read()).decode("ascii")
     told = json.dumps(rules(top), sort_keys=True).replace("<", "\\u003c")
     with open(output, "w") as file:
-        file.write(page.replace("@RULES@", told).replace("@MODULE@", module))
+        file.write(page.replace("@SYNTAX@", syntax).replace("@TABLES@", json.dumps(tables(top))).replace("@RULES@", told).replace("@MODULE@", module))
 
 
 main()

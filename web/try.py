@@ -1,67 +1,141 @@
 #!/usr/bin/env python3
-"""Opens the page in headless Chromium with streams, and compares its verdicts and frames with the program's. Leaves a screenshot.
+"""Tries what the page does in headless Chromium, as a user would. Leaves a screenshot.
 
-    web/try.py PROGRAM PAGE SCREENSHOT FILE..
+    web/try.py PROGRAM PAGE SCREENSHOT LEGAL BROKEN
 
-PROGRAM is h264v, PAGE what web/build.sh wrote. The screenshot is of the last FILE. Needs chromium.
+PROGRAM is h264v, PAGE what web/build.sh wrote, LEGAL a legal stream of three frames or more, and BROKEN one that breaks a rule in a macroblock, of
+which the screenshot is. tools/compare_library.py compares the frames of many streams. Needs chromium.
 """
 import os
+import re
 import subprocess
 import sys
-import zlib
 
 sys.dont_write_bytecode = True
-from browser import Browser  # noqa: E402
+from shown_page import ShownPage  # noqa: E402
 
-# Puts a file where a user would drop one, and waits for what the page says of it.
-JUDGE = """(async () => {
-  const bytes = Uint8Array.from(atob('%s'), (c) => c.charCodeAt(0));
-  delete document.body.dataset.done;
-  judge(new File([bytes], '%s'));
-  while (!document.body.dataset.done && !/failed/.test(document.title)) await new Promise((go) => setTimeout(go, 20));
-  putDigests();
-  return [get('verdict').textContent, get('digests').textContent];
+# Notes the values that the progress bar takes, and how often the page's thread is free meanwhile.
+WATCH = """(() => {
+  window.seen = { values: [], ticks: 0 };
+  new MutationObserver(() => seen.values.push(get('progress').value)).observe(get('progress'), { attributes: true, attributeFilter: ['value'] });
+  setInterval(() => seen.ticks++, 1);
 })()"""
+# Whether a canvas shows a frame: its bytes beside those of imageOf.
+SHOWS = """((number) => {
+  const wanted = imageOf(frames[number]).data, canvas = get('frame');
+  const got = canvas.getContext('2d').getImageData(0, 0, canvas.width, canvas.height).data;
+  return wanted.length === got.length && wanted.every((value, at) => value === got[at]);
+})(%d)"""
+# How many samples of a canvas have the red of a mark, and the column and row of the first.
+RED = """((name) => {
+  const canvas = get(name), { data } = canvas.getContext('2d').getImageData(0, 0, canvas.width, canvas.height), found = [];
+  for (let at = 0; at < data.length; at += 4) if (data[at] > 200 && data[at + 1] < 60 && data[at + 2] < 60)
+    found.push([(at / 4) %% canvas.width, Math.floor(at / 4 / canvas.width)]);
+  return [found.length, found[0] || null];
+})('%s')"""
+
+# Which part of the page's policy an attempt to connect breaks.
+VIOLATED = """new Promise((go) => {
+  addEventListener('securitypolicyviolation', (e) => go(e.violatedDirective));
+  fetch('http://127.0.0.1:9/').catch(() => 0);
+})"""
+
+failures = 0
 
 
-def compare(browser, program, name):
-    """What differs between the page and the program on a file; None where nothing does."""
-    import base64
+def expect(holds, what):
+    global failures
+    print(("as expected: " if holds else "NOT SO: ") + what)
+    failures += not holds
 
-    with open(name, "rb") as file:
-        data = base64.b64encode(file.read()).decode()
-    told, digests = browser.evaluate(JUDGE % (data, os.path.basename(name)))
+
+def text(page, name):
+    return page.evaluate(f"get('{name}').textContent")
+
+
+def is_hidden(page, name):
+    return page.evaluate(f"get('{name}').offsetParent === null")
+
+
+def try_legal(page, program, name):
+    """A legal stream that is dropped on the page: its verdict, sets, plot, frames and progress."""
+    page.evaluate(WATCH)
+    line, frames = page.drop(name)
     run = subprocess.run([program, "decode", name], capture_output=True)
-    line = run.stderr.decode().strip().splitlines()[-1]
-    if told != line:
-        return f"the page says {told!r}, the program {line!r}"
-    at = 0
-    for number, text in enumerate(filter(None, digests.split("\n"))):
-        _, size, digest = text.split()
-        width, height = map(int, size.split("x"))
-        samples = run.stdout[at : at + width * height * 3 // 2]
-        at += len(samples)
-        if f"{zlib.crc32(samples):08x}" != digest:
-            return f"frame {number} differs"
-    return None if at == len(run.stdout) else f"the page has {at} bytes of frames, the program {len(run.stdout)}"
+    expect(line == run.stderr.decode().strip().splitlines()[-1], f"a dropped file has the program's last line, {line}")
+    expect(sum(w * h * 3 // 2 for w, h in (map(int, size.split("x")) for _, size, _ in frames)) == len(run.stdout), "and as many bytes of frames")
+    values, ticks = page.evaluate("[seen.values, seen.ticks]")
+    expect(values and values == sorted(values) and values[-1] == 1, f"progress goes up to its end, in {len(values)} steps")
+    expect(ticks > 0, f"the page's thread is free while the worker decodes ({ticks} times)")
+    expect(page.evaluate("get('sets').rows.length") > 1, "the sets are shown")
+    expect(re.fullmatch(r"\d+ pictures, the largest of \d+ bytes", text(page, "scale")), "the plot has its scale: " + text(page, "scale"))
+    expect(page.evaluate(RED % "plot")[0] == 0 and is_hidden(page, "failure"), "nothing is marked in red")
+
+
+def try_frames(page):
+    """Stepping and playing."""
+    expect(page.evaluate(SHOWS % 0), "the first frame is shown")
+    page.evaluate("get('on').click(); get('on').click()")
+    expect(page.evaluate("shown") == 2 and page.evaluate(SHOWS % 2), "two steps on show the third")
+    page.evaluate("get('back').click()")
+    expect(page.evaluate("shown") == 1 and page.evaluate(SHOWS % 1), "a step back shows the second")
+    last = page.evaluate("frames.length - 1")
+    page.evaluate("get('place').value = 0; get('place').oninput(); get('rate').value = 120; get('play').click()")
+    page.evaluate("(async () => { while (playing) await new Promise((go) => setTimeout(go, 10)); })()")
+    expect(page.evaluate("shown") == last and page.evaluate(SHOWS % last), f"playing goes from the first to frame {last}, and stops there")
+
+
+def explained(program, name):
+    """What the program explains of a stream: picture, macroblock, column, row; None where it does not explain."""
+    run = subprocess.run([program, "check", "--explain", name], capture_output=True, text=True)
+    picture = re.search(r"^explain picture (\d+)", run.stdout, re.M)
+    place = re.search(r"^explain macroblock (\d+) column (\d+) row (\d+)", run.stdout, re.M)
+    return [int(n) for n in (picture[1], *place.groups())] if picture and place else None
+
+
+def try_broken(page, program, name):
+    """A stream that breaks a rule in a macroblock: its explanation, the plot, and the mark."""
+    line, _ = page.judge(name)
+    expect(line.startswith("no: "), f"a broken stream is a no: {line}")
+    expect("Usual cause" in text(page, "explanation"), "it is explained: " + text(page, "explanation"))
+    expect(page.evaluate(RED % "plot")[0] > 0 and "in red" in text(page, "scale"), "the failing picture is red in the plot: " + text(page, "scale"))
+    expect(not is_hidden(page, "failure"), "the macroblock is marked: " + text(page, "where"))
+    place = [int(n) for n in re.findall(r"\d+", text(page, "where").replace("counted from 0", ""))][:4]
+    wanted = explained(program, name)
+    if wanted is None:
+        print("not tried: this program does not explain, so the macroblock has nothing to be compared with")
+    else:
+        expect(place == wanted, f"picture, macroblock, column and row are the program's, {wanted}")
+    count, first = page.evaluate(RED % "failed")
+    expect(count >= 256 and first is not None, "there is red on the picture")
+    width = page.evaluate("get('failed').width")
+    inside = page.evaluate(f"[...get('failed').getContext('2d').getImageData({place[2] * 16 + 8}, {place[3] * 16 + 8}, 1, 1).data]")
+    expect(inside == [255, 0, 0, 255], f"its middle is red, on a canvas of {width} columns")
+
+
+def try_silence(page):
+    """Nothing leaves the machine."""
+    asked = {event["request"]["url"].split(":")[0] for method, event in page.events if method == "Network.requestWillBeSent"}
+    expect(asked <= {"file", "blob", "data"}, f"the page asked for nothing but itself ({', '.join(sorted(asked)) or 'nothing'})")
+    refused = page.evaluate("fetch('http://127.0.0.1:9/').then(() => false, () => true)")
+    violated = page.evaluate(VIOLATED)
+    expect(refused and violated.startswith("connect-src"), "and its policy lets it connect to nothing")
 
 
 def main():
-    if len(sys.argv) < 5:
+    if len(sys.argv) != 6:
         sys.exit(__doc__)
-    program, page, screenshot, *names = sys.argv[1:]
-    with Browser(1000, 1300) as browser:
-        browser.call("Page.navigate", url="file://" + os.path.abspath(page))
-        browser.evaluate("new Promise((go) => document.readyState === 'complete' ? go() : addEventListener('load', go))")
-        differ = 0
-        for name in names:
-            cause = compare(browser, program, name)
-            if cause:
-                differ += 1
-                print(f"{name}: {cause}")
-        browser.screenshot(screenshot)
-    print(f"{len(names) - differ} streams have the program's verdict and frames on the page, {differ} differ; {screenshot} shows the last")
-    sys.exit(1 if differ else 0)
+    program, path, screenshot, legal, broken = sys.argv[1:]
+    with ShownPage(path) as page:
+        try_legal(page, program, os.path.abspath(legal))
+        try_frames(page)
+        try_broken(page, program, os.path.abspath(broken))
+        page.screenshot(screenshot)
+        try_silence(page)
+        told = " ".join(text(page, "proved").split())
+        expect("before its translation to wasm64" in told and "does not cover this translation" in told, "the page says what the proof covers")
+    print(f"try.py: {failures} failures; {screenshot} shows the broken stream")
+    sys.exit(1 if failures else 0)
 
 
 main()

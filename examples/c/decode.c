@@ -1,11 +1,12 @@
 /* Decodes a stream in pieces, writes its frames as I420, and prints the verdict.
  *
- *     decode FILE [OUTPUT]
+ *     decode [--target baseline|main-ip] FILE [OUTPUT]
  *
  * The status is the verdict's kind, 64 where the words are wrong, or 4 where a file fails. */
 #include <h264v.h>
 #include <inttypes.h>
 #include <stdio.h>
+#include <string.h>
 
 enum { PIECE = 65536, FAILED = 4, USAGE = 64 };
 
@@ -55,14 +56,26 @@ static int decode(h264v *decoder, FILE *input, FILE *output, h264v_verdict *verd
     return write_frames(decoder, output);
 }
 
+/* The target of the words --target NAME, if they come first, which are taken off; or -1 where the name is none. */
+static int take_target(int *argc, char ***argv)
+{
+    int target;
+    if (*argc < 3 || strcmp((*argv)[1], "--target") != 0)
+        return H264V_BASELINE;
+    target = strcmp((*argv)[2], "baseline") == 0 ? H264V_BASELINE : strcmp((*argv)[2], "main-ip") == 0 ? H264V_MAIN_IP : -1;
+    *argc -= 2;
+    *argv += 2;
+    return target;
+}
+
 int main(int argc, char **argv)
 {
     FILE *input, *output = NULL;
     h264v *decoder;
     h264v_verdict verdict;
-    int status;
-    if (argc < 2 || argc > 3) {
-        fprintf(stderr, "usage: decode FILE [OUTPUT]\n");
+    int status, target = take_target(&argc, &argv);
+    if (argc < 2 || argc > 3 || target < 0) {
+        fprintf(stderr, "usage: decode [--target baseline|main-ip] FILE [OUTPUT]\n");
         return USAGE;
     }
     input = fopen(argv[1], "rb");
@@ -70,7 +83,7 @@ int main(int argc, char **argv)
         perror(input ? argv[2] : argv[1]);
         return FAILED;
     }
-    status = h264v_open(H264V_FULL, H264V_BASELINE, &decoder);
+    status = h264v_open(H264V_FULL, (uint32_t)target, &decoder);
     if (status != H264V_OPENED) {
         fprintf(stderr, "decode: no decoder\n");
         return status;

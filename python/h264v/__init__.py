@@ -148,7 +148,8 @@ def _told(verdict):
 
 def _bytes_of(data):
     """Bytes that stay where they are, as ctypes passes them."""
-    data = bytes(data)
+    if not isinstance(data, bytes):
+        data = bytes(memoryview(data))  # and a number is none
     return ctypes.cast(ctypes.c_char_p(data), ctypes.c_void_p), len(data), data
 
 
@@ -180,17 +181,21 @@ class Decoder:
     Each frame has its own bytes. With lend=True it has the library's: they stay until the next frame is asked for or the
     decoder is closed, and no longer, whoever still holds a view of them.
 
-    Raises ValueError for a mode or a target that is none, and MemoryError where memory is refused.
+    Raises ValueError for a mode or a target that is none, TypeError for a source or a piece that is none, and MemoryError where memory
+    is refused.
     """
+
+    #: The library's decoder; None where there is none, or none any more.
+    _handle = None
 
     def __init__(self, source, mode=Mode.FULL, target=Target.BASELINE, lend=False):
         self.verdict = None
-        self._handle = ctypes.c_void_p()
         self._pieces = _pieces(source)
         self._lend = lend
-        if _library.h264v_open(Mode(mode), Target(target), self._handle) != _OPENED:
-            self._handle = None
+        handle = ctypes.c_void_p()
+        if _library.h264v_open(Mode(mode), Target(target), handle) != _OPENED:
             raise MemoryError("libh264v: memory was refused")
+        self._handle = handle
 
     def __iter__(self):
         return self
@@ -248,5 +253,4 @@ class Decoder:
         self.close()
 
     def __del__(self):
-        if getattr(self, "_handle", None) is not None:
-            self.close()
+        self.close()

@@ -76,6 +76,39 @@ class Decode(unittest.TestCase):
         list(decoder)
         self.assertEqual(decoder.verdict, h264v.check(read("one_frame.264")))
 
+    def test_what_is_no_mode_target_or_source(self):
+        for words in ((b"", 7), (b"", h264v.Mode.FULL, 2)):
+            with self.assertRaises(ValueError):
+                h264v.Decoder(*words)
+        with self.assertRaises(TypeError):
+            h264v.Decoder(5)
+        with self.assertRaises(TypeError):
+            h264v.check(5)
+        with self.assertRaises(TypeError):
+            list(h264v.Decoder([5]))
+
+    def test_a_broken_rule_in_pieces(self):
+        data = read("vector_too_long.264")
+        decoder = h264v.Decoder(bytes([byte]) for byte in data)
+        self.assertEqual(list(decoder), [])
+        self.assertEqual(decoder.verdict, (h264v.Kind.NO, 256, 0, 0, 0, "VectorRange", "A.3"))
+        self.assertEqual(list(decoder), [])
+        self.assertEqual(decoder.verdict, h264v.check(data))
+
+    def test_empty_pieces(self):
+        data = read("one_frame.264")
+        decoder = h264v.Decoder([b"", data[:9], b"", bytearray(), memoryview(data)[9:], b""])
+        self.assertEqual(len(list(decoder)), 1)
+        self.assertEqual(decoder.verdict.kind, h264v.Kind.YES)
+
+    def test_a_source_that_fails(self):
+        def pieces():
+            yield read("one_frame.264")[:9]
+            raise OSError("no more")
+
+        with h264v.Decoder(pieces()) as decoder, self.assertRaises(OSError):
+            list(decoder)
+
     def test_numpy(self):
         try:
             import numpy

@@ -1,0 +1,106 @@
+#!/usr/bin/env python3
+"""Times the library beside the program and libavcodec, one thread each, within one run.
+
+    bench/library.py PROGRAM LIBRARY FOLDER|FILE.. [--turns N]
+
+PROGRAM is h264v, LIBRARY the shared object (libh264v.so.1) built for the same processor. The library (library/receive.c) gets pieces of 64 KiB, one unit
+a piece, and pieces of 64 KiB with a malloc that keeps what is freed; each frame is read. The program runs `decode` with its output to nothing. libavcodec
+(library/avcodec.c) gets pieces of 64 KiB, and each frame is read. All take turns. The least of N turns counts, 5 where N is left out, as user and
+system time of the process. Compare figures of one line only.
+Prints a table for docs/SPEED.md. Needs cc; libavcodec is left out where its headers are missing.
+"""
+import os
+import resource
+import subprocess
+import sys
+import tempfile
+
+HERE = os.path.dirname(os.path.abspath(__file__))
+TURNS = 5
+
+
+def seconds(words):
+    """User and system time of a run."""
+    before = resource.getrusage(resource.RUSAGE_CHILDREN)
+    subprocess.run(words, stdout=subprocess.DEVNULL, stderr=subprocess.DEVNULL)
+    after = resource.getrusage(resource.RUSAGE_CHILDREN)
+    return after.ru_utime - before.ru_utime, after.ru_stime - before.ru_stime
+
+
+def built(name, folder, *words):
+    """A program of library/, or None where it can't be built."""
+    path = os.path.join(folder, name)
+    run = subprocess.run(["cc", "-O2", os.path.join(HERE, "library", f"{name}.c"), *words, "-o", path], stderr=subprocess.DEVNULL)
+    return path if run.returncode == 0 else None
+
+
+def least(commands, turns):
+    """Of each command the turn of the least sum, as user and system time."""
+    best = {}
+    for _ in range(turns):
+        for name, words in commands.items():
+            took = seconds(words)
+            if name not in best or sum(took) < sum(best[name]):
+                best[name] = took
+    return best
+
+
+def names_in(words):
+    for word in words:
+        if os.path.isdir(word):
+            yield from (os.path.join(word, name) for name in sorted(os.listdir(word)) if name.endswith(".264"))
+        else:
+            yield word
+
+
+WAYS = ("pieces", "units", "kept")
+
+
+def row(name, best):
+    """A line of the table."""
+    told = lambda way: "{:.3f} + {:.3f}".format(*best[way])
+    ratio = lambda way, other: "{:.2f}".format(sum(best[way]) / sum(best[other])) if other in best else "-"
+    cells = [os.path.basename(name).replace(".264", ""), told("program")]
+    for way in WAYS:
+        cells += [told(way), ratio(way, "program")]
+    cells += [ratio("kept", "assembly"), ratio("kept", "c")]
+    return "| " + " | ".join(cells) + " |"
+
+
+HEAD = (
+    "| stream | `decode`, user + system | pieces of 64 KiB | of `decode` | units | of `decode` "
+    "| 64 KiB, pages kept | of `decode` | of libavcodec | of its C code |"
+)
+
+
+def main():
+    words = sys.argv[1:]
+    turns = TURNS
+    if "--turns" in words:
+        at = words.index("--turns")
+        turns = int(words[at + 1])
+        del words[at : at + 2]
+    if len(words) < 3:
+        sys.exit(__doc__)
+    program, library, *streams = words
+    sums = {}
+    with tempfile.TemporaryDirectory(prefix="h264v-bench.") as folder:
+        os.symlink(os.path.abspath(library), os.path.join(folder, "libh264v.so.1"))
+        include = os.path.join(HERE, "..", "include")
+        receive = built("receive", folder, "-I", include, os.path.join(folder, "libh264v.so.1"), f"-Wl,-rpath,{folder}")
+        avcodec = built("avcodec", folder, "-lavcodec", "-lavutil")
+        if not receive:
+            sys.exit("library.py: library/receive.c can't be built")
+        print(HEAD + "\n" + "|---" * HEAD.count(" |") + "|")
+        for name in names_in(streams):
+            commands = {"program": [program, "decode", name], **{way: [receive, name, way] for way in WAYS}}
+            if avcodec:
+                commands.update({"assembly": [avcodec, name], "c": [avcodec, name, "c"]})
+            best = least(commands, turns)
+            print(row(name, best), flush=True)
+            for way, took in best.items():
+                sums[way] = tuple(map(sum, zip(sums.get(way, (0, 0)), took)))
+    print(row("all", sums))
+
+
+main()

@@ -1,0 +1,212 @@
+/* Calls each function of the library as the header says, and holds every answer and every field against it.
+ *
+ *     calls ONE_FRAME VECTOR_TOO_LONG
+ *
+ * The two are streams of samples/: one of a picture of one macroblock, whose samples are all 128, and that one with a second
+ * picture, whose vector goes too far. The status is 0 where every answer is as the header says. */
+#include "expect.h"
+#include <stdlib.h>
+
+enum { SIDE = 16, SAMPLES = SIDE * SIDE * 3 / 2, GREY = 128, MARK = 0x5a, VECTOR_BIT = 256, BYTES_OF_VERDICT = 72, BYTES_OF_FRAME = 32 };
+
+/* The sizes that other languages lay out by hand. */
+_Static_assert(sizeof(h264v_verdict) == BYTES_OF_VERDICT, "the size of a verdict");
+_Static_assert(sizeof(h264v_frame) == BYTES_OF_FRAME, "the size of a frame");
+
+/* Whether every byte of a thing is the mark that was put there. */
+static int is_marked(const void *thing, size_t size)
+{
+    const unsigned char *bytes = thing;
+    while (size > 0 && bytes[size - 1] == MARK)
+        size--;
+    return size == 0;
+}
+
+/* Whether a frame is that of the first sample. */
+static int is_grey(const h264v_frame *frame)
+{
+    size_t at = 0;
+    while (at < frame->size && frame->samples[at] == GREY)
+        at++;
+    return frame->width == SIDE && frame->height == SIDE && frame->count == 0 && frame->size == SAMPLES && at == SAMPLES;
+}
+
+static int is_yes(const h264v_verdict *v, uint64_t units, uint64_t pictures, uint64_t frames)
+{
+    return v->kind == H264V_YES && v->bit == 0 && v->units == units && v->pictures == pictures && v->frames == frames && v->label[0] == 0 &&
+           v->clause[0] == 0;
+}
+
+static int is_vector_range(const h264v_verdict *v)
+{
+    return v->kind == H264V_NO && v->bit == VECTOR_BIT && v->units == 0 && v->pictures == 0 && v->frames == 0 &&
+           strcmp(v->label, "VectorRange") == 0 && strcmp(v->clause, "A.3") == 0;
+}
+
+/* h264v_open with modes and targets that are, and that are not. */
+static void opens(void)
+{
+    h264v *decoder;
+    for (uint32_t mode = 0; mode < 4; mode++) {
+        for (uint32_t target = 0; target < 3; target++) {
+            int known = mode <= H264V_FULL && target <= H264V_MAIN_IP;
+            memset(&decoder, MARK, sizeof decoder);
+            expect(h264v_open(mode, target, &decoder) == (known ? H264V_OPENED : H264V_MISUSE), "open answers by mode and target");
+            expect(is_marked(&decoder, sizeof decoder) == !known, "open writes a decoder where there is one");
+            if (known)
+                h264v_close(decoder);
+        }
+    }
+    memset(&decoder, MARK, sizeof decoder);
+    expect(h264v_open(UINT32_MAX, UINT32_MAX, &decoder) == H264V_MISUSE && is_marked(&decoder, sizeof decoder), "open of the largest numbers");
+}
+
+/* A legal stream in pieces of so many bytes: what each call answers and writes, and what it leaves. */
+static void legal_in_pieces(const stream *s, size_t piece)
+{
+    h264v *decoder = opened(H264V_FULL, H264V_BASELINE);
+    h264v_verdict verdict;
+    h264v_frame frame;
+    memset(&verdict, MARK, sizeof verdict);
+    memset(&frame, MARK, sizeof frame);
+    expect(h264v_receive(decoder, &frame) == H264V_NO_FRAME && is_marked(&frame, sizeof frame), "no frame before the first byte");
+    expect(h264v_send(decoder, s->bytes, 0, &verdict) == H264V_GOES_ON, "an empty piece goes on");
+    for (size_t at = 0; at < s->size; at += piece) {
+        size_t size = s->size - at < piece ? s->size - at : piece;
+        expect(h264v_send(decoder, s->bytes + at, size, &verdict) == H264V_GOES_ON, "a legal piece goes on");
+    }
+    expect(is_marked(&verdict, sizeof verdict), "the verdict is not written while the stream goes on");
+    h264v_finish(decoder, &verdict);
+    expect(is_yes(&verdict, 3, 1, 1), "the verdict on a legal stream");
+    memset(&verdict, MARK, sizeof verdict);
+    h264v_finish(decoder, &verdict);
+    expect(is_yes(&verdict, 3, 1, 1), "a second finish writes it again");
+    memset(&verdict, MARK, sizeof verdict);
+    expect(h264v_send(decoder, s->bytes, s->size, &verdict) == H264V_FELL && is_yes(&verdict, 3, 1, 1), "so does a send after it, which reads nothing");
+    expect(h264v_receive(decoder, &frame) == H264V_FRAME && is_grey(&frame), "its frame");
+    memset(&frame, MARK, sizeof frame);
+    expect(h264v_receive(decoder, &frame) == H264V_NO_FRAME && is_marked(&frame, sizeof frame), "no frame after the last");
+    h264v_close(decoder);
+}
+
+/* Modes that give no frames. */
+static void no_frames(const stream *s, uint32_t mode, uint64_t pictures)
+{
+    h264v *decoder = opened(mode, H264V_BASELINE);
+    h264v_verdict verdict;
+    h264v_frame frame;
+    expect(h264v_send(decoder, s->bytes, s->size, &verdict) == H264V_GOES_ON, "a legal stream goes on in each mode");
+    h264v_finish(decoder, &verdict);
+    expect(is_yes(&verdict, 3, pictures, 0), "the verdict without frames");
+    expect(h264v_receive(decoder, &frame) == H264V_NO_FRAME, "no frame without H264V_FULL");
+    h264v_close(decoder);
+}
+
+/* A stream that breaks a rule: the verdict. The frame before it was not due yet, and does not come. */
+static void broken(const stream *s)
+{
+    h264v *decoder = opened(H264V_FULL, H264V_BASELINE);
+    h264v_verdict verdict, again;
+    h264v_frame frame;
+    int32_t answer = h264v_send(decoder, s->bytes, s->size, &verdict);
+    if (answer == H264V_GOES_ON)
+        h264v_finish(decoder, &verdict);
+    expect(is_vector_range(&verdict), "the verdict on a vector that is too long");
+    memset(&again, MARK, sizeof again);
+    h264v_finish(decoder, &again);
+    expect(is_vector_range(&again), "a second finish writes it again");
+    memset(&again, MARK, sizeof again);
+    expect(h264v_send(decoder, s->bytes, s->size, &again) == H264V_FELL && is_vector_range(&again), "a send after the verdict says it again");
+    expect(h264v_send(decoder, s->bytes, 0, &again) == H264V_FELL && is_vector_range(&again), "so does one of no bytes");
+    expect(h264v_receive(decoder, &frame) == H264V_NO_FRAME, "a frame that was not due does not come");
+    h264v_close(decoder);
+}
+
+/* Streams of which there is little. */
+static void of_little(void)
+{
+    static const uint8_t none[1] = {0}, rubbish[] = {1, 2, 3, 4, 5, 6, 7, 8};
+    h264v *decoder = opened(H264V_FULL, H264V_BASELINE);
+    h264v_verdict verdict, checked;
+    h264v_finish(decoder, &verdict);
+    expect(verdict.kind == H264V_NO && verdict.bit == 0 && verdict.label[0] != 0, "no bytes are a no");
+    h264v_check(none, 0, H264V_FULL, H264V_BASELINE, &checked);
+    expect(same(&verdict, &checked), "and so says a check");
+    h264v_close(decoder);
+    decoder = opened(H264V_UNITS, H264V_MAIN_IP);
+    expect(h264v_send(decoder, rubbish, sizeof rubbish, &verdict) == H264V_FELL && verdict.kind == H264V_NO, "rubbish is a no at once");
+    h264v_close(decoder);
+    h264v_close(opened(H264V_FULL, H264V_MAIN_IP)); /* nothing was sent */
+}
+
+/* A feature that is outside: level 6. */
+static void outside(const stream *s)
+{
+    enum { LEVEL_AT = 7, LEVEL_6 = 60 };
+    h264v_verdict verdict;
+    uint8_t before = s->bytes[LEVEL_AT];
+    s->bytes[LEVEL_AT] = LEVEL_6;
+    h264v_check(s->bytes, s->size, H264V_FULL, H264V_BASELINE, &verdict);
+    s->bytes[LEVEL_AT] = before;
+    expect(verdict.kind == H264V_OUTSIDE && verdict.bit == LEVEL_AT * 8 && verdict.units == 0, "level 6 is outside");
+    expect(strcmp(verdict.label, "Level6") == 0 && verdict.clause[0] == 0, "an outside names its feature, and no clause");
+}
+
+/* h264v_check by mode and target. */
+static void checks(const stream *legal, const stream *bad)
+{
+    h264v_verdict verdict;
+    for (uint32_t target = H264V_BASELINE; target <= H264V_MAIN_IP; target++) {
+        h264v_check(legal->bytes, legal->size, H264V_UNITS, target, &verdict);
+        expect(is_yes(&verdict, 3, 0, 0), "a check of units");
+        h264v_check(legal->bytes, legal->size, H264V_HEADERS, target, &verdict);
+        expect(is_yes(&verdict, 3, 1, 0), "a check of headers");
+        h264v_check(legal->bytes, legal->size, H264V_FULL, target, &verdict);
+        expect(is_yes(&verdict, 3, 1, 1), "a check of all");
+        h264v_check(bad->bytes, bad->size, H264V_FULL, target, &verdict);
+        expect(is_vector_range(&verdict), "a check of a broken stream");
+        h264v_check(legal->bytes, legal->size, 3, target, &verdict);
+        expect(verdict.kind == H264V_MISUSE && verdict.bit == 0 && verdict.label[0] == 0, "a check with a mode that is none");
+    }
+    h264v_check(legal->bytes, legal->size, H264V_FULL, 2, &verdict);
+    expect(verdict.kind == H264V_MISUSE && verdict.units == 0 && verdict.clause[0] == 0, "a check for a target that is none");
+}
+
+/* Two decoders at once, and closing while a frame is lent and others wait. */
+static void two_at_once(const stream *s)
+{
+    h264v *first = opened(H264V_FULL, H264V_BASELINE), *second = opened(H264V_FULL, H264V_BASELINE);
+    h264v_verdict verdict;
+    h264v_frame frame, other;
+    for (size_t at = 0; at < s->size; at++) {
+        expect(h264v_send(first, s->bytes + at, 1, &verdict) == H264V_GOES_ON, "the first goes on");
+        expect(h264v_send(second, s->bytes + at, 1, &verdict) == H264V_GOES_ON, "the second goes on");
+    }
+    h264v_finish(first, &verdict);
+    expect(h264v_receive(first, &frame) == H264V_FRAME, "the first has its frame");
+    expect(h264v_receive(second, &other) == H264V_NO_FRAME, "the second has none yet");
+    h264v_finish(second, &verdict);
+    h264v_close(second); /* its frame waits */
+    expect(is_grey(&frame), "a lent frame stays while another decoder is closed");
+    h264v_close(first); /* its frame is lent */
+}
+
+int main(int argc, char **argv)
+{
+    stream legal, bad;
+    if (argc != 3 || !read_stream(argv[1], &legal) || !read_stream(argv[2], &bad))
+        return 64;
+    opens();
+    for (size_t piece = 1; piece <= legal.size; piece++)
+        legal_in_pieces(&legal, piece);
+    no_frames(&legal, H264V_UNITS, 0);
+    no_frames(&legal, H264V_HEADERS, 1);
+    broken(&bad);
+    of_little();
+    outside(&legal);
+    checks(&legal, &bad);
+    two_at_once(&legal);
+    free(legal.bytes);
+    free(bad.bytes);
+    return failures != 0;
+}

@@ -1,0 +1,57 @@
+/* For the programs here that test the library: what they expect, and streams in memory. */
+#ifndef EXPECT_H
+#define EXPECT_H
+
+#include <h264v.h>
+#include <stdio.h>
+#include <stdlib.h>
+#include <string.h>
+
+/* A stream, in as many bytes as it has: what reads past them is seen by AddressSanitizer and by valgrind. */
+typedef struct {
+    uint8_t *bytes;
+    size_t size;
+} stream;
+
+/* How many things were not as expected. */
+static int failures = 0;
+
+static inline void expect(int holds, const char *what)
+{
+    if (!holds) {
+        printf("not so: %s\n", what);
+        failures++;
+    }
+}
+
+/* Whether two verdicts say the same. */
+static inline int same(const h264v_verdict *a, const h264v_verdict *b)
+{
+    return a->kind == b->kind && a->bit == b->bit && a->units == b->units && a->pictures == b->pictures && a->frames == b->frames &&
+           strcmp(a->label, b->label) == 0 && strcmp(a->clause, b->clause) == 0;
+}
+
+/* A decoder that has to be had; it ends the program where there is none. */
+static inline h264v *opened(uint32_t mode, uint32_t target)
+{
+    h264v *decoder;
+    if (h264v_open(mode, target, &decoder) == H264V_OPENED)
+        return decoder;
+    printf("not so: there is a decoder\n");
+    exit(EXIT_FAILURE);
+}
+
+/* Reads a file of 1 MiB at most; 0 where that fails. The caller frees the bytes. */
+static inline int read_stream(const char *name, stream *to)
+{
+    enum { MOST = 1 << 20 };
+    FILE *file = fopen(name, "rb");
+    uint8_t *bytes = file ? malloc(MOST) : NULL;
+    to->size = bytes ? fread(bytes, 1, MOST, file) : 0;
+    to->bytes = bytes ? realloc(bytes, to->size ? to->size : 1) : NULL;
+    if (file)
+        fclose(file);
+    return to->bytes && to->size > 0;
+}
+
+#endif
