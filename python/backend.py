@@ -4,7 +4,7 @@ import hashlib
 import os
 import zipfile
 
-NAME, VERSION = "h264v", "1.0.0"
+NAME, VERSION = "h264v", "0.1.0"
 INFO = f"{NAME}-{VERSION}.dist-info"
 METADATA = f"Metadata-Version: 2.1\nName: {NAME}\nVersion: {VERSION}\nSummary: A proved verifier and decoder of H.264 byte streams\nRequires-Python: >=3.8\n"
 WHEEL = "Wheel-Version: 1.0\nGenerator: backend\nRoot-Is-Purelib: true\nTag: py3-none-any\n"
