@@ -266,24 +266,26 @@ fn digest(rt: &(impl Abort + AllocGlobal), stream: &[u8]) -> Result<(), Fail> {
     Ok(())
 }
 
-/// It is written with its samples, a row at a time.
+/// It is written with its samples, a plane at a time.
 fn samples(rt: &(impl Abort + AllocGlobal), stream: &[u8], samples: &[u8]) -> Result<(), Fail> {
     let all = outcome_of(rt.alloc(), "decode", whole(stream), usize::MAX, usize::MAX)?;
     check_written(rt, &all, samples, ONE_PICTURE, 0);
-    assert_eq!(rt; all.writes, 32);
+    assert_eq!(rt; all.writes, BEFORE.len());
     Ok(())
 }
 
-/// Whichever write of `decode` fails, the rows before it stand there, and it is told, where that can be written.
+/// How many samples of one macroblock come before those of Y, of Cb and of Cr.
+const BEFORE: [usize; 3] = [0, 256, 320];
+
+/// Whichever write of `decode` fails, the planes before it stand there, and it is told, where that can be written.
 fn each_write_fails(
     rt: &(impl Abort + AllocGlobal),
     stream: &[u8],
     samples: &[u8],
 ) -> Result<(), Fail> {
-    for failing in 0..32usize {
+    for failing in 0..BEFORE.len() {
         let some = outcome_of(rt.alloc(), "decode", whole(stream), failing, usize::MAX)?;
-        let rows = failing.min(16);
-        assert_eq!(rt; some.out.len(), 8 * rows + 8 * failing);
+        assert_eq!(rt; some.out.len(), BEFORE[failing]);
         check_front(rt, some.out.as_slice(), samples);
         check_written(rt, &some, some.out.as_slice(), b"write failed\n", 4);
     }
