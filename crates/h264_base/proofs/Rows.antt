@@ -59,7 +59,7 @@ prefix : (q r : Row) (bytes : List ℕ) (i : ℕ) → q.length ≤ r.length → 
 unfolding is_prefix
 prefix q r bytes i g e f = rw (le-leb q.length r.length g) (eq-eqb _ _ (some-same _ _ (sym (nested q.length r.length r.bits bytes i g f) ∙ e)))
 
-apart-from : (q r : Row) (rows : List Row) → is_apart q rows ≡ true → IsRow rows r → (is_prefix q r ≡ false) × (is_prefix r q ≡ false)
+pub apart-from : (q r : Row) (rows : List Row) → is_apart q rows ≡ true → IsRow rows r → (is_prefix q r ≡ false) × (is_prefix r q ≡ false)
 unfolding is_apart
 apart-from q r [] h m = absurd m
 apart-from q r (s ∷ rows) h (inl e) =

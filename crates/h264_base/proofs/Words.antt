@@ -24,7 +24,7 @@ unfolding number_at
 stands-number [] bytes i s = refl
 stands-number (b ∷ w) bytes i s = rw (s.0, stands-number w bytes (i + 1) s.1) refl
 
-pair_same : {A B : Type 0} {a c : A} {b d : B} → a ≡ c → b ≡ d → (let p : A × B = (a, b) in p) ≡ (c, d)
+pub pair_same : {A B : Type 0} {a c : A} {b d : B} → a ≡ c → b ≡ d → (let p : A × B = (a, b) in p) ≡ (c, d)
 pair_same e f = cc
 
 -- zeros up to a 1, and what stands after it

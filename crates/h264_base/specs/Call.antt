@@ -1,5 +1,5 @@
 -- What a sink is told. A working form.
-use Rattle.std.specs.Prelude.{◌≡◌, ℕ, ℤ, List, [], ◌∷◌, ◌++◌}
+use Rattle.std.specs.Prelude.{◌≡◌, ℕ, ◌-◌, ◌<◌, ◌^◌, ℤ, List, [], ◌∷◌, ◌++◌}
 use Rattle.h264_base.specs.declared.element_name.ElementName.{ElementName}
 use Rattle.h264_base.specs.declared.mode.SliceType.{SliceType}
 
@@ -24,3 +24,11 @@ pub record TellsFront {S : Type 0} (took : S → List Call → Type 0) (old new 
   pub rest : List Call
   pub whole : calls ≡ front ++ rest
   pub tells : Tells took old new front
+
+-- One more failure can be counted in 64 bits.
+abbrev pub HasRoom : {S : Type 0} → (S → ℕ) → S → Type 0
+HasRoom failures s = failures s < 2 ^ 64 - 1
+
+-- no call failed from old to new
+abbrev pub IsQuiet : {S : Type 0} → (S → ℕ) → S → S → Type 0
+IsQuiet failures old new = failures new ≡ failures old

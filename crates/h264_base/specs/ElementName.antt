@@ -1,7 +1,45 @@
 -- The names of the syntax elements, as the standard spells them. To be read beside the standard.
 use Rattle.std.specs.Prelude.{ℕ, List, codes}
 use Rattle.h264_base.specs.declared.element_name.ElementName.{ElementName}
-use Rattle.h264_base.specs.declared.element_name.ElementName.TheVariants.{ProfileIdc, ConstraintSet0Flag, ConstraintSet1Flag, ConstraintSet2Flag, ConstraintSet3Flag, ConstraintSet4Flag, ConstraintSet5Flag, ReservedZero2bits, LevelIdc, SeqParameterSetId, Log2MaxFrameNumMinus4, PicOrderCntType, Log2MaxPicOrderCntLsbMinus4, DeltaPicOrderAlwaysZeroFlag, OffsetForNonRefPic, OffsetForTopToBottomField, NumRefFramesInPicOrderCntCycle, OffsetForRefFrame, MaxNumRefFrames, GapsInFrameNumValueAllowedFlag, PicWidthInMbsMinus1, PicHeightInMapUnitsMinus1, FrameMbsOnlyFlag, Direct8x8InferenceFlag, FrameCroppingFlag, FrameCropLeftOffset, FrameCropRightOffset, FrameCropTopOffset, FrameCropBottomOffset, VuiParametersPresentFlag, AspectRatioInfoPresentFlag, AspectRatioIdc, SarWidth, SarHeight, OverscanInfoPresentFlag, OverscanAppropriateFlag, VideoSignalTypePresentFlag, VideoFormat, VideoFullRangeFlag, ColourDescriptionPresentFlag, ColourPrimaries, TransferCharacteristics, MatrixCoefficients, ChromaLocInfoPresentFlag, ChromaSampleLocTypeTopField, ChromaSampleLocTypeBottomField, TimingInfoPresentFlag, NumUnitsInTick, TimeScale, FixedFrameRateFlag, NalHrdParametersPresentFlag, VclHrdParametersPresentFlag, CpbCntMinus1, BitRateScale, CpbSizeScale, BitRateValueMinus1, CpbSizeValueMinus1, CbrFlag, InitialCpbRemovalDelayLengthMinus1, CpbRemovalDelayLengthMinus1, DpbOutputDelayLengthMinus1, TimeOffsetLength, LowDelayHrdFlag, PicStructPresentFlag, BitstreamRestrictionFlag, MotionVectorsOverPicBoundariesFlag, MaxBytesPerPicDenom, MaxBitsPerMbDenom, Log2MaxMvLengthHorizontal, Log2MaxMvLengthVertical, MaxNumReorderFrames, MaxDecFrameBuffering, PicParameterSetId, EntropyCodingModeFlag, BottomFieldPicOrderInFramePresentFlag, NumSliceGroupsMinus1, NumRefIdxL0DefaultActiveMinus1, NumRefIdxL1DefaultActiveMinus1, WeightedPredFlag, WeightedBipredIdc, PicInitQpMinus26, PicInitQsMinus26, ChromaQpIndexOffset, DeblockingFilterControlPresentFlag, ConstrainedIntraPredFlag, RedundantPicCntPresentFlag, FirstMbInSlice, SliceType, FrameNum, IdrPicId, PicOrderCntLsb, DeltaPicOrderCntBottom, DeltaPicOrderCnt, NumRefIdxActiveOverrideFlag, NumRefIdxL0ActiveMinus1, RefPicListModificationFlagL0, ModificationOfPicNumsIdc, AbsDiffPicNumMinus1, LongTermPicNum, LumaLog2WeightDenom, ChromaLog2WeightDenom, LumaWeightL0Flag, LumaWeightL0, LumaOffsetL0, ChromaWeightL0Flag, ChromaWeightL0, ChromaOffsetL0, NoOutputOfPriorPicsFlag, LongTermReferenceFlag, AdaptiveRefPicMarkingModeFlag, MemoryManagementControlOperation, DifferenceOfPicNumsMinus1, LongTermFrameIdx, MaxLongTermFrameIdxPlus1, SliceQpDelta, DisableDeblockingFilterIdc, SliceAlphaC0OffsetDiv2, SliceBetaOffsetDiv2, MbSkipRun, MbType, SubMbType, PrevIntra4x4PredModeFlag, RemIntra4x4PredMode, IntraChromaPredMode, RefIdxL0, MvdL0, CodedBlockPattern, MbQpDelta, CoeffToken, TrailingOnesSignFlag, LevelPrefix, LevelSuffix, TotalZeros, RunBefore}
+use Rattle.h264_base.specs.declared.element_name.ElementName.TheVariants.{ProfileIdc, ConstraintSet0Flag, ConstraintSet1Flag, ConstraintSet2Flag}
+use Rattle.h264_base.specs.declared.element_name.ElementName.TheVariants.{ConstraintSet3Flag, ConstraintSet4Flag, ConstraintSet5Flag, ReservedZero2bits}
+use Rattle.h264_base.specs.declared.element_name.ElementName.TheVariants.{LevelIdc, SeqParameterSetId, Log2MaxFrameNumMinus4, PicOrderCntType}
+use Rattle.h264_base.specs.declared.element_name.ElementName.TheVariants.{Log2MaxPicOrderCntLsbMinus4, DeltaPicOrderAlwaysZeroFlag, OffsetForNonRefPic}
+use Rattle.h264_base.specs.declared.element_name.ElementName.TheVariants.{OffsetForTopToBottomField, NumRefFramesInPicOrderCntCycle, OffsetForRefFrame}
+use Rattle.h264_base.specs.declared.element_name.ElementName.TheVariants.{MaxNumRefFrames, GapsInFrameNumValueAllowedFlag, PicWidthInMbsMinus1}
+use Rattle.h264_base.specs.declared.element_name.ElementName.TheVariants.{PicHeightInMapUnitsMinus1, FrameMbsOnlyFlag, Direct8x8InferenceFlag}
+use Rattle.h264_base.specs.declared.element_name.ElementName.TheVariants.{FrameCroppingFlag, FrameCropLeftOffset, FrameCropRightOffset, FrameCropTopOffset}
+use Rattle.h264_base.specs.declared.element_name.ElementName.TheVariants.{FrameCropBottomOffset, VuiParametersPresentFlag, AspectRatioInfoPresentFlag}
+use Rattle.h264_base.specs.declared.element_name.ElementName.TheVariants.{AspectRatioIdc, SarWidth, SarHeight, OverscanInfoPresentFlag}
+use Rattle.h264_base.specs.declared.element_name.ElementName.TheVariants.{OverscanAppropriateFlag, VideoSignalTypePresentFlag, VideoFormat}
+use Rattle.h264_base.specs.declared.element_name.ElementName.TheVariants.{VideoFullRangeFlag, ColourDescriptionPresentFlag, ColourPrimaries}
+use Rattle.h264_base.specs.declared.element_name.ElementName.TheVariants.{TransferCharacteristics, MatrixCoefficients, ChromaLocInfoPresentFlag}
+use Rattle.h264_base.specs.declared.element_name.ElementName.TheVariants.{ChromaSampleLocTypeTopField, ChromaSampleLocTypeBottomField, TimingInfoPresentFlag}
+use Rattle.h264_base.specs.declared.element_name.ElementName.TheVariants.{NumUnitsInTick, TimeScale, FixedFrameRateFlag, NalHrdParametersPresentFlag}
+use Rattle.h264_base.specs.declared.element_name.ElementName.TheVariants.{VclHrdParametersPresentFlag, CpbCntMinus1, BitRateScale, CpbSizeScale}
+use Rattle.h264_base.specs.declared.element_name.ElementName.TheVariants.{BitRateValueMinus1, CpbSizeValueMinus1, CbrFlag, InitialCpbRemovalDelayLengthMinus1}
+use Rattle.h264_base.specs.declared.element_name.ElementName.TheVariants.{CpbRemovalDelayLengthMinus1, DpbOutputDelayLengthMinus1, TimeOffsetLength}
+use Rattle.h264_base.specs.declared.element_name.ElementName.TheVariants.{LowDelayHrdFlag, PicStructPresentFlag, BitstreamRestrictionFlag}
+use Rattle.h264_base.specs.declared.element_name.ElementName.TheVariants.{MotionVectorsOverPicBoundariesFlag, MaxBytesPerPicDenom, MaxBitsPerMbDenom}
+use Rattle.h264_base.specs.declared.element_name.ElementName.TheVariants.{Log2MaxMvLengthHorizontal, Log2MaxMvLengthVertical, MaxNumReorderFrames}
+use Rattle.h264_base.specs.declared.element_name.ElementName.TheVariants.{MaxDecFrameBuffering, PicParameterSetId, EntropyCodingModeFlag}
+use Rattle.h264_base.specs.declared.element_name.ElementName.TheVariants.{BottomFieldPicOrderInFramePresentFlag, NumSliceGroupsMinus1}
+use Rattle.h264_base.specs.declared.element_name.ElementName.TheVariants.{NumRefIdxL0DefaultActiveMinus1, NumRefIdxL1DefaultActiveMinus1, WeightedPredFlag}
+use Rattle.h264_base.specs.declared.element_name.ElementName.TheVariants.{WeightedBipredIdc, PicInitQpMinus26, PicInitQsMinus26, ChromaQpIndexOffset}
+use Rattle.h264_base.specs.declared.element_name.ElementName.TheVariants.{DeblockingFilterControlPresentFlag, ConstrainedIntraPredFlag}
+use Rattle.h264_base.specs.declared.element_name.ElementName.TheVariants.{RedundantPicCntPresentFlag, FirstMbInSlice, SliceType, FrameNum, IdrPicId}
+use Rattle.h264_base.specs.declared.element_name.ElementName.TheVariants.{PicOrderCntLsb, DeltaPicOrderCntBottom, DeltaPicOrderCnt}
+use Rattle.h264_base.specs.declared.element_name.ElementName.TheVariants.{NumRefIdxActiveOverrideFlag, NumRefIdxL0ActiveMinus1, RefPicListModificationFlagL0}
+use Rattle.h264_base.specs.declared.element_name.ElementName.TheVariants.{ModificationOfPicNumsIdc, AbsDiffPicNumMinus1, LongTermPicNum, LumaLog2WeightDenom}
+use Rattle.h264_base.specs.declared.element_name.ElementName.TheVariants.{ChromaLog2WeightDenom, LumaWeightL0Flag, LumaWeightL0, LumaOffsetL0}
+use Rattle.h264_base.specs.declared.element_name.ElementName.TheVariants.{ChromaWeightL0Flag, ChromaWeightL0, ChromaOffsetL0, NoOutputOfPriorPicsFlag}
+use Rattle.h264_base.specs.declared.element_name.ElementName.TheVariants.{LongTermReferenceFlag, AdaptiveRefPicMarkingModeFlag}
+use Rattle.h264_base.specs.declared.element_name.ElementName.TheVariants.{MemoryManagementControlOperation, DifferenceOfPicNumsMinus1, LongTermFrameIdx}
+use Rattle.h264_base.specs.declared.element_name.ElementName.TheVariants.{MaxLongTermFrameIdxPlus1, SliceQpDelta, DisableDeblockingFilterIdc}
+use Rattle.h264_base.specs.declared.element_name.ElementName.TheVariants.{SliceAlphaC0OffsetDiv2, SliceBetaOffsetDiv2, MbSkipRun, MbType, SubMbType}
+use Rattle.h264_base.specs.declared.element_name.ElementName.TheVariants.{PrevIntra4x4PredModeFlag, RemIntra4x4PredMode, IntraChromaPredMode, RefIdxL0, MvdL0}
+use Rattle.h264_base.specs.declared.element_name.ElementName.TheVariants.{CodedBlockPattern, MbQpDelta, CoeffToken, TrailingOnesSignFlag, LevelPrefix}
+use Rattle.h264_base.specs.declared.element_name.ElementName.TheVariants.{LevelSuffix, TotalZeros, RunBefore}
 
 unfoldable pub text_of : ElementName → List ℕ
 text_of ProfileIdc = codes "profile_idc"

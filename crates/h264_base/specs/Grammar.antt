@@ -1,5 +1,6 @@
 -- Syntax structures as terms, and what they mean (7.2, 7.3). To be read beside the standard.
-use Rattle.std.specs.Prelude.{◌≡◌, ℕ, ◌+◌, ◌*◌, ◌-◌, ◌/◌, ◌%◌, Bool, true, false, IsTrue, IsFalse, List, [], ◌∷◌, length, replicate, take, drop, ℤ, Some, ◌<◌, ◌≤◌, ◌⊎◌, Result, Ok, Err}
+use Rattle.std.specs.Prelude.{◌≡◌, ℕ, ◌+◌, ◌*◌, ◌-◌, ◌/◌, ◌%◌, Bool, true, false, IsTrue, IsFalse, List, [], ◌∷◌, length, replicate, take, drop, ℤ, Some, ◌<◌}
+use Rattle.std.specs.Prelude.{◌≤◌, ◌⊎◌, Result, Ok, Err}
 use Rattle.h264_base.specs.declared.element_name.ElementName.{ElementName}
 use Rattle.h264_base.specs.declared.rule.Rule.{Rule}
 use Rattle.h264_base.specs.declared.rule.Rule.TheVariants.{CodeWord, ResidualWord, Trailing}
@@ -96,9 +97,13 @@ Says (Read name rule code k) body i (e ∷ es) a = (e.name ≡ name) × (e.from 
 Says (Check rule at holds g) body i es a = (IsTrue holds × Says g body i es a) ⊎ (IsFalse holds × (es ≡ []) × (a ≡ Err (No at rule)))
 Says (Support feature at holds g) body i es a = (IsTrue holds × Says g body i es a) ⊎ (IsFalse holds × (es ≡ []) × (a ≡ Err (Outside at feature)))
 Says (More k) body i es a = (b : Bool) × HasMore body.bytes i b × Says (k (ahead body i b)) body i es a
-Says (Align g) body i es a = (IsPadded body.bytes i × Says g body (i + padding i) es a) ⊎ ((j : ℕ) × IsUnpadded body.bytes i j × (es ≡ []) × (a ≡ Err (No (place body j) CodeWord)))
-Says (Bytes n k) body i es a = ((i + 8 * n ≤ 8 * length body.bytes) × Says (k (bytes_at n body.bytes i)) body (i + 8 * n) es a) ⊎ ((8 * length body.bytes < i + 8 * n) × (es ≡ []) × (a ≡ Err (No (place body (8 * length body.bytes)) CodeWord)))
-Says (Close g) body i es a = (IsClosed body.bytes i × Says g body (8 * length body.bytes) es a) ⊎ ((IsClosed body.bytes i → ⊥) × (es ≡ []) × (a ≡ Err (No (place body i) Trailing)))
+Says (Align g) body i es a = (IsPadded body.bytes i × Says g body (i + padding i) es a) ⊎ ((j : ℕ) × IsUnpadded body.bytes i j × (es ≡ [])
+    × (a ≡ Err (No (place body j) CodeWord)))
+Says (Bytes n k) body i es a = ((i + 8 * n ≤ 8 * length body.bytes)
+    × Says (k (bytes_at n body.bytes i)) body (i + 8 * n) es a) ⊎ ((8 * length body.bytes < i + 8 * n) × (es ≡ [])
+    × (a ≡ Err (No (place body (8 * length body.bytes)) CodeWord)))
+Says (Close g) body i es a = (IsClosed body.bytes i × Says g body (8 * length body.bytes) es a) ⊎ ((IsClosed body.bytes i → ⊥) × (es ≡ [])
+    × (a ≡ Err (No (place body i) Trailing)))
 
 -- The elements up to bit j are a derivation of the structure, every check is met, and it gives v.
 abbrev pub Derives : {A : Type 0} → Grammar A → Body → ℕ → List Element → ℕ → A → Type 0

@@ -1,7 +1,10 @@
 -- The rules' labels, and the clauses of H.264 that state them. To be read beside the standard.
 use Rattle.std.specs.Prelude.{ℕ, List, codes}
 use Rattle.h264_base.specs.declared.rule.Rule.{Rule}
-use Rattle.h264_base.specs.declared.rule.Rule.TheVariants.{ByteStream, EmptyUnit, Emulation, ForbiddenBit, RefIdc, Partition, CodeWord, ResidualWord, Range, Tool, Profile, FrameSize, Crop, Vui, Trailing, NoSet, FirstPicture, SetChanged, FirstMb, SliceType, FrameNum, IdrPicId, Qp, Count, ListCommand, MarkCommand, MarkDiffers, SliceEmpty, MbPast, NoReference, IntraMode, BlockSize, VectorRange, TransformRange, Incomplete, NoPicture}
+use Rattle.h264_base.specs.declared.rule.Rule.TheVariants.{ByteStream, EmptyUnit, Emulation, ForbiddenBit, RefIdc, Partition, CodeWord, ResidualWord, Range}
+use Rattle.h264_base.specs.declared.rule.Rule.TheVariants.{Tool, Profile, FrameSize, Crop, Vui, Trailing, NoSet, FirstPicture, SetChanged, FirstMb, SliceType}
+use Rattle.h264_base.specs.declared.rule.Rule.TheVariants.{FrameNum, IdrPicId, Qp, Count, ListCommand, MarkCommand, MarkDiffers, SliceEmpty, MbPast}
+use Rattle.h264_base.specs.declared.rule.Rule.TheVariants.{NoReference, IntraMode, BlockSize, VectorRange, TransformRange, Incomplete, NoPicture}
 
 unfoldable pub label_of : Rule → List ℕ
 label_of ByteStream = codes "ByteStream"

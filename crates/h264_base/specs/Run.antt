@@ -23,7 +23,8 @@ stopped s = record { elements = []; answer = Err s }
 
 abbrev pub element_run : {A : Type 0} → Body → ElementName → Rule → ℕ → (ℕ → Found → Run A) → Option (ℤ × ℕ) → Run A
 element_run body name rule i next None = stopped (No (place body i) rule)
-element_run body name rule i next (Some x) = let e : Element = record { name = name; from = i; to = x.1; value = x.0 } in with_element e (next e.to (found body e))
+element_run body name rule i next (Some x) =
+    let e : Element = record { name = name; from = i; to = x.1; value = x.0 } in with_element e (next e.to (found body e))
 
 -- a run that goes on unless there is a bit that breaks the alignment
 abbrev pub align_run : {A : Type 0} → Body → Run A → Option ℕ → Run A
@@ -37,7 +38,9 @@ run (Check rule at holds g) body i = if holds then run g body i else stopped (No
 run (Support feature at holds g) body i = if holds then run g body i else stopped (Outside at feature)
 run (More k) body i = run (k (ahead body i (not (ends_at body.bytes i)))) body i
 run (Align g) body i = align_run body (run g body (i + padding i)) (no_zero_at (padding i) body.bytes i)
-run (Bytes n k) body i = if nat_le (i + 8 * n) (8 * length body.bytes) then run (k (bytes_at n body.bytes i)) body (i + 8 * n) else stopped (No (place body (8 * length body.bytes)) CodeWord)
+run (Bytes n k) body i =
+    if nat_le (i + 8 * n) (8 * length body.bytes) then run (k (bytes_at n body.bytes i)) body (i + 8 * n)
+    else stopped (No (place body (8 * length body.bytes)) CodeWord)
 run (Close g) body i = if closes_at body.bytes i then run g body (8 * length body.bytes) else stopped (No (place body i) Trailing)
 
 -- what the sink is told of an element

@@ -2,7 +2,7 @@
 #![tactic(auto)]
 
 ghost use Rattle.std.specs.Prelude.{ℕ, ◌≡◌, ◌+◌, ◌-◌, ◌<◌, ◌^◌, List, [], ◌∷◌, OnOk, OnErr};
-ghost use Rattle.h264_base.specs.Call.{Call, OfElement, Tells};
+ghost use Rattle.h264_base.specs.Call.{Call, OfElement, Tells, HasRoom, IsQuiet};
 
 use crate::element_name::ElementName;
 
@@ -20,9 +20,9 @@ pub trait Elements {
 
     /// An element: its name, the stream bit where it begins, and its value.
     fn element(&mut self, name: ElementName, bit: u64, value: i64) -> Result<(), Failed>
-        requires { failures self.old < 2 ^ 64 - 1 }
+        requires { HasRoom failures self.old }
         ensures ok { OnOk result (Tells took self.old self.new (OfElement name bit value ∷ [])) }
-        ensures kept { OnOk result (failures self.new ≡ failures self.old) }
+        ensures kept { OnOk result (IsQuiet failures self.old self.new) }
         ensures refused { OnErr result (Tells took self.old self.new []) }
         ensures failed { OnErr result (failures self.new ≡ failures self.old + 1) };
 }

@@ -12,6 +12,7 @@ use lib.Count.{count_leading_zeros}
 use Rattle.std.proofs.Math.Nat.{pow-le-pow_right, mod-eq_of_lt}
 use Rattle.h264_base.specs.Word.{Fixed, Unsigned, Signed, digit, signed, bit_of, number_at, zeros_at, golomb_at, value_at}
 use Rattle.h264_bits.specs.Peek.{bit_or_zero, peek_at}
+use Rattle.h264_tables.proofs.Prefixes.{spread}
 
 pow-two : (m : ℕ) → 2 ^ suc m ≡ 2 * 2 ^ m
 pow-two m = pow-succ' 2 m
@@ -33,9 +34,6 @@ peek-below (suc n) bytes i =
     let e = pow-two n in
     let g = times-bit (bit_or_zero bytes i) (2 ^ n) (bit-below bytes i) in
     omega arith
-
-spread : (b p q x y : ℕ) → b * (p * q) + (x * q + y) ≡ (b * p + x) * q + y
-spread b p q x y = grind arith
 
 -- the first bits, and those after them
 pub peek-split : (a b n : ℕ) (bytes : List ℕ) (i : ℕ) → n ≡ a + b → peek_at n bytes i ≡ peek_at a bytes i * 2 ^ b + peek_at b bytes (i + a)

@@ -37,9 +37,9 @@ pub place-later : (body : Body) (i j : ℕ) → i ≤ j → place body i + (j - 
 unfolding place
 place-later body i j h = let c = count-more (i / 8) (j / 8) body.dropped (omega arith) in omega arith
 
-pub place-behind : (body : Body) (i : ℕ) → i ≤ place body i
+pub place-after : (body : Body) (i : ℕ) → i ≤ place body i
 unfolding place
-place-behind body i = omega arith
+place-after body i = omega arith
 
 -- bits stand together where the first and the last of them are as far apart
 pub between : (body : Body) (from last shift : ℕ) → from ≤ last → last ≤ 8 * length body.bytes → place body from ≡ from + shift → place body last ≡ last + shift → last + shift < 2 ^ 64 → IsStretch body from (record { shift = shift; last = last })

@@ -29,9 +29,9 @@ moved bytes i n m r w e is =
     rw (← powers m r n e, pow-add 2 r n)
     (middle (peek_at n bytes i) (peek_at m bytes (i + n)) (w % 2 ^ r) (2 ^ r) (2 ^ n) (2 ^ m) w (peek-below m bytes (i + n)) (mod-lt w (pow_pos r)) (pow_pos n) parts)
 
-pub behind-some : (bytes : List ℕ) (i n : ℕ) (k : Upcoming) → n ≤ k.count → IsUpcoming bytes i k →
+pub following-some : (bytes : List ℕ) (i n : ℕ) (k : Upcoming) → n ≤ k.count → IsUpcoming bytes i k →
     IsUpcoming bytes (i + n) (record { number = k.number * 2 ^ n % 18446744073709551616; count = k.count - n })
-behind-some bytes i n k h is =
+following-some bytes i n k h is =
     let few = is.few in
     let all : n + (k.count - n) ≡ k.count = omega arith in
     let rest : 64 - (k.count - n) ≡ 64 - k.count + n = omega arith in
@@ -40,16 +40,16 @@ behind-some bytes i n k h is =
       are = rw rest (moved bytes i n (k.count - n) (64 - k.count) k.number (omega arith) (rw all is.are));
     }
 
-pub behind-none : (bytes : List ℕ) (i : ℕ) → IsUpcoming bytes i (record { number = 0; count = 0 })
+pub following-none : (bytes : List ℕ) (i : ℕ) → IsUpcoming bytes i (record { number = 0; count = 0 })
 unfolding peek_at
-behind-none bytes i = record { few = omega arith; are = omega arith }
+following-none bytes i = record { few = omega arith; are = omega arith }
 
 whole : (bytes : List ℕ) (i w : ℕ) → w ≡ peek_at 64 bytes (8 * (i / 8)) →
     IsUpcoming bytes i (record { number = w * 2 ^ (i % 8) % 18446744073709551616; count = 64 - i % 8 })
 whole bytes i w e =
     let place : 8 * (i / 8) + i % 8 ≡ i = omega arith in
     let all : w / 2 ^ (64 - 64) ≡ peek_at 64 bytes (8 * (i / 8)) = rw (← e) (omega arith) in
-    rw place at (behind-some bytes (8 * (i / 8)) (i % 8) (record { number = w; count = 64 }) (omega arith) (record { few = omega arith; are = all }))
+    rw place at (following-some bytes (8 * (i / 8)) (i % 8) (record { number = w; count = 64 }) (omega arith) (record { few = omega arith; are = all }))
 
 pub first-bits : (bytes : List ℕ) (i n : ℕ) (k : Upcoming) → n ≤ k.count → IsUpcoming bytes i k → k.number / 2 ^ (64 - n) ≡ peek_at n bytes i
 first-bits bytes i n k h is =

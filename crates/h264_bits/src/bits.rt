@@ -19,8 +19,8 @@ ghost use Rattle.h264_tables.specs.Front.{front_of};
 ghost use Rattle.h264_tables.specs.Table.{code_table, rows_of};
 
 use crate::codes::{first_set, golomb, last_one};
-use crate::stretch::{Stretch, stretch_behind, stretch_from};
-use crate::window::{Upcoming, behind, first_of, loaded, none_upcoming};
+use crate::stretch::{Stretch, stretch_after, stretch_from};
+use crate::window::{Upcoming, first_of, following, loaded, none_upcoming};
 use h264_rbsp::Rbsp;
 use h264_tables::{Entry, Table, lookup};
 use std::marker::Model;
@@ -122,11 +122,11 @@ impl<'a> Bits<'a> {
         ensures kept { OnErr result (self.new ≡ self.old) }
     {
         if n <= self.upcoming.count {
-            self.upcoming = behind(self.upcoming, n);
+            self.upcoming = following(self.upcoming, n);
             self.at += n as usize;
             return Ok(());
         }
-        let Some(stretch) = stretch_behind(self.rbsp, self.at, n) else {
+        let Some(stretch) = stretch_after(self.rbsp, self.at, n) else {
             return Err(NoWord);
         };
         self.upcoming = none_upcoming();
@@ -144,7 +144,7 @@ impl<'a> Bits<'a> {
     {
         let n = next - self.at;
         if n < self.upcoming.count as usize {
-            self.upcoming = behind(self.upcoming, n as u32);
+            self.upcoming = following(self.upcoming, n as u32);
         } else {
             self.upcoming = none_upcoming();
             if next > self.stretch.last {

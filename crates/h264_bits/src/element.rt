@@ -2,6 +2,7 @@
 #![tactic(auto)]
 
 ghost use Rattle.std.specs.Prelude.{◌≡◌, ℕ, ℤ, pos, neg_ℤ, ◌-◌, ◌<◌, ◌≤◌, ◌≤ℤ◌, ◌^◌, length, OnOk, IfOk, IfSome, Option, Some, Ok, true, false};
+ghost use Rattle.h264_base.specs.Call.{HasRoom, IsQuiet};
 ghost use Rattle.h264_base.specs.Word.{Fixed, Unsigned, Signed, Words};
 ghost use Rattle.h264_base.specs.Grammar.{Done, read_word as word_form, element, residual_element, more, align, raw_bytes, trailing};
 ghost use Rattle.h264_base.specs.Meets.{Meets, Is, Checks};
@@ -71,10 +72,10 @@ fn read_fixed<S: Elements>(
     sink: &mut S,
 ) -> Result<Found<u32>, Stop>
     requires width { n ≤ 32 }
-    requires room { S.failures sink.old < 2 ^ 64 - 1 }
+    requires room { HasRoom S.failures sink.old }
     ensures meets { Meets S.took S.failures (Is seen_unsigned) (word_form rule name (Fixed n)) bits.old bits.new sink.old sink.new result }
     ensures small { IfOk result (λ f. f.value < 2 ^ n) }
-    ensures quiet { OnOk result (S.failures sink.new ≡ S.failures sink.old) }
+    ensures quiet { OnOk result (IsQuiet S.failures sink.old sink.new) }
 {
     let bit = bits.stream_bit();
     let Ok(value) = bits.u_width(n) else {
@@ -95,10 +96,10 @@ pub fn read_bits<S: Elements>(
     sink: &mut S,
 ) -> Result<Found<u32>, Stop>
     requires width { n ≤ 32 }
-    requires room { S.failures sink.old < 2 ^ 64 - 1 }
+    requires room { HasRoom S.failures sink.old }
     ensures meets { Meets S.took S.failures (Is seen_unsigned) (element name (Fixed n)) bits.old bits.new sink.old sink.new result }
     ensures small { IfOk result (λ f. f.value < 2 ^ n) }
-    ensures quiet { OnOk result (S.failures sink.new ≡ S.failures sink.old) }
+    ensures quiet { OnOk result (IsQuiet S.failures sink.old sink.new) }
 {
     read_fixed(bits, Rule::CodeWord, name, n, sink)
 }
@@ -112,10 +113,10 @@ pub fn read_residual_bits<S: Elements>(
     sink: &mut S,
 ) -> Result<Found<u32>, Stop>
     requires width { n ≤ 32 }
-    requires room { S.failures sink.old < 2 ^ 64 - 1 }
+    requires room { HasRoom S.failures sink.old }
     ensures meets { Meets S.took S.failures (Is seen_unsigned) (residual_element name (Fixed n)) bits.old bits.new sink.old sink.new result }
     ensures small { IfOk result (λ f. f.value < 2 ^ n) }
-    ensures quiet { OnOk result (S.failures sink.new ≡ S.failures sink.old) }
+    ensures quiet { OnOk result (IsQuiet S.failures sink.old sink.new) }
 {
     read_fixed(bits, Rule::ResidualWord, name, n, sink)
 }
@@ -128,10 +129,10 @@ pub fn read_u<const N: u32, S: Elements>(
     sink: &mut S,
 ) -> Result<Found<u32>, Stop>
     requires width { N ≤ 32 }
-    requires room { S.failures sink.old < 2 ^ 64 - 1 }
+    requires room { HasRoom S.failures sink.old }
     ensures meets { Meets S.took S.failures (Is seen_unsigned) (element name (Fixed N)) bits.old bits.new sink.old sink.new result }
     ensures small { IfOk result (λ f. f.value < 2 ^ N) }
-    ensures quiet { OnOk result (S.failures sink.new ≡ S.failures sink.old) }
+    ensures quiet { OnOk result (IsQuiet S.failures sink.old sink.new) }
 {
     read_bits(bits, name, N, sink)
 }
@@ -143,9 +144,9 @@ pub fn read_flag<S: Elements>(
     name: ElementName,
     sink: &mut S,
 ) -> Result<Found<bool>, Stop>
-    requires room { S.failures sink.old < 2 ^ 64 - 1 }
+    requires room { HasRoom S.failures sink.old }
     ensures meets { Meets S.took S.failures (Is seen_flag) (element name (Fixed 1)) bits.old bits.new sink.old sink.new result }
-    ensures quiet { OnOk result (S.failures sink.new ≡ S.failures sink.old) }
+    ensures quiet { OnOk result (IsQuiet S.failures sink.old sink.new) }
 {
     let bit = bits.stream_bit();
     let Ok(value) = bits.u::<1>() else {
@@ -170,10 +171,10 @@ pub fn read_ue<S: Elements>(
     name: ElementName,
     sink: &mut S,
 ) -> Result<Found<u32>, Stop>
-    requires room { S.failures sink.old < 2 ^ 64 - 1 }
+    requires room { HasRoom S.failures sink.old }
     ensures meets { Meets S.took S.failures (Is seen_unsigned) (element name Unsigned) bits.old bits.new sink.old sink.new result }
     ensures small { IfOk result (λ f. f.value < 2 ^ 32 - 1) }
-    ensures quiet { OnOk result (S.failures sink.new ≡ S.failures sink.old) }
+    ensures quiet { OnOk result (IsQuiet S.failures sink.old sink.new) }
 {
     let bit = bits.stream_bit();
     let Ok(value) = bits.ue() else {
@@ -195,11 +196,11 @@ pub fn read_se<S: Elements>(
     name: ElementName,
     sink: &mut S,
 ) -> Result<Found<i32>, Stop>
-    requires room { S.failures sink.old < 2 ^ 64 - 1 }
+    requires room { HasRoom S.failures sink.old }
     ensures meets { Meets S.took S.failures (Is seen_signed) (element name Signed) bits.old bits.new sink.old sink.new result }
     ensures low { IfOk result (λ f. neg_ℤ (pos (2 ^ 31 - 1)) ≤ℤ f.value) }
     ensures high { IfOk result (λ f. f.value ≤ℤ pos (2 ^ 31 - 1)) }
-    ensures quiet { OnOk result (S.failures sink.new ≡ S.failures sink.old) }
+    ensures quiet { OnOk result (IsQuiet S.failures sink.old sink.new) }
 {
     let bit = bits.stream_bit();
     let Ok(value) = bits.se() else {
@@ -223,10 +224,10 @@ pub fn read_te<S: Elements>(
     sink: &mut S,
 ) -> Result<Found<u32>, Stop>
     requires some { 0 < range }
-    requires room { S.failures sink.old < 2 ^ 64 - 1 }
+    requires room { HasRoom S.failures sink.old }
     ensures meets { Meets S.took S.failures (Is seen_unsigned) (element name (truncated range)) bits.old bits.new sink.old sink.new result }
     ensures small { IfOk result (λ f. f.value < 2 ^ 32 - 1) }
-    ensures quiet { OnOk result (S.failures sink.new ≡ S.failures sink.old) }
+    ensures quiet { OnOk result (IsQuiet S.failures sink.old sink.new) }
 {
     let bit = bits.stream_bit();
     let Ok(value) = bits.te(range) else {
@@ -251,10 +252,10 @@ pub fn read_word<S: Elements>(
     table: Table,
     sink: &mut S,
 ) -> Result<Found<u8>, Stop>
-    requires room { S.failures sink.old < 2 ^ 64 - 1 }
+    requires room { HasRoom S.failures sink.old }
     ensures meets { Meets S.took S.failures (Is seen_unsigned) (word_form rule name (Words (code_table table))) bits.old bits.new sink.old sink.new result }
     ensures small { IfOk result (λ f. f.value ≤ greatest_value table) }
-    ensures quiet { OnOk result (S.failures sink.new ≡ S.failures sink.old) }
+    ensures quiet { OnOk result (IsQuiet S.failures sink.old sink.new) }
 {
     let bit = bits.stream_bit();
     let Ok(value) = bits.word(table) else {
@@ -278,10 +279,10 @@ pub fn read_entry<S: Elements>(
 ) -> Result<Found<u8>, Stop>
     requires word { entry ≡ option_map entry_of (front_of 16 (rows_of table) (peek_at 16 bits.old.body.bytes bits.old.at)) }
     requires known { IfSome entry (λ e. e.value ≤ greatest_value table) }
-    requires room { S.failures sink.old < 2 ^ 64 - 1 }
+    requires room { HasRoom S.failures sink.old }
     ensures meets { Meets S.took S.failures (Is seen_unsigned) (word_form rule name (Words (code_table table))) bits.old bits.new sink.old sink.new result }
     ensures small { IfOk result (λ f. f.value ≤ greatest_value table) }
-    ensures quiet { OnOk result (S.failures sink.new ≡ S.failures sink.old) }
+    ensures quiet { OnOk result (IsQuiet S.failures sink.old sink.new) }
 {
     let bit = bits.stream_bit();
     let Ok(value) = bits.entry(table, entry) else {
@@ -309,13 +310,13 @@ pub fn read_entry_if<S: Elements>(
     requires word { coded ≡ true → entry ≡ option_map entry_of (front_of 16 (rows_of table) (peek_at 16 bits.old.body.bytes bits.old.at)) }
     requires known { coded ≡ true → IfSome entry (λ e. e.value ≤ greatest_value table) }
     requires nothing { coded ≡ false → entry ≡ Some (record { length = 0; value = 0 }) }
-    requires room { S.failures sink.old < 2 ^ 64 - 1 }
+    requires room { HasRoom S.failures sink.old }
     ensures meets { coded ≡ true → Meets S.took S.failures (Is seen_unsigned)
         (word_form rule name (Words (code_table table))) bits.old bits.new sink.old sink.new result }
     ensures nothing { coded ≡ false → Meets S.took S.failures (Is (λ f. f.value)) (Done 0) bits.old bits.new sink.old sink.new result }
     ensures small { coded ≡ true → IfOk result (λ f. f.value ≤ greatest_value table) }
     ensures zero { coded ≡ false → IfOk result (λ f. f.value ≡ 0) }
-    ensures quiet { OnOk result (S.failures sink.new ≡ S.failures sink.old) }
+    ensures quiet { OnOk result (IsQuiet S.failures sink.old sink.new) }
 {
     let bit = bits.stream_bit();
     let Ok(value) = bits.entry_if(coded, table, entry) else {

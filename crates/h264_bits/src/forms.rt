@@ -4,6 +4,7 @@
 #![tactic(auto)]
 
 ghost use Rattle.std.specs.Prelude.{◌≡◌, ℕ, ◌-◌, ◌<◌, ◌≤◌, ◌≤ℤ◌, ◌^◌, [], IfOk};
+ghost use Rattle.h264_base.specs.Call.{HasRoom};
 ghost use Rattle.h264_base.specs.Meets.{Meets, Is};
 ghost use Rattle.h264_bits.specs.Forms.{bits as bits_form, unsigned, flag, unsigned_to, signed, signed_within, bits_must_be, unsigned_must_be_0, each};
 
@@ -17,7 +18,7 @@ pub fn u_value<const N: u32, S: Elements>(
     sink: &mut S,
 ) -> Result<u32, Stop>
     requires width { N ≤ 32 }
-    requires room { S.failures sink.old < 2 ^ 64 - 1 }
+    requires room { HasRoom S.failures sink.old }
     ensures meets { Meets S.took S.failures (Is (λ x. x)) (bits_form name N) bits.old bits.new sink.old sink.new result }
     ensures small { IfOk result (λ v. v < 2 ^ N) }
 {
@@ -32,7 +33,7 @@ pub fn u_values<const N: u32, const K: usize, S: Elements>(
     sink: &mut S,
 ) -> Result<[u32; K], Stop>
     requires width { N ≤ 32 }
-    requires room { S.failures sink.old < 2 ^ 64 - 1 }
+    requires room { HasRoom S.failures sink.old }
     ensures { Meets S.took S.failures (Is (λ x. x)) (each (λ name. bits_form name N) [] names.entry) bits.old bits.new sink.old sink.new result }
 {
     let mut values = [0; K];
@@ -49,7 +50,7 @@ pub fn flag_value<S: Elements>(
     name: ElementName,
     sink: &mut S,
 ) -> Result<bool, Stop>
-    requires { S.failures sink.old < 2 ^ 64 - 1 }
+    requires { HasRoom S.failures sink.old }
     ensures { Meets S.took S.failures (Is (λ x. x)) (flag name) bits.old bits.new sink.old sink.new result }
 {
     let found = read_u::<1, S>(bits, name, sink)?;
@@ -58,7 +59,7 @@ pub fn flag_value<S: Elements>(
 
 /// Reads ue(v): its value.
 pub fn ue_value<S: Elements>(bits: &mut Bits, name: ElementName, sink: &mut S) -> Result<u32, Stop>
-    requires { S.failures sink.old < 2 ^ 64 - 1 }
+    requires { HasRoom S.failures sink.old }
     ensures { Meets S.took S.failures (Is (λ x. x)) (unsigned name) bits.old bits.new sink.old sink.new result }
 {
     let code_num = read_ue(bits, name, sink)?;
@@ -71,7 +72,7 @@ pub fn ue_values<const K: usize, S: Elements>(
     names: [ElementName; K],
     sink: &mut S,
 ) -> Result<[u32; K], Stop>
-    requires { S.failures sink.old < 2 ^ 64 - 1 }
+    requires { HasRoom S.failures sink.old }
     ensures { Meets S.took S.failures (Is (λ x. x)) (each unsigned [] names.entry) bits.old bits.new sink.old sink.new result }
 {
     let mut values = [0; K];
@@ -89,7 +90,7 @@ pub fn ue_up_to<S: Elements>(
     max: u32,
     sink: &mut S,
 ) -> Result<u32, Stop>
-    requires { S.failures sink.old < 2 ^ 64 - 1 }
+    requires { HasRoom S.failures sink.old }
     ensures meets { Meets S.took S.failures (Is (λ x. x)) (unsigned_to name max) bits.old bits.new sink.old sink.new result }
     ensures within { IfOk result (λ v. v ≤ max) }
 {
@@ -100,7 +101,7 @@ pub fn ue_up_to<S: Elements>(
 
 /// Reads se(v): its value.
 pub fn se_value<S: Elements>(bits: &mut Bits, name: ElementName, sink: &mut S) -> Result<i32, Stop>
-    requires { S.failures sink.old < 2 ^ 64 - 1 }
+    requires { HasRoom S.failures sink.old }
     ensures { Meets S.took S.failures (Is (λ x. x)) (signed name) bits.old bits.new sink.old sink.new result }
 {
     let signed = read_se(bits, name, sink)?;
@@ -115,7 +116,7 @@ pub fn se_within<S: Elements>(
     max: i32,
     sink: &mut S,
 ) -> Result<i32, Stop>
-    requires { S.failures sink.old < 2 ^ 64 - 1 }
+    requires { HasRoom S.failures sink.old }
     ensures meets { Meets S.took S.failures (Is (λ x. x)) (signed_within name min max) bits.old bits.new sink.old sink.new result }
     ensures low { IfOk result (λ v. min ≤ℤ v) }
     ensures high { IfOk result (λ v. v ≤ℤ max) }
@@ -134,7 +135,7 @@ pub fn u_must_be<const N: u32, S: Elements>(
     sink: &mut S,
 ) -> Result<(), Stop>
     requires width { N ≤ 32 }
-    requires room { S.failures sink.old < 2 ^ 64 - 1 }
+    requires room { HasRoom S.failures sink.old }
     ensures { Meets S.took S.failures (Is (λ x. x)) (bits_must_be name N value) bits.old bits.new sink.old sink.new result }
 {
     let found = read_u::<N, S>(bits, name, sink)?;
@@ -147,7 +148,7 @@ pub fn ue_must_be_0<S: Elements>(
     name: ElementName,
     sink: &mut S,
 ) -> Result<(), Stop>
-    requires { S.failures sink.old < 2 ^ 64 - 1 }
+    requires { HasRoom S.failures sink.old }
     ensures { Meets S.took S.failures (Is (λ x. x)) (unsigned_must_be_0 name) bits.old bits.new sink.old sink.new result }
 {
     let found = read_ue(bits, name, sink)?;

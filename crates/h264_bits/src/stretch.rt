@@ -48,7 +48,7 @@ pub fn stretch_from(rbsp: &Rbsp, i: usize) -> Stretch
 /// The stretch after the `n` bits from bit `at` on; None where fewer are left.
 #[cold]
 #[inline(never)]
-pub fn stretch_behind(rbsp: &Rbsp, at: usize, n: u32) -> Option<Stretch>
+pub fn stretch_after(rbsp: &Rbsp, at: usize, n: u32) -> Option<Stretch>
     requires { at ≤ 8 * length rbsp.now.bytes }
     ensures from { IfSome result (λ s. IsStretch rbsp.now (at + n) s) }
     ensures none { IfNone result (8 * length rbsp.now.bytes < at + n) }

@@ -95,7 +95,7 @@ pub fn first_of(k: Upcoming, n: u32) -> u64
 
 /// The bits after the first `n`.
 #[inline(always)]
-pub fn behind(k: Upcoming, n: u32) -> Upcoming
+pub fn following(k: Upcoming, n: u32) -> Upcoming
     requires few { n < 64 }
     requires enough { n ≤ k.count }
     ensures bits { (bytes : List ℕ) (i : ℕ) → IsUpcoming bytes i k → IsUpcoming bytes (i + n) result }

@@ -1,5 +1,6 @@
 -- The levels that are no trailing ones (9.2.2, 9.2.2.1). To be read beside the standard.
-use Rattle.std.specs.Prelude.{ℕ, zero, suc, ◌+◌, ◌-◌, ◌*◌, ◌/◌, ◌%◌, ◌^◌, max, Bool, ◌==◌, ◌&&◌, nat_lt, if◌then◌else◌, List, [], ◌∷◌, ◌++◌, length, ℤ, pos, neg_ℤ, unsigned_abs}
+use Rattle.std.specs.Prelude.{ℕ, zero, suc, ◌+◌, ◌-◌, ◌*◌, ◌/◌, ◌%◌, ◌^◌, max, Bool, ◌==◌, ◌&&◌, nat_lt, if◌then◌else◌, List, [], ◌∷◌, ◌++◌, length, ℤ, pos}
+use Rattle.std.specs.Prelude.{neg_ℤ, unsigned_abs}
 use Rattle.h264_base.specs.declared.element_name.ElementName.TheVariants.{LevelPrefix, LevelSuffix}
 use Rattle.h264_base.specs.Word.{Fixed, Words}
 use Rattle.h264_base.specs.Grammar.{Grammar, Done, ◌>>=◌, residual_element}

@@ -13,7 +13,8 @@ use Rattle.h264_bits.specs.Forms.{natural}
 -- the table of total_zeros of a block of this size with so many coefficients, at least one (Tables 9-7 to 9-9)
 unfoldable pub total_zeros_table : ℕ → ℕ → Table
 total_zeros_table size total =
-    if size == 4 then unwrap_or (slice_get chroma_dc_tables (total - 1)) TotalZerosChromaDc1 else unwrap_or (slice_get total_zeros_tables (total - 1)) TotalZeros1
+    if size == 4 then unwrap_or (slice_get chroma_dc_tables (total - 1)) TotalZerosChromaDc1
+    else unwrap_or (slice_get total_zeros_tables (total - 1)) TotalZeros1
 
 unfoldable pub coded_total_zeros : ℕ → ℕ → Grammar ℕ
 coded_total_zeros size total = do

@@ -2,6 +2,7 @@
 #![tactic(auto)]
 
 ghost use Rattle.std.specs.Prelude.{◌≡◌, ℕ, ℤ, ◌+◌, ◌-◌, ◌<◌, ◌≤◌, ◌^◌, IfOk, take};
+ghost use Rattle.h264_base.specs.Call.{HasRoom};
 ghost use Rattle.h264_base.specs.Meets.{Meets, Is};
 ghost use Rattle.h264_cavlc.specs.Level as syntax;
 
@@ -94,7 +95,7 @@ fn level_value(code: u32) -> i16
 #[inline(always)]
 fn read_level_suffix<S: Elements>(bits: &mut Bits, size: u32, sink: &mut S) -> Result<u32, Stop>
     requires few { size ≤ 12 }
-    requires room { S.failures sink.old < 2 ^ 64 - 1 }
+    requires room { HasRoom S.failures sink.old }
     ensures meets { Meets S.took S.failures (Is (λ x. x)) (syntax.level_suffix size) bits.old bits.new sink.old sink.new result }
     ensures small { IfOk result (λ v. v < 4096) }
 {
@@ -114,7 +115,7 @@ pub(crate) fn read_level<S: Elements>(
     sink: &mut S,
 ) -> Result<i16, Stop>
     requires length { suffix_length ≤ 6 }
-    requires room { S.failures sink.old < 2 ^ 64 - 1 }
+    requires room { HasRoom S.failures sink.old }
     ensures { Meets S.took S.failures (Is (λ x. x)) (syntax.level suffix_length never_one) bits.old bits.new sink.old sink.new result }
 {
     let found = read_word(
@@ -150,7 +151,7 @@ pub(crate) fn read_more_levels<S: Elements>(
 ) -> Result<(), Stop>
     requires few { token.total ≤ 16 }
     requires within { token.ones ≤ token.total }
-    requires room { S.failures sink.old < 2 ^ 64 - 1 }
+    requires room { HasRoom S.failures sink.old }
     ensures { Meets S.took S.failures (λ _ l. l ≡ take token.total levels.new)
         (syntax.more_levels token.ones (take token.ones levels.old) (syntax.first_suffix_length token) (token.total - token.ones)) bits.old bits.new
         sink.old sink.new result }

@@ -2,6 +2,7 @@
 #![tactic(auto)]
 
 ghost use Rattle.std.specs.Prelude.{◌≡◌, ℕ, ℤ, ◌-◌, ◌*◌, ◌<◌, ◌≤◌, ◌^◌, [], ◌∷◌, IfOk, OnOk, length, take, replicate, pos};
+ghost use Rattle.h264_base.specs.Call.{HasRoom, IsQuiet};
 ghost use Rattle.h264_base.specs.Meets.{Meets, Is, Answers};
 ghost use Rattle.h264_cavlc.specs.Block.{nonzero_count, all_levels, coefficients as coefficients_form, residual_block};
 
@@ -30,7 +31,7 @@ fn read_levels<S: Elements>(
 ) -> Result<(), Stop>
     requires few { token.total ≤ 16 }
     requires within { token.ones ≤ token.total }
-    requires room { S.failures sink.old < 2 ^ 64 - 1 }
+    requires room { HasRoom S.failures sink.old }
     ensures { Meets S.took S.failures (λ _ l. l ≡ take token.total levels.new) (all_levels token) bits.old bits.new sink.old sink.new result }
 {
     read_trailing_ones(bits, usize::from(token.ones), levels, sink)?;
@@ -43,7 +44,7 @@ fn read_levels<S: Elements>(
 fn read_only_level<S: Elements>(bits: &mut Bits, token: Token, sink: &mut S) -> Result<i16, Stop>
     requires one { token.total ≡ 1 }
     requires within { token.ones ≤ token.total }
-    requires room { S.failures sink.old < 2 ^ 64 - 1 }
+    requires room { HasRoom S.failures sink.old }
     ensures { Meets S.took S.failures (λ x l. l ≡ x ∷ []) (all_levels token) bits.old bits.new sink.old sink.new result }
 {
     if token.ones == 1 {
@@ -65,12 +66,12 @@ fn read_one<const N: usize, S: Elements>(
     requires fits { token.total ≤ N }
     requires few { N ≤ 16 }
     requires within { token.ones ≤ token.total }
-    requires room { S.failures sink.old < 2 ^ 64 - 1 }
+    requires room { HasRoom S.failures sink.old }
     ensures meets { Meets S.took S.failures (Is (λ _. record { by_place = by_place.new; total = token.total }))
         (coefficients_form N token) bits.old bits.new sink.old sink.new result }
     ensures nonzero { OnOk result (nonzero_count by_place.new ≡ token.total) }
     ensures inside { bits.old.at ≤ 8 * length bits.old.body.bytes → OnOk result (bits.new.at ≤ 8 * length bits.new.body.bytes) }
-    ensures quiet { OnOk result (S.failures sink.new ≡ S.failures sink.old) }
+    ensures quiet { OnOk result (IsQuiet S.failures sink.old sink.new) }
 {
     let level = read_only_level(bits, token, sink)?;
     let zeros = read_total_zeros(bits, N, token.total, sink)?;
@@ -92,12 +93,12 @@ fn read_several<const N: usize, S: Elements>(
     requires fits { token.total ≤ N }
     requires few { N ≤ 16 }
     requires within { token.ones ≤ token.total }
-    requires room { S.failures sink.old < 2 ^ 64 - 1 }
+    requires room { HasRoom S.failures sink.old }
     ensures meets { Meets S.took S.failures (Is (λ _. record { by_place = by_place.new; total = token.total }))
         (coefficients_form N token) bits.old bits.new sink.old sink.new result }
     ensures nonzero { OnOk result (nonzero_count by_place.new ≡ token.total) }
     ensures inside { bits.old.at ≤ 8 * length bits.old.body.bytes → OnOk result (bits.new.at ≤ 8 * length bits.new.body.bytes) }
-    ensures quiet { OnOk result (S.failures sink.new ≡ S.failures sink.old) }
+    ensures quiet { OnOk result (IsQuiet S.failures sink.old sink.new) }
 {
     let mut levels = [0i16; 16];
     read_levels(bits, token, &mut levels, sink)?;
@@ -118,12 +119,12 @@ fn read_coefficients<const N: usize, S: Elements>(
     requires fits { token.total ≤ N }
     requires few { N ≤ 16 }
     requires within { token.ones ≤ token.total }
-    requires room { S.failures sink.old < 2 ^ 64 - 1 }
+    requires room { HasRoom S.failures sink.old }
     ensures meets { Meets S.took S.failures (Is (λ _. record { by_place = by_place.new; total = token.total }))
         (coefficients_form N token) bits.old bits.new sink.old sink.new result }
     ensures nonzero { OnOk result (nonzero_count by_place.new ≡ token.total) }
     ensures inside { bits.old.at ≤ 8 * length bits.old.body.bytes → OnOk result (bits.new.at ≤ 8 * length bits.new.body.bytes) }
-    ensures quiet { OnOk result (S.failures sink.new ≡ S.failures sink.old) }
+    ensures quiet { OnOk result (IsQuiet S.failures sink.old sink.new) }
 {
     if token.total == 1 {
         read_one::<N, S>(bits, token, by_place, sink)
@@ -142,14 +143,14 @@ fn read_block<const N: usize, S: Elements>(
     sink: &mut S,
 ) -> Result<u8, Stop>
     requires size { N ≤ 16 }
-    requires room { S.failures sink.old < 2 ^ 64 - 1 }
+    requires room { HasRoom S.failures sink.old }
     ensures meets { Meets S.took S.failures (Is (λ total. record { by_place = by_place.new; total = total }))
         (residual_block N nc) bits.old bits.new sink.old sink.new result }
     ensures total { IfOk result (λ total. total ≤ N) }
     ensures nonzero { IfOk result (λ total. nonzero_count by_place.new ≡ total) }
     ensures none { IfOk result (λ total. total ≡ 0 → by_place.new ≡ replicate N (pos 0)) }
     ensures inside { OnOk result (bits.new.at ≤ 8 * length bits.new.body.bytes) }
-    ensures quiet { OnOk result (S.failures sink.new ≡ S.failures sink.old) }
+    ensures quiet { OnOk result (IsQuiet S.failures sink.old sink.new) }
 {
     let token = read_token(bits, N, nc, sink)?;
     if token.total == 0 {
@@ -175,7 +176,7 @@ pub fn block_into<const N: usize, S: Elements>(
     sink: &mut S,
 ) -> Result<u8, Stop>
     requires size { N ≤ 16 }
-    requires room { S.failures sink.old < 2 ^ 64 - 1 }
+    requires room { HasRoom S.failures sink.old }
     ensures answers { Answers S.took S.failures (Is (λ total. record { by_place = by_place.new; total = total }))
         (residual_block N nc) bits.old bits.new sink.old sink.new result }
     ensures meets { Meets S.took S.failures (Is (λ total. record { by_place = by_place.new; total = total }))
@@ -184,7 +185,7 @@ pub fn block_into<const N: usize, S: Elements>(
     ensures nonzero { IfOk result (λ total. nonzero_count by_place.new ≡ total) }
     ensures none { IfOk result (λ total. total ≡ 0 → by_place.new ≡ replicate N (pos 0)) }
     ensures inside { OnOk result (bits.new.at ≤ 8 * length bits.new.body.bytes) }
-    ensures quiet { OnOk result (S.failures sink.new ≡ S.failures sink.old) }
+    ensures quiet { OnOk result (IsQuiet S.failures sink.old sink.new) }
 {
     let mut near = bits.again();
     let total = read_block::<N, S>(&mut near, nc, by_place, sink);
@@ -199,7 +200,7 @@ pub fn block<const N: usize, S: Elements>(
     sink: &mut S,
 ) -> Result<Levels<N>, Stop>
     requires size { N ≤ 16 }
-    requires room { S.failures sink.old < 2 ^ 64 - 1 }
+    requires room { HasRoom S.failures sink.old }
     ensures answers { Answers S.took S.failures (Is (λ b. record { by_place = b.by_place; total = b.total }))
         (residual_block N nc) bits.old bits.new sink.old sink.new result }
     ensures meets { Meets S.took S.failures (Is (λ b. record { by_place = b.by_place; total = b.total }))
@@ -208,7 +209,7 @@ pub fn block<const N: usize, S: Elements>(
     ensures nonzero { IfOk result (λ b. nonzero_count b.by_place ≡ b.total) }
     ensures none { IfOk result (λ b. b.total ≡ 0 → b.by_place ≡ replicate N (pos 0)) }
     ensures inside { OnOk result (bits.new.at ≤ 8 * length bits.new.body.bytes) }
-    ensures quiet { OnOk result (S.failures sink.new ≡ S.failures sink.old) }
+    ensures quiet { OnOk result (IsQuiet S.failures sink.old sink.new) }
 {
     let mut by_place = [0; N];
     let total = block_into::<N, S>(bits, nc, &mut by_place, sink)?;

@@ -2,6 +2,7 @@
 #![tactic(auto)]
 
 ghost use Rattle.std.specs.Prelude.{◌≡◌, ℕ, ℤ, ◌+◌, ◌-◌, ◌*◌, ◌<◌, ◌≤◌, ◌^◌, [], IfOk, OnOk, length, take};
+ghost use Rattle.h264_base.specs.Call.{HasRoom};
 ghost use Rattle.h264_base.specs.Meets.{Meets, Is};
 ghost use Rattle.h264_bits.specs.Forms.{repeated};
 ghost use Rattle.h264_cavlc.specs.Token as syntax;
@@ -27,7 +28,7 @@ pub(crate) fn read_token<S: Elements>(
     nc: u8,
     sink: &mut S,
 ) -> Result<Token, Stop>
-    requires { S.failures sink.old < 2 ^ 64 - 1 }
+    requires { HasRoom S.failures sink.old }
     ensures meets { Meets S.took S.failures (Is (λ x. x)) (syntax.coeff_token size nc) bits.old bits.new sink.old sink.new result }
     ensures fits { IfOk result (λ t. t.total ≤ size) }
     ensures few { IfOk result (λ t. t.ones ≤ 3) }
@@ -55,7 +56,7 @@ pub(crate) fn read_token<S: Elements>(
 /// Reads the sign of a trailing one: its level.
 #[inline(always)]
 pub(crate) fn read_trailing_one<S: Elements>(bits: &mut Bits, sink: &mut S) -> Result<i16, Stop>
-    requires { S.failures sink.old < 2 ^ 64 - 1 }
+    requires { HasRoom S.failures sink.old }
     ensures { Meets S.took S.failures (Is (λ x. x)) syntax.trailing_one bits.old bits.new sink.old sink.new result }
 {
     let sign = read_residual_bits(bits, ElementName::TrailingOnesSignFlag, 1, sink)?;
@@ -71,7 +72,7 @@ pub(crate) fn read_trailing_ones<S: Elements>(
     sink: &mut S,
 ) -> Result<(), Stop>
     requires few { ones ≤ 16 }
-    requires room { S.failures sink.old < 2 ^ 64 - 1 }
+    requires room { HasRoom S.failures sink.old }
     ensures { Meets S.took S.failures (λ _ l. l ≡ take ones levels.new) (repeated syntax.trailing_one [] ones) bits.old bits.new sink.old sink.new result }
 {
     for k in 0..ones {

@@ -2,6 +2,7 @@
 #![tactic(auto)]
 
 ghost use Rattle.std.specs.Prelude.{◌≡◌, ℕ, ℤ, ◌+◌, ◌-◌, ◌<◌, ◌≤◌, ◌^◌, [], IfOk, take};
+ghost use Rattle.h264_base.specs.Call.{HasRoom};
 ghost use Rattle.h264_base.specs.Meets.{Meets, Is};
 ghost use Rattle.h264_cavlc.specs.Zeros as syntax;
 ghost use Rattle.h264_cavlc.specs.Place.{by_place as standing};
@@ -23,7 +24,7 @@ pub(crate) fn read_total_zeros<S: Elements>(
     requires some { 0 < total }
     requires fits { total ≤ size }
     requires few { size ≤ 16 }
-    requires room { S.failures sink.old < 2 ^ 64 - 1 }
+    requires room { HasRoom S.failures sink.old }
     ensures meets { Meets S.took S.failures (Is (λ x. x)) (syntax.total_zeros size total) bits.old bits.new sink.old sink.new result }
     ensures fits { IfOk result (λ z. total + z ≤ size) }
 {
@@ -66,7 +67,7 @@ fn read_long_run_before<S: Elements>(
     sink: &mut S,
 ) -> Result<u8, Stop>
     requires many { 6 < zeros_left }
-    requires room { S.failures sink.old < 2 ^ 64 - 1 }
+    requires room { HasRoom S.failures sink.old }
     ensures meets { Meets S.took S.failures (Is (λ x. x)) (syntax.run_before zeros_left) bits.old bits.new sink.old sink.new result }
     ensures within { IfOk result (λ r. r ≤ zeros_left) }
 {
@@ -85,7 +86,7 @@ fn read_long_run_before<S: Elements>(
 #[inline(always)]
 fn read_run_before<S: Elements>(bits: &mut Bits, zeros_left: u8, sink: &mut S) -> Result<u8, Stop>
     requires few { zeros_left ≤ 15 }
-    requires room { S.failures sink.old < 2 ^ 64 - 1 }
+    requires room { HasRoom S.failures sink.old }
     ensures meets { Meets S.took S.failures (Is (λ x. x)) (syntax.run_before zeros_left) bits.old bits.new sink.old sink.new result }
     ensures within { IfOk result (λ r. r ≤ zeros_left) }
 {
@@ -121,7 +122,7 @@ pub(crate) fn read_places<const N: usize, S: Elements>(
     requires some { 0 < total }
     requires few { N ≤ 16 }
     requires fits { total + zeros ≤ N }
-    requires room { S.failures sink.old < 2 ^ 64 - 1 }
+    requires room { HasRoom S.failures sink.old }
     ensures { Meets S.took S.failures (λ _ runs. by_place.new ≡ standing N (take total levels.now) zeros runs)
         (syntax.runs_before [] zeros (total - 1)) bits.old bits.new sink.old sink.new result }
 {

@@ -11,7 +11,7 @@ use Rattle.h264_tables.specs.declared.thresholds.Strength.TheVariants.{One, Two,
 use Rattle.h264_plane.specs.declared.frame.Component.{Component}
 use Rattle.h264_plane.specs.declared.frame.Component.TheVariants.{Y, Cb, Cr}
 use Rattle.h264_near.specs.Coded.{CodedMacroblock, is_intra, number_of, chroma_number_of}
-use Rattle.h264_near.specs.Keeps.{Shows, IsEdge, filter_qp_of}
+use Rattle.h264_near.specs.Keeps.{AreContexts, IsEdge, filter_qp_of}
 use Rattle.h264_near.specs.Raster.{last_in, last_left}
 use Rattle.h264_near.specs.Strength.{side_part, far, moves_apart, strength_of}
 use Rattle.h264_near.specs.declared.context.Contexts.{Contexts}
@@ -32,7 +32,7 @@ use Rattle.h264_deblock.specs.declared.edge_parameters.BoundaryStrength.{Boundar
 use Rattle.h264_deblock.specs.declared.edge_parameters.BoundaryStrength.TheVariants.{Zero, BelowFour, Four}
 use Rattle.h264_deblock.specs.declared.slice_filter.SliceFilter.{SliceFilter}
 use Rattle.h264_deblock.specs.CodedEdges.{named, block_at, strength_at, strengths, plane_qp, edge_of, filters, border, inner, edges_along, coded_edges}
-use Rattle.h264_deblock.specs.Steps.{IsBeside, block_beside, number_at, inter_strength, inner_lines, alike, are_blank, are_like, are_alike, is_even, goes_on, side_qp, parameters, border_of, border_edge, inner_edge}
+use Rattle.h264_deblock.specs.Steps.{LiesAlong, block_beside, number_at, inter_strength, inner_lines, alike, are_blank, are_like, are_alike, is_even, is_seamless, side_qp, parameters, border_of, border_edge, inner_edge}
 
 -- ---- blocks
 
@@ -40,20 +40,20 @@ few : (x y : ℕ) → x < 4 → y < 4 → number_of x y < 16
 unfolding number_of
 few x y h k = omega arith
 
-beside-block : (v : Bool) (e : Edge) (m : CodedMacroblock) (k : ℕ) → k < 4 → IsBeside v e m → block_at v 3 k m ≡ Some (block_beside e k)
+beside-block : (v : Bool) (e : Edge) (m : CodedMacroblock) (k : ℕ) → k < 4 → LiesAlong v e m → block_at v 3 k m ≡ Some (block_beside e k)
 unfolding block_at
 beside-block true e m k h i = sym (side-is (λ k. number_of 3 k) (λ c k. chroma_number_of c 1 k) 3 k k (Some e) (Some m) h refl i)
 beside-block false e m k h i = sym (side-is (λ k. number_of k 3) (λ c k. chroma_number_of c k 1) k 3 k (Some e) (Some m) h refl i)
 
-pub beside-slice : (v : Bool) (e : Edge) (m : CodedMacroblock) → IsBeside v e m → m.slice ≡ e.slice
+pub beside-slice : (v : Bool) (e : Edge) (m : CodedMacroblock) → LiesAlong v e m → m.slice ≡ e.slice
 beside-slice true e m i = i.slice
 beside-slice false e m i = i.slice
 
-pub beside-intra : (v : Bool) (e : Edge) (m : CodedMacroblock) → IsBeside v e m → is_intra m.prediction ≡ e.intra
+pub beside-intra : (v : Bool) (e : Edge) (m : CodedMacroblock) → LiesAlong v e m → is_intra m.prediction ≡ e.intra
 beside-intra true e m i = i.intra
 beside-intra false e m i = i.intra
 
-beside-qp : (v : Bool) (e : Edge) (m : CodedMacroblock) → IsBeside v e m → filter_qp_of m.prediction m.qp ≡ e.qp
+beside-qp : (v : Bool) (e : Edge) (m : CodedMacroblock) → LiesAlong v e m → filter_qp_of m.prediction m.qp ≡ e.qp
 beside-qp true e m i = i.qp
 beside-qp false e m i = i.qp
 
@@ -66,7 +66,7 @@ inner-is v line k m p q n some h a b e =
     let z : (line == 0) ≡ false = grind (arith, nat_tests) in
     rw (l, z, a, b) e
 
-outer-is : (v : Bool) (k : ℕ) (e : Edge) (p q : CodedMacroblock) (s : Side) (n : BoundaryStrength) → k < 4 → IsBeside v e p → block_at v 0 k q ≡ Some s → n ≡ named (strength_of true (block_beside e k) s) → n ≡ strength_at v 0 p q k
+outer-is : (v : Bool) (k : ℕ) (e : Edge) (p q : CodedMacroblock) (s : Side) (n : BoundaryStrength) → k < 4 → LiesAlong v e p → block_at v 0 k q ≡ Some s → n ≡ named (strength_of true (block_beside e k) s) → n ≡ strength_at v 0 p q k
 unfolding strength_at
 outer-is v k e p q s n h i b is = rw (beside-block v e p k h i, b) is
 
@@ -97,23 +97,23 @@ inter-is o a b p q = go (a || b) (moves_apart p q) refl refl
     go false true e f = rw (e, f) refl
     go false false e f = rw (e, f) refl
 
-own-side : (c : Contexts) (m : CodedMacroblock) (x y : ℕ) → Shows c m → c.intra ≡ false → x < 4 → y < 4 → side_part x y m ≡ Some (inter-side (nat_lt 0 (get_or c.totals (number_of x y) 0)) (get_or c.motions (number_of x y) None))
+own-side : (c : Contexts) (m : CodedMacroblock) (x y : ℕ) → AreContexts c m → c.intra ≡ false → x < 4 → y < 4 → side_part x y m ≡ Some (inter-side (nat_lt 0 (get_or c.totals (number_of x y) 0)) (get_or c.motions (number_of x y) None))
 unfolding side_part
 own-side c m x y s i h k = let n = few x y h k in rw (s.intra, i, s.totals, s.motions (number_of x y) n) refl
 
-own-block : (v : Bool) (c : Contexts) (m : CodedMacroblock) (line k : ℕ) → Shows c m → c.intra ≡ false → line < 4 → k < 4 → block_at v line k m ≡ Some (inter-side (nat_lt 0 (get_or c.totals (number_at v line k) 0)) (get_or c.motions (number_at v line k) None))
+own-block : (v : Bool) (c : Contexts) (m : CodedMacroblock) (line k : ℕ) → AreContexts c m → c.intra ≡ false → line < 4 → k < 4 → block_at v line k m ≡ Some (inter-side (nat_lt 0 (get_or c.totals (number_at v line k) 0)) (get_or c.motions (number_at v line k) None))
 unfolding block_at
 own-block true c m line k s i h g = own-side c m line k s i h g
 own-block false c m line k s i h g = own-side c m k line s i g h
 
-pub inner-by : (v : Bool) (line k : ℕ) (c : Contexts) (m : CodedMacroblock) (n : BoundaryStrength) → 0 < line → line < 4 → k < 4 → Shows c m → c.intra ≡ false →
+pub inner-by : (v : Bool) (line k : ℕ) (c : Contexts) (m : CodedMacroblock) (n : BoundaryStrength) → 0 < line → line < 4 → k < 4 → AreContexts c m → c.intra ≡ false →
     n ≡ inter_strength (nat_lt 0 (get_or c.totals (number_at v (line - 1) k) 0) || nat_lt 0 (get_or c.totals (number_at v line k) 0)) (get_or c.motions (number_at v (line - 1) k) None) (get_or c.motions (number_at v line k) None) → n ≡ strength_at v line m m k
 inner-by v line k c m n some h g s i e = inner-is v line k m _ _ n some h (own-block v c m (line - 1) k s i (omega arith) g) (own-block v c m line k s i h g) (e ∙ inter-is false _ _ _ _)
 
 beside-side : (e : Edge) (k : ℕ) → e.intra ≡ false → inter-side (nat_lt 0 (get_or e.totals k 0)) (get_or e.motions k None) ≡ block_beside e k
 beside-side e k i = rw i refl
 
-pub outer-by : (v : Bool) (k : ℕ) (e : Edge) (c : Contexts) (p q : CodedMacroblock) (n : BoundaryStrength) → k < 4 → IsBeside v e p → Shows c q → e.intra ≡ false → c.intra ≡ false →
+pub outer-by : (v : Bool) (k : ℕ) (e : Edge) (c : Contexts) (p q : CodedMacroblock) (n : BoundaryStrength) → k < 4 → LiesAlong v e p → AreContexts c q → e.intra ≡ false → c.intra ≡ false →
     n ≡ inter_strength (nat_lt 0 (get_or e.totals k 0) || nat_lt 0 (get_or c.totals (number_at v 0 k) 0)) (get_or e.motions k None) (get_or c.motions (number_at v 0 k) None) → n ≡ strength_at v 0 p q k
 outer-by v k e c p q n h b s i j is =
     let other = inter-side (nat_lt 0 (get_or c.totals (number_at v 0 k) 0)) (get_or c.motions (number_at v 0 k) None) in
@@ -213,7 +213,7 @@ no-moves xs i j a = same-all xs xs (get_or xs 0 None) i j a a
 even-strength : (a b : Bool) (p q : Option Motion) → a ≡ false → b ≡ false → moves_apart p q ≡ false → Zero ≡ inter_strength (a || b) p q
 even-strength a b p q e f g = rw (e, f, g) refl
 
-module _ (v : Bool) (c : Contexts) (m : CodedMacroblock) (s : Shows c m) (l : length c.totals ≡ 16) (i : c.intra ≡ false) (even : is_even c ≡ true) where
+module _ (v : Bool) (c : Contexts) (m : CodedMacroblock) (s : AreContexts c m) (l : length c.totals ≡ 16) (i : c.intra ≡ false) (even : is_even c ≡ true) where
   even-at : (line k : ℕ) → 0 < line → line < 4 → k < 4 → Zero ≡ strength_at v line m m k
   even-at line k some h g =
       let y = both (are_blank c.totals) (are_alike c.motions) even in
@@ -230,8 +230,8 @@ module _ (v : Bool) (c : Contexts) (m : CodedMacroblock) (s : Shows c m) (l : le
 
 -- ---- an edge along which nothing tells the blocks apart
 
-module _ (v : Bool) (e : Edge) (c : Contexts) (p q : CodedMacroblock) (beside : IsBeside v e p) (s : Shows c q) (i : e.intra ≡ false) (j : c.intra ≡ false) (k : length e.totals ≡ 4) (l : length c.totals ≡ 16) (even : is_even c ≡ true)
-    (on : goes_on e (get_or c.motions 0 None) ≡ true) where
+module _ (v : Bool) (e : Edge) (c : Contexts) (p q : CodedMacroblock) (beside : LiesAlong v e p) (s : AreContexts c q) (i : e.intra ≡ false) (j : c.intra ≡ false) (k : length e.totals ≡ 4) (l : length c.totals ≡ 16) (even : is_even c ≡ true)
+    (on : is_seamless e (get_or c.motions 0 None) ≡ true) where
   on-at : (u : ℕ) → u < 4 → Zero ≡ strength_at v 0 p q u
   on-at u h =
       let b : number_at v 0 u < 16 = few-at v 0 u (omega arith) h in
@@ -253,27 +253,27 @@ pub border-at-0 : (f : SliceFilter) (v : Bool) (p : Option CodedMacroblock) (q :
 unfolding border_of
 border-at-0 f v p q e = rw e refl
 
-pub border-none : (f : SliceFilter) (v : Bool) (o : Option Edge) (p : Option CodedMacroblock) (q : CodedMacroblock) → o ≡ None → IsEdge (IsBeside v) o p → None ≡ border_of f v p q
+pub border-none : (f : SliceFilter) (v : Bool) (o : Option Edge) (p : Option CodedMacroblock) (q : CodedMacroblock) → o ≡ None → IsEdge (LiesAlong v) o p → None ≡ border_of f v p q
 unfolding border_of
 border-none f v None None q e i = refl
 border-none f v None (Some p) q e i = absurd i
 border-none f v (Some o) p q e i = absurd (cc)
 
-pub border-some : (f : SliceFilter) (v : Bool) (o : Option Edge) (e : Edge) (slice : ℕ) (p : Option CodedMacroblock) (q : CodedMacroblock) (b : List BoundaryStrength) → o ≡ Some e → IsEdge (IsBeside v) o p → q.slice ≡ slice →
-    ((m : CodedMacroblock) → IsBeside v e m → b ≡ strengths v 0 m q) → filters f.deblocking (e.slice == slice) ≡ true → Some (border-with e.qp b) ≡ border_of f v p q
+pub border-some : (f : SliceFilter) (v : Bool) (o : Option Edge) (e : Edge) (slice : ℕ) (p : Option CodedMacroblock) (q : CodedMacroblock) (b : List BoundaryStrength) → o ≡ Some e → IsEdge (LiesAlong v) o p → q.slice ≡ slice →
+    ((m : CodedMacroblock) → LiesAlong v e m → b ≡ strengths v 0 m q) → filters f.deblocking (e.slice == slice) ≡ true → Some (border-with e.qp b) ≡ border_of f v p q
 unfolding border_of
 border-some f v o e slice None q b is i n s t = absurd (rw is at i)
 border-some f v o e slice (Some p) q b is i n s t =
-    let j : IsBeside v e p = rw is at i in
+    let j : LiesAlong v e p = rw is at i in
     let t' : filters f.deblocking (p.slice == q.slice) ≡ true = rw (beside-slice v e p j, n) t in
     rw t' (ap (λ z. Some (border-with z b)) (sym (beside-qp v e p j)) ∙ ap (λ z. Some (border-with (filter_qp_of p.prediction p.qp) z)) (s p j))
 
-pub border-skip : (f : SliceFilter) (v : Bool) (o : Option Edge) (e : Edge) (slice : ℕ) (p : Option CodedMacroblock) (q : CodedMacroblock) → o ≡ Some e → IsEdge (IsBeside v) o p → q.slice ≡ slice →
+pub border-skip : (f : SliceFilter) (v : Bool) (o : Option Edge) (e : Edge) (slice : ℕ) (p : Option CodedMacroblock) (q : CodedMacroblock) → o ≡ Some e → IsEdge (LiesAlong v) o p → q.slice ≡ slice →
     filters f.deblocking (e.slice == slice) ≡ false → None ≡ border_of f v p q
 unfolding border_of
 border-skip f v o e slice None q is i n t = refl
 border-skip f v o e slice (Some p) q is i n t =
-    let j : IsBeside v e p = rw is at i in
+    let j : LiesAlong v e p = rw is at i in
     let t' : filters f.deblocking (p.slice == q.slice) ≡ false = rw (beside-slice v e p j, n) t in
     rw t' refl
 
@@ -379,8 +379,3 @@ some-map g (Some x) h = refl
 
 pub inside : (n : ℕ) (list es : List (Option EdgeParameters)) (chroma : Bool) (qp : ℕ) (f : SliceFilter) (b : Option Border) → list ≡ border_edge chroma qp f b ∷ es → (IsTrue (is_some b) → 0 < n) → IsTrue (is_some (get_or list 0 None)) → 0 < n
 inside n list es chroma qp f b e h t = h (some-map (λ (e : Border). parameters (side_qp chroma e.qp f.chroma_qp_index_offset) qp f e.strengths) b (rw e at t))
-
-pub by-plane : (P : Component → Type 0) → P Y → P Cb → P Cr → (p : Component) → P p
-by-plane P a b c Y = a
-by-plane P a b c Cb = b
-by-plane P a b c Cr = c

@@ -2,13 +2,14 @@
 use Rattle.std.proofs.Common.{◌≡◌, ◌≢◌, ◌⊎◌, ℕ, ◌+◌, ◌-◌, ◌<◌, ◌≤◌, Bool, true, false, ◌&&◌, nat_le, nat_lt, ◌==◌, List, length, slice_index, arith, refl, sym, ap, ◌∙◌, ⊎_elim, inl, inr}
 use Rattle.std.proofs.lemmas.Bool.Decides.{nat_tests}
 use Rattle.std.proofs.lemmas.Bool.{cases_eq, cases_lt}
-use Rattle.h264_plane.specs.Samples.{Samples, at, look, size_along, size_across, Holds, with_run}
+use Rattle.h264_plane.specs.Samples.{Samples, at, look, size_along, size_across, ShowsSamples, with_run}
 use Rattle.h264_deblock.specs.Line.{filtered}
-use Rattle.h264_deblock.specs.Edge.{taps, replaced, lines_after, Shows, IsLinePut}
+use Rattle.h264_deblock.specs.Edge.{taps, replaced, lines_after, HasSamplesBy, IsLinePut}
 use Rattle.h264_deblock.specs.Rows.{HasLine}
 use Rattle.h264_deblock.specs.declared.line.Line.{Line}
 use Rattle.h264_deblock.specs.declared.line.Limits.{Limits}
 use Rattle.h264_deblock.proofs.Lines.{far, lines_more, lines_beyond, one_line, same_taps}
+use Rattle.h264_plane.proofs.Runs.{run_outside as run_beside}
 
 run_test : (x y n u : ℕ) → x ≤ u → u < x + n → (y == y && nat_le x u && nat_lt u (x + n)) ≡ true
 run_test x y n u p q = grind (arith, nat_tests)
@@ -18,10 +19,6 @@ unfolding with_run
 run_at x y run s u c p e =
     let place : u - x ≡ c = omega arith in
     rw (run_test x y (length run) u (omega arith) (omega arith)) (ap (slice_index run) place)
-
-pub run_beside : (x y : ℕ) (run : List ℕ) (s : ℕ → ℕ → ℕ) (u v : ℕ) → (v ≢ y) ⊎ ((u < x) ⊎ (x + length run ≤ u)) → with_run x y run s u v ≡ s u v
-unfolding with_run
-run_beside x y run s u v p = grind (arith, nat_tests)
 
 run_away : (x w n : ℕ) → n ≡ 8 → 4 ≤ x → w + 4 ≢ x → w + 3 ≢ x → w + 2 ≢ x → w + 1 ≢ x → w ≢ x → w ≢ x + 1 → w ≢ x + 2 → w ≢ x + 3 → (w < x - 4) ⊎ (x - 4 + n ≤ w)
 run_away x w n e b n0 n1 n2 n3 n4 n5 n6 n7 = ⊎_elim (λ i. inl i) (λ i. inr (omega arith)) (cases_lt w (x - 4))
@@ -49,7 +46,7 @@ run_here x y run l s w b is e3 f3 =
     (cases_eq w (x + 3))) (cases_eq w (x + 2))) (cases_eq w (x + 1))) (cases_eq w x)) (cases_eq (w + 1) x)) (cases_eq (w + 2) x)) (cases_eq (w + 3) x)) (cases_eq (w + 4) x)
 
 run_put : (p q : Samples) (x y : ℕ) (run : List ℕ) (l : Line) → 4 ≤ x → y < p.height → IsLine run l → l.p3 ≡ at p (x - 4) y → l.q3 ≡ at p (x + 3) y →
-    Holds p q (with_run (x - 4) y run (at p)) → IsLinePut true p q y x l
+    ShowsSamples p q (with_run (x - 4) y run (at p)) → IsLinePut true p q y x l
 run_put p q x y run l b i is e3 f3 put = record {
   width = put.width;
   height = put.height;
@@ -59,8 +56,8 @@ run_put p q x y run l b i is e3 f3 put = record {
 
 -- one more line of an edge that is written
 pub line_written : (v chroma : Bool) (p q r : Samples) (k : ℕ → Limits) (n along across : ℕ) (l : Line) → 4 ≤ across → across + 4 ≤ size_across v p → along + n < size_along v p →
-    l ≡ filtered chroma (k n) (taps (look v p (along + n)) across) → Shows v p q (lines_after chroma k n along across (look v p)) →
-    IsLinePut v q r (along + n) across l → Shows v p r (lines_after chroma k (n + 1) along across (look v p))
+    l ≡ filtered chroma (k n) (taps (look v p (along + n)) across) → HasSamplesBy v p q (lines_after chroma k n along across (look v p)) →
+    IsLinePut v q r (along + n) across l → HasSamplesBy v p r (lines_after chroma k (n + 1) along across (look v p))
 line_written v chroma p q r k n along across l b c i is before put =
     let old : (w : ℕ) → w < size_across v p → look v q (along + n) w ≡ look v p (along + n) w =
     λ w j. before.samples (along + n) w i j ∙ lines_beyond chroma k n along across (look v p) (along + n) w (inr (omega arith)) in
@@ -71,8 +68,8 @@ line_written v chroma p q r k n along across l b c i is before put =
 
 -- the same, where its samples are written as a run
 pub run_written : (p q r : Samples) (k : ℕ → Limits) (n y x : ℕ) (run : List ℕ) (l : Line) → 4 ≤ x → x + 4 ≤ p.width → y + n < p.height → IsLine run l →
-    l ≡ filtered false (k n) (taps (look true p (y + n)) x) → Shows true p q (lines_after false k n y x (look true p)) →
-    Holds q r (with_run (x - 4) (y + n) run (at q)) → Shows true p r (lines_after false k (n + 1) y x (look true p))
+    l ≡ filtered false (k n) (taps (look true p (y + n)) x) → HasSamplesBy true p q (lines_after false k n y x (look true p)) →
+    ShowsSamples q r (with_run (x - 4) (y + n) run (at q)) → HasSamplesBy true p r (lines_after false k (n + 1) y x (look true p))
 run_written p q r k n y x run l b c i has is before put =
     let old : (w : ℕ) → w < p.width → at q w (y + n) ≡ at p w (y + n) =
     λ w j. before.samples (y + n) w i j ∙ lines_beyond false k n y x (look true p) (y + n) w (inr (omega arith)) in

@@ -4,7 +4,7 @@ use Rattle.std.proofs.lemmas.Nat.{mul-le, mod-mul-add, div-mul-add}
 use Rattle.h264_deblock.specs.Edge.{edge_after, lines_of, reads, writes, IsBeside}
 use Rattle.h264_deblock.specs.declared.edge_parameters.EdgeParameters.{EdgeParameters}
 use Rattle.h264_deblock.proofs.Local.{edge_near, edge_far, holds_more}
-use Rattle.h264_plane.specs.Samples.{Samples, at, size_along, size_across, Holds}
+use Rattle.h264_plane.specs.Samples.{Samples, at, size_along, size_across, ShowsSamples}
 use Rattle.h264_plane.specs.Frames.{plane_of}
 use Rattle.h264_plane.specs.declared.frame.Component.{Component}
 use Rattle.h264_plane.specs.declared.frame.Component.TheVariants.{Y, Cb, Cr}
@@ -199,11 +199,11 @@ filter_whole w (suc r) n chroma edges s t e fits same x y i j =
 
 -- ---- in a plane, edge by edge
 
-pub after_none : (v chroma : Bool) (es : List (Option EdgeParameters)) (a b : ℕ) (p q : Samples) (s : ℕ → ℕ → ℕ) → Holds p q s → Holds p q (edges_after 0 v chroma es a b s)
+pub after_none : (v chroma : Bool) (es : List (Option EdgeParameters)) (a b : ℕ) (p q : Samples) (s : ℕ → ℕ → ℕ) → ShowsSamples p q s → ShowsSamples p q (edges_after 0 v chroma es a b s)
 unfolding edges_after
 after_none v chroma es a b p q s held = held
 
-pub holds_self : (p : Samples) → Holds p p (at p)
+pub holds_self : (p : Samples) → ShowsSamples p p (at p)
 holds_self p = record { width = refl; height = refl; samples = λ x y i j. refl }
 
 step_none : (k : ℕ) (v chroma : Bool) (es : List (Option EdgeParameters)) (a b : ℕ) (s : ℕ → ℕ → ℕ) → get_or es k None ≡ None → (x y : ℕ) →
@@ -217,7 +217,7 @@ unfolding edges_after edge_or
 step_some k v chroma es a b s p e x y = ap (λ o. edge_or o v chroma a (b + 4 * k) (edges_after k v chroma es a b s) x y) e
 
 pub after_skip : (k : ℕ) (v chroma : Bool) (es : List (Option EdgeParameters)) (a b : ℕ) (p q : Samples) (s : ℕ → ℕ → ℕ) → get_or es k None ≡ None →
-    Holds p q (edges_after k v chroma es a b s) → Holds p q (edges_after (k + 1) v chroma es a b s)
+    ShowsSamples p q (edges_after k v chroma es a b s) → ShowsSamples p q (edges_after (k + 1) v chroma es a b s)
 after_skip k v chroma es a b p q s e held =
     let next : k + 1 ≡ suc k = omega arith in
     record {
@@ -228,7 +228,7 @@ after_skip k v chroma es a b p q s e held =
 
 pub after_more : (k : ℕ) (v chroma : Bool) (es : List (Option EdgeParameters)) (a b : ℕ) (p q t : Samples) (s : ℕ → ℕ → ℕ) (e : EdgeParameters) → get_or es k None ≡ Some e →
     a + lines_of chroma ≤ size_along v p → 4 ≤ b + 4 * k → b + 4 * k + 4 ≤ size_across v p →
-    Holds p q (edges_after k v chroma es a b s) → Holds q t (edge_after v chroma e a (b + 4 * k) (at q)) → Holds p t (edges_after (k + 1) v chroma es a b s)
+    ShowsSamples p q (edges_after k v chroma es a b s) → ShowsSamples q t (edge_after v chroma e a (b + 4 * k) (at q)) → ShowsSamples p t (edges_after (k + 1) v chroma es a b s)
 after_more k v chroma es a b p q t s e is i j d held edge =
     let next : k + 1 ≡ suc k = omega arith in
     let more = holds_more v chroma p q t (edges_after k v chroma es a b s) e a (b + 4 * k) i j d held edge in
@@ -239,17 +239,17 @@ after_more k v chroma es a b p q t s e is i j d held edge =
     }
 
 -- an edge that may be filtered, alone and after others
-pub or_none : (v chroma : Bool) (a b : ℕ) (p : Samples) → Holds p p (edge_or None v chroma a b (at p))
+pub or_none : (v chroma : Bool) (a b : ℕ) (p : Samples) → ShowsSamples p p (edge_or None v chroma a b (at p))
 unfolding edge_or
 or_none v chroma a b p = holds_self p
 
-pub or_some : (e : EdgeParameters) (v chroma : Bool) (a b : ℕ) (p q : Samples) → Holds p q (edge_after v chroma e a b (at p)) → Holds p q (edge_or (Some e) v chroma a b (at p))
+pub or_some : (e : EdgeParameters) (v chroma : Bool) (a b : ℕ) (p q : Samples) → ShowsSamples p q (edge_after v chroma e a b (at p)) → ShowsSamples p q (edge_or (Some e) v chroma a b (at p))
 unfolding edge_or
 or_some e v chroma a b p q held = held
 
 or_held : (o : Option EdgeParameters) (v chroma : Bool) (a b : ℕ) (p q t : Samples) (s : ℕ → ℕ → ℕ) →
     a + lines_of chroma ≤ size_along v p → (IsTrue (is_some o) → 4 ≤ b) → b + 4 ≤ size_across v p →
-    Holds p q s → Holds q t (edge_or o v chroma a b (at q)) → Holds p t (edge_or o v chroma a b s)
+    ShowsSamples p q s → ShowsSamples q t (edge_or o v chroma a b (at q)) → ShowsSamples p t (edge_or o v chroma a b s)
 unfolding edge_or
 or_held None v chroma a b p q t s i j d held edge = record {
   width = edge.width ∙ held.width;
@@ -260,13 +260,13 @@ or_held (Some e) v chroma a b p q t s i j d held edge = holds_more v chroma p q 
 
 pub after_or : (k : ℕ) (v chroma : Bool) (es : List (Option EdgeParameters)) (a b place : ℕ) (o : Option EdgeParameters) (p q t : Samples) (s : ℕ → ℕ → ℕ) →
     place ≡ b + 4 * k → o ≡ get_or es k None → a + lines_of chroma ≤ size_along v p → (IsTrue (is_some o) → 4 ≤ place) → place + 4 ≤ size_across v p →
-    Holds p q (edges_after k v chroma es a b s) → Holds q t (edge_or o v chroma a place (at q)) → Holds p t (edges_after (suc k) v chroma es a b s)
+    ShowsSamples p q (edges_after k v chroma es a b s) → ShowsSamples q t (edge_or o v chroma a place (at q)) → ShowsSamples p t (edges_after (suc k) v chroma es a b s)
 unfolding edges_after
 after_or k v chroma es a b place o p q t s here same i j d held edge =
     rw (here, same) at (or_held o v chroma a place p q t (edges_after k v chroma es a b s) i j d held edge)
 
 -- the places of a plane are those of one that it holds
-pub size_held : (v : Bool) (p q : Samples) (s : ℕ → ℕ → ℕ) → Holds p q s → (size_along v q ≡ size_along v p) × (size_across v q ≡ size_across v p)
+pub size_held : (v : Bool) (p q : Samples) (s : ℕ → ℕ → ℕ) → ShowsSamples p q s → (size_along v q ≡ size_along v p) × (size_across v q ≡ size_across v p)
 size_held true p q s held = (held.height, held.width)
 size_held false p q s held = (held.width, held.height)
 
@@ -277,15 +277,15 @@ before_edge b (suc k) es e first is = omega arith
 
 -- both directions of a macroblock
 pub edges_all : (n : ℕ) (chroma : Bool) (e : PlaneEdges) (c r : ℕ) (p q : Samples) →
-    Holds p q (edges_after (n / 4) false chroma e.horizontal (n * c) (n * r) (edges_after (n / 4) true chroma e.vertical (n * r) (n * c) (at p))) → Holds p q (edges_done n chroma e c r (at p))
+    ShowsSamples p q (edges_after (n / 4) false chroma e.horizontal (n * c) (n * r) (edges_after (n / 4) true chroma e.vertical (n * r) (n * c) (at p))) → ShowsSamples p q (edges_done n chroma e c r (at p))
 unfolding edges_done
 edges_all n chroma e c r p q held = held
 
 -- the four edges of a macroblock of chroma, one after another
 pub four_edges : (e : PlaneEdges) (c r : ℕ) (p q1 q2 q3 q4 : Samples) (o0 o1 o2 o3 : Option EdgeParameters) → 8 * c + 8 ≤ p.width → 8 * r + 8 ≤ p.height → AreInside c r e →
     o0 ≡ get_or e.vertical 0 None → o1 ≡ get_or e.vertical 1 None → o2 ≡ get_or e.horizontal 0 None → o3 ≡ get_or e.horizontal 1 None →
-    Holds p q1 (edge_or o0 true true (8 * r) (8 * c) (at p)) → Holds q1 q2 (edge_or o1 true true (8 * r) (8 * c + 4) (at q1)) →
-    Holds q2 q3 (edge_or o2 false true (8 * c) (8 * r) (at q2)) → Holds q3 q4 (edge_or o3 false true (8 * c) (8 * r + 4) (at q3)) → Holds p q4 (edges_done 8 true e c r (at p))
+    ShowsSamples p q1 (edge_or o0 true true (8 * r) (8 * c) (at p)) → ShowsSamples q1 q2 (edge_or o1 true true (8 * r) (8 * c + 4) (at q1)) →
+    ShowsSamples q2 q3 (edge_or o2 false true (8 * c) (8 * r) (at q2)) → ShowsSamples q3 q4 (edge_or o3 false true (8 * c) (8 * r + 4) (at q3)) → ShowsSamples p q4 (edges_done 8 true e c r (at p))
 four_edges e c r p q1 q2 q3 q4 o0 o1 o2 o3 wide tall inside e0 e1 e2 e3 h0 h1 h2 h3 =
     let left : IsTrue (is_some o0) → 4 ≤ 8 * c = λ h. let i = inside.vertical (rw e0 at h) in omega (arith, i) in
     let top : IsTrue (is_some o2) → 4 ≤ 8 * r = λ h. let i = inside.horizontal (rw e2 at h) in omega (arith, i) in
@@ -299,10 +299,10 @@ four_edges e c r p q1 q2 q3 q4 o0 o1 o2 o3 wide tall inside e0 e1 e2 e3 h0 h1 h2
 pub eight_edges : (e : PlaneEdges) (c r : ℕ) (p q1 q2 q3 q4 q5 q6 q7 q8 : Samples) (o0 o1 o2 o3 o4 o5 o6 o7 : Option EdgeParameters) → 16 * c + 16 ≤ p.width → 16 * r + 16 ≤ p.height → AreInside c r e →
     o0 ≡ get_or e.vertical 0 None → o1 ≡ get_or e.vertical 1 None → o2 ≡ get_or e.vertical 2 None → o3 ≡ get_or e.vertical 3 None →
     o4 ≡ get_or e.horizontal 0 None → o5 ≡ get_or e.horizontal 1 None → o6 ≡ get_or e.horizontal 2 None → o7 ≡ get_or e.horizontal 3 None →
-    Holds p q1 (edge_or o0 true false (16 * r) (16 * c) (at p)) → Holds q1 q2 (edge_or o1 true false (16 * r) (16 * c + 4) (at q1)) →
-    Holds q2 q3 (edge_or o2 true false (16 * r) (16 * c + 8) (at q2)) → Holds q3 q4 (edge_or o3 true false (16 * r) (16 * c + 12) (at q3)) →
-    Holds q4 q5 (edge_or o4 false false (16 * c) (16 * r) (at q4)) → Holds q5 q6 (edge_or o5 false false (16 * c) (16 * r + 4) (at q5)) →
-    Holds q6 q7 (edge_or o6 false false (16 * c) (16 * r + 8) (at q6)) → Holds q7 q8 (edge_or o7 false false (16 * c) (16 * r + 12) (at q7)) → Holds p q8 (edges_done 16 false e c r (at p))
+    ShowsSamples p q1 (edge_or o0 true false (16 * r) (16 * c) (at p)) → ShowsSamples q1 q2 (edge_or o1 true false (16 * r) (16 * c + 4) (at q1)) →
+    ShowsSamples q2 q3 (edge_or o2 true false (16 * r) (16 * c + 8) (at q2)) → ShowsSamples q3 q4 (edge_or o3 true false (16 * r) (16 * c + 12) (at q3)) →
+    ShowsSamples q4 q5 (edge_or o4 false false (16 * c) (16 * r) (at q4)) → ShowsSamples q5 q6 (edge_or o5 false false (16 * c) (16 * r + 4) (at q5)) →
+    ShowsSamples q6 q7 (edge_or o6 false false (16 * c) (16 * r + 8) (at q6)) → ShowsSamples q7 q8 (edge_or o7 false false (16 * c) (16 * r + 12) (at q7)) → ShowsSamples p q8 (edges_done 16 false e c r (at p))
 eight_edges e c r p q1 q2 q3 q4 q5 q6 q7 q8 o0 o1 o2 o3 o4 o5 o6 o7 wide tall inside e0 e1 e2 e3 e4 e5 e6 e7 h0 h1 h2 h3 h4 h5 h6 h7 =
     let left : IsTrue (is_some o0) → 4 ≤ 16 * c = λ h. let i = inside.vertical (rw e0 at h) in omega (arith, i) in
     let top : IsTrue (is_some o4) → 4 ≤ 16 * r = λ h. let i = inside.horizontal (rw e4 at h) in omega (arith, i) in
@@ -320,7 +320,7 @@ eight_edges e c r p q1 q2 q3 q4 q5 q6 q7 q8 o0 o1 o2 o3 o4 o5 o6 o7 wide tall in
 
 -- its edges are filtered in a plane that holds it as it was constructed
 pub plane_step : (w h n : ℕ) (chroma : Bool) (edges : ℕ → PlaneEdges) (es : PlaneEdges) (u : ℕ → ℕ → ℕ) (c r : ℕ) (old new : Samples) → n ≡ lines_of chroma → c < w → r < h → AreInside c r es → edges (r * w + c) ≡ es →
-    old.width ≡ n * w → old.height ≡ n * h → Agree n w (c + 1) r (at old) (filtered_by (r * w + c) w n chroma edges u) → Holds old new (edges_done n chroma es c r (at old)) →
+    old.width ≡ n * w → old.height ≡ n * h → Agree n w (c + 1) r (at old) (filtered_by (r * w + c) w n chroma edges u) → ShowsSamples old new (edges_done n chroma es c r (at old)) →
     Agree n w (c + 1) r (at new) (filtered_by (r * w + (c + 1)) w n chroma edges u)
 plane_step w h n chroma edges es u c r old new e k m inside here ew eh agree filtered =
     let least = lines_least chroma in
@@ -333,7 +333,7 @@ plane_step w h n chroma edges es u c r old new e k m inside here ew eh agree fil
 
 pub reached_more : (w h n : ℕ) (chroma : Bool) (edges : ℕ → PlaneEdges) (u : ℕ → ℕ → ℕ) (c r : ℕ) (old put new : Samples) → n ≡ lines_of chroma → 4 ≤ n → Fits w h edges → c < w → r < h →
     old.width ≡ n * w → old.height ≡ n * h → IsReached w n chroma edges u c r old →
-    Holds old put (with_own n c r u (at old)) → Holds put new (edges_done n chroma (edges (r * w + c)) c r (at put)) → IsReached w n chroma edges u (c + 1) r new
+    ShowsSamples old put (with_own n c r u (at old)) → ShowsSamples put new (edges_done n chroma (edges (r * w + c)) c r (at put)) → IsReached w n chroma edges u (c + 1) r new
 reached_more w h n chroma edges u c r old put new e f fits k m ew eh done is_put is_filtered =
     let tall = mul-le n (r + 1) n h (omega arith) (omega arith) in
     let wide = mul-le n (c + 1) n w (omega arith) (omega arith) in
@@ -375,7 +375,7 @@ side_lines Cr = refl
 pub frame_step : (across down : ℕ) (all : Component → ℕ → PlaneEdges) (e : Edges) (u : Component → ℕ → ℕ → ℕ) (c r : ℕ) (old new : Frame) → c < across → r < down → ((p : Component) → AreInside c r (edges_of e p)) →
     IsOf across down old → AreEdges across all e c r →
     ((p : Component) → Agree (side p) across (c + 1) r (at (plane_of p old)) (filtered_by (r * across + c) across (side p) (is_chroma p) (all p) (u p))) →
-    ((p : Component) → Holds (plane_of p old) (plane_of p new) (edges_done (side p) (is_chroma p) (edges_of e p) c r (at (plane_of p old)))) →
+    ((p : Component) → ShowsSamples (plane_of p old) (plane_of p new) (edges_done (side p) (is_chroma p) (edges_of e p) c r (at (plane_of p old)))) →
     (p : Component) → Agree (side p) across (c + 1) r (at (plane_of p new)) (filtered_by (r * across + (c + 1)) across (side p) (is_chroma p) (all p) (u p))
 frame_step across down all e u c r old new k m inside sized here agree filtered p =
     plane_step across down (side p) (is_chroma p) (all p) (edges_of e p) (u p) c r (plane_of p old) (plane_of p new) (side_lines p) k m (inside p) (here p) (sized p).columns (sized p).rows (agree p) (filtered p)

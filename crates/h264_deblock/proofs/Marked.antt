@@ -1,7 +1,7 @@
 -- The edges of a macroblock by the strengths that the code has.
 use Rattle.std.proofs.Common.{◌≡◌, ℕ, ◌<◌, true, false, List, [], length, get_or, refl, sym, ap, subst, arith}
 use Rattle.std.proofs.lemmas.List.{get_or_default}
-use Rattle.h264_plane.specs.Samples.{Samples, at, Holds}
+use Rattle.h264_plane.specs.Samples.{Samples, at, ShowsSamples}
 use Rattle.h264_deblock.specs.Filtering.{AreInside, edges_done}
 use Rattle.h264_deblock.specs.Steps.{side_qp, inner_edge}
 use Rattle.h264_deblock.specs.Words.{names, named_border, IsWord, AreWords}
@@ -32,15 +32,15 @@ edge-at qp f words n other h l = ap (λ w. inner_edge qp f (names w)) (sym (get_
 
 -- the same quantisation parameter and the same filter
 pub luma-same : (old new : Samples) (m : Marks) (c r n own qp : ℕ) (g f : SliceFilter) → n ≡ side_qp false own g.chroma_qp_index_offset → own ≡ qp → g ≡ f →
-    Holds old new (edges_done 16 false (luma_by n g m) c r (at old)) → Holds old new (edges_done 16 false (luma_by (side_qp false qp f.chroma_qp_index_offset) f m) c r (at old))
+    ShowsSamples old new (edges_done 16 false (luma_by n g m) c r (at old)) → ShowsSamples old new (edges_done 16 false (luma_by (side_qp false qp f.chroma_qp_index_offset) f m) c r (at old))
 luma-same old new m c r n own qp g f e o i held =
-    subst (λ (z : SliceFilter). Holds old new (edges_done 16 false (luma_by (side_qp false qp z.chroma_qp_index_offset) z m) c r (at old))) i
-    (subst (λ (z : ℕ). Holds old new (edges_done 16 false (luma_by (side_qp false z g.chroma_qp_index_offset) g m) c r (at old))) o
-    (subst (λ (z : ℕ). Holds old new (edges_done 16 false (luma_by z g m) c r (at old))) e held))
+    subst (λ (z : SliceFilter). ShowsSamples old new (edges_done 16 false (luma_by (side_qp false qp z.chroma_qp_index_offset) z m) c r (at old))) i
+    (subst (λ (z : ℕ). ShowsSamples old new (edges_done 16 false (luma_by (side_qp false z g.chroma_qp_index_offset) g m) c r (at old))) o
+    (subst (λ (z : ℕ). ShowsSamples old new (edges_done 16 false (luma_by z g m) c r (at old))) e held))
 
 pub chroma-same : (old new : Samples) (m : Marks) (c r n own qp : ℕ) (g f : SliceFilter) → n ≡ side_qp true own g.chroma_qp_index_offset → own ≡ qp → g ≡ f →
-    Holds old new (edges_done 8 true (chroma_by n g m) c r (at old)) → Holds old new (edges_done 8 true (chroma_by (side_qp true qp f.chroma_qp_index_offset) f m) c r (at old))
+    ShowsSamples old new (edges_done 8 true (chroma_by n g m) c r (at old)) → ShowsSamples old new (edges_done 8 true (chroma_by (side_qp true qp f.chroma_qp_index_offset) f m) c r (at old))
 chroma-same old new m c r n own qp g f e o i held =
-    subst (λ (z : SliceFilter). Holds old new (edges_done 8 true (chroma_by (side_qp true qp z.chroma_qp_index_offset) z m) c r (at old))) i
-    (subst (λ (z : ℕ). Holds old new (edges_done 8 true (chroma_by (side_qp true z g.chroma_qp_index_offset) g m) c r (at old))) o
-    (subst (λ (z : ℕ). Holds old new (edges_done 8 true (chroma_by z g m) c r (at old))) e held))
+    subst (λ (z : SliceFilter). ShowsSamples old new (edges_done 8 true (chroma_by (side_qp true qp z.chroma_qp_index_offset) z m) c r (at old))) i
+    (subst (λ (z : ℕ). ShowsSamples old new (edges_done 8 true (chroma_by (side_qp true z g.chroma_qp_index_offset) g m) c r (at old))) o
+    (subst (λ (z : ℕ). ShowsSamples old new (edges_done 8 true (chroma_by z g m) c r (at old))) e held))

@@ -2,9 +2,9 @@
 use Rattle.std.proofs.Common.{◌≡◌, ℕ, ◌+◌, ◌-◌, ◌/◌, ◌<◌, ◌≤◌, Bool, true, false, cond, ◌==◌, List, length, slice_index, arith, refl, sym, ap, ◌∙◌, ⊎_elim, inl, inr}
 use Rattle.std.proofs.lemmas.Bool.Decides.{nat_tests}
 use Rattle.std.proofs.lemmas.Bool.{cases_eq, cases_lt}
-use Rattle.h264_plane.specs.Samples.{Samples, at, look, Holds, with_run}
+use Rattle.h264_plane.specs.Samples.{Samples, at, look, ShowsSamples, with_run}
 use Rattle.h264_deblock.specs.Line.{filtered}
-use Rattle.h264_deblock.specs.Edge.{taps, limits, lines_after, edge_after, Shows, IsLinePut, KeepsOuter}
+use Rattle.h264_deblock.specs.Edge.{taps, limits, lines_after, edge_after, HasSamplesBy, IsLinePut, KeepsOuter}
 use Rattle.h264_deblock.specs.Inner.{SameInner, AreNearest, AreNearestWritten}
 use Rattle.h264_deblock.specs.declared.line.Line.{Line}
 use Rattle.h264_deblock.specs.declared.line.Limits.{Limits}
@@ -14,7 +14,8 @@ use Rattle.h264_deblock.proofs.Groups.{edge_shown}
 use Rattle.h264_deblock.proofs.Lines.{lines_at, lines_beyond, inside_or_not, same_taps}
 use Rattle.h264_deblock.proofs.Local.{filtered_inner, outer, replaced_inner}
 use Rattle.h264_deblock.proofs.Beside.{run_inside, run_outside}
-use Rattle.h264_deblock.proofs.Crossed.{run_at, run_beside, line_written}
+use Rattle.h264_deblock.proofs.Crossed.{run_at, line_written}
+use Rattle.h264_plane.proofs.Runs.{run_outside as run_beside}
 
 -- the two samples of a line in a row of their own
 run_here : (x y : ℕ) (run : List ℕ) (l : Line) (s : ℕ → ℕ → ℕ) (w : ℕ) → 4 ≤ x → length run ≡ 2 →
@@ -27,7 +28,7 @@ run_here x y run l s w b n e0 e1 =
 
 pub pair_put : (p q : Samples) (x y : ℕ) (run : List ℕ) (l : Line) → 4 ≤ x → y < p.height → length run ≡ 2 →
     slice_index run 0 ≡ l.p0 → slice_index run 1 ≡ l.q0 → KeepsOuter (taps (look true p y) x) l →
-    Holds p q (with_run (x - 1) y run (at p)) → IsLinePut true p q y x l
+    ShowsSamples p q (with_run (x - 1) y run (at p)) → IsLinePut true p q y x l
 pair_put p q x y run l b i n e0 e1 keeps put = record {
   width = put.width;
   height = put.height;
@@ -38,8 +39,8 @@ pair_put p q x y run l b i n e0 e1 keeps put = record {
 -- one more line of an edge that is written
 pub pair_written : (p q r : Samples) (k : ℕ → Limits) (n y x : ℕ) (run : List ℕ) → 4 ≤ x → x + 4 ≤ p.width → y + n < p.height → length run ≡ 2 →
     slice_index run 0 ≡ (filtered true (k n) (taps (look true p (y + n)) x)).p0 → slice_index run 1 ≡ (filtered true (k n) (taps (look true p (y + n)) x)).q0 →
-    Shows true p q (lines_after true k n y x (look true p)) → Holds q r (with_run (x - 1) (y + n) run (at q)) →
-    Shows true p r (lines_after true k (n + 1) y x (look true p))
+    HasSamplesBy true p q (lines_after true k n y x (look true p)) → ShowsSamples q r (with_run (x - 1) (y + n) run (at q)) →
+    HasSamplesBy true p r (lines_after true k (n + 1) y x (look true p))
 pair_written p q r k n y x run b c i len e0 e1 before put =
     let old : (w : ℕ) → w < p.width → look true q (y + n) w ≡ look true p (y + n) w =
     λ w j. before.samples (y + n) w i j ∙ lines_beyond true k n y x (look true p) (y + n) w (inr (omega arith)) in
@@ -54,7 +55,7 @@ rows_here : (y w a b c d s : ℕ) → 4 ≤ y → a ≡ cond (w == y) d b → b 
 rows_here y w a b c d s i e f = grind (arith, nat_tests)
 
 pub nearest_rows : (p q r : Samples) (x y : ℕ) (near : Nearest) → 4 ≤ y → length near.p0 ≡ 8 → length near.q0 ≡ 8 →
-    Holds p q (with_run x (y - 1) near.p0 (at p)) → Holds q r (with_run x y near.q0 (at q)) → AreNearestWritten false p r x y near
+    ShowsSamples p q (with_run x (y - 1) near.p0 (at p)) → ShowsSamples q r (with_run x y near.q0 (at q)) → AreNearestWritten false p r x y near
 nearest_rows p q r x y near b m n f g = record {
   lines = λ k near_are. record {
     width = g.width ∙ f.width;
@@ -83,7 +84,7 @@ nearest_rows p q r x y near b m n f g = record {
 -- the lines of an edge that are read, filtered and written
 pub edge_by_nearest : (v : Bool) (p q : Samples) (e : EdgeParameters) (along across : ℕ) (k : ℕ → Limits) (before : ℕ → Line) (after : Nearest) →
     ((n : ℕ) → n < 8 → SameInner (before n) (taps (look v p (along + n)) across)) → AreNearest after (λ n. filtered true (k n) (before n)) →
-    ((n : ℕ) → n < 8 → k n ≡ limits e (n / 2)) → AreNearestWritten v p q along across after → Holds p q (edge_after v true e along across (at p))
+    ((n : ℕ) → n < 8 → k n ≡ limits e (n / 2)) → AreNearestWritten v p q along across after → ShowsSamples p q (edge_after v true e along across (at p))
 edge_by_nearest v p q e along across k before after read filtering same put =
     edge_shown v true p q e 4 along across refl
     (put.lines (λ n. limits e (n / 2)) (record {

@@ -42,7 +42,8 @@ unfoldable pub strength_at : Bool → ℕ → CodedMacroblock → CodedMacrobloc
 strength_at vertical line p q k = named_if (strength_between (line == 0) (block_at vertical ((line + 3) % 4) k p) (block_at vertical line k q))
 
 unfoldable pub strengths : Bool → ℕ → CodedMacroblock → CodedMacroblock → List BoundaryStrength
-strengths vertical line p q = strength_at vertical line p q 0 ∷ strength_at vertical line p q 1 ∷ strength_at vertical line p q 2 ∷ strength_at vertical line p q 3 ∷ []
+strengths vertical line p q = strength_at vertical line p q 0 ∷ strength_at vertical line p q 1 ∷ strength_at vertical line p q 2
+    ∷ strength_at vertical line p q 3 ∷ []
 
 -- ---- an edge
 

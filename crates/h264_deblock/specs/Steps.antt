@@ -20,9 +20,9 @@ use Rattle.h264_deblock.specs.CodedEdges.{filters, strengths}
 use Rattle.h264_deblock.specs.Limits.{AreAll}
 
 -- an edge lies along the right column, or the lower row, of the macroblock beside
-abbrev pub IsBeside : Bool → Edge → CodedMacroblock → Type 0
-IsBeside true e m = Right e m
-IsBeside false e m = Lower e m
+abbrev pub LiesAlong : Bool → Edge → CodedMacroblock → Type 0
+LiesAlong true e m = Right e m
+LiesAlong false e m = Lower e m
 
 -- one of its blocks
 abbrev pub block_beside : Edge → ℕ → Side
@@ -71,15 +71,16 @@ abbrev pub is_even : Contexts → Bool
 is_even c = are_blank c.totals && are_alike c.motions
 
 -- the blocks along an edge have no coefficients and are predicted as this one
-abbrev pub goes_on : Edge → Option Motion → Bool
-goes_on e m = are_blank e.totals && are_like m e.motions
+abbrev pub is_seamless : Edge → Option Motion → Bool
+is_seamless e m = are_blank e.totals && are_like m e.motions
 
 -- the quantisation parameter of luma or of chroma
 abbrev pub side_qp : Bool → ℕ → ℤ → ℕ
 side_qp chroma qp offset = if chroma then chroma_qp_of qp offset else qp
 
 abbrev pub parameters : ℕ → ℕ → SliceFilter → List BoundaryStrength → EdgeParameters
-parameters qp_p qp_q filter strengths = record { qp_p = qp_p; qp_q = qp_q; filter_offset_a = filter.filter_offset_a; filter_offset_b = filter.filter_offset_b; strengths = strengths }
+parameters qp_p qp_q filter strengths =
+    record { qp_p = qp_p; qp_q = qp_q; filter_offset_a = filter.filter_offset_a; filter_offset_b = filter.filter_offset_b; strengths = strengths }
 
 -- the edge to a macroblock beside: the quantisation parameter of that one, and the strengths
 pub record NamedBorder : Type 0 where
@@ -89,7 +90,9 @@ pub record NamedBorder : Type 0 where
 -- the edge to the macroblock p, whatever the plane
 unfoldable pub border_of : SliceFilter → Bool → Option CodedMacroblock → CodedMacroblock → Option NamedBorder
 border_of filter vertical None q = None
-border_of filter vertical (Some p) q = if filters filter.deblocking (p.slice == q.slice) then Some (record { qp = filter_qp_of p.prediction p.qp; strengths = strengths vertical 0 p q }) else None
+border_of filter vertical (Some p) q =
+    if filters filter.deblocking (p.slice == q.slice) then Some (record { qp = filter_qp_of p.prediction p.qp; strengths = strengths vertical 0 p q })
+    else None
 
 -- it is not filtered, or has no bS but 0
 abbrev pub IsStill : Option NamedBorder → Type 0

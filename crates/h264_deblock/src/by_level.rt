@@ -2,7 +2,7 @@
 #![tactic(auto)]
 
 ghost use Rattle.std.specs.Prelude.{◌≡◌, ◌+◌, ◌*◌, ◌<◌, ◌≤◌, true, false, IsTrue, is_some};
-ghost use Rattle.h264_plane.specs.Samples.{at, size_along, size_across, Holds};
+ghost use Rattle.h264_plane.specs.Samples.{at, size_along, size_across, ShowsSamples};
 ghost use Rattle.h264_deblock.specs.Filtering.{edge_or, edges_done};
 ghost use Rattle.h264_deblock.specs.CodedEdges.{filters};
 ghost use Rattle.h264_deblock.specs.Steps.{side_qp, border_edge, inner_edge};
@@ -35,11 +35,11 @@ fn luma_border<const VERTICAL: bool>(
 )
     requires along { along + 16 ≤ size_along VERTICAL plane.old }
     requires before { IsTrue (is_some border.now) → 4 ≤ across }
-    requires behind { across + 4 ≤ size_across VERTICAL plane.old }
+    requires following { across + 4 ≤ size_across VERTICAL plane.old }
     requires word { HasWord border.now }
     requires qp { own.now.qp ≡ side_qp false own.now.luma_qp own.now.filter.now.chroma_qp_index_offset }
     requires inner { IsLevelOf own.now.inner own.now.qp own.now.qp own.now.filter.now }
-    ensures { Holds plane.old plane.new
+    ensures { ShowsSamples plane.old plane.new
         (edge_or (border_edge false own.now.qp own.now.filter.now (named_border border.now)) VERTICAL false along across (at plane.old)) }
 {
     let Some(border) = border else {
@@ -63,11 +63,11 @@ fn luma_inner<const VERTICAL: bool>(
 )
     requires along { along + 16 ≤ size_along VERTICAL plane.old }
     requires before { 4 ≤ across }
-    requires behind { across + 4 ≤ size_across VERTICAL plane.old }
+    requires following { across + 4 ≤ size_across VERTICAL plane.old }
     requires word { IsWord word.now }
     requires inner { IsLevelOf own.now.inner own.now.qp own.now.qp own.now.filter.now }
     requires filtered { filters own.now.filter.now.deblocking true ≡ true }
-    ensures { Holds plane.old plane.new
+    ensures { ShowsSamples plane.old plane.new
         (edge_or (inner_edge own.now.qp own.now.filter.now (names word.now)) VERTICAL false along across (at plane.old)) }
 {
     luma_at_level::<VERTICAL>(plane, along, across, &own.inner, word);
@@ -83,7 +83,7 @@ fn luma(plane: &mut Plane, marks: &Marks, own: &PlaneLevel<'_>, column: usize, r
     requires qp { own.now.qp ≡ side_qp false own.now.luma_qp own.now.filter.now.chroma_qp_index_offset }
     requires inner { IsLevelOf own.now.inner own.now.qp own.now.qp own.now.filter.now }
     requires filtered { filters own.now.filter.now.deblocking true ≡ true }
-    ensures { Holds plane.old plane.new (edges_done 16 false (luma_by own.now.qp own.now.filter.now marks.now) column row (at plane.old)) }
+    ensures { ShowsSamples plane.old plane.new (edges_done 16 false (luma_by own.now.qp own.now.filter.now marks.now) column row (at plane.old)) }
 {
     let (x, y) = (16 * column, 16 * row);
     let (vertical, horizontal) = (&marks.inner.vertical, &marks.inner.horizontal);
@@ -110,14 +110,14 @@ fn pair_border<const VERTICAL: bool>(
     requires cb_along { along + 8 ≤ size_along VERTICAL cb.old }
     requires cr_along { along + 8 ≤ size_along VERTICAL cr.old }
     requires before { IsTrue (is_some border.now) → 4 ≤ across }
-    requires cb_behind { across + 4 ≤ size_across VERTICAL cb.old }
-    requires cr_behind { across + 4 ≤ size_across VERTICAL cr.old }
+    requires cb_after { across + 4 ≤ size_across VERTICAL cb.old }
+    requires cr_after { across + 4 ≤ size_across VERTICAL cr.old }
     requires word { HasWord border.now }
     requires qp { own.now.qp ≡ side_qp true own.now.luma_qp own.now.filter.now.chroma_qp_index_offset }
     requires inner { IsLevelOf own.now.inner own.now.qp own.now.qp own.now.filter.now }
-    ensures cb { Holds cb.old cb.new
+    ensures cb { ShowsSamples cb.old cb.new
         (edge_or (border_edge true own.now.qp own.now.filter.now (named_border border.now)) VERTICAL true along across (at cb.old)) }
-    ensures cr { Holds cr.old cr.new
+    ensures cr { ShowsSamples cr.old cr.new
         (edge_or (border_edge true own.now.qp own.now.filter.now (named_border border.now)) VERTICAL true along across (at cr.old)) }
 {
     let Some(border) = border else {
@@ -143,14 +143,14 @@ fn pair_inner<const VERTICAL: bool>(
     requires cb_along { along + 8 ≤ size_along VERTICAL cb.old }
     requires cr_along { along + 8 ≤ size_along VERTICAL cr.old }
     requires before { 4 ≤ across }
-    requires cb_behind { across + 4 ≤ size_across VERTICAL cb.old }
-    requires cr_behind { across + 4 ≤ size_across VERTICAL cr.old }
+    requires cb_after { across + 4 ≤ size_across VERTICAL cb.old }
+    requires cr_after { across + 4 ≤ size_across VERTICAL cr.old }
     requires word { IsWord word.now }
     requires inner { IsLevelOf own.now.inner own.now.qp own.now.qp own.now.filter.now }
     requires filtered { filters own.now.filter.now.deblocking true ≡ true }
-    ensures cb { Holds cb.old cb.new
+    ensures cb { ShowsSamples cb.old cb.new
         (edge_or (inner_edge own.now.qp own.now.filter.now (names word.now)) VERTICAL true along across (at cb.old)) }
-    ensures cr { Holds cr.old cr.new
+    ensures cr { ShowsSamples cr.old cr.new
         (edge_or (inner_edge own.now.qp own.now.filter.now (names word.now)) VERTICAL true along across (at cr.old)) }
 {
     pair_at_level::<VERTICAL>(cb, cr, along, across, &own.inner, word);
@@ -173,8 +173,8 @@ fn chroma(
     requires qp { own.now.qp ≡ side_qp true own.now.luma_qp own.now.filter.now.chroma_qp_index_offset }
     requires inner { IsLevelOf own.now.inner own.now.qp own.now.qp own.now.filter.now }
     requires filtered { filters own.now.filter.now.deblocking true ≡ true }
-    ensures cb { Holds cb.old cb.new (edges_done 8 true (chroma_by own.now.qp own.now.filter.now marks.now) column row (at cb.old)) }
-    ensures cr { Holds cr.old cr.new (edges_done 8 true (chroma_by own.now.qp own.now.filter.now marks.now) column row (at cr.old)) }
+    ensures cb { ShowsSamples cb.old cb.new (edges_done 8 true (chroma_by own.now.qp own.now.filter.now marks.now) column row (at cb.old)) }
+    ensures cr { ShowsSamples cr.old cr.new (edges_done 8 true (chroma_by own.now.qp own.now.filter.now marks.now) column row (at cr.old)) }
 {
     let (x, y) = (8 * column, 8 * row);
     pair_border::<true>(cb, cr, y, x, &marks.left, own);
@@ -198,11 +198,11 @@ pub(crate) fn filter_by(
     requires small { (column < 1024) × (row < 1024) }
     requires marks { AreMarks marks.now column row }
     requires filtered { filters filter.now.deblocking true ≡ true }
-    ensures y { Holds frame.old.y frame.new.y
+    ensures y { ShowsSamples frame.old.y frame.new.y
         (edges_done 16 false (luma_by (side_qp false qp filter.now.chroma_qp_index_offset) filter.now marks.now) column row (at frame.old.y)) }
-    ensures cb { Holds frame.old.cb frame.new.cb
+    ensures cb { ShowsSamples frame.old.cb frame.new.cb
         (edges_done 8 true (chroma_by (side_qp true qp filter.now.chroma_qp_index_offset) filter.now marks.now) column row (at frame.old.cb)) }
-    ensures cr { Holds frame.old.cr frame.new.cr
+    ensures cr { ShowsSamples frame.old.cr frame.new.cr
         (edges_done 8 true (chroma_by (side_qp true qp filter.now.chroma_qp_index_offset) filter.now marks.now) column row (at frame.old.cr)) }
 {
     let of_luma = plane_level::<false>(qp, filter);

@@ -7,14 +7,14 @@ ghost use Rattle.h264_tables.specs.ChromaQp.{clip_51};
 ghost use Rattle.h264_plane.specs.declared.frame.Component.{Component};
 ghost use Rattle.h264_plane.specs.Frames.{plane_of};
 ghost use Rattle.h264_plane.specs.Places.{side};
-ghost use Rattle.h264_plane.specs.Samples.{at, Holds, IsSized};
+ghost use Rattle.h264_plane.specs.Samples.{at, ShowsSamples, IsSized};
 ghost use Rattle.h264_near.specs.Raster.{last_in, last_left};
 ghost use Rattle.h264_near.specs.Coded.{CodedMacroblock};
-ghost use Rattle.h264_near.specs.Keeps.{Keeps, Shows, IsEdge};
+ghost use Rattle.h264_near.specs.Keeps.{Keeps, AreContexts, IsEdge};
 ghost use Rattle.h264_deblock.specs.Filtering.{edges_of, edges_done, is_chroma, AreInside};
 ghost use Rattle.h264_deblock.specs.declared.slice_filter.SliceFilter.{SliceFilter as Filter};
 ghost use Rattle.h264_deblock.specs.CodedEdges.{filters, coded_edges as edges_of_coded};
-ghost use Rattle.h264_deblock.specs.Steps.{IsBeside, is_even, side_qp, parameters, border_of, border_edge, inner_edge, IsStill};
+ghost use Rattle.h264_deblock.specs.Steps.{LiesAlong, is_even, side_qp, parameters, border_of, border_edge, inner_edge, IsStill};
 ghost use Rattle.h264_deblock.specs.Words.{names, named_border, IsWord};
 
 use crate::by_level::{Marks, filter_by};
@@ -58,7 +58,7 @@ fn border_of(
 ) -> Option<Border>
     requires { even ≡ true → is_even own.now ≡ true }
     ensures inside { IsTrue (is_some result) → 0 < place }
-    ensures here { (p : Option CodedMacroblock) (q : CodedMacroblock) → IsEdge (IsBeside vertical) beside.now p → Shows own.now q →
+    ensures here { (p : Option CodedMacroblock) (q : CodedMacroblock) → IsEdge (LiesAlong vertical) beside.now p → AreContexts own.now q →
         (place ≡ 0 → p ≡ None) → named_border result ≡ border_of filter.now vertical p q }
     ensures word { (b : Border) → result ≡ Some b → IsWord b.strengths }
 {
@@ -171,7 +171,7 @@ fn edges_by(
     requires even { even ≡ true → is_even own.now ≡ true }
     ensures inside { (column row : ℕ) → (IsTrue (is_some left.now) → 0 < column) → (IsTrue (is_some above.now) → 0 < row) → (p : Component) →
         AreInside column row (edges_of result p) }
-    ensures edges { (slices : ℕ → Filter) (width : ℕ) (picture : List CodedMacroblock) (coded : CodedMacroblock) → Shows own.now coded →
+    ensures edges { (slices : ℕ → Filter) (width : ℕ) (picture : List CodedMacroblock) (coded : CodedMacroblock) → AreContexts own.now coded →
         slices coded.slice ≡ filter.now → ((n : ℕ) → (slices n).chroma_qp_index_offset ≡ filter.now.chroma_qp_index_offset) →
         named_border left.now ≡ border_of filter.now true (last_left width picture) coded →
         named_border above.now ≡ border_of filter.now false (last_in width picture (length picture % width)) coded → (p : Component) →
@@ -204,7 +204,7 @@ pub fn coded_edges(
 ) -> Edges
     ensures inside { (p : Component) → AreInside column row (edges_of result p) }
     ensures edges { (slices : ℕ → Filter) (width : ℕ) (picture : List CodedMacroblock) (coded : CodedMacroblock) → Keeps width picture near.now →
-        Shows own.now coded → length picture ≡ row * width + column → column < width → slices coded.slice ≡ filter.now →
+        AreContexts own.now coded → length picture ≡ row * width + column → column < width → slices coded.slice ≡ filter.now →
         ((n : ℕ) → (slices n).chroma_qp_index_offset ≡ filter.now.chroma_qp_index_offset) → (p : Component) →
         edges_of result p ≡ edges_of_coded slices width picture coded p }
 {
@@ -236,9 +236,9 @@ pub fn filter_coded(frame: &mut Frame, coded: &Coded<'_>, column: usize, row: us
     requires small { (column < 1024) × (row < 1024) }
     ensures size { (p : Component) → IsSized (plane_of p frame.new) (plane_of p frame.old).width (plane_of p frame.old).height }
     ensures filtered { (slices : ℕ → Filter) (width : ℕ) (picture : List CodedMacroblock) (q : CodedMacroblock) →
-        Keeps width picture coded.now.near.now → Shows coded.now.own.now q → length picture ≡ row * width + column → column < width →
+        Keeps width picture coded.now.near.now → AreContexts coded.now.own.now q → length picture ≡ row * width + column → column < width →
         slices q.slice ≡ coded.now.filter.now → ((n : ℕ) → (slices n).chroma_qp_index_offset ≡ coded.now.filter.now.chroma_qp_index_offset) →
-        (p : Component) → Holds (plane_of p frame.old) (plane_of p frame.new)
+        (p : Component) → ShowsSamples (plane_of p frame.old) (plane_of p frame.new)
         (edges_done (side p) (is_chroma p) (edges_of_coded slices width picture q p) column row (at (plane_of p frame.old))) }
 {
     let (own, filter) = (coded.own, coded.filter);

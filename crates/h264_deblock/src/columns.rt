@@ -112,7 +112,7 @@ pub fn columns_of(a: &Plane, y: usize, b: &Plane, z: usize, x: usize) -> [u8; 12
 pub fn read_columns(plane: &Plane, x: usize, y: usize) -> Rows
     requires small { (x < 65536) × (y < 65536) }
     requires before { 4 ≤ x }
-    requires behind { x + 4 ≤ plane.now.width }
+    requires following { x + 4 ≤ plane.now.width }
     requires rows { y + 16 ≤ plane.now.height }
     ensures { (n : ℕ) → n < 16 → line_of result n ≡ taps (look true plane.now (y + n)) x }
 {
@@ -161,7 +161,7 @@ fn line_by_line(r: &Rows) -> [u8; 128]
 pub fn write_columns(plane: &mut Plane, x: usize, y: usize, r: &Rows)
     requires small { (x < 65536) × (y < 65536) }
     requires before { 4 ≤ x }
-    requires behind { x + 4 ≤ plane.old.width }
+    requires following { x + 4 ≤ plane.old.width }
     requires rows { y + 16 ≤ plane.old.height }
     ensures { AreWritten true plane.old plane.new y x r.now }
 {

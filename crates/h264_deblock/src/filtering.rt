@@ -1,5 +1,5 @@
 ghost use Rattle.std.specs.Prelude.{◌≡◌, ℕ, ◌+◌, ◌*◌, ◌<◌, ◌≤◌, true, false, IsTrue, is_some, get_or, None};
-ghost use Rattle.h264_plane.specs.Samples.{Samples, at, Holds, size_along, size_across};
+ghost use Rattle.h264_plane.specs.Samples.{Samples, at, ShowsSamples, size_along, size_across};
 ghost use Rattle.h264_plane.specs.Frames.{plane_of};
 ghost use Rattle.h264_plane.specs.Places.{side, Agree};
 ghost use Rattle.h264_plane.specs.declared.frame.Component.{Component};
@@ -61,7 +61,8 @@ fn direction<const VERTICAL: bool, const CHROMA: bool, const N: usize>(
     requires inside { IsTrue (is_some (get_or edges.now 0 None)) → 4 ≤ across }
     ensures width { plane.new.width ≡ plane.old.width }
     ensures height { plane.new.height ≡ plane.old.height }
-    ensures held { (p : Samples) (s : ℕ → ℕ → ℕ) → Holds p plane.old s → Holds p plane.new (edges_after N VERTICAL CHROMA edges.now along across s) }
+    ensures held { (p : Samples) (s : ℕ → ℕ → ℕ) → ShowsSamples p plane.old s →
+        ShowsSamples p plane.new (edges_after N VERTICAL CHROMA edges.now along across s) }
 {
     for k in 0..N {
         match &edges[k] {
@@ -77,7 +78,7 @@ fn luma(plane: &mut Plane, edges: &LumaEdges, column: usize, row: usize)
     requires rows { 16 * row + 16 ≤ plane.old.height }
     requires small { (column < 1024) × (row < 1024) }
     requires inside { AreInside column row (luma_edges edges.now) }
-    ensures { Holds plane.old plane.new (edges_done 16 false (luma_edges edges.now) column row (at plane.old)) }
+    ensures { ShowsSamples plane.old plane.new (edges_done 16 false (luma_edges edges.now) column row (at plane.old)) }
 {
     direction::<true, false, 4>(plane, &edges.vertical, 16 * row, 16 * column);
     direction::<false, false, 4>(plane, &edges.horizontal, 16 * column, 16 * row);
@@ -90,8 +91,8 @@ fn chroma(cb: &mut Plane, cr: &mut Plane, edges: &ChromaEdges, column: usize, ro
     requires cr { (8 * column + 8 ≤ cr.old.width) × (8 * row + 8 ≤ cr.old.height) }
     requires small { (column < 1024) × (row < 1024) }
     requires inside { AreInside column row (chroma_edges_of edges.now) }
-    ensures cb { Holds cb.old cb.new (edges_done 8 true (chroma_edges_of edges.now) column row (at cb.old)) }
-    ensures cr { Holds cr.old cr.new (edges_done 8 true (chroma_edges_of edges.now) column row (at cr.old)) }
+    ensures cb { ShowsSamples cb.old cb.new (edges_done 8 true (chroma_edges_of edges.now) column row (at cb.old)) }
+    ensures cr { ShowsSamples cr.old cr.new (edges_done 8 true (chroma_edges_of edges.now) column row (at cr.old)) }
 {
     let (x, y) = (8 * column, 8 * row);
     chroma_edges::<true>(cb, cr, y, x, &edges.vertical[0]);
@@ -106,7 +107,7 @@ fn chroma_alone(plane: &mut Plane, edges: &ChromaEdges, column: usize, row: usiz
     requires rows { 8 * row + 8 ≤ plane.old.height }
     requires small { (column < 1024) × (row < 1024) }
     requires inside { AreInside column row (chroma_edges_of edges.now) }
-    ensures { Holds plane.old plane.new (edges_done 8 true (chroma_edges_of edges.now) column row (at plane.old)) }
+    ensures { ShowsSamples plane.old plane.new (edges_done 8 true (chroma_edges_of edges.now) column row (at plane.old)) }
 {
     direction::<true, true, 2>(plane, &edges.vertical, 8 * row, 8 * column);
     direction::<false, true, 2>(plane, &edges.horizontal, 8 * column, 8 * row);
@@ -121,7 +122,7 @@ pub fn macroblock(frame: &mut Frame, edges: &Edges, column: usize, row: usize)
     requires cr { (8 * column + 8 ≤ frame.old.cr.width) × (8 * row + 8 ≤ frame.old.cr.height) }
     requires small { (column < 1024) × (row < 1024) }
     requires inside { (p : Component) → AreInside column row (edges_of edges.now p) }
-    ensures filtered { (p : Component) → Holds (plane_of p frame.old) (plane_of p frame.new)
+    ensures filtered { (p : Component) → ShowsSamples (plane_of p frame.old) (plane_of p frame.new)
         (edges_done (side p) (is_chroma p) (edges_of edges.now p) column row (at (plane_of p frame.old))) }
     ensures step { (across down : ℕ) (all : Component → ℕ → PlaneEdges) (u : Component → ℕ → ℕ → ℕ) → column < across → row < down →
         IsOf across down frame.old → AreEdges across all edges.now column row →

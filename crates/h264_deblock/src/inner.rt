@@ -32,8 +32,8 @@ pub struct Nearest {
 fn read_columns(cb: &Plane, cr: &Plane, x: usize, y: usize) -> Inner
     requires small { (x < 65536) × (y < 65536) }
     requires before { 4 ≤ x }
-    requires cb_behind { x + 4 ≤ cb.now.width }
-    requires cr_behind { x + 4 ≤ cr.now.width }
+    requires cb_after { x + 4 ≤ cb.now.width }
+    requires cr_after { x + 4 ≤ cr.now.width }
     requires cb_rows { y + 8 ≤ cb.now.height }
     requires cr_rows { y + 8 ≤ cr.now.height }
     ensures cb { HasInner true cb.now y x result }
@@ -69,8 +69,8 @@ fn read_rows(cb: &Plane, cr: &Plane, x: usize, y: usize) -> Inner
     requires cb_columns { x + 8 ≤ cb.now.width }
     requires cr_columns { x + 8 ≤ cr.now.width }
     requires before { 4 ≤ y }
-    requires cb_behind { y + 4 ≤ cb.now.height }
-    requires cr_behind { y + 4 ≤ cr.now.height }
+    requires cb_after { y + 4 ≤ cb.now.height }
+    requires cr_after { y + 4 ≤ cr.now.height }
     ensures cb { HasInner false cb.now x y result }
     ensures cr { (n : ℕ) → n < 8 → SameInner (inner_of result (8 + n)) (taps (look false cr.now (x + n)) y) }
 {
@@ -94,8 +94,8 @@ pub fn read_inner<const VERTICAL: bool>(
     requires cb_along { along + 8 ≤ size_along VERTICAL cb.now }
     requires cr_along { along + 8 ≤ size_along VERTICAL cr.now }
     requires before { 4 ≤ across }
-    requires cb_behind { across + 4 ≤ size_across VERTICAL cb.now }
-    requires cr_behind { across + 4 ≤ size_across VERTICAL cr.now }
+    requires cb_after { across + 4 ≤ size_across VERTICAL cb.now }
+    requires cr_after { across + 4 ≤ size_across VERTICAL cr.now }
     ensures cb { HasInner VERTICAL cb.now along across result }
     ensures cr { (n : ℕ) → n < 8 → SameInner (inner_of result (8 + n)) (taps (look VERTICAL cr.now (along + n)) across) }
 {
@@ -172,7 +172,7 @@ pub fn filtered_pair(r: &Inner, k: &LineLimits) -> (Nearest, Nearest)
 fn write_columns(plane: &mut Plane, x: usize, y: usize, r: &Nearest)
     requires small { (x < 65536) × (y < 65536) }
     requires before { 4 ≤ x }
-    requires behind { x + 4 ≤ plane.old.width }
+    requires following { x + 4 ≤ plane.old.width }
     requires rows { y + 8 ≤ plane.old.height }
     ensures { AreNearestWritten true plane.old plane.new y x r.now }
 {
@@ -188,7 +188,7 @@ fn write_rows(plane: &mut Plane, x: usize, y: usize, r: &Nearest)
     requires small { (x < 65536) × (y < 65536) }
     requires columns { x + 8 ≤ plane.old.width }
     requires before { 4 ≤ y }
-    requires behind { y + 4 ≤ plane.old.height }
+    requires following { y + 4 ≤ plane.old.height }
     ensures { AreNearestWritten false plane.old plane.new x y r.now }
 {
     plane.put_run(x, y - 1, &r.p0);
@@ -206,7 +206,7 @@ pub fn write_nearest<const VERTICAL: bool>(
     requires small { (along < 65536) × (across < 65536) }
     requires along { along + 8 ≤ size_along VERTICAL plane.old }
     requires before { 4 ≤ across }
-    requires behind { across + 4 ≤ size_across VERTICAL plane.old }
+    requires following { across + 4 ≤ size_across VERTICAL plane.old }
     ensures { AreNearestWritten VERTICAL plane.old plane.new along across r.now }
 {
     if VERTICAL {

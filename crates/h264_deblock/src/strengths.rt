@@ -3,11 +3,11 @@
 
 ghost use Rattle.std.specs.Prelude.{◌≡◌, ◌<◌, nat_le, ◌-ℤ◌, unsigned_abs, true, false};
 ghost use Rattle.h264_near.specs.Coded.{CodedMacroblock};
-ghost use Rattle.h264_near.specs.Keeps.{Shows};
+ghost use Rattle.h264_near.specs.Keeps.{AreContexts};
 ghost use Rattle.h264_near.specs.Strength.{moves_apart};
 ghost use Rattle.h264_deblock.specs.CodedEdges.{named, strength_at, strengths};
 ghost use Rattle.h264_deblock.specs.Words.{names, all_names, IsWord, AreWords};
-ghost use Rattle.h264_deblock.specs.Steps.{IsBeside, inter_strength, number_at, inner_lines, alike, are_blank, are_like, are_alike, is_even, goes_on};
+ghost use Rattle.h264_deblock.specs.Steps.{LiesAlong, inter_strength, number_at, inner_lines, alike, are_blank, are_like, are_alike, is_even, is_seamless};
 ghost use Rattle.h264_deblock.specs.Steps.{HasStillLines};
 
 use crate::named::Word;
@@ -97,7 +97,7 @@ fn outer(edge: &Edge, own: &Contexts, vertical: bool, k: usize) -> u8
     requires place { k < 4 }
     requires beside { edge.now.intra ≡ false }
     requires own { own.now.intra ≡ false }
-    ensures here { (p q : CodedMacroblock) → IsBeside vertical edge.now p → Shows own.now q → named result ≡ strength_at vertical 0 p q k }
+    ensures here { (p q : CodedMacroblock) → LiesAlong vertical edge.now p → AreContexts own.now q → named result ≡ strength_at vertical 0 p q k }
     ensures small { result < 4 }
 {
     let b = number_at(vertical, 0, k);
@@ -110,7 +110,7 @@ fn outer(edge: &Edge, own: &Contexts, vertical: bool, k: usize) -> u8
 fn outer_line(edge: &Edge, own: &Contexts, vertical: bool) -> Word
     requires beside { edge.now.intra ≡ false }
     requires own { own.now.intra ≡ false }
-    ensures here { (p q : CodedMacroblock) → IsBeside vertical edge.now p → Shows own.now q → names result ≡ strengths vertical 0 p q }
+    ensures here { (p q : CodedMacroblock) → LiesAlong vertical edge.now p → AreContexts own.now q → names result ≡ strengths vertical 0 p q }
     ensures word { IsWord result }
 {
     [
@@ -123,8 +123,8 @@ fn outer_line(edge: &Edge, own: &Contexts, vertical: bool) -> Word
 
 /// Whether the blocks along an edge have no coefficients and are predicted from one picture by one vector, as this one.
 #[inline(always)]
-fn goes_on(edge: &Edge, motion: &Option<Motion>) -> bool
-    ensures { result ≡ goes_on edge.now motion.now }
+fn is_seamless(edge: &Edge, motion: &Option<Motion>) -> bool
+    ensures { result ≡ is_seamless edge.now motion.now }
 {
     if !are_blank(&edge.totals) {
         return false;
@@ -137,7 +137,7 @@ fn goes_on(edge: &Edge, motion: &Option<Motion>) -> bool
 #[inline(always)]
 pub(crate) fn border_strengths(edge: &Edge, own: &Contexts, even: bool, vertical: bool) -> Word
     requires { even ≡ true → is_even own.now ≡ true }
-    ensures here { (p q : CodedMacroblock) → IsBeside vertical edge.now p → Shows own.now q → names result ≡ strengths vertical 0 p q }
+    ensures here { (p q : CodedMacroblock) → LiesAlong vertical edge.now p → AreContexts own.now q → names result ≡ strengths vertical 0 p q }
     ensures word { IsWord result }
 {
     if edge.intra {
@@ -147,7 +147,7 @@ pub(crate) fn border_strengths(edge: &Edge, own: &Contexts, even: bool, vertical
         return FOURS;
     }
     if even {
-        if goes_on(edge, &own.motions[0]) {
+        if is_seamless(edge, &own.motions[0]) {
             return ZEROS;
         }
     }
@@ -162,7 +162,7 @@ fn inner(own: &Contexts, alike: bool, vertical: bool, line: usize, k: usize) -> 
     requires place { k < 4 }
     requires inter { own.now.intra ≡ false }
     requires alike { alike ≡ true → are_alike own.now.motions ≡ true }
-    ensures here { (coded : CodedMacroblock) → Shows own.now coded → named result ≡ strength_at vertical line coded coded k }
+    ensures here { (coded : CodedMacroblock) → AreContexts own.now coded → named result ≡ strength_at vertical line coded coded k }
     ensures small { result < 4 }
 {
     let p = number_at(vertical, line - 1, k);
@@ -178,7 +178,7 @@ fn inner_line(own: &Contexts, alike: bool, vertical: bool, line: usize) -> Word
     requires line { line < 4 }
     requires inter { own.now.intra ≡ false }
     requires alike { alike ≡ true → are_alike own.now.motions ≡ true }
-    ensures here { (coded : CodedMacroblock) → Shows own.now coded → names result ≡ strengths vertical line coded coded }
+    ensures here { (coded : CodedMacroblock) → AreContexts own.now coded → names result ≡ strengths vertical line coded coded }
     ensures word { IsWord result }
 {
     [
@@ -194,7 +194,7 @@ fn inner_line(own: &Contexts, alike: bool, vertical: bool, line: usize) -> Word
 fn inner_lines(own: &Contexts, alike: bool, vertical: bool) -> [Word; 3]
     requires inter { own.now.intra ≡ false }
     requires alike { alike ≡ true → are_alike own.now.motions ≡ true }
-    ensures here { (coded : CodedMacroblock) → Shows own.now coded → all_names result ≡ inner_lines vertical coded }
+    ensures here { (coded : CodedMacroblock) → AreContexts own.now coded → all_names result ≡ inner_lines vertical coded }
     ensures words { AreWords result }
 {
     [
@@ -210,8 +210,8 @@ fn inner_lines(own: &Contexts, alike: bool, vertical: bool) -> [Word; 3]
 fn by_blocks<const ALIKE: bool>(own: &Contexts) -> InnerStrengths
     requires inter { own.now.intra ≡ false }
     requires alike { ALIKE ≡ true → are_alike own.now.motions ≡ true }
-    ensures vertical { (coded : CodedMacroblock) → Shows own.now coded → all_names result.vertical ≡ inner_lines true coded }
-    ensures horizontal { (coded : CodedMacroblock) → Shows own.now coded → all_names result.horizontal ≡ inner_lines false coded }
+    ensures vertical { (coded : CodedMacroblock) → AreContexts own.now coded → all_names result.vertical ≡ inner_lines true coded }
+    ensures horizontal { (coded : CodedMacroblock) → AreContexts own.now coded → all_names result.horizontal ≡ inner_lines false coded }
     ensures vertical_words { AreWords result.vertical }
     ensures horizontal_words { AreWords result.horizontal }
 {
@@ -289,7 +289,7 @@ pub(crate) fn is_even(own: &Contexts) -> bool
 #[inline]
 pub(crate) fn is_uniform(own: &Contexts, even: bool) -> bool
     requires { even ≡ true → is_even own.now ≡ true }
-    ensures { result ≡ true → (coded : CodedMacroblock) → Shows own.now coded → HasStillLines coded }
+    ensures { result ≡ true → (coded : CodedMacroblock) → AreContexts own.now coded → HasStillLines coded }
 {
     if own.intra {
         return false;
@@ -300,8 +300,8 @@ pub(crate) fn is_uniform(own: &Contexts, even: bool) -> bool
 /// The strengths of the inner edges of a macroblock; `even` says that nothing tells its blocks apart.
 pub(crate) fn inner_strengths(own: &Contexts, even: bool) -> InnerStrengths
     requires { even ≡ true → is_even own.now ≡ true }
-    ensures vertical { (coded : CodedMacroblock) → Shows own.now coded → all_names result.vertical ≡ inner_lines true coded }
-    ensures horizontal { (coded : CodedMacroblock) → Shows own.now coded → all_names result.horizontal ≡ inner_lines false coded }
+    ensures vertical { (coded : CodedMacroblock) → AreContexts own.now coded → all_names result.vertical ≡ inner_lines true coded }
+    ensures horizontal { (coded : CodedMacroblock) → AreContexts own.now coded → all_names result.horizontal ≡ inner_lines false coded }
     ensures vertical_words { AreWords result.vertical }
     ensures horizontal_words { AreWords result.horizontal }
 {

@@ -22,9 +22,9 @@ use Rattle.h264_dpb.specs.Kept.{Each, IsAtPlace, KeepsBuffer, HasFrames, IsOrder
 use Rattle.h264_dpb.proofs.Draining.{all-written}
 use Rattle.h264_dpb.proofs.OutputSteps.{written-is, entries-are, count-is}
 use Rattle.h264_dpb.proofs.Out.{chosen}
-use Rattle.h264_dpb.proofs.Tellings.{tells-none}
 use Rattle.h264_dpb.proofs.Rising.{few, few-other, marked-counted}
 use Rattle.h264_dpb.proofs.Following.{Follows, IsStored, flushed-follows, missing-follows, stored-follows, missing-each, stored-each, missing-counts, stored-counts, missing-rising, stored-rising}
+use Rattle.h264_base.proofs.Steps.{tells-none}
 
 abbrev pub of_turn : Turn → Step Shown
 of_turn t = record { written = t.written; entries = t.buffer.entries }

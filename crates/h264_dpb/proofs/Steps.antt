@@ -10,7 +10,8 @@ use Rattle.h264_dpb.specs.declared.entry.Placed.{Placed}
 use Rattle.h264_dpb.specs.Bumping.{Step, leaves, and_then, is_next}
 use Rattle.h264_dpb.specs.Writing.{call_of, calls_of, Writes}
 use Rattle.h264_dpb.specs.Buffered.{AreReady, Steps, StepsBy}
-use Rattle.h264_dpb.proofs.Tellings.{tells-none, tells-both, front-after, front-before}
+use Rattle.h264_dpb.proofs.Tellings.{front-after, front-before}
+use Rattle.h264_base.proofs.Steps.{tells-none, tells-both}
 
 -- a frame that waits is at its place
 lent-if : (waiting lent : Bool) → IsTrue (not waiting || lent) → waiting ≡ true → IsTrue lent

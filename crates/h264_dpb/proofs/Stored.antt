@@ -9,7 +9,7 @@ use Rattle.h264_dpb.specs.Bumping.{made_room, marked, stored_reference, stored_o
 use Rattle.h264_dpb.specs.Buffered.{AreReady, is_ready, references, Steps}
 use Rattle.h264_dpb.proofs.Room.{ready-made_room, ready-joins, ready-placed, ready-marked, short-placed}
 use Rattle.h264_dpb.proofs.Bounded.{used-marked, made_room-frees}
-use Rattle.h264_dpb.proofs.Tellings.{tells-none}
+use Rattle.h264_base.proofs.Steps.{tells-none}
 
 pub ready-reference : (lent : ℕ → Option Frame) (places : ℕ) (e : Entry Placed) (held : Placed → Bool) (es new : List (Entry Placed)) → AreReady lent es → IsTrue (is_ready lent e) → new ≡ (stored_reference places e (marked held es)).entries → AreReady lent new
 unfolding stored_reference

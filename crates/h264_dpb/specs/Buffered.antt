@@ -53,12 +53,14 @@ abbrev pub AreReady : (ℕ → Option Frame) → List (Entry Placed) → Type 0
 AreReady lent [] = Unit {0}
 AreReady lent (e ∷ es) = IsTrue (is_ready lent e) × AreReady lent es
 
-abbrev pub StepsBy : {X S : Type 0} → (S → List Call → Type 0) → (S → ℕ) → (ℕ → Option Frame) → Step Placed → List (Entry Placed) → S → S → Result X Stop → Type 0
+abbrev pub StepsBy : {X S : Type 0} → (S → List Call → Type 0) → (S → ℕ) → (ℕ → Option Frame) → Step Placed → List (Entry Placed) → S →
+    S → Result X Stop → Type 0
 StepsBy took failures lent step new s s' (Ok x) = (new ≡ step.entries) × Tells took s s' (calls_of lent step.written) × (failures s' ≡ failures s)
 StepsBy took failures lent step new s s' (Err e) = (e ≡ Write) × TellsFront took s s' (calls_of lent step.written) × (failures s' ≡ failures s + 1)
 
 -- The sink was told the frames of a step, which left these in the buffer; or it failed, and took the first of them.
-pub record Steps {X S : Type 0} (took : S → List Call → Type 0) (failures : S → ℕ) (lent : ℕ → Option Frame) (step : Step Placed) (new : List (Entry Placed)) (s s' : S) (result : Result X Stop) : Type 0 where
+pub record Steps {X S : Type 0} (took : S → List Call → Type 0) (failures : S → ℕ) (lent : ℕ → Option Frame) (step : Step Placed) (new : List (Entry Placed))
+    (s s' : S) (result : Result X Stop) : Type 0 where
   pub steps : StepsBy took failures lent step new s s' result
 
 -- what is stored of a picture

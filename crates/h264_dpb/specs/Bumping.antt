@@ -1,6 +1,7 @@
 -- To be read beside the standard. The order of output (C.4.4, C.4.5.3), as steps on the list of frames in the buffer, in decoding order. What names a
 -- picture is left open.
-use Rattle.std.specs.Prelude.{ℕ, zero, suc, nat_lt, ◌==◌, ◌&&◌, ◌||◌, Bool, true, false, Option, Some, None, List, [], ◌∷◌, ◌++◌, map, length, ℤ, int_lt, if◌then◌else◌}
+use Rattle.std.specs.Prelude.{ℕ, zero, suc, nat_lt, ◌==◌, ◌&&◌, ◌||◌, Bool, true, false, Option, Some, None, List, [], ◌∷◌, ◌++◌, map, length, ℤ, int_lt}
+use Rattle.std.specs.Prelude.{if◌then◌else◌}
 use Rattle.std.specs.List.{filter, list_any, count_by}
 use Rattle.std.specs.Int.{int_min}
 use Rattle.std.specs.Option.{is_none}

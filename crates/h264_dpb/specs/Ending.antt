@@ -21,8 +21,8 @@ drops None = false
 drops (Some found) = drops_by found.value
 
 -- operation 5 takes the count of a frame from itself (8.2.1)
-abbrev pub count_behind : Bool → ℤ → ℤ
-count_behind resets count = if resets then pos 0 else count
+abbrev pub count_after : Bool → ℤ → ℤ
+count_after resets count = if resets then pos 0 else count
 
 -- a picture with its number in decoding order, the lesser of its fields' counts, and the size of its sequence's buffer
 unfoldable pub ended_of : Sps → Header → ℕ → ℤ → ℕ → Ended
@@ -32,7 +32,7 @@ ended_of sps h picture count size = record {
   resets = resets h.marking;
   reference = is_reference h;
   picture = picture;
-  count = count_behind (resets h.marking) count;
+  count = count_after (resets h.marking) count;
   rectangle = rectangle_of sps;
   size = size;
 }

@@ -62,9 +62,9 @@ pub record IsEmpty (output : Output) : Type 0 where
 pub record IsReady (lent : ℕ → Option Frame) (output : Output) : Type 0 where
   pub ready : AreReady lent output.buffer.entries
 
--- no frame of it stands at this place
-abbrev pub is_free : ℕ → Output → Bool
-is_free place output = is_taken output.buffer.entries place
+-- a frame of it stands at this place
+abbrev pub is_occupied : ℕ → Output → Bool
+is_occupied place output = is_taken output.buffer.entries place
 
 -- the place of a picture's frame in it, by the picture's number
 abbrev pub place_of : Output → ℕ → Option ℕ

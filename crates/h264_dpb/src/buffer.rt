@@ -31,6 +31,7 @@ impl Model for Buffer {
 
 impl Buffer {
     ghost use Rattle.std.specs.Prelude.{◌≡◌, ◌+◌, ◌-◌, ◌<◌, ◌≤◌, ◌^◌, IsTrue, false, is_some, length, [], OnOk, IfSome};
+    ghost use Rattle.h264_base.specs.Call.{HasRoom};
     ghost use Rattle.h264_dpb.specs.Numbered.{is_taken};
     ghost use Rattle.h264_dpb.specs.Bumping.{flushed};
     ghost use Rattle.h264_dpb.specs.Buffered.{AreReady, Steps, HasRoomBy, StaysWithin, places_taken, stored_by, missing_by, IsShownBy};
@@ -80,7 +81,7 @@ impl Buffer {
         picture: &Picture,
         sink: &mut S,
     ) -> Result<(), Stop>
-        requires room { S.failures sink.old < 2 ^ 64 - 1 }
+        requires room { HasRoom S.failures sink.old }
         requires ready { AreReady (F.lent frames.now) self.old.entries }
         requires own { IsShownBy picture.now.kind (F.lent frames.now) picture.now }
         requires few { HasRoomBy picture.now.kind picture.now self.old }
@@ -106,7 +107,7 @@ impl Buffer {
         size: usize,
         sink: &mut S,
     ) -> Result<(), Stop>
-        requires room { S.failures sink.old < 2 ^ 64 - 1 }
+        requires room { HasRoom S.failures sink.old }
         requires ready { AreReady (F.lent frames.now) self.old.entries }
         requires some { 0 < size }
         requires few { size ≤ 16 }

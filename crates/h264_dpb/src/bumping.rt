@@ -1,4 +1,5 @@
 ghost use Rattle.std.specs.Prelude.{◌≡◌, ◌||◌, ◌+◌, ◌-◌, ◌<◌, ◌≤◌, ◌^◌, true, false, IsTrue, [], ◌∷◌, ◌++◌, Some, length, map, slice_set, OnOk, IfOk};
+ghost use Rattle.h264_base.specs.Call.{HasRoom};
 ghost use Rattle.std.specs.Prelude.{if◌then◌else◌};
 ghost use Rattle.std.specs.List.{position, filter};
 ghost use Rattle.arrayvec.specs.ArrayVec.{array_vec_len};
@@ -74,7 +75,7 @@ fn write<F: FrameStore, S: FrameOut>(
     frames: &F,
     sink: &mut S,
 ) -> Result<(), Stop>
-    requires room { S.failures sink.old < 2 ^ 64 - 1 }
+    requires room { HasRoom S.failures sink.old }
     requires place { IsTrue (is_shown (F.lent frames.now) entry.now.of) }
     ensures { Writes S.took S.failures (call_of (F.lent frames.now) entry.now ∷ []) sink.old sink.new result }
 {
@@ -115,7 +116,7 @@ fn bump<F: FrameStore, S: FrameOut>(
     frames: &F,
     sink: &mut S,
 ) -> Result<(), Stop>
-    requires room { S.failures sink.old < 2 ^ 64 - 1 }
+    requires room { HasRoom S.failures sink.old }
     requires ready { AreReady (F.lent frames.now) entries.old.items }
     ensures { Steps S.took S.failures (F.lent frames.now) (bumped entries.old.items) entries.new.items sink.old sink.new result }
 {
@@ -137,7 +138,7 @@ pub(crate) fn make_room<F: FrameStore, S: FrameOut>(
     frames: &F,
     sink: &mut S,
 ) -> Result<(), Stop>
-    requires room { S.failures sink.old < 2 ^ 64 - 1 }
+    requires room { HasRoom S.failures sink.old }
     requires ready { AreReady (F.lent frames.now) entries.old.items }
     ensures { Steps S.took S.failures (F.lent frames.now) (made_room (length entries.old.items) places entries.old.items) entries.new.items sink.old
         sink.new result }
@@ -159,7 +160,7 @@ pub(crate) fn place<F: FrameStore, S: FrameOut>(
     frames: &F,
     sink: &mut S,
 ) -> Result<(), Stop>
-    requires room { S.failures sink.old < 2 ^ 64 - 1 }
+    requires room { HasRoom S.failures sink.old }
     requires ready { AreReady (F.lent frames.now) entries.old.items }
     requires own { IsTrue (is_shown (F.lent frames.now) entry.of) }
     requires few { places ≤ 16 }
@@ -253,7 +254,7 @@ pub(crate) fn store_reference<F: FrameStore, S: FrameOut>(
     frames: &F,
     sink: &mut S,
 ) -> Result<(), Stop>
-    requires room { S.failures sink.old < 2 ^ 64 - 1 }
+    requires room { HasRoom S.failures sink.old }
     requires ready { AreReady (F.lent frames.now) entries.old.items }
     requires used { AreUsed entries.old.items }
     requires few { references entries.old.items < places }
@@ -284,7 +285,7 @@ pub(crate) fn store_marked<F: FrameStore, S: FrameOut>(
     frames: &F,
     sink: &mut S,
 ) -> Result<(), Stop>
-    requires room { S.failures sink.old < 2 ^ 64 - 1 }
+    requires room { HasRoom S.failures sink.old }
     requires ready { AreReady (F.lent frames.now) entries.old.items }
     requires few { references (marked (still picture.now) entries.old.items) + missing_in picture.now.held.now < size }
     requires most { size ≤ 16 }
@@ -304,7 +305,7 @@ pub(crate) fn store_missing<F: FrameStore, S: FrameOut>(
     frames: &F,
     sink: &mut S,
 ) -> Result<(), Stop>
-    requires room { S.failures sink.old < 2 ^ 64 - 1 }
+    requires room { HasRoom S.failures sink.old }
     requires ready { AreReady (F.lent frames.now) entries.old.items }
     ensures { Steps S.took S.failures (F.lent frames.now) (room_step (size - (missing_in picture.now.held.now - 1))
         (marked (still picture.now) entries.old.items)) entries.new.items sink.old sink.new result }
@@ -322,7 +323,7 @@ pub(crate) fn store_other<F: FrameStore, S: FrameOut>(
     frames: &F,
     sink: &mut S,
 ) -> Result<(), Stop>
-    requires room { S.failures sink.old < 2 ^ 64 - 1 }
+    requires room { HasRoom S.failures sink.old }
     requires ready { AreReady (F.lent frames.now) entries.old.items }
     requires own { IsTrue (is_shown (F.lent frames.now) picture.now.of) }
     requires few { places ≤ 16 }
@@ -339,7 +340,7 @@ pub(crate) fn empty<F: FrameStore, S: FrameOut>(
     frames: &F,
     sink: &mut S,
 ) -> Result<(), Stop>
-    requires room { S.failures sink.old < 2 ^ 64 - 1 }
+    requires room { HasRoom S.failures sink.old }
     requires ready { AreReady (F.lent frames.now) entries.old.items }
     ensures steps { Steps S.took S.failures (F.lent frames.now) (flushed write entries.old.items) entries.new.items sink.old sink.new result }
     ensures none { OnOk result (entries.new.items ≡ []) }
@@ -362,7 +363,7 @@ pub(crate) fn store<F: FrameStore, S: FrameOut>(
     frames: &F,
     sink: &mut S,
 ) -> Result<usize, Stop>
-    requires room { S.failures sink.old < 2 ^ 64 - 1 }
+    requires room { HasRoom S.failures sink.old }
     requires ready { AreReady (F.lent frames.now) entries.old.items }
     requires own { IsShownBy picture.now.kind (F.lent frames.now) picture.now }
     requires few { HasRoomBy picture.now.kind picture.now (record { entries = entries.old.items; missing = missing; size = size }) }

@@ -2,7 +2,7 @@
 #![tactic(auto)]
 
 ghost use Rattle.std.specs.Prelude.{◌≡◌};
-ghost use Rattle.h264_dpb.specs.Ending.{drops_by, drops, count_behind, ended_of};
+ghost use Rattle.h264_dpb.specs.Ending.{drops_by, drops, count_after, ended_of};
 
 use crate::Rectangle;
 use crate::format::rectangle_of;
@@ -56,8 +56,8 @@ fn drops(marking: &Option<Found<Marking>>) -> bool
 }
 
 /// The count of a picture's frame: operation 5 takes it from itself (8.2.1).
-fn count_behind(resets: bool, count: i32) -> i32
-    ensures { result ≡ count_behind resets count }
+fn count_after(resets: bool, count: i32) -> i32
+    ensures { result ≡ count_after resets count }
 {
     if resets { 0 } else { count }
 }
@@ -75,7 +75,7 @@ pub fn ended_of(sps: &Sps, header: &Header, picture: u64, count: i32, size: usiz
         resets,
         reference: header.nal_ref_idc != 0,
         picture,
-        count: count_behind(resets, count),
+        count: count_after(resets, count),
         rectangle: rectangle_of(sps),
         size,
     }

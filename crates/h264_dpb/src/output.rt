@@ -2,6 +2,7 @@
 #![tactic(auto)]
 
 ghost use Rattle.std.specs.Prelude.{◌≡◌, ◌≤◌, ℕ, map, length};
+ghost use Rattle.h264_base.specs.Call.{HasRoom};
 ghost use Rattle.std.specs.List.{count_by};
 ghost use Rattle.h264_dpb.specs.Turns.{empties};
 ghost use Rattle.h264_dpb.specs.declared.entry.Kind.TheVariants as kinds;
@@ -106,7 +107,7 @@ impl Output {
     ghost use Rattle.h264_dpb.specs.Shown.{is_shown};
     ghost use Rattle.h264_dpb.specs.Writing.{Writes};
     ghost use Rattle.h264_dpb.specs.Turns.{Shown, no_buffer, names, empties, flush_turn, way_turn, store_turn, missing_turn, last_turn};
-    ghost use Rattle.h264_dpb.specs.Kept.{KeepsBuffer, HasFrames, IsOrdered, IsReady, IsEmpty, IsAtPlace, is_free, place_of, size_of, placed_at};
+    ghost use Rattle.h264_dpb.specs.Kept.{KeepsBuffer, HasFrames, IsOrdered, IsReady, IsEmpty, IsAtPlace, is_occupied, place_of, size_of, placed_at};
     ghost use Rattle.h264_dpb.specs.Kept.{shown_calls, waiting_in};
 
     /// Before the first picture.
@@ -141,7 +142,7 @@ impl Output {
         ensures value { result ≡ place_of self.now picture }
         ensures frames { (frames : ℕ → Frame) (lent : _) → HasFrames frames lent self.now → IfSome result (λ place. lent place ≡ Some (frames picture)) }
         ensures early { (next : ℕ) → IsOrdered next self.now → IfSome result (λ place. picture < next) }
-        ensures taken { IfSome result (λ place. is_free place self.now ≡ true) }
+        ensures taken { IfSome result (λ place. is_occupied place self.now ≡ true) }
     {
         place_at(self.buffer.entries(), picture)
     }
@@ -149,9 +150,9 @@ impl Output {
     /// The first of `count` places from `first` on at which no frame stands, if there is one.
     pub fn free_place(&self, first: usize, count: usize) -> Option<usize>
         requires small { first + count < 2 ^ 32 }
-        ensures free { IfSome result (λ place. (first ≤ place) × (place < first + count) × (is_free place self.now ≡ false)) }
+        ensures free { IfSome result (λ place. (first ≤ place) × (place < first + count) × (is_occupied place self.now ≡ false)) }
         ensures some { (next : ℕ) → IsOrdered next self.now → size_of self.now < count → IsTrue (is_some result) }
-        ensures first { is_free first self.now ≡ false → 0 < count → IsTrue (is_some result) }
+        ensures first { is_occupied first self.now ≡ false → 0 < count → IsTrue (is_some result) }
     {
         self.buffer.free_place(first, count)
     }
@@ -164,7 +165,7 @@ impl Output {
         store: &F,
         sink: &mut S,
     ) -> Result<(), Stop>
-        requires room { S.failures sink.old < 2 ^ 64 - 1 }
+        requires room { HasRoom S.failures sink.old }
         requires ready { AreReady (F.lent store.now) self.old.buffer.entries }
         requires some { 0 < size }
         requires few { size ≤ 16 }
@@ -193,7 +194,7 @@ impl Output {
         store: &F,
         sink: &mut S,
     ) -> Result<(), Stop>
-        requires room { S.failures sink.old < 2 ^ 64 - 1 }
+        requires room { HasRoom S.failures sink.old }
         requires ready { AreReady (F.lent store.now) self.old.buffer.entries }
         requires own { IsShownBy picture.now.kind (F.lent store.now) picture.now }
         requires few { HasRoomBy picture.now.kind picture.now self.old.buffer }
@@ -224,7 +225,7 @@ impl Output {
         store: &F,
         sink: &mut S,
     ) -> Result<(), Stop>
-        requires room { S.failures sink.old < 2 ^ 64 - 1 }
+        requires room { HasRoom S.failures sink.old }
         requires ordered { IsOrdered picture.now.picture self.old }
         requires early { picture.now.picture < 2 ^ 62 }
         requires size { (0 < picture.now.size) × (picture.now.size ≤ 16) }
@@ -257,7 +258,7 @@ impl Output {
         store: &F,
         sink: &mut S,
     ) -> Result<(), Stop>
-        requires room { S.failures sink.old < 2 ^ 64 - 1 }
+        requires room { HasRoom S.failures sink.old }
         requires ordered { IsOrdered picture.now.picture self.old }
         requires early { picture.now.picture < 2 ^ 62 }
         requires ready { IsReady (F.lent store.now) self.old }
@@ -288,7 +289,7 @@ impl Output {
         store: &F,
         sink: &mut S,
     ) -> Result<(), Stop>
-        requires room { S.failures sink.old < 2 ^ 64 - 1 }
+        requires room { HasRoom S.failures sink.old }
         requires ordered { (next : ℕ) × (next < 2 ^ 62) × IsOrdered next self.old }
         requires ready { IsReady (F.lent store.now) self.old }
         requires missing { 0 < missing_in (names held.now) }
@@ -316,7 +317,7 @@ impl Output {
         store: &F,
         sink: &mut S,
     ) -> Result<(), Stop>
-        requires room { S.failures sink.old < 2 ^ 64 - 1 }
+        requires room { HasRoom S.failures sink.old }
         requires ordered { (next : ℕ) × (next < 2 ^ 62) × IsOrdered next self.old }
         requires ready { IsReady (F.lent store.now) self.old }
         ensures writes { (frames : ℕ → Frame) (b : Buffered Shown) (written : ℕ) → KeepsBuffer b written self.old →

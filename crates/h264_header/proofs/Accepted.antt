@@ -28,7 +28,7 @@ use Rattle.h264_pps.specs.Pps.{pps}
 use Rattle.h264_sets.specs.Sets.{Maps, sps_of, pps_of}
 use Rattle.h264_header.specs.Layout.{has_lengths, has_count_lengths, sets_of}
 use Rattle.h264_header.specs.Accepted.{IsAcceptedSps, IsAcceptedPps}
-use Rattle.h264_header.proofs.Gives.{Gives, gives-behind, gives-to, gives-met, gives-weaker, gives-derived}
+use Rattle.h264_header.proofs.Gives.{Gives, gives-following, gives-to, gives-met, gives-weaker, gives-derived}
 
 pub record HasRanges (s : Sps) : Type 0 where
   pub id : s.seq_parameter_set_id ≤ 31
@@ -44,12 +44,12 @@ HasCount c = has_count_lengths c ≡ true
 of-kind : (kind : ℕ) → Gives (of_type kind) HasCount
 unfolding of_type lsb_type cycle_type
 of-kind zero = gives-to _ _ _ _ (λ n h. few n h)
-of-kind (suc zero) = gives-behind _ _ _ (λ _. gives-behind _ _ _ (λ _. gives-behind _ _ _ (λ _. gives-behind _ _ _ (λ _. gives-behind _ _ _ (λ _. refl)))))
+of-kind (suc zero) = gives-following _ _ _ (λ _. gives-following _ _ _ (λ _. gives-following _ _ _ (λ _. gives-following _ _ _ (λ _. gives-following _ _ _ (λ _. refl)))))
 of-kind (suc (suc n)) = refl
 
 counts : Gives counting HasCount
 unfolding counting
-counts = gives-behind _ _ _ of-kind
+counts = gives-following _ _ _ of-kind
 
 both : (a b : Bool) → a ≡ true → b ≡ true → (a && b) ≡ true
 both a b e f = rw (e, f) refl
@@ -72,7 +72,7 @@ HasFront f = HasLevel f.flags.set3 f.named
 
 front-gives : (target : Target) → Gives (profile_and_level target) HasFront
 unfolding profile_and_level check
-front-gives target = gives-behind _ _ _ (λ profile. gives-behind _ _ _ (λ flags. gives-behind _ _ _ (λ _. gives-behind _ _ _ (λ reserved. gives-met (level flags.set3) _ (HasLevel flags.set3) _ (level-gives flags.set3) (λ named h. h)))))
+front-gives target = gives-following _ _ _ (λ profile. gives-following _ _ _ (λ flags. gives-following _ _ _ (λ _. gives-following _ _ _ (λ reserved. gives-met (level flags.set3) _ (HasLevel flags.set3) _ (level-gives flags.set3) (λ named h. h)))))
 
 -- the size is one of the level
 record HasSize (limits : Limits) (refs : ℕ) (size : Size) : Type 0 where
@@ -107,7 +107,7 @@ crop-gives size = λ l r a t b c. both _ _ (below _ _ a) (below _ _ c)
 
 flagged-gives : {A : Type 0} (present : Grammar Bool) (part : Grammar A) (P : Option A → Type 0) → P None → Gives part (λ x. P (Some x)) → Gives (flagged present part) P
 unfolding flagged optional
-flagged-gives present part P none some = gives-behind _ _ _ by
+flagged-gives present part P none some = gives-following _ _ _ by
   where
     by : (b : Bool) → Gives (optional b part) P
     by true = gives-met part _ (λ x. P (Some x)) P some (λ x h. h)
@@ -126,7 +126,7 @@ check-gives rule bit holds f P h = h
 
 restriction-gives : (refs max : ℕ) → Gives (bitstream_restriction refs max) (λ r. FitsIn refs max r.max_dec_frame_buffering)
 unfolding bitstream_restriction
-restriction-gives refs max = gives-behind _ _ _ (λ over. gives-behind _ _ _ (λ bytes. gives-behind _ _ _ (λ mb_bits. gives-behind _ _ _ (λ across. gives-behind _ _ _ (λ down. gives-behind _ _ _ (λ reorder. gives-behind _ _ _ (λ e. check-gives _ _ _ _ _ (λ _. check-gives _ _ _ _ _ (λ b. check-gives _ _ _ _ _ (λ c. (leb-true _ _ b, leb-true _ _ c)))))))))))
+restriction-gives refs max = gives-following _ _ _ (λ over. gives-following _ _ _ (λ bytes. gives-following _ _ _ (λ mb_bits. gives-following _ _ _ (λ across. gives-following _ _ _ (λ down. gives-following _ _ _ (λ reorder. gives-following _ _ _ (λ e. check-gives _ _ _ _ _ (λ _. check-gives _ _ _ _ _ (λ b. check-gives _ _ _ _ _ (λ c. (leb-true _ _ b, leb-true _ _ c)))))))))))
 
 same-some : (a b : ℕ) → Some a ≡ Some b → a ≡ b
 same-some a b e = cc
@@ -142,7 +142,7 @@ IsBuffering refs max o = (frames : ℕ) → option_map (λ (r : BitstreamRestric
 
 vui-gives : (refs max : ℕ) → Gives (vui refs max) (λ v. HasBuffering refs max (Some v))
 unfolding vui
-vui-gives refs max = gives-behind _ _ _ (λ _. gives-behind _ _ _ (λ _. gives-behind _ _ _ (λ _. gives-behind _ _ _ (λ _. gives-behind _ _ _ (λ _. gives-behind _ _ _ (λ _. gives-behind _ _ _ (λ _. gives-behind _ _ _ (λ _. gives-behind _ _ _ (λ _. gives-met (flagged (flag BitstreamRestrictionFlag) (bitstream_restriction refs max)) _ (IsBuffering refs max) _ (flagged-gives (flag BitstreamRestrictionFlag) (bitstream_restriction refs max) (IsBuffering refs max) (none-given refs max) (gives-weaker (bitstream_restriction refs max) (λ r. FitsIn refs max r.max_dec_frame_buffering) (λ r. IsBuffering refs max (Some r)) (restriction-gives refs max) (λ r h. restricted refs max r h))) (λ o h. h))))))))))
+vui-gives refs max = gives-following _ _ _ (λ _. gives-following _ _ _ (λ _. gives-following _ _ _ (λ _. gives-following _ _ _ (λ _. gives-following _ _ _ (λ _. gives-following _ _ _ (λ _. gives-following _ _ _ (λ _. gives-following _ _ _ (λ _. gives-following _ _ _ (λ _. gives-met (flagged (flag BitstreamRestrictionFlag) (bitstream_restriction refs max)) _ (IsBuffering refs max) _ (flagged-gives (flag BitstreamRestrictionFlag) (bitstream_restriction refs max) (IsBuffering refs max) (none-given refs max) (gives-weaker (bitstream_restriction refs max) (λ r. FitsIn refs max r.max_dec_frame_buffering) (λ r. IsBuffering refs max (Some r)) (restriction-gives refs max) (λ r h. restricted refs max r h))) (λ o h. h))))))))))
 
 -- the buffer holds the reference frames
 holds-by : (refs : ℕ) (o : Option ℕ) (frames : ℕ) → ((n : ℕ) → o ≡ Some n → refs ≤ n) → refs ≤ frames → nat_le refs (unwrap_or o frames) ≡ true
@@ -163,10 +163,10 @@ frame-of limits refs size small h =
 
 sps-gives : (target : Target) → Gives (sps target) HasRanges
 unfolding sps is_usable
-sps-gives target = gives-met (profile_and_level target) _ HasFront _ (front-gives target) (λ front level. gives-to _ _ _ _ (λ id low. gives-to _ _ _ _ (λ log2 short. gives-met counting _ HasCount _ counts (λ count e. gives-behind _ _ _ (λ refs. gives-behind _ _ _ (λ _. gives-met (frame_size front.named.limits refs) _ (HasSize front.named.limits refs) _ (size-gives front.named.limits refs) (λ size fits. gives-behind _ _ _ (λ _. gives-behind _ _ _ (λ _.
+sps-gives target = gives-met (profile_and_level target) _ HasFront _ (front-gives target) (λ front level. gives-to _ _ _ _ (λ id low. gives-to _ _ _ _ (λ log2 short. gives-met counting _ HasCount _ counts (λ count e. gives-following _ _ _ (λ refs. gives-following _ _ _ (λ _. gives-met (frame_size front.named.limits refs) _ (HasSize front.named.limits refs) _ (size-gives front.named.limits refs) (λ size fits. gives-following _ _ _ (λ _. gives-following _ _ _ (λ _.
     gives-met (flagged (flag FrameCroppingFlag) (frame_cropping size)) _ (HasCrop size) _ (flagged-gives (flag FrameCroppingFlag) (frame_cropping size) (HasCrop size) refl (crop-gives size)) (λ crop within.
     gives-met (flagged (flag VuiParametersPresentFlag) (vui refs (max_dpb_frames front.named.limits size))) _ (HasBuffering refs (max_dpb_frames front.named.limits size)) _ (flagged-gives (flag VuiParametersPresentFlag) (vui refs (max_dpb_frames front.named.limits size)) (HasBuffering refs (max_dpb_frames front.named.limits size)) (none-given refs (max_dpb_frames front.named.limits size)) (vui-gives refs (max_dpb_frames front.named.limits size))) (λ usability buffering.
-    gives-behind _ _ _ (λ _.
+    gives-following _ _ _ (λ _.
     let most = λ (o : Option Limits). option_map_or (λ (l : Limits). max_dpb_frames l size) o 0 in
     record {
       id = low;
@@ -181,7 +181,7 @@ HasId p = p.seq_parameter_set_id ≤ 31
 
 pps-gives : (target : Target) → Gives (pps target) HasId
 unfolding pps
-pps-gives target = gives-behind _ _ _ (λ id. gives-to _ _ _ _ (λ sps low. gives-behind _ _ _ (λ _. gives-behind _ _ _ (λ _. gives-behind _ _ _ (λ _. gives-behind _ _ _ (λ _. gives-behind _ _ _ (λ _. gives-behind _ _ _ (λ _. gives-behind _ _ _ (λ _. gives-behind _ _ _ (λ _. gives-behind _ _ _ (λ _. gives-behind _ _ _ (λ _. gives-behind _ _ _ (λ _. gives-behind _ _ _ (λ _. gives-behind _ _ _ (λ _. gives-behind _ _ _ (λ _. low))))))))))))))))
+pps-gives target = gives-following _ _ _ (λ id. gives-to _ _ _ _ (λ sps low. gives-following _ _ _ (λ _. gives-following _ _ _ (λ _. gives-following _ _ _ (λ _. gives-following _ _ _ (λ _. gives-following _ _ _ (λ _. gives-following _ _ _ (λ _. gives-following _ _ _ (λ _. gives-following _ _ _ (λ _. gives-following _ _ _ (λ _. gives-following _ _ _ (λ _. gives-following _ _ _ (λ _. gives-following _ _ _ (λ _. gives-following _ _ _ (λ _. gives-following _ _ _ (λ _. low))))))))))))))))
 
 -- a set that some unit gives is never left out
 pub named-accepted : (target : Target) (maps : Maps) (id : ℕ) (p : Pps) (s : Sps) → IsAcceptedPps target p → IsAcceptedSps target s → pps_of maps id ≡ Some p → sps_of maps p.seq_parameter_set_id ≡ Some s → sets_of maps id ≡ Some (p, s)

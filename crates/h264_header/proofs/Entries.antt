@@ -7,7 +7,7 @@ use Rattle.h264_base.specs.declared.element_name.ElementName.TheVariants.{AbsDif
 use Rattle.h264_base.specs.Grammar.{Grammar, Done, ◌>>=◌}
 use Rattle.h264_base.specs.Meets.{Reader, Meets, Is}
 use Rattle.h264_base.proofs.Steps.{Leads, leads-starts, leads-on, bind_as, stop, done, finish}
-use Rattle.h264_header.specs.Listed.{listed, goes_on}
+use Rattle.h264_header.specs.Listed.{listed, listed_on}
 use Rattle.h264_bits.specs.Forms.{unsigned, unsigned_to}
 use Rattle.h264_header.specs.declared.header.FilterOffsets.{FilterOffsets}
 use Rattle.h264_header.specs.declared.header.Deblocking.{Deblocking}
@@ -50,7 +50,7 @@ module _ {A S : Type 0} {took : S → List Call → Type 0} {failures : S → �
   listed-next {g} {old} {now} {mid} {s} {s'} {s''} entry n i before after h e l m =
       let k : n - i ≡ suc (n - (i + 1)) = omega arith in
       let P : ℕ → Type 0 = λ k. Leads took failures g (listed entry k before) old now s s' in
-      rw e (leads-on (goes_on (listed entry (n - (i + 1))) before) (subst P k l) m)
+      rw e (leads-on (listed_on (listed entry (n - (i + 1))) before) (subst P k l) m)
 
   -- an entry stops
   pub listed-stop : {g : Grammar (List A)} {Y : Type 0} {R : Y → List A → Type 0} {old now mid : Reader} {s s' s'' : S} {e : Stop} (entry : List A → Grammar (Option A)) (n i : ℕ) (before : List A) → i < n → Leads took failures g (listed entry (n - i) before) old now s s' → Meets took failures (Is (λ (o : Option A). o)) (entry before) now mid s' s'' (Err e) → Meets {X = Y} took failures R g old mid s s'' (Err e)
@@ -58,7 +58,7 @@ module _ {A S : Type 0} {took : S → List Call → Type 0} {failures : S → �
   listed-stop {g} {old = old} {now} {s = s} {s'} entry n i before h l m =
       let k : n - i ≡ suc (n - (i + 1)) = omega arith in
       let P : ℕ → Type 0 = λ k. Leads took failures g (listed entry k before) old now s s' in
-      finish (subst P k l) (stop (goes_on (listed entry (n - (i + 1))) before) m)
+      finish (subst P k l) (stop (listed_on (listed entry (n - (i + 1))) before) m)
 
   -- the end
   pub listed-ends : {g : Grammar (List A)} {Y : Type 0} {R : Y → List A → Type 0} {old now mid : Reader} {s s' s'' : S} (entry : List A → Grammar (Option A)) (n i : ℕ) (before : List A) (y : Y) → i < n → R y before → Leads took failures g (listed entry (n - i) before) old now s s' → Meets took failures (Is (λ (o : Option A). o)) (entry before) now mid s' s'' (Ok None) → Meets took failures R g old mid s s'' (Ok y)
@@ -66,7 +66,7 @@ module _ {A S : Type 0} {took : S → List Call → Type 0} {failures : S → �
   listed-ends {g} {R = R} {old} {now} {mid} {s} {s'} {s''} entry n i before y h r l m =
       let k : n - i ≡ suc (n - (i + 1)) = omega arith in
       let P : ℕ → Type 0 = λ k. Leads took failures g (listed entry k before) old now s s' in
-      finish (leads-on (goes_on (listed entry (n - (i + 1))) before) (subst P k l) m) (done took failures R before mid s'' y r)
+      finish (leads-on (listed_on (listed entry (n - (i + 1))) before) (subst P k l) m) (done took failures R before mid s'' y r)
 
   -- no turn is left
   pub listed-over : {g : Grammar (List A)} {Y : Type 0} {R : Y → List A → Type 0} {old now : Reader} {s s' : S} (entry : List A → Grammar (Option A)) (n i : ℕ) (before : List A) (y : Y) → n ≤ i → R y before → Leads took failures g (listed entry (n - i) before) old now s s' → Meets took failures R g old now s s' (Ok y)

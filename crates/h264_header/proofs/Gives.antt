@@ -41,8 +41,8 @@ gives-then (Bytes n k) f P h = λ bytes. gives-then (k bytes) f P (h bytes)
 gives-then (Close g) f P h = gives-then g f P h
 
 -- after a part of which nothing is needed
-pub gives-behind : {A B : Type 0} (g : Grammar A) (f : A → Grammar B) (P : B → Type 0) → ((x : A) → Gives (f x) P) → Gives (g >>= f) P
-gives-behind g f P h = gives-then g f P (gives-any g (λ x. Gives (f x) P) h)
+pub gives-following : {A B : Type 0} (g : Grammar A) (f : A → Grammar B) (P : B → Type 0) → ((x : A) → Gives (f x) P) → Gives (g >>= f) P
+gives-following g f P h = gives-then g f P (gives-any g (λ x. Gives (f x) P) h)
 
 pub gives-weaker : {A : Type 0} (g : Grammar A) (Q P : A → Type 0) → Gives g Q → ((x : A) → Q x → P x) → Gives g P
 gives-weaker (Done x) Q P q h = h x q

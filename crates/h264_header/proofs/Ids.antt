@@ -15,7 +15,7 @@ use Rattle.h264_header.specs.declared.header.Header.{Header}
 use Rattle.h264_header.specs.declared.header.SliceUnit.{SliceUnit}
 use Rattle.h264_header.specs.Layout.{layout_of}
 use Rattle.h264_header.specs.Header.{named_sets, header}
-use Rattle.h264_header.proofs.Gives.{Gives, gives-behind, gives-met, gives-derived}
+use Rattle.h264_header.proofs.Gives.{Gives, gives-following, gives-met, gives-derived}
 
 -- an id of at most 255 whose sets are there
 pub record IsNamed (sets : ℕ → Option (Pps × Sps)) (id : ℕ) : Type 0 where
@@ -23,7 +23,7 @@ pub record IsNamed (sets : ℕ → Option (Pps × Sps)) (id : ℕ) : Type 0 wher
   pub there : is_some (sets id) ≡ true
 
 -- what is seen of a value shows that it is there
-seen-there : {A B : Type 0} (f : A → B) (o : Option A) → is_some (option_map f o) ≡ true → is_some o ≡ true
+pub seen-there : {A B : Type 0} (f : A → B) (o : Option A) → is_some (option_map f o) ≡ true → is_some o ≡ true
 seen-there f None h = h
 seen-there f (Some x) h = refl
 
@@ -33,7 +33,7 @@ named-gives sets = λ e t h. record { small = leb-true _ _ t; there = seen-there
 
 header-gives : (sets : ℕ → Option (Pps × Sps)) (unit : SliceUnit) → Gives (header sets unit) (λ h. IsNamed sets h.pic_parameter_set_id.value)
 unfolding header
-header-gives sets unit = gives-behind _ _ _ (λ first. gives-behind _ _ _ (λ stated. gives-met (named_sets sets) _ (λ n. IsNamed sets n.id.value) _ (named-gives sets) (λ named h. gives-behind _ _ _ (λ num. gives-behind _ _ _ (λ idr. gives-behind _ _ _ (λ order. gives-behind _ _ _ (λ kind. gives-behind _ _ _ (λ marking. gives-behind _ _ _ (λ qp. gives-behind _ _ _ (λ filter. h))))))))))
+header-gives sets unit = gives-following _ _ _ (λ first. gives-following _ _ _ (λ stated. gives-met (named_sets sets) _ (λ n. IsNamed sets n.id.value) _ (named-gives sets) (λ named h. gives-following _ _ _ (λ num. gives-following _ _ _ (λ idr. gives-following _ _ _ (λ order. gives-following _ _ _ (λ kind. gives-following _ _ _ (λ marking. gives-following _ _ _ (λ qp. gives-following _ _ _ (λ filter. h))))))))))
 
 -- so where a header was read
 pub header-named : {S : Type 0} {took : S → List Call → Type 0} {failures : S → ℕ} {h : Header} {old new : Reader} {s s' : S} (sets : ℕ → Option (Pps × Sps)) (unit : SliceUnit) (r : Result (Unit {0}) Stop) → Meets took failures (Is (λ _. h)) (header sets unit) old new s s' r → OnOk r (IsNamed sets h.pic_parameter_set_id.value)

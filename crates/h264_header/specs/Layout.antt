@@ -52,7 +52,14 @@ layout_of sets = record {
 }
 
 abbrev pub no_layout : Layout
-no_layout = record { frame_num_length = 0; count = DecodingOrder; has_bottom = false; default_active_minus1 = 0; has_weights = false; has_deblocking_control = false }
+no_layout = record {
+  frame_num_length = 0;
+  count = DecodingOrder;
+  has_bottom = false;
+  default_active_minus1 = 0;
+  has_weights = false;
+  has_deblocking_control = false;
+}
 
 -- the lengths are at most 16
 abbrev pub IsShortCount : CountElements → Type 0

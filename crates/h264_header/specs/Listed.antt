@@ -17,11 +17,11 @@ or_0 false part = Done (pos 0)
 or_0 true part = part
 
 -- what follows one of a list's entries, or its end
-abbrev pub goes_on : {A : Type 0} → (List A → Grammar (List A)) → List A → Option A → Grammar (List A)
-goes_on rest before None = Done before
-goes_on rest before (Some x) = rest (before ++ x ∷ [])
+abbrev pub listed_on : {A : Type 0} → (List A → Grammar (List A)) → List A → Option A → Grammar (List A)
+listed_on rest before None = Done before
+listed_on rest before (Some x) = rest (before ++ x ∷ [])
 
 -- The entries of a list after these, up to one that ends it; at most so many are read, that one among them.
 unfoldable pub listed : {A : Type 0} → (List A → Grammar (Option A)) → ℕ → List A → Grammar (List A)
 listed entry zero before = Done before
-listed entry (suc n) before = entry before >>= goes_on (listed entry n) before
+listed entry (suc n) before = entry before >>= listed_on (listed entry n) before

@@ -1,14 +1,17 @@
 -- dec_ref_pic_marking() (7.3.3.3), with the rules on its values (7.4.3.3). To be read beside the standard.
 use Rattle.std.specs.Prelude.{ℕ, zero, suc, ◌==◌, ◌&&◌, ◌||◌, nat_le, nat_lt, not, Bool, true, false, Option, Some, None, List, [], length}
 use Rattle.std.specs.List.{list_any}
-use Rattle.h264_base.specs.declared.element_name.ElementName.TheVariants.{NoOutputOfPriorPicsFlag, LongTermReferenceFlag, AdaptiveRefPicMarkingModeFlag, MemoryManagementControlOperation, DifferenceOfPicNumsMinus1, LongTermPicNum, LongTermFrameIdx, MaxLongTermFrameIdxPlus1}
+use Rattle.h264_base.specs.declared.element_name.ElementName.TheVariants.{NoOutputOfPriorPicsFlag, LongTermReferenceFlag, AdaptiveRefPicMarkingModeFlag}
+use Rattle.h264_base.specs.declared.element_name.ElementName.TheVariants.{MemoryManagementControlOperation, DifferenceOfPicNumsMinus1, LongTermPicNum}
+use Rattle.h264_base.specs.declared.element_name.ElementName.TheVariants.{LongTermFrameIdx, MaxLongTermFrameIdxPlus1}
 use Rattle.h264_base.specs.declared.rule.Rule.TheVariants.{Range}
 use Rattle.h264_base.specs.Word.{Fixed, Unsigned}
 use Rattle.h264_base.specs.Grammar.{Grammar, Done, ◌>>=◌, element, check}
 use Rattle.h264_bits.specs.Forms.{natural, flag, unsigned}
 use Rattle.h264_bits.specs.declared.element.Found.{Found}
 use Rattle.h264_header.specs.declared.header.Operation.{Operation}
-use Rattle.h264_header.specs.declared.header.Operation.TheVariants.{UnmarkShortTerm, UnmarkLongTerm, MakeLongTerm, LimitLongTerm, UnmarkAll, MakeCurrentLongTerm}
+use Rattle.h264_header.specs.declared.header.Operation.TheVariants.{UnmarkShortTerm, UnmarkLongTerm, MakeLongTerm, LimitLongTerm, UnmarkAll}
+use Rattle.h264_header.specs.declared.header.Operation.TheVariants.{MakeCurrentLongTerm}
 use Rattle.h264_header.specs.declared.header.MarkingOperation.{MarkingOperation}
 use Rattle.h264_header.specs.declared.header.Marking.{Marking}
 use Rattle.h264_header.specs.declared.header.Marking.TheVariants as mode

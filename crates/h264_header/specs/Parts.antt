@@ -19,11 +19,19 @@ use Rattle.h264_header.specs.RefList.{slice_kind}
 
 -- the first operand of a marking operation other than 5
 abbrev pub operand_name : ℕ → ElementName
-operand_name number = if number == 2 then name.LongTermPicNum else if number == 4 then name.MaxLongTermFrameIdxPlus1 else if number == 6 then name.LongTermFrameIdx else name.DifferenceOfPicNumsMinus1
+operand_name number =
+    if number == 2 then name.LongTermPicNum
+    else if number == 4 then name.MaxLongTermFrameIdxPlus1
+    else if number == 6 then name.LongTermFrameIdx
+    else name.DifferenceOfPicNumsMinus1
 
 -- operation 1, 2, 4 or 6, which have one operand
 abbrev pub with_operand : ℕ → ℕ → Operation
-with_operand number operand = if number == 1 then operation.UnmarkShortTerm operand else if number == 2 then operation.UnmarkLongTerm operand else if number == 4 then operation.LimitLongTerm operand else operation.MakeCurrentLongTerm operand
+with_operand number operand =
+    if number == 1 then operation.UnmarkShortTerm operand
+    else if number == 2 then operation.UnmarkLongTerm operand
+    else if number == 4 then operation.LimitLongTerm operand
+    else operation.MakeCurrentLongTerm operand
 
 unfoldable pub header_from_kind : Header → SliceUnit → StatedType → Layout → Grammar Header
 header_from_kind h unit stated layout = do

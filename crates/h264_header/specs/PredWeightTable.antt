@@ -1,7 +1,8 @@
 -- pred_weight_table() (7.3.3.2), with the rules on its values and the values that are inferred (7.4.3.2). To be read beside the standard.
 use Rattle.std.specs.Prelude.{ℕ, pos, negsuc, ◌^◌, Bool, true, false, []}
 use Rattle.h264_base.specs.declared.element_name.ElementName.{ElementName}
-use Rattle.h264_base.specs.declared.element_name.ElementName.TheVariants.{LumaLog2WeightDenom, ChromaLog2WeightDenom, LumaWeightL0Flag, LumaWeightL0, LumaOffsetL0, ChromaWeightL0Flag, ChromaWeightL0, ChromaOffsetL0}
+use Rattle.h264_base.specs.declared.element_name.ElementName.TheVariants.{LumaLog2WeightDenom, ChromaLog2WeightDenom, LumaWeightL0Flag, LumaWeightL0}
+use Rattle.h264_base.specs.declared.element_name.ElementName.TheVariants.{LumaOffsetL0, ChromaWeightL0Flag, ChromaWeightL0, ChromaOffsetL0}
 use Rattle.h264_base.specs.declared.weight.Weight.{Weight}
 use Rattle.h264_base.specs.declared.weight.Weights.{Weights}
 use Rattle.h264_base.specs.Grammar.{Grammar, Done, ◌>>=◌}

@@ -1,7 +1,8 @@
 -- To be read beside the standard. What a P slice says of its reference picture list and of prediction from it: num_ref_idx_active_override_flag,
 -- ref_pic_list_modification() and, where weighted_pred_flag is 1, pred_weight_table() (7.3.3, 7.3.3.1, 7.3.3.2).
 use Rattle.std.specs.Prelude.{ℕ, zero, suc, ◌+◌, ◌-◌, ◌==◌, ◌^◌, ◌&&◌, nat_le, nat_lt, Bool, true, false, Option, Some, None, List, [], length, if◌then◌else◌}
-use Rattle.h264_base.specs.declared.element_name.ElementName.TheVariants.{NumRefIdxActiveOverrideFlag, NumRefIdxL0ActiveMinus1, RefPicListModificationFlagL0, ModificationOfPicNumsIdc, AbsDiffPicNumMinus1, LongTermPicNum}
+use Rattle.h264_base.specs.declared.element_name.ElementName.TheVariants.{NumRefIdxActiveOverrideFlag, NumRefIdxL0ActiveMinus1, RefPicListModificationFlagL0}
+use Rattle.h264_base.specs.declared.element_name.ElementName.TheVariants.{ModificationOfPicNumsIdc, AbsDiffPicNumMinus1, LongTermPicNum}
 use Rattle.h264_base.specs.declared.rule.Rule.TheVariants.{Range}
 use Rattle.h264_base.specs.declared.mode.SliceType.{SliceType}
 use Rattle.h264_base.specs.declared.mode.SliceType.TheVariants as slice_type

@@ -8,6 +8,8 @@
 //! Rules that look at other slices or at held pictures are not judged here.
 #![tactic(auto)]
 
+#[cfg(test)]
+mod cases;
 pub mod header;
 pub mod laws;
 mod layout;

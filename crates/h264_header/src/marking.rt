@@ -2,6 +2,7 @@
 #![tactic(auto)]
 
 ghost use Rattle.std.specs.Prelude.{◌≡◌, ℕ, ◌==◌, ◌-◌, ◌<◌, ◌≤◌, ◌^◌, true, Some, None, IfOk, OnSome};
+ghost use Rattle.h264_base.specs.Call.{HasRoom};
 ghost use Rattle.std.specs.List.{list_any};
 ghost use Rattle.arrayvec.specs.ArrayVec.{array_vec_len};
 ghost use Rattle.h264_base.specs.Meets.{Meets, Is};
@@ -69,7 +70,7 @@ fn with_operand(number: u32, operand: u32) -> Operation
 fn read_operands<S: Elements>(number: u32, bits: &mut Bits, sink: &mut S) -> Result<Operation, Stop>
     requires some { 0 < number }
     requires known { number ≤ 6 }
-    requires room { S.failures sink.old < 2 ^ 64 - 1 }
+    requires room { HasRoom S.failures sink.old }
     ensures { Meets S.took S.failures (Is Some) (operands number) bits.old bits.new sink.old sink.new result }
 {
     if number == 5 {
@@ -112,7 +113,7 @@ fn read_operation<S: Elements>(
     bits: &mut Bits,
     sink: &mut S,
 ) -> Result<Option<MarkingOperation>, Stop>
-    requires { S.failures sink.old < 2 ^ 64 - 1 }
+    requires { HasRoom S.failures sink.old }
     ensures meets { Meets S.took S.failures (Is (λ x. x)) (operation before.now.items) bits.old bits.new sink.old sink.new result }
     ensures room { IfOk result (λ m. OnSome m (array_vec_len before.now < 36)) }
 {
@@ -137,7 +138,7 @@ fn read_operations<S: Elements>(
     bits: &mut Bits,
     sink: &mut S,
 ) -> Result<ArrayVec<MarkingOperation, 36>, Stop>
-    requires { S.failures sink.old < 2 ^ 64 - 1 }
+    requires { HasRoom S.failures sink.old }
     ensures { Meets S.took S.failures (Is (λ x. x.items)) operations bits.old bits.new sink.old sink.new result }
 {
     let mut operations = ArrayVec::new();
@@ -157,7 +158,7 @@ fn read_idr_marking<S: Elements>(
     bits: &mut Bits,
     sink: &mut S,
 ) -> Result<(), Stop>
-    requires { S.failures sink.old < 2 ^ 64 - 1 }
+    requires { HasRoom S.failures sink.old }
     ensures { Meets S.took S.failures (λ _ m. marking.new ≡ Some m) idr_marking bits.old bits.new sink.old sink.new result }
 {
     let no_output = read_flag(bits, ElementName::NoOutputOfPriorPicsFlag, sink)?;
@@ -180,7 +181,7 @@ fn read_adaptive<S: Elements>(
     bits: &mut Bits,
     sink: &mut S,
 ) -> Result<(), Stop>
-    requires { S.failures sink.old < 2 ^ 64 - 1 }
+    requires { HasRoom S.failures sink.old }
     ensures { Meets S.took S.failures (λ _ m. marking.new ≡ Some (record { bit = bit; value = m }))
         (marking_mode true) bits.old bits.new sink.old sink.new result }
 {
@@ -198,7 +199,7 @@ fn read_other_marking<S: Elements>(
     bits: &mut Bits,
     sink: &mut S,
 ) -> Result<(), Stop>
-    requires { S.failures sink.old < 2 ^ 64 - 1 }
+    requires { HasRoom S.failures sink.old }
     ensures { Meets S.took S.failures (λ _ m. marking.new ≡ Some m) other_marking bits.old bits.new sink.old sink.new result }
 {
     let adaptive = read_flag(bits, ElementName::AdaptiveRefPicMarkingModeFlag, sink)?;
@@ -220,7 +221,7 @@ pub(crate) fn read_marking<S: Elements>(
     bits: &mut Bits,
     sink: &mut S,
 ) -> Result<(), Stop>
-    requires { S.failures sink.old < 2 ^ 64 - 1 }
+    requires { HasRoom S.failures sink.old }
     ensures { Meets S.took S.failures (Is (λ _. marking.new)) (optional reference (dec_ref_pic_marking idr)) bits.old bits.new sink.old sink.new result }
 {
     if !reference {

@@ -2,6 +2,7 @@
 #![tactic(auto)]
 
 ghost use Rattle.std.specs.Prelude.{◌≡◌, ℕ, ◌-◌, ◌<◌, ◌≤◌, ◌^◌, true, IfOk, OnOk, is_some};
+ghost use Rattle.h264_base.specs.Call.{HasRoom};
 ghost use Rattle.h264_base.specs.Meets.{Meets, Is, Answers};
 ghost use Rattle.h264_bits.specs.Forms.{optional, signed};
 ghost use Rattle.h264_header.specs.Layout.{sets_of, IsShort, IsShortCount};
@@ -53,7 +54,7 @@ fn type_of(value: u32) -> SliceType
 
 /// slice_type.
 fn read_stated_type<S: Elements>(bits: &mut Bits, sink: &mut S) -> Result<StatedType, Stop>
-    requires { S.failures sink.old < 2 ^ 64 - 1 }
+    requires { HasRoom S.failures sink.old }
     ensures { Meets S.took S.failures (Is (λ x. x)) stated_type bits.old bits.new sink.old sink.new result }
 {
     let stated = read_ue(bits, ElementName::SliceType, sink)?;
@@ -72,7 +73,7 @@ fn read_named_sets<S: Elements>(
     bits: &mut Bits,
     sink: &mut S,
 ) -> Result<NamedSets, Stop>
-    requires { S.failures sink.old < 2 ^ 64 - 1 }
+    requires { HasRoom S.failures sink.old }
     ensures meets { Meets S.took S.failures (Is (λ x. x)) (named_sets (sets_of sets.now)) bits.old bits.new sink.old sink.new result }
     ensures short { IfOk result (λ n. IsShort n.layout) }
 {
@@ -96,7 +97,7 @@ fn read_idr<S: Elements>(
     bits: &mut Bits,
     sink: &mut S,
 ) -> Result<Option<Found<u32>>, Stop>
-    requires { S.failures sink.old < 2 ^ 64 - 1 }
+    requires { HasRoom S.failures sink.old }
     ensures { Meets S.took S.failures (Is (λ x. x)) (optional idr idr_pic_id) bits.old bits.new sink.old sink.new result }
 {
     if !idr {
@@ -114,7 +115,7 @@ fn read_delta<S: Elements>(
     bits: &mut Bits,
     sink: &mut S,
 ) -> Result<i32, Stop>
-    requires { S.failures sink.old < 2 ^ 64 - 1 }
+    requires { HasRoom S.failures sink.old }
     ensures { Meets S.took S.failures (Is (λ x. x)) (or_0 present (signed name)) bits.old bits.new sink.old sink.new result }
 {
     if !present {
@@ -131,7 +132,7 @@ fn read_pic_order_cnt<S: Elements>(
     sink: &mut S,
 ) -> Result<PicOrderCnt, Stop>
     requires short { IsShortCount count }
-    requires room { S.failures sink.old < 2 ^ 64 - 1 }
+    requires room { HasRoom S.failures sink.old }
     ensures { Meets S.took S.failures (Is (λ x. x)) (pic_order_cnt count has_bottom) bits.old bits.new sink.old sink.new result }
 {
     match count {
@@ -161,7 +162,7 @@ fn read_deblocking<S: Elements>(
     bits: &mut Bits,
     sink: &mut S,
 ) -> Result<Deblocking, Stop>
-    requires { S.failures sink.old < 2 ^ 64 - 1 }
+    requires { HasRoom S.failures sink.old }
     ensures { Meets S.took S.failures (Is (λ x. x)) (deblocking present) bits.old bits.new sink.old sink.new result }
 {
     if !present {
@@ -197,7 +198,7 @@ fn header_from_kind<S: Elements>(
     sink: &mut S,
 ) -> Result<(), Stop>
     requires short { layout.frame_num_length ≤ 16 }
-    requires room { S.failures sink.old < 2 ^ 64 - 1 }
+    requires room { HasRoom S.failures sink.old }
     ensures { Meets S.took S.failures (Is (λ _. header.new)) (header_from_kind header.old unit stated layout) bits.old bits.new sink.old sink.new result }
 {
     header.kind.bit = stated.bit;
@@ -226,7 +227,7 @@ fn header_from_frame_num<S: Elements>(
     sink: &mut S,
 ) -> Result<(), Stop>
     requires short { IsShort layout }
-    requires room { S.failures sink.old < 2 ^ 64 - 1 }
+    requires room { HasRoom S.failures sink.old }
     ensures { Meets S.took S.failures (Is (λ _. header.new)) (header_from_frame_num header.old unit stated layout) bits.old bits.new sink.old sink.new
         result }
 {
@@ -244,7 +245,7 @@ fn header_steps<S: Elements>(
     header: &mut Header,
     sink: &mut S,
 ) -> Result<(), Stop>
-    requires { S.failures sink.old < 2 ^ 64 - 1 }
+    requires { HasRoom S.failures sink.old }
     ensures { Meets S.took S.failures (Is (λ _. header.new)) (header_of (sets_of sets.now) unit) bits.old bits.new sink.old sink.new result }
 {
     header.nal_ref_idc = unit.nal_ref_idc;
@@ -269,7 +270,7 @@ pub fn read_header<S: Elements>(
     header: &mut Header,
     sink: &mut S,
 ) -> Result<(), Stop>
-    requires { S.failures sink.old < 2 ^ 64 - 1 }
+    requires { HasRoom S.failures sink.old }
     ensures answers { Answers S.took S.failures (Is (λ _. header.new)) (header_of (sets_of sets.now) unit) bits.old bits.new sink.old sink.new result }
     ensures meets { Meets S.took S.failures (Is (λ _. header.new)) (header_of (sets_of sets.now) unit) bits.old bits.new sink.old sink.new result }
     ensures id { OnOk result (header.new.pic_parameter_set_id.value ≤ 255) }

@@ -2,6 +2,7 @@
 #![tactic(auto)]
 
 ghost use Rattle.std.specs.Prelude.{◌≡◌, ℕ, ◌+◌, ◌-◌, ◌<◌, ◌≤◌, ◌^◌, Some, [], IfOk, OnSome};
+ghost use Rattle.h264_base.specs.Call.{HasRoom};
 ghost use Rattle.arrayvec.specs.ArrayVec.{array_vec_len};
 ghost use Rattle.h264_base.specs.Meets.{Meets, Is};
 ghost use Rattle.h264_bits.specs.Forms.{optional};
@@ -27,7 +28,7 @@ fn read_active_minus1<S: Elements>(
     bits: &mut Bits,
     sink: &mut S,
 ) -> Result<u32, Stop>
-    requires { S.failures sink.old < 2 ^ 64 - 1 }
+    requires { HasRoom S.failures sink.old }
     ensures meets { Meets S.took S.failures (Is (λ x. x)) (num_ref_idx_l0_active_minus1 default_minus1) bits.old bits.new sink.old sink.new result }
     ensures few { IfOk result (λ n. n ≤ 15) }
 {
@@ -47,7 +48,7 @@ fn read_command<S: Elements>(
     sink: &mut S,
 ) -> Result<Modification, Stop>
     requires known { idc ≤ 2 }
-    requires room { S.failures sink.old < 2 ^ 64 - 1 }
+    requires room { HasRoom S.failures sink.old }
     ensures { Meets S.took S.failures (Is Some) (command greatest idc) bits.old bits.new sink.old sink.new result }
 {
     if idc == 2 {
@@ -85,7 +86,7 @@ fn read_modification<S: Elements>(
     bits: &mut Bits,
     sink: &mut S,
 ) -> Result<Option<PicNumModification>, Stop>
-    requires { S.failures sink.old < 2 ^ 64 - 1 }
+    requires { HasRoom S.failures sink.old }
     ensures meets { Meets S.took S.failures (Is (λ x. x)) (modification greatest active before.now.items) bits.old bits.new sink.old sink.new result }
     ensures room { IfOk result (λ m. OnSome m (array_vec_len before.now < active)) }
 {
@@ -116,7 +117,7 @@ fn read_modifications<S: Elements>(
 ) -> Result<(), Stop>
     requires few { active ≤ 16 }
     requires empty { commands.old.items ≡ [] }
-    requires room { S.failures sink.old < 2 ^ 64 - 1 }
+    requires room { HasRoom S.failures sink.old }
     ensures { Meets S.took S.failures (Is (λ _. commands.new.items))
         (modifications_if greatest active modified) bits.old bits.new sink.old sink.new result }
 {
@@ -150,7 +151,7 @@ fn read_weights<S: Elements>(
     sink: &mut S,
 ) -> Result<(), Stop>
     requires few { active ≤ 16 }
-    requires room { S.failures sink.old < 2 ^ 64 - 1 }
+    requires room { HasRoom S.failures sink.old }
     ensures { Meets S.took S.failures (Is (λ _. table.new)) (optional present (pred_weight_table active)) bits.old bits.new sink.old sink.new result }
 {
     if !present {
@@ -168,7 +169,7 @@ fn read_ref_pic_list0<S: Elements>(
     sink: &mut S,
 ) -> Result<(), Stop>
     requires short { layout.frame_num_length ≤ 16 }
-    requires room { S.failures sink.old < 2 ^ 64 - 1 }
+    requires room { HasRoom S.failures sink.old }
     ensures { Meets S.took S.failures (λ _ l. kind.new ≡ P l) (ref_pic_list0 layout) bits.old bits.new sink.old sink.new result }
 {
     let minus1 = read_active_minus1(layout.default_active_minus1, bits, sink)?;
@@ -196,7 +197,7 @@ pub(crate) fn read_slice_kind<S: Elements>(
     sink: &mut S,
 ) -> Result<(), Stop>
     requires short { layout.frame_num_length ≤ 16 }
-    requires room { S.failures sink.old < 2 ^ 64 - 1 }
+    requires room { HasRoom S.failures sink.old }
     ensures { Meets S.took S.failures (Is (λ _. kind.new)) (slice_kind layout slice_type) bits.old bits.new sink.old sink.new result }
 {
     match slice_type {

@@ -2,6 +2,7 @@
 #![tactic(auto)]
 
 ghost use Rattle.std.specs.Prelude.{◌≡◌, ℕ, ◌-◌, ◌<◌, ◌≤◌, ◌^◌, [], Some, IfOk};
+ghost use Rattle.h264_base.specs.Call.{HasRoom};
 ghost use Rattle.h264_base.specs.Meets.{Meets, Is};
 ghost use Rattle.h264_bits.specs.Forms.{repeated};
 ghost use Rattle.h264_header.specs.PredWeightTable.{stated_weight, inferred_weight, luma_weight, index_weights, pred_weight_table};
@@ -21,7 +22,7 @@ fn read_stated_weight<S: Elements>(
     bits: &mut Bits,
     sink: &mut S,
 ) -> Result<Weight, Stop>
-    requires { S.failures sink.old < 2 ^ 64 - 1 }
+    requires { HasRoom S.failures sink.old }
     ensures { Meets S.took S.failures (Is (λ x. x)) (stated_weight weight_name offset_name log2_weight_denom) bits.old bits.new sink.old sink.new result }
 {
     let weight = se_within(bits, weight_name, -128, 127, sink)?;
@@ -53,7 +54,7 @@ fn read_luma_weight<S: Elements>(
     sink: &mut S,
 ) -> Result<Weight, Stop>
     requires denom { denom ≤ 7 }
-    requires room { S.failures sink.old < 2 ^ 64 - 1 }
+    requires room { HasRoom S.failures sink.old }
     ensures { Meets S.took S.failures (Is (λ x. x)) (luma_weight denom given) bits.old bits.new sink.old sink.new result }
 {
     if !given {
@@ -72,7 +73,7 @@ fn read_index_weights<S: Elements>(
 ) -> Result<IndexWeights, Stop>
     requires luma { luma_denom ≤ 7 }
     requires chroma { chroma_denom ≤ 7 }
-    requires room { S.failures sink.old < 2 ^ 64 - 1 }
+    requires room { HasRoom S.failures sink.old }
     ensures { Meets S.took S.failures (Is (λ x. x)) (index_weights luma_denom chroma_denom) bits.old bits.new sink.old sink.new result }
 {
     let luma_given = flag_value(bits, ElementName::LumaWeightL0Flag, sink)?;
@@ -109,7 +110,7 @@ fn read_entries<S: Elements>(
     requires chroma { chroma_denom ≤ 7 }
     requires few { active ≤ 16 }
     requires empty { entries.old.items ≡ [] }
-    requires room { S.failures sink.old < 2 ^ 64 - 1 }
+    requires room { HasRoom S.failures sink.old }
     ensures { Meets S.took S.failures (Is (λ _. entries.new.items))
         (repeated (index_weights luma_denom chroma_denom) [] active) bits.old bits.new sink.old sink.new result }
 {
@@ -128,7 +129,7 @@ pub(crate) fn read_pred_weight_table<S: Elements>(
     sink: &mut S,
 ) -> Result<(), Stop>
     requires few { active ≤ 16 }
-    requires room { S.failures sink.old < 2 ^ 64 - 1 }
+    requires room { HasRoom S.failures sink.old }
     ensures { Meets S.took S.failures (λ _ t. table.new ≡ Some t) (pred_weight_table active) bits.old bits.new sink.old sink.new result }
 {
     let luma_denom = ue_up_to(bits, ElementName::LumaLog2WeightDenom, 7, sink)? as u8;

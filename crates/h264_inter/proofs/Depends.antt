@@ -1,6 +1,7 @@
 -- Predicted samples depend on the reference picture's samples alone.
 use Rattle.std.proofs.Common.{◌≡◌, ℕ, ◌-◌, ◌<◌, arith, ℤ, pos, ◌+ℤ◌, ◌-ℤ◌}
-use Rattle.h264_inter.specs.Reference.{clip, reference, whole}
+use Rattle.h264_plane.specs.Clip.{clip}
+use Rattle.h264_inter.specs.Reference.{reference, whole}
 use Rattle.h264_inter.specs.Luma.{quarter, predicted_luma}
 use Rattle.h264_inter.specs.Chroma.{eighth, predicted_chroma}
 use Rattle.h264_inter.specs.declared.vector.MotionVector.{MotionVector}

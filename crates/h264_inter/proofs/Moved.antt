@@ -10,7 +10,7 @@ use Rattle.h264_inter.specs.declared.window.Pairs.{Pairs}
 use Rattle.h264_inter.specs.declared.window.Window.{Window}
 use Rattle.h264_inter.specs.declared.window.Windows.{Windows}
 use Rattle.std.specs.Int.{int_shr}
-use Rattle.h264_inter.specs.Reference.{clip1}
+use Rattle.h264_plane.specs.Clip.{clip1}
 use Rattle.h264_inter.proofs.Eight.{sums_lane}
 use Rattle.h264_inter.proofs.Strips.{lower}
 

@@ -10,7 +10,7 @@ use Rattle.h264_inter.proofs.Same.{SameWindow, quarter_same}
 use Rattle.h264_inter.proofs.Eighths.{eighth_same}
 
 -- the samples s from column m and row n on are those of the reference picture p from column `left` and row `top` on
-pub record Shows (p : Samples) (left top : ℤ) (columns rows : ℕ) (s : Samples) (m n : ℕ) : Type 0 where
+pub record ShowsReference (p : Samples) (left top : ℤ) (columns rows : ℕ) (s : Samples) (m n : ℕ) : Type 0 where
   pub each : (u v : ℕ) → u < columns → v < rows → at s (m + u) (n + v) ≡ reference p.width p.height (at p) (left +ℤ pos u) (top +ℤ pos v)
 
 -- a sample inside the picture is that of the reference picture
@@ -31,7 +31,7 @@ component z fits = omega (arith, ints)
 
 -- the picture's own samples
 pub picture_shows : (p : Samples) (left top : ℤ) (columns rows m n : ℕ) → m + columns ≤ p.width → n + rows ≤ p.height → pos m ≡ left → pos n ≡ top →
-    Shows p left top columns rows p m n
+    ShowsReference p left top columns rows p m n
 picture_shows p left top columns rows m n wide tall l t = record {
   each = λ u v q r.
       let column : left +ℤ pos u ≡ pos (m + u) = omega (arith, ints, l) in
@@ -41,7 +41,7 @@ picture_shows p left top columns rows m n wide tall l t = record {
 
 -- those of a copy
 pub copy_shows : (p : Samples) (a b left top : ℤ) (columns rows : ℕ) (area : Samples) → IsCopy p a b columns rows area → a ≡ left → b ≡ top →
-    Shows p left top columns rows area 0 0
+    ShowsReference p left top columns rows area 0 0
 copy_shows p a b left top columns rows area copy l t = record {
   each = λ u v q r.
       let column : 0 + u ≡ u = omega arith in
@@ -62,7 +62,7 @@ whole_is p mv w h x y m n out wide tall l t i j block = record {
 }
 
 -- a window of them
-window_is : (p s : Samples) (a b : ℤ) (w h x y u v m n : ℕ) → Shows p (pos x +ℤ a -ℤ pos 2) (pos y +ℤ b -ℤ pos 2) (w + 5) (h + 5) s m n → u < w → v < h →
+window_is : (p s : Samples) (a b : ℤ) (w h x y u v m n : ℕ) → ShowsReference p (pos x +ℤ a -ℤ pos 2) (pos y +ℤ b -ℤ pos 2) (w + 5) (h + 5) s m n → u < w → v < h →
     SameWindow (λ i j. at s (m + u + i) (n + v + j)) (around p.width p.height (at p) (pos (x + u) +ℤ a) (pos (y + v) +ℤ b))
 window_is p s a b w h x y u v m n shown f g = record {
   each = λ i j q r.
@@ -77,7 +77,7 @@ window_is p s a b w h x y u v m n shown f g = record {
 
 -- a block at the quarter place of its vector
 pub luma_is : (p s : Samples) (mv : MotionVector) (w h x y m n i j : ℕ) (out : List ℕ) →
-    Shows p (pos x +ℤ whole 2 mv.x -ℤ pos 2) (pos y +ℤ whole 2 mv.y -ℤ pos 2) (w + 5) (h + 5) s m n → i ≡ parts 4 mv.x → j ≡ parts 4 mv.y →
+    ShowsReference p (pos x +ℤ whole 2 mv.x -ℤ pos 2) (pos y +ℤ whole 2 mv.y -ℤ pos 2) (w + 5) (h + 5) s m n → i ≡ parts 4 mv.x → j ≡ parts 4 mv.y →
     HasBlock w h out (λ u v. quarter i j (λ a b. at s (m + u + a) (n + v + b))) → HasBlock w h out (λ u v. predicted_luma p.width p.height (at p) mv (x + u) (y + v))
 unfolding predicted_luma
 luma_is p s mv w h x y m n i j out shown across down block = record {
@@ -88,7 +88,7 @@ luma_is p s mv w h x y m n i j out shown across down block = record {
 }
 
 -- a sample of chroma
-chroma_sample_is : (p s : Samples) (a b : ℤ) (w h x y u v m n i j : ℕ) → Shows p (pos x +ℤ a) (pos y +ℤ b) (w + 1) (h + 1) s m n →
+chroma_sample_is : (p s : Samples) (a b : ℤ) (w h x y u v m n i j : ℕ) → ShowsReference p (pos x +ℤ a) (pos y +ℤ b) (w + 1) (h + 1) s m n →
     u < w → v < h → i < 2 → j < 2 → at s (m + u + i) (n + v + j) ≡ around_chroma p.width p.height (at p) (pos (x + u) +ℤ a) (pos (y + v) +ℤ b) i j
 chroma_sample_is p s a b w h x y u v m n i j shown f g q r =
     let from : m + u + i ≡ m + (u + i) = omega arith in
@@ -101,7 +101,7 @@ chroma_sample_is p s a b w h x y u v m n i j shown f g q r =
 
 -- a block at the eighth place of its vector
 pub chroma_is : (p s : Samples) (mv : MotionVector) (w h x y m n i j : ℕ) (out : List ℕ) →
-    Shows p (pos x +ℤ whole 3 mv.x) (pos y +ℤ whole 3 mv.y) (w + 1) (h + 1) s m n → i ≡ parts 8 mv.x → j ≡ parts 8 mv.y →
+    ShowsReference p (pos x +ℤ whole 3 mv.x) (pos y +ℤ whole 3 mv.y) (w + 1) (h + 1) s m n → i ≡ parts 8 mv.x → j ≡ parts 8 mv.y →
     HasBlock w h out (λ u v. eighth i j (λ a b. at s (m + u + a) (n + v + b))) → HasBlock w h out (λ u v. predicted_chroma p.width p.height (at p) mv (x + u) (y + v))
 unfolding predicted_chroma
 chroma_is p s mv w h x y m n i j out shown across down block = record {

@@ -12,7 +12,7 @@ use lib.Lanes.{Each1, zip2, sel_l, top, pick_l, all_below}
 use lib.Signed.{lt_z, shr_z, non_neg}
 use mir.Syntax.{Width}
 use mir.Val.{bits, hbits, Fits}
-use Rattle.h264_inter.specs.Reference.{clip1}
+use Rattle.h264_plane.specs.Clip.{clip1}
 
 -- lane k of a vector of eight has the value z
 pub record Lane (w : Width) (xs : List ℕ) (k : ℕ) (z : ℤ) : Type 0 where

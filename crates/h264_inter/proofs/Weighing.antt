@@ -3,7 +3,7 @@ use Rattle.std.proofs.Common.{◌≡◌, ℕ, zero, suc, ◌+◌, ◌*◌, ◌^�
 use Rattle.std.proofs.lemmas.Int.{to_z-of_z, fits_signed_from_abs}
 use Rattle.std.proofs.lemmas.Nat.{div-mul-add, pow_pos}
 use Rattle.h264_base.specs.declared.weight.Weight.{Weight}
-use Rattle.h264_inter.specs.Reference.{clip1}
+use Rattle.h264_plane.specs.Clip.{clip1}
 use Rattle.h264_inter.specs.Weighted.{scaled, weighted, IsPlain, IsInRange}
 
 -- a sample times 2 ^ d, scaled

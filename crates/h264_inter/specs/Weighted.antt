@@ -2,7 +2,7 @@
 use Rattle.std.specs.Prelude.{◌≡◌, ℕ, zero, suc, ◌+◌, ◌^◌, ◌<◌, ◌≤◌, List, slice_index, ℤ, pos, negsuc, ◌+ℤ◌, ◌*ℤ◌, ◌≤ℤ◌, unsigned_abs}
 use Rattle.std.specs.Int.{int_shr}
 use Rattle.h264_base.specs.declared.weight.Weight.{Weight}
-use Rattle.h264_inter.specs.Reference.{clip1}
+use Rattle.h264_plane.specs.Clip.{clip1}
 
 -- shifted right by logWD bits, rounded where there are any
 abbrev pub scaled : ℕ → ℤ → ℤ

@@ -1,6 +1,6 @@
 ghost use Rattle.std.specs.Prelude.{◌≡◌, ℕ, ◌+◌, ◌*◌, ◌<◌, ◌≤◌, get_or, ℤ, pos, ◌+ℤ◌, ◌-ℤ◌, ◌*ℤ◌, unsigned_abs, FitsSigned};
 ghost use Rattle.std.specs.Int.{w8, int_shr};
-ghost use Rattle.h264_inter.specs.Reference.{clip1};
+ghost use Rattle.h264_plane.specs.Clip.{clip1};
 ghost use Rattle.h264_inter.specs.Rows.{AreSixTaps};
 
 use std::simd::prelude::*;

@@ -2,7 +2,7 @@
 #![tactic(auto)]
 
 ghost use Rattle.std.specs.Prelude.{◌≡◌, ◌↔◌, ◌+◌, ◌^◌, ◌≤◌, length, IsTrue, pos, ◌*ℤ◌, unsigned_abs};
-ghost use Rattle.h264_inter.specs.Reference.{clip1};
+ghost use Rattle.h264_plane.specs.Clip.{clip1};
 ghost use Rattle.h264_inter.specs.Weighted.{weighted as weighted_of, scaled as scaled_of, IsPlain, IsInRange, AreWeighted};
 
 use h264_base::Weight;

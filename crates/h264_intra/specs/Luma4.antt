@@ -1,10 +1,12 @@
 -- Prediction of a 4x4 luma block (8.3.1.2). To be read beside the standard.
-use Rattle.std.specs.Prelude.{◌<◌, ◌≡◌, ℕ, ◌+◌, ◌-◌, ◌*◌, ◌/◌, ◌%◌, ◌≤◌, Bool, true, ◌==◌, ◌&&◌, if◌then◌else◌, nat_lt, List, [], slice_index, unwrap_or, is_some, IsTrue}
+use Rattle.std.specs.Prelude.{◌<◌, ◌≡◌, ℕ, ◌+◌, ◌-◌, ◌*◌, ◌/◌, ◌%◌, ◌≤◌, Bool, true, ◌==◌, ◌&&◌, if◌then◌else◌, nat_lt, List, [], slice_index, unwrap_or}
+use Rattle.std.specs.Prelude.{is_some, IsTrue}
 pub use Rattle.h264_intra.specs.declared.sides.Sides4.{Sides4}
 use Rattle.h264_intra.specs.Filters.{f3, f2, total, mean}
 use Rattle.h264_intra.specs.declared.luma4.Neighbours4.{Neighbours4}
 use Rattle.h264_intra.specs.declared.luma4.Intra4x4PredMode.{Intra4x4PredMode}
-use Rattle.h264_intra.specs.declared.luma4.Intra4x4PredMode.TheVariants.{Vertical, Horizontal, Dc, DiagonalDownLeft, DiagonalDownRight, VerticalRight, HorizontalDown, VerticalLeft, HorizontalUp}
+use Rattle.h264_intra.specs.declared.luma4.Intra4x4PredMode.TheVariants.{Vertical, Horizontal, Dc, DiagonalDownLeft, DiagonalDownRight, VerticalRight}
+use Rattle.h264_intra.specs.declared.luma4.Intra4x4PredMode.TheVariants.{HorizontalDown, VerticalLeft, HorizontalUp}
 
 -- ---- modes by number (table 8-2)
 

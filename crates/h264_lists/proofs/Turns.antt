@@ -29,9 +29,9 @@ without-removes : (is : RefSlot → Bool) (slots : List RefSlot) → without_fir
 without-removes is [] = refl
 without-removes is (slot ∷ slots) = without-turn (is slot) slot slots (without_first is slots) (position_or_len is slots) (without-removes is slots)
 
-remove-behind : {X : Type 0} (xs ys : List X) (j : ℕ) → xs ++ remove ys j ≡ remove (xs ++ ys) (length xs + j)
-remove-behind [] ys j = rw zero-add refl
-remove-behind {X} (x ∷ xs) ys j = let more : suc (length xs) + j ≡ suc (length xs + j) = omega arith in rw more (ap (λ (l : List X). x ∷ l) (remove-behind xs ys j))
+remove-after : {X : Type 0} (xs ys : List X) (j : ℕ) → xs ++ remove ys j ≡ remove (xs ++ ys) (length xs + j)
+remove-after [] ys j = rw zero-add refl
+remove-after {X} (x ∷ xs) ys j = let more : suc (length xs) + j ≡ suc (length xs + j) = omega arith in rw more (ap (λ (l : List X). x ∷ l) (remove-after xs ys j))
 
 length-remove : {X : Type 0} (xs : List X) (i : ℕ) → i < length xs → length (remove xs i) ≡ length xs - 1
 length-remove {X} xs i h =
@@ -44,7 +44,7 @@ remove-at : (is : RefSlot → Bool) (slots : List RefSlot) (k : ℕ) → k ≤ l
 remove-at is slots k h =
     let begun : length (take k slots) ≡ k = (let t = length-take k slots in omega arith) in
     let whole = take-append-drop k slots in
-    ap (λ (x : List RefSlot). take k slots ++ x) (without-removes is (drop k slots)) ∙ rw (begun, whole) at (remove-behind (take k slots) (drop k slots) (position_or_len is (drop k slots)))
+    ap (λ (x : List RefSlot). take k slots ++ x) (without-removes is (drop k slots)) ∙ rw (begun, whole) at (remove-after (take k slots) (drop k slots) (position_or_len is (drop k slots)))
 
 -- the frame leaves a place at or after k
 pub leaves-its : (is : RefSlot → Bool) (slots : List RefSlot) (k j : ℕ) → k < length slots → position is (drop k slots) ≡ Some j → (k + j < length slots) × (take (length slots - 1) (take k slots ++ without_first is (drop k slots)) ≡ remove slots (k + j))
@@ -83,8 +83,8 @@ put-in named f slots left new k h e n =
     n ∙ sym (ap (λ (l : List RefSlot). insert l k (Held f)) e) ∙ sym put
 
 -- at or after the list's length nothing changes
-pub put-behind : (named : ReferenceFrame → Bool) (f : ReferenceFrame) (slots : List RefSlot) (k : ℕ) → length slots ≤ k → slots ≡ put_at (length slots) k named f slots
-put-behind named f slots k h =
+pub put-after : (named : ReferenceFrame → Bool) (f : ReferenceFrame) (slots : List RefSlot) (k : ℕ) → length slots ≤ k → slots ≡ put_at (length slots) k named f slots
+put-after named f slots k h =
     let all = take_all k slots h in
     let len = ap length all in
     let e = take-append-le (length slots) (take k slots) (Held f ∷ without_first (is_in named) (drop k slots)) (omega arith) in

@@ -1,5 +1,6 @@
 -- Modification of a reference picture list (8.2.4.3). To be read beside the standard.
-use Rattle.std.specs.Prelude.{ℕ, ℤ, pos, neg_ℤ, ◌+◌, ◌*◌, ◌^◌, ◌≤ℤ◌, ◌+ℤ◌, ◌-ℤ◌, int_lt, int_le, Bool, false, Option, Some, None, Result, Ok, Err, List, [], ◌∷◌, ◌++◌, take, drop, if◌then◌else◌}
+use Rattle.std.specs.Prelude.{ℕ, ℤ, pos, neg_ℤ, ◌+◌, ◌*◌, ◌^◌, ◌≤ℤ◌, ◌+ℤ◌, ◌-ℤ◌, int_lt, int_le, Bool, false, Option, Some, None, Result, Ok, Err, List, []}
+use Rattle.std.specs.Prelude.{◌∷◌, ◌++◌, take, drop, if◌then◌else◌}
 use Rattle.std.specs.List.{find}
 use Rattle.h264_header.specs.declared.header.Modification.{Modification}
 use Rattle.h264_header.specs.declared.header.Modification.TheVariants.{Subtract, Add, LongTerm}
@@ -65,4 +66,5 @@ unfoldable pub modified : Numbering → ℕ → List ReferenceFrame → ℕ → 
 modified current places frames k pred [] slots = Ok slots
 modified current places frames k pred (m ∷ ms) slots =
     go_on (find (is_named current (pred_after current pred m.modification) m.modification) frames) m.bit
-    (λ f. modified current places frames (k + 1) (pred_after current pred m.modification) ms (put_at places k (is_named current (pred_after current pred m.modification) m.modification) f slots))
+    (λ f. modified current places frames (k + 1) (pred_after current pred m.modification) ms
+    (put_at places k (is_named current (pred_after current pred m.modification) m.modification) f slots))

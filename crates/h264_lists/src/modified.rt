@@ -142,7 +142,7 @@ fn left_place(
         (drop k slots.now)) ≡ remove slots.now result }
 {
     match occurrence(current, no_wrap, modification, &slots[k..]) {
-        Some(behind) => k + behind,
+        Some(following) => k + following,
         None => slots.len() - 1,
     }
 }

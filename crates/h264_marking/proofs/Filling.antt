@@ -10,13 +10,13 @@ use Rattle.h264_marking.specs.Window.{filled}
 use Rattle.h264_marking.specs.Gaps.{numbers_from, last_or, all_filled}
 
 -- the missing numbers after this one
-abbrev numbers_behind : ℕ → ℕ → ℕ → List ℕ
-numbers_behind count number max_frame_num = numbers_from count ((number + 1) % max_frame_num) max_frame_num
+abbrev numbers_after : ℕ → ℕ → ℕ → List ℕ
+numbers_after count number max_frame_num = numbers_from count ((number + 1) % max_frame_num) max_frame_num
 
 -- So many of the missing numbers have been filled; the rest is still to come.
 pub record Filled (n : Numbering) (count prev : ℕ) (held : References) (turn last : ℕ) (now : References) : Type 0 where
-  pub frames : all_filled n (numbers_behind count prev n.max_frame_num) held ≡ all_filled n (numbers_behind (count - turn) last n.max_frame_num) now
-  pub number : last_or prev (numbers_behind count prev n.max_frame_num) ≡ last_or last (numbers_behind (count - turn) last n.max_frame_num)
+  pub frames : all_filled n (numbers_after count prev n.max_frame_num) held ≡ all_filled n (numbers_after (count - turn) last n.max_frame_num) now
+  pub number : last_or prev (numbers_after count prev n.max_frame_num) ≡ last_or last (numbers_after (count - turn) last n.max_frame_num)
 
 -- what filling one answers
 pub filled-some : (o : Option References) (old new : References) (x : Unit {0}) (e : Stop) → Ok x ≡ (if is_some o then Ok tt else Err e) → new ≡ unwrap_or o old → o ≡ Some new
@@ -31,21 +31,21 @@ pub filled-first : (n : Numbering) (count prev : ℕ) (held : References) → Fi
 filled-first n count prev held =
     let e : count - 0 ≡ count = omega arith in
     record {
-      frames = ap (λ k. all_filled n (numbers_behind k prev n.max_frame_num) held) (sym e);
-      number = ap (λ k. last_or prev (numbers_behind k prev n.max_frame_num)) (sym e);
+      frames = ap (λ k. all_filled n (numbers_after k prev n.max_frame_num) held) (sym e);
+      number = ap (λ k. last_or prev (numbers_after k prev n.max_frame_num)) (sym e);
     }
 
 -- one more number
-numbers-step : (k count number max_frame_num : ℕ) → count ≡ suc k → numbers_behind count number max_frame_num ≡ (number + 1) % max_frame_num ∷ numbers_behind k ((number + 1) % max_frame_num) max_frame_num
-numbers-step k count number max_frame_num e = ap (λ c. numbers_behind c number max_frame_num) e
+numbers-step : (k count number max_frame_num : ℕ) → count ≡ suc k → numbers_after count number max_frame_num ≡ (number + 1) % max_frame_num ∷ numbers_after k ((number + 1) % max_frame_num) max_frame_num
+numbers-step k count number max_frame_num e = ap (λ c. numbers_after c number max_frame_num) e
 
-step : (n : Numbering) (left k last : ℕ) (now next : References) → left ≡ suc k → filled (record n { frame_num = (last + 1) % n.max_frame_num }) now ≡ Some next → all_filled n (numbers_behind left last n.max_frame_num) now ≡ all_filled n (numbers_behind k ((last + 1) % n.max_frame_num) n.max_frame_num) next
-step n left k last now next e f = ap (λ l. all_filled n l now) (numbers-step k left last n.max_frame_num e) ∙ ap (option_and_then (all_filled n (numbers_behind k ((last + 1) % n.max_frame_num) n.max_frame_num))) f
+step : (n : Numbering) (left k last : ℕ) (now next : References) → left ≡ suc k → filled (record n { frame_num = (last + 1) % n.max_frame_num }) now ≡ Some next → all_filled n (numbers_after left last n.max_frame_num) now ≡ all_filled n (numbers_after k ((last + 1) % n.max_frame_num) n.max_frame_num) next
+step n left k last now next e f = ap (λ l. all_filled n l now) (numbers-step k left last n.max_frame_num e) ∙ ap (option_and_then (all_filled n (numbers_after k ((last + 1) % n.max_frame_num) n.max_frame_num))) f
 
-step-none : (n : Numbering) (left k last : ℕ) (now : References) → left ≡ suc k → filled (record n { frame_num = (last + 1) % n.max_frame_num }) now ≡ None → all_filled n (numbers_behind left last n.max_frame_num) now ≡ None
-step-none n left k last now e f = ap (λ l. all_filled n l now) (numbers-step k left last n.max_frame_num e) ∙ ap (option_and_then (all_filled n (numbers_behind k ((last + 1) % n.max_frame_num) n.max_frame_num))) f
+step-none : (n : Numbering) (left k last : ℕ) (now : References) → left ≡ suc k → filled (record n { frame_num = (last + 1) % n.max_frame_num }) now ≡ None → all_filled n (numbers_after left last n.max_frame_num) now ≡ None
+step-none n left k last now e f = ap (λ l. all_filled n l now) (numbers-step k left last n.max_frame_num e) ∙ ap (option_and_then (all_filled n (numbers_after k ((last + 1) % n.max_frame_num) n.max_frame_num))) f
 
-left-is : (count turn : ℕ) → turn < count → count - turn ≡ suc (count - (turn + 1))
+pub left-is : (count turn : ℕ) → turn < count → count - turn ≡ suc (count - (turn + 1))
 left-is count turn h = omega arith
 
 pub filled-next : (n : Numbering) (count prev : ℕ) (held : References) (turn last : ℕ) (now next : References) (x : Unit {0}) (bit : ℕ) → Filled n count prev held turn last now → turn < count → Ok x ≡ (if is_some (filled (record n { frame_num = (last + 1) % n.max_frame_num }) now) then Ok tt else Err (No bit FrameNum)) → next ≡ unwrap_or (filled (record n { frame_num = (last + 1) % n.max_frame_num }) now) now → Filled n count prev held (turn + 1) ((last + 1) % n.max_frame_num) next
@@ -64,6 +64,6 @@ none-left count = omega arith
 
 pub filled-last : (n : Numbering) (count prev : ℕ) (held : References) (last : ℕ) (now : References) → Filled n count prev held count last now → (all_filled n (numbers_from count ((prev + 1) % n.max_frame_num) n.max_frame_num) held ≡ Some now) × (last ≡ last_or prev (numbers_from count ((prev + 1) % n.max_frame_num) n.max_frame_num))
 filled-last n count prev held last now f = (
-  f.frames ∙ ap (λ k. all_filled n (numbers_behind k last n.max_frame_num) now) (none-left count),
-  sym (f.number ∙ ap (λ k. last_or last (numbers_behind k last n.max_frame_num)) (none-left count)),
+  f.frames ∙ ap (λ k. all_filled n (numbers_after k last n.max_frame_num) now) (none-left count),
+  sym (f.number ∙ ap (λ k. last_or last (numbers_after k last n.max_frame_num)) (none-left count)),
 )

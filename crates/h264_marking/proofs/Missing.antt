@@ -9,15 +9,15 @@ use Rattle.h264_marking.specs.Unused.{Succeed, Avoid, IsGap}
 
 -- the number after another
 module _ (m : ℕ) where
-  abbrev Behind : ℕ → Type 0
-  Behind q = (((q + 1) % m ≡ q + 1) × (q + 1 < m)) ⊎ (((q + 1) % m ≡ 0) × (q + 1 ≡ m))
+  abbrev Following : ℕ → Type 0
+  Following q = (((q + 1) % m ≡ q + 1) × (q + 1 < m)) ⊎ (((q + 1) % m ≡ 0) × (q + 1 ≡ m))
 
-  behind-by : (q : ℕ) → (q + 1 ≡ m) ⊎ (q + 1 < m) → Behind q
-  behind-by q (inl e) = inr (ap (λ x. x % m) e ∙ mod_self m, e)
-  behind-by q (inr l) = inl (mod-eq_of_lt l, l)
+  after-by : (q : ℕ) → (q + 1 ≡ m) ⊎ (q + 1 < m) → Following q
+  after-by q (inl e) = inr (ap (λ x. x % m) e ∙ mod_self m, e)
+  after-by q (inr l) = inl (mod-eq_of_lt l, l)
 
-  behind : (q : ℕ) → q < m → Behind q
-  behind q h = behind-by q (eq-or-lt_of_le (le q h))
+  following : (q : ℕ) → q < m → Following q
+  following q h = after-by q (eq-or-lt_of_le (le q h))
     where
       le : (q : ℕ) → q < m → q + 1 ≤ m
       le q h = omega (arith, h)
@@ -30,7 +30,7 @@ module _ (m : ℕ) where
       pub from : (q ≡ p + i) ⊎ (q + m ≡ p + i)
       pub to : (q + k + 1 ≡ f) ⊎ (q + k + 1 ≡ f + m)
 
-    step-by : (q i k : ℕ) → Stands q i (suc k) → Behind q → Stands ((q + 1) % m) (suc i) k
+    step-by : (q i k : ℕ) → Stands q i (suc k) → Following q → Stands ((q + 1) % m) (suc i) k
     step-by q i k s (inl b) = subst (λ x. Stands x (suc i) k) (sym b.0) (record { within = b.1; few = few-on i k s.few; from = from-on s.from; to = to-on s.to })
       where
         few-on : (i k : ℕ) → i + suc k + 1 < m + 1 → suc i + k + 1 < m + 1
@@ -57,7 +57,7 @@ module _ (m : ℕ) where
         to-on (inr e) = inl (let c : q + 1 ≡ m = b.1 in omega (arith, e, c))
 
     step : (q i k : ℕ) → Stands q i (suc k) → Stands ((q + 1) % m) (suc i) k
-    step q i k s = step-by q i k s (behind q s.within)
+    step q i k s = step-by q i k s (following q s.within)
 
     not-p : (q i k : ℕ) → Stands q (suc i) k → q ≢ p
     not-p q i k s e = by s.from
@@ -82,9 +82,9 @@ module _ (m : ℕ) where
     avoids q i (suc k) s = let t = step q i k s in (not-p ((q + 1) % m) i k t, not-f ((q + 1) % m) i k t, avoids ((q + 1) % m) (suc i) k t)
 
     ends : (q i k : ℕ) → Stands q i k → f ≡ (last_or q (numbers_from k ((q + 1) % m) m) + 1) % m
-    ends q i zero s = by (behind q s.within) s.to
+    ends q i zero s = by (following q s.within) s.to
       where
-        by : Behind q → (q + 0 + 1 ≡ f) ⊎ (q + 0 + 1 ≡ f + m) → f ≡ (q + 1) % m
+        by : Following q → (q + 0 + 1 ≡ f) ⊎ (q + 0 + 1 ≡ f + m) → f ≡ (q + 1) % m
         by (inl b) (inl d) = let e : f ≡ q + 1 = omega (arith, d) in e ∙ sym b.0
         by (inl b) (inr d) = absurd (let l : q + 1 < m = b.1 in omega (arith, d, l))
         by (inr b) (inl d) = absurd (let c : q + 1 ≡ m = b.1 in omega (arith, d, c, f-in))

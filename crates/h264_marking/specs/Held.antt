@@ -25,7 +25,10 @@ own_frame current picture marks = record { picture = Some picture; frame_num = i
 -- it joins the others, if a place is left
 abbrev pub with_own : Numbering → ℕ → Marks → Option References
 with_own current picture marks =
-    if nat_lt (length marks.held.frames) (frame_places current.max_num_ref_frames) then Some (record marks.held { frames = marks.held.frames ++ own_frame current picture marks ∷ [] })
+    if nat_lt (length marks.held.frames) (frame_places current.max_num_ref_frames) then Some (record marks.held {
+      frames = marks.held.frames
+          ++ own_frame current picture marks ∷ [];
+    })
     else None
 
 -- an IDR picture: its frame alone is held

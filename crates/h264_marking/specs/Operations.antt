@@ -1,8 +1,10 @@
 -- Memory management control operations (8.2.5.4). To be read beside the standard.
-use Rattle.std.specs.Prelude.{ℕ, ℤ, pos, ◌+◌, ◌-ℤ◌, nat_lt, nat_le, ◌&&◌, not, Bool, true, false, Option, Some, None, Result, Ok, Err, List, [], ◌∷◌, map, if◌then◌else◌}
+use Rattle.std.specs.Prelude.{ℕ, ℤ, pos, ◌+◌, ◌-ℤ◌, nat_lt, nat_le, ◌&&◌, not, Bool, true, false, Option, Some, None, Result, Ok, Err, List, [], ◌∷◌, map}
+use Rattle.std.specs.Prelude.{if◌then◌else◌}
 use Rattle.std.specs.List.{filter, list_any}
 use Rattle.h264_header.specs.declared.header.Operation.{Operation}
-use Rattle.h264_header.specs.declared.header.Operation.TheVariants.{UnmarkShortTerm, UnmarkLongTerm, MakeLongTerm, LimitLongTerm, UnmarkAll, MakeCurrentLongTerm}
+use Rattle.h264_header.specs.declared.header.Operation.TheVariants.{UnmarkShortTerm, UnmarkLongTerm, MakeLongTerm, LimitLongTerm, UnmarkAll}
+use Rattle.h264_header.specs.declared.header.Operation.TheVariants.{MakeCurrentLongTerm}
 use Rattle.h264_header.specs.declared.header.MarkingOperation.{MarkingOperation}
 use Rattle.h264_marking.specs.declared.frame.Term.{Term}
 use Rattle.h264_marking.specs.declared.frame.Term.TheVariants.{Short, Long}
@@ -67,17 +69,25 @@ make_long current number index marks =
 abbrev pub limit_long : Numbering → ℕ → Marks → Option Marks
 limit_long current limit marks =
     if nat_le limit current.max_num_ref_frames && is_below limit (long_term_num marks.current) then
-    Some (record marks { held = record { frames = filter (λ f. is_below limit (long_term_num f.term)) marks.held.frames; max_long_term_frame_idx_plus1 = limit } })
+    Some (record marks {
+      held = record {
+        frames = filter (λ f. is_below limit (long_term_num f.term)) marks.held.frames;
+        max_long_term_frame_idx_plus1 = limit;
+      };
+    })
     else None
 
 -- 5: all frames become unused, and there are no indices; it does not come once the picture's own frame has one
 abbrev pub unmark_all : Marks → Option Marks
-unmark_all marks = if is_short marks.current then Some (record { held = record { frames = []; max_long_term_frame_idx_plus1 = 0 }; current = Short; resets = true }) else None
+unmark_all marks =
+    if is_short marks.current then Some (record { held = record { frames = []; max_long_term_frame_idx_plus1 = 0 }; current = Short; resets = true })
+    else None
 
 -- 6: the picture's own frame gets the index, and another that has it becomes unused
 abbrev pub make_current_long : ℕ → Marks → Option Marks
 make_current_long index marks =
-    if nat_lt index marks.held.max_long_term_frame_idx_plus1 then Some (record marks { held = record marks.held { frames = without_index index marks.held.frames }; current = Long index })
+    if nat_lt index marks.held.max_long_term_frame_idx_plus1 then
+    Some (record marks { held = record marks.held { frames = without_index index marks.held.frames }; current = Long index })
     else None
 
 -- One operation, if it can be met.

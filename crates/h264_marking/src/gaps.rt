@@ -22,8 +22,8 @@ pub fn gap_before(idr: bool, prev: u32, numbering: &Numbering) -> u32
         return 0;
     }
     let max = numbering.max_frame_num as u64;
-    let behind = prev as u64 + 1;
-    ((numbering.frame_num as u64 + max).saturating_sub(behind) % max) as u32
+    let following = prev as u64 + 1;
+    ((numbering.frame_num as u64 + max).saturating_sub(following) % max) as u32
 }
 
 /// The number after this one.

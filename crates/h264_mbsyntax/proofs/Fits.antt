@@ -48,20 +48,20 @@ module _ (limit : ℕ) (old : List (Option Motion)) (p : Part) (m : Motion) wher
   abbrev free : ℕ → Bool
   free n = not (is_inside p n && is_some (get_or old n None))
 
-  abbrev behind : ℕ → Bool
-  behind n = motion_fits limit (in_part p n m (get_or old n None))
+  abbrev following : ℕ → Bool
+  following n = motion_fits limit (in_part p n m (get_or old n None))
 
   at-free : (o : Option Motion) → not (true && is_some o) ≡ true → motion_fits limit o ≡ true
   at-free None e = refl
   at-free (Some x) e = absurd (cc)
 
-  one-more : (ns : List ℕ) → list_all free ns ≡ true → list_all behind ns ≡ (list_all before ns && (not (list_any (is_inside p) ns) || motion_fits limit (Some m)))
+  one-more : (ns : List ℕ) → list_all free ns ≡ true → list_all following ns ≡ (list_all before ns && (not (list_any (is_inside p) ns) || motion_fits limit (Some m)))
   one-more [] e = refl
   one-more (n ∷ ns) e =
       let b = both (free n) (list_all free ns) e in
       go (is_inside p n) refl (get_or old n None) b.0 (one-more ns b.1)
     where
-      go : (t : Bool) → is_inside p n ≡ t → (o : Option Motion) → not (is_inside p n && is_some o) ≡ true → list_all behind ns ≡ (list_all before ns && (not (list_any (is_inside p) ns) || motion_fits limit (Some m))) → (motion_fits limit (in_part p n m o) && list_all behind ns) ≡ ((motion_fits limit o && list_all before ns) && (not (is_inside p n || list_any (is_inside p) ns) || motion_fits limit (Some m)))
+      go : (t : Bool) → is_inside p n ≡ t → (o : Option Motion) → not (is_inside p n && is_some o) ≡ true → list_all following ns ≡ (list_all before ns && (not (list_any (is_inside p) ns) || motion_fits limit (Some m))) → (motion_fits limit (in_part p n m o) && list_all following ns) ≡ ((motion_fits limit o && list_all before ns) && (not (is_inside p n || list_any (is_inside p) ns) || motion_fits limit (Some m)))
       go true i o f h = let k = rw i at f in rw (i, at-free o k, h) (inside (motion_fits limit (Some m)) (list_all before ns) (list_any (is_inside p) ns))
       go false i o f h = rw (i, h) (outside (motion_fits limit o) (list_all before ns) _)
 

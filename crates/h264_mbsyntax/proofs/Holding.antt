@@ -7,12 +7,12 @@ use Rattle.h264_cavlc.specs.Block.{Block}
 use Rattle.h264_near.specs.declared.motion.Motion.{Motion}
 use Rattle.h264_near.specs.declared.context.Contexts.{Contexts}
 use Rattle.h264_near.specs.Coded.{CodedMacroblock, Intra4x4, Intra16x16, Inter}
-use Rattle.h264_near.specs.Keeps.{Shows}
+use Rattle.h264_near.specs.Keeps.{AreContexts}
 use Rattle.h264_mbsyntax.specs.declared.macroblock.Kind.TheVariants as kind
 use Rattle.h264_mbsyntax.specs.declared.macroblock.Macroblock.{Macroblock}
 use Rattle.h264_mbsyntax.specs.Residual.{Coefficients, coefficients, no_block, no_coefficients, no_chroma}
 use Rattle.h264_mbsyntax.specs.Stored.{StoredCoefficients, StoredCoefficients16}
-use Rattle.h264_mbsyntax.specs.Holds.{Holds}
+use Rattle.h264_mbsyntax.specs.Holds.{HoldsMacroblock}
 use Rattle.h264_base.specs.declared.mode.SliceType.{SliceType}
 use Rattle.h264_base.specs.declared.mode.SliceType.TheVariants as slice_type
 use Rattle.h264_base.specs.declared.stop.Stop.{Stop}
@@ -63,7 +63,7 @@ with-pattern table width picture slice qp f m = m
 pub no-motion : (motions : List (Option Motion)) (n : ℕ) → motions ≡ replicate 16 None → n < 16 → ◌≡◌ {A = Option (Option Motion)} (Some None) (Some (get_or motions n None))
 no-motion motions n e h = rw e (ap Some (sym (get_or-replicate 16 n None None h)))
 
-pub holds-intra4x4 : (mb : Macroblock) (slice chroma : ℕ) (modes : List ℕ) (c : Coefficients) → mb.kind ≡ kind.Intra4x4 → mb.contexts.modes ≡ modes → mb.chroma_mode ≡ chroma → mb.contexts.slice ≡ slice → mb.contexts.intra ≡ true → mb.contexts.qp ≡ mb.qp → mb.contexts.motions ≡ replicate 16 None → mb.residual.luma_dc_total ≡ 0 → length mb.contexts.totals ≡ 16 → length mb.contexts.chroma_totals ≡ 8 → length modes ≡ 16 → StoredCoefficients mb.qp mb.contexts.totals mb.residual.luma mb.contexts.chroma_totals mb.residual.chroma_ac mb.residual.chroma_dc_totals mb.residual.chroma_dc c → Holds mb (coded slice (Intra4x4 modes chroma) c)
+pub holds-intra4x4 : (mb : Macroblock) (slice chroma : ℕ) (modes : List ℕ) (c : Coefficients) → mb.kind ≡ kind.Intra4x4 → mb.contexts.modes ≡ modes → mb.chroma_mode ≡ chroma → mb.contexts.slice ≡ slice → mb.contexts.intra ≡ true → mb.contexts.qp ≡ mb.qp → mb.contexts.motions ≡ replicate 16 None → mb.residual.luma_dc_total ≡ 0 → length mb.contexts.totals ≡ 16 → length mb.contexts.chroma_totals ≡ 8 → length modes ≡ 16 → StoredCoefficients mb.qp mb.contexts.totals mb.residual.luma mb.contexts.chroma_totals mb.residual.chroma_ac mb.residual.chroma_dc_totals mb.residual.chroma_dc c → HoldsMacroblock mb (coded slice (Intra4x4 modes chroma) c)
 unfolding coded no_block
 holds-intra4x4 mb slice chroma modes c ek em ec es ei eq ev ed nt nc nm s = record {
   contexts = record {
@@ -81,7 +81,7 @@ holds-intra4x4 mb slice chroma modes c ek em ec es ei eq ev ed nt nc nm s = reco
   chroma = rw ek (record { each = s.chroma.dc.each }, record { each = s.chroma.ac.each });
 }
 
-pub holds-intra16x16 : (mb : Macroblock) (slice chroma mode : ℕ) (c : Coefficients) → mb.kind ≡ kind.Intra16x16 mode → mb.contexts.modes ≡ replicate 16 2 → mb.chroma_mode ≡ chroma → mb.contexts.slice ≡ slice → mb.contexts.intra ≡ true → mb.contexts.qp ≡ mb.qp → mb.contexts.motions ≡ replicate 16 None → length mb.contexts.totals ≡ 16 → length mb.contexts.chroma_totals ≡ 8 → StoredCoefficients16 mb.qp mb.residual.luma_dc_total mb.residual.luma_dc mb.contexts.totals mb.residual.luma_ac mb.contexts.chroma_totals mb.residual.chroma_ac mb.residual.chroma_dc_totals mb.residual.chroma_dc c → Holds mb (coded slice (Intra16x16 mode chroma) c)
+pub holds-intra16x16 : (mb : Macroblock) (slice chroma mode : ℕ) (c : Coefficients) → mb.kind ≡ kind.Intra16x16 mode → mb.contexts.modes ≡ replicate 16 2 → mb.chroma_mode ≡ chroma → mb.contexts.slice ≡ slice → mb.contexts.intra ≡ true → mb.contexts.qp ≡ mb.qp → mb.contexts.motions ≡ replicate 16 None → length mb.contexts.totals ≡ 16 → length mb.contexts.chroma_totals ≡ 8 → StoredCoefficients16 mb.qp mb.residual.luma_dc_total mb.residual.luma_dc mb.contexts.totals mb.residual.luma_ac mb.contexts.chroma_totals mb.residual.chroma_ac mb.residual.chroma_dc_totals mb.residual.chroma_dc c → HoldsMacroblock mb (coded slice (Intra16x16 mode chroma) c)
 unfolding coded
 holds-intra16x16 mb slice chroma mode c ek em ec es ei eq ev nt nc s = record {
   contexts = record {
@@ -99,7 +99,7 @@ holds-intra16x16 mb slice chroma mode c ek em ec es ei eq ev nt nc s = record {
   chroma = rw ek (record { each = s.chroma.dc.each }, record { each = s.chroma.ac.each });
 }
 
-pub holds-pcm : (mb : Macroblock) (slice : ℕ) (samples : List ℕ) → mb.kind ≡ kind.Pcm → mb.pcm ≡ samples → mb.contexts.slice ≡ slice → mb.contexts.intra ≡ true → mb.contexts.qp ≡ 0 → mb.contexts.totals ≡ replicate 16 16 → mb.contexts.chroma_totals ≡ replicate 8 16 → mb.contexts.modes ≡ replicate 16 2 → mb.contexts.motions ≡ replicate 16 None → Holds mb (pcm_of slice mb.qp samples)
+pub holds-pcm : (mb : Macroblock) (slice : ℕ) (samples : List ℕ) → mb.kind ≡ kind.Pcm → mb.pcm ≡ samples → mb.contexts.slice ≡ slice → mb.contexts.intra ≡ true → mb.contexts.qp ≡ 0 → mb.contexts.totals ≡ replicate 16 16 → mb.contexts.chroma_totals ≡ replicate 8 16 → mb.contexts.modes ≡ replicate 16 2 → mb.contexts.motions ≡ replicate 16 None → HoldsMacroblock mb (pcm_of slice mb.qp samples)
 unfolding pcm_of
 holds-pcm mb slice samples ek ep es ei eq et ec em ev = record {
   contexts = record {
@@ -145,7 +145,7 @@ some-at (Some x) e = refl
 pub all-derived : (motions : List (Option Motion)) (n : ℕ) → map is_some motions ≡ replicate 16 true → n < 16 → option_map (λ x. Some x) (get_or motions n None) ≡ Some (get_or motions n None)
 all-derived motions n e h = some-at (get_or motions n None) (sym (math.get_or-map is_some motions n None) ∙ (ap (λ l. get_or l n false) e ∙ get_or-replicate 16 n true false h))
 
-pub holds-inter : (mb : Macroblock) (slice : ℕ) (d : Derived) (within parted : Bool) (c : Coefficients) → mb.kind ≡ kind.Inter parted → (IsTrue parted → AreAlike mb.contexts.motions) → Agrees within mb.contexts.motions (replicate 16 true) d → within ≡ true → mb.contexts.modes ≡ replicate 16 2 → mb.contexts.slice ≡ slice → mb.contexts.intra ≡ false → mb.contexts.qp ≡ mb.qp → mb.residual.luma_dc_total ≡ 0 → length mb.contexts.totals ≡ 16 → length mb.contexts.chroma_totals ≡ 8 → StoredCoefficients mb.qp mb.contexts.totals mb.residual.luma mb.contexts.chroma_totals mb.residual.chroma_ac mb.residual.chroma_dc_totals mb.residual.chroma_dc c → Holds mb (coded slice (Inter d.motions) c)
+pub holds-inter : (mb : Macroblock) (slice : ℕ) (d : Derived) (within parted : Bool) (c : Coefficients) → mb.kind ≡ kind.Inter parted → (IsTrue parted → AreAlike mb.contexts.motions) → Agrees within mb.contexts.motions (replicate 16 true) d → within ≡ true → mb.contexts.modes ≡ replicate 16 2 → mb.contexts.slice ≡ slice → mb.contexts.intra ≡ false → mb.contexts.qp ≡ mb.qp → mb.residual.luma_dc_total ≡ 0 → length mb.contexts.totals ≡ 16 → length mb.contexts.chroma_totals ≡ 8 → StoredCoefficients mb.qp mb.contexts.totals mb.residual.luma mb.contexts.chroma_totals mb.residual.chroma_ac mb.residual.chroma_dc_totals mb.residual.chroma_dc c → HoldsMacroblock mb (coded slice (Inter d.motions) c)
 unfolding coded no_block
 holds-inter mb slice d within parted c ek one a w em es ei eq ed nt nc s = record {
   contexts = record {
@@ -164,7 +164,7 @@ holds-inter mb slice d within parted c ek one a w em es ei eq ed nt nc s = recor
 }
 
 -- a skipped macroblock
-pub shows-skipped : (c : Contexts) (slice qp : ℕ) (m : Motion) → c.motions ≡ replicate 16 (Some m) → c.modes ≡ replicate 16 2 → c.slice ≡ slice → c.intra ≡ false → c.qp ≡ qp → c.totals ≡ replicate 16 0 → c.chroma_totals ≡ replicate 8 0 → Shows c (coded slice (Inter (replicate 16 (Some m))) (no_coefficients qp))
+pub shows-skipped : (c : Contexts) (slice qp : ℕ) (m : Motion) → c.motions ≡ replicate 16 (Some m) → c.modes ≡ replicate 16 2 → c.slice ≡ slice → c.intra ≡ false → c.qp ≡ qp → c.totals ≡ replicate 16 0 → c.chroma_totals ≡ replicate 8 0 → AreContexts c (coded slice (Inter (replicate 16 (Some m))) (no_coefficients qp))
 unfolding coded no_coefficients no_chroma no_block
 shows-skipped c slice qp m ev em es ei eq et ec = record {
   slice = sym es;
@@ -176,7 +176,7 @@ shows-skipped c slice qp m ev em es ei eq et ec = record {
   motions = λ n h. rw ev (all-derived (replicate 16 (Some m)) n refl h);
 }
 
-pub holds-skipped : (mb : Macroblock) (slice : SliceContext) (picture : List CodedMacroblock) (v : Vector) → mb.kind ≡ kind.Inter true → mb.contexts.motions ≡ replicate 16 (Some (motion_of slice 0 v)) → mb.contexts.modes ≡ replicate 16 2 → mb.contexts.slice ≡ slice.number → mb.contexts.intra ≡ false → mb.contexts.qp ≡ mb.qp → mb.contexts.totals ≡ replicate 16 0 → mb.contexts.chroma_totals ≡ replicate 8 0 → mb.residual.luma_dc_total ≡ 0 → mb.residual.chroma_dc_totals ≡ replicate 2 0 → mb.qp ≡ predicted_qp slice picture → Holds mb (skipped_of slice picture v)
+pub holds-skipped : (mb : Macroblock) (slice : SliceContext) (picture : List CodedMacroblock) (v : Vector) → mb.kind ≡ kind.Inter true → mb.contexts.motions ≡ replicate 16 (Some (motion_of slice 0 v)) → mb.contexts.modes ≡ replicate 16 2 → mb.contexts.slice ≡ slice.number → mb.contexts.intra ≡ false → mb.contexts.qp ≡ mb.qp → mb.contexts.totals ≡ replicate 16 0 → mb.contexts.chroma_totals ≡ replicate 8 0 → mb.residual.luma_dc_total ≡ 0 → mb.residual.chroma_dc_totals ≡ replicate 2 0 → mb.qp ≡ predicted_qp slice picture → HoldsMacroblock mb (skipped_of slice picture v)
 unfolding skipped_of coded no_coefficients no_chroma no_block
 holds-skipped mb slice picture v ek ev em es ei eq et ec ed eh p = record {
   contexts = shows-skipped mb.contexts slice.number (predicted_qp slice picture) (motion_of slice 0 v) ev em es ei (eq ∙ p) et ec;

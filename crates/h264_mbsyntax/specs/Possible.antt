@@ -10,11 +10,12 @@ use Rattle.h264_vectors.specs.Derived.{picture_of}
 use Rattle.h264_mbsyntax.specs.declared.macroblock.Macroblock.{Macroblock}
 use Rattle.h264_mbsyntax.specs.Intra.{fits_block, fits_luma, fits_chroma}
 use Rattle.h264_mbsyntax.specs.Macroblock.{Placed}
-use Rattle.h264_mbsyntax.specs.Holds.{Holds}
+use Rattle.h264_mbsyntax.specs.Holds.{HoldsMacroblock}
 
 -- the mode of each 4x4 block has its samples, by the modes before it
 abbrev pub HaveSides : ℕ → SliceContext → List CodedMacroblock → List ℕ → Type 0
-HaveSides width slice picture modes = (b : ℕ) → b < length modes → IsTrue (fits_block (get_or modes b 0) (block_samples width picture slice.number slice.constrained_intra (take b modes)))
+HaveSides width slice picture modes =
+    (b : ℕ) → b < length modes → IsTrue (fits_block (get_or modes b 0) (block_samples width picture slice.number slice.constrained_intra (take b modes)))
 
 -- so has intra_chroma_pred_mode
 pub record HasChromaSides (width : ℕ) (slice : SliceContext) (picture : List CodedMacroblock) (mode : ℕ) : Type 0 where
@@ -28,12 +29,13 @@ Refers slice (Some m) = picture_of slice m.ref_idx ≡ Some m.picture
 
 abbrev pub IsPossible : ℕ → SliceContext → List CodedMacroblock → Prediction → Type 0
 IsPossible width slice picture (Intra4x4 modes chroma) = (length modes ≡ 16) × HaveSides width slice picture modes × HasChromaSides width slice picture chroma
-IsPossible width slice picture (Intra16x16 mode chroma) = IsTrue (fits_luma mode (macroblock_samples width picture slice.number slice.constrained_intra)) × HasChromaSides width slice picture chroma
+IsPossible width slice picture (Intra16x16 mode chroma) =
+    IsTrue (fits_luma mode (macroblock_samples width picture slice.number slice.constrained_intra)) × HasChromaSides width slice picture chroma
 IsPossible width slice picture (Pcm samples) = Unit {0}
 IsPossible width slice picture (Inter motions) = AllByRecursion (Refers slice) motions
 
 -- the macroblock that was read, and the stream bit of its mb_type
 pub record IsRead (width : ℕ) (slice : SliceContext) (picture : List CodedMacroblock) (mb : Macroblock) (bit : ℕ) (v : Placed) : Type 0 where
   pub placed : v.bit ≡ bit
-  pub holds : Holds mb v.macroblock
+  pub holds : HoldsMacroblock mb v.macroblock
   pub possible : IsPossible width slice picture v.macroblock.prediction

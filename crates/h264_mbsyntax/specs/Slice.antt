@@ -1,5 +1,6 @@
 -- slice_data() (7.3.4), one macroblock after another. To be read beside the standard.
-use Rattle.std.specs.Prelude.{◌≡◌, ℕ, zero, suc, ◌-◌, ◌==◌, ◌||◌, nat_lt, nat_le, Bool, List, [], ◌∷◌, ◌++◌, length, replicate, Option, Some, None, if◌then◌else◌}
+use Rattle.std.specs.Prelude.{◌≡◌, ℕ, zero, suc, ◌-◌, ◌==◌, ◌||◌, nat_lt, nat_le, Bool, List, [], ◌∷◌, ◌++◌, length, replicate, Option, Some, None}
+use Rattle.std.specs.Prelude.{if◌then◌else◌}
 use Rattle.h264_base.specs.declared.element_name.ElementName.TheVariants.{MbSkipRun}
 use Rattle.h264_base.specs.declared.mode.SliceType.{SliceType}
 use Rattle.h264_base.specs.declared.mode.SliceType.TheVariants as slice_type
@@ -74,7 +75,8 @@ go_on picture rest (Some x) = rest x.0 x.1
 -- macroblocks to the end of the slice data
 unfoldable pub macroblocks : (CodedMacroblock → Bool) → ℕ → SliceContext → ℕ → Standing → List CodedMacroblock → Grammar (List CodedMacroblock)
 macroblocks fits width slice zero standing picture = next fits width slice 0 picture standing >>= go_on picture (λ s p. Done p)
-macroblocks fits width slice (suc n) standing picture = next fits width slice (suc n) picture standing >>= go_on picture (λ s p. macroblocks fits width slice n s p)
+macroblocks fits width slice (suc n) standing picture =
+    next fits width slice (suc n) picture standing >>= go_on picture (λ s p. macroblocks fits width slice n s p)
 
 -- slice data of a picture that has so many macroblocks, after those of the slices before
 unfoldable pub slice_data : (CodedMacroblock → Bool) → ℕ → ℕ → SliceContext → List CodedMacroblock → Grammar (List CodedMacroblock)

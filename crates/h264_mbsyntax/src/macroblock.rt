@@ -2,6 +2,7 @@
 #![tactic(auto)]
 
 ghost use Rattle.std.specs.Prelude.{◌≡◌, ℕ, ◌+◌, ◌-◌, ◌*◌, ◌/◌, ◌%◌, ◌<◌, ◌≤◌, ◌^◌, List, [], replicate, None, true, false, OnOk};
+ghost use Rattle.h264_base.specs.Call.{HasRoom, IsQuiet};
 ghost use Rattle.h264_base.specs.Meets.{Meets, Is, Answers};
 ghost use Rattle.h264_near.specs.Coded.{CodedMacroblock};
 ghost use Rattle.h264_near.specs.Keeps.{Keeps};
@@ -9,7 +10,7 @@ ghost use Rattle.h264_mbsyntax.specs.Macroblock as syntax;
 ghost use Rattle.h264_mbsyntax.specs.declared.macroblock.Kind.TheVariants as kind;
 ghost use Rattle.h264_base.specs.declared.mode.SliceType.TheVariants as slice_type;
 ghost use Rattle.h264_vectors.specs.Agrees.{Usable};
-ghost use Rattle.h264_mbsyntax.specs.Holds.{Holds};
+ghost use Rattle.h264_mbsyntax.specs.Holds.{HoldsMacroblock};
 ghost use Rattle.h264_mbsyntax.specs.Possible.{IsRead};
 
 use crate::intra::{fits_luma, read_block_modes, read_chroma_mode};
@@ -167,10 +168,10 @@ fn read_intra4x4<S: Elements>(
     sink: &mut S,
 ) -> Result<(), Stop>
     requires qp { qp ≤ 51 }
-    requires room { S.failures sink.old < 2 ^ 64 - 1 }
+    requires room { HasRoom S.failures sink.old }
     ensures meets { (width : ℕ) (picture : List CodedMacroblock) → Keeps width picture near.now → qp ≡ syntax.predicted_qp slice.now picture →
-        Meets S.took S.failures (λ _ m. Holds mb.new m) (syntax.intra4x4 width slice.now picture) bits.old bits.new sink.old sink.new result }
-    ensures quiet { OnOk result (S.failures sink.new ≡ S.failures sink.old) }
+        Meets S.took S.failures (λ _ m. HoldsMacroblock mb.new m) (syntax.intra4x4 width slice.now picture) bits.old bits.new sink.old sink.new result }
+    ensures quiet { OnOk result (IsQuiet S.failures sink.old sink.new) }
     ensures within { OnOk result (mb.new.qp ≤ 51) }
     ensures same { OnOk result (mb.new.contexts.slice ≡ slice.now.number) }
 {
@@ -192,9 +193,9 @@ fn read_pcm<S: Elements>(
 ) -> Result<(), Stop>
     requires { qp ≤ 51 }
     ensures meets { (picture : List CodedMacroblock) → qp ≡ syntax.predicted_qp slice.now picture →
-        Meets S.took S.failures (λ _ m. Holds mb.new m) (syntax.pcm slice.now picture) bits.old bits.new sink.old sink.new result }
+        Meets S.took S.failures (λ _ m. HoldsMacroblock mb.new m) (syntax.pcm slice.now picture) bits.old bits.new sink.old sink.new result }
     ensures within { OnOk result (mb.new.qp ≤ 51) }
-    ensures quiet { OnOk result (S.failures sink.new ≡ S.failures sink.old) }
+    ensures quiet { OnOk result (IsQuiet S.failures sink.old sink.new) }
     ensures same { OnOk result (mb.new.contexts.slice ≡ slice.now.number) }
 {
     read_align(bits, sink)?;
@@ -234,10 +235,11 @@ fn read_intra16x16<S: Elements>(
     requires some { 0 < kind }
     requires few { kind < 25 }
     requires qp { qp ≤ 51 }
-    requires room { S.failures sink.old < 2 ^ 64 - 1 }
+    requires room { HasRoom S.failures sink.old }
     ensures meets { (width : ℕ) (picture : List CodedMacroblock) → Keeps width picture near.now → qp ≡ syntax.predicted_qp slice.now picture →
-        Meets S.took S.failures (λ _ m. Holds mb.new m) (syntax.intra16x16 width slice.now picture bit kind) bits.old bits.new sink.old sink.new result }
-    ensures quiet { OnOk result (S.failures sink.new ≡ S.failures sink.old) }
+        Meets S.took S.failures (λ _ m. HoldsMacroblock mb.new m) (syntax.intra16x16 width slice.now picture bit kind)
+        bits.old bits.new sink.old sink.new result }
+    ensures quiet { OnOk result (IsQuiet S.failures sink.old sink.new) }
     ensures within { OnOk result (mb.new.qp ≤ 51) }
     ensures same { OnOk result (mb.new.contexts.slice ≡ slice.now.number) }
 {
@@ -269,10 +271,10 @@ fn read_inter<S: Elements>(
 ) -> Result<(), Stop>
     requires qp { qp ≤ 51 }
     requires usable { Usable slice.now }
-    requires room { S.failures sink.old < 2 ^ 64 - 1 }
+    requires room { HasRoom S.failures sink.old }
     ensures meets { (width : ℕ) (picture : List CodedMacroblock) → Keeps width picture near.now → qp ≡ syntax.predicted_qp slice.now picture →
-        Meets S.took S.failures (λ _ m. Holds mb.new m) (syntax.inter width slice.now picture bit kind) bits.old bits.new sink.old sink.new result }
-    ensures quiet { OnOk result (S.failures sink.new ≡ S.failures sink.old) }
+        Meets S.took S.failures (λ _ m. HoldsMacroblock mb.new m) (syntax.inter width slice.now picture bit kind) bits.old bits.new sink.old sink.new result }
+    ensures quiet { OnOk result (IsQuiet S.failures sink.old sink.new) }
     ensures within { OnOk result (mb.new.qp ≤ 51) }
     ensures same { OnOk result (mb.new.contexts.slice ≡ slice.now.number) }
 {
@@ -295,11 +297,11 @@ fn read_of_i<S: Elements>(
     sink: &mut S,
 ) -> Result<(), Stop>
     requires qp { qp ≤ 51 }
-    requires room { S.failures sink.old < 2 ^ 64 - 1 }
+    requires room { HasRoom S.failures sink.old }
     ensures meets { (width : ℕ) (picture : List CodedMacroblock) → Keeps width picture near.now → qp ≡ syntax.predicted_qp slice.now picture →
-        Meets S.took S.failures (λ _ m. Holds mb.new m) (syntax.by_type slice_type.I width slice.now picture bit kind) bits.old bits.new sink.old
+        Meets S.took S.failures (λ _ m. HoldsMacroblock mb.new m) (syntax.by_type slice_type.I width slice.now picture bit kind) bits.old bits.new sink.old
         sink.new result }
-    ensures quiet { OnOk result (S.failures sink.new ≡ S.failures sink.old) }
+    ensures quiet { OnOk result (IsQuiet S.failures sink.old sink.new) }
     ensures within { OnOk result (mb.new.qp ≤ 51) }
     ensures same { OnOk result (mb.new.contexts.slice ≡ slice.now.number) }
 {
@@ -326,11 +328,11 @@ fn read_by_type<S: Elements>(
 ) -> Result<(), Stop>
     requires qp { qp ≤ 51 }
     requires usable { Usable slice.now }
-    requires room { S.failures sink.old < 2 ^ 64 - 1 }
+    requires room { HasRoom S.failures sink.old }
     ensures meets { (width : ℕ) (picture : List CodedMacroblock) → Keeps width picture near.now → qp ≡ syntax.predicted_qp slice.now picture →
-        Meets S.took S.failures (λ _ m. Holds mb.new m) (syntax.by_type slice.now.slice_type width slice.now picture bit kind) bits.old bits.new
+        Meets S.took S.failures (λ _ m. HoldsMacroblock mb.new m) (syntax.by_type slice.now.slice_type width slice.now picture bit kind) bits.old bits.new
         sink.old sink.new result }
-    ensures quiet { OnOk result (S.failures sink.new ≡ S.failures sink.old) }
+    ensures quiet { OnOk result (IsQuiet S.failures sink.old sink.new) }
     ensures within { OnOk result (mb.new.qp ≤ 51) }
     ensures same { OnOk result (mb.new.contexts.slice ≡ slice.now.number) }
 {
@@ -361,14 +363,14 @@ pub fn read_macroblock<S: Elements>(
 ) -> Result<u64, Stop>
     requires qp { qp ≤ 51 }
     requires usable { Usable slice.now }
-    requires room { S.failures sink.old < 2 ^ 64 - 1 }
+    requires room { HasRoom S.failures sink.old }
     ensures answers { (width : ℕ) (picture : List CodedMacroblock) → Keeps width picture near.now → qp ≡ syntax.predicted_qp slice.now picture →
         Answers S.took S.failures (IsRead width slice.now picture mb.new)
         (syntax.macroblock width slice.now picture) bits.old bits.new sink.old sink.new result }
     ensures meets { (width : ℕ) (picture : List CodedMacroblock) → Keeps width picture near.now → qp ≡ syntax.predicted_qp slice.now picture →
         Meets S.took S.failures (IsRead width slice.now picture mb.new)
         (syntax.macroblock width slice.now picture) bits.old bits.new sink.old sink.new result }
-    ensures quiet { OnOk result (S.failures sink.new ≡ S.failures sink.old) }
+    ensures quiet { OnOk result (IsQuiet S.failures sink.old sink.new) }
     ensures within { OnOk result (mb.new.qp ≤ 51) }
     ensures same { OnOk result (mb.new.contexts.slice ≡ slice.now.number) }
 {

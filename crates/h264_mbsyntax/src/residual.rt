@@ -2,6 +2,7 @@
 #![tactic(auto)]
 
 ghost use Rattle.std.specs.Prelude.{◌≡◌, ℕ, ℤ, pos, neg_ℤ, ◌≤ℤ◌, ◌+ℤ◌, ◌+◌, ◌-◌, ◌*◌, ◌/◌, ◌<◌, ◌≤◌, ◌^◌, List, [], OnOk, IfOk, get_or, take, length};
+ghost use Rattle.h264_base.specs.Call.{HasRoom, IsQuiet};
 ghost use Rattle.h264_base.specs.Meets.{Meets, Is};
 ghost use Rattle.h264_bits.specs.Forms.{natural};
 ghost use Rattle.h264_cavlc.specs.Block.{Block};
@@ -67,7 +68,7 @@ pub(crate) fn read_qp_delta<S: Elements>(
     sink: &mut S,
 ) -> Result<u8, Stop>
     requires predicted { predicted ≤ 51 }
-    requires room { S.failures sink.old < 2 ^ 64 - 1 }
+    requires room { HasRoom S.failures sink.old }
     ensures meets { Meets S.took S.failures (Is (λ x. x)) (syntax.qp_delta predicted) bits.old bits.new sink.old sink.new result }
     ensures within { IfOk result (λ q. q ≤ 51) }
 {
@@ -98,12 +99,12 @@ pub(crate) fn read_luma<const N: usize, S: Elements>(
     sink: &mut S,
 ) -> Result<(), Stop>
     requires size { N ≤ 16 }
-    requires room { S.failures sink.old < 2 ^ 64 - 1 }
+    requires room { HasRoom S.failures sink.old }
     ensures meets { (width : ℕ) (picture : List CodedMacroblock) → Keeps width picture near.now →
         Meets S.took S.failures (λ _ blocks. stored.Stored N 16 totals.new levels.new blocks)
         (syntax.luma_blocks width picture slice N pattern) bits.old bits.new sink.old sink.new result }
     ensures sized { length totals.new ≡ 16 }
-    ensures quiet { OnOk result (S.failures sink.new ≡ S.failures sink.old) }
+    ensures quiet { OnOk result (IsQuiet S.failures sink.old sink.new) }
 {
     for b in 0..16 {
         if is_coded(pattern, b) {
@@ -124,7 +125,7 @@ fn read_chroma_dc<S: Elements>(
     levels: &mut [[i16; 4]; 2],
     sink: &mut S,
 ) -> Result<(), Stop>
-    requires { S.failures sink.old < 2 ^ 64 - 1 }
+    requires { HasRoom S.failures sink.old }
     ensures { Meets S.took S.failures (λ _ blocks. stored.Stored 4 2 totals.new levels.new blocks)
         (syntax.chroma_dc_if coded) bits.old bits.new sink.old sink.new result }
 {
@@ -146,11 +147,11 @@ fn read_all_ac<S: Elements>(
     levels: &mut [[i16; 15]; 8],
     sink: &mut S,
 ) -> Result<(), Stop>
-    requires { S.failures sink.old < 2 ^ 64 - 1 }
+    requires { HasRoom S.failures sink.old }
     ensures meets { (width : ℕ) (picture : List CodedMacroblock) → Keeps width picture near.now →
         Meets S.took S.failures (λ _ blocks. stored.Stored 15 8 totals.new levels.new blocks)
         (syntax.chroma_blocks width picture slice) bits.old bits.new sink.old sink.new result }
-    ensures quiet { OnOk result (S.failures sink.new ≡ S.failures sink.old) }
+    ensures quiet { OnOk result (IsQuiet S.failures sink.old sink.new) }
 {
     for b in 0..8 {
         let nc = near.chroma_nc(slice, totals, b);
@@ -169,7 +170,7 @@ fn read_chroma<S: Elements>(
     residual: &mut Residual,
     sink: &mut S,
 ) -> Result<(), Stop>
-    requires { S.failures sink.old < 2 ^ 64 - 1 }
+    requires { HasRoom S.failures sink.old }
     ensures meets { (width : ℕ) (picture : List CodedMacroblock) → Keeps width picture near.now →
         Meets S.took S.failures (λ _ v. stored.StoredChroma totals.new residual.new.chroma_ac residual.new.chroma_dc_totals residual.new.chroma_dc v)
         (syntax.chroma width picture slice pattern) bits.old bits.new sink.old sink.new result }
@@ -178,7 +179,7 @@ fn read_chroma<S: Elements>(
     ensures luma_ac { residual.new.luma_ac ≡ residual.old.luma_ac }
     ensures luma_dc { residual.new.luma_dc ≡ residual.old.luma_dc }
     ensures luma_dc_total { residual.new.luma_dc_total ≡ residual.old.luma_dc_total }
-    ensures quiet { OnOk result (S.failures sink.new ≡ S.failures sink.old) }
+    ensures quiet { OnOk result (IsQuiet S.failures sink.old sink.new) }
 {
     read_chroma_dc(
         bits,
@@ -220,12 +221,12 @@ pub(crate) fn read_coefficients<S: Elements>(
     sink: &mut S,
 ) -> Result<(), Stop>
     requires predicted { predicted_qp ≤ 51 }
-    requires room { S.failures sink.old < 2 ^ 64 - 1 }
+    requires room { HasRoom S.failures sink.old }
     ensures meets { (width : ℕ) (picture : List CodedMacroblock) → Keeps width picture near.now →
         Meets S.took S.failures (λ _ v. HasCoefficients mb.new v)
         (patterned table width picture slice predicted_qp) bits.old bits.new sink.old sink.new result }
     ensures within { OnOk result (mb.new.qp ≤ 51) }
-    ensures quiet { OnOk result (S.failures sink.new ≡ S.failures sink.old) }
+    ensures quiet { OnOk result (IsQuiet S.failures sink.old sink.new) }
     ensures same { IsSame mb.old mb.new }
     ensures luma_dc_total { mb.new.residual.luma_dc_total ≡ mb.old.residual.luma_dc_total }
 {
@@ -274,12 +275,12 @@ pub(crate) fn read_coefficients16<S: Elements>(
     sink: &mut S,
 ) -> Result<(), Stop>
     requires predicted { predicted_qp ≤ 51 }
-    requires room { S.failures sink.old < 2 ^ 64 - 1 }
+    requires room { HasRoom S.failures sink.old }
     ensures meets { (width : ℕ) (picture : List CodedMacroblock) → Keeps width picture near.now →
         Meets S.took S.failures (λ _ v. HasCoefficients16 mb.new v)
         (syntax.coefficients16 width picture slice predicted_qp pattern) bits.old bits.new sink.old sink.new result }
     ensures within { OnOk result (mb.new.qp ≤ 51) }
-    ensures quiet { OnOk result (S.failures sink.new ≡ S.failures sink.old) }
+    ensures quiet { OnOk result (IsQuiet S.failures sink.old sink.new) }
     ensures same { IsSame mb.old mb.new }
 {
     let qp = read_qp_delta(bits, predicted_qp, sink)?;

@@ -5,7 +5,7 @@ ghost use Rattle.std.specs.Prelude.{◌≡◌, List};
 ghost use Rattle.h264_near.specs.Coded.{CodedMacroblock};
 ghost use Rattle.h264_mbsyntax.specs.Macroblock.{predicted_qp};
 ghost use Rattle.h264_mbsyntax.specs.Slice.{skipped_of};
-ghost use Rattle.h264_mbsyntax.specs.Holds.{Holds};
+ghost use Rattle.h264_mbsyntax.specs.Holds.{HoldsMacroblock};
 
 use crate::macroblock::{Kind, Macroblock, inter_contexts};
 use h264_near::Vector;
@@ -14,7 +14,8 @@ use h264_vectors::{SliceContext, motion_of};
 /// Makes `mb` a skipped macroblock of this vector: P_Skip, without coefficients. QP_Y of the macroblock before, or SliceQP_Y,
 /// stands in it, and stays.
 pub fn skip_macroblock(slice: &SliceContext, vector: Vector, mb: &mut Macroblock)
-    ensures holds { (picture : List CodedMacroblock) → mb.old.qp ≡ predicted_qp slice.now picture → Holds mb.new (skipped_of slice.now picture vector) }
+    ensures holds { (picture : List CodedMacroblock) → mb.old.qp ≡ predicted_qp slice.now picture →
+        HoldsMacroblock mb.new (skipped_of slice.now picture vector) }
     ensures qp { mb.new.qp ≡ mb.old.qp }
     ensures same { mb.new.contexts.slice ≡ slice.now.number }
 {

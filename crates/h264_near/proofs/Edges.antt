@@ -8,7 +8,7 @@ use Rattle.h264_near.specs.declared.context.Edge.{Edge}
 use Rattle.h264_near.specs.Coded.{CodedMacroblock, number_of, chroma_number_of, total_part, chroma_part, mode_part, motion_part}
 use Rattle.h264_near.specs.Along.{edge_total, edge_chroma, edge_mode, edge_motion, edge_side}
 use Rattle.h264_near.specs.Strength.{side_part}
-use Rattle.h264_near.specs.Keeps.{Shows, Borders, IsEdge, Lower, Right}
+use Rattle.h264_near.specs.Keeps.{AreContexts, Borders, IsEdge, Lower, Right}
 
 -- an element that there is
 pub found : {A : Type 0} (xs : List A) (k : ℕ) (x d : A) → slice_get xs k ≡ Some x → get_or xs k d ≡ x
@@ -53,7 +53,7 @@ module _ (luma : ℕ → ℕ) (chroma : ℕ → ℕ → ℕ) where
   side-is x y k (Some edge) (Some m) h e i = rw (i.intra, sym e, i.motions k h, found m.totals (luma k) _ 0 (i.totals k h)) refl
 
 -- the last row and the last column of a whole macroblock
-module _ (c : Contexts) (m : CodedMacroblock) (s : Shows c m) (all : length c.totals ≡ 16) (chroma : length c.chroma_totals ≡ 8) where
+module _ (c : Contexts) (m : CodedMacroblock) (s : AreContexts c m) (all : length c.totals ≡ 16) (chroma : length c.chroma_totals ≡ 8) where
   total-at : (n : ℕ) → n < 16 → slice_get m.totals n ≡ Some (get_or c.totals n 0)
   total-at n h = rw s.totals (slice_get-get_or c.totals n 0 (omega arith))
 
@@ -95,7 +95,7 @@ by-two-two P a b c d zero (suc (suc k)) g h = absurd (omega arith)
 by-two-two P a b c d (suc zero) (suc (suc k)) g h = absurd (omega arith)
 by-two-two P a b c d (suc (suc n)) k g h = absurd (omega arith)
 
-module _ (c : Contexts) (m : CodedMacroblock) (s : Shows c m) (all : length c.totals ≡ 16) (chroma : length c.chroma_totals ≡ 8) where
+module _ (c : Contexts) (m : CodedMacroblock) (s : AreContexts c m) (all : length c.totals ≡ 16) (chroma : length c.chroma_totals ≡ 8) where
   pub lower-edge : (e : Edge) → e.slice ≡ c.slice → e.intra ≡ c.intra → e.qp ≡ c.qp
       → e.totals ≡ get_or c.totals 10 0 ∷ get_or c.totals 11 0 ∷ get_or c.totals 14 0 ∷ get_or c.totals 15 0 ∷ []
       → e.chroma ≡ get_or c.chroma_totals 2 0 ∷ get_or c.chroma_totals 3 0 ∷ get_or c.chroma_totals 6 0 ∷ get_or c.chroma_totals 7 0 ∷ []

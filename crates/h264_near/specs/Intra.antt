@@ -7,7 +7,8 @@ use Rattle.h264_near.specs.declared.samples.Samples.{Samples}
 
 -- the macroblock that is being decoded, as far as these totals, or these modes, are
 abbrev pub with_totals : ℕ → List ℕ → List ℕ → CodedMacroblock
-with_totals slice totals chroma_totals = record { slice = slice; prediction = Inter []; qp = 0; totals = totals; chroma_totals = chroma_totals; residual = no_residual }
+with_totals slice totals chroma_totals =
+    record { slice = slice; prediction = Inter []; qp = 0; totals = totals; chroma_totals = chroma_totals; residual = no_residual }
 
 abbrev pub with_modes : ℕ → List ℕ → CodedMacroblock
 with_modes slice modes = record { slice = slice; prediction = Intra4x4 modes 0; qp = 0; totals = []; chroma_totals = []; residual = no_residual }
@@ -49,7 +50,8 @@ predicted_mode width picture slice constrained modes =
     let current = with_modes slice modes in
     let x = column_of (length modes) in
     let y = row_of (length modes) in
-    lesser_mode (around 4 (mode_part slice constrained) width picture current x (suc y)) (around 4 (mode_part slice constrained) width picture current (suc x) y)
+    lesser_mode (around 4 (mode_part slice constrained) width picture current x (suc y))
+    (around 4 (mode_part slice constrained) width picture current (suc x) y)
 
 -- which of the samples above, to the left and at the corner the block after those with these modes can be predicted from (8.3.1.2)
 unfoldable pub block_samples : ℕ → List CodedMacroblock → ℕ → Bool → List ℕ → Samples

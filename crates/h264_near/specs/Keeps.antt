@@ -13,7 +13,7 @@ filter_qp_of (Pcm samples) qp = 0
 filter_qp_of p qp = qp
 
 -- what the code knows of a macroblock is what neighbours need of it
-pub record Shows (c : Contexts) (m : CodedMacroblock) : Type 0 where
+pub record AreContexts (c : Contexts) (m : CodedMacroblock) : Type 0 where
   pub slice : m.slice ≡ c.slice
   pub intra : is_intra m.prediction ≡ c.intra
   pub qp : filter_qp_of m.prediction m.qp ≡ c.qp

@@ -7,8 +7,11 @@ use Rattle.std.specs.Option.{option_and_then}
 unfoldable pub part_at : {M B : Type 0} → ℕ → (ℕ → ℕ → M → Option B) → ℕ → List M → ℕ → ℕ → Option B
 part_at side part width picture zero y = None
 part_at side part width picture (suc x) zero = None
-part_at side part width picture (suc x) (suc y) = if nat_lt x (width * side) then option_and_then (part (x % side) (y % side)) (slice_get picture (y / side * width + x / side)) else None
+part_at side part width picture (suc x) (suc y) =
+    if nat_lt x (width * side) then option_and_then (part (x % side) (y % side)) (slice_get picture (y / side * width + x / side))
+    else None
 
 -- What stands in column x and row y of the macroblock that is being decoded, after these: 1 to side are its own, 0 and side + 1 lie around it.
 unfoldable pub around : {M B : Type 0} → ℕ → (ℕ → ℕ → M → Option B) → ℕ → List M → M → ℕ → ℕ → Option B
-around side part width picture current x y = part_at side part width (picture ++ current ∷ []) (length picture % width * side + x) (length picture / width * side + y)
+around side part width picture current x y =
+    part_at side part width (picture ++ current ∷ []) (length picture % width * side + x) (length picture / width * side + y)

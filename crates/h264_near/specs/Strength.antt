@@ -42,4 +42,5 @@ strength_between outer None q = None
 -- bS of the blocks at two neighbouring places of the picture, columns and rows counted from 1; nothing where one does not exist
 unfoldable pub strength : ℕ → List CodedMacroblock → ℕ → ℕ → ℕ → ℕ → Option ℕ
 strength width picture x y x' y' =
-    strength_between (not ((x - 1) / 4 == (x' - 1) / 4 && (y - 1) / 4 == (y' - 1) / 4)) (part_at 4 side_part width picture x y) (part_at 4 side_part width picture x' y')
+    strength_between (not ((x - 1) / 4 == (x' - 1) / 4
+    && (y - 1) / 4 == (y' - 1) / 4)) (part_at 4 side_part width picture x y) (part_at 4 side_part width picture x' y')

@@ -31,7 +31,7 @@ pub struct Near {
 }
 
 impl Near {
-    ghost use Rattle.h264_near.specs.Keeps.{Keeps, Shows, IsEdge, Lower, Right, width_of};
+    ghost use Rattle.h264_near.specs.Keeps.{Keeps, AreContexts, IsEdge, Lower, Right, width_of};
 
     /// The contexts of a picture so many macroblocks wide, of which none is decoded.
     pub fn new(alloc: Global, width: usize) -> Result<Near, AllocError>
@@ -315,7 +315,7 @@ impl Near {
 
     /// Goes on after a macroblock.
     pub fn push(&mut self, m: &Contexts)
-        ensures { (width : ℕ) (picture : List CodedMacroblock) (coded : CodedMacroblock) → Keeps width picture self.old → Shows m.now coded →
+        ensures { (width : ℕ) (picture : List CodedMacroblock) (coded : CodedMacroblock) → Keeps width picture self.old → AreContexts m.now coded →
             Keeps width (picture ++ coded ∷ []) self.new }
     {
         let corner = self.above[self.column];

@@ -3,7 +3,7 @@
 
 ghost use Rattle.std.specs.Prelude.{◌≡◌, ◌≤◌, ◌<◌, nat_le, ◌-ℤ◌, unsigned_abs, Some};
 ghost use Rattle.h264_near.specs.Coded.{CodedMacroblock, column_of, row_of};
-ghost use Rattle.h264_near.specs.Keeps.{Shows};
+ghost use Rattle.h264_near.specs.Keeps.{AreContexts};
 ghost use Rattle.h264_near.specs.Strength.{far, moves_apart, strength_of, side_part};
 
 use crate::context::Contexts;
@@ -77,7 +77,7 @@ pub fn strength(outer: bool, p: Side, q: Side) -> u8
 /// A block of a macroblock as the filter sees it, by its number.
 pub fn side_of(m: &Contexts, b: usize) -> Side
     requires { b < 16 }
-    ensures { (coded : CodedMacroblock) → Shows m.now coded → side_part (column_of b) (row_of b) coded ≡ Some result }
+    ensures { (coded : CodedMacroblock) → AreContexts m.now coded → side_part (column_of b) (row_of b) coded ≡ Some result }
 {
     Side {
         intra: m.intra,

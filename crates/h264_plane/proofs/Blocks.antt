@@ -1,7 +1,7 @@
 use Rattle.std.proofs.Common.{◌≡◌, ℕ, ◌+◌, ◌-◌, ◌*◌, ◌<◌, ◌≤◌, List, length, take, drop, slice_index, arith, ◌∙◌, length-take, length-drop}
 use Rattle.std.proofs.lemmas.List.{get_or-take, get_or-drop}
 use Rattle.std.proofs.lemmas.Bool.Decides.{nat_tests}
-use Rattle.h264_plane.specs.Samples.{Samples, at, Holds, with_run, with_block}
+use Rattle.h264_plane.specs.Samples.{Samples, at, ShowsSamples, with_run, with_block}
 
 pub block_none : (w x y : ℕ) (b : List ℕ) (s : ℕ → ℕ → ℕ) (u v : ℕ) → with_block w 0 x y b s u v ≡ s u v
 unfolding with_block
@@ -16,8 +16,8 @@ step_at w n x y b run s t u v e same held = grind (arith, nat_tests, same (u - x
 
 pub block_more : (p q r : Samples) (w n x y : ℕ) (b run : List ℕ) → length run ≡ w →
     ((k : ℕ) → k < w → slice_index run k ≡ slice_index b (w * n + k)) →
-    Holds p q (with_block w n x y b (at p)) → Holds q r (with_run x (y + n) run (at q)) →
-    Holds p r (with_block w (n + 1) x y b (at p))
+    ShowsSamples p q (with_block w n x y b (at p)) → ShowsSamples q r (with_run x (y + n) run (at q)) →
+    ShowsSamples p r (with_block w (n + 1) x y b (at p))
 block_more p q r w n x y b run e same h g = record {
   width = g.width ∙ h.width;
   height = g.height ∙ h.height;
@@ -26,8 +26,8 @@ block_more p q r w n x y b run e same h g = record {
 
 -- the same where the row is a part of the block
 pub block_row : (p q r : Samples) (w n x y : ℕ) (b : List ℕ) (k : ℕ) → k ≡ w → w * n + w ≤ length b →
-    Holds p q (with_block w n x y b (at p)) → Holds q r (with_run x (y + n) (take k (drop (w * n) b)) (at q)) →
-    Holds p r (with_block w (n + 1) x y b (at p))
+    ShowsSamples p q (with_block w n x y b (at p)) → ShowsSamples q r (with_run x (y + n) (take k (drop (w * n) b)) (at q)) →
+    ShowsSamples p r (with_block w (n + 1) x y b (at p))
 block_row p q r w n x y b k e fits h g =
     block_more p q r w n x y b (take k (drop (w * n) b)) (simp (length-take, length-drop) (omega arith))
     (λ j i. let within : j < k = omega arith in get_or-take k (drop (w * n) b) j 0 within ∙ get_or-drop (w * n) b j 0) h g

@@ -1,6 +1,6 @@
 use Rattle.std.proofs.Common.{◌≡◌, ℕ, ◌+◌, ◌<◌, List, [], ◌∷◌, ◌++◌, length, arith, below_more, ◌∙◌}
 use Rattle.std.proofs.lemmas.List.{get_or_append_left, get_or_push}
-use Rattle.h264_plane.specs.Samples.{Samples, IsSized, IsBlank, Holds}
+use Rattle.h264_plane.specs.Samples.{Samples, IsSized, IsBlank, ShowsSamples}
 use Rattle.h264_plane.specs.Frames.{plane_of, frame_at, no_frame, IsFrame, IsWritten}
 use Rattle.h264_plane.specs.declared.frame.Component.{Component}
 use Rattle.h264_plane.specs.declared.frame.Component.TheVariants.{Y, Cb, Cr}
@@ -20,7 +20,7 @@ blank_push xs f n e each last = below_more _ _
     (λ k p c. let inside : k < length xs = omega arith in rw get_or_append_left (each k p c))
     (λ c. rw (get_or_push xs f no_frame n e) (last c))
 
-sized_kept : (old new : Samples) (w h : ℕ) (s : ℕ → ℕ → ℕ) → Holds old new s → IsSized old w h → IsSized new w h
+sized_kept : (old new : Samples) (w h : ℕ) (s : ℕ → ℕ → ℕ) → ShowsSamples old new s → IsSized old w h → IsSized new w h
 sized_kept old new w h s held size = record { columns = held.width ∙ size.columns; rows = held.height ∙ size.rows }
 
 sized_same : (old new : Samples) (w h : ℕ) → new ≡ old → IsSized old w h → IsSized new w h

@@ -7,18 +7,18 @@ use Rattle.std.proofs.lemmas.List.{with_items_is}
 use Rattle.std.specs.Global.{Vec}
 use Rattle.std.specs.Vec.{with_items, vec_len}
 use borrow.Rule.Slice.PartMut.{put_mid}
-use Rattle.h264_plane.specs.Samples.{at, Holds, with_run}
+use Rattle.h264_plane.specs.Samples.{at, ShowsSamples, with_run}
 
-put_below : (a k i : ℕ) (xs ys : List ℕ) → i < a → a ≤ length xs → get_or (put_mid a k xs ys) i 0 ≡ get_or xs i 0
+pub put_below : (a k i : ℕ) (xs ys : List ℕ) → i < a → a ≤ length xs → get_or (put_mid a k xs ys) i 0 ≡ get_or xs i 0
 put_below a k i xs ys p q = grind (arith, elements)
 
-put_in : (a k i : ℕ) (xs ys : List ℕ) → i < length ys → a ≤ length xs → get_or (put_mid a k xs ys) (a + i) 0 ≡ get_or ys i 0
+pub put_in : (a k i : ℕ) (xs ys : List ℕ) → i < length ys → a ≤ length xs → get_or (put_mid a k xs ys) (a + i) 0 ≡ get_or ys i 0
 put_in a k i xs ys p q = grind (arith, elements)
 
 put_above : (a k i : ℕ) (xs ys : List ℕ) → a + k ≤ i → a ≤ length xs → length ys ≡ k → get_or (put_mid a k xs ys) i 0 ≡ get_or xs i 0
 put_above a k i xs ys p q e = grind (arith, elements)
 
-length_put : (a k : ℕ) (xs ys : List ℕ) (n : ℕ) → length xs ≡ n → length ys ≡ k → a + k ≤ n → length (put_mid a k xs ys) ≡ n
+pub length_put : (a k : ℕ) (xs ys : List ℕ) (n : ℕ) → length xs ≡ n → length ys ≡ k → a + k ≤ n → length (put_mid a k xs ys) ≡ n
 length_put a k xs ys n e f p = grind (arith, elements)
 
 -- an earlier row ends before a later one begins
@@ -30,13 +30,13 @@ run_inside : (x y : ℕ) (run : List ℕ) (s : ℕ → ℕ → ℕ) (u : ℕ) �
 unfolding with_run
 run_inside x y run s u p q = grind (arith, nat_tests)
 
-run_outside : (x y : ℕ) (run : List ℕ) (s : ℕ → ℕ → ℕ) (u v : ℕ) → (v ≢ y) ⊎ ((u < x) ⊎ (x + length run ≤ u)) → with_run x y run s u v ≡ s u v
+pub run_outside : (x y : ℕ) (run : List ℕ) (s : ℕ → ℕ → ℕ) (u v : ℕ) → (v ≢ y) ⊎ ((u < x) ⊎ (x + length run ≤ u)) → with_run x y run s u v ≡ s u v
 unfolding with_run
 run_outside x y run s u v p = grind (arith, nat_tests)
 
 -- a run that is copied into a row
 pub run_is : (w h x y : ℕ) (xs ys run : List ℕ) → length xs ≡ h * w → x + length run ≤ w → y < h → ys ≡ run →
-    Holds (record { width = w; height = h; list = xs }) (record { width = w; height = h; list = put_mid (y * w + x) (length run) xs ys })
+    ShowsSamples (record { width = w; height = h; list = xs }) (record { width = w; height = h; list = put_mid (y * w + x) (length run) xs ys })
     (with_run x y run (at (record { width = w; height = h; list = xs })))
 run_is w h x y xs ys run e p q same =
     let s = at (record { width = w; height = h; list = xs }) in
@@ -66,7 +66,7 @@ run_is w h x y xs ys run e p q same =
 -- the same for a vector that was written through a slice
 pub run_put : (w h x y : ℕ) (v : Vec ℕ) (xs ys run : List ℕ) (k : ℕ) → vec_len v ≡ h * w → x + length run ≤ w → y < h →
     xs ≡ v.items → k ≡ length run → ys ≡ run →
-    Holds (record { width = w; height = h; list = v.items }) (record { width = w; height = h; list = (with_items v (put_mid (y * w + x) k xs ys)).items })
+    ShowsSamples (record { width = w; height = h; list = v.items }) (record { width = w; height = h; list = (with_items v (put_mid (y * w + x) k xs ys)).items })
     (with_run x y run (at (record { width = w; height = h; list = v.items })))
 run_put w h x y v xs ys run k e p q same count copied =
     let whole : length v.items ≡ h * w = omega (arith, v.ok) in

@@ -1,5 +1,6 @@
 -- Samples of a plane by column and row. To be read beside the standard.
-use Rattle.std.specs.Prelude.{◌≡◌, ◌≢◌, ◌⊎◌, ℕ, ◌+◌, ◌*◌, ◌<◌, ◌≤◌, ◌-◌, ◌==◌, ◌&&◌, nat_le, nat_lt, length, List, [], slice_index, Bool, true, false, if◌then◌else◌}
+use Rattle.std.specs.Prelude.{◌≡◌, ◌≢◌, ◌⊎◌, ℕ, ◌+◌, ◌*◌, ◌<◌, ◌≤◌, ◌-◌, ◌==◌, ◌&&◌, nat_le, nat_lt, length, List, [], slice_index, Bool, true, false}
+use Rattle.std.specs.Prelude.{if◌then◌else◌}
 use Rattle.h264_plane.specs.declared.plane.TheConstants.{MAX_SIDE}
 
 -- the samples of a plane, row by row
@@ -32,7 +33,7 @@ pub record IsBlank (p : Samples) : Type 0 where
   pub zero : (x y : ℕ) → x < p.width → y < p.height → at p x y ≡ 0
 
 -- the plane `new` is of old's shape and has these samples, by column and row
-pub record Holds (old new : Samples) (s : ℕ → ℕ → ℕ) : Type 0 where
+pub record ShowsSamples (old new : Samples) (s : ℕ → ℕ → ℕ) : Type 0 where
   pub width : new.width ≡ old.width
   pub height : new.height ≡ old.height
   pub samples : (u v : ℕ) → u < old.width → v < old.height → at new u v ≡ s u v

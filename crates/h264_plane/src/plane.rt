@@ -1,5 +1,6 @@
 ghost use Rattle.std.specs.Prelude.{◌≡◌, ℕ, ◌+◌, ◌*◌, ◌<◌, ◌≤◌, length, slice_index, IfOk};
-ghost use Rattle.h264_plane.specs.Samples.{Samples, at, no_samples, IsSized, IsBlank, IsSet, IsPut, with_run, with_block, Holds, look, size_along, size_across};
+ghost use Rattle.h264_plane.specs.Samples.{Samples, at, no_samples, IsSized, IsBlank, IsSet, IsPut, with_run, with_block};
+ghost use Rattle.h264_plane.specs.Samples.{ShowsSamples, look, size_along, size_across};
 
 use std::alloc::{AllocError, Global};
 use std::marker::Model;
@@ -143,7 +144,7 @@ impl Plane {
     pub fn put_run(&mut self, x: usize, y: usize, run: &[u8])
         requires columns { x + length run.now ≤ self.old.width }
         requires row { y < self.old.height }
-        ensures { Holds self.old self.new (with_run x y run.now (at self.old)) }
+        ensures { ShowsSamples self.old self.new (with_run x y run.now (at self.old)) }
     {
         let start = y * self.width + x;
         let n = run.len();
@@ -158,7 +159,7 @@ impl Plane {
         requires whole { length block.now ≡ W * H }
         requires columns { x + W ≤ self.old.width }
         requires rows { y + H ≤ self.old.height }
-        ensures { Holds self.old self.new (with_block W H x y block.now (at self.old)) }
+        ensures { ShowsSamples self.old self.new (with_block W H x y block.now (at self.old)) }
     {
         // The invariant, which this read shows, bounds the rows below.
         let _ = &self.height;

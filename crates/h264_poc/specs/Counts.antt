@@ -1,5 +1,6 @@
 -- Picture order counts (8.2.1), as functions of the pictures before in decoding order, the newest first. To be read beside the standard.
-use Rattle.std.specs.Prelude.{◌≡◌, ℕ, ◌+◌, ◌*◌, ◌^◌, ◌<◌, nat_lt, ◌&&◌, ◌||◌, not, Bool, true, false, Option, None, List, [], ◌∷◌, ℤ, pos, neg_ℤ, ◌-ℤ◌, ◌≤ℤ◌, if◌then◌else◌}
+use Rattle.std.specs.Prelude.{◌≡◌, ℕ, ◌+◌, ◌*◌, ◌^◌, ◌<◌, nat_lt, ◌&&◌, ◌||◌, not, Bool, true, false, Option, None, List, [], ◌∷◌, ℤ, pos, neg_ℤ, ◌-ℤ◌, ◌≤ℤ◌}
+use Rattle.std.specs.Prelude.{if◌then◌else◌}
 use Rattle.h264_poc.specs.declared.picture.Picture.{Picture}
 use Rattle.h264_poc.specs.declared.picture.Order.{Order}
 use Rattle.h264_poc.specs.declared.picture.Order.TheVariants as order
@@ -67,7 +68,12 @@ order_counts idr reference number = record { top = decoding_order_count idr refe
 abbrev pub field_counts_by : Order → Picture → Prev → ℕ → FieldCounts
 field_counts_by (order.Lsb max lsb delta_bottom) p start offset = lsb_counts (msb_of start lsb max) lsb delta_bottom
 field_counts_by (order.Cycle non_ref top_to_bottom cycle delta_top delta_bottom) p start offset =
-    cycle_counts cycle p.reference (offset + p.frame_num) (record { offset_for_non_ref_pic = non_ref; offset_for_top_to_bottom_field = top_to_bottom; top = delta_top; bottom = delta_bottom })
+    cycle_counts cycle p.reference (offset + p.frame_num) (record {
+      offset_for_non_ref_pic = non_ref;
+      offset_for_top_to_bottom_field = top_to_bottom;
+      top = delta_top;
+      bottom = delta_bottom;
+    })
 field_counts_by order.DecodingOrder p start offset =
     order_counts p.idr p.reference (offset + p.frame_num)
 

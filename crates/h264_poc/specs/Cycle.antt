@@ -29,7 +29,8 @@ counts_from expected top_to_bottom delta_top delta_bottom =
 
 abbrev pub cycle_counts : List ℤ → Bool → ℕ → Deltas → FieldCounts
 cycle_counts offsets reference number deltas =
-    counts_from (with_non_ref (expected offsets (abs_frame_num offsets reference number)) reference deltas.offset_for_non_ref_pic) deltas.offset_for_top_to_bottom_field deltas.top deltas.bottom
+    counts_from (with_non_ref (expected offsets (abs_frame_num offsets reference number)) reference deltas.offset_for_non_ref_pic)
+    deltas.offset_for_top_to_bottom_field deltas.top deltas.bottom
 
 -- no count comes near such a number
 abbrev pub IsFar : ℤ → Type 0

@@ -2,7 +2,12 @@
 use Rattle.std.specs.Prelude.{ℕ, pos, negsuc, nat_le, ◌==◌, Bool, true}
 use Rattle.h264_base.specs.declared.mode.Target.{Target}
 use Rattle.h264_base.specs.declared.mode.Target.TheVariants as targets
-use Rattle.h264_base.specs.declared.element_name.ElementName.TheVariants.{PicParameterSetId, SeqParameterSetId, EntropyCodingModeFlag, BottomFieldPicOrderInFramePresentFlag, NumSliceGroupsMinus1, NumRefIdxL0DefaultActiveMinus1, NumRefIdxL1DefaultActiveMinus1, WeightedPredFlag, WeightedBipredIdc, PicInitQpMinus26, PicInitQsMinus26, ChromaQpIndexOffset, DeblockingFilterControlPresentFlag, ConstrainedIntraPredFlag, RedundantPicCntPresentFlag}
+use Rattle.h264_base.specs.declared.element_name.ElementName.TheVariants.{PicParameterSetId, SeqParameterSetId, EntropyCodingModeFlag}
+use Rattle.h264_base.specs.declared.element_name.ElementName.TheVariants.{BottomFieldPicOrderInFramePresentFlag, NumSliceGroupsMinus1}
+use Rattle.h264_base.specs.declared.element_name.ElementName.TheVariants.{NumRefIdxL0DefaultActiveMinus1, NumRefIdxL1DefaultActiveMinus1, WeightedPredFlag}
+use Rattle.h264_base.specs.declared.element_name.ElementName.TheVariants.{WeightedBipredIdc, PicInitQpMinus26, PicInitQsMinus26, ChromaQpIndexOffset}
+use Rattle.h264_base.specs.declared.element_name.ElementName.TheVariants.{DeblockingFilterControlPresentFlag, ConstrainedIntraPredFlag}
+use Rattle.h264_base.specs.declared.element_name.ElementName.TheVariants.{RedundantPicCntPresentFlag}
 use Rattle.h264_base.specs.declared.rule.Rule.TheVariants.{Range, Tool}
 use Rattle.h264_base.specs.Word.{Fixed}
 use Rattle.h264_base.specs.Grammar.{Grammar, Done, ◌>>=◌, element, check, trailing}

@@ -7,6 +7,7 @@
 #![tactic(auto)]
 
 ghost use Rattle.std.specs.Prelude.{◌≡◌, ℕ, ◌-◌, ◌<◌, ◌≤◌, ◌^◌, IfOk};
+ghost use Rattle.h264_base.specs.Call.{HasRoom};
 ghost use Rattle.h264_base.specs.Meets.{Meets, Is, Answers};
 ghost use Rattle.h264_pps.specs.Pps.{is_weighting_judged, weighted_pred, weighted_bipred, pps};
 
@@ -56,7 +57,7 @@ fn read_weighted_pred<S: Elements>(
     bits: &mut Bits,
     sink: &mut S,
 ) -> Result<bool, Stop>
-    requires { S.failures sink.old < 2 ^ 64 - 1 }
+    requires { HasRoom S.failures sink.old }
     ensures { Meets S.took S.failures (Is (λ x. x)) (weighted_pred target) bits.old bits.new sink.old sink.new result }
 {
     let flag = read_u::<1, S>(bits, ElementName::WeightedPredFlag, sink)?;
@@ -71,7 +72,7 @@ fn read_weighted_bipred<S: Elements>(
     bits: &mut Bits,
     sink: &mut S,
 ) -> Result<u32, Stop>
-    requires { S.failures sink.old < 2 ^ 64 - 1 }
+    requires { HasRoom S.failures sink.old }
     ensures { Meets S.took S.failures (Is (λ x. x)) (weighted_bipred target) bits.old bits.new sink.old sink.new result }
 {
     let idc = read_u::<2, S>(bits, ElementName::WeightedBipredIdc, sink)?;
@@ -83,7 +84,7 @@ fn read_weighted_bipred<S: Elements>(
 
 /// The set, element by element.
 fn pps_steps<S: Elements>(target: Target, bits: &mut Bits, sink: &mut S) -> Result<Pps, Stop>
-    requires { S.failures sink.old < 2 ^ 64 - 1 }
+    requires { HasRoom S.failures sink.old }
     ensures meets { Meets S.took S.failures (Is (λ x. x)) (pps target) bits.old bits.new sink.old sink.new result }
     ensures id { IfOk result (λ s. s.pic_parameter_set_id ≤ 255) }
 {
@@ -128,7 +129,7 @@ fn pps_steps<S: Elements>(target: Target, bits: &mut Bits, sink: &mut S) -> Resu
 /// Ok: the set; the elements that the sink was told are its one derivation, with every rule met.
 /// No: the first rule that it breaks, at its stream bit. Write: the sink failed. After an Err the reader may have moved.
 pub fn read_pps<S: Elements>(target: Target, bits: &mut Bits, sink: &mut S) -> Result<Pps, Stop>
-    requires { S.failures sink.old < 2 ^ 64 - 1 }
+    requires { HasRoom S.failures sink.old }
     ensures answers { Answers S.took S.failures (Is (λ x. x)) (pps target) bits.old bits.new sink.old sink.new result }
     ensures meets { Meets S.took S.failures (Is (λ x. x)) (pps target) bits.old bits.new sink.old sink.new result }
     ensures id { IfOk result (λ s. s.pic_parameter_set_id ≤ 255) }

@@ -1,14 +1,14 @@
 -- Where the rule on emulation prevention is broken first.
 use Rattle.std.proofs.Common.{◌≡◌, ◌≢◌, inl, inr, ℕ, ◌+◌, ◌-◌, ◌<◌, ◌≤◌, List, length, get_or, refl, ap, sym, ◌∙◌, subst, arith}
 use Rattle.std.proofs.lemmas.Bool.{cases_lt}
-use Rattle.h264_rbsp.specs.Emulation.{BehindZeros, IsFourth, IsBroken, IsFault, IsFirstFault}
+use Rattle.h264_rbsp.specs.Emulation.{AfterZeros, IsFourth, IsBroken, IsFault, IsFirstFault}
 use Rattle.h264_rbsp.specs.Found.{IsFound}
 
 -- the rule is not broken after two 00 bytes before this place
 abbrev pub NoneBelow : List ℕ → ℕ → Type 0
-NoneBelow body n = (third place : ℕ) → third < n → BehindZeros body third → IsBroken body third place → ⊥
+NoneBelow body n = (third place : ℕ) → third < n → AfterZeros body third → IsBroken body third place → ⊥
 
-found : (body : List ℕ) (third place : ℕ) → BehindZeros body third → IsBroken body third place → IsFound body 2 third
+found : (body : List ℕ) (third place : ℕ) → AfterZeros body third → IsBroken body third place → IsFound body 2 third
 found body third place z (inl b) = let e : get_or body third 0 ≡ 2 = b.byte in record { zeros = z; low = omega arith; high = omega arith }
 found body third place z (inr (inl b)) = let e : get_or body third 0 ≡ 3 = b.byte in record { zeros = z; low = omega arith; high = omega arith }
 found body third place z (inr (inr b)) = let e : get_or body third 0 ≡ 3 = b.byte in record { zeros = z; low = omega arith; high = omega arith }
@@ -27,7 +27,7 @@ module _ (body : List ℕ) (start here : ℕ) (below : NoneBelow body (start + 2
   pub none-before : NoneBelow body here
   none-before third place lt z b = elim (cases_lt third (start + 2)) [ inl low ↦ below third place low z b | inr high ↦ none third high lt (found body third place z b) ]
 
-  pub first-here : BehindZeros body here → IsBroken body here here → IsFirstFault body here
+  pub first-here : AfterZeros body here → IsBroken body here here → IsFirstFault body here
   first-here z b = record {
     fault = record { third = here; zeros = z; broken = b };
     before = λ other lt f. none-before f.third other (let k = third-before body f.third other f.broken in omega arith) f.zeros f.broken;
@@ -70,7 +70,7 @@ module _ (body : List ℕ) (start here : ℕ) (below : NoneBelow body (start + 2
     | inl before ↦ none-before third place before z b
     | inr high ↦ elim (cases_lt third (here + 1)) [
       | inl at ↦ let e : third ≡ here = omega arith in let above : 3 < get_or body (here + 1) 0 = (not-here n m place (subst (λ t. IsBroken body t place) e b)).above in omega arith
-      | inr behind ↦
+      | inr following ↦
           let byte : get_or body here 0 ≡ 3 = three f n in
           elim (cases_lt third (here + 2)) [
             | inl one ↦ let e : third - 1 ≡ here = omega arith in let zero : get_or body (third - 1) 0 ≡ 0 = z.second in let h : get_or body here 0 ≡ 0 = sym (ap (λ k. get_or body k 0) e) ∙ zero in omega arith

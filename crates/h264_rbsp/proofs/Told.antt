@@ -4,29 +4,29 @@ use Rattle.std.proofs.lemmas.Bool.{cond_both, and_parts, or_cases, and_from, or_
 use Rattle.std.specs.Prelude.{◌==◌, nat_lt, MatchResult}
 use Rattle.h264_base.specs.declared.rule.Rule.TheVariants.{Emulation}
 use Rattle.h264_base.specs.declared.stop.Stop.TheVariants.{No}
-use Rattle.h264_rbsp.specs.Emulation.{BehindZeros, IsBroken, IsFault, IsFirstFault, fault_from, told, emulation_checked}
+use Rattle.h264_rbsp.specs.Emulation.{AfterZeros, IsBroken, IsFault, IsFirstFault, fault_from, told, emulation_checked}
 use Rattle.h264_rbsp.proofs.Faults.{third-before}
 
 -- one byte more in front
 module _ (x : ℕ) (l : List ℕ) where
-  pub zeros-on : (third : ℕ) → BehindZeros l third → BehindZeros (x ∷ l) (suc third)
+  pub zeros-on : (third : ℕ) → AfterZeros l third → AfterZeros (x ∷ l) (suc third)
   zeros-on third z =
-      let b : 2 ≤ third = z.behind in
+      let b : 2 ≤ third = z.following in
       let e : suc third - 2 ≡ suc (third - 2) = omega arith in
       let f : suc third - 1 ≡ suc (third - 1) = omega arith in
       record {
-        behind = omega arith;
+        following = omega arith;
         within = omega (arith, z.within);
         first = ap (λ k. get_or (x ∷ l) k 0) e ∙ z.first;
         second = ap (λ k. get_or (x ∷ l) k 0) f ∙ z.second;
       }
 
-  pub zeros-back : (third : ℕ) → BehindZeros (x ∷ l) (suc third) → 2 ≤ third → BehindZeros l third
+  pub zeros-back : (third : ℕ) → AfterZeros (x ∷ l) (suc third) → 2 ≤ third → AfterZeros l third
   zeros-back third z h =
       let e : suc (third - 2) ≡ suc third - 2 = omega arith in
       let f : suc (third - 1) ≡ suc third - 1 = omega arith in
       record {
-        behind = h;
+        following = h;
         within = omega (arith, z.within);
         first = ap (λ k. get_or (x ∷ l) k 0) e ∙ z.first;
         second = ap (λ k. get_or (x ∷ l) k 0) f ∙ z.second;
@@ -61,20 +61,20 @@ IsAnswer n l None = (place : ℕ) → IsFault l place → ⊥
 IsAnswer n l (Some m) = (place : ℕ) × (m ≡ n + place) × IsFirstFault l place
 
 none-short : (l : List ℕ) → length l ≤ 2 → (place : ℕ) → IsFault l place → ⊥
-none-short l h place f = let b : 2 ≤ f.third = f.zeros.behind in let w : f.third < length l = f.zeros.within in omega arith
+none-short l h place f = let b : 2 ≤ f.third = f.zeros.following in let w : f.third < length l = f.zeros.within in omega arith
 
 -- the first three bytes
 module _ (x y z : ℕ) (r : List ℕ) where
-  zeros-here : x ≡ 0 → y ≡ 0 → BehindZeros (x ∷ y ∷ z ∷ r) 2
-  zeros-here p q = record { behind = omega arith; within = omega arith; first = p; second = q }
+  zeros-here : x ≡ 0 → y ≡ 0 → AfterZeros (x ∷ y ∷ z ∷ r) 2
+  zeros-here p q = record { following = omega arith; within = omega arith; first = p; second = q }
 
-  zeros-there : BehindZeros (x ∷ y ∷ z ∷ r) 2 → (x ≡ 0) × (y ≡ 0)
+  zeros-there : AfterZeros (x ∷ y ∷ z ∷ r) 2 → (x ≡ 0) × (y ≡ 0)
   zeros-there b = (b.first, b.second)
 
   first-here : (place : ℕ) → x ≡ 0 → y ≡ 0 → place ≡ 2 → IsBroken (x ∷ y ∷ z ∷ r) 2 2 → IsFirstFault (x ∷ y ∷ z ∷ r) 2
   first-here place p q e b = record {
     fault = record { third = 2; zeros = zeros-here p q; broken = b };
-    before = λ other lt f. let k = third-before (x ∷ y ∷ z ∷ r) f.third other f.broken in let l : 2 ≤ f.third = f.zeros.behind in omega arith;
+    before = λ other lt f. let k = third-before (x ∷ y ∷ z ∷ r) f.third other f.broken in let l : 2 ≤ f.third = f.zeros.following in omega arith;
   }
 
 -- a test of the three bytes
@@ -92,7 +92,7 @@ test-three x y z p q e = and_from ((x == 0) && (y == 0)) (z == 3) (and_from (x =
 
 -- a fault of four bytes or more is one of its first, or lies after them
 module _ (x y z w : ℕ) (r : List ℕ) where
-  head : ((x == 0) && (y == 0) && (z == 2)) ≡ false → ((x == 0) && (y == 0) && (z == 3) && nat_lt 3 w) ≡ false → (place : ℕ) → BehindZeros (x ∷ y ∷ z ∷ w ∷ r) 2 → IsBroken (x ∷ y ∷ z ∷ w ∷ r) 2 place → ⊥
+  head : ((x == 0) && (y == 0) && (z == 2)) ≡ false → ((x == 0) && (y == 0) && (z == 3) && nat_lt 3 w) ≡ false → (place : ℕ) → AfterZeros (x ∷ y ∷ z ∷ w ∷ r) 2 → IsBroken (x ∷ y ∷ z ∷ w ∷ r) 2 place → ⊥
   head two three place b (inl c) = let q = zeros-there x y z (w ∷ r) b in both_ways _ two (test-two x y z q.0 q.1 c.byte)
   head two three place b (inr (inl c)) = let e : suc (suc (suc (suc (length r)))) ≡ 2 + 1 = sym c.last in omega arith
   head two three place b (inr (inr c)) = let q = zeros-there x y z (w ∷ r) b in
@@ -100,23 +100,23 @@ module _ (x y z w : ℕ) (r : List ℕ) where
 
   -- where the first bytes pass
   module _ (two : ((x == 0) && (y == 0) && (z == 2)) ≡ false) (three : ((x == 0) && (y == 0) && (z == 3) && nat_lt 3 w) ≡ false) where
-    behind : (third place : ℕ) → BehindZeros (x ∷ y ∷ z ∷ w ∷ r) third → IsBroken (x ∷ y ∷ z ∷ w ∷ r) third place → (from : ℕ) × (place ≡ suc from) × IsFault (y ∷ z ∷ w ∷ r) from
-    behind zero place b c = absurd (omega (arith, b.behind))
-    behind (suc zero) place b c = absurd (omega (arith, b.behind))
-    behind (suc (suc zero)) place b c = absurd (head two three place b c)
-    behind (suc (suc (suc third))) place b c =
+    following : (third place : ℕ) → AfterZeros (x ∷ y ∷ z ∷ w ∷ r) third → IsBroken (x ∷ y ∷ z ∷ w ∷ r) third place → (from : ℕ) × (place ≡ suc from) × IsFault (y ∷ z ∷ w ∷ r) from
+    following zero place b c = absurd (omega (arith, b.following))
+    following (suc zero) place b c = absurd (omega (arith, b.following))
+    following (suc (suc zero)) place b c = absurd (head two three place b c)
+    following (suc (suc (suc third))) place b c =
         let k = broken-back x (y ∷ z ∷ w ∷ r) (suc (suc third)) place c in
         (k.from, k.place_is, record { third = suc (suc third); zeros = zeros-back x (y ∷ z ∷ w ∷ r) (suc (suc third)) b (omega arith); broken = k.broken })
 
     lift : (n : ℕ) (o : Option ℕ) → IsAnswer (n + 1) (y ∷ z ∷ w ∷ r) o → IsAnswer n (x ∷ y ∷ z ∷ w ∷ r) o
-    lift n None h = λ place f. let k = behind f.third place f.zeros f.broken in h k.0 k.2
+    lift n None h = λ place f. let k = following f.third place f.zeros f.broken in h k.0 k.2
     lift n (Some m) h =
         let e : m ≡ n + 1 + h.0 = h.1 in (
           suc h.0,
           omega arith,
           record {
             fault = fault-on x (y ∷ z ∷ w ∷ r) h.0 h.2.fault;
-            before = λ other lt f. let k = behind f.third other f.zeros f.broken in let g : other ≡ suc k.0 = k.1 in h.2.before k.0 (omega arith) k.2;
+            before = λ other lt f. let k = following f.third other f.zeros f.broken in let g : other ≡ suc k.0 = k.1 in h.2.before k.0 (omega arith) k.2;
           },
         )
 
@@ -137,9 +137,9 @@ told-three n x y z = cond_both ((x == 0) && (y == 0) && ((z == 2) || (z == 3))) 
         let q = and_parts (x == 0) (y == 0) p.0 in
         (2, refl, first-here x y z [] 2 (eqb-true x 0 q.0) (eqb-true y 0 q.1) refl (broken (or_cases (z == 2) (z == 3) p.1)))
 
-    none : ((x == 0) && (y == 0) && ((z == 2) || (z == 3))) ≡ false → (third place : ℕ) → BehindZeros (x ∷ y ∷ z ∷ []) third → IsBroken (x ∷ y ∷ z ∷ []) third place → ⊥
-    none t zero place b c = omega (arith, b.behind)
-    none t (suc zero) place b c = omega (arith, b.behind)
+    none : ((x == 0) && (y == 0) && ((z == 2) || (z == 3))) ≡ false → (third place : ℕ) → AfterZeros (x ∷ y ∷ z ∷ []) third → IsBroken (x ∷ y ∷ z ∷ []) third place → ⊥
+    none t zero place b c = omega (arith, b.following)
+    none t (suc zero) place b c = omega (arith, b.following)
     none t (suc (suc zero)) place b (inl c) = let q = zeros-there x y z [] b in both_ways _ t (test q.0 q.1 (or_left (z == 2) (z == 3) (eq-eqb z 2 c.byte)))
     none t (suc (suc zero)) place b (inr (inl c)) = let q = zeros-there x y z [] b in both_ways _ t (test q.0 q.1 (or_right (z == 2) (z == 3) (eq-eqb z 3 c.byte)))
     none t (suc (suc zero)) place b (inr (inr c)) = omega (arith, c.more)
@@ -171,14 +171,14 @@ told-four n x y z w r h =
           },
         )
       where
-        before : (third other : ℕ) → other < 3 → BehindZeros (x ∷ y ∷ z ∷ w ∷ r) third → IsBroken (x ∷ y ∷ z ∷ w ∷ r) third other → z ≡ 3 → ⊥
+        before : (third other : ℕ) → other < 3 → AfterZeros (x ∷ y ∷ z ∷ w ∷ r) third → IsBroken (x ∷ y ∷ z ∷ w ∷ r) third other → z ≡ 3 → ⊥
         before third other lt b (inl c) e =
-            let m : 2 ≤ third = b.behind in
+            let m : 2 ≤ third = b.following in
             let k : third ≡ 2 = omega (arith, c.place_is) in
             let v : z ≡ 2 = sym (ap (λ k. get_or (x ∷ y ∷ z ∷ w ∷ r) k 0) k) ∙ c.byte in
             omega arith
         before third other lt b (inr (inl c)) e = omega (arith, c.place_is, c.last)
-        before third other lt b (inr (inr c)) e = omega (arith, c.place_is, b.behind)
+        before third other lt b (inr (inr c)) e = omega (arith, c.place_is, b.following)
 
 pub told-is : (n : ℕ) (l : List ℕ) → IsAnswer n l (fault_from n l)
 unfolding fault_from

@@ -23,7 +23,7 @@ module _ (x y z : ℕ) (r : List ℕ) where
       let p = and_parts ((x == 0) && (y == 0)) (z == 3) t in
       let q = and_parts (x == 0) (y == 0) p.0 in
       let e : z ≡ 3 = eqb-true z 3 p.1 in
-      record { zeros = record { behind = omega arith; within = omega arith; first = eqb-true x 0 q.0; second = eqb-true y 0 q.1 }; low = omega arith; high = omega arith }
+      record { zeros = record { following = omega arith; within = omega arith; first = eqb-true x 0 q.0; second = eqb-true y 0 q.1 }; low = omega arith; high = omega arith }
 
   prevents : IsFound (x ∷ y ∷ z ∷ r) 3 2 → is_prevention x y z ≡ true
   prevents f = and_from ((x == 0) && (y == 0)) (z == 3) (and_from (x == 0) (y == 0) (eq-eqb x 0 f.zeros.first) (eq-eqb y 0 f.zeros.second)) (eq-eqb z 3 (is-three (x ∷ y ∷ z ∷ r) 2 f))
@@ -51,32 +51,32 @@ module _ (x y z : ℕ) (r : List ℕ) where
 abbrev pub NoneTo : List ℕ → ℕ → Type 0
 NoneTo l n = (p : ℕ) → 2 ≤ p → p < n → IsFound l 3 p → ⊥
 
-none-behind : (x : ℕ) (l : List ℕ) (n : ℕ) → NoneTo (x ∷ l) (suc n) → NoneTo l n
-none-behind x l n h p low lt f = h (suc p) (omega arith) (omega arith) (found-on x l p f)
+none-following : (x : ℕ) (l : List ℕ) (n : ℕ) → NoneTo (x ∷ l) (suc n) → NoneTo l n
+none-following x l n h p low lt f = h (suc p) (omega arith) (omega arith) (found-on x l p f)
 
 -- up to the next, and after it
 pub bytes-front : (l : List ℕ) (n : ℕ) → IsFound l 3 n → NoneTo l n → rbsp_bytes l ≡ take n l ++ rbsp_bytes (drop (n + 1) l)
-bytes-front l zero f h = absurd (omega (arith, f.zeros.behind))
-bytes-front l (suc zero) f h = absurd (omega (arith, f.zeros.behind))
+bytes-front l zero f h = absurd (omega (arith, f.zeros.following))
+bytes-front l (suc zero) f h = absurd (omega (arith, f.zeros.following))
 bytes-front [] (suc (suc n)) f h = absurd (omega (arith, f.zeros.within))
 bytes-front (x ∷ []) (suc (suc n)) f h = absurd (omega (arith, f.zeros.within))
 bytes-front (x ∷ y ∷ []) (suc (suc n)) f h = absurd (omega (arith, f.zeros.within))
 bytes-front (x ∷ y ∷ z ∷ r) (suc (suc zero)) f h = bytes-here x y z r (prevents x y z r f)
 bytes-front (x ∷ y ∷ z ∷ r) (suc (suc (suc n))) f h =
     bytes-on x y z r (passes x y z r (h 2 (omega arith) (omega arith)))
-    ∙ ap (λ l. x ∷ l) (bytes-front (y ∷ z ∷ r) (suc (suc n)) (found-back x (y ∷ z ∷ r) (suc (suc n)) f (omega arith)) (none-behind x (y ∷ z ∷ r) (suc (suc n)) h))
+    ∙ ap (λ l. x ∷ l) (bytes-front (y ∷ z ∷ r) (suc (suc n)) (found-back x (y ∷ z ∷ r) (suc (suc n)) f (omega arith)) (none-following x (y ∷ z ∷ r) (suc (suc n)) h))
     ∙ ap (λ k. x ∷ (take (suc (suc n)) (y ∷ z ∷ r) ++ rbsp_bytes (drop k (x ∷ y ∷ z ∷ r)))) (let e : suc (suc (suc n) + 1) ≡ suc (suc (suc n)) + 1 = omega arith in e)
 
 pub dropped-front : (l : List ℕ) (m n : ℕ) → IsFound l 3 n → NoneTo l n → dropped_from m l ≡ (m + n) ∷ dropped_from (m + n) (drop (n + 1) l)
-dropped-front l m zero f h = absurd (omega (arith, f.zeros.behind))
-dropped-front l m (suc zero) f h = absurd (omega (arith, f.zeros.behind))
+dropped-front l m zero f h = absurd (omega (arith, f.zeros.following))
+dropped-front l m (suc zero) f h = absurd (omega (arith, f.zeros.following))
 dropped-front [] m (suc (suc n)) f h = absurd (omega (arith, f.zeros.within))
 dropped-front (x ∷ []) m (suc (suc n)) f h = absurd (omega (arith, f.zeros.within))
 dropped-front (x ∷ y ∷ []) m (suc (suc n)) f h = absurd (omega (arith, f.zeros.within))
 dropped-front (x ∷ y ∷ z ∷ r) m (suc (suc zero)) f h = dropped-here x y z r m (prevents x y z r f)
 dropped-front (x ∷ y ∷ z ∷ r) m (suc (suc (suc n))) f h =
     dropped-on x y z r m (passes x y z r (h 2 (omega arith) (omega arith)))
-    ∙ dropped-front (y ∷ z ∷ r) (m + 1) (suc (suc n)) (found-back x (y ∷ z ∷ r) (suc (suc n)) f (omega arith)) (none-behind x (y ∷ z ∷ r) (suc (suc n)) h)
+    ∙ dropped-front (y ∷ z ∷ r) (m + 1) (suc (suc n)) (found-back x (y ∷ z ∷ r) (suc (suc n)) f (omega arith)) (none-following x (y ∷ z ∷ r) (suc (suc n)) h)
     ∙ ap (λ k. k ∷ dropped_from k (drop (suc (suc n) + 1) (y ∷ z ∷ r))) (let e : m + 1 + suc (suc n) ≡ m + suc (suc (suc n)) = omega arith in e)
     ∙ ap (λ k. (m + suc (suc (suc n))) ∷ dropped_from (m + suc (suc (suc n))) (drop k (x ∷ y ∷ z ∷ r))) (let e : suc (suc (suc n) + 1) ≡ suc (suc (suc n)) + 1 = omega arith in e)
 
@@ -86,14 +86,14 @@ unfolding rbsp_bytes
 bytes-whole [] h = refl
 bytes-whole (x ∷ []) h = refl
 bytes-whole (x ∷ y ∷ []) h = refl
-bytes-whole (x ∷ y ∷ z ∷ r) h = bytes-on x y z r (passes x y z r (h 2 (omega arith) (omega arith))) ∙ ap (λ l. x ∷ l) (bytes-whole (y ∷ z ∷ r) (none-behind x (y ∷ z ∷ r) (length (y ∷ z ∷ r)) h))
+bytes-whole (x ∷ y ∷ z ∷ r) h = bytes-on x y z r (passes x y z r (h 2 (omega arith) (omega arith))) ∙ ap (λ l. x ∷ l) (bytes-whole (y ∷ z ∷ r) (none-following x (y ∷ z ∷ r) (length (y ∷ z ∷ r)) h))
 
 pub dropped-whole : (l : List ℕ) (m : ℕ) → NoneTo l (length l) → dropped_from m l ≡ []
 unfolding dropped_from
 dropped-whole [] m h = refl
 dropped-whole (x ∷ []) m h = refl
 dropped-whole (x ∷ y ∷ []) m h = refl
-dropped-whole (x ∷ y ∷ z ∷ r) m h = dropped-on x y z r m (passes x y z r (h 2 (omega arith) (omega arith))) ∙ dropped-whole (y ∷ z ∷ r) (m + 1) (none-behind x (y ∷ z ∷ r) (length (y ∷ z ∷ r)) h)
+dropped-whole (x ∷ y ∷ z ∷ r) m h = dropped-on x y z r m (passes x y z r (h 2 (omega arith) (omega arith))) ∙ dropped-whole (y ∷ z ∷ r) (m + 1) (none-following x (y ∷ z ∷ r) (length (y ∷ z ∷ r)) h)
 
 -- the same in the bytes from a place on
 module _ (l : List ℕ) (start : ℕ) where
@@ -102,7 +102,7 @@ module _ (l : List ℕ) (start : ℕ) where
 
   found-whole : (p : ℕ) → IsFound (drop start l) 3 p → IsFound l 3 (start + p)
   found-whole p f =
-      let b : 2 ≤ p = f.zeros.behind in
+      let b : 2 ≤ p = f.zeros.following in
       let w : p < length (drop start l) = f.zeros.within in
       let n : length (drop start l) ≡ length l - start = length-drop start l in
       let e : start + p - 2 ≡ start + (p - 2) = omega arith in
@@ -112,13 +112,13 @@ module _ (l : List ℕ) (start : ℕ) where
       let low : 3 ≤ get_or (drop start l) p 0 = f.low in
       let high : get_or (drop start l) p 0 ≤ 3 = f.high in
       record {
-        zeros = record { behind = omega arith; within = omega arith; first = sym (drop-at (start + p - 2) (p - 2) e) ∙ f.zeros.first; second = sym (drop-at (start + p - 1) (p - 1) g) ∙ f.zeros.second };
+        zeros = record { following = omega arith; within = omega arith; first = sym (drop-at (start + p - 2) (p - 2) e) ∙ f.zeros.first; second = sym (drop-at (start + p - 1) (p - 1) g) ∙ f.zeros.second };
         low = omega arith;
         high = omega arith;
       }
 
   found-part : (place : ℕ) → start + 2 ≤ place → IsFound l 3 place → IsFound (drop start l) 3 (place - start)
-  found-part place behind f =
+  found-part place following f =
       let w : place < length l = f.zeros.within in
       let n : length (drop start l) ≡ length l - start = length-drop start l in
       let e : place - 2 ≡ start + (place - start - 2) = omega arith in
@@ -128,7 +128,7 @@ module _ (l : List ℕ) (start : ℕ) where
       let low : 3 ≤ get_or l place 0 = f.low in
       let high : get_or l place 0 ≤ 3 = f.high in
       record {
-        zeros = record { behind = omega arith; within = omega arith; first = drop-at (place - 2) (place - start - 2) e ∙ f.zeros.first; second = drop-at (place - 1) (place - start - 1) g ∙ f.zeros.second };
+        zeros = record { following = omega arith; within = omega arith; first = drop-at (place - 2) (place - start - 2) e ∙ f.zeros.first; second = drop-at (place - 1) (place - start - 1) g ∙ f.zeros.second };
         low = omega arith;
         high = omega arith;
       }
@@ -156,9 +156,9 @@ module _ (payload : List ℕ) (start : ℕ) (bytes dropped : List ℕ) (b : byte
     pub last-dropped : place ≡ length payload → dropped ≡ dropped_from 0 payload
     last-dropped e = sym (append-nil dropped) ∙ ap (λ l. dropped ++ l) (sym (dropped-whole (drop start payload) (length bytes) (none-whole e))) ∙ d
 
-    module _ (behind : start + 2 ≤ place) (f : IsFound payload 3 place) where
+    module _ (following : start + 2 ≤ place) (f : IsFound payload 3 place) where
       front : IsFound (drop start payload) 3 (place - start)
-      front = found-part payload start place behind f
+      front = found-part payload start place following f
 
       on : drop (place - start + 1) (drop start payload) ≡ drop (place + 1) payload
       on = drop-drop (place - start + 1) start payload ∙ ap (λ k. drop k payload) (let e : start + (place - start + 1) ≡ place + 1 = omega arith in e)

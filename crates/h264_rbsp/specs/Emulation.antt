@@ -1,12 +1,13 @@
 -- Emulation prevention in a NAL unit (7.4.1). Places count the bytes of the unit from 0, the header among them. To be read beside the standard.
-use Rattle.std.specs.Prelude.{◌≡◌, ℕ, ◌+◌, ◌-◌, ◌*◌, ◌<◌, ◌≤◌, ◌⊎◌, List, [], ◌∷◌, length, slice_index, Option, Some, None, Result, Ok, Err, ◌==◌, ◌&&◌, ◌||◌, nat_lt, if◌then◌else◌}
+use Rattle.std.specs.Prelude.{◌≡◌, ℕ, ◌+◌, ◌-◌, ◌*◌, ◌<◌, ◌≤◌, ◌⊎◌, List, [], ◌∷◌, length, slice_index, Option, Some, None, Result, Ok, Err, ◌==◌, ◌&&◌, ◌||◌}
+use Rattle.std.specs.Prelude.{nat_lt, if◌then◌else◌}
 use Rattle.h264_base.specs.declared.rule.Rule.TheVariants.{Emulation}
 use Rattle.h264_base.specs.declared.stop.Stop.{Stop}
 use Rattle.h264_base.specs.declared.stop.Stop.TheVariants.{No}
 
 -- this byte stands after two 00 bytes
-pub record BehindZeros (body : List ℕ) (place : ℕ) : Type 0 where
-  pub behind : 2 ≤ place
+pub record AfterZeros (body : List ℕ) (place : ℕ) : Type 0 where
+  pub following : 2 ≤ place
   pub within : place < length body
   pub first : slice_index body (place - 2) ≡ 0
   pub second : slice_index body (place - 1) ≡ 0
@@ -35,7 +36,7 @@ IsBroken body third place = IsTwo body third place ⊎ (IsLastThree body third p
 -- At this place the bytes of a unit break the rule.
 pub record IsFault (body : List ℕ) (place : ℕ) : Type 0 where
   pub third : ℕ
-  pub zeros : BehindZeros body third
+  pub zeros : AfterZeros body third
   pub broken : IsBroken body third place
 
 -- The first such place.

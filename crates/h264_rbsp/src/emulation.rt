@@ -4,7 +4,7 @@
 ghost use Rattle.std.specs.Prelude.{◌≡◌, ℕ, ◌+◌, ◌*◌, ◌<◌, length, MatchOption, OnOk, IfErr};
 ghost use Rattle.h264_rbsp.specs.Emulation.{IsFault, IsFirstFault, emulation_checked};
 
-use crate::scan::next_behind_zeros;
+use crate::scan::next_after_zeros;
 use h264_base::{Rule, Stop};
 use h264_units::NalUnit;
 
@@ -18,7 +18,7 @@ fn first_fault(body: &[u8]) -> Option<usize>
 {
     let mut start = 0;
     while start < body.len() {
-        let place = next_behind_zeros(body, start, 2);
+        let place = next_after_zeros(body, start, 2);
         if place == body.len() {
             return None;
         }

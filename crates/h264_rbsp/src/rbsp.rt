@@ -1,7 +1,7 @@
 //! The RBSP of a NAL unit (7.3.1).
 #![tactic(auto)]
 
-use crate::unescape::{behind_header, unescaped};
+use crate::unescape::{after_header, unescaped};
 use h264_base::Stop;
 use h264_units::NalUnit;
 use smallvec::SmallVec;
@@ -37,7 +37,7 @@ impl Rbsp {
         ensures ok { IfOk result (λ rbsp. rbsp ≡ body_of unit.now) }
         ensures err { IfErr result (λ stop. stop ≡ Stop.Memory) }
     {
-        match unescaped(alloc, behind_header(unit.body())) {
+        match unescaped(alloc, after_header(unit.body())) {
             Ok((bytes, dropped)) => Ok(Rbsp {
                 bytes,
                 first: 8 * (unit.from() + 1),

@@ -4,12 +4,12 @@
 ghost use Rattle.std.specs.Prelude.{◌≡◌, ◌<◌, ◌^◌, drop, length, IfOk};
 ghost use Rattle.h264_rbsp.specs.Rbsp.{rbsp_bytes, dropped_from};
 
-use crate::scan::next_behind_zeros;
+use crate::scan::next_after_zeros;
 use smallvec::SmallVec;
 use std::alloc::{AllocError, Global};
 
 /// The bytes of a unit without its header.
-pub(crate) fn behind_header(body: &[u8]) -> &[u8]
+pub(crate) fn after_header(body: &[u8]) -> &[u8]
     requires { 0 < length body.now }
     ensures { result.now ≡ drop 1 body.now }
 {
@@ -29,7 +29,7 @@ pub(crate) fn unescaped(
     let mut dropped = SmallVec::new(alloc);
     let mut start = 0;
     while start < payload.len() {
-        let place = next_behind_zeros(payload, start, 3);
+        let place = next_after_zeros(payload, start, 3);
         bytes.extend_from_slice(&payload[start..place])?;
         if place == payload.len() {
             return Ok((bytes, dropped));

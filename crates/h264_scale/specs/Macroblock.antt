@@ -87,7 +87,8 @@ place n x y i j = n * (4 * y + j) + (4 * x + i)
 -- the residual of a block is written, and each other number is kept
 pub record IsPut (n : ℕ) (old new : List ℤ) (x y : ℕ) (block : List ℤ) : Type 0 where
   pub here : (i j : ℕ) → i < 4 → j < 4 → get_or new (place n x y i j) (pos 0) ≡ get_or block (4 * j + i) (pos 0)
-  pub kept : (u v i j : ℕ) → 4 * u + 4 ≤ n → 4 * v + 4 ≤ n → i < 4 → j < 4 → (u ≢ x) ⊎ (v ≢ y) → get_or new (place n u v i j) (pos 0) ≡ get_or old (place n u v i j) (pos 0)
+  pub kept : (u v i j : ℕ) → 4 * u + 4 ≤ n → 4 * v + 4 ≤ n → i < 4 → j < 4 → (u ≢ x) ⊎ (v ≢ y) →
+      get_or new (place n u v i j) (pos 0) ≡ get_or old (place n u v i j) (pos 0)
 
 -- the number of a chroma block
 abbrev pub raster : ℕ → ℕ → ℕ

@@ -5,7 +5,7 @@ use std::process::Abort;
 fn blocks(rt: HostRuntime) {
     blocks_of_one_level(&rt);
     rows_come_first(&rt);
-    blocks_behind_a_dc(&rt);
+    blocks_after_a_dc(&rt);
     luma_dcs(&rt);
     chroma_dcs(&rt);
     extreme_levels(&rt);
@@ -110,7 +110,7 @@ const BEHIND_A_DC: [(i16, [i16; 15], u8, Answer); 9] = [
     (i16::MAX, [0; 15], 51, Err(TransformRange)),
 ];
 
-fn blocks_behind_a_dc(rt: &impl Abort) {
+fn blocks_after_a_dc(rt: &impl Abort) {
     for (dc, levels, qp, residual) in &BEHIND_A_DC {
         assert!(rt; *qp <= 51);
         assert_eq!(rt;

@@ -1,6 +1,8 @@
 -- How pictures are counted: the part of the sequence parameter set from pic_order_cnt_type on (7.3.2.1.1). To be read beside the standard.
 use Rattle.std.specs.Prelude.{ℕ, ℤ, zero, suc, ◌+◌, ◌-◌, pos, List, [], ◌++◌, length, replicate}
-use Rattle.h264_base.specs.declared.element_name.ElementName.TheVariants.{PicOrderCntType, Log2MaxPicOrderCntLsbMinus4, DeltaPicOrderAlwaysZeroFlag, OffsetForNonRefPic, OffsetForTopToBottomField, NumRefFramesInPicOrderCntCycle, OffsetForRefFrame}
+use Rattle.h264_base.specs.declared.element_name.ElementName.TheVariants.{PicOrderCntType, Log2MaxPicOrderCntLsbMinus4, DeltaPicOrderAlwaysZeroFlag}
+use Rattle.h264_base.specs.declared.element_name.ElementName.TheVariants.{OffsetForNonRefPic, OffsetForTopToBottomField, NumRefFramesInPicOrderCntCycle}
+use Rattle.h264_base.specs.declared.element_name.ElementName.TheVariants.{OffsetForRefFrame}
 use Rattle.h264_base.specs.Grammar.{Grammar, Done, ◌>>=◌}
 use Rattle.h264_bits.specs.Forms.{unsigned_to, signed, flag, repeated}
 use Rattle.h264_sps.specs.declared.count_type.Cycle.{Cycle}

@@ -1,6 +1,8 @@
 -- hrd_parameters() (E.1.2). To be read beside the standard.
 use Rattle.std.specs.Prelude.{◌+◌, ◌-◌, false, List, [], ◌++◌, length, replicate}
-use Rattle.h264_base.specs.declared.element_name.ElementName.TheVariants.{CpbCntMinus1, BitRateScale, CpbSizeScale, BitRateValueMinus1, CpbSizeValueMinus1, CbrFlag, InitialCpbRemovalDelayLengthMinus1, CpbRemovalDelayLengthMinus1, DpbOutputDelayLengthMinus1, TimeOffsetLength}
+use Rattle.h264_base.specs.declared.element_name.ElementName.TheVariants.{CpbCntMinus1, BitRateScale, CpbSizeScale, BitRateValueMinus1, CpbSizeValueMinus1}
+use Rattle.h264_base.specs.declared.element_name.ElementName.TheVariants.{CbrFlag, InitialCpbRemovalDelayLengthMinus1, CpbRemovalDelayLengthMinus1}
+use Rattle.h264_base.specs.declared.element_name.ElementName.TheVariants.{DpbOutputDelayLengthMinus1, TimeOffsetLength}
 use Rattle.h264_base.specs.Grammar.{Grammar, Done, ◌>>=◌}
 use Rattle.h264_bits.specs.Forms.{unsigned_to, unsigned, bits, flag, repeated}
 use Rattle.h264_sps.specs.declared.hrd.Cpb.{Cpb}

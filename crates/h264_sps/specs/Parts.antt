@@ -24,7 +24,9 @@ crop_offsets first second macroblocks = do
 
 -- the level allows a frame of this size, and its picture buffer so many reference frames
 abbrev pub is_size_allowed : Limits → ℕ → Size → Bool
-is_size_allowed limits max_num_ref_frames size = nat_le (size.width * size.height) limits.max_fs && (nat_le (size.width * size.width) (8 * limits.max_fs) && (nat_le (size.height * size.height) (8 * limits.max_fs) && nat_le max_num_ref_frames (max_dpb_frames limits size)))
+is_size_allowed limits max_num_ref_frames size = nat_le (size.width * size.height) limits.max_fs
+    && (nat_le (size.width * size.width) (8 * limits.max_fs)
+    && (nat_le (size.height * size.height) (8 * limits.max_fs) && nat_le max_num_ref_frames (max_dpb_frames limits size)))
 
 unfoldable pub sps_from_size : Start → Grammar Sps
 sps_from_size start = do

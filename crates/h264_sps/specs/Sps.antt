@@ -3,7 +3,13 @@ use Rattle.std.specs.Prelude.{ℕ, ◌+◌, ◌*◌, ◌/◌, min, nat_le, nat_l
 use Rattle.std.specs.Option.{is_some}
 use Rattle.h264_base.specs.declared.mode.Target.{Target}
 use Rattle.h264_base.specs.declared.mode.Target.TheVariants as targets
-use Rattle.h264_base.specs.declared.element_name.ElementName.TheVariants.{ProfileIdc, ConstraintSet0Flag, ConstraintSet1Flag, ConstraintSet2Flag, ConstraintSet3Flag, ConstraintSet4Flag, ConstraintSet5Flag, ReservedZero2bits, LevelIdc, SeqParameterSetId, Log2MaxFrameNumMinus4, MaxNumRefFrames, GapsInFrameNumValueAllowedFlag, PicWidthInMbsMinus1, PicHeightInMapUnitsMinus1, FrameMbsOnlyFlag, Direct8x8InferenceFlag, FrameCroppingFlag, FrameCropLeftOffset, FrameCropRightOffset, FrameCropTopOffset, FrameCropBottomOffset, VuiParametersPresentFlag}
+use Rattle.h264_base.specs.declared.element_name.ElementName.TheVariants.{ProfileIdc, ConstraintSet0Flag, ConstraintSet1Flag, ConstraintSet2Flag}
+use Rattle.h264_base.specs.declared.element_name.ElementName.TheVariants.{ConstraintSet3Flag, ConstraintSet4Flag, ConstraintSet5Flag, ReservedZero2bits}
+use Rattle.h264_base.specs.declared.element_name.ElementName.TheVariants.{LevelIdc, SeqParameterSetId, Log2MaxFrameNumMinus4, MaxNumRefFrames}
+use Rattle.h264_base.specs.declared.element_name.ElementName.TheVariants.{GapsInFrameNumValueAllowedFlag, PicWidthInMbsMinus1, PicHeightInMapUnitsMinus1}
+use Rattle.h264_base.specs.declared.element_name.ElementName.TheVariants.{FrameMbsOnlyFlag, Direct8x8InferenceFlag, FrameCroppingFlag, FrameCropLeftOffset}
+use Rattle.h264_base.specs.declared.element_name.ElementName.TheVariants.{FrameCropRightOffset, FrameCropTopOffset, FrameCropBottomOffset}
+use Rattle.h264_base.specs.declared.element_name.ElementName.TheVariants.{VuiParametersPresentFlag}
 use Rattle.h264_base.specs.declared.rule.Rule.TheVariants.{Profile, Range, FrameSize, Crop}
 use Rattle.h264_base.specs.declared.stop.Feature.TheVariants.{Level6}
 use Rattle.h264_base.specs.Word.{Fixed, Unsigned}

@@ -1,7 +1,16 @@
 -- vui_parameters() (E.1.1), with the rules on the picture buffer (E.2.1). To be read beside the standard.
 use Rattle.std.specs.Prelude.{ℕ, nat_le, ◌==◌, ◌||◌, Bool, Option}
 use Rattle.std.specs.Option.{is_some}
-use Rattle.h264_base.specs.declared.element_name.ElementName.TheVariants.{AspectRatioInfoPresentFlag, AspectRatioIdc, SarWidth, SarHeight, OverscanInfoPresentFlag, OverscanAppropriateFlag, VideoSignalTypePresentFlag, VideoFormat, VideoFullRangeFlag, ColourDescriptionPresentFlag, ColourPrimaries, TransferCharacteristics, MatrixCoefficients, ChromaLocInfoPresentFlag, ChromaSampleLocTypeTopField, ChromaSampleLocTypeBottomField, TimingInfoPresentFlag, NumUnitsInTick, TimeScale, FixedFrameRateFlag, NalHrdParametersPresentFlag, VclHrdParametersPresentFlag, LowDelayHrdFlag, PicStructPresentFlag, BitstreamRestrictionFlag, MotionVectorsOverPicBoundariesFlag, MaxBytesPerPicDenom, MaxBitsPerMbDenom, Log2MaxMvLengthHorizontal, Log2MaxMvLengthVertical, MaxNumReorderFrames, MaxDecFrameBuffering}
+use Rattle.h264_base.specs.declared.element_name.ElementName.TheVariants.{AspectRatioInfoPresentFlag, AspectRatioIdc, SarWidth, SarHeight}
+use Rattle.h264_base.specs.declared.element_name.ElementName.TheVariants.{OverscanInfoPresentFlag, OverscanAppropriateFlag, VideoSignalTypePresentFlag}
+use Rattle.h264_base.specs.declared.element_name.ElementName.TheVariants.{VideoFormat, VideoFullRangeFlag, ColourDescriptionPresentFlag, ColourPrimaries}
+use Rattle.h264_base.specs.declared.element_name.ElementName.TheVariants.{TransferCharacteristics, MatrixCoefficients, ChromaLocInfoPresentFlag}
+use Rattle.h264_base.specs.declared.element_name.ElementName.TheVariants.{ChromaSampleLocTypeTopField, ChromaSampleLocTypeBottomField, TimingInfoPresentFlag}
+use Rattle.h264_base.specs.declared.element_name.ElementName.TheVariants.{NumUnitsInTick, TimeScale, FixedFrameRateFlag, NalHrdParametersPresentFlag}
+use Rattle.h264_base.specs.declared.element_name.ElementName.TheVariants.{VclHrdParametersPresentFlag, LowDelayHrdFlag, PicStructPresentFlag}
+use Rattle.h264_base.specs.declared.element_name.ElementName.TheVariants.{BitstreamRestrictionFlag, MotionVectorsOverPicBoundariesFlag, MaxBytesPerPicDenom}
+use Rattle.h264_base.specs.declared.element_name.ElementName.TheVariants.{MaxBitsPerMbDenom, Log2MaxMvLengthHorizontal, Log2MaxMvLengthVertical}
+use Rattle.h264_base.specs.declared.element_name.ElementName.TheVariants.{MaxNumReorderFrames, MaxDecFrameBuffering}
 use Rattle.h264_base.specs.declared.rule.Rule.TheVariants.{Vui}
 use Rattle.h264_base.specs.Word.{Unsigned}
 use Rattle.h264_base.specs.Grammar.{Grammar, Done, ◌>>=◌, element, check}

@@ -2,7 +2,8 @@
 -- is the rest of a structure, from the named element on.
 use Rattle.std.specs.Prelude.{ℕ, nat_le, ◌&&◌, ◌||◌, Bool, Result, Ok, Err, Option, Some}
 use Rattle.std.specs.Option.{is_some}
-use Rattle.h264_base.specs.declared.element_name.ElementName.TheVariants.{NalHrdParametersPresentFlag, VclHrdParametersPresentFlag, LowDelayHrdFlag, PicStructPresentFlag, BitstreamRestrictionFlag}
+use Rattle.h264_base.specs.declared.element_name.ElementName.TheVariants.{NalHrdParametersPresentFlag, VclHrdParametersPresentFlag, LowDelayHrdFlag}
+use Rattle.h264_base.specs.declared.element_name.ElementName.TheVariants.{PicStructPresentFlag, BitstreamRestrictionFlag}
 use Rattle.h264_base.specs.Grammar.{Grammar, Done, ◌>>=◌}
 use Rattle.h264_base.specs.declared.stop.Stop.{Stop}
 use Rattle.h264_bits.specs.Forms.{flag, optional}
@@ -19,7 +20,8 @@ there (Err e) = Err e
 
 -- a picture buffer of so many frames holds the reference frames and those that are reordered, and the level allows it
 abbrev pub is_buffering_allowed : Frames → ℕ → ℕ → Bool
-is_buffering_allowed frames reorder buffering = nat_le reorder buffering && (nat_le frames.max_num_ref_frames buffering && nat_le buffering frames.max_dpb_frames)
+is_buffering_allowed frames reorder buffering =
+    nat_le reorder buffering && (nat_le frames.max_num_ref_frames buffering && nat_le buffering frames.max_dpb_frames)
 
 unfoldable pub vui_from_hrd : Shown → Frames → Grammar VuiParameters
 vui_from_hrd shown frames = do

@@ -2,6 +2,7 @@
 #![tactic(auto)]
 
 ghost use Rattle.std.specs.Prelude.{◌≡◌, ℕ, ◌+◌, ◌-◌, ◌<◌, ◌≤◌, ◌^◌, []};
+ghost use Rattle.h264_base.specs.Call.{HasRoom};
 ghost use Rattle.h264_base.specs.Meets.{Meets, Is};
 ghost use Rattle.h264_base.specs.declared.element_name.ElementName.TheVariants.{OffsetForRefFrame};
 ghost use Rattle.h264_bits.specs.Forms.{signed, repeated};
@@ -40,7 +41,7 @@ pub enum CountType {
 /// The offsets of a cycle of this length.
 fn read_cycle<S: Elements>(length: u32, bits: &mut Bits, sink: &mut S) -> Result<Cycle, Stop>
     requires few { length ≤ 255 }
-    requires room { S.failures sink.old < 2 ^ 64 - 1 }
+    requires room { HasRoom S.failures sink.old }
     ensures { Meets S.took S.failures (λ x l. x ≡ cycle_of l) (repeated (signed OffsetForRefFrame) [] length) bits.old bits.new sink.old sink.new result }
 {
     let mut offset_for_ref_frame = [0i32; 255];
@@ -56,7 +57,7 @@ fn read_cycle<S: Elements>(length: u32, bits: &mut Bits, sink: &mut S) -> Result
 
 /// The elements of type 0.
 fn read_lsb_type<S: Elements>(bits: &mut Bits, sink: &mut S) -> Result<CountType, Stop>
-    requires { S.failures sink.old < 2 ^ 64 - 1 }
+    requires { HasRoom S.failures sink.old }
     ensures { Meets S.took S.failures (Is (λ x. x)) lsb_type bits.old bits.new sink.old sink.new result }
 {
     let log2_minus4 = ue_up_to(bits, ElementName::Log2MaxPicOrderCntLsbMinus4, 12, sink)?;
@@ -67,7 +68,7 @@ fn read_lsb_type<S: Elements>(bits: &mut Bits, sink: &mut S) -> Result<CountType
 
 /// The elements of type 1.
 fn read_cycle_type<S: Elements>(bits: &mut Bits, sink: &mut S) -> Result<CountType, Stop>
-    requires { S.failures sink.old < 2 ^ 64 - 1 }
+    requires { HasRoom S.failures sink.old }
     ensures { Meets S.took S.failures (Is (λ x. x)) cycle_type bits.old bits.new sink.old sink.new result }
 {
     let always_zero = flag_value(bits, ElementName::DeltaPicOrderAlwaysZeroFlag, sink)?;
@@ -85,7 +86,7 @@ fn read_cycle_type<S: Elements>(bits: &mut Bits, sink: &mut S) -> Result<CountTy
 
 /// pic_order_cnt_type, and what goes with it.
 pub(crate) fn read_count_type<S: Elements>(bits: &mut Bits, sink: &mut S) -> Result<CountType, Stop>
-    requires { S.failures sink.old < 2 ^ 64 - 1 }
+    requires { HasRoom S.failures sink.old }
     ensures { Meets S.took S.failures (Is (λ x. x)) counting bits.old bits.new sink.old sink.new result }
 {
     let kind = ue_up_to(bits, ElementName::PicOrderCntType, 2, sink)?;

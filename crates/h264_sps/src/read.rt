@@ -2,6 +2,7 @@
 #![tactic(auto)]
 
 ghost use Rattle.std.specs.Prelude.{◌≡◌, ℕ, ◌+◌, ◌-◌, ◌<◌, ◌≤◌, ◌^◌, IfOk, Some, None, cond};
+ghost use Rattle.h264_base.specs.Call.{HasRoom};
 ghost use Rattle.h264_base.specs.Meets.{Meets, Is, Answers};
 ghost use Rattle.h264_base.specs.declared.element_name.ElementName.TheVariants.{FrameCroppingFlag};
 ghost use Rattle.h264_bits.specs.Forms.{flag};
@@ -63,7 +64,7 @@ fn is_level_6(level_idc: u32) -> bool
 
 /// The six flags.
 fn read_flags<S: Elements>(bits: &mut Bits, sink: &mut S) -> Result<ConstraintSetFlags, Stop>
-    requires { S.failures sink.old < 2 ^ 64 - 1 }
+    requires { HasRoom S.failures sink.old }
     ensures { Meets S.took S.failures (Is (λ x. x)) constraint_set_flags bits.old bits.new sink.old sink.new result }
 {
     let names = [
@@ -87,7 +88,7 @@ fn read_flags<S: Elements>(bits: &mut Bits, sink: &mut S) -> Result<ConstraintSe
 
 /// level_idc: a level that is judged.
 fn read_level<S: Elements>(set3: bool, bits: &mut Bits, sink: &mut S) -> Result<Level, Stop>
-    requires { S.failures sink.old < 2 ^ 64 - 1 }
+    requires { HasRoom S.failures sink.old }
     ensures { Meets S.took S.failures (Is level_seen) (level set3) bits.old bits.new sink.old sink.new result }
 {
     let level = read_u::<8, S>(bits, ElementName::LevelIdc, sink)?;
@@ -106,7 +107,7 @@ fn read_level<S: Elements>(set3: bool, bits: &mut Bits, sink: &mut S) -> Result<
 
 /// The profile, the flags and the level.
 fn read_front<S: Elements>(target: Target, bits: &mut Bits, sink: &mut S) -> Result<Front, Stop>
-    requires { S.failures sink.old < 2 ^ 64 - 1 }
+    requires { HasRoom S.failures sink.old }
     ensures { Meets S.took S.failures (Is front_seen) (profile_and_level target) bits.old bits.new sink.old sink.new result }
 {
     let profile = read_u::<8, S>(bits, ElementName::ProfileIdc, sink)?;
@@ -174,7 +175,7 @@ fn read_frame_size<S: Elements>(
     bits: &mut Bits,
     sink: &mut S,
 ) -> Result<FrameSize, Stop>
-    requires { S.failures sink.old < 2 ^ 64 - 1 }
+    requires { HasRoom S.failures sink.old }
     ensures { Meets S.took S.failures (Is (λ x. x)) (frame_size limits max_num_ref_frames) bits.old bits.new sink.old sink.new result }
 {
     let width_minus1 = read_ue(bits, ElementName::PicWidthInMbsMinus1, sink)?;
@@ -198,14 +199,14 @@ fn read_crop_offsets<S: Elements>(
     bits: &mut Bits,
     sink: &mut S,
 ) -> Result<(u32, u32), Stop>
-    requires { S.failures sink.old < 2 ^ 64 - 1 }
+    requires { HasRoom S.failures sink.old }
     ensures { Meets S.took S.failures (Is (λ x. (x.0, x.1))) (crop_offsets first second macroblocks) bits.old bits.new sink.old sink.new result }
 {
     let before = read_ue(bits, first, sink)?;
-    let behind = read_ue(bits, second, sink)?;
-    let cropped = 2 * (before.value as u64 + behind.value as u64);
-    check(cropped < 16 * macroblocks as u64, Rule::Crop, behind.bit)?;
-    Ok((before.value, behind.value))
+    let following = read_ue(bits, second, sink)?;
+    let cropped = 2 * (before.value as u64 + following.value as u64);
+    check(cropped < 16 * macroblocks as u64, Rule::Crop, following.bit)?;
+    Ok((before.value, following.value))
 }
 
 /// The cropping offsets, where they are present.
@@ -214,7 +215,7 @@ fn read_crop_info<S: Elements>(
     bits: &mut Bits,
     sink: &mut S,
 ) -> Result<Option<FrameCropping>, Stop>
-    requires { S.failures sink.old < 2 ^ 64 - 1 }
+    requires { HasRoom S.failures sink.old }
     ensures { Meets S.took S.failures (Is (λ x. x)) (flagged (flag FrameCroppingFlag) (frame_cropping size)) bits.old bits.new sink.old sink.new result }
 {
     let present = flag_value(bits, ElementName::FrameCroppingFlag, sink)?;
@@ -241,7 +242,7 @@ fn read_crop_info<S: Elements>(
 
 /// The set from the frame's size on.
 fn sps_from_size<S: Elements>(start: &Start, bits: &mut Bits, sink: &mut S) -> Result<Sps, Stop>
-    requires { S.failures sink.old < 2 ^ 64 - 1 }
+    requires { HasRoom S.failures sink.old }
     ensures meets { Meets S.took S.failures (Is (λ x. x)) (sps_from_size start.now) bits.old bits.new sink.old sink.new result }
     ensures id { IfOk result (λ s. s.seq_parameter_set_id ≡ start.now.seq_parameter_set_id) }
 {
@@ -272,7 +273,7 @@ fn sps_from_size<S: Elements>(start: &Start, bits: &mut Bits, sink: &mut S) -> R
 
 /// The set, element by element.
 fn sps_steps<S: Elements>(target: Target, bits: &mut Bits, sink: &mut S) -> Result<Sps, Stop>
-    requires { S.failures sink.old < 2 ^ 64 - 1 }
+    requires { HasRoom S.failures sink.old }
     ensures meets { Meets S.took S.failures (Is (λ x. x)) (sps target) bits.old bits.new sink.old sink.new result }
     ensures id { IfOk result (λ s. s.seq_parameter_set_id ≤ 31) }
 {
@@ -299,7 +300,7 @@ fn sps_steps<S: Elements>(target: Target, bits: &mut Bits, sink: &mut S) -> Resu
 /// No: the first rule that it breaks, at its stream bit. Outside: its level is one that is not judged. Write: the sink failed.
 /// After an Err the reader may have moved.
 pub fn read_sps<S: Elements>(target: Target, bits: &mut Bits, sink: &mut S) -> Result<Sps, Stop>
-    requires { S.failures sink.old < 2 ^ 64 - 1 }
+    requires { HasRoom S.failures sink.old }
     ensures answers { Answers S.took S.failures (Is (λ x. x)) (sps target) bits.old bits.new sink.old sink.new result }
     ensures meets { Meets S.took S.failures (Is (λ x. x)) (sps target) bits.old bits.new sink.old sink.new result }
     ensures id { IfOk result (λ s. s.seq_parameter_set_id ≤ 31) }

@@ -2,6 +2,7 @@
 #![tactic(auto)]
 
 ghost use Rattle.std.specs.Prelude.{◌≡◌, ◌||◌, ℕ, ◌-◌, ◌<◌, ◌^◌};
+ghost use Rattle.h264_base.specs.Call.{HasRoom};
 ghost use Rattle.std.specs.Option.{is_some};
 ghost use Rattle.h264_base.specs.Meets.{Meets, Is};
 ghost use Rattle.h264_base.specs.declared.element_name.ElementName.TheVariants.{AspectRatioInfoPresentFlag, OverscanInfoPresentFlag};
@@ -131,7 +132,7 @@ fn read_extended<S: Elements>(
     bits: &mut Bits,
     sink: &mut S,
 ) -> Result<Option<ExtendedRatio>, Stop>
-    requires { S.failures sink.old < 2 ^ 64 - 1 }
+    requires { HasRoom S.failures sink.old }
     ensures { Meets S.took S.failures (Is (λ x. x)) (optional present extended_ratio) bits.old bits.new sink.old sink.new result }
 {
     if !present {
@@ -151,7 +152,7 @@ fn read_colours<S: Elements>(
     bits: &mut Bits,
     sink: &mut S,
 ) -> Result<Option<ColourDescription>, Stop>
-    requires { S.failures sink.old < 2 ^ 64 - 1 }
+    requires { HasRoom S.failures sink.old }
     ensures { Meets S.took S.failures (Is (λ x. x)) (optional present colour_description) bits.old bits.new sink.old sink.new result }
 {
     if !present {
@@ -175,7 +176,7 @@ fn read_video_signal_type<S: Elements>(
     bits: &mut Bits,
     sink: &mut S,
 ) -> Result<VideoSignalType, Stop>
-    requires { S.failures sink.old < 2 ^ 64 - 1 }
+    requires { HasRoom S.failures sink.old }
     ensures { Meets S.took S.failures (Is (λ x. x)) video_signal_type bits.old bits.new sink.old sink.new result }
 {
     let format = u_value::<3, S>(bits, ElementName::VideoFormat, sink)?;
@@ -204,7 +205,7 @@ fn read_bitstream_restriction<S: Elements>(
     bits: &mut Bits,
     sink: &mut S,
 ) -> Result<BitstreamRestriction, Stop>
-    requires { S.failures sink.old < 2 ^ 64 - 1 }
+    requires { HasRoom S.failures sink.old }
     ensures { Meets S.took S.failures (Is (λ x. x)) (bitstream_restriction frames.max_num_ref_frames frames.max_dpb_frames) bits.old bits.new sink.old
         sink.new result }
 {
@@ -239,7 +240,7 @@ fn read_ratio_info<S: Elements>(
     bits: &mut Bits,
     sink: &mut S,
 ) -> Result<Option<SampleAspectRatio>, Stop>
-    requires { S.failures sink.old < 2 ^ 64 - 1 }
+    requires { HasRoom S.failures sink.old }
     ensures { Meets S.took S.failures (Is (λ x. x)) (flagged (flag AspectRatioInfoPresentFlag) sample_aspect_ratio) bits.old bits.new sink.old
         sink.new result }
 {
@@ -257,7 +258,7 @@ fn read_ratio_info<S: Elements>(
 
 /// overscan_appropriate_flag, where it is present.
 fn read_overscan_info<S: Elements>(bits: &mut Bits, sink: &mut S) -> Result<Option<bool>, Stop>
-    requires { S.failures sink.old < 2 ^ 64 - 1 }
+    requires { HasRoom S.failures sink.old }
     ensures { Meets S.took S.failures (Is (λ x. x)) (flagged (flag OverscanInfoPresentFlag) (flag OverscanAppropriateFlag)) bits.old bits.new sink.old
         sink.new result }
 {
@@ -273,7 +274,7 @@ fn read_signal_info<S: Elements>(
     bits: &mut Bits,
     sink: &mut S,
 ) -> Result<Option<VideoSignalType>, Stop>
-    requires { S.failures sink.old < 2 ^ 64 - 1 }
+    requires { HasRoom S.failures sink.old }
     ensures { Meets S.took S.failures (Is (λ x. x)) (flagged (flag VideoSignalTypePresentFlag) video_signal_type) bits.old bits.new sink.old sink.new
         result }
 {
@@ -289,7 +290,7 @@ fn read_location_info<S: Elements>(
     bits: &mut Bits,
     sink: &mut S,
 ) -> Result<Option<ChromaLocation>, Stop>
-    requires { S.failures sink.old < 2 ^ 64 - 1 }
+    requires { HasRoom S.failures sink.old }
     ensures { Meets S.took S.failures (Is (λ x. x)) (flagged (flag ChromaLocInfoPresentFlag) chroma_location) bits.old bits.new sink.old sink.new result }
 {
     let present = flag_value(bits, ElementName::ChromaLocInfoPresentFlag, sink)?;
@@ -309,7 +310,7 @@ fn read_location_info<S: Elements>(
 
 /// The rate of pictures, where it is present.
 fn read_timing_info<S: Elements>(bits: &mut Bits, sink: &mut S) -> Result<Option<Timing>, Stop>
-    requires { S.failures sink.old < 2 ^ 64 - 1 }
+    requires { HasRoom S.failures sink.old }
     ensures { Meets S.took S.failures (Is (λ x. x)) (flagged (flag TimingInfoPresentFlag) timing) bits.old bits.new sink.old sink.new result }
 {
     let present = flag_value(bits, ElementName::TimingInfoPresentFlag, sink)?;
@@ -332,7 +333,7 @@ fn read_hrd_info<S: Elements>(
     bits: &mut Bits,
     sink: &mut S,
 ) -> Result<Option<Hrd>, Stop>
-    requires { S.failures sink.old < 2 ^ 64 - 1 }
+    requires { HasRoom S.failures sink.old }
     ensures { Meets S.took S.failures (Is (λ x. x)) (flagged (flag flag_name) hrd) bits.old bits.new sink.old sink.new result }
 {
     match flag_value(bits, flag_name, sink) {
@@ -355,7 +356,7 @@ fn read_low_delay<S: Elements>(
     bits: &mut Bits,
     sink: &mut S,
 ) -> Result<Option<bool>, Stop>
-    requires { S.failures sink.old < 2 ^ 64 - 1 }
+    requires { HasRoom S.failures sink.old }
     ensures { Meets S.took S.failures (Is (λ x. x)) (optional present (flag LowDelayHrdFlag)) bits.old bits.new sink.old sink.new result }
 {
     if !present {
@@ -370,7 +371,7 @@ fn read_restriction<S: Elements>(
     bits: &mut Bits,
     sink: &mut S,
 ) -> Result<Option<BitstreamRestriction>, Stop>
-    requires { S.failures sink.old < 2 ^ 64 - 1 }
+    requires { HasRoom S.failures sink.old }
     ensures { Meets S.took S.failures (Is (λ x. x)) (flagged (flag BitstreamRestrictionFlag)
         (bitstream_restriction frames.max_num_ref_frames frames.max_dpb_frames)) bits.old bits.new sink.old sink.new result }
 {
@@ -388,7 +389,7 @@ fn vui_from_hrd<S: Elements>(
     bits: &mut Bits,
     sink: &mut S,
 ) -> Result<Vui, Stop>
-    requires { S.failures sink.old < 2 ^ 64 - 1 }
+    requires { HasRoom S.failures sink.old }
     ensures { Meets S.took S.failures (Is (λ x. x)) (vui_from_hrd shown.now frames) bits.old bits.new sink.old sink.new result }
 {
     let nal = read_hrd_info(ElementName::NalHrdParametersPresentFlag, bits, sink)?;
@@ -412,7 +413,7 @@ fn vui_from_hrd<S: Elements>(
 
 /// vui_parameters(), of a stream with so many reference frames, at a level whose buffer holds so many frames of its size.
 fn read_vui<S: Elements>(frames: Frames, bits: &mut Bits, sink: &mut S) -> Result<Vui, Stop>
-    requires { S.failures sink.old < 2 ^ 64 - 1 }
+    requires { HasRoom S.failures sink.old }
     ensures { Meets S.took S.failures (Is (λ x. x)) (vui frames.max_num_ref_frames frames.max_dpb_frames) bits.old bits.new sink.old sink.new result }
 {
     let ratio = read_ratio_info(bits, sink)?;
@@ -441,7 +442,7 @@ pub fn read_vui_info<S: Elements>(
     bits: &mut Bits,
     sink: &mut S,
 ) -> Result<Option<Vui>, Stop>
-    requires { S.failures sink.old < 2 ^ 64 - 1 }
+    requires { HasRoom S.failures sink.old }
     ensures { Meets S.took S.failures (Is (λ x. x)) (flagged (flag VuiParametersPresentFlag) (vui max_num_ref_frames max_dpb_frames)) bits.old
         bits.new sink.old sink.new result }
 {

@@ -7,6 +7,7 @@ use Rattle.std.proofs.Math.Nat.{pow-succ', pow-le-pow_right}
 use lib.Count.{count_leading_zeros}
 use Rattle.h264_base.specs.Table.{Row}
 use Rattle.h264_tables.specs.Front.{begins, front_of, found_of}
+use Rattle.h264_base.proofs.Words.{pair_same}
 
 -- entry k serves the numbers whose first bits, without the last `shift_of`, are `place_of`; p is a power of 2
 unfoldable pub shift_of : ℕ → ℕ → ℕ
@@ -50,9 +51,6 @@ unfolding agrees begins
 agrees-outside w s y r h e =
     let b : y / 2 ^ (w - r.length) ≡ r.bits = eqb-true _ _ e in
     rw (not-within (s + r.length) w h) (eq-eqb _ _ (rw (← b) (sym (deeper y (w - r.length) s (s - (w - r.length)) (omega arith)))))
-
-pair_same : {A B : Type 0} {a c : A} {b d : B} → a ≡ c → b ≡ d → (let p : A × B = (a, b) in p) ≡ (c, d)
-pair_same e f = cc
 
 misses : (w s y : ℕ) (r : Row) → agrees w s (y / 2 ^ s) r ≡ false → begins w r y ≡ false
 misses w s y r e = elim (cases_lt w (s + r.length)) [

@@ -5,20 +5,11 @@ use Rattle.std.proofs.lemmas.Nat.{pow-add, shr_high}
 use Rattle.std.proofs.Common.{length-append}
 use Rattle.h264_base.specs.Table.{Row, CodeTable, IsRow, is_prefix, is_apart, is_prefix_free}
 use Rattle.h264_base.specs.Word.{Word, Words, IsWord, IsWordOf, number, digit}
+use Rattle.h264_base.proofs.Rows.{apart-from as apart}
 
 off : (c : Bool) → not c ≡ true → c ≡ false
 off true n = absurd (false≢true n)
 off false n = refl
-
--- a row and a later one
-apart : (q r : Row) (rows : List Row) → is_apart q rows ≡ true → IsRow rows r → (is_prefix q r ≡ false) × (is_prefix r q ≡ false)
-unfolding is_apart
-apart q r [] h m = absurd m
-apart q r (s ∷ rows) h (inl e) =
-    let a = and_parts (not (is_prefix q s) && not (is_prefix s q)) (is_apart q rows) h in
-    let b = and_parts (not (is_prefix q s)) (not (is_prefix s q)) a.0 in
-    rw (← e) (off _ b.0, off _ b.1)
-apart q r (s ∷ rows) h (inr m) = apart q r rows (and_parts (not (is_prefix q s) && not (is_prefix s q)) (is_apart q rows) h).1 m
 
 -- a row whose word another word begins with is that other row
 pub one-row : (rows : List Row) (r q : Row) → is_prefix_free rows ≡ true → IsRow rows r → IsRow rows q → is_prefix r q ≡ true → r ≡ q
@@ -37,7 +28,7 @@ number-below : (w : Word) → number w < 2 ^ length w
 number-below [] = omega arith
 number-below (b ∷ w) = let h = number-below w in let g = digit-cases b (2 ^ length w) in let e : 2 ^ suc (length w) ≡ 2 ^ length w + 2 ^ length w = grind arith in omega arith
 
-spread : (b p q x y : ℕ) → b * (p * q) + (x * q + y) ≡ (b * p + x) * q + y
+pub spread : (b p q x y : ℕ) → b * (p * q) + (x * q + y) ≡ (b * p + x) * q + y
 spread b p q x y = grind arith
 
 -- the digits of a word, and then those of the rest

@@ -1,7 +1,12 @@
 -- The greatest value of each table of code words. A working form.
 use Rattle.std.specs.Prelude.{ℕ}
 use Rattle.h264_tables.specs.declared.table.Table.{Table}
-use Rattle.h264_tables.specs.declared.table.Table.TheVariants.{CoeffTokenNc0, CoeffTokenNc2, CoeffTokenNc4, CoeffTokenNc8, CoeffTokenChromaDc, TotalZeros1, TotalZeros2, TotalZeros3, TotalZeros4, TotalZeros5, TotalZeros6, TotalZeros7, TotalZeros8, TotalZeros9, TotalZeros10, TotalZeros11, TotalZeros12, TotalZeros13, TotalZeros14, TotalZeros15, TotalZerosChromaDc1, TotalZerosChromaDc2, TotalZerosChromaDc3, RunBefore1, RunBefore2, RunBefore3, RunBefore4, RunBefore5, RunBefore6, RunBefore7, CodedBlockPatternIntra, CodedBlockPatternInter, InvertedBit, LevelPrefix}
+use Rattle.h264_tables.specs.declared.table.Table.TheVariants.{CoeffTokenNc0, CoeffTokenNc2, CoeffTokenNc4, CoeffTokenNc8, CoeffTokenChromaDc, TotalZeros1}
+use Rattle.h264_tables.specs.declared.table.Table.TheVariants.{TotalZeros2, TotalZeros3, TotalZeros4, TotalZeros5, TotalZeros6, TotalZeros7, TotalZeros8}
+use Rattle.h264_tables.specs.declared.table.Table.TheVariants.{TotalZeros9, TotalZeros10, TotalZeros11, TotalZeros12, TotalZeros13, TotalZeros14}
+use Rattle.h264_tables.specs.declared.table.Table.TheVariants.{TotalZeros15, TotalZerosChromaDc1, TotalZerosChromaDc2, TotalZerosChromaDc3, RunBefore1}
+use Rattle.h264_tables.specs.declared.table.Table.TheVariants.{RunBefore2, RunBefore3, RunBefore4, RunBefore5, RunBefore6, RunBefore7, CodedBlockPatternIntra}
+use Rattle.h264_tables.specs.declared.table.Table.TheVariants.{CodedBlockPatternInter, InvertedBit, LevelPrefix}
 
 abbrev pub greatest_value : Table → ℕ
 greatest_value CoeffTokenNc0 = 67

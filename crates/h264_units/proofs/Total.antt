@@ -103,8 +103,8 @@ module _ (at : ℕ) (front more : List ℕ) (judged : IsFront at front more) (m 
   whole : front ++ more ≡ started m ((c.body ++ c.rest) ++ more)
   whole = ap (λ l. l ++ more) e ∙ started-append m r more ∙ ap (λ l. started m (l ++ more)) c.whole
 
-  behind : front ++ more ≡ started m (c.body ++ (c.rest ++ more))
-  behind = whole ∙ ap (started m) (append_assoc c.body c.rest more)
+  following : front ++ more ≡ started m (c.body ++ (c.rest ++ more))
+  following = whole ∙ ap (started m) (append_assoc c.body c.rest more)
 
   total : length front ≡ m + 3 + length c.body + length c.rest
   total =
@@ -114,19 +114,19 @@ module _ (at : ℕ) (front more : List ℕ) (judged : IsFront at front more) (m 
 
   long : unit_limit < length c.body → SomeSplit at (front ++ more)
   long h = let f = front-fits at front more judged in
-      record { units = []; tail = Long (at + m + 3); splits = record { zeros = m; body = c.body; rest = c.rest ++ more; whole = behind; inner = c.inner; too_many = h; place_is = refl; shown = let t = total in omega arith } }
+      record { units = []; tail = Long (at + m + 3); splits = record { zeros = m; body = c.body; rest = c.rest ++ more; whole = following; inner = c.inner; too_many = h; place_is = refl; shown = let t = total in omega arith } }
 
   -- the end is shown
   shown : length c.body ≤ unit_limit → EndsUnit (c.rest ++ more) → at + m + 3 + length c.body + min 3 (length (c.rest ++ more)) ≤ input_limit → ((at' : ℕ) → at' ≡ at + m + 3 + length c.body → 0 < length c.body → SomeSplit at' (c.rest ++ more)) → SomeSplit at (front ++ more)
   shown fits ends by next = cases c.body refl
     where
       cases : (b : List ℕ) → c.body ≡ b → SomeSplit at (front ++ more)
-      cases [] b = record { units = []; tail = Bare (at + m + 3); splits = record { zeros = m; rest = c.rest ++ more; whole = behind ∙ ap (λ l. started m (l ++ (c.rest ++ more))) b; ends = ends; place_is = refl; shown = omega arith } }
+      cases [] b = record { units = []; tail = Bare (at + m + 3); splits = record { zeros = m; rest = c.rest ++ more; whole = following ∙ ap (λ l. started m (l ++ (c.rest ++ more))) b; ends = ends; place_is = refl; shown = omega arith } }
       cases (y ∷ b) e =
           let u : NalUnit = record { from = at + m + 3; body = c.body } in
           let more_than_none : 0 < length c.body = let k = ap length e in omega arith in
           let n = next (past u) refl more_than_none in
-          record { units = u ∷ n.units; tail = n.tail; splits = (c.rest ++ more, record { first = record { zeros = m; whole = behind; body = (more_than_none, c.inner); ends = ends; from = refl }; fits = fits; shown = by }, n.splits) }
+          record { units = u ∷ n.units; tail = n.tail; splits = (c.rest ++ more, record { first = record { zeros = m; whole = following; body = (more_than_none, c.inner); ends = ends; from = refl }; fits = fits; shown = by }, n.splits) }
 
   stays : length c.body ≤ unit_limit → length c.rest < 3 → (0 < length more) → at + length front ≡ input_limit → SomeSplit at (front ++ more)
   stays fits short goes f = record { units = []; tail = Cut; splits = record { front = front; rest = more; whole = refl; front_ends = f; goes_on = goes; undecided = inr (record { zeros = m; body = c.body; held = length c.rest; whole = e ∙ ap (started m) (c.whole ∙ ap (λ l. c.body ++ l) (ends-zeros c.rest short c.ends)); inner = c.inner; fits = fits; few = short }) } }

@@ -120,7 +120,7 @@ pub(crate) fn plan_inside(
 }
 
 /// The piece without its first bytes.
-fn behind(piece: &[u8], start: usize) -> &[u8]
+fn following(piece: &[u8], start: usize) -> &[u8]
     requires { start ≤ length piece.now }
     ensures { result.now ≡ drop start piece.now }
 {
@@ -152,7 +152,7 @@ pub(crate) fn plan_between(at: u64, lead: u64, piece: &[u8]) -> Result<Plan, Sto
         });
     }
     let start = zeros + 1;
-    let plan = plan_inside(at, lead - 2, &[], 0, behind(piece, start))?;
+    let plan = plan_inside(at, lead - 2, &[], 0, following(piece, start))?;
     Ok(Plan {
         taken: start + plan.taken,
         start: start + plan.start,

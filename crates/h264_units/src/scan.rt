@@ -12,7 +12,7 @@ pub(crate) enum Phase {
     Between,
     /// In a unit, with so many 00 bytes at its end, two at most, that it may go on after them or end before them.
     Inside(u8),
-    /// Behind a unit that waits, and after the bytes that ended it: 00 00 01 if true, else 00 00 00.
+    /// Following a unit that waits, and after the bytes that ended it: 00 00 01 if true, else 00 00 00.
     Waiting(bool),
     /// At the end of the input, with a unit that waits, and so many 00 bytes after it.
     Last(u8),

@@ -1,5 +1,6 @@
 -- References and vectors of a macroblock's blocks, part by part (8.4.1), and the range of vectors (A.3.1). To be read beside the standard.
-use Rattle.std.specs.Prelude.{ℕ, zero, suc, ◌+◌, nat_lt, int_le, Bool, true, ◌&&◌, not, List, [], ◌∷◌, map, replicate, Option, Some, None, ℤ, pos, ◌+ℤ◌, slice_get, if◌then◌else◌}
+use Rattle.std.specs.Prelude.{ℕ, zero, suc, ◌+◌, nat_lt, int_le, Bool, true, ◌&&◌, not, List, [], ◌∷◌, map, replicate, Option, Some, None, ℤ, pos, ◌+ℤ◌}
+use Rattle.std.specs.Prelude.{slice_get, if◌then◌else◌}
 use Rattle.std.specs.Option.{is_some, unwrap_or, option_and_then}
 use Rattle.std.specs.Int.Signed.{lt_z}
 use Rattle.std.specs.List.{range_with_len}
@@ -22,7 +23,8 @@ abbrev pub sub_parts_of : ℕ → ℕ → ℕ → List Part
 sub_parts_of x y zero = part x y 2 2 direction.Median ∷ []
 sub_parts_of x y (suc zero) = part x y 2 1 direction.Median ∷ part x (y + 1) 2 1 direction.Median ∷ []
 sub_parts_of x y (suc (suc zero)) = part x y 1 2 direction.Median ∷ part (x + 1) y 1 2 direction.Median ∷ []
-sub_parts_of x y (suc (suc (suc kind))) = part x y 1 1 direction.Median ∷ part (x + 1) y 1 1 direction.Median ∷ part x (y + 1) 1 1 direction.Median ∷ part (x + 1) (y + 1) 1 1 direction.Median ∷ []
+sub_parts_of x y (suc (suc (suc kind))) = part x y 1 1 direction.Median ∷ part (x + 1) y 1 1 direction.Median ∷ part x (y + 1) 1 1 direction.Median
+    ∷ part (x + 1) (y + 1) 1 1 direction.Median ∷ []
 
 -- the picture that an index names, if there is one to predict from
 abbrev pub picture_of : SliceContext → ℕ → Option ℕ
@@ -72,4 +74,5 @@ unfoldable pub with_vector : SliceContext → Derived → Part → ℕ → Vecto
 with_vector slice d p i v = record { motions = with_part d.motions p (motion_of slice i v); fit = d.fit && vector_fits slice.vector_limit v }
 
 unfoldable pub derive : ℕ → SliceContext → List CodedMacroblock → Derived → Part → ℕ → ℤ → ℤ → Derived
-derive width slice picture d p i across down = with_vector slice d p i (moved (predicted_vector width picture slice.number d.motions p.direction i p.x p.y p.wide) across down)
+derive width slice picture d p i across down =
+    with_vector slice d p i (moved (predicted_vector width picture slice.number d.motions p.direction i p.x p.y p.wide) across down)

@@ -2,6 +2,7 @@
 #![tactic(auto)]
 
 ghost use Rattle.std.specs.Prelude.{◌≡◌, ℕ, ◌+◌, ◌-◌, ◌<◌, ◌≤◌, ◌^◌, ◌||◌, not, Bool, true, false, List, [], ◌∷◌, None, replicate, OnOk, IfOk};
+ghost use Rattle.h264_base.specs.Call.{HasRoom, IsQuiet};
 ghost use Rattle.h264_base.specs.Meets.{Meets, Is};
 ghost use Rattle.h264_near.specs.Coded.{CodedMacroblock};
 ghost use Rattle.h264_near.specs.Keeps.{Keeps};
@@ -26,10 +27,10 @@ fn read_ref_idx<S: Elements>(
     sink: &mut S,
 ) -> Result<u32, Stop>
     requires some { 1 < slice.now.active }
-    requires room { S.failures sink.old < 2 ^ 64 - 1 }
+    requires room { HasRoom S.failures sink.old }
     ensures meets { Meets S.took S.failures (Is (λ x. x)) (syntax.read_ref_idx slice.now) bits.old bits.new sink.old sink.new result }
     ensures within { IfOk result (λ i. i < slice.now.active) }
-    ensures quiet { OnOk result (S.failures sink.new ≡ S.failures sink.old) }
+    ensures quiet { OnOk result (IsQuiet S.failures sink.old sink.new) }
 {
     let index = read_te(bits, ElementName::RefIdxL0, slice.active - 1, sink)?;
     check(index.value < slice.active, Rule::Range, index.bit)?;
@@ -51,10 +52,10 @@ fn read_ref_index<S: Elements>(
 ) -> Result<u32, Stop>
     requires usable { Usable slice.now }
     requires some { inferred ≡ false → 1 < slice.now.active }
-    requires room { S.failures sink.old < 2 ^ 64 - 1 }
+    requires room { HasRoom S.failures sink.old }
     ensures meets { Meets S.took S.failures (Is (λ x. x)) (syntax.ref_index slice.now inferred) bits.old bits.new sink.old sink.new result }
     ensures within { IfOk result (λ i. i < 16) }
-    ensures quiet { OnOk result (S.failures sink.new ≡ S.failures sink.old) }
+    ensures quiet { OnOk result (IsQuiet S.failures sink.old sink.new) }
 {
     if inferred {
         return Ok(0);
@@ -78,12 +79,12 @@ fn read_part<S: Elements>(
     requires high { 0 < part.high }
     requires index { index < 16 }
     requires usable { Usable slice.now }
-    requires room { S.failures sink.old < 2 ^ 64 - 1 }
+    requires room { HasRoom S.failures sink.old }
     ensures meets { (width : ℕ) (picture : List CodedMacroblock) (places : List Bool) (d : Derived) → Keeps width picture near.now →
         Agrees fits motions.old places d → Meets S.took S.failures (λ w next. Agrees w motions.new (places_with places part) next)
         (syntax.part_motion width slice.now picture part index d) bits.old bits.new sink.old sink.new result }
     ensures alike { IsWhole part → AreAlike motions.old → OnOk result (AreAlike motions.new) }
-    ensures quiet { OnOk result (S.failures sink.new ≡ S.failures sink.old) }
+    ensures quiet { OnOk result (IsQuiet S.failures sink.old sink.new) }
 {
     let across = read_se(bits, ElementName::MvdL0, sink)?;
     let down = read_se(bits, ElementName::MvdL0, sink)?;
@@ -119,11 +120,11 @@ fn read_pair<S: Elements>(
     requires high_too { 0 < q.high }
     requires index { index < 16 }
     requires usable { Usable slice.now }
-    requires room { S.failures sink.old < 2 ^ 64 - 1 }
+    requires room { HasRoom S.failures sink.old }
     ensures meets { (width : ℕ) (picture : List CodedMacroblock) (places : List Bool) (d : Derived) → Keeps width picture near.now →
         Agrees fits motions.old places d → Meets S.took S.failures (λ w next. Agrees w motions.new (places_after places (p ∷ q ∷ [])) next)
         (syntax.part_motions width slice.now picture index (p ∷ q ∷ []) d) bits.old bits.new sink.old sink.new result }
-    ensures quiet { OnOk result (S.failures sink.new ≡ S.failures sink.old) }
+    ensures quiet { OnOk result (IsQuiet S.failures sink.old sink.new) }
 {
     let first = read_part(bits, near, slice, p, index, fits, motions, sink)?;
     let second = read_part(bits, near, slice, q, index, first, motions, sink)?;
@@ -146,12 +147,12 @@ fn read_four<S: Elements>(
     requires row { y + 2 ≤ 4 }
     requires index { index < 16 }
     requires usable { Usable slice.now }
-    requires room { S.failures sink.old < 2 ^ 64 - 1 }
+    requires room { HasRoom S.failures sink.old }
     ensures meets { (width : ℕ) (picture : List CodedMacroblock) (places : List Bool) (d : Derived) → Keeps width picture near.now →
         Agrees fits motions.old places d → Meets S.took S.failures
         (λ w next. Agrees w motions.new (places_after places (derived.sub_parts_of x y 3)) next)
         (syntax.part_motions width slice.now picture index (derived.sub_parts_of x y 3) d) bits.old bits.new sink.old sink.new result }
-    ensures quiet { OnOk result (S.failures sink.new ≡ S.failures sink.old) }
+    ensures quiet { OnOk result (IsQuiet S.failures sink.old sink.new) }
 {
     let a = Part {
         x,
@@ -205,12 +206,12 @@ fn read_quarter<S: Elements>(
     requires row { y + 2 ≤ 4 }
     requires index { index < 16 }
     requires usable { Usable slice.now }
-    requires room { S.failures sink.old < 2 ^ 64 - 1 }
+    requires room { HasRoom S.failures sink.old }
     ensures meets { (width : ℕ) (picture : List CodedMacroblock) (places : List Bool) (d : Derived) → Keeps width picture near.now →
         Agrees fits motions.old places d → Meets S.took S.failures
         (λ w next. Agrees w motions.new (places_after places (derived.sub_parts_of x y kind)) next)
         (syntax.part_motions width slice.now picture index (derived.sub_parts_of x y kind) d) bits.old bits.new sink.old sink.new result }
-    ensures quiet { OnOk result (S.failures sink.new ≡ S.failures sink.old) }
+    ensures quiet { OnOk result (IsQuiet S.failures sink.old sink.new) }
 {
     if kind == 0 {
         let p = Part {
@@ -276,12 +277,12 @@ fn read_quarters<S: Elements>(
     requires third { indices.2 < 16 }
     requires fourth { indices.3 < 16 }
     requires usable { Usable slice.now }
-    requires room { S.failures sink.old < 2 ^ 64 - 1 }
+    requires room { HasRoom S.failures sink.old }
     ensures meets { (width : ℕ) (picture : List CodedMacroblock) → Keeps width picture near.now →
         Meets S.took S.failures (λ w next. Agrees w motions.new (replicate 16 true) next)
         (syntax.quarters width slice.now picture kinds.0 kinds.1 kinds.2 kinds.3 indices.0 indices.1 indices.2 indices.3) bits.old bits.new sink.old
         sink.new result }
-    ensures quiet { OnOk result (S.failures sink.new ≡ S.failures sink.old) }
+    ensures quiet { OnOk result (IsQuiet S.failures sink.old sink.new) }
 {
     let a = read_quarter(
         bits, near, slice, 0, 0, kinds.0, indices.0, true, motions, sink,
@@ -309,11 +310,11 @@ fn read_split<S: Elements>(
     requires none { motions.old ≡ replicate 16 None }
     requires some { inferred ≡ false → 1 < slice.now.active }
     requires usable { Usable slice.now }
-    requires room { S.failures sink.old < 2 ^ 64 - 1 }
+    requires room { HasRoom S.failures sink.old }
     ensures meets { (width : ℕ) (picture : List CodedMacroblock) → Keeps width picture near.now →
         Meets S.took S.failures (λ w next. Agrees w motions.new (replicate 16 true) next)
         (syntax.split_parts width slice.now picture inferred) bits.old bits.new sink.old sink.new result }
-    ensures quiet { OnOk result (S.failures sink.new ≡ S.failures sink.old) }
+    ensures quiet { OnOk result (IsQuiet S.failures sink.old sink.new) }
 {
     let t0 = ue_up_to(bits, ElementName::SubMbType, 3, sink)?;
     let t1 = ue_up_to(bits, ElementName::SubMbType, 3, sink)?;
@@ -346,12 +347,12 @@ fn read_one_part<S: Elements>(
     requires none { motions.old ≡ replicate 16 None }
     requires some { inferred ≡ false → 1 < slice.now.active }
     requires usable { Usable slice.now }
-    requires room { S.failures sink.old < 2 ^ 64 - 1 }
+    requires room { HasRoom S.failures sink.old }
     ensures meets { (width : ℕ) (picture : List CodedMacroblock) → Keeps width picture near.now →
         Meets S.took S.failures (λ w next. Agrees w motions.new (replicate 16 true) next)
         (syntax.one_part width slice.now picture inferred (derived.part 0 0 4 4 direction.Median)) bits.old bits.new sink.old sink.new result }
     ensures alike { OnOk result (AreAlike motions.new) }
-    ensures quiet { OnOk result (S.failures sink.new ≡ S.failures sink.old) }
+    ensures quiet { OnOk result (IsQuiet S.failures sink.old sink.new) }
 {
     let i = read_ref_index(bits, slice, inferred, sink)?;
     let p = Part {
@@ -384,11 +385,11 @@ fn read_two_parts<S: Elements>(
     requires none { motions.old ≡ replicate 16 None }
     requires some { inferred ≡ false → 1 < slice.now.active }
     requires usable { Usable slice.now }
-    requires room { S.failures sink.old < 2 ^ 64 - 1 }
+    requires room { HasRoom S.failures sink.old }
     ensures meets { (width : ℕ) (picture : List CodedMacroblock) → Keeps width picture near.now →
         Meets S.took S.failures (λ w next. Agrees w motions.new (places_after (replicate 16 false) (p ∷ q ∷ [])) next)
         (syntax.two_parts width slice.now picture inferred p q) bits.old bits.new sink.old sink.new result }
-    ensures quiet { OnOk result (S.failures sink.new ≡ S.failures sink.old) }
+    ensures quiet { OnOk result (IsQuiet S.failures sink.old sink.new) }
 {
     let i = read_ref_index(bits, slice, inferred, sink)?;
     let j = read_ref_index(bits, slice, inferred, sink)?;
@@ -409,12 +410,12 @@ fn read_motions_by<S: Elements>(
     requires none { motions.old ≡ replicate 16 None }
     requires some { inferred ≡ false → 1 < slice.now.active }
     requires usable { Usable slice.now }
-    requires room { S.failures sink.old < 2 ^ 64 - 1 }
+    requires room { HasRoom S.failures sink.old }
     ensures meets { (width : ℕ) (picture : List CodedMacroblock) → Keeps width picture near.now →
         Meets S.took S.failures (λ w next. Agrees w motions.new (replicate 16 true) next)
         (syntax.motions_by width slice.now picture inferred kind) bits.old bits.new sink.old sink.new result }
     ensures alike { kind ≡ 0 → OnOk result (AreAlike motions.new) }
-    ensures quiet { OnOk result (S.failures sink.new ≡ S.failures sink.old) }
+    ensures quiet { OnOk result (IsQuiet S.failures sink.old sink.new) }
 {
     if kind == 0 {
         return read_one_part(bits, near, slice, inferred, motions, sink);
@@ -495,12 +496,12 @@ pub fn read_motions<S: Elements>(
 ) -> Result<bool, Stop>
     requires none { motions.old ≡ replicate 16 None }
     requires usable { Usable slice.now }
-    requires room { S.failures sink.old < 2 ^ 64 - 1 }
+    requires room { HasRoom S.failures sink.old }
     ensures meets { (width : ℕ) (picture : List CodedMacroblock) → Keeps width picture near.now →
         Meets S.took S.failures (λ w next. Agrees w motions.new (replicate 16 true) next)
         (syntax.motions width slice.now picture bit kind) bits.old bits.new sink.old sink.new result }
     ensures alike { kind ≡ 0 → OnOk result (AreAlike motions.new) }
-    ensures quiet { OnOk result (S.failures sink.new ≡ S.failures sink.old) }
+    ensures quiet { OnOk result (IsQuiet S.failures sink.old sink.new) }
 {
     let inferred = is_inferred(slice, kind);
     check(has_inferred(slice, inferred), Rule::NoReference, bit)?;

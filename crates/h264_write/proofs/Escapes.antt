@@ -6,7 +6,7 @@ use Rattle.std.proofs.lemmas.Bool.{leb-false}
 use Rattle.std.proofs.lemmas.Bool.Decides.{nat_tests}
 use Rattle.h264_units.specs.Stream.{EndsUnit, IsInner, IsBody}
 use Rattle.h264_rbsp.specs.Rbsp.{is_prevention, rbsp_bytes}
-use Rattle.h264_write.specs.Escaped.{zeros_behind, needs_prevention, escaped}
+use Rattle.h264_write.specs.Escaped.{zeros_after, needs_prevention, escaped}
 
 choose-true : {X : Type 0} (c : Bool) (a b : X) → c ≡ true → (if c then a else b) ≡ a
 choose-true true a b e = refl
@@ -16,29 +16,29 @@ choose-false : {X : Type 0} (c : Bool) (a b : X) → c ≡ false → (if c then 
 choose-false true a b e = absurd (cc)
 choose-false false a b e = refl
 
-escaped-with : (z b : ℕ) (rest : List ℕ) → needs_prevention z b ≡ true → escaped z (b ∷ rest) ≡ 3 ∷ b ∷ escaped (zeros_behind 0 b) rest
+escaped-with : (z b : ℕ) (rest : List ℕ) → needs_prevention z b ≡ true → escaped z (b ∷ rest) ≡ 3 ∷ b ∷ escaped (zeros_after 0 b) rest
 unfolding escaped
 escaped-with z b rest e = choose-true (needs_prevention z b) _ _ e
 
-escaped-without : (z b : ℕ) (rest : List ℕ) → needs_prevention z b ≡ false → escaped z (b ∷ rest) ≡ b ∷ escaped (zeros_behind z b) rest
+escaped-without : (z b : ℕ) (rest : List ℕ) → needs_prevention z b ≡ false → escaped z (b ∷ rest) ≡ b ∷ escaped (zeros_after z b) rest
 unfolding escaped
 escaped-without z b rest e = choose-false (needs_prevention z b) _ _ e
 
 -- a byte more
-pub step-with : (old mid new : List ℕ) (z next b : ℕ) (rest : List ℕ) → needs_prevention z b ≡ true → mid ≡ old ++ 3 ∷ [] → new ≡ mid ++ b ∷ [] → next ≡ zeros_behind 0 b → new ++ escaped next rest ≡ old ++ escaped z (b ∷ rest)
+pub step-with : (old mid new : List ℕ) (z next b : ℕ) (rest : List ℕ) → needs_prevention z b ≡ true → mid ≡ old ++ 3 ∷ [] → new ≡ mid ++ b ∷ [] → next ≡ zeros_after 0 b → new ++ escaped next rest ≡ old ++ escaped z (b ∷ rest)
 step-with old mid new z next b rest e f g h = rw (g, f, h, escaped-with z b rest e) (simp append_assoc)
 
-pub step-without : (old new : List ℕ) (z next b : ℕ) (rest : List ℕ) → needs_prevention z b ≡ false → new ≡ old ++ b ∷ [] → next ≡ zeros_behind z b → new ++ escaped next rest ≡ old ++ escaped z (b ∷ rest)
+pub step-without : (old new : List ℕ) (z next b : ℕ) (rest : List ℕ) → needs_prevention z b ≡ false → new ≡ old ++ b ∷ [] → next ≡ zeros_after z b → new ++ escaped next rest ≡ old ++ escaped z (b ∷ rest)
 step-without old new z next b rest e g h = rw (g, h, escaped-without z b rest e) (simp append_assoc)
 
-pub few-behind : (z b : ℕ) → z ≤ 2 → needs_prevention z b ≡ false → zeros_behind z b ≤ 2
-few-behind z b few e = go (b == 0) refl
+pub few-after : (z b : ℕ) → z ≤ 2 → needs_prevention z b ≡ false → zeros_after z b ≤ 2
+few-after z b few e = go (b == 0) refl
   where
     go : (c : Bool) → (b == 0) ≡ c → (if c then z + 1 else 0) ≤ 2
     go true f = let n : b ≡ 0 = eqb-true b 0 f in grind (arith, nat_tests)
     go false f = omega arith
 
-pub few-anew : (b : ℕ) → zeros_behind 0 b ≤ 2
+pub few-anew : (b : ℕ) → zeros_after 0 b ≤ 2
 few-anew b = go (b == 0)
   where
     go : (c : Bool) → (if c then 0 + 1 else 0) ≤ 2
@@ -84,32 +84,32 @@ prevention-left w = refl
 abbrev Unescapes : List ℕ → Type 0
 Unescapes s = (rbsp_bytes (escaped 0 s) ≡ s) × (rbsp_bytes (0 ∷ escaped 1 s) ≡ 0 ∷ s) × (rbsp_bytes (0 ∷ 0 ∷ escaped 2 s) ≡ 0 ∷ 0 ∷ s)
 
-behind-other : (z b : ℕ) → (b == 0) ≡ false → zeros_behind z b ≡ 0
-behind-other z b e = choose-false (b == 0) (z + 1) 0 e
+after-other : (z b : ℕ) → (b == 0) ≡ false → zeros_after z b ≡ 0
+after-other z b e = choose-false (b == 0) (z + 1) 0 e
 
 -- a byte after none of them
-pub plain : (b : ℕ) (s : List ℕ) → Unescapes s → rbsp_bytes (b ∷ escaped (zeros_behind 0 b) s) ≡ b ∷ s
+pub plain : (b : ℕ) (s : List ℕ) → Unescapes s → rbsp_bytes (b ∷ escaped (zeros_after 0 b) s) ≡ b ∷ s
 plain b s r = go (b == 0) refl
   where
-    go : (c : Bool) → (b == 0) ≡ c → rbsp_bytes (b ∷ escaped (zeros_behind 0 b) s) ≡ b ∷ s
+    go : (c : Bool) → (b == 0) ≡ c → rbsp_bytes (b ∷ escaped (zeros_after 0 b) s) ≡ b ∷ s
     go true e = let n : b ≡ 0 = eqb-true b 0 e in rw n r.1
-    go false e = rw (behind-other 0 b e) (head-other b (escaped 0 s) e ∙ ap (λ t. b ∷ t) r.0)
+    go false e = rw (after-other 0 b e) (head-other b (escaped 0 s) e ∙ ap (λ t. b ∷ t) r.0)
 
-behind-one : (b : ℕ) (s : List ℕ) → Unescapes s → rbsp_bytes (0 ∷ b ∷ escaped (zeros_behind 1 b) s) ≡ 0 ∷ b ∷ s
-behind-one b s r = go (b == 0) refl
+after-one : (b : ℕ) (s : List ℕ) → Unescapes s → rbsp_bytes (0 ∷ b ∷ escaped (zeros_after 1 b) s) ≡ 0 ∷ b ∷ s
+after-one b s r = go (b == 0) refl
   where
-    go : (c : Bool) → (b == 0) ≡ c → rbsp_bytes (0 ∷ b ∷ escaped (zeros_behind 1 b) s) ≡ 0 ∷ b ∷ s
+    go : (c : Bool) → (b == 0) ≡ c → rbsp_bytes (0 ∷ b ∷ escaped (zeros_after 1 b) s) ≡ 0 ∷ b ∷ s
     go true e = let n : b ≡ 0 = eqb-true b 0 e in rw n r.2
-    go false e = rw (behind-other 1 b e) (second-other 0 b (escaped 0 s) e ∙ ap (λ t. 0 ∷ t) (head-other b (escaped 0 s) e ∙ ap (λ t. b ∷ t) r.0))
+    go false e = rw (after-other 1 b e) (second-other 0 b (escaped 0 s) e ∙ ap (λ t. 0 ∷ t) (head-other b (escaped 0 s) e ∙ ap (λ t. b ∷ t) r.0))
 
 large : (b k : ℕ) → nat_le b 3 ≡ false → k ≤ 3 → (b == k) ≡ false
 large b k e h = grind (arith, nat_tests)
 
-behind-two : (b : ℕ) (s : List ℕ) → Unescapes s → (c : Bool) → nat_le b 3 ≡ c → rbsp_bytes (0 ∷ 0 ∷ escaped 2 (b ∷ s)) ≡ 0 ∷ 0 ∷ b ∷ s
-behind-two b s r true e = rw (escaped-with 2 b s e, prevention-left) (ap (λ t. 0 ∷ 0 ∷ t) (plain b s r))
-behind-two b s r false e =
+after-two : (b : ℕ) (s : List ℕ) → Unescapes s → (c : Bool) → nat_le b 3 ≡ c → rbsp_bytes (0 ∷ 0 ∷ escaped 2 (b ∷ s)) ≡ 0 ∷ 0 ∷ b ∷ s
+after-two b s r true e = rw (escaped-with 2 b s e, prevention-left) (ap (λ t. 0 ∷ 0 ∷ t) (plain b s r))
+after-two b s r false e =
     let n = large b 0 e (omega arith) in
-    rw (escaped-without 2 b s e, behind-other 2 b n)
+    rw (escaped-without 2 b s e, after-other 2 b n)
     (third-other 0 0 b (escaped 0 s) (large b 3 e (omega arith)) ∙ ap (λ t. 0 ∷ t) (second-other 0 b (escaped 0 s) n ∙ ap (λ t. 0 ∷ t) (head-other b (escaped 0 s) n ∙ ap (λ t. b ∷ t) r.0)))
 
 unescapes-none : Unescapes []
@@ -120,8 +120,8 @@ unescapes : (s : List ℕ) → Unescapes s
 unescapes [] = unescapes-none
 unescapes (b ∷ s) = let r = unescapes s in (
   rw (escaped-without 0 b s refl) (plain b s r),
-  rw (escaped-without 1 b s refl) (behind-one b s r),
-  behind-two b s r (nat_le b 3) refl,
+  rw (escaped-without 1 b s refl) (after-one b s r),
+  after-two b s r (nat_le b 3) refl,
 )
 
 pub escaped-rbsp : (s : List ℕ) → rbsp_bytes (escaped 0 s) ≡ s
@@ -153,24 +153,24 @@ Zeros b s = b ≡ 0 → IsInner (0 ∷ escaped 1 s) × IsInner (0 ∷ 0 ∷ esca
 is-other : (b : ℕ) → (b == 0) ≡ false → b ≡ 0 → ⊥
 is-other b e n = grind (arith, nat_tests)
 
-inner-plain : (b : ℕ) (s : List ℕ) → IsInner (escaped 0 s) → Zeros b s → (c : Bool) → (b == 0) ≡ c → IsInner (b ∷ escaped (zeros_behind 0 b) s)
+inner-plain : (b : ℕ) (s : List ℕ) → IsInner (escaped 0 s) → Zeros b s → (c : Bool) → (b == 0) ≡ c → IsInner (b ∷ escaped (zeros_after 0 b) s)
 inner-plain b s i z true e = let n : b ≡ 0 = eqb-true b 0 e in let r = z n in rw n r.0
-inner-plain b s i z false e = rw (behind-other 0 b e) (first-other b (escaped 0 s) (is-other b e), i)
+inner-plain b s i z false e = rw (after-other 0 b e) (first-other b (escaped 0 s) (is-other b e), i)
 
-inner-one : (b : ℕ) (s : List ℕ) → IsInner (escaped 0 s) → Zeros b s → (c : Bool) → (b == 0) ≡ c → IsInner (0 ∷ b ∷ escaped (zeros_behind 1 b) s)
+inner-one : (b : ℕ) (s : List ℕ) → IsInner (escaped 0 s) → Zeros b s → (c : Bool) → (b == 0) ≡ c → IsInner (0 ∷ b ∷ escaped (zeros_after 1 b) s)
 inner-one b s i z true e = let n : b ≡ 0 = eqb-true b 0 e in let r = z n in rw n r.1
-inner-one b s i z false e = let n = is-other b e in rw (behind-other 1 b e) (next-other 0 b (escaped 0 s) n, (first-other b (escaped 0 s) n, i))
+inner-one b s i z false e = let n = is-other b e in rw (after-other 1 b e) (next-other 0 b (escaped 0 s) n, (first-other b (escaped 0 s) n, i))
 
 inner-two : (b : ℕ) (s : List ℕ) → IsInner (escaped 0 s) → Zeros b s → (c : Bool) → nat_le b 3 ≡ c → IsInner (0 ∷ 0 ∷ escaped 2 (b ∷ s))
 inner-two b s i z true e = rw (escaped-with 2 b s e) (
   (λ f. absurd (let h = f.2 in omega arith)),
-  (next-other 0 3 (b ∷ escaped (zeros_behind 0 b) s) (λ f. absurd (omega arith)), (first-other 3 (b ∷ escaped (zeros_behind 0 b) s) (λ f. absurd (omega arith)), inner-plain b s i z (b == 0) refl)),
+  (next-other 0 3 (b ∷ escaped (zeros_after 0 b) s) (λ f. absurd (omega arith)), (first-other 3 (b ∷ escaped (zeros_after 0 b) s) (λ f. absurd (omega arith)), inner-plain b s i z (b == 0) refl)),
 )
 inner-two b s i z false e =
     let n = large b 0 e (omega arith) in
     let l = leb-false b 3 e in
     let m = is-other b n in
-    rw (escaped-without 2 b s e, behind-other 2 b n) (
+    rw (escaped-without 2 b s e, after-other 2 b n) (
       (λ f. absurd (let h = f.2 in omega arith)),
       (next-other 0 b (escaped 0 s) m, (first-other b (escaped 0 s) m, i)),
     )

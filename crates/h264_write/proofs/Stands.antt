@@ -6,22 +6,22 @@ use Rattle.h264_bits.proofs.Readings.{signed-reads}
 use Rattle.h264_write.specs.Written.{spelled, Writes, Closes}
 use Rattle.h264_write.proofs.Spelled.{spelled-zero}
 
-stands-behind : (bytes : List ℕ) (i : ℕ) (u w : Word) → StandsAt bytes i (u ++ w) → StandsAt bytes (i + length u) w
-stands-behind bytes i [] w s = let e : i + 0 ≡ i = omega arith in rw e s
-stands-behind bytes i (b ∷ u) w s = let e : i + suc (length u) ≡ i + 1 + length u = omega arith in rw e (stands-behind bytes (i + 1) u w s.1)
+stands-after : (bytes : List ℕ) (i : ℕ) (u w : Word) → StandsAt bytes i (u ++ w) → StandsAt bytes (i + length u) w
+stands-after bytes i [] w s = let e : i + 0 ≡ i = omega arith in rw e s
+stands-after bytes i (b ∷ u) w s = let e : i + suc (length u) ≡ i + 1 + length u = omega arith in rw e (stands-after bytes (i + 1) u w s.1)
 
 -- what stands after the old bits
-behind : (bytes : List ℕ) (old word new : Word) → new ≡ old ++ word → StandsAt bytes 0 new → StandsAt bytes (length old) word
-behind bytes old word new e s =
+following : (bytes : List ℕ) (old word new : Word) → new ≡ old ++ word → StandsAt bytes 0 new → StandsAt bytes (length old) word
+following bytes old word new e s =
     let P : Word → Type 0 = λ w. StandsAt bytes 0 w in
     let z : 0 + length old ≡ length old = omega arith in
-    rw (← z) (stands-behind bytes 0 old word (subst P e s))
+    rw (← z) (stands-after bytes 0 old word (subst P e s))
 
 pub written : (code : Code) (value : ℤ) (old word new : Word) → IsWord code word value → new ≡ old ++ word → Writes code value old new
 written code value old word new is e = record {
   word = word;
   whole = e;
-  reads = λ bytes s. (word, is, behind bytes old word new e s, rw e (length-append old word));
+  reads = λ bytes s. (word, is, following bytes old word new e s, rw e (length-append old word));
 }
 
 -- the trailing bits
@@ -35,7 +35,7 @@ closed old mid new n zeros is z e f =
       word = word;
       whole = whole;
       full = omega arith;
-      closed = λ bytes s h. (zeros, omega arith, (behind bytes old word new whole s, omega arith));
+      closed = λ bytes s h. (zeros, omega arith, (following bytes old word new whole s, omega arith));
     }
 
 -- bits that stand one by one

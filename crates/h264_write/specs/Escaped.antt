@@ -2,8 +2,8 @@
 use Rattle.std.specs.Prelude.{ℕ, ◌+◌, ◌==◌, ◌&&◌, nat_le, Bool, if◌then◌else◌, List, [], ◌∷◌}
 
 -- how many bytes 00 stand after this byte, where so many stand before it
-abbrev pub zeros_behind : ℕ → ℕ → ℕ
-zeros_behind count byte = if byte == 0 then count + 1 else 0
+abbrev pub zeros_after : ℕ → ℕ → ℕ
+zeros_after count byte = if byte == 0 then count + 1 else 0
 
 -- whether a byte 03 has to stand before this byte
 abbrev pub needs_prevention : ℕ → ℕ → Bool
@@ -13,4 +13,4 @@ needs_prevention count byte = nat_le 2 count && nat_le byte 3
 unfoldable pub escaped : ℕ → List ℕ → List ℕ
 escaped count [] = []
 escaped count (byte ∷ bytes) =
-    if needs_prevention count byte then 3 ∷ byte ∷ escaped (zeros_behind 0 byte) bytes else byte ∷ escaped (zeros_behind count byte) bytes
+    if needs_prevention count byte then 3 ∷ byte ∷ escaped (zeros_after 0 byte) bytes else byte ∷ escaped (zeros_after count byte) bytes

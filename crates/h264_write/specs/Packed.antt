@@ -9,7 +9,8 @@ digit_at bits i = digit (slice_index_or bits i false)
 
 -- the byte that the first eight bits make
 unfoldable pub first_byte : Word → ℕ
-first_byte bits = 128 * digit_at bits 0 + 64 * digit_at bits 1 + 32 * digit_at bits 2 + 16 * digit_at bits 3 + 8 * digit_at bits 4 + 4 * digit_at bits 5 + 2 * digit_at bits 6 + digit_at bits 7
+first_byte bits = 128 * digit_at bits 0 + 64 * digit_at bits 1 + 32 * digit_at bits 2 + 16 * digit_at bits 3
+    + 8 * digit_at bits 4 + 4 * digit_at bits 5 + 2 * digit_at bits 6 + digit_at bits 7
 
 -- so many bytes of the bits
 unfoldable pub packed : ℕ → Word → List ℕ

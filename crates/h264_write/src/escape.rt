@@ -16,9 +16,9 @@ fn needs_prevention(zeros: u32, byte: u8) -> bool
 }
 
 /// How many bytes 00 stand after this byte.
-fn zeros_behind(zeros: u32, byte: u8) -> u32
+fn zeros_after(zeros: u32, byte: u8) -> u32
     requires { zeros ≤ 2 }
-    ensures { result ≡ form.zeros_behind zeros byte }
+    ensures { result ≡ form.zeros_after zeros byte }
 {
     if byte == 0 { zeros + 1 } else { 0 }
 }
@@ -32,10 +32,10 @@ fn append(body: &mut Vec<u8>, zeros: u32, byte: u8) -> Result<u32, AllocError>
     if needs_prevention(zeros, byte) {
         body.push(3)?;
         body.push(byte)?;
-        return Ok(zeros_behind(0, byte));
+        return Ok(zeros_after(0, byte));
     }
     body.push(byte)?;
-    Ok(zeros_behind(zeros, byte))
+    Ok(zeros_after(zeros, byte))
 }
 
 /// The header, and the bytes after it.

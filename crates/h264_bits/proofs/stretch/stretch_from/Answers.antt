@@ -1,19 +1,19 @@
 use Rattle.std.proofs.Common.{◌≡◌, ℕ, ◌-◌, List, length, refl, ap, arith}
-use Rattle.h264_bits.proofs.Stretches.{place-behind, place-later, between, in-byte, ends-of}
+use Rattle.h264_bits.proofs.Stretches.{place-after, place-later, between, in-byte, ends-of}
 use Rattle.h264_bits.proofs.stretch.stretch_from.Goals as goal
 
 pub overflow_sub-shift : goal.overflow_sub-shift
-overflow_sub-shift c = let b = place-behind c.args.rbsp.now c.args.i in let e = c.stream_bit.ensures in omega arith
+overflow_sub-shift c = let b = place-after c.args.rbsp.now c.args.i in let e = c.stream_bit.ensures in omega arith
 
 pub overflow_sub-stream_bit : goal.overflow_sub-stream_bit
-overflow_sub-stream_bit c = let b = place-behind c.args.rbsp.now c.min-far.result in let e = c.stream_bit-2.ensures in omega arith
+overflow_sub-stream_bit c = let b = place-after c.args.rbsp.now c.min-far.result in let e = c.stream_bit-2.ensures in omega arith
 
 pub returns-then-stream_bit-far-clause-stands : goal.returns-then-stream_bit-far-clause-stands
 returns-then-stream_bit-far-clause-stands c =
     let l = ap (λ (b : List ℕ). length b) c.bytes.ensures.bytes in
     let m = c.min-far.ensures in
-    let a = place-behind c.args.rbsp.now c.args.i in
-    let b = place-behind c.args.rbsp.now c.min-far.result in
+    let a = place-after c.args.rbsp.now c.args.i in
+    let b = place-after c.args.rbsp.now c.min-far.result in
     let d = c.stream_bit.ensures in
     let e = c.stream_bit-2.ensures in
     let same = c.if-stream_bit-far.true in
@@ -31,14 +31,14 @@ returns-then-stream_bit-far-clause-found c s stands most =
     rw (shift, last) refl
 
 pub overflow_sub-stream_bit-2 : goal.overflow_sub-stream_bit-2
-overflow_sub-stream_bit-2 c = let b = place-behind c.args.rbsp.now c.min-near.result in let e = c.stream_bit-3.ensures in omega arith
+overflow_sub-stream_bit-2 c = let b = place-after c.args.rbsp.now c.min-near.result in let e = c.stream_bit-3.ensures in omega arith
 
 pub returns-then-stream_bit-near-clause-stands : goal.returns-then-stream_bit-near-clause-stands
 returns-then-stream_bit-near-clause-stands c =
     let l = ap (λ (b : List ℕ). length b) c.bytes.ensures.bytes in
     let m = c.min-near.ensures in
-    let a = place-behind c.args.rbsp.now c.args.i in
-    let b = place-behind c.args.rbsp.now c.min-near.result in
+    let a = place-after c.args.rbsp.now c.args.i in
+    let b = place-after c.args.rbsp.now c.min-near.result in
     let d = c.stream_bit.ensures in
     let e = c.stream_bit-3.ensures in
     let same = c.if-stream_bit-near.true in
@@ -76,7 +76,7 @@ returns-clause-stands c =
     let l = ap (λ (b : List ℕ). length b) c.bytes.ensures.bytes in
     let m = c.min-far.ensures in
     let k = c.min.ensures in
-    let a = place-behind c.args.rbsp.now c.args.i in
+    let a = place-after c.args.rbsp.now c.args.i in
     let d = c.stream_bit.ensures in
     let e = c.stream_bit-2.ensures in
     let fits = c.stream_bit-2.type_inv in

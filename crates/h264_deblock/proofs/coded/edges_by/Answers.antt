@@ -5,8 +5,9 @@ use Rattle.h264_deblock.specs.Filtering.{edges_of}
 use Rattle.h264_deblock.specs.CodedEdges.{coded_edges}
 use Rattle.h264_deblock.specs.Words.{all_names, named_border}
 use Rattle.h264_deblock.specs.declared.filtering.Edges.{Edges}
-use Rattle.h264_deblock.proofs.CodedEdges.{by-plane, qp-is, pair-is, luma-list, chroma-list}
+use Rattle.h264_deblock.proofs.CodedEdges.{qp-is, pair-is, luma-list, chroma-list}
 use Rattle.h264_deblock.proofs.coded.edges_by.Goals as goal
+use Rattle.h264_deblock.proofs.Macroblocks.{planes as by-plane}
 
 pub returns-clause-edges : goal.returns-clause-edges
 returns-clause-edges c slices w xs m s is o l a =

@@ -1,18 +1,19 @@
 use Rattle.std.proofs.Common.{true, false, refl, ◌+◌, ◌*◌, ◌≤◌, ◌%◌, length, subst}
 use Rattle.h264_plane.specs.Frames.{plane_of}
 use Rattle.h264_plane.specs.Places.{side}
-use Rattle.h264_plane.specs.Samples.{at, Holds, IsSized}
+use Rattle.h264_plane.specs.Samples.{at, ShowsSamples, IsSized}
 use Rattle.h264_plane.specs.declared.frame.Component.TheVariants.{Y, Cb, Cr}
 use Rattle.h264_plane.specs.declared.frame.Frame.{Frame}
 use Rattle.h264_near.specs.Raster.{last_in, last_left}
 use Rattle.h264_deblock.specs.Filtering.{PlaneEdges, edges_done, is_chroma}
 use Rattle.h264_deblock.specs.CodedEdges.{coded_edges}
 use Rattle.h264_deblock.specs.Steps.{side_qp}
-use Rattle.h264_deblock.proofs.CodedEdges.{by-plane, left-none, above-none, qp-is, pair-is, luma-list, chroma-list}
+use Rattle.h264_deblock.proofs.CodedEdges.{left-none, above-none, qp-is, pair-is, luma-list, chroma-list}
 use Rattle.h264_deblock.specs.Words.{all_names, named_border}
 use Rattle.h264_deblock.proofs.Numbers.{some-named}
 use Rattle.h264_deblock.proofs.Still.{off, still}
 use Rattle.h264_deblock.proofs.coded.filter_coded.Goals as goal
+use Rattle.h264_deblock.proofs.Macroblocks.{planes as by-plane}
 
 pub returns-in-Off-clause-filtered : goal.returns-in-Off-clause-filtered
 returns-in-Off-clause-filtered c slices w xs q k s size h is o p =
@@ -66,14 +67,14 @@ returns-clause-filtered c slices w xs q k s size h is o p =
     let y = qp-is slices Y q false own.qp f.chroma_qp_index_offset refl s.qp (o q.slice) in
     let cb = qp-is slices Cb q true own.qp f.chroma_qp_index_offset refl s.qp (o q.slice) in
     let cr = qp-is slices Cr q true own.qp f.chroma_qp_index_offset refl s.qp (o q.slice) in
-    by-plane (λ z. Holds (plane_of z old) (plane_of z new) (edges_done (side z) (is_chroma z) (coded_edges slices w xs q z) c.args.column c.args.row (at (plane_of z old))))
-    (subst (λ (e : PlaneEdges). Holds old.y new.y (edges_done 16 false e c.args.column c.args.row (at old.y)))
+    by-plane (λ z. ShowsSamples (plane_of z old) (plane_of z new) (edges_done (side z) (is_chroma z) (coded_edges slices w xs q z) c.args.column c.args.row (at (plane_of z old))))
+    (subst (λ (e : PlaneEdges). ShowsSamples old.y new.y (edges_done 16 false e c.args.column c.args.row (at old.y)))
     (pair-is slices w xs q Y _ _ (luma-list slices true (last_left w xs) q f own.qp a (all_names inner.vertical) is o left v y) (luma-list slices false (last_in w xs (length xs % w)) q f own.qp b (all_names inner.horizontal) is o above z y))
     c.filter_by.ensures.y)
-    (subst (λ (e : PlaneEdges). Holds old.cb new.cb (edges_done 8 true e c.args.column c.args.row (at old.cb)))
+    (subst (λ (e : PlaneEdges). ShowsSamples old.cb new.cb (edges_done 8 true e c.args.column c.args.row (at old.cb)))
     (pair-is slices w xs q Cb _ _ (chroma-list slices true (last_left w xs) q f qp a (all_names inner.vertical) is o left v Cb refl cb) (chroma-list slices false (last_in w xs (length xs % w)) q f qp b (all_names inner.horizontal) is o above z Cb refl cb))
     c.filter_by.ensures.cb)
-    (subst (λ (e : PlaneEdges). Holds old.cr new.cr (edges_done 8 true e c.args.column c.args.row (at old.cr)))
+    (subst (λ (e : PlaneEdges). ShowsSamples old.cr new.cr (edges_done 8 true e c.args.column c.args.row (at old.cr)))
     (pair-is slices w xs q Cr _ _ (chroma-list slices true (last_left w xs) q f qp a (all_names inner.vertical) is o left v Cr refl cr) (chroma-list slices false (last_in w xs (length xs % w)) q f qp b (all_names inner.horizontal) is o above z Cr refl cr))
     c.filter_by.ensures.cr)
     p

@@ -18,7 +18,7 @@ loop-n-preserved c =
       width = put.width ∙ c.loop-n.invariant.width;
       height = put.height ∙ c.loop-n.invariant.height;
       lines = λ k lines.
-          run_written a.plane.now c.loop-n.plane c.put_run.new.self k n a.y a.x c.run_of.result (line_of a.r.now n) c.requires.before c.requires.behind (omega arith)
+          run_written a.plane.now c.loop-n.plane c.put_run.new.self k n a.y a.x c.run_of.result (line_of a.r.now n) c.requires.before c.requires.following (omega arith)
           (record {
             count = search rules;
             line = record {

@@ -1,6 +1,6 @@
 use Rattle.std.proofs.Common.{rules, refl, arith, ◌≡◌, ap, ◌∙◌, ◌+◌, ◌*◌, ◌/◌, ◌==◌, ◌&&◌, cond, nat_le, pos, neg_ℤ, ◌+ℤ◌, ◌-ℤ◌}
 use Rattle.std.proofs.lemmas.Int.{ints}
-use Rattle.h264_deblock.specs.Line.{clip1}
+use Rattle.h264_plane.specs.Clip.{clip1}
 use Rattle.h264_deblock.specs.Rows.{any_filter}
 use Rattle.h264_deblock.specs.declared.line.Line.{Line}
 use Rattle.h264_deblock.specs.declared.line.Limits.{Limits}

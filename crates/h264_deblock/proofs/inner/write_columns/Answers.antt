@@ -21,7 +21,7 @@ loop-n-preserved c =
       width = put.width ∙ c.loop-n.invariant.width;
       height = put.height ∙ c.loop-n.invariant.height;
       lines = λ k lines.
-          pair_written a.plane.now c.loop-n.plane c.put_run.new.self k n a.y a.x c.run_of.result c.requires.before c.requires.behind (omega arith) (search rules)
+          pair_written a.plane.now c.loop-n.plane c.put_run.new.self k n a.y a.x c.run_of.result c.requires.before c.requires.following (omega arith) (search rules)
           (of 0 (2 * n) (omega arith) (omega arith) ∙ c.pair_in_turn-pairs.ensures (2 * n) (omega arith) ∙ sym (at_first _ _ (2 * n) even) ∙ ap (slice_index a.r.now.p0) half ∙ lines.p0 n c.loop-n-test.true)
           (of 1 (2 * n + 1) (omega arith) (omega arith) ∙ c.pair_in_turn-pairs.ensures (2 * n + 1) (omega arith) ∙ sym (at_second _ _ (2 * n + 1) odd) ∙ ap (slice_index a.r.now.q0) odd_half ∙ lines.q0 n c.loop-n-test.true)
           (c.loop-n.invariant.lines k lines) put;

@@ -9,13 +9,13 @@ returns-then-edge-clause-here c p q i s = strong-by-p c.args.vertical p q c.args
 pub returns-then-own-clause-here : goal.returns-then-own-clause-here
 returns-then-own-clause-here c p q i s = strong-by-q c.args.vertical p q c.args.own.now.intra s.intra c.if-own.true
 
-pub returns-then-goes_on-clause-here : goal.returns-then-goes_on-clause-here
-returns-then-goes_on-clause-here c p q i s =
+pub returns-then-is_seamless-clause-here : goal.returns-then-is_seamless-clause-here
+returns-then-is_seamless-clause-here c p q i s =
     let edge = c.args.edge.now in
     let own = c.args.own.now in
     let k : length edge.totals ≡ 4 = omega arith in
     let l : length own.totals ≡ 16 = omega arith in
-    even-border c.args.vertical edge own p q i s c.if-edge.false c.if-own.false k l (c.requires c.if-even.true) (sym c.goes_on.ensures ∙ c.if-goes_on.true)
+    even-border c.args.vertical edge own p q i s c.if-edge.false c.if-own.false k l (c.requires c.if-even.true) (sym c.is_seamless.ensures ∙ c.if-is_seamless.true)
 
 pub returns-then-edge-clause-word : goal.returns-then-edge-clause-word
 returns-then-edge-clause-word c = four-word
@@ -23,5 +23,5 @@ returns-then-edge-clause-word c = four-word
 pub returns-then-own-clause-word : goal.returns-then-own-clause-word
 returns-then-own-clause-word c = four-word
 
-pub returns-then-goes_on-clause-word : goal.returns-then-goes_on-clause-word
-returns-then-goes_on-clause-word c = zero-word-is
+pub returns-then-is_seamless-clause-word : goal.returns-then-is_seamless-clause-word
+returns-then-is_seamless-clause-word c = zero-word-is

@@ -10,7 +10,7 @@ pub returns-in-Some-clause-others : goal.returns-in-Some-clause-others
 returns-in-Some-clause-others c =
     let fits : SFits w64 c.args.no_wrap = search rules in
     let found = simp (to_z-of_z, take_rest) at c.in-Some.ensures in
-    (leaves-its _ c.args.slots.now c.args.k c.in-Some.behind c.requires.in_list (sym found)).1
+    (leaves-its _ c.args.slots.now c.args.k c.in-Some.following c.requires.in_list (sym found)).1
 
 pub returns-in-None-clause-others : goal.returns-in-None-clause-others
 returns-in-None-clause-others c =

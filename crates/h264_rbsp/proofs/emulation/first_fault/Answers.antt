@@ -5,12 +5,12 @@ use Rattle.h264_rbsp.proofs.emulation.first_fault.Goals.{then-body-place-eq2-via
 
 pub returns-then-place-body-clause-first : goal.returns-then-place-body-clause-first
 returns-then-place-body-clause-first c =
-    let here = c.next_behind_zeros-place in
+    let here = c.next_after_zeros-place in
     none-at-all c.args.body.now here.result (none-before c.args.body.now c.loop-start.start here.result c.loop-start.invariant.none here.ensures.none) (omega arith)
 
 pub returns-then-body-place-eq2-clause-first : goal.returns-then-body-place-eq2-clause-first
 returns-then-body-place-eq2-clause-first c =
-    let here = c.next_behind_zeros-place in
+    let here = c.next_after_zeros-place in
     let lt : here.result < length c.args.body.now = omega arith in
     let found = (here.ensures.found lt).1 in
     elim c.then-body-place-eq2.branch [
@@ -20,13 +20,13 @@ returns-then-body-place-eq2-clause-first c =
 
 pub returns-then-body-place-gt-GREATEST_ESCAPED-clause-first : goal.returns-then-body-place-gt-GREATEST_ESCAPED-clause-first
 returns-then-body-place-gt-GREATEST_ESCAPED-clause-first c =
-    let here = c.next_behind_zeros-place in
+    let here = c.next_after_zeros-place in
     let lt : here.result < length c.args.body.now = omega arith in
     first-fourth c.args.body.now c.loop-start.start here.result c.loop-start.invariant.none here.ensures.none (here.ensures.found lt).1 c.if-body-place-eq2.false c.if-place-body-2.false c.if-body-place-gt-GREATEST_ESCAPED.true
 
 pub loop-start-preserved : goal.loop-start-preserved
 loop-start-preserved c =
-    let here = c.next_behind_zeros-place in
+    let here = c.next_after_zeros-place in
     let lt : here.result < length c.args.body.now = omega arith in
     record {
       high = omega arith;

@@ -6,13 +6,13 @@ use Rattle.h264_rbsp.proofs.unescape.unescaped.Goals as goal
 pub returns-then-place-payload-clause-bytes : goal.returns-then-place-payload-clause-bytes
 returns-then-place-payload-clause-bytes c =
     let s = c.loop-start in
-    let place = c.next_behind_zeros-place in
+    let place = c.next_after_zeros-place in
     c.in_ok-extend_from_slice.ensures.items ∙ last-bytes c.args.payload.now s.start s.bytes.items s.dropped.items s.invariant.bytes s.invariant.dropped place.result s.invariant.high place.ensures.none c.if-place-payload.true
 
 pub returns-then-place-payload-clause-dropped : goal.returns-then-place-payload-clause-dropped
 returns-then-place-payload-clause-dropped c =
     let s = c.loop-start in
-    let place = c.next_behind_zeros-place in
+    let place = c.next_after_zeros-place in
     last-dropped c.args.payload.now s.start s.bytes.items s.dropped.items s.invariant.bytes s.invariant.dropped place.result s.invariant.high place.ensures.none c.if-place-payload.true
 
 pub returns-clause-bytes : goal.returns-clause-bytes
@@ -28,7 +28,7 @@ returns-clause-dropped c =
 pub loop-start-preserved : goal.loop-start-preserved
 loop-start-preserved c =
     let s = c.loop-start in
-    let place = c.next_behind_zeros-place in
+    let place = c.next_after_zeros-place in
     let lt : place.result < length c.args.payload.now = omega arith in
     let found = place.ensures.found lt in
     let items = c.in_ok-extend_from_slice.ensures.items in

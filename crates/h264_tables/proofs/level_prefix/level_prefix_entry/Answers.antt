@@ -26,11 +26,11 @@ here z y inside high low =
     rw first refl
 
 -- a 1 after z zeros is the word of z
-one-behind : (n k z y : ℕ) → k ≤ z → z < k + n → k + n ≤ 16 → y < 2 ^ (16 - z) → 2 ^ (16 - suc z) ≤ y → found_of (front_of 16 (prefix_rows n k) y) ≡ (suc z, z)
+one-after : (n k z y : ℕ) → k ≤ z → z < k + n → k + n ≤ 16 → y < 2 ^ (16 - z) → 2 ^ (16 - suc z) ≤ y → found_of (front_of 16 (prefix_rows n k) y) ≡ (suc z, z)
 unfolding front_of prefix_rows
-one-behind zero k z y from to all high low = absurd (omega arith)
-one-behind (suc n) k z y from to all high low = elim (cases_lt k z) [
-  | inl before ↦ rw (not-yet k z y before (omega arith) high) (one-behind n (suc k) z y (omega arith) (omega arith) (omega arith) high low)
+one-after zero k z y from to all high low = absurd (omega arith)
+one-after (suc n) k z y from to all high low = elim (cases_lt k z) [
+  | inl before ↦ rw (not-yet k z y before (omega arith) high) (one-after n (suc k) z y (omega arith) (omega arith) (omega arith) high low)
   | inr from_here ↦
       let same : k ≡ z = omega arith in
       rw (same, here z y (omega arith) high low) refl
@@ -55,4 +55,4 @@ returns c =
     let high : y < 2 ^ (16 - z) = (let e : 16 - z ≡ l.0 = omega arith in rw e l.2) in
     let low : 2 ^ (16 - suc z) ≤ y = (let twice = pow-succ' 2 (16 - suc z) in let e : l.0 ≡ suc (16 - suc z) = omega arith in let most : 2 ^ suc (16 - suc z) ≤ 2 * y + 1 = (rw e at l.3) in omega arith) in
     let e : z + 1 ≡ suc z = omega arith in
-    rw (e, one-behind 16 0 z y (omega arith) (omega arith) (omega arith) high low) refl
+    rw (e, one-after 16 0 z y (omega arith) (omega arith) (omega arith) high low) refl

@@ -22,10 +22,10 @@ returns-in_err-plan-clause-err c =
     let p = err_from_is_err_and c.from_residual.result c.from_residual.ensures.1 in
     let more : c.zero_run-zeros.result < length c.args.piece.now = omega arith in
     let e = begun c.args.at c.args.lead c.args.piece.now c.zero_run-zeros.result c.zero_run-zeros.ensures.within c.zero_run-zeros.ensures.zeros more (omega arith) c.if-lead-lt2.false in
-    rw (p.1, p.2) (refused-along c.args.at _ _ _ (ap (λ l. started (c.args.lead + c.zero_run-zeros.result - 2) [] ++ l) c.behind.ensures ∙ sym e) c.in_err-plan.ensures.err)
+    rw (p.1, p.2) (refused-along c.args.at _ _ _ (ap (λ l. started (c.args.lead + c.zero_run-zeros.result - 2) [] ++ l) c.following.ensures ∙ sym e) c.in_err-plan.ensures.err)
 
 pub returns-clause-ok : goal.returns-clause-ok
 returns-clause-ok c =
     let more : c.zero_run-zeros.result < length c.args.piece.now = omega arith in
     plans-begun c.args.at c.args.lead c.args.piece.now c.zero_run-zeros.result c.zero_run-zeros.ensures.within c.zero_run-zeros.ensures.zeros more (omega arith) c.if-lead-lt2.false _
-    (subst (λ l. Plans (Inside 0) (c.args.lead + c.zero_run-zeros.result - 2) [] l c.in_ok-plan.plan) c.behind.ensures c.in_ok-plan.ensures.ok)
+    (subst (λ l. Plans (Inside 0) (c.args.lead + c.zero_run-zeros.result - 2) [] l c.in_ok-plan.plan) c.following.ensures c.in_ok-plan.ensures.ok)

@@ -1,7 +1,7 @@
 use Rattle.std.proofs.Common.{◌<◌, ◌≤◌, inl, inr, length, arith}
 use Rattle.std.proofs.lemmas.Bool.{cases_lt}
-use Rattle.h264_rbsp.proofs.Searches.{behind-high}
-use Rattle.h264_rbsp.proofs.scan.behind_high.Goals as goal
+use Rattle.h264_rbsp.proofs.Searches.{after-high}
+use Rattle.h264_rbsp.proofs.scan.after_high.Goals as goal
 
 pub loop-place-preserved : goal.loop-place-preserved
 loop-place-preserved c =
@@ -13,6 +13,6 @@ loop-place-preserved c =
       high = omega arith;
       none = λ least place from to f. elim (cases_lt place p) [
         | inl h ↦ c.loop-place.invariant.none least place from h f
-        | inr h ↦ behind-high c.args.bytes.now least p place c.if-bytes-place-gt3.true h to f
+        | inr h ↦ after-high c.args.bytes.now least p place c.if-bytes-place-gt3.true h to f
       ];
     }

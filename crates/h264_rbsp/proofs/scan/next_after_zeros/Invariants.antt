@@ -1,12 +1,12 @@
 use Rattle.std.proofs.Common.{length, ◌-◌, ℕ, ◌+◌, ◌<◌, ◌≤◌}
 use Rattle.h264_rbsp.specs.Found.{IsFound}
-use Rattle.h264_rbsp.proofs.scan.behind_high.Given as goal
+use Rattle.h264_rbsp.proofs.scan.next_after_zeros.Given as goal
 
 abbrev pub invariant-loop-place : goal.invariant-loop-place
 invariant-loop-place l = record {
-  low : l.start ≤ l.place;
+  low : l.start + 2 ≤ l.place;
   high : l.place ≤ length l.bytes + 2;
-  none : (least place : ℕ) → l.start ≤ place → place < l.place → IsFound l.bytes least place → ⊥;
+  none : (place : ℕ) → l.start + 2 ≤ place → place < l.place → IsFound l.bytes l.least place → ⊥;
 }
 
 abbrev pub decreases-loop-place : goal.decreases-loop-place
