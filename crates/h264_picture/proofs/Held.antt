@@ -2,7 +2,7 @@
 use Rattle.std.proofs.Common.{◌≡◌, ℕ, ◌+◌, ◌*◌, ◌/◌, ◌%◌, ◌<◌, ◌≤◌, List, [], ◌∷◌, ◌++◌, length, vec_len, refl, sym, ◌∙◌, subst, arith, inl, ⊎_elim, length-append}
 use Rattle.std.proofs.lemmas.Bool.{cases_lt}
 use Rattle.std.proofs.lemmas.Nat.{mul-le}
-use Rattle.h264_plane.specs.Samples.{at, IsSized, Holds}
+use Rattle.h264_plane.specs.Samples.{at, IsSized, ShowsSamples}
 use Rattle.h264_plane.specs.Frames.{plane_of}
 use Rattle.h264_plane.specs.Places.{side, Agree}
 use Rattle.h264_plane.specs.declared.frame.Component.{Component}
@@ -13,7 +13,7 @@ use Rattle.h264_near.proofs.Places.{quotient, remainder}
 use Rattle.h264_recon.specs.Inter.{Setting}
 use Rattle.h264_recon.specs.Constructed.{Coded, IsMade, IsAllowed, IsPossible}
 use Rattle.h264_recon.specs.Lines.{AreStored, store_of}
-use Rattle.h264_recon.specs.Step.{Shows, joined}
+use Rattle.h264_recon.specs.Step.{HasMacroblock, joined}
 use Rattle.h264_recon.specs.declared.store.Lines.{Lines}
 use Rattle.h264_recon.proofs.Step.{stored_wrap, stored_none, stored_moves, joined_before}
 use Rattle.h264_deblock.specs.Filtering.{PlaneEdges, edges_done, is_chroma, IsOf}
@@ -62,8 +62,8 @@ samples-moved k slices picture u v c r f i j agree reached = λ p. record {
 
 -- the macroblock is constructed, and its edges are filtered
 filtered-more : (k : Setting) (slices : ℕ → Parameters) (picture : List CodedMacroblock) (u : Component → ℕ → ℕ → ℕ) (e : Component → PlaneEdges) (c r : ℕ) (before put after : Frame) → c < k.across → r < k.down → IsOf k.across k.down before →
-    ((p : Component) → edges_at slices k.across picture p (r * k.across + c) ≡ e p) → Shows c r u before put →
-    ((p : Component) → Holds (plane_of p put) (plane_of p after) (edges_done (side p) (is_chroma p) (e p) c r (at (plane_of p put)))) →
+    ((p : Component) → edges_at slices k.across picture p (r * k.across + c) ≡ e p) → HasMacroblock c r u before put →
+    ((p : Component) → ShowsSamples (plane_of p put) (plane_of p after) (edges_done (side p) (is_chroma p) (e p) c r (at (plane_of p put)))) →
     AreReached k (edges_at slices k.across picture) u c r before → AreReached k (edges_at slices k.across picture) u (c + 1) r after
 filtered-more k slices picture u e c r before put after i j size here shown filtered reached = λ p.
     reached_more k.across k.down (side p) (is_chroma p) (edges_at slices k.across picture p) (u p) c r (plane_of p before) (plane_of p put) (plane_of p after) (side_lines p) (side_least p) (fits k slices picture p) i j
@@ -120,8 +120,8 @@ pub held-step : (k : Setting) (place : ℕ → ℕ) (slices : ℕ → Parameters
     length picture ≡ r * k.across + c → c < k.across → r < k.down → g ≡ given_by k.across picture place (slices m.slice) m →
     IsPossible g.prediction g.available → ((p : Component) → IsSized (plane_of p after) (plane_of p before).width (plane_of p before).height) →
     ((u : Component → ℕ → ℕ → ℕ) → IsAllowed g k.across c r → AreStored k.across c r u old → IsMade k c r g (joined c r put u)) →
-    ((u : Component → ℕ → ℕ → ℕ) → IsAllowed g k.across c r → IsMade k c r g u → AreStored k.across c r u old → AreStored k.across (c + 1) r u new × Shows c r u before put) →
-    ((p : Component) → Holds (plane_of p put) (plane_of p after) (edges_done (side p) (is_chroma p) (coded_edges (filters slices) k.across picture m p) c r (at (plane_of p put)))) →
+    ((u : Component → ℕ → ℕ → ℕ) → IsAllowed g k.across c r → IsMade k c r g u → AreStored k.across c r u old → AreStored k.across (c + 1) r u new × HasMacroblock c r u before put) →
+    ((p : Component) → ShowsSamples (plane_of p put) (plane_of p after) (edges_done (side p) (is_chroma p) (coded_edges (filters slices) k.across picture m p) c r (at (plane_of p put)))) →
     IsHeld k place slices old before picture → IsHeld k place slices new after (picture ++ m ∷ [])
 held-step k place slices picture m g old new before put after c r n i j is possible size some step filtered held =
     let column : length picture % k.across ≡ c = remainder (length picture) k.across r c i n in

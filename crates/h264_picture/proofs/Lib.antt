@@ -1,4 +1,3 @@
-pub mod Tables
 pub mod Steps
 pub mod Limits
 pub mod Sound

@@ -10,7 +10,7 @@ use Rattle.h264_near.proofs.Places.{front, seam, length-taken}
 use Rattle.h264_recon.specs.Constructed.{Coded, IsWithin}
 use Rattle.h264_recon.specs.Given.{given}
 use Rattle.h264_recon.specs.Inter.{Setting}
-use Rattle.h264_recon.proofs.Within.{within}
+use Rattle.h264_recon.proofs.Within.{within, used-within}
 use Rattle.h264_deblock.specs.CodedEdges.{coded_edges}
 use Rattle.h264_deblock.specs.Filtering.{AreInside, Fits}
 use Rattle.h264_deblock.proofs.Within.{edges-inside}
@@ -50,12 +50,13 @@ module _ (slices : ℕ → Parameters) (place : ℕ → ℕ) (width : ℕ) (pict
 pub within-at : (k : Setting) (slices : ℕ → Parameters) (place : ℕ → ℕ) (picture : List CodedMacroblock) (c r : ℕ) → c < k.across → r * k.across + c < length picture → IsWithin (macroblock_at slices place k.across picture (r * k.across + c)).available k.across c r
 unfolding macroblock_at given
 within-at k slices place picture c r i h =
-    within k.across (take (r * k.across + c) picture) (get_or picture (r * k.across + c) nothing).slice (slices (get_or picture (r * k.across + c) nothing).slice).constrained_intra c r
-    (length-taken picture (r * k.across + c) (omega arith)) i
+    let m = get_or picture (r * k.across + c) nothing in
+    used-within m.prediction _ k.across c r
+    (within k.across (take (r * k.across + c) picture) m.slice (slices m.slice).constrained_intra c r (length-taken picture (r * k.across + c) (omega arith)) i)
 
 pub within-next : (w : ℕ) (picture : List CodedMacroblock) (place : ℕ → ℕ) (s : Parameters) (m : CodedMacroblock) (g : Coded) (c r : ℕ) → g ≡ given_by w picture place s m → length picture ≡ r * w + c → c < w → IsWithin g.available w c r
 unfolding given
-within-next w picture place s m g c r is e k = rw is (within w picture m.slice s.constrained_intra c r e k)
+within-next w picture place s m g c r is e k = rw is (used-within m.prediction _ w c r (within w picture m.slice s.constrained_intra c r e k))
 
 fit : (slices : ℕ → Parameters) (w : ℕ) (picture : List CodedMacroblock) (p : Component) (c r : ℕ) → c < w → AreInside c r (edges_at slices w picture p (r * w + c))
 unfolding edges_at

@@ -23,7 +23,7 @@ use Rattle.h264_inter.specs.Chroma.{predicted_chroma}
 use Rattle.h264_recon.specs.Inter.{Setting, predicted_from, no_motion}
 use Rattle.h264_recon.specs.Constructed.{Coded, window, predicted_inter, made_by, made, Constructed}
 use Rattle.h264_base.specs.declared.weight.Weights.{Weights}
-use Rattle.h264_recon.specs.Given.{available, motion_of, motions_of, prediction_of, weights_of, given}
+use Rattle.h264_recon.specs.Given.{available, used_by, motion_of, motions_of, prediction_of, weights_of, given}
 use Rattle.h264_recon.specs.Weights.{weights_at, weighted_if}
 use Rattle.h264_recon.specs.Levels.{levels_of}
 use Rattle.h264_recon.specs.declared.macroblock.Available.{Available}
@@ -91,7 +91,7 @@ module _ (across down : ℕ) (s t : Sources) where
     macroblock-shared a long c r p w x y i j u v =
         let m = get_or picture a nothing in
         let at = slice_get-get_or picture a nothing long in
-        rw (shared.parameters a m at) (prediction-shared m.prediction (available across (take a picture) m.slice (t.slices m.slice).constrained_intra) (levels_of (t.slices m.slice).filter.chroma_qp_index_offset m) (weights_of (t.slices m.slice).weights m.prediction) c r p w x y i j u v (shared.references a m at))
+        rw (shared.parameters a m at) (prediction-shared m.prediction (used_by m.prediction (available across (take a picture) m.slice (t.slices m.slice).constrained_intra)) (levels_of (t.slices m.slice).filter.chroma_qp_index_offset m) (weights_of (t.slices m.slice).weights m.prediction) c r p w x y i j u v (shared.references a m at))
 
     constructed-shared : (u : Component → ℕ → ℕ → ℕ) → length picture ≡ down * across → Constructed (setting s) (macroblock_at s.slices s.place across picture) u → Constructed (setting t) (macroblock_at t.slices t.place across picture) u
     constructed-shared u whole h = record {

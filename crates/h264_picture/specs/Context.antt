@@ -14,7 +14,7 @@ use Rattle.h264_header.specs.declared.header.SliceKind.TheVariants as kinds
 use Rattle.h264_lists.specs.declared.slot.RefSlot.{RefSlot}
 use Rattle.h264_lists.specs.declared.slot.RefSlot.TheVariants as slot
 use Rattle.h264_vectors.specs.declared.slice.SliceContext.{SliceContext}
-use Rattle.h264_picture.specs.Table.{table}
+use Rattle.h264_recon.specs.Table.{table}
 
 abbrev pub type_of : SliceKind → SliceType
 type_of kinds.I = slice_type.I

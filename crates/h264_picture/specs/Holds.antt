@@ -61,8 +61,8 @@ abbrev pub Serves : ℕ → ℕ → Work → Type 0
 Serves width size work = IsActive (ServesIn width size) work.active
 
 -- It holds these macroblocks of a picture.
-abbrev pub Holds : ℕ → ℕ → List CodedMacroblock → Work → Type 0
-Holds width size picture work = IsActive (HoldsIn width size picture) work.active
+abbrev pub HoldsMacroblocks : ℕ → ℕ → List CodedMacroblock → Work → Type 0
+HoldsMacroblocks width size picture work = IsActive (HoldsIn width size picture) work.active
 
 -- ---- steps
 

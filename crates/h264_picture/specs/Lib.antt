@@ -1,4 +1,3 @@
-pub mod Table
 pub mod Levels
 pub mod Context
 pub mod Buffer

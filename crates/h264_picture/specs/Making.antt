@@ -47,10 +47,15 @@ MakesIn (Some making) slice s = MakesSlice making slice s
 
 -- so it will, with what goes with the slice, where the places of its frames begin with `base`
 pub record MakesSliceWith (making : Making) (slice : SliceContext) (samples : SliceSamples) (base : ℕ) (s : Sequence) : Type 0 where
-  pub parameters : making.slices slice.number ≡ record { constrained_intra = slice.constrained_intra; filter = samples.filter; weights = weights_by samples.weights }
+  pub parameters : making.slices slice.number ≡ record {
+    constrained_intra = slice.constrained_intra;
+    filter = samples.filter;
+    weights = weights_by samples.weights;
+  }
   pub offset : samples.filter.chroma_qp_index_offset ≡ slice.chroma_qp_index_offset
   pub offsets : (n : ℕ) → (making.slices n).filter.chroma_qp_index_offset ≡ samples.filter.chroma_qp_index_offset
-  pub placed : (k n : ℕ) → k < 16 → get_or slice.references k None ≡ Some n → (get_or samples.places k 0 ≡ base + making.place n) × IsPlace s.frames (making.place n)
+  pub placed : (k n : ℕ) → k < 16 → get_or slice.references k None ≡ Some n → (get_or samples.places k 0 ≡ base + making.place n)
+      × IsPlace s.frames (making.place n)
 
 abbrev pub MakesWith : Option Making → SliceContext → SliceSamples → ℕ → Sequence → Type 0
 MakesWith None slice samples base s = Unit {0}

@@ -19,7 +19,8 @@ IsDecodedFrom across down s picture final = IsDecoded (record { across = across;
 -- A block has its motion, and the picture to which it refers has the same samples in both, in the picture.
 abbrev pub IsSharedBy : (across down : ℕ) → Sources → Sources → Option Motion → Type 0
 IsSharedBy across down s t None = ⊥
-IsSharedBy across down s t (Some m) = (p : Component) (x y : ℕ) → x < side p * across → y < side p * down → s.reference (s.place m.picture) p x y ≡ t.reference (t.place m.picture) p x y
+IsSharedBy across down s t (Some m) =
+    (p : Component) (x y : ℕ) → x < side p * across → y < side p * down → s.reference (s.place m.picture) p x y ≡ t.reference (t.place m.picture) p x y
 
 abbrev pub AreSharedBy : (across down : ℕ) → Sources → Sources → Prediction → Type 0
 AreSharedBy across down s t (Intra4x4 modes chroma) = Unit {0}

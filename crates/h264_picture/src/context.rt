@@ -6,7 +6,7 @@ ghost use Rattle.std.specs.Option.{option_and_then};
 ghost use Rattle.h264_tables.specs.ChromaQp.{clip_51};
 ghost use Rattle.h264_tables.specs.Level.{limits_of};
 ghost use Rattle.h264_vectors.specs.Agrees.{Usable};
-ghost use Rattle.h264_picture.specs.Table.{table};
+ghost use Rattle.h264_recon.specs.Table.{table};
 ghost use Rattle.h264_picture.specs.Context.{type_of, picture_in, slice_qp, vector_limit, slice_context};
 
 use h264_base::SliceType;

@@ -6,7 +6,7 @@ ghost use Rattle.h264_plane.specs.Samples.{IsSized};
 ghost use Rattle.h264_plane.specs.Frames.{plane_of};
 ghost use Rattle.h264_plane.specs.declared.frame.Component.{Component};
 ghost use Rattle.h264_near.specs.Coded.{CodedMacroblock};
-ghost use Rattle.h264_near.specs.Keeps.{Keeps, Shows};
+ghost use Rattle.h264_near.specs.Keeps.{Keeps, AreContexts};
 ghost use Rattle.h264_scale.specs.Macroblock.{AreResiduals};
 ghost use Rattle.h264_scale.specs.declared.levels.Levels.{Levels};
 ghost use Rattle.h264_recon.specs.Inter.{Setting};
@@ -49,7 +49,7 @@ pub fn go_on(
     ensures held { (k : Setting) (place : ℕ → ℕ) (slices : ℕ → Parameters) (picture : List CodedMacroblock) (q : CodedMacroblock) (l : Levels) →
         length picture ≡ row * k.across + column → column < k.across → row < k.down → AreShown k pool.now (prediction_in m.now.prediction) →
         AreResiduals l residuals.now → IsPossible (prediction_in m.now.prediction) m.now.available →
-        coded_as m.now l ≡ given_by k.across picture place (slices q.slice) q → Keeps k.across picture coded.now.near.now → Shows coded.now.own.now q →
+        coded_as m.now l ≡ given_by k.across picture place (slices q.slice) q → Keeps k.across picture coded.now.near.now → AreContexts coded.now.own.now q →
         filters slices q.slice ≡ coded.now.filter.now → ((n : ℕ) → (filters slices
         n).chroma_qp_index_offset ≡ coded.now.filter.now.chroma_qp_index_offset) → IsHeld k place slices lines.old frame.old picture →
         IsHeld k place slices lines.new frame.new (picture ++ q ∷ []) }

@@ -3,7 +3,7 @@
 
 ghost use Rattle.std.specs.Prelude.{◌≡◌, ◌≤◌, is_some, IfSome};
 ghost use Rattle.h264_near.specs.Coded.{CodedMacroblock};
-ghost use Rattle.h264_mbsyntax.specs.Holds.{Holds};
+ghost use Rattle.h264_mbsyntax.specs.Holds.{HoldsMacroblock};
 ghost use Rattle.h264_scale.specs.Macroblock.{AreResiduals};
 ghost use Rattle.h264_scale.specs.declared.levels.Levels.{Levels};
 ghost use Rattle.h264_recon.specs.Levels.{levels_of};
@@ -17,8 +17,9 @@ use h264_vectors::SliceContext;
 /// The residual of a macroblock, if each value of its transform is in range.
 pub(crate) fn residuals_of(slice: &SliceContext, mb: &Macroblock) -> Option<Residuals>
     requires { mb.now.qp ≤ 51 }
-    ensures range { (coded : CodedMacroblock) → Holds mb.now coded → is_some result ≡ transform_fits slice.now coded }
-    ensures residual { (coded : CodedMacroblock) → Holds mb.now coded → IfSome result (AreResiduals (levels_of slice.now.chroma_qp_index_offset coded)) }
+    ensures range { (coded : CodedMacroblock) → HoldsMacroblock mb.now coded → is_some result ≡ transform_fits slice.now coded }
+    ensures residual { (coded : CodedMacroblock) → HoldsMacroblock mb.now coded →
+        IfSome result (AreResiduals (levels_of slice.now.chroma_qp_index_offset coded)) }
 {
     match residuals(mb, slice.chroma_qp_index_offset) {
         Ok(residuals) => Some(residuals),

@@ -9,6 +9,7 @@ use h264_vectors::SliceContext;
 
 impl Sequence {
     ghost use Rattle.std.specs.Prelude.{◌≡◌, ℕ, ◌+◌, ◌-◌, ◌<◌, ◌≤◌, ◌^◌, Option, List, OnOk};
+    ghost use Rattle.h264_base.specs.Call.{HasRoom};
     ghost use Rattle.h264_base.specs.Meets.{Meets};
     ghost use Rattle.h264_near.specs.Coded.{CodedMacroblock};
     ghost use Rattle.h264_vectors.specs.Agrees.{Usable};
@@ -29,7 +30,7 @@ impl Sequence {
         requires qp { self.old.mb.qp ≤ 51 }
         requires left { self.old.next + left ≤ self.old.size }
         requires usable { Usable slice.now }
-        requires room { S.failures sink.old < 2 ^ 64 - 1 }
+        requires room { HasRoom S.failures sink.old }
         ensures meets { (width size : ℕ) (making : Option Making) (picture : List CodedMacroblock) →
             Reads width size making slice.now picture self.old → Meets S.took S.failures (λ _ after. HoldsMade width size making after self.new)
             (syntax.macroblocks (transform_fits slice.now) width slice.now left standings.Next picture) bits.old bits.new sink.old sink.new result }

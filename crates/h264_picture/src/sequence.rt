@@ -2,6 +2,7 @@
 #![tactic(auto)]
 
 ghost use Rattle.std.specs.Prelude.{◌≤◌};
+ghost use Rattle.h264_base.specs.Call.{HasRoom, IsQuiet};
 ghost use Rattle.h264_picture.specs.Sound.{IsSound};
 
 use crate::buffer::buffer_size;
@@ -140,12 +141,12 @@ impl Sequence {
     ) -> Result<(), Stop>
         requires usable { Usable slice.now }
         requires qp { slice.now.qp ≤ 51 }
-        requires room { S.failures sink.old < 2 ^ 64 - 1 }
+        requires room { HasRoom S.failures sink.old }
         ensures meets { (width size : ℕ) (making : Option Making) (picture : List CodedMacroblock) → HoldsMade width size making picture self.old →
             slice.now.number ≡ length picture → MakesIn making slice.now self.old →
             Meets S.took S.failures (λ _ after. HoldsMade width size making after self.new)
             (slice_data (transform_fits slice.now) width size slice.now picture) bits.old bits.new sink.old sink.new result }
-        ensures quiet { OnOk result (S.failures sink.new ≡ S.failures sink.old) }
+        ensures quiet { OnOk result (IsQuiet S.failures sink.old sink.new) }
         ensures same { KeepsPlace self.old self.new }
     {
         let ahead = look(bits, sink);
@@ -166,12 +167,12 @@ impl Sequence {
     ) -> Result<(), Stop>
         requires usable { Usable slice.now }
         requires qp { slice.now.qp ≤ 51 }
-        requires room { S.failures sink.old < 2 ^ 64 - 1 }
+        requires room { HasRoom S.failures sink.old }
         ensures meets { (width size : ℕ) (making : Option Making) (picture : List CodedMacroblock) → HoldsMade width size making picture self.old →
             slice.now.number ≡ length picture → MakesWith making slice.now samples.now base self.old →
             Meets S.took S.failures (λ _ after. HoldsMade width size making after self.new)
             (slice_data (transform_fits slice.now) width size slice.now picture) bits.old bits.new sink.old sink.new result }
-        ensures quiet { OnOk result (S.failures sink.new ≡ S.failures sink.old) }
+        ensures quiet { OnOk result (IsQuiet S.failures sink.old sink.new) }
         ensures frames { self.old.frames.begun ≡ true → KeepsLent self.old.frames self.new.frames }
         ensures same { KeepsPlace self.old self.new }
     {

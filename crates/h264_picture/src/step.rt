@@ -2,6 +2,7 @@
 #![tactic(auto)]
 
 ghost use Rattle.std.specs.Prelude.{◌≡◌, ◌+◌, ◌*◌, ◌<◌, ◌≤◌, ◌==◌, ◌||◌};
+ghost use Rattle.h264_base.specs.Call.{HasRoom, IsQuiet};
 ghost use Rattle.h264_vectors.specs.Derived.{has_picture as has_picture_of};
 
 use crate::levels::{no_residuals, residuals_of};
@@ -43,7 +44,7 @@ impl Sequence {
     ghost use Rattle.h264_vectors.specs.Agrees.{Usable};
     ghost use Rattle.h264_vectors.specs.declared.slice.SliceContext.{SliceContext as Context};
     ghost use Rattle.h264_mbsyntax.specs.declared.slice.Standing.TheVariants as standings;
-    ghost use Rattle.h264_mbsyntax.specs.Holds.{Holds as HoldsMacroblock};
+    ghost use Rattle.h264_mbsyntax.specs.Holds.{HoldsMacroblock};
     ghost use Rattle.h264_mbsyntax.specs.Slice as syntax;
     ghost use Rattle.h264_picture.specs.Levels.{transform_fits};
     ghost use Rattle.h264_picture.specs.Holds.{HoldsIn, IsWithin, Moves, KeepsPlace, RefersOn, RefersIf};
@@ -80,12 +81,12 @@ impl Sequence {
         requires qp { self.old.mb.qp ≤ 51 }
         requires left { self.old.next + left ≤ self.old.size }
         requires usable { Usable slice.now }
-        requires room { S.failures sink.old < 2 ^ 64 - 1 }
+        requires room { HasRoom S.failures sink.old }
         ensures meets { (width size : ℕ) (making : Option Making) (picture : List CodedMacroblock) →
             Reads width size making slice.now picture self.old → Meets S.took S.failures
             (syntax.Goes (λ p. Reads width size making slice.now p self.new) picture)
             (syntax.unskipped (transform_fits slice.now) width slice.now left picture) bits.old bits.new sink.old sink.new result }
-        ensures quiet { OnOk result (S.failures sink.new ≡ S.failures sink.old) }
+        ensures quiet { OnOk result (IsQuiet S.failures sink.old sink.new) }
         ensures within { OnOk result (self.new.mb.qp ≤ 51) }
         ensures moves { IfOk result (Moves left self.old.next self.new.next) }
         ensures size { self.new.size ≡ self.old.size }
@@ -154,12 +155,12 @@ impl Sequence {
         requires qp { self.old.mb.qp ≤ 51 }
         requires left { self.old.next + left ≤ self.old.size }
         requires usable { Usable slice.now }
-        requires room { S.failures sink.old < 2 ^ 64 - 1 }
+        requires room { HasRoom S.failures sink.old }
         ensures meets { (width size : ℕ) (making : Option Making) (picture : List CodedMacroblock) →
             Reads width size making slice.now picture self.old → Meets S.took S.failures
             (syntax.Goes (λ p. Reads width size making slice.now p self.new) picture)
             (syntax.run_of_skips (transform_fits slice.now) width slice.now left picture) bits.old bits.new sink.old sink.new result }
-        ensures quiet { OnOk result (S.failures sink.new ≡ S.failures sink.old) }
+        ensures quiet { OnOk result (IsQuiet S.failures sink.old sink.new) }
         ensures within { OnOk result (self.new.mb.qp ≤ 51) }
         ensures moves { IfOk result (Moves left self.old.next self.new.next) }
         ensures size { self.new.size ≡ self.old.size }
@@ -186,12 +187,12 @@ impl Sequence {
         requires qp { self.old.mb.qp ≤ 51 }
         requires left { self.old.next + left ≤ self.old.size }
         requires usable { Usable slice.now }
-        requires room { S.failures sink.old < 2 ^ 64 - 1 }
+        requires room { HasRoom S.failures sink.old }
         ensures meets { (width size : ℕ) (making : Option Making) (picture : List CodedMacroblock) →
             Reads width size making slice.now picture self.old → Meets S.took S.failures
             (syntax.Goes (λ p. Reads width size making slice.now p self.new) picture)
             (syntax.next (transform_fits slice.now) width slice.now left picture standings.Next) bits.old bits.new sink.old sink.new result }
-        ensures quiet { OnOk result (S.failures sink.new ≡ S.failures sink.old) }
+        ensures quiet { OnOk result (IsQuiet S.failures sink.old sink.new) }
         ensures within { OnOk result (self.new.mb.qp ≤ 51) }
         ensures moves { IfOk result (Moves left self.old.next self.new.next) }
         ensures size { self.new.size ≡ self.old.size }
@@ -220,12 +221,12 @@ impl Sequence {
         requires qp { self.old.mb.qp ≤ 51 }
         requires left { self.old.next + left ≤ self.old.size }
         requires usable { Usable slice.now }
-        requires room { S.failures sink.old < 2 ^ 64 - 1 }
+        requires room { HasRoom S.failures sink.old }
         ensures meets { (width size : ℕ) (making : Option Making) (picture : List CodedMacroblock) →
             Reads width size making slice.now picture self.old → Meets S.took S.failures
             (syntax.Goes (λ p. Reads width size making slice.now p self.new) picture)
             (syntax.next (transform_fits slice.now) width slice.now left picture (standings.Skipping bit 0)) bits.old bits.new sink.old sink.new result }
-        ensures quiet { OnOk result (S.failures sink.new ≡ S.failures sink.old) }
+        ensures quiet { OnOk result (IsQuiet S.failures sink.old sink.new) }
         ensures within { OnOk result (self.new.mb.qp ≤ 51) }
         ensures moves { IfOk result (Moves left self.old.next self.new.next) }
         ensures size { self.new.size ≡ self.old.size }
@@ -253,12 +254,12 @@ impl Sequence {
         requires standing { IsWithin left standing }
         requires refers { RefersOn slice.now standing }
         requires usable { Usable slice.now }
-        requires room { S.failures sink.old < 2 ^ 64 - 1 }
+        requires room { HasRoom S.failures sink.old }
         ensures meets { (width size : ℕ) (making : Option Making) (picture : List CodedMacroblock) →
             Reads width size making slice.now picture self.old → Meets S.took S.failures
             (syntax.Goes (λ p. Reads width size making slice.now p self.new) picture)
             (syntax.next (transform_fits slice.now) width slice.now left picture standing) bits.old bits.new sink.old sink.new result }
-        ensures quiet { OnOk result (S.failures sink.new ≡ S.failures sink.old) }
+        ensures quiet { OnOk result (IsQuiet S.failures sink.old sink.new) }
         ensures within { OnOk result (self.new.mb.qp ≤ 51) }
         ensures moves { IfOk result (Moves left self.old.next self.new.next) }
         ensures size { self.new.size ≡ self.old.size }

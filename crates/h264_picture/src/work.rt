@@ -2,6 +2,7 @@
 #![tactic(auto)]
 
 ghost use Rattle.std.specs.Prelude.{◌≡◌, ◌%◌, ◌≤◌};
+ghost use Rattle.h264_base.specs.Call.{HasRoom, IsQuiet};
 ghost use Rattle.std.specs.Option.{option_map};
 ghost use Rattle.h264_picture.specs.declared.sequence.Sequence.{Sequence as SequenceModel};
 
@@ -49,7 +50,7 @@ impl Work {
     ghost use Rattle.h264_mbsyntax.specs.Slice.{slice_data};
     ghost use Rattle.h264_picture.specs.Buffer.{buffer_size};
     ghost use Rattle.h264_picture.specs.Levels.{transform_fits};
-    ghost use Rattle.h264_picture.specs.Holds.{is_frame_size, Serves, Holds};
+    ghost use Rattle.h264_picture.specs.Holds.{is_frame_size, Serves, HoldsMacroblocks};
     ghost use Rattle.h264_picture.specs.Making.{Making, HoldsSamples, IsSliceOf, IsDecodedIn};
     ghost use Rattle.h264_picture.specs.Places.{first_place, is_active_place, places as places_of, lent, IsReleased, HasBegun, HasSize, KeepsOthers};
     ghost use Rattle.h264_picture.specs.Places.{KeepsFrames, IsFrameOf};
@@ -94,7 +95,8 @@ impl Work {
         ensures size { (width height : ℕ) → HasSize width height self.old → HasSize width height self.new }
         ensures begun { (place : ℕ) → HasBegun place self.old → HasBegun place self.new }
         ensures serves { (width size : ℕ) → Serves width size self.old → Serves width size self.new }
-        ensures holds { (width size : ℕ) (picture : List CodedMacroblock) → Holds width size picture self.old → Holds width size picture self.new }
+        ensures holds { (width size : ℕ) (picture : List CodedMacroblock) → HoldsMacroblocks width size picture self.old →
+            HoldsMacroblocks width size picture self.new }
     {
         self.older = None;
     }
@@ -122,7 +124,7 @@ impl Work {
     pub fn begin(&mut self, place: usize)
         requires from { first_place self.old ≤ place }
         requires to { place < first_place self.old + places_of self.old }
-        ensures holds { (width size : ℕ) → Serves width size self.old → Holds width size [] self.new }
+        ensures holds { (width size : ℕ) → Serves width size self.old → HoldsMacroblocks width size [] self.new }
         ensures samples { (width size : ℕ) (making : Making) → Serves width size self.old → HoldsSamples width size making [] self.new }
         ensures begun { HasBegun place self.new }
         ensures none { lent self.new place ≡ None }
@@ -145,7 +147,7 @@ impl Work {
         ensures ended { (width height place : ℕ) → HasSize width height self.old → HasBegun place self.old → IsFrameOf width height (lent self.new place) }
         ensures decoded { (width size place : ℕ) (making : Making) (picture : List CodedMacroblock) → HoldsSamples width size making picture self.old →
             length picture ≡ size → HasBegun place self.old → IsDecodedIn self.old making picture (lent self.new place) }
-        ensures holds { (width size : ℕ) (picture : List CodedMacroblock) → Holds width size picture self.old → Serves width size self.new }
+        ensures holds { (width size : ℕ) (picture : List CodedMacroblock) → HoldsMacroblocks width size picture self.old → Serves width size self.new }
         ensures serves { (width size : ℕ) → Serves width size self.old → Serves width size self.new }
         ensures first { first_place self.new ≡ first_place self.old }
         ensures places { places_of self.new ≡ places_of self.old }
@@ -160,7 +162,7 @@ impl Work {
 
     /// The address of the next macroblock of the picture, which is how many it holds.
     pub fn next_mb(&self) -> u32
-        ensures { (width size : ℕ) (picture : List CodedMacroblock) → Holds width size picture self.now → result ≡ length picture }
+        ensures { (width size : ℕ) (picture : List CodedMacroblock) → HoldsMacroblocks width size picture self.now → result ≡ length picture }
     {
         match &self.active {
             None => 0,
@@ -170,7 +172,7 @@ impl Work {
 
     /// Whether it holds all macroblocks of the picture.
     pub fn is_whole(&self) -> bool
-        ensures { (width size : ℕ) (picture : List CodedMacroblock) → Holds width size picture self.now → result ≡ (length picture == size) }
+        ensures { (width size : ℕ) (picture : List CodedMacroblock) → HoldsMacroblocks width size picture self.now → result ≡ (length picture == size) }
     {
         match &self.active {
             None => false,
@@ -194,20 +196,21 @@ impl Work {
     ) -> Result<(), Stop>
         requires usable { Usable slice.now }
         requires qp { slice.now.qp ≤ 51 }
-        requires room { S.failures sink.old < 2 ^ 64 - 1 }
-        ensures answers { (width size : ℕ) (picture : List CodedMacroblock) → Holds width size picture self.old → slice.now.number ≡ length picture →
-            Answers S.took S.failures (λ _ after. Holds width size after self.new)
+        requires room { HasRoom S.failures sink.old }
+        ensures answers { (width size : ℕ) (picture : List CodedMacroblock) → HoldsMacroblocks width size picture self.old → slice.now.number ≡ length picture →
+            Answers S.took S.failures (λ _ after. HoldsMacroblocks width size after self.new)
             (slice_data (transform_fits slice.now) width size slice.now picture) bits.old bits.new sink.old sink.new result }
-        ensures meets { (width size : ℕ) (picture : List CodedMacroblock) → Holds width size picture self.old → slice.now.number ≡ length picture →
-            Meets S.took S.failures (λ _ after. Holds width size after self.new)
+        ensures meets { (width size : ℕ) (picture : List CodedMacroblock) → HoldsMacroblocks width size picture self.old → slice.now.number ≡ length picture →
+            Meets S.took S.failures (λ _ after. HoldsMacroblocks width size after self.new)
             (slice_data (transform_fits slice.now) width size slice.now picture) bits.old bits.new sink.old sink.new result }
         ensures samples { (width size : ℕ) (making : Making) (picture : List CodedMacroblock) → HoldsSamples width size making picture self.old →
             slice.now.number ≡ length picture → IsSliceOf making slice.now samples.now self.old →
             Meets S.took S.failures (λ _ after. HoldsSamples width size making after self.new)
             (slice_data (transform_fits slice.now) width size slice.now picture) bits.old bits.new sink.old sink.new result }
-        ensures no_memory { (width size : ℕ) (picture : List CodedMacroblock) → Holds width size picture self.old → slice.now.number ≡ length picture →
+        ensures no_memory { (width size : ℕ) (picture : List CodedMacroblock) → HoldsMacroblocks width size picture self.old →
+            slice.now.number ≡ length picture →
             IsErrOf result Stop.Memory → ⊥ }
-        ensures quiet { OnOk result (S.failures sink.new ≡ S.failures sink.old) }
+        ensures quiet { OnOk result (IsQuiet S.failures sink.old sink.new) }
         ensures kept { (place : ℕ) → HasBegun place self.old → KeepsFrames self.old self.new }
         ensures begun { (place : ℕ) → HasBegun place self.old → HasBegun place self.new }
         ensures first { first_place self.new ≡ first_place self.old }

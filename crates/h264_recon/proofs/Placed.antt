@@ -5,7 +5,7 @@ use Rattle.std.specs.Option.{option_map, option_and_then, is_some}
 use Rattle.h264_near.specs.declared.motion.Motion as derived
 use Rattle.h264_near.specs.Coded as coded
 use Rattle.h264_near.specs.Coded.{CodedMacroblock, number_of, motion_in}
-use Rattle.h264_near.specs.Keeps.{Shows}
+use Rattle.h264_near.specs.Keeps.{AreContexts}
 use Rattle.h264_near.specs.declared.context.Contexts.{Contexts}
 use Rattle.h264_vectors.specs.declared.slice.SliceContext.{SliceContext}
 use Rattle.h264_mbsyntax.specs.Possible.{Refers}
@@ -55,7 +55,7 @@ placed-is slice places place (Some m) l a r t =
     rw (e, a.each m.ref_idx m.picture (let h = f.0 in omega arith) f.1) refl
 
 -- those of a whole inter macroblock
-pub motions-are : (slice : SliceContext) (places : List ℕ) (place : ℕ → ℕ) (c : Contexts) (m : CodedMacroblock) (list : List Motion) → length slice.references ≡ 16 → ArePlaced slice places place → Shows c m → m.prediction ≡ coded.Inter c.motions →
+pub motions-are : (slice : SliceContext) (places : List ℕ) (place : ℕ → ℕ) (c : Contexts) (m : CodedMacroblock) (list : List Motion) → length slice.references ≡ 16 → ArePlaced slice places place → AreContexts c m → m.prediction ≡ coded.Inter c.motions →
     AllByRecursion (Refers slice) c.motions → list ≡ placed_motions places c.motions → list ≡ motions_of place c.motions
 unfolding placed_motions motions_of
 motions-are slice places place c m list l a s p r e =

@@ -24,11 +24,14 @@ use Rattle.h264_mbsyntax.specs.Possible as read
 use Rattle.h264_recon.specs.Blocks.{sides_of, sides4_of, left_there, above_there, corner_there}
 use Rattle.h264_recon.specs.Constructed.{IsPossible, IsPossibleLuma, IsAllowed, mode_at}
 use Rattle.h264_base.specs.declared.weight.Weights.{Weights}
-use Rattle.h264_recon.specs.Given.{available, mode4_of, mode16_of, chroma_mode_of, modes4_of, prediction_of, given}
+use Rattle.h264_intra.specs.Luma4.{mode4_of}
+use Rattle.h264_intra.specs.Luma16.{mode16_of}
+use Rattle.h264_intra.specs.Chroma.{mode_chroma_of}
+use Rattle.h264_recon.specs.Given.{available, used_by, modes4_of, prediction_of, given}
 use Rattle.h264_recon.specs.declared.macroblock.IntraLuma.TheVariants.{Blocks}
 use Rattle.h264_recon.specs.Table.{table}
 use Rattle.h264_recon.proofs.Tables.{table-at}
-use Rattle.h264_recon.proofs.Within.{within}
+use Rattle.h264_recon.proofs.Within.{within, used-within}
 
 -- ---- modes
 
@@ -44,7 +47,7 @@ second true false c t = absurd (cc)
 second false b c t = absurd (cc)
 
 pub fits-4x4 : (n : ℕ) (s : Samples) (t : Sides4) → (IsTrue s.above → IsTrue t.above) → (IsTrue s.left → IsTrue t.left) → (IsTrue s.corner → IsTrue t.corner) → IsTrue (fits_block n s) → IsTrue (is_possible4 (mode4_of n) t)
-unfolding fits_block mode4_of
+unfolding fits_block
 fits-4x4 zero s t a l c h = a h
 fits-4x4 (suc zero) s t a l c h = l h
 fits-4x4 (suc (suc zero)) s t a l c h = refl
@@ -60,14 +63,17 @@ fits-4x4 (suc (suc (suc (suc (suc (suc (suc (suc n)))))))) s t a l c h =
     let z3 : (m == 3) ≡ false = grind (arith, nat_tests) in
     let z7 : (m == 7) ≡ false = grind (arith, nat_tests) in
     let z1 : (m == 1) ≡ false = grind (arith, nat_tests) in
-    l (last (m == 8) (rw (z2, z0, z3, z7, z1) at h))
+    let z4 : (m == 4) ≡ false = grind (arith, nat_tests) in
+    let z5 : (m == 5) ≡ false = grind (arith, nat_tests) in
+    let z6 : (m == 6) ≡ false = grind (arith, nat_tests) in
+    rw (z0, z1, z2, z3, z4, z5, z6, z7) (l (last (m == 8) (rw (z2, z0, z3, z7, z1) at h)))
   where
     last : (b : Bool) → IsTrue (if b then s.left else s.above && (s.left && s.corner)) → IsTrue s.left
     last true h = h
     last false h = second s.above s.left s.corner h
 
 fits-16x16 : (n : ℕ) (s : Samples) → IsTrue (fits_luma n s) → IsTrue (is_possible16 (mode16_of n) (record { left = s.left; above = s.above; corner = s.corner }))
-unfolding fits_luma mode16_of
+unfolding fits_luma
 fits-16x16 zero s h = h
 fits-16x16 (suc zero) s h = h
 fits-16x16 (suc (suc zero)) s h = refl
@@ -76,10 +82,10 @@ fits-16x16 (suc (suc (suc n))) s h =
     let z2 : (m == 2) ≡ false = grind (arith, nat_tests) in
     let z0 : (m == 0) ≡ false = grind (arith, nat_tests) in
     let z1 : (m == 1) ≡ false = grind (arith, nat_tests) in
-    three s.above s.left s.corner s.above s.left s.corner (rw (z2, z0, z1) at h) (λ t. t) (λ t. t) (λ t. t)
+    rw (z0, z1, z2) (three s.above s.left s.corner s.above s.left s.corner (rw (z2, z0, z1) at h) (λ t. t) (λ t. t) (λ t. t))
 
-fits-chroma : (n : ℕ) (s : Samples) → IsTrue (fits_chroma n s) → IsTrue (is_possible_chroma (chroma_mode_of n) (record { left = s.left; above = s.above; corner = s.corner }))
-unfolding fits_chroma chroma_mode_of
+fits-chroma : (n : ℕ) (s : Samples) → IsTrue (fits_chroma n s) → IsTrue (is_possible_chroma (mode_chroma_of n) (record { left = s.left; above = s.above; corner = s.corner }))
+unfolding fits_chroma
 fits-chroma zero s h = refl
 fits-chroma (suc zero) s h = h
 fits-chroma (suc (suc zero)) s h = h
@@ -88,7 +94,7 @@ fits-chroma (suc (suc (suc n))) s h =
     let z2 : (m == 2) ≡ false = grind (arith, nat_tests) in
     let z0 : (m == 0) ≡ false = grind (arith, nat_tests) in
     let z1 : (m == 1) ≡ false = grind (arith, nat_tests) in
-    three s.above s.left s.corner s.above s.left s.corner (rw (z0, z1, z2) at h) (λ t. t) (λ t. t) (λ t. t)
+    rw (z0, z1, z2) (three s.above s.left s.corner s.above s.left s.corner (rw (z0, z1, z2) at h) (λ t. t) (λ t. t) (λ t. t))
 
 -- ---- a macroblock whose later block can be used can be used from its first one on
 
@@ -204,7 +210,7 @@ possible-4x4 w slice picture modes some long have x y hx hy =
     rw is (fits-4x4 (get_or modes b 0) (block_samples w picture n c (take b modes)) (sides4_of (available w picture n c) x y)
     (block-above w picture n c some (take b modes) x y hx hy taken) (block-left w picture n c some (take b modes) x y hx hy taken) (block-corner w picture n c some (take b modes) x y hx hy taken) (have b (omega arith)))
 
-possible-chroma : (w : ℕ) (slice : SliceContext) (picture : List CodedMacroblock) (mode : ℕ) → read.HasChromaSides w slice picture mode → IsTrue (is_possible_chroma (chroma_mode_of mode) (sides_of (available w picture slice.number slice.constrained_intra)))
+possible-chroma : (w : ℕ) (slice : SliceContext) (picture : List CodedMacroblock) (mode : ℕ) → read.HasChromaSides w slice picture mode → IsTrue (is_possible_chroma (mode_chroma_of mode) (sides_of (available w picture slice.number slice.constrained_intra)))
 unfolding available
 possible-chroma w slice picture mode h = fits-chroma mode (macroblock_samples w picture slice.number slice.constrained_intra) h.sides
 
@@ -212,8 +218,8 @@ possible-16x16 : (w : ℕ) (slice : SliceContext) (picture : List CodedMacrobloc
 unfolding available
 possible-16x16 w slice picture mode h = fits-16x16 mode (macroblock_samples w picture slice.number slice.constrained_intra) h
 
-pub possible-as-read : (w : ℕ) (slice : SliceContext) (picture : List CodedMacroblock) (place : ℕ → ℕ) (p : coded.Prediction) → 0 < w → read.IsPossible w slice picture p → IsPossible (prediction_of place p) (available w picture slice.number slice.constrained_intra)
-unfolding prediction_of
+pub possible-as-read : (w : ℕ) (slice : SliceContext) (picture : List CodedMacroblock) (place : ℕ → ℕ) (p : coded.Prediction) → 0 < w → read.IsPossible w slice picture p → IsPossible (prediction_of place p) (used_by p (available w picture slice.number slice.constrained_intra))
+unfolding prediction_of used_by
 possible-as-read w slice picture place (coded.Intra4x4 modes chroma) some h = (possible-4x4 w slice picture modes some h.0 h.1, possible-chroma w slice picture chroma h.2)
 possible-as-read w slice picture place (coded.Intra16x16 mode chroma) some h = (possible-16x16 w slice picture mode h.0, possible-chroma w slice picture chroma h.1)
 possible-as-read w slice picture place (coded.Pcm samples) some h = tt
@@ -225,6 +231,6 @@ pub given-allowed : (w : ℕ) (slice : SliceContext) (picture : List CodedMacrob
     IsAllowed (given w picture place weights slice.constrained_intra offset m) w c r
 unfolding given
 given-allowed w slice picture place weights offset m c r e k n h = record {
-  within = within w picture m.slice slice.constrained_intra c r e k;
+  within = used-within m.prediction (available w picture m.slice slice.constrained_intra) w c r (within w picture m.slice slice.constrained_intra c r e k);
   possible = rw n (possible-as-read w slice picture place m.prediction (omega arith) h);
 }

@@ -12,7 +12,7 @@ use Rattle.h264_recon.specs.Inter.{Setting}
 use Rattle.h264_recon.specs.Constructed.{window, made, IsMade, IsWithin, IsPossible, Coded}
 use Rattle.h264_recon.specs.Around.{SidesAgree}
 use Rattle.h264_recon.specs.Lines.{local, IsMadeFrom, IsSaved, Stored, store_of, AreStored}
-use Rattle.h264_recon.specs.Step.{list_of, ArePlaced, AreSaved, Shows, joined}
+use Rattle.h264_recon.specs.Step.{list_of, ArePlaced, AreSaved, HasMacroblock, joined}
 use Rattle.h264_recon.specs.declared.macroblock.Available.{Available}
 use Rattle.h264_recon.specs.declared.store.Store.{Store}
 use Rattle.h264_recon.specs.declared.store.Lines.{Lines}
@@ -115,7 +115,7 @@ stored_moves n w c r u v l f k agree held =
 
 pub shows : (k : Setting) (c r : ℕ) (m : Coded) (u : Component → ℕ → ℕ → ℕ) (lines : Lines) (own : Component → List ℕ) (old new : Frame) → c < k.across → IsWithin m.available k.across c r →
     IsPossible m.prediction m.available → IsMade k c r m u → AreStored k.across c r u lines → ((p : Component) → IsMadeFrom k c r m p (store_of p lines) (own p)) →
-    ArePlaced c r own old new → Shows c r u old new
+    ArePlaced c r own old new → HasMacroblock c r u old new
 shows k c r m u lines own old new inside within ok mu held made placed = λ p. record {
   width = (placed p).width;
   height = (placed p).height;

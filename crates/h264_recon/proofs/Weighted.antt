@@ -8,7 +8,7 @@ use Rattle.std.specs.Option.{option_and_then, ForSome}
 use Rattle.h264_base.specs.declared.weight.Weights.{Weights}
 use Rattle.h264_near.specs.declared.motion.Motion.{Motion}
 use Rattle.h264_near.specs.Coded.{CodedMacroblock, number_of}
-use Rattle.h264_near.specs.Keeps.{Shows}
+use Rattle.h264_near.specs.Keeps.{AreContexts}
 use Rattle.h264_near.specs.declared.context.Contexts.{Contexts}
 use Rattle.h264_recon.specs.Given.{weights_of}
 use Rattle.h264_recon.specs.Placed.{weights_placed_at, placed_weights}
@@ -22,7 +22,7 @@ unfolding number_of
 few k h = omega arith
 
 -- those of the blocks that were read are those of the coded macroblock
-pub weights-given : (c : Contexts) (m : CodedMacroblock) (weights : List (Option Weights)) → Shows c m → placed_weights weights c.motions ≡ weights_of weights m.prediction
+pub weights-given : (c : Contexts) (m : CodedMacroblock) (weights : List (Option Weights)) → AreContexts c m → placed_weights weights c.motions ≡ weights_of weights m.prediction
 unfolding placed_weights weights_of
 weights-given c m weights s =
     table-ext 16 _ _ (λ k h. ap (λ o. index_weights weights (option_and_then (λ x. x) o)) (sym (s.motions (number_of (k % 4) (k / 4)) (few k h))))

@@ -4,7 +4,9 @@ use Rattle.std.specs.List.{slice_get}
 use Rattle.std.specs.Option.{is_some, option_and_then}
 use Rattle.std.proofs.Math.Bool.{and-false}
 use Rattle.std.proofs.lemmas.Bool.{cases_lt, lt-ltb, ltb-true}
+use Rattle.h264_near.specs.Coded as coded
 use Rattle.h264_near.specs.Coded.{CodedMacroblock, mode_part, column_of, row_of}
+use Rattle.h264_near.specs.declared.motion.Motion as derived
 use Rattle.h264_near.specs.Intra.{with_modes, block_samples, macroblock_samples}
 use Rattle.h264_near.specs.Place.{around}
 use Rattle.h264_near.specs.declared.samples.Samples.{Samples}
@@ -13,7 +15,7 @@ use Rattle.h264_near.specs.Raster.{before, last_in, last_left, last_corner}
 use Rattle.h264_near.proofs.Neighbours.{left-of, upper-of, corner-of, past-of, next-of, last-above}
 use Rattle.h264_near.proofs.Places.{quotient, remainder}
 use Rattle.h264_recon.specs.Constructed.{IsWithin}
-use Rattle.h264_recon.specs.Given.{available}
+use Rattle.h264_recon.specs.Given.{available, no_sides, used_by}
 
 pub some-before : {A : Type 0} (n : ℕ) (f : ℕ → Option A) → IsTrue (is_some (option_and_then f (before n))) → 0 < n
 some-before zero f h = absurd (grind (arith, h))
@@ -62,6 +64,34 @@ within w xs slice constrained c r e k =
           let h = corner-there w xs (some-of (part 3 3) _ (rw (corner-of 4 part w xs m some four) at t)) in
           (rw column at h.0, rw row at h.1);
     }
+
+-- ---- the sides that are used
+
+pub none-within : (w c r : ℕ) → IsWithin no_sides w c r
+none-within w c r = record { left = λ t. absurd (cc); above = λ t. absurd (cc); above_right = λ t. absurd (cc); corner = λ t. absurd (cc) }
+
+pub used-within : (p : coded.Prediction) (a : Available) (w c r : ℕ) → IsWithin a w c r → IsWithin (used_by p a) w c r
+unfolding used_by
+used-within (coded.Intra4x4 modes chroma) a w c r h = h
+used-within (coded.Intra16x16 mode chroma) a w c r h = h
+used-within (coded.Pcm samples) a w c r h = none-within w c r
+used-within (coded.Inter motions) a w c r h = none-within w c r
+
+pub used-4x4 : (p : coded.Prediction) (modes : List ℕ) (chroma : ℕ) (a : Available) → p ≡ coded.Intra4x4 modes chroma → a ≡ used_by p a
+unfolding used_by
+used-4x4 p modes chroma a e = rw e refl
+
+pub used-16x16 : (p : coded.Prediction) (mode chroma : ℕ) (a : Available) → p ≡ coded.Intra16x16 mode chroma → a ≡ used_by p a
+unfolding used_by
+used-16x16 p mode chroma a e = rw e refl
+
+pub unused-pcm : (p : coded.Prediction) (samples : List ℕ) (a : Available) → p ≡ coded.Pcm samples → no_sides ≡ used_by p a
+unfolding used_by
+unused-pcm p samples a e = rw e refl
+
+pub unused-inter : (p : coded.Prediction) (motions : List (Option derived.Motion)) (a : Available) → p ≡ coded.Inter motions → no_sides ≡ used_by p a
+unfolding used_by
+unused-inter p motions a e = rw e refl
 
 -- ---- the guards of the code
 

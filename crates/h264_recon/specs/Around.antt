@@ -12,4 +12,5 @@ pub record SidesAgree (n : ℕ) (a : Available) (s t : ℕ → ℕ → ℕ) : Ty
 
 -- and at its 4x4 blocks before number b
 pub record BlocksAgree (n b : ℕ) (s t : ℕ → ℕ → ℕ) : Type 0 where
-  pub each : (x y i j : ℕ) → 4 * x + 4 ≤ n → 4 * y + 4 ≤ n → i < 4 → j < 4 → index_of x y < b → s (4 * x + i + 1) (4 * y + j + 1) ≡ t (4 * x + i + 1) (4 * y + j + 1)
+  pub each : (x y i j : ℕ) → 4 * x + 4 ≤ n → 4 * y + 4 ≤ n → i < 4 → j < 4 → index_of x y < b →
+      s (4 * x + i + 1) (4 * y + j + 1) ≡ t (4 * x + i + 1) (4 * y + j + 1)

@@ -54,7 +54,8 @@ mode_at modes x y = get_or modes (index_of x y) Dc
 
 -- Intra_4x4 and Intra_16x16 (8.3.1, 8.3.3)
 unfoldable pub predicted_luma : IntraLuma → Available → (ℕ → ℕ → ℕ) → ℕ → ℕ → ℕ
-predicted_luma (Blocks modes) a s x y = predicted4 (mode_at modes (x / 4) (y / 4)) (sides4_of a (x / 4) (y / 4)) (block_window s (x / 4) (y / 4)) (x % 4) (y % 4)
+predicted_luma (Blocks modes) a s x y =
+    predicted4 (mode_at modes (x / 4) (y / 4)) (sides4_of a (x / 4) (y / 4)) (block_window s (x / 4) (y / 4)) (x % 4) (y % 4)
 predicted_luma (Whole mode) a s x y = predicted16 mode (sides_of a) s x y
 
 unfoldable pub predicted_intra : IntraModes → Available → Component → (ℕ → ℕ → ℕ) → ℕ → ℕ → ℕ
@@ -100,7 +101,8 @@ pub record Constructed (k : Setting) (macroblock : ℕ → Coded) (u : Component
 abbrev pub SameReferences : (across down : ℕ) (f g : ℕ → Component → ℕ → ℕ → ℕ) → Prediction → Type 0
 SameReferences across down f g (Intra modes) = Unit {0}
 SameReferences across down f g (Inter motion) =
-    (n : ℕ) → n < 16 → (p : Component) (x y : ℕ) → x < side p * across → y < side p * down → f (get_or motion n no_motion).picture p x y ≡ g (get_or motion n no_motion).picture p x y
+    (n : ℕ) → n < 16 → (p : Component) (x y : ℕ) → x < side p * across → y < side p * down →
+    f (get_or motion n no_motion).picture p x y ≡ g (get_or motion n no_motion).picture p x y
 SameReferences across down f g (Pcm bytes) = Unit {0}
 
 -- ---- what the decoding process ensures of a macroblock

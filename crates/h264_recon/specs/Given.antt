@@ -1,13 +1,11 @@
 -- What a macroblock of the coded picture gives to its construction. A working form.
-use Rattle.std.specs.Prelude.{ℕ, zero, suc, ◌/◌, ◌%◌, Bool, List, [], get_or, Option, Some, None, ℤ}
+use Rattle.std.specs.Prelude.{ℕ, ◌/◌, ◌%◌, Bool, false, List, [], get_or, Option, Some, None, ℤ}
 use Rattle.std.specs.Option.{is_some, option_and_then}
 use Rattle.h264_base.specs.declared.weight.Weights.{Weights}
 use Rattle.h264_intra.specs.declared.luma4.Intra4x4PredMode.{Intra4x4PredMode}
-use Rattle.h264_intra.specs.declared.luma4.Intra4x4PredMode.TheVariants as mode4
-use Rattle.h264_intra.specs.declared.luma16.Intra16x16PredMode.{Intra16x16PredMode}
-use Rattle.h264_intra.specs.declared.luma16.Intra16x16PredMode.TheVariants as mode16
-use Rattle.h264_intra.specs.declared.chroma.IntraChromaPredMode.{IntraChromaPredMode}
-use Rattle.h264_intra.specs.declared.chroma.IntraChromaPredMode.TheVariants as mode8
+use Rattle.h264_intra.specs.Luma4.{mode4_of}
+use Rattle.h264_intra.specs.Luma16.{mode16_of}
+use Rattle.h264_intra.specs.Chroma.{mode_chroma_of}
 use Rattle.h264_near.specs.declared.motion.Motion as derived
 use Rattle.h264_near.specs.Coded as coded
 use Rattle.h264_near.specs.Coded.{CodedMacroblock, mode_part, motion_in, number_of}
@@ -35,30 +33,16 @@ available width picture slice constrained =
       corner = samples.corner;
     }
 
--- ---- modes by their numbers (Tables 8-2, 8-4 and 8-5)
+-- no sides
+abbrev pub no_sides : Available
+no_sides = record { left = false; above = false; above_right = false; corner = false }
 
-unfoldable pub mode4_of : ℕ → Intra4x4PredMode
-mode4_of zero = mode4.Vertical
-mode4_of (suc zero) = mode4.Horizontal
-mode4_of (suc (suc zero)) = mode4.Dc
-mode4_of (suc (suc (suc zero))) = mode4.DiagonalDownLeft
-mode4_of (suc (suc (suc (suc zero)))) = mode4.DiagonalDownRight
-mode4_of (suc (suc (suc (suc (suc zero))))) = mode4.VerticalRight
-mode4_of (suc (suc (suc (suc (suc (suc zero)))))) = mode4.HorizontalDown
-mode4_of (suc (suc (suc (suc (suc (suc (suc zero))))))) = mode4.VerticalLeft
-mode4_of (suc (suc (suc (suc (suc (suc (suc (suc n)))))))) = mode4.HorizontalUp
-
-unfoldable pub mode16_of : ℕ → Intra16x16PredMode
-mode16_of zero = mode16.Vertical
-mode16_of (suc zero) = mode16.Horizontal
-mode16_of (suc (suc zero)) = mode16.Dc
-mode16_of (suc (suc (suc n))) = mode16.Plane
-
-unfoldable pub chroma_mode_of : ℕ → IntraChromaPredMode
-chroma_mode_of zero = mode8.Dc
-chroma_mode_of (suc zero) = mode8.Horizontal
-chroma_mode_of (suc (suc zero)) = mode8.Vertical
-chroma_mode_of (suc (suc (suc n))) = mode8.Plane
+-- which of these sides the prediction of a macroblock uses: none, where it is not intra prediction
+unfoldable pub used_by : coded.Prediction → Available → Available
+used_by (coded.Intra4x4 modes chroma) a = a
+used_by (coded.Intra16x16 mode chroma) a = a
+used_by (coded.Pcm samples) a = no_sides
+used_by (coded.Inter motions) a = no_sides
 
 -- ---- prediction
 
@@ -76,8 +60,8 @@ unfoldable pub modes4_of : List ℕ → List Intra4x4PredMode
 modes4_of modes = table 16 (λ k. mode4_of (get_or modes k 0))
 
 unfoldable pub prediction_of : (ℕ → ℕ) → coded.Prediction → Prediction
-prediction_of place (coded.Intra4x4 modes chroma) = Intra (record { luma = Blocks (modes4_of modes); chroma = chroma_mode_of chroma })
-prediction_of place (coded.Intra16x16 mode chroma) = Intra (record { luma = Whole (mode16_of mode); chroma = chroma_mode_of chroma })
+prediction_of place (coded.Intra4x4 modes chroma) = Intra (record { luma = Blocks (modes4_of modes); chroma = mode_chroma_of chroma })
+prediction_of place (coded.Intra16x16 mode chroma) = Intra (record { luma = Whole (mode16_of mode); chroma = mode_chroma_of chroma })
 prediction_of place (coded.Pcm samples) = Pcm (pcm_of samples)
 prediction_of place (coded.Inter motions) = Inter (motions_of place motions)
 
@@ -91,7 +75,7 @@ weights_of weights p = table 16 (λ k. index_weights weights (option_and_then (�
 -- constrained_intra_pred_flag and chroma_qp_index_offset
 unfoldable pub given : ℕ → List CodedMacroblock → (ℕ → ℕ) → List (Option Weights) → Bool → ℤ → CodedMacroblock → Coded
 given width picture place weights constrained offset m = record {
-  available = available width picture m.slice constrained;
+  available = used_by m.prediction (available width picture m.slice constrained);
   prediction = prediction_of place m.prediction;
   levels = levels_of offset m;
   weights = weights_of weights m.prediction;

@@ -22,7 +22,11 @@ pub data Prediction : Type 0 where
 
 -- the samples of I_PCM by plane (7.3.5)
 unfoldable pub pcm_of : List ℕ → PcmSamples
-pcm_of samples = record { y = table 256 (λ k. get_or samples k 0); cb = table 64 (λ k. get_or samples (256 + k) 0); cr = table 64 (λ k. get_or samples (320 + k) 0) }
+pcm_of samples = record {
+  y = table 256 (λ k. get_or samples k 0);
+  cb = table 64 (λ k. get_or samples (256 + k) 0);
+  cr = table 64 (λ k. get_or samples (320 + k) 0);
+}
 
 -- ---- what the code has stands for this
 

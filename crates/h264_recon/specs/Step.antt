@@ -1,6 +1,6 @@
 -- One macroblock in place: the frame and the stores. A working form.
 use Rattle.std.specs.Prelude.{ℕ, ◌*◌, List}
-use Rattle.h264_plane.specs.Samples.{at, Holds, with_block}
+use Rattle.h264_plane.specs.Samples.{at, ShowsSamples, with_block}
 use Rattle.h264_plane.specs.Frames.{plane_of}
 use Rattle.h264_plane.specs.declared.frame.Component.{Component}
 use Rattle.h264_plane.specs.declared.frame.Component.TheVariants.{Y, Cb, Cr}
@@ -18,15 +18,15 @@ list_of y cb cr Cr = cr
 -- the lists are placed in the planes at the macroblock
 abbrev pub ArePlaced : ℕ → ℕ → (Component → List ℕ) → Frame → Frame → Type 0
 ArePlaced c r own old new = (p : Component) →
-    Holds (plane_of p old) (plane_of p new) (with_block (side p) (side p) (side p * c) (side p * r) (own p) (at (plane_of p old)))
+    ShowsSamples (plane_of p old) (plane_of p new) (with_block (side p) (side p) (side p * c) (side p * r) (own p) (at (plane_of p old)))
 
 -- and their borders are kept in the stores
 abbrev pub AreSaved : ℕ → (Component → List ℕ) → Lines → Lines → Type 0
 AreSaved c own old new = (p : Component) → IsSaved (side p) c (store_of p old) (store_of p new) (own p)
 
 -- the planes have the samples u at the macroblock, and each other sample is what it was
-abbrev pub Shows : ℕ → ℕ → (Component → ℕ → ℕ → ℕ) → Frame → Frame → Type 0
-Shows c r u old new = (p : Component) → Holds (plane_of p old) (plane_of p new) (with_own (side p) c r (u p) (at (plane_of p old)))
+abbrev pub HasMacroblock : ℕ → ℕ → (Component → ℕ → ℕ → ℕ) → Frame → Frame → Type 0
+HasMacroblock c r u old new = (p : Component) → ShowsSamples (plane_of p old) (plane_of p new) (with_own (side p) c r (u p) (at (plane_of p old)))
 
 -- the samples u with the macroblock as the frame has it
 abbrev pub joined : ℕ → ℕ → Frame → (Component → ℕ → ℕ → ℕ) → Component → ℕ → ℕ → ℕ

@@ -12,7 +12,7 @@ ghost use Rattle.h264_recon.specs.Constructed.{coded, IsPossibleLuma, IsPossible
 ghost use Rattle.h264_recon.specs.Lines.{IsMadeFrom, IsLumaMade, IsChromaMade, AreStored, store_of, chroma_plane};
 ghost use Rattle.h264_recon.specs.Predicted.{prediction_in};
 ghost use Rattle.h264_recon.specs.Pool.{AreShown, AreUsable};
-ghost use Rattle.h264_recon.specs.Step.{list_of, ArePlaced, AreSaved, Shows, joined};
+ghost use Rattle.h264_recon.specs.Step.{list_of, ArePlaced, AreSaved, HasMacroblock, joined};
 
 use crate::blocks::luma4;
 use crate::inter::{predict_chroma, predict_luma};
@@ -190,7 +190,7 @@ pub fn construct(
     ensures step { (k : Setting) (l : Levels) (u : Component → ℕ → ℕ → ℕ) → column < k.across → row < k.down →
         IsAllowed (coded m.now l) k.across column row → AreShown k pool.now (prediction_in m.now.prediction) → AreResiduals l residuals.now →
         IsMade k column row (coded m.now l) u → AreStored k.across column row u lines.old → AreStored k.across (column + 1) row u lines.new
-        × Shows column row u frame.old frame.new }
+        × HasMacroblock column row u frame.old frame.new }
     ensures some { (k : Setting) (l : Levels) (u : Component → ℕ → ℕ → ℕ) → column < k.across → row < k.down →
         IsAllowed (coded m.now l) k.across column row → AreShown k pool.now (prediction_in m.now.prediction) → AreResiduals l residuals.now →
         AreStored k.across column row u lines.old → IsMade k column row (coded m.now l) (joined column row frame.new u) }

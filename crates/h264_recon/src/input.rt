@@ -6,11 +6,11 @@ ghost use Rattle.h264_near.specs.Coded.{CodedMacroblock};
 ghost use Rattle.h264_near.specs.Keeps.{Keeps, width_of};
 ghost use Rattle.h264_vectors.specs.declared.slice.SliceContext.{SliceContext as Context};
 ghost use Rattle.h264_vectors.specs.Agrees.{AreAlike};
-ghost use Rattle.h264_mbsyntax.specs.Holds.{Holds};
+ghost use Rattle.h264_mbsyntax.specs.Holds.{HoldsMacroblock};
 ghost use Rattle.h264_mbsyntax.specs.Possible.{IsPossible};
 ghost use Rattle.h264_recon.specs.Constructed.{coded as coded_as, IsWithin};
 ghost use Rattle.h264_recon.specs.Levels.{levels_of};
-ghost use Rattle.h264_recon.specs.Given.{available as available_of, mode4_of, mode16_of, chroma_mode_of, modes4_of, prediction_of, given as given_of};
+ghost use Rattle.h264_recon.specs.Given.{available as available_of, no_sides as no_sides_of, used_by, modes4_of, prediction_of, given as given_of};
 ghost use Rattle.h264_recon.specs.Inter.{no_motion};
 ghost use Rattle.h264_recon.specs.Predicted.{motions_in, prediction_in};
 ghost use Rattle.h264_recon.specs.Placed.{ArePlaced, IsOneOf, PointsInto, placed_motion, placed_motions, weights_by};
@@ -55,57 +55,13 @@ pub fn available(near: &Near, slice: u32, constrained: bool, column: usize, row:
     }
 }
 
-#[tactic(auto, unfolding(crate::specs::Given::mode4_of))]
-#[inline]
-fn mode4(n: u8) -> Intra4x4PredMode
-    ensures { result ≡ mode4_of n }
-{
-    match n {
-        0 => Intra4x4PredMode::Vertical,
-        1 => Intra4x4PredMode::Horizontal,
-        2 => Intra4x4PredMode::Dc,
-        3 => Intra4x4PredMode::DiagonalDownLeft,
-        4 => Intra4x4PredMode::DiagonalDownRight,
-        5 => Intra4x4PredMode::VerticalRight,
-        6 => Intra4x4PredMode::HorizontalDown,
-        7 => Intra4x4PredMode::VerticalLeft,
-        _ => Intra4x4PredMode::HorizontalUp,
-    }
-}
-
-#[tactic(auto, unfolding(crate::specs::Given::mode16_of))]
-#[inline]
-fn mode16(n: u8) -> Intra16x16PredMode
-    ensures { result ≡ mode16_of n }
-{
-    match n {
-        0 => Intra16x16PredMode::Vertical,
-        1 => Intra16x16PredMode::Horizontal,
-        2 => Intra16x16PredMode::Dc,
-        _ => Intra16x16PredMode::Plane,
-    }
-}
-
-#[tactic(auto, unfolding(crate::specs::Given::chroma_mode_of))]
-#[inline]
-fn chroma_mode(n: u8) -> IntraChromaPredMode
-    ensures { result ≡ chroma_mode_of n }
-{
-    match n {
-        0 => IntraChromaPredMode::Dc,
-        1 => IntraChromaPredMode::Horizontal,
-        2 => IntraChromaPredMode::Vertical,
-        _ => IntraChromaPredMode::Plane,
-    }
-}
-
 /// The modes of the blocks of an I_4x4 macroblock.
 fn modes4(modes: &[u8; 16]) -> [Intra4x4PredMode; 16]
     ensures { result ≡ modes4_of modes.now }
 {
     let mut out = [Intra4x4PredMode::Dc; 16];
     for k in 0..16 {
-        out[k] = mode4(modes[k]);
+        out[k] = Intra4x4PredMode::of_number(modes[k]);
     }
     out
 }
@@ -216,23 +172,56 @@ fn motions(derived: &[Option<Derived>; 16], whole: bool, places: &[u8; 16]) -> M
 /// How a macroblock is predicted.
 fn prediction<'a>(read: &'a Read, places: &[u8; 16]) -> Prediction<'a>
     ensures points { PointsInto places.now (prediction_in result) }
-    ensures here { (slice : Context) (place : ℕ → ℕ) (width : ℕ) (picture : List CodedMacroblock) (coded : CodedMacroblock) → Holds read.now coded →
+    ensures here { (slice : Context) (place : ℕ → ℕ) (width : ℕ) (picture : List CodedMacroblock) (coded : CodedMacroblock) → HoldsMacroblock read.now coded →
         IsPossible width slice picture coded.prediction → length slice.references ≡ 16 → ArePlaced slice places.now place →
         prediction_in result ≡ prediction_of place coded.prediction }
 {
     match read.kind {
         Kind::Intra4x4 => Prediction::Intra(IntraModes {
             luma: IntraLuma::Blocks(modes4(&read.contexts.modes)),
-            chroma: chroma_mode(read.chroma_mode),
+            chroma: IntraChromaPredMode::of_number(read.chroma_mode),
         }),
         Kind::Intra16x16 { mode } => Prediction::Intra(IntraModes {
-            luma: IntraLuma::Whole(mode16(mode)),
-            chroma: chroma_mode(read.chroma_mode),
+            luma: IntraLuma::Whole(Intra16x16PredMode::of_number(mode)),
+            chroma: IntraChromaPredMode::of_number(read.chroma_mode),
         }),
         Kind::Pcm => Prediction::Pcm(&read.pcm),
         Kind::Inter { whole } => {
             Prediction::Inter(motions(&read.contexts.motions, whole, places))
         }
+    }
+}
+
+/// No sides.
+#[inline(always)]
+fn no_sides() -> Available
+    ensures { result ≡ no_sides_of }
+{
+    Available {
+        left: false,
+        above: false,
+        above_right: false,
+        corner: false,
+    }
+}
+
+/// The sides that the prediction of a macroblock that was read uses: those that intra prediction may use, and none for other macroblocks, which so do
+/// not pay for them.
+#[inline]
+fn used(read: &Read, near: &Near, slice: &SliceContext, column: usize, row: usize) -> Available
+    requires small { column < 1024 }
+    ensures within { IsWithin result (width_of near.now) column row }
+    ensures here { (width : ℕ) (picture : List CodedMacroblock) (coded : CodedMacroblock) → Keeps width picture near.now →
+        length picture ≡ row * width + column → column < width → HoldsMacroblock read.now coded →
+        result ≡ used_by coded.prediction (available_of width picture slice.now.number slice.now.constrained_intra) }
+{
+    match read.kind {
+        Kind::Intra4x4 => available(near, slice.number, slice.constrained_intra, column, row),
+        Kind::Intra16x16 { mode: _ } => {
+            available(near, slice.number, slice.constrained_intra, column, row)
+        }
+        Kind::Pcm => no_sides(),
+        Kind::Inter { whole: _ } => no_sides(),
     }
 }
 
@@ -260,14 +249,14 @@ pub fn given<'a>(
     ensures within { IsWithin result.available (width_of near.now) column row }
     ensures points { PointsInto places.now (prediction_in result.prediction) }
     ensures given { (width : ℕ) (picture : List CodedMacroblock) (place : ℕ → ℕ) (coded : CodedMacroblock) → Keeps width picture near.now →
-        length picture ≡ row * width + column → column < width → Holds read.now coded → coded.slice ≡ slice.now.number →
+        length picture ≡ row * width + column → column < width → HoldsMacroblock read.now coded → coded.slice ≡ slice.now.number →
         IsPossible width slice.now picture coded.prediction → ArePlaced slice.now places.now place →
         coded_as result (levels_of slice.now.chroma_qp_index_offset coded) ≡ given_of width picture place
         (weights_by weights.now) slice.now.constrained_intra slice.now.chroma_qp_index_offset coded }
 {
     let _all = count(&slice.references);
     Macroblock {
-        available: available(near, slice.number, slice.constrained_intra, column, row),
+        available: used(read, near, slice, column, row),
         prediction: prediction(read, places),
         weighting: Weighting::new(weights, &read.contexts.motions),
     }

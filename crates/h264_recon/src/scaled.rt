@@ -5,7 +5,7 @@ ghost use Rattle.std.specs.Prelude.{◌≡◌, ◌↔◌, ℕ, ◌+◌, ◌*◌,
 ghost use Rattle.h264_plane.specs.Places.{index_of, column_of, row_of};
 ghost use Rattle.h264_near.specs.Coded.{CodedMacroblock};
 ghost use Rattle.h264_mbsyntax.specs.Stored.{shown};
-ghost use Rattle.h264_mbsyntax.specs.Holds.{Holds};
+ghost use Rattle.h264_mbsyntax.specs.Holds.{HoldsMacroblock};
 ghost use Rattle.h264_scale.specs.Residual.{residual_at, residual_fits, d_of, d_with_dc, HasEntries};
 ghost use Rattle.h264_scale.specs.Macroblock.{luma_d, chroma_d, luma_fits, chroma_fits, levels_fit, AreResiduals, AreScaled, raster, IsPut};
 ghost use Rattle.h264_scale.specs.declared.levels.LumaLevels.TheVariants as luma_variants;
@@ -226,7 +226,8 @@ fn luma_blocks(
 #[inline(always)]
 fn luma(mb: &Macroblock) -> Result<Option<[i16; 256]>, TransformRange>
     requires { mb.now.qp ≤ 51 }
-    ensures { (coded : CodedMacroblock) → Holds mb.now coded → IsLumaOf mb.now.qp (luma_levels_of coded.prediction coded.totals coded.residual) result }
+    ensures { (coded : CodedMacroblock) → HoldsMacroblock mb.now coded →
+        IsLumaOf mb.now.qp (luma_levels_of coded.prediction coded.totals coded.residual) result }
 {
     match mb.kind {
         Kind::Intra16x16 { mode: _ } => {
@@ -285,7 +286,7 @@ fn chroma_blocks(
 fn chroma(mb: &Macroblock, c: usize, qp: u8) -> Result<Option<[i16; 64]>, TransformRange>
     requires plane { c < 2 }
     requires qp { qp ≤ 51 }
-    ensures { (coded : CodedMacroblock) → Holds mb.now coded → IsChromaOf qp
+    ensures { (coded : CodedMacroblock) → HoldsMacroblock mb.now coded → IsChromaOf qp
         (chroma_levels_of c coded.prediction coded.chroma_totals coded.residual) result }
 {
     match mb.kind {
@@ -303,8 +304,8 @@ fn chroma(mb: &Macroblock, c: usize, qp: u8) -> Result<Option<[i16; 64]>, Transf
 #[inline(always)]
 pub fn residuals(mb: &Macroblock, offset: i32) -> Result<Residuals, TransformRange>
     requires { mb.now.qp ≤ 51 }
-    ensures range { (coded : CodedMacroblock) → Holds mb.now coded → IsOk result ↔ IsTrue (levels_fit (levels_of offset coded)) }
-    ensures residual { (coded : CodedMacroblock) → Holds mb.now coded → IfOk result (AreResiduals (levels_of offset coded)) }
+    ensures range { (coded : CodedMacroblock) → HoldsMacroblock mb.now coded → IsOk result ↔ IsTrue (levels_fit (levels_of offset coded)) }
+    ensures residual { (coded : CodedMacroblock) → HoldsMacroblock mb.now coded → IfOk result (AreResiduals (levels_of offset coded)) }
 {
     let qp = qp_of_chroma(mb.qp, offset);
     Ok(Residuals {

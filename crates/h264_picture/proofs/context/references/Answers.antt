@@ -1,7 +1,7 @@
 use Rattle.std.proofs.Common.{arith, None, slice_get}
 use Rattle.std.specs.Option.{option_and_then}
 use Rattle.h264_picture.specs.Context.{picture_in}
-use Rattle.h264_picture.proofs.Tables.{table-same}
+use Rattle.h264_recon.proofs.Tables.{table-same}
 use Rattle.h264_picture.proofs.context.references.Goals as goal
 
 pub returns : goal.returns

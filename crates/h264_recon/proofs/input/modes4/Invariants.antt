@@ -1,6 +1,6 @@
 use Rattle.std.proofs.Common.{◌≡◌, ℕ, ◌<◌, get_or, length}
 use Rattle.h264_intra.specs.declared.luma4.Intra4x4PredMode.TheVariants as mode4
-use Rattle.h264_recon.specs.Given.{mode4_of}
+use Rattle.h264_intra.specs.Luma4.{mode4_of}
 use Rattle.h264_recon.proofs.input.modes4.Given as goal
 
 abbrev pub invariant-loop-k : goal.invariant-loop-k

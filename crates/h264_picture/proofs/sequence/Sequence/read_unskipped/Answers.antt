@@ -2,7 +2,7 @@ use Rattle.std.proofs.Common.{refl, sym, ◌∙◌, subst, ◌+◌, ap}
 use Rattle.std.proofs.lemmas.Result.{err_from_is_err_and}
 use Rattle.h264_base.proofs.Steps.{bind, bind_as, stop, done, checked}
 use Rattle.h264_mbsyntax.specs.Slice.{unskipped}
-use Rattle.h264_mbsyntax.specs.Holds.{Holds as HoldsMacroblock}
+use Rattle.h264_mbsyntax.specs.Holds.{HoldsMacroblock}
 use Rattle.h264_picture.proofs.Steps.{moved, out-of-range, in-range, same-samples, same-makes, one-left, some-left}
 use Rattle.h264_picture.proofs.sequence.Sequence.read_unskipped.Goals as goal
 

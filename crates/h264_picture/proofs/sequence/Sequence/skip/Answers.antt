@@ -2,7 +2,7 @@ use Rattle.std.proofs.Common.{refl, sym, subst, ◌∙◌}
 use Rattle.std.proofs.lemmas.Result.{err_from_is_err_and}
 use Rattle.h264_base.proofs.Steps.{bind, stop, done, checked}
 use Rattle.h264_mbsyntax.specs.Slice.{skip, skipped_of}
-use Rattle.h264_mbsyntax.specs.Holds.{Holds as HoldsMacroblock}
+use Rattle.h264_mbsyntax.specs.Holds.{HoldsMacroblock}
 use Rattle.h264_picture.proofs.Steps.{moved, skipped-slice, same-samples, same-makes}
 use Rattle.h264_recon.specs.Levels.{levels_of}
 use Rattle.h264_picture.proofs.Skipped.{skipped-possible, skipped-none}
