@@ -23,7 +23,7 @@ use Rattle.h264_recon.proofs.Possible.{given-allowed}
 use Rattle.h264_picture.specs.Context.{slice_context}
 use Rattle.h264_picture.specs.Decoded.{Parameters, nothing, macroblock_at}
 use Rattle.h264_picture.specs.Sources.{Sources, IsSharedBy, AreSharedBy, AreShared}
-use Rattle.h264_picture.specs.Table.{table}
+use Rattle.h264_recon.specs.Table.{table}
 use Rattle.h264_picture.proofs.Sources.{decoded-shared}
 use Rattle.h264_picture.proofs.Unique.{one_decoded}
 use Rattle.h264_verify.specs.Pictures.{CodedSlice, CodedPicture, last_in, last_slice}

@@ -6,12 +6,12 @@ use Rattle.h264_plane.specs.declared.frame.Frame.{Frame}
 use Rattle.h264_sps.specs.declared.sps.Sps.{Sps}
 use Rattle.h264_picture.specs.Buffer.{buffer_size}
 use Rattle.h264_picture.specs.Making.{Making, HoldsSamples}
-use Rattle.h264_picture.specs.Holds.{Holds, Serves}
+use Rattle.h264_picture.specs.Holds.{HoldsMacroblocks, Serves}
 use Rattle.h264_picture.specs.Places.{lent, first_place, places, is_active_place, HasBegun, HasSize, IsReleased, KeepsOthers, KeepsFrames as KeepsLent}
 use Rattle.h264_dpb.specs.declared.output.Output.{Output}
 use Rattle.h264_dpb.specs.declared.entry.Entry.{Entry}
 use Rattle.h264_dpb.specs.declared.entry.Placed.{Placed}
-use Rattle.h264_dpb.specs.Kept.{Each, IsAtPlace, IsOrdered, is_free, size_of}
+use Rattle.h264_dpb.specs.Kept.{Each, IsAtPlace, IsOrdered, is_occupied, size_of}
 use Rattle.h264_dpb.specs.Numbered.{is_taken}
 use Rattle.h264_verify.specs.declared.decoder.Decoder.{Decoder}
 use Rattle.h264_verify.specs.declared.decoder.Format.{Format}
@@ -42,7 +42,7 @@ settled-if old new o o' k e r out f = record {
 module _ (frames : ℕ → Frame) (s : CodedSlice) (pictures : List CodedPicture) (old mid new : Decoder) (sps : Sps) (place : ℕ) (k : EntersFrames frames s pictures old) (sps-is : s.sps ≡ sps)
     (room : IsRoomFor (format_of sps) mid.work) (format : mid.format ≡ Some (format_of sps)) (kept : KeepsLent old.work mid.work) (others : old.format ≡ Some (format_of sps) → mid ≡ old) (output : mid.output ≡ old.output)
     (out : new.output ≡ mid.output) (same : new.format ≡ mid.format) (at : new.place ≡ place) where
-  pub begun-frames : is_active_place (first_place mid.work) place ≡ true → first_place new.work ≡ first_place mid.work → is_free place mid.output ≡ false → ((width size : ℕ) → Serves width size mid.work → Holds width size [] new.work) → ((width size : ℕ) (making : Making) → Serves width size mid.work → HoldsSamples width size making [] new.work) →
+  pub begun-frames : is_active_place (first_place mid.work) place ≡ true → first_place new.work ≡ first_place mid.work → is_occupied place mid.output ≡ false → ((width size : ℕ) → Serves width size mid.work → HoldsMacroblocks width size [] new.work) → ((width size : ℕ) (making : Making) → Serves width size mid.work → HoldsSamples width size making [] new.work) →
       HasBegun place new.work → KeepsOthers place mid.work new.work → places new.work ≡ places mid.work → ((width height : ℕ) → HasSize width height mid.work → HasSize width height new.work) → (IsReleased mid.work → IsReleased new.work) → BegunFrames frames s pictures new
   begun-frames active first free holds samples begun others-kept places-are size released =
       let width = s.sps.frame_size.width in
@@ -57,7 +57,7 @@ module _ (frames : ℕ → Frame) (s : CodedSlice) (pictures : List CodedPicture
         picture = record {
           begun = subst (λ (p : ℕ). HasBegun p new.work) (sym at) begun;
           active = subst (λ (p : ℕ). is_active_place (first_place new.work) p ≡ true) (sym at) (subst (λ (b : ℕ). is_active_place b place ≡ true) (sym first) active);
-          free = subst (λ (o : Output). is_free new.place o ≡ false) (sym out) (subst (λ (p : ℕ). is_free p mid.output ≡ false) (sym at) free);
+          free = subst (λ (o : Output). is_occupied new.place o ≡ false) (sym out) (subst (λ (p : ℕ). is_occupied p mid.output ≡ false) (sym at) free);
           format = same ∙ is;
           settled = λ not.
               let e = others (k.format not ∙ ap (λ (x : Sps). Some (format_of x)) sps-is) in
@@ -69,7 +69,7 @@ module _ (frames : ℕ → Frame) (s : CodedSlice) (pictures : List CodedPicture
       lent-on : (p : ℕ) → is_taken old.output.buffer.entries p ≡ true → lent old.work p ≢ None → lent new.work p ≡ lent old.work p
       lent-on p t n =
           let first = kept p n in
-          let apart : p ≢ place = λ e. let f : is_free p old.output ≡ false = subst (λ (q : ℕ). is_free q old.output ≡ false) (sym e) (subst (λ (o : Output). is_free place o ≡ false) output free) in let g : true ≡ false = sym t ∙ f in cc in
+          let apart : p ≢ place = λ e. let f : is_occupied p old.output ≡ false = subst (λ (q : ℕ). is_occupied q old.output ≡ false) (sym e) (subst (λ (o : Output). is_occupied place o ≡ false) output free) in let g : true ≡ false = sym t ∙ f in cc in
           others-kept p apart (λ e. n (sym first ∙ e)) ∙ first
 
 pub is-active : (first place : ℕ) → first ≤ place → place < first + 17 → is_active_place first place ≡ true
@@ -101,15 +101,15 @@ module _ (old mid : Decoder) (sps : Sps) (k : EntersSome old) (room : IsRoomFor 
   pub in-order : IsOrdered (length k.pictures) mid.output
   in-order = subst (λ (o : Output). IsOrdered (length k.pictures) o) (sym output) k.keeps.output.ordered
 
-  pub is-fresh : AreOlder old.work mid.work → is_free (first_place mid.work) mid.output ≡ false
-  is-fresh older = subst (λ (o : Output). is_free (first_place mid.work) o ≡ false) (sym output) (not-taken k.frames (lent old.work) (first_place mid.work) old.output.buffer.entries k.keeps.output.frames_are.each older)
+  pub is-fresh : AreOlder old.work mid.work → is_occupied (first_place mid.work) mid.output ≡ false
+  is-fresh older = subst (λ (o : Output). is_occupied (first_place mid.work) o ≡ false) (sym output) (not-taken k.frames (lent old.work) (first_place mid.work) old.output.buffer.entries k.keeps.output.frames_are.each older)
 
   pub some-place : 0 < places mid.work
   some-place = let p = room.places in omega (arith, p)
 
-  pub always-place : (r : Option ℕ) (first count : ℕ) → first ≡ first_place mid.work → count ≡ places mid.work → ((next : ℕ) → IsOrdered next mid.output → size_of mid.output < count → IsTrue (is_some r)) → (is_free first mid.output ≡ false → 0 < count → IsTrue (is_some r)) → IsSized mid.format mid.output ⊎ AreOlder old.work mid.work → IsTrue (is_some r)
+  pub always-place : (r : Option ℕ) (first count : ℕ) → first ≡ first_place mid.work → count ≡ places mid.work → ((next : ℕ) → IsOrdered next mid.output → size_of mid.output < count → IsTrue (is_some r)) → (is_occupied first mid.output ≡ false → 0 < count → IsTrue (is_some r)) → IsSized mid.format mid.output ⊎ AreOlder old.work mid.work → IsTrue (is_some r)
   always-place r first count f c small fresh (inl s) = small (length k.pictures) in-order (let l = is-small s in omega (arith, c, l))
-  always-place r first count f c small fresh (inr older) = fresh (subst (λ (n : ℕ). is_free n mid.output ≡ false) (sym f) (is-fresh older)) (let l = some-place in omega (arith, c, l))
+  always-place r first count f c small fresh (inr older) = fresh (subst (λ (n : ℕ). is_occupied n mid.output ≡ false) (sym f) (is-fresh older)) (let l = some-place in omega (arith, c, l))
 
 pub none-some : {A : Type 0} (o : Option A) → o ≡ None → IsTrue (is_some o) → ⊥
 none-some None e t = cc

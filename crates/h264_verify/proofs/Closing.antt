@@ -73,7 +73,7 @@ closed-pictures on pictures old new k same held = record {
   counts = subst (λ (s : Slices). KeepsCounts (map counted pictures) s.counts) (sym same) k.counts;
   count = ap (λ (s : Slices). s.count) same ∙ k.count;
   pictures_are = ap (λ (s : Slices). s.pictures) same ∙ k.pictures_are;
-  behind = subst (λ (s : Slices). EndsAt pictures s.behind) (sym same) k.behind;
+  following = subst (λ (s : Slices). EndsAt pictures s.following) (sym same) k.following;
   prev_ref = ap (λ (s : Slices). s.prev_ref_frame_num) same ∙ k.prev_ref;
   held = held;
 }

@@ -5,7 +5,7 @@ use Rattle.h264_base.specs.declared.stop.Stop.{Stop}
 use Rattle.h264_base.specs.declared.stop.Stop.TheVariants.{No}
 use Rattle.h264_near.specs.Coded.{CodedMacroblock}
 use Rattle.h264_picture.specs.declared.work.Work.{Work}
-use Rattle.h264_picture.specs.Holds.{Holds}
+use Rattle.h264_picture.specs.Holds.{HoldsMacroblocks}
 use Rattle.h264_verify.specs.Pictures.{CodedPicture, last_slice, picture_size, open_of}
 use Rattle.h264_verify.specs.Order.{whole_picture}
 use Rattle.h264_verify.specs.Keeping.{HoldsCoded, HoldsNewest, HoldsOpen, EndsAt, coded_before}
@@ -14,7 +14,7 @@ use Rattle.h264_verify.specs.StepOutcome.{steps_outcome}
 use Rattle.h264_verify.specs.declared.picture.OpenPicture.{OpenPicture}
 
 -- A slice that goes on has as many macroblocks before it as are kept.
-pub coded-before : (pictures : List CodedPicture) (work : Work) (n : ℕ) → ((width size : ℕ) (picture : List CodedMacroblock) → Holds width size picture work → n ≡ length picture) → HoldsNewest false pictures work → n ≡ coded_before false pictures
+pub coded-before : (pictures : List CodedPicture) (work : Work) (n : ℕ) → ((width size : ℕ) (picture : List CodedMacroblock) → HoldsMacroblocks width size picture work → n ≡ length picture) → HoldsNewest false pictures work → n ≡ coded_before false pictures
 coded-before [] work n c k = absurd k
 coded-before (p ∷ pictures) work n c k = c p.first.sps.frame_size.width (picture_size p.first.sps) (last_slice p).macroblocks k
 
@@ -24,7 +24,7 @@ checked-outcome true stop r h = ap (λ (x : Result (Unit {0}) Stop). answers x) 
 checked-outcome false stop r h = ap (λ (x : Result (Unit {0}) Stop). answers x) h
 
 -- The end of the picture that may go on.
-pub whole-outcome : (on : Bool) (pictures : List CodedPicture) (picture : Option OpenPicture) (o : OpenPicture) (work : Work) (behind : ℕ) (whole : Bool) → picture ≡ Some o → HoldsOpen (open_of on pictures) picture → EndsAt pictures behind → HoldsCoded (open_of on pictures) work → ((width size : ℕ) (ms : List CodedMacroblock) → Holds width size ms work → whole ≡ (length ms == size)) → (if whole then answers (Ok tt) else answers (Err (No behind Incomplete))) ≡ steps_outcome (if on then whole_picture pictures else [])
-whole-outcome on [] picture o work behind whole e h b k c = absurd (subst (HoldsOpen None) e h)
-whole-outcome false (p ∷ pictures) picture o work behind whole e h b k c = absurd (subst (HoldsOpen None) e h)
-whole-outcome true (p ∷ pictures) picture o work behind whole e h b k c = rw (b, c p.first.sps.frame_size.width (picture_size p.first.sps) (last_slice p).macroblocks k) refl
+pub whole-outcome : (on : Bool) (pictures : List CodedPicture) (picture : Option OpenPicture) (o : OpenPicture) (work : Work) (following : ℕ) (whole : Bool) → picture ≡ Some o → HoldsOpen (open_of on pictures) picture → EndsAt pictures following → HoldsCoded (open_of on pictures) work → ((width size : ℕ) (ms : List CodedMacroblock) → HoldsMacroblocks width size ms work → whole ≡ (length ms == size)) → (if whole then answers (Ok tt) else answers (Err (No following Incomplete))) ≡ steps_outcome (if on then whole_picture pictures else [])
+whole-outcome on [] picture o work following whole e h b k c = absurd (subst (HoldsOpen None) e h)
+whole-outcome false (p ∷ pictures) picture o work following whole e h b k c = absurd (subst (HoldsOpen None) e h)
+whole-outcome true (p ∷ pictures) picture o work following whole e h b k c = rw (b, c p.first.sps.frame_size.width (picture_size p.first.sps) (last_slice p).macroblocks k) refl

@@ -22,7 +22,7 @@ use Rattle.h264_header.specs.Layout.{sets_of}
 use Rattle.h264_header.specs.Header.{header}
 use Rattle.h264_verify.specs.Content.{Content}
 use Rattle.h264_verify.specs.Content as contents
-use Rattle.h264_verify.specs.Outcome.{Outcome, ◌>>=◌, with_calls, goes_on, answers, gives, tells, value_of, structure_outcome, Plays}
+use Rattle.h264_verify.specs.Outcome.{Outcome, ◌>>=◌, with_calls, continued, answers, gives, tells, value_of, structure_outcome, Plays}
 use Rattle.h264_verify.specs.Steps.{Step, needs}
 use Rattle.h264_verify.specs.UnitHeader.{header_of, nal_unit_type}
 use Rattle.h264_verify.specs.Order.{header_demands}
@@ -48,7 +48,7 @@ bind-calls : {A B : Type 0} (calls : List Told) (o : Outcome A) (g : A → Outco
 unfolding ◌>>=◌
 bind-calls {A} {B} calls o g = by o.calls o.answer
   where
-    by : (later : List Told) (a : Result A Stop) → goes_on (calls ++ later) g a ≡ with_calls calls (goes_on later g a)
+    by : (later : List Told) (a : Result A Stop) → continued (calls ++ later) g a ≡ with_calls calls (continued later g a)
     by later (Ok y) = ap (λ (l : List Told). outcome l (g y).answer) (append_assoc calls later (g y).calls)
     by later (Err e) = refl
 
@@ -56,7 +56,7 @@ pub bind-assoc : {A B C : Type 0} (o : Outcome A) (f : A → Outcome B) (g : B �
 unfolding ◌>>=◌
 bind-assoc {A} {B} {C} o f g = by o.answer
   where
-    by : (a : Result A Stop) → (goes_on o.calls f a >>= g) ≡ goes_on o.calls (λ x. f x >>= g) a
+    by : (a : Result A Stop) → (continued o.calls f a >>= g) ≡ continued o.calls (λ x. f x >>= g) a
     by (Ok x) = bind-calls o.calls (f x) g
     by (Err e) = refl
 
@@ -65,7 +65,7 @@ pub bind-same : {A B : Type 0} (o : Outcome A) (f g : A → Outcome B) → ((x :
 unfolding ◌>>=◌
 bind-same {A} {B} o f g h = by o.answer
   where
-    by : (a : Result A Stop) → goes_on o.calls f a ≡ goes_on o.calls g a
+    by : (a : Result A Stop) → continued o.calls f a ≡ continued o.calls g a
     by (Ok x) = ap (with_calls o.calls) (h x)
     by (Err e) = refl
 
@@ -97,10 +97,6 @@ module _ {A : Type 0} (mode : Mode) (before : History) (unit : NalUnit) (f : A �
 
   plain : (g : Grammar A) → joined_on mode before unit (structure_from (◌bind◌ g (λ x. Done (f x))) (body_of unit) 0) ≡ joined mode before unit (structure_outcome g (body_of unit) >>= λ x. gives (f x))
   plain g = ap (λ (o : Outcome (Content × ℕ)). joined_on mode before unit o) (structure-seen (body_of unit) f g 0) ∙ plain-by (structure_from g (body_of unit) 0).calls (structure_from g (body_of unit) 0).answer
-
--- by the type of the unit
-choice-is : {A : Type 0} (b c : Bool) (x y : A) → b ≡ c → (if b then x else y) ≡ (if c then x else y)
-choice-is b c x y e = ap (λ d. if d then x else y) e
 
 module _ (before : History) (unit : NalUnit) where
   abbrev on : Mode → Grammar Content → Outcome History

@@ -108,15 +108,15 @@ all-keeps : (steps : List Step) → StepsEnd steps → Keeps EndAll steps
 all-keeps steps f = record { met = met-all steps f; stops = stop-all steps f }
 
 -- after the rules of some of them
-ends-behind : (xs ys : List Step) → StepsEnd xs → (Met xs → StepsEnd ys) → StepsEnd (xs ++ ys)
-ends-behind [] ys h k = k tt
-ends-behind (Needs d ∷ xs) ys h k = λ t. ends-behind xs ys (h t) (λ m. k (t, m))
-ends-behind (Tells (Said call) ∷ xs) ys h k = ends-behind xs ys h k
-ends-behind (Tells (Decodes pictures) ∷ xs) ys h k = (h.0, ends-behind xs ys h.1 k)
-ends-behind (Tells (Shows e) ∷ xs) ys h k = ends-behind xs ys h k
+ends-after : (xs ys : List Step) → StepsEnd xs → (Met xs → StepsEnd ys) → StepsEnd (xs ++ ys)
+ends-after [] ys h k = k tt
+ends-after (Needs d ∷ xs) ys h k = λ t. ends-after xs ys (h t) (λ m. k (t, m))
+ends-after (Tells (Said call) ∷ xs) ys h k = ends-after xs ys h k
+ends-after (Tells (Decodes pictures) ∷ xs) ys h k = (h.0, ends-after xs ys h.1 k)
+ends-after (Tells (Shows e) ∷ xs) ys h k = ends-after xs ys h k
 
 ends-both : (xs ys : List Step) → StepsEnd xs → StepsEnd ys → StepsEnd (xs ++ ys)
-ends-both xs ys h k = ends-behind xs ys h (λ m. k)
+ends-both xs ys h k = ends-after xs ys h (λ m. k)
 
 needs-end : (ds : List Demand) → StepsEnd (needs ds)
 needs-end [] = tt
@@ -184,7 +184,7 @@ module _ (target : Target) (before : History) (first : List Told) (l : AreLegal 
   at-end unit =
       let kind = nal_unit_type (header_of unit) in
       ends-both (whole_at modes.Full kind before) (needs (closing_at kind before) ++ frames_at modes.Full kind before) (if-end (ends_picture kind) (whole_steps modes.Full before) whole-steps-end)
-      (ends-behind (needs (closing_at kind before)) (frames_at modes.Full kind before) (needs-end (closing_at kind before)) (if-closing (ends_picture kind)))
+      (ends-after (needs (closing_at kind before)) (frames_at modes.Full kind before) (needs-end (closing_at kind before)) (if-closing (ends_picture kind)))
 
   slice-end : (unit : NalUnit) (h : Header) → StepsEnd (slice_steps modes.Full before unit h)
   slice-end unit h =
@@ -193,7 +193,7 @@ module _ (target : Target) (before : History) (first : List Told) (l : AreLegal 
       let shows = if b then closing_frames modes.Full before else [] in
       let own = steps_by modes.Full (sets_at before h) before unit h in
       ends-both (if b then whole_steps modes.Full before else []) (closing ++ (shows ++ own)) (if-end b (whole_steps modes.Full before) whole-steps-end)
-      (ends-behind closing (shows ++ own) (needs-end (if b then closing_demands before else [])) (λ m. ends-both shows own (if-closing b m) (by-end before unit h (sets_at before h))))
+      (ends-after closing (shows ++ own) (needs-end (if b then closing_demands before else [])) (λ m. ends-both shows own (if-closing b m) (by-end before unit h (sets_at before h))))
 
   unit-all : (unit : NalUnit) → UnitKeeps EndAll before unit
   unit-all unit = record {
@@ -207,12 +207,12 @@ module _ (target : Target) (before : History) (first : List Told) (l : AreLegal 
   input-end bit =
       let shown = needs (picture_demand modes.Full before bit ∷ []) ++ last_frames modes.Full (runs_of before) in
       ends-both (whole_steps modes.Full before) (needs (closing_demands before) ++ (closing_frames modes.Full before ++ shown)) whole-steps-end
-      (ends-behind (needs (closing_demands before)) (closing_frames modes.Full before ++ shown) (needs-end (closing_demands before)) (λ m. ends-both (closing_frames modes.Full before) shown (closing-end m) (λ t. frames-end (last_turn (after_all (runs_of before)).buffer).written)))
+      (ends-after (needs (closing_demands before)) (closing_frames modes.Full before ++ shown) (needs-end (closing_demands before)) (λ m. ends-both (closing_frames modes.Full before) shown (closing-end m) (λ t. frames-end (last_turn (after_all (runs_of before)).buffer).written)))
 
-  behind-all : (units : List NalUnit) (tail : Tail) (end : ℕ) (stop : Stop) (calls : List Told) → IsStopAfter (terms_of modes.Full target) before units tail end stop calls → EndAll calls
-  behind-all units tail end stop calls (AtNext unit later e h) = stop-keeps EndAll all-closed target before unit (unit-all unit) stop calls h
-  behind-all units tail end stop calls (AtTail e h n) = none-all calls n
-  behind-all units tail end stop calls (AtEnd e t h) = stop-all (end_steps modes.Full before (8 * end)) (input-end (8 * end)) calls stop h
+  after-all : (units : List NalUnit) (tail : Tail) (end : ℕ) (stop : Stop) (calls : List Told) → IsStopAfter (terms_of modes.Full target) before units tail end stop calls → EndAll calls
+  after-all units tail end stop calls (AtNext unit later e h) = stop-keeps EndAll all-closed target before unit (unit-all unit) stop calls h
+  after-all units tail end stop calls (AtTail e h n) = none-all calls n
+  after-all units tail end stop calls (AtEnd e t h) = stop-all (end_steps modes.Full before (8 * end)) (input-end (8 * end)) calls stop h
 
 legal-all : (target : Target) (before : History) (calls : List Told) → AreLegal (terms_of modes.Full target) before calls → EndAll calls
 legal-all target [] calls l = none-all calls l
@@ -223,7 +223,7 @@ legal-all target (r ∷ before) calls l =
 
 verdict-all : (target : Target) (bytes : List ℕ) (calls : List Told) (answer : Result Summary Stop) → Verdict (terms_of modes.Full target) bytes calls answer → EndAll calls
 verdict-all target bytes calls (Ok summary) h = subst EndAll (sym h.calls_are) (all-both h.first h.last (legal-all target h.units h.first h.legal) (met-all (end_steps modes.Full h.units (8 * length bytes)) (input-end target h.units h.first h.legal (8 * length bytes)) h.last h.end))
-verdict-all target bytes calls (Err stop) h = subst EndAll (sym h.calls_are) (all-both h.first h.last (legal-all target h.before h.first h.legal) (behind-all target h.before h.first h.legal h.units h.tail (length bytes) stop h.last h.stops))
+verdict-all target bytes calls (Err stop) h = subst EndAll (sym h.calls_are) (all-both h.first h.last (legal-all target h.before h.first h.legal) (after-all target h.before h.first h.legal h.units h.tail (length bytes) stop h.last h.stops))
 
 -- each picture of whose end is told
 pub told-ends : (target : Target) (bytes : List ℕ) (calls : List Told) (answer : Result Summary Stop) → Verdict (terms_of modes.Full target) bytes calls answer → (first later : List Told) (p : CodedPicture) (ps : List CodedPicture) → calls ≡ first ++ Decodes (p ∷ ps) ∷ later → EndsWithin p ps

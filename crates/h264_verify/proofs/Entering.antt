@@ -90,7 +90,7 @@ module _ (before : History) (unit : NalUnit) (kind : ℕ) (old new : Slices) (n 
     counts = subst (λ (s : Slices). KeepsCounts (map counted (runs_of before)) s.counts) (sym same) keeps.kept.counts;
     count = ap (λ (s : Slices). s.count) same ∙ keeps.kept.count;
     pictures_are = ap (λ (s : Slices). s.pictures) same ∙ keeps.kept.pictures_are;
-    behind = subst (λ (s : Slices). EndsAt (runs_of before) s.behind) (sym same) keeps.kept.behind;
+    following = subst (λ (s : Slices). EndsAt (runs_of before) s.following) (sym same) keeps.kept.following;
     prev_ref = ap (λ (s : Slices). s.prev_ref_frame_num) same ∙ keeps.kept.prev_ref;
     held = ap (λ (s : Slices). s.held) same ∙ keeps.kept.held ∙ left-held (ends_picture kind) (goes_on before) (runs_of before) ∙ ap (λ x. held_by false (not (ends_picture x) && goes_on before) (runs_of before)) n;
   }
@@ -133,17 +133,17 @@ module _ (before : History) (unit : NalUnit) (h : Header) (ms : List CodedMacrob
   newest false [] = refl
   newest false (p ∷ ps) = refl
 
-  last-behind : (x : Bool) (ps : List CodedPicture) (bit : ℕ) → bit ≡ bit_after unit → EndsAt (joined_to x slice ps) bit
-  last-behind true ps bit e = e
-  last-behind false [] bit e = tt
-  last-behind false (p ∷ ps) bit e = e
+  last-after : (x : Bool) (ps : List CodedPicture) (bit : ℕ) → bit ≡ bit_after unit → EndsAt (joined_to x slice ps) bit
+  last-after true ps bit e = e
+  last-after false [] bit e = tt
+  last-after false (p ∷ ps) bit e = e
 
   one-more : (x : Bool) (ps : List CodedPicture) → (if x then length ps + 1 else length ps) ≡ length (joined_to x slice ps)
   one-more true ps = omega arith
   one-more false [] = refl
   one-more false (p ∷ ps) = refl
 
-  pub slice-kept : HoldsOpen (open_of true pictures) new.picture → HoldsEnd pictures new.picture → new.newest_idr ≡ (if begins then idr_id h.idr_pic_id else old.newest_idr) → new.pictures ≡ (if begins then old.pictures + 1 else old.pictures) → new.behind ≡ bit_after unit → new ≡ record old { picture = new.picture; newest_idr = new.newest_idr; pictures = new.pictures; due = new.due; behind = new.behind } → KeepsPictures true false pictures new
+  pub slice-kept : HoldsOpen (open_of true pictures) new.picture → HoldsEnd pictures new.picture → new.newest_idr ≡ (if begins then idr_id h.idr_pic_id else old.newest_idr) → new.pictures ≡ (if begins then old.pictures + 1 else old.pictures) → new.following ≡ bit_after unit → new ≡ record old { picture = new.picture; newest_idr = new.newest_idr; pictures = new.pictures; due = new.due; following = new.following } → KeepsPictures true false pictures new
   slice-kept picture end id n bit same = record {
     picture = picture;
     end = end;
@@ -151,7 +151,7 @@ module _ (before : History) (unit : NalUnit) (h : Header) (ms : List CodedMacrob
     counts = subst (λ (s : Slices). KeepsCounts (map counted pictures) s.counts) (sym same) entered.counts;
     count = ap (λ (s : Slices). s.count) same ∙ entered.count;
     pictures_are = n ∙ ap (λ x. if begins then x + 1 else x) entered.pictures_are ∙ one-more begins (runs_of before);
-    behind = last-behind begins (runs_of before) new.behind bit;
+    following = last-after begins (runs_of before) new.following bit;
     prev_ref = ap (λ (s : Slices). s.prev_ref_frame_num) same ∙ entered.prev_ref;
     held = ap (λ (s : Slices). s.held) same ∙ entered.held;
   }

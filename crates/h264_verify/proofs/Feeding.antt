@@ -7,7 +7,7 @@ use Rattle.h264_verify.specs.Telling.{Told, Tells, TellsFront}
 use Rattle.h264_units.specs.Stream.{NalUnit, Next, past, Tail, HasTail, Splits, tail_stop}
 use Rattle.h264_units.specs.Splitting.{Splitting, Refused, Pushed, PushStops, Taken}
 use Rattle.h264_units.proofs.Streams.{same-units, same-first, first-length, first-not-tail, splits-after}
-use Rattle.h264_verify.specs.Outcome.{Outcome, ◌>>=◌, answers, with_calls, goes_on, Plays, PlaysBy}
+use Rattle.h264_verify.specs.Outcome.{Outcome, ◌>>=◌, answers, with_calls, continued, Plays, PlaysBy}
 use Rattle.h264_verify.specs.Judging.{Judging, unless, tail_outcome, units_outcome, Comes}
 use Rattle.h264_verify.specs.Session.{Standing, ToCome, Goes, Ends, Begins, Stops, StopsBy}
 use Rattle.h264_verify.proofs.Lacking.{lacks-bytes, lacks-unit, lacks-after}
@@ -99,11 +99,11 @@ goes-unit j took failures view old new state unit left s s' x t live p = record 
       let f = taken-judged j old new state unit (left ++ more) o t live c in (
         units_outcome j (view x) f.units f.tail (past unit + length (new.rest ++ (left ++ more))),
         record { units = f.units; tail = f.tail; splits = subst (λ n. Splits n (new.rest ++ (left ++ more)) f.units f.tail) (sym t.at_is) f.splits; is = ap (λ n. units_outcome j (view x) f.units f.tail (n + length (new.rest ++ (left ++ more)))) (sym t.at_is) },
-        f.is ∙ ap (goes_on (j.unit state unit).calls (λ s. units_outcome j s f.units f.tail (past unit + length (new.rest ++ (left ++ more))))) p.plays.0,
+        f.is ∙ ap (continued (j.unit state unit).calls (λ s. units_outcome j s f.units f.tail (past unit + length (new.rest ++ (left ++ more))))) p.plays.0,
       );
 }
 
-begins : {A B : Type 0} (next : A → Outcome B) (calls : List Told) (answer : Result A Stop) → (rest : List Told) × ((goes_on calls next answer).calls ≡ calls ++ rest)
+pub begins : {A B : Type 0} (next : A → Outcome B) (calls : List Told) (answer : Result A Stop) → (rest : List Told) × ((continued calls next answer).calls ≡ calls ++ rest)
 begins next calls (Ok x) = ((next x).calls, refl)
 begins next calls (Err e) = ([], sym (append-nil calls))
 
@@ -123,7 +123,7 @@ unfolding ◌>>=◌
 stops-unit {State} {Summary} j {S} {X} took failures view old new state unit left s s' stop t live grows p = by stop grows p.plays
   where
     ends : (e : Stop) → (j.unit state unit).answer ≡ Err e → Tells took s s' (j.unit state unit).calls → Ends j took (record { split = old; state = state }) left s s' e
-    ends e a k = record { calls = (j.unit state unit).calls; tells = k; after = λ more o c. let f = unit-first j old new state unit (left ++ more) o t live c in f.is ∙ ap (goes_on (j.unit state unit).calls f.next) a }
+    ends e a k = record { calls = (j.unit state unit).calls; tells = k; after = λ more o c. let f = unit-first j old new state unit (left ++ more) o t live c in f.is ∙ ap (continued (j.unit state unit).calls f.next) a }
 
     front : TellsFront took s s' (j.unit state unit).calls → Begins j took (record { split = old; state = state }) left s s'
     front k = record {

@@ -50,9 +50,9 @@ told-by took failures view o s s' (Err Read) p = absurd p
 told-by took failures view o s s' (Err Write) p = inr refl
 
 -- after calls at which none failed
-pub told-behind : {W : Type 0} {a b c : ℕ} → b ≡ a → (c ≡ b) ⊎ W → (c ≡ a) ⊎ W
-told-behind e (inl f) = inl (f ∙ e)
-told-behind e (inr w) = inr w
+pub told-after : {W : Type 0} {a b c : ℕ} → b ≡ a → (c ≡ b) ⊎ W → (c ≡ a) ⊎ W
+told-after e (inl f) = inl (f ∙ e)
+told-after e (inr w) = inr w
 
 -- the same stop of a call that gives another value
 pub told-as : {X Y : Type 0} {a b : ℕ} {told : Stop} (stop : Stop) → (a ≡ b) ⊎ (let r : Result X Stop = Err stop in r ≡ Err told) → (a ≡ b) ⊎ (let r : Result Y Stop = Err stop in r ≡ Err told)
@@ -137,7 +137,7 @@ finish-unit {Summary} j took failures view old mid new state unit s s' s'' end x
       (plays-on took failures view (λ (x : Summary). x) (j.unit state unit) (λ s. j.end s (8 * (new.at + length new.rest))) s s' s'' x r p (subst (λ z. Plays took failures (λ (x : Summary). x) (j.end (view x) (8 * z)) s' s'' r) n q));
   no_read = plays-not-read took failures (λ (x : Summary). x) _ s' s'' r q;
   write = λ e. plays-write took failures (λ (x : Summary). x) _ s' s'' r q e ∙ ap (λ n. n + 1) p.plays.2;
-  write_told = told-behind p.plays.2 (told-by took failures (λ (x : Summary). x) _ s' s'' r q.plays);
+  write_told = told-after p.plays.2 (told-by took failures (λ (x : Summary). x) _ s' s'' r q.plays);
   lacks = λ e. absurd (quiet e);
 }
 

@@ -58,11 +58,13 @@ use Rattle.h264_verify.specs.Data.{slice_data_at}
 use Rattle.h264_verify.specs.declared.state.Terms.{Terms}
 use Rattle.h264_verify.specs.Units.{unit_call, is_slice, slice_unit, header_or_passed, other_content}
 use Rattle.h264_verify.specs.Order.{content, content_steps, data_course, frames_at, content_course, unit_course, end_steps}
-use Rattle.h264_verify.specs.Outcome.{Outcome, ◌>>=◌, goes_on as outcome_on, answers, gives}
+use Rattle.h264_verify.specs.Outcome.{Outcome, ◌>>=◌, continued as outcome_on, answers, gives}
 use Rattle.h264_verify.specs.StepOutcome.{steps_outcome, structure_from, course_outcome}
 use Rattle.h264_verify.specs.UnitOutcome.{unit_outcome}
 use Rattle.h264_verify.specs.Keeping.{ended_pictures, ended_in}
 use Rattle.h264_verify.specs.Buffering.{gap_on, gaps_turn, missing_before, gaps_before, ended_picture, ended_turn, after_all, within_newest, told_frames, told_picture, end_frames, closing_frames, missing_on, missing_steps, last_frames}
+use Rattle.h264_header.proofs.Ids.{seen-there as some-mapped}
+use Rattle.h264_verify.proofs.AgreeingUnits.{of-both as told-both}
 
 -- ---- frames in the buffer
 
@@ -318,10 +320,6 @@ given {P} {g} body i h = given-all P g body i h.all
 
 -- ---- what is in a unit
 
-pub some-mapped : {A B : Type 0} (f : A → B) (o : Option A) → is_some (option_map f o) ≡ true → is_some o ≡ true
-some-mapped f None h = h
-some-mapped f (Some x) h = refl
-
 abbrev HasSets : (ℕ → Option (Pps × Sps)) → ℕ → Type 0
 HasSets sets id = is_some (sets id) ≡ true
 
@@ -409,10 +407,6 @@ in-turn {A} {B} o next y e = by o.answer refl e
     by : (a : Result A Stop) → o.answer ≡ a → (outcome_on o.calls next a).answer ≡ Ok y → InTurn o next y
     by (Ok x) q t = record { value = x; is = q; ends = t; calls = ap (λ (r : Result A Stop). (outcome_on o.calls next r).calls) q }
     by (Err s) q t = absurd cc
-
-told-both : (n : ℕ) (xs ys : List Told) → AreOf n xs → AreOf n ys → AreOf n (xs ++ ys)
-told-both n [] ys h k = k
-told-both n (x ∷ xs) ys h k = (h.0, told-both n xs ys h.1 k)
 
 in-turn-of : {A B : Type 0} {o : Outcome A} {next : A → Outcome B} {y : B} (n : ℕ) (j : InTurn o next y) → AreOf n o.calls → AreOf n (next j.value).calls → AreOf n (o >>= next).calls
 in-turn-of {o} {next} n j h k = subst (AreOf n) (sym j.calls) (told-both n o.calls (next j.value).calls h k)
@@ -528,7 +522,7 @@ slice-begins false pictures s e = absurd cc
 
 -- ---- a unit
 
-slice-goes : (kind : ℕ) → is_slice kind ≡ true → ends_picture kind ≡ false
+pub slice-goes : (kind : ℕ) → is_slice kind ≡ true → ends_picture kind ≡ false
 slice-goes kind h = by (kind == 1) refl (kind == 5) refl h
   where
     by : (a : Bool) → (kind == 1) ≡ a → (b : Bool) → (kind == 5) ≡ b → (a || b) ≡ true → ends_picture kind ≡ false
@@ -597,10 +591,10 @@ module _ (terms : Terms) (before : History) (unit : NalUnit) where
       let n = ended_in (one_more found) in
       let g = content terms kind before unit in
       let body = body_of unit in
-      let behind : Content × ℕ → Outcome Content = λ x. course_outcome body (data_course terms.mode before unit x.0 x.1) in
-      let read = in-turn (structure_from g body 0) (λ x. steps_outcome (content_steps terms.mode before unit x.0) >>= λ _. behind x) found e in
+      let following : Content × ℕ → Outcome Content = λ x. course_outcome body (data_course terms.mode before unit x.0 x.1) in
+      let read = in-turn (structure_from g body 0) (λ x. steps_outcome (content_steps terms.mode before unit x.0) >>= λ _. following x) found e in
       let x = read.value in
-      let met = in-turn (steps_outcome (content_steps terms.mode before unit x.0)) (λ _. behind x) found read.ends in
+      let met = in-turn (steps_outcome (content_steps terms.mode before unit x.0)) (λ _. following x) found read.ends in
       let rest = data-ends terms.mode before unit x.0 x.1 found met.ends in
       let grown = content-grows x.0 (given body 0 (content-gives terms kind before unit) x read.is) found rest.same in
       record {

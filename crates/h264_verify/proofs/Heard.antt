@@ -12,16 +12,16 @@ use Rattle.h264_verify.proofs.Verdicts.{fed-more, fed-halts, fed-fails}
 pub some-is : (a b : List ℕ) → Some a ≡ Some b → b ≡ a
 some-is a b e = cc
 
-nothing-behind : (n : ℕ) (xs : List ℕ) → drop n (take n xs) ≡ []
-nothing-behind zero xs = refl
-nothing-behind (suc n) [] = refl
-nothing-behind (suc n) (x ∷ xs) = nothing-behind n xs
+nothing-after : (n : ℕ) (xs : List ℕ) → drop n (take n xs) ≡ []
+nothing-after zero xs = refl
+nothing-after (suc n) [] = refl
+nothing-after (suc n) (x ∷ xs) = nothing-after n xs
 
 -- A piece is all that is left, and it is read whole.
 read-whole : (n : ℕ) (xs left : List ℕ) → Some (take n xs) ≡ Some left → (left ≡ take n xs ++ drop n left) × (Some [] ≡ Some (drop n left))
 read-whole n xs left e =
     let l : left ≡ take n xs = some-is (take n xs) left e in
-    let none : drop n left ≡ [] = ap (λ k. drop n k) l ∙ nothing-behind n xs in
+    let none : drop n left ≡ [] = ap (λ k. drop n k) l ∙ nothing-after n xs in
     (l ∙ sym (append-nil (take n xs)) ∙ ap (λ k. take n xs ++ k) (sym none), ap Some (sym none))
 
 -- These bytes are still to come.

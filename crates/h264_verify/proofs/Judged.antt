@@ -27,7 +27,7 @@ use Rattle.h264_verify.specs.Pictures.{CodedSlice, CodedPicture, with_sets, open
 use Rattle.h264_verify.specs.Order.{closing_demands}
 use Rattle.h264_verify.specs.Keeping.{KeepsDecoder, HoldsData, HoldsBefore, Entered, standing_demands, told_rules, coded_before, close_steps}
 use Rattle.h264_verify.specs.Steps.{Step, needs}
-use Rattle.h264_verify.proofs.Slicing.{refused, err-named, own_steps, at-standing, at-place, behind-place}
+use Rattle.h264_verify.proofs.Slicing.{refused, err-named, own_steps, at-standing, at-place, after-place}
 use Rattle.h264_verify.proofs.Stepwise.{steps-stop, steps-on}
 use Rattle.h264_verify.proofs.Holding.{data-held, holds-newest}
 
@@ -68,7 +68,7 @@ module _ {S : Type 0} (took : S → List Told → Type 0) (failures : S → ℕ)
 
       module _ (y : Unit {0}) (placed : Ok y ≡ judged (first_mb_demands mode (coded_before begins (runs_of before)) h)) where
         pub own-then : (s s' : S) (r : Result (Unit {0}) Stop) → PlaysOf (steps_outcome (told_rules mode begins (runs_of before) slice)) s s' r → PlaysOf own s s' r
-        own-then s s' r p = subst (λ (o : Outcome (Unit {0})). PlaysOf o s s' r) (sym (behind-place mode before unit h begins b due maps due-is maps-are sets named x stands y placed)) p
+        own-then s s' r p = subst (λ (o : Outcome (Unit {0})). PlaysOf o s s' r) (sym (after-place mode before unit h begins b due maps due-is maps-are sets named x stands y placed)) p
 
 -- the macroblocks of its picture before it
 held-on : (mode : Mode) (frames : ℕ → Frame) (on : Bool) (pictures : List CodedPicture) (h : Header) (d : Decoder) → (let begins : Bool = false in begins ≡ begins_after (open_of on pictures) h) → KeepsDecoder mode frames on false pictures d → HoldsBefore mode false pictures d.work

@@ -264,7 +264,7 @@ module _ (before : History) (unit : NalUnit) (earlier last : List Told) (s : Sta
 stands-next : (target : Target) (before : History) (r : ReadUnit) (earlier last : List Told) → Stands before earlier → IsLegal (terms_of modes.Full target) before r last → Stands (r ∷ before) (earlier ++ last)
 stands-next target before r earlier last s l =
     let m = has-met target before r last l in
-    by-content before r.unit earlier last s r.content m.found m.bit m.rest m.header m.ends (is-content target before r.unit r.content last m) m.rules m.frames m.behind
+    by-content before r.unit earlier last s r.content m.found m.bit m.rest m.header m.ends (is-content target before r.unit r.content last m) m.rules m.frames m.following
 
 pub stands : (target : Target) (before : History) (calls : List Told) → AreLegal (terms_of modes.Full target) before calls → Stands before calls
 stands target [] calls l = record { read = tt; active = refl; sound = tt; frames = λ frames d. tt }

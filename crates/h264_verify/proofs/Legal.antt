@@ -40,11 +40,11 @@ use Rattle.h264_verify.specs.Units.{unit_call, is_slice, slice_unit, other_conte
 use Rattle.h264_verify.specs.Order.{content, content_steps, data_course, frames_at, content_course}
 use Rattle.h264_verify.specs.Verdict.{IsLegal}
 use Rattle.h264_verify.proofs.AgreeingUnits.{decoded-last}
-use Rattle.h264_verify.proofs.Growing.{some-mapped}
 use Rattle.h264_verify.proofs.Marked.{IsOfUnit, header-of, marked-of}
 use Rattle.h264_verify.proofs.Named.{LeavesAlone}
 use Rattle.h264_verify.specs.Held.{is_own}
 use Rattle.h264_verify.specs.Sound.{IsMarked}
+use Rattle.h264_header.proofs.Ids.{seen-there as some-mapped}
 
 -- ---- steps
 
@@ -115,8 +115,8 @@ decoded-first frames (Shows e ∷ xs) ys h = decoded-first frames xs ys h
 decoded-before : (frames : ℕ → Frame) (calls first later : List Told) → calls ≡ first ++ later → AreDecoded frames calls → AreDecoded frames first
 decoded-before frames calls first later e d = decoded-first frames first later (subst (AreDecoded frames) e d)
 
-decoded-behind : (frames : ℕ → Frame) (calls first later : List Told) → calls ≡ first ++ later → AreDecoded frames calls → AreDecoded frames later
-decoded-behind frames calls first later e d = decoded-last frames first later (subst (AreDecoded frames) e d)
+decoded-after : (frames : ℕ → Frame) (calls first later : List Told) → calls ≡ first ++ later → AreDecoded frames calls → AreDecoded frames later
+decoded-after frames calls first later e d = decoded-last frames first later (subst (AreDecoded frames) e d)
 
 -- ---- a course that comes to its end
 
@@ -165,7 +165,7 @@ pub record HasMet (target : Target) (before : History) (unit : NalUnit) (c : Con
   pub rules : Met (content_steps modes.Full before unit found)
   pub frames : (frames : ℕ → Frame) → AreDecoded frames calls → HaveDecoded frames (content_steps modes.Full before unit found)
   pub rest : List Told
-  pub behind : Runs (body_of unit) (data_course modes.Full before unit found bit) rest (Ok c)
+  pub following : Runs (body_of unit) (data_course modes.Full before unit found bit) rest (Ok c)
 
 pub has-met : (target : Target) (before : History) (r : ReadUnit) (calls : List Told) → IsLegal (terms_of modes.Full target) before r calls → HasMet target before r.unit r.content calls
 has-met target before r calls l =
@@ -179,7 +179,7 @@ has-met target before r calls l =
     let fourth = reads body (content (terms_of modes.Full target) kind before unit) 0 (after_content before unit) third.1 c third.3 in
     let fifth = takes body (content_steps modes.Full before unit fourth.1) (data_course modes.Full before unit fourth.1 fourth.2) fourth.3 c fourth.5 in
     let inner : (frames : ℕ → Frame) → AreDecoded frames calls → AreDecoded frames second.1 = λ frames d.
-    decoded-behind frames first.1 second.0 second.1 second.4 (decoded-behind frames calls first.0 first.1 first.4 d) in
+    decoded-after frames first.1 second.0 second.1 second.4 (decoded-after frames calls first.0 first.1 first.4 d) in
     record {
       header = met (byte_steps unit) first.0 first.2;
       ends = record {
@@ -192,11 +192,11 @@ has-met target before r calls l =
       says = fourth.4;
       rules = met (content_steps modes.Full before unit fourth.1) fifth.0 fifth.2;
       frames = λ frames d.
-          let content_told = decoded-behind frames second.1 third.0 third.1 third.4 (inner frames d) in
-          let last = decoded-behind frames third.1 (told body fourth.0) fourth.3 fourth.6 content_told in
+          let content_told = decoded-after frames second.1 third.0 third.1 third.4 (inner frames d) in
+          let last = decoded-after frames third.1 (told body fourth.0) fourth.3 fourth.6 content_told in
           have-decoded frames (content_steps modes.Full before unit fourth.1) fifth.0 fifth.2 (decoded-before frames fourth.3 fifth.0 fifth.1 fifth.4 last);
       rest = fifth.1;
-      behind = fifth.3;
+      following = fifth.3;
     }
 
 -- ---- the header of a slice

@@ -6,7 +6,7 @@ use Rattle.h264_near.specs.Coded.{CodedMacroblock}
 use Rattle.h264_plane.specs.declared.frame.Frame.{Frame}
 use Rattle.h264_picture.specs.declared.sequence.Sequence.{Sequence}
 use Rattle.h264_picture.specs.declared.work.Work.{Work}
-use Rattle.h264_picture.specs.Holds.{Holds, HoldsIn, Serves, ServesIn, IsActive}
+use Rattle.h264_picture.specs.Holds.{HoldsMacroblocks, HoldsIn, Serves, ServesIn, IsActive}
 use Rattle.h264_picture.specs.Places.{lent, first_place, KeepsFrames as KeepsLent}
 use Rattle.h264_dpb.specs.declared.entry.Entry.{Entry}
 use Rattle.h264_dpb.specs.declared.entry.Placed.{Placed}
@@ -14,7 +14,7 @@ use Rattle.h264_dpb.specs.declared.output.Output.{Output}
 use Rattle.h264_dpb.specs.Turns.{Turn}
 use Rattle.h264_dpb.specs.Numbered.{is_taken}
 use Rattle.h264_dpb.specs.Buffered.{AreReady, is_ready}
-use Rattle.h264_dpb.specs.Kept.{Each, IsAtPlace, HasFrames, KeepsBuffer, IsOrdered, IsReady, is_free, place_of}
+use Rattle.h264_dpb.specs.Kept.{Each, IsAtPlace, HasFrames, KeepsBuffer, IsOrdered, IsReady, is_occupied, place_of}
 use Rattle.h264_dpb.proofs.Finding.{lent-at, early-at, taken-at}
 use Rattle.h264_verify.specs.declared.decoder.Decoder.{Decoder}
 use Rattle.h264_verify.specs.Keeping.{KeepsOutput, HasFormat, IsNear, IsReference, place_by}
@@ -56,7 +56,7 @@ serves-active : (width size : ℕ) (ms : List CodedMacroblock) (o : Option Seque
 serves-active width size ms None h = absurd h
 serves-active width size ms (Some s) h = record { row = h.keeps.sized; columns = h.columns; macroblocks = h.macroblocks }
 
-pub holds-serves : (width size : ℕ) (ms : List CodedMacroblock) (work : Work) → Holds width size ms work → Serves width size work
+pub holds-serves : (width size : ℕ) (ms : List CodedMacroblock) (work : Work) → HoldsMacroblocks width size ms work → Serves width size work
 holds-serves width size ms work h = serves-active width size ms work.active h
 
 -- ---- reference pictures
@@ -78,8 +78,8 @@ near-reference frames count d n place f o h = record {
   lent_is = subst (λ (p : ℕ). lent d.work p ≡ Some (frames n)) (near-is d n place h) (if-some (λ (p : ℕ). lent d.work p ≡ Some (frames n)) (place_of d.output n) place h.found (lent-at frames (lent d.work) d.output.buffer.entries n f.each));
 }
 
-pub near-taken : (d : Decoder) (n place : ℕ) → IsNear d n place → is_free place d.output ≡ true
-near-taken d n place h = if-some (λ (p : ℕ). is_free p d.output ≡ true) (place_of d.output n) place h.found (taken-at d.output.buffer.entries n)
+pub near-taken : (d : Decoder) (n place : ℕ) → IsNear d n place → is_occupied place d.output ≡ true
+near-taken d n place h = if-some (λ (p : ℕ). is_occupied p d.output ≡ true) (place_of d.output n) place h.found (taken-at d.output.buffer.entries n)
 
 -- the buffer and the first place are the same
 pub same-place : (old new : Decoder) (n : ℕ) → new.output ≡ old.output → first_place new.work ≡ first_place old.work → place_by new n ≡ place_by old n

@@ -8,7 +8,7 @@ use Rattle.h264_base.specs.Grammar.{Grammar, Element, Done, HasMore, Says, ◌>>
 use Rattle.h264_base.specs.Run.{run}
 use Rattle.h264_base.proofs.OneAnswer.{run-says}
 use Rattle.h264_base.proofs.Words.{more-one}
-use Rattle.h264_header.proofs.Gives.{Gives, gives-behind, gives-met, gives-weaker, gives-derived}
+use Rattle.h264_header.proofs.Gives.{Gives, gives-following, gives-met, gives-weaker, gives-derived}
 use Rattle.h264_near.specs.Coded.{CodedMacroblock}
 use Rattle.h264_vectors.specs.declared.slice.SliceContext.{SliceContext}
 use Rattle.h264_mbsyntax.specs.declared.slice.Standing.{Standing}
@@ -50,11 +50,11 @@ grow-one picture rest g (Some x) h = gives-weaker (rest x.0 x.1) (IsWithin x.1) 
 module _ (fits : CodedMacroblock → Bool) (width : ℕ) (slice : SliceContext) where
   skip-adds : (picture : List CodedMacroblock) (bit more_skips : ℕ) → Gives (skip width slice picture bit more_skips) (AddsOne picture)
   unfolding skip
-  skip-adds picture bit k = gives-behind _ _ (AddsOne picture) (λ u. length-append picture _)
+  skip-adds picture bit k = gives-following _ _ (AddsOne picture) (λ u. length-append picture _)
 
   unskipped-adds : (left : ℕ) (picture : List CodedMacroblock) → Gives (unskipped fits width slice left picture) (AddsOne picture)
   unfolding unskipped
-  unskipped-adds left picture = gives-behind _ _ (AddsOne picture) (λ a. gives-behind _ _ (AddsOne picture) (λ u. gives-behind _ _ (AddsOne picture) (λ m. gives-behind _ _ (AddsOne picture) (λ v. length-append picture _))))
+  unskipped-adds left picture = gives-following _ _ (AddsOne picture) (λ a. gives-following _ _ (AddsOne picture) (λ u. gives-following _ _ (AddsOne picture) (λ m. gives-following _ _ (AddsOne picture) (λ v. length-append picture _))))
 
   after-adds : (left : ℕ) (picture : List CodedMacroblock) (bit n : ℕ) → Gives (after_run fits width slice left picture bit n) (AddsOne picture)
   unfolding after_run
@@ -63,7 +63,7 @@ module _ (fits : CodedMacroblock → Bool) (width : ℕ) (slice : SliceContext) 
 
   run-adds : (left : ℕ) (picture : List CodedMacroblock) → Gives (run_of_skips fits width slice left picture) (AddsOne picture)
   unfolding run_of_skips
-  run-adds left picture = gives-behind _ _ (AddsOne picture) (λ r. gives-behind _ _ (AddsOne picture) (λ u. gives-behind _ _ (AddsOne picture) (λ v. after-adds left picture r.bit _)))
+  run-adds left picture = gives-following _ _ (AddsOne picture) (λ r. gives-following _ _ (AddsOne picture) (λ u. gives-following _ _ (AddsOne picture) (λ v. after-adds left picture r.bit _)))
 
   type-adds : (type : SliceType) (left : ℕ) (picture : List CodedMacroblock) → Gives (by_slice_type type fits width slice left picture) (AddsOne picture)
   unfolding by_slice_type
@@ -76,9 +76,9 @@ module _ (fits : CodedMacroblock → Bool) (width : ℕ) (slice : SliceContext) 
 
   next-adds : (left : ℕ) (picture : List CodedMacroblock) (standing : Standing) → Gives (next fits width slice left picture standing) (AddsAtMost picture)
   unfolding next
-  next-adds left picture Next = gives-behind _ _ (AddsAtMost picture) (λ a. if-adds a.follows _ picture (type-adds slice.slice_type left picture))
+  next-adds left picture Next = gives-following _ _ (AddsAtMost picture) (λ a. if-adds a.follows _ picture (type-adds slice.slice_type left picture))
   next-adds left picture (Skipping bit (suc k)) = gives-weaker (skip width slice picture bit k) (AddsOne picture) (AddsAtMost picture) (skip-adds picture bit k) (at-most picture)
-  next-adds left picture (Skipping bit zero) = gives-behind _ _ (AddsAtMost picture) (λ a. if-adds a.follows _ picture (unskipped-adds left picture))
+  next-adds left picture (Skipping bit zero) = gives-following _ _ (AddsAtMost picture) (λ a. if-adds a.follows _ picture (unskipped-adds left picture))
 
   -- no macroblock goes
   grow : (n : ℕ) (standing : Standing) (picture : List CodedMacroblock) → Gives (macroblocks fits width slice n standing picture) (IsWithin picture)

@@ -155,7 +155,7 @@ content-gives target kind before unit =
 unit-room : (target : Target) (before : History) (r : ReadUnit) (calls : List Told) → IsLegal (terms_of modes.Full target) before r calls → IsRoomy r.content
 unit-room target before r calls l =
     let m = has-met target before r calls l in
-    by m.found m.bit m.rest (given IsRoomy _ (body_of r.unit) 0 m.elements m.found m.bit (content-gives target (nal_unit_type (header_of r.unit)) before r.unit) m.says) m.behind
+    by m.found m.bit m.rest (given IsRoomy _ (body_of r.unit) 0 m.elements m.found m.bit (content-gives target (nal_unit_type (header_of r.unit)) before r.unit) m.says) m.following
   where
     by : (found : Content) (bit : ℕ) (rest : List Told) → IsRoomy found → Runs (body_of r.unit) (data_course modes.Full before r.unit found bit) rest (Ok r.content) → IsRoomy r.content
     by (contents.OfSps set) bit rest h d = subst IsRoomy (sym (rest-ends (body_of r.unit) (contents.OfSps set) r.content rest d)) h

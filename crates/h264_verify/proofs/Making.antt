@@ -23,12 +23,12 @@ use Rattle.h264_picture.specs.declared.work.Work.{Work}
 use Rattle.h264_picture.specs.declared.samples.SliceSamples.{SliceSamples}
 use Rattle.h264_picture.specs.Context.{slice_context}
 use Rattle.h264_picture.specs.Filter.{slice_filter, filter_in}
-use Rattle.h264_picture.specs.Holds.{Holds, IsActive}
+use Rattle.h264_picture.specs.Holds.{HoldsMacroblocks, IsActive}
 use Rattle.h264_picture.specs.Making.{Making, HoldsSamples, MakesSliceWith, IsSliceOf}
 use Rattle.h264_picture.specs.Places.{first_place, places, is_active_place, HasBegun, HasSize, IsReleased, KeepsFrames as KeepsLent}
 use Rattle.h264_dpb.specs.Turns.{Turn}
 use Rattle.h264_dpb.specs.declared.output.Output.{Output}
-use Rattle.h264_dpb.specs.Kept.{is_free}
+use Rattle.h264_dpb.specs.Kept.{is_occupied}
 use Rattle.h264_verify.specs.declared.decoder.Decoder.{Decoder}
 use Rattle.h264_verify.specs.declared.decoder.Format.{Format}
 use Rattle.h264_verify.specs.Pictures.{CodedSlice, CodedPicture, picture_size}
@@ -97,7 +97,7 @@ module _ (frames : ℕ → Frame) (p : CodedPicture) (ps : List CodedPicture) (s
         let taken = near-taken old n (get_or samples.places k 0) r in
         let apart : making.place n ≢ q.frames.place = λ f.
         let same : get_or samples.places k 0 ≡ old.place = at ∙ ap (λ (x : ℕ). old.work.base + x) f ∙ b.1 in
-        let g : true ≡ false = sym taken ∙ ap (λ (x : ℕ). is_free x old.output) same ∙ h.free in cc in
+        let g : true ≡ false = sym taken ∙ ap (λ (x : ℕ). is_occupied x old.output) same ∙ h.free in cc in
         (at, record { inside = omega (arith, at, count, to); other = apart });
   })
 
@@ -111,12 +111,12 @@ module _ (frames : ℕ → Frame) (p : CodedPicture) (ps : List CodedPicture) (s
     referred : HasReferences frames (p ∷ ps) (length ps) new s
     referred = record { each = λ k n small e. reference-kept frames (length ps) old new n output first kept (near-reference frames (length ps) old n _ o.frames_are o.ordered (near k n small (ap (λ (c : SliceContext). get_or c.references k None) is ∙ e))) }
 
-    pub begun-on : (after : List CodedMacroblock) → length ms < length after → Holds p.first.sps.frame_size.width (picture_size p.first.sps) after new.work → ((making : Making) → IsMaking p.first.pps.chroma_qp_index_offset (s ∷ slices) new making → HoldsSamples p.first.sps.frame_size.width (picture_size p.first.sps) making after new.work) → HoldsBegun frames p ps (s ∷ slices) after new × KeepsOutput frames t (length ps) new
+    pub begun-on : (after : List CodedMacroblock) → length ms < length after → HoldsMacroblocks p.first.sps.frame_size.width (picture_size p.first.sps) after new.work → ((making : Making) → IsMaking p.first.pps.chroma_qp_index_offset (s ∷ slices) new making → HoldsSamples p.first.sps.frame_size.width (picture_size p.first.sps) making after new.work) → HoldsBegun frames p ps (s ∷ slices) after new × KeepsOutput frames t (length ps) new
     begun-on after longer holds made = (
       record {
         begun = subst (λ (x : ℕ). HasBegun x new.work) (sym place) begun;
         active = subst (λ (x : ℕ). is_active_place (first_place new.work) x ≡ true) (sym place) (subst (λ (b : ℕ). is_active_place b old.place ≡ true) (sym first) h.active);
-        free = subst (λ (x : Output). is_free new.place x ≡ false) (sym output) (subst (λ (x : ℕ). is_free x old.output ≡ false) (sym place) h.free);
+        free = subst (λ (x : Output). is_occupied new.place x ≡ false) (sym output) (subst (λ (x : ℕ). is_occupied x old.output ≡ false) (sym place) h.free);
         format = format ∙ h.format;
         settled = λ not. record { released = released (h.settled not).released; sized = subst (λ (x : Output). IsSized new.format x) (sym output) (subst (λ (x : Option Format). IsSized x old.output) (sym format) (h.settled not).sized) };
         so_far = record {
@@ -146,12 +146,12 @@ same-answer : (a b : List CodedMacroblock) (i j : ℕ) (r : Result (List CodedMa
 same-answer a b i j r e f = let k : ◌≡◌ {A = Result (List CodedMacroblock × ℕ) Stop} (Ok (a, i)) (Ok (b, j)) = sym e ∙ f in let p : ◌≡◌ {A = List CodedMacroblock × ℕ} (a, i) (b, j) = cc in ap (λ (x : List CodedMacroblock × ℕ). x.0) p
 
 module _ {S X : Type 0} (frames : ℕ → Frame) (took : S → List Call → Type 0) (failures : S → ℕ) (g : Grammar (List CodedMacroblock)) (body : Body) (i j width size : ℕ) (work : Work) (s s' : S)
-    (P : Making → Type 0) (K : List CodedMacroblock → Type 0) (goes : (after : List CodedMacroblock) → (run g body i).answer ≡ Ok (after, j) → Holds width size after work → ((making : Making) → P making → HoldsSamples width size making after work) → K after) where
+    (P : Making → Type 0) (K : List CodedMacroblock → Type 0) (goes : (after : List CodedMacroblock) → (run g body i).answer ≡ Ok (after, j) → HoldsMacroblocks width size after work → ((making : Making) → P making → HoldsSamples width size making after work) → K after) where
   abbrev Made : Making → X → List CodedMacroblock → Type 0
   Made making x after = HoldsSamples width size making after work
 
   abbrev Held : X → List CodedMacroblock → Type 0
-  Held x after = Holds width size after work
+  Held x after = HoldsMacroblocks width size after work
 
   slice-by : (r : Result X Stop) → MeetsBy took failures Held g body i j s s' r → AnswersBy took failures Held g body i j s s' r → ((making : Making) → P making → MeetsBy took failures (Made making) g body i j s s' r) → ReadsSlice took failures frames (structure_from g body i) K s s' r
   slice-by (Ok x) m a f = record {
@@ -167,7 +167,7 @@ module _ {S X : Type 0} (frames : ℕ → Frame) (took : S → List Call → Typ
   slice-by (Err Write) m a f = record { macroblocks = []; end = 0; plays = record { plays = (elements-front frames took s s' body (run g body i).elements m.0, m.1) }; keeps = tt }
 
 pub reads-slice : {S X : Type 0} (frames : ℕ → Frame) (took : S → List Call → Type 0) (failures : S → ℕ) (g : Grammar (List CodedMacroblock)) (width size : ℕ) (work : Work) (old new : Reader) (s s' : S) (r : Result X Stop)
-    (P : Making → Type 0) (K : List CodedMacroblock → Type 0) → ((after : List CodedMacroblock) → (run g old.body old.at).answer ≡ Ok (after, new.at) → Holds width size after work → ((making : Making) → P making → HoldsSamples width size making after work) → K after) →
-    Meets took failures (λ (x : X) after. Holds width size after work) g old new s s' r → Answers took failures (λ (x : X) after. Holds width size after work) g old new s s' r →
+    (P : Making → Type 0) (K : List CodedMacroblock → Type 0) → ((after : List CodedMacroblock) → (run g old.body old.at).answer ≡ Ok (after, new.at) → HoldsMacroblocks width size after work → ((making : Making) → P making → HoldsSamples width size making after work) → K after) →
+    Meets took failures (λ (x : X) after. HoldsMacroblocks width size after work) g old new s s' r → Answers took failures (λ (x : X) after. HoldsMacroblocks width size after work) g old new s s' r →
     ((making : Making) → P making → Meets took failures (λ (x : X) after. HoldsSamples width size making after work) g old new s s' r) → ReadsSlice took failures frames (structure_from g old.body old.at) K s s' r
 reads-slice frames took failures g width size work old new s s' r P K goes m a f = slice-by frames took failures g old.body old.at new.at width size work s s' P K goes r m.meets a (λ making p. (f making p).meets)

@@ -17,7 +17,7 @@ use Rattle.h264_header.specs.declared.header.SliceUnit.{SliceUnit}
 use Rattle.h264_header.specs.Header.{header, idr_pic_id}
 use Rattle.h264_header.specs.Marking.{dec_ref_pic_marking, idr_marking}
 use Rattle.h264_header.specs.Picture.{is_reference}
-use Rattle.h264_header.proofs.Gives.{Gives, gives-behind, gives-met, gives-derived}
+use Rattle.h264_header.proofs.Gives.{Gives, gives-following, gives-met, gives-derived}
 use Rattle.h264_verify.specs.UnitHeader.{nal_unit_type, nal_ref_idc, is_never_reference, fits_kind}
 use Rattle.h264_verify.specs.Units.{slice_unit_of}
 use Rattle.h264_verify.specs.Sound.{IsMarked}
@@ -32,28 +32,28 @@ pub record IsOfUnit (u : SliceUnit) (h : Header) : Type 0 where
 
 optional-some : {A : Type 0} (b : Bool) (g : Grammar A) → Gives (optional b g) (λ o. is_some o ≡ b)
 unfolding optional
-optional-some true g = gives-behind g _ (λ o. is_some o ≡ true) (λ x. refl)
+optional-some true g = gives-following g _ (λ o. is_some o ≡ true) (λ x. refl)
 optional-some false g = refl
 
 -- that of an IDR picture
 idr-own : Gives (dec_ref_pic_marking true) (λ m. is_idr_marking m.value ≡ true)
 unfolding dec_ref_pic_marking idr_marking
-idr-own = gives-behind _ _ (λ m. is_idr_marking m.value ≡ true) (λ no_output. gives-behind _ _ (λ m. is_idr_marking m.value ≡ true) (λ long_term. refl))
+idr-own = gives-following _ _ (λ m. is_idr_marking m.value ≡ true) (λ no_output. gives-following _ _ (λ m. is_idr_marking m.value ≡ true) (λ long_term. refl))
 
 marking-some : (b idr : Bool) → Gives (optional b (dec_ref_pic_marking idr)) (λ o. (is_some o ≡ b) × (idr ≡ true → is_own o ≡ true))
 unfolding optional
 marking-some false idr = (refl, λ i. refl)
 marking-some true true = gives-met (dec_ref_pic_marking true) _ (λ m. is_idr_marking m.value ≡ true) (λ o. (is_some o ≡ true) × (true ≡ true → is_own o ≡ true)) idr-own (λ m h. (refl, λ i. h))
-marking-some true false = gives-behind _ _ (λ o. (is_some o ≡ true) × (false ≡ true → is_own o ≡ true)) (λ m. (refl, λ i. cc))
+marking-some true false = gives-following _ _ (λ o. (is_some o ≡ true) × (false ≡ true → is_own o ≡ true)) (λ m. (refl, λ i. cc))
 
 header-gives : (sets : ℕ → Option (Pps × Sps)) (u : SliceUnit) → Gives (header sets u) (IsOfUnit u)
 unfolding header
 header-gives sets u =
-    gives-behind _ _ (IsOfUnit u) (λ first. gives-behind _ _ (IsOfUnit u) (λ stated. gives-behind _ _ (IsOfUnit u) (λ named. gives-behind _ _ (IsOfUnit u) (λ num.
+    gives-following _ _ (IsOfUnit u) (λ first. gives-following _ _ (IsOfUnit u) (λ stated. gives-following _ _ (IsOfUnit u) (λ named. gives-following _ _ (IsOfUnit u) (λ num.
     gives-met _ _ (λ o. is_some o ≡ u.idr_pic_flag) (IsOfUnit u) (optional-some u.idr_pic_flag idr_pic_id) (λ idr i.
-    gives-behind _ _ (IsOfUnit u) (λ order. gives-behind _ _ (IsOfUnit u) (λ kind.
+    gives-following _ _ (IsOfUnit u) (λ order. gives-following _ _ (IsOfUnit u) (λ kind.
     gives-met _ _ (λ o. (is_some o ≡ nat_lt 0 u.nal_ref_idc) × (u.idr_pic_flag ≡ true → is_own o ≡ true)) (IsOfUnit u) (marking-some (nat_lt 0 u.nal_ref_idc) u.idr_pic_flag) (λ marking m.
-    gives-behind _ _ (IsOfUnit u) (λ qp. gives-behind _ _ (IsOfUnit u) (λ filter. record { reference = refl; idr = i; marking = m.0; own = m.1 }))))))))))
+    gives-following _ _ (IsOfUnit u) (λ qp. gives-following _ _ (IsOfUnit u) (λ filter. record { reference = refl; idr = i; marking = m.0; own = m.1 }))))))))))
 
 pub header-of : (sets : ℕ → Option (Pps × Sps)) (u : SliceUnit) (body : Body) (i : ℕ) (h : Header) (j : ℕ) → (run (header sets u) body i).answer ≡ Ok (h, j) → IsOfUnit u h
 header-of sets u body i h j e =

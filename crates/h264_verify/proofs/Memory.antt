@@ -103,15 +103,6 @@ last-of false false three e f g = e
 pub read-slice : (mode : Mode) (kind : ℕ) → is_kind_read mode kind ≡ true → (kind == 7) ≡ false → (kind == 8) ≡ false → (is_slice kind ≡ true) × (reads_slices mode ≡ true)
 read-slice mode kind e f g = and-both (is_slice kind) (reads_slices mode) (last-of (kind == 7) (kind == 8) (is_slice kind && reads_slices mode) e f g)
 
--- at a slice no picture ends before its elements
-pub slice-goes-on : (kind : ℕ) → is_slice kind ≡ true → ends_picture kind ≡ false
-slice-goes-on kind e = by (kind == 1) (kind == 5) refl refl e
-  where
-    by : (one five : Bool) → (kind == 1) ≡ one → (kind == 5) ≡ five → (one || five) ≡ true → ends_picture kind ≡ false
-    by true five p q e = ap (λ (k : ℕ). ends_picture k) (eqb-true kind 1 p)
-    by false true p q e = ap (λ (k : ℕ). ends_picture k) (eqb-true kind 5 q)
-    by false false p q e = cc
-
 -- ---- a picture of another format
 
 -- the decoder has the format of the newest picture

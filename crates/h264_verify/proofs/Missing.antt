@@ -20,7 +20,7 @@ use Rattle.h264_dpb.specs.Buffered.{Buffered}
 use Rattle.h264_dpb.specs.Turns.{Shown, Turn, turn_then, names, missing_turn}
 use Rattle.h264_verify.specs.declared.decoder.Decoder.{Decoder}
 use Rattle.h264_verify.specs.Telling.{Told, Tells, took_with}
-use Rattle.h264_verify.specs.Outcome.{Outcome, ◌>>=◌, goes_on, with_calls, answers, gives, Plays}
+use Rattle.h264_verify.specs.Outcome.{Outcome, ◌>>=◌, continued, with_calls, answers, gives, Plays}
 use Rattle.h264_verify.specs.Steps.{Step, Needs}
 use Rattle.h264_verify.specs.Buffering.{told_frames, gaps_turn, gap_on, missing_steps, missing_on}
 use Rattle.h264_verify.specs.StepOutcome.{steps_outcome}
@@ -30,6 +30,7 @@ use Rattle.h264_verify.specs.Keeping.{KeepsGap, KeepsSomeGap}
 use Rattle.h264_verify.proofs.Tellings.{tells-none, tells-both}
 use Rattle.h264_verify.proofs.Playing.{plays-on, plays-stops, gives-plays}
 use Rattle.h264_verify.proofs.Stepping.{steps-append}
+use Rattle.h264_marking.proofs.Filling.{left-is}
 
 -- ---- one number
 
@@ -66,21 +67,21 @@ some-missing n refs new e = missing-slid refs new n.frame_num (slide n refs.fram
 
 bind-ok : {A B : Type 0} (o : Outcome A) (next : A → Outcome B) (x : A) → o.answer ≡ Ok x → (o >>= next) ≡ with_calls o.calls (next x)
 unfolding ◌>>=◌
-bind-ok o next x e = ap (goes_on o.calls next) e
+bind-ok o next x e = ap (continued o.calls next) e
 
 with-both : {A : Type 0} (xs ys : List Told) (o : Outcome A) → with_calls xs (with_calls ys o) ≡ with_calls (xs ++ ys) o
 with-both xs ys o = ap (λ (l : List Told). record { calls = l; answer = o.answer }) (sym (append_assoc xs ys o.calls))
 
 -- what is played after what was told
-behind-plays : {A S X : Type 0} (took : S → List Told → Type 0) (failures : S → ℕ) (view : X → A) (told : List Told) (o : Outcome A) (s0 s1 s2 : S) (r : Result X Stop) → Tells took s0 s1 told → failures s1 ≡ failures s0 → Plays took failures view o s1 s2 r → Plays took failures view (with_calls told o) s0 s2 r
+after-plays : {A S X : Type 0} (took : S → List Told → Type 0) (failures : S → ℕ) (view : X → A) (told : List Told) (o : Outcome A) (s0 s1 s2 : S) (r : Result X Stop) → Tells took s0 s1 told → failures s1 ≡ failures s0 → Plays took failures view o s1 s2 r → Plays took failures view (with_calls told o) s0 s2 r
 unfolding ◌>>=◌
-behind-plays took failures view told o s0 s1 s2 r t k p = plays-on took failures (λ (x : Unit {0}). x) view (record { calls = told; answer = Ok tt }) (λ _. o) s0 s1 s2 tt r (record { plays = (refl, t, k) }) p
+after-plays took failures view told o s0 s1 s2 r t k p = plays-on took failures (λ (x : Unit {0}). x) view (record { calls = told; answer = Ok tt }) (λ _. o) s0 s1 s2 tt r (record { plays = (refl, t, k) }) p
 
 -- ---- the steps
 
 -- so many numbers after this one
-abbrev behind : Numbering → ℕ → ℕ → List ℕ
-behind n count number = numbers_from count ((number + 1) % n.max_frame_num) n.max_frame_num
+abbrev following : Numbering → ℕ → ℕ → List ℕ
+following n count number = numbers_from count ((number + 1) % n.max_frame_num) n.max_frame_num
 
 steps-some : (mode : Mode) (bit : ℕ) (n : Numbering) (number : ℕ) (numbers : List ℕ) (refs held : References) (b : Buffered Shown) → filled (record n { frame_num = number }) refs ≡ Some held →
     steps_outcome (missing_steps mode bit n (number ∷ numbers) refs b) ≡ (steps_outcome (told_frames mode (missing_turn held b).written) >>= λ _. steps_outcome (missing_steps mode bit n numbers held (missing_turn held b).buffer))
@@ -101,23 +102,20 @@ turn-some n number numbers refs held t e =
 
 -- ---- all of them
 
-left-is : (count turn : ℕ) → turn < count → count - turn ≡ suc (count - (turn + 1))
-left-is count turn h = omega arith
-
 none-left : (count : ℕ) → count - count ≡ 0
 none-left count = omega arith
 
 module _ {S : Type 0} (mode : Mode) (bit : ℕ) (n : Numbering) (count prev : ℕ) (held : References) (took : S → List Call → Type 0) (failures : S → ℕ) (frames : ℕ → Frame) (t : Turn) (next : ℕ) (old : S) where
   abbrev pub all_steps : List Step
-  all_steps = missing_steps mode bit n (behind n count prev) held t.buffer
+  all_steps = missing_steps mode bit n (following n count prev) held t.buffer
 
   -- so many numbers after the last one are left: what was told of the others, and what is kept
   pub record Fills (left last : ℕ) (now : References) (new : S) (d : Decoder) : Type 0 where
     pub turn : Turn
     pub told : List Told
     pub tells : Tells (took_with frames took) old new told
-    pub steps : steps_outcome all_steps ≡ with_calls told (steps_outcome (missing_steps mode bit n (behind n left last) now turn.buffer))
-    pub turns : turn_then t (gaps_turn n (behind n count prev) held) ≡ turn_then turn (gaps_turn n (behind n left last) now)
+    pub steps : steps_outcome all_steps ≡ with_calls told (steps_outcome (missing_steps mode bit n (following n left last) now turn.buffer))
+    pub turns : turn_then t (gaps_turn n (following n count prev) held) ≡ turn_then turn (gaps_turn n (following n left last) now)
     pub keeps : KeepsGap mode frames turn next d
 
   first : (left : ℕ) (d : Decoder) → left ≡ count → KeepsGap mode frames t next d → Fills left prev held old d
@@ -125,8 +123,8 @@ module _ {S : Type 0} (mode : Mode) (bit : ℕ) (n : Numbering) (count prev : �
     turn = t;
     told = [];
     tells = tells-none (took_with frames took) old;
-    steps = ap (λ (c : ℕ). steps_outcome (missing_steps mode bit n (behind n c prev) held t.buffer)) (sym e);
-    turns = ap (λ (c : ℕ). turn_then t (gaps_turn n (behind n c prev) held)) (sym e);
+    steps = ap (λ (c : ℕ). steps_outcome (missing_steps mode bit n (following n c prev) held t.buffer)) (sym e);
+    turns = ap (λ (c : ℕ). turn_then t (gaps_turn n (following n c prev) held)) (sym e);
     keeps = k;
   }
 
@@ -146,25 +144,25 @@ module _ {S : Type 0} (mode : Mode) (bit : ℕ) (n : Numbering) (count prev : �
     -- it cannot be filled
     pub fills-refused : {X : Type 0} (view : X → Unit {0}) (e : Stop) → filled (record n { frame_num = number }) now ≡ None → e ≡ No bit FrameNum → Plays {X = X} (took_with frames took) failures view (steps_outcome all_steps) old new (Err e)
     fills-refused {X} view e none is =
-        subst (λ (o : Outcome (Unit {0})). Plays {X = X} (took_with frames took) failures view o old new (Err e)) (sym (f.steps ∙ ap (with_calls f.told) (steps-none mode bit n number (behind n k number) now f.turn.buffer none)))
+        subst (λ (o : Outcome (Unit {0})). Plays {X = X} (took_with frames took) failures view o old new (Err e)) (sym (f.steps ∙ ap (with_calls f.told) (steps-none mode bit n number (following n k number) now f.turn.buffer none)))
         (subst (λ (x : Stop). Plays {X = X} (took_with frames took) failures view (with_calls f.told (answers (Err (No bit FrameNum)))) old new (Err x)) (sym is)
-        (behind-plays (took_with frames took) failures view f.told (answers (Err (No bit FrameNum))) old new new (Err (No bit FrameNum)) f.tells quiet (record { plays = (refl, tells-none (took_with frames took) new, refl) })))
+        (after-plays (took_with frames took) failures view f.told (answers (Err (No bit FrameNum))) old new new (Err (No bit FrameNum)) f.tells quiet (record { plays = (refl, tells-none (took_with frames took) new, refl) })))
 
     module _ (then_held : References) (fits : filled (record n { frame_num = number }) now ≡ Some then_held) where
       abbrev frame_steps : Outcome (Unit {0})
       frame_steps = steps_outcome (told_frames mode (missing_turn then_held f.turn.buffer).written)
 
       abbrev rest : Outcome (Unit {0})
-      rest = steps_outcome (missing_steps mode bit n (behind n k number) then_held (missing_turn then_held f.turn.buffer).buffer)
+      rest = steps_outcome (missing_steps mode bit n (following n k number) then_held (missing_turn then_held f.turn.buffer).buffer)
 
       steps-are : steps_outcome all_steps ≡ with_calls f.told (frame_steps >>= λ _. rest)
-      steps-are = f.steps ∙ ap (with_calls f.told) (steps-some mode bit n number (behind n k number) now then_held f.turn.buffer fits)
+      steps-are = f.steps ∙ ap (with_calls f.told) (steps-some mode bit n number (following n k number) now then_held f.turn.buffer fits)
 
       -- its frame is not told
       pub fills-stopped : {X : Type 0} (view : X → Unit {0}) (s : S) (e : Stop) → Plays {X = Unit {0}} (took_with frames took) failures (λ (x : Unit {0}). x) frame_steps new s (Err e) → Plays {X = X} (took_with frames took) failures view (steps_outcome all_steps) old s (Err e)
       fills-stopped {X} view s e p =
           subst (λ (o : Outcome (Unit {0})). Plays {X = X} (took_with frames took) failures view o old s (Err e)) (sym steps-are)
-          (behind-plays (took_with frames took) failures view f.told (frame_steps >>= λ _. rest) old new s (Err e) f.tells quiet (plays-stops (took_with frames took) failures (λ (x : Unit {0}). x) view frame_steps (λ _. rest) new s e p))
+          (after-plays (took_with frames took) failures view f.told (frame_steps >>= λ _. rest) old new s (Err e) f.tells quiet (plays-stops (took_with frames took) failures (λ (x : Unit {0}). x) view frame_steps (λ _. rest) new s e p))
 
       -- one more is filled
       pub fills-next : (s : S) (d' : Decoder) (x : Unit {0}) → Plays {X = Unit {0}} (took_with frames took) failures (λ (x : Unit {0}). x) frame_steps new s (Ok x) → KeepsGap mode frames (turn_then f.turn (missing_turn then_held)) next d' → Fills k number then_held s d'
@@ -173,7 +171,7 @@ module _ {S : Type 0} (mode : Mode) (bit : ℕ) (n : Numbering) (count prev : �
         told = f.told ++ frame_steps.calls;
         tells = tells-both f.tells p.plays.1;
         steps = steps-are ∙ ap (with_calls f.told) (bind-ok frame_steps (λ _. rest) x p.plays.0) ∙ with-both f.told frame_steps.calls rest;
-        turns = f.turns ∙ turn-some n number (behind n k number) now then_held f.turn fits;
+        turns = f.turns ∙ turn-some n number (following n k number) now then_held f.turn fits;
         keeps = kept;
       }
 
@@ -181,9 +179,9 @@ module _ {S : Type 0} (mode : Mode) (bit : ℕ) (n : Numbering) (count prev : �
   pub fills-last : (last : ℕ) (now : References) (new : S) (d : Decoder) → Fills 0 last now new d → failures new ≡ failures old → Plays (took_with frames took) failures (λ (x : ℕ). tt) (steps_outcome all_steps) old new (Ok last)
   fills-last last now new d f quiet =
       subst (λ (o : Outcome (Unit {0})). Plays (took_with frames took) failures (λ (x : ℕ). tt) o old new (Ok last)) (sym f.steps)
-      (behind-plays (took_with frames took) failures (λ (x : ℕ). tt) f.told (gives tt) old new new (Ok last) f.tells quiet (gives-plays (took_with frames took) failures (λ (x : ℕ). tt) last new))
+      (after-plays (took_with frames took) failures (λ (x : ℕ). tt) f.told (gives tt) old new new (Ok last) f.tells quiet (gives-plays (took_with frames took) failures (λ (x : ℕ). tt) last new))
 
-  pub fills-kept : (last : ℕ) (now : References) (new : S) (d : Decoder) → Fills 0 last now new d → KeepsGap mode frames (turn_then t (gaps_turn n (behind n count prev) held)) next d
+  pub fills-kept : (last : ℕ) (now : References) (new : S) (d : Decoder) → Fills 0 last now new d → KeepsGap mode frames (turn_then t (gaps_turn n (following n count prev) held)) next d
   fills-kept last now new d f = subst (λ (u : Turn). KeepsGap mode frames u next d) (sym (f.turns ∙ ap (λ (l : List _). record { written = l; buffer = f.turn.buffer }) (append-nil f.turn.written))) f.keeps
 
 -- there are frames of which this is kept still

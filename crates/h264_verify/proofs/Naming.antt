@@ -21,7 +21,7 @@ use Rattle.h264_picture.specs.declared.sequence.Sequence.{Sequence}
 use Rattle.h264_picture.specs.declared.work.Work.{Work}
 use Rattle.h264_picture.specs.declared.frames.Frames.{Frames}
 use Rattle.h264_picture.specs.declared.frames.TheConstants.{PLACES}
-use Rattle.h264_picture.specs.Table.{table}
+use Rattle.h264_recon.specs.Table.{table}
 use Rattle.h264_picture.specs.Context.{picture_in, slice_context}
 use Rattle.h264_picture.specs.Lent.{lent_in}
 use Rattle.h264_picture.specs.Places.{lent, first_place, places, is_active_place, IsReleased}

@@ -11,9 +11,10 @@ use Rattle.h264_verify.specs.Telling.{Told, Tells, TellsFront, took_with}
 use Rattle.h264_base.specs.Body.{Body}
 use Rattle.h264_base.specs.Grammar.{Grammar}
 use Rattle.h264_base.specs.Meets.{Reader, Meets, MeetsBy, Answers, AnswersBy, Is}
-use Rattle.h264_verify.specs.Outcome.{Outcome, ◌>>=◌, answers, gives, holds, with_calls, goes_on, Plays, PlaysBy, IsNamed, structure_outcome, value_of}
+use Rattle.h264_verify.specs.Outcome.{Outcome, ◌>>=◌, answers, gives, holds, with_calls, continued, Plays, PlaysBy, IsNamed, structure_outcome, value_of}
 use Rattle.h264_verify.proofs.Tellings.{tells-none, tells-both}
 use Rattle.h264_verify.proofs.Saying.{elements-tell, elements-front}
+use Rattle.h264_verify.proofs.Feeding.{begins}
 
 pub check-stops : {A S X : Type 0} (took : S → List Told → Type 0) (failures : S → ℕ) (view : X → A) (rule : Rule) (bit : ℕ) (test : Bool) (next : Unit {0} → Outcome A) (s : S) (e : Stop) → (let r : Result (Unit {0}) Stop = Err e in r ≡ (if test then Ok tt else Err (No bit rule))) → Plays took failures view (holds rule bit test >>= next) s s (Err e)
 unfolding ◌>>=◌
@@ -39,10 +40,6 @@ err-as {A} {B} e e' h = let k : e ≡ e' = cc in ap (λ (x : Stop). let r : Resu
 pub gives-plays : {A S X : Type 0} (took : S → List Told → Type 0) (failures : S → ℕ) (view : X → A) (x : X) (s : S) → Plays took failures view (gives (view x)) s s (Ok x)
 gives-plays took failures view x s = record { plays = (refl, tells-none took s, refl) }
 
-begins : {A B : Type 0} (next : A → Outcome B) (calls : List Told) (answer : Result A Stop) → (rest : List Told) × ((goes_on calls next answer).calls ≡ calls ++ rest)
-begins next calls (Ok x) = ((next x).calls, refl)
-begins next calls (Err e) = ([], sym (append-nil calls))
-
 pub plays-stops : {A B S X Y : Type 0} (took : S → List Told → Type 0) (failures : S → ℕ) (view : X → A) (view' : Y → B) (run : Outcome A) (next : A → Outcome B) (s s' : S) (e : Stop) → Plays {X = X} took failures view run s s' (Err e) → Plays {X = Y} took failures view' (run >>= next) s s' (Err e)
 unfolding ◌>>=◌
 plays-stops {A} {B} {S} {X} {Y} took failures view view' run next s s' e p = by e p.plays
@@ -51,10 +48,10 @@ plays-stops {A} {B} {S} {X} {Y} took failures view view' run next s s' e p = by 
     front k = let b = begins next run.calls run.answer in record { front = k.front; rest = k.rest ++ b.0; whole = b.1 ∙ ap (λ l. l ++ b.0) k.whole ∙ append_assoc k.front k.rest b.0; tells = k.tells }
 
     told : (e : Stop) → run.answer ≡ Err e → Tells took s s' run.calls → Tells took s s' (run >>= next).calls
-    told e a k = subst (λ r. Tells took s s' (goes_on run.calls next r).calls) (sym a) k
+    told e a k = subst (λ r. Tells took s s' (continued run.calls next r).calls) (sym a) k
 
     answered : (e : Stop) → run.answer ≡ Err e → (run >>= next).answer ≡ Err e
-    answered e a = ap (λ r. (goes_on run.calls next r).answer) a
+    answered e a = ap (λ r. (continued run.calls next r).answer) a
 
     by : (e : Stop) → PlaysBy {X = X} took failures view run s s' (Err e) → Plays {X = Y} took failures view' (run >>= next) s s' (Err e)
     by (No bit rule) p = record { plays = (answered _ p.0, told _ p.0 p.1, p.2) }
@@ -68,7 +65,7 @@ unfolding ◌>>=◌
 plays-on {A} {B} {S} {X} {Y} took failures view view' run next s0 s1 s2 x r p q = subst (λ w. Plays took failures view' w s0 s2 r) (sym same) (record { plays = by r q.plays })
   where
     same : (run >>= next) ≡ with_calls run.calls (next (view x))
-    same = ap (goes_on run.calls next) p.plays.0
+    same = ap (continued run.calls next) p.plays.0
 
     front : TellsFront took s1 s2 (next (view x)).calls → TellsFront took s0 s2 (run.calls ++ (next (view x)).calls)
     front k = record { front = run.calls ++ k.front; rest = k.rest; whole = ap (λ l. run.calls ++ l) k.whole ∙ sym (append_assoc run.calls k.front k.rest); tells = tells-both p.plays.1 k.tells }

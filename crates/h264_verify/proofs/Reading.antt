@@ -166,11 +166,11 @@ module _ {S X : Type 0} (took : S → List Call → Type 0) (failures : S → �
   later-read o p ps k = record { macroblocks = k.macroblocks; end = k.end; plays = k.plays; keeps = where-ok r (later-kept frames slice p ps k.macroblocks new) k.keeps }
 
 -- the slice data of a slice after what is kept before them
-pub read-behind : {S X : Type 0} (took : S → List Call → Type 0) (failures : S → ℕ) (frames : ℕ → Frame) (old new : Decoder) (s s' : S) (r : Result X Stop) (begins : Bool) (pictures : List CodedPicture) (slice : CodedSlice) (c : SliceContext) (body : Body) (at : ℕ) →
+pub read-after : {S X : Type 0} (took : S → List Call → Type 0) (failures : S → ℕ) (frames : ℕ → Frame) (old new : Decoder) (s s' : S) (r : Result X Stop) (begins : Bool) (pictures : List CodedPicture) (slice : CodedSlice) (c : SliceContext) (body : Body) (at : ℕ) →
     c ≡ context_in (joined_to begins slice pictures) slice → slice.header.first_mb_in_slice.value ≡ length (coded_so_far begins pictures) → (begins ≡ false → HasPps slice.pps pictures) → BeginsFrames frames begins slice pictures old →
     ((p : CodedPicture) (ps : List CodedPicture) (slices : List CodedSlice) (ms : List CodedMacroblock) (t : Turn) → c ≡ context_in (p ∷ ps) slice → slice.header.first_mb_in_slice.value ≡ length ms → slice.pps ≡ p.first.pps → KeepsOutput frames t (length ps) old → HoldsBegun frames p ps slices ms old →
     ReadsSlice took failures frames (structure_from (slice_data (transform_fits c) p.first.sps.frame_size.width (picture_size p.first.sps) c ms) body at) (λ ms'. HoldsBegun frames p ps (slice ∷ slices) ms' new × KeepsOutput frames t (length ps) new) s s' r) →
     ReadsData took failures frames (structure_from (slice_data (transform_fits c) (picture_set begins slice pictures).frame_size.width (picture_size (picture_set begins slice pictures)) c (coded_so_far begins pictures)) body at) (λ ms. joined_to begins (record slice { macroblocks = ms }) pictures) new s s' r
-read-behind took failures frames old new s s' r true pictures slice c body at is n set k f = first-read took failures frames new s s' r slice _ pictures (f (record { first = slice; later = [] }) pictures [] [] (within_newest (record { first = slice; later = [] } ∷ pictures)) is n refl k.output k.picture)
-read-behind took failures frames old new s s' r false [] slice c body at is n set k f = absurd k
-read-behind took failures frames old new s s' r false (p ∷ ps) slice c body at is n set k f = later-read took failures frames new s s' r slice _ p ps (f p ps (slices_of p) (last_slice p).macroblocks (within_newest (p ∷ ps)) is n (sym (set refl)) k.output k.picture)
+read-after took failures frames old new s s' r true pictures slice c body at is n set k f = first-read took failures frames new s s' r slice _ pictures (f (record { first = slice; later = [] }) pictures [] [] (within_newest (record { first = slice; later = [] } ∷ pictures)) is n refl k.output k.picture)
+read-after took failures frames old new s s' r false [] slice c body at is n set k f = absurd k
+read-after took failures frames old new s s' r false (p ∷ ps) slice c body at is n set k f = later-read took failures frames new s s' r slice _ p ps (f p ps (slices_of p) (last_slice p).macroblocks (within_newest (p ∷ ps)) is n (sym (set refl)) k.output k.picture)

@@ -22,7 +22,7 @@ use Rattle.h264_verify.specs.Pictures.{CodedPicture, held_after, held_in, is_met
 use Rattle.h264_verify.specs.Buffering.{gap_on, gaps_turn, missing_before, ended_picture, ended_turn, after_all, within_newest}
 use Rattle.h264_verify.specs.Sound.{IsMarked, AreSound}
 use Rattle.h264_verify.specs.Held.{Stands, AreAmong, is_idr_marking, is_own, has_gap_filled}
-use Rattle.h264_verify.proofs.Among.{Holds, filled-holds, marked-holds, reset-holds}
+use Rattle.h264_verify.proofs.Among.{IsAmong, filled-holds, marked-holds, reset-holds, reset-by as either}
 use Rattle.h264_verify.proofs.Staying.{stands-missing, stands-reference, stands-other, stands-own}
 
 -- ---- missing numbers
@@ -42,10 +42,6 @@ within-among : (p : CodedPicture) (ps : List CodedPicture) → has_gap_filled p 
 within-among p ps f a = filled-among (numbering_of p.first.sps p.first.header) (missing_before p ps) (held_after ps) (after_all ps).buffer _ refl f a
 
 -- ---- the end of a picture
-
-either : (a b : Bool) (P : Type 0) → (a || b) ≡ true → (a ≡ true → P) → (b ≡ true → P) → P
-either true b P e f g = f refl
-either false b P e f g = g e
 
 -- a reference picture is stored
 reference-among : (e : Ended) (refs next : References) (b : Buffered Shown) → e.reference ≡ true → AreAmong refs b → ((n : ℕ) → is_held (names next) n ≡ true → (e.picture == n || is_held (names refs) n) ≡ true) → AreAmong next (store_turn e next b).buffer
@@ -68,11 +64,11 @@ other-among e refs b r a = λ n h.
     subst (λ (x : Bool). Stands n (Turn.buffer (if x then reference_turn (entry_of e) refs b else other_turn (entry_of e) b)).entries) (sym r) (stands-other n (entry_of e) b (a n h))
 
 -- an IDR picture and operation 5 leave the picture alone
-bare-holds : (n : ℕ) (c : Numbering) (picture bit : ℕ) (marking : Marking) (refs next : References) → marked c picture bit marking refs ≡ Ok next → (is_idr_marking marking || resets_by marking) ≡ true → Holds n next.frames → (picture == n) ≡ true
+bare-holds : (n : ℕ) (c : Numbering) (picture bit : ℕ) (marking : Marking) (refs next : References) → marked c picture bit marking refs ≡ Ok next → (is_idr_marking marking || resets_by marking) ≡ true → IsAmong n next.frames → (picture == n) ≡ true
 unfolding marked
 bare-holds n c picture bit (mode.Idr no_output long_term) refs next is t h =
     let same : idr_references c picture long_term ≡ next = cc in
-    alone (picture == n) (subst (λ (r : References). Holds n r.frames) (sym same) h)
+    alone (picture == n) (subst (λ (r : References). IsAmong n r.frames) (sym same) h)
   where
     alone : (b : Bool) → (b || false) ≡ true → b ≡ true
     alone true e = refl

@@ -99,8 +99,8 @@ module _ (sps : Sps) (usable : is_usable sps ≡ true) (d : Decoder) where
   places-with modes.Headers frames on pictures m k = tt
   places-with modes.Full frames on pictures m k = settled-places d.format refl m k.settled
 
-  goes-behind : (mode : Mode) (frames : ℕ → Frame) (on : Bool) (pictures : List CodedPicture) (slices : Slices) → KeepsPictures on true pictures slices → AreSound (has_ended on true) pictures → KeepsDecoder mode frames on true pictures d → HasSet sps pictures → GoesWith mode sps slices.held d
-  goes-behind mode frames on pictures slices k s f h =
+  goes-after : (mode : Mode) (frames : ℕ → Frame) (on : Bool) (pictures : List CodedPicture) (slices : Slices) → KeepsPictures on true pictures slices → AreSound (has_ended on true) pictures → KeepsDecoder mode frames on true pictures d → HasSet sps pictures → GoesWith mode sps slices.held d
+  goes-after mode frames on pictures slices k s f h =
       let made = made-with mode frames on pictures h f in
       record {
         few = subst (λ (r : References). length r.frames ≤ frame_places sps.max_num_ref_frames) (sym (held-all on pictures slices k)) (set-few sps pictures h (ended-sound-of on pictures s));
@@ -109,7 +109,7 @@ module _ (sps : Sps) (usable : is_usable sps ≡ true) (d : Decoder) where
       }
 
   pub goes-with : (mode : Mode) (begins : Bool) (frames : ℕ → Frame) (before : History) (slices : Slices) → begins ≡ true → KeepsSlices before begins slices → KeepsDecoder mode frames (goes_on before) begins (runs_of before) d → HasSet sps (runs_of before) → GoesWith mode sps slices.held d
-  goes-with mode true frames before slices b k f h = goes-behind mode frames (goes_on before) (runs_of before) slices k.kept k.sound f h
+  goes-with mode true frames before slices b k f h = goes-after mode frames (goes_on before) (runs_of before) slices k.kept k.sound f h
   goes-with mode false frames before slices b k f h = cc
 
 -- ---- a slice that goes on

@@ -208,13 +208,13 @@ module _ (mode : Mode) (before : History) (unit : NalUnit) (h : Header) (begins 
     at-standing sets n e p = with-sets sets n ∙ ap (λ r. after_rules r (needs place ++ rules_then sets)) (sym p)
 
     module _ (sets : Pps × Sps) (named : sets_of maps h.pic_parameter_set_id.value ≡ Some sets) (x : Unit {0}) (stands : Ok x ≡ judged (standing_demands begins sets.1 due maps (8 * unit.from) h)) where
-      behind-standing : steps_outcome own_steps ≡ steps_outcome (needs place ++ rules_then sets)
-      behind-standing = with-sets sets named ∙ ap (λ r. after_rules r (needs place ++ rules_then sets)) (sym stands)
+      after-standing : steps_outcome own_steps ≡ steps_outcome (needs place ++ rules_then sets)
+      after-standing = with-sets sets named ∙ ap (λ r. after_rules r (needs place ++ rules_then sets)) (sym stands)
 
       -- it does not begin where the macroblocks so far end
       pub at-place : (e : Stop) → Err e ≡ judged place → steps_outcome own_steps ≡ answers (Err e)
-      at-place e p = behind-standing ∙ needs-err place (rules_then sets) e (sym p)
+      at-place e p = after-standing ∙ needs-err place (rules_then sets) e (sym p)
 
       -- the rules of the slice, and then it is told
-      pub behind-place : (y : Unit {0}) → Ok y ≡ judged place → steps_outcome own_steps ≡ steps_outcome (told_rules mode begins (runs_of before) (slice sets))
-      behind-place y placed = behind-standing ∙ needs-ok place (rules_then sets) y (sym placed)
+      pub after-place : (y : Unit {0}) → Ok y ≡ judged place → steps_outcome own_steps ≡ steps_outcome (told_rules mode begins (runs_of before) (slice sets))
+      after-place y placed = after-standing ∙ needs-ok place (rules_then sets) y (sym placed)

@@ -8,10 +8,7 @@ use Rattle.h264_dpb.specs.Buffered.{Buffered}
 use Rattle.h264_dpb.specs.Turns.{Shown, names, still, reference_turn, other_turn, missing_turn}
 use Rattle.h264_verify.specs.Held.{is_kept, Stands}
 use Rattle.h264_dpb.proofs.Truths.{true-or, or-true}
-
-or-on : (a b c : Bool) → (b ≡ true → c ≡ true) → (a || b) ≡ true → (a || c) ≡ true
-or-on true b c f h = refl
-or-on false b c f h = f h
+use Rattle.h264_verify.proofs.Among.{or-on}
 
 stands-left : (n : ℕ) (xs ys : List (Entry Shown)) → Stands n xs → Stands n (xs ++ ys)
 stands-left n [] ys h = cc

@@ -8,7 +8,7 @@ use Rattle.h264_base.specs.Grammar.{Grammar, Element, Says}
 use Rattle.h264_base.specs.Run.{Run, run}
 use Rattle.h264_base.proofs.OneAnswer.{run-says, run-one}
 use Rattle.h264_verify.specs.Content.{Content}
-use Rattle.h264_verify.specs.Outcome.{Outcome, ◌>>=◌, with_calls, goes_on, answers}
+use Rattle.h264_verify.specs.Outcome.{Outcome, ◌>>=◌, with_calls, continued, answers}
 use Rattle.h264_verify.specs.Demands.{Demand, judged}
 use Rattle.h264_verify.specs.Steps.{Step, Needs, Tells, needs, AreMet, IsFirstStop, Course, Takes, Reads, Ends, told, Runs}
 use Rattle.h264_verify.specs.StepOutcome.{steps_outcome, structure_from, course_outcome}
@@ -83,7 +83,7 @@ pub needs-err : (ds : List Demand) (steps : List Step) (e : Stop) → judged ds 
 needs-err ds steps e h = needs-first ds steps ∙ ap (λ r. after_rules r steps) h
 
 -- steps before others
-more-by : (call : Told) (next : Outcome (Unit {0})) (calls : List Told) (a : Result (Unit {0}) Stop) → with_calls (call ∷ []) (goes_on calls (λ _. next) a) ≡ goes_on (call ∷ calls) (λ _. next) a
+more-by : (call : Told) (next : Outcome (Unit {0})) (calls : List Told) (a : Result (Unit {0}) Stop) → with_calls (call ∷ []) (continued calls (λ _. next) a) ≡ continued (call ∷ calls) (λ _. next) a
 more-by call next calls (Ok x) = refl
 more-by call next calls (Err e) = refl
 

@@ -51,7 +51,7 @@ module _ {S : Type 0} (took : S → List Told → Type 0) (failures : S → ℕ)
       at-between s' stop p = rules-on took failures (a ∷ b ∷ []) (between ++ needs (c ∷ d ∷ e ∷ f ∷ [])) s s' y (Err stop) (pass-one a (b ∷ []) x (Ok y) first second) (steps-stop took failures (λ (x : Unit {0}). x) between (needs (c ∷ d ∷ e ∷ f ∷ [])) s s' stop p)
 
       -- or the rules after them answer
-      pub behind-between : (s' : S) (z : Unit {0}) (r : Result (Unit {0}) Stop) → Plays {X = Unit {0}} took failures (λ (x : Unit {0}). x) (steps_outcome between) s s' (Ok z) → r ≡ judged (c ∷ d ∷ e ∷ f ∷ []) → Plays took failures (λ (x : Unit {0}). x) (steps_outcome first_steps) s s' r
-      behind-between s' z r p h =
+      pub after-between : (s' : S) (z : Unit {0}) (r : Result (Unit {0}) Stop) → Plays {X = Unit {0}} took failures (λ (x : Unit {0}). x) (steps_outcome between) s s' (Ok z) → r ≡ judged (c ∷ d ∷ e ∷ f ∷ []) → Plays took failures (λ (x : Unit {0}). x) (steps_outcome first_steps) s s' r
+      after-between s' z r p h =
           rules-on took failures (a ∷ b ∷ []) (between ++ needs (c ∷ d ∷ e ∷ f ∷ [])) s s' y r (pass-one a (b ∷ []) x (Ok y) first second)
           (steps-on took failures (λ (x : Unit {0}). x) between (needs (c ∷ d ∷ e ∷ f ∷ [])) s s' s' z r p (rules-play took failures (c ∷ d ∷ e ∷ f ∷ []) s' r h))

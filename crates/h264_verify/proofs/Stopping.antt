@@ -33,7 +33,7 @@ use Rattle.h264_verify.specs.Units.{picture_demand}
 use Rattle.h264_verify.specs.Order.{frames_at, unit_course, end_steps}
 use Rattle.h264_verify.specs.Family.{IsFrontOf}
 use Rattle.h264_verify.specs.Verdict.{IsLegal, AreLegal, IsStopAfter, AtNext, AtTail, AtEnd, Verdict}
-use Rattle.h264_verify.proofs.AgreeingUnits.{of-both, of-more, decoded-last}
+use Rattle.h264_verify.proofs.AgreeingUnits.{of-both, of-more, decoded-last, of-front as of-first, calls-both}
 use Rattle.h264_verify.proofs.Family.{same-on, legal-family}
 use Rattle.h264_verify.proofs.Growing.{StepsOf, needs-of, steps-of, elements-of, slice-of, picture-end-of, ended-few, ended-whole, end-of}
 use Rattle.h264_verify.proofs.Coursing.{IsClosed, Keeps, course-keeps, UnitKeeps, unit-keeps, stop-keeps}
@@ -205,10 +205,10 @@ module _ (before : History) (p : CodedPicture) (ps : List CodedPicture) (runs : 
       steps-fair (whole_steps modes.Full before) (needs (closing_demands before) ++ rest) whole-fair
       (steps-fair (needs (closing_demands before)) rest (needs-fair (closing_demands before)) (closing-fair (needs (picture_demand modes.Full before bit ∷ []) ++ last_frames modes.Full (runs_of before))))
 
-  behind-fair : (target : Target) (units : List NalUnit) (tail : Tail) (end : ℕ) (stop : Stop) (calls : List Told) → IsStopAfter (terms_of modes.Full target) before units tail end stop calls → IsFair calls
-  behind-fair target units tail end stop calls (AtNext unit later e h) = stop-keeps IsFair fair-closed target before unit (fair-unit unit) stop calls h
-  behind-fair target units tail end stop calls (AtTail e h n) = none-fair calls n
-  behind-fair target units tail end stop calls (AtEnd e t h) = stop-fair (end_steps modes.Full before (8 * end)) (end-fair (8 * end)) calls stop h
+  after-fair : (target : Target) (units : List NalUnit) (tail : Tail) (end : ℕ) (stop : Stop) (calls : List Told) → IsStopAfter (terms_of modes.Full target) before units tail end stop calls → IsFair calls
+  after-fair target units tail end stop calls (AtNext unit later e h) = stop-keeps IsFair fair-closed target before unit (fair-unit unit) stop calls h
+  after-fair target units tail end stop calls (AtTail e h n) = none-fair calls n
+  after-fair target units tail end stop calls (AtEnd e t h) = stop-fair (end_steps modes.Full before (8 * end)) (end-fair (8 * end)) calls stop h
 
 -- ---- what is told after legal units
 
@@ -216,10 +216,6 @@ module _ (before : History) (p : CodedPicture) (ps : List CodedPicture) (runs : 
 record IsTold (before : History) (calls : List Told) : Type 0 where
   of : AreOf (length (runs_of before)) calls
   fair : (p : CodedPicture) (ps : List CodedPicture) (runs : runs_of before ≡ p ∷ ps) (on : goes_on before ≡ true) → IsFair before p ps runs on calls
-
-of-first : (n : ℕ) (xs ys : List Told) → AreOf n (xs ++ ys) → AreOf n xs
-of-first n [] ys h = tt
-of-first n (x ∷ xs) ys h = (h.0, of-first n xs ys h.1)
 
 -- so is the first of it
 told-first : (before : History) (calls xs ys : List Told) → calls ≡ xs ++ ys → IsTold before calls → IsTold before xs
@@ -247,15 +243,15 @@ told-end before bit calls h = record {
 }
 
 -- a stop
-behind-of : (target : Target) (before : History) (units : List NalUnit) (tail : Tail) (end : ℕ) (stop : Stop) (calls : List Told) → IsStopAfter (terms_of modes.Full target) before units tail end stop calls → AreOf (length (runs_of before)) calls
-behind-of target before units tail end stop calls (AtNext unit later e h) = stop-keeps (AreOf (length (runs_of before))) (of-closed (length (runs_of before))) target before unit (of-unit target before unit) stop calls h
-behind-of target before units tail end stop calls (AtTail e h n) = subst (AreOf (length (runs_of before))) (sym n) tt
-behind-of target before units tail end stop calls (AtEnd e t h) = subst (AreOf (length (runs_of before))) (ap (λ (o : Outcome (Unit {0})). o.calls) (stop-is (end_steps modes.Full before (8 * end)) calls stop h)) (end-of modes.Full before (8 * end))
+following-of : (target : Target) (before : History) (units : List NalUnit) (tail : Tail) (end : ℕ) (stop : Stop) (calls : List Told) → IsStopAfter (terms_of modes.Full target) before units tail end stop calls → AreOf (length (runs_of before)) calls
+following-of target before units tail end stop calls (AtNext unit later e h) = stop-keeps (AreOf (length (runs_of before))) (of-closed (length (runs_of before))) target before unit (of-unit target before unit) stop calls h
+following-of target before units tail end stop calls (AtTail e h n) = subst (AreOf (length (runs_of before))) (sym n) tt
+following-of target before units tail end stop calls (AtEnd e t h) = subst (AreOf (length (runs_of before))) (ap (λ (o : Outcome (Unit {0})). o.calls) (stop-is (end_steps modes.Full before (8 * end)) calls stop h)) (end-of modes.Full before (8 * end))
 
 told-stop : (target : Target) (before : History) (units : List NalUnit) (tail : Tail) (end : ℕ) (stop : Stop) (calls : List Told) → IsStopAfter (terms_of modes.Full target) before units tail end stop calls → IsTold before calls
 told-stop target before units tail end stop calls h = record {
-  of = behind-of target before units tail end stop calls h;
-  fair = λ p ps runs on. behind-fair before p ps runs on target units tail end stop calls h;
+  of = following-of target before units tail end stop calls h;
+  fair = λ p ps runs on. after-fair before p ps runs on target units tail end stop calls h;
 }
 
 -- it is of the pictures that have ended, or of all, of which the newest has then ended
@@ -298,14 +294,14 @@ front-of (t ∷ told) rest (x ∷ xs) ys e =
 
 module _ (frames others : ℕ → Frame) where
   -- after legal units
-  behind-output : (target : Target) (before : History) (first last all : List Told) → AreLegal (terms_of modes.Full target) before first → all ≡ first ++ last → IsEnded before last → AreDecoded frames all → AreDecoded others all → calls_of frames all ≡ calls_of others all
-  behind-output target before first last all l e (inl of) d d' =
+  after-output : (target : Target) (before : History) (first last all : List Told) → AreLegal (terms_of modes.Full target) before first → all ≡ first ++ last → IsEnded before last → AreDecoded frames all → AreDecoded others all → calls_of frames all ≡ calls_of others all
+  after-output target before first last all l e (inl of) d d' =
       let pictures = ended_pictures (goes_on before) false (runs_of before) in
       let one = decoded-first frames first last (subst (AreDecoded frames) e d) in
       let other = decoded-first others first last (subst (AreDecoded others) e d') in
       let shown = shown-alike frames others pictures (legal-family frames others target before first l one other) (legal-frames target before first l frames one) (legal-frames target before first l others other) in
       calls-same frames others (length pictures) all shown (subst (AreOf (length pictures)) (sym e) (of-both (length pictures) first last (legal-of target before first l) of))
-  behind-output target before first last all l e (inr more) d d' =
+  after-output target before first last all l e (inr more) d d' =
       let pictures = runs_of before in
       let n = length pictures in
       let whole : (family : ℕ → Frame) → AreDecoded family all → HaveFrames family pictures = λ family x.
@@ -316,7 +312,7 @@ module _ (frames others : ℕ → Frame) where
       calls-same frames others n all shown (subst (AreOf n) (sym e) of)
 
   part-output : (target : Target) (before : History) (first last part rest told : List Told) → AreLegal (terms_of modes.Full target) before first → IsTold before last → told ≡ first ++ part → last ≡ part ++ rest → AreDecoded frames told → AreDecoded others told → calls_of frames told ≡ calls_of others told
-  part-output target before first last part rest told l t e p d d' = behind-output target before first part told l e (told-ended before part (told-first before last part rest p t)) d d'
+  part-output target before first last part rest told l t e p d d' = after-output target before first part told l e (told-ended before part (told-first before last part rest p t)) d d'
 
   legal-front : (target : Target) (before : History) (calls told rest : List Told) → AreLegal (terms_of modes.Full target) before calls → told ++ rest ≡ calls → AreDecoded frames told → AreDecoded others told → calls_of frames told ≡ calls_of others told
   legal-front target [] calls [] rest l e d d' = refl
@@ -326,16 +322,16 @@ module _ (frames others : ℕ → Frame) where
       (λ (m : (part : List Told) × (told ≡ l.0 ++ part) × (l.1 ≡ part ++ rest)). part-output target before l.0 l.1 m.0 rest told l.2 (told-unit target before r l.1 l.3) m.1 m.2 d d')
       (front-of told rest l.0 l.1 (e ∙ l.4))
 
-  behind-front : (target : Target) (before : History) (first last told rest : List Told) → AreLegal (terms_of modes.Full target) before first → IsTold before last → told ++ rest ≡ first ++ last → AreDecoded frames told → AreDecoded others told → calls_of frames told ≡ calls_of others told
-  behind-front target before first last told rest l t e d d' = ⊎_elim
+  after-front : (target : Target) (before : History) (first last told rest : List Told) → AreLegal (terms_of modes.Full target) before first → IsTold before last → told ++ rest ≡ first ++ last → AreDecoded frames told → AreDecoded others told → calls_of frames told ≡ calls_of others told
+  after-front target before first last told rest l t e d d' = ⊎_elim
       (λ (m : (more : List Told) × (first ≡ told ++ more)). legal-front target before first told m.0 l (sym m.1) d d')
       (λ (m : (part : List Told) × (told ≡ first ++ part) × (last ≡ part ++ rest)). part-output target before first last m.0 rest told l t m.1 m.2 d d')
       (front-of told rest first last e)
 
   -- a front of what is told of a stream up to its verdict
   pub front-output : (target : Target) (bytes : List ℕ) (told rest : List Told) (answer : Result Summary Stop) → Verdict (terms_of modes.Full target) bytes (told ++ rest) answer → AreDecoded frames told → AreDecoded others told → calls_of frames told ≡ calls_of others told
-  front-output target bytes told rest (Ok summary) h d d' = behind-front target h.units h.first h.last told rest h.legal (told-end h.units (8 * length bytes) h.last h.end) h.calls_are d d'
-  front-output target bytes told rest (Err stop) h d d' = behind-front target h.before h.first h.last told rest h.legal (told-stop target h.before h.units h.tail (length bytes) stop h.last h.stops) h.calls_are d d'
+  front-output target bytes told rest (Ok summary) h d d' = after-front target h.units h.first h.last told rest h.legal (told-end h.units (8 * length bytes) h.last h.end) h.calls_are d d'
+  front-output target bytes told rest (Err stop) h d d' = after-front target h.before h.first h.last told rest h.legal (told-stop target h.before h.units h.tail (length bytes) stop h.last h.stops) h.calls_are d d'
 
   -- all of it
   pub verdict-output : (target : Target) (bytes : List ℕ) (all : List Told) (answer : Result Summary Stop) → Verdict (terms_of modes.Full target) bytes all answer → AreDecoded frames all → AreDecoded others all → calls_of frames all ≡ calls_of others all
@@ -344,12 +340,6 @@ module _ (frames others : ℕ → Frame) where
   -- what legal units tell
   pub legal-output : (target : Target) (before : History) (told : List Told) → AreLegal (terms_of modes.Full target) before told → AreDecoded frames told → AreDecoded others told → calls_of frames told ≡ calls_of others told
   legal-output target before told l d d' = legal-front target before told told [] l (append-nil told) d d'
-
-calls-both : (frames : ℕ → Frame) (xs ys : List Told) → calls_of frames (xs ++ ys) ≡ calls_of frames xs ++ calls_of frames ys
-calls-both frames [] ys = refl
-calls-both frames (Said call ∷ xs) ys = ap (λ (l : List Call). call ∷ l) (calls-both frames xs ys)
-calls-both frames (Decodes pictures ∷ xs) ys = calls-both frames xs ys
-calls-both frames (Shows e ∷ xs) ys = ap (λ (l : List Call). shown_call frames e ∷ l) (calls-both frames xs ys)
 
 -- the longer of two fronts begins with the shorter
 longer : (frames others : ℕ → Frame) (target : Target) (bytes : List ℕ) (told other part more : List Told) (answer : Result Summary Stop) → other ≡ told ++ part → Verdict (terms_of modes.Full target) bytes (other ++ more) answer → AreDecoded frames told → AreDecoded others other → (rest : List Call) × (calls_of others other ≡ calls_of frames told ++ rest)

@@ -19,7 +19,7 @@ use Rattle.h264_verify.specs.declared.state.Summary.{Summary}
 use Rattle.h264_verify.specs.Content.{Content}
 use Rattle.h264_verify.specs.Outcome.{Outcome, ◌>>=◌, with_calls, answers, Plays}
 use Rattle.h264_verify.specs.Judging.{unless, tail_outcome, units_outcome, Comes, judging}
-use Rattle.h264_verify.specs.Session.{Standing, ToCome, Shows, Leads, Way, Goes, RansBy, LacksNext, Lacks, Lacking}
+use Rattle.h264_verify.specs.Session.{Standing, ToCome, ShowsUnits, Leads, Way, Goes, RansBy, LacksNext, Lacks, Lacking}
 use Rattle.h264_verify.specs.Session as lacking
 use Rattle.h264_units.proofs.Total.{some-split}
 use Rattle.h264_verify.proofs.Lacking.{same-stop, stops-lacks}
@@ -140,16 +140,16 @@ holds-comes terms bytes calls summary h = record {
     at-length : (n : ℕ) → end_outcome terms.mode h.units (8 * (0 + n)) ≡ end_outcome terms.mode h.units (8 * n)
     at-length n = let e : 0 + n ≡ n = omega arith in ap (λ k. end_outcome terms.mode h.units (8 * k)) e
 
-stop-behind : (terms : Terms) (before : History) (units : List NalUnit) (tail : Tail) (end : ℕ) (stop : Stop) (calls : List Told) → IsStopAfter terms before units tail end stop calls → units_outcome (judging terms) before units tail end ≡ record { calls = calls; answer = Err stop }
+stop-after : (terms : Terms) (before : History) (units : List NalUnit) (tail : Tail) (end : ℕ) (stop : Stop) (calls : List Told) → IsStopAfter terms before units tail end stop calls → units_outcome (judging terms) before units tail end ≡ record { calls = calls; answer = Err stop }
 unfolding ◌>>=◌
-stop-behind terms before units tail end stop calls (AtNext unit later e h) =
+stop-after terms before units tail end stop calls (AtNext unit later e h) =
     ap (λ us. units_outcome (judging terms) before us tail end) e
     ∙ ap (λ (o : Outcome History). o >>= λ after. units_outcome (judging terms) after later tail end) (stop-unit terms before unit stop calls h)
-stop-behind terms before units tail end stop calls (AtTail e h n) =
+stop-after terms before units tail end stop calls (AtTail e h n) =
     ap (λ us. units_outcome (judging terms) before us tail end) e
     ∙ ap (λ o. unless o (end_outcome terms.mode before (8 * end))) h
     ∙ ap (λ (c : List Told). let o : Outcome Summary = record { calls = c; answer = Err stop } in o) (sym n)
-stop-behind terms before units tail end stop calls (AtEnd e t h) =
+stop-after terms before units tail end stop calls (AtEnd e t h) =
     ap (λ us. units_outcome (judging terms) before us tail end) e
     ∙ ap (λ z. tail_outcome (judging terms) before z end) t
     ∙ unmet-end terms before (8 * end) calls stop h
@@ -161,7 +161,7 @@ stops-comes terms bytes calls stop h = record {
   splits = h.stream;
   is = sym (
       legal-units terms h.before h.units h.tail (0 + length bytes) h.first h.legal
-      ∙ ap (with_calls h.first) (at-length (length bytes) ∙ stop-behind terms h.before h.units h.tail (length bytes) stop h.last h.stops)
+      ∙ ap (with_calls h.first) (at-length (length bytes) ∙ stop-after terms h.before h.units h.tail (length bytes) stop h.last h.stops)
       ∙ ap (λ (c : List Told). let o : Outcome Summary = record { calls = c; answer = Err stop } in o) (sym h.calls_are)
       );
 }
@@ -235,9 +235,9 @@ in-order [] us = refl
 in-order (r ∷ h) us = in-order h (r.unit ∷ us) ∙ sym (append_assoc (in_order h []) (r.unit ∷ []) us) ∙ ap (λ l. l ++ us) (sym (in-order h (r.unit ∷ [])))
 
 -- where memory was wanting, after legal units
-wants-behind : (terms : Terms) (before : History) (units : List NalUnit) (calls : List Told) → LacksNext (judging terms) before units calls → IsWanting terms before units calls
-wants-behind terms before units calls (lacking.ForBytes e) = BeforeNext e
-wants-behind terms before units calls (lacking.ForUnit unit later e g) = ForPicture unit later e g
+wants-after : (terms : Terms) (before : History) (units : List NalUnit) (calls : List Told) → LacksNext (judging terms) before units calls → IsWanting terms before units calls
+wants-after terms before units calls (lacking.ForBytes e) = BeforeNext e
+wants-after terms before units calls (lacking.ForUnit unit later e g) = ForPicture unit later e g
 
 wants-at : (terms : Terms) (bytes : List ℕ) (before : History) (told : List Told) (all units : List NalUnit) (tail : Tail) (calls : List Told) → AreLegal terms before told → Splits 0 bytes all tail → all ≡ in_order before [] ++ units → Lacks (judging terms) before units calls → WantsAt terms bytes (told ++ calls)
 wants-at terms bytes before told all units tail calls l s e k =
@@ -250,7 +250,7 @@ wants-at terms bytes before told all units tail calls l s e k =
       first = told ++ k.first;
       last = k.last;
       legal = legal.0;
-      wants = wants-behind terms k.mid k.later k.last k.lacks;
+      wants = wants-after terms k.mid k.later k.last k.lacks;
       calls_are = ap (λ c. told ++ c) k.calls_are ∙ sym (append_assoc told k.first k.last);
     }
 
@@ -308,7 +308,7 @@ fed-nothing terms session frames f = record {
   runs = f.stop;
   before = [];
   keeps = f.keeps frames;
-  shown = subst (λ (split : Splitting). Shows 0 [] [] split.at split.rest) (sym f.split) (refl, refl);
+  shown = subst (λ (split : Splitting). ShowsUnits 0 [] [] split.at split.rest) (sym f.split) (refl, refl);
   undecided = subst (λ (split : Splitting). IsUndecided split.rest) (sym f.split) (inl (0, refl));
   legal = refl;
   of = tt;
@@ -348,7 +348,7 @@ fed-piece terms took failures old new bytes piece frames told s s' w m runs u on
         runs = runs;
         before = on.after;
         keeps = keeps-as (sym (m ∙ w.terms_is)) on.keeps;
-        shown = subst (λ us. Shows 0 (bytes ++ piece) us new.split.at new.split.rest) (sym legal.1) (shown-on g.way.units w.shown g.way.shown);
+        shown = subst (λ us. ShowsUnits 0 (bytes ++ piece) us new.split.at new.split.rest) (sym legal.1) (shown-on g.way.units w.shown g.way.shown);
         undecided = u;
         legal = legal.0;
         of = of-both (ended_in on.after) told g.calls (of-more (ended_in w.before) (ended_in on.after) told on.grows w.of) on.of;
@@ -360,9 +360,9 @@ fed-piece terms took failures old new bytes piece frames told s s' w m runs u on
       kept = k;
     }
   where
-    shown-on : (units : List NalUnit) → Shows 0 bytes (in_order w.before []) old.split.at old.split.rest → Shows old.split.at (old.split.rest ++ piece) units new.split.at (new.split.rest ++ []) → Shows 0 (bytes ++ piece) (in_order w.before units) new.split.at new.split.rest
+    shown-on : (units : List NalUnit) → ShowsUnits 0 bytes (in_order w.before []) old.split.at old.split.rest → ShowsUnits old.split.at (old.split.rest ++ piece) units new.split.at (new.split.rest ++ []) → ShowsUnits 0 (bytes ++ piece) (in_order w.before units) new.split.at new.split.rest
     shown-on units a b =
-        subst (λ us. Shows 0 (bytes ++ piece) us new.split.at new.split.rest) (sym (in-order w.before units))
+        subst (λ us. ShowsUnits 0 (bytes ++ piece) us new.split.at new.split.rest) (sym (in-order w.before units))
         (shows-both 0 (bytes ++ piece) (in_order w.before []) units old.split.at new.split.at (old.split.rest ++ piece) new.split.rest (shows-more 0 bytes (in_order w.before []) old.split.at old.split.rest piece a) (shows-as old.split.at new.split.at units _ _ _ _ refl (append-nil new.split.rest) b))
 
 -- a stop, however the input goes on

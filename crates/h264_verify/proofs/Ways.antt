@@ -8,17 +8,17 @@ use Rattle.h264_units.proofs.Streams.{same-first, first-not-tail, splits-after}
 use Rattle.h264_units.specs.Splitting.{Splitting, Pushed, Taken}
 use Rattle.h264_verify.specs.Outcome.{Outcome}
 use Rattle.h264_verify.specs.Judging.{Judging}
-use Rattle.h264_verify.specs.Session.{Standing, Shows, Leads, Way}
+use Rattle.h264_verify.specs.Session.{Standing, ShowsUnits, Leads, Way}
 
 -- the same bytes, and the same rest
-pub shows-as : (at end : ℕ) (units : List NalUnit) (a b r s : List ℕ) → a ≡ b → r ≡ s → Shows at a units end r → Shows at b units end s
-shows-as at end units a b r s e f h = subst (λ l. Shows at l units end s) e (subst (λ l. Shows at a units end l) f h)
+pub shows-as : (at end : ℕ) (units : List NalUnit) (a b r s : List ℕ) → a ≡ b → r ≡ s → ShowsUnits at a units end r → ShowsUnits at b units end s
+shows-as at end units a b r s e f h = subst (λ l. ShowsUnits at l units end s) e (subst (λ l. ShowsUnits at a units end l) f h)
 
-pub shows-both : (at : ℕ) (bytes : List ℕ) (us vs : List NalUnit) (mid end : ℕ) (left rest : List ℕ) → Shows at bytes us mid left → Shows mid left vs end rest → Shows at bytes (us ++ vs) end rest
-shows-both at bytes [] vs mid end left rest a b = subst (λ l. Shows at l vs end rest) a.1 (subst (λ n. Shows n left vs end rest) a.0 b)
+pub shows-both : (at : ℕ) (bytes : List ℕ) (us vs : List NalUnit) (mid end : ℕ) (left rest : List ℕ) → ShowsUnits at bytes us mid left → ShowsUnits mid left vs end rest → ShowsUnits at bytes (us ++ vs) end rest
+shows-both at bytes [] vs mid end left rest a b = subst (λ l. ShowsUnits at l vs end rest) a.1 (subst (λ n. ShowsUnits n left vs end rest) a.0 b)
 shows-both at bytes (u ∷ us) vs mid end left rest a b = (a.0, a.1, shows-both (past u) a.0 us vs mid end left rest a.2 b)
 
-pub shows-more : (at : ℕ) (bytes : List ℕ) (us : List NalUnit) (end : ℕ) (rest more : List ℕ) → Shows at bytes us end rest → Shows at (bytes ++ more) us end (rest ++ more)
+pub shows-more : (at : ℕ) (bytes : List ℕ) (us : List NalUnit) (end : ℕ) (rest more : List ℕ) → ShowsUnits at bytes us end rest → ShowsUnits at (bytes ++ more) us end (rest ++ more)
 shows-more at bytes [] end rest more a = (a.0, ap (λ l. l ++ more) a.1)
 shows-more at bytes (u ∷ us) end rest more a = (a.0 ++ more, λ later. moved at u bytes a.0 more later (a.1 (more ++ later)), shows-more (past u) a.0 us end rest more a.2)
   where
@@ -33,7 +33,7 @@ splits-first at bytes unit rest (u ∷ us) tail n s =
     (us, ap (λ (v : NalUnit). v ∷ us) (sym same.unit_is), splits-after at bytes unit u rest s.0 us tail n.first s.1.first s.2)
 
 -- those that were shown are the first, however the bytes go on
-pub splits-shown : (at : ℕ) (bytes : List ℕ) (shown : List NalUnit) (end : ℕ) (rest more : List ℕ) (units : List NalUnit) (tail : Tail) → Shows at bytes shown end rest → Splits at (bytes ++ more) units tail → (later : List NalUnit) × (units ≡ shown ++ later) × Splits end (rest ++ more) later tail
+pub splits-shown : (at : ℕ) (bytes : List ℕ) (shown : List NalUnit) (end : ℕ) (rest more : List ℕ) (units : List NalUnit) (tail : Tail) → ShowsUnits at bytes shown end rest → Splits at (bytes ++ more) units tail → (later : List NalUnit) × (units ≡ shown ++ later) × Splits end (rest ++ more) later tail
 splits-shown at bytes [] end rest more units tail a s = (units, refl, subst (λ n. Splits n (rest ++ more) units tail) (sym a.0) (subst (λ l. Splits at (l ++ more) units tail) (sym a.1) s))
 splits-shown at bytes (u ∷ shown) end rest more units tail a s =
     let f = splits-first at (bytes ++ more) u (a.0 ++ more) units tail (a.1 more) s in

@@ -48,7 +48,8 @@ gap_on (Some refs) next b = next refs
 
 abbrev pub gaps_turn : Numbering → List ℕ → References → Buffered Shown → Turn
 gaps_turn n [] refs b = stays b
-gaps_turn n (number ∷ numbers) refs b = gap_on (filled (record n { frame_num = number }) refs) (λ held. turn_then (missing_turn held b) (gaps_turn n numbers held)) b
+gaps_turn n (number ∷ numbers) refs b =
+    gap_on (filled (record n { frame_num = number }) refs) (λ held. turn_then (missing_turn held b) (gaps_turn n numbers held)) b
 
 -- the numbers that are missing before a picture after these
 abbrev pub missing_before : CodedPicture → List CodedPicture → List ℕ

@@ -27,9 +27,11 @@ abbrev pub parameters_of : CodedSlice → Parameters
 parameters_of s = record { constrained_intra = s.pps.constrained_intra_pred_flag; filter = slice_filter s.pps s.header; weights = slice_weights s.header }
 
 -- Each picture that a slice's list names is one of those before, and at its place these reference samples are its frame's.
-pub record Refers (frames : ℕ → Frame) (p : CodedPicture) (ps : List CodedPicture) (place : ℕ → ℕ) (reference : ℕ → Component → ℕ → ℕ → ℕ) (s : CodedSlice) : Type 0 where
+pub record Refers (frames : ℕ → Frame) (p : CodedPicture) (ps : List CodedPicture) (place : ℕ → ℕ) (reference : ℕ → Component → ℕ → ℕ → ℕ)
+    (s : CodedSlice) : Type 0 where
   pub before : (k n : ℕ) → k < 16 → get_or (named_in (p ∷ ps) s) k None ≡ Some n → n < length ps
-  pub samples : (k n : ℕ) → k < 16 → get_or (named_in (p ∷ ps) s) k None ≡ Some n → (c : Component) (x y : ℕ) → reference (place n) c x y ≡ at (plane_of c (frames n)) x y
+  pub samples : (k n : ℕ) → k < 16 → get_or (named_in (p ∷ ps) s) k None ≡ Some n → (c : Component) (x y : ℕ) →
+      reference (place n) c x y ≡ at (plane_of c (frames n)) x y
 
 -- The frame is the picture after these, decoded from the frames of the pictures that its lists name: it is as large, and its samples are those of the
 -- equations (8), with the parameters of each slice by its number.
@@ -40,4 +42,8 @@ pub record IsDecoded (frames : ℕ → Frame) (p : CodedPicture) (ps : List Code
   pub refers : EachSlice (Refers frames p ps place reference) (slices_of p)
   pub slices : ℕ → Parameters
   pub parameters : EachSlice (λ s. slices (number_of s) ≡ parameters_of s) (slices_of p)
-  pub samples : IsDecodedBy (record { across = p.first.sps.frame_size.width; down = p.first.sps.frame_size.height; reference = reference }) place slices (last_slice p).macroblocks (λ c. at (plane_of c frame))
+  pub samples : IsDecodedBy (record {
+    across = p.first.sps.frame_size.width;
+    down = p.first.sps.frame_size.height;
+    reference = reference;
+  }) place slices (last_slice p).macroblocks (λ c. at (plane_of c frame))

@@ -11,7 +11,8 @@ use Rattle.h264_verify.specs.Pictures.{CodedPicture}
 
 -- They have the same sample at each place of this picture, in each plane.
 abbrev pub HaveSameSamples : (frames others : ℕ → Frame) → ℕ → FrameSize → Type 0
-HaveSameSamples frames others n size = (c : Component) (x y : ℕ) → x < side c * size.width → y < side c * size.height → at (plane_of c (frames n)) x y ≡ at (plane_of c (others n)) x y
+HaveSameSamples frames others n size =
+    (c : Component) (x y : ℕ) → x < side c * size.width → y < side c * size.height → at (plane_of c (frames n)) x y ≡ at (plane_of c (others n)) x y
 
 -- so they have at each place of each of these pictures, the newest first
 abbrev pub AreSameOn : (frames others : ℕ → Frame) → List CodedPicture → Type 0

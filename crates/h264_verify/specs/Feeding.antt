@@ -14,7 +14,7 @@ use Rattle.h264_verify.specs.Judging.{Comes, judging}
 use Rattle.h264_verify.specs.History.{History}
 use Rattle.h264_verify.specs.KeepingUnits.{Keeps}
 use Rattle.h264_verify.specs.Keeping.{ended_in}
-use Rattle.h264_verify.specs.Session.{Standing, ToCome, Shows, Goes, Stops, Finishes, Fed, Judges}
+use Rattle.h264_verify.specs.Session.{Standing, ToCome, ShowsUnits, Goes, Stops, Finishes, Fed, Judges}
 use Rattle.h264_verify.specs.Verdict.{in_order, AreLegal, SameTold}
 use Rattle.h264_verify.specs.Progress.{Progress}
 
@@ -23,7 +23,8 @@ abbrev pub standing_after : Splitting → History → Standing History
 standing_after split before = record { split = split; state = before }
 
 -- However the input goes on, what comes of old is what the sink was told and what comes of where the session stands.
-pub record GoesOn {S : Type 0} (terms : Terms) (took : S → List Call → Type 0) (frames : ℕ → Frame) (old : Standing History) (split : Splitting) (state : State) (piece left : List ℕ) (s s' : S) : Type 0 where
+pub record GoesOn {S : Type 0} (terms : Terms) (took : S → List Call → Type 0) (frames : ℕ → Frame) (old : Standing History) (split : Splitting)
+    (state : State) (piece left : List ℕ) (s s' : S) : Type 0 where
   pub made : ℕ → Frame
   pub same : Agree (ended_in old.state) frames made
   pub after : History
@@ -33,19 +34,22 @@ pub record GoesOn {S : Type 0} (terms : Terms) (took : S → List Call → Type 
   pub of : AreOf (ended_in after) goes.calls
 
 -- The stop is the stream's, however it goes on; or the sink failed, or memory was refused, when only its first calls were made.
-pub record StopsOn {S : Type 0} (terms : Terms) (took : S → List Call → Type 0) (failures : S → ℕ) (frames : ℕ → Frame) (old : Standing History) (piece : List ℕ) (s s' : S) (stop : Stop) : Type 0 where
+pub record StopsOn {S : Type 0} (terms : Terms) (took : S → List Call → Type 0) (failures : S → ℕ) (frames : ℕ → Frame) (old : Standing History)
+    (piece : List ℕ) (s s' : S) (stop : Stop) : Type 0 where
   pub made : ℕ → Frame
   pub same : Agree (ended_in old.state) frames made
   pub stops : Stops (judging terms) (took_with made took) failures old piece s s' stop
 
 -- The input ends here, and this is told and answered of it.
-pub record FinishesOn {S : Type 0} (terms : Terms) (took : S → List Call → Type 0) (failures : S → ℕ) (frames : ℕ → Frame) (old : Standing History) (s s' : S) (result : Result Summary Stop) : Type 0 where
+pub record FinishesOn {S : Type 0} (terms : Terms) (took : S → List Call → Type 0) (failures : S → ℕ) (frames : ℕ → Frame) (old : Standing History)
+    (s s' : S) (result : Result Summary Stop) : Type 0 where
   pub made : ℕ → Frame
   pub same : Agree (ended_in old.state) frames made
   pub finishes : Finishes (judging terms) (took_with made took) failures old s s' result
 
 -- The source gave these bytes so far, less those that are left.
-pub record FedOn {S : Type 0} (terms : Terms) (took : S → List Call → Type 0) (known : Option (List ℕ)) (bytes : List ℕ) (session : Progress) (s s' : S) : Type 0 where
+pub record FedOn {S : Type 0} (terms : Terms) (took : S → List Call → Type 0) (known : Option (List ℕ)) (bytes : List ℕ) (session : Progress)
+    (s s' : S) : Type 0 where
   pub terms_is : session.terms ≡ terms
   pub frames : ℕ → Frame
   pub after : History
@@ -54,7 +58,8 @@ pub record FedOn {S : Type 0} (terms : Terms) (took : S → List Call → Type 0
   pub of : AreOf (ended_in after) fed.goes.calls
 
 -- With some frames, what was told and answered of these bytes, the whole input.
-pub record JudgesWith {S : Type 0} (terms : Terms) (took : S → List Call → Type 0) (failures : S → ℕ) (bytes : List ℕ) (s s' : S) (result : Result Summary Stop) : Type 0 where
+pub record JudgesWith {S : Type 0} (terms : Terms) (took : S → List Call → Type 0) (failures : S → ℕ) (bytes : List ℕ) (s s' : S)
+    (result : Result Summary Stop) : Type 0 where
   pub frames : ℕ → Frame
   pub judges : Judges (judging terms) [] (took_with frames took) failures bytes s s' result
 
@@ -66,14 +71,16 @@ pub record WasFed (terms : Terms) (session : Progress) (bytes : List ℕ) (frame
   pub runs : session.stop ≡ None
   pub before : History
   pub keeps : Keeps session.terms.mode frames before session.state
-  pub shown : Shows 0 bytes (in_order before []) session.split.at session.split.rest
+  pub shown : ShowsUnits 0 bytes (in_order before []) session.split.at session.split.rest
   pub undecided : IsUndecided session.split.rest
   pub legal : AreLegal terms before told
   pub of : AreOf (ended_in before) told
-  pub goes : (more : List ℕ) (o : Outcome Summary) → Comes (judging terms) 0 [] (bytes ++ more) o → (later : Outcome Summary) × ToCome (judging terms) (standing_after session.split before) more later × (o ≡ with_calls told later)
+  pub goes : (more : List ℕ) (o : Outcome Summary) → Comes (judging terms) 0 [] (bytes ++ more) o → (later : Outcome Summary)
+      × ToCome (judging terms) (standing_after session.split before) more later × (o ≡ with_calls told later)
 
 -- The session was then fed these bytes, and the sink was told what comes of them after that, with these frames and some more.
-pub record IsFed {S : Type 0} (terms : Terms) (took : S → List Call → Type 0) (failures : S → ℕ) (session : Progress) (bytes : List ℕ) (frames : ℕ → Frame) (told : List Told) (s s' : S) : Type 0 where
+pub record IsFed {S : Type 0} (terms : Terms) (took : S → List Call → Type 0) (failures : S → ℕ) (session : Progress) (bytes : List ℕ) (frames : ℕ → Frame)
+    (told : List Told) (s s' : S) : Type 0 where
   pub made : ℕ → Frame
   pub same : SameTold frames made told
   pub more : List Told

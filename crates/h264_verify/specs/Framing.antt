@@ -20,28 +20,32 @@ use Rattle.h264_verify.specs.Keeping.{KeepsDecoder, EntersDecoder, ended_picture
 use Rattle.h264_verify.specs.StepOutcome.{steps_outcome}
 
 -- The picture that may go on has ended, or not; with these frames and one more, if it has, this was told, and that is kept.
-pub record EndsFrames {S : Type 0} (mode : Mode) (took : S → List Call → Type 0) (failures : S → ℕ) (frames : ℕ → Frame) (on ends : Bool) (pictures : List CodedPicture) (o : Outcome (Unit {0})) (new : Decoder) (s s' : S) (result : Result (Unit {0}) Stop) : Type 0 where
+pub record EndsFrames {S : Type 0} (mode : Mode) (took : S → List Call → Type 0) (failures : S → ℕ) (frames : ℕ → Frame) (on ends : Bool)
+    (pictures : List CodedPicture) (o : Outcome (Unit {0})) (new : Decoder) (s s' : S) (result : Result (Unit {0}) Stop) : Type 0 where
   pub made : ℕ → Frame
   pub same : Agree (length (ended_pictures on false pictures)) frames made
   pub plays : Plays (took_with made took) failures (λ (x : Unit {0}). x) o s s' result
   pub keeps : OnOk result (KeepsDecoder mode made on ends pictures new)
 
 -- The rules of a slice of these sets were judged; where they are met, its slice data may come.
-pub record JudgesSlice {S : Type 0} (mode : Mode) (took : S → List Call → Type 0) (failures : S → ℕ) (frames : ℕ → Frame) (before : History) (unit : NalUnit) (h : Header) (named : Pps × Sps) (begins : Bool) (new : Decoder) (s s' : S) (result : Result (Unit {0}) Stop) : Type 0 where
+pub record JudgesSlice {S : Type 0} (mode : Mode) (took : S → List Call → Type 0) (failures : S → ℕ) (frames : ℕ → Frame) (before : History) (unit : NalUnit)
+    (h : Header) (named : Pps × Sps) (begins : Bool) (new : Decoder) (s s' : S) (result : Result (Unit {0}) Stop) : Type 0 where
   pub made : ℕ → Frame
   pub same : Agree (ended_in before) frames made
   pub plays : Plays (took_with made took) failures (λ (x : Unit {0}). x) (steps_outcome (slice_steps mode before unit h)) s s' result
   pub enters : OnOk result (EntersDecoder mode made begins (with_sets unit h [] named) (goes_on before) (runs_of before) new)
 
 -- Slice data were read, and the sink was told what comes of them; this is kept of the macroblocks up to there.
-pub record ReadsSlice {S X : Type 0} (took : S → List Call → Type 0) (failures : S → ℕ) (frames : ℕ → Frame) (o : Outcome (List CodedMacroblock × ℕ)) (K : List CodedMacroblock → Type 0) (s s' : S) (result : Result X Stop) : Type 0 where
+pub record ReadsSlice {S X : Type 0} (took : S → List Call → Type 0) (failures : S → ℕ) (frames : ℕ → Frame) (o : Outcome (List CodedMacroblock × ℕ))
+    (K : List CodedMacroblock → Type 0) (s s' : S) (result : Result X Stop) : Type 0 where
   pub macroblocks : List CodedMacroblock
   pub end : ℕ
   pub plays : Plays (took_with frames took) failures (λ (x : X). (macroblocks, end)) o s s' result
   pub keeps : OnOk result (K macroblocks)
 
 -- Slice data were read, and the sink was told what comes of them; the frames of the pictures are kept, with the macroblocks of the newest up to there.
-pub record ReadsData {S X : Type 0} (took : S → List Call → Type 0) (failures : S → ℕ) (frames : ℕ → Frame) (o : Outcome (List CodedMacroblock × ℕ)) (pictures : List CodedMacroblock → List CodedPicture) (new : Decoder) (s s' : S) (result : Result X Stop) : Type 0 where
+pub record ReadsData {S X : Type 0} (took : S → List Call → Type 0) (failures : S → ℕ) (frames : ℕ → Frame) (o : Outcome (List CodedMacroblock × ℕ))
+    (pictures : List CodedMacroblock → List CodedPicture) (new : Decoder) (s s' : S) (result : Result X Stop) : Type 0 where
   pub macroblocks : List CodedMacroblock
   pub end : ℕ
   pub plays : Plays (took_with frames took) failures (λ (x : X). (macroblocks, end)) o s s' result

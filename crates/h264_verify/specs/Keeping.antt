@@ -1,5 +1,6 @@
 -- What is kept of the slices so far. A working form: it ties values of the program to the list of units.
-use Rattle.std.specs.Prelude.{◌≡◌, ◌≢◌, ℕ, ◌+◌, ◌-◌, ◌*◌, ◌<◌, ◌≤◌, ◌^◌, get_or, not, ◌||◌, List, [], ◌∷◌, ◌++◌, map, length, ℤ, Option, Some, None, Bool, true, false, if◌then◌else◌}
+use Rattle.std.specs.Prelude.{◌≡◌, ◌≢◌, ℕ, ◌+◌, ◌-◌, ◌*◌, ◌<◌, ◌≤◌, ◌^◌, get_or, not, ◌||◌, List, [], ◌∷◌, ◌++◌, map, length, ℤ, Option, Some, None, Bool}
+use Rattle.std.specs.Prelude.{true, false, if◌then◌else◌}
 use Rattle.std.specs.Option.{option_map_or}
 use Rattle.h264_near.specs.Coded.{CodedMacroblock}
 use Rattle.h264_bits.specs.declared.element.Found.{Found}
@@ -22,14 +23,14 @@ use Rattle.h264_base.specs.declared.mode.Mode.{Mode}
 use Rattle.h264_base.specs.declared.mode.Mode.TheVariants as modes
 use Rattle.h264_base.specs.declared.rule.Rule.TheVariants.{SliceType}
 use Rattle.h264_picture.specs.declared.work.Work.{Work}
-use Rattle.h264_picture.specs.Holds.{Holds, Serves}
+use Rattle.h264_picture.specs.Holds.{HoldsMacroblocks, Serves}
 use Rattle.h264_picture.specs.Making.{Making, HoldsSamples}
 use Rattle.h264_picture.specs.declared.frames.TheConstants.{PLACES}
 use Rattle.h264_picture.specs.Places.{lent, first_place, places, is_active_place, IsReleased, HasBegun, HasSize}
 use Rattle.h264_plane.specs.declared.frame.Frame.{Frame}
 use Rattle.h264_dpb.specs.Bumping.{is_held}
 use Rattle.h264_dpb.specs.Turns.{Shown, Turn, stays, no_buffer, names}
-use Rattle.h264_dpb.specs.Kept.{KeepsBuffer, HasFrames, IsOrdered, is_free, place_of, size_of, IsReady as AreReady}
+use Rattle.h264_dpb.specs.Kept.{KeepsBuffer, HasFrames, IsOrdered, is_occupied, place_of, size_of, IsReady as AreReady}
 use Rattle.h264_dpb.specs.declared.output.Output.{Output}
 use Rattle.h264_dpb.specs.declared.ended.Ended.{Ended}
 use Rattle.h264_picture.specs.Buffer.{buffer_size}
@@ -39,14 +40,16 @@ use Rattle.h264_verify.specs.Buffering.{newest_count, after_all, within_newest, 
 use Rattle.h264_verify.specs.Decoding.{slices_of, EachSlice, number_of, parameters_of}
 use Rattle.h264_verify.specs.Demands.{Demand}
 use Rattle.h264_verify.specs.History.{History, maps_of}
-use Rattle.h264_verify.specs.Pictures.{CodedSlice, CodedPicture, last_slice, coded_of, picture_size, bit_after, goes_on, open_of, joined_to, runs_of, counted, prev_ref_frame_num_of, held_after, held_in}
+use Rattle.h264_verify.specs.Pictures.{CodedSlice, CodedPicture, last_slice, coded_of, picture_size, bit_after, goes_on, open_of, joined_to, runs_of, counted}
+use Rattle.h264_verify.specs.Pictures.{prev_ref_frame_num_of, held_after, held_in}
 use Rattle.h264_verify.specs.Order.{closing_demands}
 use Rattle.h264_verify.specs.Order.{whole_steps}
 use Rattle.h264_poc.specs.OfSlice.{picture_of}
 use Rattle.h264_marking.specs.Ended.{numbering_of}
 use Rattle.h264_verify.specs.Telling.{Said}
 use Rattle.h264_verify.specs.Steps.{Step, Tells, needs}
-use Rattle.h264_verify.specs.Slices.{is_i, has_i, has_p, states_type, is_idr_due, newest_idr_of, idr_demand, set_demand, type_demand, idr_num_demand, id_demand, count_demand, qp_demand, list_demand, marking_demand, slice_call}
+use Rattle.h264_verify.specs.Slices.{is_i, has_i, has_p, states_type, is_idr_due, newest_idr_of, idr_demand, set_demand, type_demand, idr_num_demand}
+use Rattle.h264_verify.specs.Slices.{id_demand, count_demand, qp_demand, list_demand, marking_demand, slice_call}
 use Rattle.h264_verify.specs.Order.{first_slice_rules, later_slice_rules, gap_rules}
 use Rattle.h264_verify.specs.Lists.{list_of, named_in}
 use Rattle.h264_verify.specs.Data.{coded_so_far}
@@ -118,7 +121,7 @@ pub record KeepsPictures (on ended : Bool) (pictures : List CodedPicture) (slice
   pub counts : KeepsCounts (map counted pictures) slices.counts
   pub count : slices.count ≡ newest_count (map counted pictures)
   pub pictures_are : slices.pictures ≡ length pictures
-  pub behind : EndsAt pictures slices.behind
+  pub following : EndsAt pictures slices.following
   pub prev_ref : slices.prev_ref_frame_num ≡ prev_ref_frame_num_of pictures
   pub held : slices.held ≡ held_by ended on pictures
 
@@ -133,7 +136,7 @@ pub record KeepsSlices (before : History) (ended : Bool) (slices : Slices) : Typ
 -- where slice data are read, what is kept of the macroblocks of the picture that may go on
 abbrev pub HoldsCoded : Option CodedPicture → Work → Type 0
 HoldsCoded None work = Unit {0}
-HoldsCoded (Some p) work = Holds p.first.sps.frame_size.width (picture_size p.first.sps) (last_slice p).macroblocks work
+HoldsCoded (Some p) work = HoldsMacroblocks p.first.sps.frame_size.width (picture_size p.first.sps) (last_slice p).macroblocks work
 
 -- what is kept of the macroblocks of the newest picture, after which a slice begins a picture or not
 abbrev pub HoldsNewest : Bool → List CodedPicture → Work → Type 0
@@ -230,7 +233,7 @@ pub record SlicesSome (number : ℕ) (references : List (Option ℕ)) (d : Decod
   pub width : ℕ
   pub size : ℕ
   pub macroblocks : List CodedMacroblock
-  pub holds : Holds width size macroblocks d.work
+  pub holds : HoldsMacroblocks width size macroblocks d.work
   pub next : number ≡ length macroblocks
   pub named : (k n : ℕ) → k < 16 → get_or references k None ≡ Some n → HasPlace d n
 
@@ -244,18 +247,21 @@ AreFalling high [] = Unit {0}
 AreFalling high (s ∷ slices) = (number_of s < high) × AreFalling (number_of s) slices
 
 -- what is kept of these slices of a picture, and of their macroblocks
-pub record HoldsSlices (frames : ℕ → Frame) (p : CodedPicture) (ps : List CodedPicture) (slices : List CodedSlice) (macroblocks : List CodedMacroblock) (d : Decoder) : Type 0 where
-  pub holds : Holds p.first.sps.frame_size.width (picture_size p.first.sps) macroblocks d.work
+pub record HoldsSlices (frames : ℕ → Frame) (p : CodedPicture) (ps : List CodedPicture) (slices : List CodedSlice) (macroblocks : List CodedMacroblock)
+    (d : Decoder) : Type 0 where
+  pub holds : HoldsMacroblocks p.first.sps.frame_size.width (picture_size p.first.sps) macroblocks d.work
   pub numbers : AreFalling (length macroblocks) slices
   pub sets : EachSlice (λ s. s.pps ≡ p.first.pps) slices
   pub references : EachSlice (HasReferences frames (p ∷ ps) (length ps) d) slices
-  pub samples : (making : Making) → IsMaking p.first.pps.chroma_qp_index_offset slices d making → HoldsSamples p.first.sps.frame_size.width (picture_size p.first.sps) making macroblocks d.work
+  pub samples : (making : Making) → IsMaking p.first.pps.chroma_qp_index_offset slices d making →
+      HoldsSamples p.first.sps.frame_size.width (picture_size p.first.sps) making macroblocks d.work
 
 -- what is kept of a picture that is decoded after these: where, its format, and its slices so far
-pub record HoldsBegun (frames : ℕ → Frame) (p : CodedPicture) (ps : List CodedPicture) (slices : List CodedSlice) (macroblocks : List CodedMacroblock) (d : Decoder) : Type 0 where
+pub record HoldsBegun (frames : ℕ → Frame) (p : CodedPicture) (ps : List CodedPicture) (slices : List CodedSlice) (macroblocks : List CodedMacroblock)
+    (d : Decoder) : Type 0 where
   pub begun : HasBegun d.place d.work
   pub active : is_active_place (first_place d.work) d.place ≡ true
-  pub free : is_free d.place d.output ≡ false
+  pub free : is_occupied d.place d.output ≡ false
   pub format : d.format ≡ Some (format_of p.first.sps)
   pub settled : is_idr p.first.header ≡ false → IsSettled d
   pub so_far : HoldsSlices frames p ps slices macroblocks d
@@ -417,7 +423,8 @@ HoldsBefore modes.Full begins pictures work = HoldsNewest begins pictures work
 abbrev pub first_by : Mode → Slices → List Picture → Buffered Shown → Pps → Sps → Header → ℕ → List Step
 first_by mode slices pictures b pps sps h bit =
     needs (type_demand sps h ∷ idr_num_demand h ∷ [])
-    ++ (gap_rules mode (is_idr h) (is_reference h) sps.gaps_in_frame_num_value_allowed_flag h.frame_num.bit slices.prev_ref_frame_num (numbering_of sps h) slices.held b
+    ++ (gap_rules mode (is_idr h) (is_reference h) sps.gaps_in_frame_num_value_allowed_flag h.frame_num.bit slices.prev_ref_frame_num
+    (numbering_of sps h) slices.held b
     ++ needs (id_demand slices.newest_idr h
     ∷ count_demand (picture_of sps h ∷ pictures) bit
     ∷ qp_demand pps h

@@ -174,7 +174,8 @@ data_course mode before unit (contents.OfSps set) bit = Ends (contents.OfSps set
 data_course mode before unit (contents.OfPps set) bit = Ends (contents.OfPps set)
 data_course modes.Units before unit (contents.OfSlice h macroblocks) bit = Ends (contents.OfSlice h macroblocks)
 data_course modes.Headers before unit (contents.OfSlice h macroblocks) bit = Ends (contents.OfSlice h macroblocks)
-data_course modes.Full before unit (contents.OfSlice h macroblocks) bit = Reads (slice_data_at before unit h >>= (λ ms. Done (contents.OfSlice h ms))) bit (λ whole end. Ends whole)
+data_course modes.Full before unit (contents.OfSlice h macroblocks) bit =
+    Reads (slice_data_at before unit h >>= (λ ms. Done (contents.OfSlice h ms))) bit (λ whole end. Ends whole)
 data_course mode before unit contents.Passed bit = Ends contents.Passed
 
 -- After the unit's first byte: its elements, the rules on what they give, and the elements after these.
@@ -190,7 +191,8 @@ abbrev pub unit_course : Terms → History → NalUnit → Course
 unit_course terms before unit =
     Takes (needs (header_demands (8 * unit.from) (header_of unit)))
     (Takes (step.Tells (Said (unit_call unit.from (header_of unit) (length unit.body))) ∷ [])
-    (Takes (whole_at terms.mode (nal_unit_type (header_of unit)) before ++ (needs (closing_at (nal_unit_type (header_of unit)) before) ++ frames_at terms.mode (nal_unit_type (header_of unit)) before))
+    (Takes (whole_at terms.mode (nal_unit_type (header_of unit)) before
+    ++ (needs (closing_at (nal_unit_type (header_of unit)) before) ++ frames_at terms.mode (nal_unit_type (header_of unit)) before))
     (content_course terms before unit)))
 
 -- ---- the end of the input

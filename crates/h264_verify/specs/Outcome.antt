@@ -16,13 +16,13 @@ pub record Outcome (A : Type 0) : Type 0 where
 abbrev pub with_calls : {A : Type 0} → List Told → Outcome A → Outcome A
 with_calls calls o = record { calls = calls ++ o.calls; answer = o.answer }
 
-abbrev pub goes_on : {A B : Type 0} → List Told → (A → Outcome B) → Result A Stop → Outcome B
-goes_on calls next (Ok x) = with_calls calls (next x)
-goes_on calls next (Err stop) = record { calls = calls; answer = Err stop }
+abbrev pub continued : {A B : Type 0} → List Told → (A → Outcome B) → Result A Stop → Outcome B
+continued calls next (Ok x) = with_calls calls (next x)
+continued calls next (Err stop) = record { calls = calls; answer = Err stop }
 
 infixl 10 ◌>>=◌
 unfoldable pub ◌>>=◌ : {A B : Type 0} → Outcome A → (A → Outcome B) → Outcome B
-o >>= next = goes_on o.calls next o.answer
+o >>= next = continued o.calls next o.answer
 
 abbrev pub answers : {A : Type 0} → Result A Stop → Outcome A
 answers answer = record { calls = []; answer = answer }
@@ -63,5 +63,6 @@ PlaysBy took failures view o s s' (Err Read) = ⊥
 PlaysBy took failures view o s s' (Err (No bit rule)) = (o.answer ≡ Err (No bit rule)) × Tells took s s' o.calls × (failures s' ≡ failures s)
 PlaysBy took failures view o s s' (Err (Outside bit feature)) = (o.answer ≡ Err (Outside bit feature)) × Tells took s s' o.calls × (failures s' ≡ failures s)
 
-pub record Plays {X A S : Type 0} (took : S → List Told → Type 0) (failures : S → ℕ) (view : X → A) (o : Outcome A) (s s' : S) (result : Result X Stop) : Type 0 where
+pub record Plays {X A S : Type 0} (took : S → List Told → Type 0) (failures : S → ℕ) (view : X → A) (o : Outcome A) (s s' : S)
+    (result : Result X Stop) : Type 0 where
   pub plays : PlaysBy took failures view o s s' result

@@ -127,10 +127,13 @@ pictures_of before = map counted (runs_of before)
 -- PrevRefFrameNum after a picture: its frame_num, or 0 after operation 5, where it is a reference; else that of the last missing
 -- frame, where there was one.
 abbrev pub prev_ref_frame_num_after : Bool → Bool → Bool → Numbering → ℕ → ℕ
-prev_ref_frame_num_after idr reference resets n prev = if reference then (if resets then 0 else n.frame_num) else last_or prev (unused_short_term_frame_nums idr prev n)
+prev_ref_frame_num_after idr reference resets n prev =
+    if reference then (if resets then 0 else n.frame_num)
+    else last_or prev (unused_short_term_frame_nums idr prev n)
 
 abbrev pub prev_ref_frame_num_by : CodedPicture → ℕ → ℕ
-prev_ref_frame_num_by p prev = prev_ref_frame_num_after (is_idr p.first.header) (is_reference p.first.header) (resets p.first.header.marking) (numbering_of p.first.sps p.first.header) prev
+prev_ref_frame_num_by p prev = prev_ref_frame_num_after (is_idr p.first.header) (is_reference p.first.header)
+    (resets p.first.header.marking) (numbering_of p.first.sps p.first.header) prev
 
 abbrev pub prev_ref_frame_num_of : List CodedPicture → ℕ
 prev_ref_frame_num_of [] = 0

@@ -19,7 +19,8 @@ pub record Progress : Type 0 where
 
 -- between two calls no unit waits, each unit so far had a byte of the input, and there are units whose this is kept
 abbrev pub IsReady : Mode → Splitting → State → Type 0
-IsReady mode split state = ((split.stop ≡ None) × IsFalse split.waiting × IsFalse split.ended) × (state.units ≤ split.at) × (state.slices.pictures ≤ state.units) × KeepsSome mode false state
+IsReady mode split state = ((split.stop ≡ None) × IsFalse split.waiting × IsFalse split.ended) × (state.units ≤ split.at)
+    × (state.slices.pictures ≤ state.units) × KeepsSome mode false state
 
 abbrev pub IsSession : Mode → Option Stop → Splitting → State → Type 0
 IsSession mode None split state = IsReady mode split state

@@ -18,27 +18,31 @@ abbrev pub ToCome : {State Summary : Type 0} → Judging State Summary → Stand
 ToCome j p bytes o = Comes j p.split.at p.state (p.split.rest ++ bytes) o
 
 -- From this place on these bytes show these units, each with its end whatever follows, and after them stands this rest.
-abbrev pub Shows : ℕ → List ℕ → List NalUnit → ℕ → List ℕ → Type 0
-Shows at bytes [] end rest = (end ≡ at) × (rest ≡ bytes)
-Shows at bytes (unit ∷ units) end rest = (left : List ℕ) × ((more : List ℕ) → Next at (bytes ++ more) unit (left ++ more)) × Shows (past unit) left units end rest
+abbrev pub ShowsUnits : ℕ → List ℕ → List NalUnit → ℕ → List ℕ → Type 0
+ShowsUnits at bytes [] end rest = (end ≡ at) × (rest ≡ bytes)
+ShowsUnits at bytes (unit ∷ units) end rest =
+    (left : List ℕ) × ((more : List ℕ) → Next at (bytes ++ more) unit (left ++ more)) × ShowsUnits (past unit) left units end rest
 
 -- These units, judged one after another, lead from a state to another, with these calls.
 abbrev pub Leads : {State Summary : Type 0} → Judging State Summary → State → List NalUnit → List Told → State → Type 0
 Leads j old [] calls new = (calls ≡ []) × (new ≡ old)
-Leads {State} j old (unit ∷ units) calls new = (mid : State) × (first : List Told) × (later : List Told) × (let o : Outcome State = record { calls = first; answer = Ok mid } in j.unit old unit ≡ o) × Leads j mid units later new × (calls ≡ first ++ later)
+Leads {State} j old (unit ∷ units) calls new = (mid : State) × (first : List Told) × (later : List Told)
+    × (let o : Outcome State = record { calls = first; answer = Ok mid } in j.unit old unit ≡ o) × Leads j mid units later new × (calls ≡ first ++ later)
 
 -- The units that were taken, with their calls.
 pub record Way {State Summary : Type 0} (j : Judging State Summary) (old new : Standing State) (piece left : List ℕ) (calls : List Told) : Type 0 where
   pub units : List NalUnit
-  pub shown : Shows old.split.at (old.split.rest ++ piece) units new.split.at (new.split.rest ++ left)
+  pub shown : ShowsUnits old.split.at (old.split.rest ++ piece) units new.split.at (new.split.rest ++ left)
   pub led : Leads j old.state units calls new.state
 
 -- However the input goes on, what comes of old is these calls and what comes of new.
-pub record Goes {State Summary S : Type 0} (j : Judging State Summary) (took : S → List Told → Type 0) (old new : Standing State) (piece left : List ℕ) (s s' : S) : Type 0 where
+pub record Goes {State Summary S : Type 0} (j : Judging State Summary) (took : S → List Told → Type 0) (old new : Standing State) (piece left : List ℕ)
+    (s s' : S) : Type 0 where
   pub calls : List Told
   pub tells : Tells took s s' calls
   pub way : Way j old new piece left calls
-  pub after : (more : List ℕ) (o : Outcome Summary) → ToCome j old (piece ++ more) o → (later : Outcome Summary) × ToCome j new (left ++ more) later × (o ≡ with_calls calls later)
+  pub after : (more : List ℕ) (o : Outcome Summary) → ToCome j old (piece ++ more) o → (later : Outcome Summary) × ToCome j new (left ++ more) later
+      × (o ≡ with_calls calls later)
 
 -- After a state memory is wanting: for the bytes of the next unit, of which nothing is told, or for that unit.
 pub data LacksNext {State Summary : Type 0} (j : Judging State Summary) (state : State) (units : List NalUnit) (calls : List Told) : Type 0 where
@@ -58,7 +62,8 @@ pub record Lacks {State Summary : Type 0} (j : Judging State Summary) (state : S
   pub calls_are : calls ≡ first ++ last
 
 -- From this place and state on, this was told of these bytes, and then memory was wanting.
-pub record Lacking {State Summary S : Type 0} (j : Judging State Summary) (took : S → List Told → Type 0) (at : ℕ) (state : State) (bytes : List ℕ) (s s' : S) : Type 0 where
+pub record Lacking {State Summary S : Type 0} (j : Judging State Summary) (took : S → List Told → Type 0) (at : ℕ) (state : State) (bytes : List ℕ)
+    (s s' : S) : Type 0 where
   pub calls : List Told
   pub tells : Tells took s s' calls
   pub lacks : (units : List NalUnit) (tail : Tail) → Splits at bytes units tail → Lacks j state units calls
@@ -68,13 +73,15 @@ abbrev pub LacksAfter : {State Summary S : Type 0} → Judging State Summary →
 LacksAfter j took old piece s s' = (more : List ℕ) → Lacking j took old.split.at old.state (old.split.rest ++ (piece ++ more)) s s'
 
 -- However the input goes on, it comes to these calls and this stop.
-pub record Ends {State Summary S : Type 0} (j : Judging State Summary) (took : S → List Told → Type 0) (old : Standing State) (piece : List ℕ) (s s' : S) (stop : Stop) : Type 0 where
+pub record Ends {State Summary S : Type 0} (j : Judging State Summary) (took : S → List Told → Type 0) (old : Standing State) (piece : List ℕ) (s s' : S)
+    (stop : Stop) : Type 0 where
   pub calls : List Told
   pub tells : Tells took s s' calls
   pub after : (more : List ℕ) (o : Outcome Summary) → ToCome j old (piece ++ more) o → o ≡ record { calls = calls; answer = Err stop }
 
 -- However the input goes on, these are its first calls.
-pub record Begins {State Summary S : Type 0} (j : Judging State Summary) (took : S → List Told → Type 0) (old : Standing State) (piece : List ℕ) (s s' : S) : Type 0 where
+pub record Begins {State Summary S : Type 0} (j : Judging State Summary) (took : S → List Told → Type 0) (old : Standing State) (piece : List ℕ)
+    (s s' : S) : Type 0 where
   pub calls : List Told
   pub tells : Tells took s s' calls
   pub after : (more : List ℕ) (o : Outcome Summary) → ToCome j old (piece ++ more) o → (rest : List Told) × (o.calls ≡ calls ++ rest)
@@ -87,11 +94,13 @@ StopsBy j took failures old piece s s' Read = ⊥
 StopsBy j took failures old piece s s' Write = Begins j took old piece s s' × (failures s' ≡ failures s + 1)
 
 -- The stop is the stream's, however it goes on; or the sink failed, or memory was refused, when only its first calls were made.
-pub record Stops {State Summary S : Type 0} (j : Judging State Summary) (took : S → List Told → Type 0) (failures : S → ℕ) (old : Standing State) (piece : List ℕ) (s s' : S) (stop : Stop) : Type 0 where
+pub record Stops {State Summary S : Type 0} (j : Judging State Summary) (took : S → List Told → Type 0) (failures : S → ℕ) (old : Standing State)
+    (piece : List ℕ) (s s' : S) (stop : Stop) : Type 0 where
   pub stops : StopsBy j took failures old piece s s' stop
 
 -- The input ends here, and this is told and answered of it.
-pub record Finishes {State Summary S : Type 0} (j : Judging State Summary) (took : S → List Told → Type 0) (failures : S → ℕ) (old : Standing State) (s s' : S) (result : Result Summary Stop) : Type 0 where
+pub record Finishes {State Summary S : Type 0} (j : Judging State Summary) (took : S → List Told → Type 0) (failures : S → ℕ) (old : Standing State)
+    (s s' : S) (result : Result Summary Stop) : Type 0 where
   pub finishes : (o : Outcome Summary) → ToCome j old [] o → Plays took failures (λ (x : Summary). x) o s s' result
   pub no_read : result ≡ Err Read → ⊥
   pub write : result ≡ Err Write → failures s' ≡ failures s + 1
@@ -99,7 +108,8 @@ pub record Finishes {State Summary S : Type 0} (j : Judging State Summary) (took
   pub lacks : result ≡ Err Memory → Lacking j took old.split.at old.state (old.split.rest ++ []) s s'
 
 -- the calls of these bytes' outcome up to here, of which the source may still have the last
-pub record Fed {State Summary S : Type 0} (j : Judging State Summary) (took : S → List Told → Type 0) (known : Option (List ℕ)) (bytes : List ℕ) (old new : Standing State) (s s' : S) : Type 0 where
+pub record Fed {State Summary S : Type 0} (j : Judging State Summary) (took : S → List Told → Type 0) (known : Option (List ℕ)) (bytes : List ℕ)
+    (old new : Standing State) (s s' : S) : Type 0 where
   pub fed : List ℕ
   pub left : List ℕ
   pub known_is : known ≡ Some left
@@ -116,7 +126,8 @@ RansBy {Summary} took failures o s s' (Err Memory) = Plays {X = Summary} took fa
 RansBy {Summary} took failures o s s' (Err Write) = Plays {X = Summary} took failures (λ (x : Summary). x) o s s' (Err Write)
 
 -- What was told and answered of these bytes, the whole input.
-pub record Judges {State Summary S : Type 0} (j : Judging State Summary) (start : State) (took : S → List Told → Type 0) (failures : S → ℕ) (bytes : List ℕ) (s s' : S) (result : Result Summary Stop) : Type 0 where
+pub record Judges {State Summary S : Type 0} (j : Judging State Summary) (start : State) (took : S → List Told → Type 0) (failures : S → ℕ) (bytes : List ℕ)
+    (s s' : S) (result : Result Summary Stop) : Type 0 where
   pub outcome : Outcome Summary
   pub comes : Comes j 0 start bytes outcome
   pub ran : RansBy took failures outcome s s' result

@@ -1,5 +1,6 @@
 -- The rules that a slice meets beside its own syntax (7.4.1.2, 7.4.3, 8.2.1, 8.2.4). To be read beside the standard.
-use Rattle.std.specs.Prelude.{ℕ, ◌*◌, ◌==◌, ◌&&◌, ◌||◌, not, Bool, true, false, Option, Some, None, Result, List, [], ◌∷◌, ◌++◌, map, length, ℤ, pos, ◌+ℤ◌, int_le, if◌then◌else◌}
+use Rattle.std.specs.Prelude.{ℕ, ◌*◌, ◌==◌, ◌&&◌, ◌||◌, not, Bool, true, false, Option, Some, None, Result, List, [], ◌∷◌, ◌++◌, map, length, ℤ, pos, ◌+ℤ◌}
+use Rattle.std.specs.Prelude.{int_le, if◌then◌else◌}
 use Rattle.std.specs.List.{list_any}
 use Rattle.std.specs.Option.{is_some}
 use Rattle.h264_base.specs.declared.rule.Rule.TheVariants as rule
@@ -37,7 +38,8 @@ use Rattle.h264_verify.specs.Telling.{Said}
 use Rattle.h264_verify.specs.Buffering.{newest_count, frame_count, after_all, missing_steps, closing_frames}
 use Rattle.h264_verify.specs.UnitHeader.{header_of, nal_unit_type}
 use Rattle.h264_verify.specs.History.{History, maps_of}
-use Rattle.h264_verify.specs.Pictures.{CodedSlice, CodedPicture, sets_at, with_sets, joined_to, runs_of, begins_at, prev_ref_frame_num_of, held_after, held_in, bit_of, is_met, counted, coded_of}
+use Rattle.h264_verify.specs.Pictures.{CodedSlice, CodedPicture, sets_at, with_sets, joined_to, runs_of, begins_at, prev_ref_frame_num_of, held_after}
+use Rattle.h264_verify.specs.Pictures.{held_in, bit_of, is_met, counted, coded_of}
 use Rattle.h264_header.specs.Picture.{is_idr, is_reference}
 use Rattle.h264_poc.specs.OfSlice.{picture_of}
 use Rattle.h264_marking.specs.Ended.{numbering_of}
@@ -148,7 +150,8 @@ gap_demand idr gaps_allowed bit prev n = record { rule = rule.FrameNum; bit = bi
 
 -- Once the gap is filled it is a new number, if the picture is a reference (7.4.3).
 abbrev pub new_num_demand : Bool → Bool → ℕ → ℕ → Numbering → References → Demand
-new_num_demand idr reference bit prev n refs = record { rule = rule.FrameNum; bit = bit; met = idr || not reference || is_new_num prev n.frame_num (entered idr prev n refs) }
+new_num_demand idr reference bit prev n refs =
+    record { rule = rule.FrameNum; bit = bit; met = idr || not reference || is_new_num prev n.frame_num (entered idr prev n refs) }
 
 -- An IDR picture that directly follows an IDR picture has another idr_pic_id (7.4.3).
 abbrev pub id_demand : Option ℕ → Header → Demand
@@ -181,4 +184,5 @@ first_bit s = 8 * s.unit.from
 
 -- what the sink is told of a slice: the byte where its unit begins, first_mb_in_slice, its type, frame_num, and its picture's count
 abbrev pub slice_call : List CodedPicture → CodedSlice → Call
-slice_call pictures s = OfSlice s.unit.from s.header.first_mb_in_slice.value (type_of s.header.kind.value) s.header.frame_num.value (frame_count (newest_count (map counted pictures)))
+slice_call pictures s = OfSlice s.unit.from s.header.first_mb_in_slice.value (type_of s.header.kind.value) s.header.frame_num.value
+    (frame_count (newest_count (map counted pictures)))

@@ -10,7 +10,8 @@ use Rattle.h264_header.specs.Picture.{is_idr, is_reference}
 use Rattle.h264_verify.specs.Pictures.{CodedPicture, last_slice, held_in, ended_by, is_met}
 use Rattle.h264_verify.specs.Held.{is_own, has_gap_filled}
 
--- A header that was read has a marking where its picture is a reference, and nowhere else (7.3.3); an IDR picture is one (7.4.1), and is marked as one (7.3.3.3).
+-- A header that was read has a marking where its picture is a reference, and nowhere else (7.3.3); an IDR picture is one (7.4.1), and is marked as
+-- one (7.3.3.3).
 pub record IsMarked (h : Header) : Type 0 where
   pub some : is_reference h ≡ true → is_some h.marking ≡ true
   pub none : is_reference h ≡ false → h.marking ≡ None
@@ -27,7 +28,8 @@ abbrev pub HasPps : Pps → List CodedPicture → Type 0
 HasPps pps [] = ⊥
 HasPps pps (p ∷ ps) = p.first.pps ≡ pps
 
--- a picture after these: one that is no IDR picture has the set of the one before it (7.4.1.2.1), the gap before it was filled (8.2.5.2), and its last slice is of
+-- a picture after these: one that is no IDR picture has the set of the one before it (7.4.1.2.1), the gap before it was filled (8.2.5.2), and its
+-- last slice is of
 -- an IDR picture where its first one is (7.4.1.2.4)
 pub record Follows (p : CodedPicture) (ps : List CodedPicture) : Type 0 where
   pub marked : IsMarked p.first.header

@@ -50,5 +50,6 @@ Runs body (Takes steps course) calls answer =
     ((first : List Told) × (later : List Told) × AreMet steps first × Runs body course later answer × (calls ≡ first ++ later))
     ⊎ ((stop : Stop) × IsFirstStop steps calls stop × (answer ≡ Err stop))
 Runs body (Reads g bit next) calls answer =
-    ((es : List Element) × (found : Content) × (end : ℕ) × (later : List Told) × Says g body bit es (Ok (found, end)) × Runs body (next found end) later answer × (calls ≡ told body es ++ later))
+    ((es : List Element) × (found : Content) × (end : ℕ) × (later : List Told) × Says g body bit es (Ok (found, end))
+    × Runs body (next found end) later answer × (calls ≡ told body es ++ later))
     ⊎ ((es : List Element) × (stop : Stop) × Says g body bit es (Err stop) × (calls ≡ told body es) × (answer ≡ Err stop))

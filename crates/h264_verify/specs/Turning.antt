@@ -16,7 +16,8 @@ use Rattle.h264_verify.specs.Keeping.{ended_in}
 use Rattle.h264_verify.specs.UnitOutcome.{unit_outcome, end_outcome}
 
 -- After these units a unit was judged, and the sink was told what comes of it.
-pub record Turns {S X : Type 0} (terms : Terms) (took : S → List Call → Type 0) (failures : S → ℕ) (frames : ℕ → Frame) (before : History) (unit : NalUnit) (new : State) (s s' : S) (result : Result X Stop) : Type 0 where
+pub record Turns {S X : Type 0} (terms : Terms) (took : S → List Call → Type 0) (failures : S → ℕ) (frames : ℕ → Frame) (before : History) (unit : NalUnit)
+    (new : State) (s s' : S) (result : Result X Stop) : Type 0 where
   pub made : ℕ → Frame
   pub same : Agree (ended_in before) frames made
   pub after : History
@@ -24,7 +25,8 @@ pub record Turns {S X : Type 0} (terms : Terms) (took : S → List Call → Type
   pub keeps : OnOk result (Keeps terms.mode made after new)
 
 -- What is in a unit was read and judged, where so many pictures had ended, and the sink was told what comes of it.
-pub record Joins {S X : Type 0} (mode : Mode) (took : S → List Call → Type 0) (failures : S → ℕ) (frames : ℕ → Frame) (ended : ℕ) (o : Outcome History) (new : State) (s s' : S) (result : Result X Stop) : Type 0 where
+pub record Joins {S X : Type 0} (mode : Mode) (took : S → List Call → Type 0) (failures : S → ℕ) (frames : ℕ → Frame) (ended : ℕ) (o : Outcome History)
+    (new : State) (s s' : S) (result : Result X Stop) : Type 0 where
   pub made : ℕ → Frame
   pub same : Agree ended frames made
   pub after : History
@@ -32,7 +34,8 @@ pub record Joins {S X : Type 0} (mode : Mode) (took : S → List Call → Type 0
   pub keeps : OnOk result (Keeps mode made after new)
 
 -- The end of the input was judged, and the sink was told what comes of it.
-pub record EndsAll {S X : Type 0} (mode : Mode) (took : S → List Call → Type 0) (failures : S → ℕ) (frames : ℕ → Frame) (before : History) (bit : ℕ) (view : X → Summary) (s s' : S) (result : Result X Stop) : Type 0 where
+pub record EndsAll {S X : Type 0} (mode : Mode) (took : S → List Call → Type 0) (failures : S → ℕ) (frames : ℕ → Frame) (before : History) (bit : ℕ)
+    (view : X → Summary) (s s' : S) (result : Result X Stop) : Type 0 where
   pub made : ℕ → Frame
   pub same : Agree (ended_in before) frames made
   pub plays : Plays (took_with made took) failures view (end_outcome mode before bit) s s' result

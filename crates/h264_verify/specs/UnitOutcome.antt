@@ -69,7 +69,9 @@ whole_slice before unit = joined_on modes.Full before unit (structure_from (head
 -- a unit that is no parameter set: slices are read unless they are passed over
 unfoldable pub joined_other : Mode → ℕ → History → NalUnit → Outcome History
 joined_other modes.Units kind before unit = joined modes.Units before unit (gives contents.Passed)
-joined_other modes.Headers kind before unit = if is_slice kind then joined modes.Headers before unit (slice_outcome before unit) else joined modes.Headers before unit (gives contents.Passed)
+joined_other modes.Headers kind before unit =
+    if is_slice kind then joined modes.Headers before unit (slice_outcome before unit)
+    else joined modes.Headers before unit (gives contents.Passed)
 joined_other modes.Full kind before unit = if is_slice kind then whole_slice before unit else joined modes.Full before unit (gives contents.Passed)
 
 unfoldable pub joined_by : Terms → ℕ → History → NalUnit → Outcome History
@@ -84,7 +86,8 @@ unit_by_steps terms before unit = do
   _ ← answers (emulation_checked unit.from unit.body)
   _ ← answers (judged (header_demands (8 * unit.from) (header_of unit)))
   _ ← tells (Said (unit_call unit.from (header_of unit) (length unit.body)))
-  _ ← steps_outcome (whole_at terms.mode (nal_unit_type (header_of unit)) before ++ (needs (closing_at (nal_unit_type (header_of unit)) before) ++ frames_at terms.mode (nal_unit_type (header_of unit)) before))
+  _ ← steps_outcome (whole_at terms.mode (nal_unit_type (header_of unit)) before
+      ++ (needs (closing_at (nal_unit_type (header_of unit)) before) ++ frames_at terms.mode (nal_unit_type (header_of unit)) before))
   joined_by terms (nal_unit_type (header_of unit)) before unit
 
 -- what comes of a unit: it joins those before it, once its course has come to its end

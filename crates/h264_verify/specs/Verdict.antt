@@ -41,7 +41,8 @@ pub data IsStop (terms : Terms) (before : History) (unit : NalUnit) (stop : Stop
 -- All of these units are legal, and the sink is told of each in turn. The last one stands first.
 abbrev pub AreLegal : Terms → History → List Told → Type 0
 AreLegal terms [] calls = calls ≡ []
-AreLegal terms (r ∷ before) calls = (earlier : List Told) × (last : List Told) × AreLegal terms before earlier × IsLegal terms before r last × (calls ≡ earlier ++ last)
+AreLegal terms (r ∷ before) calls =
+    (earlier : List Told) × (last : List Told) × AreLegal terms before earlier × IsLegal terms before r last × (calls ≡ earlier ++ last)
 
 -- the units in their order, and these after them
 abbrev pub in_order : History → List NalUnit → List NalUnit
@@ -63,7 +64,8 @@ pub record Holds (terms : Terms) (bytes : List ℕ) (calls : List Told) (summary
 
 -- After the legal units the verdict falls at the next, or at what follows the last, or at the end of the input.
 pub data IsStopAfter (terms : Terms) (before : History) (units : List NalUnit) (tail : Tail) (end : ℕ) (stop : Stop) (calls : List Told) : Type 0 where
-  AtNext : (unit : NalUnit) (later : List NalUnit) → units ≡ unit ∷ later → IsStop terms before unit stop calls → IsStopAfter terms before units tail end stop calls
+  AtNext : (unit : NalUnit) (later : List NalUnit) → units ≡ unit ∷ later → IsStop terms before unit stop calls →
+      IsStopAfter terms before units tail end stop calls
   AtTail : units ≡ [] → tail_stop tail ≡ Some stop → calls ≡ [] → IsStopAfter terms before units tail end stop calls
   AtEnd : units ≡ [] → tail ≡ Zeros → IsFirstStop (end_steps terms.mode before (8 * end)) calls stop → IsStopAfter terms before units tail end stop calls
 
@@ -93,7 +95,8 @@ Verdict terms bytes calls (Ok summary) = Holds terms bytes calls summary
 Verdict terms bytes calls (Err stop) = StopsAt terms bytes calls stop
 
 -- A sink that took some of a stream's calls has taken some more, and they are all that the stream has up to this verdict.
-pub record Whole {S : Type 0} (terms : Terms) (took : S → List Told → Type 0) (bytes : List ℕ) (calls : List Told) (s s' : S) (answer : Result Summary Stop) : Type 0 where
+pub record Whole {S : Type 0} (terms : Terms) (took : S → List Told → Type 0) (bytes : List ℕ) (calls : List Told) (s s' : S)
+    (answer : Result Summary Stop) : Type 0 where
   pub more : List Told
   pub tells : Tells took s s' more
   pub verdict : Verdict terms bytes (calls ++ more) answer
@@ -135,7 +138,8 @@ pub record Wanting {S : Type 0} (terms : Terms) (took : S → List Told → Type
 abbrev pub JudgedBy : {S : Type 0} → Terms → (S → List Told → Type 0) → (S → ℕ) → List ℕ → List Told → S → S → Result Summary Stop → Type 0
 JudgedBy terms took failures bytes calls s s' (Ok summary) = Whole terms took bytes calls s s' (Ok summary) × (failures s' ≡ failures s)
 JudgedBy terms took failures bytes calls s s' (Err (No bit rule)) = Whole terms took bytes calls s s' (Err (No bit rule)) × (failures s' ≡ failures s)
-JudgedBy terms took failures bytes calls s s' (Err (Outside bit feature)) = Whole terms took bytes calls s s' (Err (Outside bit feature)) × (failures s' ≡ failures s)
+JudgedBy terms took failures bytes calls s s' (Err (Outside bit feature)) =
+    Whole terms took bytes calls s s' (Err (Outside bit feature)) × (failures s' ≡ failures s)
 JudgedBy terms took failures bytes calls s s' (Err Memory) =
     Front terms took bytes calls s s' × (failures s' ≡ failures s) × Wanting terms took bytes calls s s'
 JudgedBy terms took failures bytes calls s s' (Err Read) = Front terms took bytes calls s s' × (failures s' ≡ failures s)
@@ -149,7 +153,8 @@ pub record SameTold (frames others : ℕ → Frame) (told : List Told) : Type 0 
 -- Of this stream, of which this was told with these frames, a yes has Holds, a no Breaks, an outside MayStop, and a sink was then told
 -- exactly what comes up to there, with the frames of the pictures, decoded; memory, read and write come with the first of it, memory
 -- only where it is wanting.
-pub record Judged {S : Type 0} (terms : Terms) (took : S → List Call → Type 0) (failures : S → ℕ) (bytes : List ℕ) (frames : ℕ → Frame) (told : List Told) (s s' : S) (answer : Result Summary Stop) : Type 0 where
+pub record Judged {S : Type 0} (terms : Terms) (took : S → List Call → Type 0) (failures : S → ℕ) (bytes : List ℕ) (frames : ℕ → Frame) (told : List Told)
+    (s s' : S) (answer : Result Summary Stop) : Type 0 where
   pub made : ℕ → Frame
   pub same : SameTold frames made told
   pub judged : JudgedBy terms (took_with made took) failures bytes told s s' answer

@@ -12,11 +12,13 @@ use Rattle.h264_verify.specs.Buffering.{after_all, within_newest, missing_before
 abbrev pub filled_up_to : CodedPicture → List CodedPicture → List ℕ → Buffered Shown
 filled_up_to p ps numbers = (gaps_turn (numbering_of p.first.sps p.first.header) numbers (held_after ps) (after_all ps).buffer).buffer
 
--- The buffer has places for what is in it while a picture after these is decoded, and before that after each of the missing numbers that are filled. It still has the size that it had before.
+-- The buffer has places for what is in it while a picture after these is decoded, and before that after each of the missing numbers that are filled.
+-- It still has the size that it had before.
 pub record DecodesWithin (p : CodedPicture) (ps : List CodedPicture) : Type 0 where
   pub within : StaysWithin (within_newest (p ∷ ps)).buffer
   pub size : (within_newest (p ∷ ps)).buffer.size ≡ (after_all ps).buffer.size
-  pub filling : (numbers others : List ℕ) → missing_before p ps ≡ numbers ++ others → StaysWithin (filled_up_to p ps numbers) × ((filled_up_to p ps numbers).size ≡ (after_all ps).buffer.size)
+  pub filling : (numbers others : List ℕ) → missing_before p ps ≡ numbers ++ others → StaysWithin (filled_up_to p ps numbers)
+      × ((filled_up_to p ps numbers).size ≡ (after_all ps).buffer.size)
 
 -- So it does once the picture has ended. It then has the size that the picture's sequence gives it, at most MaxDpbFrames of the sequence's level.
 pub record EndsWithin (p : CodedPicture) (ps : List CodedPicture) : Type 0 where

@@ -2,6 +2,7 @@
 #![tactic(auto)]
 
 ghost use Rattle.std.specs.Prelude.{◌≡◌, ℕ, ◌-◌, ◌<◌, ◌≤◌, ◌^◌, false, OnOk, IsErrOf, Ok, [], IfErr, if◌then◌else◌};
+ghost use Rattle.h264_base.specs.Call.{HasRoom, IsQuiet};
 ghost use Rattle.h264_plane.specs.declared.frame.Frame.{Frame};
 ghost use Rattle.h264_verify.specs.History.{History};
 ghost use Rattle.h264_verify.specs.Pictures.{goes_on, runs_of, open_of};
@@ -36,7 +37,7 @@ fn end_data_if(mode: Mode, ends: bool, slices: &Slices, work: &Work) -> Result<(
         Mode::Headers => Ok(()),
         Mode::Full => match slices.picture {
             None => Ok(()),
-            Some(_) => check(work.is_whole(), Rule::Incomplete, slices.behind),
+            Some(_) => check(work.is_whole(), Rule::Incomplete, slices.following),
         },
     }
 }
@@ -70,7 +71,7 @@ fn end_frame_if<S: FrameSink>(
     decoder: &mut Decoder,
     sink: &mut S,
 ) -> Result<(), Stop>
-    requires room { S.failures sink.old < 2 ^ 64 - 1 }
+    requires room { HasRoom S.failures sink.old }
     requires pictures { slices.now.pictures ≤ 2 ^ 42 }
     requires kept { KeepsSomeFrames mode ends slices.now decoder.old }
     ensures ends { (frames : ℕ → Frame) (before : History) → KeepsSlices before ends slices.now →
@@ -79,7 +80,7 @@ fn end_frame_if<S: FrameSink>(
         EndsFrames mode S.took S.failures frames (goes_on before) ends (runs_of before)
         (steps_outcome (if ends then closing_frames mode before else [])) decoder.new sink.old sink.new result }
     ensures format { decoder.new.format ≡ decoder.old.format }
-    ensures kept { OnOk result (S.failures sink.new ≡ S.failures sink.old) }
+    ensures kept { OnOk result (IsQuiet S.failures sink.old sink.new) }
     ensures no_memory { IfErr result (λ e. e ≡ Stop.Write) }
 {
     if !ends {
@@ -105,7 +106,7 @@ pub fn close_if<S: FrameSink>(
     decoder: &mut Decoder,
     sink: &mut S,
 ) -> Result<(), Stop>
-    requires room { S.failures sink.old < 2 ^ 64 - 1 }
+    requires room { HasRoom S.failures sink.old }
     requires pictures { slices.old.pictures ≤ 2 ^ 42 }
     requires kept { KeepsSomeFrames mode false slices.old decoder.old }
     ensures closes { (frames : ℕ → Frame) (before : History) → KeepsSlices before false slices.old →
@@ -116,7 +117,7 @@ pub fn close_if<S: FrameSink>(
     ensures others { slices.new ≡ record slices.old { held = slices.new.held } }
     ensures format { decoder.new.format ≡ decoder.old.format }
     ensures no_memory { IsErrOf result Stop.Memory → ⊥ }
-    ensures kept { OnOk result (S.failures sink.new ≡ S.failures sink.old) }
+    ensures kept { OnOk result (IsQuiet S.failures sink.old sink.new) }
 {
     end_data_if(mode, ends, slices, &decoder.work)?;
     end_if(ends, slices)?;

@@ -2,6 +2,7 @@
 #![tactic(auto)]
 
 ghost use Rattle.std.specs.Prelude.{◌≡◌, ℕ, ◌-◌, ◌<◌, ◌≤◌, ◌^◌, Bool, true, false, Ok, Some, List, [], length, OnOk, IfErr, IsErrOf};
+ghost use Rattle.h264_base.specs.Call.{HasRoom, IsQuiet};
 ghost use Rattle.std.specs.Option.{is_some};
 ghost use Rattle.std.specs.Result.{result_unwrap_or};
 ghost use Rattle.h264_header.specs.Layout.{sets_of};
@@ -71,7 +72,7 @@ pub fn read_data<S: Elements>(
     bits: &mut Bits,
     sink: &mut S,
 ) -> Result<(), Stop>
-    requires room { S.failures sink.old < 2 ^ 64 - 1 }
+    requires room { HasRoom S.failures sink.old }
     requires id { header.now.pic_parameter_set_id.value ≤ 255 }
     requires named { is_some (sets_of sets.now header.now.pic_parameter_set_id.value) ≡ true }
     requires kept { ReadsSome begins held.now sets.now header.now decoder.old }
@@ -85,7 +86,7 @@ pub fn read_data<S: Elements>(
     ensures no_memory { begins ≡ false → IsErrOf result Stop.Memory → ⊥ }
     ensures stands { (named : Pps × SpsView) → sets_of sets.now header.now.pic_parameter_set_id.value ≡ Some named →
         decoder.old.format ≡ Some (format_of named.1) → IsErrOf result Stop.Memory → ⊥ }
-    ensures kept { OnOk result (S.failures sink.new ≡ S.failures sink.old) }
+    ensures kept { OnOk result (IsQuiet S.failures sink.old sink.new) }
 {
     let Some((pps, sps)) = named_sets(sets, header.pic_parameter_set_id.value) else {
         unreachable!()

@@ -2,6 +2,7 @@
 #![tactic(auto)]
 
 ghost use Rattle.std.specs.Prelude.{◌≡◌};
+ghost use Rattle.h264_base.specs.Call.{HasRoom, IsQuiet};
 ghost use Rattle.h264_verify.specs.Keeping.{format_of};
 
 use crate::sink::FrameSink;
@@ -172,7 +173,7 @@ impl Decoder {
     ) -> Result<(), Stop>
         requires usable { Usable slice.now }
         requires qp { slice.now.qp ≤ 51 }
-        requires room { S.failures sink.old < 2 ^ 64 - 1 }
+        requires room { HasRoom S.failures sink.old }
         requires kept { SlicesSome slice.now.number slice.now.references self.old }
         ensures reads { (frames : ℕ → Frame) (p : CodedPicture) (ps : List CodedPicture) (slices : List CodedSlice) (s : CodedSlice)
             (macroblocks : List CodedMacroblock) (t : Turn) → slice.now ≡ context_in (p ∷ ps) s →
@@ -183,7 +184,7 @@ impl Decoder {
             bits.old.body bits.old.at) (λ ms. HoldsBegun frames p ps (s ∷ slices) ms self.new × KeepsOutput frames t (length ps) self.new) sink.old
             sink.new result }
         ensures no_memory { IsErrOf result Stop.Memory → ⊥ }
-        ensures kept { OnOk result (S.failures sink.new ≡ S.failures sink.old) }
+        ensures kept { OnOk result (IsQuiet S.failures sink.old sink.new) }
     {
         let places = self.places(&slice.references);
         self.work
@@ -213,7 +214,7 @@ impl Decoder {
         held: &Held,
         sink: &mut S,
     ) -> Result<(), Stop>
-        requires room { S.failures sink.old < 2 ^ 64 - 1 }
+        requires room { HasRoom S.failures sink.old }
         requires few { picture.now.picture < 2 ^ 62 }
         requires kept { KeepsSomeEnd picture.now held.now self.old }
         ensures ends { (frames : ℕ → Frame) (p : CodedPicture) (ps : List CodedPicture) → picture.now ≡ ended_picture p ps →
@@ -221,7 +222,7 @@ impl Decoder {
             KeepsFrames frames true false (p ∷ ps) self.old → EndsFrames modes.Full S.took S.failures frames true true (p ∷ ps)
             (steps_outcome (end_frames modes.Full (p ∷ ps))) self.new sink.old sink.new result }
         ensures format { self.new.format ≡ self.old.format }
-        ensures kept { OnOk result (S.failures sink.new ≡ S.failures sink.old) }
+        ensures kept { OnOk result (IsQuiet S.failures sink.old sink.new) }
         ensures no_memory { IfErr result (λ e. e ≡ Stop.Write) }
     {
         self.work.end();
@@ -233,7 +234,7 @@ impl Decoder {
 
     /// The frame of a missing frame_num, where these frames are held with it. Write: the sink failed.
     pub(crate) fn miss<S: FrameSink>(&mut self, held: &Held, sink: &mut S) -> Result<(), Stop>
-        requires room { S.failures sink.old < 2 ^ 64 - 1 }
+        requires room { HasRoom S.failures sink.old }
         requires missing { 0 < missing_in (names held.now) }
         requires few { length held.now.frames ≤ size_of self.old.output }
         requires kept { KeepsSomeGap modes.Full self.old }
@@ -244,7 +245,7 @@ impl Decoder {
             OnOk result (FillsFrames frames (turn_then t (missing_turn held.now)) next self.new) }
         ensures sized { size_of self.new.output ≡ size_of self.old.output }
         ensures format { self.new.format ≡ self.old.format }
-        ensures kept { OnOk result (S.failures sink.new ≡ S.failures sink.old) }
+        ensures kept { OnOk result (IsQuiet S.failures sink.old sink.new) }
         ensures no_memory { IfErr result (λ e. e ≡ Stop.Write) }
     {
         self.output.miss(held, &self.work, sink)
@@ -252,7 +253,7 @@ impl Decoder {
 
     /// The end of the input: all frames that wait are written (C.4.5.3). Write: the sink failed.
     pub fn finish<S: FrameSink>(&mut self, sink: &mut S) -> Result<(), Stop>
-        requires room { S.failures sink.old < 2 ^ 64 - 1 }
+        requires room { HasRoom S.failures sink.old }
         requires kept { KeepsSomeGap modes.Full self.old }
         ensures plays { (frames : ℕ → Frame) (t : Turn) (next : ℕ) → FillsFrames frames t next self.old →
             Plays (took_with frames S.took) S.failures (λ x. x) (steps_outcome (told_frames modes.Full (last_turn t.buffer).written)) sink.old

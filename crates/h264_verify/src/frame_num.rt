@@ -2,6 +2,7 @@
 #![tactic(auto)]
 
 ghost use Rattle.std.specs.Prelude.{◌≡◌, ℕ, ◌+◌, ◌-◌, ◌%◌, ◌<◌, ◌≤◌, ◌^◌, ◌&&◌, ◌||◌, not, ◌==◌, true, false, length, [], ◌∷◌, Some, None, Ok, Err};
+ghost use Rattle.h264_base.specs.Call.{HasRoom, IsQuiet};
 ghost use Rattle.std.specs.Prelude.{OnOk, IfOk, IfErr, IsErrOf, if◌then◌else◌};
 ghost use Rattle.h264_header.specs.Layout.{has_lengths};
 ghost use Rattle.std.specs.Prelude.{List};
@@ -71,7 +72,7 @@ fn miss<S: FrameSink>(
     decoder: &mut Decoder,
     sink: &mut S,
 ) -> Result<(), Stop>
-    requires room { S.failures sink.old < 2 ^ 64 - 1 }
+    requires room { HasRoom S.failures sink.old }
     requires missing { 0 < missing_in (names held.now) }
     requires few { HasPlaces mode (length held.now.frames) decoder.old }
     requires kept { KeepsSomeGap mode decoder.old }
@@ -83,7 +84,7 @@ fn miss<S: FrameSink>(
     ensures no_memory { IfErr result (λ e. e ≡ Stop.Write) }
     ensures sized { size_of decoder.new.output ≡ size_of decoder.old.output }
     ensures format { decoder.new.format ≡ decoder.old.format }
-    ensures kept { OnOk result (S.failures sink.new ≡ S.failures sink.old) }
+    ensures kept { OnOk result (IsQuiet S.failures sink.old sink.new) }
 {
     match mode {
         Mode::Units => Ok(()),
@@ -103,7 +104,7 @@ fn fill_frames<S: FrameSink>(
     decoder: &mut Decoder,
     sink: &mut S,
 ) -> Result<u32, Stop>
-    requires room { S.failures sink.old < 2 ^ 64 - 1 }
+    requires room { HasRoom S.failures sink.old }
     requires numbers { 0 < numbering.now.max_frame_num }
     requires few { 0 < count → length held.old.frames ≤ frame_places numbering.now.max_num_ref_frames }
     requires places { 0 < count → HasPlaces mode (frame_places numbering.now.max_num_ref_frames) decoder.old }
@@ -120,7 +121,7 @@ fn fill_frames<S: FrameSink>(
     ensures last { IfOk result (λ last. last ≡ last_or prev (numbers_from count ((prev + 1) % numbering.now.max_frame_num) numbering.now.max_frame_num)) }
     ensures held { OnOk result (all_filled numbering.now (numbers_from count ((prev + 1) % numbering.now.max_frame_num) numbering.now.max_frame_num)
         held.old ≡ Some held.new) }
-    ensures kept { OnOk result (S.failures sink.new ≡ S.failures sink.old) }
+    ensures kept { OnOk result (IsQuiet S.failures sink.old sink.new) }
 {
     let mut last = prev;
     for _turn in 0..count {
@@ -170,7 +171,7 @@ pub(crate) fn check_gap<S: FrameSink>(
     sink: &mut S,
 ) -> Result<(), Stop>
     requires lengths { has_lengths sps.now ≡ true }
-    requires room { S.failures sink.old < 2 ^ 64 - 1 }
+    requires room { HasRoom S.failures sink.old }
     requires goes { is_idr header.now ≡ false → GoesWith mode sps.now held.old decoder.old }
     requires kept { KeepsSomeGap mode decoder.old }
     ensures plays { (frames : ℕ → Frame) (t : Turn) (next : ℕ) → KeepsGap mode frames t next decoder.old →
@@ -187,7 +188,7 @@ pub(crate) fn check_gap<S: FrameSink>(
         (unused_short_term_frame_nums (is_idr header.now) prev_ref_frame_num.old (numbering_of sps.now header.now)) held.old ≡ Some held.new) }
     ensures prev { OnOk result (prev_ref_frame_num.new ≡ prev_ref_frame_num_after (is_idr header.now) (is_reference header.now)
         (resets header.now.marking) (numbering_of sps.now header.now) prev_ref_frame_num.old) }
-    ensures kept { OnOk result (S.failures sink.new ≡ S.failures sink.old) }
+    ensures kept { OnOk result (IsQuiet S.failures sink.old sink.new) }
 {
     let idr = header.idr_pic_id.is_some();
     let reference = header.nal_ref_idc != 0;

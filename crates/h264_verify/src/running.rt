@@ -2,6 +2,7 @@
 #![tactic(auto)]
 
 ghost use Rattle.std.specs.Prelude.{◌≡◌, ℕ, ◌+◌, ◌-◌, ◌*◌, ◌<◌, ◌≤◌, ◌^◌, ◌⊎◌, List, [], ◌∷◌, ◌++◌, length, take, OnOk, OnErr, IfOk, IfErr, Ok, Err};
+ghost use Rattle.h264_base.specs.Call.{HasRoom, IsQuiet};
 ghost use Rattle.std.specs.Prelude.{None, Some, IsErrOf, IsTrue, IsFalse};
 ghost use Rattle.std.specs.List.{flat_map};
 ghost use Rattle.h264_verify.specs.Units.{terms_of};
@@ -34,8 +35,8 @@ fn turn<R: Source, S: FrameSink>(
     piece: &mut [u8],
     sink: &mut S,
 ) -> Result<bool, Stop>
-    requires sink { S.failures sink.old < 2 ^ 64 - 1 }
-    requires source { R.failures source.old < 2 ^ 64 - 1 }
+    requires sink { HasRoom S.failures sink.old }
+    requires source { HasRoom R.failures source.old }
     requires room { 0 < length piece.old }
     requires runs { session.old.stop ≡ None }
     ensures more { IfOk result (λ more. IsTrue more → (terms : Terms) (bytes : List ℕ) (first : _) →
@@ -52,12 +53,12 @@ fn turn<R: Source, S: FrameSink>(
     ensures heard_stop { IfErr result (λ stop. (terms : Terms) (bytes : List ℕ) (first : _) →
         FedOn terms S.took (Some []) bytes session.old first sink.old → S.failures sink.old ≡ S.failures first → (piece : List ℕ)
         × JudgesWith terms S.took S.failures (bytes ++ piece) first sink.new (Err stop)) }
-    ensures kept { OnOk result ((session.new.stop ≡ None) × (S.failures sink.new ≡ S.failures sink.old) × (R.failures source.new ≡ R.failures source.old)) }
+    ensures kept { OnOk result ((session.new.stop ≡ None) × (IsQuiet S.failures sink.old sink.new) × (IsQuiet R.failures source.old source.new)) }
     ensures again { (n : ℕ) → R.was_read source.old n → R.was_read source.new (n + 1) }
     ensures read { IsErrOf result Stop.Read → R.failures source.new ≡ R.failures source.old + 1 }
-    ensures read_told { (R.failures source.new ≡ R.failures source.old) ⊎ IsErrOf result Stop.Read }
+    ensures read_told { (IsQuiet R.failures source.old source.new) ⊎ IsErrOf result Stop.Read }
     ensures write { IsErrOf result Stop.Write → S.failures sink.new ≡ S.failures sink.old + 1 }
-    ensures write_told { (S.failures sink.new ≡ S.failures sink.old) ⊎ IsErrOf result Stop.Write }
+    ensures write_told { (IsQuiet S.failures sink.old sink.new) ⊎ IsErrOf result Stop.Write }
     ensures piece { length piece.new ≡ length piece.old }
 {
     match source.read(piece) {
@@ -79,8 +80,8 @@ fn read_all<R: Source, S: FrameSink>(
     session: &mut Session,
     sink: &mut S,
 ) -> Result<(), Stop>
-    requires sink { S.failures sink.old < 2 ^ 64 - 1 }
-    requires source { R.failures source.old < 2 ^ 64 - 1 }
+    requires sink { HasRoom S.failures sink.old }
+    requires source { HasRoom R.failures source.old }
     requires runs { session.old.stop ≡ None }
     ensures fed { OnOk result ((terms : Terms) (bytes : List ℕ) (first : _) → FedOn terms S.took (R.left source.old) bytes session.old first sink.old →
         FedOn terms S.took (Some []) bytes session.new first sink.new) }
@@ -93,12 +94,12 @@ fn read_all<R: Source, S: FrameSink>(
     ensures heard_stop { IfErr result (λ stop. (terms : Terms) (bytes : List ℕ) (first : _) →
         FedOn terms S.took (Some []) bytes session.old first sink.old → S.failures sink.old ≡ S.failures first → (more : List ℕ)
         × JudgesWith terms S.took S.failures (bytes ++ more) first sink.new (Err stop)) }
-    ensures kept { OnOk result ((session.new.stop ≡ None) × (S.failures sink.new ≡ S.failures sink.old)) }
+    ensures kept { OnOk result ((session.new.stop ≡ None) × (IsQuiet S.failures sink.old sink.new)) }
     ensures read { IsErrOf result Stop.Read → (R.failures source.new ≡ R.failures source.old + 1)
         ⊎ ((n : ℕ) → R.was_read source.old n → R.was_read source.new (n + 2 ^ 41)) }
-    ensures read_told { (R.failures source.new ≡ R.failures source.old) ⊎ IsErrOf result Stop.Read }
+    ensures read_told { (IsQuiet R.failures source.old source.new) ⊎ IsErrOf result Stop.Read }
     ensures write { IsErrOf result Stop.Write → S.failures sink.new ≡ S.failures sink.old + 1 }
-    ensures write_told { (S.failures sink.new ≡ S.failures sink.old) ⊎ IsErrOf result Stop.Write }
+    ensures write_told { (IsQuiet S.failures sink.old sink.new) ⊎ IsErrOf result Stop.Write }
 {
     let mut piece = [0u8; PIECE];
     for _ in 0..2_199_023_255_552u64 {
@@ -121,8 +122,8 @@ pub fn run<R: Source, S: FrameSink>(
     mode: Mode,
     target: Target,
 ) -> Result<Summary, Stop>
-    requires sink { S.failures sink.old < 2 ^ 64 - 1 }
-    requires source { R.failures source.old < 2 ^ 64 - 1 }
+    requires sink { HasRoom S.failures sink.old }
+    requires source { HasRoom R.failures source.old }
     // Yes, no and outside are those of the stream, with the calls up to there; memory, read and write come with the first calls.
     ensures verdict { (bytes : List ℕ) → R.left source.old ≡ Some bytes → (frames : ℕ → Frame) →
         Judged (terms_of mode target) S.took S.failures bytes frames [] sink.old sink.new result }
@@ -131,11 +132,11 @@ pub fn run<R: Source, S: FrameSink>(
     ensures read { IsErrOf result Stop.Read → (R.failures source.new ≡ R.failures source.old + 1)
         ⊎ ((n : ℕ) → R.was_read source.old n → R.was_read source.new (n + 2 ^ 41)) }
     // A read that failed is told as Read, and a write that failed as Write.
-    ensures read_told { (R.failures source.new ≡ R.failures source.old) ⊎ IsErrOf result Stop.Read }
+    ensures read_told { (IsQuiet R.failures source.old source.new) ⊎ IsErrOf result Stop.Read }
     ensures write { IsErrOf result Stop.Write → S.failures sink.new ≡ S.failures sink.old + 1 }
-    ensures write_told { (S.failures sink.new ≡ S.failures sink.old) ⊎ IsErrOf result Stop.Write }
+    ensures write_told { (IsQuiet S.failures sink.old sink.new) ⊎ IsErrOf result Stop.Write }
     // Memory comes only where neither failed.
-    ensures memory { IsErrOf result Stop.Memory → (R.failures source.new ≡ R.failures source.old) × (S.failures sink.new ≡ S.failures sink.old) }
+    ensures memory { IsErrOf result Stop.Memory → (IsQuiet R.failures source.old source.new) × (IsQuiet S.failures sink.old sink.new) }
 {
     let mut session = match Session::new(alloc, mode, target) {
         Ok(session) => session,
@@ -158,13 +159,13 @@ pub fn run_pieces<S: FrameSink>(
     mode: Mode,
     target: Target,
 ) -> Result<Summary, Stop>
-    requires { S.failures sink.old < 2 ^ 64 - 1 }
+    requires { HasRoom S.failures sink.old }
     ensures verdict { (frames : ℕ → Frame) → Judged (terms_of mode target) S.took S.failures (flat_map (λ piece. piece.items) pieces.now) frames
         [] sink.old sink.new result }
     // Nothing is read, so that no read fails; a write that failed is told as Write, and nothing else is.
     ensures no_read { IsErrOf result Stop.Read → ⊥ }
     ensures write { IsErrOf result Stop.Write → S.failures sink.new ≡ S.failures sink.old + 1 }
-    ensures write_told { (S.failures sink.new ≡ S.failures sink.old) ⊎ IsErrOf result Stop.Write }
+    ensures write_told { (IsQuiet S.failures sink.old sink.new) ⊎ IsErrOf result Stop.Write }
 {
     let mut session = match Session::new(alloc, mode, target) {
         Ok(session) => session,

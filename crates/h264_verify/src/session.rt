@@ -2,8 +2,11 @@
 #![tactic(auto)]
 
 ghost use Rattle.std.specs.Prelude.{◌≡◌, ℕ, ◌+◌, ◌-◌, ◌*◌, ◌<◌, ◌≤◌, ◌^◌, ◌⊎◌, List, [], ◌∷◌, ◌++◌, length, OnOk, OnErr, IfOk, IfErr, Ok, Err, None};
+ghost use Rattle.h264_base.specs.Call.{HasRoom, IsQuiet};
 ghost use Rattle.std.specs.Prelude.{drop, false, IsFalse, IfSome, Some, IsErrOf};
 ghost use Rattle.h264_units.specs.Stream.{IsUndecided};
+ghost use Rattle.h264_verify.specs.Memory.{bytes_of, ChangesFormat};
+ghost use Rattle.h264_verify.specs.Turning.{Turns};
 ghost use Rattle.h264_verify.specs.Progress.{IsFresh, LastIsRead};
 ghost use Rattle.h264_plane.specs.declared.frame.Frame.{Frame};
 ghost use Rattle.h264_verify.specs.Telling.{Told};
@@ -21,9 +24,41 @@ use crate::sink::FrameSink;
 use crate::unit::{judge_end, judge_unit};
 use crate::{State, Summary, Terms};
 use h264_base::{Mode, Stop, Target};
-use h264_units::Splitter;
+use h264_rbsp::Rbsp;
+use h264_units::{NalUnit, Splitter};
 use std::alloc::Global;
 use std::marker::Model;
+
+/// Judges a unit, and lets the sink note how many places of the picture buffer are then taken.
+fn judge_next<S: FrameSink>(
+    alloc: Global,
+    terms: Terms,
+    state: &mut State,
+    unit: &NalUnit,
+    rbsp: &Option<Rbsp>,
+    sink: &mut S,
+) -> Result<(), Stop>
+    requires count { HasRoom S.failures sink.old }
+    requires units { state.old.units ≤ 2 ^ 40 }
+    requires pictures { state.old.slices.pictures ≤ state.old.units }
+    requires bytes { rbsp.now ≡ bytes_of terms.mode unit.now }
+    requires kept { KeepsSome terms.mode false state.old }
+    ensures turns { (frames : ℕ → Frame) (before : History) → Keeps terms.mode frames before state.old →
+        Turns terms S.took S.failures frames before unit.now state.new sink.old sink.new result }
+    ensures counts { OnOk result (state.new.units ≡ state.old.units + 1) }
+    ensures pictures { OnOk result (state.new.slices.pictures ≤ state.new.units) }
+    ensures no_memory { (frames : ℕ → Frame) (before : History) → Keeps terms.mode frames before state.old → IsErrOf result Stop.Memory →
+        ChangesFormat terms.mode before unit.now }
+    ensures kept { OnOk result (IsQuiet S.failures sink.old sink.new) }
+{
+    match judge_unit(alloc, terms, state, unit, rbsp, sink) {
+        Ok(()) => {
+            sink.note_places_taken(state.decoder.output.places_taken());
+            Ok(())
+        }
+        Err(stop) => Err(stop),
+    }
+}
 
 /// Bytes up to the end of a unit, and the unit.
 fn feed_some<S: FrameSink>(
@@ -34,7 +69,7 @@ fn feed_some<S: FrameSink>(
     piece: &[u8],
     sink: &mut S,
 ) -> Result<usize, Stop>
-    requires count { S.failures sink.old < 2 ^ 64 - 1 }
+    requires count { HasRoom S.failures sink.old }
     requires some { 0 < length piece.now }
     requires runs { (splitter.old.stop ≡ None) × IsFalse splitter.old.waiting × IsFalse splitter.old.ended }
     requires counted { state.old.units ≤ splitter.old.at }
@@ -48,7 +83,7 @@ fn feed_some<S: FrameSink>(
     ensures counted { OnOk result (state.new.units ≤ splitter.new.at) }
     ensures pictures { OnOk result (state.new.slices.pictures ≤ state.new.units) }
     ensures undecided { OnOk result (IsUndecided splitter.new.rest) }
-    ensures kept { OnOk result (S.failures sink.new ≡ S.failures sink.old) }
+    ensures kept { OnOk result (IsQuiet S.failures sink.old sink.new) }
     ensures stops { (frames : ℕ → Frame) (before : History) → Keeps terms.mode frames before state.old →
         IfErr result (StopsOn terms S.took S.failures frames (standing_after splitter.old before) piece.now sink.old sink.new) }
 {
@@ -57,7 +92,7 @@ fn feed_some<S: FrameSink>(
         None => Ok(n),
         Some(unit) => {
             let bytes = read_bytes(alloc, terms.mode, &unit)?;
-            judge_unit(alloc, terms, state, &unit, &bytes, sink)?;
+            judge_next(alloc, terms, state, &unit, &bytes, sink)?;
             Ok(n)
         }
     }
@@ -79,7 +114,7 @@ fn feed_all<S: FrameSink>(
     piece: &[u8],
     sink: &mut S,
 ) -> Result<(), Stop>
-    requires count { S.failures sink.old < 2 ^ 64 - 1 }
+    requires count { HasRoom S.failures sink.old }
     requires runs { (splitter.old.stop ≡ None) × IsFalse splitter.old.waiting × IsFalse splitter.old.ended }
     requires counted { state.old.units ≤ splitter.old.at }
     requires pictures { state.old.slices.pictures ≤ state.old.units }
@@ -90,7 +125,7 @@ fn feed_all<S: FrameSink>(
     ensures counted { OnOk result (state.new.units ≤ splitter.new.at) }
     ensures pictures { OnOk result (state.new.slices.pictures ≤ state.new.units) }
     ensures undecided { OnOk result (IsUndecided splitter.old.rest → IsUndecided splitter.new.rest) }
-    ensures kept { OnOk result (S.failures sink.new ≡ S.failures sink.old) }
+    ensures kept { OnOk result (IsQuiet S.failures sink.old sink.new) }
     ensures stops { (frames : ℕ → Frame) (before : History) → Keeps terms.mode frames before state.old →
         IfErr result (StopsOn terms S.took S.failures frames (standing_after splitter.old before) piece.now sink.old sink.new) }
     ensures no_bytes { piece.now ≡ [] → (result ≡ Ok tt) × (splitter.new ≡ splitter.old) × (state.new ≡ state.old) × (sink.new ≡ sink.old) }
@@ -111,7 +146,7 @@ fn finish_all<S: FrameSink>(
     state: &mut State,
     sink: &mut S,
 ) -> Result<Summary, Stop>
-    requires count { S.failures sink.old < 2 ^ 64 - 1 }
+    requires count { HasRoom S.failures sink.old }
     requires runs { (splitter.old.stop ≡ None) × IsFalse splitter.old.waiting × IsFalse splitter.old.ended }
     requires counted { state.old.units ≤ splitter.old.at }
     requires pictures { state.old.slices.pictures ≤ state.old.units }
@@ -125,7 +160,7 @@ fn finish_all<S: FrameSink>(
         None => judge_end(terms.mode, state, 8 * splitter.length(), sink),
         Some(unit) => {
             let bytes = read_bytes(alloc, terms.mode, &unit)?;
-            judge_unit(alloc, terms, state, &unit, &bytes, sink)?;
+            judge_next(alloc, terms, state, &unit, &bytes, sink)?;
             judge_end(terms.mode, state, 8 * splitter.length(), sink)
         }
     }
@@ -174,7 +209,7 @@ impl Session {
 
     /// Judges the next piece of the input, where this has not stopped.
     pub(crate) fn advance<S: FrameSink>(&mut self, piece: &[u8], sink: &mut S) -> Result<(), Stop>
-        requires count { S.failures sink.old < 2 ^ 64 - 1 }
+        requires count { HasRoom S.failures sink.old }
         requires runs { self.old.stop ≡ None }
         // However the input goes on, what comes is what the sink was told now and what comes later.
         ensures goes { (frames : ℕ → Frame) (before : History) → Keeps self.old.terms.mode frames before self.old.state →
@@ -182,14 +217,14 @@ impl Session {
             sink.old sink.new) }
         ensures undecided { OnOk result (IsUndecided self.old.split.rest → IsUndecided self.new.split.rest) }
         ensures going { OnOk result (self.new.stop ≡ None) }
-        ensures kept { OnOk result (S.failures sink.new ≡ S.failures sink.old) }
+        ensures kept { OnOk result (IsQuiet S.failures sink.old sink.new) }
         // The stop is the stream's, or the sink failed, or memory was refused.
         ensures stops { (frames : ℕ → Frame) (before : History) → Keeps self.old.terms.mode frames before self.old.state →
             IfErr result (StopsOn self.old.terms S.took S.failures frames (standing_after self.old.split before) piece.now sink.old sink.new) }
         ensures stopped { IfErr result (λ stop. self.new.stop ≡ Some stop) }
         ensures terms { self.new.terms ≡ self.old.terms }
         ensures write { IsErrOf result Stop.Write → S.failures sink.new ≡ S.failures sink.old + 1 }
-        ensures write_told { (S.failures sink.new ≡ S.failures sink.old) ⊎ IsErrOf result Stop.Write }
+        ensures write_told { (IsQuiet S.failures sink.old sink.new) ⊎ IsErrOf result Stop.Write }
         ensures no_read { IsErrOf result Stop.Read → ⊥ }
         ensures no_bytes { piece.now ≡ [] → (result ≡ Ok tt) × (self.new ≡ self.old) × (sink.new ≡ sink.old) }
     {
@@ -211,12 +246,12 @@ impl Session {
 
     /// Judges the end of the input, where this has not stopped.
     pub(crate) fn conclude<S: FrameSink>(self, sink: &mut S) -> Result<Summary, Stop>
-        requires count { S.failures sink.old < 2 ^ 64 - 1 }
+        requires count { HasRoom S.failures sink.old }
         requires runs { self.stop ≡ None }
         ensures finishes { (frames : ℕ → Frame) (before : History) → Keeps self.terms.mode frames before self.state →
             FinishesOn self.terms S.took S.failures frames (standing_after self.split before) sink.old sink.new result }
         ensures write { IsErrOf result Stop.Write → S.failures sink.new ≡ S.failures sink.old + 1 }
-        ensures write_told { (S.failures sink.new ≡ S.failures sink.old) ⊎ IsErrOf result Stop.Write }
+        ensures write_told { (IsQuiet S.failures sink.old sink.new) ⊎ IsErrOf result Stop.Write }
         ensures no_read { IsErrOf result Stop.Read → ⊥ }
         ensures memory { IsErrOf result Stop.Memory → LastIsRead self.terms.mode self.split }
     {
@@ -244,7 +279,7 @@ impl Session {
     /// Judges the next piece of the input. Err: the stop of the stream; Memory where a growth was refused, for bytes or for a picture
     /// of another format than the one before it; Write where the sink failed. From then on each call answers it again.
     pub fn feed<S: FrameSink>(&mut self, piece: &[u8], sink: &mut S) -> Result<(), Stop>
-        requires { self.old.stop ≡ None → S.failures sink.old < 2 ^ 64 - 1 }
+        requires { self.old.stop ≡ None → HasRoom S.failures sink.old }
         // It was then fed the piece too.
         ensures fed { (terms : Terms) (bytes : List ℕ) (frames : ℕ → Frame) (told : List Told) → WasFed terms self.old bytes frames told →
             OnOk result (IsFed terms S.took S.failures self.new (bytes ++ piece.now) frames told sink.old sink.new) }
@@ -257,7 +292,7 @@ impl Session {
         ensures no_bytes { piece.now ≡ [] → self.old.stop ≡ None → (result ≡ Ok tt) × (self.new ≡ self.old) × (sink.new ≡ sink.old) }
         // Write comes where the sink failed, and only there.
         ensures write { self.old.stop ≡ None → IsErrOf result Stop.Write → S.failures sink.new ≡ S.failures sink.old + 1 }
-        ensures write_told { (S.failures sink.new ≡ S.failures sink.old) ⊎ IsErrOf result Stop.Write }
+        ensures write_told { (IsQuiet S.failures sink.old sink.new) ⊎ IsErrOf result Stop.Write }
         ensures no_read { self.old.stop ≡ None → IsErrOf result Stop.Read → ⊥ }
         ensures terms { self.new.terms ≡ self.old.terms }
         // A stopped session repeats its stop, and touches no sink.
@@ -271,13 +306,13 @@ impl Session {
 
     /// Judges the end of the input. Err as for `feed`.
     pub fn finish<S: FrameSink>(self, sink: &mut S) -> Result<Summary, Stop>
-        requires { self.stop ≡ None → S.failures sink.old < 2 ^ 64 - 1 }
+        requires { self.stop ≡ None → HasRoom S.failures sink.old }
         // The verdict on all that it was fed.
         ensures verdict { (terms : Terms) (bytes : List ℕ) (frames : ℕ → Frame) (told : List Told) → WasFed terms self bytes frames told →
             Judged terms S.took S.failures bytes frames told sink.old sink.new result }
         // Write comes where the sink failed, and only there.
         ensures write { self.stop ≡ None → IsErrOf result Stop.Write → S.failures sink.new ≡ S.failures sink.old + 1 }
-        ensures write_told { (S.failures sink.new ≡ S.failures sink.old) ⊎ IsErrOf result Stop.Write }
+        ensures write_told { (IsQuiet S.failures sink.old sink.new) ⊎ IsErrOf result Stop.Write }
         ensures no_read { self.stop ≡ None → IsErrOf result Stop.Read → ⊥ }
         // Memory comes only where a unit was left open, and is read.
         ensures memory { self.stop ≡ None → IsErrOf result Stop.Memory → LastIsRead self.terms.mode self.split }

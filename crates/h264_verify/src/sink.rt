@@ -2,7 +2,7 @@
 #![tactic(auto)]
 
 ghost use Rattle.std.specs.Prelude.{ℕ, ◌≡◌, ◌+◌, ◌-◌, ◌<◌, ◌^◌, [], ◌∷◌, OnOk, OnErr};
-ghost use Rattle.h264_base.specs.Call.{OfUnit, OfSlice, Tells};
+ghost use Rattle.h264_base.specs.Call.{OfUnit, OfSlice, Tells, HasRoom, IsQuiet};
 
 use h264_base::{Failed, SliceType};
 use h264_dpb::FrameOut;
@@ -18,9 +18,9 @@ pub trait FrameSink: FrameOut {
         nal_ref_idc: u8,
         length: u64,
     ) -> Result<(), Failed>
-        requires { Self.failures self.old < 2 ^ 64 - 1 }
+        requires { HasRoom Self.failures self.old }
         ensures ok { OnOk result (Tells Self.took self.old self.new (OfUnit byte nal_unit_type nal_ref_idc length ∷ [])) }
-        ensures kept { OnOk result (Self.failures self.new ≡ Self.failures self.old) }
+        ensures kept { OnOk result (IsQuiet Self.failures self.old self.new) }
         ensures refused { OnErr result (Tells Self.took self.old self.new []) }
         ensures failed { OnErr result (Self.failures self.new ≡ Self.failures self.old + 1) };
 
@@ -34,9 +34,16 @@ pub trait FrameSink: FrameOut {
         frame_num: u32,
         count: i32,
     ) -> Result<(), Failed>
-        requires { Self.failures self.old < 2 ^ 64 - 1 }
+        requires { HasRoom Self.failures self.old }
         ensures ok { OnOk result (Tells Self.took self.old self.new (OfSlice byte first_mb_in_slice slice_type frame_num count ∷ [])) }
-        ensures kept { OnOk result (Self.failures self.new ≡ Self.failures self.old) }
+        ensures kept { OnOk result (IsQuiet Self.failures self.old self.new) }
         ensures refused { OnErr result (Tells Self.took self.old self.new []) }
         ensures failed { OnErr result (Self.failures self.new ≡ Self.failures self.old + 1) };
+
+    /// How many places of the picture buffer are taken (C.4.2), after each unit that is judged: by frames that wait or are held for reference, or by
+    /// missing numbers. It is no part of what a stream consists of.
+    fn note_places_taken(&mut self, _places: usize)
+        ensures same { Tells Self.took self.old self.new [] }
+        ensures quiet { IsQuiet Self.failures self.old self.new }
+    {}
 }

@@ -2,6 +2,7 @@
 #![tactic(auto)]
 
 ghost use Rattle.std.specs.Prelude.{◌≡◌, ℕ, false, ◌+◌, ◌-◌, ◌<◌, ◌≤◌, ◌^◌, true, Some, List, [], ◌∷◌, Ok, OnOk, IsErrOf};
+ghost use Rattle.h264_base.specs.Call.{HasRoom, IsQuiet};
 ghost use Rattle.std.specs.Option.{is_some};
 ghost use Rattle.h264_header.specs.Layout.{sets_of};
 ghost use Rattle.h264_pps.specs.declared.Pps.{Pps};
@@ -69,7 +70,7 @@ pub fn judge_slice<S: FrameSink>(
     header: &mut Header,
     sink: &mut S,
 ) -> Result<(), Stop>
-    requires room { S.failures sink.old < 2 ^ 64 - 1 }
+    requires room { HasRoom S.failures sink.old }
     requires begins { begins ≡ begins_by slices.old.picture header.old }
     requires id { header.old.pic_parameter_set_id.value ≤ 255 }
     requires named { is_some (sets_of sets.old header.old.pic_parameter_set_id.value) ≡ true }
@@ -93,7 +94,7 @@ pub fn judge_slice<S: FrameSink>(
     ensures format { decoder.new.format ≡ decoder.old.format }
     ensures pictures { OnOk result (slices.new.pictures ≤ slices.old.pictures + 1) }
     ensures no_memory { IsErrOf result Stop.Memory → ⊥ }
-    ensures kept { OnOk result (S.failures sink.new ≡ S.failures sink.old) }
+    ensures kept { OnOk result (IsQuiet S.failures sink.old sink.new) }
 {
     let bit = 8 * unit.from();
     close_if(mode, begins, slices, decoder, sink)?;

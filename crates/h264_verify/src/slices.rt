@@ -2,7 +2,7 @@
 #![tactic(auto)]
 
 ghost use Rattle.std.specs.Prelude.{◌≡◌, ℕ, Bool, false, ◌==◌, ◌||◌, ◌+◌, ◌-◌, ◌*◌, ◌<◌, ◌≤◌, ◌^◌, true, Some, List, [], ◌∷◌, if◌then◌else◌, OnOk, IsErrOf};
-ghost use Rattle.h264_base.specs.Call.{OfSlice};
+ghost use Rattle.h264_base.specs.Call.{OfSlice, HasRoom, IsQuiet};
 ghost use Rattle.h264_header.specs.Layout.{has_lengths};
 ghost use Rattle.h264_marking.specs.Gaps.{entered, all_filled, unused_short_term_frame_nums};
 ghost use Rattle.h264_near.specs.Coded.{CodedMacroblock};
@@ -60,7 +60,7 @@ pub struct Slices {
     /// How many pictures have begun.
     pub pictures: u64,
     /// The first stream bit after the last slice's unit.
-    pub behind: u64,
+    pub following: u64,
     /// PrevRefFrameNum after the newest picture.
     pub prev_ref_frame_num: u32,
     /// The reference frames.
@@ -135,7 +135,7 @@ fn check_first_slice<S: FrameSink>(
     sink: &mut S,
 ) -> Result<(), Stop>
     requires lengths { has_lengths sps.now ≡ true }
-    requires room { S.failures sink.old < 2 ^ 64 - 1 }
+    requires room { HasRoom S.failures sink.old }
     requires goes { is_idr header.now ≡ false → GoesWith mode sps.now slices.old.held decoder.old }
     requires kept { KeepsSomeGap mode decoder.old }
     ensures plays { (frames : ℕ → Frame) (t : Turn) (next : ℕ) (pictures : List Picture) → KeepsGap mode frames t next decoder.old →
@@ -166,7 +166,7 @@ fn check_first_slice<S: FrameSink>(
           slices.new.prev_ref_frame_num;
       held = slices.new.held;
     } }
-    ensures kept { OnOk result (S.failures sink.new ≡ S.failures sink.old) }
+    ensures kept { OnOk result (IsQuiet S.failures sink.old sink.new) }
 {
     check_type(sps, header)?;
     check_idr_num(header)?;
@@ -210,7 +210,7 @@ fn check_rules<S: FrameSink>(
     sink: &mut S,
 ) -> Result<(), Stop>
     requires lengths { has_lengths sps.now ≡ true }
-    requires room { S.failures sink.old < 2 ^ 64 - 1 }
+    requires room { HasRoom S.failures sink.old }
     requires pictures { slices.old.pictures < 2 ^ 42 }
     requires goes { begins ≡ true → is_idr header.now ≡ false → GoesWith mode sps.now slices.old.held decoder.old }
     requires kept { KeepsSomeRules mode begins slices.old decoder.old }
@@ -231,7 +231,7 @@ fn check_rules<S: FrameSink>(
     ensures format { decoder.new.format ≡ decoder.old.format }
     ensures pictures { slices.new.pictures ≡ slices.old.pictures }
     ensures no_memory { IsErrOf result Stop.Memory → ⊥ }
-    ensures kept { OnOk result (S.failures sink.new ≡ S.failures sink.old) }
+    ensures kept { OnOk result (IsQuiet S.failures sink.old sink.new) }
 {
     if begins {
         check_first_slice(mode, slices, pps, sps, header, bit, decoder, sink)
@@ -254,7 +254,7 @@ fn tell_slice<S: FrameSink>(
     count: Option<Count>,
     sink: &mut S,
 ) -> Result<(), Stop>
-    requires { S.failures sink.old < 2 ^ 64 - 1 }
+    requires { HasRoom S.failures sink.old }
     ensures plays { (frames : ℕ → Frame) → Plays (took_with frames S.took) S.failures (λ x. x)
         (tells (Said (OfSlice byte header.now.first_mb_in_slice.value (type_of header.now.kind.value) header.now.frame_num.value
         (frame_count count)))) sink.old sink.new result }
@@ -292,7 +292,7 @@ fn enter(
     header: &mut Header,
     numbering: Numbering,
     ended: Ended,
-    behind: u64,
+    following: u64,
 )
     requires { slices.old.pictures < 2 ^ 42 }
     ensures picture { (on : Bool) (pictures : List CodedPicture) (slice : CodedSlice) → slice.header ≡ header.old →
@@ -305,19 +305,19 @@ fn enter(
     ensures newest { slices.new.newest_idr ≡ (if begins then idr_id header.old.idr_pic_id else slices.old.newest_idr) }
     ensures pictures { slices.new.pictures ≡ (if begins then slices.old.pictures + 1 else slices.old.pictures) }
     ensures due { slices.new.due ≡ false }
-    ensures behind { slices.new.behind ≡ behind }
+    ensures following { slices.new.following ≡ following }
     ensures others { slices.new ≡ record slices.old {
       picture = slices.new.picture;
       newest_idr = slices.new.newest_idr;
       pictures =
           slices.new.pictures;
       due = slices.new.due;
-      behind = slices.new.behind;
+      following = slices.new.following;
     } }
     ensures header { header.new ≡ record header.old { marking = header.new.marking } }
 {
     slices.due = false;
-    slices.behind = behind;
+    slices.following = following;
     if begins {
         slices.pictures += 1;
         slices.newest_idr = idr_id(header.idr_pic_id);
@@ -346,7 +346,7 @@ pub fn judge_rules<S: FrameSink>(
     sink: &mut S,
 ) -> Result<(), Stop>
     requires lengths { has_lengths sps.now ≡ true }
-    requires room { S.failures sink.old < 2 ^ 64 - 1 }
+    requires room { HasRoom S.failures sink.old }
     requires pictures { slices.old.pictures < 2 ^ 42 }
     requires goes { begins ≡ true → is_idr header.old ≡ false → GoesWith mode sps.now slices.old.held decoder.old }
     requires kept { KeepsSomeRules mode begins slices.old decoder.old }
@@ -369,7 +369,7 @@ pub fn judge_rules<S: FrameSink>(
     ensures format { decoder.new.format ≡ decoder.old.format }
     ensures pictures { slices.new.pictures ≤ slices.old.pictures + 1 }
     ensures no_memory { IsErrOf result Stop.Memory → ⊥ }
-    ensures kept { OnOk result (S.failures sink.new ≡ S.failures sink.old) }
+    ensures kept { OnOk result (IsQuiet S.failures sink.old sink.new) }
 {
     let bit = 8 * unit.from();
     check_rules(mode, slices, begins, pps, sps, header, bit, decoder, sink)?;
@@ -397,7 +397,7 @@ pub fn no_slices() -> Slices
         counts: Counts::new(),
         count: None,
         pictures: 0,
-        behind: 0,
+        following: 0,
         prev_ref_frame_num: 0,
         held: Held::new(),
     }

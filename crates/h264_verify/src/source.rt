@@ -2,6 +2,7 @@
 #![tactic(auto)]
 
 ghost use Rattle.std.specs.Prelude.{ℕ, ◌≡◌, ◌+◌, ◌-◌, ◌<◌, ◌≤◌, ◌^◌, List, [], ◌++◌, take, drop, length, Option, Some, OnOk, OnErr, IfOk, IfSome, IfNone};
+ghost use Rattle.h264_base.specs.Call.{HasRoom, IsQuiet};
 
 use h264_base::Failed;
 
@@ -20,13 +21,13 @@ pub trait Source {
     /// None is an interrupted read, which is no failure and took no byte.
     fn read(&mut self, piece: &mut [u8]) -> Result<Option<usize>, Failed>
         requires room { 0 < length piece.old }
-        requires count { failures self.old < 2 ^ 64 - 1 }
+        requires count { HasRoom failures self.old }
         ensures again { (n : ℕ) → was_read self.old n → was_read self.new (n + 1) }
         ensures fits { IfOk result (λ o. IfSome o (λ n. n ≤ length piece.old)) }
         ensures bytes { IfOk result (λ o. IfSome o (λ n. (bytes : List ℕ) → left self.old ≡ Some bytes → (bytes ≡ take n piece.new ++ drop n bytes)
             × (left self.new ≡ Some (drop n bytes)))) }
         ensures end { IfOk result (λ o. IfSome o (λ n. (bytes : List ℕ) → left self.old ≡ Some bytes → n ≡ 0 → bytes ≡ [])) }
         ensures interrupted { IfOk result (λ o. IfNone o ((bytes : List ℕ) → left self.old ≡ Some bytes → left self.new ≡ Some bytes)) }
-        ensures kept { OnOk result (failures self.new ≡ failures self.old) }
+        ensures kept { OnOk result (IsQuiet failures self.old self.new) }
         ensures failed { OnErr result (failures self.new ≡ failures self.old + 1) };
 }

@@ -2,6 +2,7 @@
 #![tactic(auto)]
 
 ghost use Rattle.std.specs.Prelude.{◌≡◌, true, false, IsTrue, ℕ, ◌+◌, ◌-◌, ◌*◌, ◌<◌, ◌≤◌, ◌^◌, List, [], ◌∷◌, length, ◌==◌, ◌||◌, OnOk, IfOk, IfErr};
+ghost use Rattle.h264_base.specs.Call.{HasRoom, IsQuiet};
 ghost use Rattle.std.specs.Prelude.{IsErrOf, Ok, Err, if◌then◌else◌};
 ghost use Rattle.std.specs.Option.{is_some};
 ghost use Rattle.h264_rbsp.specs.Rbsp.{body_of};
@@ -94,7 +95,7 @@ fn check_header(from: u64, header: u8) -> Result<(), Stop>
 }
 
 fn tell_unit<S: FrameSink>(from: u64, header: u8, length: u64, sink: &mut S) -> Result<(), Stop>
-    requires { S.failures sink.old < 2 ^ 64 - 1 }
+    requires { HasRoom S.failures sink.old }
     ensures plays { (frames : ℕ → Frame) → Plays (took_with frames S.took) S.failures (λ x. x)
         (tells (Said (unit_call from header length))) sink.old sink.new result }
     ensures no_memory { IsErrOf result Stop.Memory → ⊥ }
@@ -123,7 +124,7 @@ fn read_slice_unit<S: FrameSink>(
     found: &mut Header,
     sink: &mut S,
 ) -> Result<(), Stop>
-    requires { S.failures sink.old < 2 ^ 64 - 1 }
+    requires { HasRoom S.failures sink.old }
     ensures plays { (frames : ℕ → Frame) (before : History) (unit : UnitView) → sets.now ≡ maps_of before → header ≡ header_of unit →
         rbsp.now ≡ body_of unit → Plays (took_with frames S.took) S.failures (λ _. contents.OfSlice found.new [])
         (slice_outcome before unit) sink.old sink.new result }
@@ -131,7 +132,7 @@ fn read_slice_unit<S: FrameSink>(
     ensures named { OnOk result (is_some (sets_of sets.now found.new.pic_parameter_set_id.value) ≡ true) }
     ensures marked { fits_kind (nal_unit_type header) (nal_ref_idc header) ≡ true → OnOk result (IsMarked found.new) }
     ensures no_memory { IsErrOf result Stop.Memory → ⊥ }
-    ensures kept { OnOk result (S.failures sink.new ≡ S.failures sink.old) }
+    ensures kept { OnOk result (IsQuiet S.failures sink.old sink.new) }
 {
     let mut bits = Bits::new(rbsp);
     let slice_unit = slice_unit(header);
@@ -162,7 +163,7 @@ fn join_sps<S: FrameSink>(
     rbsp: &Rbsp,
     sink: &mut S,
 ) -> Result<(), Stop>
-    requires room { S.failures sink.old < 2 ^ 64 - 1 }
+    requires room { HasRoom S.failures sink.old }
     requires units { state.old.units ≤ 2 ^ 40 }
     requires pictures { state.old.slices.pictures ≤ state.old.units }
     requires kind { kind ≡ nal_unit_type (header_of unit.now) }
@@ -173,7 +174,7 @@ fn join_sps<S: FrameSink>(
     ensures counts { OnOk result (state.new.units ≡ state.old.units + 1) }
     ensures pictures { OnOk result (state.new.slices.pictures ≤ state.new.units) }
     ensures no_memory { IsErrOf result Stop.Memory → ⊥ }
-    ensures kept { OnOk result (S.failures sink.new ≡ S.failures sink.old) }
+    ensures kept { OnOk result (IsQuiet S.failures sink.old sink.new) }
 {
     let mut bits = Bits::new(rbsp);
     let set = read_sps(terms.target, &mut bits, sink)?;
@@ -191,7 +192,7 @@ fn join_pps<S: FrameSink>(
     rbsp: &Rbsp,
     sink: &mut S,
 ) -> Result<(), Stop>
-    requires room { S.failures sink.old < 2 ^ 64 - 1 }
+    requires room { HasRoom S.failures sink.old }
     requires units { state.old.units ≤ 2 ^ 40 }
     requires pictures { state.old.slices.pictures ≤ state.old.units }
     requires ends { ends_picture kind ≡ true }
@@ -203,7 +204,7 @@ fn join_pps<S: FrameSink>(
     ensures counts { OnOk result (state.new.units ≡ state.old.units + 1) }
     ensures pictures { OnOk result (state.new.slices.pictures ≤ state.new.units) }
     ensures no_memory { IsErrOf result Stop.Memory → ⊥ }
-    ensures kept { OnOk result (S.failures sink.new ≡ S.failures sink.old) }
+    ensures kept { OnOk result (IsQuiet S.failures sink.old sink.new) }
 {
     let mut bits = Bits::new(rbsp);
     let set = read_pps(terms.target, &mut bits, sink)?;
@@ -220,7 +221,7 @@ fn join_slice<S: FrameSink>(
     rbsp: &Rbsp,
     sink: &mut S,
 ) -> Result<(), Stop>
-    requires room { S.failures sink.old < 2 ^ 64 - 1 }
+    requires room { HasRoom S.failures sink.old }
     requires units { state.old.units ≤ 2 ^ 40 }
     requires pictures { state.old.slices.pictures ≤ state.old.units }
     requires goes_on { ends_picture (nal_unit_type header) ≡ false }
@@ -234,7 +235,7 @@ fn join_slice<S: FrameSink>(
     ensures counts { OnOk result (state.new.units ≡ state.old.units + 1) }
     ensures pictures { OnOk result (state.new.slices.pictures ≤ state.new.units) }
     ensures no_memory { IsErrOf result Stop.Memory → ⊥ }
-    ensures kept { OnOk result (S.failures sink.new ≡ S.failures sink.old) }
+    ensures kept { OnOk result (IsQuiet S.failures sink.old sink.new) }
 {
     read_slice_unit(header, &state.sets, rbsp, &mut state.header, sink)?;
     let begins = begins(&state.slices.picture, &state.header);
@@ -262,7 +263,7 @@ fn join_read<S: FrameSink>(
     sink: &mut S,
 ) -> Result<(), Stop>
     requires first { bits.old ≡ record { body = body_of unit.now; at = 0 } }
-    requires room { S.failures sink.old < 2 ^ 64 - 1 }
+    requires room { HasRoom S.failures sink.old }
     requires units { state.old.units ≤ 2 ^ 40 }
     requires pictures { state.old.slices.pictures ≤ state.old.units }
     requires goes_on { ends_picture (nal_unit_type header) ≡ false }
@@ -275,7 +276,7 @@ fn join_read<S: FrameSink>(
     ensures pictures { OnOk result (state.new.slices.pictures ≤ state.new.units) }
     ensures no_memory { (frames : ℕ → Frame) (before : History) → KeepsWithin modes.Full frames before (ends_picture (nal_unit_type header)) state.old →
         IsErrOf result Stop.Memory → BeginsAnotherFormat before unit.now }
-    ensures kept { OnOk result (S.failures sink.new ≡ S.failures sink.old) }
+    ensures kept { OnOk result (IsQuiet S.failures sink.old sink.new) }
 {
     let slice_unit = slice_unit(header);
     read_header(bits, &state.sets, slice_unit, &mut state.header, sink)?;
@@ -312,7 +313,7 @@ fn join_whole_slice<S: FrameSink>(
     rbsp: &Rbsp,
     sink: &mut S,
 ) -> Result<(), Stop>
-    requires room { S.failures sink.old < 2 ^ 64 - 1 }
+    requires room { HasRoom S.failures sink.old }
     requires units { state.old.units ≤ 2 ^ 40 }
     requires pictures { state.old.slices.pictures ≤ state.old.units }
     requires goes_on { ends_picture (nal_unit_type header) ≡ false }
@@ -326,7 +327,7 @@ fn join_whole_slice<S: FrameSink>(
     ensures pictures { OnOk result (state.new.slices.pictures ≤ state.new.units) }
     ensures no_memory { (frames : ℕ → Frame) (before : History) → KeepsWithin modes.Full frames before (ends_picture (nal_unit_type header)) state.old →
         IsErrOf result Stop.Memory → BeginsAnotherFormat before unit.now }
-    ensures kept { OnOk result (S.failures sink.new ≡ S.failures sink.old) }
+    ensures kept { OnOk result (IsQuiet S.failures sink.old sink.new) }
 {
     let mut bits = Bits::new(rbsp);
     join_read(alloc, state, header, unit, &mut bits, sink)
@@ -342,7 +343,7 @@ fn join<S: FrameSink>(
     rbsp: &Option<Rbsp>,
     sink: &mut S,
 ) -> Result<(), Stop>
-    requires room { S.failures sink.old < 2 ^ 64 - 1 }
+    requires room { HasRoom S.failures sink.old }
     requires units { state.old.units ≤ 2 ^ 40 }
     requires pictures { state.old.slices.pictures ≤ state.old.units }
     requires header { header ≡ header_of unit.now }
@@ -356,7 +357,7 @@ fn join<S: FrameSink>(
     ensures pictures { OnOk result (state.new.slices.pictures ≤ state.new.units) }
     ensures no_memory { (frames : ℕ → Frame) (before : History) → KeepsWithin terms.mode frames before (ends_picture (nal_unit_type header)) state.old →
         IsErrOf result Stop.Memory → ChangesFormat terms.mode before unit.now }
-    ensures kept { OnOk result (S.failures sink.new ≡ S.failures sink.old) }
+    ensures kept { OnOk result (IsQuiet S.failures sink.old sink.new) }
 {
     let Some(rbsp) = rbsp else {
         pass(state, header % 32);
@@ -388,7 +389,7 @@ pub fn judge_unit<S: FrameSink>(
     rbsp: &Option<Rbsp>,
     sink: &mut S,
 ) -> Result<(), Stop>
-    requires count { S.failures sink.old < 2 ^ 64 - 1 }
+    requires count { HasRoom S.failures sink.old }
     requires units { state.old.units ≤ 2 ^ 40 }
     requires pictures { state.old.slices.pictures ≤ state.old.units }
     requires bytes { rbsp.now ≡ bytes_of terms.mode unit.now }
@@ -399,7 +400,7 @@ pub fn judge_unit<S: FrameSink>(
     ensures pictures { OnOk result (state.new.slices.pictures ≤ state.new.units) }
     ensures no_memory { (frames : ℕ → Frame) (before : History) → Keeps terms.mode frames before state.old → IsErrOf result Stop.Memory →
         ChangesFormat terms.mode before unit.now }
-    ensures kept { OnOk result (S.failures sink.new ≡ S.failures sink.old) }
+    ensures kept { OnOk result (IsQuiet S.failures sink.old sink.new) }
 {
     check_emulation(unit)?;
     let from = unit.from();
@@ -431,7 +432,7 @@ fn has_pictures(mode: Mode, pictures: u64) -> bool
 
 /// All frames that wait are written at the end of the input, where frames are made.
 fn finish_frames<S: FrameSink>(mode: Mode, decoder: &mut Decoder, sink: &mut S) -> Result<(), Stop>
-    requires room { S.failures sink.old < 2 ^ 64 - 1 }
+    requires room { HasRoom S.failures sink.old }
     requires kept { KeepsSomeGap mode decoder.old }
     ensures plays { (frames : ℕ → Frame) (t : Turn) (next : ℕ) → KeepsGap mode frames t next decoder.old →
         Plays (took_with frames S.took) S.failures (λ x. x) (steps_outcome (told_frames mode (last_turn t.buffer).written)) sink.old sink.new result }
@@ -470,7 +471,7 @@ pub fn judge_end<S: FrameSink>(
     bit: u64,
     sink: &mut S,
 ) -> Result<Summary, Stop>
-    requires room { S.failures sink.old < 2 ^ 64 - 1 }
+    requires room { HasRoom S.failures sink.old }
     requires units { state.old.units ≤ 2 ^ 41 }
     requires pictures { state.old.slices.pictures ≤ state.old.units }
     requires kept { KeepsSome mode false state.old }

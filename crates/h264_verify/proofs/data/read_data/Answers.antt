@@ -13,7 +13,7 @@ use Rattle.h264_verify.proofs.Judged.{one-pair}
 use Rattle.h264_verify.proofs.Playing.{memory-plays}
 use Rattle.h264_verify.proofs.Holding.{enters-some}
 use Rattle.h264_verify.proofs.Naming.{slices-some}
-use Rattle.h264_verify.proofs.Reading.{context-is, filter-is, weights-are, read-behind, data-same, syntax-is, named-set}
+use Rattle.h264_verify.proofs.Reading.{context-is, filter-is, weights-are, read-after, data-same, syntax-is, named-set}
 use Rattle.h264_verify.proofs.data.read_data.Goals as goal
 
 pub begin_if-requires-clause-kept : goal.begin_if-requires-clause-kept
@@ -52,4 +52,4 @@ returns-clause-reads g c = λ frames on pictures s n h held place none live set 
     let weights = weights-are s c.args.header.now h in
     let same = syntax-is (picture_set c.args.begins s pictures).frame_size.width (picture_size (picture_set c.args.begins s pictures)) _ _ c.args.header.now _ (coded_so_far c.args.begins pictures) _ c.slice_context-slice.ensures.value ∙ data-same c.args.begins pictures s c.args.sets.now c.args.header.now _ _ _ _ _ c.in-Some.ensures.some n h c.numbering_of-numbering.ensures held items in
     subst (λ (q : Grammar (List CodedMacroblock)). ReadsData g.S.Elements.took g.S.Elements.failures frames (structure_from q c.args.bits.now.body c.args.bits.now.at) (λ ms. joined_to c.args.begins (record s { macroblocks = ms }) pictures) c.slice.new.self c.args.sink.now c.slice.new.sink c.slice.result) same
-    (read-behind _ _ frames _ _ _ _ _ c.args.begins pictures s _ _ _ context place set begun (λ p ps slices ms t is number same o b. c.slice.ensures.reads frames p ps slices s ms t is filter weights number same o b))
+    (read-after _ _ frames _ _ _ _ _ c.args.begins pictures s _ _ _ context place set begun (λ p ps slices ms t is number same o b. c.slice.ensures.reads frames p ps slices s ms t is filter weights number same o b))

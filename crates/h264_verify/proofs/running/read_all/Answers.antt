@@ -1,6 +1,6 @@
 use Rattle.std.proofs.Common.{◌≡◌, ◌+◌, ◌++◌, ◌∙◌, [], Some, inl, inr, refl, arith, append_assoc}
 use Rattle.std.proofs.lemmas.Result.{err_from_is_err_and}
-use Rattle.h264_verify.proofs.Finishing.{told-as, told-behind}
+use Rattle.h264_verify.proofs.Finishing.{told-as, told-after}
 use Rattle.h264_verify.proofs.Heard.{heard-none}
 use Rattle.h264_verify.proofs.Verdicts.{fed-again, fed-fails}
 use Rattle.h264_verify.proofs.running.read_all.Goals as goal
@@ -60,10 +60,10 @@ returns-clause-read g c = λ h. inr (λ n r.
     rw (← e) (c.loop.invariant.turns n r))
 
 pub returns-in_err-turn-clause-read_told : goal.returns-in_err-turn-clause-read_told
-returns-in_err-turn-clause-read_told g c = let p = err_from_is_err_and c.from_residual.result c.from_residual.ensures.1 in rw (p.1, p.2) (told-behind c.loop.invariant.quiet (told-as _ c.in_err-turn.ensures.read_told))
+returns-in_err-turn-clause-read_told g c = let p = err_from_is_err_and c.from_residual.result c.from_residual.ensures.1 in rw (p.1, p.2) (told-after c.loop.invariant.quiet (told-as _ c.in_err-turn.ensures.read_told))
 
 pub returns-in_err-turn-clause-write_told : goal.returns-in_err-turn-clause-write_told
-returns-in_err-turn-clause-write_told g c = let p = err_from_is_err_and c.from_residual.result c.from_residual.ensures.1 in rw (p.1, p.2) (told-behind c.loop.invariant.kept (told-as _ c.in_err-turn.ensures.write_told))
+returns-in_err-turn-clause-write_told g c = let p = err_from_is_err_and c.from_residual.result c.from_residual.ensures.1 in rw (p.1, p.2) (told-after c.loop.invariant.kept (told-as _ c.in_err-turn.ensures.write_told))
 
 pub returns-then-not-branch-clause-read_told : goal.returns-then-not-branch-clause-read_told
 returns-then-not-branch-clause-read_told g c = inl (c.in_ok-turn.ensures.kept.2 ∙ c.loop.invariant.quiet)

@@ -3,7 +3,7 @@ use Rattle.h264_base.specs.declared.stop.Stop.{Stop}
 use Rattle.h264_base.specs.declared.stop.Stop.TheVariants.{Memory, Read, Write}
 use Rattle.h264_plane.specs.Frames.{no_frame}
 use Rattle.h264_verify.proofs.Lacking.{same-stop}
-use Rattle.h264_verify.proofs.Finishing.{told-as, told-behind}
+use Rattle.h264_verify.proofs.Finishing.{told-as, told-after}
 use Rattle.h264_verify.proofs.Verdicts.{judges-judged, none-judged, fed-first, fed-last}
 use Rattle.h264_verify.specs.Units.{terms_of}
 use Rattle.h264_verify.proofs.running.run.Goals as goal
@@ -66,7 +66,7 @@ pub returns-in-Ok-read_all-clause-read_told : goal.returns-in-Ok-read_all-clause
 returns-in-Ok-read_all-clause-read_told g c = inl (quiet-source _ c.in-Ok-read_all.ensures.read_told)
 
 pub returns-in-Ok-read_all-clause-write_told : goal.returns-in-Ok-read_all-clause-write_told
-returns-in-Ok-read_all-clause-write_told g c = told-behind c.in-Ok-read_all.ensures.kept.1 c.conclude.ensures.write_told
+returns-in-Ok-read_all-clause-write_told g c = told-after c.in-Ok-read_all.ensures.kept.1 c.conclude.ensures.write_told
 
 pub returns-in-Ok-read_all-clause-memory : goal.returns-in-Ok-read_all-clause-memory
-returns-in-Ok-read_all-clause-memory g c = λ h. (quiet-source _ c.in-Ok-read_all.ensures.read_told, not-told _ Write write-not-memory (told-behind c.in-Ok-read_all.ensures.kept.1 c.conclude.ensures.write_told) h)
+returns-in-Ok-read_all-clause-memory g c = λ h. (quiet-source _ c.in-Ok-read_all.ensures.read_told, not-told _ Write write-not-memory (told-after c.in-Ok-read_all.ensures.kept.1 c.conclude.ensures.write_told) h)

@@ -1,6 +1,6 @@
 use Rattle.std.proofs.Common.{sym, ap, arith, refl, ◌∙◌, ◌≡◌, ◌+◌, length}
 use Rattle.h264_verify.proofs.Playing.{err-as}
-use Rattle.h264_verify.proofs.Finishing.{told-as, told-behind}
+use Rattle.h264_verify.proofs.Finishing.{told-as, told-after}
 use Rattle.h264_verify.proofs.Sources.{pieces-split-at}
 use Rattle.h264_verify.proofs.Verdicts.{judges-judged, none-judged, pieces-first, pieces-on, pieces-halt, pieces-end, keeps-as, goes-as, stops-as, finishes-as}
 use Rattle.h264_verify.specs.Units.{terms_of}
@@ -43,10 +43,10 @@ pub returns-in-Err-advance-clause-write : goal.returns-in-Err-advance-clause-wri
 returns-in-Err-advance-clause-write g c = λ h. c.in-Err-advance.ensures.write (err-as _ _ h) ∙ ap (λ n. n + 1) c.loop-piece.invariant.kept
 
 pub returns-in-Err-advance-clause-write_told : goal.returns-in-Err-advance-clause-write_told
-returns-in-Err-advance-clause-write_told g c = told-behind c.loop-piece.invariant.kept (told-as _ c.in-Err-advance.ensures.write_told)
+returns-in-Err-advance-clause-write_told g c = told-after c.loop-piece.invariant.kept (told-as _ c.in-Err-advance.ensures.write_told)
 
 pub returns-clause-write : goal.returns-clause-write
 returns-clause-write g c = λ h. c.conclude.ensures.write h ∙ ap (λ n. n + 1) c.loop-piece.invariant.kept
 
 pub returns-clause-write_told : goal.returns-clause-write_told
-returns-clause-write_told g c = told-behind c.loop-piece.invariant.kept c.conclude.ensures.write_told
+returns-clause-write_told g c = told-after c.loop-piece.invariant.kept c.conclude.ensures.write_told

@@ -36,9 +36,9 @@ returns-in_err-bytes-in-Some g c =
       stops = λ frames before k. on-bytes c.args.terms _ _ frames _ _ _ _ c.in_err-bytes-in-Some.ensures.err.0;
     })
 
-pub returns-in_err-judge_unit-in-Some : goal.returns-in_err-judge_unit-in-Some
-returns-in_err-judge_unit-in-Some g c =
-    let p = err_from_is_err_and c.from_residual-in_err-judge_unit-in-Some.result c.from_residual-in_err-judge_unit-in-Some.ensures.1 in
+pub returns-in_err-judge_next-in-Some : goal.returns-in_err-judge_next-in-Some
+returns-in_err-judge_next-in-Some g c =
+    let p = err_from_is_err_and c.from_residual-in_err-judge_next-in-Some.result c.from_residual-in_err-judge_next-in-Some.ensures.1 in
     rw (p.1, p.2) (record {
       within = tt;
       goes = λ frames before k. tt;
@@ -47,8 +47,8 @@ returns-in_err-judge_unit-in-Some g c =
       pictures = tt;
       undecided = tt;
       kept = tt;
-      stops = λ frames before k. let t = c.in_err-judge_unit-in-Some.ensures.turns frames before k in record { made = t.made; same = t.same; stops = stops-after (judging c.args.terms) _ _ _ _ _ _ _ _ _ _ (goes-push (judging c.args.terms) _ _ _ _ _ _ _ c.in_ok-n.ensures.ok) refl (stops-unit (judging c.args.terms) _ _ (λ x. t.after) _ c.take_unit.new.self _ _ _ _ _ _ c.in-Some.ensures.some (c.in_ok-n.ensures.ok.ended_is ∙ c.requires.runs.2) (λ e. c.in_err-judge_unit-in-Some.ensures.no_memory frames before k (ap Err e)) t.plays) };
+      stops = λ frames before k. let t = c.in_err-judge_next-in-Some.ensures.turns frames before k in record { made = t.made; same = t.same; stops = stops-after (judging c.args.terms) _ _ _ _ _ _ _ _ _ _ (goes-push (judging c.args.terms) _ _ _ _ _ _ _ c.in_ok-n.ensures.ok) refl (stops-unit (judging c.args.terms) _ _ (λ x. t.after) _ c.take_unit.new.self _ _ _ _ _ _ c.in-Some.ensures.some (c.in_ok-n.ensures.ok.ended_is ∙ c.requires.runs.2) (λ e. c.in_err-judge_next-in-Some.ensures.no_memory frames before k (ap Err e)) t.plays) };
     })
 
-pub returns-in_ok-judge_unit-in-Some-clause-goes : goal.returns-in_ok-judge_unit-in-Some-clause-goes
-returns-in_ok-judge_unit-in-Some-clause-goes g c = λ frames before k. on-unit c.in_ok-n.ensures.ok c.in-Some.ensures.some (c.in_ok-n.ensures.ok.ended_is ∙ c.requires.runs.2) (c.in_ok-judge_unit-in-Some.ensures.turns frames before k)
+pub returns-in_ok-judge_next-in-Some-clause-goes : goal.returns-in_ok-judge_next-in-Some-clause-goes
+returns-in_ok-judge_next-in-Some-clause-goes g c = λ frames before k. on-unit c.in_ok-n.ensures.ok c.in-Some.ensures.some (c.in_ok-n.ensures.ok.ended_is ∙ c.requires.runs.2) (c.in_ok-judge_next-in-Some.ensures.turns frames before k)

@@ -11,7 +11,7 @@ use Rattle.h264_verify.specs.Slices.{type_demand, idr_num_demand, id_demand, cou
 use Rattle.h264_verify.specs.Order.{gap_rules}
 use Rattle.h264_verify.specs.Lists.{list_of}
 use Rattle.h264_verify.proofs.Playing.{no-memory}
-use Rattle.h264_verify.proofs.Stepwise.{at-first, at-second, at-between, behind-between}
+use Rattle.h264_verify.proofs.Stepwise.{at-first, at-second, at-between, after-between}
 use Rattle.h264_verify.proofs.Ruling.{ok-any, type-met}
 use Rattle.h264_verify.proofs.slices.check_first_slice.Goals as goal
 
@@ -125,7 +125,7 @@ returns g c =
           let count = count_demand (picture_of c.args.sps.now c.args.header.now ∷ pictures) c.args.bit in
           let qp = qp_demand c.args.pps.now c.args.header.now in
           let list = list_demand (list_of c.args.header.now.kind.value n (entered idr prev n c.args.slices.now.held)) in
-          behind-between (took_with frames g.S.Elements.took) g.S.Elements.failures type num gap id count qp list c.args.sink.now _ c.in_ok-check_type.ensures _ c.in_ok-check_idr_num.ensures _ _ _ (c.in_ok-check_gap.ensures.plays frames t next k) (rw c.in_ok-check_gap.ensures.held at (c.check_new_picture.ensures.judged pictures kept));
+          after-between (took_with frames g.S.Elements.took) g.S.Elements.failures type num gap id count qp list c.args.sink.now _ c.in_ok-check_type.ensures _ c.in_ok-check_idr_num.ensures _ _ _ (c.in_ok-check_gap.ensures.plays frames t next k) (rw c.in_ok-check_gap.ensures.held at (c.check_new_picture.ensures.judged pictures kept));
       gap = λ frames t next k. ok-any r (c.in_ok-check_gap.ensures.keeps frames t next k);
       no_memory = c.check_new_picture.ensures.no_memory;
       format = c.in_ok-check_gap.ensures.format;

@@ -90,7 +90,7 @@ returns g c = record {
       let fits : SFits w32 c.frame_count.result = search rules in
       let told : c.ended_of-ended.result ≡ ended_of c.args.sps.now c.args.header.now c.check_rules.new.slices.pictures (frame_count c.check_rules.new.slices.count) (buffer_size c.args.sps.now) = rw (to_z-of_z w32 c.frame_count.result fits, c.frame_count.ensures, c.buffer_size.ensures.value) at c.ended_of-ended.ensures in
       let end = c.enter.ensures.end (goes_on before) (runs_of before) slice (λ begun. told ∙ ended-is before c.args.begins slice c.check_rules.new.slices entered begun) entered.picture entered.end b in
-      slice-kept before c.args.unit.now c.args.header.now ms c.check_rules.new.slices c.enter.new.slices c.args.begins sets entered opened end c.enter.ensures.newest c.enter.ensures.pictures (c.enter.ensures.behind ∙ c.bit_after.ensures) c.enter.ensures.others;
+      slice-kept before c.args.unit.now c.args.header.now ms c.check_rules.new.slices c.enter.new.slices c.args.begins sets entered opened end c.enter.ensures.newest c.enter.ensures.pictures (c.enter.ensures.following ∙ c.bit_after.ensures) c.enter.ensures.others;
   frames = λ frames before k b d. c.in_ok-check_rules.ensures.frames frames before c.args.unit.now k b d;
   filled = λ begun. rw c.enter.ensures.others (c.in_ok-check_rules.ensures.filled begun);
   due = c.enter.ensures.due;

@@ -22,8 +22,9 @@ use Rattle.h264_verify.specs.Units.{is_slice}
 use Rattle.h264_verify.specs.Memory.{reads_slices, bytes_of}
 use Rattle.h264_verify.specs.UnitOutcome.{sps_outcome, pps_outcome, joined, joined_by}
 use Rattle.h264_verify.proofs.Joining.{joins-on, passed-joins, slice-other, whole-other}
-use Rattle.h264_verify.proofs.Memory.{bytes-by, unread, read-bytes, passed-by, read-slice, slice-goes-on}
+use Rattle.h264_verify.proofs.Memory.{bytes-by, unread, read-bytes, passed-by, read-slice}
 use Rattle.h264_verify.proofs.unit.join.Goals as goal
+use Rattle.h264_verify.proofs.Growing.{slice-goes as slice-goes-on}
 
 joined-seven : (terms : Terms) (kind : ℕ) (before : History) (unit : NalUnit) → kind ≡ 7 → joined_by terms kind before unit ≡ joined terms.mode before unit (sps_outcome terms.target unit)
 unfolding joined_by
