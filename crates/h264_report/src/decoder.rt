@@ -99,8 +99,9 @@ pub enum Standing {
 
 /// A stream that is decoded as it comes, and its frames, which wait until they are taken.
 ///
-/// Each frame is copied once, when it is due. The answer is the verdict of the bytes that were given; or Memory, where memory was refused to the
-/// session or to a frame. It is never Read or Write. Once it is known each call answers it again, and changes nothing.
+/// Each frame is copied once, when it is due, into the memory of one that was given back where there is one. The answer is the verdict of the bytes
+/// that were given; or Memory, where memory was refused to the session or to a frame. It is never Read or Write. Once it is known each call answers it
+/// again, and changes nothing.
 #[derive(Drop)]
 pub struct Decoder {
     standing: Standing,
@@ -179,5 +180,16 @@ impl Decoder {
             HasAnswered terms self.new bytes answer }
     {
         self.queue.take_frame()
+    }
+
+    /// Takes a frame back that was taken. A later frame is made in its memory.
+    pub fn give_back(&mut self, frame: ShownFrame)
+        ensures waiting { self.new.queue.waiting.items ≡ self.old.queue.waiting.items }
+        ensures handed_out { self.new.queue.handed_out ≡ self.old.queue.handed_out }
+        ensures given { (terms : Terms) (bytes : List ℕ) → IsGiven terms self.old bytes → IsGiven terms self.new bytes }
+        ensures answered { (terms : Terms) (bytes : List ℕ) (answer : Result Summary Stop) → HasAnswered terms self.old bytes answer →
+            HasAnswered terms self.new bytes answer }
+    {
+        self.queue.give_back(frame);
     }
 }

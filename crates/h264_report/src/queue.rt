@@ -25,13 +25,15 @@ pub struct ShownFrame {
     pub samples: Vec<u8>,
 }
 
-/// The samples that are shown of a frame. Err: memory was refused.
-fn samples_of(alloc: Global, frame: &Frame, rectangle: Rectangle) -> Result<Vec<u8>, AllocError>
+/// The samples that are shown of a frame, in the memory of this vector, whose items are let go. Err: memory was refused.
+fn samples_of(kept: Vec<u8>, frame: &Frame, rectangle: Rectangle) -> Result<Vec<u8>, AllocError>
     requires { IsTrue (fits rectangle frame.now) }
     ensures { IfOk result (λ samples. samples.items ≡ shown_bytes frame.now rectangle) }
 {
     let luma = width(frame, rectangle) * height(frame, rectangle);
-    let mut samples = Vec::with_capacity(alloc, luma + luma / 2)?;
+    let mut samples = kept;
+    samples.clear();
+    samples.reserve_exact(luma + luma / 2)?;
     for k in 0..part_count(frame, rectangle) {
         samples.extend_from_slice(part_at(frame, rectangle, k))?;
     }
@@ -45,6 +47,8 @@ pub struct FrameQueue {
     waiting: VecDeque<ShownFrame>,
     /// How many frames were taken from it.
     handed_out: u64,
+    /// The vectors of frames that were given back, for the memory in them.
+    spare: Vec<Vec<u8>>,
 }
 
 impl FrameQueue {
@@ -60,6 +64,7 @@ impl FrameQueue {
             alloc,
             waiting: VecDeque::new(alloc),
             handed_out: 0,
+            spare: Vec::new(alloc),
         }
     }
 
@@ -84,6 +89,14 @@ impl FrameQueue {
         Some(frame)
     }
 
+    /// Takes a frame back that was taken. A later frame is made in its memory.
+    pub fn give_back(&mut self, frame: ShownFrame)
+        ensures waiting { self.new.waiting.items ≡ self.old.waiting.items }
+        ensures handed_out { self.new.handed_out ≡ self.old.handed_out }
+    {
+        let _ = self.spare.push(frame.samples);
+    }
+
     /// Adds a frame at the end. Err: memory was refused, and nothing was added.
     pub(crate) fn add(
         &mut self,
@@ -97,11 +110,15 @@ impl FrameQueue {
         ensures kept { OnErr result (self.new.waiting.items ≡ self.old.waiting.items) }
         ensures handed_out { self.new.handed_out ≡ self.old.handed_out }
     {
+        let kept = match self.spare.pop() {
+            Some(kept) => kept,
+            None => Vec::new(self.alloc),
+        };
         let shown = ShownFrame {
             count,
             width: width(frame, rectangle),
             height: height(frame, rectangle),
-            samples: samples_of(self.alloc, frame, rectangle)?,
+            samples: samples_of(kept, frame, rectangle)?,
         };
         self.waiting.push_back(shown)?;
         Ok(())
