@@ -1,5 +1,5 @@
 -- Lines, bytes and elements of calls, with one call more.
-use Rattle.std.proofs.Common.{◌≡◌, ℕ, ◌+◌, List, [], ◌∷◌, ◌++◌, sym, ap, ◌∙◌, arith}
+use Rattle.std.proofs.Common.{◌≡◌, ℕ, ◌+◌, List, [], ◌∷◌, ◌++◌, sym, ap, ◌∙◌, arith, Option}
 use Rattle.std.proofs.lemmas.List.{append_assoc, append-nil}
 use Rattle.h264_base.specs.Call.{Call}
 use Rattle.h264_report.specs.Told.{ended, line_of, lines_of, counted, counted_of, bytes_in, bytes_of, elements_in, elements_of}
@@ -22,12 +22,12 @@ pub counted-more : (listing : Listing) (calls : List Call) (call : Call) → cou
 counted-more listing [] call = let e : counted listing call + 0 ≡ 0 + counted listing call = omega arith in e
 counted-more listing (c ∷ calls) call = let e = counted-more listing calls call in let d : counted listing c + counted_of listing (calls ++ call ∷ []) ≡ counted listing c + counted_of listing calls + counted listing call = omega (arith, e) in d
 
-pub lines-more : (listing : Listing) (n m : ℕ) (calls : List Call) (call : Call) → n + counted_of listing calls ≡ m → lines_of listing n (calls ++ call ∷ []) ≡ lines_of listing n calls ++ line_of listing m call
+pub lines-more : (head : Option (List ℕ)) (listing : Listing) (n m : ℕ) (calls : List Call) (call : Call) → n + counted_of listing calls ≡ m → lines_of head listing n (calls ++ call ∷ []) ≡ lines_of head listing n calls ++ line_of head listing m call
 unfolding lines_of
-lines-more listing n m [] call e = append-nil (line_of listing n call) ∙ ap (λ k. line_of listing k call) (let d : n ≡ m = omega arith in d)
-lines-more listing n m (c ∷ calls) call e =
-    ap (λ l. line_of listing n c ++ l) (lines-more listing (counted listing c + n) m calls call (omega arith))
-    ∙ sym (append_assoc (line_of listing n c) (lines_of listing (counted listing c + n) calls) (line_of listing m call))
+lines-more head listing n m [] call e = append-nil (line_of head listing n call) ∙ ap (λ k. line_of head listing k call) (let d : n ≡ m = omega arith in d)
+lines-more head listing n m (c ∷ calls) call e =
+    ap (λ l. line_of head listing n c ++ l) (lines-more head listing (counted listing c + n) m calls call (omega arith))
+    ∙ sym (append_assoc (line_of head listing n c) (lines_of head listing (counted listing c + n) calls) (line_of head listing m call))
 
 pub element-lines-more : (es : List Element) (e : Element) → element_lines (es ++ e ∷ []) ≡ element_lines es ++ ended (element_text e.name e.bit e.value)
 unfolding element_lines

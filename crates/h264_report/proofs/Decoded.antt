@@ -18,6 +18,7 @@ use Rattle.h264_verify.specs.Telling.{Told, Said, Decodes, Shows, Tells, took_wi
 use Rattle.h264_verify.specs.Verdict.{Judged, JudgedBy}
 use Rattle.h264_verify.specs.declared.state.Summary.{Summary}
 use Rattle.h264_verify.specs.declared.state.Terms.{Terms}
+use Rattle.h264_report.proofs.Accounts.{taken}
 
 -- ---- what was told in two parts
 
@@ -32,11 +33,6 @@ decoded-append frames [] more a b = b
 decoded-append frames (Said call ∷ told) more a b = decoded-append frames told more a b
 decoded-append frames (Decodes pictures ∷ told) more a b = (a.0, decoded-append frames told more a.1 b)
 decoded-append frames (Shows e ∷ told) more a b = decoded-append frames told more a b
-
--- What a sink took that had taken nothing.
-taken : {S : Type 0} (frames : ℕ → Frame) (took : S → List Call → Type 0) (s s' : S) (more : List Told) → took s [] → Tells (took_with frames took) s s' more → AreDecoded frames more × took s' (calls_of frames more)
-unfolding took_with
-taken frames took s s' more h t = t.told [] (tt, h)
 
 -- A sink that had taken nothing took some more of a stream.
 record Took {S : Type 0} (took : S → List Call → Type 0) (frames : ℕ → Frame) (s' : S) (more : List Told) : Type 0 where

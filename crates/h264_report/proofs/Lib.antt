@@ -13,3 +13,5 @@ pub mod Decoded
 pub mod Givens
 pub mod Accounting
 pub mod Entries
+pub mod Reaching
+pub mod Choosing

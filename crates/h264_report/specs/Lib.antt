@@ -1,4 +1,5 @@
 pub mod Lines
+pub mod Objects
 pub mod Sent
 pub mod Rows
 pub mod Frames
@@ -10,3 +11,4 @@ pub mod Queue
 pub mod Decoding
 pub mod Given
 pub mod Entries
+pub mod Chosen

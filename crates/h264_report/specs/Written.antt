@@ -93,7 +93,7 @@ pub record Lists (terms : Terms) (listing : Listing) (bytes : List ℕ) (answer 
     (written : Bool) (old new : Option (List ℕ)) : Type 0 where
   pub account : Account terms bytes answer
   pub lines : List ℕ
-  pub are_lines : IsWritten (lines_of listing 0) answer (calls_in account) lines
+  pub are_lines : IsWritten (lines_of None listing 0) answer (calls_in account) lines
   pub text : Takes written old new (lines ++ last_line terms.mode answer)
 
 -- a rule is broken

@@ -1,7 +1,8 @@
 //! A stream judged, and what is found written: lines, the last elements or the frames, and the last line.
 #![tactic(auto)]
 
-ghost use Rattle.std.specs.Prelude.{◌≡◌, ◌≢◌, ℕ, ◌+◌, ◌-◌, ◌<◌, ◌⊎◌, ◌^◌, true, false, List, ◌++◌, Some, Ok, Err, IsErrOf};
+ghost use Rattle.std.specs.Prelude.{◌≡◌, ◌≢◌, ℕ, ◌+◌, ◌-◌, ◌<◌, ◌⊎◌, ◌^◌, true, false, List, ◌++◌, None, Some, Ok, Err, IsErrOf};
+ghost use Rattle.h264_base.specs.Call.{HasRoom, IsQuiet};
 ghost use Rattle.h264_base.specs.declared.mode.Mode.TheVariants as modes;
 ghost use Rattle.h264_verify.specs.Units.{terms_of};
 ghost use Rattle.h264_report.specs.Sent.{Takes};
@@ -9,6 +10,7 @@ ghost use Rattle.h264_report.specs.Told.{ended, lines_of, bytes_of};
 ghost use Rattle.h264_report.specs.Written.{OfBytes, Writes, Lists, Checks, Decodes, told_of, is_no, last_line, trail_text, answer_status, status_of};
 
 use crate::device::Device;
+use crate::form::Form;
 use crate::line_sink::LineSink;
 use crate::lines::verdict_line;
 use crate::listing::Listing;
@@ -171,22 +173,23 @@ fn run_lines<'a, K: Sheet, R: Source, W: Device>(
     source: &mut R,
     pen: Pen<'a, W>,
 ) -> (Pen<'a, W>, Result<Summary, Stop>)
-    requires count { R.failures source.old < 2 ^ 64 - 1 }
+    requires count { HasRoom R.failures source.old }
     requires name { pen.out.ghost_name ≡ K.name }
     requires start { W.contents pen.out.now ≡ K.start }
     requires was_failed { W.has_failed pen.out.now ≡ K.was_failed }
+    requires lines { K.head ≡ None }
     requires listing { listing ≡ K.listing }
     ensures same_reference { result.0.out.ghost_name ≡ K.name }
     ensures lines { (bytes : List ℕ) → R.left source.old ≡ Some bytes →
-        Writes (lines_of K.listing 0) terms bytes result.1 K.start (W.contents result.0.out.now) }
-    ensures some { (bytes : List ℕ) × Writes (lines_of K.listing 0) terms bytes result.1 K.start (W.contents result.0.out.now) }
+        Writes (lines_of K.head K.listing 0) terms bytes result.1 K.start (W.contents result.0.out.now) }
+    ensures some { (bytes : List ℕ) × Writes (lines_of K.head K.listing 0) terms bytes result.1 K.start (W.contents result.0.out.now) }
     ensures read { IsErrOf result.1 Stop.Read → (R.failures source.new ≡ R.failures source.old + 1)
         ⊎ ((n : ℕ) → R.was_read source.old n → R.was_read source.new (n + 2 ^ 41)) }
-    ensures read_told { (R.failures source.new ≡ R.failures source.old) ⊎ (IsErrOf result.1 Stop.Read ⊎ IsErrOf result.1 Stop.Write) }
+    ensures read_told { (IsQuiet R.failures source.old source.new) ⊎ (IsErrOf result.1 Stop.Read ⊎ IsErrOf result.1 Stop.Write) }
     ensures write { IsErrOf result.1 Stop.Write → W.has_failed result.0.out.now ≡ true }
     ensures quiet { result.1 ≢ Err Stop.Write → W.has_failed result.0.out.now ≡ K.was_failed }
 {
-    let mut sink: LineSink<'_, W, K> = LineSink::new(alloc, listing, pen);
+    let mut sink: LineSink<'_, W, K> = LineSink::new(alloc, listing, Form::Lines, pen);
     let answer = run(alloc, source, &mut sink, terms.mode, terms.target);
     let broke_off = sink.broke_off();
     (sink.into_pen(), told_answer(answer, broke_off))
@@ -200,13 +203,13 @@ fn write_lines<R: Source, W: Device>(
     source: &mut R,
     out: &mut W,
 ) -> Result<Summary, Stop>
-    requires { R.failures source.old < 2 ^ 64 - 1 }
+    requires { HasRoom R.failures source.old }
     ensures lines { (bytes : List ℕ) → R.left source.old ≡ Some bytes →
-        Writes (lines_of listing 0) terms bytes result (W.contents out.old) (W.contents out.new) }
-    ensures some { (bytes : List ℕ) × Writes (lines_of listing 0) terms bytes result (W.contents out.old) (W.contents out.new) }
+        Writes (lines_of None listing 0) terms bytes result (W.contents out.old) (W.contents out.new) }
+    ensures some { (bytes : List ℕ) × Writes (lines_of None listing 0) terms bytes result (W.contents out.old) (W.contents out.new) }
     ensures read { IsErrOf result Stop.Read → (R.failures source.new ≡ R.failures source.old + 1)
         ⊎ ((n : ℕ) → R.was_read source.old n → R.was_read source.new (n + 2 ^ 41)) }
-    ensures read_told { (R.failures source.new ≡ R.failures source.old) ⊎ (IsErrOf result Stop.Read ⊎ IsErrOf result Stop.Write) }
+    ensures read_told { (IsQuiet R.failures source.old source.new) ⊎ (IsErrOf result Stop.Read ⊎ IsErrOf result Stop.Write) }
     ensures write { IsErrOf result Stop.Write → W.has_failed out.new ≡ true }
     ensures quiet { result ≢ Err Stop.Write → W.has_failed out.new ≡ W.has_failed out.old }
 {
@@ -226,13 +229,13 @@ pub fn list<R: Source, W: Device>(
     source: &mut R,
     out: &mut W,
 ) -> Ending
-    requires { R.failures source.old < 2 ^ 64 - 1 }
+    requires { HasRoom R.failures source.old }
     ensures lists { OfBytes (R.left source.old) (λ bytes. Lists terms listing bytes result.answer result.written (W.contents out.old)
         (W.contents out.new)) }
     ensures read { IsErrOf result.answer Stop.Read → (R.failures source.new ≡ R.failures source.old + 1)
         ⊎ ((n : ℕ) → R.was_read source.old n → R.was_read source.new (n + 2 ^ 41)) }
     // A read that failed is told as Read; or as Write, where a write failed too.
-    ensures read_told { (R.failures source.new ≡ R.failures source.old) ⊎ (IsErrOf result.answer Stop.Read ⊎ IsErrOf result.answer Stop.Write) }
+    ensures read_told { (IsQuiet R.failures source.old source.new) ⊎ (IsErrOf result.answer Stop.Read ⊎ IsErrOf result.answer Stop.Write) }
     ensures write { IsErrOf result.answer Stop.Write → W.has_failed out.new ≡ true }
     ensures quiet { result.answer ≢ Err Stop.Write → result.written ≡ true → W.has_failed out.new ≡ W.has_failed out.old }
     ensures handed_over { result.written ≡ true → W.holds_back out.new ≡ false }
@@ -296,12 +299,12 @@ pub fn check<R: Source, W: Device>(
     source: &mut R,
     out: &mut W,
 ) -> Ending
-    requires { R.failures source.old < 2 ^ 64 - 1 }
+    requires { HasRoom R.failures source.old }
     ensures checks { OfBytes (R.left source.old) (λ bytes. Checks target bytes result.answer result.written (W.contents out.old) (W.contents out.new)) }
     ensures read { IsErrOf result.answer Stop.Read → (R.failures source.new ≡ R.failures source.old + 1)
         ⊎ ((n : ℕ) → R.was_read source.old n → R.was_read source.new (n + 2 ^ 41)) }
     // A read that failed is told as Read.
-    ensures read_told { (R.failures source.new ≡ R.failures source.old) ⊎ IsErrOf result.answer Stop.Read }
+    ensures read_told { (IsQuiet R.failures source.old source.new) ⊎ IsErrOf result.answer Stop.Read }
     ensures write { IsErrOf result.answer Stop.Write → ⊥ }
     ensures quiet { result.written ≡ true → W.has_failed out.new ≡ W.has_failed out.old }
     ensures handed_over { result.written ≡ true → W.holds_back out.new ≡ false }
@@ -321,7 +324,7 @@ fn run_frames<'a, K: Sheet, R: Source, W: Device>(
     source: &mut R,
     pen: Pen<'a, W>,
 ) -> (Pen<'a, W>, Result<Summary, Stop>)
-    requires count { R.failures source.old < 2 ^ 64 - 1 }
+    requires count { HasRoom R.failures source.old }
     requires name { pen.out.ghost_name ≡ K.name }
     requires start { W.contents pen.out.now ≡ K.start }
     requires was_failed { W.has_failed pen.out.now ≡ K.was_failed }
@@ -331,7 +334,7 @@ fn run_frames<'a, K: Sheet, R: Source, W: Device>(
     ensures some { (bytes : List ℕ) × Writes bytes_of (terms_of modes.Full target) bytes result.1 K.start (W.contents result.0.out.now) }
     ensures read { IsErrOf result.1 Stop.Read → (R.failures source.new ≡ R.failures source.old + 1)
         ⊎ ((n : ℕ) → R.was_read source.old n → R.was_read source.new (n + 2 ^ 41)) }
-    ensures read_told { (R.failures source.new ≡ R.failures source.old) ⊎ (IsErrOf result.1 Stop.Read ⊎ IsErrOf result.1 Stop.Write) }
+    ensures read_told { (IsQuiet R.failures source.old source.new) ⊎ (IsErrOf result.1 Stop.Read ⊎ IsErrOf result.1 Stop.Write) }
     ensures write { IsErrOf result.1 Stop.Write → W.has_failed result.0.out.now ≡ true }
     ensures quiet { result.1 ≢ Err Stop.Write → W.has_failed result.0.out.now ≡ K.was_failed }
 {
@@ -348,13 +351,13 @@ fn write_frames<R: Source, W: Device>(
     source: &mut R,
     out: &mut W,
 ) -> Result<Summary, Stop>
-    requires { R.failures source.old < 2 ^ 64 - 1 }
+    requires { HasRoom R.failures source.old }
     ensures frames { (bytes : List ℕ) → R.left source.old ≡ Some bytes →
         Writes bytes_of (terms_of modes.Full target) bytes result (W.contents out.old) (W.contents out.new) }
     ensures some { (bytes : List ℕ) × Writes bytes_of (terms_of modes.Full target) bytes result (W.contents out.old) (W.contents out.new) }
     ensures read { IsErrOf result Stop.Read → (R.failures source.new ≡ R.failures source.old + 1)
         ⊎ ((n : ℕ) → R.was_read source.old n → R.was_read source.new (n + 2 ^ 41)) }
-    ensures read_told { (R.failures source.new ≡ R.failures source.old) ⊎ (IsErrOf result Stop.Read ⊎ IsErrOf result Stop.Write) }
+    ensures read_told { (IsQuiet R.failures source.old source.new) ⊎ (IsErrOf result Stop.Read ⊎ IsErrOf result Stop.Write) }
     ensures write { IsErrOf result Stop.Write → W.has_failed out.new ≡ true }
     ensures quiet { result ≢ Err Stop.Write → W.has_failed out.new ≡ W.has_failed out.old }
 {
@@ -373,13 +376,13 @@ pub fn decode<R: Source, W: Device, E: Device>(
     out: &mut W,
     err: &mut E,
 ) -> Ending
-    requires { R.failures source.old < 2 ^ 64 - 1 }
+    requires { HasRoom R.failures source.old }
     ensures decodes { OfBytes (R.left source.old) (λ bytes. Decodes target bytes result.answer result.written (W.contents out.old)
         (W.contents out.new) (E.contents err.old) (E.contents err.new)) }
     ensures read { IsErrOf result.answer Stop.Read → (R.failures source.new ≡ R.failures source.old + 1)
         ⊎ ((n : ℕ) → R.was_read source.old n → R.was_read source.new (n + 2 ^ 41)) }
     // A read that failed is told as Read; or as Write, where a write failed too.
-    ensures read_told { (R.failures source.new ≡ R.failures source.old) ⊎ (IsErrOf result.answer Stop.Read ⊎ IsErrOf result.answer Stop.Write) }
+    ensures read_told { (IsQuiet R.failures source.old source.new) ⊎ (IsErrOf result.answer Stop.Read ⊎ IsErrOf result.answer Stop.Write) }
     ensures write { IsErrOf result.answer Stop.Write → W.has_failed out.new ≡ true }
     ensures quiet { result.answer ≢ Err Stop.Write → W.has_failed out.new ≡ W.has_failed out.old }
     ensures handed_over { result.answer ≢ Err Stop.Write → W.holds_back out.new ≡ false }

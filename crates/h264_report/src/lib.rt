@@ -1,12 +1,14 @@
 //! What the program prints of a stream: lines, frames as bytes, and the last elements.
 //!
-//! `unit_line`, `slice_line`, `frame_line`, `element_line` and `verdict_line` make each line without its line end, in ASCII. `LineSink` writes a line for
-//! each unit, slice, element or frame to a writer, `YuvSink` the samples of each frame, `Y4mSink` frames with their header, `JsonSink` objects; `TrailSink`
-//! keeps the last 16 elements, and `PageSink` what a page shows. `list`, `check` and `decode` judge a stream with one of them, and write the last line.
-//! Promised: exactly the texts of `specs/Lines.antt`; that a writer which tells its bytes holds the lines, the samples or the frames of the calls taken, in
-//! order, and after a failure a part of the last; that a trail has the last 16 elements; and of the three that run a judgement, what stands in
-//! `specs/Written.antt`: the last line is that of the answer in this mode, and what stands before it is of the calls up to there; a failed read or write is
-//! told, and only where there was one. Nothing is promised of what `JsonSink` and `PageSink` make.
+//! `unit_line`, `slice_line`, `frame_line`, `element_line` and `verdict_line` make each line without its line end, in ASCII. `LineSink` writes a line, or an
+//! object of JSON, for each unit, slice, element or frame to a writer, `YuvSink` the samples of each frame, `Y4mSink` frames with their header; `TrailSink`
+//! keeps the last 16 elements. `Surveyed`, `PageSink` and `Narrowed` stand around another sink: the first two hand each call on, and `Narrowed` what is chosen.
+//! `list`, `check` and `decode` judge a stream with one of them, and write the last line.
+//! Promised: exactly the texts of `specs/Lines.antt` and `specs/Objects.antt`; that a writer which tells its bytes holds the lines, the samples or the frames
+//! of the calls taken, in order, and after a failure a part of the last; that a trail has the last 16 elements; that a sink round which another stands took
+//! each call, or what `specs/Chosen.antt` leaves of them; and of the three that run a judgement, what stands in `specs/Written.antt`: the last line is that of
+//! the answer in this mode, and what stands before it is of the calls up to there; a failed read or write is told, and only where there was one. Nothing is
+//! promised of the head of an object, nor of the texts, plots and pictures of a page.
 //!
 //! For callers that hold the bytes themselves: a `Decoder` takes a stream in pieces and keeps each frame that is due until it is taken, and
 //! `judge_bytes` judges a stream in memory. Promised (`specs/Given.antt`): the frames taken and those that wait are the stream's, in order, up to the
@@ -16,13 +18,14 @@
 pub mod decoder;
 pub mod device;
 mod filling;
+pub mod form;
 mod frames;
 pub mod head;
-pub mod json_sink;
 pub mod judging;
 pub mod line_sink;
 pub mod lines;
 pub mod listing;
+pub mod objects;
 pub mod page_sink;
 pub mod pages;
 pub mod queue;
@@ -39,7 +42,7 @@ pub mod yuv_sink;
 
 pub use decoder::Decoder;
 pub use device::{Device, WriteDevice};
-pub use json_sink::JsonSink;
+pub use form::Form;
 pub use judging::{Ending, check, decode, list, put_answer, put_memory, told_answer};
 pub use line_sink::LineSink;
 pub use lines::{element_line, frame_line, slice_line, unit_line, verdict_line};

@@ -2,12 +2,14 @@
 #![tactic(auto)]
 
 ghost use Rattle.std.specs.Prelude.{◌≡◌, ℕ, ◌+◌, ◌-◌, ◌<◌, ◌^◌, false, List, OnOk, OnErr, string_bytes};
+ghost use Rattle.h264_report.specs.Objects.{head_of};
 ghost use Rattle.h264_report.specs.Sent.{SendsOrBreaksOff, IsBlamed};
 ghost use Rattle.h264_report.specs.Told.{ended};
 
 use crate::device::Device;
-use crate::lines::{element_line, frame_line, slice_line, unit_line};
+use crate::form::Form;
 use crate::listing::Listing;
+use crate::objects::{FrameCall, SliceCall, UnitCall, put_element, put_frame, put_slice, put_unit};
 use crate::send::send;
 use crate::sheet::{Pen, Sheet};
 use h264_base::{ElementName, Elements, Failed, SliceType};
@@ -17,7 +19,8 @@ use h264_verify::FrameSink;
 use std::alloc::{AllocError, Global};
 use std::marker::PhantomData;
 
-/// Writes a line for each unit, slice, element or frame of a stream, as the listing says, and passes over all else.
+/// Writes a line for each unit, slice, element or frame of a stream, as the listing says, and passes over all else. By its form a line is a text or an
+/// object of JSON.
 ///
 /// A writer that tells its bytes holds, after what it held, the lines of the calls taken, in order. Where the device fails within a line, its call is
 /// taken, and the writer holds a part of the line, which is not the whole. Where memory is wanting for a line, its call fails, and nothing is written
@@ -27,6 +30,7 @@ pub struct LineSink<'a, W: Device, K: Sheet> {
     alloc: Global,
     pen: Pen<'a, W>,
     sheet: PhantomData<K>,
+    form: Form<'a>,
     listing: Listing,
     /// How many calls failed.
     pub failures: u64,
@@ -40,10 +44,16 @@ pub struct LineSink<'a, W: Device, K: Sheet> {
 
 impl<'a, W: Device, K: Sheet> LineSink<'a, W, K> {
     /// A sink that was told nothing, with no failure.
-    pub fn new(alloc: Global, listing: Listing, pen: Pen<'a, W>) -> LineSink<'a, W, K>
+    pub fn new(
+        alloc: Global,
+        listing: Listing,
+        form: Form<'a>,
+        pen: Pen<'a, W>,
+    ) -> LineSink<'a, W, K>
         ensures quiet { result.failures ≡ 0 }
         ensures same_reference { result.pen.out.ghost_name ≡ pen.entry.out.ghost_name }
         ensures unwritten { result.pen.out.now ≡ pen.entry.out.now }
+        ensures form { result.form ≡ form.entry }
         ensures listing { result.listing ≡ listing }
         ensures frames { result.frames ≡ 0 }
         ensures whole { result.broke_off ≡ false }
@@ -52,6 +62,7 @@ impl<'a, W: Device, K: Sheet> LineSink<'a, W, K> {
             alloc,
             pen,
             sheet: PhantomData,
+            form,
             listing,
             failures: 0,
             broke_off: false,
@@ -99,6 +110,7 @@ impl<'a, W: Device, K: Sheet> LineSink<'a, W, K> {
         requires room { self.old.failures < 2 ^ 64 - 1 }
         ensures kept { OnOk result (self.new.failures ≡ self.old.failures) }
         ensures failed { OnErr result (self.new.failures ≡ self.old.failures + 1) }
+        ensures form { self.new.form ≡ self.old.form }
         ensures listing { self.new.listing ≡ self.old.listing }
         ensures frames { self.new.frames ≡ self.old.frames }
         ensures same_reference { self.new.pen.out.ghost_name ≡ self.old.pen.out.ghost_name }
@@ -124,7 +136,7 @@ impl<'a, W: Device, K: Sheet> LineSink<'a, W, K> {
     ghost use Rattle.std.specs.Prelude.{◌≡◌, ℕ, ◌+◌, ◌-◌, ◌<◌, ◌^◌, Bool, false, List, [], ◌∷◌, ◌++◌, Option, IsTrue, OnOk, OnErr};
     ghost use Rattle.h264_base.specs.Call.{Call, OfUnit, OfSlice, OfElement};
     ghost use Rattle.h264_dpb.specs.Shown.{fits, frame_call};
-    ghost use Rattle.h264_report.specs.Lines.{unit_text, slice_text};
+    ghost use Rattle.h264_report.specs.Objects.{unit_in, slice_in};
     ghost use Rattle.h264_report.specs.Told.{HoldsLines, line_of, counted};
     ghost use Rattle.h264_report.specs.declared.listing.Listing.TheVariants as listings;
 
@@ -136,25 +148,34 @@ impl<'a, W: Device, K: Sheet> LineSink<'a, W, K> {
         nal_ref_idc: u8,
         length: u64,
     ) -> Result<(), Failed>
-        requires line { (n : ℕ) → line_of self.old.listing n (OfUnit byte nal_unit_type nal_ref_idc length) ≡ ended
-            (unit_text byte nal_unit_type nal_ref_idc length) }
+        requires line { (n : ℕ) → line_of (head_of self.old.form) self.old.listing n (OfUnit byte nal_unit_type nal_ref_idc length) ≡ ended
+            (unit_in (head_of self.old.form) byte nal_unit_type nal_ref_idc length) }
         requires uncounted { counted self.old.listing (OfUnit byte nal_unit_type nal_ref_idc length) ≡ 0 }
         requires whole { self.old.broke_off ≡ false }
         requires room { self.old.failures < 2 ^ 64 - 1 }
+        ensures form { self.new.form ≡ self.old.form }
         ensures listing { self.new.listing ≡ self.old.listing }
         ensures same_reference { self.new.pen.out.ghost_name ≡ self.old.pen.out.ghost_name }
         ensures ok { (start : Option (List ℕ)) (was_failed : Bool) (before : List Call) →
-            HoldsLines self.old.listing start was_failed self.old.frames self.old.broke_off (W.has_failed self.old.pen.out.now)
-            (W.contents self.old.pen.out.now) before → OnOk result (HoldsLines self.new.listing start was_failed self.new.frames self.new.broke_off
+            HoldsLines (head_of self.old.form) self.old.listing start was_failed self.old.frames self.old.broke_off (W.has_failed self.old.pen.out.now)
+            (W.contents self.old.pen.out.now) before →
+            OnOk result (HoldsLines (head_of self.new.form) self.new.listing start was_failed self.new.frames self.new.broke_off
             (W.has_failed self.new.pen.out.now) (W.contents self.new.pen.out.now) (before ++ OfUnit byte nal_unit_type nal_ref_idc length ∷ [])) }
         ensures refused { (start : Option (List ℕ)) (was_failed : Bool) (before : List Call) →
-            HoldsLines self.old.listing start was_failed self.old.frames self.old.broke_off (W.has_failed self.old.pen.out.now)
-            (W.contents self.old.pen.out.now) before → OnErr result (HoldsLines self.new.listing start was_failed self.new.frames self.new.broke_off
+            HoldsLines (head_of self.old.form) self.old.listing start was_failed self.old.frames self.old.broke_off (W.has_failed self.old.pen.out.now)
+            (W.contents self.old.pen.out.now) before →
+            OnErr result (HoldsLines (head_of self.new.form) self.new.listing start was_failed self.new.frames self.new.broke_off
             (W.has_failed self.new.pen.out.now) (W.contents self.new.pen.out.now) before) }
         ensures kept { OnOk result (self.new.failures ≡ self.old.failures) }
         ensures failed { OnErr result (self.new.failures ≡ self.old.failures + 1) }
     {
-        let made = unit_line(&mut self.line, byte, nal_unit_type, nal_ref_idc, length);
+        let unit = UnitCall {
+            byte,
+            nal_unit_type,
+            nal_ref_idc,
+            length,
+        };
+        let made = put_unit(&mut self.line, self.form, unit);
         self.put_line(made)
     }
 
@@ -167,33 +188,35 @@ impl<'a, W: Device, K: Sheet> LineSink<'a, W, K> {
         frame_num: u32,
         count: i32,
     ) -> Result<(), Failed>
-        requires line { (n : ℕ) → line_of self.old.listing n (OfSlice byte first_mb_in_slice slice_type frame_num count) ≡ ended
-            (slice_text byte first_mb_in_slice slice_type frame_num count) }
+        requires line { (n : ℕ) → line_of (head_of self.old.form) self.old.listing n (OfSlice byte first_mb_in_slice slice_type frame_num count) ≡ ended
+            (slice_in (head_of self.old.form) byte first_mb_in_slice slice_type frame_num count) }
         requires uncounted { counted self.old.listing (OfSlice byte first_mb_in_slice slice_type frame_num count) ≡ 0 }
         requires whole { self.old.broke_off ≡ false }
         requires room { self.old.failures < 2 ^ 64 - 1 }
+        ensures form { self.new.form ≡ self.old.form }
         ensures listing { self.new.listing ≡ self.old.listing }
         ensures same_reference { self.new.pen.out.ghost_name ≡ self.old.pen.out.ghost_name }
         ensures ok { (start : Option (List ℕ)) (was_failed : Bool) (before : List Call) →
-            HoldsLines self.old.listing start was_failed self.old.frames self.old.broke_off (W.has_failed self.old.pen.out.now)
-            (W.contents self.old.pen.out.now) before → OnOk result (HoldsLines self.new.listing start was_failed self.new.frames self.new.broke_off
+            HoldsLines (head_of self.old.form) self.old.listing start was_failed self.old.frames self.old.broke_off (W.has_failed self.old.pen.out.now)
+            (W.contents self.old.pen.out.now) before →
+            OnOk result (HoldsLines (head_of self.new.form) self.new.listing start was_failed self.new.frames self.new.broke_off
             (W.has_failed self.new.pen.out.now) (W.contents self.new.pen.out.now)
             (before ++ OfSlice byte first_mb_in_slice slice_type frame_num count ∷ [])) }
         ensures refused { (start : Option (List ℕ)) (was_failed : Bool) (before : List Call) →
-            HoldsLines self.old.listing start was_failed self.old.frames self.old.broke_off (W.has_failed self.old.pen.out.now)
-            (W.contents self.old.pen.out.now) before → OnErr result (HoldsLines self.new.listing start was_failed self.new.frames self.new.broke_off
+            HoldsLines (head_of self.old.form) self.old.listing start was_failed self.old.frames self.old.broke_off (W.has_failed self.old.pen.out.now)
+            (W.contents self.old.pen.out.now) before →
+            OnErr result (HoldsLines (head_of self.new.form) self.new.listing start was_failed self.new.frames self.new.broke_off
             (W.has_failed self.new.pen.out.now) (W.contents self.new.pen.out.now) before) }
         ensures kept { OnOk result (self.new.failures ≡ self.old.failures) }
         ensures failed { OnErr result (self.new.failures ≡ self.old.failures + 1) }
     {
-        let made = slice_line(
-            &mut self.line,
+        let slice = SliceCall {
             byte,
             first_mb_in_slice,
             slice_type,
             frame_num,
-            count,
-        );
+        };
+        let made = put_slice(&mut self.line, self.form, slice, count);
         self.put_line(made)
     }
 
@@ -202,20 +225,23 @@ impl<'a, W: Device, K: Sheet> LineSink<'a, W, K> {
         requires listing { self.old.listing ≡ listings.Elements }
         requires whole { self.old.broke_off ≡ false }
         requires room { self.old.failures < 2 ^ 64 - 1 }
+        ensures form { self.new.form ≡ self.old.form }
         ensures listing { self.new.listing ≡ self.old.listing }
         ensures same_reference { self.new.pen.out.ghost_name ≡ self.old.pen.out.ghost_name }
         ensures ok { (start : Option (List ℕ)) (was_failed : Bool) (before : List Call) →
-            HoldsLines self.old.listing start was_failed self.old.frames self.old.broke_off (W.has_failed self.old.pen.out.now)
-            (W.contents self.old.pen.out.now) before → OnOk result (HoldsLines self.new.listing start was_failed self.new.frames self.new.broke_off
+            HoldsLines (head_of self.old.form) self.old.listing start was_failed self.old.frames self.old.broke_off (W.has_failed self.old.pen.out.now)
+            (W.contents self.old.pen.out.now) before →
+            OnOk result (HoldsLines (head_of self.new.form) self.new.listing start was_failed self.new.frames self.new.broke_off
             (W.has_failed self.new.pen.out.now) (W.contents self.new.pen.out.now) (before ++ OfElement name bit value ∷ [])) }
         ensures refused { (start : Option (List ℕ)) (was_failed : Bool) (before : List Call) →
-            HoldsLines self.old.listing start was_failed self.old.frames self.old.broke_off (W.has_failed self.old.pen.out.now)
-            (W.contents self.old.pen.out.now) before → OnErr result (HoldsLines self.new.listing start was_failed self.new.frames self.new.broke_off
+            HoldsLines (head_of self.old.form) self.old.listing start was_failed self.old.frames self.old.broke_off (W.has_failed self.old.pen.out.now)
+            (W.contents self.old.pen.out.now) before →
+            OnErr result (HoldsLines (head_of self.new.form) self.new.listing start was_failed self.new.frames self.new.broke_off
             (W.has_failed self.new.pen.out.now) (W.contents self.new.pen.out.now) before) }
         ensures kept { OnOk result (self.new.failures ≡ self.old.failures) }
         ensures failed { OnErr result (self.new.failures ≡ self.old.failures + 1) }
     {
-        let made = element_line(&mut self.line, name, bit, value);
+        let made = put_element(&mut self.line, self.form, name, bit, value);
         self.put_line(made)
     }
 
@@ -225,15 +251,18 @@ impl<'a, W: Device, K: Sheet> LineSink<'a, W, K> {
         requires inside { IsTrue (fits rectangle frame.now) }
         requires whole { self.old.broke_off ≡ false }
         requires room { self.old.failures < 2 ^ 64 - 1 }
+        ensures form { self.new.form ≡ self.old.form }
         ensures listing { self.new.listing ≡ self.old.listing }
         ensures same_reference { self.new.pen.out.ghost_name ≡ self.old.pen.out.ghost_name }
         ensures ok { (start : Option (List ℕ)) (was_failed : Bool) (before : List Call) →
-            HoldsLines self.old.listing start was_failed self.old.frames self.old.broke_off (W.has_failed self.old.pen.out.now)
-            (W.contents self.old.pen.out.now) before → OnOk result (HoldsLines self.new.listing start was_failed self.new.frames self.new.broke_off
+            HoldsLines (head_of self.old.form) self.old.listing start was_failed self.old.frames self.old.broke_off (W.has_failed self.old.pen.out.now)
+            (W.contents self.old.pen.out.now) before →
+            OnOk result (HoldsLines (head_of self.new.form) self.new.listing start was_failed self.new.frames self.new.broke_off
             (W.has_failed self.new.pen.out.now) (W.contents self.new.pen.out.now) (before ++ frame_call count frame.now rectangle ∷ [])) }
         ensures refused { (start : Option (List ℕ)) (was_failed : Bool) (before : List Call) →
-            HoldsLines self.old.listing start was_failed self.old.frames self.old.broke_off (W.has_failed self.old.pen.out.now)
-            (W.contents self.old.pen.out.now) before → OnErr result (HoldsLines self.new.listing start was_failed self.new.frames self.new.broke_off
+            HoldsLines (head_of self.old.form) self.old.listing start was_failed self.old.frames self.old.broke_off (W.has_failed self.old.pen.out.now)
+            (W.contents self.old.pen.out.now) before →
+            OnErr result (HoldsLines (head_of self.new.form) self.new.listing start was_failed self.new.frames self.new.broke_off
             (W.has_failed self.new.pen.out.now) (W.contents self.new.pen.out.now) before) }
         ensures kept { OnOk result (self.new.failures ≡ self.old.failures) }
         ensures failed { OnErr result (self.new.failures ≡ self.old.failures + 1) }
@@ -241,14 +270,12 @@ impl<'a, W: Device, K: Sheet> LineSink<'a, W, K> {
         if self.frames == u64::MAX {
             return self.fail();
         }
-        let made = frame_line(
-            self.alloc,
-            &mut self.line,
-            self.frames,
-            count,
+        let call = FrameCall {
+            index: self.frames,
             frame,
             rectangle,
-        );
+        };
+        let made = put_frame(self.alloc, &mut self.line, self.form, call, count);
         match self.put_line(made) {
             Ok(()) => {
                 self.frames += 1;
@@ -262,7 +289,7 @@ impl<'a, W: Device, K: Sheet> LineSink<'a, W, K> {
 impl<'a, W: Device, K: Sheet> Elements for LineSink<'a, W, K> {
     ghost use Rattle.h264_report.specs.Told.{TookLines};
 
-    ghost took = { λ s calls. TookLines K.name K.listing K.start K.was_failed s.pen.out.ghost_name s.listing s.frames s.broke_off
+    ghost took = { λ s calls. TookLines K.name K.head K.listing K.start K.was_failed s.pen.out.ghost_name (head_of s.form) s.listing s.frames s.broke_off
         (W.has_failed s.pen.out.now) (W.contents s.pen.out.now) calls };
 
     ghost failures = { λ s. s.failures };

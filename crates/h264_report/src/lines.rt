@@ -34,7 +34,7 @@ pub fn unit_line(
 }
 
 /// The letter of a slice's type.
-fn type_text(slice_type: SliceType) -> &'static str
+pub(crate) fn type_text(slice_type: SliceType) -> &'static str
     ensures { result.now ≡ type_text slice_type }
 {
     match slice_type {

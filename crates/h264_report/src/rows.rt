@@ -143,7 +143,8 @@ pub(crate) fn part_count(frame: &Frame, rectangle: Rectangle) -> usize
 pub(crate) fn part_at(frame: &Frame, rectangle: Rectangle, k: usize) -> &[u8]
     requires fits { IsTrue (fits rectangle frame.now) }
     requires part { k < part_count (shows_all_columns rectangle) (height_in rectangle frame.now) }
-    ensures { result.now ≡ part_at (shows_all_columns rectangle) (width_in rectangle frame.now) (height_in rectangle frame.now) (cropped rectangle frame.now) k }
+    ensures { result.now ≡ part_at (shows_all_columns rectangle) (width_in rectangle frame.now) (height_in rectangle frame.now)
+        (cropped rectangle frame.now) k }
 {
     if shows_all_columns(rectangle) {
         plane_at(frame, rectangle, k)

@@ -18,6 +18,9 @@ pub trait Sheet {
     /// Whether the writer had failed before.
     ghost was_failed: { Bool };
 
+    /// What each object begins with; none where lines are written.
+    ghost head: { Option (List ℕ) };
+
     /// The calls that have lines.
     ghost listing: { Listing };
 }
@@ -31,6 +34,8 @@ impl Sheet for Brand {
     ghost start = { None };
 
     ghost was_failed = { false };
+
+    ghost head = { None };
 
     ghost listing = { listings.Nothing };
 }

@@ -1,7 +1,8 @@
 //! A survey of a stream: what its calls tell of sets, units, slices, pictures and macroblocks.
 //!
-//! `Surveyed` stands around another sink: it notes each call in a `Survey` and hands it on. Promised: the sink inside takes the calls as if it stood
-//! alone, and the survey is safe, total, and never fails a call. What it notes is tested, and not proved. Its memory grows with the pictures alone.
+//! `Surveyed` stands around another sink: it notes each call in a `Survey` and hands it on; `Narrowed` hands on what is chosen alone. Promised: the sink
+//! inside takes the calls as if it stood alone, or what `specs/Chosen.antt` leaves of them; and the survey is safe, total, and never fails a call. What it
+//! notes is tested, and not proved. Its memory grows with the pictures alone.
 #![tactic(auto)]
 
 pub mod counts;
@@ -10,6 +11,7 @@ pub mod meter;
 pub mod narrowed;
 pub mod notes;
 pub mod picture;
+pub mod reading;
 pub mod sequence;
 pub mod surveyed;
 
@@ -19,5 +21,6 @@ pub use meter::{Meter, NoMeter};
 pub use narrowed::{Choice, Narrowed};
 pub use notes::{Slice, Survey, Unit};
 pub use picture::{Picture, PictureKind};
+pub use reading::{Reach, Reading};
 pub use sequence::{Cropping, PictureSet, Sequence, Timing};
 pub use surveyed::Surveyed;

@@ -2,6 +2,7 @@
 #![tactic(auto)]
 
 ghost use Rattle.std.specs.Prelude.{◌≡◌, ◌-◌, ◌<◌, ◌^◌, ◌⊎◌, true, false, List, Some, Err, map, string_bytes};
+ghost use Rattle.h264_base.specs.Call.{HasRoom};
 ghost use Rattle.clap.specs.Words.{Text, takes, kind_of};
 ghost use Rattle.clap.specs.declared.error.kind.ErrorKind.TheVariants as kinds;
 ghost use Rattle.h264_base.specs.declared.mode.Mode.TheVariants as modes;
@@ -51,7 +52,7 @@ fn perform<R: Source, W: Device, E: Device>(
     out: &mut W,
     err: &mut E,
 ) -> Ending
-    requires room { R.failures source.old < 2 ^ 64 - 1 }
+    requires room { HasRoom R.failures source.old }
     requires judging { is_judging task ≡ true }
     ensures excused { IsExcused (HasFailedToRead (R.failures source.old) (R.failures source.new) (R.was_read source.old) (R.was_read source.new))
         (HasReadAll (R.failures source.old) (R.failures source.new)) result.answer result.written
@@ -147,7 +148,7 @@ fn serve<F: Files, W: Device, E: Device>(
     out: &mut W,
     err: &mut E,
 ) -> u8
-    requires room { F.failures files.old < 2 ^ 64 - 1 }
+    requires room { HasRoom F.failures files.old }
     requires judging { is_judging request.task ≡ true }
     ensures { (words : List Text) → asks program words ≡ Some (name_of request.entry.task, Some request.entry.file.now) →
         Comes words (λ name. F.holds files.old name) (HasFailedToRead (F.failures files.old) (F.failures files.new) (F.was_read files.old)
@@ -171,7 +172,7 @@ pub fn command<'a, F: Files, W: Device, E: Device>(
     out: &mut W,
     err: &mut E,
 ) -> Outcome<'a>
-    requires { F.failures files.old < 2 ^ 64 - 1 }
+    requires { HasRoom F.failures files.old }
     ensures { ComesTo (map (λ w. string_bytes w) words.now) (λ name. F.holds files.old name)
         (HasFailedToRead (F.failures files.old) (F.failures files.new) (F.was_read files.old) (F.was_read files.new))
         (HasReadAll (F.failures files.old) (F.failures files.new)) result

@@ -2,6 +2,7 @@
 #![tactic(auto)]
 
 ghost use Rattle.std.specs.Prelude.{◌≡◌, ℕ, ◌+◌, ◌-◌, ◌<◌, ◌≤◌, ◌⊎◌, ◌^◌, true, false, List, Option, None, Some, Ok, IfOk, IfErr, OnOk, OnErr};
+ghost use Rattle.h264_base.specs.Call.{HasRoom, IsQuiet};
 ghost use Rattle.std.specs.IoError.{error_kind, kind_in, os_error_kinds};
 ghost use Rattle.std.specs.Io.KnownBytes.{Keeps};
 ghost use Rattle.h264v.specs.Files.{left_of};
@@ -34,10 +35,10 @@ pub trait Files: Source {
     ///
     /// Failed: it can't be opened.
     fn open(&mut self, name: &str) -> Result<(), Failed>
-        requires { Self.failures self.old < 2 ^ 64 - 1 }
+        requires { HasRoom Self.failures self.old }
         ensures opened { OnOk result (Keeps (holds self.old name.now) (Self.left self.new)) }
         ensures reads { OnOk result ((n : ℕ) → Self.was_read self.old n → Self.was_read self.new n) }
-        ensures kept { OnOk result (Self.failures self.new ≡ Self.failures self.old) }
+        ensures kept { OnOk result (IsQuiet Self.failures self.old self.new) }
         ensures failed { OnErr result (Self.failures self.new ≡ Self.failures self.old + 1) };
 }
 

@@ -2,22 +2,22 @@
 #![tactic(auto)]
 
 ghost use Rattle.std.specs.Prelude.{◌≡◌, ◌-◌, ◌<◌, ◌^◌};
+ghost use Rattle.h264_base.specs.Call.{HasRoom};
 
 use crate::command_line::Task;
 use crate::explaining::guide_of;
 use crate::files::{OpenedFiles, Opener, Seen};
 use crate::options::Options;
-use crate::watching::watch;
 use h264_base::{Mode, Stop};
 use h264_report::head::Head;
 use h264_report::pages::{
-    Answer, Finding, Page, Sheets, put_answer_fields, put_explanation, put_info, put_info_object,
-    put_page, put_verdict_fields,
+    Album, Answer, Finding, Page, Sheets, put_answer_fields, put_explanation, put_info,
+    put_info_object, put_page, put_verdict_fields,
 };
 use h264_report::survey::{Meter, Narrowed, Survey, Surveyed};
 use h264_report::{
-    Device, Ending, JsonSink, LineSink, Listing, PageSink, Pen, TrailSink, Y4mSink, YuvSink,
-    told_answer, verdict_line,
+    Device, Ending, Form, LineSink, Listing, PageSink, Pen, TrailSink, WriteDevice, Y4mSink,
+    YuvSink, told_answer, verdict_line,
 };
 use h264_verify::{FrameSink, run};
 use std::alloc::Global;
@@ -74,7 +74,7 @@ fn judge<S: FrameSink + Drop, O: Opener + Drop, M: Meter + Drop>(
     sink: S,
     meter: M,
 ) -> Option<(Surveyed<S, M>, Answer)>
-    requires sink { S.failures sink < 2 ^ 64 - 1 }
+    requires sink { HasRoom S.failures sink }
     requires source { files.old.failures < 2 ^ 64 - 1 }
 {
     let Ok(survey) = Survey::new(job.alloc) else {
@@ -130,37 +130,18 @@ pub fn check_file<O: Opener + Drop, M: Meter + Drop>(
     })
 }
 
-/// Judges the open file with a line for each call of the task's listing.
-fn list_lines<O: Opener + Drop, W: Device, M: Meter + Drop>(
+/// Judges the open file with a line, or an object, for each call of the task's listing.
+fn list_all<O: Opener + Drop, W: Device, M: Meter + Drop>(
     job: &Job<'_>,
     files: &mut OpenedFiles<O>,
     out: &mut W,
+    form: Form<'_>,
     meter: M,
 ) -> Option<Found>
     requires { files.old.failures < 2 ^ 64 - 1 }
 {
     let pen = Pen { out };
-    let sink: LineSink<'_, W, Brand> = LineSink::new(job.alloc, listing_of(job), pen);
-    let (surveyed, answer) = judge(job, files, sink, meter)?;
-    let Surveyed { sink, survey, .. } = surveyed;
-    Some(Found {
-        answer: told_answer(answer, sink.broke_off()),
-        survey,
-        seen: files.seen,
-        before: String::new(job.alloc),
-    })
-}
-
-/// Judges the open file with an object for each call of the task's listing.
-fn list_objects<O: Opener + Drop, W: Device, M: Meter + Drop>(
-    job: &Job<'_>,
-    files: &mut OpenedFiles<O>,
-    out: &mut W,
-    meter: M,
-) -> Option<Found>
-    requires { files.old.failures < 2 ^ 64 - 1 }
-{
-    let sink = JsonSink::new(job.alloc, listing_of(job), job.file, out);
+    let sink: LineSink<'_, W, Brand> = LineSink::new(job.alloc, listing_of(job), form, pen);
     let (surveyed, answer) = judge(job, files, sink, meter)?;
     let Surveyed { sink, survey, .. } = surveyed;
     Some(Found {
@@ -177,52 +158,29 @@ fn judge_chosen<S: FrameSink + Drop, O: Opener + Drop>(
     files: &mut OpenedFiles<O>,
     sink: S,
 ) -> Option<(Narrowed<S>, Answer)>
-    requires sink { S.failures sink < 2 ^ 64 - 1 }
+    requires sink { HasRoom S.failures sink }
     requires source { files.old.failures < 2 ^ 64 - 1 }
 {
     let Ok(survey) = Survey::new(job.alloc) else {
         return None;
     };
-    let mut narrowed = Narrowed {
-        sink,
-        survey,
-        choice: job.options.choice,
-        pending: None,
-    };
+    let mut narrowed = Narrowed::new(sink, survey, job.options.choice);
     let (mode, target) = (mode_of(job.task), job.options.target);
     let answer = run(job.alloc, files, &mut narrowed, mode, target);
     Some((narrowed, answer))
 }
 
-/// Judges the open file with a line for each element that is chosen.
-fn chosen_lines<O: Opener + Drop, W: Device>(
+/// Judges the open file with a line, or an object, for each element that is chosen.
+fn list_chosen<O: Opener + Drop, W: Device>(
     job: &Job<'_>,
     files: &mut OpenedFiles<O>,
     out: &mut W,
+    form: Form<'_>,
 ) -> Option<Found>
     requires { files.old.failures < 2 ^ 64 - 1 }
 {
     let pen = Pen { out };
-    let sink: LineSink<'_, W, Brand> = LineSink::new(job.alloc, listing_of(job), pen);
-    let (narrowed, answer) = judge_chosen(job, files, sink)?;
-    let Narrowed { sink, survey, .. } = narrowed;
-    Some(Found {
-        answer: told_answer(answer, sink.broke_off()),
-        survey,
-        seen: files.seen,
-        before: String::new(job.alloc),
-    })
-}
-
-/// Judges the open file with an object for each element that is chosen.
-fn chosen_objects<O: Opener + Drop, W: Device>(
-    job: &Job<'_>,
-    files: &mut OpenedFiles<O>,
-    out: &mut W,
-) -> Option<Found>
-    requires { files.old.failures < 2 ^ 64 - 1 }
-{
-    let sink = JsonSink::new(job.alloc, listing_of(job), job.file, out);
+    let sink: LineSink<'_, W, Brand> = LineSink::new(job.alloc, listing_of(job), form, pen);
     let (narrowed, answer) = judge_chosen(job, files, sink)?;
     let Narrowed { sink, survey, .. } = narrowed;
     Some(Found {
@@ -242,12 +200,20 @@ pub fn list_file<O: Opener + Drop, W: Device, M: Meter + Drop>(
 ) -> Option<Found>
     requires { files.old.failures < 2 ^ 64 - 1 }
 {
-    match (job.options.choice.is_some(), job.options.json) {
-        (false, false) => list_lines(job, files, out, meter),
-        (false, true) => list_objects(job, files, out, meter),
-        (true, false) => chosen_lines(job, files, out),
-        (true, true) => chosen_objects(job, files, out),
+    let mut head = Page::new(job.alloc);
+    let form = if job.options.json {
+        head.begin_object(job.file);
+        Form::Objects(head.as_str())
+    } else {
+        Form::Lines
+    };
+    if head.is_short() {
+        return None;
     }
+    if job.options.choice.is_some() {
+        return list_chosen(job, files, out, form);
+    }
+    list_all(job, files, out, form, meter)
 }
 
 /// Judges the open file, and writes the samples of its frames.
@@ -482,8 +448,16 @@ pub fn put_unjudged<W: Write>(job: &Job<'_>, out: &mut W, stop: Stop) -> Ending 
     }
 }
 
+/// What is kept of the frames for a page.
+#[derive(Clone, Copy)]
+struct Kept<'a> {
+    album: &'a Album,
+    /// The lines of the frames.
+    digests: &'a str,
+}
+
 /// Adds the page of a file that was judged.
-fn put_report(job: &Job<'_>, page: &mut Page, found: &Found, sink: &PageSink) {
+fn put_report(job: &Job<'_>, page: &mut Page, found: &Found, kept: &Kept<'_>) {
     let mut explanation = Page::new(job.alloc);
     put_explanation(
         job.alloc,
@@ -497,7 +471,7 @@ fn put_report(job: &Job<'_>, page: &mut Page, found: &Found, sink: &PageSink) {
         page.give_up();
         return;
     };
-    if explanation.is_short() || sink.is_short() || found.survey.is_short() {
+    if explanation.is_short() || kept.album.is_short() || found.survey.is_short() {
         page.give_up();
     }
     let sheets = Sheets {
@@ -506,9 +480,42 @@ fn put_report(job: &Job<'_>, page: &mut Page, found: &Found, sink: &PageSink) {
         finding: finding_of(found),
         verdict: verdict.as_str(),
         explanation: explanation.as_str(),
-        digests: sink.digests(),
+        digests: kept.digests,
     };
-    put_page(job.alloc, page, &found.survey, sink.album(), &sheets);
+    put_page(job.alloc, page, &found.survey, kept.album, &sheets);
+}
+
+/// Judges the open file, keeps pictures of its frames, and writes their lines. None where memory is wanting, or where the device fails.
+fn judge_pictures<O: Opener + Drop, W: Device, M: Meter + Drop>(
+    job: &Job<'_>,
+    files: &mut OpenedFiles<O>,
+    lines: &mut W,
+    meter: M,
+) -> Option<(Found, Album)>
+    requires { files.old.failures < 2 ^ 64 - 1 }
+{
+    let pen = Pen { out: lines };
+    let digests: LineSink<'_, W, Brand> = LineSink::new(
+        job.alloc,
+        Listing::Frames,
+        Form::Lines,
+        pen,
+    );
+    let sink = PageSink {
+        sink: digests,
+        album: Album::new(job.alloc),
+    };
+    let (surveyed, answer) = judge(job, files, sink, meter)?;
+    let Surveyed { sink, survey, .. } = surveyed;
+    let PageSink { sink, album } = sink;
+    let is_whole = !sink.broke_off() && sink.failures == 0;
+    let found = Found {
+        answer,
+        survey,
+        seen: files.seen,
+        before: String::new(job.alloc),
+    };
+    if is_whole { Some((found, album)) } else { None }
 }
 
 /// Judges the open file, and writes a page on it.
@@ -520,25 +527,15 @@ pub fn report_file<O: Opener + Drop, W: Device, M: Meter + Drop>(
 ) -> Option<Found>
     requires { files.old.failures < 2 ^ 64 - 1 }
 {
-    let Ok(survey) = Survey::new(job.alloc) else {
-        return None;
-    };
-    let mut surveyed = Surveyed {
-        sink: PageSink::new(job.alloc),
-        survey,
-        meter,
-    };
-    let answer = watch(job.alloc, files, &mut surveyed, job.options.target);
-    tell_end(&mut surveyed);
-    let Surveyed { sink, survey, .. } = surveyed;
-    let mut found = Found {
-        answer,
-        survey,
-        seen: files.seen,
-        before: String::new(job.alloc),
-    };
+    let mut lines = WriteDevice::new(Vec::new(job.alloc));
+    let (mut found, album) = judge_pictures(job, files, &mut lines, meter)?;
+    let digests = str::from_utf8(lines.writer.as_slice()).ok()?;
     let mut page = Page::new(job.alloc);
-    put_report(job, &mut page, &found, &sink);
+    let kept = Kept {
+        album: &album,
+        digests,
+    };
+    put_report(job, &mut page, &found, &kept);
     if page.is_short() {
         return None;
     }

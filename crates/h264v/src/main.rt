@@ -40,7 +40,6 @@ mod stream_tests;
 mod target_tests;
 #[cfg(test)]
 mod tests;
-mod watching;
 mod words;
 
 use files::{OpenedFiles, Opener};

@@ -123,8 +123,7 @@ fn macroblock_of(address: u64, width: u64) -> Macroblock {
 
 /// The macroblock that was begun last in the slice that is read.
 fn macroblock_read(survey: &Survey) -> Option<Macroblock> {
-    let slice = survey.slice()?;
-    let address = slice.macroblock?;
+    let address = survey.macroblock()?;
     let set = survey.sequence()?;
     Some(macroblock_of(address, set.width))
 }

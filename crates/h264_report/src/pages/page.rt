@@ -34,11 +34,6 @@ impl Page {
         self.text.as_str()
     }
 
-    /// Lets go of the text, and keeps its memory.
-    pub fn clear(&mut self) {
-        self.text.clear();
-    }
-
     /// Adds a text.
     pub fn put(&mut self, text: &str) {
         if self.text.push_str(text).is_err() {
@@ -149,10 +144,15 @@ impl Page {
         }
     }
 
-    /// Begins an object of JSON: its file and its kind.
-    pub fn open_object(&mut self, file: &str, kind: &str) {
+    /// Begins an object of JSON with its file.
+    pub fn begin_object(&mut self, file: &str) {
         self.put("{\"file\":");
         self.quoted(file);
+    }
+
+    /// Begins an object of JSON with its file and its kind.
+    pub fn open_object(&mut self, file: &str, kind: &str) {
+        self.begin_object(file);
         self.text_field("kind", kind);
     }
 

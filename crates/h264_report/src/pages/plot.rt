@@ -1,7 +1,7 @@
 //! The plots of a page, in SVG.
 #![tactic(auto)]
 
-ghost use Rattle.std.specs.Prelude.{◌≡◌, ◌+◌, ◌/◌, ◌<◌};
+ghost use Rattle.std.specs.Prelude.{◌≡◌, ◌+◌, ◌*◌, ◌/◌, ◌<◌, ◌≤◌};
 
 use crate::pages::page::Page;
 use crate::survey::{Picture, PictureKind};
@@ -85,9 +85,11 @@ fn largest_of(pictures: &[Picture]) -> Option<Picture> {
     found
 }
 
-/// How many pictures a bar stands for.
+/// How many pictures a bar stands for, so that the bars are few, and no fewer than that takes.
 pub fn pictures_a_bar(pictures: usize) -> usize
-    ensures { 0 < result }
+    ensures some { 0 < result }
+    ensures few { pictures < 500 * result }
+    ensures fine { 500 * result ≤ pictures + 500 }
 {
     pictures / MOST_BARS + 1
 }

@@ -1,6 +1,9 @@
 //! An element that was read, and what its value is as a count.
 #![tactic(auto)]
 
+ghost use Rattle.std.specs.Prelude.{◌≡◌};
+ghost use Rattle.h264_report.specs.Chosen.{count_in};
+
 use h264_base::ElementName;
 
 /// A syntax element that was read.
@@ -13,7 +16,9 @@ pub struct ReadElement {
 }
 
 /// A value that is never negative, as a count; 0 for a negative one.
-pub fn count_of(value: i64) -> u64 {
+pub fn count_of(value: i64) -> u64
+    ensures { result ≡ count_in value }
+{
     match u64::try_from(value) {
         Ok(count) => count,
         Err(_) => 0,

@@ -1,7 +1,14 @@
 //! A sink that is told one picture or one macroblock alone.
 #![tactic(auto)]
 
-use crate::survey::notes::{Survey, Unit};
+ghost use Rattle.std.specs.Prelude.{◌≡◌, ℕ, ◌+◌, ◌-◌, ◌<◌, ◌^◌, OnOk, OnErr};
+ghost use Rattle.std.specs.Prelude.{[]};
+ghost use Rattle.h264_base.specs.Call.{HasRoom, IsQuiet, Tells};
+ghost use Rattle.h264_report.specs.Chosen.{held, is_chosen, has_picture, has_macroblock, TookChosen, after_element};
+
+use crate::objects::UnitCall;
+use crate::survey::notes::Survey;
+use crate::survey::reading::Reading;
 use h264_base::{ElementName, Elements, Failed, SliceType};
 use h264_dpb::{FrameOut, Rectangle};
 use h264_plane::Frame;
@@ -23,70 +30,138 @@ impl Choice {
     }
 
     /// Whether the picture that is read is chosen.
-    fn has_picture(&self, survey: &Survey) -> bool {
+    fn has_picture(&self, reading: Reading) -> bool
+        ensures { result ≡ has_picture self.now.picture reading }
+    {
         match self.picture {
             Some(number) => {
-                survey.slice().is_some() && survey.picture_count().checked_sub(1) == Some(number)
+                reading.reach.is_some() && reading.pictures > 0 && reading.pictures - 1 == number
             }
             None => true,
         }
     }
 
     /// Whether the macroblocks that were begun last are chosen.
-    fn has_macroblock(&self, survey: &Survey) -> bool {
+    fn has_macroblock(&self, reading: Reading) -> bool
+        ensures { result ≡ has_macroblock self.now.macroblock reading }
+    {
         let Some(address) = self.macroblock else {
             return true;
         };
-        let Some(slice) = survey.slice() else {
+        let Some(reach) = reading.reach else {
             return false;
         };
-        match slice.macroblock {
-            Some(first) => first <= address && address < slice.next_macroblock,
+        match reach.macroblock {
+            Some(first) => first <= address && address < reach.next,
             None => false,
         }
     }
+
+    /// Whether what is read is chosen.
+    fn is_chosen(&self, reading: Reading) -> bool
+        ensures { result ≡ is_chosen self.now reading }
+    {
+        self.has_picture(reading) && self.has_macroblock(reading)
+    }
 }
 
-/// Hands to the sink inside what is chosen of the elements, each unit of them before the first, and no frames.
+/// Hands to the sink inside what is chosen of the elements, each unit of them before the first, and no frames. Once the sink inside failed, each call fails,
+/// and it is told nothing more.
 #[derive(Drop)]
 pub struct Narrowed<S: FrameSink + Drop> {
     pub sink: S,
     pub survey: Survey,
+    pub reading: Reading,
     pub choice: Choice,
     /// The unit whose elements come, until the first is handed on.
-    pub pending: Option<Unit>,
+    pub pending: Option<UnitCall>,
+    /// Whether the sink inside has failed.
+    pub broke_off: bool,
+    /// How many calls failed since then.
+    pub failures: u64,
 }
 
 impl<S: FrameSink + Drop> Narrowed<S> {
-    /// Whether what is read is chosen.
-    fn is_chosen(&self) -> bool {
-        self.choice.has_picture(&self.survey) && self.choice.has_macroblock(&self.survey)
+    /// A sink that was told nothing, round this one.
+    pub fn new(sink: S, survey: Survey, choice: Choice) -> Narrowed<S>
+        ensures quiet { result.failures + S.failures result.sink ≡ S.failures sink }
+        ensures sink { result.sink ≡ sink }
+        ensures choice { result.choice ≡ choice }
+        ensures took { S.took sink [] → TookChosen S.took result.choice result.broke_off result.reading result.pending result.sink [] }
+    {
+        Narrowed {
+            sink,
+            survey,
+            reading: Reading::new(),
+            choice,
+            pending: None,
+            broke_off: false,
+            failures: 0,
+        }
+    }
+
+    /// Counts a call that fails since the sink inside has failed.
+    fn fail(&mut self) -> Result<(), Failed>
+        requires { self.old.failures < 2 ^ 64 - 1 }
+        ensures err { OnOk result ⊥ }
+        ensures others { self.new ≡ record self.old { failures = self.old.failures + 1 } }
+    {
+        self.failures += 1;
+        Err(Failed)
+    }
+}
+
+/// Hands a unit to a sink, where there is one.
+fn put_pending<S: FrameSink>(sink: &mut S, pending: Option<UnitCall>) -> Result<(), Failed>
+    requires { HasRoom S.failures sink.old }
+    ensures ok { OnOk result (Tells S.took sink.old sink.new (held pending)) }
+    ensures kept { OnOk result (IsQuiet S.failures sink.old sink.new) }
+    ensures refused { OnErr result (Tells S.took sink.old sink.new []) }
+    ensures failed { OnErr result (S.failures sink.new ≡ S.failures sink.old + 1) }
+{
+    match pending {
+        Some(unit) => sink.unit(unit.byte, unit.nal_unit_type, unit.nal_ref_idc, unit.length),
+        None => Ok(()),
     }
 }
 
 impl<S: FrameSink + Drop> Elements for Narrowed<S> {
-    ghost took = { λ _ _. Unit {0} };
+    ghost took = { λ s calls. TookChosen S.took s.choice s.broke_off s.reading s.pending s.sink calls };
 
-    ghost failures = { λ s. S.failures s.sink };
+    ghost failures = { λ s. s.failures + S.failures s.sink };
 
     fn element(&mut self, name: ElementName, bit: u64, value: i64) -> Result<(), Failed> {
+        if self.broke_off {
+            return self.fail();
+        }
         self.survey.note_element(name, bit, value);
-        if !self.is_chosen() {
+        self.reading.note_element(name, value);
+        if !self.choice.is_chosen(self.reading) {
             return Ok(());
         }
-        if let Some(unit) = self.pending {
-            self.pending = None;
-            match self.sink.unit(unit.byte, unit.nal_unit_type, unit.nal_ref_idc, unit.length) {
-                Ok(()) => {}
-                Err(Failed) => return Err(Failed),
+        match put_pending(&mut self.sink, self.pending) {
+            Ok(()) => {}
+            Err(Failed) => {
+                self.broke_off = true;
+                return Err(Failed);
             }
         }
-        self.sink.element(name, bit, value)
+        self.pending = None;
+        match self.sink.element(name, bit, value) {
+            Ok(()) => Ok(()),
+            Err(Failed) => {
+                self.broke_off = true;
+                Err(Failed)
+            }
+        }
     }
 }
 
 impl<S: FrameSink + Drop> FrameOut for Narrowed<S> {
     fn frame(&mut self, _count: i32, _frame: &Frame, _rectangle: Rectangle) -> Result<(), Failed> {
+        if self.broke_off {
+            return self.fail();
+        }
         self.survey.note_frame();
         Ok(())
     }
@@ -100,9 +175,18 @@ impl<S: FrameSink + Drop> FrameSink for Narrowed<S> {
         nal_ref_idc: u8,
         length: u64,
     ) -> Result<(), Failed> {
+        if self.broke_off {
+            return self.fail();
+        }
         self.survey
             .note_unit(byte, nal_unit_type, nal_ref_idc, length);
-        self.pending = self.survey.unit();
+        self.reading.note_unit();
+        self.pending = Some(UnitCall {
+            byte,
+            nal_unit_type,
+            nal_ref_idc,
+            length,
+        });
         Ok(())
     }
 
@@ -114,10 +198,24 @@ impl<S: FrameSink + Drop> FrameSink for Narrowed<S> {
         frame_num: u32,
         count: i32,
     ) -> Result<(), Failed> {
-        if self.pending.is_some() || !self.is_chosen() {
+        if self.broke_off {
+            return self.fail();
+        }
+        if self.pending.is_some() {
             return Ok(());
         }
-        self.sink
+        if !self.choice.is_chosen(self.reading) {
+            return Ok(());
+        }
+        match self
+            .sink
             .slice(byte, first_mb_in_slice, slice_type, frame_num, count)
+        {
+            Ok(()) => Ok(()),
+            Err(Failed) => {
+                self.broke_off = true;
+                Err(Failed)
+            }
+        }
     }
 }

@@ -4,6 +4,7 @@
 use crate::survey::counts::MacroblockCounts;
 use crate::survey::element::{ReadElement, count_of};
 use crate::survey::picture::{Picture, PictureKind};
+use crate::survey::reading::Reading;
 use crate::survey::sequence::{PictureSet, Sequence};
 use circular_buffer::HeapCircularBuffer;
 use h264_base::{ElementName, SliceType};
@@ -53,10 +54,6 @@ pub struct Slice {
     pub frame_num: Option<u64>,
     /// Its number in its picture, from 0.
     pub number: u64,
-    /// The address that the next macroblock has.
-    pub next_macroblock: u64,
-    /// The address of the macroblock that was begun last.
-    pub macroblock: Option<u64>,
 }
 
 /// What the calls of a stream tell.
@@ -67,6 +64,8 @@ pub struct Survey {
     pub(crate) units: u64,
     pub(crate) unit: Option<Unit>,
     pub(crate) slice: Option<Slice>,
+    /// How far the stream was read.
+    reading: Reading,
     /// The sequence parameter set that is read, where the unit is one.
     pub(crate) sequence: Option<Sequence>,
     pub(crate) picture_set: Option<PictureSet>,
@@ -91,6 +90,7 @@ impl Survey {
             units: 0,
             unit: None,
             slice: None,
+            reading: Reading::new(),
             sequence: None,
             picture_set: None,
             sequences: Vec::new(alloc),
@@ -120,6 +120,7 @@ impl Survey {
     pub fn note_unit(&mut self, byte: u64, nal_unit_type: u8, nal_ref_idc: u8, length: u64) {
         self.keep_sets();
         self.slice = None;
+        self.reading.note_unit();
         self.unit = Some(Unit {
             byte,
             nal_unit_type,
@@ -153,6 +154,7 @@ impl Survey {
     /// Notes an element.
     pub fn note_element(&mut self, name: ElementName, bit: u64, value: i64) {
         let _ = self.elements.push_back(ReadElement { name, bit, value });
+        self.reading.note_element(name, value);
         if let Some(sequence) = &mut self.sequence {
             sequence.note(name, value);
             return;
@@ -217,8 +219,6 @@ impl Survey {
             pic_parameter_set_id: None,
             frame_num: None,
             number,
-            next_macroblock: first,
-            macroblock: None,
         });
     }
 
@@ -286,23 +286,24 @@ impl Survey {
     /// Notes mb_skip_run: so many macroblocks are skipped.
     fn skip_macroblocks(&mut self, run: u64) {
         self.macroblocks.skip(run);
-        if let Some(slice) = &mut self.slice {
-            if run > 0 {
-                slice.macroblock = Some(slice.next_macroblock);
-                slice.next_macroblock = slice.next_macroblock.saturating_add(run);
-                self.coded = slice.next_macroblock;
-            }
-        }
+        self.note_coded();
     }
 
     /// Notes mb_type: a macroblock begins.
     fn begin_macroblock(&mut self, mb_type: u64) {
-        if let Some(slice) = &mut self.slice {
-            slice.macroblock = Some(slice.next_macroblock);
-            slice.next_macroblock = slice.next_macroblock.saturating_add(1);
-            self.coded = slice.next_macroblock;
+        if let Some(slice) = self.slice {
             let slice_type = slice.slice_type.unwrap_or(SliceType::I);
             self.macroblocks.add(slice_type, mb_type);
+        }
+        self.note_coded();
+    }
+
+    /// Notes the address after the last macroblock that was read.
+    fn note_coded(&mut self) {
+        if let Some(reach) = self.reading.reach {
+            if reach.macroblock.is_some() {
+                self.coded = reach.next;
+            }
         }
     }
 }
@@ -357,6 +358,14 @@ impl Survey {
     /// The slice that is read, where the unit is one and its first element was read.
     pub fn slice(&self) -> Option<Slice> {
         self.slice
+    }
+
+    /// The address of the macroblock that was begun last in the slice that is read, the first one of a run that is skipped.
+    pub fn macroblock(&self) -> Option<u64> {
+        match self.reading.reach {
+            Some(reach) => reach.macroblock,
+            None => None,
+        }
     }
 
     /// The pictures, in decoding order.

@@ -62,4 +62,9 @@ impl<S: FrameSink + Drop, M: Meter + Drop> FrameSink for Surveyed<S, M> {
         self.sink
             .slice(byte, first_mb_in_slice, slice_type, frame_num, count)
     }
+
+    fn note_places_taken(&mut self, places: usize) {
+        self.survey.note_places_taken(places as u64);
+        self.sink.note_places_taken(places);
+    }
 }

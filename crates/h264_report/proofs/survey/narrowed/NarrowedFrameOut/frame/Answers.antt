@@ -1,0 +1,10 @@
+use Rattle.std.proofs.Common.{refl}
+use Rattle.h264_dpb.specs.Shown.{frame_call}
+use Rattle.h264_report.proofs.Choosing.{took-none}
+use Rattle.h264_report.proofs.survey.narrowed.NarrowedFrameOut.frame.Goals as goal
+
+pub returns-clause-ok : goal.returns-clause-ok
+returns-clause-ok g c =
+    let call = frame_call c.args._count c.args._frame.now c.args._rectangle in
+    let s = c.args.self.now in
+    rw c.if-self.false (record { told = λ before h. took-none g.S.Elements.took s.choice s.reading s.reading s.pending s.pending s.sink before call refl refl h })

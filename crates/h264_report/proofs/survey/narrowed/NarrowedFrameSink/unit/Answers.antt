@@ -1,0 +1,10 @@
+use Rattle.std.proofs.Common.{refl}
+use Rattle.h264_base.specs.Call.{OfUnit}
+use Rattle.h264_report.proofs.Choosing.{took-none}
+use Rattle.h264_report.proofs.survey.narrowed.NarrowedFrameSink.unit.Goals as goal
+
+pub returns-clause-ok : goal.returns-clause-ok
+returns-clause-ok g c =
+    let call = OfUnit c.args.byte c.args.nal_unit_type c.args.nal_ref_idc c.args.length in
+    let s = c.args.self.now in
+    rw (c.if-self.false, c.note_unit-2.ensures) (record { told = λ before h. took-none g.S.Elements.took s.choice s.reading _ s.pending _ s.sink before call refl refl h })

@@ -1,0 +1,130 @@
+-- Which calls of a stream are left where one picture or one macroblock is chosen. To be read beside docs/OUTPUT.md.
+use Rattle.std.specs.Prelude.{ℕ, ◌+◌, ◌-◌, ◌^◌, ◌==◌, ◌&&◌, Bool, true, false, not, nat_lt, nat_le, if◌then◌else◌, List, [], ◌∷◌, ◌++◌}
+use Rattle.std.specs.Prelude.{ℤ, pos, negsuc, Option, None, Some, ◌≡◌, min, option_map, is_some}
+use Rattle.h264_base.specs.Call.{Call, OfUnit, OfSlice, OfElement, OfFrame}
+use Rattle.h264_base.specs.declared.element_name.ElementName.{ElementName}
+use Rattle.h264_base.specs.declared.element_name.ElementName.TheVariants as names
+use Rattle.h264_report.specs.declared.survey.reading.Reading.{Reading}
+use Rattle.h264_report.specs.declared.survey.reading.Reach.{Reach}
+use Rattle.h264_report.specs.declared.survey.narrowed.Choice.{Choice}
+use Rattle.h264_report.specs.declared.objects.UnitCall.{UnitCall}
+
+-- a value as a count; 0 for one below 0
+abbrev pub count_in : ℤ → ℕ
+count_in (pos n) = n
+count_in (negsuc n) = 0
+
+-- so many more, counted in 64 bits
+abbrev pub grown : ℕ → ℕ → ℕ
+grown n k = min (n + k) (2 ^ 64 - 1)
+
+-- a run of macroblocks that are skipped
+abbrev pub after_run : ℕ → Reach → Reach
+after_run run reach = if run == 0 then reach else record { macroblock = Some reach.next; next = grown reach.next run }
+
+-- a macroblock that begins
+abbrev pub after_type : Reach → Reach
+after_type reach = record { macroblock = Some reach.next; next = grown reach.next 1 }
+
+-- a slice that begins; the one of macroblock 0 begins a picture
+abbrev pub after_first : ℕ → Reading → Reading
+after_first first reading = record {
+  pictures = if first == 0 then grown reading.pictures 1 else reading.pictures;
+  reach = Some (record { macroblock = None; next = first });
+}
+
+unfoldable pub after_element : ElementName → ℤ → Reading → Reading
+after_element names.FirstMbInSlice v reading = after_first (count_in v) reading
+after_element names.MbSkipRun v reading = record reading { reach = option_map (after_run (count_in v)) reading.reach }
+after_element names.MbType v reading = record reading { reach = option_map after_type reading.reach }
+after_element name v reading = reading
+
+-- ---- which calls are left
+
+-- the picture of this number in decoding order, from 0; any where there is none
+abbrev pub has_picture : Option ℕ → Reading → Bool
+has_picture None reading = true
+has_picture (Some number) reading = is_some reading.reach && (reading.pictures == number + 1)
+
+abbrev pub has_address : ℕ → ℕ → Option ℕ → Bool
+has_address address next None = false
+has_address address next (Some first) = nat_le first address && nat_lt address next
+
+abbrev pub reaches : ℕ → Option Reach → Bool
+reaches address None = false
+reaches address (Some reach) = has_address address reach.next reach.macroblock
+
+-- the macroblock of this address; any where there is none
+abbrev pub has_macroblock : Option ℕ → Reading → Bool
+has_macroblock None reading = true
+has_macroblock (Some address) reading = reaches address reading.reach
+
+abbrev pub is_chosen : Choice → Reading → Bool
+is_chosen choice reading = has_picture choice.picture reading && has_macroblock choice.macroblock reading
+
+-- how far the stream was read, and the unit of which nothing is left yet
+pub record Choosing : Type 0 where
+  pub reading : Reading
+  pub pending : Option UnitCall
+
+abbrev pub at_first : Choosing
+at_first = record { reading = record { pictures = 0; reach = None }; pending = None }
+
+abbrev pub reading_after : Call → Reading → Reading
+reading_after (OfUnit byte kind reference length) reading = record reading { reach = None }
+reading_after (OfElement name bit value) reading = after_element name value reading
+reading_after call reading = reading
+
+-- with the reading after the call
+abbrev pub pending_after : Choice → Call → Reading → Option UnitCall → Option UnitCall
+pending_after choice (OfUnit byte kind reference length) reading pending =
+    Some (record { byte = byte; nal_unit_type = kind; nal_ref_idc = reference; length = length })
+pending_after choice (OfElement name bit value) reading pending = if is_chosen choice reading then None else pending
+pending_after choice call reading pending = pending
+
+abbrev pub next : Choice → Choosing → Call → Choosing
+next choice s call =
+    let reading = reading_after call s.reading in record { reading = reading; pending = pending_after choice call reading s.pending }
+
+abbrev pub held : Option UnitCall → List Call
+held None = []
+held (Some u) = OfUnit u.byte u.nal_unit_type u.nal_ref_idc u.length ∷ []
+
+-- What is left of a call, with the reading after it: of the elements those that are chosen, each unit of them before the first, and no frames.
+abbrev pub left_of : Choice → Call → Reading → Option UnitCall → List Call
+left_of choice (OfElement name bit value) reading pending =
+    if is_chosen choice reading then held pending ++ (OfElement name bit value ∷ []) else []
+left_of choice (OfSlice byte mb kind frame_num count) reading None =
+    if is_chosen choice reading then OfSlice byte mb kind frame_num count ∷ [] else []
+left_of choice call reading pending = []
+
+abbrev pub left_by : Choice → Choosing → Call → List Call
+left_by choice s call = left_of choice call (reading_after call s.reading) s.pending
+
+unfoldable pub choosing_after : Choice → Choosing → List Call → Choosing
+choosing_after choice s [] = s
+choosing_after choice s (call ∷ calls) = choosing_after choice (next choice s call) calls
+
+unfoldable pub left_in : Choice → Choosing → List Call → List Call
+left_in choice s [] = []
+left_in choice s (call ∷ calls) = left_by choice s call ++ left_in choice (next choice s call) calls
+
+-- ---- what the sink inside took
+
+-- what is left of these calls
+pub record HoldsLeft {S : Type 0} (took : S → List Call → Type 0) (choice : Choice) (reading : Reading) (pending : Option UnitCall) (sink : S)
+    (calls : List Call) : Type 0 where
+  pub stands : choosing_after choice at_first calls ≡ record { reading = reading; pending = pending }
+  pub tells : took sink (left_in choice at_first calls)
+
+-- what is left of these calls, and the first of what is left of one more, which was refused
+pub record HoldsFront {S : Type 0} (took : S → List Call → Type 0) (choice : Choice) (sink : S) (calls : List Call) : Type 0 where
+  pub refused : Call
+  pub front : List Call
+  pub rest : List Call
+  pub whole : left_by choice (choosing_after choice at_first calls) refused ≡ front ++ rest
+  pub tells : took sink (left_in choice at_first calls ++ front)
+
+abbrev pub TookChosen : {S : Type 0} → (S → List Call → Type 0) → Choice → (broke_off : Bool) → Reading → Option UnitCall → S → List Call → Type 0
+TookChosen took choice false reading pending sink calls = HoldsLeft took choice reading pending sink calls
+TookChosen took choice true reading pending sink calls = HoldsFront took choice sink calls
