@@ -30,18 +30,18 @@ static void use_closed(const char *word, const stream *s)
         h264v_close(decoder);
 }
 
-/* Reads a lent frame after it was taken back. */
+/* Reads a lent frame after its decoder was closed. Reading it after the next h264v_receive breaks the header's words too, but the library may keep
+ * that memory for a later frame, so that valgrind sees nothing. */
 static void keep_frame(const stream *s)
 {
     h264v *decoder = opened(H264V_FULL, H264V_BASELINE);
     h264v_verdict verdict;
-    h264v_frame frame, none;
+    h264v_frame frame;
     h264v_send(decoder, s->bytes, s->size, &verdict);
     h264v_finish(decoder, &verdict);
     expect(h264v_receive(decoder, &frame) == H264V_FRAME, "there is a frame");
-    expect(h264v_receive(decoder, &none) == H264V_NO_FRAME, "there is one alone");
-    printf("%u\n", sum_of(&frame));
     h264v_close(decoder);
+    printf("%u\n", sum_of(&frame));
 }
 
 int main(int argc, char **argv)
