@@ -10,6 +10,7 @@ use Rattle.h264_base.specs.declared.stop.Stop.{Stop}
 use Rattle.h264_base.specs.declared.stop.Stop.TheVariants.{No, Outside, Memory, Read, Write}
 use Rattle.h264_plane.specs.Frames.{no_frame}
 use Rattle.h264_plane.specs.declared.frame.Frame.{Frame}
+use Rattle.h264_report.specs.Objects.{Opening, bare}
 use Rattle.h264_report.specs.Sent.{Sends, Takes, IsBlamed}
 use Rattle.h264_report.specs.Told.{lines_of, bytes_of, elements_of, HoldsCalls, TookLines, TookFrames}
 use Rattle.h264_report.specs.Written.{OfBytes, IsFront, Answers, Account, calls_in, told_of, Writes, last_line, Lists, is_no, trail_text, Checks, Decodes}
@@ -158,11 +159,11 @@ takes-after false {a} {b} c {bs} cs p q = some-after p q
 
 -- ---- sinks that were told nothing
 
-pub none-lines : {name reference : ℕ} {head begins : Option (List ℕ)} {listing l : Listing} {start known : Option (List ℕ)} {was : Bool} {frames : ℕ} {broke_off broken : Bool} → reference ≡ name → begins ≡ head → l ≡ listing → known ≡ start → broken ≡ was → frames ≡ 0 → broke_off ≡ false → TookLines name head listing start was reference begins l frames broke_off broken known []
+pub none-lines : {name reference : ℕ} {head begins : Opening} {listing l : Listing} {start known : Option (List ℕ)} {was : Bool} {frames : ℕ} {broke_off broken : Bool} → reference ≡ name → begins ≡ head → l ≡ listing → known ≡ start → broken ≡ was → frames ≡ 0 → broke_off ≡ false → TookLines name head listing start was reference begins l frames broke_off broken known []
 unfolding lines_of
 none-lines {name} {reference} {head} {begins} {listing} {l} {start} {known} {was} {frames} {broke_off} {broken} same heads lists unwritten quiet zero whole = record {
   same_reference = same;
-  same_head = heads;
+  same_opening = heads;
   same_listing = lists;
   lines = record {
     counts = zero;
@@ -180,8 +181,8 @@ none-frames {name} {reference} {start} {known} {was} {broke_off} {broken} same u
 }
 
 -- what a sink holds is that of the listing for which it was made
-pub of-listing : {name reference : ℕ} {head begins : Option (List ℕ)} {listing l : Listing} {start known : Option (List ℕ)} {was : Bool} {frames : ℕ} {broke_off broken : Bool} {calls : List Call} → TookLines name head listing start was reference begins l frames broke_off broken known calls → HoldsCalls broke_off (lines_of head listing 0) start known calls
-of-listing {begins = begins} {listing = listing} {start = start} {known = known} {broke_off = broke_off} {calls = calls} h = subst (λ b. HoldsCalls broke_off (lines_of b listing 0) start known calls) h.same_head (subst (λ x. HoldsCalls broke_off (lines_of begins x 0) start known calls) h.same_listing h.lines.holds)
+pub of-listing : {name reference : ℕ} {head begins : Opening} {listing l : Listing} {start known : Option (List ℕ)} {was : Bool} {frames : ℕ} {broke_off broken : Bool} {calls : List Call} → TookLines name head listing start was reference begins l frames broke_off broken known calls → HoldsCalls broke_off (lines_of head listing 0) start known calls
+of-listing {begins = begins} {listing = listing} {start = start} {known = known} {broke_off = broke_off} {calls = calls} h = subst (λ b. HoldsCalls broke_off (lines_of b listing 0) start known calls) h.same_opening (subst (λ x. HoldsCalls broke_off (lines_of begins x 0) start known calls) h.same_listing h.lines.holds)
 
 -- what has failed stays so
 pub still-failed : (written mid new : Bool) → (written ≡ true → new ≡ mid) → (written ≡ false → new ≡ true) → mid ≡ true → new ≡ true
@@ -240,7 +241,7 @@ none-elements s e = e
 -- ---- the commands
 
 -- the lines and the last line
-pub listed : {terms : Terms} {listing : Listing} {bytes : List ℕ} (answer said : Result Summary Stop) (written : Bool) (old mid new : Option (List ℕ)) → (said ≡ answer) ⊎ (said ≡ Err Memory) → (answer ≡ Err Write → said ≡ Err Write) → Writes (lines_of None listing 0) terms bytes answer old mid → Takes written mid new (last_line terms.mode said) → Lists terms listing bytes said written old new
+pub listed : {terms : Terms} {listing : Listing} {bytes : List ℕ} (answer said : Result Summary Stop) (written : Bool) (old mid new : Option (List ℕ)) → (said ≡ answer) ⊎ (said ≡ Err Memory) → (answer ≡ Err Write → said ≡ Err Write) → Writes (lines_of bare listing 0) terms bytes answer old mid → Takes written mid new (last_line terms.mode said) → Lists terms listing bytes said written old new
 listed {terms} {listing} answer said written old mid new e stays w t =
     let v = said-answer answer said e stays w in
     record { account = v.account; lines = v.text; are_lines = v.is_written; text = takes-after written new (last_line terms.mode said) v.sends t }

@@ -4,6 +4,7 @@ use Rattle.std.proofs.lemmas.List.{append_assoc, append-nil}
 use Rattle.h264_base.specs.Call.{Call}
 use Rattle.h264_report.specs.Told.{ended, line_of, lines_of, counted, counted_of, bytes_in, bytes_of, elements_in, elements_of}
 use Rattle.h264_report.specs.Lines.{element_text}
+use Rattle.h264_report.specs.Objects.{Opening}
 use Rattle.h264_report.specs.Trail.{element_lines}
 use Rattle.h264_report.specs.declared.trail.Element.{Element}
 use Rattle.h264_report.specs.declared.listing.Listing.{Listing}
@@ -22,7 +23,7 @@ pub counted-more : (listing : Listing) (calls : List Call) (call : Call) → cou
 counted-more listing [] call = let e : counted listing call + 0 ≡ 0 + counted listing call = omega arith in e
 counted-more listing (c ∷ calls) call = let e = counted-more listing calls call in let d : counted listing c + counted_of listing (calls ++ call ∷ []) ≡ counted listing c + counted_of listing calls + counted listing call = omega (arith, e) in d
 
-pub lines-more : (head : Option (List ℕ)) (listing : Listing) (n m : ℕ) (calls : List Call) (call : Call) → n + counted_of listing calls ≡ m → lines_of head listing n (calls ++ call ∷ []) ≡ lines_of head listing n calls ++ line_of head listing m call
+pub lines-more : (head : Opening) (listing : Listing) (n m : ℕ) (calls : List Call) (call : Call) → n + counted_of listing calls ≡ m → lines_of head listing n (calls ++ call ∷ []) ≡ lines_of head listing n calls ++ line_of head listing m call
 unfolding lines_of
 lines-more head listing n m [] call e = append-nil (line_of head listing n call) ∙ ap (λ k. line_of head listing k call) (let d : n ≡ m = omega arith in d)
 lines-more head listing n m (c ∷ calls) call e =

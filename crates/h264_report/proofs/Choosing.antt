@@ -6,7 +6,7 @@ use Rattle.h264_base.specs.declared.element_name.ElementName.{ElementName}
 use Rattle.h264_base.specs.declared.mode.SliceType.{SliceType}
 use Rattle.h264_report.specs.declared.survey.reading.Reading.{Reading}
 use Rattle.h264_report.specs.declared.survey.narrowed.Choice.{Choice}
-use Rattle.h264_report.specs.declared.objects.UnitCall.{UnitCall}
+use Rattle.h264_report.specs.declared.lines.UnitCall.{UnitCall}
 use Rattle.h264_report.specs.Chosen.{after_element, is_chosen, Choosing, at_first, next, held, left_of, left_by, choosing_after, left_in, HoldsLeft, HoldsFront}
 
 module _ (choice : Choice) where

@@ -1,5 +1,6 @@
 -- What a writer holds, from one write to the next.
-use Rattle.std.proofs.Common.{◌≡◌, ℕ, List, [], ◌++◌, Option, Some, None, refl, sym, ap, subst, ◌∙◌, arith}
+use Rattle.std.proofs.Common.{◌≡◌, ℕ, Bool, true, false, List, [], ◌++◌, Option, Some, None, Result, Ok, Err, OnOk, OnErr, refl, sym, ap, subst, ◌∙◌, arith}
+use Rattle.std.specs.Result.{is_err}
 use Rattle.std.specs.Io.KnownBytes.{Appends, Keeps}
 use Rattle.std.proofs.lemmas.List.{append-nil, append_assoc, length-append}
 use Rattle.h264_report.specs.Sent.{Sends, SendsFront, SendsSome}
@@ -89,3 +90,13 @@ some-longer {a} {b} {bs} cs p = record { part = p.part; rest = p.rest ++ cs; who
 
 pub some-after : {a b c : Option (List ℕ)} {bs cs : List ℕ} → Sends a b bs → SendsSome b c cs → SendsSome a c (bs ++ cs)
 some-after {a} {b} {c} {bs} {cs} p q = record { part = bs ++ q.part; rest = q.rest; whole = ap (λ l. bs ++ l) q.whole ∙ sym (append_assoc bs q.part q.rest); appends = appends-appends a b c bs q.part p.appends q.appends }
+
+-- ---- what a call answered
+
+pub ok-of : {X E A : Type 0} (r : Result X E) → false ≡ is_err r → OnOk r A → A
+ok-of (Ok x) e a = a
+ok-of (Err x) e a = absurd (let f : false ≡ true = e in cc)
+
+pub err-of : {X E A : Type 0} (r : Result X E) → true ≡ is_err r → OnErr r A → A
+err-of (Ok x) e a = absurd (let f : true ≡ false = e in cc)
+err-of (Err x) e a = a

@@ -3,6 +3,7 @@ use Rattle.std.proofs.Common.{Bool, true, false, ◌≡◌, Result, Ok, Err, OnO
 use Rattle.std.proofs.lemmas.Bool.{true≢false}
 use Rattle.std.proofs.lemmas.List.{append-nil, append_assoc}
 use Rattle.h264_base.specs.Call.{Call, Tells}
+use Rattle.h264_report.specs.Objects.{Opening}
 use Rattle.h264_report.specs.Sent.{SendsOrBreaksOff, IsBlamed}
 use Rattle.h264_report.specs.Told.{line_of, lines_of, counted, counted_of, bytes_in, bytes_of, HoldsCalls, HoldsLines, TookLines, TookFrames}
 use Rattle.h264_report.specs.declared.listing.Listing.{Listing}
@@ -41,7 +42,7 @@ blamed-more false true was failed failed' whole b c = c
 blamed-more false false was failed failed' whole b c = c ∙ b
 
 -- a call without a line
-pub skip-line : {hd : Option (List ℕ)} {l : Listing} {start : Option (List ℕ)} {was : Bool} {f : ℕ} {broke failed : Bool} {k : Option (List ℕ)} {before : List Call} (call : Call) → ((m : ℕ) → line_of hd l m call ≡ []) → counted l call ≡ 0 → broke ≡ false → HoldsLines hd l start was f broke failed k before → HoldsLines hd l start was f broke failed k (before ++ call ∷ [])
+pub skip-line : {hd : Opening} {l : Listing} {start : Option (List ℕ)} {was : Bool} {f : ℕ} {broke failed : Bool} {k : Option (List ℕ)} {before : List Call} (call : Call) → ((m : ℕ) → line_of hd l m call ≡ []) → counted l call ≡ 0 → broke ≡ false → HoldsLines hd l start was f broke failed k before → HoldsLines hd l start was f broke failed k (before ++ call ∷ [])
 skip-line {hd} {l} {start} {was} {f} {broke} {k = k} {before = before} call none zero whole h = record {
   counts = let c = h.counts in let d = counted-more l before call in omega (arith, c, d, zero);
   holds = calls-pass (lines_of hd l 0) start broke k before call whole (lines-more hd l 0 (counted_of l before) before call (omega arith) ∙ ap (λ x. lines_of hd l 0 before ++ x) (none (counted_of l before)) ∙ append-nil (lines_of hd l 0 before)) h.holds;
@@ -49,11 +50,11 @@ skip-line {hd} {l} {start} {was} {f} {broke} {k = k} {before = before} call none
 }
 
 -- the same of a sink
-pub skipped : {name reference : ℕ} {head hd : Option (List ℕ)} {listing l : Listing} {start : Option (List ℕ)} {was : Bool} {f : ℕ} {broke failed : Bool} {k : Option (List ℕ)} {before : List Call} (call : Call) → ((m : ℕ) → line_of hd l m call ≡ []) → counted l call ≡ 0 → broke ≡ false → TookLines name head listing start was reference hd l f broke failed k before → TookLines name head listing start was reference hd l f broke failed k (before ++ call ∷ [])
-skipped call none zero whole h = record { same_reference = h.same_reference; same_head = h.same_head; same_listing = h.same_listing; lines = skip-line call none zero whole h.lines }
+pub skipped : {name reference : ℕ} {head hd : Opening} {listing l : Listing} {start : Option (List ℕ)} {was : Bool} {f : ℕ} {broke failed : Bool} {k : Option (List ℕ)} {before : List Call} (call : Call) → ((m : ℕ) → line_of hd l m call ≡ []) → counted l call ≡ 0 → broke ≡ false → TookLines name head listing start was reference hd l f broke failed k before → TookLines name head listing start was reference hd l f broke failed k (before ++ call ∷ [])
+skipped call none zero whole h = record { same_reference = h.same_reference; same_opening = h.same_opening; same_listing = h.same_listing; lines = skip-line call none zero whole h.lines }
 
 -- a call whose line was written, or broke off
-pub take-line : {hd : Option (List ℕ)} {l : Listing} {start : Option (List ℕ)} {was : Bool} {f f' : ℕ} {broke broke' failed failed' : Bool} {k k' : Option (List ℕ)} {before : List Call} {text : List ℕ} (call : Call) → line_of hd l f call ≡ text → broke ≡ false → f' ≡ f + counted l call → HoldsLines hd l start was f broke failed k before → SendsOrBreaksOff broke' k k' text → IsBlamed broke' failed failed' → HoldsLines hd l start was f' broke' failed' k' (before ++ call ∷ [])
+pub take-line : {hd : Opening} {l : Listing} {start : Option (List ℕ)} {was : Bool} {f f' : ℕ} {broke broke' failed failed' : Bool} {k k' : Option (List ℕ)} {before : List Call} {text : List ℕ} (call : Call) → line_of hd l f call ≡ text → broke ≡ false → f' ≡ f + counted l call → HoldsLines hd l start was f broke failed k before → SendsOrBreaksOff broke' k k' text → IsBlamed broke' failed failed' → HoldsLines hd l start was f' broke' failed' k' (before ++ call ∷ [])
 take-line {hd} {l} {start} {was} {f} {f'} {broke} {broke'} {failed} {failed'} {k} {k'} {before} {text} call line whole e h s b = record {
   counts = let c = h.counts in let d = counted-more l before call in omega (arith, c, d, e);
   holds = calls-more (lines_of hd l 0) start broke broke' k k' before text call whole (lines-more hd l 0 f before call (let c = h.counts in omega (arith, c)) ∙ ap (λ x. lines_of hd l 0 before ++ x) line) h.holds s;
@@ -61,7 +62,7 @@ take-line {hd} {l} {start} {was} {f} {f'} {broke} {broke'} {failed} {failed'} {k
 }
 
 -- a call that failed, at which nothing was written
-pub unsent-line : {hd hd' : Option (List ℕ)} {l l' : Listing} {start : Option (List ℕ)} {was : Bool} {f f' : ℕ} {broke broke' failed failed' : Bool} {k k' : Option (List ℕ)} {before : List Call} → hd' ≡ hd → l' ≡ l → f' ≡ f → broke' ≡ broke → failed' ≡ failed → k' ≡ k → HoldsLines hd l start was f broke failed k before → HoldsLines hd' l' start was f' broke' failed' k' before
+pub unsent-line : {hd hd' : Opening} {l l' : Listing} {start : Option (List ℕ)} {was : Bool} {f f' : ℕ} {broke broke' failed failed' : Bool} {k k' : Option (List ℕ)} {before : List Call} → hd' ≡ hd → l' ≡ l → f' ≡ f → broke' ≡ broke → failed' ≡ failed → k' ≡ k → HoldsLines hd l start was f broke failed k before → HoldsLines hd' l' start was f' broke' failed' k' before
 unsent-line {start = start} {was = was} {before = before} begins lists frames breaks fails holds h = rw (begins, lists, frames, breaks, fails, holds) h
 
 pub on-ok : {X E : Type 0} {A B C : Type 0} (r : Result X E) → (A → B → C) → OnOk r A → OnOk r B → OnOk r C
@@ -89,7 +90,7 @@ on-err-all (Ok x) a = tt
 on-err-all (Err e) a = a
 
 -- nothing more was told
-pub lines-none : {name reference : ℕ} {head hd : Option (List ℕ)} {listing l : Listing} {start : Option (List ℕ)} {was : Bool} {f : ℕ} {broke failed : Bool} {k : Option (List ℕ)} {before : List Call} → TookLines name head listing start was reference hd l f broke failed k before → TookLines name head listing start was reference hd l f broke failed k (before ++ [])
+pub lines-none : {name reference : ℕ} {head hd : Opening} {listing l : Listing} {start : Option (List ℕ)} {was : Bool} {f : ℕ} {broke failed : Bool} {k : Option (List ℕ)} {before : List Call} → TookLines name head listing start was reference hd l f broke failed k before → TookLines name head listing start was reference hd l f broke failed k (before ++ [])
 lines-none {name} {reference} {head} {hd} {listing} {l} {start} {was} {f} {broke} {failed} {k} {before} h = subst (TookLines name head listing start was reference hd l f broke failed k) (sym (append-nil before)) h
 
 pub frames-none : {name reference : ℕ} {start : Option (List ℕ)} {was broke failed : Bool} {k : Option (List ℕ)} {before : List Call} → TookFrames name start was reference broke failed k before → TookFrames name start was reference broke failed k (before ++ [])

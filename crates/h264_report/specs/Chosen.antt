@@ -7,7 +7,7 @@ use Rattle.h264_base.specs.declared.element_name.ElementName.TheVariants as name
 use Rattle.h264_report.specs.declared.survey.reading.Reading.{Reading}
 use Rattle.h264_report.specs.declared.survey.reading.Reach.{Reach}
 use Rattle.h264_report.specs.declared.survey.narrowed.Choice.{Choice}
-use Rattle.h264_report.specs.declared.objects.UnitCall.{UnitCall}
+use Rattle.h264_report.specs.declared.lines.UnitCall.{UnitCall}
 
 -- a value as a count; 0 for one below 0
 abbrev pub count_in : ℤ → ℕ

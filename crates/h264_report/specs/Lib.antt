@@ -1,5 +1,6 @@
 pub mod Lines
 pub mod Objects
+pub mod Json
 pub mod Sent
 pub mod Rows
 pub mod Frames

@@ -1,5 +1,6 @@
--- The objects of JSON, without a line end. `head` opens an object and has its first fields. To be read beside docs/OUTPUT.md.
-use Rattle.std.specs.Prelude.{ℕ, ℤ, List, ◌++◌, codes, Option, None, Some}
+-- The objects of JSON, without a line end, and what a line or an object begins with. `head` opens an object and has its first fields. To be read beside
+-- docs/OUTPUT.md.
+use Rattle.std.specs.Prelude.{ℕ, ℤ, List, ◌++◌, codes, []}
 use Rattle.std.specs.Fmt.{decimal, signed_decimal}
 use Rattle.hex.specs.Hex.{encode_lower}
 use Rattle.md5.specs.Md5.{md5}
@@ -38,23 +39,33 @@ frame_object head index count width height bytes =
 
 -- ---- in either form
 
--- what each object begins with; none where lines are written
-abbrev pub head_of : Form → Option (List ℕ)
-head_of Lines = None
-head_of (Objects head) = Some head.now
+-- what each line or object begins with
+pub data Opening : Type 0 where
+  -- a line of text begins with this
+  OfLine : List ℕ → Opening
+  -- an object begins with this, which opens it and has its first fields
+  OfObject : List ℕ → Opening
 
-abbrev pub unit_in : Option (List ℕ) → ℕ → ℕ → ℕ → ℕ → List ℕ
-unit_in None byte kind reference length = unit_text byte kind reference length
-unit_in (Some head) byte kind reference length = unit_object head byte kind reference length
+-- lines with nothing before them
+abbrev pub bare : Opening
+bare = OfLine []
 
-abbrev pub slice_in : Option (List ℕ) → ℕ → ℕ → SliceType → ℕ → ℤ → List ℕ
-slice_in None byte mb kind frame_num count = slice_text byte mb kind frame_num count
-slice_in (Some head) byte mb kind frame_num count = slice_object head byte mb kind frame_num count
+abbrev pub opening_of : Form → Opening
+opening_of (Lines prefix) = OfLine prefix.now
+opening_of (Objects head) = OfObject head.now
 
-abbrev pub element_in : Option (List ℕ) → ElementName → ℕ → ℤ → List ℕ
-element_in None name bit value = element_text name bit value
-element_in (Some head) name bit value = element_object head name bit value
+abbrev pub unit_in : Opening → ℕ → ℕ → ℕ → ℕ → List ℕ
+unit_in (OfLine prefix) byte kind reference length = prefix ++ unit_text byte kind reference length
+unit_in (OfObject head) byte kind reference length = unit_object head byte kind reference length
 
-abbrev pub frame_in : Option (List ℕ) → ℕ → ℤ → ℕ → ℕ → List ℕ → List ℕ
-frame_in None index count width height bytes = frame_text index count width height bytes
-frame_in (Some head) index count width height bytes = frame_object head index count width height bytes
+abbrev pub slice_in : Opening → ℕ → ℕ → SliceType → ℕ → ℤ → List ℕ
+slice_in (OfLine prefix) byte mb kind frame_num count = prefix ++ slice_text byte mb kind frame_num count
+slice_in (OfObject head) byte mb kind frame_num count = slice_object head byte mb kind frame_num count
+
+abbrev pub element_in : Opening → ElementName → ℕ → ℤ → List ℕ
+element_in (OfLine prefix) name bit value = prefix ++ element_text name bit value
+element_in (OfObject head) name bit value = element_object head name bit value
+
+abbrev pub frame_in : Opening → ℕ → ℤ → ℕ → ℕ → List ℕ → List ℕ
+frame_in (OfLine prefix) index count width height bytes = prefix ++ frame_text index count width height bytes
+frame_in (OfObject head) index count width height bytes = frame_object head index count width height bytes

@@ -1,7 +1,7 @@
 -- What sinks make of the calls of a stream: lines, bytes of frames, and the last elements. A working form.
 use Rattle.std.specs.Prelude.{Bool, true, false, ℕ, ◌+◌, ◌≡◌, ◌∷◌, ◌++◌, Option, List, []}
 use Rattle.h264_base.specs.Call.{Call, OfUnit, OfSlice, OfElement, OfFrame}
-use Rattle.h264_report.specs.Objects.{unit_in, slice_in, element_in, frame_in}
+use Rattle.h264_report.specs.Objects.{Opening, unit_in, slice_in, element_in, frame_in}
 use Rattle.h264_report.specs.Sent.{IsProperFront, Sends, IsBlamed}
 use Rattle.h264_report.specs.declared.listing.Listing.{Listing}
 use Rattle.h264_report.specs.declared.listing.Listing.TheVariants as listings
@@ -11,15 +11,15 @@ use Rattle.h264_report.specs.declared.trail.Element.{Element}
 abbrev pub ended : List ℕ → List ℕ
 ended text = text ++ 10 ∷ []
 
--- the line of a call, where this many frames were told before; none where it has none. Each object begins with `head`; with none, lines are written.
-abbrev pub line_of : (head : Option (List ℕ)) → Listing → ℕ → Call → List ℕ
-line_of head listings.Units n (OfUnit byte kind reference length) = ended (unit_in head byte kind reference length)
-line_of head listings.Slices n (OfSlice byte mb kind frame_num count) = ended (slice_in head byte mb kind frame_num count)
-line_of head listings.Frames n (OfFrame count width height bytes) = ended (frame_in head n count width height bytes)
-line_of head listings.Elements n (OfUnit byte kind reference length) = ended (unit_in head byte kind reference length)
-line_of head listings.Elements n (OfSlice byte mb kind frame_num count) = ended (slice_in head byte mb kind frame_num count)
-line_of head listings.Elements n (OfElement name bit value) = ended (element_in head name bit value)
-line_of head listing n call = []
+-- the line of a call, where this many frames were told before; none where it has none.
+abbrev pub line_of : (opening : Opening) → Listing → ℕ → Call → List ℕ
+line_of opening listings.Units n (OfUnit byte kind reference length) = ended (unit_in opening byte kind reference length)
+line_of opening listings.Slices n (OfSlice byte mb kind frame_num count) = ended (slice_in opening byte mb kind frame_num count)
+line_of opening listings.Frames n (OfFrame count width height bytes) = ended (frame_in opening n count width height bytes)
+line_of opening listings.Elements n (OfUnit byte kind reference length) = ended (unit_in opening byte kind reference length)
+line_of opening listings.Elements n (OfSlice byte mb kind frame_num count) = ended (slice_in opening byte mb kind frame_num count)
+line_of opening listings.Elements n (OfElement name bit value) = ended (element_in opening name bit value)
+line_of opening listing n call = []
 
 -- how many frames with lines are told by a call
 abbrev pub counted : Listing → Call → ℕ
@@ -31,9 +31,9 @@ counted_of listing [] = 0
 counted_of listing (call ∷ calls) = counted listing call + counted_of listing calls
 
 -- the lines of these calls, where this many frames were told before
-unfoldable pub lines_of : (head : Option (List ℕ)) → Listing → ℕ → List Call → List ℕ
-lines_of head listing n [] = []
-lines_of head listing n (call ∷ calls) = line_of head listing n call ++ lines_of head listing (counted listing call + n) calls
+unfoldable pub lines_of : (opening : Opening) → Listing → ℕ → List Call → List ℕ
+lines_of opening listing n [] = []
+lines_of opening listing n (call ∷ calls) = line_of opening listing n call ++ lines_of opening listing (counted listing call + n) calls
 
 -- the bytes of the frames of these calls, one after another
 abbrev pub bytes_in : Call → List ℕ
@@ -76,17 +76,17 @@ HoldsCalls false make start known calls = Sends start known (make calls)
 HoldsCalls true make start known calls = HoldsBrokenOff make start known calls
 
 -- After so many frames with lines the writer took the lines of these calls since the start.
-pub record HoldsLines (head : Option (List ℕ)) (listing : Listing) (start : Option (List ℕ)) (was_failed : Bool) (frames : ℕ)
+pub record HoldsLines (opening : Opening) (listing : Listing) (start : Option (List ℕ)) (was_failed : Bool) (frames : ℕ)
     (broke_off failed : Bool) (known : Option (List ℕ)) (calls : List Call) : Type 0 where
   pub counts : frames ≡ counted_of listing calls
-  pub holds : HoldsCalls broke_off (lines_of head listing 0) start known calls
+  pub holds : HoldsCalls broke_off (lines_of opening listing 0) start known calls
   pub blamed : IsBlamed broke_off was_failed failed
 
 -- The writer took them through this reference, in this form and for this listing.
-pub record TookLines (name : ℕ) (head : Option (List ℕ)) (listing : Listing) (start : Option (List ℕ)) (was_failed : Bool) (reference : ℕ)
-    (begins : Option (List ℕ)) (lists : Listing) (frames : ℕ) (broke_off failed : Bool) (known : Option (List ℕ)) (calls : List Call) : Type 0 where
+pub record TookLines (name : ℕ) (opening : Opening) (listing : Listing) (start : Option (List ℕ)) (was_failed : Bool) (reference : ℕ)
+    (begins : Opening) (lists : Listing) (frames : ℕ) (broke_off failed : Bool) (known : Option (List ℕ)) (calls : List Call) : Type 0 where
   pub same_reference : reference ≡ name
-  pub same_head : begins ≡ head
+  pub same_opening : begins ≡ opening
   pub same_listing : lists ≡ listing
   pub lines : HoldsLines begins lists start was_failed frames broke_off failed known calls
 

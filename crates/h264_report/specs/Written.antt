@@ -9,6 +9,7 @@ use Rattle.h264_base.specs.declared.stop.Stop.{Stop}
 use Rattle.h264_base.specs.declared.stop.Stop.TheVariants.{No, Outside, Memory, Read, Write}
 use Rattle.h264_plane.specs.declared.frame.Frame.{Frame}
 use Rattle.h264_report.specs.Lines.{verdict_text}
+use Rattle.h264_report.specs.Objects.{bare}
 use Rattle.h264_report.specs.Sent.{Sends, Takes}
 use Rattle.h264_report.specs.Told.{ended, lines_of, bytes_of, elements_of, BreaksOff}
 use Rattle.h264_report.specs.Trail.{element_lines}
@@ -93,7 +94,7 @@ pub record Lists (terms : Terms) (listing : Listing) (bytes : List ℕ) (answer 
     (written : Bool) (old new : Option (List ℕ)) : Type 0 where
   pub account : Account terms bytes answer
   pub lines : List ℕ
-  pub are_lines : IsWritten (lines_of None listing 0) answer (calls_in account) lines
+  pub are_lines : IsWritten (lines_of bare listing 0) answer (calls_in account) lines
   pub text : Takes written old new (lines ++ last_line terms.mode answer)
 
 -- a rule is broken

@@ -1,7 +1,7 @@
 //! Where bytes are written to.
 #![tactic(auto)]
 
-ghost use Rattle.std.specs.Prelude.{◌≡◌, ◌<◌, ◌≤◌, Bool, true, false, length, take, IfOk, OnOk, OnErr};
+ghost use Rattle.std.specs.Prelude.{◌≡◌, ℕ, ◌<◌, ◌≤◌, Bool, true, false, List, Option, length, take, IfOk, OnOk, OnErr};
 ghost use Rattle.std.specs.Io.KnownBytes.{Appends, Keeps};
 
 use h264_base::Failed;
@@ -11,8 +11,11 @@ use std::io::{ErrorKind, Write};
 /// How often a write is tried while it is interrupted.
 const TRIES: u32 = 1 << 20;
 
-/// A writer that tells whether it has failed, and whether it holds back some of what it took.
-pub trait Device: Write {
+/// What bytes are sent to. It tells whether it has failed, and whether it holds back some of what it took.
+pub trait Device {
+    /// What it took, where it tells.
+    ghost contents: { Self → Option (List ℕ) };
+
     /// Whether it has failed.
     ghost has_failed: { Self → Bool };
 
@@ -25,8 +28,8 @@ pub trait Device: Write {
     fn send_some(&mut self, bytes: &[u8]) -> Result<usize, Failed>
         requires { 0 < length bytes.now }
         ensures some { IfOk result (λ n. (0 < n) × (n ≤ length bytes.now)) }
-        ensures ok { IfOk result (λ n. Appends (Self.Write.contents self.old) (Self.Write.contents self.new) (take n bytes.now)) }
-        ensures kept { OnErr result (Keeps (Self.Write.contents self.old) (Self.Write.contents self.new)) }
+        ensures ok { IfOk result (λ n. Appends (contents self.old) (contents self.new) (take n bytes.now)) }
+        ensures kept { OnErr result (Keeps (contents self.old) (contents self.new)) }
         ensures quiet { OnOk result (has_failed self.new ≡ has_failed self.old) }
         ensures failed { OnErr result (has_failed self.new ≡ true) };
 
@@ -34,7 +37,7 @@ pub trait Device: Write {
     ///
     /// Failed: the device failed.
     fn send_rest(&mut self) -> Result<(), Failed>
-        ensures kept { Keeps (Self.Write.contents self.old) (Self.Write.contents self.new) }
+        ensures kept { Keeps (contents self.old) (contents self.new) }
         ensures handed_over { OnOk result (holds_back self.new ≡ false) }
         ensures quiet { OnOk result (has_failed self.new ≡ has_failed self.old) }
         ensures failed { OnErr result (has_failed self.new ≡ true) };
@@ -67,24 +70,9 @@ impl<W: Write + Drop> WriteDevice<W> {
     }
 }
 
-impl<W: Write + Drop> Write for WriteDevice<W> {
+impl<W: Write + Drop> Device for WriteDevice<W> {
     ghost contents = { λ d. W.contents d.writer };
 
-    fn write(&mut self, buf: &[u8]) -> io::Result<usize> {
-        self.held_back = true;
-        self.writer.write(buf)
-    }
-
-    fn flush(&mut self) -> io::Result<()> {
-        let flushed = self.writer.flush();
-        if flushed.is_ok() {
-            self.held_back = false;
-        }
-        flushed
-    }
-}
-
-impl<W: Write + Drop> Device for WriteDevice<W> {
     ghost has_failed = { λ d. d.failed };
 
     ghost holds_back = { λ d. d.held_back };

@@ -1,10 +1,11 @@
 //! A stream judged, and what is found written: lines, the last elements or the frames, and the last line.
 #![tactic(auto)]
 
-ghost use Rattle.std.specs.Prelude.{◌≡◌, ◌≢◌, ℕ, ◌+◌, ◌-◌, ◌<◌, ◌⊎◌, ◌^◌, true, false, List, ◌++◌, None, Some, Ok, Err, IsErrOf};
+ghost use Rattle.std.specs.Prelude.{◌≡◌, ◌≢◌, ℕ, ◌+◌, ◌-◌, ◌<◌, ◌⊎◌, ◌^◌, true, false, List, ◌++◌, Some, Ok, Err, IsErrOf};
 ghost use Rattle.h264_base.specs.Call.{HasRoom, IsQuiet};
 ghost use Rattle.h264_base.specs.declared.mode.Mode.TheVariants as modes;
 ghost use Rattle.h264_verify.specs.Units.{terms_of};
+ghost use Rattle.h264_report.specs.Objects.{bare};
 ghost use Rattle.h264_report.specs.Sent.{Takes};
 ghost use Rattle.h264_report.specs.Told.{ended, lines_of, bytes_of};
 ghost use Rattle.h264_report.specs.Written.{OfBytes, Writes, Lists, Checks, Decodes, told_of, is_no, last_line, trail_text, answer_status, status_of};
@@ -60,7 +61,7 @@ impl Ending {
 }
 
 /// Writes a text, and after it a line with its end, and hands over all that was held back; whether that was possible.
-fn put<W: Device>(text: &str, line: &str, out: &mut W) -> bool
+pub fn put_line<W: Device>(text: &str, line: &str, out: &mut W) -> bool
     ensures text { Takes result (W.contents out.old) (W.contents out.new) (text.now ++ ended line.now) }
     ensures handed_over { result ≡ true → W.holds_back out.new ≡ false }
     ensures quiet { result ≡ true → W.has_failed out.new ≡ W.has_failed out.old }
@@ -91,7 +92,7 @@ pub fn put_memory<W: Device>(out: &mut W) -> Ending
 {
     Ending {
         answer: Err(Stop::Memory),
-        written: put("", "memory", out),
+        written: put_line("", "memory", out),
     }
 }
 
@@ -111,7 +112,7 @@ fn put_verdict<W: Device>(
     match verdict_line(alloc, mode, answer) {
         Ok(line) => Ending {
             answer,
-            written: put("", line.as_str(), out),
+            written: put_line("", line.as_str(), out),
         },
         Err(_) => put_memory(out),
     }
@@ -138,11 +139,11 @@ pub fn put_answer<W: Device>(
         Err(Stop::Outside { .. }) => put_verdict(alloc, mode, answer, out),
         Err(Stop::Read) => Ending {
             answer,
-            written: put("", "read failed", out),
+            written: put_line("", "read failed", out),
         },
         Err(Stop::Write) => Ending {
             answer,
-            written: put("", "write failed", out),
+            written: put_line("", "write failed", out),
         },
         Err(Stop::Memory) => put_memory(out),
     }
@@ -177,19 +178,19 @@ fn run_lines<'a, K: Sheet, R: Source, W: Device>(
     requires name { pen.out.ghost_name ≡ K.name }
     requires start { W.contents pen.out.now ≡ K.start }
     requires was_failed { W.has_failed pen.out.now ≡ K.was_failed }
-    requires lines { K.head ≡ None }
+    requires lines { K.opening ≡ bare }
     requires listing { listing ≡ K.listing }
     ensures same_reference { result.0.out.ghost_name ≡ K.name }
     ensures lines { (bytes : List ℕ) → R.left source.old ≡ Some bytes →
-        Writes (lines_of K.head K.listing 0) terms bytes result.1 K.start (W.contents result.0.out.now) }
-    ensures some { (bytes : List ℕ) × Writes (lines_of K.head K.listing 0) terms bytes result.1 K.start (W.contents result.0.out.now) }
+        Writes (lines_of K.opening K.listing 0) terms bytes result.1 K.start (W.contents result.0.out.now) }
+    ensures some { (bytes : List ℕ) × Writes (lines_of K.opening K.listing 0) terms bytes result.1 K.start (W.contents result.0.out.now) }
     ensures read { IsErrOf result.1 Stop.Read → (R.failures source.new ≡ R.failures source.old + 1)
         ⊎ ((n : ℕ) → R.was_read source.old n → R.was_read source.new (n + 2 ^ 41)) }
     ensures read_told { (IsQuiet R.failures source.old source.new) ⊎ (IsErrOf result.1 Stop.Read ⊎ IsErrOf result.1 Stop.Write) }
     ensures write { IsErrOf result.1 Stop.Write → W.has_failed result.0.out.now ≡ true }
     ensures quiet { result.1 ≢ Err Stop.Write → W.has_failed result.0.out.now ≡ K.was_failed }
 {
-    let mut sink: LineSink<'_, W, K> = LineSink::new(alloc, listing, Form::Lines, pen);
+    let mut sink: LineSink<'_, W, K> = LineSink::new(alloc, listing, Form::Lines(""), pen);
     let answer = run(alloc, source, &mut sink, terms.mode, terms.target);
     let broke_off = sink.broke_off();
     (sink.into_pen(), told_answer(answer, broke_off))
@@ -205,8 +206,8 @@ fn write_lines<R: Source, W: Device>(
 ) -> Result<Summary, Stop>
     requires { HasRoom R.failures source.old }
     ensures lines { (bytes : List ℕ) → R.left source.old ≡ Some bytes →
-        Writes (lines_of None listing 0) terms bytes result (W.contents out.old) (W.contents out.new) }
-    ensures some { (bytes : List ℕ) × Writes (lines_of None listing 0) terms bytes result (W.contents out.old) (W.contents out.new) }
+        Writes (lines_of bare listing 0) terms bytes result (W.contents out.old) (W.contents out.new) }
+    ensures some { (bytes : List ℕ) × Writes (lines_of bare listing 0) terms bytes result (W.contents out.old) (W.contents out.new) }
     ensures read { IsErrOf result Stop.Read → (R.failures source.new ≡ R.failures source.old + 1)
         ⊎ ((n : ℕ) → R.was_read source.old n → R.was_read source.new (n + 2 ^ 41)) }
     ensures read_told { (IsQuiet R.failures source.old source.new) ⊎ (IsErrOf result Stop.Read ⊎ IsErrOf result Stop.Write) }
@@ -286,7 +287,7 @@ fn put_trail<W: Device>(
     };
     Ending {
         answer,
-        written: put(text.as_str(), line.as_str(), out),
+        written: put_line(text.as_str(), line.as_str(), out),
     }
 }
 

@@ -21,6 +21,7 @@ mod filling;
 pub mod form;
 mod frames;
 pub mod head;
+mod json;
 pub mod judging;
 pub mod line_sink;
 pub mod lines;
@@ -43,15 +44,19 @@ pub mod yuv_sink;
 pub use decoder::Decoder;
 pub use device::{Device, WriteDevice};
 pub use form::Form;
-pub use judging::{Ending, check, decode, list, put_answer, put_memory, told_answer};
+pub use json::escaped;
+pub use judging::{Ending, check, decode, list, put_answer, put_line, put_memory, told_answer};
 pub use line_sink::LineSink;
-pub use lines::{element_line, frame_line, slice_line, unit_line, verdict_line};
+pub use lines::{
+    FrameCall, SliceCall, UnitCall, element_line, frame_line, slice_line, unit_line, verdict_line,
+};
 pub use listing::Listing;
 pub use page_sink::PageSink;
 pub use queue::{FrameQueue, ShownFrame};
 pub use rules::{
     FeatureEntry, RuleEntry, entry_by_label, entry_of, entry_of_feature, feature_by_name,
 };
+pub use send::put_text;
 pub use sheet::{Pen, Sheet};
 pub use trail::{Element, Trail};
 pub use trail_sink::TrailSink;

@@ -2,14 +2,15 @@
 #![tactic(auto)]
 
 ghost use Rattle.std.specs.Prelude.{◌≡◌, ℕ, ◌+◌, ◌-◌, ◌<◌, ◌^◌, false, List, OnOk, OnErr, string_bytes};
-ghost use Rattle.h264_report.specs.Objects.{head_of};
+ghost use Rattle.h264_report.specs.Objects.{opening_of};
 ghost use Rattle.h264_report.specs.Sent.{SendsOrBreaksOff, IsBlamed};
 ghost use Rattle.h264_report.specs.Told.{ended};
 
 use crate::device::Device;
 use crate::form::Form;
+use crate::lines::{FrameCall, SliceCall, UnitCall};
 use crate::listing::Listing;
-use crate::objects::{FrameCall, SliceCall, UnitCall, put_element, put_frame, put_slice, put_unit};
+use crate::objects::{put_element, put_frame, put_slice, put_unit};
 use crate::send::send;
 use crate::sheet::{Pen, Sheet};
 use h264_base::{ElementName, Elements, Failed, SliceType};
@@ -148,8 +149,8 @@ impl<'a, W: Device, K: Sheet> LineSink<'a, W, K> {
         nal_ref_idc: u8,
         length: u64,
     ) -> Result<(), Failed>
-        requires line { (n : ℕ) → line_of (head_of self.old.form) self.old.listing n (OfUnit byte nal_unit_type nal_ref_idc length) ≡ ended
-            (unit_in (head_of self.old.form) byte nal_unit_type nal_ref_idc length) }
+        requires line { (n : ℕ) → line_of (opening_of self.old.form) self.old.listing n (OfUnit byte nal_unit_type nal_ref_idc length) ≡ ended
+            (unit_in (opening_of self.old.form) byte nal_unit_type nal_ref_idc length) }
         requires uncounted { counted self.old.listing (OfUnit byte nal_unit_type nal_ref_idc length) ≡ 0 }
         requires whole { self.old.broke_off ≡ false }
         requires room { self.old.failures < 2 ^ 64 - 1 }
@@ -157,14 +158,14 @@ impl<'a, W: Device, K: Sheet> LineSink<'a, W, K> {
         ensures listing { self.new.listing ≡ self.old.listing }
         ensures same_reference { self.new.pen.out.ghost_name ≡ self.old.pen.out.ghost_name }
         ensures ok { (start : Option (List ℕ)) (was_failed : Bool) (before : List Call) →
-            HoldsLines (head_of self.old.form) self.old.listing start was_failed self.old.frames self.old.broke_off (W.has_failed self.old.pen.out.now)
+            HoldsLines (opening_of self.old.form) self.old.listing start was_failed self.old.frames self.old.broke_off (W.has_failed self.old.pen.out.now)
             (W.contents self.old.pen.out.now) before →
-            OnOk result (HoldsLines (head_of self.new.form) self.new.listing start was_failed self.new.frames self.new.broke_off
+            OnOk result (HoldsLines (opening_of self.new.form) self.new.listing start was_failed self.new.frames self.new.broke_off
             (W.has_failed self.new.pen.out.now) (W.contents self.new.pen.out.now) (before ++ OfUnit byte nal_unit_type nal_ref_idc length ∷ [])) }
         ensures refused { (start : Option (List ℕ)) (was_failed : Bool) (before : List Call) →
-            HoldsLines (head_of self.old.form) self.old.listing start was_failed self.old.frames self.old.broke_off (W.has_failed self.old.pen.out.now)
+            HoldsLines (opening_of self.old.form) self.old.listing start was_failed self.old.frames self.old.broke_off (W.has_failed self.old.pen.out.now)
             (W.contents self.old.pen.out.now) before →
-            OnErr result (HoldsLines (head_of self.new.form) self.new.listing start was_failed self.new.frames self.new.broke_off
+            OnErr result (HoldsLines (opening_of self.new.form) self.new.listing start was_failed self.new.frames self.new.broke_off
             (W.has_failed self.new.pen.out.now) (W.contents self.new.pen.out.now) before) }
         ensures kept { OnOk result (self.new.failures ≡ self.old.failures) }
         ensures failed { OnErr result (self.new.failures ≡ self.old.failures + 1) }
@@ -188,8 +189,8 @@ impl<'a, W: Device, K: Sheet> LineSink<'a, W, K> {
         frame_num: u32,
         count: i32,
     ) -> Result<(), Failed>
-        requires line { (n : ℕ) → line_of (head_of self.old.form) self.old.listing n (OfSlice byte first_mb_in_slice slice_type frame_num count) ≡ ended
-            (slice_in (head_of self.old.form) byte first_mb_in_slice slice_type frame_num count) }
+        requires line { (n : ℕ) → line_of (opening_of self.old.form) self.old.listing n (OfSlice byte first_mb_in_slice slice_type frame_num count) ≡ ended
+            (slice_in (opening_of self.old.form) byte first_mb_in_slice slice_type frame_num count) }
         requires uncounted { counted self.old.listing (OfSlice byte first_mb_in_slice slice_type frame_num count) ≡ 0 }
         requires whole { self.old.broke_off ≡ false }
         requires room { self.old.failures < 2 ^ 64 - 1 }
@@ -197,15 +198,15 @@ impl<'a, W: Device, K: Sheet> LineSink<'a, W, K> {
         ensures listing { self.new.listing ≡ self.old.listing }
         ensures same_reference { self.new.pen.out.ghost_name ≡ self.old.pen.out.ghost_name }
         ensures ok { (start : Option (List ℕ)) (was_failed : Bool) (before : List Call) →
-            HoldsLines (head_of self.old.form) self.old.listing start was_failed self.old.frames self.old.broke_off (W.has_failed self.old.pen.out.now)
+            HoldsLines (opening_of self.old.form) self.old.listing start was_failed self.old.frames self.old.broke_off (W.has_failed self.old.pen.out.now)
             (W.contents self.old.pen.out.now) before →
-            OnOk result (HoldsLines (head_of self.new.form) self.new.listing start was_failed self.new.frames self.new.broke_off
+            OnOk result (HoldsLines (opening_of self.new.form) self.new.listing start was_failed self.new.frames self.new.broke_off
             (W.has_failed self.new.pen.out.now) (W.contents self.new.pen.out.now)
             (before ++ OfSlice byte first_mb_in_slice slice_type frame_num count ∷ [])) }
         ensures refused { (start : Option (List ℕ)) (was_failed : Bool) (before : List Call) →
-            HoldsLines (head_of self.old.form) self.old.listing start was_failed self.old.frames self.old.broke_off (W.has_failed self.old.pen.out.now)
+            HoldsLines (opening_of self.old.form) self.old.listing start was_failed self.old.frames self.old.broke_off (W.has_failed self.old.pen.out.now)
             (W.contents self.old.pen.out.now) before →
-            OnErr result (HoldsLines (head_of self.new.form) self.new.listing start was_failed self.new.frames self.new.broke_off
+            OnErr result (HoldsLines (opening_of self.new.form) self.new.listing start was_failed self.new.frames self.new.broke_off
             (W.has_failed self.new.pen.out.now) (W.contents self.new.pen.out.now) before) }
         ensures kept { OnOk result (self.new.failures ≡ self.old.failures) }
         ensures failed { OnErr result (self.new.failures ≡ self.old.failures + 1) }
@@ -229,14 +230,14 @@ impl<'a, W: Device, K: Sheet> LineSink<'a, W, K> {
         ensures listing { self.new.listing ≡ self.old.listing }
         ensures same_reference { self.new.pen.out.ghost_name ≡ self.old.pen.out.ghost_name }
         ensures ok { (start : Option (List ℕ)) (was_failed : Bool) (before : List Call) →
-            HoldsLines (head_of self.old.form) self.old.listing start was_failed self.old.frames self.old.broke_off (W.has_failed self.old.pen.out.now)
+            HoldsLines (opening_of self.old.form) self.old.listing start was_failed self.old.frames self.old.broke_off (W.has_failed self.old.pen.out.now)
             (W.contents self.old.pen.out.now) before →
-            OnOk result (HoldsLines (head_of self.new.form) self.new.listing start was_failed self.new.frames self.new.broke_off
+            OnOk result (HoldsLines (opening_of self.new.form) self.new.listing start was_failed self.new.frames self.new.broke_off
             (W.has_failed self.new.pen.out.now) (W.contents self.new.pen.out.now) (before ++ OfElement name bit value ∷ [])) }
         ensures refused { (start : Option (List ℕ)) (was_failed : Bool) (before : List Call) →
-            HoldsLines (head_of self.old.form) self.old.listing start was_failed self.old.frames self.old.broke_off (W.has_failed self.old.pen.out.now)
+            HoldsLines (opening_of self.old.form) self.old.listing start was_failed self.old.frames self.old.broke_off (W.has_failed self.old.pen.out.now)
             (W.contents self.old.pen.out.now) before →
-            OnErr result (HoldsLines (head_of self.new.form) self.new.listing start was_failed self.new.frames self.new.broke_off
+            OnErr result (HoldsLines (opening_of self.new.form) self.new.listing start was_failed self.new.frames self.new.broke_off
             (W.has_failed self.new.pen.out.now) (W.contents self.new.pen.out.now) before) }
         ensures kept { OnOk result (self.new.failures ≡ self.old.failures) }
         ensures failed { OnErr result (self.new.failures ≡ self.old.failures + 1) }
@@ -255,14 +256,14 @@ impl<'a, W: Device, K: Sheet> LineSink<'a, W, K> {
         ensures listing { self.new.listing ≡ self.old.listing }
         ensures same_reference { self.new.pen.out.ghost_name ≡ self.old.pen.out.ghost_name }
         ensures ok { (start : Option (List ℕ)) (was_failed : Bool) (before : List Call) →
-            HoldsLines (head_of self.old.form) self.old.listing start was_failed self.old.frames self.old.broke_off (W.has_failed self.old.pen.out.now)
+            HoldsLines (opening_of self.old.form) self.old.listing start was_failed self.old.frames self.old.broke_off (W.has_failed self.old.pen.out.now)
             (W.contents self.old.pen.out.now) before →
-            OnOk result (HoldsLines (head_of self.new.form) self.new.listing start was_failed self.new.frames self.new.broke_off
+            OnOk result (HoldsLines (opening_of self.new.form) self.new.listing start was_failed self.new.frames self.new.broke_off
             (W.has_failed self.new.pen.out.now) (W.contents self.new.pen.out.now) (before ++ frame_call count frame.now rectangle ∷ [])) }
         ensures refused { (start : Option (List ℕ)) (was_failed : Bool) (before : List Call) →
-            HoldsLines (head_of self.old.form) self.old.listing start was_failed self.old.frames self.old.broke_off (W.has_failed self.old.pen.out.now)
+            HoldsLines (opening_of self.old.form) self.old.listing start was_failed self.old.frames self.old.broke_off (W.has_failed self.old.pen.out.now)
             (W.contents self.old.pen.out.now) before →
-            OnErr result (HoldsLines (head_of self.new.form) self.new.listing start was_failed self.new.frames self.new.broke_off
+            OnErr result (HoldsLines (opening_of self.new.form) self.new.listing start was_failed self.new.frames self.new.broke_off
             (W.has_failed self.new.pen.out.now) (W.contents self.new.pen.out.now) before) }
         ensures kept { OnOk result (self.new.failures ≡ self.old.failures) }
         ensures failed { OnErr result (self.new.failures ≡ self.old.failures + 1) }
@@ -289,7 +290,7 @@ impl<'a, W: Device, K: Sheet> LineSink<'a, W, K> {
 impl<'a, W: Device, K: Sheet> Elements for LineSink<'a, W, K> {
     ghost use Rattle.h264_report.specs.Told.{TookLines};
 
-    ghost took = { λ s calls. TookLines K.name K.head K.listing K.start K.was_failed s.pen.out.ghost_name (head_of s.form) s.listing s.frames s.broke_off
+    ghost took = { λ s calls. TookLines K.name K.opening K.listing K.start K.was_failed s.pen.out.ghost_name (opening_of s.form) s.listing s.frames s.broke_off
         (W.has_failed s.pen.out.now) (W.contents s.pen.out.now) calls };
 
     ghost failures = { λ s. s.failures };

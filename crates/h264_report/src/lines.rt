@@ -1,7 +1,7 @@
 //! The texts of the lines.
 #![tactic(auto)]
 
-ghost use Rattle.std.specs.Prelude.{◌≡◌, IfOk, IsTrue, OnOk, string_bytes};
+ghost use Rattle.std.specs.Prelude.{◌≡◌, ◌++◌, IfOk, IsTrue, OnOk, string_bytes};
 ghost use Rattle.h264_dpb.specs.Shown.{fits, width_in, height_in};
 ghost use Rattle.h264_report.specs.Frames.{shown_bytes};
 ghost use Rattle.h264_report.specs.Lines.{unit_text, type_text, slice_text, frame_text, element_text, yes_text, no_text, outside_text, verdict_text};
@@ -14,21 +14,46 @@ use h264_plane::Frame;
 use h264_verify::Summary;
 use std::alloc::{AllocError, Global};
 
-/// Makes a line that of a unit: the byte of the input where it begins, its nal_unit_type and nal_ref_idc, and its length in
-/// bytes. AllocError where there is no memory for it; the line is then a part of it.
-pub fn unit_line(
-    line: &mut String,
-    byte: u64,
-    nal_unit_type: u8,
-    nal_ref_idc: u8,
-    length: u64,
-) -> Result<(), AllocError>
-    ensures { OnOk result (string_bytes line.new ≡ unit_text byte nal_unit_type nal_ref_idc length) }
+/// A unit: the byte of the input where it begins, its nal_unit_type and nal_ref_idc, and its length in bytes.
+#[derive(Clone, Copy)]
+pub struct UnitCall {
+    pub byte: u64,
+    pub nal_unit_type: u8,
+    pub nal_ref_idc: u8,
+    pub length: u64,
+}
+
+/// A slice: the byte of the input where its unit begins, first_mb_in_slice, its type, and frame_num.
+#[derive(Clone, Copy)]
+pub struct SliceCall {
+    pub byte: u64,
+    pub first_mb_in_slice: u32,
+    pub slice_type: SliceType,
+    pub frame_num: u32,
+}
+
+/// A frame that is output: its index in the order of output, its samples, and what is shown of them.
+#[derive(Clone, Copy)]
+pub struct FrameCall<'a> {
+    pub index: u64,
+    pub frame: &'a Frame,
+    pub rectangle: Rectangle,
+}
+
+/// Makes a line that of a unit, with this text before it. AllocError where there is no memory for it; the line is then a part of it.
+pub fn unit_line(line: &mut String, prefix: &str, unit: UnitCall) -> Result<(), AllocError>
+    ensures { OnOk result (string_bytes line.new ≡ prefix.now ++ unit_text unit.byte unit.nal_unit_type unit.nal_ref_idc unit.length) }
 {
+    let UnitCall {
+        byte,
+        nal_unit_type,
+        nal_ref_idc,
+        length,
+    } = unit;
     line.clear();
     write!(
         line,
-        "unit {byte} type {nal_unit_type} ref {nal_ref_idc} bytes {length}"
+        "{prefix}unit {byte} type {nal_unit_type} ref {nal_ref_idc} bytes {length}"
     )?;
     Ok(())
 }
@@ -43,42 +68,51 @@ pub(crate) fn type_text(slice_type: SliceType) -> &'static str
     }
 }
 
-/// Makes a line that of a slice: the byte of the input where its unit begins, first_mb_in_slice, its type, frame_num, and the
-/// picture order count of its frame. AllocError where there is no memory for it; the line is then a part of it.
+/// Makes a line that of a slice and the picture order count of its frame, with this text before it. AllocError where there is no memory for it; the
+/// line is then a part of it.
 pub fn slice_line(
     line: &mut String,
-    byte: u64,
-    first_mb_in_slice: u32,
-    slice_type: SliceType,
-    frame_num: u32,
+    prefix: &str,
+    slice: SliceCall,
     count: i32,
 ) -> Result<(), AllocError>
-    ensures { OnOk result (string_bytes line.new ≡ slice_text byte first_mb_in_slice slice_type frame_num count) }
+    ensures { OnOk result (string_bytes line.new ≡ prefix.now ++ slice_text slice.byte slice.first_mb_in_slice slice.slice_type slice.frame_num count) }
 {
+    let SliceCall {
+        byte,
+        first_mb_in_slice,
+        slice_type,
+        frame_num,
+    } = slice;
     let kind = type_text(slice_type);
     line.clear();
     write!(
         line,
-        "slice {byte} mb {first_mb_in_slice} type {kind} frame {frame_num} count {count}"
+        "{prefix}slice {byte} mb {first_mb_in_slice} type {kind} frame {frame_num} count {count}"
     )?;
     Ok(())
 }
 
-/// Makes a line that of a frame: its index in the order of output, its picture order count, the size of what is shown of it in luma samples, and the
-/// MD5 digest of the samples that are shown, the rows of Y, then of Cb, then of Cr. AllocError where there is no memory for it; the line is then a part
-/// of it.
+/// Makes a line that of a frame, with this text before it: its index in the order of output, its picture order count, the size of what is shown of it in
+/// luma samples, and the MD5 digest of the samples that are shown, the rows of Y, then of Cb, then of Cr. AllocError where there is no memory for it;
+/// the line is then a part of it.
 pub fn frame_line(
     alloc: Global,
     line: &mut String,
-    index: u64,
+    prefix: &str,
+    call: FrameCall<'_>,
     count: i32,
-    frame: &Frame,
-    rectangle: Rectangle,
 ) -> Result<(), AllocError>
-    requires { IsTrue (fits rectangle frame.now) }
-    ensures { OnOk result (string_bytes line.new ≡ frame_text index count (width_in rectangle frame.now) (height_in rectangle frame.now)
-        (shown_bytes frame.now rectangle)) }
+    requires { IsTrue (fits call.rectangle call.frame.now) }
+    ensures { OnOk result (string_bytes line.new ≡ prefix.now ++ frame_text call.entry.index count
+        (width_in call.entry.rectangle call.entry.frame.now) (height_in call.entry.rectangle call.entry.frame.now)
+        (shown_bytes call.entry.frame.now call.entry.rectangle)) }
 {
+    let FrameCall {
+        index,
+        frame,
+        rectangle,
+    } = call;
     let width = width(frame, rectangle);
     let height = height(frame, rectangle);
     let digits = hex::encode(alloc, digest(frame, rectangle))?;
@@ -86,24 +120,25 @@ pub fn frame_line(
     line.clear();
     write!(
         line,
-        "frame {index} count {count} {width}x{height} md5 {digits}"
+        "{prefix}frame {index} count {count} {width}x{height} md5 {digits}"
     )?;
     Ok(())
 }
 
-/// Makes a line that of a syntax element: its name, the stream bit where it begins, and its value. AllocError where there is no memory for it; the line
-/// is then a part of it.
+/// Makes a line that of a syntax element, with this text before it: its name, the stream bit where it begins, and its value. AllocError where there is
+/// no memory for it; the line is then a part of it.
 pub fn element_line(
     line: &mut String,
+    prefix: &str,
     name: ElementName,
     bit: u64,
     value: i64,
 ) -> Result<(), AllocError>
-    ensures { OnOk result (string_bytes line.new ≡ element_text name bit value) }
+    ensures { OnOk result (string_bytes line.new ≡ prefix.now ++ element_text name bit value) }
 {
     let name = name.text();
     line.clear();
-    write!(line, "element {name} bit {bit} value {value}")?;
+    write!(line, "{prefix}element {name} bit {bit} value {value}")?;
     Ok(())
 }
 

@@ -4,42 +4,16 @@
 ghost use Rattle.std.specs.Prelude.{◌≡◌, IsTrue, OnOk, string_bytes};
 ghost use Rattle.h264_dpb.specs.Shown.{fits, width_in, height_in};
 ghost use Rattle.h264_report.specs.Frames.{shown_bytes};
-ghost use Rattle.h264_report.specs.Objects.{unit_object, slice_object, element_object, frame_object, head_of, unit_in, slice_in, element_in, frame_in};
+ghost use Rattle.h264_report.specs.Objects.{unit_object, slice_object, element_object, frame_object, opening_of, unit_in, slice_in, element_in, frame_in};
 
 use crate::form::Form;
 use crate::frames::digest;
-use crate::lines::{element_line, frame_line, slice_line, type_text, unit_line};
+use crate::lines::{
+    FrameCall, SliceCall, UnitCall, element_line, frame_line, slice_line, type_text, unit_line,
+};
 use crate::rows::{height, width};
-use h264_base::{ElementName, SliceType};
-use h264_dpb::Rectangle;
-use h264_plane::Frame;
+use h264_base::ElementName;
 use std::alloc::{AllocError, Global};
-
-/// A unit: the byte of the input where it begins, its nal_unit_type and nal_ref_idc, and its length in bytes.
-#[derive(Clone, Copy)]
-pub struct UnitCall {
-    pub byte: u64,
-    pub nal_unit_type: u8,
-    pub nal_ref_idc: u8,
-    pub length: u64,
-}
-
-/// A slice: the byte of the input where its unit begins, first_mb_in_slice, its type, and frame_num.
-#[derive(Clone, Copy)]
-pub struct SliceCall {
-    pub byte: u64,
-    pub first_mb_in_slice: u32,
-    pub slice_type: SliceType,
-    pub frame_num: u32,
-}
-
-/// A frame that is output: its index in the order of output, its samples, and what is shown of them.
-#[derive(Clone, Copy)]
-pub struct FrameCall<'a> {
-    pub index: u64,
-    pub frame: &'a Frame,
-    pub rectangle: Rectangle,
-}
 
 /// Makes a text the object of a unit. AllocError where there is no memory for it; the text is then a part of it.
 fn put_unit_object(text: &mut String, head: &str, unit: UnitCall) -> Result<(), AllocError>
@@ -61,16 +35,10 @@ fn put_unit_object(text: &mut String, head: &str, unit: UnitCall) -> Result<(), 
 
 /// Makes a text what is written of a unit. AllocError where there is no memory for it; the text is then a part of it.
 pub fn put_unit(text: &mut String, form: Form<'_>, unit: UnitCall) -> Result<(), AllocError>
-    ensures { OnOk result (string_bytes text.new ≡ unit_in (head_of form.entry) unit.byte unit.nal_unit_type unit.nal_ref_idc unit.length) }
+    ensures { OnOk result (string_bytes text.new ≡ unit_in (opening_of form.entry) unit.byte unit.nal_unit_type unit.nal_ref_idc unit.length) }
 {
     match form {
-        Form::Lines => unit_line(
-            text,
-            unit.byte,
-            unit.nal_unit_type,
-            unit.nal_ref_idc,
-            unit.length,
-        ),
+        Form::Lines(prefix) => unit_line(text, prefix, unit),
         Form::Objects(head) => put_unit_object(text, head, unit),
     }
 }
@@ -108,18 +76,11 @@ pub fn put_slice(
     slice: SliceCall,
     count: i32,
 ) -> Result<(), AllocError>
-    ensures { OnOk result (string_bytes text.new ≡ slice_in (head_of form.entry) slice.byte slice.first_mb_in_slice slice.slice_type slice.frame_num
+    ensures { OnOk result (string_bytes text.new ≡ slice_in (opening_of form.entry) slice.byte slice.first_mb_in_slice slice.slice_type slice.frame_num
         count) }
 {
     match form {
-        Form::Lines => slice_line(
-            text,
-            slice.byte,
-            slice.first_mb_in_slice,
-            slice.slice_type,
-            slice.frame_num,
-            count,
-        ),
+        Form::Lines(prefix) => slice_line(text, prefix, slice, count),
         Form::Objects(head) => put_slice_object(text, head, slice, count),
     }
 }
@@ -151,10 +112,10 @@ pub fn put_element(
     bit: u64,
     value: i64,
 ) -> Result<(), AllocError>
-    ensures { OnOk result (string_bytes text.new ≡ element_in (head_of form.entry) name bit value) }
+    ensures { OnOk result (string_bytes text.new ≡ element_in (opening_of form.entry) name bit value) }
 {
     match form {
-        Form::Lines => element_line(text, name, bit, value),
+        Form::Lines(prefix) => element_line(text, prefix, name, bit, value),
         Form::Objects(head) => put_element_object(text, head, name, bit, value),
     }
 }
@@ -198,12 +159,12 @@ pub fn put_frame(
     count: i32,
 ) -> Result<(), AllocError>
     requires { IsTrue (fits call.rectangle call.frame.now) }
-    ensures { OnOk result (string_bytes text.new ≡ frame_in (head_of form.entry) call.entry.index count
+    ensures { OnOk result (string_bytes text.new ≡ frame_in (opening_of form.entry) call.entry.index count
         (width_in call.entry.rectangle call.entry.frame.now) (height_in call.entry.rectangle call.entry.frame.now)
         (shown_bytes call.entry.frame.now call.entry.rectangle)) }
 {
     match form {
-        Form::Lines => frame_line(alloc, text, call.index, count, call.frame, call.rectangle),
+        Form::Lines(prefix) => frame_line(alloc, text, prefix, call, count),
         Form::Objects(head) => put_frame_object(alloc, text, head, call, count),
     }
 }

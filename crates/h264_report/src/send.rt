@@ -1,8 +1,8 @@
-//! Bytes to a device, all of them or the first of them.
+//! Bytes and texts to a device, all of them or the first of them.
 #![tactic(auto)]
 
-ghost use Rattle.std.specs.Prelude.{◌≡◌, ◌≤◌, length, drop, true, OnOk, OnErr};
-ghost use Rattle.h264_report.specs.Sent.{Sends, SendsFront};
+ghost use Rattle.std.specs.Prelude.{◌≡◌, ◌≤◌, length, drop, true, false, OnOk, OnErr};
+ghost use Rattle.h264_report.specs.Sent.{Sends, SendsFront, Takes};
 
 use crate::device::Device;
 use h264_base::Failed;
@@ -35,4 +35,20 @@ pub(crate) fn send<W: Device>(out: &mut W, bytes: &[u8]) -> Result<(), Failed>
         }
     }
     Ok(())
+}
+
+/// Writes a text, and hands over all that was held back; whether that was possible.
+pub fn put_text<W: Device>(out: &mut W, text: &str) -> bool
+    ensures text { Takes result (W.contents out.old) (W.contents out.new) text.now }
+    ensures handed_over { result ≡ true → W.holds_back out.new ≡ false }
+    ensures quiet { result ≡ true → W.has_failed out.new ≡ W.has_failed out.old }
+    ensures failed { result ≡ false → W.has_failed out.new ≡ true }
+{
+    if send(out, text.as_bytes()).is_err() {
+        return false;
+    }
+    match out.send_rest() {
+        Ok(()) => true,
+        Err(Failed) => false,
+    }
 }

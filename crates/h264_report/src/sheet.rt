@@ -7,6 +7,7 @@ use std::marker::Brand;
 /// For proofs alone: what a sink was made for. Whoever runs a sink picks it, so that the sink is known to stay that for which it was made.
 pub trait Sheet {
     ghost use Rattle.std.specs.Prelude.{ℕ, Bool, List, Option};
+    ghost use Rattle.h264_report.specs.Objects.{Opening};
     ghost use Rattle.h264_report.specs.declared.listing.Listing.{Listing};
 
     /// The reference to the writer.
@@ -18,8 +19,8 @@ pub trait Sheet {
     /// Whether the writer had failed before.
     ghost was_failed: { Bool };
 
-    /// What each object begins with; none where lines are written.
-    ghost head: { Option (List ℕ) };
+    /// What each line or object begins with.
+    ghost opening: { Opening };
 
     /// The calls that have lines.
     ghost listing: { Listing };
@@ -27,6 +28,7 @@ pub trait Sheet {
 
 impl Sheet for Brand {
     ghost use Rattle.std.specs.Prelude.{None, false};
+    ghost use Rattle.h264_report.specs.Objects.{bare};
     ghost use Rattle.h264_report.specs.declared.listing.Listing.TheVariants as listings;
 
     ghost name = { 0 };
@@ -35,7 +37,7 @@ impl Sheet for Brand {
 
     ghost was_failed = { false };
 
-    ghost head = { None };
+    ghost opening = { bare };
 
     ghost listing = { listings.Nothing };
 }

@@ -46,7 +46,7 @@ impl Model for Trail {
 fn add_line(lines: &mut String, line: &mut String, element: Element) -> Result<(), AllocError>
     ensures { OnOk result (string_bytes lines.new ≡ string_bytes lines.old ++ ended (element_text element.name element.bit element.value)) }
 {
-    element_line(line, element.name, element.bit, element.value)?;
+    element_line(line, "", element.name, element.bit, element.value)?;
     lines.push_str(line.as_str())?;
     lines.push('\n')
 }

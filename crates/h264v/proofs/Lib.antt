@@ -1,3 +1,5 @@
 pub mod Added
 mod Failing
 mod Statuses
+mod Explained
+mod Told

@@ -2,3 +2,4 @@ pub mod Words
 pub mod Files
 pub mod Commands
 pub mod More
+pub mod Explained

@@ -1,5 +1,5 @@
 -- What the program comes to, whatever its words ask: the exit status, and what it writes to standard output. To be read beside docs/OUTPUT.md.
-use Rattle.std.specs.Prelude.{◌≡◌, ℕ, ◌<◌, max, Bool, true, false, List, [], ◌∷◌, length, Option, Some, Err, if◌then◌else◌}
+use Rattle.std.specs.Prelude.{◌≡◌, ℕ, ◌+◌, ◌-◌, ◌^◌, ◌<◌, min, max, Bool, true, false, List, [], ◌∷◌, length, Option, Some, Err, if◌then◌else◌}
 use Rattle.h264_base.specs.declared.mode.Mode.TheVariants as modes
 use Rattle.h264_base.specs.declared.stop.Stop.TheVariants.{Memory}
 use Rattle.h264_report.specs.Sent.{Takes}
@@ -14,6 +14,10 @@ use Rattle.h264v.specs.Commands.{Output, Comes}
 abbrev pub worst : List Ending → ℕ
 worst [] = 0
 worst (e ∷ es) = max (worst es) (status_of e.written e.answer)
+
+-- a count with one more, where there is one; it stays below 2^64
+abbrev pub one_more : Bool → ℕ → ℕ
+one_more more n = if more then min (n + 1) (2 ^ 64 - 1) else n
 
 -- the exit status of a text that was written, or could not be
 abbrev pub text_status : Bool → ℕ

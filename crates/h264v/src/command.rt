@@ -1,14 +1,14 @@
 //! The command line.
 #![tactic(auto)]
 
-ghost use Rattle.std.specs.Prelude.{◌≡◌, ◌-◌, ◌<◌, ◌^◌, ◌⊎◌, true, false, List, Some, Err, map, string_bytes};
+ghost use Rattle.std.specs.Prelude.{◌≡◌, ◌-◌, ◌<◌, ◌^◌, ◌⊎◌, true, false, List, Some, Err, codes, map, string_bytes};
 ghost use Rattle.h264_base.specs.Call.{HasRoom};
 ghost use Rattle.clap.specs.Words.{Text, takes, kind_of};
 ghost use Rattle.clap.specs.declared.error.kind.ErrorKind.TheVariants as kinds;
 ghost use Rattle.h264_base.specs.declared.mode.Mode.TheVariants as modes;
 ghost use Rattle.h264_base.specs.declared.mode.Target.TheVariants as targets;
 ghost use Rattle.h264_verify.specs.Units.{terms_of};
-ghost use Rattle.h264_report.specs.Sent.{Takes};
+ghost use Rattle.h264_report.specs.Sent.{Sends, Takes};
 ghost use Rattle.h264_report.specs.Written.{OfBytes, last_line};
 ghost use Rattle.h264v.specs.Commands.{Performs, SaysAlone, TellsFailures, IsExcused, Faults, Comes, ComesTo, output_of};
 ghost use Rattle.h264v.specs.Files.{HasFailedToRead, HasReadAll};
@@ -19,8 +19,8 @@ use crate::files::Files;
 use crate::outcome::Outcome;
 use clap::Error;
 use clap::error::ErrorKind;
-use h264_base::{Failed, Mode, Stop, Target};
-use h264_report::{Device, Ending, Listing, check, decode, list, put_answer, put_memory};
+use h264_base::{Mode, Stop, Target};
+use h264_report::{Device, Ending, Listing, check, decode, list, put_answer, put_memory, put_text};
 use h264_verify::{Source, Terms};
 use std::alloc::Global;
 
@@ -107,28 +107,28 @@ fn no_file<W: Device, E: Device>(alloc: Global, task: Task, out: &mut W, err: &m
     }
 }
 
-/// Hands over a text that says why words are refused: the exit status of a fault of the words.
-fn refused<E: Device>(err: &mut E) -> u8
+/// Says why words are refused: the exit status of a fault of the words.
+fn refused<E: Device>(err: &mut E, text: &str) -> u8
     ensures status { result ≡ 64 }
     ensures handed_over { (E.holds_back err.new ≡ false) ⊎ (E.has_failed err.new ≡ true) }
+    ensures told { E.has_failed err.new ≡ false → Sends (E.contents err.old) (E.contents err.new) text.now }
 {
-    match err.send_rest() {
-        Ok(()) => FAULT,
-        Err(Failed) => FAULT,
-    }
+    let _ = put_text(err, text);
+    FAULT
 }
 
 /// Says that a word is no text, where no file has a name that can be opened: the exit status of a fault of the words.
 pub fn not_text<E: Device>(err: &mut E) -> u8
     ensures status { result ≡ 64 }
     ensures handed_over { (E.holds_back err.new ≡ false) ⊎ (E.has_failed err.new ≡ true) }
+    ensures told { E.has_failed err.new ≡ false → Sends (E.contents err.old) (E.contents err.new) (codes
+        "h264v: a word is not UTF-8; a file with such a name is judged from standard input: h264v check - <FILE\n") }
 {
-    let _ = err.write_all(NOT_TEXT.as_bytes());
-    refused(err)
+    refused(err, NOT_TEXT)
 }
 
 /// Says why the words ask for nothing: the exit status of a fault of the words. Where memory was wanting for that, it is said on `out`.
-fn fault<W: Device, E: Device>(error: &Error, out: &mut W, err: &mut E) -> u8
+fn fault<W: Device, E: Device>(alloc: Global, error: &Error, out: &mut W, err: &mut E) -> u8
     ensures { (words : List Text) → (takes program words ≡ true → kind_of error.now ≡ kinds.OutOfMemory) →
         Faults words result (output_of W.contents W.has_failed W.holds_back out.old) (output_of W.contents W.has_failed W.holds_back out.new)
         (output_of E.contents E.has_failed E.holds_back err.old) (output_of E.contents E.has_failed E.holds_back err.new) }
@@ -136,8 +136,10 @@ fn fault<W: Device, E: Device>(error: &Error, out: &mut W, err: &mut E) -> u8
     if error.kind() == ErrorKind::OutOfMemory {
         return put_memory(out).status();
     }
-    let _ = err.write_fmt(error);
-    refused(err)
+    match format!(in alloc; "{error}") {
+        Ok(text) => refused(err, text.as_str()),
+        Err(_) => put_memory(out).status(),
+    }
 }
 
 /// Does what is asked of a file that stands for itself.
@@ -180,11 +182,8 @@ pub fn command<'a, F: Files, W: Device, E: Device>(
         (output_of E.contents E.has_failed E.holds_back err.old) (output_of E.contents E.has_failed E.holds_back err.new) }
 {
     match asked(alloc, words) {
-        Err(error) => Outcome::Done(fault(&error, out, err)),
-        Ok(None) => {
-            let _ = err.write_all(NO_TASK.as_bytes());
-            Outcome::Done(refused(err))
-        }
+        Err(error) => Outcome::Done(fault(alloc, &error, out, err)),
+        Ok(None) => Outcome::Done(refused(err, NO_TASK)),
         Ok(Some(wanted)) => {
             if wanted.is_plain() {
                 return Outcome::Done(serve(alloc, wanted.request, files, out, err));

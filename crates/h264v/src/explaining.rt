@@ -1,11 +1,22 @@
 //! The entries of rules and features, as `explain` prints them.
 #![tactic(auto)]
 
+ghost use Rattle.std.specs.Prelude.{◌≡◌, ◌++◌, IfOk, IfSome, IfNone, OnOk, string_bytes};
+ghost use Rattle.h264v.specs.Explained.{label_in, IsNoLabel, rule_lines, rule_object, feature_lines, feature_object, entry_text};
+
 use h264_base::Stop;
-use h264_report::pages::{Answer, Guide, Page};
+use h264_report::pages::{Answer, Guide};
 use h264_report::{
-    FeatureEntry, RuleEntry, entry_by_label, entry_of, entry_of_feature, feature_by_name,
+    FeatureEntry, RuleEntry, entry_by_label, entry_of, entry_of_feature, escaped, feature_by_name,
 };
+use std::alloc::{AllocError, Global};
+
+/// What is said of a rule, or of a feature that is not judged.
+#[derive(Clone, Copy)]
+pub enum Entry {
+    Rule(RuleEntry),
+    Feature(FeatureEntry),
+}
 
 /// What is said to a reader of an answer.
 pub fn guide_of(answer: Answer) -> Option<Guide<'static>> {
@@ -28,70 +39,99 @@ pub fn guide_of(answer: Answer) -> Option<Guide<'static>> {
     }
 }
 
-/// Adds the lines of a rule.
-fn put_rule(page: &mut Page, entry: RuleEntry) {
-    page.put(entry.rule.label());
-    page.put(" (clause ");
-    page.put(entry.rule.clause());
-    page.put(")\nbreaks: ");
-    page.put(entry.breaks);
-    page.put("\nbit: ");
-    page.put(entry.bit);
-    page.put("\ncause: ");
-    page.put(entry.cause);
-    page.put("\n");
+/// The lines of a rule. AllocError: there is no memory for them.
+fn rule_lines(alloc: Global, entry: RuleEntry) -> Result<String, AllocError>
+    ensures { IfOk result (λ s. string_bytes s ≡ rule_lines entry.entry) }
+{
+    let label = entry.rule.label();
+    let clause = entry.rule.clause();
+    let RuleEntry {
+        breaks,
+        bit,
+        cause,
+        ..
+    } = entry;
+    format!(in alloc; "{label} (clause {clause})\nbreaks: {breaks}\nbit: {bit}\ncause: {cause}\n")
 }
 
-/// Adds the object of a rule.
-fn put_rule_object(page: &mut Page, entry: RuleEntry) {
-    page.put("{\"kind\":\"rule\"");
-    page.text_field("label", entry.rule.label());
-    page.text_field("clause", entry.rule.clause());
-    page.text_field("breaks", entry.breaks);
-    page.text_field("bit", entry.bit);
-    page.text_field("cause", entry.cause);
-    page.close_object();
+/// The object of a rule. AllocError: there is no memory for it.
+fn rule_object(alloc: Global, entry: RuleEntry) -> Result<String, AllocError>
+    ensures { IfOk result (λ s. string_bytes s ≡ rule_object entry.entry) }
+{
+    let label = entry.rule.label();
+    let clause = entry.rule.clause();
+    let breaks = escaped(alloc, entry.breaks)?;
+    let bit = escaped(alloc, entry.bit)?;
+    let cause = escaped(alloc, entry.cause)?;
+    let (breaks, bit, cause) = (breaks.as_str(), bit.as_str(), cause.as_str());
+    format!(in alloc;
+        "{{\"kind\":\"rule\",\"label\":\"{label}\",\"clause\":\"{clause}\",\"breaks\":\"{breaks}\",\"bit\":\"{bit}\",\"cause\":\"{cause}\"}}\n"
+    )
 }
 
-/// Adds the lines of a feature.
-fn put_feature(page: &mut Page, entry: FeatureEntry) {
-    page.put(entry.feature.text());
-    page.put(" (outside)\nstands: ");
-    page.put(entry.stands);
-    page.put("\nbit: ");
-    page.put(entry.bit);
-    page.put("\nadvice: ");
-    page.put(entry.advice);
-    page.put("\n");
+/// The lines of a feature. AllocError: there is no memory for them.
+fn feature_lines(alloc: Global, entry: FeatureEntry) -> Result<String, AllocError>
+    ensures { IfOk result (λ s. string_bytes s ≡ feature_lines entry.entry) }
+{
+    let label = entry.feature.text();
+    let FeatureEntry {
+        stands,
+        bit,
+        advice,
+        ..
+    } = entry;
+    format!(in alloc; "{label} (outside)\nstands: {stands}\nbit: {bit}\nadvice: {advice}\n")
 }
 
-/// Adds the object of a feature.
-fn put_feature_object(page: &mut Page, entry: FeatureEntry) {
-    page.put("{\"kind\":\"feature\"");
-    page.text_field("label", entry.feature.text());
-    page.text_field("stands", entry.stands);
-    page.text_field("bit", entry.bit);
-    page.text_field("advice", entry.advice);
-    page.close_object();
+/// The object of a feature. AllocError: there is no memory for it.
+fn feature_object(alloc: Global, entry: FeatureEntry) -> Result<String, AllocError>
+    ensures { IfOk result (λ s. string_bytes s ≡ feature_object entry.entry) }
+{
+    let label = entry.feature.text();
+    let stands = escaped(alloc, entry.stands)?;
+    let bit = escaped(alloc, entry.bit)?;
+    let advice = escaped(alloc, entry.advice)?;
+    let (stands, bit, advice) = (stands.as_str(), bit.as_str(), advice.as_str());
+    format!(in alloc;
+        "{{\"kind\":\"feature\",\"label\":\"{label}\",\"stands\":\"{stands}\",\"bit\":\"{bit}\",\"advice\":\"{advice}\"}}\n"
+    )
 }
 
-/// Adds the entry of the rule or feature with this label; whether there is one.
-pub fn put_entry(page: &mut Page, label: &str, json: bool) -> bool {
-    if let Some(entry) = entry_by_label(label) {
-        if json {
-            put_rule_object(page, entry);
-        } else {
-            put_rule(page, entry);
-        }
-        return true;
+/// The lines of an entry, or its object. AllocError: there is no memory for them.
+fn entry_text(alloc: Global, entry: Entry, json: bool) -> Result<String, AllocError>
+    ensures { IfOk result (λ s. string_bytes s ≡ entry_text json entry.entry) }
+{
+    match (entry, json) {
+        (Entry::Rule(entry), true) => rule_object(alloc, entry),
+        (Entry::Rule(entry), false) => rule_lines(alloc, entry),
+        (Entry::Feature(entry), true) => feature_object(alloc, entry),
+        (Entry::Feature(entry), false) => feature_lines(alloc, entry),
     }
-    if let Some(entry) = feature_by_name(label) {
-        if json {
-            put_feature_object(page, entry);
-        } else {
-            put_feature(page, entry);
-        }
-        return true;
+}
+
+/// Adds the lines of an entry, or its object. AllocError: there is no memory for them.
+pub fn put_entry(
+    alloc: Global,
+    text: &mut String,
+    entry: Entry,
+    json: bool,
+) -> Result<(), AllocError>
+    ensures { OnOk result (string_bytes text.new ≡ string_bytes text.old ++ entry_text json entry.entry) }
+{
+    let more = entry_text(alloc, entry, json)?;
+    text.push_str(more.as_str())
+}
+
+/// The entry of the rule or the feature with this label.
+pub fn entry_labelled(label: &str) -> Option<Entry>
+    ensures is { IfSome result (λ entry. label_in entry ≡ label.now) }
+    ensures none { IfNone result (IsNoLabel label.now) }
+{
+    match entry_by_label(label) {
+        Some(entry) => Some(Entry::Rule(entry)),
+        None => match feature_by_name(label) {
+            Some(entry) => Some(Entry::Feature(entry)),
+            None => None,
+        },
     }
-    false
 }

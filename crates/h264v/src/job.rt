@@ -17,11 +17,10 @@ use h264_report::pages::{
 use h264_report::survey::{Meter, Narrowed, Survey, Surveyed};
 use h264_report::{
     Device, Ending, Form, LineSink, Listing, PageSink, Pen, TrailSink, WriteDevice, Y4mSink,
-    YuvSink, told_answer, verdict_line,
+    YuvSink, put_line, put_text, told_answer, verdict_line,
 };
 use h264_verify::{FrameSink, run};
 use std::alloc::Global;
-use std::io::Write;
 use std::marker::Brand;
 
 /// What is to be done with a file.
@@ -32,6 +31,8 @@ pub struct Job<'a> {
     pub options: Options<'a>,
     /// The file's name, as the words give it.
     pub file: &'a str,
+    /// What stands before each line of the answer: the file's name, where there are several.
+    pub prefix: &'a str,
 }
 
 /// What was found of a file.
@@ -205,7 +206,7 @@ pub fn list_file<O: Opener + Drop, W: Device, M: Meter + Drop>(
         head.begin_object(job.file);
         Form::Objects(head.as_str())
     } else {
-        Form::Lines
+        Form::Lines(job.prefix)
     };
     if head.is_short() {
         return None;
@@ -329,14 +330,6 @@ pub fn info_file<O: Opener + Drop, M: Meter + Drop>(
     })
 }
 
-/// Writes a text and all that was held back; whether this was possible.
-pub fn put_text<W: Write>(out: &mut W, text: &str) -> bool {
-    if out.write_all(text.as_bytes()).is_err() {
-        return false;
-    }
-    out.flush().is_ok()
-}
-
 /// Where the answer of a judgement stands.
 fn finding_of(found: &Found) -> Option<Finding> {
     Finding::of(
@@ -380,12 +373,12 @@ fn put_verdict_object(job: &Job<'_>, page: &mut Page, found: &Found) {
     page.close_object();
 }
 
-/// The last line of an answer of memory or of a device, with its end.
+/// The last line of an answer of memory or of a device.
 fn unjudged_line(stop: Stop) -> &'static str {
     match stop {
-        Stop::Read => "read failed\n",
-        Stop::Write => "write failed\n",
-        _ => "memory\n",
+        Stop::Read => "read failed",
+        Stop::Write => "write failed",
+        _ => "memory",
     }
 }
 
@@ -398,53 +391,60 @@ fn short_of(answer: Answer) -> Stop {
     }
 }
 
+/// Adds what is written at the end of a judgement.
+fn put_end(job: &Job<'_>, page: &mut Page, found: &Found) {
+    if !job.options.json || job.task == Task::Info {
+        page.put(found.before.as_str());
+    }
+    if !job.options.json {
+        put_last_lines(job, page, found);
+        return;
+    }
+    if job.task == Task::Decode && found.before.as_str() != "" {
+        page.open_object(job.file, "change");
+        page.text_field("text", found.before.as_str().trim_end());
+        page.close_object();
+    }
+    put_verdict_object(job, page, found);
+}
+
 /// Writes the end of a judgement: lines, or an object of JSON; nothing where quiet is asked.
-pub fn put_found<W: Write>(job: &Job<'_>, out: &mut W, found: &Found) -> Ending {
+pub fn put_found<W: Device>(job: &Job<'_>, out: &mut W, found: &Found) -> Ending {
     let mut page = Page::new(job.alloc);
     if !job.options.quiet {
-        if !job.options.json || job.task == Task::Info {
-            page.put(found.before.as_str());
-        }
-        if job.options.json {
-            if job.task == Task::Decode && found.before.as_str() != "" {
-                page.open_object(job.file, "change");
-                page.text_field("text", found.before.as_str().trim_end());
-                page.close_object();
-            }
-            put_verdict_object(job, &mut page, found);
-        } else {
-            put_last_lines(job, &mut page, found);
-        }
+        put_end(job, &mut page, found);
     }
-    if page.is_short() {
+    let mut lines = Page::new(job.alloc);
+    lines.put_lines(job.prefix, page.as_str());
+    if page.is_short() || lines.is_short() {
         let stop = short_of(found.answer);
         return Ending {
             answer: Err(stop),
-            written: put_text(out, unjudged_line(stop)),
+            written: put_line(job.prefix, unjudged_line(stop), out),
         };
     }
     Ending {
         answer: found.answer,
-        written: put_text(out, page.as_str()),
+        written: put_text(out, lines.as_str()),
     }
 }
 
 /// Writes that a file was not judged, by an answer of memory or of a device.
-pub fn put_unjudged<W: Write>(job: &Job<'_>, out: &mut W, stop: Stop) -> Ending {
+pub fn put_unjudged<W: Device>(job: &Job<'_>, out: &mut W, stop: Stop) -> Ending {
     let mut page = Page::new(job.alloc);
     page.open_object(job.file, "verdict");
     put_answer_fields(&mut page, Err(stop));
     page.close_object();
-    let text = if job.options.quiet {
-        ""
+    let written = if job.options.quiet {
+        put_text(out, "")
     } else if job.options.json && !page.is_short() {
-        page.as_str()
+        put_text(out, page.as_str())
     } else {
-        unjudged_line(stop)
+        put_line(job.prefix, unjudged_line(stop), out)
     };
     Ending {
         answer: Err(stop),
-        written: put_text(out, text),
+        written,
     }
 }
 
@@ -498,7 +498,7 @@ fn judge_pictures<O: Opener + Drop, W: Device, M: Meter + Drop>(
     let digests: LineSink<'_, W, Brand> = LineSink::new(
         job.alloc,
         Listing::Frames,
-        Form::Lines,
+        Form::Lines(""),
         pen,
     );
     let sink = PageSink {

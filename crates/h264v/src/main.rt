@@ -25,7 +25,6 @@ mod outcome;
 mod picture_tests;
 #[cfg(test)]
 mod plain;
-mod prefixed;
 mod program;
 mod progress;
 #[cfg(test)]

@@ -1,25 +1,26 @@
 //! What the words ask for beside the judgement of one file: options, several files, and the tasks that make texts of their own.
 #![tactic(auto)]
 
-ghost use Rattle.std.specs.Prelude.{◌≡◌, ◌-◌, ◌<◌, ◌^◌, ◌⊎◌, max, List, length};
+ghost use Rattle.std.specs.Prelude.{◌≡◌, ◌==◌, ◌-◌, ◌<◌, ◌^◌, ◌++◌, ◌⊎◌, false, max, map, not, nat_le, List, length, codes};
+ghost use Rattle.h264_report.specs.Sent.{Sends, Takes};
+ghost use Rattle.h264_report.specs.Told.{ended};
 ghost use Rattle.h264_report.specs.Written.{status_of};
 ghost use Rattle.h264_report.specs.declared.judging.Ending.{Ending as EndingView};
-ghost use Rattle.h264v.specs.More.{worst, IsStatus};
+ghost use Rattle.h264v.specs.Explained.{IsExplained};
+ghost use Rattle.h264v.specs.More.{worst, one_more, IsStatus};
 
 use crate::command::FAULT;
 use crate::command_line::{Task, Wanted};
-use crate::explaining::put_entry;
+use crate::explaining::{entry_labelled, put_entry};
 use crate::files::{Files, OpenedFiles, Opener};
 use crate::job::{
-    Found, Job, check_file, decode_file, info_file, list_file, put_found, put_text, put_unjudged,
-    report_file,
+    Found, Job, check_file, decode_file, info_file, list_file, put_found, put_unjudged, report_file,
 };
 use crate::options::{Options, Refusal, options_of};
-use crate::prefixed::Prefixed;
 use h264_base::Stop;
 use h264_report::pages::Page;
 use h264_report::survey::Meter;
-use h264_report::{Device, Ending, WriteDevice};
+use h264_report::{Device, Ending, WriteDevice, put_line, put_memory, put_text};
 use std::alloc::Global;
 use std::io;
 use std::io::Write;
@@ -70,7 +71,13 @@ impl Totals {
 
     /// Counts a file by its exit status.
     fn add(&mut self, status: u8)
-        ensures { self.new.worst ≡ max self.old.worst status }
+        ensures worst { self.new.worst ≡ max self.old.worst status }
+        ensures files { self.new.files ≡ one_more true self.old.files }
+        ensures yes { self.new.yes ≡ one_more (status == 0) self.old.yes }
+        ensures no { self.new.no ≡ one_more (status == 1) self.old.no }
+        ensures outside { self.new.outside ≡ one_more (status == 2) self.old.outside }
+        ensures memory { self.new.memory ≡ one_more (status == 3) self.old.memory }
+        ensures failed { self.new.failed ≡ one_more (not (nat_le status 3)) self.old.failed }
     {
         self.files = self.files.saturating_add(1);
         self.worst = self.worst.max(status);
@@ -113,55 +120,46 @@ impl Totals {
     }
 }
 
-/// Writes a line of the program's own to standard error: who, and why.
-pub fn complain<E: Write>(alloc: Global, err: &mut E, parts: &[&str]) {
-    let mut page = Page::new(alloc);
-    page.put("h264v: ");
-    for part in parts.iter() {
-        page.put(part);
-    }
-    page.put("\n");
-    let _ = err.write_all(page.as_str().as_bytes());
+/// Says why a device or a file failed, by the system's cause. Where there is no memory for the cause, the line ends before it.
+pub fn blame<E: Device>(alloc: Global, err: &mut E, name: &str, cause: &io::Error) {
+    let _ = match format!(in alloc; "h264v: {name}: {cause}") {
+        Ok(line) => put_line("", line.as_str(), err),
+        Err(_) => put_line("h264v: ", name, err),
+    };
 }
 
-/// Says why a device or a file failed, by the system's cause.
-pub fn blame<E: Write>(err: &mut E, name: &str, cause: &io::Error) {
-    let _ = writeln!(err, "h264v: {name}: {cause}");
-}
-
-/// Refuses the words, with a line that says why: the exit status.
-fn refuse<E: Write>(alloc: Global, err: &mut E, refusal: Refusal) -> u8
-    ensures { result ≡ 64 }
+/// Refuses the words, with a line on `err` that says why: the exit status.
+fn refuse<E: Device>(err: &mut E, refusal: Refusal) -> u8
+    ensures status { result ≡ 64 }
+    ensures told { E.has_failed err.new ≡ false → Sends (E.contents err.old) (E.contents err.new) (codes "h264v: " ++ ended refusal.now) }
 {
-    complain(alloc, err, &[refusal]);
+    let _ = put_line("h264v: ", refusal, err);
     FAULT
 }
 
 /// Tells the entries of labels: the exit status. Where one label is unknown, nothing is told.
-fn explain_labels<W: Write, E: Write>(
+fn explain_labels<W: Device, E: Device>(
     alloc: Global,
     labels: &[&str],
     json: bool,
     out: &mut W,
     err: &mut E,
 ) -> u8
-    ensures { IsStatus result }
+    ensures status { IsStatus result }
+    ensures told { result ≡ 0 → (text : List ℕ) × IsExplained json (map (λ label. label.now) labels.now) text
+        × Sends (W.contents out.old) (W.contents out.new) text }
 {
-    let mut page = Page::new(alloc);
+    let mut text = String::new(alloc);
     for label in labels.iter() {
-        if !put_entry(&mut page, label, json) {
-            complain(alloc, err, &["no rule has the label ", label]);
+        let Some(entry) = entry_labelled(label) else {
+            let _ = put_line("h264v: no rule has the label ", label, err);
             return FAULT;
+        };
+        if put_entry(alloc, &mut text, entry, json).is_err() {
+            return put_memory(out).status();
         }
     }
-    if page.is_short() {
-        let short = Ending {
-            answer: Err(Stop::Memory),
-            written: put_text(out, "memory\n"),
-        };
-        return short.status();
-    }
-    if put_text(out, page.as_str()) {
+    if put_text(out, text.as_str()) {
         return 0;
     }
     FAILED
@@ -196,7 +194,7 @@ fn answers_aside(task: Task) -> bool {
 }
 
 /// Opens a file and judges it, and writes its answer to `out`, or to `err` where the task writes something else to `out`.
-fn do_file<O: Opener + Drop, W: Device, E: Write, M: Meter + Drop>(
+fn do_file<O: Opener + Drop, W: Device, E: Device, M: Meter + Drop>(
     job: &Job<'_>,
     files: &mut OpenedFiles<O>,
     out: &mut W,
@@ -215,7 +213,7 @@ fn do_file<O: Opener + Drop, W: Device, E: Write, M: Meter + Drop>(
 }
 
 /// Judges the open file, and writes its answer to `out`, or to `err` where the task writes something else to `out`.
-fn judge_opened<O: Opener + Drop, W: Device, E: Write, M: Meter + Drop>(
+fn judge_opened<O: Opener + Drop, W: Device, E: Device, M: Meter + Drop>(
     job: &Job<'_>,
     files: &mut OpenedFiles<O>,
     out: &mut W,
@@ -229,7 +227,7 @@ fn judge_opened<O: Opener + Drop, W: Device, E: Write, M: Meter + Drop>(
 }
 
 /// Writes what was found; where there is nothing, memory was wanting.
-fn put_answer<W: Write, E: Write>(
+fn put_answer<W: Device, E: Device>(
     job: &Job<'_>,
     found: Option<Found>,
     out: &mut W,
@@ -244,22 +242,32 @@ fn put_answer<W: Write, E: Write>(
 }
 
 /// Says why a file could not be read, where it could not.
-fn blame_file<O: Opener + Drop, E: Write>(files: &mut OpenedFiles<O>, err: &mut E, name: &str) {
+fn blame_file<O: Opener + Drop, E: Device>(
+    alloc: Global,
+    files: &mut OpenedFiles<O>,
+    err: &mut E,
+    name: &str,
+) {
     if let Some(cause) = &files.cause {
-        blame(err, name, cause);
+        blame(alloc, err, name, cause);
     }
     files.cause = None;
 }
 
 /// Says why an output failed, where it did.
-pub fn blame_output<W: Write + Drop, E: Write>(device: &WriteDevice<W>, err: &mut E, name: &str) {
+pub fn blame_output<W: Write + Drop, E: Device>(
+    alloc: Global,
+    device: &WriteDevice<W>,
+    err: &mut E,
+    name: &str,
+) {
     if let Some(cause) = &device.cause {
-        blame(err, name, cause);
+        blame(alloc, err, name, cause);
     }
 }
 
 /// Judges one of several files, whose lines begin with its name.
-fn do_named<O: Opener + Drop, W: Device, E: Write, M: Meter + Drop>(
+fn do_named<O: Opener + Drop, W: Device, E: Device, M: Meter + Drop>(
     job: &Job<'_>,
     files: &mut OpenedFiles<O>,
     out: &mut W,
@@ -277,14 +285,15 @@ fn do_named<O: Opener + Drop, W: Device, E: Write, M: Meter + Drop>(
     if prefix.is_short() {
         return put_unjudged(job, out, Stop::Memory);
     }
-    let mut device = WriteDevice::new(Prefixed::new(out, prefix.as_str()));
-    let done = do_file(job, files, &mut device, err, meter);
-    blame_output(&device, err, "standard output");
-    done
+    let named = Job {
+        prefix: prefix.as_str(),
+        ..*job
+    };
+    do_file(&named, files, out, err, meter)
 }
 
 /// Judges several files, and writes their totals: the worst exit status.
-fn do_files<O: Opener + Drop, W: Device, E: Write, M: Meter + Drop + Copy>(
+fn do_files<O: Opener + Drop, W: Device, E: Device, M: Meter + Drop + Copy>(
     job: &Job<'_>,
     names: &[&str],
     opener: O,
@@ -301,7 +310,7 @@ fn do_files<O: Opener + Drop, W: Device, E: Write, M: Meter + Drop + Copy>(
         files.failures = 0;
         files.reads = 0;
         let done = do_named(&one, &mut files, out, err, meter);
-        blame_file(&mut files, err, name);
+        blame_file(job.alloc, &mut files, err, name);
         totals.add(done.status());
     }
     let mut page = Page::new(job.alloc);
@@ -317,7 +326,7 @@ fn do_files<O: Opener + Drop, W: Device, E: Write, M: Meter + Drop + Copy>(
 }
 
 /// Judges one file: how that ended.
-fn do_one<O: Opener + Drop, W: Device, E: Write, M: Meter + Drop>(
+fn do_one<O: Opener + Drop, W: Device, E: Device, M: Meter + Drop>(
     job: &Job<'_>,
     opener: O,
     out: &mut W,
@@ -326,7 +335,7 @@ fn do_one<O: Opener + Drop, W: Device, E: Write, M: Meter + Drop>(
 ) -> Ending {
     let mut files = OpenedFiles::new(opener);
     let done = do_file(job, &mut files, out, err, meter);
-    blame_file(&mut files, err, job.file);
+    blame_file(job.alloc, &mut files, err, job.file);
     done
 }
 
@@ -337,11 +346,12 @@ fn job_of<'a>(alloc: Global, wanted: &Wanted<'a>, options: Options<'a>) -> Job<'
         task: wanted.request.task,
         options,
         file: wanted.request.file,
+        prefix: "",
     }
 }
 
 /// Judges one file with its output in a file of its own, which is made once the input is open: how that ended.
-fn do_output<O: Opener + Maker + Drop, E: Write, M: Meter + Drop>(
+fn do_output<O: Opener + Maker + Drop, E: Device, M: Meter + Drop>(
     job: &Job<'_>,
     opener: O,
     output: &str,
@@ -351,26 +361,26 @@ fn do_output<O: Opener + Maker + Drop, E: Write, M: Meter + Drop>(
     let mut files = OpenedFiles::new(opener);
     if files.open(system_name(job.file)).is_err() {
         let done = put_unjudged(job, err, Stop::Read);
-        blame_file(&mut files, err, job.file);
+        blame_file(job.alloc, &mut files, err, job.file);
         return done;
     }
     let made = match files.opener.make(output) {
         Ok(made) => made,
         Err(cause) => {
-            blame(err, output, &cause);
+            blame(job.alloc, err, output, &cause);
             return put_unjudged(job, err, Stop::Write);
         }
     };
     let mut device = WriteDevice::new(made);
     let done = judge_opened(job, &mut files, &mut device, err, meter);
-    blame_file(&mut files, err, job.file);
-    blame_output(&device, err, output);
+    blame_file(job.alloc, &mut files, err, job.file);
+    blame_output(job.alloc, &device, err, output);
     done
 }
 
 /// Does what the words ask beside a judgement of one file without options, and gives the exit status: the worst of the files', 64 for a fault of the
 /// words, whose text goes to `err`.
-pub fn more<O: Opener + Maker + Drop, W: Device, E: Write, M: Meter + Drop + Copy>(
+pub fn more<O: Opener + Maker + Drop, W: Device, E: Device, M: Meter + Drop + Copy>(
     alloc: Global,
     wanted: &Wanted<'_>,
     mut opener: O,
@@ -382,7 +392,7 @@ pub fn more<O: Opener + Maker + Drop, W: Device, E: Write, M: Meter + Drop + Cop
 {
     let options = match options_of(wanted) {
         Ok(options) => options,
-        Err(refusal) => return refuse(alloc, err, refusal),
+        Err(refusal) => return refuse(err, refusal),
     };
     let names = wanted.files().unwrap_or(&[]);
     let job = job_of(alloc, wanted, options);
@@ -391,7 +401,7 @@ pub fn more<O: Opener + Maker + Drop, W: Device, E: Write, M: Meter + Drop + Cop
     }
     if let Some(output) = options.output {
         if opener.is_same(system_name(job.file), output) {
-            return refuse(alloc, err, "the output is the input");
+            return refuse(err, "the output is the input");
         }
         return do_output(&job, opener, output, err, meter).status();
     }

@@ -30,7 +30,7 @@ fn run_more<O, W, E, M>(
 where
     O: Opener + Maker + Drop,
     W: Device,
-    E: Write,
+    E: Device,
     M: Meter + Drop + Copy,
     ensures { IsStatus result }
 {
@@ -68,9 +68,14 @@ where
 }
 
 /// Says why the file that the words name last could not be read, where it could not.
-fn blame_last<O: Opener + Drop>(files: &OpenedFiles<O>, words: &[String], err: &mut impl Write) {
+fn blame_last<O: Opener + Drop>(
+    alloc: Global,
+    files: &OpenedFiles<O>,
+    words: &[String],
+    err: &mut impl Device,
+) {
     if let (Some(cause), Some(word)) = (&files.cause, words.last()) {
-        blame(err, word.as_str(), cause);
+        blame(alloc, err, word.as_str(), cause);
     }
 }
 
@@ -96,8 +101,8 @@ where
         (output_by W.contents out.old) (output_by W.contents out.new) (output_by E.contents err.old) }
 {
     let status = answer_words(alloc, words, files, out, err, meter);
-    blame_last(files, words, err);
-    blame_output(out, err, "standard output");
+    blame_last(alloc, files, words, err);
+    blame_output(alloc, out, err, "standard output");
     status
 }
 

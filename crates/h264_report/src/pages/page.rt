@@ -1,6 +1,7 @@
 //! A text that is made piece by piece.
 #![tactic(auto)]
 
+use crate::json::put_escaped_character;
 use std::alloc::Global;
 
 /// A text that grows at its end. Once memory was wanting it is a part of what it should be, and says so.
@@ -41,6 +42,18 @@ impl Page {
         }
     }
 
+    /// Adds a text of lines, with this text before each of them.
+    pub fn put_lines(&mut self, prefix: &str, text: &str) {
+        let mut at_start = true;
+        for c in text.chars() {
+            if at_start {
+                self.put(prefix);
+            }
+            self.character(c);
+            at_start = c == '\n';
+        }
+    }
+
     /// Adds a number.
     pub fn number(&mut self, value: u64) {
         if write!(self.text, "{value}").is_err() {
@@ -71,23 +84,12 @@ impl Page {
         }
     }
 
-    /// Adds a control character as JSON escapes it (RFC 8259, 7).
-    fn control(&mut self, c: char) {
-        let code = u32::from(c);
-        if write!(self.text, "\\u{code:04x}").is_err() {
-            self.is_short = true;
-        }
-    }
-
     /// Adds a text as a string of JSON, between its quotation marks (RFC 8259, 7).
     pub fn quoted(&mut self, text: &str) {
         self.character('"');
         for c in text.chars() {
-            match c {
-                '"' => self.put("\\\""),
-                '\\' => self.put("\\\\"),
-                '\u{0}'..='\u{1f}' => self.control(c),
-                _ => self.character(c),
+            if put_escaped_character(&mut self.text, c).is_err() {
+                self.is_short = true;
             }
         }
         self.character('"');

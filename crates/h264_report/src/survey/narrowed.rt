@@ -6,7 +6,7 @@ ghost use Rattle.std.specs.Prelude.{[]};
 ghost use Rattle.h264_base.specs.Call.{HasRoom, IsQuiet, Tells};
 ghost use Rattle.h264_report.specs.Chosen.{held, is_chosen, has_picture, has_macroblock, TookChosen, after_element};
 
-use crate::objects::UnitCall;
+use crate::lines::UnitCall;
 use crate::survey::notes::Survey;
 use crate::survey::reading::Reading;
 use h264_base::{ElementName, Elements, Failed, SliceType};

@@ -7,7 +7,7 @@ use Rattle.h264_report.proofs.Counted.{next-part, part-between, whole}
 use Rattle.h264_report.proofs.frames.send_frame.Goals as goal
 
 pub loop-k-init : goal.loop-k-init
-loop-k-init g c = (sends-none (g.W.Write.contents c.args.out.now), refl)
+loop-k-init g c = (sends-none (g.W.Device.contents c.args.out.now), refl)
 
 pub returns-in-Err-clause-front : goal.returns-in-Err-clause-front
 returns-in-Err-clause-front g c =

@@ -7,4 +7,4 @@ pub returns-in-Err-Write-clause-text : goal.returns-in-Err-Write-clause-text
 returns-in-Err-Write-clause-text g c =
     let stop = rw c.in-Err-Write.is at c.in-Err-Write.field-0-is in
     let is : c.args.answer ≡ Err Write = c.in-Err-Write.is ∙ ap (λ (s : Stop). Err s) stop in
-    rw is c.put-in-Err-Write.ensures.text
+    rw is c.put_line-in-Err-Write.ensures.text

@@ -16,7 +16,7 @@ is-some : (n : ℕ) → (n == 0) ≡ false → 0 < n
 is-some n t = grind (arith, nat_tests)
 
 pub loop-init : goal.loop-init
-loop-init g c = (record { first = []; whole = refl; sends = sends-none (g.W.Write.contents c.args.out.now); left = omega arith }, refl)
+loop-init g c = (record { first = []; whole = refl; sends = sends-none (g.W.Device.contents c.args.out.now); left = omega arith }, refl)
 
 pub loop-preserved : goal.loop-preserved
 loop-preserved g c =
@@ -25,7 +25,7 @@ loop-preserved g c =
     let d = length-drop n c.loop.rest.now in
     let some = c.in-Ok.ensures.some in
     let left = i.left in
-    let sent : Sent (g.W.Write.contents c.args.out.now) (g.W.Write.contents c.send_some.new.self) c.args.bytes.now (drop n c.loop.rest.now) (c.loop.counter + 1) = record {
+    let sent : Sent (g.W.Device.contents c.args.out.now) (g.W.Device.contents c.send_some.new.self) c.args.bytes.now (drop n c.loop.rest.now) (c.loop.counter + 1) = record {
       first = i.first ++ take n c.loop.rest.now;
       whole = i.whole ∙ ap (λ l. i.first ++ l) (sym (take-append-drop n c.loop.rest.now)) ∙ sym (append_assoc i.first (take n c.loop.rest.now) (drop n c.loop.rest.now));
       sends = sends-more i.sends (record { appends = c.in-Ok.ensures.ok });

@@ -21,5 +21,5 @@ returns-in-Ok g c words asks =
     Done c.args.request.task c.args.request.file.now c.perform.result.answer c.perform.result.written asks c.status.ensures
     (record { failures = c.perform.ensures.excused.failures; read = λ e. read-since (g.F.Source.was_read c.perform.new.source) c.in-Ok.ensures.kept c.in-Ok.ensures.reads (c.perform.ensures.excused.read e); read_told = told-since c.in-Ok.ensures.kept c.perform.ensures.excused.read_told })
     (of-kept (g.F.Files.holds c.args.files.now c.args.request.file.now) _
-    (λ bytes. Performs c.args.request.task bytes c.perform.result.answer c.perform.result.written (g.W.Write.contents c.args.out.now) (g.W.Write.contents c.perform.new.out) (g.E.Write.contents c.args.err.now) (g.E.Write.contents c.perform.new.err))
+    (λ bytes. Performs c.args.request.task bytes c.perform.result.answer c.perform.result.written (g.W.Device.contents c.args.out.now) (g.W.Device.contents c.perform.new.out) (g.E.Device.contents c.args.err.now) (g.E.Device.contents c.perform.new.err))
     c.in-Ok.ensures.opened c.perform.ensures.performs)

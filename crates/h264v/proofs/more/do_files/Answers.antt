@@ -8,4 +8,4 @@ loop-name-init g c = ([], refl, c.none-totals.ensures)
 pub loop-name-preserved : goal.loop-name-preserved
 loop-name-preserved g c =
     let i = c.loop-name.invariant in
-    (c.do_named-done.result ∷ i.0, (let e = i.1 in omega (arith, e)), c.add.ensures ∙ ap (λ w. max w c.status.result) i.2 ∙ ap (max (worst i.0)) c.status.ensures)
+    (c.do_named-done.result ∷ i.0, (let e = i.1 in omega (arith, e)), c.add.ensures.worst ∙ ap (λ w. max w c.status.result) i.2 ∙ ap (max (worst i.0)) c.status.ensures)

@@ -4,7 +4,7 @@ use Rattle.h264v.proofs.Statuses.{alone, several}
 use Rattle.h264v.proofs.more.more.Goals as goal
 
 pub returns-in-Err : goal.returns-in-Err
-returns-in-Err g c = Refused c.refuse.ensures
+returns-in-Err g c = Refused c.refuse.ensures.status
 
 pub returns-in-Some : goal.returns-in-Some
 returns-in-Some g c = alone c.do_output.result c.status.result c.status.ensures

@@ -1,7 +1,7 @@
 use Rattle.std.proofs.Common.{◌≡◌, ◌+◌, ap, arith}
 use Rattle.h264_base.specs.Call.{OfUnit}
 use Rattle.h264_report.specs.Told.{counted}
-use Rattle.h264_report.specs.Objects.{head_of}
+use Rattle.h264_report.specs.Objects.{opening_of}
 use Rattle.h264_report.proofs.Sinks.{take-line, unsent-line, on-ok, err-map}
 use Rattle.h264_report.proofs.line_sink.LineSink.put_unit.Goals as goal
 
@@ -14,4 +14,4 @@ returns-clause-ok g c start was before h =
 
 pub returns-clause-refused : goal.returns-clause-refused
 returns-clause-refused g c start was before h =
-    err-map c.put_line.result (λ u. unsent-line (ap head_of c.put_line.ensures.form) c.put_line.ensures.listing c.put_line.ensures.frames u.0 (ap g.W.Device.has_failed u.1) (ap g.W.Write.contents u.1) h) c.put_line.ensures.unsent
+    err-map c.put_line.result (λ u. unsent-line (ap opening_of c.put_line.ensures.form) c.put_line.ensures.listing c.put_line.ensures.frames u.0 (ap g.W.Device.has_failed u.1) (ap g.W.Device.contents u.1) h) c.put_line.ensures.unsent

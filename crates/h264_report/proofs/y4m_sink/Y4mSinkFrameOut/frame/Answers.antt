@@ -22,7 +22,7 @@ returns-in_default-clause-ok g c =
 
 pub returns-in_default-clause-refused : goal.returns-in_default-clause-refused
 returns-in_default-clause-refused g c =
-    err-map c.put_first.result (λ u. record { told = λ before h. unsent-y4m c.put_first.ensures.same_reference u.0 u.1 (ap g.W.Device.has_failed u.2) (ap g.W.Write.contents u.2) h }) c.put_first.ensures.unsent
+    err-map c.put_first.result (λ u. record { told = λ before h. unsent-y4m c.put_first.ensures.same_reference u.0 u.1 (ap g.W.Device.has_failed u.2) (ap g.W.Device.contents u.2) h }) c.put_first.ensures.unsent
 
 pub returns-in-Ok-clause-ok : goal.returns-in-Ok-clause-ok
 returns-in-Ok-clause-ok g c =

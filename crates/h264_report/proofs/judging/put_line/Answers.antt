@@ -1,15 +1,6 @@
-use Rattle.std.proofs.Common.{◌≡◌, Result, Ok, Err, OnOk, OnErr, true, false, ◌∷◌, [], ◌∙◌}
-use Rattle.std.specs.Result.{is_err}
-use Rattle.h264_report.proofs.Known.{sends-more, sends-keeps, sends-is, front-is, some-all, some-front, some-longer, some-after}
-use Rattle.h264_report.proofs.judging.put.Goals as goal
-
-ok-of : {X E A : Type 0} (r : Result X E) → false ≡ is_err r → OnOk r A → A
-ok-of (Ok x) e a = a
-ok-of (Err x) e a = absurd (let f : false ≡ true = e in cc)
-
-err-of : {X E A : Type 0} (r : Result X E) → true ≡ is_err r → OnErr r A → A
-err-of (Ok x) e a = absurd (let f : true ≡ false = e in cc)
-err-of (Err x) e a = a
+use Rattle.std.proofs.Common.{◌∷◌, [], ◌∙◌}
+use Rattle.h264_report.proofs.Known.{sends-more, sends-keeps, sends-is, front-is, some-all, some-front, some-longer, some-after, ok-of, err-of}
+use Rattle.h264_report.proofs.judging.put_line.Goals as goal
 
 pub returns-then-is_err-clause-text : goal.returns-then-is_err-clause-text
 returns-then-is_err-clause-text g c =
