@@ -41,7 +41,7 @@ pub fn guide_of(answer: Answer) -> Option<Guide<'static>> {
 
 /// The lines of a rule. AllocError: there is no memory for them.
 fn rule_lines(alloc: Global, entry: RuleEntry) -> Result<String, AllocError>
-    ensures { IfOk result (λ s. string_bytes s ≡ rule_lines entry.entry) }
+    ensures { IfOk result (λ s. string_bytes s ≡ rule_lines entry) }
 {
     let label = entry.rule.label();
     let clause = entry.rule.clause();
@@ -56,14 +56,16 @@ fn rule_lines(alloc: Global, entry: RuleEntry) -> Result<String, AllocError>
 
 /// The object of a rule. AllocError: there is no memory for it.
 fn rule_object(alloc: Global, entry: RuleEntry) -> Result<String, AllocError>
-    ensures { IfOk result (λ s. string_bytes s ≡ rule_object entry.entry) }
+    ensures { IfOk result (λ s. string_bytes s ≡ rule_object entry) }
 {
     let label = entry.rule.label();
     let clause = entry.rule.clause();
     let breaks = escaped(alloc, entry.breaks)?;
     let bit = escaped(alloc, entry.bit)?;
     let cause = escaped(alloc, entry.cause)?;
-    let (breaks, bit, cause) = (breaks.as_str(), bit.as_str(), cause.as_str());
+    let breaks = breaks.as_str();
+    let bit = bit.as_str();
+    let cause = cause.as_str();
     format!(in alloc;
         "{{\"kind\":\"rule\",\"label\":\"{label}\",\"clause\":\"{clause}\",\"breaks\":\"{breaks}\",\"bit\":\"{bit}\",\"cause\":\"{cause}\"}}\n"
     )
@@ -71,7 +73,7 @@ fn rule_object(alloc: Global, entry: RuleEntry) -> Result<String, AllocError>
 
 /// The lines of a feature. AllocError: there is no memory for them.
 fn feature_lines(alloc: Global, entry: FeatureEntry) -> Result<String, AllocError>
-    ensures { IfOk result (λ s. string_bytes s ≡ feature_lines entry.entry) }
+    ensures { IfOk result (λ s. string_bytes s ≡ feature_lines entry) }
 {
     let label = entry.feature.text();
     let FeatureEntry {
@@ -85,13 +87,15 @@ fn feature_lines(alloc: Global, entry: FeatureEntry) -> Result<String, AllocErro
 
 /// The object of a feature. AllocError: there is no memory for it.
 fn feature_object(alloc: Global, entry: FeatureEntry) -> Result<String, AllocError>
-    ensures { IfOk result (λ s. string_bytes s ≡ feature_object entry.entry) }
+    ensures { IfOk result (λ s. string_bytes s ≡ feature_object entry) }
 {
     let label = entry.feature.text();
     let stands = escaped(alloc, entry.stands)?;
     let bit = escaped(alloc, entry.bit)?;
     let advice = escaped(alloc, entry.advice)?;
-    let (stands, bit, advice) = (stands.as_str(), bit.as_str(), advice.as_str());
+    let stands = stands.as_str();
+    let bit = bit.as_str();
+    let advice = advice.as_str();
     format!(in alloc;
         "{{\"kind\":\"feature\",\"label\":\"{label}\",\"stands\":\"{stands}\",\"bit\":\"{bit}\",\"advice\":\"{advice}\"}}\n"
     )
@@ -99,7 +103,7 @@ fn feature_object(alloc: Global, entry: FeatureEntry) -> Result<String, AllocErr
 
 /// The lines of an entry, or its object. AllocError: there is no memory for them.
 fn entry_text(alloc: Global, entry: Entry, json: bool) -> Result<String, AllocError>
-    ensures { IfOk result (λ s. string_bytes s ≡ entry_text json entry.entry) }
+    ensures { IfOk result (λ s. string_bytes s ≡ entry_text json entry) }
 {
     match (entry, json) {
         (Entry::Rule(entry), true) => rule_object(alloc, entry),
@@ -116,7 +120,7 @@ pub fn put_entry(
     entry: Entry,
     json: bool,
 ) -> Result<(), AllocError>
-    ensures { OnOk result (string_bytes text.new ≡ string_bytes text.old ++ entry_text json entry.entry) }
+    ensures { OnOk result (string_bytes text.new ≡ string_bytes text.old ++ entry_text json entry) }
 {
     let more = entry_text(alloc, entry, json)?;
     text.push_str(more.as_str())

@@ -1,7 +1,7 @@
 //! What the words ask for beside the judgement of one file: options, several files, and the tasks that make texts of their own.
 #![tactic(auto)]
 
-ghost use Rattle.std.specs.Prelude.{◌≡◌, ◌==◌, ◌-◌, ◌<◌, ◌^◌, ◌++◌, ◌⊎◌, false, max, map, not, nat_le, List, length, codes};
+ghost use Rattle.std.specs.Prelude.{◌≡◌, ℕ, ◌==◌, ◌-◌, ◌<◌, ◌^◌, ◌++◌, ◌⊎◌, true, false, max, map, not, nat_le, List, length, codes};
 ghost use Rattle.h264_report.specs.Sent.{Sends, Takes};
 ghost use Rattle.h264_report.specs.Told.{ended};
 ghost use Rattle.h264_report.specs.Written.{status_of};
