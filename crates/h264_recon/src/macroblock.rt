@@ -1,5 +1,3 @@
-ghost use Rattle.h264_recon.specs.Weighing.{AreOfOneIndex};
-
 use crate::weights::SliceWeights;
 use h264_inter::MotionVector;
 use h264_intra::{Intra4x4PredMode, Intra16x16PredMode, IntraChromaPredMode};
@@ -63,10 +61,6 @@ pub struct Weighting<'a> {
     pub weights: &'a SliceWeights,
     /// What the macroblock's blocks are predicted from, by their number (6.4.3).
     pub motions: &'a [Option<Derived>; 16],
-    /// Whether the blocks are known to have one reference index. It is asked once, and of slices that have weights alone.
-    pub one_index: bool,
-
-    ghost alike: { AreOfOneIndex one_index motions.now },
 }
 
 /// What constructs the samples of a macroblock, beside its residual.

@@ -66,12 +66,7 @@ impl<'a> Weighting<'a> {
         ensures weights { result.weights.now ≡ weights.now }
         ensures motions { result.motions.now ≡ motions.now }
     {
-        let one_index = weights.by_index.is_some() && are_of_one_index(motions);
-        Weighting {
-            weights,
-            motions,
-            one_index,
-        }
+        Weighting { weights, motions }
     }
 }
 
@@ -140,7 +135,7 @@ fn weigh_luma_by(weights: &[Option<Weights>; 16], weighting: &Weighting, out: &m
     ensures { ArePlacesWeighted 16 Y (λ k. get_or (placed_weights weights.now weighting.now.motions.now) k None) out.old out.new }
 {
     let motions = weighting.motions;
-    if weighting.one_index {
+    if are_of_one_index(motions) {
         weigh_run::<256>(out, 0, of_motion(weights, motions[0]), Component::Y);
         return;
     }
@@ -189,7 +184,7 @@ fn weigh_chroma_by<const CR: bool>(
     ensures { ArePlacesWeighted 8 (chroma_plane CR) (λ k. get_or (placed_weights weights.now weighting.now.motions.now) k None) out.old out.new }
 {
     let motions = weighting.motions;
-    if weighting.one_index {
+    if are_of_one_index(motions) {
         let weights = of_motion(weights, motions[0]);
         weigh_run::<64>(out, 0, weights, chroma_component::<CR>());
         return;
