@@ -1,5 +1,5 @@
 -- What the work holds after one macroblock more.
-use Rattle.std.proofs.Common.{rules, Bool, true, false, ◌==◌, Option, nat_lt, if◌then◌else◌, Result, Ok, Err, IsErrOf, ◌≡◌, ℕ, ◌+◌, ◌-◌, ◌<◌, ◌≤◌, List, [], ◌∷◌, ◌++◌, length, Some, None, refl, sym, ◌∙◌, arith, length-append, subst}
+use Rattle.std.proofs.Common.{Bool, true, false, ◌==◌, Option, nat_lt, if◌then◌else◌, Result, Ok, Err, IsErrOf, ◌≡◌, ℕ, ◌+◌, ◌-◌, ◌<◌, ◌≤◌, List, [], ◌∷◌, ◌++◌, length, Some, None, refl, sym, ◌∙◌, arith, length-append, subst}
 use Rattle.std.specs.List.{slice_get}
 use Rattle.h264_near.specs.Coded.{CodedMacroblock}
 use Rattle.h264_near.specs.declared.motion.Vector.{Vector}
@@ -11,10 +11,8 @@ use Rattle.h264_base.specs.declared.stop.Stop.{Stop}
 use Rattle.h264_base.specs.declared.stop.Stop.TheVariants.{No, Outside, Memory, Read, Write}
 use Rattle.h264_base.specs.Call.{Call}
 use Rattle.h264_base.specs.Grammar.{Grammar}
-use Rattle.h264_base.specs.Meets.{Reader, Answers, Meets, MeetsBy, Checks}
+use Rattle.h264_base.specs.Meets.{Reader, Answers, Meets, MeetsBy}
 use Rattle.h264_base.specs.Body.{Body}
-use Rattle.h264_base.specs.declared.rule.Rule.{Rule}
-use Rattle.std.specs.Option.{is_some}
 use Rattle.h264_base.proofs.OneAnswer.{answers}
 use Rattle.h264_mbsyntax.specs.Macroblock.{predicted_qp, qp_of, coded}
 use Rattle.h264_mbsyntax.specs.Slice.{skipped_of, macroblocks}
@@ -95,13 +93,6 @@ same-place s = record { across = refl; down = refl; pool = refl; place = refl; b
 
 pub both-places : (a b c : Sequence) → KeepsPlace a b → KeepsPlace b c → KeepsPlace a c
 both-places a b c h k = record { across = k.across ∙ h.across; down = k.down ∙ h.down; pool = k.pool ∙ h.pool; place = k.place ∙ h.place; begun = k.begun ∙ h.begun }
-
--- a rule that a test of an option decides
-pub out-of-range : {A : Type 0} {rule : Rule} {bit : ℕ} (fits : Bool) (o : Option A) → is_some o ≡ fits → o ≡ None → Checks rule bit fits (Err (No bit rule))
-out-of-range fits o e n = rw (sym e, n) (record { checks = (search rules, refl) })
-
-pub in-range : {A : Type 0} {rule : Rule} {bit : ℕ} (fits : Bool) (o : Option A) (x : A) → is_some o ≡ fits → o ≡ Some x → Checks rule bit fits (Ok tt)
-in-range fits o x e n = rw (sym e, n) (record { checks = search rules })
 
 -- the samples are those of the lines and the frames
 pub same-samples : (making : Option Making) (picture : List CodedMacroblock) (old new : Sequence) → new.across ≡ old.across → new.down ≡ old.down → new.lines ≡ old.lines → new.frames ≡ old.frames → HasSamples making picture old → HasSamples making picture new

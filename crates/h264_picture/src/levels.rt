@@ -1,7 +1,7 @@
 //! The residual of a macroblock that was read (8.5).
 #![tactic(auto)]
 
-ghost use Rattle.std.specs.Prelude.{◌≡◌, ◌≤◌, is_some, IfSome};
+ghost use Rattle.std.specs.Prelude.{◌≡◌, ◌≤◌, IsTrue};
 ghost use Rattle.h264_near.specs.Coded.{CodedMacroblock};
 ghost use Rattle.h264_mbsyntax.specs.Holds.{HoldsMacroblock};
 ghost use Rattle.h264_scale.specs.Macroblock.{AreResiduals};
@@ -14,17 +14,14 @@ use h264_recon::residuals;
 use h264_scale::Residuals;
 use h264_vectors::SliceContext;
 
-/// The residual of a macroblock, if each value of its transform is in range.
-pub(crate) fn residuals_of(slice: &SliceContext, mb: &Macroblock) -> Option<Residuals>
+/// Writes the residual of a macroblock, and answers whether each value of its transform is in range.
+pub(crate) fn residuals_of(slice: &SliceContext, mb: &Macroblock, out: &mut Residuals) -> bool
     requires { mb.now.qp ≤ 51 }
-    ensures range { (coded : CodedMacroblock) → HoldsMacroblock mb.now coded → is_some result ≡ transform_fits slice.now coded }
-    ensures residual { (coded : CodedMacroblock) → HoldsMacroblock mb.now coded →
-        IfSome result (AreResiduals (levels_of slice.now.chroma_qp_index_offset coded)) }
+    ensures range { (coded : CodedMacroblock) → HoldsMacroblock mb.now coded → result ≡ transform_fits slice.now coded }
+    ensures residual { (coded : CodedMacroblock) → HoldsMacroblock mb.now coded → IsTrue result →
+        AreResiduals (levels_of slice.now.chroma_qp_index_offset coded) out.new }
 {
-    match residuals(mb, slice.chroma_qp_index_offset) {
-        Ok(residuals) => Some(residuals),
-        Err(_) => None,
-    }
+    residuals(mb, slice.chroma_qp_index_offset, out).is_ok()
 }
 
 /// The residual of a macroblock without levels.

@@ -97,17 +97,12 @@ impl Sequence {
         check(0 < left, Rule::MbPast, ahead.bit)?;
         let qp = self.mb.qp;
         let bit = read_macroblock(bits, &self.near, slice, qp, &mut self.mb, sink)?;
-        match residuals_of(slice, &self.mb) {
-            None => Err(Stop::No {
-                bit,
-                rule: Rule::TransformRange,
-            }),
-            Some(residuals) => {
-                self.make(slice, &residuals);
-                self.keep();
-                Ok(Some(Standing::Next))
-            }
-        }
+        let mut residuals = no_residuals();
+        let fits = residuals_of(slice, &self.mb, &mut residuals);
+        check(fits, Rule::TransformRange, bit)?;
+        self.make(slice, &residuals);
+        self.keep();
+        Ok(Some(Standing::Next))
     }
 
     /// Derives a skipped macroblock, by the mb_skip_run at this stream bit; so many more follow.

@@ -8,17 +8,17 @@ use Rattle.h264_scale.proofs.Whole.{always, not_coded_luma_fits, not_coded_luma,
 use Rattle.h264_recon.specs.Levels.{are_blank, are_zero, luma_blocks, chroma_blocks}
 use Rattle.h264_recon.specs.Residuals.{IsLumaOf, IsChromaOf}
 
-pub no_luma : {E : Type 0} (qp : ℕ) (l : LumaLevels) → luma.NotCoded ≡ l → IsLumaOf {E = E} qp l (Ok None)
+pub no_luma : {A E : Type 0} {v : A} (qp : ℕ) (l : LumaLevels) → luma.NotCoded ≡ l → IsLumaOf {E = E} qp l (Ok v) None
 no_luma qp l e = rw (sym e) (record { range = always _ (not_coded_luma_fits qp); made = not_coded_luma qp })
 
-pub no_chroma : {E : Type 0} (qp : ℕ) (l : ChromaLevels) → chroma.NotCoded ≡ l → IsChromaOf {E = E} qp l (Ok None)
+pub no_chroma : {A E : Type 0} {v : A} (qp : ℕ) (l : ChromaLevels) → chroma.NotCoded ≡ l → IsChromaOf {E = E} qp l (Ok v) None
 no_chroma qp l e = rw (sym e) (record { range = always _ (not_coded_chroma_fits qp); made = not_coded_chroma qp })
 
-pub luma_by : {E : Type 0} (qp : ℕ) (v l : LumaLevels) (r : Result (Option (List ℤ)) E) → IsLumaOf qp v r → v ≡ l → IsLumaOf qp l r
-luma_by qp v l r h e = rw (sym e) h
+pub luma_by : {A E : Type 0} (qp : ℕ) (v l : LumaLevels) (r : Result A E) (o : Option (List ℤ)) → IsLumaOf qp v r o → v ≡ l → IsLumaOf qp l r o
+luma_by qp v l r o h e = rw (sym e) h
 
-pub chroma_by : {E : Type 0} (qp : ℕ) (v l : ChromaLevels) (r : Result (Option (List ℤ)) E) → IsChromaOf qp v r → v ≡ l → IsChromaOf qp l r
-chroma_by qp v l r h e = rw (sym e) h
+pub chroma_by : {A E : Type 0} (qp : ℕ) (v l : ChromaLevels) (r : Result A E) (o : Option (List ℤ)) → IsChromaOf qp v r o → v ≡ l → IsChromaOf qp l r o
+chroma_by qp v l r o h e = rw (sym e) h
 
 -- a plane whose DC levels are 0, and which has no others
 pub uncoded : (t t' : List ℕ) (d d' : List ℤ) (ac : List (List ℤ)) (b : Bool) → b ≡ true → b ≡ (are_zero d && are_blank t) → d ≡ d' → t ≡ t' → chroma.NotCoded ≡ chroma_blocks t' d' ac

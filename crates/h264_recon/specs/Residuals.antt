@@ -1,5 +1,5 @@
--- A working form. The residual of a plane of a macroblock, as the code answers it: none where each number is 0, and an error where a value of the
--- transform is out of range.
+-- A working form. The residual of a plane of a macroblock, as the code answers and writes it: none where each number is 0, and an error where a value of
+-- the transform is out of range.
 use Rattle.std.specs.Prelude.{◌≡◌, ◌↔◌, ℕ, ◌+◌, ◌*◌, ◌<◌, ◌≤◌, List, [], Option, unwrap_or, get_or, Result, IsOk, IfOk, IsTrue, ℤ, pos}
 use Rattle.h264_plane.specs.Places.{index_of}
 use Rattle.h264_scale.specs.Residual.{residual_at}
@@ -8,14 +8,14 @@ use Rattle.h264_scale.specs.declared.levels.LumaLevels.{LumaLevels}
 use Rattle.h264_scale.specs.declared.levels.ChromaLevels.{ChromaLevels}
 
 -- of luma, from these levels
-pub record IsLumaOf {E : Type 0} (qp : ℕ) (l : LumaLevels) (answer : Result (Option (List ℤ)) E) : Type 0 where
+pub record IsLumaOf {A E : Type 0} (qp : ℕ) (l : LumaLevels) (answer : Result A E) (written : Option (List ℤ)) : Type 0 where
   pub range : IsOk answer ↔ IsTrue (luma_fits qp l)
-  pub made : IfOk answer (λ r. AreScaled 16 16 index_of (λ x y. residual_at (luma_d qp l x y)) (unwrap_or r []))
+  pub made : IfOk answer (λ u. AreScaled 16 16 index_of (λ x y. residual_at (luma_d qp l x y)) (unwrap_or written []))
 
 -- and of a chroma plane
-pub record IsChromaOf {E : Type 0} (qp : ℕ) (l : ChromaLevels) (answer : Result (Option (List ℤ)) E) : Type 0 where
+pub record IsChromaOf {A E : Type 0} (qp : ℕ) (l : ChromaLevels) (answer : Result A E) (written : Option (List ℤ)) : Type 0 where
   pub range : IsOk answer ↔ IsTrue (chroma_fits qp l)
-  pub made : IfOk answer (λ r. AreScaled 8 4 raster (λ x y. residual_at (chroma_d qp l x y)) (unwrap_or r []))
+  pub made : IfOk answer (λ u. AreScaled 8 4 raster (λ x y. residual_at (chroma_d qp l x y)) (unwrap_or written []))
 
 -- nothing stands at a block
 pub record IsClear (n x y : ℕ) (own : List ℤ) : Type 0 where

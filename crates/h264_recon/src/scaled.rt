@@ -1,7 +1,7 @@
 //! The residual of a macroblock that was read (8.5).
 #![tactic(auto)]
 
-ghost use Rattle.std.specs.Prelude.{◌≡◌, ◌↔◌, ℕ, ◌+◌, ◌*◌, ◌<◌, ◌≤◌, ◌&&◌, List, [], ℤ, IsOk, IfOk, IsTrue, get_or, unwrap_or, replicate, take, drop, pos};
+ghost use Rattle.std.specs.Prelude.{◌≡◌, ◌↔◌, ℕ, ◌+◌, ◌*◌, ◌<◌, ◌≤◌, ◌&&◌, List, [], ℤ, IsOk, IfOk, IsTrue, get_or, replicate, take, drop, pos};
 ghost use Rattle.h264_plane.specs.Places.{index_of, column_of, row_of};
 ghost use Rattle.h264_near.specs.Coded.{CodedMacroblock};
 ghost use Rattle.h264_mbsyntax.specs.Stored.{shown};
@@ -124,57 +124,57 @@ fn chroma_block(
     with_levels(dc, totals[4 * c + b], &stands[4 * c + b], qp)
 }
 
-/// The residual of luma blocks of 16 levels.
+/// Writes the residual of luma blocks of 16 levels.
 #[inline(always)]
 fn blocks(
     totals: &[u8; 16],
     stands: &[[i16; 16]; 16],
     qp: u8,
-) -> Result<Option<[i16; 256]>, TransformRange>
+    out: &mut [i16; 256],
+) -> Result<(), TransformRange>
     requires { qp ≤ 51 }
     ensures range { IsOk result ↔ IsTrue (luma_fits qp (luma_variants.Blocks
         (table 16 (λ k. shown 16 (get_or totals.now k 0) (get_or stands.now k (replicate 16 (pos 0))))))) }
-    ensures made { IfOk result (λ r. AreScaled 16 16 index_of (λ x y. residual_at
-        (luma_d qp (luma_variants.Blocks (table 16 (λ k. shown 16 (get_or totals.now k 0) (get_or stands.now k (replicate 16 (pos 0)))))) x y))
-        (unwrap_or r [])) }
+    ensures made { IfOk result (λ u. AreScaled 16 16 index_of (λ x y. residual_at
+        (luma_d qp (luma_variants.Blocks (table 16 (λ k. shown 16 (get_or totals.now k 0) (get_or stands.now k (replicate 16 (pos 0)))))) x y)) out.new) }
 {
-    let mut out = [0; 256];
+    *out = [0; 256];
     for b in 0..16 {
-        put_block(&mut out, totals, stands, b, qp)?;
+        put_block(out, totals, stands, b, qp)?;
     }
-    Ok(Some(out))
+    Ok(())
 }
 
-/// The residual of Intra 16x16.
+/// Writes the residual of Intra 16x16.
 #[inline(always)]
 fn with_dc(
     dc: &[i16; 16],
     totals: &[u8; 16],
     stands: &[[i16; 15]; 16],
     qp: u8,
-) -> Result<Option<[i16; 256]>, TransformRange>
+    out: &mut [i16; 256],
+) -> Result<(), TransformRange>
     requires { qp ≤ 51 }
     ensures range { IsOk result ↔ IsTrue (luma_fits qp (luma_variants.WithDc
         (record { dc = dc.now; ac = table 16 (λ k. shown 15 (get_or totals.now k 0) (get_or stands.now k (replicate 15 (pos 0)))) }))) }
-    ensures made { IfOk result (λ r. AreScaled 16 16 index_of (λ x y. residual_at
+    ensures made { IfOk result (λ u. AreScaled 16 16 index_of (λ x y. residual_at
         (luma_d qp (luma_variants.WithDc (record {
           dc = dc.now;
           ac = table 16
               (λ k. shown 15 (get_or totals.now k 0) (get_or stands.now k (replicate 15 (pos 0))));
-        })) x y)) (unwrap_or r [])) }
+        })) x y)) out.new) }
 {
     let dc = dc16(dc, qp)?;
-    let mut out = [0; 256];
     for b in 0..16 {
         let x = 2 * (b / 4 % 2) + b % 2;
         let y = 2 * (b / 8) + b / 2 % 2;
         let block = luma_block(dc[4 * y + x], totals, stands, b, qp)?;
-        put16(&mut out, x, y, &block);
+        put16(out, x, y, &block);
     }
-    Ok(Some(out))
+    Ok(())
 }
 
-/// The residual of a chroma plane that has levels.
+/// Writes the residual of a chroma plane that has levels.
 #[inline(always)]
 fn chroma_with_dc(
     dc: &[i16; 4],
@@ -182,61 +182,68 @@ fn chroma_with_dc(
     stands: &[[i16; 15]; 8],
     c: usize,
     qp: u8,
-) -> Result<Option<[i16; 64]>, TransformRange>
+    out: &mut [i16; 64],
+) -> Result<(), TransformRange>
     requires plane { c < 2 }
     requires qp { qp ≤ 51 }
     ensures range { IsOk result ↔ IsTrue (chroma_fits qp (chroma_variants.WithDc
         (record { dc = dc.now; ac = table 4 (λ k. shown 15 (get_or totals.now (4 * c + k) 0) (get_or stands.now (4 * c + k) (replicate 15 (pos 0)))) }))) }
-    ensures made { IfOk result (λ r. AreScaled 8 4 raster (λ x y. residual_at
+    ensures made { IfOk result (λ u. AreScaled 8 4 raster (λ x y. residual_at
         (chroma_d qp (chroma_variants.WithDc (record {
           dc = dc.now;
           ac = table 4
               (λ k. shown 15 (get_or totals.now (4 * c + k) 0) (get_or stands.now (4 * c + k) (replicate 15 (pos 0))));
-        })) x y)) (unwrap_or r [])) }
+        })) x y)) out.new) }
 {
     let dc = dc2(dc, qp)?;
-    let mut out = [0; 64];
     for b in 0..4 {
         let x = b % 2;
         let y = b / 2;
         let block = chroma_block(dc[2 * y + x], totals, stands, c, b, qp)?;
-        put8(&mut out, x, y, &block);
+        put8(out, x, y, &block);
     }
-    Ok(Some(out))
+    Ok(())
 }
 
-/// The residual of luma blocks of 16 levels, if some block has one.
+/// Writes the residual of luma blocks of 16 levels, or that there is none where no block has a level.
 #[inline(always)]
 fn luma_blocks(
     totals: &[u8; 16],
     stands: &[[i16; 16]; 16],
     qp: u8,
-) -> Result<Option<[i16; 256]>, TransformRange>
+    out: &mut Option<[i16; 256]>,
+) -> Result<(), TransformRange>
     requires { qp ≤ 51 }
     ensures { IsLumaOf qp (luma_blocks_of totals.now (table 16 (λ k. shown 16 (get_or totals.now k 0) (get_or stands.now k (replicate 16 (pos 0))))))
-        result }
+        result out.new }
 {
     if are_blank(totals) {
-        return Ok(None);
+        *out = None;
+        return Ok(());
     }
-    blocks(totals, stands, qp)
+    blocks(totals, stands, qp, out.insert([0; 256]))
 }
 
-/// The residual of luma.
+/// Writes the residual of luma.
 #[inline(always)]
-fn luma(mb: &Macroblock) -> Result<Option<[i16; 256]>, TransformRange>
+fn luma(mb: &Macroblock, out: &mut Option<[i16; 256]>) -> Result<(), TransformRange>
     requires { mb.now.qp ≤ 51 }
     ensures { (coded : CodedMacroblock) → HoldsMacroblock mb.now coded →
-        IsLumaOf mb.now.qp (luma_levels_of coded.prediction coded.totals coded.residual) result }
+        IsLumaOf mb.now.qp (luma_levels_of coded.prediction coded.totals coded.residual) result out.new }
 {
+    let totals = &mb.contexts.totals;
     match mb.kind {
         Kind::Intra16x16 { mode: _ } => {
             let dc = shown16(&mb.residual.luma_dc, mb.residual.luma_dc_total);
-            with_dc(&dc, &mb.contexts.totals, &mb.residual.luma_ac, mb.qp)
+            let out = out.insert([0; 256]);
+            with_dc(&dc, totals, &mb.residual.luma_ac, mb.qp, out)
         }
-        Kind::Pcm => Ok(None),
-        Kind::Intra4x4 => luma_blocks(&mb.contexts.totals, &mb.residual.luma, mb.qp),
-        Kind::Inter { whole: _ } => luma_blocks(&mb.contexts.totals, &mb.residual.luma, mb.qp),
+        Kind::Pcm => {
+            *out = None;
+            Ok(())
+        }
+        Kind::Intra4x4 => luma_blocks(totals, &mb.residual.luma, mb.qp, out),
+        Kind::Inter { whole: _ } => luma_blocks(totals, &mb.residual.luma, mb.qp, out),
     }
 }
 
@@ -260,57 +267,66 @@ fn is_plane_uncoded(dc: &[i16; 4], totals: &[u8; 8], c: usize) -> bool
     are_blank(&totals[4 * c..4 * c + 4])
 }
 
-/// The residual of a chroma plane, if it has a level.
+/// Writes the residual of a chroma plane, or that there is none where it has no level.
 #[inline(always)]
 fn chroma_blocks(
     residual: &Residual,
     totals: &[u8; 8],
     c: usize,
     qp: u8,
-) -> Result<Option<[i16; 64]>, TransformRange>
+    out: &mut Option<[i16; 64]>,
+) -> Result<(), TransformRange>
     requires plane { c < 2 }
     requires qp { qp ≤ 51 }
     ensures { IsChromaOf qp (chroma_blocks_of (take 4 (drop (4 * c) totals.now))
         (shown 4 (get_or residual.now.chroma_dc_totals c 0) (get_or residual.now.chroma_dc c (replicate 4 (pos 0))))
-        (table 4 (λ k. shown 15 (get_or totals.now (4 * c + k) 0) (get_or residual.now.chroma_ac (4 * c + k) (replicate 15 (pos 0)))))) result }
+        (table 4 (λ k. shown 15 (get_or totals.now (4 * c + k) 0) (get_or residual.now.chroma_ac (4 * c + k) (replicate 15 (pos 0)))))) result out.new }
 {
     let dc = dc_levels(&residual.chroma_dc_totals, &residual.chroma_dc, c);
     if is_plane_uncoded(&dc, totals, c) {
-        return Ok(None);
+        *out = None;
+        return Ok(());
     }
-    chroma_with_dc(&dc, totals, &residual.chroma_ac, c, qp)
+    let out = out.insert([0; 64]);
+    chroma_with_dc(&dc, totals, &residual.chroma_ac, c, qp, out)
 }
 
-/// The residual of a chroma plane: Cb is 0, Cr is 1.
+/// Writes the residual of a chroma plane: Cb is 0, Cr is 1.
 #[inline(always)]
-fn chroma(mb: &Macroblock, c: usize, qp: u8) -> Result<Option<[i16; 64]>, TransformRange>
+fn chroma(
+    mb: &Macroblock,
+    c: usize,
+    qp: u8,
+    out: &mut Option<[i16; 64]>,
+) -> Result<(), TransformRange>
     requires plane { c < 2 }
     requires qp { qp ≤ 51 }
     ensures { (coded : CodedMacroblock) → HoldsMacroblock mb.now coded → IsChromaOf qp
-        (chroma_levels_of c coded.prediction coded.chroma_totals coded.residual) result }
+        (chroma_levels_of c coded.prediction coded.chroma_totals coded.residual) result out.new }
 {
+    let totals = &mb.contexts.chroma_totals;
     match mb.kind {
-        Kind::Pcm => Ok(None),
-        Kind::Intra4x4 => chroma_blocks(&mb.residual, &mb.contexts.chroma_totals, c, qp),
-        Kind::Intra16x16 { mode: _ } => {
-            chroma_blocks(&mb.residual, &mb.contexts.chroma_totals, c, qp)
+        Kind::Pcm => {
+            *out = None;
+            Ok(())
         }
-        Kind::Inter { whole: _ } => chroma_blocks(&mb.residual, &mb.contexts.chroma_totals, c, qp),
+        Kind::Intra4x4 => chroma_blocks(&mb.residual, totals, c, qp, out),
+        Kind::Intra16x16 { mode: _ } => chroma_blocks(&mb.residual, totals, c, qp, out),
+        Kind::Inter { whole: _ } => chroma_blocks(&mb.residual, totals, c, qp, out),
     }
 }
 
-/// The residual of each plane of a macroblock that was read, by chroma_qp_index_offset, or `TransformRange` where a value of its
-/// transform is out of range. A plane without levels costs no transform.
+/// Writes the residual of each plane of a macroblock that was read, by chroma_qp_index_offset. `TransformRange` where a value of its transform is
+/// out of range: what is written is then of no use. A plane without levels costs no transform.
 #[inline(always)]
-pub fn residuals(mb: &Macroblock, offset: i32) -> Result<Residuals, TransformRange>
+pub fn residuals(mb: &Macroblock, offset: i32, out: &mut Residuals) -> Result<(), TransformRange>
     requires { mb.now.qp ≤ 51 }
     ensures range { (coded : CodedMacroblock) → HoldsMacroblock mb.now coded → IsOk result ↔ IsTrue (levels_fit (levels_of offset coded)) }
-    ensures residual { (coded : CodedMacroblock) → HoldsMacroblock mb.now coded → IfOk result (AreResiduals (levels_of offset coded)) }
+    ensures residual { (coded : CodedMacroblock) → HoldsMacroblock mb.now coded → IfOk result (λ u. AreResiduals (levels_of offset coded) out.new) }
 {
     let qp = qp_of_chroma(mb.qp, offset);
-    Ok(Residuals {
-        y: luma(mb)?,
-        cb: chroma(mb, 0, qp)?,
-        cr: chroma(mb, 1, qp)?,
-    })
+    luma(mb, &mut out.y)?;
+    chroma(mb, 0, qp, &mut out.cb)?;
+    chroma(mb, 1, qp, &mut out.cr)?;
+    Ok(())
 }

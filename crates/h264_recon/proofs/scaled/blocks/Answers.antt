@@ -23,7 +23,7 @@ loop-b-preserved c =
     let has = plain_entries (d_of l c.args.qp) in
     let put = c.in_ok-put_block.ensures.put block has (next_clear b c.loop-b.out (omega arith) c.loop-b.invariant.clear) in
     record {
-      size = c.type_inv.out;
+      size = c.put_block.array_long;
       fit = all_more b _ c.loop-b.invariant.fit (fits_blocks c.args.qp b t l (omega arith) refl ∙ c.in_ok-put_block.ensures.range.0 refl);
       made = luma_more b _ c.loop-b.out c.put_block.new.out block (omega arith) c.loop-b.invariant.made put
           (λ i j d e. from_blocks c.args.qp b i j t l block (omega arith) d e refl has);

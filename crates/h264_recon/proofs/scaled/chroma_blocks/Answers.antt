@@ -10,4 +10,4 @@ returns-then-is_plane_uncoded c =
     no_chroma _ _ (uncoded t t c.dc_levels-dc.result (shown 4 (get_or a.residual.now.chroma_dc_totals a.c 0) (get_or a.residual.now.chroma_dc a.c (replicate 4 (pos 0)))) _ _ c.if-is_plane_uncoded.true c.is_plane_uncoded.ensures c.dc_levels-dc.ensures refl)
 
 pub returns : goal.returns
-returns c = chroma_by _ _ _ _ (record { range = c.chroma_with_dc.ensures.range; made = c.chroma_with_dc.ensures.made }) (coded_chroma _ _ _ _ _ c.if-is_plane_uncoded.false c.is_plane_uncoded.ensures c.dc_levels-dc.ensures)
+returns c = chroma_by _ _ _ _ _ (record { range = c.chroma_with_dc.ensures.range; made = c.chroma_with_dc.ensures.made }) (coded_chroma _ _ _ _ _ c.if-is_plane_uncoded.false c.is_plane_uncoded.ensures c.dc_levels-dc.ensures)

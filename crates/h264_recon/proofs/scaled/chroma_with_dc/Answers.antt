@@ -19,7 +19,7 @@ returns-in_err-dc-clause-range c =
     rw p.1 (never _ (chroma_dc_unfit c.args.qp (WithDc t) (refused (dc2_fits c.args.dc.now c.args.qp) c.in_err-dc.ensures.range.1)))
 
 pub loop-b-init : goal.loop-b-init
-loop-b-init c = record { size = refl; fit = all_none _; made = record { each = λ x y i j p q d e less. absurd (omega arith) } }
+loop-b-init c = record { size = c.told-out; fit = all_none _; made = record { each = λ x y i j p q d e less. absurd (omega arith) } }
 
 pub loop-b-preserved : goal.loop-b-preserved
 loop-b-preserved c =
@@ -30,7 +30,7 @@ loop-b-preserved c =
     let fits : FitsSigned w16 x = search rules in
     let kept = kept16 x fits in
     record {
-      size = c.type_inv.out;
+      size = c.put8.array_long;
       fit = all_more b _ c.loop-b.invariant.fit
           (fits_dc2 c.args.qp b t l c.in_ok-dc.dc _ (omega arith) refl kept c.in_ok-dc.ensures.scaled ∙ c.in_ok-block.ensures.range.0 refl);
       made = chroma_more b _ c.loop-b.out c.put8.new.out c.in_ok-block.block (omega arith) c.loop-b.invariant.made c.put8.ensures

@@ -8,4 +8,4 @@ unfolding luma_blocks
 returns-then-are_blank c = no_luma _ _ (search rules)
 
 pub returns : goal.returns
-returns c = luma_by _ _ _ _ (record { range = c.blocks-2.ensures.range; made = c.blocks-2.ensures.made }) (coded_luma _ _ _ c.if-are_blank.false c.are_blank.ensures)
+returns c = luma_by _ _ _ _ _ (record { range = c.blocks-2.ensures.range; made = c.blocks-2.ensures.made }) (coded_luma _ _ _ c.if-are_blank.false c.are_blank.ensures)
