@@ -109,6 +109,7 @@ pub struct Decoder {
 }
 
 impl Decoder {
+    ghost use Rattle.std.specs.Prelude.{◌≤◌, vec_len, vec_capacity};
     ghost use Rattle.h264_report.specs.Given.{IsGiven, HasAnswered};
     ghost use Rattle.h264_report.specs.declared.decoder.Standing.TheVariants.{Fallen};
 
@@ -182,10 +183,13 @@ impl Decoder {
         self.queue.take_frame()
     }
 
-    /// Takes a frame back that was taken. A later frame is made in its memory.
+    /// Takes a frame back that was taken. A later frame is made in its memory. Where memory is refused to the list of what is kept, it is freed.
     pub fn give_back(&mut self, frame: ShownFrame)
         ensures waiting { self.new.queue.waiting.items ≡ self.old.queue.waiting.items }
         ensures handed_out { self.new.queue.handed_out ≡ self.old.queue.handed_out }
+        // Its vector is kept, as the last one; or the list of those that are kept was full, and stays.
+        ensures spare { (self.new.queue.spare.items ≡ self.old.queue.spare.items ++ frame.samples ∷ [])
+            ⊎ ((vec_capacity self.old.queue.spare ≤ vec_len self.old.queue.spare) × (self.new.queue.spare.items ≡ self.old.queue.spare.items)) }
         ensures given { (terms : Terms) (bytes : List ℕ) → IsGiven terms self.old bytes → IsGiven terms self.new bytes }
         ensures answered { (terms : Terms) (bytes : List ℕ) (answer : Result Summary Stop) → HasAnswered terms self.old bytes answer →
             HasAnswered terms self.new bytes answer }

@@ -52,6 +52,7 @@ pub struct FrameQueue {
 }
 
 impl FrameQueue {
+    ghost use Rattle.std.specs.Prelude.{vec_len, vec_capacity};
     ghost use Rattle.h264_dpb.specs.Shown.{frame_call};
     ghost use Rattle.h264_report.specs.Queue.{told_of_frame};
 
@@ -89,12 +90,18 @@ impl FrameQueue {
         Some(frame)
     }
 
-    /// Takes a frame back that was taken. A later frame is made in its memory.
+    /// Takes a frame back that was taken. A later frame is made in its memory. Where memory is refused to the list of what is kept, it is freed.
     pub fn give_back(&mut self, frame: ShownFrame)
         ensures waiting { self.new.waiting.items ≡ self.old.waiting.items }
         ensures handed_out { self.new.handed_out ≡ self.old.handed_out }
+        // Its vector is kept, as the last one; or the list of those that are kept was full, and stays.
+        ensures spare { (self.new.spare.items ≡ self.old.spare.items ++ frame.samples ∷ [])
+            ⊎ ((vec_capacity self.old.spare ≤ vec_len self.old.spare) × (self.new.spare.items ≡ self.old.spare.items)) }
     {
-        let _ = self.spare.push(frame.samples);
+        match self.spare.push(frame.samples) {
+            Ok(()) => {}
+            Err(refused) => drop(refused.value),
+        }
     }
 
     /// Adds a frame at the end. Err: memory was refused, and nothing was added.
