@@ -31,12 +31,22 @@ impl Stream {
         }
     }
 
+    /// Takes back the frame that is lent.
+    fn take_back(&mut self)
+        ensures { self.new.decoder.queue.waiting.items ≡ self.old.decoder.queue.waiting.items }
+    {
+        if let Some(before) = self.lent.take() {
+            self.decoder.give_back(before);
+        }
+    }
+
     /// Lends the next frame, and takes back the one lent before. None: no frame waits.
     #[tactic(auto)]
     pub fn lend(&mut self) -> Option<CFrame>
         ensures { IfSome result (λ frame. (shown : ShownFrame) × (later : List ShownFrame)
             × (self.old.decoder.queue.waiting.items ≡ shown ∷ later) × IsFrame shown frame × (self.new.lent ≡ Some shown)) }
     {
+        self.take_back();
         self.lent = self.decoder.take_frame();
         match &self.lent {
             Some(lent) => return Some(frame_of(lent)),
