@@ -8,6 +8,7 @@
 #include <stdlib.h>
 
 enum { SIDE = 16, SAMPLES = SIDE * SIDE * 3 / 2, GREY = 128, MARK = 0x5a, VECTOR_BIT = 256, BYTES_OF_VERDICT = 72, BYTES_OF_FRAME = 32 };
+enum { MORE = 40 };
 
 /* The sizes that other languages lay out by hand. */
 _Static_assert(sizeof(h264v_verdict) == BYTES_OF_VERDICT, "the size of a verdict");
@@ -22,13 +23,13 @@ static int is_marked(const void *thing, size_t size)
     return size == 0;
 }
 
-/* Whether a frame is that of the first sample. */
-static int is_grey(const h264v_frame *frame)
+/* Whether a frame has the samples of the first sample's, and this count. */
+static int is_grey(const h264v_frame *frame, unsigned count)
 {
     size_t at = 0;
     while (at < frame->size && frame->samples[at] == GREY)
         at++;
-    return frame->width == SIDE && frame->height == SIDE && frame->count == 0 && frame->size == SAMPLES && at == SAMPLES;
+    return frame->width == SIDE && frame->height == SIDE && frame->count == (int32_t)count && frame->size == SAMPLES && at == SAMPLES;
 }
 
 static int is_yes(const h264v_verdict *v, uint64_t units, uint64_t pictures, uint64_t frames)
@@ -83,9 +84,35 @@ static void legal_in_pieces(const stream *s, size_t piece)
     expect(is_yes(&verdict, 3, 1, 1), "a second finish writes it again");
     memset(&verdict, MARK, sizeof verdict);
     expect(h264v_send(decoder, s->bytes, s->size, &verdict) == H264V_FELL && is_yes(&verdict, 3, 1, 1), "so does a send after it, which reads nothing");
-    expect(h264v_receive(decoder, &frame) == H264V_FRAME && is_grey(&frame), "its frame");
+    expect(h264v_receive(decoder, &frame) == H264V_FRAME && is_grey(&frame, 0), "its frame");
     memset(&frame, MARK, sizeof frame);
     expect(h264v_receive(decoder, &frame) == H264V_NO_FRAME && is_marked(&frame, sizeof frame), "no frame after the last");
+    h264v_close(decoder);
+}
+
+/* Receives the frames that wait, after so many; how many there are then. */
+static unsigned received(h264v *decoder, unsigned frames)
+{
+    h264v_frame frame;
+    while (h264v_receive(decoder, &frame) == H264V_FRAME)
+        expect(is_grey(&frame, 2 * frames++), "each frame comes in its turn");
+    return frames;
+}
+
+/* A stream of many frames, in pieces of so many bytes. The memory of those that were received is used for later ones. */
+static void many_in_pieces(const stream *s, size_t piece)
+{
+    h264v *decoder = opened(H264V_FULL, H264V_BASELINE);
+    h264v_verdict verdict;
+    unsigned frames = 0;
+    for (size_t at = 0; at < s->size; at += piece) {
+        size_t size = s->size - at < piece ? s->size - at : piece;
+        expect(h264v_send(decoder, s->bytes + at, size, &verdict) == H264V_GOES_ON, "a piece of many pictures goes on");
+        frames = received(decoder, frames);
+    }
+    h264v_finish(decoder, &verdict);
+    frames = received(decoder, frames);
+    expect(is_yes(&verdict, 3 + MORE, 1 + MORE, 1 + MORE) && frames == 1 + MORE, "the verdict on many pictures, and as many frames");
     h264v_close(decoder);
 }
 
@@ -187,18 +214,20 @@ static void two_at_once(const stream *s)
     expect(h264v_receive(second, &other) == H264V_NO_FRAME, "the second has none yet");
     h264v_finish(second, &verdict);
     h264v_close(second); /* its frame waits */
-    expect(is_grey(&frame), "a lent frame stays while another decoder is closed");
+    expect(is_grey(&frame, 0), "a lent frame stays while another decoder is closed");
     h264v_close(first); /* its frame is lent */
 }
 
 int main(int argc, char **argv)
 {
-    stream legal, bad;
-    if (argc != 3 || !read_stream(argv[1], &legal) || !read_stream(argv[2], &bad))
+    stream legal, bad, many;
+    if (argc != 3 || !read_stream(argv[1], &legal) || !read_stream(argv[2], &bad) || !read_stream(argv[1], &many) || !go_on(&many, MORE))
         return 64;
     opens();
     for (size_t piece = 1; piece <= legal.size; piece++)
         legal_in_pieces(&legal, piece);
+    for (size_t piece = 1; piece <= many.size; piece *= 8)
+        many_in_pieces(&many, piece);
     no_frames(&legal, H264V_UNITS, 0);
     no_frames(&legal, H264V_HEADERS, 1);
     broken(&bad);
@@ -208,5 +237,6 @@ int main(int argc, char **argv)
     two_at_once(&legal);
     free(legal.bytes);
     free(bad.bytes);
+    free(many.bytes);
     return failures != 0;
 }

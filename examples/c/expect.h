@@ -54,4 +54,22 @@ static inline int read_stream(const char *name, stream *to)
     return to->bytes && to->size > 0;
 }
 
+/* Adds so many pictures to the stream of samples/ that has one; 0 where memory is refused. Each has one macroblock, which is
+ * skipped: it shows what the first one shows. Their stream is legal. */
+static inline int go_on(stream *s, unsigned pictures)
+{
+    enum { UNIT = 8, FRAME_NUMS = 16 };
+    uint8_t *bytes = realloc(s->bytes, s->size + (size_t)pictures * UNIT);
+    if (!bytes)
+        return 0;
+    s->bytes = bytes;
+    for (unsigned k = 1; k <= pictures; k++) {
+        unsigned frame_num = k % FRAME_NUMS;
+        uint8_t unit[UNIT] = {0, 0, 0, 1, 0x61, (uint8_t)(0x9a | frame_num >> 3), (uint8_t)((frame_num & 7) << 5 | 2), 0xa0};
+        memcpy(bytes + s->size, unit, UNIT);
+        s->size += UNIT;
+    }
+    return 1;
+}
+
 #endif

@@ -1,12 +1,17 @@
 /* Refuses each allocation of a decoding in turn, and holds the answers against the header: memory, and nothing else. Counts the
  * blocks too: as many are freed as were taken, whatever was refused.
  *
- *     refusals FILE..
+ * h264v_receive asks for memory only to keep that of the frame which it takes back. Where this is refused, the frame is freed,
+ * and no caller is told: every frame and the verdict come as if nothing was refused.
+ *
+ *     refusals ONE_FRAME FILE..
+ *
+ * ONE_FRAME is the stream of samples/ of one picture. It is tried once more with many pictures after it.
  *
  * It has malloc, realloc and free of its own, before those of the C library (glibc). The status is 0 where all is as expected. */
 #include "expect.h"
 
-enum { PIECE = 64 };
+enum { PIECE = 64, MORE = 40 };
 
 extern void *__libc_malloc(size_t size);
 extern void *__libc_realloc(void *old, size_t size);
@@ -15,12 +20,21 @@ extern void __libc_free(void *block);
 /* How many allocations are left up to the one that is refused; 0: none is refused. */
 static long until = 0;
 
+/* Whether a frame is being received. */
+static int receiving = 0;
+
+/* Whether the refusal came while a frame was received. */
+static int is_untold = 0;
+
 /* How many blocks stand. */
 static long standing = 0;
 
 static int refuses(void)
 {
-    return until > 0 && --until == 0;
+    int now = until > 0 && --until == 0;
+    if (now)
+        is_untold = receiving;
+    return now;
 }
 
 void *malloc(size_t size)
@@ -43,39 +57,67 @@ void free(void *block)
     __libc_free(block);
 }
 
-/* Sends a stream to its end or to its verdict, and receives its frames; how many there were. */
-static unsigned decode(h264v *decoder, const stream *s, h264v_verdict *verdict)
+/* What came of a stream: how many frames, and a sum of their samples in order. */
+typedef struct {
+    unsigned frames;
+    uint32_t sum;
+} taken;
+
+/* Receives the frames that wait. */
+static void receive(h264v *decoder, taken *came)
 {
     h264v_frame frame;
-    unsigned frames = 0;
+    receiving = 1;
+    while (h264v_receive(decoder, &frame) == H264V_FRAME) {
+        came->frames++;
+        for (size_t at = 0; at < frame.size; at++)
+            came->sum = came->sum * 31 + frame.samples[at];
+    }
+    receiving = 0;
+}
+
+/* Sends a stream to its end or to its verdict, and receives its frames. */
+static taken decode(h264v *decoder, const stream *s, h264v_verdict *verdict)
+{
+    taken came = {0, 0};
     int32_t answer = H264V_GOES_ON;
     for (size_t at = 0; at < s->size && answer == H264V_GOES_ON; at += PIECE) {
         answer = h264v_send(decoder, s->bytes + at, s->size - at < PIECE ? s->size - at : PIECE, verdict);
-        while (h264v_receive(decoder, &frame) == H264V_FRAME)
-            frames++;
+        receive(decoder, &came);
     }
     h264v_finish(decoder, verdict);
-    while (h264v_receive(decoder, &frame) == H264V_FRAME)
-        frames++;
-    return frames;
+    receive(decoder, &came);
+    return came;
+}
+
+/* What is held against the header of a decoding in which an allocation was refused, or none. */
+static void hold(const h264v_verdict *verdict, const taken *came, int was_told, const h264v_verdict *whole, const taken *all)
+{
+    if (was_told) {
+        expect(verdict->kind == H264V_MEMORY && verdict->bit == 0, "memory is said");
+        expect(came->frames <= all->frames, "no frame comes that is not the stream's");
+    } else {
+        expect(same(verdict, whole), "the verdict is that of the stream");
+        expect(came->frames == all->frames && came->sum == all->sum, "each frame of the stream comes");
+    }
 }
 
 /* Decodes with the allocation of this number refused: whether there was one to refuse. */
-static int refused(const stream *s, long number, const h264v_verdict *whole, unsigned frames)
+static int refused(const stream *s, long number, const h264v_verdict *whole, const taken *all)
 {
     h264v *decoder = NULL;
     h264v_verdict verdict, again;
     long before = standing;
     int32_t answer;
     int was_refused;
+    is_untold = 0;
     until = number;
     answer = h264v_open(H264V_FULL, H264V_BASELINE, &decoder);
     if (answer == H264V_OPENED) {
-        unsigned came = decode(decoder, s, &verdict);
+        taken came = decode(decoder, s, &verdict);
         was_refused = until == 0;
         until = 0;
-        expect(was_refused ? verdict.kind == H264V_MEMORY && verdict.bit == 0 : same(&verdict, whole), "memory is said, or the verdict");
-        expect(was_refused ? came <= frames : came == frames, "no frame comes that is not the stream's");
+        hold(&verdict, &came, was_refused && !is_untold, whole, all);
         h264v_finish(decoder, &again);
         expect(same(&verdict, &again), "it is said again");
         h264v_close(decoder);
@@ -106,22 +148,32 @@ static long refused_checks(const stream *s)
     return number - 1;
 }
 
+/* Decodes and checks a stream with each of its allocations refused, and prints how many there were. */
+static void refuse_each(const char *name, const stream *s)
+{
+    h264v_verdict whole;
+    h264v *decoder = opened(H264V_FULL, H264V_BASELINE);
+    taken all = decode(decoder, s, &whole);
+    long number = 0, untold = 0;
+    h264v_close(decoder);
+    while (refused(s, ++number, &whole, &all))
+        untold += is_untold;
+    printf("%s: %ld allocations, each refused in turn, %ld of them untold; %ld of a check\n", name, number - 1, untold, refused_checks(s));
+}
+
 int main(int argc, char **argv)
 {
+    setvbuf(stdout, NULL, _IONBF, 0); /* a buffer would be a block that stands */
     for (int at = 1; at < argc; at++) {
         stream s;
-        h264v_verdict whole;
-        h264v *decoder;
-        unsigned frames;
-        long number = 0;
         if (!read_stream(argv[at], &s))
             return 64;
-        decoder = opened(H264V_FULL, H264V_BASELINE);
-        frames = decode(decoder, &s, &whole);
-        h264v_close(decoder);
-        while (refused(&s, ++number, &whole, frames))
-            ;
-        printf("%s: %ld allocations, each refused in turn; %ld of a check\n", argv[at], number - 1, refused_checks(&s));
+        refuse_each(argv[at], &s);
+        if (at == 1) {
+            if (!go_on(&s, MORE))
+                return 64;
+            refuse_each("many frames", &s);
+        }
         free(s.bytes);
     }
     return argc < 2 ? 64 : failures != 0;

@@ -77,6 +77,6 @@ cc -std=c11 -O2 -I"$prefix/include" "$here/decode.c" "$prefix/lib/libh264v.a" -o
 wants 0 "$work/decode-static" "$samples/one_frame.264"
 
 "$work/refusals-plain" "$samples/one_frame.264" "$samples/vector_too_long.264" || {
-  echo "run.sh: an allocation that is refused is not told as such" >&2
+  echo "run.sh: a refused allocation is not answered as it should be" >&2
   exit 1
 }
