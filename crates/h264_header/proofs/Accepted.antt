@@ -1,180 +1,17 @@
--- The ids and lengths of a parameter set that some unit gives.
-use Rattle.std.proofs.Common.{◌≡◌, ℕ, zero, suc, ◌+◌, ◌*◌, ◌<◌, ◌≤◌, nat_le, Bool, true, false, ◌&&◌, IsTrue, Option, Some, None, refl, sym, subst, arith}
-use Rattle.std.specs.Prelude.{nat_lt, unwrap_or, IfSome}
-use Rattle.std.specs.Option.{is_some, option_map, option_map_or, option_and_then}
-use Rattle.std.proofs.lemmas.Nat.{mul-le}
-use Rattle.std.proofs.lemmas.Bool.{le-leb, leb-true, lt-ltb}
-use Rattle.std.proofs.lemmas.Bool.Decides.{nat_tests}
+-- A slice finds the sets that some unit gives.
+use Rattle.std.proofs.Common.{◌≡◌, ℕ, ◌≤◌, true, Some, refl}
+use Rattle.std.proofs.lemmas.Bool.{le-leb}
 use Rattle.h264_base.specs.declared.mode.Target.{Target}
-use Rattle.h264_base.specs.Grammar.{Grammar, ◌>>=◌, read_word, check, support}
-use Rattle.h264_base.specs.declared.element_name.ElementName.TheVariants.{FrameCroppingFlag, VuiParametersPresentFlag, BitstreamRestrictionFlag}
-use Rattle.h264_base.specs.declared.rule.Rule.{Rule}
-use Rattle.h264_tables.specs.declared.level.Limits.{Limits}
-use Rattle.h264_tables.specs.Level.{limits_of}
-use Rattle.h264_bits.specs.Forms.{natural, flag, optional}
-use Rattle.h264_sps.specs.declared.sps.FrameSize.{FrameSize as Size}
-use Rattle.h264_sps.specs.declared.sps.FrameCropping.{FrameCropping}
-use Rattle.h264_sps.specs.declared.vui.Vui.{Vui}
-use Rattle.h264_sps.specs.declared.vui.BitstreamRestriction.{BitstreamRestriction}
-use Rattle.h264_sets.specs.Usable.{is_frame_size, is_within, crops_within, is_usable}
-use Rattle.h264_sps.specs.Vui.{bitstream_restriction, flagged, vui}
-use Rattle.h264_sets.proofs.Limits.{limits-bounded}
 use Rattle.h264_sps.specs.declared.sps.Sps.{Sps}
-use Rattle.h264_sps.specs.declared.count_type.CountType.{CountType}
-use Rattle.h264_sps.specs.Counting.{counting, of_type, lsb_type, cycle_type}
-use Rattle.h264_sps.specs.Sps.{LevelNamed, ProfileAndLevel, no_limits, max_dpb_frames, level, profile_and_level, fits, frame_size, frame_cropping, sps}
+use Rattle.h264_sps.specs.Sps.{sps}
+use Rattle.h264_sps.specs.Usable.{is_accepted}
+use Rattle.h264_sps.proofs.Gives.{Gives, gives-following, gives-to, gives-derived}
+use Rattle.h264_sps.proofs.Accepted.{gives-accepted}
 use Rattle.h264_pps.specs.declared.Pps.{Pps}
 use Rattle.h264_pps.specs.Pps.{pps}
 use Rattle.h264_sets.specs.Sets.{Maps, sps_of, pps_of}
-use Rattle.h264_header.specs.Layout.{has_lengths, has_count_lengths, sets_of}
+use Rattle.h264_header.specs.Layout.{sets_of}
 use Rattle.h264_header.specs.Accepted.{IsAcceptedSps, IsAcceptedPps}
-use Rattle.h264_header.proofs.Gives.{Gives, gives-following, gives-to, gives-met, gives-weaker, gives-derived}
-
-pub record HasRanges (s : Sps) : Type 0 where
-  pub id : s.seq_parameter_set_id ≤ 31
-  pub lengths : has_lengths s ≡ true
-  pub usable : is_usable s ≡ true
-
-few : (n : ℕ) → n ≤ 12 → nat_le (n + 4) 16 ≡ true
-few n h = le-leb (n + 4) 16 (omega (arith, h))
-
-abbrev HasCount : CountType → Type 0
-HasCount c = has_count_lengths c ≡ true
-
-of-kind : (kind : ℕ) → Gives (of_type kind) HasCount
-unfolding of_type lsb_type cycle_type
-of-kind zero = gives-to _ _ _ _ (λ n h. few n h)
-of-kind (suc zero) = gives-following _ _ _ (λ _. gives-following _ _ _ (λ _. gives-following _ _ _ (λ _. gives-following _ _ _ (λ _. gives-following _ _ _ (λ _. refl)))))
-of-kind (suc (suc n)) = refl
-
-counts : Gives counting HasCount
-unfolding counting
-counts = gives-following _ _ _ of-kind
-
-both : (a b : Bool) → a ≡ true → b ≡ true → (a && b) ≡ true
-both a b e f = rw (e, f) refl
-
--- the limits are those of the level
-record HasLevel (set3 : Bool) (n : LevelNamed) : Type 0 where
-  pub is : limits_of n.level_idc set3 ≡ Some n.limits
-  pub small : n.limits.max_fs ≤ 36864
-
-level-of : (o : Option Limits) → is_some o ≡ true → IfSome o (λ (l : Limits). l.max_fs ≤ 36864) → (o ≡ Some (unwrap_or o no_limits)) × ((unwrap_or o no_limits).max_fs ≤ 36864)
-level-of None h b = cc
-level-of (Some l) h b = (refl, b)
-
-level-gives : (set3 : Bool) → Gives (level set3) (HasLevel set3)
-unfolding level read_word support check ◌>>=◌
-level-gives set3 = λ e _ t. let l = level-of (limits_of (natural e.value) set3) t (limits-bounded (natural e.value) set3) in record { is = l.0; small = l.1 }
-
-abbrev HasFront : ProfileAndLevel → Type 0
-HasFront f = HasLevel f.flags.set3 f.named
-
-front-gives : (target : Target) → Gives (profile_and_level target) HasFront
-unfolding profile_and_level check
-front-gives target = gives-following _ _ _ (λ profile. gives-following _ _ _ (λ flags. gives-following _ _ _ (λ _. gives-following _ _ _ (λ reserved. gives-met (level flags.set3) _ (HasLevel flags.set3) _ (level-gives flags.set3) (λ named h. h)))))
-
--- the size is one of the level
-record HasSize (limits : Limits) (refs : ℕ) (size : Size) : Type 0 where
-  pub wide : 0 < size.width
-  pub high : 0 < size.height
-  pub macroblocks : size.width * size.height ≤ limits.max_fs
-  pub across : size.width * size.width ≤ 8 * limits.max_fs
-  pub down : size.height * size.height ≤ 8 * limits.max_fs
-  pub references : refs ≤ max_dpb_frames limits size
-
-size-gives : (limits : Limits) (refs : ℕ) → Gives (frame_size limits refs) (HasSize limits refs)
-unfolding frame_size fits read_word check ◌>>=◌
-size-gives limits refs = λ w h a b c d. record { wide = omega arith; high = omega arith; macroblocks = leb-true _ _ a; across = leb-true _ _ b; down = leb-true _ _ c; references = leb-true _ _ d }
-
-side : (n max : ℕ) → n * n ≤ 8 * max → max ≤ 36864 → n ≤ 543
-side n max h m = by (nat_le n 543) refl
-  where
-    by : (b : Bool) → nat_le n 543 ≡ b → n ≤ 543
-    by true e = leb-true n 543 e
-    by false e = let more : 544 ≤ n = grind (arith, nat_tests) in let sq : 544 * 544 ≤ n * n = mul-le 544 544 n n more more in absurd (omega (arith, h, m, sq))
-
--- the cropping rectangle leaves something
-abbrev HasCrop : Size → Option FrameCropping → Type 0
-HasCrop size o = crops_within size o ≡ true
-
-crop-gives : (size : Size) → Gives (frame_cropping size) (λ c. is_within size c ≡ true)
-unfolding frame_cropping read_word check ◌>>=◌
-crop-gives size = λ l r a t b c. both _ _ (below _ _ a) (below _ _ c)
-  where
-    below : (n m : ℕ) → nat_lt (2 * n) (16 * m) ≡ true → nat_lt n (8 * m) ≡ true
-    below n m h = grind (arith, nat_tests)
-
-flagged-gives : {A : Type 0} (present : Grammar Bool) (part : Grammar A) (P : Option A → Type 0) → P None → Gives part (λ x. P (Some x)) → Gives (flagged present part) P
-unfolding flagged optional
-flagged-gives present part P none some = gives-following _ _ _ by
-  where
-    by : (b : Bool) → Gives (optional b part) P
-    by true = gives-met part _ (λ x. P (Some x)) P some (λ x h. h)
-    by false = none
-
--- the buffer holds the reference frames, and no more than the level allows, where its size is given
-abbrev FitsIn : ℕ → ℕ → ℕ → Type 0
-FitsIn refs max frames = (refs ≤ frames) × (frames ≤ max)
-
-abbrev HasBuffering : ℕ → ℕ → Option Vui → Type 0
-HasBuffering refs max o = (frames : ℕ) → option_map (λ (r : BitstreamRestriction). r.max_dec_frame_buffering) (option_and_then (λ (v : Vui). v.bitstream_restriction) o) ≡ Some frames → FitsIn refs max frames
-
-check-gives : {B : Type 0} (rule : Rule) (bit : ℕ) (holds : Bool) (f : Unit {0} → Grammar B) (P : B → Type 0) → (IsTrue holds → Gives (f tt) P) → Gives (check rule bit holds >>= f) P
-unfolding check ◌>>=◌
-check-gives rule bit holds f P h = h
-
-restriction-gives : (refs max : ℕ) → Gives (bitstream_restriction refs max) (λ r. FitsIn refs max r.max_dec_frame_buffering)
-unfolding bitstream_restriction
-restriction-gives refs max = gives-following _ _ _ (λ over. gives-following _ _ _ (λ bytes. gives-following _ _ _ (λ mb_bits. gives-following _ _ _ (λ across. gives-following _ _ _ (λ down. gives-following _ _ _ (λ reorder. gives-following _ _ _ (λ e. check-gives _ _ _ _ _ (λ _. check-gives _ _ _ _ _ (λ b. check-gives _ _ _ _ _ (λ c. (leb-true _ _ b, leb-true _ _ c)))))))))))
-
-same-some : (a b : ℕ) → Some a ≡ Some b → a ≡ b
-same-some a b e = cc
-
-restricted : (refs max : ℕ) (r : BitstreamRestriction) → FitsIn refs max r.max_dec_frame_buffering → (frames : ℕ) → Some r.max_dec_frame_buffering ≡ Some frames → FitsIn refs max frames
-restricted refs max r h frames e = subst (λ n. FitsIn refs max n) (same-some _ _ e) h
-
-none-given : (refs max frames : ℕ) → (let o : Option ℕ = None in o ≡ Some frames) → FitsIn refs max frames
-none-given refs max frames e = cc
-
-abbrev IsBuffering : ℕ → ℕ → Option BitstreamRestriction → Type 0
-IsBuffering refs max o = (frames : ℕ) → option_map (λ (r : BitstreamRestriction). r.max_dec_frame_buffering) o ≡ Some frames → FitsIn refs max frames
-
-vui-gives : (refs max : ℕ) → Gives (vui refs max) (λ v. HasBuffering refs max (Some v))
-unfolding vui
-vui-gives refs max = gives-following _ _ _ (λ _. gives-following _ _ _ (λ _. gives-following _ _ _ (λ _. gives-following _ _ _ (λ _. gives-following _ _ _ (λ _. gives-following _ _ _ (λ _. gives-following _ _ _ (λ _. gives-following _ _ _ (λ _. gives-following _ _ _ (λ _. gives-met (flagged (flag BitstreamRestrictionFlag) (bitstream_restriction refs max)) _ (IsBuffering refs max) _ (flagged-gives (flag BitstreamRestrictionFlag) (bitstream_restriction refs max) (IsBuffering refs max) (none-given refs max) (gives-weaker (bitstream_restriction refs max) (λ r. FitsIn refs max r.max_dec_frame_buffering) (λ r. IsBuffering refs max (Some r)) (restriction-gives refs max) (λ r h. restricted refs max r h))) (λ o h. h))))))))))
-
--- the buffer holds the reference frames
-holds-by : (refs : ℕ) (o : Option ℕ) (frames : ℕ) → ((n : ℕ) → o ≡ Some n → refs ≤ n) → refs ≤ frames → nat_le refs (unwrap_or o frames) ≡ true
-holds-by refs None frames h k = le-leb refs frames k
-holds-by refs (Some n) frames h k = le-leb refs n (h n refl)
-
--- and is no larger than this
-buffers-by : (o : Option ℕ) (frames : ℕ) → ((n : ℕ) → o ≡ Some n → n ≤ frames) → option_map_or (λ (n : ℕ). nat_le n frames) o true ≡ true
-buffers-by None frames h = refl
-buffers-by (Some n) frames h = le-leb n frames (h n refl)
-
-frame-of : (limits : Limits) (refs : ℕ) (size : Size) → limits.max_fs ≤ 36864 → HasSize limits refs size → is_frame_size size ≡ true
-frame-of limits refs size small h =
-    both _ _ (lt-ltb 0 size.width h.wide)
-    (both _ _ (lt-ltb 0 size.height h.high)
-    (both _ _ (le-leb (size.width * size.height) 36864 (let m = h.macroblocks in omega (arith, m, small)))
-    (both _ _ (le-leb size.width 543 (side size.width limits.max_fs h.across small)) (le-leb size.height 543 (side size.height limits.max_fs h.down small)))))
-
-sps-gives : (target : Target) → Gives (sps target) HasRanges
-unfolding sps is_usable
-sps-gives target = gives-met (profile_and_level target) _ HasFront _ (front-gives target) (λ front level. gives-to _ _ _ _ (λ id low. gives-to _ _ _ _ (λ log2 short. gives-met counting _ HasCount _ counts (λ count e. gives-following _ _ _ (λ refs. gives-following _ _ _ (λ _. gives-met (frame_size front.named.limits refs) _ (HasSize front.named.limits refs) _ (size-gives front.named.limits refs) (λ size fits. gives-following _ _ _ (λ _. gives-following _ _ _ (λ _.
-    gives-met (flagged (flag FrameCroppingFlag) (frame_cropping size)) _ (HasCrop size) _ (flagged-gives (flag FrameCroppingFlag) (frame_cropping size) (HasCrop size) refl (crop-gives size)) (λ crop within.
-    gives-met (flagged (flag VuiParametersPresentFlag) (vui refs (max_dpb_frames front.named.limits size))) _ (HasBuffering refs (max_dpb_frames front.named.limits size)) _ (flagged-gives (flag VuiParametersPresentFlag) (vui refs (max_dpb_frames front.named.limits size)) (HasBuffering refs (max_dpb_frames front.named.limits size)) (none-given refs (max_dpb_frames front.named.limits size)) (vui-gives refs (max_dpb_frames front.named.limits size))) (λ usability buffering.
-    gives-following _ _ _ (λ _.
-    let most = λ (o : Option Limits). option_map_or (λ (l : Limits). max_dpb_frames l size) o 0 in
-    record {
-      id = low;
-      lengths = both _ _ (few log2 short) e;
-      usable = both _ _ (frame-of front.named.limits refs size level.small fits) (both _ _ within (both _ _
-          (holds-by refs _ _ (λ n g. (buffering n g).0) (subst (λ o. refs ≤ most o) (sym level.is) fits.references))
-          (buffers-by _ _ (λ n g. subst (λ o. n ≤ most o) (sym level.is) (buffering n g).1))));
-    }))))))))))))
 
 abbrev HasId : Pps → Type 0
 HasId p = p.seq_parameter_set_id ≤ 31
@@ -187,5 +24,5 @@ pps-gives target = gives-following _ _ _ (λ id. gives-to _ _ _ _ (λ sps low. g
 pub named-accepted : (target : Target) (maps : Maps) (id : ℕ) (p : Pps) (s : Sps) → IsAcceptedPps target p → IsAcceptedSps target s → pps_of maps id ≡ Some p → sps_of maps p.seq_parameter_set_id ≡ Some s → sets_of maps id ≡ Some (p, s)
 named-accepted target maps id p s a b e f =
     let low = gives-derived (pps target) HasId a.body a.from a.elements a.to p (pps-gives target) a.derives in
-    let ranges = gives-derived (sps target) HasRanges b.body b.from b.elements b.to s (sps-gives target) b.derives in
-    rw (e, le-leb _ _ low, f, ranges.lengths, ranges.usable) refl
+    let given = gives-derived (sps target) (λ s. is_accepted s ≡ true) b.body b.from b.elements b.to s (gives-accepted target) b.derives in
+    rw (e, le-leb _ _ low, f, given) refl

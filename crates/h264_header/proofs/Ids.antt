@@ -15,7 +15,7 @@ use Rattle.h264_header.specs.declared.header.Header.{Header}
 use Rattle.h264_header.specs.declared.header.SliceUnit.{SliceUnit}
 use Rattle.h264_header.specs.Layout.{layout_of}
 use Rattle.h264_header.specs.Header.{named_sets, header}
-use Rattle.h264_header.proofs.Gives.{Gives, gives-following, gives-met, gives-derived}
+use Rattle.h264_sps.proofs.Gives.{Gives, gives-following, gives-met, gives-derived}
 
 -- an id of at most 255 whose sets are there
 pub record IsNamed (sets : ℕ → Option (Pps × Sps)) (id : ℕ) : Type 0 where

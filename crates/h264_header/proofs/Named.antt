@@ -5,7 +5,8 @@ use Rattle.h264_pps.specs.declared.Pps.{Pps}
 use Rattle.h264_sps.specs.declared.sps.Sps.{Sps}
 use Rattle.h264_sets.specs.declared.SetPair.{SetPair}
 use Rattle.h264_sets.specs.Sets.{Maps, sps_of, pps_of, with_sps_of, pair_of}
-use Rattle.h264_header.specs.Layout.{is_accepted, if_accepted, sps_named, sets_of}
+use Rattle.h264_sps.specs.Usable.{is_accepted}
+use Rattle.h264_header.specs.Layout.{if_accepted, sps_named, sets_of}
 
 abbrev as_pair : Pps × Sps → SetPair
 as_pair p = record { pps = p.0; sps = p.1 }

@@ -1,28 +1,15 @@
 -- The parameter sets of a slice, and what they say of the elements of its header (7.3.3, 7.4.1.2.1). To be read beside the standard.
-use Rattle.std.specs.Prelude.{ℕ, ◌≤◌, nat_le, ◌&&◌, Bool, true, false, Option, Some, None, if◌then◌else◌}
+use Rattle.std.specs.Prelude.{ℕ, ◌≤◌, nat_le, false, Option, Some, None, if◌then◌else◌}
 use Rattle.std.specs.Option.{option_and_then}
 use Rattle.h264_sps.specs.declared.sps.Sps.{Sps}
 use Rattle.h264_sps.specs.declared.count_type.CountType.{CountType}
 use Rattle.h264_sps.specs.declared.count_type.CountType.TheVariants as count_type
-use Rattle.h264_sets.specs.Usable.{is_usable}
+use Rattle.h264_sps.specs.Usable.{is_accepted}
 use Rattle.h264_pps.specs.declared.Pps.{Pps}
 use Rattle.h264_sets.specs.Sets.{Maps, sps_of, pps_of}
 use Rattle.h264_header.specs.declared.layout.CountElements.{CountElements}
 use Rattle.h264_header.specs.declared.layout.CountElements.TheVariants.{Lsb, Deltas, ZeroDeltas, DecodingOrder}
 use Rattle.h264_header.specs.declared.layout.Layout.{Layout}
-
--- the lengths of frame_num and pic_order_cnt_lsb are those that a sequence parameter set may give
-abbrev pub has_count_lengths : CountType → Bool
-has_count_lengths (count_type.Lsb length) = nat_le length 16
-has_count_lengths (count_type.Cycle always_zero non_ref bottom cycle) = true
-has_count_lengths count_type.DecodingOrder = true
-
-abbrev pub has_lengths : Sps → Bool
-has_lengths sps = nat_le sps.log2_max_frame_num 16 && has_count_lengths sps.count_type
-
--- it is one that some unit may give
-abbrev pub is_accepted : Sps → Bool
-is_accepted sps = has_lengths sps && is_usable sps
 
 abbrev pub if_accepted : Pps → Sps → Option (Pps × Sps)
 if_accepted pps sps = if is_accepted sps then Some (pps, sps) else None

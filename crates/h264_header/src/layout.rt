@@ -2,12 +2,11 @@
 #![tactic(auto)]
 
 ghost use Rattle.std.specs.Prelude.{◌≡◌, ◌≤◌, IfSome, IfNone, Some, None, true};
-ghost use Rattle.h264_header.specs.Layout.{sets_of, layout_of, count_elements_of, has_lengths, is_accepted};
-ghost use Rattle.h264_sets.specs.Usable.{is_usable};
+ghost use Rattle.h264_header.specs.Layout.{sets_of, layout_of, count_elements_of};
+ghost use Rattle.h264_sps.specs.Usable.{has_lengths, is_usable};
 
 use h264_pps::Pps;
 use h264_sets::Sets;
-use h264_sets::usable::is_usable;
 use h264_sps::count_type::CountType;
 use h264_sps::sps::Sps;
 
@@ -64,29 +63,6 @@ fn count_elements(count_type: &CountType) -> CountElements
     }
 }
 
-/// Whether the lengths are ones that a sequence parameter set may give.
-fn has_lengths(sps: &Sps) -> bool
-    ensures { result ≡ has_lengths sps.now }
-{
-    if sps.log2_max_frame_num > 16 {
-        return false;
-    }
-    match sps.count_type {
-        CountType::Lsb {
-            log2_max_pic_order_cnt_lsb,
-        } => log2_max_pic_order_cnt_lsb <= 16,
-        CountType::Cycle { .. } => true,
-        CountType::DecodingOrder => true,
-    }
-}
-
-/// Whether a sequence parameter set is one that some unit may give.
-fn is_accepted(sps: &Sps) -> bool
-    ensures { result ≡ is_accepted sps.now }
-{
-    has_lengths(sps) && is_usable(sps)
-}
-
 /// What a picture parameter set and its sequence parameter set say.
 pub(crate) fn layout_of(pps: &Pps, sps: &Sps) -> Layout
     ensures { result ≡ layout_of (pps.now, sps.now) }
@@ -110,12 +86,6 @@ pub fn named_sets<'a>(sets: &'a Sets, pic_parameter_set_id: u32) -> Option<(&'a 
     ensures usable { IfSome result (λ named. is_usable named.1.now ≡ true) }
 {
     let pps = sets.pps(pic_parameter_set_id)?;
-    if pps.seq_parameter_set_id > 31 {
-        return None;
-    }
     let sps = sets.sps(pps.seq_parameter_set_id)?;
-    if !is_accepted(sps) {
-        return None;
-    }
     Some((pps, sps))
 }

@@ -1,7 +1,8 @@
 //! What no clause says: headers worked by hand from the standard's tables, and each range's ends.
 #![tactic(auto)]
 
-ghost use Rattle.std.specs.Prelude.{◌≤◌, IfOk};
+ghost use Rattle.std.specs.Prelude.{◌≡◌, ◌≤◌, true, IfOk};
+ghost use Rattle.h264_sps.specs.Usable.{has_count_lengths, is_accepted};
 
 use crate::cases::{
     Case, DEBLOCKING, FRONT, FULL_LIST, IDR_PIC_ID, LIST, LONG_LIST, MARKING, RANGE, WEIGHTS,
@@ -55,7 +56,8 @@ fn rbsp(alloc: Global, stream: &[u8]) -> Result<Rbsp, Stop> {
 
 /// The sequence parameter set in a stream of one unit.
 fn sps_read(alloc: Global, stream: &[u8]) -> Result<Sps, Stop>
-    ensures { IfOk result (λ s. s.seq_parameter_set_id ≤ 31) }
+    ensures id { IfOk result (λ s. s.seq_parameter_set_id ≤ 31) }
+    ensures accepted { IfOk result (λ s. is_accepted s ≡ true) }
 {
     let body = rbsp(alloc, stream)?;
     read_sps(
@@ -67,7 +69,8 @@ fn sps_read(alloc: Global, stream: &[u8]) -> Result<Sps, Stop>
 
 /// The picture parameter set in a stream of one unit.
 fn pps_read(alloc: Global, stream: &[u8]) -> Result<Pps, Stop>
-    ensures { IfOk result (λ p. p.pic_parameter_set_id ≤ 255) }
+    ensures id { IfOk result (λ p. p.pic_parameter_set_id ≤ 255) }
+    ensures names { IfOk result (λ p. p.seq_parameter_set_id ≤ 31) }
 {
     let body = rbsp(alloc, stream)?;
     read_pps(
@@ -85,8 +88,26 @@ fn sets_read(alloc: Global, sps: &[u8], pps: &[u8]) -> Result<Sets, Fail> {
     Ok(sets)
 }
 
+/// A way to count, with no more bits than a set may give.
+fn counted(count_type: CountType) -> CountType
+    ensures { has_count_lengths result ≡ true }
+{
+    match count_type {
+        CountType::Lsb {
+            log2_max_pic_order_cnt_lsb,
+        } => CountType::Lsb {
+            log2_max_pic_order_cnt_lsb: log2_max_pic_order_cnt_lsb.min(16),
+        },
+        CountType::Cycle { .. } => count_type,
+        CountType::DecodingOrder => count_type,
+    }
+}
+
 /// A sequence parameter set of one macroblock, with frame_num of 4 bits.
-fn sps(count_type: CountType) -> Sps {
+fn sps(count_type: CountType) -> Sps
+    ensures id { result.seq_parameter_set_id ≡ 0 }
+    ensures accepted { is_accepted result ≡ true }
+{
     Sps {
         profile_idc: 66,
         constraint_set_flags: ConstraintSetFlags {
@@ -101,7 +122,7 @@ fn sps(count_type: CountType) -> Sps {
         level_idc: 10,
         seq_parameter_set_id: 0,
         log2_max_frame_num: 4,
-        count_type,
+        count_type: counted(count_type),
         max_num_ref_frames: 1,
         gaps_in_frame_num_value_allowed_flag: false,
         frame_size: FrameSize {
@@ -115,7 +136,10 @@ fn sps(count_type: CountType) -> Sps {
 }
 
 /// A picture parameter set without what is optional.
-fn pps(default_active_minus1: u32, has_bottom: bool, has_control: bool) -> Pps {
+fn pps(default_active_minus1: u32, has_bottom: bool, has_control: bool) -> Pps
+    ensures id { result.pic_parameter_set_id ≡ 0 }
+    ensures names { result.seq_parameter_set_id ≡ 0 }
+{
     Pps {
         pic_parameter_set_id: 0,
         seq_parameter_set_id: 0,
@@ -133,14 +157,15 @@ fn pps(default_active_minus1: u32, has_bottom: bool, has_control: bool) -> Pps {
 }
 
 /// Both sets under id 0.
-fn sets_of(alloc: Global, sps: &Sps, pps: &Pps) -> Result<Sets, Fail> {
+fn sets_of(alloc: Global, sps: &Sps, pps: &Pps) -> Result<Sets, Fail>
+    requires id { sps.now.seq_parameter_set_id ≡ 0 }
+    requires accepted { is_accepted sps.now ≡ true }
+    requires pps_id { pps.now.pic_parameter_set_id ≡ 0 }
+    requires names { pps.now.seq_parameter_set_id ≡ 0 }
+{
     let mut sets = Sets::new(alloc)?;
-    if sps.seq_parameter_set_id <= 31 {
-        sets.put_sps(*sps);
-    }
-    if pps.pic_parameter_set_id <= 255 {
-        sets.put_pps(*pps);
-    }
+    sets.put_sps(*sps);
+    sets.put_pps(*pps);
     Ok(sets)
 }
 

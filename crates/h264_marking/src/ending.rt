@@ -4,7 +4,7 @@
 ghost use Rattle.std.specs.Prelude.{IsErrOf, ◌≡◌, ◌==◌, true, IsTrue};
 ghost use Rattle.std.specs.List.{list_any};
 ghost use Rattle.std.specs.Result.{result_unwrap_or};
-ghost use Rattle.h264_header.specs.Layout.{has_lengths};
+ghost use Rattle.h264_sps.specs.Usable.{has_lengths};
 ghost use Rattle.h264_header.specs.Marking.{number_of};
 ghost use Rattle.h264_header.specs.declared.header.Marking.TheVariants.{SlidingWindow};
 ghost use Rattle.h264_marking.specs.Held.{mark_answer};

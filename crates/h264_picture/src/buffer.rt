@@ -4,7 +4,7 @@
 ghost use Rattle.std.specs.Prelude.{◌≡◌, ◌≤◌};
 ghost use Rattle.h264_picture.specs.Buffer.{buffer_size as buffer_size_of};
 
-use h264_sets::usable::{dpb_frames, given_frames};
+use h264_sps::buffer::{dpb_frames, given_frames};
 use h264_sps::sps::Sps;
 
 /// How many frames the picture buffer of a sequence holds: max_dec_frame_buffering, if it is given, else MaxDpbFrames of its level and

@@ -13,7 +13,7 @@ use h264_base::SliceType;
 use h264_header::{Header, SliceKind};
 use h264_lists::RefSlot;
 use h264_pps::Pps;
-use h264_sets::usable;
+use h264_sps::buffer;
 use h264_sps::sps::Sps;
 use h264_tables::Limits;
 use h264_vectors::SliceContext;
@@ -50,7 +50,7 @@ fn limits_of(sps: &Sps) -> Option<Limits>
     ensures here { result ≡ limits_of sps.now.level_idc sps.now.constraint_set_flags.set3 }
     ensures within { IfSome result (λ l. l.max_vector ≤ 512) }
 {
-    usable::limits_of(sps)
+    buffer::limits_of(sps)
 }
 
 /// The greatest vertical vector component of a sequence, in quarter samples, and 1 more.

@@ -2,7 +2,7 @@
 #![tactic(auto)]
 
 ghost use Rattle.std.specs.Prelude.{◌≡◌, true};
-ghost use Rattle.h264_header.specs.Layout.{has_lengths, has_count_lengths};
+ghost use Rattle.h264_sps.specs.Usable.{has_lengths, has_count_lengths};
 ghost use Rattle.h264_poc.specs.OfSlice.{order_of, picture_of};
 
 use crate::picture::{Cycle, Order, Picture};

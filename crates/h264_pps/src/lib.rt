@@ -87,6 +87,7 @@ fn pps_steps<S: Elements>(target: Target, bits: &mut Bits, sink: &mut S) -> Resu
     requires { HasRoom S.failures sink.old }
     ensures meets { Meets S.took S.failures (Is (λ x. x)) (pps target) bits.old bits.new sink.old sink.new result }
     ensures id { IfOk result (λ s. s.pic_parameter_set_id ≤ 255) }
+    ensures names { IfOk result (λ s. s.seq_parameter_set_id ≤ 31) }
 {
     let id = ue_up_to(bits, ElementName::PicParameterSetId, 255, sink)?;
     let sps = ue_up_to(bits, ElementName::SeqParameterSetId, 31, sink)?;
@@ -133,6 +134,7 @@ pub fn read_pps<S: Elements>(target: Target, bits: &mut Bits, sink: &mut S) -> R
     ensures answers { Answers S.took S.failures (Is (λ x. x)) (pps target) bits.old bits.new sink.old sink.new result }
     ensures meets { Meets S.took S.failures (Is (λ x. x)) (pps target) bits.old bits.new sink.old sink.new result }
     ensures id { IfOk result (λ s. s.pic_parameter_set_id ≤ 255) }
+    ensures names { IfOk result (λ s. s.seq_parameter_set_id ≤ 31) }
 {
     pps_steps(target, bits, sink)
 }

@@ -1,7 +1,8 @@
--- The sets by id. To be read beside the standard.
-use Rattle.std.specs.Prelude.{◌≡◌, ◌≢◌, ℕ, List, Option, Some, None, replicate, slice_set, slice_get}
+-- The sets by id (7.4.1.2.1). To be read beside the standard.
+use Rattle.std.specs.Prelude.{◌≡◌, ◌≢◌, ℕ, ◌≤◌, true, List, [], ◌∷◌, Option, Some, None, replicate, slice_set, slice_get}
 use Rattle.std.specs.Option.{option_map, option_and_then}
 use Rattle.h264_sps.specs.declared.sps.Sps.{Sps}
+use Rattle.h264_sps.specs.Usable.{is_accepted}
 use Rattle.h264_pps.specs.declared.Pps.{Pps}
 use Rattle.h264_sets.specs.declared.SetPair.{SetPair}
 
@@ -23,6 +24,20 @@ sps_of m id = set_at m.sps id
 
 abbrev pub pps_of : Maps → ℕ → Option Pps
 pps_of m id = set_at m.pps id
+
+-- this holds of each set that stands in the place of an id
+abbrev pub EachSet : {T : Type 0} → (T → Type 0) → List (Option T) → Type 0
+EachSet P [] = Unit {0}
+EachSet P (None ∷ sets) = EachSet P sets
+EachSet P (Some set ∷ sets) = P set × EachSet P sets
+
+-- each sequence parameter set is one that some unit may give
+abbrev pub AreAccepted : List (Option Sps) → Type 0
+AreAccepted sets = EachSet (λ (s : Sps). is_accepted s ≡ true) sets
+
+-- each picture parameter set names a sequence parameter set by an id that there is
+abbrev pub NameIds : List (Option Pps) → Type 0
+NameIds sets = EachSet (λ (p : Pps). p.seq_parameter_set_id ≤ 31) sets
 
 -- a set in the place of the one that had its id
 abbrev pub with_sps : Maps → Sps → Maps

@@ -3,19 +3,20 @@
 //!
 //! A set replaces the earlier one of its id, and no other. `activate` makes the sets that a slice names the active ones, and
 //! refuses a sequence parameter set that has changed where no IDR picture begins. All memory is taken by `Sets::new`; nothing
-//! else takes any. What a set means is not decided here; `usable` says what holds of each that some unit gives.
+//! else takes any. A set is judged when it is read, and not here: each that is kept is one that some unit may give.
 #![tactic(auto)]
 
-ghost use Rattle.std.specs.Prelude.{◌≡◌, ℕ, ◌<◌, ◌≤◌, ◌↔◌, ◌⊎◌, IsTrue, IsFalse, IfOk, OnErr, Option, Some, None, Ok, Err};
+ghost use Rattle.std.specs.Prelude.{◌≡◌, ℕ, ◌<◌, ◌≤◌, ◌↔◌, ◌⊎◌, true, IsTrue, IsFalse, IfOk, OnErr, Option, Some, None, Ok, Err};
 ghost use Rattle.std.specs.Option.{option_copied, option_map};
 ghost use Rattle.h264_sets.specs.Sets.{set_at, no_sets, with_sps, with_pps, sps_of, pps_of, pair_of, with_active, naming, IsActive, IsPutSps, IsPutPps};
+ghost use Rattle.h264_sets.specs.Sets.{AreAccepted, NameIds};
+ghost use Rattle.h264_sps.specs.Usable.{is_accepted};
 ghost use Rattle.h264_base.specs.declared.rule.Rule.TheVariants.{NoSet, SetChanged};
 ghost use Rattle.h264_base.specs.declared.stop.Stop.TheVariants.{No};
 ghost use Rattle.h264_sets.specs.declared.SetPair.{SetPair};
 
 #[cfg(test)]
 mod tests;
-pub mod usable;
 
 use h264_base::{Rule, Stop};
 use h264_pps::Pps;
@@ -64,7 +65,7 @@ fn name_pps(active: &mut Option<SetPair>, pps: Pps)
     }
 }
 
-/// The sets by id, and the active pair.
+/// The sets by id, and the active pair. Each set that is kept is one that some unit may give.
 #[derive(Drop)]
 pub struct Sets {
     sps: Vec<Option<Sps>>,
@@ -74,13 +75,13 @@ pub struct Sets {
 
 impl Model for Sets {
     ghost use Rattle.std.specs.Prelude.{◌≡◌, length};
-    ghost use Rattle.h264_sets.specs.Sets.{Maps};
+    ghost use Rattle.h264_sets.specs.Sets.{Maps, AreAccepted, NameIds};
 
     ghost Value = { Maps };
 
     ghost view = { λ s. record { sps = s.sps.items; pps = s.pps.items; active = s.active } };
 
-    ghost invariant = { λ s. (length s.sps.items ≡ 32) × (length s.pps.items ≡ 256) };
+    ghost invariant = { λ s. (length s.sps.items ≡ 32) × (length s.pps.items ≡ 256) × AreAccepted s.sps.items × NameIds s.pps.items };
 }
 
 impl Sets {
@@ -97,18 +98,20 @@ impl Sets {
         })
     }
 
-    /// Keeps a sequence parameter set in the place of the one that had its id.
+    /// Keeps a sequence parameter set, as it was read, in the place of the one that had its id.
     pub fn put_sps(&mut self, sps: Sps)
-        requires { sps.seq_parameter_set_id ≤ 31 }
+        requires id { sps.seq_parameter_set_id ≤ 31 }
+        requires accepted { is_accepted sps ≡ true }
         ensures replaced { self.new ≡ with_sps self.old sps }
         ensures named { IsPutSps self.old self.new sps }
     {
         self.sps[sps.seq_parameter_set_id as usize] = Some(sps);
     }
 
-    /// Keeps a picture parameter set in the place of the one that had its id.
+    /// Keeps a picture parameter set, as it was read, in the place of the one that had its id.
     pub fn put_pps(&mut self, pps: Pps)
-        requires { pps.pic_parameter_set_id ≤ 255 }
+        requires id { pps.pic_parameter_set_id ≤ 255 }
+        requires names { pps.seq_parameter_set_id ≤ 31 }
         ensures replaced { self.new ≡ with_pps self.old pps }
         ensures named { IsPutPps self.old self.new pps }
     {
@@ -118,7 +121,8 @@ impl Sets {
     /// The sequence parameter set of this id, if there was one.
     pub fn sps(&self, seq_parameter_set_id: u32) -> Option<&Sps>
         requires { seq_parameter_set_id ≤ 31 }
-        ensures { option_copied result ≡ sps_of self.now seq_parameter_set_id }
+        ensures found { option_copied result ≡ sps_of self.now seq_parameter_set_id }
+        ensures accepted { AreAccepted self.now.sps }
     {
         self.sps[seq_parameter_set_id as usize].as_ref()
     }
@@ -126,7 +130,8 @@ impl Sets {
     /// The picture parameter set of this id, if there was one.
     pub fn pps(&self, pic_parameter_set_id: u32) -> Option<&Pps>
         requires { pic_parameter_set_id ≤ 255 }
-        ensures { option_copied result ≡ pps_of self.now pic_parameter_set_id }
+        ensures found { option_copied result ≡ pps_of self.now pic_parameter_set_id }
+        ensures names { NameIds self.now.pps }
     {
         self.pps[pic_parameter_set_id as usize].as_ref()
     }

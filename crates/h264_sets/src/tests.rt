@@ -1,7 +1,8 @@
 //! What no clause says: that each call succeeds.
 #![tactic(auto)]
 
-ghost use Rattle.std.specs.Prelude.{◌≡◌};
+ghost use Rattle.std.specs.Prelude.{◌≡◌, ◌≤◌, true};
+ghost use Rattle.h264_sps.specs.Usable.{is_accepted};
 
 use crate::Sets;
 use h264_base::{Rule, Stop};
@@ -10,9 +11,11 @@ use h264_sps::count_type::CountType;
 use h264_sps::sps::{ConstraintSetFlags, FrameSize, Sps};
 use std::test::Fail;
 
-/// A sequence parameter set with id 3 that allows so many reference frames.
+/// A sequence parameter set with id 3 that allows so many reference frames, as one of level 1 with a frame of one macroblock may.
 fn sps(max_num_ref_frames: u32) -> Sps
-    ensures { result.seq_parameter_set_id ≡ 3 }
+    requires { max_num_ref_frames ≤ 16 }
+    ensures id { result.seq_parameter_set_id ≡ 3 }
+    ensures accepted { is_accepted result ≡ true }
 {
     Sps {
         profile_idc: 66,
@@ -43,7 +46,8 @@ fn sps(max_num_ref_frames: u32) -> Sps
 
 /// A picture parameter set with id 200 that names it.
 fn pps() -> Pps
-    ensures { result.pic_parameter_set_id ≡ 200 }
+    ensures id { result.pic_parameter_set_id ≡ 200 }
+    ensures names { result.seq_parameter_set_id ≡ 3 }
 {
     Pps {
         pic_parameter_set_id: 200,

@@ -5,3 +5,6 @@ pub mod Content
 pub mod Padded
 pub mod Regroup
 pub mod Types
+pub mod Limits
+pub mod Gives
+pub mod Accepted

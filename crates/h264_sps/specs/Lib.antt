@@ -5,3 +5,4 @@ pub mod Counting
 pub mod Sps
 pub mod Parts
 pub mod Seen
+pub mod Usable

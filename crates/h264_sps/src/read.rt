@@ -1,7 +1,7 @@
 //! Reading a sequence parameter set (7.3.2.1.1).
 #![tactic(auto)]
 
-ghost use Rattle.std.specs.Prelude.{◌≡◌, ℕ, ◌+◌, ◌-◌, ◌<◌, ◌≤◌, ◌^◌, IfOk, Some, None, cond};
+ghost use Rattle.std.specs.Prelude.{◌≡◌, ℕ, ◌+◌, ◌-◌, ◌<◌, ◌≤◌, ◌^◌, IfOk, Some, None, cond, true};
 ghost use Rattle.h264_base.specs.Call.{HasRoom};
 ghost use Rattle.h264_base.specs.Meets.{Meets, Is, Answers};
 ghost use Rattle.h264_base.specs.declared.element_name.ElementName.TheVariants.{FrameCroppingFlag};
@@ -11,6 +11,7 @@ ghost use Rattle.h264_sps.specs.Parts.{crop_offsets, is_size_allowed, sps_from_s
 ghost use Rattle.h264_sps.specs.Seen.{level_seen, front_seen};
 ghost use Rattle.h264_sps.specs.Sps.{constraint_set_flags, level, profile_and_level, frame_size, frame_cropping, max_dpb_frames as max_dpb_frames_of};
 ghost use Rattle.h264_sps.specs.Sps.{is_judged_profile, is_level_6, sps};
+ghost use Rattle.h264_sps.specs.Usable.{is_accepted};
 
 use crate::count_type::{CountType, read_count_type};
 use crate::sps::{ConstraintSetFlags, FrameCropping, FrameSize, Sps};
@@ -296,7 +297,8 @@ fn sps_steps<S: Elements>(target: Target, bits: &mut Bits, sink: &mut S) -> Resu
 
 /// Reads a sequence parameter set, which is all of the unit's RBSP, for this target.
 ///
-/// Ok: the set; the elements that the sink was told are its one derivation, with every rule met.
+/// Ok: the set; the elements that the sink was told are its one derivation, with every rule met. So its lengths, its size, its
+/// cropping rectangle and its picture buffer are ones that some unit may give, and nobody has to test them again.
 /// No: the first rule that it breaks, at its stream bit. Outside: its level is one that is not judged. Write: the sink failed.
 /// After an Err the reader may have moved.
 pub fn read_sps<S: Elements>(target: Target, bits: &mut Bits, sink: &mut S) -> Result<Sps, Stop>
@@ -304,6 +306,7 @@ pub fn read_sps<S: Elements>(target: Target, bits: &mut Bits, sink: &mut S) -> R
     ensures answers { Answers S.took S.failures (Is (λ x. x)) (sps target) bits.old bits.new sink.old sink.new result }
     ensures meets { Meets S.took S.failures (Is (λ x. x)) (sps target) bits.old bits.new sink.old sink.new result }
     ensures id { IfOk result (λ s. s.seq_parameter_set_id ≤ 31) }
+    ensures accepted { IfOk result (λ s. is_accepted s ≡ true) }
 {
     sps_steps(target, bits, sink)
 }

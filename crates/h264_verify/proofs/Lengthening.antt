@@ -8,7 +8,7 @@ use Rattle.h264_base.specs.Grammar.{Grammar, Element, Done, HasMore, Says, ◌>>
 use Rattle.h264_base.specs.Run.{run}
 use Rattle.h264_base.proofs.OneAnswer.{run-says}
 use Rattle.h264_base.proofs.Words.{more-one}
-use Rattle.h264_header.proofs.Gives.{Gives, gives-following, gives-met, gives-weaker, gives-derived}
+use Rattle.h264_sps.proofs.Gives.{Gives, gives-following, gives-met, gives-weaker, gives-derived}
 use Rattle.h264_near.specs.Coded.{CodedMacroblock}
 use Rattle.h264_vectors.specs.declared.slice.SliceContext.{SliceContext}
 use Rattle.h264_mbsyntax.specs.declared.slice.Standing.{Standing}

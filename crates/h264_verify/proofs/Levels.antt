@@ -1,6 +1,6 @@
 -- The level of a set has a place for a frame of its size at least: MaxDpbFrames is not 0 (A.3.1, Table A-1).
-use Rattle.std.proofs.Common.{◌≡◌, ℕ, zero, suc, ◌+◌, ◌*◌, ◌<◌, ◌≤◌, nat_le, ◌==◌, ◌&&◌, Bool, true, false, List, [], ◌∷◌, ◌++◌, replicate, find, Option, Some, None, Ok, refl, ap, sym, subst, arith}
-use Rattle.std.specs.Prelude.{unwrap_or, IfSome, slice_set}
+use Rattle.std.proofs.Common.{◌≡◌, ℕ, ◌+◌, ◌*◌, ◌<◌, ◌≤◌, nat_le, ◌==◌, ◌&&◌, Bool, true, false, List, [], ◌∷◌, ◌++◌, find, Option, Some, None, Ok, refl, ap, sym, subst, arith}
+use Rattle.std.specs.Prelude.{unwrap_or, IfSome}
 use Rattle.std.specs.List.{list_all}
 use Rattle.std.specs.Option.{is_some, option_map, option_map_or}
 use Rattle.std.proofs.lemmas.Nat.{le-div, mul-le}
@@ -21,8 +21,9 @@ use Rattle.h264_sps.specs.Sps.{LevelNamed, ProfileAndLevel, no_limits, max_dpb_f
 use Rattle.h264_pps.specs.declared.Pps.{Pps}
 use Rattle.h264_pps.specs.Pps.{pps}
 use Rattle.h264_sets.specs.declared.SetPair.{SetPair}
-use Rattle.h264_sets.specs.Sets.{Maps, set_at, sps_of, pps_of, with_sps_of, pair_of}
-use Rattle.h264_sets.specs.Usable.{dpb_frames}
+use Rattle.h264_sets.specs.Sets.{Maps, EachSet, sps_of, pps_of, with_sps_of, pair_of}
+use Rattle.h264_sets.proofs.Each.{none-each, put-each, of-each}
+use Rattle.h264_sps.specs.Usable.{dpb_frames}
 use Rattle.h264_header.specs.declared.header.Header.{Header}
 use Rattle.h264_header.specs.Layout.{sets_of}
 use Rattle.h264_header.proofs.Named.{named-pair}
@@ -165,45 +166,25 @@ unit-room target before r calls l =
 
 -- ---- the sets by id
 
-abbrev EachSet : List (Option Sps) → Type 0
-EachSet [] = Unit {0}
-EachSet (None ∷ sets) = EachSet sets
-EachSet (Some set ∷ sets) = HasRoom set × EachSet sets
+abbrev HaveRoom : List (Option Sps) → Type 0
+HaveRoom sets = EachSet HasRoom sets
 
-none-each : (n : ℕ) → EachSet (replicate n None)
-none-each zero = tt
-none-each (suc n) = none-each n
-
-put-each : (sets : List (Option Sps)) (id : ℕ) (set : Sps) → HasRoom set → EachSet sets → EachSet (slice_set sets id (Some set))
-put-each [] id set h e = tt
-put-each (None ∷ sets) zero set h e = (h, e)
-put-each (Some other ∷ sets) zero set h e = (h, e.1)
-put-each (None ∷ sets) (suc id) set h e = put-each sets id set h e
-put-each (Some other ∷ sets) (suc id) set h e = (e.0, put-each sets id set h e.1)
-
-of-each : (sets : List (Option Sps)) (id : ℕ) (set : Sps) → EachSet sets → set_at sets id ≡ Some set → HasRoom set
-of-each [] id set e s = cc
-of-each (None ∷ sets) zero set e s = cc
-of-each (Some other ∷ sets) zero set e s = let same : other ≡ set = cc in subst HasRoom same e.0
-of-each (None ∷ sets) (suc id) set e s = of-each sets id set e s
-of-each (Some other ∷ sets) (suc id) set e s = of-each sets id set e.1 s
-
-active-each : (maps : Maps) (o : Option SetPair) → EachSet maps.sps → EachSet (with_pair maps o).sps
+active-each : (maps : Maps) (o : Option SetPair) → HaveRoom maps.sps → HaveRoom (with_pair maps o).sps
 active-each maps None e = e
 active-each maps (Some pair) e = e
 
-maps-each : (maps : Maps) (c : Content) → IsRoomy c → EachSet maps.sps → EachSet (maps_with maps c).sps
-maps-each maps (contents.OfSps set) h e = put-each maps.sps set.seq_parameter_set_id set h e
+maps-each : (maps : Maps) (c : Content) → IsRoomy c → HaveRoom maps.sps → HaveRoom (maps_with maps c).sps
+maps-each maps (contents.OfSps set) h e = put-each HasRoom maps.sps set.seq_parameter_set_id set h e
 maps-each maps (contents.OfPps set) h e = e
 maps-each maps (contents.OfSlice h ms) k e = active-each maps (pair_of maps h.pic_parameter_set_id.value) e
 maps-each maps contents.Passed h e = e
 
 -- the set of a slice
-named-room : (maps : Maps) (id : ℕ) (sets : Pps × Sps) → EachSet maps.sps → sets_of maps id ≡ Some sets → HasRoom sets.1
+named-room : (maps : Maps) (id : ℕ) (sets : Pps × Sps) → HaveRoom maps.sps → sets_of maps id ≡ Some sets → HasRoom sets.1
 named-room maps id sets e n =
     let s = then-some (with_sps_of maps) (pps_of maps id) (record { pps = sets.0; sps = sets.1 }) (named-pair maps id sets n) in
     let t = map-some (λ (x : Sps). let pair : SetPair = record { pps = s.0; sps = x } in pair) (sps_of maps s.0.seq_parameter_set_id) _ s.2 in
-    subst HasRoom (ap (λ (q : SetPair). q.sps) t.2) (of-each maps.sps s.0.seq_parameter_set_id t.0 e t.1)
+    subst HasRoom (ap (λ (q : SetPair). q.sps) t.2) (of-each HasRoom maps.sps s.0.seq_parameter_set_id t.0 e t.1)
 
 -- ---- the pictures
 
@@ -216,7 +197,7 @@ joined-room true slice pictures h e = (h, e)
 joined-room false slice [] h e = tt
 joined-room false slice (p ∷ ps) h e = e
 
-pictures-room : (before : History) (r : ReadUnit) → EachSet (maps_of before).sps → EachRoom (runs_of before) → EachRoom (runs_of (r ∷ before))
+pictures-room : (before : History) (r : ReadUnit) → HaveRoom (maps_of before).sps → EachRoom (runs_of before) → EachRoom (runs_of (r ∷ before))
 pictures-room before r m e = by r.content
   where
     named : (h : Header) (ms : List CodedMacroblock) (o : Option (Pps × Sps)) → sets_of (maps_of before) h.pic_parameter_set_id.value ≡ o → EachRoom (joined_by (option_map (with_sets r.unit h ms) o) (goes_on before) (runs_of before))
@@ -230,11 +211,11 @@ pictures-room before r m e = by r.content
     by contents.Passed = e
 
 record Rooms (before : History) : Type 0 where
-  pub sets : EachSet (maps_of before).sps
+  pub sets : HaveRoom (maps_of before).sps
   pub pictures : EachRoom (runs_of before)
 
 rooms : (target : Target) (before : History) (calls : List Told) → AreLegal (terms_of modes.Full target) before calls → Rooms before
-rooms target [] calls l = record { sets = none-each 32; pictures = tt }
+rooms target [] calls l = record { sets = none-each HasRoom 32; pictures = tt }
 rooms target (r ∷ before) calls l =
     let s = rooms target before l.0 l.2 in
     record {

@@ -14,7 +14,7 @@ use Rattle.h264_header.specs.Layout.{sets_of}
 use Rattle.h264_marking.specs.declared.frame.Numbering.{Numbering}
 use Rattle.h264_marking.specs.Frames.{References}
 use Rattle.h264_lists.specs.declared.slot.RefSlot.{RefSlot}
-use Rattle.h264_sets.specs.Usable.{is_usable, crops_within, holds_references, buffers_within}
+use Rattle.h264_sps.specs.Usable.{is_usable, crops_within, holds_references, buffers_within}
 use Rattle.h264_picture.specs.Holds.{is_frame_size}
 use Rattle.h264_mbsyntax.specs.Slice.{slice_data}
 use Rattle.h264_picture.specs.Context.{slice_context}

@@ -25,7 +25,7 @@ use Rattle.h264_verify.proofs.Sound.{places-fit, set-few, ended-sound-of}
 use Rattle.h264_verify.specs.Sound.{HasSet, AreSound, has_ended}
 use Rattle.h264_verify.specs.History.{History}
 use Rattle.h264_verify.specs.declared.decoder.Format.{Format}
-use Rattle.h264_sets.specs.Usable.{is_usable}
+use Rattle.h264_sps.specs.Usable.{is_usable}
 use Rattle.h264_marking.specs.Frames.{References, frame_places}
 use Rattle.h264_picture.specs.Buffer.{buffer_size}
 use Rattle.h264_dpb.specs.Kept.{size_of}

@@ -7,7 +7,7 @@ use Rattle.h264_base.proofs.Chains.{then-some}
 use Rattle.h264_base.specs.declared.stop.Stop.{Stop}
 use Rattle.h264_bits.specs.declared.element.Found.{Found}
 use Rattle.h264_sps.specs.declared.sps.Sps.{Sps}
-use Rattle.h264_sets.specs.Usable.{is_usable, is_frame_size, crops_within, given_frames, dpb_frames, holds_references, buffers_within}
+use Rattle.h264_sps.specs.Usable.{is_usable, is_frame_size, crops_within, given_frames, dpb_frames, holds_references, buffers_within}
 use Rattle.h264_header.specs.declared.header.Marking.{Marking}
 use Rattle.h264_header.specs.declared.header.Marking.TheVariants as mode
 use Rattle.h264_header.specs.Picture.{is_idr, is_reference}

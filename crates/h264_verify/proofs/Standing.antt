@@ -4,12 +4,12 @@ use Rattle.std.specs.Option.{is_some, option_and_then}
 use Rattle.h264_base.proofs.Chains.{map-some, then-some}
 use Rattle.h264_base.specs.declared.stop.Stop.{Stop}
 use Rattle.h264_sps.specs.declared.sps.Sps.{Sps}
-use Rattle.h264_sets.specs.Usable.{is_usable}
+use Rattle.h264_sps.specs.Usable.{has_lengths, is_usable, is_accepted}
 use Rattle.h264_pps.specs.declared.Pps.{Pps}
 use Rattle.h264_sets.specs.Sets.{Maps, IsActive, sps_of, pps_of, with_sps_of, pair_of, with_active}
 use Rattle.h264_sets.specs.declared.SetPair.{SetPair}
 use Rattle.h264_header.specs.declared.header.Header.{Header}
-use Rattle.h264_header.specs.Layout.{has_lengths, is_accepted, if_accepted, sps_named, sets_of}
+use Rattle.h264_header.specs.Layout.{if_accepted, sps_named, sets_of}
 use Rattle.h264_header.specs.Picture.{begins_picture, picture_elements, is_idr, idr_differs}
 use Rattle.h264_header.proofs.Named.{named-pair}
 use Rattle.h264_bits.specs.declared.element.Found.{Found}

@@ -3,7 +3,7 @@ use Rattle.std.specs.Prelude.{◌≡◌, ◌||◌, not, List, [], ◌∷◌, len
 use Rattle.std.specs.Option.{is_some}
 use Rattle.h264_pps.specs.declared.Pps.{Pps}
 use Rattle.h264_sps.specs.declared.sps.Sps.{Sps}
-use Rattle.h264_sets.specs.Usable.{is_usable}
+use Rattle.h264_sps.specs.Usable.{is_usable}
 use Rattle.h264_sets.specs.Sets.{Maps, IsActive, pps_of}
 use Rattle.h264_header.specs.declared.header.Header.{Header}
 use Rattle.h264_header.specs.Picture.{is_idr, is_reference}

@@ -1,7 +1,7 @@
 -- The decoded picture buffer stays within its places (C.4.2, C.4.4, C.4.5). To be read beside the standard.
 use Rattle.std.specs.Prelude.{◌≡◌, ℕ, ◌≤◌, List, ◌∷◌, ◌++◌}
 use Rattle.h264_marking.specs.Ended.{numbering_of}
-use Rattle.h264_sets.specs.Usable.{dpb_frames}
+use Rattle.h264_sps.specs.Usable.{dpb_frames}
 use Rattle.h264_picture.specs.Buffer.{buffer_size}
 use Rattle.h264_dpb.specs.Buffered.{Buffered, StaysWithin}
 use Rattle.h264_dpb.specs.Turns.{Shown}

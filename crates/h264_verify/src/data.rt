@@ -8,7 +8,7 @@ ghost use Rattle.std.specs.Result.{result_unwrap_or};
 ghost use Rattle.h264_header.specs.Layout.{sets_of};
 ghost use Rattle.h264_pps.specs.declared.Pps.{Pps};
 ghost use Rattle.h264_sps.specs.declared.sps.Sps.{Sps as SpsView};
-ghost use Rattle.h264_sets.specs.Usable.{is_usable};
+ghost use Rattle.h264_sps.specs.Usable.{is_usable};
 ghost use Rattle.h264_verify.specs.Pictures.{CodedSlice, CodedPicture, joined_to, held_in};
 ghost use Rattle.h264_plane.specs.declared.frame.Frame.{Frame};
 ghost use Rattle.h264_verify.specs.Lists.{list_of};

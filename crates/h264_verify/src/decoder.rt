@@ -53,7 +53,7 @@ impl Decoder {
     ghost use Rattle.h264_base.specs.declared.mode.Mode.{Mode};
     ghost use Rattle.h264_base.specs.declared.mode.Mode.TheVariants as modes;
     ghost use Rattle.h264_plane.specs.declared.frame.Frame.{Frame};
-    ghost use Rattle.h264_sets.specs.Usable.{is_usable};
+    ghost use Rattle.h264_sps.specs.Usable.{is_usable};
     ghost use Rattle.h264_near.specs.Coded.{CodedMacroblock};
     ghost use Rattle.h264_vectors.specs.Agrees.{Usable};
     ghost use Rattle.h264_mbsyntax.specs.Slice.{slice_data};

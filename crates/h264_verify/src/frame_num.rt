@@ -4,7 +4,7 @@
 ghost use Rattle.std.specs.Prelude.{◌≡◌, ℕ, ◌+◌, ◌-◌, ◌%◌, ◌<◌, ◌≤◌, ◌^◌, ◌&&◌, ◌||◌, not, ◌==◌, true, false, length, [], ◌∷◌, Some, None, Ok, Err};
 ghost use Rattle.h264_base.specs.Call.{HasRoom, IsQuiet};
 ghost use Rattle.std.specs.Prelude.{OnOk, IfOk, IfErr, IsErrOf, if◌then◌else◌};
-ghost use Rattle.h264_header.specs.Layout.{has_lengths};
+ghost use Rattle.h264_sps.specs.Usable.{has_lengths};
 ghost use Rattle.std.specs.Prelude.{List};
 ghost use Rattle.h264_plane.specs.declared.frame.Frame.{Frame};
 ghost use Rattle.h264_dpb.specs.Bumping.{missing_in};

@@ -3,7 +3,7 @@
 
 ghost use Rattle.std.specs.Prelude.{◌≡◌, ℕ, Bool, false, ◌==◌, ◌||◌, ◌+◌, ◌-◌, ◌*◌, ◌<◌, ◌≤◌, ◌^◌, true, Some, List, [], ◌∷◌, if◌then◌else◌, OnOk, IsErrOf};
 ghost use Rattle.h264_base.specs.Call.{OfSlice, HasRoom, IsQuiet};
-ghost use Rattle.h264_header.specs.Layout.{has_lengths};
+ghost use Rattle.h264_sps.specs.Usable.{has_lengths};
 ghost use Rattle.h264_marking.specs.Gaps.{entered, all_filled, unused_short_term_frame_nums};
 ghost use Rattle.h264_near.specs.Coded.{CodedMacroblock};
 ghost use Rattle.h264_poc.specs.declared.picture.Picture.{Picture};

@@ -1,6 +1,6 @@
 use Rattle.std.proofs.Common.{ap, ◌∙◌, min}
 use Rattle.std.specs.Prelude.{max, unwrap_or}
-use Rattle.h264_sets.specs.Usable.{given_frames}
+use Rattle.h264_sps.specs.Usable.{given_frames}
 use Rattle.h264_picture.specs.Buffer.{buffer_size}
 use Rattle.h264_picture.proofs.buffer.buffer_size.Goals as goal
 

@@ -1,15 +1,26 @@
--- To be read beside the standard. What holds of each sequence parameter set that some unit gives, beside the ranges of its elements (7.4.2.1.1, A.3.1,
--- E.2.1).
+-- To be read beside the standard. What holds of each sequence parameter set that some unit gives (7.4.2.1.1, A.3.1, E.2.1): the lengths of elements in
+-- slice headers, the size of a frame, the cropping rectangle, and the picture buffer.
 use Rattle.std.specs.Prelude.{ℕ, ◌+◌, ◌*◌, nat_le, nat_lt, ◌&&◌, Bool, true, Option, Some, None, unwrap_or}
 use Rattle.std.specs.Option.{option_and_then, option_map, option_map_or}
 use Rattle.h264_tables.specs.declared.level.Limits.{Limits}
 use Rattle.h264_tables.specs.Level.{limits_of}
+use Rattle.h264_sps.specs.declared.count_type.CountType.{CountType}
+use Rattle.h264_sps.specs.declared.count_type.CountType.TheVariants as count_type
 use Rattle.h264_sps.specs.declared.sps.FrameCropping.{FrameCropping}
 use Rattle.h264_sps.specs.declared.sps.FrameSize.{FrameSize}
 use Rattle.h264_sps.specs.declared.sps.Sps.{Sps}
 use Rattle.h264_sps.specs.declared.vui.Vui.{Vui}
 use Rattle.h264_sps.specs.declared.vui.BitstreamRestriction.{BitstreamRestriction}
 use Rattle.h264_sps.specs.Sps.{max_dpb_frames}
+
+-- the lengths of frame_num and pic_order_cnt_lsb are those that a sequence parameter set may give
+abbrev pub has_count_lengths : CountType → Bool
+has_count_lengths (count_type.Lsb length) = nat_le length 16
+has_count_lengths (count_type.Cycle always_zero non_ref bottom cycle) = true
+has_count_lengths count_type.DecodingOrder = true
+
+abbrev pub has_lengths : Sps → Bool
+has_lengths sps = nat_le sps.log2_max_frame_num 16 && has_count_lengths sps.count_type
 
 -- a frame of some macroblocks, of no more than the greatest MaxFS, in rows and columns of no more than Sqrt(8 * MaxFS) (A.3.1)
 abbrev pub is_frame_size : FrameSize → Bool
@@ -41,3 +52,7 @@ buffers_within sps = option_map_or (λ (frames : ℕ). nat_le frames (dpb_frames
 
 unfoldable pub is_usable : Sps → Bool
 is_usable sps = is_frame_size sps.frame_size && (crops_within sps.frame_size sps.frame_cropping && (holds_references sps && buffers_within sps))
+
+-- it is one that some unit may give
+abbrev pub is_accepted : Sps → Bool
+is_accepted sps = has_lengths sps && is_usable sps
