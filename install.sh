@@ -5,7 +5,7 @@
 #   ./install.sh [PREFIX]                  PREFIX is ~/.local where it is left out
 #   ./install.sh --uninstall [PREFIX]      removes what an installation put there, and no folder
 #
-# Needs the kit's rt on the path, some 24 GB of memory and 6 GB of disk below ${TMPDIR:-/tmp}. JOBS=N sets how many
+# Needs the kit's rt on the path, some 24 GB of memory and 9 GB of disk below ${TMPDIR:-/tmp}. JOBS=N sets how many
 # processors it takes, CPU=x86-64-v2 the processor that it builds for, KEEP=1 leaves the folder in which it built. The library needs ar and cc.
 set -eu
 
