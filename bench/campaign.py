@@ -1,9 +1,9 @@
 #!/usr/bin/env python3
-"""campaign.py PROGRAM [--minutes M] [--jobs N] [--seed S] [--keep FOLDER] [--main-ip] [STREAM..]: judges small streams by PROGRAM (h264v, or h264v-quick) and
-by other decoders.
+"""campaign.py PROGRAM [--minutes M] [--jobs N] [--seed S] [--changed C] [--keep FOLDER] [--main-ip] [STREAM..]: judges small streams by
+PROGRAM (h264v, or h264v-quick) and by other decoders.
 
 Streams are made by bench/streams, legal by construction and with every tool of the profile, and some by x264 where it is installed; STREAM adds more. Of
-each a few changed ones are made: an element with another value, the code words after it whole; bits flipped; a byte inserted; the end cut off; units lost,
+each C changed ones are made: an element with another value, the code words after it whole; bits flipped; a byte inserted; the end cut off; units lost,
 doubled and exchanged.
 
 Of each stream: `check`, `frames` and `decode` have to give one answer, with a status and a label that docs/ name; the bytes of `decode` have to be those
@@ -30,6 +30,8 @@ from streams import encoded, legal
 
 HERE = pathlib.Path(__file__).resolve().parent
 CHANGED_OF_EACH = 6
+# How many streams one process goes through.
+BATCH = 64
 OTHERS = ["ffmpeg", "openh264"]
 VERDICTS = {0: "yes", 1: "no", 2: "outside"}
 LAST_LINE = re.compile(r"yes: units \d+ pictures \d+ frames \d+|no: bit \d+: (\w+) \(clause [A-E\d.]+\)|outside: bit \d+: (\w+)")
@@ -77,48 +79,89 @@ class Other:
 
 
 class Judge:
-    """What PROGRAM says of a stream."""
+    """What PROGRAM says of streams. One process of each command goes through many of them, where PROGRAM takes several files."""
 
     def __init__(self, program, main_ip, path):
-        self.words, self.path = [program], path
-        self.more = ["--target", "main-ip"] if main_ip else []
+        self.program, self.more = program, ["--target", "main-ip"] if main_ip else []
+        usage = subprocess.run([program, "check", path, path], capture_output=True)
+        self.takes_several = usage.stdout.startswith(path.encode())
 
-    def ran(self, command):
-        return subprocess.run([*self.words, command, *self.more, self.path], capture_output=True)
+    def ran(self, command, paths):
+        return subprocess.run([self.program, command, *self.more, *paths], capture_output=True)
 
-    def judged(self):
-        """The status and the last line; each frame's size and digest, and its count; and what is wrong with the answers."""
-        check, frames, decode = (self.ran(it) for it in ("check", "frames", "decode"))
-        lines = frames.stdout.decode().splitlines()
-        last = lines[-1] if lines else ""
-        told = [it.split() for it in lines if it.startswith("frame ")]
+    def judged(self, paths):
+        """Of each stream the status and the last line; each frame's size and digest, and its count; and what is wrong with the answers."""
+        if not self.takes_several:
+            return [self.judged_alone(it) for it in paths]
+        check, frames, decode = (self.ran(it, paths) for it in ("check", "frames", "decode"))
+        lines = [by_file(it) for it in (check.stdout, frames.stdout, decode.stderr)]
+        found, at = [], 0
+        for path in paths:
+            ends = [it[path][-1:] for it in lines]
+            told = [it.split() for it in lines[1][path] if it.startswith("frame ")]
+            last = ends[1][0] if ends[1] else ""
+            status = next((status for status, word in VERDICTS.items() if last.startswith(word)), None)
+            digests, counts = [f"{it[4]} {it[6]}" for it in told], [int(it[3]) for it in told]
+            length = sum(bytes_of(it) for it in digests)
+            wrong = self.wrong(last, [ends[0], ends[2]]) or unlike(decode.stdout[at : at + length], digests)
+            at += length
+            found.append((status, last, digests, counts, wrong))
+        worst = max((status for status, *_ in found if status is not None), default=None)
+        if at == len(decode.stdout) and {it.returncode for it in (check, frames, decode)} == {worst} and not any(it[4] for it in found):
+            return found
+        return [self.judged_alone(it) for it in paths]
+
+    def judged_alone(self, path):
+        """What `judged` gives, of one stream, each command with its own status."""
+        check, frames, decode = (self.ran(it, [path]) for it in ("check", "frames", "decode"))
+        lines = [it.decode().splitlines() for it in (check.stdout, frames.stdout, decode.stderr)]
+        ends = [[it for it in some if not it.endswith("nothing is proved")][-1:] for some in lines]
+        told = [it.split() for it in lines[1] if it.startswith("frame ")]
+        last = ends[1][0] if ends[1] else ""
         digests, counts = [f"{it[4]} {it[6]}" for it in told], [int(it[3]) for it in told]
-        wrong = self.wrong(check, frames, decode, last) or self.unlike(decode.stdout, digests)
+        statuses = [it.returncode for it in (check, frames, decode)]
+        wrong = self.wrong(last, [ends[0], ends[2]]) or unlike(decode.stdout, digests)
+        if any(not last.startswith(VERDICTS.get(it, "no verdict")) for it in statuses):
+            wrong = wrong or f"statuses {statuses}, and {last!r}"
         return frames.returncode, last, digests, counts, wrong
 
-    def wrong(self, check, frames, decode, last):
-        """What is wrong with the forms of the answers, if anything."""
+    def wrong(self, last, others):
+        """What is wrong with the forms of the answers, if anything: the last line of `frames`, and those of `check` and `decode`."""
         found = LAST_LINE.fullmatch(last)
-        if frames.returncode not in VERDICTS or not found or not last.startswith(VERDICTS[frames.returncode]):
-            return f"frames: status {frames.returncode}, {last!r}"
+        if not found:
+            return f"frames says {last!r}"
         if {found[1], found[2]} - {None} - LABELS:
             return f"a label that docs/RULES.md does not name: {last}"
-        for name, ran, text in (("check", check, check.stdout), ("decode", decode, decode.stderr)):
-            other = [it for it in text.decode().splitlines() if not it.endswith("nothing is proved")][-1:]
-            if ran.returncode != frames.returncode or other != [last]:
-                return f"{name} says {other} with status {ran.returncode}, and frames {last!r}"
+        for name, other in zip(("check", "decode"), others):
+            if other != [last]:
+                return f"{name} says {other}, and frames {last!r}"
         return ""
 
-    def unlike(self, samples, digests):
-        """Whether the bytes of `decode` are not those of the frames."""
-        at = 0
-        for digest in digests:
-            width, height = map(int, digest.split()[0].split("x"))
-            length = width * height * 3 // 2
-            if hashlib.md5(samples[at : at + length]).hexdigest() != digest.split()[1]:
-                return "decode writes other frames than frames"
-            at += length
-        return "" if at == len(samples) else "decode writes more than the frames"
+
+def by_file(output):
+    """The lines of each file, of a command that went through several."""
+    lines = collections.defaultdict(list)
+    for line in output.decode().splitlines():
+        path, _, rest = line.partition(": ")
+        lines[path].append(rest)
+    return lines
+
+
+def bytes_of(digest):
+    """How many bytes a frame of this size and digest has."""
+    width, height = map(int, digest.split()[0].split("x"))
+    return width * height * 3 // 2
+
+
+def unlike(samples, digests):
+    """Whether the bytes of `decode` are not those of the frames."""
+    at = 0
+    for digest in digests:
+        length = bytes_of(digest)
+        if hashlib.md5(samples[at : at + length]).hexdigest() != digest.split()[1]:
+            return "decode writes other frames than frames"
+        at += length
+    return "" if at == len(samples) else "decode writes more than the frames"
 
 
 def units_of(stream):
@@ -167,9 +210,10 @@ class Worker:
 
     def __init__(self, ways, number, folder, report):
         self.ways, self.number, self.report = ways, number, report
-        self.path = f"{folder}/stream-{number}.264"
-        self.judge = Judge(ways.program, ways.main_ip, self.path)
+        self.paths = [f"{folder}/stream-{number}-{i}.264" for i in range(BATCH)]
+        self.judge = Judge(ways.program, ways.main_ip, self.paths[0])
         self.others = {name: Other(ways.judges, name) for name in ways.others}
+        self.waiting = []
         self.counts = collections.Counter()
 
     def keep(self, name, why, stream):
@@ -179,24 +223,32 @@ class Worker:
         self.report.put(f"{name}.264: {why}")
 
     def compare(self, name, stream, tags, is_legal):
-        """Judges a stream, and counts what came of it."""
-        with open(self.path, "wb") as it:
-            it.write(stream)
-        status, last, frames, order, wrong = self.judge.judged()
-        self.counts[VERDICTS.get(status, f"status {status}")] += 1
-        if status == 1:
-            self.counts[f"rule {last.split()[3]}"] += 1
-        if wrong or is_legal and status != 0:
-            self.counts["wrong answers"] += 1
-            self.keep(name, wrong or f"legal by construction, and {last}", stream)
-        elif status == 0:
-            self.compare_frames(name, stream, (frames, order, dropped(last)), tags)
+        """Takes a stream into the batch, which is judged once it is full."""
+        pathlib.Path(self.paths[len(self.waiting)]).write_bytes(stream)
+        self.waiting.append((name, stream, tags, is_legal))
+        if len(self.waiting) == BATCH:
+            self.judge_batch()
 
-    def compare_frames(self, name, stream, mine, tags):
+    def judge_batch(self):
+        """Judges the streams that wait, and counts what came of each."""
+        batch, self.waiting = self.waiting, []
+        paths = self.paths[: len(batch)]
+        for path, (name, stream, tags, is_legal), answer in zip(paths, batch, self.judge.judged(paths)):
+            status, last, frames, order, wrong = answer
+            self.counts[VERDICTS.get(status, f"status {status}")] += 1
+            if status == 1:
+                self.counts[f"rule {last.split()[3]}"] += 1
+            if wrong or is_legal and status != 0:
+                self.counts["wrong answers"] += 1
+                self.keep(name, wrong or f"legal by construction, and {last}", stream)
+            elif status == 0:
+                self.compare_frames(path, (name, stream, tags), (frames, order, dropped(last)))
+
+    def compare_frames(self, path, told, mine):
         """Compares the frames of a yes with those of the other decoders, and counts what came of it."""
-        frames = mine[0]
-        theirs, complaints = self.others["ffmpeg"].judged(self.path)
-        second = self.others["openh264"].judged(self.path)[0] if "openh264" in self.others else None
+        (name, stream, tags), frames = told, mine[0]
+        theirs, complaints = self.others["ffmpeg"].judged(path)
+        second = self.others["openh264"].judged(path)[0] if "openh264" in self.others else None
         if second is not None:
             self.counts[f"OpenH264: {likeness(frames, second)}"] += 1
         if theirs == frames:
@@ -220,7 +272,7 @@ class Worker:
             stream = b"".join(it.bytes() for it in units)
             self.counts.update(f"covers {it}" for it in covered(units))
             self.compare(f"legal-{seed}", stream, tags, True)
-        for i in range(CHANGED_OF_EACH):
+        for i in range(self.ways.changed):
             if units and chance.random() < 0.6:
                 self.compare(f"element-{seed}-{i}", changed(units, chance), tags | {"changed"}, False)
             else:
@@ -232,6 +284,8 @@ class Worker:
             self.go_through(seed)
             self.counts["seeds"] += 1
             seed += self.ways.jobs
+        if self.waiting:
+            self.judge_batch()
         self.report.put((self.number, seed - self.ways.jobs, self.counts))
 
 
@@ -296,6 +350,7 @@ def words():
     parser.add_argument("--minutes", type=float, default=1)
     parser.add_argument("--jobs", type=int, default=os.cpu_count())
     parser.add_argument("--seed", type=int, default=1)
+    parser.add_argument("--changed", type=int, default=CHANGED_OF_EACH)
     parser.add_argument("--keep", default="campaign")
     parser.add_argument("--main-ip", action="store_true")
     parser.add_argument("streams", nargs="*")

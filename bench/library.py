@@ -3,10 +3,10 @@
 
     bench/library.py PROGRAM LIBRARY FOLDER|FILE.. [--turns N]
 
-PROGRAM is h264v, LIBRARY the shared object (libh264v.so.1) built for the same processor. The library (library/receive.c) gets pieces of 64 KiB, one unit
-a piece, and pieces of 64 KiB with a malloc that keeps what is freed; each frame is read. The program runs `decode` with its output to nothing. libavcodec
-(library/avcodec.c) gets pieces of 64 KiB, and each frame is read. All take turns. The least of N turns counts, 5 where N is left out, as user and
-system time of the process. Compare figures of one line only.
+PROGRAM is h264v, LIBRARY the shared object (libh264v.so.1) built for the same processor. The library (library/receive.c) gets pieces of 64 KiB, and one
+unit a piece; each frame is received, and received and read. The program runs `decode` with its output to nothing. libavcodec (library/avcodec.c) gets
+pieces of 64 KiB, and each frame is read. All take turns. The least of N turns counts, 5 where N is left out, as user and system time of the process.
+Compare figures of one line only.
 Prints a table for docs/SPEED.md. Needs cc; libavcodec is left out where its headers are missing.
 """
 import os
@@ -53,24 +53,23 @@ def names_in(words):
             yield word
 
 
-WAYS = ("pieces", "units", "kept")
+# How the library is used, each with the words of receive.c.
+WAYS = {
+    "64 KiB": ("pieces", "unread"),
+    "units": ("units", "unread"),
+    "64 KiB, read": ("pieces", "read"),
+    "units, read": ("units", "read"),
+}
+HEAD = f"| stream | `decode`, user + system | {' | '.join(WAYS)} | read, of libavcodec | of its C code |"
 
 
 def row(name, best):
-    """A line of the table."""
-    told = lambda way: "{:.3f} + {:.3f}".format(*best[way])
+    """A line of the table: the time of `decode`, that of each way of the library as a part of it, and of libavcodec's."""
     ratio = lambda way, other: "{:.2f}".format(sum(best[way]) / sum(best[other])) if other in best else "-"
-    cells = [os.path.basename(name).replace(".264", ""), told("program")]
-    for way in WAYS:
-        cells += [told(way), ratio(way, "program")]
-    cells += [ratio("kept", "assembly"), ratio("kept", "c")]
+    cells = [os.path.basename(name).replace(".264", ""), "{:.3f} + {:.3f}".format(*best["program"])]
+    cells += [ratio(way, "program") for way in WAYS]
+    cells += [ratio("units, read", "assembly"), ratio("units, read", "c")]
     return "| " + " | ".join(cells) + " |"
-
-
-HEAD = (
-    "| stream | `decode`, user + system | pieces of 64 KiB | of `decode` | units | of `decode` "
-    "| 64 KiB, pages kept | of `decode` | of libavcodec | of its C code |"
-)
 
 
 def main():
@@ -93,7 +92,7 @@ def main():
             sys.exit("library.py: library/receive.c can't be built")
         print(HEAD + "\n" + "|---" * HEAD.count(" |") + "|")
         for name in names_in(streams):
-            commands = {"program": [program, "decode", name], **{way: [receive, name, way] for way in WAYS}}
+            commands = {"program": [program, "decode", name], **{way: [receive, name, *more] for way, more in WAYS.items()}}
             if avcodec:
                 commands.update({"assembly": [avcodec, name], "c": [avcodec, name, "c"]})
             best = least(commands, turns)

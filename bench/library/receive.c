@@ -1,16 +1,16 @@
-/* Decodes a stream by the library in pieces, and reads every row of each frame: what bench/library.py times.
+/* Decodes a stream by the library in pieces: what bench/library.py times.
  *
- *     receive FILE pieces | units | kept
+ *     receive FILE pieces|units read|unread
  *
- * pieces: of 64 KiB, as a file is read. units: one unit of the stream a piece, as a player has them. kept: pieces of 64 KiB, and malloc
- * is told to keep the memory that is freed (glibc). The status is 0 for a legal stream. */
+ * pieces: of 64 KiB, as a file is read. units: one unit of the stream a piece, as a player has them. read: every row of each frame is
+ * read too. The status is 0 for a legal stream. */
 #include <h264v.h>
-#include <malloc.h>
+#include <stdbool.h>
 #include <stdio.h>
 #include <stdlib.h>
 #include <string.h>
 
-enum { PIECE = 65536, LINE = 64, USAGE = 64, KEPT = 1 << 30, LARGE = 32 << 20, START = 3 };
+enum { PIECE = 65536, LINE = 64, USAGE = 64, START = 3 };
 
 /* Reads a sample of each line of a frame's memory, so that all of it comes to the processor. */
 static unsigned touch(const h264v_frame *frame)
@@ -22,13 +22,14 @@ static unsigned touch(const h264v_frame *frame)
 }
 
 static unsigned sum = 0;
+static bool reads = false;
 
 /* Receives the frames that wait. */
 static void receive(h264v *decoder)
 {
     h264v_frame frame;
     while (h264v_receive(decoder, &frame) == H264V_FRAME)
-        sum += touch(&frame);
+        sum += reads ? touch(&frame) : 1;
 }
 
 /* Sends a file in pieces of 64 KiB. */
@@ -79,15 +80,12 @@ static void send_units(h264v *decoder, FILE *file, h264v_verdict *verdict)
 
 int main(int argc, char **argv)
 {
-    FILE *file = argc == 3 ? fopen(argv[1], "rb") : NULL;
+    FILE *file = argc == 4 ? fopen(argv[1], "rb") : NULL;
     h264v *decoder;
     h264v_verdict verdict;
     if (!file)
         return USAGE;
-    if (strcmp(argv[2], "kept") == 0) {
-        mallopt(M_TRIM_THRESHOLD, KEPT);
-        mallopt(M_MMAP_THRESHOLD, LARGE);
-    }
+    reads = strcmp(argv[3], "read") == 0;
     if (h264v_open(H264V_FULL, H264V_BASELINE, &decoder) != H264V_OPENED)
         return USAGE;
     setvbuf(file, NULL, _IONBF, 0);
