@@ -197,12 +197,13 @@ def flipped(stream, chance):
 
 
 def changed(units, chance):
-    """The stream with another value at one element of one unit, mostly of a slice's front."""
+    """The stream with another value at one element of one unit, mostly of a slice's front, and tags of the change."""
     slices = [i for i, unit in enumerate(units) if unit.header & 31 in (1, 5)]
     at = chance.choice(slices) if chance.random() < 0.8 else chance.randrange(len(units))
     front = chance.choice([None, 20, 60])
     other = units[at].changed(chance, front)
-    return b"".join(unit.bytes() for unit in [*units[:at], other, *units[at + 1 :]])
+    tags = {"changed"} | ({"long word"} if other.has_long_word() else set())
+    return b"".join(unit.bytes() for unit in [*units[:at], other, *units[at + 1 :]]), tags
 
 
 class Worker:
@@ -274,7 +275,8 @@ class Worker:
             self.compare(f"legal-{seed}", stream, tags, True)
         for i in range(self.ways.changed):
             if units and chance.random() < 0.6:
-                self.compare(f"element-{seed}-{i}", changed(units, chance), tags | {"changed"}, False)
+                stream_changed, more = changed(units, chance)
+                self.compare(f"element-{seed}-{i}", stream_changed, tags | more, False)
             else:
                 self.compare(f"flipped-{seed}-{i}", flipped(stream, chance), tags | {"changed"}, False)
 
@@ -307,6 +309,11 @@ def dropped(last):
     return int(numbers[0]) - int(numbers[1])
 
 
+def falls(counts):
+    """How often a count does not rise."""
+    return sum(a >= b for a, b in zip(counts, counts[1:]))
+
+
 def excused(mine, theirs, complaints, tags):
     """The known way of ffmpeg's by which its frames differ, if there is one (docs/RELIABILITY.md).
 
@@ -314,9 +321,13 @@ def excused(mine, theirs, complaints, tags):
     frames, order, unwritten = mine
     if any(word in it for it in complaints for word in LACKS_SET):
         return "a parameter set that it does not take"
+    if "long word" in tags and any("decode_slice_header error" in it for it in complaints):
+        return "a word of more than 32 bits"
     if theirs is not None and sorted(theirs) == sorted(frames):
         if any(a == b for a, b in zip(order, order[1:])):
             return "another order, of two frames of one count"
+        if falls(order) == 0:
+            return "another order, in which counts fall"
         if "count below that of operation 5" in tags or {"operation 5", "changed"} <= tags:
             return "another order, with counts below that of operation 5"
     if theirs is not None and unwritten:
@@ -325,6 +336,8 @@ def excused(mine, theirs, complaints, tags):
             return "frames that no_output_of_prior_pics_flag drops"
     if "gap after no reference" in tags:
         return "a gap after a picture that is no reference"
+    if "long-term indices above their number" in tags and theirs is not None and len(theirs) == len(frames):
+        return "edges between long-term frames, taken for one frame"
     return ""
 
 

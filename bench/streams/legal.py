@@ -271,6 +271,9 @@ class Stream:
             else:
                 out.se(name, value)
         usable, active = self.put_list(out, pps, head["number"]) if is_p else ([], 0)
+        longs = self.buffer.longs()
+        if is_p and sum(it.long_index >= len(longs) for it in longs) > 1:
+            self.tags.add("long-term indices above their number")
         self.put_marking(out, head)
         qp = chance.choice([pps.qp, chance.randint(0, 51), min(51, pps.qp + 4)])
         out.se("slice_qp_delta", qp - pps.qp)

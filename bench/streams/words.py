@@ -118,6 +118,10 @@ class Unit:
             other.put(name, code, size, another(code, size, value, chance) if i == at else value)
         return other
 
+    def has_long_word(self):
+        """Whether a word of Exp-Golomb has more than 32 bits."""
+        return any(code in ("ue", "se") and len(bits) > 32 for _, code, _, _, bits in self.elements)
+
     def bytes(self):
         """The start code and the unit, with its trailing bits."""
         bits = "".join(it[4] for it in self.elements) + "1"
