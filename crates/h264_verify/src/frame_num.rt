@@ -27,13 +27,13 @@ ghost use Rattle.h264_verify.specs.Slices.{idr_num_demand};
 ghost use Rattle.h264_verify.specs.Order.{gap_rules};
 
 use crate::decoder::Decoder;
+use crate::head::SliceHead;
 use crate::rules::check;
 use crate::sink::FrameSink;
 use h264_base::{Mode, Rule, Stop};
 use h264_header::Header;
 use h264_marking::gaps::{gap_before, is_new_num};
-use h264_marking::{Held, Numbering, numbering_of, resets};
-use h264_sps::sps::Sps;
+use h264_marking::{Held, Numbering, resets};
 
 /// PrevRefFrameNum after a picture, where `last` is the last missing number, or the one before.
 fn prev_ref_after(reference: bool, resets: bool, frame_num: u32, last: u32) -> u32
@@ -163,41 +163,46 @@ fn check_new(
 /// The rules on a picture's frame_num, and what the picture leaves of the numbers before it: the gap is filled.
 pub(crate) fn check_gap<S: FrameSink>(
     mode: Mode,
-    sps: &Sps,
-    header: &Header,
+    head: &SliceHead<'_>,
     prev_ref_frame_num: &mut u32,
     held: &mut Held,
     decoder: &mut Decoder,
     sink: &mut S,
 ) -> Result<(), Stop>
-    requires lengths { has_lengths sps.now ≡ true }
+    requires lengths { has_lengths head.now.sps.now ≡ true }
+    requires numbered { head.now.numbering ≡ numbering_of head.now.sps.now head.now.header.now }
     requires room { HasRoom S.failures sink.old }
-    requires goes { is_idr header.now ≡ false → GoesWith mode sps.now held.old decoder.old }
+    requires goes { is_idr head.now.header.now ≡ false → GoesWith mode head.now.sps.now held.old decoder.old }
     requires kept { KeepsSomeGap mode decoder.old }
     ensures plays { (frames : ℕ → Frame) (t : Turn) (next : ℕ) → KeepsGap mode frames t next decoder.old →
         Plays (took_with frames S.took) S.failures (λ x. x) (steps_outcome
-        (gap_rules mode (is_idr header.now) (is_reference header.now) sps.now.gaps_in_frame_num_value_allowed_flag header.now.frame_num.bit
-        prev_ref_frame_num.old (numbering_of sps.now header.now) held.old t.buffer)) sink.old sink.new result }
+        (gap_rules mode (is_idr head.now.header.now) (is_reference head.now.header.now) head.now.sps.now.gaps_in_frame_num_value_allowed_flag
+        head.now.header.now.frame_num.bit
+        prev_ref_frame_num.old (numbering_of head.now.sps.now head.now.header.now) held.old t.buffer)) sink.old sink.new result }
     ensures keeps { (frames : ℕ → Frame) (t : Turn) (next : ℕ) → KeepsGap mode frames t next decoder.old →
-        OnOk result (KeepsGap mode frames (turn_then t (gaps_turn (numbering_of sps.now header.now)
-        (unused_short_term_frame_nums (is_idr header.now) prev_ref_frame_num.old (numbering_of sps.now header.now)) held.old)) next decoder.new) }
+        OnOk result (KeepsGap mode frames (turn_then t (gaps_turn (numbering_of head.now.sps.now head.now.header.now)
+        (unused_short_term_frame_nums (is_idr head.now.header.now) prev_ref_frame_num.old
+        (numbering_of head.now.sps.now head.now.header.now)) held.old)) next decoder.new) }
     ensures no_memory { IsErrOf result Stop.Memory → ⊥ }
     ensures format { decoder.new.format ≡ decoder.old.format }
-    ensures held { OnOk result (held.new ≡ entered (is_idr header.now) prev_ref_frame_num.old (numbering_of sps.now header.now) held.old) }
-    ensures filled { OnOk result (all_filled (numbering_of sps.now header.now)
-        (unused_short_term_frame_nums (is_idr header.now) prev_ref_frame_num.old (numbering_of sps.now header.now)) held.old ≡ Some held.new) }
-    ensures prev { OnOk result (prev_ref_frame_num.new ≡ prev_ref_frame_num_after (is_idr header.now) (is_reference header.now)
-        (resets header.now.marking) (numbering_of sps.now header.now) prev_ref_frame_num.old) }
+    ensures held { OnOk result (held.new ≡ entered (is_idr head.now.header.now)
+        prev_ref_frame_num.old (numbering_of head.now.sps.now head.now.header.now) held.old) }
+    ensures filled { OnOk result (all_filled (numbering_of head.now.sps.now head.now.header.now)
+        (unused_short_term_frame_nums (is_idr head.now.header.now) prev_ref_frame_num.old
+        (numbering_of head.now.sps.now head.now.header.now)) held.old ≡ Some held.new) }
+    ensures prev { OnOk result (prev_ref_frame_num.new ≡ prev_ref_frame_num_after (is_idr head.now.header.now) (is_reference head.now.header.now)
+        (resets head.now.header.now.marking) (numbering_of head.now.sps.now head.now.header.now) prev_ref_frame_num.old) }
     ensures kept { OnOk result (IsQuiet S.failures sink.old sink.new) }
 {
+    let header = head.header;
+    let numbering = &head.numbering;
     let idr = header.idr_pic_id.is_some();
     let reference = header.nal_ref_idc != 0;
     let bit = header.frame_num.bit;
     let prev = *prev_ref_frame_num;
-    let numbering = numbering_of(sps, header);
-    let gap = gap_before(idr, prev, &numbering);
-    check_missing(gap, sps.gaps_in_frame_num_value_allowed_flag, bit)?;
-    let last = fill_frames(mode, prev, gap, &numbering, bit, held, decoder, sink)?;
+    let gap = gap_before(idr, prev, numbering);
+    check_missing(gap, head.sps.gaps_in_frame_num_value_allowed_flag, bit)?;
+    let last = fill_frames(mode, prev, gap, numbering, bit, held, decoder, sink)?;
     check_new(idr, reference, prev, numbering.frame_num, held, bit)?;
     *prev_ref_frame_num = prev_ref_after(
         reference,

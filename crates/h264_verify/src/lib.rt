@@ -23,6 +23,7 @@ pub mod close;
 pub mod data;
 pub mod decoder;
 mod frame_num;
+mod head;
 pub mod laws;
 pub mod picture;
 pub mod rules;

@@ -29,6 +29,7 @@ ghost use Rattle.h264_verify.specs.Lists.{list_of};
 
 use crate::decoder::Decoder;
 use crate::frame_num::{check_gap, check_idr_num};
+use crate::head::SliceHead;
 use crate::picture::{OpenPicture, begin, go_on};
 use crate::rules::{
     check_id, check_list, check_marking, check_qp, check_same_type, check_type, idr_id,
@@ -99,66 +100,64 @@ fn count_picture(
 }
 
 /// The rules of a picture's first slice after those on its frame_num, once the missing frames are held: on idr_pic_id, counts, QP and list.
-fn check_new_picture(
-    slices: &mut Slices,
-    pps: &Pps,
-    sps: &Sps,
-    header: &Header,
-    bit: u64,
-) -> Result<(), Stop>
-    requires { has_lengths sps.now ≡ true }
+fn check_new_picture(slices: &mut Slices, head: &SliceHead<'_>, bit: u64) -> Result<(), Stop>
+    requires lengths { has_lengths head.now.sps.now ≡ true }
+    requires numbered { head.now.numbering ≡ numbering_of head.now.sps.now head.now.header.now }
     ensures judged { (pictures : List Picture) → KeepsCounts pictures slices.old.counts →
-        result ≡ judged (id_demand slices.old.newest_idr header.now ∷ count_demand (picture_of sps.now header.now ∷ pictures) bit ∷
-        qp_demand pps.now header.now ∷ list_demand (list_of header.now.kind.value (numbering_of sps.now header.now) slices.old.held) ∷ []) }
+        result ≡ judged (id_demand slices.old.newest_idr head.now.header.now ∷ count_demand (picture_of head.now.sps.now head.now.header.now ∷ pictures) bit ∷
+        qp_demand head.now.pps.now head.now.header.now ∷
+        list_demand (list_of head.now.header.now.kind.value (numbering_of head.now.sps.now head.now.header.now) slices.old.held) ∷ []) }
     ensures no_memory { IsErrOf result Stop.Memory → ⊥ }
     ensures counts { (pictures : List Picture) → KeepsCounts pictures slices.old.counts →
-        OnOk result (KeepsCounts (picture_of sps.now header.now ∷ pictures) slices.new.counts) }
+        OnOk result (KeepsCounts (picture_of head.now.sps.now head.now.header.now ∷ pictures) slices.new.counts) }
     ensures count { (pictures : List Picture) → KeepsCounts pictures slices.old.counts →
-        OnOk result (slices.new.count ≡ newest_count (picture_of sps.now header.now ∷ pictures)) }
+        OnOk result (slices.new.count ≡ newest_count (picture_of head.now.sps.now head.now.header.now ∷ pictures)) }
     ensures others { slices.new ≡ record slices.old { counts = slices.new.counts; count = slices.new.count } }
 {
+    let header = head.header;
     check_id(slices.newest_idr, header)?;
-    count_picture(sps, header, bit, &mut slices.counts, &mut slices.count)?;
-    check_qp(pps, header)?;
-    check_list(&header.kind.value, &numbering_of(sps, header), &slices.held)
+    count_picture(head.sps, header, bit, &mut slices.counts, &mut slices.count)?;
+    check_qp(head.pps, header)?;
+    check_list(&header.kind.value, &head.numbering, &slices.held)
 }
 
 /// The rules of a picture's first slice from its type on, where the picture before has ended; and what the picture leaves.
 fn check_first_slice<S: FrameSink>(
     mode: Mode,
     slices: &mut Slices,
-    pps: &Pps,
-    sps: &Sps,
-    header: &Header,
+    head: &SliceHead<'_>,
     bit: u64,
     decoder: &mut Decoder,
     sink: &mut S,
 ) -> Result<(), Stop>
-    requires lengths { has_lengths sps.now ≡ true }
+    requires lengths { has_lengths head.now.sps.now ≡ true }
+    requires numbered { head.now.numbering ≡ numbering_of head.now.sps.now head.now.header.now }
     requires room { HasRoom S.failures sink.old }
-    requires goes { is_idr header.now ≡ false → GoesWith mode sps.now slices.old.held decoder.old }
+    requires goes { is_idr head.now.header.now ≡ false → GoesWith mode head.now.sps.now slices.old.held decoder.old }
     requires kept { KeepsSomeGap mode decoder.old }
     ensures plays { (frames : ℕ → Frame) (t : Turn) (next : ℕ) (pictures : List Picture) → KeepsGap mode frames t next decoder.old →
         KeepsCounts pictures slices.old.counts → Plays (took_with frames S.took) S.failures (λ x. x)
-        (steps_outcome (first_by mode slices.old pictures t.buffer pps.now sps.now header.now bit)) sink.old sink.new result }
+        (steps_outcome (first_by mode slices.old pictures t.buffer head.now.pps.now head.now.sps.now head.now.header.now bit)) sink.old sink.new result }
     ensures gap { (frames : ℕ → Frame) (t : Turn) (next : ℕ) → KeepsGap mode frames t next decoder.old →
-        OnOk result (KeepsGap mode frames (turn_then t (gaps_turn (numbering_of sps.now header.now)
-        (unused_short_term_frame_nums (is_idr header.now) slices.old.prev_ref_frame_num (numbering_of sps.now header.now)) slices.old.held)) next
+        OnOk result (KeepsGap mode frames (turn_then t (gaps_turn (numbering_of head.now.sps.now head.now.header.now)
+        (unused_short_term_frame_nums (is_idr head.now.header.now) slices.old.prev_ref_frame_num
+        (numbering_of head.now.sps.now head.now.header.now)) slices.old.held)) next
         decoder.new) }
     ensures no_memory { IsErrOf result Stop.Memory → ⊥ }
     ensures format { decoder.new.format ≡ decoder.old.format }
     ensures counts { (pictures : List Picture) → KeepsCounts pictures slices.old.counts →
-        OnOk result (KeepsCounts (picture_of sps.now header.now ∷ pictures) slices.new.counts) }
+        OnOk result (KeepsCounts (picture_of head.now.sps.now head.now.header.now ∷ pictures) slices.new.counts) }
     ensures count { (pictures : List Picture) → KeepsCounts pictures slices.old.counts →
-        OnOk result (slices.new.count ≡ newest_count (picture_of sps.now header.now ∷ pictures)) }
-    ensures held { OnOk result (slices.new.held ≡ entered (is_idr header.now) slices.old.prev_ref_frame_num
-        (numbering_of sps.now header.now) slices.old.held) }
-    ensures filled { OnOk result (all_filled (numbering_of sps.now header.now)
-        (unused_short_term_frame_nums (is_idr header.now) slices.old.prev_ref_frame_num (numbering_of sps.now header.now)) slices.old.held ≡ Some
+        OnOk result (slices.new.count ≡ newest_count (picture_of head.now.sps.now head.now.header.now ∷ pictures)) }
+    ensures held { OnOk result (slices.new.held ≡ entered (is_idr head.now.header.now) slices.old.prev_ref_frame_num
+        (numbering_of head.now.sps.now head.now.header.now) slices.old.held) }
+    ensures filled { OnOk result (all_filled (numbering_of head.now.sps.now head.now.header.now)
+        (unused_short_term_frame_nums (is_idr head.now.header.now) slices.old.prev_ref_frame_num
+        (numbering_of head.now.sps.now head.now.header.now)) slices.old.held ≡ Some
         slices.new.held) }
-    ensures typed { OnOk result (is_typed header.now ≡ true) }
-    ensures prev { OnOk result (slices.new.prev_ref_frame_num ≡ prev_ref_frame_num_after (is_idr header.now) (is_reference header.now)
-        (resets header.now.marking) (numbering_of sps.now header.now) slices.old.prev_ref_frame_num) }
+    ensures typed { OnOk result (is_typed head.now.header.now ≡ true) }
+    ensures prev { OnOk result (slices.new.prev_ref_frame_num ≡ prev_ref_frame_num_after (is_idr head.now.header.now) (is_reference head.now.header.now)
+        (resets head.now.header.now.marking) (numbering_of head.now.sps.now head.now.header.now) slices.old.prev_ref_frame_num) }
     ensures others { slices.new ≡ record slices.old {
       counts = slices.new.counts;
       count = slices.new.count;
@@ -168,32 +167,33 @@ fn check_first_slice<S: FrameSink>(
     } }
     ensures kept { OnOk result (IsQuiet S.failures sink.old sink.new) }
 {
-    check_type(sps, header)?;
-    check_idr_num(header)?;
+    check_type(head.sps, head.header)?;
+    check_idr_num(head.header)?;
     check_gap(
         mode,
-        sps,
-        header,
+        head,
         &mut slices.prev_ref_frame_num,
         &mut slices.held,
         decoder,
         sink,
     )?;
-    check_new_picture(slices, pps, sps, header, bit)
+    check_new_picture(slices, head, bit)
 }
 
 /// The rules of a picture's later slice from its type on.
-fn check_later_slice(slices: &Slices, pps: &Pps, sps: &Sps, header: &Header) -> Result<(), Stop>
-    requires { has_lengths sps.now ≡ true }
-    ensures judged { result ≡ judged (later_by slices.now pps.now sps.now header.now) }
-    ensures typed { OnOk result (is_typed header.now ≡ true) }
+fn check_later_slice(slices: &Slices, head: &SliceHead<'_>) -> Result<(), Stop>
+    requires lengths { has_lengths head.now.sps.now ≡ true }
+    requires numbered { head.now.numbering ≡ numbering_of head.now.sps.now head.now.header.now }
+    ensures judged { result ≡ judged (later_by slices.now head.now.pps.now head.now.sps.now head.now.header.now) }
+    ensures typed { OnOk result (is_typed head.now.header.now ≡ true) }
     ensures no_memory { IsErrOf result Stop.Memory → ⊥ }
 {
-    check_type(sps, header)?;
+    let header = head.header;
+    check_type(head.sps, header)?;
     check_same_type(&slices.picture, header)?;
     check_idr_num(header)?;
-    check_qp(pps, header)?;
-    check_list(&header.kind.value, &numbering_of(sps, header), &slices.held)?;
+    check_qp(head.pps, header)?;
+    check_list(&header.kind.value, &head.numbering, &slices.held)?;
     check_marking(&slices.picture, header)
 }
 
@@ -202,41 +202,42 @@ fn check_rules<S: FrameSink>(
     mode: Mode,
     slices: &mut Slices,
     begins: bool,
-    pps: &Pps,
-    sps: &Sps,
-    header: &Header,
+    head: &SliceHead<'_>,
     bit: u64,
     decoder: &mut Decoder,
     sink: &mut S,
 ) -> Result<(), Stop>
-    requires lengths { has_lengths sps.now ≡ true }
+    requires lengths { has_lengths head.now.sps.now ≡ true }
+    requires numbered { head.now.numbering ≡ numbering_of head.now.sps.now head.now.header.now }
     requires room { HasRoom S.failures sink.old }
     requires pictures { slices.old.pictures < 2 ^ 42 }
-    requires goes { begins ≡ true → is_idr header.now ≡ false → GoesWith mode sps.now slices.old.held decoder.old }
+    requires goes { begins ≡ true → is_idr head.now.header.now ≡ false → GoesWith mode head.now.sps.now slices.old.held decoder.old }
     requires kept { KeepsSomeRules mode begins slices.old decoder.old }
     ensures plays { (frames : ℕ → Frame) (before : History) (unit : UnitView) → bit ≡ 8 * unit.from → KeepsSlices before begins slices.old →
-        begins ≡ begins_at before header.now → KeepsDecoder mode frames (goes_on before) begins (runs_of before) decoder.old →
+        begins ≡ begins_at before head.now.header.now → KeepsDecoder mode frames (goes_on before) begins (runs_of before) decoder.old →
         Plays (took_with frames S.took) S.failures (λ x. x) (steps_outcome
-        (slice_rules mode begins (runs_of before) (with_sets unit header.now [] (pps.now, sps.now)))) sink.old sink.new result }
+        (slice_rules mode begins (runs_of before) (with_sets unit head.now.header.now [] (head.now.pps.now, head.now.sps.now)))) sink.old sink.new result }
     ensures entered { (before : History) (unit : UnitView) (macroblocks : List CodedMacroblock) → bit ≡ 8 * unit.from →
-        KeepsSlices before begins slices.old → begins ≡ begins_at before header.now →
-        OnOk result (Entered before begins (with_sets unit header.now macroblocks (pps.now, sps.now)) slices.new) }
+        KeepsSlices before begins slices.old → begins ≡ begins_at before head.now.header.now →
+        OnOk result (Entered before begins (with_sets unit head.now.header.now macroblocks (head.now.pps.now, head.now.sps.now)) slices.new) }
     ensures frames { (frames : ℕ → Frame) (before : History) (unit : UnitView) → KeepsSlices before begins slices.old →
-        begins ≡ begins_at before header.now → KeepsDecoder mode frames (goes_on before) begins (runs_of before) decoder.old →
-        OnOk result (EntersDecoder mode frames begins (with_sets unit header.now [] (pps.now, sps.now)) (goes_on before) (runs_of before) decoder.new) }
-    ensures filled { begins ≡ true → OnOk result (all_filled (numbering_of sps.now header.now)
-        (unused_short_term_frame_nums (is_idr header.now) slices.old.prev_ref_frame_num (numbering_of sps.now header.now)) slices.old.held ≡ Some
+        begins ≡ begins_at before head.now.header.now → KeepsDecoder mode frames (goes_on before) begins (runs_of before) decoder.old →
+        OnOk result (EntersDecoder mode frames begins (with_sets unit head.now.header.now [] (head.now.pps.now, head.now.sps.now))
+        (goes_on before) (runs_of before) decoder.new) }
+    ensures filled { begins ≡ true → OnOk result (all_filled (numbering_of head.now.sps.now head.now.header.now)
+        (unused_short_term_frame_nums (is_idr head.now.header.now) slices.old.prev_ref_frame_num
+        (numbering_of head.now.sps.now head.now.header.now)) slices.old.held ≡ Some
         slices.new.held) }
-    ensures typed { OnOk result (is_typed header.now ≡ true) }
+    ensures typed { OnOk result (is_typed head.now.header.now ≡ true) }
     ensures format { decoder.new.format ≡ decoder.old.format }
     ensures pictures { slices.new.pictures ≡ slices.old.pictures }
     ensures no_memory { IsErrOf result Stop.Memory → ⊥ }
     ensures kept { OnOk result (IsQuiet S.failures sink.old sink.new) }
 {
     if begins {
-        check_first_slice(mode, slices, pps, sps, header, bit, decoder, sink)
+        check_first_slice(mode, slices, head, bit, decoder, sink)
     } else {
-        check_later_slice(slices, pps, sps, header)
+        check_later_slice(slices, head)
     }
 }
 
@@ -372,9 +373,15 @@ pub fn judge_rules<S: FrameSink>(
     ensures kept { OnOk result (IsQuiet S.failures sink.old sink.new) }
 {
     let bit = 8 * unit.from();
-    check_rules(mode, slices, begins, pps, sps, header, bit, decoder, sink)?;
-    tell_slice(unit.from(), header, slices.count, sink)?;
     let numbering = numbering_of(sps, header);
+    let head = SliceHead {
+        pps,
+        sps,
+        header,
+        numbering,
+    };
+    check_rules(mode, slices, begins, &head, bit, decoder, sink)?;
+    tell_slice(unit.from(), header, slices.count, sink)?;
     let ended = ended_of(
         sps,
         header,

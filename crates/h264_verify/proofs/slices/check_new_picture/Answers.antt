@@ -13,10 +13,10 @@ returns-in_err-check_id c =
     let p = err_from_is_err_and c.from_residual.result c.from_residual.ensures.1 in
     rw (p.1, p.2) (record {
       judged = λ pictures kept.
-          let id = id_demand c.args.slices.now.newest_idr c.args.header.now in
-          let count = count_demand (picture_of c.args.sps.now c.args.header.now ∷ pictures) c.args.bit in
-          let qp = qp_demand c.args.pps.now c.args.header.now in
-          let list = list_demand (list_of c.args.header.now.kind.value (numbering_of c.args.sps.now c.args.header.now) c.args.slices.now.held) in
+          let id = id_demand c.args.slices.now.newest_idr c.args.head.now.header.now in
+          let count = count_demand (picture_of c.args.head.now.sps.now c.args.head.now.header.now ∷ pictures) c.args.bit in
+          let qp = qp_demand c.args.head.now.pps.now c.args.head.now.header.now in
+          let list = list_demand (list_of c.args.head.now.header.now.kind.value (numbering_of c.args.head.now.sps.now c.args.head.now.header.now) c.args.slices.now.held) in
           stop-one id (count ∷ qp ∷ list ∷ []) _ c.in_err-check_id.ensures;
       no_memory = no-memory _ _ _ _ c.in_err-check_id.ensures;
       counts = λ pictures k. tt;
@@ -29,10 +29,10 @@ returns-in_err-count_picture c =
     let p = err_from_is_err_and c.from_residual-in_err-count_picture.result c.from_residual-in_err-count_picture.ensures.1 in
     rw (p.1, p.2) (record {
       judged = λ pictures kept.
-          let id = id_demand c.args.slices.now.newest_idr c.args.header.now in
-          let count = count_demand (picture_of c.args.sps.now c.args.header.now ∷ pictures) c.args.bit in
-          let qp = qp_demand c.args.pps.now c.args.header.now in
-          let list = list_demand (list_of c.args.header.now.kind.value (numbering_of c.args.sps.now c.args.header.now) c.args.slices.now.held) in
+          let id = id_demand c.args.slices.now.newest_idr c.args.head.now.header.now in
+          let count = count_demand (picture_of c.args.head.now.sps.now c.args.head.now.header.now ∷ pictures) c.args.bit in
+          let qp = qp_demand c.args.head.now.pps.now c.args.head.now.header.now in
+          let list = list_demand (list_of c.args.head.now.header.now.kind.value (numbering_of c.args.head.now.sps.now c.args.head.now.header.now) c.args.slices.now.held) in
           pass-one id (count ∷ qp ∷ list ∷ []) _ _ c.in_ok-check_id.ensures (stop-one count (qp ∷ list ∷ []) _ (c.in_err-count_picture.ensures.judged pictures kept));
       no_memory = c.in_err-count_picture.ensures.no_memory;
       counts = λ pictures k. tt;
@@ -45,10 +45,10 @@ returns-in_err-check_qp c =
     let p = err_from_is_err_and c.from_residual-in_err-check_qp.result c.from_residual-in_err-check_qp.ensures.1 in
     rw (p.1, p.2) (record {
       judged = λ pictures kept.
-          let id = id_demand c.args.slices.now.newest_idr c.args.header.now in
-          let count = count_demand (picture_of c.args.sps.now c.args.header.now ∷ pictures) c.args.bit in
-          let qp = qp_demand c.args.pps.now c.args.header.now in
-          let list = list_demand (list_of c.args.header.now.kind.value (numbering_of c.args.sps.now c.args.header.now) c.args.slices.now.held) in
+          let id = id_demand c.args.slices.now.newest_idr c.args.head.now.header.now in
+          let count = count_demand (picture_of c.args.head.now.sps.now c.args.head.now.header.now ∷ pictures) c.args.bit in
+          let qp = qp_demand c.args.head.now.pps.now c.args.head.now.header.now in
+          let list = list_demand (list_of c.args.head.now.header.now.kind.value (numbering_of c.args.head.now.sps.now c.args.head.now.header.now) c.args.slices.now.held) in
           pass-one id (count ∷ qp ∷ list ∷ []) _ _ c.in_ok-check_id.ensures (pass-one count (qp ∷ list ∷ []) _ _ (c.in_ok-count_picture.ensures.judged pictures kept) (stop-one qp (list ∷ []) _ c.in_err-check_qp.ensures));
       no_memory = no-memory _ _ _ _ c.in_err-check_qp.ensures;
       counts = λ pictures k. tt;
@@ -58,8 +58,8 @@ returns-in_err-check_qp c =
 
 pub returns-clause-judged : goal.returns-clause-judged
 returns-clause-judged c = λ pictures kept.
-    let id = id_demand c.args.slices.now.newest_idr c.args.header.now in
-    let count = count_demand (picture_of c.args.sps.now c.args.header.now ∷ pictures) c.args.bit in
-    let qp = qp_demand c.args.pps.now c.args.header.now in
-    let list = list_demand (list_of c.args.header.now.kind.value (numbering_of c.args.sps.now c.args.header.now) c.args.slices.now.held) in
-    pass-one id (count ∷ qp ∷ list ∷ []) _ _ c.in_ok-check_id.ensures (pass-one count (qp ∷ list ∷ []) _ _ (c.in_ok-count_picture.ensures.judged pictures kept) (pass-one qp (list ∷ []) _ _ c.in_ok-check_qp.ensures (rw c.numbering_of.ensures at c.check_list.ensures)))
+    let id = id_demand c.args.slices.now.newest_idr c.args.head.now.header.now in
+    let count = count_demand (picture_of c.args.head.now.sps.now c.args.head.now.header.now ∷ pictures) c.args.bit in
+    let qp = qp_demand c.args.head.now.pps.now c.args.head.now.header.now in
+    let list = list_demand (list_of c.args.head.now.header.now.kind.value (numbering_of c.args.head.now.sps.now c.args.head.now.header.now) c.args.slices.now.held) in
+    pass-one id (count ∷ qp ∷ list ∷ []) _ _ c.in_ok-check_id.ensures (pass-one count (qp ∷ list ∷ []) _ _ (c.in_ok-count_picture.ensures.judged pictures kept) (pass-one qp (list ∷ []) _ _ c.in_ok-check_qp.ensures (rw c.requires.numbered at c.check_list.ensures)))
