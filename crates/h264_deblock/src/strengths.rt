@@ -61,8 +61,7 @@ fn moves_apart(a: &Option<Motion>, b: &Option<Motion>) -> bool
 /// bS of two blocks of which neither is intra. `coded` says that one of them has coefficients, and `alike` that one picture and one vector predict both.
 #[inline(always)]
 fn inter(coded: bool, alike: bool, p: &Option<Motion>, q: &Option<Motion>) -> u8
-    requires { alike ≡ true → moves_apart p.now q.now ≡ false }
-    ensures here { named result ≡ inter_strength coded p.now q.now }
+    ensures here { (alike ≡ true → moves_apart p.now q.now ≡ false) → named result ≡ inter_strength coded p.now q.now }
     ensures small { result < 4 }
 {
     if coded {
@@ -136,8 +135,7 @@ fn is_seamless(edge: &Edge, motion: &Option<Motion>) -> bool
 /// apart: they have no coefficients, and one picture and one vector predict all of them.
 #[inline(always)]
 pub(crate) fn border_strengths(edge: &Edge, own: &Contexts, even: bool, vertical: bool) -> Word
-    requires { even ≡ true → is_even own.now ≡ true }
-    ensures here { (p q : CodedMacroblock) → LiesAlong vertical edge.now p → AreContexts own.now q → names result ≡ strengths vertical 0 p q }
+    ensures here { (even ≡ true → is_even own.now ≡ true) → (p q : CodedMacroblock) → LiesAlong vertical edge.now p → AreContexts own.now q → names result ≡ strengths vertical 0 p q }
     ensures word { IsWord result }
 {
     if edge.intra {
@@ -161,8 +159,7 @@ fn inner(own: &Contexts, alike: bool, vertical: bool, line: usize, k: usize) -> 
     requires line { line < 4 }
     requires place { k < 4 }
     requires inter { own.now.intra ≡ false }
-    requires alike { alike ≡ true → are_alike own.now.motions ≡ true }
-    ensures here { (coded : CodedMacroblock) → AreContexts own.now coded → named result ≡ strength_at vertical line coded coded k }
+    ensures here { (alike ≡ true → are_alike own.now.motions ≡ true) → (coded : CodedMacroblock) → AreContexts own.now coded → named result ≡ strength_at vertical line coded coded k }
     ensures small { result < 4 }
 {
     let p = number_at(vertical, line - 1, k);
@@ -177,8 +174,7 @@ fn inner_line(own: &Contexts, alike: bool, vertical: bool, line: usize) -> Word
     requires some { 0 < line }
     requires line { line < 4 }
     requires inter { own.now.intra ≡ false }
-    requires alike { alike ≡ true → are_alike own.now.motions ≡ true }
-    ensures here { (coded : CodedMacroblock) → AreContexts own.now coded → names result ≡ strengths vertical line coded coded }
+    ensures here { (alike ≡ true → are_alike own.now.motions ≡ true) → (coded : CodedMacroblock) → AreContexts own.now coded → names result ≡ strengths vertical line coded coded }
     ensures word { IsWord result }
 {
     [
@@ -193,8 +189,7 @@ fn inner_line(own: &Contexts, alike: bool, vertical: bool, line: usize) -> Word
 #[inline(always)]
 fn inner_lines(own: &Contexts, alike: bool, vertical: bool) -> [Word; 3]
     requires inter { own.now.intra ≡ false }
-    requires alike { alike ≡ true → are_alike own.now.motions ≡ true }
-    ensures here { (coded : CodedMacroblock) → AreContexts own.now coded → all_names result ≡ inner_lines vertical coded }
+    ensures here { (alike ≡ true → are_alike own.now.motions ≡ true) → (coded : CodedMacroblock) → AreContexts own.now coded → all_names result ≡ inner_lines vertical coded }
     ensures words { AreWords result }
 {
     [
@@ -209,9 +204,10 @@ fn inner_lines(own: &Contexts, alike: bool, vertical: bool) -> [Word; 3]
 #[inline(never)]
 fn by_blocks<const ALIKE: bool>(own: &Contexts) -> InnerStrengths
     requires inter { own.now.intra ≡ false }
-    requires alike { ALIKE ≡ true → are_alike own.now.motions ≡ true }
-    ensures vertical { (coded : CodedMacroblock) → AreContexts own.now coded → all_names result.vertical ≡ inner_lines true coded }
-    ensures horizontal { (coded : CodedMacroblock) → AreContexts own.now coded → all_names result.horizontal ≡ inner_lines false coded }
+    ensures vertical { (ALIKE ≡ true → are_alike own.now.motions ≡ true) → (coded : CodedMacroblock) → AreContexts own.now coded →
+        all_names result.vertical ≡ inner_lines true coded }
+    ensures horizontal { (ALIKE ≡ true → are_alike own.now.motions ≡ true) → (coded : CodedMacroblock) → AreContexts own.now coded →
+        all_names result.horizontal ≡ inner_lines false coded }
     ensures vertical_words { AreWords result.vertical }
     ensures horizontal_words { AreWords result.horizontal }
 {
@@ -268,28 +264,28 @@ fn are_like(motions: &[Option<Motion>; 4], first: &Option<Motion>) -> bool
 
 /// Whether one picture and one vector predict all blocks of a macroblock.
 #[inline(never)]
-fn are_alike(motions: &[Option<Motion>; 16]) -> bool
+pub(crate) fn are_alike(motions: &[Option<Motion>; 16]) -> bool
     ensures { result ≡ are_alike motions.now }
 {
     let first = &motions[0];
     motions.iter().all(|motion| is_alike(motion, first))
 }
 
-/// Whether nothing tells the blocks of a macroblock apart: no coefficient, one picture and one vector.
-pub(crate) fn is_even(own: &Contexts) -> bool
-    ensures { result ≡ is_even own.now }
+/// Whether nothing tells the blocks of a macroblock apart, of which `alike` says that one picture and one vector predict all: no coefficient.
+#[inline]
+pub(crate) fn is_even(own: &Contexts, alike: bool) -> bool
+    ensures { (alike ≡ true → are_alike own.now.motions ≡ true) → result ≡ true → is_even own.now ≡ true }
 {
-    if !are_blank(&own.totals) {
+    if !alike {
         return false;
     }
-    are_alike(&own.motions)
+    are_blank(&own.totals)
 }
 
 /// Whether a macroblock is inter and nothing tells its blocks apart, which `even` says: no inner edge has a bS but 0.
 #[inline]
 pub(crate) fn is_uniform(own: &Contexts, even: bool) -> bool
-    requires { even ≡ true → is_even own.now ≡ true }
-    ensures { result ≡ true → (coded : CodedMacroblock) → AreContexts own.now coded → HasStillLines coded }
+    ensures { result ≡ true → (even ≡ true → is_even own.now ≡ true) → (coded : CodedMacroblock) → AreContexts own.now coded → HasStillLines coded }
 {
     if own.intra {
         return false;
@@ -297,11 +293,13 @@ pub(crate) fn is_uniform(own: &Contexts, even: bool) -> bool
     even
 }
 
-/// The strengths of the inner edges of a macroblock; `even` says that nothing tells its blocks apart.
-pub(crate) fn inner_strengths(own: &Contexts, even: bool) -> InnerStrengths
-    requires { even ≡ true → is_even own.now ≡ true }
-    ensures vertical { (coded : CodedMacroblock) → AreContexts own.now coded → all_names result.vertical ≡ inner_lines true coded }
-    ensures horizontal { (coded : CodedMacroblock) → AreContexts own.now coded → all_names result.horizontal ≡ inner_lines false coded }
+/// The strengths of the inner edges of a macroblock; `alike` says that one picture and one vector predict all its blocks, and `even` that nothing tells
+/// them apart.
+pub(crate) fn inner_strengths(own: &Contexts, alike: bool, even: bool) -> InnerStrengths
+    ensures vertical { (alike ≡ true → are_alike own.now.motions ≡ true) → (even ≡ true → is_even own.now ≡ true) → (coded : CodedMacroblock) →
+        AreContexts own.now coded → all_names result.vertical ≡ inner_lines true coded }
+    ensures horizontal { (alike ≡ true → are_alike own.now.motions ≡ true) → (even ≡ true → is_even own.now ≡ true) → (coded : CodedMacroblock) →
+        AreContexts own.now coded → all_names result.horizontal ≡ inner_lines false coded }
     ensures vertical_words { AreWords result.vertical }
     ensures horizontal_words { AreWords result.horizontal }
 {
@@ -317,7 +315,7 @@ pub(crate) fn inner_strengths(own: &Contexts, even: bool) -> InnerStrengths
             horizontal: [ZEROS; 3],
         };
     }
-    if are_alike(&own.motions) {
+    if alike {
         return by_blocks::<true>(own);
     }
     by_blocks::<false>(own)

@@ -11,3 +11,4 @@ pub mod Unique
 pub mod Skipped
 pub mod Made
 pub mod Sources
+pub mod Alike

@@ -1,7 +1,7 @@
 //! One macroblock of a picture in the making: constructed in place (8.3, 8.4, 8.5), and filtered after it (8.7).
 #![tactic(auto)]
 
-ghost use Rattle.std.specs.Prelude.{◌≡◌, ℕ, ◌+◌, ◌*◌, ◌<◌, ◌≤◌, IsTrue, List, [], ◌∷◌, ◌++◌, length, vec_len};
+ghost use Rattle.std.specs.Prelude.{◌≡◌, ℕ, ◌+◌, ◌*◌, ◌<◌, ◌≤◌, true, IsTrue, List, [], ◌∷◌, ◌++◌, length, vec_len};
 ghost use Rattle.h264_plane.specs.Samples.{IsSized};
 ghost use Rattle.h264_plane.specs.Frames.{plane_of};
 ghost use Rattle.h264_plane.specs.declared.frame.Component.{Component};
@@ -9,6 +9,7 @@ ghost use Rattle.h264_near.specs.Coded.{CodedMacroblock};
 ghost use Rattle.h264_near.specs.Keeps.{Keeps, AreContexts};
 ghost use Rattle.h264_scale.specs.Macroblock.{AreResiduals};
 ghost use Rattle.h264_scale.specs.declared.levels.Levels.{Levels};
+ghost use Rattle.h264_deblock.specs.Steps.{are_alike};
 ghost use Rattle.h264_recon.specs.Inter.{Setting};
 ghost use Rattle.h264_recon.specs.Constructed.{coded as coded_as, IsPossible};
 ghost use Rattle.h264_recon.specs.Lines.{store_of};
@@ -49,7 +50,8 @@ pub fn go_on(
     ensures held { (k : Setting) (place : ℕ → ℕ) (slices : ℕ → Parameters) (picture : List CodedMacroblock) (q : CodedMacroblock) (l : Levels) →
         length picture ≡ row * k.across + column → column < k.across → row < k.down → AreShown k pool.now (prediction_in m.now.prediction) →
         AreResiduals l residuals.now → IsPossible (prediction_in m.now.prediction) m.now.available →
-        coded_as m.now l ≡ given_by k.across picture place (slices q.slice) q → Keeps k.across picture coded.now.near.now → AreContexts coded.now.own.now q →
+        coded_as m.now l ≡ given_by k.across picture place (slices q.slice) q →
+        (coded.now.whole ≡ true → are_alike coded.now.own.now.motions ≡ true) → Keeps k.across picture coded.now.near.now → AreContexts coded.now.own.now q →
         filters slices q.slice ≡ coded.now.filter.now → ((n : ℕ) → (filters slices
         n).chroma_qp_index_offset ≡ coded.now.filter.now.chroma_qp_index_offset) → IsHeld k place slices lines.old frame.old picture →
         IsHeld k place slices lines.new frame.new (picture ++ q ∷ []) }

@@ -1,9 +1,10 @@
 //! The samples of a macroblock: construction (8.3, 8.4.2, 8.5) and, after it, the deblocking filter (8.7).
 #![tactic(auto)]
 
-ghost use Rattle.std.specs.Prelude.{◌≡◌, ℕ, ◌+◌, ◌*◌, ◌<◌, IsTrue, List, length};
+ghost use Rattle.std.specs.Prelude.{◌≡◌, ℕ, ◌+◌, ◌*◌, ◌<◌, true, IsTrue, List, length};
 ghost use Rattle.h264_near.specs.Coded.{CodedMacroblock};
 ghost use Rattle.h264_near.specs.Keeps.{Keeps};
+ghost use Rattle.h264_deblock.specs.Steps.{are_alike};
 ghost use Rattle.h264_mbsyntax.specs.Holds.{HoldsMacroblock};
 ghost use Rattle.h264_mbsyntax.specs.Possible.{IsPossible};
 ghost use Rattle.h264_recon.specs.Constructed.{coded as coded_as};
@@ -15,8 +16,8 @@ ghost use Rattle.h264_recon.specs.Predicted.{prediction_in};
 use crate::in_place::go_on;
 use crate::sequence::Sequence;
 use h264_deblock::Coded;
-use h264_mbsyntax::Macroblock as Read;
-use h264_near::Near;
+use h264_mbsyntax::{Kind, Macroblock as Read};
+use h264_near::{Motion, Near};
 use h264_recon::{Available, Macroblock, SliceWeights, given};
 use h264_scale::Residuals;
 use h264_vectors::SliceContext;
@@ -65,6 +66,28 @@ fn given_within<'a>(
     m
 }
 
+/// How many blocks a macroblock has.
+#[inline(always)]
+fn count(motions: &[Option<Motion>; 16]) -> usize
+    ensures { length motions.now ≡ 16 }
+{
+    motions.len()
+}
+
+/// Whether the blocks of a macroblock that was read are known to move alike.
+#[inline]
+fn is_whole(read: &Read) -> bool
+    ensures { (coded : CodedMacroblock) → HoldsMacroblock read.now coded → result ≡ true → are_alike read.now.contexts.motions ≡ true }
+{
+    let _all = count(&read.contexts.motions);
+    match read.kind {
+        Kind::Inter { whole } => whole,
+        Kind::Intra4x4 => false,
+        Kind::Intra16x16 { mode: _ } => false,
+        Kind::Pcm => false,
+    }
+}
+
 impl Sequence {
     ghost use Rattle.std.specs.Prelude.{Option, [], ◌∷◌, ◌++◌};
     ghost use Rattle.h264_scale.specs.Macroblock.{AreResiduals};
@@ -86,6 +109,7 @@ impl Sequence {
         let coded = Coded {
             near,
             own: &read.contexts,
+            whole: is_whole(read),
             filter: &self.filter,
         };
         let m = given_within(

@@ -16,19 +16,20 @@ use Rattle.h264_deblock.proofs.coded.filter_coded.Goals as goal
 use Rattle.h264_deblock.proofs.Macroblocks.{planes as by-plane}
 
 pub returns-in-Off-clause-filtered : goal.returns-in-Off-clause-filtered
-returns-in-Off-clause-filtered c slices w xs q k s size h is o p =
+returns-in-Off-clause-filtered c slices w xs q one k s size h is o p =
     let f : Frame = c.args.frame.now in
     off slices w xs q c.args.coded.now.filter.now is c.in-Off.is c.args.column c.args.row p (plane_of p f)
     (by-plane (λ z. side z * c.args.column + side z ≤ (plane_of z f).width) c.requires.y.0 c.requires.cb.0 c.requires.cr.0 p)
     (by-plane (λ z. side z * c.args.row + side z ≤ (plane_of z f).height) c.requires.y.1 c.requires.cb.1 c.requires.cr.1 p)
 
 pub returns-then-is_still-2-clause-filtered : goal.returns-then-is_still-2-clause-filtered
-returns-then-is_still-2-clause-filtered c slices w xs q k s size h is o p =
+returns-then-is_still-2-clause-filtered c slices w xs q one k s size h is o p =
     let f : Frame = c.args.frame.now in
-    let own = c.is_uniform.ensures c.if-is_uniform.true q s in
+    let even = c.is_even-even.ensures (c.moves_as_one-alike.ensures one) in
+    let own = c.is_uniform.ensures c.if-is_uniform.true even q s in
     still slices w xs q c.args.coded.now.filter.now (named_border c.border_of-left.result) (named_border c.border_of-above.result) is o
-    (c.border_of-left.ensures.here (last_left w xs) q (c.left_edge.ensures w xs k) s (left-none w xs c.args.column c.args.row size h))
-    (c.border_of-above.ensures.here (last_in w xs (length xs % w)) q (c.above_edge.ensures w xs k) s (above-none w xs c.args.column c.args.row size h))
+    (c.border_of-left.ensures.here even (last_left w xs) q (c.left_edge.ensures w xs k) s (left-none w xs c.args.column c.args.row size h))
+    (c.border_of-above.ensures.here even (last_in w xs (length xs % w)) q (c.above_edge.ensures w xs k) s (above-none w xs c.args.column c.args.row size h))
     own.vertical own.horizontal (c.is_still.ensures c.if-is_still.true) (c.is_still-then-is_still.ensures c.if-is_still-2.true) c.args.column c.args.row (λ h. c.border_of-left.ensures.inside (some-named c.border_of-left.result h)) (λ h. c.border_of-above.ensures.inside (some-named c.border_of-above.result h)) p (plane_of p f)
     (by-plane (λ z. side z * c.args.column + side z ≤ (plane_of z f).width) c.requires.y.0 c.requires.cb.0 c.requires.cr.0 p)
     (by-plane (λ z. side z * c.args.row + side z ≤ (plane_of z f).height) c.requires.y.1 c.requires.cb.1 c.requires.cr.1 p)
@@ -51,18 +52,20 @@ returns-clause-size c p =
     (record { columns = c.filter_by.ensures.cr.width; rows = c.filter_by.ensures.cr.height }) p
 
 pub returns-clause-filtered : goal.returns-clause-filtered
-returns-clause-filtered c slices w xs q k s size h is o p =
+returns-clause-filtered c slices w xs q one k s size h is o p =
     let f = c.args.coded.now.filter.now in
+    let alike = c.moves_as_one-alike.ensures one in
+    let even = c.is_even-even.ensures alike in
     let old : Frame = c.args.frame.now in
     let new : Frame = c.filter_by.new.frame in
-    let left = c.border_of-left.ensures.here (last_left w xs) q (c.left_edge.ensures w xs k) s (left-none w xs c.args.column c.args.row size h) in
-    let above = c.border_of-above.ensures.here (last_in w xs (length xs % w)) q (c.above_edge.ensures w xs k) s (above-none w xs c.args.column c.args.row size h) in
+    let left = c.border_of-left.ensures.here even (last_left w xs) q (c.left_edge.ensures w xs k) s (left-none w xs c.args.column c.args.row size h) in
+    let above = c.border_of-above.ensures.here even (last_in w xs (length xs % w)) q (c.above_edge.ensures w xs k) s (above-none w xs c.args.column c.args.row size h) in
     let own = c.args.coded.now.own.now in
     let inner = c.inner_strengths.result in
     let a = named_border c.border_of-left.result in
     let b = named_border c.border_of-above.result in
-    let v = c.inner_strengths.ensures.vertical q s in
-    let z = c.inner_strengths.ensures.horizontal q s in
+    let v = c.inner_strengths.ensures.vertical alike even q s in
+    let z = c.inner_strengths.ensures.horizontal alike even q s in
     let qp = side_qp true own.qp f.chroma_qp_index_offset in
     let y = qp-is slices Y q false own.qp f.chroma_qp_index_offset refl s.qp (o q.slice) in
     let cb = qp-is slices Cb q true own.qp f.chroma_qp_index_offset refl s.qp (o q.slice) in

@@ -4,18 +4,18 @@ use Rattle.h264_deblock.proofs.Numbers.{four-word, zero-word-is}
 use Rattle.h264_deblock.proofs.strengths.border_strengths.Goals as goal
 
 pub returns-then-edge-clause-here : goal.returns-then-edge-clause-here
-returns-then-edge-clause-here c p q i s = strong-by-p c.args.vertical p q c.args.edge.now.intra (beside-intra c.args.vertical c.args.edge.now p i) c.if-edge.true
+returns-then-edge-clause-here c e p q i s = strong-by-p c.args.vertical p q c.args.edge.now.intra (beside-intra c.args.vertical c.args.edge.now p i) c.if-edge.true
 
 pub returns-then-own-clause-here : goal.returns-then-own-clause-here
-returns-then-own-clause-here c p q i s = strong-by-q c.args.vertical p q c.args.own.now.intra s.intra c.if-own.true
+returns-then-own-clause-here c e p q i s = strong-by-q c.args.vertical p q c.args.own.now.intra s.intra c.if-own.true
 
 pub returns-then-is_seamless-clause-here : goal.returns-then-is_seamless-clause-here
-returns-then-is_seamless-clause-here c p q i s =
+returns-then-is_seamless-clause-here c e p q i s =
     let edge = c.args.edge.now in
     let own = c.args.own.now in
     let k : length edge.totals ≡ 4 = omega arith in
     let l : length own.totals ≡ 16 = omega arith in
-    even-border c.args.vertical edge own p q i s c.if-edge.false c.if-own.false k l (c.requires c.if-even.true) (sym c.is_seamless.ensures ∙ c.if-is_seamless.true)
+    even-border c.args.vertical edge own p q i s c.if-edge.false c.if-own.false k l (e c.if-even.true) (sym c.is_seamless.ensures ∙ c.if-is_seamless.true)
 
 pub returns-then-edge-clause-word : goal.returns-then-edge-clause-word
 returns-then-edge-clause-word c = four-word

@@ -2,8 +2,5 @@ use Rattle.h264_deblock.specs.CodedEdges.{named}
 use Rattle.h264_deblock.proofs.CodedEdges.{inner-by, no-moves}
 use Rattle.h264_deblock.proofs.strengths.inner.Goals as goal
 
-pub inter-requires : goal.inter-requires
-inter-requires c t = no-moves c.args.own.now.motions c.number_at-p.result c.number_at-q.result (c.requires.alike t)
-
 pub returns-clause-here : goal.returns-clause-here
-returns-clause-here c m s = inner-by c.args.vertical c.args.line c.args.k c.args.own.now m (named c.inter.result) c.requires.some c.requires.line c.requires.place s c.requires.inter (rw (← c.number_at-p.ensures.here, ← c.number_at-q.ensures.here) c.inter.ensures.here)
+returns-clause-here c a m s = inner-by c.args.vertical c.args.line c.args.k c.args.own.now m (named c.inter.result) c.requires.some c.requires.line c.requires.place s c.requires.inter (rw (← c.number_at-p.ensures.here, ← c.number_at-q.ensures.here) (c.inter.ensures.here (λ t. no-moves c.args.own.now.motions c.number_at-p.result c.number_at-q.result (a t))))

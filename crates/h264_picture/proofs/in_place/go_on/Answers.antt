@@ -12,13 +12,13 @@ pub returns-clause-size : goal.returns-clause-size
 returns-clause-size c = λ p. record { columns = (c.filter_coded.ensures.size p).columns ∙ (c.construct.ensures.size p).columns; rows = (c.filter_coded.ensures.size p).rows ∙ (c.construct.ensures.size p).rows }
 
 pub returns-clause-held : goal.returns-clause-held
-returns-clause-held c k place slices picture q l n i j shown residual possible is keeps shows filter offsets held =
+returns-clause-held c k place slices picture q l n i j shown residual possible is one keeps shows filter offsets held =
     let a = c.args in
     held-step k place slices picture q (coded a.m.now l) a.lines.now c.construct.new.lines a.frame.now c.construct.new.frame c.filter_coded.new.frame a.column a.row n i j is possible
     (λ p. record { columns = (c.filter_coded.ensures.size p).columns ∙ (c.construct.ensures.size p).columns; rows = (c.filter_coded.ensures.size p).rows ∙ (c.construct.ensures.size p).rows })
     (λ u allowed stored. c.construct.ensures.some k l u i j allowed shown residual stored)
     (λ u allowed made stored. c.construct.ensures.step k l u i j allowed shown residual made stored)
-    (c.filter_coded.ensures.filtered (filters slices) k.across picture q keeps shows n i filter offsets) held
+    (c.filter_coded.ensures.filtered (filters slices) k.across picture q one keeps shows n i filter offsets) held
 
 pub filter_coded-requires-clause-y : goal.filter_coded-requires-clause-y
 filter_coded-requires-clause-y c = let z = c.construct.ensures.size Y in (rw z.columns c.requires.y.0, rw z.rows c.requires.y.1)
