@@ -1,4 +1,5 @@
 use Rattle.std.proofs.Common.{◌≡◌, ◌≢◌, ◌⊎◌, ℕ, ◌+◌, ◌-◌, ◌*◌, ◌<◌, ◌≤◌, List, length, slice_index, arith, refl, sym, ap, ◌∙◌, get_or, ⊎_elim, inl, inr}
+use Rattle.std.proofs.Math.Seq.{take-length}
 use Rattle.std.proofs.lemmas.Nat.{mul-le}
 use Rattle.std.proofs.lemmas.Grind.{elements}
 use Rattle.std.proofs.lemmas.Bool.{cases_lt, cases_eq}
@@ -7,7 +8,8 @@ use Rattle.std.proofs.lemmas.List.{with_items_is}
 use Rattle.std.specs.Global.{Vec}
 use Rattle.std.specs.Vec.{with_items, vec_len}
 use borrow.Rule.Slice.PartMut.{put_mid}
-use Rattle.h264_plane.specs.Samples.{at, ShowsSamples, with_run}
+use lib.Lanes.{chunk}
+use Rattle.h264_plane.specs.Samples.{at, ShowsSamples, with_run, rows_of}
 
 pub put_below : (a k i : ℕ) (xs ys : List ℕ) → i < a → a ≤ length xs → get_or (put_mid a k xs ys) i 0 ≡ get_or xs i 0
 put_below a k i xs ys p q = grind (arith, elements)
@@ -62,6 +64,15 @@ run_is w h x y xs ys run e p q same =
           ∙ sym (run_outside x y run s u v (inl other)))
           (cases_eq v y);
     }
+
+-- the same by the place where the run begins, and its length
+pub run_at : (w h x y : ℕ) (xs ys run : List ℕ) (start k : ℕ) → length xs ≡ h * w → x + length run ≤ w → y < h → ys ≡ run → start ≡ y * w + x →
+    k ≡ length run → ShowsSamples (rows_of w h xs) (rows_of w h (put_mid start k xs ys)) (with_run x y run (at (rows_of w h xs)))
+run_at w h x y xs ys run start k e p q same place count = rw (place, count) (run_is w h x y xs ys run e p q same)
+
+-- a chunk that is all of a list
+pub chunk_whole : (n : ℕ) (xs : List ℕ) → length xs ≡ n → chunk 0 n xs ≡ xs
+chunk_whole n xs e = rw (sym e) (take-length xs)
 
 -- the same for a vector that was written through a slice
 pub run_put : (w h x y : ℕ) (v : Vec ℕ) (xs ys run : List ℕ) (k : ℕ) → vec_len v ≡ h * w → x + length run ≤ w → y < h →

@@ -13,6 +13,10 @@ pub record Samples : Type 0 where
 abbrev pub at : Samples → ℕ → ℕ → ℕ
 at p x y = slice_index p.list (y * p.width + x)
 
+-- the samples of a list, row by row
+abbrev pub rows_of : ℕ → ℕ → List ℕ → Samples
+rows_of width height list = record { width = width; height = height; list = list }
+
 -- a plane of this many columns and rows can be kept as this many samples in one row
 pub record IsKept (width height count : ℕ) : Type 0 where
   pub whole : count ≡ height * width

@@ -1,9 +1,10 @@
 ghost use Rattle.std.specs.Prelude.{◌≡◌, ℕ, ◌+◌, ◌*◌, ◌<◌, ◌≤◌, length, slice_index, IfOk};
 ghost use Rattle.h264_plane.specs.Samples.{Samples, at, no_samples, IsSized, IsBlank, IsSet, IsPut, with_run, with_block};
-ghost use Rattle.h264_plane.specs.Samples.{ShowsSamples, look, size_along, size_across};
+ghost use Rattle.h264_plane.specs.Samples.{ShowsSamples, look, size_along, size_across, rows_of};
 
 use std::alloc::{AllocError, Global};
 use std::marker::Model;
+use std::simd::prelude::*;
 
 /// The most samples that a row or a column may have.
 pub const MAX_SIDE: usize = 16384;
@@ -25,6 +26,46 @@ impl Model for Plane {
     ghost view = { λ p. record { width = p.width; height = p.height; list = p.samples.items } };
 
     ghost invariant = { λ p. IsKept p.width p.height (vec_len p.samples) };
+}
+
+/// Writes a row of `W` samples over others. Eight and sixteen are stored as one vector, which the compiler does not make of each copy.
+#[inline(always)]
+fn put_row<const W: usize>(out: &mut [u8], row: &[u8])
+    requires out { length out.old ≡ W }
+    requires row { length row.now ≡ W }
+    ensures { out.new ≡ row.now }
+{
+    if W == 16 {
+        u8x16::from_slice(row).copy_to_slice(out);
+    } else if W == 8 {
+        u8x8::from_slice(row).copy_to_slice(out);
+    } else {
+        out.copy_from_slice(row);
+    }
+}
+
+/// Writes a block of `W` columns and `H` rows, row by row, into rows of `width` samples: its upper left sample goes to column `x` of row `y`. Goes from
+/// row to row by an addition.
+#[inline(always)]
+fn put_rows<const W: usize, const H: usize>(
+    samples: &mut [u8],
+    width: usize,
+    x: usize,
+    y: usize,
+    block: &[u8],
+)
+    requires whole { length block.now ≡ W * H }
+    requires columns { x + W ≤ width }
+    requires rows { (y + H) * width ≤ length samples.old }
+    requires small { (width ≤ MAX_SIDE) × (y + H ≤ MAX_SIDE) }
+    ensures { (height : ℕ) → length samples.old ≡ height * width → y + H ≤ height → ShowsSamples (rows_of width height samples.old)
+        (rows_of width height samples.new) (with_block W H x y block.now (at (rows_of width height samples.old))) }
+{
+    let mut start = y * width + x;
+    for n in 0..H {
+        put_row::<W>(&mut samples[start..start + W], &block[W * n..W * n + W]);
+        start += width;
+    }
 }
 
 impl Plane {
@@ -163,8 +204,7 @@ impl Plane {
     {
         // The invariant, which this read shows, bounds the rows below.
         let _ = &self.height;
-        for n in 0..H {
-            self.put_run(x, y + n, &block[W * n..W * n + W]);
-        }
+        let width = self.width;
+        put_rows::<W, H>(self.samples.as_mut_slice(), width, x, y, block);
     }
 }
