@@ -6,7 +6,7 @@ ghost use Rattle.h264_inter.specs.Rows.{IsPair, ArePairs, AreBytes};
 
 use crate::lanes::{bytes, joined, load, part64, plus, raised, times};
 use crate::lines::Lines;
-use crate::luma_blocks::whole_block;
+use crate::luma_blocks::{put_row, whole_block};
 use crate::window::{Pair, Pairs};
 
 /// The weights of the four whole samples around a place, in 64ths.
@@ -120,7 +120,7 @@ fn weighted_block<const W: usize, const H: usize>(
     for v in 0..H {
         let lower = pairs::<W>(&p, left, top + v, 1);
         let row = row::<W>(w, upper, lower);
-        out[W * v..W * v + W].copy_from_slice(&row[..W]);
+        put_row::<W>(row, &mut out[W * v..W * v + W]);
         upper = lower;
     }
 }

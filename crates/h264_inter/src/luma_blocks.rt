@@ -5,8 +5,8 @@ ghost use Rattle.h264_inter.specs.Luma.{six, half as half_of, central as central
 ghost use Rattle.h264_inter.specs.Rows.{AllSix, AreSixTaps, LastFiveOfBoth, AllSixOfBoth, AreUpTo, partner as partner_of};
 
 use crate::lanes::{
-    beside, between8, bytes, central8, half8, joined, load, load16, mean8, mean16, plus, raised,
-    riffled, sixteen, times,
+    beside, between8, bytes, central8, eight, half8, joined, load, load16, mean8, mean16, plus,
+    raised, riffled, sixteen, times,
 };
 use crate::lines::Lines;
 use crate::pairs::{SixTaps, difference_and, pair_sums, sum_rounded};
@@ -27,7 +27,7 @@ fn whole_row<const W: usize>(p: &Lines<'_>, x: usize, y: usize) -> [u8; W]
     samples
 }
 
-/// Writes them. Sixteen are read and stored as one vector, which the compiler does not make of a copy in every loop.
+/// Writes them. Eight and sixteen are read and stored as one vector, which the compiler does not make of a copy in every loop.
 #[inline(always)]
 fn put_whole_row<const W: usize>(p: &Lines<'_>, x: usize, y: usize, out: &mut [u8])
     requires small { (W ≤ 16) × (x ≤ 16384) }
@@ -39,6 +39,8 @@ fn put_whole_row<const W: usize>(p: &Lines<'_>, x: usize, y: usize, out: &mut [u
 {
     if W == 16 {
         put_row::<W>(sixteen(p.row(y), x).to_array(), out);
+    } else if W == 8 {
+        eight(p.row(y), x).copy_to_slice(out);
     } else {
         let row = whole_row::<W>(p, x, y);
         out.copy_from_slice(&row);
@@ -205,7 +207,7 @@ fn down_row<const W: usize>(w: Windows) -> [u8; 16]
 
 /// Writes a row of a block of `W` columns. Eight and sixteen samples are stored as one vector, wherever they stand.
 #[inline(always)]
-fn put_row<const W: usize>(row: [u8; 16], out: &mut [u8])
+pub fn put_row<const W: usize>(row: [u8; 16], out: &mut [u8])
     requires size { W ≤ 16 }
     requires whole { length out.old ≡ W }
     ensures whole { length out.new ≡ W }

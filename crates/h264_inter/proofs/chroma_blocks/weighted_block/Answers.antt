@@ -1,5 +1,4 @@
-use Rattle.std.proofs.Common.{◌≡◌, ◌+◌, ◌*◌, ◌≤◌, List, ℕ, length, slice_index, arith, ap, ◌∙◌, length-take, length-drop}
-use Rattle.std.proofs.lemmas.List.{get_or-take}
+use Rattle.std.proofs.Common.{◌≡◌, ◌+◌, ◌*◌, ◌≤◌, length, arith, ◌∙◌}
 use Rattle.h264_plane.specs.Samples.{at}
 use Rattle.h264_inter.specs.Chroma.{weighted}
 use Rattle.h264_inter.proofs.Eighths.{weights_placed}
@@ -19,13 +18,12 @@ loop-v-preserved g c =
     let v = c.loop-v.v in
     let k = c.weights_at-w.result in
     let out = c.loop-v.out in
-    let row = c.row-row.result in
-    let new = c.copy_from_slice.new.self in
+    let new = c.put_row.new.out in
     let fits : w * v + w ≤ length out = omega (arith, row_inside w g.row.H v c.loop-v-test.true) in
-    let count : length new ≡ w = c.copy_from_slice.ensures.len ∙ simp (length-take, length-drop) (omega arith) in
+    let count : length new ≡ w = c.put_row.ensures.whole in
     record {
       above = row_more w v _ out new (λ a b. weighted k.a k.b k.c k.d (λ i j. at c.args.p (c.args.left + a + i) (c.args.top + b + j))) fits count
-          (λ x p. ap (λ (l : List ℕ). slice_index l x) c.copy_from_slice.ensures.after ∙ get_or-take w row x 0 p ∙ c.row-row.ensures c.args.p c.args.left (c.args.top + v) c.loop-v.invariant.rows c.pairs-lower.ensures x (omega arith))
+          (λ x p. c.put_row.ensures.each x p ∙ c.row-row.ensures c.args.p c.args.left (c.args.top + v) c.loop-v.invariant.rows c.pairs-lower.ensures x (omega arith))
           c.loop-v.invariant.above;
       rows = pairs_from w c.args.p c.args.left (c.args.top + v) (c.args.top + (v + 1)) 1 0 _ (omega arith) c.pairs-lower.ensures;
     }
