@@ -4,3 +4,4 @@ pub mod Turns
 pub mod Room
 pub mod Filling
 pub mod Missing
+pub mod Moving

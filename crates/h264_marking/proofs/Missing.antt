@@ -9,14 +9,14 @@ use Rattle.h264_marking.specs.Unused.{Succeed, Avoid, IsGap}
 
 -- the number after another
 module _ (m : ℕ) where
-  abbrev Following : ℕ → Type 0
+  abbrev pub Following : ℕ → Type 0
   Following q = (((q + 1) % m ≡ q + 1) × (q + 1 < m)) ⊎ (((q + 1) % m ≡ 0) × (q + 1 ≡ m))
 
   after-by : (q : ℕ) → (q + 1 ≡ m) ⊎ (q + 1 < m) → Following q
   after-by q (inl e) = inr (ap (λ x. x % m) e ∙ mod_self m, e)
   after-by q (inr l) = inl (mod-eq_of_lt l, l)
 
-  following : (q : ℕ) → q < m → Following q
+  pub following : (q : ℕ) → q < m → Following q
   following q h = after-by q (eq-or-lt_of_le (le q h))
     where
       le : (q : ℕ) → q < m → q + 1 ≤ m
@@ -56,7 +56,7 @@ module _ (m : ℕ) where
         to-on (inl e) = absurd (let c : q + 1 ≡ m = b.1 in omega (arith, e, c, f-in))
         to-on (inr e) = inl (let c : q + 1 ≡ m = b.1 in omega (arith, e, c))
 
-    step : (q i k : ℕ) → Stands q i (suc k) → Stands ((q + 1) % m) (suc i) k
+    pub step : (q i k : ℕ) → Stands q i (suc k) → Stands ((q + 1) % m) (suc i) k
     step q i k s = step-by q i k s (following q s.within)
 
     not-p : (q i k : ℕ) → Stands q (suc i) k → q ≢ p
@@ -66,7 +66,7 @@ module _ (m : ℕ) where
         by (inl d) = omega (arith, e, d)
         by (inr d) = let h : suc i + k + 1 < m + 1 = s.few in omega (arith, e, d, h)
 
-    not-f : (q i k : ℕ) → Stands q (suc i) k → q ≢ f
+    pub not-f : (q i k : ℕ) → Stands q (suc i) k → q ≢ f
     not-f q i k s e = by s.to
       where
         by : (q + k + 1 ≡ f) ⊎ (q + k + 1 ≡ f + m) → ⊥
@@ -77,11 +77,11 @@ module _ (m : ℕ) where
     succeeds q zero = tt
     succeeds q (suc k) = (refl, succeeds ((q + 1) % m) k)
 
-    avoids : (q i k : ℕ) → Stands q i k → Avoid p f (numbers_from k ((q + 1) % m) m)
+    pub avoids : (q i k : ℕ) → Stands q i k → Avoid p f (numbers_from k ((q + 1) % m) m)
     avoids q i zero s = tt
     avoids q i (suc k) s = let t = step q i k s in (not-p ((q + 1) % m) i k t, not-f ((q + 1) % m) i k t, avoids ((q + 1) % m) (suc i) k t)
 
-    ends : (q i k : ℕ) → Stands q i k → f ≡ (last_or q (numbers_from k ((q + 1) % m) m) + 1) % m
+    pub ends : (q i k : ℕ) → Stands q i k → f ≡ (last_or q (numbers_from k ((q + 1) % m) m) + 1) % m
     ends q i zero s = by (following q s.within) s.to
       where
         by : Following q → (q + 0 + 1 ≡ f) ⊎ (q + 0 + 1 ≡ f + m) → f ≡ (q + 1) % m

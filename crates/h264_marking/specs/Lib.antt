@@ -5,3 +5,4 @@ pub mod Held
 pub mod Gaps
 pub mod Unused
 pub mod Ended
+pub mod Steady

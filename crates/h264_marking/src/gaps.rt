@@ -26,12 +26,12 @@ pub fn gap_before(idr: bool, prev: u32, numbering: &Numbering) -> u32
     ((numbering.frame_num as u64 + max).saturating_sub(following) % max) as u32
 }
 
-/// The number after this one.
-fn successor(number: u32, max_frame_num: u32) -> u32
-    requires { (0 < max_frame_num) × (max_frame_num ≤ 65536) }
-    ensures { result ≡ (number + 1) % max_frame_num }
+/// The number that lies so many after this one, modulo MaxFrameNum.
+pub fn number_after(number: u32, count: u32, max_frame_num: u32) -> u32
+    requires { 0 < max_frame_num }
+    ensures { result ≡ (number + count) % max_frame_num }
 {
-    ((number as u64 + 1) % max_frame_num as u64) as u32
+    ((number as u64 + count as u64) % max_frame_num as u64) as u32
 }
 
 /// Fills so many numbers after `prev`, one after another (8.2.5.2), and gives the last of them, or `prev` where there is none.
@@ -53,7 +53,7 @@ pub fn fill_gaps(
     let mut last = prev;
     for _turn in 0..count {
         let missing = Numbering {
-            frame_num: successor(last, numbering.max_frame_num),
+            frame_num: number_after(last, 1, numbering.max_frame_num),
             max_frame_num: numbering.max_frame_num,
             max_num_ref_frames: numbering.max_num_ref_frames,
         };

@@ -9,6 +9,7 @@ ghost use Rattle.h264_marking.specs.Held.{own_frame, idr_term};
 use crate::frame::{Numbering, ReferenceFrame, Term};
 use crate::numbers::{Places, copied, frame_places, has_place, remove_pic_num};
 use crate::operations::{Marks, operate_all};
+use crate::steady::{is_steady, move_all};
 use crate::window::{count_others, fill, least_pic_num};
 use arrayvec::ArrayVec;
 use h264_base::{Rule, Stop};
@@ -33,13 +34,15 @@ impl Model for Held {
 }
 
 impl Held {
-    ghost use Rattle.std.specs.Prelude.{◌≡◌, ◌≤◌, length, OnOk, unwrap_or, if◌then◌else◌, Ok, Err};
+    ghost use Rattle.std.specs.Prelude.{◌≡◌, ◌+◌, ◌%◌, ◌<◌, ◌≤◌, true, length, OnOk, unwrap_or, if◌then◌else◌, Some, Ok, Err};
     ghost use Rattle.std.specs.Option.{is_some};
     ghost use Rattle.std.specs.Result.{result_unwrap_or};
     ghost use Rattle.h264_base.specs.declared.rule.Rule.TheVariants as rule;
     ghost use Rattle.h264_base.specs.declared.stop.Stop.TheVariants.{No};
     ghost use Rattle.h264_marking.specs.Frames.{frame_places};
     ghost use Rattle.h264_marking.specs.Window.{filled};
+    ghost use Rattle.h264_marking.specs.Gaps.{numbers_from, all_filled};
+    ghost use Rattle.h264_marking.specs.Steady.{IsSteady};
     ghost use Rattle.h264_marking.specs.Held.{no_references, marked, mark_answer, idr_references, slid_and_joined, joined};
     ghost use Rattle.h264_marking.specs.Operations.{marks_of, all_operated};
 
@@ -78,6 +81,24 @@ impl Held {
             });
         }
         Ok(())
+    }
+
+    /// Whether the frames of missing numbers up to `last` take all places but those of long-term frames.
+    pub fn is_steady(&self, numbering: &Numbering, last: u32) -> bool
+        requires { 0 < numbering.now.max_frame_num }
+        ensures { result ≡ true → IsSteady numbering.now last self.now.frames }
+    {
+        is_steady(numbering, last, self.frames.as_slice())
+    }
+
+    /// Fills so many missing numbers after `last` at once, where those up to `last` take all places but those of long-term frames: as if one after another.
+    pub fn skip(&mut self, numbering: &Numbering, last: u32, count: u32)
+        requires numbers { 0 < numbering.now.max_frame_num }
+        requires steady { IsSteady numbering.now last self.old.frames }
+        ensures { all_filled numbering.now (numbers_from count ((last + 1) % numbering.now.max_frame_num) numbering.now.max_frame_num) self.old
+            ≡ Some self.new }
+    {
+        move_all(numbering.max_frame_num, count, &mut self.frames);
     }
 
     /// Marks at the end of a reference picture of this number, as its first slice says (8.2.5.1). `marking` has the bit of its

@@ -14,6 +14,7 @@ pub mod held;
 pub mod laws;
 mod numbers;
 mod operations;
+mod steady;
 #[cfg(test)]
 mod tests;
 mod window;

@@ -59,10 +59,12 @@ enum Step {
     IdrLong,
     Slide,
     Fill,
+    /// So many numbers after this frame_num, where the frames of numbers up to it take all places.
+    Skip(u32),
     Operate(&'static [Op]),
 }
 
-use Step::{Begin, BeginLong, Fill, Idr, IdrLong, Operate, Slide, TwoLong};
+use Step::{Begin, BeginLong, Fill, Idr, IdrLong, Operate, Skip, Slide, TwoLong};
 
 /// A step with frame_num and max_num_ref_frames, its answer, and the frames that are held then.
 type Row = (Step, u32, u32, Result<(), Stop>, &'static [Frame]);
@@ -202,6 +204,14 @@ fn two_long(held: &mut Held) -> Result<(), Stop> {
     operate(held, at(2, 4), &[Limit(3), MakeLong(1, 0), MakeLong(0, 1)])
 }
 
+fn skip(held: &mut Held, current: Numbering, count: u32) -> Result<(), Stop> {
+    if current.max_frame_num == 0 || !held.is_steady(&current, current.frame_num) {
+        return UNFILLED;
+    }
+    held.skip(&current, current.frame_num, count);
+    Ok(())
+}
+
 fn take(held: &mut Held, step: Step, current: Numbering) -> Result<(), Stop> {
     match step {
         Begin => begin(held, current),
@@ -214,6 +224,7 @@ fn take(held: &mut Held, step: Step, current: Numbering) -> Result<(), Stop> {
         IdrLong => idr(held, current.max_num_ref_frames, true),
         Slide => mark(held, current, Marking::SlidingWindow),
         Fill => held.fill_gap(&current, GAP),
+        Skip(count) => skip(held, current, count),
         Operate(ops) => operate(held, current, ops),
     }
 }
@@ -301,6 +312,18 @@ const GAPS: [Row; 13] = [
     // Places that long-term frames take.
     (BeginLong, 0, 1, DONE, &[Long(0, 0)]),
     (Fill, 1, 1, UNFILLED, &[Long(0, 0)]),
+];
+
+/// Numbers that are skipped: all places but those of long-term frames have to be those of missing numbers.
+const SKIPPED: [Row; 8] = [
+    (Begin, 2, 2, DONE, &[Short(1), Short(2)]),
+    (Fill, 3, 2, DONE, &[Short(2), Missing(3)]),
+    (Skip(9), 3, 2, UNFILLED, &[Short(2), Missing(3)]),
+    (Fill, 4, 2, DONE, &[Missing(3), Missing(4)]),
+    (Skip(9), 4, 3, UNFILLED, &[Missing(3), Missing(4)]),
+    (Skip(14), 4, 2, DONE, &[Missing(1), Missing(2)]),
+    (Skip(1), 3, 2, UNFILLED, &[Missing(1), Missing(2)]),
+    (Fill, 3, 2, DONE, &[Missing(2), Missing(3)]),
 ];
 
 /// Operation 1.
@@ -591,6 +614,7 @@ fn idr_window_and_gaps(rt: HostRuntime) {
     rows_hold(&rt, &IDR_PICTURES);
     rows_hold(&rt, &WINDOW);
     rows_hold(&rt, &GAPS);
+    rows_hold(&rt, &SKIPPED);
     laws::unused_numbers();
 }
 

@@ -9,14 +9,14 @@ loop-turn-init c = filled-first c.args.numbering.now c.args.count c.args.prev c.
 pub returns-in_err-fill_gap-clause-refused : goal.returns-in_err-fill_gap-clause-refused
 returns-in_err-fill_gap-clause-refused c =
     let p = err_from_is_err_and c.from_residual.result c.from_residual.ensures.1 in
-    let answer = rw c.successor.ensures at c.in_err-fill_gap.ensures.answer in
+    let answer = rw c.number_after.ensures at c.in_err-fill_gap.ensures.answer in
     rw (p.1, p.2) (filled-refused c.args.numbering.now c.args.count c.args.prev c.args.held.now c.loop-turn._turn c.loop-turn.last c.loop-turn.held _ c.args.bit c.loop-turn.invariant c.loop-turn-test.true answer)
 
 pub loop-turn-preserved : goal.loop-turn-preserved
 loop-turn-preserved c =
-    let answer = rw c.successor.ensures at c.in_ok-fill_gap.ensures.answer in
-    let held = rw c.successor.ensures at c.in_ok-fill_gap.ensures.held in
-    rw c.successor.ensures (filled-next c.args.numbering.now c.args.count c.args.prev c.args.held.now c.loop-turn._turn c.loop-turn.last c.loop-turn.held c.fill_gap.new.self _ c.args.bit c.loop-turn.invariant c.loop-turn-test.true answer held)
+    let answer = rw c.number_after.ensures at c.in_ok-fill_gap.ensures.answer in
+    let held = rw c.number_after.ensures at c.in_ok-fill_gap.ensures.held in
+    rw c.number_after.ensures (filled-next c.args.numbering.now c.args.count c.args.prev c.args.held.now c.loop-turn._turn c.loop-turn.last c.loop-turn.held c.fill_gap.new.self _ c.args.bit c.loop-turn.invariant c.loop-turn-test.true answer held)
 
 pub returns-clause-last : goal.returns-clause-last
 returns-clause-last c =
