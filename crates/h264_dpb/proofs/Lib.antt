@@ -4,6 +4,7 @@ pub mod Steps
 pub mod Room
 pub mod Bounded
 pub mod Turns
+pub mod Steady
 pub mod Stored
 pub mod Rows
 pub mod Renaming

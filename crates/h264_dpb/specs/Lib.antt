@@ -8,3 +8,4 @@ pub mod Turns
 pub mod Rectangles
 pub mod Ending
 pub mod Kept
+pub mod Steady

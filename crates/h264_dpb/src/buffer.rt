@@ -1,4 +1,4 @@
-use crate::bumping::{empty, store};
+use crate::bumping::{all_marked, empty, missing_in, store};
 use crate::entry::{Entry, Picture, Placed};
 use crate::places::free_place;
 use crate::sink::FrameOut;
@@ -35,6 +35,7 @@ impl Buffer {
     ghost use Rattle.h264_dpb.specs.Numbered.{is_taken};
     ghost use Rattle.h264_dpb.specs.Bumping.{flushed};
     ghost use Rattle.h264_dpb.specs.Buffered.{AreReady, Steps, HasRoomBy, StaysWithin, places_taken, stored_by, missing_by, IsShownBy};
+    ghost use Rattle.h264_dpb.specs.Steady.{is_steady};
 
     /// A buffer of one place, which is free.
     pub fn new() -> Buffer
@@ -95,6 +96,16 @@ impl Buffer {
         let (size, missing) = (self.size, self.missing);
         self.missing = store(size, missing, picture, &mut self.entries, frames, sink)?;
         Ok(())
+    }
+
+    /// Whether one more frame of a missing frame_num, where these are held with it, leaves the buffer as it is.
+    pub fn is_steady(&self, held: &[Option<u64>]) -> bool
+        ensures { result ≡ is_steady held.now self.now }
+    {
+        let missing = missing_in(held);
+        self.missing == missing
+            && self.entries.len() < self.size.saturating_sub(missing.saturating_sub(1))
+            && all_marked(held, self.entries.as_slice())
     }
 
     /// Writes all that waits, or drops it, and empties the buffer, which has `size` places then.

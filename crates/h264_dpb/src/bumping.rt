@@ -1,7 +1,7 @@
 ghost use Rattle.std.specs.Prelude.{◌≡◌, ◌||◌, ◌+◌, ◌-◌, ◌<◌, ◌≤◌, ◌^◌, true, false, IsTrue, [], ◌∷◌, ◌++◌, Some, length, map, slice_set, OnOk, IfOk};
 ghost use Rattle.h264_base.specs.Call.{HasRoom};
 ghost use Rattle.std.specs.Prelude.{if◌then◌else◌};
-ghost use Rattle.std.specs.List.{position, filter};
+ghost use Rattle.std.specs.List.{position, filter, list_all};
 ghost use Rattle.arrayvec.specs.ArrayVec.{array_vec_len};
 ghost use Rattle.h264_dpb.specs.Shown.{is_shown};
 ghost use Rattle.h264_dpb.specs.Bumping.{least_with, least_count, is_next, is_below, left_at, bumped, made_room, stored_other, stored_reference};
@@ -9,6 +9,7 @@ ghost use Rattle.h264_dpb.specs.Bumping.{is_picture, is_held, missing_in, marked
 ghost use Rattle.h264_dpb.specs.Writing.{Writes, call_of};
 ghost use Rattle.h264_dpb.specs.Buffered.{AreReady, AreUsed, Steps, is_ready, references, entry_of, still, room_step, stored_by, missing_by};
 ghost use Rattle.h264_dpb.specs.Buffered.{HasRoomBy, IsShownBy};
+ghost use Rattle.h264_dpb.specs.Steady.{is_marked};
 
 use crate::entry::{Entry, Kind, Picture, Placed};
 use crate::sink::FrameOut;
@@ -229,6 +230,20 @@ fn is_in_use(entry: &Entry<Placed>) -> bool
     ensures { result ≡ is_in_use entry.now }
 {
     entry.waiting || entry.reference
+}
+
+/// Whether a frame stays as it is once these are held.
+fn is_marked(held: &[Option<u64>], entry: &Entry<Placed>) -> bool
+    ensures { result ≡ is_marked (λ n. is_held held.now n.picture) entry.now }
+{
+    entry.reference == is_held(held, entry.of.picture) && is_in_use(entry)
+}
+
+/// Whether all of them do.
+pub(crate) fn all_marked(held: &[Option<u64>], entries: &[Entry<Placed>]) -> bool
+    ensures { result ≡ list_all (is_marked (λ n. is_held held.now n.picture)) entries.now }
+{
+    entries.iter().all(|entry| is_marked(held, entry))
 }
 
 fn keep_used(entries: &mut Entries)

@@ -106,7 +106,7 @@ impl Output {
     ghost use Rattle.h264_dpb.specs.Buffered.{Buffered, AreReady, Steps, HasRoomBy, IsShownBy, StaysWithin, places_taken, stored_by, missing_by};
     ghost use Rattle.h264_dpb.specs.Shown.{is_shown};
     ghost use Rattle.h264_dpb.specs.Writing.{Writes};
-    ghost use Rattle.h264_dpb.specs.Turns.{Shown, no_buffer, names, empties, flush_turn, way_turn, store_turn, missing_turn, last_turn};
+    ghost use Rattle.h264_dpb.specs.Turns.{Shown, no_buffer, names, empties, flush_turn, way_turn, store_turn, missing_turn, last_turn, stays};
     ghost use Rattle.h264_dpb.specs.Kept.{KeepsBuffer, HasFrames, IsOrdered, IsReady, IsEmpty, IsAtPlace, is_occupied, place_of, size_of, placed_at};
     ghost use Rattle.h264_dpb.specs.Kept.{shown_calls, waiting_in};
 
@@ -307,6 +307,14 @@ impl Output {
         let names = names(held.frames());
         let stored = missing(names.as_slice());
         self.put(&stored, 0, store, sink)
+    }
+
+    /// Whether one more frame of a missing frame_num, where these frames are held with it, writes nothing and leaves the buffer as it is.
+    pub fn is_steady(&self, held: &Held) -> bool
+        ensures { result ≡ true → (b : Buffered Shown) (written : ℕ) → KeepsBuffer b written self.now → missing_turn held.now b ≡ stays b }
+    {
+        let names = names(held.frames());
+        self.buffer.is_steady(names.as_slice())
     }
 
     /// The end of the input: all frames that wait are written.

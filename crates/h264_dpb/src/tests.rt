@@ -180,8 +180,10 @@ fn gap(rt: &impl Abort, pool: &Pool, sink: &mut Counts) -> Result<(), Stop> {
         count: 0,
         held: &[None],
     };
+    assert!(rt; !buffer.is_steady(missing.held));
     assert!(rt; sink.failures < 100);
     buffer.store(pool, &missing, sink)?;
+    assert!(rt; buffer.is_steady(missing.held));
     put(rt, &mut buffer, pool, 1, 5, sink)
 }
 
