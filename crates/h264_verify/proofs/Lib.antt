@@ -31,6 +31,7 @@ pub mod PictureEnding
 pub mod Placing
 pub mod Filling
 pub mod Missing
+pub mod Skipping
 pub mod Framing
 pub mod Reading
 pub mod Coded

@@ -83,7 +83,7 @@ after-plays took failures view told o s0 s1 s2 r t k p = plays-on took failures 
 abbrev following : Numbering → ℕ → ℕ → List ℕ
 following n count number = numbers_from count ((number + 1) % n.max_frame_num) n.max_frame_num
 
-steps-some : (mode : Mode) (bit : ℕ) (n : Numbering) (number : ℕ) (numbers : List ℕ) (refs held : References) (b : Buffered Shown) → filled (record n { frame_num = number }) refs ≡ Some held →
+pub steps-some : (mode : Mode) (bit : ℕ) (n : Numbering) (number : ℕ) (numbers : List ℕ) (refs held : References) (b : Buffered Shown) → filled (record n { frame_num = number }) refs ≡ Some held →
     steps_outcome (missing_steps mode bit n (number ∷ numbers) refs b) ≡ (steps_outcome (told_frames mode (missing_turn held b).written) >>= λ _. steps_outcome (missing_steps mode bit n numbers held (missing_turn held b).buffer))
 steps-some mode bit n number numbers refs held b e =
     ap (λ (o : Option References). steps_outcome (Needs (record { rule = FrameNum; bit = bit; met = is_some o }) ∷ missing_on o (λ held. told_frames mode (missing_turn held b).written ++ missing_steps mode bit n numbers held (missing_turn held b).buffer))) e

@@ -29,7 +29,7 @@ use Rattle.h264_picture.specs.declared.frames.TheConstants.{PLACES}
 use Rattle.h264_picture.specs.Places.{lent, first_place, places, is_active_place, IsReleased, HasBegun, HasSize}
 use Rattle.h264_plane.specs.declared.frame.Frame.{Frame}
 use Rattle.h264_dpb.specs.Bumping.{is_held}
-use Rattle.h264_dpb.specs.Turns.{Shown, Turn, stays, no_buffer, names}
+use Rattle.h264_dpb.specs.Turns.{Shown, Turn, stays, no_buffer, names, missing_turn}
 use Rattle.h264_dpb.specs.Kept.{KeepsBuffer, HasFrames, IsOrdered, is_occupied, place_of, size_of, IsReady as AreReady}
 use Rattle.h264_dpb.specs.declared.output.Output.{Output}
 use Rattle.h264_dpb.specs.declared.ended.Ended.{Ended}
@@ -347,6 +347,12 @@ unfoldable pub KeepsGap : Mode → (ℕ → Frame) → Turn → ℕ → Decoder 
 KeepsGap modes.Units frames t next d = Unit {0}
 KeepsGap modes.Headers frames t next d = Unit {0}
 KeepsGap modes.Full frames t next d = FillsFrames frames t next d
+
+-- where frames are made, the frame of one more missing number, where these frames are held with it, writes nothing and leaves the buffer as it is
+unfoldable pub StaysSteady : Mode → References → Buffered Shown → Type 0
+StaysSteady modes.Units held b = Unit {0}
+StaysSteady modes.Headers held b = Unit {0}
+StaysSteady modes.Full held b = missing_turn held b ≡ stays b
 
 -- where frames are made, the buffer has so many places
 unfoldable pub HasPlaces : Mode → ℕ → Decoder → Type 0

@@ -63,7 +63,7 @@ impl Decoder {
     ghost use Rattle.h264_picture.specs.Places.{lent, first_place, is_active_place, IsReleased, KeepsFrames as KeepsLent};
     ghost use Rattle.h264_verify.specs.declared.decoder.Format.{Format as FormatView};
     ghost use Rattle.h264_dpb.specs.Bumping.{missing_in};
-    ghost use Rattle.h264_dpb.specs.Turns.{Turn, turn_then, names, empties, missing_turn, last_turn};
+    ghost use Rattle.h264_dpb.specs.Turns.{Turn, turn_then, names, empties, missing_turn, last_turn, stays};
     ghost use Rattle.h264_dpb.specs.Kept.{KeepsBuffer, size_of};
     ghost use Rattle.h264_verify.specs.Telling.{took_with};
     ghost use Rattle.h264_verify.specs.Outcome.{Plays};
@@ -249,6 +249,14 @@ impl Decoder {
         ensures no_memory { IfErr result (λ e. e ≡ Stop.Write) }
     {
         self.output.miss(held, &self.work, sink)
+    }
+
+    /// Whether the frame of one more missing frame_num, where these frames are held with it, writes nothing and leaves the buffer as it is.
+    pub(crate) fn is_steady(&self, held: &Held) -> bool
+        ensures { result ≡ true → (frames : ℕ → Frame) (t : Turn) (next : ℕ) → FillsFrames frames t next self.now →
+            missing_turn held.now t.buffer ≡ stays t.buffer }
+    {
+        self.output.is_steady(held)
     }
 
     /// The end of the input: all frames that wait are written (C.4.5.3). Write: the sink failed.

@@ -17,7 +17,8 @@ ghost use Rattle.h264_marking.specs.Gaps.{is_new_num, entered, numbers_from, las
 ghost use Rattle.h264_verify.specs.Telling.{took_with};
 ghost use Rattle.h264_verify.specs.Outcome.{Plays};
 ghost use Rattle.h264_verify.specs.Buffering.{told_frames, gaps_turn, missing_steps};
-ghost use Rattle.h264_verify.specs.Keeping.{KeepsGap, KeepsSomeGap, HasPlaces, GoesWith};
+ghost use Rattle.h264_marking.specs.Steady.{IsSteady};
+ghost use Rattle.h264_verify.specs.Keeping.{KeepsGap, KeepsSomeGap, StaysSteady, HasPlaces, GoesWith};
 ghost use Rattle.h264_verify.specs.StepOutcome.{steps_outcome};
 ghost use Rattle.h264_verify.specs.Demands.{judged};
 ghost use Rattle.h264_verify.specs.Pictures.{prev_ref_frame_num_after};
@@ -32,8 +33,11 @@ use crate::rules::check;
 use crate::sink::FrameSink;
 use h264_base::{Mode, Rule, Stop};
 use h264_header::Header;
-use h264_marking::gaps::{gap_before, is_new_num};
+use h264_marking::gaps::{gap_before, is_new_num, number_after};
 use h264_marking::{Held, Numbering, resets};
+
+/// How many frames are held at most (7.4.2.1.1). After so many missing numbers all short-term frames are theirs.
+const MOST_PLACES: u32 = 16;
 
 /// PrevRefFrameNum after a picture, where `last` is the last missing number, or the one before.
 fn prev_ref_after(reference: bool, resets: bool, frame_num: u32, last: u32) -> u32
@@ -54,14 +58,6 @@ pub(crate) fn check_idr_num(header: &Header) -> Result<(), Stop>
 {
     let fits = header.idr_pic_id.is_none() || header.frame_num.value == 0;
     check(fits, Rule::FrameNum, header.frame_num.bit)
-}
-
-/// The number after this one.
-fn successor(number: u32, max_frame_num: u32) -> u32
-    requires { 0 < max_frame_num }
-    ensures { result ≡ (number + 1) % max_frame_num }
-{
-    ((number as u64 + 1) % max_frame_num as u64) as u32
 }
 
 /// The frame of a missing number takes its place, where frames are made.
@@ -93,7 +89,42 @@ fn miss<S: FrameSink>(
     }
 }
 
-/// Fills so many numbers after `prev`, one after another (8.2.5.2), and gives the last of them, or `prev` where there is none.
+/// Where frames are made, whether one more of a missing number leaves the buffer as it is.
+fn is_steady(mode: Mode, held: &Held, decoder: &Decoder) -> bool
+    ensures { result ≡ true → (frames : ℕ → Frame) (t : Turn) (next : ℕ) → KeepsGap mode frames t next decoder.now → StaysSteady mode held.now t.buffer }
+{
+    match mode {
+        Mode::Units => true,
+        Mode::Headers => true,
+        Mode::Full => decoder.is_steady(held),
+    }
+}
+
+/// Whether so many missing numbers are filled that the next ones change nothing but the numbers of frames. Tried once, after as many as there may be places.
+fn may_skip(
+    turn: u32,
+    mode: Mode,
+    numbering: &Numbering,
+    last: u32,
+    held: &Held,
+    decoder: &Decoder,
+) -> bool
+    requires { 0 < numbering.now.max_frame_num }
+    ensures held { result ≡ true → IsSteady numbering.now last held.now.frames }
+    ensures frames { result ≡ true → (frames : ℕ → Frame) (t : Turn) (next : ℕ) → KeepsGap mode frames t next decoder.now →
+        StaysSteady mode held.now t.buffer }
+{
+    if turn != MOST_PLACES {
+        return false;
+    }
+    if !held.is_steady(numbering, last) {
+        return false;
+    }
+    is_steady(mode, held, decoder)
+}
+
+/// Fills so many numbers after `prev`, one after another (8.2.5.2), and gives the last of them, or `prev` where there is none. It skips those that change nothing
+/// but the numbers of frames.
 fn fill_frames<S: FrameSink>(
     mode: Mode,
     prev: u32,
@@ -124,9 +155,13 @@ fn fill_frames<S: FrameSink>(
     ensures kept { OnOk result (IsQuiet S.failures sink.old sink.new) }
 {
     let mut last = prev;
-    for _turn in 0..count {
+    for turn in 0..count {
+        if may_skip(turn, mode, numbering, last, held, decoder) {
+            held.skip(numbering, last, count - turn);
+            return Ok(number_after(last, count - turn, numbering.max_frame_num));
+        }
         let missing = Numbering {
-            frame_num: successor(last, numbering.max_frame_num),
+            frame_num: number_after(last, 1, numbering.max_frame_num),
             max_frame_num: numbering.max_frame_num,
             max_num_ref_frames: numbering.max_num_ref_frames,
         };

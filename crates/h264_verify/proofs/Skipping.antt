@@ -1,0 +1,120 @@
+-- Missing numbers that change nothing but the numbers of frames.
+use Rattle.std.proofs.Common.{◌≡◌, ℕ, zero, suc, ◌+◌, ◌%◌, List, [], ◌++◌, Option, refl, ap, sym, ◌∙◌, subst, append-nil}
+use Rattle.h264_base.specs.declared.mode.Mode.{Mode}
+use Rattle.h264_base.specs.declared.mode.Mode.TheVariants as modes
+use Rattle.h264_base.specs.Call.{Call}
+use Rattle.h264_plane.specs.declared.frame.Frame.{Frame}
+use Rattle.h264_marking.specs.declared.frame.Numbering.{Numbering}
+use Rattle.h264_marking.specs.Frames.{References}
+use Rattle.h264_marking.specs.Gaps.{numbers_from}
+use Rattle.h264_marking.specs.Steady.{IsSteady}
+use Rattle.h264_marking.proofs.Moving.{steady-next}
+use Rattle.h264_dpb.specs.Bumping.{is_held, missing_in}
+use Rattle.h264_dpb.specs.Buffered.{Buffered, missing_step}
+use Rattle.h264_dpb.specs.Turns.{Shown, Turn, turn_then, turn_of, stays, names, missing_turn}
+use Rattle.h264_verify.specs.declared.decoder.Decoder.{Decoder}
+use Rattle.h264_verify.specs.Outcome.{Outcome, ◌>>=◌, with_calls, gives}
+use Rattle.h264_verify.specs.Steps.{Step}
+use Rattle.h264_verify.specs.Buffering.{told_frames, gaps_turn, gap_on, missing_steps}
+use Rattle.h264_verify.specs.StepOutcome.{steps_outcome}
+use Rattle.h264_verify.specs.Keeping.{KeepsGap, FillsFrames, StaysSteady}
+use Rattle.h264_verify.proofs.Missing.{Fills, steps-some}
+
+-- the buffer sees the pictures alone
+missing-named : (refs held : References) (b : Buffered Shown) → names held ≡ names refs → missing_turn held b ≡ missing_turn refs b
+unfolding missing_turn
+missing-named refs held b e = ap (λ (held : List (Option ℕ)). turn_of (missing_step (λ (n : Shown). is_held held n.picture) (missing_in held) b) (missing_in held) b.size) e
+
+steady-named : (mode : Mode) (refs held : References) (b : Buffered Shown) → names held ≡ names refs → StaysSteady mode refs b → StaysSteady mode held b
+unfolding StaysSteady
+steady-named modes.Units refs held b e s = tt
+steady-named modes.Headers refs held b e s = tt
+steady-named modes.Full refs held b e s = missing-named refs held b e ∙ s
+
+none-told : (mode : Mode) (held : References) (b : Buffered Shown) → StaysSteady mode held b → told_frames mode (missing_turn held b).written ≡ []
+unfolding StaysSteady
+none-told modes.Units held b s = refl
+none-told modes.Headers held b s = refl
+none-told modes.Full held b s = ap (λ (t : Turn). told_frames modes.Full t.written) s
+
+steady-on : (mode : Mode) (held : References) (b : Buffered Shown) → StaysSteady mode held b → StaysSteady mode held (missing_turn held b).buffer
+unfolding StaysSteady
+steady-on modes.Units held b s = tt
+steady-on modes.Headers held b s = tt
+steady-on modes.Full held b s = subst (λ (t : Turn). missing_turn held t.buffer ≡ stays t.buffer) (sym s) s
+
+pub full-steady : (held : References) (b : Buffered Shown) (m : Mode) → m ≡ modes.Full → missing_turn held b ≡ stays b → StaysSteady m held b
+unfolding StaysSteady
+full-steady held b modes.Units e s = tt
+full-steady held b modes.Headers e s = tt
+full-steady held b modes.Full e s = s
+
+pub steady-units : (held : References) (b : Buffered Shown) (m : Mode) → m ≡ modes.Units → StaysSteady m held b
+unfolding StaysSteady
+steady-units held b modes.Units e = tt
+steady-units held b modes.Headers e = tt
+steady-units held b modes.Full e = cc
+
+pub steady-headers : (held : References) (b : Buffered Shown) (m : Mode) → m ≡ modes.Headers → StaysSteady m held b
+unfolding StaysSteady
+steady-headers held b modes.Units e = tt
+steady-headers held b modes.Headers e = tt
+steady-headers held b modes.Full e = cc
+
+nothing-first : (o : Outcome (Unit {0})) → (steps_outcome [] >>= λ _. o) ≡ o
+unfolding ◌>>=◌
+nothing-first o = refl
+
+module _ (n : Numbering) where
+  -- each is met, and nothing is told
+  skipped-steps : (mode : Mode) (bit count last : ℕ) (refs : References) (b : Buffered Shown) → IsSteady n last refs.frames → StaysSteady mode refs b →
+      steps_outcome (missing_steps mode bit n (numbers_from count ((last + 1) % n.max_frame_num) n.max_frame_num) refs b) ≡ gives tt
+  skipped-steps mode bit zero last refs b s still = refl
+  skipped-steps mode bit (suc count) last refs b s still =
+      let number = (last + 1) % n.max_frame_num in
+      let numbers = numbers_from count ((number + 1) % n.max_frame_num) n.max_frame_num in
+      let next = steady-next n last refs s in
+      let more = steady-named mode refs next.held b next.pictures still in
+      let rest = steps_outcome (missing_steps mode bit n numbers next.held (missing_turn next.held b).buffer) in
+      steps-some mode bit n number numbers refs next.held b next.fits
+      ∙ ap (λ (steps : List Step). steps_outcome steps >>= λ _. rest) (none-told mode next.held b more)
+      ∙ nothing-first rest
+      ∙ skipped-steps mode bit count number next.held (missing_turn next.held b).buffer next.steady (steady-on mode next.held b more)
+
+  -- the buffer stays as it is
+  skipped-turn : (count last : ℕ) (refs : References) (b : Buffered Shown) → IsSteady n last refs.frames → missing_turn refs b ≡ stays b →
+      gaps_turn n (numbers_from count ((last + 1) % n.max_frame_num) n.max_frame_num) refs b ≡ stays b
+  skipped-turn zero last refs b s still = refl
+  skipped-turn (suc count) last refs b s still =
+      let number = (last + 1) % n.max_frame_num in
+      let numbers = numbers_from count ((number + 1) % n.max_frame_num) n.max_frame_num in
+      let next = steady-next n last refs s in
+      let more = missing-named refs next.held b next.pictures ∙ still in
+      ap (λ (o : Option References). gap_on o (λ held. turn_then (missing_turn held b) (gaps_turn n numbers held)) b) next.fits
+      ∙ ap (λ (t : Turn). turn_then t (gaps_turn n numbers next.held)) more
+      ∙ skipped-turn count number next.held b next.steady more
+
+  skipped-kept : (mode : Mode) (frames : ℕ → Frame) (t : Turn) (next : ℕ) (d : Decoder) (count last : ℕ) (refs : References) → IsSteady n last refs.frames → StaysSteady mode refs t.buffer → KeepsGap mode frames t next d →
+      KeepsGap mode frames (turn_then t (gaps_turn n (numbers_from count ((last + 1) % n.max_frame_num) n.max_frame_num) refs)) next d
+  unfolding StaysSteady KeepsGap
+  skipped-kept modes.Units frames t next d count last refs s still k = tt
+  skipped-kept modes.Headers frames t next d count last refs s still k = tt
+  skipped-kept modes.Full frames t next d count last refs s still k =
+      let same = skipped-turn count last refs t.buffer s still in
+      subst (λ (u : Turn). FillsFrames frames u next d)
+      (sym (ap (λ (u : Turn). let v : Turn = record { written = t.written ++ u.written; buffer = u.buffer } in v) same ∙ ap (λ (l : List _). let v : Turn = record { written = l; buffer = t.buffer } in v) (append-nil t.written)))
+      k
+
+-- the rest of the missing numbers is skipped
+pub fills-skipped : {S : Type 0} (mode : Mode) (bit : ℕ) (n : Numbering) (count prev : ℕ) (held : References) (took : S → List Call → Type 0) (failures : S → ℕ) (frames : ℕ → Frame) (t : Turn) (next : ℕ) (old : S) (left last then_last : ℕ) (now then_held : References) (new : S) (d : Decoder) →
+    IsSteady n last now.frames → (f : Fills mode bit n count prev held took failures frames t next old left last now new d) → StaysSteady mode now f.turn.buffer → Fills mode bit n count prev held took failures frames t next old 0 then_last then_held new d
+fills-skipped mode bit n count prev held took failures frames t next old left last then_last now then_held new d s f still =
+    let all = turn_then f.turn (gaps_turn n (numbers_from left ((last + 1) % n.max_frame_num) n.max_frame_num) now) in
+    record {
+      turn = all;
+      told = f.told;
+      tells = f.tells;
+      steps = f.steps ∙ ap (with_calls f.told) (skipped-steps n mode bit left last now f.turn.buffer s still);
+      turns = f.turns ∙ ap (λ (l : List _). record { written = l; buffer = all.buffer }) (sym (append-nil all.written));
+      keeps = skipped-kept n mode frames f.turn next d left last now s still f.keeps;
+    }
