@@ -15,3 +15,4 @@ pub mod Accounting
 pub mod Entries
 pub mod Reaching
 pub mod Choosing
+pub mod Broken

@@ -13,3 +13,4 @@ pub mod Decoding
 pub mod Given
 pub mod Entries
 pub mod Chosen
+pub mod Strict

@@ -34,6 +34,7 @@ mod rows;
 pub mod rules;
 mod send;
 pub mod sheet;
+pub mod strict;
 pub mod survey;
 pub mod trail;
 pub mod trail_sink;
