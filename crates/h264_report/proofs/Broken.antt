@@ -4,7 +4,7 @@ use Rattle.std.proofs.lemmas.Bool.{cond-true, cond-false}
 use Rattle.std.proofs.lemmas.Bool.Decides.{eqb_tells}
 use Rattle.std.proofs.lemmas.Grind.{get_or-set_at}
 use Rattle.std.proofs.lemmas.List.{append_assoc, append-nil, get_or-set_other}
-use Rattle.h264_base.specs.Call.{Call, OfUnit, OfSlice, OfElement, OfFrame}
+use Rattle.h264_base.specs.Call.{Call, Tells, OfUnit, OfSlice, OfElement, OfFrame}
 use Rattle.h264_base.specs.declared.element_name.ElementName.{ElementName}
 use Rattle.h264_base.specs.declared.mode.SliceType.{SliceType}
 use Rattle.h264_report.specs.Chosen.{count_in}
@@ -125,3 +125,7 @@ unit-advances old mid new byte kind ref_idc length stands first second =
 pub frame-advances : (s : Strict) (count : ℤ) (width height : ℕ) (bytes : List ℕ) → Advances (OfFrame count width height bytes) s s
 unfolding after broken_by bits_for with_places
 frame-advances s count width height bytes = (refl, λ r. refl)
+
+-- a sink inside that took a call, and the further rules with it
+pub both-more : {S : Type 0} (took : S → List Call → Type 0) (s s' : S) (call : Call) (x x' : Strict) → Tells took s s' (call ∷ []) → Advances call x x' → (before : List Call) → took s before × TookStrict x before → took s' (before ++ call ∷ []) × TookStrict x' (before ++ call ∷ [])
+both-more took s s' call x x' inner step before h = (inner.told before h.0, took-more call x x' before step h.1)

@@ -35,6 +35,7 @@ pub mod rules;
 mod send;
 pub mod sheet;
 pub mod strict;
+pub mod strict_sink;
 pub mod survey;
 pub mod trail;
 pub mod trail_sink;
@@ -59,6 +60,8 @@ pub use rules::{
 };
 pub use send::put_text;
 pub use sheet::{Pen, Sheet};
+pub use strict::{Places, STRICT_RULES, Strict, StrictRule};
+pub use strict_sink::StrictSink;
 pub use trail::{Element, Trail};
 pub use trail_sink::TrailSink;
 pub use whole::judge_bytes;
