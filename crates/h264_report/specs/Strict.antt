@@ -1,5 +1,5 @@
 -- The rules that `check --strict` judges beside the verdict's, over what a sink is told. To be read beside the standard.
-use Rattle.std.specs.Prelude.{ℕ, ℤ, ◌+◌, ◌*◌, ◌-◌, ◌^◌, ◌==◌, ◌&&◌, ◌||◌, Bool, true, false, not, nat_lt, nat_le, min, if◌then◌else◌, List, [], ◌∷◌, ◌++◌, Option, None, Some, pos, negsuc, get_or, ◌≡◌}
+use Rattle.std.specs.Prelude.{ℕ, ℤ, ◌+◌, ◌*◌, ◌-◌, ◌^◌, ◌==◌, ◌&&◌, ◌||◌, Bool, true, false, not, nat_lt, nat_le, min, if◌then◌else◌, List, [], ◌∷◌, ◌++◌, Option, None, Some, pos, negsuc, get_or, codes, ◌≡◌}
 use Rattle.h264_base.specs.Call.{Call, OfUnit, OfSlice, OfElement, OfFrame}
 use Rattle.h264_base.specs.declared.element_name.ElementName.{ElementName}
 use Rattle.h264_base.specs.declared.element_name.ElementName.TheVariants as names
@@ -26,6 +26,41 @@ place_of rules.SetRefIdc = 11
 place_of rules.DelimiterFirst = 12
 place_of rules.FillerFirst = 13
 place_of rules.AfterEndOfStream = 14
+
+unfoldable pub label_of : StrictRule → List ℕ
+label_of rules.ReservedBits = codes "ReservedBits"
+label_of rules.AspectRatio = codes "AspectRatio"
+label_of rules.VideoFormat = codes "VideoFormat"
+label_of rules.ColourPrimaries = codes "ColourPrimaries"
+label_of rules.TransferCharacteristics = codes "TransferCharacteristics"
+label_of rules.MatrixCoefficients = codes "MatrixCoefficients"
+label_of rules.ChromaLocation = codes "ChromaLocation"
+label_of rules.Timing = codes "Timing"
+label_of rules.Restriction = codes "Restriction"
+label_of rules.OperationsExclude = codes "OperationsExclude"
+label_of rules.IdrCount = codes "IdrCount"
+label_of rules.SetRefIdc = codes "SetRefIdc"
+label_of rules.DelimiterFirst = codes "DelimiterFirst"
+label_of rules.FillerFirst = codes "FillerFirst"
+label_of rules.AfterEndOfStream = codes "AfterEndOfStream"
+
+-- the clause of H.264 that states it
+unfoldable pub clause_of : StrictRule → List ℕ
+clause_of rules.ReservedBits = codes "7.4.2.1.1"
+clause_of rules.AspectRatio = codes "E.2.1"
+clause_of rules.VideoFormat = codes "E.2.1"
+clause_of rules.ColourPrimaries = codes "E.2.1"
+clause_of rules.TransferCharacteristics = codes "E.2.1"
+clause_of rules.MatrixCoefficients = codes "E.2.1"
+clause_of rules.ChromaLocation = codes "E.2.1"
+clause_of rules.Timing = codes "E.2.1"
+clause_of rules.Restriction = codes "E.2.1"
+clause_of rules.OperationsExclude = codes "7.4.3.3"
+clause_of rules.IdrCount = codes "8.2.1"
+clause_of rules.SetRefIdc = codes "7.4.1"
+clause_of rules.DelimiterFirst = codes "7.4.1.2.3"
+clause_of rules.FillerFirst = codes "7.4.1.2.3"
+clause_of rules.AfterEndOfStream = codes "7.4.2.6"
 
 -- a rule, if it is broken
 abbrev pub broken_if : Bool → StrictRule → Option StrictRule

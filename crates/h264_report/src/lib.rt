@@ -60,7 +60,7 @@ pub use rules::{
 };
 pub use send::put_text;
 pub use sheet::{Pen, Sheet};
-pub use strict::{Places, STRICT_RULES, Strict, StrictRule};
+pub use strict::{EVERY_STRICT_RULE, Places, STRICT_RULES, Strict, StrictRule};
 pub use strict_sink::StrictSink;
 pub use trail::{Element, Trail};
 pub use trail_sink::TrailSink;

@@ -5,7 +5,7 @@ ghost use Rattle.std.specs.Prelude.{◌≡◌, ◌<◌, ◌==◌, ℕ, get_or, i
 ghost use Rattle.h264_base.specs.Call.{OfUnit, OfSlice, OfElement};
 ghost use Rattle.h264_base.specs.declared.mode.SliceType.{SliceType};
 ghost use Rattle.h264_report.specs.declared.strict.StrictRule.{StrictRule};
-ghost use Rattle.h264_report.specs.Strict.{place_of, by_value, by_marking, by_element, by_order, after_element, after_unit, start, with_place};
+ghost use Rattle.h264_report.specs.Strict.{place_of, label_of, clause_of, by_value, by_marking, by_element, by_order, after_element, after_unit, start, with_place};
 ghost use Rattle.h264_report.specs.Strict.{first_bit, TookStrict, Advances, found_of, with_places, bits_for, listed, has_idr_count};
 
 use crate::survey::element::count_of;
@@ -42,7 +42,7 @@ pub enum StrictRule {
     DelimiterFirst,
     /// Filler data does not come before the first slice of its access unit (7.4.1.2.3).
     FillerFirst,
-    /// No unit follows the end of the stream (7.3.2.6).
+    /// No unit follows the end of the stream (7.4.2.6).
     AfterEndOfStream,
 }
 
@@ -54,6 +54,25 @@ const FILLER_DATA: u8 = 12;
 const SPS_EXTENSION: u8 = 13;
 
 const SUBSET_SPS: u8 = 15;
+
+/// Every rule, by its place.
+pub const EVERY_STRICT_RULE: [StrictRule; STRICT_RULES] = [
+    StrictRule::ReservedBits,
+    StrictRule::AspectRatio,
+    StrictRule::VideoFormat,
+    StrictRule::ColourPrimaries,
+    StrictRule::TransferCharacteristics,
+    StrictRule::MatrixCoefficients,
+    StrictRule::ChromaLocation,
+    StrictRule::Timing,
+    StrictRule::Restriction,
+    StrictRule::OperationsExclude,
+    StrictRule::IdrCount,
+    StrictRule::SetRefIdc,
+    StrictRule::DelimiterFirst,
+    StrictRule::FillerFirst,
+    StrictRule::AfterEndOfStream,
+];
 
 /// How many rules there are.
 pub const STRICT_RULES: usize = 15;
@@ -81,6 +100,54 @@ impl StrictRule {
             StrictRule::DelimiterFirst => 12,
             StrictRule::FillerFirst => 13,
             StrictRule::AfterEndOfStream => 14,
+        }
+    }
+
+    /// Its label.
+    #[tactic(auto, unfolding(crate::specs::Strict::label_of))]
+    pub fn label(self) -> &'static str
+        ensures { result.now ≡ label_of self }
+    {
+        match self {
+            StrictRule::ReservedBits => "ReservedBits",
+            StrictRule::AspectRatio => "AspectRatio",
+            StrictRule::VideoFormat => "VideoFormat",
+            StrictRule::ColourPrimaries => "ColourPrimaries",
+            StrictRule::TransferCharacteristics => "TransferCharacteristics",
+            StrictRule::MatrixCoefficients => "MatrixCoefficients",
+            StrictRule::ChromaLocation => "ChromaLocation",
+            StrictRule::Timing => "Timing",
+            StrictRule::Restriction => "Restriction",
+            StrictRule::OperationsExclude => "OperationsExclude",
+            StrictRule::IdrCount => "IdrCount",
+            StrictRule::SetRefIdc => "SetRefIdc",
+            StrictRule::DelimiterFirst => "DelimiterFirst",
+            StrictRule::FillerFirst => "FillerFirst",
+            StrictRule::AfterEndOfStream => "AfterEndOfStream",
+        }
+    }
+
+    /// The clause of H.264 that states it.
+    #[tactic(auto, unfolding(crate::specs::Strict::clause_of))]
+    pub fn clause(self) -> &'static str
+        ensures { result.now ≡ clause_of self }
+    {
+        match self {
+            StrictRule::ReservedBits => "7.4.2.1.1",
+            StrictRule::AspectRatio => "E.2.1",
+            StrictRule::VideoFormat => "E.2.1",
+            StrictRule::ColourPrimaries => "E.2.1",
+            StrictRule::TransferCharacteristics => "E.2.1",
+            StrictRule::MatrixCoefficients => "E.2.1",
+            StrictRule::ChromaLocation => "E.2.1",
+            StrictRule::Timing => "E.2.1",
+            StrictRule::Restriction => "E.2.1",
+            StrictRule::OperationsExclude => "7.4.3.3",
+            StrictRule::IdrCount => "8.2.1",
+            StrictRule::SetRefIdc => "7.4.1",
+            StrictRule::DelimiterFirst => "7.4.1.2.3",
+            StrictRule::FillerFirst => "7.4.1.2.3",
+            StrictRule::AfterEndOfStream => "7.4.2.6",
         }
     }
 }

@@ -10,5 +10,5 @@ returns-clause-ok g c =
     let f : SFits w32 c.args.count = search rules in
     let ok = simp to_z-of_z at c.frame.ensures.ok in
     on-ok c.frame.result
-        (λ took again. record { told = both-more g.S.Elements.took old.sink c.frame.new.self _ old.strict old.strict took (frame-advances old.strict _ _ _ _) })
-        ok ok
+    (λ took again. record { told = both-more g.S.Elements.took old.sink c.frame.new.self _ old.strict old.strict took (frame-advances old.strict _ _ _ _) })
+    ok ok
