@@ -4,16 +4,20 @@ use Rattle.h264_base.specs.declared.mode.Mode.TheVariants as modes
 use Rattle.h264_base.specs.declared.stop.Stop.TheVariants.{Memory}
 use Rattle.h264_report.specs.Sent.{Takes}
 use Rattle.h264_report.specs.Written.{last_line, status_of}
-use Rattle.h264_report.specs.declared.judging.Ending.{Ending}
+use Rattle.h264v.specs.declared.job.Done.{Done}
 use Rattle.h264v.specs.Words.{program, asks, name_of}
 use Rattle.h264v.specs.declared.command_line.Task.{Task}
 use Rattle.clap.specs.Words.{Text}
 use Rattle.h264v.specs.Commands.{Output, Comes}
 
--- the greatest exit status of these endings
-abbrev pub worst : List Ending → ℕ
+-- The exit status of a file: that of its answer, and 1 at least where `--strict` found a further rule broken.
+abbrev pub done_status : Done → ℕ
+done_status d = if d.is_broken then max (status_of d.ending.written d.ending.answer) 1 else status_of d.ending.written d.ending.answer
+
+-- the greatest exit status of these files
+abbrev pub worst : List Done → ℕ
 worst [] = 0
-worst (e ∷ es) = max (worst es) (status_of e.written e.answer)
+worst (d ∷ ds) = max (worst ds) (done_status d)
 
 -- a count with one more, where there is one; it stays below 2^64
 abbrev pub one_more : Bool → ℕ → ℕ
@@ -28,7 +32,7 @@ pub data IsStatus (status : ℕ) : Type 0 where
   -- a fault of the words
   Refused : status ≡ 64 → IsStatus status
   -- so the files' judgements ended
-  Judged : (endings : List Ending) → 0 < length endings → status ≡ worst endings → IsStatus status
+  Judged : (files : List Done) → 0 < length files → status ≡ worst files → IsStatus status
   -- what stands after the files' answers could not be written
   Unwritten : status ≡ 4 → IsStatus status
   -- a text was asked for

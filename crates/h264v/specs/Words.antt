@@ -25,7 +25,9 @@ abbrev pub with_flag : App → Text → App
 with_flag a option = with_rule a (flag_rule option)
 
 abbrev pub with_flags : App → App
-with_flags a = with_flag (with_flag (with_flag (with_flag (with_flag a (codes "explain")) (codes "json")) (codes "quiet")) (codes "progress")) (codes "y4m")
+with_flags a =
+    with_flag (with_flag (with_flag (with_flag (with_flag (with_flag a (codes "explain")) (codes "json")) (codes "quiet")) (codes "progress")) (codes "y4m"))
+    (codes "strict")
 
 abbrev pub with_value : App → Text → ℕ → App
 with_value a option letter = with_rule a (value_rule option letter)

@@ -121,6 +121,7 @@ impl<'a> Wanted<'a> {
             || self.has("quiet")
             || self.has("progress")
             || self.has("y4m")
+            || self.has("strict")
             || self.value("output").is_some()
             || self.value("picture").is_some()
             || self.value("mb").is_some()
@@ -193,6 +194,9 @@ fn is_shown(option: &str, name: &str) -> bool {
     }
     if option == "y4m" {
         return name == "decode";
+    }
+    if option == "strict" {
+        return name == "check";
     }
     if option == "output" {
         return name == "decode" || name == "report";
@@ -282,6 +286,10 @@ const PROGRESS_HELP: &str = "Tells bytes, pictures and frames a second on standa
 /// What the help says of `--y4m`.
 const Y4M_HELP: &str = "Writes YUV4MPEG2, which players open, in the place of bare samples";
 
+/// What the help says of `--strict`.
+const STRICT_HELP: &str =
+    "Judges further rules of H.264 beside the verdict, and says which are broken";
+
 /// What the help says of `--output` and its value.
 const OUTPUT_HELP: (&str, &str) = (
     "OUTPUT",
@@ -320,7 +328,14 @@ fn with_flags<'a>(
     let third = with_flag(alloc, second, "quiet", quiet, !is_shown("quiet", name))?;
     let hidden = !is_shown("progress", name);
     let fourth = with_flag(alloc, third, "progress", PROGRESS_HELP, hidden)?;
-    with_flag(alloc, fourth, "y4m", Y4M_HELP, !is_shown("y4m", name))
+    let fifth = with_flag(alloc, fourth, "y4m", Y4M_HELP, !is_shown("y4m", name))?;
+    with_flag(
+        alloc,
+        fifth,
+        "strict",
+        STRICT_HELP,
+        !is_shown("strict", name),
+    )
 }
 
 /// The command with the options that take a value.

@@ -3,11 +3,13 @@
 
 ghost use Rattle.std.specs.Prelude.{◌≡◌, ◌-◌, ◌<◌, ◌^◌};
 ghost use Rattle.h264_base.specs.Call.{HasRoom};
+ghost use Rattle.h264v.specs.More.{done_status};
 
 use crate::command_line::Task;
 use crate::explaining::guide_of;
 use crate::files::{OpenedFiles, Opener, Seen};
 use crate::options::Options;
+use crate::strictly::{is_broken, put_strict_lines, put_strict_objects};
 use h264_base::{Mode, Stop};
 use h264_report::head::Head;
 use h264_report::pages::{
@@ -16,8 +18,8 @@ use h264_report::pages::{
 };
 use h264_report::survey::{Meter, Narrowed, Survey, Surveyed};
 use h264_report::{
-    Device, Ending, Form, LineSink, Listing, PageSink, Pen, TrailSink, WriteDevice, Y4mSink,
-    YuvSink, put_line, put_text, told_answer, verdict_line,
+    Device, Ending, Form, LineSink, Listing, PageSink, Pen, Strict, StrictSink, TrailSink,
+    WriteDevice, Y4mSink, YuvSink, put_line, put_text, told_answer, verdict_line,
 };
 use h264_verify::{FrameSink, run};
 use std::alloc::Global;
@@ -35,10 +37,37 @@ pub struct Job<'a> {
     pub prefix: &'a str,
 }
 
+/// How the judgement of a file ended.
+#[derive(Clone, Copy)]
+pub struct Done {
+    pub ending: Ending,
+    /// A further rule of `--strict` is broken.
+    pub is_broken: bool,
+}
+
+/// The exit status of a stream that breaks a further rule of `--strict`, and has no worse answer.
+const BROKEN: u8 = 1;
+
+impl Done {
+    /// The exit status: 0 yes, 1 no or a further rule broken, 2 outside, 3 memory, 4 a device failed.
+    pub fn status(self) -> u8
+        ensures { result ≡ done_status self }
+    {
+        let status = self.ending.status();
+        if self.is_broken {
+            status.max(BROKEN)
+        } else {
+            status
+        }
+    }
+}
+
 /// What was found of a file.
 #[derive(Drop)]
 pub struct Found {
     pub answer: Answer,
+    /// What the further rules found, where they are asked for.
+    pub strict: Option<Strict>,
     pub survey: Survey,
     pub seen: Seen,
     /// What stands before the last lines.
@@ -65,6 +94,16 @@ fn listing_of(job: &Job<'_>) -> Listing {
         Task::Frames => Listing::Frames,
         Task::Elements => Listing::Elements,
         _ => Listing::Nothing,
+    }
+}
+
+impl Found {
+    /// Whether a further rule is broken.
+    fn is_broken(&self) -> bool {
+        match &self.strict {
+            Some(strict) => is_broken(strict),
+            None => false,
+        }
     }
 }
 
@@ -103,6 +142,38 @@ fn tell_end<S: FrameSink + Drop, M: Meter + Drop>(surveyed: &mut Surveyed<S, M>)
     surveyed.meter.end(byte, pictures, frames);
 }
 
+/// The lines of the last elements, before a no; no text before another answer. None where there is no memory for them.
+fn trail_lines(alloc: Global, answer: Answer, sink: &TrailSink) -> Option<String> {
+    match answer {
+        Err(Stop::No { .. }) => sink.trail().lines(alloc).ok(),
+        _ => Some(String::new(alloc)),
+    }
+}
+
+/// Judges the open file for its last elements, and by the further rules.
+fn check_strictly<O: Opener + Drop, M: Meter + Drop>(
+    job: &Job<'_>,
+    files: &mut OpenedFiles<O>,
+    meter: M,
+) -> Option<Found>
+    requires { files.old.failures < 2 ^ 64 - 1 }
+{
+    let Ok(trail) = TrailSink::new(job.alloc) else {
+        return None;
+    };
+    let (surveyed, answer) = judge(job, files, StrictSink::new(trail), meter)?;
+    let Surveyed { sink, survey, .. } = surveyed;
+    let StrictSink { sink, strict } = sink;
+    let before = trail_lines(job.alloc, answer, &sink)?;
+    Some(Found {
+        answer,
+        strict: Some(strict),
+        survey,
+        seen: files.seen,
+        before,
+    })
+}
+
 /// Judges the open file for its last elements.
 pub fn check_file<O: Opener + Drop, M: Meter + Drop>(
     job: &Job<'_>,
@@ -111,20 +182,18 @@ pub fn check_file<O: Opener + Drop, M: Meter + Drop>(
 ) -> Option<Found>
     requires { files.old.failures < 2 ^ 64 - 1 }
 {
+    if job.options.strict {
+        return check_strictly(job, files, meter);
+    }
     let Ok(sink) = TrailSink::new(job.alloc) else {
         return None;
     };
     let (surveyed, answer) = judge(job, files, sink, meter)?;
     let Surveyed { sink, survey, .. } = surveyed;
-    let before = match answer {
-        Err(Stop::No { .. }) => match sink.trail().lines(job.alloc) {
-            Ok(lines) => lines,
-            Err(_) => return None,
-        },
-        _ => String::new(job.alloc),
-    };
+    let before = trail_lines(job.alloc, answer, &sink)?;
     Some(Found {
         answer,
+        strict: None,
         survey,
         seen: files.seen,
         before,
@@ -147,6 +216,7 @@ fn list_all<O: Opener + Drop, W: Device, M: Meter + Drop>(
     let Surveyed { sink, survey, .. } = surveyed;
     Some(Found {
         answer: told_answer(answer, sink.broke_off()),
+        strict: None,
         survey,
         seen: files.seen,
         before: String::new(job.alloc),
@@ -186,6 +256,7 @@ fn list_chosen<O: Opener + Drop, W: Device>(
     let Narrowed { sink, survey, .. } = narrowed;
     Some(Found {
         answer: told_answer(answer, sink.broke_off()),
+        strict: None,
         survey,
         seen: files.seen,
         before: String::new(job.alloc),
@@ -231,6 +302,7 @@ fn decode_samples<O: Opener + Drop, W: Device, M: Meter + Drop>(
     let Surveyed { sink, survey, .. } = surveyed;
     Some(Found {
         answer: told_answer(answer, sink.broke_off()),
+        strict: None,
         survey,
         seen: files.seen,
         before: String::new(job.alloc),
@@ -273,6 +345,7 @@ fn decode_y4m<O: Opener + Drop, W: Device, M: Meter + Drop>(
     let before = size_line(job.alloc, sink.changed_size())?;
     Some(Found {
         answer: told_answer(answer, sink.broke_off()),
+        strict: None,
         survey,
         seen: files.seen,
         before,
@@ -324,6 +397,7 @@ pub fn info_file<O: Opener + Drop, M: Meter + Drop>(
     let before = String::from_str(job.alloc, page.as_str()).ok()?;
     Some(Found {
         answer,
+        strict: None,
         survey,
         seen: files.seen,
         before,
@@ -351,6 +425,9 @@ fn put_last_lines(job: &Job<'_>, page: &mut Page, found: &Found) {
             finding_of(found),
             guide_of(found.answer),
         );
+    }
+    if let Some(strict) = &found.strict {
+        put_strict_lines(page, strict);
     }
     match verdict_line(job.alloc, mode_of(job.task), found.answer) {
         Ok(line) => page.put(line.as_str()),
@@ -405,11 +482,15 @@ fn put_end(job: &Job<'_>, page: &mut Page, found: &Found) {
         page.text_field("text", found.before.as_str().trim_end());
         page.close_object();
     }
+    if let Some(strict) = &found.strict {
+        put_strict_objects(page, job.file, strict);
+    }
     put_verdict_object(job, page, found);
 }
 
 /// Writes the end of a judgement: lines, or an object of JSON; nothing where quiet is asked.
-pub fn put_found<W: Device>(job: &Job<'_>, out: &mut W, found: &Found) -> Ending {
+pub fn put_found<W: Device>(job: &Job<'_>, out: &mut W, found: &Found) -> Done {
+    let is_broken = found.is_broken();
     let mut page = Page::new(job.alloc);
     if !job.options.quiet {
         put_end(job, &mut page, found);
@@ -418,19 +499,21 @@ pub fn put_found<W: Device>(job: &Job<'_>, out: &mut W, found: &Found) -> Ending
     lines.put_lines(job.prefix, page.as_str());
     if page.is_short() || lines.is_short() {
         let stop = short_of(found.answer);
-        return Ending {
+        let ending = Ending {
             answer: Err(stop),
             written: put_line(job.prefix, unjudged_line(stop), out),
         };
+        return Done { ending, is_broken };
     }
-    Ending {
+    let ending = Ending {
         answer: found.answer,
         written: put_text(out, lines.as_str()),
-    }
+    };
+    Done { ending, is_broken }
 }
 
 /// Writes that a file was not judged, by an answer of memory or of a device.
-pub fn put_unjudged<W: Device>(job: &Job<'_>, out: &mut W, stop: Stop) -> Ending {
+pub fn put_unjudged<W: Device>(job: &Job<'_>, out: &mut W, stop: Stop) -> Done {
     let mut page = Page::new(job.alloc);
     page.open_object(job.file, "verdict");
     put_answer_fields(&mut page, Err(stop));
@@ -442,9 +525,13 @@ pub fn put_unjudged<W: Device>(job: &Job<'_>, out: &mut W, stop: Stop) -> Ending
     } else {
         put_line(job.prefix, unjudged_line(stop), out)
     };
-    Ending {
+    let ending = Ending {
         answer: Err(stop),
         written,
+    };
+    Done {
+        ending,
+        is_broken: false,
     }
 }
 
@@ -511,6 +598,7 @@ fn judge_pictures<O: Opener + Drop, W: Device, M: Meter + Drop>(
     let is_whole = !sink.broke_off() && sink.failures == 0;
     let found = Found {
         answer,
+        strict: None,
         survey,
         seen: files.seen,
         before: String::new(job.alloc),

@@ -35,6 +35,7 @@ mod session_tests;
 mod set_tests;
 #[cfg(test)]
 mod stream_tests;
+mod strictly;
 #[cfg(test)]
 mod target_tests;
 #[cfg(test)]

@@ -4,8 +4,7 @@
 ghost use Rattle.std.specs.Prelude.{◌≡◌, ℕ, ◌==◌, ◌-◌, ◌<◌, ◌^◌, ◌++◌, ◌⊎◌, true, false, max, map, not, nat_le, List, length, codes};
 ghost use Rattle.h264_report.specs.Sent.{Sends, Takes};
 ghost use Rattle.h264_report.specs.Told.{ended};
-ghost use Rattle.h264_report.specs.Written.{status_of};
-ghost use Rattle.h264_report.specs.declared.judging.Ending.{Ending as EndingView};
+ghost use Rattle.h264v.specs.declared.job.Done.{Done as DoneView};
 ghost use Rattle.h264v.specs.Explained.{IsExplained};
 ghost use Rattle.h264v.specs.More.{worst, one_more, IsStatus};
 
@@ -14,13 +13,14 @@ use crate::command_line::{Task, Wanted};
 use crate::explaining::{entry_labelled, put_entry};
 use crate::files::{Files, OpenedFiles, Opener};
 use crate::job::{
-    Found, Job, check_file, decode_file, info_file, list_file, put_found, put_unjudged, report_file,
+    Done, Found, Job, check_file, decode_file, info_file, list_file, put_found, put_unjudged,
+    report_file,
 };
 use crate::options::{Options, Refusal, options_of};
 use h264_base::Stop;
 use h264_report::pages::Page;
 use h264_report::survey::Meter;
-use h264_report::{Device, Ending, WriteDevice, put_line, put_memory, put_text};
+use h264_report::{Device, WriteDevice, put_line, put_memory, put_text};
 use std::alloc::Global;
 use std::io;
 use std::io::Write;
@@ -200,7 +200,7 @@ fn do_file<O: Opener + Drop, W: Device, E: Device, M: Meter + Drop>(
     out: &mut W,
     err: &mut E,
     meter: M,
-) -> Ending
+) -> Done
     requires { files.old.failures < 2 ^ 64 - 1 }
 {
     if files.open(system_name(job.file)).is_err() {
@@ -219,7 +219,7 @@ fn judge_opened<O: Opener + Drop, W: Device, E: Device, M: Meter + Drop>(
     out: &mut W,
     err: &mut E,
     meter: M,
-) -> Ending
+) -> Done
     requires { files.old.failures < 2 ^ 64 - 1 }
 {
     let found = find(job, files, out, meter);
@@ -232,7 +232,7 @@ fn put_answer<W: Device, E: Device>(
     found: Option<Found>,
     out: &mut W,
     err: &mut E,
-) -> Ending {
+) -> Done {
     match (found, answers_aside(job.task)) {
         (Some(found), true) => put_found(job, err, &found),
         (Some(found), false) => put_found(job, out, &found),
@@ -273,7 +273,7 @@ fn do_named<O: Opener + Drop, W: Device, E: Device, M: Meter + Drop>(
     out: &mut W,
     err: &mut E,
     meter: M,
-) -> Ending
+) -> Done
     requires { files.old.failures < 2 ^ 64 - 1 }
 {
     if job.options.json {
@@ -301,7 +301,7 @@ fn do_files<O: Opener + Drop, W: Device, E: Device, M: Meter + Drop + Copy>(
     err: &mut E,
     meter: M,
 ) -> u8
-    ensures { ((endings : List EndingView) × (length endings ≡ length names.now) × (result ≡ worst endings)) ⊎ (result ≡ 4) }
+    ensures { ((done : List DoneView) × (length done ≡ length names.now) × (result ≡ worst done)) ⊎ (result ≡ 4) }
 {
     let mut files = OpenedFiles::new(opener);
     let mut totals = Totals::none();
@@ -332,7 +332,7 @@ fn do_one<O: Opener + Drop, W: Device, E: Device, M: Meter + Drop>(
     out: &mut W,
     err: &mut E,
     meter: M,
-) -> Ending {
+) -> Done {
     let mut files = OpenedFiles::new(opener);
     let done = do_file(job, &mut files, out, err, meter);
     blame_file(job.alloc, &mut files, err, job.file);
@@ -357,7 +357,7 @@ fn do_output<O: Opener + Maker + Drop, E: Device, M: Meter + Drop>(
     output: &str,
     err: &mut E,
     meter: M,
-) -> Ending {
+) -> Done {
     let mut files = OpenedFiles::new(opener);
     if files.open(system_name(job.file)).is_err() {
         let done = put_unjudged(job, err, Stop::Read);

@@ -13,6 +13,7 @@ pub struct Options<'a> {
     pub quiet: bool,
     pub progress: bool,
     pub y4m: bool,
+    pub strict: bool,
     /// The file that is written in the place of standard output.
     pub output: Option<&'a str>,
     pub choice: Choice,
@@ -72,6 +73,9 @@ fn target_of(name: Option<&str>) -> Result<Target, Refusal> {
 fn misplaced(task: Task, options: &Options<'_>, names_target: bool) -> Option<Refusal> {
     if options.y4m && task != Task::Decode {
         return Some("--y4m belongs to decode");
+    }
+    if options.strict && task != Task::Check {
+        return Some("--strict belongs to check");
     }
     if options.output.is_some() && task != Task::Decode && task != Task::Report {
         return Some("--output belongs to decode and report");
@@ -135,6 +139,7 @@ pub fn options_of<'a>(wanted: &Wanted<'a>) -> Result<Options<'a>, Refusal> {
         quiet: wanted.has("quiet"),
         progress: wanted.has("progress"),
         y4m: wanted.has("y4m"),
+        strict: wanted.has("strict"),
         output: wanted.value("output"),
         choice: choice_of(wanted)?,
         target: target_of(wanted.value("target"))?,
