@@ -1,5 +1,5 @@
 -- Lines, bytes and elements of calls, with one call more.
-use Rattle.std.proofs.Common.{◌≡◌, ℕ, ◌+◌, List, [], ◌∷◌, ◌++◌, sym, ap, ◌∙◌, arith, Option}
+use Rattle.std.proofs.Common.{◌≡◌, ℕ, ◌+◌, List, [], ◌∷◌, ◌++◌, sym, ap, ◌∙◌, arith}
 use Rattle.std.proofs.lemmas.List.{append_assoc, append-nil}
 use Rattle.h264_base.specs.Call.{Call}
 use Rattle.h264_report.specs.Told.{ended, line_of, lines_of, counted, counted_of, bytes_in, bytes_of, elements_in, elements_of}

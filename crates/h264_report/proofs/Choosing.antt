@@ -1,13 +1,13 @@
 -- What the sink inside took, from one call to the next.
-use Rattle.std.proofs.Common.{◌≡◌, Bool, true, false, ℕ, ℤ, List, [], ◌∷◌, ◌++◌, Option, None, Some, is_some, refl, sym, ap, ◌∙◌, subst}
+use Rattle.std.proofs.Common.{◌≡◌, true, false, ℕ, ℤ, List, [], ◌∷◌, ◌++◌, Option, None, Some, is_some, refl, sym, ap, ◌∙◌, subst}
 use Rattle.std.proofs.lemmas.List.{append-nil, append_assoc}
-use Rattle.h264_base.specs.Call.{Call, OfUnit, OfSlice, OfElement}
+use Rattle.h264_base.specs.Call.{Call, OfSlice, OfElement}
 use Rattle.h264_base.specs.declared.element_name.ElementName.{ElementName}
 use Rattle.h264_base.specs.declared.mode.SliceType.{SliceType}
 use Rattle.h264_report.specs.declared.survey.reading.Reading.{Reading}
 use Rattle.h264_report.specs.declared.survey.narrowed.Choice.{Choice}
 use Rattle.h264_report.specs.declared.lines.UnitCall.{UnitCall}
-use Rattle.h264_report.specs.Chosen.{after_element, is_chosen, Choosing, at_first, next, held, left_of, left_by, choosing_after, left_in, HoldsLeft, HoldsFront}
+use Rattle.h264_report.specs.Chosen.{after_element, is_chosen, Choosing, at_first, next, held, left_by, choosing_after, left_in, HoldsLeft, HoldsFront}
 
 module _ (choice : Choice) where
   pub after-more : (s : Choosing) (calls : List Call) (call : Call) → choosing_after choice s (calls ++ call ∷ []) ≡ next choice (choosing_after choice s calls) call

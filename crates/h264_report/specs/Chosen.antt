@@ -1,7 +1,7 @@
 -- Which calls of a stream are left where one picture or one macroblock is chosen. To be read beside docs/OUTPUT.md.
-use Rattle.std.specs.Prelude.{ℕ, ◌+◌, ◌-◌, ◌^◌, ◌==◌, ◌&&◌, Bool, true, false, not, nat_lt, nat_le, if◌then◌else◌, List, [], ◌∷◌, ◌++◌}
+use Rattle.std.specs.Prelude.{ℕ, ◌+◌, ◌-◌, ◌^◌, ◌==◌, ◌&&◌, Bool, true, false, nat_lt, nat_le, if◌then◌else◌, List, [], ◌∷◌, ◌++◌}
 use Rattle.std.specs.Prelude.{ℤ, pos, negsuc, Option, None, Some, ◌≡◌, min, option_map, is_some}
-use Rattle.h264_base.specs.Call.{Call, OfUnit, OfSlice, OfElement, OfFrame}
+use Rattle.h264_base.specs.Call.{Call, OfUnit, OfSlice, OfElement}
 use Rattle.h264_base.specs.declared.element_name.ElementName.{ElementName}
 use Rattle.h264_base.specs.declared.element_name.ElementName.TheVariants as names
 use Rattle.h264_report.specs.declared.survey.reading.Reading.{Reading}

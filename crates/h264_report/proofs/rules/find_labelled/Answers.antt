@@ -1,4 +1,4 @@
-use Rattle.std.proofs.Common.{◌≡◌, sym, ◌∙◌}
+use Rattle.std.proofs.Common.{sym, ◌∙◌}
 use Rattle.std.specs.Cmp.Lexicographic.{other_text}
 use Rattle.h264_report.proofs.Entries.{one_more_label}
 use Rattle.h264_report.proofs.rules.find_labelled.Goals as goal

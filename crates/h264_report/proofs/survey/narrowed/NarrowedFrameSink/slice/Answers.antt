@@ -1,4 +1,4 @@
-use Rattle.std.proofs.Common.{sym, ◌∙◌, Option, None, Some, is_some, ◌≡◌, true, false, refl, w32, SFits}
+use Rattle.std.proofs.Common.{sym, ◌∙◌, w32, SFits}
 use Rattle.std.proofs.lemmas.Int.{to_z-of_z}
 use Rattle.h264_report.proofs.Choosing.{slice-held, slice-passed, slice-taken, slice-refused}
 use Rattle.h264_report.proofs.survey.narrowed.NarrowedFrameSink.slice.Goals as goal
