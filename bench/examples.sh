@@ -1,5 +1,5 @@
 #!/bin/sh
-# Runs every example of docs/EXAMPLES.md and compares the last line that the program prints.
+# Runs every example of docs/EXAMPLES.md and compares the last line that the program prints, or with --strict the first one that begins with `strict: bit`.
 #
 #   bench/examples.sh [PROGRAM]      PROGRAM is h264v on the path where it is left out
 set -u
@@ -8,11 +8,14 @@ page=$(dirname "$0")/../docs/EXAMPLES.md
 stream=$(mktemp); trap 'rm -f "$stream"' EXIT
 same=0; different=0
 while IFS='|' read -r _ label _ run line _; do
-  command=$(printf '%s' "$run" | sed -n 's/^ *\([a-z]*\): .*/\1/p')
+  command=$(printf '%s' "$run" | sed -n 's/^ *\([a-z -]*\): .*/\1/p')
   want=$(printf '%s' "$line" | sed -n 's/^ *`\(.*\)` *$/\1/p')
   [ -n "$command" ] && [ -n "$want" ] || continue
   printf '%s' "$run" | sed -n 's/^[^`]*`\([0-9a-f]*\)`.*/\1/p' | xxd -r -p >"$stream"
-  got=$("$program" "$command" "$stream" 2>/dev/null | tail -n 1)
+  case $command in
+  *--strict) got=$("$program" $command "$stream" 2>/dev/null | grep -m 1 '^strict: bit') ;;
+  *) got=$("$program" $command "$stream" 2>/dev/null | tail -n 1) ;;
+  esac
   if [ "$got" = "$want" ]; then same=$((same + 1)); else different=$((different + 1)); echo "$label: want $want, got $got"; fi
 done <"$page"
 echo "$same agree, $different differ"

@@ -7,6 +7,7 @@ _h264v() {
     return
   fi
   case $command in
+  check) options="$options --strict" ;;
   decode) options="$options --y4m --output" ;;
   report) options="$options --output" ;;
   elements) options="$options --picture --mb" ;;
