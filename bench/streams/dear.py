@@ -234,7 +234,7 @@ def gaps_stream(count):
 
 
 def widest_gaps(size):
-    return gaps_stream(20 * size), 20 * size + 1
+    return gaps_stream(8000 * size), 8000 * size + 1
 
 
 def greatest_stream(count):
