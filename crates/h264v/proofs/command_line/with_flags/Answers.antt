@@ -10,4 +10,5 @@ returns-clause-app c =
     let two = c.in_ok-second.ensures.app ∙ ap (λ (a : App). with_flag a (codes "json")) one in
     let three = c.in_ok-third.ensures.app ∙ ap (λ (a : App). with_flag a (codes "quiet")) two in
     let four = c.in_ok-fourth.ensures.app ∙ ap (λ (a : App). with_flag a (codes "progress")) three in
-    IfOk-weaker c.with_flag-5.result _ _ (λ r h. h ∙ ap (λ (a : App). with_flag a (codes "y4m")) four) c.with_flag-5.ensures.app
+    let five = c.in_ok-fifth.ensures.app ∙ ap (λ (a : App). with_flag a (codes "y4m")) four in
+    IfOk-weaker c.with_flag-6.result _ _ (λ r h. h ∙ ap (λ (a : App). with_flag a (codes "strict")) five) c.with_flag-6.ensures.app
