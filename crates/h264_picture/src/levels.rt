@@ -24,13 +24,17 @@ pub(crate) fn residuals_of(slice: &SliceContext, mb: &Macroblock, out: &mut Resi
     residuals(mb, slice.chroma_qp_index_offset, out).is_ok()
 }
 
+/// No residual. One for all macroblocks without levels, so that none of them clears its own.
+static NO_RESIDUALS: Residuals = Residuals {
+    y: None,
+    cb: None,
+    cr: None,
+};
+
 /// The residual of a macroblock without levels.
-pub(crate) fn no_residuals() -> Residuals
-    ensures { (l : Levels) → AreNone l → AreResiduals l result }
+#[inline]
+pub(crate) fn no_residuals() -> &'static Residuals
+    ensures { (l : Levels) → AreNone l → AreResiduals l result.now }
 {
-    Residuals {
-        y: None,
-        cb: None,
-        cr: None,
-    }
+    &NO_RESIDUALS
 }

@@ -14,6 +14,7 @@ ghost use Rattle.h264_recon.specs.Placed.{ArePlaced, PointsInto, weights_by};
 ghost use Rattle.h264_recon.specs.Predicted.{prediction_in};
 
 use crate::in_place::go_on;
+use crate::levels::residuals_of;
 use crate::sequence::Sequence;
 use h264_deblock::Coded;
 use h264_mbsyntax::{Kind, Macroblock as Read};
@@ -89,10 +90,11 @@ fn is_whole(read: &Read) -> bool
 }
 
 impl Sequence {
-    ghost use Rattle.std.specs.Prelude.{Option, [], ◌∷◌, ◌++◌};
+    ghost use Rattle.std.specs.Prelude.{◌≤◌, Option, [], ◌∷◌, ◌++◌};
     ghost use Rattle.h264_scale.specs.Macroblock.{AreResiduals};
     ghost use Rattle.h264_picture.specs.Holds.{KeepsPlace, KeepsSyntax, HoldsIn};
     ghost use Rattle.h264_picture.specs.Making.{Making, HasSamples, MakesIn};
+    ghost use Rattle.h264_picture.specs.Levels.{transform_fits};
 
     /// Makes the samples of the macroblock in its place.
     pub(crate) fn make(&mut self, slice: &SliceContext, residuals: &Residuals)
@@ -132,5 +134,32 @@ impl Sequence {
             self.column,
             self.row,
         );
+    }
+
+    /// Makes the samples of the macroblock that was read in its place, if each value of its transform is in range. A function of its own, so that its residual
+    /// is cleared once.
+    #[inline(never)]
+    pub(crate) fn make_read(&mut self, slice: &SliceContext) -> bool
+        requires next { self.old.next < self.old.size }
+        requires qp { self.old.mb.qp ≤ 51 }
+        ensures same { KeepsPlace self.old self.new }
+        ensures syntax { KeepsSyntax self.old self.new }
+        ensures makes { (making : Option Making) → MakesIn making slice.now self.old → MakesIn making slice.now self.new }
+        ensures range { (coded : CodedMacroblock) → HoldsMacroblock self.old.mb coded → result ≡ transform_fits slice.now coded }
+        ensures samples { result ≡ true → (width size : ℕ) (making : Option Making) (picture : List CodedMacroblock) (coded : CodedMacroblock) →
+            HoldsIn width size picture self.old → HasSamples making picture self.old → MakesIn making slice.now self.old →
+            HoldsMacroblock self.old.mb coded → coded.slice ≡ slice.now.number → IsPossible width slice.now picture coded.prediction →
+            HasSamples making (picture ++ coded ∷ []) self.new }
+    {
+        let mut residuals = Residuals {
+            y: None,
+            cb: None,
+            cr: None,
+        };
+        if !residuals_of(slice, &self.mb, &mut residuals) {
+            return false;
+        }
+        self.make(slice, &residuals);
+        true
     }
 }

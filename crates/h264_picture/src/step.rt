@@ -5,7 +5,7 @@ ghost use Rattle.std.specs.Prelude.{◌≡◌, ◌+◌, ◌*◌, ◌<◌, ◌≤
 ghost use Rattle.h264_base.specs.Call.{HasRoom, IsQuiet};
 ghost use Rattle.h264_vectors.specs.Derived.{has_picture as has_picture_of};
 
-use crate::levels::{no_residuals, residuals_of};
+use crate::levels::no_residuals;
 use crate::sequence::Sequence;
 use h264_base::{ElementName, Elements, Rule, SliceType, Stop};
 use h264_bits::{Bits, check, look, read_ue};
@@ -97,10 +97,8 @@ impl Sequence {
         check(0 < left, Rule::MbPast, ahead.bit)?;
         let qp = self.mb.qp;
         let bit = read_macroblock(bits, &self.near, slice, qp, &mut self.mb, sink)?;
-        let mut residuals = no_residuals();
-        let fits = residuals_of(slice, &self.mb, &mut residuals);
+        let fits = self.make_read(slice);
         check(fits, Rule::TransformRange, bit)?;
-        self.make(slice, &residuals);
         self.keep();
         Ok(Some(Standing::Next))
     }
@@ -134,7 +132,7 @@ impl Sequence {
         let fits = vector_fits(slice.vector_limit, vector);
         check(fits, Rule::VectorRange, bit)?;
         skip_macroblock(slice, vector, &mut self.mb);
-        self.make(slice, &no_residuals());
+        self.make(slice, no_residuals());
         self.keep();
         Ok(Some(Standing::Skipping { bit, more }))
     }

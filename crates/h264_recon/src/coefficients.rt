@@ -29,28 +29,28 @@ pub(crate) fn shown4(stands: &[i16; 4], total: u8) -> [i16; 4]
     *stands
 }
 
-/// Whether no block has a coefficient.
+/// Whether no block has a coefficient, with no branch.
+#[inline(always)]
 pub(crate) fn are_blank(totals: &[u8]) -> bool
     ensures { result ≡ are_blank totals.now }
 {
+    let mut blank = true;
     for total in totals {
-        if *total != 0 {
-            return false;
-        }
+        blank &= *total == 0;
     }
-    true
+    blank
 }
 
-/// Whether no level is other than 0.
+/// Whether no level is other than 0, with no branch.
+#[inline(always)]
 pub(crate) fn are_zero(levels: &[i16; 4]) -> bool
     ensures { result ≡ are_zero levels.now }
 {
+    let mut zero = true;
     for level in levels {
-        if *level != 0 {
-            return false;
-        }
+        zero &= *level == 0;
     }
-    true
+    zero
 }
 
 /// QP'C by QP_Y and chroma_qp_index_offset (8.5.8).
