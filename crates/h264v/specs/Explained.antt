@@ -28,7 +28,8 @@ rule_lines e =
 -- FEATURE (outside), and lines of what stands in the stream, of the bit and of what to do
 abbrev pub feature_lines : FeatureEntry → List ℕ
 feature_lines e =
-    text_of e.feature ++ (codes " (outside)\nstands: " ++ (e.stands.now ++ (codes "\nbit: " ++ (e.bit.now ++ (codes "\nadvice: " ++ (e.advice.now ++ codes "\n"))))))
+    text_of e.feature ++ (codes " (outside)\nstands: " ++ (e.stands.now ++ (codes "\nbit: " ++ (e.bit.now
+    ++ (codes "\nadvice: " ++ (e.advice.now ++ codes "\n"))))))
 
 -- {"kind":"rule","label":L,"clause":C,"breaks":B,"bit":N,"cause":W}
 abbrev pub rule_object : RuleEntry → List ℕ

@@ -1,13 +1,10 @@
-//! What `check` answers, whole, byte by byte and at every cut. The expected bits are counted from the lengths of the elements before.
+//! What `check` answers. The expected bits are counted from the lengths of the elements before.
 #![tactic(auto)]
 
-use crate::tests::{Case, answer_of, check, check_cases, whole};
-use std::alloc::Global;
-use std::process::Abort;
-use std::test::Fail;
+use crate::tests::Case;
 
 /// Slice data, and the ends of pictures.
-const SLICE_DATA: [Case; 18] = [
+pub const SLICE_DATA: [Case; 18] = [
     // No slice at all.
     Case {
         name: "no picture",
@@ -136,8 +133,55 @@ const SLICE_DATA: [Case; 18] = [
     },
 ];
 
+/// Samples, a large picture, and the elements before a no.
+pub const SAMPLES: [Case; 4] = [
+    // An I_PCM macroblock.
+    Case {
+        name: "samples",
+        stream: "000000016742c00ada710000000168ce388000000165888486800102030405060708090a0b0c0d0e0f101112131415161718191a1b1c1d1e1f2021222324252627\
+            28292a2b2c2d2e2f303132333435363738393a3b3c3d3e3f404142434445464748494a4b4c4d4e4f505152535455565758595a5b5c5d5e5f606162636465666768696a6b6c6d\
+            6e6f707172737475767778797a7b7c7d7e7f808182838485868788898a8b8c8d8e8f909192939495969798999a9b9c9d9e9fa0a1a2a3a4a5a6a7a8a9aaabacadaeafb0b1b2b3\
+            b4b5b6b7b8b9babbbcbdbebfc0c1c2c3c4c5c6c7c8c9cacbcccdcecfd0d1d2d3d4d5d6d7d8d9dadbdcdddedfe0e1e2e3e4e5e6e7e8e9eaebecedeeeff0f1f2f3f4f5f6f7f8f9\
+            fafbfcfdfeff0102030405060708090a0b0c0d0e0f101112131415161718191a1b1c1d1e1f202122232425262728292a2b2c2d2e2f303132333435363738393a3b3c3d3e3f40\
+            4142434445464748494a4b4c4d4e4f505152535455565758595a5b5c5d5e5f606162636465666768696a6b6c6d6e6f707172737475767778797a7b7c7d7e7f808180",
+        text: "yes: units 3 pictures 1 frames 1\n",
+        status: 0,
+    },
+    Case {
+        name: "samples cut",
+        stream: "000000016742c00ada710000000168ce388000000165888486800102030405060708090a0b0c0d0e0f101112131415161718191a1b1c1d1e1f2021222324252627\
+            28292a2b2c2d2e2f303132333435363738393a3b3c3d3e3f404142434445464748494a4b4c4d4e4f505152535455565758595a5b5c5d5e5f606162636465666768696a6b6c6d\
+            6e6f707172737475767778797a7b7c7d7e7f808182838485868788898a8b8c8d8e8f909192939495969798999a9b9c9d9e9fa0a1a2a3a4a5a6a7a8a9aaabacadaeafb0b1b2b3\
+            b4b5b6b7b8b9babbbcbdbebfc0c1c2c3c4c5c6c7c8c9cacbcccdcecfd0d1d2d3d4d5d6d7d8d9dadbdcdddedfe0e1e2e3e4e5e6e7e8e9eaebecedeeeff0f1f2f3f4f5f6f7f8f9\
+            fafbfcfdfeff0102030405060708090a0b0c0d0e0f101112131415161718191a1b1c1d1e1f202122232425262728292a2b2c2d2e2f303132333435363738393a3b3c3d3e3f40\
+            4142434445464748494a4b4c4d4e4f505152535455565758595a5b5c5d5e5f606162636465666768696a6b6c6d6e6f707172737475767778797a7b7c7d7e7f80",
+        text: "no: bit 3272: CodeWord (clause 9.1)\n",
+        status: 1,
+    },
+    // A picture of 256 times 144 macroblocks, of which nearly all is wanting.
+    Case {
+        name: "large picture",
+        stream: "000000016742c033da0040004848078c19500000000168ce388000000165888493c0",
+        text: "no: bit 272: Incomplete (clause 7.4.1)\n",
+        status: 1,
+    },
+    // The last 16 elements stand before a no, the oldest first.
+    Case {
+        name: "last elements",
+        stream: "000000016742c00ada710000000168ce388000000165888493",
+        text: "element pic_init_qs_minus26 bit 131 value 0\nelement chroma_qp_index_offset bit 132 value 0\n\
+            element deblocking_filter_control_present_flag bit 133 value 0\nelement constrained_intra_pred_flag bit 134 value 0\n\
+            element redundant_pic_cnt_present_flag bit 135 value 0\nelement first_mb_in_slice bit 176 value 0\n\
+            element slice_type bit 177 value 7\nelement pic_parameter_set_id bit 184 value 0\nelement frame_num bit 185 value 0\n\
+            element idr_pic_id bit 189 value 0\nelement no_output_of_prior_pics_flag bit 190 value 0\n\
+            element long_term_reference_flag bit 191 value 0\nelement slice_qp_delta bit 192 value 0\nelement mb_type bit 193 value 3\n\
+            element intra_chroma_pred_mode bit 198 value 0\nelement mb_qp_delta bit 199 value 0\nno: bit 200: ResidualWord (clause 9.2)\n",
+        status: 1,
+    },
+];
+
 /// Rules that units, headers and their order break, and vectors.
-const RULES: [Case; 12] = [
+pub const RULES: [Case; 12] = [
     Case {
         name: "gap that is not allowed",
         stream: "000000016742c00ada710000000168ce388000000165888493c0000001619a42a0",
@@ -215,123 +259,3 @@ const RULES: [Case; 12] = [
         status: 1,
     },
 ];
-
-/// The stream of one frame, 18 bytes of parameter sets in front.
-pub const ONE_FRAME: &[u8] = &[
-    0x00, 0x00, 0x00, 0x01, 0x67, 0x42, 0xC0, 0x0A, 0xDA, 0x71, 0x00, 0x00, 0x00, 0x01, 0x68, 0xCE,
-    0x38, 0x80, 0x00, 0x00, 0x01, 0x65, 0x88, 0x84, 0x93, 0xC0,
-];
-
-/// What `check` says last of each front of it, from no byte on: each breaks a rule after its last byte.
-const FRONTS: [&str; 26] = [
-    "no: bit 0: NoPicture (clause 7.4.1)\n",
-    "no: bit 8: NoPicture (clause 7.4.1)\n",
-    "no: bit 16: NoPicture (clause 7.4.1)\n",
-    "no: bit 24: NoPicture (clause 7.4.1)\n",
-    "no: bit 32: EmptyUnit (clause B.1)\n",
-    "no: bit 40: CodeWord (clause 9.1)\n",
-    "no: bit 48: CodeWord (clause 9.1)\n",
-    "no: bit 56: CodeWord (clause 9.1)\n",
-    "no: bit 64: CodeWord (clause 9.1)\n",
-    "no: bit 72: CodeWord (clause 9.1)\n",
-    "no: bit 80: NoPicture (clause 7.4.1)\n",
-    "no: bit 88: NoPicture (clause 7.4.1)\n",
-    "no: bit 96: NoPicture (clause 7.4.1)\n",
-    "no: bit 104: NoPicture (clause 7.4.1)\n",
-    "no: bit 112: EmptyUnit (clause B.1)\n",
-    "no: bit 120: CodeWord (clause 9.1)\n",
-    "no: bit 128: CodeWord (clause 9.1)\n",
-    "no: bit 136: Trailing (clause 7.3.2)\n",
-    "no: bit 144: NoPicture (clause 7.4.1)\n",
-    "no: bit 152: NoPicture (clause 7.4.1)\n",
-    "no: bit 160: NoPicture (clause 7.4.1)\n",
-    "no: bit 168: EmptyUnit (clause B.1)\n",
-    "no: bit 176: CodeWord (clause 9.1)\n",
-    "no: bit 184: CodeWord (clause 9.1)\n",
-    "no: bit 192: CodeWord (clause 9.1)\n",
-    "no: bit 200: ResidualWord (clause 9.2)\n",
-];
-
-/// Each front of it.
-fn fronts_of_one_frame(rt: &(impl Abort + AllocGlobal)) -> Result<(), Fail> {
-    for (length, end) in FRONTS.iter().enumerate() {
-        let answer = answer_of(rt.alloc(), "check", whole(&ONE_FRAME[..length]), usize::MAX)?;
-        assert!(rt; answer.text.as_str().ends_with(end), "{length}");
-        assert_eq!(rt; answer.status, 1);
-    }
-    Ok(())
-}
-
-/// Parameter sets, and the first bytes of a picture whose macroblock is I_PCM.
-const PCM: &[u8] = &[
-    0x00, 0x00, 0x00, 0x01, 0x67, 0x42, 0xC0, 0x0A, 0xDA, 0x71, 0x00, 0x00, 0x00, 0x01, 0x68, 0xCE,
-    0x38, 0x80, 0x00, 0x00, 0x01, 0x65, 0x88, 0x84, 0x86, 0x80,
-];
-
-/// The samples of an I_PCM macroblock.
-pub fn pcm_samples(alloc: Global) -> Result<Vec<u8>, Fail> {
-    let mut samples: Vec<u8> = Vec::new(alloc);
-    for i in 0..384u32 {
-        samples.push((i % 255 + 1) as u8)?;
-    }
-    Ok(samples)
-}
-
-/// A picture of them.
-pub fn pcm_stream(alloc: Global) -> Result<Vec<u8>, Fail> {
-    let mut stream: Vec<u8> = Vec::new(alloc);
-    stream.extend_from_slice(PCM)?;
-    stream.extend_from_slice(pcm_samples(alloc)?.as_slice())?;
-    stream.push(0x80)?;
-    Ok(stream)
-}
-
-/// An I_PCM macroblock, whole and cut within its samples.
-fn samples(rt: &(impl Abort + AllocGlobal)) -> Result<(), Fail> {
-    let mut stream = pcm_stream(rt.alloc())?;
-    let text = "yes: units 3 pictures 1 frames 1\n";
-    check(rt, "check", "samples", stream.as_slice(), text, 0)?;
-    stream.truncate(409);
-    let cut = "no: bit 3272: CodeWord (clause 9.1)\n";
-    check(rt, "check", "samples cut", stream.as_slice(), cut, 1)
-}
-
-/// A picture whose stop bit is read as mb_qp_delta.
-const CUT: &[u8] = &[
-    0x00, 0x00, 0x00, 0x01, 0x67, 0x42, 0xC0, 0x0A, 0xDA, 0x71, 0x00, 0x00, 0x00, 0x01, 0x68, 0xCE,
-    0x38, 0x80, 0x00, 0x00, 0x01, 0x65, 0x88, 0x84, 0x93,
-];
-
-/// How many lines a text has.
-fn lines_of(text: &str) -> usize {
-    let mut lines = 0usize;
-    for byte in text.as_bytes() {
-        if *byte == b'\n' {
-            lines = lines.saturating_add(1);
-        }
-    }
-    lines
-}
-
-/// The last 16 elements stand before a no, the oldest first.
-fn last_elements(rt: &(impl Abort + AllocGlobal)) -> Result<(), Fail> {
-    let answer = answer_of(rt.alloc(), "check", whole(CUT), usize::MAX)?;
-    let text = answer.text.as_str();
-    assert!(rt; text.starts_with("element pic_init_qs_minus26 bit 131 value 0\n"));
-    assert!(rt;
-        text.ends_with(
-            "\nelement mb_qp_delta bit 199 value 0\nno: bit 200: ResidualWord (clause 9.2)\n"
-        )
-    );
-    assert_eq!(rt; lines_of(text), 17);
-    Ok(())
-}
-
-#[test]
-fn slice_data(rt: HostRuntime) -> Result<(), Fail> {
-    check_cases(&rt, "check", &SLICE_DATA)?;
-    check_cases(&rt, "check", &RULES)?;
-    last_elements(&rt)?;
-    fronts_of_one_frame(&rt)?;
-    samples(&rt)
-}

@@ -1,15 +1,10 @@
-//! What `frames` prints and `decode` writes, the latter with each read and each write failing.
+//! What `frames` prints.
 #![tactic(auto)]
 
-use crate::check_tests::{pcm_samples, pcm_stream};
-use crate::tests::{
-    Case, OneFile, answer_of, check_cases, check_written, outcome_by_bytes, outcome_of, whole,
-};
-use std::process::Abort;
-use std::test::Fail;
+use crate::tests::Case;
 
 /// Streams whose samples are all 128, with their frames in the order of output.
-const FRAMES: [Case; 6] = [
+pub const FRAMES: [Case; 6] = [
     // No slice at all.
     Case {
         name: "no picture",
@@ -56,7 +51,7 @@ const FRAMES: [Case; 6] = [
 ];
 
 /// Streams whose frames are known sample by sample, from the equations of prediction and of the filter.
-const COMPUTED: [Case; 20] = [
+pub const COMPUTED: [Case; 20] = [
     // The inner edge at column 20 changes what the edge at 16 wrote.
     Case {
         name: "wide frame",
@@ -206,8 +201,20 @@ const COMPUTED: [Case; 20] = [
     },
 ];
 
-/// Streams with cropped frames, whose digests other decoders computed.
-const CROPPED: [Case; 2] = [
+/// Samples as they stand, and streams with cropped frames, whose digests other decoders computed.
+pub const CROPPED: [Case; 3] = [
+    // An I_PCM macroblock, with the digest of its samples.
+    Case {
+        name: "samples",
+        stream: "000000016742c00ada710000000168ce388000000165888486800102030405060708090a0b0c0d0e0f101112131415161718191a1b1c1d1e1f2021222324252627\
+            28292a2b2c2d2e2f303132333435363738393a3b3c3d3e3f404142434445464748494a4b4c4d4e4f505152535455565758595a5b5c5d5e5f606162636465666768696a6b6c6d\
+            6e6f707172737475767778797a7b7c7d7e7f808182838485868788898a8b8c8d8e8f909192939495969798999a9b9c9d9e9fa0a1a2a3a4a5a6a7a8a9aaabacadaeafb0b1b2b3\
+            b4b5b6b7b8b9babbbcbdbebfc0c1c2c3c4c5c6c7c8c9cacbcccdcecfd0d1d2d3d4d5d6d7d8d9dadbdcdddedfe0e1e2e3e4e5e6e7e8e9eaebecedeeeff0f1f2f3f4f5f6f7f8f9\
+            fafbfcfdfeff0102030405060708090a0b0c0d0e0f101112131415161718191a1b1c1d1e1f202122232425262728292a2b2c2d2e2f303132333435363738393a3b3c3d3e3f40\
+            4142434445464748494a4b4c4d4e4f505152535455565758595a5b5c5d5e5f606162636465666768696a6b6c6d6e6f707172737475767778797a7b7c7d7e7f808180",
+        text: "frame 0 count 0 16x16 md5 096bdbb51cdde493bddd3e76ae8e3210\nyes: units 3 pictures 1 frames 1\n",
+        status: 0,
+    },
     // Cropped frames, with missing frame numbers before the second.
     Case {
         name: "cropped frames",
@@ -236,117 +243,3 @@ const CROPPED: [Case; 2] = [
         status: 0,
     },
 ];
-
-/// That these bytes are the first of those, and not all of them.
-fn check_front(rt: &(impl Abort + AllocGlobal), part: &[u8], all: &[u8]) {
-    assert!(rt; part.len() < all.len());
-    assert_eq!(rt; part, &all[..part.len()]);
-}
-
-/// These streams whole.
-fn cropped(rt: &(impl Abort + AllocGlobal)) -> Result<(), Fail> {
-    for case in &CROPPED {
-        let stream = hex::decode(rt.alloc(), case.stream)?;
-        let answer = answer_of(rt.alloc(), "frames", whole(stream.as_slice()), usize::MAX)?;
-        assert_eq!(rt; answer.text.as_str(), case.text);
-        assert_eq!(rt; answer.status, case.status);
-    }
-    Ok(())
-}
-
-/// The last line on a stream of one picture.
-const ONE_PICTURE: &[u8] = b"yes: units 3 pictures 1 frames 1\n";
-
-/// The frame of an I_PCM macroblock is listed with the digest of its samples.
-fn digest(rt: &(impl Abort + AllocGlobal), stream: &[u8]) -> Result<(), Fail> {
-    let answer = answer_of(rt.alloc(), "frames", whole(stream), usize::MAX)?;
-    let text =
-        "frame 0 count 0 16x16 md5 096bdbb51cdde493bddd3e76ae8e3210\nyes: units 3 pictures 1 frames 1\n";
-    assert_eq!(rt; answer.text.as_str(), text);
-    Ok(())
-}
-
-/// It is written with its samples, a plane at a time.
-fn samples(rt: &(impl Abort + AllocGlobal), stream: &[u8], samples: &[u8]) -> Result<(), Fail> {
-    let all = outcome_of(rt.alloc(), "decode", whole(stream), usize::MAX, usize::MAX)?;
-    check_written(rt, &all, samples, ONE_PICTURE, 0);
-    assert_eq!(rt; all.writes, BEFORE.len());
-    Ok(())
-}
-
-/// How many samples of one macroblock come before those of Y, of Cb and of Cr.
-const BEFORE: [usize; 3] = [0, 256, 320];
-
-/// Whichever write of `decode` fails, the planes before it stand there, and it is told, where that can be written.
-fn each_write_fails(
-    rt: &(impl Abort + AllocGlobal),
-    stream: &[u8],
-    samples: &[u8],
-) -> Result<(), Fail> {
-    for failing in 0..BEFORE.len() {
-        let some = outcome_of(rt.alloc(), "decode", whole(stream), failing, usize::MAX)?;
-        assert_eq!(rt; some.out.len(), BEFORE[failing]);
-        check_front(rt, some.out.as_slice(), samples);
-        check_written(rt, &some, some.out.as_slice(), b"write failed\n", 4);
-    }
-    Ok(())
-}
-
-/// Whichever write of its last line fails, the samples stand there, and the status tells it.
-fn each_write_of_the_line_fails(
-    rt: &(impl Abort + AllocGlobal),
-    stream: &[u8],
-    samples: &[u8],
-) -> Result<(), Fail> {
-    for failing in 0..2usize {
-        let some = outcome_of(rt.alloc(), "decode", whole(stream), usize::MAX, failing)?;
-        check_written(rt, &some, samples, some.err.as_slice(), 4);
-    }
-    Ok(())
-}
-
-/// Where each write takes one byte, the same bytes are written; whichever fails, those before it stand there.
-fn byte_by_byte(
-    rt: &(impl Abort + AllocGlobal),
-    stream: &[u8],
-    samples: &[u8],
-) -> Result<(), Fail> {
-    let all = outcome_by_bytes(rt.alloc(), "decode", whole(stream), usize::MAX)?;
-    check_written(rt, &all, samples, ONE_PICTURE, 0);
-    assert_eq!(rt; all.writes, samples.len());
-    for failing in 0..samples.len() {
-        let some = outcome_by_bytes(rt.alloc(), "decode", whole(stream), failing)?;
-        check_written(rt, &some, &samples[..failing], b"write failed\n", 4);
-    }
-    Ok(())
-}
-
-/// Whichever read of `decode` fails, no frame has been written, and it is told.
-fn each_read_fails(rt: &(impl Abort + AllocGlobal), stream: &[u8]) -> Result<(), Fail> {
-    for failing in 0..=stream.len() {
-        let file = OneFile {
-            bytes: stream,
-            first: 1,
-            size: 1,
-            failing,
-        };
-        let some = outcome_of(rt.alloc(), "decode", file, usize::MAX, usize::MAX)?;
-        check_written(rt, &some, b"", b"read failed\n", 4);
-    }
-    Ok(())
-}
-
-#[test]
-fn frames(rt: HostRuntime) -> Result<(), Fail> {
-    check_cases(&rt, "frames", &FRAMES)?;
-    check_cases(&rt, "frames", &COMPUTED)?;
-    cropped(&rt)?;
-    let shown = pcm_samples(rt.alloc())?;
-    let stream = pcm_stream(rt.alloc())?;
-    digest(&rt, stream.as_slice())?;
-    samples(&rt, stream.as_slice(), shown.as_slice())?;
-    each_write_fails(&rt, stream.as_slice(), shown.as_slice())?;
-    each_write_of_the_line_fails(&rt, stream.as_slice(), shown.as_slice())?;
-    byte_by_byte(&rt, stream.as_slice(), shown.as_slice())?;
-    each_read_fails(&rt, stream.as_slice())
-}

@@ -1,12 +1,11 @@
-//! What `headers` answers, whole, byte by byte and at every cut. The expected bits are counted from the lengths
+//! What `headers` answers. The expected bits are counted from the lengths
 //! of the elements before.
 #![tactic(auto)]
 
-use crate::tests::{Case, check_cases};
-use std::test::Fail;
+use crate::tests::Case;
 
 /// Where pictures begin, their sets and their slices.
-const PICTURES: [Case; 14] = [
+pub const PICTURES: [Case; 14] = [
     // A stream without a picture.
     Case {
         name: "no picture",
@@ -108,7 +107,7 @@ const PICTURES: [Case; 14] = [
 ];
 
 /// Numbers of frames, gaps, markings and lists.
-const MARKINGS: [Case; 12] = [
+pub const MARKINGS: [Case; 12] = [
     // frame_num 2 after 0, where no gap is allowed.
     Case {
         name: "gap not allowed",
@@ -194,13 +193,3 @@ const MARKINGS: [Case; 12] = [
         status: 0,
     },
 ];
-
-#[test]
-fn pictures(rt: HostRuntime) -> Result<(), Fail> {
-    check_cases(&rt, "headers", &PICTURES)
-}
-
-#[test]
-fn markings(rt: HostRuntime) -> Result<(), Fail> {
-    check_cases(&rt, "headers", &MARKINGS)
-}

@@ -7,6 +7,8 @@
 mod check_tests;
 mod command;
 mod command_line;
+#[cfg(test)]
+mod device_tests;
 mod explaining;
 mod files;
 #[cfg(test)]
@@ -14,27 +16,17 @@ mod frame_tests;
 #[cfg(test)]
 mod header_tests;
 mod job;
-#[cfg(test)]
-mod large_tests;
 mod more;
 #[cfg(test)]
 mod more_tests;
 mod options;
 mod outcome;
 #[cfg(test)]
-mod picture_tests;
-#[cfg(test)]
-mod plain;
+mod pieces_tests;
 mod program;
 mod progress;
 #[cfg(test)]
-mod scene;
-#[cfg(test)]
-mod session_tests;
-#[cfg(test)]
 mod set_tests;
-#[cfg(test)]
-mod stream_tests;
 mod strictly;
 #[cfg(test)]
 mod target_tests;

@@ -1,46 +1,9 @@
 //! What the commands write with options, for several files, and as texts of their own: the examples of docs/OUTPUT.md.
 #![tactic(auto)]
 
-use crate::command::command;
-use crate::files::{OpenedFiles, Opener};
-use crate::more::{Maker, more};
-use crate::outcome::Outcome;
-use crate::tests::words;
-use h264_report::WriteDevice;
-use h264_report::survey::NoMeter;
-use std::io;
-use std::io::ErrorKind;
+use crate::tests::{WELL, answer};
 use std::process::Abort;
 use std::test::Fail;
-
-/// Opens the one stream that there is, by any name that begins with `stream`, and makes no file.
-#[derive(Clone, Copy)]
-struct OneStream<'a> {
-    bytes: &'a [u8],
-}
-
-impl<'a> Opener for OneStream<'a> {
-    type File = &'a [u8];
-
-    fn open(&mut self, name: &str) -> io::Result<&'a [u8]> {
-        if !name.starts_with("stream") {
-            return Err(io::Error::from(ErrorKind::NotFound));
-        }
-        Ok(self.bytes)
-    }
-}
-
-impl Maker for OneStream<'_> {
-    type Output = Vec<u8>;
-
-    fn make(&mut self, _name: &str) -> io::Result<Vec<u8>> {
-        Err(io::Error::from(ErrorKind::PermissionDenied))
-    }
-
-    fn is_same(&mut self, name: &str, other: &str) -> bool {
-        name == other
-    }
-}
 
 /// Words, the stream in hexadecimal digits, parts of what is written, and the status.
 struct Asking {
@@ -224,7 +187,14 @@ yes: units 4 pictures 2 frames 2\n",
 ];
 
 /// Several files, frames, pages, and words that are refused.
-const REST: [Asking; 18] = [
+const REST: [Asking; 19] = [
+    Asking {
+        words: &["h264v", "units", "none"],
+        stream: ONE,
+        out: &["read failed\n"],
+        err: "h264v: none: ",
+        status: 4,
+    },
     Asking {
         words: &["h264v", "check", "stream", "stream2", "none"],
         stream: ONE,
@@ -368,54 +338,122 @@ total: files 3 yes 2 no 0 outside 0 memory 0 failed 1\n",
     },
 ];
 
-/// That these parts stand in a text; that it is empty, where there are none.
-fn check_parts(rt: &(impl Abort + AllocGlobal), text: &str, parts: &[&str], word: &str) {
-    if parts.is_empty() {
-        assert_eq!(rt; text, "", "{word}");
+/// What the words say of themselves: no command, no FILE, an unknown word, and help.
+const FAULTS: [Asking; 12] = [
+    Asking {
+        words: &["h264v"],
+        stream: ONE,
+        out: &[],
+        err: "Judges H.264 streams of the Constrained Baseline profile, and decodes them\n",
+        status: 64,
+    },
+    Asking {
+        words: &["h264v", "units"],
+        stream: ONE,
+        out: &[],
+        err: "error: the following required arguments were not provided:\n  <FILE>...\n\nUsage: h264v units <FILE>...\n",
+        status: 64,
+    },
+    Asking {
+        words: &["h264v", "check"],
+        stream: ONE,
+        out: &[],
+        err: "error: the following required arguments were not provided:\n  <FILE>...\n\nUsage: h264v check <FILE>...\n",
+        status: 64,
+    },
+    Asking {
+        words: &["h264v", "unit", "stream"],
+        stream: ONE,
+        out: &[],
+        err: "error: unrecognized subcommand 'unit'\n\n  tip: a similar subcommand exists: 'units'\n\nUsage: h264v <COMMAND>\n",
+        status: 64,
+    },
+    Asking {
+        words: &["h264v", "units", "--none", "stream"],
+        stream: ONE,
+        out: &[],
+        err: "error: unexpected argument '--none' found\n\n  tip: to pass '--none' as a value, use '-- --none'\n\nUsage: h264v units [OPTIONS] <FILE>...\n",
+        status: 64,
+    },
+    Asking {
+        words: &["h264v", "--version"],
+        stream: ONE,
+        out: &[],
+        err: "h264v 0.1.0\n",
+        status: 64,
+    },
+    Asking {
+        words: &["h264v", "--help"],
+        stream: ONE,
+        out: &[],
+        err: "Judges H.264 streams of the Constrained Baseline profile, and decodes them\n\nUsage: h264v <COMMAND>\n",
+        status: 64,
+    },
+    Asking {
+        words: &["h264v", "check", "--help"],
+        stream: ONE,
+        out: &[],
+        err: "Says whether a stream is legal: yes, no with the first rule that it breaks and the bit where, or outside\n\n\
+Usage: h264v check [OPTIONS] <FILE>...\n\nArguments:\n  <FILE>...  An H.264 byte stream (Annex B), as cameras and encoders write it with the ending .264 or .h264; - for standard input\n",
+        status: 64,
+    },
+    Asking {
+        words: &["h264v", "units", "--help"],
+        stream: ONE,
+        out: &[],
+        err: "Prints a line for each unit, and judges byte stream, units and parameter sets\n\nUsage: h264v units [OPTIONS] <FILE>...\n",
+        status: 64,
+    },
+    Asking {
+        words: &["h264v", "headers", "--help"],
+        stream: ONE,
+        out: &[],
+        err: "Prints a line for each slice, and judges slice headers too\n\nUsage: h264v headers [OPTIONS] <FILE>...\n",
+        status: 64,
+    },
+    Asking {
+        words: &["h264v", "frames", "--help"],
+        stream: ONE,
+        out: &[],
+        err: "Prints a line for each frame in output order, with its size and the MD5 of its samples\n\nUsage: h264v frames [OPTIONS] <FILE>...\n",
+        status: 64,
+    },
+    Asking {
+        words: &["h264v", "decode", "--help"],
+        stream: ONE,
+        out: &[],
+        err: "Writes each frame in output order as planar YUV 4:2:0, and its verdict to standard error\n\nUsage: h264v decode [OPTIONS] <FILE>...\n",
+        status: 64,
+    },
+];
+
+/// A text of these bytes. Samples are no text: a question mark stands for each byte that is not ASCII.
+fn text_of(mut bytes: Vec<u8>) -> Result<String, Fail> {
+    for byte in bytes.iter_mut() {
+        if !byte.is_ascii() {
+            *byte = b'?';
+        }
     }
-    for part in parts.iter() {
-        assert!(rt; text.contains(part), "{word}: {part} in {text}");
+    Ok(String::from_utf8(bytes)?)
+}
+
+/// That these texts are what is to be written: that each part stands in `out`, and `out` is empty, where there are none.
+fn check_texts(rt: &impl Abort, asking: &Asking, out: &str, err: &str) {
+    assert!(rt; err.starts_with(asking.err), "{err}");
+    assert!(rt; !asking.out.is_empty() || out.is_empty(), "{out}");
+    for part in asking.out.iter() {
+        assert!(rt; out.contains(part), "{part} in {out}");
     }
 }
 
 /// That this is written and answered.
 fn check_asking(rt: &(impl Abort + AllocGlobal), asking: &Asking) -> Result<(), Fail> {
-    let alloc = rt.alloc();
-    let stream = hex::decode(alloc, asking.stream)?;
-    let opener = OneStream {
-        bytes: stream.as_slice(),
-    };
-    let words = words(alloc, asking.words)?;
-    let mut files = OpenedFiles::new(opener);
-    let mut out: WriteDevice<Vec<u8>> = WriteDevice::new(Vec::new(alloc));
-    let mut err: WriteDevice<Vec<u8>> = WriteDevice::new(Vec::new(alloc));
-    let status = match command(alloc, words.as_slice(), &mut files, &mut out, &mut err) {
-        Outcome::Done(status) => status,
-        Outcome::More(wanted) => more(alloc, &wanted, opener, &mut out, &mut err, NoMeter),
-    };
-    check_written(rt, asking, out.writer, err.writer, status)
-}
-
-/// That these bytes are what is to be written.
-fn check_written(
-    rt: &(impl Abort + AllocGlobal),
-    asking: &Asking,
-    mut out: Vec<u8>,
-    err: Vec<u8>,
-    status: u8,
-) -> Result<(), Fail> {
-    // Samples are no text.
-    for byte in out.iter_mut() {
-        if !byte.is_ascii() {
-            *byte = b'?';
-        }
-    }
-    let word = asking.words.get(1).copied().unwrap_or("");
-    assert_eq!(rt; status, asking.status, "{word}");
-    let err = String::from_utf8(err)?;
-    assert!(rt; err.as_str().starts_with(asking.err), "{word}: {err}");
-    let out = String::from_utf8(out)?;
-    check_parts(rt, out.as_str(), asking.out, word);
+    let stream = hex::decode(rt.alloc(), asking.stream)?;
+    let all = answer(rt.alloc(), asking.words, stream.as_slice(), WELL)?;
+    assert_eq!(rt; all.status, asking.status);
+    let out = text_of(all.out)?;
+    let err = text_of(all.err)?;
+    check_texts(rt, asking, out.as_str(), err.as_str());
     Ok(())
 }
 
@@ -431,5 +469,6 @@ fn check_all(rt: &(impl Abort + AllocGlobal), askings: &[Asking]) -> Result<(), 
 fn options(rt: HostRuntime) -> Result<(), Fail> {
     check_all(&rt, &VERDICTS)?;
     check_all(&rt, &LISTINGS)?;
-    check_all(&rt, &REST)
+    check_all(&rt, &REST)?;
+    check_all(&rt, &FAULTS)
 }

@@ -1,13 +1,18 @@
-//! The program's answers to small inputs, whole, byte by byte and at every cut, and what no contract says of it: its texts
-//! and its statuses.
+//! What the program writes to words and a stream: what no contract says of it, its texts and its statuses.
 #![tactic(auto)]
 
-use crate::check_tests::ONE_FRAME;
-use crate::command::{command, not_text};
+use crate::check_tests::{RULES, SAMPLES, SLICE_DATA};
+use crate::command::not_text;
 use crate::files::{OpenedFiles, Opener};
-use crate::outcome::Outcome;
+use crate::frame_tests::{COMPUTED, CROPPED, FRAMES};
+use crate::header_tests::{MARKINGS, PICTURES};
+use crate::more::Maker;
+use crate::program::run_words;
+use crate::set_tests::{SETS_0, SETS_1, SETS_2, SETS_3};
+use crate::target_tests::{FOR_BASELINE, FOR_MAIN_IP};
 use crate::words::words_of;
 use h264_report::WriteDevice;
+use h264_report::survey::NoMeter;
 use std::alloc::Global;
 use std::env::{Env, FillError};
 use std::io;
@@ -15,28 +20,42 @@ use std::io::{ErrorKind, Read, Write};
 use std::process::Abort;
 use std::test::Fail;
 
-/// A file of bytes that gives `first` bytes at its first read and then `size` bytes at a time, until a read fails.
+/// How many bytes a read and a write take at most, and the numbers of the read, of the write on standard output and of that on standard error that fail.
+#[derive(Clone, Copy)]
+pub struct Devices {
+    pub read_size: usize,
+    pub failing_read: usize,
+    pub write_size: usize,
+    pub failing_write: usize,
+    pub failing_error: usize,
+}
+
+/// Devices that take all, and never fail.
+pub const WELL: Devices = Devices {
+    read_size: usize::MAX,
+    failing_read: usize::MAX,
+    write_size: usize::MAX,
+    failing_write: usize::MAX,
+    failing_error: usize::MAX,
+};
+
+/// A file of bytes, of which a read fails.
 #[derive(Drop)]
-pub struct Pieces<'a> {
+struct Pieces<'a> {
     rest: &'a [u8],
-    first: usize,
-    size: usize,
     reads: usize,
+    size: usize,
     failing: usize,
 }
 
 impl Read for Pieces<'_> {
     fn read(&mut self, piece: &mut [u8]) -> io::Result<usize> {
-        if self.reads == self.failing {
+        let read = self.reads;
+        self.reads = self.reads.saturating_add(1);
+        if read == self.failing {
             return Err(io::Error::from(ErrorKind::Other));
         }
-        let wanted = if self.reads == 0 {
-            self.first
-        } else {
-            self.size
-        };
-        self.reads = self.reads.saturating_add(1);
-        let wanted = wanted.min(self.rest.len()).min(piece.len());
+        let wanted = self.size.min(self.rest.len()).min(piece.len());
         let (front, rest) = self.rest.split_at(wanted);
         piece[..wanted].copy_from_slice(front);
         self.rest = rest;
@@ -44,29 +63,38 @@ impl Read for Pieces<'_> {
     }
 }
 
-/// Opens the one file that there is.
-#[derive(Drop)]
-pub struct OneFile<'a> {
-    pub bytes: &'a [u8],
-    pub first: usize,
-    pub size: usize,
-    pub failing: usize,
+/// Opens the one stream that there is, by any name that begins with `stream`, and makes no file.
+#[derive(Clone, Copy)]
+struct OneStream<'a> {
+    bytes: &'a [u8],
+    devices: Devices,
 }
 
-impl<'a> Opener for OneFile<'a> {
+impl<'a> Opener for OneStream<'a> {
     type File = Pieces<'a>;
 
     fn open(&mut self, name: &str) -> io::Result<Pieces<'a>> {
-        if name != "stream" {
+        if !name.starts_with("stream") {
             return Err(io::Error::from(ErrorKind::NotFound));
         }
         Ok(Pieces {
             rest: self.bytes,
-            first: self.first,
-            size: self.size,
             reads: 0,
-            failing: self.failing,
+            size: self.devices.read_size,
+            failing: self.devices.failing_read,
         })
+    }
+}
+
+impl Maker for OneStream<'_> {
+    type Output = Vec<u8>;
+
+    fn make(&mut self, _name: &str) -> io::Result<Vec<u8>> {
+        Err(io::Error::from(ErrorKind::PermissionDenied))
+    }
+
+    fn is_same(&mut self, name: &str, other: &str) -> bool {
+        name == other
     }
 }
 
@@ -75,8 +103,8 @@ impl<'a> Opener for OneFile<'a> {
 struct FailsAt {
     text: Vec<u8>,
     calls: usize,
+    size: usize,
     failing: usize,
-    most: usize,
 }
 
 impl Write for FailsAt {
@@ -86,7 +114,7 @@ impl Write for FailsAt {
         if call == self.failing {
             return Err(io::Error::from(ErrorKind::Other));
         }
-        self.text.write(&bytes[..bytes.len().min(self.most)])
+        self.text.write(&bytes[..bytes.len().min(self.size)])
     }
 
     fn flush(&mut self) -> io::Result<()> {
@@ -104,37 +132,18 @@ pub struct Written {
     pub status: u8,
 }
 
-/// That this was written, with this status.
-pub fn check_written(
-    rt: &(impl Abort + AllocGlobal),
-    all: &Written,
-    out: &[u8],
-    err: &[u8],
-    status: u8,
-) {
-    assert_eq!(rt; all.out.as_slice(), out);
-    assert_eq!(rt; all.err.as_slice(), err);
-    assert_eq!(rt; all.status, status);
-}
-
-/// What was printed, in how many writes, and the status.
-#[derive(Drop)]
-pub struct Answer {
-    pub text: String,
-    pub writes: usize,
-    pub status: u8,
-}
-
-/// The status of words that ask for one judgement, or for nothing.
-fn status_of(outcome: Outcome<'_>) -> u8 {
-    match outcome {
-        Outcome::Done(status) => status,
-        Outcome::More(_) => u8::MAX,
+/// A writer that holds nothing yet.
+fn writer(alloc: Global, size: usize, failing: usize) -> FailsAt {
+    FailsAt {
+        text: Vec::new(alloc),
+        calls: 0,
+        size,
+        failing,
     }
 }
 
 /// The words of a command line.
-pub fn words(alloc: Global, given: &[&str]) -> Result<Vec<String>, Fail> {
+fn words(alloc: Global, given: &[&str]) -> Result<Vec<String>, Fail> {
     let mut words: Vec<String> = Vec::new(alloc);
     for word in given {
         words.push(String::from_str(alloc, word)?)?;
@@ -142,94 +151,44 @@ pub fn words(alloc: Global, given: &[&str]) -> Result<Vec<String>, Fail> {
     Ok(words)
 }
 
-/// `units` on bytes that come so, where the read and the write of these numbers fail.
-pub fn units(alloc: Global, file: OneFile, failing_write: usize) -> Result<Answer, Fail> {
-    answer_of(alloc, "units", file, failing_write)
-}
-
-/// What any command writes, where the writes of these numbers fail on standard output and on standard error.
-pub fn outcome_of(
-    alloc: Global,
-    command_word: &str,
-    file: OneFile,
-    failing_write: usize,
-    failing_error: usize,
-) -> Result<Written, Fail> {
-    let out = fails_at(alloc, failing_write, usize::MAX);
-    let err = fails_at(alloc, failing_error, usize::MAX);
-    outcome_with(alloc, command_word, file, out, err)
-}
-
-/// What it writes where each write takes one byte, and that of this number on standard output fails.
-pub fn outcome_by_bytes(
-    alloc: Global,
-    command_word: &str,
-    file: OneFile,
-    failing_write: usize,
-) -> Result<Written, Fail> {
-    let out = fails_at(alloc, failing_write, 1);
-    let err = fails_at(alloc, usize::MAX, 1);
-    outcome_with(alloc, command_word, file, out, err)
-}
-
-/// A writer that holds nothing yet, takes at most so many bytes a call, and fails at the call of this number.
-fn fails_at(alloc: Global, failing: usize, most: usize) -> FailsAt {
-    FailsAt {
-        text: Vec::new(alloc),
-        calls: 0,
-        failing,
-        most,
-    }
-}
-
-fn outcome_with(
-    alloc: Global,
-    command_word: &str,
-    file: OneFile,
-    out: FailsAt,
-    err: FailsAt,
-) -> Result<Written, Fail> {
-    let words = words(alloc, &["h264v", command_word, "stream"])?;
-    let mut files = OpenedFiles::new(file);
-    let mut out = WriteDevice::new(out);
-    let mut err = WriteDevice::new(err);
-    let status = status_of(command(alloc, words.as_slice(), &mut files, &mut out, &mut err));
+/// What the program writes to words, over a stream that comes by such devices.
+fn run_over(alloc: Global, words: &[String], bytes: &[u8], devices: Devices) -> Written {
+    let mut files = OpenedFiles::new(OneStream { bytes, devices });
+    let mut out = WriteDevice::new(writer(alloc, devices.write_size, devices.failing_write));
+    let mut err = WriteDevice::new(writer(alloc, devices.write_size, devices.failing_error));
+    let status = run_words(alloc, words, &mut files, &mut out, &mut err, NoMeter);
     let WriteDevice { writer: out, .. } = out;
     let WriteDevice { writer: err, .. } = err;
-    Ok(Written {
+    Written {
         out: out.text,
         err: err.text,
         writes: out.calls,
         status,
-    })
-}
-
-/// What a command prints on standard output.
-pub fn answer_of(
-    alloc: Global,
-    command_word: &str,
-    file: OneFile,
-    failing_write: usize,
-) -> Result<Answer, Fail> {
-    let all = outcome_of(alloc, command_word, file, failing_write, usize::MAX)?;
-    Ok(Answer {
-        text: String::from_utf8(all.out)?,
-        writes: all.writes,
-        status: all.status,
-    })
-}
-
-/// A file that gives its bytes at once.
-pub fn whole(bytes: &[u8]) -> OneFile<'_> {
-    OneFile {
-        bytes,
-        first: 4096,
-        size: 4096,
-        failing: usize::MAX,
     }
 }
 
-/// A stream in hexadecimal digits, and what is printed of it.
+/// What the program writes to the words given.
+pub fn answer(
+    alloc: Global,
+    given: &[&str],
+    bytes: &[u8],
+    devices: Devices,
+) -> Result<Written, Fail> {
+    let words = words(alloc, given)?;
+    Ok(run_over(alloc, words.as_slice(), bytes, devices))
+}
+
+/// Whether bytes begin so.
+pub fn begins_with(bytes: &[u8], front: &[u8]) -> bool {
+    front.len() <= bytes.len() && &bytes[..front.len()] == front
+}
+
+/// Whether bytes end so.
+pub fn ends_with(bytes: &[u8], end: &[u8]) -> bool {
+    end.len() <= bytes.len() && &bytes[bytes.len() - end.len()..] == end
+}
+
+/// A stream in hexadecimal digits, what is printed of it, and the status.
 pub struct Case {
     pub name: &'static str,
     pub stream: &'static str,
@@ -237,65 +196,123 @@ pub struct Case {
     pub status: u8,
 }
 
-/// That a text ends with this one, before which lines of elements may stand.
-fn check_end(rt: &(impl Abort + AllocGlobal), whole: &str, name: &str, text: &str) {
-    assert!(rt; whole.ends_with(text), "{name}");
-    assert!(rt;
-        whole.len() == text.len() || whole.starts_with("element "),
-        "{name}"
-    );
+const UNITS: [&str; 3] = ["h264v", "units", "stream"];
+
+const HEADERS: [&str; 3] = ["h264v", "headers", "stream"];
+
+const CHECK: [&str; 3] = ["h264v", "check", "stream"];
+
+const FRAMES_OF: [&str; 3] = ["h264v", "frames", "stream"];
+
+const CHECK_BASELINE: [&str; 5] = ["h264v", "check", "--target", "baseline", "stream"];
+
+const CHECK_MAIN_IP: [&str; 5] = ["h264v", "check", "--target", "main-ip", "stream"];
+
+/// That a text ends with this one, before which lines of elements may stand, where it has none.
+fn check_end(rt: &impl Abort, all: &Written, text: &[u8], name: &str) {
+    let out = all.out.as_slice();
+    assert!(rt; ends_with(out, text), "{name}");
+    let has_more = begins_with(out, b"element ") && !begins_with(text, b"element ");
+    assert!(rt; out.len() == text.len() || has_more, "{name}");
 }
 
-/// That the answer of a command to these bytes is this one, whole, byte by byte and at every cut; lines of elements may stand before it.
-pub fn check(
+/// That the words answer to streams as these cases say.
+fn check_cases(
     rt: &(impl Abort + AllocGlobal),
-    command_word: &str,
-    name: &str,
-    bytes: &[u8],
-    text: &str,
-    status: u8,
-) -> Result<(), Fail> {
-    let all = answer_of(rt.alloc(), command_word, whole(bytes), usize::MAX)?;
-    check_end(rt, all.text.as_str(), name, text);
-    assert_eq!(rt; all.status, status, "{name}");
-    for first in 1..bytes.len() {
-        for size in [1usize, 4096] {
-            let file = OneFile {
-                bytes,
-                first,
-                size,
-                failing: usize::MAX,
-            };
-            let cut = answer_of(rt.alloc(), command_word, file, usize::MAX)?;
-            assert_eq!(rt; cut.text.as_str(), all.text.as_str(), "{name}");
-            assert_eq!(rt; cut.status, status, "{name}");
-        }
-    }
-    Ok(())
-}
-
-/// That the answers of a command are those of these cases.
-pub fn check_cases(
-    rt: &(impl Abort + AllocGlobal),
-    command_word: &str,
+    words: &[&str],
     cases: &[Case],
 ) -> Result<(), Fail> {
     for case in cases {
         let stream = hex::decode(rt.alloc(), case.stream)?;
-        check(
-            rt,
-            command_word,
-            case.name,
-            stream.as_slice(),
-            case.text,
-            case.status,
-        )?;
+        let all = answer(rt.alloc(), words, stream.as_slice(), WELL)?;
+        check_end(rt, &all, case.text.as_bytes(), case.name);
+        assert_eq!(rt; all.status, case.status, "{}", case.name);
+    }
+    Ok(())
+}
+
+/// The stream of one frame.
+const ONE_FRAME: &[u8] = &[
+    0x00, 0x00, 0x00, 0x01, 0x67, 0x42, 0xC0, 0x0A, 0xDA, 0x71, 0x00, 0x00, 0x00, 0x01, 0x68, 0xCE,
+    0x38, 0x80, 0x00, 0x00, 0x01, 0x65, 0x88, 0x84, 0x93, 0xC0,
+];
+
+/// What `units` says last of each front of the stream of one frame, from no byte on: the rule that it breaks after its last byte, or yes.
+const FRONTS_AS_UNITS: [&str; 26] = [
+    "yes: units 0\n",
+    "yes: units 0\n",
+    "yes: units 0\n",
+    "yes: units 0\n",
+    "no: bit 32: EmptyUnit (clause B.1)\n",
+    "no: bit 40: CodeWord (clause 9.1)\n",
+    "no: bit 48: CodeWord (clause 9.1)\n",
+    "no: bit 56: CodeWord (clause 9.1)\n",
+    "no: bit 64: CodeWord (clause 9.1)\n",
+    "no: bit 72: CodeWord (clause 9.1)\n",
+    "yes: units 1\n",
+    "yes: units 1\n",
+    "yes: units 1\n",
+    "yes: units 1\n",
+    "no: bit 112: EmptyUnit (clause B.1)\n",
+    "no: bit 120: CodeWord (clause 9.1)\n",
+    "no: bit 128: CodeWord (clause 9.1)\n",
+    "no: bit 136: Trailing (clause 7.3.2)\n",
+    "yes: units 2\n",
+    "yes: units 2\n",
+    "yes: units 2\n",
+    "no: bit 168: EmptyUnit (clause B.1)\n",
+    "yes: units 3\n",
+    "yes: units 3\n",
+    "yes: units 3\n",
+    "yes: units 3\n",
+];
+
+/// What `check` says last of each front of it, from no byte on: each breaks a rule after its last byte.
+const FRONTS_AS_CHECK: [&str; 26] = [
+    "no: bit 0: NoPicture (clause 7.4.1)\n",
+    "no: bit 8: NoPicture (clause 7.4.1)\n",
+    "no: bit 16: NoPicture (clause 7.4.1)\n",
+    "no: bit 24: NoPicture (clause 7.4.1)\n",
+    "no: bit 32: EmptyUnit (clause B.1)\n",
+    "no: bit 40: CodeWord (clause 9.1)\n",
+    "no: bit 48: CodeWord (clause 9.1)\n",
+    "no: bit 56: CodeWord (clause 9.1)\n",
+    "no: bit 64: CodeWord (clause 9.1)\n",
+    "no: bit 72: CodeWord (clause 9.1)\n",
+    "no: bit 80: NoPicture (clause 7.4.1)\n",
+    "no: bit 88: NoPicture (clause 7.4.1)\n",
+    "no: bit 96: NoPicture (clause 7.4.1)\n",
+    "no: bit 104: NoPicture (clause 7.4.1)\n",
+    "no: bit 112: EmptyUnit (clause B.1)\n",
+    "no: bit 120: CodeWord (clause 9.1)\n",
+    "no: bit 128: CodeWord (clause 9.1)\n",
+    "no: bit 136: Trailing (clause 7.3.2)\n",
+    "no: bit 144: NoPicture (clause 7.4.1)\n",
+    "no: bit 152: NoPicture (clause 7.4.1)\n",
+    "no: bit 160: NoPicture (clause 7.4.1)\n",
+    "no: bit 168: EmptyUnit (clause B.1)\n",
+    "no: bit 176: CodeWord (clause 9.1)\n",
+    "no: bit 184: CodeWord (clause 9.1)\n",
+    "no: bit 192: CodeWord (clause 9.1)\n",
+    "no: bit 200: ResidualWord (clause 9.2)\n",
+];
+
+/// That the answers to each front of the stream of one frame end so.
+fn check_fronts(
+    rt: &(impl Abort + AllocGlobal),
+    words: &[&str],
+    ends: &[&str],
+) -> Result<(), Fail> {
+    for (length, end) in ends.iter().enumerate() {
+        let (front, _) = ONE_FRAME.split_at(length.min(ONE_FRAME.len()));
+        let all = answer(rt.alloc(), words, front, WELL)?;
+        assert!(rt; ends_with(all.out.as_slice(), end.as_bytes()), "{length}");
     }
     Ok(())
 }
 
 /// Streams and the headers of their units, of which `units` judges nothing more.
-const STREAMS: [Case; 10] = [
+const STREAMS: [Case; 12] = [
     Case {
         name: "nothing",
         stream: "",
@@ -355,6 +372,20 @@ const STREAMS: [Case; 10] = [
         stream: "00000142",
         text: "no: bit 24: Partition (clause A.2)\n",
         status: 1,
+    },
+    // A second frame, which is a skipped macroblock.
+    Case {
+        name: "two frames",
+        stream: "000000016742c00ada710000000168ce388000000165888493c0000001619a22a0",
+        text: "unit 4 type 7 ref 3 bytes 6\nunit 14 type 8 ref 3 bytes 4\nunit 21 type 5 ref 3 bytes 5\nunit 29 type 1 ref 3 bytes 4\nyes: units 4\n",
+        status: 0,
+    },
+    // A gap in frame_num, which `units` does not look at.
+    Case {
+        name: "gap",
+        stream: "000000016742c00ada710000000168ce388000000165888493c0000001619a42a0",
+        text: "unit 4 type 7 ref 3 bytes 6\nunit 14 type 8 ref 3 bytes 4\nunit 21 type 5 ref 3 bytes 5\nunit 29 type 1 ref 3 bytes 4\nyes: units 4\n",
+        status: 0,
     },
 ];
 
@@ -460,148 +491,6 @@ const SETS: [Case; 16] = [
     },
 ];
 
-/// What `units` says last of each front of the stream of one frame, from no byte on: the rule that it breaks after its last byte, or yes.
-const FRONTS: [&str; 26] = [
-    "yes: units 0\n",
-    "yes: units 0\n",
-    "yes: units 0\n",
-    "yes: units 0\n",
-    "no: bit 32: EmptyUnit (clause B.1)\n",
-    "no: bit 40: CodeWord (clause 9.1)\n",
-    "no: bit 48: CodeWord (clause 9.1)\n",
-    "no: bit 56: CodeWord (clause 9.1)\n",
-    "no: bit 64: CodeWord (clause 9.1)\n",
-    "no: bit 72: CodeWord (clause 9.1)\n",
-    "yes: units 1\n",
-    "yes: units 1\n",
-    "yes: units 1\n",
-    "yes: units 1\n",
-    "no: bit 112: EmptyUnit (clause B.1)\n",
-    "no: bit 120: CodeWord (clause 9.1)\n",
-    "no: bit 128: CodeWord (clause 9.1)\n",
-    "no: bit 136: Trailing (clause 7.3.2)\n",
-    "yes: units 2\n",
-    "yes: units 2\n",
-    "yes: units 2\n",
-    "no: bit 168: EmptyUnit (clause B.1)\n",
-    "yes: units 3\n",
-    "yes: units 3\n",
-    "yes: units 3\n",
-    "yes: units 3\n",
-];
-
-/// Each front of it.
-fn fronts_of_one_frame(rt: &(impl Abort + AllocGlobal)) -> Result<(), Fail> {
-    for (length, end) in FRONTS.iter().enumerate() {
-        let answer = units(rt.alloc(), whole(&ONE_FRAME[..length]), usize::MAX)?;
-        assert!(rt; answer.text.as_str().ends_with(end), "{length}");
-    }
-    Ok(())
-}
-
-/// Words that ask for nothing that there is, and what is said of them.
-struct Fault {
-    words: &'static [&'static str],
-    says: &'static str,
-}
-
-const FAULTS: [Fault; 13] = [
-    Fault {
-        words: &["h264v"],
-        says: "Judges H.264 streams of the Constrained Baseline profile, and decodes them",
-    },
-    Fault {
-        words: &["h264v", "units"],
-        says: "Usage: ",
-    },
-    Fault {
-        words: &["h264v", "check"],
-        says: "Usage: ",
-    },
-    Fault {
-        words: &["h264v", "unit", "stream"],
-        says: "Usage: ",
-    },
-    Fault {
-        words: &["h264v", "units", "--none", "stream"],
-        says: "Usage: ",
-    },
-    Fault {
-        words: &["h264v", "--version"],
-        says: "h264v 0.1.0",
-    },
-    Fault {
-        words: &["h264v", "--help"],
-        says: "Judges H.264 streams of the Constrained Baseline profile, and decodes them",
-    },
-    Fault {
-        words: &["h264v", "check", "--help"],
-        says: "Says whether a stream is legal: yes, no with the first rule that it breaks and the bit where, or outside",
-    },
-    Fault {
-        words: &["h264v", "units", "--help"],
-        says: "Prints a line for each unit, and judges byte stream, units and parameter sets",
-    },
-    Fault {
-        words: &["h264v", "headers", "--help"],
-        says: "Prints a line for each slice, and judges slice headers too",
-    },
-    Fault {
-        words: &["h264v", "frames", "--help"],
-        says: "Prints a line for each frame in output order, with its size and the MD5 of its samples",
-    },
-    Fault {
-        words: &["h264v", "decode", "--help"],
-        says: "Writes each frame in output order as planar YUV 4:2:0, and its verdict to standard error",
-    },
-    // Each help names what FILE is.
-    Fault {
-        words: &["h264v", "check", "--help"],
-        says: "An H.264 byte stream (Annex B), as cameras and encoders write it with the ending .264 or .h264",
-    },
-];
-
-/// That this text says so.
-fn check_says(rt: &impl Abort, text: Vec<u8>, says: &str) -> Result<(), Fail> {
-    let text = String::from_utf8(text)?;
-    assert!(rt; text.as_str().contains(says), "{text}");
-    Ok(())
-}
-
-/// Words that ask for nothing that there is: a text on standard error that says why or how to ask, and nothing on standard output.
-fn fault_of(rt: &(impl Abort + AllocGlobal), words: &[String], says: &str) -> Result<(), Fail> {
-    let alloc = rt.alloc();
-    let mut files = OpenedFiles::new(whole(ONE_FRAME));
-    let mut out: WriteDevice<Vec<u8>> = WriteDevice::new(Vec::new(alloc));
-    let mut err: WriteDevice<Vec<u8>> = WriteDevice::new(Vec::new(alloc));
-    let status = status_of(command(alloc, words, &mut files, &mut out, &mut err));
-    assert_eq!(rt; status, 64);
-    assert!(rt; out.writer.is_empty());
-    check_says(rt, err.writer, says)
-}
-
-fn faults_of_the_words(rt: &(impl Abort + AllocGlobal)) -> Result<(), Fail> {
-    for fault in &FAULTS {
-        let words = words(rt.alloc(), fault.words)?;
-        fault_of(rt, words.as_slice(), fault.says)?;
-    }
-    Ok(())
-}
-
-/// A file that cannot be opened cannot be read.
-fn no_such_file(rt: &(impl Abort + AllocGlobal)) -> Result<(), Fail> {
-    let alloc = rt.alloc();
-    let words = words(alloc, &["h264v", "units", "other"])?;
-    let mut files = OpenedFiles::new(whole(ONE_FRAME));
-    let mut out: WriteDevice<Vec<u8>> = WriteDevice::new(Vec::new(alloc));
-    let mut err: WriteDevice<Vec<u8>> = WriteDevice::new(Vec::new(alloc));
-    let status = status_of(command(alloc, words.as_slice(), &mut files, &mut out, &mut err));
-    assert_eq!(rt; status, 4);
-    assert_eq!(rt; files.failures, 1);
-    assert_eq!(rt; out.writer.as_slice(), b"read failed\n".as_slice());
-    Ok(())
-}
-
 /// Arguments of which the first is `h264v`, and the second is these bytes.
 #[derive(Drop)]
 struct Arguments<'a> {
@@ -637,18 +526,24 @@ impl Env for Arguments<'_> {
     }
 }
 
+/// Whether the words are `h264v` and `units`.
+fn asks_for_units(words: Option<Vec<String>>) -> bool {
+    match words {
+        Some(words) => words.len() == 2 && words[1].as_str() == "units",
+        None => false,
+    }
+}
+
 /// A word that is not UTF-8 is a fault of the words, and not a want of memory.
-fn word_that_is_no_text(rt: &(impl Abort + AllocGlobal)) -> Result<(), Fail> {
+#[test]
+fn word_that_is_no_text(rt: HostRuntime) -> Result<(), Fail> {
     let alloc = rt.alloc();
-    let found = words_of(&Arguments { second: b"units" }, alloc)?;
-    assert!(rt; found.is_some_and(|found| found.len() == 2 && found[1].as_str() == "units"));
-    let refused = words_of(
-        &Arguments {
-            second: b"a\xFF.264",
-        },
-        alloc,
-    )?;
-    assert!(rt; refused.is_none());
+    let units = Arguments { second: b"units" };
+    assert!(rt; asks_for_units(words_of(&units, alloc)?));
+    let no_text = Arguments {
+        second: b"a\xFF.264",
+    };
+    assert!(rt; words_of(&no_text, alloc)?.is_none());
     let mut err: WriteDevice<Vec<u8>> = WriteDevice::new(Vec::new(alloc));
     assert_eq!(rt; not_text(&mut err), 64);
     let text =
@@ -657,20 +552,52 @@ fn word_that_is_no_text(rt: &(impl Abort + AllocGlobal)) -> Result<(), Fail> {
     Ok(())
 }
 
-#[test]
-fn streams(rt: HostRuntime) -> Result<(), Fail> {
-    check_cases(&rt, "units", &STREAMS)?;
-    fronts_of_one_frame(&rt)
+fn units(rt: &(impl Abort + AllocGlobal)) -> Result<(), Fail> {
+    check_cases(rt, &UNITS, &STREAMS)?;
+    check_cases(rt, &UNITS, &SETS)
+}
+
+fn sets_bit_by_bit(rt: &(impl Abort + AllocGlobal)) -> Result<(), Fail> {
+    check_cases(rt, &UNITS, &SETS_0)?;
+    check_cases(rt, &UNITS, &SETS_1)?;
+    check_cases(rt, &UNITS, &SETS_2)?;
+    check_cases(rt, &UNITS, &SETS_3)
+}
+
+fn headers(rt: &(impl Abort + AllocGlobal)) -> Result<(), Fail> {
+    check_cases(rt, &HEADERS, &PICTURES)?;
+    check_cases(rt, &HEADERS, &MARKINGS)
+}
+
+fn slice_data(rt: &(impl Abort + AllocGlobal)) -> Result<(), Fail> {
+    check_cases(rt, &CHECK, &SLICE_DATA)?;
+    check_cases(rt, &CHECK, &SAMPLES)?;
+    check_cases(rt, &CHECK, &RULES)
+}
+
+fn frames(rt: &(impl Abort + AllocGlobal)) -> Result<(), Fail> {
+    check_cases(rt, &FRAMES_OF, &FRAMES)?;
+    check_cases(rt, &FRAMES_OF, &COMPUTED)?;
+    check_cases(rt, &FRAMES_OF, &CROPPED)
+}
+
+fn targets(rt: &(impl Abort + AllocGlobal)) -> Result<(), Fail> {
+    check_cases(rt, &CHECK_BASELINE, &FOR_BASELINE)?;
+    check_cases(rt, &CHECK_MAIN_IP, &FOR_MAIN_IP)
+}
+
+fn fronts(rt: &(impl Abort + AllocGlobal)) -> Result<(), Fail> {
+    check_fronts(rt, &UNITS, &FRONTS_AS_UNITS)?;
+    check_fronts(rt, &CHECK, &FRONTS_AS_CHECK)
 }
 
 #[test]
-fn sets(rt: HostRuntime) -> Result<(), Fail> {
-    check_cases(&rt, "units", &SETS)
-}
-
-#[test]
-fn words_and_files(rt: HostRuntime) -> Result<(), Fail> {
-    faults_of_the_words(&rt)?;
-    word_that_is_no_text(&rt)?;
-    no_such_file(&rt)
+fn answers(rt: HostRuntime) -> Result<(), Fail> {
+    units(&rt)?;
+    sets_bit_by_bit(&rt)?;
+    headers(&rt)?;
+    slice_data(&rt)?;
+    frames(&rt)?;
+    targets(&rt)?;
+    fronts(&rt)
 }
