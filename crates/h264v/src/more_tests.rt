@@ -27,8 +27,11 @@ const TWO: &str = "000000016742c00ada710000000168ce388000000165888493c0000001619
 const SIZES: &str =
     "000000016742c00ada710000000168ce388000000165888493c0000000016742c00ada2c400000000168ce38800000000165888224e4f0";
 
+/// The first picture with a sequence parameter set whose aspect_ratio_idc is reserved.
+const RESERVED_RATIO: &str = "000000016742c00ada7b1100800000000168ce388000000165888493c0";
+
 /// Verdicts with what explains them, in lines and in JSON.
-const VERDICTS: [Asking; 9] = [
+const VERDICTS: [Asking; 11] = [
     Asking {
         words: &["h264v", "check", "--explain", "stream"],
         stream: GAP,
@@ -103,6 +106,27 @@ the target main-ip takes 77 with any flags\n",
         words: &["h264v", "check", "--json", "stream"],
         stream: "0000000140010c01",
         out: &["\"reason\":\"hevc\""],
+        err: "",
+        status: 1,
+    },
+    // aspect_ratio_idc is 17, which is reserved.
+    Asking {
+        words: &["h264v", "check", "--strict", "stream"],
+        stream: RESERVED_RATIO,
+        out: &[
+            "strict: bit 80: AspectRatio (clause E.2.1), 1 places\nstrict: not judged: Sei (messages of types 6 are passed over)\n",
+            "yes: units 3 pictures 1 frames 1\n",
+        ],
+        err: "",
+        status: 1,
+    },
+    Asking {
+        words: &["h264v", "check", "--strict", "--json", "stream"],
+        stream: RESERVED_RATIO,
+        out: &[
+            "{\"file\":\"stream\",\"kind\":\"strict\",\"rule\":\"AspectRatio\",\"clause\":\"E.2.1\",\"bit\":80,\"places\":1}\n\
+{\"file\":\"stream\",\"kind\":\"not judged\",\"rule\":\"Sei\",\"why\":\"messages of types 6 are passed over\"}\n",
+        ],
         err: "",
         status: 1,
     },
