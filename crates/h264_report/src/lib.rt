@@ -2,11 +2,12 @@
 //!
 //! `unit_line`, `slice_line`, `frame_line`, `element_line` and `verdict_line` make each line without its line end, in ASCII. `LineSink` writes a line, or an
 //! object of JSON, for each unit, slice, element or frame to a writer, `YuvSink` the samples of each frame, `Y4mSink` frames with their header; `TrailSink`
-//! keeps the last 16 elements. `Surveyed`, `PageSink` and `Narrowed` stand around another sink: the first two hand each call on, and `Narrowed` what is chosen.
+//! keeps the last 16 elements. `Surveyed`, `PageSink`, `StrictSink` and `Narrowed` stand around another sink: the first three hand each call on, and `Narrowed`
+//! what is chosen. `Strict` says which further rules the calls break, and where.
 //! `list`, `check` and `decode` judge a stream with one of them, and write the last line.
 //! Promised: exactly the texts of `specs/Lines.antt` and `specs/Objects.antt`; that a writer which tells its bytes holds the lines, the samples or the frames
 //! of the calls taken, in order, and after a failure a part of the last; that a trail has the last 16 elements; that a sink round which another stands took
-//! each call, or what `specs/Chosen.antt` leaves of them; and of the three that run a judgement, what stands in `specs/Written.antt`: the last line is that of
+//! each call, or what `specs/Chosen.antt` leaves of them; that `Strict` has each rule's first place and their number (`specs/Strict.antt`); and of the three that run a judgement, what stands in `specs/Written.antt`: the last line is that of
 //! the answer in this mode, and what stands before it is of the calls up to there; a failed read or write is told, and only where there was one. Nothing is
 //! promised of the head of an object, nor of the texts, plots and pictures of a page.
 //!
