@@ -7,9 +7,10 @@
 //! `list`, `check` and `decode` judge a stream with one of them, and write the last line.
 //! Promised: exactly the texts of `specs/Lines.antt` and `specs/Objects.antt`; that a writer which tells its bytes holds the lines, the samples or the frames
 //! of the calls taken, in order, and after a failure a part of the last; that a trail has the last 16 elements; that a sink round which another stands took
-//! each call, or what `specs/Chosen.antt` leaves of them; that `Strict` has each rule's first place and their number (`specs/Strict.antt`); and of the three that run a judgement, what stands in `specs/Written.antt`: the last line is that of
-//! the answer in this mode, and what stands before it is of the calls up to there; a failed read or write is told, and only where there was one. Nothing is
-//! promised of the head of an object, nor of the texts, plots and pictures of a page.
+//! each call, or what `specs/Chosen.antt` leaves of them; that `Strict` has each rule's first place and their number (`specs/Strict.antt`); and of the three
+//! that run a judgement, what stands in `specs/Written.antt`: the last line is that of the answer in this mode, and what stands before it is of the calls up
+//! to there; a failed read or write is told, and only where there was one. Nothing is promised of the head of an object, nor of the texts, plots and pictures
+//! of a page.
 //!
 //! For callers that hold the bytes themselves: a `Decoder` takes a stream in pieces and keeps each frame that is due until it is taken, and
 //! `judge_bytes` judges a stream in memory. Promised (`specs/Given.antt`): the frames taken and those that wait are the stream's, in order, up to the
