@@ -57,7 +57,8 @@ fn border_of(
     place: usize,
 ) -> Option<Border>
     ensures inside { IsTrue (is_some result) → 0 < place }
-    ensures here { (even ≡ true → is_even own.now ≡ true) → (p : Option CodedMacroblock) (q : CodedMacroblock) → IsEdge (LiesAlong vertical) beside.now p → AreContexts own.now q →
+    ensures here { (even ≡ true → is_even own.now ≡ true) → (p : Option CodedMacroblock) (q : CodedMacroblock) →
+        IsEdge (LiesAlong vertical) beside.now p → AreContexts own.now q →
         (place ≡ 0 → p ≡ None) → named_border result ≡ border_of filter.now vertical p q }
     ensures word { (b : Border) → result ≡ Some b → IsWord b.strengths }
 {
@@ -250,7 +251,8 @@ pub fn filter_coded(frame: &mut Frame, coded: &Coded<'_>, column: usize, row: us
     requires small { (column < 1024) × (row < 1024) }
     ensures size { (p : Component) → IsSized (plane_of p frame.new) (plane_of p frame.old).width (plane_of p frame.old).height }
     ensures filtered { (slices : ℕ → Filter) (width : ℕ) (picture : List CodedMacroblock) (q : CodedMacroblock) →
-        (coded.now.whole ≡ true → are_alike coded.now.own.now.motions ≡ true) → Keeps width picture coded.now.near.now → AreContexts coded.now.own.now q → length picture ≡ row * width + column → column < width →
+        (coded.now.whole ≡ true → are_alike coded.now.own.now.motions ≡ true) → Keeps width picture coded.now.near.now →
+        AreContexts coded.now.own.now q → length picture ≡ row * width + column → column < width →
         slices q.slice ≡ coded.now.filter.now → ((n : ℕ) → (slices n).chroma_qp_index_offset ≡ coded.now.filter.now.chroma_qp_index_offset) →
         (p : Component) → ShowsSamples (plane_of p frame.old) (plane_of p frame.new)
         (edges_done (side p) (is_chroma p) (edges_of_coded slices width picture q p) column row (at (plane_of p frame.old))) }

@@ -109,7 +109,8 @@ fn outer(edge: &Edge, own: &Contexts, vertical: bool, k: usize) -> u8
 fn outer_line(edge: &Edge, own: &Contexts, vertical: bool) -> Word
     requires beside { edge.now.intra ≡ false }
     requires own { own.now.intra ≡ false }
-    ensures here { (p q : CodedMacroblock) → LiesAlong vertical edge.now p → AreContexts own.now q → names result ≡ strengths vertical 0 p q }
+    ensures here { (p q : CodedMacroblock) → LiesAlong vertical edge.now p →
+        AreContexts own.now q → names result ≡ strengths vertical 0 p q }
     ensures word { IsWord result }
 {
     [
@@ -135,7 +136,8 @@ fn is_seamless(edge: &Edge, motion: &Option<Motion>) -> bool
 /// apart: they have no coefficients, and one picture and one vector predict all of them.
 #[inline(always)]
 pub(crate) fn border_strengths(edge: &Edge, own: &Contexts, even: bool, vertical: bool) -> Word
-    ensures here { (even ≡ true → is_even own.now ≡ true) → (p q : CodedMacroblock) → LiesAlong vertical edge.now p → AreContexts own.now q → names result ≡ strengths vertical 0 p q }
+    ensures here { (even ≡ true → is_even own.now ≡ true) → (p q : CodedMacroblock) → LiesAlong vertical edge.now p →
+        AreContexts own.now q → names result ≡ strengths vertical 0 p q }
     ensures word { IsWord result }
 {
     if edge.intra {
@@ -159,7 +161,8 @@ fn inner(own: &Contexts, alike: bool, vertical: bool, line: usize, k: usize) -> 
     requires line { line < 4 }
     requires place { k < 4 }
     requires inter { own.now.intra ≡ false }
-    ensures here { (alike ≡ true → are_alike own.now.motions ≡ true) → (coded : CodedMacroblock) → AreContexts own.now coded → named result ≡ strength_at vertical line coded coded k }
+    ensures here { (alike ≡ true → are_alike own.now.motions ≡ true) → (coded : CodedMacroblock) →
+        AreContexts own.now coded → named result ≡ strength_at vertical line coded coded k }
     ensures small { result < 4 }
 {
     let p = number_at(vertical, line - 1, k);
@@ -174,7 +177,8 @@ fn inner_line(own: &Contexts, alike: bool, vertical: bool, line: usize) -> Word
     requires some { 0 < line }
     requires line { line < 4 }
     requires inter { own.now.intra ≡ false }
-    ensures here { (alike ≡ true → are_alike own.now.motions ≡ true) → (coded : CodedMacroblock) → AreContexts own.now coded → names result ≡ strengths vertical line coded coded }
+    ensures here { (alike ≡ true → are_alike own.now.motions ≡ true) → (coded : CodedMacroblock) →
+        AreContexts own.now coded → names result ≡ strengths vertical line coded coded }
     ensures word { IsWord result }
 {
     [
@@ -189,7 +193,8 @@ fn inner_line(own: &Contexts, alike: bool, vertical: bool, line: usize) -> Word
 #[inline(always)]
 fn inner_lines(own: &Contexts, alike: bool, vertical: bool) -> [Word; 3]
     requires inter { own.now.intra ≡ false }
-    ensures here { (alike ≡ true → are_alike own.now.motions ≡ true) → (coded : CodedMacroblock) → AreContexts own.now coded → all_names result ≡ inner_lines vertical coded }
+    ensures here { (alike ≡ true → are_alike own.now.motions ≡ true) → (coded : CodedMacroblock) →
+        AreContexts own.now coded → all_names result ≡ inner_lines vertical coded }
     ensures words { AreWords result }
 {
     [

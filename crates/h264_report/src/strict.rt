@@ -5,7 +5,8 @@ ghost use Rattle.std.specs.Prelude.{◌≡◌, ◌<◌, ◌==◌, ℕ, get_or, i
 ghost use Rattle.h264_base.specs.Call.{OfUnit, OfSlice, OfElement};
 ghost use Rattle.h264_base.specs.declared.mode.SliceType.{SliceType};
 ghost use Rattle.h264_report.specs.declared.strict.StrictRule.{StrictRule};
-ghost use Rattle.h264_report.specs.Strict.{place_of, label_of, clause_of, by_value, by_marking, by_element, by_order, after_element, after_unit, start, with_place};
+ghost use Rattle.h264_report.specs.Strict.{place_of, label_of, clause_of, by_value, by_marking};
+ghost use Rattle.h264_report.specs.Strict.{by_element, by_order, after_element, after_unit, start, with_place};
 ghost use Rattle.h264_report.specs.Strict.{first_bit, TookStrict, Advances, found_of, with_places, bits_for, listed, has_idr_count};
 
 use crate::survey::element::count_of;

@@ -123,8 +123,8 @@ fn may_skip(
     is_steady(mode, held, decoder)
 }
 
-/// Fills so many numbers after `prev`, one after another (8.2.5.2), and gives the last of them, or `prev` where there is none. It skips those that change nothing
-/// but the numbers of frames.
+/// Fills so many numbers after `prev`, one after another (8.2.5.2), and gives the last of them, or `prev` where there is none. It skips those that change
+/// nothing but the numbers of frames.
 fn fill_frames<S: FrameSink>(
     mode: Mode,
     prev: u32,
