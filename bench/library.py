@@ -3,8 +3,8 @@
 
     bench/library.py PROGRAM LIBRARY FOLDER|FILE.. [--turns N]
 
-PROGRAM is h264v, LIBRARY the shared object (libh264v.so.1) built for the same processor. The library (library/receive.c) gets pieces of 64 KiB, and one
-unit a piece; each frame is received, and received and read. The program runs `decode` with its output to nothing. libavcodec (library/avcodec.c) gets
+PROGRAM is h264v, LIBRARY the shared object (libh264v.so.1) built for the same processor. The library (library/receive.c) gets one unit a piece, pieces of
+4 KiB and of 64 KiB; each frame is received and read, and with units also left unread. The program runs `decode` with its output to nothing. libavcodec (library/avcodec.c) gets
 pieces of 64 KiB, and each frame is read. All take turns. The least of N turns counts, 5 where N is left out, as user and system time of the process.
 Compare figures of one line only.
 Prints a table for docs/SPEED.md. Needs cc; libavcodec is left out where its headers are missing.
@@ -55,12 +55,12 @@ def names_in(words):
 
 # How the library is used, each with the words of receive.c.
 WAYS = {
-    "64 KiB": ("pieces", "unread"),
-    "units": ("units", "unread"),
-    "64 KiB, read": ("pieces", "read"),
-    "units, read": ("units", "read"),
+    "units, unread": ("units", "unread"),
+    "units": ("units", "read"),
+    "4 KiB": ("4096", "read"),
+    "64 KiB": ("65536", "read"),
 }
-HEAD = f"| stream | `decode`, user + system | {' | '.join(WAYS)} | read, of libavcodec | of its C code |"
+HEAD = f"| stream | `decode`, user + system | {' | '.join(WAYS)} | units, of libavcodec | of its C code |"
 
 
 def row(name, best):
@@ -68,7 +68,7 @@ def row(name, best):
     ratio = lambda way, other: "{:.2f}".format(sum(best[way]) / sum(best[other])) if other in best else "-"
     cells = [os.path.basename(name).replace(".264", ""), "{:.3f} + {:.3f}".format(*best["program"])]
     cells += [ratio(way, "program") for way in WAYS]
-    cells += [ratio("units, read", "assembly"), ratio("units, read", "c")]
+    cells += [ratio("units", "assembly"), ratio("units", "c")]
     return "| " + " | ".join(cells) + " |"
 
 

@@ -1,9 +1,9 @@
 /* Decodes a stream by the library in pieces: what bench/library.py times.
  *
- *     receive FILE pieces|units read|unread
+ *     receive FILE BYTES|units read|unread
  *
- * pieces: of 64 KiB, as a file is read. units: one unit of the stream a piece, as a player has them. read: every row of each frame is
- * read too. The status is 0 for a legal stream. */
+ * BYTES: so many a piece, 64 KiB at most, as a file is read. units: one unit of the stream a piece, as a player has them. read: every row
+ * of each frame is read too. The status is 0 for a legal stream. */
 #include <h264v.h>
 #include <stdbool.h>
 #include <stdio.h>
@@ -32,13 +32,13 @@ static void receive(h264v *decoder)
         sum += reads ? touch(&frame) : 1;
 }
 
-/* Sends a file in pieces of 64 KiB. */
-static void send_pieces(h264v *decoder, FILE *file, h264v_verdict *verdict)
+/* Sends a file in pieces of so many bytes. */
+static void send_pieces(h264v *decoder, FILE *file, size_t most, h264v_verdict *verdict)
 {
     static uint8_t piece[PIECE];
     int32_t answer = H264V_GOES_ON;
     size_t size;
-    while (answer == H264V_GOES_ON && (size = fread(piece, 1, PIECE, file)) > 0) {
+    while (answer == H264V_GOES_ON && (size = fread(piece, 1, most, file)) > 0) {
         answer = h264v_send(decoder, piece, size, verdict);
         receive(decoder);
     }
@@ -83,13 +83,17 @@ int main(int argc, char **argv)
     FILE *file = argc == 4 ? fopen(argv[1], "rb") : NULL;
     h264v *decoder;
     h264v_verdict verdict;
-    if (!file)
+    size_t most = argc == 4 ? strtoul(argv[2], NULL, 10) : 0;
+    if (!file || most > PIECE || (most == 0 && strcmp(argv[2], "units") != 0))
         return USAGE;
     reads = strcmp(argv[3], "read") == 0;
     if (h264v_open(H264V_FULL, H264V_BASELINE, &decoder) != H264V_OPENED)
         return USAGE;
     setvbuf(file, NULL, _IONBF, 0);
-    (strcmp(argv[2], "units") == 0 ? send_units : send_pieces)(decoder, file, &verdict);
+    if (strcmp(argv[2], "units") == 0)
+        send_units(decoder, file, &verdict);
+    else
+        send_pieces(decoder, file, most, &verdict);
     h264v_finish(decoder, &verdict);
     receive(decoder);
     h264v_close(decoder);
