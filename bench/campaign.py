@@ -6,8 +6,8 @@ Streams are made by bench/streams, legal by construction and with every tool of 
 each C changed ones are made: an element with another value, the code words after it whole; bits flipped; a byte inserted; the end cut off; units lost,
 doubled and exchanged.
 
-Of each stream: `check`, `frames` and `decode` have to give one answer, with a status and a label that docs/ name; the bytes of `decode` have to be those
-frames; a stream that is legal by construction has to be a yes. Of each yes the frames have to be those of ffmpeg's decoder, and where they are not,
+Of each stream: `check --strict`, `frames` and `decode` have to give one answer, with a status and a label that docs/ name; the bytes of `decode` have to be
+those frames; a stream that is legal by construction has to be a yes, and to break no further rule. Of each yes the frames have to be those of ffmpeg's decoder, and where they are not,
 OpenH264's are looked at too. A stream for which this does not hold is kept in FOLDER, by its seed, with a line in FOLDER/differs.txt. FOLDER/seeds.txt
 tells which seeds were gone through, and what they covered. Known ways in which ffmpeg does not follow the standard are counted apart
 (docs/RELIABILITY.md). With --main-ip pictures have explicit weights, and PROGRAM judges with --target main-ip.
@@ -79,51 +79,54 @@ class Other:
 
 
 class Judge:
-    """What PROGRAM says of streams. One process of each command goes through many of them, where PROGRAM takes several files."""
+    """What PROGRAM says of streams. One process of `check` and of `frames` goes through many of them, where PROGRAM takes several files."""
 
     def __init__(self, program, main_ip, path):
         self.program, self.more = program, ["--target", "main-ip"] if main_ip else []
-        usage = subprocess.run([program, "check", path, path], capture_output=True)
+        usage = subprocess.run([program, "check", "--strict", path, path], capture_output=True)
         self.takes_several = usage.stdout.startswith(path.encode())
+        self.check = ["check", "--strict"] if self.takes_several else ["check"]
 
     def ran(self, command, paths):
-        return subprocess.run([self.program, command, *self.more, *paths], capture_output=True)
+        return subprocess.run([self.program, *command, *self.more, *paths], capture_output=True)
 
     def judged(self, paths):
-        """Of each stream the status and the last line; each frame's size and digest, and its count; and what is wrong with the answers."""
+        """Of each stream the status and the last line; each frame's size and digest, and its count; the further rules that it breaks; and what is wrong
+        with the answers."""
         if not self.takes_several:
             return [self.judged_alone(it) for it in paths]
-        check, frames, decode = (self.ran(it, paths) for it in ("check", "frames", "decode"))
-        lines = [by_file(it) for it in (check.stdout, frames.stdout, decode.stderr)]
-        found, at = [], 0
+        check, frames = self.ran(self.check, paths), self.ran(["frames"], paths)
+        lines, found = [by_file(it.stdout) for it in (check, frames)], []
         for path in paths:
-            ends = [it[path][-1:] for it in lines]
+            decode = self.ran(["decode"], [path])
+            ends = [it[path][-1:] for it in lines] + [decode.stderr.decode().splitlines()[-1:]]
             told = [it.split() for it in lines[1][path] if it.startswith("frame ")]
             last = ends[1][0] if ends[1] else ""
-            status = next((status for status, word in VERDICTS.items() if last.startswith(word)), None)
             digests, counts = [f"{it[4]} {it[6]}" for it in told], [int(it[3]) for it in told]
-            length = sum(bytes_of(it) for it in digests)
-            wrong = self.wrong(last, [ends[0], ends[2]]) or unlike(decode.stdout[at : at + length], digests)
-            at += length
-            found.append((status, last, digests, counts, wrong))
-        worst = max((status for status, *_ in found if status is not None), default=None)
-        if at == len(decode.stdout) and {it.returncode for it in (check, frames, decode)} == {worst} and not any(it[4] for it in found):
+            wrong = self.wrong(last, [ends[0], ends[2]]) or unlike(decode.stdout, digests)
+            if not last.startswith(VERDICTS.get(decode.returncode, "no verdict")):
+                wrong = wrong or f"decode: status {decode.returncode}, and {last!r}"
+            found.append((decode.returncode, last, digests, counts, broken_in(lines[0][path]), wrong))
+        worst = max(it[0] for it in found)
+        strict = max(worst, 1) if any(it[4] for it in found) else worst
+        if [check.returncode, frames.returncode] == [strict, worst] and not any(it[5] for it in found):
             return found
         return [self.judged_alone(it) for it in paths]
 
     def judged_alone(self, path):
         """What `judged` gives, of one stream, each command with its own status."""
-        check, frames, decode = (self.ran(it, [path]) for it in ("check", "frames", "decode"))
+        check, frames, decode = (self.ran(it, [path]) for it in (self.check, ["frames"], ["decode"]))
         lines = [it.decode().splitlines() for it in (check.stdout, frames.stdout, decode.stderr)]
         ends = [[it for it in some if not it.endswith("nothing is proved")][-1:] for some in lines]
         told = [it.split() for it in lines[1] if it.startswith("frame ")]
         last = ends[1][0] if ends[1] else ""
         digests, counts = [f"{it[4]} {it[6]}" for it in told], [int(it[3]) for it in told]
-        statuses = [it.returncode for it in (check, frames, decode)]
+        statuses, broken = [it.returncode for it in (check, frames, decode)], broken_in(lines[0])
         wrong = self.wrong(last, [ends[0], ends[2]]) or unlike(decode.stdout, digests)
-        if any(not last.startswith(VERDICTS.get(it, "no verdict")) for it in statuses):
+        status = next((status for status, word in VERDICTS.items() if last.startswith(word)), None)
+        if statuses != [max(status or 0, 1) if broken else status, status, status]:
             wrong = wrong or f"statuses {statuses}, and {last!r}"
-        return frames.returncode, last, digests, counts, wrong
+        return frames.returncode, last, digests, counts, broken, wrong
 
     def wrong(self, last, others):
         """What is wrong with the forms of the answers, if anything: the last line of `frames`, and those of `check` and `decode`."""
@@ -145,6 +148,11 @@ def by_file(output):
         path, _, rest = line.partition(": ")
         lines[path].append(rest)
     return lines
+
+
+def broken_in(lines):
+    """The labels of the further rules that are broken, by the lines of `check --strict`."""
+    return {it.split()[3] for it in lines if it.startswith("strict: bit ")}
 
 
 def bytes_of(digest):
@@ -235,15 +243,16 @@ class Worker:
         batch, self.waiting = self.waiting, []
         paths = self.paths[: len(batch)]
         for path, (name, stream, tags, is_legal), answer in zip(paths, batch, self.judge.judged(paths)):
-            status, last, frames, order, wrong = answer
+            status, last, frames, order, broken, wrong = answer
+            self.counts.update(f"further rule {it}" for it in broken)
             self.counts[VERDICTS.get(status, f"status {status}")] += 1
             if status == 1:
                 self.counts[f"rule {last.split()[3]}"] += 1
-            if wrong or is_legal and status != 0:
+            if wrong or is_legal and (status != 0 or broken):
                 self.counts["wrong answers"] += 1
-                self.keep(name, wrong or f"legal by construction, and {last}", stream)
+                self.keep(name, wrong or f"legal by construction, and {last}; {' '.join(broken)}", stream)
             elif status == 0:
-                self.compare_frames(path, (name, stream, tags), (frames, order, dropped(last)))
+                self.compare_frames(path, (name, stream, tags | broken), (frames, order, dropped(last)))
 
     def compare_frames(self, path, told, mine):
         """Compares the frames of a yes with those of the other decoders, and counts what came of it."""
@@ -328,6 +337,10 @@ def excused(mine, theirs, complaints, tags):
             return "another order, of two frames of one count"
         if falls(order) == 0:
             return "another order, in which counts fall"
+        if "IdrCount" in tags:
+            return "another order, with an IDR picture's count that is not 0"
+        if "long word" in tags:
+            return "another order, with a count that lies too far from others"
         if "count below that of operation 5" in tags or {"operation 5", "changed"} <= tags:
             return "another order, with counts below that of operation 5"
     if theirs is not None and unwritten:
