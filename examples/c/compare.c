@@ -11,7 +11,7 @@
 #include <stdlib.h>
 #include <string.h>
 
-enum { PIECE = 65536, DIFFERENT = 1, FAILED = 4, USAGE = 64 };
+enum { PIECE = 4096, DIFFERENT = 1, FAILED = 4, USAGE = 64 };
 
 typedef struct {
     FILE *file;

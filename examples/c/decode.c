@@ -8,7 +8,7 @@
 #include <stdio.h>
 #include <string.h>
 
-enum { PIECE = 65536, FAILED = 4, USAGE = 64 };
+enum { PIECE = 4096, FAILED = 4, USAGE = 64 };
 
 static void print_verdict(const h264v_verdict *verdict)
 {

@@ -18,8 +18,8 @@ from typing import NamedTuple
 
 __all__ = ["Decoder", "Frame", "Kind", "Mode", "Target", "Verdict", "check"]
 
-#: How many bytes a decoder reads of a file at a time.
-PIECE = 1 << 16
+#: How many bytes a decoder reads of a file at a time: few, so that few frames wait at once.
+PIECE = 1 << 12
 
 
 class Mode(enum.IntEnum):
