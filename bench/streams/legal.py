@@ -126,7 +126,7 @@ class Stream:
         if chance.random() < 0.2:
             out = Unit(0, DELIMITER)
             out.u("primary_pic_type", 3, 7)
-            self.units.append(out)
+            self.units.insert(len(self.units) if self.pictures else 0, out)
         if chance.random() < 0.1:
             self.units += [self.sps.unit()] if not self.sps.vui else []
             self.units += [it.unit() for it in self.sets]
