@@ -337,6 +337,9 @@ def excused(mine, theirs, complaints, tags):
             return "another order, of two frames of one count"
         if falls(order) == 0:
             return "another order, in which counts fall"
+        count_of = dict(zip(frames, order))
+        if len(count_of) == len(frames) and "operation 5" in tags and falls([count_of[it] for it in theirs]) > falls(order):
+            return "another order, in which counts fall more often"
         if "IdrCount" in tags:
             return "another order, with an IDR picture's count that is not 0"
         if "long word" in tags:
