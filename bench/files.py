@@ -17,6 +17,7 @@ import tempfile
 import time
 
 HERE = pathlib.Path(__file__).resolve().parent
+SIGNALS = (signal.SIGINT, signal.SIGTERM, signal.SIGHUP)
 COMMANDS = ["units", "headers", "check", "frames", "decode"]
 DEVICE, OUTSIDE = 4, 2
 GIBIBYTE = 1 << 30
@@ -158,8 +159,9 @@ class Trials:
     def signals(self):
         """A signal while the program waits for more of a pipe: what it has written ends in a whole line."""
         right, seen = True, []
-        for number in (signal.SIGINT, signal.SIGTERM, signal.SIGHUP):
-            process = subprocess.Popen([self.program, "units", "-"], stdin=subprocess.PIPE, stdout=subprocess.PIPE, stderr=subprocess.DEVNULL)
+        for number in SIGNALS:
+            pipes = {"stdin": subprocess.PIPE, "stdout": subprocess.PIPE, "stderr": subprocess.DEVNULL}
+            process = subprocess.Popen([self.program, "units", "-"], **pipes, preexec_fn=heed_signals)
             process.stdin.write(PICTURE + b"\0\0\1\x0c\xff\x80" * 10000)
             process.stdin.flush()
             time.sleep(1)
@@ -168,6 +170,12 @@ class Trials:
             seen.append(f"{signal.Signals(number).name} after {len(out)} bytes")
             right = right and process.returncode == -number and (not out or out.endswith(b"\n"))
         self.told("signals", right, ", ".join(seen))
+
+
+def heed_signals():
+    """Has a process end by a signal, even where this script was started to ignore it, as by nohup."""
+    for number in SIGNALS:
+        signal.signal(number, signal.SIG_DFL)
 
 
 def main(program, *words):
