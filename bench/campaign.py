@@ -319,8 +319,13 @@ def dropped(last):
 
 
 def falls(counts):
-    """How often a count does not rise."""
-    return sum(a >= b for a, b in zip(counts, counts[1:]))
+    """How often a count does not rise. An IDR picture's 0 begins anew."""
+    return sum(a >= b != 0 for a, b in zip(counts, counts[1:]))
+
+
+def is_far_apart(counts):
+    """Whether two counts in a row lie farther apart than 8.2.1 lets them."""
+    return any(not -(2**15) <= a - b < 2**15 for a, b in zip(counts, counts[1:]))
 
 
 def excused(mine, theirs, complaints, tags):
@@ -342,10 +347,10 @@ def excused(mine, theirs, complaints, tags):
             return "another order, in which counts fall more often"
         if "IdrCount" in tags:
             return "another order, with an IDR picture's count that is not 0"
-        if "long word" in tags:
-            return "another order, with a count that lies too far from others"
         if "count below that of operation 5" in tags or {"operation 5", "changed"} <= tags:
             return "another order, with counts below that of operation 5"
+    if theirs is not None and is_far_apart(order) and not collections.Counter(theirs) - collections.Counter(frames):
+        return "a count that lies too far from others"
     if theirs is not None and unwritten:
         more, fewer = collections.Counter(theirs), collections.Counter(frames)
         if not fewer - more and (more - fewer).total() <= unwritten:

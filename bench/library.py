@@ -4,8 +4,8 @@
     bench/library.py PROGRAM LIBRARY FOLDER|FILE.. [--turns N]
 
 PROGRAM is h264v, LIBRARY the shared object (libh264v.so.1) built for the same processor. The library (library/receive.c) gets one unit a piece, pieces of
-4 KiB and of 64 KiB; each frame is received and read, and with units also left unread. The program runs `decode` with its output to nothing. libavcodec (library/avcodec.c) gets
-pieces of 64 KiB, and each frame is read. All take turns. The least of N turns counts, 5 where N is left out, as user and system time of the process.
+4 KiB and of 64 KiB. Each frame is received; it is read too, or left unread. The program runs `decode` with its output to nothing, and into a pipe that this script reads. libavcodec
+(library/avcodec.c) gets pieces of 64 KiB, and each frame is read. All take turns. The least of N turns counts, 5 where N is left out, as user and system time of the process.
 Compare figures of one line only.
 Prints a table for docs/SPEED.md. Needs cc; libavcodec is left out where its headers are missing.
 """
@@ -17,12 +17,24 @@ import tempfile
 
 HERE = os.path.dirname(os.path.abspath(__file__))
 TURNS = 5
+MOST_READ = 1 << 20
 
 
-def seconds(words):
-    """User and system time of a run."""
+def drained(words):
+    """Runs a command and reads its output from a pipe."""
+    room = bytearray(MOST_READ)
+    with subprocess.Popen(words, stdout=subprocess.PIPE, stderr=subprocess.DEVNULL) as process:
+        while process.stdout.readinto(room):
+            pass
+
+
+def seconds(words, into_pipe):
+    """User and system time of a run, whose output goes to nothing or into a pipe."""
     before = resource.getrusage(resource.RUSAGE_CHILDREN)
-    subprocess.run(words, stdout=subprocess.DEVNULL, stderr=subprocess.DEVNULL)
+    if into_pipe:
+        drained(words)
+    else:
+        subprocess.run(words, stdout=subprocess.DEVNULL, stderr=subprocess.DEVNULL)
     after = resource.getrusage(resource.RUSAGE_CHILDREN)
     return after.ru_utime - before.ru_utime, after.ru_stime - before.ru_stime
 
@@ -39,7 +51,7 @@ def least(commands, turns):
     best = {}
     for _ in range(turns):
         for name, words in commands.items():
-            took = seconds(words)
+            took = seconds(words, name == PIPE)
             if name not in best or sum(took) < sum(best[name]):
                 best[name] = took
     return best
@@ -53,21 +65,23 @@ def names_in(words):
             yield word
 
 
+PIPE = "`decode` into a pipe"
 # How the library is used, each with the words of receive.c.
 WAYS = {
     "units, unread": ("units", "unread"),
+    "4 KiB, unread": ("4096", "unread"),
     "units": ("units", "read"),
     "4 KiB": ("4096", "read"),
     "64 KiB": ("65536", "read"),
 }
-HEAD = f"| stream | `decode`, user + system | {' | '.join(WAYS)} | units, of libavcodec | of its C code |"
+HEAD = f"| stream | `decode`, user + system | {PIPE} | {' | '.join(WAYS)} | units, of libavcodec | of its C code |"
 
 
 def row(name, best):
     """A line of the table: the time of `decode`, that of each way of the library as a part of it, and of libavcodec's."""
     ratio = lambda way, other: "{:.2f}".format(sum(best[way]) / sum(best[other])) if other in best else "-"
     cells = [os.path.basename(name).replace(".264", ""), "{:.3f} + {:.3f}".format(*best["program"])]
-    cells += [ratio(way, "program") for way in WAYS]
+    cells += [ratio(way, "program") for way in (PIPE, *WAYS)]
     cells += [ratio("units", "assembly"), ratio("units", "c")]
     return "| " + " | ".join(cells) + " |"
 
@@ -92,7 +106,8 @@ def main():
             sys.exit("library.py: library/receive.c can't be built")
         print(HEAD + "\n" + "|---" * HEAD.count(" |") + "|")
         for name in names_in(streams):
-            commands = {"program": [program, "decode", name], **{way: [receive, name, *more] for way, more in WAYS.items()}}
+            decode = [program, "decode", name]
+            commands = {"program": decode, PIPE: decode, **{way: [receive, name, *more] for way, more in WAYS.items()}}
             if avcodec:
                 commands.update({"assembly": [avcodec, name], "c": [avcodec, name, "c"]})
             best = least(commands, turns)
