@@ -4,7 +4,7 @@ use Rattle.std.specs.Option.{option_map}
 use Rattle.std.specs.Prelude.{slice_index}
 use Rattle.std.proofs.lemmas.Option.{slice_get-get_or, slice_get_past, some_pair_parts}
 use Rattle.std.proofs.lemmas.List.{get_or_past}
-use Rattle.std.proofs.lemmas.Nat.{pow_pos, pow-add, shr_high, leading_top, leading_length, div-mul-add}
+use Rattle.std.proofs.lemmas.Nat.{pow_pos, pow-add, shr_high, leading_top, leading_length, div-mul-add, le-div}
 use Rattle.std.proofs.lemmas.Bool.{cases_lt}
 use Rattle.std.proofs.Math.Nat.{pow-succ'}
 use Rattle.std.specs.Int.{w64, from_be_bytes}
@@ -199,10 +199,10 @@ pub record Leads (bytes : List ℕ) (i z : ℕ) : Type 0 where
   pub zeros : peek_at z bytes i ≡ 0
   pub one : bit_or_zero bytes (i + z) ≡ 1
 
-leads-from : (bytes : List ℕ) (i z j : ℕ) → z + suc j ≡ 57 → 2 ^ j ≤ peek_at 57 bytes i → peek_at 57 bytes i < 2 ^ suc j → Leads bytes i z
+leads-from : (n : ℕ) (bytes : List ℕ) (i z j : ℕ) → z + suc j ≡ n → 2 ^ j ≤ peek_at n bytes i → peek_at n bytes i < 2 ^ suc j → Leads bytes i z
 unfolding peek_at
-leads-from bytes i z j e low high =
-    let s = peek-split z (suc j) 57 bytes i (omega arith) in
+leads-from n bytes i z j e low high =
+    let s = peek-split z (suc j) n bytes i (omega arith) in
     let h : peek_at z bytes i * 2 ^ suc j + peek_at (suc j) bytes (i + z) < 2 ^ suc j = omega arith in
     let none = small-left (peek_at z bytes i) (2 ^ suc j) (peek_at (suc j) bytes (i + z)) h in
     let gone : peek_at z bytes i * 2 ^ suc j ≡ 0 = rw none (omega arith) in
@@ -210,27 +210,50 @@ leads-from bytes i z j e low high =
     let c = times-bit (bit_or_zero bytes (i + z)) (2 ^ j) (bit-below bytes (i + z)) in
     record { zeros = none; one = omega arith }
 
+-- a number of n bits has the zeros above them
+pub zeros-above : (n w : ℕ) → n ≤ 57 → w < 2 ^ n → 64 - n ≤ count_leading_zeros 64 w
+zeros-above n w few h =
+    let p = le-pow n 57 few in
+    let l = leading_length 64 w (omega arith) in elim (cases_lt l.0 (suc n)) [
+      | inl below ↦ let e = l.1 in omega arith
+      | inr past ↦ absurd (let e : 2 ^ suc n ≤ 2 ^ l.0 = le-pow (suc n) l.0 (omega arith) in let d = pow-two n in let f = l.3 in omega arith)
+    ]
+
 pub window-seven : (w : ℕ) → w < 2 ^ 57 → 7 ≤ count_leading_zeros 64 w
-window-seven w h = let l = leading_length 64 w (omega arith) in elim (cases_lt l.0 58) [
-  | inl below ↦ let e = l.1 in omega arith
-  | inr past ↦ absurd (let e : 2 ^ 58 ≤ 2 ^ l.0 = le-pow 58 l.0 (omega arith) in let f = l.3 in omega arith)
+window-seven w h = zeros-above 57 w (omega arith) h
+
+few : (m : ℕ) → 2 ^ m ≤ 1 → m < 1
+few zero h = omega arith
+few (suc m) h = absurd (let e = pow-two m in let p = pow_pos m in omega arith)
+
+-- 0 alone has no 1
+not-zero : (w : ℕ) → count_leading_zeros 64 w < 64 → 0 < w
+not-zero w h = elim (cases_lt 0 w) [
+  | inl more ↦ more
+  | inr none ↦ absurd (let z : w ≡ 0 = omega arith in let l = leading_length 64 w (omega arith) in let p : 2 ^ l.0 ≤ 1 = (let q = l.3 in omega arith) in let m = few l.0 p in let q = l.1 in omega arith)
 ]
 
+-- a shift that drops bits below the highest 1 leaves that
+pub one-left : (w k : ℕ) → w < 2 ^ 57 → k + count_leading_zeros 64 w < 64 → 1 ≤ w / 2 ^ k
+one-left w k h g =
+    let t = leading_top 64 w (not-zero w (omega arith)) (omega arith) in
+    let q = t.1 in
+    let p = le-pow k t.0 (omega arith) in
+    le-div 1 w (2 ^ k) (pow_pos k) (let l = t.2 in omega arith)
+
+-- what the zeros of a number of n bits are in the bytes
+pub number-leads : (n w : ℕ) (bytes : List ℕ) (i : ℕ) → n ≤ 57 → w ≡ peek_at n bytes i → count_leading_zeros 64 w - (64 - n) < n →
+    Leads bytes i (count_leading_zeros 64 w - (64 - n))
+number-leads n w bytes i short e h =
+    let below : w < 2 ^ n = (let b = peek-below n bytes i in omega arith) in
+    let p = le-pow n 57 short in
+    let above = zeros-above n w short below in
+    let t = leading_top 64 w (not-zero w (omega arith)) (omega arith) in
+    let q = t.1 in
+    leads-from n bytes i (count_leading_zeros 64 w - (64 - n)) t.0 (omega arith) (let l = t.2 in omega arith) (let l = t.3 in omega arith)
+
 pub window-leads : (w : ℕ) (bytes : List ℕ) (i : ℕ) → w ≡ peek_at 57 bytes i → count_leading_zeros 64 w - 7 < 57 → Leads bytes i (count_leading_zeros 64 w - 7)
-window-leads w bytes i e h =
-    let below : w < 2 ^ 57 = (let b = peek-below 57 bytes i in omega arith) in
-    let seven = window-seven w below in
-    elim (cases_lt 0 w) [
-      | inl more ↦
-          let t = leading_top 64 w more (omega arith) in
-          let q = t.1 in
-          leads-from bytes i (count_leading_zeros 64 w - 7) t.0 (omega arith) (let l = t.2 in omega arith) (let l = t.3 in omega arith)
-      | inr none ↦ absurd (let z : w ≡ 0 = omega arith in let l = leading_length 64 w (omega arith) in let p : 2 ^ l.0 ≤ 1 = (let q = l.3 in omega arith) in let m = few l.0 p in let q = l.1 in omega arith)
-    ]
-  where
-    few : (m : ℕ) → 2 ^ m ≤ 1 → m < 1
-    few zero h = omega arith
-    few (suc m) h = absurd (let e = pow-two m in let p = pow_pos m in omega arith)
+window-leads w bytes i e h = number-leads 57 w bytes i (omega arith) e h
 
 -- as many zeros as the window leads with
 pub zeros-lead : (n w : ℕ) (bytes : List ℕ) (i : ℕ) → w ≡ peek_at 57 bytes i → n ≤ 57 → n ≤ count_leading_zeros 64 w - 7 → peek_at n bytes i ≡ 0
@@ -267,16 +290,15 @@ golomb-outside z bytes i small h g =
     rw (zeros-found z 32 bytes i small h.zeros h.one, number-outside z bytes (i + z + 1) (omega arith)) refl
 
 -- the word as a number is its value plus 1
-pub golomb-word : (w z : ℕ) (bytes : List ℕ) (i : ℕ) → w ≡ peek_at 57 bytes i → z < 29 → Leads bytes i z → w / 2 ^ (56 - 2 * z) ≡ 2 ^ z + peek_at z bytes (i + z + 1)
+pub golomb-word : (n w z : ℕ) (bytes : List ℕ) (i : ℕ) → w ≡ peek_at n bytes i → 2 * z + 1 ≤ n → Leads bytes i z →
+    w / 2 ^ (n - (2 * z + 1)) ≡ 2 ^ z + peek_at z bytes (i + z + 1)
 unfolding peek_at
-golomb-word w z bytes i e small h =
-    let t = peek-top (2 * z + 1) 57 bytes i (omega arith) in
-    let m : 57 - (2 * z + 1) ≡ 56 - 2 * z = omega arith in
+golomb-word n w z bytes i e fits h =
+    let t = peek-top (2 * z + 1) n bytes i fits in
     let s = peek-split z (suc z) (2 * z + 1) bytes i (omega arith) in
     let zeros : peek_at z bytes i * 2 ^ suc z ≡ 0 = rw h.zeros (omega arith) in
     let one : bit_or_zero bytes (i + z) * 2 ^ z ≡ 2 ^ z = ap (λ a. a * 2 ^ z) h.one ∙ omega arith in
-    let f : peek_at 57 bytes i / 2 ^ (56 - 2 * z) ≡ peek_at (2 * z + 1) bytes i = (rw m at t) in
-    rw (e, f, s) (omega arith)
+    rw (e, t, s) (omega arith)
 
 pub pow-few : (z n : ℕ) → z ≤ n → (1 ≤ 2 ^ z) × (2 ^ z ≤ 2 ^ n)
 pow-few z n h = (let p = pow_pos z in omega arith, pow-le-pow_right (omega arith) h)

@@ -18,7 +18,7 @@ ghost use Rattle.h264_tables.specs.Entry.{entry_of};
 ghost use Rattle.h264_tables.specs.Front.{front_of};
 ghost use Rattle.h264_tables.specs.Table.{code_table, rows_of};
 
-use crate::codes::{first_set, golomb, last_one};
+use crate::codes::{SHORT, first_set, golomb, last_one, short_golomb};
 use crate::stretch::{Stretch, stretch_after, stretch_from};
 use crate::window::{Upcoming, first_of, following, loaded, none_upcoming};
 use h264_rbsp::Rbsp;
@@ -199,9 +199,8 @@ impl<'a> Bits<'a> {
         self.u_width(N)
     }
 
-    /// Reads ue(v): an Exp-Golomb word of at most 31 zeros before its 1, as its codeNum (9.1).
-    #[inline]
-    pub fn ue(&mut self) -> Result<u32, NoWord>
+    /// Reads ue(v), as `ue`, where the word may be a long one.
+    fn ue_of_any_length(&mut self) -> Result<u32, NoWord>
         ensures word { IfOk result (λ v. Reads Unsigned self.old.body.bytes self.old.at (pos v) self.new.at) }
         ensures body { self.new.body ≡ self.old.body }
         ensures small { IfOk result (λ v. v < 2 ^ 32 - 1) }
@@ -213,6 +212,24 @@ impl<'a> Bits<'a> {
         };
         self.pass(next);
         Ok(value)
+    }
+
+    /// Reads ue(v): an Exp-Golomb word of at most 31 zeros before its 1, as its codeNum (9.1).
+    #[inline]
+    pub fn ue(&mut self) -> Result<u32, NoWord>
+        ensures word { IfOk result (λ v. Reads Unsigned self.old.body.bytes self.old.at (pos v) self.new.at) }
+        ensures body { self.new.body ≡ self.old.body }
+        ensures small { IfOk result (λ v. v < 2 ^ 32 - 1) }
+        ensures none { OnErr result (HasNoWord Unsigned self.old.body.bytes self.old.at) }
+        ensures kept { OnErr result (self.new ≡ self.old) }
+    {
+        let Some(word) = short_golomb(self.next_bits(SHORT)) else {
+            return self.ue_of_any_length();
+        };
+        match self.advance(word.length) {
+            Ok(()) => Ok(word.value),
+            Err(NoWord) => Err(NoWord),
+        }
     }
 
     /// Reads se(v): an Exp-Golomb word as a signed number (9.1.1).
