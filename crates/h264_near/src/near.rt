@@ -240,7 +240,7 @@ impl Near {
 
     /// What the block at a column and a row of the macroblock that is being decoded is predicted from: 1 to 4 are its own, of
     /// which `motions` has those that are derived; 0 and 5 lie around it. None where there is no such block; Some(None) where it is intra.
-    #[inline]
+    #[inline(always)]
     pub fn neighbour(
         &self,
         slice: u32,

@@ -1,12 +1,12 @@
 -- What the code has of the references and vectors of a macroblock's blocks. A working form.
-use Rattle.std.specs.Prelude.{◌≡◌, ℕ, ◌<◌, ◌≤◌, Bool, true, false, List, [], ◌∷◌, map, Option, Some, None, if◌then◌else◌}
+use Rattle.std.specs.Prelude.{◌≡◌, ℕ, ◌/◌, ◌%◌, ◌==◌, ◌<◌, ◌≤◌, Bool, true, false, List, [], ◌∷◌, map, Option, Some, None, if◌then◌else◌}
 use Rattle.std.specs.Option.{is_some}
 use Rattle.std.specs.List.{range_with_len}
 use Rattle.std.proofs.Common.{get_or}
 use Rattle.h264_near.specs.declared.motion.Motion.{Motion}
 use Rattle.h264_vectors.specs.declared.part.Part.{Part}
 use Rattle.h264_vectors.specs.declared.slice.SliceContext.{SliceContext}
-use Rattle.h264_vectors.specs.Derived.{Derived, is_inside}
+use Rattle.h264_vectors.specs.Derived.{Derived, is_inside, in_part}
 
 -- which blocks are derived, and which ones after these parts
 unfoldable pub places_with : List Bool → Part → List Bool
@@ -30,6 +30,14 @@ if_fits false v = None
 -- a part that is the whole macroblock
 abbrev pub IsWhole : Part → Type 0
 IsWhole p = (p.x ≡ 0) × (p.y ≡ 0) × (p.wide ≡ 4) × (p.high ≡ 4)
+
+-- a part that is made of whole 8x8 blocks
+abbrev pub IsOfQuarters : Part → Type 0
+IsOfQuarters p = (p.x % 2 ≡ 0) × (p.wide % 2 ≡ 0) × (p.y % 2 ≡ 0) × (p.high % 2 ≡ 0)
+
+-- the blocks of an 8x8 block are predicted as after the part, and the others as before
+abbrev pub IsQuarterFilled : List (Option Motion) → List (Option Motion) → Part → ℕ → Motion → Type 0
+IsQuarterFilled old new p q m = (k : ℕ) → k < 16 → get_or new k None ≡ (if k / 4 == q then in_part p k m (get_or old k None) else get_or old k None)
 
 -- all blocks have one reference and one vector
 pub record AreAlike (motions : List (Option Motion)) : Type 0 where

@@ -1,12 +1,12 @@
 //! References and vectors of the blocks of a macroblock, part by part (8.4.1).
 #![tactic(auto)]
 
-ghost use Rattle.std.specs.Prelude.{◌≡◌, ℕ, ◌+◌, ◌<◌, ◌≤◌, Bool, IsTrue, List};
+ghost use Rattle.std.specs.Prelude.{◌≡◌, ℕ, ◌+◌, ◌<◌, ◌≤◌, Bool, true, IsTrue, List};
 ghost use Rattle.h264_near.specs.Coded.{CodedMacroblock};
 ghost use Rattle.h264_near.specs.Keeps.{Keeps};
 ghost use Rattle.h264_vectors.specs.Derived as derived;
 ghost use Rattle.h264_vectors.specs.Derived.{Derived};
-ghost use Rattle.h264_vectors.specs.Agrees.{Agrees, Usable, IsWhole, AreAlike, places_with};
+ghost use Rattle.h264_vectors.specs.Agrees.{Agrees, Usable, IsWhole, IsOfQuarters, IsQuarterFilled, AreAlike, places_with};
 
 use crate::part::Part;
 use crate::predicted::predicted_vector;
@@ -57,6 +57,49 @@ fn is_whole(part: Part) -> bool
     false
 }
 
+/// Whether a part is made of whole 8x8 blocks.
+#[inline(always)]
+fn is_of_quarters(part: Part) -> bool
+    ensures { result ≡ true → IsOfQuarters part }
+{
+    part.x % 2 == 0 && part.wide % 2 == 0 && part.y % 2 == 0 && part.high % 2 == 0
+}
+
+/// Keeps what the blocks of an 8x8 block are predicted from, if it lies in a part that is made of such blocks.
+#[inline(always)]
+fn fill_quarter(motions: &mut [Option<Motion>; 16], part: Part, q: usize, motion: Motion)
+    requires columns { part.x + part.wide ≤ 4 }
+    requires rows { part.y + part.high ≤ 4 }
+    requires whole { IsOfQuarters part }
+    requires quarter { q < 4 }
+    ensures { IsQuarterFilled motions.old motions.new part q motion }
+{
+    if !lies(part.x, part.wide, q % 2 * 2) {
+        return;
+    }
+    if !lies(part.y, part.high, q / 2 * 2) {
+        return;
+    }
+    motions[4 * q] = Some(motion);
+    motions[4 * q + 1] = Some(motion);
+    motions[4 * q + 2] = Some(motion);
+    motions[4 * q + 3] = Some(motion);
+}
+
+/// Keeps what the blocks of a part are predicted from that is made of whole 8x8 blocks.
+#[inline(always)]
+fn fill_quarters(motions: &mut [Option<Motion>; 16], part: Part, motion: Motion)
+    requires columns { part.x + part.wide ≤ 4 }
+    requires rows { part.y + part.high ≤ 4 }
+    requires whole { IsOfQuarters part }
+    ensures { motions.new ≡ derived.with_part motions.old part motion }
+{
+    fill_quarter(motions, part, 0, motion);
+    fill_quarter(motions, part, 1, motion);
+    fill_quarter(motions, part, 2, motion);
+    fill_quarter(motions, part, 3, motion);
+}
+
 /// Keeps what the blocks of a part are predicted from.
 #[inline]
 fn fill(motions: &mut [Option<Motion>; 16], part: Part, motion: Motion)
@@ -66,6 +109,10 @@ fn fill(motions: &mut [Option<Motion>; 16], part: Part, motion: Motion)
 {
     if is_whole(part) {
         *motions = [Some(motion); 16];
+        return;
+    }
+    if is_of_quarters(part) {
+        fill_quarters(motions, part, motion);
         return;
     }
     *motions = [

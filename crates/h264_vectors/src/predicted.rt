@@ -137,6 +137,26 @@ fn by_direction(
     by_median(ref_idx, a, b, c)
 }
 
+/// The predicted vector of a part that begins at the first block of its macroblock and is as wide: all that it looks at stands around the macroblock.
+#[inline(always)]
+fn vector_of_whole(
+    near: &Near,
+    slice: u32,
+    motions: &[Option<Motion>; 16],
+    direction: Direction,
+    ref_idx: u8,
+) -> Vector
+    ensures { (width : ℕ) (picture : List CodedMacroblock) → Keeps width picture near.now →
+        result ≡ syntax.predicted_vector width picture slice motions.now direction ref_idx 0 0 4 }
+{
+    let a = near.neighbour(slice, motions, 0, 1);
+    let b = near.neighbour(slice, motions, 1, 0);
+    let c = near.neighbour(slice, motions, 5, 0);
+    let d = near.neighbour(slice, motions, 0, 0);
+    let beyond = instead(c, d);
+    by_direction(direction, ref_idx, a, b, beyond)
+}
+
 /// The predicted vector of a part that is `wide` blocks wide and begins at column `x` and row `y` of its macroblock.
 /// `motions` has those of its blocks that are derived.
 pub fn predicted_vector(
@@ -154,6 +174,9 @@ pub fn predicted_vector(
     ensures { (width : ℕ) (picture : List CodedMacroblock) → Keeps width picture near.now →
         result ≡ syntax.predicted_vector width picture slice motions.now direction ref_idx x y wide }
 {
+    if (x, y, wide) == (0, 0, 4) {
+        return vector_of_whole(near, slice, motions, direction, ref_idx);
+    }
     let a = near.neighbour(slice, motions, x, y + 1);
     let b = near.neighbour(slice, motions, x + 1, y);
     let c = near.neighbour(slice, motions, x + wide + 1, y);
@@ -186,5 +209,5 @@ pub fn skip_vector(near: &Near, slice: u32) -> Vector
     if keeps_still(b) {
         return Vector { x: 0, y: 0 };
     }
-    predicted_vector(near, slice, &[None; 16], Direction::Median, 0, 0, 0, 4)
+    vector_of_whole(near, slice, &[None; 16], Direction::Median, 0)
 }

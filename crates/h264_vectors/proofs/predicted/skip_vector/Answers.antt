@@ -21,4 +21,4 @@ unfolding skip_vector
 returns c width picture k =
     let a = rw (c.neighbour-a.ensures width picture k) at (sym c.keeps_still.ensures ∙ c.if-keeps_still.false) in
     let b = rw (c.neighbour-b.ensures width picture k) at (sym c.keeps_still-2.ensures ∙ c.if-keeps_still-2.false) in
-    rw (a, b) (c.predicted_vector.ensures width picture k)
+    rw (a, b) (c.vector_of_whole.ensures width picture k)
