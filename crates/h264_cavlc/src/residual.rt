@@ -168,7 +168,8 @@ fn read_block<const N: usize, S: Elements>(
 /// Ok: how many levels are not 0; `by_place` has the level at each place of the scan, whatever it had before, and the elements that
 /// the sink was told are the block's one derivation, with every rule met.
 /// No: the first rule that it breaks, ResidualWord or BlockSize, at its element's stream bit. Write: the sink failed.
-/// After an Err the reader may have moved and some levels may be written.
+/// After an Err the reader may have moved and some levels may be written. A reader that no reference leads to, as `again` gives one, is read faster.
+#[inline(always)]
 pub fn block_into<const N: usize, S: Elements>(
     bits: &mut Bits,
     nc: u8,
@@ -187,10 +188,7 @@ pub fn block_into<const N: usize, S: Elements>(
     ensures inside { OnOk result (bits.new.at ≤ 8 * length bits.new.body.bytes) }
     ensures quiet { OnOk result (IsQuiet S.failures sink.old sink.new) }
 {
-    let mut near = bits.again();
-    let total = read_block::<N, S>(&mut near, nc, by_place, sink);
-    *bits = near;
-    total
+    read_block::<N, S>(bits, nc, by_place, sink)
 }
 
 /// Reads a block as `block_into` does, and answers its levels.

@@ -4,6 +4,7 @@ use Rattle.std.proofs.Common.{get_or-set_other, get_or-set_same}
 use Rattle.std.specs.List.{slice_get}
 use Rattle.std.proofs.lemmas.List.{take_more_set, map-append}
 use Rattle.h264_base.specs.declared.stop.Stop.{Stop}
+use Rattle.h264_base.specs.declared.stop.Stop.TheVariants.{No, Outside, Memory, Read, Write}
 use Rattle.h264_base.specs.Call.{Call}
 use Rattle.h264_base.specs.Grammar.{Grammar}
 use Rattle.h264_base.specs.Meets.{Reader, Meets, Is}
@@ -44,6 +45,14 @@ module _ {S : Type 0} {took : S → List Call → Type 0} {failures : S → ℕ}
       let P : ℕ → Type 0 = λ k. Leads took failures g (block_modes width picture slice constrained k modes) old now s s' in
       finish (subst P n l) (done took failures (Is (λ t. t)) modes now s' all e)
 
+  -- after an Err nothing is said of where the reader is
+  pub stay : {X A : Type 0} {R : X → A → Type 0} {g : Grammar A} {old new : Reader} {s s' : S} (e : Stop) → Meets {X = X} took failures R g old new s s' (Err e) → Meets {X = X} took failures R g old old s s' (Err e)
+  stay (No bit rule) m = record { meets = m.meets; same = refl }
+  stay (Outside bit feature) m = record { meets = m.meets; same = refl }
+  stay Memory m = record { meets = m.meets; same = refl }
+  stay Read m = record { meets = m.meets; same = refl }
+  stay Write m = record { meets = m.meets; same = refl }
+
   -- one more block
   pub blocks-next : {X : Type 0} {view : X → Block} {g : Grammar (List Block)} {old now mid : Reader} {s s' s'' : S} {x : X} (part : List Block → Grammar Block) (n b : ℕ) (blocks : List Block) → b < n → Leads took failures g (blocks_by part (n - b) blocks) old now s s' → Meets took failures (Is view) (part blocks) now mid s' s'' (Ok x) → Leads took failures g (blocks_by part (n - (b + 1)) (blocks ++ view x ∷ [])) old mid s s''
   unfolding blocks_by
@@ -52,12 +61,12 @@ module _ {S : Type 0} {took : S → List Call → Type 0} {failures : S → ℕ}
       let P : ℕ → Type 0 = λ k. Leads took failures g (blocks_by part k blocks) old now s s' in
       leads-on (λ t. blocks_by part (n - (b + 1)) (blocks ++ t ∷ [])) (subst P e l) m
 
-  pub blocks-stop : {X Y : Type 0} {view : X → Block} {R : Y → List Block → Type 0} {g : Grammar (List Block)} {old now mid : Reader} {s s' s'' : S} {e : Stop} (part : List Block → Grammar Block) (n b : ℕ) (blocks : List Block) → b < n → Leads took failures g (blocks_by part (n - b) blocks) old now s s' → Meets {X = X} took failures (Is view) (part blocks) now mid s' s'' (Err e) → Meets {X = Y} took failures R g old mid s s'' (Err e)
+  pub blocks-stop : {X Y : Type 0} {view : X → Block} {R : Y → List Block → Type 0} {g : Grammar (List Block)} {old now mid : Reader} {s s' s'' : S} {e : Stop} (part : List Block → Grammar Block) (n b : ℕ) (blocks : List Block) → b < n → Leads took failures g (blocks_by part (n - b) blocks) old now s s' → Meets {X = X} took failures (Is view) (part blocks) now mid s' s'' (Err e) → Meets {X = Y} took failures R g old old s s'' (Err e)
   unfolding blocks_by
-  blocks-stop {R = R} {g} {old} {now} {mid} {s} {s'} part n b blocks h l m =
+  blocks-stop {R = R} {g} {old} {now} {mid} {s} {s'} {e = why} part n b blocks h l m =
       let e : n - b ≡ suc (n - (b + 1)) = omega arith in
       let P : ℕ → Type 0 = λ k. Leads took failures g (blocks_by part k blocks) old now s s' in
-      finish (subst P e l) (stop (λ t. blocks_by part (n - (b + 1)) (blocks ++ t ∷ [])) m)
+      stay why (finish (subst P e l) (stop (λ t. blocks_by part (n - (b + 1)) (blocks ++ t ∷ [])) m))
 
   pub blocks-over : {Y : Type 0} {R : Y → List Block → Type 0} {g : Grammar (List Block)} {old now : Reader} {s s' : S} (part : List Block → Grammar Block) (n b : ℕ) (blocks : List Block) (y : Y) → n ≤ b → R y blocks → Leads took failures g (blocks_by part (n - b) blocks) old now s s' → Meets took failures R g old now s s' (Ok y)
   unfolding blocks_by

@@ -106,14 +106,16 @@ pub(crate) fn read_luma<const N: usize, S: Elements>(
     ensures sized { length totals.new ≡ 16 }
     ensures quiet { OnOk result (IsQuiet S.failures sink.old sink.new) }
 {
+    let mut own = bits.again();
     for b in 0..16 {
         if is_coded(pattern, b) {
             let nc = near.nc(slice, totals, b);
-            totals[b] = block_into::<N, S>(bits, nc, &mut levels[b], sink)?;
+            totals[b] = block_into::<N, S>(&mut own, nc, &mut levels[b], sink)?;
         } else {
             totals[b] = 0;
         }
     }
+    *bits = own;
     Ok(())
 }
 
@@ -133,8 +135,10 @@ fn read_chroma_dc<S: Elements>(
         *totals = [0; 2];
         return Ok(());
     }
-    totals[0] = block_into::<4, S>(bits, 0, &mut levels[0], sink)?;
-    totals[1] = block_into::<4, S>(bits, 0, &mut levels[1], sink)?;
+    let mut own = bits.again();
+    totals[0] = block_into::<4, S>(&mut own, 0, &mut levels[0], sink)?;
+    totals[1] = block_into::<4, S>(&mut own, 0, &mut levels[1], sink)?;
+    *bits = own;
     Ok(())
 }
 
@@ -153,10 +157,12 @@ fn read_all_ac<S: Elements>(
         (syntax.chroma_blocks width picture slice) bits.old bits.new sink.old sink.new result }
     ensures quiet { OnOk result (IsQuiet S.failures sink.old sink.new) }
 {
+    let mut own = bits.again();
     for b in 0..8 {
         let nc = near.chroma_nc(slice, totals, b);
-        totals[b] = block_into::<15, S>(bits, nc, &mut levels[b], sink)?;
+        totals[b] = block_into::<15, S>(&mut own, nc, &mut levels[b], sink)?;
     }
+    *bits = own;
     Ok(())
 }
 
