@@ -1,7 +1,7 @@
 //! Numbers of 4x4 luma blocks (6.4.3).
 #![tactic(auto)]
 
-ghost use Rattle.std.specs.Prelude.{◌≡◌, ◌<◌};
+ghost use Rattle.std.specs.Prelude.{◌≡◌, ◌-◌, ◌<◌, IfSome, None};
 ghost use Rattle.h264_near.specs.Coded.{column_of, row_of, number_of};
 
 /// The column of a block in its macroblock, by its number.
@@ -36,4 +36,42 @@ pub fn number(x: usize, y: usize) -> usize
     ensures within { result < 16 }
 {
     y / 2 * 8 + x / 2 * 4 + y % 2 * 2 + x % 2
+}
+
+/// The block to the left of another one, in the same macroblock.
+#[tactic(auto, unfolding(crate::specs::Coded::column_of, crate::specs::Coded::row_of, crate::specs::Coded::number_of))]
+#[inline(always)]
+pub(crate) fn left_of(b: usize) -> Option<usize>
+    requires { b < 16 }
+    ensures some { IfSome result (λ n. 0 < column_of b) }
+    ensures here { IfSome result (λ n. n ≡ number_of (column_of b - 1) (row_of b)) }
+    ensures within { IfSome result (λ n. n < 16) }
+    ensures none { result ≡ None → column_of b ≡ 0 }
+{
+    if b % 2 == 1 {
+        return Some(b - 1);
+    }
+    if b / 4 % 2 == 1 {
+        return Some(b - 3);
+    }
+    None
+}
+
+/// The block above another one, in the same macroblock.
+#[tactic(auto, unfolding(crate::specs::Coded::column_of, crate::specs::Coded::row_of, crate::specs::Coded::number_of))]
+#[inline(always)]
+pub(crate) fn above_of(b: usize) -> Option<usize>
+    requires { b < 16 }
+    ensures some { IfSome result (λ n. 0 < row_of b) }
+    ensures here { IfSome result (λ n. n ≡ number_of (column_of b) (row_of b - 1)) }
+    ensures within { IfSome result (λ n. n < 16) }
+    ensures none { result ≡ None → row_of b ≡ 0 }
+{
+    if b / 2 % 2 == 1 {
+        return Some(b - 2);
+    }
+    if b / 8 == 1 {
+        return Some(b - 6);
+    }
+    None
 }

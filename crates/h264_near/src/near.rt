@@ -9,7 +9,7 @@ ghost use Rattle.h264_near.specs.Motions.{neighbour};
 ghost use Rattle.h264_near.specs.Raster.{last_in, last_left};
 ghost use Rattle.h264_near.specs.Strength.{side_part};
 
-use crate::block::{column, number, row};
+use crate::block::{above_of, column, left_of, number, row};
 use crate::context::{Contexts, Edge};
 use crate::lookup::{
     chroma_along, derived, lesser_mode, mean, mode_along, motion_along, side_along, total_along,
@@ -72,12 +72,10 @@ impl Near {
         ensures { (width : ℕ) (picture : List CodedMacroblock) → Keeps width picture self.now →
             result ≡ around 4 (total_part slice) width picture (with_totals slice (take b totals.now) []) (column_of b) (suc (row_of b)) }
     {
-        let x = column(b);
-        let y = row(b);
-        if x > 0 {
-            return Some(totals[number(x - 1, y)]);
+        match left_of(b) {
+            Some(n) => Some(totals[n]),
+            None => total_along(&self.left, slice, row(b)),
         }
-        total_along(&self.left, slice, y)
     }
 
     #[inline(always)]
@@ -86,12 +84,10 @@ impl Near {
         ensures { (width : ℕ) (picture : List CodedMacroblock) → Keeps width picture self.now →
             result ≡ around 4 (total_part slice) width picture (with_totals slice (take b totals.now) []) (suc (column_of b)) (row_of b) }
     {
-        let x = column(b);
-        let y = row(b);
-        if y > 0 {
-            return Some(totals[number(x, y - 1)]);
+        match above_of(b) {
+            Some(n) => Some(totals[n]),
+            None => total_along(&self.above[self.column], slice, column(b)),
         }
-        total_along(&self.above[self.column], slice, x)
     }
 
     /// nC of a luma block, from the totals of the blocks before it in its macroblock and from what stands around (9.2.1).
@@ -147,12 +143,10 @@ impl Near {
         ensures { (width : ℕ) (picture : List CodedMacroblock) → Keeps width picture self.now →
             result ≡ around 4 (mode_part slice constrained) width picture (with_modes slice (take b modes.now)) (column_of b) (suc (row_of b)) }
     {
-        let x = column(b);
-        let y = row(b);
-        if x > 0 {
-            return Some(modes[number(x - 1, y)]);
+        match left_of(b) {
+            Some(n) => Some(modes[n]),
+            None => mode_along(&self.left, slice, constrained, row(b)),
         }
-        mode_along(&self.left, slice, constrained, y)
     }
 
     #[inline(always)]
@@ -161,12 +155,10 @@ impl Near {
         ensures { (width : ℕ) (picture : List CodedMacroblock) → Keeps width picture self.now →
             result ≡ around 4 (mode_part slice constrained) width picture (with_modes slice (take b modes.now)) (suc (column_of b)) (row_of b) }
     {
-        let x = column(b);
-        let y = row(b);
-        if y > 0 {
-            return Some(modes[number(x, y - 1)]);
+        match above_of(b) {
+            Some(n) => Some(modes[n]),
+            None => mode_along(&self.above[self.column], slice, constrained, column(b)),
         }
-        mode_along(&self.above[self.column], slice, constrained, x)
     }
 
     #[inline(always)]
