@@ -2,7 +2,8 @@
 use Rattle.std.proofs.Common.{◌≡◌, ◌≢◌, ◌⊎◌, ⊎_elim, ℕ, ◌+◌, ◌-◌, ◌*◌, ◌<◌, ◌≤◌, List, length, slice_index, arith, sym, ap, ◌∙◌}
 use Rattle.std.proofs.lemmas.Grind.{elements}
 use Rattle.std.proofs.lemmas.Bool.{cases_lt}
-use Rattle.std.proofs.lemmas.List.{with_items_is}
+use Rattle.std.proofs.lemmas.List.{get_or_past, with_items_is}
+use Rattle.std.proofs.lemmas.Nat.{mul-le}
 use Rattle.std.specs.Global.{Vec}
 use Rattle.std.specs.Vec.{with_items, vec_len}
 use borrow.Rule.Slice.PartMut.{mid_of}
@@ -81,11 +82,15 @@ row_here8 old new block k x y j i m is put size a b c d before = ⊎_elim
     rw e (ap (λ z. slice_index new z) there ∙ put.here i (omega (arith, mid_length (4 * j) k block (omega arith))) ∙ mid_at (4 * j) k i block (omega arith) (omega arith)))
     (cases_lt m j)
 
+-- below the last row of a macroblock of n columns and rows there are no samples
+pub beyond : (n k : ℕ) (own : List ℕ) → length own ≡ n * n → n ≤ k → slice_index own (n * k + (n - 1)) ≡ 0
+beyond n k own e q = get_or_past own _ 0 (omega (arith, e, mul-le n n n k (omega arith) q))
+
 -- ---- the border of a macroblock of n columns and rows at column c, kept in its store
 pub saved_is : (n c : ℕ) (old : Store) (v : Vec ℕ) (xs ys left own : List ℕ) (corner a k : ℕ) → v ≡ old.above → xs ≡ v.items → a ≡ n * (n - 1) → k ≡ n → n * (n - 1) + n ≤ length own →
-    n * c + n ≤ vec_len old.above → IsRun xs ys (n * c) (mid_of a k own) → ((k : ℕ) → k < n → slice_index left k ≡ slice_index own (n * k + (n - 1))) →
+    n * c + n ≤ vec_len old.above → IsRun xs ys (n * c) (mid_of a k own) →
     corner ≡ slice_index old.above.items (n * c + (n - 1)) → IsSaved n c old (record { above = with_items v ys; left = left; corner = corner }) own
-saved_is n c old v xs ys left own corner a k ev ex ea ek room inside put right is =
+saved_is n c old v xs ys left own corner a k ev ex ea ek room inside put is =
     let there : length xs ≡ v.len = ap length ex ∙ sym v.ok.0 in
     let count : length ys ≡ v.len = put.size ∙ there in
     let size : length (mid_of a k own) ≡ n = mid_length a k own (omega (arith, ea, ek)) ∙ ek in
@@ -96,6 +101,5 @@ saved_is n c old v xs ys left own corner a k ev ex ea ek room inside put right i
       bottom = λ z p. ap (λ (l : List ℕ). slice_index l (n * c + z)) items ∙ put.here z (omega (arith, size)) ∙ mid_at a k z own (omega (arith, ek)) (omega (arith, ea, ek)) ∙ ap (λ b. slice_index own (b + z)) ea;
       before = λ z p. ap (λ (l : List ℕ). slice_index l z) items ∙ put.before z p ∙ kept z;
       after = λ z p. ap (λ (l : List ℕ). slice_index l z) items ∙ put.after z (omega (arith, size)) ∙ kept z;
-      right = right;
       corner = is;
     }

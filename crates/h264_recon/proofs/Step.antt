@@ -2,6 +2,7 @@
 use Rattle.std.proofs.Common.{◌≡◌, inl, inr, ⊎_elim, ℕ, ◌+◌, ◌-◌, ◌*◌, ◌<◌, ◌≤◌, List, slice_index, vec_len, arith, refl, sym, ap, ◌∙◌}
 use Rattle.std.proofs.lemmas.Bool.{cases_lt}
 use Rattle.std.proofs.lemmas.Nat.{mul-le}
+use Rattle.std.specs.Global.{Vec}
 use Rattle.h264_plane.specs.Samples.{at, with_block}
 use Rattle.h264_plane.specs.Frames.{plane_of, IsWritten}
 use Rattle.h264_plane.specs.declared.frame.Component.{Component}
@@ -11,12 +12,13 @@ use Rattle.h264_plane.specs.Places.{side, Agree}
 use Rattle.h264_recon.specs.Inter.{Setting}
 use Rattle.h264_recon.specs.Constructed.{window, made, IsMade, IsWithin, IsPossible, Coded}
 use Rattle.h264_recon.specs.Around.{SidesAgree}
-use Rattle.h264_recon.specs.Lines.{local, IsMadeFrom, IsSaved, Stored, store_of, AreStored}
+use Rattle.h264_recon.specs.Lines.{local, IsMadeFrom, IsSaved, Stored, store_of, AreStored, right_column, with_left}
 use Rattle.h264_recon.specs.Step.{list_of, ArePlaced, AreSaved, HasMacroblock, joined}
 use Rattle.h264_recon.specs.declared.macroblock.Available.{Available}
 use Rattle.h264_recon.specs.declared.store.Store.{Store}
 use Rattle.h264_recon.specs.declared.store.Lines.{Lines}
 use Rattle.h264_plane.proofs.Own.{moved, own_in, own_out, block_in, block_shows}
+use Rattle.h264_recon.proofs.Tables.{table-at}
 use Rattle.h264_recon.proofs.Local.{local_left, local_above, local_corner, local_own}
 use Rattle.h264_recon.proofs.Unique.{made_by_same, IsMadeIn, own_unique, made_in}
 use Rattle.h264_plane.proofs.Raster.{side_least}
@@ -56,8 +58,8 @@ own_is k c r m p u l own inside within ok mu held made x y i j =
 -- the stores, one macroblock further
 pub stored_more : (n w c r : ℕ) (u : ℕ → ℕ → ℕ) (old new : Store) (own : List ℕ) → 4 ≤ n → c < w →
     ((x y : ℕ) → x < n → y < n → slice_index own (n * y + x) ≡ u (n * c + x) (n * r + y)) →
-    Stored n w c r u old → IsSaved n c old new own → Stored n w (c + 1) r u new
-stored_more n w c r u old new own f k is held saved =
+    Stored n w c r u old → IsSaved n c old new own → ((k : ℕ) → k < n → slice_index new.left k ≡ slice_index own (n * k + (n - 1))) → Stored n w (c + 1) r u new
+stored_more n w c r u old new own f k is held saved right =
     let inside = mul-le n (c + 1) n w (omega arith) (omega arith) in
     record {
       size = saved.size ∙ held.size;
@@ -69,7 +71,7 @@ stored_more n w c r u old new own f k is held saved =
           ap (λ x. slice_index new.above.items x) place ∙ saved.bottom (q - n * c) (omega arith)
           ∙ is (q - n * c) (n - 1) (omega arith) (omega arith) ∙ moved u _ _ q (n * r + n - 1) (sym place) (omega arith))
           (cases_lt q (n * c));
-      left = λ t q a. saved.right q a ∙ is (n - 1) q (omega arith) a ∙ moved u _ _ (n * (c + 1) - 1) (n * r + q) (omega arith) refl;
+      left = λ t q a. right q a ∙ is (n - 1) q (omega arith) a ∙ moved u _ _ (n * (c + 1) - 1) (n * r + q) (omega arith) refl;
       corner = λ t t'. saved.corner ∙ held.above t' (n * c + (n - 1)) (omega arith) (omega arith) ∙ moved u _ _ (n * (c + 1) - 1) (n * r - 1) (omega arith) refl;
     }
 
@@ -123,12 +125,21 @@ shows k c r m u lines own old new inside within ok mu held made placed = λ p. r
       ∙ block_shows (side p) c r (own p) (u p) (at (plane_of p old)) (own_is k c r m p u (store_of p lines) (own p) inside within ok mu (held p) (made p)) x y;
 }
 
+-- the right column of the samples that are kept
+column_at : (n : ℕ) (own list : List ℕ) → own ≡ list → n ≤ 16 → (k : ℕ) → k < n → slice_index (right_column n list) k ≡ slice_index own (n * k + (n - 1))
+column_at n own list e most k i = rw e (table-at 16 (λ z. slice_index list (n * z + (n - 1))) k 0 (omega arith))
+
+right_is : (c : ℕ) (old new : Lines) (own : Component → List ℕ) (p : Component) → AreSaved c own old new → (k : ℕ) → k < side p → slice_index (store_of p new).left k ≡ slice_index (own p) (side p * k + (side p - 1))
+right_is c old new own Y saved = column_at 16 (own Y) new.last.y (saved.last Y) (omega arith)
+right_is c old new own Cb saved = column_at 8 (own Cb) new.last.cb (saved.last Cb) (omega arith)
+right_is c old new own Cr saved = column_at 8 (own Cr) new.last.cr (saved.last Cr) (omega arith)
+
 pub stored_next : (k : Setting) (c r : ℕ) (m : Coded) (u : Component → ℕ → ℕ → ℕ) (old new : Lines) (own : Component → List ℕ) → c < k.across → IsWithin m.available k.across c r →
     IsPossible m.prediction m.available → IsMade k c r m u → AreStored k.across c r u old → ((p : Component) → IsMadeFrom k c r m p (store_of p old) (own p)) →
     AreSaved c own old new → AreStored k.across (c + 1) r u new
 stored_next k c r m u old new own inside within ok mu held made saved = λ p.
     stored_more (side p) k.across c r (u p) (store_of p old) (store_of p new) (own p) (side_least p) inside
-    (own_is k c r m p u (store_of p old) (own p) inside within ok mu (held p) (made p)) (held p) (saved p)
+    (own_is k c r m p u (store_of p old) (own p) inside within ok mu (held p) (made p)) (held p) (saved.borders p) (right_is c old new own p saved)
 
 -- ---- some samples meet the equations: those that were constructed
 
@@ -171,12 +182,51 @@ placed_all c r y cb cr f f1 f2 f3 a b d Y = let e : f3.y ≡ f1.y = d.kept.0 ∙
 placed_all c r y cb cr f f1 f2 f3 a b d Cb = let e : f3.cb ≡ f2.cb = d.kept.1 in let e' : f1.cb ≡ f.cb = a.kept.0 in rw e (rw e' at b.written)
 placed_all c r y cb cr f f1 f2 f3 a b d Cr = let e : f2.cr ≡ f.cr = b.kept.1 ∙ a.kept.1 in rw e at d.written
 
-pub saved_all : (c : ℕ) (y cb cr : List ℕ) (old new : Lines) → IsSaved 16 c old.y new.y y → IsSaved 8 c old.cb new.cb cb → IsSaved 8 c old.cr new.cr cr → AreSaved c (list_of y cb cr) old new
-saved_all c y cb cr old new a b d Y = a
-saved_all c y cb cr old new a b d Cb = b
-saved_all c y cb cr old new a b d Cr = d
+-- a border that was kept, whatever the left columns are
+bordered : (n c : ℕ) (old new : Store) (own was now : List ℕ) → IsSaved n c old new own → IsSaved n c (with_left n old was) (with_left n new now) own
+bordered n c old new own was now saved = record { size = saved.size; bottom = saved.bottom; before = saved.before; after = saved.after; corner = saved.corner }
 
-pub made_all : (k : Setting) (c r : ℕ) (m : Coded) (lines : Lines) (y cb cr : List ℕ) → IsMadeFrom k c r m Y lines.y y → IsMadeFrom k c r m Cb lines.cb cb → IsMadeFrom k c r m Cr lines.cr cr →
+-- and that of each store with the same bottom rows
+kept_above : (n c : ℕ) (first old new : Store) (own : List ℕ) → old.above ≡ first.above → IsSaved n c old new own → IsSaved n c first new own
+kept_above n c first old new own e saved = record {
+  size = saved.size ∙ ap (λ (v : Vec ℕ). vec_len v) e;
+  bottom = saved.bottom;
+  before = λ k i. saved.before k i ∙ ap (λ (v : Vec ℕ). slice_index v.items k) e;
+  after = λ k i. saved.after k i ∙ ap (λ (v : Vec ℕ). slice_index v.items k) e;
+  corner = saved.corner ∙ ap (λ (v : Vec ℕ). slice_index v.items (n * c + (n - 1))) e;
+}
+
+bordered_all : (c : ℕ) (y cb cr : List ℕ) (old new : Lines) → IsSaved 16 c old.y new.y y → IsSaved 8 c old.cb new.cb cb → IsSaved 8 c old.cr new.cr cr →
+    (p : Component) → IsSaved (side p) c (store_of p old) (store_of p new) (list_of y cb cr p)
+bordered_all c y cb cr old new a b d Y = bordered 16 c old.y new.y y old.last.y new.last.y a
+bordered_all c y cb cr old new a b d Cb = bordered 8 c old.cb new.cb cb old.last.cb new.last.cb b
+bordered_all c y cb cr old new a b d Cr = bordered 8 c old.cr new.cr cr old.last.cr new.last.cr d
+
+listed : (y cb cr y' cb' cr' : List ℕ) → y' ≡ y → cb' ≡ cb → cr' ≡ cr → (p : Component) → list_of y cb cr p ≡ list_of y' cb' cr' p
+listed y cb cr y' cb' cr' a b d Y = sym a
+listed y cb cr y' cb' cr' a b d Cb = sym b
+listed y cb cr y' cb' cr' a b d Cr = sym d
+
+pub saved_all : (c : ℕ) (y cb cr : List ℕ) (old new : Lines) → new.last.y ≡ y → new.last.cb ≡ cb → new.last.cr ≡ cr →
+    IsSaved 16 c old.y new.y y → IsSaved 8 c old.cb new.cb cb → IsSaved 8 c old.cr new.cr cr → AreSaved c (list_of y cb cr) old new
+saved_all c y cb cr old new ey eb er a b d = record {
+  borders = bordered_all c y cb cr old new a b d;
+  last = listed y cb cr new.last.y new.last.cb new.last.cr ey eb er;
+}
+
+-- the borders are those of the stores with these bottom rows, too
+rest_above : (first old : Lines) → old.y.above ≡ first.y.above → old.cb.above ≡ first.cb.above → old.cr.above ≡ first.cr.above → (p : Component) → (store_of p old).above ≡ (store_of p first).above
+rest_above first old a b d Y = a
+rest_above first old a b d Cb = b
+rest_above first old a b d Cr = d
+
+pub saved_from : (c : ℕ) (own : Component → List ℕ) (first old new : Lines) → old.y.above ≡ first.y.above → old.cb.above ≡ first.cb.above → old.cr.above ≡ first.cr.above → AreSaved c own old new → AreSaved c own first new
+saved_from c own first old new a b d saved = record {
+  borders = λ p. kept_above (side p) c (store_of p first) (store_of p old) (store_of p new) (own p) (rest_above first old a b d p) (saved.borders p);
+  last = saved.last;
+}
+
+pub made_all : (k : Setting) (c r : ℕ) (m : Coded) (lines : Lines) (y cb cr : List ℕ) → IsMadeFrom k c r m Y (store_of Y lines) y → IsMadeFrom k c r m Cb (store_of Cb lines) cb → IsMadeFrom k c r m Cr (store_of Cr lines) cr →
     (p : Component) → IsMadeFrom k c r m p (store_of p lines) (list_of y cb cr p)
 made_all k c r m lines y cb cr a b d Y = a
 made_all k c r m lines y cb cr a b d Cb = b

@@ -22,6 +22,12 @@ unfolding table
 table-replicate zero x = refl
 table-replicate (suc n) x = ap (λ l. x ∷ l) (table-replicate n x)
 
+-- an element of a list of zeros
+pub zeros-at : (n k : ℕ) → ◌≡◌ {A = ℕ} (get_or (replicate n 0) k 0) 0
+zeros-at zero k = refl
+zeros-at (suc n) zero = refl
+zeros-at (suc n) (suc k) = zeros-at n k
+
 -- an element that there is
 pub element : {A : Type 0} (xs : List A) (k : ℕ) (x d : A) → slice_get xs k ≡ Some x → get_or xs k d ≡ x
 element [] k x d e = absurd (grind (arith, e))

@@ -14,6 +14,7 @@ use Rattle.h264_recon.specs.Constructed.{Coded, made, predicted_luma}
 use Rattle.h264_recon.specs.declared.macroblock.Available.{Available}
 use Rattle.h264_recon.specs.declared.macroblock.IntraLuma.{IntraLuma}
 use Rattle.h264_recon.specs.Predicted.{PcmSamples}
+use Rattle.h264_recon.specs.Table.{table}
 use Rattle.h264_recon.specs.declared.store.Store.{Store}
 use Rattle.h264_recon.specs.declared.store.Lines.{Lines}
 
@@ -34,8 +35,15 @@ pub record IsSaved (n c : ℕ) (old new : Store) (own : List ℕ) : Type 0 where
   pub bottom : (k : ℕ) → k < n → slice_index new.above.items (n * c + k) ≡ slice_index own (n * (n - 1) + k)
   pub before : (k : ℕ) → k < n * c → slice_index new.above.items k ≡ slice_index old.above.items k
   pub after : (k : ℕ) → n * c + n ≤ k → slice_index new.above.items k ≡ slice_index old.above.items k
-  pub right : (k : ℕ) → k < n → slice_index new.left k ≡ slice_index own (n * k + (n - 1))
   pub corner : new.corner ≡ slice_index old.above.items (n * c + (n - 1))
+
+-- the right column of a macroblock of n columns and rows
+abbrev pub right_column : ℕ → List ℕ → List ℕ
+right_column n own = table 16 (λ k. slice_index own (n * k + (n - 1)))
+
+-- the store with the right column of the macroblock before, which has these samples
+abbrev pub with_left : ℕ → Store → List ℕ → Store
+with_left n l own = record { above = l.above; left = right_column n own; corner = l.corner }
 
 -- the store holds u, not filtered, round the macroblock at column c and row r, of w to a row
 pub record Stored (n w c r : ℕ) (u : ℕ → ℕ → ℕ) (l : Store) : Type 0 where
@@ -45,10 +53,11 @@ pub record Stored (n w c r : ℕ) (u : ℕ → ℕ → ℕ) (l : Store) : Type 0
   pub left : 0 < c → (k : ℕ) → k < n → slice_index l.left k ≡ u (n * c - 1) (n * r + k)
   pub corner : 0 < c → 0 < r → l.corner ≡ u (n * c - 1) (n * r - 1)
 
+-- the store of a plane, with the right column of the macroblock before
 abbrev pub store_of : Component → Lines → Store
-store_of Y l = l.y
-store_of Cb l = l.cb
-store_of Cr l = l.cr
+store_of Y l = with_left 16 l.y l.last.y
+store_of Cb l = with_left 8 l.cb l.last.cb
+store_of Cr l = with_left 8 l.cr l.last.cr
 
 -- the stores of all planes do
 abbrev pub AreStored : ℕ → ℕ → ℕ → (Component → ℕ → ℕ → ℕ) → Lines → Type 0

@@ -1,5 +1,5 @@
 -- One macroblock in place: the frame and the stores. A working form.
-use Rattle.std.specs.Prelude.{ℕ, ◌*◌, List}
+use Rattle.std.specs.Prelude.{◌≡◌, ℕ, ◌*◌, List}
 use Rattle.h264_plane.specs.Samples.{at, ShowsSamples, with_block}
 use Rattle.h264_plane.specs.Frames.{plane_of}
 use Rattle.h264_plane.specs.declared.frame.Component.{Component}
@@ -20,9 +20,10 @@ abbrev pub ArePlaced : ℕ → ℕ → (Component → List ℕ) → Frame → Fr
 ArePlaced c r own old new = (p : Component) →
     ShowsSamples (plane_of p old) (plane_of p new) (with_block (side p) (side p) (side p * c) (side p * r) (own p) (at (plane_of p old)))
 
--- and their borders are kept in the stores
-abbrev pub AreSaved : ℕ → (Component → List ℕ) → Lines → Lines → Type 0
-AreSaved c own old new = (p : Component) → IsSaved (side p) c (store_of p old) (store_of p new) (own p)
+-- and their borders are kept in the stores, the right columns with the lists themselves
+pub record AreSaved (c : ℕ) (own : Component → List ℕ) (old new : Lines) : Type 0 where
+  pub borders : (p : Component) → IsSaved (side p) c (store_of p old) (store_of p new) (own p)
+  pub last : (p : Component) → own p ≡ list_of new.last.y new.last.cb new.last.cr p
 
 -- the planes have the samples u at the macroblock, and each other sample is what it was
 abbrev pub HasMacroblock : ℕ → ℕ → (Component → ℕ → ℕ → ℕ) → Frame → Frame → Type 0

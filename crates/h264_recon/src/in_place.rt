@@ -9,7 +9,7 @@ ghost use Rattle.h264_recon.specs.Inter.{Setting};
 ghost use Rattle.h264_scale.specs.Macroblock.{IsResidual, AreResiduals};
 ghost use Rattle.h264_scale.specs.declared.levels.Levels.{Levels};
 ghost use Rattle.h264_recon.specs.Constructed.{coded, IsPossibleLuma, IsPossible, IsAllowed, IsMade};
-ghost use Rattle.h264_recon.specs.Lines.{IsMadeFrom, IsLumaMade, IsChromaMade, AreStored, store_of, chroma_plane};
+ghost use Rattle.h264_recon.specs.Lines.{IsMadeFrom, IsLumaMade, IsChromaMade, AreStored, store_of, with_left, chroma_plane};
 ghost use Rattle.h264_recon.specs.Predicted.{prediction_in};
 ghost use Rattle.h264_recon.specs.Pool.{AreShown, AreUsable};
 ghost use Rattle.h264_recon.specs.Step.{list_of, ArePlaced, AreSaved, HasMacroblock, joined};
@@ -19,7 +19,7 @@ use crate::inter::{predict_chroma, predict_luma};
 use crate::intra::{neighbours_chroma, neighbours16};
 use crate::macroblock::{Available, IntraLuma, Macroblock, Prediction};
 use crate::pcm;
-use crate::store::{Lines, Store};
+use crate::store::{Lines, Samples, Store, right_column};
 use crate::sum::add;
 use crate::weighing::{weigh_chroma, weigh_luma};
 use h264_intra::{IntraChromaPredMode, predict_chroma as predict_intra_chroma, predict16};
@@ -51,36 +51,39 @@ fn luma_intra(
     }
 }
 
-/// Writes the luma samples of a macroblock.
+/// Constructs the luma samples of a macroblock in the place of those of the one before it.
 #[inline(always)]
 fn luma(
     m: &Macroblock,
     residual: &Option<[i16; 256]>,
-    store: &Store,
+    store: &mut Store,
+    last: &mut [u8; 256],
     pool: &Pool,
     column: usize,
     row: usize,
-    out: &mut [u8; 256],
 )
     requires usable { AreUsable pool.now column row (prediction_in m.now.prediction) }
-    requires columns { 16 * column + 16 ≤ vec_len store.now.above }
-    requires more { IsTrue m.now.available.above_right → 16 * column + 20 ≤ vec_len store.now.above }
+    requires columns { 16 * column + 16 ≤ vec_len store.old.above }
+    requires more { IsTrue m.now.available.above_right → 16 * column + 20 ≤ vec_len store.old.above }
     requires small { (column < 1024) × (row < 1024) }
-    ensures { (k : Setting) (l : Levels) → column < k.across → row < k.down → IsPossible (prediction_in m.now.prediction) m.now.available →
+    ensures made { (k : Setting) (l : Levels) → column < k.across → row < k.down → IsPossible (prediction_in m.now.prediction) m.now.available →
         AreShown k pool.now (prediction_in m.now.prediction) → IsResidual l Y (unwrap_or residual.now []) →
-        IsMadeFrom k column row (coded m.now l) Y store.now out.new }
+        IsMadeFrom k column row (coded m.now l) Y (with_left 16 store.old last.old) last.new }
+    ensures above { store.new.above ≡ store.old.above }
+    ensures corner { store.new.corner ≡ store.old.corner }
 {
     match &m.prediction {
         Prediction::Intra(modes) => {
-            *out = luma_intra(&modes.luma, m.available, residual, store, column);
+            store.left = right_column::<16>(last);
+            *last = luma_intra(&modes.luma, m.available, residual, store, column);
         }
         Prediction::Inter(motions) => {
-            predict_luma(motions, pool, column, row, out);
-            weigh_luma(&m.weighting, out);
-            add::<256>(out, residual);
+            predict_luma(motions, pool, column, row, last);
+            weigh_luma(&m.weighting, last);
+            add::<256>(last, residual);
         }
         Prediction::Pcm(samples) => {
-            *out = pcm::luma(samples);
+            *last = pcm::luma(samples);
         }
     }
 }
@@ -104,65 +107,68 @@ fn chroma_intra(
     own
 }
 
-/// Writes the samples of a chroma plane of a macroblock.
+/// Constructs the samples of a chroma plane of a macroblock, likewise.
 #[inline(always)]
 fn chroma<const CR: bool>(
     m: &Macroblock,
     residual: &Option<[i16; 64]>,
-    store: &Store,
+    store: &mut Store,
+    last: &mut [u8; 64],
     pool: &Pool,
     column: usize,
     row: usize,
-    out: &mut [u8; 64],
 )
     requires usable { AreUsable pool.now column row (prediction_in m.now.prediction) }
-    requires columns { 8 * column + 8 ≤ vec_len store.now.above }
+    requires columns { 8 * column + 8 ≤ vec_len store.old.above }
     requires small { (column < 1024) × (row < 1024) }
-    ensures { (k : Setting) (l : Levels) → column < k.across → row < k.down → IsPossible (prediction_in m.now.prediction) m.now.available →
+    ensures made { (k : Setting) (l : Levels) → column < k.across → row < k.down → IsPossible (prediction_in m.now.prediction) m.now.available →
         AreShown k pool.now (prediction_in m.now.prediction) → IsResidual l (chroma_plane CR) (unwrap_or residual.now []) →
-        IsMadeFrom k column row (coded m.now l) (chroma_plane CR) store.now out.new }
+        IsMadeFrom k column row (coded m.now l) (chroma_plane CR) (with_left 8 store.old last.old) last.new }
+    ensures above { store.new.above ≡ store.old.above }
+    ensures corner { store.new.corner ≡ store.old.corner }
 {
     match &m.prediction {
         Prediction::Intra(modes) => {
-            *out = chroma_intra(modes.chroma, m.available, residual, store, column);
+            store.left = right_column::<8>(last);
+            *last = chroma_intra(modes.chroma, m.available, residual, store, column);
         }
         Prediction::Inter(motions) => {
-            predict_chroma::<CR>(motions, pool, column, row, out);
-            weigh_chroma::<CR>(&m.weighting, out);
-            add::<64>(out, residual);
+            predict_chroma::<CR>(motions, pool, column, row, last);
+            weigh_chroma::<CR>(&m.weighting, last);
+            add::<64>(last, residual);
         }
         Prediction::Pcm(samples) => {
-            *out = pcm::chroma::<CR>(samples);
+            *last = pcm::chroma::<CR>(samples);
         }
     }
 }
 
 /// Writes the samples of a macroblock into the frame.
 #[inline(always)]
-fn place(frame: &mut Frame, column: usize, row: usize, y: &[u8; 256], cb: &[u8; 64], cr: &[u8; 64])
+fn place(frame: &mut Frame, column: usize, row: usize, own: &Samples)
     requires y { (16 * column + 16 ≤ frame.old.y.width) × (16 * row + 16 ≤ frame.old.y.height) }
     requires cb { (8 * column + 8 ≤ frame.old.cb.width) × (8 * row + 8 ≤ frame.old.cb.height) }
     requires cr { (8 * column + 8 ≤ frame.old.cr.width) × (8 * row + 8 ≤ frame.old.cr.height) }
     requires small { (column < 1024) × (row < 1024) }
-    ensures { ArePlaced column row (list_of y.now cb.now cr.now) frame.old frame.new }
+    ensures { ArePlaced column row (list_of own.now.y own.now.cb own.now.cr) frame.old frame.new }
 {
-    frame.put_block::<16, 16>(Component::Y, 16 * column, 16 * row, y);
-    frame.put_block::<8, 8>(Component::Cb, 8 * column, 8 * row, cb);
-    frame.put_block::<8, 8>(Component::Cr, 8 * column, 8 * row, cr);
+    frame.put_block::<16, 16>(Component::Y, 16 * column, 16 * row, &own.y);
+    frame.put_block::<8, 8>(Component::Cb, 8 * column, 8 * row, &own.cb);
+    frame.put_block::<8, 8>(Component::Cr, 8 * column, 8 * row, &own.cr);
 }
 
-/// Keeps the borders of a macroblock.
+/// Keeps the borders of the macroblock at this column, which was constructed last.
 #[inline(always)]
-fn save(lines: &mut Lines, column: usize, y: &[u8; 256], cb: &[u8; 64], cr: &[u8; 64])
+fn save(lines: &mut Lines, column: usize)
     requires y { 16 * column + 16 ≤ vec_len lines.old.y.above }
     requires cb { 8 * column + 8 ≤ vec_len lines.old.cb.above }
     requires cr { 8 * column + 8 ≤ vec_len lines.old.cr.above }
     requires small { column < 1024 }
-    ensures { AreSaved column (list_of y.now cb.now cr.now) lines.old lines.new }
+    ensures { AreSaved column (list_of lines.old.last.y lines.old.last.cb lines.old.last.cr) lines.old lines.new }
 {
-    lines.y.save_luma(column, y);
-    lines.cb.save_chroma(column, cb);
-    lines.cr.save_chroma(column, cr);
+    lines.y.save_luma(column, &lines.last.y);
+    lines.cb.save_chroma(column, &lines.last.cb);
+    lines.cr.save_chroma(column, &lines.last.cr);
 }
 
 /// Constructs the macroblock at this column and row of macroblocks in the frame, from the lines, and brings these up to date. Touches each of
@@ -195,12 +201,34 @@ pub fn construct(
         IsAllowed (coded m.now l) k.across column row → AreShown k pool.now (prediction_in m.now.prediction) → AreResiduals l residuals.now →
         AreStored k.across column row u lines.old → IsMade k column row (coded m.now l) (joined column row frame.new u) }
 {
-    let mut y = [0; 256];
-    luma(m, &residuals.y, &lines.y, pool, column, row, &mut y);
-    let mut cb = [0; 64];
-    chroma::<false>(m, &residuals.cb, &lines.cb, pool, column, row, &mut cb);
-    let mut cr = [0; 64];
-    chroma::<true>(m, &residuals.cr, &lines.cr, pool, column, row, &mut cr);
-    place(frame, column, row, &y, &cb, &cr);
-    save(lines, column, &y, &cb, &cr);
+    let last = &mut lines.last;
+    luma(
+        m,
+        &residuals.y,
+        &mut lines.y,
+        &mut last.y,
+        pool,
+        column,
+        row,
+    );
+    chroma::<false>(
+        m,
+        &residuals.cb,
+        &mut lines.cb,
+        &mut last.cb,
+        pool,
+        column,
+        row,
+    );
+    chroma::<true>(
+        m,
+        &residuals.cr,
+        &mut lines.cr,
+        &mut last.cr,
+        pool,
+        column,
+        row,
+    );
+    place(frame, column, row, &lines.last);
+    save(lines, column);
 }

@@ -1,5 +1,5 @@
 ghost use Rattle.std.specs.Prelude.{◌≡◌, ℕ, ◌+◌, ◌*◌, ◌<◌, ◌≤◌, length, slice_index, vec_len, IfOk};
-ghost use Rattle.h264_recon.specs.Lines.{IsSaved};
+ghost use Rattle.h264_recon.specs.Lines.{IsSaved, right_column as right_column_of};
 
 use crate::run::put_run;
 use std::alloc::{AllocError, Global};
@@ -9,7 +9,7 @@ use std::alloc::{AllocError, Global};
 pub struct Store {
     /// Bottom rows: those of this row of macroblocks up to the one before, and from there on those of the row above.
     above: Vec<u8>,
-    /// The right column of the macroblock before, of chroma in the first 8 places.
+    /// The right column of the macroblock before, of chroma in the first 8 places, if intra prediction has asked for it.
     pub left: [u8; 16],
     /// The sample above that column.
     pub corner: u8,
@@ -44,9 +44,6 @@ impl Store {
     {
         let start = 16 * column;
         self.corner = self.above[start + 15];
-        for k in 0..16 {
-            self.left[k] = own[16 * k + 15];
-        }
         put_run(self.above.as_mut_slice(), start, &own[240..256]);
     }
 
@@ -58,11 +55,16 @@ impl Store {
     {
         let start = 8 * column;
         self.corner = self.above[start + 7];
-        for k in 0..8 {
-            self.left[k] = own[8 * k + 7];
-        }
         put_run(self.above.as_mut_slice(), start, &own[56..64]);
     }
+}
+
+/// The samples of a macroblock as they were constructed, those of each plane row by row.
+#[derive(Clone, Copy)]
+pub struct Samples {
+    pub y: [u8; 256],
+    pub cb: [u8; 64],
+    pub cr: [u8; 64],
 }
 
 /// What is kept of all planes.
@@ -71,6 +73,21 @@ pub struct Lines {
     pub y: Store,
     pub cb: Store,
     pub cr: Store,
+    /// The samples of the macroblock before this one. The next one is constructed in their place, so that none clears its own.
+    pub last: Samples,
+}
+
+/// The right column of a macroblock of `N` columns and rows.
+pub fn right_column<const N: usize>(own: &[u8]) -> [u8; 16]
+    requires size { N ≤ 16 }
+    requires whole { length own.now ≡ N * N }
+    ensures { result ≡ right_column_of N own.now }
+{
+    let mut column = [0; 16];
+    for k in 0..N {
+        column[k] = own[N * k + (N - 1)];
+    }
+    column
 }
 
 impl Lines {
@@ -85,6 +102,11 @@ impl Lines {
             y: Store::new(alloc, 16 * width)?,
             cb: Store::new(alloc, 8 * width)?,
             cr: Store::new(alloc, 8 * width)?,
+            last: Samples {
+                y: [0; 256],
+                cb: [0; 64],
+                cr: [0; 64],
+            },
         })
     }
 }
