@@ -17,9 +17,9 @@ use crate::in_place::go_on;
 use crate::levels::residuals_of;
 use crate::sequence::Sequence;
 use h264_deblock::Coded;
-use h264_mbsyntax::{Kind, Macroblock as Read};
+use h264_mbsyntax::Macroblock as Read;
 use h264_near::{Motion, Near};
-use h264_recon::{Available, Macroblock, SliceWeights, given};
+use h264_recon::{Available, Macroblock, SliceWeights, given, is_whole};
 use h264_scale::Residuals;
 use h264_vectors::SliceContext;
 
@@ -77,16 +77,11 @@ fn count(motions: &[Option<Motion>; 16]) -> usize
 
 /// Whether the blocks of a macroblock that was read are known to move alike.
 #[inline]
-fn is_whole(read: &Read) -> bool
+fn moves_as_one(read: &Read) -> bool
     ensures { (coded : CodedMacroblock) → HoldsMacroblock read.now coded → result ≡ true → are_alike read.now.contexts.motions ≡ true }
 {
     let _all = count(&read.contexts.motions);
-    match read.kind {
-        Kind::Inter { whole } => whole,
-        Kind::Intra4x4 => false,
-        Kind::Intra16x16 { mode: _ } => false,
-        Kind::Pcm => false,
-    }
+    is_whole(read)
 }
 
 impl Sequence {
@@ -111,7 +106,7 @@ impl Sequence {
         let coded = Coded {
             near,
             own: &read.contexts,
-            whole: is_whole(read),
+            whole: moves_as_one(read),
             filter: &self.filter,
         };
         let m = given_within(

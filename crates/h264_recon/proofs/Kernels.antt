@@ -14,7 +14,7 @@ use Rattle.h264_recon.specs.Blocks.{sides_of, sides4_of}
 use Rattle.h264_scale.specs.Macroblock.{residual, IsResidual}
 use Rattle.h264_recon.specs.Inter.{Setting}
 use Rattle.h264_recon.specs.Constructed.{block_window, mode_at, predicted_luma, predicted_intra, pcm_sample, made_by, made, Coded}
-use Rattle.h264_recon.specs.Lines.{local, IsMadeFrom, IsLumaMade, IsChromaMade, chroma_plane, pcm_list}
+use Rattle.h264_recon.specs.Lines.{local, IsMadeFrom, AreMadeFrom, IsLumaMade, IsChromaMade, chroma_plane, pcm_list, store_of}
 use Rattle.h264_recon.specs.Blocks4.{place4, AreMade4}
 use Rattle.h264_scale.specs.declared.levels.Levels.{Levels}
 use Rattle.h264_recon.specs.declared.macroblock.Available.{Available}
@@ -22,6 +22,8 @@ use Rattle.h264_recon.specs.declared.macroblock.IntraLuma.{IntraLuma}
 use Rattle.h264_recon.specs.declared.macroblock.IntraLuma.TheVariants.{Blocks, Whole}
 use Rattle.h264_recon.specs.declared.macroblock.IntraModes.{IntraModes}
 use Rattle.h264_recon.specs.Predicted.{PcmSamples, Intra, Pcm}
+use Rattle.h264_recon.specs.declared.store.Lines.{Lines}
+use Rattle.h264_recon.specs.declared.store.Samples.{Samples}
 use Rattle.h264_recon.specs.declared.store.Store.{Store}
 
 made_intra : (k : Setting) (c r : ℕ) (m : Coded) (p : Component) (s : ℕ → ℕ → ℕ) (x y : ℕ) (modes : IntraModes) → m.prediction ≡ Intra modes →
@@ -97,3 +99,27 @@ pub chroma_pcm : (b : Bool) (k : Setting) (c r : ℕ) (m : Coded) (l : Store) (b
     IsMadeFrom k c r m (chroma_plane b) l own
 chroma_pcm true k c r m l bytes own e is = rw is (record { each = λ x y i j. sym (made_pcm k c r m Cr (local 8 l c bytes.cr) x y bytes e) })
 chroma_pcm false k c r m l bytes own e is = rw is (record { each = λ x y i j. sym (made_pcm k c r m Cb (local 8 l c bytes.cb) x y bytes e) })
+
+-- ---- all planes
+
+pub made_all : (k : Setting) (c r : ℕ) (m : Coded) (lines : Lines) (own : Samples) → IsMadeFrom k c r m Y (store_of Y lines) own.y → IsMadeFrom k c r m Cb (store_of Cb lines) own.cb → IsMadeFrom k c r m Cr (store_of Cr lines) own.cr →
+    AreMadeFrom k c r m lines own
+made_all k c r m lines own a b d Y = a
+made_all k c r m lines own a b d Cb = b
+made_all k c r m lines own a b d Cr = d
+
+pub intra_all : (k : Setting) (c r : ℕ) (m : Coded) (lines : Lines) (own : Samples) (modes : IntraModes) (a : Available) → m.prediction ≡ Intra modes → m.available ≡ a → IsLumaMade modes.luma a m.levels c (store_of Y lines) own.y →
+    IsChromaMade modes.chroma a m.levels Cb c (store_of Cb lines) own.cb → IsChromaMade modes.chroma a m.levels Cr c (store_of Cr lines) own.cr → AreMadeFrom k c r m lines own
+intra_all k c r m lines own modes a e f y cb cr =
+    made_all k c r m lines own (luma_made k c r m (store_of Y lines) own.y modes e (rw f y)) (chroma_made false k c r m (store_of Cb lines) own.cb modes e (rw f cb))
+    (chroma_made true k c r m (store_of Cr lines) own.cr modes e (rw f cr))
+
+pub pcm_all : (k : Setting) (c r : ℕ) (m : Coded) (lines : Lines) (own : Samples) (bytes : PcmSamples) → m.prediction ≡ Pcm bytes → own.y ≡ bytes.y → own.cb ≡ bytes.cb → own.cr ≡ bytes.cr → AreMadeFrom k c r m lines own
+pcm_all k c r m lines own bytes e y cb cr =
+    made_all k c r m lines own (rw y (luma_pcm k c r m (store_of Y lines) bytes e)) (chroma_pcm false k c r m (store_of Cb lines) bytes own.cb e cb) (chroma_pcm true k c r m (store_of Cr lines) bytes own.cr e cr)
+
+-- the bottom rows of stores whose left columns were brought up
+pub same_above : (old new : Lines) → new.y ≡ store_of Y old → new.cb ≡ store_of Cb old → new.cr ≡ store_of Cr old → (p : Component) → (store_of p new).above ≡ (store_of p old).above
+same_above old new a b d Y = ap (λ (s : Store). s.above) a
+same_above old new a b d Cb = ap (λ (s : Store). s.above) b
+same_above old new a b d Cr = ap (λ (s : Store). s.above) d

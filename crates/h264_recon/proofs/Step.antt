@@ -12,11 +12,12 @@ use Rattle.h264_plane.specs.Places.{side, Agree}
 use Rattle.h264_recon.specs.Inter.{Setting}
 use Rattle.h264_recon.specs.Constructed.{window, made, IsMade, IsWithin, IsPossible, Coded}
 use Rattle.h264_recon.specs.Around.{SidesAgree}
-use Rattle.h264_recon.specs.Lines.{local, IsMadeFrom, IsSaved, Stored, store_of, AreStored, right_column, with_left}
-use Rattle.h264_recon.specs.Step.{list_of, ArePlaced, AreSaved, HasMacroblock, joined}
+use Rattle.h264_recon.specs.Lines.{local, IsMadeFrom, AreMadeFrom, IsSaved, Stored, samples_of, store_of, AreStored, right_column, with_left}
+use Rattle.h264_recon.specs.Step.{ArePlaced, AreSaved, HasMacroblock, joined}
 use Rattle.h264_recon.specs.declared.macroblock.Available.{Available}
 use Rattle.h264_recon.specs.declared.store.Store.{Store}
 use Rattle.h264_recon.specs.declared.store.Lines.{Lines}
+use Rattle.h264_recon.specs.declared.store.Samples.{Samples}
 use Rattle.h264_plane.proofs.Own.{moved, own_in, own_out, block_in, block_shows}
 use Rattle.h264_recon.proofs.Tables.{table-at}
 use Rattle.h264_recon.proofs.Local.{local_left, local_above, local_corner, local_own}
@@ -129,17 +130,31 @@ shows k c r m u lines own old new inside within ok mu held made placed = λ p. r
 column_at : (n : ℕ) (own list : List ℕ) → own ≡ list → n ≤ 16 → (k : ℕ) → k < n → slice_index (right_column n list) k ≡ slice_index own (n * k + (n - 1))
 column_at n own list e most k i = rw e (table-at 16 (λ z. slice_index list (n * z + (n - 1))) k 0 (omega arith))
 
-right_is : (c : ℕ) (old new : Lines) (own : Component → List ℕ) (p : Component) → AreSaved c own old new → (k : ℕ) → k < side p → slice_index (store_of p new).left k ≡ slice_index (own p) (side p * k + (side p - 1))
-right_is c old new own Y saved = column_at 16 (own Y) new.last.y (saved.last Y) (omega arith)
-right_is c old new own Cb saved = column_at 8 (own Cb) new.last.cb (saved.last Cb) (omega arith)
-right_is c old new own Cr saved = column_at 8 (own Cr) new.last.cr (saved.last Cr) (omega arith)
+right_is : (p : Component) (own : Samples) (new : Lines) → new.last ≡ own → (k : ℕ) → k < side p → slice_index (store_of p new).left k ≡ slice_index (samples_of own p) (side p * k + (side p - 1))
+right_is Y own new e = column_at 16 own.y new.last.y (sym (ap (λ (s : Samples). s.y) e)) (omega arith)
+right_is Cb own new e = column_at 8 own.cb new.last.cb (sym (ap (λ (s : Samples). s.cb) e)) (omega arith)
+right_is Cr own new e = column_at 8 own.cr new.last.cr (sym (ap (λ (s : Samples). s.cr) e)) (omega arith)
 
-pub stored_next : (k : Setting) (c r : ℕ) (m : Coded) (u : Component → ℕ → ℕ → ℕ) (old new : Lines) (own : Component → List ℕ) → c < k.across → IsWithin m.available k.across c r →
-    IsPossible m.prediction m.available → IsMade k c r m u → AreStored k.across c r u old → ((p : Component) → IsMadeFrom k c r m p (store_of p old) (own p)) →
-    AreSaved c own old new → AreStored k.across (c + 1) r u new
-stored_next k c r m u old new own inside within ok mu held made saved = λ p.
-    stored_more (side p) k.across c r (u p) (store_of p old) (store_of p new) (own p) (side_least p) inside
-    (own_is k c r m p u (store_of p old) (own p) inside within ok mu (held p) (made p)) (held p) (saved.borders p) (right_is c old new own p saved)
+-- the borders are those of each store with the same bottom rows
+kept_above : (n c : ℕ) (first old new : Store) (own : List ℕ) → old.above ≡ first.above → IsSaved n c old new own → IsSaved n c first new own
+kept_above n c first old new own e saved = record {
+  size = saved.size ∙ ap (λ (v : Vec ℕ). vec_len v) e;
+  bottom = saved.bottom;
+  before = λ k i. saved.before k i ∙ ap (λ (v : Vec ℕ). slice_index v.items k) e;
+  after = λ k i. saved.after k i ∙ ap (λ (v : Vec ℕ). slice_index v.items k) e;
+  corner = saved.corner ∙ ap (λ (v : Vec ℕ). slice_index v.items (n * c + (n - 1))) e;
+}
+
+pub saved_from : (c : ℕ) (first old new : Lines) → ((p : Component) → (store_of p old).above ≡ (store_of p first).above) → AreSaved c old new →
+    (p : Component) → IsSaved (side p) c (store_of p first) (store_of p new) (samples_of old.last p)
+saved_from c first old new same saved p = kept_above (side p) c (store_of p first) (store_of p old) (store_of p new) (samples_of old.last p) (same p) (saved.borders p)
+
+pub stored_next : (k : Setting) (c r : ℕ) (m : Coded) (u : Component → ℕ → ℕ → ℕ) (first old new : Lines) → c < k.across → IsWithin m.available k.across c r →
+    IsPossible m.prediction m.available → IsMade k c r m u → AreStored k.across c r u first → AreMadeFrom k c r m first old.last →
+    ((p : Component) → (store_of p old).above ≡ (store_of p first).above) → AreSaved c old new → AreStored k.across (c + 1) r u new
+stored_next k c r m u first old new inside within ok mu held made same saved = λ p.
+    stored_more (side p) k.across c r (u p) (store_of p first) (store_of p new) (samples_of old.last p) (side_least p) inside
+    (own_is k c r m p u (store_of p first) (samples_of old.last p) inside within ok mu (held p) (made p)) (held p) (saved_from c first old new same saved p) (right_is p old.last new saved.last)
 
 -- ---- some samples meet the equations: those that were constructed
 
@@ -175,62 +190,25 @@ joined_made k c r m u lines own old new inside within ok held made room placed =
 
 -- ---- three planes
 
-pub placed_all : (c r : ℕ) (y cb cr : List ℕ) (f f1 f2 f3 : Frame) →
-    IsWritten Y f f1 (with_block 16 16 (16 * c) (16 * r) y (at f.y)) → IsWritten Cb f1 f2 (with_block 8 8 (8 * c) (8 * r) cb (at f1.cb)) →
-    IsWritten Cr f2 f3 (with_block 8 8 (8 * c) (8 * r) cr (at f2.cr)) → ArePlaced c r (list_of y cb cr) f f3
-placed_all c r y cb cr f f1 f2 f3 a b d Y = let e : f3.y ≡ f1.y = d.kept.0 ∙ b.kept.0 in rw e a.written
-placed_all c r y cb cr f f1 f2 f3 a b d Cb = let e : f3.cb ≡ f2.cb = d.kept.1 in let e' : f1.cb ≡ f.cb = a.kept.0 in rw e (rw e' at b.written)
-placed_all c r y cb cr f f1 f2 f3 a b d Cr = let e : f2.cr ≡ f.cr = b.kept.1 ∙ a.kept.1 in rw e at d.written
+pub placed_all : (c r : ℕ) (own : Samples) (f f1 f2 f3 : Frame) →
+    IsWritten Y f f1 (with_block 16 16 (16 * c) (16 * r) own.y (at f.y)) → IsWritten Cb f1 f2 (with_block 8 8 (8 * c) (8 * r) own.cb (at f1.cb)) →
+    IsWritten Cr f2 f3 (with_block 8 8 (8 * c) (8 * r) own.cr (at f2.cr)) → ArePlaced c r (samples_of own) f f3
+placed_all c r own f f1 f2 f3 a b d Y = let e : f3.y ≡ f1.y = d.kept.0 ∙ b.kept.0 in rw e a.written
+placed_all c r own f f1 f2 f3 a b d Cb = let e : f3.cb ≡ f2.cb = d.kept.1 in let e' : f1.cb ≡ f.cb = a.kept.0 in rw e (rw e' at b.written)
+placed_all c r own f f1 f2 f3 a b d Cr = let e : f2.cr ≡ f.cr = b.kept.1 ∙ a.kept.1 in rw e at d.written
 
 -- a border that was kept, whatever the left columns are
 bordered : (n c : ℕ) (old new : Store) (own was now : List ℕ) → IsSaved n c old new own → IsSaved n c (with_left n old was) (with_left n new now) own
 bordered n c old new own was now saved = record { size = saved.size; bottom = saved.bottom; before = saved.before; after = saved.after; corner = saved.corner }
 
--- and that of each store with the same bottom rows
-kept_above : (n c : ℕ) (first old new : Store) (own : List ℕ) → old.above ≡ first.above → IsSaved n c old new own → IsSaved n c first new own
-kept_above n c first old new own e saved = record {
-  size = saved.size ∙ ap (λ (v : Vec ℕ). vec_len v) e;
-  bottom = saved.bottom;
-  before = λ k i. saved.before k i ∙ ap (λ (v : Vec ℕ). slice_index v.items k) e;
-  after = λ k i. saved.after k i ∙ ap (λ (v : Vec ℕ). slice_index v.items k) e;
-  corner = saved.corner ∙ ap (λ (v : Vec ℕ). slice_index v.items (n * c + (n - 1))) e;
-}
+bordered_all : (c : ℕ) (old new : Lines) → IsSaved 16 c old.y new.y old.last.y → IsSaved 8 c old.cb new.cb old.last.cb → IsSaved 8 c old.cr new.cr old.last.cr →
+    (p : Component) → IsSaved (side p) c (store_of p old) (store_of p new) (samples_of old.last p)
+bordered_all c old new a b d Y = bordered 16 c old.y new.y old.last.y old.last.y new.last.y a
+bordered_all c old new a b d Cb = bordered 8 c old.cb new.cb old.last.cb old.last.cb new.last.cb b
+bordered_all c old new a b d Cr = bordered 8 c old.cr new.cr old.last.cr old.last.cr new.last.cr d
 
-bordered_all : (c : ℕ) (y cb cr : List ℕ) (old new : Lines) → IsSaved 16 c old.y new.y y → IsSaved 8 c old.cb new.cb cb → IsSaved 8 c old.cr new.cr cr →
-    (p : Component) → IsSaved (side p) c (store_of p old) (store_of p new) (list_of y cb cr p)
-bordered_all c y cb cr old new a b d Y = bordered 16 c old.y new.y y old.last.y new.last.y a
-bordered_all c y cb cr old new a b d Cb = bordered 8 c old.cb new.cb cb old.last.cb new.last.cb b
-bordered_all c y cb cr old new a b d Cr = bordered 8 c old.cr new.cr cr old.last.cr new.last.cr d
-
-listed : (y cb cr y' cb' cr' : List ℕ) → y' ≡ y → cb' ≡ cb → cr' ≡ cr → (p : Component) → list_of y cb cr p ≡ list_of y' cb' cr' p
-listed y cb cr y' cb' cr' a b d Y = sym a
-listed y cb cr y' cb' cr' a b d Cb = sym b
-listed y cb cr y' cb' cr' a b d Cr = sym d
-
-pub saved_all : (c : ℕ) (y cb cr : List ℕ) (old new : Lines) → new.last.y ≡ y → new.last.cb ≡ cb → new.last.cr ≡ cr →
-    IsSaved 16 c old.y new.y y → IsSaved 8 c old.cb new.cb cb → IsSaved 8 c old.cr new.cr cr → AreSaved c (list_of y cb cr) old new
-saved_all c y cb cr old new ey eb er a b d = record {
-  borders = bordered_all c y cb cr old new a b d;
-  last = listed y cb cr new.last.y new.last.cb new.last.cr ey eb er;
-}
-
--- the borders are those of the stores with these bottom rows, too
-rest_above : (first old : Lines) → old.y.above ≡ first.y.above → old.cb.above ≡ first.cb.above → old.cr.above ≡ first.cr.above → (p : Component) → (store_of p old).above ≡ (store_of p first).above
-rest_above first old a b d Y = a
-rest_above first old a b d Cb = b
-rest_above first old a b d Cr = d
-
-pub saved_from : (c : ℕ) (own : Component → List ℕ) (first old new : Lines) → old.y.above ≡ first.y.above → old.cb.above ≡ first.cb.above → old.cr.above ≡ first.cr.above → AreSaved c own old new → AreSaved c own first new
-saved_from c own first old new a b d saved = record {
-  borders = λ p. kept_above (side p) c (store_of p first) (store_of p old) (store_of p new) (own p) (rest_above first old a b d p) (saved.borders p);
-  last = saved.last;
-}
-
-pub made_all : (k : Setting) (c r : ℕ) (m : Coded) (lines : Lines) (y cb cr : List ℕ) → IsMadeFrom k c r m Y (store_of Y lines) y → IsMadeFrom k c r m Cb (store_of Cb lines) cb → IsMadeFrom k c r m Cr (store_of Cr lines) cr →
-    (p : Component) → IsMadeFrom k c r m p (store_of p lines) (list_of y cb cr p)
-made_all k c r m lines y cb cr a b d Y = a
-made_all k c r m lines y cb cr a b d Cb = b
-made_all k c r m lines y cb cr a b d Cr = d
+pub saved_all : (c : ℕ) (old new : Lines) → new.last ≡ old.last → IsSaved 16 c old.y new.y old.last.y → IsSaved 8 c old.cb new.cb old.last.cb → IsSaved 8 c old.cr new.cr old.last.cr → AreSaved c old new
+saved_all c old new e a b d = record { borders = bordered_all c old new a b d; last = e }
 
 pub room_all : (c r : ℕ) (f : Frame) → (16 * c + 16 ≤ f.y.width) × (16 * r + 16 ≤ f.y.height) → (8 * c + 8 ≤ f.cb.width) × (8 * r + 8 ≤ f.cb.height) → (8 * c + 8 ≤ f.cr.width) × (8 * r + 8 ≤ f.cr.height) →
     (p : Component) → (side p * c + side p ≤ (plane_of p f).width) × (side p * r + side p ≤ (plane_of p f).height)

@@ -1,8 +1,8 @@
 -- The weights of a macroblock's places.
-use Rattle.std.proofs.Common.{◌≡◌, ◌≢◌, ℕ, zero, suc, ◌+◌, ◌-◌, ◌*◌, ◌/◌, ◌%◌, ◌<◌, ◌≤◌, ⊎_elim, List, get_or, replicate, slice_index, length, Option, Some, None, unwrap_or, refl, sym, ap, ◌∙◌, subst, arith}
+use Rattle.std.proofs.Common.{◌≡◌, ◌≢◌, Bool, true, false, IsTrue, ℕ, zero, suc, ◌+◌, ◌-◌, ◌*◌, ◌/◌, ◌%◌, ◌<◌, ◌≤◌, ⊎_elim, List, get_or, replicate, slice_index, length, Option, Some, None, unwrap_or, refl, sym, ap, ◌∙◌, subst, arith}
 use Rattle.std.specs.List.{slice_set}
 use Rattle.std.proofs.lemmas.Bool.{cases_lt}
-use Rattle.std.proofs.lemmas.List.{get_or-set_same, get_or-set_other}
+use Rattle.std.proofs.lemmas.List.{get_or-replicate, get_or-set_same, get_or-set_other}
 use Rattle.h264_plane.specs.declared.frame.Component.{Component}
 use Rattle.std.specs.Option.{option_and_then, ForSome}
 use Rattle.h264_base.specs.declared.weight.Weights.{Weights}
@@ -11,11 +11,15 @@ use Rattle.h264_near.specs.Coded.{CodedMacroblock, number_of}
 use Rattle.h264_near.specs.Keeps.{AreContexts}
 use Rattle.h264_near.specs.declared.context.Contexts.{Contexts}
 use Rattle.h264_recon.specs.Given.{weights_of}
-use Rattle.h264_recon.specs.Placed.{weights_placed_at, placed_weights}
+use Rattle.h264_recon.specs.Lines.{samples_of}
+use Rattle.h264_recon.specs.Placed.{weights_placed_at, placed_weights, weights_of_blocks}
+use Rattle.h264_recon.specs.declared.store.Samples.{Samples}
 use Rattle.h264_recon.specs.Weights.{AreInRange, index_weights, weighted_if}
-use Rattle.h264_recon.specs.Weighing.{index_of, IsRunWeighted, ArePlacesWeighted}
-use Rattle.h264_plane.specs.declared.frame.Component.TheVariants.{Y}
-use Rattle.h264_recon.proofs.Tables.{table-ext, table-at}
+use Rattle.h264_recon.specs.Weighing.{index_of, IsRunWeighted, ArePlacesWeighted, AreAllWeighted}
+use Rattle.h264_plane.specs.Places.{side}
+use Rattle.h264_plane.specs.declared.frame.Component.TheVariants.{Y, Cb, Cr}
+use Rattle.h264_vectors.specs.Agrees.{AreAlike}
+use Rattle.h264_recon.proofs.Tables.{table-ext, table-at, table-replicate}
 
 pub few : (k : ℕ) → k < 16 → number_of (k % 4) (k / 4) < 16
 unfolding number_of
@@ -70,6 +74,14 @@ range-grown each n o h before own k i = ⊎_elim
     (λ (q : n ≤ k). let e : k ≡ n = omega arith in rw e (subst (λ z. ForSome z AreInRange) (sym (get_or-set_same each n o None h)) own))
     (cases_lt k n)
 
+-- where the first of blocks that are predicted alike stands for all, the weights are those of each
+pub whole-is : (weights : List (Option Weights)) (whole : Bool) (motions : List (Option Motion)) → (IsTrue whole → AreAlike motions) → weights_of_blocks weights whole motions ≡ placed_weights weights motions
+unfolding placed_weights number_of
+whole-is weights false motions same = refl
+whole-is weights true motions same =
+    let one = index_weights weights (get_or motions 0 None) in
+    table-replicate 16 one ∙ table-ext 16 (λ k. one) (weights_placed_at weights motions) (λ k h. ap (index_weights weights) (sym ((same refl).each (number_of (k % 4) (k / 4)) (few k h))))
+
 -- ---- a macroblock whose places have the weights of a list
 
 luma_place : (x y : ℕ) → x < 16 → y < 16 → 4 * (4 * y / 16) + 4 * x / 16 < 16
@@ -92,17 +104,47 @@ chroma-alike p o list old new all run = record {
   each = λ x y i j. (rw (nothing-added (8 * y + x)) at (run.here (8 * y + x) (omega arith))) ∙ ap (λ z. weighted_if p z (slice_index old (8 * y + x))) (all (4 * (4 * y / 8) + 4 * x / 8) (chroma_place x y i j));
 }
 
--- nothing is weighted
-pub luma-kept : (all : Option (List (Option Weights))) (motions : List (Option Motion)) (samples : List ℕ) → all ≡ None → ArePlacesWeighted 16 Y (λ k. get_or (placed_weights (unwrap_or all (replicate 16 None)) motions) k None) samples samples
-luma-kept all motions samples e = rw e (record { each = λ x y i j. ap (λ z. weighted_if Y z (slice_index samples (16 * y + x))) (sym (none-placed motions (4 * (4 * y / 16) + 4 * x / 16) (luma_place x y i j))) })
+-- ---- all planes
 
-pub chroma-kept : (p : Component) (all : Option (List (Option Weights))) (motions : List (Option Motion)) (samples : List ℕ) → all ≡ None → ArePlacesWeighted 8 p (λ k. get_or (placed_weights (unwrap_or all (replicate 16 None)) motions) k None) samples samples
-chroma-kept p all motions samples e = rw e (record { each = λ x y i j. ap (λ z. weighted_if p z (slice_index samples (8 * y + x))) (sym (none-placed motions (4 * (4 * y / 8) + 4 * x / 8) (chroma_place x y i j))) })
+pub all-alike : (o : Option Weights) (list : List (Option Weights)) (old new : Samples) → ((k : ℕ) → k < 16 → o ≡ get_or list k None) → IsRunWeighted 256 0 Y o old.y new.y → IsRunWeighted 64 0 Cb o old.cb new.cb →
+    IsRunWeighted 64 0 Cr o old.cr new.cr → AreAllWeighted list old new
+all-alike o list old new all y cb cr Y = luma-alike o list old.y new.y all y
+all-alike o list old new all y cb cr Cb = chroma-alike Cb o list old.cb new.cb all cb
+all-alike o list old new all y cb cr Cr = chroma-alike Cr o list old.cr new.cr all cr
 
--- all are, by these weights
-pub weighted-by : (n : ℕ) (p : Component) (all : Option (List (Option Weights))) (weights : List (Option Weights)) (motions : List (Option Motion)) (old new : List ℕ) → all ≡ Some weights → ArePlacesWeighted n p (λ k. get_or (placed_weights weights motions) k None) old new →
-    ArePlacesWeighted n p (λ k. get_or (placed_weights (unwrap_or all (replicate 16 None)) motions) k None) old new
-weighted-by n p all weights motions old new e h = rw e h
+pub all-of : (list : List (Option Weights)) (old new : Samples) → ArePlacesWeighted 16 Y (λ k. get_or list k None) old.y new.y → ArePlacesWeighted 8 Cb (λ k. get_or list k None) old.cb new.cb →
+    ArePlacesWeighted 8 Cr (λ k. get_or list k None) old.cr new.cr → AreAllWeighted list old new
+all-of list old new y cb cr Y = y
+all-of list old new y cb cr Cb = cb
+all-of list old new y cb cr Cr = cr
+
+-- no index has weights, so no place has
+none-of-blocks : (whole : Bool) (motions : List (Option Motion)) (k : ℕ) → k < 16 → get_or (weights_of_blocks (replicate 16 None) whole motions) k None ≡ None
+none-of-blocks true motions k h = get_or-replicate 16 k (index_weights (replicate 16 None) (get_or motions 0 None)) None h ∙ none-of (get_or motions 0 None)
+none-of-blocks false motions k h = none-placed motions k h
+
+place-inside : (p : Component) (x y : ℕ) → x < side p → y < side p → 4 * (4 * y / side p) + 4 * x / side p < 16
+place-inside Y x y i j = luma_place x y i j
+place-inside Cb x y i j = chroma_place x y i j
+place-inside Cr x y i j = chroma_place x y i j
+
+pub all-kept : (all : Option (List (Option Weights))) (whole : Bool) (motions : List (Option Motion)) (samples : Samples) → all ≡ None → AreAllWeighted (weights_of_blocks (unwrap_or all (replicate 16 None)) whole motions) samples samples
+all-kept all whole motions samples e p = rw e (record {
+  each = λ x y i j. ap (λ z. weighted_if p z (slice_index (samples_of samples p) (side p * y + x))) (sym (none-of-blocks whole motions (4 * (4 * y / side p) + 4 * x / side p) (place-inside p x y i j)));
+})
+
+pub all-by : (all : Option (List (Option Weights))) (weights : List (Option Weights)) (whole : Bool) (motions : List (Option Motion)) (old new : Samples) → all ≡ Some weights → AreAllWeighted (weights_of_blocks weights whole motions) old new →
+    AreAllWeighted (weights_of_blocks (unwrap_or all (replicate 16 None)) whole motions) old new
+all-by all weights whole motions old new e h = rw e h
+
+-- where the first motion stands for all
+pub whole-by : (weights : List (Option Weights)) (whole : Bool) (motions : List (Option Motion)) (o : Option Weights) → whole ≡ true → o ≡ index_weights weights (get_or motions 0 None) → (k : ℕ) → k < 16 →
+    o ≡ get_or (weights_of_blocks weights whole motions) k None
+whole-by weights whole motions o w e k h = rw w (e ∙ sym (get_or-replicate 16 k (index_weights weights (get_or motions 0 None)) None h))
+
+-- and where each stands for itself
+pub each-by : (weights : List (Option Weights)) (whole : Bool) (motions : List (Option Motion)) (old new : Samples) → whole ≡ false → AreAllWeighted (placed_weights weights motions) old new → AreAllWeighted (weights_of_blocks weights whole motions) old new
+each-by weights whole motions old new w h = rw w h
 
 -- ---- runs of samples
 

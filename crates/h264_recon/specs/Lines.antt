@@ -17,6 +17,7 @@ use Rattle.h264_recon.specs.Predicted.{PcmSamples}
 use Rattle.h264_recon.specs.Table.{table}
 use Rattle.h264_recon.specs.declared.store.Store.{Store}
 use Rattle.h264_recon.specs.declared.store.Lines.{Lines}
+use Rattle.h264_recon.specs.declared.store.Samples.{Samples}
 
 -- the samples round the macroblock of n columns and rows at column c, of which the store has the sides and a list, row by row, its own
 unfoldable pub local : ℕ → Store → ℕ → List ℕ → ℕ → ℕ → ℕ
@@ -53,6 +54,12 @@ pub record Stored (n w c r : ℕ) (u : ℕ → ℕ → ℕ) (l : Store) : Type 0
   pub left : 0 < c → (k : ℕ) → k < n → slice_index l.left k ≡ u (n * c - 1) (n * r + k)
   pub corner : 0 < c → 0 < r → l.corner ≡ u (n * c - 1) (n * r - 1)
 
+-- the samples of a plane of a macroblock
+abbrev pub samples_of : Samples → Component → List ℕ
+samples_of s Y = s.y
+samples_of s Cb = s.cb
+samples_of s Cr = s.cr
+
 -- the store of a plane, with the right column of the macroblock before
 abbrev pub store_of : Component → Lines → Store
 store_of Y l = with_left 16 l.y l.last.y
@@ -62,6 +69,10 @@ store_of Cr l = with_left 8 l.cr l.last.cr
 -- the stores of all planes do
 abbrev pub AreStored : ℕ → ℕ → ℕ → (Component → ℕ → ℕ → ℕ) → Lines → Type 0
 AreStored w c r u l = (p : Component) → Stored (side p) w c r (u p) (store_of p l)
+
+-- the samples of all planes are constructed from them
+abbrev pub AreMadeFrom : Setting → ℕ → ℕ → Coded → Lines → Samples → Type 0
+AreMadeFrom k c r m l own = (p : Component) → IsMadeFrom k c r m p (store_of p l) (samples_of own p)
 
 -- a chroma plane
 abbrev pub chroma_plane : Bool → Component

@@ -1,5 +1,5 @@
 -- The motions that the code has, by the places that indexes of the reference list name. A working form.
-use Rattle.std.specs.Prelude.{◌≡◌, ℕ, ◌%◌, ◌/◌, ◌<◌, List, get_or, replicate, Option, Some, None, unwrap_or, pos}
+use Rattle.std.specs.Prelude.{◌≡◌, ℕ, ◌%◌, ◌/◌, ◌<◌, Bool, true, false, List, get_or, replicate, Option, Some, None, unwrap_or, pos}
 use Rattle.h264_near.specs.declared.motion.Motion as derived
 use Rattle.h264_near.specs.Coded.{number_of}
 use Rattle.h264_vectors.specs.declared.slice.SliceContext.{SliceContext}
@@ -49,5 +49,10 @@ weights_placed_at weights motions k = index_weights weights (get_or motions (num
 unfoldable pub placed_weights : List (Option Weights) → List (Option derived.Motion) → List (Option Weights)
 placed_weights weights motions = table 16 (weights_placed_at weights motions)
 
+-- where the first motion may stand for all
+abbrev pub weights_of_blocks : List (Option Weights) → Bool → List (Option derived.Motion) → List (Option Weights)
+weights_of_blocks weights true motions = replicate 16 (index_weights weights (get_or motions 0 None))
+weights_of_blocks weights false motions = placed_weights weights motions
+
 abbrev pub weights_in : Weighting → List (Option Weights)
-weights_in w = placed_weights (weights_by w.weights.now) w.motions.now
+weights_in w = weights_of_blocks (weights_by w.weights.now) w.whole w.motions.now

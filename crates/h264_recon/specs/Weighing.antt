@@ -4,7 +4,10 @@ use Rattle.std.specs.Option.{option_map}
 use Rattle.h264_base.specs.declared.weight.Weights.{Weights}
 use Rattle.h264_near.specs.declared.motion.Motion.{Motion}
 use Rattle.h264_plane.specs.declared.frame.Component.{Component}
+use Rattle.h264_plane.specs.Places.{side}
+use Rattle.h264_recon.specs.Lines.{samples_of}
 use Rattle.h264_recon.specs.Weights.{weighted_if}
+use Rattle.h264_recon.specs.declared.store.Samples.{Samples}
 
 -- the reference index of a block
 abbrev pub index_of : Option Motion → Option ℕ
@@ -23,3 +26,7 @@ pub record IsRunWeighted (count start : ℕ) (p : Component) (weights : Option W
 -- the samples of a macroblock of n columns and rows are weighted, each by its place
 pub record ArePlacesWeighted (n : ℕ) (p : Component) (weights : ℕ → Option Weights) (old new : List ℕ) : Type 0 where
   pub each : (x y : ℕ) → x < n → y < n → slice_index new (n * y + x) ≡ weighted_if p (weights (4 * (4 * y / n) + 4 * x / n)) (slice_index old (n * y + x))
+
+-- all samples of a macroblock are, by the weights of its places row by row
+abbrev pub AreAllWeighted : List (Option Weights) → Samples → Samples → Type 0
+AreAllWeighted weights old new = (p : Component) → ArePlacesWeighted (side p) p (λ k. get_or weights k None) (samples_of old p) (samples_of new p)

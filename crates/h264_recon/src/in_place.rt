@@ -8,20 +8,24 @@ ghost use Rattle.h264_recon.specs.Blocks.{sides_of};
 ghost use Rattle.h264_recon.specs.Inter.{Setting};
 ghost use Rattle.h264_scale.specs.Macroblock.{IsResidual, AreResiduals};
 ghost use Rattle.h264_scale.specs.declared.levels.Levels.{Levels};
-ghost use Rattle.h264_recon.specs.Constructed.{coded, IsPossibleLuma, IsPossible, IsAllowed, IsMade};
-ghost use Rattle.h264_recon.specs.Lines.{IsMadeFrom, IsLumaMade, IsChromaMade, AreStored, store_of, with_left, chroma_plane};
-ghost use Rattle.h264_recon.specs.Predicted.{prediction_in};
-ghost use Rattle.h264_recon.specs.Pool.{AreShown, AreUsable};
-ghost use Rattle.h264_recon.specs.Step.{list_of, ArePlaced, AreSaved, HasMacroblock, joined};
+ghost use Rattle.h264_recon.specs.Constructed.{Coded, coded, IsPossibleLuma, IsPossible, IsAllowed, IsMade};
+ghost use Rattle.h264_recon.specs.declared.store.Lines.{Lines};
+ghost use Rattle.h264_recon.specs.Lines.{AreMadeFrom, IsLumaMade, IsChromaMade, AreStored, samples_of, store_of, chroma_plane};
+ghost use Rattle.h264_recon.specs.Predicted.{Intra, Inter, motions_in, prediction_in};
+ghost use Rattle.h264_recon.specs.Placed.{weights_in};
+ghost use Rattle.h264_recon.specs.Pool.{AreShown, AreUsable, HaveRoom};
+ghost use Rattle.h264_recon.specs.Step.{ArePlaced, AreSaved, HasMacroblock, joined};
 
 use crate::blocks::luma4;
 use crate::inter::{predict_chroma, predict_luma};
 use crate::intra::{neighbours_chroma, neighbours16};
-use crate::macroblock::{Available, IntraLuma, Macroblock, Prediction};
+use crate::macroblock::{
+    Available, IntraLuma, IntraModes, Macroblock, Motions, Prediction, Weighting,
+};
 use crate::pcm;
-use crate::store::{Lines, Samples, Store, right_column};
+use crate::store::{Lines, Samples, Store};
 use crate::sum::add;
-use crate::weighing::{weigh_chroma, weigh_luma};
+use crate::weighing::weigh_all;
 use h264_intra::{IntraChromaPredMode, predict_chroma as predict_intra_chroma, predict16};
 use h264_plane::{Component, Frame, Pool};
 use h264_scale::Residuals;
@@ -51,43 +55,6 @@ fn luma_intra(
     }
 }
 
-/// Constructs the luma samples of a macroblock in the place of those of the one before it.
-#[inline(always)]
-fn luma(
-    m: &Macroblock,
-    residual: &Option<[i16; 256]>,
-    store: &mut Store,
-    last: &mut [u8; 256],
-    pool: &Pool,
-    column: usize,
-    row: usize,
-)
-    requires usable { AreUsable pool.now column row (prediction_in m.now.prediction) }
-    requires columns { 16 * column + 16 ≤ vec_len store.old.above }
-    requires more { IsTrue m.now.available.above_right → 16 * column + 20 ≤ vec_len store.old.above }
-    requires small { (column < 1024) × (row < 1024) }
-    ensures made { (k : Setting) (l : Levels) → column < k.across → row < k.down → IsPossible (prediction_in m.now.prediction) m.now.available →
-        AreShown k pool.now (prediction_in m.now.prediction) → IsResidual l Y (unwrap_or residual.now []) →
-        IsMadeFrom k column row (coded m.now l) Y (with_left 16 store.old last.old) last.new }
-    ensures above { store.new.above ≡ store.old.above }
-    ensures corner { store.new.corner ≡ store.old.corner }
-{
-    match &m.prediction {
-        Prediction::Intra(modes) => {
-            store.left = right_column::<16>(last);
-            *last = luma_intra(&modes.luma, m.available, residual, store, column);
-        }
-        Prediction::Inter(motions) => {
-            predict_luma(motions, pool, column, row, last);
-            weigh_luma(&m.weighting, last);
-            add::<256>(last, residual);
-        }
-        Prediction::Pcm(samples) => {
-            *last = pcm::luma(samples);
-        }
-    }
-}
-
 /// The samples of a chroma plane of an intra macroblock.
 #[inline(never)]
 fn chroma_intra(
@@ -107,38 +74,84 @@ fn chroma_intra(
     own
 }
 
-/// Constructs the samples of a chroma plane of a macroblock, likewise.
+/// Constructs the samples of an intra macroblock.
+fn make_intra(
+    modes: &IntraModes,
+    available: Available,
+    residuals: &Residuals,
+    lines: &mut Lines,
+    column: usize,
+)
+    requires y_lines { 16 * column + 16 ≤ vec_len lines.old.y.above }
+    requires cb_lines { 8 * column + 8 ≤ vec_len lines.old.cb.above }
+    requires cr_lines { 8 * column + 8 ≤ vec_len lines.old.cr.above }
+    requires more { IsTrue available.above_right → 16 * column + 20 ≤ vec_len lines.old.y.above }
+    requires small { column < 1024 }
+    ensures made { (k : Setting) (r : ℕ) (m : Coded) → m.prediction ≡ Intra modes.now → m.available ≡ available → IsPossible m.prediction m.available →
+        AreResiduals m.levels residuals.now → AreMadeFrom k column r m lines.old lines.new.last }
+    ensures above { (p : Component) → (store_of p lines.new).above ≡ (store_of p lines.old).above }
+{
+    lines.bring_left();
+    lines.last.y = luma_intra(&modes.luma, available, &residuals.y, &lines.y, column);
+    lines.last.cb = chroma_intra(modes.chroma, available, &residuals.cb, &lines.cb, column);
+    lines.last.cr = chroma_intra(modes.chroma, available, &residuals.cr, &lines.cr, column);
+}
+
+/// Constructs the samples of an inter macroblock at this column and row.
 #[inline(always)]
-fn chroma<const CR: bool>(
+fn make_inter(
+    motions: &Motions,
+    weighting: Weighting,
+    residuals: &Residuals,
+    pool: &Pool,
+    column: usize,
+    row: usize,
+    own: &mut Samples,
+)
+    requires usable { HaveRoom pool.now column row (motions_in motions.now) }
+    requires small { (column < 1024) × (row < 1024) }
+    ensures { (k : Setting) (m : Coded) (lines : Lines) → column < k.across → row < k.down → m.prediction ≡ Inter (motions_in motions.now) →
+        m.weights ≡ weights_in weighting.entry → AreShown k pool.now m.prediction → AreResiduals m.levels residuals.now →
+        AreMadeFrom k column row m lines own.new }
+{
+    predict_luma(motions, pool, column, row, &mut own.y);
+    predict_chroma::<false>(motions, pool, column, row, &mut own.cb);
+    predict_chroma::<true>(motions, pool, column, row, &mut own.cr);
+    weigh_all(weighting, own);
+    add::<256>(&mut own.y, &residuals.y);
+    add::<64>(&mut own.cb, &residuals.cb);
+    add::<64>(&mut own.cr, &residuals.cr);
+}
+
+/// Constructs the samples of a macroblock in the place of those of the one before it.
+#[inline(always)]
+fn make(
     m: &Macroblock,
-    residual: &Option<[i16; 64]>,
-    store: &mut Store,
-    last: &mut [u8; 64],
+    residuals: &Residuals,
+    lines: &mut Lines,
     pool: &Pool,
     column: usize,
     row: usize,
 )
     requires usable { AreUsable pool.now column row (prediction_in m.now.prediction) }
-    requires columns { 8 * column + 8 ≤ vec_len store.old.above }
+    requires y_lines { 16 * column + 16 ≤ vec_len lines.old.y.above }
+    requires cb_lines { 8 * column + 8 ≤ vec_len lines.old.cb.above }
+    requires cr_lines { 8 * column + 8 ≤ vec_len lines.old.cr.above }
+    requires more { IsTrue m.now.available.above_right → 16 * column + 20 ≤ vec_len lines.old.y.above }
     requires small { (column < 1024) × (row < 1024) }
     ensures made { (k : Setting) (l : Levels) → column < k.across → row < k.down → IsPossible (prediction_in m.now.prediction) m.now.available →
-        AreShown k pool.now (prediction_in m.now.prediction) → IsResidual l (chroma_plane CR) (unwrap_or residual.now []) →
-        IsMadeFrom k column row (coded m.now l) (chroma_plane CR) (with_left 8 store.old last.old) last.new }
-    ensures above { store.new.above ≡ store.old.above }
-    ensures corner { store.new.corner ≡ store.old.corner }
+        AreShown k pool.now (prediction_in m.now.prediction) → AreResiduals l residuals.now →
+        AreMadeFrom k column row (coded m.now l) lines.old lines.new.last }
+    ensures above { (p : Component) → (store_of p lines.new).above ≡ (store_of p lines.old).above }
 {
     match &m.prediction {
-        Prediction::Intra(modes) => {
-            store.left = right_column::<8>(last);
-            *last = chroma_intra(modes.chroma, m.available, residual, store, column);
-        }
+        Prediction::Intra(modes) => make_intra(modes, m.available, residuals, lines, column),
         Prediction::Inter(motions) => {
-            predict_chroma::<CR>(motions, pool, column, row, last);
-            weigh_chroma::<CR>(&m.weighting, last);
-            add::<64>(last, residual);
+            let own = &mut lines.last;
+            make_inter(motions, m.weighting, residuals, pool, column, row, own);
         }
         Prediction::Pcm(samples) => {
-            *last = pcm::chroma::<CR>(samples);
+            lines.last = pcm::all(samples);
         }
     }
 }
@@ -150,7 +163,7 @@ fn place(frame: &mut Frame, column: usize, row: usize, own: &Samples)
     requires cb { (8 * column + 8 ≤ frame.old.cb.width) × (8 * row + 8 ≤ frame.old.cb.height) }
     requires cr { (8 * column + 8 ≤ frame.old.cr.width) × (8 * row + 8 ≤ frame.old.cr.height) }
     requires small { (column < 1024) × (row < 1024) }
-    ensures { ArePlaced column row (list_of own.now.y own.now.cb own.now.cr) frame.old frame.new }
+    ensures { ArePlaced column row (samples_of own.now) frame.old frame.new }
 {
     frame.put_block::<16, 16>(Component::Y, 16 * column, 16 * row, &own.y);
     frame.put_block::<8, 8>(Component::Cb, 8 * column, 8 * row, &own.cb);
@@ -164,7 +177,7 @@ fn save(lines: &mut Lines, column: usize)
     requires cb { 8 * column + 8 ≤ vec_len lines.old.cb.above }
     requires cr { 8 * column + 8 ≤ vec_len lines.old.cr.above }
     requires small { column < 1024 }
-    ensures { AreSaved column (list_of lines.old.last.y lines.old.last.cb lines.old.last.cr) lines.old lines.new }
+    ensures { AreSaved column lines.old lines.new }
 {
     lines.y.save_luma(column, &lines.last.y);
     lines.cb.save_chroma(column, &lines.last.cb);
@@ -201,34 +214,7 @@ pub fn construct(
         IsAllowed (coded m.now l) k.across column row → AreShown k pool.now (prediction_in m.now.prediction) → AreResiduals l residuals.now →
         AreStored k.across column row u lines.old → IsMade k column row (coded m.now l) (joined column row frame.new u) }
 {
-    let last = &mut lines.last;
-    luma(
-        m,
-        &residuals.y,
-        &mut lines.y,
-        &mut last.y,
-        pool,
-        column,
-        row,
-    );
-    chroma::<false>(
-        m,
-        &residuals.cb,
-        &mut lines.cb,
-        &mut last.cb,
-        pool,
-        column,
-        row,
-    );
-    chroma::<true>(
-        m,
-        &residuals.cr,
-        &mut lines.cr,
-        &mut last.cr,
-        pool,
-        column,
-        row,
-    );
+    make(m, residuals, lines, pool, column, row);
     place(frame, column, row, &lines.last);
     save(lines, column);
 }

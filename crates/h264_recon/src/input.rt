@@ -192,6 +192,19 @@ fn prediction<'a>(read: &'a Read, places: &[u8; 16]) -> Prediction<'a>
     }
 }
 
+/// Whether the blocks of a macroblock that was read are known to be predicted alike.
+#[inline(always)]
+pub fn is_whole(read: &Read) -> bool
+    ensures { (coded : CodedMacroblock) → HoldsMacroblock read.now coded → IsTrue result → AreAlike read.now.contexts.motions }
+{
+    match read.kind {
+        Kind::Inter { whole } => whole,
+        Kind::Intra4x4 => false,
+        Kind::Intra16x16 { mode: _ } => false,
+        Kind::Pcm => false,
+    }
+}
+
 /// No sides.
 #[inline(always)]
 fn no_sides() -> Available
@@ -258,6 +271,10 @@ pub fn given<'a>(
     Macroblock {
         available: used(read, near, slice, column, row),
         prediction: prediction(read, places),
-        weighting: Weighting::new(weights, &read.contexts.motions),
+        weighting: Weighting {
+            weights,
+            motions: &read.contexts.motions,
+            whole: is_whole(read),
+        },
     }
 }

@@ -24,12 +24,12 @@ mod weighing;
 mod weights;
 
 pub use in_place::construct;
-pub use input::{available, given};
+pub use input::{available, given, is_whole};
 pub use macroblock::{
     Available, IntraLuma, IntraModes, Macroblock, Motion, Motions, Prediction, Weighting,
 };
 pub use scaled::residuals;
-pub use store::{Lines, Store};
+pub use store::{Lines, Samples, Store};
 pub use weights::SliceWeights;
 
 #[cfg(test)]

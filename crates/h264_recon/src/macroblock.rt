@@ -61,6 +61,8 @@ pub struct Weighting<'a> {
     pub weights: &'a SliceWeights,
     /// What the macroblock's blocks are predicted from, by their number (6.4.3).
     pub motions: &'a [Option<Derived>; 16],
+    /// Whether the first of these stands for all.
+    pub whole: bool,
 }
 
 /// What constructs the samples of a macroblock, beside its residual.

@@ -1,11 +1,12 @@
 ghost use Rattle.std.specs.Prelude.{◌≡◌, ℕ, ◌+◌, ◌≤◌, get_or};
-ghost use Rattle.h264_recon.specs.Lines.{pcm_list};
 ghost use Rattle.h264_recon.specs.Predicted.{pcm_of};
 ghost use Rattle.h264_recon.specs.Table.{table};
 
+use crate::store::Samples;
+
 /// The luma samples of an I_PCM macroblock.
 #[inline(never)]
-pub fn luma(samples: &[u8; 384]) -> [u8; 256]
+fn luma(samples: &[u8; 384]) -> [u8; 256]
     ensures { result ≡ (pcm_of samples.now).y }
 {
     let mut out = [0; 256];
@@ -28,15 +29,16 @@ fn from(samples: &[u8; 384], start: usize) -> [u8; 64]
     out
 }
 
-/// The samples of a chroma plane of an I_PCM macroblock.
+/// The samples of an I_PCM macroblock.
 #[tactic(auto, unfolding(crate::specs::Predicted::pcm_of))]
-#[inline]
-pub fn chroma<const CR: bool>(samples: &[u8; 384]) -> [u8; 64]
-    ensures { result ≡ pcm_list CR (pcm_of samples.now) }
+pub fn all(samples: &[u8; 384]) -> Samples
+    ensures y { result.y ≡ (pcm_of samples.now).y }
+    ensures cb { result.cb ≡ (pcm_of samples.now).cb }
+    ensures cr { result.cr ≡ (pcm_of samples.now).cr }
 {
-    if CR {
-        from(samples, 320)
-    } else {
-        from(samples, 256)
+    Samples {
+        y: luma(samples),
+        cb: from(samples, 256),
+        cr: from(samples, 320),
     }
 }

@@ -1,5 +1,6 @@
 ghost use Rattle.std.specs.Prelude.{◌≡◌, ℕ, ◌+◌, ◌*◌, ◌<◌, ◌≤◌, length, slice_index, vec_len, IfOk};
-ghost use Rattle.h264_recon.specs.Lines.{IsSaved, right_column as right_column_of};
+ghost use Rattle.h264_recon.specs.Lines.{IsSaved, right_column as right_column_of, store_of};
+ghost use Rattle.h264_plane.specs.declared.frame.Component.TheVariants.{Y, Cb, Cr};
 
 use crate::run::put_run;
 use std::alloc::{AllocError, Global};
@@ -13,6 +14,19 @@ pub struct Store {
     pub left: [u8; 16],
     /// The sample above that column.
     pub corner: u8,
+}
+
+/// The right column of a macroblock of `N` columns and rows.
+fn right_column<const N: usize>(own: &[u8]) -> [u8; 16]
+    requires size { N ≤ 16 }
+    requires whole { length own.now ≡ N * N }
+    ensures { result ≡ right_column_of N own.now }
+{
+    let mut column = [0; 16];
+    for k in 0..N {
+        column[k] = own[N * k + (N - 1)];
+    }
+    column
 }
 
 impl Store {
@@ -77,19 +91,6 @@ pub struct Lines {
     pub last: Samples,
 }
 
-/// The right column of a macroblock of `N` columns and rows.
-pub fn right_column<const N: usize>(own: &[u8]) -> [u8; 16]
-    requires size { N ≤ 16 }
-    requires whole { length own.now ≡ N * N }
-    ensures { result ≡ right_column_of N own.now }
-{
-    let mut column = [0; 16];
-    for k in 0..N {
-        column[k] = own[N * k + (N - 1)];
-    }
-    column
-}
-
 impl Lines {
     /// Lines for pictures of this many macroblocks to a row. The only error is want of memory.
     pub fn new(alloc: Global, width: usize) -> Result<Lines, AllocError>
@@ -108,5 +109,17 @@ impl Lines {
                 cr: [0; 64],
             },
         })
+    }
+
+    /// Brings up the right columns of the macroblock before, which intra prediction takes.
+    pub fn bring_left(&mut self)
+        ensures y { self.new.y ≡ store_of Y self.old }
+        ensures cb { self.new.cb ≡ store_of Cb self.old }
+        ensures cr { self.new.cr ≡ store_of Cr self.old }
+        ensures last { self.new.last ≡ self.old.last }
+    {
+        self.y.left = right_column::<16>(&self.last.y);
+        self.cb.left = right_column::<8>(&self.last.cb);
+        self.cr.left = right_column::<8>(&self.last.cr);
     }
 }

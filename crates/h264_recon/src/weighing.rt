@@ -1,15 +1,17 @@
 //! Weighted samples of a macroblock (8.4.2.3), those of each 4x4 place by the weights of its reference index.
 #![tactic(auto)]
 
-ghost use Rattle.std.specs.Prelude.{◌≡◌, ℕ, ◌+◌, ◌<◌, ◌≤◌, IsTrue, length, get_or, None};
+ghost use Rattle.std.specs.Prelude.{◌≡◌, ℕ, ◌+◌, ◌<◌, ◌≤◌, IsTrue, List, length, get_or, Option, None};
+ghost use Rattle.h264_base.specs.declared.weight.Weights.{Weights};
 ghost use Rattle.std.specs.Option.{ForSome};
 ghost use Rattle.h264_plane.specs.declared.frame.Component.TheVariants.{Y};
 ghost use Rattle.h264_recon.specs.Lines.{chroma_plane};
-ghost use Rattle.h264_recon.specs.Placed.{placed_weights, weights_in};
+ghost use Rattle.h264_recon.specs.Placed.{placed_weights, weights_by, weights_of_blocks, weights_in};
 ghost use Rattle.h264_recon.specs.Weights.{index_weights, weight_of, AreInRange, EachInRange};
-ghost use Rattle.h264_recon.specs.Weighing.{index_of, AreOfOneIndex, IsRunWeighted, ArePlacesWeighted};
+ghost use Rattle.h264_recon.specs.Weighing.{index_of, AreOfOneIndex, IsRunWeighted, ArePlacesWeighted, AreAllWeighted};
 
 use crate::macroblock::Weighting;
+use crate::store::Samples;
 use crate::weights::SliceWeights;
 use h264_base::{Weight, Weights};
 use h264_inter::weigh;
@@ -65,8 +67,13 @@ impl<'a> Weighting<'a> {
     pub fn new(weights: &'a SliceWeights, motions: &'a [Option<Derived>; 16]) -> Weighting<'a>
         ensures weights { result.weights.now ≡ weights.now }
         ensures motions { result.motions.now ≡ motions.now }
+        ensures places { weights_in result ≡ placed_weights (weights_by weights.now) motions.now }
     {
-        Weighting { weights, motions }
+        Weighting {
+            weights,
+            motions,
+            whole: false,
+        }
     }
 }
 
@@ -127,32 +134,6 @@ fn weigh_luma_runs(weights: &[Option<Weights>; 16], out: &mut [u8; 256])
     }
 }
 
-/// Weighs the predicted luma samples of a macroblock of a slice with these weights. A function of its own, so that those of other slices do not pay
-/// for it.
-#[inline(never)]
-fn weigh_luma_by(weights: &[Option<Weights>; 16], weighting: &Weighting, out: &mut [u8; 256])
-    requires { EachInRange weights.now }
-    ensures { ArePlacesWeighted 16 Y (λ k. get_or (placed_weights weights.now weighting.now.motions.now) k None) out.old out.new }
-{
-    let motions = weighting.motions;
-    if are_of_one_index(motions) {
-        weigh_run::<256>(out, 0, of_motion(weights, motions[0]), Component::Y);
-        return;
-    }
-    weigh_luma_runs(&of_places(weights, motions), out);
-}
-
-/// Weighs the predicted luma samples of a macroblock.
-#[inline(always)]
-pub fn weigh_luma(weighting: &Weighting, out: &mut [u8; 256])
-    ensures { ArePlacesWeighted 16 Y (λ k. get_or (weights_in weighting.now) k None) out.old out.new }
-{
-    match &weighting.weights.by_index {
-        None => {}
-        Some(weights) => weigh_luma_by(weights, weighting, out),
-    }
-}
-
 /// A chroma plane.
 #[inline(always)]
 fn chroma_component<const CR: bool>() -> Component
@@ -173,32 +154,57 @@ fn weigh_chroma_runs<const CR: bool>(weights: &[Option<Weights>; 16], out: &mut 
     }
 }
 
-/// Weighs the predicted samples of a chroma plane of a macroblock of a slice with these weights, likewise.
-#[inline(never)]
-fn weigh_chroma_by<const CR: bool>(
-    weights: &[Option<Weights>; 16],
-    weighting: &Weighting,
-    out: &mut [u8; 64],
-)
-    requires { EachInRange weights.now }
-    ensures { ArePlacesWeighted 8 (chroma_plane CR) (λ k. get_or (placed_weights weights.now weighting.now.motions.now) k None) out.old out.new }
+/// Weighs the predicted samples of a macroblock, all by the same weights.
+#[inline(always)]
+fn weigh_whole(weights: Option<Weights>, own: &mut Samples)
+    requires { ForSome weights AreInRange }
+    ensures { (list : List (Option Weights)) → ((k : ℕ) → k < 16 → weights ≡ get_or list k None) → AreAllWeighted list own.old own.new }
 {
-    let motions = weighting.motions;
-    if are_of_one_index(motions) {
-        let weights = of_motion(weights, motions[0]);
-        weigh_run::<64>(out, 0, weights, chroma_component::<CR>());
-        return;
-    }
-    weigh_chroma_runs::<CR>(&of_places(weights, motions), out);
+    weigh_run::<256>(&mut own.y, 0, weights, Component::Y);
+    weigh_run::<64>(&mut own.cb, 0, weights, Component::Cb);
+    weigh_run::<64>(&mut own.cr, 0, weights, Component::Cr);
 }
 
-/// Weighs the predicted samples of a chroma plane of a macroblock.
+/// Weighs them by the weights of each place, row by row.
+fn weigh_places(weights: &[Option<Weights>; 16], own: &mut Samples)
+    requires { (k : ℕ) → k < 16 → ForSome (get_or weights.now k None) AreInRange }
+    ensures { AreAllWeighted weights.now own.old own.new }
+{
+    weigh_luma_runs(weights, &mut own.y);
+    weigh_chroma_runs::<false>(weights, &mut own.cb);
+    weigh_chroma_runs::<true>(weights, &mut own.cr);
+}
+
+/// Weighs them by the weights of these motions, of which the first may stand for all. A function of its own, so that macroblocks of other slices do not
+/// pay for it.
+#[inline(never)]
+fn weigh_by(
+    weights: &[Option<Weights>; 16],
+    motions: &[Option<Derived>; 16],
+    whole: bool,
+    own: &mut Samples,
+)
+    requires { EachInRange weights.now }
+    ensures { AreAllWeighted (weights_of_blocks weights.now whole motions.now) own.old own.new }
+{
+    if whole {
+        weigh_whole(of_motion(weights, motions[0]), own);
+        return;
+    }
+    if are_of_one_index(motions) {
+        weigh_whole(of_motion(weights, motions[0]), own);
+        return;
+    }
+    weigh_places(&of_places(weights, motions), own);
+}
+
+/// Weighs the predicted samples of a macroblock.
 #[inline(always)]
-pub fn weigh_chroma<const CR: bool>(weighting: &Weighting, out: &mut [u8; 64])
-    ensures { ArePlacesWeighted 8 (chroma_plane CR) (λ k. get_or (weights_in weighting.now) k None) out.old out.new }
+pub fn weigh_all(weighting: Weighting, own: &mut Samples)
+    ensures { AreAllWeighted (weights_in weighting.entry) own.old own.new }
 {
     match &weighting.weights.by_index {
         None => {}
-        Some(weights) => weigh_chroma_by::<CR>(weights, weighting, out),
+        Some(weights) => weigh_by(weights, weighting.motions, weighting.whole, own),
     }
 }

@@ -53,7 +53,7 @@ returns-clause-samples c width size (Some making) picture coded h s m r e p a =
     let is = c.given_within-m.ensures.given width picture making.place coded w h.keeps n' i r e p m.placed in
     c.go_on.ensures.held (setting_of old) making.place making.slices picture coded (levels_of slice.chroma_qp_index_offset coded) n old.sound.column (in-rows _ _ _ _ _ _ _ _ _ old.sound c.requires) (are-shown old _ c.given_within-m.ensures.points) a
     (possible width slice picture making.place (weights_by old.weights) slice.chroma_qp_index_offset coded old.column old.row _ n' i e p is)
-    (given-by old.across width picture making slice old coded _ w m e is) (c.is_whole.ensures coded r)
+    (given-by old.across width picture making slice old coded _ w m e is) (c.moves_as_one.ensures coded r)
     (subst (λ x. Keeps x picture old.near) (sym w) h.keeps) r.contexts (filter-by making slice old coded m e) m.offsets s
 
 pub returns-clause-makes : goal.returns-clause-makes
