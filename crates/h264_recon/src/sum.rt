@@ -1,12 +1,12 @@
 ghost use Rattle.std.specs.Prelude.{◌≡◌, ℕ, ◌<◌, slice_index, get_or, unwrap_or, [], pos, ◌+ℤ◌};
 ghost use Rattle.h264_plane.specs.Clip.{clip1 as clip1_of};
 
-/// A constructed sample (8.5.14). A sum that leaves 16 bits lies far beyond 255.
+/// A constructed sample (8.5.14). A residual beyond 255 or below -255 makes the same of each sample as these do, and with them the sum fits 16 bits.
 #[inline(always)]
 fn added(predicted: u8, residual: i16) -> u8
     ensures { result ≡ clip1_of (pos predicted +ℤ residual) }
 {
-    i16::from(predicted).saturating_add(residual).clamp(0, 255) as u8
+    (i16::from(predicted) + residual.clamp(-255, 255)).clamp(0, 255) as u8
 }
 
 /// Adds a residual to the predicted samples of a block.
