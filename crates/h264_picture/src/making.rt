@@ -47,7 +47,7 @@ fn given_within<'a>(
     read: &'a Read,
     near: &Near,
     slice: &SliceContext,
-    places: &[u8; 16],
+    places: &'a [u8; 16],
     weights: &'a SliceWeights,
     across: usize,
     column: usize,

@@ -11,7 +11,8 @@ use Rattle.h264_vectors.specs.declared.slice.SliceContext.{SliceContext}
 use Rattle.h264_mbsyntax.specs.Possible.{Refers}
 use Rattle.h264_recon.specs.Given.{motion_of, motions_of}
 use Rattle.h264_recon.specs.Inter.{no_motion}
-use Rattle.h264_recon.specs.Placed.{ArePlaced, IsOneOf, placed_motion, placed_at, placed_motions}
+use Rattle.h264_recon.specs.Placed.{ArePlaced, IsOneOf}
+use Rattle.h264_recon.specs.Predicted.{placed_motion, placed_at, placed_motions}
 use Rattle.h264_recon.specs.declared.macroblock.Motion.{Motion}
 use Rattle.h264_recon.proofs.Tables.{table-ext, table-at}
 

@@ -1,11 +1,10 @@
 -- The motions that the code has, by the places that indexes of the reference list name. A working form.
-use Rattle.std.specs.Prelude.{◌≡◌, ℕ, ◌%◌, ◌/◌, ◌<◌, Bool, true, false, List, get_or, replicate, Option, Some, None, unwrap_or, pos}
+use Rattle.std.specs.Prelude.{◌≡◌, ℕ, ◌%◌, ◌/◌, ◌<◌, Bool, true, false, List, get_or, replicate, Option, Some, None, unwrap_or}
 use Rattle.h264_near.specs.declared.motion.Motion as derived
 use Rattle.h264_near.specs.Coded.{number_of}
 use Rattle.h264_vectors.specs.declared.slice.SliceContext.{SliceContext}
 use Rattle.h264_recon.specs.Inter.{no_motion}
 use Rattle.h264_recon.specs.Table.{table}
-use Rattle.h264_recon.specs.declared.macroblock.Motion.{Motion}
 use Rattle.h264_recon.specs.Predicted.{Prediction, Intra, Inter, Pcm}
 use Rattle.h264_recon.specs.Weights.{index_weights}
 use Rattle.h264_base.specs.declared.weight.Weights.{Weights}
@@ -25,16 +24,6 @@ abbrev pub PointsInto : List ℕ → Prediction → Type 0
 PointsInto places (Intra modes) = Unit {0}
 PointsInto places (Inter motions) = (n : ℕ) → n < 16 → IsOneOf places (get_or motions n no_motion).picture
 PointsInto places (Pcm samples) = Unit {0}
-
-abbrev pub placed_motion : List ℕ → Option derived.Motion → Motion
-placed_motion places None = record { picture = get_or places 0 0; vector = record { x = pos 0; y = pos 0 } }
-placed_motion places (Some m) = record { picture = get_or places (m.ref_idx % 16) 0; vector = record { x = m.vector.x; y = m.vector.y } }
-
-abbrev pub placed_at : List ℕ → List (Option derived.Motion) → ℕ → Motion
-placed_at places motions k = placed_motion places (get_or motions (number_of (k % 4) (k / 4)) None)
-
-unfoldable pub placed_motions : List ℕ → List (Option derived.Motion) → List Motion
-placed_motions places motions = table 16 (placed_at places motions)
 
 -- ---- the weights that the code has
 

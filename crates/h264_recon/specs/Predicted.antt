@@ -1,5 +1,7 @@
 -- How a macroblock is predicted, as its equations have it, and as the code has it. A working form.
-use Rattle.std.specs.Prelude.{ℕ, ◌+◌, List, get_or, replicate}
+use Rattle.std.specs.Prelude.{ℕ, ◌+◌, ◌%◌, ◌/◌, List, get_or, replicate, Option, Some, None, pos}
+use Rattle.h264_near.specs.declared.motion.Motion as derived
+use Rattle.h264_near.specs.Coded.{number_of}
 use Rattle.h264_recon.specs.Table.{table}
 use Rattle.h264_recon.specs.declared.macroblock.IntraModes.{IntraModes}
 use Rattle.h264_recon.specs.declared.macroblock.Motion.{Motion}
@@ -28,11 +30,23 @@ pcm_of samples = record {
   cr = table 64 (λ k. get_or samples (320 + k) 0);
 }
 
+-- ---- the motion of a place, whose picture is the place that its index names, of these
+
+abbrev pub placed_motion : List ℕ → Option derived.Motion → Motion
+placed_motion places None = record { picture = get_or places 0 0; vector = record { x = pos 0; y = pos 0 } }
+placed_motion places (Some m) = record { picture = get_or places (m.ref_idx % 16) 0; vector = record { x = m.vector.x; y = m.vector.y } }
+
+abbrev pub placed_at : List ℕ → List (Option derived.Motion) → ℕ → Motion
+placed_at places motions k = placed_motion places (get_or motions (number_of (k % 4) (k / 4)) None)
+
+unfoldable pub placed_motions : List ℕ → List (Option derived.Motion) → List Motion
+placed_motions places motions = table 16 (placed_at places motions)
+
 -- ---- what the code has stands for this
 
 abbrev pub motions_in : Motions → List Motion
 motions_in (Whole motion) = replicate 16 motion
-motions_in (Each motions) = motions
+motions_in (Each m) = placed_motions m.places.now m.derived.now
 
 abbrev pub prediction_in : code.Prediction → Prediction
 prediction_in (kind.Intra modes) = Intra modes

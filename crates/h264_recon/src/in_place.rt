@@ -17,7 +17,7 @@ ghost use Rattle.h264_recon.specs.Pool.{AreShown, AreUsable, HaveRoom};
 ghost use Rattle.h264_recon.specs.Step.{ArePlaced, AreSaved, HasMacroblock, joined};
 
 use crate::blocks::luma4;
-use crate::inter::{predict_chroma, predict_luma};
+use crate::inter::predict;
 use crate::intra::{neighbours_chroma, neighbours16};
 use crate::macroblock::{
     Available, IntraLuma, IntraModes, Macroblock, Motions, Prediction, Weighting,
@@ -114,9 +114,7 @@ fn make_inter(
         m.weights ≡ weights_in weighting.entry → AreShown k pool.now m.prediction → AreResiduals m.levels residuals.now →
         AreMadeFrom k column row m lines own.new }
 {
-    predict_luma(motions, pool, column, row, &mut own.y);
-    predict_chroma::<false>(motions, pool, column, row, &mut own.cb);
-    predict_chroma::<true>(motions, pool, column, row, &mut own.cr);
+    predict(motions, pool, column, row, own);
     weigh_all(weighting, own);
     add::<256>(&mut own.y, &residuals.y);
     add::<64>(&mut own.cb, &residuals.cb);

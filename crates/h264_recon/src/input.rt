@@ -12,11 +12,12 @@ ghost use Rattle.h264_recon.specs.Constructed.{coded as coded_as, IsWithin};
 ghost use Rattle.h264_recon.specs.Levels.{levels_of};
 ghost use Rattle.h264_recon.specs.Given.{available as available_of, no_sides as no_sides_of, used_by, modes4_of, prediction_of, given as given_of};
 ghost use Rattle.h264_recon.specs.Inter.{no_motion};
-ghost use Rattle.h264_recon.specs.Predicted.{motions_in, prediction_in};
-ghost use Rattle.h264_recon.specs.Placed.{ArePlaced, IsOneOf, PointsInto, placed_motion, placed_motions, weights_by};
+ghost use Rattle.h264_recon.specs.Predicted.{motions_in, prediction_in, placed_motion, placed_motions};
+ghost use Rattle.h264_recon.specs.Placed.{ArePlaced, IsOneOf, PointsInto, weights_by};
 
 use crate::macroblock::{
-    Available, IntraLuma, IntraModes, Macroblock, Motion, Motions, Prediction, Weighting,
+    Available, IntraLuma, IntraModes, Macroblock, Motion, Motions, PlacedMotions, Prediction,
+    Weighting,
 };
 use crate::weights::SliceWeights;
 use h264_inter::MotionVector;
@@ -135,7 +136,7 @@ fn are_alike(derived: &[Option<Derived>; 16]) -> bool
 
 /// Motions row by row.
 #[inline(never)]
-fn placed(derived: &[Option<Derived>; 16], places: &[u8; 16]) -> [Motion; 16]
+pub fn placed(derived: &[Option<Derived>; 16], places: &[u8; 16]) -> [Motion; 16]
     ensures { result ≡ placed_motions places.now derived.now }
 {
     let mut out = [motion(None, places); 16];
@@ -147,7 +148,7 @@ fn placed(derived: &[Option<Derived>; 16], places: &[u8; 16]) -> [Motion; 16]
 
 /// The motion of the first block, for all.
 #[inline(always)]
-fn one_motion(derived: &[Option<Derived>; 16], places: &[u8; 16]) -> Motions
+fn one_motion<'a>(derived: &[Option<Derived>; 16], places: &[u8; 16]) -> Motions<'a>
     ensures points { (n : ℕ) → n < 16 → IsOneOf places.now (get_or (motions_in result) n no_motion).picture }
     ensures here { AreAlike derived.now → motions_in result ≡ placed_motions places.now derived.now }
 {
@@ -156,7 +157,7 @@ fn one_motion(derived: &[Option<Derived>; 16], places: &[u8; 16]) -> Motions
 
 /// The motions of a macroblock, whose blocks are known to be alike or not, and whether they are one.
 #[inline]
-fn motions(derived: &[Option<Derived>; 16], whole: bool, places: &[u8; 16]) -> Motions
+fn motions<'a>(derived: &'a [Option<Derived>; 16], whole: bool, places: &'a [u8; 16]) -> Motions<'a>
     ensures points { (n : ℕ) → n < 16 → IsOneOf places.now (get_or (motions_in result) n no_motion).picture }
     ensures here { (IsTrue whole → AreAlike derived.now) → motions_in result ≡ placed_motions places.now derived.now }
 {
@@ -166,11 +167,11 @@ fn motions(derived: &[Option<Derived>; 16], whole: bool, places: &[u8; 16]) -> M
     if are_alike(derived) {
         return one_motion(derived, places);
     }
-    Motions::Each(placed(derived, places))
+    Motions::Each(PlacedMotions { derived, places })
 }
 
 /// How a macroblock is predicted.
-fn prediction<'a>(read: &'a Read, places: &[u8; 16]) -> Prediction<'a>
+fn prediction<'a>(read: &'a Read, places: &'a [u8; 16]) -> Prediction<'a>
     ensures points { PointsInto places.now (prediction_in result) }
     ensures here { (slice : Context) (place : ℕ → ℕ) (width : ℕ) (picture : List CodedMacroblock) (coded : CodedMacroblock) → HoldsMacroblock read.now coded →
         IsPossible width slice picture coded.prediction → length slice.references ≡ 16 → ArePlaced slice places.now place →
@@ -253,7 +254,7 @@ pub fn given<'a>(
     read: &'a Read,
     near: &Near,
     slice: &SliceContext,
-    places: &[u8; 16],
+    places: &'a [u8; 16],
     weights: &'a SliceWeights,
     column: usize,
     row: usize,

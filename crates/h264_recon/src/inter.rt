@@ -1,15 +1,17 @@
-ghost use Rattle.std.specs.Prelude.{◌≡◌, ℕ, ◌+◌, ◌*◌, ◌<◌, ◌≤◌, IsTrue, slice_index, get_or};
-ghost use Rattle.h264_plane.specs.declared.frame.Component.TheVariants.{Y};
+ghost use Rattle.std.specs.Prelude.{◌≡◌, ℕ, ◌+◌, ◌*◌, ◌<◌, ◌≤◌, IsTrue, slice_index, get_or, replicate};
+ghost use Rattle.h264_plane.specs.declared.frame.Component.TheVariants.{Y, Cb, Cr};
 ghost use Rattle.h264_plane.specs.Frames.{plane_of as plane_of_frame};
 ghost use Rattle.h264_inter.specs.Reference.{HasBlock};
 ghost use Rattle.h264_recon.specs.Inter.{no_motion};
 ghost use Rattle.h264_recon.specs.Lines.{chroma_plane};
 ghost use Rattle.h264_recon.specs.Parts.{IsPut, AreEqual, HasPart};
 ghost use Rattle.h264_recon.specs.Pool.{HaveRoom, from_pool};
-ghost use Rattle.h264_recon.specs.Predicted.{motions_in};
+ghost use Rattle.h264_recon.specs.Predicted.{motions_in, placed_motions};
 
-use crate::macroblock::{Motion, Motions};
+use crate::input::placed;
+use crate::macroblock::{Motion, Motions, PlacedMotions};
 use crate::run::put_run;
+use crate::store::Samples;
 use h264_inter::{chroma, luma};
 use h264_plane::{Frame, Plane, Pool};
 
@@ -154,22 +156,6 @@ fn luma_quarters(motion: &[Motion; 16], pool: &Pool, column: usize, row: usize, 
     }
 }
 
-/// Writes the predicted luma samples of the macroblock at this column and row.
-#[inline]
-pub fn predict_luma(motions: &Motions, pool: &Pool, column: usize, row: usize, out: &mut [u8; 256])
-    requires small { (column < 1024) × (row < 1024) }
-    requires room { HaveRoom pool.now column row (motions_in motions.now) }
-    ensures { HasBlock 16 16 out.new (from_pool pool.now (motions_in motions.now) column row Y) }
-{
-    match motions {
-        Motions::Whole(motion) => {
-            let plane = &pool.frame(usize::from(motion.picture)).y;
-            luma::<16, 16>(plane, 16 * column, 16 * row, motion.vector, out);
-        }
-        Motions::Each(motion) => luma_quarters(motion, pool, column, row, out),
-    }
-}
-
 /// A chroma plane of a frame.
 #[inline(always)]
 fn plane_of<const CR: bool>(frame: &Frame) -> &Plane
@@ -240,24 +226,48 @@ fn chroma_quarters<const CR: bool>(
     }
 }
 
-/// Writes the predicted samples of a chroma plane of the macroblock at this column and row.
-#[inline]
-pub fn predict_chroma<const CR: bool>(
-    motions: &Motions,
-    pool: &Pool,
-    column: usize,
-    row: usize,
-    out: &mut [u8; 64],
-)
+/// Writes the predicted samples of the macroblock at this column and row, all of one motion.
+#[inline(always)]
+fn predict_whole(motion: Motion, pool: &Pool, column: usize, row: usize, own: &mut Samples)
+    requires small { (column < 1024) × (row < 1024) }
+    requires room { HaveRoom pool.now column row (replicate 16 motion) }
+    ensures y { HasBlock 16 16 own.new.y (from_pool pool.now (replicate 16 motion) column row Y) }
+    ensures cb { HasBlock 8 8 own.new.cb (from_pool pool.now (replicate 16 motion) column row Cb) }
+    ensures cr { HasBlock 8 8 own.new.cr (from_pool pool.now (replicate 16 motion) column row Cr) }
+{
+    let frame = pool.frame(usize::from(motion.picture));
+    let vector = motion.vector;
+    luma::<16, 16>(&frame.y, 16 * column, 16 * row, vector, &mut own.y);
+    chroma::<8, 8>(&frame.cb, 8 * column, 8 * row, vector, &mut own.cb);
+    chroma::<8, 8>(&frame.cr, 8 * column, 8 * row, vector, &mut own.cr);
+}
+
+/// Writes the predicted samples of the macroblock at this column and row, whose places have motions of their own.
+#[inline(never)]
+fn predict_each(m: &PlacedMotions, pool: &Pool, column: usize, row: usize, own: &mut Samples)
+    requires small { (column < 1024) × (row < 1024) }
+    requires room { HaveRoom pool.now column row (placed_motions m.now.places.now m.now.derived.now) }
+    ensures y { HasBlock 16 16 own.new.y (from_pool pool.now (placed_motions m.now.places.now m.now.derived.now) column row Y) }
+    ensures cb { HasBlock 8 8 own.new.cb (from_pool pool.now (placed_motions m.now.places.now m.now.derived.now) column row Cb) }
+    ensures cr { HasBlock 8 8 own.new.cr (from_pool pool.now (placed_motions m.now.places.now m.now.derived.now) column row Cr) }
+{
+    let motion = placed(m.derived, m.places);
+    luma_quarters(&motion, pool, column, row, &mut own.y);
+    chroma_quarters::<false>(&motion, pool, column, row, &mut own.cb);
+    chroma_quarters::<true>(&motion, pool, column, row, &mut own.cr);
+}
+
+/// Writes the predicted samples of the macroblock at this column and row.
+#[inline(always)]
+pub fn predict(motions: &Motions, pool: &Pool, column: usize, row: usize, own: &mut Samples)
     requires small { (column < 1024) × (row < 1024) }
     requires room { HaveRoom pool.now column row (motions_in motions.now) }
-    ensures { HasBlock 8 8 out.new (from_pool pool.now (motions_in motions.now) column row (chroma_plane CR)) }
+    ensures y { HasBlock 16 16 own.new.y (from_pool pool.now (motions_in motions.now) column row Y) }
+    ensures cb { HasBlock 8 8 own.new.cb (from_pool pool.now (motions_in motions.now) column row Cb) }
+    ensures cr { HasBlock 8 8 own.new.cr (from_pool pool.now (motions_in motions.now) column row Cr) }
 {
     match motions {
-        Motions::Whole(motion) => {
-            let plane = plane_of::<CR>(pool.frame(usize::from(motion.picture)));
-            chroma::<8, 8>(plane, 8 * column, 8 * row, motion.vector, out);
-        }
-        Motions::Each(motion) => chroma_quarters::<CR>(motion, pool, column, row, out),
+        Motions::Whole(motion) => predict_whole(*motion, pool, column, row, own),
+        Motions::Each(each) => predict_each(each, pool, column, row, own),
     }
 }

@@ -36,20 +36,28 @@ pub struct Motion {
     pub vector: MotionVector,
 }
 
+/// What the blocks of a macroblock are predicted from, as it was derived, by their number (6.4.3), and the places of the reference pictures in the pool of
+/// frames, by refIdxL0.
+#[derive(Clone, Copy)]
+pub struct PlacedMotions<'a> {
+    pub derived: &'a [Option<Derived>; 16],
+    pub places: &'a [u8; 16],
+}
+
 /// The motion of the 4x4 places of a macroblock.
 #[derive(Clone, Copy)]
-pub enum Motions {
+pub enum Motions<'a> {
     /// One motion at all places.
     Whole(Motion),
-    /// That of each place, row by row.
-    Each([Motion; 16]),
+    /// That of each place. They are lent, since a copy of sixteen costs each macroblock that has one.
+    Each(PlacedMotions<'a>),
 }
 
 /// How a macroblock is predicted.
 #[derive(Clone, Copy)]
 pub enum Prediction<'a> {
     Intra(IntraModes),
-    Inter(Motions),
+    Inter(Motions<'a>),
     /// I_PCM: its samples, those of Y, then of Cb and Cr, each row by row (7.3.5).
     Pcm(&'a [u8; 384]),
 }

@@ -1,5 +1,6 @@
 ghost use Rattle.std.specs.Prelude.{◌≡◌, ◌<◌, ◌≤◌, vec_len, length};
 
+use crate::input::placed;
 use crate::{
     Available, IntraLuma, IntraModes, Lines, Macroblock, Motion, Motions, Prediction, SliceWeights,
     Weighting, available, construct, given, residuals,
@@ -427,7 +428,8 @@ fn moved_as_read(rt: &(impl Abort + AllocGlobal)) -> Result<(), AllocError> {
     let first = given(&read, &near, &SLICE, &PLACES, &weights, 0, 0);
     assert!(rt; !first.available.left && !first.available.above && !first.available.above_right);
     match first.prediction {
-        Prediction::Inter(Motions::Each(motion)) => {
+        Prediction::Inter(Motions::Each(each)) => {
+            let motion = placed(each.derived, each.places);
             assert_eq!(rt;
                 (motion[0].picture, motion[0].vector.x, motion[0].vector.y),
                 (7, 3, -2)

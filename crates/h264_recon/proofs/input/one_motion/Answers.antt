@@ -2,7 +2,7 @@ use Rattle.std.proofs.Common.{◌≡◌, ◌/◌, ◌%◌, ◌∙◌, get_or, re
 use Rattle.std.proofs.lemmas.List.{get_or-replicate}
 use Rattle.h264_near.specs.Coded.{number_of}
 use Rattle.h264_recon.specs.Inter.{no_motion}
-use Rattle.h264_recon.specs.Placed.{placed_motion, placed_at, placed_motions}
+use Rattle.h264_recon.specs.Predicted.{placed_motion, placed_at, placed_motions}
 use Rattle.h264_recon.proofs.Placed.{points-at}
 use Rattle.h264_recon.proofs.Tables.{table-ext, table-replicate}
 use Rattle.h264_recon.proofs.input.one_motion.Goals as goal

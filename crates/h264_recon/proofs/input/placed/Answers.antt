@@ -1,6 +1,6 @@
 use Rattle.std.proofs.Common.{arith}
 use Rattle.h264_recon.specs.Inter.{no_motion}
-use Rattle.h264_recon.specs.Placed.{placed_at, placed_motions}
+use Rattle.h264_recon.specs.Predicted.{placed_at, placed_motions}
 use Rattle.h264_recon.proofs.Tables.{table-same}
 use Rattle.h264_recon.proofs.input.placed.Goals as goal
 

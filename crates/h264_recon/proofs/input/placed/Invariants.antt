@@ -1,6 +1,6 @@
 use Rattle.std.proofs.Common.{◌≡◌, ℕ, ◌<◌, get_or, length}
 use Rattle.h264_recon.specs.Inter.{no_motion}
-use Rattle.h264_recon.specs.Placed.{placed_at}
+use Rattle.h264_recon.specs.Predicted.{placed_at}
 use Rattle.h264_recon.proofs.input.placed.Given as goal
 
 abbrev pub invariant-loop-k : goal.invariant-loop-k
