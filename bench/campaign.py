@@ -141,6 +141,15 @@ class Judge:
         return ""
 
 
+    def leaps_after_no_reference(self, path):
+        """Whether a picture that is no reference is followed by another frame_num than its own, but for an IDR picture's 0."""
+        units, slices = (self.ran([it], [path]).stdout.decode().split("\n") for it in ("units", "headers"))
+        kinds = {words[1]: words for words in map(str.split, units) if words[:1] == ["unit"]}
+        told = [words for words in map(str.split, slices) if words[:1] == ["slice"]]
+        pairs = [(kinds[a[1]][5], kinds[b[1]][3], a[7], b[7]) for a, b in zip(told, told[1:])]
+        return any(reference == "0" and kind == "1" and before != after for reference, kind, before, after in pairs)
+
+
 def by_file(output):
     """The lines of each file, of a command that went through several."""
     lines = collections.defaultdict(list)
@@ -176,6 +185,11 @@ def units_of(stream):
     """What stands before the first start code, and each unit with its own."""
     starts = [it.start() for it in re.finditer(b"\0\0\1", stream)]
     return stream[: starts[0]], [stream[a:b] for a, b in zip(starts, [*starts[1:], len(stream)])]
+
+
+def has_other_sets(stream):
+    """Whether the stream has sequence parameter sets of more than one content."""
+    return len({bytes(unit[3:].rstrip(b"\0")) for unit in units_of(stream)[1] if unit[3] & 31 == 7}) > 1
 
 
 def flipped(stream, chance):
@@ -264,7 +278,10 @@ class Worker:
         if theirs == frames:
             self.counts["ffmpeg: the same frames"] += 1
             return
+        tags = tags | ({"other sets"} if has_other_sets(stream) else set())
         excuse = excused(mine, theirs, complaints, tags)
+        if not excuse and self.judge.leaps_after_no_reference(path):
+            excuse = "a frame_num after a picture that is no reference, which is not its own"
         if excuse:
             self.counts[f"ffmpeg: {excuse}"] += 1
             return
@@ -351,6 +368,8 @@ def excused(mine, theirs, complaints, tags):
             return "another order, with counts below that of operation 5"
     if theirs is not None and is_far_apart(order) and not collections.Counter(theirs) - collections.Counter(frames):
         return "a count that lies too far from others"
+    if theirs is not None and "other sets" in tags and not collections.Counter(theirs) - collections.Counter(frames):
+        return "sequence parameter sets of other contents, between which it drops frames"
     if theirs is not None and unwritten:
         more, fewer = collections.Counter(theirs), collections.Counter(frames)
         if not fewer - more and (more - fewer).total() <= unwritten:
