@@ -1,54 +1,18 @@
 -- Lines of chroma, of which one sample on each side is written.
-use Rattle.std.proofs.Common.{◌≡◌, ℕ, ◌+◌, ◌-◌, ◌/◌, ◌<◌, ◌≤◌, Bool, true, false, cond, ◌==◌, List, length, slice_index, arith, refl, sym, ap, ◌∙◌, ⊎_elim, inl, inr}
+use Rattle.std.proofs.Common.{◌≡◌, ℕ, ◌+◌, ◌-◌, ◌/◌, ◌<◌, ◌≤◌, Bool, true, false, cond, ◌==◌, length, slice_index, arith, refl, sym, ap, ◌∙◌, ⊎_elim}
 use Rattle.std.proofs.lemmas.Bool.Decides.{nat_tests}
-use Rattle.std.proofs.lemmas.Bool.{cases_eq, cases_lt}
 use Rattle.h264_plane.specs.Samples.{Samples, at, look, ShowsSamples, with_run}
 use Rattle.h264_deblock.specs.Line.{filtered}
-use Rattle.h264_deblock.specs.Edge.{taps, limits, lines_after, edge_after, HasSamplesBy, IsLinePut, KeepsOuter}
+use Rattle.h264_deblock.specs.Edge.{taps, limits, edge_after}
 use Rattle.h264_deblock.specs.Inner.{SameInner, AreNearest, AreNearestWritten}
 use Rattle.h264_deblock.specs.declared.line.Line.{Line}
 use Rattle.h264_deblock.specs.declared.line.Limits.{Limits}
 use Rattle.h264_deblock.specs.declared.inner.Nearest.{Nearest}
 use Rattle.h264_deblock.specs.declared.edge_parameters.EdgeParameters.{EdgeParameters}
 use Rattle.h264_deblock.proofs.Groups.{edge_shown}
-use Rattle.h264_deblock.proofs.Lines.{lines_at, lines_beyond, inside_or_not, same_taps}
+use Rattle.h264_deblock.proofs.Lines.{lines_at, lines_beyond, inside_or_not}
 use Rattle.h264_deblock.proofs.Local.{filtered_inner, outer, replaced_inner}
 use Rattle.h264_deblock.proofs.Beside.{run_inside, run_outside}
-use Rattle.h264_deblock.proofs.Crossed.{run_at, line_written}
-use Rattle.h264_plane.proofs.Runs.{run_outside as run_beside}
-
--- the two samples of a line in a row of their own
-run_here : (x y : ℕ) (run : List ℕ) (l : Line) (s : ℕ → ℕ → ℕ) (w : ℕ) → 4 ≤ x → length run ≡ 2 →
-    slice_index run 0 ≡ l.p0 → slice_index run 1 ≡ l.q0 → with_run (x - 1) y run s w y ≡ cond (w + 1 == x) l.p0 (cond (w == x) l.q0 (s w y))
-run_here x y run l s w b n e0 e1 =
-    ⊎_elim (λ i. run_at (x - 1) y run s w 0 (omega arith) (omega arith) ∙ e0 ∙ (grind (arith, nat_tests)))
-    (λ n0. ⊎_elim (λ i. run_at (x - 1) y run s w 1 (omega arith) (omega arith) ∙ e1 ∙ (grind (arith, nat_tests)))
-    (λ n1. run_beside (x - 1) y run s w y (inr (⊎_elim (λ i. inl i) (λ i. inr (omega arith)) (cases_lt w (x - 1)))) ∙ (grind (arith, nat_tests)))
-    (cases_eq w x)) (cases_eq (w + 1) x)
-
-pub pair_put : (p q : Samples) (x y : ℕ) (run : List ℕ) (l : Line) → 4 ≤ x → y < p.height → length run ≡ 2 →
-    slice_index run 0 ≡ l.p0 → slice_index run 1 ≡ l.q0 → KeepsOuter (taps (look true p y) x) l →
-    ShowsSamples p q (with_run (x - 1) y run (at p)) → IsLinePut true p q y x l
-pair_put p q x y run l b i n e0 e1 keeps put = record {
-  width = put.width;
-  height = put.height;
-  here = λ w j. put.samples w y j i ∙ run_here x y run l (at p) w b n e0 e1 ∙ sym (replaced_inner l (look true p y) x w b keeps);
-  kept = λ u w j k other. put.samples w u k j ∙ run_beside (x - 1) y run (at p) w u (inl other);
-}
-
--- one more line of an edge that is written
-pub pair_written : (p q r : Samples) (k : ℕ → Limits) (n y x : ℕ) (run : List ℕ) → 4 ≤ x → x + 4 ≤ p.width → y + n < p.height → length run ≡ 2 →
-    slice_index run 0 ≡ (filtered true (k n) (taps (look true p (y + n)) x)).p0 → slice_index run 1 ≡ (filtered true (k n) (taps (look true p (y + n)) x)).q0 →
-    HasSamplesBy true p q (lines_after true k n y x (look true p)) → ShowsSamples q r (with_run (x - 1) (y + n) run (at q)) →
-    HasSamplesBy true p r (lines_after true k (n + 1) y x (look true p))
-pair_written p q r k n y x run b c i len e0 e1 before put =
-    let old : (w : ℕ) → w < p.width → look true q (y + n) w ≡ look true p (y + n) w =
-    λ w j. before.samples (y + n) w i j ∙ lines_beyond true k n y x (look true p) (y + n) w (inr (omega arith)) in
-    let taps_same : taps (look true q (y + n)) x ≡ taps (look true p (y + n)) x =
-    same_taps (look true q (y + n)) (look true p (y + n)) x b (λ w e f. old w (omega arith)) in
-    let keeps : KeepsOuter (taps (look true q (y + n)) x) (filtered true (k n) (taps (look true p (y + n)) x)) = rw taps_same (outer (k n) (taps (look true p (y + n)) x)) in
-    line_written true true p q r k n y x (filtered true (k n) (taps (look true p (y + n)) x)) b c i refl before
-    (pair_put q r x (y + n) run _ b (omega (arith, before.height)) len e0 e1 keeps put)
 
 -- two rows that are written
 rows_here : (y w a b c d s : ℕ) → 4 ≤ y → a ≡ cond (w == y) d b → b ≡ cond (w == y - 1) c s → a ≡ cond (w + 1 == y) c (cond (w == y) d s)

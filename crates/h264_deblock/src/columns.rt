@@ -64,14 +64,24 @@ fn turned(x: &[u8; 128]) -> [u8; 128]
     riffled(&riffled(&riffled(x)))
 }
 
-/// Eight samples of each list, from a place on, in turn.
+/// Eight samples of a list, from place `i` on, each in turn with one of another, from place `j` on.
 #[inline(always)]
-pub fn pair_in_turn(a: &[u8], b: &[u8], place: usize) -> [u8; 16]
-    requires first { place + 8 ≤ length a.now }
-    requires second { place + 8 ≤ length b.now }
-    ensures { (u : ℕ) → u < 16 → slice_index result u ≡ in_turn (slice_index a.now (place + u / 2)) (slice_index b.now (place + u / 2)) u }
+pub fn pair_in_turn(a: &[u8], i: usize, b: &[u8], j: usize) -> [u8; 16]
+    requires first { i + 8 ≤ length a.now }
+    requires second { j + 8 ≤ length b.now }
+    ensures { (u : ℕ) → u < 16 → slice_index result u ≡ in_turn (slice_index a.now (i + u / 2)) (slice_index b.now (j + u / 2)) u }
 {
-    woven(u8x8::from_slice(&a[place..]), u8x8::from_slice(&b[place..]))
+    woven(u8x8::from_slice(&a[i..]), u8x8::from_slice(&b[j..]))
+}
+
+/// Puts sixteen samples in their place.
+#[inline(always)]
+fn put_sixteen(samples: &mut [u8; 128], place: usize, row: &[u8; 16])
+    requires { place + 16 ≤ 128 }
+    ensures put { (n : ℕ) → n < 16 → slice_index samples.new (place + n) ≡ slice_index row.now n }
+    ensures kept { (n : ℕ) → n < place → slice_index samples.new n ≡ slice_index samples.old n }
+{
+    samples[place..place + 16].copy_from_slice(row);
 }
 
 /// Eight rows of `a` from row `y` on, each in turn with one of `b` from row `z` on; eight samples of each, from column `x` on.
@@ -85,10 +95,14 @@ fn read_in_turn(a: &Plane, y: usize, b: &Plane, z: usize, x: usize) -> [u8; 128]
     ensures { (v : ℕ) → v < 8 → (u : ℕ) → u < 16 → slice_index result (16 * v + u) ≡ in_turn (at a.now (x + u / 2) (y + v))
         (at b.now (x + u / 2) (z + v)) u }
 {
+    let (first, second) = (a.samples(), b.samples());
+    let (mut i, mut j) = (y * a.width() + x, z * b.width() + x);
     let mut samples = [0u8; 128];
     for v in 0..8usize {
-        let pair = pair_in_turn(a.row(y + v), b.row(z + v), x);
-        samples[16 * v..16 * v + 16].copy_from_slice(&pair);
+        let pair = pair_in_turn(first, i, second, j);
+        put_sixteen(&mut samples, 16 * v, &pair);
+        i += a.width();
+        j += b.width();
     }
     samples
 }
@@ -129,16 +143,6 @@ pub fn read_columns(plane: &Plane, x: usize, y: usize) -> Rows
     }
 }
 
-/// Puts sixteen samples in their place.
-#[inline(always)]
-fn put_sixteen(samples: &mut [u8; 128], place: usize, row: &[u8; 16])
-    requires { place + 16 ≤ 128 }
-    ensures put { (n : ℕ) → n < 16 → slice_index samples.new (place + n) ≡ slice_index row.now n }
-    ensures kept { (n : ℕ) → n < place → slice_index samples.new n ≡ slice_index samples.old n }
-{
-    samples[place..place + 16].copy_from_slice(row);
-}
-
 /// The samples of the lines, eight to a line.
 #[inline(always)]
 fn line_by_line(r: &Rows) -> [u8; 128]
@@ -165,8 +169,5 @@ pub fn write_columns(plane: &mut Plane, x: usize, y: usize, r: &Rows)
     requires rows { y + 16 ≤ plane.old.height }
     ensures { AreWritten true plane.old plane.new y x r.now }
 {
-    let samples = line_by_line(r);
-    for n in 0..16usize {
-        plane.put_run(x - 4, y + n, &run_of::<8>(&samples, 8 * n));
-    }
+    plane.put_block::<8, 16>(x - 4, y, &line_by_line(r));
 }

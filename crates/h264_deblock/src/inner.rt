@@ -176,10 +176,7 @@ fn write_columns(plane: &mut Plane, x: usize, y: usize, r: &Nearest)
     requires rows { y + 8 ≤ plane.old.height }
     ensures { AreNearestWritten true plane.old plane.new y x r.now }
 {
-    let pairs = pair_in_turn(&r.p0, &r.q0, 0);
-    for n in 0..8usize {
-        plane.put_run(x - 1, y + n, &run_of::<2>(&pairs, 2 * n));
-    }
+    plane.put_block::<2, 8>(x - 1, y, &pair_in_turn(&r.p0, 0, &r.q0, 0));
 }
 
 /// Writes the row on each side of a horizontal edge.

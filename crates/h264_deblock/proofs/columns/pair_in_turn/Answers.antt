@@ -6,7 +6,7 @@ use Rattle.h264_deblock.proofs.columns.pair_in_turn.Goals as goal
 
 pub returns : goal.returns
 returns c u i =
-    let place = c.args.place in
+    let place = c.args.i in
     let r = c.woven.result in
     let half : u / 2 < 8 = omega arith in
     ⊎_elim
@@ -16,5 +16,5 @@ returns c u i =
     (λ odd.
     let one : u % 2 ≡ 1 = omega (arith, odd) in
     let here : u ≡ 2 * (u / 2) + 1 = omega (arith, odd) in
-    ap (slice_index r) here ∙ c.woven.ensures.second (u / 2) half ∙ get_or-chunk place 8 c.args.b.now (u / 2) 0 half ∙ at_second _ _ u one)
+    ap (slice_index r) here ∙ c.woven.ensures.second (u / 2) half ∙ get_or-chunk c.args.j 8 c.args.b.now (u / 2) 0 half ∙ at_second _ _ u one)
     (cases_eq (u % 2) 0)
