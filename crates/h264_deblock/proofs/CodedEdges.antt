@@ -32,7 +32,7 @@ use Rattle.h264_deblock.specs.declared.edge_parameters.BoundaryStrength.{Boundar
 use Rattle.h264_deblock.specs.declared.edge_parameters.BoundaryStrength.TheVariants.{Zero, BelowFour, Four}
 use Rattle.h264_deblock.specs.declared.slice_filter.SliceFilter.{SliceFilter}
 use Rattle.h264_deblock.specs.CodedEdges.{named, block_at, strength_at, strengths, plane_qp, edge_of, filters, border, inner, edges_along, coded_edges}
-use Rattle.h264_deblock.specs.Steps.{LiesAlong, block_beside, number_at, inter_strength, inner_lines, alike, are_blank, are_like, are_alike, is_even, is_seamless, side_qp, parameters, border_of, border_edge, inner_edge}
+use Rattle.h264_deblock.specs.Steps.{LiesAlong, block_beside, number_at, inter_strength, inner_lines, alike, are_blank, are_like, are_alike, is_even, is_steady, side_qp, parameters, border_of, border_edge, inner_edge}
 
 -- ---- blocks
 
@@ -230,19 +230,52 @@ module _ (v : Bool) (c : Contexts) (m : CodedMacroblock) (s : AreContexts c m) (
 
 -- ---- an edge along which nothing tells the blocks apart
 
-module _ (v : Bool) (e : Edge) (c : Contexts) (p q : CodedMacroblock) (beside : LiesAlong v e p) (s : AreContexts c q) (i : e.intra ≡ false) (j : c.intra ≡ false) (k : length e.totals ≡ 4) (l : length c.totals ≡ 16) (even : is_even c ≡ true)
-    (on : is_seamless e (get_or c.motions 0 None) ≡ true) where
-  on-at : (u : ℕ) → u < 4 → Zero ≡ strength_at v 0 p q u
+left-far : (a b c : Vector) → a.x ≡ b.x → a.y ≡ b.y → far a c ≡ far b c
+left-far a b c x y = rw (x, y) refl
+
+right-far : (a b c : Vector) → b.x ≡ c.x → b.y ≡ c.y → far a b ≡ far a c
+right-far a b c x y = rw (x, y) refl
+
+-- two blocks are predicted alike
+alike-parts : (a b : Motion) → alike (Some a) (Some b) ≡ true → (a.picture ≡ b.picture) × (a.vector.x ≡ b.vector.x) × (a.vector.y ≡ b.vector.y)
+alike-parts a b e =
+    let p = both (a.picture == b.picture && int_eq a.vector.x b.vector.x) (int_eq a.vector.y b.vector.y) e in
+    let v = both (a.picture == b.picture) (int_eq a.vector.x b.vector.x) p.0 in
+    (eqb-true a.picture b.picture v.0, (Decides-int_eq a.vector.x b.vector.x).0 v.1, (Decides-int_eq a.vector.y b.vector.y).0 p.1)
+
+left-alike : (a b c : Option Motion) → alike a b ≡ true → moves_apart a c ≡ moves_apart b c
+left-alike None None c e = refl
+left-alike None (Some b) c e = absurd (cc)
+left-alike (Some a) None c e = absurd (cc)
+left-alike (Some a) (Some b) None e = refl
+left-alike (Some a) (Some b) (Some c) e = let p = alike-parts a b e in rw (p.0, left-far a.vector b.vector c.vector p.1 p.2) refl
+
+right-alike : (a b c : Option Motion) → alike b c ≡ true → moves_apart a b ≡ moves_apart a c
+right-alike None b c e = refl
+right-alike (Some a) None None e = refl
+right-alike (Some a) None (Some c) e = absurd (cc)
+right-alike (Some a) (Some b) None e = absurd (cc)
+right-alike (Some a) (Some b) (Some c) e = let p = alike-parts b c e in rw (p.0, right-far a.vector b.vector c.vector p.1 p.2) refl
+
+one-strength : (a b : Bool) (p q r t : Option Motion) → a ≡ false → b ≡ false → moves_apart p q ≡ moves_apart r t → inter_strength false p q ≡ inter_strength (a || b) r t
+one-strength a b p q r t e f g = rw (e, f, g) refl
+
+module _ (v : Bool) (e : Edge) (c : Contexts) (p q : CodedMacroblock) (beside : LiesAlong v e p) (s : AreContexts c q) (i : e.intra ≡ false) (j : c.intra ≡ false) (k : length e.totals ≡ 4) (l : length c.totals ≡ 16)
+    (m : length e.motions ≡ 4) (n : length c.motions ≡ 16) (even : is_even c ≡ true) (steady : is_steady e ≡ true) (bs : BoundaryStrength) (is : bs ≡ inter_strength false (get_or e.motions 0 None) (get_or c.motions 0 None)) where
+  on-at : (u : ℕ) → u < 4 → bs ≡ strength_at v 0 p q u
   on-at u h =
       let b : number_at v 0 u < 16 = few-at v 0 u (omega arith) h in
-      let x = both (are_blank e.totals) (are_like (get_or c.motions 0 None) e.motions) on in
+      let x = both (are_blank e.totals) (are_alike e.motions) steady in
       let y = both (are_blank c.totals) (are_alike c.motions) even in
-      outer-by v u e c p q Zero h beside s i j
-      (even-strength (nat_lt 0 (get_or e.totals u 0)) (nat_lt 0 (get_or c.totals (number_at v 0 u) 0)) (get_or e.motions u None) (get_or c.motions (number_at v 0 u) None) (blank e.totals u x.0 (omega arith)) (blank c.totals (number_at v 0 u) y.0 (omega arith))
-      (same-all e.motions c.motions (get_or c.motions 0 None) u (number_at v 0 u) x.1 y.1))
+      let like = at-all (λ o. alike o (get_or e.motions 0 None)) e.motions u None x.1 (omega arith) in
+      let own = at-all (λ o. alike o (get_or c.motions 0 None)) c.motions (number_at v 0 u) None y.1 (omega arith) in
+      outer-by v u e c p q bs h beside s i j
+      (is ∙ one-strength (nat_lt 0 (get_or e.totals u 0)) (nat_lt 0 (get_or c.totals (number_at v 0 u) 0)) (get_or e.motions 0 None) (get_or c.motions 0 None) (get_or e.motions u None) (get_or c.motions (number_at v 0 u) None)
+      (blank e.totals u x.0 (omega arith)) (blank c.totals (number_at v 0 u) y.0 (omega arith))
+      (sym (left-alike (get_or e.motions u None) (get_or e.motions 0 None) (get_or c.motions (number_at v 0 u) None) like ∙ right-alike (get_or e.motions 0 None) (get_or c.motions (number_at v 0 u) None) (get_or c.motions 0 None) own)))
 
-  pub even-border : Zero ∷ Zero ∷ Zero ∷ Zero ∷ [] ≡ strengths v 0 p q
-  even-border = four v 0 p q Zero Zero Zero Zero (on-at 0 (omega arith)) (on-at 1 (omega arith)) (on-at 2 (omega arith)) (on-at 3 (omega arith))
+  pub even-border : bs ∷ bs ∷ bs ∷ bs ∷ [] ≡ strengths v 0 p q
+  even-border = four v 0 p q bs bs bs bs (on-at 0 (omega arith)) (on-at 1 (omega arith)) (on-at 2 (omega arith)) (on-at 3 (omega arith))
 
 -- ---- the border
 

@@ -70,9 +70,9 @@ are_alike motions = are_like (get_or motions 0 None) motions
 abbrev pub is_even : Contexts → Bool
 is_even c = are_blank c.totals && are_alike c.motions
 
--- the blocks along an edge have no coefficients and are predicted as this one
-abbrev pub is_seamless : Edge → Option Motion → Bool
-is_seamless e m = are_blank e.totals && are_like m e.motions
+-- nothing tells the blocks along an edge apart
+abbrev pub is_steady : Edge → Bool
+is_steady e = are_blank e.totals && are_alike e.motions
 
 -- the quantisation parameter of luma or of chroma
 abbrev pub side_qp : Bool → ℕ → ℤ → ℕ

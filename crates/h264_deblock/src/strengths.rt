@@ -7,7 +7,7 @@ ghost use Rattle.h264_near.specs.Keeps.{AreContexts};
 ghost use Rattle.h264_near.specs.Strength.{moves_apart};
 ghost use Rattle.h264_deblock.specs.CodedEdges.{named, strength_at, strengths};
 ghost use Rattle.h264_deblock.specs.Words.{names, all_names, IsWord, AreWords};
-ghost use Rattle.h264_deblock.specs.Steps.{LiesAlong, inter_strength, number_at, inner_lines, alike, are_blank, are_like, are_alike, is_even, is_seamless};
+ghost use Rattle.h264_deblock.specs.Steps.{LiesAlong, inter_strength, number_at, inner_lines, alike, are_blank, are_like, are_alike, is_even, is_steady};
 ghost use Rattle.h264_deblock.specs.Steps.{HasStillLines};
 
 use crate::named::Word;
@@ -121,15 +121,15 @@ fn outer_line(edge: &Edge, own: &Contexts, vertical: bool) -> Word
     ]
 }
 
-/// Whether the blocks along an edge have no coefficients and are predicted from one picture by one vector, as this one.
+/// Whether the blocks along an edge have no coefficients and are predicted from one picture by one vector.
 #[inline(always)]
-fn is_seamless(edge: &Edge, motion: &Option<Motion>) -> bool
-    ensures { result ≡ is_seamless edge.now motion.now }
+fn is_steady(edge: &Edge) -> bool
+    ensures { result ≡ is_steady edge.now }
 {
     if !are_blank(&edge.totals) {
         return false;
     }
-    are_like(&edge.motions, motion)
+    are_like(&edge.motions, &edge.motions[0])
 }
 
 /// The strengths of the edge between a macroblock and the one beside it, to the left or above. `even` says that nothing tells the blocks of the one
@@ -147,8 +147,8 @@ pub(crate) fn border_strengths(edge: &Edge, own: &Contexts, even: bool, vertical
         return FOURS;
     }
     if even {
-        if is_seamless(edge, &own.motions[0]) {
-            return ZEROS;
+        if is_steady(edge) {
+            return [inter(false, false, &edge.motions[0], &own.motions[0]); 4];
         }
     }
     outer_line(edge, own, vertical)
