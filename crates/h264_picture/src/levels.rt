@@ -1,7 +1,7 @@
 //! The residual of a macroblock that was read (8.5).
 #![tactic(auto)]
 
-ghost use Rattle.std.specs.Prelude.{◌≡◌, ◌≤◌, IsTrue};
+ghost use Rattle.std.specs.Prelude.{◌≡◌, ◌≤◌, IsTrue, true, false};
 ghost use Rattle.h264_near.specs.Coded.{CodedMacroblock};
 ghost use Rattle.h264_mbsyntax.specs.Holds.{HoldsMacroblock};
 ghost use Rattle.h264_scale.specs.Macroblock.{AreResiduals};
@@ -33,8 +33,19 @@ static NO_RESIDUALS: Residuals = Residuals {
 
 /// The residual of a macroblock without levels.
 #[inline]
-pub(crate) fn no_residuals() -> &'static Residuals
+fn no_residuals() -> &'static Residuals
     ensures { (l : Levels) → AreNone l → AreResiduals l result.now }
 {
     &NO_RESIDUALS
+}
+
+/// The residual of a macroblock: the one that was written last, if it has levels, else none.
+#[inline(always)]
+pub(crate) fn residuals_if(has_levels: bool, written: &Residuals) -> &Residuals
+    ensures { (l : Levels) → (has_levels ≡ true → AreResiduals l written.now) → (has_levels ≡ false → AreNone l) → AreResiduals l result.now }
+{
+    if has_levels {
+        return written;
+    }
+    no_residuals()
 }

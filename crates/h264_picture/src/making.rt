@@ -14,13 +14,12 @@ ghost use Rattle.h264_recon.specs.Placed.{ArePlaced, PointsInto, weights_by};
 ghost use Rattle.h264_recon.specs.Predicted.{prediction_in};
 
 use crate::in_place::go_on;
-use crate::levels::residuals_of;
+use crate::levels::{residuals_if, residuals_of};
 use crate::sequence::Sequence;
 use h264_deblock::Coded;
 use h264_mbsyntax::Macroblock as Read;
 use h264_near::{Motion, Near};
 use h264_recon::{Available, Macroblock, SliceWeights, given, is_whole};
-use h264_scale::Residuals;
 use h264_vectors::SliceContext;
 
 /// The sides that intra prediction may use, in a row of so many macroblocks: to the right of the last one there is none.
@@ -85,14 +84,14 @@ fn moves_as_one(read: &Read) -> bool
 }
 
 impl Sequence {
-    ghost use Rattle.std.specs.Prelude.{◌≤◌, Option, [], ◌∷◌, ◌++◌};
+    ghost use Rattle.std.specs.Prelude.{◌≤◌, Option, [], ◌∷◌, ◌++◌, true, false};
     ghost use Rattle.h264_scale.specs.Macroblock.{AreResiduals};
     ghost use Rattle.h264_picture.specs.Holds.{KeepsPlace, KeepsSyntax, HoldsIn};
     ghost use Rattle.h264_picture.specs.Making.{Making, HasSamples, MakesIn};
-    ghost use Rattle.h264_picture.specs.Levels.{transform_fits};
+    ghost use Rattle.h264_picture.specs.Levels.{transform_fits, AreNone};
 
-    /// Makes the samples of the macroblock in its place.
-    pub(crate) fn make(&mut self, slice: &SliceContext, residuals: &Residuals)
+    /// Makes the samples of the macroblock in its place, with the residual that was written last if it has levels.
+    pub(crate) fn make(&mut self, slice: &SliceContext, has_levels: bool)
         requires { self.old.next < self.old.size }
         ensures same { KeepsPlace self.old self.new }
         ensures syntax { KeepsSyntax self.old self.new }
@@ -100,9 +99,11 @@ impl Sequence {
         ensures samples { (width size : ℕ) (making : Option Making) (picture : List CodedMacroblock) (coded : CodedMacroblock) →
             HoldsIn width size picture self.old → HasSamples making picture self.old → MakesIn making slice.now self.old →
             HoldsMacroblock self.old.mb coded → coded.slice ≡ slice.now.number → IsPossible width slice.now picture coded.prediction →
-            AreResiduals (levels_of slice.now.chroma_qp_index_offset coded) residuals.now → HasSamples making (picture ++ coded ∷ []) self.new }
+            (has_levels ≡ true → AreResiduals (levels_of slice.now.chroma_qp_index_offset coded) self.old.residuals) →
+            (has_levels ≡ false → AreNone (levels_of slice.now.chroma_qp_index_offset coded)) → HasSamples making (picture ++ coded ∷ []) self.new }
     {
         let (read, near) = (&self.mb, &self.near);
+        let residuals = residuals_if(has_levels, &self.residuals);
         let coded = Coded {
             near,
             own: &read.contexts,
@@ -131,8 +132,7 @@ impl Sequence {
         );
     }
 
-    /// Makes the samples of the macroblock that was read in its place, if each value of its transform is in range. A function of its own, so that its residual
-    /// is cleared once.
+    /// Makes the samples of the macroblock that was read in its place, if each value of its transform is in range.
     #[inline(never)]
     pub(crate) fn make_read(&mut self, slice: &SliceContext) -> bool
         requires next { self.old.next < self.old.size }
@@ -146,15 +146,10 @@ impl Sequence {
             HoldsMacroblock self.old.mb coded → coded.slice ≡ slice.now.number → IsPossible width slice.now picture coded.prediction →
             HasSamples making (picture ++ coded ∷ []) self.new }
     {
-        let mut residuals = Residuals {
-            y: None,
-            cb: None,
-            cr: None,
-        };
-        if !residuals_of(slice, &self.mb, &mut residuals) {
+        if !residuals_of(slice, &self.mb, &mut self.residuals) {
             return false;
         }
-        self.make(slice, &residuals);
+        self.make(slice, true);
         true
     }
 }

@@ -5,7 +5,6 @@ ghost use Rattle.std.specs.Prelude.{◌≡◌, ◌+◌, ◌*◌, ◌<◌, ◌≤
 ghost use Rattle.h264_base.specs.Call.{HasRoom, IsQuiet};
 ghost use Rattle.h264_vectors.specs.Derived.{has_picture as has_picture_of};
 
-use crate::levels::no_residuals;
 use crate::sequence::Sequence;
 use h264_base::{ElementName, Elements, Rule, SliceType, Stop};
 use h264_bits::{Bits, check, look, read_ue};
@@ -132,7 +131,7 @@ impl Sequence {
         let fits = vector_fits(slice.vector_limit, vector);
         check(fits, Rule::VectorRange, bit)?;
         skip_macroblock(slice, vector, &mut self.mb);
-        self.make(slice, no_residuals());
+        self.make(slice, false);
         self.keep();
         Ok(Some(Standing::Skipping { bit, more }))
     }

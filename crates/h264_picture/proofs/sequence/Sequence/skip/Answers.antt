@@ -4,7 +4,6 @@ use Rattle.h264_base.proofs.Steps.{bind, stop, done, checked}
 use Rattle.h264_mbsyntax.specs.Slice.{skip, skipped_of}
 use Rattle.h264_mbsyntax.specs.Holds.{HoldsMacroblock}
 use Rattle.h264_picture.proofs.Steps.{moved, skipped-slice, same-samples, same-makes}
-use Rattle.h264_recon.specs.Levels.{levels_of}
 use Rattle.h264_picture.proofs.Skipped.{skipped-possible, skipped-none}
 use Rattle.h264_picture.proofs.sequence.Sequence.skip.Goals as goal
 
@@ -21,7 +20,7 @@ returns-clause-meets g c width size making picture k =
     let own = skipped_of slice picture vector in
     let read = c.skip_macroblock.ensures.holds picture k.predicted in
     let next = c.keep.ensures.reads width size making slice picture own (moved width size picture _ _ k.holds c.make.ensures.syntax.near c.make.ensures.same.across c.make.ensures.syntax.size c.make.ensures.syntax.next) k.first (subst (λ m. HoldsMacroblock m own) (sym c.make.ensures.syntax.mb) read) (skipped-slice slice picture vector)
-    (c.make.ensures.samples width size making picture own (moved width size picture _ _ k.holds refl refl refl refl) (same-samples making picture c.args.self.now _ refl refl refl refl k.samples) (same-makes making slice c.args.self.now _ refl refl refl k.makes) read (skipped-slice slice picture vector) (skipped-possible width slice picture vector c.requires.refers) (c.no_residuals.ensures (levels_of slice.chroma_qp_index_offset own) (skipped-none slice.chroma_qp_index_offset slice picture vector)))
+    (c.make.ensures.samples width size making picture own (moved width size picture _ _ k.holds refl refl refl refl) (same-samples making picture c.args.self.now _ refl refl refl refl k.samples) (same-makes making slice c.args.self.now _ refl refl refl k.makes) read (skipped-slice slice picture vector) (skipped-possible width slice picture vector c.requires.refers) (λ e. absurd (cc)) (λ e. skipped-none slice.chroma_qp_index_offset slice picture vector))
     (c.make.ensures.makes making (same-makes making slice c.args.self.now _ refl refl refl k.makes)) in
     bind _ (checked _ _ _ _ (rw (c.vector_fits-fits.ensures, is) at c.in_ok-check.ensures)) (done _ _ _ _ _ _ _ (refl, rw is at next))
 
