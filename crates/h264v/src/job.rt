@@ -68,6 +68,7 @@ pub struct Found {
     pub answer: Answer,
     /// What the further rules found, where they are asked for.
     pub strict: Option<Strict>,
+    /// What was surveyed; nothing where no option asks for it.
     pub survey: Survey,
     pub seen: Seen,
     /// What stands before the last lines.
@@ -142,6 +143,45 @@ fn tell_end<S: FrameSink + Drop, M: Meter + Drop>(surveyed: &mut Surveyed<S, M>)
     surveyed.meter.end(byte, pictures, frames);
 }
 
+/// What a judgement without lines or frames left.
+#[derive(Drop)]
+struct Judged<S: FrameSink + Drop> {
+    sink: S,
+    survey: Survey,
+    answer: Answer,
+}
+
+/// Judges the open file with a sink, and surveys its calls where an option asks for that. None where memory is wanting for the survey.
+fn judge_plainly<S: FrameSink + Drop, O: Opener + Drop, M: Meter + Drop>(
+    job: &Job<'_>,
+    files: &mut OpenedFiles<O>,
+    mut sink: S,
+    meter: M,
+) -> Option<Judged<S>>
+    requires sink { HasRoom S.failures sink }
+    requires source { files.old.failures < 2 ^ 64 - 1 }
+{
+    if job.options.asks_for_survey() {
+        let (surveyed, answer) = judge(job, files, sink, meter)?;
+        let Surveyed { sink, survey, .. } = surveyed;
+        return Some(Judged {
+            sink,
+            survey,
+            answer,
+        });
+    }
+    let Ok(survey) = Survey::new(job.alloc) else {
+        return None;
+    };
+    let (mode, target) = (mode_of(job.task), job.options.target);
+    let answer = run(job.alloc, files, &mut sink, mode, target);
+    Some(Judged {
+        sink,
+        survey,
+        answer,
+    })
+}
+
 /// The lines of the last elements, before a no; no text before another answer. None where there is no memory for them.
 fn trail_lines(alloc: Global, answer: Answer, sink: &TrailSink) -> Option<String> {
     match answer {
@@ -161,14 +201,13 @@ fn check_strictly<O: Opener + Drop, M: Meter + Drop>(
     let Ok(trail) = TrailSink::new(job.alloc) else {
         return None;
     };
-    let (surveyed, answer) = judge(job, files, StrictSink::new(trail), meter)?;
-    let Surveyed { sink, survey, .. } = surveyed;
-    let StrictSink { sink, strict } = sink;
-    let before = trail_lines(job.alloc, answer, &sink)?;
+    let judged = judge_plainly(job, files, StrictSink::new(trail), meter)?;
+    let StrictSink { sink, strict } = judged.sink;
+    let before = trail_lines(job.alloc, judged.answer, &sink)?;
     Some(Found {
-        answer,
+        answer: judged.answer,
         strict: Some(strict),
-        survey,
+        survey: judged.survey,
         seen: files.seen,
         before,
     })
@@ -188,13 +227,12 @@ pub fn check_file<O: Opener + Drop, M: Meter + Drop>(
     let Ok(sink) = TrailSink::new(job.alloc) else {
         return None;
     };
-    let (surveyed, answer) = judge(job, files, sink, meter)?;
-    let Surveyed { sink, survey, .. } = surveyed;
-    let before = trail_lines(job.alloc, answer, &sink)?;
+    let judged = judge_plainly(job, files, sink, meter)?;
+    let before = trail_lines(job.alloc, judged.answer, &judged.sink)?;
     Some(Found {
-        answer,
+        answer: judged.answer,
         strict: None,
-        survey,
+        survey: judged.survey,
         seen: files.seen,
         before,
     })

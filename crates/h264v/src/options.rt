@@ -21,6 +21,13 @@ pub struct Options<'a> {
     pub target: Target,
 }
 
+impl Options<'_> {
+    /// Whether an option tells more of a judgement than its sink does.
+    pub fn asks_for_survey(&self) -> bool {
+        self.explain || self.json || self.progress
+    }
+}
+
 /// Why options are refused: a text for a line.
 pub type Refusal = &'static str;
 
