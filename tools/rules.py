@@ -1,8 +1,8 @@
 #!/usr/bin/env python3
-"""Writes the entries of docs/RULES.md from crates/h264_report/src/rules.rt, which the program prints too (`h264v explain LABEL`).
+"""Writes the entries of docs/RULES.md from the tables of h264_report, which the program prints too (`h264v explain LABEL`).
 
     tools/rules.py            writes them
-    tools/rules.py --check    says whether they are up to date; status 1 where not
+    tools/rules.py --check    says whether they are up to date, and whether docs/EXAMPLES.md has the example of each further rule; status 1 where not
 """
 import os
 import re
@@ -11,8 +11,12 @@ import sys
 TOP = os.path.dirname(os.path.dirname(os.path.abspath(__file__)))
 SOURCE = f"{TOP}/crates/h264_report/src/rules.rt"
 CLAUSES = f"{TOP}/crates/h264_base/specs/Rule.antt"
+FURTHER_SOURCE = f"{TOP}/crates/h264_report/src/strict_entries.rt"
+FURTHER_CLAUSES = f"{TOP}/crates/h264_report/specs/Strict.antt"
 PAGE = f"{TOP}/docs/RULES.md"
+EXAMPLES = f"{TOP}/docs/EXAMPLES.md"
 BEGIN, END = "<!-- entries, by tools/rules.py -->\n", "<!-- end of entries -->\n"
+FURTHER_BEGIN, FURTHER_END = "<!-- further entries, by tools/rules.py -->\n", "<!-- end of further entries -->\n"
 
 
 def texts(source, kind, fields):
@@ -22,14 +26,14 @@ def texts(source, kind, fields):
     return re.findall(pattern, source)
 
 
-def clauses():
+def clauses(path, prefix):
     """The clause of each rule, as the definitions have it."""
-    return dict(re.findall(r'clause_of (\w+) = codes "([^"]+)"', open(CLAUSES).read()))
+    return dict(re.findall(r'clause_of %s(\w+) = codes "([^"]+)"' % prefix, open(path).read()))
 
 
 def entries():
     source = open(SOURCE).read()
-    clause_of = clauses()
+    clause_of = clauses(CLAUSES, "")
     lines = []
     for label, breaks, bit, cause in texts(source, "RuleEntry", ("breaks", "bit", "cause")):
         lines += [f"### {label}", "", f"Clause {clause_of[label]}. {breaks}", "", f"- Bit: {bit}", f"- Usual cause: {cause}", ""]
@@ -39,14 +43,42 @@ def entries():
     return "\n".join(lines)
 
 
+def further_rules():
+    """The label, breaks, bit, cause and example of each further rule."""
+    return texts(open(FURTHER_SOURCE).read(), "StrictEntry", ("breaks", "bit", "cause", "example"))
+
+
+def further_entries():
+    clause_of = clauses(FURTHER_CLAUSES, r"rules\.")
+    lines = []
+    for label, breaks, bit, cause, example in further_rules():
+        lines += [f"### {label}", "", f"Clause {clause_of[label]}. {breaks}", "", f"- Bit: {bit}", f"- Usual cause: {cause}", f"- Example: {example}.", ""]
+    return "\n".join(lines)
+
+
+def with_entries(page, begin, end, new):
+    """The page with these entries between two marks."""
+    head, rest = page.split(begin)
+    return head + begin + "\n" + new + "\n" + end + rest.split(end)[1]
+
+
+def without_example():
+    """The labels of the further rules whose example docs/EXAMPLES.md has not."""
+    page = open(EXAMPLES).read()
+    return [rule[0] for rule in further_rules() if f"\n| {rule[0]} | {rule[4]} | check --strict: " not in page]
+
+
 def main():
     page = open(PAGE).read()
-    head, rest = page.split(BEGIN)
-    tail = rest.split(END)[1]
-    new = head + BEGIN + "\n" + entries() + "\n" + END + tail
-    if "--check" in sys.argv:
-        sys.exit(0 if new == page else "docs/RULES.md is out of date: run tools/rules.py")
-    open(PAGE, "w").write(new)
+    new = with_entries(page, BEGIN, END, entries())
+    new = with_entries(new, FURTHER_BEGIN, FURTHER_END, further_entries())
+    if "--check" not in sys.argv:
+        open(PAGE, "w").write(new)
+        return
+    if new != page:
+        sys.exit("docs/RULES.md is out of date: run tools/rules.py")
+    if without_example():
+        sys.exit("docs/EXAMPLES.md has no example of " + ", ".join(without_example()))
 
 
 main()

@@ -5,7 +5,11 @@ use Rattle.h264_base.specs.declared.rule.Rule.TheVariants as rules
 use Rattle.h264_base.specs.Feature.{text_of}
 use Rattle.h264_report.specs.declared.rules.RuleEntry.{RuleEntry}
 use Rattle.h264_report.specs.declared.rules.FeatureEntry.{FeatureEntry}
-use Rattle.h264_report.specs.Entries.{HaveOtherLabels, HaveOtherNames}
+use Rattle.h264_report.specs.Entries.{HaveOtherLabels, HaveOtherNames, HaveOtherFurtherLabels}
+use Rattle.h264_report.specs.Strict.{label_of as further_label_of}
+use Rattle.h264_report.specs.declared.strict.StrictRule.{StrictRule}
+use Rattle.h264_report.specs.declared.strict.StrictRule.TheVariants as further
+use Rattle.h264_report.specs.declared.strict_entries.StrictEntry.{StrictEntry}
 
 -- one more of these entries has another label
 pub one_more_label : (label : List ℕ) (es : List RuleEntry) (i : ℕ) (d : RuleEntry) → HaveOtherLabels label (take i es) → (label_of (get_or es i d).rule ≡ label → ⊥) → HaveOtherLabels label (take (i + 1) es)
@@ -21,6 +25,15 @@ pub one_more_name : (name : List ℕ) (es : List FeatureEntry) (i : ℕ) (d : Fe
 one_more_name name es i d h other = let up : suc i ≡ i + 1 = omega arith in subst (λ (n : ℕ). HaveOtherNames name (take n es)) up (more es i h other)
   where
     more : (es : List FeatureEntry) (i : ℕ) → HaveOtherNames name (take i es) → (text_of (get_or es i d).feature ≡ name → ⊥) → HaveOtherNames name (take (suc i) es)
+    more [] i h other = tt
+    more (e ∷ es) zero h other = (other, tt)
+    more (e ∷ es) (suc i) h other = (h.0, more es i h.1 other)
+
+-- one more of these entries has another label
+pub one_more_further : (label : List ℕ) (es : List StrictEntry) (i : ℕ) (d : StrictEntry) → HaveOtherFurtherLabels label (take i es) → (further_label_of (get_or es i d).rule ≡ label → ⊥) → HaveOtherFurtherLabels label (take (i + 1) es)
+one_more_further label es i d h other = let up : suc i ≡ i + 1 = omega arith in subst (λ (n : ℕ). HaveOtherFurtherLabels label (take n es)) up (more es i h other)
+  where
+    more : (es : List StrictEntry) (i : ℕ) → HaveOtherFurtherLabels label (take i es) → (further_label_of (get_or es i d).rule ≡ label → ⊥) → HaveOtherFurtherLabels label (take (suc i) es)
     more [] i h other = tt
     more (e ∷ es) zero h other = (other, tt)
     more (e ∷ es) (suc i) h other = (h.0, more es i h.1 other)
@@ -76,6 +89,38 @@ no-rule label h rules.TransformRange = h.1.1.1.1.1.1.1.1.1.1.1.1.1.1.1.1.1.1.1.1
 no-rule label h rules.Incomplete = h.1.1.1.1.1.1.1.1.1.1.1.1.1.1.1.1.1.1.1.1.1.1.1.1.1.1.1.1.1.1.1.1.1.0
 no-rule label h rules.MarkCommand = h.1.1.1.1.1.1.1.1.1.1.1.1.1.1.1.1.1.1.1.1.1.1.1.1.1.1.1.1.1.1.1.1.1.1.0
 no-rule label h rules.NoPicture = h.1.1.1.1.1.1.1.1.1.1.1.1.1.1.1.1.1.1.1.1.1.1.1.1.1.1.1.1.1.1.1.1.1.1.1.0
+
+-- all further rules, in the order of their table
+abbrev all_further : List StrictRule
+all_further =
+    further.ReservedBits ∷ further.AspectRatio ∷ further.VideoFormat ∷ further.ColourPrimaries ∷ further.TransferCharacteristics ∷ further.MatrixCoefficients ∷ further.ChromaLocation ∷ further.Timing ∷ further.Restriction ∷ further.OperationsExclude ∷ further.IdrCount ∷ further.SetRefIdc ∷ further.DelimiterFirst ∷ further.FillerFirst ∷ further.AfterEndOfStream ∷ []
+
+-- these further rules have other labels
+abbrev HaveOtherFurther : List ℕ → List StrictRule → Type 0
+HaveOtherFurther label [] = Unit {0}
+HaveOtherFurther label (rule ∷ rules) = (further_label_of rule ≡ label → ⊥) × HaveOtherFurther label rules
+
+-- so no further rule has that label
+no-further : (label : List ℕ) → HaveOtherFurther label all_further → (rule : StrictRule) → further_label_of rule ≡ label → ⊥
+no-further label h further.ReservedBits = h.0
+no-further label h further.AspectRatio = h.1.0
+no-further label h further.VideoFormat = h.1.1.0
+no-further label h further.ColourPrimaries = h.1.1.1.0
+no-further label h further.TransferCharacteristics = h.1.1.1.1.0
+no-further label h further.MatrixCoefficients = h.1.1.1.1.1.0
+no-further label h further.ChromaLocation = h.1.1.1.1.1.1.0
+no-further label h further.Timing = h.1.1.1.1.1.1.1.0
+no-further label h further.Restriction = h.1.1.1.1.1.1.1.1.0
+no-further label h further.OperationsExclude = h.1.1.1.1.1.1.1.1.1.0
+no-further label h further.IdrCount = h.1.1.1.1.1.1.1.1.1.1.0
+no-further label h further.SetRefIdc = h.1.1.1.1.1.1.1.1.1.1.1.0
+no-further label h further.DelimiterFirst = h.1.1.1.1.1.1.1.1.1.1.1.1.0
+no-further label h further.FillerFirst = h.1.1.1.1.1.1.1.1.1.1.1.1.1.0
+no-further label h further.AfterEndOfStream = h.1.1.1.1.1.1.1.1.1.1.1.1.1.1.0
+
+pub further-none : (A : Type 0) (found : Option A) (label : List ℕ) → IfNone found (HaveOtherFurther label all_further) → IfNone found ((rule : StrictRule) → further_label_of rule ≡ label → ⊥)
+further-none A None label h = no-further label h
+further-none A (Some a) label h = tt
 
 -- where none was found, no rule has that label
 pub found-none : (A : Type 0) (found : Option A) (label : List ℕ) → IfNone found (HaveOthers label all_rules) → IfNone found ((rule : Rule) → label_of rule ≡ label → ⊥)

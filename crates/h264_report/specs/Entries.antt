@@ -4,6 +4,8 @@ use Rattle.h264_base.specs.Rule.{label_of}
 use Rattle.h264_base.specs.Feature.{text_of}
 use Rattle.h264_report.specs.declared.rules.RuleEntry.{RuleEntry}
 use Rattle.h264_report.specs.declared.rules.FeatureEntry.{FeatureEntry}
+use Rattle.h264_report.specs.Strict.{label_of as further_label_of}
+use Rattle.h264_report.specs.declared.strict_entries.StrictEntry.{StrictEntry}
 
 -- the rules of these entries have other labels
 abbrev pub HaveOtherLabels : List ℕ → List RuleEntry → Type 0
@@ -14,3 +16,8 @@ HaveOtherLabels label (e ∷ es) = (label_of e.rule ≡ label → ⊥) × HaveOt
 abbrev pub HaveOtherNames : List ℕ → List FeatureEntry → Type 0
 HaveOtherNames name [] = Unit {0}
 HaveOtherNames name (e ∷ es) = (text_of e.feature ≡ name → ⊥) × HaveOtherNames name es
+
+-- the further rules of these entries have other labels
+abbrev pub HaveOtherFurtherLabels : List ℕ → List StrictEntry → Type 0
+HaveOtherFurtherLabels label [] = Unit {0}
+HaveOtherFurtherLabels label (e ∷ es) = (further_label_of e.rule ≡ label → ⊥) × HaveOtherFurtherLabels label es

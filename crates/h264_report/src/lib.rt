@@ -37,6 +37,7 @@ pub mod rules;
 mod send;
 pub mod sheet;
 pub mod strict;
+pub mod strict_entries;
 pub mod strict_sink;
 pub mod survey;
 pub mod trail;
@@ -63,6 +64,7 @@ pub use rules::{
 pub use send::put_text;
 pub use sheet::{Pen, Sheet};
 pub use strict::{EVERY_STRICT_RULE, Places, STRICT_RULES, Strict, StrictRule};
+pub use strict_entries::{StrictEntry, strict_by_label};
 pub use strict_sink::StrictSink;
 pub use trail::{Element, Trail};
 pub use trail_sink::TrailSink;

@@ -3,19 +3,22 @@
 
 ghost use Rattle.std.specs.Prelude.{◌≡◌, ◌++◌, IfOk, IfSome, IfNone, OnOk, string_bytes};
 ghost use Rattle.h264v.specs.Explained.{label_in, IsNoLabel, rule_lines, rule_object, feature_lines, feature_object, entry_text};
+ghost use Rattle.h264v.specs.Explained.{strict_lines, strict_front, strict_object};
 
 use h264_base::Stop;
 use h264_report::pages::{Answer, Guide};
 use h264_report::{
-    FeatureEntry, RuleEntry, entry_by_label, entry_of, entry_of_feature, escaped, feature_by_name,
+    FeatureEntry, RuleEntry, StrictEntry, entry_by_label, entry_of, entry_of_feature, escaped,
+    feature_by_name, strict_by_label,
 };
 use std::alloc::{AllocError, Global};
 
-/// What is said of a rule, or of a feature that is not judged.
+/// What is said of a rule, of a feature that is not judged, or of a further rule.
 #[derive(Clone, Copy)]
 pub enum Entry {
     Rule(RuleEntry),
     Feature(FeatureEntry),
+    Further(StrictEntry),
 }
 
 /// What is said to a reader of an answer.
@@ -101,6 +104,52 @@ fn feature_object(alloc: Global, entry: FeatureEntry) -> Result<String, AllocErr
     )
 }
 
+/// The lines of a further rule. AllocError: there is no memory for them.
+fn strict_lines(alloc: Global, entry: StrictEntry) -> Result<String, AllocError>
+    ensures { IfOk result (λ s. string_bytes s ≡ strict_lines entry) }
+{
+    let label = entry.rule.label();
+    let clause = entry.rule.clause();
+    let StrictEntry {
+        breaks,
+        bit,
+        cause,
+        example,
+        ..
+    } = entry;
+    format!(in alloc;
+        "{label} (--strict, clause {clause})\nbreaks: {breaks}\nbit: {bit}\ncause: {cause}\nexample: {example}\n"
+    )
+}
+
+/// The object of a further rule, up to what breaks it and the bit. AllocError: there is no memory for it.
+fn strict_front(alloc: Global, entry: StrictEntry) -> Result<String, AllocError>
+    ensures { IfOk result (λ s. string_bytes s ≡ strict_front entry) }
+{
+    let label = entry.rule.label();
+    let clause = entry.rule.clause();
+    let breaks = escaped(alloc, entry.breaks)?;
+    let bit = escaped(alloc, entry.bit)?;
+    let breaks = breaks.as_str();
+    let bit = bit.as_str();
+    format!(in alloc;
+        "{{\"kind\":\"strict rule\",\"label\":\"{label}\",\"clause\":\"{clause}\",\"breaks\":\"{breaks}\",\"bit\":\"{bit}\""
+    )
+}
+
+/// The object of a further rule. AllocError: there is no memory for it.
+fn strict_object(alloc: Global, entry: StrictEntry) -> Result<String, AllocError>
+    ensures { IfOk result (λ s. string_bytes s ≡ strict_object entry) }
+{
+    let front = strict_front(alloc, entry)?;
+    let cause = escaped(alloc, entry.cause)?;
+    let example = escaped(alloc, entry.example)?;
+    let front = front.as_str();
+    let cause = cause.as_str();
+    let example = example.as_str();
+    format!(in alloc; "{front},\"cause\":\"{cause}\",\"example\":\"{example}\"}}\n")
+}
+
 /// The lines of an entry, or its object. AllocError: there is no memory for them.
 fn entry_text(alloc: Global, entry: Entry, json: bool) -> Result<String, AllocError>
     ensures { IfOk result (λ s. string_bytes s ≡ entry_text json entry) }
@@ -110,6 +159,8 @@ fn entry_text(alloc: Global, entry: Entry, json: bool) -> Result<String, AllocEr
         (Entry::Rule(entry), false) => rule_lines(alloc, entry),
         (Entry::Feature(entry), true) => feature_object(alloc, entry),
         (Entry::Feature(entry), false) => feature_lines(alloc, entry),
+        (Entry::Further(entry), true) => strict_object(alloc, entry),
+        (Entry::Further(entry), false) => strict_lines(alloc, entry),
     }
 }
 
@@ -126,7 +177,7 @@ pub fn put_entry(
     text.push_str(more.as_str())
 }
 
-/// The entry of the rule or the feature with this label.
+/// The entry of the rule, the feature or the further rule with this label.
 pub fn entry_labelled(label: &str) -> Option<Entry>
     ensures is { IfSome result (λ entry. label_in entry ≡ label.now) }
     ensures none { IfNone result (IsNoLabel label.now) }
@@ -135,7 +186,10 @@ pub fn entry_labelled(label: &str) -> Option<Entry>
         Some(entry) => Some(Entry::Rule(entry)),
         None => match feature_by_name(label) {
             Some(entry) => Some(Entry::Feature(entry)),
-            None => None,
+            None => match strict_by_label(label) {
+                Some(entry) => Some(Entry::Further(entry)),
+                None => None,
+            },
         },
     }
 }

@@ -211,7 +211,7 @@ yes: units 4 pictures 2 frames 2\n",
 ];
 
 /// Several files, frames, pages, and words that are refused.
-const REST: [Asking; 19] = [
+const REST: [Asking; 21] = [
     Asking {
         words: &["h264v", "units", "none"],
         stream: ONE,
@@ -285,6 +285,27 @@ total: files 3 yes 2 no 0 outside 0 memory 0 failed 1\n",
         words: &["h264v", "explain", "--json", "Level6"],
         stream: "",
         out: &["{\"kind\":\"feature\",\"label\":\"Level6\",\"stands\":\""],
+        err: "",
+        status: 0,
+    },
+    Asking {
+        words: &["h264v", "explain", "AspectRatio"],
+        stream: "",
+        out: &[
+            "AspectRatio (--strict, clause E.2.1)\nbreaks: ",
+            "\nexample: aspect_ratio_idc 17\n",
+        ],
+        err: "",
+        status: 0,
+    },
+    Asking {
+        words: &["h264v", "explain", "--json", "AspectRatio"],
+        stream: "",
+        out: &[
+            "{\"kind\":\"strict rule\",\"label\":\"AspectRatio\",\"clause\":\"E.2.1\",\"breaks\":\"",
+            "\"cause\":\"",
+            "\"example\":\"aspect_ratio_idc 17\"}\n",
+        ],
         err: "",
         status: 0,
     },
