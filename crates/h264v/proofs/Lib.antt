@@ -2,4 +2,4 @@ pub mod Added
 mod Failing
 mod Statuses
 mod Explained
-mod Told
+pub mod Told

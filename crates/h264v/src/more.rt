@@ -129,6 +129,7 @@ pub fn blame<E: Device>(alloc: Global, err: &mut E, name: &str, cause: &io::Erro
 }
 
 /// Refuses the words, with a line on `err` that says why: the exit status.
+#[tactic(auto, using(crate::proofs::Told::taken))]
 fn refuse<E: Device>(err: &mut E, refusal: Refusal) -> u8
     ensures status { result ≡ 64 }
     ensures told { E.has_failed err.new ≡ false → Sends (E.contents err.old) (E.contents err.new) (codes "h264v: " ++ ended refusal.now) }
