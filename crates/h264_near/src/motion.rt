@@ -11,9 +11,9 @@ pub struct Vector {
 /// What a block is predicted from.
 #[derive(Clone, Copy)]
 pub struct Motion {
-    /// refIdxL0.
-    pub ref_idx: u8,
-    /// The number of the reference picture that this index names in its slice.
+    /// The number of the reference picture that the index names in its slice. The largest field comes first, so that a motion is short.
     pub picture: u64,
     pub vector: Vector,
+    /// refIdxL0.
+    pub ref_idx: u8,
 }
