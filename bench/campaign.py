@@ -362,6 +362,8 @@ def excused(mine, theirs, complaints, tags):
         count_of = dict(zip(frames, order))
         if len(count_of) == len(frames) and "operation 5" in tags and falls([count_of[it] for it in theirs]) > falls(order):
             return "another order, in which counts fall more often"
+        if len(count_of) == len(frames) and "changed" in tags and falls([count_of[it] for it in theirs]) == 0:
+            return "another order, in which frames are sorted that a full buffer had to write"
         if "IdrCount" in tags:
             return "another order, with an IDR picture's count that is not 0"
         if "count below that of operation 5" in tags or {"operation 5", "changed"} <= tags:
