@@ -1,4 +1,4 @@
-ghost use Rattle.std.specs.Prelude.{◌≡◌, ℕ, ◌+◌, ◌*◌, ◌<◌, ◌≤◌, IsTrue, slice_index, get_or, replicate};
+ghost use Rattle.std.specs.Prelude.{◌≡◌, ℕ, ◌+◌, ◌*◌, ◌/◌, ◌%◌, ◌<◌, ◌≤◌, IsTrue, slice_index, get_or, replicate};
 ghost use Rattle.h264_plane.specs.declared.frame.Component.TheVariants.{Y, Cb, Cr};
 ghost use Rattle.h264_plane.specs.Frames.{plane_of as plane_of_frame};
 ghost use Rattle.h264_inter.specs.Reference.{HasBlock};
@@ -74,7 +74,7 @@ fn put8(out: &mut [u8; 256], x: usize, y: usize, block: &[u8; 64])
     ensures { IsPut 16 8 out.old out.new x y block.now }
 {
     for j in 0..8 {
-        put_run(out, 16 * (8 * y + j) + 8 * x, &block[8 * j..8 * j + 8]);
+        put_run::<8>(out, 16 * (8 * y + j) + 8 * x, &block[8 * j..8 * j + 8]);
     }
 }
 
@@ -85,7 +85,7 @@ fn put4(out: &mut [u8; 64], x: usize, y: usize, block: &[u8; 16])
     ensures { IsPut 8 4 out.old out.new x y block.now }
 {
     for j in 0..4 {
-        put_run(out, 8 * (4 * y + j) + 4 * x, &block[4 * j..4 * j + 4]);
+        put_run::<4>(out, 8 * (4 * y + j) + 4 * x, &block[4 * j..4 * j + 4]);
     }
 }
 
@@ -100,32 +100,26 @@ fn put2(out: &mut [u8; 16], x: usize, y: usize, block: &[u8; 4])
     }
 }
 
-/// The predicted luma samples of a quarter of the macroblock at this column and row, the one at column `x` and row `y` of quarters.
+/// Writes the predicted luma samples of the quarter of this number, row by row, of the macroblock at this column and row.
 fn luma_quarter(
     motion: &[Motion; 16],
     pool: &Pool,
     column: usize,
     row: usize,
-    x: usize,
-    y: usize,
-) -> [u8; 64]
-    requires place { (x < 2) × (y < 2) }
+    quarter: usize,
+    out: &mut [u8; 64],
+)
+    requires place { quarter < 4 }
     requires small { (column < 1024) × (row < 1024) }
     requires room { HaveRoom pool.now column row motion.now }
-    ensures { HasPart 8 result (8 * x) (8 * y) (from_pool pool.now motion.now column row Y) }
+    ensures { HasPart 8 out.new (8 * (quarter % 2)) (8 * (quarter / 2)) (from_pool pool.now motion.now column row Y) }
 {
-    let mut out = [0; 64];
+    let (x, y) = (quarter % 2, quarter / 2);
     if is_quarter(motion, x, y) {
         let m = motion_of(motion, 8 * y + 2 * x);
         let plane = &pool.frame(usize::from(m.picture)).y;
-        luma::<8, 8>(
-            plane,
-            16 * column + 8 * x,
-            16 * row + 8 * y,
-            m.vector,
-            &mut out,
-        );
-        return out;
+        luma::<8, 8>(plane, 16 * column + 8 * x, 16 * row + 8 * y, m.vector, out);
+        return;
     }
     for k in 0..4 {
         let m = motion_of(motion, 4 * (2 * y + k / 2) + (2 * x + k % 2));
@@ -138,9 +132,8 @@ fn luma_quarter(
             m.vector,
             &mut block,
         );
-        put4(&mut out, k % 2, k / 2, &block);
+        put4(out, k % 2, k / 2, &block);
     }
-    out
 }
 
 /// Writes the predicted luma samples of the macroblock at this column and row, whose places have motions of their own.
@@ -150,8 +143,9 @@ fn luma_quarters(motion: &[Motion; 16], pool: &Pool, column: usize, row: usize, 
     requires room { HaveRoom pool.now column row motion.now }
     ensures { HasBlock 16 16 out.new (from_pool pool.now motion.now column row Y) }
 {
+    let mut quarter = [0; 64];
     for k in 0..4 {
-        let quarter = luma_quarter(motion, pool, column, row, k % 2, k / 2);
+        luma_quarter(motion, pool, column, row, k, &mut quarter);
         put8(out, k % 2, k / 2, &quarter);
     }
 }
@@ -164,32 +158,26 @@ fn plane_of<const CR: bool>(frame: &Frame) -> &Plane
     if CR { &frame.cr } else { &frame.cb }
 }
 
-/// The predicted samples of a quarter of a chroma plane of the macroblock at this column and row.
+/// Writes the predicted samples of the quarter of this number of a chroma plane, likewise.
 fn chroma_quarter<const CR: bool>(
     motion: &[Motion; 16],
     pool: &Pool,
     column: usize,
     row: usize,
-    x: usize,
-    y: usize,
-) -> [u8; 16]
-    requires place { (x < 2) × (y < 2) }
+    quarter: usize,
+    out: &mut [u8; 16],
+)
+    requires place { quarter < 4 }
     requires small { (column < 1024) × (row < 1024) }
     requires room { HaveRoom pool.now column row motion.now }
-    ensures { HasPart 4 result (4 * x) (4 * y) (from_pool pool.now motion.now column row (chroma_plane CR)) }
+    ensures { HasPart 4 out.new (4 * (quarter % 2)) (4 * (quarter / 2)) (from_pool pool.now motion.now column row (chroma_plane CR)) }
 {
-    let mut out = [0; 16];
+    let (x, y) = (quarter % 2, quarter / 2);
     if is_quarter(motion, x, y) {
         let m = motion_of(motion, 8 * y + 2 * x);
         let plane = plane_of::<CR>(pool.frame(usize::from(m.picture)));
-        chroma::<4, 4>(
-            plane,
-            8 * column + 4 * x,
-            8 * row + 4 * y,
-            m.vector,
-            &mut out,
-        );
-        return out;
+        chroma::<4, 4>(plane, 8 * column + 4 * x, 8 * row + 4 * y, m.vector, out);
+        return;
     }
     for k in 0..4 {
         let m = motion_of(motion, 4 * (2 * y + k / 2) + (2 * x + k % 2));
@@ -202,9 +190,8 @@ fn chroma_quarter<const CR: bool>(
             m.vector,
             &mut block,
         );
-        put2(&mut out, k % 2, k / 2, &block);
+        put2(out, k % 2, k / 2, &block);
     }
-    out
 }
 
 /// Writes the predicted samples of a chroma plane of the macroblock at this column and row, whose places have motions of their own.
@@ -220,8 +207,9 @@ fn chroma_quarters<const CR: bool>(
     requires room { HaveRoom pool.now column row motion.now }
     ensures { HasBlock 8 8 out.new (from_pool pool.now motion.now column row (chroma_plane CR)) }
 {
+    let mut quarter = [0; 16];
     for k in 0..4 {
-        let quarter = chroma_quarter::<CR>(motion, pool, column, row, k % 2, k / 2);
+        chroma_quarter::<CR>(motion, pool, column, row, k, &mut quarter);
         put4(out, k % 2, k / 2, &quarter);
     }
 }

@@ -58,7 +58,7 @@ impl Store {
     {
         let start = 16 * column;
         self.corner = self.above[start + 15];
-        put_run(self.above.as_mut_slice(), start, &own[240..256]);
+        put_run::<16>(self.above.as_mut_slice(), start, &own[240..256]);
     }
 
     /// Keeps the border of the chroma macroblock at this column.
@@ -69,7 +69,7 @@ impl Store {
     {
         let start = 8 * column;
         self.corner = self.above[start + 7];
-        put_run(self.above.as_mut_slice(), start, &own[56..64]);
+        put_run::<8>(self.above.as_mut_slice(), start, &own[56..64]);
     }
 }
 

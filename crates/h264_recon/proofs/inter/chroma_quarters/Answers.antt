@@ -14,8 +14,8 @@ loop-k-preserved g c =
     let f = from_pool a.pool.now a.motion.now a.column a.row (chroma_plane t) in
     record {
       size = c.put4.array_long;
-      made = parts_more 8 4 k (λ i j. f (0 + i) (0 + j)) c.loop-k.out c.put4.new.out c.chroma_quarter-quarter.result (omega arith) c.loop-k.invariant.made c.put4.ensures
-          (part_whole 4 (4 * (k % 2)) (4 * (k / 2)) f c.chroma_quarter-quarter.result c.chroma_quarter-quarter.ensures);
+      made = parts_more 8 4 k (λ i j. f (0 + i) (0 + j)) c.loop-k.out c.put4.new.out c.chroma_quarter.new.out (omega arith) c.loop-k.invariant.made c.put4.ensures
+          (part_whole 4 (4 * (k % 2)) (4 * (k / 2)) f c.chroma_quarter.new.out c.chroma_quarter.ensures);
     }
 
 pub returns : goal.returns
