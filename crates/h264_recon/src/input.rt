@@ -23,7 +23,6 @@ use crate::weights::SliceWeights;
 use h264_inter::MotionVector;
 use h264_intra::{Intra4x4PredMode, Intra16x16PredMode, IntraChromaPredMode};
 use h264_mbsyntax::{Kind, Macroblock as Read};
-use h264_near::block::number;
 use h264_near::{Motion as Derived, Near};
 use h264_vectors::SliceContext;
 
@@ -134,16 +133,29 @@ fn are_alike(derived: &[Option<Derived>; 16]) -> bool
     true
 }
 
-/// Motions row by row.
+/// Motions row by row, of blocks that stand by their number (6.4.3).
 #[inline(never)]
 pub fn placed(derived: &[Option<Derived>; 16], places: &[u8; 16]) -> [Motion; 16]
     ensures { result ≡ placed_motions places.now derived.now }
 {
-    let mut out = [motion(None, places); 16];
-    for k in 0..16 {
-        out[k] = motion(derived[number(k % 4, k / 4)], places);
-    }
-    out
+    [
+        motion(derived_at(derived, 0), places),
+        motion(derived_at(derived, 1), places),
+        motion(derived_at(derived, 4), places),
+        motion(derived_at(derived, 5), places),
+        motion(derived_at(derived, 2), places),
+        motion(derived_at(derived, 3), places),
+        motion(derived_at(derived, 6), places),
+        motion(derived_at(derived, 7), places),
+        motion(derived_at(derived, 8), places),
+        motion(derived_at(derived, 9), places),
+        motion(derived_at(derived, 12), places),
+        motion(derived_at(derived, 13), places),
+        motion(derived_at(derived, 10), places),
+        motion(derived_at(derived, 11), places),
+        motion(derived_at(derived, 14), places),
+        motion(derived_at(derived, 15), places),
+    ]
 }
 
 /// The motion of the first block, for all.
