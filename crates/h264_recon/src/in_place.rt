@@ -74,7 +74,8 @@ fn chroma_intra(
     own
 }
 
-/// Constructs the samples of an intra macroblock.
+/// Constructs the samples of an intra macroblock. A function of its own, so that inter macroblocks clear nothing for it.
+#[inline(never)]
 fn make_intra(
     modes: &IntraModes,
     available: Available,
@@ -148,9 +149,7 @@ fn make(
             let own = &mut lines.last;
             make_inter(motions, m.weighting, residuals, pool, column, row, own);
         }
-        Prediction::Pcm(samples) => {
-            lines.last = pcm::all(samples);
-        }
+        Prediction::Pcm(samples) => pcm::put(samples, &mut lines.last),
     }
 }
 

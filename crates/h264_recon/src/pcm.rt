@@ -29,16 +29,15 @@ fn from(samples: &[u8; 384], start: usize) -> [u8; 64]
     out
 }
 
-/// The samples of an I_PCM macroblock.
+/// Writes the samples of an I_PCM macroblock. A function of its own, so that other macroblocks clear nothing for it.
 #[tactic(auto, unfolding(crate::specs::Predicted::pcm_of))]
-pub fn all(samples: &[u8; 384]) -> Samples
-    ensures y { result.y ≡ (pcm_of samples.now).y }
-    ensures cb { result.cb ≡ (pcm_of samples.now).cb }
-    ensures cr { result.cr ≡ (pcm_of samples.now).cr }
+#[inline(never)]
+pub fn put(samples: &[u8; 384], own: &mut Samples)
+    ensures y { own.new.y ≡ (pcm_of samples.now).y }
+    ensures cb { own.new.cb ≡ (pcm_of samples.now).cb }
+    ensures cr { own.new.cr ≡ (pcm_of samples.now).cr }
 {
-    Samples {
-        y: luma(samples),
-        cb: from(samples, 256),
-        cr: from(samples, 320),
-    }
+    own.y = luma(samples);
+    own.cb = from(samples, 256);
+    own.cr = from(samples, 320);
 }

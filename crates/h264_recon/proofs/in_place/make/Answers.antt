@@ -14,4 +14,4 @@ returns-in-Inter-clause-made c k l inside below ok shown is =
 
 pub returns-in-Pcm-clause-made : goal.returns-in-Pcm-clause-made
 returns-in-Pcm-clause-made c k l inside below ok shown is =
-    pcm_all k c.args.column c.args.row (coded c.args.m.now l) c.args.lines.now c.all-lines.result (pcm_of c.in-Pcm.samples.now) (ap prediction_in c.in-Pcm.is) c.all-lines.ensures.y c.all-lines.ensures.cb c.all-lines.ensures.cr
+    pcm_all k c.args.column c.args.row (coded c.args.m.now l) c.args.lines.now c.put.new.own (pcm_of c.in-Pcm.samples.now) (ap prediction_in c.in-Pcm.is) c.put.ensures.y c.put.ensures.cb c.put.ensures.cr
