@@ -12,7 +12,7 @@ TOP = os.path.dirname(os.path.dirname(os.path.abspath(__file__)))
 SOURCE = f"{TOP}/crates/h264_report/src/rules.rt"
 CLAUSES = f"{TOP}/crates/h264_base/specs/Rule.antt"
 FURTHER_SOURCE = f"{TOP}/crates/h264_report/src/strict_entries.rt"
-FURTHER_CLAUSES = f"{TOP}/crates/h264_report/specs/Strict.antt"
+FURTHER_CLAUSES = f"{TOP}/crates/h264_report/specs/StrictRules.antt"
 PAGE = f"{TOP}/docs/RULES.md"
 EXAMPLES = f"{TOP}/docs/EXAMPLES.md"
 BEGIN, END = "<!-- entries, by tools/rules.py -->\n", "<!-- end of entries -->\n"
@@ -65,7 +65,8 @@ def with_entries(page, begin, end, new):
 def without_example():
     """The labels of the further rules whose example docs/EXAMPLES.md has not."""
     page = open(EXAMPLES).read()
-    return [rule[0] for rule in further_rules() if f"\n| {rule[0]} | {rule[4]} | check --strict: " not in page]
+    found = set(re.findall(r"\n\| (\w+) \| ([^|]*) \| check(?: --target main-ip)? --strict: ", page))
+    return [rule[0] for rule in further_rules() if (rule[0], rule[4]) not in found]
 
 
 def main():

@@ -8,9 +8,12 @@ use Rattle.h264_base.specs.Call.{Call, Tells, OfUnit, OfSlice, OfElement, OfFram
 use Rattle.h264_base.specs.declared.element_name.ElementName.{ElementName}
 use Rattle.h264_base.specs.declared.mode.SliceType.{SliceType}
 use Rattle.h264_report.specs.Chosen.{count_in}
-use Rattle.h264_report.specs.Strict.{after, after_element, after_unit, by_element, by_order, broken_if, has_idr_count, first_bit, standing_after, places, bits_for, bit_of, broken_by, with_place, with_places, listed, place_of, start, found_of, Advances, TookStrict}
-use Rattle.h264_report.specs.declared.strict.StrictRule.{StrictRule}
-use Rattle.h264_report.specs.declared.strict.StrictRule.TheVariants as rules
+use Rattle.h264_report.specs.Strict.{after, after_element, after_unit, by_element, by_order, by_numbers, by_time, has_other_length, picture_in, first_bit}
+use Rattle.h264_report.specs.Strict.{standing_after, places, bits_for, bit_of, broken_by, with_place, with_places, start, found_of, Advances, TookStrict}
+use Rattle.h264_report.specs.StrictPictures.{pictures_after}
+use Rattle.h264_report.specs.StrictRules.{broken_if, listed, place_of}
+use Rattle.h264_report.specs.declared.strict_rule.StrictRule.{StrictRule}
+use Rattle.h264_report.specs.declared.strict_rule.StrictRule.TheVariants as rules
 use Rattle.h264_report.specs.declared.strict.Standing.{Standing}
 use Rattle.h264_report.specs.declared.strict.Places.{Places}
 use Rattle.h264_report.specs.declared.strict.Strict.{Strict}
@@ -69,7 +72,7 @@ module _ (found : List (Option Places)) (rule r : StrictRule) (bit : ℕ) (withi
     go (inr e) = get_or-set_other found (place_of rule) (place_of r) noted None (λ q. e.1 (sym q)) ∙ elsewhere e.0
 
 -- the places of no calls
-pub none-found : (r : StrictRule) → get_or (None ∷ None ∷ None ∷ None ∷ None ∷ None ∷ None ∷ None ∷ None ∷ None ∷ None ∷ None ∷ None ∷ None ∷ None ∷ []) (place_of r) None ≡ with_places None (places r start [])
+pub none-found : (r : StrictRule) → get_or (None ∷ None ∷ None ∷ None ∷ None ∷ None ∷ None ∷ None ∷ None ∷ None ∷ None ∷ None ∷ None ∷ None ∷ None ∷ None ∷ None ∷ None ∷ None ∷ None ∷ None ∷ None ∷ None ∷ None ∷ None ∷ None ∷ None ∷ None ∷ None ∷ []) (place_of r) None ≡ with_places None (places r start [])
 unfolding with_places places place_of
 none-found rules.ReservedBits = refl
 none-found rules.AspectRatio = refl
@@ -86,6 +89,20 @@ none-found rules.SetRefIdc = refl
 none-found rules.DelimiterFirst = refl
 none-found rules.FillerFirst = refl
 none-found rules.AfterEndOfStream = refl
+none-found rules.Level1b = refl
+none-found rules.ReservedConstraint = refl
+none-found rules.DirectInference = refl
+none-found rules.LowDelay = refl
+none-found rules.UnitLength = refl
+none-found rules.EndFirst = refl
+none-found rules.LongTermReference = refl
+none-found rules.Weights = refl
+none-found rules.FrameNumRepeated = refl
+none-found rules.CountRepeated = refl
+none-found rules.Reorder = refl
+none-found rules.VectorCount = refl
+none-found rules.FrameRate = refl
+none-found rules.ScheduleOrder = refl
 
 pub none-stands : start ≡ standing_after start []
 unfolding standing_after
@@ -97,10 +114,6 @@ pub element-advances : (old new : Strict) (name : ElementName) (bit : ℕ) (v : 
 unfolding after broken_by
 element-advances old new name bit v stands found = (stands, found)
 
-pub slice-advances : (old new : Strict) (byte mb : ℕ) (kind : SliceType) (frame_num : ℕ) (count : ℤ) → new.standing ≡ old.standing → ((r : StrictRule) → found_of new r ≡ with_places (found_of old r) (bits_for r (first_bit byte) (listed (broken_if (has_idr_count old.standing mb count) rules.IdrCount)))) → Advances (OfSlice byte mb kind frame_num count) old new
-unfolding after broken_by
-slice-advances old new byte mb kind frame_num count stands found = (stands, found)
-
 bits-more : (r : StrictRule) (bit : ℕ) (xs ys : List StrictRule) → bits_for r bit (xs ++ ys) ≡ bits_for r bit xs ++ bits_for r bit ys
 unfolding bits_for
 bits-more r bit [] ys = refl
@@ -108,18 +121,50 @@ bits-more r bit (x ∷ xs) ys =
     let first : List ℕ = if place_of x == place_of r then bit ∷ [] else [] in
     ap (λ l. first ++ l) (bits-more r bit xs ys) ∙ sym (append_assoc first (bits_for r bit xs) (bits_for r bit ys))
 
-pub unit-advances : (old mid new : Strict) (byte kind ref_idc length : ℕ) → new.standing ≡ after_unit old.standing kind → ((r : StrictRule) → found_of mid r ≡ with_places (found_of old r) (bits_for r (first_bit byte) (listed (by_order old.standing kind ref_idc)))) → ((r : StrictRule) → found_of new r ≡ with_places (found_of mid r) (bits_for r (first_bit byte) (listed (broken_if old.standing.ended rules.AfterEndOfStream)))) → Advances (OfUnit byte kind ref_idc length) old new
+-- these rules are broken, and then those
+pub noted-more : (r : StrictRule) (bit : ℕ) (old mid new : Option Places) (xs ys : List StrictRule) → mid ≡ with_places old (bits_for r bit xs) → new ≡ with_places mid (bits_for r bit ys) → new ≡ with_places old (bits_for r bit (xs ++ ys))
+noted-more r bit old mid new xs ys first second =
+    second
+    ∙ ap (λ p. with_places p (bits_for r bit ys)) first
+    ∙ sym (with-more (bits_for r bit xs) (bits_for r bit ys) old)
+    ∙ ap (λ l. with_places old l) (sym (bits-more r bit xs ys))
+
+pub unit-advances : (old mid new : Strict) (byte kind ref_idc length : ℕ) → new.standing ≡ after_unit old.standing kind ref_idc → ((r : StrictRule) → found_of mid r ≡ with_places (found_of old r) (bits_for r (first_bit byte) (listed (by_order old.standing kind ref_idc) ++ listed (broken_if (has_other_length kind length) rules.UnitLength)))) → ((r : StrictRule) → found_of new r ≡ with_places (found_of mid r) (bits_for r (first_bit byte) (listed (broken_if old.standing.ended rules.AfterEndOfStream)))) → Advances (OfUnit byte kind ref_idc length) old new
 unfolding after broken_by
 unit-advances old mid new byte kind ref_idc length stands first second =
-    let order = listed (by_order old.standing kind ref_idc) in
+    let form = listed (by_order old.standing kind ref_idc) ++ listed (broken_if (has_other_length kind length) rules.UnitLength) in
     let end = listed (broken_if old.standing.ended rules.AfterEndOfStream) in
-    let bit = first_bit byte in (
-      stands,
-      λ r. second r
-          ∙ ap (λ p. with_places p (bits_for r bit end)) (first r)
-          ∙ sym (with-more (bits_for r bit order) (bits_for r bit end) (found_of old r))
-          ∙ ap (λ l. with_places (found_of old r) l) (sym (bits-more r bit order end)),
+    (stands, λ r. noted-more r (first_bit byte) (found_of old r) (found_of mid r) (found_of new r) form end (first r) (second r))
+
+pub tells-zero : (n : ℕ) → n ≡ 0 → n == 0 ≡ true
+tells-zero n e = go (eqb_tells n 0) where
+  go : ((n == 0 ≡ true) × (n ≡ 0)) ⊎ ((n == 0 ≡ false) × (n ≢ 0)) → n == 0 ≡ true
+  go (inl t) = t.0
+  go (inr f) = absurd (f.1 e)
+
+pub tells-other : (n : ℕ) → n ≢ 0 → n == 0 ≡ false
+tells-other n e = go (eqb_tells n 0) where
+  go : ((n == 0 ≡ true) × (n ≡ 0)) ⊎ ((n == 0 ≡ false) × (n ≢ 0)) → n == 0 ≡ false
+  go (inl t) = absurd (e t.1)
+  go (inr f) = f.0
+
+-- a slice that begins a picture
+pub slice-advances : (old mid new : Strict) (byte mb : ℕ) (kind : SliceType) (frame_num : ℕ) (count : ℤ) → mb == 0 ≡ true → new.standing ≡ record old.standing { pictures = pictures_after old.standing.pictures (picture_in old.standing frame_num count) } → ((r : StrictRule) → found_of mid r ≡ with_places (found_of old r) (bits_for r (first_bit byte) (by_numbers old.standing (picture_in old.standing frame_num count)))) → ((r : StrictRule) → found_of new r ≡ with_places (found_of mid r) (bits_for r (first_bit byte) (by_time old.standing (picture_in old.standing frame_num count)))) → Advances (OfSlice byte mb kind frame_num count) old new
+unfolding after broken_by
+slice-advances old mid new byte mb kind frame_num count begins stands first second =
+    let picture = picture_in old.standing frame_num count in (
+      stands ∙ sym (cond-true _ _ _ begins),
+      λ r. noted-more r (first_bit byte) (found_of old r) (found_of mid r) (found_of new r) (by_numbers old.standing picture) (by_time old.standing picture) (first r) (second r)
+          ∙ sym (ap (λ l. with_places (found_of old r) (bits_for r (first_bit byte) l)) (cond-true _ _ _ begins)),
     )
+
+-- a later slice of a picture
+pub later-advances : (s : Strict) (byte mb : ℕ) (kind : SliceType) (frame_num : ℕ) (count : ℤ) → mb == 0 ≡ false → Advances (OfSlice byte mb kind frame_num count) s s
+unfolding after broken_by bits_for with_places
+later-advances s byte mb kind frame_num count later = (
+  sym (cond-false _ _ _ later),
+  λ r. sym (ap (λ l. with_places (found_of s r) (bits_for r (first_bit byte) l)) (cond-false _ _ _ later)),
+)
 
 -- a frame
 pub frame-advances : (s : Strict) (count : ℤ) (width height : ℕ) (bytes : List ℕ) → Advances (OfFrame count width height bytes) s s

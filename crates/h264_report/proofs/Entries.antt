@@ -6,9 +6,9 @@ use Rattle.h264_base.specs.Feature.{text_of}
 use Rattle.h264_report.specs.declared.rules.RuleEntry.{RuleEntry}
 use Rattle.h264_report.specs.declared.rules.FeatureEntry.{FeatureEntry}
 use Rattle.h264_report.specs.Entries.{HaveOtherLabels, HaveOtherNames, HaveOtherFurtherLabels}
-use Rattle.h264_report.specs.Strict.{label_of as further_label_of}
-use Rattle.h264_report.specs.declared.strict.StrictRule.{StrictRule}
-use Rattle.h264_report.specs.declared.strict.StrictRule.TheVariants as further
+use Rattle.h264_report.specs.StrictRules.{label_of as further_label_of}
+use Rattle.h264_report.specs.declared.strict_rule.StrictRule.{StrictRule}
+use Rattle.h264_report.specs.declared.strict_rule.StrictRule.TheVariants as further
 use Rattle.h264_report.specs.declared.strict_entries.StrictEntry.{StrictEntry}
 
 -- one more of these entries has another label
@@ -93,7 +93,9 @@ no-rule label h rules.NoPicture = h.1.1.1.1.1.1.1.1.1.1.1.1.1.1.1.1.1.1.1.1.1.1.
 -- all further rules, in the order of their table
 abbrev all_further : List StrictRule
 all_further =
-    further.ReservedBits ∷ further.AspectRatio ∷ further.VideoFormat ∷ further.ColourPrimaries ∷ further.TransferCharacteristics ∷ further.MatrixCoefficients ∷ further.ChromaLocation ∷ further.Timing ∷ further.Restriction ∷ further.OperationsExclude ∷ further.IdrCount ∷ further.SetRefIdc ∷ further.DelimiterFirst ∷ further.FillerFirst ∷ further.AfterEndOfStream ∷ []
+    further.ReservedBits ∷ further.AspectRatio ∷ further.VideoFormat ∷ further.ColourPrimaries ∷ further.TransferCharacteristics ∷ further.MatrixCoefficients ∷ further.ChromaLocation ∷ further.Timing ∷ further.Restriction ∷ further.OperationsExclude ∷ further.IdrCount ∷ further.SetRefIdc ∷ further.DelimiterFirst ∷ further.FillerFirst ∷ further.AfterEndOfStream
+    ∷ further.Level1b ∷ further.ReservedConstraint ∷ further.DirectInference ∷ further.LowDelay ∷ further.UnitLength ∷ further.EndFirst ∷ further.LongTermReference ∷ further.Weights ∷ further.FrameNumRepeated ∷ further.CountRepeated ∷ further.Reorder ∷ further.VectorCount ∷ further.FrameRate ∷ further.ScheduleOrder
+    ∷ []
 
 -- these further rules have other labels
 abbrev HaveOtherFurther : List ℕ → List StrictRule → Type 0
@@ -117,6 +119,20 @@ no-further label h further.SetRefIdc = h.1.1.1.1.1.1.1.1.1.1.1.0
 no-further label h further.DelimiterFirst = h.1.1.1.1.1.1.1.1.1.1.1.1.0
 no-further label h further.FillerFirst = h.1.1.1.1.1.1.1.1.1.1.1.1.1.0
 no-further label h further.AfterEndOfStream = h.1.1.1.1.1.1.1.1.1.1.1.1.1.1.0
+no-further label h further.Level1b = h.1.1.1.1.1.1.1.1.1.1.1.1.1.1.1.0
+no-further label h further.ReservedConstraint = h.1.1.1.1.1.1.1.1.1.1.1.1.1.1.1.1.0
+no-further label h further.DirectInference = h.1.1.1.1.1.1.1.1.1.1.1.1.1.1.1.1.1.0
+no-further label h further.LowDelay = h.1.1.1.1.1.1.1.1.1.1.1.1.1.1.1.1.1.1.0
+no-further label h further.UnitLength = h.1.1.1.1.1.1.1.1.1.1.1.1.1.1.1.1.1.1.1.0
+no-further label h further.EndFirst = h.1.1.1.1.1.1.1.1.1.1.1.1.1.1.1.1.1.1.1.1.0
+no-further label h further.LongTermReference = h.1.1.1.1.1.1.1.1.1.1.1.1.1.1.1.1.1.1.1.1.1.0
+no-further label h further.Weights = h.1.1.1.1.1.1.1.1.1.1.1.1.1.1.1.1.1.1.1.1.1.1.0
+no-further label h further.FrameNumRepeated = h.1.1.1.1.1.1.1.1.1.1.1.1.1.1.1.1.1.1.1.1.1.1.1.0
+no-further label h further.CountRepeated = h.1.1.1.1.1.1.1.1.1.1.1.1.1.1.1.1.1.1.1.1.1.1.1.1.0
+no-further label h further.Reorder = h.1.1.1.1.1.1.1.1.1.1.1.1.1.1.1.1.1.1.1.1.1.1.1.1.1.0
+no-further label h further.VectorCount = h.1.1.1.1.1.1.1.1.1.1.1.1.1.1.1.1.1.1.1.1.1.1.1.1.1.1.0
+no-further label h further.FrameRate = h.1.1.1.1.1.1.1.1.1.1.1.1.1.1.1.1.1.1.1.1.1.1.1.1.1.1.1.0
+no-further label h further.ScheduleOrder = h.1.1.1.1.1.1.1.1.1.1.1.1.1.1.1.1.1.1.1.1.1.1.1.1.1.1.1.1.0
 
 pub further-none : (A : Type 0) (found : Option A) (label : List ℕ) → IfNone found (HaveOtherFurther label all_further) → IfNone found ((rule : StrictRule) → further_label_of rule ≡ label → ⊥)
 further-none A None label h = no-further label h

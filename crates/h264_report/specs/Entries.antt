@@ -4,7 +4,7 @@ use Rattle.h264_base.specs.Rule.{label_of}
 use Rattle.h264_base.specs.Feature.{text_of}
 use Rattle.h264_report.specs.declared.rules.RuleEntry.{RuleEntry}
 use Rattle.h264_report.specs.declared.rules.FeatureEntry.{FeatureEntry}
-use Rattle.h264_report.specs.Strict.{label_of as further_label_of}
+use Rattle.h264_report.specs.StrictRules.{label_of as further_label_of}
 use Rattle.h264_report.specs.declared.strict_entries.StrictEntry.{StrictEntry}
 
 -- the rules of these entries have other labels

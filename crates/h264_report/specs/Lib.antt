@@ -13,4 +13,9 @@ pub mod Decoding
 pub mod Given
 pub mod Entries
 pub mod Chosen
+pub mod StrictRules
+pub mod StrictLevels
+pub mod StrictSets
+pub mod StrictVectors
+pub mod StrictPictures
 pub mod Strict

@@ -1,132 +1,114 @@
 -- The rules that `check --strict` judges beside the verdict's, over what a sink is told. To be read beside the standard.
-use Rattle.std.specs.Prelude.{ℕ, ℤ, ◌*◌, ◌-◌, ◌^◌, ◌==◌, ◌&&◌, ◌||◌, Bool, true, false, not, nat_lt, nat_le, min, if◌then◌else◌, List, [], ◌∷◌}
-use Rattle.std.specs.Prelude.{◌++◌, Option, None, Some, pos, negsuc, get_or, codes, ◌≡◌}
+use Rattle.std.specs.Prelude.{ℕ, ℤ, ◌*◌, ◌-◌, ◌^◌, ◌==◌, ◌&&◌, ◌||◌, Bool, true, false, not, nat_le, min, if◌then◌else◌, List, [], ◌∷◌}
+use Rattle.std.specs.Prelude.{◌++◌, Option, None, Some, pos, negsuc, get_or, ◌≡◌}
 use Rattle.h264_base.specs.Call.{Call, OfUnit, OfSlice, OfElement}
 use Rattle.h264_base.specs.declared.element_name.ElementName.{ElementName}
 use Rattle.h264_base.specs.declared.element_name.ElementName.TheVariants as names
 use Rattle.h264_report.specs.Chosen.{count_in, grown}
-use Rattle.h264_report.specs.declared.strict.StrictRule.{StrictRule}
-use Rattle.h264_report.specs.declared.strict.StrictRule.TheVariants as rules
+use Rattle.h264_report.specs.StrictPictures.{no_pictures, repeats_number, by_count, pictures_after}
+use Rattle.h264_report.specs.StrictRules.{place_of, broken_if, listed}
+use Rattle.h264_report.specs.StrictSets.{no_set, set_after, by_set, holds_no_frame, is_baseline, is_in_order, is_too_fast, vector_limit}
+use Rattle.h264_report.specs.StrictVectors.{no_vectors, vectors_after, by_vectors}
+use Rattle.h264_report.specs.declared.strict_pictures.NewPicture.{NewPicture}
+use Rattle.h264_report.specs.declared.strict_rule.StrictRule.{StrictRule}
+use Rattle.h264_report.specs.declared.strict_rule.StrictRule.TheVariants as rules
+use Rattle.h264_report.specs.declared.strict.Marking.{Marking}
 use Rattle.h264_report.specs.declared.strict.Standing.{Standing}
 use Rattle.h264_report.specs.declared.strict.Places.{Places}
 use Rattle.h264_report.specs.declared.strict.Strict.{Strict}
-
-unfoldable pub place_of : StrictRule → ℕ
-place_of rules.ReservedBits = 0
-place_of rules.AspectRatio = 1
-place_of rules.VideoFormat = 2
-place_of rules.ColourPrimaries = 3
-place_of rules.TransferCharacteristics = 4
-place_of rules.MatrixCoefficients = 5
-place_of rules.ChromaLocation = 6
-place_of rules.Timing = 7
-place_of rules.Restriction = 8
-place_of rules.OperationsExclude = 9
-place_of rules.IdrCount = 10
-place_of rules.SetRefIdc = 11
-place_of rules.DelimiterFirst = 12
-place_of rules.FillerFirst = 13
-place_of rules.AfterEndOfStream = 14
-
-unfoldable pub label_of : StrictRule → List ℕ
-label_of rules.ReservedBits = codes "ReservedBits"
-label_of rules.AspectRatio = codes "AspectRatio"
-label_of rules.VideoFormat = codes "VideoFormat"
-label_of rules.ColourPrimaries = codes "ColourPrimaries"
-label_of rules.TransferCharacteristics = codes "TransferCharacteristics"
-label_of rules.MatrixCoefficients = codes "MatrixCoefficients"
-label_of rules.ChromaLocation = codes "ChromaLocation"
-label_of rules.Timing = codes "Timing"
-label_of rules.Restriction = codes "Restriction"
-label_of rules.OperationsExclude = codes "OperationsExclude"
-label_of rules.IdrCount = codes "IdrCount"
-label_of rules.SetRefIdc = codes "SetRefIdc"
-label_of rules.DelimiterFirst = codes "DelimiterFirst"
-label_of rules.FillerFirst = codes "FillerFirst"
-label_of rules.AfterEndOfStream = codes "AfterEndOfStream"
-
--- the clause of H.264 that states it
-unfoldable pub clause_of : StrictRule → List ℕ
-clause_of rules.ReservedBits = codes "7.4.2.1.1"
-clause_of rules.AspectRatio = codes "E.2.1"
-clause_of rules.VideoFormat = codes "E.2.1"
-clause_of rules.ColourPrimaries = codes "E.2.1"
-clause_of rules.TransferCharacteristics = codes "E.2.1"
-clause_of rules.MatrixCoefficients = codes "E.2.1"
-clause_of rules.ChromaLocation = codes "E.2.1"
-clause_of rules.Timing = codes "E.2.1"
-clause_of rules.Restriction = codes "E.2.1"
-clause_of rules.OperationsExclude = codes "7.4.3.3"
-clause_of rules.IdrCount = codes "8.2.1"
-clause_of rules.SetRefIdc = codes "7.4.1"
-clause_of rules.DelimiterFirst = codes "7.4.1.2.3"
-clause_of rules.FillerFirst = codes "7.4.1.2.3"
-clause_of rules.AfterEndOfStream = codes "7.4.2.6"
-
--- a rule, if it is broken
-abbrev pub broken_if : Bool → StrictRule → Option StrictRule
-broken_if is_broken rule = if is_broken then Some rule else None
-
--- ---- values of a sequence parameter set (7.4.2.1.1, E.2.1)
-
-unfoldable pub by_value : ElementName → ℕ → Option StrictRule
-by_value names.ReservedZero2bits v = broken_if (not (v == 0)) rules.ReservedBits
-by_value names.AspectRatioIdc v = broken_if (nat_lt 16 v && nat_lt v 255) rules.AspectRatio
-by_value names.VideoFormat v = broken_if (nat_lt 5 v) rules.VideoFormat
-by_value names.ColourPrimaries v = broken_if ((v == 0 || v == 3) || nat_lt 12 v && not (v == 22)) rules.ColourPrimaries
-by_value names.TransferCharacteristics v = broken_if ((v == 0 || v == 3) || nat_lt 18 v) rules.TransferCharacteristics
-by_value names.MatrixCoefficients v = broken_if ((v == 0 || v == 3) || nat_lt 14 v) rules.MatrixCoefficients
-by_value names.ChromaSampleLocTypeTopField v = broken_if (nat_lt 5 v) rules.ChromaLocation
-by_value names.ChromaSampleLocTypeBottomField v = broken_if (nat_lt 5 v) rules.ChromaLocation
-by_value names.NumUnitsInTick v = broken_if (v == 0) rules.Timing
-by_value names.TimeScale v = broken_if (v == 0) rules.Timing
-by_value names.MaxBytesPerPicDenom v = broken_if (nat_lt 16 v) rules.Restriction
-by_value names.MaxBitsPerMbDenom v = broken_if (nat_lt 16 v) rules.Restriction
-by_value names.Log2MaxMvLengthHorizontal v = broken_if (nat_lt 16 v) rules.Restriction
-by_value names.Log2MaxMvLengthVertical v = broken_if (nat_lt 16 v) rules.Restriction
-by_value name v = None
 
 -- ---- marking (7.4.3.3): operation 5 stands together with none of 1 to 3
 
 abbrev pub is_short_or_long : ℕ → Bool
 is_short_or_long operation = nat_le 1 operation && nat_le operation 3
 
-abbrev pub by_marking : Standing → ℕ → Bool
-by_marking s operation = (operation == 5) && s.unmarks || is_short_or_long operation && s.resets
+abbrev pub by_marking : Marking → ℕ → Bool
+by_marking m operation = (operation == 5) && m.unmarks || is_short_or_long operation && m.resets
+
+unfoldable pub marking_after : Marking → ElementName → ℕ → Marking
+marking_after m names.FirstMbInSlice v = record { idr = false; unmarks = false; resets = false }
+marking_after m names.IdrPicId v = record m { idr = true }
+marking_after m names.MemoryManagementControlOperation v = record m { unmarks = m.unmarks || is_short_or_long v; resets = m.resets || (v == 5) }
+marking_after m name v = m
+
+-- ---- the rule that an element breaks
+
+-- the vectors of two macroblocks in a row become too many (A.3.1)
+abbrev pub by_macroblock : Standing → ElementName → ℕ → Option StrictRule
+by_macroblock s name v = broken_if (by_vectors (vector_limit s.set) s.vectors name v) rules.VectorCount
 
 unfoldable pub by_element : Standing → ElementName → ℕ → Option StrictRule
-by_element s names.MemoryManagementControlOperation v = broken_if (by_marking s v) rules.OperationsExclude
-by_element s name v = by_value name v
+by_element s names.MemoryManagementControlOperation v = broken_if (by_marking s.marking v) rules.OperationsExclude
+by_element s names.LongTermReferenceFlag v = broken_if (not (v == 0) && holds_no_frame s.set) rules.LongTermReference
+by_element s names.LumaLog2WeightDenom v = broken_if (is_baseline s.set) rules.Weights
+by_element s names.MbSkipRun v = by_macroblock s names.MbSkipRun v
+by_element s names.MbType v = by_macroblock s names.MbType v
+by_element s names.SubMbType v = by_macroblock s names.SubMbType v
+by_element s name v = by_set s.set name v
 
--- ---- the order of units (7.4.1, 7.4.1.2.3)
+-- ---- the rules that a unit breaks
 
+-- the order of units (7.4.1, 7.4.1.2.3)
 unfoldable pub by_order : Standing → ℕ → ℕ → Option StrictRule
 by_order s kind ref_idc =
     if kind == 9 then broken_if s.begun rules.DelimiterFirst
+    else (if kind == 10 || kind == 11 then broken_if s.begun rules.EndFirst
     else (if kind == 12 then broken_if s.begun rules.FillerFirst
-    else (if kind == 13 || kind == 15 then broken_if (ref_idc == 0) rules.SetRefIdc else None))
+    else (if kind == 13 || kind == 15 then broken_if (ref_idc == 0) rules.SetRefIdc else None)))
 
 -- units that begin an access unit before its first slice
 abbrev pub begins_access_unit : ℕ → Bool
 begins_access_unit kind = nat_le 6 kind && nat_le kind 9 || nat_le 14 kind && nat_le kind 18
 
+-- A delimiter has its header and a byte, and the end of a sequence or of the stream its header alone (7.3.2.4 to 7.3.2.6).
+abbrev pub has_other_length : ℕ → ℕ → Bool
+has_other_length kind length = (kind == 9) && not (length == 2) || (kind == 10 || kind == 11) && not (length == 1)
+
 -- ---- what the calls so far leave
 
 abbrev pub start : Standing
-start = record { idr = false; unmarks = false; resets = false; begun = false; ended = false }
+start = record {
+  marking = record { idr = false; unmarks = false; resets = false };
+  begun = false;
+  ended = false;
+  is_reference = false;
+  set = no_set;
+  pictures = no_pictures;
+  vectors = no_vectors;
+}
 
-unfoldable pub after_element : Standing → ElementName → ℕ → Standing
-after_element s names.FirstMbInSlice v = record s { idr = false; unmarks = false; resets = false }
-after_element s names.IdrPicId v = record s { idr = true }
-after_element s names.MemoryManagementControlOperation v = record s { unmarks = s.unmarks || is_short_or_long v; resets = s.resets || (v == 5) }
-after_element s name v = s
+abbrev pub after_element : Standing → ElementName → ℕ → Standing
+after_element s name v = record s {
+  marking = marking_after s.marking name v;
+  set = set_after s.set name v;
+  vectors = vectors_after s.vectors name v;
+}
 
-abbrev pub after_unit : Standing → ℕ → Standing
-after_unit s kind = record s { begun = begins_access_unit kind || s.begun && not (kind == 1 || kind == 5); ended = s.ended || (kind == 11) }
+abbrev pub after_unit : Standing → ℕ → ℕ → Standing
+after_unit s kind ref_idc = record s {
+  begun = begins_access_unit kind || s.begun && not (kind == 1 || kind == 5);
+  ended = s.ended || (kind == 11);
+  is_reference = not (ref_idc == 0);
+}
+
+-- the picture that a slice begins
+abbrev pub picture_in : Standing → ℕ → ℤ → NewPicture
+picture_in s frame_num count = record {
+  is_idr = s.marking.idr;
+  is_reference = s.is_reference;
+  resets = s.marking.resets;
+  frame_num = frame_num;
+  count = count;
+}
+
+-- the slice of macroblock 0 begins a picture
+abbrev pub after_slice : Standing → ℕ → ℕ → ℤ → Standing
+after_slice s mb frame_num count = if mb == 0 then record s { pictures = pictures_after s.pictures (picture_in s frame_num count) } else s
 
 unfoldable pub after : Standing → Call → Standing
-after s (OfUnit byte kind ref_idc length) = after_unit s kind
+after s (OfUnit byte kind ref_idc length) = after_unit s kind ref_idc
 after s (OfElement name bit v) = after_element s name (count_in v)
+after s (OfSlice byte mb kind frame_num count) = after_slice s mb frame_num count
 after s call = s
 
 unfoldable pub standing_after : Standing → List Call → Standing
@@ -139,18 +121,33 @@ abbrev pub is_zero : ℤ → Bool
 is_zero (pos n) = n == 0
 is_zero (negsuc n) = false
 
-abbrev pub listed : Option StrictRule → List StrictRule
-listed None = []
-listed (Some rule) = rule ∷ []
+-- a picture whose count is not 0 (8.2.1), though it is an IDR picture
+abbrev pub has_idr_count : NewPicture → Bool
+has_idr_count p = p.is_idr && not (is_zero p.count)
 
--- a slice that begins an IDR picture whose picture order count is not 0 (8.2.1)
-abbrev pub has_idr_count : Standing → ℕ → ℤ → Bool
-has_idr_count s mb count = (s.idr && (mb == 0)) && not (is_zero count)
+-- It follows another picture of its sequence too soon (A.3.1).
+abbrev pub comes_too_soon : Standing → NewPicture → Bool
+comes_too_soon s p = not p.is_idr && is_too_fast s.set
+
+-- the rules that a picture breaks
+abbrev pub by_numbers : Standing → NewPicture → List StrictRule
+by_numbers s p = listed (broken_if (has_idr_count p) rules.IdrCount) ++ listed (broken_if (repeats_number s.pictures p) rules.FrameNumRepeated)
+
+abbrev pub by_time : Standing → NewPicture → List StrictRule
+by_time s p = listed (by_count s.pictures (is_in_order s.set) p) ++ listed (broken_if (comes_too_soon s p) rules.FrameRate)
+
+abbrev pub by_picture : Standing → NewPicture → List StrictRule
+by_picture s p = by_numbers s p ++ by_time s p
+
+abbrev pub by_unit : Standing → ℕ → ℕ → ℕ → List StrictRule
+by_unit s kind ref_idc length =
+    (listed (by_order s kind ref_idc) ++ listed (broken_if (has_other_length kind length) rules.UnitLength))
+    ++ listed (broken_if s.ended rules.AfterEndOfStream)
 
 unfoldable pub broken_by : Standing → Call → List StrictRule
-broken_by s (OfUnit byte kind ref_idc length) = listed (by_order s kind ref_idc) ++ listed (broken_if s.ended rules.AfterEndOfStream)
+broken_by s (OfUnit byte kind ref_idc length) = by_unit s kind ref_idc length
 broken_by s (OfElement name bit v) = listed (by_element s name (count_in v))
-broken_by s (OfSlice byte mb kind frame_num count) = listed (broken_if (has_idr_count s mb count) rules.IdrCount)
+broken_by s (OfSlice byte mb kind frame_num count) = if mb == 0 then by_picture s (picture_in s frame_num count) else []
 broken_by s call = []
 
 -- the first bit of a byte, in 64 bits

@@ -1,157 +1,35 @@
 //! Rules of H.264 that no verdict rests on, judged over what a sink is told.
 #![tactic(auto)]
 
-ghost use Rattle.std.specs.Prelude.{◌≡◌, ◌<◌, ◌==◌, ℕ, get_or, if◌then◌else◌, None, Some, []};
+ghost use Rattle.std.specs.Prelude.{◌≡◌, ◌++◌, get_or, None, Some, []};
 ghost use Rattle.h264_base.specs.Call.{OfUnit, OfSlice, OfElement};
 ghost use Rattle.h264_base.specs.declared.mode.SliceType.{SliceType};
-ghost use Rattle.h264_report.specs.declared.strict.StrictRule.{StrictRule};
-ghost use Rattle.h264_report.specs.Strict.{place_of, label_of, clause_of, by_value, by_marking};
-ghost use Rattle.h264_report.specs.Strict.{by_element, by_order, after_element, after_unit, start, with_place};
-ghost use Rattle.h264_report.specs.Strict.{first_bit, TookStrict, Advances, found_of, with_places, bits_for, listed, has_idr_count};
+ghost use Rattle.h264_report.specs.declared.strict_rule.StrictRule.{StrictRule};
+ghost use Rattle.h264_report.specs.StrictRules.{listed};
+ghost use Rattle.h264_report.specs.Strict.{by_marking, marking_after, by_macroblock, by_element, by_order, has_other_length, picture_in, has_idr_count};
+ghost use Rattle.h264_report.specs.Strict.{comes_too_soon, by_numbers, by_time, after_element, after_unit, start, with_place, first_bit};
+ghost use Rattle.h264_report.specs.Strict.{TookStrict, Advances, found_of, with_places, bits_for};
 
+use crate::strict_pictures::{NewPicture, Pictures};
+use crate::strict_rule::{STRICT_RULES, StrictRule, broken_if};
+use crate::strict_sets::SetFacts;
+use crate::strict_vectors::Vectors;
 use crate::survey::element::count_of;
 use h264_base::ElementName;
 
-/// A rule of H.264 that no verdict rests on.
-#[derive(Clone, Copy)]
-pub enum StrictRule {
-    /// reserved_zero_2bits is 0 (7.4.2.1.1).
-    ReservedBits,
-    /// aspect_ratio_idc is no reserved value (table E-1).
-    AspectRatio,
-    /// video_format is no reserved value (table E-2).
-    VideoFormat,
-    /// colour_primaries is no reserved value (table E-3).
-    ColourPrimaries,
-    /// transfer_characteristics is no reserved value (table E-4).
-    TransferCharacteristics,
-    /// matrix_coefficients is no reserved value, and not 0 in 4:2:0 (table E-5).
-    MatrixCoefficients,
-    /// Places of chroma samples are 0 to 5 (E.2.1).
-    ChromaLocation,
-    /// num_units_in_tick and time_scale are above 0 (E.2.1).
-    Timing,
-    /// Denominators and lengths of vectors are 0 to 16 (E.2.1).
-    Restriction,
-    /// Operation 5 stands together with none of 1 to 3 (7.4.3.3).
-    OperationsExclude,
-    /// The picture order count of an IDR picture is 0 (8.2.1).
-    IdrCount,
-    /// nal_ref_idc is not 0 in units of types 13 and 15 (7.4.1).
-    SetRefIdc,
-    /// A delimiter is the first unit of its access unit (7.4.1.2.3).
-    DelimiterFirst,
-    /// Filler data does not come before the first slice of its access unit (7.4.1.2.3).
-    FillerFirst,
-    /// No unit follows the end of the stream (7.4.2.6).
-    AfterEndOfStream,
-}
-
-/// nal_unit_type of a delimiter, of filler data, of the extension of a sequence parameter set, and of a subset of one (table 7-1).
+/// nal_unit_type of a delimiter, of the end of a sequence and of the stream, of filler data, of the extension of a sequence parameter set, and of a subset of
+/// one (table 7-1).
 const DELIMITER: u8 = 9;
+
+const END_OF_SEQUENCE: u8 = 10;
+
+const END_OF_STREAM: u8 = 11;
 
 const FILLER_DATA: u8 = 12;
 
 const SPS_EXTENSION: u8 = 13;
 
 const SUBSET_SPS: u8 = 15;
-
-/// Every rule, by its place.
-pub const EVERY_STRICT_RULE: [StrictRule; STRICT_RULES] = [
-    StrictRule::ReservedBits,
-    StrictRule::AspectRatio,
-    StrictRule::VideoFormat,
-    StrictRule::ColourPrimaries,
-    StrictRule::TransferCharacteristics,
-    StrictRule::MatrixCoefficients,
-    StrictRule::ChromaLocation,
-    StrictRule::Timing,
-    StrictRule::Restriction,
-    StrictRule::OperationsExclude,
-    StrictRule::IdrCount,
-    StrictRule::SetRefIdc,
-    StrictRule::DelimiterFirst,
-    StrictRule::FillerFirst,
-    StrictRule::AfterEndOfStream,
-];
-
-/// How many rules there are.
-pub const STRICT_RULES: usize = 15;
-
-impl StrictRule {
-    /// Its place among them, from 0.
-    #[tactic(auto, unfolding(crate::specs::Strict::place_of))]
-    pub fn place(self) -> usize
-        ensures value { result ≡ place_of self }
-        ensures bound { result < STRICT_RULES }
-    {
-        match self {
-            StrictRule::ReservedBits => 0,
-            StrictRule::AspectRatio => 1,
-            StrictRule::VideoFormat => 2,
-            StrictRule::ColourPrimaries => 3,
-            StrictRule::TransferCharacteristics => 4,
-            StrictRule::MatrixCoefficients => 5,
-            StrictRule::ChromaLocation => 6,
-            StrictRule::Timing => 7,
-            StrictRule::Restriction => 8,
-            StrictRule::OperationsExclude => 9,
-            StrictRule::IdrCount => 10,
-            StrictRule::SetRefIdc => 11,
-            StrictRule::DelimiterFirst => 12,
-            StrictRule::FillerFirst => 13,
-            StrictRule::AfterEndOfStream => 14,
-        }
-    }
-
-    /// Its label.
-    #[tactic(auto, unfolding(crate::specs::Strict::label_of))]
-    pub fn label(self) -> &'static str
-        ensures { result.now ≡ label_of self }
-    {
-        match self {
-            StrictRule::ReservedBits => "ReservedBits",
-            StrictRule::AspectRatio => "AspectRatio",
-            StrictRule::VideoFormat => "VideoFormat",
-            StrictRule::ColourPrimaries => "ColourPrimaries",
-            StrictRule::TransferCharacteristics => "TransferCharacteristics",
-            StrictRule::MatrixCoefficients => "MatrixCoefficients",
-            StrictRule::ChromaLocation => "ChromaLocation",
-            StrictRule::Timing => "Timing",
-            StrictRule::Restriction => "Restriction",
-            StrictRule::OperationsExclude => "OperationsExclude",
-            StrictRule::IdrCount => "IdrCount",
-            StrictRule::SetRefIdc => "SetRefIdc",
-            StrictRule::DelimiterFirst => "DelimiterFirst",
-            StrictRule::FillerFirst => "FillerFirst",
-            StrictRule::AfterEndOfStream => "AfterEndOfStream",
-        }
-    }
-
-    /// The clause of H.264 that states it.
-    #[tactic(auto, unfolding(crate::specs::Strict::clause_of))]
-    pub fn clause(self) -> &'static str
-        ensures { result.now ≡ clause_of self }
-    {
-        match self {
-            StrictRule::ReservedBits => "7.4.2.1.1",
-            StrictRule::AspectRatio => "E.2.1",
-            StrictRule::VideoFormat => "E.2.1",
-            StrictRule::ColourPrimaries => "E.2.1",
-            StrictRule::TransferCharacteristics => "E.2.1",
-            StrictRule::MatrixCoefficients => "E.2.1",
-            StrictRule::ChromaLocation => "E.2.1",
-            StrictRule::Timing => "E.2.1",
-            StrictRule::Restriction => "E.2.1",
-            StrictRule::OperationsExclude => "7.4.3.3",
-            StrictRule::IdrCount => "8.2.1",
-            StrictRule::SetRefIdc => "7.4.1",
-            StrictRule::DelimiterFirst => "7.4.1.2.3",
-            StrictRule::FillerFirst => "7.4.1.2.3",
-            StrictRule::AfterEndOfStream => "7.4.2.6",
-        }
-    }
-}
 
 /// Where a rule is broken: the first bit, and at how many places, as far as 64 bits count.
 #[derive(Clone, Copy)]
@@ -160,81 +38,18 @@ pub struct Places {
     pub count: u64,
 }
 
-/// What the rules have to know of the calls so far.
+/// What the header of the slice that is read says of its picture.
 #[derive(Clone, Copy)]
-pub struct Standing {
-    /// The slice that is read is of an IDR picture.
+pub struct Marking {
+    /// It is an IDR picture.
     pub idr: bool,
     /// Its marking has one of the operations 1 to 3.
     pub unmarks: bool,
     /// Its marking has operation 5.
     pub resets: bool,
-    /// A unit of an access unit came that has no slice yet.
-    pub begun: bool,
-    /// The end of the stream came.
-    pub ended: bool,
 }
 
-/// A rule, if it is broken.
-fn broken_if(is_broken: bool, rule: StrictRule) -> Option<StrictRule>
-    ensures { result ≡ (if is_broken then Some rule else None) }
-{
-    if is_broken { Some(rule) } else { None }
-}
-
-/// The rule that an element of a sequence parameter set breaks by its value.
-#[tactic(auto, unfolding(crate::specs::Strict::by_value))]
-fn by_value(name: ElementName, value: u64) -> Option<StrictRule>
-    ensures { result ≡ by_value name value }
-{
-    match name {
-        ElementName::ReservedZero2bits => broken_if(value != 0, StrictRule::ReservedBits),
-        ElementName::AspectRatioIdc => {
-            broken_if(16 < value && value < 255, StrictRule::AspectRatio)
-        }
-        ElementName::VideoFormat => broken_if(5 < value, StrictRule::VideoFormat),
-        ElementName::ColourPrimaries => broken_if(
-            value == 0 || value == 3 || 12 < value && value != 22,
-            StrictRule::ColourPrimaries,
-        ),
-        ElementName::TransferCharacteristics => broken_if(
-            value == 0 || value == 3 || 18 < value,
-            StrictRule::TransferCharacteristics,
-        ),
-        ElementName::MatrixCoefficients => broken_if(
-            value == 0 || value == 3 || 14 < value,
-            StrictRule::MatrixCoefficients,
-        ),
-        ElementName::ChromaSampleLocTypeTopField => {
-            broken_if(5 < value, StrictRule::ChromaLocation)
-        }
-        ElementName::ChromaSampleLocTypeBottomField => {
-            broken_if(5 < value, StrictRule::ChromaLocation)
-        }
-        ElementName::NumUnitsInTick => broken_if(value == 0, StrictRule::Timing),
-        ElementName::TimeScale => broken_if(value == 0, StrictRule::Timing),
-        ElementName::MaxBytesPerPicDenom => broken_if(16 < value, StrictRule::Restriction),
-        ElementName::MaxBitsPerMbDenom => broken_if(16 < value, StrictRule::Restriction),
-        ElementName::Log2MaxMvLengthHorizontal => broken_if(16 < value, StrictRule::Restriction),
-        ElementName::Log2MaxMvLengthVertical => broken_if(16 < value, StrictRule::Restriction),
-        _ => None,
-    }
-}
-
-impl Standing {
-    /// Before the first call.
-    fn new() -> Standing
-        ensures { result ≡ start }
-    {
-        Standing {
-            idr: false,
-            unmarks: false,
-            resets: false,
-            begun: false,
-            ended: false,
-        }
-    }
-
+impl Marking {
     /// Whether an operation excludes one that came before it.
     fn is_excluded(self, operation: u64) -> bool
         ensures { result ≡ by_marking self operation }
@@ -242,47 +57,10 @@ impl Standing {
         operation == 5 && self.unmarks || 1 <= operation && operation <= 3 && self.resets
     }
 
-    /// The rule that an element breaks.
-    #[tactic(auto, unfolding(crate::specs::Strict::by_element))]
-    fn by_element(self, name: ElementName, value: u64) -> Option<StrictRule>
-        ensures { result ≡ by_element self name value }
-    {
-        match name {
-            ElementName::MemoryManagementControlOperation => {
-                broken_if(self.is_excluded(value), StrictRule::OperationsExclude)
-            }
-            _ => by_value(name, value),
-        }
-    }
-
-    /// Whether a slice begins an IDR picture whose picture order count is not 0.
-    fn has_idr_count(self, first_mb_in_slice: u32, count: i32) -> bool
-        ensures { result ≡ has_idr_count self first_mb_in_slice count }
-    {
-        self.idr && first_mb_in_slice == 0 && count != 0
-    }
-
-    /// The rule that a unit breaks by its place among the others, or by its nal_ref_idc.
-    #[tactic(auto, unfolding(crate::specs::Strict::by_order))]
-    fn by_order(self, nal_unit_type: u8, nal_ref_idc: u8) -> Option<StrictRule>
-        ensures { result ≡ by_order self nal_unit_type nal_ref_idc }
-    {
-        if nal_unit_type == DELIMITER {
-            return broken_if(self.begun, StrictRule::DelimiterFirst);
-        }
-        if nal_unit_type == FILLER_DATA {
-            return broken_if(self.begun, StrictRule::FillerFirst);
-        }
-        if nal_unit_type == SPS_EXTENSION || nal_unit_type == SUBSET_SPS {
-            return broken_if(nal_ref_idc == 0, StrictRule::SetRefIdc);
-        }
-        None
-    }
-
     /// Notes an element.
-    #[tactic(auto, unfolding(crate::specs::Strict::after_element))]
-    fn note_element(&mut self, name: ElementName, value: u64)
-        ensures { self.new ≡ after_element self.old name value }
+    #[tactic(auto, unfolding(crate::specs::Strict::marking_after))]
+    fn note(&mut self, name: ElementName, value: u64)
+        ensures { self.new ≡ marking_after self.old name value }
     {
         match name {
             ElementName::FirstMbInSlice => {
@@ -298,16 +76,151 @@ impl Standing {
             _ => {}
         }
     }
+}
+
+/// What the rules have to know of the calls so far.
+#[derive(Clone, Copy)]
+pub struct Standing {
+    pub marking: Marking,
+    /// A unit of an access unit came that has no slice yet.
+    pub begun: bool,
+    /// The end of the stream came.
+    pub ended: bool,
+    /// nal_ref_idc of the unit that is read is not 0.
+    pub is_reference: bool,
+    pub set: SetFacts,
+    pub pictures: Pictures,
+    pub vectors: Vectors,
+}
+
+/// Whether a unit is longer or shorter than its syntax allows.
+fn has_other_length(nal_unit_type: u8, length: u64) -> bool
+    ensures { result ≡ has_other_length nal_unit_type length }
+{
+    let is_end = nal_unit_type == END_OF_SEQUENCE || nal_unit_type == END_OF_STREAM;
+    nal_unit_type == DELIMITER && length != 2 || is_end && length != 1
+}
+
+/// Whether the count of an IDR picture is not 0.
+fn has_idr_count(picture: NewPicture) -> bool
+    ensures { result ≡ has_idr_count picture }
+{
+    picture.is_idr && picture.count != 0
+}
+
+impl Standing {
+    /// Before the first call.
+    fn new() -> Standing
+        ensures { result ≡ start }
+    {
+        Standing {
+            marking: Marking {
+                idr: false,
+                unmarks: false,
+                resets: false,
+            },
+            begun: false,
+            ended: false,
+            is_reference: false,
+            set: SetFacts::new(),
+            pictures: Pictures::new(),
+            vectors: Vectors::new(),
+        }
+    }
+
+    /// The rule that an element of a macroblock breaks, which tells how many vectors it has.
+    fn by_macroblock(&self, name: ElementName, value: u64) -> Option<StrictRule>
+        ensures { result ≡ by_macroblock self.now name value }
+    {
+        let passes = self.vectors.passes(self.set.max_vectors(), name, value);
+        broken_if(passes, StrictRule::VectorCount)
+    }
+
+    /// The rule that an element breaks.
+    #[tactic(auto, unfolding(crate::specs::Strict::by_element))]
+    fn by_element(&self, name: ElementName, value: u64) -> Option<StrictRule>
+        ensures { result ≡ by_element self.now name value }
+    {
+        match name {
+            ElementName::MemoryManagementControlOperation => {
+                broken_if(
+                    self.marking.is_excluded(value),
+                    StrictRule::OperationsExclude,
+                )
+            }
+            ElementName::LongTermReferenceFlag => broken_if(
+                value != 0 && self.set.holds_no_frame(),
+                StrictRule::LongTermReference,
+            ),
+            ElementName::LumaLog2WeightDenom => {
+                broken_if(self.set.is_baseline(), StrictRule::Weights)
+            }
+            ElementName::MbSkipRun => self.by_macroblock(ElementName::MbSkipRun, value),
+            ElementName::MbType => self.by_macroblock(ElementName::MbType, value),
+            ElementName::SubMbType => self.by_macroblock(ElementName::SubMbType, value),
+            _ => self.set.by_set(name, value),
+        }
+    }
+
+    /// The rule that a unit breaks by its place among the others, or by its nal_ref_idc.
+    #[tactic(auto, unfolding(crate::specs::Strict::by_order))]
+    fn by_order(&self, nal_unit_type: u8, nal_ref_idc: u8) -> Option<StrictRule>
+        ensures { result ≡ by_order self.now nal_unit_type nal_ref_idc }
+    {
+        if nal_unit_type == DELIMITER {
+            return broken_if(self.begun, StrictRule::DelimiterFirst);
+        }
+        if nal_unit_type == END_OF_SEQUENCE || nal_unit_type == END_OF_STREAM {
+            return broken_if(self.begun, StrictRule::EndFirst);
+        }
+        if nal_unit_type == FILLER_DATA {
+            return broken_if(self.begun, StrictRule::FillerFirst);
+        }
+        if nal_unit_type == SPS_EXTENSION || nal_unit_type == SUBSET_SPS {
+            return broken_if(nal_ref_idc == 0, StrictRule::SetRefIdc);
+        }
+        None
+    }
+
+    /// The picture that a slice with first_mb_in_slice 0 begins.
+    fn picture_in(&self, frame_num: u32, count: i32) -> NewPicture
+        ensures { result ≡ picture_in self.now frame_num count }
+    {
+        NewPicture {
+            is_idr: self.marking.idr,
+            is_reference: self.is_reference,
+            resets: self.marking.resets,
+            frame_num,
+            count,
+        }
+    }
+
+    /// Whether a picture follows another one of its sequence too soon.
+    fn comes_too_soon(&self, picture: NewPicture) -> bool
+        ensures { result ≡ comes_too_soon self.now picture }
+    {
+        !picture.is_idr && self.set.is_too_fast()
+    }
+
+    /// Notes an element.
+    fn note_element(&mut self, name: ElementName, value: u64)
+        ensures { self.new ≡ after_element self.old name value }
+    {
+        self.marking.note(name, value);
+        self.set.note(name, value);
+        self.vectors.note(name, value);
+    }
 
     /// Notes a unit.
-    fn note_unit(&mut self, nal_unit_type: u8)
-        ensures { self.new ≡ after_unit self.old nal_unit_type }
+    fn note_unit(&mut self, nal_unit_type: u8, nal_ref_idc: u8)
+        ensures { self.new ≡ after_unit self.old nal_unit_type nal_ref_idc }
     {
         let is_slice = nal_unit_type == 1 || nal_unit_type == 5;
         let begins = 6 <= nal_unit_type && nal_unit_type <= 9
             || 14 <= nal_unit_type && nal_unit_type <= 18;
         self.begun = begins || self.begun && !is_slice;
-        self.ended = self.ended || nal_unit_type == 11;
+        self.ended = self.ended || nal_unit_type == END_OF_STREAM;
+        self.is_reference = nal_ref_idc != 0;
     }
 }
 
@@ -360,6 +273,13 @@ impl Strict {
         self.found[rule.place()]
     }
 
+    /// Whether the active sequence parameter set is known: all sets so far have one id.
+    pub fn knows_set(&self) -> bool
+        ensures { result ≡ self.now.standing.set.is_alone }
+    {
+        self.standing.set.is_alone
+    }
+
     /// Notes that a rule is broken here, if it is one.
     fn note(&mut self, rule: Option<StrictRule>, bit: u64)
         ensures standing { self.new.standing ≡ self.old.standing }
@@ -372,15 +292,26 @@ impl Strict {
         self.found[place] = Some(with_place(self.found[place], bit));
     }
 
+    /// Notes that two rules are broken here, if they are ones.
+    fn note_two(&mut self, first: Option<StrictRule>, second: Option<StrictRule>, bit: u64)
+        ensures standing { self.new.standing ≡ self.old.standing }
+        ensures found { (r : StrictRule) → found_of self.new r ≡ with_places (found_of self.old r) (bits_for r bit (listed first ++ listed second)) }
+    {
+        self.note(first, bit);
+        self.note(second, bit);
+    }
+
     /// Notes a unit.
-    pub fn note_unit(&mut self, byte: u64, nal_unit_type: u8, nal_ref_idc: u8)
-        ensures { (length : ℕ) → Advances (OfUnit byte nal_unit_type nal_ref_idc length) self.old self.new }
+    pub fn note_unit(&mut self, byte: u64, nal_unit_type: u8, nal_ref_idc: u8, length: u64)
+        ensures { Advances (OfUnit byte nal_unit_type nal_ref_idc length) self.old self.new }
     {
         let bit = first_bit(byte);
-        let standing = self.standing;
-        self.note(standing.by_order(nal_unit_type, nal_ref_idc), bit);
-        self.note(broken_if(standing.ended, StrictRule::AfterEndOfStream), bit);
-        self.standing.note_unit(nal_unit_type);
+        let order = self.standing.by_order(nal_unit_type, nal_ref_idc);
+        let is_other = has_other_length(nal_unit_type, length);
+        let ended = self.standing.ended;
+        self.note_two(order, broken_if(is_other, StrictRule::UnitLength), bit);
+        self.note(broken_if(ended, StrictRule::AfterEndOfStream), bit);
+        self.standing.note_unit(nal_unit_type, nal_ref_idc);
     }
 
     /// Notes an element.
@@ -388,15 +319,46 @@ impl Strict {
         ensures { Advances (OfElement name bit value) self.old self.new }
     {
         let count = count_of(value);
-        self.note(self.standing.by_element(name, count), bit);
+        let rule = self.standing.by_element(name, count);
+        self.note(rule, bit);
         self.standing.note_element(name, count);
     }
 
-    /// Notes a slice.
-    pub fn note_slice(&mut self, byte: u64, first_mb_in_slice: u32, count: i32)
-        ensures { (kind : SliceType) (frame_num : ℕ) → Advances (OfSlice byte first_mb_in_slice kind frame_num count) self.old self.new }
+    /// Notes what a picture breaks by its numbers.
+    fn note_numbers(&mut self, picture: NewPicture, bit: u64)
+        ensures standing { self.new.standing ≡ self.old.standing }
+        ensures found { (r : StrictRule) → found_of self.new r ≡ with_places (found_of self.old r) (bits_for r bit (by_numbers self.old.standing picture)) }
     {
-        let is_broken = self.standing.has_idr_count(first_mb_in_slice, count);
-        self.note(broken_if(is_broken, StrictRule::IdrCount), first_bit(byte));
+        let repeats = self.standing.pictures.repeats_number(picture);
+        self.note_two(
+            broken_if(has_idr_count(picture), StrictRule::IdrCount),
+            broken_if(repeats, StrictRule::FrameNumRepeated),
+            bit,
+        );
+    }
+
+    /// Notes what a picture breaks by its place in the order of output, and by its time.
+    fn note_time(&mut self, picture: NewPicture, bit: u64)
+        ensures standing { self.new.standing ≡ self.old.standing }
+        ensures found { (r : StrictRule) → found_of self.new r ≡ with_places (found_of self.old r) (bits_for r bit (by_time self.old.standing picture)) }
+    {
+        let is_in_order = self.standing.set.is_in_order();
+        let order = self.standing.pictures.by_count(is_in_order, picture);
+        let is_too_soon = self.standing.comes_too_soon(picture);
+        self.note_two(order, broken_if(is_too_soon, StrictRule::FrameRate), bit);
+    }
+
+    /// Notes a slice; that of macroblock 0 begins a picture.
+    pub fn note_slice(&mut self, byte: u64, first_mb_in_slice: u32, frame_num: u32, count: i32)
+        ensures { (kind : SliceType) → Advances (OfSlice byte first_mb_in_slice kind frame_num count) self.old self.new }
+    {
+        if first_mb_in_slice != 0 {
+            return;
+        }
+        let picture = self.standing.picture_in(frame_num, count);
+        let bit = first_bit(byte);
+        self.note_numbers(picture, bit);
+        self.note_time(picture, bit);
+        self.standing.pictures.note(picture);
     }
 }

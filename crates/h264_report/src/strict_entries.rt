@@ -5,10 +5,10 @@
 
 ghost use Rattle.std.specs.Prelude.{◌≡◌, IfSome, IfNone};
 ghost use Rattle.h264_report.specs.Entries.{HaveOtherFurtherLabels};
-ghost use Rattle.h264_report.specs.Strict.{label_of};
-ghost use Rattle.h264_report.specs.declared.strict.StrictRule.{StrictRule as StrictRuleView};
+ghost use Rattle.h264_report.specs.StrictRules.{label_of};
+ghost use Rattle.h264_report.specs.declared.strict_rule.StrictRule.{StrictRule as StrictRuleView};
 
-use crate::strict::{STRICT_RULES, StrictRule};
+use crate::strict_rule::{STRICT_RULES, StrictRule};
 
 /// What is said of a further rule.
 #[derive(Clone, Copy)]
@@ -65,7 +65,8 @@ const ENTRIES: [StrictEntry; STRICT_RULES] = [
         rule: StrictRule::MatrixCoefficients,
         breaks: "matrix_coefficients is 3 or above 14, which table E-5 reserves, or 0, which wants 4:4:4.",
         bit: "The first bit of matrix_coefficients.",
-        cause: "The stream was made of RGB, and the value of its source was kept. Or unknown coefficients were written as 0; the value for unspecified ones is 2.",
+        cause: "The stream was made of RGB, and the value of its source was kept. Or unknown coefficients were written as 0; the value \
+            for unspecified ones is 2.",
         example: "matrix_coefficients 0, which is GBR, in 4:2:0",
     },
     StrictEntry {
@@ -112,7 +113,8 @@ const ENTRIES: [StrictEntry; STRICT_RULES] = [
     },
     StrictEntry {
         rule: StrictRule::DelimiterFirst,
-        breaks: "A delimiter comes after another unit of its access unit: after a delimiter, a set, SEI or a unit of type 14 to 18, with no slice between.",
+        breaks: "A delimiter comes after another unit of its access unit: after a delimiter, a set, SEI or a unit of type 14 to 18, \
+            with no slice between.",
         bit: "The first bit of the delimiter.",
         cause: "Parameter sets were put before a stream that already has delimiters.",
         example: "a delimiter after the parameter sets",
@@ -130,6 +132,114 @@ const ENTRIES: [StrictEntry; STRICT_RULES] = [
         bit: "The first bit of the unit.",
         cause: "Two streams were joined, and the unit of type 11 between them was kept.",
         example: "the end of the stream, and then another picture",
+    },
+    StrictEntry {
+        rule: StrictRule::Level1b,
+        breaks: "level_idc is 9, or constraint_set3_flag is 1 with a level_idc other than 11.",
+        bit: "The first bit of level_idc.",
+        cause: "Level 1b was told as in the High profiles, by level_idc 9. In Baseline, Main and Extended it is level_idc 11 with \
+            constraint_set3_flag 1.",
+        example: "level_idc 9",
+    },
+    StrictEntry {
+        rule: StrictRule::ReservedConstraint,
+        breaks: "constraint_set4_flag or constraint_set5_flag is 1 where profile_idc is 66.",
+        bit: "The first bit of the flag.",
+        cause: "The flags of a Constrained High stream were kept in a Baseline one.",
+        example: "constraint_set4_flag 1 with profile_idc 66",
+    },
+    StrictEntry {
+        rule: StrictRule::DirectInference,
+        breaks: "direct_8x8_inference_flag is 0, and the set promises Extended (by profile_idc 88 or constraint_set2_flag), or Main at \
+            level 3 or above (by profile_idc 77 or constraint_set1_flag).",
+        bit: "The first bit of direct_8x8_inference_flag.",
+        cause: "The flag was taken for one of B slices alone. Main asks for it from level 3 on (table A-4), and Extended always, \
+            whatever the slices are.",
+        example: "direct_8x8_inference_flag 0 at level 3, with constraint_set1_flag",
+    },
+    StrictEntry {
+        rule: StrictRule::LowDelay,
+        breaks: "low_delay_hrd_flag is 1, and fixed_frame_rate_flag is 1 too.",
+        bit: "The first bit of low_delay_hrd_flag.",
+        cause: "A big picture may come late under low_delay_hrd_flag, so the rate is not fixed. One of the two flags has to be 0.",
+        example: "low_delay_hrd_flag 1 with fixed_frame_rate_flag 1",
+    },
+    StrictEntry {
+        rule: StrictRule::UnitLength,
+        breaks: "A delimiter has more or less than 2 bytes, or the end of a sequence or of the stream more than 1.",
+        bit: "The first bit of the unit.",
+        cause: "A byte 80 was put after 0a or 0b as if it were trailing bits, or bytes were left after a delimiter.",
+        example: "the end of a sequence with a second byte 80",
+    },
+    StrictEntry {
+        rule: StrictRule::EndFirst,
+        breaks: "The end of a sequence or of the stream comes after a delimiter, a set, SEI or a unit of type 14 to 18, and before the \
+            access unit's first slice.",
+        bit: "The first bit of the unit.",
+        cause: "The end was written after the delimiter of the next picture. It follows the slices of the last one.",
+        example: "the end of a sequence after a delimiter",
+    },
+    StrictEntry {
+        rule: StrictRule::LongTermReference,
+        breaks: "long_term_reference_flag is 1 where max_num_ref_frames is 0.",
+        bit: "The first bit of long_term_reference_flag.",
+        cause: "The encoder keeps IDR pictures as long-term ones, and says that it holds no frame.",
+        example: "long_term_reference_flag 1, and no reference frames",
+    },
+    StrictEntry {
+        rule: StrictRule::Weights,
+        breaks: "A slice has a table of weights, and the set promises Baseline by profile_idc 66 or constraint_set0_flag. Only the \
+            target main-ip comes so far.",
+        bit: "The first bit of luma_log2_weight_denom.",
+        cause: "constraint_set0_flag was set for the want of CABAC and B slices. Baseline leaves weighted_pred_flag out too.",
+        example: "weights in a stream of Main with constraint_set0_flag",
+    },
+    StrictEntry {
+        rule: StrictRule::FrameNumRepeated,
+        breaks: "A picture that is no IDR picture has PrevRefFrameNum as its frame_num. A reference picture that does is a no of FrameNum.",
+        bit: "The first bit of its first slice's unit.",
+        cause: "The encoder raises frame_num after a reference picture by one picture too late. Each picture after one has another \
+            frame_num, one that is no reference too.",
+        example: "a non-reference picture with the frame_num of the reference picture before it",
+    },
+    StrictEntry {
+        rule: StrictRule::CountRepeated,
+        breaks: "A picture has the greatest picture order count that its sequence had so far.",
+        bit: "The first bit of its first slice's unit.",
+        cause: "pic_order_cnt_lsb does not grow, or it wraps at a number too small for the distance of two pictures.",
+        example: "two pictures of count 0",
+    },
+    StrictEntry {
+        rule: StrictRule::Reorder,
+        breaks: "max_num_reorder_frames is 0, and a picture's count is below that of one before it in its sequence.",
+        bit: "The first bit of its first slice's unit.",
+        cause: "Pictures are coded out of order for temporal layers, and the bitstream restriction says otherwise.",
+        example: "a count of -2 after one of 0, and max_num_reorder_frames 0",
+    },
+    StrictEntry {
+        rule: StrictRule::VectorCount,
+        breaks: "Two macroblocks that follow one another in decoding order have more vectors than MaxMvsPer2Mb of the level: 16 from \
+            level 3.1 on.",
+        bit: "The first bit of the element with which there are more: mb_type, sub_mb_type or mb_skip_run.",
+        cause: "The encoder parts macroblocks down to 4x4. Its search has to count vectors from level 3.1 on, or leave the smallest \
+            parts out.",
+        example: "16 vectors and then a skipped macroblock at level 3.1",
+    },
+    StrictEntry {
+        rule: StrictRule::FrameRate,
+        breaks: "fixed_frame_rate_flag is 1, pic_struct_present_flag is 0, and a frame lasts less than PicSizeInMbs / MaxMBPS of the \
+            level, or less than 1/172 of a second.",
+        bit: "The first bit of the first slice's unit of a picture that follows another one in its sequence.",
+        cause: "level_idc is too low for the frame rate.",
+        example: "a thousand frames a second at level 1",
+    },
+    StrictEntry {
+        rule: StrictRule::ScheduleOrder,
+        breaks: "A schedule of the reference decoder has a bit_rate_value_minus1 that is not above that of the one before, or a \
+            cpb_size_value_minus1 above it.",
+        bit: "The first bit of bit_rate_value_minus1 or cpb_size_value_minus1.",
+        cause: "Schedules were written from the greatest rate down. They go from the least rate and the greatest buffer on.",
+        example: "two schedules of one bit rate",
     },
 ];
 

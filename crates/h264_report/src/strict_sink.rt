@@ -59,7 +59,8 @@ impl<S: FrameSink + Drop> FrameSink for StrictSink<S> {
         length: u64,
     ) -> Result<(), Failed> {
         self.sink.unit(byte, nal_unit_type, nal_ref_idc, length)?;
-        self.strict.note_unit(byte, nal_unit_type, nal_ref_idc);
+        self.strict
+            .note_unit(byte, nal_unit_type, nal_ref_idc, length);
         Ok(())
     }
 
@@ -73,7 +74,8 @@ impl<S: FrameSink + Drop> FrameSink for StrictSink<S> {
     ) -> Result<(), Failed> {
         self.sink
             .slice(byte, first_mb_in_slice, slice_type, frame_num, count)?;
-        self.strict.note_slice(byte, first_mb_in_slice, count);
+        self.strict
+            .note_slice(byte, first_mb_in_slice, frame_num, count);
         Ok(())
     }
 

@@ -7,8 +7,8 @@ use Rattle.h264_base.specs.declared.stop.Feature.{Feature as FeatureOf}
 use Rattle.h264_report.specs.Json.{escaped}
 use Rattle.h264_report.specs.declared.rules.RuleEntry.{RuleEntry}
 use Rattle.h264_report.specs.declared.rules.FeatureEntry.{FeatureEntry}
-use Rattle.h264_report.specs.Strict.{label_of as further_label_of, clause_of as further_clause_of}
-use Rattle.h264_report.specs.declared.strict.StrictRule.{StrictRule}
+use Rattle.h264_report.specs.StrictRules.{label_of as further_label_of, clause_of as further_clause_of}
+use Rattle.h264_report.specs.declared.strict_rule.StrictRule.{StrictRule}
 use Rattle.h264_report.specs.declared.strict_entries.StrictEntry.{StrictEntry}
 use Rattle.h264v.specs.declared.explaining.Entry.{Entry}
 use Rattle.h264v.specs.declared.explaining.Entry.TheVariants.{Rule, Feature, Further}

@@ -1,4 +1,4 @@
-use Rattle.std.proofs.Common.{◌∷◌, [], max, refl, inl, inr, ap, ◌∙◌, arith}
+use Rattle.std.proofs.Common.{◌∷◌, [], max, refl, ap, ◌∙◌, arith}
 use Rattle.h264v.specs.More.{worst}
 use Rattle.h264v.proofs.more.do_files.Goals as goal
 

@@ -4,7 +4,7 @@ use Rattle.h264_report.specs.Sent.{Sends}
 use Rattle.h264_report.specs.Written.{status_of}
 use Rattle.h264_report.proofs.Known.{sends-is, ok-of}
 use Rattle.h264v.specs.Explained.{IsExplained}
-use Rattle.h264v.specs.More.{Refused, Told, Short}
+use Rattle.h264v.specs.More.{Told, Short}
 use Rattle.h264v.proofs.Explained.{explained-none, explained-more}
 use Rattle.h264v.proofs.more.explain_labels.Goals as goal
 

@@ -1,5 +1,6 @@
 use Rattle.std.proofs.Common.{rules, ◌<◌, None, Some, length, get_or, slice_set, ap, ap₂, ◌∙◌, sym}
-use Rattle.h264_report.specs.Strict.{place_of, with_place, with_places, bits_for, listed, found_of}
+use Rattle.h264_report.specs.Strict.{with_place, with_places, bits_for, found_of}
+use Rattle.h264_report.specs.StrictRules.{place_of, listed}
 use Rattle.h264_report.proofs.Broken.{note-none, note-one}
 use Rattle.h264_report.proofs.strict.Strict.note.Goals as goal
 

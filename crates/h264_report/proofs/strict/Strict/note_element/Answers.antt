@@ -1,6 +1,7 @@
 use Rattle.std.proofs.Common.{rules, SFits, w64, ap, ◌∙◌}
 use Rattle.std.proofs.lemmas.Int.{to_z-of_z}
-use Rattle.h264_report.specs.Strict.{after_element, by_element, with_places, bits_for, listed, found_of}
+use Rattle.h264_report.specs.Strict.{after_element, by_element, with_places, bits_for, found_of}
+use Rattle.h264_report.specs.StrictRules.{listed}
 use Rattle.h264_report.specs.declared.strict.Strict.{Strict}
 use Rattle.h264_report.proofs.Broken.{element-advances}
 use Rattle.h264_report.proofs.strict.Strict.note_element.Goals as goal
@@ -16,4 +17,4 @@ returns c =
     ∙ ap (λ s. after_element s c.args.name c.count_of-count.result) c.note.ensures.standing
     ∙ ap (λ n. after_element old.standing c.args.name n) counted)
     (λ r. c.note.ensures.found r
-    ∙ ap (λ rule. with_places (found_of old r) (bits_for r c.args.bit (listed rule))) (c.by_element.ensures ∙ ap (λ n. by_element old.standing c.args.name n) counted))
+    ∙ ap (λ rule. with_places (found_of old r) (bits_for r c.args.bit (listed rule))) (c.by_element-rule.ensures ∙ ap (λ n. by_element old.standing c.args.name n) counted))

@@ -1,17 +1,21 @@
-use Rattle.std.proofs.Common.{ap, ap₂, ◌∙◌}
-use Rattle.h264_report.specs.Strict.{after_unit, with_places, bits_for, listed, found_of}
+use Rattle.std.proofs.Common.{ap, ap₂, ◌++◌, ◌∙◌}
+use Rattle.h264_report.specs.Strict.{after_unit, first_bit, with_places, bits_for, found_of}
+use Rattle.h264_report.specs.StrictRules.{broken_if, listed}
 use Rattle.h264_report.specs.declared.strict.Strict.{Strict}
+use Rattle.h264_report.specs.declared.strict_rule.StrictRule.TheVariants as rules
 use Rattle.h264_report.proofs.Broken.{unit-advances}
 use Rattle.h264_report.proofs.strict.Strict.note_unit.Goals as goal
 
 pub returns : goal.returns
-returns c length =
+returns c =
     let old = c.args.self.now in
-    let mid = c.note.new.self in
-    let new : Strict = record { standing = c.note_unit.new.self; found = c.note-2.new.self.found } in
-    unit-advances old mid new c.args.byte c.args.nal_unit_type c.args.nal_ref_idc length
-    (c.note_unit.ensures ∙ ap (λ s. after_unit s c.args.nal_unit_type) (c.note-2.ensures.standing ∙ c.note.ensures.standing))
+    let mid = c.note_two.new.self in
+    let new : Strict = record { standing = c.note_unit.new.self; found = c.note.new.self.found } in
+    unit-advances old mid new c.args.byte c.args.nal_unit_type c.args.nal_ref_idc c.args.length
+    (c.note_unit.ensures ∙ ap (λ s. after_unit s c.args.nal_unit_type c.args.nal_ref_idc) (c.note.ensures.standing ∙ c.note_two.ensures.standing))
+    (λ r. c.note_two.ensures.found r
+    ∙ ap (λ bit. with_places (found_of old r) (bits_for r bit (listed c.by_order-order.result ++ listed c.broken_if.result))) c.first_bit-bit.ensures
+    ∙ ap₂ (λ order other. with_places (found_of old r) (bits_for r (first_bit c.args.byte) (listed order ++ listed other))) c.by_order-order.ensures
+    (c.broken_if.ensures ∙ ap (λ is_other. broken_if is_other rules.UnitLength) c.has_other_length-is_other.ensures))
     (λ r. c.note.ensures.found r
-    ∙ ap₂ (λ bit rule. with_places (found_of old r) (bits_for r bit (listed rule))) c.first_bit-bit.ensures c.by_order.ensures)
-    (λ r. c.note-2.ensures.found r
-    ∙ ap₂ (λ bit rule. with_places (found_of mid r) (bits_for r bit (listed rule))) c.first_bit-bit.ensures c.broken_if.ensures)
+    ∙ ap₂ (λ bit rule. with_places (found_of mid r) (bits_for r bit (listed rule))) c.first_bit-bit.ensures c.broken_if-2.ensures)

@@ -10,5 +10,5 @@ returns-clause-ok g c =
     let f : SFits w32 c.args.count = search rules in
     let call = OfSlice c.args.byte c.args.first_mb_in_slice c.args.slice_type c.args.frame_num c.args.count in
     let took = simp to_z-of_z at c.in_ok-slice.ensures.ok in
-    let noted = simp to_z-of_z at c.note_slice.ensures c.args.slice_type c.args.frame_num in
+    let noted = simp to_z-of_z at c.note_slice.ensures c.args.slice_type in
     record { told = both-more g.S.Elements.took old.sink c.slice.new.self call old.strict c.note_slice.new.self took noted }

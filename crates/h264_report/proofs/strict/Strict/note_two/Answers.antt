@@ -1,0 +1,9 @@
+use Rattle.h264_report.specs.Strict.{found_of}
+use Rattle.h264_report.specs.StrictRules.{listed}
+use Rattle.h264_report.proofs.Broken.{noted-more}
+use Rattle.h264_report.proofs.strict.Strict.note_two.Goals as goal
+
+pub returns-clause-found : goal.returns-clause-found
+returns-clause-found c r =
+    noted-more r c.args.bit (found_of c.args.self.now r) (found_of c.note.new.self r) (found_of c.note-2.new.self r) (listed c.args.first) (listed c.args.second)
+    (c.note.ensures.found r) (c.note-2.ensures.found r)
