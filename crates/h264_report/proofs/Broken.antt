@@ -129,7 +129,13 @@ noted-more r bit old mid new xs ys first second =
     ∙ sym (with-more (bits_for r bit xs) (bits_for r bit ys) old)
     ∙ ap (λ l. with_places old l) (sym (bits-more r bit xs ys))
 
-pub unit-advances : (old mid new : Strict) (byte kind ref_idc length : ℕ) → new.standing ≡ after_unit old.standing kind ref_idc → ((r : StrictRule) → found_of mid r ≡ with_places (found_of old r) (bits_for r (first_bit byte) (listed (by_order old.standing kind ref_idc) ++ listed (broken_if (has_other_length kind length) rules.UnitLength)))) → ((r : StrictRule) → found_of new r ≡ with_places (found_of mid r) (bits_for r (first_bit byte) (listed (broken_if old.standing.ended rules.AfterEndOfStream)))) → Advances (OfUnit byte kind ref_idc length) old new
+-- From old to new these rules were noted as broken at this bit.
+abbrev pub Notes : Strict → Strict → ℕ → List StrictRule → Type 0
+Notes old new bit broken = (r : StrictRule) → found_of new r ≡ with_places (found_of old r) (bits_for r bit broken)
+
+pub unit-advances : (old mid new : Strict) (byte kind ref_idc length : ℕ) → new.standing ≡ after_unit old.standing kind ref_idc →
+    Notes old mid (first_bit byte) (listed (by_order old.standing kind ref_idc) ++ listed (broken_if (has_other_length kind length) rules.UnitLength)) →
+    Notes mid new (first_bit byte) (listed (broken_if old.standing.ended rules.AfterEndOfStream)) → Advances (OfUnit byte kind ref_idc length) old new
 unfolding after broken_by
 unit-advances old mid new byte kind ref_idc length stands first second =
     let form = listed (by_order old.standing kind ref_idc) ++ listed (broken_if (has_other_length kind length) rules.UnitLength) in
@@ -149,7 +155,10 @@ tells-other n e = go (eqb_tells n 0) where
   go (inr f) = f.0
 
 -- a slice that begins a picture
-pub slice-advances : (old mid new : Strict) (byte mb : ℕ) (kind : SliceType) (frame_num : ℕ) (count : ℤ) → mb == 0 ≡ true → new.standing ≡ record old.standing { pictures = pictures_after old.standing.pictures (picture_in old.standing frame_num count) } → ((r : StrictRule) → found_of mid r ≡ with_places (found_of old r) (bits_for r (first_bit byte) (by_numbers old.standing (picture_in old.standing frame_num count)))) → ((r : StrictRule) → found_of new r ≡ with_places (found_of mid r) (bits_for r (first_bit byte) (by_time old.standing (picture_in old.standing frame_num count)))) → Advances (OfSlice byte mb kind frame_num count) old new
+pub slice-advances : (old mid new : Strict) (byte mb : ℕ) (kind : SliceType) (frame_num : ℕ) (count : ℤ) → mb == 0 ≡ true →
+    new.standing ≡ record old.standing { pictures = pictures_after old.standing.pictures (picture_in old.standing frame_num count) } →
+    Notes old mid (first_bit byte) (by_numbers old.standing (picture_in old.standing frame_num count)) →
+    Notes mid new (first_bit byte) (by_time old.standing (picture_in old.standing frame_num count)) → Advances (OfSlice byte mb kind frame_num count) old new
 unfolding after broken_by
 slice-advances old mid new byte mb kind frame_num count begins stands first second =
     let picture = picture_in old.standing frame_num count in (
