@@ -8,7 +8,7 @@ use Rattle.h264_deblock.specs.Line.{filtered}
 use Rattle.h264_deblock.specs.Edge.{taps, replaced}
 use Rattle.h264_deblock.specs.Rows.{line_of, HasLine, AreWritten}
 use Rattle.h264_deblock.specs.Inner.{AreNearestWritten}
-use Rattle.h264_deblock.specs.declared.line.Line.{Line}
+use Rattle.h264_deblock.specs.Line.{Line}
 use Rattle.h264_deblock.specs.declared.inner.Nearest.{Nearest}
 use Rattle.h264_deblock.specs.declared.rows.Rows.{Rows}
 use Rattle.h264_deblock.proofs.Lines.{far, lines_at, lines_beyond, inside_or_not}

@@ -7,7 +7,7 @@ use Rattle.h264_deblock.specs.Rows.{any_filter}
 use Rattle.h264_deblock.specs.Limits.{quarter, IsIdle}
 use Rattle.h264_deblock.specs.CodedEdges.{named}
 use Rattle.h264_deblock.specs.Words.{names, fours, IsLevel, AreBelow}
-use Rattle.h264_deblock.specs.declared.line.Limits.{Limits}
+use Rattle.h264_deblock.specs.Line.{Limits}
 use Rattle.h264_deblock.specs.declared.limits.Level.{Level}
 use Rattle.h264_deblock.specs.declared.edge_parameters.BoundaryStrength.{BoundaryStrength}
 use Rattle.h264_deblock.specs.declared.edge_parameters.BoundaryStrength.TheVariants.{Zero, Four}

@@ -1,13 +1,14 @@
 -- The lines of an edge of chroma: the filter reads two samples on each side of it and changes one (8.7.2). A working form.
-use Rattle.std.specs.Prelude.{◌≡◌, ℕ, ◌+◌, ◌<◌, Bool, true, slice_index}
+use Rattle.std.specs.Prelude.{◌≡◌, ℕ, ◌+◌, ◌<◌, Bool, true, List, get_or, slice_index}
 use Rattle.h264_plane.specs.Samples.{Samples, look}
 use Rattle.h264_deblock.specs.Line.{filtered}
 use Rattle.h264_deblock.specs.Edge.{taps, lines_after, HasSamplesBy}
 use Rattle.h264_deblock.specs.Rows.{any_filter}
-use Rattle.h264_deblock.specs.declared.line.Line.{Line}
-use Rattle.h264_deblock.specs.declared.line.Limits.{Limits}
+use Rattle.h264_deblock.specs.Line.{Line}
+use Rattle.h264_deblock.specs.Line.{Limits}
 use Rattle.h264_deblock.specs.declared.inner.Inner.{Inner}
 use Rattle.h264_deblock.specs.declared.inner.Nearest.{Nearest}
+use Rattle.h264_deblock.specs.declared.inner.Pairs.{Pairs}
 use Rattle.h264_deblock.specs.declared.limits.LineLimits.{LineLimits}
 
 -- line n, with no samples beyond
@@ -22,6 +23,13 @@ inner_of r n = record {
   q2 = 0;
   q3 = 0;
 }
+
+-- a line has these lanes of samples p1 to q1
+pub record AreInner (a b c d : List ℕ) (n : ℕ) (l : Line) : Type 0 where
+  pub p1 : l.p1 ≡ get_or a n 0
+  pub p0 : l.p0 ≡ get_or b n 0
+  pub q0 : l.q0 ≡ get_or c n 0
+  pub q1 : l.q1 ≡ get_or d n 0
 
 -- two lines have the same samples p1 to q1
 pub record SameInner (l m : Line) : Type 0 where
@@ -42,6 +50,11 @@ limits_at k n = record { alpha = k.alpha; beta = k.beta; filter = any_filter (sl
 pub record AreNearest (r : Nearest) (f : ℕ → Line) : Type 0 where
   pub p0 : (n : ℕ) → n < 8 → slice_index r.p0 n ≡ (f n).p0
   pub q0 : (n : ℕ) → n < 8 → slice_index r.q0 n ≡ (f n).q0
+
+-- so are those of 16 lines
+pub record AreBeside (r : Pairs) (f : ℕ → Line) : Type 0 where
+  pub p0 : (n : ℕ) → n < 16 → slice_index r.p0 n ≡ (f n).p0
+  pub q0 : (n : ℕ) → n < 16 → slice_index r.q0 n ≡ (f n).q0
 
 -- the samples are written: where they are those of filtered lines, so are the plane's
 pub record AreNearestWritten (vertical : Bool) (old new : Samples) (along across : ℕ) (r : Nearest) : Type 0 where

@@ -2,7 +2,7 @@
 use Rattle.std.specs.Prelude.{◌≡◌, ◌≢◌, ℕ, ◌/◌, ◌%◌, ◌<◌, Bool, List, get_or, if◌then◌else◌, ◌⊎◌, ⊤}
 use Rattle.h264_deblock.specs.Edge.{limits}
 use Rattle.h264_deblock.specs.Rows.{any_filter, filter_by}
-use Rattle.h264_deblock.specs.declared.line.Filter.TheVariants.{Strong}
+use Rattle.h264_deblock.specs.Line.{Strong}
 use Rattle.h264_deblock.specs.declared.limits.Mix.{Mix}
 use Rattle.h264_deblock.specs.declared.limits.Mix.TheVariants.{NoFour, AllFour, SomeFour}
 use Rattle.h264_deblock.specs.declared.edge_parameters.BoundaryStrength.{BoundaryStrength}

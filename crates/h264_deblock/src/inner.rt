@@ -1,15 +1,17 @@
 ghost use Rattle.std.specs.Prelude.{◌≡◌, ℕ, ◌+◌, ◌*◌, ◌<◌, ◌≤◌, slice_index, true, false};
 ghost use Rattle.h264_plane.specs.Samples.{at, look, size_along, size_across};
-ghost use Rattle.h264_deblock.specs.Line.{filtered as filtered_of};
+ghost use Rattle.h264_deblock.specs.Line.{Strong, filtered as filtered_of};
 ghost use Rattle.h264_deblock.specs.Edge.{taps};
-ghost use Rattle.h264_deblock.specs.Rows.{any_filter};
-ghost use Rattle.h264_deblock.specs.Inner.{inner_of, limits_at, HasInner, SameInner, AreNearest, AreNearestWritten};
+ghost use Rattle.h264_deblock.specs.Limits.{Suits};
+ghost use Rattle.h264_deblock.specs.Rows.{filter_by};
+ghost use Rattle.h264_deblock.specs.Inner.{inner_of, limits_at, HasInner, SameInner, AreBeside, AreNearest, AreNearestWritten};
 
 use crate::columns::{columns_of, joined, pair_in_turn, run_of};
-use crate::limits::LineLimits;
-use crate::line::{Filter, Limits, Line, moved};
-use crate::rows::{either, is_within, kept};
+use crate::lanes::{all, chosen, either, near, plus};
+use crate::limits::{LineLimits, Mix, STRONG};
+use crate::line::{below_four, moved, shifts_by, weak, within};
 use h264_plane::Plane;
+use std::simd::prelude::*;
 
 /// The samples that the filter of an edge of chroma reads, of 8 lines of Cb and then of 8 lines of Cr.
 #[derive(Clone, Copy)]
@@ -106,63 +108,86 @@ pub fn read_inner<const VERTICAL: bool>(
     }
 }
 
-/// A line after the filter of this number, which may be that of bS 4. Limits of 0 leave the samples as they are, so that all lines take the
-/// same steps.
+/// The samples next to the edge after its filter, of 16 lines.
+#[derive(Clone, Copy)]
+struct Pairs {
+    p0: [u8; 16],
+    q0: [u8; 16],
+}
+
+/// The samples after the filter of bS 1, 2 or 3, by tC0. Lines of another number stay.
 #[inline(always)]
-fn filtered(l: Line, alpha: u8, beta: u8, t: u8) -> Line
-    ensures { result ≡ filtered_of true (record { alpha = alpha; beta = beta; filter = any_filter t }) l }
+fn normal(r: &Inner, k: &LineLimits) -> Pairs
+    ensures { AreBeside result (λ n. filtered_of true
+        (record { alpha = k.now.alpha; beta = k.now.beta; filter = filter_by (slice_index k.now.numbers n) }) (inner_of r.now n)) }
 {
-    let k = Limits {
-        alpha,
-        beta,
-        filter: Filter::Off,
-    };
-    let within = is_within(l, k);
-    let on = within & (t <= 25);
-    let four = within & (t == 254);
-    let delta = l.delta(kept(on, t) + u8::from(on));
-    Line {
-        p3: l.p3,
-        p2: l.p2,
-        p1: l.p1,
-        p0: either(four, l.weak(), moved(l.p0, delta.up, delta.down)),
-        q0: either(four, l.turned().weak(), moved(l.q0, delta.down, delta.up)),
-        q1: l.q1,
-        q2: l.q2,
-        q3: l.q3,
+    let on = below_four(within(r, k.alpha, k.beta), &k.numbers);
+    let t = chosen(on, u8x16::from_array(k.numbers), all(0));
+    let s = shifts_by(r, plus(t, on));
+    Pairs {
+        p0: moved(&r.p0, &s.up, &s.down),
+        q0: moved(&r.q0, &s.down, &s.up),
+    }
+}
+
+/// The samples after the filter of bS 4.
+#[inline(always)]
+fn strong(r: &Inner, k: &LineLimits) -> Pairs
+    ensures { AreBeside result
+        (λ n. filtered_of true (record { alpha = k.now.alpha; beta = k.now.beta; filter = Strong }) (inner_of r.now n)) }
+{
+    let on = within(r, k.alpha, k.beta);
+    let p1 = u8x16::from_array(r.p1);
+    let p0 = u8x16::from_array(r.p0);
+    let q0 = u8x16::from_array(r.q0);
+    let q1 = u8x16::from_array(r.q1);
+    Pairs {
+        p0: chosen(on, weak(p1, p0, q1), p0).to_array(),
+        q0: chosen(on, weak(q1, q0, p1), q0).to_array(),
+    }
+}
+
+/// The samples of an edge some of whose bS are 4 and others not.
+#[inline(never)]
+fn mixed(r: &Inner, k: &LineLimits) -> Pairs
+    ensures { AreBeside result (λ n. filtered_of true (limits_at k.now n) (inner_of r.now n)) }
+{
+    let four = near(u8x16::from_array(k.numbers), all(STRONG), 1);
+    let (a, b) = (strong(r, k), normal(r, k));
+    Pairs {
+        p0: either(four, &a.p0, &b.p0),
+        q0: either(four, &a.q0, &b.q0),
+    }
+}
+
+/// The samples after the filter of an edge. Where each of its bS is 4, or none, they take the steps of one kind alone.
+#[inline(always)]
+fn filtered(r: &Inner, k: &LineLimits, mix: Mix) -> Pairs
+    requires { (n : ℕ) → n < 16 → Suits mix (slice_index k.now.numbers n) }
+    ensures { AreBeside result (λ n. filtered_of true (limits_at k.now n) (inner_of r.now n)) }
+{
+    match mix {
+        Mix::NoFour => normal(r, k),
+        Mix::AllFour => strong(r, k),
+        Mix::SomeFour => mixed(r, k),
     }
 }
 
 /// The nearest samples of the lines of Cb, and of those of Cr, after the filter of an edge.
 #[inline(always)]
-pub fn filtered_pair(r: &Inner, k: &LineLimits) -> (Nearest, Nearest)
+pub fn filtered_pair(r: &Inner, k: &LineLimits, mix: Mix) -> (Nearest, Nearest)
+    requires { (n : ℕ) → n < 16 → Suits mix (slice_index k.now.numbers n) }
     ensures cb { AreNearest result.0 (λ n. filtered_of true (limits_at k.now n) (inner_of r.now n)) }
     ensures cr { AreNearest result.1 (λ n. filtered_of true (limits_at k.now (8 + n)) (inner_of r.now (8 + n))) }
 {
-    let mut p0 = [0u8; 16];
-    let mut q0 = [0u8; 16];
-    for n in 0..16usize {
-        let before = Line {
-            p3: 0,
-            p2: 0,
-            p1: r.p1[n],
-            p0: r.p0[n],
-            q0: r.q0[n],
-            q1: r.q1[n],
-            q2: 0,
-            q3: 0,
-        };
-        let after = filtered(before, k.alpha, k.beta, k.numbers[n]);
-        p0[n] = after.p0;
-        q0[n] = after.q0;
-    }
+    let after = filtered(r, k, mix);
     let cb = Nearest {
-        p0: run_of::<8>(&p0, 0),
-        q0: run_of::<8>(&q0, 0),
+        p0: run_of::<8>(&after.p0, 0),
+        q0: run_of::<8>(&after.q0, 0),
     };
     let cr = Nearest {
-        p0: run_of::<8>(&p0, 8),
-        q0: run_of::<8>(&q0, 8),
+        p0: run_of::<8>(&after.p0, 8),
+        q0: run_of::<8>(&after.q0, 8),
     };
     (cb, cr)
 }

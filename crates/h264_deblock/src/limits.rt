@@ -26,7 +26,7 @@ pub struct LineLimits {
 }
 
 /// The number of the filter of a line with bS 4.
-const STRONG: u8 = 254;
+pub const STRONG: u8 = 254;
 
 /// What edges between two quantisation parameters have in common.
 #[derive(Clone, Copy)]

@@ -1,6 +1,6 @@
 use Rattle.std.proofs.Common.{rules, refl, sym, ap, ◌∙◌, inl, inr, arith}
 use Rattle.std.proofs.lemmas.Bool.Decides.{nat_tests}
-use Rattle.h264_deblock.specs.declared.line.Limits.{Limits}
+use Rattle.h264_deblock.specs.Line.{Limits}
 use Rattle.h264_deblock.proofs.Groups.{limits_are}
 use Rattle.h264_deblock.proofs.limits.is_idle.Goals as goal
 
