@@ -12,7 +12,7 @@ _h264v() {
   report) options="$options --output" ;;
   elements) options="$options --picture --mb" ;;
   explain)
-    COMPREPLY=($(compgen -W 'ByteStream EmptyUnit Emulation ForbiddenBit RefIdc Partition CodeWord ResidualWord Range Tool Profile FrameSize Crop Vui Trailing NoSet FirstPicture SetChanged FirstMb SliceType FrameNum IdrPicId Qp Count ListCommand MarkCommand MarkDiffers SliceEmpty MbPast NoReference IntraMode BlockSize VectorRange TransformRange Incomplete NoPicture Level6 UnitTooLong InputTooLong ReservedBits AspectRatio VideoFormat ColourPrimaries TransferCharacteristics MatrixCoefficients ChromaLocation Timing Restriction OperationsExclude IdrCount SetRefIdc DelimiterFirst FillerFirst AfterEndOfStream Level1b ReservedConstraint DirectInference LowDelay UnitLength EndFirst LongTermReference Weights FrameNumRepeated CountRepeated Reorder VectorCount FrameRate ScheduleOrder' -- "$word"))
+    COMPREPLY=($(compgen -W 'ByteStream EmptyUnit Emulation ForbiddenBit RefIdc Partition CodeWord ResidualWord Range Tool Profile FrameSize Crop Vui Trailing NoSet FirstPicture SetChanged FirstMb SliceType FrameNum IdrPicId Qp Count ListCommand MarkCommand MarkDiffers SliceEmpty MbPast NoReference IntraMode BlockSize VectorRange TransformRange Incomplete NoPicture Level6 UnitTooLong InputTooLong ReservedBits AspectRatio VideoFormat ColourPrimaries TransferCharacteristics MatrixCoefficients ChromaLocation Timing Restriction OperationsExclude IdrCount SetRefIdc DelimiterFirst FillerFirst AfterEndOfStream Level1b ReservedConstraint DirectInference LowDelay UnitLength EndFirst LongTermReference Weights FrameNumRepeated CountRepeated Reorder VectorCount FrameRate ScheduleOrder ScheduleLimits' -- "$word"))
     return
     ;;
   esac

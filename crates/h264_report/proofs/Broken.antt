@@ -8,7 +8,7 @@ use Rattle.h264_base.specs.Call.{Call, Tells, OfUnit, OfSlice, OfElement, OfFram
 use Rattle.h264_base.specs.declared.element_name.ElementName.{ElementName}
 use Rattle.h264_base.specs.declared.mode.SliceType.{SliceType}
 use Rattle.h264_report.specs.Chosen.{count_in}
-use Rattle.h264_report.specs.Strict.{after, after_element, after_unit, by_element, by_order, by_numbers, by_time, has_other_length, picture_in, first_bit}
+use Rattle.h264_report.specs.Strict.{after, after_element, after_unit, broken_by_element, by_order, by_numbers, by_time, has_other_length, picture_in, first_bit}
 use Rattle.h264_report.specs.Strict.{standing_after, places, bits_for, bit_of, broken_by, with_place, with_places, start, found_of, Advances, TookStrict}
 use Rattle.h264_report.specs.StrictPictures.{pictures_after}
 use Rattle.h264_report.specs.StrictRules.{broken_if, listed, place_of}
@@ -72,7 +72,7 @@ module _ (found : List (Option Places)) (rule r : StrictRule) (bit : ℕ) (withi
     go (inr e) = get_or-set_other found (place_of rule) (place_of r) noted None (λ q. e.1 (sym q)) ∙ elsewhere e.0
 
 -- the places of no calls
-pub none-found : (r : StrictRule) → get_or (None ∷ None ∷ None ∷ None ∷ None ∷ None ∷ None ∷ None ∷ None ∷ None ∷ None ∷ None ∷ None ∷ None ∷ None ∷ None ∷ None ∷ None ∷ None ∷ None ∷ None ∷ None ∷ None ∷ None ∷ None ∷ None ∷ None ∷ None ∷ None ∷ []) (place_of r) None ≡ with_places None (places r start [])
+pub none-found : (r : StrictRule) → get_or (None ∷ None ∷ None ∷ None ∷ None ∷ None ∷ None ∷ None ∷ None ∷ None ∷ None ∷ None ∷ None ∷ None ∷ None ∷ None ∷ None ∷ None ∷ None ∷ None ∷ None ∷ None ∷ None ∷ None ∷ None ∷ None ∷ None ∷ None ∷ None ∷ None ∷ []) (place_of r) None ≡ with_places None (places r start [])
 unfolding with_places places place_of
 none-found rules.ReservedBits = refl
 none-found rules.AspectRatio = refl
@@ -103,6 +103,7 @@ none-found rules.Reorder = refl
 none-found rules.VectorCount = refl
 none-found rules.FrameRate = refl
 none-found rules.ScheduleOrder = refl
+none-found rules.ScheduleLimits = refl
 
 pub none-stands : start ≡ standing_after start []
 unfolding standing_after
@@ -110,7 +111,7 @@ none-stands = refl
 
 -- ---- each kind of call
 
-pub element-advances : (old new : Strict) (name : ElementName) (bit : ℕ) (v : ℤ) → new.standing ≡ after_element old.standing name (count_in v) → ((r : StrictRule) → found_of new r ≡ with_places (found_of old r) (bits_for r bit (listed (by_element old.standing name (count_in v))))) → Advances (OfElement name bit v) old new
+pub element-advances : (old new : Strict) (name : ElementName) (bit : ℕ) (v : ℤ) → new.standing ≡ after_element old.standing name (count_in v) → ((r : StrictRule) → found_of new r ≡ with_places (found_of old r) (bits_for r bit (broken_by_element old.standing name (count_in v)))) → Advances (OfElement name bit v) old new
 unfolding after broken_by
 element-advances old new name bit v stands found = (stands, found)
 

@@ -7,7 +7,7 @@ use Rattle.h264_base.specs.declared.element_name.ElementName.TheVariants as name
 use Rattle.h264_report.specs.Chosen.{count_in, grown}
 use Rattle.h264_report.specs.StrictPictures.{no_pictures, repeats_number, by_count, pictures_after}
 use Rattle.h264_report.specs.StrictRules.{place_of, broken_if, listed}
-use Rattle.h264_report.specs.StrictSets.{no_set, set_after, by_set, holds_no_frame, is_baseline, is_in_order, is_too_fast, vector_limit}
+use Rattle.h264_report.specs.StrictSets.{no_set, set_after, by_set, by_limits, holds_no_frame, is_baseline, is_in_order, is_too_fast, vector_limit}
 use Rattle.h264_report.specs.StrictVectors.{no_vectors, vectors_after, by_vectors}
 use Rattle.h264_report.specs.declared.strict_pictures.NewPicture.{NewPicture}
 use Rattle.h264_report.specs.declared.strict_rule.StrictRule.{StrictRule}
@@ -45,6 +45,10 @@ by_element s names.MbSkipRun v = by_macroblock s names.MbSkipRun v
 by_element s names.MbType v = by_macroblock s names.MbType v
 by_element s names.SubMbType v = by_macroblock s names.SubMbType v
 by_element s name v = by_set s.set name v
+
+-- all rules that an element breaks
+abbrev pub broken_by_element : Standing → ElementName → ℕ → List StrictRule
+broken_by_element s name v = listed (by_element s name v) ++ listed (by_limits s.set name v)
 
 -- ---- the rules that a unit breaks
 
@@ -146,7 +150,7 @@ by_unit s kind ref_idc length =
 
 unfoldable pub broken_by : Standing → Call → List StrictRule
 broken_by s (OfUnit byte kind ref_idc length) = by_unit s kind ref_idc length
-broken_by s (OfElement name bit v) = listed (by_element s name (count_in v))
+broken_by s (OfElement name bit v) = broken_by_element s name (count_in v)
 broken_by s (OfSlice byte mb kind frame_num count) = if mb == 0 then by_picture s (picture_in s frame_num count) else []
 broken_by s call = []
 

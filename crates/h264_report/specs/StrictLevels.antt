@@ -1,6 +1,7 @@
--- What the levels allow of rates and vectors (A.3.1, Table A-1). To be read beside the standard.
+-- What the levels allow of rates, buffers and vectors (A.3.1, Table A-1). To be read beside the standard.
 use Rattle.std.specs.Prelude.{ℕ, Bool, List, [], ◌∷◌, ◌==◌, ◌&&◌, nat_lt, Option, None, Some, find, if◌then◌else◌}
 use Rattle.std.specs.Option.{option_map}
+use Rattle.h264_report.specs.declared.strict_levels.BitLimits.{BitLimits}
 
 -- a row of Table A-1
 pub record RateRow : Type 0 where
@@ -8,38 +9,49 @@ pub record RateRow : Type 0 where
   pub level : ℕ
   -- MaxMBPS, in macroblocks a second
   pub mbps : ℕ
+  -- MaxBR and MaxCPB, in 1000 bits a second and 1000 bits of VCL parameters, and in 1200 of NAL parameters
+  pub br : ℕ
+  pub cpb : ℕ
 
-abbrev pub rate_row : ℕ → ℕ → RateRow
-rate_row level mbps = record { level = level; mbps = mbps }
+abbrev pub rate_row : ℕ → ℕ → ℕ → ℕ → RateRow
+rate_row level mbps br cpb = record { level = level; mbps = mbps; br = br; cpb = cpb }
 
 unfoldable pub rates : List RateRow
 rates =
-    rate_row 9 1485 ∷
-    rate_row 10 1485 ∷
-    rate_row 11 3000 ∷
-    rate_row 12 6000 ∷
-    rate_row 13 11880 ∷
-    rate_row 20 11880 ∷
-    rate_row 21 19800 ∷
-    rate_row 22 20250 ∷
-    rate_row 30 40500 ∷
-    rate_row 31 108000 ∷
-    rate_row 32 216000 ∷
-    rate_row 40 245760 ∷
-    rate_row 41 245760 ∷
-    rate_row 42 522240 ∷
-    rate_row 50 589824 ∷
-    rate_row 51 983040 ∷
-    rate_row 52 2073600 ∷
+    rate_row 9 1485 128 350 ∷
+    rate_row 10 1485 64 175 ∷
+    rate_row 11 3000 192 500 ∷
+    rate_row 12 6000 384 1000 ∷
+    rate_row 13 11880 768 2000 ∷
+    rate_row 20 11880 2000 2000 ∷
+    rate_row 21 19800 4000 4000 ∷
+    rate_row 22 20250 4000 4000 ∷
+    rate_row 30 40500 10000 10000 ∷
+    rate_row 31 108000 14000 14000 ∷
+    rate_row 32 216000 20000 20000 ∷
+    rate_row 40 245760 20000 25000 ∷
+    rate_row 41 245760 50000 62500 ∷
+    rate_row 42 522240 50000 62500 ∷
+    rate_row 50 589824 135000 135000 ∷
+    rate_row 51 983040 240000 240000 ∷
+    rate_row 52 2073600 240000 240000 ∷
     []
 
 -- The level that level_idc names: level 1b is level_idc 11 with constraint_set3_flag, and level_idc 9.
 abbrev pub level_named : ℕ → Bool → ℕ
 level_named level_idc set3 = if level_idc == 11 && set3 then 9 else level_idc
 
--- MaxMBPS of a level, if there is such a level
+-- the row of a level, if there is such a level
+abbrev pub row_of : ℕ → Bool → Option RateRow
+row_of level_idc set3 = find (λ r. r.level == level_named level_idc set3) rates
+
+-- MaxMBPS of a level
 unfoldable pub max_mbps : ℕ → Bool → Option ℕ
-max_mbps level_idc set3 = option_map (λ r. r.mbps) (find (λ r. r.level == level_named level_idc set3) rates)
+max_mbps level_idc set3 = option_map (λ r. r.mbps) (row_of level_idc set3)
+
+-- MaxBR and MaxCPB of a level
+unfoldable pub bit_limits : ℕ → Bool → Option BitLimits
+bit_limits level_idc set3 = option_map (λ r. record { max_br = r.br; max_cpb = r.cpb }) (row_of level_idc set3)
 
 -- MaxMvsPer2Mb: none below level 3, 32 at level 3, and 16 from level 3.1 on
 abbrev pub max_vectors : ℕ → Option ℕ

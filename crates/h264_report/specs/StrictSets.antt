@@ -1,17 +1,14 @@
 -- What a sequence parameter set says to the further rules, and the rules on its values (7.4.2.1.1, A.2, A.3.1, E.2.1). To be read beside the standard.
-use Rattle.std.specs.Prelude.{ℕ, ◌*◌, ◌-◌, ◌^◌, ◌==◌, ◌&&◌, ◌||◌, Bool, true, false, not, nat_lt, nat_le, min, if◌then◌else◌, Option, None, Some}
+use Rattle.std.specs.Prelude.{ℕ, ◌==◌, ◌&&◌, ◌||◌, Bool, true, false, not, nat_lt, nat_le, if◌then◌else◌, Option, None, Some}
 use Rattle.h264_base.specs.declared.element_name.ElementName.{ElementName}
 use Rattle.h264_base.specs.declared.element_name.ElementName.TheVariants as names
 use Rattle.h264_report.specs.Chosen.{grown}
-use Rattle.h264_report.specs.StrictLevels.{max_mbps, max_vectors}
+use Rattle.h264_report.specs.StrictLevels.{max_mbps, max_vectors, bit_limits}
 use Rattle.h264_report.specs.StrictRules.{broken_if}
+use Rattle.h264_report.specs.StrictSchedules.{times, no_schedules, rises_not, rises, none_keeps, schedules_after}
 use Rattle.h264_report.specs.declared.strict_rule.StrictRule.{StrictRule}
 use Rattle.h264_report.specs.declared.strict_rule.StrictRule.TheVariants as rules
 use Rattle.h264_report.specs.declared.strict_sets.SetFacts.{SetFacts}
-
--- a product, counted in 64 bits
-abbrev pub times : ℕ → ℕ → ℕ
-times n k = min (n * k) (2 ^ 64 - 1)
 
 -- a set of which profile_idc alone was read, after sets of this id
 abbrev pub set_of_profile : Option ℕ → Bool → ℕ → SetFacts
@@ -33,8 +30,7 @@ set_of_profile id is_alone profile_idc = record {
   fixed_frame_rate_flag = false;
   pic_struct_present_flag = false;
   keeps_order = false;
-  last_rate = None;
-  last_size = None;
+  schedules = no_schedules;
 }
 
 -- before the first set
@@ -66,12 +62,9 @@ set_after set names.PicHeightInMapUnitsMinus1 v = record set { size = times set.
 set_after set names.NumUnitsInTick v = record set { num_units_in_tick = v }
 set_after set names.TimeScale v = record set { time_scale = v }
 set_after set names.FixedFrameRateFlag v = record set { fixed_frame_rate_flag = not (v == 0) }
-set_after set names.CpbCntMinus1 v = record set { last_rate = None; last_size = None }
-set_after set names.BitRateValueMinus1 v = record set { last_rate = Some v }
-set_after set names.CpbSizeValueMinus1 v = record set { last_size = Some v }
 set_after set names.PicStructPresentFlag v = record set { pic_struct_present_flag = not (v == 0) }
 set_after set names.MaxNumReorderFrames v = record set { keeps_order = v == 0 }
-set_after set name v = set
+set_after set name v = record set { schedules = schedules_after set.level_idc set.constraint_set3_flag set.schedules name v }
 
 -- ---- values (7.4.2.1.1, E.2.1)
 
@@ -98,25 +91,21 @@ by_value name v = None
 abbrev pub needs_inference : SetFacts → Bool
 needs_inference set = set.promises_extended || set.promises_main && nat_le 30 set.level_idc
 
--- a schedule after the first has a greater bit_rate_value_minus1 (E.2.2)
-abbrev pub rises_not : Option ℕ → ℕ → Bool
-rises_not None value = false
-rises_not (Some last) value = nat_le value last
-
--- and no greater cpb_size_value_minus1
-abbrev pub rises : Option ℕ → ℕ → Bool
-rises None value = false
-rises (Some last) value = nat_lt last value
-
 unfoldable pub by_set : SetFacts → ElementName → ℕ → Option StrictRule
 by_set set names.ConstraintSet4Flag v = broken_if ((set.profile_idc == 66) && not (v == 0)) rules.ReservedConstraint
 by_set set names.ConstraintSet5Flag v = broken_if ((set.profile_idc == 66) && not (v == 0)) rules.ReservedConstraint
 by_set set names.LevelIdc v = broken_if ((v == 9) || set.constraint_set3_flag && not (v == 11)) rules.Level1b
 by_set set names.Direct8x8InferenceFlag v = broken_if ((v == 0) && needs_inference set) rules.DirectInference
 by_set set names.LowDelayHrdFlag v = broken_if (not (v == 0) && set.fixed_frame_rate_flag) rules.LowDelay
-by_set set names.BitRateValueMinus1 v = broken_if (rises_not set.last_rate v) rules.ScheduleOrder
-by_set set names.CpbSizeValueMinus1 v = broken_if (rises set.last_size v) rules.ScheduleOrder
+by_set set names.BitRateValueMinus1 v = broken_if (rises_not set.schedules.last_rate v) rules.ScheduleOrder
+by_set set names.CpbSizeValueMinus1 v = broken_if (rises set.schedules.last_size v) rules.ScheduleOrder
 by_set set name v = by_value name v
+
+-- No schedule keeps to MaxBR and MaxCPB (A.3.1). It is named at cpb_size_value_minus1 of the last schedule, with which that is known.
+unfoldable pub by_limits : SetFacts → ElementName → ℕ → Option StrictRule
+by_limits set names.CpbSizeValueMinus1 v =
+    broken_if (none_keeps (bit_limits set.level_idc set.constraint_set3_flag) set.schedules v) rules.ScheduleLimits
+by_limits set name v = None
 
 -- ---- the active set, which is known where all sets so far have one id
 

@@ -41,6 +41,7 @@ pub mod strict_entries;
 mod strict_levels;
 pub mod strict_pictures;
 pub mod strict_rule;
+pub mod strict_schedules;
 pub mod strict_sets;
 pub mod strict_sink;
 pub mod strict_vectors;

@@ -320,7 +320,8 @@ impl Strict {
     {
         let count = count_of(value);
         let rule = self.standing.by_element(name, count);
-        self.note(rule, bit);
+        let limit = self.standing.set.by_limits(name, count);
+        self.note_two(rule, limit, bit);
         self.standing.note_element(name, count);
     }
 

@@ -241,6 +241,14 @@ const ENTRIES: [StrictEntry; STRICT_RULES] = [
         cause: "Schedules were written from the greatest rate down. They go from the least rate and the greatest buffer on.",
         example: "two schedules of one bit rate",
     },
+    StrictEntry {
+        rule: StrictRule::ScheduleLimits,
+        breaks: "NAL HRD parameters have no schedule of at most 1200 * MaxBR bits a second and a buffer of at most 1200 * MaxCPB bits, or VCL \
+            HRD parameters none of at most 1000 * MaxBR and 1000 * MaxCPB (table A-1).",
+        bit: "The first bit of cpb_size_value_minus1 of the last schedule.",
+        cause: "level_idc is too low for the bit rate or for the buffer that the encoder was given.",
+        example: "76,864 bits a second in NAL HRD parameters at level 1",
+    },
 ];
 
 /// The first of these entries whose rule has this label.

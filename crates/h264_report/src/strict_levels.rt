@@ -1,8 +1,24 @@
-//! What a level allows of rates and vectors (A.3.1, Table A-1).
+//! What a level allows of rates, buffers and vectors (A.3.1, Table A-1).
 #![tactic(auto)]
 
-ghost use Rattle.std.specs.Prelude.{◌≡◌};
-ghost use Rattle.h264_report.specs.StrictLevels.{max_mbps, max_vectors};
+ghost use Rattle.std.specs.Prelude.{◌≡◌, Some};
+ghost use Rattle.h264_report.specs.StrictLevels.{max_mbps, bit_limits, max_vectors};
+
+/// What a level allows of bit rates and of coded picture buffers: in 1,000 bits of VCL HRD parameters, and in 1,200 of NAL HRD parameters.
+#[derive(Clone, Copy)]
+pub struct BitLimits {
+    /// MaxBR, a second.
+    pub max_br: u32,
+    /// MaxCPB.
+    pub max_cpb: u32,
+}
+
+/// These two limits.
+fn limits(max_br: u32, max_cpb: u32) -> Option<BitLimits>
+    ensures { result ≡ Some (record { max_br = max_br; max_cpb = max_cpb }) }
+{
+    Some(BitLimits { max_br, max_cpb })
+}
 
 /// MaxMBPS, in macroblocks a second; none for numbers that name no level.
 #[tactic(auto, unfolding(crate::specs::StrictLevels::max_mbps, crate::specs::StrictLevels::rates))]
@@ -25,6 +41,31 @@ pub fn max_mbps(level_idc: u64, constraint_set3_flag: bool) -> Option<u64>
         50 => Some(589824),
         51 => Some(983040),
         52 => Some(2073600),
+        _ => None,
+    }
+}
+
+/// MaxBR and MaxCPB; none for numbers that name no level.
+#[tactic(auto, unfolding(crate::specs::StrictLevels::bit_limits, crate::specs::StrictLevels::rates))]
+pub fn bit_limits(level_idc: u64, constraint_set3_flag: bool) -> Option<BitLimits>
+    ensures { result ≡ bit_limits level_idc constraint_set3_flag }
+{
+    match level_idc {
+        9 => limits(128, 350),
+        10 => limits(64, 175),
+        11 if constraint_set3_flag => limits(128, 350),
+        11 => limits(192, 500),
+        12 => limits(384, 1000),
+        13 => limits(768, 2000),
+        20 => limits(2000, 2000),
+        21 | 22 => limits(4000, 4000),
+        30 => limits(10000, 10000),
+        31 => limits(14000, 14000),
+        32 => limits(20000, 20000),
+        40 => limits(20000, 25000),
+        41 | 42 => limits(50000, 62500),
+        50 => limits(135000, 135000),
+        51 | 52 => limits(240000, 240000),
         _ => None,
     }
 }

@@ -65,6 +65,8 @@ pub enum StrictRule {
     FrameRate,
     /// Bit rates of schedules rise, and sizes of their buffers do not (E.2.2).
     ScheduleOrder,
+    /// Of each HRD parameters a schedule keeps to MaxBR and MaxCPB of the level (A.3.1).
+    ScheduleLimits,
 }
 
 /// Every rule, by its place.
@@ -98,10 +100,11 @@ pub const EVERY_STRICT_RULE: [StrictRule; STRICT_RULES] = [
     StrictRule::VectorCount,
     StrictRule::FrameRate,
     StrictRule::ScheduleOrder,
+    StrictRule::ScheduleLimits,
 ];
 
 /// How many rules there are.
-pub const STRICT_RULES: usize = 29;
+pub const STRICT_RULES: usize = 30;
 
 impl StrictRule {
     /// Its place among them, from 0.
@@ -140,6 +143,7 @@ impl StrictRule {
             StrictRule::VectorCount => 26,
             StrictRule::FrameRate => 27,
             StrictRule::ScheduleOrder => 28,
+            StrictRule::ScheduleLimits => 29,
         }
     }
 
@@ -178,6 +182,7 @@ impl StrictRule {
             StrictRule::VectorCount => "VectorCount",
             StrictRule::FrameRate => "FrameRate",
             StrictRule::ScheduleOrder => "ScheduleOrder",
+            StrictRule::ScheduleLimits => "ScheduleLimits",
         }
     }
 
@@ -216,6 +221,7 @@ impl StrictRule {
             StrictRule::VectorCount => "A.3.1",
             StrictRule::FrameRate => "A.3.1",
             StrictRule::ScheduleOrder => "E.2.2",
+            StrictRule::ScheduleLimits => "A.3.1",
         }
     }
 }

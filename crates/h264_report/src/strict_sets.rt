@@ -2,11 +2,12 @@
 #![tactic(auto)]
 
 ghost use Rattle.std.specs.Prelude.{◌≡◌};
-ghost use Rattle.h264_report.specs.StrictSets.{no_set, set_of_profile, set_after, is_other, with_id, by_value, by_set, rises_not, rises};
+ghost use Rattle.h264_report.specs.StrictSets.{no_set, set_of_profile, set_after, is_other, with_id, by_value, by_set, by_limits};
 ghost use Rattle.h264_report.specs.StrictSets.{needs_inference, holds_no_frame, is_baseline, is_in_order, is_timed, outruns, is_too_fast, vector_limit};
 
-use crate::strict_levels::{max_mbps, max_vectors};
+use crate::strict_levels::{bit_limits, max_mbps, max_vectors};
 use crate::strict_rule::{StrictRule, broken_if};
+use crate::strict_schedules::{Schedules, rises, rises_not};
 use h264_base::ElementName;
 
 /// profile_idc of Baseline, Main and Extended (A.2).
@@ -57,9 +58,8 @@ pub struct SetFacts {
     pub pic_struct_present_flag: bool,
     /// max_num_reorder_frames is told, and is 0.
     pub keeps_order: bool,
-    /// bit_rate_value_minus1 and cpb_size_value_minus1 of the schedule before, in the parameters that are read.
-    pub last_rate: Option<u64>,
-    pub last_size: Option<u64>,
+    /// The HRD parameters that came last.
+    pub schedules: Schedules,
 }
 
 /// The rule that an element of a sequence parameter set breaks by its value alone.
@@ -123,8 +123,7 @@ fn set_of_profile(id: Option<u64>, is_alone: bool, profile_idc: u64) -> SetFacts
         fixed_frame_rate_flag: false,
         pic_struct_present_flag: false,
         keeps_order: false,
-        last_rate: None,
-        last_size: None,
+        schedules: Schedules::new(),
     }
 }
 
@@ -135,26 +134,6 @@ fn is_other(id: Option<u64>, other: u64) -> bool
     match id {
         None => false,
         Some(id) => id != other,
-    }
-}
-
-/// Whether a value is not above that of the schedule before.
-fn rises_not(last: Option<u64>, value: u64) -> bool
-    ensures { result ≡ rises_not last value }
-{
-    match last {
-        None => false,
-        Some(last) => value <= last,
-    }
-}
-
-/// Whether a value is above that of the schedule before.
-fn rises(last: Option<u64>, value: u64) -> bool
-    ensures { result ≡ rises last value }
-{
-    match last {
-        None => false,
-        Some(last) => last < value,
     }
 }
 
@@ -206,15 +185,12 @@ impl SetFacts {
             ElementName::NumUnitsInTick => self.num_units_in_tick = value,
             ElementName::TimeScale => self.time_scale = value,
             ElementName::FixedFrameRateFlag => self.fixed_frame_rate_flag = is_set,
-            ElementName::CpbCntMinus1 => {
-                self.last_rate = None;
-                self.last_size = None;
-            }
-            ElementName::BitRateValueMinus1 => self.last_rate = Some(value),
-            ElementName::CpbSizeValueMinus1 => self.last_size = Some(value),
             ElementName::PicStructPresentFlag => self.pic_struct_present_flag = is_set,
             ElementName::MaxNumReorderFrames => self.keeps_order = value == 0,
-            _ => {}
+            _ => {
+                self.schedules
+                    .note(self.level_idc, self.constraint_set3_flag, name, value);
+            }
         }
     }
 
@@ -252,13 +228,33 @@ impl SetFacts {
                 StrictRule::LowDelay,
             ),
             ElementName::BitRateValueMinus1 => broken_if(
-                rises_not(self.last_rate, value),
+                rises_not(self.schedules.last_rate, value),
                 StrictRule::ScheduleOrder,
             ),
             ElementName::CpbSizeValueMinus1 => {
-                broken_if(rises(self.last_size, value), StrictRule::ScheduleOrder)
+                broken_if(
+                    rises(self.schedules.last_size, value),
+                    StrictRule::ScheduleOrder,
+                )
             }
             _ => by_value(name, value),
+        }
+    }
+
+    /// The rule that an element breaks by what the level allows of schedules.
+    #[tactic(auto, unfolding(crate::specs::StrictSets::by_limits))]
+    pub fn by_limits(&self, name: ElementName, value: u64) -> Option<StrictRule>
+        ensures { result ≡ by_limits self.now name value }
+    {
+        match name {
+            ElementName::CpbSizeValueMinus1 => {
+                let limits = bit_limits(self.level_idc, self.constraint_set3_flag);
+                broken_if(
+                    self.schedules.none_keeps(limits, value),
+                    StrictRule::ScheduleLimits,
+                )
+            }
+            _ => None,
         }
     }
 
