@@ -16,3 +16,4 @@ pub mod Entries
 pub mod Reaching
 pub mod Choosing
 pub mod Broken
+pub mod Factors

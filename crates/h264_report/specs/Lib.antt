@@ -15,6 +15,7 @@ pub mod Entries
 pub mod Chosen
 pub mod StrictRules
 pub mod StrictLevels
+pub mod StrictRatio
 pub mod StrictSchedules
 pub mod StrictSets
 pub mod StrictVectors

@@ -4,6 +4,7 @@ use Rattle.h264_base.specs.declared.element_name.ElementName.{ElementName}
 use Rattle.h264_base.specs.declared.element_name.ElementName.TheVariants as names
 use Rattle.h264_report.specs.Chosen.{grown}
 use Rattle.h264_report.specs.StrictLevels.{max_mbps, max_vectors, bit_limits}
+use Rattle.h264_report.specs.StrictRatio.{is_reducible}
 use Rattle.h264_report.specs.StrictRules.{broken_if}
 use Rattle.h264_report.specs.StrictSchedules.{times, no_schedules, rises_not, rises, none_keeps, schedules_after}
 use Rattle.h264_report.specs.declared.strict_rule.StrictRule.{StrictRule}
@@ -23,6 +24,7 @@ set_of_profile id is_alone profile_idc = record {
   constraint_set3_flag = false;
   level_idc = 0;
   max_num_ref_frames = 0;
+  sar_width = 0;
   width = 0;
   size = 0;
   num_units_in_tick = 0;
@@ -59,6 +61,7 @@ set_after set names.PicParameterSetId v = record set { is_read = false }
 set_after set names.MaxNumRefFrames v = record set { max_num_ref_frames = v }
 set_after set names.PicWidthInMbsMinus1 v = record set { width = grown v 1 }
 set_after set names.PicHeightInMapUnitsMinus1 v = record set { size = times set.width (grown v 1) }
+set_after set names.SarWidth v = record set { sar_width = v }
 set_after set names.NumUnitsInTick v = record set { num_units_in_tick = v }
 set_after set names.TimeScale v = record set { time_scale = v }
 set_after set names.FixedFrameRateFlag v = record set { fixed_frame_rate_flag = not (v == 0) }
@@ -96,6 +99,7 @@ by_set set names.ConstraintSet4Flag v = broken_if ((set.profile_idc == 66) && no
 by_set set names.ConstraintSet5Flag v = broken_if ((set.profile_idc == 66) && not (v == 0)) rules.ReservedConstraint
 by_set set names.LevelIdc v = broken_if ((v == 9) || set.constraint_set3_flag && not (v == 11)) rules.Level1b
 by_set set names.Direct8x8InferenceFlag v = broken_if ((v == 0) && needs_inference set) rules.DirectInference
+by_set set names.SarHeight v = broken_if (is_reducible set.sar_width v) rules.CommonFactor
 by_set set names.LowDelayHrdFlag v = broken_if (not (v == 0) && set.fixed_frame_rate_flag) rules.LowDelay
 by_set set names.BitRateValueMinus1 v = broken_if (rises_not set.schedules.last_rate v) rules.ScheduleOrder
 by_set set names.CpbSizeValueMinus1 v = broken_if (rises set.schedules.last_size v) rules.ScheduleOrder

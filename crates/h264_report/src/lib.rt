@@ -40,6 +40,7 @@ pub mod strict;
 pub mod strict_entries;
 mod strict_levels;
 pub mod strict_pictures;
+mod strict_ratio;
 pub mod strict_rule;
 pub mod strict_schedules;
 pub mod strict_sets;

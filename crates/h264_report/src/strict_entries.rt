@@ -249,6 +249,13 @@ const ENTRIES: [StrictEntry; STRICT_RULES] = [
         cause: "level_idc is too low for the bit rate or for the buffer that the encoder was given.",
         example: "76,864 bits a second in NAL HRD parameters at level 1",
     },
+    StrictEntry {
+        rule: StrictRule::CommonFactor,
+        breaks: "sar_width and sar_height are above 0 and have a common factor above 1.",
+        bit: "The first bit of sar_height.",
+        cause: "The ratio was not brought to its lowest terms: 4:6 is 2:3. An aspect ratio of the picture was written in place of one of its samples.",
+        example: "sar_width 4 and sar_height 6",
+    },
 ];
 
 /// The first of these entries whose rule has this label.

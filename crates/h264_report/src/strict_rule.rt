@@ -67,6 +67,8 @@ pub enum StrictRule {
     ScheduleOrder,
     /// Of each HRD parameters a schedule keeps to MaxBR and MaxCPB of the level (A.3.1).
     ScheduleLimits,
+    /// sar_width and sar_height are relatively prime, or one of them is 0 (E.2.1).
+    CommonFactor,
 }
 
 /// Every rule, by its place.
@@ -101,10 +103,11 @@ pub const EVERY_STRICT_RULE: [StrictRule; STRICT_RULES] = [
     StrictRule::FrameRate,
     StrictRule::ScheduleOrder,
     StrictRule::ScheduleLimits,
+    StrictRule::CommonFactor,
 ];
 
 /// How many rules there are.
-pub const STRICT_RULES: usize = 30;
+pub const STRICT_RULES: usize = 31;
 
 impl StrictRule {
     /// Its place among them, from 0.
@@ -144,6 +147,7 @@ impl StrictRule {
             StrictRule::FrameRate => 27,
             StrictRule::ScheduleOrder => 28,
             StrictRule::ScheduleLimits => 29,
+            StrictRule::CommonFactor => 30,
         }
     }
 
@@ -183,6 +187,7 @@ impl StrictRule {
             StrictRule::FrameRate => "FrameRate",
             StrictRule::ScheduleOrder => "ScheduleOrder",
             StrictRule::ScheduleLimits => "ScheduleLimits",
+            StrictRule::CommonFactor => "CommonFactor",
         }
     }
 
@@ -222,6 +227,7 @@ impl StrictRule {
             StrictRule::FrameRate => "A.3.1",
             StrictRule::ScheduleOrder => "E.2.2",
             StrictRule::ScheduleLimits => "A.3.1",
+            StrictRule::CommonFactor => "E.2.1",
         }
     }
 }

@@ -6,6 +6,7 @@ ghost use Rattle.h264_report.specs.StrictSets.{no_set, set_of_profile, set_after
 ghost use Rattle.h264_report.specs.StrictSets.{needs_inference, holds_no_frame, is_baseline, is_in_order, is_timed, outruns, is_too_fast, vector_limit};
 
 use crate::strict_levels::{bit_limits, max_mbps, max_vectors};
+use crate::strict_ratio::is_reducible;
 use crate::strict_rule::{StrictRule, broken_if};
 use crate::strict_schedules::{Schedules, rises, rises_not};
 use h264_base::ElementName;
@@ -47,6 +48,7 @@ pub struct SetFacts {
     pub constraint_set3_flag: bool,
     pub level_idc: u64,
     pub max_num_ref_frames: u64,
+    pub sar_width: u64,
     /// PicWidthInMbs.
     pub width: u64,
     /// PicSizeInMbs, counted in 64 bits.
@@ -116,6 +118,7 @@ fn set_of_profile(id: Option<u64>, is_alone: bool, profile_idc: u64) -> SetFacts
         constraint_set3_flag: false,
         level_idc: 0,
         max_num_ref_frames: 0,
+        sar_width: 0,
         width: 0,
         size: 0,
         num_units_in_tick: 0,
@@ -182,6 +185,7 @@ impl SetFacts {
             ElementName::PicHeightInMapUnitsMinus1 => {
                 self.size = self.width.saturating_mul(value.saturating_add(1));
             }
+            ElementName::SarWidth => self.sar_width = value,
             ElementName::NumUnitsInTick => self.num_units_in_tick = value,
             ElementName::TimeScale => self.time_scale = value,
             ElementName::FixedFrameRateFlag => self.fixed_frame_rate_flag = is_set,
@@ -222,6 +226,10 @@ impl SetFacts {
             ElementName::Direct8x8InferenceFlag => broken_if(
                 value == 0 && self.needs_inference(),
                 StrictRule::DirectInference,
+            ),
+            ElementName::SarHeight => broken_if(
+                is_reducible(self.sar_width, value),
+                StrictRule::CommonFactor,
             ),
             ElementName::LowDelayHrdFlag => broken_if(
                 value != 0 && self.fixed_frame_rate_flag,
