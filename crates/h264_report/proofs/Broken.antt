@@ -8,9 +8,9 @@ use Rattle.h264_base.specs.Call.{Call, Tells, OfUnit, OfSlice, OfElement, OfFram
 use Rattle.h264_base.specs.declared.element_name.ElementName.{ElementName}
 use Rattle.h264_base.specs.declared.mode.SliceType.{SliceType}
 use Rattle.h264_report.specs.Chosen.{count_in}
-use Rattle.h264_report.specs.Strict.{after, after_element, after_unit, broken_by_element, by_order, by_numbers, by_time, has_other_length, picture_in, first_bit}
+use Rattle.h264_report.specs.Strict.{after, after_element, after_unit, broken_by_element, after_slice, by_order, by_numbers, by_time, by_beginning, by_bytes}
+use Rattle.h264_report.specs.Strict.{has_other_length, picture_in, first_bit}
 use Rattle.h264_report.specs.Strict.{standing_after, places, bits_for, bit_of, broken_by, with_place, with_places, start, found_of, Advances, TookStrict}
-use Rattle.h264_report.specs.StrictPictures.{pictures_after}
 use Rattle.h264_report.specs.StrictRules.{broken_if, listed, place_of}
 use Rattle.h264_report.specs.declared.strict_rule.StrictRule.{StrictRule}
 use Rattle.h264_report.specs.declared.strict_rule.StrictRule.TheVariants as rules
@@ -72,7 +72,7 @@ module _ (found : List (Option Places)) (rule r : StrictRule) (bit : ℕ) (withi
     go (inr e) = get_or-set_other found (place_of rule) (place_of r) noted None (λ q. e.1 (sym q)) ∙ elsewhere e.0
 
 -- the places of no calls
-pub none-found : (r : StrictRule) → get_or (None ∷ None ∷ None ∷ None ∷ None ∷ None ∷ None ∷ None ∷ None ∷ None ∷ None ∷ None ∷ None ∷ None ∷ None ∷ None ∷ None ∷ None ∷ None ∷ None ∷ None ∷ None ∷ None ∷ None ∷ None ∷ None ∷ None ∷ None ∷ None ∷ None ∷ None ∷ []) (place_of r) None ≡ with_places None (places r start [])
+pub none-found : (r : StrictRule) → get_or (None ∷ None ∷ None ∷ None ∷ None ∷ None ∷ None ∷ None ∷ None ∷ None ∷ None ∷ None ∷ None ∷ None ∷ None ∷ None ∷ None ∷ None ∷ None ∷ None ∷ None ∷ None ∷ None ∷ None ∷ None ∷ None ∷ None ∷ None ∷ None ∷ None ∷ None ∷ None ∷ []) (place_of r) None ≡ with_places None (places r start [])
 unfolding with_places places place_of
 none-found rules.ReservedBits = refl
 none-found rules.AspectRatio = refl
@@ -105,6 +105,7 @@ none-found rules.FrameRate = refl
 none-found rules.ScheduleOrder = refl
 none-found rules.ScheduleLimits = refl
 none-found rules.CommonFactor = refl
+none-found rules.PictureBytes = refl
 
 pub none-stands : start ≡ standing_after start []
 unfolding standing_after
@@ -135,7 +136,7 @@ noted-more r bit old mid new xs ys first second =
 abbrev pub Notes : Strict → Strict → ℕ → List StrictRule → Type 0
 Notes old new bit broken = (r : StrictRule) → found_of new r ≡ with_places (found_of old r) (bits_for r bit broken)
 
-pub unit-advances : (old mid new : Strict) (byte kind ref_idc length : ℕ) → new.standing ≡ after_unit old.standing kind ref_idc →
+pub unit-advances : (old mid new : Strict) (byte kind ref_idc length : ℕ) → new.standing ≡ after_unit old.standing kind ref_idc length →
     Notes old mid (first_bit byte) (listed (by_order old.standing kind ref_idc) ++ listed (broken_if (has_other_length kind length) rules.UnitLength)) →
     Notes mid new (first_bit byte) (listed (broken_if old.standing.ended rules.AfterEndOfStream)) → Advances (OfUnit byte kind ref_idc length) old new
 unfolding after broken_by
@@ -157,25 +158,28 @@ tells-other n e = go (eqb_tells n 0) where
   go (inr f) = f.0
 
 -- a slice that begins a picture
-pub slice-advances : (old mid new : Strict) (byte mb : ℕ) (kind : SliceType) (frame_num : ℕ) (count : ℤ) → mb == 0 ≡ true →
-    new.standing ≡ record old.standing { pictures = pictures_after old.standing.pictures (picture_in old.standing frame_num count) } →
-    Notes old mid (first_bit byte) (by_numbers old.standing (picture_in old.standing frame_num count)) →
-    Notes mid new (first_bit byte) (by_time old.standing (picture_in old.standing frame_num count)) → Advances (OfSlice byte mb kind frame_num count) old new
-unfolding after broken_by
-slice-advances old mid new byte mb kind frame_num count begins stands first second =
-    let picture = picture_in old.standing frame_num count in (
-      stands ∙ sym (cond-true _ _ _ begins),
-      λ r. noted-more r (first_bit byte) (found_of old r) (found_of mid r) (found_of new r) (by_numbers old.standing picture) (by_time old.standing picture) (first r) (second r)
-          ∙ sym (ap (λ l. with_places (found_of old r) (bits_for r (first_bit byte) l)) (cond-true _ _ _ begins)),
-    )
+pub picture-begins : (old mid new : Strict) (bit mb frame_num : ℕ) (count : ℤ) → mb == 0 ≡ true →
+    Notes old mid bit (by_numbers old.standing (picture_in old.standing frame_num count)) →
+    Notes mid new bit (by_time old.standing (picture_in old.standing frame_num count)) → Notes old new bit (by_beginning old.standing mb frame_num count)
+picture-begins old mid new bit mb frame_num count begins first second r =
+    let picture = picture_in old.standing frame_num count in
+    noted-more r bit (found_of old r) (found_of mid r) (found_of new r) (by_numbers old.standing picture) (by_time old.standing picture) (first r) (second r)
+    ∙ sym (ap (λ l. with_places (found_of old r) (bits_for r bit l)) (cond-true _ _ _ begins))
 
 -- a later slice of a picture
-pub later-advances : (s : Strict) (byte mb : ℕ) (kind : SliceType) (frame_num : ℕ) (count : ℤ) → mb == 0 ≡ false → Advances (OfSlice byte mb kind frame_num count) s s
-unfolding after broken_by bits_for with_places
-later-advances s byte mb kind frame_num count later = (
-  sym (cond-false _ _ _ later),
-  λ r. sym (ap (λ l. with_places (found_of s r) (bits_for r (first_bit byte) l)) (cond-false _ _ _ later)),
-)
+pub none-begins : (s : Strict) (bit mb frame_num : ℕ) (count : ℤ) → mb == 0 ≡ false → Notes s s bit (by_beginning s.standing mb frame_num count)
+unfolding bits_for with_places
+none-begins s bit mb frame_num count later r = sym (ap (λ l. with_places (found_of s r) (bits_for r bit l)) (cond-false _ _ _ later))
+
+pub slice-advances : (old mid new : Strict) (byte mb : ℕ) (kind : SliceType) (frame_num : ℕ) (count : ℤ) →
+    new.standing ≡ after_slice old.standing mb frame_num count →
+    Notes old mid (first_bit byte) (by_beginning old.standing mb frame_num count) →
+    Notes mid new (first_bit byte) (listed (broken_if (by_bytes old.standing mb) rules.PictureBytes)) → Advances (OfSlice byte mb kind frame_num count) old new
+unfolding after broken_by
+slice-advances old mid new byte mb kind frame_num count stands first second =
+    let beginning = by_beginning old.standing mb frame_num count in
+    let bytes = listed (broken_if (by_bytes old.standing mb) rules.PictureBytes) in
+    (stands, λ r. noted-more r (first_bit byte) (found_of old r) (found_of mid r) (found_of new r) beginning bytes (first r) (second r))
 
 -- a frame
 pub frame-advances : (s : Strict) (count : ℤ) (width height : ℕ) (bytes : List ℕ) → Advances (OfFrame count width height bytes) s s

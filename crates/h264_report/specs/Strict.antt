@@ -7,7 +7,8 @@ use Rattle.h264_base.specs.declared.element_name.ElementName.TheVariants as name
 use Rattle.h264_report.specs.Chosen.{count_in, grown}
 use Rattle.h264_report.specs.StrictPictures.{no_pictures, repeats_number, by_count, pictures_after}
 use Rattle.h264_report.specs.StrictRules.{place_of, broken_if, listed}
-use Rattle.h264_report.specs.StrictSets.{no_set, set_after, by_set, by_limits, holds_no_frame, is_baseline, is_in_order, is_too_fast, vector_limit}
+use Rattle.h264_report.specs.StrictSets.{no_set, set_after, by_set, by_limits, holds_no_frame, is_baseline, is_in_order, is_too_fast}
+use Rattle.h264_report.specs.StrictSets.{are_too_many_bytes, vector_limit}
 use Rattle.h264_report.specs.StrictVectors.{no_vectors, vectors_after, by_vectors}
 use Rattle.h264_report.specs.declared.strict_pictures.NewPicture.{NewPicture}
 use Rattle.h264_report.specs.declared.strict_rule.StrictRule.{StrictRule}
@@ -76,8 +77,10 @@ start = record {
   begun = false;
   ended = false;
   is_reference = false;
+  unit_length = 0;
   set = no_set;
   pictures = no_pictures;
+  picture_bytes = 0;
   vectors = no_vectors;
 }
 
@@ -88,11 +91,12 @@ after_element s name v = record s {
   vectors = vectors_after s.vectors name v;
 }
 
-abbrev pub after_unit : Standing → ℕ → ℕ → Standing
-after_unit s kind ref_idc = record s {
+abbrev pub after_unit : Standing → ℕ → ℕ → ℕ → Standing
+after_unit s kind ref_idc length = record s {
   begun = begins_access_unit kind || s.begun && not (kind == 1 || kind == 5);
   ended = s.ended || (kind == 11);
   is_reference = not (ref_idc == 0);
+  unit_length = length;
 }
 
 -- the picture that a slice begins
@@ -106,11 +110,21 @@ picture_in s frame_num count = record {
 }
 
 -- the slice of macroblock 0 begins a picture
+abbrev pub after_beginning : Standing → ℕ → ℕ → ℤ → Standing
+after_beginning s mb frame_num count = if mb == 0 then record s { pictures = pictures_after s.pictures (picture_in s frame_num count) } else s
+
+-- NumBytesInNALunit of the picture's slices before the one that is read, and with it
+abbrev pub bytes_before : Standing → ℕ → ℕ
+bytes_before s mb = if mb == 0 then 0 else s.picture_bytes
+
+abbrev pub bytes_with : Standing → ℕ → ℕ
+bytes_with s mb = grown (bytes_before s mb) s.unit_length
+
 abbrev pub after_slice : Standing → ℕ → ℕ → ℤ → Standing
-after_slice s mb frame_num count = if mb == 0 then record s { pictures = pictures_after s.pictures (picture_in s frame_num count) } else s
+after_slice s mb frame_num count = record (after_beginning s mb frame_num count) { picture_bytes = bytes_with s mb }
 
 unfoldable pub after : Standing → Call → Standing
-after s (OfUnit byte kind ref_idc length) = after_unit s kind ref_idc
+after s (OfUnit byte kind ref_idc length) = after_unit s kind ref_idc length
 after s (OfElement name bit v) = after_element s name (count_in v)
 after s (OfSlice byte mb kind frame_num count) = after_slice s mb frame_num count
 after s call = s
@@ -143,6 +157,17 @@ by_time s p = listed (by_count s.pictures (is_in_order s.set) p) ++ listed (brok
 abbrev pub by_picture : Standing → NewPicture → List StrictRule
 by_picture s p = by_numbers s p ++ by_time s p
 
+-- the rules that a slice breaks by the picture that it begins
+abbrev pub by_beginning : Standing → ℕ → ℕ → ℤ → List StrictRule
+by_beginning s mb frame_num count = if mb == 0 then by_picture s (picture_in s frame_num count) else []
+
+-- It is the slice with which its picture has too many bytes (E.2.1).
+abbrev pub by_bytes : Standing → ℕ → Bool
+by_bytes s mb = not (are_too_many_bytes s.set (bytes_before s mb)) && are_too_many_bytes s.set (bytes_with s mb)
+
+abbrev pub by_slice : Standing → ℕ → ℕ → ℤ → List StrictRule
+by_slice s mb frame_num count = by_beginning s mb frame_num count ++ listed (broken_if (by_bytes s mb) rules.PictureBytes)
+
 abbrev pub by_unit : Standing → ℕ → ℕ → ℕ → List StrictRule
 by_unit s kind ref_idc length =
     (listed (by_order s kind ref_idc) ++ listed (broken_if (has_other_length kind length) rules.UnitLength))
@@ -151,7 +176,7 @@ by_unit s kind ref_idc length =
 unfoldable pub broken_by : Standing → Call → List StrictRule
 broken_by s (OfUnit byte kind ref_idc length) = by_unit s kind ref_idc length
 broken_by s (OfElement name bit v) = broken_by_element s name (count_in v)
-broken_by s (OfSlice byte mb kind frame_num count) = if mb == 0 then by_picture s (picture_in s frame_num count) else []
+broken_by s (OfSlice byte mb kind frame_num count) = by_slice s mb frame_num count
 broken_by s call = []
 
 -- the first bit of a byte, in 64 bits

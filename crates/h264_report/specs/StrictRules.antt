@@ -36,6 +36,7 @@ place_of rules.FrameRate = 27
 place_of rules.ScheduleOrder = 28
 place_of rules.ScheduleLimits = 29
 place_of rules.CommonFactor = 30
+place_of rules.PictureBytes = 31
 
 unfoldable pub label_of : StrictRule → List ℕ
 label_of rules.ReservedBits = codes "ReservedBits"
@@ -69,6 +70,7 @@ label_of rules.FrameRate = codes "FrameRate"
 label_of rules.ScheduleOrder = codes "ScheduleOrder"
 label_of rules.ScheduleLimits = codes "ScheduleLimits"
 label_of rules.CommonFactor = codes "CommonFactor"
+label_of rules.PictureBytes = codes "PictureBytes"
 
 -- the clause of H.264 that states it
 unfoldable pub clause_of : StrictRule → List ℕ
@@ -103,6 +105,7 @@ clause_of rules.FrameRate = codes "A.3.1"
 clause_of rules.ScheduleOrder = codes "E.2.2"
 clause_of rules.ScheduleLimits = codes "A.3.1"
 clause_of rules.CommonFactor = codes "E.2.1"
+clause_of rules.PictureBytes = codes "E.2.1"
 
 -- a rule, if it is broken
 abbrev pub broken_if : Bool → StrictRule → Option StrictRule

@@ -25,6 +25,7 @@ set_of_profile id is_alone profile_idc = record {
   level_idc = 0;
   max_num_ref_frames = 0;
   sar_width = 0;
+  max_bytes_per_pic_denom = 0;
   width = 0;
   size = 0;
   num_units_in_tick = 0;
@@ -66,6 +67,7 @@ set_after set names.NumUnitsInTick v = record set { num_units_in_tick = v }
 set_after set names.TimeScale v = record set { time_scale = v }
 set_after set names.FixedFrameRateFlag v = record set { fixed_frame_rate_flag = not (v == 0) }
 set_after set names.PicStructPresentFlag v = record set { pic_struct_present_flag = not (v == 0) }
+set_after set names.MaxBytesPerPicDenom v = record set { max_bytes_per_pic_denom = v }
 set_after set names.MaxNumReorderFrames v = record set { keeps_order = v == 0 }
 set_after set name v = record set { schedules = schedules_after set.level_idc set.constraint_set3_flag set.schedules name v }
 
@@ -138,6 +140,13 @@ outruns set (Some mbps) =
 
 abbrev pub is_too_fast : SetFacts → Bool
 is_too_fast set = set.is_alone && (is_timed set && outruns set (max_mbps set.level_idc set.constraint_set3_flag))
+
+-- So many bytes of a picture are more than (PicSizeInMbs * RawMbBits) / (8 * max_bytes_per_pic_denom), where that is told and not 0 (E.2.1). RawMbBits is
+-- 3072 with 8 bits a sample in 4:2:0.
+abbrev pub are_too_many_bytes : SetFacts → ℕ → Bool
+are_too_many_bytes set bytes =
+    set.is_alone
+    && (not (set.max_bytes_per_pic_denom == 0) && nat_lt (times set.size 3072) (times (times bytes 8) set.max_bytes_per_pic_denom))
 
 -- MaxMvsPer2Mb
 abbrev pub vector_limit : SetFacts → Option ℕ

@@ -8,6 +8,7 @@ ghost use Rattle.h264_report.specs.declared.strict_rule.StrictRule.{StrictRule};
 ghost use Rattle.h264_report.specs.StrictRules.{listed};
 ghost use Rattle.h264_report.specs.Strict.{by_marking, marking_after, by_macroblock, by_element, by_order, has_other_length, picture_in, has_idr_count};
 ghost use Rattle.h264_report.specs.Strict.{comes_too_soon, by_numbers, by_time, after_element, after_unit, start, with_place, first_bit};
+ghost use Rattle.h264_report.specs.Strict.{after_beginning, by_beginning, bytes_before, bytes_with, by_bytes};
 ghost use Rattle.h264_report.specs.Strict.{TookStrict, Advances, found_of, with_places, bits_for};
 
 use crate::strict_pictures::{NewPicture, Pictures};
@@ -88,8 +89,12 @@ pub struct Standing {
     pub ended: bool,
     /// nal_ref_idc of the unit that is read is not 0.
     pub is_reference: bool,
+    /// NumBytesInNALunit of the unit that is read.
+    pub unit_length: u64,
     pub set: SetFacts,
     pub pictures: Pictures,
+    /// NumBytesInNALunit of the slices of the last picture so far, in sum.
+    pub picture_bytes: u64,
     pub vectors: Vectors,
 }
 
@@ -122,8 +127,10 @@ impl Standing {
             begun: false,
             ended: false,
             is_reference: false,
+            unit_length: 0,
             set: SetFacts::new(),
             pictures: Pictures::new(),
+            picture_bytes: 0,
             vectors: Vectors::new(),
         }
     }
@@ -211,9 +218,37 @@ impl Standing {
         self.vectors.note(name, value);
     }
 
+    /// The bytes of the picture before the slice that is read.
+    fn bytes_before(&self, first_mb_in_slice: u32) -> u64
+        ensures { result ≡ bytes_before self.now first_mb_in_slice }
+    {
+        if first_mb_in_slice == 0 {
+            0
+        } else {
+            self.picture_bytes
+        }
+    }
+
+    /// The bytes of the picture with the slice that is read.
+    fn bytes_with(&self, first_mb_in_slice: u32) -> u64
+        ensures { result ≡ bytes_with self.now first_mb_in_slice }
+    {
+        self.bytes_before(first_mb_in_slice)
+            .saturating_add(self.unit_length)
+    }
+
+    /// Whether the slice that is read is the one with which its picture has too many bytes.
+    fn by_bytes(&self, first_mb_in_slice: u32) -> bool
+        ensures { result ≡ by_bytes self.now first_mb_in_slice }
+    {
+        let before = self.bytes_before(first_mb_in_slice);
+        let with = self.bytes_with(first_mb_in_slice);
+        !self.set.are_too_many_bytes(before) && self.set.are_too_many_bytes(with)
+    }
+
     /// Notes a unit.
-    fn note_unit(&mut self, nal_unit_type: u8, nal_ref_idc: u8)
-        ensures { self.new ≡ after_unit self.old nal_unit_type nal_ref_idc }
+    fn note_unit(&mut self, nal_unit_type: u8, nal_ref_idc: u8, length: u64)
+        ensures { self.new ≡ after_unit self.old nal_unit_type nal_ref_idc length }
     {
         let is_slice = nal_unit_type == 1 || nal_unit_type == 5;
         let begins = 6 <= nal_unit_type && nal_unit_type <= 9
@@ -221,6 +256,7 @@ impl Standing {
         self.begun = begins || self.begun && !is_slice;
         self.ended = self.ended || nal_unit_type == END_OF_STREAM;
         self.is_reference = nal_ref_idc != 0;
+        self.unit_length = length;
     }
 }
 
@@ -311,7 +347,7 @@ impl Strict {
         let ended = self.standing.ended;
         self.note_two(order, broken_if(is_other, StrictRule::UnitLength), bit);
         self.note(broken_if(ended, StrictRule::AfterEndOfStream), bit);
-        self.standing.note_unit(nal_unit_type, nal_ref_idc);
+        self.standing.note_unit(nal_unit_type, nal_ref_idc, length);
     }
 
     /// Notes an element.
@@ -349,17 +385,30 @@ impl Strict {
         self.note_two(order, broken_if(is_too_soon, StrictRule::FrameRate), bit);
     }
 
-    /// Notes a slice; that of macroblock 0 begins a picture.
-    pub fn note_slice(&mut self, byte: u64, first_mb_in_slice: u32, frame_num: u32, count: i32)
-        ensures { (kind : SliceType) → Advances (OfSlice byte first_mb_in_slice kind frame_num count) self.old self.new }
+    /// Notes the picture that a slice begins; that of macroblock 0 does.
+    fn note_beginning(&mut self, first_mb_in_slice: u32, frame_num: u32, count: i32, bit: u64)
+        ensures standing { self.new.standing ≡ after_beginning self.old.standing first_mb_in_slice frame_num count }
+        ensures found { (r : StrictRule) → found_of self.new r ≡
+            with_places (found_of self.old r) (bits_for r bit (by_beginning self.old.standing first_mb_in_slice frame_num count)) }
     {
         if first_mb_in_slice != 0 {
             return;
         }
         let picture = self.standing.picture_in(frame_num, count);
-        let bit = first_bit(byte);
         self.note_numbers(picture, bit);
         self.note_time(picture, bit);
         self.standing.pictures.note(picture);
+    }
+
+    /// Notes a slice.
+    pub fn note_slice(&mut self, byte: u64, first_mb_in_slice: u32, frame_num: u32, count: i32)
+        ensures { (kind : SliceType) → Advances (OfSlice byte first_mb_in_slice kind frame_num count) self.old self.new }
+    {
+        let bit = first_bit(byte);
+        let passes = self.standing.by_bytes(first_mb_in_slice);
+        let bytes = self.standing.bytes_with(first_mb_in_slice);
+        self.note_beginning(first_mb_in_slice, frame_num, count, bit);
+        self.note(broken_if(passes, StrictRule::PictureBytes), bit);
+        self.standing.picture_bytes = bytes;
     }
 }

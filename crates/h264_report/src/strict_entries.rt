@@ -256,6 +256,14 @@ const ENTRIES: [StrictEntry; STRICT_RULES] = [
         cause: "The ratio was not brought to its lowest terms: 4:6 is 2:3. An aspect ratio of the picture was written in place of one of its samples.",
         example: "sar_width 4 and sar_height 6",
     },
+    StrictEntry {
+        rule: StrictRule::PictureBytes,
+        breaks: "The units of a picture's slices have more bytes than PicSizeInMbs * 384 / max_bytes_per_pic_denom, where \
+            max_bytes_per_pic_denom is told and not 0.",
+        bit: "The first bit of the unit of the slice with which there are more.",
+        cause: "The encoder wrote a promise on sizes that its rate control does not keep. max_bytes_per_pic_denom 0 promises nothing.",
+        example: "30 bytes in a picture of one macroblock, and max_bytes_per_pic_denom 16",
+    },
 ];
 
 /// The first of these entries whose rule has this label.

@@ -69,6 +69,8 @@ pub enum StrictRule {
     ScheduleLimits,
     /// sar_width and sar_height are relatively prime, or one of them is 0 (E.2.1).
     CommonFactor,
+    /// A picture has no more bytes than max_bytes_per_pic_denom promises (E.2.1).
+    PictureBytes,
 }
 
 /// Every rule, by its place.
@@ -104,10 +106,11 @@ pub const EVERY_STRICT_RULE: [StrictRule; STRICT_RULES] = [
     StrictRule::ScheduleOrder,
     StrictRule::ScheduleLimits,
     StrictRule::CommonFactor,
+    StrictRule::PictureBytes,
 ];
 
 /// How many rules there are.
-pub const STRICT_RULES: usize = 31;
+pub const STRICT_RULES: usize = 32;
 
 impl StrictRule {
     /// Its place among them, from 0.
@@ -148,6 +151,7 @@ impl StrictRule {
             StrictRule::ScheduleOrder => 28,
             StrictRule::ScheduleLimits => 29,
             StrictRule::CommonFactor => 30,
+            StrictRule::PictureBytes => 31,
         }
     }
 
@@ -188,6 +192,7 @@ impl StrictRule {
             StrictRule::ScheduleOrder => "ScheduleOrder",
             StrictRule::ScheduleLimits => "ScheduleLimits",
             StrictRule::CommonFactor => "CommonFactor",
+            StrictRule::PictureBytes => "PictureBytes",
         }
     }
 
@@ -228,6 +233,7 @@ impl StrictRule {
             StrictRule::ScheduleOrder => "E.2.2",
             StrictRule::ScheduleLimits => "A.3.1",
             StrictRule::CommonFactor => "E.2.1",
+            StrictRule::PictureBytes => "E.2.1",
         }
     }
 }

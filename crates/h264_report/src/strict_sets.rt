@@ -3,7 +3,7 @@
 
 ghost use Rattle.std.specs.Prelude.{◌≡◌};
 ghost use Rattle.h264_report.specs.StrictSets.{no_set, set_of_profile, set_after, is_other, with_id, by_value, by_set, by_limits};
-ghost use Rattle.h264_report.specs.StrictSets.{needs_inference, holds_no_frame, is_baseline, is_in_order, is_timed, outruns, is_too_fast, vector_limit};
+ghost use Rattle.h264_report.specs.StrictSets.{needs_inference, holds_no_frame, is_baseline, is_in_order, is_timed, outruns, is_too_fast, are_too_many_bytes, vector_limit};
 
 use crate::strict_levels::{bit_limits, max_mbps, max_vectors};
 use crate::strict_ratio::is_reducible;
@@ -25,6 +25,9 @@ const LEVEL_1_1: u64 = 11;
 
 /// level_idc of level 3, from which on Main asks for direct_8x8_inference_flag (table A-4).
 const LEVEL_3: u64 = 30;
+
+/// RawMbBits, of 8 bits a sample in 4:2:0 (7.4.2.1.1).
+const RAW_MB_BITS: u64 = 3072;
 
 /// The most frames a second at any level, 1 / fR (A.3.1).
 const MOST_FRAMES: u64 = 172;
@@ -49,6 +52,8 @@ pub struct SetFacts {
     pub level_idc: u64,
     pub max_num_ref_frames: u64,
     pub sar_width: u64,
+    /// 0 where it is not told.
+    pub max_bytes_per_pic_denom: u64,
     /// PicWidthInMbs.
     pub width: u64,
     /// PicSizeInMbs, counted in 64 bits.
@@ -119,6 +124,7 @@ fn set_of_profile(id: Option<u64>, is_alone: bool, profile_idc: u64) -> SetFacts
         level_idc: 0,
         max_num_ref_frames: 0,
         sar_width: 0,
+        max_bytes_per_pic_denom: 0,
         width: 0,
         size: 0,
         num_units_in_tick: 0,
@@ -190,6 +196,7 @@ impl SetFacts {
             ElementName::TimeScale => self.time_scale = value,
             ElementName::FixedFrameRateFlag => self.fixed_frame_rate_flag = is_set,
             ElementName::PicStructPresentFlag => self.pic_struct_present_flag = is_set,
+            ElementName::MaxBytesPerPicDenom => self.max_bytes_per_pic_denom = value,
             ElementName::MaxNumReorderFrames => self.keeps_order = value == 0,
             _ => {
                 self.schedules
@@ -315,6 +322,17 @@ impl SetFacts {
         self.is_alone
             && self.is_timed()
             && self.outruns(max_mbps(self.level_idc, self.constraint_set3_flag))
+    }
+
+    /// Whether the active set is known, and allows a picture fewer bytes.
+    pub fn are_too_many_bytes(&self, bytes: u64) -> bool
+        ensures { result ≡ are_too_many_bytes self.now bytes }
+    {
+        let raw = self.size.saturating_mul(RAW_MB_BITS);
+        let bits = bytes.saturating_mul(8);
+        self.is_alone
+            && self.max_bytes_per_pic_denom != 0
+            && raw < bits.saturating_mul(self.max_bytes_per_pic_denom)
     }
 
     /// MaxMvsPer2Mb of the active set; none where it is not known, or where its level has no limit.
