@@ -3,7 +3,8 @@
 
 ghost use Rattle.std.specs.Prelude.{◌≡◌};
 ghost use Rattle.h264_report.specs.StrictSets.{no_set, set_of_profile, set_after, is_other, with_id, by_value, by_set, by_limits};
-ghost use Rattle.h264_report.specs.StrictSets.{needs_inference, holds_no_frame, is_baseline, is_in_order, is_timed, outruns, is_too_fast, are_too_many_bytes, vector_limit};
+ghost use Rattle.h264_report.specs.StrictSets.{needs_inference, holds_no_frame, is_baseline, is_in_order, is_timed, outruns, is_too_fast};
+ghost use Rattle.h264_report.specs.StrictSets.{are_too_many_bytes, vector_limit};
 
 use crate::strict_levels::{bit_limits, max_mbps, max_vectors};
 use crate::strict_ratio::is_reducible;
