@@ -16,10 +16,10 @@ ghost use Rattle.h264_mbsyntax.specs.Possible.{IsRead};
 use crate::intra::{fits_luma, read_block_modes, read_chroma_mode};
 use crate::residual::{Residual, read_coefficients, read_coefficients16};
 use h264_base::{ElementName, Elements, Rule, SliceType, Stop};
-use h264_bits::{Bits, check, read_align, read_bytes, read_ue};
+use h264_bits::{Bits, Found, check, read_align, read_bytes, read_ue};
 use h264_near::{Contexts, Motion, Near};
 use h264_tables::Table;
-use h264_vectors::{SliceContext, read_motions};
+use h264_vectors::{SliceContext, Surroundings, read_motions};
 
 /// How a macroblock is predicted.
 #[derive(Clone, Copy)]
@@ -161,26 +161,28 @@ fn begin_inter(mb: &mut Macroblock, slice: u32, whole: bool)
 /// Reads what follows mb_type of an I_4x4 macroblock. `qp` is QP_Y,PRED.
 fn read_intra4x4<S: Elements>(
     bits: &mut Bits,
-    near: &Near,
-    slice: &SliceContext,
+    around: Surroundings,
     qp: u8,
     mb: &mut Macroblock,
     sink: &mut S,
 ) -> Result<(), Stop>
     requires qp { qp ≤ 51 }
     requires room { HasRoom S.failures sink.old }
-    ensures meets { (width : ℕ) (picture : List CodedMacroblock) → Keeps width picture near.now → qp ≡ syntax.predicted_qp slice.now picture →
-        Meets S.took S.failures (λ _ m. HoldsMacroblock mb.new m) (syntax.intra4x4 width slice.now picture) bits.old bits.new sink.old sink.new result }
+    ensures meets { (width : ℕ) (picture : List CodedMacroblock) → Keeps width picture around.entry.near.now →
+        qp ≡ syntax.predicted_qp around.entry.slice.now picture →
+        Meets S.took S.failures (λ _ m. HoldsMacroblock mb.new m) (syntax.intra4x4 width around.entry.slice.now picture)
+        bits.old bits.new sink.old sink.new result }
     ensures quiet { OnOk result (IsQuiet S.failures sink.old sink.new) }
     ensures within { OnOk result (mb.new.qp ≤ 51) }
-    ensures same { OnOk result (mb.new.contexts.slice ≡ slice.now.number) }
+    ensures same { OnOk result (mb.new.contexts.slice ≡ around.entry.slice.now.number) }
 {
+    let Surroundings { near, slice } = around;
     let modes = read_block_modes(bits, near, slice.number, slice.constrained_intra, sink)?;
     let samples = near.samples(slice.number, slice.constrained_intra, &[0; 16], 0);
     let chroma_mode = read_chroma_mode(bits, samples, sink)?;
     begin_intra(mb, Kind::Intra4x4, slice.number, modes, chroma_mode);
     let table = Table::CodedBlockPatternIntra;
-    read_coefficients(bits, near, slice.number, qp, table, mb, sink)
+    read_coefficients(bits, around, qp, table, mb, sink)
 }
 
 /// Reads the samples of I_PCM. `qp` is QP_Y,PRED, which stays.
@@ -224,28 +226,28 @@ fn pattern_of(kind: u32) -> u8
 /// Reads what follows mb_type of an Intra 16x16 macroblock. `qp` is QP_Y,PRED.
 fn read_intra16x16<S: Elements>(
     bits: &mut Bits,
-    near: &Near,
-    slice: &SliceContext,
+    around: Surroundings,
     qp: u8,
-    bit: u64,
-    kind: u32,
+    mb_type: Found<u32>,
     mb: &mut Macroblock,
     sink: &mut S,
 ) -> Result<(), Stop>
-    requires some { 0 < kind }
-    requires few { kind < 25 }
+    requires some { 0 < mb_type.value }
+    requires few { mb_type.value < 25 }
     requires qp { qp ≤ 51 }
     requires room { HasRoom S.failures sink.old }
-    ensures meets { (width : ℕ) (picture : List CodedMacroblock) → Keeps width picture near.now → qp ≡ syntax.predicted_qp slice.now picture →
-        Meets S.took S.failures (λ _ m. HoldsMacroblock mb.new m) (syntax.intra16x16 width slice.now picture bit kind)
+    ensures meets { (width : ℕ) (picture : List CodedMacroblock) → Keeps width picture around.entry.near.now →
+        qp ≡ syntax.predicted_qp around.entry.slice.now picture →
+        Meets S.took S.failures (λ _ m. HoldsMacroblock mb.new m) (syntax.intra16x16 width around.entry.slice.now picture mb_type.bit mb_type.value)
         bits.old bits.new sink.old sink.new result }
     ensures quiet { OnOk result (IsQuiet S.failures sink.old sink.new) }
     ensures within { OnOk result (mb.new.qp ≤ 51) }
-    ensures same { OnOk result (mb.new.contexts.slice ≡ slice.now.number) }
+    ensures same { OnOk result (mb.new.contexts.slice ≡ around.entry.slice.now.number) }
 {
+    let Surroundings { near, slice } = around;
     let samples = near.samples(slice.number, slice.constrained_intra, &[0; 16], 0);
-    let mode = ((kind - 1) % 4) as u8;
-    check(fits_luma(mode, samples), Rule::IntraMode, bit)?;
+    let mode = ((mb_type.value - 1) % 4) as u8;
+    check(fits_luma(mode, samples), Rule::IntraMode, mb_type.bit)?;
     let chroma_mode = read_chroma_mode(bits, samples, sink)?;
     begin_intra(
         mb,
@@ -254,95 +256,99 @@ fn read_intra16x16<S: Elements>(
         [2; 16],
         chroma_mode,
     );
-    let pattern = pattern_of(kind);
-    read_coefficients16(bits, near, slice.number, qp, pattern, mb, sink)
+    let pattern = pattern_of(mb_type.value);
+    read_coefficients16(bits, around, qp, pattern, mb, sink)
 }
 
 /// Reads an inter macroblock by its mb_type in P slices, 0 to 4. `qp` is QP_Y,PRED.
 fn read_inter<S: Elements>(
     bits: &mut Bits,
-    near: &Near,
-    slice: &SliceContext,
+    around: Surroundings,
     qp: u8,
-    bit: u64,
-    kind: u32,
+    mb_type: Found<u32>,
     mb: &mut Macroblock,
     sink: &mut S,
 ) -> Result<(), Stop>
     requires qp { qp ≤ 51 }
-    requires usable { Usable slice.now }
+    requires usable { Usable around.slice.now }
     requires room { HasRoom S.failures sink.old }
-    ensures meets { (width : ℕ) (picture : List CodedMacroblock) → Keeps width picture near.now → qp ≡ syntax.predicted_qp slice.now picture →
-        Meets S.took S.failures (λ _ m. HoldsMacroblock mb.new m) (syntax.inter width slice.now picture bit kind) bits.old bits.new sink.old sink.new result }
+    ensures meets { (width : ℕ) (picture : List CodedMacroblock) → Keeps width picture around.entry.near.now →
+        qp ≡ syntax.predicted_qp around.entry.slice.now picture →
+        Meets S.took S.failures (λ _ m. HoldsMacroblock mb.new m) (syntax.inter width around.entry.slice.now picture mb_type.bit mb_type.value)
+        bits.old bits.new sink.old sink.new result }
     ensures quiet { OnOk result (IsQuiet S.failures sink.old sink.new) }
     ensures within { OnOk result (mb.new.qp ≤ 51) }
-    ensures same { OnOk result (mb.new.contexts.slice ≡ slice.now.number) }
+    ensures same { OnOk result (mb.new.contexts.slice ≡ around.entry.slice.now.number) }
 {
-    begin_inter(mb, slice.number, kind == 0);
-    let fits = read_motions(bits, near, slice, bit, kind, &mut mb.contexts.motions, sink)?;
+    begin_inter(mb, around.slice.number, mb_type.value == 0);
+    let fits = read_motions(bits, around, mb_type, &mut mb.contexts.motions, sink)?;
     let table = Table::CodedBlockPatternInter;
-    read_coefficients(bits, near, slice.number, qp, table, mb, sink)?;
-    check(fits, Rule::VectorRange, bit)
+    read_coefficients(bits, around, qp, table, mb, sink)?;
+    check(fits, Rule::VectorRange, mb_type.bit)
 }
 
 /// Reads a macroblock by its mb_type in I slices. `qp` is QP_Y,PRED.
 fn read_of_i<S: Elements>(
     bits: &mut Bits,
-    near: &Near,
-    slice: &SliceContext,
+    around: Surroundings,
     qp: u8,
-    bit: u64,
-    kind: u32,
+    mb_type: Found<u32>,
     mb: &mut Macroblock,
     sink: &mut S,
 ) -> Result<(), Stop>
     requires qp { qp ≤ 51 }
     requires room { HasRoom S.failures sink.old }
-    ensures meets { (width : ℕ) (picture : List CodedMacroblock) → Keeps width picture near.now → qp ≡ syntax.predicted_qp slice.now picture →
-        Meets S.took S.failures (λ _ m. HoldsMacroblock mb.new m) (syntax.by_type slice_type.I width slice.now picture bit kind) bits.old bits.new sink.old
-        sink.new result }
+    ensures meets { (width : ℕ) (picture : List CodedMacroblock) → Keeps width picture around.entry.near.now →
+        qp ≡ syntax.predicted_qp around.entry.slice.now picture →
+        Meets S.took S.failures (λ _ m. HoldsMacroblock mb.new m)
+        (syntax.by_type slice_type.I width around.entry.slice.now picture mb_type.bit mb_type.value)
+        bits.old bits.new sink.old sink.new result }
     ensures quiet { OnOk result (IsQuiet S.failures sink.old sink.new) }
     ensures within { OnOk result (mb.new.qp ≤ 51) }
-    ensures same { OnOk result (mb.new.contexts.slice ≡ slice.now.number) }
+    ensures same { OnOk result (mb.new.contexts.slice ≡ around.entry.slice.now.number) }
 {
-    check(kind <= 25, Rule::Range, bit)?;
-    if kind == 0 {
-        return read_intra4x4(bits, near, slice, qp, mb, sink);
+    check(mb_type.value <= 25, Rule::Range, mb_type.bit)?;
+    if mb_type.value == 0 {
+        return read_intra4x4(bits, around, qp, mb, sink);
     }
-    if kind == 25 {
-        return read_pcm(bits, slice, qp, mb, sink);
+    if mb_type.value == 25 {
+        return read_pcm(bits, around.slice, qp, mb, sink);
     }
-    read_intra16x16(bits, near, slice, qp, bit, kind, mb, sink)
+    read_intra16x16(bits, around, qp, mb_type, mb, sink)
 }
 
 /// Reads a macroblock by its mb_type and the type of its slice: in P slices the types of I slices begin at 5. `qp` is QP_Y,PRED.
 fn read_by_type<S: Elements>(
     bits: &mut Bits,
-    near: &Near,
-    slice: &SliceContext,
+    around: Surroundings,
     qp: u8,
-    bit: u64,
-    kind: u32,
+    mb_type: Found<u32>,
     mb: &mut Macroblock,
     sink: &mut S,
 ) -> Result<(), Stop>
     requires qp { qp ≤ 51 }
-    requires usable { Usable slice.now }
+    requires usable { Usable around.slice.now }
     requires room { HasRoom S.failures sink.old }
-    ensures meets { (width : ℕ) (picture : List CodedMacroblock) → Keeps width picture near.now → qp ≡ syntax.predicted_qp slice.now picture →
-        Meets S.took S.failures (λ _ m. HoldsMacroblock mb.new m) (syntax.by_type slice.now.slice_type width slice.now picture bit kind) bits.old bits.new
-        sink.old sink.new result }
+    ensures meets { (width : ℕ) (picture : List CodedMacroblock) → Keeps width picture around.entry.near.now →
+        qp ≡ syntax.predicted_qp around.entry.slice.now picture →
+        Meets S.took S.failures (λ _ m. HoldsMacroblock mb.new m)
+        (syntax.by_type around.entry.slice.now.slice_type width around.entry.slice.now picture mb_type.bit mb_type.value)
+        bits.old bits.new sink.old sink.new result }
     ensures quiet { OnOk result (IsQuiet S.failures sink.old sink.new) }
     ensures within { OnOk result (mb.new.qp ≤ 51) }
-    ensures same { OnOk result (mb.new.contexts.slice ≡ slice.now.number) }
+    ensures same { OnOk result (mb.new.contexts.slice ≡ around.entry.slice.now.number) }
 {
-    match slice.slice_type {
-        SliceType::I => read_of_i(bits, near, slice, qp, bit, kind, mb, sink),
+    match around.slice.slice_type {
+        SliceType::I => read_of_i(bits, around, qp, mb_type, mb, sink),
         SliceType::P => {
-            if kind < 5 {
-                return read_inter(bits, near, slice, qp, bit, kind, mb, sink);
+            if mb_type.value < 5 {
+                return read_inter(bits, around, qp, mb_type, mb, sink);
             }
-            read_of_i(bits, near, slice, qp, bit, kind - 5, mb, sink)
+            let mb_type = Found {
+                bit: mb_type.bit,
+                value: mb_type.value - 5,
+            };
+            read_of_i(bits, around, qp, mb_type, mb, sink)
         }
     }
 }
@@ -374,7 +380,8 @@ pub fn read_macroblock<S: Elements>(
     ensures within { OnOk result (mb.new.qp ≤ 51) }
     ensures same { OnOk result (mb.new.contexts.slice ≡ slice.now.number) }
 {
-    let kind = read_ue(bits, ElementName::MbType, sink)?;
-    read_by_type(bits, near, slice, qp, kind.bit, kind.value, mb, sink)?;
-    Ok(kind.bit)
+    let mb_type = read_ue(bits, ElementName::MbType, sink)?;
+    let around = Surroundings { near, slice };
+    read_by_type(bits, around, qp, mb_type, mb, sink)?;
+    Ok(mb_type.bit)
 }

@@ -16,8 +16,8 @@ use crate::macroblock::Macroblock;
 use h264_base::{ElementName, Elements, Rule, Stop};
 use h264_bits::{Bits, check, read_se, read_word};
 use h264_cavlc::block_into;
-use h264_near::Near;
 use h264_tables::Table;
+use h264_vectors::Surroundings;
 
 /// The levels of a macroblock, by block and by place of the scan. A block without coefficients has levels that mean nothing (zeros, or what stood there
 /// before): whoever reads them looks at the totals first.
@@ -91,8 +91,7 @@ fn is_coded(pattern: u8, b: usize) -> bool
 /// Reads the luma blocks of size `N`, 16 or 15, into the places of their numbers.
 pub(crate) fn read_luma<const N: usize, S: Elements>(
     bits: &mut Bits,
-    near: &Near,
-    slice: u32,
+    around: Surroundings,
     pattern: u8,
     totals: &mut [u8; 16],
     levels: &mut [[i16; N]; 16],
@@ -100,16 +99,16 @@ pub(crate) fn read_luma<const N: usize, S: Elements>(
 ) -> Result<(), Stop>
     requires size { N ≤ 16 }
     requires room { HasRoom S.failures sink.old }
-    ensures meets { (width : ℕ) (picture : List CodedMacroblock) → Keeps width picture near.now →
+    ensures meets { (width : ℕ) (picture : List CodedMacroblock) → Keeps width picture around.entry.near.now →
         Meets S.took S.failures (λ _ blocks. stored.Stored N 16 totals.new levels.new blocks)
-        (syntax.luma_blocks width picture slice N pattern) bits.old bits.new sink.old sink.new result }
+        (syntax.luma_blocks width picture around.entry.slice.now.number N pattern) bits.old bits.new sink.old sink.new result }
     ensures sized { length totals.new ≡ 16 }
     ensures quiet { OnOk result (IsQuiet S.failures sink.old sink.new) }
 {
     let mut own = bits.again();
     for b in 0..16 {
         if is_coded(pattern, b) {
-            let nc = near.nc(slice, totals, b);
+            let nc = around.near.nc(around.slice.number, totals, b);
             totals[b] = block_into::<N, S>(&mut own, nc, &mut levels[b], sink)?;
         } else {
             totals[b] = 0;
@@ -145,21 +144,20 @@ fn read_chroma_dc<S: Elements>(
 /// Reads the AC blocks of Cb and Cr.
 fn read_all_ac<S: Elements>(
     bits: &mut Bits,
-    near: &Near,
-    slice: u32,
+    around: Surroundings,
     totals: &mut [u8; 8],
     levels: &mut [[i16; 15]; 8],
     sink: &mut S,
 ) -> Result<(), Stop>
     requires { HasRoom S.failures sink.old }
-    ensures meets { (width : ℕ) (picture : List CodedMacroblock) → Keeps width picture near.now →
+    ensures meets { (width : ℕ) (picture : List CodedMacroblock) → Keeps width picture around.entry.near.now →
         Meets S.took S.failures (λ _ blocks. stored.Stored 15 8 totals.new levels.new blocks)
-        (syntax.chroma_blocks width picture slice) bits.old bits.new sink.old sink.new result }
+        (syntax.chroma_blocks width picture around.entry.slice.now.number) bits.old bits.new sink.old sink.new result }
     ensures quiet { OnOk result (IsQuiet S.failures sink.old sink.new) }
 {
     let mut own = bits.again();
     for b in 0..8 {
-        let nc = near.chroma_nc(slice, totals, b);
+        let nc = around.near.chroma_nc(around.slice.number, totals, b);
         totals[b] = block_into::<15, S>(&mut own, nc, &mut levels[b], sink)?;
     }
     *bits = own;
@@ -169,17 +167,16 @@ fn read_all_ac<S: Elements>(
 /// Reads the chroma blocks by CodedBlockPatternChroma.
 fn read_chroma<S: Elements>(
     bits: &mut Bits,
-    near: &Near,
-    slice: u32,
+    around: Surroundings,
     pattern: u8,
     totals: &mut [u8; 8],
     residual: &mut Residual,
     sink: &mut S,
 ) -> Result<(), Stop>
     requires { HasRoom S.failures sink.old }
-    ensures meets { (width : ℕ) (picture : List CodedMacroblock) → Keeps width picture near.now →
+    ensures meets { (width : ℕ) (picture : List CodedMacroblock) → Keeps width picture around.entry.near.now →
         Meets S.took S.failures (λ _ v. stored.StoredChroma totals.new residual.new.chroma_ac residual.new.chroma_dc_totals residual.new.chroma_dc v)
-        (syntax.chroma width picture slice pattern) bits.old bits.new sink.old sink.new result }
+        (syntax.chroma width picture around.entry.slice.now.number pattern) bits.old bits.new sink.old sink.new result }
     ensures sized { length totals.new ≡ 8 }
     ensures luma { residual.new.luma ≡ residual.old.luma }
     ensures luma_ac { residual.new.luma_ac ≡ residual.old.luma_ac }
@@ -195,7 +192,7 @@ fn read_chroma<S: Elements>(
         sink,
     )?;
     if pattern == 2 {
-        return read_all_ac(bits, near, slice, totals, &mut residual.chroma_ac, sink);
+        return read_all_ac(bits, around, totals, &mut residual.chroma_ac, sink);
     }
     *totals = [0; 8];
     Ok(())
@@ -219,8 +216,7 @@ fn leave_uncoded(mb: &mut Macroblock, qp: u8)
 #[inline]
 pub(crate) fn read_coefficients<S: Elements>(
     bits: &mut Bits,
-    near: &Near,
-    slice: u32,
+    around: Surroundings,
     predicted_qp: u8,
     table: Table,
     mb: &mut Macroblock,
@@ -228,9 +224,9 @@ pub(crate) fn read_coefficients<S: Elements>(
 ) -> Result<(), Stop>
     requires predicted { predicted_qp ≤ 51 }
     requires room { HasRoom S.failures sink.old }
-    ensures meets { (width : ℕ) (picture : List CodedMacroblock) → Keeps width picture near.now →
+    ensures meets { (width : ℕ) (picture : List CodedMacroblock) → Keeps width picture around.entry.near.now →
         Meets S.took S.failures (λ _ v. HasCoefficients mb.new v)
-        (patterned table width picture slice predicted_qp) bits.old bits.new sink.old sink.new result }
+        (patterned table width picture around.entry.slice.now.number predicted_qp) bits.old bits.new sink.old sink.new result }
     ensures within { OnOk result (mb.new.qp ≤ 51) }
     ensures quiet { OnOk result (IsQuiet S.failures sink.old sink.new) }
     ensures same { IsSame mb.old mb.new }
@@ -252,8 +248,7 @@ pub(crate) fn read_coefficients<S: Elements>(
     mb.contexts.qp = qp;
     read_luma::<16, S>(
         bits,
-        near,
-        slice,
+        around,
         pattern.value,
         &mut mb.contexts.totals,
         &mut mb.residual.luma,
@@ -261,8 +256,7 @@ pub(crate) fn read_coefficients<S: Elements>(
     )?;
     read_chroma(
         bits,
-        near,
-        slice,
+        around,
         pattern.value / 16,
         &mut mb.contexts.chroma_totals,
         &mut mb.residual,
@@ -273,8 +267,7 @@ pub(crate) fn read_coefficients<S: Elements>(
 /// Reads mb_qp_delta and the blocks of an Intra 16x16 macroblock.
 pub(crate) fn read_coefficients16<S: Elements>(
     bits: &mut Bits,
-    near: &Near,
-    slice: u32,
+    around: Surroundings,
     predicted_qp: u8,
     pattern: u8,
     mb: &mut Macroblock,
@@ -282,9 +275,9 @@ pub(crate) fn read_coefficients16<S: Elements>(
 ) -> Result<(), Stop>
     requires predicted { predicted_qp ≤ 51 }
     requires room { HasRoom S.failures sink.old }
-    ensures meets { (width : ℕ) (picture : List CodedMacroblock) → Keeps width picture near.now →
+    ensures meets { (width : ℕ) (picture : List CodedMacroblock) → Keeps width picture around.entry.near.now →
         Meets S.took S.failures (λ _ v. HasCoefficients16 mb.new v)
-        (syntax.coefficients16 width picture slice predicted_qp pattern) bits.old bits.new sink.old sink.new result }
+        (syntax.coefficients16 width picture around.entry.slice.now.number predicted_qp pattern) bits.old bits.new sink.old sink.new result }
     ensures within { OnOk result (mb.new.qp ≤ 51) }
     ensures quiet { OnOk result (IsQuiet S.failures sink.old sink.new) }
     ensures same { IsSame mb.old mb.new }
@@ -292,13 +285,12 @@ pub(crate) fn read_coefficients16<S: Elements>(
     let qp = read_qp_delta(bits, predicted_qp, sink)?;
     mb.qp = qp;
     mb.contexts.qp = qp;
-    let nc = near.nc(slice, &[0; 16], 0);
+    let nc = around.near.nc(around.slice.number, &[0; 16], 0);
     let total = block_into::<16, S>(bits, nc, &mut mb.residual.luma_dc, sink)?;
     mb.residual.luma_dc_total = total;
     read_luma::<15, S>(
         bits,
-        near,
-        slice,
+        around,
         pattern,
         &mut mb.contexts.totals,
         &mut mb.residual.luma_ac,
@@ -306,8 +298,7 @@ pub(crate) fn read_coefficients16<S: Elements>(
     )?;
     read_chroma(
         bits,
-        near,
-        slice,
+        around,
         pattern / 16,
         &mut mb.contexts.chroma_totals,
         &mut mb.residual,

@@ -8,12 +8,12 @@ ghost use Rattle.h264_vectors.specs.Derived as derived;
 ghost use Rattle.h264_vectors.specs.Derived.{Derived};
 ghost use Rattle.h264_vectors.specs.Agrees.{Agrees, Usable, IsWhole, IsOfQuarters, IsQuarterFilled, AreAlike, places_with};
 
-use crate::part::Part;
+use crate::part::{Part, PredictedPart, VectorDifference};
 use crate::predicted::predicted_vector;
 use crate::range::moved;
-use crate::slice::{SliceContext, motion_of};
+use crate::slice::{Surroundings, motion_of};
+use h264_near::Motion;
 use h264_near::block::{column, row};
-use h264_near::{Motion, Near};
 
 /// Whether k lies from `from` on in so many places.
 #[inline(always)]
@@ -138,42 +138,32 @@ fn fill(motions: &mut [Option<Motion>; 16], part: Part, motion: Motion)
 /// Derives what a part is predicted from, by mvd_l0: whether all vectors up to it lie in their range. Once one does not,
 /// `motions` stay as they are.
 pub fn derive(
-    near: &Near,
-    slice: &SliceContext,
-    part: Part,
-    index: u32,
-    across: i32,
-    down: i32,
+    around: Surroundings,
+    part: PredictedPart,
+    mvd: VectorDifference,
     fits: bool,
     motions: &mut [Option<Motion>; 16],
 ) -> bool
-    requires columns { part.x + part.wide ≤ 4 }
-    requires rows { part.y + part.high ≤ 4 }
-    requires high { 0 < part.high }
-    requires index { index < 16 }
-    requires usable { Usable slice.now }
-    ensures agrees { (width : ℕ) (picture : List CodedMacroblock) (places : List Bool) (d : Derived) → Keeps width picture near.now →
-        Agrees fits motions.old places d → Agrees result motions.new (places_with places part)
-        (derived.derive width slice.now picture d part index across down) }
-    ensures alike { IsWhole part → AreAlike motions.old → AreAlike motions.new }
+    requires columns { part.place.x + part.place.wide ≤ 4 }
+    requires rows { part.place.y + part.place.high ≤ 4 }
+    requires high { 0 < part.place.high }
+    requires index { part.ref_idx < 16 }
+    requires usable { Usable around.slice.now }
+    ensures agrees { (width : ℕ) (picture : List CodedMacroblock) (places : List Bool) (d : Derived) → Keeps width picture around.entry.near.now →
+        Agrees fits motions.old places d → Agrees result motions.new (places_with places part.place)
+        (derived.derive width around.entry.slice.now picture d part.place part.ref_idx mvd.across mvd.down) }
+    ensures alike { IsWhole part.place → AreAlike motions.old → AreAlike motions.new }
 {
     if !fits {
         return false;
     }
-    let predicted = predicted_vector(
-        near,
-        slice.number,
-        motions,
-        part.direction,
-        index as u8,
-        part.x,
-        part.y,
-        part.wide,
-    );
-    match moved(slice.vector_limit, predicted, across, down) {
+    let Surroundings { near, slice } = around;
+    let PredictedPart { place, ref_idx } = part;
+    let predicted = predicted_vector(near, slice.number, motions, place, ref_idx as u8);
+    match moved(slice.vector_limit, predicted, mvd.across, mvd.down) {
         None => false,
         Some(vector) => {
-            fill(motions, part, motion_of(slice, index, vector));
+            fill(motions, place, motion_of(slice, ref_idx, vector));
             true
         }
     }

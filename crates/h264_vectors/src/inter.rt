@@ -13,12 +13,12 @@ ghost use Rattle.h264_vectors.specs.Agrees.{Agrees, Usable, IsWhole, AreAlike, p
 ghost use Rattle.h264_vectors.specs.Inter as syntax;
 
 use crate::derived::derive;
-use crate::part::{Direction, Part};
-use crate::slice::{SliceContext, has_picture};
+use crate::part::{Direction, Halves, Part, PredictedPart, SubMacroblock, VectorDifference};
+use crate::slice::{SliceContext, Surroundings, has_picture};
 use h264_base::{ElementName, Elements, Rule, Stop};
 use h264_bits::forms::ue_up_to;
-use h264_bits::{Bits, check, read_se, read_te};
-use h264_near::{Motion, Near};
+use h264_bits::{Bits, Found, check, read_se, read_te};
+use h264_near::Motion;
 
 /// Reads ref_idx_l0.
 fn read_ref_idx<S: Elements>(
@@ -66,207 +66,120 @@ fn read_ref_index<S: Elements>(
 /// Reads mvd_l0 of a part, and derives what it is predicted from.
 fn read_part<S: Elements>(
     bits: &mut Bits,
-    near: &Near,
-    slice: &SliceContext,
-    part: Part,
-    index: u32,
+    around: Surroundings,
+    part: PredictedPart,
     fits: bool,
     motions: &mut [Option<Motion>; 16],
     sink: &mut S,
 ) -> Result<bool, Stop>
-    requires columns { part.x + part.wide ≤ 4 }
-    requires rows { part.y + part.high ≤ 4 }
-    requires high { 0 < part.high }
-    requires index { index < 16 }
-    requires usable { Usable slice.now }
+    requires columns { part.place.x + part.place.wide ≤ 4 }
+    requires rows { part.place.y + part.place.high ≤ 4 }
+    requires high { 0 < part.place.high }
+    requires index { part.ref_idx < 16 }
+    requires usable { Usable around.slice.now }
     requires room { HasRoom S.failures sink.old }
-    ensures meets { (width : ℕ) (picture : List CodedMacroblock) (places : List Bool) (d : Derived) → Keeps width picture near.now →
-        Agrees fits motions.old places d → Meets S.took S.failures (λ w next. Agrees w motions.new (places_with places part) next)
-        (syntax.part_motion width slice.now picture part index d) bits.old bits.new sink.old sink.new result }
-    ensures alike { IsWhole part → AreAlike motions.old → OnOk result (AreAlike motions.new) }
+    ensures meets { (width : ℕ) (picture : List CodedMacroblock) (places : List Bool) (d : Derived) → Keeps width picture around.entry.near.now →
+        Agrees fits motions.old places d → Meets S.took S.failures (λ w next. Agrees w motions.new (places_with places part.place) next)
+        (syntax.part_motion width around.entry.slice.now picture part.place part.ref_idx d) bits.old bits.new sink.old sink.new result }
+    ensures alike { IsWhole part.place → AreAlike motions.old → OnOk result (AreAlike motions.new) }
     ensures quiet { OnOk result (IsQuiet S.failures sink.old sink.new) }
 {
     let across = read_se(bits, ElementName::MvdL0, sink)?;
     let down = read_se(bits, ElementName::MvdL0, sink)?;
-    Ok(derive(
-        near,
-        slice,
-        part,
-        index,
-        across.value,
-        down.value,
-        fits,
-        motions,
-    ))
+    let mvd = VectorDifference {
+        across: across.value,
+        down: down.value,
+    };
+    Ok(derive(around, part, mvd, fits, motions))
 }
 
-/// Reads the vectors of two parts that have one index.
-fn read_pair<S: Elements>(
-    bits: &mut Bits,
-    near: &Near,
-    slice: &SliceContext,
-    p: Part,
-    q: Part,
-    index: u32,
-    fits: bool,
-    motions: &mut [Option<Motion>; 16],
-    sink: &mut S,
-) -> Result<bool, Stop>
-    requires columns { p.x + p.wide ≤ 4 }
-    requires rows { p.y + p.high ≤ 4 }
-    requires high { 0 < p.high }
-    requires columns_too { q.x + q.wide ≤ 4 }
-    requires rows_too { q.y + q.high ≤ 4 }
-    requires high_too { 0 < q.high }
-    requires index { index < 16 }
-    requires usable { Usable slice.now }
-    requires room { HasRoom S.failures sink.old }
-    ensures meets { (width : ℕ) (picture : List CodedMacroblock) (places : List Bool) (d : Derived) → Keeps width picture near.now →
-        Agrees fits motions.old places d → Meets S.took S.failures (λ w next. Agrees w motions.new (places_after places (p ∷ q ∷ [])) next)
-        (syntax.part_motions width slice.now picture index (p ∷ q ∷ []) d) bits.old bits.new sink.old sink.new result }
-    ensures quiet { OnOk result (IsQuiet S.failures sink.old sink.new) }
-{
-    let first = read_part(bits, near, slice, p, index, fits, motions, sink)?;
-    let second = read_part(bits, near, slice, q, index, first, motions, sink)?;
-    Ok(second)
-}
-
-/// Reads the vectors of the four blocks of an 8x8 block at x and y.
+/// Reads the vectors of a sub-macroblock of four 4x4 blocks.
 fn read_four<S: Elements>(
     bits: &mut Bits,
-    near: &Near,
-    slice: &SliceContext,
-    x: usize,
-    y: usize,
-    index: u32,
+    around: Surroundings,
+    sub: SubMacroblock,
     fits: bool,
     motions: &mut [Option<Motion>; 16],
     sink: &mut S,
 ) -> Result<bool, Stop>
-    requires column { x + 2 ≤ 4 }
-    requires row { y + 2 ≤ 4 }
-    requires index { index < 16 }
-    requires usable { Usable slice.now }
+    requires column { sub.x + 2 ≤ 4 }
+    requires row { sub.y + 2 ≤ 4 }
+    requires index { sub.ref_idx < 16 }
+    requires usable { Usable around.slice.now }
     requires room { HasRoom S.failures sink.old }
-    ensures meets { (width : ℕ) (picture : List CodedMacroblock) (places : List Bool) (d : Derived) → Keeps width picture near.now →
+    ensures meets { (width : ℕ) (picture : List CodedMacroblock) (places : List Bool) (d : Derived) → Keeps width picture around.entry.near.now →
         Agrees fits motions.old places d → Meets S.took S.failures
-        (λ w next. Agrees w motions.new (places_after places (derived.sub_parts_of x y 3)) next)
-        (syntax.part_motions width slice.now picture index (derived.sub_parts_of x y 3) d) bits.old bits.new sink.old sink.new result }
+        (λ w next. Agrees w motions.new (places_after places (derived.sub_parts_of sub.x sub.y 3)) next)
+        (syntax.part_motions width around.entry.slice.now picture sub.ref_idx (derived.sub_parts_of sub.x sub.y 3) d)
+        bits.old bits.new sink.old sink.new result }
     ensures quiet { OnOk result (IsQuiet S.failures sink.old sink.new) }
 {
-    let a = Part {
-        x,
-        y,
-        wide: 1,
-        high: 1,
-        direction: Direction::Median,
-    };
-    let b = Part {
-        x: x + 1,
-        y,
-        wide: 1,
-        high: 1,
-        direction: Direction::Median,
-    };
-    let c = Part {
-        x,
-        y: y + 1,
-        wide: 1,
-        high: 1,
-        direction: Direction::Median,
-    };
-    let d = Part {
-        x: x + 1,
-        y: y + 1,
-        wide: 1,
-        high: 1,
-        direction: Direction::Median,
-    };
-    let first = read_part(bits, near, slice, a, index, fits, motions, sink)?;
-    let second = read_part(bits, near, slice, b, index, first, motions, sink)?;
-    let third = read_part(bits, near, slice, c, index, second, motions, sink)?;
-    let fourth = read_part(bits, near, slice, d, index, third, motions, sink)?;
+    let SubMacroblock { x, y, .. } = sub;
+    let a = sub.part(x, y, 1, 1);
+    let b = sub.part(x + 1, y, 1, 1);
+    let c = sub.part(x, y + 1, 1, 1);
+    let d = sub.part(x + 1, y + 1, 1, 1);
+    let first = read_part(bits, around, a, fits, motions, sink)?;
+    let second = read_part(bits, around, b, first, motions, sink)?;
+    let third = read_part(bits, around, c, second, motions, sink)?;
+    let fourth = read_part(bits, around, d, third, motions, sink)?;
     Ok(fourth)
 }
 
-/// Reads the vectors of an 8x8 block at x and y by its sub_mb_type.
-fn read_quarter<S: Elements>(
+/// Reads the vectors of a sub-macroblock by its sub_mb_type (Table 7-17).
+fn read_sub_macroblock<S: Elements>(
     bits: &mut Bits,
-    near: &Near,
-    slice: &SliceContext,
-    x: usize,
-    y: usize,
-    kind: u32,
-    index: u32,
+    around: Surroundings,
+    sub: SubMacroblock,
     fits: bool,
     motions: &mut [Option<Motion>; 16],
     sink: &mut S,
 ) -> Result<bool, Stop>
-    requires column { x + 2 ≤ 4 }
-    requires row { y + 2 ≤ 4 }
-    requires index { index < 16 }
-    requires usable { Usable slice.now }
+    requires column { sub.x + 2 ≤ 4 }
+    requires row { sub.y + 2 ≤ 4 }
+    requires index { sub.ref_idx < 16 }
+    requires usable { Usable around.slice.now }
     requires room { HasRoom S.failures sink.old }
-    ensures meets { (width : ℕ) (picture : List CodedMacroblock) (places : List Bool) (d : Derived) → Keeps width picture near.now →
+    ensures meets { (width : ℕ) (picture : List CodedMacroblock) (places : List Bool) (d : Derived) → Keeps width picture around.entry.near.now →
         Agrees fits motions.old places d → Meets S.took S.failures
-        (λ w next. Agrees w motions.new (places_after places (derived.sub_parts_of x y kind)) next)
-        (syntax.part_motions width slice.now picture index (derived.sub_parts_of x y kind) d) bits.old bits.new sink.old sink.new result }
+        (λ w next. Agrees w motions.new (places_after places (derived.sub_parts_of sub.x sub.y sub.sub_mb_type)) next)
+        (syntax.part_motions width around.entry.slice.now picture sub.ref_idx (derived.sub_parts_of sub.x sub.y sub.sub_mb_type) d)
+        bits.old bits.new sink.old sink.new result }
     ensures quiet { OnOk result (IsQuiet S.failures sink.old sink.new) }
 {
-    if kind == 0 {
-        let p = Part {
-            x,
-            y,
-            wide: 2,
-            high: 2,
-            direction: Direction::Median,
-        };
-        let one = read_part(bits, near, slice, p, index, fits, motions, sink)?;
-        return Ok(one);
+    let SubMacroblock {
+        x,
+        y,
+        sub_mb_type,
+        ..
+    } = sub;
+    if sub_mb_type == 0 {
+        let whole = sub.part(x, y, 2, 2);
+        let whole_fits = read_part(bits, around, whole, fits, motions, sink)?;
+        return Ok(whole_fits);
     }
-    if kind == 1 {
-        let p = Part {
-            x,
-            y,
-            wide: 2,
-            high: 1,
-            direction: Direction::Median,
-        };
-        let q = Part {
-            x,
-            y: y + 1,
-            wide: 2,
-            high: 1,
-            direction: Direction::Median,
-        };
-        return read_pair(bits, near, slice, p, q, index, fits, motions, sink);
+    if sub_mb_type == 1 {
+        let upper = sub.part(x, y, 2, 1);
+        let lower = sub.part(x, y + 1, 2, 1);
+        let upper_fits = read_part(bits, around, upper, fits, motions, sink)?;
+        let lower_fits = read_part(bits, around, lower, upper_fits, motions, sink)?;
+        return Ok(lower_fits);
     }
-    if kind == 2 {
-        let p = Part {
-            x,
-            y,
-            wide: 1,
-            high: 2,
-            direction: Direction::Median,
-        };
-        let q = Part {
-            x: x + 1,
-            y,
-            wide: 1,
-            high: 2,
-            direction: Direction::Median,
-        };
-        return read_pair(bits, near, slice, p, q, index, fits, motions, sink);
+    if sub_mb_type == 2 {
+        let left = sub.part(x, y, 1, 2);
+        let right = sub.part(x + 1, y, 1, 2);
+        let left_fits = read_part(bits, around, left, fits, motions, sink)?;
+        let right_fits = read_part(bits, around, right, left_fits, motions, sink)?;
+        return Ok(right_fits);
     }
-    read_four(bits, near, slice, x, y, index, fits, motions, sink)
+    read_four(bits, around, sub, fits, motions, sink)
 }
 
-/// Reads the vectors of four 8x8 blocks.
-fn read_quarters<S: Elements>(
+/// Reads the vectors of four sub-macroblocks, by sub_mb_type and refIdxL0 of each.
+fn read_sub_macroblocks<S: Elements>(
     bits: &mut Bits,
-    near: &Near,
-    slice: &SliceContext,
-    kinds: (u32, u32, u32, u32),
+    around: Surroundings,
+    types: (u32, u32, u32, u32),
     indices: (u32, u32, u32, u32),
     motions: &mut [Option<Motion>; 16],
     sink: &mut S,
@@ -276,58 +189,52 @@ fn read_quarters<S: Elements>(
     requires second { indices.1 < 16 }
     requires third { indices.2 < 16 }
     requires fourth { indices.3 < 16 }
-    requires usable { Usable slice.now }
+    requires usable { Usable around.slice.now }
     requires room { HasRoom S.failures sink.old }
-    ensures meets { (width : ℕ) (picture : List CodedMacroblock) → Keeps width picture near.now →
+    ensures meets { (width : ℕ) (picture : List CodedMacroblock) → Keeps width picture around.entry.near.now →
         Meets S.took S.failures (λ w next. Agrees w motions.new (replicate 16 true) next)
-        (syntax.quarters width slice.now picture kinds.0 kinds.1 kinds.2 kinds.3 indices.0 indices.1 indices.2 indices.3) bits.old bits.new sink.old
-        sink.new result }
+        (syntax.quarters width around.entry.slice.now picture types.0 types.1 types.2 types.3 indices.0 indices.1 indices.2 indices.3)
+        bits.old bits.new sink.old sink.new result }
     ensures quiet { OnOk result (IsQuiet S.failures sink.old sink.new) }
 {
-    let a = read_quarter(
-        bits, near, slice, 0, 0, kinds.0, indices.0, true, motions, sink,
-    )?;
-    let b = read_quarter(
-        bits, near, slice, 2, 0, kinds.1, indices.1, a, motions, sink,
-    )?;
-    let c = read_quarter(
-        bits, near, slice, 0, 2, kinds.2, indices.2, b, motions, sink,
-    )?;
-    read_quarter(
-        bits, near, slice, 2, 2, kinds.3, indices.3, c, motions, sink,
-    )
+    let first = SubMacroblock::new(0, 0, types.0, indices.0);
+    let second = SubMacroblock::new(2, 0, types.1, indices.1);
+    let third = SubMacroblock::new(0, 2, types.2, indices.2);
+    let fourth = SubMacroblock::new(2, 2, types.3, indices.3);
+    let a = read_sub_macroblock(bits, around, first, true, motions, sink)?;
+    let b = read_sub_macroblock(bits, around, second, a, motions, sink)?;
+    let c = read_sub_macroblock(bits, around, third, b, motions, sink)?;
+    read_sub_macroblock(bits, around, fourth, c, motions, sink)
 }
 
-/// Reads a macroblock of four 8x8 blocks.
+/// Reads a macroblock of four sub-macroblocks.
 fn read_split<S: Elements>(
     bits: &mut Bits,
-    near: &Near,
-    slice: &SliceContext,
+    around: Surroundings,
     inferred: bool,
     motions: &mut [Option<Motion>; 16],
     sink: &mut S,
 ) -> Result<bool, Stop>
     requires none { motions.old ≡ replicate 16 None }
-    requires some { inferred ≡ false → 1 < slice.now.active }
-    requires usable { Usable slice.now }
+    requires some { inferred ≡ false → 1 < around.slice.now.active }
+    requires usable { Usable around.slice.now }
     requires room { HasRoom S.failures sink.old }
-    ensures meets { (width : ℕ) (picture : List CodedMacroblock) → Keeps width picture near.now →
+    ensures meets { (width : ℕ) (picture : List CodedMacroblock) → Keeps width picture around.entry.near.now →
         Meets S.took S.failures (λ w next. Agrees w motions.new (replicate 16 true) next)
-        (syntax.split_parts width slice.now picture inferred) bits.old bits.new sink.old sink.new result }
+        (syntax.split_parts width around.entry.slice.now picture inferred) bits.old bits.new sink.old sink.new result }
     ensures quiet { OnOk result (IsQuiet S.failures sink.old sink.new) }
 {
     let t0 = ue_up_to(bits, ElementName::SubMbType, 3, sink)?;
     let t1 = ue_up_to(bits, ElementName::SubMbType, 3, sink)?;
     let t2 = ue_up_to(bits, ElementName::SubMbType, 3, sink)?;
     let t3 = ue_up_to(bits, ElementName::SubMbType, 3, sink)?;
-    let i0 = read_ref_index(bits, slice, inferred, sink)?;
-    let i1 = read_ref_index(bits, slice, inferred, sink)?;
-    let i2 = read_ref_index(bits, slice, inferred, sink)?;
-    let i3 = read_ref_index(bits, slice, inferred, sink)?;
-    read_quarters(
+    let i0 = read_ref_index(bits, around.slice, inferred, sink)?;
+    let i1 = read_ref_index(bits, around.slice, inferred, sink)?;
+    let i2 = read_ref_index(bits, around.slice, inferred, sink)?;
+    let i3 = read_ref_index(bits, around.slice, inferred, sink)?;
+    read_sub_macroblocks(
         bits,
-        near,
-        slice,
+        around,
         (t0, t1, t2, t3),
         (i0, i1, i2, i3),
         motions,
@@ -338,123 +245,132 @@ fn read_split<S: Elements>(
 /// Reads a macroblock of one part.
 fn read_one_part<S: Elements>(
     bits: &mut Bits,
-    near: &Near,
-    slice: &SliceContext,
+    around: Surroundings,
     inferred: bool,
     motions: &mut [Option<Motion>; 16],
     sink: &mut S,
 ) -> Result<bool, Stop>
     requires none { motions.old ≡ replicate 16 None }
-    requires some { inferred ≡ false → 1 < slice.now.active }
-    requires usable { Usable slice.now }
+    requires some { inferred ≡ false → 1 < around.slice.now.active }
+    requires usable { Usable around.slice.now }
     requires room { HasRoom S.failures sink.old }
-    ensures meets { (width : ℕ) (picture : List CodedMacroblock) → Keeps width picture near.now →
+    ensures meets { (width : ℕ) (picture : List CodedMacroblock) → Keeps width picture around.entry.near.now →
         Meets S.took S.failures (λ w next. Agrees w motions.new (replicate 16 true) next)
-        (syntax.one_part width slice.now picture inferred (derived.part 0 0 4 4 direction.Median)) bits.old bits.new sink.old sink.new result }
+        (syntax.one_part width around.entry.slice.now picture inferred (derived.part 0 0 4 4 direction.Median)) bits.old bits.new sink.old sink.new result }
     ensures alike { OnOk result (AreAlike motions.new) }
     ensures quiet { OnOk result (IsQuiet S.failures sink.old sink.new) }
 {
-    let i = read_ref_index(bits, slice, inferred, sink)?;
-    let p = Part {
+    let ref_idx = read_ref_index(bits, around.slice, inferred, sink)?;
+    let place = Part {
         x: 0,
         y: 0,
         wide: 4,
         high: 4,
         direction: Direction::Median,
     };
-    read_part(bits, near, slice, p, i, true, motions, sink)
+    let part = PredictedPart { place, ref_idx };
+    read_part(bits, around, part, true, motions, sink)
 }
 
 /// Reads a macroblock of two parts.
 fn read_two_parts<S: Elements>(
     bits: &mut Bits,
-    near: &Near,
-    slice: &SliceContext,
+    around: Surroundings,
     inferred: bool,
-    p: Part,
-    q: Part,
+    halves: Halves,
     motions: &mut [Option<Motion>; 16],
     sink: &mut S,
 ) -> Result<bool, Stop>
-    requires columns { p.x + p.wide ≤ 4 }
-    requires rows { p.y + p.high ≤ 4 }
-    requires high { 0 < p.high }
-    requires columns_too { q.x + q.wide ≤ 4 }
-    requires rows_too { q.y + q.high ≤ 4 }
-    requires high_too { 0 < q.high }
+    requires columns { halves.first.x + halves.first.wide ≤ 4 }
+    requires rows { halves.first.y + halves.first.high ≤ 4 }
+    requires high { 0 < halves.first.high }
+    requires columns_too { halves.second.x + halves.second.wide ≤ 4 }
+    requires rows_too { halves.second.y + halves.second.high ≤ 4 }
+    requires high_too { 0 < halves.second.high }
     requires none { motions.old ≡ replicate 16 None }
-    requires some { inferred ≡ false → 1 < slice.now.active }
-    requires usable { Usable slice.now }
+    requires some { inferred ≡ false → 1 < around.slice.now.active }
+    requires usable { Usable around.slice.now }
     requires room { HasRoom S.failures sink.old }
-    ensures meets { (width : ℕ) (picture : List CodedMacroblock) → Keeps width picture near.now →
-        Meets S.took S.failures (λ w next. Agrees w motions.new (places_after (replicate 16 false) (p ∷ q ∷ [])) next)
-        (syntax.two_parts width slice.now picture inferred p q) bits.old bits.new sink.old sink.new result }
+    ensures meets { (width : ℕ) (picture : List CodedMacroblock) → Keeps width picture around.entry.near.now →
+        Meets S.took S.failures (λ w next. Agrees w motions.new (places_after (replicate 16 false) (halves.first ∷ halves.second ∷ [])) next)
+        (syntax.two_parts width around.entry.slice.now picture inferred halves.first halves.second) bits.old bits.new sink.old sink.new result }
     ensures quiet { OnOk result (IsQuiet S.failures sink.old sink.new) }
 {
-    let i = read_ref_index(bits, slice, inferred, sink)?;
-    let j = read_ref_index(bits, slice, inferred, sink)?;
-    let first = read_part(bits, near, slice, p, i, true, motions, sink)?;
-    read_part(bits, near, slice, q, j, first, motions, sink)
+    let i = read_ref_index(bits, around.slice, inferred, sink)?;
+    let j = read_ref_index(bits, around.slice, inferred, sink)?;
+    let p = PredictedPart {
+        place: halves.first,
+        ref_idx: i,
+    };
+    let q = PredictedPart {
+        place: halves.second,
+        ref_idx: j,
+    };
+    let first = read_part(bits, around, p, true, motions, sink)?;
+    read_part(bits, around, q, first, motions, sink)
 }
 
 /// Reads what blocks are predicted from by mb_type of P slices.
 fn read_motions_by<S: Elements>(
     bits: &mut Bits,
-    near: &Near,
-    slice: &SliceContext,
+    around: Surroundings,
     inferred: bool,
     kind: u32,
     motions: &mut [Option<Motion>; 16],
     sink: &mut S,
 ) -> Result<bool, Stop>
     requires none { motions.old ≡ replicate 16 None }
-    requires some { inferred ≡ false → 1 < slice.now.active }
-    requires usable { Usable slice.now }
+    requires some { inferred ≡ false → 1 < around.slice.now.active }
+    requires usable { Usable around.slice.now }
     requires room { HasRoom S.failures sink.old }
-    ensures meets { (width : ℕ) (picture : List CodedMacroblock) → Keeps width picture near.now →
+    ensures meets { (width : ℕ) (picture : List CodedMacroblock) → Keeps width picture around.entry.near.now →
         Meets S.took S.failures (λ w next. Agrees w motions.new (replicate 16 true) next)
-        (syntax.motions_by width slice.now picture inferred kind) bits.old bits.new sink.old sink.new result }
+        (syntax.motions_by width around.entry.slice.now picture inferred kind) bits.old bits.new sink.old sink.new result }
     ensures alike { kind ≡ 0 → OnOk result (AreAlike motions.new) }
     ensures quiet { OnOk result (IsQuiet S.failures sink.old sink.new) }
 {
     if kind == 0 {
-        return read_one_part(bits, near, slice, inferred, motions, sink);
+        return read_one_part(bits, around, inferred, motions, sink);
     }
     if kind == 1 {
-        let p = Part {
-            x: 0,
-            y: 0,
-            wide: 4,
-            high: 2,
-            direction: Direction::FromB,
+        let halves = Halves {
+            first: Part {
+                x: 0,
+                y: 0,
+                wide: 4,
+                high: 2,
+                direction: Direction::FromB,
+            },
+            second: Part {
+                x: 0,
+                y: 2,
+                wide: 4,
+                high: 2,
+                direction: Direction::FromA,
+            },
         };
-        let q = Part {
-            x: 0,
-            y: 2,
-            wide: 4,
-            high: 2,
-            direction: Direction::FromA,
-        };
-        return read_two_parts(bits, near, slice, inferred, p, q, motions, sink);
+        return read_two_parts(bits, around, inferred, halves, motions, sink);
     }
     if kind == 2 {
-        let p = Part {
-            x: 0,
-            y: 0,
-            wide: 2,
-            high: 4,
-            direction: Direction::FromA,
+        let halves = Halves {
+            first: Part {
+                x: 0,
+                y: 0,
+                wide: 2,
+                high: 4,
+                direction: Direction::FromA,
+            },
+            second: Part {
+                x: 2,
+                y: 0,
+                wide: 2,
+                high: 4,
+                direction: Direction::FromC,
+            },
         };
-        let q = Part {
-            x: 2,
-            y: 0,
-            wide: 2,
-            high: 4,
-            direction: Direction::FromC,
-        };
-        return read_two_parts(bits, near, slice, inferred, p, q, motions, sink);
+        return read_two_parts(bits, around, inferred, halves, motions, sink);
     }
-    read_split(bits, near, slice, inferred, motions, sink)
+    read_split(bits, around, inferred, motions, sink)
 }
 
 /// Whether ref_idx_l0 does not stand in the stream.
@@ -480,30 +396,29 @@ fn has_inferred(slice: &SliceContext, inferred: bool) -> bool
     has_picture(slice, 0)
 }
 
-/// Reads what the blocks of an inter macroblock are predicted from, by its mb_type, 0 to 4, which stands at this stream bit:
+/// Reads what the blocks of an inter macroblock are predicted from, by its mb_type, 0 to 4:
 /// whether all its vectors lie in their range. `motions` have the reference and the vector of each block, where they do. With mb_type 0 they are alike.
 ///
 /// Ok: the elements that the sink was told are its one derivation, with every rule met but that on the range of vectors.
 /// No: the first rule that it breaks, at its stream bit. Write: the sink failed. After an Err the reader may have moved.
 pub fn read_motions<S: Elements>(
     bits: &mut Bits,
-    near: &Near,
-    slice: &SliceContext,
-    bit: u64,
-    kind: u32,
+    around: Surroundings,
+    mb_type: Found<u32>,
     motions: &mut [Option<Motion>; 16],
     sink: &mut S,
 ) -> Result<bool, Stop>
     requires none { motions.old ≡ replicate 16 None }
-    requires usable { Usable slice.now }
+    requires usable { Usable around.slice.now }
     requires room { HasRoom S.failures sink.old }
-    ensures meets { (width : ℕ) (picture : List CodedMacroblock) → Keeps width picture near.now →
+    ensures meets { (width : ℕ) (picture : List CodedMacroblock) → Keeps width picture around.entry.near.now →
         Meets S.took S.failures (λ w next. Agrees w motions.new (replicate 16 true) next)
-        (syntax.motions width slice.now picture bit kind) bits.old bits.new sink.old sink.new result }
-    ensures alike { kind ≡ 0 → OnOk result (AreAlike motions.new) }
+        (syntax.motions width around.entry.slice.now picture mb_type.bit mb_type.value) bits.old bits.new sink.old sink.new result }
+    ensures alike { mb_type.value ≡ 0 → OnOk result (AreAlike motions.new) }
     ensures quiet { OnOk result (IsQuiet S.failures sink.old sink.new) }
 {
-    let inferred = is_inferred(slice, kind);
-    check(has_inferred(slice, inferred), Rule::NoReference, bit)?;
-    read_motions_by(bits, near, slice, inferred, kind, motions, sink)
+    let inferred = is_inferred(around.slice, mb_type.value);
+    let has_reference = has_inferred(around.slice, inferred);
+    check(has_reference, Rule::NoReference, mb_type.bit)?;
+    read_motions_by(bits, around, inferred, mb_type.value, motions, sink)
 }

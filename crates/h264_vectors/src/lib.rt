@@ -17,7 +17,7 @@ mod tests;
 
 pub use derived::derive;
 pub use inter::read_motions;
-pub use part::{Direction, Part};
+pub use part::{Direction, Part, PredictedPart, VectorDifference};
 pub use predicted::{predicted_vector, skip_vector};
 pub use range::vector_fits;
-pub use slice::{SliceContext, has_picture, motion_of};
+pub use slice::{SliceContext, Surroundings, has_picture, motion_of};

@@ -6,7 +6,7 @@ ghost use Rattle.h264_near.specs.Coded.{CodedMacroblock};
 ghost use Rattle.h264_near.specs.Keeps.{Keeps};
 ghost use Rattle.h264_vectors.specs.Vectors as syntax;
 
-use crate::part::Direction;
+use crate::part::{Direction, Part};
 use h264_near::{Motion, Near, Vector};
 
 #[inline]
@@ -157,23 +157,26 @@ fn vector_of_whole(
     by_direction(direction, ref_idx, a, b, beyond)
 }
 
-/// The predicted vector of a part that is `wide` blocks wide and begins at column `x` and row `y` of its macroblock.
-/// `motions` has those of its blocks that are derived.
+/// The predicted vector of a part of this refIdxL0 (8.4.1.3). `motions` has those of the blocks of its macroblock that are derived.
 pub fn predicted_vector(
     near: &Near,
     slice: u32,
     motions: &[Option<Motion>; 16],
-    direction: Direction,
+    part: Part,
     ref_idx: u8,
-    x: usize,
-    y: usize,
-    wide: usize,
 ) -> Vector
-    requires columns { x + wide ≤ 4 }
-    requires rows { y < 4 }
+    requires columns { part.x + part.wide ≤ 4 }
+    requires rows { part.y < 4 }
     ensures { (width : ℕ) (picture : List CodedMacroblock) → Keeps width picture near.now →
-        result ≡ syntax.predicted_vector width picture slice motions.now direction ref_idx x y wide }
+        result ≡ syntax.predicted_vector width picture slice motions.now part.direction ref_idx part.x part.y part.wide }
 {
+    let Part {
+        x,
+        y,
+        wide,
+        direction,
+        ..
+    } = part;
     if (x, y, wide) == (0, 0, 4) {
         return vector_of_whole(near, slice, motions, direction, ref_idx);
     }

@@ -1,11 +1,11 @@
-//! What macroblocks take from their slice.
+//! What macroblocks take from their slice, and what they see around themselves.
 #![tactic(auto)]
 
 ghost use Rattle.std.specs.Prelude.{◌≡◌, ◌<◌};
 ghost use Rattle.h264_vectors.specs.Derived.{has_picture, motion_of};
 
 use h264_base::SliceType;
-use h264_near::{Motion, Vector};
+use h264_near::{Motion, Near, Vector};
 
 /// What the slice header and the parameter sets say to its macroblocks.
 #[derive(Clone, Copy)]
@@ -25,6 +25,13 @@ pub struct SliceContext {
     pub chroma_qp_index_offset: i32,
     /// Vertical vector components lie below this, in quarter samples, and not below its negative.
     pub vector_limit: u32,
+}
+
+/// What a macroblock sees around itself: the macroblocks before it, as far as they are kept, and its slice, by which they are available to it (6.4.9).
+#[derive(Clone, Copy)]
+pub struct Surroundings<'a> {
+    pub near: &'a Near,
+    pub slice: &'a SliceContext,
 }
 
 /// Whether an index names a picture to predict from.

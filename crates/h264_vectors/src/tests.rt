@@ -4,8 +4,8 @@
 ghost use Rattle.h264_vectors.specs.Agrees.{Usable};
 
 use crate::{
-    Direction, Part, SliceContext, derive, has_picture, motion_of, predicted_vector, skip_vector,
-    vector_fits,
+    Direction, Part, PredictedPart, SliceContext, Surroundings, VectorDifference, derive,
+    has_picture, motion_of, predicted_vector, skip_vector, vector_fits,
 };
 use h264_base::SliceType;
 use h264_near::{Contexts, Motion, Near, Vector};
@@ -48,7 +48,14 @@ fn macroblock(ref_idx: u8, x: i16, y: i16) -> Contexts {
 
 /// The predicted vector of a macroblock of one part.
 fn whole(near: &Near, direction: Direction, ref_idx: u8) -> (i16, i16) {
-    let v = predicted_vector(near, 0, &[None; 16], direction, ref_idx, 0, 0, 4);
+    let part = Part {
+        x: 0,
+        y: 0,
+        wide: 4,
+        high: 4,
+        direction,
+    };
+    let v = predicted_vector(near, 0, &[None; 16], part, ref_idx);
     (v.x, v.y)
 }
 
@@ -80,15 +87,26 @@ fn vectors(rt: HostRuntime) -> Result<(), Fail> {
 
 fn parts(rt: &impl Abort, near: &Near) {
     let slice = slice();
-    let part = Part {
-        x: 0,
-        y: 2,
-        wide: 4,
-        high: 2,
-        direction: Direction::FromA,
+    let around = Surroundings {
+        near,
+        slice: &slice,
+    };
+    let part = PredictedPart {
+        place: Part {
+            x: 0,
+            y: 2,
+            wide: 4,
+            high: 2,
+            direction: Direction::FromA,
+        },
+        ref_idx: 0,
     };
     let mut motions = [None; 16];
-    assert!(rt; derive(near, &slice, part, 0, 5, 255, true, &mut motions));
+    let mvd = VectorDifference {
+        across: 5,
+        down: 255,
+    };
+    assert!(rt; derive(around, part, mvd, true, &mut motions));
     assert!(rt; motions[7].is_none());
     match motions[8] {
         Some(motion) => assert_eq!(rt;
@@ -97,7 +115,11 @@ fn parts(rt: &impl Abort, near: &Near) {
         ),
         None => assert!(rt; false),
     }
-    assert!(rt; !derive(near, &slice, part, 0, 0, 256, true, &mut motions));
+    let mvd = VectorDifference {
+        across: 0,
+        down: 256,
+    };
+    assert!(rt; !derive(around, part, mvd, true, &mut motions));
     assert!(rt; has_picture(&slice, 0) && !has_picture(&slice, 1) && !has_picture(&slice, 16));
     assert!(rt; vector_fits(256, Vector { x: -8192, y: -256 }));
     assert!(rt; !vector_fits(256, Vector { x: 8191, y: 256 }));

@@ -8,24 +8,24 @@ use Rattle.h264_vectors.proofs.derived.derive.Goals as goal
 pub returns-then-not-fits-clause-agrees : goal.returns-then-not-fits-clause-agrees
 returns-then-not-fits-clause-agrees c width picture places d k a =
     let b = rw c.if-not-fits.true at a in
-    derive-off width c.args.slice.now picture _ places d c.args.part c.args.index c.args.across c.args.down b
+    derive-off width c.args.around.slice.now picture _ places d c.args.part.place c.args.part.ref_idx c.args.mvd.across c.args.mvd.down b
 
 pub returns-in-None-clause-agrees : goal.returns-in-None-clause-agrees
 returns-in-None-clause-agrees c width picture places d k a =
     let b = rw c.if-not-fits.false at a in
-    let f0 : SFits w32 c.args.across = search rules in
-    let f1 : SFits w32 c.args.down = search rules in
+    let f0 : SFits w32 c.args.mvd.across = search rules in
+    let f1 : SFits w32 c.args.mvd.down = search rules in
     let m = simp to_z-of_z at c.moved.ensures in
-    derive-out width c.args.slice.now picture _ places d c.args.part c.args.index c.args.across c.args.down _ b (c.predicted_vector-predicted.ensures width picture k) (none-of _ _ (sym c.in-None.is ∙ m))
+    derive-out width c.args.around.slice.now picture _ places d c.args.part.place c.args.part.ref_idx c.args.mvd.across c.args.mvd.down _ b (c.predicted_vector-predicted.ensures width picture k) (none-of _ _ (sym c.in-None.is ∙ m))
 
 pub returns-in-Some-clause-agrees : goal.returns-in-Some-clause-agrees
 returns-in-Some-clause-agrees c width picture places d k a =
     let b = rw c.if-not-fits.false at a in
-    let f0 : SFits w32 c.args.across = search rules in
-    let f1 : SFits w32 c.args.down = search rules in
+    let f0 : SFits w32 c.args.mvd.across = search rules in
+    let f1 : SFits w32 c.args.mvd.down = search rules in
     let m = simp to_z-of_z at c.moved.ensures in
     let s = some-of _ _ _ (sym c.in-Some.is ∙ m) in
-    derive-in width c.args.slice.now picture _ _ places d c.args.part c.args.index c.args.across c.args.down _ _ b (c.predicted_vector-predicted.ensures width picture k) s.0 s.1 (rw c.motion_of.ensures at c.fill.ensures)
+    derive-in width c.args.around.slice.now picture _ _ places d c.args.part.place c.args.part.ref_idx c.args.mvd.across c.args.mvd.down _ _ b (c.predicted_vector-predicted.ensures width picture k) s.0 s.1 (rw c.motion_of.ensures at c.fill.ensures)
 
 pub returns-in-Some-clause-alike : goal.returns-in-Some-clause-alike
-returns-in-Some-clause-alike c whole alike = rw c.fill.ensures (whole-alike c.args.motions.now c.args.part c.motion_of.result whole)
+returns-in-Some-clause-alike c whole alike = rw c.fill.ensures (whole-alike c.args.motions.now c.args.part.place c.motion_of.result whole)

@@ -37,4 +37,4 @@ returns-in_err-i3-clause-meets g c width picture k = let p = err_from_is_err_and
 
 pub returns-clause-meets : goal.returns-clause-meets
 unfolding split_parts
-returns-clause-meets g c width picture k = bind _ (c.in_ok-t0.ensures.meets) (bind _ (c.in_ok-t1.ensures.meets) (bind _ (c.in_ok-t2.ensures.meets) (bind _ (c.in_ok-t3.ensures.meets) (bind _ (c.in_ok-i0.ensures.meets) (bind _ (c.in_ok-i1.ensures.meets) (bind _ (c.in_ok-i2.ensures.meets) (bind _ (c.in_ok-i3.ensures.meets) (c.read_quarters.ensures.meets width picture k))))))))
+returns-clause-meets g c width picture k = bind _ (c.in_ok-t0.ensures.meets) (bind _ (c.in_ok-t1.ensures.meets) (bind _ (c.in_ok-t2.ensures.meets) (bind _ (c.in_ok-t3.ensures.meets) (bind _ (c.in_ok-i0.ensures.meets) (bind _ (c.in_ok-i1.ensures.meets) (bind _ (c.in_ok-i2.ensures.meets) (bind _ (c.in_ok-i3.ensures.meets) (c.read_sub_macroblocks.ensures.meets width picture k))))))))
