@@ -278,36 +278,41 @@ fn side_row<const W: usize, const X: usize, const Y: usize>(
     }
 }
 
+/// Where the rows begin that a block is made of: the column and the row of the first of the six.
+#[derive(Clone, Copy)]
+struct Corner {
+    x: usize,
+    y: usize,
+}
+
 /// Writes row `v` of a block at a quarter place without j, whose rows above are there, and gives the windows of that row.
 #[inline(always)]
 fn side_line<const W: usize, const H: usize, const X: usize, const Y: usize>(
     windows: Windows,
     p: &Lines<'_>,
-    x: usize,
-    c: usize,
-    y: usize,
+    corner: Corner,
     v: usize,
     taps: &SixTaps,
     out: &mut [u8],
 ) -> Windows
     requires size { (W ≤ 16) × (H ≤ 16) }
     requires taps { AreSixTaps taps.now }
-    requires small { (x ≤ 16384) × (y ≤ 16384) }
-    requires columns { x + 13 ≤ p.now.width }
-    requires more_columns { 8 < W → x + 21 ≤ p.now.width }
-    requires rows { y + H + 5 ≤ p.now.height }
+    requires small { (corner.x ≤ 16384) × (corner.y ≤ 16384) }
+    requires columns { corner.x + 13 ≤ p.now.width }
+    requires more_columns { 8 < W → corner.x + 21 ≤ p.now.width }
+    requires rows { corner.y + H + 5 ≤ p.now.height }
     requires row { v < H }
     requires whole { length out.old ≡ W * H }
     requires parts { (X < 4) × (Y < 4) }
     requires no_j { (X ≢ 2) ⊎ (Y ≡ 0) }
     requires nor_j { (Y ≢ 2) ⊎ (X ≡ 0) }
-    requires column { c ≡ partner_of X }
-    requires near { c ≤ 3 }
-    requires windows { LastFiveOfBoth false W p.now x c (y + v) windows }
-    requires above { HasBlock W v out.old (λ u v. quarter X Y (λ i j. at p.now (x + u + i) (y + v + j))) }
-    ensures windows { LastFiveOfBoth false W p.now x c (y + (v + 1)) result }
-    ensures rows { HasBlock W (v + 1) out.new (λ u v. quarter X Y (λ i j. at p.now (x + u + i) (y + v + j))) }
+    requires windows { LastFiveOfBoth false W p.now corner.x (partner_of X) (corner.y + v) windows }
+    requires above { HasBlock W v out.old (λ u v. quarter X Y (λ i j. at p.now (corner.x + u + i) (corner.y + v + j))) }
+    ensures windows { LastFiveOfBoth false W p.now corner.x (partner_of X) (corner.y + (v + 1)) result }
+    ensures rows { HasBlock W (v + 1) out.new (λ u v. quarter X Y (λ i j. at p.now (corner.x + u + i) (corner.y + v + j))) }
 {
+    let Corner { x, y } = corner;
+    let c = partner::<X>();
     let windows = next_windows::<false, W>(windows, p, x, c, y + v);
     let row = side_row::<W, X, Y>(windows, p, x, c, y + v, taps);
     put_row::<W>(row, &mut out[W * v..W * v + W]);
@@ -336,14 +341,14 @@ fn side_block<const W: usize, const H: usize, const X: usize, const Y: usize>(
     requires nor_j { (Y ≢ 2) ⊎ (X ≡ 0) }
     ensures { HasBlock W H out.new (λ u v. quarter X Y (λ i j. at p.entry (x + u + i) (y + v + j))) }
 {
-    let c = partner::<X>();
-    let mut windows = first_windows::<false, W>(&p, x, c, y);
+    let corner = Corner { x, y };
+    let mut windows = first_windows::<false, W>(&p, x, partner::<X>(), y);
     for n in 0..H / 2 {
-        windows = side_line::<W, H, X, Y>(windows, &p, x, c, y, 2 * n, taps, out);
-        windows = side_line::<W, H, X, Y>(windows, &p, x, c, y, 2 * n + 1, taps, out);
+        windows = side_line::<W, H, X, Y>(windows, &p, corner, 2 * n, taps, out);
+        windows = side_line::<W, H, X, Y>(windows, &p, corner, 2 * n + 1, taps, out);
     }
     if H % 2 == 1 {
-        let _ = side_line::<W, H, X, Y>(windows, &p, x, c, y, H - 1, taps, out);
+        let _ = side_line::<W, H, X, Y>(windows, &p, corner, H - 1, taps, out);
     }
 }
 
@@ -401,31 +406,29 @@ fn middle_line<const W: usize, const H: usize, const X: usize, const Y: usize>(
     across: Windows,
     samples: Windows,
     p: &Lines<'_>,
-    x: usize,
-    c: usize,
-    y: usize,
+    corner: Corner,
     v: usize,
     out: &mut [u8],
 ) -> (Windows, Windows)
     requires size { (W ≤ 16) × (H ≤ 16) }
-    requires small { (x ≤ 16384) × (y ≤ 16384) }
-    requires columns { x + 13 ≤ p.now.width }
-    requires more_columns { 8 < W → x + 21 ≤ p.now.width }
-    requires rows { y + H + 5 ≤ p.now.height }
+    requires small { (corner.x ≤ 16384) × (corner.y ≤ 16384) }
+    requires columns { corner.x + 13 ≤ p.now.width }
+    requires more_columns { 8 < W → corner.x + 21 ≤ p.now.width }
+    requires rows { corner.y + H + 5 ≤ p.now.height }
     requires row { v < H }
     requires whole { length out.old ≡ W * H }
     requires parts { (X < 4) × (Y < 4) }
     requires with_j { (X ≡ 2) ⊎ (Y ≡ 2) }
     requires not_at_0 { (0 < X) × (0 < Y) }
-    requires column { c ≡ partner_of X }
-    requires near { c ≤ 3 }
-    requires across { LastFiveOfBoth true W p.now x c (y + v) across }
-    requires samples { LastFiveOfBoth false W p.now x c (y + v) samples }
-    requires above { HasBlock W v out.old (λ u v. quarter X Y (λ i j. at p.now (x + u + i) (y + v + j))) }
-    ensures across { LastFiveOfBoth true W p.now x c (y + (v + 1)) result.0 }
-    ensures samples { LastFiveOfBoth false W p.now x c (y + (v + 1)) result.1 }
-    ensures rows { HasBlock W (v + 1) out.new (λ u v. quarter X Y (λ i j. at p.now (x + u + i) (y + v + j))) }
+    requires across { LastFiveOfBoth true W p.now corner.x (partner_of X) (corner.y + v) across }
+    requires samples { LastFiveOfBoth false W p.now corner.x (partner_of X) (corner.y + v) samples }
+    requires above { HasBlock W v out.old (λ u v. quarter X Y (λ i j. at p.now (corner.x + u + i) (corner.y + v + j))) }
+    ensures across { LastFiveOfBoth true W p.now corner.x (partner_of X) (corner.y + (v + 1)) result.0 }
+    ensures samples { LastFiveOfBoth false W p.now corner.x (partner_of X) (corner.y + (v + 1)) result.1 }
+    ensures rows { HasBlock W (v + 1) out.new (λ u v. quarter X Y (λ i j. at p.now (corner.x + u + i) (corner.y + v + j))) }
 {
+    let Corner { x, y } = corner;
+    let c = partner::<X>();
     let across = next_windows::<true, W>(across, p, x, c, y + v);
     let samples = next_windows::<false, W>(samples, p, x, c, y + v);
     let row = middle_row::<W, X, Y>(across, samples);
@@ -452,11 +455,11 @@ fn middle_block<const W: usize, const H: usize, const X: usize, const Y: usize>(
     requires not_at_0 { (0 < X) × (0 < Y) }
     ensures { HasBlock W H out.new (λ u v. quarter X Y (λ i j. at p.entry (x + u + i) (y + v + j))) }
 {
-    let c = partner::<X>();
-    let mut across = first_windows::<true, W>(&p, x, c, y);
-    let mut samples = first_windows::<false, W>(&p, x, c, y);
+    let corner = Corner { x, y };
+    let mut across = first_windows::<true, W>(&p, x, partner::<X>(), y);
+    let mut samples = first_windows::<false, W>(&p, x, partner::<X>(), y);
     for v in 0..H {
-        (across, samples) = middle_line::<W, H, X, Y>(across, samples, &p, x, c, y, v, out);
+        (across, samples) = middle_line::<W, H, X, Y>(across, samples, &p, corner, v, out);
     }
 }
 
@@ -479,16 +482,16 @@ fn middle_block_in_pairs<const W: usize, const H: usize, const X: usize, const Y
     requires not_at_0 { (0 < X) × (0 < Y) }
     ensures { HasBlock W H out.new (λ u v. quarter X Y (λ i j. at p.entry (x + u + i) (y + v + j))) }
 {
-    let c = partner::<X>();
-    let mut across = first_windows::<true, W>(&p, x, c, y);
-    let mut samples = first_windows::<false, W>(&p, x, c, y);
+    let corner = Corner { x, y };
+    let mut across = first_windows::<true, W>(&p, x, partner::<X>(), y);
+    let mut samples = first_windows::<false, W>(&p, x, partner::<X>(), y);
     for n in 0..H / 2 {
         let v = 2 * n;
-        (across, samples) = middle_line::<W, H, X, Y>(across, samples, &p, x, c, y, v, out);
-        (across, samples) = middle_line::<W, H, X, Y>(across, samples, &p, x, c, y, v + 1, out);
+        (across, samples) = middle_line::<W, H, X, Y>(across, samples, &p, corner, v, out);
+        (across, samples) = middle_line::<W, H, X, Y>(across, samples, &p, corner, v + 1, out);
     }
     if H % 2 == 1 {
-        let _ = middle_line::<W, H, X, Y>(across, samples, &p, x, c, y, H - 1, out);
+        let _ = middle_line::<W, H, X, Y>(across, samples, &p, corner, H - 1, out);
     }
 }
 

@@ -6,8 +6,8 @@ use Rattle.h264_inter.proofs.luma_blocks.middle_block_in_pairs.Goals as goal
 pub loop-n-init : goal.loop-n-init
 loop-n-init g c = record {
   above = block_none _ _ _;
-  rows = both_at _ _ _ _ _ _ _ _ (omega arith) c.first_windows-across.ensures;
-  samples = both_at _ _ _ _ _ _ _ _ (omega arith) c.first_windows-samples.ensures;
+  rows = both_at _ _ _ _ _ _ _ _ (omega arith) (rw c.partner.ensures.value at c.first_windows-across.ensures);
+  samples = both_at _ _ _ _ _ _ _ _ (omega arith) (rw c.partner-2.ensures.value at c.first_windows-samples.ensures);
 }
 
 pub loop-n-preserved : goal.loop-n-preserved

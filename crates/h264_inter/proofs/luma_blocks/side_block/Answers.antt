@@ -6,7 +6,7 @@ use Rattle.h264_inter.proofs.luma_blocks.side_block.Goals as goal
 pub loop-n-init : goal.loop-n-init
 loop-n-init g c = record {
   above = block_none _ _ _;
-  rows = both_at _ _ _ _ _ _ _ _ (omega arith) c.first_windows-windows.ensures;
+  rows = both_at _ _ _ _ _ _ _ _ (omega arith) (rw c.partner.ensures.value at c.first_windows-windows.ensures);
 }
 
 pub loop-n-preserved : goal.loop-n-preserved
