@@ -29,6 +29,14 @@ pub struct Found<T> {
     pub value: T,
 }
 
+/// A word of a table of code words, as it was looked up in the next 16 bits.
+#[derive(Clone, Copy)]
+pub struct SeenWord {
+    pub table: Table,
+    /// What the table says of the word; nothing where none of its words stands there.
+    pub entry: Option<Entry>,
+}
+
 /// Whether more data follow.
 #[derive(Clone, Copy, Debug, PartialEq, Eq)]
 pub struct Ahead {
@@ -273,19 +281,19 @@ pub fn read_entry<S: Elements>(
     bits: &mut Bits,
     rule: Rule,
     name: ElementName,
-    table: Table,
-    entry: Option<Entry>,
+    word: SeenWord,
     sink: &mut S,
 ) -> Result<Found<u8>, Stop>
-    requires word { entry ≡ option_map entry_of (front_of 16 (rows_of table) (peek_at 16 bits.old.body.bytes bits.old.at)) }
-    requires known { IfSome entry (λ e. e.value ≤ greatest_value table) }
+    requires word { word.entry ≡ option_map entry_of (front_of 16 (rows_of word.table) (peek_at 16 bits.old.body.bytes bits.old.at)) }
+    requires known { IfSome word.entry (λ e. e.value ≤ greatest_value word.table) }
     requires room { HasRoom S.failures sink.old }
-    ensures meets { Meets S.took S.failures (Is seen_unsigned) (word_form rule name (Words (code_table table))) bits.old bits.new sink.old sink.new result }
-    ensures small { IfOk result (λ f. f.value ≤ greatest_value table) }
+    ensures meets { Meets S.took S.failures (Is seen_unsigned)
+        (word_form rule name (Words (code_table word.table))) bits.old bits.new sink.old sink.new result }
+    ensures small { IfOk result (λ f. f.value ≤ greatest_value word.table) }
     ensures quiet { OnOk result (IsQuiet S.failures sink.old sink.new) }
 {
     let bit = bits.stream_bit();
-    let Ok(value) = bits.entry(table, entry) else {
+    let Ok(value) = bits.entry(word.table, word.entry) else {
         return Err(Stop::No { bit, rule });
     };
     match sink.element(name, bit, value as i64) {
@@ -303,23 +311,22 @@ pub fn read_entry_if<S: Elements>(
     coded: bool,
     rule: Rule,
     name: ElementName,
-    table: Table,
-    entry: Option<Entry>,
+    word: SeenWord,
     sink: &mut S,
 ) -> Result<Found<u8>, Stop>
-    requires word { coded ≡ true → entry ≡ option_map entry_of (front_of 16 (rows_of table) (peek_at 16 bits.old.body.bytes bits.old.at)) }
-    requires known { coded ≡ true → IfSome entry (λ e. e.value ≤ greatest_value table) }
-    requires nothing { coded ≡ false → entry ≡ Some (record { length = 0; value = 0 }) }
+    requires word { coded ≡ true → word.entry ≡ option_map entry_of (front_of 16 (rows_of word.table) (peek_at 16 bits.old.body.bytes bits.old.at)) }
+    requires known { coded ≡ true → IfSome word.entry (λ e. e.value ≤ greatest_value word.table) }
+    requires nothing { coded ≡ false → word.entry ≡ Some (record { length = 0; value = 0 }) }
     requires room { HasRoom S.failures sink.old }
     ensures meets { coded ≡ true → Meets S.took S.failures (Is seen_unsigned)
-        (word_form rule name (Words (code_table table))) bits.old bits.new sink.old sink.new result }
+        (word_form rule name (Words (code_table word.table))) bits.old bits.new sink.old sink.new result }
     ensures nothing { coded ≡ false → Meets S.took S.failures (Is (λ f. f.value)) (Done 0) bits.old bits.new sink.old sink.new result }
-    ensures small { coded ≡ true → IfOk result (λ f. f.value ≤ greatest_value table) }
+    ensures small { coded ≡ true → IfOk result (λ f. f.value ≤ greatest_value word.table) }
     ensures zero { coded ≡ false → IfOk result (λ f. f.value ≡ 0) }
     ensures quiet { OnOk result (IsQuiet S.failures sink.old sink.new) }
 {
     let bit = bits.stream_bit();
-    let Ok(value) = bits.entry_if(coded, table, entry) else {
+    let Ok(value) = bits.entry_if(coded, word.table, word.entry) else {
         return Err(Stop::No { bit, rule });
     };
     if coded {

@@ -19,7 +19,7 @@ mod window;
 
 pub use bits::{Bits, NoWord};
 pub use element::{
-    Ahead, Found, check, look, read_align, read_bits, read_bytes, read_entry, read_entry_if,
-    read_flag, read_residual_bits, read_se, read_te, read_trailing, read_u, read_ue, read_word,
-    support,
+    Ahead, Found, SeenWord, check, look, read_align, read_bits, read_bytes, read_entry,
+    read_entry_if, read_flag, read_residual_bits, read_se, read_te, read_trailing, read_u, read_ue,
+    read_word, support,
 };

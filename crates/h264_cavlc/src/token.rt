@@ -9,7 +9,7 @@ ghost use Rattle.h264_cavlc.specs.Token as syntax;
 
 use crate::token_words::{coeff_token_table, coeff_token_word};
 use h264_base::{ElementName, Elements, Rule, Stop};
-use h264_bits::{Bits, check, read_entry, read_residual_bits};
+use h264_bits::{Bits, SeenWord, check, read_entry, read_residual_bits};
 
 /// What coeff_token says.
 #[derive(Clone, Copy, Debug, PartialEq, Eq)]
@@ -37,14 +37,9 @@ pub(crate) fn read_token<S: Elements>(
 {
     let table = coeff_token_table(size, nc);
     let entry = coeff_token_word(size, nc, bits.next_16());
-    let found = read_entry(
-        bits,
-        Rule::ResidualWord,
-        ElementName::CoeffToken,
-        table,
-        entry,
-        sink,
-    )?;
+    let word = SeenWord { table, entry };
+    let name = ElementName::CoeffToken;
+    let found = read_entry(bits, Rule::ResidualWord, name, word, sink)?;
     let total = found.value / 4;
     check(usize::from(total) <= size, Rule::BlockSize, found.bit)?;
     Ok(Token {

@@ -10,7 +10,7 @@ ghost use Rattle.h264_cavlc.specs.Place.{by_place as standing};
 use crate::runs::{LONG, short_run_word};
 use crate::totals::{total_zeros_table, total_zeros_word};
 use h264_base::{ElementName, Elements, Rule, Stop};
-use h264_bits::{Bits, check, read_entry, read_entry_if, read_word};
+use h264_bits::{Bits, SeenWord, check, read_entry, read_entry_if, read_word};
 use h264_tables::{Entry, Table};
 
 /// Reads total_zeros of a block that has `total` coefficients.
@@ -33,14 +33,9 @@ pub(crate) fn read_total_zeros<S: Elements>(
     }
     let table = total_zeros_table(size, total);
     let entry = total_zeros_word(size, total, bits.next_16());
-    let found = read_entry(
-        bits,
-        Rule::ResidualWord,
-        ElementName::TotalZeros,
-        table,
-        entry,
-        sink,
-    )?;
+    let word = SeenWord { table, entry };
+    let name = ElementName::TotalZeros;
+    let found = read_entry(bits, Rule::ResidualWord, name, word, sink)?;
     let zeros = found.value;
     check(
         usize::from(total) + usize::from(zeros) <= size,
@@ -95,13 +90,16 @@ fn read_run_before<S: Elements>(bits: &mut Bits, zeros_left: u8, sink: &mut S) -
     if length == LONG {
         return read_long_run_before(bits, zeros_left, sink);
     }
+    let word = SeenWord {
+        table,
+        entry: Some(Entry { length, value }),
+    };
     let found = read_entry_if(
         bits,
         zeros_left > 0,
         Rule::ResidualWord,
         ElementName::RunBefore,
-        table,
-        Some(Entry { length, value }),
+        word,
         sink,
     )?;
     let run = found.value;
