@@ -439,7 +439,8 @@ const FAULTS: [Asking; 12] = [
         stream: ONE,
         out: &[],
         err: "Says whether a stream is legal: yes, no with the first rule that it breaks and the bit where, or outside\n\n\
-Usage: h264v check [OPTIONS] <FILE>...\n\nArguments:\n  <FILE>...  An H.264 byte stream (Annex B), as cameras and encoders write it with the ending .264 or .h264; - for standard input\n",
+Usage: h264v check [OPTIONS] <FILE>...\n\nArguments:\n  <FILE>...  An H.264 byte stream (Annex B), as cameras and encoders \
+write it with the ending .264 or .h264; - for standard input\n",
         status: 64,
     },
     Asking {
