@@ -1,10 +1,15 @@
 -- References and vectors of the blocks of a macroblock, part by part.
-use Rattle.std.proofs.Common.{◌≡◌, ◌≢◌, ◌==◌, ℕ, zero, suc, Bool, true, false, List, [], ◌∷◌, ◌++◌, map, replicate, get_or, ℤ, Option, Some, None, refl, ap, sym, ◌∙◌, if◌then◌else◌}
+use Rattle.std.proofs.Common.{◌≡◌, ◌≢◌, ◌==◌, ℕ, zero, suc, Bool, true, false, List, [], ◌∷◌, ◌++◌, map, replicate, get_or, ℤ, Option, Some, None, Result, Ok, Err, refl, ap, sym, ◌∙◌, if◌then◌else◌}
 use Rattle.std.specs.Option.{is_some}
 use Rattle.std.proofs.lemmas.Bool.{eqb-true}
 use Rattle.std.proofs.lemmas.List.{get_or-replicate}
 use Rattle.std.specs.List.{range_with_len}
 use Rattle.std.proofs.Math.ListN as math
+use Rattle.h264_base.specs.declared.stop.Stop.{Stop}
+use Rattle.h264_base.specs.Call.{Call}
+use Rattle.h264_base.specs.Grammar.{Grammar, Done, ◌>>=◌}
+use Rattle.h264_base.specs.Meets.{Reader, Meets}
+use Rattle.h264_base.proofs.Steps.{bind_as, stop, done}
 use Rattle.h264_near.specs.declared.motion.Motion.{Motion}
 use Rattle.h264_near.specs.declared.motion.Vector.{Vector}
 use Rattle.h264_near.specs.Coded.{CodedMacroblock, column_of, row_of}
@@ -33,6 +38,11 @@ none-of false v e = refl
 pub some-of : {A : Type 0} (b : Bool) (v w : A) → Some w ≡ if_fits b v → (b ≡ true) × (w ≡ v)
 some-of true v w e = (refl, cc)
 some-of false v w e = absurd (cc)
+
+-- the last of the parts with one index gives what they all give
+pub last : {X A S : Type 0} {took : S → List Call → Type 0} {failures : S → ℕ} {R : X → A → Type 0} {g : Grammar A} {old new : Reader} {s s' : S} (r : Result X Stop) → Meets took failures R g old new s s' r → Meets took failures R (g >>= (λ v. Done v)) old new s s' r
+last (Ok x) m = bind_as _ m (λ v e. done _ _ _ _ _ _ _ e)
+last (Err e) m = stop _ m
 
 -- once a vector has left its range
 pub derive-off : (width : ℕ) (slice : SliceContext) (picture : List CodedMacroblock) (blocks : List (Option Motion)) (places : List Bool) (d : Derived) (p : Part) (i : ℕ) (across down : ℤ) → Agrees false blocks places d → Agrees false blocks (places_with places p) (derive width slice picture d p i across down)

@@ -1,7 +1,7 @@
 //! References and vectors of inter macroblocks (7.3.5.1, 7.3.5.2, 8.4.1).
 #![tactic(auto)]
 
-ghost use Rattle.std.specs.Prelude.{◌≡◌, ℕ, ◌+◌, ◌-◌, ◌<◌, ◌≤◌, ◌^◌, ◌||◌, not, Bool, true, false, List, [], ◌∷◌, None, replicate, OnOk, IfOk};
+ghost use Rattle.std.specs.Prelude.{◌≡◌, ℕ, ◌+◌, ◌-◌, ◌<◌, ◌≤◌, ◌^◌, ◌||◌, not, Bool, true, false, List, [], ◌∷◌, None, replicate, slice_index, OnOk, IfOk};
 ghost use Rattle.h264_base.specs.Call.{HasRoom, IsQuiet};
 ghost use Rattle.h264_base.specs.Meets.{Meets, Is};
 ghost use Rattle.h264_near.specs.Coded.{CodedMacroblock};
@@ -13,7 +13,7 @@ ghost use Rattle.h264_vectors.specs.Agrees.{Agrees, Usable, IsWhole, AreAlike, p
 ghost use Rattle.h264_vectors.specs.Inter as syntax;
 
 use crate::derived::derive;
-use crate::part::{Direction, Halves, Part, PredictedPart, SubMacroblock, VectorDifference};
+use crate::part::{Halves, Part, PredictedPart, SubMacroblock, VectorDifference};
 use crate::slice::{SliceContext, Surroundings, has_picture};
 use h264_base::{ElementName, Elements, Rule, Stop};
 use h264_bits::forms::ue_up_to;
@@ -122,8 +122,7 @@ fn read_four<S: Elements>(
     let first = read_part(bits, around, a, fits, motions, sink)?;
     let second = read_part(bits, around, b, first, motions, sink)?;
     let third = read_part(bits, around, c, second, motions, sink)?;
-    let fourth = read_part(bits, around, d, third, motions, sink)?;
-    Ok(fourth)
+    read_part(bits, around, d, third, motions, sink)
 }
 
 /// Reads the vectors of a sub-macroblock by its sub_mb_type (Table 7-17).
@@ -155,22 +154,19 @@ fn read_sub_macroblock<S: Elements>(
     } = sub;
     if sub_mb_type == 0 {
         let whole = sub.part(x, y, 2, 2);
-        let whole_fits = read_part(bits, around, whole, fits, motions, sink)?;
-        return Ok(whole_fits);
+        return read_part(bits, around, whole, fits, motions, sink);
     }
     if sub_mb_type == 1 {
         let upper = sub.part(x, y, 2, 1);
         let lower = sub.part(x, y + 1, 2, 1);
         let upper_fits = read_part(bits, around, upper, fits, motions, sink)?;
-        let lower_fits = read_part(bits, around, lower, upper_fits, motions, sink)?;
-        return Ok(lower_fits);
+        return read_part(bits, around, lower, upper_fits, motions, sink);
     }
     if sub_mb_type == 2 {
         let left = sub.part(x, y, 1, 2);
         let right = sub.part(x + 1, y, 1, 2);
         let left_fits = read_part(bits, around, left, fits, motions, sink)?;
-        let right_fits = read_part(bits, around, right, left_fits, motions, sink)?;
-        return Ok(right_fits);
+        return read_part(bits, around, right, left_fits, motions, sink);
     }
     read_four(bits, around, sub, fits, motions, sink)
 }
@@ -179,28 +175,26 @@ fn read_sub_macroblock<S: Elements>(
 fn read_sub_macroblocks<S: Elements>(
     bits: &mut Bits,
     around: Surroundings,
-    types: (u32, u32, u32, u32),
-    indices: (u32, u32, u32, u32),
+    types: [u32; 4],
+    indices: [u32; 4],
     motions: &mut [Option<Motion>; 16],
     sink: &mut S,
 ) -> Result<bool, Stop>
     requires none { motions.old ≡ replicate 16 None }
-    requires first { indices.0 < 16 }
-    requires second { indices.1 < 16 }
-    requires third { indices.2 < 16 }
-    requires fourth { indices.3 < 16 }
+    requires indices { (k : ℕ) → k < 4 → slice_index indices k < 16 }
     requires usable { Usable around.slice.now }
     requires room { HasRoom S.failures sink.old }
     ensures meets { (width : ℕ) (picture : List CodedMacroblock) → Keeps width picture around.entry.near.now →
         Meets S.took S.failures (λ w next. Agrees w motions.new (replicate 16 true) next)
-        (syntax.quarters width around.entry.slice.now picture types.0 types.1 types.2 types.3 indices.0 indices.1 indices.2 indices.3)
-        bits.old bits.new sink.old sink.new result }
+        (syntax.quarters width around.entry.slice.now picture
+        (slice_index types 0) (slice_index types 1) (slice_index types 2) (slice_index types 3)
+        (slice_index indices 0) (slice_index indices 1) (slice_index indices 2) (slice_index indices 3)) bits.old bits.new sink.old sink.new result }
     ensures quiet { OnOk result (IsQuiet S.failures sink.old sink.new) }
 {
-    let first = SubMacroblock::new(0, 0, types.0, indices.0);
-    let second = SubMacroblock::new(2, 0, types.1, indices.1);
-    let third = SubMacroblock::new(0, 2, types.2, indices.2);
-    let fourth = SubMacroblock::new(2, 2, types.3, indices.3);
+    let first = SubMacroblock::new(0, 0, types[0], indices[0]);
+    let second = SubMacroblock::new(2, 0, types[1], indices[1]);
+    let third = SubMacroblock::new(0, 2, types[2], indices[2]);
+    let fourth = SubMacroblock::new(2, 2, types[3], indices[3]);
     let a = read_sub_macroblock(bits, around, first, true, motions, sink)?;
     let b = read_sub_macroblock(bits, around, second, a, motions, sink)?;
     let c = read_sub_macroblock(bits, around, third, b, motions, sink)?;
@@ -235,8 +229,8 @@ fn read_split<S: Elements>(
     read_sub_macroblocks(
         bits,
         around,
-        (t0, t1, t2, t3),
-        (i0, i1, i2, i3),
+        [t0, t1, t2, t3],
+        [i0, i1, i2, i3],
         motions,
         sink,
     )
@@ -261,14 +255,10 @@ fn read_one_part<S: Elements>(
     ensures quiet { OnOk result (IsQuiet S.failures sink.old sink.new) }
 {
     let ref_idx = read_ref_index(bits, around.slice, inferred, sink)?;
-    let place = Part {
-        x: 0,
-        y: 0,
-        wide: 4,
-        high: 4,
-        direction: Direction::Median,
+    let part = PredictedPart {
+        place: Part::WHOLE,
+        ref_idx,
     };
-    let part = PredictedPart { place, ref_idx };
     read_part(bits, around, part, true, motions, sink)
 }
 
@@ -333,41 +323,11 @@ fn read_motions_by<S: Elements>(
         return read_one_part(bits, around, inferred, motions, sink);
     }
     if kind == 1 {
-        let halves = Halves {
-            first: Part {
-                x: 0,
-                y: 0,
-                wide: 4,
-                high: 2,
-                direction: Direction::FromB,
-            },
-            second: Part {
-                x: 0,
-                y: 2,
-                wide: 4,
-                high: 2,
-                direction: Direction::FromA,
-            },
-        };
+        let halves = Halves::UPPER_AND_LOWER;
         return read_two_parts(bits, around, inferred, halves, motions, sink);
     }
     if kind == 2 {
-        let halves = Halves {
-            first: Part {
-                x: 0,
-                y: 0,
-                wide: 2,
-                high: 4,
-                direction: Direction::FromA,
-            },
-            second: Part {
-                x: 2,
-                y: 0,
-                wide: 2,
-                high: 4,
-                direction: Direction::FromC,
-            },
-        };
+        let halves = Halves::LEFT_AND_RIGHT;
         return read_two_parts(bits, around, inferred, halves, motions, sink);
     }
     read_split(bits, around, inferred, motions, sink)

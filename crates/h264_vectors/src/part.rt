@@ -29,6 +29,17 @@ pub struct Part {
     pub direction: Direction,
 }
 
+impl Part {
+    /// All of a macroblock of 16x16.
+    pub(crate) const WHOLE: Part = Part {
+        x: 0,
+        y: 0,
+        wide: 4,
+        high: 4,
+        direction: Direction::Median,
+    };
+}
+
 /// A part with its refIdxL0, the place in the reference list of the picture that it is predicted from.
 #[derive(Clone, Copy)]
 pub struct PredictedPart {
@@ -52,6 +63,44 @@ pub struct VectorDifference {
 pub(crate) struct Halves {
     pub first: Part,
     pub second: Part,
+}
+
+impl Halves {
+    /// 16x8: the upper part, then the lower one.
+    pub(crate) const UPPER_AND_LOWER: Halves = Halves {
+        first: Part {
+            x: 0,
+            y: 0,
+            wide: 4,
+            high: 2,
+            direction: Direction::FromB,
+        },
+        second: Part {
+            x: 0,
+            y: 2,
+            wide: 4,
+            high: 2,
+            direction: Direction::FromA,
+        },
+    };
+
+    /// 8x16: the left part, then the right one.
+    pub(crate) const LEFT_AND_RIGHT: Halves = Halves {
+        first: Part {
+            x: 0,
+            y: 0,
+            wide: 2,
+            high: 4,
+            direction: Direction::FromA,
+        },
+        second: Part {
+            x: 2,
+            y: 0,
+            wide: 2,
+            high: 4,
+            direction: Direction::FromC,
+        },
+    };
 }
 
 /// A sub-macroblock, which is an 8x8 block of a macroblock of four (6.4.2.2): where it begins, in 4x4 blocks, and what the stream says of it.
