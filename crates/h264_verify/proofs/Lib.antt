@@ -12,6 +12,7 @@ pub mod Showing
 pub mod Playing
 pub mod Stepping
 pub mod Slicing
+pub mod Sliced
 pub mod Stepwise
 pub mod Ruling
 pub mod Sound

@@ -1,5 +1,5 @@
 -- Slice data after what is kept before them.
-use Rattle.std.proofs.Common.{◌≡◌, ℕ, Bool, ◌&&◌, true, false, List, [], ◌∷◌, Option, Some, Result, refl, ap, sym, ◌∙◌, length}
+use Rattle.std.proofs.Common.{◌≡◌, ℕ, Bool, ◌&&◌, true, false, List, [], ◌∷◌, Option, Some, Result, Ok, refl, ap, sym, ◌∙◌, length}
 use Rattle.h264_base.specs.declared.mode.Mode.TheVariants as modes
 use Rattle.h264_base.specs.declared.stop.Stop.{Stop}
 use Rattle.h264_base.specs.Call.{Call}
@@ -9,9 +9,6 @@ use Rattle.h264_sps.specs.declared.sps.Sps.{Sps}
 use Rattle.h264_pps.specs.declared.Pps.{Pps}
 use Rattle.h264_header.specs.declared.header.Header.{Header}
 use Rattle.h264_near.specs.Coded.{CodedMacroblock}
-use Rattle.h264_sets.specs.Sets.{Maps}
-use Rattle.h264_header.specs.Layout.{sets_of}
-use Rattle.h264_marking.specs.declared.frame.Numbering.{Numbering}
 use Rattle.h264_marking.specs.Frames.{References}
 use Rattle.h264_lists.specs.declared.slot.RefSlot.{RefSlot}
 use Rattle.h264_sps.specs.Usable.{is_usable, crops_within, holds_references, buffers_within}
@@ -21,13 +18,15 @@ use Rattle.h264_picture.specs.Context.{slice_context}
 use Rattle.h264_picture.specs.Levels.{transform_fits}
 use Rattle.h264_picture.specs.Filter.{slice_filter}
 use Rattle.h264_picture.specs.Weights.{slice_weights}
-use Rattle.h264_verify.specs.Lists.{context_in, list_of}
+use Rattle.h264_verify.specs.Lists.{context_in, list_in, list_of}
+use Rattle.h264_verify.specs.declared.head.SlicePlace.{SlicePlace}
+use Rattle.h264_verify.specs.declared.slices.Slice.{Slice}
 use Rattle.h264_verify.specs.Sound.{HasPps}
 use Rattle.h264_verify.specs.Decoding.{slices_of}
 use Rattle.h264_verify.proofs.Agreeing.{each-slice}
 use Rattle.h264_verify.specs.declared.decoder.Decoder.{Decoder}
 use Rattle.h264_verify.specs.Buffering.{within_newest}
-use Rattle.h264_verify.specs.Keeping.{HoldsBegun, KeepsOutput, KeepsDecoder, BeginsFrames}
+use Rattle.h264_verify.specs.Keeping.{HoldsBegun, KeepsOutput, KeepsDecoder, IsRead, BeginsFrames}
 use Rattle.h264_dpb.specs.Turns.{Turn}
 use Rattle.h264_verify.specs.Framing.{ReadsSlice, ReadsData}
 use Rattle.h264_vectors.specs.declared.slice.SliceContext.{SliceContext}
@@ -54,31 +53,6 @@ syntax-is width size pps sps h list picture c e = ap (λ (x : SliceContext). sli
 syntax-same : (width size : ℕ) (pps : Pps) (sps : Sps) (h : Header) (m : Option (Found Marking)) (list : List RefSlot) (picture : List CodedMacroblock) → slice_syntax width size pps sps (record h { marking = m }) list picture ≡ slice_syntax width size pps sps h list picture
 syntax-same width size pps sps h m list picture = sym (syntax-is width size pps sps (record h { marking = m }) list picture _ refl) ∙ syntax-is width size pps sps h list picture _ (context-same pps sps h m list)
 
-some-first : {A B : Type 0} (a b : A) (c d : B) → (let x : Option (A × B) = Some (a, c) in x ≡ Some (b, d)) → a ≡ b
-some-first {A} {B} a b c d e = let p : ◌≡◌ {A = A × B} (a, c) (b, d) = cc in ap (λ (x : A × B). x.0) p
-
-some-second : {A B : Type 0} (a b : A) (c d : B) → (let x : Option (A × B) = Some (a, c) in x ≡ Some (b, d)) → c ≡ d
-some-second {A} {B} a b c d e = let p : ◌≡◌ {A = A × B} (a, c) (b, d) = cc in ap (λ (x : A × B). x.1) p
-
--- what the code reads slice data by is what the units so far give
-pub data-same : (begins : Bool) (pictures : List CodedPicture) (s : CodedSlice) (sets : Maps) (header : Header) (pps : Pps) (sps : Sps) (n : Numbering) (held : References) (items : List RefSlot) → sets_of sets header.pic_parameter_set_id.value ≡ Some (pps, sps) → sets_of sets s.header.pic_parameter_set_id.value ≡ Some (s.pps, s.sps) → header ≡ record s.header { marking = header.marking } → n ≡ numbering_of sps header → held ≡ held_in (joined_to begins s pictures) → items ≡ result_unwrap_or (list_of header.kind.value n held) [] → slice_syntax (picture_set begins s pictures).frame_size.width (picture_size (picture_set begins s pictures)) pps sps header items (coded_so_far begins pictures) ≡ data_in begins pictures s
-data-same begins pictures s sets header pps sps n held items named names h ns hs list =
-    let same = sym named ∙ ap (λ (x : Header). sets_of sets x.pic_parameter_set_id.value) h ∙ names in
-    let pps-is = some-first pps s.pps sps s.sps same in
-    let sps-is = some-second pps s.pps sps s.sps same in
-    let listed = ap (λ (x : Header). list_of x.kind.value (numbering_of s.sps s.header) (held_in (joined_to begins s pictures))) (sym h) ∙ ap (λ (m : Numbering). list_of header.kind.value m (held_in (joined_to begins s pictures))) (ap (λ (x : Sps). numbering_of x s.header) (sym sps-is) ∙ ap (λ (x : Header). numbering_of sps x) (sym h) ∙ sym ns) ∙ ap (λ (r : References). list_of header.kind.value n r) (sym hs) in
-    let width = (picture_set begins s pictures).frame_size.width in
-    let size = picture_size (picture_set begins s pictures) in
-    let coded = coded_so_far begins pictures in
-    ap (λ (x : Pps). slice_syntax width size x sps header items coded) pps-is
-    ∙ ap (λ (x : Sps). slice_syntax width size s.pps x header items coded) sps-is
-    ∙ ap (λ (x : Header). slice_syntax width size s.pps s.sps x items coded) h
-    ∙ syntax-same width size s.pps s.sps s.header header.marking items coded
-    ∙ ap (λ (l : List RefSlot). slice_syntax width size s.pps s.sps s.header l coded) (list ∙ sym (ap (λ (r : Result (List RefSlot) ℕ). result_unwrap_or r []) listed))
-
-pub named-set : (sets : Maps) (header : Header) (s : CodedSlice) (pps : Pps) (sps : Sps) → sets_of sets header.pic_parameter_set_id.value ≡ Some (pps, sps) → sets_of sets s.header.pic_parameter_set_id.value ≡ Some (s.pps, s.sps) → header ≡ record s.header { marking = header.marking } → sps ≡ s.sps
-named-set sets header s pps sps named names h = some-second pps s.pps sps s.sps (sym named ∙ ap (λ (x : Header). sets_of sets x.pic_parameter_set_id.value) h ∙ names)
-
 -- the frames of a set that may be given are no larger than the greatest MaxFS
 first-of : (a r : Bool) → (a && r) ≡ true → a ≡ true
 first-of true r h = refl
@@ -88,34 +62,44 @@ pub usable_size : (sps : Sps) → is_usable sps ≡ true → is_frame_size sps.f
 unfolding is_usable
 usable_size sps e = first-of (is_frame_size sps.frame_size) (crops_within sps.frame_size sps.frame_cropping && (holds_references sps && buffers_within sps)) e
 
--- what the code takes from the header is what the slice has
-pub context-is : (begins : Bool) (pictures : List CodedPicture) (s : CodedSlice) (sets : Maps) (header : Header) (pps : Pps) (sps : Sps) (n : Numbering) (held : References) (items : List RefSlot) (c : SliceContext) → c ≡ slice_context pps sps header items → sets_of sets header.pic_parameter_set_id.value ≡ Some (pps, sps) → sets_of sets s.header.pic_parameter_set_id.value ≡ Some (s.pps, s.sps) → header ≡ record s.header { marking = header.marking } → n ≡ numbering_of sps header → held ≡ held_in (joined_to begins s pictures) → items ≡ result_unwrap_or (list_of header.kind.value n held) [] → c ≡ context_in (joined_to begins s pictures) s
-context-is begins pictures s sets header pps sps n held items c is named names h ns hs list =
-    let same = sym named ∙ ap (λ (x : Header). sets_of sets x.pic_parameter_set_id.value) h ∙ names in
-    let pps-is = some-first pps s.pps sps s.sps same in
-    let sps-is = some-second pps s.pps sps s.sps same in
-    let listed = ap (λ (x : Header). list_of x.kind.value (numbering_of s.sps s.header) (held_in (joined_to begins s pictures))) (sym h) ∙ ap (λ (m : Numbering). list_of header.kind.value m (held_in (joined_to begins s pictures))) (ap (λ (x : Sps). numbering_of x s.header) (sym sps-is) ∙ ap (λ (x : Header). numbering_of sps x) (sym h) ∙ sym ns) ∙ ap (λ (r : References). list_of header.kind.value n r) (sym hs) in
-    is ∙ ap (λ (x : Pps). slice_context x sps header items) pps-is
-    ∙ ap (λ (x : Sps). slice_context s.pps x header items) sps-is
-    ∙ ap (λ (x : Header). slice_context s.pps s.sps x items) h
-    ∙ context-same s.pps s.sps s.header header.marking items
-    ∙ ap (λ (l : List RefSlot). slice_context s.pps s.sps s.header l) (list ∙ sym (ap (λ (r : Result (List RefSlot) ℕ). result_unwrap_or r []) listed))
-
 filter-same : (pps : Pps) (h : Header) (m : Option (Found Marking)) → slice_filter pps (record h { marking = m }) ≡ slice_filter pps h
 unfolding slice_filter
 filter-same pps h m = refl
-
-pub filter-is : (s : CodedSlice) (sets : Maps) (header : Header) (pps : Pps) (sps : Sps) → sets_of sets header.pic_parameter_set_id.value ≡ Some (pps, sps) → sets_of sets s.header.pic_parameter_set_id.value ≡ Some (s.pps, s.sps) → header ≡ record s.header { marking = header.marking } → slice_filter pps header ≡ slice_filter s.pps s.header
-filter-is s sets header pps sps named names h =
-    let same = sym named ∙ ap (λ (x : Header). sets_of sets x.pic_parameter_set_id.value) h ∙ names in
-    ap (λ (x : Pps). slice_filter x header) (some-first pps s.pps sps s.sps same) ∙ ap (λ (x : Header). slice_filter s.pps x) h ∙ filter-same s.pps s.header header.marking
 
 weights-same : (h : Header) (m : Option (Found Marking)) → slice_weights (record h { marking = m }) ≡ slice_weights h
 unfolding slice_weights
 weights-same h m = refl
 
-pub weights-are : (s : CodedSlice) (header : Header) → header ≡ record s.header { marking = header.marking } → slice_weights header ≡ slice_weights s.header
-weights-are s header h = ap slice_weights h ∙ weights-same s.header header.marking
+-- a list that is built of these frames
+pub listed : (pictures : List CodedPicture) (s : CodedSlice) (held : References) (list : List RefSlot) → held ≡ held_in pictures → list_of s.header.kind.value (numbering_of s.sps s.header) held ≡ Ok list → list ≡ list_in pictures s
+listed pictures s held list h e = sym (ap (λ (r : Result (List RefSlot) ℕ). result_unwrap_or r []) (ap (λ (x : References). list_of s.header.kind.value (numbering_of s.sps s.header) x) (sym h) ∙ e))
+
+-- what the code reads slice data by is what the units so far give
+module _ (place : SlicePlace) (kept : Slice) (pictures : List CodedPicture) (s : CodedSlice) (is : IsRead place kept pictures s) where
+  pub data-same : slice_syntax (picture_set place.begins s pictures).frame_size.width (picture_size (picture_set place.begins s pictures)) place.pps.now place.sps.now kept.header kept.list.items (coded_so_far place.begins pictures) ≡ data_in place.begins pictures s
+  data-same =
+      let width = (picture_set place.begins s pictures).frame_size.width in
+      let size = picture_size (picture_set place.begins s pictures) in
+      let coded = coded_so_far place.begins pictures in
+      ap (λ (x : Pps). slice_syntax width size x place.sps.now kept.header kept.list.items coded) is.pps
+      ∙ ap (λ (x : Sps). slice_syntax width size s.pps x kept.header kept.list.items coded) is.sps
+      ∙ ap (λ (x : Header). slice_syntax width size s.pps s.sps x kept.list.items coded) is.header
+      ∙ syntax-same width size s.pps s.sps s.header kept.header.marking kept.list.items coded
+      ∙ ap (λ (l : List RefSlot). slice_syntax width size s.pps s.sps s.header l coded) is.list
+
+  pub context-is : (c : SliceContext) → c ≡ slice_context place.pps.now place.sps.now kept.header kept.list.items → c ≡ context_in (joined_to place.begins s pictures) s
+  context-is c e =
+      e ∙ ap (λ (x : Pps). slice_context x place.sps.now kept.header kept.list.items) is.pps
+      ∙ ap (λ (x : Sps). slice_context s.pps x kept.header kept.list.items) is.sps
+      ∙ ap (λ (x : Header). slice_context s.pps s.sps x kept.list.items) is.header
+      ∙ context-same s.pps s.sps s.header kept.header.marking kept.list.items
+      ∙ ap (λ (l : List RefSlot). slice_context s.pps s.sps s.header l) is.list
+
+  pub filter-is : slice_filter place.pps.now kept.header ≡ slice_filter s.pps s.header
+  filter-is = ap (λ (x : Pps). slice_filter x kept.header) is.pps ∙ ap (λ (x : Header). slice_filter s.pps x) is.header ∙ filter-same s.pps s.header kept.header.marking
+
+  pub weights-are : slice_weights kept.header ≡ slice_weights s.header
+  weights-are = ap slice_weights is.header ∙ weights-same s.header kept.header.marking
 
 -- a slice that was read belongs to its picture
 begun-first : (frames : ℕ → Frame) (s : CodedSlice) (pictures : List CodedPicture) (ms : List CodedMacroblock) (d : Decoder) → HoldsBegun frames (record { first = s; later = [] }) pictures (s ∷ []) ms d → HoldsBegun frames (record { first = record s { macroblocks = ms }; later = [] }) pictures (record s { macroblocks = ms } ∷ []) ms d

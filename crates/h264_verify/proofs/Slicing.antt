@@ -14,15 +14,8 @@ use Rattle.h264_sps.proofs.Content.{decides-sps}
 use Rattle.h264_header.proofs.Named.{named-pair}
 use Rattle.h264_sets.specs.declared.SetPair.{SetPair}
 use Rattle.h264_header.specs.declared.header.Header.{Header}
-use Rattle.h264_header.specs.declared.header.PicNumModification.{PicNumModification}
-use Rattle.h264_header.specs.declared.header.RefPicList0.{RefPicList0}
 use Rattle.h264_header.specs.Layout.{sets_of}
-use Rattle.h264_marking.specs.declared.frame.ReferenceFrame.{ReferenceFrame}
-use Rattle.h264_marking.specs.declared.frame.Numbering.{Numbering}
 use Rattle.h264_lists.specs.declared.slot.RefSlot.{RefSlot}
-use Rattle.h264_lists.specs.Initial.{list_places, initial}
-use Rattle.h264_lists.specs.Modified.{modified}
-use Rattle.h264_lists.specs.Built.{built}
 use Rattle.h264_base.specs.declared.mode.Mode.{Mode}
 use Rattle.h264_verify.specs.Content as contents
 use Rattle.h264_verify.specs.Outcome.{Outcome, answers, Plays, IsNamed}
@@ -152,16 +145,6 @@ some-of (Some x) h = (x, refl)
 pub ok-true : (b : Bool) (x : Unit {0}) (e : Stop) → (let r : Result (Unit {0}) Stop = Ok x in r ≡ (if b then Ok tt else Err e)) → b ≡ true
 ok-true true x e h = refl
 ok-true false x e h = cc
-
--- a list without modifications can be built
-unmodified-by : (n : Numbering) (places : ℕ) (frames : List ReferenceFrame) (slots : List RefSlot) (ms : List PicNumModification) → length ms ≡ 0 → Ok tt ≡ judged (list_demand (modified n places frames 0 (pos n.frame_num) ms slots) ∷ [])
-unfolding modified
-unmodified-by n places frames slots [] e = refl
-unmodified-by n places frames slots (m ∷ ms) e = absurd (cc)
-
-pub unmodified : (n : Numbering) (list : RefPicList0) (frames : List ReferenceFrame) → (length list.modifications.items == 0) ≡ true → Ok tt ≡ judged (list_demand (built n list frames) ∷ [])
-unfolding built
-unmodified n list frames e = unmodified-by n (list_places list.num_ref_idx_l0_active) frames (initial n (list_places list.num_ref_idx_l0_active) frames) list.modifications.items (eqb-true (length list.modifications.items) 0 e)
 
 -- a stop that these steps come to
 pub refused : {S : Type 0} (took : S → List Told → Type 0) (failures : S → ℕ) (steps : List Step) (s : S) (e : Stop) → steps_outcome steps ≡ answers (Err e) → IsNamed e → Plays took failures (λ (x : Unit {0}). x) (steps_outcome steps) s s (Err e)

@@ -1,5 +1,5 @@
 -- What judging does to the frames of the pictures. A working form.
-use Rattle.std.specs.Prelude.{ℕ, Bool, true, false, List, [], length, OnOk, Result}
+use Rattle.std.specs.Prelude.{◌≡◌, ℕ, ◌*◌, Bool, true, false, List, [], length, OnOk, Result, Ok, Some}
 use Rattle.h264_base.specs.declared.mode.Mode.{Mode}
 use Rattle.h264_base.specs.declared.mode.Mode.TheVariants as modes
 use Rattle.h264_base.specs.declared.stop.Stop.{Stop}
@@ -8,6 +8,7 @@ use Rattle.h264_plane.specs.declared.frame.Frame.{Frame}
 use Rattle.h264_units.specs.Stream.{NalUnit}
 use Rattle.h264_near.specs.Coded.{CodedMacroblock}
 use Rattle.h264_verify.specs.declared.decoder.Decoder.{Decoder}
+use Rattle.h264_verify.specs.declared.state.State.{State}
 use Rattle.h264_verify.specs.Telling.{took_with, Agree}
 use Rattle.h264_verify.specs.Outcome.{Outcome, Plays}
 use Rattle.h264_verify.specs.History.{History}
@@ -16,7 +17,10 @@ use Rattle.h264_sps.specs.declared.sps.Sps.{Sps}
 use Rattle.h264_header.specs.declared.header.Header.{Header}
 use Rattle.h264_verify.specs.Pictures.{CodedPicture, with_sets, goes_on, runs_of}
 use Rattle.h264_verify.specs.Order.{slice_steps}
-use Rattle.h264_verify.specs.Keeping.{KeepsDecoder, EntersDecoder, ended_pictures, ended_in}
+use Rattle.h264_verify.specs.Keeping.{KeepsSlices, KeepsDecoder, EntersDecoder, ended_pictures, ended_in, close_steps, standing_demands, coded_before}
+use Rattle.h264_verify.specs.Demands.{judged}
+use Rattle.h264_verify.specs.Slices.{first_mb_demands}
+use Rattle.h264_header.specs.Layout.{sets_of}
 use Rattle.h264_verify.specs.StepOutcome.{steps_outcome}
 
 -- The picture that may go on has ended, or not; with these frames and one more, if it has, this was told, and that is kept.
@@ -50,3 +54,13 @@ pub record ReadsData {S X : Type 0} (took : S → List Call → Type 0) (failure
   pub end : ℕ
   pub plays : Plays (took_with frames took) failures (λ (x : X). (macroblocks, end)) o s s' result
   pub keeps : OnOk result (KeepsDecoder modes.Full frames true false (pictures macroblocks) new)
+
+-- A slice took its place after these units: the picture before it ended, where it begins one, and the rules on its place are met.
+pub record PlacesSlice {S : Type 0} (mode : Mode) (took : S → List Call → Type 0) (failures : S → ℕ) (frames : ℕ → Frame) (before : History) (unit : NalUnit)
+    (h : Header) (begins : Bool) (old new : State) (s s' : S) : Type 0 where
+  pub closes : EndsFrames mode took failures frames (goes_on before) begins (runs_of before) (steps_outcome (close_steps mode begins before)) new.decoder
+      s s' (Ok tt)
+  pub ended : KeepsSlices before begins new.slices
+  pub stands : (named : Pps × Sps) → sets_of old.sets h.pic_parameter_set_id.value ≡ Some named →
+      Ok tt ≡ judged (standing_demands begins named.1 new.slices.due old.sets (8 * unit.from) h)
+  pub first : Ok tt ≡ judged (first_mb_demands mode (coded_before begins (runs_of before)) h)

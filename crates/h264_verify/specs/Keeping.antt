@@ -1,11 +1,11 @@
 -- What is kept of the slices so far. A working form: it ties values of the program to the list of units.
-use Rattle.std.specs.Prelude.{◌≡◌, ◌≢◌, ℕ, ◌+◌, ◌-◌, ◌*◌, ◌<◌, ◌≤◌, ◌^◌, get_or, not, ◌||◌, List, [], ◌∷◌, ◌++◌, map, length, ℤ, Option, Some, None, Bool}
+use Rattle.std.specs.Prelude.{◌≡◌, ◌≢◌, ℕ, ◌+◌, ◌-◌, ◌*◌, ◌%◌, ◌<◌, ◌≤◌, ◌^◌, get_or, not, ◌||◌, List, [], ◌∷◌, ◌++◌, map, length, ℤ, Option, Some, None, Bool}
 use Rattle.std.specs.Prelude.{true, false, if◌then◌else◌}
 use Rattle.std.specs.Option.{option_map_or}
 use Rattle.h264_near.specs.Coded.{CodedMacroblock}
 use Rattle.h264_bits.specs.declared.element.Found.{Found}
 use Rattle.h264_marking.specs.Frames.{References, frame_places}
-use Rattle.h264_marking.specs.Gaps.{entered}
+use Rattle.h264_marking.specs.Gaps.{entered, numbers_from}
 use Rattle.h264_dpb.specs.Buffered.{Buffered}
 use Rattle.h264_poc.specs.declared.picture.Picture.{Picture}
 use Rattle.h264_poc.specs.Counts.{Keeps as KeepsCounts}
@@ -16,6 +16,9 @@ use Rattle.h264_header.specs.declared.header.Marking.{Marking}
 use Rattle.h264_header.specs.Layout.{sets_of}
 use Rattle.h264_header.specs.Picture.{begins_picture, picture_elements, is_idr, is_reference}
 use Rattle.h264_sets.specs.Sets.{Maps}
+use Rattle.h264_verify.specs.declared.frame_num.Gap.{Gap}
+use Rattle.h264_verify.specs.declared.head.SlicePlace.{SlicePlace}
+use Rattle.h264_verify.specs.declared.slices.Slice.{Slice}
 use Rattle.h264_verify.specs.declared.slices.Slices.{Slices}
 use Rattle.h264_verify.specs.declared.picture.OpenPicture.{OpenPicture}
 use Rattle.h264_verify.specs.declared.picture.Types.{Types}
@@ -40,7 +43,7 @@ use Rattle.h264_verify.specs.Buffering.{newest_count, after_all, within_newest, 
 use Rattle.h264_verify.specs.Decoding.{slices_of, EachSlice, number_of, parameters_of}
 use Rattle.h264_verify.specs.Demands.{Demand}
 use Rattle.h264_verify.specs.History.{History, maps_of}
-use Rattle.h264_verify.specs.Pictures.{CodedSlice, CodedPicture, last_slice, coded_of, picture_size, bit_after, goes_on, open_of, joined_to, runs_of, counted}
+use Rattle.h264_verify.specs.Pictures.{CodedSlice, CodedPicture, last_slice, coded_of, picture_size, bit_after, with_sets, goes_on, open_of, joined_to, runs_of, counted}
 use Rattle.h264_verify.specs.Pictures.{prev_ref_frame_num_of, held_after, held_in}
 use Rattle.h264_verify.specs.Order.{closing_demands}
 use Rattle.h264_verify.specs.Order.{whole_steps}
@@ -51,7 +54,7 @@ use Rattle.h264_verify.specs.Steps.{Step, Tells, needs}
 use Rattle.h264_verify.specs.Slices.{is_i, has_i, has_p, states_type, is_idr_due, newest_idr_of, idr_demand, set_demand, type_demand, idr_num_demand}
 use Rattle.h264_verify.specs.Slices.{id_demand, count_demand, qp_demand, list_demand, marking_demand, slice_call}
 use Rattle.h264_verify.specs.Order.{first_slice_rules, later_slice_rules, gap_rules}
-use Rattle.h264_verify.specs.Lists.{list_of, named_in}
+use Rattle.h264_verify.specs.Lists.{list_of, list_in, named_in}
 use Rattle.h264_verify.specs.Data.{coded_so_far}
 use Rattle.h264_verify.specs.Sound.{AreSound, has_ended, HasActive, NamesSet}
 
@@ -318,20 +321,25 @@ BeginsFrames frames true slice pictures d = BegunFrames frames slice pictures d
 BeginsFrames frames false slice [] d = ⊥
 BeginsFrames frames false slice (p ∷ ps) d = KeepsFrames frames true false (p ∷ ps) d
 
--- there is a slice whose rules are met, with these sets and this header, before whose data this is kept
-pub record ReadsSome (begins : Bool) (held : References) (sets : Maps) (header : Header) (d : Decoder) : Type 0 where
+-- what is kept of a slice whose rules are met, and that begins a picture after these, or belongs to the newest
+pub record IsRead (place : SlicePlace) (kept : Slice) (pictures : List CodedPicture) (s : CodedSlice) : Type 0 where
+  pub pps : place.pps.now ≡ s.pps
+  pub sps : place.sps.now ≡ s.sps
+  pub header : kept.header ≡ record s.header { marking = kept.header.marking }
+  pub list : kept.list.items ≡ list_in (joined_to place.begins s pictures) s
+
+-- there is such a slice, before whose data this is kept
+pub record ReadsSome (place : SlicePlace) (kept : Slice) (d : Decoder) : Type 0 where
   pub frames : ℕ → Frame
   pub on : Bool
   pub pictures : List CodedPicture
   pub slice : CodedSlice
-  pub sets_are : sets_of sets slice.header.pic_parameter_set_id.value ≡ Some (slice.pps, slice.sps)
-  pub header_is : header ≡ record slice.header { marking = header.marking }
-  pub held_are : held ≡ held_in (joined_to begins slice pictures)
-  pub next : number_of slice ≡ length (coded_so_far begins pictures)
-  pub live : begins ≡ false → on ≡ true
-  pub sound : AreSound false (joined_to begins slice pictures)
+  pub is : IsRead place kept pictures slice
+  pub next : number_of slice ≡ length (coded_so_far place.begins pictures)
+  pub live : place.begins ≡ false → on ≡ true
+  pub sound : AreSound false (joined_to place.begins slice pictures)
   pub typed : is_typed slice.header ≡ true
-  pub keeps : EntersBy frames begins slice on pictures d
+  pub keeps : EntersBy frames place.begins slice on pictures d
 
 unfoldable pub EntersDecoder : Mode → (ℕ → Frame) → Bool → CodedSlice → Bool → List CodedPicture → Decoder → Type 0
 EntersDecoder modes.Units frames begins slice on pictures d = Unit {0}
@@ -371,6 +379,10 @@ pub record GoesWith (mode : Mode) (sps : Sps) (held : References) (d : Decoder) 
   pub few : length held.frames ≤ frame_places sps.max_num_ref_frames
   pub places : HasPlaces mode (frame_places sps.max_num_ref_frames) d
   pub format : IsMadeAs mode (format_of sps) d
+
+-- the numbers of a gap, one after another (7.4.3)
+abbrev pub numbers_in : Gap → List ℕ
+numbers_in gap = numbers_from gap.count ((gap.prev_ref_frame_num + 1) % gap.numbering.max_frame_num) gap.numbering.max_frame_num
 
 -- there are frames of which this is kept
 pub record KeepsSomeGap (mode : Mode) (d : Decoder) : Type 0 where
@@ -451,6 +463,10 @@ later_by slices pps sps h =
     ∷ list_demand (list_of h.kind.value (numbering_of sps h) slices.held)
     ∷ marking_demand (marking_by slices.picture) h
     ∷ []
+
+-- a slice of these macroblocks, by its header and where it stands
+abbrev pub slice_at : SlicePlace → Header → List CodedMacroblock → CodedSlice
+slice_at place h macroblocks = with_sets place.unit.now h macroblocks (place.pps.now, place.sps.now)
 
 -- What is kept once the rules of a slice are met, before it is entered: the open picture, the newest idr_pic_id and the number of
 -- pictures are those before it; counts and held frames are those of the pictures with it.

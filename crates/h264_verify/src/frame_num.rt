@@ -13,12 +13,12 @@ ghost use Rattle.h264_marking.specs.Frames.{frame_places};
 ghost use Rattle.h264_dpb.specs.Turns.{Turn, turn_then, names, missing_turn};
 ghost use Rattle.h264_base.specs.declared.rule.Rule.TheVariants.{FrameNum};
 ghost use Rattle.h264_base.specs.declared.stop.Stop.TheVariants.{No};
-ghost use Rattle.h264_marking.specs.Gaps.{is_new_num, entered, numbers_from, last_or, all_filled, unused_short_term_frame_nums};
+ghost use Rattle.h264_marking.specs.Gaps.{is_new_num, entered, last_or, all_filled, unused_short_term_frame_nums};
 ghost use Rattle.h264_verify.specs.Telling.{took_with};
 ghost use Rattle.h264_verify.specs.Outcome.{Plays};
 ghost use Rattle.h264_verify.specs.Buffering.{told_frames, gaps_turn, missing_steps};
 ghost use Rattle.h264_marking.specs.Steady.{IsSteady};
-ghost use Rattle.h264_verify.specs.Keeping.{KeepsGap, KeepsSomeGap, StaysSteady, HasPlaces, GoesWith};
+ghost use Rattle.h264_verify.specs.Keeping.{KeepsGap, KeepsSomeGap, StaysSteady, HasPlaces, GoesWith, numbers_in};
 ghost use Rattle.h264_verify.specs.StepOutcome.{steps_outcome};
 ghost use Rattle.h264_verify.specs.Demands.{judged};
 ghost use Rattle.h264_verify.specs.Pictures.{prev_ref_frame_num_after};
@@ -38,6 +38,19 @@ use h264_marking::{Held, Numbering, resets};
 
 /// How many frames are held at most (7.4.2.1.1). After so many missing numbers all short-term frames are theirs.
 const MOST_PLACES: u32 = 16;
+
+/// The numbers that are missing between PrevRefFrameNum and a picture's frame_num (7.4.3): the values of UnusedShortTermFrameNum.
+#[derive(Clone, Copy)]
+struct Gap {
+    /// PrevRefFrameNum: the number before them.
+    prev_ref_frame_num: u32,
+    /// How many there are.
+    count: u32,
+    /// What the picture's numbers go by.
+    numbering: Numbering,
+    /// The stream bit of the picture's frame_num.
+    bit: u64,
+}
 
 /// PrevRefFrameNum after a picture, where `last` is the last missing number, or the one before.
 fn prev_ref_after(reference: bool, resets: bool, frame_num: u32, last: u32) -> u32
@@ -123,38 +136,34 @@ fn may_skip(
     is_steady(mode, held, decoder)
 }
 
-/// Fills so many numbers after `prev`, one after another (8.2.5.2), and gives the last of them, or `prev` where there is none. It skips those that change
+/// Fills a gap's numbers one after another (8.2.5.2), and gives the last of them, or PrevRefFrameNum where there is none. It skips those that change
 /// nothing but the numbers of frames.
 fn fill_frames<S: FrameSink>(
     mode: Mode,
-    prev: u32,
-    count: u32,
-    numbering: &Numbering,
-    bit: u64,
+    gap: &Gap,
     held: &mut Held,
     decoder: &mut Decoder,
     sink: &mut S,
 ) -> Result<u32, Stop>
     requires room { HasRoom S.failures sink.old }
-    requires numbers { 0 < numbering.now.max_frame_num }
-    requires few { 0 < count → length held.old.frames ≤ frame_places numbering.now.max_num_ref_frames }
-    requires places { 0 < count → HasPlaces mode (frame_places numbering.now.max_num_ref_frames) decoder.old }
+    requires numbers { 0 < gap.now.numbering.max_frame_num }
+    requires few { 0 < gap.now.count → length held.old.frames ≤ frame_places gap.now.numbering.max_num_ref_frames }
+    requires places { 0 < gap.now.count → HasPlaces mode (frame_places gap.now.numbering.max_num_ref_frames) decoder.old }
     requires kept { KeepsSomeGap mode decoder.old }
     ensures plays { (frames : ℕ → Frame) (t : Turn) (next : ℕ) → KeepsGap mode frames t next decoder.old →
         Plays (took_with frames S.took) S.failures (λ _. tt) (steps_outcome
-        (missing_steps mode bit numbering.now (numbers_from count ((prev + 1) % numbering.now.max_frame_num) numbering.now.max_frame_num) held.old
-        t.buffer)) sink.old sink.new result }
+        (missing_steps mode gap.now.bit gap.now.numbering (numbers_in gap.now) held.old t.buffer)) sink.old sink.new result }
     ensures keeps { (frames : ℕ → Frame) (t : Turn) (next : ℕ) → KeepsGap mode frames t next decoder.old →
-        OnOk result (KeepsGap mode frames (turn_then t (gaps_turn numbering.now
-        (numbers_from count ((prev + 1) % numbering.now.max_frame_num) numbering.now.max_frame_num) held.old)) next decoder.new) }
+        OnOk result (KeepsGap mode frames (turn_then t (gaps_turn gap.now.numbering (numbers_in gap.now) held.old)) next decoder.new) }
     ensures no_memory { IsErrOf result Stop.Memory → ⊥ }
     ensures format { decoder.new.format ≡ decoder.old.format }
-    ensures last { IfOk result (λ last. last ≡ last_or prev (numbers_from count ((prev + 1) % numbering.now.max_frame_num) numbering.now.max_frame_num)) }
-    ensures held { OnOk result (all_filled numbering.now (numbers_from count ((prev + 1) % numbering.now.max_frame_num) numbering.now.max_frame_num)
-        held.old ≡ Some held.new) }
+    ensures last { IfOk result (λ last. last ≡ last_or gap.now.prev_ref_frame_num (numbers_in gap.now)) }
+    ensures held { OnOk result (all_filled gap.now.numbering (numbers_in gap.now) held.old ≡ Some held.new) }
     ensures kept { OnOk result (IsQuiet S.failures sink.old sink.new) }
 {
-    let mut last = prev;
+    let numbering = &gap.numbering;
+    let count = gap.count;
+    let mut last = gap.prev_ref_frame_num;
     for turn in 0..count {
         if may_skip(turn, mode, numbering, last, held, decoder) {
             held.skip(numbering, last, count - turn);
@@ -165,7 +174,7 @@ fn fill_frames<S: FrameSink>(
             max_frame_num: numbering.max_frame_num,
             max_num_ref_frames: numbering.max_num_ref_frames,
         };
-        held.fill_gap(&missing, bit)?;
+        held.fill_gap(&missing, gap.bit)?;
         miss(mode, held, decoder, sink)?;
         last = missing.frame_num;
     }
@@ -173,10 +182,10 @@ fn fill_frames<S: FrameSink>(
 }
 
 /// The rule on a gap of so many numbers: there is none, or there may be gaps.
-fn check_missing(gap: u32, gaps_allowed: bool, bit: u64) -> Result<(), Stop>
-    ensures { result ≡ (if gap == 0 || gaps_allowed then Ok tt else Err (No bit FrameNum)) }
+fn check_missing(count: u32, gaps_allowed: bool, bit: u64) -> Result<(), Stop>
+    ensures { result ≡ (if count == 0 || gaps_allowed then Ok tt else Err (No bit FrameNum)) }
 {
-    let may_miss = gap == 0 || gaps_allowed;
+    let may_miss = count == 0 || gaps_allowed;
     check(may_miss, Rule::FrameNum, bit)
 }
 
@@ -204,40 +213,50 @@ pub(crate) fn check_gap<S: FrameSink>(
     decoder: &mut Decoder,
     sink: &mut S,
 ) -> Result<(), Stop>
-    requires lengths { has_lengths head.now.sps.now ≡ true }
-    requires numbered { head.now.numbering ≡ numbering_of head.now.sps.now head.now.header.now }
+    requires lengths { has_lengths head.now.place.sps.now ≡ true }
+    requires numbered { head.now.numbering ≡ numbering_of head.now.place.sps.now head.now.header.now }
     requires room { HasRoom S.failures sink.old }
-    requires goes { is_idr head.now.header.now ≡ false → GoesWith mode head.now.sps.now held.old decoder.old }
+    requires goes { is_idr head.now.header.now ≡ false → GoesWith mode head.now.place.sps.now held.old decoder.old }
     requires kept { KeepsSomeGap mode decoder.old }
     ensures plays { (frames : ℕ → Frame) (t : Turn) (next : ℕ) → KeepsGap mode frames t next decoder.old →
         Plays (took_with frames S.took) S.failures (λ x. x) (steps_outcome
-        (gap_rules mode (is_idr head.now.header.now) (is_reference head.now.header.now) head.now.sps.now.gaps_in_frame_num_value_allowed_flag
+        (gap_rules mode (is_idr head.now.header.now) (is_reference head.now.header.now) head.now.place.sps.now.gaps_in_frame_num_value_allowed_flag
         head.now.header.now.frame_num.bit
-        prev_ref_frame_num.old (numbering_of head.now.sps.now head.now.header.now) held.old t.buffer)) sink.old sink.new result }
+        prev_ref_frame_num.old (numbering_of head.now.place.sps.now head.now.header.now) held.old t.buffer)) sink.old sink.new result }
     ensures keeps { (frames : ℕ → Frame) (t : Turn) (next : ℕ) → KeepsGap mode frames t next decoder.old →
-        OnOk result (KeepsGap mode frames (turn_then t (gaps_turn (numbering_of head.now.sps.now head.now.header.now)
+        OnOk result (KeepsGap mode frames (turn_then t (gaps_turn (numbering_of head.now.place.sps.now head.now.header.now)
         (unused_short_term_frame_nums (is_idr head.now.header.now) prev_ref_frame_num.old
-        (numbering_of head.now.sps.now head.now.header.now)) held.old)) next decoder.new) }
+        (numbering_of head.now.place.sps.now head.now.header.now)) held.old)) next decoder.new) }
     ensures no_memory { IsErrOf result Stop.Memory → ⊥ }
     ensures format { decoder.new.format ≡ decoder.old.format }
     ensures held { OnOk result (held.new ≡ entered (is_idr head.now.header.now)
-        prev_ref_frame_num.old (numbering_of head.now.sps.now head.now.header.now) held.old) }
-    ensures filled { OnOk result (all_filled (numbering_of head.now.sps.now head.now.header.now)
+        prev_ref_frame_num.old (numbering_of head.now.place.sps.now head.now.header.now) held.old) }
+    ensures filled { OnOk result (all_filled (numbering_of head.now.place.sps.now head.now.header.now)
         (unused_short_term_frame_nums (is_idr head.now.header.now) prev_ref_frame_num.old
-        (numbering_of head.now.sps.now head.now.header.now)) held.old ≡ Some held.new) }
+        (numbering_of head.now.place.sps.now head.now.header.now)) held.old ≡ Some held.new) }
     ensures prev { OnOk result (prev_ref_frame_num.new ≡ prev_ref_frame_num_after (is_idr head.now.header.now) (is_reference head.now.header.now)
-        (resets head.now.header.now.marking) (numbering_of head.now.sps.now head.now.header.now) prev_ref_frame_num.old) }
+        (resets head.now.header.now.marking) (numbering_of head.now.place.sps.now head.now.header.now) prev_ref_frame_num.old) }
     ensures kept { OnOk result (IsQuiet S.failures sink.old sink.new) }
 {
     let header = head.header;
-    let numbering = &head.numbering;
+    let numbering = head.numbering;
     let idr = header.idr_pic_id.is_some();
     let reference = header.nal_ref_idc != 0;
     let bit = header.frame_num.bit;
     let prev = *prev_ref_frame_num;
-    let gap = gap_before(idr, prev, numbering);
-    check_missing(gap, head.sps.gaps_in_frame_num_value_allowed_flag, bit)?;
-    let last = fill_frames(mode, prev, gap, numbering, bit, held, decoder, sink)?;
+    let count = gap_before(idr, prev, &numbering);
+    check_missing(
+        count,
+        head.place.sps.gaps_in_frame_num_value_allowed_flag,
+        bit,
+    )?;
+    let gap = Gap {
+        prev_ref_frame_num: prev,
+        count,
+        numbering,
+        bit,
+    };
+    let last = fill_frames(mode, &gap, held, decoder, sink)?;
     check_new(idr, reference, prev, numbering.frame_num, held, bit)?;
     *prev_ref_frame_num = prev_ref_after(
         reference,

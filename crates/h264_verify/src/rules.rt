@@ -5,7 +5,6 @@ ghost use Rattle.std.specs.Prelude.{◌≡◌, ℕ, Bool, true, false, Some, not
 ghost use Rattle.std.specs.Option.{is_some};
 ghost use Rattle.h264_base.specs.declared.stop.Stop.TheVariants.{No};
 ghost use Rattle.h264_header.specs.Layout.{sets_of};
-ghost use Rattle.h264_lists.specs.Built.{built};
 ghost use Rattle.h264_verify.specs.Demands.{judged};
 ghost use Rattle.h264_verify.specs.History.{maps_with};
 ghost use Rattle.h264_verify.specs.Content as contents;
@@ -15,10 +14,11 @@ ghost use Rattle.h264_verify.specs.Lists.{list_of};
 ghost use Rattle.h264_header.specs.SameMarking.{same_marking};
 
 use crate::picture::{OpenPicture, agrees, is_i, seen_types};
+use arrayvec::ArrayVec;
 use h264_base::{Rule, Stop};
 use h264_bits::Found;
-use h264_header::{Header, Marking, RefPicList0, SliceKind, same_marking};
-use h264_lists::build;
+use h264_header::{Header, Marking, SliceKind, same_marking};
+use h264_lists::{RefSlot, build};
 use h264_marking::{Held, Numbering};
 use h264_pps::Pps;
 use h264_sets::Sets;
@@ -129,28 +129,21 @@ pub(crate) fn check_qp(pps: &Pps, header: &Header) -> Result<(), Stop>
     check(qp, Rule::Qp, header.slice_qp_delta.bit)
 }
 
-/// Whether the list can be built. Apart, so that a list without modifications does not pay for its places.
-#[inline(never)]
-fn check_build(list: &RefPicList0, numbering: &Numbering, held: &Held) -> Result<(), Stop>
-    ensures { result ≡ judged (list_demand (built numbering.now list.now held.now.frames) ∷ []) }
+/// Builds a slice's reference list (8.2.4), by the rule on its modifications; an I slice has none.
+pub(crate) fn build_list(
+    kind: &SliceKind,
+    numbering: &Numbering,
+    held: &Held,
+    list: &mut ArrayVec<RefSlot, 16>,
+) -> Result<(), Stop>
+    ensures judged { result ≡ judged (list_demand (list_of kind.now numbering.now held.now) ∷ []) }
+    ensures list { OnOk result (list_of kind.now numbering.now held.now ≡ Ok list.new.items) }
 {
-    build(held, numbering, list)?;
+    *list = match kind {
+        SliceKind::I => ArrayVec::new(),
+        SliceKind::P(commands) => build(held, numbering, commands)?,
+    };
     Ok(())
-}
-
-/// The rule on the modifications of a slice's list: without any, each list can be built.
-pub(crate) fn check_list(kind: &SliceKind, numbering: &Numbering, held: &Held) -> Result<(), Stop>
-    ensures { result ≡ judged (list_demand (list_of kind.now numbering.now held.now) ∷ []) }
-{
-    match kind {
-        SliceKind::I => Ok(()),
-        SliceKind::P(list) => {
-            if list.modifications.is_empty() {
-                return Ok(());
-            }
-            check_build(list, numbering, held)
-        }
-    }
 }
 
 /// The bit of a marking that may not be there.

@@ -1,7 +1,7 @@
 //! The slices so far, the pictures that they begin, and the rules that a slice meets beside its own syntax.
 #![tactic(auto)]
 
-ghost use Rattle.std.specs.Prelude.{◌≡◌, ℕ, Bool, false, ◌==◌, ◌||◌, ◌+◌, ◌-◌, ◌*◌, ◌<◌, ◌≤◌, ◌^◌, true, Some, List, [], ◌∷◌, if◌then◌else◌, OnOk, IsErrOf};
+ghost use Rattle.std.specs.Prelude.{◌≡◌, ℕ, Bool, false, ◌==◌, ◌||◌, ◌+◌, ◌-◌, ◌*◌, ◌<◌, ◌≤◌, ◌^◌, true, Some, List, [], ◌∷◌, if◌then◌else◌, OnOk, Ok, IsErrOf};
 ghost use Rattle.h264_base.specs.Call.{OfSlice, HasRoom, IsQuiet};
 ghost use Rattle.h264_sps.specs.Usable.{has_lengths};
 ghost use Rattle.h264_marking.specs.Gaps.{entered, all_filled, unused_short_term_frame_nums};
@@ -16,10 +16,9 @@ ghost use Rattle.h264_dpb.specs.Turns.{Turn, turn_then};
 ghost use Rattle.h264_verify.specs.Telling.{Said, took_with};
 ghost use Rattle.h264_verify.specs.Buffering.{gaps_turn, ended_picture, frame_count, newest_count};
 ghost use Rattle.h264_verify.specs.Keeping.{KeepsSlices, KeepsDecoder, KeepsGap, KeepsSomeGap, GoesWith, KeepsSomeRules, EntersDecoder, HoldsEnd};
-ghost use Rattle.h264_verify.specs.Keeping.{HoldsOpen, IsLeft, first_by, later_by, slice_rules, told_rules, KeepsPictures, Entered, is_typed};
+ghost use Rattle.h264_verify.specs.Keeping.{HoldsOpen, IsLeft, first_by, later_by, slice_rules, told_rules, KeepsPictures, Entered, is_typed, slice_at};
 ghost use Rattle.h264_verify.specs.StepOutcome.{steps_outcome};
-ghost use Rattle.h264_units.specs.Stream.{NalUnit as UnitView};
-ghost use Rattle.h264_verify.specs.Pictures.{CodedSlice, CodedPicture, open_of, joined_to, runs_of, with_sets, goes_on, bit_after};
+ghost use Rattle.h264_verify.specs.Pictures.{CodedSlice, CodedPicture, open_of, joined_to, runs_of, goes_on, bit_after};
 ghost use Rattle.h264_verify.specs.Pictures.{prev_ref_frame_num_after, begins_at, begins_after, ends_picture};
 ghost use Rattle.h264_poc.specs.OfSlice.{picture_of};
 ghost use Rattle.h264_marking.specs.Ended.{numbering_of, resets};
@@ -29,19 +28,20 @@ ghost use Rattle.h264_verify.specs.Lists.{list_of};
 
 use crate::decoder::Decoder;
 use crate::frame_num::{check_gap, check_idr_num};
-use crate::head::SliceHead;
+use crate::head::{SliceHead, SlicePlace};
 use crate::picture::{OpenPicture, begin, go_on};
 use crate::rules::{
-    check_id, check_list, check_marking, check_qp, check_same_type, check_type, idr_id,
+    build_list, check_id, check_marking, check_qp, check_same_type, check_type, idr_id,
 };
 use crate::sink::FrameSink;
+use arrayvec::ArrayVec;
 use h264_base::{Failed, Mode, SliceType, Stop};
 use h264_dpb::{Ended, ended_of};
 use h264_header::{Header, SliceKind};
+use h264_lists::RefSlot;
 use h264_marking::{Held, Numbering, numbering_of};
 use h264_picture::buffer_size;
 use h264_poc::{Count, Counts, picture_of};
-use h264_pps::Pps;
 use h264_sps::sps::Sps;
 use h264_units::NalUnit;
 
@@ -66,6 +66,31 @@ pub struct Slices {
     pub prev_ref_frame_num: u32,
     /// The reference frames.
     pub held: Held,
+}
+
+/// The newest slice. It has one place for all slices, since it is large to move.
+#[derive(Drop)]
+pub struct Slice {
+    /// Its header.
+    pub header: Header,
+    /// Its reference list (8.2.4), once its rules are met; an I slice has none.
+    pub list: ArrayVec<RefSlot, 16>,
+}
+
+impl Slice {
+    ghost use Rattle.std.specs.Prelude.{◌≡◌, []};
+    ghost use Rattle.h264_header.specs.Header.{unread_header};
+
+    /// Before the first slice.
+    pub fn unread() -> Slice
+        ensures header { result.header ≡ unread_header }
+        ensures list { result.list.items ≡ [] }
+    {
+        Slice {
+            header: Header::unread(),
+            list: ArrayVec::new(),
+        }
+    }
 }
 
 fn type_of(kind: &SliceKind) -> SliceType
@@ -100,25 +125,33 @@ fn count_picture(
 }
 
 /// The rules of a picture's first slice after those on its frame_num, once the missing frames are held: on idr_pic_id, counts, QP and list.
-fn check_new_picture(slices: &mut Slices, head: &SliceHead<'_>, bit: u64) -> Result<(), Stop>
-    requires lengths { has_lengths head.now.sps.now ≡ true }
-    requires numbered { head.now.numbering ≡ numbering_of head.now.sps.now head.now.header.now }
+fn check_new_picture(
+    slices: &mut Slices,
+    head: &SliceHead<'_>,
+    list: &mut ArrayVec<RefSlot, 16>,
+) -> Result<(), Stop>
+    requires lengths { has_lengths head.now.place.sps.now ≡ true }
+    requires numbered { head.now.numbering ≡ numbering_of head.now.place.sps.now head.now.header.now }
     ensures judged { (pictures : List Picture) → KeepsCounts pictures slices.old.counts →
-        result ≡ judged (id_demand slices.old.newest_idr head.now.header.now ∷ count_demand (picture_of head.now.sps.now head.now.header.now ∷ pictures) bit ∷
-        qp_demand head.now.pps.now head.now.header.now ∷
-        list_demand (list_of head.now.header.now.kind.value (numbering_of head.now.sps.now head.now.header.now) slices.old.held) ∷ []) }
+        result ≡ judged (id_demand slices.old.newest_idr head.now.header.now ∷
+        count_demand (picture_of head.now.place.sps.now head.now.header.now ∷ pictures) (8 * head.now.place.unit.now.from) ∷
+        qp_demand head.now.place.pps.now head.now.header.now ∷
+        list_demand (list_of head.now.header.now.kind.value (numbering_of head.now.place.sps.now head.now.header.now) slices.old.held) ∷ []) }
     ensures no_memory { IsErrOf result Stop.Memory → ⊥ }
     ensures counts { (pictures : List Picture) → KeepsCounts pictures slices.old.counts →
-        OnOk result (KeepsCounts (picture_of head.now.sps.now head.now.header.now ∷ pictures) slices.new.counts) }
+        OnOk result (KeepsCounts (picture_of head.now.place.sps.now head.now.header.now ∷ pictures) slices.new.counts) }
     ensures count { (pictures : List Picture) → KeepsCounts pictures slices.old.counts →
-        OnOk result (slices.new.count ≡ newest_count (picture_of head.now.sps.now head.now.header.now ∷ pictures)) }
+        OnOk result (slices.new.count ≡ newest_count (picture_of head.now.place.sps.now head.now.header.now ∷ pictures)) }
+    ensures list { OnOk result (list_of head.now.header.now.kind.value head.now.numbering slices.old.held ≡ Ok list.new.items) }
     ensures others { slices.new ≡ record slices.old { counts = slices.new.counts; count = slices.new.count } }
 {
     let header = head.header;
+    let SlicePlace { unit, pps, sps, .. } = head.place;
+    let bit = 8 * unit.from();
     check_id(slices.newest_idr, header)?;
-    count_picture(head.sps, header, bit, &mut slices.counts, &mut slices.count)?;
-    check_qp(head.pps, header)?;
-    check_list(&header.kind.value, &head.numbering, &slices.held)
+    count_picture(sps, header, bit, &mut slices.counts, &mut slices.count)?;
+    check_qp(pps, header)?;
+    build_list(&header.kind.value, &head.numbering, &slices.held, list)
 }
 
 /// The rules of a picture's first slice from its type on, where the picture before has ended; and what the picture leaves.
@@ -126,38 +159,39 @@ fn check_first_slice<S: FrameSink>(
     mode: Mode,
     slices: &mut Slices,
     head: &SliceHead<'_>,
-    bit: u64,
+    list: &mut ArrayVec<RefSlot, 16>,
     decoder: &mut Decoder,
     sink: &mut S,
 ) -> Result<(), Stop>
-    requires lengths { has_lengths head.now.sps.now ≡ true }
-    requires numbered { head.now.numbering ≡ numbering_of head.now.sps.now head.now.header.now }
+    requires lengths { has_lengths head.now.place.sps.now ≡ true }
+    requires numbered { head.now.numbering ≡ numbering_of head.now.place.sps.now head.now.header.now }
     requires room { HasRoom S.failures sink.old }
-    requires goes { is_idr head.now.header.now ≡ false → GoesWith mode head.now.sps.now slices.old.held decoder.old }
+    requires goes { is_idr head.now.header.now ≡ false → GoesWith mode head.now.place.sps.now slices.old.held decoder.old }
     requires kept { KeepsSomeGap mode decoder.old }
     ensures plays { (frames : ℕ → Frame) (t : Turn) (next : ℕ) (pictures : List Picture) → KeepsGap mode frames t next decoder.old →
         KeepsCounts pictures slices.old.counts → Plays (took_with frames S.took) S.failures (λ x. x)
-        (steps_outcome (first_by mode slices.old pictures t.buffer head.now.pps.now head.now.sps.now head.now.header.now bit)) sink.old sink.new result }
+        (steps_outcome (first_by mode slices.old pictures t.buffer head.now.place.pps.now head.now.place.sps.now head.now.header.now
+        (8 * head.now.place.unit.now.from))) sink.old sink.new result }
     ensures gap { (frames : ℕ → Frame) (t : Turn) (next : ℕ) → KeepsGap mode frames t next decoder.old →
-        OnOk result (KeepsGap mode frames (turn_then t (gaps_turn (numbering_of head.now.sps.now head.now.header.now)
+        OnOk result (KeepsGap mode frames (turn_then t (gaps_turn (numbering_of head.now.place.sps.now head.now.header.now)
         (unused_short_term_frame_nums (is_idr head.now.header.now) slices.old.prev_ref_frame_num
-        (numbering_of head.now.sps.now head.now.header.now)) slices.old.held)) next
+        (numbering_of head.now.place.sps.now head.now.header.now)) slices.old.held)) next
         decoder.new) }
     ensures no_memory { IsErrOf result Stop.Memory → ⊥ }
     ensures format { decoder.new.format ≡ decoder.old.format }
     ensures counts { (pictures : List Picture) → KeepsCounts pictures slices.old.counts →
-        OnOk result (KeepsCounts (picture_of head.now.sps.now head.now.header.now ∷ pictures) slices.new.counts) }
+        OnOk result (KeepsCounts (picture_of head.now.place.sps.now head.now.header.now ∷ pictures) slices.new.counts) }
     ensures count { (pictures : List Picture) → KeepsCounts pictures slices.old.counts →
-        OnOk result (slices.new.count ≡ newest_count (picture_of head.now.sps.now head.now.header.now ∷ pictures)) }
+        OnOk result (slices.new.count ≡ newest_count (picture_of head.now.place.sps.now head.now.header.now ∷ pictures)) }
     ensures held { OnOk result (slices.new.held ≡ entered (is_idr head.now.header.now) slices.old.prev_ref_frame_num
-        (numbering_of head.now.sps.now head.now.header.now) slices.old.held) }
-    ensures filled { OnOk result (all_filled (numbering_of head.now.sps.now head.now.header.now)
+        (numbering_of head.now.place.sps.now head.now.header.now) slices.old.held) }
+    ensures filled { OnOk result (all_filled (numbering_of head.now.place.sps.now head.now.header.now)
         (unused_short_term_frame_nums (is_idr head.now.header.now) slices.old.prev_ref_frame_num
-        (numbering_of head.now.sps.now head.now.header.now)) slices.old.held ≡ Some
+        (numbering_of head.now.place.sps.now head.now.header.now)) slices.old.held ≡ Some
         slices.new.held) }
     ensures typed { OnOk result (is_typed head.now.header.now ≡ true) }
     ensures prev { OnOk result (slices.new.prev_ref_frame_num ≡ prev_ref_frame_num_after (is_idr head.now.header.now) (is_reference head.now.header.now)
-        (resets head.now.header.now.marking) (numbering_of head.now.sps.now head.now.header.now) slices.old.prev_ref_frame_num) }
+        (resets head.now.header.now.marking) (numbering_of head.now.place.sps.now head.now.header.now) slices.old.prev_ref_frame_num) }
     ensures others { slices.new ≡ record slices.old {
       counts = slices.new.counts;
       count = slices.new.count;
@@ -165,9 +199,10 @@ fn check_first_slice<S: FrameSink>(
           slices.new.prev_ref_frame_num;
       held = slices.new.held;
     } }
+    ensures list { OnOk result (list_of head.now.header.now.kind.value head.now.numbering slices.new.held ≡ Ok list.new.items) }
     ensures kept { OnOk result (IsQuiet S.failures sink.old sink.new) }
 {
-    check_type(head.sps, head.header)?;
+    check_type(head.place.sps, head.header)?;
     check_idr_num(head.header)?;
     check_gap(
         mode,
@@ -177,67 +212,74 @@ fn check_first_slice<S: FrameSink>(
         decoder,
         sink,
     )?;
-    check_new_picture(slices, head, bit)
+    check_new_picture(slices, head, list)
 }
 
 /// The rules of a picture's later slice from its type on.
-fn check_later_slice(slices: &Slices, head: &SliceHead<'_>) -> Result<(), Stop>
-    requires lengths { has_lengths head.now.sps.now ≡ true }
-    requires numbered { head.now.numbering ≡ numbering_of head.now.sps.now head.now.header.now }
-    ensures judged { result ≡ judged (later_by slices.now head.now.pps.now head.now.sps.now head.now.header.now) }
+fn check_later_slice(
+    slices: &Slices,
+    head: &SliceHead<'_>,
+    list: &mut ArrayVec<RefSlot, 16>,
+) -> Result<(), Stop>
+    requires lengths { has_lengths head.now.place.sps.now ≡ true }
+    requires numbered { head.now.numbering ≡ numbering_of head.now.place.sps.now head.now.header.now }
+    ensures judged { result ≡ judged (later_by slices.now head.now.place.pps.now head.now.place.sps.now head.now.header.now) }
+    ensures list { OnOk result (list_of head.now.header.now.kind.value head.now.numbering slices.now.held ≡ Ok list.new.items) }
     ensures typed { OnOk result (is_typed head.now.header.now ≡ true) }
     ensures no_memory { IsErrOf result Stop.Memory → ⊥ }
 {
     let header = head.header;
-    check_type(head.sps, header)?;
+    check_type(head.place.sps, header)?;
     check_same_type(&slices.picture, header)?;
     check_idr_num(header)?;
-    check_qp(head.pps, header)?;
-    check_list(&header.kind.value, &head.numbering, &slices.held)?;
+    check_qp(head.place.pps, header)?;
+    build_list(&header.kind.value, &head.numbering, &slices.held, list)?;
     check_marking(&slices.picture, header)
 }
 
-/// The rules of a slice from its type on, and what a picture that begins leaves.
+/// The rules of a slice from its type on, its list, and what a picture that begins leaves.
 fn check_rules<S: FrameSink>(
     mode: Mode,
     slices: &mut Slices,
-    begins: bool,
     head: &SliceHead<'_>,
-    bit: u64,
+    list: &mut ArrayVec<RefSlot, 16>,
     decoder: &mut Decoder,
     sink: &mut S,
 ) -> Result<(), Stop>
-    requires lengths { has_lengths head.now.sps.now ≡ true }
-    requires numbered { head.now.numbering ≡ numbering_of head.now.sps.now head.now.header.now }
+    requires lengths { has_lengths head.now.place.sps.now ≡ true }
+    requires numbered { head.now.numbering ≡ numbering_of head.now.place.sps.now head.now.header.now }
     requires room { HasRoom S.failures sink.old }
     requires pictures { slices.old.pictures < 2 ^ 42 }
-    requires goes { begins ≡ true → is_idr head.now.header.now ≡ false → GoesWith mode head.now.sps.now slices.old.held decoder.old }
-    requires kept { KeepsSomeRules mode begins slices.old decoder.old }
-    ensures plays { (frames : ℕ → Frame) (before : History) (unit : UnitView) → bit ≡ 8 * unit.from → KeepsSlices before begins slices.old →
-        begins ≡ begins_at before head.now.header.now → KeepsDecoder mode frames (goes_on before) begins (runs_of before) decoder.old →
+    requires goes { head.now.place.begins ≡ true → is_idr head.now.header.now ≡ false → GoesWith mode head.now.place.sps.now slices.old.held decoder.old }
+    requires kept { KeepsSomeRules mode head.now.place.begins slices.old decoder.old }
+    ensures plays { (frames : ℕ → Frame) (before : History) → KeepsSlices before head.now.place.begins slices.old →
+        head.now.place.begins ≡ begins_at before head.now.header.now →
+        KeepsDecoder mode frames (goes_on before) head.now.place.begins (runs_of before) decoder.old →
         Plays (took_with frames S.took) S.failures (λ x. x) (steps_outcome
-        (slice_rules mode begins (runs_of before) (with_sets unit head.now.header.now [] (head.now.pps.now, head.now.sps.now)))) sink.old sink.new result }
-    ensures entered { (before : History) (unit : UnitView) (macroblocks : List CodedMacroblock) → bit ≡ 8 * unit.from →
-        KeepsSlices before begins slices.old → begins ≡ begins_at before head.now.header.now →
-        OnOk result (Entered before begins (with_sets unit head.now.header.now macroblocks (head.now.pps.now, head.now.sps.now)) slices.new) }
-    ensures frames { (frames : ℕ → Frame) (before : History) (unit : UnitView) → KeepsSlices before begins slices.old →
-        begins ≡ begins_at before head.now.header.now → KeepsDecoder mode frames (goes_on before) begins (runs_of before) decoder.old →
-        OnOk result (EntersDecoder mode frames begins (with_sets unit head.now.header.now [] (head.now.pps.now, head.now.sps.now))
-        (goes_on before) (runs_of before) decoder.new) }
-    ensures filled { begins ≡ true → OnOk result (all_filled (numbering_of head.now.sps.now head.now.header.now)
+        (slice_rules mode head.now.place.begins (runs_of before) (slice_at head.now.place head.now.header.now []))) sink.old sink.new result }
+    ensures entered { (before : History) (macroblocks : List CodedMacroblock) → KeepsSlices before head.now.place.begins slices.old →
+        head.now.place.begins ≡ begins_at before head.now.header.now →
+        OnOk result (Entered before head.now.place.begins (slice_at head.now.place head.now.header.now macroblocks) slices.new) }
+    ensures frames { (frames : ℕ → Frame) (before : History) → KeepsSlices before head.now.place.begins slices.old →
+        head.now.place.begins ≡ begins_at before head.now.header.now →
+        KeepsDecoder mode frames (goes_on before) head.now.place.begins (runs_of before) decoder.old →
+        OnOk result (EntersDecoder mode frames head.now.place.begins (slice_at head.now.place head.now.header.now []) (goes_on before) (runs_of before)
+        decoder.new) }
+    ensures filled { head.now.place.begins ≡ true → OnOk result (all_filled (numbering_of head.now.place.sps.now head.now.header.now)
         (unused_short_term_frame_nums (is_idr head.now.header.now) slices.old.prev_ref_frame_num
-        (numbering_of head.now.sps.now head.now.header.now)) slices.old.held ≡ Some
+        (numbering_of head.now.place.sps.now head.now.header.now)) slices.old.held ≡ Some
         slices.new.held) }
+    ensures list { OnOk result (list_of head.now.header.now.kind.value head.now.numbering slices.new.held ≡ Ok list.new.items) }
     ensures typed { OnOk result (is_typed head.now.header.now ≡ true) }
     ensures format { decoder.new.format ≡ decoder.old.format }
     ensures pictures { slices.new.pictures ≡ slices.old.pictures }
     ensures no_memory { IsErrOf result Stop.Memory → ⊥ }
     ensures kept { OnOk result (IsQuiet S.failures sink.old sink.new) }
 {
-    if begins {
-        check_first_slice(mode, slices, head, bit, decoder, sink)
+    if head.place.begins {
+        check_first_slice(mode, slices, head, list, decoder, sink)
     } else {
-        check_later_slice(slices, head)
+        check_later_slice(slices, head, list)
     }
 }
 
@@ -330,66 +372,79 @@ fn enter(
     }
 }
 
-/// The rules of a slice from its type on (7.4.3, 8.2), what the sink is told of it, and what it leaves. The header's place is to be read into
-/// anew after it.
+/// The rules of a slice from its type on (7.4.3, 8.2), what the sink is told of it, and what it leaves: its list among it. The header is to be
+/// read anew for the next slice.
 ///
 /// Err: the first that is not met of SliceType, FrameNum, IdrPicId, Count, Qp, ListCommand and MarkDiffers, at its element's bit (Count at the
 /// first of the unit), or Write where the sink failed. What is kept is then of no use.
-pub fn judge_rules<S: FrameSink>(
+pub(crate) fn judge_rules<S: FrameSink>(
     mode: Mode,
-    begins: bool,
+    place: &SlicePlace<'_>,
     slices: &mut Slices,
-    pps: &Pps,
-    sps: &Sps,
+    slice: &mut Slice,
     decoder: &mut Decoder,
-    unit: &NalUnit,
-    header: &mut Header,
     sink: &mut S,
 ) -> Result<(), Stop>
-    requires lengths { has_lengths sps.now ≡ true }
+    requires lengths { has_lengths place.now.sps.now ≡ true }
     requires room { HasRoom S.failures sink.old }
     requires pictures { slices.old.pictures < 2 ^ 42 }
-    requires goes { begins ≡ true → is_idr header.old ≡ false → GoesWith mode sps.now slices.old.held decoder.old }
-    requires kept { KeepsSomeRules mode begins slices.old decoder.old }
-    ensures plays { (frames : ℕ → Frame) (before : History) → KeepsSlices before begins slices.old → begins ≡ begins_at before header.old →
-        KeepsDecoder mode frames (goes_on before) begins (runs_of before) decoder.old →
+    requires goes { place.now.begins ≡ true → is_idr slice.old.header ≡ false → GoesWith mode place.now.sps.now slices.old.held decoder.old }
+    requires kept { KeepsSomeRules mode place.now.begins slices.old decoder.old }
+    ensures plays { (frames : ℕ → Frame) (before : History) → KeepsSlices before place.now.begins slices.old →
+        place.now.begins ≡ begins_at before slice.old.header →
+        KeepsDecoder mode frames (goes_on before) place.now.begins (runs_of before) decoder.old →
         Plays (took_with frames S.took) S.failures (λ x. x) (steps_outcome
-        (told_rules mode begins (runs_of before) (with_sets unit.now header.old [] (pps.now, sps.now)))) sink.old sink.new result }
-    ensures entered { (before : History) (macroblocks : List CodedMacroblock) → KeepsSlices before begins slices.old →
-        begins ≡ begins_at before header.old → OnOk result (KeepsPictures true false
-        (joined_to begins (with_sets unit.now header.old macroblocks (pps.now, sps.now)) (runs_of before)) slices.new) }
-    ensures frames { (frames : ℕ → Frame) (before : History) → KeepsSlices before begins slices.old → begins ≡ begins_at before header.old →
-        KeepsDecoder mode frames (goes_on before) begins (runs_of before) decoder.old →
-        OnOk result (EntersDecoder mode frames begins (with_sets unit.now header.old [] (pps.now, sps.now)) (goes_on before) (runs_of before) decoder.new) }
-    ensures filled { begins ≡ true → OnOk result (all_filled (numbering_of sps.now header.old)
-        (unused_short_term_frame_nums (is_idr header.old) slices.old.prev_ref_frame_num (numbering_of sps.now header.old)) slices.old.held ≡ Some
-        slices.new.held) }
+        (told_rules mode place.now.begins (runs_of before) (slice_at place.now slice.old.header []))) sink.old sink.new result }
+    ensures entered { (before : History) (macroblocks : List CodedMacroblock) → KeepsSlices before place.now.begins slices.old →
+        place.now.begins ≡ begins_at before slice.old.header → OnOk result (KeepsPictures true false
+        (joined_to place.now.begins (slice_at place.now slice.old.header macroblocks) (runs_of before)) slices.new) }
+    ensures frames { (frames : ℕ → Frame) (before : History) → KeepsSlices before place.now.begins slices.old →
+        place.now.begins ≡ begins_at before slice.old.header →
+        KeepsDecoder mode frames (goes_on before) place.now.begins (runs_of before) decoder.old →
+        OnOk result (EntersDecoder mode frames place.now.begins (slice_at place.now slice.old.header []) (goes_on before) (runs_of before) decoder.new) }
+    ensures filled { place.now.begins ≡ true → OnOk result (all_filled (numbering_of place.now.sps.now slice.old.header)
+        (unused_short_term_frame_nums (is_idr slice.old.header) slices.old.prev_ref_frame_num (numbering_of place.now.sps.now slice.old.header))
+        slices.old.held ≡ Some slices.new.held) }
+    ensures list { OnOk result (list_of slice.old.header.kind.value (numbering_of place.now.sps.now slice.old.header) slices.new.held ≡
+        Ok slice.new.list.items) }
     ensures due { OnOk result (slices.new.due ≡ false) }
-    ensures header { header.new ≡ record header.old { marking = header.new.marking } }
-    ensures typed { OnOk result (is_typed header.old ≡ true) }
+    ensures header { slice.new.header ≡ record slice.old.header { marking = slice.new.header.marking } }
+    ensures typed { OnOk result (is_typed slice.old.header ≡ true) }
     ensures format { decoder.new.format ≡ decoder.old.format }
     ensures pictures { slices.new.pictures ≤ slices.old.pictures + 1 }
     ensures no_memory { IsErrOf result Stop.Memory → ⊥ }
     ensures kept { OnOk result (IsQuiet S.failures sink.old sink.new) }
 {
-    let bit = 8 * unit.from();
-    let numbering = numbering_of(sps, header);
-    let head = SliceHead {
-        pps,
+    let SlicePlace {
+        unit,
         sps,
-        header,
+        begins,
+        ..
+    } = *place;
+    let numbering = numbering_of(sps, &slice.header);
+    let head = SliceHead {
+        place: *place,
+        header: &slice.header,
         numbering,
     };
-    check_rules(mode, slices, begins, &head, bit, decoder, sink)?;
-    tell_slice(unit.from(), header, slices.count, sink)?;
+    check_rules(mode, slices, &head, &mut slice.list, decoder, sink)?;
+    tell_slice(unit.from(), &slice.header, slices.count, sink)?;
     let ended = ended_of(
         sps,
-        header,
+        &slice.header,
         slices.pictures,
         frame_count(slices.count),
         buffer_size(sps),
     );
-    enter(slices, begins, header, numbering, ended, bit_after(unit));
+    let following = bit_after(unit);
+    enter(
+        slices,
+        begins,
+        &mut slice.header,
+        numbering,
+        ended,
+        following,
+    );
     Ok(())
 }
 

@@ -2,9 +2,8 @@
 #![tactic(auto)]
 
 use crate::decoder::Decoder;
-use crate::slices::{Slices, no_slices};
+use crate::slices::{Slice, Slices, no_slices};
 use h264_base::{Mode, Stop, Target};
-use h264_header::Header;
 use h264_sets::Sets;
 use std::alloc::Global;
 
@@ -37,8 +36,8 @@ pub struct State {
     pub sets: Sets,
     /// The slices that were read.
     pub slices: Slices,
-    /// The place into which the header of a slice is read: it is large to move.
-    pub header: Header,
+    /// The newest of them.
+    pub slice: Slice,
     /// The picture whose slice data are read, and the frames of those before it.
     pub decoder: Decoder,
 }
@@ -61,7 +60,7 @@ impl State {
             units: 0,
             sets,
             slices: no_slices(),
-            header: Header::unread(),
+            slice: Slice::unread(),
             decoder: Decoder::new(),
         })
     }

@@ -35,11 +35,12 @@ ghost use Rattle.h264_base.specs.declared.mode.Mode.TheVariants as modes;
 use crate::close::close_if;
 use crate::data::read_data;
 use crate::decoder::Decoder;
+use crate::head::{SlicePlace, sets_named};
 use crate::picture::begins;
 use crate::rules::check;
 use crate::sink::FrameSink;
-use crate::slice::judge_slice;
-use crate::slices::{ends_picture, pass_by};
+use crate::slice::place_slice;
+use crate::slices::{ends_picture, judge_rules, pass_by};
 use crate::state::{State, Summary, Terms};
 use h264_base::{Failed, Mode, Rule, Stop};
 use h264_bits::Bits;
@@ -237,16 +238,22 @@ fn join_slice<S: FrameSink>(
     ensures no_memory { IsErrOf result Stop.Memory → ⊥ }
     ensures kept { OnOk result (IsQuiet S.failures sink.old sink.new) }
 {
-    read_slice_unit(header, &state.sets, rbsp, &mut state.header, sink)?;
-    let begins = begins(&state.slices.picture, &state.header);
-    judge_slice(
-        Mode::Headers,
-        begins,
-        &mut state.slices,
-        &mut state.sets,
-        &mut state.decoder,
+    read_slice_unit(header, &state.sets, rbsp, &mut state.slice.header, sink)?;
+    let begins = begins(&state.slices.picture, &state.slice.header);
+    place_slice(Mode::Headers, begins, state, unit, sink)?;
+    let (pps, sps) = sets_named(&state.sets, &state.slice.header);
+    let place = SlicePlace {
         unit,
-        &mut state.header,
+        pps,
+        sps,
+        begins,
+    };
+    judge_rules(
+        Mode::Headers,
+        &place,
+        &mut state.slices,
+        &mut state.slice,
+        &mut state.decoder,
         sink,
     )?;
     state.units += 1;
@@ -279,29 +286,26 @@ fn join_read<S: FrameSink>(
     ensures kept { OnOk result (IsQuiet S.failures sink.old sink.new) }
 {
     let slice_unit = slice_unit(header);
-    read_header(bits, &state.sets, slice_unit, &mut state.header, sink)?;
-    let begins = begins(&state.slices.picture, &state.header);
-    judge_slice(
-        Mode::Full,
-        begins,
-        &mut state.slices,
-        &mut state.sets,
-        &mut state.decoder,
+    read_header(bits, &state.sets, slice_unit, &mut state.slice.header, sink)?;
+    let begins = begins(&state.slices.picture, &state.slice.header);
+    place_slice(Mode::Full, begins, state, unit, sink)?;
+    let (pps, sps) = sets_named(&state.sets, &state.slice.header);
+    let place = SlicePlace {
         unit,
-        &mut state.header,
+        pps,
+        sps,
+        begins,
+    };
+    judge_rules(
+        Mode::Full,
+        &place,
+        &mut state.slices,
+        &mut state.slice,
+        &mut state.decoder,
         sink,
     )?;
     state.units += 1;
-    read_data(
-        alloc,
-        begins,
-        &state.slices.held,
-        &state.sets,
-        &state.header,
-        &mut state.decoder,
-        bits,
-        sink,
-    )
+    read_data(alloc, &place, &state.slice, &mut state.decoder, bits, sink)
 }
 
 /// A slice with its slice data is read and judged, and joins those before it.
@@ -333,32 +337,41 @@ fn join_whole_slice<S: FrameSink>(
     join_read(alloc, state, header, unit, &mut bits, sink)
 }
 
-/// A unit of this type is read and judged, and joins those before it.
+/// The bytes of a NAL unit, as they are read (7.3.1).
+#[derive(Clone, Copy)]
+struct UnitBytes<'a> {
+    unit: &'a NalUnit,
+    /// Its first byte.
+    header: u8,
+    /// Its RBSP, where that is read.
+    rbsp: &'a Option<Rbsp>,
+}
+
+/// A unit is read and judged by its type, and joins those before it.
 fn join<S: FrameSink>(
     alloc: Global,
     terms: Terms,
     state: &mut State,
-    header: u8,
-    unit: &NalUnit,
-    rbsp: &Option<Rbsp>,
+    bytes: &UnitBytes<'_>,
     sink: &mut S,
 ) -> Result<(), Stop>
     requires room { HasRoom S.failures sink.old }
     requires units { state.old.units ≤ 2 ^ 40 }
     requires pictures { state.old.slices.pictures ≤ state.old.units }
-    requires header { header ≡ header_of unit.now }
-    requires bytes { rbsp.now ≡ bytes_of terms.mode unit.now }
-    requires fits { fits_kind (nal_unit_type header) (nal_ref_idc header) ≡ true }
-    requires kept { KeepsSome terms.mode (ends_picture (nal_unit_type header)) state.old }
-    ensures joins { (frames : ℕ → Frame) (before : History) → KeepsWithin terms.mode frames before (ends_picture (nal_unit_type header)) state.old →
-        Joins terms.mode S.took S.failures frames (length (ended_pictures (goes_on before) (ends_picture (nal_unit_type header)) (runs_of before)))
-        (joined_by terms (nal_unit_type header) before unit.now) state.new sink.old sink.new result }
+    requires header { bytes.now.header ≡ header_of bytes.now.unit.now }
+    requires bytes { bytes.now.rbsp.now ≡ bytes_of terms.mode bytes.now.unit.now }
+    requires fits { fits_kind (nal_unit_type bytes.now.header) (nal_ref_idc bytes.now.header) ≡ true }
+    requires kept { KeepsSome terms.mode (ends_picture (nal_unit_type bytes.now.header)) state.old }
+    ensures joins { (frames : ℕ → Frame) (before : History) → KeepsWithin terms.mode frames before (ends_picture (nal_unit_type bytes.now.header)) state.old →
+        Joins terms.mode S.took S.failures frames (length (ended_pictures (goes_on before) (ends_picture (nal_unit_type bytes.now.header)) (runs_of before)))
+        (joined_by terms (nal_unit_type bytes.now.header) before bytes.now.unit.now) state.new sink.old sink.new result }
     ensures counts { OnOk result (state.new.units ≡ state.old.units + 1) }
     ensures pictures { OnOk result (state.new.slices.pictures ≤ state.new.units) }
-    ensures no_memory { (frames : ℕ → Frame) (before : History) → KeepsWithin terms.mode frames before (ends_picture (nal_unit_type header)) state.old →
-        IsErrOf result Stop.Memory → ChangesFormat terms.mode before unit.now }
+    ensures no_memory { (frames : ℕ → Frame) (before : History) → KeepsWithin terms.mode frames before (ends_picture (nal_unit_type bytes.now.header)) state.old →
+        IsErrOf result Stop.Memory → ChangesFormat terms.mode before bytes.now.unit.now }
     ensures kept { OnOk result (IsQuiet S.failures sink.old sink.new) }
 {
+    let UnitBytes { unit, header, rbsp } = *bytes;
     let Some(rbsp) = rbsp else {
         pass(state, header % 32);
         return Ok(());
@@ -416,7 +429,8 @@ pub fn judge_unit<S: FrameSink>(
         &mut state.decoder,
         sink,
     )?;
-    join(alloc, terms, state, header, unit, rbsp, sink)
+    let bytes = UnitBytes { unit, header, rbsp };
+    join(alloc, terms, state, &bytes, sink)
 }
 
 /// Whether a stream that is judged so has the pictures that it must have.

@@ -9,10 +9,10 @@ use Rattle.h264_verify.proofs.frame_num.fill_frames.Given as goal
 
 abbrev pub invariant-loop-turn : goal.invariant-loop-turn
 invariant-loop-turn g l = record {
-  filled : Filled l.numbering l.count l.prev l.initial.held l.turn l.last l.held;
-  fills : (frames : ℕ → Frame) (t : Turn) (next : ℕ) → KeepsGap l.mode frames t next l.initial.decoder → Fills l.mode l.bit l.numbering l.count l.prev l.initial.held g.S.Elements.took g.S.Elements.failures frames t next l.initial.sink (l.count - l.turn) l.last l.held l.sink l.decoder;
-  few : 0 < l.count → length l.held.frames ≤ frame_places l.numbering.max_num_ref_frames;
-  places : 0 < l.count → HasPlaces l.mode (frame_places l.numbering.max_num_ref_frames) l.decoder;
+  filled : Filled l.gap.numbering l.gap.count l.gap.prev_ref_frame_num l.initial.held l.turn l.last l.held;
+  fills : (frames : ℕ → Frame) (t : Turn) (next : ℕ) → KeepsGap l.mode frames t next l.initial.decoder → Fills l.mode l.gap.bit l.gap.numbering l.gap.count l.gap.prev_ref_frame_num l.initial.held g.S.Elements.took g.S.Elements.failures frames t next l.initial.sink (l.gap.count - l.turn) l.last l.held l.sink l.decoder;
+  few : 0 < l.gap.count → length l.held.frames ≤ frame_places l.gap.numbering.max_num_ref_frames;
+  places : 0 < l.gap.count → HasPlaces l.mode (frame_places l.gap.numbering.max_num_ref_frames) l.decoder;
   format : l.decoder.format ≡ l.initial.decoder.format;
   kept : g.S.Elements.failures l.sink ≡ g.S.Elements.failures l.initial.sink;
 }

@@ -1,4 +1,4 @@
-use Rattle.std.proofs.Common.{◌≡◌, ℕ, ◌∷◌, ◌∙◌, Some, refl, sym, ap}
+use Rattle.std.proofs.Common.{◌≡◌, ℕ, ◌*◌, ◌∷◌, ◌∙◌, Some, Ok, OnOk, refl, sym, ap, subst}
 use Rattle.std.proofs.lemmas.Result.{err_from_is_err_and}
 use Rattle.h264_marking.specs.Frames.{References}
 use Rattle.h264_marking.specs.Gaps.{entered}
@@ -20,15 +20,15 @@ returns-in_err-check_type g c =
     let p = err_from_is_err_and c.from_residual.result c.from_residual.ensures.1 in
     rw (p.1, p.2) (record {
       plays = λ frames t next pictures k kept.
-          let n = numbering_of c.args.head.now.sps.now c.args.head.now.header.now in
+          let n = numbering_of c.args.head.now.place.sps.now c.args.head.now.header.now in
           let idr = is_idr c.args.head.now.header.now in
           let prev = c.args.slices.now.prev_ref_frame_num in
-          let type = type_demand c.args.head.now.sps.now c.args.head.now.header.now in
+          let type = type_demand c.args.head.now.place.sps.now c.args.head.now.header.now in
           let num = idr_num_demand c.args.head.now.header.now in
-          let gap = gap_rules c.args.mode idr (is_reference c.args.head.now.header.now) c.args.head.now.sps.now.gaps_in_frame_num_value_allowed_flag c.args.head.now.header.now.frame_num.bit prev n c.args.slices.now.held t.buffer in
+          let gap = gap_rules c.args.mode idr (is_reference c.args.head.now.header.now) c.args.head.now.place.sps.now.gaps_in_frame_num_value_allowed_flag c.args.head.now.header.now.frame_num.bit prev n c.args.slices.now.held t.buffer in
           let id = id_demand c.args.slices.now.newest_idr c.args.head.now.header.now in
-          let count = count_demand (picture_of c.args.head.now.sps.now c.args.head.now.header.now ∷ pictures) c.args.bit in
-          let qp = qp_demand c.args.head.now.pps.now c.args.head.now.header.now in
+          let count = count_demand (picture_of c.args.head.now.place.sps.now c.args.head.now.header.now ∷ pictures) (8 * c.args.head.now.place.unit.now.from) in
+          let qp = qp_demand c.args.head.now.place.pps.now c.args.head.now.header.now in
           let list = list_demand (list_of c.args.head.now.header.now.kind.value n (entered idr prev n c.args.slices.now.held)) in
           at-first (took_with frames g.S.Elements.took) g.S.Elements.failures type num gap id count qp list c.args.sink.now _ c.in_err-check_type.ensures;
       gap = λ frames t next k. tt;
@@ -41,6 +41,7 @@ returns-in_err-check_type g c =
       typed = tt;
       prev = tt;
       others = refl;
+      list = tt;
       kept = tt;
     })
 
@@ -49,15 +50,15 @@ returns-in_err-check_idr_num g c =
     let p = err_from_is_err_and c.from_residual-in_err-check_idr_num.result c.from_residual-in_err-check_idr_num.ensures.1 in
     rw (p.1, p.2) (record {
       plays = λ frames t next pictures k kept.
-          let n = numbering_of c.args.head.now.sps.now c.args.head.now.header.now in
+          let n = numbering_of c.args.head.now.place.sps.now c.args.head.now.header.now in
           let idr = is_idr c.args.head.now.header.now in
           let prev = c.args.slices.now.prev_ref_frame_num in
-          let type = type_demand c.args.head.now.sps.now c.args.head.now.header.now in
+          let type = type_demand c.args.head.now.place.sps.now c.args.head.now.header.now in
           let num = idr_num_demand c.args.head.now.header.now in
-          let gap = gap_rules c.args.mode idr (is_reference c.args.head.now.header.now) c.args.head.now.sps.now.gaps_in_frame_num_value_allowed_flag c.args.head.now.header.now.frame_num.bit prev n c.args.slices.now.held t.buffer in
+          let gap = gap_rules c.args.mode idr (is_reference c.args.head.now.header.now) c.args.head.now.place.sps.now.gaps_in_frame_num_value_allowed_flag c.args.head.now.header.now.frame_num.bit prev n c.args.slices.now.held t.buffer in
           let id = id_demand c.args.slices.now.newest_idr c.args.head.now.header.now in
-          let count = count_demand (picture_of c.args.head.now.sps.now c.args.head.now.header.now ∷ pictures) c.args.bit in
-          let qp = qp_demand c.args.head.now.pps.now c.args.head.now.header.now in
+          let count = count_demand (picture_of c.args.head.now.place.sps.now c.args.head.now.header.now ∷ pictures) (8 * c.args.head.now.place.unit.now.from) in
+          let qp = qp_demand c.args.head.now.place.pps.now c.args.head.now.header.now in
           let list = list_demand (list_of c.args.head.now.header.now.kind.value n (entered idr prev n c.args.slices.now.held)) in
           at-second (took_with frames g.S.Elements.took) g.S.Elements.failures type num gap id count qp list c.args.sink.now _ c.in_ok-check_type.ensures _ c.in_err-check_idr_num.ensures;
       gap = λ frames t next k. tt;
@@ -70,6 +71,7 @@ returns-in_err-check_idr_num g c =
       typed = tt;
       prev = tt;
       others = refl;
+      list = tt;
       kept = tt;
     })
 
@@ -78,15 +80,15 @@ returns-in_err-check_gap g c =
     let p = err_from_is_err_and c.from_residual-in_err-check_gap.result c.from_residual-in_err-check_gap.ensures.1 in
     rw (p.1, p.2) (record {
       plays = λ frames t next pictures k kept.
-          let n = numbering_of c.args.head.now.sps.now c.args.head.now.header.now in
+          let n = numbering_of c.args.head.now.place.sps.now c.args.head.now.header.now in
           let idr = is_idr c.args.head.now.header.now in
           let prev = c.args.slices.now.prev_ref_frame_num in
-          let type = type_demand c.args.head.now.sps.now c.args.head.now.header.now in
+          let type = type_demand c.args.head.now.place.sps.now c.args.head.now.header.now in
           let num = idr_num_demand c.args.head.now.header.now in
-          let gap = gap_rules c.args.mode idr (is_reference c.args.head.now.header.now) c.args.head.now.sps.now.gaps_in_frame_num_value_allowed_flag c.args.head.now.header.now.frame_num.bit prev n c.args.slices.now.held t.buffer in
+          let gap = gap_rules c.args.mode idr (is_reference c.args.head.now.header.now) c.args.head.now.place.sps.now.gaps_in_frame_num_value_allowed_flag c.args.head.now.header.now.frame_num.bit prev n c.args.slices.now.held t.buffer in
           let id = id_demand c.args.slices.now.newest_idr c.args.head.now.header.now in
-          let count = count_demand (picture_of c.args.head.now.sps.now c.args.head.now.header.now ∷ pictures) c.args.bit in
-          let qp = qp_demand c.args.head.now.pps.now c.args.head.now.header.now in
+          let count = count_demand (picture_of c.args.head.now.place.sps.now c.args.head.now.header.now ∷ pictures) (8 * c.args.head.now.place.unit.now.from) in
+          let qp = qp_demand c.args.head.now.place.pps.now c.args.head.now.header.now in
           let list = list_demand (list_of c.args.head.now.header.now.kind.value n (entered idr prev n c.args.slices.now.held)) in
           at-between (took_with frames g.S.Elements.took) g.S.Elements.failures type num gap id count qp list c.args.sink.now _ c.in_ok-check_type.ensures _ c.in_ok-check_idr_num.ensures _ _ (c.in_err-check_gap.ensures.plays frames t next k);
       gap = λ frames t next k. tt;
@@ -99,6 +101,7 @@ returns-in_err-check_gap g c =
       typed = tt;
       prev = tt;
       others = refl;
+      list = tt;
       kept = tt;
     })
 
@@ -115,15 +118,15 @@ returns g c =
     let r = c.check_new_picture.result in
     record {
       plays = λ frames t next pictures k kept.
-          let n = numbering_of c.args.head.now.sps.now c.args.head.now.header.now in
+          let n = numbering_of c.args.head.now.place.sps.now c.args.head.now.header.now in
           let idr = is_idr c.args.head.now.header.now in
           let prev = c.args.slices.now.prev_ref_frame_num in
-          let type = type_demand c.args.head.now.sps.now c.args.head.now.header.now in
+          let type = type_demand c.args.head.now.place.sps.now c.args.head.now.header.now in
           let num = idr_num_demand c.args.head.now.header.now in
-          let gap = gap_rules c.args.mode idr (is_reference c.args.head.now.header.now) c.args.head.now.sps.now.gaps_in_frame_num_value_allowed_flag c.args.head.now.header.now.frame_num.bit prev n c.args.slices.now.held t.buffer in
+          let gap = gap_rules c.args.mode idr (is_reference c.args.head.now.header.now) c.args.head.now.place.sps.now.gaps_in_frame_num_value_allowed_flag c.args.head.now.header.now.frame_num.bit prev n c.args.slices.now.held t.buffer in
           let id = id_demand c.args.slices.now.newest_idr c.args.head.now.header.now in
-          let count = count_demand (picture_of c.args.head.now.sps.now c.args.head.now.header.now ∷ pictures) c.args.bit in
-          let qp = qp_demand c.args.head.now.pps.now c.args.head.now.header.now in
+          let count = count_demand (picture_of c.args.head.now.place.sps.now c.args.head.now.header.now ∷ pictures) (8 * c.args.head.now.place.unit.now.from) in
+          let qp = qp_demand c.args.head.now.place.pps.now c.args.head.now.header.now in
           let list = list_demand (list_of c.args.head.now.header.now.kind.value n (entered idr prev n c.args.slices.now.held)) in
           after-between (took_with frames g.S.Elements.took) g.S.Elements.failures type num gap id count qp list c.args.sink.now _ c.in_ok-check_type.ensures _ c.in_ok-check_idr_num.ensures _ _ _ (c.in_ok-check_gap.ensures.plays frames t next k) (rw c.in_ok-check_gap.ensures.held at (c.check_new_picture.ensures.judged pictures kept));
       gap = λ frames t next k. ok-any r (c.in_ok-check_gap.ensures.keeps frames t next k);
@@ -133,8 +136,9 @@ returns g c =
       count = c.check_new_picture.ensures.count;
       held = ok-any r (ap (λ (s : Slices). s.held) same ∙ c.in_ok-check_gap.ensures.held);
       filled = ok-any r (c.in_ok-check_gap.ensures.filled ∙ ap (λ (s : Slices). Some s.held) (sym same));
-      typed = ok-any r (type-met c.args.head.now.sps.now c.args.head.now.header.now _ c.in_ok-check_type.ensures);
+      typed = ok-any r (type-met c.args.head.now.place.sps.now c.args.head.now.header.now _ c.in_ok-check_type.ensures);
       prev = ok-any r (ap (λ (s : Slices). s.prev_ref_frame_num) same ∙ c.in_ok-check_gap.ensures.prev);
       others = others-of c.args.slices.now _ _ _ same;
+      list = subst (λ (s : Slices). OnOk r (list_of c.args.head.now.header.now.kind.value c.args.head.now.numbering s.held ≡ Ok c.check_new_picture.new.list.items)) (sym same) c.check_new_picture.ensures.list;
       kept = ok-any r c.in_ok-check_gap.ensures.kept;
     }

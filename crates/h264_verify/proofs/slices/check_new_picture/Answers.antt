@@ -1,4 +1,4 @@
-use Rattle.std.proofs.Common.{[], ◌∷◌, refl}
+use Rattle.std.proofs.Common.{◌*◌, [], ◌∷◌, refl}
 use Rattle.std.proofs.lemmas.Result.{err_from_is_err_and}
 use Rattle.h264_poc.specs.OfSlice.{picture_of}
 use Rattle.h264_marking.specs.Ended.{numbering_of}
@@ -14,13 +14,14 @@ returns-in_err-check_id c =
     rw (p.1, p.2) (record {
       judged = λ pictures kept.
           let id = id_demand c.args.slices.now.newest_idr c.args.head.now.header.now in
-          let count = count_demand (picture_of c.args.head.now.sps.now c.args.head.now.header.now ∷ pictures) c.args.bit in
-          let qp = qp_demand c.args.head.now.pps.now c.args.head.now.header.now in
-          let list = list_demand (list_of c.args.head.now.header.now.kind.value (numbering_of c.args.head.now.sps.now c.args.head.now.header.now) c.args.slices.now.held) in
+          let count = count_demand (picture_of c.args.head.now.place.sps.now c.args.head.now.header.now ∷ pictures) (8 * c.args.head.now.place.unit.now.from) in
+          let qp = qp_demand c.args.head.now.place.pps.now c.args.head.now.header.now in
+          let list = list_demand (list_of c.args.head.now.header.now.kind.value (numbering_of c.args.head.now.place.sps.now c.args.head.now.header.now) c.args.slices.now.held) in
           stop-one id (count ∷ qp ∷ list ∷ []) _ c.in_err-check_id.ensures;
       no_memory = no-memory _ _ _ _ c.in_err-check_id.ensures;
       counts = λ pictures k. tt;
       count = λ pictures k. tt;
+      list = tt;
       others = refl;
     })
 
@@ -30,13 +31,14 @@ returns-in_err-count_picture c =
     rw (p.1, p.2) (record {
       judged = λ pictures kept.
           let id = id_demand c.args.slices.now.newest_idr c.args.head.now.header.now in
-          let count = count_demand (picture_of c.args.head.now.sps.now c.args.head.now.header.now ∷ pictures) c.args.bit in
-          let qp = qp_demand c.args.head.now.pps.now c.args.head.now.header.now in
-          let list = list_demand (list_of c.args.head.now.header.now.kind.value (numbering_of c.args.head.now.sps.now c.args.head.now.header.now) c.args.slices.now.held) in
-          pass-one id (count ∷ qp ∷ list ∷ []) _ _ c.in_ok-check_id.ensures (stop-one count (qp ∷ list ∷ []) _ (c.in_err-count_picture.ensures.judged pictures kept));
+          let count = count_demand (picture_of c.args.head.now.place.sps.now c.args.head.now.header.now ∷ pictures) (8 * c.args.head.now.place.unit.now.from) in
+          let qp = qp_demand c.args.head.now.place.pps.now c.args.head.now.header.now in
+          let list = list_demand (list_of c.args.head.now.header.now.kind.value (numbering_of c.args.head.now.place.sps.now c.args.head.now.header.now) c.args.slices.now.held) in
+          pass-one id (count ∷ qp ∷ list ∷ []) _ _ c.in_ok-check_id.ensures (stop-one count (qp ∷ list ∷ []) _ (rw c.from-bit.ensures.value at (c.in_err-count_picture.ensures.judged pictures kept)));
       no_memory = c.in_err-count_picture.ensures.no_memory;
       counts = λ pictures k. tt;
       count = λ pictures k. tt;
+      list = tt;
       others = refl;
     })
 
@@ -46,20 +48,21 @@ returns-in_err-check_qp c =
     rw (p.1, p.2) (record {
       judged = λ pictures kept.
           let id = id_demand c.args.slices.now.newest_idr c.args.head.now.header.now in
-          let count = count_demand (picture_of c.args.head.now.sps.now c.args.head.now.header.now ∷ pictures) c.args.bit in
-          let qp = qp_demand c.args.head.now.pps.now c.args.head.now.header.now in
-          let list = list_demand (list_of c.args.head.now.header.now.kind.value (numbering_of c.args.head.now.sps.now c.args.head.now.header.now) c.args.slices.now.held) in
-          pass-one id (count ∷ qp ∷ list ∷ []) _ _ c.in_ok-check_id.ensures (pass-one count (qp ∷ list ∷ []) _ _ (c.in_ok-count_picture.ensures.judged pictures kept) (stop-one qp (list ∷ []) _ c.in_err-check_qp.ensures));
+          let count = count_demand (picture_of c.args.head.now.place.sps.now c.args.head.now.header.now ∷ pictures) (8 * c.args.head.now.place.unit.now.from) in
+          let qp = qp_demand c.args.head.now.place.pps.now c.args.head.now.header.now in
+          let list = list_demand (list_of c.args.head.now.header.now.kind.value (numbering_of c.args.head.now.place.sps.now c.args.head.now.header.now) c.args.slices.now.held) in
+          pass-one id (count ∷ qp ∷ list ∷ []) _ _ c.in_ok-check_id.ensures (pass-one count (qp ∷ list ∷ []) _ _ (rw c.from-bit.ensures.value at (c.in_ok-count_picture.ensures.judged pictures kept)) (stop-one qp (list ∷ []) _ c.in_err-check_qp.ensures));
       no_memory = no-memory _ _ _ _ c.in_err-check_qp.ensures;
       counts = λ pictures k. tt;
       count = λ pictures k. tt;
+      list = tt;
       others = refl;
     })
 
 pub returns-clause-judged : goal.returns-clause-judged
 returns-clause-judged c = λ pictures kept.
     let id = id_demand c.args.slices.now.newest_idr c.args.head.now.header.now in
-    let count = count_demand (picture_of c.args.head.now.sps.now c.args.head.now.header.now ∷ pictures) c.args.bit in
-    let qp = qp_demand c.args.head.now.pps.now c.args.head.now.header.now in
-    let list = list_demand (list_of c.args.head.now.header.now.kind.value (numbering_of c.args.head.now.sps.now c.args.head.now.header.now) c.args.slices.now.held) in
-    pass-one id (count ∷ qp ∷ list ∷ []) _ _ c.in_ok-check_id.ensures (pass-one count (qp ∷ list ∷ []) _ _ (c.in_ok-count_picture.ensures.judged pictures kept) (pass-one qp (list ∷ []) _ _ c.in_ok-check_qp.ensures (rw c.requires.numbered at c.check_list.ensures)))
+    let count = count_demand (picture_of c.args.head.now.place.sps.now c.args.head.now.header.now ∷ pictures) (8 * c.args.head.now.place.unit.now.from) in
+    let qp = qp_demand c.args.head.now.place.pps.now c.args.head.now.header.now in
+    let list = list_demand (list_of c.args.head.now.header.now.kind.value (numbering_of c.args.head.now.place.sps.now c.args.head.now.header.now) c.args.slices.now.held) in
+    pass-one id (count ∷ qp ∷ list ∷ []) _ _ c.in_ok-check_id.ensures (pass-one count (qp ∷ list ∷ []) _ _ (rw c.from-bit.ensures.value at (c.in_ok-count_picture.ensures.judged pictures kept)) (pass-one qp (list ∷ []) _ _ c.in_ok-check_qp.ensures (rw c.requires.numbered at c.build_list.ensures.judged)))

@@ -1,4 +1,4 @@
-use Rattle.std.proofs.Common.{List, ◌∙◌, sym, ap, subst, [], map, length}
+use Rattle.std.proofs.Common.{◌*◌, List, ◌∙◌, sym, ap, subst, refl, [], map, length}
 use Rattle.h264_verify.specs.Telling.{took_with}
 use Rattle.h264_verify.specs.Outcome.{Plays}
 use Rattle.h264_verify.specs.Demands.{Demand, judged}
@@ -14,24 +14,24 @@ use Rattle.h264_verify.proofs.Ruling.{some-begun, first-rules, enters-first, ent
 use Rattle.h264_verify.proofs.slices.check_rules.Goals as goal
 
 pub check_first_slice-requires-clause-kept : goal.check_first_slice-requires-clause-kept
-check_first_slice-requires-clause-kept g c = some-begun c.args.mode c.args.begins c.args.slices.now c.args.decoder.now c.if-begins.true c.requires.kept c.requires.pictures
+check_first_slice-requires-clause-kept g c = some-begun c.args.mode c.args.head.now.place.begins c.args.slices.now c.args.decoder.now c.if-head.true c.requires.kept c.requires.pictures
 
-pub returns-then-begins-clause-plays : goal.returns-then-begins-clause-plays
-returns-then-begins-clause-plays g c = rw c.if-begins.true (λ frames before unit e k b d.
+pub returns-then-head-clause-plays : goal.returns-then-head-clause-plays
+returns-then-head-clause-plays g c = rw c.if-head.true (λ frames before k b d.
     subst (λ (steps : List Step). Plays (took_with frames g.S.Elements.took) g.S.Elements.failures (λ (x : Unit {0}). x) (steps_outcome steps) c.args.sink.now c.check_first_slice.new.sink c.check_first_slice.result)
-    (first-rules c.args.mode (goes_on before) (runs_of before) c.args.slices.now c.args.head.now.pps.now c.args.head.now.sps.now c.args.head.now.header.now unit c.args.bit k.kept e)
+    (first-rules c.args.mode (goes_on before) (runs_of before) c.args.slices.now c.args.head.now.place.pps.now c.args.head.now.place.sps.now c.args.head.now.header.now c.args.head.now.place.unit.now (8 * c.args.head.now.place.unit.now.from) k.kept refl)
     (c.check_first_slice.ensures.plays frames (after_all (runs_of before)) (length (runs_of before)) (map counted (runs_of before)) (ended-gap c.args.mode frames (goes_on before) (runs_of before) c.args.decoder.now d) k.kept.counts))
 
-pub returns-then-begins-clause-frames : goal.returns-then-begins-clause-frames
-returns-then-begins-clause-frames g c = rw c.if-begins.true (λ frames before unit k b d.
-    enters-first c.check_first_slice.result c.args.mode frames (goes_on before) (runs_of before) c.args.slices.now (with_sets unit c.args.head.now.header.now [] (c.args.head.now.pps.now, c.args.head.now.sps.now)) c.check_first_slice.new.decoder (λ i. made-same c.args.mode _ c.args.decoder.now c.check_first_slice.new.decoder c.check_first_slice.ensures.format (c.requires.goes c.if-begins.true i).format) k.kept
+pub returns-then-head-clause-frames : goal.returns-then-head-clause-frames
+returns-then-head-clause-frames g c = rw c.if-head.true (λ frames before k b d.
+    enters-first c.check_first_slice.result c.args.mode frames (goes_on before) (runs_of before) c.args.slices.now (with_sets c.args.head.now.place.unit.now c.args.head.now.header.now [] (c.args.head.now.place.pps.now, c.args.head.now.place.sps.now)) c.check_first_slice.new.decoder (λ i. made-same c.args.mode _ c.args.decoder.now c.check_first_slice.new.decoder c.check_first_slice.ensures.format (c.requires.goes c.if-head.true i).format) k.kept
     (c.check_first_slice.ensures.gap frames (after_all (runs_of before)) (length (runs_of before)) (ended-gap c.args.mode frames (goes_on before) (runs_of before) c.args.decoder.now d)))
 
-pub returns-else-begins-clause-plays : goal.returns-else-begins-clause-plays
-returns-else-begins-clause-plays g c = rw c.if-begins.false (λ frames before unit e k b d.
-    rules-play (took_with frames g.S.Elements.took) g.S.Elements.failures (later_slice_rules (runs_of before) (with_sets unit c.args.head.now.header.now [] (c.args.head.now.pps.now, c.args.head.now.sps.now))) c.args.sink.now c.check_later_slice.result
-    (c.check_later_slice.ensures.judged ∙ ap (λ (ds : List Demand). judged ds) (later-rules (goes_on before) (runs_of before) c.args.slices.now c.args.head.now.pps.now c.args.head.now.sps.now c.args.head.now.header.now unit (sym b) k.kept)))
+pub returns-else-head-clause-plays : goal.returns-else-head-clause-plays
+returns-else-head-clause-plays g c = rw c.if-head.false (λ frames before k b d.
+    rules-play (took_with frames g.S.Elements.took) g.S.Elements.failures (later_slice_rules (runs_of before) (with_sets c.args.head.now.place.unit.now c.args.head.now.header.now [] (c.args.head.now.place.pps.now, c.args.head.now.place.sps.now))) c.args.sink.now c.check_later_slice.result
+    (c.check_later_slice.ensures.judged ∙ ap (λ (ds : List Demand). judged ds) (later-rules (goes_on before) (runs_of before) c.args.slices.now c.args.head.now.place.pps.now c.args.head.now.place.sps.now c.args.head.now.header.now c.args.head.now.place.unit.now (sym b) k.kept)))
 
-pub returns-else-begins-clause-frames : goal.returns-else-begins-clause-frames
-returns-else-begins-clause-frames g c = rw c.if-begins.false (λ frames before unit k b d.
-    ok-any c.check_later_slice.result (enters-later c.args.mode frames (goes_on before) (runs_of before) (with_sets unit c.args.head.now.header.now [] (c.args.head.now.pps.now, c.args.head.now.sps.now)) c.args.head.now.header.now c.args.decoder.now (sym b) d))
+pub returns-else-head-clause-frames : goal.returns-else-head-clause-frames
+returns-else-head-clause-frames g c = rw c.if-head.false (λ frames before k b d.
+    ok-any c.check_later_slice.result (enters-later c.args.mode frames (goes_on before) (runs_of before) (with_sets c.args.head.now.place.unit.now c.args.head.now.header.now [] (c.args.head.now.place.pps.now, c.args.head.now.place.sps.now)) c.args.head.now.header.now c.args.decoder.now (sym b) d))

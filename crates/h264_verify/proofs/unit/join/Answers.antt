@@ -38,10 +38,10 @@ pub join_pps-requires-clause-ends : goal.join_pps-requires-clause-ends
 join_pps-requires-clause-ends g c = ap (λ (k : ℕ). ends_picture k) c.if-header-eq8.true
 
 pub returns-then-header-eq7-clause-joins : goal.returns-then-header-eq7-clause-joins
-returns-then-header-eq7-clause-joins g c = λ frames before k. rw (joined-seven c.args.terms _ before c.args.unit.now c.if-header-eq7.true) (c.join_sps.ensures.joins frames before k)
+returns-then-header-eq7-clause-joins g c = λ frames before k. rw (joined-seven c.args.terms _ before c.args.bytes.now.unit.now c.if-header-eq7.true) (c.join_sps.ensures.joins frames before k)
 
 pub returns-then-header-eq8-clause-joins : goal.returns-then-header-eq8-clause-joins
-returns-then-header-eq8-clause-joins g c = λ frames before k. rw (joined-eight c.args.terms _ before c.args.unit.now c.if-header-eq8.true) (c.join_pps.ensures.joins frames before k)
+returns-then-header-eq8-clause-joins g c = λ frames before k. rw (joined-eight c.args.terms _ before c.args.bytes.now.unit.now c.if-header-eq8.true) (c.join_pps.ensures.joins frames before k)
 
 -- where no picture ends
 joins-here : {S X : Type 0} (mode : Mode) (took : S → List Call → Type 0) (failures : S → ℕ) (frames : ℕ → Frame) (before : History) (ends : Bool) (o : Outcome History) (new : State) (s s' : S) (r : Result X Stop) → ends ≡ false → Joins {X = X} mode took failures frames (ended_in before) o new s s' r → Joins {X = X} mode took failures frames (length (ended_pictures (goes_on before) ends (runs_of before))) o new s s' r
@@ -49,10 +49,10 @@ joins-here {S} {X} mode took failures frames before ends o new s s' r e j = subs
 
 pub returns-in_default-clause-joins : goal.returns-in_default-clause-joins
 returns-in_default-clause-joins g c = λ frames before k.
-    let bytes = bytes-by c.args.terms.mode c.args.unit.now c.args.header c.args.rbsp.now c.requires.header c.requires.bytes in
-    rw (passed-by c.args.terms (nal_unit_type c.args.header) before c.args.unit.now (unread _ _ _ c.in_default.is bytes))
+    let bytes = bytes-by c.args.terms.mode c.args.bytes.now.unit.now c.args.bytes.now.header c.args.bytes.now.rbsp.now c.requires.header c.requires.bytes in
+    rw (passed-by c.args.terms (nal_unit_type c.args.bytes.now.header) before c.args.bytes.now.unit.now (unread _ _ _ c.in_default.is bytes))
     (joins-on c.args.terms.mode frames _ _ _ before _ _ _ (λ (u : Unit {0}). contents.Passed) _ _ _ tt _ (gives-plays _ _ (λ (u : Unit {0}). contents.Passed) tt _) (gives-plays _ _ (λ (u : Unit {0}). u) tt _)
-    (passed-joins c.args.terms.mode frames before c.args.unit.now contents.Passed (nal_unit_type c.args.header) c.args.state.now _ tt tt (rw c.requires.header refl) k c.pass.ensures.units (c.pass.ensures.sets ∙ k.sets) c.pass.ensures.picture c.pass.ensures.due c.pass.ensures.others c.pass.ensures.decoder))
+    (passed-joins c.args.terms.mode frames before c.args.bytes.now.unit.now contents.Passed (nal_unit_type c.args.bytes.now.header) c.args.state.now _ tt tt (rw c.requires.header refl) k c.pass.ensures.units (c.pass.ensures.sets ∙ k.sets) c.pass.ensures.picture c.pass.ensures.due c.pass.ensures.others c.pass.ensures.decoder))
 
 pub join_sps-requires-clause-rbsp : goal.join_sps-requires-clause-rbsp
 join_sps-requires-clause-rbsp g c = (read-bytes _ _ _ _ c.in-Some.is c.requires.bytes).1
@@ -73,7 +73,7 @@ slice-here mode unit byte o x e b s seven eight =
 
 pub unreachable-requires : goal.unreachable-requires
 unreachable-requires g c =
-    let here = slice-here c.args.terms.mode c.args.unit.now c.args.header c.args.rbsp.now _ c.requires.header c.requires.bytes c.in-Some.is c.if-header-eq7.false c.if-header-eq8.false in
+    let here = slice-here c.args.terms.mode c.args.bytes.now.unit.now c.args.bytes.now.header c.args.bytes.now.rbsp.now _ c.requires.header c.requires.bytes c.in-Some.is c.if-header-eq7.false c.if-header-eq8.false in
     let none : reads_slices modes.Units ≡ true = subst (λ (m : Mode). reads_slices m ≡ true) c.in-Units.is here.1 in
     cc
 
@@ -82,23 +82,23 @@ join_slice-requires-clause-rbsp g c = (read-bytes _ _ _ _ c.in-Some.is c.require
 
 pub join_slice-requires-clause-goes_on : goal.join_slice-requires-clause-goes_on
 join_slice-requires-clause-goes_on g c =
-    let here = slice-here c.args.terms.mode c.args.unit.now c.args.header c.args.rbsp.now _ c.requires.header c.requires.bytes c.in-Some.is c.if-header-eq7.false c.if-header-eq8.false in
-    slice-goes-on (nal_unit_type c.args.header) here.0
+    let here = slice-here c.args.terms.mode c.args.bytes.now.unit.now c.args.bytes.now.header c.args.bytes.now.rbsp.now _ c.requires.header c.requires.bytes c.in-Some.is c.if-header-eq7.false c.if-header-eq8.false in
+    slice-goes-on (nal_unit_type c.args.bytes.now.header) here.0
 
 pub join_whole_slice-requires-clause-rbsp : goal.join_whole_slice-requires-clause-rbsp
 join_whole_slice-requires-clause-rbsp g c = (read-bytes _ _ _ _ c.in-Some.is c.requires.bytes).1
 
 pub join_whole_slice-requires-clause-goes_on : goal.join_whole_slice-requires-clause-goes_on
 join_whole_slice-requires-clause-goes_on g c =
-    let here = slice-here c.args.terms.mode c.args.unit.now c.args.header c.args.rbsp.now _ c.requires.header c.requires.bytes c.in-Some.is c.if-header-eq7.false c.if-header-eq8.false in
-    slice-goes-on (nal_unit_type c.args.header) here.0
+    let here = slice-here c.args.terms.mode c.args.bytes.now.unit.now c.args.bytes.now.header c.args.bytes.now.rbsp.now _ c.requires.header c.requires.bytes c.in-Some.is c.if-header-eq7.false c.if-header-eq8.false in
+    slice-goes-on (nal_unit_type c.args.bytes.now.header) here.0
 
 pub returns-in-Headers-clause-joins : goal.returns-in-Headers-clause-joins
 unfolding joined_by
 returns-in-Headers-clause-joins g c = λ frames before k.
-    let here = slice-here c.args.terms.mode c.args.unit.now c.args.header c.args.rbsp.now _ c.requires.header c.requires.bytes c.in-Some.is c.if-header-eq7.false c.if-header-eq8.false in
-    let kept = subst (λ m. KeepsWithin m frames before (ends_picture (nal_unit_type c.args.header)) c.args.state.now) c.in-Headers.is k in
-    rw (ne_eqb _ _ c.if-header-eq7.false, ne_eqb _ _ c.if-header-eq8.false, c.in-Headers.is, slice-other (nal_unit_type c.args.header) before c.args.unit.now here.0) (joins-here modes.Headers _ _ frames before (ends_picture (nal_unit_type c.args.header)) _ _ _ _ _ (slice-goes-on (nal_unit_type c.args.header) here.0) (c.join_slice.ensures.joins frames before kept))
+    let here = slice-here c.args.terms.mode c.args.bytes.now.unit.now c.args.bytes.now.header c.args.bytes.now.rbsp.now _ c.requires.header c.requires.bytes c.in-Some.is c.if-header-eq7.false c.if-header-eq8.false in
+    let kept = subst (λ m. KeepsWithin m frames before (ends_picture (nal_unit_type c.args.bytes.now.header)) c.args.state.now) c.in-Headers.is k in
+    rw (ne_eqb _ _ c.if-header-eq7.false, ne_eqb _ _ c.if-header-eq8.false, c.in-Headers.is, slice-other (nal_unit_type c.args.bytes.now.header) before c.args.bytes.now.unit.now here.0) (joins-here modes.Headers _ _ frames before (ends_picture (nal_unit_type c.args.bytes.now.header)) _ _ _ _ _ (slice-goes-on (nal_unit_type c.args.bytes.now.header) here.0) (c.join_slice.ensures.joins frames before kept))
 
 pub returns-in-Headers-clause-no_memory : goal.returns-in-Headers-clause-no_memory
 returns-in-Headers-clause-no_memory g c = λ frames before k m. absurd (c.join_slice.ensures.no_memory m)
@@ -106,14 +106,14 @@ returns-in-Headers-clause-no_memory g c = λ frames before k m. absurd (c.join_s
 pub returns-in-Full-clause-joins : goal.returns-in-Full-clause-joins
 unfolding joined_by
 returns-in-Full-clause-joins g c = λ frames before k.
-    let here = slice-here c.args.terms.mode c.args.unit.now c.args.header c.args.rbsp.now _ c.requires.header c.requires.bytes c.in-Some.is c.if-header-eq7.false c.if-header-eq8.false in
-    let kept = subst (λ m. KeepsWithin m frames before (ends_picture (nal_unit_type c.args.header)) c.args.state.now) c.in-Full.is k in
-    rw (ne_eqb _ _ c.if-header-eq7.false, ne_eqb _ _ c.if-header-eq8.false, c.in-Full.is, whole-other (nal_unit_type c.args.header) before c.args.unit.now here.0) (joins-here modes.Full _ _ frames before (ends_picture (nal_unit_type c.args.header)) _ _ _ _ _ (slice-goes-on (nal_unit_type c.args.header) here.0) (c.join_whole_slice.ensures.joins frames before kept))
+    let here = slice-here c.args.terms.mode c.args.bytes.now.unit.now c.args.bytes.now.header c.args.bytes.now.rbsp.now _ c.requires.header c.requires.bytes c.in-Some.is c.if-header-eq7.false c.if-header-eq8.false in
+    let kept = subst (λ m. KeepsWithin m frames before (ends_picture (nal_unit_type c.args.bytes.now.header)) c.args.state.now) c.in-Full.is k in
+    rw (ne_eqb _ _ c.if-header-eq7.false, ne_eqb _ _ c.if-header-eq8.false, c.in-Full.is, whole-other (nal_unit_type c.args.bytes.now.header) before c.args.bytes.now.unit.now here.0) (joins-here modes.Full _ _ frames before (ends_picture (nal_unit_type c.args.bytes.now.header)) _ _ _ _ _ (slice-goes-on (nal_unit_type c.args.bytes.now.header) here.0) (c.join_whole_slice.ensures.joins frames before kept))
 
 pub returns-in-Full-clause-no_memory : goal.returns-in-Full-clause-no_memory
 returns-in-Full-clause-no_memory g c = λ frames before k m.
-    let here = slice-here c.args.terms.mode c.args.unit.now c.args.header c.args.rbsp.now _ c.requires.header c.requires.bytes c.in-Some.is c.if-header-eq7.false c.if-header-eq8.false in
-    let kept = subst (λ q. KeepsWithin q frames before (ends_picture (nal_unit_type c.args.header)) c.args.state.now) c.in-Full.is k in
+    let here = slice-here c.args.terms.mode c.args.bytes.now.unit.now c.args.bytes.now.header c.args.bytes.now.rbsp.now _ c.requires.header c.requires.bytes c.in-Some.is c.if-header-eq7.false c.if-header-eq8.false in
+    let kept = subst (λ q. KeepsWithin q frames before (ends_picture (nal_unit_type c.args.bytes.now.header)) c.args.state.now) c.in-Full.is k in
     record {
       full = c.in-Full.is;
       slice = subst (λ (b : ℕ). is_slice (nal_unit_type b) ≡ true) c.requires.header here.0;

@@ -1,0 +1,113 @@
+use Rattle.std.proofs.Common.{◌≡◌, Result, Ok, Err, OnOk, OnErr, ap, sym, ◌∙◌, refl}
+use Rattle.std.specs.Option.{is_some}
+use Rattle.std.proofs.lemmas.Result.{err_from_is_err_and}
+use Rattle.h264_base.specs.declared.stop.Stop.{Stop}
+use Rattle.h264_verify.specs.declared.slices.Slices.{Slices}
+use Rattle.h264_verify.specs.Telling.{took_with}
+use Rattle.h264_verify.specs.Pictures.{goes_on, runs_of}
+use Rattle.h264_verify.specs.Framing.{JudgesSlice}
+use Rattle.h264_verify.proofs.Slicing.{sets-before, some-of}
+use Rattle.h264_verify.proofs.Entering.{begins-as}
+use Rattle.h264_verify.proofs.Judged.{closed-stop, closed-on, standing-stop, place-stop, before-held}
+use Rattle.h264_verify.proofs.slice.place_slice.Goals as goal
+
+-- what follows where it is well, and where it is not
+on-ok : (r : Result (Unit {0}) Stop) {A : Type 0} → (Ok tt ≡ r → A) → OnOk r A
+on-ok (Ok x) f = f refl
+on-ok (Err e) f = tt
+
+on-err : (r : Result (Unit {0}) Stop) (P : Result (Unit {0}) Stop → Type 0) → ((e : Stop) → Err e ≡ r → P (Err e)) → OnErr r (P r)
+on-err (Ok x) P f = tt
+on-err (Err e) P f = f e refl
+
+pub close_if-requires-clause-kept : goal.close_if-requires-clause-kept
+close_if-requires-clause-kept g c = let k = c.requires.kept in record { frames = k.frames; before = k.before; slices_are = k.slices_are; keeps = k.keeps }
+
+pub returns-in_err-close_if : goal.returns-in_err-close_if
+returns-in_err-close_if g c =
+    let h = c.args.state.now.slice.header in
+    let p = err_from_is_err_and c.from_residual.result c.from_residual.ensures.1 in
+    rw (p.1, p.2) (record {
+      refused = λ frames before named k m w d.
+          let b = begins-as before h c.args.state.now.slices _ k c.requires.begins in
+          let e = c.in_err-close_if.ensures.closes frames before k d in
+          record { made = e.made; same = e.same; plays = closed-stop (took_with e.made g.S.Elements.took) g.S.Elements.failures c.args.mode before c.args.unit.now h c.args.begins b _ _ _ e.plays; enters = tt };
+      placed = λ frames before k d. tt;
+      sets = tt;
+      named = tt;
+      format = c.in_err-close_if.ensures.format;
+      pictures = ap (λ (s : Slices). s.pictures) c.in_err-close_if.ensures.others;
+      units = refl;
+      slice = refl;
+      no_memory = c.in_err-close_if.ensures.no_memory;
+      kept = tt;
+    })
+
+pub returns-in_err-check_standing : goal.returns-in_err-check_standing
+returns-in_err-check_standing g c =
+    let h = c.args.state.now.slice.header in
+    let p = err_from_is_err_and c.from_residual-in_err-check_standing.result c.from_residual-in_err-check_standing.ensures.1 in
+    rw (p.1, p.2) (record {
+      refused = λ frames before named k m w d.
+          let b = begins-as before h c.args.state.now.slices _ k c.requires.begins in
+          let kept = c.in_ok-close_if.ensures.ended before k in
+          let e = c.in_ok-close_if.ensures.closes frames before k d in
+          let broken = rw c.from-bit.ensures.value at (c.in_err-check_standing.ensures.judged named w) in
+          record {
+            made = e.made;
+            same = e.same;
+            plays = closed-on (took_with e.made g.S.Elements.took) g.S.Elements.failures c.args.mode before c.args.unit.now h c.args.begins b _ _ _ _ _ e.plays
+                (standing-stop (took_with e.made g.S.Elements.took) g.S.Elements.failures c.args.mode before c.args.unit.now h c.args.begins b _ c.args.state.now.sets kept.due m named w _ _ broken);
+            enters = tt;
+          };
+      placed = λ frames before k d. tt;
+      sets = tt;
+      named = tt;
+      format = c.in_ok-close_if.ensures.format;
+      pictures = ap (λ (s : Slices). s.pictures) c.in_ok-close_if.ensures.others;
+      units = refl;
+      slice = refl;
+      no_memory = c.in_err-check_standing.ensures.no_memory;
+      kept = tt;
+    })
+
+pub returns : goal.returns
+returns g c =
+    let h = c.args.state.now.slice.header in
+    let r = c.check_first_mb.result in
+    record {
+      refused = λ frames before named k m w d.
+          let b = begins-as before h c.args.state.now.slices _ k c.requires.begins in
+          let kept = c.in_ok-close_if.ensures.ended before k in
+          let e = c.in_ok-close_if.ensures.closes frames before k d in
+          let stands = rw c.from-bit.ensures.value at (c.in_ok-check_standing.ensures.judged named w) in
+          let first = c.check_first_mb.ensures.judged (runs_of before) (before-held c.args.mode e.made (goes_on before) c.args.begins (runs_of before) h c.close_if.new.decoder b e.keeps) in
+          on-err r (λ (x : Result (Unit {0}) Stop). JudgesSlice c.args.mode g.S.Elements.took g.S.Elements.failures frames before c.args.unit.now h named c.args.begins c.close_if.new.decoder c.args.sink.now c.close_if.new.sink x)
+          (λ stop broken. record {
+            made = e.made;
+            same = e.same;
+            plays = closed-on (took_with e.made g.S.Elements.took) g.S.Elements.failures c.args.mode before c.args.unit.now h c.args.begins b _ _ _ _ _ e.plays
+                (place-stop (took_with e.made g.S.Elements.took) g.S.Elements.failures c.args.mode before c.args.unit.now h c.args.begins b _ c.args.state.now.sets kept.due m named w _ stands _ _ (broken ∙ first));
+            enters = tt;
+          });
+      placed = λ frames before k d.
+          let b = begins-as before h c.args.state.now.slices _ k c.requires.begins in
+          let e = c.in_ok-close_if.ensures.closes frames before k d in
+          let first = c.check_first_mb.ensures.judged (runs_of before) (before-held c.args.mode e.made (goes_on before) c.args.begins (runs_of before) h c.close_if.new.decoder b e.keeps) in
+          on-ok r (λ well. record {
+            closes = e;
+            ended = c.in_ok-close_if.ensures.ended before k;
+            stands = λ named w. rw c.from-bit.ensures.value at (c.in_ok-check_standing.ensures.judged named w);
+            first = well ∙ first;
+          });
+      sets = on-ok r (λ well. c.in_ok-check_standing.ensures.activated);
+      named = on-ok r (λ well.
+          let some = some-of _ c.requires.named in
+          ap is_some (sets-before c.args.state.now.sets _ h _ c.in_ok-check_standing.ensures.activated some.1));
+      format = c.in_ok-close_if.ensures.format;
+      pictures = ap (λ (s : Slices). s.pictures) c.in_ok-close_if.ensures.others;
+      units = refl;
+      slice = refl;
+      no_memory = c.check_first_mb.ensures.no_memory;
+      kept = on-ok r (λ well. c.in_ok-close_if.ensures.kept);
+    }
