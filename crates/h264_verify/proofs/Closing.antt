@@ -15,7 +15,7 @@ use Rattle.h264_verify.specs.Demands.{judged}
 use Rattle.h264_verify.specs.History.{History}
 use Rattle.h264_verify.specs.Pictures.{CodedPicture, goes_on, open_of, runs_of, counted, held_in, ended_by, mark_demand, end_of_picture}
 use Rattle.h264_verify.specs.Order.{closing_demands}
-use Rattle.h264_verify.specs.Keeping.{HoldsOpen, HoldsEnd, EndsAt, KeepsPictures, KeepsSlices, held_by}
+use Rattle.h264_verify.specs.Keeping.{HoldsOpen, HoldsEnd, KeepsPictures, KeepsSlices, held_by}
 use Rattle.h264_verify.proofs.Sound.{ended-sound, sound-ended}
 
 marked-judged : (r : Result References ℕ) → mark_answer r ≡ judged (mark_demand r ∷ [])
@@ -73,7 +73,6 @@ closed-pictures on pictures old new k same held = record {
   counts = subst (λ (s : Slices). KeepsCounts (map counted pictures) s.counts) (sym same) k.counts;
   count = ap (λ (s : Slices). s.count) same ∙ k.count;
   pictures_are = ap (λ (s : Slices). s.pictures) same ∙ k.pictures_are;
-  following = subst (λ (s : Slices). EndsAt pictures s.following) (sym same) k.following;
   prev_ref = ap (λ (s : Slices). s.prev_ref_frame_num) same ∙ k.prev_ref;
   held = held;
 }

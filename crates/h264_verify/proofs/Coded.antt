@@ -8,7 +8,7 @@ use Rattle.h264_picture.specs.declared.work.Work.{Work}
 use Rattle.h264_picture.specs.Holds.{HoldsMacroblocks}
 use Rattle.h264_verify.specs.Pictures.{CodedPicture, last_slice, picture_size, open_of}
 use Rattle.h264_verify.specs.Order.{whole_picture}
-use Rattle.h264_verify.specs.Keeping.{HoldsCoded, HoldsNewest, HoldsOpen, EndsAt, coded_before}
+use Rattle.h264_verify.specs.Keeping.{HoldsCoded, HoldsNewest, HoldsOpen, coded_before}
 use Rattle.h264_verify.specs.Outcome.{answers}
 use Rattle.h264_verify.specs.StepOutcome.{steps_outcome}
 use Rattle.h264_verify.specs.declared.picture.OpenPicture.{OpenPicture}
@@ -24,7 +24,7 @@ checked-outcome true stop r h = ap (λ (x : Result (Unit {0}) Stop). answers x) 
 checked-outcome false stop r h = ap (λ (x : Result (Unit {0}) Stop). answers x) h
 
 -- The end of the picture that may go on.
-pub whole-outcome : (on : Bool) (pictures : List CodedPicture) (picture : Option OpenPicture) (o : OpenPicture) (work : Work) (following : ℕ) (whole : Bool) → picture ≡ Some o → HoldsOpen (open_of on pictures) picture → EndsAt pictures following → HoldsCoded (open_of on pictures) work → ((width size : ℕ) (ms : List CodedMacroblock) → HoldsMacroblocks width size ms work → whole ≡ (length ms == size)) → (if whole then answers (Ok tt) else answers (Err (No following Incomplete))) ≡ steps_outcome (if on then whole_picture pictures else [])
-whole-outcome on [] picture o work following whole e h b k c = absurd (subst (HoldsOpen None) e h)
-whole-outcome false (p ∷ pictures) picture o work following whole e h b k c = absurd (subst (HoldsOpen None) e h)
-whole-outcome true (p ∷ pictures) picture o work following whole e h b k c = rw (b, c p.first.sps.frame_size.width (picture_size p.first.sps) (last_slice p).macroblocks k) refl
+pub whole-outcome : (on : Bool) (pictures : List CodedPicture) (picture : Option OpenPicture) (o : OpenPicture) (work : Work) (whole : Bool) → picture ≡ Some o → HoldsOpen (open_of on pictures) picture → HoldsCoded (open_of on pictures) work → ((width size : ℕ) (ms : List CodedMacroblock) → HoldsMacroblocks width size ms work → whole ≡ (length ms == size)) → (if whole then answers (Ok tt) else answers (Err (No o.following Incomplete))) ≡ steps_outcome (if on then whole_picture pictures else [])
+whole-outcome on [] picture o work whole e h k c = absurd (subst (HoldsOpen None) e h)
+whole-outcome false (p ∷ pictures) picture o work whole e h k c = absurd (subst (HoldsOpen None) e h)
+whole-outcome true (p ∷ pictures) picture o work whole e h k c = rw ((subst (HoldsOpen (Some p)) e h).following, c p.first.sps.frame_size.width (picture_size p.first.sps) (last_slice p).macroblocks k) refl

@@ -18,7 +18,7 @@ use Rattle.h264_verify.specs.UnitHeader.{header_of, nal_unit_type}
 use Rattle.h264_verify.specs.History.{History, maps_with, maps_of}
 use Rattle.h264_verify.specs.Sound.{AreSound, has_ended, HasActive, NamesSet}
 use Rattle.h264_near.specs.Coded.{CodedMacroblock}
-use Rattle.h264_verify.specs.Keeping.{EndsAt, HoldsEnd, HoldsOpen, IsLeft, KeepsPictures, KeepsSlices, Entered, held_by, begins_by}
+use Rattle.h264_verify.specs.Keeping.{HoldsEnd, HoldsOpen, IsLeft, KeepsPictures, KeepsSlices, Entered, held_by, begins_by}
 use Rattle.h264_verify.specs.Pictures.{CodedSlice, CodedPicture, last_slice, with_sets, goes_on, open_of, begins_after, begins_at, joined_to, joined_by, runs_of, ends_picture, bit_after, counted}
 use Rattle.h264_verify.specs.Slices.{idr_id, is_idr_due, newest_idr_of}
 
@@ -90,7 +90,6 @@ module _ (before : History) (unit : NalUnit) (kind : ℕ) (old new : Slices) (n 
     counts = subst (λ (s : Slices). KeepsCounts (map counted (runs_of before)) s.counts) (sym same) keeps.kept.counts;
     count = ap (λ (s : Slices). s.count) same ∙ keeps.kept.count;
     pictures_are = ap (λ (s : Slices). s.pictures) same ∙ keeps.kept.pictures_are;
-    following = subst (λ (s : Slices). EndsAt (runs_of before) s.following) (sym same) keeps.kept.following;
     prev_ref = ap (λ (s : Slices). s.prev_ref_frame_num) same ∙ keeps.kept.prev_ref;
     held = ap (λ (s : Slices). s.held) same ∙ keeps.kept.held ∙ left-held (ends_picture kind) (goes_on before) (runs_of before) ∙ ap (λ x. held_by false (not (ends_picture x) && goes_on before) (runs_of before)) n;
   }
@@ -133,25 +132,19 @@ module _ (before : History) (unit : NalUnit) (h : Header) (ms : List CodedMacrob
   newest false [] = refl
   newest false (p ∷ ps) = refl
 
-  last-after : (x : Bool) (ps : List CodedPicture) (bit : ℕ) → bit ≡ bit_after unit → EndsAt (joined_to x slice ps) bit
-  last-after true ps bit e = e
-  last-after false [] bit e = tt
-  last-after false (p ∷ ps) bit e = e
-
   one-more : (x : Bool) (ps : List CodedPicture) → (if x then length ps + 1 else length ps) ≡ length (joined_to x slice ps)
   one-more true ps = omega arith
   one-more false [] = refl
   one-more false (p ∷ ps) = refl
 
-  pub slice-kept : HoldsOpen (open_of true pictures) new.picture → HoldsEnd pictures new.picture → new.newest_idr ≡ (if begins then idr_id h.idr_pic_id else old.newest_idr) → new.pictures ≡ (if begins then old.pictures + 1 else old.pictures) → new.following ≡ bit_after unit → new ≡ record old { picture = new.picture; newest_idr = new.newest_idr; pictures = new.pictures; due = new.due; following = new.following } → KeepsPictures true false pictures new
-  slice-kept picture end id n bit same = record {
+  pub slice-kept : HoldsOpen (open_of true pictures) new.picture → HoldsEnd pictures new.picture → new.newest_idr ≡ (if begins then idr_id h.idr_pic_id else old.newest_idr) → new.pictures ≡ (if begins then old.pictures + 1 else old.pictures) → new ≡ record old { picture = new.picture; newest_idr = new.newest_idr; pictures = new.pictures; due = new.due } → KeepsPictures true false pictures new
+  slice-kept picture end id n same = record {
     picture = picture;
     end = end;
     newest_idr = id ∙ ap (λ x. if begins then idr_id h.idr_pic_id else x) entered.newest_idr ∙ newest begins (runs_of before);
     counts = subst (λ (s : Slices). KeepsCounts (map counted pictures) s.counts) (sym same) entered.counts;
     count = ap (λ (s : Slices). s.count) same ∙ entered.count;
     pictures_are = n ∙ ap (λ x. if begins then x + 1 else x) entered.pictures_are ∙ one-more begins (runs_of before);
-    following = last-after begins (runs_of before) new.following bit;
     prev_ref = ap (λ (s : Slices). s.prev_ref_frame_num) same ∙ entered.prev_ref;
     held = ap (λ (s : Slices). s.held) same ∙ entered.held;
   }

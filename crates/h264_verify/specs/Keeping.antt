@@ -72,6 +72,7 @@ pub record HoldsPicture (p : CodedPicture) (o : OpenPicture) : Type 0 where
   pub types : o.types ≡ types_of (p.later ++ p.first ∷ [])
   pub marking : o.marking ≡ p.first.header.marking
   pub numbering : o.numbering ≡ numbering_of p.first.sps p.first.header
+  pub following : o.following ≡ bit_after (last_slice p).unit
 
 abbrev pub HoldsOpen : Option CodedPicture → Option OpenPicture → Type 0
 HoldsOpen None None = Unit {0}
@@ -105,11 +106,6 @@ IsLeft false old new = new ≡ old
 abbrev pub held_by : Bool → Bool → List CodedPicture → References
 held_by ended on pictures = if on then (if ended then held_after pictures else held_in pictures) else held_after pictures
 
--- the first bit after the last slice of the newest picture
-abbrev pub EndsAt : List CodedPicture → ℕ → Type 0
-EndsAt [] bit = Unit {0}
-EndsAt (p ∷ pictures) bit = bit ≡ bit_after (last_slice p).unit
-
 -- what the end of the newest picture tells the buffer of frames
 abbrev pub HoldsEnd : List CodedPicture → Option OpenPicture → Type 0
 HoldsEnd [] o = Unit {0}
@@ -124,7 +120,6 @@ pub record KeepsPictures (on ended : Bool) (pictures : List CodedPicture) (slice
   pub counts : KeepsCounts (map counted pictures) slices.counts
   pub count : slices.count ≡ newest_count (map counted pictures)
   pub pictures_are : slices.pictures ≡ length pictures
-  pub following : EndsAt pictures slices.following
   pub prev_ref : slices.prev_ref_frame_num ≡ prev_ref_frame_num_of pictures
   pub held : slices.held ≡ held_by ended on pictures
 

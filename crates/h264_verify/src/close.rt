@@ -35,9 +35,9 @@ fn end_data_if(mode: Mode, ends: bool, slices: &Slices, work: &Work) -> Result<(
     match mode {
         Mode::Units => Ok(()),
         Mode::Headers => Ok(()),
-        Mode::Full => match slices.picture {
+        Mode::Full => match &slices.picture {
             None => Ok(()),
-            Some(_) => check(work.is_whole(), Rule::Incomplete, slices.following),
+            Some(picture) => check(work.is_whole(), Rule::Incomplete, picture.following),
         },
     }
 }

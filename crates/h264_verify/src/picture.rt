@@ -2,7 +2,7 @@
 #![tactic(auto)]
 
 ghost use Rattle.std.specs.Prelude.{◌≡◌, ◌-◌, ◌||◌, ◌==◌, List, [], ◌∷◌, Option, Some, None, true, IsTrue};
-ghost use Rattle.h264_verify.specs.Pictures.{CodedSlice, CodedPicture};
+ghost use Rattle.h264_verify.specs.Pictures.{CodedSlice, CodedPicture, bit_after};
 ghost use Rattle.h264_marking.specs.Ended.{numbering_of};
 ghost use Rattle.h264_verify.specs.Slices.{is_i};
 ghost use Rattle.h264_verify.specs.Buffering.{ended_picture};
@@ -38,6 +38,8 @@ pub struct OpenPicture {
     pub numbering: Numbering,
     /// What its end tells the buffer of frames.
     pub ended: Ended,
+    /// The first stream bit after its last slice's unit.
+    pub following: u64,
 }
 
 pub(crate) fn is_i(kind: &SliceKind) -> bool
@@ -113,9 +115,9 @@ fn keep_marking(kept: &mut Option<Found<Marking>>, marking: &mut Option<Found<Ma
 
 /// A picture that has begun with this slice.
 #[inline(never)]
-fn begun(header: &mut Header, numbering: Numbering, ended: Ended) -> OpenPicture
+fn begun(header: &mut Header, numbering: Numbering, ended: Ended, following: u64) -> OpenPicture
     ensures holds { (slice : CodedSlice) → slice.header ≡ header.old → numbering ≡ numbering_of slice.sps slice.header →
-        HoldsPicture (record { first = slice; later = [] }) result }
+        following ≡ bit_after slice.unit → HoldsPicture (record { first = slice; later = [] }) result }
     ensures end { result.ended ≡ ended }
     ensures header { header.new ≡ record header.old { marking = header.new.marking } }
 {
@@ -126,13 +128,20 @@ fn begun(header: &mut Header, numbering: Numbering, ended: Ended) -> OpenPicture
         types,
         numbering,
         ended,
+        following,
     }
 }
 
 /// A picture that begins with this slice, in the place of the one before.
-fn restart(picture: &mut OpenPicture, header: &mut Header, numbering: Numbering, ended: Ended)
+fn restart(
+    picture: &mut OpenPicture,
+    header: &mut Header,
+    numbering: Numbering,
+    ended: Ended,
+    following: u64,
+)
     ensures holds { (slice : CodedSlice) → slice.header ≡ header.old → numbering ≡ numbering_of slice.sps slice.header →
-        HoldsPicture (record { first = slice; later = [] }) picture.new }
+        following ≡ bit_after slice.unit → HoldsPicture (record { first = slice; later = [] }) picture.new }
     ensures end { picture.new.ended ≡ ended }
     ensures header { header.new ≡ record header.old { marking = header.new.marking } }
 {
@@ -141,6 +150,7 @@ fn restart(picture: &mut OpenPicture, header: &mut Header, numbering: Numbering,
     keep_marking(&mut picture.marking, &mut header.marking);
     picture.numbering = numbering;
     picture.ended = ended;
+    picture.following = following;
 }
 
 /// A picture begins with this slice, where another may have gone on.
@@ -149,25 +159,28 @@ pub(crate) fn begin(
     header: &mut Header,
     numbering: Numbering,
     ended: Ended,
+    following: u64,
 )
     ensures holds { (slice : CodedSlice) → slice.header ≡ header.old → numbering ≡ numbering_of slice.sps slice.header →
-        HoldsOpen (Some (record { first = slice; later = [] })) picture.new }
+        following ≡ bit_after slice.unit → HoldsOpen (Some (record { first = slice; later = [] })) picture.new }
     ensures end { (slice : CodedSlice) (pictures : List CodedPicture) → ended ≡ ended_picture (record { first = slice; later = [] }) pictures →
         HoldsEnd (record { first = slice; later = [] } ∷ pictures) picture.new }
     ensures header { header.new ≡ record header.old { marking = header.new.marking } }
 {
     match picture {
-        None => *picture = Some(begun(header, numbering, ended)),
-        Some(picture) => restart(picture, header, numbering, ended),
+        None => *picture = Some(begun(header, numbering, ended, following)),
+        Some(picture) => restart(picture, header, numbering, ended, following),
     }
 }
 
 /// One more slice comes to a picture.
-pub(crate) fn go_on(picture: &mut OpenPicture, header: &Header)
+pub(crate) fn go_on(picture: &mut OpenPicture, header: &Header, following: u64)
     ensures end { picture.new.ended ≡ picture.old.ended }
-    ensures holds { (p : CodedPicture) (slice : CodedSlice) → slice.header ≡ header.now → HoldsPicture p picture.old →
+    ensures holds { (p : CodedPicture) (slice : CodedSlice) → slice.header ≡ header.now → following ≡ bit_after slice.unit →
+        HoldsPicture p picture.old →
         HoldsPicture (record p { later = slice ∷ p.later }) picture.new }
 {
     picture.types = types_with(picture.types, header);
     picture.last = picture_elements(header);
+    picture.following = following;
 }

@@ -60,8 +60,6 @@ pub struct Slices {
     pub count: Option<Count>,
     /// How many pictures have begun.
     pub pictures: u64,
-    /// The first stream bit after the last slice's unit.
-    pub following: u64,
     /// PrevRefFrameNum after the newest picture.
     pub prev_ref_frame_num: u32,
     /// The reference frames.
@@ -340,7 +338,8 @@ fn enter(
     requires { slices.old.pictures < 2 ^ 42 }
     ensures picture { (on : Bool) (pictures : List CodedPicture) (slice : CodedSlice) → slice.header ≡ header.old →
         HoldsOpen (open_of on pictures) slices.old.picture → begins ≡ begins_after (open_of on pictures) header.old →
-        numbering ≡ numbering_of slice.sps slice.header → HoldsOpen (open_of true (joined_to begins slice pictures)) slices.new.picture }
+        numbering ≡ numbering_of slice.sps slice.header → following ≡ bit_after slice.unit →
+        HoldsOpen (open_of true (joined_to begins slice pictures)) slices.new.picture }
     ensures end { (on : Bool) (pictures : List CodedPicture) (slice : CodedSlice) →
         (begins ≡ true → ended ≡ ended_picture (record { first = slice; later = [] }) pictures) → HoldsOpen (open_of on pictures) slices.old.picture →
         HoldsEnd pictures slices.old.picture → begins ≡ begins_after (open_of on pictures) header.old →
@@ -348,27 +347,24 @@ fn enter(
     ensures newest { slices.new.newest_idr ≡ (if begins then idr_id header.old.idr_pic_id else slices.old.newest_idr) }
     ensures pictures { slices.new.pictures ≡ (if begins then slices.old.pictures + 1 else slices.old.pictures) }
     ensures due { slices.new.due ≡ false }
-    ensures following { slices.new.following ≡ following }
     ensures others { slices.new ≡ record slices.old {
       picture = slices.new.picture;
       newest_idr = slices.new.newest_idr;
       pictures =
           slices.new.pictures;
       due = slices.new.due;
-      following = slices.new.following;
     } }
     ensures header { header.new ≡ record header.old { marking = header.new.marking } }
 {
     slices.due = false;
-    slices.following = following;
     if begins {
         slices.pictures += 1;
         slices.newest_idr = idr_id(header.idr_pic_id);
-        begin(&mut slices.picture, header, numbering, ended);
+        begin(&mut slices.picture, header, numbering, ended, following);
         return;
     }
     if let Some(picture) = &mut slices.picture {
-        go_on(picture, header);
+        go_on(picture, header, following);
     }
 }
 
@@ -459,7 +455,6 @@ pub fn no_slices() -> Slices
         counts: Counts::new(),
         count: None,
         pictures: 0,
-        following: 0,
         prev_ref_frame_num: 0,
         held: Held::new(),
     }

@@ -16,5 +16,5 @@ data-full mode picture work e k = subst (λ (m : Mode). HoldsData m picture work
 pub returns-in-Some-clause-judged : goal.returns-in-Some-clause-judged
 returns-in-Some-clause-judged c = λ before kept holds.
     let coded = data-full c.args.mode (open_of (goes_on before) (runs_of before)) c.args.work.now c.in-Full.is holds in
-    rw (c.in-Full.is, c.if-not-ends.false) (checked-outcome c.is_whole.result (No c.args.slices.now.following Incomplete) _ c.check.ensures
-    ∙ whole-outcome (goes_on before) (runs_of before) c.args.slices.now.picture c.in-Some.field-0 c.args.work.now c.args.slices.now.following c.is_whole.result c.in-Some.is kept.kept.picture kept.kept.following coded c.is_whole.ensures)
+    rw (c.in-Full.is, c.if-not-ends.false) (checked-outcome c.is_whole.result (No c.in-Some.picture.following Incomplete) _ c.check.ensures
+    ∙ whole-outcome (goes_on before) (runs_of before) c.args.slices.now.picture c.in-Some.picture c.args.work.now c.is_whole.result c.in-Some.is kept.kept.picture coded c.is_whole.ensures)
