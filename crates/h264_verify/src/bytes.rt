@@ -5,6 +5,7 @@ ghost use Rattle.std.specs.Prelude.{◌≡◌, true, IfOk, IfErr};
 ghost use Rattle.h264_verify.specs.Units.{is_slice};
 ghost use Rattle.h264_verify.specs.Memory.{reads_slices, is_kind_read, is_read, bytes_of};
 
+use crate::kinds::{IDR_SLICE, PICTURE_SET, SEQUENCE_SET, SLICE};
 use h264_base::{Mode, Stop};
 use h264_rbsp::Rbsp;
 use h264_units::NalUnit;
@@ -25,14 +26,14 @@ fn reads_slices(mode: Mode) -> bool
 fn is_slice(kind: u8) -> bool
     ensures { result ≡ is_slice kind }
 {
-    kind == 1 || kind == 5
+    kind == SLICE || kind == IDR_SLICE
 }
 
 /// Whether a unit of this type is read: a parameter set, or a slice where slices are read.
 fn is_kind_read(mode: Mode, kind: u8) -> bool
     ensures { result ≡ is_kind_read mode kind }
 {
-    kind == 7 || kind == 8 || is_slice(kind) && reads_slices(mode)
+    kind == SEQUENCE_SET || kind == PICTURE_SET || is_slice(kind) && reads_slices(mode)
 }
 
 /// The RBSP of a unit that is read in this mode (7.3.1); None for one that is passed over, of which no byte is copied.

@@ -5,10 +5,10 @@
 //! pictures and counts that they give; or slice data too, with the pictures' samples. The sink is told each unit, each syntax
 //! element and each slice, and each frame in the order of output.
 //!
-//! From the whole to its parts: `running` and `session` take a stream; `unit` judges a unit, and the end of the input; `slice` a slice up to its
-//! slice data; `data` reads these into its picture's frame; `close` ends a picture. `slices` and `rules` have a slice's rules in their order,
-//! `frame_num` the gaps, `picture` the picture that is open, `decoder` the place where pictures are decoded and their frames wait. A
-//! `State` is what the units so far left. `laws` has what follows for any stream.
+//! From the whole to its parts: `running` and `session` take a stream; `unit` judges a unit, and the end of the input; `slice` gives a slice its
+//! place; `slices` and `rules` have its rules in their order; `data` reads its slice data into its picture's frame; `close` ends a picture.
+//! `frame_num` has the gaps, `picture` the picture that is open, `decoder` the place where pictures are decoded and their frames wait. A
+//! `State` is what the units so far left, and `head` what a slice has once its header is read. `laws` has what follows for any stream.
 //!
 //! Promised, for every byte string and every cutting of it: a yes, a no or an outside is the verdict of `specs/Verdict.antt`, of
 //! which each stream has exactly one, and the sink was told exactly its calls, with frames whose samples are those of the
@@ -24,6 +24,7 @@ pub mod data;
 pub mod decoder;
 mod frame_num;
 mod head;
+mod kinds;
 pub mod laws;
 pub mod picture;
 pub mod rules;

@@ -29,6 +29,7 @@ ghost use Rattle.h264_verify.specs.Lists.{list_of};
 use crate::decoder::Decoder;
 use crate::frame_num::{check_gap, check_idr_num};
 use crate::head::{SliceHead, SlicePlace};
+use crate::kinds::{END_OF_SEQUENCE, END_OF_STREAM, SEI};
 use crate::picture::{OpenPicture, begin, go_on};
 use crate::rules::{
     build_list, check_id, check_marking, check_qp, check_same_type, check_type, idr_id,
@@ -467,7 +468,7 @@ pub fn pass_by(slices: &mut Slices, kind: u8)
     ensures due { slices.new.due ≡ ((kind == 10 || kind == 11) || slices.old.due) }
     ensures others { slices.new ≡ record slices.old { picture = slices.new.picture; due = slices.new.due } }
 {
-    if kind == 10 || kind == 11 {
+    if kind == END_OF_SEQUENCE || kind == END_OF_STREAM {
         slices.due = true;
     }
     if ends_picture(kind) {
@@ -479,5 +480,5 @@ pub fn pass_by(slices: &mut Slices, kind: u8)
 pub fn ends_picture(kind: u8) -> bool
     ensures { result ≡ ends_picture kind }
 {
-    6 <= kind && kind <= 11
+    SEI <= kind && kind <= END_OF_STREAM
 }

@@ -36,6 +36,9 @@ use crate::close::close_if;
 use crate::data::read_data;
 use crate::decoder::Decoder;
 use crate::head::{SlicePlace, sets_named};
+use crate::kinds::{
+    DELIMITER, FILLER, IDR_SLICE, PARTITION_A, PARTITION_C, PICTURE_SET, SEI, SEQUENCE_SET,
+};
 use crate::picture::begins;
 use crate::rules::check;
 use crate::sink::FrameSink;
@@ -55,19 +58,19 @@ use std::alloc::Global;
 fn is_partition(kind: u8) -> bool
     ensures { result ≡ is_partition kind }
 {
-    2 <= kind && kind <= 4
+    PARTITION_A <= kind && kind <= PARTITION_C
 }
 
 fn is_always_reference(kind: u8) -> bool
     ensures { result ≡ is_always_reference kind }
 {
-    kind == 5 || kind == 7 || kind == 8
+    kind == IDR_SLICE || kind == SEQUENCE_SET || kind == PICTURE_SET
 }
 
 fn is_never_reference(kind: u8) -> bool
     ensures { result ≡ is_never_reference kind }
 {
-    kind == 6 || 9 <= kind && kind <= 12
+    kind == SEI || DELIMITER <= kind && kind <= FILLER
 }
 
 /// Whether a unit of this type may have this nal_ref_idc.
@@ -112,7 +115,7 @@ fn slice_unit(header: u8) -> SliceUnit
     ensures { result ≡ slice_unit_of header }
 {
     SliceUnit {
-        idr_pic_flag: header % 32 == 5,
+        idr_pic_flag: header % 32 == IDR_SLICE,
         nal_ref_idc: (header / 32 % 4) as u32,
     }
 }
@@ -376,10 +379,10 @@ fn join<S: FrameSink>(
         pass(state, header % 32);
         return Ok(());
     };
-    if header % 32 == 7 {
+    if header % 32 == SEQUENCE_SET {
         return join_sps(terms, state, header % 32, unit, rbsp, sink);
     }
-    if header % 32 == 8 {
+    if header % 32 == PICTURE_SET {
         return join_pps(terms, state, header % 32, unit, rbsp, sink);
     }
     match terms.mode {

@@ -35,13 +35,13 @@ unfolding joined_by
 joined-eight terms kind before unit e = subst (λ (k : ℕ). joined_by terms k before unit ≡ joined terms.mode before unit (pps_outcome terms.target unit)) (sym e) refl
 
 pub join_pps-requires-clause-ends : goal.join_pps-requires-clause-ends
-join_pps-requires-clause-ends g c = ap (λ (k : ℕ). ends_picture k) c.if-header-eq8.true
+join_pps-requires-clause-ends g c = ap (λ (k : ℕ). ends_picture k) c.if-header-eq-PICTURE_SET.true
 
-pub returns-then-header-eq7-clause-joins : goal.returns-then-header-eq7-clause-joins
-returns-then-header-eq7-clause-joins g c = λ frames before k. rw (joined-seven c.args.terms _ before c.args.bytes.now.unit.now c.if-header-eq7.true) (c.join_sps.ensures.joins frames before k)
+pub returns-then-header-eq-SEQUENCE_SET-clause-joins : goal.returns-then-header-eq-SEQUENCE_SET-clause-joins
+returns-then-header-eq-SEQUENCE_SET-clause-joins g c = λ frames before k. rw (joined-seven c.args.terms _ before c.args.bytes.now.unit.now c.if-header-eq-SEQUENCE_SET.true) (c.join_sps.ensures.joins frames before k)
 
-pub returns-then-header-eq8-clause-joins : goal.returns-then-header-eq8-clause-joins
-returns-then-header-eq8-clause-joins g c = λ frames before k. rw (joined-eight c.args.terms _ before c.args.bytes.now.unit.now c.if-header-eq8.true) (c.join_pps.ensures.joins frames before k)
+pub returns-then-header-eq-PICTURE_SET-clause-joins : goal.returns-then-header-eq-PICTURE_SET-clause-joins
+returns-then-header-eq-PICTURE_SET-clause-joins g c = λ frames before k. rw (joined-eight c.args.terms _ before c.args.bytes.now.unit.now c.if-header-eq-PICTURE_SET.true) (c.join_pps.ensures.joins frames before k)
 
 -- where no picture ends
 joins-here : {S X : Type 0} (mode : Mode) (took : S → List Call → Type 0) (failures : S → ℕ) (frames : ℕ → Frame) (before : History) (ends : Bool) (o : Outcome History) (new : State) (s s' : S) (r : Result X Stop) → ends ≡ false → Joins {X = X} mode took failures frames (ended_in before) o new s s' r → Joins {X = X} mode took failures frames (length (ended_pictures (goes_on before) ends (runs_of before))) o new s s' r
@@ -60,11 +60,11 @@ join_sps-requires-clause-rbsp g c = (read-bytes _ _ _ _ c.in-Some.is c.requires.
 pub join_pps-requires-clause-rbsp : goal.join_pps-requires-clause-rbsp
 join_pps-requires-clause-rbsp g c = (read-bytes _ _ _ _ c.in-Some.is c.requires.bytes).1
 
-pub returns-then-header-eq7-clause-no_memory : goal.returns-then-header-eq7-clause-no_memory
-returns-then-header-eq7-clause-no_memory g c = λ frames before k m. absurd (c.join_sps.ensures.no_memory m)
+pub returns-then-header-eq-SEQUENCE_SET-clause-no_memory : goal.returns-then-header-eq-SEQUENCE_SET-clause-no_memory
+returns-then-header-eq-SEQUENCE_SET-clause-no_memory g c = λ frames before k m. absurd (c.join_sps.ensures.no_memory m)
 
-pub returns-then-header-eq8-clause-no_memory : goal.returns-then-header-eq8-clause-no_memory
-returns-then-header-eq8-clause-no_memory g c = λ frames before k m. absurd (c.join_pps.ensures.no_memory m)
+pub returns-then-header-eq-PICTURE_SET-clause-no_memory : goal.returns-then-header-eq-PICTURE_SET-clause-no_memory
+returns-then-header-eq-PICTURE_SET-clause-no_memory g c = λ frames before k m. absurd (c.join_pps.ensures.no_memory m)
 
 -- a unit whose RBSP was made, and that is no set
 slice-here : (mode : Mode) (unit : NalUnit) (byte : ℕ) (o : Option Body) (x : Body) → byte ≡ header_of unit → o ≡ bytes_of mode unit → o ≡ Some x → (nal_unit_type byte ≡ 7 → ⊥) → (nal_unit_type byte ≡ 8 → ⊥) → (is_slice (nal_unit_type byte) ≡ true) × (reads_slices mode ≡ true)
@@ -73,7 +73,7 @@ slice-here mode unit byte o x e b s seven eight =
 
 pub unreachable-requires : goal.unreachable-requires
 unreachable-requires g c =
-    let here = slice-here c.args.terms.mode c.args.bytes.now.unit.now c.args.bytes.now.header c.args.bytes.now.rbsp.now _ c.requires.header c.requires.bytes c.in-Some.is c.if-header-eq7.false c.if-header-eq8.false in
+    let here = slice-here c.args.terms.mode c.args.bytes.now.unit.now c.args.bytes.now.header c.args.bytes.now.rbsp.now _ c.requires.header c.requires.bytes c.in-Some.is c.if-header-eq-SEQUENCE_SET.false c.if-header-eq-PICTURE_SET.false in
     let none : reads_slices modes.Units ≡ true = subst (λ (m : Mode). reads_slices m ≡ true) c.in-Units.is here.1 in
     cc
 
@@ -82,7 +82,7 @@ join_slice-requires-clause-rbsp g c = (read-bytes _ _ _ _ c.in-Some.is c.require
 
 pub join_slice-requires-clause-goes_on : goal.join_slice-requires-clause-goes_on
 join_slice-requires-clause-goes_on g c =
-    let here = slice-here c.args.terms.mode c.args.bytes.now.unit.now c.args.bytes.now.header c.args.bytes.now.rbsp.now _ c.requires.header c.requires.bytes c.in-Some.is c.if-header-eq7.false c.if-header-eq8.false in
+    let here = slice-here c.args.terms.mode c.args.bytes.now.unit.now c.args.bytes.now.header c.args.bytes.now.rbsp.now _ c.requires.header c.requires.bytes c.in-Some.is c.if-header-eq-SEQUENCE_SET.false c.if-header-eq-PICTURE_SET.false in
     slice-goes-on (nal_unit_type c.args.bytes.now.header) here.0
 
 pub join_whole_slice-requires-clause-rbsp : goal.join_whole_slice-requires-clause-rbsp
@@ -90,15 +90,15 @@ join_whole_slice-requires-clause-rbsp g c = (read-bytes _ _ _ _ c.in-Some.is c.r
 
 pub join_whole_slice-requires-clause-goes_on : goal.join_whole_slice-requires-clause-goes_on
 join_whole_slice-requires-clause-goes_on g c =
-    let here = slice-here c.args.terms.mode c.args.bytes.now.unit.now c.args.bytes.now.header c.args.bytes.now.rbsp.now _ c.requires.header c.requires.bytes c.in-Some.is c.if-header-eq7.false c.if-header-eq8.false in
+    let here = slice-here c.args.terms.mode c.args.bytes.now.unit.now c.args.bytes.now.header c.args.bytes.now.rbsp.now _ c.requires.header c.requires.bytes c.in-Some.is c.if-header-eq-SEQUENCE_SET.false c.if-header-eq-PICTURE_SET.false in
     slice-goes-on (nal_unit_type c.args.bytes.now.header) here.0
 
 pub returns-in-Headers-clause-joins : goal.returns-in-Headers-clause-joins
 unfolding joined_by
 returns-in-Headers-clause-joins g c = λ frames before k.
-    let here = slice-here c.args.terms.mode c.args.bytes.now.unit.now c.args.bytes.now.header c.args.bytes.now.rbsp.now _ c.requires.header c.requires.bytes c.in-Some.is c.if-header-eq7.false c.if-header-eq8.false in
+    let here = slice-here c.args.terms.mode c.args.bytes.now.unit.now c.args.bytes.now.header c.args.bytes.now.rbsp.now _ c.requires.header c.requires.bytes c.in-Some.is c.if-header-eq-SEQUENCE_SET.false c.if-header-eq-PICTURE_SET.false in
     let kept = subst (λ m. KeepsWithin m frames before (ends_picture (nal_unit_type c.args.bytes.now.header)) c.args.state.now) c.in-Headers.is k in
-    rw (ne_eqb _ _ c.if-header-eq7.false, ne_eqb _ _ c.if-header-eq8.false, c.in-Headers.is, slice-other (nal_unit_type c.args.bytes.now.header) before c.args.bytes.now.unit.now here.0) (joins-here modes.Headers _ _ frames before (ends_picture (nal_unit_type c.args.bytes.now.header)) _ _ _ _ _ (slice-goes-on (nal_unit_type c.args.bytes.now.header) here.0) (c.join_slice.ensures.joins frames before kept))
+    rw (ne_eqb _ _ c.if-header-eq-SEQUENCE_SET.false, ne_eqb _ _ c.if-header-eq-PICTURE_SET.false, c.in-Headers.is, slice-other (nal_unit_type c.args.bytes.now.header) before c.args.bytes.now.unit.now here.0) (joins-here modes.Headers _ _ frames before (ends_picture (nal_unit_type c.args.bytes.now.header)) _ _ _ _ _ (slice-goes-on (nal_unit_type c.args.bytes.now.header) here.0) (c.join_slice.ensures.joins frames before kept))
 
 pub returns-in-Headers-clause-no_memory : goal.returns-in-Headers-clause-no_memory
 returns-in-Headers-clause-no_memory g c = λ frames before k m. absurd (c.join_slice.ensures.no_memory m)
@@ -106,13 +106,13 @@ returns-in-Headers-clause-no_memory g c = λ frames before k m. absurd (c.join_s
 pub returns-in-Full-clause-joins : goal.returns-in-Full-clause-joins
 unfolding joined_by
 returns-in-Full-clause-joins g c = λ frames before k.
-    let here = slice-here c.args.terms.mode c.args.bytes.now.unit.now c.args.bytes.now.header c.args.bytes.now.rbsp.now _ c.requires.header c.requires.bytes c.in-Some.is c.if-header-eq7.false c.if-header-eq8.false in
+    let here = slice-here c.args.terms.mode c.args.bytes.now.unit.now c.args.bytes.now.header c.args.bytes.now.rbsp.now _ c.requires.header c.requires.bytes c.in-Some.is c.if-header-eq-SEQUENCE_SET.false c.if-header-eq-PICTURE_SET.false in
     let kept = subst (λ m. KeepsWithin m frames before (ends_picture (nal_unit_type c.args.bytes.now.header)) c.args.state.now) c.in-Full.is k in
-    rw (ne_eqb _ _ c.if-header-eq7.false, ne_eqb _ _ c.if-header-eq8.false, c.in-Full.is, whole-other (nal_unit_type c.args.bytes.now.header) before c.args.bytes.now.unit.now here.0) (joins-here modes.Full _ _ frames before (ends_picture (nal_unit_type c.args.bytes.now.header)) _ _ _ _ _ (slice-goes-on (nal_unit_type c.args.bytes.now.header) here.0) (c.join_whole_slice.ensures.joins frames before kept))
+    rw (ne_eqb _ _ c.if-header-eq-SEQUENCE_SET.false, ne_eqb _ _ c.if-header-eq-PICTURE_SET.false, c.in-Full.is, whole-other (nal_unit_type c.args.bytes.now.header) before c.args.bytes.now.unit.now here.0) (joins-here modes.Full _ _ frames before (ends_picture (nal_unit_type c.args.bytes.now.header)) _ _ _ _ _ (slice-goes-on (nal_unit_type c.args.bytes.now.header) here.0) (c.join_whole_slice.ensures.joins frames before kept))
 
 pub returns-in-Full-clause-no_memory : goal.returns-in-Full-clause-no_memory
 returns-in-Full-clause-no_memory g c = λ frames before k m.
-    let here = slice-here c.args.terms.mode c.args.bytes.now.unit.now c.args.bytes.now.header c.args.bytes.now.rbsp.now _ c.requires.header c.requires.bytes c.in-Some.is c.if-header-eq7.false c.if-header-eq8.false in
+    let here = slice-here c.args.terms.mode c.args.bytes.now.unit.now c.args.bytes.now.header c.args.bytes.now.rbsp.now _ c.requires.header c.requires.bytes c.in-Some.is c.if-header-eq-SEQUENCE_SET.false c.if-header-eq-PICTURE_SET.false in
     let kept = subst (λ q. KeepsWithin q frames before (ends_picture (nal_unit_type c.args.bytes.now.header)) c.args.state.now) c.in-Full.is k in
     record {
       full = c.in-Full.is;
