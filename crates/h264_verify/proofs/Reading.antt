@@ -1,5 +1,5 @@
 -- Slice data after what is kept before them.
-use Rattle.std.proofs.Common.{◌≡◌, ℕ, Bool, ◌&&◌, true, false, List, [], ◌∷◌, Option, Some, Result, Ok, refl, ap, sym, ◌∙◌, length}
+use Rattle.std.proofs.Common.{◌≡◌, ℕ, Bool, ◌&&◌, true, false, List, [], ◌∷◌, Option, Result, Ok, refl, ap, sym, ◌∙◌, length}
 use Rattle.h264_base.specs.declared.mode.Mode.TheVariants as modes
 use Rattle.h264_base.specs.declared.stop.Stop.{Stop}
 use Rattle.h264_base.specs.Call.{Call}
@@ -37,7 +37,6 @@ use Rattle.h264_verify.specs.Outcome.{Outcome}
 use Rattle.h264_verify.specs.Pictures.{CodedSlice, CodedPicture, last_slice, joined_to, picture_size, held_in}
 use Rattle.h264_marking.specs.Ended.{numbering_of}
 use Rattle.h264_verify.specs.Data.{picture_set, coded_so_far, slice_syntax, data_in}
-use Rattle.h264_header.specs.Header.{header}
 use Rattle.h264_header.proofs.Entries.{where-ok}
 use Rattle.h264_verify.specs.StepOutcome.{structure_from}
 

@@ -1,6 +1,5 @@
 -- Rules one after another, and the sets of a slice.
-use Rattle.std.proofs.Common.{pos, length, ◌==◌, OnOk, IsTrue, IsFalse, ◌⊎◌, inl, inr, IfNone, ◌≡◌, ℕ, ◌*◌, Bool, true, false, List, [], ◌∷◌, ◌++◌, Option, Some, None, Result, Ok, Err, refl, ap, sym, ◌∙◌, subst, append_assoc, ◌||◌, if◌then◌else◌}
-use Rattle.std.proofs.lemmas.Bool.{eqb-true}
+use Rattle.std.proofs.Common.{OnOk, IsTrue, IsFalse, ◌⊎◌, inl, inr, IfNone, ◌≡◌, ℕ, ◌*◌, Bool, true, false, List, [], ◌∷◌, ◌++◌, Option, Some, None, Result, Ok, Err, refl, ap, sym, ◌∙◌, subst, append_assoc, ◌||◌, if◌then◌else◌}
 use Rattle.std.specs.Option.{is_some, option_map}
 use Rattle.h264_base.specs.declared.rule.Rule.TheVariants.{SetChanged}
 use Rattle.h264_base.specs.declared.stop.Stop.{Stop}
@@ -15,13 +14,12 @@ use Rattle.h264_header.proofs.Named.{named-pair}
 use Rattle.h264_sets.specs.declared.SetPair.{SetPair}
 use Rattle.h264_header.specs.declared.header.Header.{Header}
 use Rattle.h264_header.specs.Layout.{sets_of}
-use Rattle.h264_lists.specs.declared.slot.RefSlot.{RefSlot}
 use Rattle.h264_base.specs.declared.mode.Mode.{Mode}
 use Rattle.h264_verify.specs.Content as contents
 use Rattle.h264_verify.specs.Outcome.{Outcome, answers, Plays, IsNamed}
 use Rattle.h264_verify.specs.Demands.{Demand, judged}
 use Rattle.h264_verify.specs.History.{History, with_pair, maps_with, maps_of}
-use Rattle.h264_verify.specs.Slices.{has_content, is_active, set_demand, list_demand, first_mb_demands, is_idr_due, slice_call}
+use Rattle.h264_verify.specs.Slices.{has_content, is_active, set_demand, first_mb_demands, is_idr_due, slice_call}
 use Rattle.h264_verify.specs.Order.{rules_of, steps_by}
 use Rattle.h264_verify.specs.Steps.{Step, Tells, needs}
 use Rattle.h264_verify.specs.StepOutcome.{steps_outcome}

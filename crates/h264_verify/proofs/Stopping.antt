@@ -20,7 +20,6 @@ use Rattle.h264_verify.specs.Demands.{Demand}
 use Rattle.h264_verify.specs.Outcome.{Outcome}
 use Rattle.h264_verify.specs.Steps.{Step, Needs, Tells, needs, AreMet, IsFirstStop, told}
 use Rattle.h264_verify.specs.UnitHeader.{header_of, nal_unit_type}
-use Rattle.h264_dpb.specs.Kept.{shown_call}
 use Rattle.h264_verify.specs.History.{History, ReadUnit, maps_of}
 use Rattle.h264_verify.specs.Pictures.{CodedPicture, ends_picture, with_sets, sets_at, goes_on, joined_to, runs_of, begins_at}
 use Rattle.h264_verify.specs.Order.{closing_at, closing_demands}

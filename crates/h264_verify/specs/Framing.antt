@@ -56,8 +56,8 @@ pub record ReadsData {S X : Type 0} (took : S → List Call → Type 0) (failure
   pub keeps : OnOk result (KeepsDecoder modes.Full frames true false (pictures macroblocks) new)
 
 -- A slice took its place after these units: the picture before it ended, where it begins one, and the rules on its place are met.
-pub record PlacesSlice {S : Type 0} (mode : Mode) (took : S → List Call → Type 0) (failures : S → ℕ) (frames : ℕ → Frame) (before : History) (unit : NalUnit)
-    (h : Header) (begins : Bool) (old new : State) (s s' : S) : Type 0 where
+pub record PlacesSlice {S : Type 0} (mode : Mode) (took : S → List Call → Type 0) (failures : S → ℕ) (frames : ℕ → Frame) (before : History)
+    (unit : NalUnit) (h : Header) (begins : Bool) (old new : State) (s s' : S) : Type 0 where
   pub closes : EndsFrames mode took failures frames (goes_on before) begins (runs_of before) (steps_outcome (close_steps mode begins before)) new.decoder
       s s' (Ok tt)
   pub ended : KeepsSlices before begins new.slices

@@ -13,7 +13,6 @@ use Rattle.h264_pps.specs.declared.Pps.{Pps}
 use Rattle.h264_sps.specs.declared.sps.Sps.{Sps}
 use Rattle.h264_header.specs.declared.header.Header.{Header}
 use Rattle.h264_header.specs.declared.header.Marking.{Marking}
-use Rattle.h264_header.specs.Layout.{sets_of}
 use Rattle.h264_header.specs.Picture.{begins_picture, picture_elements, is_idr, is_reference}
 use Rattle.h264_sets.specs.Sets.{Maps}
 use Rattle.h264_verify.specs.declared.frame_num.Gap.{Gap}
@@ -43,8 +42,8 @@ use Rattle.h264_verify.specs.Buffering.{newest_count, after_all, within_newest, 
 use Rattle.h264_verify.specs.Decoding.{slices_of, EachSlice, number_of, parameters_of}
 use Rattle.h264_verify.specs.Demands.{Demand}
 use Rattle.h264_verify.specs.History.{History, maps_of}
-use Rattle.h264_verify.specs.Pictures.{CodedSlice, CodedPicture, last_slice, coded_of, picture_size, bit_after, with_sets, goes_on, open_of, joined_to, runs_of, counted}
-use Rattle.h264_verify.specs.Pictures.{prev_ref_frame_num_of, held_after, held_in}
+use Rattle.h264_verify.specs.Pictures.{CodedSlice, CodedPicture, last_slice, coded_of, picture_size, bit_after, goes_on, open_of, joined_to, runs_of, counted}
+use Rattle.h264_verify.specs.Pictures.{with_sets, prev_ref_frame_num_of, held_after, held_in}
 use Rattle.h264_verify.specs.Order.{closing_demands}
 use Rattle.h264_verify.specs.Order.{whole_steps}
 use Rattle.h264_poc.specs.OfSlice.{picture_of}

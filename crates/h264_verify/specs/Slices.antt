@@ -1,5 +1,5 @@
 -- The rules that a slice meets beside its own syntax (7.4.1.2, 7.4.3, 8.2.1, 8.2.4). To be read beside the standard.
-use Rattle.std.specs.Prelude.{ℕ, ◌*◌, ◌==◌, ◌&&◌, ◌||◌, not, Bool, true, false, Option, Some, None, Result, List, [], ◌∷◌, ◌++◌, map, length, ℤ, pos, ◌+ℤ◌}
+use Rattle.std.specs.Prelude.{ℕ, ◌*◌, ◌==◌, ◌&&◌, ◌||◌, not, Bool, true, false, Option, Some, None, Result, List, [], ◌∷◌, ◌++◌, map, ℤ, pos, ◌+ℤ◌}
 use Rattle.std.specs.Prelude.{int_le, if◌then◌else◌}
 use Rattle.std.specs.List.{list_any}
 use Rattle.std.specs.Option.{is_some}
@@ -10,7 +10,6 @@ use Rattle.h264_base.specs.declared.mode.SliceType.{SliceType}
 use Rattle.h264_base.specs.declared.mode.SliceType.TheVariants as slice_type
 use Rattle.h264_base.specs.Call.{Call, OfSlice}
 use Rattle.h264_bits.specs.declared.element.Found.{Found}
-use Rattle.h264_units.specs.Stream.{NalUnit}
 use Rattle.h264_sps.specs.declared.sps.Sps.{Sps}
 use Rattle.h264_sps.specs.contracts.sps.SpsPartialEq.TheImpl as eq_sps
 use Rattle.h264_pps.specs.declared.Pps.{Pps}
@@ -24,25 +23,17 @@ use Rattle.h264_header.specs.SameMarking.{same_marking}
 use Rattle.h264_poc.specs.declared.picture.Picture.{Picture}
 use Rattle.h264_marking.specs.declared.frame.Numbering.{Numbering}
 use Rattle.h264_marking.specs.Frames.{References}
-use Rattle.h264_marking.specs.Gaps.{is_new_num, gap_before, unused_short_term_frame_nums, entered}
+use Rattle.h264_marking.specs.Gaps.{is_new_num, gap_before, entered}
 use Rattle.h264_lists.specs.declared.slot.RefSlot.{RefSlot}
-use Rattle.h264_dpb.specs.Buffered.{Buffered}
-use Rattle.h264_dpb.specs.Turns.{Shown}
 use Rattle.h264_verify.specs.Content.{Content}
 use Rattle.h264_verify.specs.Content as contents
-use Rattle.h264_verify.specs.Steps.{Step, needs}
-use Rattle.h264_verify.specs.Steps as step
 use Rattle.h264_verify.specs.Demands.{Demand}
-use Rattle.h264_verify.specs.Lists.{list_of}
-use Rattle.h264_verify.specs.Telling.{Said}
-use Rattle.h264_verify.specs.Buffering.{newest_count, frame_count, after_all, missing_steps, closing_frames}
+use Rattle.h264_verify.specs.Buffering.{newest_count, frame_count}
 use Rattle.h264_verify.specs.UnitHeader.{header_of, nal_unit_type}
-use Rattle.h264_verify.specs.History.{History, maps_of}
-use Rattle.h264_verify.specs.Pictures.{CodedSlice, CodedPicture, sets_at, with_sets, joined_to, runs_of, begins_at, prev_ref_frame_num_of, held_after}
-use Rattle.h264_verify.specs.Pictures.{held_in, bit_of, is_met, counted, coded_of}
-use Rattle.h264_header.specs.Picture.{is_idr, is_reference}
-use Rattle.h264_poc.specs.OfSlice.{picture_of}
-use Rattle.h264_marking.specs.Ended.{numbering_of}
+use Rattle.h264_verify.specs.History.{History}
+use Rattle.h264_verify.specs.Pictures.{CodedSlice, CodedPicture}
+use Rattle.h264_verify.specs.Pictures.{bit_of, is_met, counted}
+use Rattle.h264_header.specs.Picture.{is_idr}
 
 abbrev pub is_i : SliceKind → Bool
 is_i kinds.I = true

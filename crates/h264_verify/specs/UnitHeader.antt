@@ -1,8 +1,6 @@
 -- A unit's first byte (7.3.1), and its rules (7.4.1, A.2). To be read beside the standard.
-use Rattle.std.specs.Prelude.{ℕ, ◌/◌, ◌%◌, Bool, true, not, List, [], ◌∷◌, slice_index, nat_le, ◌==◌, ◌&&◌, ◌||◌, if◌then◌else◌}
-use Rattle.h264_base.specs.declared.rule.Rule.TheVariants.{ForbiddenBit, RefIdc, Partition}
+use Rattle.std.specs.Prelude.{ℕ, ◌/◌, ◌%◌, Bool, true, not, slice_index, nat_le, ◌==◌, ◌&&◌, ◌||◌, if◌then◌else◌}
 use Rattle.h264_units.specs.Stream.{NalUnit}
-use Rattle.h264_verify.specs.Demands.{Demand}
 
 abbrev pub header_of : NalUnit → ℕ
 header_of unit = slice_index unit.body 0

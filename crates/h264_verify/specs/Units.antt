@@ -1,5 +1,5 @@
 -- The course of a unit after those before it, and the rules of the end of the input (7.3.1, 7.4). To be read beside the standard.
-use Rattle.std.specs.Prelude.{ℕ, ◌*◌, Bool, true, false, List, [], ◌∷◌, ◌++◌, length, ◌==◌, ◌||◌, if◌then◌else◌}
+use Rattle.std.specs.Prelude.{ℕ, Bool, true, false, List, [], ◌∷◌, length, ◌==◌, ◌||◌, if◌then◌else◌}
 use Rattle.h264_base.specs.declared.mode.Mode.{Mode}
 use Rattle.h264_base.specs.declared.mode.Mode.TheVariants as modes
 use Rattle.h264_base.specs.declared.mode.Target.{Target}
@@ -7,8 +7,6 @@ use Rattle.h264_base.specs.declared.rule.Rule.TheVariants.{NoPicture}
 use Rattle.h264_base.specs.Call.{Call, OfUnit}
 use Rattle.h264_base.specs.Grammar.{Grammar, ◌>>=◌, Done}
 use Rattle.h264_units.specs.Stream.{NalUnit}
-use Rattle.h264_sps.specs.Sps.{sps}
-use Rattle.h264_pps.specs.Pps.{pps}
 use Rattle.h264_header.specs.declared.header.SliceUnit.{SliceUnit}
 use Rattle.h264_header.specs.Layout.{sets_of}
 use Rattle.h264_header.specs.Header.{header}
@@ -17,14 +15,10 @@ use Rattle.h264_verify.specs.declared.state.Terms.{Terms}
 use Rattle.h264_verify.specs.Content.{Content}
 use Rattle.h264_verify.specs.Content as contents
 use Rattle.h264_verify.specs.Demands.{Demand}
-use Rattle.h264_verify.specs.Steps.{Step, needs, Course, Takes, Reads, Ends}
-use Rattle.h264_verify.specs.Steps as step
 use Rattle.h264_verify.specs.UnitHeader.{header_of, nal_unit_type, nal_ref_idc}
 use Rattle.h264_verify.specs.History.{History, maps_of}
-use Rattle.h264_verify.specs.Pictures.{CodedPicture, ends_picture, runs_of}
-use Rattle.h264_verify.specs.Telling.{Said}
-use Rattle.h264_verify.specs.Buffering.{closing_frames, last_frames, frames_written}
-use Rattle.h264_verify.specs.Data.{slice_data_at}
+use Rattle.h264_verify.specs.Pictures.{CodedPicture, runs_of}
+use Rattle.h264_verify.specs.Buffering.{frames_written}
 
 -- what the sink is told of a unit: the byte where it begins, its type, nal_ref_idc, and its length in bytes
 abbrev pub unit_call : ℕ → ℕ → ℕ → Call

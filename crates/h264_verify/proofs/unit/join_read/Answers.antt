@@ -1,4 +1,4 @@
-use Rattle.std.proofs.Common.{◌≡◌, [], ◌∷◌, List, Bool, true, false, Some, Ok, subst, sym, ◌∙◌, ap, refl}
+use Rattle.std.proofs.Common.{◌≡◌, [], ◌∷◌, List, Bool, true, false, Ok, subst, sym, ◌∙◌, ap, refl}
 use Rattle.std.proofs.lemmas.Result.{err_from_is_err_and}
 use Rattle.h264_base.specs.Meets.{Reader}
 use Rattle.h264_base.specs.declared.mode.Mode.TheVariants as modes
