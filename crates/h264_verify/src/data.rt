@@ -52,7 +52,8 @@ pub(crate) fn read_data<S: Elements>(
     requires usable { is_usable place.now.sps.now ≡ true }
     requires kept { ReadsSome place.now slice.now decoder.old }
     ensures reads { (frames : ℕ → Frame) (on : Bool) (pictures : List CodedPicture) (s : CodedSlice) → IsRead place.now slice.now pictures s →
-        s.header.first_mb_in_slice.value ≡ length (coded_so_far place.now.begins pictures) → s.macroblocks ≡ [] → (place.now.begins ≡ false → on ≡ true) →
+        s.header.first_mb_in_slice.value ≡ length (coded_so_far place.now.begins pictures) → s.macroblocks ≡ [] →
+        (place.now.begins ≡ false → on ≡ true) →
         (place.now.begins ≡ false → HasPps s.pps pictures) → EntersBy frames place.now.begins s on pictures decoder.old →
         ReadsData S.took S.failures frames (structure_from (data_in place.now.begins pictures s) bits.old.body bits.old.at)
         (λ ms. joined_to place.now.begins (record s { macroblocks = ms }) pictures) decoder.new sink.old sink.new result }

@@ -11,7 +11,7 @@ use h264_bits::Bits;
 use h264_dpb::{Ended, Output};
 use h264_header::Header;
 use h264_marking::Held;
-use h264_picture::{Work, buffer_size, slice_samples};
+use h264_picture::{PLACES, Work, buffer_size, slice_samples};
 use h264_pps::Pps;
 use h264_sps::sps::{FrameSize, Sps};
 use h264_vectors::SliceContext;
@@ -39,6 +39,7 @@ pub struct Decoder {
     pub place: usize,
 }
 
+/// The format of a sequence's frames.
 fn format_of(sps: &Sps) -> Format
     ensures { result ≡ format_of sps.now }
 {
@@ -142,7 +143,7 @@ impl Decoder {
         let Some(place) = self.output.place_of(picture) else {
             unreachable!()
         };
-        prove!(place < first + 17);
+        prove!(place < first + PLACES);
         place as u8
     }
 

@@ -113,7 +113,8 @@ fn is_steady(mode: Mode, held: &Held, decoder: &Decoder) -> bool
     }
 }
 
-/// Whether so many missing numbers are filled that the next ones change nothing but the numbers of frames. Tried once, after as many as there may be places.
+/// Whether so many missing numbers are filled that the next ones change nothing but the numbers of frames. It is tried once, after as many
+/// as frames may be held.
 fn may_skip(
     turn: u32,
     mode: Mode,

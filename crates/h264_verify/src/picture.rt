@@ -42,6 +42,7 @@ pub struct OpenPicture {
     pub following: u64,
 }
 
+/// Whether a slice is an I slice.
 pub(crate) fn is_i(kind: &SliceKind) -> bool
     ensures { result ≡ is_i kind.now }
 {

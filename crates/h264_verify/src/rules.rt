@@ -24,6 +24,9 @@ use h264_pps::Pps;
 use h264_sets::Sets;
 use h264_sps::sps::Sps;
 
+/// The greatest QPY of samples of 8 bits (7.4.3).
+const MAX_QP: i64 = 51;
+
 /// Names a rule that is not met, with its stream bit.
 pub fn check(holds: bool, rule: Rule, bit: u64) -> Result<(), Stop>
     ensures { result ≡ (if holds then Ok tt else Err (No bit rule)) }
@@ -87,6 +90,7 @@ pub(crate) fn check_same_type(picture: &Option<OpenPicture>, header: &Header) ->
     check(agrees, Rule::SliceType, header.kind.bit)
 }
 
+/// idr_pic_id, where there is one.
 pub(crate) fn idr_id(id: Option<Found<u32>>) -> Option<u32>
     ensures { result ≡ idr_id id }
 {
@@ -106,19 +110,19 @@ pub(crate) fn check_id(newest_idr: Option<u32>, header: &Header) -> Result<(), S
     }
 }
 
-/// SliceQPY (7.4.3).
+/// SliceQPY: 26 + pic_init_qp_minus26 + slice_qp_delta (7.4.3).
 fn slice_qp(init: i32, delta: i32) -> i64
     ensures { result ≡ (pos 26 +ℤ init) +ℤ delta }
 {
     26 + init as i64 + delta as i64
 }
 
-/// Whether SliceQPY lies in 0 to 51.
+/// Whether SliceQPY lies in 0 to 51 (7.4.3).
 fn is_qp(init: i32, delta: i32) -> bool
     ensures { result ≡ is_qp init delta }
 {
     let qp = slice_qp(init, delta);
-    0 <= qp && qp <= 51
+    0 <= qp && qp <= MAX_QP
 }
 
 /// The rule on a slice's QP.
@@ -129,7 +133,9 @@ pub(crate) fn check_qp(pps: &Pps, header: &Header) -> Result<(), Stop>
     check(qp, Rule::Qp, header.slice_qp_delta.bit)
 }
 
-/// Builds a slice's reference list (8.2.4), by the rule on its modifications; an I slice has none.
+/// Builds a slice's reference list (8.2.4); an I slice has none.
+///
+/// Err: ListCommand, at the first modification that names a frame that is not held.
 pub(crate) fn build_list(
     kind: &SliceKind,
     numbering: &Numbering,

@@ -92,6 +92,7 @@ impl Slice {
     }
 }
 
+/// The type that the sink is told.
 fn type_of(kind: &SliceKind) -> SliceType
     ensures { result ≡ type_of kind.now }
 {
@@ -249,7 +250,8 @@ fn check_rules<S: FrameSink>(
     requires numbered { head.now.numbering ≡ numbering_of head.now.place.sps.now head.now.header.now }
     requires room { HasRoom S.failures sink.old }
     requires pictures { slices.old.pictures < 2 ^ 42 }
-    requires goes { head.now.place.begins ≡ true → is_idr head.now.header.now ≡ false → GoesWith mode head.now.place.sps.now slices.old.held decoder.old }
+    requires goes { head.now.place.begins ≡ true → is_idr head.now.header.now ≡ false →
+        GoesWith mode head.now.place.sps.now slices.old.held decoder.old }
     requires kept { KeepsSomeRules mode head.now.place.begins slices.old decoder.old }
     ensures plays { (frames : ℕ → Frame) (before : History) → KeepsSlices before head.now.place.begins slices.old →
         head.now.place.begins ≡ begins_at before head.now.header.now →
@@ -326,8 +328,8 @@ fn frame_count(count: Option<Count>) -> i32
     }
 }
 
-/// What a slice leaves that begins a picture, or goes on with one, where its unit ends before this bit. The marking may leave the
-/// header's place.
+/// Keeps what a slice leaves that begins a picture, or goes on with one, where its unit ends before the bit `following`. Its marking may leave
+/// the header.
 fn enter(
     slices: &mut Slices,
     begins: bool,
@@ -476,7 +478,7 @@ pub fn pass_by(slices: &mut Slices, kind: u8)
     }
 }
 
-/// Whether a unit of this nal_unit_type ends the picture before it: 6 to 11 (7.4.1.2.3).
+/// Whether a unit of this nal_unit_type ends the picture before it (7.4.1.2.3): each from SEI to the end of the stream does.
 pub fn ends_picture(kind: u8) -> bool
     ensures { result ≡ ends_picture kind }
 {

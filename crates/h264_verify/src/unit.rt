@@ -1,4 +1,4 @@
-//! One unit.
+//! A unit, and the end of the input: how they are judged, and what the sink is told of them.
 #![tactic(auto)]
 
 ghost use Rattle.std.specs.Prelude.{◌≡◌, true, false, IsTrue, ℕ, ◌+◌, ◌-◌, ◌*◌, ◌<◌, ◌≤◌, ◌^◌, List, [], ◌∷◌, length, ◌==◌, ◌||◌, OnOk, IfOk, IfErr};
@@ -55,25 +55,28 @@ use h264_sps::read::read_sps;
 use h264_units::NalUnit;
 use std::alloc::Global;
 
+/// Whether a unit of this type is a slice data partition.
 fn is_partition(kind: u8) -> bool
     ensures { result ≡ is_partition kind }
 {
     PARTITION_A <= kind && kind <= PARTITION_C
 }
 
+/// Whether nal_ref_idc of a unit of this type is never 0 (7.4.1).
 fn is_always_reference(kind: u8) -> bool
     ensures { result ≡ is_always_reference kind }
 {
     kind == IDR_SLICE || kind == SEQUENCE_SET || kind == PICTURE_SET
 }
 
+/// Whether nal_ref_idc of a unit of this type is always 0 (7.4.1).
 fn is_never_reference(kind: u8) -> bool
     ensures { result ≡ is_never_reference kind }
 {
     kind == SEI || DELIMITER <= kind && kind <= FILLER
 }
 
-/// Whether a unit of this type may have this nal_ref_idc.
+/// Whether a unit of this type may have this nal_ref_idc (7.4.1).
 fn fits_kind(kind: u8, reference: u8) -> bool
     ensures { result ≡ fits_kind kind reference }
 {
@@ -98,6 +101,7 @@ fn check_header(from: u64, header: u8) -> Result<(), Stop>
     check(!is_partition(kind), Rule::Partition, bit)
 }
 
+/// Tells the sink a unit of so many bytes, which begins at this byte.
 fn tell_unit<S: FrameSink>(from: u64, header: u8, length: u64, sink: &mut S) -> Result<(), Stop>
     requires { HasRoom S.failures sink.old }
     ensures plays { (frames : ℕ → Frame) → Plays (took_with frames S.took) S.failures (λ x. x)
@@ -143,7 +147,7 @@ fn read_slice_unit<S: FrameSink>(
     read_header(&mut bits, sets, slice_unit, found, sink)
 }
 
-/// A unit that is no slice joins those before it.
+/// Adds a unit that is no slice to those before it.
 fn pass(state: &mut State, kind: u8)
     requires { state.old.units ≤ 2 ^ 40 }
     ensures units { state.new.units ≡ state.old.units + 1 }
@@ -157,7 +161,7 @@ fn pass(state: &mut State, kind: u8)
     state.units += 1;
 }
 
-/// A sequence parameter set is read, and kept. Apart, so that a slice does not pay for the place of a set.
+/// Reads a sequence parameter set, and keeps it. It stands apart, so that a slice does not pay for the place of a set.
 #[inline(never)]
 fn join_sps<S: FrameSink>(
     terms: Terms,
@@ -187,7 +191,7 @@ fn join_sps<S: FrameSink>(
     Ok(())
 }
 
-/// A picture parameter set is read, and kept.
+/// Reads a picture parameter set, and keeps it.
 fn join_pps<S: FrameSink>(
     terms: Terms,
     state: &mut State,
@@ -217,7 +221,7 @@ fn join_pps<S: FrameSink>(
     Ok(())
 }
 
-/// The header of a slice is read and judged, and the slice joins those before it.
+/// Reads and judges the header of a slice, and adds the slice to the units before it.
 fn join_slice<S: FrameSink>(
     state: &mut State,
     header: u8,
@@ -263,7 +267,7 @@ fn join_slice<S: FrameSink>(
     Ok(())
 }
 
-/// The header of a slice and its slice data are read from the first bit of its unit and judged, and the slice joins those before it.
+/// Reads and judges a slice with its slice data from the first bit of its unit on, and adds it to the units before it.
 fn join_read<S: FrameSink>(
     alloc: Global,
     state: &mut State,
@@ -311,7 +315,7 @@ fn join_read<S: FrameSink>(
     read_data(alloc, &place, &state.slice, &mut state.decoder, bits, sink)
 }
 
-/// A slice with its slice data is read and judged, and joins those before it.
+/// Reads and judges a slice with its slice data, and adds it to the units before it.
 fn join_whole_slice<S: FrameSink>(
     alloc: Global,
     state: &mut State,
@@ -350,7 +354,7 @@ struct UnitBytes<'a> {
     rbsp: &'a Option<Rbsp>,
 }
 
-/// A unit is read and judged by its type, and joins those before it.
+/// Reads and judges a unit by its type, and adds it to those before it.
 fn join<S: FrameSink>(
     alloc: Global,
     terms: Terms,
@@ -365,12 +369,15 @@ fn join<S: FrameSink>(
     requires bytes { bytes.now.rbsp.now ≡ bytes_of terms.mode bytes.now.unit.now }
     requires fits { fits_kind (nal_unit_type bytes.now.header) (nal_ref_idc bytes.now.header) ≡ true }
     requires kept { KeepsSome terms.mode (ends_picture (nal_unit_type bytes.now.header)) state.old }
-    ensures joins { (frames : ℕ → Frame) (before : History) → KeepsWithin terms.mode frames before (ends_picture (nal_unit_type bytes.now.header)) state.old →
-        Joins terms.mode S.took S.failures frames (length (ended_pictures (goes_on before) (ends_picture (nal_unit_type bytes.now.header)) (runs_of before)))
+    ensures joins { (frames : ℕ → Frame) (before : History) →
+        KeepsWithin terms.mode frames before (ends_picture (nal_unit_type bytes.now.header)) state.old →
+        Joins terms.mode S.took S.failures frames
+        (length (ended_pictures (goes_on before) (ends_picture (nal_unit_type bytes.now.header)) (runs_of before)))
         (joined_by terms (nal_unit_type bytes.now.header) before bytes.now.unit.now) state.new sink.old sink.new result }
     ensures counts { OnOk result (state.new.units ≡ state.old.units + 1) }
     ensures pictures { OnOk result (state.new.slices.pictures ≤ state.new.units) }
-    ensures no_memory { (frames : ℕ → Frame) (before : History) → KeepsWithin terms.mode frames before (ends_picture (nal_unit_type bytes.now.header)) state.old →
+    ensures no_memory { (frames : ℕ → Frame) (before : History) →
+        KeepsWithin terms.mode frames before (ends_picture (nal_unit_type bytes.now.header)) state.old →
         IsErrOf result Stop.Memory → ChangesFormat terms.mode before bytes.now.unit.now }
     ensures kept { OnOk result (IsQuiet S.failures sink.old sink.new) }
 {
@@ -447,7 +454,7 @@ fn has_pictures(mode: Mode, pictures: u64) -> bool
     }
 }
 
-/// All frames that wait are written at the end of the input, where frames are made.
+/// Writes all frames that wait at the end of the input, where frames are made.
 fn finish_frames<S: FrameSink>(mode: Mode, decoder: &mut Decoder, sink: &mut S) -> Result<(), Stop>
     requires room { HasRoom S.failures sink.old }
     requires kept { KeepsSomeGap mode decoder.old }
