@@ -65,7 +65,7 @@ pub enum StrictRule {
     FrameRate,
     /// Bit rates of schedules rise, and sizes of their buffers do not (E.2.2).
     ScheduleOrder,
-    /// Of each HRD parameters a schedule keeps to MaxBR and MaxCPB of the level (A.3.1).
+    /// NAL and VCL HRD parameters each have a schedule that keeps to MaxBR and MaxCPB of the level (A.3.1).
     ScheduleLimits,
     /// sar_width and sar_height are relatively prime, or one of them is 0 (E.2.1).
     CommonFactor,

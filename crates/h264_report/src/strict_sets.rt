@@ -219,11 +219,7 @@ impl SetFacts {
         ensures { result ≡ by_set self.now name value }
     {
         match name {
-            ElementName::ConstraintSet4Flag => broken_if(
-                self.profile_idc == BASELINE && value != 0,
-                StrictRule::ReservedConstraint,
-            ),
-            ElementName::ConstraintSet5Flag => broken_if(
+            ElementName::ConstraintSet4Flag | ElementName::ConstraintSet5Flag => broken_if(
                 self.profile_idc == BASELINE && value != 0,
                 StrictRule::ReservedConstraint,
             ),
