@@ -17,3 +17,4 @@ pub mod Reaching
 pub mod Choosing
 pub mod Broken
 pub mod Factors
+pub mod Reading

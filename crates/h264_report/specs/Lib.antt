@@ -21,3 +21,4 @@ pub mod StrictSets
 pub mod StrictVectors
 pub mod StrictPictures
 pub mod Strict
+pub mod StrictBytes

@@ -37,6 +37,9 @@ place_of rules.ScheduleOrder = 28
 place_of rules.ScheduleLimits = 29
 place_of rules.CommonFactor = 30
 place_of rules.PictureBytes = 31
+place_of rules.SeiSizes = 32
+place_of rules.DelimiterBits = 33
+place_of rules.FillerBytes = 34
 
 unfoldable pub label_of : StrictRule → List ℕ
 label_of rules.ReservedBits = codes "ReservedBits"
@@ -71,6 +74,9 @@ label_of rules.ScheduleOrder = codes "ScheduleOrder"
 label_of rules.ScheduleLimits = codes "ScheduleLimits"
 label_of rules.CommonFactor = codes "CommonFactor"
 label_of rules.PictureBytes = codes "PictureBytes"
+label_of rules.SeiSizes = codes "SeiSizes"
+label_of rules.DelimiterBits = codes "DelimiterBits"
+label_of rules.FillerBytes = codes "FillerBytes"
 
 -- the clause of H.264 that states it
 unfoldable pub clause_of : StrictRule → List ℕ
@@ -106,6 +112,9 @@ clause_of rules.ScheduleOrder = codes "E.2.2"
 clause_of rules.ScheduleLimits = codes "A.3.1"
 clause_of rules.CommonFactor = codes "E.2.1"
 clause_of rules.PictureBytes = codes "E.2.1"
+clause_of rules.SeiSizes = codes "7.3.2.3"
+clause_of rules.DelimiterBits = codes "7.3.2.4"
+clause_of rules.FillerBytes = codes "7.3.2.7"
 
 -- a rule, if it is broken
 abbrev pub broken_if : Bool → StrictRule → Option StrictRule

@@ -37,6 +37,7 @@ pub mod rules;
 mod send;
 pub mod sheet;
 pub mod strict;
+mod strict_bytes;
 pub mod strict_entries;
 mod strict_levels;
 pub mod strict_pictures;

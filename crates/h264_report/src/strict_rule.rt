@@ -71,6 +71,12 @@ pub enum StrictRule {
     CommonFactor,
     /// A picture has no more bytes than max_bytes_per_pic_denom promises (E.2.1).
     PictureBytes,
+    /// SEI is messages of the sizes that they tell, and trailing bits (7.3.2.3).
+    SeiSizes,
+    /// In a delimiter the trailing bits follow primary_pic_type (7.3.2.4).
+    DelimiterBits,
+    /// Filler data are bytes FF and trailing bits (7.3.2.7).
+    FillerBytes,
 }
 
 /// Every rule, by its place.
@@ -107,10 +113,13 @@ pub const EVERY_STRICT_RULE: [StrictRule; STRICT_RULES] = [
     StrictRule::ScheduleLimits,
     StrictRule::CommonFactor,
     StrictRule::PictureBytes,
+    StrictRule::SeiSizes,
+    StrictRule::DelimiterBits,
+    StrictRule::FillerBytes,
 ];
 
 /// How many rules there are.
-pub const STRICT_RULES: usize = 32;
+pub const STRICT_RULES: usize = 35;
 
 impl StrictRule {
     /// Its place among them, from 0.
@@ -152,6 +161,9 @@ impl StrictRule {
             StrictRule::ScheduleLimits => 29,
             StrictRule::CommonFactor => 30,
             StrictRule::PictureBytes => 31,
+            StrictRule::SeiSizes => 32,
+            StrictRule::DelimiterBits => 33,
+            StrictRule::FillerBytes => 34,
         }
     }
 
@@ -193,6 +205,9 @@ impl StrictRule {
             StrictRule::ScheduleLimits => "ScheduleLimits",
             StrictRule::CommonFactor => "CommonFactor",
             StrictRule::PictureBytes => "PictureBytes",
+            StrictRule::SeiSizes => "SeiSizes",
+            StrictRule::DelimiterBits => "DelimiterBits",
+            StrictRule::FillerBytes => "FillerBytes",
         }
     }
 
@@ -234,6 +249,9 @@ impl StrictRule {
             StrictRule::ScheduleLimits => "A.3.1",
             StrictRule::CommonFactor => "E.2.1",
             StrictRule::PictureBytes => "E.2.1",
+            StrictRule::SeiSizes => "7.3.2.3",
+            StrictRule::DelimiterBits => "7.3.2.4",
+            StrictRule::FillerBytes => "7.3.2.7",
         }
     }
 }
