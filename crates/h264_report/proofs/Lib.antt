@@ -18,3 +18,4 @@ pub mod Choosing
 pub mod Broken
 pub mod Factors
 pub mod Reading
+pub mod Units

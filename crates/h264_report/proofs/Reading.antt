@@ -28,13 +28,15 @@ pub filler-is : (bytes : List ℕ) → is_filler bytes ≡ is_trailing (drop (ff
 unfolding is_filler
 filler-is [] = refl
 filler-is (b ∷ bytes) = go (filler-is bytes) (cases_eq b 255) where
+  dropped : (n : ℕ) → is_trailing (drop (1 + n) (b ∷ bytes)) ≡ is_trailing (drop n bytes)
+  dropped n = let up : 1 + n ≡ suc n = omega arith in ap (λ m. is_trailing (drop m (b ∷ bytes))) up
   go : is_filler bytes ≡ is_trailing (drop (ff_bytes bytes) bytes) → (b ≡ 255) ⊎ (b ≡ 255 → ⊥) → is_filler (b ∷ bytes) ≡ is_trailing (drop (ff_bytes (b ∷ bytes)) (b ∷ bytes))
   go later (inl e) =
       let other : b ≢ 128 = λ h. omega arith in
       ap (λ t. (t && (length bytes == 0)) || (b == 255) && is_filler bytes) (ne_eqb b 128 other)
       ∙ ap (λ t. t && is_filler bytes) (eq-eqb b 255 e)
       ∙ later
-      ∙ ap (λ n. is_trailing (drop n (b ∷ bytes))) (sym (cond-true _ _ _ (eq-eqb b 255 e)))
+      ∙ sym (ap (λ n. is_trailing (drop n (b ∷ bytes))) (cond-true (b == 255) (1 + ff_bytes bytes) 0 (eq-eqb b 255 e)) ∙ dropped (ff_bytes bytes))
   go later (inr other) =
       ap (λ t. is_trailing (b ∷ bytes) || t && is_filler bytes) (ne_eqb b 255 other)
       ∙ or-false (is_trailing (b ∷ bytes))

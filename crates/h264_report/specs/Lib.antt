@@ -22,3 +22,4 @@ pub mod StrictVectors
 pub mod StrictPictures
 pub mod Strict
 pub mod StrictBytes
+pub mod StrictUnits

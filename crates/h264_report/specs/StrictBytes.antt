@@ -67,6 +67,9 @@ by_rbsp kind bytes =
     else (if kind == 9 then broken_if (not (is_delimiter bytes)) rules.DelimiterBits
     else (if kind == 12 then broken_if (not (is_filler bytes)) rules.FillerBytes else None))
 
+abbrev pub is_judged : ℕ → Bool
+is_judged kind = (kind == 6) || ((kind == 9) || (kind == 12))
+
 abbrev pub kind_of : NalUnit → ℕ
 kind_of unit = slice_index unit.body 0 % 32
 

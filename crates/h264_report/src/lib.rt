@@ -46,6 +46,7 @@ pub mod strict_rule;
 pub mod strict_schedules;
 pub mod strict_sets;
 pub mod strict_sink;
+pub mod strict_units;
 pub mod strict_vectors;
 pub mod survey;
 pub mod trail;

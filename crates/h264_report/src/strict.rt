@@ -5,7 +5,7 @@ ghost use Rattle.std.specs.Prelude.{◌≡◌, ◌++◌, get_or, None, Some, []}
 ghost use Rattle.h264_base.specs.Call.{OfUnit, OfSlice, OfElement};
 ghost use Rattle.h264_base.specs.declared.mode.SliceType.{SliceType};
 ghost use Rattle.h264_report.specs.declared.strict_rule.StrictRule.{StrictRule};
-ghost use Rattle.h264_report.specs.StrictRules.{listed};
+ghost use Rattle.h264_report.specs.StrictRules.{listed, place_of};
 ghost use Rattle.h264_report.specs.Strict.{by_marking, marking_after, by_macroblock, by_element, by_order, has_other_length, picture_in, has_idr_count};
 ghost use Rattle.h264_report.specs.Strict.{comes_too_soon, by_numbers, by_time, after_element, after_unit, start, with_place, first_bit};
 ghost use Rattle.h264_report.specs.Strict.{after_beginning, by_beginning, bytes_before, bytes_with, by_bytes};
@@ -291,6 +291,21 @@ fn with_place(places: Option<Places>, bit: u64) -> Places
     }
 }
 
+/// Notes that a rule is broken at this bit, if it is one.
+pub(crate) fn note_in(
+    found: &mut [Option<Places>; STRICT_RULES],
+    rule: Option<StrictRule>,
+    bit: u64,
+)
+    ensures { (r : StrictRule) → get_or found.new (place_of r) None ≡ with_places (get_or found.old (place_of r) None) (bits_for r bit (listed rule)) }
+{
+    let Some(rule) = rule else {
+        return;
+    };
+    let place = rule.place();
+    found[place] = Some(with_place(found[place], bit));
+}
+
 impl Strict {
     /// Before the first call.
     pub fn new() -> Strict
@@ -321,11 +336,7 @@ impl Strict {
         ensures standing { self.new.standing ≡ self.old.standing }
         ensures found { (r : StrictRule) → found_of self.new r ≡ with_places (found_of self.old r) (bits_for r bit (listed rule)) }
     {
-        let Some(rule) = rule else {
-            return;
-        };
-        let place = rule.place();
-        self.found[place] = Some(with_place(self.found[place], bit));
+        note_in(&mut self.found, rule, bit);
     }
 
     /// Notes that two rules are broken here, if they are ones.

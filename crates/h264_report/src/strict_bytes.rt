@@ -2,7 +2,7 @@
 #![tactic(auto)]
 
 ghost use Rattle.std.specs.Prelude.{◌≡◌, ◌+◌, ◌≤◌, ◌^◌, length, drop, IfSome};
-ghost use Rattle.h264_report.specs.StrictBytes.{is_trailing, is_delimiter, is_filler, ff_bytes, message_length, is_sei, by_rbsp};
+ghost use Rattle.h264_report.specs.StrictBytes.{is_trailing, is_delimiter, is_filler, ff_bytes, message_length, is_sei, is_judged, by_rbsp};
 
 use crate::strict_rule::{StrictRule, broken_if};
 
@@ -106,6 +106,13 @@ fn is_sei(bytes: &[u8]) -> bool
         }
     }
     false
+}
+
+/// Whether the bytes of units of this type are looked at.
+pub(crate) fn is_judged(nal_unit_type: u8) -> bool
+    ensures { result ≡ is_judged nal_unit_type }
+{
+    nal_unit_type == SEI || nal_unit_type == DELIMITER || nal_unit_type == FILLER_DATA
 }
 
 /// The rule that the RBSP of a unit of this type breaks.

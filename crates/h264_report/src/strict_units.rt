@@ -1,8 +1,7 @@
 //! A reader of the units that stand in bytes, for the rules on the bytes of units.
 #![tactic(auto)]
 
-ghost use Rattle.std.specs.Prelude.{◌≡◌, ℕ, ◌+◌, ◌*◌, ◌≤◌, ◌<◌, ◌++◌, true, false, List, [], length, take, drop, None, IsFalse};
-ghost use Rattle.h264_units.specs.Stream.{NalUnit as NalUnitView};
+ghost use Rattle.std.specs.Prelude.{◌≡◌, ℕ, ◌+◌, ◌*◌, ◌≤◌, ◌<◌, ◌++◌, true, false, List, [], length, take, drop, None, IsFalse, IfOk, OnOk, OnErr};
 ghost use Rattle.h264_report.specs.Strict.{with_places, bits_for};
 ghost use Rattle.h264_report.specs.StrictBytes.{broken_unit};
 ghost use Rattle.h264_report.specs.StrictRules.{listed};
@@ -48,7 +47,7 @@ impl UnitsRead {
 }
 
 /// The rule that a unit breaks by its bytes. The one error is `Stop::Memory`.
-fn judge_bytes_of(alloc: Global, unit: &NalUnit) -> Result<Option<StrictRule>, Stop>
+fn broken_unit(alloc: Global, unit: &NalUnit) -> Result<Option<StrictRule>, Stop>
     ensures { IfOk result (λ rule. rule ≡ broken_unit unit.now) }
 {
     let kind = unit.body()[0] % 32;
@@ -57,4 +56,111 @@ fn judge_bytes_of(alloc: Global, unit: &NalUnit) -> Result<Option<StrictRule>, S
     }
     let rbsp = Rbsp::of(alloc, unit)?;
     Ok(by_rbsp(kind, rbsp.bytes()))
+}
+
+/// Notes what a unit breaks. The one error is `Stop::Memory`, after which nothing has changed.
+fn note_unit(
+    alloc: Global,
+    found: &mut [Option<Places>; STRICT_RULES],
+    unit: &NalUnit,
+) -> Result<(), Stop>
+    ensures noted { OnOk result ((rule : StrictRuleView) →
+        noted_in found.new rule ≡ with_places (noted_in found.old rule) (bits_for rule (8 * unit.now.from) (listed (broken_unit unit.now)))) }
+    ensures unnoted { OnErr result (found.new ≡ found.old) }
+{
+    let rule = broken_unit(alloc, unit)?;
+    note_in(found, rule, 8 * unit.from());
+    Ok(())
+}
+
+/// What follows the first bytes.
+fn after(bytes: &[u8], n: usize) -> &[u8]
+    requires { n ≤ length bytes.now }
+    ensures { result.now ≡ drop n bytes.now }
+{
+    &bytes[n..]
+}
+
+impl UnitReader {
+    /// A reader before the first byte. It takes no memory.
+    pub fn new(alloc: Global) -> UnitReader
+        ensures { TookBytes result.splitter result.has_stopped result.found [] }
+    {
+        UnitReader {
+            alloc,
+            splitter: Splitter::new(alloc),
+            found: [None; STRICT_RULES],
+            has_stopped: false,
+        }
+    }
+
+    /// Takes bytes up to the end of a unit, and looks at the unit; how many bytes.
+    fn take_some(&mut self, piece: &[u8]) -> usize
+        requires some { 0 < length piece.now }
+        requires goes { self.old.has_stopped ≡ false }
+        ensures within { result ≤ length piece.now }
+        ensures some { self.new.has_stopped ≡ false → 0 < result }
+        ensures took { (before : List ℕ) → TookBytes self.old.splitter self.old.has_stopped self.old.found before →
+            TookBytes self.new.splitter self.new.has_stopped self.new.found (before ++ take result piece.now) }
+    {
+        let n = match self.splitter.push(piece) {
+            Ok(n) => n,
+            Err(_) => {
+                self.has_stopped = true;
+                return 0;
+            }
+        };
+        match self.splitter.take_unit() {
+            None => n,
+            Some(unit) => {
+                let noted = note_unit(self.alloc, &mut self.found, &unit);
+                self.has_stopped = noted.is_err();
+                n
+            }
+        }
+    }
+
+    /// Takes bytes, and looks at each unit that they end.
+    pub fn take(&mut self, piece: &[u8])
+        ensures { (before : List ℕ) → TookBytes self.old.splitter self.old.has_stopped self.old.found before →
+            TookBytes self.new.splitter self.new.has_stopped self.new.found (before ++ piece.now) }
+    {
+        let mut rest = piece;
+        while !self.has_stopped && !rest.is_empty() {
+            let n = self.take_some(rest);
+            rest = after(rest, n);
+        }
+    }
+
+    /// Looks at the last unit: no more bytes come.
+    pub fn finish(mut self) -> UnitsRead
+        ensures { (bytes : List ℕ) → TookBytes self.splitter self.has_stopped self.found bytes → TellsOfBytes result.is_whole result.found bytes }
+    {
+        let mut found = self.found;
+        if self.has_stopped {
+            return UnitsRead {
+                found,
+                is_whole: false,
+            };
+        }
+        if self.splitter.finish().is_err() {
+            return UnitsRead {
+                found,
+                is_whole: false,
+            };
+        }
+        match self.splitter.take_unit() {
+            None => UnitsRead {
+                found,
+                is_whole: true,
+            },
+            Some(unit) => {
+                let noted = note_unit(self.alloc, &mut found, &unit);
+                UnitsRead {
+                    found,
+                    is_whole: noted.is_ok(),
+                }
+            }
+        }
+    }
 }
