@@ -264,6 +264,27 @@ const ENTRIES: [StrictEntry; STRICT_RULES] = [
         cause: "The encoder wrote a promise on sizes that its rate control does not keep. max_bytes_per_pic_denom 0 promises nothing.",
         example: "30 bytes in a picture of one macroblock, and max_bytes_per_pic_denom 16",
     },
+    StrictEntry {
+        rule: StrictRule::SeiSizes,
+        breaks: "A unit of SEI is not messages, each with as many bytes as its payloadSize says, and then a byte 80.",
+        bit: "The first bit of the unit.",
+        cause: "payloadSize counts emulation prevention bytes, or the trailing bits were left out.",
+        example: "a message that tells 5 bytes and has 4",
+    },
+    StrictEntry {
+        rule: StrictRule::DelimiterBits,
+        breaks: "The five bits of a delimiter after primary_pic_type are not 1 0000.",
+        bit: "The first bit of the delimiter.",
+        cause: "primary_pic_type was written without its trailing bits. A delimiter of P and I slices is 09 30.",
+        example: "a delimiter whose second byte is 20",
+    },
+    StrictEntry {
+        rule: StrictRule::FillerBytes,
+        breaks: "Filler data are not bytes FF and then a byte 80.",
+        bit: "The first bit of the filler data.",
+        cause: "The unit was padded with other bytes, or the trailing bits were left out.",
+        example: "filler data of two bytes FE",
+    },
 ];
 
 /// The first of these entries whose rule has this label.

@@ -9,7 +9,7 @@ use crate::command_line::Task;
 use crate::explaining::guide_of;
 use crate::files::{OpenedFiles, Opener, Seen};
 use crate::options::Options;
-use crate::strictly::{is_broken, put_strict_lines, put_strict_objects};
+use crate::strictly::{FurtherRules, is_broken, put_strict_lines, put_strict_objects};
 use h264_base::{Mode, Stop};
 use h264_report::head::Head;
 use h264_report::pages::{
@@ -18,10 +18,10 @@ use h264_report::pages::{
 };
 use h264_report::survey::{Meter, Narrowed, Survey, Surveyed};
 use h264_report::{
-    Device, Ending, Form, LineSink, Listing, PageSink, Pen, Strict, StrictSink, TrailSink,
+    Device, Ending, Form, LineSink, Listing, PageSink, Pen, StrictSink, TrailSink, UnitSource,
     WriteDevice, Y4mSink, YuvSink, put_line, put_text, told_answer, verdict_line,
 };
-use h264_verify::{FrameSink, run};
+use h264_verify::{FrameSink, Source, run};
 use std::alloc::Global;
 use std::marker::Brand;
 
@@ -67,7 +67,7 @@ impl Done {
 pub struct Found {
     pub answer: Answer,
     /// What the further rules found, where they are asked for.
-    pub strict: Option<Strict>,
+    pub strict: Option<FurtherRules>,
     /// What was surveyed; nothing where no option asks for it.
     pub survey: Survey,
     pub seen: Seen,
@@ -102,21 +102,21 @@ impl Found {
     /// Whether a further rule is broken.
     fn is_broken(&self) -> bool {
         match &self.strict {
-            Some(strict) => is_broken(strict),
+            Some(further) => is_broken(further),
             None => false,
         }
     }
 }
 
 /// Judges the open file with a sink, and surveys its calls. None where memory is wanting for the survey.
-fn judge<S: FrameSink + Drop, O: Opener + Drop, M: Meter + Drop>(
+fn judge<S: FrameSink + Drop, R: Source, M: Meter + Drop>(
     job: &Job<'_>,
-    files: &mut OpenedFiles<O>,
+    source: &mut R,
     sink: S,
     meter: M,
 ) -> Option<(Surveyed<S, M>, Answer)>
     requires sink { HasRoom S.failures sink }
-    requires source { files.old.failures < 2 ^ 64 - 1 }
+    requires source { HasRoom R.failures source.old }
 {
     let Ok(survey) = Survey::new(job.alloc) else {
         return None;
@@ -127,7 +127,7 @@ fn judge<S: FrameSink + Drop, O: Opener + Drop, M: Meter + Drop>(
         meter,
     };
     let (mode, target) = (mode_of(job.task), job.options.target);
-    let answer = run(job.alloc, files, &mut surveyed, mode, target);
+    let answer = run(job.alloc, source, &mut surveyed, mode, target);
     tell_end(&mut surveyed);
     Some((surveyed, answer))
 }
@@ -152,17 +152,17 @@ struct Judged<S: FrameSink + Drop> {
 }
 
 /// Judges the open file with a sink, and surveys its calls where an option asks for that. None where memory is wanting for the survey.
-fn judge_plainly<S: FrameSink + Drop, O: Opener + Drop, M: Meter + Drop>(
+fn judge_plainly<S: FrameSink + Drop, R: Source, M: Meter + Drop>(
     job: &Job<'_>,
-    files: &mut OpenedFiles<O>,
+    source: &mut R,
     mut sink: S,
     meter: M,
 ) -> Option<Judged<S>>
     requires sink { HasRoom S.failures sink }
-    requires source { files.old.failures < 2 ^ 64 - 1 }
+    requires source { HasRoom R.failures source.old }
 {
     if job.options.asks_for_survey() {
-        let (surveyed, answer) = judge(job, files, sink, meter)?;
+        let (surveyed, answer) = judge(job, source, sink, meter)?;
         let Surveyed { sink, survey, .. } = surveyed;
         return Some(Judged {
             sink,
@@ -174,7 +174,7 @@ fn judge_plainly<S: FrameSink + Drop, O: Opener + Drop, M: Meter + Drop>(
         return None;
     };
     let (mode, target) = (mode_of(job.task), job.options.target);
-    let answer = run(job.alloc, files, &mut sink, mode, target);
+    let answer = run(job.alloc, source, &mut sink, mode, target);
     Some(Judged {
         sink,
         survey,
@@ -201,12 +201,14 @@ fn check_strictly<O: Opener + Drop, M: Meter + Drop>(
     let Ok(trail) = TrailSink::new(job.alloc) else {
         return None;
     };
-    let judged = judge_plainly(job, files, StrictSink::new(trail), meter)?;
+    let mut source = UnitSource::new(job.alloc, files);
+    let judged = judge_plainly(job, &mut source, StrictSink::new(trail), meter)?;
+    let units = source.finish();
     let StrictSink { sink, strict } = judged.sink;
     let before = trail_lines(job.alloc, judged.answer, &sink)?;
     Some(Found {
         answer: judged.answer,
-        strict: Some(strict),
+        strict: Some(FurtherRules { strict, units }),
         survey: judged.survey,
         seen: files.seen,
         before,

@@ -114,7 +114,7 @@ the target main-ip takes 77 with any flags\n",
         words: &["h264v", "check", "--strict", "stream"],
         stream: RESERVED_RATIO,
         out: &[
-            "strict: bit 80: AspectRatio (clause E.2.1), 1 places\nstrict: not judged: Sei (messages of types 6 are passed over)\n",
+            "strict: bit 80: AspectRatio (clause E.2.1), 1 places\nstrict: not judged: Sei (what the messages of type 6 say is not read)\n",
             "yes: units 3 pictures 1 frames 1\n",
         ],
         err: "",
@@ -125,7 +125,7 @@ the target main-ip takes 77 with any flags\n",
         stream: RESERVED_RATIO,
         out: &[
             "{\"file\":\"stream\",\"kind\":\"strict\",\"rule\":\"AspectRatio\",\"clause\":\"E.2.1\",\"bit\":80,\"places\":1}\n\
-{\"file\":\"stream\",\"kind\":\"not judged\",\"rule\":\"Sei\",\"why\":\"messages of types 6 are passed over\"}\n",
+{\"file\":\"stream\",\"kind\":\"not judged\",\"rule\":\"Sei\",\"why\":\"what the messages of type 6 say is not read\"}\n",
         ],
         err: "",
         status: 1,

@@ -24,8 +24,8 @@ loop-n-preserved c =
     let goes : is_trailing (drop c.in-Some.whole c.loop-n.rest.now) ≡ false = ap is_trailing (sym c.after-rest.ensures) ∙ sym c.is_trailing.ensures ∙ c.if-is_trailing.false in
     let shorter : length c.after-rest.result.now ≡ length c.loop-n.rest.now - c.in-Some.whole = ap length c.after-rest.ensures ∙ length-drop c.in-Some.whole c.loop-n.rest.now in (
       c.loop-n.invariant.0
-      ∙ sei-more _ _ c.loop-n.rest.now c.in-Some.whole up (sym c.message_length.ensures.value ∙ c.in-Some.is) goes
-      ∙ ap (λ l. are_messages (all - (c.loop-n._n + 1)) l) (sym c.after-rest.ensures),
+          ∙ sei-more _ _ c.loop-n.rest.now c.in-Some.whole up (sym c.message_length.ensures.value ∙ c.in-Some.is) goes
+          ∙ ap (λ l. are_messages (all - (c.loop-n._n + 1)) l) (sym c.after-rest.ensures),
       omega (arith, c.loop-n.invariant.1),
     )
 

@@ -26,7 +26,7 @@ pub returns-else-not-is_empty : goal.returns-else-not-is_empty
 returns-else-not-is_empty c before t =
     let s = c.loop-self.self in
     let done = c.loop-self.invariant.0 in
-    subst (λ (l : List ℕ). TookBytes s.splitter s.has_stopped s.found (before ++ l)) 
+    subst (λ (l : List ℕ). TookBytes s.splitter s.has_stopped s.found (before ++ l))
     (sym (c.loop-self.invariant.1 ∙ ap (λ l. done ++ l) (empty-of _ (sym c.is_empty.ensures ∙ c.if-not-is_empty.false)) ∙ append-nil done))
     (c.loop-self.invariant.2 before t)
 
