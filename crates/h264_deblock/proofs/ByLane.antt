@@ -2,7 +2,6 @@ use Rattle.std.proofs.Common.{◌≡◌, ◌⊎◌, ℕ, ◌+◌, ◌*◌, ◌/�
 use Rattle.std.proofs.lemmas.Int.{ints, clamps}
 use Rattle.std.proofs.lemmas.Bool.Decides.{nat_tests}
 use Rattle.std.specs.Int.{abs_diff}
-use mir.Val.{bool_byte}
 use Rattle.h264_plane.specs.Clip.{clip1}
 use Rattle.h264_deblock.proofs.Signed.{clip1-is}
 use Rattle.h264_deblock.specs.Line.{filtered, is_within_limits, is_flat, turned, number, clip3, delta, step, bend, reach, second, normal, by_filter, strong, strong_side}

@@ -1,5 +1,5 @@
 -- Operations of vectors of sixteen bytes, at each lane.
-use Rattle.std.proofs.Common.{◌≡◌, ℕ, nat_eq, ◌+◌, ◌-◌, ◌*◌, ◌%◌, ◌/◌, ◌^◌, ◌<◌, ◌≤◌, Bool, true, false, not, cond, List, map, map-id, length, get_or, replicate, refl, sym, ap, ◌∙◌, arith, min, max, ltb, w8, Fits, ⊎_elim}
+use Rattle.std.proofs.Common.{◌≡◌, ℕ, nat_eq, ◌+◌, ◌-◌, ◌%◌, ◌/◌, ◌^◌, ◌<◌, Bool, false, not, cond, List, map, length, get_or, replicate, refl, sym, ap, ◌∙◌, arith, min, max, ltb, w8, Fits, ⊎_elim}
 use Rattle.std.proofs.lemmas.Simd.{bit_mask_l, bitmask_splat, get_or-zip2, get_or-replicate, length-zip2, tops_compared, get_or-sel_l, Each1-get_or, length-sel_l}
 use Rattle.std.proofs.lemmas.Bool.Decides.{nat_tests}
 use Rattle.h264_deblock.proofs.Lines.{either}

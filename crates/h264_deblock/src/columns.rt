@@ -3,21 +3,10 @@ ghost use Rattle.h264_plane.specs.Samples.{at, look};
 ghost use Rattle.h264_deblock.specs.Edge.{taps};
 ghost use Rattle.h264_deblock.specs.Rows.{line_of, HasLine, AreWritten, in_turn};
 
+use crate::lanes::sixteen;
 use crate::rows::Rows;
 use h264_plane::Plane;
 use std::simd::prelude::*;
-
-/// Some of the samples, from a place on.
-#[inline(always)]
-pub fn run_of<const N: usize>(samples: &[u8], place: usize) -> [u8; N]
-    requires small { N ≤ 16 }
-    requires within { place + N ≤ length samples.now }
-    ensures { (n : ℕ) → n < N → slice_index result n ≡ slice_index samples.now (place + n) }
-{
-    let mut run = [0u8; N];
-    run.copy_from_slice(&samples[place..place + N]);
-    run
-}
 
 /// The lanes of two vectors in turn.
 #[inline(always)]
@@ -26,20 +15,6 @@ fn woven(a: u8x8, b: u8x8) -> [u8; 16]
     ensures second { (n : ℕ) → n < 8 → slice_index result (2 * n + 1) ≡ get_or b n 0 }
 {
     a.shuffle(b, [0, 8, 1, 9, 2, 10, 3, 11, 4, 12, 5, 13, 6, 14, 7, 15])
-        .to_array()
-}
-
-/// Two eights of samples side by side.
-#[inline(always)]
-pub fn joined(a: &[u8; 8], b: &[u8; 8]) -> [u8; 16]
-    ensures first { (n : ℕ) → n < 8 → slice_index result n ≡ slice_index a.now n }
-    ensures second { (n : ℕ) → n < 8 → slice_index result (8 + n) ≡ slice_index b.now n }
-{
-    u8x8::from_array(*a)
-        .shuffle(
-            u8x8::from_array(*b),
-            [0, 1, 2, 3, 4, 5, 6, 7, 8, 9, 10, 11, 12, 13, 14, 15],
-        )
         .to_array()
 }
 
@@ -132,14 +107,14 @@ pub fn read_columns(plane: &Plane, x: usize, y: usize) -> Rows
 {
     let samples = columns_of(plane, y, plane, y + 8, x - 4);
     Rows {
-        p3: run_of::<16>(&samples, 0),
-        p2: run_of::<16>(&samples, 16),
-        p1: run_of::<16>(&samples, 32),
-        p0: run_of::<16>(&samples, 48),
-        q0: run_of::<16>(&samples, 64),
-        q1: run_of::<16>(&samples, 80),
-        q2: run_of::<16>(&samples, 96),
-        q3: run_of::<16>(&samples, 112),
+        p3: sixteen(&samples, 0),
+        p2: sixteen(&samples, 16),
+        p1: sixteen(&samples, 32),
+        p0: sixteen(&samples, 48),
+        q0: sixteen(&samples, 64),
+        q1: sixteen(&samples, 80),
+        q2: sixteen(&samples, 96),
+        q3: sixteen(&samples, 112),
     }
 }
 
@@ -149,14 +124,14 @@ fn line_by_line(r: &Rows) -> [u8; 128]
     ensures { (n : ℕ) → n < 16 → HasLine result (8 * n) (line_of r.now n) }
 {
     let mut samples = [0u8; 128];
-    put_sixteen(&mut samples, 0, &r.p3);
-    put_sixteen(&mut samples, 16, &r.p2);
-    put_sixteen(&mut samples, 32, &r.p1);
-    put_sixteen(&mut samples, 48, &r.p0);
-    put_sixteen(&mut samples, 64, &r.q0);
-    put_sixteen(&mut samples, 80, &r.q1);
-    put_sixteen(&mut samples, 96, &r.q2);
-    put_sixteen(&mut samples, 112, &r.q3);
+    put_sixteen(&mut samples, 0, &r.p3.to_array());
+    put_sixteen(&mut samples, 16, &r.p2.to_array());
+    put_sixteen(&mut samples, 32, &r.p1.to_array());
+    put_sixteen(&mut samples, 48, &r.p0.to_array());
+    put_sixteen(&mut samples, 64, &r.q0.to_array());
+    put_sixteen(&mut samples, 80, &r.q1.to_array());
+    put_sixteen(&mut samples, 96, &r.q2.to_array());
+    put_sixteen(&mut samples, 112, &r.q3.to_array());
     turned(&samples)
 }
 

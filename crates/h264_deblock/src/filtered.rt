@@ -23,9 +23,9 @@ const OFF: u8 = 255;
 /// The three samples of one side that a filter changes, the nearest to the edge first.
 #[derive(Clone, Copy)]
 pub struct Side {
-    pub x0: [u8; 16],
-    pub x1: [u8; 16],
-    pub x2: [u8; 16],
+    pub x0: u8x16,
+    pub x1: u8x16,
+    pub x2: u8x16,
 }
 
 /// 1 in the lines of which `on` has a 1 and ap is below beta, else 0.
@@ -34,22 +34,18 @@ fn flat(r: &Rows, on: u8x16, beta: u8) -> u8x16
     ensures { (n : ℕ) → n < 16 → (o : Bool) → get_or on n 0 ≡ sign o →
         get_or result n 0 ≡ sign (o && nat_lt (abs_diff (slice_index r.now.p2 n) (slice_index r.now.p0 n)) beta) }
 {
-    least(
-        on,
-        near(u8x16::from_array(r.p2), u8x16::from_array(r.p0), beta),
-    )
+    least(on, near(r.p2, r.p0, beta))
 }
 
 /// p1 where bS is below 4, moved by no more than so much (8.7.2.3).
 #[inline(always)]
-fn bent(r: &Rows, most: u8x16) -> [u8; 16]
+fn bent(r: &Rows, most: u8x16) -> u8x16
     ensures { (n : ℕ) → n < 16 → slice_index result n ≡ number (pos (line_of r.now n).p1
         +ℤ clip3 (neg_ℤ (pos (get_or most n 0))) (pos (get_or most n 0)) (bend (line_of r.now n))) }
 {
-    let p1 = u8x16::from_array(r.p1);
-    let edge = average(u8x16::from_array(r.p0), u8x16::from_array(r.q0));
-    let middle = average_down(u8x16::from_array(r.p2), edge);
-    least(greatest(middle, above(p1, most)), topped(p1, most)).to_array()
+    let edge = average(r.p0, r.q0);
+    let middle = average_down(r.p2, edge);
+    least(greatest(middle, above(r.p1, most)), topped(r.p1, most))
 }
 
 /// The lines after the filter of bS 1, 2 or 3, by tC0. Lines of another number stay.
@@ -69,8 +65,8 @@ fn normal(r: &Rows, k: &LineLimits) -> Rows
         p3: r.p3,
         p2: r.p2,
         p1: bent(r, chosen(p, t, all(0))),
-        p0: moved(&r.p0, &s.up, &s.down),
-        q0: moved(&r.q0, &s.down, &s.up),
+        p0: moved(r.p0, s.up, s.down),
+        q0: moved(r.q0, s.down, s.up),
         q1: bent(&turned, chosen(q, t, all(0))),
         q2: r.q2,
         q3: r.q3,
@@ -83,17 +79,12 @@ fn side_of_four(r: &Rows, on: u8x16, smooth: u8x16) -> Side
     ensures { (n : ℕ) → n < 16 → (o s : Bool) → get_or on n 0 ≡ sign o → get_or smooth n 0 ≡ sign s →
         side_of result n ≡ side_by o s (line_of r.now n) }
 {
-    let p3 = u8x16::from_array(r.p3);
-    let p2 = u8x16::from_array(r.p2);
-    let p1 = u8x16::from_array(r.p1);
-    let p0 = u8x16::from_array(r.p0);
-    let q1 = u8x16::from_array(r.q1);
-    let inner = three(p1, p0, u8x16::from_array(r.q0));
-    let x0 = chosen(on, weak(p1, p0, q1), p0);
+    let inner = three(r.p1, r.p0, r.q0);
+    let x0 = chosen(on, weak(r.p1, r.p0, r.q1), r.p0);
     Side {
-        x0: chosen(smooth, eighth(p2, inner, q1), x0).to_array(),
-        x1: chosen(smooth, fourth(p2, inner), p1).to_array(),
-        x2: chosen(smooth, outer_eighth(p3, p2, inner), p2).to_array(),
+        x0: chosen(smooth, eighth(r.p2, inner, r.q1), x0),
+        x1: chosen(smooth, fourth(r.p2, inner), r.p1),
+        x2: chosen(smooth, outer_eighth(r.p3, r.p2, inner), r.p2),
     }
 }
 
@@ -105,11 +96,7 @@ fn strong(r: &Rows, k: &LineLimits) -> Rows
 {
     let turned = r.turned();
     let on = within(&r.inner(), k.alpha, k.beta);
-    let close = near(
-        u8x16::from_array(r.p0),
-        u8x16::from_array(r.q0),
-        (k.alpha >> 2) + 2,
-    );
+    let close = near(r.p0, r.q0, (k.alpha >> 2) + 2);
     let smooth_p = least(flat(r, on, k.beta), close);
     let smooth_q = least(flat(&turned, on, k.beta), close);
     let Side {
@@ -143,12 +130,12 @@ fn mixed(r: &Rows, k: &LineLimits) -> Rows
     let (a, b) = (strong(r, k), normal(r, k));
     Rows {
         p3: r.p3,
-        p2: either(four, &a.p2, &b.p2),
-        p1: either(four, &a.p1, &b.p1),
-        p0: either(four, &a.p0, &b.p0),
-        q0: either(four, &a.q0, &b.q0),
-        q1: either(four, &a.q1, &b.q1),
-        q2: either(four, &a.q2, &b.q2),
+        p2: either(four, a.p2, b.p2),
+        p1: either(four, a.p1, b.p1),
+        p0: either(four, a.p0, b.p0),
+        q0: either(four, a.q0, b.q0),
+        q1: either(four, a.q1, b.q1),
+        q2: either(four, a.q2, b.q2),
         q3: r.q3,
     }
 }

@@ -6,8 +6,8 @@ ghost use Rattle.h264_deblock.specs.Limits.{Suits};
 ghost use Rattle.h264_deblock.specs.Rows.{filter_by};
 ghost use Rattle.h264_deblock.specs.Inner.{inner_of, limits_at, HasInner, SameInner, AreBeside, AreNearest, AreNearestWritten};
 
-use crate::columns::{columns_of, joined, pair_in_turn, run_of};
-use crate::lanes::{all, chosen, either, near, plus};
+use crate::columns::{columns_of, pair_in_turn};
+use crate::lanes::{all, chosen, either, joined, near, plus, sixteen};
 use crate::limits::{LineLimits, Mix, STRONG};
 use crate::line::{below_four, moved, shifts_by, weak, within};
 use h264_plane::Plane;
@@ -16,10 +16,10 @@ use std::simd::prelude::*;
 /// The samples that the filter of an edge of chroma reads, of 8 lines of Cb and then of 8 lines of Cr.
 #[derive(Clone, Copy)]
 pub struct Inner {
-    pub p1: [u8; 16],
-    pub p0: [u8; 16],
-    pub q0: [u8; 16],
-    pub q1: [u8; 16],
+    pub p1: u8x16,
+    pub p0: u8x16,
+    pub q0: u8x16,
+    pub q1: u8x16,
 }
 
 /// The samples that it writes, of 8 lines.
@@ -43,16 +43,16 @@ fn read_columns(cb: &Plane, cr: &Plane, x: usize, y: usize) -> Inner
 {
     let samples = columns_of(cb, y, cr, y, x - 4);
     Inner {
-        p1: run_of::<16>(&samples, 32),
-        p0: run_of::<16>(&samples, 48),
-        q0: run_of::<16>(&samples, 64),
-        q1: run_of::<16>(&samples, 80),
+        p1: sixteen(&samples, 32),
+        p0: sixteen(&samples, 48),
+        q0: sixteen(&samples, 64),
+        q1: sixteen(&samples, 80),
     }
 }
 
 /// Eight samples of a row of each of two planes.
 #[inline(always)]
-fn read_pair(cb: &Plane, cr: &Plane, x: usize, y: usize) -> [u8; 16]
+fn read_pair(cb: &Plane, cr: &Plane, x: usize, y: usize) -> u8x16
     requires small { x < 65536 }
     requires cb_columns { x + 8 ≤ cb.now.width }
     requires cr_columns { x + 8 ≤ cr.now.width }
@@ -61,7 +61,7 @@ fn read_pair(cb: &Plane, cr: &Plane, x: usize, y: usize) -> [u8; 16]
     ensures cb { (n : ℕ) → n < 8 → slice_index result n ≡ at cb.now (x + n) y }
     ensures cr { (n : ℕ) → n < 8 → slice_index result (8 + n) ≡ at cr.now (x + n) y }
 {
-    joined(&run_of::<8>(cb.row(y), x), &run_of::<8>(cr.row(y), x))
+    joined(cb.row(y), x, cr.row(y), x)
 }
 
 /// The lines of a horizontal edge whose first q0 stands at column `x` of row `y`.
@@ -111,8 +111,8 @@ pub fn read_inner<const VERTICAL: bool>(
 /// The samples next to the edge after its filter, of 16 lines.
 #[derive(Clone, Copy)]
 struct Pairs {
-    p0: [u8; 16],
-    q0: [u8; 16],
+    p0: u8x16,
+    q0: u8x16,
 }
 
 /// The samples after the filter of bS 1, 2 or 3, by tC0. Lines of another number stay.
@@ -125,8 +125,8 @@ fn normal(r: &Inner, k: &LineLimits) -> Pairs
     let t = chosen(on, u8x16::from_array(k.numbers), all(0));
     let s = shifts_by(r, plus(t, on));
     Pairs {
-        p0: moved(&r.p0, &s.up, &s.down),
-        q0: moved(&r.q0, &s.down, &s.up),
+        p0: moved(r.p0, s.up, s.down),
+        q0: moved(r.q0, s.down, s.up),
     }
 }
 
@@ -137,13 +137,9 @@ fn strong(r: &Inner, k: &LineLimits) -> Pairs
         (λ n. filtered_of true (record { alpha = k.now.alpha; beta = k.now.beta; filter = Strong }) (inner_of r.now n)) }
 {
     let on = within(r, k.alpha, k.beta);
-    let p1 = u8x16::from_array(r.p1);
-    let p0 = u8x16::from_array(r.p0);
-    let q0 = u8x16::from_array(r.q0);
-    let q1 = u8x16::from_array(r.q1);
     Pairs {
-        p0: chosen(on, weak(p1, p0, q1), p0).to_array(),
-        q0: chosen(on, weak(q1, q0, p1), q0).to_array(),
+        p0: chosen(on, weak(r.p1, r.p0, r.q1), r.p0),
+        q0: chosen(on, weak(r.q1, r.q0, r.p1), r.q0),
     }
 }
 
@@ -155,8 +151,8 @@ fn mixed(r: &Inner, k: &LineLimits) -> Pairs
     let four = near(u8x16::from_array(k.numbers), all(STRONG), 1);
     let (a, b) = (strong(r, k), normal(r, k));
     Pairs {
-        p0: either(four, &a.p0, &b.p0),
-        q0: either(four, &a.q0, &b.q0),
+        p0: either(four, a.p0, b.p0),
+        q0: either(four, a.q0, b.q0),
     }
 }
 
@@ -173,6 +169,22 @@ fn filtered(r: &Inner, k: &LineLimits, mix: Mix) -> Pairs
     }
 }
 
+/// The samples of the first eight lines.
+#[inline(always)]
+fn first_eight(v: u8x16) -> [u8; 8]
+    ensures { (n : ℕ) → n < 8 → slice_index result n ≡ slice_index v n }
+{
+    v.swizzle([0, 1, 2, 3, 4, 5, 6, 7]).to_array()
+}
+
+/// The samples of the last eight lines.
+#[inline(always)]
+fn last_eight(v: u8x16) -> [u8; 8]
+    ensures { (n : ℕ) → n < 8 → slice_index result n ≡ slice_index v (8 + n) }
+{
+    v.swizzle([8, 9, 10, 11, 12, 13, 14, 15]).to_array()
+}
+
 /// The nearest samples of the lines of Cb, and of those of Cr, after the filter of an edge.
 #[inline(always)]
 pub fn filtered_pair(r: &Inner, k: &LineLimits, mix: Mix) -> (Nearest, Nearest)
@@ -182,12 +194,12 @@ pub fn filtered_pair(r: &Inner, k: &LineLimits, mix: Mix) -> (Nearest, Nearest)
 {
     let after = filtered(r, k, mix);
     let cb = Nearest {
-        p0: run_of::<8>(&after.p0, 0),
-        q0: run_of::<8>(&after.q0, 0),
+        p0: first_eight(after.p0),
+        q0: first_eight(after.q0),
     };
     let cr = Nearest {
-        p0: run_of::<8>(&after.p0, 8),
-        q0: run_of::<8>(&after.q0, 8),
+        p0: last_eight(after.p0),
+        q0: last_eight(after.q0),
     };
     (cb, cr)
 }

@@ -1,11 +1,49 @@
 //! A sample, or a number, of each of sixteen lines, and sums of these lane by lane.
 #![tactic(auto)]
 
-ghost use Rattle.std.specs.Prelude.{◌≡◌, ℕ, ◌+◌, ◌-◌, ◌*◌, ◌/◌, ◌%◌, ◌<◌, ◌≤◌, Bool, true, slice_index, nat_lt, if◌then◌else◌, get_or, min, max};
+ghost use Rattle.std.specs.Prelude.{◌≡◌, ℕ, ◌+◌, ◌-◌, ◌*◌, ◌/◌, ◌%◌, ◌<◌, ◌≤◌, Bool, true, slice_index, length, nat_lt, if◌then◌else◌, get_or, min, max};
 ghost use Rattle.std.specs.Int.{abs_diff};
 ghost use Rattle.h264_deblock.specs.Rows.{sign};
 
 use std::simd::prelude::*;
+
+/// Sixteen samples of a slice, from a place on.
+#[inline(always)]
+pub fn sixteen(samples: &[u8], place: usize) -> u8x16
+    requires { place + 16 ≤ length samples.now }
+    ensures { (n : ℕ) → n < 16 → slice_index result n ≡ slice_index samples.now (place + n) }
+{
+    u8x16::from_slice(&samples[place..])
+}
+
+/// Eight samples of a slice, from a place on.
+#[inline(always)]
+fn eight(samples: &[u8], place: usize) -> u8x8
+    requires { place + 8 ≤ length samples.now }
+    ensures { (n : ℕ) → n < 8 → get_or result n 0 ≡ slice_index samples.now (place + n) }
+{
+    u8x8::from_slice(&samples[place..])
+}
+
+/// Two eights of samples side by side.
+#[inline(always)]
+fn beside(a: u8x8, b: u8x8) -> u8x16
+    ensures first { (n : ℕ) → n < 8 → get_or result n 0 ≡ get_or a n 0 }
+    ensures second { (n : ℕ) → n < 8 → get_or result (8 + n) 0 ≡ get_or b n 0 }
+{
+    a.shuffle(b, [0, 1, 2, 3, 4, 5, 6, 7, 8, 9, 10, 11, 12, 13, 14, 15])
+}
+
+/// Eight samples of a slice from a place on, and then eight of another.
+#[inline(always)]
+pub fn joined(a: &[u8], i: usize, b: &[u8], j: usize) -> u8x16
+    requires first { i + 8 ≤ length a.now }
+    requires second { j + 8 ≤ length b.now }
+    ensures first { (n : ℕ) → n < 8 → slice_index result n ≡ slice_index a.now (i + n) }
+    ensures second { (n : ℕ) → n < 8 → slice_index result (8 + n) ≡ slice_index b.now (j + n) }
+{
+    beside(eight(a, i), eight(b, j))
+}
 
 /// A number in each lane.
 #[inline(always)]
@@ -99,11 +137,11 @@ pub fn chosen(on: u8x16, a: u8x16, b: u8x16) -> u8x16
 
 /// The samples of `a` where `four` has a 1, else those of `b`.
 #[inline(always)]
-pub fn either(four: u8x16, a: &[u8; 16], b: &[u8; 16]) -> [u8; 16]
+pub fn either(four: u8x16, a: u8x16, b: u8x16) -> u8x16
     ensures { (n : ℕ) → n < 16 → (f : Bool) → get_or four n 0 ≡ sign f →
-        slice_index result n ≡ if f then slice_index a.now n else slice_index b.now n }
+        get_or result n 0 ≡ if f then get_or a n 0 else get_or b n 0 }
 {
-    chosen(four, u8x16::from_array(*a), u8x16::from_array(*b)).to_array()
+    chosen(four, a, b)
 }
 
 /// 1 where two samples lie less than this limit apart, else 0.

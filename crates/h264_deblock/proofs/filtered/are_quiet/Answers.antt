@@ -1,4 +1,4 @@
-use Rattle.std.proofs.Common.{◌≡◌, false, refl, slice_index, ap, sym, ◌∙◌, ⊎_elim, inl, inr}
+use Rattle.std.proofs.Common.{refl, slice_index, sym, ◌∙◌, ⊎_elim, inl, inr}
 use Rattle.h264_deblock.specs.Line.{is_within_limits}
 use Rattle.h264_deblock.specs.Rows.{line_of, any_filter}
 use Rattle.h264_deblock.specs.Inner.{inner_of, limits_at}

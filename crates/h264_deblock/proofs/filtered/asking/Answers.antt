@@ -1,4 +1,4 @@
-use Rattle.std.proofs.Common.{◌≡◌, ◌⊎◌, ◌-◌, true, false, min, inl, inr, refl, arith, get_or}
+use Rattle.std.proofs.Common.{◌≡◌, true, false, inl, inr, refl, arith, get_or}
 use Rattle.h264_deblock.proofs.Sixteen.{byte}
 use Rattle.h264_deblock.proofs.filtered.asking.Goals as goal
 

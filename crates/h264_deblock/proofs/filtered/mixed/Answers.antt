@@ -1,4 +1,4 @@
-use Rattle.std.proofs.Common.{◌≡◌, nat_lt, slice_index, refl, ap, ◌∙◌}
+use Rattle.std.proofs.Common.{nat_lt, slice_index, refl, ap, ◌∙◌}
 use Rattle.std.specs.Int.{abs_diff}
 use Rattle.h264_deblock.specs.Rows.{line_of, sign}
 use Rattle.h264_deblock.specs.Inner.{limits_at}

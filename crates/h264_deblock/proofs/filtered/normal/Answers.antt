@@ -1,6 +1,6 @@
-use Rattle.std.proofs.Common.{◌≡◌, ℕ, Bool, ◌&&◌, cond, nat_le, nat_lt, slice_index, get_or, ap, sym, ◌∙◌}
+use Rattle.std.proofs.Common.{ℕ, Bool, ◌&&◌, cond, nat_le, nat_lt, slice_index, get_or, ap, ◌∙◌}
 use Rattle.std.specs.Int.{abs_diff}
-use Rattle.h264_deblock.specs.Line.{is_within_limits, is_flat, turned, Line}
+use Rattle.h264_deblock.specs.Line.{is_within_limits, Line}
 use Rattle.h264_deblock.specs.Rows.{line_of, filter_by, sign}
 use Rattle.h264_deblock.specs.Inner.{inner_of}
 use Rattle.h264_deblock.specs.declared.limits.LineLimits.{LineLimits}

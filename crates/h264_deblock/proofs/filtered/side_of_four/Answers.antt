@@ -1,6 +1,5 @@
-use Rattle.std.proofs.Common.{◌≡◌, ◌+◌, ◌*◌, ◌/◌, arith, get_or, slice_index, Bool, true, false}
-use Rattle.h264_deblock.specs.Line.{Line}
-use Rattle.h264_deblock.specs.Rows.{side_by, side_of, line_of, sign}
+use Rattle.std.proofs.Common.{◌≡◌, ◌+◌, ◌*◌, ◌/◌, arith, get_or}
+use Rattle.h264_deblock.specs.Rows.{line_of}
 use Rattle.h264_deblock.proofs.ByLane.{side_lane}
 use Rattle.h264_deblock.proofs.filtered.side_of_four.Goals as goal
 

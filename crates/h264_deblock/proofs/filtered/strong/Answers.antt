@@ -1,4 +1,4 @@
-use Rattle.std.proofs.Common.{◌≡◌, ◌+◌, ◌/◌, ◌&&◌, nat_lt, slice_index, refl, ap, arith, ◌∙◌}
+use Rattle.std.proofs.Common.{◌≡◌, ◌+◌, ◌/◌, ◌&&◌, nat_lt, refl, ap, arith, ◌∙◌}
 use Rattle.std.specs.Int.{abs_diff}
 use Rattle.h264_deblock.specs.Line.{Line, Limits, Strong, is_within_limits, is_flat, turned}
 use Rattle.h264_deblock.specs.Rows.{line_of, sign, side_by, is_smooth}

@@ -1,4 +1,4 @@
-use Rattle.std.proofs.Common.{◌≡◌, ◌<◌, ℕ, Bool, ◌&&◌, cond, nat_le, nat_lt, slice_index, get_or, refl, ap, ◌∙◌}
+use Rattle.std.proofs.Common.{◌<◌, ℕ, Bool, cond, nat_lt, slice_index, get_or, refl, ap, ◌∙◌}
 use Rattle.h264_deblock.specs.Line.{is_within_limits, Line}
 use Rattle.h264_deblock.specs.Rows.{filter_by}
 use Rattle.h264_deblock.specs.Inner.{inner_of}

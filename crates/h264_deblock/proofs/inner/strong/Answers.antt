@@ -1,5 +1,4 @@
-use Rattle.std.proofs.Common.{true, ap, ◌∙◌, get_or, refl}
-use Rattle.h264_deblock.specs.Line.{is_within_limits, Strong}
+use Rattle.h264_deblock.specs.Line.{Strong}
 use Rattle.h264_deblock.specs.Inner.{inner_of}
 use Rattle.h264_deblock.proofs.ByLane.{inner_strong_lane}
 use Rattle.h264_deblock.proofs.inner.strong.Goals as goal

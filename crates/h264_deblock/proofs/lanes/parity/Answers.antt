@@ -1,4 +1,4 @@
-use Rattle.std.proofs.Common.{◌≡◌, ◌+◌, ◌%◌, ap, sym, ◌∙◌, ℕ, ◌<◌, arith, refl, replicate}
+use Rattle.std.proofs.Common.{◌≡◌, ◌+◌, ◌%◌, ap, sym, ◌∙◌, arith, refl, replicate}
 use Rattle.std.specs.Bool.{⊤}
 use Rattle.std.proofs.lemmas.Simd.{length-zip2, Each2-of, Each1-all, Each1-replicate}
 use Rattle.h264_deblock.proofs.Sixteen.{with_splat, each}
