@@ -37,7 +37,7 @@ VERDICTS = {0: "yes", 1: "no", 2: "outside"}
 LAST_LINE = re.compile(r"yes: units \d+ pictures \d+ frames \d+|no: bit \d+: (\w+) \(clause [A-E\d.]+\)|outside: bit \d+: (\w+)")
 LABELS = set(re.findall(r"^### (\w+)$", (HERE.parent / "docs" / "RULES.md").read_text().partition("\n## Further rules")[0], re.M))
 # further rules that bench/streams does not heed
-UNHEEDED = {"VectorCount"}
+UNHEEDED = {"VectorCount", "ScheduleLimits", "PictureBytes"}
 # Elements of which each value is a tool.
 TOLD_BY_VALUE = {"mb_type", "sub_mb_type", "memory_management_control_operation", "modification_of_pic_nums_idc"}
 TOLD_BY_VALUE |= {"pic_order_cnt_type", "disable_deblocking_filter_idc"}

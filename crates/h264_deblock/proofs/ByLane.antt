@@ -4,13 +4,8 @@ use Rattle.std.proofs.lemmas.Bool.Decides.{nat_tests}
 use Rattle.std.specs.Int.{abs_diff}
 use Rattle.h264_plane.specs.Clip.{clip1}
 use Rattle.h264_deblock.proofs.Signed.{clip1-is}
-use Rattle.h264_deblock.specs.Line.{filtered, is_within_limits, is_flat, turned, number, clip3, delta, step, bend, reach, second, normal, by_filter, strong, strong_side}
+use Rattle.h264_deblock.specs.Line.{filtered, is_within_limits, is_flat, turned, number, clip3, delta, step, bend, reach, second, normal, by_filter, strong, strong_side, Line, Side, Limits, Filter, Off, Normal, Strong}
 use Rattle.h264_deblock.specs.Rows.{filter_by, any_filter, is_on, is_smooth, side_by, sign}
-use Rattle.h264_deblock.specs.Line.{Line}
-use Rattle.h264_deblock.specs.Line.{Side}
-use Rattle.h264_deblock.specs.Line.{Limits}
-use Rattle.h264_deblock.specs.Line.{Filter}
-use Rattle.h264_deblock.specs.Line.{Off, Normal, Strong}
 use Rattle.h264_deblock.specs.Inner.{SameInner}
 use Rattle.h264_deblock.proofs.Lines.{filtered_is, filtered_not, filtered_off, far}
 use Rattle.h264_deblock.proofs.Beside.{same_line}

@@ -4,11 +4,10 @@ use Rattle.std.proofs.lemmas.Bool.Decides.{nat_tests}
 use Rattle.std.proofs.lemmas.Bool.{cases_eq, cases_lt}
 use Rattle.std.proofs.Math.Nat.{mul-le-mul_right}
 use Rattle.h264_plane.specs.Samples.{Samples, at, look, ShowsSamples, with_block}
-use Rattle.h264_deblock.specs.Line.{filtered}
+use Rattle.h264_deblock.specs.Line.{filtered, Line}
 use Rattle.h264_deblock.specs.Edge.{taps, replaced}
 use Rattle.h264_deblock.specs.Rows.{line_of, HasLine, AreWritten}
 use Rattle.h264_deblock.specs.Inner.{AreNearestWritten}
-use Rattle.h264_deblock.specs.Line.{Line}
 use Rattle.h264_deblock.specs.declared.inner.Nearest.{Nearest}
 use Rattle.h264_deblock.specs.declared.rows.Rows.{Rows}
 use Rattle.h264_deblock.proofs.Lines.{far, lines_at, lines_beyond, inside_or_not}

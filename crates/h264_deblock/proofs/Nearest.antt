@@ -2,11 +2,9 @@
 use Rattle.std.proofs.Common.{◌≡◌, ℕ, ◌+◌, ◌-◌, ◌/◌, ◌<◌, ◌≤◌, Bool, true, false, cond, ◌==◌, length, slice_index, arith, refl, sym, ap, ◌∙◌, ⊎_elim}
 use Rattle.std.proofs.lemmas.Bool.Decides.{nat_tests}
 use Rattle.h264_plane.specs.Samples.{Samples, at, look, ShowsSamples, with_run}
-use Rattle.h264_deblock.specs.Line.{filtered}
+use Rattle.h264_deblock.specs.Line.{filtered, Line, Limits}
 use Rattle.h264_deblock.specs.Edge.{taps, limits, edge_after}
 use Rattle.h264_deblock.specs.Inner.{SameInner, AreNearest, AreNearestWritten}
-use Rattle.h264_deblock.specs.Line.{Line}
-use Rattle.h264_deblock.specs.Line.{Limits}
 use Rattle.h264_deblock.specs.declared.inner.Nearest.{Nearest}
 use Rattle.h264_deblock.specs.declared.edge_parameters.EdgeParameters.{EdgeParameters}
 use Rattle.h264_deblock.proofs.Groups.{edge_shown}

@@ -1,11 +1,9 @@
 -- The lines of an edge of chroma: the filter reads two samples on each side of it and changes one (8.7.2). A working form.
 use Rattle.std.specs.Prelude.{◌≡◌, ℕ, ◌+◌, ◌<◌, Bool, true, List, get_or, slice_index}
 use Rattle.h264_plane.specs.Samples.{Samples, look}
-use Rattle.h264_deblock.specs.Line.{filtered}
+use Rattle.h264_deblock.specs.Line.{filtered, Line, Limits}
 use Rattle.h264_deblock.specs.Edge.{taps, lines_after, HasSamplesBy}
 use Rattle.h264_deblock.specs.Rows.{any_filter}
-use Rattle.h264_deblock.specs.Line.{Line}
-use Rattle.h264_deblock.specs.Line.{Limits}
 use Rattle.h264_deblock.specs.declared.inner.Inner.{Inner}
 use Rattle.h264_deblock.specs.declared.inner.Nearest.{Nearest}
 use Rattle.h264_deblock.specs.declared.inner.Pairs.{Pairs}

@@ -93,7 +93,7 @@ pub fn distance(a: u8x16, b: u8x16) -> u8x16
     topped(above(a, b), above(b, a))
 }
 
-/// The sum, of which no lane is more than 255.
+/// The sum, modulo 256.
 #[inline(always)]
 pub fn plus(a: u8x16, b: u8x16) -> u8x16
     ensures { (n : ℕ) → n < 16 → get_or result n 0 ≡ (get_or a n 0 + get_or b n 0) % 256 }

@@ -291,7 +291,7 @@ fn with_place(places: Option<Places>, bit: u64) -> Places
     }
 }
 
-/// Notes that a rule is broken at this bit, if it is one.
+/// Notes that a rule is broken at this bit, if there is one.
 pub(crate) fn note_in(
     found: &mut [Option<Places>; STRICT_RULES],
     rule: Option<StrictRule>,
@@ -331,7 +331,7 @@ impl Strict {
         self.standing.set.is_alone
     }
 
-    /// Notes that a rule is broken here, if it is one.
+    /// Notes that a rule is broken here, if there is one.
     fn note(&mut self, rule: Option<StrictRule>, bit: u64)
         ensures standing { self.new.standing ≡ self.old.standing }
         ensures found { (r : StrictRule) → found_of self.new r ≡ with_places (found_of self.old r) (bits_for r bit (listed rule)) }
@@ -339,7 +339,7 @@ impl Strict {
         note_in(&mut self.found, rule, bit);
     }
 
-    /// Notes that two rules are broken here, if they are ones.
+    /// Notes which of two rules are broken here.
     fn note_two(&mut self, first: Option<StrictRule>, second: Option<StrictRule>, bit: u64)
         ensures standing { self.new.standing ≡ self.old.standing }
         ensures found { (r : StrictRule) → found_of self.new r ≡ with_places (found_of self.old r) (bits_for r bit (listed first ++ listed second)) }

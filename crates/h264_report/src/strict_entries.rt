@@ -253,7 +253,7 @@ const ENTRIES: [StrictEntry; STRICT_RULES] = [
         rule: StrictRule::CommonFactor,
         breaks: "sar_width and sar_height are above 0 and have a common factor above 1.",
         bit: "The first bit of sar_height.",
-        cause: "The ratio was not brought to its lowest terms: 4:6 is 2:3. An aspect ratio of the picture was written in place of one of its samples.",
+        cause: "The ratio was not brought to its lowest terms: 4:6 is 2:3. Or an aspect ratio of the picture was written in place of one of its samples.",
         example: "sar_width 4 and sar_height 6",
     },
     StrictEntry {
@@ -266,10 +266,10 @@ const ENTRIES: [StrictEntry; STRICT_RULES] = [
     },
     StrictEntry {
         rule: StrictRule::SeiSizes,
-        breaks: "A unit of SEI is not messages, each with as many bytes as its payloadSize says, and then a byte 80.",
+        breaks: "A unit of SEI does not consist of messages, each as long as its payloadSize says, and a byte 80.",
         bit: "The first bit of the unit.",
         cause: "payloadSize counts emulation prevention bytes, or the trailing bits were left out.",
-        example: "a message that tells 5 bytes and has 4",
+        example: "a message whose payloadSize is 5 and which has 4 bytes",
     },
     StrictEntry {
         rule: StrictRule::DelimiterBits,

@@ -15,6 +15,8 @@ use std::alloc::Global;
 pub struct UnitSource<'a, R: Source> {
     pub source: &'a mut R,
     pub units: UnitReader,
+    /// Whether the source has said that no more bytes come.
+    pub has_ended: bool,
 }
 
 impl<'a, R: Source> UnitSource<'a, R> {
@@ -26,15 +28,19 @@ impl<'a, R: Source> UnitSource<'a, R> {
         UnitSource {
             source,
             units: UnitReader::new(alloc),
+            has_ended: false,
         }
     }
 
-    /// What was found in the bytes that were handed on.
+    /// What was found in the bytes that were handed on. Where they do not reach the end of the source, the last unit may go on, and is not looked at.
     pub fn finish(self) -> UnitsRead
         ensures { (bytes : List ℕ) → TookBytes self.entry.units.splitter self.entry.units.has_stopped self.entry.units.found bytes →
             TellsOfBytes result.is_whole result.found bytes }
     {
-        self.units.finish()
+        if self.has_ended {
+            return self.units.finish();
+        }
+        self.units.break_off()
     }
 }
 
@@ -62,6 +68,7 @@ impl<'a, R: Source> Source for UnitSource<'a, R> {
     {
         match self.source.read(piece) {
             Ok(Some(n)) => {
+                self.has_ended = n == 0;
                 self.units.take(&piece[..n]);
                 Ok(Some(n))
             }

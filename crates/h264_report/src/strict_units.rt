@@ -94,7 +94,7 @@ impl UnitReader {
         }
     }
 
-    /// Takes bytes up to the end of a unit, and looks at the unit; how many bytes.
+    /// Takes bytes up to the end of a unit, looks at the unit, and says how many bytes it took.
     fn take_some(&mut self, piece: &[u8]) -> usize
         requires some { 0 < length piece.now }
         requires goes { self.old.has_stopped ≡ false }
@@ -129,6 +129,17 @@ impl UnitReader {
         while !self.has_stopped && !rest.is_empty() {
             let n = self.take_some(rest);
             rest = after(rest, n);
+        }
+    }
+
+    /// What was found so far. The last unit may go on, and is not looked at.
+    pub fn break_off(self) -> UnitsRead
+        ensures { (bytes : List ℕ) → TookBytes self.splitter self.has_stopped self.found bytes → TellsOfBytes result.is_whole result.found bytes }
+    {
+        let found = self.found;
+        UnitsRead {
+            found,
+            is_whole: false,
         }
     }
 

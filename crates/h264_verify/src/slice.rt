@@ -52,7 +52,7 @@ fn check_first_mb(mode: Mode, begins: bool, work: &Work, header: &Header) -> Res
     }
 }
 
-/// A slice takes its place after those so far: a picture before it ends where it begins one, the sets that it names become the active ones, and
+/// Gives a slice its place after those so far: a picture before it ends where it begins one, the sets that it names become the active ones, and
 /// where slice data are read it begins where its picture's macroblocks so far end.
 ///
 /// Err: the first rule that is not met, with its bit (of the unit, the header's element, or the end of the picture before), or Write where the

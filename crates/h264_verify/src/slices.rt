@@ -371,7 +371,7 @@ fn enter(
     }
 }
 
-/// The rules of a slice from its type on (7.4.3, 8.2), what the sink is told of it, and what it leaves: its list among it. The header is to be
+/// The rules of a slice from its type on (7.4.3, 8.2), what the sink is told of it, and what it leaves, with its list. The header is to be
 /// read anew for the next slice.
 ///
 /// Err: the first that is not met of SliceType, FrameNum, IdrPicId, Count, Qp, ListCommand and MarkDiffers, at its element's bit (Count at the

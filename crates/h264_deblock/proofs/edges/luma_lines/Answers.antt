@@ -1,6 +1,5 @@
 use Rattle.std.proofs.Common.{false, ap, ◌∙◌}
-use Rattle.h264_deblock.specs.Line.{filtered}
-use Rattle.h264_deblock.specs.Line.{Limits}
+use Rattle.h264_deblock.specs.Line.{filtered, Limits}
 use Rattle.h264_deblock.specs.Rows.{line_of}
 use Rattle.h264_deblock.specs.Inner.{limits_at}
 use Rattle.h264_deblock.proofs.Beside.{edge_by_rows, edge_kept}
