@@ -12,13 +12,10 @@ use crate::lanes::{
     above, all, are_zero, average, average_down, chosen, eighth, either, fourth, greatest, least,
     near, outer_eighth, plus, three, topped,
 };
-use crate::limits::{LineLimits, Mix, STRONG};
+use crate::limits::{LineLimits, Mix, OFF, STRONG};
 use crate::line::{below_four, moved, shifts_by, weak, within};
 use crate::rows::Rows;
 use std::simd::prelude::*;
-
-/// The number of the filter of a line with bS 0.
-const OFF: u8 = 255;
 
 /// The three samples of one side that a filter changes, the nearest to the edge first.
 #[derive(Clone, Copy)]

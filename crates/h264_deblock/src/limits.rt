@@ -28,6 +28,9 @@ pub struct LineLimits {
 /// The number of the filter of a line with bS 4.
 pub const STRONG: u8 = 254;
 
+/// The number of the filter of a line with bS 0.
+pub const OFF: u8 = 255;
+
 /// What edges between two quantisation parameters have in common.
 #[derive(Clone, Copy)]
 pub struct Level {
@@ -77,7 +80,7 @@ fn number(index_a: u8, strength: BoundaryStrength) -> u8
     ensures { any_filter result ≡ filter_of index_a strength }
 {
     match strength {
-        BoundaryStrength::Zero => 255,
+        BoundaryStrength::Zero => OFF,
         BoundaryStrength::BelowFour(strength) => tc0(index_a, strength),
         BoundaryStrength::Four => STRONG,
     }
