@@ -1,7 +1,8 @@
 //! A reader of the units that stand in bytes, for the rules on the bytes of units.
 #![tactic(auto)]
 
-ghost use Rattle.std.specs.Prelude.{◌≡◌, ℕ, ◌+◌, ◌*◌, ◌≤◌, ◌<◌, ◌++◌, true, false, List, [], length, take, drop, None, IsFalse, IfOk, OnOk, OnErr};
+ghost use Rattle.std.specs.Prelude.{◌≡◌, ℕ, ◌+◌, ◌*◌, ◌≤◌, ◌<◌, ◌++◌, true, false, List, [], length, take, drop, None, IsFalse, IfOk, IfErr, OnOk, OnErr};
+ghost use Rattle.h264_base.specs.declared.stop.Stop.{Stop};
 ghost use Rattle.h264_report.specs.Strict.{with_places, bits_for};
 ghost use Rattle.h264_report.specs.StrictBytes.{broken_unit};
 ghost use Rattle.h264_report.specs.StrictRules.{listed};
@@ -48,7 +49,8 @@ impl UnitsRead {
 
 /// The rule that a unit breaks by its bytes. The one error is `Stop::Memory`.
 fn broken_unit(alloc: Global, unit: &NalUnit) -> Result<Option<StrictRule>, Stop>
-    ensures { IfOk result (λ rule. rule ≡ broken_unit unit.now) }
+    ensures broken { IfOk result (λ rule. rule ≡ broken_unit unit.now) }
+    ensures err { IfErr result (λ e. e ≡ Stop.Memory) }
 {
     let kind = unit.body()[0] % 32;
     if !is_judged(kind) {
@@ -67,6 +69,7 @@ fn note_unit(
     ensures noted { OnOk result ((rule : StrictRuleView) →
         noted_in found.new rule ≡ with_places (noted_in found.old rule) (bits_for rule (8 * unit.now.from) (listed (broken_unit unit.now)))) }
     ensures unnoted { OnErr result (found.new ≡ found.old) }
+    ensures err { IfErr result (λ e. e ≡ Stop.Memory) }
 {
     let rule = broken_unit(alloc, unit)?;
     note_in(found, rule, 8 * unit.from());

@@ -4,9 +4,9 @@ use Rattle.h264_rbsp.specs.Rbsp.{body_of}
 use Rattle.h264_report.specs.StrictBytes.{by_rbsp}
 use Rattle.h264_report.proofs.strict_units.broken_unit.Goals as goal
 
-pub returns : goal.returns
+pub returns-clause-broken : goal.returns-clause-broken
 unfolding body_of
-returns c =
+returns-clause-broken c =
     c.by_rbsp.ensures
     ∙ ap₂ (λ kind bytes. by_rbsp kind bytes) (ap (λ b. slice_index b 0 % 32) c.body.ensures.value)
     (c.bytes.ensures.bytes ∙ ap (λ (b : Body). b.bytes) c.in_ok-rbsp.ensures.ok)
