@@ -1,0 +1,230 @@
+#!/usr/bin/env python3
+"""wrong_bodies.py [--jobs N] [--alone] [FOLDER] [CRATE..]: tries the edits of wrong-bodies/CRATE/. Each has to be refused by the prover.
+
+Edits of functions that do not call one another are tried together, in one check of a copy of the crate. An edit is refused there where the check does
+not prove a function that the edit changes, and says so of that function itself: not because of one that it calls. Where that check does not tell, the
+edit is tried alone, as the gate tries those of must-fail/. With --alone each is.
+
+FOLDER is a folder with the repository's crates/ and what checks left in their out/, such as KEEP=1 ./install.sh leaves in FOLDER/work; the
+repository itself where it is left out. With no CRATE it tries the edits of every crate that has some. It prints a line for each edit that is not refused,
+or only for a name in a proof, and a count for each crate. Status 1 where an edit was not refused.
+"""
+import argparse
+import os
+import pathlib
+import re
+import shutil
+import subprocess
+import sys
+import tempfile
+import time
+
+TOP = pathlib.Path(__file__).resolve().parent.parent
+FUNCTION = re.compile(r"^( *)(?:pub(?:\([a-z]+\))? )?(?:const )?(?:unsafe )?(?:extern \"C\" )?fn (\w+)")
+CALLED = re.compile(r"\b([a-z_]\w*)(?:::<[^()]*>)?\(")
+# what a check says of a function, and of a line of a function's proof
+OF_FUNCTION = re.compile(r"(?m)^(?:so far: )?fn \w+::([\w:<>+' ]*?): (not proved|no proof)(.*)$")
+OF_PROOF = re.compile(r"(?m)^(?:so far: )?(?:note: )?(?:\./)?proofs/(\S+)/\w+\.antt:\d+:\d+: (?:error|note)(.*)$")
+OF_NAME = re.compile(r"has no field|is not in scope|has no `|was not admitted")
+REFUSED = "refused, as it must be"
+
+
+class Edit:
+    """An edit, by the pairs of texts in its file and the functions that it changes."""
+
+    def __init__(self, path, sources):
+        self.path, self.name, self.pairs = path, path.stem, []
+        file = old = None
+        for line in path.read_text().split("\n"):
+            if line.startswith("file: "):
+                file = line[len("file: ") :].strip()
+            elif line.startswith("old: "):
+                old = line[len("old: ") :]
+            elif line.startswith("new:"):
+                self.pairs.append((file, old, line[len("new:") :].removeprefix(" ")))
+        self.functions = {sources.function_at(file, old) for file, old, _ in self.pairs}
+
+    def is_of_functions(self):
+        """Whether each change stands in a function."""
+        return bool(self.functions) and None not in self.functions
+
+
+class Sources:
+    """The functions of a crate, as (file, name), and what they call, by names."""
+
+    def __init__(self, crate):
+        self.texts = {str(it.relative_to(crate)): it.read_text() for it in sorted((crate / "src").rglob("*.rt"))}
+        self.spans = {file: list(spans_of(text)) for file, text in self.texts.items()}
+        called = {}
+        for file, spans in self.spans.items():
+            lines = self.texts[file].split("\n")
+            for first, last, name in spans:
+                called.setdefault(name, set()).update(CALLED.findall("\n".join(lines[first:last])))
+        self.called = {name: within(called, name) for name in called}
+
+    def function_at(self, file, old):
+        """The one function in which a text stands. None where there is none, or the text does not stand there once."""
+        text = self.texts.get(file, "")
+        if not old or text.count(old) != 1:
+            return None
+        line = text.count("\n", 0, text.index(old)) + 1
+        return next(((file, name) for first, last, name in self.spans[file] if first <= line <= last), None)
+
+
+def spans_of(text):
+    """The first and the last line of each function, and its name."""
+    lines, at = text.split("\n"), 0
+    while at < len(lines):
+        found = FUNCTION.match(lines[at])
+        if found:
+            first = at
+            while at + 1 < len(lines) and not lines[at].startswith(found[1] + "}") and not (at == first and lines[at].endswith("}")):
+                at += 1
+            yield first + 1, at + 1, found[2]
+        at += 1
+
+
+def within(called, name):
+    """All that a function calls, and what that calls in turn, by names."""
+    seen, left = set(), [name]
+    while left:
+        for it in called.get(left.pop(), ()):
+            if it in called and it not in seen:
+                seen.add(it)
+                left.append(it)
+    return seen
+
+
+def batches_of(edits, sources):
+    """Sorts edits into batches: within one, no changed function calls another, and none is changed twice."""
+    batches = []
+    reached_by = {it: set().union(*(sources.called[name] for _, name in it.functions)) for it in edits}
+    for edit in sorted(edits, key=lambda it: len(reached_by[it])):
+        names, reached = {name for _, name in edit.functions}, reached_by[edit]
+        for batch in batches:
+            if all(not names & others and not reached & others and not names & theirs for _, others, theirs in batch):
+                batch.append((edit, names, reached))
+                break
+        else:
+            batches.append([(edit, names, reached)])
+    return [[edit for edit, _, _ in batch] for batch in batches]
+
+
+def copied(folder, crate, room):
+    """A copy of the crates in which this one may change: the other files are links."""
+    subprocess.run(["cp", "-al", folder / "crates", room / "crates"], check=True)
+    for name in ("crates.txt", "HANDLES"):
+        shutil.copy(folder / name, room / name)
+    for part in ("src", "specs", "proofs", "must-fail"):
+        shutil.rmtree(room / "crates" / crate / part, ignore_errors=True)
+        if (folder / "crates" / crate / part).is_dir():
+            shutil.copytree(folder / "crates" / crate / part, room / "crates" / crate / part)
+    # A check replaces what it keeps, and writes into these alone.
+    for file in (room / "crates" / crate / "out").rglob("*"):
+        if file.is_file() and file.suffix != ".oantt":
+            data = file.read_bytes()
+            file.unlink()
+            file.write_bytes(data)
+    return room / "crates" / crate
+
+
+def edited(text, pairs):
+    """A text in which each old text, which stands there once, gives way to a new one."""
+    parts, at = [], 0
+    for start, old, new in sorted((text.index(old), old, new) for old, new in pairs):
+        parts += [text[at:start], new]
+        at = start + len(old)
+    return "".join(parts) + text[at:]
+
+
+def said_of(text):
+    """By the last words of a function's path: whether it was not proved for what it does, and whether a name in a proof is all that says so."""
+    own, beyond_names = set(), set()
+    for path, _, why in OF_FUNCTION.findall(text):
+        if "it calls" not in why:
+            own.add(path.split("::")[-1])
+    for path, why in OF_PROOF.findall(text):
+        if not OF_NAME.search(why):
+            beyond_names.add(path.split("/")[-1])
+    return own, beyond_names
+
+
+def told_together(folder, crate, batch, sources, jobs):
+    """Tries edits together: those that are refused, and of these the ones that are refused for a name alone."""
+    with tempfile.TemporaryDirectory(prefix="wrong-bodies-") as room:
+        place = copied(folder, crate, pathlib.Path(room))
+        for file in {file for edit in batch for file, _, _ in edit.pairs}:
+            pairs = [(old, new) for edit in batch for name, old, new in edit.pairs if name == file]
+            (place / file).write_text(edited(sources.texts[file], pairs))
+        ran = subprocess.run(["rt", "check", "--jobs", jobs], cwd=place, stdout=subprocess.PIPE, stderr=subprocess.STDOUT, text=True, errors="replace")
+    if "logic=not-proved" not in ran.stdout:
+        print(f"{crate}: a check of {len(batch)} edits gave no verdict (status {ran.returncode}): {ran.stdout[-200:]}", flush=True)
+        return [], []
+    own, beyond_names = said_of(ran.stdout)
+    refused = [it for it in batch if {name for _, name in it.functions} & own]
+    by_search = "`search` did not prove"
+    named = [it for it in refused if by_search not in ran.stdout and not {name for _, name in it.functions} & beyond_names]
+    return refused, named
+
+
+def told_alone(folder, crate, edits):
+    """Tries edits one by one with `rt must-fail`, and gives its line for each, by the edit's name."""
+    with tempfile.TemporaryDirectory(prefix="wrong-bodies-") as room:
+        place = copied(folder, crate, pathlib.Path(room))
+        shutil.rmtree(place / "must-fail", ignore_errors=True)
+        (place / "must-fail").mkdir()
+        for edit in edits:
+            shutil.copy(edit.path, place / "must-fail")
+        ran = subprocess.run(["rt", "must-fail", crate], cwd=room, stdout=subprocess.PIPE, stderr=subprocess.STDOUT, text=True, errors="replace")
+    lines = re.findall(rf"must-fail {crate}/(\S+)\.edit: (.*)", ran.stdout)
+    return dict(lines)
+
+
+def tried(folder, crate, jobs, is_alone):
+    """Tries the edits of a crate: how many there are, how many were refused, and how many of these only for a name."""
+    began = time.time()
+    sources = Sources(folder / "crates" / crate)
+    edits = [Edit(it, sources) for it in sorted((TOP / "wrong-bodies" / crate).glob("*.edit"))]
+    together = [] if is_alone else [it for it in edits if it.is_of_functions()]
+    refused, named = [], []
+    for batch in batches_of(together, sources):
+        some, by_name = told_together(folder, crate, batch, sources, jobs)
+        refused += [it.name for it in some]
+        named += [it.name for it in by_name]
+    left = [it for it in edits if it.name not in refused]
+    told = told_alone(folder, crate, left) if left else {}
+    for edit in left:
+        line = told.get(edit.name, "NOT TRIED")
+        if line.startswith(REFUSED):
+            refused.append(edit.name)
+        if not line.startswith(REFUSED) or "only" in line.partition(":")[0]:
+            print(f"{crate}/{edit.name}: {line[:200]}", flush=True)
+        if line.startswith(f"{REFUSED} (only because"):
+            named.append(edit.name)
+    seconds = time.time() - began
+    print(f"{crate}: {len(edits)} tried, {len(refused)} refused, {len(left)} of them tried alone, {len(named)} only for a name, {seconds:.0f} s", flush=True)
+    for name in named:
+        print(f"{crate}/{name}: only for a name in a proof", flush=True)
+    return len(edits), len(refused), len(named)
+
+
+def main():
+    words = argparse.ArgumentParser(description=__doc__, formatter_class=argparse.RawDescriptionHelpFormatter)
+    words.add_argument("--jobs", default="1", help="how many functions a check proves at once")
+    words.add_argument("--alone", action="store_true", help="each edit in a check of its own")
+    words.add_argument("names", nargs="*", metavar="FOLDER or CRATE")
+    asked = words.parse_args()
+    folders = [it for it in asked.names if os.path.isdir(f"{it}/crates")]
+    crates = [it for it in asked.names if it not in folders] or sorted(it.name for it in (TOP / "wrong-bodies").iterdir() if it.is_dir())
+    folder = pathlib.Path(folders[0]).resolve() if folders else TOP
+    unknown = [it for it in crates if not (TOP / "wrong-bodies" / it).is_dir() or not (folder / "crates" / it).is_dir()]
+    if unknown:
+        sys.exit(f"no crate with wrong bodies: {unknown[0]}")
+    counts = [tried(folder, it, asked.jobs, asked.alone) for it in crates]
+    edits, refused, named = (sum(it) for it in zip(*counts))
+    print(f"{edits} tried, {refused} refused ({named} of them only for a name in a proof), {edits - refused} not")
+    sys.exit(edits != refused)
+
+
+if __name__ == "__main__":
+    main()
