@@ -73,30 +73,6 @@ fn luma_inner<const VERTICAL: bool>(
     luma_at_level::<VERTICAL>(plane, along, across, &own.inner, word);
 }
 
-/// Filters the luma edges of the macroblock at this column and row.
-#[inline(always)]
-fn luma(plane: &mut Plane, marks: &Marks, own: &PlaneLevel<'_>, column: usize, row: usize)
-    requires columns { 16 * column + 16 ≤ plane.old.width }
-    requires rows { 16 * row + 16 ≤ plane.old.height }
-    requires small { (column < 1024) × (row < 1024) }
-    requires marks { AreMarks marks.now column row }
-    requires qp { own.now.qp ≡ side_qp false own.now.luma_qp own.now.filter.now.chroma_qp_index_offset }
-    requires inner { IsLevelOf own.now.inner own.now.qp own.now.qp own.now.filter.now }
-    requires filtered { filters own.now.filter.now.deblocking true ≡ true }
-    ensures { ShowsSamples plane.old plane.new (edges_done 16 false (luma_by own.now.qp own.now.filter.now marks.now) column row (at plane.old)) }
-{
-    let (x, y) = (16 * column, 16 * row);
-    let (vertical, horizontal) = (&marks.inner.vertical, &marks.inner.horizontal);
-    luma_border::<true>(plane, y, x, &marks.left, own);
-    luma_inner::<true>(plane, y, x + 4, &vertical[0], own);
-    luma_inner::<true>(plane, y, x + 8, &vertical[1], own);
-    luma_inner::<true>(plane, y, x + 12, &vertical[2], own);
-    luma_border::<false>(plane, x, y, &marks.above, own);
-    luma_inner::<false>(plane, x, y + 4, &horizontal[0], own);
-    luma_inner::<false>(plane, x, y + 8, &horizontal[1], own);
-    luma_inner::<false>(plane, x, y + 12, &horizontal[2], own);
-}
-
 /// Filters the edge of both planes of chroma to the macroblock beside, where it is filtered.
 #[inline(always)]
 fn pair_border<const VERTICAL: bool>(
@@ -156,31 +132,50 @@ fn pair_inner<const VERTICAL: bool>(
     pair_at_level::<VERTICAL>(cb, cr, along, across, &own.inner, word);
 }
 
-/// Filters the chroma edges of the macroblock at this column and row, in both planes.
+/// Filters the edges of the macroblock at this column and row, those of luma by turns with those of chroma. An edge reads what the one before it in its
+/// plane has written, and a processor waits where wide loads follow narrow stores at once: an edge of other planes between the two gives it other work.
 #[inline(always)]
-fn chroma(
-    cb: &mut Plane,
-    cr: &mut Plane,
+fn by_turns(
+    frame: &mut Frame,
     marks: &Marks,
-    own: &PlaneLevel<'_>,
+    of_luma: &PlaneLevel<'_>,
+    of_chroma: &PlaneLevel<'_>,
     column: usize,
     row: usize,
 )
-    requires cb { (8 * column + 8 ≤ cb.old.width) × (8 * row + 8 ≤ cb.old.height) }
-    requires cr { (8 * column + 8 ≤ cr.old.width) × (8 * row + 8 ≤ cr.old.height) }
+    requires y { (16 * column + 16 ≤ frame.old.y.width) × (16 * row + 16 ≤ frame.old.y.height) }
+    requires cb { (8 * column + 8 ≤ frame.old.cb.width) × (8 * row + 8 ≤ frame.old.cb.height) }
+    requires cr { (8 * column + 8 ≤ frame.old.cr.width) × (8 * row + 8 ≤ frame.old.cr.height) }
     requires small { (column < 1024) × (row < 1024) }
     requires marks { AreMarks marks.now column row }
-    requires qp { own.now.qp ≡ side_qp true own.now.luma_qp own.now.filter.now.chroma_qp_index_offset }
-    requires inner { IsLevelOf own.now.inner own.now.qp own.now.qp own.now.filter.now }
-    requires filtered { filters own.now.filter.now.deblocking true ≡ true }
-    ensures cb { ShowsSamples cb.old cb.new (edges_done 8 true (chroma_by own.now.qp own.now.filter.now marks.now) column row (at cb.old)) }
-    ensures cr { ShowsSamples cr.old cr.new (edges_done 8 true (chroma_by own.now.qp own.now.filter.now marks.now) column row (at cr.old)) }
+    requires luma_qp { of_luma.now.qp ≡ side_qp false of_luma.now.luma_qp of_luma.now.filter.now.chroma_qp_index_offset }
+    requires luma_inner { IsLevelOf of_luma.now.inner of_luma.now.qp of_luma.now.qp of_luma.now.filter.now }
+    requires luma_filtered { filters of_luma.now.filter.now.deblocking true ≡ true }
+    requires chroma_qp { of_chroma.now.qp ≡ side_qp true of_chroma.now.luma_qp of_chroma.now.filter.now.chroma_qp_index_offset }
+    requires chroma_inner { IsLevelOf of_chroma.now.inner of_chroma.now.qp of_chroma.now.qp of_chroma.now.filter.now }
+    requires chroma_filtered { filters of_chroma.now.filter.now.deblocking true ≡ true }
+    ensures y { ShowsSamples frame.old.y frame.new.y
+        (edges_done 16 false (luma_by of_luma.now.qp of_luma.now.filter.now marks.now) column row (at frame.old.y)) }
+    ensures cb { ShowsSamples frame.old.cb frame.new.cb
+        (edges_done 8 true (chroma_by of_chroma.now.qp of_chroma.now.filter.now marks.now) column row (at frame.old.cb)) }
+    ensures cr { ShowsSamples frame.old.cr frame.new.cr
+        (edges_done 8 true (chroma_by of_chroma.now.qp of_chroma.now.filter.now marks.now) column row (at frame.old.cr)) }
 {
-    let (x, y) = (8 * column, 8 * row);
-    pair_border::<true>(cb, cr, y, x, &marks.left, own);
-    pair_inner::<true>(cb, cr, y, x + 4, &marks.inner.vertical[1], own);
-    pair_border::<false>(cb, cr, x, y, &marks.above, own);
-    pair_inner::<false>(cb, cr, x, y + 4, &marks.inner.horizontal[1], own);
+    let (x, y, u, v) = (16 * column, 16 * row, 8 * column, 8 * row);
+    let (vertical, horizontal) = (&marks.inner.vertical, &marks.inner.horizontal);
+    let (luma, cb, cr) = (&mut frame.y, &mut frame.cb, &mut frame.cr);
+    luma_border::<true>(luma, y, x, &marks.left, of_luma);
+    pair_border::<true>(cb, cr, v, u, &marks.left, of_chroma);
+    luma_inner::<true>(luma, y, x + 4, &vertical[0], of_luma);
+    pair_inner::<true>(cb, cr, v, u + 4, &vertical[1], of_chroma);
+    luma_inner::<true>(luma, y, x + 8, &vertical[1], of_luma);
+    pair_border::<false>(cb, cr, u, v, &marks.above, of_chroma);
+    luma_inner::<true>(luma, y, x + 12, &vertical[2], of_luma);
+    pair_inner::<false>(cb, cr, u, v + 4, &horizontal[1], of_chroma);
+    luma_border::<false>(luma, x, y, &marks.above, of_luma);
+    luma_inner::<false>(luma, x, y + 4, &horizontal[0], of_luma);
+    luma_inner::<false>(luma, x, y + 8, &horizontal[1], of_luma);
+    luma_inner::<false>(luma, x, y + 12, &horizontal[2], of_luma);
 }
 
 /// Filters the edges of the macroblock at this column and row, whose quantisation parameter is `qp`.
@@ -206,7 +201,6 @@ pub(crate) fn filter_by(
         (edges_done 8 true (chroma_by (side_qp true qp filter.now.chroma_qp_index_offset) filter.now marks.now) column row (at frame.old.cr)) }
 {
     let of_luma = plane_level::<false>(qp, filter);
-    luma(&mut frame.y, marks, &of_luma, column, row);
     let of_chroma = plane_level::<true>(qp, filter);
-    chroma(&mut frame.cb, &mut frame.cr, marks, &of_chroma, column, row);
+    by_turns(frame, marks, &of_luma, &of_chroma, column, row);
 }
