@@ -11,11 +11,12 @@ use crate::named::Word;
 use crate::slice_filter::SliceFilter;
 use h264_tables::chroma_qp;
 
-/// The edge between a macroblock and the one beside it: the quantisation parameter of that one, and the strengths.
+/// The edge between a macroblock and the one beside it: the strengths, and the quantisation parameter of that one. The strengths come first, since a copy
+/// moves four bytes and then one: it waits where the four were not written as one.
 #[derive(Clone, Copy)]
 pub(crate) struct Border {
-    pub qp: u8,
     pub strengths: Word,
+    pub qp: u8,
 }
 
 /// Clip3(0, 51, z).
