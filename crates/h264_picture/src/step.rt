@@ -36,6 +36,15 @@ fn place_after(across: usize, column: usize, row: usize) -> (usize, usize)
     (0, row + 1)
 }
 
+/// What is left of a run of skipped macroblocks.
+#[derive(Clone, Copy)]
+struct Skips {
+    /// The stream bit of its mb_skip_run.
+    bit: u64,
+    /// How many follow the next one.
+    more: u32,
+}
+
 impl Sequence {
     ghost use Rattle.std.specs.Prelude.{◌≡◌, ℕ, ◌+◌, ◌-◌, ◌<◌, ◌≤◌, ◌^◌, Option, List, [], ◌∷◌, ◌++◌, length, OnOk, IfOk, true};
     ghost use Rattle.h264_base.specs.Meets.{Meets};
@@ -102,25 +111,24 @@ impl Sequence {
         Ok(Some(Standing::Next))
     }
 
-    /// Derives a skipped macroblock, by the mb_skip_run at this stream bit; so many more follow.
+    /// Derives the next macroblock of a run of skipped ones.
     fn skip<S: Elements>(
         &mut self,
         bits: &Bits,
         slice: &SliceContext,
-        bit: u64,
-        more: u32,
+        skips: Skips,
         left: u32,
         sink: &S,
     ) -> Result<Option<Standing>, Stop>
         requires qp { self.old.mb.qp ≤ 51 }
-        requires some { more < left }
+        requires some { skips.more < left }
         requires refers { has_picture_of slice.now 0 ≡ true }
         requires left { self.old.next + left ≤ self.old.size }
         requires usable { Usable slice.now }
         ensures meets { (width size : ℕ) (making : Option Making) (picture : List CodedMacroblock) →
             Reads width size making slice.now picture self.old → Meets S.took S.failures
             (syntax.Goes (λ p. Reads width size making slice.now p self.new) picture)
-            (syntax.skip width slice.now picture bit more) bits.now bits.now sink.now sink.now result }
+            (syntax.skip width slice.now picture skips.bit skips.more) bits.now bits.now sink.now sink.now result }
         ensures within { OnOk result (self.new.mb.qp ≤ 51) }
         ensures moves { IfOk result (Moves left self.old.next self.new.next) }
         ensures size { self.new.size ≡ self.old.size }
@@ -129,11 +137,14 @@ impl Sequence {
     {
         let vector = skip_vector(&self.near, slice.number);
         let fits = vector_fits(slice.vector_limit, vector);
-        check(fits, Rule::VectorRange, bit)?;
+        check(fits, Rule::VectorRange, skips.bit)?;
         skip_macroblock(slice, vector, &mut self.mb);
         self.make(slice, false);
         self.keep();
-        Ok(Some(Standing::Skipping { bit, more }))
+        Ok(Some(Standing::Skipping {
+            bit: skips.bit,
+            more: skips.more,
+        }))
     }
 
     /// Reads mb_skip_run, and the first macroblock of it or the one after it.
@@ -165,7 +176,11 @@ impl Sequence {
         if run.value == 0 {
             return self.read_unskipped(bits, slice, left, sink);
         }
-        self.skip(bits, slice, run.bit, run.value - 1, left, sink)
+        let skips = Skips {
+            bit: run.bit,
+            more: run.value - 1,
+        };
+        self.skip(bits, slice, skips, left, sink)
     }
 
     /// Reads the next macroblock, if there is one.
@@ -264,7 +279,11 @@ impl Sequence {
                 if more == 0 {
                     return self.read_after_skips(bits, slice, bit, left, sink);
                 }
-                self.skip(bits, slice, bit, more - 1, left, sink)
+                let skips = Skips {
+                    bit,
+                    more: more - 1,
+                };
+                self.skip(bits, slice, skips, left, sink)
             }
         }
     }
