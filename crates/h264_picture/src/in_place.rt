@@ -20,42 +20,52 @@ ghost use Rattle.h264_picture.specs.Held.{IsHeld};
 
 use h264_deblock::{Coded, filter_coded};
 use h264_plane::{Frame, Pool};
-use h264_recon::{Lines, Macroblock, construct};
+use h264_recon::{Lines, Macroblock, Position, construct};
 use h264_scale::Residuals;
 
-/// Goes on by the macroblock at this column and row: constructs it in the frame from the lines, brings these up to date, and filters its edges. Where
+/// What the samples of a macroblock are made of.
+#[derive(Clone, Copy)]
+pub struct Recipe<'a> {
+    /// What constructs it.
+    pub m: Macroblock<'a>,
+    /// And its residual.
+    pub residuals: &'a Residuals,
+    /// What its edges are filtered by.
+    pub coded: Coded<'a>,
+}
+
+/// Goes on by the macroblock at a position: constructs it in the frame from the lines, brings these up to date, and filters its edges. Where
 /// frame and lines hold a coded picture so far, they hold it with this macroblock: after every macroblock of a slice there are samples that meet the
 /// equations of all macroblocks so far (8.3, 8.4, 8.5), and the frame holds them, filtered by the edges so far (8.7).
 pub fn go_on(
     lines: &mut Lines,
     frame: &mut Frame,
-    m: &Macroblock,
-    residuals: &Residuals,
-    coded: &Coded<'_>,
+    recipe: &Recipe<'_>,
     pool: &Pool,
-    column: usize,
-    row: usize,
+    position: Position,
 )
-    requires usable { AreUsable pool.now column row (prediction_in m.now.prediction) }
-    requires y { (16 * column + 16 ≤ frame.old.y.width) × (16 * row + 16 ≤ frame.old.y.height) }
-    requires cb { (8 * column + 8 ≤ frame.old.cb.width) × (8 * row + 8 ≤ frame.old.cb.height) }
-    requires cr { (8 * column + 8 ≤ frame.old.cr.width) × (8 * row + 8 ≤ frame.old.cr.height) }
-    requires small { (column < 1024) × (row < 1024) }
-    requires y_lines { 16 * column + 16 ≤ vec_len lines.old.y.above }
-    requires cb_lines { 8 * column + 8 ≤ vec_len lines.old.cb.above }
-    requires cr_lines { 8 * column + 8 ≤ vec_len lines.old.cr.above }
-    requires more { IsTrue m.now.available.above_right → 16 * column + 20 ≤ vec_len lines.old.y.above }
+    requires usable { AreUsable pool.now position.column position.row (prediction_in recipe.now.m.prediction) }
+    requires y { (16 * position.column + 16 ≤ frame.old.y.width) × (16 * position.row + 16 ≤ frame.old.y.height) }
+    requires cb { (8 * position.column + 8 ≤ frame.old.cb.width) × (8 * position.row + 8 ≤ frame.old.cb.height) }
+    requires cr { (8 * position.column + 8 ≤ frame.old.cr.width) × (8 * position.row + 8 ≤ frame.old.cr.height) }
+    requires small { (position.column < 1024) × (position.row < 1024) }
+    requires y_lines { 16 * position.column + 16 ≤ vec_len lines.old.y.above }
+    requires cb_lines { 8 * position.column + 8 ≤ vec_len lines.old.cb.above }
+    requires cr_lines { 8 * position.column + 8 ≤ vec_len lines.old.cr.above }
+    requires more { IsTrue recipe.now.m.available.above_right → 16 * position.column + 20 ≤ vec_len lines.old.y.above }
     ensures lines { (p : Component) → vec_len (store_of p lines.new).above ≡ vec_len (store_of p lines.old).above }
     ensures size { (p : Component) → IsSized (plane_of p frame.new) (plane_of p frame.old).width (plane_of p frame.old).height }
     ensures held { (k : Setting) (place : ℕ → ℕ) (slices : ℕ → Parameters) (picture : List CodedMacroblock) (q : CodedMacroblock) (l : Levels) →
-        length picture ≡ row * k.across + column → column < k.across → row < k.down → AreShown k pool.now (prediction_in m.now.prediction) →
-        AreResiduals l residuals.now → IsPossible (prediction_in m.now.prediction) m.now.available →
-        coded_as m.now l ≡ given_by k.across picture place (slices q.slice) q →
-        (coded.now.whole ≡ true → are_alike coded.now.own.now.motions ≡ true) → Keeps k.across picture coded.now.near.now → AreContexts coded.now.own.now q →
-        filters slices q.slice ≡ coded.now.filter.now → ((n : ℕ) → (filters slices
-        n).chroma_qp_index_offset ≡ coded.now.filter.now.chroma_qp_index_offset) → IsHeld k place slices lines.old frame.old picture →
+        length picture ≡ position.row * k.across + position.column → position.column < k.across → position.row < k.down →
+        AreShown k pool.now (prediction_in recipe.now.m.prediction) →
+        AreResiduals l recipe.now.residuals.now → IsPossible (prediction_in recipe.now.m.prediction) recipe.now.m.available →
+        coded_as recipe.now.m l ≡ given_by k.across picture place (slices q.slice) q →
+        (recipe.now.coded.whole ≡ true → are_alike recipe.now.coded.own.now.motions ≡ true) →
+        Keeps k.across picture recipe.now.coded.near.now → AreContexts recipe.now.coded.own.now q →
+        filters slices q.slice ≡ recipe.now.coded.filter.now → ((n : ℕ) → (filters slices
+        n).chroma_qp_index_offset ≡ recipe.now.coded.filter.now.chroma_qp_index_offset) → IsHeld k place slices lines.old frame.old picture →
         IsHeld k place slices lines.new frame.new (picture ++ q ∷ []) }
 {
-    construct(lines, frame, m, residuals, pool, column, row);
-    filter_coded(frame, coded, column, row);
+    construct(lines, frame, &recipe.m, recipe.residuals, pool, position);
+    filter_coded(frame, &recipe.coded, position.column, position.row);
 }

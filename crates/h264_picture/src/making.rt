@@ -13,13 +13,13 @@ ghost use Rattle.h264_recon.specs.Levels.{levels_of};
 ghost use Rattle.h264_recon.specs.Placed.{ArePlaced, PointsInto, weights_by};
 ghost use Rattle.h264_recon.specs.Predicted.{prediction_in};
 
-use crate::in_place::go_on;
+use crate::in_place::{Recipe, go_on};
 use crate::levels::{residuals_if, residuals_of};
 use crate::sequence::Sequence;
 use h264_deblock::Coded;
 use h264_mbsyntax::Macroblock as Read;
 use h264_near::{Motion, Near};
-use h264_recon::{Available, Macroblock, SliceWeights, given, is_whole};
+use h264_recon::{Available, Macroblock, Position, SliceReferences, given, is_whole};
 use h264_vectors::SliceContext;
 
 /// The sides that intra prediction may use, in a row of so many macroblocks: to the right of the last one there is none.
@@ -40,29 +40,28 @@ fn within_row(available: Available, across: usize, column: usize) -> Available
     }
 }
 
-/// What constructs a macroblock that was read, at this column and row, where so many stand in a row.
+/// What constructs a macroblock that was read, at a position, where so many stand in a row.
 #[inline]
 fn given_within<'a>(
     read: &'a Read,
     near: &Near,
     slice: &SliceContext,
-    places: &'a [u8; 16],
-    weights: &'a SliceWeights,
+    references: &SliceReferences<'a>,
     across: usize,
-    column: usize,
-    row: usize,
+    position: Position,
 ) -> Macroblock<'a>
-    requires small { column < 1024 }
-    ensures points { PointsInto places.now (prediction_in result.prediction) }
-    ensures more { IsTrue result.available.above_right → column + 1 < across }
+    requires small { position.column < 1024 }
+    ensures points { PointsInto references.now.places.now (prediction_in result.prediction) }
+    ensures more { IsTrue result.available.above_right → position.column + 1 < across }
     ensures given { (width : ℕ) (picture : List CodedMacroblock) (place : ℕ → ℕ) (coded : CodedMacroblock) → across ≡ width →
-        Keeps width picture near.now → length picture ≡ row * width + column → column < width → HoldsMacroblock read.now coded →
-        coded.slice ≡ slice.now.number → IsPossible width slice.now picture coded.prediction → ArePlaced slice.now places.now place →
+        Keeps width picture near.now → length picture ≡ position.row * width + position.column → position.column < width →
+        HoldsMacroblock read.now coded → coded.slice ≡ slice.now.number → IsPossible width slice.now picture coded.prediction →
+        ArePlaced slice.now references.now.places.now place →
         coded_as result (levels_of slice.now.chroma_qp_index_offset coded) ≡ given_of width picture place
-        (weights_by weights.now) slice.now.constrained_intra slice.now.chroma_qp_index_offset coded }
+        (weights_by references.now.weights.now) slice.now.constrained_intra slice.now.chroma_qp_index_offset coded }
 {
-    let mut m = given(read, near, slice, places, weights, column, row);
-    m.available = within_row(m.available, across, column);
+    let mut m = given(read, near, slice, references, position);
+    m.available = within_row(m.available, across, position.column);
     m
 }
 
@@ -104,32 +103,28 @@ impl Sequence {
     {
         let (read, near) = (&self.mb, &self.near);
         let residuals = residuals_if(has_levels, &self.residuals);
+        let references = SliceReferences {
+            places: &self.places,
+            weights: &self.weights,
+        };
+        let position = Position {
+            column: self.column,
+            row: self.row,
+        };
+        let m = given_within(read, near, slice, &references, self.across, position);
         let coded = Coded {
             near,
             own: &read.contexts,
             whole: moves_as_one(read),
             filter: &self.filter,
         };
-        let m = given_within(
-            read,
-            near,
-            slice,
-            &self.places,
-            &self.weights,
-            self.across,
-            self.column,
-            self.row,
-        );
-        go_on(
-            &mut self.lines,
-            &mut self.frames.frame,
-            &m,
+        let recipe = Recipe {
+            m,
             residuals,
-            &coded,
-            &self.frames.pool,
-            self.column,
-            self.row,
-        );
+            coded,
+        };
+        let (frame, pool) = (&mut self.frames.frame, &self.frames.pool);
+        go_on(&mut self.lines, frame, &recipe, pool, position);
     }
 
     /// Makes the samples of the macroblock that was read in its place, if each value of its transform is in range.

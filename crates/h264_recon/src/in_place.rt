@@ -20,7 +20,7 @@ use crate::blocks::luma4;
 use crate::inter::predict;
 use crate::intra::{neighbours_chroma, neighbours16};
 use crate::macroblock::{
-    Available, IntraLuma, IntraModes, Macroblock, Motions, Prediction, Weighting,
+    Available, IntraLuma, IntraModes, Macroblock, Motions, Position, Prediction, Weighting,
 };
 use crate::pcm;
 use crate::store::{Lines, Samples, Store};
@@ -98,24 +98,23 @@ fn make_intra(
     lines.last.cr = chroma_intra(modes.chroma, available, &residuals.cr, &lines.cr, column);
 }
 
-/// Constructs the samples of an inter macroblock at this column and row.
+/// Constructs the samples of an inter macroblock at its position.
 #[inline(always)]
 fn make_inter(
     motions: &Motions,
     weighting: Weighting,
     residuals: &Residuals,
     pool: &Pool,
-    column: usize,
-    row: usize,
+    position: Position,
     own: &mut Samples,
 )
-    requires usable { HaveRoom pool.now column row (motions_in motions.now) }
-    requires small { (column < 1024) × (row < 1024) }
-    ensures { (k : Setting) (m : Coded) (lines : Lines) → column < k.across → row < k.down → m.prediction ≡ Inter (motions_in motions.now) →
+    requires usable { HaveRoom pool.now position.column position.row (motions_in motions.now) }
+    requires small { (position.column < 1024) × (position.row < 1024) }
+    ensures { (k : Setting) (m : Coded) (lines : Lines) → position.column < k.across → position.row < k.down → m.prediction ≡ Inter (motions_in motions.now) →
         m.weights ≡ weights_in weighting.entry → AreShown k pool.now m.prediction → AreResiduals m.levels residuals.now →
-        AreMadeFrom k column row m lines own.new }
+        AreMadeFrom k position.column position.row m lines own.new }
 {
-    predict(motions, pool, column, row, own);
+    predict(motions, pool, position.column, position.row, own);
     weigh_all(weighting, own);
     add::<256>(&mut own.y, &residuals.y);
     add::<64>(&mut own.cb, &residuals.cb);
@@ -124,30 +123,25 @@ fn make_inter(
 
 /// Constructs the samples of a macroblock in the place of those of the one before it.
 #[inline(always)]
-fn make(
-    m: &Macroblock,
-    residuals: &Residuals,
-    lines: &mut Lines,
-    pool: &Pool,
-    column: usize,
-    row: usize,
-)
-    requires usable { AreUsable pool.now column row (prediction_in m.now.prediction) }
-    requires y_lines { 16 * column + 16 ≤ vec_len lines.old.y.above }
-    requires cb_lines { 8 * column + 8 ≤ vec_len lines.old.cb.above }
-    requires cr_lines { 8 * column + 8 ≤ vec_len lines.old.cr.above }
-    requires more { IsTrue m.now.available.above_right → 16 * column + 20 ≤ vec_len lines.old.y.above }
-    requires small { (column < 1024) × (row < 1024) }
-    ensures made { (k : Setting) (l : Levels) → column < k.across → row < k.down → IsPossible (prediction_in m.now.prediction) m.now.available →
+fn make(m: &Macroblock, residuals: &Residuals, lines: &mut Lines, pool: &Pool, position: Position)
+    requires usable { AreUsable pool.now position.column position.row (prediction_in m.now.prediction) }
+    requires y_lines { 16 * position.column + 16 ≤ vec_len lines.old.y.above }
+    requires cb_lines { 8 * position.column + 8 ≤ vec_len lines.old.cb.above }
+    requires cr_lines { 8 * position.column + 8 ≤ vec_len lines.old.cr.above }
+    requires more { IsTrue m.now.available.above_right → 16 * position.column + 20 ≤ vec_len lines.old.y.above }
+    requires small { (position.column < 1024) × (position.row < 1024) }
+    ensures made { (k : Setting) (l : Levels) → position.column < k.across → position.row < k.down → IsPossible (prediction_in m.now.prediction) m.now.available →
         AreShown k pool.now (prediction_in m.now.prediction) → AreResiduals l residuals.now →
-        AreMadeFrom k column row (coded m.now l) lines.old lines.new.last }
+        AreMadeFrom k position.column position.row (coded m.now l) lines.old lines.new.last }
     ensures above { (p : Component) → (store_of p lines.new).above ≡ (store_of p lines.old).above }
 {
     match &m.prediction {
-        Prediction::Intra(modes) => make_intra(modes, m.available, residuals, lines, column),
+        Prediction::Intra(modes) => {
+            make_intra(modes, m.available, residuals, lines, position.column);
+        }
         Prediction::Inter(motions) => {
             let own = &mut lines.last;
-            make_inter(motions, m.weighting, residuals, pool, column, row, own);
+            make_inter(motions, m.weighting, residuals, pool, position, own);
         }
         Prediction::Pcm(samples) => pcm::put(samples, &mut lines.last),
     }
@@ -181,7 +175,7 @@ fn save(lines: &mut Lines, column: usize)
     lines.cr.save_chroma(column, &lines.last.cr);
 }
 
-/// Constructs the macroblock at this column and row of macroblocks in the frame, from the lines, and brings these up to date. Touches each of
+/// Constructs the macroblock at a position in the frame, from the lines, and brings these up to date. Touches each of
 /// its samples, and no other one of the frame.
 pub fn construct(
     lines: &mut Lines,
@@ -189,29 +183,28 @@ pub fn construct(
     m: &Macroblock,
     residuals: &Residuals,
     pool: &Pool,
-    column: usize,
-    row: usize,
+    position: Position,
 )
-    requires usable { AreUsable pool.now column row (prediction_in m.now.prediction) }
-    requires y { (16 * column + 16 ≤ frame.old.y.width) × (16 * row + 16 ≤ frame.old.y.height) }
-    requires cb { (8 * column + 8 ≤ frame.old.cb.width) × (8 * row + 8 ≤ frame.old.cb.height) }
-    requires cr { (8 * column + 8 ≤ frame.old.cr.width) × (8 * row + 8 ≤ frame.old.cr.height) }
-    requires small { (column < 1024) × (row < 1024) }
-    requires y_lines { 16 * column + 16 ≤ vec_len lines.old.y.above }
-    requires cb_lines { 8 * column + 8 ≤ vec_len lines.old.cb.above }
-    requires cr_lines { 8 * column + 8 ≤ vec_len lines.old.cr.above }
-    requires more { IsTrue m.now.available.above_right → 16 * column + 20 ≤ vec_len lines.old.y.above }
+    requires usable { AreUsable pool.now position.column position.row (prediction_in m.now.prediction) }
+    requires y { (16 * position.column + 16 ≤ frame.old.y.width) × (16 * position.row + 16 ≤ frame.old.y.height) }
+    requires cb { (8 * position.column + 8 ≤ frame.old.cb.width) × (8 * position.row + 8 ≤ frame.old.cb.height) }
+    requires cr { (8 * position.column + 8 ≤ frame.old.cr.width) × (8 * position.row + 8 ≤ frame.old.cr.height) }
+    requires small { (position.column < 1024) × (position.row < 1024) }
+    requires y_lines { 16 * position.column + 16 ≤ vec_len lines.old.y.above }
+    requires cb_lines { 8 * position.column + 8 ≤ vec_len lines.old.cb.above }
+    requires cr_lines { 8 * position.column + 8 ≤ vec_len lines.old.cr.above }
+    requires more { IsTrue m.now.available.above_right → 16 * position.column + 20 ≤ vec_len lines.old.y.above }
     ensures lines { (p : Component) → vec_len (store_of p lines.new).above ≡ vec_len (store_of p lines.old).above }
     ensures size { (p : Component) → IsSized (plane_of p frame.new) (plane_of p frame.old).width (plane_of p frame.old).height }
-    ensures step { (k : Setting) (l : Levels) (u : Component → ℕ → ℕ → ℕ) → column < k.across → row < k.down →
-        IsAllowed (coded m.now l) k.across column row → AreShown k pool.now (prediction_in m.now.prediction) → AreResiduals l residuals.now →
-        IsMade k column row (coded m.now l) u → AreStored k.across column row u lines.old → AreStored k.across (column + 1) row u lines.new
-        × HasMacroblock column row u frame.old frame.new }
-    ensures some { (k : Setting) (l : Levels) (u : Component → ℕ → ℕ → ℕ) → column < k.across → row < k.down →
-        IsAllowed (coded m.now l) k.across column row → AreShown k pool.now (prediction_in m.now.prediction) → AreResiduals l residuals.now →
-        AreStored k.across column row u lines.old → IsMade k column row (coded m.now l) (joined column row frame.new u) }
+    ensures step { (k : Setting) (l : Levels) (u : Component → ℕ → ℕ → ℕ) → position.column < k.across → position.row < k.down →
+        IsAllowed (coded m.now l) k.across position.column position.row → AreShown k pool.now (prediction_in m.now.prediction) → AreResiduals l residuals.now →
+        IsMade k position.column position.row (coded m.now l) u → AreStored k.across position.column position.row u lines.old → AreStored k.across (position.column + 1) position.row u lines.new
+        × HasMacroblock position.column position.row u frame.old frame.new }
+    ensures some { (k : Setting) (l : Levels) (u : Component → ℕ → ℕ → ℕ) → position.column < k.across → position.row < k.down →
+        IsAllowed (coded m.now l) k.across position.column position.row → AreShown k pool.now (prediction_in m.now.prediction) → AreResiduals l residuals.now →
+        AreStored k.across position.column position.row u lines.old → IsMade k position.column position.row (coded m.now l) (joined position.column position.row frame.new u) }
 {
-    make(m, residuals, lines, pool, column, row);
-    place(frame, column, row, &lines.last);
-    save(lines, column);
+    make(m, residuals, lines, pool, position);
+    place(frame, position.column, position.row, &lines.last);
+    save(lines, position.column);
 }

@@ -16,10 +16,9 @@ ghost use Rattle.h264_recon.specs.Predicted.{motions_in, prediction_in, placed_m
 ghost use Rattle.h264_recon.specs.Placed.{ArePlaced, IsOneOf, PointsInto, weights_by};
 
 use crate::macroblock::{
-    Available, IntraLuma, IntraModes, Macroblock, Motion, Motions, PlacedMotions, Prediction,
-    Weighting,
+    Available, IntraLuma, IntraModes, Macroblock, Motion, Motions, PlacedMotions, Position,
+    Prediction, SliceReferences, Weighting,
 };
-use crate::weights::SliceWeights;
 use h264_inter::MotionVector;
 use h264_intra::{Intra4x4PredMode, Intra16x16PredMode, IntraChromaPredMode};
 use h264_mbsyntax::{Kind, Macroblock as Read};
@@ -259,33 +258,30 @@ fn count(references: &[Option<u64>; 16]) -> usize
     references.len()
 }
 
-/// What a macroblock that was read, after those that `near` keeps and at this column and row of macroblocks, gives to its construction: the sides
-/// that intra prediction may use, its modes, motions or samples, and the weights of the latter. `places` are those of the reference pictures in the
-/// pool of frames, and `weights` are the weights, both by refIdxL0.
+/// What a macroblock that was read, after those that `near` keeps and at this position, gives to its construction: the sides that intra prediction may
+/// use, its modes, motions or samples, and the weights of the latter.
 pub fn given<'a>(
     read: &'a Read,
     near: &Near,
     slice: &SliceContext,
-    places: &'a [u8; 16],
-    weights: &'a SliceWeights,
-    column: usize,
-    row: usize,
+    references: &SliceReferences<'a>,
+    position: Position,
 ) -> Macroblock<'a>
-    requires small { column < 1024 }
-    ensures within { IsWithin result.available (width_of near.now) column row }
-    ensures points { PointsInto places.now (prediction_in result.prediction) }
+    requires small { position.column < 1024 }
+    ensures within { IsWithin result.available (width_of near.now) position.column position.row }
+    ensures points { PointsInto references.now.places.now (prediction_in result.prediction) }
     ensures given { (width : ℕ) (picture : List CodedMacroblock) (place : ℕ → ℕ) (coded : CodedMacroblock) → Keeps width picture near.now →
-        length picture ≡ row * width + column → column < width → HoldsMacroblock read.now coded → coded.slice ≡ slice.now.number →
-        IsPossible width slice.now picture coded.prediction → ArePlaced slice.now places.now place →
+        length picture ≡ position.row * width + position.column → position.column < width → HoldsMacroblock read.now coded → coded.slice ≡ slice.now.number →
+        IsPossible width slice.now picture coded.prediction → ArePlaced slice.now references.now.places.now place →
         coded_as result (levels_of slice.now.chroma_qp_index_offset coded) ≡ given_of width picture place
-        (weights_by weights.now) slice.now.constrained_intra slice.now.chroma_qp_index_offset coded }
+        (weights_by references.now.weights.now) slice.now.constrained_intra slice.now.chroma_qp_index_offset coded }
 {
     let _all = count(&slice.references);
     Macroblock {
-        available: used(read, near, slice, column, row),
-        prediction: prediction(read, places),
+        available: used(read, near, slice, position.column, position.row),
+        prediction: prediction(read, references.places),
         weighting: Weighting {
-            weights,
+            weights: references.weights,
             motions: &read.contexts.motions,
             whole: is_whole(read),
         },

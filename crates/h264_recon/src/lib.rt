@@ -26,8 +26,8 @@ mod weights;
 pub use in_place::construct;
 pub use input::{available, given, is_whole};
 pub use macroblock::{
-    Available, IntraLuma, IntraModes, Macroblock, Motion, Motions, PlacedMotions, Prediction,
-    Weighting,
+    Available, IntraLuma, IntraModes, Macroblock, Motion, Motions, PlacedMotions, Position,
+    Prediction, SliceReferences, Weighting,
 };
 pub use scaled::residuals;
 pub use store::{Lines, Samples, Store};

@@ -28,6 +28,22 @@ pub struct IntraModes {
     pub chroma: IntraChromaPredMode,
 }
 
+/// Where a macroblock stands in its picture: how many macroblocks stand to its left, and how many rows of them above it.
+#[derive(Clone, Copy)]
+pub struct Position {
+    pub column: usize,
+    pub row: usize,
+}
+
+/// What the reference indexes of a slice stand for.
+#[derive(Clone, Copy)]
+pub struct SliceReferences<'a> {
+    /// The places of the reference pictures in the pool of frames, by refIdxL0.
+    pub places: &'a [u8; 16],
+    /// The weights of their samples, likewise.
+    pub weights: &'a SliceWeights,
+}
+
 /// The reference picture and the vector of a 4x4 place.
 #[derive(Clone, Copy)]
 pub struct Motion {

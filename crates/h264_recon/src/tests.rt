@@ -2,8 +2,8 @@ ghost use Rattle.std.specs.Prelude.{◌≡◌, ◌<◌, ◌≤◌, vec_len, leng
 
 use crate::input::placed;
 use crate::{
-    Available, IntraLuma, IntraModes, Lines, Macroblock, Motion, Motions, Prediction, SliceWeights,
-    Weighting, available, construct, given, residuals,
+    Available, IntraLuma, IntraModes, Lines, Macroblock, Motion, Motions, Position, Prediction,
+    SliceReferences, SliceWeights, Weighting, available, construct, given, residuals,
 };
 use h264_base::{SliceType, Weight, Weights};
 use h264_inter::MotionVector;
@@ -83,10 +83,9 @@ fn put_samples(
     canvas: &mut Canvas,
     pool: &Pool,
     samples: &[u8; 384],
-    column: usize,
-    row: usize,
+    position: Position,
 ) {
-    assert_room(rt, canvas, column, row);
+    assert_room(rt, canvas, position.column, position.row);
     let weights = SliceWeights::NONE;
     let m = Macroblock {
         available: NO_SIDE,
@@ -99,8 +98,7 @@ fn put_samples(
         &m,
         &zero(),
         pool,
-        column,
-        row,
+        position,
     );
 }
 
@@ -112,10 +110,9 @@ fn put_intra(
     available: Available,
     modes: IntraModes,
     y: [i16; 256],
-    column: usize,
-    row: usize,
+    position: Position,
 ) {
-    assert_room(rt, canvas, column, row);
+    assert_room(rt, canvas, position.column, position.row);
     let weights = SliceWeights::NONE;
     let m = Macroblock {
         available,
@@ -132,8 +129,7 @@ fn put_intra(
         &m,
         &residuals,
         pool,
-        column,
-        row,
+        position,
     );
 }
 
@@ -144,10 +140,9 @@ fn put_inter(
     pool: &Pool,
     vector: MotionVector,
     weighting: Weighting,
-    column: usize,
-    row: usize,
+    position: Position,
 ) {
-    assert_room(rt, canvas, column, row);
+    assert_room(rt, canvas, position.column, position.row);
     assert_eq!(rt; pool.len(), 2);
     let reference = pool.frame(1);
     assert_eq!(rt; reference.y.width(), 32);
@@ -168,8 +163,7 @@ fn put_inter(
         &m,
         &zero(),
         pool,
-        column,
-        row,
+        position,
     );
 }
 
@@ -236,7 +230,13 @@ fn begin(rt: &(impl Abort + AllocGlobal)) -> Result<(Canvas, Pool), AllocError> 
 
 /// Macroblock 0 is I_PCM. Macroblock 1 goes on from its right column.
 fn beside_raw(rt: &impl Abort, canvas: &mut Canvas, pool: &Pool) {
-    put_samples(rt, canvas, pool, &counting(), 0, 0);
+    put_samples(
+        rt,
+        canvas,
+        pool,
+        &counting(),
+        Position { column: 0, row: 0 },
+    );
     let left = Available {
         left: true,
         ..NO_SIDE
@@ -245,7 +245,15 @@ fn beside_raw(rt: &impl Abort, canvas: &mut Canvas, pool: &Pool) {
         luma: IntraLuma::Whole(Intra16x16PredMode::Horizontal),
         chroma: IntraChromaPredMode::Horizontal,
     };
-    put_intra(rt, canvas, pool, left, whole, [0; 256], 1, 0);
+    put_intra(
+        rt,
+        canvas,
+        pool,
+        left,
+        whole,
+        [0; 256],
+        Position { column: 1, row: 0 },
+    );
     assert_eq!(rt; get(rt, &canvas.frame.y, 7, 9), 151);
     assert_eq!(rt; get(rt, &canvas.frame.y, 31, 9), 159);
     assert_eq!(rt; get(rt, &canvas.frame.cb, 15, 7), 100);
@@ -278,7 +286,15 @@ fn below_raw(rt: &impl Abort, canvas: &mut Canvas, pool: &Pool) {
     };
     let mut residual = [0; 256];
     residual[16 * 5 + 2] = 7;
-    put_intra(rt, canvas, pool, above, blocks, residual, 0, 1);
+    put_intra(
+        rt,
+        canvas,
+        pool,
+        above,
+        blocks,
+        residual,
+        Position { column: 0, row: 1 },
+    );
     expect_four(rt, canvas, 0, 16, [240, 241, 242, 243]);
     expect_four(rt, canvas, 0, 21, [240, 241, 249, 243]);
     expect_four(rt, canvas, 0, 22, [240, 241, 242, 243]);
@@ -290,7 +306,14 @@ fn below_raw(rt: &impl Abort, canvas: &mut Canvas, pool: &Pool) {
 fn moved_macroblock(rt: &impl Abort, canvas: &mut Canvas, pool: &Pool) {
     let weights = SliceWeights::NONE;
     let vector = MotionVector { x: -8, y: -4 };
-    put_inter(rt, canvas, pool, vector, unweighted(&weights), 1, 1);
+    put_inter(
+        rt,
+        canvas,
+        pool,
+        vector,
+        unweighted(&weights),
+        Position { column: 1, row: 1 },
+    );
     assert_eq!(rt; get(rt, &canvas.frame.y, 16, 16), 117);
     assert_eq!(rt; get(rt, &canvas.frame.y, 31, 31), 237);
     assert_eq!(rt; get(rt, &canvas.frame.cb, 8, 8), 57);
@@ -345,8 +368,7 @@ fn weighted_macroblock(rt: &impl Abort, canvas: &mut Canvas, pool: &Pool) {
         pool,
         MotionVector { x: 0, y: 0 },
         weighting,
-        1,
-        1,
+        Position { column: 1, row: 1 },
     );
     assert_eq!(rt; get(rt, &canvas.frame.y, 16, 16), 64);
     assert_eq!(rt; get(rt, &canvas.frame.y, 24, 16), 132);
@@ -420,12 +442,26 @@ fn two_read(rt: &(impl Abort + AllocGlobal)) -> Result<(Near, Read), AllocError>
     Ok((near, read))
 }
 
+/// What the reference indexes stand for.
+fn references<'a>(weights: &'a SliceWeights) -> SliceReferences<'a> {
+    SliceReferences {
+        places: &PLACES,
+        weights,
+    }
+}
+
 /// The first macroblock, which moves. Block 4 stands in the third column of the first row.
 fn moved_as_read(rt: &(impl Abort + AllocGlobal)) -> Result<(), AllocError> {
     let weights = SliceWeights::NONE;
     let near = Near::new(rt.alloc(), 2)?;
     let read = moved();
-    let first = given(&read, &near, &SLICE, &PLACES, &weights, 0, 0);
+    let first = given(
+        &read,
+        &near,
+        &SLICE,
+        &references(&weights),
+        Position { column: 0, row: 0 },
+    );
     assert!(rt; !first.available.left && !first.available.above && !first.available.above_right);
     match first.prediction {
         Prediction::Inter(Motions::Each(each)) => {
@@ -475,7 +511,13 @@ fn are_its_modes(modes: &IntraModes) -> bool {
 fn intra_as_read(rt: &(impl Abort + AllocGlobal)) -> Result<(), AllocError> {
     let weights = SliceWeights::NONE;
     let (near, read) = two_read(rt)?;
-    let intra = given(&read, &near, &SLICE, &PLACES, &weights, 0, 1);
+    let intra = given(
+        &read,
+        &near,
+        &SLICE,
+        &references(&weights),
+        Position { column: 0, row: 1 },
+    );
     assert!(rt; intra.available.above && intra.available.above_right && !intra.available.left);
     match intra.prediction {
         Prediction::Intra(modes) => assert!(rt; are_its_modes(&modes)),
@@ -493,7 +535,15 @@ fn others_as_read(rt: &(impl Abort + AllocGlobal)) -> Result<(), AllocError> {
     let weights = SliceWeights::NONE;
     let (near, mut read) = two_read(rt)?;
     read.kind = Kind::Intra16x16 { mode: 3 };
-    match given(&read, &near, &SLICE, &PLACES, &weights, 0, 1).prediction {
+    match given(
+        &read,
+        &near,
+        &SLICE,
+        &references(&weights),
+        Position { column: 0, row: 1 },
+    )
+    .prediction
+    {
         Prediction::Intra(modes) => {
             assert!(rt; matches!(modes.luma, IntraLuma::Whole(Intra16x16PredMode::Plane)));
         }
@@ -503,7 +553,15 @@ fn others_as_read(rt: &(impl Abort + AllocGlobal)) -> Result<(), AllocError> {
     read.pcm[255] = 1;
     read.pcm[256] = 2;
     read.pcm[383] = 3;
-    match given(&read, &near, &SLICE, &PLACES, &weights, 0, 1).prediction {
+    match given(
+        &read,
+        &near,
+        &SLICE,
+        &references(&weights),
+        Position { column: 0, row: 1 },
+    )
+    .prediction
+    {
         Prediction::Pcm(samples) => {
             assert_eq!(rt; (samples[255], samples[256], samples[383]), (1, 2, 3));
         }

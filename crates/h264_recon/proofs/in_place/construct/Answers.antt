@@ -11,22 +11,22 @@ returns-clause-step c =
     λ k l u inside below ok shown is mu held.
     let m = coded a.m.now l in
     let made = c.make.ensures.made k l inside below ok.possible shown is in (
-      stored_next k a.column a.row m u a.lines.now lines c.save.new.lines inside ok.within ok.possible mu held made c.make.ensures.above c.save.ensures,
-      shows k a.column a.row m u a.lines.now (samples_of lines.last) a.frame.now c.place.new.frame inside ok.within ok.possible mu held made c.place.ensures,
+      stored_next k a.position.column a.position.row m u a.lines.now lines c.save.new.lines inside ok.within ok.possible mu held made c.make.ensures.above c.save.ensures,
+      shows k a.position.column a.position.row m u a.lines.now (samples_of lines.last) a.frame.now c.place.new.frame inside ok.within ok.possible mu held made c.place.ensures,
     )
 
 pub returns-clause-some : goal.returns-clause-some
 returns-clause-some c =
     let a = c.args in
     λ k l u inside below ok shown is held.
-    joined_made k a.column a.row (coded a.m.now l) u a.lines.now (samples_of c.make.new.lines.last) a.frame.now c.place.new.frame inside ok.within ok.possible held (c.make.ensures.made k l inside below ok.possible shown is)
-    (room_all a.column a.row a.frame.now c.requires.y c.requires.cb c.requires.cr) c.place.ensures
+    joined_made k a.position.column a.position.row (coded a.m.now l) u a.lines.now (samples_of c.make.new.lines.last) a.frame.now c.place.new.frame inside ok.within ok.possible held (c.make.ensures.made k l inside below ok.possible shown is)
+    (room_all a.position.column a.position.row a.frame.now c.requires.y c.requires.cb c.requires.cr) c.place.ensures
 
 pub returns-clause-size : goal.returns-clause-size
 returns-clause-size c = λ p. record { columns = (c.place.ensures p).width; rows = (c.place.ensures p).height }
 
 pub returns-clause-lines : goal.returns-clause-lines
-returns-clause-lines c = λ p. (saved_from c.args.column c.args.lines.now c.make.new.lines c.save.new.lines c.make.ensures.above c.save.ensures p).size
+returns-clause-lines c = λ p. (saved_from c.args.position.column c.args.lines.now c.make.new.lines c.save.new.lines c.make.ensures.above c.save.ensures p).size
 
 pub save-requires-clause-y : goal.save-requires-clause-y
 save-requires-clause-y c = rw (c.make.ensures.above Y) c.requires.y_lines
