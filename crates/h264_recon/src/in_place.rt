@@ -130,7 +130,8 @@ fn make(m: &Macroblock, residuals: &Residuals, lines: &mut Lines, pool: &Pool, p
     requires cr_lines { 8 * position.column + 8 ≤ vec_len lines.old.cr.above }
     requires more { IsTrue m.now.available.above_right → 16 * position.column + 20 ≤ vec_len lines.old.y.above }
     requires small { (position.column < 1024) × (position.row < 1024) }
-    ensures made { (k : Setting) (l : Levels) → position.column < k.across → position.row < k.down → IsPossible (prediction_in m.now.prediction) m.now.available →
+    ensures made { (k : Setting) (l : Levels) → position.column < k.across → position.row < k.down →
+        IsPossible (prediction_in m.now.prediction) m.now.available →
         AreShown k pool.now (prediction_in m.now.prediction) → AreResiduals l residuals.now →
         AreMadeFrom k position.column position.row (coded m.now l) lines.old lines.new.last }
     ensures above { (p : Component) → (store_of p lines.new).above ≡ (store_of p lines.old).above }
@@ -198,11 +199,12 @@ pub fn construct(
     ensures size { (p : Component) → IsSized (plane_of p frame.new) (plane_of p frame.old).width (plane_of p frame.old).height }
     ensures step { (k : Setting) (l : Levels) (u : Component → ℕ → ℕ → ℕ) → position.column < k.across → position.row < k.down →
         IsAllowed (coded m.now l) k.across position.column position.row → AreShown k pool.now (prediction_in m.now.prediction) → AreResiduals l residuals.now →
-        IsMade k position.column position.row (coded m.now l) u → AreStored k.across position.column position.row u lines.old → AreStored k.across (position.column + 1) position.row u lines.new
-        × HasMacroblock position.column position.row u frame.old frame.new }
+        IsMade k position.column position.row (coded m.now l) u → AreStored k.across position.column position.row u lines.old →
+        AreStored k.across (position.column + 1) position.row u lines.new × HasMacroblock position.column position.row u frame.old frame.new }
     ensures some { (k : Setting) (l : Levels) (u : Component → ℕ → ℕ → ℕ) → position.column < k.across → position.row < k.down →
         IsAllowed (coded m.now l) k.across position.column position.row → AreShown k pool.now (prediction_in m.now.prediction) → AreResiduals l residuals.now →
-        AreStored k.across position.column position.row u lines.old → IsMade k position.column position.row (coded m.now l) (joined position.column position.row frame.new u) }
+        AreStored k.across position.column position.row u lines.old →
+        IsMade k position.column position.row (coded m.now l) (joined position.column position.row frame.new u) }
 {
     make(m, residuals, lines, pool, position);
     place(frame, position.column, position.row, &lines.last);
