@@ -46,6 +46,7 @@ pub mod Sources
 pub mod Within
 pub mod Verdicts
 pub mod Derivation
+pub mod Handing
 pub mod Heard
 pub mod Alike
 pub mod Named

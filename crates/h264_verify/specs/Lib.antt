@@ -29,5 +29,6 @@ pub mod Predicting
 pub mod Decodable
 pub mod Progress
 pub mod Verdict
+pub mod Giving
 pub mod Feeding
 pub mod Family

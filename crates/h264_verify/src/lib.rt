@@ -24,7 +24,7 @@ pub mod data;
 pub mod decoder;
 mod frame_num;
 mod head;
-mod kinds;
+pub mod kinds;
 pub mod laws;
 pub mod picture;
 pub mod rules;

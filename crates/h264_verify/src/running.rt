@@ -3,12 +3,13 @@
 
 ghost use Rattle.std.specs.Prelude.{◌≡◌, ℕ, ◌+◌, ◌-◌, ◌*◌, ◌<◌, ◌≤◌, ◌^◌, ◌⊎◌, List, [], ◌∷◌, ◌++◌, length, take, OnOk, OnErr, IfOk, IfErr, Ok, Err};
 ghost use Rattle.h264_base.specs.Call.{HasRoom, IsQuiet};
-ghost use Rattle.std.specs.Prelude.{None, Some, IsErrOf, IsTrue, IsFalse};
+ghost use Rattle.std.specs.Prelude.{Bool, true, false, None, Some, IsErrOf, IsTrue, IsFalse};
 ghost use Rattle.std.specs.List.{flat_map};
 ghost use Rattle.h264_verify.specs.Units.{terms_of};
 ghost use Rattle.h264_verify.specs.declared.state.Terms.{Terms};
 ghost use Rattle.h264_plane.specs.declared.frame.Frame.{Frame};
 ghost use Rattle.h264_verify.specs.Feeding.{FedOn, JudgesWith};
+ghost use Rattle.h264_verify.specs.Giving.{Gives};
 ghost use Rattle.h264_verify.specs.Verdict.{Judged};
 
 use crate::Summary;
@@ -47,12 +48,13 @@ fn turn<R: Source, S: FrameSink>(
         FedOn terms S.took (R.left source.old) bytes session.old first sink.old → S.failures sink.old ≡ S.failures first →
         JudgesWith terms S.took S.failures bytes first sink.new (Err stop)) }
     // What the source gave so far, whether it tells or not.
-    ensures heard { IfOk result (λ more. IsTrue more → (terms : Terms) (bytes : List ℕ) (first : _) →
-        FedOn terms S.took (Some []) bytes session.old first sink.old → (piece : List ℕ)
-        × FedOn terms S.took (Some []) (bytes ++ piece) session.new first sink.new) }
-    ensures heard_stop { IfErr result (λ stop. (terms : Terms) (bytes : List ℕ) (first : _) →
-        FedOn terms S.took (Some []) bytes session.old first sink.old → S.failures sink.old ≡ S.failures first → (piece : List ℕ)
-        × JudgesWith terms S.took S.failures (bytes ++ piece) first sink.new (Err stop)) }
+    ensures heard { IfOk result (λ more. IsTrue more → (given : List ℕ) × Gives R.left R.gave R.failures source.old source.new given false
+        × ((terms : Terms) (bytes : List ℕ) (first : _) → FedOn terms S.took (Some []) bytes session.old first sink.old →
+        FedOn terms S.took (Some []) (bytes ++ given) session.new first sink.new)) }
+    ensures heard_end { IfOk result (λ more. IsFalse more → Gives R.left R.gave R.failures source.old source.new [] true) }
+    ensures heard_stop { IfErr result (λ stop. (given : List ℕ) × Gives R.left R.gave R.failures source.old source.new given false
+        × ((terms : Terms) (bytes : List ℕ) (first : _) → FedOn terms S.took (Some []) bytes session.old first sink.old →
+        S.failures sink.old ≡ S.failures first → JudgesWith terms S.took S.failures (bytes ++ given) first sink.new (Err stop))) }
     ensures kept { OnOk result ((session.new.stop ≡ None) × (IsQuiet S.failures sink.old sink.new) × (IsQuiet R.failures source.old source.new)) }
     ensures again { (n : ℕ) → R.was_read source.old n → R.was_read source.new (n + 1) }
     ensures read { IsErrOf result Stop.Read → R.failures source.new ≡ R.failures source.old + 1 }
@@ -89,11 +91,12 @@ fn read_all<R: Source, S: FrameSink>(
         FedOn terms S.took (R.left source.old) bytes session.old first sink.old → S.failures sink.old ≡ S.failures first →
         JudgesWith terms S.took S.failures bytes first sink.new (Err stop)) }
     // What the source gave, whether it tells or not.
-    ensures heard { OnOk result ((terms : Terms) (bytes : List ℕ) (first : _) → FedOn terms S.took (Some []) bytes session.old first sink.old →
-        (more : List ℕ) × FedOn terms S.took (Some []) (bytes ++ more) session.new first sink.new) }
-    ensures heard_stop { IfErr result (λ stop. (terms : Terms) (bytes : List ℕ) (first : _) →
-        FedOn terms S.took (Some []) bytes session.old first sink.old → S.failures sink.old ≡ S.failures first → (more : List ℕ)
-        × JudgesWith terms S.took S.failures (bytes ++ more) first sink.new (Err stop)) }
+    ensures heard { OnOk result ((given : List ℕ) × Gives R.left R.gave R.failures source.old source.new given true
+        × ((terms : Terms) (bytes : List ℕ) (first : _) → FedOn terms S.took (Some []) bytes session.old first sink.old →
+        FedOn terms S.took (Some []) (bytes ++ given) session.new first sink.new)) }
+    ensures heard_stop { IfErr result (λ stop. (given : List ℕ) × Gives R.left R.gave R.failures source.old source.new given false
+        × ((terms : Terms) (bytes : List ℕ) (first : _) → FedOn terms S.took (Some []) bytes session.old first sink.old →
+        S.failures sink.old ≡ S.failures first → JudgesWith terms S.took S.failures (bytes ++ given) first sink.new (Err stop))) }
     ensures kept { OnOk result ((session.new.stop ≡ None) × (IsQuiet S.failures sink.old sink.new)) }
     ensures read { IsErrOf result Stop.Read → (R.failures source.new ≡ R.failures source.old + 1)
         ⊎ ((n : ℕ) → R.was_read source.old n → R.was_read source.new (n + 2 ^ 41)) }
@@ -127,8 +130,9 @@ pub fn run<R: Source, S: FrameSink>(
     // Yes, no and outside are those of the stream, with the calls up to there; memory, read and write come with the first calls.
     ensures verdict { (bytes : List ℕ) → R.left source.old ≡ Some bytes → (frames : ℕ → Frame) →
         Judged (terms_of mode target) S.took S.failures bytes frames [] sink.old sink.new result }
-    // Of a source whose bytes are not known it is the verdict on some bytes.
-    ensures some { (frames : ℕ → Frame) → (bytes : List ℕ) × Judged (terms_of mode target) S.took S.failures bytes frames [] sink.old sink.new result }
+    // Of any source it is the verdict on the bytes that it gave, and a yes comes after its end.
+    ensures some { (bytes : List ℕ) × (ended : Bool) × Gives R.left R.gave R.failures source.old source.new bytes ended × OnOk result (ended ≡ true)
+        × ((frames : ℕ → Frame) → Judged (terms_of mode target) S.took S.failures bytes frames [] sink.old sink.new result) }
     ensures read { IsErrOf result Stop.Read → (R.failures source.new ≡ R.failures source.old + 1)
         ⊎ ((n : ℕ) → R.was_read source.old n → R.was_read source.new (n + 2 ^ 41)) }
     // A read that failed is told as Read, and a write that failed as Write.

@@ -1,7 +1,7 @@
 //! Where the bytes of a stream come from.
 #![tactic(auto)]
 
-ghost use Rattle.std.specs.Prelude.{ℕ, ◌≡◌, ◌+◌, ◌-◌, ◌<◌, ◌≤◌, ◌^◌, List, [], ◌++◌, take, drop, length, Option, Some, OnOk, OnErr, IfOk, IfSome, IfNone};
+ghost use Rattle.std.specs.Prelude.{ℕ, ◌≡◌, ◌==◌, ◌+◌, ◌-◌, ◌<◌, ◌≤◌, ◌^◌, Bool, List, [], ◌++◌, take, drop, length, Option, Some, OnOk, OnErr, IfOk, IfSome, IfNone};
 ghost use Rattle.h264_base.specs.Call.{HasRoom, IsQuiet};
 
 use h264_base::Failed;
@@ -17,6 +17,9 @@ pub trait Source {
     /// How many reads failed.
     ghost failures: { Self → ℕ };
 
+    /// Whether these are the bytes that it gave so far, and whether it then said its end. Any, where that is not noted.
+    ghost gave: { Self → List ℕ → Bool → Type 0 } = { λ _ _ _. Unit {0} };
+
     /// Puts the next bytes at the piece's front, and answers how many: 0 at the end.
     /// None is an interrupted read, which is no failure and took no byte.
     fn read(&mut self, piece: &mut [u8]) -> Result<Option<usize>, Failed>
@@ -28,6 +31,10 @@ pub trait Source {
             × (left self.new ≡ Some (drop n bytes)))) }
         ensures end { IfOk result (λ o. IfSome o (λ n. (bytes : List ℕ) → left self.old ≡ Some bytes → n ≡ 0 → bytes ≡ [])) }
         ensures interrupted { IfOk result (λ o. IfNone o ((bytes : List ℕ) → left self.old ≡ Some bytes → left self.new ≡ Some bytes)) }
+        ensures gave { IfOk result (λ o. IfSome o (λ n. (before : List ℕ) (ended : Bool) → gave self.old before ended →
+            gave self.new (before ++ take n piece.new) (n == 0))) }
+        ensures gave_none { IfOk result (λ o. IfNone o ((before : List ℕ) (ended : Bool) → gave self.old before ended → gave self.new before ended)) }
+        ensures gave_failed { OnErr result ((before : List ℕ) (ended : Bool) → gave self.old before ended → gave self.new before ended) }
         ensures kept { OnOk result (IsQuiet failures self.old self.new) }
         ensures failed { OnErr result (failures self.new ≡ failures self.old + 1) };
 }

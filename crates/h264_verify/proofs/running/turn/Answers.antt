@@ -5,6 +5,7 @@ use Rattle.h264_base.specs.declared.stop.Stop.TheVariants.{Read, Write}
 use Rattle.h264_verify.proofs.Playing.{err-as}
 use Rattle.h264_verify.proofs.Finishing.{told-as}
 use Rattle.h264_verify.proofs.Verdicts.{fed-more, fed-again, fed-halts, fed-fails}
+use Rattle.h264_verify.proofs.Handing.{gives-failed, gives-interrupted, gives-piece, gives-end}
 use Rattle.h264_verify.proofs.Heard.{heard-more, heard-halts, heard-none, heard-fails}
 use Rattle.h264_verify.proofs.running.turn.Goals as goal
 
@@ -24,7 +25,8 @@ returns-in-Err g c = record {
   end = tt;
   stops = λ terms bytes first f k. fed-fails f k;
   heard = tt;
-  heard_stop = λ terms bytes first f k. ([], heard-fails f k);
+  heard_end = tt;
+  heard_stop = ([], gives-failed g.R.Source.left g.R.Source.gave g.R.Source.failures _ _ c.in-Err.ensures.gave_failed c.in-Err.ensures.failed, λ terms bytes first f k. heard-fails f k);
   kept = tt;
   again = c.read.ensures.again;
   read = λ h. c.in-Err.ensures.failed;
@@ -39,7 +41,8 @@ returns-in-Ok-None g c = record {
   more = λ h terms bytes first f. fed-again _ (rw c.in-Ok-None.field-0-is at c.in-Ok-None.ensures.interrupted) f;
   end = λ h. absurd (true-not-false h);
   stops = tt;
-  heard = λ h terms bytes first f. ([], heard-none f);
+  heard = λ h. ([], gives-interrupted g.R.Source.left g.R.Source.gave g.R.Source.failures _ _ (rw c.in-Ok-None.field-0-is at c.in-Ok-None.ensures.gave_none) (rw c.in-Ok-None.field-0-is at c.in-Ok-None.ensures.interrupted), λ terms bytes first f. heard-none f);
+  heard_end = λ h. absurd (true-not-false h);
   heard_stop = tt;
   kept = (c.requires.runs, refl, c.in-Ok-None.ensures.kept);
   again = c.read.ensures.again;
@@ -58,7 +61,8 @@ returns-in_err-advance-in-Ok-Some g c =
       end = tt;
       stops = λ terms bytes first f k. fed-halts (g.R.Source.left c.read.new.self) c.read.new.piece c.in-Ok-Some.n (rw c.in-Ok-Some.field-0-is at c.in-Ok-Some.ensures.bytes) f k (rw c.front.ensures at (c.in_err-advance-in-Ok-Some.ensures.stops f.frames f.after f.keeps));
       heard = tt;
-      heard_stop = λ terms bytes first f k. (take c.in-Ok-Some.n c.read.new.piece, heard-halts c.read.new.piece c.in-Ok-Some.n f k (rw c.front.ensures at (c.in_err-advance-in-Ok-Some.ensures.stops f.frames f.after f.keeps)));
+      heard_end = tt;
+      heard_stop = (take c.in-Ok-Some.n c.read.new.piece, gives-piece g.R.Source.left g.R.Source.gave g.R.Source.failures _ _ c.read.new.piece c.in-Ok-Some.n (rw c.in-Ok-Some.field-0-is at c.in-Ok-Some.ensures.gave) (rw c.in-Ok-Some.field-0-is at c.in-Ok-Some.ensures.bytes) c.if-n-eq0.false, λ terms bytes first f k. heard-halts c.read.new.piece c.in-Ok-Some.n f k (rw c.front.ensures at (c.in_err-advance-in-Ok-Some.ensures.stops f.frames f.after f.keeps)));
       kept = tt;
       again = c.read.ensures.again;
       read = λ h. absurd (c.in_err-advance-in-Ok-Some.ensures.no_read (err-as _ _ h));
@@ -73,7 +77,8 @@ returns-in_ok-advance-in-Ok-Some g c = record {
   more = λ h terms bytes first f. fed-more (g.R.Source.left c.read.new.self) c.read.new.piece c.in-Ok-Some.n c.in_ok-advance-in-Ok-Some.ensures.terms (rw c.in-Ok-Some.field-0-is at c.in-Ok-Some.ensures.bytes) f (rw c.front.ensures at (c.in_ok-advance-in-Ok-Some.ensures.goes f.frames f.after f.keeps));
   end = λ h. absurd (true-not-false h);
   stops = tt;
-  heard = λ h terms bytes first f. (take c.in-Ok-Some.n c.read.new.piece, heard-more c.read.new.piece c.in-Ok-Some.n c.in_ok-advance-in-Ok-Some.ensures.terms f (rw c.front.ensures at (c.in_ok-advance-in-Ok-Some.ensures.goes f.frames f.after f.keeps)));
+  heard = λ h. (take c.in-Ok-Some.n c.read.new.piece, gives-piece g.R.Source.left g.R.Source.gave g.R.Source.failures _ _ c.read.new.piece c.in-Ok-Some.n (rw c.in-Ok-Some.field-0-is at c.in-Ok-Some.ensures.gave) (rw c.in-Ok-Some.field-0-is at c.in-Ok-Some.ensures.bytes) c.if-n-eq0.false, λ terms bytes first f. heard-more c.read.new.piece c.in-Ok-Some.n c.in_ok-advance-in-Ok-Some.ensures.terms f (rw c.front.ensures at (c.in_ok-advance-in-Ok-Some.ensures.goes f.frames f.after f.keeps)));
+  heard_end = λ h. absurd (true-not-false h);
   heard_stop = tt;
   kept = (c.in_ok-advance-in-Ok-Some.ensures.going, c.in_ok-advance-in-Ok-Some.ensures.kept, c.in-Ok-Some.ensures.kept);
   again = c.read.ensures.again;
@@ -83,3 +88,7 @@ returns-in_ok-advance-in-Ok-Some g c = record {
   write_told = inl c.in_ok-advance-in-Ok-Some.ensures.kept;
   piece = search rules;
 }
+
+pub returns-then-n-eq0-clause-heard_end : goal.returns-then-n-eq0-clause-heard_end
+returns-then-n-eq0-clause-heard_end g c = λ h.
+    gives-end g.R.Source.left g.R.Source.gave g.R.Source.failures _ _ c.read.new.piece c.in-Ok-Some.n (rw c.in-Ok-Some.field-0-is at c.in-Ok-Some.ensures.gave) (rw c.in-Ok-Some.field-0-is at c.in-Ok-Some.ensures.bytes) c.if-n-eq0.true (rw c.in-Ok-Some.field-0-is at c.in-Ok-Some.ensures.end)
