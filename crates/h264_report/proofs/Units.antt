@@ -1,17 +1,20 @@
 -- What a reader of units took of bytes, and of more.
-use Rattle.std.proofs.Common.{◌≡◌, ℕ, suc, ◌*◌, ◌==◌, arith, length, Bool, true, false, List, [], ◌∷◌, ◌++◌, take, drop, Option, None, Result, Ok, Err, OnOk, OnErr, IsTrue, IsFalse, refl, sym, ap, ap₂, subst, ◌∙◌}
-use Rattle.std.specs.Result.{is_ok, is_err}
+use Rattle.std.proofs.Common.{◌≡◌, ℕ, suc, ◌*◌, ◌==◌, arith, length, Bool, true, false, List, [], ◌∷◌, ◌++◌, take, drop, Option, None, Result, Ok, Err, OnOk, OnErr, IsFalse, inl, refl, sym, ap, subst, ◌∙◌}
 use Rattle.std.proofs.Math.Path.{subst₂}
-use Rattle.std.proofs.lemmas.Bool.{true≢false, false≢true, eqb-true}
+use Rattle.std.proofs.lemmas.Bool.{false≢true, eqb-true}
 use Rattle.std.proofs.lemmas.List.{append_assoc, append-nil, take-append-drop}
 use Rattle.h264_base.specs.declared.stop.Stop.{Stop}
-use Rattle.h264_units.specs.Stream.{NalUnit, Next, past, HasTail, Splits, Zeros}
-use Rattle.h264_units.specs.Splitting.{Splitting, at_start, Pushed, Taken, Finished}
+use Rattle.h264_base.specs.declared.stop.Stop.TheVariants.{No, Outside, Memory, Read, Write}
+use Rattle.h264_units.specs.Stream.{NalUnit, Next, past, HasTail, Splits, Tail, Zeros, IsUndecided}
+use Rattle.h264_units.specs.Splitting.{Splitting, at_start, Pushed, PushStops, Refused, Taken, Finished, FinishStops}
 use Rattle.h264_report.specs.Strict.{with_places, bits_for, places, start}
 use Rattle.h264_report.specs.StrictBytes.{broken_unit, places_in, told_of_units}
-use Rattle.h264_report.specs.StrictRules.{listed, place_of}
-use Rattle.h264_report.specs.StrictUnits.{BeginWith, TookBytes, TellsOfBytes, noted_in}
+use Rattle.h264_report.specs.StrictRules.{listed}
+use Rattle.h264_report.specs.StrictExtent.{is_whole, cut_off, extent_after, extent_of}
+use Rattle.h264_report.specs.StrictUnits.{BeginWith, AreRefused, SplitsToStop, TookBytes, TellsOfBytes, noted_in}
 use Rattle.h264_report.specs.declared.strict.Places.{Places}
+use Rattle.h264_report.specs.declared.strict_extent.Extent.{Extent}
+use Rattle.h264_report.specs.declared.strict_extent.Extent.TheVariants as extents
 use Rattle.h264_report.specs.declared.strict_rule.StrictRule.{StrictRule}
 use Rattle.h264_report.proofs.Broken.{with-more}
 
@@ -22,9 +25,9 @@ begin-more : (at : ℕ) (bytes : List ℕ) (units : List NalUnit) (after : ℕ) 
 begin-more at bytes [] after left unit rest b next = (rest, subst₂ (λ (n : ℕ) (l : List ℕ). Next n l unit rest) b.0 b.1 next, (refl, refl))
 begin-more at bytes (u ∷ us) after left unit rest b next = (b.0, b.1, begin-more (past u) b.0 us after left unit rest b.2 next)
 
-splits-from : (at : ℕ) (bytes : List ℕ) (units : List NalUnit) (after : ℕ) (left : List ℕ) → BeginWith at bytes units after left → HasTail after left Zeros → Splits at bytes units Zeros
-splits-from at bytes [] after left b tail = subst₂ (λ (n : ℕ) (l : List ℕ). HasTail n l Zeros) b.0 b.1 tail
-splits-from at bytes (u ∷ us) after left b tail = (b.0, b.1, splits-from (past u) b.0 us after left b.2 tail)
+splits-from : (tail : Tail) (at : ℕ) (bytes : List ℕ) (units : List NalUnit) (after : ℕ) (left : List ℕ) → BeginWith at bytes units after left → HasTail after left tail → Splits at bytes units tail
+splits-from tail at bytes [] after left b h = subst₂ (λ (n : ℕ) (l : List ℕ). HasTail n l tail) b.0 b.1 h
+splits-from tail at bytes (u ∷ us) after left b h = (b.0, b.1, splits-from tail (past u) b.0 us after left b.2 h)
 
 places-more : (rule : StrictRule) (units : List NalUnit) (unit : NalUnit) → places_in rule (units ++ unit ∷ []) ≡ places_in rule units ++ bits_for rule (8 * unit.from) (listed (broken_unit unit))
 unfolding places_in
@@ -46,9 +49,51 @@ tells-more : (old new : List (Option Places)) (units : List NalUnit) (unit : Nal
 tells-more old new units unit before notes rule =
     notes rule ∙ ap (λ p. with_places p (bits_for rule (8 * unit.from) (listed (broken_unit unit)))) (before rule) ∙ sym (told-more rule units unit)
 
+-- ---- how far a reader looks
+
+pub whole-of : (r : Extent) → is_whole r ≡ true → r ≡ extents.Whole
+whole-of extents.Whole h = refl
+whole-of extents.NoByteStream h = absurd (false≢true h)
+whole-of extents.NotToTheEnd h = absurd (false≢true h)
+whole-of extents.Memory h = absurd (false≢true h)
+
+not-whole : (r : Extent) → is_whole r ≡ false → r ≡ extents.Whole → ⊥
+not-whole extents.Whole h e = absurd (false≢true (sym h))
+not-whole extents.NoByteStream h e = cc
+not-whole extents.NotToTheEnd h e = cc
+not-whole extents.Memory h e = cc
+
+memory-not-whole : extents.Memory ≡ extents.Whole → ⊥
+memory-not-whole e = cc
+
+memory-no-stream : extents.Memory ≡ extents.NoByteStream → ⊥
+memory-no-stream e = cc
+
+memory-not-cut : extents.Memory ≡ extents.NotToTheEnd → ⊥
+memory-not-cut e = cc
+
+whole-no-stream : extents.Whole ≡ extents.NoByteStream → ⊥
+whole-no-stream e = cc
+
+whole-not-cut : extents.Whole ≡ extents.NotToTheEnd → ⊥
+whole-not-cut e = cc
+
+stream-not-whole : extents.NoByteStream ≡ extents.Whole → ⊥
+stream-not-whole e = cc
+
+stream-not-cut : extents.NoByteStream ≡ extents.NotToTheEnd → ⊥
+stream-not-cut e = cc
+
+cut-not-whole : extents.NotToTheEnd ≡ extents.Whole → ⊥
+cut-not-whole e = cc
+
+cut-no-stream : extents.NotToTheEnd ≡ extents.NoByteStream → ⊥
+cut-no-stream e = cc
+
 -- ---- a reader and more bytes
 
-pub took-nothing : (s : Splitting) (found : List (Option Places)) → s ≡ at_start → ((rule : StrictRule) → noted_in found rule ≡ with_places None (places rule start [])) → TookBytes s false found []
+pub took-nothing : (s : Splitting) (found : List (Option Places)) → s ≡ at_start → ((rule : StrictRule) → noted_in found rule ≡ with_places None (places rule start [])) →
+    TookBytes s extents.Whole found []
 unfolding places places_in with_places
 took-nothing s found same none = record {
   front = [];
@@ -59,8 +104,10 @@ took-nothing s found same none = record {
   whole = refl;
   begins = λ more. (refl, refl);
   tells = none;
-  all = λ h. refl;
+  all = λ h. (refl, inl (0, refl));
   stands = λ h. (ap (λ (x : Splitting). x.at) same, ap (λ (x : Splitting). x.rest) same, ap (λ (x : Splitting). x.stop) same);
+  refused = λ h. absurd (whole-no-stream h);
+  goes_on = λ h. whole-not-cut h;
 }
 
 -- the first bytes and the others
@@ -73,14 +120,23 @@ empty-of (b ∷ bytes) h = absurd (suc-not (length bytes) (eqb-true (length (b �
   suc-not : (n : ℕ) → suc n ≡ 0 → ⊥
   suc-not n e = omega arith
 
--- what a result says that is no error
-pub ok-of : (P : Type 0) (r : Result (Unit {0}) Stop) → is_err r ≡ false → OnOk r P → P
-ok-of P (Ok u) h p = p
-ok-of P (Err e) h p = absurd (true≢false h)
+-- what is refused stays so with more bytes
+refused-more : (at : ℕ) (left rest bytes : List ℕ) → AreRefused at (left ++ rest) → AreRefused at (left ++ (rest ++ bytes))
+refused-more at left rest bytes r = (
+  r.0,
+  record {
+    tail = r.1.tail;
+    stop_is = r.1.stop_is;
+    stands = λ more.
+        subst (λ (l : List ℕ). HasTail at l r.1.tail)
+        (sym (append_assoc (left ++ rest) bytes more) ∙ ap (λ l. l ++ more) (append_assoc left rest bytes))
+        (r.1.stands (bytes ++ more));
+  },
+)
 
 -- it looks at no more
-pub took-stopped : (old new : Splitting) (had : Bool) (found : List (Option Places)) (before bytes : List ℕ) → TookBytes old had found before → TookBytes new true found (before ++ bytes)
-took-stopped old new had found before bytes t = record {
+pub took-stopped : (s : Splitting) (r : Extent) (found : List (Option Places)) (before bytes : List ℕ) → is_whole r ≡ false → TookBytes s r found before → TookBytes s r found (before ++ bytes)
+took-stopped s r found before bytes off t = record {
   front = t.front;
   rest = t.rest ++ bytes;
   units = t.units;
@@ -89,16 +145,65 @@ took-stopped old new had found before bytes t = record {
   whole = ap (λ l. l ++ bytes) t.whole ∙ append_assoc t.front t.rest bytes;
   begins = t.begins;
   tells = t.tells;
-  all = λ h. absurd (true≢false h);
-  stands = λ h. absurd (true≢false h);
+  all = λ h. absurd (not-whole r off h);
+  stands = λ h. absurd (not-whole r off h);
+  refused = λ h. refused-more t.at t.left t.rest bytes (t.refused h);
+  goes_on = t.goes_on;
 }
 
-module _ (old mid : Splitting) (found : List (Option Places)) (before piece : List ℕ) (n : ℕ) (t : TookBytes old false found before) (pushed : Pushed old mid piece n) where
+-- memory is wanting
+took-memory : (old new : Splitting) (found : List (Option Places)) (before bytes : List ℕ) → TookBytes old extents.Whole found before → TookBytes new extents.Memory found (before ++ bytes)
+took-memory old new found before bytes t = record {
+  front = t.front;
+  rest = t.rest ++ bytes;
+  units = t.units;
+  at = t.at;
+  left = t.left;
+  whole = ap (λ l. l ++ bytes) t.whole ∙ append_assoc t.front t.rest bytes;
+  begins = t.begins;
+  tells = t.tells;
+  all = λ h. absurd (memory-not-whole h);
+  stands = λ h. absurd (memory-not-whole h);
+  refused = λ h. absurd (memory-no-stream h);
+  goes_on = λ h. memory-not-cut h;
+}
+
+-- the bytes are no byte stream
+took-refused : (old new : Splitting) (found : List (Option Places)) (before piece : List ℕ) (stop : Stop) → TookBytes old extents.Whole found before → Refused old.at (old.rest ++ piece) stop →
+    TookBytes new extents.NoByteStream found (before ++ piece)
+took-refused old new found before piece stop t r = record {
+  front = t.front;
+  rest = t.rest ++ piece;
+  units = t.units;
+  at = t.at;
+  left = t.left;
+  whole = ap (λ l. l ++ piece) t.whole ∙ append_assoc t.front t.rest piece;
+  begins = t.begins;
+  tells = t.tells;
+  all = λ h. absurd (stream-not-whole h);
+  stands = λ h. absurd (stream-not-whole h);
+  refused = λ h. (
+    stop,
+    subst₂ (λ (n : ℕ) (l : List ℕ). Refused n l stop) (t.stands refl).0 (ap (λ l. l ++ piece) (t.stands refl).1 ∙ ap (λ l. t.left ++ (l ++ piece)) (sym (t.all refl).0)) r,
+  );
+  goes_on = λ h. stream-not-cut h;
+}
+
+-- a piece can't be cut into units
+pub took-stop : (old new : Splitting) (found : List (Option Places)) (before piece : List ℕ) (stop : Stop) → TookBytes old extents.Whole found before → (old.stop ≡ None → PushStops old new piece stop) →
+    TookBytes new (extent_after stop) found (before ++ piece)
+took-stop old new found before piece Memory t stops = took-memory old new found before piece t
+took-stop old new found before piece (No bit rule) t stops = took-refused old new found before piece (No bit rule) t (stops (t.stands refl).2).0
+took-stop old new found before piece (Outside bit feature) t stops = took-refused old new found before piece (Outside bit feature) t (stops (t.stands refl).2).0
+took-stop old new found before piece Read t stops = absurd (stops (t.stands refl).2)
+took-stop old new found before piece Write t stops = absurd (stops (t.stands refl).2)
+
+module _ (old mid : Splitting) (found : List (Option Places)) (before piece : List ℕ) (n : ℕ) (t : TookBytes old extents.Whole found before) (pushed : Pushed old mid piece n) where
   abbrev pub taken-bytes : List ℕ
   taken-bytes = take n piece
 
   whole-more : before ++ taken-bytes ≡ (t.front ++ taken-bytes) ++ []
-  whole-more = ap (λ l. l ++ taken-bytes) (t.whole ∙ ap (λ l. t.front ++ l) (t.all refl) ∙ append-nil t.front) ∙ sym (append-nil (t.front ++ taken-bytes))
+  whole-more = ap (λ l. l ++ taken-bytes) (t.whole ∙ ap (λ l. t.front ++ l) (t.all refl).0 ∙ append-nil t.front) ∙ sym (append-nil (t.front ++ taken-bytes))
 
   begins-more : (more : List ℕ) → BeginWith 0 ((t.front ++ taken-bytes) ++ more) t.units t.at ((t.left ++ taken-bytes) ++ more)
   begins-more more =
@@ -111,8 +216,8 @@ module _ (old mid : Splitting) (found : List (Option Places)) (before piece : Li
   left-is = pushed.rest_is ∙ ap (λ l. l ++ taken-bytes) (t.stands refl).1
 
   -- and no unit ends in them
-  pub took-some : (new : Splitting) → new ≡ mid → TookBytes new false found (before ++ take n piece)
-  took-some new same = record {
+  pub took-some : (new : Splitting) → new ≡ mid → IsFalse mid.waiting → TookBytes new extents.Whole found (before ++ take n piece)
+  took-some new same idle = record {
     front = t.front ++ taken-bytes;
     rest = [];
     units = t.units;
@@ -121,8 +226,10 @@ module _ (old mid : Splitting) (found : List (Option Places)) (before piece : Li
     whole = whole-more;
     begins = begins-more;
     tells = t.tells;
-    all = λ h. refl;
+    all = λ h. (refl, subst IsUndecided left-is (pushed.undecided idle));
     stands = λ h. (ap (λ (s : Splitting). s.at) same ∙ at-is, ap (λ (s : Splitting). s.rest) same ∙ left-is, ap (λ (s : Splitting). s.stop) same ∙ pushed.stop_is);
+    refused = λ h. absurd (whole-no-stream h);
+    goes_on = λ h. whole-not-cut h;
   }
 
   module _ (new : Splitting) (unit : NalUnit) (taken : Taken mid new unit) (runs : IsFalse old.ended) where
@@ -132,8 +239,8 @@ module _ (old mid : Splitting) (found : List (Option Places)) (before piece : Li
         (subst₂ (λ (m : ℕ) (l : List ℕ). Next m (l ++ more) unit (new.rest ++ more)) at-is left-is (taken.decided (pushed.ended_is ∙ runs) more))
 
     -- and a unit ends in them, which was noted where memory was there
-    pub took-unit : (noted : Result (Unit {0}) Stop) (later : List (Option Places)) → OnOk noted (Notes found unit later) → OnErr noted (later ≡ found) →
-        TookBytes new (is_err noted) later (before ++ take n piece)
+    pub took-unit : (looked : Result (Unit {0}) Stop) (later : List (Option Places)) → OnOk looked (Notes found unit later) → OnErr looked (later ≡ found) →
+        TookBytes new (extent_of looked) later (before ++ take n piece)
     took-unit (Ok u) later notes same = record {
       front = t.front ++ taken-bytes;
       rest = [];
@@ -143,18 +250,47 @@ module _ (old mid : Splitting) (found : List (Option Places)) (before piece : Li
       whole = whole-more;
       begins = begins-unit;
       tells = tells-more found later t.units unit t.tells notes;
-      all = λ h. refl;
+      all = λ h. (refl, taken.undecided);
       stands = λ h. (taken.at_is, refl, taken.stop_is);
+      refused = λ h. absurd (whole-no-stream h);
+      goes_on = λ h. whole-not-cut h;
     }
-    took-unit (Err e) later notes same = subst (λ (f : List (Option Places)). TookBytes new true f (before ++ take n piece)) (sym same) (took-stopped old new false found before (take n piece) t)
+    took-unit (Err e) later notes same = subst (λ (f : List (Option Places)). TookBytes new extents.Memory f (before ++ take n piece)) (sym same) (took-memory old new found before (take n piece) t)
 
 -- ---- the end
 
 begins-now : (front : List ℕ) (units : List NalUnit) (at : ℕ) (left : List ℕ) → BeginWith 0 (front ++ []) units at (left ++ []) → BeginWith 0 front units at left
 begins-now front units at left b = subst₂ (λ (x y : List ℕ). BeginWith 0 x units at y) (append-nil front) (append-nil left) b
 
-pub tells-stopped : (s : Splitting) (had : Bool) (found : List (Option Places)) (bytes : List ℕ) → TookBytes s had found bytes → TellsOfBytes false found bytes
-tells-stopped s had found bytes t = record {
+-- a reader that looks at no more
+module _ (s : Splitting) (r : Extent) (found : List (Option Places)) (bytes : List ℕ) (t : TookBytes s r found bytes) where
+  splits-refused : AreRefused t.at (t.left ++ t.rest) → SplitsToStop bytes t.units
+  splits-refused a = (
+    a.1.tail,
+    a.0,
+    a.1.stop_is,
+    splits-from a.1.tail 0 bytes t.units t.at (t.left ++ t.rest) (subst (λ (l : List ℕ). BeginWith 0 l t.units t.at (t.left ++ t.rest)) (sym t.whole) (t.begins t.rest))
+        (subst (λ (l : List ℕ). HasTail t.at l a.1.tail) (append-nil (t.left ++ t.rest)) (a.1.stands [])),
+  )
+
+  pub tells-stopped : (ended : Bool) → is_whole r ≡ false → TellsOfBytes r ended found bytes
+  tells-stopped ended off = record {
+    front = t.front;
+    rest = t.rest;
+    units = t.units;
+    at = t.at;
+    left = t.left;
+    whole = t.whole;
+    begins = begins-now t.front t.units t.at t.left (t.begins []);
+    tells = t.tells;
+    all = λ h. absurd (not-whole r off h);
+    refused = λ h. splits-refused (t.refused h);
+    cut = λ h. absurd (t.goes_on h);
+  }
+
+-- the bytes may go on
+pub tells-cut : (s : Splitting) (r : Extent) (found : List (Option Places)) (bytes : List ℕ) → TookBytes s r found bytes → TellsOfBytes (cut_off r) false found bytes
+tells-cut s extents.Whole found bytes t = record {
   front = t.front;
   rest = t.rest;
   units = t.units;
@@ -163,18 +299,70 @@ tells-stopped s had found bytes t = record {
   whole = t.whole;
   begins = begins-now t.front t.units t.at t.left (t.begins []);
   tells = t.tells;
-  all = λ h. absurd (false≢true h);
+  all = λ h. absurd (cut-not-whole h);
+  refused = λ h. absurd (cut-no-stream h);
+  cut = λ h. (refl, (t.all refl).0, (t.all refl).1);
+}
+tells-cut s extents.NoByteStream found bytes t = tells-stopped s extents.NoByteStream found bytes t false refl
+tells-cut s extents.NotToTheEnd found bytes t = tells-stopped s extents.NotToTheEnd found bytes t false refl
+tells-cut s extents.Memory found bytes t = tells-stopped s extents.Memory found bytes t false refl
+
+tells-memory : (s : Splitting) (found : List (Option Places)) (bytes : List ℕ) → TookBytes s extents.Whole found bytes → TellsOfBytes extents.Memory true found bytes
+tells-memory s found bytes t = record {
+  front = t.front;
+  rest = t.rest;
+  units = t.units;
+  at = t.at;
+  left = t.left;
+  whole = t.whole;
+  begins = begins-now t.front t.units t.at t.left (t.begins []);
+  tells = t.tells;
+  all = λ h. absurd (memory-not-whole h);
+  refused = λ h. absurd (memory-no-stream h);
+  cut = λ h. absurd (memory-not-cut h);
 }
 
-module _ (old mid : Splitting) (found : List (Option Places)) (bytes : List ℕ) (t : TookBytes old false found bytes) (ends : Finished old mid) where
+-- the bytes up to their end are no byte stream
+tells-refused : (old new : Splitting) (found : List (Option Places)) (bytes : List ℕ) (stop : Stop) → TookBytes old extents.Whole found bytes → FinishStops old new stop →
+    TellsOfBytes extents.NoByteStream true found bytes
+tells-refused old new found bytes stop t stops = record {
+  front = t.front;
+  rest = t.rest;
+  units = t.units;
+  at = t.at;
+  left = t.left;
+  whole = t.whole;
+  begins = begins-now t.front t.units t.at t.left (t.begins []);
+  tells = t.tells;
+  all = λ h. absurd (stream-not-whole h);
+  refused = λ h. (
+    stops.tail,
+    stop,
+    stops.stop_is,
+    splits-from stops.tail 0 bytes t.units t.at t.left
+        (subst (λ (l : List ℕ). BeginWith 0 l t.units t.at t.left) (sym (t.whole ∙ ap (λ l. t.front ++ l) (t.all refl).0 ∙ append-nil t.front)) (begins-now t.front t.units t.at t.left (t.begins [])))
+        (subst₂ (λ (m : ℕ) (l : List ℕ). HasTail m l stops.tail) (t.stands refl).0 (t.stands refl).1 stops.stands),
+  );
+  cut = λ h. absurd (stream-not-cut h);
+}
+
+pub tells-stop : (old new : Splitting) (found : List (Option Places)) (bytes : List ℕ) (stop : Stop) → TookBytes old extents.Whole found bytes → (old.stop ≡ None → FinishStops old new stop) →
+    TellsOfBytes (extent_after stop) true found bytes
+tells-stop old new found bytes Memory t stops = tells-memory old found bytes t
+tells-stop old new found bytes (No bit rule) t stops = tells-refused old new found bytes (No bit rule) t (stops (t.stands refl).2)
+tells-stop old new found bytes (Outside bit feature) t stops = tells-refused old new found bytes (Outside bit feature) t (stops (t.stands refl).2)
+tells-stop old new found bytes Read t stops = tells-refused old new found bytes Read t (stops (t.stands refl).2)
+tells-stop old new found bytes Write t stops = tells-refused old new found bytes Write t (stops (t.stands refl).2)
+
+module _ (old mid : Splitting) (found : List (Option Places)) (bytes : List ℕ) (t : TookBytes old extents.Whole found bytes) (ends : Finished old mid) where
   front-is : t.front ≡ bytes
-  front-is = sym (t.whole ∙ ap (λ l. t.front ++ l) (t.all refl) ∙ append-nil t.front)
+  front-is = sym (t.whole ∙ ap (λ l. t.front ++ l) (t.all refl).0 ∙ append-nil t.front)
 
   begun : BeginWith 0 bytes t.units t.at t.left
   begun = subst (λ (l : List ℕ). BeginWith 0 l t.units t.at t.left) front-is (begins-now t.front t.units t.at t.left (t.begins []))
 
   -- no unit is left
-  pub tells-none : IsFalse mid.waiting → TellsOfBytes true found bytes
+  pub tells-none : IsFalse mid.waiting → TellsOfBytes extents.Whole true found bytes
   tells-none none = record {
     front = bytes;
     rest = [];
@@ -184,7 +372,9 @@ module _ (old mid : Splitting) (found : List (Option Places)) (bytes : List ℕ)
     whole = sym (append-nil bytes);
     begins = begun;
     tells = t.tells;
-    all = λ h. splits-from 0 bytes t.units t.at t.left begun (subst₂ (λ (m : ℕ) (l : List ℕ). HasTail m l Zeros) (t.stands refl).0 (t.stands refl).1 (ends.zeros none));
+    all = λ h. (refl, splits-from Zeros 0 bytes t.units t.at t.left begun (subst₂ (λ (m : ℕ) (l : List ℕ). HasTail m l Zeros) (t.stands refl).0 (t.stands refl).1 (ends.zeros none)));
+    refused = λ h. absurd (whole-no-stream h);
+    cut = λ h. absurd (whole-not-cut h);
   }
 
   module _ (new : Splitting) (unit : NalUnit) (taken : Taken mid new unit) where
@@ -194,8 +384,8 @@ module _ (old mid : Splitting) (found : List (Option Places)) (bytes : List ℕ)
         (subst₂ (λ (m : ℕ) (l : List ℕ). Next m l unit new.rest) (ends.at_is ∙ (t.stands refl).0) (ends.rest_is ∙ (t.stands refl).1) taken.next)
 
     -- a unit is left
-    pub tells-unit : (noted : Result (Unit {0}) Stop) (later : List (Option Places)) → OnOk noted (Notes found unit later) → OnErr noted (later ≡ found) →
-        TellsOfBytes (is_ok noted) later bytes
+    pub tells-unit : (looked : Result (Unit {0}) Stop) (later : List (Option Places)) → OnOk looked (Notes found unit later) → OnErr looked (later ≡ found) →
+        TellsOfBytes (extent_of looked) true later bytes
     tells-unit (Ok u) later notes same = record {
       front = bytes;
       rest = [];
@@ -205,6 +395,8 @@ module _ (old mid : Splitting) (found : List (Option Places)) (bytes : List ℕ)
       whole = sym (append-nil bytes);
       begins = begun-unit;
       tells = tells-more found later t.units unit t.tells notes;
-      all = λ h. splits-from 0 bytes (t.units ++ unit ∷ []) (past unit) new.rest begun-unit (subst (λ (m : ℕ). HasTail m new.rest Zeros) taken.at_is (taken.last ends.ended_is));
+      all = λ h. (refl, splits-from Zeros 0 bytes (t.units ++ unit ∷ []) (past unit) new.rest begun-unit (subst (λ (m : ℕ). HasTail m new.rest Zeros) taken.at_is (taken.last ends.ended_is)));
+      refused = λ h. absurd (whole-no-stream h);
+      cut = λ h. absurd (whole-not-cut h);
     }
-    tells-unit (Err e) later notes same = subst (λ (f : List (Option Places)). TellsOfBytes false f bytes) (sym same) (tells-stopped old false found bytes t)
+    tells-unit (Err e) later notes same = subst (λ (f : List (Option Places)). TellsOfBytes extents.Memory true f bytes) (sym same) (tells-memory old found bytes t)

@@ -22,4 +22,5 @@ pub mod StrictVectors
 pub mod StrictPictures
 pub mod Strict
 pub mod StrictBytes
+pub mod StrictExtent
 pub mod StrictUnits

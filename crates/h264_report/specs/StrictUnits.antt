@@ -1,11 +1,13 @@
 -- The units of the bytes that were read, and what is told of the rules on their bytes. To be read beside the standard.
-use Rattle.std.specs.Prelude.{◌≡◌, ℕ, Bool, true, false, List, [], ◌∷◌, ◌++◌, Option, None, get_or}
+use Rattle.std.specs.Prelude.{◌≡◌, ℕ, Bool, true, false, List, [], ◌∷◌, ◌++◌, Option, Some, None, get_or}
 use Rattle.h264_base.specs.declared.stop.Stop.{Stop}
-use Rattle.h264_units.specs.Stream.{NalUnit, Next, past, Splits, Zeros}
-use Rattle.h264_units.specs.Splitting.{Splitting}
+use Rattle.h264_units.specs.Stream.{NalUnit, Next, past, Splits, Tail, Zeros, tail_stop, IsUndecided}
+use Rattle.h264_units.specs.Splitting.{Splitting, Refused}
 use Rattle.h264_report.specs.StrictBytes.{told_of_units}
 use Rattle.h264_report.specs.StrictRules.{place_of}
 use Rattle.h264_report.specs.declared.strict.Places.{Places}
+use Rattle.h264_report.specs.declared.strict_extent.Extent.{Extent}
+use Rattle.h264_report.specs.declared.strict_extent.Extent.TheVariants as extents
 use Rattle.h264_report.specs.declared.strict_rule.StrictRule.{StrictRule}
 
 -- These are the first units of the bytes at this place, and what is left of the bytes after them.
@@ -17,8 +19,16 @@ BeginWith at bytes (unit ∷ units) after left = (rest : List ℕ) × Next at by
 abbrev pub noted_in : List (Option Places) → StrictRule → Option Places
 noted_in found rule = get_or found (place_of rule) None
 
--- A reader took these bytes: it looked at the first units of a front of them, and of all of them unless it has stopped.
-pub record TookBytes (splitter : Splitting) (has_stopped : Bool) (found : List (Option Places)) (bytes : List ℕ) : Type 0 where
+-- However these bytes go on, no unit follows, and they are no byte stream, or more than is judged.
+abbrev pub AreRefused : (at : ℕ) → (bytes : List ℕ) → Type 0
+AreRefused at bytes = (stop : Stop) × Refused at bytes stop
+
+-- These are the units of the bytes, and then they are no byte stream, or more than is judged.
+abbrev pub SplitsToStop : List ℕ → List NalUnit → Type 0
+SplitsToStop bytes units = (tail : Tail) × (stop : Stop) × (tail_stop tail ≡ Some stop) × Splits 0 bytes units tail
+
+-- A reader took these bytes: it looked at the first units of a front of them. While nothing keeps it from that, it looked at each unit whose end they show.
+pub record TookBytes (splitter : Splitting) (extent : Extent) (found : List (Option Places)) (bytes : List ℕ) : Type 0 where
   pub front : List ℕ
   pub rest : List ℕ
   pub units : List NalUnit
@@ -28,11 +38,14 @@ pub record TookBytes (splitter : Splitting) (has_stopped : Bool) (found : List (
   -- however the bytes go on
   pub begins : (more : List ℕ) → BeginWith 0 (front ++ more) units at (left ++ more)
   pub tells : (rule : StrictRule) → noted_in found rule ≡ told_of_units rule units
-  pub all : has_stopped ≡ false → rest ≡ []
-  pub stands : has_stopped ≡ false → (splitter.at ≡ at) × (splitter.rest ≡ left) × (splitter.stop ≡ None)
+  pub all : extent ≡ extents.Whole → (rest ≡ []) × IsUndecided left
+  pub stands : extent ≡ extents.Whole → (splitter.at ≡ at) × (splitter.rest ≡ left) × (splitter.stop ≡ None)
+  pub refused : extent ≡ extents.NoByteStream → AreRefused at (left ++ rest)
+  pub goes_on : extent ≡ extents.NotToTheEnd → ⊥
 
--- What is told of these bytes: of the first units of a front of them, and of all units where they are a byte stream and memory was there.
-pub record TellsOfBytes (is_whole : Bool) (found : List (Option Places)) (bytes : List ℕ) : Type 0 where
+-- What is told of these bytes, after which the source has said its end or not: of the first units of a front of them, which are all unless memory was
+-- wanting.
+pub record TellsOfBytes (extent : Extent) (ended : Bool) (found : List (Option Places)) (bytes : List ℕ) : Type 0 where
   pub front : List ℕ
   pub rest : List ℕ
   pub units : List NalUnit
@@ -41,4 +54,9 @@ pub record TellsOfBytes (is_whole : Bool) (found : List (Option Places)) (bytes 
   pub whole : bytes ≡ front ++ rest
   pub begins : BeginWith 0 front units at left
   pub tells : (rule : StrictRule) → noted_in found rule ≡ told_of_units rule units
-  pub all : is_whole ≡ true → Splits 0 bytes units Zeros
+  -- the units of a byte stream that has ended
+  pub all : extent ≡ extents.Whole → (ended ≡ true) × Splits 0 bytes units Zeros
+  -- the units before what is no byte stream
+  pub refused : extent ≡ extents.NoByteStream → SplitsToStop bytes units
+  -- the units whose ends the bytes show, which may go on
+  pub cut : extent ≡ extents.NotToTheEnd → (ended ≡ false) × (rest ≡ []) × IsUndecided left

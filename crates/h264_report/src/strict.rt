@@ -17,20 +17,10 @@ use crate::strict_sets::SetFacts;
 use crate::strict_vectors::Vectors;
 use crate::survey::element::count_of;
 use h264_base::ElementName;
-
-/// nal_unit_type of a delimiter, of the end of a sequence and of the stream, of filler data, of the extension of a sequence parameter set, and of a subset of
-/// one (table 7-1).
-const DELIMITER: u8 = 9;
-
-const END_OF_SEQUENCE: u8 = 10;
-
-const END_OF_STREAM: u8 = 11;
-
-const FILLER_DATA: u8 = 12;
-
-const SPS_EXTENSION: u8 = 13;
-
-const SUBSET_SPS: u8 = 15;
+use h264_verify::kinds::{
+    DELIMITER, END_OF_SEQUENCE, END_OF_STREAM, FILLER, IDR_SLICE, SEQUENCE_SET_EXTENSION, SLICE,
+    SUBSET_SEQUENCE_SET,
+};
 
 /// Where a rule is broken: the first bit, and at how many places, as far as 64 bits count.
 #[derive(Clone, Copy)]
@@ -180,10 +170,10 @@ impl Standing {
         if nal_unit_type == END_OF_SEQUENCE || nal_unit_type == END_OF_STREAM {
             return broken_if(self.begun, StrictRule::EndFirst);
         }
-        if nal_unit_type == FILLER_DATA {
+        if nal_unit_type == FILLER {
             return broken_if(self.begun, StrictRule::FillerFirst);
         }
-        if nal_unit_type == SPS_EXTENSION || nal_unit_type == SUBSET_SPS {
+        if nal_unit_type == SEQUENCE_SET_EXTENSION || nal_unit_type == SUBSET_SEQUENCE_SET {
             return broken_if(nal_ref_idc == 0, StrictRule::SetRefIdc);
         }
         None
@@ -250,7 +240,7 @@ impl Standing {
     fn note_unit(&mut self, nal_unit_type: u8, nal_ref_idc: u8, length: u64)
         ensures { self.new ≡ after_unit self.old nal_unit_type nal_ref_idc length }
     {
-        let is_slice = nal_unit_type == 1 || nal_unit_type == 5;
+        let is_slice = nal_unit_type == SLICE || nal_unit_type == IDR_SLICE;
         let begins = 6 <= nal_unit_type && nal_unit_type <= 9
             || 14 <= nal_unit_type && nal_unit_type <= 18;
         self.begun = begins || self.begun && !is_slice;

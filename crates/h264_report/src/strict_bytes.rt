@@ -5,13 +5,7 @@ ghost use Rattle.std.specs.Prelude.{◌≡◌, ◌+◌, ◌≤◌, ◌^◌, leng
 ghost use Rattle.h264_report.specs.StrictBytes.{is_trailing, is_delimiter, is_filler, ff_bytes, message_length, is_sei, is_judged, by_rbsp};
 
 use crate::strict_rule::{StrictRule, broken_if};
-
-/// nal_unit_type of SEI, of a delimiter and of filler data (table 7-1).
-const SEI: u8 = 6;
-
-const DELIMITER: u8 = 9;
-
-const FILLER_DATA: u8 = 12;
+use h264_verify::kinds::{DELIMITER, FILLER, SEI};
 
 /// The trailing bits in a byte of their own.
 const TRAILING: u8 = 0x80;
@@ -53,7 +47,7 @@ fn ff_bytes(bytes: &[u8]) -> usize
 }
 
 /// What follows the first bytes.
-fn after(bytes: &[u8], n: usize) -> &[u8]
+pub(crate) fn after(bytes: &[u8], n: usize) -> &[u8]
     requires { n ≤ length bytes.now }
     ensures { result.now ≡ drop n bytes.now }
 {
@@ -112,7 +106,7 @@ fn is_sei(bytes: &[u8]) -> bool
 pub(crate) fn is_judged(nal_unit_type: u8) -> bool
     ensures { result ≡ is_judged nal_unit_type }
 {
-    nal_unit_type == SEI || nal_unit_type == DELIMITER || nal_unit_type == FILLER_DATA
+    nal_unit_type == SEI || nal_unit_type == DELIMITER || nal_unit_type == FILLER
 }
 
 /// The rule that the RBSP of a unit of this type breaks.
@@ -126,7 +120,7 @@ pub(crate) fn by_rbsp(nal_unit_type: u8, bytes: &[u8]) -> Option<StrictRule>
     if nal_unit_type == DELIMITER {
         return broken_if(!is_delimiter(bytes), StrictRule::DelimiterBits);
     }
-    if nal_unit_type == FILLER_DATA {
+    if nal_unit_type == FILLER {
         return broken_if(!is_filler(bytes), StrictRule::FillerBytes);
     }
     None

@@ -1,16 +1,18 @@
 //! A reader of the units that stand in bytes, for the rules on the bytes of units.
 #![tactic(auto)]
 
-ghost use Rattle.std.specs.Prelude.{◌≡◌, ℕ, ◌+◌, ◌*◌, ◌≤◌, ◌<◌, ◌++◌, true, false, List, [], length, take, drop, None, IsFalse, IfOk, IfErr, OnOk, OnErr};
+ghost use Rattle.std.specs.Prelude.{◌≡◌, ℕ, ◌+◌, ◌*◌, ◌≤◌, ◌<◌, ◌++◌, true, false, List, [], length, take, None, IsFalse, IfOk, IfErr, OnOk, OnErr};
 ghost use Rattle.h264_base.specs.declared.stop.Stop.{Stop};
 ghost use Rattle.h264_report.specs.Strict.{with_places, bits_for};
 ghost use Rattle.h264_report.specs.StrictBytes.{broken_unit};
 ghost use Rattle.h264_report.specs.StrictRules.{listed};
 ghost use Rattle.h264_report.specs.StrictUnits.{TookBytes, TellsOfBytes, noted_in};
+ghost use Rattle.h264_report.specs.declared.strict_extent.Extent.TheVariants.{Whole};
 ghost use Rattle.h264_report.specs.declared.strict_rule.StrictRule.{StrictRule as StrictRuleView};
 
 use crate::strict::{Places, note_in};
-use crate::strict_bytes::{by_rbsp, is_judged};
+use crate::strict_bytes::{after, by_rbsp, is_judged};
+use crate::strict_extent::{Extent, extent_after, extent_of};
 use crate::strict_rule::{STRICT_RULES, StrictRule};
 use h264_base::Stop;
 use h264_rbsp::Rbsp;
@@ -24,8 +26,8 @@ pub struct UnitReader {
     splitter: Splitter,
     /// What was found of each rule, by its place.
     found: [Option<Places>; STRICT_RULES],
-    /// Memory was wanting, or the bytes are no byte stream: no more is looked at.
-    has_stopped: bool,
+    /// How far they were looked at so far.
+    extent: Extent,
     ghost runs: { IsFalse splitter.waiting × IsFalse splitter.ended },
 }
 
@@ -34,8 +36,8 @@ pub struct UnitReader {
 pub struct UnitsRead {
     /// What was found of each rule, by its place.
     pub found: [Option<Places>; STRICT_RULES],
-    /// Each unit was looked at.
-    pub is_whole: bool,
+    /// How far the units were looked at.
+    pub extent: Extent,
 }
 
 impl UnitsRead {
@@ -76,48 +78,40 @@ fn note_unit(
     Ok(())
 }
 
-/// What follows the first bytes.
-fn after(bytes: &[u8], n: usize) -> &[u8]
-    requires { n ≤ length bytes.now }
-    ensures { result.now ≡ drop n bytes.now }
-{
-    &bytes[n..]
-}
-
 impl UnitReader {
     /// A reader before the first byte. It takes no memory.
     pub fn new(alloc: Global) -> UnitReader
-        ensures { TookBytes result.splitter result.has_stopped result.found [] }
+        ensures { TookBytes result.splitter result.extent result.found [] }
     {
         UnitReader {
             alloc,
             splitter: Splitter::new(alloc),
             found: [None; STRICT_RULES],
-            has_stopped: false,
+            extent: Extent::Whole,
         }
     }
 
-    /// Takes bytes up to the end of a unit, looks at the unit, and says how many bytes it took.
+    /// Takes bytes up to the end of a unit, looks at the unit, and says how many bytes it took: all where it can't cut them into units.
     fn take_some(&mut self, piece: &[u8]) -> usize
         requires some { 0 < length piece.now }
-        requires goes { self.old.has_stopped ≡ false }
+        requires goes { self.old.extent ≡ Whole }
         ensures within { result ≤ length piece.now }
-        ensures some { self.new.has_stopped ≡ false → 0 < result }
-        ensures took { (before : List ℕ) → TookBytes self.old.splitter self.old.has_stopped self.old.found before →
-            TookBytes self.new.splitter self.new.has_stopped self.new.found (before ++ take result piece.now) }
+        ensures some { 0 < result }
+        ensures took { (before : List ℕ) → TookBytes self.old.splitter self.old.extent self.old.found before →
+            TookBytes self.new.splitter self.new.extent self.new.found (before ++ take result piece.now) }
     {
         let n = match self.splitter.push(piece) {
             Ok(n) => n,
-            Err(_) => {
-                self.has_stopped = true;
-                return 0;
+            Err(stop) => {
+                self.extent = extent_after(stop);
+                return piece.len();
             }
         };
         match self.splitter.take_unit() {
             None => n,
             Some(unit) => {
-                let noted = note_unit(self.alloc, &mut self.found, &unit);
-                self.has_stopped = noted.is_err();
+                let looked = note_unit(self.alloc, &mut self.found, &unit);
+                self.extent = extent_of(looked);
                 n
             }
         }
@@ -125,54 +119,55 @@ impl UnitReader {
 
     /// Takes bytes, and looks at each unit that they end.
     pub fn take(&mut self, piece: &[u8])
-        ensures { (before : List ℕ) → TookBytes self.old.splitter self.old.has_stopped self.old.found before →
-            TookBytes self.new.splitter self.new.has_stopped self.new.found (before ++ piece.now) }
+        ensures { (before : List ℕ) → TookBytes self.old.splitter self.old.extent self.old.found before →
+            TookBytes self.new.splitter self.new.extent self.new.found (before ++ piece.now) }
     {
         let mut rest = piece;
-        while !self.has_stopped && !rest.is_empty() {
+        while self.extent.is_whole() && !rest.is_empty() {
             let n = self.take_some(rest);
             rest = after(rest, n);
         }
     }
 
-    /// What was found so far. The last unit may go on, and is not looked at.
+    /// What was found so far, where the bytes may go on. The last unit may go on too, and is not looked at.
     pub fn break_off(self) -> UnitsRead
-        ensures { (bytes : List ℕ) → TookBytes self.splitter self.has_stopped self.found bytes → TellsOfBytes result.is_whole result.found bytes }
+        ensures { (bytes : List ℕ) → TookBytes self.splitter self.extent self.found bytes → TellsOfBytes result.extent false result.found bytes }
     {
         let found = self.found;
         UnitsRead {
             found,
-            is_whole: false,
+            extent: self.extent.cut_off(),
         }
     }
 
     /// Looks at the last unit: no more bytes come.
     pub fn finish(mut self) -> UnitsRead
-        ensures { (bytes : List ℕ) → TookBytes self.splitter self.has_stopped self.found bytes → TellsOfBytes result.is_whole result.found bytes }
+        ensures { (bytes : List ℕ) → TookBytes self.splitter self.extent self.found bytes → TellsOfBytes result.extent true result.found bytes }
     {
         let mut found = self.found;
-        if self.has_stopped {
-            return UnitsRead {
-                found,
-                is_whole: false,
-            };
+        let extent = self.extent;
+        if !extent.is_whole() {
+            return UnitsRead { found, extent };
         }
-        if self.splitter.finish().is_err() {
-            return UnitsRead {
-                found,
-                is_whole: false,
-            };
+        match self.splitter.finish() {
+            Ok(()) => {}
+            Err(stop) => {
+                return UnitsRead {
+                    found,
+                    extent: extent_after(stop),
+                };
+            }
         }
         match self.splitter.take_unit() {
             None => UnitsRead {
                 found,
-                is_whole: true,
+                extent: Extent::Whole,
             },
             Some(unit) => {
-                let noted = note_unit(self.alloc, &mut found, &unit);
+                let looked = note_unit(self.alloc, &mut found, &unit);
                 UnitsRead {
                     found,
-                    is_whole: noted.is_ok(),
+                    extent: extent_of(looked),
                 }
             }
         }

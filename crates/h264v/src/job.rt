@@ -18,8 +18,8 @@ use h264_report::pages::{
 };
 use h264_report::survey::{Meter, Narrowed, Survey, Surveyed};
 use h264_report::{
-    Device, Ending, Form, LineSink, Listing, PageSink, Pen, StrictSink, TrailSink, UnitSource,
-    WriteDevice, Y4mSink, YuvSink, put_line, put_text, told_answer, verdict_line,
+    Device, Ending, Form, LineSink, Listing, PageSink, Pen, StrictJudgement, StrictSink, TrailSink,
+    WriteDevice, Y4mSink, YuvSink, judge_strictly, put_line, put_text, told_answer, verdict_line,
 };
 use h264_verify::{FrameSink, Source, run};
 use std::alloc::Global;
@@ -190,7 +190,27 @@ fn trail_lines(alloc: Global, answer: Answer, sink: &TrailSink) -> Option<String
     }
 }
 
-/// Judges the open file for its last elements, and by the further rules.
+/// What was found of a file by the further rules.
+fn strict_found(
+    job: &Job<'_>,
+    sink: StrictSink<TrailSink>,
+    judgement: StrictJudgement,
+    survey: Survey,
+    seen: Seen,
+) -> Option<Found> {
+    let StrictJudgement { answer, units } = judgement;
+    let StrictSink { sink, strict } = sink;
+    let before = trail_lines(job.alloc, answer, &sink)?;
+    Some(Found {
+        answer,
+        strict: Some(FurtherRules { strict, units }),
+        survey,
+        seen,
+        before,
+    })
+}
+
+/// Judges the open file for its last elements, and by the further rules. Its calls are surveyed where an option asks for that.
 fn check_strictly<O: Opener + Drop, M: Meter + Drop>(
     job: &Job<'_>,
     files: &mut OpenedFiles<O>,
@@ -201,18 +221,24 @@ fn check_strictly<O: Opener + Drop, M: Meter + Drop>(
     let Ok(trail) = TrailSink::new(job.alloc) else {
         return None;
     };
-    let mut source = UnitSource::new(job.alloc, files);
-    let judged = judge_plainly(job, &mut source, StrictSink::new(trail), meter)?;
-    let units = source.finish();
-    let StrictSink { sink, strict } = judged.sink;
-    let before = trail_lines(job.alloc, judged.answer, &sink)?;
-    Some(Found {
-        answer: judged.answer,
-        strict: Some(FurtherRules { strict, units }),
-        survey: judged.survey,
-        seen: files.seen,
-        before,
-    })
+    let Ok(survey) = Survey::new(job.alloc) else {
+        return None;
+    };
+    let mut sink = StrictSink::new(trail);
+    let (mode, target) = (mode_of(job.task), job.options.target);
+    if !job.options.asks_for_survey() {
+        let judgement = judge_strictly(job.alloc, files, &mut sink, mode, target);
+        return strict_found(job, sink, judgement, survey, files.seen);
+    }
+    let mut surveyed = Surveyed {
+        sink,
+        survey,
+        meter,
+    };
+    let judgement = judge_strictly(job.alloc, files, &mut surveyed, mode, target);
+    tell_end(&mut surveyed);
+    let Surveyed { sink, survey, .. } = surveyed;
+    strict_found(job, sink, judgement, survey, files.seen)
 }
 
 /// Judges the open file for its last elements.

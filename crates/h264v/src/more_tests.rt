@@ -30,8 +30,12 @@ const SIZES: &str =
 /// The first picture with a sequence parameter set whose aspect_ratio_idc is reserved.
 const RESERVED_RATIO: &str = "000000016742c00ada7b1100800000000168ce388000000165888493c0";
 
+/// The pictures of `GAP`, and then filler data of bytes FE, whose end no byte shows.
+const GAP_AND_FILLER: &str =
+    "000000016742c00ada710000000168ce388000000165888493c0000001619a42a00000010cfefe80";
+
 /// Verdicts with what explains them, in lines and in JSON.
-const VERDICTS: [Asking; 11] = [
+const VERDICTS: [Asking; 13] = [
     Asking {
         words: &["h264v", "check", "--explain", "stream"],
         stream: GAP,
@@ -126,6 +130,27 @@ the target main-ip takes 77 with any flags\n",
         out: &[
             "{\"file\":\"stream\",\"kind\":\"strict\",\"rule\":\"AspectRatio\",\"clause\":\"E.2.1\",\"bit\":80,\"places\":1}\n\
 {\"file\":\"stream\",\"kind\":\"not judged\",\"rule\":\"Sei\",\"why\":\"what the messages of type 6 say is not read\"}\n",
+        ],
+        err: "",
+        status: 1,
+    },
+    // No is said before the end is read. So the last unit may go on, and nothing is told of it.
+    Asking {
+        words: &["h264v", "check", "--explain", "--strict", "stream"],
+        stream: GAP_AND_FILLER,
+        out: &[
+            "or did not raise it after a reference picture.\nstrict: not judged: Sei (",
+            "strict: not judged: Units (the bytes were not read to their end)\nno: bit 247: FrameNum (clause 7.4.3)\n",
+        ],
+        err: "",
+        status: 1,
+    },
+    // A byte 05 after the 00 bytes that close a unit.
+    Asking {
+        words: &["h264v", "check", "--strict", "stream"],
+        stream: "000000016742c00ada710000000168ce388000000165888493c000000005",
+        out: &[
+            "strict: not judged: Units (from some place on the bytes are no byte stream, or more than is judged)\nno: bit 232: ByteStream (",
         ],
         err: "",
         status: 1,

@@ -1,4 +1,4 @@
-use Rattle.std.proofs.Common.{◌≡◌, suc, ◌+◌, ◌-◌, ◌≤◌, length, drop, arith, true, false, sym, ap, ◌∙◌}
+use Rattle.std.proofs.Common.{◌≡◌, suc, ◌+◌, ◌-◌, length, drop, arith, true, false, sym, ap, ◌∙◌}
 use Rattle.std.proofs.lemmas.List.{length-drop}
 use Rattle.h264_report.specs.StrictBytes.{is_trailing, are_messages}
 use Rattle.h264_report.proofs.Reading.{sei-none, sei-last, sei-more, sei-out}

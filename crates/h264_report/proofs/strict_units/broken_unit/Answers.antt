@@ -1,4 +1,4 @@
-use Rattle.std.proofs.Common.{◌%◌, refl, ap, ap₂, ◌∙◌, slice_index}
+use Rattle.std.proofs.Common.{◌%◌, ap, ap₂, ◌∙◌, slice_index}
 use Rattle.h264_base.specs.Body.{Body}
 use Rattle.h264_rbsp.specs.Rbsp.{body_of}
 use Rattle.h264_report.specs.StrictBytes.{by_rbsp}

@@ -1,10 +1,10 @@
-use Rattle.std.proofs.Common.{◌≡◌, ℕ, ◌+◌, if◌then◌else◌, List, ◌++◌, length}
+use Rattle.std.proofs.Common.{◌≡◌, ℕ, List, ◌++◌, length}
 use Rattle.h264_report.specs.StrictUnits.{TookBytes}
 use Rattle.h264_report.proofs.strict_units.UnitReader.take.Given as goal
 
-abbrev pub invariant-loop-self : goal.invariant-loop-self
-invariant-loop-self l = (done : List ℕ) × (l.piece ≡ done ++ l.rest) × ((before : List ℕ) → TookBytes l.fn.self.splitter l.fn.self.has_stopped l.fn.self.found before →
-    TookBytes l.self.splitter l.self.has_stopped l.self.found (before ++ done))
+abbrev pub invariant-loop-rest : goal.invariant-loop-rest
+invariant-loop-rest l = (done : List ℕ) × (l.piece ≡ done ++ l.rest) × ((before : List ℕ) → TookBytes l.fn.self.splitter l.fn.self.extent l.fn.self.found before →
+    TookBytes l.self.splitter l.self.extent l.self.found (before ++ done))
 
-abbrev pub decreases-loop-self : goal.decreases-loop-self
-decreases-loop-self l = length l.rest + (if l.self.has_stopped then 0 else 1)
+abbrev pub decreases-loop-rest : goal.decreases-loop-rest
+decreases-loop-rest l = length l.rest
