@@ -19,3 +19,4 @@ pub mod Broken
 pub mod Factors
 pub mod Reading
 pub mod Units
+pub mod Messages

@@ -50,7 +50,7 @@ unfolding are_messages
 sei-none n m bytes up none =
     ap (λ k. are_messages k bytes) up ∙ ap (λ o. has_message o (λ whole. is_trailing (drop whole bytes) || are_messages m (drop whole bytes))) none
 
-sei-some : (n m : ℕ) (bytes : List ℕ) (whole : ℕ) → n ≡ suc m → message_length bytes ≡ Some whole →
+pub sei-some : (n m : ℕ) (bytes : List ℕ) (whole : ℕ) → n ≡ suc m → message_length bytes ≡ Some whole →
     are_messages n bytes ≡ (is_trailing (drop whole bytes) || are_messages m (drop whole bytes))
 unfolding are_messages
 sei-some n m bytes whole up some =

@@ -21,6 +21,7 @@ pub mod StrictSets
 pub mod StrictVectors
 pub mod StrictPictures
 pub mod Strict
+pub mod StrictSei
 pub mod StrictBytes
 pub mod StrictExtent
 pub mod StrictUnits

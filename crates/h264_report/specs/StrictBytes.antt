@@ -49,12 +49,13 @@ abbrev pub has_message : Option ℕ → (ℕ → Bool) → Bool
 has_message None holds = false
 has_message (Some whole) holds = holds whole
 
--- sei_rbsp() of at most so many messages
+-- sei_rbsp() of at most so many messages, which are read one after another
 unfoldable pub are_messages : ℕ → List ℕ → Bool
 are_messages zero bytes = false
 are_messages (suc n) bytes = has_message (message_length bytes) (λ whole. is_trailing (drop whole bytes) || are_messages n (drop whole bytes))
 
--- sei_rbsp(): messages, and the trailing bits (7.3.2.3)
+-- sei_rbsp(): messages, and the trailing bits (7.3.2.3). It holds exactly where `IsSei` of StrictSei does, which is the standard's syntax; `is_sei` of
+-- strict_bytes has that in its contract.
 abbrev pub is_sei : List ℕ → Bool
 is_sei bytes = are_messages (length bytes) bytes
 

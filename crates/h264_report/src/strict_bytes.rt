@@ -1,7 +1,8 @@
 //! The rules on the bytes of units that the verdict passes over: SEI, delimiters and filler data (7.3.2.3, 7.3.2.4, 7.3.2.7).
 #![tactic(auto)]
 
-ghost use Rattle.std.specs.Prelude.{◌≡◌, ◌+◌, ◌≤◌, ◌^◌, length, drop, IfSome};
+ghost use Rattle.std.specs.Prelude.{◌≡◌, ◌+◌, ◌≤◌, ◌^◌, true, length, drop, IfSome};
+ghost use Rattle.h264_report.specs.StrictSei.{IsSei};
 ghost use Rattle.h264_report.specs.StrictBytes.{is_trailing, is_delimiter, is_filler, ff_bytes, message_length, is_sei, is_judged, by_rbsp};
 
 use crate::strict_rule::{StrictRule, broken_if};
@@ -87,7 +88,9 @@ fn message_length(bytes: &[u8]) -> Option<usize>
 /// Whether these are messages of SEI and then trailing bits.
 fn is_sei(bytes: &[u8]) -> bool
     requires { length bytes.now ≤ 2 ^ 28 }
-    ensures { result ≡ is_sei bytes.now }
+    ensures value { result ≡ is_sei bytes.now }
+    ensures yes { result ≡ true → IsSei bytes.now }
+    ensures no { IsSei bytes.now → result ≡ true }
 {
     let mut rest = bytes;
     for _n in 0..bytes.len() {
