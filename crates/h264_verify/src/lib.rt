@@ -12,9 +12,9 @@
 //!
 //! Promised, for every byte string and every cutting of it: a yes, a no or an outside is the verdict of `specs/Verdict.antt`, of
 //! which each stream has exactly one, and the sink was told exactly its calls, with frames whose samples are those of the
-//! standard's equations; a stopped session repeats its stop and touches no sink; Write comes where the sink failed, and there only;
-//! Read where the source failed, and else only where it was read 2^41 times; Memory only for the bytes of a unit, or for a picture
-//! of another format than that of the one before it (`specs/Memory.antt`).
+//! standard's equations; `run` gives it on the bytes that its source gave; a stopped session repeats its stop and touches no sink;
+//! Write comes where the sink failed, and there only; Read where the source failed, and else only where it was read 2^41 times;
+//! Memory only for the bytes of a unit, or for a picture of another format than that of the one before it (`specs/Memory.antt`).
 //! Not promised: that memory suffices.
 #![tactic(auto)]
 

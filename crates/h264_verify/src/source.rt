@@ -1,7 +1,8 @@
 //! Where the bytes of a stream come from.
 #![tactic(auto)]
 
-ghost use Rattle.std.specs.Prelude.{ℕ, ◌≡◌, ◌==◌, ◌+◌, ◌-◌, ◌<◌, ◌≤◌, ◌^◌, Bool, List, [], ◌++◌, take, drop, length, Option, Some, OnOk, OnErr, IfOk, IfSome, IfNone};
+ghost use Rattle.std.specs.Prelude.{ℕ, ◌≡◌, ◌==◌, ◌+◌, ◌-◌, ◌<◌, ◌≤◌, ◌^◌, Bool, List, [], ◌++◌, take, drop, length};
+ghost use Rattle.std.specs.Prelude.{Option, Some, OnOk, OnErr, IfOk, IfSome, IfNone};
 ghost use Rattle.h264_base.specs.Call.{HasRoom, IsQuiet};
 
 use h264_base::Failed;
