@@ -1,5 +1,5 @@
 -- What holds of a result that is no Ok.
-use Rattle.std.proofs.Common.{◌≡◌, ℕ, ◌+◌, ◌<◌, ◌≤◌, ◌⊎◌, inr, arith, Result, Ok, Err, IfOk, OnOk, OnErr, sym, ◌∙◌}
+use Rattle.std.proofs.Common.{◌≡◌, ℕ, ◌+◌, ◌<◌, ◌≤◌, ◌⊎◌, inr, arith, Bool, List, Result, Ok, Err, IfOk, OnOk, OnErr, sym, ◌∙◌}
 use Rattle.h264_base.specs.declared.stop.Stop.{Stop}
 use Rattle.h264_base.specs.declared.stop.Stop.TheVariants.{Read, Write}
 use Rattle.h264_verify.specs.declared.state.Summary.{Summary}
@@ -15,6 +15,10 @@ no-ok P (Err e) h = tt
 pub on-error : {T E : Type 0} (P : Type 0) (r : Result T E) → P → OnErr r P
 on-error P (Ok x) h = tt
 on-error P (Err e) h = h
+
+-- nothing is noted of what was given
+pub given-kept : (before : List ℕ) (ended : Bool) → Unit {0} → Unit {0}
+given-kept before ended given = given
 
 -- a failure was counted
 pub counted : (n reads reads' failures failures' : ℕ) → failures' ≡ failures + 1 → (n + 1 ≤ reads') ⊎ (0 < failures')
