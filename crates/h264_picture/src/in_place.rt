@@ -23,12 +23,10 @@ use h264_plane::{Frame, Pool};
 use h264_recon::{Lines, Macroblock, Position, construct};
 use h264_scale::Residuals;
 
-/// What the samples of a macroblock are made of.
+/// What follows the prediction of a macroblock.
 #[derive(Clone, Copy)]
-pub struct Recipe<'a> {
-    /// What constructs it.
-    pub m: Macroblock<'a>,
-    /// And its residual.
+pub struct Finish<'a> {
+    /// Its residual.
     pub residuals: &'a Residuals,
     /// What its edges are filtered by.
     pub coded: Coded<'a>,
@@ -40,11 +38,12 @@ pub struct Recipe<'a> {
 pub fn go_on(
     lines: &mut Lines,
     frame: &mut Frame,
-    recipe: &Recipe<'_>,
+    m: &Macroblock,
+    finish: &Finish<'_>,
     pool: &Pool,
     position: Position,
 )
-    requires usable { AreUsable pool.now position.column position.row (prediction_in recipe.now.m.prediction) }
+    requires usable { AreUsable pool.now position.column position.row (prediction_in m.now.prediction) }
     requires y { (16 * position.column + 16 ≤ frame.old.y.width) × (16 * position.row + 16 ≤ frame.old.y.height) }
     requires cb { (8 * position.column + 8 ≤ frame.old.cb.width) × (8 * position.row + 8 ≤ frame.old.cb.height) }
     requires cr { (8 * position.column + 8 ≤ frame.old.cr.width) × (8 * position.row + 8 ≤ frame.old.cr.height) }
@@ -52,20 +51,20 @@ pub fn go_on(
     requires y_lines { 16 * position.column + 16 ≤ vec_len lines.old.y.above }
     requires cb_lines { 8 * position.column + 8 ≤ vec_len lines.old.cb.above }
     requires cr_lines { 8 * position.column + 8 ≤ vec_len lines.old.cr.above }
-    requires more { IsTrue recipe.now.m.available.above_right → 16 * position.column + 20 ≤ vec_len lines.old.y.above }
+    requires more { IsTrue m.now.available.above_right → 16 * position.column + 20 ≤ vec_len lines.old.y.above }
     ensures lines { (p : Component) → vec_len (store_of p lines.new).above ≡ vec_len (store_of p lines.old).above }
     ensures size { (p : Component) → IsSized (plane_of p frame.new) (plane_of p frame.old).width (plane_of p frame.old).height }
     ensures held { (k : Setting) (place : ℕ → ℕ) (slices : ℕ → Parameters) (picture : List CodedMacroblock) (q : CodedMacroblock) (l : Levels) →
         length picture ≡ position.row * k.across + position.column → position.column < k.across → position.row < k.down →
-        AreShown k pool.now (prediction_in recipe.now.m.prediction) →
-        AreResiduals l recipe.now.residuals.now → IsPossible (prediction_in recipe.now.m.prediction) recipe.now.m.available →
-        coded_as recipe.now.m l ≡ given_by k.across picture place (slices q.slice) q →
-        (recipe.now.coded.whole ≡ true → are_alike recipe.now.coded.own.now.motions ≡ true) →
-        Keeps k.across picture recipe.now.coded.near.now → AreContexts recipe.now.coded.own.now q →
-        filters slices q.slice ≡ recipe.now.coded.filter.now → ((n : ℕ) → (filters slices
-        n).chroma_qp_index_offset ≡ recipe.now.coded.filter.now.chroma_qp_index_offset) → IsHeld k place slices lines.old frame.old picture →
+        AreShown k pool.now (prediction_in m.now.prediction) →
+        AreResiduals l finish.now.residuals.now → IsPossible (prediction_in m.now.prediction) m.now.available →
+        coded_as m.now l ≡ given_by k.across picture place (slices q.slice) q →
+        (finish.now.coded.whole ≡ true → are_alike finish.now.coded.own.now.motions ≡ true) →
+        Keeps k.across picture finish.now.coded.near.now → AreContexts finish.now.coded.own.now q →
+        filters slices q.slice ≡ finish.now.coded.filter.now → ((n : ℕ) → (filters slices
+        n).chroma_qp_index_offset ≡ finish.now.coded.filter.now.chroma_qp_index_offset) → IsHeld k place slices lines.old frame.old picture →
         IsHeld k place slices lines.new frame.new (picture ++ q ∷ []) }
 {
-    construct(lines, frame, &recipe.m, recipe.residuals, pool, position);
-    filter_coded(frame, &recipe.coded, position.column, position.row);
+    construct(lines, frame, m, finish.residuals, pool, position);
+    filter_coded(frame, &finish.coded, position.column, position.row);
 }

@@ -13,7 +13,7 @@ ghost use Rattle.h264_recon.specs.Levels.{levels_of};
 ghost use Rattle.h264_recon.specs.Placed.{ArePlaced, PointsInto, weights_by};
 ghost use Rattle.h264_recon.specs.Predicted.{prediction_in};
 
-use crate::in_place::{Recipe, go_on};
+use crate::in_place::{Finish, go_on};
 use crate::levels::{residuals_if, residuals_of};
 use crate::sequence::Sequence;
 use h264_deblock::Coded;
@@ -118,13 +118,9 @@ impl Sequence {
             whole: moves_as_one(read),
             filter: &self.filter,
         };
-        let recipe = Recipe {
-            m,
-            residuals,
-            coded,
-        };
+        let finish = Finish { residuals, coded };
         let (frame, pool) = (&mut self.frames.frame, &self.frames.pool);
-        go_on(&mut self.lines, frame, &recipe, pool, position);
+        go_on(&mut self.lines, frame, &m, &finish, pool, position);
     }
 
     /// Makes the samples of the macroblock that was read in its place, if each value of its transform is in range.

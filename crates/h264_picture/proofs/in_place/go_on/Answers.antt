@@ -14,7 +14,7 @@ returns-clause-size c = λ p. record { columns = (c.filter_coded.ensures.size p)
 pub returns-clause-held : goal.returns-clause-held
 returns-clause-held c k place slices picture q l n i j shown residual possible is one keeps shows filter offsets held =
     let a = c.args in
-    held-step k place slices picture q (coded a.recipe.now.m l) a.lines.now c.construct.new.lines a.frame.now c.construct.new.frame c.filter_coded.new.frame a.position.column a.position.row n i j is possible
+    held-step k place slices picture q (coded a.m.now l) a.lines.now c.construct.new.lines a.frame.now c.construct.new.frame c.filter_coded.new.frame a.position.column a.position.row n i j is possible
     (λ p. record { columns = (c.filter_coded.ensures.size p).columns ∙ (c.construct.ensures.size p).columns; rows = (c.filter_coded.ensures.size p).rows ∙ (c.construct.ensures.size p).rows })
     (λ u allowed stored. c.construct.ensures.some k l u i j allowed shown residual stored)
     (λ u allowed made stored. c.construct.ensures.step k l u i j allowed shown residual made stored)
