@@ -102,21 +102,27 @@ fn put_samples(
     );
 }
 
+/// An intra macroblock: the sides that its prediction may use, and its modes.
+#[derive(Clone, Copy)]
+struct Intra {
+    available: Available,
+    modes: IntraModes,
+}
+
 /// Constructs an intra macroblock, with a residual of luma.
 fn put_intra(
     rt: &impl Abort,
     canvas: &mut Canvas,
     pool: &Pool,
-    available: Available,
-    modes: IntraModes,
+    intra: Intra,
     y: [i16; 256],
     position: Position,
 ) {
     assert_room(rt, canvas, position.column, position.row);
     let weights = SliceWeights::NONE;
     let m = Macroblock {
-        available,
-        prediction: Prediction::Intra(modes),
+        available: intra.available,
+        prediction: Prediction::Intra(intra.modes),
         weighting: unweighted(&weights),
     };
     let residuals = Residuals {
@@ -237,11 +243,11 @@ fn beside_raw(rt: &impl Abort, canvas: &mut Canvas, pool: &Pool) {
         &counting(),
         Position { column: 0, row: 0 },
     );
-    let left = Available {
+    let available = Available {
         left: true,
         ..NO_SIDE
     };
-    let whole = IntraModes {
+    let modes = IntraModes {
         luma: IntraLuma::Whole(Intra16x16PredMode::Horizontal),
         chroma: IntraChromaPredMode::Horizontal,
     };
@@ -249,8 +255,7 @@ fn beside_raw(rt: &impl Abort, canvas: &mut Canvas, pool: &Pool) {
         rt,
         canvas,
         pool,
-        left,
-        whole,
+        Intra { available, modes },
         [0; 256],
         Position { column: 1, row: 0 },
     );
@@ -275,11 +280,11 @@ fn below_raw(rt: &impl Abort, canvas: &mut Canvas, pool: &Pool) {
     }
     let mut modes = [Intra4x4PredMode::Vertical; 16];
     modes[5] = Intra4x4PredMode::DiagonalDownLeft;
-    let blocks = IntraModes {
+    let modes = IntraModes {
         luma: IntraLuma::Blocks(modes),
         chroma: IntraChromaPredMode::Vertical,
     };
-    let above = Available {
+    let available = Available {
         above: true,
         above_right: true,
         ..NO_SIDE
@@ -290,8 +295,7 @@ fn below_raw(rt: &impl Abort, canvas: &mut Canvas, pool: &Pool) {
         rt,
         canvas,
         pool,
-        above,
-        blocks,
+        Intra { available, modes },
         residual,
         Position { column: 0, row: 1 },
     );
