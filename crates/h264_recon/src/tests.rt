@@ -30,6 +30,7 @@ const NO_SIDE: Available = Available {
     corner: false,
 };
 
+/// No residual.
 fn zero() -> Residuals {
     Residuals {
         y: None,
@@ -325,6 +326,7 @@ fn moved_macroblock(rt: &impl Abort, canvas: &mut Canvas, pool: &Pool) {
     assert_eq!(rt; get(rt, &canvas.frame.cb, 15, 15), 113);
 }
 
+/// A weight (8.4.2.3).
 const fn weight(log2_weight_denom: u8, weight: i16, offset: i16) -> Weight {
     Weight {
         log2_weight_denom,

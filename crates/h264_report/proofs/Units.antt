@@ -107,7 +107,7 @@ took-nothing s found same none = record {
   all = λ h. (refl, inl (0, refl));
   stands = λ h. (ap (λ (x : Splitting). x.at) same, ap (λ (x : Splitting). x.rest) same, ap (λ (x : Splitting). x.stop) same);
   refused = λ h. absurd (whole-no-stream h);
-  goes_on = λ h. whole-not-cut h;
+  not_cut = λ h. whole-not-cut h;
 }
 
 -- the first bytes and the others
@@ -148,7 +148,7 @@ took-stopped s r found before bytes off t = record {
   all = λ h. absurd (not-whole r off h);
   stands = λ h. absurd (not-whole r off h);
   refused = λ h. refused-more t.at t.left t.rest bytes (t.refused h);
-  goes_on = t.goes_on;
+  not_cut = t.not_cut;
 }
 
 -- memory is wanting
@@ -165,7 +165,7 @@ took-memory old new found before bytes t = record {
   all = λ h. absurd (memory-not-whole h);
   stands = λ h. absurd (memory-not-whole h);
   refused = λ h. absurd (memory-no-stream h);
-  goes_on = λ h. memory-not-cut h;
+  not_cut = λ h. memory-not-cut h;
 }
 
 -- the bytes are no byte stream
@@ -186,7 +186,7 @@ took-refused old new found before piece stop t r = record {
     stop,
     subst₂ (λ (n : ℕ) (l : List ℕ). Refused n l stop) (t.stands refl).0 (ap (λ l. l ++ piece) (t.stands refl).1 ∙ ap (λ l. t.left ++ (l ++ piece)) (sym (t.all refl).0)) r,
   );
-  goes_on = λ h. stream-not-cut h;
+  not_cut = λ h. stream-not-cut h;
 }
 
 -- a piece can't be cut into units
@@ -229,7 +229,7 @@ module _ (old mid : Splitting) (found : List (Option Places)) (before piece : Li
     all = λ h. (refl, subst IsUndecided left-is (pushed.undecided idle));
     stands = λ h. (ap (λ (s : Splitting). s.at) same ∙ at-is, ap (λ (s : Splitting). s.rest) same ∙ left-is, ap (λ (s : Splitting). s.stop) same ∙ pushed.stop_is);
     refused = λ h. absurd (whole-no-stream h);
-    goes_on = λ h. whole-not-cut h;
+    not_cut = λ h. whole-not-cut h;
   }
 
   module _ (new : Splitting) (unit : NalUnit) (taken : Taken mid new unit) (runs : IsFalse old.ended) where
@@ -253,7 +253,7 @@ module _ (old mid : Splitting) (found : List (Option Places)) (before piece : Li
       all = λ h. (refl, taken.undecided);
       stands = λ h. (taken.at_is, refl, taken.stop_is);
       refused = λ h. absurd (whole-no-stream h);
-      goes_on = λ h. whole-not-cut h;
+      not_cut = λ h. whole-not-cut h;
     }
     took-unit (Err e) later notes same = subst (λ (f : List (Option Places)). TookBytes new extents.Memory f (before ++ take n piece)) (sym same) (took-memory old new found before (take n piece) t)
 
@@ -262,8 +262,19 @@ module _ (old mid : Splitting) (found : List (Option Places)) (before piece : Li
 begins-now : (front : List ℕ) (units : List NalUnit) (at : ℕ) (left : List ℕ) → BeginWith 0 (front ++ []) units at (left ++ []) → BeginWith 0 front units at left
 begins-now front units at left b = subst₂ (λ (x y : List ℕ). BeginWith 0 x units at y) (append-nil front) (append-nil left) b
 
+-- what begins with these units still does where nothing more comes
+begins-end : (bytes : List ℕ) (units : List NalUnit) (at : ℕ) (left more : List ℕ) → more ≡ [] → BeginWith 0 bytes units at left → BeginWith 0 (bytes ++ more) units at (left ++ more)
+begins-end bytes units at left more none b =
+    subst (λ (m : List ℕ). BeginWith 0 (bytes ++ m) units at (left ++ m)) (sym none)
+    (subst₂ (λ (x y : List ℕ). BeginWith 0 x units at y) (sym (append-nil bytes)) (sym (append-nil left)) b)
+
 -- a reader that looks at no more
 module _ (s : Splitting) (r : Extent) (found : List (Option Places)) (bytes : List ℕ) (t : TookBytes s r found bytes) where
+  begins-all : (more : List ℕ) → BeginWith 0 (bytes ++ more) t.units t.at ((t.left ++ t.rest) ++ more)
+  begins-all more =
+      subst₂ (λ (a b : List ℕ). BeginWith 0 a t.units t.at b) (sym (ap (λ l. l ++ more) t.whole ∙ append_assoc t.front t.rest more)) (sym (append_assoc t.left t.rest more))
+      (t.begins (t.rest ++ more))
+
   splits-refused : AreRefused t.at (t.left ++ t.rest) → SplitsToStop bytes t.units
   splits-refused a = (
     a.1.tail,
@@ -275,33 +286,27 @@ module _ (s : Splitting) (r : Extent) (found : List (Option Places)) (bytes : Li
 
   pub tells-stopped : (ended : Bool) → is_whole r ≡ false → TellsOfBytes r ended found bytes
   tells-stopped ended off = record {
-    front = t.front;
-    rest = t.rest;
     units = t.units;
     at = t.at;
-    left = t.left;
-    whole = t.whole;
-    begins = begins-now t.front t.units t.at t.left (t.begins []);
+    left = t.left ++ t.rest;
+    begins = λ more ends. begins-all more;
     tells = t.tells;
     all = λ h. absurd (not-whole r off h);
-    refused = λ h. splits-refused (t.refused h);
-    cut = λ h. absurd (t.goes_on h);
+    refused = λ h. (splits-refused (t.refused h), λ e. t.refused h);
+    cut = λ h. absurd (t.not_cut h);
   }
 
 -- the bytes may go on
 pub tells-cut : (s : Splitting) (r : Extent) (found : List (Option Places)) (bytes : List ℕ) → TookBytes s r found bytes → TellsOfBytes (cut_off r) false found bytes
 tells-cut s extents.Whole found bytes t = record {
-  front = t.front;
-  rest = t.rest;
   units = t.units;
   at = t.at;
-  left = t.left;
-  whole = t.whole;
-  begins = begins-now t.front t.units t.at t.left (t.begins []);
+  left = t.left ++ t.rest;
+  begins = λ more ends. begins-all s extents.Whole found bytes t more;
   tells = t.tells;
   all = λ h. absurd (cut-not-whole h);
   refused = λ h. absurd (cut-no-stream h);
-  cut = λ h. (refl, (t.all refl).0, (t.all refl).1);
+  cut = λ h. (refl, subst IsUndecided (sym (ap (λ l. t.left ++ l) (t.all refl).0 ∙ append-nil t.left)) (t.all refl).1);
 }
 tells-cut s extents.NoByteStream found bytes t = tells-stopped s extents.NoByteStream found bytes t false refl
 tells-cut s extents.NotToTheEnd found bytes t = tells-stopped s extents.NotToTheEnd found bytes t false refl
@@ -309,13 +314,10 @@ tells-cut s extents.Memory found bytes t = tells-stopped s extents.Memory found 
 
 tells-memory : (s : Splitting) (found : List (Option Places)) (bytes : List ℕ) → TookBytes s extents.Whole found bytes → TellsOfBytes extents.Memory true found bytes
 tells-memory s found bytes t = record {
-  front = t.front;
-  rest = t.rest;
   units = t.units;
   at = t.at;
-  left = t.left;
-  whole = t.whole;
-  begins = begins-now t.front t.units t.at t.left (t.begins []);
+  left = t.left ++ t.rest;
+  begins = λ more ends. begins-all s extents.Whole found bytes t more;
   tells = t.tells;
   all = λ h. absurd (memory-not-whole h);
   refused = λ h. absurd (memory-no-stream h);
@@ -326,22 +328,22 @@ tells-memory s found bytes t = record {
 tells-refused : (old new : Splitting) (found : List (Option Places)) (bytes : List ℕ) (stop : Stop) → TookBytes old extents.Whole found bytes → FinishStops old new stop →
     TellsOfBytes extents.NoByteStream true found bytes
 tells-refused old new found bytes stop t stops = record {
-  front = t.front;
-  rest = t.rest;
   units = t.units;
   at = t.at;
-  left = t.left;
-  whole = t.whole;
-  begins = begins-now t.front t.units t.at t.left (t.begins []);
+  left = t.left ++ t.rest;
+  begins = λ more ends. begins-all old extents.Whole found bytes t more;
   tells = t.tells;
   all = λ h. absurd (stream-not-whole h);
   refused = λ h. (
-    stops.tail,
-    stop,
-    stops.stop_is,
-    splits-from stops.tail 0 bytes t.units t.at t.left
-        (subst (λ (l : List ℕ). BeginWith 0 l t.units t.at t.left) (sym (t.whole ∙ ap (λ l. t.front ++ l) (t.all refl).0 ∙ append-nil t.front)) (begins-now t.front t.units t.at t.left (t.begins [])))
-        (subst₂ (λ (m : ℕ) (l : List ℕ). HasTail m l stops.tail) (t.stands refl).0 (t.stands refl).1 stops.stands),
+    (
+      stops.tail,
+      stop,
+      stops.stop_is,
+      splits-from stops.tail 0 bytes t.units t.at t.left
+          (subst (λ (l : List ℕ). BeginWith 0 l t.units t.at t.left) (sym (t.whole ∙ ap (λ l. t.front ++ l) (t.all refl).0 ∙ append-nil t.front)) (begins-now t.front t.units t.at t.left (t.begins [])))
+          (subst₂ (λ (m : ℕ) (l : List ℕ). HasTail m l stops.tail) (t.stands refl).0 (t.stands refl).1 stops.stands),
+    ),
+    λ e. absurd (false≢true (sym e)),
   );
   cut = λ h. absurd (stream-not-cut h);
 }
@@ -364,13 +366,10 @@ module _ (old mid : Splitting) (found : List (Option Places)) (bytes : List ℕ)
   -- no unit is left
   pub tells-none : IsFalse mid.waiting → TellsOfBytes extents.Whole true found bytes
   tells-none none = record {
-    front = bytes;
-    rest = [];
     units = t.units;
     at = t.at;
     left = t.left;
-    whole = sym (append-nil bytes);
-    begins = begun;
+    begins = λ more ends. begins-end bytes t.units t.at t.left more (ends refl) begun;
     tells = t.tells;
     all = λ h. (refl, splits-from Zeros 0 bytes t.units t.at t.left begun (subst₂ (λ (m : ℕ) (l : List ℕ). HasTail m l Zeros) (t.stands refl).0 (t.stands refl).1 (ends.zeros none)));
     refused = λ h. absurd (whole-no-stream h);
@@ -387,13 +386,10 @@ module _ (old mid : Splitting) (found : List (Option Places)) (bytes : List ℕ)
     pub tells-unit : (looked : Result (Unit {0}) Stop) (later : List (Option Places)) → OnOk looked (Notes found unit later) → OnErr looked (later ≡ found) →
         TellsOfBytes (extent_of looked) true later bytes
     tells-unit (Ok u) later notes same = record {
-      front = bytes;
-      rest = [];
       units = t.units ++ unit ∷ [];
       at = past unit;
       left = new.rest;
-      whole = sym (append-nil bytes);
-      begins = begun-unit;
+      begins = λ more ends. begins-end bytes (t.units ++ unit ∷ []) (past unit) new.rest more (ends refl) begun-unit;
       tells = tells-more found later t.units unit t.tells notes;
       all = λ h. (refl, splits-from Zeros 0 bytes (t.units ++ unit ∷ []) (past unit) new.rest begun-unit (subst (λ (m : ℕ). HasTail m new.rest Zeros) taken.at_is (taken.last ends.ended_is)));
       refused = λ h. absurd (whole-no-stream h);

@@ -1,7 +1,7 @@
 -- The RBSP of SEI: messages, and the trailing bits (7.3.2.3, 7.3.2.3.1). To be read beside the standard.
 use Rattle.std.specs.Prelude.{◌≡◌, ◌≢◌, ℕ, ◌+◌, ◌*◌, List, [], ◌∷◌, ◌++◌, length, replicate}
 
--- payloadType or payloadSize, before these bytes: ff_byte so many times, and then a byte that is no FF
+-- payloadType or payloadSize, before these bytes: ff_byte so many times, and then the last byte
 abbrev pub coded : (ffs last : ℕ) → List ℕ → List ℕ
 coded ffs last bytes = replicate ffs 255 ++ last ∷ bytes
 
@@ -17,7 +17,7 @@ pub record SeiMessage : Type 0 where
 abbrev pub message_before : SeiMessage → List ℕ → List ℕ
 message_before m bytes = coded m.type_ffs m.last_payload_type_byte (coded m.size_ffs m.last_payload_size_byte (m.payload ++ bytes))
 
--- Its payload has payloadSize bytes.
+-- The last byte of payloadType and of payloadSize is no FF, and the payload has payloadSize bytes.
 pub record IsMessage (m : SeiMessage) : Type 0 where
   pub type_ends : m.last_payload_type_byte ≢ 255
   pub size_ends : m.last_payload_size_byte ≢ 255

@@ -41,22 +41,20 @@ pub record TookBytes (splitter : Splitting) (extent : Extent) (found : List (Opt
   pub all : extent ≡ extents.Whole → (rest ≡ []) × IsUndecided left
   pub stands : extent ≡ extents.Whole → (splitter.at ≡ at) × (splitter.rest ≡ left) × (splitter.stop ≡ None)
   pub refused : extent ≡ extents.NoByteStream → AreRefused at (left ++ rest)
-  pub goes_on : extent ≡ extents.NotToTheEnd → ⊥
+  -- that the bytes may go on is no reason
+  pub not_cut : extent ≡ extents.NotToTheEnd → ⊥
 
--- What is told of these bytes, after which the source has said its end or not: of the first units of a front of them, which are all unless memory was
--- wanting.
+-- What is told of these bytes, after which the source has said its end or not: of their first units, which are all unless memory was wanting.
 pub record TellsOfBytes (extent : Extent) (ended : Bool) (found : List (Option Places)) (bytes : List ℕ) : Type 0 where
-  pub front : List ℕ
-  pub rest : List ℕ
   pub units : List NalUnit
   pub at : ℕ
   pub left : List ℕ
-  pub whole : bytes ≡ front ++ rest
-  pub begins : BeginWith 0 front units at left
+  -- however the bytes go on, where they have not ended
+  pub begins : (more : List ℕ) → (ended ≡ true → more ≡ []) → BeginWith 0 (bytes ++ more) units at (left ++ more)
   pub tells : (rule : StrictRule) → noted_in found rule ≡ told_of_units rule units
   -- the units of a byte stream that has ended
   pub all : extent ≡ extents.Whole → (ended ≡ true) × Splits 0 bytes units Zeros
-  -- the units before what is no byte stream
-  pub refused : extent ≡ extents.NoByteStream → SplitsToStop bytes units
+  -- the units before what is no byte stream, however the bytes go on where they have not ended
+  pub refused : extent ≡ extents.NoByteStream → SplitsToStop bytes units × (ended ≡ false → AreRefused at left)
   -- the units whose ends the bytes show, which may go on
-  pub cut : extent ≡ extents.NotToTheEnd → (ended ≡ false) × (rest ≡ []) × IsUndecided left
+  pub cut : extent ≡ extents.NotToTheEnd → (ended ≡ false) × IsUndecided left

@@ -8,7 +8,8 @@
 //! `list`, `check` and `decode` judge a stream with one of them, and write the last line.
 //! Promised: exactly the texts of `specs/Lines.antt` and `specs/Objects.antt`; that a writer which tells its bytes holds the lines, the samples or the frames
 //! of the calls taken, in order, and after a failure a part of the last; that a trail has the last 16 elements; that a sink round which another stands took
-//! each call, or what `specs/Chosen.antt` leaves of them; that `Strict` has each rule's first place and their number (`specs/Strict.antt`); and of the three
+//! each call, or what `specs/Chosen.antt` leaves of them; that `Strict` has each rule's first place and their number (`specs/Strict.antt`); that the answer of
+//! `judge_strictly` and what it tells of units are on the same bytes (`specs/StrictUnits.antt`); and of the three
 //! that run a judgement, what stands in `specs/Written.antt`: the last line is that of the answer in this mode, and what stands before it is of the calls up
 //! to there; a failed read or write is told, and only where there was one. Nothing is promised of the head of an object, nor of the texts, plots and pictures
 //! of a page.
