@@ -2,12 +2,12 @@
 """wrong_bodies.py [--jobs N] [--alone] [FOLDER] [CRATE..]: tries the edits of wrong-bodies/CRATE/. Each has to be refused by the prover.
 
 Edits of functions that do not call one another are tried together, in one check of a copy of the crate. An edit is refused there where the check does
-not prove a function that the edit changes, and says so of that function itself: not because of one that it calls. Where that check does not tell, the
-edit is tried alone, as the gate tries those of must-fail/. With --alone each is.
+not prove a function that the edit changes, and says so of that function itself: not because of one that it calls. Where that check does not tell, or
+the crate as it stands is not proved, the edit is tried alone, as the gate tries those of must-fail/. With --alone each is.
 
 FOLDER is a folder with the repository's crates/ and what checks left in their out/, such as KEEP=1 ./install.sh leaves in FOLDER/work; the
 repository itself where it is left out. With no CRATE it tries the edits of every crate that has some. It prints a line for each edit that is not refused,
-or only for a name in a proof, and a count for each crate. Status 1 where an edit was not refused.
+or only for a name in a proof or by a limit of the prover, and a count for each crate. Status 1 where an edit was not refused.
 """
 import argparse
 import os
@@ -24,9 +24,12 @@ FUNCTION = re.compile(r"^( *)(?:pub(?:\([a-z]+\))? )?(?:const )?(?:unsafe )?(?:e
 CALLED = re.compile(r"\b([a-z_]\w*)(?:::<[^()]*>)?\(")
 # what a check says of a function, and of a line of a function's proof
 OF_FUNCTION = re.compile(r"(?m)^(?:so far: )?fn \w+::([\w:<>+' ]*?): (not proved|no proof)(.*)$")
-OF_PROOF = re.compile(r"(?m)^(?:so far: )?(?:note: )?(?:\./)?proofs/(\S+)/\w+\.antt:\d+:\d+: (?:error|note)(.*)$")
+OF_PROOF = re.compile(r"(?m)^(?:so far: )?(?:\./)?proofs/(\S+)/\w+\.antt:\d+:\d+: error(.*)$")
 OF_NAME = re.compile(r"has no field|is not in scope|has no `|was not admitted")
+# what is wrong with the text itself, of which no contract says anything
+OF_TEXT = re.compile(r"(?m)^(?:so far: )?(?:\./)?(?:src|specs)/\S+:\d+:\d+: error|\berror\[[\w-]+\]|[Rr]un the lower steps again")
 REFUSED = "refused, as it must be"
+FOR_A_NAME = f"{REFUSED} (only because"
 
 
 class Edit:
@@ -78,10 +81,16 @@ def spans_of(text):
         found = FUNCTION.match(lines[at])
         if found:
             first = at
-            while at + 1 < len(lines) and not lines[at].startswith(found[1] + "}") and not (at == first and lines[at].endswith("}")):
+            while at + 1 < len(lines) and not ends_function(lines, first, at, found[1]):
                 at += 1
             yield first + 1, at + 1, found[2]
         at += 1
+
+
+def ends_function(lines, first, at, indent):
+    """Whether a function that begins at a line ends at another: by its brace, or by a semicolon where it has no body."""
+    line = lines[at]
+    return line.startswith(indent + "}") or at == first and line.endswith("}") or line.endswith(";") and "{" not in "".join(lines[first:at])
 
 
 def within(called, name):
@@ -112,7 +121,10 @@ def batches_of(edits, sources):
 
 def copied(folder, crate, room):
     """A copy of the crates in which this one may change: the other files are links."""
-    subprocess.run(["cp", "-al", folder / "crates", room / "crates"], check=True)
+    linked = subprocess.run(["cp", "-al", folder / "crates", room / "crates"], stderr=subprocess.DEVNULL)
+    if linked.returncode:
+        # The two lie on different disks.
+        subprocess.run(["cp", "-a", folder / "crates", room], check=True)
     for name in ("crates.txt", "HANDLES"):
         shutil.copy(folder / name, room / name)
     for part in ("src", "specs", "proofs", "must-fail"):
@@ -137,16 +149,37 @@ def edited(text, pairs):
     return "".join(parts) + text[at:]
 
 
+def is_path_of(path, function):
+    """Whether a path of a function within its crate, as plane::Plane::get, is that of one in a file, as (src/plane.rt, get)."""
+    file, name = function
+    module = file.removeprefix("src/").removesuffix(".rt").replace("/", "::")
+    words = path.split("::")
+    return words[-1] == name and (module in ("lib", "main") or path.startswith(module + "::"))
+
+
 def said_of(text):
-    """By the last words of a function's path: whether it was not proved for what it does, and whether a name in a proof is all that says so."""
+    """The paths of functions that were not proved for what they do, and of those of which more than a name in a proof says so."""
     own, beyond_names = set(), set()
     for path, _, why in OF_FUNCTION.findall(text):
         if "it calls" not in why:
-            own.add(path.split("::")[-1])
+            own.add(path)
+        if "`search` did not prove" in why:
+            beyond_names.add(path)
     for path, why in OF_PROOF.findall(text):
         if not OF_NAME.search(why):
-            beyond_names.add(path.split("/")[-1])
+            beyond_names.add(path.replace("/", "::"))
     return own, beyond_names
+
+
+def checked(place, jobs):
+    """A check of a crate."""
+    return subprocess.run(["rt", "check", "--jobs", jobs], cwd=place, stdout=subprocess.PIPE, stderr=subprocess.STDOUT, text=True, errors="replace")
+
+
+def is_proved(folder, crate, jobs):
+    """Whether the crate as it stands is proved."""
+    with tempfile.TemporaryDirectory(prefix="wrong-bodies-") as room:
+        return not checked(copied(folder, crate, pathlib.Path(room)), jobs).returncode
 
 
 def told_together(folder, crate, batch, sources, jobs):
@@ -156,14 +189,12 @@ def told_together(folder, crate, batch, sources, jobs):
         for file in {file for edit in batch for file, _, _ in edit.pairs}:
             pairs = [(old, new) for edit in batch for name, old, new in edit.pairs if name == file]
             (place / file).write_text(edited(sources.texts[file], pairs))
-        ran = subprocess.run(["rt", "check", "--jobs", jobs], cwd=place, stdout=subprocess.PIPE, stderr=subprocess.STDOUT, text=True, errors="replace")
-    if "logic=not-proved" not in ran.stdout:
-        print(f"{crate}: a check of {len(batch)} edits gave no verdict (status {ran.returncode}): {ran.stdout[-200:]}", flush=True)
+        ran = checked(place, jobs)
+    if ran.returncode != 1 or "logic=not-proved" not in ran.stdout or OF_TEXT.search(ran.stdout):
         return [], []
     own, beyond_names = said_of(ran.stdout)
-    refused = [it for it in batch if {name for _, name in it.functions} & own]
-    by_search = "`search` did not prove"
-    named = [it for it in refused if by_search not in ran.stdout and not {name for _, name in it.functions} & beyond_names]
+    refused = [it for it in batch if any(is_path_of(path, function) for path in own for function in it.functions)]
+    named = [it for it in refused if not any(is_path_of(path, function) for path in beyond_names for function in it.functions)]
     return refused, named
 
 
@@ -185,26 +216,26 @@ def tried(folder, crate, jobs, is_alone):
     began = time.time()
     sources = Sources(folder / "crates" / crate)
     edits = [Edit(it, sources) for it in sorted((TOP / "wrong-bodies" / crate).glob("*.edit"))]
-    together = [] if is_alone else [it for it in edits if it.is_of_functions()]
-    refused, named = [], []
+    together = [it for it in edits if it.is_of_functions()] if not is_alone and is_proved(folder, crate, jobs) else []
+    refused, named = set(), set()
     for batch in batches_of(together, sources):
         some, by_name = told_together(folder, crate, batch, sources, jobs)
-        refused += [it.name for it in some]
-        named += [it.name for it in by_name]
+        refused |= {it.name for it in some}
+        named |= {it.name for it in by_name}
     left = [it for it in edits if it.name not in refused]
     told = told_alone(folder, crate, left) if left else {}
     for edit in left:
         line = told.get(edit.name, "NOT TRIED")
         if line.startswith(REFUSED):
-            refused.append(edit.name)
-        if not line.startswith(REFUSED) or "only" in line.partition(":")[0]:
+            refused.add(edit.name)
+        if line.startswith(FOR_A_NAME):
+            named.add(edit.name)
+        elif not line.startswith(REFUSED) or line.startswith(f"{REFUSED} (only"):
             print(f"{crate}/{edit.name}: {line[:200]}", flush=True)
-        if line.startswith(f"{REFUSED} (only because"):
-            named.append(edit.name)
+    for name in sorted(named):
+        print(f"{crate}/{name}: refused only for a name in a proof", flush=True)
     seconds = time.time() - began
-    print(f"{crate}: {len(edits)} tried, {len(refused)} refused, {len(left)} of them tried alone, {len(named)} only for a name, {seconds:.0f} s", flush=True)
-    for name in named:
-        print(f"{crate}/{name}: only for a name in a proof", flush=True)
+    print(f"{crate}: {len(edits)} edits, {len(left)} tried alone; {len(refused)} refused, {len(named)} only for a name; {seconds:.0f} s", flush=True)
     return len(edits), len(refused), len(named)
 
 
@@ -216,6 +247,8 @@ def main():
     asked = words.parse_args()
     folders = [it for it in asked.names if os.path.isdir(f"{it}/crates")]
     crates = [it for it in asked.names if it not in folders] or sorted(it.name for it in (TOP / "wrong-bodies").iterdir() if it.is_dir())
+    if len(folders) > 1:
+        sys.exit(f"one folder at a time: {' '.join(folders)}")
     folder = pathlib.Path(folders[0]).resolve() if folders else TOP
     unknown = [it for it in crates if not (TOP / "wrong-bodies" / it).is_dir() or not (folder / "crates" / it).is_dir()]
     if unknown:
