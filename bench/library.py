@@ -3,9 +3,9 @@
 
     bench/library.py PROGRAM LIBRARY FOLDER|FILE.. [--turns N]
 
-PROGRAM is h264v, LIBRARY the shared object (libh264v.so.1) built for the same processor. The library (library/receive.c) gets one unit a piece, pieces of
+PROGRAM is h264v, LIBRARY the shared object (libh264v.so.1) built for the same processor. The library (decoders/receive.c) gets one unit a piece, pieces of
 4 KiB and of 64 KiB. Each frame is received; it is read too, or left unread. The program runs `decode` with its output to nothing, and into a pipe that this script reads. libavcodec
-(library/avcodec.c) gets pieces of 64 KiB, and each frame is read. All take turns. The least of N turns counts, 5 where N is left out, as user and system time of the process.
+(decoders/avcodec.c) gets pieces of 64 KiB, and each frame is read. All take turns. The least of N turns counts, 5 where N is left out, as user and system time of the process.
 Compare figures of one line only.
 Prints a table for docs/SPEED.md. Needs cc; libavcodec is left out where its headers are missing.
 """
@@ -40,9 +40,9 @@ def seconds(words, into_pipe):
 
 
 def built(name, folder, *words):
-    """A program of library/, or None where it can't be built."""
+    """A program of decoders/, or None where it can't be built."""
     path = os.path.join(folder, name)
-    run = subprocess.run(["cc", "-O2", os.path.join(HERE, "library", f"{name}.c"), *words, "-o", path], stderr=subprocess.DEVNULL)
+    run = subprocess.run(["cc", "-O2", os.path.join(HERE, "decoders", f"{name}.c"), *words, "-o", path], stderr=subprocess.DEVNULL)
     return path if run.returncode == 0 else None
 
 
@@ -103,13 +103,13 @@ def main():
         receive = built("receive", folder, "-I", include, os.path.join(folder, "libh264v.so.1"), f"-Wl,-rpath,{folder}")
         avcodec = built("avcodec", folder, "-lavcodec", "-lavutil")
         if not receive:
-            sys.exit("library.py: library/receive.c can't be built")
+            sys.exit("library.py: decoders/receive.c can't be built")
         print(HEAD + "\n" + "|---" * HEAD.count(" |") + "|")
         for name in names_in(streams):
             decode = [program, "decode", name]
             commands = {"program": decode, PIPE: decode, **{way: [receive, name, *more] for way, more in WAYS.items()}}
             if avcodec:
-                commands.update({"assembly": [avcodec, name], "c": [avcodec, name, "c"]})
+                commands.update({way: [avcodec, name, way, "read"] for way in ("assembly", "c")})
             best = least(commands, turns)
             print(row(name, best), flush=True)
             for way, took in best.items():

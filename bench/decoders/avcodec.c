@@ -1,24 +1,38 @@
-/* Decodes a stream by libavcodec in one thread, and reads every row of each frame: what bench/library.py times beside the library.
+/* Decodes a stream by libavcodec in one thread: what bench/compare.py times beside the program, and bench/library.py beside the library.
  *
- *     avcodec FILE [c]      c: without assembly */
+ *     avcodec FILE assembly|c read|write
+ *
+ * c: without assembly. read: a sample of each line of a frame's memory is read. write: frames go to standard output as planar YUV. */
 #include <libavcodec/avcodec.h>
 #include <libavutil/cpu.h>
+#include <stdbool.h>
+#include <stddef.h>
 #include <stdio.h>
 #include <stdlib.h>
 #include <string.h>
 
-enum { PIECE = 65536, LINE = 64, PLANES = 3 };
+enum { PIECE = 65536, LINE = 64, PLANES = 3, USAGE = 64 };
 
 static unsigned sum = 0;
+static bool writes = false;
 
-/* Reads a sample of each line of a frame's memory. */
-static void touch(const AVFrame *frame)
+/* Writes a row of samples, or reads one of each line of memory. */
+static void take_row(const uint8_t *row, int width)
+{
+    if (writes)
+        fwrite(row, 1, (size_t)width, stdout);
+    else
+        for (int x = 0; x < width; x += LINE)
+            sum += row[x];
+}
+
+/* Takes every row of a frame. */
+static void take(const AVFrame *frame)
 {
     for (int plane = 0; plane < PLANES; plane++) {
         int width = plane ? (frame->width + 1) / 2 : frame->width, height = plane ? (frame->height + 1) / 2 : frame->height;
         for (int y = 0; y < height; y++)
-            for (int x = 0; x < width; x += LINE)
-                sum += frame->data[plane][(ptrdiff_t)y * frame->linesize[plane] + x];
+            take_row(frame->data[plane] + (ptrdiff_t)y * frame->linesize[plane], width);
     }
 }
 
@@ -28,7 +42,7 @@ static void decode(AVCodecContext *context, const AVPacket *packet, AVFrame *fra
     if (avcodec_send_packet(context, packet) < 0)
         return;
     while (avcodec_receive_frame(context, frame) >= 0) {
-        touch(frame);
+        take(frame);
         av_frame_unref(frame);
     }
 }
@@ -48,12 +62,13 @@ static void parse(AVCodecParserContext *parser, AVCodecContext *context, AVPacke
 int main(int argc, char **argv)
 {
     static uint8_t piece[PIECE + AV_INPUT_BUFFER_PADDING_SIZE];
-    FILE *file = argc > 1 ? fopen(argv[1], "rb") : NULL;
+    FILE *file = argc > 3 ? fopen(argv[1], "rb") : NULL;
     size_t size;
     if (!file)
-        return 64;
-    if (argc > 2 && strcmp(argv[2], "c") == 0)
+        return USAGE;
+    if (strcmp(argv[2], "c") == 0)
         av_force_cpu_flags(0);
+    writes = strcmp(argv[3], "write") == 0;
     setvbuf(file, NULL, _IONBF, 0);
     AVCodecContext *context = avcodec_alloc_context3(avcodec_find_decoder(AV_CODEC_ID_H264));
     AVCodecParserContext *parser = av_parser_init(AV_CODEC_ID_H264);
@@ -67,6 +82,7 @@ int main(int argc, char **argv)
     }
     parse(parser, context, packet, frame, piece, 0);
     decode(context, NULL, frame);
-    printf("%u\n", sum);
+    if (!writes)
+        printf("%u\n", sum);
     return 0;
 }
