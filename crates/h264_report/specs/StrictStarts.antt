@@ -1,5 +1,6 @@
--- The rules on start codes, and on what a delimiter says of its picture (B.1.2, 7.4.2.4), and all places of the rules on units. To be read beside the standard.
-use Rattle.std.specs.Prelude.{ℕ, ◌*◌, ◌-◌, ◌/◌, ◌==◌, ◌&&◌, ◌||◌, Bool, false, not, nat_lt, nat_le, if◌then◌else◌, List, [], ◌∷◌, ◌++◌, Option, None, ◌≡◌, get_or}
+-- The rules on start codes, and on what a delimiter says of its picture (B.1.2, 7.4.2.4); and where units break a rule. To be read beside the standard.
+use Rattle.std.specs.Prelude.{◌≡◌, ℕ, ◌*◌, ◌-◌, ◌/◌, ◌==◌, ◌&&◌, ◌||◌, Bool, false, not, nat_lt, nat_le, if◌then◌else◌}
+use Rattle.std.specs.Prelude.{List, [], ◌∷◌, ◌++◌, Option, None, get_or}
 use Rattle.h264_units.specs.Stream.{NalUnit, past}
 use Rattle.h264_report.specs.Strict.{begins_access_unit, bits_for, with_places}
 use Rattle.h264_report.specs.StrictBytes.{kind_of, broken_unit}

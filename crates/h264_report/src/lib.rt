@@ -4,7 +4,7 @@
 //! object of JSON, for each unit, slice, element or frame to a writer, `YuvSink` the samples of each frame, `Y4mSink` frames with their header; `TrailSink`
 //! keeps the last 16 elements. `Surveyed`, `PageSink`, `StrictSink` and `Narrowed` stand around another sink: the first three hand each call on, and `Narrowed`
 //! what is chosen. `Strict` says which further rules the calls break, and where.
-//! `judge_strictly` judges a stream, and beside that reads the units that the verdict passes over, for the rules on their bytes.
+//! `judge_strictly` judges a stream, and beside that reads its units, for the rules on start codes, on delimiters, and on bytes that the verdict passes over.
 //! `list`, `check` and `decode` judge a stream with one of them, and write the last line.
 //! Promised: exactly the texts of `specs/Lines.antt` and `specs/Objects.antt`; that a writer which tells its bytes holds the lines, the samples or the frames
 //! of the calls taken, in order, and after a failure a part of the last; that a trail has the last 16 elements; that a sink round which another stands took
