@@ -1,5 +1,5 @@
 -- What a reader of units took of bytes, and of more.
-use Rattle.std.proofs.Common.{◌≡◌, ℕ, suc, ◌*◌, ◌==◌, arith, length, Bool, true, false, List, [], ◌∷◌, ◌++◌, take, drop, Option, None, Result, Ok, Err, OnOk, OnErr, IsFalse, inl, refl, sym, ap, subst, ◌∙◌}
+use Rattle.std.proofs.Common.{◌≡◌, ℕ, suc, ◌*◌, ◌==◌, arith, length, Bool, true, false, List, [], ◌∷◌, ◌++◌, take, drop, Option, None, Result, Ok, Err, OnOk, OnErr, IsFalse, inl, refl, sym, ap, ap₂, subst, ◌∙◌}
 use Rattle.std.proofs.Math.Path.{subst₂}
 use Rattle.std.proofs.lemmas.Bool.{false≢true, eqb-true}
 use Rattle.std.proofs.lemmas.List.{append_assoc, append-nil, take-append-drop}
@@ -8,15 +8,18 @@ use Rattle.h264_base.specs.declared.stop.Stop.TheVariants.{No, Outside, Memory, 
 use Rattle.h264_units.specs.Stream.{NalUnit, Next, past, HasTail, Splits, Tail, Zeros, IsUndecided}
 use Rattle.h264_units.specs.Splitting.{Splitting, at_start, Pushed, PushStops, Refused, Taken, Finished, FinishStops}
 use Rattle.h264_report.specs.Strict.{with_places, bits_for, places, start}
-use Rattle.h264_report.specs.StrictBytes.{broken_unit, places_in, told_of_units}
+use Rattle.h264_report.specs.StrictBytes.{broken_unit}
 use Rattle.h264_report.specs.StrictRules.{listed}
 use Rattle.h264_report.specs.StrictExtent.{is_whole, cut_off, extent_after, extent_of}
-use Rattle.h264_report.specs.StrictUnits.{BeginWith, AreRefused, SplitsToStop, TookBytes, TellsOfBytes, noted_in}
+use Rattle.h264_report.specs.StrictStarts.{no_units, after_unit, after_units, by_zero_byte, by_pic_type, broken_after, places_in, told_of_units, noted_in, NotesUnit}
+use Rattle.h264_report.specs.StrictUnits.{BeginWith, AreRefused, SplitsToStop, TookBytes, TellsOfBytes}
 use Rattle.h264_report.specs.declared.strict.Places.{Places}
 use Rattle.h264_report.specs.declared.strict_extent.Extent.{Extent}
 use Rattle.h264_report.specs.declared.strict_extent.Extent.TheVariants as extents
 use Rattle.h264_report.specs.declared.strict_rule.StrictRule.{StrictRule}
-use Rattle.h264_report.proofs.Broken.{with-more}
+use Rattle.h264_report.specs.declared.strict_starts.UnitsBefore.{UnitsBefore}
+use Rattle.h264_report.specs.declared.strict_starts.UnitsNoted.{UnitsNoted}
+use Rattle.h264_report.proofs.Broken.{with-more, noted-more}
 
 -- ---- one more unit
 
@@ -29,25 +32,51 @@ splits-from : (tail : Tail) (at : ℕ) (bytes : List ℕ) (units : List NalUnit)
 splits-from tail at bytes [] after left b h = subst₂ (λ (n : ℕ) (l : List ℕ). HasTail n l tail) b.0 b.1 h
 splits-from tail at bytes (u ∷ us) after left b h = (b.0, b.1, splits-from tail (past u) b.0 us after left b.2 h)
 
-places-more : (rule : StrictRule) (units : List NalUnit) (unit : NalUnit) → places_in rule (units ++ unit ∷ []) ≡ places_in rule units ++ bits_for rule (8 * unit.from) (listed (broken_unit unit))
-unfolding places_in
-places-more rule [] unit = append-nil _
-places-more rule (u ∷ us) unit =
-    let first = bits_for rule (8 * u.from) (listed (broken_unit u)) in
-    ap (λ l. first ++ l) (places-more rule us unit) ∙ sym (append_assoc first (places_in rule us) (bits_for rule (8 * unit.from) (listed (broken_unit unit))))
+after-more : (s : UnitsBefore) (units : List NalUnit) (unit : NalUnit) → after_units s (units ++ unit ∷ []) ≡ after_unit (after_units s units) unit
+unfolding after_units
+after-more s [] unit = refl
+after-more s (u ∷ us) unit = after-more (after_unit s u) us unit
+
+places-more : (rule : StrictRule) (s : UnitsBefore) (units : List NalUnit) (unit : NalUnit) →
+    places_in rule s (units ++ unit ∷ []) ≡ places_in rule s units ++ bits_for rule (8 * unit.from) (broken_after (after_units s units) unit)
+unfolding places_in after_units
+places-more rule s [] unit = append-nil _
+places-more rule s (u ∷ us) unit =
+    let first = bits_for rule (8 * u.from) (broken_after s u) in
+    ap (λ l. first ++ l) (places-more rule (after_unit s u) us unit)
+    ∙ sym (append_assoc first (places_in rule (after_unit s u) us) (bits_for rule (8 * unit.from) (broken_after (after_units (after_unit s u) us) unit)))
 
 told-more : (rule : StrictRule) (units : List NalUnit) (unit : NalUnit) →
-    told_of_units rule (units ++ unit ∷ []) ≡ with_places (told_of_units rule units) (bits_for rule (8 * unit.from) (listed (broken_unit unit)))
-told-more rule units unit = ap (λ l. with_places None l) (places-more rule units unit) ∙ with-more (places_in rule units) (bits_for rule (8 * unit.from) (listed (broken_unit unit))) None
+    told_of_units rule (units ++ unit ∷ []) ≡ with_places (told_of_units rule units) (bits_for rule (8 * unit.from) (broken_after (after_units no_units units) unit))
+told-more rule units unit =
+    ap (λ l. with_places None l) (places-more rule no_units units unit)
+    ∙ with-more (places_in rule no_units units) (bits_for rule (8 * unit.from) (broken_after (after_units no_units units) unit)) None
 
--- the unit was noted
-abbrev pub Notes : List (Option Places) → NalUnit → List (Option Places) → Type 0
-Notes old unit new = (rule : StrictRule) → noted_in new rule ≡ with_places (noted_in old rule) (bits_for rule (8 * unit.from) (listed (broken_unit unit)))
+before-more : (old new : UnitsNoted) (units : List NalUnit) (unit : NalUnit) → old.before ≡ after_units no_units units → NotesUnit old unit new →
+    new.before ≡ after_units no_units (units ++ unit ∷ [])
+before-more old new units unit before notes = notes.0 ∙ ap (λ s. after_unit s unit) before ∙ sym (after-more no_units units unit)
 
-tells-more : (old new : List (Option Places)) (units : List NalUnit) (unit : NalUnit) → ((rule : StrictRule) → noted_in old rule ≡ told_of_units rule units) → Notes old unit new →
-    (rule : StrictRule) → noted_in new rule ≡ told_of_units rule (units ++ unit ∷ [])
-tells-more old new units unit before notes rule =
-    notes rule ∙ ap (λ p. with_places p (bits_for rule (8 * unit.from) (listed (broken_unit unit)))) (before rule) ∙ sym (told-more rule units unit)
+tells-more : (old new : UnitsNoted) (units : List NalUnit) (unit : NalUnit) → old.before ≡ after_units no_units units →
+    ((rule : StrictRule) → noted_in old.found rule ≡ told_of_units rule units) → NotesUnit old unit new →
+    (rule : StrictRule) → noted_in new.found rule ≡ told_of_units rule (units ++ unit ∷ [])
+tells-more old new units unit before tells notes rule =
+    notes.1 rule
+    ∙ ap₂ (λ p s. with_places p (bits_for rule (8 * unit.from) (broken_after s unit))) (tells rule) before
+    ∙ sym (told-more rule units unit)
+
+-- ---- three rules of a unit
+
+pub notes-three : (old first second third : List (Option Places)) (s : UnitsBefore) (unit : NalUnit) (bit : ℕ) (a b c : Option StrictRule) → bit ≡ 8 * unit.from →
+    a ≡ broken_unit unit → b ≡ by_zero_byte s unit → c ≡ by_pic_type s unit →
+    ((r : StrictRule) → noted_in first r ≡ with_places (noted_in old r) (bits_for r bit (listed a))) →
+    ((r : StrictRule) → noted_in second r ≡ with_places (noted_in first r) (bits_for r bit (listed b))) →
+    ((r : StrictRule) → noted_in third r ≡ with_places (noted_in second r) (bits_for r bit (listed c))) →
+    (r : StrictRule) → noted_in third r ≡ with_places (noted_in old r) (bits_for r (8 * unit.from) (broken_after s unit))
+notes-three old first second third s unit bit a b c at is-a is-b is-c one two three r =
+    noted-more r bit (noted_in old r) (noted_in second r) (noted_in third r) (listed a ++ listed b) (listed c)
+    (noted-more r bit (noted_in old r) (noted_in first r) (noted_in second r) (listed a) (listed b) (one r) (two r)) (three r)
+    ∙ ap₂ (λ n l. with_places (noted_in old r) (bits_for r n (l ++ listed c))) at (ap₂ (λ x y. listed x ++ listed y) is-a is-b)
+    ∙ ap (λ x. with_places (noted_in old r) (bits_for r (8 * unit.from) ((listed (broken_unit unit) ++ listed (by_zero_byte s unit)) ++ listed x))) is-c
 
 -- ---- how far a reader looks
 
@@ -92,10 +121,10 @@ cut-no-stream e = cc
 
 -- ---- a reader and more bytes
 
-pub took-nothing : (s : Splitting) (found : List (Option Places)) → s ≡ at_start → ((rule : StrictRule) → noted_in found rule ≡ with_places None (places rule start [])) →
-    TookBytes s extents.Whole found []
-unfolding places places_in with_places
-took-nothing s found same none = record {
+pub took-nothing : (s : Splitting) (noted : UnitsNoted) → s ≡ at_start → noted.before ≡ no_units → ((rule : StrictRule) → noted_in noted.found rule ≡ with_places None (places rule start [])) →
+    TookBytes s extents.Whole noted []
+unfolding places places_in with_places after_units
+took-nothing s noted same began none = record {
   front = [];
   rest = [];
   units = [];
@@ -103,6 +132,7 @@ took-nothing s found same none = record {
   left = [];
   whole = refl;
   begins = λ more. (refl, refl);
+  before = began;
   tells = none;
   all = λ h. (refl, inl (0, refl));
   stands = λ h. (ap (λ (x : Splitting). x.at) same, ap (λ (x : Splitting). x.rest) same, ap (λ (x : Splitting). x.stop) same);
@@ -135,8 +165,8 @@ refused-more at left rest bytes r = (
 )
 
 -- it looks at no more
-pub took-stopped : (s : Splitting) (r : Extent) (found : List (Option Places)) (before bytes : List ℕ) → is_whole r ≡ false → TookBytes s r found before → TookBytes s r found (before ++ bytes)
-took-stopped s r found before bytes off t = record {
+pub took-stopped : (s : Splitting) (r : Extent) (noted : UnitsNoted) (before bytes : List ℕ) → is_whole r ≡ false → TookBytes s r noted before → TookBytes s r noted (before ++ bytes)
+took-stopped s r noted before bytes off t = record {
   front = t.front;
   rest = t.rest ++ bytes;
   units = t.units;
@@ -144,6 +174,7 @@ took-stopped s r found before bytes off t = record {
   left = t.left;
   whole = ap (λ l. l ++ bytes) t.whole ∙ append_assoc t.front t.rest bytes;
   begins = t.begins;
+  before = t.before;
   tells = t.tells;
   all = λ h. absurd (not-whole r off h);
   stands = λ h. absurd (not-whole r off h);
@@ -152,8 +183,8 @@ took-stopped s r found before bytes off t = record {
 }
 
 -- memory is wanting
-took-memory : (old new : Splitting) (found : List (Option Places)) (before bytes : List ℕ) → TookBytes old extents.Whole found before → TookBytes new extents.Memory found (before ++ bytes)
-took-memory old new found before bytes t = record {
+took-memory : (old new : Splitting) (noted : UnitsNoted) (before bytes : List ℕ) → TookBytes old extents.Whole noted before → TookBytes new extents.Memory noted (before ++ bytes)
+took-memory old new noted before bytes t = record {
   front = t.front;
   rest = t.rest ++ bytes;
   units = t.units;
@@ -161,6 +192,7 @@ took-memory old new found before bytes t = record {
   left = t.left;
   whole = ap (λ l. l ++ bytes) t.whole ∙ append_assoc t.front t.rest bytes;
   begins = t.begins;
+  before = t.before;
   tells = t.tells;
   all = λ h. absurd (memory-not-whole h);
   stands = λ h. absurd (memory-not-whole h);
@@ -169,9 +201,9 @@ took-memory old new found before bytes t = record {
 }
 
 -- the bytes are no byte stream
-took-refused : (old new : Splitting) (found : List (Option Places)) (before piece : List ℕ) (stop : Stop) → TookBytes old extents.Whole found before → Refused old.at (old.rest ++ piece) stop →
-    TookBytes new extents.NoByteStream found (before ++ piece)
-took-refused old new found before piece stop t r = record {
+took-refused : (old new : Splitting) (noted : UnitsNoted) (before piece : List ℕ) (stop : Stop) → TookBytes old extents.Whole noted before → Refused old.at (old.rest ++ piece) stop →
+    TookBytes new extents.NoByteStream noted (before ++ piece)
+took-refused old new noted before piece stop t r = record {
   front = t.front;
   rest = t.rest ++ piece;
   units = t.units;
@@ -179,6 +211,7 @@ took-refused old new found before piece stop t r = record {
   left = t.left;
   whole = ap (λ l. l ++ piece) t.whole ∙ append_assoc t.front t.rest piece;
   begins = t.begins;
+  before = t.before;
   tells = t.tells;
   all = λ h. absurd (stream-not-whole h);
   stands = λ h. absurd (stream-not-whole h);
@@ -190,15 +223,15 @@ took-refused old new found before piece stop t r = record {
 }
 
 -- a piece can't be cut into units
-pub took-stop : (old new : Splitting) (found : List (Option Places)) (before piece : List ℕ) (stop : Stop) → TookBytes old extents.Whole found before → (old.stop ≡ None → PushStops old new piece stop) →
-    TookBytes new (extent_after stop) found (before ++ piece)
-took-stop old new found before piece Memory t stops = took-memory old new found before piece t
-took-stop old new found before piece (No bit rule) t stops = took-refused old new found before piece (No bit rule) t (stops (t.stands refl).2).0
-took-stop old new found before piece (Outside bit feature) t stops = took-refused old new found before piece (Outside bit feature) t (stops (t.stands refl).2).0
-took-stop old new found before piece Read t stops = absurd (stops (t.stands refl).2)
-took-stop old new found before piece Write t stops = absurd (stops (t.stands refl).2)
+pub took-stop : (old new : Splitting) (noted : UnitsNoted) (before piece : List ℕ) (stop : Stop) → TookBytes old extents.Whole noted before → (old.stop ≡ None → PushStops old new piece stop) →
+    TookBytes new (extent_after stop) noted (before ++ piece)
+took-stop old new noted before piece Memory t stops = took-memory old new noted before piece t
+took-stop old new noted before piece (No bit rule) t stops = took-refused old new noted before piece (No bit rule) t (stops (t.stands refl).2).0
+took-stop old new noted before piece (Outside bit feature) t stops = took-refused old new noted before piece (Outside bit feature) t (stops (t.stands refl).2).0
+took-stop old new noted before piece Read t stops = absurd (stops (t.stands refl).2)
+took-stop old new noted before piece Write t stops = absurd (stops (t.stands refl).2)
 
-module _ (old mid : Splitting) (found : List (Option Places)) (before piece : List ℕ) (n : ℕ) (t : TookBytes old extents.Whole found before) (pushed : Pushed old mid piece n) where
+module _ (old mid : Splitting) (noted : UnitsNoted) (before piece : List ℕ) (n : ℕ) (t : TookBytes old extents.Whole noted before) (pushed : Pushed old mid piece n) where
   abbrev pub taken-bytes : List ℕ
   taken-bytes = take n piece
 
@@ -216,7 +249,7 @@ module _ (old mid : Splitting) (found : List (Option Places)) (before piece : Li
   left-is = pushed.rest_is ∙ ap (λ l. l ++ taken-bytes) (t.stands refl).1
 
   -- and no unit ends in them
-  pub took-some : (new : Splitting) → new ≡ mid → IsFalse mid.waiting → TookBytes new extents.Whole found (before ++ take n piece)
+  pub took-some : (new : Splitting) → new ≡ mid → IsFalse mid.waiting → TookBytes new extents.Whole noted (before ++ take n piece)
   took-some new same idle = record {
     front = t.front ++ taken-bytes;
     rest = [];
@@ -225,6 +258,7 @@ module _ (old mid : Splitting) (found : List (Option Places)) (before piece : Li
     left = t.left ++ taken-bytes;
     whole = whole-more;
     begins = begins-more;
+    before = t.before;
     tells = t.tells;
     all = λ h. (refl, subst IsUndecided left-is (pushed.undecided idle));
     stands = λ h. (ap (λ (s : Splitting). s.at) same ∙ at-is, ap (λ (s : Splitting). s.rest) same ∙ left-is, ap (λ (s : Splitting). s.stop) same ∙ pushed.stop_is);
@@ -239,7 +273,7 @@ module _ (old mid : Splitting) (found : List (Option Places)) (before piece : Li
         (subst₂ (λ (m : ℕ) (l : List ℕ). Next m (l ++ more) unit (new.rest ++ more)) at-is left-is (taken.decided (pushed.ended_is ∙ runs) more))
 
     -- and a unit ends in them, which was noted where memory was there
-    pub took-unit : (looked : Result (Unit {0}) Stop) (later : List (Option Places)) → OnOk looked (Notes found unit later) → OnErr looked (later ≡ found) →
+    pub took-unit : (looked : Result (Unit {0}) Stop) (later : UnitsNoted) → OnOk looked (NotesUnit noted unit later) → OnErr looked (later ≡ noted) →
         TookBytes new (extent_of looked) later (before ++ take n piece)
     took-unit (Ok u) later notes same = record {
       front = t.front ++ taken-bytes;
@@ -249,13 +283,14 @@ module _ (old mid : Splitting) (found : List (Option Places)) (before piece : Li
       left = new.rest;
       whole = whole-more;
       begins = begins-unit;
-      tells = tells-more found later t.units unit t.tells notes;
+      before = before-more noted later t.units unit t.before notes;
+      tells = tells-more noted later t.units unit t.before t.tells notes;
       all = λ h. (refl, taken.undecided);
       stands = λ h. (taken.at_is, refl, taken.stop_is);
       refused = λ h. absurd (whole-no-stream h);
       not_cut = λ h. whole-not-cut h;
     }
-    took-unit (Err e) later notes same = subst (λ (f : List (Option Places)). TookBytes new extents.Memory f (before ++ take n piece)) (sym same) (took-memory old new found before (take n piece) t)
+    took-unit (Err e) later notes same = subst (λ (f : UnitsNoted). TookBytes new extents.Memory f (before ++ take n piece)) (sym same) (took-memory old new noted before (take n piece) t)
 
 -- ---- the end
 
@@ -269,7 +304,7 @@ begins-end bytes units at left more none b =
     (subst₂ (λ (x y : List ℕ). BeginWith 0 x units at y) (sym (append-nil bytes)) (sym (append-nil left)) b)
 
 -- a reader that looks at no more
-module _ (s : Splitting) (r : Extent) (found : List (Option Places)) (bytes : List ℕ) (t : TookBytes s r found bytes) where
+module _ (s : Splitting) (r : Extent) (noted : UnitsNoted) (bytes : List ℕ) (t : TookBytes s r noted bytes) where
   begins-all : (more : List ℕ) → BeginWith 0 (bytes ++ more) t.units t.at ((t.left ++ t.rest) ++ more)
   begins-all more =
       subst₂ (λ (a b : List ℕ). BeginWith 0 a t.units t.at b) (sym (ap (λ l. l ++ more) t.whole ∙ append_assoc t.front t.rest more)) (sym (append_assoc t.left t.rest more))
@@ -284,7 +319,7 @@ module _ (s : Splitting) (r : Extent) (found : List (Option Places)) (bytes : Li
         (subst (λ (l : List ℕ). HasTail t.at l a.1.tail) (append-nil (t.left ++ t.rest)) (a.1.stands [])),
   )
 
-  pub tells-stopped : (ended : Bool) → is_whole r ≡ false → TellsOfBytes r ended found bytes
+  pub tells-stopped : (ended : Bool) → is_whole r ≡ false → TellsOfBytes r ended noted.found bytes
   tells-stopped ended off = record {
     units = t.units;
     at = t.at;
@@ -297,27 +332,27 @@ module _ (s : Splitting) (r : Extent) (found : List (Option Places)) (bytes : Li
   }
 
 -- the bytes may go on
-pub tells-cut : (s : Splitting) (r : Extent) (found : List (Option Places)) (bytes : List ℕ) → TookBytes s r found bytes → TellsOfBytes (cut_off r) false found bytes
-tells-cut s extents.Whole found bytes t = record {
+pub tells-cut : (s : Splitting) (r : Extent) (noted : UnitsNoted) (bytes : List ℕ) → TookBytes s r noted bytes → TellsOfBytes (cut_off r) false noted.found bytes
+tells-cut s extents.Whole noted bytes t = record {
   units = t.units;
   at = t.at;
   left = t.left ++ t.rest;
-  begins = λ more ends. begins-all s extents.Whole found bytes t more;
+  begins = λ more ends. begins-all s extents.Whole noted bytes t more;
   tells = t.tells;
   all = λ h. absurd (cut-not-whole h);
   refused = λ h. absurd (cut-no-stream h);
   cut = λ h. (refl, subst IsUndecided (sym (ap (λ l. t.left ++ l) (t.all refl).0 ∙ append-nil t.left)) (t.all refl).1);
 }
-tells-cut s extents.NoByteStream found bytes t = tells-stopped s extents.NoByteStream found bytes t false refl
-tells-cut s extents.NotToTheEnd found bytes t = tells-stopped s extents.NotToTheEnd found bytes t false refl
-tells-cut s extents.Memory found bytes t = tells-stopped s extents.Memory found bytes t false refl
+tells-cut s extents.NoByteStream noted bytes t = tells-stopped s extents.NoByteStream noted bytes t false refl
+tells-cut s extents.NotToTheEnd noted bytes t = tells-stopped s extents.NotToTheEnd noted bytes t false refl
+tells-cut s extents.Memory noted bytes t = tells-stopped s extents.Memory noted bytes t false refl
 
-tells-memory : (s : Splitting) (found : List (Option Places)) (bytes : List ℕ) → TookBytes s extents.Whole found bytes → TellsOfBytes extents.Memory true found bytes
-tells-memory s found bytes t = record {
+tells-memory : (s : Splitting) (noted : UnitsNoted) (bytes : List ℕ) → TookBytes s extents.Whole noted bytes → TellsOfBytes extents.Memory true noted.found bytes
+tells-memory s noted bytes t = record {
   units = t.units;
   at = t.at;
   left = t.left ++ t.rest;
-  begins = λ more ends. begins-all s extents.Whole found bytes t more;
+  begins = λ more ends. begins-all s extents.Whole noted bytes t more;
   tells = t.tells;
   all = λ h. absurd (memory-not-whole h);
   refused = λ h. absurd (memory-no-stream h);
@@ -325,13 +360,13 @@ tells-memory s found bytes t = record {
 }
 
 -- the bytes up to their end are no byte stream
-tells-refused : (old new : Splitting) (found : List (Option Places)) (bytes : List ℕ) (stop : Stop) → TookBytes old extents.Whole found bytes → FinishStops old new stop →
-    TellsOfBytes extents.NoByteStream true found bytes
-tells-refused old new found bytes stop t stops = record {
+tells-refused : (old new : Splitting) (noted : UnitsNoted) (bytes : List ℕ) (stop : Stop) → TookBytes old extents.Whole noted bytes → FinishStops old new stop →
+    TellsOfBytes extents.NoByteStream true noted.found bytes
+tells-refused old new noted bytes stop t stops = record {
   units = t.units;
   at = t.at;
   left = t.left ++ t.rest;
-  begins = λ more ends. begins-all old extents.Whole found bytes t more;
+  begins = λ more ends. begins-all old extents.Whole noted bytes t more;
   tells = t.tells;
   all = λ h. absurd (stream-not-whole h);
   refused = λ h. (
@@ -348,15 +383,15 @@ tells-refused old new found bytes stop t stops = record {
   cut = λ h. absurd (stream-not-cut h);
 }
 
-pub tells-stop : (old new : Splitting) (found : List (Option Places)) (bytes : List ℕ) (stop : Stop) → TookBytes old extents.Whole found bytes → (old.stop ≡ None → FinishStops old new stop) →
-    TellsOfBytes (extent_after stop) true found bytes
-tells-stop old new found bytes Memory t stops = tells-memory old found bytes t
-tells-stop old new found bytes (No bit rule) t stops = tells-refused old new found bytes (No bit rule) t (stops (t.stands refl).2)
-tells-stop old new found bytes (Outside bit feature) t stops = tells-refused old new found bytes (Outside bit feature) t (stops (t.stands refl).2)
-tells-stop old new found bytes Read t stops = tells-refused old new found bytes Read t (stops (t.stands refl).2)
-tells-stop old new found bytes Write t stops = tells-refused old new found bytes Write t (stops (t.stands refl).2)
+pub tells-stop : (old new : Splitting) (noted : UnitsNoted) (bytes : List ℕ) (stop : Stop) → TookBytes old extents.Whole noted bytes → (old.stop ≡ None → FinishStops old new stop) →
+    TellsOfBytes (extent_after stop) true noted.found bytes
+tells-stop old new noted bytes Memory t stops = tells-memory old noted bytes t
+tells-stop old new noted bytes (No bit rule) t stops = tells-refused old new noted bytes (No bit rule) t (stops (t.stands refl).2)
+tells-stop old new noted bytes (Outside bit feature) t stops = tells-refused old new noted bytes (Outside bit feature) t (stops (t.stands refl).2)
+tells-stop old new noted bytes Read t stops = tells-refused old new noted bytes Read t (stops (t.stands refl).2)
+tells-stop old new noted bytes Write t stops = tells-refused old new noted bytes Write t (stops (t.stands refl).2)
 
-module _ (old mid : Splitting) (found : List (Option Places)) (bytes : List ℕ) (t : TookBytes old extents.Whole found bytes) (ends : Finished old mid) where
+module _ (old mid : Splitting) (noted : UnitsNoted) (bytes : List ℕ) (t : TookBytes old extents.Whole noted bytes) (ends : Finished old mid) where
   front-is : t.front ≡ bytes
   front-is = sym (t.whole ∙ ap (λ l. t.front ++ l) (t.all refl).0 ∙ append-nil t.front)
 
@@ -364,7 +399,7 @@ module _ (old mid : Splitting) (found : List (Option Places)) (bytes : List ℕ)
   begun = subst (λ (l : List ℕ). BeginWith 0 l t.units t.at t.left) front-is (begins-now t.front t.units t.at t.left (t.begins []))
 
   -- no unit is left
-  pub tells-none : IsFalse mid.waiting → TellsOfBytes extents.Whole true found bytes
+  pub tells-none : IsFalse mid.waiting → TellsOfBytes extents.Whole true noted.found bytes
   tells-none none = record {
     units = t.units;
     at = t.at;
@@ -383,16 +418,16 @@ module _ (old mid : Splitting) (found : List (Option Places)) (bytes : List ℕ)
         (subst₂ (λ (m : ℕ) (l : List ℕ). Next m l unit new.rest) (ends.at_is ∙ (t.stands refl).0) (ends.rest_is ∙ (t.stands refl).1) taken.next)
 
     -- a unit is left
-    pub tells-unit : (looked : Result (Unit {0}) Stop) (later : List (Option Places)) → OnOk looked (Notes found unit later) → OnErr looked (later ≡ found) →
-        TellsOfBytes (extent_of looked) true later bytes
+    pub tells-unit : (looked : Result (Unit {0}) Stop) (later : UnitsNoted) → OnOk looked (NotesUnit noted unit later) → OnErr looked (later ≡ noted) →
+        TellsOfBytes (extent_of looked) true later.found bytes
     tells-unit (Ok u) later notes same = record {
       units = t.units ++ unit ∷ [];
       at = past unit;
       left = new.rest;
       begins = λ more ends. begins-end bytes (t.units ++ unit ∷ []) (past unit) new.rest more (ends refl) begun-unit;
-      tells = tells-more found later t.units unit t.tells notes;
+      tells = tells-more noted later t.units unit t.before t.tells notes;
       all = λ h. (refl, splits-from Zeros 0 bytes (t.units ++ unit ∷ []) (past unit) new.rest begun-unit (subst (λ (m : ℕ). HasTail m new.rest Zeros) taken.at_is (taken.last ends.ended_is)));
       refused = λ h. absurd (whole-no-stream h);
       cut = λ h. absurd (whole-not-cut h);
     }
-    tells-unit (Err e) later notes same = subst (λ (f : List (Option Places)). TellsOfBytes extents.Memory true f bytes) (sym same) (tells-memory old found bytes t)
+    tells-unit (Err e) later notes same = subst (λ (f : UnitsNoted). TellsOfBytes extents.Memory true f.found bytes) (sym same) (tells-memory old noted bytes t)

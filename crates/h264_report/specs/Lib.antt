@@ -23,5 +23,6 @@ pub mod StrictPictures
 pub mod Strict
 pub mod StrictSei
 pub mod StrictBytes
+pub mod StrictStarts
 pub mod StrictExtent
 pub mod StrictUnits

@@ -1,12 +1,10 @@
 -- The rules on the bytes of units that the verdict passes over: SEI, delimiters and filler data (7.3.2.3, 7.3.2.4, 7.3.2.7). To be read beside the standard.
 use Rattle.std.specs.Prelude.{ℕ, zero, suc, ◌+◌, ◌*◌, ◌%◌, ◌==◌, ◌&&◌, ◌||◌, Bool, true, false, not, nat_lt, nat_le, if◌then◌else◌}
-use Rattle.std.specs.Prelude.{List, [], ◌∷◌, ◌++◌, length, drop, slice_index, Option, None, Some}
+use Rattle.std.specs.Prelude.{List, [], ◌∷◌, length, drop, slice_index, Option, None, Some}
 use Rattle.std.specs.List.{prefix_len}
 use Rattle.h264_rbsp.specs.Rbsp.{rbsp_bytes}
 use Rattle.h264_units.specs.Stream.{NalUnit}
-use Rattle.h264_report.specs.Strict.{bits_for, with_places}
-use Rattle.h264_report.specs.StrictRules.{broken_if, listed}
-use Rattle.h264_report.specs.declared.strict.Places.{Places}
+use Rattle.h264_report.specs.StrictRules.{broken_if}
 use Rattle.h264_report.specs.declared.strict_rule.StrictRule.{StrictRule}
 use Rattle.h264_report.specs.declared.strict_rule.StrictRule.TheVariants as rules
 
@@ -76,12 +74,3 @@ kind_of unit = slice_index unit.body 0 % 32
 
 abbrev pub broken_unit : NalUnit → Option StrictRule
 broken_unit unit = by_rbsp (kind_of unit) (rbsp_bytes (drop 1 unit.body))
-
--- the first bits of the units that break the rule
-unfoldable pub places_in : StrictRule → List NalUnit → List ℕ
-places_in rule [] = []
-places_in rule (unit ∷ units) = bits_for rule (8 * unit.from) (listed (broken_unit unit)) ++ places_in rule units
-
--- what is told of a rule after these units
-abbrev pub told_of_units : StrictRule → List NalUnit → Option Places
-told_of_units rule units = with_places None (places_in rule units)

@@ -40,6 +40,8 @@ place_of rules.PictureBytes = 31
 place_of rules.SeiSizes = 32
 place_of rules.DelimiterBits = 33
 place_of rules.FillerBytes = 34
+place_of rules.ZeroByte = 35
+place_of rules.DelimiterType = 36
 
 unfoldable pub label_of : StrictRule → List ℕ
 label_of rules.ReservedBits = codes "ReservedBits"
@@ -77,6 +79,8 @@ label_of rules.PictureBytes = codes "PictureBytes"
 label_of rules.SeiSizes = codes "SeiSizes"
 label_of rules.DelimiterBits = codes "DelimiterBits"
 label_of rules.FillerBytes = codes "FillerBytes"
+label_of rules.ZeroByte = codes "ZeroByte"
+label_of rules.DelimiterType = codes "DelimiterType"
 
 -- the clause of H.264 that states it
 unfoldable pub clause_of : StrictRule → List ℕ
@@ -115,6 +119,8 @@ clause_of rules.PictureBytes = codes "E.2.1"
 clause_of rules.SeiSizes = codes "7.3.2.3"
 clause_of rules.DelimiterBits = codes "7.3.2.4"
 clause_of rules.FillerBytes = codes "7.3.2.7"
+clause_of rules.ZeroByte = codes "B.1.2"
+clause_of rules.DelimiterType = codes "7.4.2.4"
 
 -- a rule, if it is broken
 abbrev pub broken_if : Bool → StrictRule → Option StrictRule

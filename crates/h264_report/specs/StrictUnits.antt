@@ -1,23 +1,19 @@
 -- The units of the bytes that were read, and what is told of the rules on their bytes. To be read beside the standard.
-use Rattle.std.specs.Prelude.{◌≡◌, ℕ, Bool, true, false, List, [], ◌∷◌, ◌++◌, Option, Some, None, get_or}
+use Rattle.std.specs.Prelude.{◌≡◌, ℕ, Bool, true, false, List, [], ◌∷◌, ◌++◌, Option, Some, None}
 use Rattle.h264_base.specs.declared.stop.Stop.{Stop}
 use Rattle.h264_units.specs.Stream.{NalUnit, Next, past, Splits, Tail, Zeros, tail_stop, IsUndecided}
 use Rattle.h264_units.specs.Splitting.{Splitting, Refused}
-use Rattle.h264_report.specs.StrictBytes.{told_of_units}
-use Rattle.h264_report.specs.StrictRules.{place_of}
+use Rattle.h264_report.specs.StrictStarts.{told_of_units, noted_in, no_units, after_units}
 use Rattle.h264_report.specs.declared.strict.Places.{Places}
 use Rattle.h264_report.specs.declared.strict_extent.Extent.{Extent}
 use Rattle.h264_report.specs.declared.strict_extent.Extent.TheVariants as extents
 use Rattle.h264_report.specs.declared.strict_rule.StrictRule.{StrictRule}
+use Rattle.h264_report.specs.declared.strict_starts.UnitsNoted.{UnitsNoted}
 
 -- These are the first units of the bytes at this place, and what is left of the bytes after them.
 abbrev pub BeginWith : (at : ℕ) → (bytes : List ℕ) → List NalUnit → (after : ℕ) → (left : List ℕ) → Type 0
 BeginWith at bytes [] after left = (after ≡ at) × (left ≡ bytes)
 BeginWith at bytes (unit ∷ units) after left = (rest : List ℕ) × Next at bytes unit rest × BeginWith (past unit) rest units after left
-
--- what was found of a rule
-abbrev pub noted_in : List (Option Places) → StrictRule → Option Places
-noted_in found rule = get_or found (place_of rule) None
 
 -- However these bytes go on, no unit follows, and they are no byte stream, or more than is judged.
 abbrev pub AreRefused : (at : ℕ) → (bytes : List ℕ) → Type 0
@@ -28,7 +24,7 @@ abbrev pub SplitsToStop : List ℕ → List NalUnit → Type 0
 SplitsToStop bytes units = (tail : Tail) × (stop : Stop) × (tail_stop tail ≡ Some stop) × Splits 0 bytes units tail
 
 -- A reader took these bytes: it looked at the first units of a front of them. While nothing keeps it from that, it looked at each unit whose end they show.
-pub record TookBytes (splitter : Splitting) (extent : Extent) (found : List (Option Places)) (bytes : List ℕ) : Type 0 where
+pub record TookBytes (splitter : Splitting) (extent : Extent) (noted : UnitsNoted) (bytes : List ℕ) : Type 0 where
   pub front : List ℕ
   pub rest : List ℕ
   pub units : List NalUnit
@@ -37,7 +33,8 @@ pub record TookBytes (splitter : Splitting) (extent : Extent) (found : List (Opt
   pub whole : bytes ≡ front ++ rest
   -- however the bytes go on
   pub begins : (more : List ℕ) → BeginWith 0 (front ++ more) units at (left ++ more)
-  pub tells : (rule : StrictRule) → noted_in found rule ≡ told_of_units rule units
+  pub before : noted.before ≡ after_units no_units units
+  pub tells : (rule : StrictRule) → noted_in noted.found rule ≡ told_of_units rule units
   pub all : extent ≡ extents.Whole → (rest ≡ []) × IsUndecided left
   pub stands : extent ≡ extents.Whole → (splitter.at ≡ at) × (splitter.rest ≡ left) × (splitter.stop ≡ None)
   pub refused : extent ≡ extents.NoByteStream → AreRefused at (left ++ rest)

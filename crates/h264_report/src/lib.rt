@@ -4,7 +4,7 @@
 //! object of JSON, for each unit, slice, element or frame to a writer, `YuvSink` the samples of each frame, `Y4mSink` frames with their header; `TrailSink`
 //! keeps the last 16 elements. `Surveyed`, `PageSink`, `StrictSink` and `Narrowed` stand around another sink: the first three hand each call on, and `Narrowed`
 //! what is chosen. `Strict` says which further rules the calls break, and where.
-//! `judge_strictly` judges a stream, and beside that reads the units that the verdict passes over, for the rules on their bytes.
+//! `judge_strictly` judges a stream, and beside that reads its units, for the rules on start codes, on delimiters, and on bytes that the verdict passes over.
 //! `list`, `check` and `decode` judge a stream with one of them, and write the last line.
 //! Promised: exactly the texts of `specs/Lines.antt` and `specs/Objects.antt`; that a writer which tells its bytes holds the lines, the samples or the frames
 //! of the calls taken, in order, and after a failure a part of the last; that a trail has the last 16 elements; that a sink round which another stands took
@@ -51,6 +51,7 @@ pub mod strict_schedules;
 pub mod strict_sets;
 pub mod strict_sink;
 pub mod strict_source;
+pub mod strict_starts;
 pub mod strict_units;
 pub mod strict_vectors;
 pub mod survey;
@@ -84,6 +85,7 @@ pub use strict_judging::{StrictJudgement, judge_strictly};
 pub use strict_rule::{EVERY_STRICT_RULE, STRICT_RULES, StrictRule};
 pub use strict_sink::StrictSink;
 pub use strict_source::UnitSource;
+pub use strict_starts::{UnitsBefore, UnitsNoted};
 pub use strict_units::{UnitReader, UnitsRead};
 pub use trail::{Element, Trail};
 pub use trail_sink::TrailSink;

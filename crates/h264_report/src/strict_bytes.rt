@@ -3,9 +3,10 @@
 
 ghost use Rattle.std.specs.Prelude.{◌≡◌, ◌+◌, ◌≤◌, ◌^◌, true, length, drop, IfSome};
 ghost use Rattle.h264_report.specs.StrictSei.{IsSei};
-ghost use Rattle.h264_report.specs.StrictBytes.{is_trailing, is_delimiter, is_filler, ff_bytes, message_length, is_sei, is_judged, by_rbsp};
+ghost use Rattle.h264_report.specs.StrictBytes.{is_trailing, is_delimiter, is_filler, ff_bytes, message_length, is_sei, is_judged, by_rbsp, kind_of};
 
 use crate::strict_rule::{StrictRule, broken_if};
+use h264_units::NalUnit;
 use h264_verify::kinds::{DELIMITER, FILLER, SEI};
 
 /// The trailing bits in a byte of their own.
@@ -103,6 +104,13 @@ fn is_sei(bytes: &[u8]) -> bool
         }
     }
     false
+}
+
+/// The nal_unit_type of a unit.
+pub(crate) fn kind_of(unit: &NalUnit) -> u8
+    ensures { result ≡ kind_of unit.now }
+{
+    unit.body()[0] % 32
 }
 
 /// Whether the bytes of units of this type are looked at.

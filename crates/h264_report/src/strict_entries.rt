@@ -285,6 +285,22 @@ const ENTRIES: [StrictEntry; STRICT_RULES] = [
         cause: "The unit was padded with other bytes, or the trailing bits were left out.",
         example: "filler data of two bytes FE",
     },
+    StrictEntry {
+        rule: StrictRule::ZeroByte,
+        breaks: "A sequence or picture parameter set has a start code of three bytes, 00 00 01, and no 00 before it. Or a delimiter, SEI or \
+            the slice of macroblock 0 has, and is the first unit of its access unit.",
+        bit: "The first bit of the unit.",
+        cause: "Units were joined with 00 00 01 alone. The start codes of sets, and of the first unit of a picture, have four bytes.",
+        example: "a picture parameter set after 00 00 01",
+    },
+    StrictEntry {
+        rule: StrictRule::DelimiterType,
+        breaks: "The primary_pic_type of a delimiter leaves out the slice_type of the picture's slice of macroblock 0 (table 7-5): that of \
+            a P slice where it is 0, 3, 4 or 5, or that of an I slice where it is 3 or 4.",
+        bit: "The first bit of the slice's unit.",
+        cause: "One delimiter was written before all pictures. 09 10 promises I slices alone, 09 30 P slices too, and 09 F0 any.",
+        example: "a delimiter 09 70, which promises SI slices alone, and an I slice",
+    },
 ];
 
 /// The first of these entries whose rule has this label.

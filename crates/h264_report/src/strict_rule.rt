@@ -77,6 +77,10 @@ pub enum StrictRule {
     DelimiterBits,
     /// Filler data are bytes FF and trailing bits (7.3.2.7).
     FillerBytes,
+    /// A zero_byte stands before each set, and before the first unit of an access unit (B.1.2).
+    ZeroByte,
+    /// A picture has no slice that the primary_pic_type of its delimiter leaves out (7.4.2.4).
+    DelimiterType,
 }
 
 /// Every rule, by its place.
@@ -116,10 +120,12 @@ pub const EVERY_STRICT_RULE: [StrictRule; STRICT_RULES] = [
     StrictRule::SeiSizes,
     StrictRule::DelimiterBits,
     StrictRule::FillerBytes,
+    StrictRule::ZeroByte,
+    StrictRule::DelimiterType,
 ];
 
 /// How many rules there are.
-pub const STRICT_RULES: usize = 35;
+pub const STRICT_RULES: usize = 37;
 
 impl StrictRule {
     /// Its place among them, from 0.
@@ -164,6 +170,8 @@ impl StrictRule {
             StrictRule::SeiSizes => 32,
             StrictRule::DelimiterBits => 33,
             StrictRule::FillerBytes => 34,
+            StrictRule::ZeroByte => 35,
+            StrictRule::DelimiterType => 36,
         }
     }
 
@@ -208,6 +216,8 @@ impl StrictRule {
             StrictRule::SeiSizes => "SeiSizes",
             StrictRule::DelimiterBits => "DelimiterBits",
             StrictRule::FillerBytes => "FillerBytes",
+            StrictRule::ZeroByte => "ZeroByte",
+            StrictRule::DelimiterType => "DelimiterType",
         }
     }
 
@@ -252,6 +262,8 @@ impl StrictRule {
             StrictRule::SeiSizes => "7.3.2.3",
             StrictRule::DelimiterBits => "7.3.2.4",
             StrictRule::FillerBytes => "7.3.2.7",
+            StrictRule::ZeroByte => "B.1.2",
+            StrictRule::DelimiterType => "7.4.2.4",
         }
     }
 }

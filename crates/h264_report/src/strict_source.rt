@@ -22,7 +22,7 @@ impl<'a, R: Source> UnitSource<'a, R> {
     /// A source round this one, before the first byte.
     pub fn new(alloc: Global, source: &'a mut R) -> UnitSource<'a, R>
         ensures source { result.source.now ≡ source.old }
-        ensures units { TookBytes result.units.splitter result.units.extent result.units.found [] }
+        ensures units { TookBytes result.units.splitter result.units.extent result.units.noted [] }
         ensures before { result.has_ended ≡ false }
     {
         UnitSource {
@@ -34,7 +34,7 @@ impl<'a, R: Source> UnitSource<'a, R> {
 
     /// What was found in the bytes that were handed on. Where the source did not say its end, the last unit may go on, and is not looked at.
     pub fn finish(self) -> UnitsRead
-        ensures { (bytes : List ℕ) → TookBytes self.entry.units.splitter self.entry.units.extent self.entry.units.found bytes →
+        ensures { (bytes : List ℕ) → TookBytes self.entry.units.splitter self.entry.units.extent self.entry.units.noted bytes →
             TellsOfBytes result.extent self.entry.has_ended result.found bytes }
     {
         if self.has_ended {
@@ -51,7 +51,7 @@ impl<'a, R: Source> Source for UnitSource<'a, R> {
 
     ghost failures = { λ s. R.failures s.source.now };
 
-    ghost gave = { λ s bytes ended. TookBytes s.units.splitter s.units.extent s.units.found bytes × (s.has_ended ≡ ended) };
+    ghost gave = { λ s bytes ended. TookBytes s.units.splitter s.units.extent s.units.noted bytes × (s.has_ended ≡ ended) };
 
     fn read(&mut self, piece: &mut [u8]) -> Result<Option<usize>, Failed> {
         match self.source.read(piece) {

@@ -3,29 +3,27 @@
 
 ghost use Rattle.std.specs.Prelude.{◌≡◌, ℕ, ◌+◌, ◌*◌, ◌≤◌, ◌<◌, ◌++◌, true, false, List, [], length, take, None, IsFalse, IfOk, IfErr, OnOk, OnErr};
 ghost use Rattle.h264_base.specs.declared.stop.Stop.{Stop};
-ghost use Rattle.h264_report.specs.Strict.{with_places, bits_for};
 ghost use Rattle.h264_report.specs.StrictBytes.{broken_unit};
-ghost use Rattle.h264_report.specs.StrictRules.{listed};
-ghost use Rattle.h264_report.specs.StrictUnits.{TookBytes, TellsOfBytes, noted_in};
+ghost use Rattle.h264_report.specs.StrictStarts.{NotesUnit, noted_in};
+ghost use Rattle.h264_report.specs.StrictUnits.{TookBytes, TellsOfBytes};
 ghost use Rattle.h264_report.specs.declared.strict_extent.Extent.TheVariants.{Whole};
-ghost use Rattle.h264_report.specs.declared.strict_rule.StrictRule.{StrictRule as StrictRuleView};
 
 use crate::strict::{Places, note_in};
-use crate::strict_bytes::{after, by_rbsp, is_judged};
+use crate::strict_bytes::{after, by_rbsp, is_judged, kind_of};
 use crate::strict_extent::{Extent, extent_after, extent_of};
 use crate::strict_rule::{STRICT_RULES, StrictRule};
+use crate::strict_starts::{UnitsBefore, UnitsNoted};
 use h264_base::Stop;
 use h264_rbsp::Rbsp;
 use h264_units::{NalUnit, Splitter};
 use std::alloc::Global;
 
-/// Cuts bytes into units, and looks at those that the verdict passes over.
+/// Cuts bytes into units, and looks at their start codes, and at the bytes that the verdict passes over.
 #[derive(Drop)]
 pub struct UnitReader {
     alloc: Global,
     splitter: Splitter,
-    /// What was found of each rule, by its place.
-    found: [Option<Places>; STRICT_RULES],
+    noted: UnitsNoted,
     /// How far they were looked at so far.
     extent: Extent,
     ghost runs: { IsFalse splitter.waiting × IsFalse splitter.ended },
@@ -54,7 +52,7 @@ fn broken_unit(alloc: Global, unit: &NalUnit) -> Result<Option<StrictRule>, Stop
     ensures broken { IfOk result (λ rule. rule ≡ broken_unit unit.now) }
     ensures err { IfErr result (λ e. e ≡ Stop.Memory) }
 {
-    let kind = unit.body()[0] % 32;
+    let kind = kind_of(unit);
     if !is_judged(kind) {
         return Ok(None);
     }
@@ -62,31 +60,35 @@ fn broken_unit(alloc: Global, unit: &NalUnit) -> Result<Option<StrictRule>, Stop
     Ok(by_rbsp(kind, rbsp.bytes()))
 }
 
-/// Notes what a unit breaks. The one error is `Stop::Memory`, after which nothing has changed.
-fn note_unit(
-    alloc: Global,
-    found: &mut [Option<Places>; STRICT_RULES],
-    unit: &NalUnit,
-) -> Result<(), Stop>
-    ensures noted { OnOk result ((rule : StrictRuleView) →
-        noted_in found.new rule ≡ with_places (noted_in found.old rule) (bits_for rule (8 * unit.now.from) (listed (broken_unit unit.now)))) }
-    ensures unnoted { OnErr result (found.new ≡ found.old) }
+/// Notes a unit, and what it breaks. The one error is `Stop::Memory`, after which nothing has changed.
+fn note_unit(alloc: Global, noted: &mut UnitsNoted, unit: &NalUnit) -> Result<(), Stop>
+    ensures noted { OnOk result (NotesUnit noted.old unit.now noted.new) }
+    ensures unnoted { OnErr result (noted.new ≡ noted.old) }
     ensures err { IfErr result (λ e. e ≡ Stop.Memory) }
 {
     let rule = broken_unit(alloc, unit)?;
-    note_in(found, rule, 8 * unit.from());
+    let zero_byte = noted.before.by_zero_byte(unit);
+    let pic_type = noted.before.by_pic_type(unit);
+    let bit = 8 * unit.from();
+    note_in(&mut noted.found, rule, bit);
+    note_in(&mut noted.found, zero_byte, bit);
+    note_in(&mut noted.found, pic_type, bit);
+    noted.before = noted.before.after(unit);
     Ok(())
 }
 
 impl UnitReader {
     /// A reader before the first byte. It takes no memory.
     pub fn new(alloc: Global) -> UnitReader
-        ensures { TookBytes result.splitter result.extent result.found [] }
+        ensures { TookBytes result.splitter result.extent result.noted [] }
     {
         UnitReader {
             alloc,
             splitter: Splitter::new(alloc),
-            found: [None; STRICT_RULES],
+            noted: UnitsNoted {
+                found: [None; STRICT_RULES],
+                before: UnitsBefore::new(),
+            },
             extent: Extent::Whole,
         }
     }
@@ -97,8 +99,8 @@ impl UnitReader {
         requires goes { self.old.extent ≡ Whole }
         ensures within { result ≤ length piece.now }
         ensures some { 0 < result }
-        ensures took { (before : List ℕ) → TookBytes self.old.splitter self.old.extent self.old.found before →
-            TookBytes self.new.splitter self.new.extent self.new.found (before ++ take result piece.now) }
+        ensures took { (before : List ℕ) → TookBytes self.old.splitter self.old.extent self.old.noted before →
+            TookBytes self.new.splitter self.new.extent self.new.noted (before ++ take result piece.now) }
     {
         let n = match self.splitter.push(piece) {
             Ok(n) => n,
@@ -110,7 +112,7 @@ impl UnitReader {
         match self.splitter.take_unit() {
             None => n,
             Some(unit) => {
-                let looked = note_unit(self.alloc, &mut self.found, &unit);
+                let looked = note_unit(self.alloc, &mut self.noted, &unit);
                 self.extent = extent_of(looked);
                 n
             }
@@ -119,8 +121,8 @@ impl UnitReader {
 
     /// Takes bytes, and looks at each unit that they end.
     pub fn take(&mut self, piece: &[u8])
-        ensures { (before : List ℕ) → TookBytes self.old.splitter self.old.extent self.old.found before →
-            TookBytes self.new.splitter self.new.extent self.new.found (before ++ piece.now) }
+        ensures { (before : List ℕ) → TookBytes self.old.splitter self.old.extent self.old.noted before →
+            TookBytes self.new.splitter self.new.extent self.new.noted (before ++ piece.now) }
     {
         let mut rest = piece;
         while self.extent.is_whole() && !rest.is_empty() {
@@ -131,9 +133,9 @@ impl UnitReader {
 
     /// What was found so far, where the bytes may go on. The last unit may go on too, and is not looked at.
     pub fn break_off(self) -> UnitsRead
-        ensures { (bytes : List ℕ) → TookBytes self.splitter self.extent self.found bytes → TellsOfBytes result.extent false result.found bytes }
+        ensures { (bytes : List ℕ) → TookBytes self.splitter self.extent self.noted bytes → TellsOfBytes result.extent false result.found bytes }
     {
-        let found = self.found;
+        let found = self.noted.found;
         UnitsRead {
             found,
             extent: self.extent.cut_off(),
@@ -142,9 +144,10 @@ impl UnitReader {
 
     /// Looks at the last unit: no more bytes come.
     pub fn finish(mut self) -> UnitsRead
-        ensures { (bytes : List ℕ) → TookBytes self.splitter self.extent self.found bytes → TellsOfBytes result.extent true result.found bytes }
+        ensures { (bytes : List ℕ) → TookBytes self.splitter self.extent self.noted bytes → TellsOfBytes result.extent true result.found bytes }
     {
-        let mut found = self.found;
+        let mut noted = self.noted;
+        let found = noted.found;
         let extent = self.extent;
         if !extent.is_whole() {
             return UnitsRead { found, extent };
@@ -164,7 +167,8 @@ impl UnitReader {
                 extent: Extent::Whole,
             },
             Some(unit) => {
-                let looked = note_unit(self.alloc, &mut found, &unit);
+                let looked = note_unit(self.alloc, &mut noted, &unit);
+                let found = noted.found;
                 UnitsRead {
                     found,
                     extent: extent_of(looked),

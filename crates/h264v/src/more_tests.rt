@@ -35,7 +35,7 @@ const GAP_AND_FILLER: &str =
     "000000016742c00ada710000000168ce388000000165888493c0000001619a42a00000010cfefe80";
 
 /// Verdicts with what explains them, in lines and in JSON.
-const VERDICTS: [Asking; 13] = [
+const VERDICTS: [Asking; 14] = [
     Asking {
         words: &["h264v", "check", "--explain", "stream"],
         stream: GAP,
@@ -130,6 +130,17 @@ the target main-ip takes 77 with any flags\n",
         out: &[
             "{\"file\":\"stream\",\"kind\":\"strict\",\"rule\":\"AspectRatio\",\"clause\":\"E.2.1\",\"bit\":80,\"places\":1}\n\
 {\"file\":\"stream\",\"kind\":\"not judged\",\"rule\":\"Sei\",\"why\":\"what the messages of type 6 say is not read\"}\n",
+        ],
+        err: "",
+        status: 1,
+    },
+    // A delimiter that promises SI slices alone, a picture parameter set after 00 00 01, and an I slice.
+    Asking {
+        words: &["h264v", "check", "--strict", "stream"],
+        stream: "000000010970000000016742c00ada7100000168ce38800000000165888493c0",
+        out: &[
+            "strict: bit 152: ZeroByte (clause B.1.2), 1 places\nstrict: bit 216: DelimiterType (clause 7.4.2.4), 1 places\nstrict: not judged: Sei (",
+            "yes: units 4 pictures 1 frames 1\n",
         ],
         err: "",
         status: 1,

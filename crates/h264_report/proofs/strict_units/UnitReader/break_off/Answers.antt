@@ -7,4 +7,4 @@ use Rattle.h264_report.proofs.strict_units.UnitReader.break_off.Goals as goal
 pub returns : goal.returns
 returns c bytes t =
     let s = c.args.self in
-    subst (λ (r : Extent). TellsOfBytes r false s.found bytes) (sym c.cut_off.ensures) (tells-cut s.splitter s.extent s.found bytes t)
+    subst (λ (r : Extent). TellsOfBytes r false s.noted.found bytes) (sym c.cut_off.ensures) (tells-cut s.splitter s.extent s.noted bytes t)

@@ -7,7 +7,7 @@ use Rattle.h264_report.proofs.strict_units.UnitReader.take.Goals as goal
 pub loop-rest-init : goal.loop-rest-init
 loop-rest-init c =
     let s = c.args.self.now in
-    ([], refl, λ before t. subst (λ (l : List ℕ). TookBytes s.splitter s.extent s.found l) (sym (append-nil before)) t)
+    ([], refl, λ before t. subst (λ (l : List ℕ). TookBytes s.splitter s.extent s.noted l) (sym (append-nil before)) t)
 
 pub loop-rest-preserved : goal.loop-rest-preserved
 loop-rest-preserved c =
@@ -17,7 +17,7 @@ loop-rest-preserved c =
     let more = take c.take_some-n.result rest in (
       done ++ more,
       c.loop-rest.invariant.1 ∙ ap (λ l. done ++ l) (parts-of c.take_some-n.result rest ∙ ap (λ l. more ++ l) (sym c.after-rest.ensures)) ∙ sym (append_assoc done more c.after-rest.result.now),
-      λ before t. subst (λ (l : List ℕ). TookBytes s.splitter s.extent s.found l) (append_assoc before done more)
+      λ before t. subst (λ (l : List ℕ). TookBytes s.splitter s.extent s.noted l) (append_assoc before done more)
           (c.take_some-n.ensures.took (before ++ done) (c.loop-rest.invariant.2 before t)),
     )
 
@@ -26,7 +26,7 @@ pub returns-else-not-is_empty : goal.returns-else-not-is_empty
 returns-else-not-is_empty c before t =
     let s = c.loop-rest.self in
     let done = c.loop-rest.invariant.0 in
-    subst (λ (l : List ℕ). TookBytes s.splitter s.extent s.found (before ++ l))
+    subst (λ (l : List ℕ). TookBytes s.splitter s.extent s.noted (before ++ l))
     (sym (c.loop-rest.invariant.1 ∙ ap (λ l. done ++ l) (empty-of _ (sym c.is_empty.ensures ∙ c.if-not-is_empty.false)) ∙ append-nil done))
     (c.loop-rest.invariant.2 before t)
 
@@ -36,5 +36,5 @@ returns-after-loop-rest c before t =
     let s = c.loop-rest.self in
     let done = c.loop-rest.invariant.0 in
     let rest = c.loop-rest.rest.now in
-    subst (λ (l : List ℕ). TookBytes s.splitter s.extent s.found l) (append_assoc before done rest ∙ ap (λ l. before ++ l) (sym c.loop-rest.invariant.1))
-    (took-stopped s.splitter s.extent s.found (before ++ done) rest (sym c.is_whole.ensures ∙ c.loop-rest-test.false) (c.loop-rest.invariant.2 before t))
+    subst (λ (l : List ℕ). TookBytes s.splitter s.extent s.noted l) (append_assoc before done rest ∙ ap (λ l. before ++ l) (sym c.loop-rest.invariant.1))
+    (took-stopped s.splitter s.extent s.noted (before ++ done) rest (sym c.is_whole.ensures ∙ c.loop-rest-test.false) (c.loop-rest.invariant.2 before t))
