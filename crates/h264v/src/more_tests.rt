@@ -32,7 +32,7 @@ const RESERVED_RATIO: &str = "000000016742c00ada7b1100800000000168ce388000000165
 
 /// The pictures of `GAP`, and then filler data of bytes FE, whose end no byte shows.
 const GAP_AND_FILLER: &str =
-    "000000016742c00ada710000000168ce388000000165888493c0000001619a42a00000010cfefe80";
+    "000000016742c00ada710000000168ce388000000165888493c000000001619a42a00000010cfefe80";
 
 /// Verdicts with what explains them, in lines and in JSON.
 const VERDICTS: [Asking; 14] = [
@@ -151,7 +151,7 @@ the target main-ip takes 77 with any flags\n",
         stream: GAP_AND_FILLER,
         out: &[
             "or did not raise it after a reference picture.\nstrict: not judged: Sei (",
-            "strict: not judged: Units (the bytes were not read to their end)\nno: bit 247: FrameNum (clause 7.4.3)\n",
+            "strict: not judged: Units (the bytes were not read to their end)\nno: bit 255: FrameNum (clause 7.4.3)\n",
         ],
         err: "",
         status: 1,
