@@ -123,7 +123,8 @@ def copied(folder, crate, room):
     """A copy of the crates in which this one may change: the other files are links."""
     linked = subprocess.run(["cp", "-al", folder / "crates", room / "crates"], stderr=subprocess.DEVNULL)
     if linked.returncode:
-        # The two lie on different disks.
+        # The two lie on different disks, or a check writes there meanwhile.
+        shutil.rmtree(room / "crates", ignore_errors=True)
         subprocess.run(["cp", "-a", folder / "crates", room], check=True)
     for name in ("crates.txt", "HANDLES"):
         shutil.copy(folder / name, room / name)
