@@ -342,6 +342,25 @@ def falls(counts):
     return sum(a >= b != 0 for a, b in zip(counts, counts[1:]))
 
 
+def by_count(frames, order):
+    """The frames in the order of their counts."""
+    return [frame for _, frame in sorted(zip(order, frames), key=lambda it: it[0])]
+
+
+def come_late(frames, order, theirs, has_resets):
+    """Whether another decoder has these frames but for some, each of which comes here after one of a greater count; or is a picture with operation 5,
+    whose count is 0 here, and was another one before, where the stream has such pictures."""
+    lost = collections.Counter(frames) - collections.Counter(theirs)
+    if not lost or collections.Counter(theirs) - collections.Counter(frames):
+        return False
+    greatest, late = None, collections.Counter()
+    for frame, count in zip(frames, order):
+        # An IDR picture's 0 begins anew.
+        greatest = count if greatest is None or count == 0 else max(greatest, count)
+        late[frame] += count < greatest or has_resets and count == 0
+    return not lost - late
+
+
 def is_far_apart(counts):
     """Whether two counts in a row lie farther apart than 8.2.1 lets them."""
     return any(not -(2**15) <= a - b < 2**15 for a, b in zip(counts, counts[1:]))
@@ -364,7 +383,8 @@ def excused(mine, theirs, complaints, tags):
         count_of = dict(zip(frames, order))
         if len(count_of) == len(frames) and "operation 5" in tags and falls([count_of[it] for it in theirs]) > falls(order):
             return "another order, in which counts fall more often"
-        if len(count_of) == len(frames) and "changed" in tags and falls([count_of[it] for it in theirs]) == 0:
+        rises = len(count_of) == len(frames) and falls([count_of[it] for it in theirs]) == 0
+        if "changed" in tags and (rises or theirs == by_count(frames, order)):
             return "another order, in which frames are sorted that a full buffer had to write"
         if "IdrCount" in tags:
             return "another order, with an IDR picture's count that is not 0"
@@ -372,6 +392,8 @@ def excused(mine, theirs, complaints, tags):
             return "another order, with counts below that of operation 5"
     if theirs is not None and is_far_apart(order) and not collections.Counter(theirs) - collections.Counter(frames):
         return "a count that lies too far from others"
+    if theirs is not None and come_late(frames, order, theirs, "operation 5" in tags):
+        return "frames that come after one of a greater count, which it drops"
     if theirs is not None and "other sets" in tags and not collections.Counter(theirs) - collections.Counter(frames):
         return "sequence parameter sets of other contents, between which it drops frames"
     if theirs is not None and unwritten:
