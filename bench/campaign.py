@@ -142,7 +142,6 @@ class Judge:
                 return f"{name} says {other}, and frames {last!r}"
         return ""
 
-
     def leaps_after_no_reference(self, path):
         """Whether a picture that is no reference is followed by another frame_num than its own, but for an IDR picture's 0."""
         units, slices = (self.ran([it], [path]).stdout.decode().split("\n") for it in ("units", "headers"))
@@ -150,6 +149,18 @@ class Judge:
         told = [words for words in map(str.split, slices) if words[:1] == ["slice"]]
         pairs = [(kinds[a[1]][5], kinds[b[1]][3], a[7], b[7]) for a, b in zip(told, told[1:])]
         return any(reference == "0" and kind == "1" and before != after for reference, kind, before, after in pairs)
+
+    def has_single_fields(self, path, frames, theirs):
+        """Whether each frame of another decoder is the same, or has the rows of one field in the place of the other's."""
+        if theirs is None or len(theirs) != len(frames):
+            return False
+        samples, at = self.ran(["decode"], [path]).stdout, 0
+        for frame, other in zip(frames, theirs):
+            length = bytes_of(frame)
+            if other not in (frame, *single_fields(frame, samples[at : at + length])):
+                return False
+            at += length
+        return True
 
 
 def by_file(output):
@@ -170,6 +181,22 @@ def bytes_of(digest):
     """How many bytes a frame of this size and digest has."""
     width, height = map(int, digest.split()[0].split("x"))
     return width * height * 3 // 2
+
+
+def single_fields(digest, samples):
+    """The digests of a frame whose rows are twice those of its top field, and twice those of its bottom field."""
+    size = digest.split()[0]
+    width, height = map(int, size.split("x"))
+    found = []
+    for field in (0, 1):
+        rows, at = b"", 0
+        for across, down in ((width, height), (width // 2, height // 2), (width // 2, height // 2)):
+            for y in range(down):
+                from_row = at + min(y - y % 2 + field, down - 1) * across
+                rows += samples[from_row : from_row + across]
+            at += across * down
+        found.append(f"{size} {hashlib.md5(rows).hexdigest()}")
+    return found
 
 
 def unlike(samples, digests):
@@ -284,6 +311,8 @@ class Worker:
         excuse = excused(mine, theirs, complaints, tags)
         if not excuse and self.judge.leaps_after_no_reference(path):
             excuse = "a frame_num after a picture that is no reference, which is not its own"
+        if not excuse and self.judge.has_single_fields(path, frames, theirs):
+            excuse = "a field that it takes for missing"
         if excuse:
             self.counts[f"ffmpeg: {excuse}"] += 1
             return
