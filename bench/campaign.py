@@ -412,8 +412,8 @@ def excused(mine, theirs, complaints, tags):
         count_of = dict(zip(frames, order))
         if len(count_of) == len(frames) and "operation 5" in tags and falls([count_of[it] for it in theirs]) > falls(order):
             return "another order, in which counts fall more often"
-        rises = len(count_of) == len(frames) and falls([count_of[it] for it in theirs]) == 0
-        if "changed" in tags and (rises or theirs == by_count(frames, order)):
+        is_sorted = len(count_of) == len(frames) and falls([count_of[it] for it in theirs]) < falls(order)
+        if "changed" in tags and (is_sorted or theirs == by_count(frames, order)):
             return "another order, in which frames are sorted that a full buffer had to write"
         if "IdrCount" in tags:
             return "another order, with an IDR picture's count that is not 0"
