@@ -1,9 +1,10 @@
 #!/usr/bin/env python3
-"""wrong_bodies.py [--jobs N] [--alone] [FOLDER] [CRATE..]: tries the edits of wrong-bodies/CRATE/. Each has to be refused by the prover.
+"""wrong_bodies.py [--jobs N] [--alone] [--part K/N] [FOLDER] [CRATE..]: tries the edits of wrong-bodies/CRATE/. Each has to be refused by the prover.
 
 Edits of functions that do not call one another are tried together, in one check of a copy of the crate. An edit is refused there where the check does
 not prove a function that the edit changes, and says so of that function itself: not because of one that it calls. Where that check does not tell, or
-the crate as it stands is not proved, the edit is tried alone, as the gate tries those of must-fail/. With --alone each is.
+the crate as it stands is not proved, the edit is tried alone, as the gate tries those of must-fail/. With --alone each is. With --part K/N, K from 1, it takes the K-th of N parts of a crate's batches, so that several
+runs share a large crate. Standard error is told of each batch when it is done.
 
 FOLDER is a folder with the repository's crates/ and what checks left in their out/, such as KEEP=1 ./install.sh leaves in FOLDER/work; the
 repository itself where it is left out. With no CRATE it tries the edits of every crate that has some. It prints a line for each edit that is not refused,
@@ -212,17 +213,27 @@ def told_alone(folder, crate, edits):
     return dict(lines)
 
 
-def tried(folder, crate, jobs, is_alone):
+def part_of(edits, sources, is_together, part):
+    """A part K/N of the edits: those to try one by one, and the batches of the others."""
+    together = [it for it in edits if is_together and it.is_of_functions()]
+    batches, alone = batches_of(together, sources), [it for it in edits if it not in together]
+    which, parts = (int(it) for it in part.split("/"))
+    return alone[which - 1 :: parts], batches[which - 1 :: parts]
+
+
+def tried(folder, crate, asked):
     """Tries the edits of a crate: how many there are, how many were refused, and how many of these only for a name."""
-    began = time.time()
+    began, jobs = time.time(), asked.jobs
     sources = Sources(folder / "crates" / crate)
     edits = [Edit(it, sources) for it in sorted((TOP / "wrong-bodies" / crate).glob("*.edit"))]
-    together = [it for it in edits if it.is_of_functions()] if not is_alone and is_proved(folder, crate, jobs) else []
+    alone, batches = part_of(edits, sources, not asked.alone and is_proved(folder, crate, jobs), asked.part)
+    edits = [*alone, *(edit for batch in batches for edit in batch)]
     refused, named = set(), set()
-    for batch in batches_of(together, sources):
+    for at, batch in enumerate(batches, 1):
         some, by_name = told_together(folder, crate, batch, sources, jobs)
         refused |= {it.name for it in some}
         named |= {it.name for it in by_name}
+        print(f"{crate}: batch {at} of {len(batches)}: {len(some)} of {len(batch)} refused", file=sys.stderr, flush=True)
     left = [it for it in edits if it.name not in refused]
     told = told_alone(folder, crate, left) if left else {}
     for edit in left:
@@ -244,6 +255,7 @@ def main():
     words = argparse.ArgumentParser(description=__doc__, formatter_class=argparse.RawDescriptionHelpFormatter)
     words.add_argument("--jobs", default="1", help="how many functions a check proves at once")
     words.add_argument("--alone", action="store_true", help="each edit in a check of its own")
+    words.add_argument("--part", default="1/1", metavar="K/N", help="the K-th of N parts of each crate's edits")
     words.add_argument("names", nargs="*", metavar="FOLDER or CRATE")
     asked = words.parse_args()
     folders = [it for it in asked.names if os.path.isdir(f"{it}/crates")]
@@ -254,7 +266,7 @@ def main():
     unknown = [it for it in crates if not (TOP / "wrong-bodies" / it).is_dir() or not (folder / "crates" / it).is_dir()]
     if unknown:
         sys.exit(f"no crate with wrong bodies: {unknown[0]}")
-    counts = [tried(folder, it, asked.jobs, asked.alone) for it in crates]
+    counts = [tried(folder, it, asked) for it in crates]
     edits, refused, named = (sum(it) for it in zip(*counts))
     print(f"{edits} tried, {refused} refused ({named} of them only for a name in a proof), {edits - refused} not")
     sys.exit(edits != refused)

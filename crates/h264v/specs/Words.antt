@@ -1,10 +1,15 @@
 -- To be read beside docs/OUTPUT.md. The command line: a simple command of clap with one level of subcommands, each of which takes one FILE or more, and
 -- options.
-use Rattle.std.specs.Prelude.{◌≡◌, ℕ, Bool, true, false, List, Option, Some, None, option_map, codes}
+use Rattle.std.specs.Prelude.{◌≡◌, ℕ, Bool, true, false, List, [], Option, Some, None, option_map, option_and_then, unwrap_or, codes, if◌then◌else◌}
+use Rattle.std.specs.Str.{bytes_eq}
 use Rattle.clap.specs.Lexer.{usize_max}
-use Rattle.clap.specs.Words.{App, Rule, Shape, Text, new_app, first_of, new_rule, subcommand_of, subcommand_rows_of, takes, with_rule, with_subcommand}
+use Rattle.clap.specs.Words.{App, Row, Rule, Shape, Text, new_app, all_of, first_of, new_rule, subcommand_of, subcommand_rows_of, takes, with_rule, with_subcommand}
 use Rattle.clap.specs.declared.builder.action.ArgAction.TheVariants.{Set, SetTrue}
 use Rattle.clap.specs.declared.parser.matches.ArgMatches.{ArgMatches}
+use Rattle.h264_base.specs.declared.mode.Mode.{Mode}
+use Rattle.h264_base.specs.declared.mode.Mode.TheVariants as modes
+use Rattle.h264_base.specs.declared.mode.Target.{Target}
+use Rattle.h264_base.specs.declared.mode.Target.TheVariants as targets
 use Rattle.h264v.specs.declared.command_line.Request.{Request}
 use Rattle.h264v.specs.declared.command_line.Task.{Task}
 use Rattle.h264v.specs.declared.command_line.Task.TheVariants as tasks
@@ -104,3 +109,43 @@ AsksFor words (Some r) = asks program words ≡ Some (name_of r.task, Some r.fil
 -- Words may be refused: the command line does not take them, or they name no task with a FILE.
 abbrev pub IsRefusable : List Text → Type 0
 IsRefusable words = takes program words ≡ true → AsksNothing words
+
+-- ---- files and options
+
+-- a subcommand with the rows of its arguments, where there is one: what words give it, or what was found of them
+abbrev pub Given : Type 0
+Given = Option (Text × List Row)
+
+-- the values that an argument has, in the order of the words
+abbrev pub values_in : Given → Text → List Text
+values_in given id = unwrap_or (option_and_then (λ p. all_of id p.1) given) []
+
+-- the first of them, where there is one
+abbrev pub value_in : Given → Text → Option Text
+value_in given id = option_and_then (λ p. first_of id p.1) given
+
+-- the name by which the system knows a file: that of standard input for -
+abbrev pub system_name : Text → Text
+system_name name = if bytes_eq name (codes "-") then codes "/dev/stdin" else name
+
+-- how far a task judges
+abbrev pub mode_of : Task → Mode
+mode_of tasks.Check = modes.Full
+mode_of tasks.Units = modes.Units
+mode_of tasks.Headers = modes.Headers
+mode_of tasks.Frames = modes.Full
+mode_of tasks.Decode = modes.Full
+mode_of tasks.Elements = modes.Full
+mode_of tasks.Info = modes.Full
+mode_of tasks.Report = modes.Full
+mode_of tasks.Explain = modes.Full
+
+-- the name of a target
+abbrev pub target_name : Target → Text
+target_name targets.Baseline = codes "baseline"
+target_name targets.MainIP = codes "main-ip"
+
+-- This is the target that is named: Constrained Baseline where none is.
+abbrev pub IsTarget : Option Text → Target → Type 0
+IsTarget None target = target ≡ targets.Baseline
+IsTarget (Some name) target = name ≡ target_name target

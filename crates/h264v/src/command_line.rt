@@ -2,16 +2,17 @@
 //!
 //! `asked` takes the words, the program's name first, and gives the task, the files' names and the options, or an error with the text that says why they
 //! ask for nothing. It promises what `specs/Words.antt` defines on clap's own definition of a command line: that a request is the subcommand and the first
-//! FILE that the words name, and that words which the command line takes are refused for want of memory alone. Which options and which further files a
-//! request has is tested.
+//! FILE that the words name, that the files and values which it has are those of the words, and that words which the command line takes are refused for want
+//! of memory alone. Which flags a request has is tested.
 #![tactic(auto)]
 
-ghost use Rattle.std.specs.Prelude.{◌≡◌, true, false, map, None, Some, IfOk, IfErr, IfSome, option_map, string_bytes};
-ghost use Rattle.clap.specs.Words.{app_of, takes, kind_of, with_rule};
+ghost use Rattle.std.specs.Prelude.{◌≡◌, true, false, map, None, Some, IfOk, IfErr, IfSome, option_map, string_bytes, codes};
+ghost use Rattle.clap.specs.Words.{app_of, found_of, takes, kind_of, subcommand_of, subcommand_rows_of, with_rule};
+ghost use Rattle.clap.specs.Walk.{rows_of};
 ghost use Rattle.clap.specs.declared.error.kind.ErrorKind.TheVariants as kinds;
 ghost use Rattle.clap.specs.declared.builder.command.Command.TheViews.{out-Command as fields_of};
 ghost use Rattle.h264v.specs.Words.{files_rule, flag_rule, value_rule, with_flags, with_values, file_app, with_file, bare, program, name_of};
-ghost use Rattle.h264v.specs.Words.{is_judging, found_by, IsRequest, AsksFor};
+ghost use Rattle.h264v.specs.Words.{is_judging, found_by, IsRequest, AsksFor, value_in, values_in};
 ghost use Rattle.h264v.specs.declared.command_line.Task.{Task as TaskView};
 
 use clap::{Arg, ArgAction, ArgMatches, Command, Error};
@@ -70,12 +71,14 @@ pub struct Request<'a> {
 #[derive(Drop)]
 pub struct Wanted<'a> {
     pub request: Request<'a>,
-    matches: ArgMatches<'a>,
+    pub matches: ArgMatches<'a>,
 }
 
 impl<'a> Wanted<'a> {
     /// What the words say of the task.
-    fn found(&self) -> Option<&ArgMatches<'a>> {
+    fn found(&self) -> Option<&ArgMatches<'a>>
+        ensures { option_map (λ m. rows_of (found_of m.now)) result ≡ option_map (λ p. p.1) (subcommand_rows_of self.now.matches) }
+    {
         match self.matches.subcommand() {
             Some((_, found)) => Some(found),
             None => None,
@@ -91,7 +94,9 @@ impl<'a> Wanted<'a> {
     }
 
     /// The value of this option, such as `output`, where the words have it.
-    pub fn value(&self, option: &str) -> Option<&'a str> {
+    pub fn value(&self, option: &str) -> Option<&'a str>
+        ensures { option_map (λ v. v.now) result ≡ value_in (subcommand_rows_of self.now.matches) option.now }
+    {
         match self.found() {
             Some(found) => found.get_str(option),
             None => None,
@@ -99,18 +104,12 @@ impl<'a> Wanted<'a> {
     }
 
     /// The names of the files, in the order of the words; none where they name none.
-    pub fn files(&self) -> Option<&[&'a str]> {
-        match self.matches.subcommand() {
-            Some((_, found)) => found.get_strs("FILE"),
-            None => None,
-        }
-    }
-
-    /// Whether the words name one file.
-    fn has_one_file(&self) -> bool {
-        match self.files() {
-            Some(files) => files.len() == 1,
-            None => false,
+    pub fn files(&self) -> &[&'a str]
+        ensures { map (λ v. v.now) result.now ≡ values_in (subcommand_rows_of self.now.matches) (codes "FILE") }
+    {
+        match self.found() {
+            Some(found) => found.get_strs("FILE").unwrap_or(&[]),
+            None => &[],
         }
     }
 
@@ -133,7 +132,7 @@ impl<'a> Wanted<'a> {
         ensures { result ≡ true → is_judging self.now.request.task ≡ true }
     {
         self.request.task.is_judging()
-            && self.has_one_file()
+            && self.files().len() == 1
             && self.request.file != "-"
             && !self.has_option()
     }
@@ -448,6 +447,9 @@ fn request_of<'a>(matches: &ArgMatches<'a>) -> Option<Request<'a>>
 /// An error has the text that says why they ask for nothing, among them a request for help or the version; or memory was wanting for it.
 pub fn asked<'a>(alloc: Global, words: &'a [String]) -> Result<Option<Wanted<'a>>, Error>
     ensures words { IfOk result (λ found. AsksFor (map (λ w. string_bytes w) words.entry.now) (option_map (λ a. a.request) found)) }
+    // The matches are clap's of these words.
+    ensures matches { IfOk result (λ found. IfSome found (λ a. subcommand_rows_of a.matches ≡
+        subcommand_of program (map (λ w. string_bytes w) words.entry.now))) }
     ensures refused { IfErr result (λ e. takes program (map (λ w. string_bytes w) words.entry.now) ≡ true → kind_of e ≡ kinds.OutOfMemory) }
 {
     let command = program(alloc)?;

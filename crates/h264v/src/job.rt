@@ -1,9 +1,12 @@
 //! One file, judged as the options say.
 #![tactic(auto)]
 
-ghost use Rattle.std.specs.Prelude.{◌≡◌, ◌-◌, ◌<◌, ◌^◌};
+ghost use Rattle.std.specs.Prelude.{◌≡◌, ◌-◌, ◌<◌, ◌^◌, ◌⊎◌, false, Err, IfSome, option_map_or};
 ghost use Rattle.h264_base.specs.Call.{HasRoom};
-ghost use Rattle.h264v.specs.More.{done_status};
+ghost use Rattle.h264_base.specs.declared.stop.Stop.TheVariants.{Memory};
+ghost use Rattle.h264v.specs.Files.{left_of};
+ghost use Rattle.h264v.specs.More.{done_status, IsAnswerOf};
+ghost use Rattle.h264v.specs.Words.{mode_of};
 
 use crate::command_line::Task;
 use crate::explaining::guide_of;
@@ -76,11 +79,19 @@ pub struct Found {
 }
 
 /// How far a task judges.
-fn mode_of(task: Task) -> Mode {
+fn mode_of(task: Task) -> Mode
+    ensures { result ≡ mode_of task }
+{
     match task {
         Task::Units => Mode::Units,
         Task::Headers => Mode::Headers,
-        _ => Mode::Full,
+        Task::Check => Mode::Full,
+        Task::Frames => Mode::Full,
+        Task::Decode => Mode::Full,
+        Task::Elements => Mode::Full,
+        Task::Info => Mode::Full,
+        Task::Report => Mode::Full,
+        Task::Explain => Mode::Full,
     }
 }
 
@@ -117,6 +128,7 @@ fn judge<S: FrameSink + Drop, R: Source, M: Meter + Drop>(
 ) -> Option<(Surveyed<S, M>, Answer)>
     requires sink { HasRoom S.failures sink }
     requires source { HasRoom R.failures source.old }
+    ensures { IfSome result (λ judged. IsAnswerOf job.now.task job.now.options.target (R.left source.old) judged.1) }
 {
     let Ok(survey) = Survey::new(job.alloc) else {
         return None;
@@ -160,6 +172,7 @@ fn judge_plainly<S: FrameSink + Drop, R: Source, M: Meter + Drop>(
 ) -> Option<Judged<S>>
     requires sink { HasRoom S.failures sink }
     requires source { HasRoom R.failures source.old }
+    ensures { IfSome result (λ judged. IsAnswerOf job.now.task job.now.options.target (R.left source.old) judged.answer) }
 {
     if job.options.asks_for_survey() {
         let (surveyed, answer) = judge(job, source, sink, meter)?;
@@ -197,7 +210,9 @@ fn strict_found(
     judgement: StrictJudgement,
     survey: Survey,
     seen: Seen,
-) -> Option<Found> {
+) -> Option<Found>
+    ensures { IfSome result (λ found. found.answer ≡ judgement.answer) }
+{
     let StrictJudgement { answer, units } = judgement;
     let StrictSink { sink, strict } = sink;
     let before = trail_lines(job.alloc, answer, &sink)?;
@@ -217,6 +232,7 @@ fn check_strictly<O: Opener + Drop, M: Meter + Drop>(
     meter: M,
 ) -> Option<Found>
     requires { files.old.failures < 2 ^ 64 - 1 }
+    ensures { IfSome result (λ found. IsAnswerOf job.now.task job.now.options.target (left_of O.File.Read.remaining files.old.reader) found.answer) }
 {
     let Ok(trail) = TrailSink::new(job.alloc) else {
         return None;
@@ -248,6 +264,7 @@ pub fn check_file<O: Opener + Drop, M: Meter + Drop>(
     meter: M,
 ) -> Option<Found>
     requires { files.old.failures < 2 ^ 64 - 1 }
+    ensures { IfSome result (λ found. IsAnswerOf job.now.task job.now.options.target (left_of O.File.Read.remaining files.old.reader) found.answer) }
 {
     if job.options.strict {
         return check_strictly(job, files, meter);
@@ -275,6 +292,7 @@ fn list_all<O: Opener + Drop, W: Device, M: Meter + Drop>(
     meter: M,
 ) -> Option<Found>
     requires { files.old.failures < 2 ^ 64 - 1 }
+    ensures { IfSome result (λ found. IsAnswerOf job.now.task job.now.options.target (left_of O.File.Read.remaining files.old.reader) found.answer) }
 {
     let pen = Pen { out };
     let sink: LineSink<'_, W, Brand> = LineSink::new(job.alloc, listing_of(job), form, pen);
@@ -297,6 +315,7 @@ fn judge_chosen<S: FrameSink + Drop, O: Opener + Drop>(
 ) -> Option<(Narrowed<S>, Answer)>
     requires sink { HasRoom S.failures sink }
     requires source { files.old.failures < 2 ^ 64 - 1 }
+    ensures { IfSome result (λ judged. IsAnswerOf job.now.task job.now.options.target (left_of O.File.Read.remaining files.old.reader) judged.1) }
 {
     let Ok(survey) = Survey::new(job.alloc) else {
         return None;
@@ -315,6 +334,7 @@ fn list_chosen<O: Opener + Drop, W: Device>(
     form: Form<'_>,
 ) -> Option<Found>
     requires { files.old.failures < 2 ^ 64 - 1 }
+    ensures { IfSome result (λ found. IsAnswerOf job.now.task job.now.options.target (left_of O.File.Read.remaining files.old.reader) found.answer) }
 {
     let pen = Pen { out };
     let sink: LineSink<'_, W, Brand> = LineSink::new(job.alloc, listing_of(job), form, pen);
@@ -337,6 +357,7 @@ pub fn list_file<O: Opener + Drop, W: Device, M: Meter + Drop>(
     meter: M,
 ) -> Option<Found>
     requires { files.old.failures < 2 ^ 64 - 1 }
+    ensures { IfSome result (λ found. IsAnswerOf job.now.task job.now.options.target (left_of O.File.Read.remaining files.old.reader) found.answer) }
 {
     let mut head = Page::new(job.alloc);
     let form = if job.options.json {
@@ -362,6 +383,7 @@ fn decode_samples<O: Opener + Drop, W: Device, M: Meter + Drop>(
     meter: M,
 ) -> Option<Found>
     requires { files.old.failures < 2 ^ 64 - 1 }
+    ensures { IfSome result (λ found. IsAnswerOf job.now.task job.now.options.target (left_of O.File.Read.remaining files.old.reader) found.answer) }
 {
     let sink: YuvSink<'_, W, Brand> = YuvSink::new(Pen { out });
     let (surveyed, answer) = judge(job, files, sink, meter)?;
@@ -404,6 +426,7 @@ fn decode_y4m<O: Opener + Drop, W: Device, M: Meter + Drop>(
     meter: M,
 ) -> Option<Found>
     requires { files.old.failures < 2 ^ 64 - 1 }
+    ensures { IfSome result (λ found. IsAnswerOf job.now.task job.now.options.target (left_of O.File.Read.remaining files.old.reader) found.answer) }
 {
     let sink: Y4mSink<'_, W, Brand> = Y4mSink::new(job.alloc, Pen { out });
     let (surveyed, answer) = judge(job, files, sink, meter)?;
@@ -426,6 +449,7 @@ pub fn decode_file<O: Opener + Drop, W: Device, M: Meter + Drop>(
     meter: M,
 ) -> Option<Found>
     requires { files.old.failures < 2 ^ 64 - 1 }
+    ensures { IfSome result (λ found. IsAnswerOf job.now.task job.now.options.target (left_of O.File.Read.remaining files.old.reader) found.answer) }
 {
     let mut found = if job.options.y4m {
         decode_y4m(job, files, out, meter)?
@@ -445,6 +469,7 @@ pub fn info_file<O: Opener + Drop, M: Meter + Drop>(
     meter: M,
 ) -> Option<Found>
     requires { files.old.failures < 2 ^ 64 - 1 }
+    ensures { IfSome result (λ found. IsAnswerOf job.now.task job.now.options.target (left_of O.File.Read.remaining files.old.reader) found.answer) }
 {
     let Ok(sink) = TrailSink::new(job.alloc) else {
         return None;
@@ -526,7 +551,9 @@ fn unjudged_line(stop: Stop) -> &'static str {
 }
 
 /// What is said of an answer for which there was no memory: that a device failed, where the answer is that; else that memory was wanting.
-fn short_of(answer: Answer) -> Stop {
+fn short_of(answer: Answer) -> Stop
+    ensures { (Err result ≡ answer) ⊎ (result ≡ Memory) }
+{
     match answer {
         Err(Stop::Read) => Stop::Read,
         Err(Stop::Write) => Stop::Write,
@@ -555,7 +582,9 @@ fn put_end(job: &Job<'_>, page: &mut Page, found: &Found) {
 }
 
 /// Writes the end of a judgement: lines, or an object of JSON; nothing where quiet is asked.
-pub fn put_found<W: Device>(job: &Job<'_>, out: &mut W, found: &Found) -> Done {
+pub fn put_found<W: Device>(job: &Job<'_>, out: &mut W, found: &Found) -> Done
+    ensures { (result.ending.answer ≡ found.now.answer) ⊎ (result.ending.answer ≡ Err Memory) }
+{
     let is_broken = found.is_broken();
     let mut page = Page::new(job.alloc);
     if !job.options.quiet {
@@ -579,7 +608,10 @@ pub fn put_found<W: Device>(job: &Job<'_>, out: &mut W, found: &Found) -> Done {
 }
 
 /// Writes that a file was not judged, by an answer of memory or of a device.
-pub fn put_unjudged<W: Device>(job: &Job<'_>, out: &mut W, stop: Stop) -> Done {
+pub fn put_unjudged<W: Device>(job: &Job<'_>, out: &mut W, stop: Stop) -> Done
+    ensures answer { result.ending.answer ≡ Err stop }
+    ensures broken { result.is_broken ≡ false }
+{
     let mut page = Page::new(job.alloc);
     page.open_object(job.file, "verdict");
     put_answer_fields(&mut page, Err(stop));
@@ -646,6 +678,7 @@ fn judge_pictures<O: Opener + Drop, W: Device, M: Meter + Drop>(
     meter: M,
 ) -> Option<(Found, Album)>
     requires { files.old.failures < 2 ^ 64 - 1 }
+    ensures { IfSome result (λ kept. IsAnswerOf job.now.task job.now.options.target (left_of O.File.Read.remaining files.old.reader) kept.0.answer) }
 {
     let pen = Pen { out: lines };
     let digests: LineSink<'_, W, Brand> = LineSink::new(
@@ -680,6 +713,7 @@ pub fn report_file<O: Opener + Drop, W: Device, M: Meter + Drop>(
     meter: M,
 ) -> Option<Found>
     requires { files.old.failures < 2 ^ 64 - 1 }
+    ensures { IfSome result (λ found. IsAnswerOf job.now.task job.now.options.target (left_of O.File.Read.remaining files.old.reader) found.answer) }
 {
     let mut lines = WriteDevice::new(Vec::new(job.alloc));
     let (mut found, album) = judge_pictures(job, files, &mut lines, meter)?;

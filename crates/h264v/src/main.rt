@@ -67,7 +67,7 @@ impl Maker for SystemFiles<'_> {
         BufWriter::new(self.rt.alloc(), fs::create(self.rt, name)?)
     }
 
-    fn is_same(&mut self, name: &str, other: &str) -> bool {
+    fn is_same(&self, name: &str, other: &str) -> bool {
         match (
             fs::canonicalize(self.rt, name),
             fs::canonicalize(self.rt, other),

@@ -1,12 +1,16 @@
 //! What the words ask for beside the judgement of one file: options, several files, and the tasks that make texts of their own.
 #![tactic(auto)]
 
-ghost use Rattle.std.specs.Prelude.{◌≡◌, ℕ, ◌==◌, ◌-◌, ◌<◌, ◌^◌, ◌++◌, ◌⊎◌, true, false, max, map, not, nat_le, List, length, codes};
+ghost use Rattle.std.specs.Prelude.{◌≡◌, ℕ, ◌==◌, ◌-◌, ◌<◌, ◌^◌, ◌++◌, ◌⊎◌, true, false, max, map, not, nat_le, None, Err, IfSome, List, codes};
+ghost use Rattle.std.specs.List.{All};
+ghost use Rattle.clap.specs.Words.{subcommand_rows_of};
+ghost use Rattle.h264_base.specs.declared.stop.Stop.TheVariants.{Memory};
 ghost use Rattle.h264_report.specs.Sent.{Sends, Takes};
 ghost use Rattle.h264_report.specs.Told.{ended};
-ghost use Rattle.h264v.specs.declared.job.Done.{Done as DoneView};
 ghost use Rattle.h264v.specs.Explained.{IsExplained};
-ghost use Rattle.h264v.specs.More.{worst, one_more, IsStatus};
+ghost use Rattle.h264v.specs.Files.{left_of};
+ghost use Rattle.h264v.specs.More.{worst, one_more, FileDone, IsAnswerOf, IsJudged, IsStatus, IsToldStatus};
+ghost use Rattle.h264v.specs.Words.{system_name};
 
 use crate::command::FAULT;
 use crate::command_line::{Task, Wanted};
@@ -37,7 +41,7 @@ pub trait Maker {
     fn make(&mut self, name: &str) -> io::Result<Self::Output>;
 
     /// Whether two names stand for one file.
-    fn is_same(&mut self, name: &str, other: &str) -> bool;
+    fn is_same(&self, name: &str, other: &str) -> bool;
 }
 
 /// How many files had which answer.
@@ -146,7 +150,7 @@ fn explain_labels<W: Device, E: Device>(
     out: &mut W,
     err: &mut E,
 ) -> u8
-    ensures status { IsStatus result }
+    ensures status { IsToldStatus result }
     ensures told { result ≡ 0 → (text : List ℕ) × IsExplained json (map (λ label. label.now) labels.now) text
         × Sends (W.contents out.old) (W.contents out.new) text }
 {
@@ -174,6 +178,7 @@ fn find<O: Opener + Drop, W: Device, M: Meter + Drop>(
     meter: M,
 ) -> Option<Found>
     requires { files.old.failures < 2 ^ 64 - 1 }
+    ensures { IfSome result (λ found. IsAnswerOf job.now.task job.now.options.target (left_of O.File.Read.remaining files.old.reader) found.answer) }
 {
     match job.task {
         Task::Check => check_file(job, files, meter),
@@ -185,7 +190,9 @@ fn find<O: Opener + Drop, W: Device, M: Meter + Drop>(
 }
 
 /// The name by which the system knows a file: standard input for `-`.
-fn system_name(file: &str) -> &str {
+fn system_name(file: &str) -> &str
+    ensures { result.now ≡ system_name file.now }
+{
     if file == "-" { "/dev/stdin" } else { file }
 }
 
@@ -203,6 +210,7 @@ fn do_file<O: Opener + Drop, W: Device, E: Device, M: Meter + Drop>(
     meter: M,
 ) -> Done
     requires { files.old.failures < 2 ^ 64 - 1 }
+    ensures { IsAnswerOf job.now.task job.now.options.target (O.holds files.old.opener (system_name job.now.file.now)) result.ending.answer }
 {
     if files.open(system_name(job.file)).is_err() {
         if answers_aside(job.task) {
@@ -222,6 +230,7 @@ fn judge_opened<O: Opener + Drop, W: Device, E: Device, M: Meter + Drop>(
     meter: M,
 ) -> Done
     requires { files.old.failures < 2 ^ 64 - 1 }
+    ensures { IsAnswerOf job.now.task job.now.options.target (left_of O.File.Read.remaining files.old.reader) result.ending.answer }
 {
     let found = find(job, files, out, meter);
     put_answer(job, found, out, err)
@@ -233,7 +242,10 @@ fn put_answer<W: Device, E: Device>(
     found: Option<Found>,
     out: &mut W,
     err: &mut E,
-) -> Done {
+) -> Done
+    ensures found { IfSome found (λ f. (result.ending.answer ≡ f.answer) ⊎ (result.ending.answer ≡ Err Memory)) }
+    ensures none { found ≡ None → result.ending.answer ≡ Err Memory }
+{
     match (found, answers_aside(job.task)) {
         (Some(found), true) => put_found(job, err, &found),
         (Some(found), false) => put_found(job, out, &found),
@@ -276,6 +288,7 @@ fn do_named<O: Opener + Drop, W: Device, E: Device, M: Meter + Drop>(
     meter: M,
 ) -> Done
     requires { files.old.failures < 2 ^ 64 - 1 }
+    ensures { IsAnswerOf job.now.task job.now.options.target (O.holds files.old.opener (system_name job.now.file.now)) result.ending.answer }
 {
     if job.options.json {
         return do_file(job, files, out, err, meter);
@@ -294,7 +307,7 @@ fn do_named<O: Opener + Drop, W: Device, E: Device, M: Meter + Drop>(
 }
 
 /// Judges several files, and writes their totals: the worst exit status.
-fn do_files<O: Opener + Drop, W: Device, E: Device, M: Meter + Drop + Copy>(
+fn do_files<O: Opener + Drop + Copy, W: Device, E: Device, M: Meter + Drop + Copy>(
     job: &Job<'_>,
     names: &[&str],
     opener: O,
@@ -302,14 +315,13 @@ fn do_files<O: Opener + Drop, W: Device, E: Device, M: Meter + Drop + Copy>(
     err: &mut E,
     meter: M,
 ) -> u8
-    ensures { ((done : List DoneView) × (length done ≡ length names.now) × (result ≡ worst done)) ⊎ (result ≡ 4) }
+    ensures { ((files : List FileDone) × (map (λ f. f.name) files ≡ map (λ n. n.now) names.now)
+        × All (IsJudged job.now.task job.now.options.target (λ name. O.holds opener name)) files × (result ≡ worst files)) ⊎ (result ≡ 4) }
 {
-    let mut files = OpenedFiles::new(opener);
     let mut totals = Totals::none();
     for name in names.iter() {
         let one = Job { file: name, ..*job };
-        files.failures = 0;
-        files.reads = 0;
+        let mut files = OpenedFiles::new(opener);
         let done = do_named(&one, &mut files, out, err, meter);
         blame_file(job.alloc, &mut files, err, name);
         totals.add(done.status());
@@ -333,22 +345,13 @@ fn do_one<O: Opener + Drop, W: Device, E: Device, M: Meter + Drop>(
     out: &mut W,
     err: &mut E,
     meter: M,
-) -> Done {
+) -> Done
+    ensures { IsAnswerOf job.now.task job.now.options.target (O.holds opener (system_name job.now.file.now)) result.ending.answer }
+{
     let mut files = OpenedFiles::new(opener);
     let done = do_file(job, &mut files, out, err, meter);
     blame_file(job.alloc, &mut files, err, job.file);
     done
-}
-
-/// The job of these words.
-fn job_of<'a>(alloc: Global, wanted: &Wanted<'a>, options: Options<'a>) -> Job<'a> {
-    Job {
-        alloc,
-        task: wanted.request.task,
-        options,
-        file: wanted.request.file,
-        prefix: "",
-    }
 }
 
 /// Judges one file with its output in a file of its own, which is made once the input is open: how that ended.
@@ -358,7 +361,9 @@ fn do_output<O: Opener + Maker + Drop, E: Device, M: Meter + Drop>(
     output: &str,
     err: &mut E,
     meter: M,
-) -> Done {
+) -> Done
+    ensures { IsAnswerOf job.now.task job.now.options.target (O.holds opener (system_name job.now.file.now)) result.ending.answer }
+{
     let mut files = OpenedFiles::new(opener);
     if files.open(system_name(job.file)).is_err() {
         let done = put_unjudged(job, err, Stop::Read);
@@ -381,33 +386,43 @@ fn do_output<O: Opener + Maker + Drop, E: Device, M: Meter + Drop>(
 
 /// Does what the words ask beside a judgement of one file without options, and gives the exit status: the worst of the files', 64 for a fault of the
 /// words, whose text goes to `err`.
-pub fn more<O: Opener + Maker + Drop, W: Device, E: Device, M: Meter + Drop + Copy>(
+pub fn more<O: Opener + Maker + Drop + Copy, W: Device, E: Device, M: Meter + Drop + Copy>(
     alloc: Global,
     wanted: &Wanted<'_>,
-    mut opener: O,
+    opener: O,
     out: &mut W,
     err: &mut E,
     meter: M,
 ) -> u8
-    ensures { IsStatus result }
+    ensures { IsStatus wanted.now.request.task (subcommand_rows_of wanted.now.matches) (λ name. O.holds opener name) result }
 {
     let options = match options_of(wanted) {
         Ok(options) => options,
         Err(refusal) => return refuse(err, refusal),
     };
-    let names = wanted.files().unwrap_or(&[]);
-    let job = job_of(alloc, wanted, options);
+    let names = wanted.files();
+    let job = Job {
+        alloc,
+        task: wanted.request.task,
+        options,
+        file: wanted.request.file,
+        prefix: "",
+    };
     if job.task == Task::Explain {
         return explain_labels(alloc, names, options.json, out, err);
     }
-    if let Some(output) = options.output {
-        if opener.is_same(system_name(job.file), output) {
-            return refuse(err, "the output is the input");
-        }
-        return do_output(&job, opener, output, err, meter).status();
-    }
-    if names.len() > 1 {
+    if names.len() != 1 {
         return do_files(&job, names, opener, out, err, meter);
     }
-    do_one(&job, opener, out, err, meter).status()
+    let job = Job {
+        file: names[0],
+        ..job
+    };
+    let Some(output) = options.output else {
+        return do_one(&job, opener, out, err, meter).status();
+    };
+    if opener.is_same(system_name(job.file), output) {
+        return refuse(err, "the output is the input");
+    }
+    do_output(&job, opener, output, err, meter).status()
 }

@@ -1,6 +1,10 @@
 //! The options of a command line, and which of them go together.
 #![tactic(auto)]
 
+ghost use Rattle.std.specs.Prelude.{◌≡◌, IfOk, option_map, codes};
+ghost use Rattle.clap.specs.Words.{subcommand_rows_of};
+ghost use Rattle.h264v.specs.Words.{IsTarget, value_in};
+
 use crate::command_line::{Task, Wanted};
 use h264_base::Target;
 use h264_report::survey::Choice;
@@ -63,7 +67,9 @@ fn choice_of(wanted: &Wanted<'_>) -> Result<Choice, Refusal> {
 }
 
 /// The target of this name, which is Constrained Baseline where none is given.
-fn target_of(name: Option<&str>) -> Result<Target, Refusal> {
+fn target_of(name: Option<&str>) -> Result<Target, Refusal>
+    ensures { IfOk result (λ target. IsTarget (option_map (λ n. n.now) name) target) }
+{
     let Some(text) = name else {
         return Ok(Target::Baseline);
     };
@@ -139,7 +145,9 @@ fn clashing(task: Task, options: &Options<'_>, files: &[&str]) -> Option<Refusal
 /// The options of a command line.
 ///
 /// An error says why they are refused.
-pub fn options_of<'a>(wanted: &Wanted<'a>) -> Result<Options<'a>, Refusal> {
+pub fn options_of<'a>(wanted: &Wanted<'a>) -> Result<Options<'a>, Refusal>
+    ensures { IfOk result (λ options. IsTarget (value_in (subcommand_rows_of wanted.now.matches) (codes "target")) options.target) }
+{
     let options = Options {
         explain: wanted.has("explain"),
         json: wanted.has("json"),
@@ -159,7 +167,7 @@ pub fn options_of<'a>(wanted: &Wanted<'a>) -> Result<Options<'a>, Refusal> {
     if let Some(refusal) = exclusive(&options) {
         return Err(refusal);
     }
-    match clashing(task, &options, wanted.files().unwrap_or(&[])) {
+    match clashing(task, &options, wanted.files()) {
         Some(refusal) => Err(refusal),
         None => Ok(options),
     }

@@ -2,7 +2,7 @@
 #![tactic(auto)]
 
 ghost use Rattle.std.specs.Prelude.{◌≡◌, ℕ, ◌-◌, ◌<◌, ◌≤◌, ◌⊎◌, ◌^◌, List, Some, map, string_bytes};
-ghost use Rattle.clap.specs.Words.{Text};
+ghost use Rattle.clap.specs.Words.{Text, subcommand_rows_of};
 ghost use Rattle.h264v.specs.Commands.{output_by};
 ghost use Rattle.h264v.specs.Files.{HasFailedToRead, HasReadAll};
 ghost use Rattle.h264v.specs.More.{IsStatus, Ends, Runs};
@@ -28,11 +28,11 @@ fn run_more<O, W, E, M>(
     meter: M,
 ) -> u8
 where
-    O: Opener + Maker + Drop,
+    O: Opener + Maker + Drop + Copy,
     W: Device,
     E: Device,
     M: Meter + Drop + Copy,
-    ensures { IsStatus result }
+    ensures { IsStatus wanted.now.request.task (subcommand_rows_of wanted.now.matches) (λ name. O.holds opener name) result }
 {
     if wanted.has("progress") {
         return more(alloc, wanted, opener, out, err, meter);

@@ -93,7 +93,7 @@ impl Maker for OneStream<'_> {
         Err(io::Error::from(ErrorKind::PermissionDenied))
     }
 
-    fn is_same(&mut self, name: &str, other: &str) -> bool {
+    fn is_same(&self, name: &str, other: &str) -> bool {
         name == other
     }
 }

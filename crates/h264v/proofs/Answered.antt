@@ -1,0 +1,68 @@
+-- The answer on the bytes that a source gives.
+use Rattle.std.proofs.Common.{◌≡◌, ℕ, Bool, true, false, ◌⊎◌, inl, inr, ⊎_elim, List, [], Option, Some, None, Result, Ok, Err, IfSome, refl, sym, subst}
+use Rattle.h264_base.specs.Call.{Call}
+use Rattle.h264_base.specs.declared.mode.Target.{Target}
+use Rattle.h264_base.specs.declared.stop.Stop.{Stop}
+use Rattle.h264_base.specs.declared.stop.Stop.TheVariants.{No, Outside, Memory, Read, Write}
+use Rattle.h264_plane.specs.Frames.{no_frame}
+use Rattle.h264_plane.specs.declared.frame.Frame.{Frame}
+use Rattle.h264_report.specs.Written.{OfBytes, told_of}
+use Rattle.h264_report.proofs.Accounts.{of-map}
+use Rattle.h264_verify.specs.Units.{terms_of}
+use Rattle.h264_verify.specs.Verdict.{Judged}
+use Rattle.h264_verify.specs.declared.state.Summary.{Summary}
+use Rattle.h264_verify.specs.declared.state.Terms.{Terms}
+use Rattle.h264v.specs.More.{IsAnswer, IsAnswerOf}
+use Rattle.h264v.specs.Words.{mode_of}
+use Rattle.h264v.specs.declared.command_line.Task.{Task}
+
+of-judged : {S : Type 0} {took : S → List Call → Type 0} {failures : S → ℕ} {terms : Terms} {bytes : List ℕ} {frames : ℕ → Frame} {s s' : S} (answer : Result Summary Stop) →
+    Judged terms took failures bytes frames [] s s' answer → IsAnswer terms bytes answer
+of-judged (Ok summary) j = (j.judged.0.more, j.judged.0.verdict)
+of-judged (Err (No bit rule)) j = (j.judged.0.more, j.judged.0.verdict)
+of-judged (Err (Outside bit feature)) j = (j.judged.0.more, j.judged.0.verdict)
+of-judged (Err Memory) j = tt
+of-judged (Err Read) j = tt
+of-judged (Err Write) j = tt
+
+-- a judgement of what a source gives, whether it tells it or not
+pub answered : {S : Type 0} {took : S → List Call → Type 0} {failures : S → ℕ} {s s' : S} (terms : Terms) (left : Option (List ℕ)) (answer : Result Summary Stop) →
+    ((bytes : List ℕ) → left ≡ Some bytes → (frames : ℕ → Frame) → Judged terms took failures bytes frames [] s s' answer) →
+    (some : List ℕ) → ((frames : ℕ → Frame) → Judged terms took failures some frames [] s s' answer) → OfBytes left (λ bytes. IsAnswer terms bytes answer)
+answered terms None answer known some judged = (some, of-judged answer (judged (λ k. no_frame)))
+answered terms (Some bytes) answer known some judged = of-judged answer (known bytes refl (λ k. no_frame))
+
+told-one : (terms : Terms) (bytes : List ℕ) (broke_off : Bool) (answer : Result Summary Stop) → IsAnswer terms bytes answer → IsAnswer terms bytes (told_of broke_off answer)
+told-one terms bytes true answer h = tt
+told-one terms bytes false (Ok summary) h = h
+told-one terms bytes false (Err (No bit rule)) h = h
+told-one terms bytes false (Err (Outside bit feature)) h = h
+told-one terms bytes false (Err Memory) h = tt
+told-one terms bytes false (Err Read) h = tt
+told-one terms bytes false (Err Write) h = tt
+
+-- the answer that is told of it
+pub told : (task : Task) (target : Target) (left : Option (List ℕ)) (broke_off : Bool) (answer said : Result Summary Stop) → said ≡ told_of broke_off answer →
+    IsAnswerOf task target left answer → IsAnswerOf task target left said
+told task target left broke_off answer said is h =
+    subst (IsAnswerOf task target left) (sym is) (of-map left (λ bytes. IsAnswer (terms_of (mode_of task) target) bytes answer) (λ bytes. IsAnswer (terms_of (mode_of task) target) bytes (told_of broke_off answer))
+    (λ bytes. told-one (terms_of (mode_of task) target) bytes broke_off answer) h)
+
+of-any : (left : Option (List ℕ)) (Is : List ℕ → Type 0) → ((bytes : List ℕ) → Is bytes) → OfBytes left Is
+of-any None Is every = ([], every [])
+of-any (Some bytes) Is every = every bytes
+
+pub of-memory : (task : Task) (target : Target) (left : Option (List ℕ)) → IsAnswerOf task target left (Err Memory)
+of-memory task target left = of-any left _ (λ bytes. tt)
+
+pub of-read : (task : Task) (target : Target) (left : Option (List ℕ)) → IsAnswerOf task target left (Err Read)
+of-read task target left = of-any left _ (λ bytes. tt)
+
+pub of-write : (task : Task) (target : Target) (left : Option (List ℕ)) → IsAnswerOf task target left (Err Write)
+of-write task target left = of-any left _ (λ bytes. tt)
+
+-- the answer, or that memory was wanting
+pub or-memory : (task : Task) (target : Target) (left : Option (List ℕ)) (answer said : Result Summary Stop) → (said ≡ answer) ⊎ (said ≡ Err Memory) →
+    IsAnswerOf task target left answer → IsAnswerOf task target left said
+or-memory task target left answer said is h =
+    ⊎_elim (λ e. subst (IsAnswerOf task target left) (sym e) h) (λ e. subst (IsAnswerOf task target left) (sym e) (of-memory task target left)) is
