@@ -1,13 +1,14 @@
 -- The answer on the bytes that a source gives.
 use Rattle.std.proofs.Common.{◌≡◌, ℕ, Bool, true, false, ◌⊎◌, inl, inr, ⊎_elim, List, [], Option, Some, None, Result, Ok, Err, IfSome, refl, sym, subst}
 use Rattle.h264_base.specs.Call.{Call}
+use Rattle.h264_base.specs.declared.mode.Mode.{Mode}
 use Rattle.h264_base.specs.declared.mode.Target.{Target}
 use Rattle.h264_base.specs.declared.stop.Stop.{Stop}
 use Rattle.h264_base.specs.declared.stop.Stop.TheVariants.{No, Outside, Memory, Read, Write}
 use Rattle.h264_plane.specs.Frames.{no_frame}
 use Rattle.h264_plane.specs.declared.frame.Frame.{Frame}
 use Rattle.h264_report.specs.Written.{OfBytes, told_of}
-use Rattle.h264_report.proofs.Accounts.{of-map}
+use Rattle.h264_report.proofs.Accounts.{of-bytes, of-map}
 use Rattle.h264_verify.specs.Units.{terms_of}
 use Rattle.h264_verify.specs.Verdict.{Judged}
 use Rattle.h264_verify.specs.declared.state.Summary.{Summary}
@@ -25,12 +26,13 @@ of-judged (Err Memory) j = tt
 of-judged (Err Read) j = tt
 of-judged (Err Write) j = tt
 
--- a judgement of what a source gives, whether it tells it or not
-pub answered : {S : Type 0} {took : S → List Call → Type 0} {failures : S → ℕ} {s s' : S} (terms : Terms) (left : Option (List ℕ)) (answer : Result Summary Stop) →
-    ((bytes : List ℕ) → left ≡ Some bytes → (frames : ℕ → Frame) → Judged terms took failures bytes frames [] s s' answer) →
-    (some : List ℕ) → ((frames : ℕ → Frame) → Judged terms took failures some frames [] s s' answer) → OfBytes left (λ bytes. IsAnswer terms bytes answer)
-answered terms None answer known some judged = (some, of-judged answer (judged (λ k. no_frame)))
-answered terms (Some bytes) answer known some judged = of-judged answer (known bytes refl (λ k. no_frame))
+-- a judgement of what a source gives, whether it tells it or not, as far as a task judges
+pub answered : {S : Type 0} {took : S → List Call → Type 0} {failures : S → ℕ} {s s' : S} (task : Task) (target : Target) (mode : Mode) (left : Option (List ℕ)) (answer : Result Summary Stop) →
+    mode ≡ mode_of task → ((bytes : List ℕ) → left ≡ Some bytes → (frames : ℕ → Frame) → Judged (terms_of mode target) took failures bytes frames [] s s' answer) →
+    (some : List ℕ) → ((frames : ℕ → Frame) → Judged (terms_of mode target) took failures some frames [] s s' answer) → IsAnswerOf task target left answer
+answered task target mode left answer is known some judged =
+    subst (λ m. OfBytes left (λ bytes. IsAnswer (terms_of m target) bytes answer)) is
+    (of-bytes left (λ bytes. IsAnswer (terms_of mode target) bytes answer) (λ bytes h. of-judged answer (known bytes h (λ k. no_frame))) (some, of-judged answer (judged (λ k. no_frame))))
 
 told-one : (terms : Terms) (bytes : List ℕ) (broke_off : Bool) (answer : Result Summary Stop) → IsAnswer terms bytes answer → IsAnswer terms bytes (told_of broke_off answer)
 told-one terms bytes true answer h = tt
@@ -48,18 +50,14 @@ told task target left broke_off answer said is h =
     subst (IsAnswerOf task target left) (sym is) (of-map left (λ bytes. IsAnswer (terms_of (mode_of task) target) bytes answer) (λ bytes. IsAnswer (terms_of (mode_of task) target) bytes (told_of broke_off answer))
     (λ bytes. told-one (terms_of (mode_of task) target) bytes broke_off answer) h)
 
-of-any : (left : Option (List ℕ)) (Is : List ℕ → Type 0) → ((bytes : List ℕ) → Is bytes) → OfBytes left Is
-of-any None Is every = ([], every [])
-of-any (Some bytes) Is every = every bytes
-
 pub of-memory : (task : Task) (target : Target) (left : Option (List ℕ)) → IsAnswerOf task target left (Err Memory)
-of-memory task target left = of-any left _ (λ bytes. tt)
+of-memory task target left = of-bytes left _ (λ bytes h. tt) ([], tt)
 
 pub of-read : (task : Task) (target : Target) (left : Option (List ℕ)) → IsAnswerOf task target left (Err Read)
-of-read task target left = of-any left _ (λ bytes. tt)
+of-read task target left = of-bytes left _ (λ bytes h. tt) ([], tt)
 
 pub of-write : (task : Task) (target : Target) (left : Option (List ℕ)) → IsAnswerOf task target left (Err Write)
-of-write task target left = of-any left _ (λ bytes. tt)
+of-write task target left = of-bytes left _ (λ bytes h. tt) ([], tt)
 
 -- the answer, or that memory was wanting
 pub or-memory : (task : Task) (target : Target) (left : Option (List ℕ)) (answer said : Result Summary Stop) → (said ≡ answer) ⊎ (said ≡ Err Memory) →

@@ -4,6 +4,10 @@ use Rattle.std.proofs.lemmas.List.{append-nil, append_assoc, map-append, take_mo
 use Rattle.h264v.specs.Explained.{label_in, entry_text, IsExplained}
 use Rattle.h264v.specs.declared.explaining.Entry.{Entry}
 
+-- the first of some elements with one more, each turned into another thing
+pub one-more : {X Y : Type 0} (of : X → Y) (xs : List X) (i : ℕ) (x : X) → i < length xs → map of (take (i + 1) xs) ≡ map of (take i xs) ++ of (get_or xs i x) ∷ []
+one-more of xs i x inside = ap (map of) (take_more xs i x inside) ∙ map-append of (take i xs) (get_or xs i x ∷ [])
+
 pub explained-none : (json : Bool) (text : List ℕ) → text ≡ [] → IsExplained json [] text
 explained-none json text e = record { entries = []; are_theirs = refl; text_is = e }
 
@@ -21,6 +25,4 @@ more json labels label text new e h is text-is = record {
 pub explained-more : {X : Type 0} (json : Bool) (of : X → List ℕ) (xs : List X) (i : ℕ) (x : X) (text new : List ℕ) (e : Entry) → IsExplained json (map of (take i xs)) text → i < length xs →
     label_in e ≡ of (get_or xs i x) → new ≡ text ++ entry_text json e → IsExplained json (map of (take (i + 1) xs)) new
 explained-more json of xs i x text new e h inside is text-is =
-    let next : map of (take (i + 1) xs) ≡ map of (take i xs) ++ of (get_or xs i x) ∷ [] =
-    ap (map of) (take_more xs i x inside) ∙ map-append of (take i xs) (get_or xs i x ∷ []) in
-    subst (λ ls. IsExplained json ls new) (sym next) (more json (map of (take i xs)) (of (get_or xs i x)) text new e h is text-is)
+    subst (λ ls. IsExplained json ls new) (sym (one-more of xs i x inside)) (more json (map of (take i xs)) (of (get_or xs i x)) text new e h is text-is)

@@ -3,3 +3,5 @@ mod Failing
 mod Statuses
 mod Explained
 pub mod Told
+mod Answered
+mod Given

@@ -1,13 +1,14 @@
 -- The exit status of one file, and of several.
-use Rattle.std.proofs.Common.{◌≡◌, ℕ, ◌<◌, ◌⊎◌, inl, inr, max, List, [], ◌∷◌, length, sym, ◌∙◌, arith}
-use Rattle.h264v.specs.declared.job.Done.{Done}
-use Rattle.h264v.specs.More.{worst, done_status, IsStatus, Judged, Unwritten}
+use Rattle.std.proofs.Common.{◌≡◌, max, List, [], ◌∷◌, ◌++◌, ap, ◌∙◌, arith}
+use Rattle.h264v.specs.More.{FileDone, done_status, worst}
 
-pub alone : (d : Done) (status : ℕ) → status ≡ done_status d → IsStatus status
-alone d status is =
-    let same : max 0 (done_status d) ≡ done_status d = omega arith in
-    Judged (d ∷ []) (omega arith) (is ∙ sym same)
+pub worst-more : (files : List FileDone) (f : FileDone) → worst (files ++ f ∷ []) ≡ max (worst files) (done_status f.done)
+worst-more [] f = let here : max (done_status f.done) 0 ≡ max 0 (done_status f.done) = omega arith in here
+worst-more (e ∷ files) f =
+    let next = worst-more files f in
+    let over : max (done_status e.done) (max (worst files) (done_status f.done)) ≡ max (max (done_status e.done) (worst files)) (done_status f.done) = omega arith in
+    ap (max (done_status e.done)) next ∙ over
 
-pub several : (files status : ℕ) → ((done : List Done) × (length done ≡ files) × (status ≡ worst done)) ⊎ (status ≡ 4) → 0 < files → IsStatus status
-several files status (inl t) some = Judged t.0 (let e = t.1 in omega (arith, e, some)) t.2
-several files status (inr e) some = Unwritten e
+-- one file alone
+pub worst-one : (f : FileDone) → worst (f ∷ []) ≡ done_status f.done
+worst-one f = omega arith

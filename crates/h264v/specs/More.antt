@@ -13,7 +13,9 @@ use Rattle.h264_verify.specs.Verdict.{Holds, Breaks, MayStop}
 use Rattle.h264_verify.specs.declared.state.Summary.{Summary}
 use Rattle.h264_verify.specs.declared.state.Terms.{Terms}
 use Rattle.h264v.specs.declared.job.Done.{Done}
-use Rattle.h264v.specs.Words.{program, asks, name_of, Given, value_in, values_in, system_name, mode_of, IsTarget}
+use Rattle.h264v.specs.Words.{program, asks, name_of, Given, values_in, system_name, mode_of}
+use Rattle.h264v.specs.Options.{AreOptions, IsMisused, IsRefused}
+use Rattle.h264v.specs.declared.options.Options.{Options}
 use Rattle.h264v.specs.declared.command_line.Task.{Task}
 use Rattle.h264v.specs.declared.command_line.Task.TheVariants as tasks
 use Rattle.clap.specs.Words.{Text, subcommand_of}
@@ -73,11 +75,11 @@ pub data IsToldStatus (status : ℕ) : Type 0 where
 -- The exit status of a task where the words ask for more than a judgement of one FILE.
 pub data IsStatus (task : Task) (given : Given) (file : Text → Option (List ℕ)) (status : ℕ) : Type 0 where
   -- a fault of the words
-  Refused : status ≡ 64 → IsStatus task given file status
+  Refused : status ≡ 64 → IsRefused task given → IsStatus task given file status
   Explained : task ≡ tasks.Explain → IsToldStatus status → IsStatus task given file status
   -- each FILE was judged, in the order of the words and for their target
-  Judged : (target : Target) (files : List FileDone) → IsTarget (value_in given (codes "target")) target →
-      map (λ f. f.name) files ≡ values_in given (codes "FILE") → All (IsJudged task target file) files →
+  Judged : (o : Options) (files : List FileDone) → AreOptions given o → (IsMisused task given o → ⊥) →
+      map (λ f. f.name) files ≡ values_in given (codes "FILE") → All (IsJudged task o.target file) files →
       status ≡ worst files → IsStatus task given file status
   -- the totals of several files could not be written
   Unwritten : status ≡ 4 → IsStatus task given file status

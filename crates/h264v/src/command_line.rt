@@ -2,8 +2,8 @@
 //!
 //! `asked` takes the words, the program's name first, and gives the task, the files' names and the options, or an error with the text that says why they
 //! ask for nothing. It promises what `specs/Words.antt` defines on clap's own definition of a command line: that a request is the subcommand and the first
-//! FILE that the words name, that the files and values which it has are those of the words, and that words which the command line takes are refused for want
-//! of memory alone. Which flags a request has is tested.
+//! FILE that the words name, that the files and options which it has are those of the words, and that words which the command line takes are refused for
+//! want of memory alone.
 #![tactic(auto)]
 
 ghost use Rattle.std.specs.Prelude.{◌≡◌, true, false, map, None, Some, IfOk, IfErr, IfSome, option_map, string_bytes, codes};
@@ -13,6 +13,7 @@ ghost use Rattle.clap.specs.declared.error.kind.ErrorKind.TheVariants as kinds;
 ghost use Rattle.clap.specs.declared.builder.command.Command.TheViews.{out-Command as fields_of};
 ghost use Rattle.h264v.specs.Words.{files_rule, flag_rule, value_rule, with_flags, with_values, file_app, with_file, bare, program, name_of};
 ghost use Rattle.h264v.specs.Words.{is_judging, found_by, IsRequest, AsksFor, value_in, values_in};
+ghost use Rattle.h264v.specs.Options.{flag_in, IsFlag};
 ghost use Rattle.h264v.specs.declared.command_line.Task.{Task as TaskView};
 
 use clap::{Arg, ArgAction, ArgMatches, Command, Error};
@@ -86,7 +87,9 @@ impl<'a> Wanted<'a> {
     }
 
     /// Whether the words have this option, which takes no value, such as `json`.
-    pub fn has(&self, option: &str) -> bool {
+    pub fn has(&self, option: &str) -> bool
+        ensures { IsFlag (flag_in (subcommand_rows_of self.now.matches) option.now) result }
+    {
         match self.found() {
             Some(found) => found.get_flag(option),
             None => false,

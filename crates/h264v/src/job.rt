@@ -1,10 +1,13 @@
 //! One file, judged as the options say.
 #![tactic(auto)]
 
-ghost use Rattle.std.specs.Prelude.{◌≡◌, ◌-◌, ◌<◌, ◌^◌, ◌⊎◌, false, Err, IfSome, option_map_or};
+ghost use Rattle.std.specs.Prelude.{◌≡◌, ◌-◌, ◌<◌, ◌^◌, ◌⊎◌, true, false, Some, Err, IfSome};
 ghost use Rattle.h264_base.specs.Call.{HasRoom};
 ghost use Rattle.h264_base.specs.declared.stop.Stop.TheVariants.{Memory};
+ghost use Rattle.h264_verify.specs.Units.{terms_of};
 ghost use Rattle.h264v.specs.Files.{left_of};
+ghost use Rattle.h264v.specs.Further.{AreJudged, BreakOne};
+ghost use Rattle.h264v.specs.declared.strictly.FurtherRules.{FurtherRules as FurtherView};
 ghost use Rattle.h264v.specs.More.{done_status, IsAnswerOf};
 ghost use Rattle.h264v.specs.Words.{mode_of};
 
@@ -24,7 +27,7 @@ use h264_report::{
     Device, Ending, Form, LineSink, Listing, PageSink, Pen, StrictJudgement, StrictSink, TrailSink,
     WriteDevice, Y4mSink, YuvSink, judge_strictly, put_line, put_text, told_answer, verdict_line,
 };
-use h264_verify::{FrameSink, Source, run};
+use h264_verify::{FrameSink, run};
 use std::alloc::Global;
 use std::marker::Brand;
 
@@ -111,7 +114,10 @@ fn listing_of(job: &Job<'_>) -> Listing {
 
 impl Found {
     /// Whether a further rule is broken.
-    fn is_broken(&self) -> bool {
+    fn is_broken(&self) -> bool
+        ensures yes { result ≡ true → BreakOne self.now.strict }
+        ensures no { result ≡ false → BreakOne self.now.strict → ⊥ }
+    {
         match &self.strict {
             Some(further) => is_broken(further),
             None => false,
@@ -120,15 +126,15 @@ impl Found {
 }
 
 /// Judges the open file with a sink, and surveys its calls. None where memory is wanting for the survey.
-fn judge<S: FrameSink + Drop, R: Source, M: Meter + Drop>(
+fn judge<S: FrameSink + Drop, O: Opener + Drop, M: Meter + Drop>(
     job: &Job<'_>,
-    source: &mut R,
+    files: &mut OpenedFiles<O>,
     sink: S,
     meter: M,
 ) -> Option<(Surveyed<S, M>, Answer)>
     requires sink { HasRoom S.failures sink }
-    requires source { HasRoom R.failures source.old }
-    ensures { IfSome result (λ judged. IsAnswerOf job.now.task job.now.options.target (R.left source.old) judged.1) }
+    requires source { files.old.failures < 2 ^ 64 - 1 }
+    ensures { IfSome result (λ judged. IsAnswerOf job.now.task job.now.options.target (left_of O.File.Read.remaining files.old.reader) judged.1) }
 {
     let Ok(survey) = Survey::new(job.alloc) else {
         return None;
@@ -139,7 +145,7 @@ fn judge<S: FrameSink + Drop, R: Source, M: Meter + Drop>(
         meter,
     };
     let (mode, target) = (mode_of(job.task), job.options.target);
-    let answer = run(job.alloc, source, &mut surveyed, mode, target);
+    let answer = run(job.alloc, files, &mut surveyed, mode, target);
     tell_end(&mut surveyed);
     Some((surveyed, answer))
 }
@@ -164,18 +170,18 @@ struct Judged<S: FrameSink + Drop> {
 }
 
 /// Judges the open file with a sink, and surveys its calls where an option asks for that. None where memory is wanting for the survey.
-fn judge_plainly<S: FrameSink + Drop, R: Source, M: Meter + Drop>(
+fn judge_plainly<S: FrameSink + Drop, O: Opener + Drop, M: Meter + Drop>(
     job: &Job<'_>,
-    source: &mut R,
+    files: &mut OpenedFiles<O>,
     mut sink: S,
     meter: M,
 ) -> Option<Judged<S>>
     requires sink { HasRoom S.failures sink }
-    requires source { HasRoom R.failures source.old }
-    ensures { IfSome result (λ judged. IsAnswerOf job.now.task job.now.options.target (R.left source.old) judged.answer) }
+    requires source { files.old.failures < 2 ^ 64 - 1 }
+    ensures { IfSome result (λ judged. IsAnswerOf job.now.task job.now.options.target (left_of O.File.Read.remaining files.old.reader) judged.answer) }
 {
     if job.options.asks_for_survey() {
-        let (surveyed, answer) = judge(job, source, sink, meter)?;
+        let (surveyed, answer) = judge(job, files, sink, meter)?;
         let Surveyed { sink, survey, .. } = surveyed;
         return Some(Judged {
             sink,
@@ -187,7 +193,7 @@ fn judge_plainly<S: FrameSink + Drop, R: Source, M: Meter + Drop>(
         return None;
     };
     let (mode, target) = (mode_of(job.task), job.options.target);
-    let answer = run(job.alloc, source, &mut sink, mode, target);
+    let answer = run(job.alloc, files, &mut sink, mode, target);
     Some(Judged {
         sink,
         survey,
@@ -211,7 +217,8 @@ fn strict_found(
     survey: Survey,
     seen: Seen,
 ) -> Option<Found>
-    ensures { IfSome result (λ found. found.answer ≡ judgement.answer) }
+    ensures answer { IfSome result (λ found. found.answer ≡ judgement.answer) }
+    ensures further { IfSome result (λ found. found.strict ≡ Some (record { strict = sink.strict; units = judgement.units })) }
 {
     let StrictJudgement { answer, units } = judgement;
     let StrictSink { sink, strict } = sink;
@@ -232,7 +239,9 @@ fn check_strictly<O: Opener + Drop, M: Meter + Drop>(
     meter: M,
 ) -> Option<Found>
     requires { files.old.failures < 2 ^ 64 - 1 }
-    ensures { IfSome result (λ found. IsAnswerOf job.now.task job.now.options.target (left_of O.File.Read.remaining files.old.reader) found.answer) }
+    ensures answer { IfSome result (λ found. IsAnswerOf job.now.task job.now.options.target (left_of O.File.Read.remaining files.old.reader) found.answer) }
+    ensures further { IfSome result (λ found. (further : FurtherView) × (found.strict ≡ Some further)
+        × AreJudged (terms_of (mode_of job.now.task) job.now.options.target) (left_of O.File.Read.remaining files.old.reader) found.answer further) }
 {
     let Ok(trail) = TrailSink::new(job.alloc) else {
         return None;
@@ -583,7 +592,9 @@ fn put_end(job: &Job<'_>, page: &mut Page, found: &Found) {
 
 /// Writes the end of a judgement: lines, or an object of JSON; nothing where quiet is asked.
 pub fn put_found<W: Device>(job: &Job<'_>, out: &mut W, found: &Found) -> Done
-    ensures { (result.ending.answer ≡ found.now.answer) ⊎ (result.ending.answer ≡ Err Memory) }
+    ensures answer { (result.ending.answer ≡ found.now.answer) ⊎ (result.ending.answer ≡ Err Memory) }
+    ensures broken { result.is_broken ≡ true → BreakOne found.now.strict }
+    ensures unbroken { result.is_broken ≡ false → BreakOne found.now.strict → ⊥ }
 {
     let is_broken = found.is_broken();
     let mut page = Page::new(job.alloc);

@@ -1,9 +1,11 @@
 //! The options of a command line, and which of them go together.
 #![tactic(auto)]
 
-ghost use Rattle.std.specs.Prelude.{◌≡◌, IfOk, option_map, codes};
+ghost use Rattle.std.specs.Prelude.{◌≡◌, true, None, IfOk, IfErr, IsSome, map, option_map, codes};
 ghost use Rattle.clap.specs.Words.{subcommand_rows_of};
-ghost use Rattle.h264v.specs.Words.{IsTarget, value_in};
+ghost use Rattle.h264_base.specs.declared.mode.Target.{Target as TargetView};
+ghost use Rattle.h264v.specs.Options.{AreClashing, AreExclusive, AreOptions, IsMisplaced, IsMisused, IsNoNumber, IsNumber, IsRefused, IsUnreadable};
+ghost use Rattle.h264v.specs.Words.{Given, IsTarget, value_in};
 
 use crate::command_line::{Task, Wanted};
 use h264_base::Target;
@@ -36,7 +38,12 @@ impl Options<'_> {
 pub type Refusal = &'static str;
 
 /// The number that an option has.
-fn number_of(value: Option<&str>, refusal: Refusal) -> Result<Option<u64>, Refusal> {
+///
+/// An error says that its value is no number.
+fn number_of(value: Option<&str>, refusal: Refusal) -> Result<Option<u64>, Refusal>
+    ensures number { IfOk result (IsNumber (option_map (λ v. v.now) value)) }
+    ensures none { IfErr result (λ _. IsNoNumber (option_map (λ v. v.now) value)) }
+{
     let Some(text) = value else {
         return Ok(None);
     };
@@ -46,29 +53,12 @@ fn number_of(value: Option<&str>, refusal: Refusal) -> Result<Option<u64>, Refus
     }
 }
 
-/// What is chosen of a stream.
-fn choice_of(wanted: &Wanted<'_>) -> Result<Choice, Refusal> {
-    let picture = number_of(
-        wanted.value("picture"),
-        "--picture wants the number of a picture, from 0",
-    );
-    let macroblock = number_of(
-        wanted.value("mb"),
-        "--mb wants the address of a macroblock, from 0",
-    );
-    match (picture, macroblock) {
-        (Ok(picture), Ok(macroblock)) => Ok(Choice {
-            picture,
-            macroblock,
-        }),
-        (Err(refusal), _) => Err(refusal),
-        (_, Err(refusal)) => Err(refusal),
-    }
-}
-
 /// The target of this name, which is Constrained Baseline where none is given.
+///
+/// An error says that the name is no target's.
 fn target_of(name: Option<&str>) -> Result<Target, Refusal>
-    ensures { IfOk result (λ target. IsTarget (option_map (λ n. n.now) name) target) }
+    ensures target { IfOk result (IsTarget (option_map (λ n. n.now) name)) }
+    ensures none { IfErr result (λ _. (target : TargetView) → IsTarget (option_map (λ n. n.now) name) target → ⊥) }
 {
     let Some(text) = name else {
         return Ok(Target::Baseline);
@@ -82,8 +72,43 @@ fn target_of(name: Option<&str>) -> Result<Target, Refusal>
     Err("--target is baseline or main-ip")
 }
 
+/// The options that words give.
+///
+/// An error says which value is no number, or no target.
+fn given_options<'a>(wanted: &Wanted<'a>) -> Result<Options<'a>, Refusal>
+    ensures given { IfOk result (AreOptions (subcommand_rows_of wanted.now.matches)) }
+    ensures unreadable { IfErr result (λ _. IsUnreadable (subcommand_rows_of wanted.now.matches)) }
+{
+    let picture = number_of(
+        wanted.value("picture"),
+        "--picture wants the number of a picture, from 0",
+    )?;
+    let macroblock = number_of(
+        wanted.value("mb"),
+        "--mb wants the address of a macroblock, from 0",
+    )?;
+    let target = target_of(wanted.value("target"))?;
+    Ok(Options {
+        explain: wanted.has("explain"),
+        json: wanted.has("json"),
+        quiet: wanted.has("quiet"),
+        progress: wanted.has("progress"),
+        y4m: wanted.has("y4m"),
+        strict: wanted.has("strict"),
+        output: wanted.value("output"),
+        choice: Choice {
+            picture,
+            macroblock,
+        },
+        target,
+    })
+}
+
 /// Why an option says nothing to a task.
-fn misplaced(task: Task, options: &Options<'_>, names_target: bool) -> Option<Refusal> {
+fn misplaced(task: Task, options: &Options<'_>, names_target: bool) -> Option<Refusal>
+    ensures some { (given : Given) → (names_target ≡ true → IsSome (value_in given (codes "target"))) → IsSome result → IsMisplaced task given options.now }
+    ensures none { (given : Given) → (IsSome (value_in given (codes "target")) → names_target ≡ true) → result ≡ None → IsMisplaced task given options.now → ⊥ }
+{
     if options.y4m && task != Task::Decode {
         return Some("--y4m belongs to decode");
     }
@@ -93,7 +118,8 @@ fn misplaced(task: Task, options: &Options<'_>, names_target: bool) -> Option<Re
     if options.output.is_some() && task != Task::Decode && task != Task::Report {
         return Some("--output belongs to decode and report");
     }
-    if options.choice.is_some() && task != Task::Elements {
+    let chooses = options.choice.picture.is_some() || options.choice.macroblock.is_some();
+    if chooses && task != Task::Elements {
         return Some("--picture and --mb belong to elements");
     }
     if options.explain && !task.is_judging() {
@@ -106,7 +132,10 @@ fn misplaced(task: Task, options: &Options<'_>, names_target: bool) -> Option<Re
 }
 
 /// Why options exclude one another.
-fn exclusive(options: &Options<'_>) -> Option<Refusal> {
+fn exclusive(options: &Options<'_>) -> Option<Refusal>
+    ensures some { IsSome result → AreExclusive options.now }
+    ensures none { result ≡ None → AreExclusive options.now → ⊥ }
+{
     if options.quiet && options.json {
         return Some("--quiet and --json exclude one another");
     }
@@ -120,24 +149,27 @@ fn exclusive(options: &Options<'_>) -> Option<Refusal> {
 }
 
 /// Why these files and this output do not go together.
-fn clashing(task: Task, options: &Options<'_>, files: &[&str]) -> Option<Refusal> {
+fn clashing(task: Task, options: &Options<'_>, files: &[&str]) -> Option<Refusal>
+    ensures some { IsSome result → AreClashing task options.now (map (λ f. f.now) files.now) }
+    ensures none { result ≡ None → AreClashing task options.now (map (λ f. f.now) files.now) → ⊥ }
+{
     if files.len() > 1 && task == Task::Decode {
         return Some("decode takes one FILE");
     }
     if files.len() > 1 && task == Task::Report {
         return Some("report takes one FILE");
     }
-    let mut standard = 0u32;
+    let mut standard = false;
     for file in files.iter() {
-        if *file == "-" {
-            standard = standard.saturating_add(1);
-        }
         if options.output == Some(*file) {
             return Some("the output is the input");
         }
-    }
-    if standard > 1 {
-        return Some("standard input is given more than once");
+        if *file == "-" {
+            if standard {
+                return Some("standard input is given more than once");
+            }
+            standard = true;
+        }
     }
     None
 }
@@ -146,22 +178,13 @@ fn clashing(task: Task, options: &Options<'_>, files: &[&str]) -> Option<Refusal
 ///
 /// An error says why they are refused.
 pub fn options_of<'a>(wanted: &Wanted<'a>) -> Result<Options<'a>, Refusal>
-    ensures { IfOk result (λ options. IsTarget (value_in (subcommand_rows_of wanted.now.matches) (codes "target")) options.target) }
+    ensures given { IfOk result (AreOptions (subcommand_rows_of wanted.now.matches)) }
+    ensures used { IfOk result (λ options. IsMisused wanted.now.request.task (subcommand_rows_of wanted.now.matches) options → ⊥) }
+    ensures refused { IfErr result (λ _. IsRefused wanted.now.request.task (subcommand_rows_of wanted.now.matches)) }
 {
-    let options = Options {
-        explain: wanted.has("explain"),
-        json: wanted.has("json"),
-        quiet: wanted.has("quiet"),
-        progress: wanted.has("progress"),
-        y4m: wanted.has("y4m"),
-        strict: wanted.has("strict"),
-        output: wanted.value("output"),
-        choice: choice_of(wanted)?,
-        target: target_of(wanted.value("target"))?,
-    };
+    let options = given_options(wanted)?;
     let task = wanted.request.task;
-    let names_target = wanted.value("target").is_some();
-    if let Some(refusal) = misplaced(task, &options, names_target) {
+    if let Some(refusal) = misplaced(task, &options, wanted.value("target").is_some()) {
         return Err(refusal);
     }
     if let Some(refusal) = exclusive(&options) {
