@@ -1,5 +1,7 @@
 -- What holds of a result that is no Ok.
-use Rattle.std.proofs.Common.{◌≡◌, ℕ, ◌+◌, ◌<◌, ◌≤◌, ◌⊎◌, inr, arith, Bool, List, Result, Ok, Err, IfOk, OnOk, OnErr, sym, ◌∙◌}
+use Rattle.std.proofs.Common.{◌≡◌, ℕ, ◌+◌, ◌<◌, ◌≤◌, ◌⊎◌, inr, arith, Bool, true, false, List, Result, Ok, Err, IfOk, OnOk, OnErr, sym, ◌∙◌}
+use Rattle.std.specs.Result.{is_err}
+use Rattle.std.proofs.lemmas.Bool.{true≢false}
 use Rattle.h264_base.specs.declared.stop.Stop.{Stop}
 use Rattle.h264_base.specs.declared.stop.Stop.TheVariants.{Read, Write}
 use Rattle.h264_verify.specs.declared.state.Summary.{Summary}
@@ -27,3 +29,8 @@ counted n reads reads' failures failures' e = inr (omega (arith, e))
 -- a failed read is no failed write
 pub not-write : {A : Type 0} (answer : Result Summary Stop) → answer ≡ Err Read → answer ≡ Err Write → A
 not-write answer r w = absurd (let d = sym r ∙ w in cc)
+
+-- what holds of a value holds where the result is no error
+pub opened : {T E : Type 0} (r : Result T E) (P : Type 0) → is_err r ≡ false → OnOk r P → P
+opened (Ok x) P e h = h
+opened (Err x) P e h = absurd (true≢false e)

@@ -1,15 +1,27 @@
 -- What is found of words, by clap's rows of a subcommand.
-use Rattle.std.proofs.Common.{◌≡◌, ℕ, List, [], Option, Some, None, true, false, option_map, unwrap_or, refl, sym, ap, ◌∙◌}
+use Rattle.std.proofs.Common.{◌≡◌, ℕ, List, [], Bor, Option, Some, None, Bool, true, false, map, option_map, unwrap_or, codes, refl, sym, ap, ◌∙◌}
 use Rattle.std.specs.Prelude.{option_and_then}
+use Rattle.std.specs.Option.{is_some}
+use Rattle.std.proofs.lemmas.Bool.{false≢true}
 use Rattle.clap.specs.Words.{Row, Text, all_of, first_of}
-use Rattle.h264v.specs.Words.{Given, value_in, values_in}
+use Rattle.h264v.specs.Words.{Given, all_in, values_in}
 
 -- the rows are those of the subcommand that was found, so what is asked of them is what is asked of it
 pub of-rows : {X : Type 0} (of : List Row → Option X) (given : Given) (rows : List Row) → Some rows ≡ option_map (λ p. p.1) given → option_and_then (λ p. of p.1) given ≡ of rows
 of-rows of None rows e = absurd (let d = e in cc)
 of-rows of (Some p) rows e = ap (λ o. of (unwrap_or o rows)) (sym e)
 
--- nothing was found
-pub of-none : {X : Type 0} (of : List Row → Option X) (given : Given) → None ≡ option_map (λ p. p.1) given → option_and_then (λ p. of p.1) given ≡ None
-of-none of None e = refl
-of-none of (Some p) e = absurd (let d = e in cc)
+-- a value is given exactly where one is found
+pub some-given : {X Y : Type 0} (of : X → Y) (found : Option X) (given : Option Y) → option_map of found ≡ given → is_some found ≡ is_some given
+some-given of None given e = ap is_some e
+some-given of (Some x) given e = ap is_some e
+
+-- the names of the files that are found are those that are given
+pub names-given : (found : Option (Bor (List (Bor Text)))) (names none : Bor (List (Bor Text))) (given : Given) → option_map (λ s. map (λ v. v.now) s.now) found ≡ all_in given (codes "FILE") →
+    names ≡ unwrap_or found none → none.now ≡ [] → map (λ v. v.now) names.now ≡ values_in given (codes "FILE")
+names-given None names none given e is empty =
+    let texts : Bor (List (Bor Text)) → List Text = λ b. map (λ v. v.now) b.now in
+    ap texts is ∙ ap (map (λ (v : Bor Text). v.now)) empty ∙ ap (λ o. unwrap_or o []) e
+names-given (Some s) names none given e is empty =
+    let texts : Bor (List (Bor Text)) → List Text = λ b. map (λ v. v.now) b.now in
+    ap texts is ∙ ap (λ o. unwrap_or o []) e

@@ -5,3 +5,4 @@ mod Explained
 pub mod Told
 mod Answered
 mod Given
+mod Further

@@ -1,6 +1,13 @@
 -- The exit status of one file, and of several.
-use Rattle.std.proofs.Common.{◌≡◌, max, List, [], ◌∷◌, ◌++◌, ap, ◌∙◌, arith}
-use Rattle.h264v.specs.More.{FileDone, done_status, worst}
+use Rattle.std.proofs.Common.{◌≡◌, ℕ, zero, suc, max, List, [], ◌∷◌, ◌++◌, map, length, get_or, Bool, fold, cond, ◌+◌, codes, Option, refl, sym, ap, ◌∙◌, arith}
+use Rattle.std.specs.List.{count_by}
+use Rattle.clap.specs.Words.{Text}
+use Rattle.std.proofs.lemmas.List.Elements.{All-nil, All-push}
+use Rattle.h264v.specs.declared.command_line.Task.{Task}
+use Rattle.h264v.specs.declared.options.Options.{Options}
+use Rattle.h264v.specs.More.{FileDone, IsJudged, IsStatus, Judged, done_status, worst}
+use Rattle.h264v.specs.Options.{AreOptions, IsMisused}
+use Rattle.h264v.specs.Words.{Given, values_in}
 
 pub worst-more : (files : List FileDone) (f : FileDone) → worst (files ++ f ∷ []) ≡ max (worst files) (done_status f.done)
 worst-more [] f = let here : max (done_status f.done) 0 ≡ max 0 (done_status f.done) = omega arith in here
@@ -10,5 +17,22 @@ worst-more (e ∷ files) f =
     ap (max (done_status e.done)) next ∙ over
 
 -- one file alone
-pub worst-one : (f : FileDone) → worst (f ∷ []) ≡ done_status f.done
-worst-one f = omega arith
+pub alone : (task : Task) (given : Given) (file : Text → Option (List ℕ)) (o : Options) (f : FileDone) (status : ℕ) → AreOptions given o → (IsMisused task given o → ⊥) → f.name ∷ [] ≡ values_in given (codes "FILE") →
+    IsJudged task o file f → status ≡ done_status f.done → IsStatus task given file status
+alone task given file o f status options used name judged is =
+    let same : max (done_status f.done) 0 ≡ done_status f.done = omega arith in
+    Judged o (f ∷ []) options used name (All-push (IsJudged task o file) [] f (All-nil (IsJudged task o file)) judged) (is ∙ sym same)
+
+-- the one element of a list
+pub single : {X Y : Type 0} (of : X → Y) (xs : List X) (d : X) → length xs ≡ 1 → of (get_or xs 0 d) ∷ [] ≡ map of xs
+single of [] d e = absurd (omega (arith, e))
+single of (x ∷ []) d e = refl
+single of (x ∷ y ∷ xs) d e = absurd (omega (arith, e))
+
+fold-map : {X Y A : Type 0} (g : A → Y → A) (of : X → Y) (a : A) (xs : List X) → fold g a (map of xs) ≡ fold (λ b x. g b (of x)) a xs
+fold-map g of a [] = refl
+fold-map g of a (x ∷ xs) = fold-map g of (g a (of x)) xs
+
+-- how many pass, of the things that elements are turned into
+pub count-map : {X : Type 0} (p : Text → Bool) (of : X → Text) (xs : List X) → count_by p (map of xs) ≡ count_by (λ x. p (of x)) xs
+count-map p of xs = let none : ℕ = 0 in fold-map (λ n y. n + cond (p y) 1 0) of none xs

@@ -13,7 +13,7 @@ use Rattle.h264_verify.specs.Units.{terms_of}
 use Rattle.h264v.specs.Words.{program, asks, name_of, IsRefusable}
 use Rattle.h264v.specs.declared.command_line.Task.{Task}
 use Rattle.h264v.specs.declared.command_line.Task.TheVariants as tasks
-use Rattle.clap.specs.Words.{Text}
+use Rattle.clap.specs.Words.{Text, subcommand_of, subcommand_rows_of}
 use Rattle.h264v.specs.declared.outcome.Outcome.{Outcome}
 use Rattle.h264v.specs.declared.outcome.Outcome.TheVariants as outcomes
 
@@ -115,4 +115,5 @@ abbrev pub ComesTo : (words : List Text) (file : Text → Option (List ℕ)) (Re
     (out out' err err' : Output) → Type 0
 ComesTo words file ReadFailed ReadAll (outcomes.Done status) out out' err err' = Comes words file ReadFailed ReadAll status out out' err err'
 ComesTo words file ReadFailed ReadAll (outcomes.More wanted) out out' err err' =
-    (asks program words ≡ Some (name_of wanted.request.task, Some wanted.request.file.now)) × (out' ≡ out) × (err' ≡ err)
+    (asks program words ≡ Some (name_of wanted.request.task, Some wanted.request.file.now))
+    × (subcommand_rows_of wanted.matches ≡ subcommand_of program words) × (out' ≡ out) × (err' ≡ err)

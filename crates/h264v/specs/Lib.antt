@@ -2,6 +2,6 @@ pub mod Words
 pub mod Files
 pub mod Commands
 pub mod Options
+pub mod Further
 pub mod More
 pub mod Explained
-pub mod Further

@@ -14,6 +14,7 @@ use Rattle.h264_verify.specs.declared.state.Summary.{Summary}
 use Rattle.h264_verify.specs.declared.state.Terms.{Terms}
 use Rattle.h264v.specs.declared.job.Done.{Done}
 use Rattle.h264v.specs.Words.{program, asks, name_of, Given, values_in, system_name, mode_of}
+use Rattle.h264v.specs.Further.{asks_further, TellsBroken}
 use Rattle.h264v.specs.Options.{AreOptions, IsMisused, IsRefused}
 use Rattle.h264v.specs.declared.options.Options.{Options}
 use Rattle.h264v.specs.declared.command_line.Task.{Task}
@@ -47,9 +48,10 @@ pub record FileDone : Type 0 where
   pub name : Text
   pub done : Done
 
--- It ended with the answer on the bytes that the file of this name holds.
-abbrev pub IsJudged : Task → Target → (Text → Option (List ℕ)) → FileDone → Type 0
-IsJudged task target file f = IsAnswerOf task target (file (system_name f.name)) f.done.ending.answer
+-- It ended with the answer on the bytes that the file of this name holds, and tells of the further rules where they are asked for.
+pub record IsJudged (task : Task) (o : Options) (file : Text → Option (List ℕ)) (f : FileDone) : Type 0 where
+  pub answer : IsAnswerOf task o.target (file (system_name f.name)) f.done.ending.answer
+  pub broken : TellsBroken (asks_further task o.strict) (terms_of (mode_of task) o.target) (file (system_name f.name)) f.done
 
 -- the greatest exit status of these files
 abbrev pub worst : List FileDone → ℕ
@@ -79,7 +81,7 @@ pub data IsStatus (task : Task) (given : Given) (file : Text → Option (List �
   Explained : task ≡ tasks.Explain → IsToldStatus status → IsStatus task given file status
   -- each FILE was judged, in the order of the words and for their target
   Judged : (o : Options) (files : List FileDone) → AreOptions given o → (IsMisused task given o → ⊥) →
-      map (λ f. f.name) files ≡ values_in given (codes "FILE") → All (IsJudged task o.target file) files →
+      map (λ f. f.name) files ≡ values_in given (codes "FILE") → All (IsJudged task o file) files →
       status ≡ worst files → IsStatus task given file status
   -- the totals of several files could not be written
   Unwritten : status ≡ 4 → IsStatus task given file status

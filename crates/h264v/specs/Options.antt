@@ -1,5 +1,7 @@
 -- Which options words give, and which of them are refused. To be read beside docs/OUTPUT.md.
-use Rattle.std.specs.Prelude.{◌≡◌, ◌≢◌, ℕ, ◌<◌, ◌^◌, Bool, true, false, List, length, get_or, Option, Some, None, IsSome, ◌⊎◌, option_map, option_and_then, codes}
+use Rattle.std.specs.Prelude.{◌≡◌, ◌≢◌, ℕ, ◌<◌, ◌^◌, Bool, true, false, List, length, Option, Some, None, IsSome, ◌⊎◌, option_map, option_and_then, codes}
+use Rattle.std.specs.List.{count_by}
+use Rattle.std.specs.Str.{bytes_eq}
 use Rattle.std.specs.Str.Parse.{IsNumeral, digits_value, without_leading_plus}
 use Rattle.clap.specs.Words.{Text, one_of}
 use Rattle.h264_base.specs.declared.mode.Target.{Target}
@@ -79,13 +81,17 @@ AreExclusive o = (o.quiet ≡ true) × ((o.json ≡ true) ⊎ ((o.explain ≡ tr
 
 -- ---- files that do not go together with a task or with one another
 
+-- how often a name stands among those of files
+abbrev pub times : List Text → Text → ℕ
+times files name = count_by (λ f. bytes_eq f name) files
+
 pub data AreClashing (task : Task) (o : Options) (files : List Text) : Type 0 where
   -- decode and report take one FILE
   Several : 1 < length files → (task ≡ tasks.Decode) ⊎ (task ≡ tasks.Report) → AreClashing task o files
   -- the output is the input
-  Itself : (i : ℕ) → i < length files → option_map (λ s. s.now) o.output ≡ Some (get_or files i (codes "")) → AreClashing task o files
+  Itself : (output : Text) → option_map (λ s. s.now) o.output ≡ Some output → 0 < times files output → AreClashing task o files
   -- standard input is given more than once
-  Twice : (i j : ℕ) → i < j → j < length files → get_or files i (codes "") ≡ codes "-" → get_or files j (codes "") ≡ codes "-" → AreClashing task o files
+  Twice : 1 < times files (codes "-") → AreClashing task o files
 
 -- ---- words that are refused
 

@@ -116,9 +116,13 @@ IsRefusable words = takes program words ≡ true → AsksNothing words
 abbrev pub Given : Type 0
 Given = Option (Text × List Row)
 
--- the values that an argument has, in the order of the words
+-- the values that an argument has, in the order of the words, where it is given
+abbrev pub all_in : Given → Text → Option (List Text)
+all_in given id = option_and_then (λ p. all_of id p.1) given
+
+-- the values that it has; none where it is not given
 abbrev pub values_in : Given → Text → List Text
-values_in given id = unwrap_or (option_and_then (λ p. all_of id p.1) given) []
+values_in given id = unwrap_or (all_in given id) []
 
 -- the first of them, where there is one
 abbrev pub value_in : Given → Text → Option Text

@@ -12,7 +12,7 @@ ghost use Rattle.clap.specs.Walk.{rows_of};
 ghost use Rattle.clap.specs.declared.error.kind.ErrorKind.TheVariants as kinds;
 ghost use Rattle.clap.specs.declared.builder.command.Command.TheViews.{out-Command as fields_of};
 ghost use Rattle.h264v.specs.Words.{files_rule, flag_rule, value_rule, with_flags, with_values, file_app, with_file, bare, program, name_of};
-ghost use Rattle.h264v.specs.Words.{is_judging, found_by, IsRequest, AsksFor, value_in, values_in};
+ghost use Rattle.h264v.specs.Words.{is_judging, found_by, IsRequest, AsksFor, all_in, value_in};
 ghost use Rattle.h264v.specs.Options.{flag_in, IsFlag};
 ghost use Rattle.h264v.specs.declared.command_line.Task.{Task as TaskView};
 
@@ -107,12 +107,20 @@ impl<'a> Wanted<'a> {
     }
 
     /// The names of the files, in the order of the words; none where they name none.
-    pub fn files(&self) -> &[&'a str]
-        ensures { map (λ v. v.now) result.now ≡ values_in (subcommand_rows_of self.now.matches) (codes "FILE") }
+    pub fn files(&self) -> Option<&[&'a str]>
+        ensures { option_map (λ s. map (λ v. v.now) s.now) result ≡ all_in (subcommand_rows_of self.now.matches) (codes "FILE") }
     {
         match self.found() {
-            Some(found) => found.get_strs("FILE").unwrap_or(&[]),
-            None => &[],
+            Some(found) => found.get_strs("FILE"),
+            None => None,
+        }
+    }
+
+    /// Whether the words name one file.
+    fn has_one_file(&self) -> bool {
+        match self.files() {
+            Some(files) => files.len() == 1,
+            None => false,
         }
     }
 
@@ -135,7 +143,7 @@ impl<'a> Wanted<'a> {
         ensures { result ≡ true → is_judging self.now.request.task ≡ true }
     {
         self.request.task.is_judging()
-            && self.files().len() == 1
+            && self.has_one_file()
             && self.request.file != "-"
             && !self.has_option()
     }

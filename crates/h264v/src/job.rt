@@ -1,13 +1,12 @@
 //! One file, judged as the options say.
 #![tactic(auto)]
 
-ghost use Rattle.std.specs.Prelude.{◌≡◌, ◌-◌, ◌<◌, ◌^◌, ◌⊎◌, true, false, Some, Err, IfSome};
+ghost use Rattle.std.specs.Prelude.{◌≡◌, ◌-◌, ◌<◌, ◌^◌, ◌⊎◌, true, false, None, Some, Err, IfSome};
 ghost use Rattle.h264_base.specs.Call.{HasRoom};
 ghost use Rattle.h264_base.specs.declared.stop.Stop.TheVariants.{Memory};
 ghost use Rattle.h264_verify.specs.Units.{terms_of};
 ghost use Rattle.h264v.specs.Files.{left_of};
-ghost use Rattle.h264v.specs.Further.{AreJudged, BreakOne};
-ghost use Rattle.h264v.specs.declared.strictly.FurtherRules.{FurtherRules as FurtherView};
+ghost use Rattle.h264v.specs.Further.{BreakOne, IsFound};
 ghost use Rattle.h264v.specs.More.{done_status, IsAnswerOf};
 ghost use Rattle.h264v.specs.Words.{mode_of};
 
@@ -151,7 +150,9 @@ fn judge<S: FrameSink + Drop, O: Opener + Drop, M: Meter + Drop>(
 }
 
 /// Tells the meter that a judgement has ended.
-fn tell_end<S: FrameSink + Drop, M: Meter + Drop>(surveyed: &mut Surveyed<S, M>) {
+fn tell_end<S: FrameSink + Drop, M: Meter + Drop>(surveyed: &mut Surveyed<S, M>)
+    ensures { surveyed.new.sink ≡ surveyed.old.sink }
+{
     let byte = match surveyed.survey.unit() {
         Some(unit) => unit.byte.saturating_add(unit.length),
         None => 0,
@@ -240,8 +241,8 @@ fn check_strictly<O: Opener + Drop, M: Meter + Drop>(
 ) -> Option<Found>
     requires { files.old.failures < 2 ^ 64 - 1 }
     ensures answer { IfSome result (λ found. IsAnswerOf job.now.task job.now.options.target (left_of O.File.Read.remaining files.old.reader) found.answer) }
-    ensures further { IfSome result (λ found. (further : FurtherView) × (found.strict ≡ Some further)
-        × AreJudged (terms_of (mode_of job.now.task) job.now.options.target) (left_of O.File.Read.remaining files.old.reader) found.answer further) }
+    ensures further { IfSome result (λ found. IsFound true (terms_of (mode_of job.now.task) job.now.options.target) (left_of O.File.Read.remaining files.old.reader)
+        found.answer found.strict) }
 {
     let Ok(trail) = TrailSink::new(job.alloc) else {
         return None;
@@ -273,7 +274,9 @@ pub fn check_file<O: Opener + Drop, M: Meter + Drop>(
     meter: M,
 ) -> Option<Found>
     requires { files.old.failures < 2 ^ 64 - 1 }
-    ensures { IfSome result (λ found. IsAnswerOf job.now.task job.now.options.target (left_of O.File.Read.remaining files.old.reader) found.answer) }
+    ensures answer { IfSome result (λ found. IsAnswerOf job.now.task job.now.options.target (left_of O.File.Read.remaining files.old.reader) found.answer) }
+    ensures further { IfSome result (λ found. IsFound job.now.options.strict (terms_of (mode_of job.now.task) job.now.options.target) (left_of O.File.Read.remaining files.old.reader)
+        found.answer found.strict) }
 {
     if job.options.strict {
         return check_strictly(job, files, meter);
@@ -301,7 +304,8 @@ fn list_all<O: Opener + Drop, W: Device, M: Meter + Drop>(
     meter: M,
 ) -> Option<Found>
     requires { files.old.failures < 2 ^ 64 - 1 }
-    ensures { IfSome result (λ found. IsAnswerOf job.now.task job.now.options.target (left_of O.File.Read.remaining files.old.reader) found.answer) }
+    ensures answer { IfSome result (λ found. IsAnswerOf job.now.task job.now.options.target (left_of O.File.Read.remaining files.old.reader) found.answer) }
+    ensures further { IfSome result (λ found. found.strict ≡ None) }
 {
     let pen = Pen { out };
     let sink: LineSink<'_, W, Brand> = LineSink::new(job.alloc, listing_of(job), form, pen);
@@ -343,7 +347,8 @@ fn list_chosen<O: Opener + Drop, W: Device>(
     form: Form<'_>,
 ) -> Option<Found>
     requires { files.old.failures < 2 ^ 64 - 1 }
-    ensures { IfSome result (λ found. IsAnswerOf job.now.task job.now.options.target (left_of O.File.Read.remaining files.old.reader) found.answer) }
+    ensures answer { IfSome result (λ found. IsAnswerOf job.now.task job.now.options.target (left_of O.File.Read.remaining files.old.reader) found.answer) }
+    ensures further { IfSome result (λ found. found.strict ≡ None) }
 {
     let pen = Pen { out };
     let sink: LineSink<'_, W, Brand> = LineSink::new(job.alloc, listing_of(job), form, pen);
@@ -366,7 +371,8 @@ pub fn list_file<O: Opener + Drop, W: Device, M: Meter + Drop>(
     meter: M,
 ) -> Option<Found>
     requires { files.old.failures < 2 ^ 64 - 1 }
-    ensures { IfSome result (λ found. IsAnswerOf job.now.task job.now.options.target (left_of O.File.Read.remaining files.old.reader) found.answer) }
+    ensures answer { IfSome result (λ found. IsAnswerOf job.now.task job.now.options.target (left_of O.File.Read.remaining files.old.reader) found.answer) }
+    ensures further { IfSome result (λ found. found.strict ≡ None) }
 {
     let mut head = Page::new(job.alloc);
     let form = if job.options.json {
@@ -392,7 +398,8 @@ fn decode_samples<O: Opener + Drop, W: Device, M: Meter + Drop>(
     meter: M,
 ) -> Option<Found>
     requires { files.old.failures < 2 ^ 64 - 1 }
-    ensures { IfSome result (λ found. IsAnswerOf job.now.task job.now.options.target (left_of O.File.Read.remaining files.old.reader) found.answer) }
+    ensures answer { IfSome result (λ found. IsAnswerOf job.now.task job.now.options.target (left_of O.File.Read.remaining files.old.reader) found.answer) }
+    ensures further { IfSome result (λ found. found.strict ≡ None) }
 {
     let sink: YuvSink<'_, W, Brand> = YuvSink::new(Pen { out });
     let (surveyed, answer) = judge(job, files, sink, meter)?;
@@ -435,7 +442,8 @@ fn decode_y4m<O: Opener + Drop, W: Device, M: Meter + Drop>(
     meter: M,
 ) -> Option<Found>
     requires { files.old.failures < 2 ^ 64 - 1 }
-    ensures { IfSome result (λ found. IsAnswerOf job.now.task job.now.options.target (left_of O.File.Read.remaining files.old.reader) found.answer) }
+    ensures answer { IfSome result (λ found. IsAnswerOf job.now.task job.now.options.target (left_of O.File.Read.remaining files.old.reader) found.answer) }
+    ensures further { IfSome result (λ found. found.strict ≡ None) }
 {
     let sink: Y4mSink<'_, W, Brand> = Y4mSink::new(job.alloc, Pen { out });
     let (surveyed, answer) = judge(job, files, sink, meter)?;
@@ -458,7 +466,8 @@ pub fn decode_file<O: Opener + Drop, W: Device, M: Meter + Drop>(
     meter: M,
 ) -> Option<Found>
     requires { files.old.failures < 2 ^ 64 - 1 }
-    ensures { IfSome result (λ found. IsAnswerOf job.now.task job.now.options.target (left_of O.File.Read.remaining files.old.reader) found.answer) }
+    ensures answer { IfSome result (λ found. IsAnswerOf job.now.task job.now.options.target (left_of O.File.Read.remaining files.old.reader) found.answer) }
+    ensures further { IfSome result (λ found. found.strict ≡ None) }
 {
     let mut found = if job.options.y4m {
         decode_y4m(job, files, out, meter)?
@@ -478,7 +487,8 @@ pub fn info_file<O: Opener + Drop, M: Meter + Drop>(
     meter: M,
 ) -> Option<Found>
     requires { files.old.failures < 2 ^ 64 - 1 }
-    ensures { IfSome result (λ found. IsAnswerOf job.now.task job.now.options.target (left_of O.File.Read.remaining files.old.reader) found.answer) }
+    ensures answer { IfSome result (λ found. IsAnswerOf job.now.task job.now.options.target (left_of O.File.Read.remaining files.old.reader) found.answer) }
+    ensures further { IfSome result (λ found. found.strict ≡ None) }
 {
     let Ok(sink) = TrailSink::new(job.alloc) else {
         return None;
@@ -689,7 +699,8 @@ fn judge_pictures<O: Opener + Drop, W: Device, M: Meter + Drop>(
     meter: M,
 ) -> Option<(Found, Album)>
     requires { files.old.failures < 2 ^ 64 - 1 }
-    ensures { IfSome result (λ kept. IsAnswerOf job.now.task job.now.options.target (left_of O.File.Read.remaining files.old.reader) kept.0.answer) }
+    ensures answer { IfSome result (λ kept. IsAnswerOf job.now.task job.now.options.target (left_of O.File.Read.remaining files.old.reader) kept.0.answer) }
+    ensures further { IfSome result (λ kept. kept.0.strict ≡ None) }
 {
     let pen = Pen { out: lines };
     let digests: LineSink<'_, W, Brand> = LineSink::new(
@@ -724,7 +735,8 @@ pub fn report_file<O: Opener + Drop, W: Device, M: Meter + Drop>(
     meter: M,
 ) -> Option<Found>
     requires { files.old.failures < 2 ^ 64 - 1 }
-    ensures { IfSome result (λ found. IsAnswerOf job.now.task job.now.options.target (left_of O.File.Read.remaining files.old.reader) found.answer) }
+    ensures answer { IfSome result (λ found. IsAnswerOf job.now.task job.now.options.target (left_of O.File.Read.remaining files.old.reader) found.answer) }
+    ensures further { IfSome result (λ found. found.strict ≡ None) }
 {
     let mut lines = WriteDevice::new(Vec::new(job.alloc));
     let (mut found, album) = judge_pictures(job, files, &mut lines, meter)?;

@@ -8,9 +8,11 @@ ghost use Rattle.h264_base.specs.declared.stop.Stop.TheVariants.{Memory};
 ghost use Rattle.h264_report.specs.Sent.{Sends, Takes};
 ghost use Rattle.h264_report.specs.Told.{ended};
 ghost use Rattle.h264v.specs.Explained.{IsExplained};
+ghost use Rattle.h264_verify.specs.Units.{terms_of};
 ghost use Rattle.h264v.specs.Files.{left_of};
+ghost use Rattle.h264v.specs.Further.{asks_further, BreakOne, IsFound, TellsBroken};
 ghost use Rattle.h264v.specs.More.{worst, one_more, FileDone, IsAnswerOf, IsJudged, IsStatus, IsToldStatus};
-ghost use Rattle.h264v.specs.Words.{system_name};
+ghost use Rattle.h264v.specs.Words.{mode_of, system_name};
 
 use crate::command::FAULT;
 use crate::command_line::{Task, Wanted};
@@ -178,7 +180,9 @@ fn find<O: Opener + Drop, W: Device, M: Meter + Drop>(
     meter: M,
 ) -> Option<Found>
     requires { files.old.failures < 2 ^ 64 - 1 }
-    ensures { IfSome result (λ found. IsAnswerOf job.now.task job.now.options.target (left_of O.File.Read.remaining files.old.reader) found.answer) }
+    ensures answer { IfSome result (λ found. IsAnswerOf job.now.task job.now.options.target (left_of O.File.Read.remaining files.old.reader) found.answer) }
+    ensures further { IfSome result (λ found. IsFound (asks_further job.now.task job.now.options.strict)
+        (terms_of (mode_of job.now.task) job.now.options.target) (left_of O.File.Read.remaining files.old.reader) found.answer found.strict) }
 {
     match job.task {
         Task::Check => check_file(job, files, meter),
@@ -210,7 +214,9 @@ fn do_file<O: Opener + Drop, W: Device, E: Device, M: Meter + Drop>(
     meter: M,
 ) -> Done
     requires { files.old.failures < 2 ^ 64 - 1 }
-    ensures { IsAnswerOf job.now.task job.now.options.target (O.holds files.old.opener (system_name job.now.file.now)) result.ending.answer }
+    ensures answer { IsAnswerOf job.now.task job.now.options.target (O.holds files.old.opener (system_name job.now.file.now)) result.ending.answer }
+    ensures broken { TellsBroken (asks_further job.now.task job.now.options.strict) (terms_of (mode_of job.now.task) job.now.options.target)
+        (O.holds files.old.opener (system_name job.now.file.now)) result }
 {
     if files.open(system_name(job.file)).is_err() {
         if answers_aside(job.task) {
@@ -230,7 +236,9 @@ fn judge_opened<O: Opener + Drop, W: Device, E: Device, M: Meter + Drop>(
     meter: M,
 ) -> Done
     requires { files.old.failures < 2 ^ 64 - 1 }
-    ensures { IsAnswerOf job.now.task job.now.options.target (left_of O.File.Read.remaining files.old.reader) result.ending.answer }
+    ensures answer { IsAnswerOf job.now.task job.now.options.target (left_of O.File.Read.remaining files.old.reader) result.ending.answer }
+    ensures broken { TellsBroken (asks_further job.now.task job.now.options.strict) (terms_of (mode_of job.now.task) job.now.options.target)
+        (left_of O.File.Read.remaining files.old.reader) result }
 {
     let found = find(job, files, out, meter);
     put_answer(job, found, out, err)
@@ -244,7 +252,8 @@ fn put_answer<W: Device, E: Device>(
     err: &mut E,
 ) -> Done
     ensures found { IfSome found (λ f. (result.ending.answer ≡ f.answer) ⊎ (result.ending.answer ≡ Err Memory)) }
-    ensures none { found ≡ None → result.ending.answer ≡ Err Memory }
+    ensures broken { IfSome found (λ f. (result.is_broken ≡ true → BreakOne f.strict) × (result.is_broken ≡ false → BreakOne f.strict → ⊥)) }
+    ensures none { found ≡ None → (result.ending.answer ≡ Err Memory) × (result.is_broken ≡ false) }
 {
     match (found, answers_aside(job.task)) {
         (Some(found), true) => put_found(job, err, &found),
@@ -288,7 +297,9 @@ fn do_named<O: Opener + Drop, W: Device, E: Device, M: Meter + Drop>(
     meter: M,
 ) -> Done
     requires { files.old.failures < 2 ^ 64 - 1 }
-    ensures { IsAnswerOf job.now.task job.now.options.target (O.holds files.old.opener (system_name job.now.file.now)) result.ending.answer }
+    ensures answer { IsAnswerOf job.now.task job.now.options.target (O.holds files.old.opener (system_name job.now.file.now)) result.ending.answer }
+    ensures broken { TellsBroken (asks_further job.now.task job.now.options.strict) (terms_of (mode_of job.now.task) job.now.options.target)
+        (O.holds files.old.opener (system_name job.now.file.now)) result }
 {
     if job.options.json {
         return do_file(job, files, out, err, meter);
@@ -316,7 +327,7 @@ fn do_files<O: Opener + Drop + Copy, W: Device, E: Device, M: Meter + Drop + Cop
     meter: M,
 ) -> u8
     ensures { ((files : List FileDone) × (map (λ f. f.name) files ≡ map (λ n. n.now) names.now)
-        × All (IsJudged job.now.task job.now.options.target (λ name. O.holds opener name)) files × (result ≡ worst files)) ⊎ (result ≡ 4) }
+        × All (IsJudged job.now.task job.now.options (λ name. O.holds opener name)) files × (result ≡ worst files)) ⊎ (result ≡ 4) }
 {
     let mut totals = Totals::none();
     for name in names.iter() {
@@ -346,7 +357,9 @@ fn do_one<O: Opener + Drop, W: Device, E: Device, M: Meter + Drop>(
     err: &mut E,
     meter: M,
 ) -> Done
-    ensures { IsAnswerOf job.now.task job.now.options.target (O.holds opener (system_name job.now.file.now)) result.ending.answer }
+    ensures answer { IsAnswerOf job.now.task job.now.options.target (O.holds opener (system_name job.now.file.now)) result.ending.answer }
+    ensures broken { TellsBroken (asks_further job.now.task job.now.options.strict) (terms_of (mode_of job.now.task) job.now.options.target)
+        (O.holds opener (system_name job.now.file.now)) result }
 {
     let mut files = OpenedFiles::new(opener);
     let done = do_file(job, &mut files, out, err, meter);
@@ -362,7 +375,9 @@ fn do_output<O: Opener + Maker + Drop, E: Device, M: Meter + Drop>(
     err: &mut E,
     meter: M,
 ) -> Done
-    ensures { IsAnswerOf job.now.task job.now.options.target (O.holds opener (system_name job.now.file.now)) result.ending.answer }
+    ensures answer { IsAnswerOf job.now.task job.now.options.target (O.holds opener (system_name job.now.file.now)) result.ending.answer }
+    ensures broken { TellsBroken (asks_further job.now.task job.now.options.strict) (terms_of (mode_of job.now.task) job.now.options.target)
+        (O.holds opener (system_name job.now.file.now)) result }
 {
     let mut files = OpenedFiles::new(opener);
     if files.open(system_name(job.file)).is_err() {
@@ -400,7 +415,7 @@ pub fn more<O: Opener + Maker + Drop + Copy, W: Device, E: Device, M: Meter + Dr
         Ok(options) => options,
         Err(refusal) => return refuse(err, refusal),
     };
-    let names = wanted.files();
+    let names = wanted.files().unwrap_or(&[]);
     let job = Job {
         alloc,
         task: wanted.request.task,

@@ -1,10 +1,10 @@
 //! The options of a command line, and which of them go together.
 #![tactic(auto)]
 
-ghost use Rattle.std.specs.Prelude.{◌≡◌, true, None, IfOk, IfErr, IsSome, map, option_map, codes};
+ghost use Rattle.std.specs.Prelude.{◌≡◌, ◌<◌, ◌↔◌, true, None, IfOk, IfErr, IsSome, map, option_map, codes};
 ghost use Rattle.clap.specs.Words.{subcommand_rows_of};
 ghost use Rattle.h264_base.specs.declared.mode.Target.{Target as TargetView};
-ghost use Rattle.h264v.specs.Options.{AreClashing, AreExclusive, AreOptions, IsMisplaced, IsMisused, IsNoNumber, IsNumber, IsRefused, IsUnreadable};
+ghost use Rattle.h264v.specs.Options.{AreClashing, AreExclusive, AreOptions, IsMisplaced, IsMisused, IsNoNumber, IsNumber, IsRefused, IsUnreadable, times};
 ghost use Rattle.h264v.specs.Words.{Given, IsTarget, value_in};
 
 use crate::command_line::{Task, Wanted};
@@ -41,8 +41,8 @@ pub type Refusal = &'static str;
 ///
 /// An error says that its value is no number.
 fn number_of(value: Option<&str>, refusal: Refusal) -> Result<Option<u64>, Refusal>
-    ensures number { IfOk result (IsNumber (option_map (λ v. v.now) value)) }
-    ensures none { IfErr result (λ _. IsNoNumber (option_map (λ v. v.now) value)) }
+    ensures number { IfOk result (IsNumber (option_map (λ v. v.now) value.entry)) }
+    ensures none { IfErr result (λ _. IsNoNumber (option_map (λ v. v.now) value.entry)) }
 {
     let Some(text) = value else {
         return Ok(None);
@@ -57,8 +57,8 @@ fn number_of(value: Option<&str>, refusal: Refusal) -> Result<Option<u64>, Refus
 ///
 /// An error says that the name is no target's.
 fn target_of(name: Option<&str>) -> Result<Target, Refusal>
-    ensures target { IfOk result (IsTarget (option_map (λ n. n.now) name)) }
-    ensures none { IfErr result (λ _. (target : TargetView) → IsTarget (option_map (λ n. n.now) name) target → ⊥) }
+    ensures target { IfOk result (IsTarget (option_map (λ n. n.now) name.entry)) }
+    ensures none { IfErr result (λ _. (target : TargetView) → IsTarget (option_map (λ n. n.now) name.entry) target → ⊥) }
 {
     let Some(text) = name else {
         return Ok(Target::Baseline);
@@ -148,6 +148,20 @@ fn exclusive(options: &Options<'_>) -> Option<Refusal>
     None
 }
 
+/// How often a name stands among those of files.
+fn times(files: &[&str], name: &str) -> usize
+    ensures once { (0 < result) ↔ (0 < times (map (λ f. f.now) files.now) name.now) }
+    ensures again { (1 < result) ↔ (1 < times (map (λ f. f.now) files.now) name.now) }
+{
+    let mut count = 0usize;
+    for file in files.iter() {
+        if *file == name {
+            count = count.saturating_add(1);
+        }
+    }
+    count
+}
+
 /// Why these files and this output do not go together.
 fn clashing(task: Task, options: &Options<'_>, files: &[&str]) -> Option<Refusal>
     ensures some { IsSome result → AreClashing task options.now (map (λ f. f.now) files.now) }
@@ -159,17 +173,13 @@ fn clashing(task: Task, options: &Options<'_>, files: &[&str]) -> Option<Refusal
     if files.len() > 1 && task == Task::Report {
         return Some("report takes one FILE");
     }
-    let mut standard = false;
-    for file in files.iter() {
-        if options.output == Some(*file) {
+    if let Some(output) = options.output {
+        if times(files, output) > 0 {
             return Some("the output is the input");
         }
-        if *file == "-" {
-            if standard {
-                return Some("standard input is given more than once");
-            }
-            standard = true;
-        }
+    }
+    if times(files, "-") > 1 {
+        return Some("standard input is given more than once");
     }
     None
 }
@@ -190,7 +200,7 @@ pub fn options_of<'a>(wanted: &Wanted<'a>) -> Result<Options<'a>, Refusal>
     if let Some(refusal) = exclusive(&options) {
         return Err(refusal);
     }
-    match clashing(task, &options, wanted.files()) {
+    match clashing(task, &options, wanted.files().unwrap_or(&[])) {
         Some(refusal) => Err(refusal),
         None => Ok(options),
     }

@@ -12,4 +12,4 @@ pub returns-then-is_plain : goal.returns-then-is_plain
 returns-then-is_plain g c = c.serve.ensures (map (λ w. string_bytes w) c.args.words.now) (rw c.in-Ok-Some.field-0-is at c.in-Ok-Some.ensures.words)
 
 pub returns-else-is_plain : goal.returns-else-is_plain
-returns-else-is_plain g c = (rw c.in-Ok-Some.field-0-is at c.in-Ok-Some.ensures.words, refl, refl)
+returns-else-is_plain g c = (rw c.in-Ok-Some.field-0-is at c.in-Ok-Some.ensures.words, rw c.in-Ok-Some.field-0-is at c.in-Ok-Some.ensures.matches, refl, refl)

@@ -32,3 +32,8 @@ returns-in-Some-clause-words c =
 pub returns-clause-words : goal.returns-clause-words
 returns-clause-words c =
     of-words (map (λ w. string_bytes w) c.args.words.now) _ None (found-by _ _ _ c.in_ok-command.ensures c.in_ok-matches.ensures.matches) (rw c.in-None.is at c.request_of.ensures)
+
+pub returns-in-Some-clause-matches : goal.returns-in-Some-clause-matches
+returns-in-Some-clause-matches c =
+    let e = c.in_ok-command.ensures in
+    (c.in_ok-matches.ensures.matches (ap is_simple e ∙ simple)).1 ∙ ap (λ (a : App). subcommand_of a (map (λ w. string_bytes w) c.args.words.now)) e

@@ -1,7 +1,9 @@
-use Rattle.std.specs.Prelude.{◌≡◌, List, length}
-use Rattle.h264v.specs.declared.job.Done.{Done}
-use Rattle.h264v.specs.More.{worst}
+use Rattle.std.specs.Prelude.{◌≡◌, List, map, take}
+use Rattle.std.specs.List.{All}
+use Rattle.h264v.specs.More.{FileDone, IsJudged, worst}
 use Rattle.h264v.proofs.more.do_files.Given as goal
 
 abbrev pub invariant-loop-name : goal.invariant-loop-name
-invariant-loop-name g l = (done : List Done) × (length done ≡ l.name-index) × (l.totals.worst ≡ worst done)
+invariant-loop-name g l =
+    (files : List FileDone) × (map (λ f. f.name) files ≡ map (λ n. n.now) (take l.name-index l.names))
+    × All (IsJudged l.job.task l.job.options (λ name. g.O.Opener.holds l.opener name)) files × (l.totals.worst ≡ worst files)

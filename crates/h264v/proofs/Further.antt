@@ -1,0 +1,121 @@
+-- The further rules of a file, and what is told of them.
+use Rattle.std.proofs.Common.{◌≡◌, ℕ, ◌+◌, ◌<◌, Bool, true, false, ◌⊎◌, inl, inr, ⊎_elim, List, [], length, take, get_or, Option, Some, None, Result, Ok, Err, IfSome, refl, sym, ap, ◌∙◌, subst, arith}
+use Rattle.std.specs.List.{All}
+use Rattle.std.proofs.lemmas.List.{take_more}
+use Rattle.std.proofs.lemmas.List.Elements.{All-push}
+use Rattle.std.specs.Io.KnownBytes.{Keeps}
+use Rattle.h264_base.specs.Call.{Call}
+use Rattle.h264_base.specs.declared.mode.Mode.{Mode}
+use Rattle.h264_base.specs.declared.mode.Target.{Target}
+use Rattle.h264_base.specs.declared.stop.Stop.{Stop}
+use Rattle.h264_base.specs.declared.stop.Stop.TheVariants.{Memory}
+use Rattle.h264_plane.specs.Frames.{no_frame}
+use Rattle.h264_report.proofs.Accounts.{accounts}
+use Rattle.h264_report.specs.Strict.{TookStrict}
+use Rattle.h264_report.specs.StrictUnits.{TellsOfBytes}
+use Rattle.h264_report.specs.declared.strict_rule.StrictRule.{StrictRule}
+use Rattle.h264_report.specs.declared.strict_rule.StrictRule.TheVariants as rules
+use Rattle.h264_report.specs.declared.strict_rule.TheConstants.{EVERY_STRICT_RULE}
+use Rattle.h264_verify.specs.Giving.{AreFirst}
+use Rattle.h264_verify.specs.Units.{terms_of}
+use Rattle.h264_verify.specs.Verdict.{Judged as JudgedOf}
+use Rattle.h264_verify.specs.declared.state.Summary.{Summary}
+use Rattle.h264_verify.specs.declared.state.Terms.{Terms}
+use Rattle.h264v.proofs.Answered.{of-memory, or-memory}
+use Rattle.h264v.specs.Further.{AreJudged, BreakOne, IsFound, TellsBroken, Judged, Unjudged}
+use Rattle.h264v.specs.declared.command_line.Task.{Task}
+use Rattle.h264v.specs.declared.job.Done.{Done}
+use Rattle.h264v.specs.declared.job.Found.{Found}
+use Rattle.h264v.specs.declared.strictly.FurtherRules.{FurtherRules}
+use Rattle.h264v.specs.More.{IsAnswerOf}
+
+-- what holds of every rule by its place holds of each
+pub each : (P : StrictRule → Type 0) → All P EVERY_STRICT_RULE → (rule : StrictRule) → P rule
+each P all rules.ReservedBits = all 0 rules.ReservedBits (omega arith)
+each P all rules.AspectRatio = all 1 rules.AspectRatio (omega arith)
+each P all rules.VideoFormat = all 2 rules.VideoFormat (omega arith)
+each P all rules.ColourPrimaries = all 3 rules.ColourPrimaries (omega arith)
+each P all rules.TransferCharacteristics = all 4 rules.TransferCharacteristics (omega arith)
+each P all rules.MatrixCoefficients = all 5 rules.MatrixCoefficients (omega arith)
+each P all rules.ChromaLocation = all 6 rules.ChromaLocation (omega arith)
+each P all rules.Timing = all 7 rules.Timing (omega arith)
+each P all rules.Restriction = all 8 rules.Restriction (omega arith)
+each P all rules.OperationsExclude = all 9 rules.OperationsExclude (omega arith)
+each P all rules.IdrCount = all 10 rules.IdrCount (omega arith)
+each P all rules.SetRefIdc = all 11 rules.SetRefIdc (omega arith)
+each P all rules.DelimiterFirst = all 12 rules.DelimiterFirst (omega arith)
+each P all rules.FillerFirst = all 13 rules.FillerFirst (omega arith)
+each P all rules.AfterEndOfStream = all 14 rules.AfterEndOfStream (omega arith)
+each P all rules.Level1b = all 15 rules.Level1b (omega arith)
+each P all rules.ReservedConstraint = all 16 rules.ReservedConstraint (omega arith)
+each P all rules.DirectInference = all 17 rules.DirectInference (omega arith)
+each P all rules.LowDelay = all 18 rules.LowDelay (omega arith)
+each P all rules.UnitLength = all 19 rules.UnitLength (omega arith)
+each P all rules.EndFirst = all 20 rules.EndFirst (omega arith)
+each P all rules.LongTermReference = all 21 rules.LongTermReference (omega arith)
+each P all rules.Weights = all 22 rules.Weights (omega arith)
+each P all rules.FrameNumRepeated = all 23 rules.FrameNumRepeated (omega arith)
+each P all rules.CountRepeated = all 24 rules.CountRepeated (omega arith)
+each P all rules.Reorder = all 25 rules.Reorder (omega arith)
+each P all rules.VectorCount = all 26 rules.VectorCount (omega arith)
+each P all rules.FrameRate = all 27 rules.FrameRate (omega arith)
+each P all rules.ScheduleOrder = all 28 rules.ScheduleOrder (omega arith)
+each P all rules.ScheduleLimits = all 29 rules.ScheduleLimits (omega arith)
+each P all rules.CommonFactor = all 30 rules.CommonFactor (omega arith)
+each P all rules.PictureBytes = all 31 rules.PictureBytes (omega arith)
+each P all rules.SeiSizes = all 32 rules.SeiSizes (omega arith)
+each P all rules.DelimiterBits = all 33 rules.DelimiterBits (omega arith)
+each P all rules.FillerBytes = all 34 rules.FillerBytes (omega arith)
+each P all rules.ZeroByte = all 35 rules.ZeroByte (omega arith)
+each P all rules.DelimiterType = all 36 rules.DelimiterType (omega arith)
+
+-- what holds of the first of some rules, with one more
+pub one-rule-more : (P : StrictRule → Type 0) (rules : List StrictRule) (i : ℕ) (d : StrictRule) → i < length rules → All P (take i rules) → P (get_or rules i d) → All P (take (i + 1) rules)
+one-rule-more P rules i d inside all one = subst (All P) (sym (take_more rules i d inside)) (All-push P (take i rules) (get_or rules i d) all one)
+
+-- a judgement with the further rules
+pub judged : {S : Type 0} {took : S → List Call → Type 0} {failures : S → ℕ} {s s' : S} (mode whole : Mode) (target : Target) (left : Option (List ℕ)) (answer : Result Summary Stop) (further : FurtherRules) →
+    mode ≡ whole → (bytes : List ℕ) (ended : Bool) → AreFirst left bytes ended → JudgedOf (terms_of mode target) took failures bytes (λ k. no_frame) [] s s' answer → took s [] →
+    ((calls : List Call) → took s' calls → TookStrict further.strict calls) → TellsOfBytes further.units.extent ended further.units.found bytes → AreJudged (terms_of whole target) left answer further
+judged mode whole target left answer further is bytes ended first j none strict units =
+    let a = accounts j none in
+    subst (λ m. AreJudged (terms_of m target) left answer further) is (record { bytes = bytes; ended = ended; first = first; account = a.0; calls = strict _ a.1; units = units })
+
+pub found-answer : (found : Option Found) (task : Task) (target : Target) (left : Option (List ℕ)) (answer : Result Summary Stop) → IfSome found (λ f. f.answer ≡ answer) → IsAnswerOf task target left answer →
+    IfSome found (λ f. IsAnswerOf task target left f.answer)
+found-answer None task target left answer is h = tt
+found-answer (Some f) task target left answer is h = subst (IsAnswerOf task target left) (sym is) h
+
+pub found-further : (found : Option Found) (terms : Terms) (left : Option (List ℕ)) (answer : Result Summary Stop) (further : FurtherRules) → IfSome found (λ f. f.answer ≡ answer) →
+    IfSome found (λ f. f.strict ≡ Some further) → AreJudged terms left answer further → IfSome found (λ f. IsFound true terms left f.answer f.strict)
+found-further None terms left answer further is strict h = tt
+found-further (Some f) terms left answer further is strict h = (further, strict, subst (λ x. AreJudged terms left x further) (sym is) h)
+
+-- what is told of a file that was judged, or for which memory was wanting
+pub found-or-short : (found : Option Found) (task : Task) (target : Target) (left : Option (List ℕ)) (done : Done) → IfSome found (λ f. IsAnswerOf task target left f.answer) →
+    IfSome found (λ f. (done.ending.answer ≡ f.answer) ⊎ (done.ending.answer ≡ Err Memory)) → (found ≡ None → (done.ending.answer ≡ Err Memory) × (done.is_broken ≡ false)) →
+    IsAnswerOf task target left done.ending.answer
+found-or-short None task target left done h is short = subst (IsAnswerOf task target left) (sym (short refl).0) (of-memory task target left)
+found-or-short (Some f) task target left done h is short = or-memory task target left f.answer done.ending.answer is h
+
+pub broken-or-short : (found : Option Found) (is_asked : Bool) (terms : Terms) (left : Option (List ℕ)) (done : Done) → IfSome found (λ f. IsFound is_asked terms left f.answer f.strict) →
+    IfSome found (λ f. (done.is_broken ≡ true → BreakOne f.strict) × (done.is_broken ≡ false → BreakOne f.strict → ⊥)) → (found ≡ None → (done.ending.answer ≡ Err Memory) × (done.is_broken ≡ false)) →
+    TellsBroken is_asked terms left done
+broken-or-short None is_asked terms left done h is short = Unjudged (inl (short refl).0) (short refl).1
+broken-or-short (Some f) is_asked terms left done h is short = Judged f.answer f.strict h is.0 is.1
+
+known-kept : (held left : Option (List ℕ)) → Keeps held left → (known : List ℕ) → held ≡ Some known → left ≡ Some known
+known-kept None left k known e = absurd (let d = e in cc)
+known-kept (Some bytes) None k known e = absurd k
+known-kept (Some bytes) (Some others) k known e = ap Some k ∙ e
+
+found-kept : (is_asked : Bool) (terms : Terms) (held left : Option (List ℕ)) (answer : Result Summary Stop) (found : Option FurtherRules) → Keeps held left → IsFound is_asked terms left answer found → IsFound is_asked terms held answer found
+found-kept false terms held left answer found k h = h
+found-kept true terms held left answer found k h =
+    let j = h.2 in
+    (h.0, h.1, record { bytes = j.bytes; ended = j.ended; first = λ known e. j.first known (known-kept held left k known e); account = j.account; calls = j.calls; units = j.units })
+
+-- what is told of an open file is told of what the file of its name holds
+pub broken-kept : (is_asked : Bool) (terms : Terms) (held left : Option (List ℕ)) (done : Done) → Keeps held left → TellsBroken is_asked terms left done → TellsBroken is_asked terms held done
+broken-kept is_asked terms held left done k (Judged answer found h told untold) = Judged answer found (found-kept is_asked terms held left answer found k h) told untold
+broken-kept is_asked terms held left done k (Unjudged none unbroken) = Unjudged none unbroken
