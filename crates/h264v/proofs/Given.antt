@@ -1,9 +1,8 @@
 -- What is found of words, by clap's rows of a subcommand.
-use Rattle.std.proofs.Common.{◌≡◌, ℕ, List, [], Bor, Option, Some, None, Bool, true, false, map, option_map, unwrap_or, codes, refl, sym, ap, ◌∙◌}
+use Rattle.std.proofs.Common.{◌≡◌, List, [], Bor, Option, Some, None, map, option_map, unwrap_or, codes, sym, ap, ◌∙◌}
 use Rattle.std.specs.Prelude.{option_and_then}
 use Rattle.std.specs.Option.{is_some}
-use Rattle.std.proofs.lemmas.Bool.{false≢true}
-use Rattle.clap.specs.Words.{Row, Text, all_of, first_of}
+use Rattle.clap.specs.Words.{Row, Text}
 use Rattle.h264v.specs.Words.{Given, all_in, values_in}
 
 -- the rows are those of the subcommand that was found, so what is asked of them is what is asked of it

@@ -1,5 +1,5 @@
 -- The exit status of one file, and of several.
-use Rattle.std.proofs.Common.{◌≡◌, ℕ, zero, suc, max, List, [], ◌∷◌, ◌++◌, map, length, get_or, Bool, fold, cond, ◌+◌, codes, Option, refl, sym, ap, ◌∙◌, arith}
+use Rattle.std.proofs.Common.{◌≡◌, ℕ, max, List, [], ◌∷◌, ◌++◌, map, length, get_or, Bool, fold, cond, ◌+◌, codes, Option, refl, sym, ap, ◌∙◌, arith}
 use Rattle.std.specs.List.{count_by}
 use Rattle.clap.specs.Words.{Text}
 use Rattle.std.proofs.lemmas.List.Elements.{All-nil, All-push}

@@ -241,8 +241,8 @@ fn check_strictly<O: Opener + Drop, M: Meter + Drop>(
 ) -> Option<Found>
     requires { files.old.failures < 2 ^ 64 - 1 }
     ensures answer { IfSome result (λ found. IsAnswerOf job.now.task job.now.options.target (left_of O.File.Read.remaining files.old.reader) found.answer) }
-    ensures further { IfSome result (λ found. IsFound true (terms_of (mode_of job.now.task) job.now.options.target) (left_of O.File.Read.remaining files.old.reader)
-        found.answer found.strict) }
+    ensures further { IfSome result (λ found. IsFound true (terms_of (mode_of job.now.task) job.now.options.target)
+        (left_of O.File.Read.remaining files.old.reader) found.answer found.strict) }
 {
     let Ok(trail) = TrailSink::new(job.alloc) else {
         return None;
@@ -275,8 +275,8 @@ pub fn check_file<O: Opener + Drop, M: Meter + Drop>(
 ) -> Option<Found>
     requires { files.old.failures < 2 ^ 64 - 1 }
     ensures answer { IfSome result (λ found. IsAnswerOf job.now.task job.now.options.target (left_of O.File.Read.remaining files.old.reader) found.answer) }
-    ensures further { IfSome result (λ found. IsFound job.now.options.strict (terms_of (mode_of job.now.task) job.now.options.target) (left_of O.File.Read.remaining files.old.reader)
-        found.answer found.strict) }
+    ensures further { IfSome result (λ found. IsFound job.now.options.strict (terms_of (mode_of job.now.task) job.now.options.target)
+        (left_of O.File.Read.remaining files.old.reader) found.answer found.strict) }
 {
     if job.options.strict {
         return check_strictly(job, files, meter);

@@ -5,7 +5,7 @@ ghost use Rattle.std.specs.Prelude.{◌≡◌, ℕ, ◌==◌, ◌-◌, ◌<◌, 
 ghost use Rattle.std.specs.List.{All};
 ghost use Rattle.clap.specs.Words.{subcommand_rows_of};
 ghost use Rattle.h264_base.specs.declared.stop.Stop.TheVariants.{Memory};
-ghost use Rattle.h264_report.specs.Sent.{Sends, Takes};
+ghost use Rattle.h264_report.specs.Sent.{Sends};
 ghost use Rattle.h264_report.specs.Told.{ended};
 ghost use Rattle.h264v.specs.Explained.{IsExplained};
 ghost use Rattle.h264_verify.specs.Units.{terms_of};

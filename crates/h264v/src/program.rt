@@ -1,7 +1,7 @@
 //! The program, over any words, files and streams.
 #![tactic(auto)]
 
-ghost use Rattle.std.specs.Prelude.{◌≡◌, ℕ, ◌-◌, ◌<◌, ◌≤◌, ◌⊎◌, ◌^◌, List, Some, map, string_bytes};
+ghost use Rattle.std.specs.Prelude.{◌≡◌, ◌-◌, ◌<◌, ◌≤◌, ◌⊎◌, ◌^◌, List, Some, map, string_bytes};
 ghost use Rattle.clap.specs.Words.{Text, subcommand_rows_of};
 ghost use Rattle.h264v.specs.Commands.{output_by};
 ghost use Rattle.h264v.specs.Files.{HasFailedToRead, HasReadAll};

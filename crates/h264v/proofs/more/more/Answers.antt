@@ -1,4 +1,4 @@
-use Rattle.std.proofs.Common.{◌≡◌, ℕ, List, [], ◌∷◌, Bor, slice_index_or, length, refl, ◌∙◌, ⊎_elim, arith, rules}
+use Rattle.std.proofs.Common.{◌≡◌, ℕ, List, [], Bor, slice_index_or, length, refl, ◌∙◌, ⊎_elim, arith, rules}
 use Rattle.clap.specs.Words.{subcommand_rows_of}
 use Rattle.h264v.specs.More.{Refused, Explained, Judged, Unwritten}
 use Rattle.h264v.proofs.Given.{names-given}

@@ -1,4 +1,4 @@
-use Rattle.std.proofs.Common.{◌≡◌, List, ℕ, Bor, refl, sym, ◌∙◌, subst, codes}
+use Rattle.std.proofs.Common.{Bor, refl, sym, ◌∙◌, subst, codes}
 use Rattle.clap.specs.Words.{Text, subcommand_rows_of}
 use Rattle.h264v.specs.declared.command_line.Task.{Task}
 use Rattle.h264v.specs.declared.options.Options.{Options}
