@@ -165,7 +165,7 @@ at-all p [] n d e h = absurd (omega arith)
 at-all p (x ∷ xs) zero d e h = (both (p x) (list_all p xs) e).0
 at-all p (x ∷ xs) (suc n) d e h = at-all p xs n d (both (p x) (list_all p xs) e).1 (omega arith)
 
-blank : (totals : List ℕ) (n : ℕ) → are_blank totals ≡ true → n < length totals → nat_lt 0 (get_or totals n 0) ≡ false
+pub blank : (totals : List ℕ) (n : ℕ) → are_blank totals ≡ true → n < length totals → nat_lt 0 (get_or totals n 0) ≡ false
 blank totals n e h = let z : get_or totals n 0 ≡ 0 = eqb-true (get_or totals n 0) 0 (at-all (λ t. t == 0) totals n 0 e h) in rw z refl
 
 self-far : (v : Vector) → far v v ≡ false
@@ -198,7 +198,7 @@ still-right : (a b : Option Motion) → b ≡ None → moves_apart a b ≡ false
 still-right None b e = refl
 still-right (Some a) b e = rw e refl
 
-same-all : (xs ys : List (Option Motion)) (f : Option Motion) (i j : ℕ) → are_like f xs ≡ true → are_like f ys ≡ true → moves_apart (get_or xs i None) (get_or ys j None) ≡ false
+pub same-all : (xs ys : List (Option Motion)) (f : Option Motion) (i j : ℕ) → are_like f xs ≡ true → are_like f ys ≡ true → moves_apart (get_or xs i None) (get_or ys j None) ≡ false
 same-all xs ys f i j a b = ⊎_elim
     (λ (h : i < length xs). ⊎_elim
     (λ (k : j < length ys). let p : Option Motion → Bool = λ m. alike m f in same-moves (get_or xs i None) (get_or ys j None) f (at-all p xs i None a h) (at-all p ys j None b k))

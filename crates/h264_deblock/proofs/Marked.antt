@@ -1,15 +1,17 @@
 -- The edges of a macroblock by the strengths that the code has.
-use Rattle.std.proofs.Common.{◌≡◌, ℕ, ◌<◌, true, false, List, [], length, get_or, refl, sym, ap, subst, arith}
+use Rattle.std.proofs.Common.{◌≡◌, ℕ, zero, suc, ◌<◌, ◌≤◌, Bool, true, false, List, [], ◌∷◌, length, get_or, refl, sym, ap, subst, arith}
 use Rattle.std.proofs.lemmas.List.{get_or_default}
 use Rattle.h264_plane.specs.Samples.{Samples, at, ShowsSamples}
-use Rattle.h264_deblock.specs.Filtering.{AreInside, edges_done}
+use Rattle.h264_deblock.specs.CodedEdges.{filters}
+use Rattle.h264_deblock.specs.Filtering.{AreInside, edge_or, edges_done}
 use Rattle.h264_deblock.specs.Steps.{side_qp, inner_edge}
-use Rattle.h264_deblock.specs.Words.{names, named_border, IsWord, AreWords}
+use Rattle.h264_deblock.specs.Words.{names, named_border, zeros, IsWord, AreWords}
 use Rattle.h264_deblock.specs.Marks.{AreMarks, luma_by, chroma_by, luma_list, chroma_list}
 use Rattle.h264_deblock.specs.declared.by_level.Marks.{Marks}
 use Rattle.h264_deblock.specs.declared.slice_filter.SliceFilter.{SliceFilter}
 use Rattle.h264_deblock.proofs.CodedEdges.{inside}
-use Rattle.h264_deblock.proofs.Numbers.{some-named}
+use Rattle.h264_deblock.proofs.Macroblocks.{or_none, or_some}
+use Rattle.h264_deblock.proofs.Numbers.{some-named, zero-edge}
 
 pub luma-inside : (m : Marks) (c r qp : ℕ) (f : SliceFilter) → AreMarks m c r → AreInside c r (luma_by qp f m)
 luma-inside m c r qp f a = record {
@@ -44,3 +46,18 @@ chroma-same old new m c r n own qp g f e o i held =
     subst (λ (z : SliceFilter). ShowsSamples old new (edges_done 8 true (chroma_by (side_qp true qp z.chroma_qp_index_offset) z m) c r (at old))) i
     (subst (λ (z : ℕ). ShowsSamples old new (edges_done 8 true (chroma_by (side_qp true z g.chroma_qp_index_offset) g m) c r (at old))) o
     (subst (λ (z : ℕ). ShowsSamples old new (edges_done 8 true (chroma_by z g m) c r (at old))) e held))
+
+-- an inner edge of no bS but 0
+pub still-edge : (v chroma : Bool) (p : Samples) (qp : ℕ) (f : SliceFilter) (words : List (List ℕ)) (n along across : ℕ) → words ≡ zeros ∷ zeros ∷ zeros ∷ [] → n < 3 → 4 ≤ across →
+    ShowsSamples p p (edge_or (inner_edge qp f (names (get_or words n []))) v chroma along across (at p))
+still-edge v chroma p qp f words n along across e h before = go (filters f.deblocking true) refl
+  where
+    zero-at : (k : ℕ) → k < 3 → get_or words k [] ≡ zeros
+    zero-at zero i = rw e refl
+    zero-at (suc zero) i = rw e refl
+    zero-at (suc (suc zero)) i = rw e refl
+    zero-at (suc (suc (suc k))) i = absurd (omega arith)
+
+    go : (t : Bool) → filters f.deblocking true ≡ t → ShowsSamples p p (edge_or (inner_edge qp f (names (get_or words n []))) v chroma along across (at p))
+    go true t = rw t (or_some _ _ _ _ _ _ _ (zero-edge v chroma p _ along across (get_or words n []) before (zero-at n h) refl))
+    go false t = rw t (or_none _ _ _ _ _)

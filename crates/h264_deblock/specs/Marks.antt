@@ -1,10 +1,11 @@
 -- The strengths of the edges of a macroblock as the code has them. A working form.
-use Rattle.std.specs.Prelude.{ℕ, ◌<◌, true, false, IsTrue, List, [], ◌∷◌, get_or, Option, is_some}
+use Rattle.std.specs.Prelude.{◌≡◌, ℕ, ◌<◌, true, false, IsTrue, List, [], ◌∷◌, get_or, Option, is_some}
 use Rattle.h264_deblock.specs.Filtering.{PlaneEdges}
 use Rattle.h264_deblock.specs.Steps.{border_edge, inner_edge}
-use Rattle.h264_deblock.specs.Words.{names, named_border, AreWords, HasWord}
+use Rattle.h264_deblock.specs.Words.{names, named_border, zeros, AreWords, HasWord}
 use Rattle.h264_deblock.specs.declared.by_level.Marks.{Marks}
 use Rattle.h264_deblock.specs.declared.plane_level.Border.{Border}
+use Rattle.h264_deblock.specs.declared.strengths.InnerStrengths.{InnerStrengths}
 use Rattle.h264_deblock.specs.declared.edge_parameters.EdgeParameters.{EdgeParameters}
 use Rattle.h264_deblock.specs.declared.slice_filter.SliceFilter.{SliceFilter}
 
@@ -32,3 +33,8 @@ pub record AreMarks (m : Marks) (column row : ℕ) : Type 0 where
   pub horizontal : AreWords m.inner.horizontal
   pub columns : IsTrue (is_some m.left) → 0 < column
   pub rows : IsTrue (is_some m.above) → 0 < row
+
+-- no inner edge has a bS but 0
+pub record AreStill (inner : InnerStrengths) : Type 0 where
+  pub vertical : inner.vertical ≡ zeros ∷ zeros ∷ zeros ∷ []
+  pub horizontal : inner.horizontal ≡ zeros ∷ zeros ∷ zeros ∷ []

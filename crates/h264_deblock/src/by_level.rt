@@ -7,7 +7,7 @@ ghost use Rattle.h264_deblock.specs.Filtering.{edge_or, edges_done};
 ghost use Rattle.h264_deblock.specs.CodedEdges.{filters};
 ghost use Rattle.h264_deblock.specs.Steps.{side_qp, border_edge, inner_edge};
 ghost use Rattle.h264_deblock.specs.Words.{names, named_border, IsWord, HasWord, IsLevelOf};
-ghost use Rattle.h264_deblock.specs.Marks.{AreMarks, luma_by, chroma_by};
+ghost use Rattle.h264_deblock.specs.Marks.{AreMarks, AreStill, luma_by, chroma_by};
 
 use crate::edges::{luma_at_level, pair_at_level};
 use crate::named::{Word, is_zero};
@@ -203,4 +203,70 @@ pub(crate) fn filter_by(
     let of_luma = plane_level::<false>(qp, filter);
     let of_chroma = plane_level::<true>(qp, filter);
     by_turns(frame, marks, &of_luma, &of_chroma, column, row);
+}
+
+/// Filters the edges of the macroblock at this column and row to those beside it, likewise: no inner edge has a bS but 0.
+#[inline(always)]
+fn borders_by_turns(
+    frame: &mut Frame,
+    marks: &Marks,
+    of_luma: &PlaneLevel<'_>,
+    of_chroma: &PlaneLevel<'_>,
+    column: usize,
+    row: usize,
+)
+    requires y { (16 * column + 16 ≤ frame.old.y.width) × (16 * row + 16 ≤ frame.old.y.height) }
+    requires cb { (8 * column + 8 ≤ frame.old.cb.width) × (8 * row + 8 ≤ frame.old.cb.height) }
+    requires cr { (8 * column + 8 ≤ frame.old.cr.width) × (8 * row + 8 ≤ frame.old.cr.height) }
+    requires small { (column < 1024) × (row < 1024) }
+    requires marks { AreMarks marks.now column row }
+    requires still { AreStill marks.now.inner }
+    requires luma_qp { of_luma.now.qp ≡ side_qp false of_luma.now.luma_qp of_luma.now.filter.now.chroma_qp_index_offset }
+    requires luma_inner { IsLevelOf of_luma.now.inner of_luma.now.qp of_luma.now.qp of_luma.now.filter.now }
+    requires luma_filtered { filters of_luma.now.filter.now.deblocking true ≡ true }
+    requires chroma_qp { of_chroma.now.qp ≡ side_qp true of_chroma.now.luma_qp of_chroma.now.filter.now.chroma_qp_index_offset }
+    requires chroma_inner { IsLevelOf of_chroma.now.inner of_chroma.now.qp of_chroma.now.qp of_chroma.now.filter.now }
+    requires chroma_filtered { filters of_chroma.now.filter.now.deblocking true ≡ true }
+    ensures y { ShowsSamples frame.old.y frame.new.y
+        (edges_done 16 false (luma_by of_luma.now.qp of_luma.now.filter.now marks.now) column row (at frame.old.y)) }
+    ensures cb { ShowsSamples frame.old.cb frame.new.cb
+        (edges_done 8 true (chroma_by of_chroma.now.qp of_chroma.now.filter.now marks.now) column row (at frame.old.cb)) }
+    ensures cr { ShowsSamples frame.old.cr frame.new.cr
+        (edges_done 8 true (chroma_by of_chroma.now.qp of_chroma.now.filter.now marks.now) column row (at frame.old.cr)) }
+{
+    let (x, y, u, v) = (16 * column, 16 * row, 8 * column, 8 * row);
+    let (left, above) = (&marks.left, &marks.above);
+    let (luma, cb, cr) = (&mut frame.y, &mut frame.cb, &mut frame.cr);
+    luma_border::<true>(luma, y, x, left, of_luma);
+    pair_border::<true>(cb, cr, v, u, left, of_chroma);
+    luma_border::<false>(luma, x, y, above, of_luma);
+    pair_border::<false>(cb, cr, u, v, above, of_chroma);
+}
+
+/// Filters the edges of the macroblock at this column and row, whose quantisation parameter is `qp`, where no inner edge has a bS but 0.
+pub(crate) fn filter_borders(
+    frame: &mut Frame,
+    marks: &Marks,
+    qp: u8,
+    filter: &SliceFilter,
+    column: usize,
+    row: usize,
+)
+    requires y { (16 * column + 16 ≤ frame.old.y.width) × (16 * row + 16 ≤ frame.old.y.height) }
+    requires cb { (8 * column + 8 ≤ frame.old.cb.width) × (8 * row + 8 ≤ frame.old.cb.height) }
+    requires cr { (8 * column + 8 ≤ frame.old.cr.width) × (8 * row + 8 ≤ frame.old.cr.height) }
+    requires small { (column < 1024) × (row < 1024) }
+    requires marks { AreMarks marks.now column row }
+    requires still { AreStill marks.now.inner }
+    requires filtered { filters filter.now.deblocking true ≡ true }
+    ensures y { ShowsSamples frame.old.y frame.new.y
+        (edges_done 16 false (luma_by (side_qp false qp filter.now.chroma_qp_index_offset) filter.now marks.now) column row (at frame.old.y)) }
+    ensures cb { ShowsSamples frame.old.cb frame.new.cb
+        (edges_done 8 true (chroma_by (side_qp true qp filter.now.chroma_qp_index_offset) filter.now marks.now) column row (at frame.old.cb)) }
+    ensures cr { ShowsSamples frame.old.cr frame.new.cr
+        (edges_done 8 true (chroma_by (side_qp true qp filter.now.chroma_qp_index_offset) filter.now marks.now) column row (at frame.old.cr)) }
+{
+    let of_luma = plane_level::<false>(qp, filter);
+    let of_chroma = plane_level::<true>(qp, filter);
+    borders_by_turns(frame, marks, &of_luma, &of_chroma, column, row);
 }

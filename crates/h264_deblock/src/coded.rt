@@ -150,7 +150,7 @@ fn chroma_along(
 
 /// Whether an edge is not filtered, or has no bS but 0: no sample changes by it.
 #[inline]
-fn is_still(border: &Option<Border>) -> bool
+pub(crate) fn is_still(border: &Option<Border>) -> bool
     ensures { result ≡ true → IsStill (named_border border.now) }
 {
     match border {

@@ -27,11 +27,11 @@ const ONE: u8 = 1;
 /// bS of blocks of which one has coefficients.
 const TWO: u8 = 2;
 
-const ZEROS: Word = [0; 4];
+pub(crate) const ZEROS: Word = [0; 4];
 
 const THREES: Word = [3; 4];
 
-const FOURS: Word = [4; 4];
+pub(crate) const FOURS: Word = [4; 4];
 
 /// Whether two components differ by a whole sample or more.
 #[inline(always)]
@@ -60,7 +60,7 @@ fn moves_apart(a: &Option<Motion>, b: &Option<Motion>) -> bool
 
 /// bS of two blocks of which neither is intra. `coded` says that one of them has coefficients, and `alike` that one picture and one vector predict both.
 #[inline(always)]
-fn inter(coded: bool, alike: bool, p: &Option<Motion>, q: &Option<Motion>) -> u8
+pub(crate) fn inter(coded: bool, alike: bool, p: &Option<Motion>, q: &Option<Motion>) -> u8
     ensures here { (alike ≡ true → moves_apart p.now q.now ≡ false) → named result ≡ inter_strength coded p.now q.now }
     ensures small { result < 4 }
 {
@@ -244,7 +244,7 @@ fn is_alike(a: &Option<Motion>, b: &Option<Motion>) -> bool
 
 /// Whether no block has coefficients, with no branch.
 #[inline(always)]
-fn are_blank(totals: &[u8]) -> bool
+pub(crate) fn are_blank(totals: &[u8]) -> bool
     ensures { result ≡ are_blank totals.now }
 {
     let mut blank = true;
@@ -256,7 +256,7 @@ fn are_blank(totals: &[u8]) -> bool
 
 /// Whether blocks are predicted from one picture by one vector, as this one.
 #[inline(always)]
-fn are_like(motions: &[Option<Motion>; 4], first: &Option<Motion>) -> bool
+pub(crate) fn are_like(motions: &[Option<Motion>; 4], first: &Option<Motion>) -> bool
     ensures { result ≡ are_like first.now motions.now }
 {
     for motion in motions {

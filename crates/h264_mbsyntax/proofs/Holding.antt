@@ -5,12 +5,10 @@ use Rattle.std.proofs.lemmas.List.{get_or-replicate}
 use Rattle.std.proofs.lemmas.Option.{slice_get-get_or}
 use Rattle.h264_cavlc.specs.Block.{Block}
 use Rattle.h264_near.specs.declared.motion.Motion.{Motion}
-use Rattle.h264_near.specs.declared.context.Contexts.{Contexts}
 use Rattle.h264_near.specs.Coded.{CodedMacroblock, Intra4x4, Intra16x16, Inter}
-use Rattle.h264_near.specs.Keeps.{AreContexts}
 use Rattle.h264_mbsyntax.specs.declared.macroblock.Kind.TheVariants as kind
 use Rattle.h264_mbsyntax.specs.declared.macroblock.Macroblock.{Macroblock}
-use Rattle.h264_mbsyntax.specs.Residual.{Coefficients, coefficients, no_block, no_coefficients, no_chroma}
+use Rattle.h264_mbsyntax.specs.Residual.{Coefficients, coefficients, no_block}
 use Rattle.h264_mbsyntax.specs.Stored.{StoredCoefficients, StoredCoefficients16}
 use Rattle.h264_mbsyntax.specs.Holds.{HoldsMacroblock}
 use Rattle.h264_base.specs.declared.mode.SliceType.{SliceType}
@@ -29,16 +27,12 @@ use Rattle.h264_mbsyntax.specs.Coded.{patterned}
 use Rattle.h264_base.specs.Meets.{Reader, Meets, Checks}
 use Rattle.h264_base.proofs.Steps.{bind, bind_as, stop, done, checked}
 use Rattle.h264_vectors.specs.declared.slice.SliceContext.{SliceContext}
-use Rattle.h264_near.specs.declared.motion.Vector.{Vector}
-use Rattle.h264_mbsyntax.specs.Macroblock.{coded, pcm_of, by_type, inter, predicted_qp}
-use Rattle.h264_vectors.specs.Derived.{motion_of}
-use Rattle.h264_mbsyntax.specs.Slice.{skipped_of}
-use Rattle.h264_mbsyntax.proofs.Loops.{whole, stored-blank}
+use Rattle.h264_mbsyntax.specs.Macroblock.{coded, pcm_of, by_type, inter}
+use Rattle.h264_mbsyntax.proofs.Loops.{whole}
 use Rattle.std.specs.Option.{is_some, option_map}
 use Rattle.std.proofs.Math.ListN as math
 use Rattle.h264_vectors.specs.Derived.{Derived}
 use Rattle.h264_vectors.specs.Agrees.{Agrees, AreAlike}
-use Rattle.h264_vectors.proofs.Parts.{alike-all}
 
 -- the part that is read last gives the whole
 pub ending : {X A B S : Type 0} {took : S → List Call → Type 0} {failures : S → ℕ} {R : X → A → Type 0} {R' : X → B → Type 0} {g : Grammar A} (f : A → B) {old new : Reader} {s s' : S} (r : Result X Stop) → ((x : X) (v : A) → R x v → R' x (f v)) → Meets took failures R g old new s s' r → Meets took failures R' (g >>= (λ v. Done (f v))) old new s s' r
@@ -161,27 +155,4 @@ holds-inter mb slice d within parted c ek one a w em es ei eq ed nt nc s = recor
   prediction = rw ek (ap Inter (sym (a.same w)), one);
   luma = rw ek (record { each = s.luma.each }, ap (λ (b : Block). b.by_place) s.luma_dc ∙ rw ed refl);
   chroma = rw ek (record { each = s.chroma.dc.each }, record { each = s.chroma.ac.each });
-}
-
--- a skipped macroblock
-pub shows-skipped : (c : Contexts) (slice qp : ℕ) (m : Motion) → c.motions ≡ replicate 16 (Some m) → c.modes ≡ replicate 16 2 → c.slice ≡ slice → c.intra ≡ false → c.qp ≡ qp → c.totals ≡ replicate 16 0 → c.chroma_totals ≡ replicate 8 0 → AreContexts c (coded slice (Inter (replicate 16 (Some m))) (no_coefficients qp))
-unfolding coded no_coefficients no_chroma no_block
-shows-skipped c slice qp m ev em es ei eq et ec = record {
-  slice = sym es;
-  intra = sym ei;
-  qp = sym eq;
-  totals = sym et;
-  chroma_totals = sym ec;
-  modes = λ n h. rw em (ap Some (sym (get_or-replicate 16 n 2 0 h)));
-  motions = λ n h. rw ev (all-derived (replicate 16 (Some m)) n refl h);
-}
-
-pub holds-skipped : (mb : Macroblock) (slice : SliceContext) (picture : List CodedMacroblock) (v : Vector) → mb.kind ≡ kind.Inter true → mb.contexts.motions ≡ replicate 16 (Some (motion_of slice 0 v)) → mb.contexts.modes ≡ replicate 16 2 → mb.contexts.slice ≡ slice.number → mb.contexts.intra ≡ false → mb.contexts.qp ≡ mb.qp → mb.contexts.totals ≡ replicate 16 0 → mb.contexts.chroma_totals ≡ replicate 8 0 → mb.residual.luma_dc_total ≡ 0 → mb.residual.chroma_dc_totals ≡ replicate 2 0 → mb.qp ≡ predicted_qp slice picture → HoldsMacroblock mb (skipped_of slice picture v)
-unfolding skipped_of coded no_coefficients no_chroma no_block
-holds-skipped mb slice picture v ek ev em es ei eq et ec ed eh p = record {
-  contexts = shows-skipped mb.contexts slice.number (predicted_qp slice picture) (motion_of slice 0 v) ev em es ei (eq ∙ p) et ec;
-  qp = sym p;
-  prediction = rw ek (ap Inter (sym ev), λ t. rw ev (alike-all (Some (motion_of slice 0 v))));
-  luma = rw ek (record { each = (stored-blank 16 16 mb.contexts.totals mb.residual.luma et).each }, rw ed refl);
-  chroma = rw ek (record { each = (stored-blank 4 2 mb.residual.chroma_dc_totals mb.residual.chroma_dc eh).each }, record { each = (stored-blank 15 8 mb.contexts.chroma_totals mb.residual.chroma_ac ec).each });
 }

@@ -102,7 +102,7 @@ fn intra_contexts(
 
 /// The contexts of an inter macroblock.
 #[inline]
-pub(crate) fn inter_contexts(
+fn inter_contexts(
     slice: u32,
     qp: u8,
     totals: [u8; 16],

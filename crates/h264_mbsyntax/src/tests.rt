@@ -342,9 +342,12 @@ fn refused(rt: &(impl Abort + AllocGlobal)) -> Result<(), Fail> {
 }
 
 fn skipped(rt: &impl Abort) {
-    let mut mb = Macroblock::none();
-    mb.qp = 30;
-    skip_macroblock(&slice(SliceType::P, 1), Vector { x: 3, y: -3 }, &mut mb);
-    assert!(rt; matches!(mb.kind, Kind::Inter { whole: _ }));
-    assert_eq!(rt; (motion(&mb, 15), mb.qp), (Some((0, 5, 3, -3)), 30));
+    let m = skip_macroblock(&slice(SliceType::P, 1), Vector { x: 3, y: -3 }, 30);
+    let Motion {
+        picture,
+        vector,
+        ref_idx,
+    } = m.motion;
+    assert_eq!(rt; (ref_idx, picture, vector.x, vector.y), (0, 5, 3, -3));
+    assert_eq!(rt; m.qp, 30);
 }

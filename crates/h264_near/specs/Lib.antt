@@ -6,3 +6,4 @@ pub mod Motions
 pub mod Keeps
 pub mod Along
 pub mod Strength
+pub mod Skips

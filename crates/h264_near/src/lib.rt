@@ -12,6 +12,7 @@ pub mod motion;
 pub mod near;
 pub mod samples;
 pub mod sides;
+pub mod skipped;
 #[cfg(test)]
 mod tests;
 
@@ -20,3 +21,4 @@ pub use motion::{Motion, Vector};
 pub use near::Near;
 pub use samples::Samples;
 pub use sides::{Side, side_of, strength};
+pub use skipped::Skipped;

@@ -1,7 +1,7 @@
 //! The contexts of the macroblocks above and to the left (6.4.9, 6.4.12).
 #![tactic(auto)]
 
-ghost use Rattle.std.specs.Prelude.{◌≡◌, ℕ, suc, ◌+◌, ◌/◌, ◌%◌, ◌<◌, ◌≤◌, List, [], ◌∷◌, ◌++◌, take, length, vec_len, IfOk, is_some};
+ghost use Rattle.std.specs.Prelude.{◌≡◌, ℕ, suc, ◌+◌, ◌/◌, ◌%◌, ◌<◌, ◌≤◌, List, [], ◌∷◌, ◌++◌, take, length, vec_len, IfOk, is_some, None};
 ghost use Rattle.h264_near.specs.Coded.{CodedMacroblock, total_part, chroma_part, mode_part, motion_part, column_of, row_of};
 ghost use Rattle.h264_near.specs.Intra.{with_totals, with_modes, luma_nc, chroma_nc as chroma_nc_of, predicted_mode, block_samples};
 ghost use Rattle.h264_near.specs.Place.{around};
@@ -17,6 +17,7 @@ use crate::lookup::{
 use crate::motion::Motion;
 use crate::samples::Samples;
 use crate::sides::Side;
+use crate::skipped::{Skipped, edge_of};
 use std::alloc::{AllocError, Global};
 
 /// The row of contexts above the next macroblock, the column to its left and the corner.
@@ -32,6 +33,7 @@ pub struct Near {
 
 impl Near {
     ghost use Rattle.h264_near.specs.Keeps.{Keeps, AreContexts, IsEdge, Lower, Right, width_of};
+    ghost use Rattle.h264_near.specs.Skips.{IsSkipped};
 
     /// The contexts of a picture so many macroblocks wide, of which none is decoded.
     pub fn new(alloc: Global, width: usize) -> Result<Near, AllocError>
@@ -56,14 +58,25 @@ impl Near {
         self.above.len()
     }
 
+    /// The next macroblock is the first of a row: there is none to its left.
+    #[inline(always)]
+    fn begin_row(&mut self)
+        ensures above { self.new.above ≡ self.old.above }
+        ensures left { self.new.left ≡ None }
+        ensures corner { self.new.corner ≡ None }
+        ensures column { self.new.column ≡ 0 }
+    {
+        self.left = None;
+        self.corner = None;
+        self.column = 0;
+    }
+
     /// Forgets the macroblocks so far: the next one is the first of a picture.
     pub fn clear(&mut self)
         ensures { Keeps (width_of self.old) [] self.new }
     {
         self.above.fill(None);
-        self.left = None;
-        self.corner = None;
-        self.column = 0;
+        self.begin_row();
     }
 
     #[inline(always)]
@@ -343,9 +356,24 @@ impl Near {
             self.corner = corner;
             self.column += 1;
         } else {
-            self.left = None;
-            self.corner = None;
-            self.column = 0;
+            self.begin_row();
+        }
+    }
+    /// Goes on after a skipped macroblock.
+    #[inline]
+    pub fn push_skipped(&mut self, m: &Skipped)
+        ensures { (width : ℕ) (picture : List CodedMacroblock) (coded : CodedMacroblock) → Keeps width picture self.old → IsSkipped m.now coded →
+            Keeps width (picture ++ coded ∷ []) self.new }
+    {
+        let corner = self.above[self.column];
+        let edge = edge_of(m);
+        self.above[self.column] = Some(edge);
+        if self.column + 1 < self.above.len() {
+            self.left = Some(edge);
+            self.corner = corner;
+            self.column += 1;
+        } else {
+            self.begin_row();
         }
     }
 }

@@ -2,7 +2,7 @@
 #![tactic(auto)]
 
 use crate::block::{column, number, row};
-use crate::{Contexts, Motion, Near, Vector, side_of, strength};
+use crate::{Contexts, Motion, Near, Side, Skipped, Vector, side_of, strength};
 use std::process::Abort;
 use std::test::Fail;
 
@@ -47,6 +47,41 @@ fn pictures(rt: HostRuntime) -> Result<(), Fail> {
     near.clear();
     nothing_is_around(&rt, &near);
     edges_inside(&rt);
+    Ok(())
+}
+
+/// The picture, the index and the vector of a motion.
+fn parts_of(motion: Option<Motion>) -> Option<(u64, u8, i16, i16)> {
+    match motion {
+        None => None,
+        Some(m) => Some((m.picture, m.ref_idx, m.vector.x, m.vector.y)),
+    }
+}
+
+/// The neighbours of a skipped macroblock find its motion in it, and no coefficients.
+#[test]
+fn a_skipped_macroblock_beside(rt: HostRuntime) -> Result<(), Fail> {
+    let mut near = Near::new(rt.alloc(), 2)?;
+    near.push_skipped(&Skipped {
+        slice: 0,
+        qp: 30,
+        motion: MOVED,
+    });
+    assert_eq!(rt; near.nc(0, &[9; 16], 0), 0);
+    assert_eq!(rt; near.mode(0, false, &[9; 16], 2), 2);
+    let beside = near.neighbour(0, &[None; 16], 0, 1);
+    assert_eq!(rt; parts_of(beside.unwrap_or(None)), Some((7, 1, 4, -8)));
+    let side = near.left_side(3);
+    assert!(rt;
+        matches!(
+            side,
+            Some(Side {
+                intra: false,
+                coded: false,
+                motion: _
+            })
+        )
+    );
     Ok(())
 }
 

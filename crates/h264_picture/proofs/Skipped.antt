@@ -1,5 +1,5 @@
 -- Skipped macroblocks: they refer to a picture that there is, and have no levels.
-use Rattle.std.proofs.Common.{◌≡◌, ℕ, suc, zero, List, replicate, Option, Some, None, true, ℤ, refl}
+use Rattle.std.proofs.Common.{◌≡◌, ℕ, suc, zero, List, replicate, Option, Some, None, true, ℤ, refl, sym}
 use Rattle.std.specs.List.{AllByRecursion}
 use Rattle.h264_near.specs.Coded.{CodedMacroblock}
 use Rattle.h264_near.specs.declared.motion.Motion.{Motion}
@@ -11,6 +11,10 @@ use Rattle.std.specs.Option.{is_some, unwrap_or}
 use Rattle.h264_mbsyntax.specs.Residual.{no_coefficients, no_chroma, no_block}
 use Rattle.h264_mbsyntax.specs.Possible.{Refers, IsPossible}
 use Rattle.h264_mbsyntax.specs.Slice.{skipped_of}
+use Rattle.h264_scale.specs.Macroblock.{AreResiduals}
+use Rattle.h264_scale.specs.declared.levels.Levels.{Levels}
+use Rattle.h264_scale.proofs.Whole.{no_luma, no_cb, no_cr}
+use Rattle.h264_recon.specs.Skips.{no_residuals}
 use Rattle.h264_recon.specs.Levels.{levels_of, luma_levels, luma_blocks, chroma_levels, chroma_blocks}
 use Rattle.h264_picture.specs.Levels.{AreNone}
 
@@ -33,3 +37,11 @@ skipped-possible width slice picture v h = all-refer slice (Some (motion_of slic
 pub skipped-none : (offset : ℤ) (slice : SliceContext) (picture : List CodedMacroblock) (v : Vector) → AreNone (levels_of offset (skipped_of slice picture v))
 unfolding levels_of skipped_of coded no_coefficients no_chroma no_block luma_levels luma_blocks chroma_levels chroma_blocks
 skipped-none offset slice picture v = record { y = refl; cb = refl; cr = refl }
+
+-- no levels, no residual
+pub none-residuals : (l : Levels) → AreNone l → AreResiduals l no_residuals
+none-residuals l n = record {
+  y = record { each = λ x y i j. sym (no_luma l x y n.y) };
+  cb = record { each = λ x y i j. sym (no_cb l x y n.cb) };
+  cr = record { each = λ x y i j. sym (no_cr l x y n.cr) };
+}

@@ -7,20 +7,23 @@ ghost use Rattle.h264_plane.specs.Frames.{plane_of};
 ghost use Rattle.h264_plane.specs.declared.frame.Component.{Component};
 ghost use Rattle.h264_near.specs.Coded.{CodedMacroblock};
 ghost use Rattle.h264_near.specs.Keeps.{Keeps, AreContexts};
+ghost use Rattle.h264_near.specs.Skips.{IsSkipped};
 ghost use Rattle.h264_scale.specs.Macroblock.{AreResiduals};
 ghost use Rattle.h264_scale.specs.declared.levels.Levels.{Levels};
 ghost use Rattle.h264_deblock.specs.Steps.{are_alike};
 ghost use Rattle.h264_recon.specs.Inter.{Setting};
 ghost use Rattle.h264_recon.specs.Constructed.{coded as coded_as, IsPossible};
 ghost use Rattle.h264_recon.specs.Lines.{store_of};
+ghost use Rattle.h264_recon.specs.Placed.{weights_by};
 ghost use Rattle.h264_recon.specs.Predicted.{prediction_in};
+ghost use Rattle.h264_recon.specs.Skips.{skipped as skipped_by, prediction_by, no_residuals};
 ghost use Rattle.h264_recon.specs.Pool.{AreShown, AreUsable};
 ghost use Rattle.h264_picture.specs.Decoded.{Parameters, filters, given_by};
 ghost use Rattle.h264_picture.specs.Held.{IsHeld};
 
-use h264_deblock::{Coded, filter_coded};
+use h264_deblock::{Coded, CodedSkip, filter_coded, filter_skipped};
 use h264_plane::{Frame, Pool};
-use h264_recon::{Lines, Macroblock, Position, construct};
+use h264_recon::{Lines, Macroblock, Position, SliceReferences, construct, construct_skipped};
 use h264_scale::Residuals;
 
 /// What follows the prediction of a macroblock.
@@ -67,4 +70,36 @@ pub fn go_on(
 {
     construct(lines, frame, m, finish.residuals, pool, position);
     filter_coded(frame, &finish.coded, position.column, position.row);
+}
+
+/// Goes on by a skipped macroblock at a position, likewise.
+pub fn go_on_skipped(
+    lines: &mut Lines,
+    frame: &mut Frame,
+    coded: &CodedSkip<'_>,
+    references: &SliceReferences<'_>,
+    pool: &Pool,
+    position: Position,
+)
+    requires usable { AreUsable pool.now position.column position.row (prediction_by coded.now.own.now references.now.places.now) }
+    requires y { (16 * position.column + 16 ≤ frame.old.y.width) × (16 * position.row + 16 ≤ frame.old.y.height) }
+    requires cb { (8 * position.column + 8 ≤ frame.old.cb.width) × (8 * position.row + 8 ≤ frame.old.cb.height) }
+    requires cr { (8 * position.column + 8 ≤ frame.old.cr.width) × (8 * position.row + 8 ≤ frame.old.cr.height) }
+    requires small { (position.column < 1024) × (position.row < 1024) }
+    requires y_lines { 16 * position.column + 16 ≤ vec_len lines.old.y.above }
+    requires cb_lines { 8 * position.column + 8 ≤ vec_len lines.old.cb.above }
+    requires cr_lines { 8 * position.column + 8 ≤ vec_len lines.old.cr.above }
+    ensures lines { (p : Component) → vec_len (store_of p lines.new).above ≡ vec_len (store_of p lines.old).above }
+    ensures size { (p : Component) → IsSized (plane_of p frame.new) (plane_of p frame.old).width (plane_of p frame.old).height }
+    ensures held { (k : Setting) (place : ℕ → ℕ) (slices : ℕ → Parameters) (picture : List CodedMacroblock) (q : CodedMacroblock) (l : Levels) →
+        length picture ≡ position.row * k.across + position.column → position.column < k.across → position.row < k.down →
+        AreShown k pool.now (prediction_by coded.now.own.now references.now.places.now) → AreResiduals l no_residuals →
+        skipped_by coded.now.own.now references.now.places.now (weights_by references.now.weights.now) l ≡ given_by k.across picture place (slices q.slice) q →
+        Keeps k.across picture coded.now.near.now → IsSkipped coded.now.own.now q →
+        filters slices q.slice ≡ coded.now.filter.now → ((n : ℕ) → (filters slices
+        n).chroma_qp_index_offset ≡ coded.now.filter.now.chroma_qp_index_offset) → IsHeld k place slices lines.old frame.old picture →
+        IsHeld k place slices lines.new frame.new (picture ++ q ∷ []) }
+{
+    construct_skipped(lines, frame, coded.own, references, pool, position);
+    filter_skipped(frame, coded, position.column, position.row);
 }

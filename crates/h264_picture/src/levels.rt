@@ -23,29 +23,3 @@ pub(crate) fn residuals_of(slice: &SliceContext, mb: &Macroblock, out: &mut Resi
 {
     residuals(mb, slice.chroma_qp_index_offset, out).is_ok()
 }
-
-/// No residual. One for all macroblocks without levels, so that none of them clears its own.
-static NO_RESIDUALS: Residuals = Residuals {
-    y: None,
-    cb: None,
-    cr: None,
-};
-
-/// The residual of a macroblock without levels.
-#[inline]
-fn no_residuals() -> &'static Residuals
-    ensures { (l : Levels) → AreNone l → AreResiduals l result.now }
-{
-    &NO_RESIDUALS
-}
-
-/// The residual of a macroblock: the one that was written last, if it has levels, else none.
-#[inline(always)]
-pub(crate) fn residuals_if(has_levels: bool, written: &Residuals) -> &Residuals
-    ensures { (l : Levels) → (has_levels ≡ true → AreResiduals l written.now) → (has_levels ≡ false → AreNone l) → AreResiduals l result.now }
-{
-    if has_levels {
-        return written;
-    }
-    no_residuals()
-}

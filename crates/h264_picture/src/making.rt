@@ -4,6 +4,7 @@
 ghost use Rattle.std.specs.Prelude.{◌≡◌, ℕ, ◌+◌, ◌*◌, ◌<◌, true, IsTrue, List, length};
 ghost use Rattle.h264_near.specs.Coded.{CodedMacroblock};
 ghost use Rattle.h264_near.specs.Keeps.{Keeps};
+ghost use Rattle.h264_near.specs.Skips.{IsSkipped};
 ghost use Rattle.h264_deblock.specs.Steps.{are_alike};
 ghost use Rattle.h264_mbsyntax.specs.Holds.{HoldsMacroblock};
 ghost use Rattle.h264_mbsyntax.specs.Possible.{IsPossible};
@@ -13,12 +14,12 @@ ghost use Rattle.h264_recon.specs.Levels.{levels_of};
 ghost use Rattle.h264_recon.specs.Placed.{ArePlaced, PointsInto, weights_by};
 ghost use Rattle.h264_recon.specs.Predicted.{prediction_in};
 
-use crate::in_place::{Finish, go_on};
-use crate::levels::{residuals_if, residuals_of};
+use crate::in_place::{Finish, go_on, go_on_skipped};
+use crate::levels::residuals_of;
 use crate::sequence::Sequence;
-use h264_deblock::Coded;
+use h264_deblock::{Coded, CodedSkip};
 use h264_mbsyntax::Macroblock as Read;
-use h264_near::{Motion, Near};
+use h264_near::{Motion, Near, Skipped};
 use h264_recon::{Available, Macroblock, Position, SliceReferences, given, is_whole};
 use h264_vectors::SliceContext;
 
@@ -73,6 +74,14 @@ fn count(motions: &[Option<Motion>; 16]) -> usize
     motions.len()
 }
 
+/// How many places the list of references of a slice has.
+#[inline(always)]
+fn count_references(references: &[Option<u64>; 16]) -> usize
+    ensures { length references.now ≡ 16 }
+{
+    references.len()
+}
+
 /// Whether the blocks of a macroblock that was read are known to move alike.
 #[inline]
 fn moves_as_one(read: &Read) -> bool
@@ -89,8 +98,8 @@ impl Sequence {
     ghost use Rattle.h264_picture.specs.Making.{Making, HasSamples, MakesIn};
     ghost use Rattle.h264_picture.specs.Levels.{transform_fits, AreNone};
 
-    /// Makes the samples of the macroblock in its place, with the residual that was written last if it has levels.
-    pub(crate) fn make(&mut self, slice: &SliceContext, has_levels: bool)
+    /// Makes the samples of the macroblock in its place, with the residual that was written last.
+    fn make(&mut self, slice: &SliceContext)
         requires { self.old.next < self.old.size }
         ensures same { KeepsPlace self.old self.new }
         ensures syntax { KeepsSyntax self.old self.new }
@@ -98,11 +107,9 @@ impl Sequence {
         ensures samples { (width size : ℕ) (making : Option Making) (picture : List CodedMacroblock) (coded : CodedMacroblock) →
             HoldsIn width size picture self.old → HasSamples making picture self.old → MakesIn making slice.now self.old →
             HoldsMacroblock self.old.mb coded → coded.slice ≡ slice.now.number → IsPossible width slice.now picture coded.prediction →
-            (has_levels ≡ true → AreResiduals (levels_of slice.now.chroma_qp_index_offset coded) self.old.residuals) →
-            (has_levels ≡ false → AreNone (levels_of slice.now.chroma_qp_index_offset coded)) → HasSamples making (picture ++ coded ∷ []) self.new }
+            AreResiduals (levels_of slice.now.chroma_qp_index_offset coded) self.old.residuals → HasSamples making (picture ++ coded ∷ []) self.new }
     {
         let (read, near) = (&self.mb, &self.near);
-        let residuals = residuals_if(has_levels, &self.residuals);
         let references = SliceReferences {
             places: &self.places,
             weights: &self.weights,
@@ -118,7 +125,10 @@ impl Sequence {
             whole: moves_as_one(read),
             filter: &self.filter,
         };
-        let finish = Finish { residuals, coded };
+        let finish = Finish {
+            residuals: &self.residuals,
+            coded,
+        };
         let (frame, pool) = (&mut self.frames.frame, &self.frames.pool);
         go_on(&mut self.lines, frame, &m, &finish, pool, position);
     }
@@ -140,7 +150,35 @@ impl Sequence {
         if !residuals_of(slice, &self.mb, &mut self.residuals) {
             return false;
         }
-        self.make(slice, true);
+        self.make(slice);
         true
+    }
+    /// Makes the samples of a skipped macroblock in its place.
+    pub(crate) fn make_skipped(&mut self, slice: &SliceContext, skipped: &Skipped)
+        requires { self.old.next < self.old.size }
+        ensures same { KeepsPlace self.old self.new }
+        ensures syntax { KeepsSyntax self.old self.new }
+        ensures makes { (making : Option Making) → MakesIn making slice.now self.old → MakesIn making slice.now self.new }
+        ensures samples { (width size : ℕ) (making : Option Making) (picture : List CodedMacroblock) (coded : CodedMacroblock) →
+            HoldsIn width size picture self.old → HasSamples making picture self.old → MakesIn making slice.now self.old →
+            IsSkipped skipped.now coded → coded.slice ≡ slice.now.number → IsPossible width slice.now picture coded.prediction →
+            AreNone (levels_of slice.now.chroma_qp_index_offset coded) → HasSamples making (picture ++ coded ∷ []) self.new }
+    {
+        let _all = count_references(&slice.references);
+        let references = SliceReferences {
+            places: &self.places,
+            weights: &self.weights,
+        };
+        let position = Position {
+            column: self.column,
+            row: self.row,
+        };
+        let coded = CodedSkip {
+            near: &self.near,
+            own: skipped,
+            filter: &self.filter,
+        };
+        let (frame, pool) = (&mut self.frames.frame, &self.frames.pool);
+        go_on_skipped(&mut self.lines, frame, &coded, &references, pool, position);
     }
 }

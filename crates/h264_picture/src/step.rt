@@ -9,6 +9,7 @@ use crate::sequence::Sequence;
 use h264_base::{ElementName, Elements, Rule, SliceType, Stop};
 use h264_bits::{Bits, check, look, read_ue};
 use h264_mbsyntax::{Standing, read_macroblock, skip_macroblock};
+use h264_near::Skipped;
 use h264_vectors::{SliceContext, has_picture, skip_vector, vector_fits};
 
 /// Whether a run of skipped macroblocks has its picture.
@@ -49,6 +50,7 @@ impl Sequence {
     ghost use Rattle.std.specs.Prelude.{◌≡◌, ℕ, ◌+◌, ◌-◌, ◌<◌, ◌≤◌, ◌^◌, Option, List, [], ◌∷◌, ◌++◌, length, OnOk, IfOk, true};
     ghost use Rattle.h264_base.specs.Meets.{Meets};
     ghost use Rattle.h264_near.specs.Coded.{CodedMacroblock};
+    ghost use Rattle.h264_near.specs.Skips.{IsSkipped};
     ghost use Rattle.h264_vectors.specs.Agrees.{Usable};
     ghost use Rattle.h264_vectors.specs.declared.slice.SliceContext.{SliceContext as Context};
     ghost use Rattle.h264_mbsyntax.specs.declared.slice.Standing.TheVariants as standings;
@@ -57,6 +59,24 @@ impl Sequence {
     ghost use Rattle.h264_picture.specs.Levels.{transform_fits};
     ghost use Rattle.h264_picture.specs.Holds.{HoldsIn, IsWithin, Moves, KeepsPlace, RefersOn, RefersIf};
     ghost use Rattle.h264_picture.specs.Making.{Making, HasSamples, MakesIn, Reads};
+
+    /// The next macroblock is the one after it.
+    #[inline(always)]
+    fn step_on(&mut self)
+        requires { self.old.next < self.old.size }
+        ensures next { self.new.next ≡ self.old.next + 1 }
+        ensures near { self.new.near ≡ self.old.near }
+        ensures mb { self.new.mb ≡ self.old.mb }
+        ensures size { self.new.size ≡ self.old.size }
+        ensures same { KeepsPlace self.old self.new }
+        ensures samples { (making : Option Making) (picture : List CodedMacroblock) → HasSamples making picture self.old → HasSamples making picture self.new }
+        ensures makes { (making : Option Making) (slice : Context) → MakesIn making slice self.old → MakesIn making slice self.new }
+    {
+        self.next += 1;
+        let (column, row) = place_after(self.across, self.column, self.row);
+        self.column = column;
+        self.row = row;
+    }
 
     /// The macroblock in its place becomes the last one of the picture.
     #[inline]
@@ -72,10 +92,24 @@ impl Sequence {
         ensures mb { self.new.mb ≡ self.old.mb }
     {
         self.near.push(&self.mb.contexts);
-        self.next += 1;
-        let (column, row) = place_after(self.across, self.column, self.row);
-        self.column = column;
-        self.row = row;
+        self.step_on();
+    }
+
+    /// A skipped macroblock becomes the last one of the picture.
+    #[inline]
+    fn keep_skipped(&mut self, skipped: &Skipped)
+        requires { self.old.next < self.old.size }
+        ensures reads { (width size : ℕ) (making : Option Making) (slice : Context) (picture : List CodedMacroblock) (coded : CodedMacroblock) →
+            HoldsIn width size picture self.old → slice.number ≤ length picture → IsSkipped skipped.now coded → skipped.now.qp ≡ self.old.mb.qp →
+            coded.slice ≡ slice.number → HasSamples making (picture ++ coded ∷ []) self.old → MakesIn making slice self.old →
+            Reads width size making slice (picture ++ coded ∷ []) self.new }
+        ensures next { self.new.next ≡ self.old.next + 1 }
+        ensures size { self.new.size ≡ self.old.size }
+        ensures same { KeepsPlace self.old self.new }
+        ensures mb { self.new.mb ≡ self.old.mb }
+    {
+        self.near.push_skipped(skipped);
+        self.step_on();
     }
 
     /// Reads a macroblock that is not skipped.
@@ -138,9 +172,9 @@ impl Sequence {
         let vector = skip_vector(&self.near, slice.number);
         let fits = vector_fits(slice.vector_limit, vector);
         check(fits, Rule::VectorRange, skips.bit)?;
-        skip_macroblock(slice, vector, &mut self.mb);
-        self.make(slice, false);
-        self.keep();
+        let skipped = skip_macroblock(slice, vector, self.mb.qp);
+        self.make_skipped(slice, &skipped);
+        self.keep_skipped(&skipped);
         Ok(Some(Standing::Skipping {
             bit: skips.bit,
             more: skips.more,

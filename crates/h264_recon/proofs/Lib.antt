@@ -20,3 +20,4 @@ pub mod Placed
 pub mod Possible
 pub mod FromLevels
 pub mod Weighted
+pub mod Skips

@@ -15,3 +15,4 @@ pub mod Given
 pub mod Placed
 pub mod Residuals
 pub mod Weighing
+pub mod Skips

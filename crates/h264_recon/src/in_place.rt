@@ -12,21 +12,25 @@ ghost use Rattle.h264_recon.specs.Constructed.{Coded, coded, IsPossibleLuma, IsP
 ghost use Rattle.h264_recon.specs.declared.store.Lines.{Lines};
 ghost use Rattle.h264_recon.specs.Lines.{AreMadeFrom, IsLumaMade, IsChromaMade, AreStored, samples_of, store_of, chroma_plane};
 ghost use Rattle.h264_recon.specs.Predicted.{Intra, Inter, motions_in, prediction_in};
-ghost use Rattle.h264_recon.specs.Placed.{weights_in};
+ghost use Rattle.h264_recon.specs.Placed.{weights_in, weights_by};
 ghost use Rattle.h264_recon.specs.Pool.{AreShown, AreUsable, HaveRoom};
+ghost use Rattle.h264_recon.specs.Skips.{skipped as skipped_by, no_residuals, prediction_by};
 ghost use Rattle.h264_recon.specs.Step.{ArePlaced, AreSaved, HasMacroblock, joined};
 
 use crate::blocks::luma4;
-use crate::inter::predict;
+use crate::input::motion;
+use crate::inter::{predict, predict_whole};
 use crate::intra::{neighbours_chroma, neighbours16};
 use crate::macroblock::{
-    Available, IntraLuma, IntraModes, Macroblock, Motions, Position, Prediction, Weighting,
+    Available, IntraLuma, IntraModes, Macroblock, Motions, Position, Prediction, SliceReferences,
+    Weighting,
 };
 use crate::pcm;
 use crate::store::{Lines, Samples, Store};
-use crate::sum::add;
-use crate::weighing::weigh_all;
+use crate::sum::{add, add_nothing};
+use crate::weighing::{weigh_all, weigh_skipped};
 use h264_intra::{IntraChromaPredMode, predict_chroma as predict_intra_chroma, predict16};
+use h264_near::Skipped;
 use h264_plane::{Component, Frame, Pool};
 use h264_scale::Residuals;
 
@@ -209,4 +213,64 @@ pub fn construct(
     make(m, residuals, lines, pool, position);
     place(frame, position.column, position.row, &lines.last);
     save(lines, position.column);
+}
+
+/// Constructs the samples of a skipped macroblock in the place of those of the one before it.
+#[inline(always)]
+fn make_skipped(
+    skipped: &Skipped,
+    references: &SliceReferences<'_>,
+    lines: &mut Lines,
+    pool: &Pool,
+    position: Position,
+)
+    requires usable { AreUsable pool.now position.column position.row (prediction_by skipped.now references.now.places.now) }
+    requires small { (position.column < 1024) × (position.row < 1024) }
+    ensures made { (k : Setting) (l : Levels) → position.column < k.across → position.row < k.down →
+        AreShown k pool.now (prediction_by skipped.now references.now.places.now) → AreResiduals l no_residuals → AreMadeFrom k position.column position.row
+        (skipped_by skipped.now references.now.places.now (weights_by references.now.weights.now) l) lines.old lines.new.last }
+    ensures above { (p : Component) → (store_of p lines.new).above ≡ (store_of p lines.old).above }
+{
+    let whole = motion(Some(skipped.motion), references.places);
+    let own = &mut lines.last;
+    predict_whole(whole, pool, position.column, position.row, own);
+    weigh_skipped(references.weights, skipped.motion, own);
+    add_nothing::<256>(&mut own.y);
+    add_nothing::<64>(&mut own.cb);
+    add_nothing::<64>(&mut own.cr);
+}
+
+/// Constructs a skipped macroblock at a position in the frame, likewise: prediction from one motion, and no residual.
+pub fn construct_skipped(
+    lines: &mut Lines,
+    frame: &mut Frame,
+    skipped: &Skipped,
+    references: &SliceReferences<'_>,
+    pool: &Pool,
+    position: Position,
+)
+    requires usable { AreUsable pool.now position.column position.row (prediction_by skipped.now references.now.places.now) }
+    requires y { (16 * position.column + 16 ≤ frame.old.y.width) × (16 * position.row + 16 ≤ frame.old.y.height) }
+    requires cb { (8 * position.column + 8 ≤ frame.old.cb.width) × (8 * position.row + 8 ≤ frame.old.cb.height) }
+    requires cr { (8 * position.column + 8 ≤ frame.old.cr.width) × (8 * position.row + 8 ≤ frame.old.cr.height) }
+    requires small { (position.column < 1024) × (position.row < 1024) }
+    requires y_lines { 16 * position.column + 16 ≤ vec_len lines.old.y.above }
+    requires cb_lines { 8 * position.column + 8 ≤ vec_len lines.old.cb.above }
+    requires cr_lines { 8 * position.column + 8 ≤ vec_len lines.old.cr.above }
+    ensures lines { (p : Component) → vec_len (store_of p lines.new).above ≡ vec_len (store_of p lines.old).above }
+    ensures size { (p : Component) → IsSized (plane_of p frame.new) (plane_of p frame.old).width (plane_of p frame.old).height }
+    ensures step { (k : Setting) (l : Levels) (u : Component → ℕ → ℕ → ℕ) → position.column < k.across → position.row < k.down →
+        AreShown k pool.now (prediction_by skipped.now references.now.places.now) → AreResiduals l no_residuals →
+        IsMade k position.column position.row (skipped_by skipped.now references.now.places.now (weights_by references.now.weights.now) l) u →
+        AreStored k.across position.column position.row u lines.old →
+        AreStored k.across (position.column + 1) position.row u lines.new × HasMacroblock position.column position.row u frame.old frame.new }
+    ensures some { (k : Setting) (l : Levels) (u : Component → ℕ → ℕ → ℕ) → position.column < k.across → position.row < k.down →
+        AreShown k pool.now (prediction_by skipped.now references.now.places.now) → AreResiduals l no_residuals →
+        AreStored k.across position.column position.row u lines.old → IsMade k position.column position.row
+        (skipped_by skipped.now references.now.places.now (weights_by references.now.weights.now) l) (joined position.column position.row frame.new u) }
+{
+    make_skipped(skipped, references, lines, pool, position);
+    let Position { column, row } = position;
+    place(frame, column, row, &lines.last);
+    save(lines, column);
 }

@@ -67,7 +67,7 @@ fn modes4(modes: &[u8; 16]) -> [Intra4x4PredMode; 16]
 
 /// A block's motion: its picture is the place that its index names.
 #[inline]
-fn motion(derived: Option<Derived>, places: &[u8; 16]) -> Motion
+pub fn motion(derived: Option<Derived>, places: &[u8; 16]) -> Motion
     ensures { result ≡ placed_motion places.now derived }
 {
     match derived {

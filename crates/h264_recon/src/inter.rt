@@ -216,7 +216,7 @@ fn chroma_quarters<const CR: bool>(
 
 /// Writes the predicted samples of the macroblock at this column and row, all of one motion.
 #[inline(always)]
-fn predict_whole(motion: Motion, pool: &Pool, column: usize, row: usize, own: &mut Samples)
+pub fn predict_whole(motion: Motion, pool: &Pool, column: usize, row: usize, own: &mut Samples)
     requires small { (column < 1024) × (row < 1024) }
     requires room { HaveRoom pool.now column row (replicate 16 motion) }
     ensures y { HasBlock 16 16 own.new.y (from_pool pool.now (replicate 16 motion) column row Y) }

@@ -23,7 +23,7 @@ mod sum;
 mod weighing;
 mod weights;
 
-pub use in_place::construct;
+pub use in_place::{construct, construct_skipped};
 pub use input::{available, given, is_whole};
 pub use macroblock::{
     Available, IntraLuma, IntraModes, Macroblock, Motion, Motions, PlacedMotions, Position,

@@ -29,7 +29,7 @@ fn alone(predicted: u8) -> u8
 
 /// Predicted samples without a residual stay as they are.
 #[inline(always)]
-fn add_nothing<const N: usize>(samples: &mut [u8; N])
+pub fn add_nothing<const N: usize>(samples: &mut [u8; N])
     ensures { (k : ℕ) → k < N → slice_index samples.new k ≡ clip1_of (pos (slice_index samples.old k) +ℤ pos 0) }
 {
     for k in 0..N {

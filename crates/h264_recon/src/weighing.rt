@@ -1,7 +1,7 @@
 //! Weighted samples of a macroblock (8.4.2.3), those of each 4x4 place by the weights of its reference index.
 #![tactic(auto)]
 
-ghost use Rattle.std.specs.Prelude.{◌≡◌, ℕ, ◌+◌, ◌<◌, ◌≤◌, IsTrue, List, length, get_or, Option, None};
+ghost use Rattle.std.specs.Prelude.{◌≡◌, ℕ, ◌+◌, ◌<◌, ◌≤◌, IsTrue, List, length, replicate, get_or, Option, Some, None};
 ghost use Rattle.h264_base.specs.declared.weight.Weights.{Weights};
 ghost use Rattle.std.specs.Option.{ForSome};
 ghost use Rattle.h264_plane.specs.declared.frame.Component.TheVariants.{Y};
@@ -196,6 +196,26 @@ fn weigh_by(
         return;
     }
     weigh_places(&of_places(weights, motions), own);
+}
+
+/// Weighs them by the weights of one motion. A function of its own, likewise.
+#[inline(never)]
+fn weigh_one(weights: &[Option<Weights>; 16], motion: Derived, own: &mut Samples)
+    requires { EachInRange weights.now }
+    ensures { AreAllWeighted (replicate 16 (index_weights weights.now (Some motion))) own.old own.new }
+{
+    weigh_whole(of_motion(weights, Some(motion)), own);
+}
+
+/// Weighs the predicted samples of a skipped macroblock of a slice with these weights, all of whose blocks are predicted from one motion.
+#[inline(always)]
+pub fn weigh_skipped(weights: &SliceWeights, motion: Derived, own: &mut Samples)
+    ensures { AreAllWeighted (replicate 16 (index_weights (weights_by weights.now) (Some motion))) own.old own.new }
+{
+    match &weights.by_index {
+        None => {}
+        Some(weights) => weigh_one(weights, motion, own),
+    }
 }
 
 /// Weighs the predicted samples of a macroblock.

@@ -1,6 +1,16 @@
-use Rattle.std.proofs.Common.{refl}
-use Rattle.h264_mbsyntax.proofs.Holding.{holds-skipped}
+use Rattle.std.proofs.Common.{Some, replicate, refl, ap, sym}
+use Rattle.h264_near.specs.Coded.{Inter}
+use Rattle.h264_mbsyntax.specs.Macroblock.{coded}
+use Rattle.h264_mbsyntax.specs.Residual.{no_coefficients, no_chroma, no_block}
+use Rattle.h264_mbsyntax.specs.Slice.{skipped_of}
 use Rattle.h264_mbsyntax.proofs.skip.skip_macroblock.Goals as goal
 
 pub returns-clause-holds : goal.returns-clause-holds
-returns-clause-holds c picture p = let x = c.inter_contexts-mb.ensures in holds-skipped _ c.args.slice.now picture c.args.vector refl (rw c.motion_of-motion.ensures at x.motions) x.modes x.slice x.intra x.qp x.totals x.chroma_totals refl refl p
+unfolding skipped_of coded no_coefficients no_chroma no_block
+returns-clause-holds c picture p = record {
+  slice = refl;
+  prediction = ap (λ m. Inter (replicate 16 (Some m))) (sym c.motion_of.ensures);
+  qp = sym p;
+  totals = refl;
+  chroma_totals = refl;
+}

@@ -22,4 +22,4 @@ returns-else-self-len c width picture coded k s =
     let n = sym c.args.self.now.above.ok.0 in
     let a : length c.args.m.now.totals ≡ 16 = omega arith in
     let b : length c.args.m.now.chroma_totals ≡ 8 = omega arith in
-    goes-round width picture coded some c.args.self.now _ _ k c.args.self.now.within (omega arith) refl refl refl refl refl n (lower-edge _ coded s a b _ refl refl refl refl refl refl refl)
+    goes-round width picture coded some c.args.self.now _ _ k c.args.self.now.within (omega arith) (rw c.begin_row.ensures.above refl) (rw c.begin_row.ensures.above refl) c.begin_row.ensures.left c.begin_row.ensures.corner c.begin_row.ensures.column n (lower-edge _ coded s a b _ refl refl refl refl refl refl refl)

@@ -42,8 +42,8 @@ pub invariant_of-self-2-clause-sound : goal.invariant_of-self-2-clause-sound
 invariant_of-self-2-clause-sound c = made _ _ _ _ _ _ _ _ _ c.args.self.now.sound c.requires _ _ c.go_on.ensures.lines c.args.self.now.frames.within.0 c.go_on.ensures.size refl refl
 
 pub returns-clause-samples : goal.returns-clause-samples
-returns-clause-samples c width size None picture coded h s m r e p a b = tt
-returns-clause-samples c width size (Some making) picture coded h s m r e p a b =
+returns-clause-samples c width size None picture coded h s m r e p a = tt
+returns-clause-samples c width size (Some making) picture coded h s m r e p a =
     let old = c.args.self.now in
     let slice = c.args.slice.now in
     let w = h.columns in
@@ -51,7 +51,7 @@ returns-clause-samples c width size (Some making) picture coded h s m r e p a b 
     let n' : length picture ≡ old.row * width + old.column = subst (λ x. length picture ≡ old.row * x + old.column) w n in
     let i : old.column < width = subst (λ x. old.column < x) w old.sound.column in
     let is = c.given_within-m.ensures.given width picture making.place coded w h.keeps n' i r e p m.placed in
-    c.go_on.ensures.held (setting_of old) making.place making.slices picture coded (levels_of slice.chroma_qp_index_offset coded) n old.sound.column (in-rows _ _ _ _ _ _ _ _ _ old.sound c.requires) (are-shown old _ c.given_within-m.ensures.points) (c.residuals_if-residuals.ensures (levels_of slice.chroma_qp_index_offset coded) a b)
+    c.go_on.ensures.held (setting_of old) making.place making.slices picture coded (levels_of slice.chroma_qp_index_offset coded) n old.sound.column (in-rows _ _ _ _ _ _ _ _ _ old.sound c.requires) (are-shown old _ c.given_within-m.ensures.points) a
     (possible width slice picture making.place (weights_by old.weights) slice.chroma_qp_index_offset coded old.column old.row _ n' i e p is)
     (given-by old.across width picture making slice old coded _ w m e is) (c.moves_as_one.ensures coded r)
     (subst (λ x. Keeps x picture old.near) (sym w) h.keeps) r.contexts (filter-by making slice old coded m e) m.offsets s
