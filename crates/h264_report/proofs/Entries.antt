@@ -94,7 +94,7 @@ no-rule label h rules.NoPicture = h.1.1.1.1.1.1.1.1.1.1.1.1.1.1.1.1.1.1.1.1.1.1.
 abbrev all_further : List StrictRule
 all_further =
     further.ReservedBits ∷ further.AspectRatio ∷ further.VideoFormat ∷ further.ColourPrimaries ∷ further.TransferCharacteristics ∷ further.MatrixCoefficients ∷ further.ChromaLocation ∷ further.Timing ∷ further.Restriction ∷ further.OperationsExclude ∷ further.IdrCount ∷ further.SetRefIdc ∷ further.DelimiterFirst ∷ further.FillerFirst ∷ further.AfterEndOfStream
-    ∷ further.Level1b ∷ further.ReservedConstraint ∷ further.DirectInference ∷ further.LowDelay ∷ further.UnitLength ∷ further.EndFirst ∷ further.LongTermReference ∷ further.Weights ∷ further.FrameNumRepeated ∷ further.CountRepeated ∷ further.Reorder ∷ further.VectorCount ∷ further.FrameRate ∷ further.ScheduleOrder ∷ further.ScheduleLimits ∷ further.CommonFactor ∷ further.PictureBytes ∷ further.SeiSizes ∷ further.DelimiterBits ∷ further.FillerBytes ∷ further.ZeroByte ∷ further.DelimiterType
+    ∷ further.Level1b ∷ further.ReservedConstraint ∷ further.DirectInference ∷ further.LowDelay ∷ further.UnitLength ∷ further.EndFirst ∷ further.LongTermReference ∷ further.Weights ∷ further.FrameNumRepeated ∷ further.CountRepeated ∷ further.Reorder ∷ further.VectorCount ∷ further.FrameRate ∷ further.ScheduleOrder ∷ further.ScheduleLimits ∷ further.CommonFactor ∷ further.PictureBytes ∷ further.SeiSizes ∷ further.DelimiterBits ∷ further.FillerBytes ∷ further.ZeroByte ∷ further.DelimiterType ∷ further.SeiContent
     ∷ []
 
 -- these further rules have other labels
@@ -141,6 +141,7 @@ no-further label h further.DelimiterBits = h.1.1.1.1.1.1.1.1.1.1.1.1.1.1.1.1.1.1
 no-further label h further.FillerBytes = h.1.1.1.1.1.1.1.1.1.1.1.1.1.1.1.1.1.1.1.1.1.1.1.1.1.1.1.1.1.1.1.1.1.1.0
 no-further label h further.ZeroByte = h.1.1.1.1.1.1.1.1.1.1.1.1.1.1.1.1.1.1.1.1.1.1.1.1.1.1.1.1.1.1.1.1.1.1.1.0
 no-further label h further.DelimiterType = h.1.1.1.1.1.1.1.1.1.1.1.1.1.1.1.1.1.1.1.1.1.1.1.1.1.1.1.1.1.1.1.1.1.1.1.1.0
+no-further label h further.SeiContent = h.1.1.1.1.1.1.1.1.1.1.1.1.1.1.1.1.1.1.1.1.1.1.1.1.1.1.1.1.1.1.1.1.1.1.1.1.1.0
 
 pub further-none : (A : Type 0) (found : Option A) (label : List ℕ) → IfNone found (HaveOtherFurther label all_further) → IfNone found ((rule : StrictRule) → further_label_of rule ≡ label → ⊥)
 further-none A None label h = no-further label h

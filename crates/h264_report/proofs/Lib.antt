@@ -1,3 +1,8 @@
+pub mod SeiParts
+pub mod SeiReading
+pub mod SeiListed
+pub mod SeiClosing
+pub mod SeiDelays
 pub mod Known
 pub mod Counted
 pub mod PlaneRows
@@ -19,4 +24,4 @@ pub mod Broken
 pub mod Factors
 pub mod Reading
 pub mod Units
-pub mod Messages
+pub mod Contents

@@ -8,10 +8,10 @@ use Rattle.h264_base.specs.declared.stop.Stop.TheVariants.{No, Outside, Memory, 
 use Rattle.h264_units.specs.Stream.{NalUnit, Next, past, HasTail, Splits, Tail, Zeros, IsUndecided}
 use Rattle.h264_units.specs.Splitting.{Splitting, at_start, Pushed, PushStops, Refused, Taken, Finished, FinishStops}
 use Rattle.h264_report.specs.Strict.{with_places, bits_for, places, start}
-use Rattle.h264_report.specs.StrictBytes.{broken_unit}
+use Rattle.h264_report.specs.StrictContent.{bits_by_bytes}
 use Rattle.h264_report.specs.StrictRules.{listed}
 use Rattle.h264_report.specs.StrictExtent.{is_whole, cut_off, extent_after, extent_of}
-use Rattle.h264_report.specs.StrictStarts.{no_units, after_unit, after_units, by_zero_byte, by_pic_type, broken_after, places_in, told_of_units, noted_in, NotesUnit}
+use Rattle.h264_report.specs.StrictStarts.{no_units, after_unit, after_units, by_zero_byte, by_pic_type, broken_after, unit_bits, places_in, told_of_units, noted_in, NotesUnit}
 use Rattle.h264_report.specs.StrictUnits.{BeginWith, AreRefused, SplitsToStop, TookBytes, TellsOfBytes}
 use Rattle.h264_report.specs.declared.strict.Places.{Places}
 use Rattle.h264_report.specs.declared.strict_extent.Extent.{Extent}
@@ -38,19 +38,19 @@ after-more s [] unit = refl
 after-more s (u ∷ us) unit = after-more (after_unit s u) us unit
 
 places-more : (rule : StrictRule) (s : UnitsBefore) (units : List NalUnit) (unit : NalUnit) →
-    places_in rule s (units ++ unit ∷ []) ≡ places_in rule s units ++ bits_for rule (8 * unit.from) (broken_after (after_units s units) unit)
+    places_in rule s (units ++ unit ∷ []) ≡ places_in rule s units ++ unit_bits rule (after_units s units) unit
 unfolding places_in after_units
 places-more rule s [] unit = append-nil _
 places-more rule s (u ∷ us) unit =
-    let first = bits_for rule (8 * u.from) (broken_after s u) in
+    let first = unit_bits rule s u in
     ap (λ l. first ++ l) (places-more rule (after_unit s u) us unit)
-    ∙ sym (append_assoc first (places_in rule (after_unit s u) us) (bits_for rule (8 * unit.from) (broken_after (after_units (after_unit s u) us) unit)))
+    ∙ sym (append_assoc first (places_in rule (after_unit s u) us) (unit_bits rule (after_units (after_unit s u) us) unit))
 
 told-more : (rule : StrictRule) (units : List NalUnit) (unit : NalUnit) →
-    told_of_units rule (units ++ unit ∷ []) ≡ with_places (told_of_units rule units) (bits_for rule (8 * unit.from) (broken_after (after_units no_units units) unit))
+    told_of_units rule (units ++ unit ∷ []) ≡ with_places (told_of_units rule units) (unit_bits rule (after_units no_units units) unit)
 told-more rule units unit =
     ap (λ l. with_places None l) (places-more rule no_units units unit)
-    ∙ with-more (places_in rule no_units units) (bits_for rule (8 * unit.from) (broken_after (after_units no_units units) unit)) None
+    ∙ with-more (places_in rule no_units units) (unit_bits rule (after_units no_units units) unit) None
 
 before-more : (old new : UnitsNoted) (units : List NalUnit) (unit : NalUnit) → old.before ≡ after_units no_units units → NotesUnit old unit new →
     new.before ≡ after_units no_units (units ++ unit ∷ [])
@@ -61,22 +61,22 @@ tells-more : (old new : UnitsNoted) (units : List NalUnit) (unit : NalUnit) → 
     (rule : StrictRule) → noted_in new.found rule ≡ told_of_units rule (units ++ unit ∷ [])
 tells-more old new units unit before tells notes rule =
     notes.1 rule
-    ∙ ap₂ (λ p s. with_places p (bits_for rule (8 * unit.from) (broken_after s unit))) (tells rule) before
+    ∙ ap₂ (λ p s. with_places p (unit_bits rule s unit)) (tells rule) before
     ∙ sym (told-more rule units unit)
 
--- ---- three rules of a unit
+-- ---- the rules of a unit
 
-pub notes-three : (old first second third : List (Option Places)) (s : UnitsBefore) (unit : NalUnit) (bit : ℕ) (a b c : Option StrictRule) → bit ≡ 8 * unit.from →
-    a ≡ broken_unit unit → b ≡ by_zero_byte s unit → c ≡ by_pic_type s unit →
-    ((r : StrictRule) → noted_in first r ≡ with_places (noted_in old r) (bits_for r bit (listed a))) →
+pub notes-all : (old first second third : List (Option Places)) (s : UnitsBefore) (unit : NalUnit) (bit : ℕ) (b c : Option StrictRule) → bit ≡ 8 * unit.from →
+    b ≡ by_zero_byte s unit → c ≡ by_pic_type s unit →
+    ((r : StrictRule) → noted_in first r ≡ with_places (noted_in old r) (bits_by_bytes r s.set unit)) →
     ((r : StrictRule) → noted_in second r ≡ with_places (noted_in first r) (bits_for r bit (listed b))) →
     ((r : StrictRule) → noted_in third r ≡ with_places (noted_in second r) (bits_for r bit (listed c))) →
-    (r : StrictRule) → noted_in third r ≡ with_places (noted_in old r) (bits_for r (8 * unit.from) (broken_after s unit))
-notes-three old first second third s unit bit a b c at is-a is-b is-c one two three r =
-    noted-more r bit (noted_in old r) (noted_in second r) (noted_in third r) (listed a ++ listed b) (listed c)
-    (noted-more r bit (noted_in old r) (noted_in first r) (noted_in second r) (listed a) (listed b) (one r) (two r)) (three r)
-    ∙ ap₂ (λ n l. with_places (noted_in old r) (bits_for r n (l ++ listed c))) at (ap₂ (λ x y. listed x ++ listed y) is-a is-b)
-    ∙ ap (λ x. with_places (noted_in old r) (bits_for r (8 * unit.from) ((listed (broken_unit unit) ++ listed (by_zero_byte s unit)) ++ listed x))) is-c
+    (r : StrictRule) → noted_in third r ≡ with_places (noted_in old r) (unit_bits r s unit)
+notes-all old first second third s unit bit b c at is-b is-c one two three r =
+    noted-more r bit (noted_in first r) (noted_in second r) (noted_in third r) (listed b) (listed c) (two r) (three r)
+    ∙ ap₂ (λ n l. with_places (noted_in first r) (bits_for r n l)) at (ap₂ (λ x y. listed x ++ listed y) is-b is-c)
+    ∙ ap (λ p. with_places p (bits_for r (8 * unit.from) (broken_after s unit))) (one r)
+    ∙ sym (with-more (bits_by_bytes r s.set unit) (bits_for r (8 * unit.from) (broken_after s unit)) (noted_in old r))
 
 -- ---- how far a reader looks
 

@@ -21,8 +21,14 @@ pub mod StrictSets
 pub mod StrictVectors
 pub mod StrictPictures
 pub mod Strict
-pub mod StrictSei
+pub mod SeiPart
+pub mod SeiContent
+pub mod Sei
+pub mod SeiMessages
+pub mod SeiTiming
+pub mod SeiPayload
 pub mod StrictBytes
+pub mod StrictContent
 pub mod StrictStarts
 pub mod StrictExtent
 pub mod StrictUnits

@@ -42,6 +42,7 @@ place_of rules.DelimiterBits = 33
 place_of rules.FillerBytes = 34
 place_of rules.ZeroByte = 35
 place_of rules.DelimiterType = 36
+place_of rules.SeiContent = 37
 
 unfoldable pub label_of : StrictRule → List ℕ
 label_of rules.ReservedBits = codes "ReservedBits"
@@ -81,6 +82,7 @@ label_of rules.DelimiterBits = codes "DelimiterBits"
 label_of rules.FillerBytes = codes "FillerBytes"
 label_of rules.ZeroByte = codes "ZeroByte"
 label_of rules.DelimiterType = codes "DelimiterType"
+label_of rules.SeiContent = codes "SeiContent"
 
 -- the clause of H.264 that states it
 unfoldable pub clause_of : StrictRule → List ℕ
@@ -121,6 +123,7 @@ clause_of rules.DelimiterBits = codes "7.3.2.4"
 clause_of rules.FillerBytes = codes "7.3.2.7"
 clause_of rules.ZeroByte = codes "B.1.2"
 clause_of rules.DelimiterType = codes "7.4.2.4"
+clause_of rules.SeiContent = codes "D.1"
 
 -- a rule, if it is broken
 abbrev pub broken_if : Bool → StrictRule → Option StrictRule

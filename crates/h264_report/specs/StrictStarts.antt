@@ -2,8 +2,10 @@
 use Rattle.std.specs.Prelude.{◌≡◌, ℕ, ◌*◌, ◌-◌, ◌/◌, ◌==◌, ◌&&◌, ◌||◌, Bool, false, not, nat_lt, nat_le, if◌then◌else◌}
 use Rattle.std.specs.Prelude.{List, [], ◌∷◌, ◌++◌, Option, None, get_or}
 use Rattle.h264_units.specs.Stream.{NalUnit, past}
+use Rattle.h264_report.specs.declared.sei.timing.KnownSet.TheVariants.{NotYet}
 use Rattle.h264_report.specs.Strict.{begins_access_unit, bits_for, with_places}
-use Rattle.h264_report.specs.StrictBytes.{kind_of, broken_unit}
+use Rattle.h264_report.specs.StrictBytes.{kind_of}
+use Rattle.h264_report.specs.StrictContent.{bits_by_bytes, set_after}
 use Rattle.h264_report.specs.StrictRules.{broken_if, listed, place_of}
 use Rattle.h264_report.specs.declared.strict.Places.{Places}
 use Rattle.h264_report.specs.declared.strict_rule.StrictRule.{StrictRule}
@@ -13,7 +15,7 @@ use Rattle.h264_report.specs.declared.strict_starts.UnitsNoted.{UnitsNoted}
 
 -- before the first unit
 abbrev pub no_units : UnitsBefore
-no_units = record { past = 0; begun = false; pic_type = 7 }
+no_units = record { past = 0; begun = false; pic_type = 7; set = NotYet }
 
 -- ---- the first unit of an access unit (7.4.1.2.3)
 
@@ -86,6 +88,7 @@ after_unit s unit = record {
   past = past unit;
   begun = begins_access_unit (kind_of unit) || s.begun && not (is_slice (kind_of unit));
   pic_type = pic_type_after s (kind_of unit) unit.body;
+  set = set_after s.set unit;
 }
 
 unfoldable pub after_units : UnitsBefore → List NalUnit → UnitsBefore
@@ -99,12 +102,16 @@ abbrev pub by_pic_type : UnitsBefore → NalUnit → Option StrictRule
 by_pic_type s unit = broken_if (breaks_pic_type s (kind_of unit) unit.body) rules.DelimiterType
 
 abbrev pub broken_after : UnitsBefore → NalUnit → List StrictRule
-broken_after s unit = (listed (broken_unit unit) ++ listed (by_zero_byte s unit)) ++ listed (by_pic_type s unit)
+broken_after s unit = listed (by_zero_byte s unit) ++ listed (by_pic_type s unit)
 
--- the first bits of the units that break the rule
+-- where a unit breaks the rule
+abbrev pub unit_bits : StrictRule → UnitsBefore → NalUnit → List ℕ
+unit_bits rule s unit = bits_by_bytes rule s.set unit ++ bits_for rule (8 * unit.from) (broken_after s unit)
+
+-- where the units break the rule
 unfoldable pub places_in : StrictRule → UnitsBefore → List NalUnit → List ℕ
 places_in rule s [] = []
-places_in rule s (unit ∷ units) = bits_for rule (8 * unit.from) (broken_after s unit) ++ places_in rule (after_unit s unit) units
+places_in rule s (unit ∷ units) = unit_bits rule s unit ++ places_in rule (after_unit s unit) units
 
 -- what is told of a rule after these units
 abbrev pub told_of_units : StrictRule → List NalUnit → Option Places
@@ -120,4 +127,4 @@ noted_in found rule = get_or found (place_of rule) None
 abbrev pub NotesUnit : UnitsNoted → NalUnit → UnitsNoted → Type 0
 NotesUnit old unit new =
     (new.before ≡ after_unit old.before unit)
-    × ((rule : StrictRule) → noted_in new.found rule ≡ with_places (noted_in old.found rule) (bits_for rule (8 * unit.from) (broken_after old.before unit)))
+    × ((rule : StrictRule) → noted_in new.found rule ≡ with_places (noted_in old.found rule) (unit_bits rule old.before unit))

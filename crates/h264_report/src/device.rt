@@ -22,6 +22,10 @@ pub trait Device {
     /// Whether it may hold back bytes that it took, and hand them over later.
     ghost holds_back: { Self → Bool };
 
+    /// Tells whether it has failed.
+    fn did_fail(&self) -> bool
+        ensures { result ≡ has_failed self.now };
+
     /// Takes some of these bytes, and tells how many. It may hold them back.
     ///
     /// Failed: the device failed. It then holds what it held before.
@@ -76,6 +80,10 @@ impl<W: Write + Drop> Device for WriteDevice<W> {
     ghost has_failed = { λ d. d.failed };
 
     ghost holds_back = { λ d. d.held_back };
+
+    fn did_fail(&self) -> bool {
+        self.failed
+    }
 
     fn send_some(&mut self, bytes: &[u8]) -> Result<usize, Failed> {
         self.held_back = true;

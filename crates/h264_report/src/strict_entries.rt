@@ -301,6 +301,15 @@ const ENTRIES: [StrictEntry; STRICT_RULES] = [
         cause: "One delimiter was written before all pictures. 09 10 promises I slices alone, 09 30 P slices too, and 09 F0 any.",
         example: "a delimiter 09 70, which promises SI slices alone, and an I slice",
     },
+    StrictEntry {
+        rule: StrictRule::SeiContent,
+        breaks: "A message of SEI whose payloadType is 0 to 6, 9 to 17, 20, 21, 45, 47, 137, 144 or 147 is not as its syntax says: an element is missing or \
+            out of its range, or the elements and the bits that close them are not payloadSize bytes.",
+        bit: "The first bit of the message.",
+        cause: "The last byte of the payload was left as it was: after the elements come a 1 and then zeros, and nothing where they end with a byte. Or \
+            payloadSize was made for another message.",
+        example: "a recovery_point() whose changing_slice_group_idc is 3",
+    },
 ];
 
 /// The first of these entries whose rule has this label.

@@ -9,11 +9,12 @@ ghost use Rattle.h264_verify.specs.Units.{terms_of};
 ghost use Rattle.h264_verify.specs.Verdict.{Judged};
 ghost use Rattle.h264_report.specs.StrictUnits.{TellsOfBytes};
 
-use crate::strict_source::UnitSource;
+use crate::strict_source::{Inside, Lent, UnitSource};
 use crate::strict_units::UnitsRead;
 use h264_base::{Mode, Stop, Target};
 use h264_verify::{FrameSink, Source, Summary, run};
 use std::alloc::Global;
+use std::marker::Brand;
 
 /// What came of a stream.
 #[derive(Clone, Copy)]
@@ -21,6 +22,35 @@ pub struct StrictJudgement {
     pub answer: Result<Summary, Stop>,
     /// What its units break by their bytes.
     pub units: UnitsRead,
+}
+
+/// Judges the stream that a source gives, for this target, and reads the units of the bytes that it gave: the source, and what came of both.
+fn judge_inside<'a, K: Inside, R: Source, S: FrameSink>(
+    alloc: Global,
+    lent: Lent<'a, R>,
+    sink: &mut S,
+    mode: Mode,
+    target: Target,
+) -> (Lent<'a, R>, StrictJudgement)
+    requires name { lent.source.ghost_name ≡ K.name }
+    requires sink { HasRoom S.failures sink.old }
+    requires source { HasRoom R.failures lent.source.now }
+    ensures same_reference { result.0.source.ghost_name ≡ K.name }
+    ensures verdict { (bytes : List ℕ) → R.left lent.entry.source.now ≡ Some bytes → (frames : ℕ → Frame) →
+        Judged (terms_of mode target) S.took S.failures bytes frames [] sink.old sink.new result.1.answer }
+    ensures units { (bytes : List ℕ) × (ended : Bool) × AreFirst (R.left lent.entry.source.now) bytes ended × OnOk result.1.answer (ended ≡ true)
+        × ((frames : ℕ → Frame) → Judged (terms_of mode target) S.took S.failures bytes frames [] sink.old sink.new result.1.answer)
+        × TellsOfBytes result.1.units.extent ended result.1.units.found bytes }
+    ensures read { IsErrOf result.1.answer Stop.Read → (R.failures result.0.source.now ≡ R.failures lent.entry.source.now + 1)
+        ⊎ ((n : ℕ) → R.was_read lent.entry.source.now n → R.was_read result.0.source.now (n + 2 ^ 41)) }
+    ensures read_told { (R.failures result.0.source.now ≡ R.failures lent.entry.source.now) ⊎ IsErrOf result.1.answer Stop.Read }
+    ensures write { IsErrOf result.1.answer Stop.Write → S.failures sink.new ≡ S.failures sink.old + 1 }
+    ensures write_told { (IsQuiet S.failures sink.old sink.new) ⊎ IsErrOf result.1.answer Stop.Write }
+{
+    let mut inside: UnitSource<'a, R, K> = UnitSource::new(alloc, lent);
+    let answer = run(alloc, &mut inside, sink, mode, target);
+    let (lent, units) = inside.finish();
+    (lent, StrictJudgement { answer, units })
 }
 
 /// The verdict on the stream that a source gives, for this target, and what the units of the bytes that it gave break by their bytes.
@@ -41,14 +71,15 @@ pub fn judge_strictly<R: Source, S: FrameSink>(
     ensures units { (bytes : List ℕ) × (ended : Bool) × AreFirst (R.left source.old) bytes ended × OnOk result.answer (ended ≡ true)
         × ((frames : ℕ → Frame) → Judged (terms_of mode target) S.took S.failures bytes frames [] sink.old sink.new result.answer)
         × TellsOfBytes result.units.extent ended result.units.found bytes }
+    ensures read { IsErrOf result.answer Stop.Read → (R.failures source.new ≡ R.failures source.old + 1)
+        ⊎ ((n : ℕ) → R.was_read source.old n → R.was_read source.new (n + 2 ^ 41)) }
+    // A read that failed is told as Read.
+    ensures read_told { (IsQuiet R.failures source.old source.new) ⊎ IsErrOf result.answer Stop.Read }
     ensures write { IsErrOf result.answer Stop.Write → S.failures sink.new ≡ S.failures sink.old + 1 }
     // A write that failed is told as Write.
     ensures write_told { (IsQuiet S.failures sink.old sink.new) ⊎ IsErrOf result.answer Stop.Write }
 {
-    let mut units = UnitSource::new(alloc, source);
-    let answer = run(alloc, &mut units, sink, mode, target);
-    StrictJudgement {
-        answer,
-        units: units.finish(),
-    }
+    let lent = Lent { source };
+    let (_, judgement) = judge_inside::<Brand, R, S>(alloc, lent, sink, mode, target);
+    judgement
 }

@@ -81,6 +81,8 @@ pub enum StrictRule {
     ZeroByte,
     /// A picture has no slice that the primary_pic_type of its delimiter leaves out (7.4.2.4).
     DelimiterType,
+    /// A message of SEI is as its syntax says, with values in their ranges (D.1, D.2).
+    SeiContent,
 }
 
 /// Every rule, by its place.
@@ -122,10 +124,11 @@ pub const EVERY_STRICT_RULE: [StrictRule; STRICT_RULES] = [
     StrictRule::FillerBytes,
     StrictRule::ZeroByte,
     StrictRule::DelimiterType,
+    StrictRule::SeiContent,
 ];
 
 /// How many rules there are.
-pub const STRICT_RULES: usize = 37;
+pub const STRICT_RULES: usize = 38;
 
 impl StrictRule {
     /// Its place among them, from 0.
@@ -172,6 +175,7 @@ impl StrictRule {
             StrictRule::FillerBytes => 34,
             StrictRule::ZeroByte => 35,
             StrictRule::DelimiterType => 36,
+            StrictRule::SeiContent => 37,
         }
     }
 
@@ -218,6 +222,7 @@ impl StrictRule {
             StrictRule::FillerBytes => "FillerBytes",
             StrictRule::ZeroByte => "ZeroByte",
             StrictRule::DelimiterType => "DelimiterType",
+            StrictRule::SeiContent => "SeiContent",
         }
     }
 
@@ -264,6 +269,7 @@ impl StrictRule {
             StrictRule::FillerBytes => "7.3.2.7",
             StrictRule::ZeroByte => "B.1.2",
             StrictRule::DelimiterType => "7.4.2.4",
+            StrictRule::SeiContent => "D.1",
         }
     }
 }

@@ -3,9 +3,11 @@
 
 ghost use Rattle.std.specs.Prelude.{◌≡◌};
 ghost use Rattle.h264_report.specs.Strict.{begins_access_unit};
+ghost use Rattle.h264_report.specs.StrictContent.{set_after};
 ghost use Rattle.h264_report.specs.StrictStarts.{no_units, is_slice, first_byte, begins_picture, is_first, needs_zero_byte, has_zero_byte, lacks_zero_byte};
 ghost use Rattle.h264_report.specs.StrictStarts.{told_pic_type, pic_type_after, is_left_out, breaks_pic_type, after_unit, by_zero_byte, by_pic_type};
 
+use crate::sei::KnownSet;
 use crate::strict::Places;
 use crate::strict_bytes::kind_of;
 use crate::strict_rule::{STRICT_RULES, StrictRule, broken_if};
@@ -24,6 +26,8 @@ pub struct UnitsBefore {
     pub begun: bool,
     /// The primary_pic_type of the access unit.
     pub pic_type: u8,
+    /// The sequence parameter set that messages need.
+    pub set: KnownSet,
 }
 
 /// What a reader of units noted so far.
@@ -97,6 +101,7 @@ impl UnitsBefore {
             past: 0,
             begun: false,
             pic_type: EVERY_SLICE,
+            set: KnownSet::NotYet,
         }
     }
 
@@ -159,8 +164,9 @@ impl UnitsBefore {
         )
     }
 
-    /// With one more unit.
-    pub(crate) fn after(self, unit: &NalUnit) -> UnitsBefore
+    /// With one more unit, and the set that is known after it.
+    pub(crate) fn after(self, unit: &NalUnit, set: KnownSet) -> UnitsBefore
+        requires { set ≡ set_after self.set unit.now }
         ensures { result ≡ after_unit self unit.now }
     {
         let kind = kind_of(unit);
@@ -169,6 +175,7 @@ impl UnitsBefore {
             past: unit.from() + body.len() as u64,
             begun: begins_access_unit(kind) || self.begun && !is_slice(kind),
             pic_type: self.pic_type_after(kind, body),
+            set,
         }
     }
 }

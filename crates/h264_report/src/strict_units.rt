@@ -3,18 +3,17 @@
 
 ghost use Rattle.std.specs.Prelude.{◌≡◌, ℕ, ◌+◌, ◌*◌, ◌≤◌, ◌<◌, ◌++◌, true, false, List, [], length, take, None, IsFalse, IfOk, IfErr, OnOk, OnErr};
 ghost use Rattle.h264_base.specs.declared.stop.Stop.{Stop};
-ghost use Rattle.h264_report.specs.StrictBytes.{broken_unit};
 ghost use Rattle.h264_report.specs.StrictStarts.{NotesUnit, noted_in};
 ghost use Rattle.h264_report.specs.StrictUnits.{TookBytes, TellsOfBytes};
 ghost use Rattle.h264_report.specs.declared.strict_extent.Extent.TheVariants.{Whole};
 
+use crate::sei::after;
 use crate::strict::{Places, note_in};
-use crate::strict_bytes::{after, by_rbsp, is_judged, kind_of};
+use crate::strict_content::note_bytes;
 use crate::strict_extent::{Extent, extent_after, extent_of};
 use crate::strict_rule::{STRICT_RULES, StrictRule};
 use crate::strict_starts::{UnitsBefore, UnitsNoted};
 use h264_base::Stop;
-use h264_rbsp::Rbsp;
 use h264_units::{NalUnit, Splitter};
 use std::alloc::Global;
 
@@ -47,33 +46,19 @@ impl UnitsRead {
     }
 }
 
-/// The rule that a unit breaks by its bytes. The one error is `Stop::Memory`.
-fn broken_unit(alloc: Global, unit: &NalUnit) -> Result<Option<StrictRule>, Stop>
-    ensures broken { IfOk result (λ rule. rule ≡ broken_unit unit.now) }
-    ensures err { IfErr result (λ e. e ≡ Stop.Memory) }
-{
-    let kind = kind_of(unit);
-    if !is_judged(kind) {
-        return Ok(None);
-    }
-    let rbsp = Rbsp::of(alloc, unit)?;
-    Ok(by_rbsp(kind, rbsp.bytes()))
-}
-
 /// Notes a unit, and what it breaks. The one error is `Stop::Memory`, after which nothing has changed.
 fn note_unit(alloc: Global, noted: &mut UnitsNoted, unit: &NalUnit) -> Result<(), Stop>
     ensures noted { OnOk result (NotesUnit noted.old unit.now noted.new) }
     ensures unnoted { OnErr result (noted.new ≡ noted.old) }
     ensures err { IfErr result (λ e. e ≡ Stop.Memory) }
 {
-    let rule = broken_unit(alloc, unit)?;
+    let set = note_bytes(alloc, &mut noted.found, &noted.before.set, unit)?;
     let zero_byte = noted.before.by_zero_byte(unit);
     let pic_type = noted.before.by_pic_type(unit);
     let bit = 8 * unit.from();
-    note_in(&mut noted.found, rule, bit);
     note_in(&mut noted.found, zero_byte, bit);
     note_in(&mut noted.found, pic_type, bit);
-    noted.before = noted.before.after(unit);
+    noted.before = noted.before.after(unit, set);
     Ok(())
 }
 

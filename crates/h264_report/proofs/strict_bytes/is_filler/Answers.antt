@@ -1,5 +1,5 @@
 use Rattle.std.proofs.Common.{drop, sym, ap, ◌∙◌}
-use Rattle.h264_report.specs.StrictBytes.{is_trailing}
+use Rattle.h264_report.specs.SeiMessages.{is_trailing}
 use Rattle.h264_report.proofs.Reading.{filler-is}
 use Rattle.h264_report.proofs.strict_bytes.is_filler.Goals as goal
 

@@ -1,9 +1,9 @@
 use Rattle.std.proofs.Common.{◌≡◌, suc, ◌+◌, ◌-◌, length, drop, arith, true, false, sym, ap, ◌∙◌}
 use Rattle.std.proofs.lemmas.List.{length-drop}
-use Rattle.h264_report.specs.StrictBytes.{is_trailing, are_messages, is_sei}
-use Rattle.h264_report.proofs.Messages.{sei-found, sei-read}
-use Rattle.h264_report.proofs.Reading.{sei-none, sei-last, sei-more, sei-out}
-use Rattle.h264_report.proofs.strict_bytes.is_sei.Goals as goal
+use Rattle.h264_report.specs.SeiMessages.{is_trailing, are_messages, is_sei}
+use Rattle.h264_report.proofs.SeiListed.{sei-found, sei-read}
+use Rattle.h264_report.proofs.SeiReading.{sei-none, sei-last, sei-more, sei-out}
+use Rattle.h264_report.proofs.sei.messages.is_sei.Goals as goal
 
 pub returns-in_default : goal.returns-in_default
 returns-in_default c =

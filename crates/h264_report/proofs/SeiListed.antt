@@ -4,9 +4,9 @@ use Rattle.std.proofs.lemmas.Bool.{cases_eq, cond-true, cond-false, eq-eqb, ne_e
 use Rattle.std.proofs.Math.Bool.{or-true}
 use Rattle.std.proofs.Math.Seq.{drop-append_seam}
 use Rattle.std.proofs.lemmas.List.{take-append-drop, length-append, length-take-le}
-use Rattle.h264_report.specs.StrictBytes.{is_trailing, ff_bytes, payload_value, message_of, message_length, are_messages, is_sei}
-use Rattle.h264_report.specs.StrictSei.{coded, SeiMessage, message_before, IsMessage, AreMessages, IsSei}
-use Rattle.h264_report.proofs.Reading.{sei-some, sei-none, sei-out}
+use Rattle.h264_report.specs.SeiMessages.{is_trailing, ff_bytes, payload_value, payload_start, message_of, message_length, are_messages, is_sei}
+use Rattle.h264_report.specs.Sei.{coded, SeiMessage, message_before, IsMessage, AreMessages, IsSei}
+use Rattle.h264_report.proofs.SeiReading.{sei-some, sei-none, sei-out}
 
 -- ---- a value in bytes FF and one more
 
@@ -140,6 +140,19 @@ message-found bytes whole e =
     let whole-is : whole ≡ size_of m = sym (some-is (k + 1 + (f + 1) + payload_value sized) whole two.1) ∙ ap (λ v. k + 1 + (f + 1) + v) value in
     let rest-is : drop whole bytes ≡ rest = ap₂ (λ n l. drop n l) whole-is bytes-is ∙ drop-message m rest is in
     (m, is, bytes-is ∙ ap (λ l. message_before m l) (sym rest-is))
+
+-- it has a type and a size before its payload
+pub message-inside : (bytes : List ℕ) (whole : ℕ) → message_length bytes ≡ Some whole → (ff_bytes bytes < length bytes) × (payload_start bytes ≤ whole)
+unfolding message_length
+message-inside bytes whole e =
+    let k = ff_bytes bytes in
+    let sized = drop (k + 1) bytes in
+    let f = ff_bytes sized in
+    let one = some-if (nat_lt k (length bytes)) (message_of k sized bytes) whole e in
+    let two = some-if (nat_lt f (length sized) && nat_le (k + 1 + (f + 1) + payload_value sized) (length bytes)) (Some (k + 1 + (f + 1) + payload_value sized)) whole one.1 in
+    let is = some-is (k + 1 + (f + 1) + payload_value sized) whole two.1 in
+    let enough : k + 1 + (f + 1) ≤ whole = omega arith in
+    (ltb-true k (length bytes) one.0, enough)
 
 -- ---- messages
 
