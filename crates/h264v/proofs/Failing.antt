@@ -1,10 +1,11 @@
 -- What holds of a result that is no Ok.
-use Rattle.std.proofs.Common.{◌≡◌, ℕ, ◌+◌, ◌<◌, ◌≤◌, ◌⊎◌, inr, arith, Bool, true, false, List, Result, Ok, Err, IfOk, OnOk, OnErr, sym, ◌∙◌}
+use Rattle.std.proofs.Common.{◌≡◌, ℕ, ◌+◌, ◌<◌, ◌≤◌, ◌⊎◌, inl, inr, ⊎_elim, arith, Bool, true, false, List, Result, Ok, Err, IfOk, OnOk, OnErr, sym, ap, ◌∙◌}
 use Rattle.std.specs.Result.{is_err}
 use Rattle.std.proofs.lemmas.Bool.{true≢false}
 use Rattle.h264_base.specs.declared.stop.Stop.{Stop}
 use Rattle.h264_base.specs.declared.stop.Stop.TheVariants.{Read, Write}
 use Rattle.h264_verify.specs.declared.state.Summary.{Summary}
+use Rattle.h264v.specs.Files.{HasFailedToRead}
 
 pub no-value : {T E : Type 0} (P : T → Type 0) (r : Result T E) → OnOk r ⊥ → IfOk r P
 no-value P (Ok x) h = absurd h
@@ -34,3 +35,7 @@ not-write answer r w = absurd (let d = sym r ∙ w in cc)
 pub opened : {T E : Type 0} (r : Result T E) (P : Type 0) → is_err r ≡ false → OnOk r P → P
 opened (Ok x) P e h = h
 opened (Err x) P e h = absurd (true≢false e)
+
+-- a read that failed after the opening
+pub read-since : {f f' f'' : ℕ} {was was' : ℕ → Type 0} (was'' : ℕ → Type 0) → f' ≡ f → ((n : ℕ) → was n → was' n) → HasFailedToRead f' f'' was' was'' → HasFailedToRead f f'' was was''
+read-since was'' kept reads h = ⊎_elim (λ e. inl (e ∙ ap (λ n. n + 1) kept)) (λ m. inr (λ n r. m n (reads n r))) h

@@ -1,5 +1,5 @@
 -- The further rules of a file, and what is told of them.
-use Rattle.std.proofs.Common.{◌≡◌, ℕ, ◌+◌, ◌<◌, Bool, true, false, ◌⊎◌, inl, List, [], length, take, get_or, Option, Some, None, Result, Err, IfSome, refl, sym, ap, ◌∙◌, subst, arith}
+use Rattle.std.proofs.Common.{◌≡◌, ℕ, ◌+◌, ◌<◌, Bool, true, false, ◌⊎◌, inl, inr, ⊎_elim, List, [], length, take, get_or, Option, Some, None, Result, Ok, Err, OnOk, IsErrOf, IfSome, refl, sym, ap, ◌∙◌, subst, arith}
 use Rattle.std.specs.List.{All}
 use Rattle.std.proofs.lemmas.List.{take_more}
 use Rattle.std.proofs.lemmas.List.Elements.{All-push}
@@ -8,11 +8,12 @@ use Rattle.h264_base.specs.Call.{Call}
 use Rattle.h264_base.specs.declared.mode.Mode.{Mode}
 use Rattle.h264_base.specs.declared.mode.Target.{Target}
 use Rattle.h264_base.specs.declared.stop.Stop.{Stop}
-use Rattle.h264_base.specs.declared.stop.Stop.TheVariants.{Memory}
+use Rattle.h264_base.specs.declared.stop.Stop.TheVariants.{No, Outside, Memory, Read, Write}
 use Rattle.h264_plane.specs.Frames.{no_frame}
 use Rattle.h264_report.proofs.Accounts.{accounts}
 use Rattle.h264_report.specs.Strict.{TookStrict}
 use Rattle.h264_report.specs.StrictUnits.{TellsOfBytes}
+use Rattle.h264_report.specs.Written.{told_of}
 use Rattle.h264_report.specs.declared.strict_rule.StrictRule.{StrictRule}
 use Rattle.h264_report.specs.declared.strict_rule.StrictRule.TheVariants as rules
 use Rattle.h264_report.specs.declared.strict_rule.TheConstants.{EVERY_STRICT_RULE}
@@ -21,8 +22,7 @@ use Rattle.h264_verify.specs.Units.{terms_of}
 use Rattle.h264_verify.specs.Verdict.{Judged as JudgedOf}
 use Rattle.h264_verify.specs.declared.state.Summary.{Summary}
 use Rattle.h264_verify.specs.declared.state.Terms.{Terms}
-use Rattle.h264v.proofs.Answered.{of-memory, or-memory}
-use Rattle.h264v.specs.Further.{AreJudged, BreakOne, IsFound, TellsBroken, Judged, Unjudged}
+use Rattle.h264v.specs.Further.{AreJudged, BreakOne, IsFound, IsNoVerdict, IsToldOf, TellsBroken, Judged, Unjudged}
 use Rattle.h264v.specs.declared.command_line.Task.{Task}
 use Rattle.h264v.specs.declared.job.Done.{Done}
 use Rattle.h264v.specs.declared.job.Found.{Found}
@@ -68,6 +68,7 @@ each P all rules.DelimiterBits = all 33 rules.DelimiterBits (omega arith)
 each P all rules.FillerBytes = all 34 rules.FillerBytes (omega arith)
 each P all rules.ZeroByte = all 35 rules.ZeroByte (omega arith)
 each P all rules.DelimiterType = all 36 rules.DelimiterType (omega arith)
+each P all rules.SeiContent = all 37 rules.SeiContent (omega arith)
 
 -- what holds of the first of some rules, with one more
 pub one-rule-more : (P : StrictRule → Type 0) (rules : List StrictRule) (i : ℕ) (d : StrictRule) → i < length rules → All P (take i rules) → P (get_or rules i d) → All P (take (i + 1) rules)
@@ -75,34 +76,48 @@ one-rule-more P rules i d inside all one = subst (All P) (sym (take_more rules i
 
 -- a judgement with the further rules
 pub judged : {S : Type 0} {took : S → List Call → Type 0} {failures : S → ℕ} {s s' : S} (mode whole : Mode) (target : Target) (left : Option (List ℕ)) (answer : Result Summary Stop) (further : FurtherRules) →
-    mode ≡ whole → (bytes : List ℕ) (ended : Bool) → AreFirst left bytes ended → JudgedOf (terms_of mode target) took failures bytes (λ k. no_frame) [] s s' answer → took s [] →
+    mode ≡ whole → (bytes : List ℕ) (ended : Bool) → AreFirst left bytes ended → OnOk answer (ended ≡ true) → JudgedOf (terms_of mode target) took failures bytes (λ k. no_frame) [] s s' answer → took s [] →
     ((calls : List Call) → took s' calls → TookStrict further.strict calls) → TellsOfBytes further.units.extent ended further.units.found bytes → AreJudged (terms_of whole target) left answer further
-judged mode whole target left answer further is bytes ended first j none strict units =
+judged mode whole target left answer further is bytes ended first all j none strict units =
     let a = accounts j none in
-    subst (λ m. AreJudged (terms_of m target) left answer further) is (record { bytes = bytes; ended = ended; first = first; account = a.0; calls = strict _ a.1; units = units })
+    subst (λ m. AreJudged (terms_of m target) left answer further) is (record { bytes = bytes; ended = ended; first = first; all = all; account = a.0; calls = strict _ a.1; units = units })
 
 pub found-answer : (found : Option Found) (task : Task) (target : Target) (left : Option (List ℕ)) (answer : Result Summary Stop) → IfSome found (λ f. f.answer ≡ answer) → IsAnswerOf task target left answer →
     IfSome found (λ f. IsAnswerOf task target left f.answer)
 found-answer None task target left answer is h = tt
 found-answer (Some f) task target left answer is h = subst (IsAnswerOf task target left) (sym is) h
 
+-- a read that failed, where it is what was found
+pub found-read : (found : Option Found) (answer : Result Summary Stop) (Failed : Type 0) → IfSome found (λ f. f.answer ≡ answer) → (IsErrOf answer Read → Failed) →
+    IfSome found (λ f. IsErrOf f.answer Read → Failed)
+found-read None answer Failed is h = tt
+found-read (Some f) answer Failed is h = λ e. h (sym is ∙ e)
+
 pub found-further : (found : Option Found) (terms : Terms) (left : Option (List ℕ)) (answer : Result Summary Stop) (further : FurtherRules) → IfSome found (λ f. f.answer ≡ answer) →
     IfSome found (λ f. f.strict ≡ Some further) → AreJudged terms left answer further → IfSome found (λ f. IsFound true terms left f.answer f.strict)
 found-further None terms left answer further is strict h = tt
 found-further (Some f) terms left answer further is strict h = (further, strict, subst (λ x. AreJudged terms left x further) (sym is) h)
 
--- what is told of a file that was judged, or for which memory was wanting
-pub found-or-short : (found : Option Found) (task : Task) (target : Target) (left : Option (List ℕ)) (done : Done) → IfSome found (λ f. IsAnswerOf task target left f.answer) →
-    IfSome found (λ f. (done.ending.answer ≡ f.answer) ⊎ (done.ending.answer ≡ Err Memory)) → (found ≡ None → (done.ending.answer ≡ Err Memory) × (done.is_broken ≡ false)) →
-    IsAnswerOf task target left done.ending.answer
-found-or-short None task target left done h is short = subst (IsAnswerOf task target left) (sym (short refl).0) (of-memory task target left)
-found-or-short (Some f) task target left done h is short = or-memory task target left f.answer done.ending.answer is h
+-- what is told of an answer, where a device has failed or not
+pub told-as : (failed : Bool) (raw said : Result Summary Stop) → said ≡ told_of failed raw → IsToldOf raw said
+told-as true raw said is = inr (inr (inr is))
+told-as false (Ok summary) said is = inl is
+told-as false (Err (No bit rule)) said is = inl is
+told-as false (Err (Outside bit feature)) said is = inl is
+told-as false (Err Memory) said is = inl is
+told-as false (Err Read) said is = inl is
+told-as false (Err Write) said is = inr (inl is)
 
-pub broken-or-short : (found : Option Found) (is_asked : Bool) (terms : Terms) (left : Option (List ℕ)) (done : Done) → IfSome found (λ f. IsFound is_asked terms left f.answer f.strict) →
-    IfSome found (λ f. (done.is_broken ≡ true → BreakOne f.strict) × (done.is_broken ≡ false → BreakOne f.strict → ⊥)) → (found ≡ None → (done.ending.answer ≡ Err Memory) × (done.is_broken ≡ false)) →
+pub no-verdict : (failed : Bool) (said : Result Summary Stop) → said ≡ told_of failed (Err Memory) → IsNoVerdict said
+no-verdict true said is = inr (inr is)
+no-verdict false said is = inl is
+
+-- what is told of the further rules of a file that was judged
+pub broken-told : (found : Option FurtherRules) (is_asked : Bool) (terms : Terms) (left : Option (List ℕ)) (failed : Bool) (raw said : Result Summary Stop) (done : Done) → IsFound is_asked terms left raw found →
+    said ≡ told_of failed raw → (done.ending.answer ≡ said) ⊎ (done.ending.answer ≡ Err Memory) → (done.is_broken ≡ true → BreakOne found) → (done.is_broken ≡ false → BreakOne found → ⊥) →
     TellsBroken is_asked terms left done
-broken-or-short None is_asked terms left done h is short = Unjudged (inl (short refl).0) (short refl).1
-broken-or-short (Some f) is_asked terms left done h is short = Judged f.answer f.strict h is.0 is.1
+broken-told found is_asked terms left failed raw said done h told is broken unbroken =
+    Judged raw found (⊎_elim (λ e. subst (IsToldOf raw) (sym e) (told-as failed raw said told)) (λ short. inr (inl short)) is) h broken unbroken
 
 known-kept : (held left : Option (List ℕ)) → Keeps held left → (known : List ℕ) → held ≡ Some known → left ≡ Some known
 known-kept None left k known e = absurd (let d = e in cc)
@@ -113,9 +128,9 @@ found-kept : (is_asked : Bool) (terms : Terms) (held left : Option (List ℕ)) (
 found-kept false terms held left answer found k h = h
 found-kept true terms held left answer found k h =
     let j = h.2 in
-    (h.0, h.1, record { bytes = j.bytes; ended = j.ended; first = λ known e. j.first known (known-kept held left k known e); account = j.account; calls = j.calls; units = j.units })
+    (h.0, h.1, record { bytes = j.bytes; ended = j.ended; first = λ known e. j.first known (known-kept held left k known e); all = j.all; account = j.account; calls = j.calls; units = j.units })
 
 -- what is told of an open file is told of what the file of its name holds
 pub broken-kept : (is_asked : Bool) (terms : Terms) (held left : Option (List ℕ)) (done : Done) → Keeps held left → TellsBroken is_asked terms left done → TellsBroken is_asked terms held done
-broken-kept is_asked terms held left done k (Judged answer found h told untold) = Judged answer found (found-kept is_asked terms held left answer found k h) told untold
+broken-kept is_asked terms held left done k (Judged answer found said h told untold) = Judged answer found said (found-kept is_asked terms held left answer found k h) told untold
 broken-kept is_asked terms held left done k (Unjudged none unbroken) = Unjudged none unbroken

@@ -3,6 +3,7 @@ mod Failing
 mod Statuses
 mod Explained
 pub mod Told
+mod Writing
 mod Answered
 mod Given
 mod Further

@@ -1,13 +1,11 @@
 -- The exit status of one file, and of several.
-use Rattle.std.proofs.Common.{◌≡◌, ℕ, max, List, [], ◌∷◌, ◌++◌, map, length, get_or, Bool, fold, cond, ◌+◌, codes, Option, refl, sym, ap, ◌∙◌, arith}
+use Rattle.std.proofs.Common.{◌≡◌, ℕ, max, List, [], ◌∷◌, ◌++◌, map, length, get_or, Bool, fold, cond, ◌+◌, Option, refl, sym, ap, ◌∙◌, subst, arith}
 use Rattle.std.specs.List.{count_by}
 use Rattle.clap.specs.Words.{Text}
-use Rattle.std.proofs.lemmas.List.Elements.{All-nil, All-push}
+use Rattle.h264v.specs.Commands.{Output}
+use Rattle.h264v.specs.More.{FileDone, IsStatus, done_status, worst}
+use Rattle.h264v.specs.Words.{Given}
 use Rattle.h264v.specs.declared.command_line.Task.{Task}
-use Rattle.h264v.specs.declared.options.Options.{Options}
-use Rattle.h264v.specs.More.{FileDone, IsJudged, IsStatus, Judged, done_status, worst}
-use Rattle.h264v.specs.Options.{AreOptions, IsMisused}
-use Rattle.h264v.specs.Words.{Given, values_in}
 
 pub worst-more : (files : List FileDone) (f : FileDone) → worst (files ++ f ∷ []) ≡ max (worst files) (done_status f.done)
 worst-more [] f = let here : max (done_status f.done) 0 ≡ max 0 (done_status f.done) = omega arith in here
@@ -15,13 +13,6 @@ worst-more (e ∷ files) f =
     let next = worst-more files f in
     let over : max (done_status e.done) (max (worst files) (done_status f.done)) ≡ max (max (done_status e.done) (worst files)) (done_status f.done) = omega arith in
     ap (max (done_status e.done)) next ∙ over
-
--- one file alone
-pub alone : (task : Task) (given : Given) (file : Text → Option (List ℕ)) (o : Options) (f : FileDone) (status : ℕ) → AreOptions given o → (IsMisused task given o → ⊥) → f.name ∷ [] ≡ values_in given (codes "FILE") →
-    IsJudged task o file f → status ≡ done_status f.done → IsStatus task given file status
-alone task given file o f status options used name judged is =
-    let same : max (done_status f.done) 0 ≡ done_status f.done = omega arith in
-    Judged o (f ∷ []) options used name (All-push (IsJudged task o file) [] f (All-nil (IsJudged task o file)) judged) (is ∙ sym same)
 
 -- the one element of a list
 pub single : {X Y : Type 0} (of : X → Y) (xs : List X) (d : X) → length xs ≡ 1 → of (get_or xs 0 d) ∷ [] ≡ map of xs
@@ -36,3 +27,9 @@ fold-map g of a (x ∷ xs) = fold-map g of (g a (of x)) xs
 -- how many pass, of the things that elements are turned into
 pub count-map : {X : Type 0} (p : Text → Bool) (of : X → Text) (xs : List X) → count_by p (map of xs) ≡ count_by (λ x. p (of x)) xs
 count-map p of xs = let none : ℕ = 0 in fold-map (λ n y. n + cond (p y) 1 0) of none xs
+
+-- what comes of a task, with the same rows and devices
+pub moved : {task : Task} {given given' : Given} {file : Text → Option (List ℕ)} {Failed : Type 0} {status : ℕ} {was was' out err err' now : Output} → given ≡ given' → was ≡ was' → err ≡ err' →
+    IsStatus task given file Failed status was out err now → IsStatus task given' file Failed status was' out err' now
+moved {task} {given} {given'} {file} {Failed} {status} {was} {was'} {out} {err} {err'} {now} g o e s =
+    subst (λ x. IsStatus task given' file Failed status was' out x now) e (subst (λ x. IsStatus task given' file Failed status x out err now) o (subst (λ x. IsStatus task x file Failed status was out err now) g s))

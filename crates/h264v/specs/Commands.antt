@@ -1,7 +1,7 @@
 -- What a command comes to: what it writes to standard output and to standard error, and its exit status. To be read beside docs/OUTPUT.md.
-use Rattle.std.specs.Prelude.{◌≡◌, ◌≢◌, ℕ, Bool, true, false, List, Option, Some, Result, Err, IsErrOf, ◌⊎◌}
+use Rattle.std.specs.Prelude.{◌≡◌, ◌≢◌, ℕ, Bool, true, false, List, Option, Some, Result, Err, IsErrOf, ◌⊎◌, codes}
 use Rattle.h264_base.specs.declared.mode.Mode.TheVariants as modes
-use Rattle.h264_base.specs.declared.mode.Target.TheVariants as targets
+use Rattle.h264_base.specs.declared.mode.Target.{Target}
 use Rattle.h264_base.specs.declared.stop.Stop.{Stop}
 use Rattle.h264_base.specs.declared.stop.Stop.TheVariants.{Memory, Read, Write}
 use Rattle.h264_report.specs.Sent.{Takes}
@@ -10,29 +10,29 @@ use Rattle.h264_report.specs.declared.device.WriteDevice.{WriteDevice}
 use Rattle.h264_report.specs.declared.listing.Listing.TheVariants as listings
 use Rattle.h264_verify.specs.declared.state.Summary.{Summary}
 use Rattle.h264_verify.specs.Units.{terms_of}
-use Rattle.h264v.specs.Words.{program, asks, name_of, IsRefusable}
+use Rattle.h264v.specs.Words.{program, asks, name_of, value_in, IsRefusable, IsTarget}
 use Rattle.h264v.specs.declared.command_line.Task.{Task}
 use Rattle.h264v.specs.declared.command_line.Task.TheVariants as tasks
 use Rattle.clap.specs.Words.{Text, subcommand_of, subcommand_rows_of}
 use Rattle.h264v.specs.declared.outcome.Outcome.{Outcome}
 use Rattle.h264v.specs.declared.outcome.Outcome.TheVariants as outcomes
 
--- What a task writes of a stream, judged for Constrained Baseline, and the answer that it tells; standard error is written to by `decode` alone.
+-- What a task writes of a stream, judged for this target, and the answer that it tells; standard error is written to by `decode` alone.
 -- The tasks that do not judge a stream with lines or frames as their answer are none of these.
-abbrev pub Performs : Task → List ℕ → Result Summary Stop → Bool → (old new err_old err_new : Option (List ℕ)) → Type 0
-Performs tasks.Check bytes answer written old new err_old err_new = Checks targets.Baseline bytes answer written old new × (err_new ≡ err_old)
-Performs tasks.Units bytes answer written old new err_old err_new =
-    Lists (terms_of modes.Units targets.Baseline) listings.Units bytes answer written old new × (err_new ≡ err_old)
-Performs tasks.Headers bytes answer written old new err_old err_new =
-    Lists (terms_of modes.Headers targets.Baseline) listings.Slices bytes answer written old new × (err_new ≡ err_old)
-Performs tasks.Frames bytes answer written old new err_old err_new =
-    Lists (terms_of modes.Full targets.Baseline) listings.Frames bytes answer written old new × (err_new ≡ err_old)
-Performs tasks.Decode bytes answer written old new err_old err_new = Decodes targets.Baseline bytes answer written old new err_old err_new
-Performs tasks.Elements bytes answer written old new err_old err_new =
-    Lists (terms_of modes.Full targets.Baseline) listings.Elements bytes answer written old new × (err_new ≡ err_old)
-Performs tasks.Info bytes answer written old new err_old err_new = ⊥
-Performs tasks.Report bytes answer written old new err_old err_new = ⊥
-Performs tasks.Explain bytes answer written old new err_old err_new = ⊥
+abbrev pub Performs : Task → Target → List ℕ → Result Summary Stop → Bool → (old new err_old err_new : Option (List ℕ)) → Type 0
+Performs tasks.Check target bytes answer written old new err_old err_new = Checks target bytes answer written old new × (err_new ≡ err_old)
+Performs tasks.Units target bytes answer written old new err_old err_new =
+    Lists (terms_of modes.Units target) listings.Units bytes answer written old new × (err_new ≡ err_old)
+Performs tasks.Headers target bytes answer written old new err_old err_new =
+    Lists (terms_of modes.Headers target) listings.Slices bytes answer written old new × (err_new ≡ err_old)
+Performs tasks.Frames target bytes answer written old new err_old err_new =
+    Lists (terms_of modes.Full target) listings.Frames bytes answer written old new × (err_new ≡ err_old)
+Performs tasks.Decode target bytes answer written old new err_old err_new = Decodes target bytes answer written old new err_old err_new
+Performs tasks.Elements target bytes answer written old new err_old err_new =
+    Lists (terms_of modes.Full target) listings.Elements bytes answer written old new × (err_new ≡ err_old)
+Performs tasks.Info target bytes answer written old new err_old err_new = ⊥
+Performs tasks.Report target bytes answer written old new err_old err_new = ⊥
+Performs tasks.Explain target bytes answer written old new err_old err_new = ⊥
 
 -- A last line alone, where a task writes its last line.
 abbrev pub SaysAlone : Task → Result Summary Stop → Bool → (old new err_old err_new : Option (List ℕ)) → Type 0
@@ -103,17 +103,20 @@ pub data Comes (words : List Text) (file : Text → Option (List ℕ)) (ReadFail
       status ≡ status_of written (Err Read) → ReadFailed →
       TellsFailures (Err Read) written out out' err err' → SaysAlone task (Err Read) written out.bytes out'.bytes err.bytes err'.bytes →
       Comes words file ReadFailed ReadAll status out out' err err'
-  -- they ask for a task with a file, and it was done
-  Done : (task : Task) (name : Text) (answer : Result Summary Stop) (written : Bool) → asks program words ≡ Some (name_of task, Some name) →
+  -- they ask for a task with a file, and it was done, for the target that they name
+  Done : (task : Task) (name : Text) (target : Target) (answer : Result Summary Stop) (written : Bool) →
+      asks program words ≡ Some (name_of task, Some name) → IsTarget (value_in (subcommand_of program words) (codes "target")) target →
       status ≡ status_of written answer →
       IsExcused ReadFailed ReadAll answer written out out' err err' →
-      OfBytes (file name) (λ bytes. Performs task bytes answer written out.bytes out'.bytes err.bytes err'.bytes) →
+      OfBytes (file name) (λ bytes. Performs task target bytes answer written out.bytes out'.bytes err.bytes err'.bytes) →
       Comes words file ReadFailed ReadAll status out out' err err'
 
--- What comes of these words: it is done; or they ask for more than a judgement of one FILE, nothing is written, and what they ask is handed on.
+-- What comes of these words: they ask for nothing; or it is done; or they ask for more than a judgement of one FILE, nothing is written, and what
+-- they ask is handed on.
 abbrev pub ComesTo : (words : List Text) (file : Text → Option (List ℕ)) (ReadFailed ReadAll : Type 0) (outcome : Outcome)
     (out out' err err' : Output) → Type 0
-ComesTo words file ReadFailed ReadAll (outcomes.Done status) out out' err err' = Comes words file ReadFailed ReadAll status out out' err err'
+ComesTo words file ReadFailed ReadAll (outcomes.Fault status) out out' err err' = Comes words file ReadFailed ReadAll status out out' err err'
+ComesTo words file ReadFailed ReadAll (outcomes.Done name status) out out' err err' = Comes words file ReadFailed ReadAll status out out' err err'
 ComesTo words file ReadFailed ReadAll (outcomes.More wanted) out out' err err' =
     (asks program words ≡ Some (name_of wanted.request.task, Some wanted.request.file.now))
     × (subcommand_rows_of wanted.matches ≡ subcommand_of program words) × (out' ≡ out) × (err' ≡ err)

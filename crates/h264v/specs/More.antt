@@ -1,12 +1,15 @@
 -- What the program comes to, whatever its words ask: the exit status, and what it writes to standard output. To be read beside docs/OUTPUT.md.
-use Rattle.std.specs.Prelude.{◌≡◌, ℕ, ◌+◌, ◌-◌, ◌^◌, min, max, Bool, true, false, List, [], ◌∷◌, map, codes, Option, Some, Result, Ok, Err, if◌then◌else◌}
+use Rattle.std.specs.Prelude.{◌≡◌, ◌≢◌, ◌⊎◌, ℕ, ◌+◌, ◌-◌, ◌^◌, min, max, Bool, true, false, List, [], ◌∷◌, ◌++◌, map, length, codes, Option, Some, IsSome, Result, Ok, Err, IsErrOf}
+use Rattle.std.specs.Prelude.{if◌then◌else◌}
 use Rattle.std.specs.List.{All}
 use Rattle.h264_base.specs.declared.mode.Mode.TheVariants as modes
 use Rattle.h264_base.specs.declared.mode.Target.{Target}
 use Rattle.h264_base.specs.declared.stop.Stop.{Stop}
 use Rattle.h264_base.specs.declared.stop.Stop.TheVariants.{No, Outside, Memory, Read, Write}
-use Rattle.h264_report.specs.Sent.{Takes}
+use Rattle.h264_report.specs.Sent.{Sends, Takes}
+use Rattle.h264_report.specs.Told.{ended}
 use Rattle.h264_report.specs.Written.{OfBytes, last_line, status_of}
+use Rattle.h264_report.specs.declared.judging.Ending.{Ending}
 use Rattle.h264_verify.specs.Telling.{Told as ToldOf}
 use Rattle.h264_verify.specs.Units.{terms_of}
 use Rattle.h264_verify.specs.Verdict.{Holds, Breaks, MayStop}
@@ -15,12 +18,13 @@ use Rattle.h264_verify.specs.declared.state.Terms.{Terms}
 use Rattle.h264v.specs.declared.job.Done.{Done}
 use Rattle.h264v.specs.Words.{program, asks, name_of, Given, values_in, system_name, mode_of}
 use Rattle.h264v.specs.Further.{asks_further, TellsBroken}
-use Rattle.h264v.specs.Options.{AreOptions, IsMisused, IsRefused}
+use Rattle.h264v.specs.Options.{AreOptions, AreWellUsed, IsRefused, refusal_text}
 use Rattle.h264v.specs.declared.options.Options.{Options}
+use Rattle.h264v.specs.declared.refusal.Refusal.{Refusal}
 use Rattle.h264v.specs.declared.command_line.Task.{Task}
 use Rattle.h264v.specs.declared.command_line.Task.TheVariants as tasks
 use Rattle.clap.specs.Words.{Text, subcommand_of}
-use Rattle.h264v.specs.Commands.{Output, Comes}
+use Rattle.h264v.specs.Commands.{Output, Comes, HasFailed, IsHandedOver}
 
 -- ---- one file
 
@@ -41,6 +45,32 @@ IsAnswerOf task target source answer = OfBytes source (λ bytes. IsAnswer (terms
 abbrev pub done_status : Done → ℕ
 done_status d = if d.is_broken then max (status_of d.ending.written d.ending.answer) 1 else status_of d.ending.written d.ending.answer
 
+-- ---- the devices
+
+-- A line was written to one of two devices and handed over, or the device has failed; the other is as it was.
+pub record IsPutAside (written : Bool) (out out' err' : Output) : Type 0 where
+  pub unwritten : written ≡ false → HasFailed out' err'
+  pub quiet : written ≡ true → (out'.has_failed ≡ out.has_failed) × IsHandedOver out out'
+  -- what has failed stays so
+  pub kept : out.has_failed ≡ true → out'.has_failed ≡ true
+
+-- That a write failed is answered where standard output failed, and the last line was not written where a device failed. Else standard output has not
+-- failed since, and holds nothing back.
+pub record TellsWrites (ending : Ending) (out out' err' : Output) : Type 0 where
+  pub write : IsErrOf ending.answer Write → out'.has_failed ≡ true
+  pub unwritten : ending.written ≡ false → HasFailed out' err'
+  pub told : ending.answer ≢ Err Write → ending.written ≡ true → (out'.has_failed ≡ true → out.has_failed ≡ true) × IsHandedOver out out'
+
+-- A device has failed, or may have: a file that the words name for the output is none that is seen here.
+abbrev pub MayHaveFailed : Options → (out' err' : Output) → Type 0
+MayHaveFailed o out' err' = HasFailed out' err' ⊎ IsSome o.output
+
+-- An answer that a write failed, and a last line that was not written, come where a device failed; an answer that a read failed comes where one did.
+pub record AreExcused (o : Options) (ReadFailed : Type 0) (out' err' : Output) (ending : Ending) : Type 0 where
+  pub read : IsErrOf ending.answer Read → ReadFailed
+  pub write : IsErrOf ending.answer Write → MayHaveFailed o out' err'
+  pub unwritten : ending.written ≡ false → MayHaveFailed o out' err'
+
 -- ---- the files of the words
 
 -- a file's name, and how its judgement ended
@@ -48,10 +78,12 @@ pub record FileDone : Type 0 where
   pub name : Text
   pub done : Done
 
--- It ended with the answer on the bytes that the file of this name holds, and tells of the further rules where they are asked for.
-pub record IsJudged (task : Task) (o : Options) (file : Text → Option (List ℕ)) (f : FileDone) : Type 0 where
+-- It ended with the answer on the bytes that the file of this name holds, tells of the further rules where they are asked for, and of a failed read or write
+-- only where one failed.
+pub record IsJudged (task : Task) (o : Options) (file : Text → Option (List ℕ)) (ReadFailed : Type 0) (out' err' : Output) (f : FileDone) : Type 0 where
   pub answer : IsAnswerOf task o.target (file (system_name f.name)) f.done.ending.answer
   pub broken : TellsBroken (asks_further task o.strict) (terms_of (mode_of task) o.target) (file (system_name f.name)) f.done
+  pub excused : AreExcused o ReadFailed out' err' f.done.ending
 
 -- the greatest exit status of these files
 abbrev pub worst : List FileDone → ℕ
@@ -66,31 +98,50 @@ one_more more n = if more then min (n + 1) (2 ^ 64 - 1) else n
 abbrev pub text_status : Bool → ℕ
 text_status written = if written then 0 else 4
 
--- The exit status of `explain`.
-pub data IsToldStatus (status : ℕ) : Type 0 where
-  -- no rule has a label that is asked for
-  Unknown : status ≡ 64 → IsToldStatus status
-  Told : (written : Bool) → status ≡ text_status written → IsToldStatus status
-  -- there was no memory for the text
-  Short : (written : Bool) → status ≡ status_of written (Err Memory) → IsToldStatus status
+-- A text was written and handed over; or the device has failed.
+pub record IsPut (written : Bool) (device' : Output) : Type 0 where
+  pub whole : written ≡ true → device'.holds_back ≡ false
+  pub failed : written ≡ false → device'.has_failed ≡ true
 
--- The exit status of a task where the words ask for more than a judgement of one FILE.
-pub data IsStatus (task : Task) (given : Given) (file : Text → Option (List ℕ)) (status : ℕ) : Type 0 where
-  -- a fault of the words
-  Refused : status ≡ 64 → IsRefused task given → IsStatus task given file status
-  Explained : task ≡ tasks.Explain → IsToldStatus status → IsStatus task given file status
+-- The exit status of `explain`.
+pub data IsToldStatus (status : ℕ) (out' : Output) : Type 0 where
+  -- no rule has a label that is asked for
+  Unknown : status ≡ 64 → IsToldStatus status out'
+  Told : (written : Bool) → status ≡ text_status written → IsPut written out' → IsToldStatus status out'
+  -- there was no memory for the text
+  Short : (written : Bool) → status ≡ status_of written (Err Memory) → IsPut written out' → IsToldStatus status out'
+
+-- Where the status is none of a device's, standard output has not failed since, and all is handed over.
+abbrev pub IsWhole : (status : ℕ) (out out' : Output) → Type 0
+IsWhole status out out' = status ≢ 4 → (out'.has_failed ≡ true → out.has_failed ≡ true) × IsHandedOver out out'
+
+-- A read failed, where one file is read; which of several could not be read is seen by the opener alone.
+abbrev pub MayBeUnread : (names : List Text) (ReadFailed : Type 0) → Type 0
+MayBeUnread names ReadFailed = ReadFailed ⊎ (length names ≢ 1)
+
+-- Each file of these names was judged, in their order, and this is the status of all; or a device failed.
+pub data AreDone (task : Task) (o : Options) (file : Text → Option (List ℕ)) (ReadFailed : Type 0) (names : List Text) (status : ℕ)
+    (out out' err' : Output) : Type 0 where
+  Each : (files : List FileDone) → map (λ f. f.name) files ≡ names → All (IsJudged task o file (MayBeUnread names ReadFailed) out' err') files →
+      status ≡ worst files → IsWhole status out out' → AreDone task o file ReadFailed names status out out' err'
+  Broke : status ≡ 4 → HasFailed out' err' → AreDone task o file ReadFailed names status out out' err'
+
+-- What comes of a task where the words ask for more than a judgement of one FILE: its exit status, and what is known of the devices.
+pub data IsStatus (task : Task) (given : Given) (file : Text → Option (List ℕ)) (ReadFailed : Type 0) (status : ℕ) (out out' err err' : Output) : Type 0 where
+  -- A fault of the words. Standard error is told why, and nothing else is written.
+  Refused : (refusal : Refusal) → status ≡ 64 → IsRefused task given refusal → out' ≡ out →
+      (err'.has_failed ≡ false → Sends err.bytes err'.bytes (codes "h264v: " ++ ended (refusal_text refusal))) →
+      IsStatus task given file ReadFailed status out out' err err'
+  Explained : task ≡ tasks.Explain → IsToldStatus status out' → IsStatus task given file ReadFailed status out out' err err'
   -- each FILE was judged, in the order of the words and for their target
-  Judged : (o : Options) (files : List FileDone) → AreOptions given o → (IsMisused task given o → ⊥) →
-      map (λ f. f.name) files ≡ values_in given (codes "FILE") → All (IsJudged task o file) files →
-      status ≡ worst files → IsStatus task given file status
-  -- the totals of several files could not be written
-  Unwritten : status ≡ 4 → IsStatus task given file status
+  Judged : (o : Options) → AreOptions given o → AreWellUsed task given o →
+      AreDone task o file ReadFailed (values_in given (codes "FILE")) status out out' err' → IsStatus task given file ReadFailed status out out' err err'
 
 -- What the words come to. Where a file or a device failed, standard error is then told why.
 pub data Ends (words : List Text) (file : Text → Option (List ℕ)) (ReadFailed ReadAll : Type 0) (status : ℕ) (out out' err : Output) : Type 0 where
   Plain : (err' : Output) → Comes words file ReadFailed ReadAll status out out' err err' → Ends words file ReadFailed ReadAll status out out' err
-  More : (task : Task) (name : Text) → asks program words ≡ Some (name_of task, Some name) → IsStatus task (subcommand_of program words) file status →
-      Ends words file ReadFailed ReadAll status out out' err
+  More : (err' : Output) (task : Task) (name : Text) → asks program words ≡ Some (name_of task, Some name) →
+      IsStatus task (subcommand_of program words) file ReadFailed status out out' err err' → Ends words file ReadFailed ReadAll status out out' err
 
 -- What the program comes to.
 pub data Runs (words : List Text) (file : Text → Option (List ℕ)) (ReadFailed ReadAll : Type 0) (status : ℕ) (out out' err : Output) : Type 0 where

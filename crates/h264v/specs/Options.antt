@@ -1,4 +1,4 @@
--- Which options words give, and which of them are refused. To be read beside docs/OUTPUT.md.
+-- Which options words give, and which of them are refused, with what text. To be read beside docs/OUTPUT.md.
 use Rattle.std.specs.Prelude.{◌≡◌, ◌≢◌, ℕ, ◌<◌, ◌^◌, Bool, true, false, List, length, Option, Some, None, IsSome, ◌⊎◌, option_map, option_and_then, codes}
 use Rattle.std.specs.List.{count_by}
 use Rattle.std.specs.Str.{bytes_eq}
@@ -10,6 +10,16 @@ use Rattle.h264v.specs.Words.{Given, value_in, values_in, is_judging, IsTarget}
 use Rattle.h264v.specs.declared.command_line.Task.{Task}
 use Rattle.h264v.specs.declared.command_line.Task.TheVariants as tasks
 use Rattle.h264v.specs.declared.options.Options.{Options}
+use Rattle.h264v.specs.declared.refusal.Clash.{Clash}
+use Rattle.h264v.specs.declared.refusal.Clash.TheVariants as clashes
+use Rattle.h264v.specs.declared.refusal.Misplaced.{Misplaced}
+use Rattle.h264v.specs.declared.refusal.Misplaced.TheVariants as misplaced
+use Rattle.h264v.specs.declared.refusal.Noise.{Noise}
+use Rattle.h264v.specs.declared.refusal.Noise.TheVariants as noises
+use Rattle.h264v.specs.declared.refusal.Refusal.{Refusal}
+use Rattle.h264v.specs.declared.refusal.Refusal.TheVariants as refusals
+use Rattle.h264v.specs.declared.refusal.Unreadable.{Unreadable}
+use Rattle.h264v.specs.declared.refusal.Unreadable.TheVariants as unreadables
 
 -- the text of a flag: true where the words have it
 abbrev pub flag_in : Given → Text → Option Text
@@ -52,11 +62,13 @@ pub record AreOptions (given : Given) (o : Options) : Type 0 where
   pub mb : IsNumber (value_in given (codes "mb")) o.choice.macroblock
   pub target : IsTarget (value_in given (codes "target")) o.target
 
--- A value is no number, or names no target.
-pub data IsUnreadable (given : Given) : Type 0 where
-  NoPicture : IsNoNumber (value_in given (codes "picture")) → IsUnreadable given
-  NoMacroblock : IsNoNumber (value_in given (codes "mb")) → IsUnreadable given
-  NoTarget : ((target : Target) → IsTarget (value_in given (codes "target")) target → ⊥) → IsUnreadable given
+-- ---- values that can't be read
+
+-- Why a value can't be read: it is no number, or names no target.
+abbrev pub IsUnreadable : Given → Unreadable → Type 0
+IsUnreadable given unreadables.Picture = IsNoNumber (value_in given (codes "picture"))
+IsUnreadable given unreadables.Macroblock = IsNoNumber (value_in given (codes "mb"))
+IsUnreadable given unreadables.Target = (target : Target) → IsTarget (value_in given (codes "target")) target → ⊥
 
 -- ---- options that say nothing to a task
 
@@ -64,20 +76,26 @@ pub data IsUnreadable (given : Given) : Type 0 where
 abbrev pub Chooses : Choice → Type 0
 Chooses choice = IsSome choice.picture ⊎ IsSome choice.macroblock
 
--- An option says nothing to the task.
-pub data IsMisplaced (task : Task) (given : Given) (o : Options) : Type 0 where
-  Y4m : o.y4m ≡ true → task ≢ tasks.Decode → IsMisplaced task given o
-  Strict : o.strict ≡ true → task ≢ tasks.Check → IsMisplaced task given o
-  Output : IsSome o.output → task ≢ tasks.Decode → task ≢ tasks.Report → IsMisplaced task given o
-  Chosen : Chooses o.choice → task ≢ tasks.Elements → IsMisplaced task given o
-  Explains : o.explain ≡ true → is_judging task ≡ false → IsMisplaced task given o
-  -- explain takes no option but --json
-  Alone : task ≡ tasks.Explain → (o.quiet ≡ true) ⊎ ((o.progress ≡ true) ⊎ IsSome (value_in given (codes "target"))) → IsMisplaced task given o
+-- `explain` takes no option but `--json`.
+abbrev pub IsBesideExplain : Given → Options → Type 0
+IsBesideExplain given o = (o.quiet ≡ true) ⊎ ((o.progress ≡ true) ⊎ IsSome (value_in given (codes "target")))
+
+-- This option says nothing to the task.
+abbrev pub IsMisplaced : Task → Given → Options → Misplaced → Type 0
+IsMisplaced task given o misplaced.Y4m = (o.y4m ≡ true) × (task ≢ tasks.Decode)
+IsMisplaced task given o misplaced.Strict = (o.strict ≡ true) × (task ≢ tasks.Check)
+IsMisplaced task given o misplaced.Output = IsSome o.output × (task ≢ tasks.Decode) × (task ≢ tasks.Report)
+IsMisplaced task given o misplaced.Choice = Chooses o.choice × (task ≢ tasks.Elements)
+IsMisplaced task given o misplaced.Explain = (o.explain ≡ true) × (is_judging task ≡ false)
+IsMisplaced task given o misplaced.BesideExplain = (task ≡ tasks.Explain) × IsBesideExplain given o
 
 -- ---- options that exclude one another
 
-abbrev pub AreExclusive : Options → Type 0
-AreExclusive o = (o.quiet ≡ true) × ((o.json ≡ true) ⊎ ((o.explain ≡ true) ⊎ (o.progress ≡ true)))
+-- `--quiet` stands beside this option.
+abbrev pub IsNoise : Options → Noise → Type 0
+IsNoise o noises.Json = (o.quiet ≡ true) × (o.json ≡ true)
+IsNoise o noises.Explain = (o.quiet ≡ true) × (o.explain ≡ true)
+IsNoise o noises.Progress = (o.quiet ≡ true) × (o.progress ≡ true)
 
 -- ---- files that do not go together with a task or with one another
 
@@ -85,25 +103,71 @@ AreExclusive o = (o.quiet ≡ true) × ((o.json ≡ true) ⊎ ((o.explain ≡ tr
 abbrev pub times : List Text → Text → ℕ
 times files name = count_by (λ f. bytes_eq f name) files
 
-pub data AreClashing (task : Task) (o : Options) (files : List Text) : Type 0 where
-  -- decode and report take one FILE
-  Several : 1 < length files → (task ≡ tasks.Decode) ⊎ (task ≡ tasks.Report) → AreClashing task o files
-  -- the output is the input
-  Itself : (output : Text) → option_map (λ s. s.now) o.output ≡ Some output → 0 < times files output → AreClashing task o files
-  -- standard input is given more than once
-  Twice : 1 < times files (codes "-") → AreClashing task o files
+-- the output has the name of one of these files
+abbrev pub IsAlsoInput : Option Text → List Text → Type 0
+IsAlsoInput None files = ⊥
+IsAlsoInput (Some output) files = 0 < times files output
+
+-- This is why the files do not go together.
+abbrev pub IsClash : Task → Options → List Text → Clash → Type 0
+IsClash task o files clashes.SeveralToDecode = (1 < length files) × (task ≡ tasks.Decode)
+IsClash task o files clashes.SeveralToReport = (1 < length files) × (task ≡ tasks.Report)
+IsClash task o files clashes.OutputIsInput = IsAlsoInput (option_map (λ s. s.now) o.output) files
+IsClash task o files clashes.InputTwice = 1 < times files (codes "-")
 
 -- ---- words that are refused
 
--- Options that words give are misused.
-pub data IsMisused (task : Task) (given : Given) (o : Options) : Type 0 where
-  Misplaced : IsMisplaced task given o → IsMisused task given o
-  Exclusive : AreExclusive o → IsMisused task given o
-  Clashing : AreClashing task o (values_in given (codes "FILE")) → IsMisused task given o
+-- This is why options that words give are misused.
+abbrev pub IsMisused : Task → Given → Options → Refusal → Type 0
+IsMisused task given o (refusals.Unreadable unreadable) = ⊥
+IsMisused task given o (refusals.Misplaced which) = IsMisplaced task given o which
+IsMisused task given o (refusals.Noise noise) = IsNoise o noise
+IsMisused task given o (refusals.Clash clash) = IsClash task o (values_in given (codes "FILE")) clash
 
--- Words are refused for their options.
-pub data IsRefused (task : Task) (given : Given) : Type 0 where
-  Unreadable : IsUnreadable given → IsRefused task given
-  Misused : (o : Options) → AreOptions given o → IsMisused task given o → IsRefused task given
+-- Nothing is misused.
+abbrev pub AreWellUsed : Task → Given → Options → Type 0
+AreWellUsed task given o = (refusal : Refusal) → IsMisused task given o refusal → ⊥
+
+-- This is why words are refused for their options.
+pub data IsRefused (task : Task) (given : Given) (refusal : Refusal) : Type 0 where
+  Unclear : (unreadable : Unreadable) → refusal ≡ refusals.Unreadable unreadable → IsUnreadable given unreadable → IsRefused task given refusal
+  Misused : (o : Options) → AreOptions given o → IsMisused task given o refusal → IsRefused task given refusal
   -- the system takes the output for the input
-  Same : IsSome (value_in given (codes "output")) → IsRefused task given
+  Same : refusal ≡ refusals.Clash clashes.OutputIsInput → IsSome (value_in given (codes "output")) → IsRefused task given refusal
+
+-- ---- what is said of them
+
+-- the text of a value that can't be read
+abbrev pub unreadable_text : Unreadable → Text
+unreadable_text unreadables.Picture = codes "--picture wants the number of a picture, from 0"
+unreadable_text unreadables.Macroblock = codes "--mb wants the address of a macroblock, from 0"
+unreadable_text unreadables.Target = codes "--target is baseline or main-ip"
+
+-- the text of an option that says nothing to a task
+abbrev pub misplaced_text : Misplaced → Text
+misplaced_text misplaced.Y4m = codes "--y4m belongs to decode"
+misplaced_text misplaced.Strict = codes "--strict belongs to check"
+misplaced_text misplaced.Output = codes "--output belongs to decode and report"
+misplaced_text misplaced.Choice = codes "--picture and --mb belong to elements"
+misplaced_text misplaced.Explain = codes "--explain belongs to check, units, headers, frames, decode and elements"
+misplaced_text misplaced.BesideExplain = codes "explain takes no option but --json"
+
+-- the text of an option that excludes `--quiet`
+abbrev pub noise_text : Noise → Text
+noise_text noises.Json = codes "--quiet and --json exclude one another"
+noise_text noises.Explain = codes "--quiet and --explain exclude one another"
+noise_text noises.Progress = codes "--quiet and --progress exclude one another"
+
+-- the text of files that do not go together
+abbrev pub clash_text : Clash → Text
+clash_text clashes.SeveralToDecode = codes "decode takes one FILE"
+clash_text clashes.SeveralToReport = codes "report takes one FILE"
+clash_text clashes.OutputIsInput = codes "the output is the input"
+clash_text clashes.InputTwice = codes "standard input is given more than once"
+
+-- the text of a refusal
+abbrev pub refusal_text : Refusal → Text
+refusal_text (refusals.Unreadable unreadable) = unreadable_text unreadable
+refusal_text (refusals.Misplaced which) = misplaced_text which
+refusal_text (refusals.Noise noise) = noise_text noise
+refusal_text (refusals.Clash clash) = clash_text clash

@@ -3,16 +3,17 @@
 
 ghost use Rattle.std.specs.Prelude.{◌≡◌, ◌-◌, ◌<◌, ◌^◌, ◌⊎◌, true, false, List, Some, Err, codes, map, string_bytes};
 ghost use Rattle.h264_base.specs.Call.{HasRoom};
-ghost use Rattle.clap.specs.Words.{Text, takes, kind_of};
+ghost use Rattle.clap.specs.Words.{Text, subcommand_of, takes, kind_of};
 ghost use Rattle.clap.specs.declared.error.kind.ErrorKind.TheVariants as kinds;
 ghost use Rattle.h264_base.specs.declared.mode.Mode.TheVariants as modes;
-ghost use Rattle.h264_base.specs.declared.mode.Target.TheVariants as targets;
 ghost use Rattle.h264_verify.specs.Units.{terms_of};
 ghost use Rattle.h264_report.specs.Sent.{Sends, Takes};
 ghost use Rattle.h264_report.specs.Written.{OfBytes, last_line};
 ghost use Rattle.h264v.specs.Commands.{Performs, SaysAlone, TellsFailures, IsExcused, Faults, Comes, ComesTo, output_of};
 ghost use Rattle.h264v.specs.Files.{HasFailedToRead, HasReadAll};
-ghost use Rattle.h264v.specs.Words.{program, asks, name_of, is_judging};
+ghost use Rattle.h264v.specs.declared.command_line.Wanted.{Wanted as WantedView};
+ghost use Rattle.h264v.specs.declared.outcome.Outcome.TheVariants as outcomes;
+ghost use Rattle.h264v.specs.Words.{program, asks, name_of, value_in, is_judging, IsTarget};
 
 use crate::command_line::{Request, Task, asked};
 use crate::files::Files;
@@ -34,20 +35,18 @@ const NO_TASK: &str = "h264v: no command is given; h264v --help lists them\n";
 /// The exit status of a fault of the words.
 pub const FAULT: u8 = 64;
 
-/// What a stream is judged by where the words name no target.
-fn terms(mode: Mode) -> Terms
-    ensures { result ≡ terms_of mode targets.Baseline }
+/// What a stream is judged by.
+fn terms(mode: Mode, target: Target) -> Terms
+    ensures { result ≡ terms_of mode target }
 {
-    Terms {
-        mode,
-        target: Target::Baseline,
-    }
+    Terms { mode, target }
 }
 
-/// Does a task with a file that can be opened.
+/// Does a task with a file that can be opened, for this target.
 fn perform<R: Source, W: Device, E: Device>(
     alloc: Global,
     task: Task,
+    target: Target,
     source: &mut R,
     out: &mut W,
     err: &mut E,
@@ -58,16 +57,19 @@ fn perform<R: Source, W: Device, E: Device>(
         (HasReadAll (R.failures source.old) (R.failures source.new)) result.answer result.written
         (output_of W.contents W.has_failed W.holds_back out.old) (output_of W.contents W.has_failed W.holds_back out.new)
         (output_of E.contents E.has_failed E.holds_back err.old) (output_of E.contents E.has_failed E.holds_back err.new) }
-    ensures performs { OfBytes (R.left source.old) (λ bytes. Performs task bytes result.answer result.written (W.contents out.old)
+    ensures performs { OfBytes (R.left source.old) (λ bytes. Performs task target bytes result.answer result.written (W.contents out.old)
         (W.contents out.new) (E.contents err.old) (E.contents err.new)) }
 {
+    let units = terms(Mode::Units, target);
+    let headers = terms(Mode::Headers, target);
+    let whole = terms(Mode::Full, target);
     match task {
-        Task::Check => check(alloc, Target::Baseline, source, out),
-        Task::Units => list(alloc, terms(Mode::Units), Listing::Units, source, out),
-        Task::Headers => list(alloc, terms(Mode::Headers), Listing::Slices, source, out),
-        Task::Frames => list(alloc, terms(Mode::Full), Listing::Frames, source, out),
-        Task::Decode => decode(alloc, Target::Baseline, source, out, err),
-        Task::Elements => list(alloc, terms(Mode::Full), Listing::Elements, source, out),
+        Task::Check => check(alloc, target, source, out),
+        Task::Units => list(alloc, units, Listing::Units, source, out),
+        Task::Headers => list(alloc, headers, Listing::Slices, source, out),
+        Task::Frames => list(alloc, whole, Listing::Frames, source, out),
+        Task::Decode => decode(alloc, target, source, out, err),
+        Task::Elements => list(alloc, whole, Listing::Elements, source, out),
         Task::Info => unreachable!(),
         Task::Report => unreachable!(),
         Task::Explain => unreachable!(),
@@ -142,10 +144,11 @@ fn fault<W: Device, E: Device>(alloc: Global, error: &Error, out: &mut W, err: &
     }
 }
 
-/// Does what is asked of a file that stands for itself.
+/// Does what is asked of a file that stands for itself, for this target.
 fn serve<F: Files, W: Device, E: Device>(
     alloc: Global,
     request: Request<'_>,
+    target: Target,
     files: &mut F,
     out: &mut W,
     err: &mut E,
@@ -153,20 +156,20 @@ fn serve<F: Files, W: Device, E: Device>(
     requires room { HasRoom F.failures files.old }
     requires judging { is_judging request.task ≡ true }
     ensures { (words : List Text) → asks program words ≡ Some (name_of request.entry.task, Some request.entry.file.now) →
-        Comes words (λ name. F.holds files.old name) (HasFailedToRead (F.failures files.old) (F.failures files.new) (F.was_read files.old)
+        IsTarget (value_in (subcommand_of program words) (codes "target")) target → Comes words (λ name. F.holds files.old name) (HasFailedToRead (F.failures files.old) (F.failures files.new) (F.was_read files.old)
         (F.was_read files.new)) (HasReadAll (F.failures files.old) (F.failures files.new)) result (output_of W.contents W.has_failed W.holds_back out.old)
         (output_of W.contents W.has_failed W.holds_back out.new) (output_of E.contents E.has_failed E.holds_back err.old)
         (output_of E.contents E.has_failed E.holds_back err.new) }
 {
     match files.open(request.file) {
-        Ok(()) => perform(alloc, request.task, files, out, err).status(),
+        Ok(()) => perform(alloc, request.task, target, files, out, err).status(),
         Err(_) => no_file(alloc, request.task, out, err).status(),
     }
 }
 
-/// Does what the words ask, the program's name first among them, where they ask for a judgement of one FILE and have no option, and gives the exit
-/// status: 0 yes, 1 no, 2 outside, 3 memory, 4 a device failed, 64 a fault of the words, whose text goes to `err`. Else nothing is written, and what
-/// they ask is handed on.
+/// Does what the words ask, the program's name first among them, where they ask for a judgement of one FILE and have no option but `--target`, and gives
+/// the exit status: 0 yes, 1 no, 2 outside, 3 memory, 4 a device failed, 64 a fault of the words, whose text goes to `err`. Else nothing is written, and
+/// what they ask is handed on.
 pub fn command<'a, F: Files, W: Device, E: Device>(
     alloc: Global,
     words: &'a [String],
@@ -175,20 +178,23 @@ pub fn command<'a, F: Files, W: Device, E: Device>(
     err: &mut E,
 ) -> Outcome<'a>
     requires { HasRoom F.failures files.old }
-    ensures { ComesTo (map (λ w. string_bytes w) words.now) (λ name. F.holds files.old name)
+    ensures comes { ComesTo (map (λ w. string_bytes w) words.now) (λ name. F.holds files.old name)
         (HasFailedToRead (F.failures files.old) (F.failures files.new) (F.was_read files.old) (F.was_read files.new))
         (HasReadAll (F.failures files.old) (F.failures files.new)) result
         (output_of W.contents W.has_failed W.holds_back out.old) (output_of W.contents W.has_failed W.holds_back out.new)
         (output_of E.contents E.has_failed E.holds_back err.old) (output_of E.contents E.has_failed E.holds_back err.new) }
+    // No file is opened where what they ask is handed on.
+    ensures kept { (wanted : WantedView) → result ≡ outcomes.More wanted → files.new ≡ files.old }
 {
     match asked(alloc, words) {
-        Err(error) => Outcome::Done(fault(alloc, &error, out, err)),
-        Ok(None) => Outcome::Done(refused(err, NO_TASK)),
-        Ok(Some(wanted)) => {
-            if wanted.is_plain() {
-                return Outcome::Done(serve(alloc, wanted.request, files, out, err));
+        Err(error) => Outcome::Fault(fault(alloc, &error, out, err)),
+        Ok(None) => Outcome::Fault(refused(err, NO_TASK)),
+        Ok(Some(wanted)) => match wanted.plain_target() {
+            Some(target) => {
+                let request = wanted.request;
+                Outcome::Done(request.file, serve(alloc, request, target, files, out, err))
             }
-            Outcome::More(wanted)
-        }
+            None => Outcome::More(wanted),
+        },
     }
 }

@@ -12,11 +12,13 @@ ghost use Rattle.clap.specs.Walk.{rows_of};
 ghost use Rattle.clap.specs.declared.error.kind.ErrorKind.TheVariants as kinds;
 ghost use Rattle.clap.specs.declared.builder.command.Command.TheViews.{out-Command as fields_of};
 ghost use Rattle.h264v.specs.Words.{files_rule, flag_rule, value_rule, with_flags, with_values, file_app, with_file, bare, program, name_of};
-ghost use Rattle.h264v.specs.Words.{is_judging, found_by, IsRequest, AsksFor, all_in, value_in};
+ghost use Rattle.h264v.specs.Words.{is_judging, found_by, IsRequest, IsTarget, AsksFor, all_in, value_in};
+ghost use Rattle.h264_base.specs.declared.mode.Target.{Target as TargetView};
 ghost use Rattle.h264v.specs.Options.{flag_in, IsFlag};
 ghost use Rattle.h264v.specs.declared.command_line.Task.{Task as TaskView};
 
 use clap::{Arg, ArgAction, ArgMatches, Command, Error};
+use h264_base::Target;
 use std::alloc::{AllocError, Global};
 
 /// What the program does with a file.
@@ -124,7 +126,7 @@ impl<'a> Wanted<'a> {
         }
     }
 
-    /// Whether the words have an option.
+    /// Whether the words have an option beside `--target`.
     fn has_option(&self) -> bool {
         self.has("explain")
             || self.has("json")
@@ -135,18 +137,41 @@ impl<'a> Wanted<'a> {
             || self.value("output").is_some()
             || self.value("picture").is_some()
             || self.value("mb").is_some()
-            || self.value("target").is_some()
     }
 
-    /// Whether the words ask for a judgement of one FILE, which is not standard input, and have no option.
-    pub fn is_plain(&self) -> bool
-        ensures { result ≡ true → is_judging self.now.request.task ≡ true }
+    /// The target for which the words ask for a judgement of one FILE, which is not standard input, where they have no other option. None: they ask for
+    /// more than that, or they name no target.
+    pub fn plain_target(&self) -> Option<Target>
+        ensures target { IfSome result (IsTarget (value_in (subcommand_rows_of self.now.matches) (codes "target"))) }
+        ensures judging { IfSome result (λ _. is_judging self.now.request.task ≡ true) }
     {
-        self.request.task.is_judging()
+        let is_plain = self.request.task.is_judging()
             && self.has_one_file()
             && self.request.file != "-"
-            && !self.has_option()
+            && !self.has_option();
+        if is_plain {
+            target_of(self.value("target"))
+        } else {
+            None
+        }
     }
+}
+
+/// The target of this name, which is Constrained Baseline where none is given. None: no target has the name.
+pub fn target_of(name: Option<&str>) -> Option<Target>
+    ensures target { IfSome result (IsTarget (option_map (λ n. n.now) name.entry)) }
+    ensures none { result ≡ None → (target : TargetView) → IsTarget (option_map (λ n. n.now) name.entry) target → ⊥ }
+{
+    let Some(text) = name else {
+        return Some(Target::Baseline);
+    };
+    if text == "baseline" {
+        return Some(Target::Baseline);
+    }
+    if text == "main-ip" {
+        return Some(Target::MainIP);
+    }
+    None
 }
 
 /// The subcommands: the name of each, and what its help says.

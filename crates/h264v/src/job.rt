@@ -1,11 +1,11 @@
 //! One file, judged as the options say.
 #![tactic(auto)]
 
-ghost use Rattle.std.specs.Prelude.{◌≡◌, ◌-◌, ◌<◌, ◌^◌, ◌⊎◌, true, false, None, Some, Err, IfSome};
+ghost use Rattle.std.specs.Prelude.{◌≡◌, ◌-◌, ◌<◌, ◌^◌, ◌⊎◌, true, false, None, Some, Err, IsErrOf, IfSome};
 ghost use Rattle.h264_base.specs.Call.{HasRoom};
-ghost use Rattle.h264_base.specs.declared.stop.Stop.TheVariants.{Memory};
+ghost use Rattle.h264_base.specs.declared.stop.Stop.TheVariants.{Memory, Read, Write};
 ghost use Rattle.h264_verify.specs.Units.{terms_of};
-ghost use Rattle.h264v.specs.Files.{left_of};
+ghost use Rattle.h264v.specs.Files.{left_of, IsUnread};
 ghost use Rattle.h264v.specs.Further.{BreakOne, IsFound};
 ghost use Rattle.h264v.specs.More.{done_status, IsAnswerOf};
 ghost use Rattle.h264v.specs.Words.{mode_of};
@@ -24,7 +24,7 @@ use h264_report::pages::{
 use h264_report::survey::{Meter, Narrowed, Survey, Surveyed};
 use h264_report::{
     Device, Ending, Form, LineSink, Listing, PageSink, Pen, StrictJudgement, StrictSink, TrailSink,
-    WriteDevice, Y4mSink, YuvSink, judge_strictly, put_line, put_text, told_answer, verdict_line,
+    WriteDevice, Y4mSink, YuvSink, judge_strictly, put_line, put_text, verdict_line,
 };
 use h264_verify::{FrameSink, run};
 use std::alloc::Global;
@@ -70,6 +70,7 @@ impl Done {
 /// What was found of a file.
 #[derive(Drop)]
 pub struct Found {
+    /// That of the judgement. Whether an output failed meanwhile shows at its device.
     pub answer: Answer,
     /// What the further rules found, where they are asked for.
     pub strict: Option<FurtherRules>,
@@ -133,7 +134,8 @@ fn judge<S: FrameSink + Drop, O: Opener + Drop, M: Meter + Drop>(
 ) -> Option<(Surveyed<S, M>, Answer)>
     requires sink { HasRoom S.failures sink }
     requires source { files.old.failures < 2 ^ 64 - 1 }
-    ensures { IfSome result (λ judged. IsAnswerOf job.now.task job.now.options.target (left_of O.File.Read.remaining files.old.reader) judged.1) }
+    ensures answer { IfSome result (λ judged. IsAnswerOf job.now.task job.now.options.target (left_of O.File.Read.remaining files.old.reader) judged.1) }
+    ensures read { IfSome result (λ judged. IsErrOf judged.1 Read → IsUnread files.old.failures files.old.reads files.new.failures files.new.reads) }
 {
     let Ok(survey) = Survey::new(job.alloc) else {
         return None;
@@ -179,7 +181,8 @@ fn judge_plainly<S: FrameSink + Drop, O: Opener + Drop, M: Meter + Drop>(
 ) -> Option<Judged<S>>
     requires sink { HasRoom S.failures sink }
     requires source { files.old.failures < 2 ^ 64 - 1 }
-    ensures { IfSome result (λ judged. IsAnswerOf job.now.task job.now.options.target (left_of O.File.Read.remaining files.old.reader) judged.answer) }
+    ensures answer { IfSome result (λ judged. IsAnswerOf job.now.task job.now.options.target (left_of O.File.Read.remaining files.old.reader) judged.answer) }
+    ensures read { IfSome result (λ judged. IsErrOf judged.answer Read → IsUnread files.old.failures files.old.reads files.new.failures files.new.reads) }
 {
     if job.options.asks_for_survey() {
         let (surveyed, answer) = judge(job, files, sink, meter)?;
@@ -241,6 +244,7 @@ fn check_strictly<O: Opener + Drop, M: Meter + Drop>(
 ) -> Option<Found>
     requires { files.old.failures < 2 ^ 64 - 1 }
     ensures answer { IfSome result (λ found. IsAnswerOf job.now.task job.now.options.target (left_of O.File.Read.remaining files.old.reader) found.answer) }
+    ensures read { IfSome result (λ found. IsErrOf found.answer Read → IsUnread files.old.failures files.old.reads files.new.failures files.new.reads) }
     ensures further { IfSome result (λ found. IsFound true (terms_of (mode_of job.now.task) job.now.options.target)
         (left_of O.File.Read.remaining files.old.reader) found.answer found.strict) }
 {
@@ -275,6 +279,7 @@ pub fn check_file<O: Opener + Drop, M: Meter + Drop>(
 ) -> Option<Found>
     requires { files.old.failures < 2 ^ 64 - 1 }
     ensures answer { IfSome result (λ found. IsAnswerOf job.now.task job.now.options.target (left_of O.File.Read.remaining files.old.reader) found.answer) }
+    ensures read { IfSome result (λ found. IsErrOf found.answer Read → IsUnread files.old.failures files.old.reads files.new.failures files.new.reads) }
     ensures further { IfSome result (λ found. IsFound job.now.options.strict (terms_of (mode_of job.now.task) job.now.options.target)
         (left_of O.File.Read.remaining files.old.reader) found.answer found.strict) }
 {
@@ -305,14 +310,15 @@ fn list_all<O: Opener + Drop, W: Device, M: Meter + Drop>(
 ) -> Option<Found>
     requires { files.old.failures < 2 ^ 64 - 1 }
     ensures answer { IfSome result (λ found. IsAnswerOf job.now.task job.now.options.target (left_of O.File.Read.remaining files.old.reader) found.answer) }
+    ensures read { IfSome result (λ found. IsErrOf found.answer Read → IsUnread files.old.failures files.old.reads files.new.failures files.new.reads) }
     ensures further { IfSome result (λ found. found.strict ≡ None) }
 {
     let pen = Pen { out };
     let sink: LineSink<'_, W, Brand> = LineSink::new(job.alloc, listing_of(job), form, pen);
     let (surveyed, answer) = judge(job, files, sink, meter)?;
-    let Surveyed { sink, survey, .. } = surveyed;
+    let Surveyed { survey, .. } = surveyed;
     Some(Found {
-        answer: told_answer(answer, sink.broke_off()),
+        answer,
         strict: None,
         survey,
         seen: files.seen,
@@ -328,7 +334,8 @@ fn judge_chosen<S: FrameSink + Drop, O: Opener + Drop>(
 ) -> Option<(Narrowed<S>, Answer)>
     requires sink { HasRoom S.failures sink }
     requires source { files.old.failures < 2 ^ 64 - 1 }
-    ensures { IfSome result (λ judged. IsAnswerOf job.now.task job.now.options.target (left_of O.File.Read.remaining files.old.reader) judged.1) }
+    ensures answer { IfSome result (λ judged. IsAnswerOf job.now.task job.now.options.target (left_of O.File.Read.remaining files.old.reader) judged.1) }
+    ensures read { IfSome result (λ judged. IsErrOf judged.1 Read → IsUnread files.old.failures files.old.reads files.new.failures files.new.reads) }
 {
     let Ok(survey) = Survey::new(job.alloc) else {
         return None;
@@ -348,14 +355,15 @@ fn list_chosen<O: Opener + Drop, W: Device>(
 ) -> Option<Found>
     requires { files.old.failures < 2 ^ 64 - 1 }
     ensures answer { IfSome result (λ found. IsAnswerOf job.now.task job.now.options.target (left_of O.File.Read.remaining files.old.reader) found.answer) }
+    ensures read { IfSome result (λ found. IsErrOf found.answer Read → IsUnread files.old.failures files.old.reads files.new.failures files.new.reads) }
     ensures further { IfSome result (λ found. found.strict ≡ None) }
 {
     let pen = Pen { out };
     let sink: LineSink<'_, W, Brand> = LineSink::new(job.alloc, listing_of(job), form, pen);
     let (narrowed, answer) = judge_chosen(job, files, sink)?;
-    let Narrowed { sink, survey, .. } = narrowed;
+    let Narrowed { survey, .. } = narrowed;
     Some(Found {
-        answer: told_answer(answer, sink.broke_off()),
+        answer,
         strict: None,
         survey,
         seen: files.seen,
@@ -372,6 +380,7 @@ pub fn list_file<O: Opener + Drop, W: Device, M: Meter + Drop>(
 ) -> Option<Found>
     requires { files.old.failures < 2 ^ 64 - 1 }
     ensures answer { IfSome result (λ found. IsAnswerOf job.now.task job.now.options.target (left_of O.File.Read.remaining files.old.reader) found.answer) }
+    ensures read { IfSome result (λ found. IsErrOf found.answer Read → IsUnread files.old.failures files.old.reads files.new.failures files.new.reads) }
     ensures further { IfSome result (λ found. found.strict ≡ None) }
 {
     let mut head = Page::new(job.alloc);
@@ -399,13 +408,14 @@ fn decode_samples<O: Opener + Drop, W: Device, M: Meter + Drop>(
 ) -> Option<Found>
     requires { files.old.failures < 2 ^ 64 - 1 }
     ensures answer { IfSome result (λ found. IsAnswerOf job.now.task job.now.options.target (left_of O.File.Read.remaining files.old.reader) found.answer) }
+    ensures read { IfSome result (λ found. IsErrOf found.answer Read → IsUnread files.old.failures files.old.reads files.new.failures files.new.reads) }
     ensures further { IfSome result (λ found. found.strict ≡ None) }
 {
     let sink: YuvSink<'_, W, Brand> = YuvSink::new(Pen { out });
     let (surveyed, answer) = judge(job, files, sink, meter)?;
-    let Surveyed { sink, survey, .. } = surveyed;
+    let Surveyed { survey, .. } = surveyed;
     Some(Found {
-        answer: told_answer(answer, sink.broke_off()),
+        answer,
         strict: None,
         survey,
         seen: files.seen,
@@ -443,6 +453,7 @@ fn decode_y4m<O: Opener + Drop, W: Device, M: Meter + Drop>(
 ) -> Option<Found>
     requires { files.old.failures < 2 ^ 64 - 1 }
     ensures answer { IfSome result (λ found. IsAnswerOf job.now.task job.now.options.target (left_of O.File.Read.remaining files.old.reader) found.answer) }
+    ensures read { IfSome result (λ found. IsErrOf found.answer Read → IsUnread files.old.failures files.old.reads files.new.failures files.new.reads) }
     ensures further { IfSome result (λ found. found.strict ≡ None) }
 {
     let sink: Y4mSink<'_, W, Brand> = Y4mSink::new(job.alloc, Pen { out });
@@ -450,7 +461,7 @@ fn decode_y4m<O: Opener + Drop, W: Device, M: Meter + Drop>(
     let Surveyed { sink, survey, .. } = surveyed;
     let before = size_line(job.alloc, sink.changed_size())?;
     Some(Found {
-        answer: told_answer(answer, sink.broke_off()),
+        answer,
         strict: None,
         survey,
         seen: files.seen,
@@ -467,17 +478,13 @@ pub fn decode_file<O: Opener + Drop, W: Device, M: Meter + Drop>(
 ) -> Option<Found>
     requires { files.old.failures < 2 ^ 64 - 1 }
     ensures answer { IfSome result (λ found. IsAnswerOf job.now.task job.now.options.target (left_of O.File.Read.remaining files.old.reader) found.answer) }
+    ensures read { IfSome result (λ found. IsErrOf found.answer Read → IsUnread files.old.failures files.old.reads files.new.failures files.new.reads) }
     ensures further { IfSome result (λ found. found.strict ≡ None) }
 {
-    let mut found = if job.options.y4m {
-        decode_y4m(job, files, out, meter)?
-    } else {
-        decode_samples(job, files, out, meter)?
-    };
-    if out.send_rest().is_err() {
-        found.answer = Err(Stop::Write);
+    if job.options.y4m {
+        return decode_y4m(job, files, out, meter);
     }
-    Some(found)
+    decode_samples(job, files, out, meter)
 }
 
 /// Judges the open file for what it has.
@@ -488,6 +495,7 @@ pub fn info_file<O: Opener + Drop, M: Meter + Drop>(
 ) -> Option<Found>
     requires { files.old.failures < 2 ^ 64 - 1 }
     ensures answer { IfSome result (λ found. IsAnswerOf job.now.task job.now.options.target (left_of O.File.Read.remaining files.old.reader) found.answer) }
+    ensures read { IfSome result (λ found. IsErrOf found.answer Read → IsUnread files.old.failures files.old.reads files.new.failures files.new.reads) }
     ensures further { IfSome result (λ found. found.strict ≡ None) }
 {
     let Ok(sink) = TrailSink::new(job.alloc) else {
@@ -571,7 +579,8 @@ fn unjudged_line(stop: Stop) -> &'static str {
 
 /// What is said of an answer for which there was no memory: that a device failed, where the answer is that; else that memory was wanting.
 fn short_of(answer: Answer) -> Stop
-    ensures { (Err result ≡ answer) ⊎ (result ≡ Memory) }
+    ensures stop { (Err result ≡ answer) ⊎ (result ≡ Memory) }
+    ensures write { answer ≡ Err Write → result ≡ Write }
 {
     match answer {
         Err(Stop::Read) => Stop::Read,
@@ -603,6 +612,10 @@ fn put_end(job: &Job<'_>, page: &mut Page, found: &Found) {
 /// Writes the end of a judgement: lines, or an object of JSON; nothing where quiet is asked.
 pub fn put_found<W: Device>(job: &Job<'_>, out: &mut W, found: &Found) -> Done
     ensures answer { (result.ending.answer ≡ found.now.answer) ⊎ (result.ending.answer ≡ Err Memory) }
+    ensures write { found.now.answer ≡ Err Write → result.ending.answer ≡ Err Write }
+    ensures handed_over { result.ending.written ≡ true → W.holds_back out.new ≡ false }
+    ensures quiet { result.ending.written ≡ true → W.has_failed out.new ≡ W.has_failed out.old }
+    ensures failed { result.ending.written ≡ false → W.has_failed out.new ≡ true }
     ensures broken { result.is_broken ≡ true → BreakOne found.now.strict }
     ensures unbroken { result.is_broken ≡ false → BreakOne found.now.strict → ⊥ }
 {
@@ -631,6 +644,9 @@ pub fn put_found<W: Device>(job: &Job<'_>, out: &mut W, found: &Found) -> Done
 /// Writes that a file was not judged, by an answer of memory or of a device.
 pub fn put_unjudged<W: Device>(job: &Job<'_>, out: &mut W, stop: Stop) -> Done
     ensures answer { result.ending.answer ≡ Err stop }
+    ensures handed_over { result.ending.written ≡ true → W.holds_back out.new ≡ false }
+    ensures quiet { result.ending.written ≡ true → W.has_failed out.new ≡ W.has_failed out.old }
+    ensures failed { result.ending.written ≡ false → W.has_failed out.new ≡ true }
     ensures broken { result.is_broken ≡ false }
 {
     let mut page = Page::new(job.alloc);
@@ -700,6 +716,7 @@ fn judge_pictures<O: Opener + Drop, W: Device, M: Meter + Drop>(
 ) -> Option<(Found, Album)>
     requires { files.old.failures < 2 ^ 64 - 1 }
     ensures answer { IfSome result (λ kept. IsAnswerOf job.now.task job.now.options.target (left_of O.File.Read.remaining files.old.reader) kept.0.answer) }
+    ensures read { IfSome result (λ kept. IsErrOf kept.0.answer Read → IsUnread files.old.failures files.old.reads files.new.failures files.new.reads) }
     ensures further { IfSome result (λ kept. kept.0.strict ≡ None) }
 {
     let pen = Pen { out: lines };
@@ -736,10 +753,11 @@ pub fn report_file<O: Opener + Drop, W: Device, M: Meter + Drop>(
 ) -> Option<Found>
     requires { files.old.failures < 2 ^ 64 - 1 }
     ensures answer { IfSome result (λ found. IsAnswerOf job.now.task job.now.options.target (left_of O.File.Read.remaining files.old.reader) found.answer) }
+    ensures read { IfSome result (λ found. IsErrOf found.answer Read → IsUnread files.old.failures files.old.reads files.new.failures files.new.reads) }
     ensures further { IfSome result (λ found. found.strict ≡ None) }
 {
     let mut lines = WriteDevice::new(Vec::new(job.alloc));
-    let (mut found, album) = judge_pictures(job, files, &mut lines, meter)?;
+    let (found, album) = judge_pictures(job, files, &mut lines, meter)?;
     let digests = str::from_utf8(lines.writer.as_slice()).ok()?;
     let mut page = Page::new(job.alloc);
     let kept = Kept {
@@ -750,8 +768,7 @@ pub fn report_file<O: Opener + Drop, W: Device, M: Meter + Drop>(
     if page.is_short() {
         return None;
     }
-    if !put_text(out, page.as_str()) {
-        found.answer = Err(Stop::Write);
-    }
+    // Where this fails, the device tells so.
+    let _ = put_text(out, page.as_str());
     Some(found)
 }

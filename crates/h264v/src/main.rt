@@ -25,6 +25,7 @@ mod outcome;
 mod pieces_tests;
 mod program;
 mod progress;
+mod refusal;
 #[cfg(test)]
 mod set_tests;
 mod strictly;

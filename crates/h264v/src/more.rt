@@ -1,17 +1,19 @@
 //! What the words ask for beside the judgement of one file: options, several files, and the tasks that make texts of their own.
 #![tactic(auto)]
 
-ghost use Rattle.std.specs.Prelude.{◌≡◌, ℕ, ◌==◌, ◌-◌, ◌<◌, ◌^◌, ◌++◌, ◌⊎◌, true, false, max, map, not, nat_le, None, Err, IfSome, List, codes};
-ghost use Rattle.std.specs.List.{All};
+ghost use Rattle.std.specs.Prelude.{◌≡◌, ◌≢◌, ℕ, ◌==◌, ◌-◌, ◌<◌, ◌^◌, ◌++◌, ◌⊎◌, true, false, max, map, length, not, nat_le, Err, IsErrOf, IfSome, List, codes};
 ghost use Rattle.clap.specs.Words.{subcommand_rows_of};
-ghost use Rattle.h264_base.specs.declared.stop.Stop.TheVariants.{Memory};
+ghost use Rattle.h264_base.specs.declared.stop.Stop.TheVariants.{Memory, Read, Write};
 ghost use Rattle.h264_report.specs.Sent.{Sends};
 ghost use Rattle.h264_report.specs.Told.{ended};
+ghost use Rattle.h264_report.specs.Written.{told_of};
 ghost use Rattle.h264v.specs.Explained.{IsExplained};
 ghost use Rattle.h264_verify.specs.Units.{terms_of};
-ghost use Rattle.h264v.specs.Files.{left_of};
+ghost use Rattle.h264v.specs.Files.{left_of, IsUnread};
 ghost use Rattle.h264v.specs.Further.{asks_further, BreakOne, IsFound, TellsBroken};
-ghost use Rattle.h264v.specs.More.{worst, one_more, FileDone, IsAnswerOf, IsJudged, IsStatus, IsToldStatus};
+ghost use Rattle.h264v.specs.Commands.{output_of};
+ghost use Rattle.h264v.specs.More.{one_more, AreDone, IsAnswerOf, IsPutAside, IsStatus, IsToldStatus, TellsWrites};
+ghost use Rattle.h264v.specs.Options.{refusal_text};
 ghost use Rattle.h264v.specs.Words.{mode_of, system_name};
 
 use crate::command::FAULT;
@@ -22,11 +24,12 @@ use crate::job::{
     Done, Found, Job, check_file, decode_file, info_file, list_file, put_found, put_unjudged,
     report_file,
 };
-use crate::options::{Options, Refusal, options_of};
+use crate::options::options_of;
+use crate::refusal::{Clash, Refusal};
 use h264_base::Stop;
 use h264_report::pages::Page;
 use h264_report::survey::Meter;
-use h264_report::{Device, WriteDevice, put_line, put_memory, put_text};
+use h264_report::{Device, WriteDevice, put_line, put_memory, put_text, told_answer};
 use std::alloc::Global;
 use std::io;
 use std::io::Write;
@@ -127,7 +130,9 @@ impl Totals {
 }
 
 /// Says why a device or a file failed, by the system's cause. Where there is no memory for the cause, the line ends before it.
-pub fn blame<E: Device>(alloc: Global, err: &mut E, name: &str, cause: &io::Error) {
+pub fn blame<E: Device>(alloc: Global, err: &mut E, name: &str, cause: &io::Error)
+    ensures { E.has_failed err.old ≡ true → E.has_failed err.new ≡ true }
+{
     let _ = match format!(in alloc; "h264v: {name}: {cause}") {
         Ok(line) => put_line("", line.as_str(), err),
         Err(_) => put_line("h264v: ", name, err),
@@ -138,9 +143,9 @@ pub fn blame<E: Device>(alloc: Global, err: &mut E, name: &str, cause: &io::Erro
 #[tactic(auto, using(crate::proofs::Told::taken))]
 fn refuse<E: Device>(err: &mut E, refusal: Refusal) -> u8
     ensures status { result ≡ 64 }
-    ensures told { E.has_failed err.new ≡ false → Sends (E.contents err.old) (E.contents err.new) (codes "h264v: " ++ ended refusal.now) }
+    ensures told { E.has_failed err.new ≡ false → Sends (E.contents err.old) (E.contents err.new) (codes "h264v: " ++ ended (refusal_text refusal)) }
 {
-    let _ = put_line("h264v: ", refusal, err);
+    let _ = put_line("h264v: ", refusal.text(), err);
     FAULT
 }
 
@@ -152,7 +157,7 @@ fn explain_labels<W: Device, E: Device>(
     out: &mut W,
     err: &mut E,
 ) -> u8
-    ensures status { IsToldStatus result }
+    ensures status { IsToldStatus result (output_of W.contents W.has_failed W.holds_back out.new) }
     ensures told { result ≡ 0 → (text : List ℕ) × IsExplained json (map (λ label. label.now) labels.now) text
         × Sends (W.contents out.old) (W.contents out.new) text }
 {
@@ -181,6 +186,7 @@ fn find<O: Opener + Drop, W: Device, M: Meter + Drop>(
 ) -> Option<Found>
     requires { files.old.failures < 2 ^ 64 - 1 }
     ensures answer { IfSome result (λ found. IsAnswerOf job.now.task job.now.options.target (left_of O.File.Read.remaining files.old.reader) found.answer) }
+    ensures read { IfSome result (λ found. IsErrOf found.answer Read → IsUnread files.old.failures files.old.reads files.new.failures files.new.reads) }
     ensures further { IfSome result (λ found. IsFound (asks_further job.now.task job.now.options.strict)
         (terms_of (mode_of job.now.task) job.now.options.target) (left_of O.File.Read.remaining files.old.reader) found.answer found.strict) }
 {
@@ -217,14 +223,21 @@ fn do_file<O: Opener + Drop, W: Device, E: Device, M: Meter + Drop>(
     ensures answer { IsAnswerOf job.now.task job.now.options.target (O.holds files.old.opener (system_name job.now.file.now)) result.ending.answer }
     ensures broken { TellsBroken (asks_further job.now.task job.now.options.strict) (terms_of (mode_of job.now.task) job.now.options.target)
         (O.holds files.old.opener (system_name job.now.file.now)) result }
+    ensures read { IsErrOf result.ending.answer Read → IsUnread files.old.failures files.old.reads files.new.failures files.new.reads }
+    ensures failures { TellsWrites result.ending (output_of W.contents W.has_failed W.holds_back out.old)
+        (output_of W.contents W.has_failed W.holds_back out.new) (output_of E.contents E.has_failed E.holds_back err.new) }
 {
     if files.open(system_name(job.file)).is_err() {
-        if answers_aside(job.task) {
-            return put_unjudged(job, err, Stop::Read);
-        }
-        return put_unjudged(job, out, Stop::Read);
+        return put_no_verdict(job, Stop::Read, out, err);
     }
     judge_opened(job, files, out, err, meter)
+}
+
+/// Why there is no verdict on a file that was read: an output failed, or else memory was wanting.
+fn stop_of(failed: bool) -> Stop
+    ensures { Err result ≡ told_of failed (Err Memory) }
+{
+    if failed { Stop::Write } else { Stop::Memory }
 }
 
 /// Judges the open file, and writes its answer to `out`, or to `err` where the task writes something else to `out`.
@@ -239,41 +252,61 @@ fn judge_opened<O: Opener + Drop, W: Device, E: Device, M: Meter + Drop>(
     ensures answer { IsAnswerOf job.now.task job.now.options.target (left_of O.File.Read.remaining files.old.reader) result.ending.answer }
     ensures broken { TellsBroken (asks_further job.now.task job.now.options.strict) (terms_of (mode_of job.now.task) job.now.options.target)
         (left_of O.File.Read.remaining files.old.reader) result }
+    ensures read { IsErrOf result.ending.answer Read → IsUnread files.old.failures files.old.reads files.new.failures files.new.reads }
+    ensures failures { TellsWrites result.ending (output_of W.contents W.has_failed W.holds_back out.old)
+        (output_of W.contents W.has_failed W.holds_back out.new) (output_of E.contents E.has_failed E.holds_back err.new) }
 {
     let found = find(job, files, out, meter);
-    put_answer(job, found, out, err)
+    // Where this fails, the device tells so.
+    let _ = out.send_rest();
+    let failed = out.did_fail();
+    let Some(mut found) = found else {
+        return put_no_verdict(job, stop_of(failed), out, err);
+    };
+    found.answer = told_answer(found.answer, failed);
+    put_answer(job, &found, out, err)
 }
 
-/// Writes what was found; where there is nothing, memory was wanting.
-fn put_answer<W: Device, E: Device>(
-    job: &Job<'_>,
-    found: Option<Found>,
-    out: &mut W,
-    err: &mut E,
-) -> Done
-    ensures found { IfSome found (λ f. (result.ending.answer ≡ f.answer) ⊎ (result.ending.answer ≡ Err Memory)) }
-    ensures broken { IfSome found (λ f. (result.is_broken ≡ true → BreakOne f.strict) × (result.is_broken ≡ false → BreakOne f.strict → ⊥)) }
-    ensures none { found ≡ None → (result.ending.answer ≡ Err Memory) × (result.is_broken ≡ false) }
+/// Writes what was found.
+fn put_answer<W: Device, E: Device>(job: &Job<'_>, found: &Found, out: &mut W, err: &mut E) -> Done
+    ensures answer { (result.ending.answer ≡ found.now.answer) ⊎ (result.ending.answer ≡ Err Memory) }
+    ensures write { found.now.answer ≡ Err Write → result.ending.answer ≡ Err Write }
+    ensures broken { result.is_broken ≡ true → BreakOne found.now.strict }
+    ensures unbroken { result.is_broken ≡ false → BreakOne found.now.strict → ⊥ }
+    ensures devices { IsPutAside result.ending.written (output_of W.contents W.has_failed W.holds_back out.old)
+        (output_of W.contents W.has_failed W.holds_back out.new) (output_of E.contents E.has_failed E.holds_back err.new) }
 {
-    match (found, answers_aside(job.task)) {
-        (Some(found), true) => put_found(job, err, &found),
-        (Some(found), false) => put_found(job, out, &found),
-        (None, true) => put_unjudged(job, err, Stop::Memory),
-        (None, false) => put_unjudged(job, out, Stop::Memory),
+    if answers_aside(job.task) {
+        return put_found(job, err, found);
     }
+    put_found(job, out, found)
+}
+
+/// Writes that there is no verdict on a file.
+fn put_no_verdict<W: Device, E: Device>(job: &Job<'_>, stop: Stop, out: &mut W, err: &mut E) -> Done
+    ensures answer { result.ending.answer ≡ Err stop }
+    ensures broken { result.is_broken ≡ false }
+    ensures devices { IsPutAside result.ending.written (output_of W.contents W.has_failed W.holds_back out.old)
+        (output_of W.contents W.has_failed W.holds_back out.new) (output_of E.contents E.has_failed E.holds_back err.new) }
+{
+    if answers_aside(job.task) {
+        return put_unjudged(job, err, stop);
+    }
+    put_unjudged(job, out, stop)
 }
 
 /// Says why a file could not be read, where it could not.
-fn blame_file<O: Opener + Drop, E: Device>(
+pub fn blame_reading<O: Opener + Drop, E: Device>(
     alloc: Global,
-    files: &mut OpenedFiles<O>,
+    files: &OpenedFiles<O>,
     err: &mut E,
     name: &str,
-) {
+)
+    ensures { E.has_failed err.old ≡ true → E.has_failed err.new ≡ true }
+{
     if let Some(cause) = &files.cause {
         blame(alloc, err, name, cause);
     }
-    files.cause = None;
 }
 
 /// Says why an output failed, where it did.
@@ -300,6 +333,8 @@ fn do_named<O: Opener + Drop, W: Device, E: Device, M: Meter + Drop>(
     ensures answer { IsAnswerOf job.now.task job.now.options.target (O.holds files.old.opener (system_name job.now.file.now)) result.ending.answer }
     ensures broken { TellsBroken (asks_further job.now.task job.now.options.strict) (terms_of (mode_of job.now.task) job.now.options.target)
         (O.holds files.old.opener (system_name job.now.file.now)) result }
+    ensures failures { TellsWrites result.ending (output_of W.contents W.has_failed W.holds_back out.old)
+        (output_of W.contents W.has_failed W.holds_back out.new) (output_of E.contents E.has_failed E.holds_back err.new) }
 {
     if job.options.json {
         return do_file(job, files, out, err, meter);
@@ -308,7 +343,7 @@ fn do_named<O: Opener + Drop, W: Device, E: Device, M: Meter + Drop>(
     prefix.put(job.file);
     prefix.put(": ");
     if prefix.is_short() {
-        return put_unjudged(job, out, Stop::Memory);
+        return put_no_verdict(job, Stop::Memory, out, err);
     }
     let named = Job {
         prefix: prefix.as_str(),
@@ -317,7 +352,7 @@ fn do_named<O: Opener + Drop, W: Device, E: Device, M: Meter + Drop>(
     do_file(&named, files, out, err, meter)
 }
 
-/// Judges several files, and writes their totals: the worst exit status.
+/// Judges several files, and writes their totals: the worst exit status. Once a device has failed no more of them is judged.
 fn do_files<O: Opener + Drop + Copy, W: Device, E: Device, M: Meter + Drop + Copy>(
     job: &Job<'_>,
     names: &[&str],
@@ -326,15 +361,20 @@ fn do_files<O: Opener + Drop + Copy, W: Device, E: Device, M: Meter + Drop + Cop
     err: &mut E,
     meter: M,
 ) -> u8
-    ensures { ((files : List FileDone) × (map (λ f. f.name) files ≡ map (λ n. n.now) names.now)
-        × All (IsJudged job.now.task job.now.options (λ name. O.holds opener name)) files × (result ≡ worst files)) ⊎ (result ≡ 4) }
+    requires several { length names.now ≢ 1 }
+    ensures { AreDone job.now.task job.now.options (λ name. O.holds opener name) ⊥ (map (λ n. n.now) names.now) result
+        (output_of W.contents W.has_failed W.holds_back out.old) (output_of W.contents W.has_failed W.holds_back out.new)
+        (output_of E.contents E.has_failed E.holds_back err.new) }
 {
     let mut totals = Totals::none();
     for name in names.iter() {
         let one = Job { file: name, ..*job };
         let mut files = OpenedFiles::new(opener);
         let done = do_named(&one, &mut files, out, err, meter);
-        blame_file(job.alloc, &mut files, err, name);
+        blame_reading(job.alloc, &files, err, name);
+        if out.did_fail() || !done.ending.written {
+            return FAILED;
+        }
         totals.add(done.status());
     }
     let mut page = Page::new(job.alloc);
@@ -352,37 +392,41 @@ fn do_files<O: Opener + Drop + Copy, W: Device, E: Device, M: Meter + Drop + Cop
 /// Judges one file: how that ended.
 fn do_one<O: Opener + Drop, W: Device, E: Device, M: Meter + Drop>(
     job: &Job<'_>,
-    opener: O,
+    files: &mut OpenedFiles<O>,
     out: &mut W,
     err: &mut E,
     meter: M,
 ) -> Done
-    ensures answer { IsAnswerOf job.now.task job.now.options.target (O.holds opener (system_name job.now.file.now)) result.ending.answer }
+    requires { files.old.failures < 2 ^ 64 - 1 }
+    ensures answer { IsAnswerOf job.now.task job.now.options.target (O.holds files.old.opener (system_name job.now.file.now)) result.ending.answer }
     ensures broken { TellsBroken (asks_further job.now.task job.now.options.strict) (terms_of (mode_of job.now.task) job.now.options.target)
-        (O.holds opener (system_name job.now.file.now)) result }
+        (O.holds files.old.opener (system_name job.now.file.now)) result }
+    ensures read { IsErrOf result.ending.answer Read → IsUnread files.old.failures files.old.reads files.new.failures files.new.reads }
+    ensures failures { TellsWrites result.ending (output_of W.contents W.has_failed W.holds_back out.old)
+        (output_of W.contents W.has_failed W.holds_back out.new) (output_of E.contents E.has_failed E.holds_back err.new) }
 {
-    let mut files = OpenedFiles::new(opener);
-    let done = do_file(job, &mut files, out, err, meter);
-    blame_file(job.alloc, &mut files, err, job.file);
+    let done = do_file(job, files, out, err, meter);
+    blame_reading(job.alloc, files, err, job.file);
     done
 }
 
 /// Judges one file with its output in a file of its own, which is made once the input is open: how that ended.
 fn do_output<O: Opener + Maker + Drop, E: Device, M: Meter + Drop>(
     job: &Job<'_>,
-    opener: O,
+    files: &mut OpenedFiles<O>,
     output: &str,
     err: &mut E,
     meter: M,
 ) -> Done
-    ensures answer { IsAnswerOf job.now.task job.now.options.target (O.holds opener (system_name job.now.file.now)) result.ending.answer }
+    requires { files.old.failures < 2 ^ 64 - 1 }
+    ensures answer { IsAnswerOf job.now.task job.now.options.target (O.holds files.old.opener (system_name job.now.file.now)) result.ending.answer }
     ensures broken { TellsBroken (asks_further job.now.task job.now.options.strict) (terms_of (mode_of job.now.task) job.now.options.target)
-        (O.holds opener (system_name job.now.file.now)) result }
+        (O.holds files.old.opener (system_name job.now.file.now)) result }
+    ensures read { IsErrOf result.ending.answer Read → IsUnread files.old.failures files.old.reads files.new.failures files.new.reads }
 {
-    let mut files = OpenedFiles::new(opener);
     if files.open(system_name(job.file)).is_err() {
         let done = put_unjudged(job, err, Stop::Read);
-        blame_file(job.alloc, &mut files, err, job.file);
+        blame_reading(job.alloc, files, err, job.file);
         return done;
     }
     let made = match files.opener.make(output) {
@@ -393,8 +437,8 @@ fn do_output<O: Opener + Maker + Drop, E: Device, M: Meter + Drop>(
         }
     };
     let mut device = WriteDevice::new(made);
-    let done = judge_opened(job, &mut files, &mut device, err, meter);
-    blame_file(job.alloc, &mut files, err, job.file);
+    let done = judge_opened(job, files, &mut device, err, meter);
+    blame_reading(job.alloc, files, err, job.file);
     blame_output(job.alloc, &device, err, output);
     done
 }
@@ -404,12 +448,16 @@ fn do_output<O: Opener + Maker + Drop, E: Device, M: Meter + Drop>(
 pub fn more<O: Opener + Maker + Drop + Copy, W: Device, E: Device, M: Meter + Drop + Copy>(
     alloc: Global,
     wanted: &Wanted<'_>,
-    opener: O,
+    files: &mut OpenedFiles<O>,
     out: &mut W,
     err: &mut E,
     meter: M,
 ) -> u8
-    ensures { IsStatus wanted.now.request.task (subcommand_rows_of wanted.now.matches) (λ name. O.holds opener name) result }
+    requires { files.old.failures < 2 ^ 64 - 1 }
+    ensures { IsStatus wanted.now.request.task (subcommand_rows_of wanted.now.matches) (λ name. O.holds files.old.opener name)
+        (IsUnread files.old.failures files.old.reads files.new.failures files.new.reads) result
+        (output_of W.contents W.has_failed W.holds_back out.old) (output_of W.contents W.has_failed W.holds_back out.new)
+        (output_of E.contents E.has_failed E.holds_back err.old) (output_of E.contents E.has_failed E.holds_back err.new) }
 {
     let options = match options_of(wanted) {
         Ok(options) => options,
@@ -427,17 +475,17 @@ pub fn more<O: Opener + Maker + Drop + Copy, W: Device, E: Device, M: Meter + Dr
         return explain_labels(alloc, names, options.json, out, err);
     }
     if names.len() != 1 {
-        return do_files(&job, names, opener, out, err, meter);
+        return do_files(&job, names, files.opener, out, err, meter);
     }
     let job = Job {
         file: names[0],
         ..job
     };
     let Some(output) = options.output else {
-        return do_one(&job, opener, out, err, meter).status();
+        return do_one(&job, files, out, err, meter).status();
     };
-    if opener.is_same(system_name(job.file), output) {
-        return refuse(err, "the output is the input");
+    if files.opener.is_same(system_name(job.file), output) {
+        return refuse(err, Refusal::Clash(Clash::OutputIsInput));
     }
-    do_output(&job, opener, output, err, meter).status()
+    do_output(&job, files, output, err, meter).status()
 }

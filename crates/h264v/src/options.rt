@@ -1,13 +1,16 @@
 //! The options of a command line, and which of them go together.
 #![tactic(auto)]
 
-ghost use Rattle.std.specs.Prelude.{◌≡◌, ◌<◌, ◌↔◌, true, None, IfOk, IfErr, IsSome, map, option_map, codes};
+ghost use Rattle.std.specs.Prelude.{◌≡◌, ◌<◌, ◌↔◌, true, None, IfOk, IfErr, IsSome, IfSome, map, option_map, codes};
 ghost use Rattle.clap.specs.Words.{subcommand_rows_of};
-ghost use Rattle.h264_base.specs.declared.mode.Target.{Target as TargetView};
-ghost use Rattle.h264v.specs.Options.{AreClashing, AreExclusive, AreOptions, IsMisplaced, IsMisused, IsNoNumber, IsNumber, IsRefused, IsUnreadable, times};
-ghost use Rattle.h264v.specs.Words.{Given, IsTarget, value_in};
+ghost use Rattle.h264v.specs.Options.{AreOptions, AreWellUsed, IsClash, IsMisplaced, IsNoise, IsNoNumber, IsNumber, IsRefused, IsUnreadable, times};
+ghost use Rattle.h264v.specs.Words.{Given, value_in};
+ghost use Rattle.h264v.specs.declared.refusal.Clash.{Clash as ClashView};
+ghost use Rattle.h264v.specs.declared.refusal.Misplaced.{Misplaced as MisplacedView};
+ghost use Rattle.h264v.specs.declared.refusal.Noise.{Noise as NoiseView};
 
-use crate::command_line::{Task, Wanted};
+use crate::command_line::{Task, Wanted, target_of};
+use crate::refusal::{Clash, Misplaced, Noise, Refusal, Unreadable};
 use h264_base::Target;
 use h264_report::survey::Choice;
 
@@ -34,13 +37,12 @@ impl Options<'_> {
     }
 }
 
-/// Why options are refused: a text for a line.
-pub type Refusal = &'static str;
+/// That a value is no number below 2^64.
+#[derive(Clone, Copy)]
+struct NoNumber;
 
 /// The number that an option has.
-///
-/// An error says that its value is no number.
-fn number_of(value: Option<&str>, refusal: Refusal) -> Result<Option<u64>, Refusal>
+fn number_of(value: Option<&str>) -> Result<Option<u64>, NoNumber>
     ensures number { IfOk result (IsNumber (option_map (λ v. v.now) value.entry)) }
     ensures none { IfErr result (λ _. IsNoNumber (option_map (λ v. v.now) value.entry)) }
 {
@@ -49,45 +51,26 @@ fn number_of(value: Option<&str>, refusal: Refusal) -> Result<Option<u64>, Refus
     };
     match text.parse::<u64>() {
         Ok(number) => Ok(Some(number)),
-        Err(_) => Err(refusal),
+        Err(_) => Err(NoNumber),
     }
-}
-
-/// The target of this name, which is Constrained Baseline where none is given.
-///
-/// An error says that the name is no target's.
-fn target_of(name: Option<&str>) -> Result<Target, Refusal>
-    ensures target { IfOk result (IsTarget (option_map (λ n. n.now) name.entry)) }
-    ensures none { IfErr result (λ _. (target : TargetView) → IsTarget (option_map (λ n. n.now) name.entry) target → ⊥) }
-{
-    let Some(text) = name else {
-        return Ok(Target::Baseline);
-    };
-    if text == "baseline" {
-        return Ok(Target::Baseline);
-    }
-    if text == "main-ip" {
-        return Ok(Target::MainIP);
-    }
-    Err("--target is baseline or main-ip")
 }
 
 /// The options that words give.
 ///
-/// An error says which value is no number, or no target.
-fn given_options<'a>(wanted: &Wanted<'a>) -> Result<Options<'a>, Refusal>
+/// An error says which value can't be read.
+fn given_options<'a>(wanted: &Wanted<'a>) -> Result<Options<'a>, Unreadable>
     ensures given { IfOk result (AreOptions (subcommand_rows_of wanted.now.matches)) }
-    ensures unreadable { IfErr result (λ _. IsUnreadable (subcommand_rows_of wanted.now.matches)) }
+    ensures unreadable { IfErr result (IsUnreadable (subcommand_rows_of wanted.now.matches)) }
 {
-    let picture = number_of(
-        wanted.value("picture"),
-        "--picture wants the number of a picture, from 0",
-    )?;
-    let macroblock = number_of(
-        wanted.value("mb"),
-        "--mb wants the address of a macroblock, from 0",
-    )?;
-    let target = target_of(wanted.value("target"))?;
+    let Ok(picture) = number_of(wanted.value("picture")) else {
+        return Err(Unreadable::Picture);
+    };
+    let Ok(macroblock) = number_of(wanted.value("mb")) else {
+        return Err(Unreadable::Macroblock);
+    };
+    let Some(target) = target_of(wanted.value("target")) else {
+        return Err(Unreadable::Target);
+    };
     Ok(Options {
         explain: wanted.has("explain"),
         json: wanted.has("json"),
@@ -104,46 +87,51 @@ fn given_options<'a>(wanted: &Wanted<'a>) -> Result<Options<'a>, Refusal>
     })
 }
 
-/// Why an option says nothing to a task.
-fn misplaced(task: Task, options: &Options<'_>, names_target: bool) -> Option<Refusal>
-    ensures some { (given : Given) → (names_target ≡ true → IsSome (value_in given (codes "target"))) → IsSome result → IsMisplaced task given options.now }
-    ensures none { (given : Given) → (IsSome (value_in given (codes "target")) → names_target ≡ true) → result ≡ None → IsMisplaced task given options.now → ⊥ }
+/// The option that says nothing to a task, if there is one.
+fn misplaced(task: Task, options: &Options<'_>, names_target: bool) -> Option<Misplaced>
+    ensures some { (given : Given) → (names_target ≡ true → IsSome (value_in given (codes "target"))) →
+        IfSome result (IsMisplaced task given options.now) }
+    ensures none { (given : Given) → (IsSome (value_in given (codes "target")) → names_target ≡ true) → result ≡ None →
+        (which : MisplacedView) → IsMisplaced task given options.now which → ⊥ }
 {
     if options.y4m && task != Task::Decode {
-        return Some("--y4m belongs to decode");
+        return Some(Misplaced::Y4m);
     }
     if options.strict && task != Task::Check {
-        return Some("--strict belongs to check");
+        return Some(Misplaced::Strict);
     }
     if options.output.is_some() && task != Task::Decode && task != Task::Report {
-        return Some("--output belongs to decode and report");
+        return Some(Misplaced::Output);
     }
     let chooses = options.choice.picture.is_some() || options.choice.macroblock.is_some();
     if chooses && task != Task::Elements {
-        return Some("--picture and --mb belong to elements");
+        return Some(Misplaced::Choice);
     }
     if options.explain && !task.is_judging() {
-        return Some("--explain belongs to check, units, headers, frames, decode and elements");
+        return Some(Misplaced::Explain);
     }
     if task == Task::Explain && (options.quiet || options.progress || names_target) {
-        return Some("explain takes no option but --json");
+        return Some(Misplaced::BesideExplain);
     }
     None
 }
 
-/// Why options exclude one another.
-fn exclusive(options: &Options<'_>) -> Option<Refusal>
-    ensures some { IsSome result → AreExclusive options.now }
-    ensures none { result ≡ None → AreExclusive options.now → ⊥ }
+/// The option that `--quiet` excludes, if both are there.
+fn noise(options: &Options<'_>) -> Option<Noise>
+    ensures some { IfSome result (IsNoise options.now) }
+    ensures none { result ≡ None → (noise : NoiseView) → IsNoise options.now noise → ⊥ }
 {
-    if options.quiet && options.json {
-        return Some("--quiet and --json exclude one another");
+    if !options.quiet {
+        return None;
     }
-    if options.quiet && options.explain {
-        return Some("--quiet and --explain exclude one another");
+    if options.json {
+        return Some(Noise::Json);
     }
-    if options.quiet && options.progress {
-        return Some("--quiet and --progress exclude one another");
+    if options.explain {
+        return Some(Noise::Explain);
+    }
+    if options.progress {
+        return Some(Noise::Progress);
     }
     None
 }
@@ -162,24 +150,24 @@ fn times(files: &[&str], name: &str) -> usize
     count
 }
 
-/// Why these files and this output do not go together.
-fn clashing(task: Task, options: &Options<'_>, files: &[&str]) -> Option<Refusal>
-    ensures some { IsSome result → AreClashing task options.now (map (λ f. f.now) files.now) }
-    ensures none { result ≡ None → AreClashing task options.now (map (λ f. f.now) files.now) → ⊥ }
+/// Why these files and this output do not go together, if they do not.
+fn clash(task: Task, options: &Options<'_>, files: &[&str]) -> Option<Clash>
+    ensures some { IfSome result (IsClash task options.now (map (λ f. f.now) files.now)) }
+    ensures none { result ≡ None → (clash : ClashView) → IsClash task options.now (map (λ f. f.now) files.now) clash → ⊥ }
 {
     if files.len() > 1 && task == Task::Decode {
-        return Some("decode takes one FILE");
+        return Some(Clash::SeveralToDecode);
     }
     if files.len() > 1 && task == Task::Report {
-        return Some("report takes one FILE");
+        return Some(Clash::SeveralToReport);
     }
     if let Some(output) = options.output {
         if times(files, output) > 0 {
-            return Some("the output is the input");
+            return Some(Clash::OutputIsInput);
         }
     }
     if times(files, "-") > 1 {
-        return Some("standard input is given more than once");
+        return Some(Clash::InputTwice);
     }
     None
 }
@@ -189,19 +177,22 @@ fn clashing(task: Task, options: &Options<'_>, files: &[&str]) -> Option<Refusal
 /// An error says why they are refused.
 pub fn options_of<'a>(wanted: &Wanted<'a>) -> Result<Options<'a>, Refusal>
     ensures given { IfOk result (AreOptions (subcommand_rows_of wanted.now.matches)) }
-    ensures used { IfOk result (λ options. IsMisused wanted.now.request.task (subcommand_rows_of wanted.now.matches) options → ⊥) }
-    ensures refused { IfErr result (λ _. IsRefused wanted.now.request.task (subcommand_rows_of wanted.now.matches)) }
+    ensures used { IfOk result (AreWellUsed wanted.now.request.task (subcommand_rows_of wanted.now.matches)) }
+    ensures refused { IfErr result (IsRefused wanted.now.request.task (subcommand_rows_of wanted.now.matches)) }
 {
-    let options = given_options(wanted)?;
+    let options = match given_options(wanted) {
+        Ok(options) => options,
+        Err(unreadable) => return Err(Refusal::Unreadable(unreadable)),
+    };
     let task = wanted.request.task;
-    if let Some(refusal) = misplaced(task, &options, wanted.value("target").is_some()) {
-        return Err(refusal);
+    if let Some(misplaced) = misplaced(task, &options, wanted.value("target").is_some()) {
+        return Err(Refusal::Misplaced(misplaced));
     }
-    if let Some(refusal) = exclusive(&options) {
-        return Err(refusal);
+    if let Some(noise) = noise(&options) {
+        return Err(Refusal::Noise(noise));
     }
-    match clashing(task, &options, wanted.files().unwrap_or(&[])) {
-        Some(refusal) => Err(refusal),
+    match clash(task, &options, wanted.files().unwrap_or(&[])) {
+        Some(clash) => Err(Refusal::Clash(clash)),
         None => Ok(options),
     }
 }

@@ -3,14 +3,14 @@
 
 ghost use Rattle.std.specs.Prelude.{◌≡◌, ◌-◌, ◌<◌, ◌≤◌, ◌⊎◌, ◌^◌, List, Some, map, string_bytes};
 ghost use Rattle.clap.specs.Words.{Text, subcommand_rows_of};
-ghost use Rattle.h264v.specs.Commands.{output_by};
-ghost use Rattle.h264v.specs.Files.{HasFailedToRead, HasReadAll};
+ghost use Rattle.h264v.specs.Commands.{output_by, output_of};
+ghost use Rattle.h264v.specs.Files.{HasFailedToRead, HasReadAll, IsUnread};
 ghost use Rattle.h264v.specs.More.{IsStatus, Ends, Runs};
 
 use crate::command::{command, not_text};
 use crate::command_line::Wanted;
 use crate::files::{OpenedFiles, Opener};
-use crate::more::{Maker, blame, blame_output, more};
+use crate::more::{Maker, blame_output, blame_reading, more};
 use crate::outcome::Outcome;
 use crate::words::Words;
 use h264_report::survey::{Meter, NoMeter};
@@ -22,7 +22,7 @@ use std::io::Write;
 fn run_more<O, W, E, M>(
     alloc: Global,
     wanted: &Wanted<'_>,
-    opener: O,
+    files: &mut OpenedFiles<O>,
     out: &mut W,
     err: &mut E,
     meter: M,
@@ -32,15 +32,19 @@ where
     W: Device,
     E: Device,
     M: Meter + Drop + Copy,
-    ensures { IsStatus wanted.now.request.task (subcommand_rows_of wanted.now.matches) (λ name. O.holds opener name) result }
+    requires { files.old.failures < 2 ^ 64 - 1 }
+    ensures { IsStatus wanted.now.request.task (subcommand_rows_of wanted.now.matches) (λ name. O.holds files.old.opener name)
+        (IsUnread files.old.failures files.old.reads files.new.failures files.new.reads) result
+        (output_of W.contents W.has_failed W.holds_back out.old) (output_of W.contents W.has_failed W.holds_back out.new)
+        (output_of E.contents E.has_failed E.holds_back err.old) (output_of E.contents E.has_failed E.holds_back err.new) }
 {
     if wanted.has("progress") {
-        return more(alloc, wanted, opener, out, err, meter);
+        return more(alloc, wanted, files, out, err, meter);
     }
-    more(alloc, wanted, opener, out, err, NoMeter)
+    more(alloc, wanted, files, out, err, NoMeter)
 }
 
-/// Does what these words ask, the program's name first among them: the exit status.
+/// Does what these words ask, the program's name first among them: the exit status. Where a FILE could not be read, standard error is told why.
 fn answer_words<O, W, E, M>(
     alloc: Global,
     words: &[String],
@@ -60,27 +64,17 @@ where
         (λ n. (n ≤ files.new.reads) ⊎ (0 < files.new.failures))) (HasReadAll files.old.failures files.new.failures) result
         (output_by W.contents out.old) (output_by W.contents out.new) (output_by E.contents err.old) }
 {
-    let opener = files.opener;
     match command(alloc, words, files, out, err) {
-        Outcome::Done(status) => status,
-        Outcome::More(wanted) => run_more(alloc, &wanted, opener, out, err, meter),
+        Outcome::Fault(status) => status,
+        Outcome::Done(name, status) => {
+            blame_reading(alloc, files, err, name);
+            status
+        }
+        Outcome::More(wanted) => run_more(alloc, &wanted, files, out, err, meter),
     }
 }
 
-/// Says why the file that the words name last could not be read, where it could not.
-fn blame_last<O: Opener + Drop>(
-    alloc: Global,
-    files: &OpenedFiles<O>,
-    words: &[String],
-    err: &mut impl Device,
-) {
-    if let (Some(cause), Some(word)) = (&files.cause, words.last()) {
-        blame(alloc, err, word.as_str(), cause);
-    }
-}
-
-/// Does what these words ask, the program's name first among them: the exit status. Then standard error is told why a file or standard output failed,
-/// where one did.
+/// Does what these words ask, the program's name first among them: the exit status. Then standard error is told why standard output failed, where it did.
 pub fn run_words<O, W, E, M>(
     alloc: Global,
     words: &[String],
@@ -101,7 +95,6 @@ where
         (output_by W.contents out.old) (output_by W.contents out.new) (output_by E.contents err.old) }
 {
     let status = answer_words(alloc, words, files, out, err, meter);
-    blame_last(alloc, files, words, err);
     blame_output(alloc, out, err, "standard output");
     status
 }

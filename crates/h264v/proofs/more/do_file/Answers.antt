@@ -1,11 +1,11 @@
-use Rattle.std.proofs.Common.{sym, ◌∙◌, subst}
+use Rattle.std.proofs.Common.{◌<◌, ◌≤◌, ◌⊎◌, sym, ◌∙◌, subst}
 use Rattle.std.specs.Io.KnownBytes.{Keeps}
 use Rattle.h264_report.proofs.Accounts.{of-kept}
 use Rattle.h264_verify.specs.Units.{terms_of}
 use Rattle.h264v.specs.Files.{left_of}
 use Rattle.h264v.specs.More.{IsAnswer}
 use Rattle.h264v.specs.Words.{mode_of}
-use Rattle.h264v.proofs.Failing.{opened}
+use Rattle.h264v.proofs.Failing.{opened, read-since}
 use Rattle.h264v.proofs.Further.{broken-kept}
 use Rattle.h264v.proofs.more.do_file.Goals as goal
 
@@ -20,3 +20,9 @@ returns-clause-broken g c =
     let k = subst (λ name. Keeps (g.O.Opener.holds c.args.files.now.opener name) (left_of g.O.File.Read.remaining c.open.new.self.reader)) c.system_name.ensures
     (opened c.open.result _ (sym c.is_err.ensures.value ∙ c.if-is_err.false) c.open.ensures.opened) in
     broken-kept _ _ _ _ c.judge_opened.result k c.judge_opened.ensures.broken
+
+pub returns-clause-read : goal.returns-clause-read
+returns-clause-read g c e =
+    let well = sym c.is_err.ensures.value ∙ c.if-is_err.false in
+    read-since (λ n. (n ≤ c.judge_opened.new.files.reads) ⊎ (0 < c.judge_opened.new.files.failures)) (opened c.open.result _ well c.open.ensures.kept) (opened c.open.result _ well c.open.ensures.reads)
+    (c.judge_opened.ensures.read e)

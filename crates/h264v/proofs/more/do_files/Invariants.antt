@@ -1,9 +1,11 @@
-use Rattle.std.specs.Prelude.{◌≡◌, List, map, take}
+use Rattle.std.specs.Prelude.{◌≡◌, List, map, take, true}
 use Rattle.std.specs.List.{All}
-use Rattle.h264v.specs.More.{FileDone, IsJudged, worst}
+use Rattle.h264v.specs.More.{FileDone, worst}
+use Rattle.h264v.proofs.Writing.{IsWritten}
 use Rattle.h264v.proofs.more.do_files.Given as goal
 
 abbrev pub invariant-loop-name : goal.invariant-loop-name
 invariant-loop-name g l =
     (files : List FileDone) × (map (λ f. f.name) files ≡ map (λ n. n.now) (take l.name-index l.names))
-    × All (IsJudged l.job.task l.job.options (λ name. g.O.Opener.holds l.opener name)) files × (l.totals.worst ≡ worst files)
+    × All (IsWritten l.job.task l.job.options (λ name. g.O.Opener.holds l.opener name)) files × (l.totals.worst ≡ worst files)
+    × (g.W.Device.has_failed l.out ≡ true → g.W.Device.has_failed l.fn.out ≡ true)

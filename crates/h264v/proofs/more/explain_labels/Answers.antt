@@ -1,4 +1,5 @@
-use Rattle.std.proofs.Common.{◌≡◌, true, false, refl, map, length, string_bytes, subst, arith, ap, ◌∙◌}
+use Rattle.std.proofs.Common.{◌≡◌, true, false, refl, map, length, string_bytes, subst, arith, ap, sym, ◌∙◌}
+use Rattle.std.proofs.lemmas.Bool.{true≢false}
 use Rattle.std.proofs.lemmas.List.{take_all}
 use Rattle.h264_report.specs.Sent.{Sends}
 use Rattle.h264_report.specs.Written.{status_of}
@@ -20,9 +21,10 @@ loop-label-preserved g c = (
 
 pub returns-then-is_err-clause-status : goal.returns-then-is_err-clause-status
 returns-then-is_err-clause-status g c = Short c.put_memory.result.written (c.status.ensures ∙ ap (λ answer. status_of c.put_memory.result.written answer) c.put_memory.ensures.answer)
+    (record { whole = c.put_memory.ensures.handed_over; failed = c.put_memory.ensures.failed })
 
 pub returns-then-put_text-clause-status : goal.returns-then-put_text-clause-status
-returns-then-put_text-clause-status g c = Told true refl
+returns-then-put_text-clause-status g c = Told true refl (record { whole = λ e. c.if-put_text.ensures.handed_over refl; failed = λ e. absurd (true≢false e) })
 
 pub returns-then-put_text-clause-told : goal.returns-then-put_text-clause-told
 returns-then-put_text-clause-told g c zero =
@@ -34,4 +36,4 @@ returns-then-put_text-clause-told g c zero =
     )
 
 pub returns-clause-status : goal.returns-clause-status
-returns-clause-status g c = Told false refl
+returns-clause-status g c = Told false refl (record { whole = λ e. absurd (true≢false (sym e)); failed = λ e. c.if-put_text.ensures.failed refl })

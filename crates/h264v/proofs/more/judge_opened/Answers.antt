@@ -1,5 +1,12 @@
-use Rattle.h264v.proofs.Further.{broken-or-short}
+use Rattle.h264v.proofs.Further.{broken-told}
+use Rattle.h264v.proofs.Writing.{read-told}
 use Rattle.h264v.proofs.more.judge_opened.Goals as goal
 
 pub returns-clause-broken : goal.returns-clause-broken
-returns-clause-broken g c = broken-or-short c.find-found.result _ _ _ c.put_answer.result c.find-found.ensures.further c.put_answer.ensures.broken c.put_answer.ensures.none
+returns-clause-broken g c =
+    broken-told c.in-Some.found.strict _ _ _ c.did_fail-failed.result c.in-Some.found.answer c.told_answer-found.result c.put_answer.result c.in-Some.ensures.further c.told_answer-found.ensures c.put_answer.ensures.answer
+    c.put_answer.ensures.broken c.put_answer.ensures.unbroken
+
+pub returns-clause-read : goal.returns-clause-read
+returns-clause-read g c e =
+    c.in-Some.ensures.read (read-told c.did_fail-failed.result c.in-Some.found.answer c.told_answer-found.result c.put_answer.result.ending.answer c.told_answer-found.ensures c.put_answer.ensures.answer e)

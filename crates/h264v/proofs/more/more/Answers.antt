@@ -1,12 +1,16 @@
-use Rattle.std.proofs.Common.{◌≡◌, ℕ, List, [], Bor, slice_index_or, length, refl, ◌∙◌, ⊎_elim, arith, rules}
+use Rattle.std.proofs.Common.{◌≡◌, ℕ, List, [], Bor, IsSome, slice_index_or, length, option_map, refl, sym, ap, ◌∙◌, subst, arith, rules}
 use Rattle.clap.specs.Words.{subcommand_rows_of}
-use Rattle.h264v.specs.More.{Refused, Explained, Judged, Unwritten}
+use Rattle.h264v.specs.More.{Refused, Explained, Judged}
+use Rattle.h264v.specs.Options.{Same}
+use Rattle.h264v.specs.declared.refusal.Clash.TheVariants as clashes
+use Rattle.h264v.specs.declared.refusal.Refusal.TheVariants as refusals
 use Rattle.h264v.proofs.Given.{names-given}
-use Rattle.h264v.proofs.Statuses.{alone, single}
+use Rattle.h264v.proofs.Statuses.{single}
+use Rattle.h264v.proofs.Writing.{alone, alone-elsewhere, read-of-any}
 use Rattle.h264v.proofs.more.more.Goals as goal
 
 pub returns-in-Err : goal.returns-in-Err
-returns-in-Err g c = Refused c.refuse.ensures.status c.in-Err.ensures.refused
+returns-in-Err g c = Refused c.in-Err.refusal c.refuse.ensures.status c.in-Err.ensures.refused refl c.refuse.ensures.told
 
 pub returns-then-eq : goal.returns-then-eq
 returns-then-eq g c = Explained (search rules) c.explain_labels.ensures.status
@@ -14,7 +18,8 @@ returns-then-eq g c = Explained (search rules) c.explain_labels.ensures.status
 pub returns-then-names-ne1 : goal.returns-then-names-ne1
 returns-then-names-ne1 g c =
     let names = names-given c.files.result c.unwrap_or-names.result _ (subcommand_rows_of c.args.wanted.now.matches) c.files.ensures c.unwrap_or-names.ensures refl in
-    ⊎_elim (λ t. Judged c.in-Ok.options t.0 c.in-Ok.ensures.given c.in-Ok.ensures.used (t.1 ∙ names) t.2 t.3) (λ e. Unwritten e) c.do_files.ensures
+    Judged c.in-Ok.options c.in-Ok.ensures.given c.in-Ok.ensures.used
+    (read-of-any names c.do_files.ensures)
 
 pub returns-in_default : goal.returns-in_default
 returns-in_default g c =
@@ -22,8 +27,14 @@ returns-in_default g c =
     let names = names-given c.files.result c.unwrap_or-names.result _ (subcommand_rows_of c.args.wanted.now.matches) c.files.ensures c.unwrap_or-names.ensures refl in
     let all = c.unwrap_or-names.result.now in
     let one : length all ≡ 1 = let t = c.if-names-ne1.false in omega (arith, t) in
-    alone c.args.wanted.now.request.task _ _ c.in-Ok.options (record { name = (slice_index_or all 0 none).now; done = c.do_one.result }) c.status.result c.in-Ok.ensures.given c.in-Ok.ensures.used
-    (single (λ (n : Bor (List ℕ)). n.now) all none one ∙ names) (record { answer = c.do_one.ensures.answer; broken = c.do_one.ensures.broken }) c.status.ensures
+    Judged c.in-Ok.options c.in-Ok.ensures.given c.in-Ok.ensures.used
+    (alone c.args.wanted.now.request.task c.in-Ok.options _ _ (record { name = (slice_index_or all 0 none).now; done = c.do_one.result }) _ c.status.result _ _ _ (single (λ (n : Bor (List ℕ)). n.now) all none one ∙ names)
+    c.do_one.ensures.answer c.do_one.ensures.broken c.do_one.ensures.read c.do_one.ensures.failures c.status.ensures)
+
+pub returns-then-is_same : goal.returns-then-is_same
+returns-then-is_same g c =
+    let output = sym c.in-Ok.ensures.given.output ∙ ap (option_map (λ (s : Bor (List ℕ)). s.now)) c.in-Some.is in
+    Refused (refusals.Clash clashes.OutputIsInput) c.refuse-then-is_same.ensures.status (Same refl (subst IsSome (sym output) refl)) refl c.refuse-then-is_same.ensures.told
 
 pub returns : goal.returns
 returns g c =
@@ -31,5 +42,6 @@ returns g c =
     let names = names-given c.files.result c.unwrap_or-names.result _ (subcommand_rows_of c.args.wanted.now.matches) c.files.ensures c.unwrap_or-names.ensures refl in
     let all = c.unwrap_or-names.result.now in
     let one : length all ≡ 1 = let t = c.if-names-ne1.false in omega (arith, t) in
-    alone c.args.wanted.now.request.task _ _ c.in-Ok.options (record { name = (slice_index_or all 0 none).now; done = c.do_output.result }) c.status-2.result c.in-Ok.ensures.given c.in-Ok.ensures.used
-    (single (λ (n : Bor (List ℕ)). n.now) all none one ∙ names) (record { answer = c.do_output.ensures.answer; broken = c.do_output.ensures.broken }) c.status-2.ensures
+    Judged c.in-Ok.options c.in-Ok.ensures.given c.in-Ok.ensures.used
+    (alone-elsewhere c.args.wanted.now.request.task c.in-Ok.options _ _ (record { name = (slice_index_or all 0 none).now; done = c.do_output.result }) _ c.status-2.result _ _ (single (λ (n : Bor (List ℕ)). n.now) all none one ∙ names)
+    c.do_output.ensures.answer c.do_output.ensures.broken c.do_output.ensures.read (subst IsSome (sym c.in-Some.is) refl) c.status-2.ensures)

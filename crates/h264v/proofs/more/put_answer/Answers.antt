@@ -1,7 +1,8 @@
+use Rattle.h264v.proofs.Writing.{put-aside, put-here}
 use Rattle.h264v.proofs.more.put_answer.Goals as goal
 
-pub returns-in-Some-true-clause-broken : goal.returns-in-Some-true-clause-broken
-returns-in-Some-true-clause-broken g c = rw c.in-Some-true.is-0 (c.put_found.ensures.broken, c.put_found.ensures.unbroken)
+pub returns-then-answers_aside-clause-devices : goal.returns-then-answers_aside-clause-devices
+returns-then-answers_aside-clause-devices g c = put-aside _ _ _ c.put_found.ensures.failed
 
-pub returns-in-Some-false-clause-broken : goal.returns-in-Some-false-clause-broken
-returns-in-Some-false-clause-broken g c = rw c.in-Some-false.is-0 (c.put_found-in-Some-false.ensures.broken, c.put_found-in-Some-false.ensures.unbroken)
+pub returns-clause-devices : goal.returns-clause-devices
+returns-clause-devices g c = put-here _ _ _ _ c.put_found-2.ensures.handed_over c.put_found-2.ensures.quiet c.put_found-2.ensures.failed

@@ -1,12 +1,18 @@
-use Rattle.std.proofs.Common.{subst}
-use Rattle.h264v.specs.More.{IsStatus, Plain, More}
+use Rattle.h264v.specs.More.{Plain, More}
+use Rattle.h264v.proofs.Statuses.{moved}
 use Rattle.h264v.proofs.program.answer_words.Goals as goal
 
+pub run_more-requires : goal.run_more-requires
+run_more-requires g c = rw (c.command.ensures.kept c.in-More.wanted c.in-More.is) c.requires
+
+pub returns-in-Fault : goal.returns-in-Fault
+returns-in-Fault g c = Plain _ c.in-Fault.ensures.comes
+
 pub returns-in-Done : goal.returns-in-Done
-returns-in-Done g c = Plain _ c.in-Done.ensures
+returns-in-Done g c = Plain _ c.in-Done.ensures.comes
 
 pub returns-in-More : goal.returns-in-More
 returns-in-More g c =
+    let comes = c.in-More.ensures.comes in
     let request = c.in-More.wanted.request in
-    More request.task request.file.now c.in-More.ensures.0
-    (subst (λ given. IsStatus request.task given (λ name. g.O.Opener.holds c.args.files.now.opener name) c.run_more.result) c.in-More.ensures.1 c.run_more.ensures)
+    More _ request.task request.file.now comes.0 (moved comes.1 comes.2 comes.3 (rw (c.command.ensures.kept c.in-More.wanted c.in-More.is) at c.run_more.ensures))

@@ -1,0 +1,174 @@
+-- What is said of a failed write.
+use Rattle.std.proofs.Common.{◌≡◌, ◌≢◌, ℕ, max, Bool, true, false, ◌⊎◌, inl, inr, ⊎_elim, List, [], ◌∷◌, Option, Some, IsSome, Result, Ok, Err, OnOk, OnErr, IsErrOf, not, refl, sym, subst, ◌∙◌, map, length, arith, if◌then◌else◌}
+use Rattle.std.specs.List.{All}
+use Rattle.std.proofs.lemmas.Bool.{true≢false}
+use Rattle.std.proofs.lemmas.List.Elements.{All-nil, All-push, All-weaker}
+use Rattle.clap.specs.Words.{Text}
+use Rattle.h264_base.specs.declared.mode.Target.{Target}
+use Rattle.h264_base.specs.declared.stop.Stop.{Stop}
+use Rattle.h264_base.specs.declared.stop.Stop.TheVariants.{No, Outside, Memory, Read, Write}
+use Rattle.h264_report.specs.Written.{told_of, status_of}
+use Rattle.h264_report.specs.declared.judging.Ending.{Ending}
+use Rattle.h264_verify.specs.Units.{terms_of}
+use Rattle.h264_verify.specs.declared.state.Summary.{Summary}
+use Rattle.h264v.specs.Commands.{Output, HasFailed, IsHandedOver}
+use Rattle.h264v.specs.Further.{asks_further, TellsBroken}
+use Rattle.h264v.specs.More.{AreDone, Each, Broke, FileDone, IsAnswerOf, IsJudged, IsPutAside, MayBeUnread, TellsWrites, done_status, worst}
+use Rattle.h264v.specs.Words.{mode_of, system_name}
+use Rattle.h264v.specs.declared.command_line.Task.{Task}
+use Rattle.h264v.specs.declared.job.Done.{Done}
+use Rattle.h264v.specs.declared.options.Options.{Options}
+
+-- an answer of a failed write is told where the device failed, and only there
+failed-told : (failed : Bool) (answer said : Result Summary Stop) → said ≡ told_of failed answer → said ≡ Err Write → failed ≡ true
+failed-told true answer said is e = refl
+failed-told false (Ok summary) said is e = absurd (let d = sym is ∙ e in cc)
+failed-told false (Err (No bit rule)) said is e = absurd (let d = sym is ∙ e in cc)
+failed-told false (Err (Outside bit feature)) said is e = absurd (let d = sym is ∙ e in cc)
+failed-told false (Err Memory) said is e = absurd (let d = sym is ∙ e in cc)
+failed-told false (Err Read) said is e = absurd (let d = sym is ∙ e in cc)
+failed-told false (Err Write) said is e = absurd (let d = sym is ∙ e in cc)
+
+untold : (failed : Bool) (answer said : Result Summary Stop) → said ≡ told_of failed answer → (said ≡ Err Write → ⊥) → failed ≡ false
+untold true answer said is never = absurd (never is)
+untold false answer said is never = refl
+
+-- a failed read is told of one
+read-said : (failed : Bool) (raw said : Result Summary Stop) → said ≡ told_of failed raw → said ≡ Err Read → raw ≡ Err Read
+read-said true raw said told e = absurd (let d = sym told ∙ e in cc)
+read-said false (Ok summary) said told e = absurd (let d = sym told ∙ e in cc)
+read-said false (Err (No bit rule)) said told e = absurd (let d = sym told ∙ e in cc)
+read-said false (Err (Outside bit feature)) said told e = absurd (let d = sym told ∙ e in cc)
+read-said false (Err Memory) said told e = absurd (let d = sym told ∙ e in cc)
+read-said false (Err Read) said told e = refl
+read-said false (Err Write) said told e = absurd (let d = sym told ∙ e in cc)
+
+pub read-told : (failed : Bool) (raw said final : Result Summary Stop) → said ≡ told_of failed raw → (final ≡ said) ⊎ (final ≡ Err Memory) → final ≡ Err Read → raw ≡ Err Read
+read-told failed raw said final told is e = ⊎_elim (λ same. read-said failed raw said told (sym same ∙ e)) (λ short. absurd (let d = sym short ∙ e in cc)) is
+
+-- what a device holds back after it was asked for the rest, where it has not failed
+pub rest-sent : {T E : Type 0} (r : Result T E) (holds failed : Bool) → OnOk r (holds ≡ false) → OnErr r (failed ≡ true) → failed ≡ false → holds ≡ false
+rest-sent (Ok x) holds failed h f none = h
+rest-sent (Err x) holds failed h f none = absurd (true≢false (sym f ∙ none))
+
+kept-over : (before after : Output) → before.holds_back ≡ false → IsHandedOver before after → after.holds_back ≡ false
+kept-over before after none h = ⊎_elim (λ e. e) (λ same. rw same none) h
+
+-- a device that has failed stays so
+kept-failed : (written : Bool) {was is : Bool} → (written ≡ true → is ≡ was) → (written ≡ false → is ≡ true) → was ≡ true → is ≡ true
+kept-failed true same failed e = same refl ∙ e
+kept-failed false same failed e = failed refl
+
+-- a line went to standard error
+pub put-aside : (written : Bool) (out err' : Output) → (written ≡ false → err'.has_failed ≡ true) → IsPutAside written out out err'
+put-aside written out err' failed = record { unwritten = λ e. inr (failed e); quiet = λ e. (refl, inr refl); kept = λ e. e }
+
+-- a line went to standard output
+pub put-here : (written : Bool) (out out' err' : Output) → (written ≡ true → out'.holds_back ≡ false) → (written ≡ true → out'.has_failed ≡ out.has_failed) → (written ≡ false → out'.has_failed ≡ true) →
+    IsPutAside written out out' err'
+put-here written out out' err' over same failed =
+    record { unwritten = λ e. inl (failed e); quiet = λ e. (same e, inl (over e)); kept = kept-failed written same failed }
+
+-- what is told after a judgement that the device outlived or not
+pub writes-told : (failed : Bool) (raw said : Result Summary Stop) (ending : Ending) (before out out' err' : Output) → failed ≡ out.has_failed → said ≡ told_of failed raw →
+    (ending.answer ≡ said) ⊎ (ending.answer ≡ Err Memory) → (said ≡ Err Write → ending.answer ≡ Err Write) → (out.has_failed ≡ false → out.holds_back ≡ false) → IsPutAside ending.written out out' err' →
+    TellsWrites ending before out' err'
+writes-told failed raw said ending before out out' err' is told answer write rest put = record {
+  write = λ e. put.kept (sym is ∙ failed-told failed raw said told (⊎_elim (λ same. sym same ∙ e) (λ short. absurd (let d = sym short ∙ e in cc)) answer));
+  unwritten = put.unwritten;
+  told = λ never whole.
+      let none = sym is ∙ untold failed raw said told (λ e. never (write e)) in
+      let q = put.quiet whole in
+      (λ f. absurd (true≢false (sym f ∙ q.0 ∙ none)), inl (kept-over out out' (rest none) q.1));
+}
+
+-- what is told of a file that was not judged, where no write failed
+pub unjudged-told : (ending : Ending) (out out' err' : Output) → (ending.answer ≡ Err Write → ⊥) → IsPutAside ending.written out out' err' → TellsWrites ending out out' err'
+unjudged-told ending out out' err' never put =
+    record { write = λ e. absurd (never e); unwritten = put.unwritten; told = λ other whole. let q = put.quiet whole in (λ f. sym q.0 ∙ f, q.1) }
+
+-- and after more was said on standard error
+pub blamed : (ending : Ending) (out out' err err' : Output) → (err.has_failed ≡ true → err'.has_failed ≡ true) → TellsWrites ending out out' err → TellsWrites ending out out' err'
+blamed ending out out' err err' kept t =
+    record { write = t.write; unwritten = λ e. ⊎_elim (λ o. inl o) (λ f. inr (kept f)) (t.unwritten e); told = t.told }
+
+-- ---- exit statuses
+
+device-status : (broken written : Bool) (answer : Result Summary Stop) → (written ≡ false) ⊎ (answer ≡ Err Write) → (if broken then max (status_of written answer) 1 else status_of written answer) ≡ 4
+device-status true false answer h = refl
+device-status false false answer h = refl
+device-status broken true answer (inl e) = absurd (true≢false e)
+device-status true true answer (inr e) = rw e refl
+device-status false true answer (inr e) = rw e refl
+
+pub not-false : (b : Bool) → not b ≡ false → b ≡ true
+not-false true e = refl
+not-false false e = absurd (true≢false e)
+
+true-or-false : (b : Bool) → (b ≡ true) ⊎ (b ≡ false)
+true-or-false true = inl refl
+true-or-false false = inr refl
+
+-- a status that is none of a device's comes of a file of which all was written
+no-device : (d : Done) (status : ℕ) → status ≡ done_status d → status ≢ 4 → (d.ending.answer ≢ Err Write) × (d.ending.written ≡ true)
+no-device d status is never =
+    let four : (d.ending.written ≡ false) ⊎ (d.ending.answer ≡ Err Write) → status ≡ 4 = λ h. is ∙ device-status d.is_broken d.ending.written d.ending.answer h in
+    (λ e. never (four (inr e)), ⊎_elim (λ t. t) (λ f. absurd (never (four (inl f)))) (true-or-false d.ending.written))
+
+one-worst : (f : FileDone) → worst (f ∷ []) ≡ done_status f.done
+one-worst f = omega arith
+
+-- one file alone
+pub alone : (task : Task) (o : Options) (file : Text → Option (List ℕ)) (Failed : Type 0) (f : FileDone) (names : List Text) (status : ℕ) (out out' err' : Output) → f.name ∷ [] ≡ names →
+    IsAnswerOf task o.target (file (system_name f.name)) f.done.ending.answer → TellsBroken (asks_further task o.strict) (terms_of (mode_of task) o.target) (file (system_name f.name)) f.done →
+    (IsErrOf f.done.ending.answer Read → Failed) → TellsWrites f.done.ending out out' err' → status ≡ done_status f.done → AreDone task o file Failed names status out out' err'
+alone task o file Failed f names status out out' err' name answer broken read t is =
+    let Judged : FileDone → Type 0 = IsJudged task o file (MayBeUnread names Failed) out' err' in
+    let judged : Judged f = record { answer = answer; broken = broken; excused = record { read = λ e. inl (read e); write = λ e. inl (inl (t.write e)); unwritten = λ e. inl (t.unwritten e) } } in
+    Each (f ∷ []) name (All-push Judged [] f (All-nil Judged) judged) (is ∙ sym (one-worst f)) (λ never. let n = no-device f.done status is never in t.told n.0 n.1)
+
+-- one file, whose output is a file that the words name
+pub alone-elsewhere : (task : Task) (o : Options) (file : Text → Option (List ℕ)) (Failed : Type 0) (f : FileDone) (names : List Text) (status : ℕ) (out err' : Output) → f.name ∷ [] ≡ names →
+    IsAnswerOf task o.target (file (system_name f.name)) f.done.ending.answer → TellsBroken (asks_further task o.strict) (terms_of (mode_of task) o.target) (file (system_name f.name)) f.done →
+    (IsErrOf f.done.ending.answer Read → Failed) → IsSome o.output → status ≡ done_status f.done → AreDone task o file Failed names status out out err'
+alone-elsewhere task o file Failed f names status out err' name answer broken read some is =
+    let Judged : FileDone → Type 0 = IsJudged task o file (MayBeUnread names Failed) out err' in
+    let judged : Judged f = record { answer = answer; broken = broken; excused = record { read = λ e. inl (read e); write = λ e. inr some; unwritten = λ e. inr some } } in
+    Each (f ∷ []) name (All-push Judged [] f (All-nil Judged) judged) (is ∙ sym (one-worst f)) (λ never. (λ h. h, inr refl))
+
+-- ---- several files
+
+-- a file that was judged, where no write failed
+pub record IsWritten (task : Task) (o : Options) (file : Text → Option (List ℕ)) (f : FileDone) : Type 0 where
+  pub answer : IsAnswerOf task o.target (file (system_name f.name)) f.done.ending.answer
+  pub broken : TellsBroken (asks_further task o.strict) (terms_of (mode_of task) o.target) (file (system_name f.name)) f.done
+  pub no_write : IsErrOf f.done.ending.answer Write → ⊥
+  pub written : f.done.ending.written ≡ true
+
+-- it is excused, wherever the devices stand
+excused : (task : Task) (o : Options) (file : Text → Option (List ℕ)) (names : List Text) (Failed : Type 0) (out' err' : Output) (f : FileDone) → length names ≢ 1 → IsWritten task o file f →
+    IsJudged task o file (MayBeUnread names Failed) out' err' f
+excused task o file names Failed out' err' f several w = record {
+  answer = w.answer;
+  broken = w.broken;
+  excused = record { read = λ e. inr several; write = λ e. absurd (w.no_write e); unwritten = λ e. absurd (true≢false (sym w.written ∙ e)) };
+}
+
+-- files of which none failed to be written, and a last text
+pub each-written : (task : Task) (o : Options) (file : Text → Option (List ℕ)) (Failed : Type 0) (files : List FileDone) (names : List Text) (status : ℕ) (out out' err' : Output) → map (λ f. f.name) files ≡ names →
+    length names ≢ 1 → All (IsWritten task o file) files → status ≡ worst files → (out'.has_failed ≡ true → out.has_failed ≡ true) → out'.holds_back ≡ false → AreDone task o file Failed names status out out' err'
+each-written task o file Failed files names status out out' err' name several written is kept over =
+    Each files name (All-weaker (IsWritten task o file) (IsJudged task o file (MayBeUnread names Failed) out' err') (λ f. excused task o file names Failed out' err' f several) files written) is (λ never. (kept, inl over))
+
+-- for whichever cause of a failed read
+any-read : (task : Task) (o : Options) (file : Text → Option (List ℕ)) (Failed : Type 0) (names : List Text) (status : ℕ) (out out' err' : Output) → AreDone task o file ⊥ names status out out' err' →
+    AreDone task o file Failed names status out out' err'
+any-read task o file Failed names status out out' err' (Each files name judged is whole) =
+    Each files name (All-weaker (IsJudged task o file (MayBeUnread names ⊥) out' err') (IsJudged task o file (MayBeUnread names Failed) out' err') (λ f j. record { answer = j.answer; broken = j.broken; excused = record { read = λ e. ⊎_elim (λ no. absurd no) (λ several. inr several) (j.excused.read e); write = j.excused.write; unwritten = j.excused.unwritten } }) files judged) is whole
+any-read task o file Failed names status out out' err' (Broke four failed) = Broke four failed
+
+-- and for these names
+pub read-of-any : {task : Task} {o : Options} {file : Text → Option (List ℕ)} {Failed : Type 0} {names names' : List Text} {status : ℕ} {out out' err' : Output} → names ≡ names' →
+    AreDone task o file ⊥ names status out out' err' → AreDone task o file Failed names' status out out' err'
+read-of-any {task} {o} {file} {Failed} {names} {names'} {status} {out} {out'} {err'} e d =
+    subst (λ ns. AreDone task o file Failed ns status out out' err') e (any-read task o file Failed names status out out' err' d)
