@@ -51,7 +51,14 @@ pub const FRAMES: [Case; 6] = [
 ];
 
 /// Streams whose frames are known sample by sample, from the equations of prediction and of the filter.
-pub const COMPUTED: [Case; 20] = [
+pub const COMPUTED: [Case; 21] = [
+    // disable_deblocking_filter_idc is 1: sixteen columns of 128 and sixteen of 131, with the edge between them as it was constructed.
+    Case {
+        name: "filter off",
+        stream: "000000016742c00ada2c400000000168ce3c80000001658884a2726287",
+        text: "frame 0 count 0 32x16 md5 85d5b1cb0d928dd2f6258ff9a7ef3e9f\nyes: units 3 pictures 1 frames 1\n",
+        status: 0,
+    },
     // The inner edge at column 20 changes what the edge at 16 wrote.
     Case {
         name: "wide frame",

@@ -107,7 +107,14 @@ pub const PICTURES: [Case; 14] = [
 ];
 
 /// Numbers of frames, gaps, markings and lists.
-pub const MARKINGS: [Case; 12] = [
+pub const MARKINGS: [Case; 13] = [
+    // Operation 5: the count of the header is told, before it is set back.
+    Case {
+        name: "operation 5",
+        stream: "000000016742c00ada710000000168ce388000000165888493c000000161888cd93c",
+        text: "slice 21 mb 0 type I frame 0 count 0\nslice 29 mb 0 type I frame 1 count 2\nyes: units 4 pictures 2\n",
+        status: 0,
+    },
     // frame_num 2 after 0, where no gap is allowed.
     Case {
         name: "gap not allowed",

@@ -13,6 +13,7 @@ use crate::target_tests::{FOR_BASELINE, FOR_MAIN_IP};
 use crate::words::words_of;
 use h264_report::WriteDevice;
 use h264_report::survey::NoMeter;
+use md5::{Digest, Md5};
 use std::alloc::Global;
 use std::env::{Env, FillError};
 use std::io;
@@ -535,6 +536,16 @@ fn asks_for_units(words: Option<Vec<String>>) -> bool {
 }
 
 /// A word that is not UTF-8 is a fault of the words, and not a want of memory.
+/// The digest of the text `abc`, as RFC 1321 has it.
+#[test]
+fn digest_of_abc(rt: HostRuntime) -> Result<(), Fail> {
+    let mut hasher = Md5::new();
+    hasher.update(b"abc".as_slice());
+    let digits = hex::encode(rt.alloc(), hasher.finalize())?;
+    assert_eq!(rt; digits.as_str(), "900150983cd24fb0d6963f7d28e17f72");
+    Ok(())
+}
+
 #[test]
 fn word_that_is_no_text(rt: HostRuntime) -> Result<(), Fail> {
     let alloc = rt.alloc();
