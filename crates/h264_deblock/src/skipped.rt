@@ -30,7 +30,8 @@ use h264_plane::Frame;
 fn beside(edge: &Edge, own: &Skipped, k: usize) -> u8
     requires place { k < 4 }
     requires beside { edge.now.intra ≡ false }
-    ensures here { (vertical : Bool) (p q : CodedMacroblock) → LiesAlong vertical edge.now p → IsSkipped own.now q → named result ≡ strength_at vertical 0 p q k }
+    ensures here { (vertical : Bool) (p q : CodedMacroblock) → LiesAlong vertical edge.now p → IsSkipped own.now q →
+        named result ≡ strength_at vertical 0 p q k }
     ensures small { result < 4 }
 {
     let coded = 0 < edge.totals[k];

@@ -1,5 +1,6 @@
 -- SEI as a list of messages, read from the front on (7.3.2.3). To be read beside the standard.
-use Rattle.std.specs.Prelude.{ℕ, zero, suc, ◌+◌, ◌*◌, ◌==◌, ◌&&◌, ◌||◌, Bool, false, nat_lt, nat_le, if◌then◌else◌, List, [], ◌∷◌, length, drop, slice_index, Option, None, Some}
+use Rattle.std.specs.Prelude.{ℕ, zero, suc, ◌+◌, ◌*◌, ◌==◌, ◌&&◌, ◌||◌, Bool, false, nat_lt, nat_le, if◌then◌else◌, List, [], ◌∷◌}
+use Rattle.std.specs.Prelude.{length, drop, slice_index, Option, None, Some}
 use Rattle.std.specs.List.{prefix_len}
 
 -- rbsp_trailing_bits() from a byte's first bit on: 80, and nothing after it (7.3.2.11)

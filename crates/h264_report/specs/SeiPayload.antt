@@ -1,5 +1,6 @@
 -- Whether a message is as its syntax says (7.3.2.3.1, D.1, D.2). To be read beside the standard.
-use Rattle.std.specs.Prelude.{ℕ, ◌+◌, ◌-◌, ◌*◌, ◌^◌, ◌==◌, ◌&&◌, ◌||◌, Bool, true, false, nat_lt, nat_le, if◌then◌else◌, List, [], ◌∷◌, length, take, drop, Option, None, Some}
+use Rattle.std.specs.Prelude.{ℕ, ◌+◌, ◌-◌, ◌*◌, ◌^◌, ◌==◌, ◌&&◌, ◌||◌, Bool, true, false, nat_lt, nat_le, if◌then◌else◌, List, [], ◌∷◌}
+use Rattle.std.specs.Prelude.{length, take, drop, Option, None, Some}
 use Rattle.h264_report.specs.SeiContent.{content, has_syntax}
 use Rattle.h264_report.specs.SeiMessages.{ff_bytes, payload_value, payload_start, message_length}
 use Rattle.h264_report.specs.SeiPart.{Part, u}
