@@ -70,25 +70,26 @@ put-here written out out' err' over same failed =
     record { unwritten = λ e. inl (failed e); quiet = λ e. (same e, inl (over e)); kept = kept-failed written same failed }
 
 -- what is told after a judgement that the device outlived or not
-pub writes-told : (failed : Bool) (raw said : Result Summary Stop) (ending : Ending) (before out out' err' : Output) → failed ≡ out.has_failed → said ≡ told_of failed raw →
-    (ending.answer ≡ said) ⊎ (ending.answer ≡ Err Memory) → (said ≡ Err Write → ending.answer ≡ Err Write) → (out.has_failed ≡ false → out.holds_back ≡ false) → IsPutAside ending.written out out' err' →
-    TellsWrites ending before out' err'
-writes-told failed raw said ending before out out' err' is told answer write rest put = record {
-  write = λ e. put.kept (sym is ∙ failed-told failed raw said told (⊎_elim (λ same. sym same ∙ e) (λ short. absurd (let d = sym short ∙ e in cc)) answer));
+pub writes-told : (raw : Result Summary Stop) {y4m : Bool} {failed broke_off : Bool} {said : Result Summary Stop} {ending : Ending} {before out out' err' : Output} → (broke_off ≡ true → (failed ≡ true) ⊎ (y4m ≡ true)) →
+    (broke_off ≡ false → failed ≡ false) → failed ≡ out.has_failed → said ≡ told_of broke_off raw → (ending.answer ≡ said) ⊎ (ending.answer ≡ Err Memory) → (said ≡ Err Write → ending.answer ≡ Err Write) →
+    (out.has_failed ≡ false → out.holds_back ≡ false) → IsPutAside ending.written out out' err' → TellsWrites y4m ending before out' err'
+writes-told raw {y4m} {failed} {broke_off} {said} {ending} {before} {out} {out'} {err'} cut whole-output is told answer write rest put = record {
+  write = λ e. ⊎_elim (λ f. inl (put.kept (sym is ∙ f))) (λ y. inr y)
+      (cut (failed-told broke_off raw said told (⊎_elim (λ same. sym same ∙ e) (λ short. absurd (let d = sym short ∙ e in cc)) answer)));
   unwritten = put.unwritten;
   told = λ never whole.
-      let none = sym is ∙ untold failed raw said told (λ e. never (write e)) in
+      let none = sym is ∙ whole-output (untold broke_off raw said told (λ e. never (write e))) in
       let q = put.quiet whole in
       (λ f. absurd (true≢false (sym f ∙ q.0 ∙ none)), inl (kept-over out out' (rest none) q.1));
 }
 
 -- what is told of a file that was not judged, where no write failed
-pub unjudged-told : (ending : Ending) (out out' err' : Output) → (ending.answer ≡ Err Write → ⊥) → IsPutAside ending.written out out' err' → TellsWrites ending out out' err'
-unjudged-told ending out out' err' never put =
+pub unjudged-told : (y4m : Bool) (ending : Ending) (out out' err' : Output) → (ending.answer ≡ Err Write → ⊥) → IsPutAside ending.written out out' err' → TellsWrites y4m ending out out' err'
+unjudged-told y4m ending out out' err' never put =
     record { write = λ e. absurd (never e); unwritten = put.unwritten; told = λ other whole. let q = put.quiet whole in (λ f. sym q.0 ∙ f, q.1) }
 
 -- and after more was said on standard error
-pub blamed : (ending : Ending) (out out' err err' : Output) → (err.has_failed ≡ true → err'.has_failed ≡ true) → TellsWrites ending out out' err → TellsWrites ending out out' err'
+pub blamed : {y4m : Bool} (ending : Ending) (out out' err err' : Output) → (err.has_failed ≡ true → err'.has_failed ≡ true) → TellsWrites y4m ending out out' err → TellsWrites y4m ending out out' err'
 blamed ending out out' err err' kept t =
     record { write = t.write; unwritten = λ e. ⊎_elim (λ o. inl o) (λ f. inr (kept f)) (t.unwritten e); told = t.told }
 
@@ -121,10 +122,10 @@ one-worst f = omega arith
 -- one file alone
 pub alone : (task : Task) (o : Options) (file : Text → Option (List ℕ)) (Failed : Type 0) (f : FileDone) (names : List Text) (status : ℕ) (out out' err' : Output) → f.name ∷ [] ≡ names →
     IsAnswerOf task o.target (file (system_name f.name)) f.done.ending.answer → TellsBroken (asks_further task o.strict) (terms_of (mode_of task) o.target) (file (system_name f.name)) f.done →
-    (IsErrOf f.done.ending.answer Read → Failed) → TellsWrites f.done.ending out out' err' → status ≡ done_status f.done → AreDone task o file Failed names status out out' err'
+    (IsErrOf f.done.ending.answer Read → Failed) → TellsWrites o.y4m f.done.ending out out' err' → status ≡ done_status f.done → AreDone task o file Failed names status out out' err'
 alone task o file Failed f names status out out' err' name answer broken read t is =
     let Judged : FileDone → Type 0 = IsJudged task o file (MayBeUnread names Failed) out' err' in
-    let judged : Judged f = record { answer = answer; broken = broken; excused = record { read = λ e. inl (read e); write = λ e. inl (inl (t.write e)); unwritten = λ e. inl (t.unwritten e) } } in
+    let judged : Judged f = record { answer = answer; broken = broken; excused = record { read = λ e. inl (read e); write = λ e. ⊎_elim (λ h. inl (inl h)) (λ y. inr (inr y)) (t.write e); unwritten = λ e. inl (t.unwritten e) } } in
     Each (f ∷ []) name (All-push Judged [] f (All-nil Judged) judged) (is ∙ sym (one-worst f)) (λ never. let n = no-device f.done status is never in t.told n.0 n.1)
 
 -- one file, whose output is a file that the words name
@@ -133,7 +134,7 @@ pub alone-elsewhere : (task : Task) (o : Options) (file : Text → Option (List 
     (IsErrOf f.done.ending.answer Read → Failed) → IsSome o.output → status ≡ done_status f.done → AreDone task o file Failed names status out out err'
 alone-elsewhere task o file Failed f names status out err' name answer broken read some is =
     let Judged : FileDone → Type 0 = IsJudged task o file (MayBeUnread names Failed) out err' in
-    let judged : Judged f = record { answer = answer; broken = broken; excused = record { read = λ e. inl (read e); write = λ e. inr some; unwritten = λ e. inr some } } in
+    let judged : Judged f = record { answer = answer; broken = broken; excused = record { read = λ e. inl (read e); write = λ e. inr (inl some); unwritten = λ e. inr (inl some) } } in
     Each (f ∷ []) name (All-push Judged [] f (All-nil Judged) judged) (is ∙ sym (one-worst f)) (λ never. (λ h. h, inr refl))
 
 -- ---- several files
@@ -142,7 +143,7 @@ alone-elsewhere task o file Failed f names status out err' name answer broken re
 pub record IsWritten (task : Task) (o : Options) (file : Text → Option (List ℕ)) (f : FileDone) : Type 0 where
   pub answer : IsAnswerOf task o.target (file (system_name f.name)) f.done.ending.answer
   pub broken : TellsBroken (asks_further task o.strict) (terms_of (mode_of task) o.target) (file (system_name f.name)) f.done
-  pub no_write : IsErrOf f.done.ending.answer Write → ⊥
+  pub no_write : IsErrOf f.done.ending.answer Write → o.y4m ≡ true
   pub written : f.done.ending.written ≡ true
 
 -- it is excused, wherever the devices stand
@@ -151,7 +152,7 @@ excused : (task : Task) (o : Options) (file : Text → Option (List ℕ)) (names
 excused task o file names Failed out' err' f several w = record {
   answer = w.answer;
   broken = w.broken;
-  excused = record { read = λ e. inr several; write = λ e. absurd (w.no_write e); unwritten = λ e. absurd (true≢false (sym w.written ∙ e)) };
+  excused = record { read = λ e. inr several; write = λ e. inr (inr (w.no_write e)); unwritten = λ e. absurd (true≢false (sym w.written ∙ e)) };
 }
 
 -- files of which none failed to be written, and a last text

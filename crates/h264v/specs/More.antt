@@ -54,16 +54,16 @@ pub record IsPutAside (written : Bool) (out out' err' : Output) : Type 0 where
   -- what has failed stays so
   pub kept : out.has_failed ≡ true → out'.has_failed ≡ true
 
--- That a write failed is answered where standard output failed, and the last line was not written where a device failed. Else standard output has not
--- failed since, and holds nothing back.
-pub record TellsWrites (ending : Ending) (out out' err' : Output) : Type 0 where
-  pub write : IsErrOf ending.answer Write → out'.has_failed ≡ true
+-- That a write failed is answered where standard output failed, or where frames of another size have no place in YUV4MPEG2; and the last line was not
+-- written where a device failed. Else standard output has not failed since, and holds nothing back.
+pub record TellsWrites (y4m : Bool) (ending : Ending) (out out' err' : Output) : Type 0 where
+  pub write : IsErrOf ending.answer Write → (out'.has_failed ≡ true) ⊎ (y4m ≡ true)
   pub unwritten : ending.written ≡ false → HasFailed out' err'
   pub told : ending.answer ≢ Err Write → ending.written ≡ true → (out'.has_failed ≡ true → out.has_failed ≡ true) × IsHandedOver out out'
 
--- A device has failed, or may have: a file that the words name for the output is none that is seen here.
+-- A device has failed, or may have: a file that the words name for the output is none that is seen here. And YUV4MPEG2 ends where the size changes.
 abbrev pub MayHaveFailed : Options → (out' err' : Output) → Type 0
-MayHaveFailed o out' err' = HasFailed out' err' ⊎ IsSome o.output
+MayHaveFailed o out' err' = HasFailed out' err' ⊎ (IsSome o.output ⊎ (o.y4m ≡ true))
 
 -- An answer that a write failed, and a last line that was not written, come where a device failed; an answer that a read failed comes where one did.
 pub record AreExcused (o : Options) (ReadFailed : Type 0) (out' err' : Output) (ending : Ending) : Type 0 where

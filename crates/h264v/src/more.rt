@@ -224,13 +224,21 @@ fn do_file<O: Opener + Drop, W: Device, E: Device, M: Meter + Drop>(
     ensures broken { TellsBroken (asks_further job.now.task job.now.options.strict) (terms_of (mode_of job.now.task) job.now.options.target)
         (O.holds files.old.opener (system_name job.now.file.now)) result }
     ensures read { IsErrOf result.ending.answer Read → IsUnread files.old.failures files.old.reads files.new.failures files.new.reads }
-    ensures failures { TellsWrites result.ending (output_of W.contents W.has_failed W.holds_back out.old)
+    ensures failures { TellsWrites job.now.options.y4m result.ending (output_of W.contents W.has_failed W.holds_back out.old)
         (output_of W.contents W.has_failed W.holds_back out.new) (output_of E.contents E.has_failed E.holds_back err.new) }
 {
     if files.open(system_name(job.file)).is_err() {
         return put_no_verdict(job, Stop::Read, out, err);
     }
     judge_opened(job, files, out, err, meter)
+}
+
+/// Whether a judgement was broken off for its output: that failed, or is YUV4MPEG2, which ends where the size changes.
+fn is_cut_off(job: &Job<'_>, found: &Found, failed: bool) -> bool
+    ensures cut { result ≡ true → (failed ≡ true) ⊎ (job.now.options.y4m ≡ true) }
+    ensures whole { result ≡ false → failed ≡ false }
+{
+    failed || job.options.y4m && found.before.as_str() != ""
 }
 
 /// Why there is no verdict on a file that was read: an output failed, or else memory was wanting.
@@ -253,7 +261,7 @@ fn judge_opened<O: Opener + Drop, W: Device, E: Device, M: Meter + Drop>(
     ensures broken { TellsBroken (asks_further job.now.task job.now.options.strict) (terms_of (mode_of job.now.task) job.now.options.target)
         (left_of O.File.Read.remaining files.old.reader) result }
     ensures read { IsErrOf result.ending.answer Read → IsUnread files.old.failures files.old.reads files.new.failures files.new.reads }
-    ensures failures { TellsWrites result.ending (output_of W.contents W.has_failed W.holds_back out.old)
+    ensures failures { TellsWrites job.now.options.y4m result.ending (output_of W.contents W.has_failed W.holds_back out.old)
         (output_of W.contents W.has_failed W.holds_back out.new) (output_of E.contents E.has_failed E.holds_back err.new) }
 {
     let found = find(job, files, out, meter);
@@ -263,7 +271,8 @@ fn judge_opened<O: Opener + Drop, W: Device, E: Device, M: Meter + Drop>(
     let Some(mut found) = found else {
         return put_no_verdict(job, stop_of(failed), out, err);
     };
-    found.answer = told_answer(found.answer, failed);
+    let broke_off = is_cut_off(job, &found, failed);
+    found.answer = told_answer(found.answer, broke_off);
     put_answer(job, &found, out, err)
 }
 
@@ -333,7 +342,7 @@ fn do_named<O: Opener + Drop, W: Device, E: Device, M: Meter + Drop>(
     ensures answer { IsAnswerOf job.now.task job.now.options.target (O.holds files.old.opener (system_name job.now.file.now)) result.ending.answer }
     ensures broken { TellsBroken (asks_further job.now.task job.now.options.strict) (terms_of (mode_of job.now.task) job.now.options.target)
         (O.holds files.old.opener (system_name job.now.file.now)) result }
-    ensures failures { TellsWrites result.ending (output_of W.contents W.has_failed W.holds_back out.old)
+    ensures failures { TellsWrites job.now.options.y4m result.ending (output_of W.contents W.has_failed W.holds_back out.old)
         (output_of W.contents W.has_failed W.holds_back out.new) (output_of E.contents E.has_failed E.holds_back err.new) }
 {
     if job.options.json {
@@ -402,7 +411,7 @@ fn do_one<O: Opener + Drop, W: Device, E: Device, M: Meter + Drop>(
     ensures broken { TellsBroken (asks_further job.now.task job.now.options.strict) (terms_of (mode_of job.now.task) job.now.options.target)
         (O.holds files.old.opener (system_name job.now.file.now)) result }
     ensures read { IsErrOf result.ending.answer Read → IsUnread files.old.failures files.old.reads files.new.failures files.new.reads }
-    ensures failures { TellsWrites result.ending (output_of W.contents W.has_failed W.holds_back out.old)
+    ensures failures { TellsWrites job.now.options.y4m result.ending (output_of W.contents W.has_failed W.holds_back out.old)
         (output_of W.contents W.has_failed W.holds_back out.new) (output_of E.contents E.has_failed E.holds_back err.new) }
 {
     let done = do_file(job, files, out, err, meter);

@@ -1,4 +1,4 @@
-use Rattle.std.proofs.Common.{◌≡◌, ℕ, List, [], ◌∷◌, ◌++◌, Bor, max, map, length, slice_index_or, refl, sym, ap, ◌∙◌, subst, arith}
+use Rattle.std.proofs.Common.{◌≡◌, ℕ, List, [], ◌∷◌, ◌++◌, Bor, max, map, length, slice_index_or, ⊎_elim, refl, sym, ap, ◌∙◌, subst, arith}
 use Rattle.std.proofs.lemmas.Bool.{true≢false}
 use Rattle.std.proofs.lemmas.List.{length-map, map-append, take_all}
 use Rattle.std.proofs.lemmas.List.Elements.{All-nil, All-push}
@@ -22,7 +22,7 @@ loop-name-preserved g c =
     let whole = sym c.did_fail.ensures ∙ c.if-did_fail.false in
     let written : IsWritten job.task job.options (λ n. g.O.Opener.holds c.args.opener n) f =
     subst (λ o. IsWritten job.task job.options (λ n. g.O.Opener.holds o n) f) c.new-files.ensures.opener
-    (record { answer = d.ensures.answer; broken = d.ensures.broken; no_write = λ e. true≢false (sym (d.ensures.failures.write e) ∙ whole); written = not-false _ c.if-not-done.false }) in (
+    (record { answer = d.ensures.answer; broken = d.ensures.broken; no_write = λ e. ⊎_elim (λ f. absurd (true≢false (sym f ∙ whole))) (λ y. y) (d.ensures.failures.write e); written = not-false _ c.if-not-done.false }) in (
       i.0 ++ f ∷ [],
       map-append (λ (e : FileDone). e.name) i.0 (f ∷ []) ∙ ap (λ l. l ++ name ∷ []) i.1 ∙ sym (one-more (λ (n : Bor (List ℕ)). n.now) c.args.names.now c.loop-name.name-index none c.loop-name-test.true),
       All-push (IsWritten job.task job.options (λ n. g.O.Opener.holds c.args.opener n)) i.0 f i.2 written,

@@ -1,12 +1,17 @@
 use Rattle.h264v.proofs.Further.{broken-told}
-use Rattle.h264v.proofs.Writing.{read-told}
+use Rattle.h264v.proofs.Writing.{read-told, rest-sent, writes-told}
 use Rattle.h264v.proofs.more.judge_opened.Goals as goal
 
 pub returns-clause-broken : goal.returns-clause-broken
 returns-clause-broken g c =
-    broken-told c.in-Some.found.strict _ _ _ c.did_fail-failed.result c.in-Some.found.answer c.told_answer-found.result c.put_answer.result c.in-Some.ensures.further c.told_answer-found.ensures c.put_answer.ensures.answer
+    broken-told c.in-Some.found.strict _ _ _ c.is_cut_off-broke_off.result c.in-Some.found.answer c.told_answer-found.result c.put_answer.result c.in-Some.ensures.further c.told_answer-found.ensures c.put_answer.ensures.answer
     c.put_answer.ensures.broken c.put_answer.ensures.unbroken
 
 pub returns-clause-read : goal.returns-clause-read
 returns-clause-read g c e =
-    c.in-Some.ensures.read (read-told c.did_fail-failed.result c.in-Some.found.answer c.told_answer-found.result c.put_answer.result.ending.answer c.told_answer-found.ensures c.put_answer.ensures.answer e)
+    c.in-Some.ensures.read (read-told c.is_cut_off-broke_off.result c.in-Some.found.answer c.told_answer-found.result c.put_answer.result.ending.answer c.told_answer-found.ensures c.put_answer.ensures.answer e)
+
+pub returns-clause-failures : goal.returns-clause-failures
+returns-clause-failures g c =
+    writes-told c.in-Some.found.answer c.is_cut_off-broke_off.ensures.cut c.is_cut_off-broke_off.ensures.whole c.did_fail-failed.ensures c.told_answer-found.ensures c.put_answer.ensures.answer c.put_answer.ensures.write
+    (rest-sent c.send_rest.result _ _ c.send_rest.ensures.handed_over c.send_rest.ensures.failed) c.put_answer.ensures.devices
