@@ -1,16 +1,18 @@
 #!/usr/bin/env python3
-"""campaign.py PROGRAM [--minutes M] [--jobs N] [--seed S] [--changed C] [--keep FOLDER] [--main-ip] [STREAM..]: judges small streams by
-PROGRAM (h264v, or h264v-quick) and by other decoders.
+"""campaign.py PROGRAM [--minutes M] [--jobs N] [--seed S] [--changed C] [--keep FOLDER] [--show K] [--main-ip] [STREAM..]: judges small streams
+by PROGRAM (h264v, or h264v-quick) and by other decoders.
 
 Streams are made by bench/streams, legal by construction and with every tool of the profile, and some by x264 where it is installed; STREAM adds more. Of
 each C changed ones are made: an element with another value, the code words after it whole; bits flipped; a byte inserted; the end cut off; units lost,
 doubled and exchanged.
 
 Of each stream: `check --strict`, `frames` and `decode` have to give one answer, with a status and a label that docs/ name; the bytes of `decode` have to be
-those frames; a stream that is legal by construction has to be a yes, and to break no further rule. Of each yes the frames have to be those of ffmpeg's decoder, and where they are not,
-OpenH264's are looked at too. A stream for which this does not hold is kept in FOLDER, by its seed, with a line in FOLDER/differs.txt. FOLDER/seeds.txt
-tells which seeds were gone through, and what they covered. Known ways in which ffmpeg does not follow the standard are counted apart
-(docs/RELIABILITY.md). With --main-ip pictures have explicit weights, and PROGRAM judges with --target main-ip.
+those frames; a stream that is legal by construction has to be a yes, and to break no further rule. Of each yes the counts of the frames have to be those of
+streams/order.py, which reads the standard anew, and the frames those of ffmpeg's decoder; where these are not, OpenH264's are looked at too. A stream for
+which this does not hold is kept in FOLDER, by its seed, with a line in FOLDER/differs.txt. FOLDER/seeds.txt tells which seeds were gone through, and what
+they covered. Known ways in which ffmpeg does not follow the standard are counted apart (docs/RELIABILITY.md). With --show K the first K streams of each way
+are kept too, by each job, with a line in FOLDER/explained.txt, so that somebody can look at them. With --main-ip pictures have explicit weights, and PROGRAM
+judges with --target main-ip.
 
 Needs a C compiler and libavcodec; OpenH264 where it is installed. On Debian: apt-get install gcc libavcodec-dev libopenh264-dev ffmpeg x264"""
 import argparse
@@ -27,6 +29,7 @@ import tempfile
 import time
 
 from streams import encoded, legal
+from streams.order import counts_written
 
 HERE = pathlib.Path(__file__).resolve().parent
 CHANGED_OF_EACH = 6
@@ -274,6 +277,13 @@ class Worker:
         (folder / f"{name}.264").write_bytes(stream)
         self.report.put(f"{name}.264: {why}")
 
+    def show(self, name, why, stream):
+        """Keeps a stream whose difference is explained, and says how."""
+        folder = pathlib.Path(self.ways.keep)
+        (folder / f"explained-{name}.264").write_bytes(stream)
+        with open(folder / "explained.txt", "a") as file:
+            file.write(f"explained-{name}.264: {why}\n")
+
     def compare(self, name, stream, tags, is_legal):
         """Takes a stream into the batch, which is judged once it is full."""
         pathlib.Path(self.paths[len(self.waiting)]).write_bytes(stream)
@@ -295,7 +305,20 @@ class Worker:
                 self.counts["wrong answers"] += 1
                 self.keep(name, wrong or f"legal by construction, and {last}; {' '.join(broken)}", stream)
             elif status == 0:
+                self.compare_order(name, stream, order)
                 self.compare_frames(path, (name, stream, tags | broken), (frames, order, dropped(last)))
+
+    def compare_order(self, name, stream, order):
+        """Compares the counts of a yes with those that C.4 gives, read anew."""
+        try:
+            anew = counts_written(stream)
+        except (IndexError, KeyError, StopIteration, ValueError) as cause:
+            anew = repr(cause)
+        if anew == order:
+            self.counts["order read anew: the same"] += 1
+            return
+        self.counts["order read anew: another"] += 1
+        self.keep(name, f"order read anew: {anew}", stream)
 
     def compare_frames(self, path, told, mine):
         """Compares the frames of a yes with those of the other decoders, and counts what came of it."""
@@ -315,6 +338,8 @@ class Worker:
             excuse = "a field that it takes for missing"
         if excuse:
             self.counts[f"ffmpeg: {excuse}"] += 1
+            if self.counts[f"ffmpeg: {excuse}"] <= self.ways.show:
+                self.show(name, f"{excuse}; {likeness(frames, theirs)}; {'; '.join(sorted(tags))}; {' | '.join(complaints)}", stream)
             return
         kind = likeness(frames, theirs) + (", and OpenH264 agrees with h264v" if second is not None and sorted(second) == sorted(frames) else "")
         self.counts[f"ffmpeg, not explained: {kind}"] += 1
@@ -460,6 +485,7 @@ def words():
     parser.add_argument("--seed", type=int, default=1)
     parser.add_argument("--changed", type=int, default=CHANGED_OF_EACH)
     parser.add_argument("--keep", default="campaign")
+    parser.add_argument("--show", type=int, default=0)
     parser.add_argument("--main-ip", action="store_true")
     parser.add_argument("streams", nargs="*")
     return parser.parse_intermixed_args()
@@ -501,7 +527,8 @@ def main():
             it.join()
     for name, count in sorted(counts.items()):
         print(f"{name}: {count}")
-    return 1 if counts["wrong answers"] or any("not explained" in it for it in counts) else 0
+    differs = counts["wrong answers"] or counts["order read anew: another"] or any("not explained" in it for it in counts)
+    return 1 if differs else 0
 
 
 if __name__ == "__main__":
