@@ -8,3 +8,4 @@ pub mod Elements
 pub mod Supported
 pub mod Repeated
 pub mod Stretches
+pub mod Held

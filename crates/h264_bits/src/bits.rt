@@ -9,7 +9,7 @@ ghost use Rattle.h264_base.specs.Word.{Fixed, Unsigned, Signed, Words, Reads, no
 ghost use Rattle.h264_base.specs.Grammar.{HasMore, IsClosed, IsPadded, bytes_at};
 ghost use Rattle.h264_base.specs.Meets.{Reader};
 ghost use Rattle.h264_bits.specs.Peek.{IsLastOne, peek_at};
-ghost use Rattle.h264_bits.specs.Stretch.{IsStretch};
+ghost use Rattle.h264_bits.specs.Stretch.{IsStretch, AreTogether};
 ghost use Rattle.h264_bits.specs.Taken.{HasNoWord};
 ghost use Rattle.h264_bits.specs.Truncated.{truncated};
 ghost use Rattle.h264_bits.specs.Upcoming.{IsUpcoming};
@@ -103,6 +103,22 @@ impl<'a> Bits<'a> {
         first_of(self.upcoming, n)
     }
 
+    /// The next `n` bits as a number, where so many are left that stand together in the stream. None says nothing of them. No bit is passed.
+    #[inline(always)]
+    pub fn held(&mut self, n: u32) -> Option<u64>
+        requires { n ≤ 57 }
+        ensures value { IfSome result (λ v. v ≡ peek_at n self.old.body.bytes self.old.at) }
+        ensures small { IfSome result (λ v. v < 2 ^ n) }
+        ensures together { IfSome result (λ v. AreTogether self.old.body self.old.at n) }
+        ensures kept { self.new ≡ self.old }
+    {
+        let bits = self.next_bits(n);
+        if self.upcoming.count < n {
+            return None;
+        }
+        Some(bits)
+    }
+
     /// Loads the bits that come next, as many as one load gives. It changes nothing that is read; the elements that follow then seldom need a load of
     /// their own, whose place is predicted wrongly.
     #[inline(always)]
@@ -152,6 +168,20 @@ impl<'a> Bits<'a> {
             }
         }
         self.at = next;
+    }
+
+    /// Passes `n` bits, of which none is missing.
+    #[inline(always)]
+    pub fn pass_by(&mut self, n: u32)
+        requires few { n < 64 }
+        requires inside { self.old.at + n ≤ 8 * length self.old.body.bytes }
+        ensures { self.new ≡ record { body = self.old.body; at = self.old.at + n } }
+    {
+        if n > self.upcoming.count {
+            return self.pass(self.at + n as usize);
+        }
+        self.upcoming = following(self.upcoming, n);
+        self.at += n as usize;
     }
 
     /// The stream bit of the first bit after the unit.
@@ -215,7 +245,7 @@ impl<'a> Bits<'a> {
     }
 
     /// Reads ue(v): an Exp-Golomb word of at most 31 zeros before its 1, as its codeNum (9.1).
-    #[inline]
+    #[inline(never)]
     pub fn ue(&mut self) -> Result<u32, NoWord>
         ensures word { IfOk result (λ v. Reads Unsigned self.old.body.bytes self.old.at (pos v) self.new.at) }
         ensures body { self.new.body ≡ self.old.body }
@@ -223,13 +253,13 @@ impl<'a> Bits<'a> {
         ensures none { OnErr result (HasNoWord Unsigned self.old.body.bytes self.old.at) }
         ensures kept { OnErr result (self.new ≡ self.old) }
     {
-        let Some(word) = short_golomb(self.next_bits(SHORT)) else {
-            return self.ue_of_any_length();
-        };
-        match self.advance(word.length) {
-            Ok(()) => Ok(word.value),
-            Err(NoWord) => Err(NoWord),
+        if let Some(front) = self.held(SHORT) {
+            if let Some(word) = short_golomb(front) {
+                self.pass_by(word.length);
+                return Ok(word.value);
+            }
         }
+        self.ue_of_any_length()
     }
 
     /// Reads se(v): an Exp-Golomb word as a signed number (9.1.1).

@@ -1,14 +1,15 @@
 //! Syntax elements, each read and told to a sink (7.2, 7.3).
 #![tactic(auto)]
 
-ghost use Rattle.std.specs.Prelude.{◌≡◌, ℕ, ℤ, pos, neg_ℤ, ◌-◌, ◌<◌, ◌≤◌, ◌≤ℤ◌, ◌^◌, length, OnOk, IfOk, IfSome, Option, Some, Ok, true, false};
+ghost use Rattle.std.specs.Prelude.{◌≡◌, ℕ, ℤ, pos, neg_ℤ, ◌+◌, ◌-◌, ◌<◌, ◌≤◌, ◌≤ℤ◌, ◌^◌, length, OnOk, IfOk, IfSome, Option, Some, Ok, true, false};
 ghost use Rattle.h264_base.specs.Call.{HasRoom, IsQuiet};
-ghost use Rattle.h264_base.specs.Word.{Fixed, Unsigned, Signed, Words};
+ghost use Rattle.h264_base.specs.Word.{Code, Fixed, Unsigned, Signed, Words, Reads};
 ghost use Rattle.h264_base.specs.Grammar.{Done, read_word as word_form, element, residual_element, more, align, raw_bytes, trailing};
 ghost use Rattle.h264_base.specs.Meets.{Meets, Is, Checks};
 ghost use Rattle.std.specs.Option.{option_map};
 ghost use Rattle.h264_bits.specs.Peek.{peek_at};
 ghost use Rattle.h264_bits.specs.Seen.{seen_unsigned, seen_signed, seen_flag, seen_ahead};
+ghost use Rattle.h264_bits.specs.Stretch.{AreTogether};
 ghost use Rattle.h264_bits.specs.Supports.{Supports};
 ghost use Rattle.h264_bits.specs.Truncated.{truncated};
 ghost use Rattle.h264_tables.specs.Greatest.{greatest_value};
@@ -335,6 +336,55 @@ pub fn read_entry_if<S: Elements>(
         };
     }
     Ok(Found { bit, value })
+}
+
+/// Tells the sink an element that was seen ahead: it has `length` bits and begins `before` bits after the one that is read next. No bit is passed.
+/// Write: the sink failed.
+#[inline(always)]
+pub fn tell_ahead<S: Elements>(
+    bits: &Bits,
+    before: u32,
+    length: u32,
+    name: ElementName,
+    value: u32,
+    sink: &mut S,
+) -> Result<Found<u32>, Stop>
+    requires together { AreTogether bits.now.body bits.now.at (before + length) }
+    requires room { HasRoom S.failures sink.old }
+    ensures meets { (rule : Rule) (code : Code) → Reads code bits.now.body.bytes (bits.now.at + before) (pos value) (bits.now.at + before + length) →
+        Meets S.took S.failures (Is seen_unsigned) (word_form rule name code) (record { body = bits.now.body; at = bits.now.at + before })
+        (record { body = bits.now.body; at = bits.now.at + before + length }) sink.old sink.new result }
+    ensures value { IfOk result (λ f. f.value ≡ value) }
+    ensures quiet { OnOk result (IsQuiet S.failures sink.old sink.new) }
+{
+    let bit = bits.stream_bit() + before as u64;
+    match sink.element(name, bit, value as i64) {
+        Ok(()) => Ok(Found { bit, value }),
+        Err(_) => Err(Stop::Write),
+    }
+}
+
+/// Reads an element by a table of words, as `read_entry`, whose word was looked up in the next 16 bits, of which none is missing. Write: the sink failed.
+#[inline(always)]
+pub fn read_held_entry<S: Elements>(
+    bits: &mut Bits,
+    name: ElementName,
+    table: Table,
+    entry: Entry,
+    sink: &mut S,
+) -> Result<Found<u32>, Stop>
+    requires word { Some entry ≡ option_map entry_of (front_of 16 (rows_of table) (peek_at 16 bits.old.body.bytes bits.old.at)) }
+    requires together { AreTogether bits.old.body bits.old.at 16 }
+    requires room { HasRoom S.failures sink.old }
+    ensures meets { (rule : Rule) → Meets S.took S.failures (Is seen_unsigned)
+        (word_form rule name (Words (code_table table))) bits.old bits.new sink.old sink.new result }
+    ensures value { IfOk result (λ f. f.value ≡ entry.value) }
+    ensures quiet { OnOk result (IsQuiet S.failures sink.old sink.new) }
+{
+    let length = entry.length as u32;
+    let found = tell_ahead(bits, 0, length, name, entry.value as u32, sink)?;
+    bits.pass_by(length);
+    Ok(found)
 }
 
 /// Takes `n` bytes, as those of a PCM macroblock, which the sink is not told. The bit that is next is the first of a byte.

@@ -20,6 +20,6 @@ mod window;
 pub use bits::{Bits, NoWord};
 pub use element::{
     Ahead, Found, SeenWord, check, look, read_align, read_bits, read_bytes, read_entry,
-    read_entry_if, read_flag, read_residual_bits, read_se, read_te, read_trailing, read_u, read_ue,
-    read_word, support,
+    read_entry_if, read_flag, read_held_entry, read_residual_bits, read_se, read_te, read_trailing,
+    read_u, read_ue, read_word, support, tell_ahead,
 };

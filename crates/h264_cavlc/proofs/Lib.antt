@@ -8,3 +8,5 @@ pub mod Ends
 pub mod Handed
 pub mod ShortWords
 pub mod Single
+pub mod ShortLevels
+pub mod Ones

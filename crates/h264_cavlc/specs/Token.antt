@@ -26,7 +26,10 @@ coeff_token size nc = do
   Done (token_of (natural e.value))
 
 -- a trailing one is 1, or -1 where its sign is 1
+abbrev pub one_of : ℕ → ℤ
+one_of sign = if sign == 0 then pos 1 else negsuc 0
+
 unfoldable pub trailing_one : Grammar ℤ
 trailing_one = do
   e ← residual_element TrailingOnesSignFlag (Fixed 1)
-  Done (if natural e.value == 0 then pos 1 else negsuc 0)
+  Done (one_of (natural e.value))

@@ -1,15 +1,20 @@
 //! The levels that are no trailing ones (9.2.2, 9.2.2.1).
 #![tactic(auto)]
 
-ghost use Rattle.std.specs.Prelude.{◌≡◌, ℕ, ℤ, ◌+◌, ◌-◌, ◌<◌, ◌≤◌, ◌^◌, IfOk, take};
+ghost use Rattle.std.specs.Prelude.{◌≡◌, ℕ, ℤ, pos, ◌+◌, ◌-◌, ◌*◌, ◌<◌, ◌≤◌, ◌^◌, List, length, IfOk, IfSome, take};
 ghost use Rattle.h264_base.specs.Call.{HasRoom};
 ghost use Rattle.h264_base.specs.Meets.{Meets, Is};
+ghost use Rattle.h264_base.specs.Word.{Fixed, Words, Reads};
+ghost use Rattle.h264_bits.specs.Peek.{peek_at};
+ghost use Rattle.h264_bits.specs.Stretch.{AreTogether};
+ghost use Rattle.h264_tables.specs.declared.table.Table.TheVariants as table;
+ghost use Rattle.h264_tables.specs.Table.{code_table};
 ghost use Rattle.h264_cavlc.specs.Level as syntax;
 
 use crate::token::Token;
 use h264_base::{ElementName, Elements, Rule, Stop};
-use h264_bits::{Bits, read_residual_bits, read_word};
-use h264_tables::Table;
+use h264_bits::{Bits, read_residual_bits, read_word, tell_ahead};
+use h264_tables::{Table, lookup};
 
 /// suffixLength of the first level.
 #[tactic(auto, unfolding(crate::specs::Level::first_suffix_length))]
@@ -106,9 +111,10 @@ fn read_level_suffix<S: Elements>(bits: &mut Bits, size: u32, sink: &mut S) -> R
     Ok(suffix.value)
 }
 
-/// Reads a level.
-#[inline(always)]
-pub(crate) fn read_level<S: Elements>(
+/// Reads a level, as `read_level`, element by element.
+#[cold]
+#[inline(never)]
+fn read_any_level<S: Elements>(
     bits: &mut Bits,
     suffix_length: u32,
     never_one: bool,
@@ -130,6 +136,102 @@ pub(crate) fn read_level<S: Elements>(
     let suffix = read_level_suffix(bits, size, sink)?;
     let code = level_code(prefix, suffix_length, suffix, never_one);
     Ok(level_value(code))
+}
+
+/// How long level_prefix of a short level is at most: below 14, so that level_suffix has suffixLength bits.
+const SHORT_PREFIX: u8 = 14;
+
+/// As many bits as a short level has at most.
+const SHORT: u32 = 20;
+
+/// What the elements of a level say.
+#[derive(Clone, Copy)]
+struct Parts {
+    prefix: u32,
+    /// How many bits level_prefix has.
+    length: u32,
+    suffix: u32,
+}
+
+/// The short level that `SHORT` bits begin with. None where they begin with another, or with none.
+#[inline(always)]
+fn short_level(bits: u64, suffix_length: u32) -> Option<Parts>
+    requires few { bits < 2 ^ 20 }
+    requires length { suffix_length ≤ 6 }
+    ensures prefix { (bytes : List ℕ) (i : ℕ) → bits ≡ peek_at 20 bytes i → i + 20 ≤ 8 * length bytes →
+        IfSome result (λ p. Reads (Words (code_table table.LevelPrefix)) bytes i (pos p.prefix) (i + p.length)) }
+    ensures suffix { (bytes : List ℕ) (i : ℕ) → bits ≡ peek_at 20 bytes i → i + 20 ≤ 8 * length bytes →
+        IfSome result (λ p. Reads (Fixed suffix_length) bytes (i + p.length) (pos p.suffix) (i + p.length + suffix_length)) }
+    ensures short { IfSome result (λ p. p.prefix < 14) }
+    ensures inside { IfSome result (λ p. p.length ≤ 14) }
+    ensures small { IfSome result (λ p. p.suffix < 2 ^ suffix_length) }
+{
+    let word = lookup(Table::LevelPrefix, (bits >> (SHORT - 16)) as u16)?;
+    if word.value >= SHORT_PREFIX || word.length > SHORT_PREFIX {
+        return None;
+    }
+    let length = u32::from(word.length);
+    let rest = bits >> (SHORT - (length + suffix_length));
+    Some(Parts {
+        prefix: u32::from(word.value),
+        length,
+        suffix: (rest % (1 << suffix_length)) as u32,
+    })
+}
+
+/// Tells the sink level_suffix of `size` bits that begins `before` bits after the one that is read next.
+#[inline(always)]
+fn tell_level_suffix<S: Elements>(
+    bits: &Bits,
+    before: u32,
+    size: u32,
+    suffix: u32,
+    sink: &mut S,
+) -> Result<(), Stop>
+    requires together { AreTogether bits.now.body bits.now.at (before + size) }
+    requires small { suffix < 2 ^ size }
+    requires room { HasRoom S.failures sink.old }
+    ensures { Reads (Fixed size) bits.now.body.bytes (bits.now.at + before) (pos suffix) (bits.now.at + before + size) →
+        Meets S.took S.failures (Is (λ _. suffix)) (syntax.level_suffix size) (record { body = bits.now.body; at = bits.now.at + before })
+        (record { body = bits.now.body; at = bits.now.at + before + size }) sink.old sink.new result }
+{
+    if size == 0 {
+        return Ok(());
+    }
+    tell_ahead(bits, before, size, ElementName::LevelSuffix, suffix, sink)?;
+    Ok(())
+}
+
+/// Reads a level.
+#[inline(always)]
+pub(crate) fn read_level<S: Elements>(
+    bits: &mut Bits,
+    suffix_length: u32,
+    never_one: bool,
+    sink: &mut S,
+) -> Result<i16, Stop>
+    requires length { suffix_length ≤ 6 }
+    requires room { HasRoom S.failures sink.old }
+    ensures { Meets S.took S.failures (Is (λ x. x)) (syntax.level suffix_length never_one) bits.old bits.new sink.old sink.new result }
+{
+    if let Some(front) = bits.held(SHORT) {
+        if let Some(parts) = short_level(front, suffix_length) {
+            let Parts {
+                prefix,
+                length,
+                suffix,
+            } = parts;
+            tell_ahead(bits, 0, length, ElementName::LevelPrefix, prefix, sink)?;
+            tell_level_suffix(bits, length, suffix_length, suffix, sink)?;
+            bits.pass_by(length + suffix_length);
+            let code = level_code(prefix, suffix_length, suffix, never_one);
+            return Ok(level_value(code));
+        }
+    }
+    let mut own = bits.again();
+    let level = read_any_level(&mut own, suffix_length, never_one, sink)?;
+    *bits = own;
+    Ok(level)
 }
 
 /// Whether the first level after so many trailing ones can't be 1 or -1.

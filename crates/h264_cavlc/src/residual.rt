@@ -31,6 +31,7 @@ fn read_levels<S: Elements>(
 ) -> Result<(), Stop>
     requires few { token.total ≤ 16 }
     requires within { token.ones ≤ token.total }
+    requires ones { token.ones ≤ 3 }
     requires room { HasRoom S.failures sink.old }
     ensures { Meets S.took S.failures (λ _ l. l ≡ take token.total levels.new) (all_levels token) bits.old bits.new sink.old sink.new result }
 {
@@ -93,6 +94,7 @@ fn read_several<const N: usize, S: Elements>(
     requires fits { token.total ≤ N }
     requires few { N ≤ 16 }
     requires within { token.ones ≤ token.total }
+    requires ones { token.ones ≤ 3 }
     requires room { HasRoom S.failures sink.old }
     ensures meets { Meets S.took S.failures (Is (λ _. record { by_place = by_place.new; total = token.total }))
         (coefficients_form N token) bits.old bits.new sink.old sink.new result }
@@ -119,6 +121,7 @@ fn read_coefficients<const N: usize, S: Elements>(
     requires fits { token.total ≤ N }
     requires few { N ≤ 16 }
     requires within { token.ones ≤ token.total }
+    requires ones { token.ones ≤ 3 }
     requires room { HasRoom S.failures sink.old }
     ensures meets { Meets S.took S.failures (Is (λ _. record { by_place = by_place.new; total = token.total }))
         (coefficients_form N token) bits.old bits.new sink.old sink.new result }

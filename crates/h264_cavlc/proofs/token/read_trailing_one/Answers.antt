@@ -1,18 +1,23 @@
-use Rattle.std.proofs.Common.{eq-eqb, refl}
+use Rattle.std.proofs.Common.{rules, ◌≡◌, ◌+◌, arith, refl}
 use Rattle.std.proofs.lemmas.Result.{err_from_is_err_and}
-use Rattle.h264_base.proofs.Steps.{bind, stop, done}
-use Rattle.h264_cavlc.specs.Token.{trailing_one}
-use Rattle.h264_cavlc.proofs.Sizes.{unequal}
+use Rattle.std.proofs.lemmas.Int.{to_z-of_z}
+use Rattle.std.specs.Int.{w16}
+use mir.Val.{SFits}
+use Rattle.h264_bits.proofs.Held.{held-fixed, stopped-as, given}
 use Rattle.h264_cavlc.proofs.token.read_trailing_one.Goals as goal
 
-pub returns-in_err-sign : goal.returns-in_err-sign
-unfolding trailing_one
-returns-in_err-sign g c = let p = err_from_is_err_and c.from_residual.result c.from_residual.ensures.1 in rw (p.1, p.2) (stop _ c.in_err-sign.ensures.meets)
+pub returns-in_err-tell_one : goal.returns-in_err-tell_one
+returns-in_err-tell_one g c =
+    let p = err_from_is_err_and c.from_residual.result c.from_residual.ensures.1 in
+    let r = c.args.bits.now in
+    let none : r.at + 0 ≡ r.at = omega arith in
+    let m = rw (c.in-Some.ensures.kept, none) at c.in_err-tell_one.ensures.meets in
+    rw (p.1, p.2, c.in-Some.ensures.kept) (stopped-as r refl (m (held-fixed 1 r.body.bytes r.at c.in-Some.front c.in-Some.ensures.value c.in-Some.ensures.together.inside)))
 
-pub returns-then-sign-eq0 : goal.returns-then-sign-eq0
-unfolding trailing_one
-returns-then-sign-eq0 g c = let e = eq-eqb c.in_ok-sign.sign.value 0 c.if-sign-eq0.true in bind _ c.in_ok-sign.ensures.meets (done _ _ _ _ _ _ _ (rw e refl))
-
-pub returns-else-sign-eq0 : goal.returns-else-sign-eq0
-unfolding trailing_one
-returns-else-sign-eq0 g c = let e = unequal c.in_ok-sign.sign.value 0 c.if-sign-eq0.false in bind _ c.in_ok-sign.ensures.meets (done _ _ _ _ _ _ _ (rw e refl))
+pub returns-in-Some : goal.returns-in-Some
+returns-in-Some g c =
+    let r = c.args.bits.now in
+    let none : r.at + 0 ≡ r.at = omega arith in
+    let m = rw (c.in-Some.ensures.kept, none) at c.in_ok-tell_one.ensures.meets in
+    let fits : SFits w16 c.one_of.result = search rules in
+    rw (c.pass_by.ensures, c.in-Some.ensures.kept, to_z-of_z w16 c.one_of.result fits, c.one_of.ensures) (given (m (held-fixed 1 r.body.bytes r.at c.in-Some.front c.in-Some.ensures.value c.in-Some.ensures.together.inside)))

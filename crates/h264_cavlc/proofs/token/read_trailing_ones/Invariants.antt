@@ -1,4 +1,4 @@
-use Rattle.std.proofs.Common.{◌≡◌, ◌-◌, ◌<◌, ◌^◌, [], take, length}
+use Rattle.std.proofs.Common.{◌+◌, ◌-◌, ◌<◌, ◌^◌, [], take}
 use Rattle.h264_base.proofs.Steps.{Leads}
 use Rattle.h264_bits.specs.Forms.{repeated}
 use Rattle.h264_cavlc.specs.Token.{trailing_one}
@@ -6,7 +6,6 @@ use Rattle.h264_cavlc.proofs.token.read_trailing_ones.Given as goal
 
 abbrev pub invariant-loop-k : goal.invariant-loop-k
 invariant-loop-k g l = record {
-  rest : Leads g.S.Elements.took g.S.Elements.failures (repeated trailing_one [] l.ones) (repeated trailing_one (take l.k l.levels) (l.ones - l.k)) l.fn.bits l.bits l.fn.sink l.sink;
-  sized : length l.levels ≡ 16;
+  rest : Leads g.S.Elements.took g.S.Elements.failures (repeated trailing_one [] l.fn.ones) (repeated trailing_one (take l.k l.levels) (l.fn.ones - l.k)) l.fn.bits (record { body = l.fn.bits.body; at = l.fn.bits.at + l.k }) l.fn.sink l.sink;
   room : g.S.Elements.failures l.sink < 2 ^ 64 - 1;
 }

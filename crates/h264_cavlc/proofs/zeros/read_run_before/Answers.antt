@@ -1,59 +1,39 @@
-use Rattle.std.proofs.Common.{◌≡◌, lt-ltb, inl, inr, refl, arith}
-use Rattle.std.proofs.lemmas.Bool.{cases_lt, le-leb, ltb-true}
-use Rattle.std.proofs.lemmas.Result.{err_from_is_err_and}
-use Rattle.h264_base.specs.Grammar.{Done, ◌>>=◌}
-use Rattle.h264_base.proofs.Steps.{bind, stop, done, checked}
-use Rattle.h264_cavlc.specs.Zeros.{run_before, coded_run_before, run_before_table}
-use Rattle.h264_tables.proofs.Rows.{found-within}
-use Rattle.h264_cavlc.proofs.Sizes.{unequal, not-below}
+use Rattle.std.proofs.Common.{◌≡◌, ◌≢◌, ℕ, ◌≤◌, ◌<◌, Option, Some, None, inl, inr, ap, arith}
+use Rattle.std.proofs.lemmas.Bool.{cases_lt}
+use Rattle.std.specs.Option.{option_map}
+use Rattle.h264_base.specs.Table.{Row}
+use Rattle.h264_tables.specs.declared.front.Entry.{Entry}
+use Rattle.h264_tables.specs.Entry.{entry_of}
+use Rattle.h264_tables.specs.Front.{front_of, found_of}
+use Rattle.h264_tables.specs.Table.{rows_of}
+use Rattle.h264_bits.proofs.Tables.{entry-short}
+use Rattle.h264_cavlc.specs.Zeros.{run_before_table}
 use Rattle.h264_cavlc.proofs.zeros.read_run_before.Goals as goal
 
-pub read_entry_if-requires-clause-known : goal.read_entry_if-requires-clause-known
-read_entry_if-requires-clause-known g c coded =
-    let some = ltb-true 0 c.args.zeros_left coded in
-    rw (c.run_before_table-table.ensures some) (found-within (run_before_table c.args.zeros_left) c.next_16.result c.short_run_word-length.result (c.short_run_word-length.ensures.word some c.if-length-eq-LONG.false).1)
+found-entry : (o : Option Row) (p : ℕ × ℕ) → 0 < p.0 → p ≡ found_of o → Some (record { length = p.0; value = p.1 }) ≡ option_map {U = Entry} entry_of o
+found-entry None p some e = absurd (let z : p.0 ≡ 0 = ap (λ (q : ℕ × ℕ). q.0) e in omega arith)
+found-entry (Some r) p some e = ap (λ (q : ℕ × ℕ). let x : Entry = record { length = q.0; value = q.1 } in Some x) e
 
-pub returns-in_err-found-clause-meets : goal.returns-in_err-found-clause-meets
-unfolding run_before coded_run_before ◌>>=◌
-returns-in_err-found-clause-meets g c =
-    let p = err_from_is_err_and c.from_residual.result c.from_residual.ensures.1 in
-    elim (cases_lt 0 c.args.zeros_left) [
-      | inl some ↦
-          let e = unequal c.args.zeros_left 0 (omega arith) in
-          let m = rw (c.run_before_table-table.ensures some, c.next_16.ensures.kept) at c.in_err-found.ensures.meets (lt-ltb 0 c.args.zeros_left some) in
-          rw (p.1, p.2, e) (stop _ m)
-      | inr none ↦
-          let z : c.args.zeros_left ≡ 0 = omega arith in
-          let m = rw c.next_16.ensures.kept at c.in_err-found.ensures.nothing (not-below 0 c.args.zeros_left none) in
-          rw (p.1, p.2, z) (stop (λ v. Done v) m)
-    ]
+run-short : (zeros_left bits : ℕ) (p : ℕ × ℕ) → (zeros_left ≡ 0 → p ≡ (0, 0)) → (0 < zeros_left → p.0 ≢ 16 → (0 < p.0) × (p ≡ found_of (front_of 16 (rows_of (run_before_table zeros_left)) bits))) → p.0 ≢ 16 → p.0 ≤ 16
+run-short zeros_left bits p none word few = elim (cases_lt 0 zeros_left) [
+  | inl some ↦ let f = word some few in entry-short (run_before_table zeros_left) bits _ (found-entry _ p f.0 f.1)
+  | inr left ↦ let z : p.0 ≡ 0 = ap (λ (q : ℕ × ℕ). q.0) (none (omega arith)) in omega arith
+]
 
-pub returns-in_err-check-clause-meets : goal.returns-in_err-check-clause-meets
-unfolding run_before coded_run_before
-returns-in_err-check-clause-meets g c =
-    let p = err_from_is_err_and c.from_residual-in_err-check.result c.from_residual-in_err-check.ensures.1 in
-    elim (cases_lt 0 c.args.zeros_left) [
-      | inl some ↦
-          let e = unequal c.args.zeros_left 0 (omega arith) in
-          let m = rw (c.run_before_table-table.ensures some, c.next_16.ensures.kept) at c.in_ok-found.ensures.meets (lt-ltb 0 c.args.zeros_left some) in
-          rw (p.1, p.2, e) (bind _ m (stop _ (checked _ _ _ _ c.in_err-check.ensures)))
-      | inr none ↦
-          let zero = c.in_ok-found.ensures.zero (not-below 0 c.args.zeros_left none) in
-          let within = le-leb c.in_ok-found.found.value c.args.zeros_left (omega arith) in
-          let broken = rw within at c.in_err-check.ensures.checks.0 in
-          absurd (cc)
-    ]
+pub tell_run_before-requires-clause-short : goal.tell_run_before-requires-clause-short
+tell_run_before-requires-clause-short g c = let e = c.short_run_word-length.ensures in run-short c.args.zeros_left c.in-Some.front c.short_run_word-length.result e.none e.word c.if-length-ne-LONG.true
 
-pub returns-clause-meets : goal.returns-clause-meets
-unfolding run_before coded_run_before ◌>>=◌
-returns-clause-meets g c =
-    elim (cases_lt 0 c.args.zeros_left) [
-      | inl some ↦
-          let e = unequal c.args.zeros_left 0 (omega arith) in
-          let m = rw (c.run_before_table-table.ensures some, c.next_16.ensures.kept) at c.in_ok-found.ensures.meets (lt-ltb 0 c.args.zeros_left some) in
-          rw e (bind _ m (bind _ (checked _ _ _ _ c.in_ok-check.ensures) (done _ _ _ _ _ _ _ refl)))
-      | inr none ↦
-          let z : c.args.zeros_left ≡ 0 = omega arith in
-          let m = rw c.next_16.ensures.kept at c.in_ok-found.ensures.nothing (not-below 0 c.args.zeros_left none) in
-          rw z (bind (λ v. Done v) m (done _ _ _ _ _ _ _ refl))
-    ]
+pub pass_by-requires-clause-few : goal.pass_by-requires-clause-few
+pass_by-requires-clause-few g c =
+    let e = c.short_run_word-length.ensures in
+    let short = run-short c.args.zeros_left c.in-Some.front c.short_run_word-length.result e.none e.word c.if-length-ne-LONG.true in
+    let n = c.from.ensures in
+    omega arith
+
+pub pass_by-requires-clause-inside : goal.pass_by-requires-clause-inside
+pass_by-requires-clause-inside g c =
+    let e = c.short_run_word-length.ensures in
+    let short = run-short c.args.zeros_left c.in-Some.front c.short_run_word-length.result e.none e.word c.if-length-ne-LONG.true in
+    let n = c.from.ensures in
+    let inside = c.in-Some.ensures.together.inside in
+    rw c.in-Some.ensures.kept (omega arith)

@@ -1,5 +1,7 @@
-use Rattle.std.proofs.Common.{arith, lt-ltb, refl}
+use Rattle.std.proofs.Common.{◌+◌, ◌≤◌, arith, lt-ltb, refl}
+use Rattle.std.proofs.lemmas.Bool.{le-leb}
 use Rattle.std.proofs.lemmas.Result.{err_from_is_err_and}
+use Rattle.h264_base.specs.declared.rule.Rule.TheVariants.{ResidualWord}
 use Rattle.h264_base.proofs.Steps.{bind, stop, done, checked}
 use Rattle.h264_cavlc.specs.Zeros.{total_zeros, coded_total_zeros}
 use Rattle.h264_cavlc.proofs.Sizes.{not-below}
@@ -9,14 +11,20 @@ pub returns-then-from-size-clause-meets : goal.returns-then-from-size-clause-mee
 unfolding total_zeros
 returns-then-from-size-clause-meets g c = rw (not-below c.args.total c.args.size (omega arith)) (done _ _ _ _ _ _ _ refl)
 
-pub returns-in_err-found-clause-meets : goal.returns-in_err-found-clause-meets
+pub returns-in_err-read_held_entry-clause-meets : goal.returns-in_err-read_held_entry-clause-meets
 unfolding total_zeros coded_total_zeros
-returns-in_err-found-clause-meets g c = let p = err_from_is_err_and c.from_residual.result c.from_residual.ensures.1 in let e = lt-ltb c.args.total c.args.size (omega arith) in let m = rw (c.total_zeros_table-table.ensures, c.next_16.ensures.kept) at c.in_err-found.ensures.meets in rw (p.1, p.2, e) (stop _ m)
+returns-in_err-read_held_entry-clause-meets g c =
+    let p = err_from_is_err_and c.from_residual.result c.from_residual.ensures.1 in
+    let e = lt-ltb c.args.total c.args.size (omega arith) in
+    let m = rw (c.total_zeros_table-table.ensures, c.in-Some.ensures.kept) at c.in_err-read_held_entry.ensures.meets in
+    rw (p.1, p.2, e) (stop _ (m ResidualWord))
 
-pub returns-in_err-check-clause-meets : goal.returns-in_err-check-clause-meets
+pub returns-then-from-size-2-clause-meets : goal.returns-then-from-size-2-clause-meets
 unfolding total_zeros coded_total_zeros
-returns-in_err-check-clause-meets g c = let p = err_from_is_err_and c.from_residual-in_err-check.result c.from_residual-in_err-check.ensures.1 in let e = lt-ltb c.args.total c.args.size (omega arith) in let m = rw (c.total_zeros_table-table.ensures, c.next_16.ensures.kept) at c.in_ok-found.ensures.meets in let k = rw (c.from-2.ensures, c.from-3.ensures) at c.in_err-check.ensures in rw (p.1, p.2, e) (bind _ m (stop _ (checked _ _ _ _ k)))
-
-pub returns-clause-meets : goal.returns-clause-meets
-unfolding total_zeros coded_total_zeros
-returns-clause-meets g c = let e = lt-ltb c.args.total c.args.size (omega arith) in let m = rw (c.total_zeros_table-table.ensures, c.next_16.ensures.kept) at c.in_ok-found.ensures.meets in let k = rw (c.from-2.ensures, c.from-3.ensures) at c.in_ok-check.ensures in rw e (bind _ m (bind _ (checked _ _ _ _ k) (done _ _ _ _ _ _ _ refl)))
+returns-then-from-size-2-clause-meets g c =
+    let e = lt-ltb c.args.total c.args.size (omega arith) in
+    let m = rw (c.total_zeros_table-table.ensures, c.in-Some.ensures.kept) at c.in_ok-read_held_entry.ensures.meets in
+    let value = c.in_ok-read_held_entry.ensures.value in
+    let f = c.in_ok-read_held_entry.field-0 in
+    let few : c.args.total + f.value ≤ c.args.size = (let t = c.if-from-size-2.true in let u = c.from-in-Some-total_zeros_word.ensures in let w = c.from-in-Some-total_zeros_word-2.ensures in rw value (omega arith)) in
+    rw e (bind _ (m ResidualWord) (bind _ (checked _ _ _ _ (record { checks = le-leb _ _ few })) (done _ _ _ _ _ _ _ (rw value refl))))
