@@ -1,5 +1,5 @@
 -- What edges say is what their macroblocks say.
-use Rattle.std.proofs.Common.{◌≡◌, ℕ, zero, suc, ◌+◌, ◌*◌, ◌<◌, Bool, List, [], ◌∷◌, length, get_or, Option, Some, None, refl, ap, sym, ◌∙◌, arith, lit<}
+use Rattle.std.proofs.Common.{◌≡◌, ℕ, zero, suc, ◌+◌, ◌*◌, ◌<◌, Bool, List, [], ◌∷◌, length, get_or, set, Option, Some, None, refl, ap, sym, ◌∙◌, arith, lit<}
 use Rattle.std.specs.Option.{option_and_then}
 use Rattle.std.specs.List.{slice_get}
 use Rattle.std.proofs.lemmas.Option.{slice_get-get_or}
@@ -125,3 +125,17 @@ module _ (c : Contexts) (m : CodedMacroblock) (s : AreContexts c m) (all : lengt
       (by-two-two (λ b k. get_or e.chroma (b * 2 + k) 0 ≡ get_or c.chroma_totals (chroma_number_of b 1 k) 0) (rw eb refl) (rw eb refl) (rw eb refl) (rw eb refl))
       (by-four (λ k. get_or e.modes k 0 ≡ get_or c.modes (number_of 3 k) 0) (rw em refl) (rw em refl) (rw em refl) (rw em refl))
       (by-four (λ k. get_or e.motions k None ≡ get_or c.motions (number_of 3 k) None) (rw ev refl) (rw ev refl) (rw ev refl) (rw ev refl))
+
+-- an edge where there is a macroblock
+pub edge-there : (borders : Edge → CodedMacroblock → Type 0) (o : Option Edge) (m : CodedMacroblock) → IsEdge borders o (Some m) → (e : Edge) × (o ≡ Some e) × borders e m
+edge-there borders None m i = absurd i
+edge-there borders (Some e) m i = (e, refl, i)
+
+-- four elements that were written one by one
+pub four-set : {A : Type 0} (xs : List A) (a b c d : A) → length xs ≡ 4 → set (set (set (set xs 0 a) 1 b) 2 c) 3 d ≡ a ∷ b ∷ c ∷ d ∷ []
+four-set [] a b c d h = absurd (omega arith)
+four-set (w ∷ []) a b c d h = absurd (omega arith)
+four-set (w ∷ x ∷ []) a b c d h = absurd (omega arith)
+four-set (w ∷ x ∷ y ∷ []) a b c d h = absurd (omega arith)
+four-set (w ∷ x ∷ y ∷ z ∷ []) a b c d h = refl
+four-set (w ∷ x ∷ y ∷ z ∷ v ∷ xs) a b c d h = absurd (omega arith)

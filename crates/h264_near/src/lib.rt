@@ -7,6 +7,7 @@
 
 pub mod block;
 pub mod context;
+mod kept_edges;
 mod lookup;
 pub mod motion;
 pub mod near;

@@ -11,13 +11,14 @@ ghost use Rattle.h264_near.specs.Strength.{side_part};
 
 use crate::block::{above_of, column, left_of, number, row};
 use crate::context::{Contexts, Edge};
+use crate::kept_edges::{put_lower, put_right, put_skipped};
 use crate::lookup::{
     chroma_along, derived, lesser_mode, mean, mode_along, motion_along, side_along, total_along,
 };
 use crate::motion::Motion;
 use crate::samples::Samples;
 use crate::sides::Side;
-use crate::skipped::{Skipped, edge_of};
+use crate::skipped::Skipped;
 use std::alloc::{AllocError, Global};
 
 /// The row of contexts above the next macroblock, the column to its left and the corner.
@@ -323,56 +324,30 @@ impl Near {
         ensures { (width : ℕ) (picture : List CodedMacroblock) (coded : CodedMacroblock) → Keeps width picture self.old → AreContexts m.now coded →
             Keeps width (picture ++ coded ∷ []) self.new }
     {
-        let corner = self.above[self.column];
-        self.above[self.column] = Some(Edge {
-            slice: m.slice,
-            intra: m.intra,
-            qp: m.qp,
-            totals: [m.totals[10], m.totals[11], m.totals[14], m.totals[15]],
-            chroma: [
-                m.chroma_totals[2],
-                m.chroma_totals[3],
-                m.chroma_totals[6],
-                m.chroma_totals[7],
-            ],
-            modes: [m.modes[10], m.modes[11], m.modes[14], m.modes[15]],
-            motions: [m.motions[10], m.motions[11], m.motions[14], m.motions[15]],
-        });
         if self.column + 1 < self.above.len() {
-            self.left = Some(Edge {
-                slice: m.slice,
-                intra: m.intra,
-                qp: m.qp,
-                totals: [m.totals[5], m.totals[7], m.totals[13], m.totals[15]],
-                chroma: [
-                    m.chroma_totals[1],
-                    m.chroma_totals[3],
-                    m.chroma_totals[5],
-                    m.chroma_totals[7],
-                ],
-                modes: [m.modes[5], m.modes[7], m.modes[13], m.modes[15]],
-                motions: [m.motions[5], m.motions[7], m.motions[13], m.motions[15]],
-            });
-            self.corner = corner;
+            self.corner = self.above[self.column];
+            put_lower(&mut self.above[self.column], m);
+            put_right(&mut self.left, m);
             self.column += 1;
         } else {
+            put_lower(&mut self.above[self.column], m);
             self.begin_row();
         }
     }
+
     /// Goes on after a skipped macroblock.
     #[inline]
     pub fn push_skipped(&mut self, m: &Skipped)
         ensures { (width : ℕ) (picture : List CodedMacroblock) (coded : CodedMacroblock) → Keeps width picture self.old → IsSkipped m.now coded →
             Keeps width (picture ++ coded ∷ []) self.new }
     {
-        let corner = self.above[self.column];
-        let edge = edge_of(m);
-        self.above[self.column] = Some(edge);
         if self.column + 1 < self.above.len() {
-            self.left = Some(edge);
-            self.corner = corner;
+            self.corner = self.above[self.column];
+            put_skipped(&mut self.above[self.column], m);
+            put_skipped(&mut self.left, m);
             self.column += 1;
         } else {
+            put_skipped(&mut self.above[self.column], m);
             self.begin_row();
         }
     }
