@@ -1,5 +1,6 @@
 -- The samples of a picture in the making.
-use Rattle.std.proofs.Common.{◌≡◌, ℕ, ◌+◌, ◌*◌, ◌/◌, ◌<◌, List, [], length, get_or, Option, Some, None, refl, sym, ap, ◌∙◌, subst, arith, ℤ}
+use Rattle.std.proofs.Common.{◌≡◌, ℕ, ◌+◌, ◌*◌, ◌/◌, ◌<◌, Bool, true, false, IsTrue, IsOk, IfOk, Result, Ok, Err, List, [], length, get_or, Option, Some, None, refl, sym, ap, ◌∙◌, subst, arith, ℤ}
+use Rattle.std.proofs.lemmas.Bool.{false≢true}
 use Rattle.std.proofs.Math.Nat.{mul_comm}
 use Rattle.h264_plane.specs.Frames.{frame_at, IsFrame}
 use Rattle.h264_plane.specs.declared.frame.Component.TheVariants.{Y, Cb, Cr}
@@ -32,6 +33,18 @@ frame-of : (a d : ℕ) (f : Frame) → IsFrame f (16 * a) (16 * d) → IsOf a d 
 frame-of a d f i Y = record { columns = i.y.columns; rows = i.y.rows }
 frame-of a d f i Cb = record { columns = i.cb.columns ∙ half a; rows = i.cb.rows ∙ half d }
 frame-of a d f i Cr = record { columns = i.cr.columns ∙ half a; rows = i.cr.rows ∙ half d }
+
+-- two tests, each of which is met where the other is
+pub alike : (a b : Bool) → (IsTrue a → IsTrue b) → (IsTrue b → IsTrue a) → a ≡ b
+alike true true f g = refl
+alike true false f g = sym (f refl)
+alike false true f g = g refl
+alike false false f g = refl
+
+-- what holds where there is no error
+pub if-ok : {A E P : Type 0} (r : Result A E) → IsOk r → IfOk r (λ u. P) → P
+if-ok (Ok v) e p = p
+if-ok (Err x) e p = absurd (false≢true e)
 
 pub own-size : (s : Sequence) → IsOf s.across s.down s.frames.frame
 own-size s = frame-of s.across s.down s.frames.frame (own-frame (16 * s.across) (16 * s.down) s.frames s.sound.frames s.frames.within.0)

@@ -1,5 +1,5 @@
 -- Skipped macroblocks: they refer to a picture that there is, and have no levels.
-use Rattle.std.proofs.Common.{◌≡◌, ℕ, suc, zero, List, replicate, Option, Some, None, true, ℤ, refl, sym}
+use Rattle.std.proofs.Common.{◌≡◌, ℕ, suc, zero, List, replicate, Option, Some, None, true, ℤ, refl}
 use Rattle.std.specs.List.{AllByRecursion}
 use Rattle.h264_near.specs.Coded.{CodedMacroblock}
 use Rattle.h264_near.specs.declared.motion.Motion.{Motion}
@@ -11,10 +11,10 @@ use Rattle.std.specs.Option.{is_some, unwrap_or}
 use Rattle.h264_mbsyntax.specs.Residual.{no_coefficients, no_chroma, no_block}
 use Rattle.h264_mbsyntax.specs.Possible.{Refers, IsPossible}
 use Rattle.h264_mbsyntax.specs.Slice.{skipped_of}
-use Rattle.h264_scale.specs.Macroblock.{AreResiduals}
 use Rattle.h264_scale.specs.declared.levels.Levels.{Levels}
 use Rattle.h264_scale.proofs.Whole.{no_luma, no_cb, no_cr}
-use Rattle.h264_recon.specs.Skips.{no_residuals}
+use Rattle.h264_plane.specs.declared.frame.Component.TheVariants.{Y, Cb, Cr}
+use Rattle.h264_recon.specs.Residuals.{HasNoResidual}
 use Rattle.h264_recon.specs.Levels.{levels_of, luma_levels, luma_blocks, chroma_levels, chroma_blocks}
 use Rattle.h264_picture.specs.Levels.{AreNone}
 
@@ -39,9 +39,7 @@ unfolding levels_of skipped_of coded no_coefficients no_chroma no_block luma_lev
 skipped-none offset slice picture v = record { y = refl; cb = refl; cr = refl }
 
 -- no levels, no residual
-pub none-residuals : (l : Levels) → AreNone l → AreResiduals l no_residuals
-none-residuals l n = record {
-  y = record { each = λ x y i j. sym (no_luma l x y n.y) };
-  cb = record { each = λ x y i j. sym (no_cb l x y n.cb) };
-  cr = record { each = λ x y i j. sym (no_cr l x y n.cr) };
-}
+pub none-residuals : (l : Levels) → AreNone l → HasNoResidual l
+none-residuals l n Y = λ x y. no_luma l x y n.y
+none-residuals l n Cb = λ x y. no_cb l x y n.cb
+none-residuals l n Cr = λ x y. no_cr l x y n.cr

@@ -14,7 +14,6 @@ pub mod context;
 mod frames;
 pub mod in_place;
 pub mod laws;
-mod levels;
 mod making;
 mod places;
 mod run;

@@ -13,14 +13,14 @@ ghost use Rattle.h264_recon.specs.Given.{given as given_of};
 ghost use Rattle.h264_recon.specs.Levels.{levels_of};
 ghost use Rattle.h264_recon.specs.Placed.{ArePlaced, PointsInto, weights_by};
 ghost use Rattle.h264_recon.specs.Predicted.{prediction_in};
+ghost use Rattle.h264_recon.specs.ReadLevels.{is_pcm, is_of_samples};
 
 use crate::in_place::{Finish, go_on, go_on_skipped};
-use crate::levels::residuals_of;
 use crate::sequence::Sequence;
 use h264_deblock::{Coded, CodedSkip};
 use h264_mbsyntax::Macroblock as Read;
 use h264_near::{Motion, Near, Skipped};
-use h264_recon::{Available, Macroblock, Position, SliceReferences, given, is_whole};
+use h264_recon::{Available, Macroblock, Position, ReadLevels, SliceReferences, given, is_whole};
 use h264_vectors::SliceContext;
 
 /// The sides that intra prediction may use, in a row of so many macroblocks: to the right of the last one there is none.
@@ -54,6 +54,7 @@ fn given_within<'a>(
     requires small { position.column < 1024 }
     ensures points { PointsInto references.now.places.now (prediction_in result.prediction) }
     ensures more { IsTrue result.available.above_right → position.column + 1 < across }
+    ensures kind { is_of_samples (prediction_in result.prediction) ≡ is_pcm read.now.kind }
     ensures given { (width : ℕ) (picture : List CodedMacroblock) (place : ℕ → ℕ) (coded : CodedMacroblock) → across ≡ width →
         Keeps width picture near.now → length picture ≡ position.row * width + position.column → position.column < width →
         HoldsMacroblock read.now coded → coded.slice ≡ slice.now.number → IsPossible width slice.now picture coded.prediction →
@@ -93,21 +94,23 @@ fn moves_as_one(read: &Read) -> bool
 
 impl Sequence {
     ghost use Rattle.std.specs.Prelude.{◌≤◌, Option, [], ◌∷◌, ◌++◌, true, false};
-    ghost use Rattle.h264_scale.specs.Macroblock.{AreResiduals};
     ghost use Rattle.h264_picture.specs.Holds.{KeepsPlace, KeepsSyntax, HoldsIn};
     ghost use Rattle.h264_picture.specs.Making.{Making, HasSamples, MakesIn};
     ghost use Rattle.h264_picture.specs.Levels.{transform_fits, AreNone};
 
-    /// Makes the samples of the macroblock in its place, with the residual that was written last.
-    fn make(&mut self, slice: &SliceContext)
-        requires { self.old.next < self.old.size }
+    /// Makes the samples of the macroblock that was read in its place, if each value of its transform is in range.
+    #[inline(never)]
+    pub(crate) fn make_read(&mut self, slice: &SliceContext) -> bool
+        requires next { self.old.next < self.old.size }
+        requires qp { self.old.mb.qp ≤ 51 }
         ensures same { KeepsPlace self.old self.new }
         ensures syntax { KeepsSyntax self.old self.new }
         ensures makes { (making : Option Making) → MakesIn making slice.now self.old → MakesIn making slice.now self.new }
-        ensures samples { (width size : ℕ) (making : Option Making) (picture : List CodedMacroblock) (coded : CodedMacroblock) →
+        ensures range { (coded : CodedMacroblock) → HoldsMacroblock self.old.mb coded → result ≡ transform_fits slice.now coded }
+        ensures samples { result ≡ true → (width size : ℕ) (making : Option Making) (picture : List CodedMacroblock) (coded : CodedMacroblock) →
             HoldsIn width size picture self.old → HasSamples making picture self.old → MakesIn making slice.now self.old →
             HoldsMacroblock self.old.mb coded → coded.slice ≡ slice.now.number → IsPossible width slice.now picture coded.prediction →
-            AreResiduals (levels_of slice.now.chroma_qp_index_offset coded) self.old.residuals → HasSamples making (picture ++ coded ∷ []) self.new }
+            HasSamples making (picture ++ coded ∷ []) self.new }
     {
         let (read, near) = (&self.mb, &self.near);
         let references = SliceReferences {
@@ -126,33 +129,13 @@ impl Sequence {
             filter: &self.filter,
         };
         let finish = Finish {
-            residuals: &self.residuals,
+            levels: ReadLevels::new(read, slice.chroma_qp_index_offset),
             coded,
         };
         let (frame, pool) = (&mut self.frames.frame, &self.frames.pool);
-        go_on(&mut self.lines, frame, &m, &finish, pool, position);
+        go_on(&mut self.lines, frame, &m, &finish, pool, position).is_ok()
     }
 
-    /// Makes the samples of the macroblock that was read in its place, if each value of its transform is in range.
-    #[inline(never)]
-    pub(crate) fn make_read(&mut self, slice: &SliceContext) -> bool
-        requires next { self.old.next < self.old.size }
-        requires qp { self.old.mb.qp ≤ 51 }
-        ensures same { KeepsPlace self.old self.new }
-        ensures syntax { KeepsSyntax self.old self.new }
-        ensures makes { (making : Option Making) → MakesIn making slice.now self.old → MakesIn making slice.now self.new }
-        ensures range { (coded : CodedMacroblock) → HoldsMacroblock self.old.mb coded → result ≡ transform_fits slice.now coded }
-        ensures samples { result ≡ true → (width size : ℕ) (making : Option Making) (picture : List CodedMacroblock) (coded : CodedMacroblock) →
-            HoldsIn width size picture self.old → HasSamples making picture self.old → MakesIn making slice.now self.old →
-            HoldsMacroblock self.old.mb coded → coded.slice ≡ slice.now.number → IsPossible width slice.now picture coded.prediction →
-            HasSamples making (picture ++ coded ∷ []) self.new }
-    {
-        if !residuals_of(slice, &self.mb, &mut self.residuals) {
-            return false;
-        }
-        self.make(slice);
-        true
-    }
     /// Makes the samples of a skipped macroblock in its place.
     pub(crate) fn make_skipped(&mut self, slice: &SliceContext, skipped: &Skipped)
         requires { self.old.next < self.old.size }

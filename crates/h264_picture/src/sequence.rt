@@ -15,7 +15,6 @@ use h264_deblock::{Deblocking, SliceFilter};
 use h264_mbsyntax::Macroblock;
 use h264_near::Near;
 use h264_recon::{Lines, SliceWeights};
-use h264_scale::Residuals;
 use h264_sps::sps::Sps;
 use h264_vectors::SliceContext;
 use std::alloc::{AllocError, Global};
@@ -41,8 +40,6 @@ pub struct Sequence {
     pub(crate) row: usize,
     /// The last macroblock, and the place of the next.
     pub(crate) mb: Macroblock,
-    /// The residual of the last macroblock that had one. It stands here so that no macroblock clears its own.
-    pub(crate) residuals: Residuals,
     /// The places of the reference pictures of the slice.
     pub(crate) places: [u8; 16],
     pub(crate) filter: SliceFilter,
@@ -96,11 +93,6 @@ impl Sequence {
             column: 0,
             row: 0,
             mb: Macroblock::none(),
-            residuals: Residuals {
-                y: None,
-                cb: None,
-                cr: None,
-            },
             places: [1; 16],
             filter: NO_FILTER,
             weights: SliceWeights::NONE,

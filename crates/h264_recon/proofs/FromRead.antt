@@ -1,10 +1,15 @@
 -- The levels of a macroblock that was read are those of the coded macroblock.
-use Rattle.std.proofs.Common.{◌≡◌, ℕ, ◌+◌, ◌*◌, ◌≤◌, Bool, List, [], get_or, Option, take, drop, replicate, ℤ, pos, refl, ap, sym, ◌∙◌, arith}
+use Rattle.std.proofs.Common.{◌≡◌, ℕ, ◌+◌, ◌*◌, ◌<◌, ◌≤◌, Bool, List, [], get_or, Option, take, drop, replicate, ℤ, pos, refl, ap, sym, ◌∙◌, arith}
 use Rattle.h264_tables.specs.ChromaQp.{chroma_qp_of}
 use Rattle.h264_near.specs.Coded as coded
 use Rattle.h264_near.specs.Coded.{CodedMacroblock}
 use Rattle.h264_mbsyntax.specs.Stored.{shown}
 use Rattle.h264_mbsyntax.specs.Holds as holds
+use Rattle.h264_mbsyntax.specs.declared.macroblock.Kind.{Kind}
+use Rattle.h264_mbsyntax.specs.declared.macroblock.Kind.TheVariants as kind
+use Rattle.h264_mbsyntax.specs.declared.macroblock.Macroblock.{Macroblock}
+use Rattle.h264_recon.specs.ReadLevels.{luma_by, chroma_by, is_pcm, levels_in}
+use Rattle.h264_recon.specs.declared.scaled.ReadLevels.{ReadLevels}
 use Rattle.h264_scale.specs.declared.levels.LumaLevels.{LumaLevels}
 use Rattle.h264_scale.specs.declared.levels.LumaLevels.TheVariants as luma
 use Rattle.h264_scale.specs.declared.levels.ChromaLevels.{ChromaLevels}
@@ -95,3 +100,26 @@ given-is w xs place weights constrained offset m a p ws e f g =
     let sides = used_by m.prediction (available w xs m.slice constrained) in
     ap (λ z. assembled z p (levels_of offset m) ws) e ∙ ap (λ z. assembled sides z (levels_of offset m) ws) f
     ∙ ap (assembled sides (prediction_of place m.prediction) (levels_of offset m)) g
+
+-- ---- the levels that were read
+
+luma-is : (k : Kind) (mb : Macroblock) (m : CodedMacroblock) → holds.IsPrediction k mb m.prediction → holds.HasLuma k mb m → m.totals ≡ mb.contexts.totals → luma_by k mb ≡ luma_levels m.prediction m.totals m.residual
+unfolding luma_by
+luma-is kind.Intra4x4 mb m p l t = luma-4x4 m.prediction m.residual _ _ _ _ _ _ p refl t (all-blocks 16 16 _ _ _ l.0)
+luma-is (kind.Intra16x16 mode) mb m p l t = luma-16x16 m.prediction m.residual _ _ _ _ _ p (sym l.1) (all-blocks 15 16 _ _ _ l.0)
+luma-is kind.Pcm mb m p l t = luma-pcm m.prediction m.residual _ _ p
+luma-is (kind.Inter whole) mb m p l t = luma-inter m.prediction m.residual _ _ _ _ _ p.0 refl t (all-blocks 16 16 _ _ _ l.0)
+
+chroma-is : (k : Kind) (c : ℕ) (mb : Macroblock) (m : CodedMacroblock) → c < 2 → holds.IsPrediction k mb m.prediction → holds.HasChroma k mb m → m.chroma_totals ≡ mb.contexts.chroma_totals → chroma_by (is_pcm k) c mb ≡ chroma_levels c m.prediction m.chroma_totals m.residual
+unfolding chroma_by
+chroma-is kind.Intra4x4 c mb m i p l t = chroma-4x4 c m.prediction m.residual _ _ _ _ _ _ _ p refl t (sym (element m.residual.chroma_dc c _ [] (l.0.each c i))) (blocks 15 (4 * c) 4 8 _ _ _ (omega arith) l.1)
+chroma-is (kind.Intra16x16 mode) c mb m i p l t = chroma-16x16 c m.prediction m.residual _ _ _ _ _ _ _ p refl t (sym (element m.residual.chroma_dc c _ [] (l.0.each c i))) (blocks 15 (4 * c) 4 8 _ _ _ (omega arith) l.1)
+chroma-is kind.Pcm c mb m i p l t = chroma-pcm c m.prediction m.residual _ _ p
+chroma-is (kind.Inter whole) c mb m i p l t = chroma-inter c m.prediction m.residual _ _ _ _ _ _ p.0 refl t (sym (element m.residual.chroma_dc c _ [] (l.0.each c i))) (blocks 15 (4 * c) 4 8 _ _ _ (omega arith) l.1)
+
+pub levels-read : (r : ReadLevels) (m : CodedMacroblock) → holds.HoldsMacroblock r.read.now m → levels_in r ≡ levels_of r.chroma_qp_index_offset m
+unfolding levels_in
+levels-read r m h =
+    let mb = r.read.now in
+    levels-are r.chroma_qp_index_offset m _ _ _ mb.qp _ (luma-is mb.kind mb m h.prediction h.luma h.contexts.totals) (chroma-is mb.kind 0 mb m (omega arith) h.prediction h.chroma h.contexts.chroma_totals)
+    (chroma-is mb.kind 1 mb m (omega arith) h.prediction h.chroma h.contexts.chroma_totals) h.qp refl

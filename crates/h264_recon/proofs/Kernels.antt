@@ -1,19 +1,19 @@
 -- What the code constructs meets the equations.
-use Rattle.std.proofs.Common.{◌≡◌, ℕ, ◌+◌, ◌*◌, ◌/◌, ◌%◌, ◌<◌, Bool, true, false, List, slice_index, get_or, ℤ, pos, ◌+ℤ◌, arith, refl, sym, ap, ◌∙◌}
+use Rattle.std.proofs.Common.{◌≡◌, ℕ, ◌+◌, ◌*◌, ◌/◌, ◌%◌, Bool, true, false, List, slice_index, pos, ◌+ℤ◌, arith, refl, sym, ap, ◌∙◌}
 use Rattle.h264_plane.specs.declared.frame.Component.{Component}
 use Rattle.h264_plane.specs.declared.frame.Component.TheVariants.{Y, Cb, Cr}
 use Rattle.h264_intra.specs.Filters.{HasSamples}
-use Rattle.h264_intra.specs.Luma4.{predicted4}
 use Rattle.h264_intra.specs.Luma16.{predicted16}
 use Rattle.h264_intra.specs.Chroma.{predicted_chroma}
 use Rattle.h264_intra.specs.declared.luma4.Intra4x4PredMode.{Intra4x4PredMode}
 use Rattle.h264_intra.specs.declared.luma16.Intra16x16PredMode.{Intra16x16PredMode}
 use Rattle.h264_intra.specs.declared.chroma.IntraChromaPredMode.{IntraChromaPredMode}
 use Rattle.h264_plane.specs.Clip.{clip1}
-use Rattle.h264_recon.specs.Blocks.{sides_of, sides4_of}
-use Rattle.h264_scale.specs.Macroblock.{residual, IsResidual}
+use Rattle.h264_recon.specs.Blocks.{sides_of}
+use Rattle.h264_scale.specs.Residual.{residual_at}
+use Rattle.h264_scale.specs.Macroblock.{luma_d, block_d, residual}
 use Rattle.h264_recon.specs.Inter.{Setting}
-use Rattle.h264_recon.specs.Constructed.{block_window, mode_at, predicted_luma, predicted_intra, pcm_sample, made_by, made, Coded}
+use Rattle.h264_recon.specs.Constructed.{predicted_luma, predicted_intra, pcm_sample, made_by, made, Coded}
 use Rattle.h264_recon.specs.Lines.{local, IsMadeFrom, AreMadeFrom, IsLumaMade, IsChromaMade, chroma_plane, pcm_list, store_of}
 use Rattle.h264_recon.specs.Blocks4.{place4, AreMade4}
 use Rattle.h264_scale.specs.declared.levels.Levels.{Levels}
@@ -22,6 +22,7 @@ use Rattle.h264_recon.specs.declared.macroblock.IntraLuma.{IntraLuma}
 use Rattle.h264_recon.specs.declared.macroblock.IntraLuma.TheVariants.{Blocks, Whole}
 use Rattle.h264_recon.specs.declared.macroblock.IntraModes.{IntraModes}
 use Rattle.h264_recon.specs.Predicted.{PcmSamples, Intra, Pcm}
+use Rattle.h264_recon.specs.Residuals.{IsAdded}
 use Rattle.h264_recon.specs.declared.store.Lines.{Lines}
 use Rattle.h264_recon.specs.declared.store.Samples.{Samples}
 use Rattle.h264_recon.specs.declared.store.Store.{Store}
@@ -37,27 +38,22 @@ unfolding made_by
 made_pcm k c r m p s x y bytes e = rw e refl
 
 -- Intra_4x4
-pub blocks_made : (luma : IntraLuma) (modes : List Intra4x4PredMode) (a : Available) (levels : Levels) (c : ℕ) (l : Store) (res : List ℤ) (own : List ℕ) → luma ≡ Blocks modes → IsResidual levels Y res →
-    AreMade4 16 modes a res l c own → IsLumaMade luma a levels c l own
-unfolding predicted_luma
-blocks_made luma modes a levels c l res own e is made = record {
+pub blocks_made : (luma : IntraLuma) (modes : List Intra4x4PredMode) (a : Available) (levels : Levels) (c : ℕ) (l : Store) (own : List ℕ) → luma ≡ Blocks modes →
+    AreMade4 16 modes a (λ x y. residual_at (luma_d levels.qp levels.luma x y)) l c own → IsLumaMade luma a levels c l own
+unfolding predicted_luma residual block_d
+blocks_made luma modes a levels c l own e made = record {
   each = λ x y i j.
       let place : place4 (x / 4) (y / 4) (x % 4) (y % 4) ≡ 16 * y + x = omega arith in
       rw e (ap (λ n. slice_index own n) (sym place)
-      ∙ made.each (x / 4) (y / 4) (x % 4) (y % 4) (omega arith) (omega arith) (omega arith) (omega arith) (omega arith)
-      ∙ ap (λ n. clip1 (pos (predicted4 (mode_at modes (x / 4) (y / 4)) (sides4_of a (x / 4) (y / 4)) (block_window (local 16 l c own) (x / 4) (y / 4)) (x % 4) (y % 4)) +ℤ get_or res n (pos 0))) place
-      ∙ ap (λ z. clip1 (pos (predicted4 (mode_at modes (x / 4) (y / 4)) (sides4_of a (x / 4) (y / 4)) (block_window (local 16 l c own) (x / 4) (y / 4)) (x % 4) (y % 4)) +ℤ z)) (is.each x y i j));
+      ∙ made.each (x / 4) (y / 4) (x % 4) (y % 4) (omega arith) (omega arith) (omega arith) (omega arith) (omega arith));
 }
 
 -- Intra_16x16
-pub whole_made : (luma : IntraLuma) (mode : Intra16x16PredMode) (a : Available) (levels : Levels) (c : ℕ) (l : Store) (predicted own : List ℕ) (res : List ℤ) → luma ≡ Whole mode → IsResidual levels Y res →
-    HasSamples 16 predicted (predicted16 mode (sides_of a) (local 16 l c own)) →
-    ((k : ℕ) → k < 256 → slice_index own k ≡ clip1 (pos (slice_index predicted k) +ℤ get_or res k (pos 0))) → IsLumaMade luma a levels c l own
+pub whole_made : (luma : IntraLuma) (mode : Intra16x16PredMode) (a : Available) (levels : Levels) (c : ℕ) (l : Store) (predicted own : List ℕ) → luma ≡ Whole mode →
+    HasSamples 16 predicted (predicted16 mode (sides_of a) (local 16 l c own)) → IsAdded levels Y predicted own → IsLumaMade luma a levels c l own
 unfolding predicted_luma
-whole_made luma mode a levels c l predicted own res e is has sum = record {
-  each = λ x y i j. rw e (sum (16 * y + x) (omega arith)
-      ∙ ap (λ n. clip1 (pos n +ℤ get_or res (16 * y + x) (pos 0))) (has.each x y i j)
-      ∙ ap (λ z. clip1 (pos (predicted16 mode (sides_of a) (local 16 l c own) x y) +ℤ z)) (is.each x y i j));
+whole_made luma mode a levels c l predicted own e has sum = record {
+  each = λ x y i j. rw e (sum.each x y i j ∙ ap (λ n. clip1 (pos n +ℤ residual levels Y x y)) (has.each x y i j));
 }
 
 pub luma_made : (k : Setting) (c r : ℕ) (m : Coded) (l : Store) (own : List ℕ) (modes : IntraModes) → m.prediction ≡ Intra modes → IsLumaMade modes.luma m.available m.levels c l own → IsMadeFrom k c r m Y l own
@@ -67,18 +63,13 @@ luma_made k c r m l own modes e made = record {
 }
 
 -- chroma
-pub mode_made : (b : Bool) (mode : IntraChromaPredMode) (a : Available) (levels : Levels) (c : ℕ) (l : Store) (predicted own : List ℕ) (res : List ℤ) → IsResidual levels (chroma_plane b) res →
-    HasSamples 8 predicted (predicted_chroma mode (sides_of a) (local 8 l c own)) →
-    ((k : ℕ) → k < 64 → slice_index own k ≡ clip1 (pos (slice_index predicted k) +ℤ get_or res k (pos 0))) → IsChromaMade mode a levels (chroma_plane b) c l own
-mode_made true mode a levels c l predicted own res is has sum = record {
-  each = λ x y i j. sum (8 * y + x) (omega arith)
-      ∙ ap (λ n. clip1 (pos n +ℤ get_or res (8 * y + x) (pos 0))) (has.each x y i j)
-      ∙ ap (λ z. clip1 (pos (predicted_chroma mode (sides_of a) (local 8 l c own) x y) +ℤ z)) (is.each x y i j);
+pub mode_made : (b : Bool) (mode : IntraChromaPredMode) (a : Available) (levels : Levels) (c : ℕ) (l : Store) (predicted own : List ℕ) →
+    HasSamples 8 predicted (predicted_chroma mode (sides_of a) (local 8 l c own)) → IsAdded levels (chroma_plane b) predicted own → IsChromaMade mode a levels (chroma_plane b) c l own
+mode_made true mode a levels c l predicted own has sum = record {
+  each = λ x y i j. sum.each x y i j ∙ ap (λ n. clip1 (pos n +ℤ residual levels Cr x y)) (has.each x y i j);
 }
-mode_made false mode a levels c l predicted own res is has sum = record {
-  each = λ x y i j. sum (8 * y + x) (omega arith)
-      ∙ ap (λ n. clip1 (pos n +ℤ get_or res (8 * y + x) (pos 0))) (has.each x y i j)
-      ∙ ap (λ z. clip1 (pos (predicted_chroma mode (sides_of a) (local 8 l c own) x y) +ℤ z)) (is.each x y i j);
+mode_made false mode a levels c l predicted own has sum = record {
+  each = λ x y i j. sum.each x y i j ∙ ap (λ n. clip1 (pos n +ℤ residual levels Cb x y)) (has.each x y i j);
 }
 
 pub chroma_made : (b : Bool) (k : Setting) (c r : ℕ) (m : Coded) (l : Store) (own : List ℕ) (modes : IntraModes) → m.prediction ≡ Intra modes → IsChromaMade modes.chroma m.available m.levels (chroma_plane b) c l own →
@@ -108,11 +99,11 @@ made_all k c r m lines own a b d Y = a
 made_all k c r m lines own a b d Cb = b
 made_all k c r m lines own a b d Cr = d
 
-pub intra_all : (k : Setting) (c r : ℕ) (m : Coded) (lines : Lines) (own : Samples) (modes : IntraModes) (a : Available) → m.prediction ≡ Intra modes → m.available ≡ a → IsLumaMade modes.luma a m.levels c (store_of Y lines) own.y →
-    IsChromaMade modes.chroma a m.levels Cb c (store_of Cb lines) own.cb → IsChromaMade modes.chroma a m.levels Cr c (store_of Cr lines) own.cr → AreMadeFrom k c r m lines own
-intra_all k c r m lines own modes a e f y cb cr =
-    made_all k c r m lines own (luma_made k c r m (store_of Y lines) own.y modes e (rw f y)) (chroma_made false k c r m (store_of Cb lines) own.cb modes e (rw f cb))
-    (chroma_made true k c r m (store_of Cr lines) own.cr modes e (rw f cr))
+pub intra_all : (k : Setting) (c r : ℕ) (m : Coded) (lines : Lines) (own : Samples) (modes : IntraModes) (a : Available) (l : Levels) → m.prediction ≡ Intra modes → m.available ≡ a → m.levels ≡ l →
+    IsLumaMade modes.luma a l c (store_of Y lines) own.y → IsChromaMade modes.chroma a l Cb c (store_of Cb lines) own.cb → IsChromaMade modes.chroma a l Cr c (store_of Cr lines) own.cr → AreMadeFrom k c r m lines own
+intra_all k c r m lines own modes a l e f g y cb cr =
+    made_all k c r m lines own (luma_made k c r m (store_of Y lines) own.y modes e (rw (f, g) y)) (chroma_made false k c r m (store_of Cb lines) own.cb modes e (rw (f, g) cb))
+    (chroma_made true k c r m (store_of Cr lines) own.cr modes e (rw (f, g) cr))
 
 pub pcm_all : (k : Setting) (c r : ℕ) (m : Coded) (lines : Lines) (own : Samples) (bytes : PcmSamples) → m.prediction ≡ Pcm bytes → own.y ≡ bytes.y → own.cb ≡ bytes.cb → own.cr ≡ bytes.cr → AreMadeFrom k c r m lines own
 pcm_all k c r m lines own bytes e y cb cr =

@@ -2,7 +2,6 @@ pub mod Sides
 pub mod Unique
 pub mod Local
 pub mod Blocks4
-pub mod Cleared
 pub mod Beside
 pub mod Kept
 pub mod Kernels
@@ -19,5 +18,7 @@ pub mod Within
 pub mod Placed
 pub mod Possible
 pub mod FromLevels
+pub mod ByBlock
+pub mod Rows
 pub mod Weighted
 pub mod Skips

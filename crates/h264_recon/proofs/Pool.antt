@@ -1,5 +1,5 @@
 -- Prediction from the frames of a pool.
-use Rattle.std.proofs.Common.{Bool, true, false, ◌≡◌, ℕ, ◌+◌, ◌*◌, ◌/◌, ◌<◌, ◌≤◌, List, slice_index, get_or, None, ℤ, pos, ◌+ℤ◌, arith, refl, sym, ap, ◌∙◌}
+use Rattle.std.proofs.Common.{Bool, true, false, ◌≡◌, ℕ, ◌+◌, ◌*◌, ◌/◌, ◌<◌, ◌≤◌, List, slice_index, get_or, None, pos, ◌+ℤ◌, arith, refl, sym, ap, ◌∙◌}
 use Rattle.std.proofs.lemmas.Nat.{mul-le}
 use Rattle.h264_plane.specs.Samples.{Samples}
 use Rattle.h264_plane.specs.Frames.{plane_of, frame_at}
@@ -9,7 +9,8 @@ use Rattle.h264_plane.specs.declared.frame.Frame.{Frame}
 use Rattle.h264_plane.specs.Clip.{clip1}
 use Rattle.h264_inter.proofs.Depends.{luma_depends, chroma_depends}
 use Rattle.h264_plane.specs.Places.{side}
-use Rattle.h264_scale.specs.Macroblock.{residual, IsResidual}
+use Rattle.h264_scale.specs.Macroblock.{residual}
+use Rattle.h264_recon.specs.Residuals.{IsAdded}
 use Rattle.h264_recon.specs.Inter.{Setting, predicted_from, predicted_at, motion_at, no_motion}
 use Rattle.h264_recon.specs.Constructed.{predicted_inter, weighted_inter, made_by, made, Coded}
 use Rattle.h264_recon.specs.Weighing.{ArePlacesWeighted}
@@ -75,26 +76,24 @@ inter_is k frames c r motion p x y a b shown i j =
     shown_at p k frames (motion_at motion p x y) (side p * c + x) (side p * r + y) (shown _ (motion_inside p x y i j))
     (inside_some p c k.across a) (inside_some p r k.down b)
 
-pub inter_made : (k : Setting) (frames : List Frame) (c r : ℕ) (m : Coded) (p : Component) (l : Store) (motion : List Motion) (predicted weighted own : List ℕ) (res : List ℤ) → c < k.across → r < k.down →
-    m.prediction ≡ Inter motion → AreShown k frames m.prediction → IsResidual m.levels p res →
+pub inter_made : (k : Setting) (frames : List Frame) (c r : ℕ) (m : Coded) (p : Component) (l : Store) (motion : List Motion) (predicted weighted own : List ℕ) → c < k.across → r < k.down →
+    m.prediction ≡ Inter motion → AreShown k frames m.prediction →
     ((x y : ℕ) → x < side p → y < side p → slice_index predicted (side p * y + x) ≡ from_pool frames motion c r p x y) →
     ((x y : ℕ) → x < side p → y < side p → slice_index weighted (side p * y + x) ≡ weighted_if p (weights_at m.weights p x y) (slice_index predicted (side p * y + x))) →
-    ((x y : ℕ) → x < side p → y < side p → slice_index own (side p * y + x) ≡ clip1 (pos (slice_index weighted (side p * y + x)) +ℤ get_or res (side p * y + x) (pos 0))) → IsMadeFrom k c r m p l own
-inter_made k frames c r m p l motion predicted weighted own res a b e shown is has weighs sum =
+    IsAdded m.levels p weighted own → IsMadeFrom k c r m p l own
+inter_made k frames c r m p l motion predicted weighted own a b e shown has weighs sum =
     let there : AreShown k frames (Inter motion) = rw e at shown in
     record {
-      each = λ x y i j. sum x y i j
-          ∙ ap (λ n. clip1 (pos n +ℤ get_or res (side p * y + x) (pos 0))) (weighs x y i j ∙ ap (weighted_if p (weights_at m.weights p x y)) (has x y i j ∙ inter_is k frames c r motion p x y a b there i j))
-          ∙ ap (λ z. clip1 (pos (weighted_inter k c r motion m.weights p x y) +ℤ z)) (is.each x y i j)
+      each = λ x y i j. sum.each x y i j
+          ∙ ap (λ n. clip1 (pos n +ℤ residual m.levels p x y)) (weighs x y i j ∙ ap (weighted_if p (weights_at m.weights p x y)) (has x y i j ∙ inter_is k frames c r motion p x y a b there i j))
           ∙ sym (made_inter k c r m p (local (side p) l c own) x y motion e);
     }
 
-pub chroma_inter : (t : Bool) (k : Setting) (frames : List Frame) (c r : ℕ) (m : Coded) (l : Store) (motion : List Motion) (predicted weighted own : List ℕ) (res : List ℤ) → c < k.across → r < k.down →
-    m.prediction ≡ Inter motion → AreShown k frames m.prediction → IsResidual m.levels (chroma_plane t) res →
+pub chroma_inter : (t : Bool) (k : Setting) (frames : List Frame) (c r : ℕ) (m : Coded) (l : Store) (motion : List Motion) (predicted weighted own : List ℕ) → c < k.across → r < k.down →
+    m.prediction ≡ Inter motion → AreShown k frames m.prediction →
     ((x y : ℕ) → x < 8 → y < 8 → slice_index predicted (8 * y + x) ≡ from_pool frames motion c r (chroma_plane t) x y) →
-    ArePlacesWeighted 8 (chroma_plane t) (λ n. get_or m.weights n None) predicted weighted →
-    ((n : ℕ) → n < 64 → slice_index own n ≡ clip1 (pos (slice_index weighted n) +ℤ get_or res n (pos 0))) → IsMadeFrom k c r m (chroma_plane t) l own
-chroma_inter true k frames c r m l motion predicted weighted own res a b e shown is has weighs sum =
-    inter_made k frames c r m Cr l motion predicted weighted own res a b e shown is has weighs.each (λ x y i j. sum (8 * y + x) (omega arith))
-chroma_inter false k frames c r m l motion predicted weighted own res a b e shown is has weighs sum =
-    inter_made k frames c r m Cb l motion predicted weighted own res a b e shown is has weighs.each (λ x y i j. sum (8 * y + x) (omega arith))
+    ArePlacesWeighted 8 (chroma_plane t) (λ n. get_or m.weights n None) predicted weighted → IsAdded m.levels (chroma_plane t) weighted own → IsMadeFrom k c r m (chroma_plane t) l own
+chroma_inter true k frames c r m l motion predicted weighted own a b e shown has weighs sum =
+    inter_made k frames c r m Cr l motion predicted weighted own a b e shown has weighs.each sum
+chroma_inter false k frames c r m l motion predicted weighted own a b e shown has weighs sum =
+    inter_made k frames c r m Cb l motion predicted weighted own a b e shown has weighs.each sum

@@ -1,5 +1,5 @@
 -- Intra_4x4 blocks of a macroblock, constructed one after another. A working form.
-use Rattle.std.specs.Prelude.{◌≡◌, ◌≢◌, ◌⊎◌, ℕ, ◌+◌, ◌*◌, ◌<◌, List, slice_index, get_or, ℤ, pos, ◌+ℤ◌}
+use Rattle.std.specs.Prelude.{◌≡◌, ◌≢◌, ◌⊎◌, ℕ, ◌+◌, ◌*◌, ◌<◌, List, slice_index, ℤ, pos, ◌+ℤ◌}
 use Rattle.h264_intra.specs.Luma4.{predicted4}
 use Rattle.h264_intra.specs.declared.luma4.Intra4x4PredMode.{Intra4x4PredMode}
 use Rattle.h264_plane.specs.Clip.{clip1}
@@ -14,13 +14,13 @@ use Rattle.h264_recon.specs.declared.store.Store.{Store}
 abbrev pub place4 : ℕ → ℕ → ℕ → ℕ → ℕ
 place4 x y i j = 16 * (4 * y + j) + (4 * x + i)
 
--- the sample of a block that is constructed from the samples s round the macroblock
-abbrev pub sample4 : List Intra4x4PredMode → Available → List ℤ → (ℕ → ℕ → ℕ) → ℕ → ℕ → ℕ → ℕ → ℕ
+-- the sample of a block that is constructed from the samples s round the macroblock; its residual is given by row and column
+abbrev pub sample4 : List Intra4x4PredMode → Available → (ℕ → ℕ → ℕ → ℕ → ℤ) → (ℕ → ℕ → ℕ) → ℕ → ℕ → ℕ → ℕ → ℕ
 sample4 modes a residual s x y i j =
-    clip1 (pos (predicted4 (mode_at modes x y) (sides4_of a x y) (block_window s x y) i j) +ℤ get_or residual (place4 x y i j) (pos 0))
+    clip1 (pos (predicted4 (mode_at modes x y) (sides4_of a x y) (block_window s x y) i j) +ℤ residual x y j i)
 
 -- the blocks before number b are constructed
-pub record AreMade4 (b : ℕ) (modes : List Intra4x4PredMode) (a : Available) (residual : List ℤ) (l : Store) (c : ℕ) (own : List ℕ) : Type 0 where
+pub record AreMade4 (b : ℕ) (modes : List Intra4x4PredMode) (a : Available) (residual : ℕ → ℕ → ℕ → ℕ → ℤ) (l : Store) (c : ℕ) (own : List ℕ) : Type 0 where
   pub each : (x y i j : ℕ) → x < 4 → y < 4 → i < 4 → j < 4 → index_of x y < b →
       slice_index own (place4 x y i j) ≡ sample4 modes a residual (local 16 l c own) x y i j
 

@@ -13,6 +13,7 @@ pub mod Table
 pub mod Levels
 pub mod Given
 pub mod Placed
+pub mod ReadLevels
 pub mod Residuals
 pub mod Weighing
 pub mod Skips

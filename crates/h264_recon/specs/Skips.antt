@@ -1,9 +1,8 @@
 -- What constructs a skipped macroblock. A working form.
-use Rattle.std.specs.Prelude.{ℕ, List, replicate, Option, Some, None}
+use Rattle.std.specs.Prelude.{ℕ, List, replicate, Option, Some}
 use Rattle.h264_base.specs.declared.weight.Weights.{Weights}
 use Rattle.h264_near.specs.declared.skipped.Skipped.{Skipped}
 use Rattle.h264_scale.specs.declared.levels.Levels.{Levels}
-use Rattle.h264_scale.specs.declared.levels.Residuals.{Residuals}
 use Rattle.h264_recon.specs.Constructed.{Coded}
 use Rattle.h264_recon.specs.Given.{no_sides}
 use Rattle.h264_recon.specs.Predicted.{Prediction, Inter, placed_motion}
@@ -17,6 +16,3 @@ prediction_by s places = Inter (replicate 16 (placed_motion places (Some s.motio
 abbrev pub skipped : Skipped → List ℕ → List (Option Weights) → Levels → Coded
 skipped s places weights l =
     record { available = no_sides; prediction = prediction_by s places; levels = l; weights = replicate 16 (index_weights weights (Some s.motion)) }
-
-abbrev pub no_residuals : Residuals
-no_residuals = record { y = None; cb = None; cr = None }

@@ -8,6 +8,7 @@ ghost use Rattle.h264_vectors.specs.declared.slice.SliceContext.{SliceContext as
 ghost use Rattle.h264_vectors.specs.Agrees.{AreAlike};
 ghost use Rattle.h264_mbsyntax.specs.Holds.{HoldsMacroblock};
 ghost use Rattle.h264_mbsyntax.specs.Possible.{IsPossible};
+ghost use Rattle.h264_recon.specs.ReadLevels.{is_of_samples, is_pcm};
 ghost use Rattle.h264_recon.specs.Constructed.{coded as coded_as, IsWithin};
 ghost use Rattle.h264_recon.specs.Levels.{levels_of};
 ghost use Rattle.h264_recon.specs.Given.{available as available_of, no_sides as no_sides_of, used_by, modes4_of, prediction_of, given as given_of};
@@ -184,6 +185,7 @@ fn motions<'a>(derived: &'a [Option<Derived>; 16], whole: bool, places: &'a [u8;
 /// How a macroblock is predicted.
 fn prediction<'a>(read: &'a Read, places: &'a [u8; 16]) -> Prediction<'a>
     ensures points { PointsInto places.now (prediction_in result) }
+    ensures kind { is_of_samples (prediction_in result) ≡ is_pcm read.now.kind }
     ensures here { (slice : Context) (place : ℕ → ℕ) (width : ℕ) (picture : List CodedMacroblock) (coded : CodedMacroblock) → HoldsMacroblock read.now coded →
         IsPossible width slice picture coded.prediction → length slice.references ≡ 16 → ArePlaced slice places.now place →
         prediction_in result ≡ prediction_of place coded.prediction }
@@ -270,6 +272,7 @@ pub fn given<'a>(
     requires small { position.column < 1024 }
     ensures within { IsWithin result.available (width_of near.now) position.column position.row }
     ensures points { PointsInto references.now.places.now (prediction_in result.prediction) }
+    ensures kind { is_of_samples (prediction_in result.prediction) ≡ is_pcm read.now.kind }
     ensures given { (width : ℕ) (picture : List CodedMacroblock) (place : ℕ → ℕ) (coded : CodedMacroblock) → Keeps width picture near.now →
         length picture ≡ position.row * width + position.column → position.column < width → HoldsMacroblock read.now coded → coded.slice ≡ slice.now.number →
         IsPossible width slice.now picture coded.prediction → ArePlaced slice.now references.now.places.now place →

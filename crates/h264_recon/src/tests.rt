@@ -1,9 +1,10 @@
 ghost use Rattle.std.specs.Prelude.{◌≡◌, ◌<◌, ◌≤◌, vec_len, length};
 
+use crate::added::add_residual;
 use crate::input::placed;
 use crate::{
     Available, IntraLuma, IntraModes, Lines, Macroblock, Motion, Motions, Position, Prediction,
-    SliceReferences, SliceWeights, Weighting, available, construct, given, residuals,
+    ReadLevels, Samples, SliceReferences, SliceWeights, Weighting, available, construct, given,
 };
 use h264_base::{SliceType, Weight, Weights};
 use h264_inter::MotionVector;
@@ -11,7 +12,6 @@ use h264_intra::{Intra4x4PredMode, Intra16x16PredMode, IntraChromaPredMode};
 use h264_mbsyntax::{Kind, Macroblock as Read};
 use h264_near::{Contexts, Motion as Derived, Near, Vector};
 use h264_plane::{Frame, Plane, Pool};
-use h264_scale::Residuals;
 use h264_vectors::SliceContext;
 use std::alloc::AllocError;
 use std::process::Abort;
@@ -29,15 +29,6 @@ const NO_SIDE: Available = Available {
     above_right: false,
     corner: false,
 };
-
-/// No residual.
-fn zero() -> Residuals {
-    Residuals {
-        y: None,
-        cb: None,
-        cr: None,
-    }
-}
 
 /// Samples of I_PCM: luma counts from 0 to 255, Cb is 100, and Cr counts by 2.
 fn counting() -> [u8; 384] {
@@ -93,14 +84,10 @@ fn put_samples(
         prediction: Prediction::Pcm(samples),
         weighting: unweighted(&weights),
     };
-    construct(
-        &mut canvas.lines,
-        &mut canvas.frame,
-        &m,
-        &zero(),
-        pool,
-        position,
-    );
+    let none = Read::none();
+    let levels = ReadLevels::new(&none, 0);
+    let (lines, frame) = (&mut canvas.lines, &mut canvas.frame);
+    assert!(rt; construct(lines, frame, &m, &levels, pool, position).is_ok());
 }
 
 /// An intra macroblock: the sides that its prediction may use, and its modes.
@@ -110,13 +97,13 @@ struct Intra {
     modes: IntraModes,
 }
 
-/// Constructs an intra macroblock, with a residual of luma.
+/// Constructs an intra macroblock, with the levels of one that was read.
 fn put_intra(
     rt: &impl Abort,
     canvas: &mut Canvas,
     pool: &Pool,
     intra: Intra,
-    y: [i16; 256],
+    read: &Read,
     position: Position,
 ) {
     assert_room(rt, canvas, position.column, position.row);
@@ -126,18 +113,10 @@ fn put_intra(
         prediction: Prediction::Intra(intra.modes),
         weighting: unweighted(&weights),
     };
-    let residuals = Residuals {
-        y: Some(y),
-        ..zero()
-    };
-    construct(
-        &mut canvas.lines,
-        &mut canvas.frame,
-        &m,
-        &residuals,
-        pool,
-        position,
-    );
+    assert!(rt; read.qp <= 51);
+    let levels = ReadLevels::new(read, 0);
+    let (lines, frame) = (&mut canvas.lines, &mut canvas.frame);
+    assert!(rt; construct(lines, frame, &m, &levels, pool, position).is_ok());
 }
 
 /// Constructs an inter macroblock from the picture at place 1 of the pool.
@@ -164,14 +143,10 @@ fn put_inter(
         prediction: Prediction::Inter(Motions::Whole(motion)),
         weighting,
     };
-    construct(
-        &mut canvas.lines,
-        &mut canvas.frame,
-        &m,
-        &zero(),
-        pool,
-        position,
-    );
+    let none = Read::none();
+    let levels = ReadLevels::new(&none, 0);
+    let (lines, frame) = (&mut canvas.lines, &mut canvas.frame);
+    assert!(rt; construct(lines, frame, &m, &levels, pool, position).is_ok());
 }
 
 /// Writes one sample.
@@ -257,7 +232,7 @@ fn beside_raw(rt: &impl Abort, canvas: &mut Canvas, pool: &Pool) {
         canvas,
         pool,
         Intra { available, modes },
-        [0; 256],
+        &Read::none(),
         Position { column: 1, row: 0 },
     );
     assert_eq!(rt; get(rt, &canvas.frame.y, 7, 9), 151);
@@ -274,7 +249,8 @@ fn expect_four(rt: &impl Abort, canvas: &Canvas, x: usize, y: usize, samples: [u
 }
 
 /// Before macroblock 2 the frame is spoilt where the filter would write, so that only the lines have the samples above: 240 to 255, then 255 from
-/// macroblock 1. Its block 5 looks to the upper right, into macroblock 1.
+/// macroblock 1. Its block 5 looks to the upper right, into macroblock 1. The DC of its block 2 makes 4 of each sample, and the block below is predicted from
+/// these.
 fn below_raw(rt: &impl Abort, canvas: &mut Canvas, pool: &Pool) {
     for x in 0..32 {
         set(rt, &mut canvas.frame.y, x, 15, 1);
@@ -290,19 +266,22 @@ fn below_raw(rt: &impl Abort, canvas: &mut Canvas, pool: &Pool) {
         above_right: true,
         ..NO_SIDE
     };
-    let mut residual = [0; 256];
-    residual[16 * 5 + 2] = 7;
+    let mut read = Read::none();
+    read.kind = Kind::Intra4x4;
+    read.qp = 28;
+    read.contexts.totals[2] = 1;
+    read.residual.luma[2][0] = 1;
     put_intra(
         rt,
         canvas,
         pool,
         Intra { available, modes },
-        residual,
+        &read,
         Position { column: 0, row: 1 },
     );
     expect_four(rt, canvas, 0, 16, [240, 241, 242, 243]);
-    expect_four(rt, canvas, 0, 21, [240, 241, 249, 243]);
-    expect_four(rt, canvas, 0, 22, [240, 241, 242, 243]);
+    expect_four(rt, canvas, 0, 20, [244, 245, 246, 247]);
+    expect_four(rt, canvas, 0, 24, [244, 245, 246, 247]);
     expect_four(rt, canvas, 12, 16, [253, 254, 255, 255]);
     assert_eq!(rt; get(rt, &canvas.frame.cr, 3, 15), 118);
 }
@@ -492,13 +471,17 @@ fn residuals_as_read(rt: &impl Abort) {
     read.residual.luma[0][0] = 9;
     read.residual.chroma_dc_totals[0] = 1;
     read.residual.chroma_dc[0][2] = -4;
-    let mut of = zero();
-    assert!(rt; residuals(&read, 2, &mut of).is_ok());
-    assert!(rt; of.y.is_none() && of.cr.is_none());
-    match of.cb {
-        Some(cb) => assert_eq!(rt; (cb[0], cb[31], cb[32], cb[63]), (-11, -11, 11, 11)),
-        None => assert!(rt; false),
-    }
+    let mut own = Samples {
+        y: [100; 256],
+        cb: [100; 64],
+        cr: [100; 64],
+    };
+    assert!(rt; add_residual(&ReadLevels::new(&read, 2), &mut own).is_ok());
+    assert_eq!(rt; (own.y, own.cr), ([100; 256], [100; 64]));
+    assert_eq!(rt;
+        (own.cb[0], own.cb[31], own.cb[32], own.cb[63]),
+        (89, 89, 111, 111)
+    );
 }
 
 /// Whether these are the modes of the intra macroblock.

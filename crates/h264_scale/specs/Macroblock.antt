@@ -1,9 +1,9 @@
 -- To be read beside the standard. The residual of a macroblock (8.5.1, 8.5.2, 8.5.4), and whether all values of its transform are in range. Blocks are
 -- named by their column x and row y of blocks.
-use Rattle.std.specs.Prelude.{◌≡◌, ◌≢◌, ◌⊎◌, ◌≤◌, ℕ, zero, suc, ◌+◌, ◌*◌, ◌/◌, ◌%◌, ◌<◌, Bool, true, ◌&&◌, List, [], unwrap_or, get_or, ℤ, pos}
+use Rattle.std.specs.Prelude.{ℕ, zero, suc, ◌+◌, ◌*◌, ◌/◌, ◌%◌, Bool, true, ◌&&◌, [], get_or, ℤ}
 use Rattle.h264_plane.specs.declared.frame.Component.{Component}
 use Rattle.h264_plane.specs.declared.frame.Component.TheVariants.{Y, Cb, Cr}
-use Rattle.h264_plane.specs.Places.{side, index_of, column_of, row_of}
+use Rattle.h264_plane.specs.Places.{index_of, column_of, row_of}
 use Rattle.h264_scale.specs.Residual.{d_of, d_with_dc, residual_at, residual_fits}
 use Rattle.h264_scale.specs.Dc.{dc16_at, dc16_fits, dc2_at, dc2_fits}
 use Rattle.h264_scale.specs.declared.levels.LumaLevels.{LumaLevels}
@@ -11,7 +11,6 @@ use Rattle.h264_scale.specs.declared.levels.LumaLevels.TheVariants as luma
 use Rattle.h264_scale.specs.declared.levels.ChromaLevels.{ChromaLevels}
 use Rattle.h264_scale.specs.declared.levels.ChromaLevels.TheVariants as chroma
 use Rattle.h264_scale.specs.declared.levels.Levels.{Levels}
-use Rattle.h264_scale.specs.declared.levels.Residuals.{Residuals}
 
 -- ---- the residual
 
@@ -34,16 +33,6 @@ block_d l Cr = chroma_d l.qp_cr l.cr
 -- the residual at column x and row y of a plane of the macroblock
 unfoldable pub residual : Levels → Component → ℕ → ℕ → ℤ
 residual l p x y = residual_at (block_d l p (x / 4) (y / 4)) (y % 4) (x % 4)
-
--- a list has the residual of a plane, row by row
-pub record IsResidual (l : Levels) (p : Component) (list : List ℤ) : Type 0 where
-  pub each : (x y : ℕ) → x < side p → y < side p → get_or list (side p * y + x) (pos 0) ≡ residual l p x y
-
--- the residuals of all planes; none stands for numbers that are all 0
-pub record AreResiduals (l : Levels) (d : Residuals) : Type 0 where
-  pub y : IsResidual l Y (unwrap_or d.y [])
-  pub cb : IsResidual l Cb (unwrap_or d.cb [])
-  pub cr : IsResidual l Cr (unwrap_or d.cr [])
 
 -- ---- the range of the transform
 
@@ -78,22 +67,3 @@ chroma_fits qp levels = chroma_dc_fits qp levels && chroma_blocks_fit qp levels
 -- whether each value of the transform of a macroblock is in range (8.5.10, 8.5.11, 8.5.12)
 unfoldable pub levels_fit : Levels → Bool
 levels_fit l = luma_fits l.qp l.luma && chroma_fits l.qp_cb l.cb && chroma_fits l.qp_cr l.cr
-
--- ---- residuals of blocks, put into a macroblock of n columns and rows
-
-abbrev pub place : ℕ → ℕ → ℕ → ℕ → ℕ → ℕ
-place n x y i j = n * (4 * y + j) + (4 * x + i)
-
--- the residual of a block is written, and each other number is kept
-pub record IsPut (n : ℕ) (old new : List ℤ) (x y : ℕ) (block : List ℤ) : Type 0 where
-  pub here : (i j : ℕ) → i < 4 → j < 4 → get_or new (place n x y i j) (pos 0) ≡ get_or block (4 * j + i) (pos 0)
-  pub kept : (u v i j : ℕ) → 4 * u + 4 ≤ n → 4 * v + 4 ≤ n → i < 4 → j < 4 → (u ≢ x) ⊎ (v ≢ y) →
-      get_or new (place n u v i j) (pos 0) ≡ get_or old (place n u v i j) (pos 0)
-
--- the number of a chroma block
-abbrev pub raster : ℕ → ℕ → ℕ
-raster x y = 2 * y + x
-
--- the blocks before number b have the residuals f, by row and column
-pub record AreScaled (n b : ℕ) (number : ℕ → ℕ → ℕ) (f : ℕ → ℕ → ℕ → ℕ → ℤ) (own : List ℤ) : Type 0 where
-  pub each : (x y i j : ℕ) → 4 * x + 4 ≤ n → 4 * y + 4 ≤ n → i < 4 → j < 4 → number x y < b → get_or own (place n x y i j) (pos 0) ≡ f x y j i

@@ -41,11 +41,3 @@ pub struct Levels {
     pub qp_cb: u8,
     pub qp_cr: u8,
 }
-
-/// The residual of each plane of a macroblock, row by row; none where each number of it is 0.
-#[derive(Clone, Copy)]
-pub struct Residuals {
-    pub y: Option<[i16; 256]>,
-    pub cb: Option<[i16; 64]>,
-    pub cr: Option<[i16; 64]>,
-}

@@ -11,13 +11,11 @@ mod fours;
 mod lanes;
 pub mod laws;
 mod levels;
-mod macroblock;
 mod residual;
 mod transform;
 
 pub use dc::{dc2, dc16};
-pub use levels::{ChromaLevels, ChromaWithDc, Levels, LumaLevels, LumaWithDc, Residuals};
-pub use macroblock::{put8, put16};
+pub use levels::{ChromaLevels, ChromaWithDc, Levels, LumaLevels, LumaWithDc};
 pub use residual::{residual4, residual4_of_dc, residual4_with_dc};
 pub use transform::TransformRange;
 

@@ -1,4 +1,4 @@
-use crate::{TransformRange, dc2, dc16, put8, put16, residual4, residual4_with_dc};
+use crate::{TransformRange, dc2, dc16, residual4, residual4_with_dc};
 use std::process::Abort;
 
 #[test]
@@ -9,33 +9,6 @@ fn blocks(rt: HostRuntime) {
     luma_dcs(&rt);
     chroma_dcs(&rt);
     extreme_levels(&rt);
-}
-
-#[test]
-fn macroblocks(rt: HostRuntime) {
-    a_block_of_luma(&rt);
-    blocks_of_chroma(&rt);
-}
-
-fn a_block_of_luma(rt: &impl Abort) {
-    let mut luma = [0; 256];
-    let block = [1, 2, 3, 4, 5, 6, 7, 8, 9, 10, 11, 12, 13, 14, 15, 16];
-    put16(&mut luma, 3, 2, &block);
-    assert_eq!(rt; (luma[16 * 8 + 11], luma[16 * 8 + 12]), (0, 1));
-    assert_eq!(rt; (luma[16 * 9 + 12], luma[16 * 11 + 15]), (5, 16));
-    assert_eq!(rt; luma[16 * 12 + 12], 0);
-}
-
-// (160 + 32) >> 6 is 3.
-fn blocks_of_chroma(rt: &impl Abort) {
-    let mut chroma = [0; 64];
-    for b in 0..4usize {
-        match residual4_with_dc(160, &[0; 15], 30) {
-            Ok(block) => put8(&mut chroma, b % 2, b / 2 % 2, &block),
-            Err(TransformRange) => assert!(rt; false),
-        }
-    }
-    assert_eq!(rt; chroma, [3; 64]);
 }
 
 /// What a block of 16 gives.

@@ -1,6 +1,7 @@
 use Rattle.h264_plane.specs.declared.frame.Component.TheVariants.{Y, Cb, Cr}
 use Rattle.h264_recon.specs.Constructed.{coded}
 use Rattle.h264_recon.specs.Lines.{samples_of}
+use Rattle.h264_recon.specs.ReadLevels.{levels_in}
 use Rattle.h264_recon.proofs.Step.{shows, stored_next, saved_from, joined_made, room_all}
 use Rattle.h264_recon.proofs.in_place.construct.Goals as goal
 
@@ -8,9 +9,9 @@ pub returns-clause-step : goal.returns-clause-step
 returns-clause-step c =
     let a = c.args in
     let lines = c.make.new.lines in
-    λ k l u inside below ok shown is mu held.
-    let m = coded a.m.now l in
-    let made = c.make.ensures.made k l inside below ok.possible shown is in (
+    λ k u inside below ok shown mu held.
+    let m = coded a.m.now (levels_in a.levels.now) in
+    let made = c.in_ok-make.ensures.made k inside below ok.possible shown in (
       stored_next k a.position.column a.position.row m u a.lines.now lines c.save.new.lines inside ok.within ok.possible mu held made c.make.ensures.above c.save.ensures,
       shows k a.position.column a.position.row m u a.lines.now (samples_of lines.last) a.frame.now c.place.new.frame inside ok.within ok.possible mu held made c.place.ensures,
     )
@@ -18,8 +19,8 @@ returns-clause-step c =
 pub returns-clause-some : goal.returns-clause-some
 returns-clause-some c =
     let a = c.args in
-    λ k l u inside below ok shown is held.
-    joined_made k a.position.column a.position.row (coded a.m.now l) u a.lines.now (samples_of c.make.new.lines.last) a.frame.now c.place.new.frame inside ok.within ok.possible held (c.make.ensures.made k l inside below ok.possible shown is)
+    λ k u inside below ok shown held.
+    joined_made k a.position.column a.position.row (coded a.m.now (levels_in a.levels.now)) u a.lines.now (samples_of c.make.new.lines.last) a.frame.now c.place.new.frame inside ok.within ok.possible held (c.in_ok-make.ensures.made k inside below ok.possible shown)
     (room_all a.position.column a.position.row a.frame.now c.requires.y c.requires.cb c.requires.cr) c.place.ensures
 
 pub returns-clause-size : goal.returns-clause-size

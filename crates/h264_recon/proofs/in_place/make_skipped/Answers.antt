@@ -1,4 +1,4 @@
-use Rattle.std.proofs.Common.{◌≡◌, ◌+◌, ◌*◌, true, false, arith, [], replicate, sym, ap, subst}
+use Rattle.std.proofs.Common.{◌≡◌, true, false, replicate, sym, ap, subst}
 use Rattle.h264_plane.specs.declared.frame.Component.TheVariants.{Y, Cb, Cr}
 use Rattle.h264_recon.specs.Lines.{store_of}
 use Rattle.h264_recon.specs.Placed.{weights_by}
@@ -6,6 +6,7 @@ use Rattle.h264_recon.specs.Pool.{HaveRoom}
 use Rattle.h264_recon.specs.Predicted.{Inter}
 use Rattle.h264_recon.specs.Skips.{skipped}
 use Rattle.h264_recon.specs.declared.store.Samples.{Samples}
+use Rattle.h264_recon.proofs.ByBlock.{luma_stays, cb_stays, cr_stays}
 use Rattle.h264_recon.proofs.Kernels.{made_all}
 use Rattle.h264_recon.proofs.Pool.{inter_made, chroma_inter}
 use Rattle.h264_recon.proofs.in_place.make_skipped.Goals as goal
@@ -14,7 +15,7 @@ pub predict_whole-requires-clause-room : goal.predict_whole-requires-clause-room
 predict_whole-requires-clause-room c = let a = c.args in subst (λ z. HaveRoom a.pool.now a.position.column a.position.row (replicate 16 z)) (sym c.motion-whole.ensures) c.requires.usable
 
 pub returns-clause-made : goal.returns-clause-made
-returns-clause-made c k l inside below shown is =
+returns-clause-made c k l inside below shown none =
     let a = c.args in
     let frames = a.pool.now in
     let lines = a.lines.now in
@@ -25,9 +26,9 @@ returns-clause-made c k l inside below shown is =
     let predicted : Samples = c.predict_whole.new.own in
     let weighed = c.weigh_skipped.ensures in
     made_all k a.position.column a.position.row m lines _
-    (inter_made k frames a.position.column a.position.row m Y (store_of Y lines) motion predicted.y own.y c.add_nothing.new.samples [] inside below e shown is.y
-    c.predict_whole.ensures.y.each (weighed Y).each (λ x y i j. c.add_nothing.ensures (16 * y + x) (omega arith)))
-    (chroma_inter false k frames a.position.column a.position.row m (store_of Cb lines) motion predicted.cb own.cb c.add_nothing-2.new.samples [] inside below e shown is.cb
-    c.predict_whole.ensures.cb.each (weighed Cb) c.add_nothing-2.ensures)
-    (chroma_inter true k frames a.position.column a.position.row m (store_of Cr lines) motion predicted.cr own.cr c.add_nothing-3.new.samples [] inside below e shown is.cr
-    c.predict_whole.ensures.cr.each (weighed Cr) c.add_nothing-3.ensures)
+    (inter_made k frames a.position.column a.position.row m Y (store_of Y lines) motion predicted.y own.y c.add_nothing.new.samples inside below e shown
+    c.predict_whole.ensures.y.each (weighed Y).each (luma_stays l _ _ (record { clipped = c.add_nothing.ensures.clipped; same = c.add_nothing.ensures.same }) (λ x y i j. none Y x y)))
+    (chroma_inter false k frames a.position.column a.position.row m (store_of Cb lines) motion predicted.cb own.cb c.add_nothing-2.new.samples inside below e shown
+    c.predict_whole.ensures.cb.each (weighed Cb) (cb_stays l _ _ (record { clipped = c.add_nothing-2.ensures.clipped; same = c.add_nothing-2.ensures.same }) (none Cb)))
+    (chroma_inter true k frames a.position.column a.position.row m (store_of Cr lines) motion predicted.cr own.cr c.add_nothing-3.new.samples inside below e shown
+    c.predict_whole.ensures.cr.each (weighed Cr) (cr_stays l _ _ (record { clipped = c.add_nothing-3.ensures.clipped; same = c.add_nothing-3.ensures.same }) (none Cr)))

@@ -1,16 +1,46 @@
-use Rattle.std.proofs.Common.{◌≡◌, ◌∙◌, sym, ap, arith, List, ℤ, get_or, replicate, pos, [], to_z, of_z, w16}
-use Rattle.std.proofs.lemmas.Int.{ints}
-use Rattle.std.proofs.lemmas.List.{get_or_default}
-use Rattle.h264_mbsyntax.specs.Stored.{shown}
-use Rattle.h264_recon.specs.Table.{table}
-use Rattle.h264_recon.proofs.Tables.{table-at}
+use Rattle.std.proofs.Common.{◌↔◌, ◌+◌, ◌*◌, ℕ, ℤ, [], IsOk, IfOk, IsTrue, unwrap_or, get_or, pos, rules, FitsSigned, w16, subst}
+use Rattle.h264_plane.specs.Places.{column_of, row_of}
+use Rattle.h264_scale.specs.Residual.{residual_fits, residual_at, HasEntries}
+use Rattle.h264_scale.proofs.Whole.{always, none_fit}
+use Rattle.h264_recon.proofs.ByBlock.{none_coded}
+use Rattle.h264_recon.proofs.FromLevels.{plain_at, with_dc_at}
+use Rattle.h264_recon.proofs.Kept.{kept16}
 use Rattle.h264_recon.proofs.scaled.luma_block.Goals as goal
 
-pub returns : goal.returns
-returns c =
+pub returns-in-NotCoded-clause-range : goal.returns-in-NotCoded-clause-range
+returns-in-NotCoded-clause-range c = rw c.in-NotCoded.is (always _ (none_fit c.args.qp))
+
+pub returns-in-NotCoded-clause-residual : goal.returns-in-NotCoded-clause-residual
+returns-in-NotCoded-clause-residual c = rw c.in-NotCoded.is (none_coded c.args.qp)
+
+pub returns-in-Plain-clause-range : goal.returns-in-Plain-clause-range
+returns-in-Plain-clause-range c =
     let a = c.args in
-    let kept : to_z w16 (of_z w16 a.dc) ≡ a.dc = omega (arith, ints) in
-    let same : shown 15 (get_or a.totals.now a.b 0) (get_or a.stands.now a.b []) ≡ get_or (table 16 (λ k. shown 15 (get_or a.totals.now k 0) (get_or a.stands.now k (replicate 15 (pos 0))))) a.b [] =
-    ap (λ (l : List ℤ). shown 15 (get_or a.totals.now a.b 0) l) (get_or_default a.stands.now a.b [] (replicate 15 (pos 0)) (omega (arith, c.told-stands, c.requires.block)))
-    ∙ sym (table-at 16 (λ k. shown 15 (get_or a.totals.now k 0) (get_or a.stands.now k (replicate 15 (pos 0)))) a.b [] c.requires.block) in
-    rw (← same) (rw kept at c.with_levels.ensures)
+    let p = c.in-Plain.plain in
+    let is = plain_at a.qp a.b p _ c.requires.block c.levels_at.ensures in
+    rw c.in-Plain.is (subst (λ (d : ℕ → ℕ → ℤ). IsOk c.plain_block.result ↔ IsTrue (residual_fits d)) is c.plain_block.ensures.range)
+
+pub returns-in-Plain-clause-residual : goal.returns-in-Plain-clause-residual
+returns-in-Plain-clause-residual c =
+    let a = c.args in
+    let p = c.in-Plain.plain in
+    let is = plain_at a.qp a.b p _ c.requires.block c.levels_at.ensures in
+    rw c.in-Plain.is (subst (λ (d : ℕ → ℕ → ℤ). IfOk c.plain_block.result (λ r. HasEntries (unwrap_or r []) (residual_at d))) is c.plain_block.ensures.residual)
+
+pub returns-in-WithDc-clause-range : goal.returns-in-WithDc-clause-range
+returns-in-WithDc-clause-range c =
+    let a = c.args in
+    let p = c.in-WithDc.with in
+    let x = get_or p.dc (4 * row_of a.b + column_of a.b) (pos 0) in
+    let fits : FitsSigned w16 x = search rules in
+    let is = with_dc_at a.qp a.b p _ _ c.requires.block (kept16 x fits) c.levels_at-in-WithDc.ensures in
+    rw c.in-WithDc.is (subst (λ (d : ℕ → ℕ → ℤ). IsOk c.block_with_dc.result ↔ IsTrue (residual_fits d)) is c.block_with_dc.ensures.range)
+
+pub returns-in-WithDc-clause-residual : goal.returns-in-WithDc-clause-residual
+returns-in-WithDc-clause-residual c =
+    let a = c.args in
+    let p = c.in-WithDc.with in
+    let x = get_or p.dc (4 * row_of a.b + column_of a.b) (pos 0) in
+    let fits : FitsSigned w16 x = search rules in
+    let is = with_dc_at a.qp a.b p _ _ c.requires.block (kept16 x fits) c.levels_at-in-WithDc.ensures in
+    rw c.in-WithDc.is (subst (λ (d : ℕ → ℕ → ℤ). IfOk c.block_with_dc.result (λ r. HasEntries (unwrap_or r []) (residual_at d))) is c.block_with_dc.ensures.residual)
