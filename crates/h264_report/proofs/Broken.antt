@@ -72,7 +72,7 @@ module _ (found : List (Option Places)) (rule r : StrictRule) (bit : ℕ) (withi
     go (inr e) = get_or-set_other found (place_of rule) (place_of r) noted None (λ q. e.1 (sym q)) ∙ elsewhere e.0
 
 -- the places of no calls
-pub none-found : (r : StrictRule) → get_or (None ∷ None ∷ None ∷ None ∷ None ∷ None ∷ None ∷ None ∷ None ∷ None ∷ None ∷ None ∷ None ∷ None ∷ None ∷ None ∷ None ∷ None ∷ None ∷ None ∷ None ∷ None ∷ None ∷ None ∷ None ∷ None ∷ None ∷ None ∷ None ∷ None ∷ None ∷ None ∷ None ∷ None ∷ None ∷ None ∷ None ∷ None ∷ []) (place_of r) None ≡ with_places None (places r start [])
+pub none-found : (r : StrictRule) → get_or (None ∷ None ∷ None ∷ None ∷ None ∷ None ∷ None ∷ None ∷ None ∷ None ∷ None ∷ None ∷ None ∷ None ∷ None ∷ None ∷ None ∷ None ∷ None ∷ None ∷ None ∷ None ∷ None ∷ None ∷ None ∷ None ∷ None ∷ None ∷ None ∷ None ∷ None ∷ None ∷ None ∷ None ∷ None ∷ None ∷ None ∷ None ∷ None ∷ None ∷ None ∷ None ∷ None ∷ []) (place_of r) None ≡ with_places None (places r start [])
 unfolding with_places places place_of
 none-found rules.ReservedBits = refl
 none-found rules.AspectRatio = refl
@@ -112,6 +112,11 @@ none-found rules.FillerBytes = refl
 none-found rules.ZeroByte = refl
 none-found rules.DelimiterType = refl
 none-found rules.SeiContent = refl
+none-found rules.BufferUnderflow = refl
+none-found rules.InitialDelay = refl
+none-found rules.BufferOverflow = refl
+none-found rules.MinCompression = refl
+none-found rules.RemovalRate = refl
 
 pub none-stands : start ≡ standing_after start []
 unfolding standing_after

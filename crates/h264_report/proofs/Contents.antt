@@ -5,13 +5,14 @@ use Rattle.h264_base.specs.Body.{Body, place}
 use Rattle.h264_rbsp.specs.Rbsp.{body_of, rbsp_bytes}
 use Rattle.h264_report.specs.SeiMessages.{is_sei}
 use Rattle.h264_report.specs.SeiPayload.{message_at}
+use Rattle.h264_report.specs.SeiTimes.{no_times}
 use Rattle.h264_report.specs.SeiTiming.{known_after}
 use Rattle.h264_report.specs.declared.sei.payload.Message.{Message}
 use Rattle.h264_report.specs.declared.sei.timing.KnownSet.{KnownSet}
 use Rattle.h264_units.specs.Stream.{NalUnit}
 use Rattle.h264_report.specs.Strict.{bits_for, with_places}
 use Rattle.h264_report.specs.StrictBytes.{is_delimiter, is_filler, is_judged, kind_of, broken_unit}
-use Rattle.h264_report.specs.StrictContent.{bits_from, message_bits, content_bits, bits_by_bytes, set_after}
+use Rattle.h264_report.specs.StrictContent.{bits_from, message_bits, content_bits, bits_by_bytes, set_after, times_told}
 use Rattle.h264_report.specs.StrictRules.{broken_if, listed}
 use Rattle.h264_report.specs.declared.strict.Places.{Places}
 use Rattle.h264_report.specs.declared.strict_rule.StrictRule.{StrictRule}
@@ -81,6 +82,13 @@ unjudged-set known unit kind is off =
     let here = subst (λ k. is_judged k ≡ false) is off in
     let k = kind_of unit in
     sym (cond-false (k == 7) (known_after known (body_of unit)) known (second-not (k == 6) (k == 7) ((k == 9) || (k == 12)) here))
+
+pub unjudged-times : (known : KnownSet) (unit : NalUnit) (kind : ℕ) → kind ≡ kind_of unit → is_judged kind ≡ false → no_times ≡ times_told known unit
+unjudged-times known unit kind is off =
+    let here = subst (λ k. is_judged k ≡ false) is off in
+    let k = kind_of unit in
+    let bytes = (body_of unit).bytes in
+    sym (cond-false ((k == 6) && is_sei bytes) _ _ (ap (λ t. t && is_sei bytes) (first-not (k == 6) ((k == 7) || ((k == 9) || (k == 12))) here)))
 
 -- what a unit breaks, and then its messages
 pub bytes-noted : (rule : StrictRule) (known : KnownSet) (unit : NalUnit) (old mid new : Option Places) (bit kind : ℕ) (broken : Option StrictRule) (body : Body) → bit ≡ 8 * unit.from → kind ≡ kind_of unit →

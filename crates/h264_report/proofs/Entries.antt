@@ -1,4 +1,5 @@
-use Rattle.std.proofs.Common.{◌≡◌, ℕ, ◌+◌, zero, suc, arith, Option, Some, None, IfNone, List, [], ◌∷◌, take, get_or, subst}
+use Rattle.std.proofs.Common.{◌≡◌, ◌⊎◌, inl, inr, ◌<◌, ◌≤◌, ℕ, ◌+◌, zero, suc, arith, Option, Some, None, IfNone, List, [], ◌∷◌, take, get_or, subst}
+use Rattle.std.proofs.lemmas.Bool.{cases_lt}
 use Rattle.h264_base.specs.Rule.{label_of}
 use Rattle.h264_base.specs.declared.rule.Rule.{Rule}
 use Rattle.h264_base.specs.declared.rule.Rule.TheVariants as rules
@@ -6,7 +7,7 @@ use Rattle.h264_base.specs.Feature.{text_of}
 use Rattle.h264_report.specs.declared.rules.RuleEntry.{RuleEntry}
 use Rattle.h264_report.specs.declared.rules.FeatureEntry.{FeatureEntry}
 use Rattle.h264_report.specs.Entries.{HaveOtherLabels, HaveOtherNames, HaveOtherFurtherLabels}
-use Rattle.h264_report.specs.StrictRules.{label_of as further_label_of}
+use Rattle.h264_report.specs.StrictRules.{label_of as further_label_of, place_of}
 use Rattle.h264_report.specs.declared.strict_rule.StrictRule.{StrictRule}
 use Rattle.h264_report.specs.declared.strict_rule.StrictRule.TheVariants as further
 use Rattle.h264_report.specs.declared.strict_entries.StrictEntry.{StrictEntry}
@@ -90,62 +91,132 @@ no-rule label h rules.Incomplete = h.1.1.1.1.1.1.1.1.1.1.1.1.1.1.1.1.1.1.1.1.1.1
 no-rule label h rules.MarkCommand = h.1.1.1.1.1.1.1.1.1.1.1.1.1.1.1.1.1.1.1.1.1.1.1.1.1.1.1.1.1.1.1.1.1.1.0
 no-rule label h rules.NoPicture = h.1.1.1.1.1.1.1.1.1.1.1.1.1.1.1.1.1.1.1.1.1.1.1.1.1.1.1.1.1.1.1.1.1.1.1.0
 
--- all further rules, in the order of their table
-abbrev all_further : List StrictRule
-all_further =
+-- the further rules before those on the coded picture buffer, and those, in the order of their tables
+abbrev early_further : List StrictRule
+early_further =
     further.ReservedBits ∷ further.AspectRatio ∷ further.VideoFormat ∷ further.ColourPrimaries ∷ further.TransferCharacteristics ∷ further.MatrixCoefficients ∷ further.ChromaLocation ∷ further.Timing ∷ further.Restriction ∷ further.OperationsExclude ∷ further.IdrCount ∷ further.SetRefIdc ∷ further.DelimiterFirst ∷ further.FillerFirst ∷ further.AfterEndOfStream
     ∷ further.Level1b ∷ further.ReservedConstraint ∷ further.DirectInference ∷ further.LowDelay ∷ further.UnitLength ∷ further.EndFirst ∷ further.LongTermReference ∷ further.Weights ∷ further.FrameNumRepeated ∷ further.CountRepeated ∷ further.Reorder ∷ further.VectorCount ∷ further.FrameRate ∷ further.ScheduleOrder ∷ further.ScheduleLimits ∷ further.CommonFactor ∷ further.PictureBytes ∷ further.SeiSizes ∷ further.DelimiterBits ∷ further.FillerBytes ∷ further.ZeroByte ∷ further.DelimiterType ∷ further.SeiContent
     ∷ []
+
+abbrev buffer_further : List StrictRule
+buffer_further = further.BufferUnderflow ∷ further.InitialDelay ∷ further.BufferOverflow ∷ further.MinCompression ∷ further.RemovalRate ∷ []
 
 -- these further rules have other labels
 abbrev HaveOtherFurther : List ℕ → List StrictRule → Type 0
 HaveOtherFurther label [] = Unit {0}
 HaveOtherFurther label (rule ∷ rules) = (further_label_of rule ≡ label → ⊥) × HaveOtherFurther label rules
 
--- so no further rule has that label
-no-further : (label : List ℕ) → HaveOtherFurther label all_further → (rule : StrictRule) → further_label_of rule ≡ label → ⊥
-no-further label h further.ReservedBits = h.0
-no-further label h further.AspectRatio = h.1.0
-no-further label h further.VideoFormat = h.1.1.0
-no-further label h further.ColourPrimaries = h.1.1.1.0
-no-further label h further.TransferCharacteristics = h.1.1.1.1.0
-no-further label h further.MatrixCoefficients = h.1.1.1.1.1.0
-no-further label h further.ChromaLocation = h.1.1.1.1.1.1.0
-no-further label h further.Timing = h.1.1.1.1.1.1.1.0
-no-further label h further.Restriction = h.1.1.1.1.1.1.1.1.0
-no-further label h further.OperationsExclude = h.1.1.1.1.1.1.1.1.1.0
-no-further label h further.IdrCount = h.1.1.1.1.1.1.1.1.1.1.0
-no-further label h further.SetRefIdc = h.1.1.1.1.1.1.1.1.1.1.1.0
-no-further label h further.DelimiterFirst = h.1.1.1.1.1.1.1.1.1.1.1.1.0
-no-further label h further.FillerFirst = h.1.1.1.1.1.1.1.1.1.1.1.1.1.0
-no-further label h further.AfterEndOfStream = h.1.1.1.1.1.1.1.1.1.1.1.1.1.1.0
-no-further label h further.Level1b = h.1.1.1.1.1.1.1.1.1.1.1.1.1.1.1.0
-no-further label h further.ReservedConstraint = h.1.1.1.1.1.1.1.1.1.1.1.1.1.1.1.1.0
-no-further label h further.DirectInference = h.1.1.1.1.1.1.1.1.1.1.1.1.1.1.1.1.1.0
-no-further label h further.LowDelay = h.1.1.1.1.1.1.1.1.1.1.1.1.1.1.1.1.1.1.0
-no-further label h further.UnitLength = h.1.1.1.1.1.1.1.1.1.1.1.1.1.1.1.1.1.1.1.0
-no-further label h further.EndFirst = h.1.1.1.1.1.1.1.1.1.1.1.1.1.1.1.1.1.1.1.1.0
-no-further label h further.LongTermReference = h.1.1.1.1.1.1.1.1.1.1.1.1.1.1.1.1.1.1.1.1.1.0
-no-further label h further.Weights = h.1.1.1.1.1.1.1.1.1.1.1.1.1.1.1.1.1.1.1.1.1.1.0
-no-further label h further.FrameNumRepeated = h.1.1.1.1.1.1.1.1.1.1.1.1.1.1.1.1.1.1.1.1.1.1.1.0
-no-further label h further.CountRepeated = h.1.1.1.1.1.1.1.1.1.1.1.1.1.1.1.1.1.1.1.1.1.1.1.1.0
-no-further label h further.Reorder = h.1.1.1.1.1.1.1.1.1.1.1.1.1.1.1.1.1.1.1.1.1.1.1.1.1.0
-no-further label h further.VectorCount = h.1.1.1.1.1.1.1.1.1.1.1.1.1.1.1.1.1.1.1.1.1.1.1.1.1.1.0
-no-further label h further.FrameRate = h.1.1.1.1.1.1.1.1.1.1.1.1.1.1.1.1.1.1.1.1.1.1.1.1.1.1.1.0
-no-further label h further.ScheduleOrder = h.1.1.1.1.1.1.1.1.1.1.1.1.1.1.1.1.1.1.1.1.1.1.1.1.1.1.1.1.0
-no-further label h further.ScheduleLimits = h.1.1.1.1.1.1.1.1.1.1.1.1.1.1.1.1.1.1.1.1.1.1.1.1.1.1.1.1.1.0
-no-further label h further.CommonFactor = h.1.1.1.1.1.1.1.1.1.1.1.1.1.1.1.1.1.1.1.1.1.1.1.1.1.1.1.1.1.1.0
-no-further label h further.PictureBytes = h.1.1.1.1.1.1.1.1.1.1.1.1.1.1.1.1.1.1.1.1.1.1.1.1.1.1.1.1.1.1.1.0
-no-further label h further.SeiSizes = h.1.1.1.1.1.1.1.1.1.1.1.1.1.1.1.1.1.1.1.1.1.1.1.1.1.1.1.1.1.1.1.1.0
-no-further label h further.DelimiterBits = h.1.1.1.1.1.1.1.1.1.1.1.1.1.1.1.1.1.1.1.1.1.1.1.1.1.1.1.1.1.1.1.1.1.0
-no-further label h further.FillerBytes = h.1.1.1.1.1.1.1.1.1.1.1.1.1.1.1.1.1.1.1.1.1.1.1.1.1.1.1.1.1.1.1.1.1.1.0
-no-further label h further.ZeroByte = h.1.1.1.1.1.1.1.1.1.1.1.1.1.1.1.1.1.1.1.1.1.1.1.1.1.1.1.1.1.1.1.1.1.1.1.0
-no-further label h further.DelimiterType = h.1.1.1.1.1.1.1.1.1.1.1.1.1.1.1.1.1.1.1.1.1.1.1.1.1.1.1.1.1.1.1.1.1.1.1.1.0
-no-further label h further.SeiContent = h.1.1.1.1.1.1.1.1.1.1.1.1.1.1.1.1.1.1.1.1.1.1.1.1.1.1.1.1.1.1.1.1.1.1.1.1.1.0
+-- so none of them has that label
+no-early : (label : List ℕ) → HaveOtherFurther label early_further → (rule : StrictRule) → place_of rule < 38 → further_label_of rule ≡ label → ⊥
+unfolding place_of
+no-early label h further.ReservedBits few e = h.0 e
+no-early label h further.AspectRatio few e = h.1.0 e
+no-early label h further.VideoFormat few e = h.1.1.0 e
+no-early label h further.ColourPrimaries few e = h.1.1.1.0 e
+no-early label h further.TransferCharacteristics few e = h.1.1.1.1.0 e
+no-early label h further.MatrixCoefficients few e = h.1.1.1.1.1.0 e
+no-early label h further.ChromaLocation few e = h.1.1.1.1.1.1.0 e
+no-early label h further.Timing few e = h.1.1.1.1.1.1.1.0 e
+no-early label h further.Restriction few e = h.1.1.1.1.1.1.1.1.0 e
+no-early label h further.OperationsExclude few e = h.1.1.1.1.1.1.1.1.1.0 e
+no-early label h further.IdrCount few e = h.1.1.1.1.1.1.1.1.1.1.0 e
+no-early label h further.SetRefIdc few e = h.1.1.1.1.1.1.1.1.1.1.1.0 e
+no-early label h further.DelimiterFirst few e = h.1.1.1.1.1.1.1.1.1.1.1.1.0 e
+no-early label h further.FillerFirst few e = h.1.1.1.1.1.1.1.1.1.1.1.1.1.0 e
+no-early label h further.AfterEndOfStream few e = h.1.1.1.1.1.1.1.1.1.1.1.1.1.1.0 e
+no-early label h further.Level1b few e = h.1.1.1.1.1.1.1.1.1.1.1.1.1.1.1.0 e
+no-early label h further.ReservedConstraint few e = h.1.1.1.1.1.1.1.1.1.1.1.1.1.1.1.1.0 e
+no-early label h further.DirectInference few e = h.1.1.1.1.1.1.1.1.1.1.1.1.1.1.1.1.1.0 e
+no-early label h further.LowDelay few e = h.1.1.1.1.1.1.1.1.1.1.1.1.1.1.1.1.1.1.0 e
+no-early label h further.UnitLength few e = h.1.1.1.1.1.1.1.1.1.1.1.1.1.1.1.1.1.1.1.0 e
+no-early label h further.EndFirst few e = h.1.1.1.1.1.1.1.1.1.1.1.1.1.1.1.1.1.1.1.1.0 e
+no-early label h further.LongTermReference few e = h.1.1.1.1.1.1.1.1.1.1.1.1.1.1.1.1.1.1.1.1.1.0 e
+no-early label h further.Weights few e = h.1.1.1.1.1.1.1.1.1.1.1.1.1.1.1.1.1.1.1.1.1.1.0 e
+no-early label h further.FrameNumRepeated few e = h.1.1.1.1.1.1.1.1.1.1.1.1.1.1.1.1.1.1.1.1.1.1.1.0 e
+no-early label h further.CountRepeated few e = h.1.1.1.1.1.1.1.1.1.1.1.1.1.1.1.1.1.1.1.1.1.1.1.1.0 e
+no-early label h further.Reorder few e = h.1.1.1.1.1.1.1.1.1.1.1.1.1.1.1.1.1.1.1.1.1.1.1.1.1.0 e
+no-early label h further.VectorCount few e = h.1.1.1.1.1.1.1.1.1.1.1.1.1.1.1.1.1.1.1.1.1.1.1.1.1.1.0 e
+no-early label h further.FrameRate few e = h.1.1.1.1.1.1.1.1.1.1.1.1.1.1.1.1.1.1.1.1.1.1.1.1.1.1.1.0 e
+no-early label h further.ScheduleOrder few e = h.1.1.1.1.1.1.1.1.1.1.1.1.1.1.1.1.1.1.1.1.1.1.1.1.1.1.1.1.0 e
+no-early label h further.ScheduleLimits few e = h.1.1.1.1.1.1.1.1.1.1.1.1.1.1.1.1.1.1.1.1.1.1.1.1.1.1.1.1.1.0 e
+no-early label h further.CommonFactor few e = h.1.1.1.1.1.1.1.1.1.1.1.1.1.1.1.1.1.1.1.1.1.1.1.1.1.1.1.1.1.1.0 e
+no-early label h further.PictureBytes few e = h.1.1.1.1.1.1.1.1.1.1.1.1.1.1.1.1.1.1.1.1.1.1.1.1.1.1.1.1.1.1.1.0 e
+no-early label h further.SeiSizes few e = h.1.1.1.1.1.1.1.1.1.1.1.1.1.1.1.1.1.1.1.1.1.1.1.1.1.1.1.1.1.1.1.1.0 e
+no-early label h further.DelimiterBits few e = h.1.1.1.1.1.1.1.1.1.1.1.1.1.1.1.1.1.1.1.1.1.1.1.1.1.1.1.1.1.1.1.1.1.0 e
+no-early label h further.FillerBytes few e = h.1.1.1.1.1.1.1.1.1.1.1.1.1.1.1.1.1.1.1.1.1.1.1.1.1.1.1.1.1.1.1.1.1.1.0 e
+no-early label h further.ZeroByte few e = h.1.1.1.1.1.1.1.1.1.1.1.1.1.1.1.1.1.1.1.1.1.1.1.1.1.1.1.1.1.1.1.1.1.1.1.0 e
+no-early label h further.DelimiterType few e = h.1.1.1.1.1.1.1.1.1.1.1.1.1.1.1.1.1.1.1.1.1.1.1.1.1.1.1.1.1.1.1.1.1.1.1.1.0 e
+no-early label h further.SeiContent few e = h.1.1.1.1.1.1.1.1.1.1.1.1.1.1.1.1.1.1.1.1.1.1.1.1.1.1.1.1.1.1.1.1.1.1.1.1.1.0 e
+no-early label h further.BufferUnderflow few e = omega arith
+no-early label h further.InitialDelay few e = omega arith
+no-early label h further.BufferOverflow few e = omega arith
+no-early label h further.MinCompression few e = omega arith
+no-early label h further.RemovalRate few e = omega arith
 
-pub further-none : (A : Type 0) (found : Option A) (label : List ℕ) → IfNone found (HaveOtherFurther label all_further) → IfNone found ((rule : StrictRule) → further_label_of rule ≡ label → ⊥)
-further-none A None label h = no-further label h
-further-none A (Some a) label h = tt
+no-buffer : (label : List ℕ) → HaveOtherFurther label buffer_further → (rule : StrictRule) → 38 ≤ place_of rule → further_label_of rule ≡ label → ⊥
+unfolding place_of
+no-buffer label h further.ReservedBits many e = omega arith
+no-buffer label h further.AspectRatio many e = omega arith
+no-buffer label h further.VideoFormat many e = omega arith
+no-buffer label h further.ColourPrimaries many e = omega arith
+no-buffer label h further.TransferCharacteristics many e = omega arith
+no-buffer label h further.MatrixCoefficients many e = omega arith
+no-buffer label h further.ChromaLocation many e = omega arith
+no-buffer label h further.Timing many e = omega arith
+no-buffer label h further.Restriction many e = omega arith
+no-buffer label h further.OperationsExclude many e = omega arith
+no-buffer label h further.IdrCount many e = omega arith
+no-buffer label h further.SetRefIdc many e = omega arith
+no-buffer label h further.DelimiterFirst many e = omega arith
+no-buffer label h further.FillerFirst many e = omega arith
+no-buffer label h further.AfterEndOfStream many e = omega arith
+no-buffer label h further.Level1b many e = omega arith
+no-buffer label h further.ReservedConstraint many e = omega arith
+no-buffer label h further.DirectInference many e = omega arith
+no-buffer label h further.LowDelay many e = omega arith
+no-buffer label h further.UnitLength many e = omega arith
+no-buffer label h further.EndFirst many e = omega arith
+no-buffer label h further.LongTermReference many e = omega arith
+no-buffer label h further.Weights many e = omega arith
+no-buffer label h further.FrameNumRepeated many e = omega arith
+no-buffer label h further.CountRepeated many e = omega arith
+no-buffer label h further.Reorder many e = omega arith
+no-buffer label h further.VectorCount many e = omega arith
+no-buffer label h further.FrameRate many e = omega arith
+no-buffer label h further.ScheduleOrder many e = omega arith
+no-buffer label h further.ScheduleLimits many e = omega arith
+no-buffer label h further.CommonFactor many e = omega arith
+no-buffer label h further.PictureBytes many e = omega arith
+no-buffer label h further.SeiSizes many e = omega arith
+no-buffer label h further.DelimiterBits many e = omega arith
+no-buffer label h further.FillerBytes many e = omega arith
+no-buffer label h further.ZeroByte many e = omega arith
+no-buffer label h further.DelimiterType many e = omega arith
+no-buffer label h further.SeiContent many e = omega arith
+no-buffer label h further.BufferUnderflow many e = h.0 e
+no-buffer label h further.InitialDelay many e = h.1.0 e
+no-buffer label h further.BufferOverflow many e = h.1.1.0 e
+no-buffer label h further.MinCompression many e = h.1.1.1.0 e
+no-buffer label h further.RemovalRate many e = h.1.1.1.1.0 e
+
+pub early-none : (A : Type 0) (found : Option A) (label : List ℕ) → IfNone found (HaveOtherFurther label early_further) →
+    IfNone found ((rule : StrictRule) → place_of rule < 38 → further_label_of rule ≡ label → ⊥)
+early-none A None label h = no-early label h
+early-none A (Some a) label h = tt
+
+pub buffer-none : (A : Type 0) (found : Option A) (label : List ℕ) → IfNone found (HaveOtherFurther label buffer_further) →
+    IfNone found ((rule : StrictRule) → 38 ≤ place_of rule → further_label_of rule ≡ label → ⊥)
+buffer-none A None label h = no-buffer label h
+buffer-none A (Some a) label h = tt
+
+-- where none of either was found, no further rule has that label
+pub further-none : (A : Type 0) (found : Option A) (label : List ℕ) → ((rule : StrictRule) → place_of rule < 38 → further_label_of rule ≡ label → ⊥) →
+    IfNone found ((rule : StrictRule) → 38 ≤ place_of rule → further_label_of rule ≡ label → ⊥) → IfNone found ((rule : StrictRule) → further_label_of rule ≡ label → ⊥)
+further-none A None label early late = λ rule e. go rule e (cases_lt (place_of rule) 38) where
+  go : (rule : StrictRule) → further_label_of rule ≡ label → (place_of rule < 38) ⊎ (38 ≤ place_of rule) → ⊥
+  go rule e (inl few) = early rule few e
+  go rule e (inr many) = late rule many e
+further-none A (Some a) label early late = tt
 
 -- where none was found, no rule has that label
 pub found-none : (A : Type 0) (found : Option A) (label : List ℕ) → IfNone found (HaveOthers label all_rules) → IfNone found ((rule : Rule) → label_of rule ≡ label → ⊥)

@@ -3,6 +3,7 @@ pub mod SeiReading
 pub mod SeiListed
 pub mod SeiClosing
 pub mod SeiDelays
+pub mod SeiTold
 pub mod Known
 pub mod Counted
 pub mod PlaneRows
@@ -25,3 +26,5 @@ pub mod Factors
 pub mod Reading
 pub mod Units
 pub mod Contents
+pub mod BufferWaits
+pub mod BufferNotes

@@ -7,12 +7,15 @@ use Rattle.h264_base.specs.declared.stop.Stop.{Stop}
 use Rattle.h264_base.specs.declared.stop.Stop.TheVariants.{No, Outside, Memory, Read, Write}
 use Rattle.h264_units.specs.Stream.{NalUnit, Next, past, HasTail, Splits, Tail, Zeros, IsUndecided}
 use Rattle.h264_units.specs.Splitting.{Splitting, at_start, Pushed, PushStops, Refused, Taken, Finished, FinishStops}
+use Rattle.h264_report.specs.BufferUnits.{ended_bits}
+use Rattle.h264_report.specs.declared.buffer.Lack.{Lack}
+use Rattle.h264_report.specs.declared.buffer_units.Ended.{Ended}
 use Rattle.h264_report.specs.Strict.{with_places, bits_for, places, start}
 use Rattle.h264_report.specs.StrictContent.{bits_by_bytes}
 use Rattle.h264_report.specs.StrictRules.{listed}
 use Rattle.h264_report.specs.StrictExtent.{is_whole, cut_off, extent_after, extent_of}
-use Rattle.h264_report.specs.StrictStarts.{no_units, after_unit, after_units, by_zero_byte, by_pic_type, broken_after, unit_bits, places_in, told_of_units, noted_in, NotesUnit}
-use Rattle.h264_report.specs.StrictUnits.{BeginWith, AreRefused, SplitsToStop, TookBytes, TellsOfBytes}
+use Rattle.h264_report.specs.StrictStarts.{no_units, after_unit, after_units, by_zero_byte, by_pic_type, broken_after, came_after, own_bits, unit_bits, places_in, told_of_units, told_to_end, ended_last, lack_so_far, lack_at_end, noted_in, NotesUnit}
+use Rattle.h264_report.specs.StrictUnits.{BeginWith, AreRefused, SplitsToStop, TookBytes, TellsOfBytes, told_by, lack_by}
 use Rattle.h264_report.specs.declared.strict.Places.{Places}
 use Rattle.h264_report.specs.declared.strict_extent.Extent.{Extent}
 use Rattle.h264_report.specs.declared.strict_extent.Extent.TheVariants as extents
@@ -66,17 +69,22 @@ tells-more old new units unit before tells notes rule =
 
 -- ---- the rules of a unit
 
-pub notes-all : (old first second third : List (Option Places)) (s : UnitsBefore) (unit : NalUnit) (bit : ℕ) (b c : Option StrictRule) → bit ≡ 8 * unit.from →
-    b ≡ by_zero_byte s unit → c ≡ by_pic_type s unit →
+pub notes-all : (old first second third last : List (Option Places)) (s : UnitsBefore) (unit : NalUnit) (bit : ℕ) (b c : Option StrictRule) (e : Option Ended) → bit ≡ 8 * unit.from →
+    b ≡ by_zero_byte s unit → c ≡ by_pic_type s unit → e ≡ (came_after s unit).ended →
     ((r : StrictRule) → noted_in first r ≡ with_places (noted_in old r) (bits_by_bytes r s.set unit)) →
     ((r : StrictRule) → noted_in second r ≡ with_places (noted_in first r) (bits_for r bit (listed b))) →
     ((r : StrictRule) → noted_in third r ≡ with_places (noted_in second r) (bits_for r bit (listed c))) →
-    (r : StrictRule) → noted_in third r ≡ with_places (noted_in old r) (unit_bits r s unit)
-notes-all old first second third s unit bit b c at is-b is-c one two three r =
+    ((r : StrictRule) → noted_in last r ≡ with_places (noted_in third r) (ended_bits r e)) →
+    (r : StrictRule) → noted_in last r ≡ with_places (noted_in old r) (unit_bits r s unit)
+notes-all old first second third last s unit bit b c e at is-b is-c is-e one two three four r =
+    let own : noted_in third r ≡ with_places (noted_in old r) (own_bits r s unit) =
     noted-more r bit (noted_in first r) (noted_in second r) (noted_in third r) (listed b) (listed c) (two r) (three r)
     ∙ ap₂ (λ n l. with_places (noted_in first r) (bits_for r n l)) at (ap₂ (λ x y. listed x ++ listed y) is-b is-c)
     ∙ ap (λ p. with_places p (bits_for r (8 * unit.from) (broken_after s unit))) (one r)
-    ∙ sym (with-more (bits_by_bytes r s.set unit) (bits_for r (8 * unit.from) (broken_after s unit)) (noted_in old r))
+    ∙ sym (with-more (bits_by_bytes r s.set unit) (bits_for r (8 * unit.from) (broken_after s unit)) (noted_in old r)) in
+    four r
+    ∙ ap₂ (λ p x. with_places p (ended_bits r x)) own is-e
+    ∙ sym (with-more (own_bits r s unit) (ended_bits r (came_after s unit).ended) (noted_in old r))
 
 -- ---- how far a reader looks
 
@@ -294,6 +302,26 @@ module _ (old mid : Splitting) (noted : UnitsNoted) (before piece : List ℕ) (n
 
 -- ---- the end
 
+-- the last access unit was noted too
+abbrev pub NotesEnd : UnitsNoted → List (Option Places) → Type 0
+NotesEnd noted found = (rule : StrictRule) → noted_in found rule ≡ with_places (noted_in noted.found rule) (ended_bits rule (ended_last noted.before))
+
+told-lack : (r : Extent) (units : List NalUnit) → is_whole r ≡ false → lack_so_far (after_units no_units units) ≡ lack_by r units
+told-lack extents.Whole units h = absurd (false≢true (sym h))
+told-lack extents.NoByteStream units h = refl
+told-lack extents.NotToTheEnd units h = refl
+told-lack extents.Memory units h = refl
+
+tells-end : (noted : UnitsNoted) (found : List (Option Places)) (units : List NalUnit) → noted.before ≡ after_units no_units units →
+    ((rule : StrictRule) → noted_in noted.found rule ≡ told_of_units rule units) → NotesEnd noted found → (rule : StrictRule) → noted_in found rule ≡ told_to_end rule units
+tells-end noted found units before tells ends rule = ends rule ∙ ap₂ (λ p s. with_places p (ended_bits rule (ended_last s))) (tells rule) before
+
+told-stopped : (r : Extent) (rule : StrictRule) (units : List NalUnit) → is_whole r ≡ false → told_of_units rule units ≡ told_by r rule units
+told-stopped extents.Whole rule units h = absurd (false≢true (sym h))
+told-stopped extents.NoByteStream rule units h = refl
+told-stopped extents.NotToTheEnd rule units h = refl
+told-stopped extents.Memory rule units h = refl
+
 begins-now : (front : List ℕ) (units : List NalUnit) (at : ℕ) (left : List ℕ) → BeginWith 0 (front ++ []) units at (left ++ []) → BeginWith 0 front units at left
 begins-now front units at left b = subst₂ (λ (x y : List ℕ). BeginWith 0 x units at y) (append-nil front) (append-nil left) b
 
@@ -319,26 +347,28 @@ module _ (s : Splitting) (r : Extent) (noted : UnitsNoted) (bytes : List ℕ) (t
         (subst (λ (l : List ℕ). HasTail t.at l a.1.tail) (append-nil (t.left ++ t.rest)) (a.1.stands [])),
   )
 
-  pub tells-stopped : (ended : Bool) → is_whole r ≡ false → TellsOfBytes r ended noted.found bytes
+  pub tells-stopped : (ended : Bool) → is_whole r ≡ false → TellsOfBytes r ended noted.found (lack_so_far noted.before) bytes
   tells-stopped ended off = record {
     units = t.units;
     at = t.at;
     left = t.left ++ t.rest;
     begins = λ more ends. begins-all more;
-    tells = t.tells;
+    tells = λ rule. t.tells rule ∙ told-stopped r rule t.units off;
+    lacks = ap lack_so_far t.before ∙ told-lack r t.units off;
     all = λ h. absurd (not-whole r off h);
     refused = λ h. (splits-refused (t.refused h), λ e. t.refused h);
     cut = λ h. absurd (t.not_cut h);
   }
 
 -- the bytes may go on
-pub tells-cut : (s : Splitting) (r : Extent) (noted : UnitsNoted) (bytes : List ℕ) → TookBytes s r noted bytes → TellsOfBytes (cut_off r) false noted.found bytes
+pub tells-cut : (s : Splitting) (r : Extent) (noted : UnitsNoted) (bytes : List ℕ) → TookBytes s r noted bytes → TellsOfBytes (cut_off r) false noted.found (lack_so_far noted.before) bytes
 tells-cut s extents.Whole noted bytes t = record {
   units = t.units;
   at = t.at;
   left = t.left ++ t.rest;
   begins = λ more ends. begins-all s extents.Whole noted bytes t more;
   tells = t.tells;
+  lacks = ap lack_so_far t.before;
   all = λ h. absurd (cut-not-whole h);
   refused = λ h. absurd (cut-no-stream h);
   cut = λ h. (refl, subst IsUndecided (sym (ap (λ l. t.left ++ l) (t.all refl).0 ∙ append-nil t.left)) (t.all refl).1);
@@ -347,13 +377,14 @@ tells-cut s extents.NoByteStream noted bytes t = tells-stopped s extents.NoByteS
 tells-cut s extents.NotToTheEnd noted bytes t = tells-stopped s extents.NotToTheEnd noted bytes t false refl
 tells-cut s extents.Memory noted bytes t = tells-stopped s extents.Memory noted bytes t false refl
 
-tells-memory : (s : Splitting) (noted : UnitsNoted) (bytes : List ℕ) → TookBytes s extents.Whole noted bytes → TellsOfBytes extents.Memory true noted.found bytes
+tells-memory : (s : Splitting) (noted : UnitsNoted) (bytes : List ℕ) → TookBytes s extents.Whole noted bytes → TellsOfBytes extents.Memory true noted.found (lack_so_far noted.before) bytes
 tells-memory s noted bytes t = record {
   units = t.units;
   at = t.at;
   left = t.left ++ t.rest;
   begins = λ more ends. begins-all s extents.Whole noted bytes t more;
   tells = t.tells;
+  lacks = ap lack_so_far t.before;
   all = λ h. absurd (memory-not-whole h);
   refused = λ h. absurd (memory-no-stream h);
   cut = λ h. absurd (memory-not-cut h);
@@ -361,13 +392,14 @@ tells-memory s noted bytes t = record {
 
 -- the bytes up to their end are no byte stream
 tells-refused : (old new : Splitting) (noted : UnitsNoted) (bytes : List ℕ) (stop : Stop) → TookBytes old extents.Whole noted bytes → FinishStops old new stop →
-    TellsOfBytes extents.NoByteStream true noted.found bytes
+    TellsOfBytes extents.NoByteStream true noted.found (lack_so_far noted.before) bytes
 tells-refused old new noted bytes stop t stops = record {
   units = t.units;
   at = t.at;
   left = t.left ++ t.rest;
   begins = λ more ends. begins-all old extents.Whole noted bytes t more;
   tells = t.tells;
+  lacks = ap lack_so_far t.before;
   all = λ h. absurd (stream-not-whole h);
   refused = λ h. (
     (
@@ -384,7 +416,7 @@ tells-refused old new noted bytes stop t stops = record {
 }
 
 pub tells-stop : (old new : Splitting) (noted : UnitsNoted) (bytes : List ℕ) (stop : Stop) → TookBytes old extents.Whole noted bytes → (old.stop ≡ None → FinishStops old new stop) →
-    TellsOfBytes (extent_after stop) true noted.found bytes
+    TellsOfBytes (extent_after stop) true noted.found (lack_so_far noted.before) bytes
 tells-stop old new noted bytes Memory t stops = tells-memory old noted bytes t
 tells-stop old new noted bytes (No bit rule) t stops = tells-refused old new noted bytes (No bit rule) t (stops (t.stands refl).2)
 tells-stop old new noted bytes (Outside bit feature) t stops = tells-refused old new noted bytes (Outside bit feature) t (stops (t.stands refl).2)
@@ -399,13 +431,14 @@ module _ (old mid : Splitting) (noted : UnitsNoted) (bytes : List ℕ) (t : Took
   begun = subst (λ (l : List ℕ). BeginWith 0 l t.units t.at t.left) front-is (begins-now t.front t.units t.at t.left (t.begins []))
 
   -- no unit is left
-  pub tells-none : IsFalse mid.waiting → TellsOfBytes extents.Whole true noted.found bytes
-  tells-none none = record {
+  pub tells-none : (found : List (Option Places)) (lack : Option Lack) → NotesEnd noted found → lack ≡ lack_at_end noted.before → IsFalse mid.waiting → TellsOfBytes extents.Whole true found lack bytes
+  tells-none found lack notes-end lacks-end none = record {
     units = t.units;
     at = t.at;
     left = t.left;
     begins = λ more ends. begins-end bytes t.units t.at t.left more (ends refl) begun;
-    tells = t.tells;
+    tells = tells-end noted found t.units t.before t.tells notes-end;
+    lacks = lacks-end ∙ ap lack_at_end t.before;
     all = λ h. (refl, splits-from Zeros 0 bytes t.units t.at t.left begun (subst₂ (λ (m : ℕ) (l : List ℕ). HasTail m l Zeros) (t.stands refl).0 (t.stands refl).1 (ends.zeros none)));
     refused = λ h. absurd (whole-no-stream h);
     cut = λ h. absurd (whole-not-cut h);
@@ -417,17 +450,21 @@ module _ (old mid : Splitting) (noted : UnitsNoted) (bytes : List ℕ) (t : Took
         begin-more 0 bytes t.units t.at t.left unit new.rest begun
         (subst₂ (λ (m : ℕ) (l : List ℕ). Next m l unit new.rest) (ends.at_is ∙ (t.stands refl).0) (ends.rest_is ∙ (t.stands refl).1) taken.next)
 
-    -- a unit is left
-    pub tells-unit : (looked : Result (Unit {0}) Stop) (later : UnitsNoted) → OnOk looked (NotesUnit noted unit later) → OnErr looked (later ≡ noted) →
-        TellsOfBytes (extent_of looked) true later.found bytes
-    tells-unit (Ok u) later notes same = record {
+    -- a unit is left, which was noted
+    pub tells-unit : (later : UnitsNoted) (found : List (Option Places)) (lack : Option Lack) → NotesUnit noted unit later → NotesEnd later found → lack ≡ lack_at_end later.before →
+        TellsOfBytes extents.Whole true found lack bytes
+    tells-unit later found lack notes notes-end lacks-end = record {
       units = t.units ++ unit ∷ [];
       at = past unit;
       left = new.rest;
       begins = λ more ends. begins-end bytes (t.units ++ unit ∷ []) (past unit) new.rest more (ends refl) begun-unit;
-      tells = tells-more noted later t.units unit t.before t.tells notes;
+      tells = tells-end later found (t.units ++ unit ∷ []) (before-more noted later t.units unit t.before notes) (tells-more noted later t.units unit t.before t.tells notes) notes-end;
+      lacks = lacks-end ∙ ap lack_at_end (before-more noted later t.units unit t.before notes);
       all = λ h. (refl, splits-from Zeros 0 bytes (t.units ++ unit ∷ []) (past unit) new.rest begun-unit (subst (λ (m : ℕ). HasTail m new.rest Zeros) taken.at_is (taken.last ends.ended_is)));
       refused = λ h. absurd (whole-no-stream h);
       cut = λ h. absurd (whole-not-cut h);
     }
-    tells-unit (Err e) later notes same = subst (λ (f : UnitsNoted). TellsOfBytes extents.Memory true f.found bytes) (sym same) (tells-memory old noted bytes t)
+
+    -- and for which memory was wanting
+    pub tells-unread : (later : UnitsNoted) → later ≡ noted → TellsOfBytes extents.Memory true later.found (lack_so_far noted.before) bytes
+    tells-unread later same = subst (λ (f : UnitsNoted). TellsOfBytes extents.Memory true f.found (lack_so_far noted.before) bytes) (sym same) (tells-memory old noted bytes t)

@@ -27,6 +27,9 @@ pub mod Sei
 pub mod SeiMessages
 pub mod SeiTiming
 pub mod SeiPayload
+pub mod SeiTimes
+pub mod Buffer
+pub mod BufferUnits
 pub mod StrictBytes
 pub mod StrictContent
 pub mod StrictStarts

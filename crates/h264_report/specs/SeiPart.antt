@@ -17,6 +17,12 @@ abbrev pub ◌>>=◌ : {A B : Type 0} → Part A → (A → Part B) → Part B
 abbrev pub give : {A : Type 0} → A → Part A
 give x bytes i = Some (x, i)
 
+-- a part of which no value is told
+abbrev pub passed : {A : Type 0} → Part A → Part (Unit {0})
+passed part = do
+  _ ← part
+  give tt
+
 -- a test that has to hold
 abbrev pub must : Bool → Part (Unit {0})
 must holds bytes i = if holds then Some (tt, i) else None

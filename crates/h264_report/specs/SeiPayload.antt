@@ -3,7 +3,7 @@ use Rattle.std.specs.Prelude.{ℕ, ◌+◌, ◌-◌, ◌*◌, ◌^◌, ◌==◌,
 use Rattle.std.specs.Prelude.{length, take, drop, Option, None, Some}
 use Rattle.h264_report.specs.SeiContent.{content, has_syntax}
 use Rattle.h264_report.specs.SeiMessages.{ff_bytes, payload_value, payload_start, message_length}
-use Rattle.h264_report.specs.SeiPart.{Part, u}
+use Rattle.h264_report.specs.SeiPart.{Part, u, passed}
 use Rattle.h264_report.specs.SeiTiming.{buffering_period, pic_timing}
 use Rattle.h264_report.specs.declared.sei.payload.Message.{Message}
 use Rattle.h264_report.specs.declared.sei.timing.KnownSet.{KnownSet}
@@ -40,7 +40,7 @@ is_read Unknown kind = has_syntax kind
 
 -- that content
 abbrev pub content_by : KnownSet → ℕ → Part (Unit {0})
-content_by (One set) kind = if kind == 0 then buffering_period set else (if kind == 1 then pic_timing set else content kind)
+content_by (One set) kind = if kind == 0 then passed (buffering_period set) else (if kind == 1 then passed (pic_timing set) else content kind)
 content_by NotYet kind = content kind
 content_by Unknown kind = content kind
 
@@ -57,6 +57,8 @@ holds known kind bytes from to =
 abbrev pub message_of_length : KnownSet → List ℕ → (at : ℕ) → Option ℕ → Option Message
 message_of_length known bytes at None = None
 message_of_length known bytes at (Some whole) = Some (record {
+  payload_type = payload_value (drop at bytes);
+  from = at + payload_start (drop at bytes);
   end = at + whole;
   holds = holds known (payload_value (drop at bytes)) bytes (at + payload_start (drop at bytes)) (at + whole);
 })

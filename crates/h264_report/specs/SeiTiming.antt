@@ -1,6 +1,6 @@
 -- The syntax of messages that need a sequence parameter set: buffering_period() and pic_timing() (D.1, D.2), and the set that they need.
 -- To be read beside the standard.
-use Rattle.std.specs.Prelude.{ℕ, zero, suc, ◌+◌, ◌*◌, ◌^◌, ◌==◌, ◌&&◌, ◌||◌, Bool, false, not, min, nat_le, if◌then◌else◌}
+use Rattle.std.specs.Prelude.{ℕ, zero, suc, ◌+◌, ◌-◌, ◌*◌, ◌^◌, ◌==◌, ◌&&◌, ◌||◌, Bool, false, not, min, nat_le, if◌then◌else◌}
 use Rattle.std.specs.Prelude.{get_or, Option, None, Some, Result, Ok, Err}
 use Rattle.h264_base.specs.Body.{Body}
 use Rattle.h264_base.specs.Run.{run}
@@ -14,6 +14,8 @@ use Rattle.h264_sps.specs.declared.sps.Sps.{Sps}
 use Rattle.h264_sps.specs.declared.vui.Vui.{Vui}
 use Rattle.h264_report.specs.SeiContent.{any}
 use Rattle.h264_report.specs.SeiPart.{Part, ◌>>=◌, give, must, u, ue, u_to, when, times}
+use Rattle.h264_report.specs.declared.sei.timing.FirstDelays.{FirstDelays}
+use Rattle.h264_report.specs.declared.sei.timing.InitialDelay.{InitialDelay}
 use Rattle.h264_report.specs.declared.sei.timing.KnownSet.{KnownSet}
 use Rattle.h264_report.specs.declared.sei.timing.KnownSet.TheVariants.{NotYet, One, Unknown}
 
@@ -60,39 +62,52 @@ abbrev pub is_delay : Hrd → Cpb → ℕ → Bool
 is_delay hrd cpb delay = not (delay == 0) && nat_le (delay * bit_rate hrd cpb) (90000 * cpb_size hrd cpb)
 
 -- initial_cpb_removal_delay and initial_cpb_removal_delay_offset of a schedule
-abbrev pub initial_delay : Hrd → Cpb → Part (Unit {0})
+abbrev pub initial_delay : Hrd → Cpb → Part InitialDelay
 initial_delay hrd cpb = do
   initial_cpb_removal_delay ← u (five_bits hrd.initial_cpb_removal_delay_length_minus1 + 1)
   _ ← must (is_delay hrd cpb initial_cpb_removal_delay)
-  any (five_bits hrd.initial_cpb_removal_delay_length_minus1 + 1)
+  initial_cpb_removal_delay_offset ← u (five_bits hrd.initial_cpb_removal_delay_length_minus1 + 1)
+  give (record { delay = initial_cpb_removal_delay; offset = initial_cpb_removal_delay_offset })
 
--- those of so many schedules, from this SchedSelIdx on
+-- the delays of so many schedules, from this SchedSelIdx on
 unfoldable pub delays_from : Hrd → ℕ → ℕ → Part (Unit {0})
 delays_from hrd zero i = give tt
 delays_from hrd (suc n) i = do
   _ ← initial_delay hrd (get_or hrd.cpbs.entries i no_cpb)
   delays_from hrd n (i + 1)
 
--- those of each SchedSelIdx of the HRD parameters, where they are there; there are at most 32
-abbrev pub initial_delays : Option Hrd → Part (Unit {0})
-initial_delays None = give tt
-initial_delays (Some hrd) = delays_from hrd (min hrd.cpbs.count 32) 0
+-- the delays of each SchedSelIdx, of which there are at most 32; it gives those of SchedSelIdx 0
+abbrev pub delays_of : Hrd → Part InitialDelay
+delays_of hrd = do
+  first ← initial_delay hrd (get_or hrd.cpbs.entries 0 no_cpb)
+  _ ← delays_from hrd (min hrd.cpbs.count 32 - 1) 1
+  give first
 
-abbrev pub buffering_period : Sps → Part (Unit {0})
+-- where the HRD parameters are there
+abbrev pub initial_delays : Option Hrd → Part (Option InitialDelay)
+initial_delays None = give None
+initial_delays (Some hrd) = do
+  first ← delays_of hrd
+  give (Some first)
+
+-- It gives the delays of SchedSelIdx 0.
+abbrev pub buffering_period : Sps → Part FirstDelays
 buffering_period set = do
   seq_parameter_set_id ← ue
   _ ← must (seq_parameter_set_id == set.seq_parameter_set_id)
-  _ ← initial_delays (nal_of set.vui)
-  initial_delays (vcl_of set.vui)
+  nal ← initial_delays (nal_of set.vui)
+  vcl ← initial_delays (vcl_of set.vui)
+  give (record { nal = nal; vcl = vcl })
 
 -- ---- pic_timing()
 
--- cpb_removal_delay and dpb_output_delay, where there are HRD parameters
-abbrev pub delays : Option Hrd → Part (Unit {0})
-delays None = give tt
+-- cpb_removal_delay, which it gives, and dpb_output_delay, where there are HRD parameters
+abbrev pub delays : Option Hrd → Part (Option ℕ)
+delays None = give None
 delays (Some hrd) = do
-  _ ← u (five_bits hrd.cpb_removal_delay_length_minus1 + 1)
-  any (five_bits hrd.dpb_output_delay_length_minus1 + 1)
+  cpb_removal_delay ← u (five_bits hrd.cpb_removal_delay_length_minus1 + 1)
+  _ ← any (five_bits hrd.dpb_output_delay_length_minus1 + 1)
+  give (Some cpb_removal_delay)
 
 -- time_offset_length; 24 is inferred
 abbrev pub offset_length : Option Hrd → ℕ
@@ -167,10 +182,12 @@ structure offset = do
   pic_struct ← u_to 4 8
   times (num_clock_ts pic_struct) (clock_timestamp offset)
 
-abbrev pub pic_timing : Sps → Part (Unit {0})
+-- It gives cpb_removal_delay.
+abbrev pub pic_timing : Sps → Part (Option ℕ)
 pic_timing set = do
-  _ ← delays (hrd_of set.vui)
-  when (has_pic_struct set.vui) (structure (offset_length (hrd_of set.vui)))
+  cpb_removal_delay ← delays (hrd_of set.vui)
+  _ ← when (has_pic_struct set.vui) (structure (offset_length (hrd_of set.vui)))
+  give cpb_removal_delay
 
 -- ---- the set that messages need
 

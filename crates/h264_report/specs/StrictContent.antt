@@ -5,8 +5,10 @@ use Rattle.h264_base.specs.Body.{Body, place}
 use Rattle.h264_rbsp.specs.Rbsp.{body_of}
 use Rattle.h264_report.specs.SeiMessages.{is_sei}
 use Rattle.h264_report.specs.SeiPayload.{message_at}
+use Rattle.h264_report.specs.SeiTimes.{times_of}
 use Rattle.h264_report.specs.SeiTiming.{known_after}
 use Rattle.h264_report.specs.declared.sei.payload.Message.{Message}
+use Rattle.h264_report.specs.declared.sei.times.TimesTold.{TimesTold}
 use Rattle.h264_report.specs.declared.sei.timing.KnownSet.{KnownSet}
 use Rattle.h264_units.specs.Stream.{NalUnit}
 use Rattle.h264_report.specs.Strict.{bits_for}
@@ -39,3 +41,7 @@ set_by known kind body = if kind == 7 then known_after known body else known
 
 abbrev pub set_after : KnownSet → NalUnit → KnownSet
 set_after known unit = set_by known (kind_of unit) (body_of unit)
+
+-- what a unit says of times
+abbrev pub times_told : KnownSet → NalUnit → TimesTold
+times_told known unit = times_of known (kind_of unit) (body_of unit).bytes

@@ -1,5 +1,5 @@
 -- What the levels allow of rates, buffers and vectors (A.3.1, Table A-1). To be read beside the standard.
-use Rattle.std.specs.Prelude.{ℕ, Bool, List, [], ◌∷◌, ◌==◌, ◌&&◌, nat_lt, Option, None, Some, find, if◌then◌else◌}
+use Rattle.std.specs.Prelude.{ℕ, Bool, List, [], ◌∷◌, ◌==◌, ◌&&◌, ◌||◌, nat_lt, Option, None, Some, find, if◌then◌else◌}
 use Rattle.std.specs.Option.{option_map}
 use Rattle.h264_report.specs.declared.strict_levels.BitLimits.{BitLimits}
 
@@ -52,6 +52,10 @@ max_mbps level_idc set3 = option_map (λ r. r.mbps) (row_of level_idc set3)
 -- MaxBR and MaxCPB of a level
 unfoldable pub bit_limits : ℕ → Bool → Option BitLimits
 bit_limits level_idc set3 = option_map (λ r. record { max_br = r.br; max_cpb = r.cpb }) (row_of level_idc set3)
+
+-- MinCR: 4 at levels 3.1, 3.2 and 4, and else 2
+abbrev pub min_cr : ℕ → ℕ
+min_cr level_idc = if (level_idc == 31) || (level_idc == 32) || (level_idc == 40) then 4 else 2
 
 -- MaxMvsPer2Mb: none below level 3, 32 at level 3, and 16 from level 3.1 on
 abbrev pub max_vectors : ℕ → Option ℕ

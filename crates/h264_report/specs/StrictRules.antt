@@ -43,6 +43,11 @@ place_of rules.FillerBytes = 34
 place_of rules.ZeroByte = 35
 place_of rules.DelimiterType = 36
 place_of rules.SeiContent = 37
+place_of rules.BufferUnderflow = 38
+place_of rules.InitialDelay = 39
+place_of rules.BufferOverflow = 40
+place_of rules.MinCompression = 41
+place_of rules.RemovalRate = 42
 
 unfoldable pub label_of : StrictRule → List ℕ
 label_of rules.ReservedBits = codes "ReservedBits"
@@ -83,6 +88,11 @@ label_of rules.FillerBytes = codes "FillerBytes"
 label_of rules.ZeroByte = codes "ZeroByte"
 label_of rules.DelimiterType = codes "DelimiterType"
 label_of rules.SeiContent = codes "SeiContent"
+label_of rules.BufferUnderflow = codes "BufferUnderflow"
+label_of rules.InitialDelay = codes "InitialDelay"
+label_of rules.BufferOverflow = codes "BufferOverflow"
+label_of rules.MinCompression = codes "MinCompression"
+label_of rules.RemovalRate = codes "RemovalRate"
 
 -- the clause of H.264 that states it
 unfoldable pub clause_of : StrictRule → List ℕ
@@ -124,6 +134,11 @@ clause_of rules.FillerBytes = codes "7.3.2.7"
 clause_of rules.ZeroByte = codes "B.1.2"
 clause_of rules.DelimiterType = codes "7.4.2.4"
 clause_of rules.SeiContent = codes "D.1"
+clause_of rules.BufferUnderflow = codes "C.3"
+clause_of rules.InitialDelay = codes "C.3"
+clause_of rules.BufferOverflow = codes "C.3"
+clause_of rules.MinCompression = codes "A.3.1"
+clause_of rules.RemovalRate = codes "A.3.1"
 
 -- a rule, if it is broken
 abbrev pub broken_if : Bool → StrictRule → Option StrictRule

@@ -3,10 +3,14 @@ use Rattle.std.specs.Prelude.{◌≡◌, ℕ, ◌*◌, ◌-◌, ◌/◌, ◌==�
 use Rattle.std.specs.Prelude.{List, [], ◌∷◌, ◌++◌, Option, None, get_or}
 use Rattle.h264_units.specs.Stream.{NalUnit, past}
 use Rattle.h264_report.specs.declared.sei.timing.KnownSet.TheVariants.{NotYet}
+use Rattle.h264_report.specs.BufferUnits.{no_buffer, came, ended_at, ended_bits, lack_in, watches_after}
 use Rattle.h264_report.specs.Strict.{begins_access_unit, bits_for, with_places}
 use Rattle.h264_report.specs.StrictBytes.{kind_of}
-use Rattle.h264_report.specs.StrictContent.{bits_by_bytes, set_after}
+use Rattle.h264_report.specs.StrictContent.{bits_by_bytes, set_after, times_told}
 use Rattle.h264_report.specs.StrictRules.{broken_if, listed, place_of}
+use Rattle.h264_report.specs.declared.buffer.Lack.{Lack}
+use Rattle.h264_report.specs.declared.buffer_units.Came.{Came}
+use Rattle.h264_report.specs.declared.buffer_units.Ended.{Ended}
 use Rattle.h264_report.specs.declared.strict.Places.{Places}
 use Rattle.h264_report.specs.declared.strict_rule.StrictRule.{StrictRule}
 use Rattle.h264_report.specs.declared.strict_rule.StrictRule.TheVariants as rules
@@ -15,7 +19,7 @@ use Rattle.h264_report.specs.declared.strict_starts.UnitsNoted.{UnitsNoted}
 
 -- before the first unit
 abbrev pub no_units : UnitsBefore
-no_units = record { past = 0; begun = false; pic_type = 7; set = NotYet }
+no_units = record { past = 0; begun = false; pic_type = 7; set = NotYet; buffer = no_buffer }
 
 -- ---- the first unit of an access unit (7.4.1.2.3)
 
@@ -83,12 +87,17 @@ breaks_pic_type s kind body = begins_picture kind body && is_left_out (pic_type_
 
 -- ---- the rules that a unit breaks after others
 
+-- what a unit is to the coded picture buffer
+abbrev pub came_after : UnitsBefore → NalUnit → Came
+came_after s unit = came s.set s.buffer s.past (is_first s (kind_of unit) unit.body) unit (times_told s.set unit)
+
 abbrev pub after_unit : UnitsBefore → NalUnit → UnitsBefore
 after_unit s unit = record {
   past = past unit;
   begun = begins_access_unit (kind_of unit) || s.begun && not (is_slice (kind_of unit));
   pic_type = pic_type_after s (kind_of unit) unit.body;
   set = set_after s.set unit;
+  buffer = (came_after s unit).buffer;
 }
 
 unfoldable pub after_units : UnitsBefore → List NalUnit → UnitsBefore
@@ -104,9 +113,13 @@ by_pic_type s unit = broken_if (breaks_pic_type s (kind_of unit) unit.body) rule
 abbrev pub broken_after : UnitsBefore → NalUnit → List StrictRule
 broken_after s unit = listed (by_zero_byte s unit) ++ listed (by_pic_type s unit)
 
--- where a unit breaks the rule
+-- where a unit breaks the rule by itself
+abbrev pub own_bits : StrictRule → UnitsBefore → NalUnit → List ℕ
+own_bits rule s unit = bits_by_bytes rule s.set unit ++ bits_for rule (8 * unit.from) (broken_after s unit)
+
+-- and where the access unit does that it ends
 abbrev pub unit_bits : StrictRule → UnitsBefore → NalUnit → List ℕ
-unit_bits rule s unit = bits_by_bytes rule s.set unit ++ bits_for rule (8 * unit.from) (broken_after s unit)
+unit_bits rule s unit = own_bits rule s unit ++ ended_bits rule (came_after s unit).ended
 
 -- where the units break the rule
 unfoldable pub places_in : StrictRule → UnitsBefore → List NalUnit → List ℕ
@@ -116,6 +129,21 @@ places_in rule s (unit ∷ units) = unit_bits rule s unit ++ places_in rule (aft
 -- what is told of a rule after these units
 abbrev pub told_of_units : StrictRule → List NalUnit → Option Places
 told_of_units rule units = with_places None (places_in rule no_units units)
+
+-- the access unit that the end of the input ends
+abbrev pub ended_last : UnitsBefore → Option Ended
+ended_last s = ended_at s.set s.buffer.watches s.past s.buffer.current
+
+-- Why the coded picture buffer is not followed to the end, if it is not, where more units may come and where none does.
+abbrev pub lack_so_far : UnitsBefore → Option Lack
+lack_so_far s = lack_in s.buffer.watches
+
+abbrev pub lack_at_end : UnitsBefore → Option Lack
+lack_at_end s = lack_in (watches_after s.buffer (ended_last s))
+
+-- what is told of a rule where no unit comes after these
+abbrev pub told_to_end : StrictRule → List NalUnit → Option Places
+told_to_end rule units = with_places (told_of_units rule units) (ended_bits rule (ended_last (after_units no_units units)))
 
 -- ---- what a reader of units notes
 

@@ -3,7 +3,8 @@ use Rattle.std.specs.Prelude.{◌≡◌, ℕ, Bool, true, false, List, [], ◌�
 use Rattle.h264_base.specs.declared.stop.Stop.{Stop}
 use Rattle.h264_units.specs.Stream.{NalUnit, Next, past, Splits, Tail, Zeros, tail_stop, IsUndecided}
 use Rattle.h264_units.specs.Splitting.{Splitting, Refused}
-use Rattle.h264_report.specs.StrictStarts.{told_of_units, noted_in, no_units, after_units}
+use Rattle.h264_report.specs.StrictStarts.{told_of_units, told_to_end, lack_so_far, lack_at_end, noted_in, no_units, after_units}
+use Rattle.h264_report.specs.declared.buffer.Lack.{Lack}
 use Rattle.h264_report.specs.declared.strict.Places.{Places}
 use Rattle.h264_report.specs.declared.strict_extent.Extent.{Extent}
 use Rattle.h264_report.specs.declared.strict_extent.Extent.TheVariants as extents
@@ -41,14 +42,25 @@ pub record TookBytes (splitter : Splitting) (extent : Extent) (noted : UnitsNote
   -- that the bytes may go on is no reason
   pub not_cut : extent ≡ extents.NotToTheEnd → ⊥
 
+-- what is told of a rule after these units; the last access unit has ended where they are all
+abbrev pub told_by : Extent → StrictRule → List NalUnit → Option Places
+told_by extents.Whole rule units = told_to_end rule units
+told_by extent rule units = told_of_units rule units
+
+-- why the coded picture buffer is not followed to the end, if it is not
+abbrev pub lack_by : Extent → List NalUnit → Option Lack
+lack_by extents.Whole units = lack_at_end (after_units no_units units)
+lack_by extent units = lack_so_far (after_units no_units units)
+
 -- What is told of these bytes, after which the source has said its end or not: of their first units, which are all unless memory was wanting.
-pub record TellsOfBytes (extent : Extent) (ended : Bool) (found : List (Option Places)) (bytes : List ℕ) : Type 0 where
+pub record TellsOfBytes (extent : Extent) (ended : Bool) (found : List (Option Places)) (lack : Option Lack) (bytes : List ℕ) : Type 0 where
   pub units : List NalUnit
   pub at : ℕ
   pub left : List ℕ
   -- however the bytes go on, where they have not ended
   pub begins : (more : List ℕ) → (ended ≡ true → more ≡ []) → BeginWith 0 (bytes ++ more) units at (left ++ more)
-  pub tells : (rule : StrictRule) → noted_in found rule ≡ told_of_units rule units
+  pub tells : (rule : StrictRule) → noted_in found rule ≡ told_by extent rule units
+  pub lacks : lack ≡ lack_by extent units
   -- the units of a byte stream that has ended
   pub all : extent ≡ extents.Whole → (ended ≡ true) × Splits 0 bytes units Zeros
   -- the units before what is no byte stream, however the bytes go on where they have not ended

@@ -19,6 +19,8 @@
 //! answer, which is the verdict on the bytes given, or Memory.
 #![tactic(auto)]
 
+mod buffer;
+mod buffer_units;
 pub mod decoder;
 pub mod device;
 mod filling;
@@ -63,6 +65,7 @@ pub mod whole;
 pub mod y4m_sink;
 pub mod yuv_sink;
 
+pub use buffer::Lack;
 pub use decoder::Decoder;
 pub use device::{Device, WriteDevice};
 pub use form::Form;

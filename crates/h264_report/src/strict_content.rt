@@ -4,10 +4,10 @@
 ghost use Rattle.std.specs.Prelude.{◌≡◌, None, get_or, length, OnOk, OnErr, IfOk, IfErr};
 ghost use Rattle.h264_base.specs.declared.stop.Stop.{Stop};
 ghost use Rattle.h264_report.specs.Strict.{with_places};
-ghost use Rattle.h264_report.specs.StrictContent.{message_bits, content_bits, bits_by_bytes, set_by, set_after};
+ghost use Rattle.h264_report.specs.StrictContent.{message_bits, content_bits, bits_by_bytes, set_by, set_after, times_told};
 ghost use Rattle.h264_report.specs.StrictRules.{place_of};
 
-use crate::sei::{KnownSet, is_sei, message_at};
+use crate::sei::{KnownSet, TimesTold, is_sei, message_at, times_of};
 use crate::strict::{Places, note_in};
 use crate::strict_bytes::{by_rbsp, is_judged, kind_of};
 use crate::strict_rule::{STRICT_RULES, StrictRule, broken_if};
@@ -16,6 +16,15 @@ use h264_rbsp::Rbsp;
 use h264_units::NalUnit;
 use h264_verify::kinds::{SEI, SEQUENCE_SET};
 use std::alloc::Global;
+
+/// What a unit leaves for later ones.
+#[derive(Clone, Copy)]
+pub(crate) struct UnitTold {
+    /// The set that is known after it.
+    pub(crate) set: KnownSet,
+    /// What it says of times.
+    pub(crate) times: TimesTold,
+}
 
 /// Notes each message that is not as its syntax says.
 fn note_messages(found: &mut [Option<Places>; STRICT_RULES], known: &KnownSet, rbsp: &Rbsp)
@@ -59,25 +68,32 @@ fn set_by(known: &KnownSet, nal_unit_type: u8, rbsp: &Rbsp) -> KnownSet
     }
 }
 
-/// Notes what a unit breaks by its bytes, and says which set is known after it. The one error is `Stop::Memory`, after which nothing has changed.
+/// Notes what a unit breaks by its bytes, and says what it leaves for later ones. The one error is `Stop::Memory`, after which nothing has changed.
 pub(crate) fn note_bytes(
     alloc: Global,
     found: &mut [Option<Places>; STRICT_RULES],
     known: &KnownSet,
     unit: &NalUnit,
-) -> Result<KnownSet, Stop>
+) -> Result<UnitTold, Stop>
     ensures noted { OnOk result ((r : StrictRule) → get_or found.new (place_of r) None ≡ with_places (get_or found.old (place_of r) None)
         (bits_by_bytes r known.now unit.now)) }
-    ensures set { IfOk result (λ set. set ≡ set_after known.now unit.now) }
+    ensures set { IfOk result (λ told. told.set ≡ set_after known.now unit.now) }
+    ensures times { IfOk result (λ told. told.times ≡ times_told known.now unit.now) }
     ensures unnoted { OnErr result (found.new ≡ found.old) }
     ensures err { IfErr result (λ e. e ≡ Stop.Memory) }
 {
     let kind = kind_of(unit);
     if !is_judged(kind) {
-        return Ok(*known);
+        return Ok(UnitTold {
+            set: *known,
+            times: TimesTold::new(),
+        });
     }
     let rbsp = Rbsp::of(alloc, unit)?;
     note_in(found, by_rbsp(kind, rbsp.bytes()), 8 * unit.from());
     note_content(found, known, kind, &rbsp);
-    Ok(set_by(known, kind, &rbsp))
+    Ok(UnitTold {
+        set: set_by(known, kind, &rbsp),
+        times: times_of(known, kind, &rbsp),
+    })
 }

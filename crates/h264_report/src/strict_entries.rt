@@ -1,14 +1,14 @@
 //! What each further rule says to a reader: what breaks it, which bit is named, what usually causes it, and an example.
 //!
-//! docs/RULES.md is made of this table by `tools/rules.py`, and each example stands in docs/EXAMPLES.md with a stream.
+//! docs/RULES.md is made of these tables by `tools/rules.py`, and each example stands in docs/EXAMPLES.md with a stream.
 #![tactic(auto)]
 
-ghost use Rattle.std.specs.Prelude.{◌≡◌, IfSome, IfNone};
+ghost use Rattle.std.specs.Prelude.{◌≡◌, ◌<◌, ◌≤◌, IfSome, IfNone};
 ghost use Rattle.h264_report.specs.Entries.{HaveOtherFurtherLabels};
-ghost use Rattle.h264_report.specs.StrictRules.{label_of};
+ghost use Rattle.h264_report.specs.StrictRules.{label_of, place_of};
 ghost use Rattle.h264_report.specs.declared.strict_rule.StrictRule.{StrictRule as StrictRuleView};
 
-use crate::strict_rule::{STRICT_RULES, StrictRule};
+use crate::strict_rule::StrictRule;
 
 /// What is said of a further rule.
 #[derive(Clone, Copy)]
@@ -24,8 +24,14 @@ pub struct StrictEntry {
     pub example: &'static str,
 }
 
-/// Every further rule, by its place.
-const ENTRIES: [StrictEntry; STRICT_RULES] = [
+/// How many further rules come before those on the coded picture buffer.
+const EARLY_RULES: usize = 38;
+
+/// How many rules on the coded picture buffer there are.
+const BUFFER_RULES: usize = 5;
+
+/// Each rule before those on the coded picture buffer, by its place.
+const ENTRIES: [StrictEntry; EARLY_RULES] = [
     StrictEntry {
         rule: StrictRule::ReservedBits,
         breaks: "reserved_zero_2bits is not 0.",
@@ -312,6 +318,53 @@ const ENTRIES: [StrictEntry; STRICT_RULES] = [
     },
 ];
 
+/// Each rule on the coded picture buffer, by its place.
+const BUFFER_ENTRIES: [StrictEntry; BUFFER_RULES] = [
+    StrictEntry {
+        rule: StrictRule::BufferUnderflow,
+        breaks: "low_delay_hrd_flag is 0, and an access unit is removed from the coded picture buffer before all of it has arrived. That is with SchedSelIdx 0 \
+            of the NAL or the VCL HRD parameters.",
+        bit: "The first bit of the first unit of the access unit.",
+        cause: "A picture is larger than the rate control planned for, or bytes were added after the encoder. Or bit_rate_value_minus1 or the initial delay \
+            is too small.",
+        example: "a picture that is removed 90 ms after the first bit of the stream came, and has arrived after 97.5 ms",
+    },
+    StrictEntry {
+        rule: StrictRule::InitialDelay,
+        breaks: "initial_cpb_removal_delay of a buffering period after the first is above the time from the arrival of the access unit before to the removal \
+            of its own, rounded up; or with cbr_flag 1 below that time, rounded down. That is with SchedSelIdx 0 of the NAL or the VCL HRD parameters.",
+        bit: "The first bit of the first unit of the access unit that begins the buffering period.",
+        cause: "Streams were joined, or bytes were left out or added after the encoder, and each buffering period still tells the fullness that its \
+            encoder saw.",
+        example: "a second initial_cpb_removal_delay of 7200, where the time from the last arrival on is 3825",
+    },
+    StrictEntry {
+        rule: StrictRule::BufferOverflow,
+        breaks: "The coded picture buffer holds more than CpbSize bits: those of access units that have arrived and are not removed, and what has come of the \
+            next. That is with SchedSelIdx 0 of the NAL or the VCL HRD parameters. It is not judged from where more than 256 access units stand in the buffer at once.",
+        bit: "The first bit of the first unit of the access unit that arrives then.",
+        cause: "The encoder was given a larger buffer than cpb_size_value_minus1 tells. Or its rate is constant, and filler data are missing.",
+        example: "four pictures of 136 bits in a buffer of 512 bits, from which none of them is removed yet",
+    },
+    StrictEntry {
+        rule: StrictRule::MinCompression,
+        breaks: "The units of an access unit's slices have more bytes than 384 * MaxMBPS / MinCR times the seconds since the access unit before was removed \
+            from the coded picture buffer. Of the first one they have more than 384 * PicSizeInMbs / MinCR and more than 384 * MaxMBPS / 172 / MinCR. The times are of \
+            SchedSelIdx 0 of the NAL or the VCL HRD parameters.",
+        bit: "The first bit of the first unit of the access unit.",
+        cause: "Pictures are coded at the best quality, or as I_PCM macroblocks, at a high frame rate. A level with a greater MaxMBPS allows more bytes.",
+        example: "a slice of 4 bytes, 1/100000 of a second after the one before",
+    },
+    StrictEntry {
+        rule: StrictRule::RemovalRate,
+        breaks: "An access unit is removed from the coded picture buffer less than PicSizeInMbs / MaxMBPS seconds after the one before, or less than 1/172 of a \
+            second. PicSizeInMbs and MaxMBPS are those of the one before, and the times are of SchedSelIdx 0 of the NAL or the VCL HRD parameters.",
+        bit: "The first bit of the first unit of the access unit.",
+        cause: "level_idc is too low for the frame rate. Or cpb_removal_delay counts ticks that are not those of num_units_in_tick and time_scale.",
+        example: "a picture that is removed 5 ms after the one before",
+    },
+];
+
 /// The first of these entries whose rule has this label.
 #[tactic(auto, using(crate::proofs::Entries::one_more_further))]
 fn find_further(entries: &[StrictEntry], label: &str) -> Option<StrictEntry>
@@ -326,10 +379,29 @@ fn find_further(entries: &[StrictEntry], label: &str) -> Option<StrictEntry>
     None
 }
 
+/// What is said of the further rule with this label, among those before the rules on the coded picture buffer.
+fn early_by_label(label: &str) -> Option<StrictEntry>
+    ensures is { IfSome result (λ e. label_of e.rule ≡ label.now) }
+    ensures none { IfNone result ((rule : StrictRuleView) → place_of rule < EARLY_RULES → label_of rule ≡ label.now → ⊥) }
+{
+    find_further(&ENTRIES, label)
+}
+
+/// What is said of the further rule with this label, among the rules on the coded picture buffer.
+fn buffer_by_label(label: &str) -> Option<StrictEntry>
+    ensures is { IfSome result (λ e. label_of e.rule ≡ label.now) }
+    ensures none { IfNone result ((rule : StrictRuleView) → EARLY_RULES ≤ place_of rule → label_of rule ≡ label.now → ⊥) }
+{
+    find_further(&BUFFER_ENTRIES, label)
+}
+
 /// What is said of the further rule with this label; none where no further rule has it.
 pub fn strict_by_label(label: &str) -> Option<StrictEntry>
     ensures is { IfSome result (λ e. label_of e.rule ≡ label.now) }
     ensures none { IfNone result ((rule : StrictRuleView) → label_of rule ≡ label.now → ⊥) }
 {
-    find_further(&ENTRIES, label)
+    match early_by_label(label) {
+        Some(entry) => Some(entry),
+        None => buffer_by_label(label),
+    }
 }

@@ -40,7 +40,7 @@ fn judge_inside<'a, K: Inside, R: Source, S: FrameSink>(
         Judged (terms_of mode target) S.took S.failures bytes frames [] sink.old sink.new result.1.answer }
     ensures units { (bytes : List ℕ) × (ended : Bool) × AreFirst (R.left lent.entry.source.now) bytes ended × OnOk result.1.answer (ended ≡ true)
         × ((frames : ℕ → Frame) → Judged (terms_of mode target) S.took S.failures bytes frames [] sink.old sink.new result.1.answer)
-        × TellsOfBytes result.1.units.extent ended result.1.units.found bytes }
+        × TellsOfBytes result.1.units.extent ended result.1.units.found result.1.units.lack bytes }
     ensures read { IsErrOf result.1.answer Stop.Read → (R.failures result.0.source.now ≡ R.failures lent.entry.source.now + 1)
         ⊎ ((n : ℕ) → R.was_read lent.entry.source.now n → R.was_read result.0.source.now (n + 2 ^ 41)) }
     ensures read_told { (R.failures result.0.source.now ≡ R.failures lent.entry.source.now) ⊎ IsErrOf result.1.answer Stop.Read }
@@ -70,7 +70,7 @@ pub fn judge_strictly<R: Source, S: FrameSink>(
     // The answer and what is told of units are on the same bytes, which are the first of the source's; and a yes comes after its end.
     ensures units { (bytes : List ℕ) × (ended : Bool) × AreFirst (R.left source.old) bytes ended × OnOk result.answer (ended ≡ true)
         × ((frames : ℕ → Frame) → Judged (terms_of mode target) S.took S.failures bytes frames [] sink.old sink.new result.answer)
-        × TellsOfBytes result.units.extent ended result.units.found bytes }
+        × TellsOfBytes result.units.extent ended result.units.found result.units.lack bytes }
     ensures read { IsErrOf result.answer Stop.Read → (R.failures source.new ≡ R.failures source.old + 1)
         ⊎ ((n : ℕ) → R.was_read source.old n → R.was_read source.new (n + 2 ^ 41)) }
     // A read that failed is told as Read.

@@ -2,7 +2,7 @@
 #![tactic(auto)]
 
 ghost use Rattle.std.specs.Prelude.{◌≡◌, Some};
-ghost use Rattle.h264_report.specs.StrictLevels.{max_mbps, bit_limits, max_vectors};
+ghost use Rattle.h264_report.specs.StrictLevels.{max_mbps, bit_limits, min_cr, max_vectors};
 
 /// What a level allows of bit rates and of coded picture buffers: in 1,000 bits of VCL HRD parameters, and in 1,200 of NAL HRD parameters.
 #[derive(Clone, Copy)]
@@ -67,6 +67,17 @@ pub fn bit_limits(level_idc: u64, constraint_set3_flag: bool) -> Option<BitLimit
         50 => limits(135000, 135000),
         51 | 52 => limits(240000, 240000),
         _ => None,
+    }
+}
+
+/// MinCR.
+pub fn min_cr(level_idc: u64) -> u64
+    ensures { result ≡ min_cr level_idc }
+{
+    if level_idc == 31 || level_idc == 32 || level_idc == 40 {
+        4
+    } else {
+        2
     }
 }
 

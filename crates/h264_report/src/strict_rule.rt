@@ -83,6 +83,16 @@ pub enum StrictRule {
     DelimiterType,
     /// A message of SEI is as its syntax says, with values in their ranges (D.1, D.2).
     SeiContent,
+    /// An access unit has arrived when it is removed from the coded picture buffer (C.3).
+    BufferUnderflow,
+    /// initial_cpb_removal_delay is the time from the last arrival to the removal (C.3).
+    InitialDelay,
+    /// The coded picture buffer never holds more than CpbSize bits (C.3).
+    BufferOverflow,
+    /// The slices of an access unit have no more bytes than MinCR allows in the time since the one before was removed (A.3.1).
+    MinCompression,
+    /// An access unit is removed no sooner after the one before than MaxMBPS asks for, nor than 1/172 of a second (A.3.1).
+    RemovalRate,
 }
 
 /// Every rule, by its place.
@@ -125,10 +135,15 @@ pub const EVERY_STRICT_RULE: [StrictRule; STRICT_RULES] = [
     StrictRule::ZeroByte,
     StrictRule::DelimiterType,
     StrictRule::SeiContent,
+    StrictRule::BufferUnderflow,
+    StrictRule::InitialDelay,
+    StrictRule::BufferOverflow,
+    StrictRule::MinCompression,
+    StrictRule::RemovalRate,
 ];
 
 /// How many rules there are.
-pub const STRICT_RULES: usize = 38;
+pub const STRICT_RULES: usize = 43;
 
 impl StrictRule {
     /// Its place among them, from 0.
@@ -176,6 +191,11 @@ impl StrictRule {
             StrictRule::ZeroByte => 35,
             StrictRule::DelimiterType => 36,
             StrictRule::SeiContent => 37,
+            StrictRule::BufferUnderflow => 38,
+            StrictRule::InitialDelay => 39,
+            StrictRule::BufferOverflow => 40,
+            StrictRule::MinCompression => 41,
+            StrictRule::RemovalRate => 42,
         }
     }
 
@@ -223,6 +243,11 @@ impl StrictRule {
             StrictRule::ZeroByte => "ZeroByte",
             StrictRule::DelimiterType => "DelimiterType",
             StrictRule::SeiContent => "SeiContent",
+            StrictRule::BufferUnderflow => "BufferUnderflow",
+            StrictRule::InitialDelay => "InitialDelay",
+            StrictRule::BufferOverflow => "BufferOverflow",
+            StrictRule::MinCompression => "MinCompression",
+            StrictRule::RemovalRate => "RemovalRate",
         }
     }
 
@@ -270,6 +295,11 @@ impl StrictRule {
             StrictRule::ZeroByte => "B.1.2",
             StrictRule::DelimiterType => "7.4.2.4",
             StrictRule::SeiContent => "D.1",
+            StrictRule::BufferUnderflow => "C.3",
+            StrictRule::InitialDelay => "C.3",
+            StrictRule::BufferOverflow => "C.3",
+            StrictRule::MinCompression => "A.3.1",
+            StrictRule::RemovalRate => "A.3.1",
         }
     }
 }

@@ -60,7 +60,7 @@ impl<'a, R: Source, K: Inside> UnitSource<'a, R, K> {
         ensures source { result.0.source.now ≡ self.entry.source.now }
         ensures name { result.0.source.ghost_name ≡ self.entry.source.ghost_name }
         ensures units { (bytes : List ℕ) → TookBytes self.entry.units.splitter self.entry.units.extent self.entry.units.noted bytes →
-            TellsOfBytes result.1.extent self.entry.has_ended result.1.found bytes }
+            TellsOfBytes result.1.extent self.entry.has_ended result.1.found result.1.lack bytes }
     {
         let UnitSource {
             source,

@@ -3,11 +3,13 @@
 
 ghost use Rattle.std.specs.Prelude.{◌≡◌};
 ghost use Rattle.h264_report.specs.Strict.{begins_access_unit};
-ghost use Rattle.h264_report.specs.StrictContent.{set_after};
+ghost use Rattle.h264_report.specs.StrictContent.{set_after, times_told};
 ghost use Rattle.h264_report.specs.StrictStarts.{no_units, is_slice, first_byte, begins_picture, is_first, needs_zero_byte, has_zero_byte, lacks_zero_byte};
-ghost use Rattle.h264_report.specs.StrictStarts.{told_pic_type, pic_type_after, is_left_out, breaks_pic_type, after_unit, by_zero_byte, by_pic_type};
+ghost use Rattle.h264_report.specs.StrictStarts.{told_pic_type, pic_type_after, is_left_out, breaks_pic_type};
+ghost use Rattle.h264_report.specs.StrictStarts.{came_after, ended_last, after_unit, by_zero_byte, by_pic_type};
 
-use crate::sei::KnownSet;
+use crate::buffer_units::{Buffer, Came, Ended};
+use crate::sei::{KnownSet, TimesTold};
 use crate::strict::Places;
 use crate::strict_bytes::kind_of;
 use crate::strict_rule::{STRICT_RULES, StrictRule, broken_if};
@@ -28,6 +30,8 @@ pub struct UnitsBefore {
     pub pic_type: u8,
     /// The sequence parameter set that messages need.
     pub set: KnownSet,
+    /// The coded picture buffer.
+    pub buffer: Buffer,
 }
 
 /// What a reader of units noted so far.
@@ -102,6 +106,7 @@ impl UnitsBefore {
             begun: false,
             pic_type: EVERY_SLICE,
             set: KnownSet::NotYet,
+            buffer: Buffer::new(),
         }
     }
 
@@ -164,9 +169,27 @@ impl UnitsBefore {
         )
     }
 
-    /// With one more unit, and the set that is known after it.
-    pub(crate) fn after(self, unit: &NalUnit, set: KnownSet) -> UnitsBefore
-        requires { set ≡ set_after self.set unit.now }
+    /// What a unit is to the coded picture buffer, which says this of times.
+    pub(crate) fn came(self, unit: &NalUnit, times: TimesTold) -> Came
+        requires { times ≡ times_told self.set unit.now }
+        ensures { result ≡ came_after self unit.now }
+    {
+        let is_first = self.is_first(kind_of(unit), unit.body());
+        self.buffer
+            .came(&self.set, self.past, is_first, unit, times)
+    }
+
+    /// The access unit that the end of the input ends.
+    pub(crate) fn ended(self) -> Option<Ended>
+        ensures { result ≡ ended_last self }
+    {
+        self.buffer.ended(&self.set, self.past)
+    }
+
+    /// With one more unit, the set that is known after it, and the coded picture buffer.
+    pub(crate) fn after(self, unit: &NalUnit, set: KnownSet, buffer: Buffer) -> UnitsBefore
+        requires set { set ≡ set_after self.set unit.now }
+        requires buffer { buffer ≡ (came_after self unit.now).buffer }
         ensures { result ≡ after_unit self unit.now }
     {
         let kind = kind_of(unit);
@@ -176,6 +199,7 @@ impl UnitsBefore {
             begun: begins_access_unit(kind) || self.begun && !is_slice(kind),
             pic_type: self.pic_type_after(kind, body),
             set,
+            buffer,
         }
     }
 }

@@ -3,10 +3,15 @@
 
 ghost use Rattle.std.specs.Prelude.{◌≡◌, ℕ, ◌+◌, ◌*◌, ◌≤◌, ◌<◌, ◌++◌, true, false, List, [], length, take, None, IsFalse, IfOk, IfErr, OnOk, OnErr};
 ghost use Rattle.h264_base.specs.declared.stop.Stop.{Stop};
-ghost use Rattle.h264_report.specs.StrictStarts.{NotesUnit, noted_in};
+ghost use Rattle.h264_report.specs.BufferUnits.{ended_bits};
+ghost use Rattle.h264_report.specs.Strict.{with_places};
+ghost use Rattle.h264_report.specs.StrictStarts.{NotesUnit, ended_last, lack_at_end, noted_in};
+ghost use Rattle.h264_report.specs.declared.strict_rule.StrictRule.{StrictRule as Rule};
 ghost use Rattle.h264_report.specs.StrictUnits.{TookBytes, TellsOfBytes};
 ghost use Rattle.h264_report.specs.declared.strict_extent.Extent.TheVariants.{Whole};
 
+use crate::buffer::Lack;
+use crate::buffer_units::note_ended;
 use crate::sei::after;
 use crate::strict::{Places, note_in};
 use crate::strict_content::note_bytes;
@@ -35,6 +40,8 @@ pub struct UnitsRead {
     pub found: [Option<Places>; STRICT_RULES],
     /// How far the units were looked at.
     pub extent: Extent,
+    /// Why the coded picture buffer is not followed to the end, if it is not.
+    pub lack: Option<Lack>,
 }
 
 impl UnitsRead {
@@ -52,14 +59,32 @@ fn note_unit(alloc: Global, noted: &mut UnitsNoted, unit: &NalUnit) -> Result<()
     ensures unnoted { OnErr result (noted.new ≡ noted.old) }
     ensures err { IfErr result (λ e. e ≡ Stop.Memory) }
 {
-    let set = note_bytes(alloc, &mut noted.found, &noted.before.set, unit)?;
+    let told = note_bytes(alloc, &mut noted.found, &noted.before.set, unit)?;
     let zero_byte = noted.before.by_zero_byte(unit);
     let pic_type = noted.before.by_pic_type(unit);
     let bit = 8 * unit.from();
     note_in(&mut noted.found, zero_byte, bit);
     note_in(&mut noted.found, pic_type, bit);
-    noted.before = noted.before.after(unit, set);
+    let came = noted.before.came(unit, told.times);
+    note_ended(&mut noted.found, came.ended);
+    noted.before = noted.before.after(unit, told.set, came.buffer);
     Ok(())
+}
+
+/// What was found where each unit was noted, and the last access unit has ended.
+fn read_whole(noted: UnitsNoted) -> UnitsRead
+    ensures extent { result.extent ≡ Whole }
+    ensures lack { result.lack ≡ lack_at_end noted.before }
+    ensures found { (rule : Rule) → noted_in result.found rule ≡ with_places (noted_in noted.found rule) (ended_bits rule (ended_last noted.before)) }
+{
+    let mut found = noted.found;
+    let ended = noted.before.ended();
+    note_ended(&mut found, ended);
+    UnitsRead {
+        found,
+        extent: Extent::Whole,
+        lack: noted.before.buffer.watches_after(ended).lack(),
+    }
 }
 
 impl UnitReader {
@@ -118,24 +143,31 @@ impl UnitReader {
 
     /// What was found so far, where the bytes may go on. The last unit may go on too, and is not looked at.
     pub fn break_off(self) -> UnitsRead
-        ensures { (bytes : List ℕ) → TookBytes self.splitter self.extent self.noted bytes → TellsOfBytes result.extent false result.found bytes }
+        ensures { (bytes : List ℕ) → TookBytes self.splitter self.extent self.noted bytes → TellsOfBytes result.extent false result.found result.lack bytes }
     {
+        let lack = self.noted.before.buffer.watches.lack();
         let found = self.noted.found;
         UnitsRead {
             found,
             extent: self.extent.cut_off(),
+            lack,
         }
     }
 
     /// Looks at the last unit: no more bytes come.
     pub fn finish(mut self) -> UnitsRead
-        ensures { (bytes : List ℕ) → TookBytes self.splitter self.extent self.noted bytes → TellsOfBytes result.extent true result.found bytes }
+        ensures { (bytes : List ℕ) → TookBytes self.splitter self.extent self.noted bytes → TellsOfBytes result.extent true result.found result.lack bytes }
     {
         let mut noted = self.noted;
         let found = noted.found;
         let extent = self.extent;
+        let lack = noted.before.buffer.watches.lack();
         if !extent.is_whole() {
-            return UnitsRead { found, extent };
+            return UnitsRead {
+                found,
+                extent,
+                lack,
+            };
         }
         match self.splitter.finish() {
             Ok(()) => {}
@@ -143,22 +175,20 @@ impl UnitReader {
                 return UnitsRead {
                     found,
                     extent: extent_after(stop),
+                    lack,
                 };
             }
         }
         match self.splitter.take_unit() {
-            None => UnitsRead {
-                found,
-                extent: Extent::Whole,
+            None => read_whole(noted),
+            Some(unit) => match note_unit(self.alloc, &mut noted, &unit) {
+                Ok(()) => read_whole(noted),
+                Err(_) => UnitsRead {
+                    found: noted.found,
+                    extent: Extent::Memory,
+                    lack,
+                },
             },
-            Some(unit) => {
-                let looked = note_unit(self.alloc, &mut noted, &unit);
-                let found = noted.found;
-                UnitsRead {
-                    found,
-                    extent: extent_of(looked),
-                }
-            }
         }
     }
 }

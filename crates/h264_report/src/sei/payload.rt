@@ -15,10 +15,10 @@ use h264_bits::Bits;
 use h264_rbsp::Rbsp;
 
 /// payloadType of buffering_period().
-const BUFFERING_PERIOD: usize = 0;
+pub(crate) const BUFFERING_PERIOD: usize = 0;
 
 /// payloadType of pic_timing().
-const PIC_TIMING: usize = 1;
+pub(crate) const PIC_TIMING: usize = 1;
 
 /// payloadType of filler_payload().
 const FILLER_PAYLOAD: usize = 3;
@@ -35,6 +35,9 @@ const UUID: usize = 16;
 /// A message of SEI.
 #[derive(Clone, Copy)]
 pub struct Message {
+    pub payload_type: usize,
+    /// The byte of the RBSP where its payload begins.
+    pub from: usize,
     /// The byte of the RBSP after its last.
     pub end: usize,
     /// Whether it is as its syntax says, or not judged.
@@ -70,8 +73,14 @@ fn content_by(bits: &mut Bits, known: &KnownSet, payload_type: usize) -> Option<
     ensures body { bits.new.body ≡ bits.old.body }
 {
     match known {
-        KnownSet::One(set) if payload_type == BUFFERING_PERIOD => buffering_period(bits, set),
-        KnownSet::One(set) if payload_type == PIC_TIMING => pic_timing(bits, set),
+        KnownSet::One(set) if payload_type == BUFFERING_PERIOD => {
+            buffering_period(bits, set)?;
+            Some(())
+        }
+        KnownSet::One(set) if payload_type == PIC_TIMING => {
+            pic_timing(bits, set)?;
+            Some(())
+        }
         _ => content(bits, payload_type),
     }
 }
@@ -182,12 +191,16 @@ pub fn message_at(known: &KnownSet, rbsp: &Rbsp, at: usize) -> Option<Message>
     requires { at ≤ length rbsp.now.bytes }
     ensures value { result ≡ message_at known.now rbsp.now.bytes at }
     ensures within { IfSome result (λ m. m.end ≤ length rbsp.now.bytes) }
+    ensures inside { IfSome result (λ m. m.from ≤ length rbsp.now.bytes) }
 {
     let bytes = after(rbsp.bytes(), at);
     let end = at + message_length(bytes)?;
     let from = at + payload_start(bytes);
+    let payload_type = payload_value(bytes);
     Some(Message {
+        payload_type,
+        from,
         end,
-        holds: holds(known, payload_value(bytes), rbsp, from, end),
+        holds: holds(known, payload_type, rbsp, from, end),
     })
 }

@@ -1,7 +1,7 @@
 //! Messages that need a sequence parameter set: buffering_period() and pic_timing() (D.1, D.2), and the set that they need.
 #![tactic(auto)]
 
-ghost use Rattle.std.specs.Prelude.{◌≡◌, ◌≤◌, ◌^◌, min};
+ghost use Rattle.std.specs.Prelude.{◌≡◌, ◌-◌, ◌≤◌, ◌^◌, min};
 ghost use Rattle.h264_report.specs.SeiPart.{read_so, times};
 ghost use Rattle.h264_report.specs.SeiTiming as say;
 
@@ -32,6 +32,20 @@ pub enum KnownSet {
     One(Sps),
     /// Some have another, or could not be read.
     Unknown,
+}
+
+/// initial_cpb_removal_delay and initial_cpb_removal_delay_offset of a schedule, in ticks of 90 kHz.
+#[derive(Clone, Copy)]
+pub struct InitialDelay {
+    pub delay: u32,
+    pub offset: u32,
+}
+
+/// What a buffering_period() says of the schedules with SchedSelIdx 0, as far as there are HRD parameters.
+#[derive(Clone, Copy)]
+pub struct FirstDelays {
+    pub nal: Option<InitialDelay>,
+    pub vcl: Option<InitialDelay>,
 }
 
 /// Passes over all that it is told.
@@ -83,7 +97,7 @@ fn five_bits(n: u32) -> u32
 }
 
 /// The NAL HRD parameters of a set.
-fn nal_of(set: &Sps) -> Option<Hrd>
+pub(crate) fn nal_of(set: &Sps) -> Option<Hrd>
     ensures { result ≡ say.nal_of set.now.vui }
 {
     match set.vui {
@@ -93,7 +107,7 @@ fn nal_of(set: &Sps) -> Option<Hrd>
 }
 
 /// The VCL HRD parameters of a set.
-fn vcl_of(set: &Sps) -> Option<Hrd>
+pub(crate) fn vcl_of(set: &Sps) -> Option<Hrd>
     ensures { result ≡ say.vcl_of set.now.vui }
 {
     match set.vui {
@@ -157,35 +171,62 @@ fn scaled(exponent: u32, scale: u32, value_minus1: u32) -> u64
     (value_minus1 as u64 + 1) * unit
 }
 
+/// BitRate of a schedule, in bits a second.
+pub(crate) fn bit_rate(hrd: &Hrd, cpb: &Cpb) -> u64
+    ensures value { result ≡ say.bit_rate hrd.now cpb.now }
+    ensures bound { result ≤ 2 ^ 53 }
+{
+    scaled(6, hrd.bit_rate_scale, cpb.bit_rate_value_minus1)
+}
+
+/// CpbSize of a schedule, in bits.
+pub(crate) fn cpb_size(hrd: &Hrd, cpb: &Cpb) -> u64
+    ensures value { result ≡ say.cpb_size hrd.now cpb.now }
+    ensures bound { result ≤ 2 ^ 53 }
+{
+    scaled(4, hrd.cpb_size_scale, cpb.cpb_size_value_minus1)
+}
+
 /// Whether a delay is not 0, and at most the time in which the buffer of the schedule fills.
 fn is_delay(hrd: &Hrd, cpb: &Cpb, delay: u32) -> bool
     ensures { result ≡ say.is_delay hrd.now cpb.now delay }
 {
-    let rate = scaled(6, hrd.bit_rate_scale, cpb.bit_rate_value_minus1);
-    let size = scaled(4, hrd.cpb_size_scale, cpb.cpb_size_value_minus1);
+    let rate = bit_rate(hrd, cpb);
+    let size = cpb_size(hrd, cpb);
     delay != 0 && delay as u128 * rate as u128 <= CLOCK * size as u128
 }
 
 /// initial_cpb_removal_delay and initial_cpb_removal_delay_offset of a schedule.
-fn initial_delay(bits: &mut Bits, hrd: &Hrd, cpb: &Cpb) -> Option<()>
+fn initial_delay(bits: &mut Bits, hrd: &Hrd, cpb: &Cpb) -> Option<InitialDelay>
     ensures read { read_so result bits.new.at ≡ say.initial_delay hrd.now cpb.now bits.old.body.bytes bits.old.at }
     ensures body { bits.new.body ≡ bits.old.body }
 {
     let length = five_bits(hrd.initial_cpb_removal_delay_length_minus1) + 1;
-    let initial_cpb_removal_delay = u(bits, length)?;
-    must(is_delay(hrd, cpb, initial_cpb_removal_delay))?;
-    any(bits, length)
+    let delay = u(bits, length)?;
+    must(is_delay(hrd, cpb, delay))?;
+    let offset = u(bits, length)?;
+    Some(InitialDelay { delay, offset })
 }
 
-/// The initial delays of each schedule.
-fn delays_of(bits: &mut Bits, hrd: &Hrd) -> Option<()>
-    ensures read { read_so result bits.new.at ≡ say.delays_from hrd.now (min hrd.now.cpbs.count 32) 0 bits.old.body.bytes bits.old.at }
+/// The initial delays of each schedule after the first.
+fn later_delays(bits: &mut Bits, hrd: &Hrd) -> Option<()>
+    ensures read { read_so result bits.new.at ≡ say.delays_from hrd.now (min hrd.now.cpbs.count 32 - 1) 1 bits.old.body.bytes bits.old.at }
     ensures body { bits.new.body ≡ bits.old.body }
 {
-    for i in 0..hrd.cpbs.count.min(MOST_SCHEDULES) as usize {
+    for i in 1..hrd.cpbs.count.min(MOST_SCHEDULES) as usize {
         initial_delay(bits, hrd, &hrd.cpbs.entries[i])?;
     }
     Some(())
+}
+
+/// The initial delays of each schedule: those of the first one.
+fn delays_of(bits: &mut Bits, hrd: &Hrd) -> Option<InitialDelay>
+    ensures read { read_so result bits.new.at ≡ say.delays_of hrd.now bits.old.body.bytes bits.old.at }
+    ensures body { bits.new.body ≡ bits.old.body }
+{
+    let first = initial_delay(bits, hrd, &hrd.cpbs.entries[0])?;
+    later_delays(bits, hrd)?;
+    Some(first)
 }
 
 /// hours_flag, and hours_value where it is 1.
@@ -276,39 +317,44 @@ fn clock_timestamp(bits: &mut Bits, offset: u32) -> Option<()>
     Some(())
 }
 
-/// The initial delays of each schedule of HRD parameters, where they are there.
-fn initial_delays(bits: &mut Bits, hrd: Option<Hrd>) -> Option<()>
+/// The initial delays of each schedule of HRD parameters, where they are there: those of the first one.
+fn initial_delays(bits: &mut Bits, hrd: Option<Hrd>) -> Option<Option<InitialDelay>>
     ensures read { read_so result bits.new.at ≡ say.initial_delays hrd bits.old.body.bytes bits.old.at }
     ensures body { bits.new.body ≡ bits.old.body }
 {
     match hrd {
-        Some(hrd) => delays_of(bits, &hrd),
-        None => Some(()),
+        Some(hrd) => {
+            let first = delays_of(bits, &hrd)?;
+            Some(Some(first))
+        }
+        None => Some(None),
     }
 }
 
 /// buffering_period().
-pub(crate) fn buffering_period(bits: &mut Bits, set: &Sps) -> Option<()>
+pub(crate) fn buffering_period(bits: &mut Bits, set: &Sps) -> Option<FirstDelays>
     ensures read { read_so result bits.new.at ≡ say.buffering_period set.now bits.old.body.bytes bits.old.at }
     ensures body { bits.new.body ≡ bits.old.body }
 {
     let seq_parameter_set_id = ue(bits)?;
     must(seq_parameter_set_id == set.seq_parameter_set_id)?;
-    initial_delays(bits, nal_of(set))?;
-    initial_delays(bits, vcl_of(set))
+    let nal = initial_delays(bits, nal_of(set))?;
+    let vcl = initial_delays(bits, vcl_of(set))?;
+    Some(FirstDelays { nal, vcl })
 }
 
-/// cpb_removal_delay and dpb_output_delay, where there are HRD parameters.
-fn delays(bits: &mut Bits, hrd: Option<Hrd>) -> Option<()>
+/// cpb_removal_delay, and dpb_output_delay, where there are HRD parameters.
+fn delays(bits: &mut Bits, hrd: Option<Hrd>) -> Option<Option<u32>>
     ensures read { read_so result bits.new.at ≡ say.delays hrd bits.old.body.bytes bits.old.at }
     ensures body { bits.new.body ≡ bits.old.body }
 {
     match hrd {
         Some(hrd) => {
-            u(bits, five_bits(hrd.cpb_removal_delay_length_minus1) + 1)?;
-            any(bits, five_bits(hrd.dpb_output_delay_length_minus1) + 1)
+            let removal = u(bits, five_bits(hrd.cpb_removal_delay_length_minus1) + 1)?;
+            any(bits, five_bits(hrd.dpb_output_delay_length_minus1) + 1)?;
+            Some(Some(removal))
         }
-        None => Some(()),
+        None => Some(None),
     }
 }
 
@@ -334,15 +380,15 @@ fn structure(bits: &mut Bits, offset: u32) -> Option<()>
     so_many_timestamps(bits, offset, num_clock_ts(pic_struct))
 }
 
-/// pic_timing().
-pub(crate) fn pic_timing(bits: &mut Bits, set: &Sps) -> Option<()>
+/// pic_timing(): its cpb_removal_delay.
+pub(crate) fn pic_timing(bits: &mut Bits, set: &Sps) -> Option<Option<u32>>
     ensures read { read_so result bits.new.at ≡ say.pic_timing set.now bits.old.body.bytes bits.old.at }
     ensures body { bits.new.body ≡ bits.old.body }
 {
     let hrd = hrd_of(set);
-    delays(bits, hrd)?;
+    let removal = delays(bits, hrd)?;
     if has_pic_struct(set) {
-        return structure(bits, offset_length(hrd));
+        structure(bits, offset_length(hrd))?;
     }
-    Some(())
+    Some(removal)
 }

@@ -2,8 +2,9 @@ use Rattle.std.proofs.Common.{◌*◌, sym, ap, ap₂, ◌∙◌}
 use Rattle.h264_base.specs.Body.{Body}
 use Rattle.h264_rbsp.specs.Rbsp.{body_of}
 use Rattle.h264_report.specs.StrictBytes.{by_rbsp}
+use Rattle.h264_report.specs.SeiTimes.{times_of}
 use Rattle.h264_report.specs.StrictContent.{set_by}
-use Rattle.h264_report.proofs.Contents.{unjudged, unjudged-set, bytes-noted, none-noted}
+use Rattle.h264_report.proofs.Contents.{unjudged, unjudged-set, unjudged-times, bytes-noted, none-noted}
 use Rattle.h264_report.proofs.strict_content.note_bytes.Goals as goal
 
 pub returns-then-not-is_judged-clause-noted : goal.returns-then-not-is_judged-clause-noted
@@ -24,3 +25,10 @@ returns-then-not-is_judged-clause-set c = unjudged-set c.args.known.now c.args.u
 
 pub returns-clause-set : goal.returns-clause-set
 returns-clause-set c = c.set_by.ensures ∙ ap₂ (λ kind body. set_by c.args.known.now kind body) c.kind_of-kind.ensures c.in_ok-rbsp.ensures.ok
+
+pub returns-then-not-is_judged-clause-times : goal.returns-then-not-is_judged-clause-times
+returns-then-not-is_judged-clause-times c =
+    c.new.ensures ∙ unjudged-times c.args.known.now c.args.unit.now c.kind_of-kind.result c.kind_of-kind.ensures (sym c.is_judged.ensures ∙ c.if-not-is_judged.true)
+
+pub returns-clause-times : goal.returns-clause-times
+returns-clause-times c = c.times_of.ensures ∙ ap₂ (λ kind (body : Body). times_of c.args.known.now kind body.bytes) c.kind_of-kind.ensures c.in_ok-rbsp.ensures.ok

@@ -2,7 +2,7 @@ use Rattle.std.proofs.Common.{rules, ◌+◌, ◌-◌, ◌<◌, ◌≤◌, min, 
 use Rattle.h264_base.specs.Body.{Body}
 use Rattle.h264_report.specs.SeiTiming.{delays_from}
 use Rattle.h264_report.proofs.SeiDelays.{delays-next, delays-stop, delays-over}
-use Rattle.h264_report.proofs.sei.timing.delays_of.Goals as goal
+use Rattle.h264_report.proofs.sei.timing.later_delays.Goals as goal
 
 pub returns-in_err-initial_delay-clause-read : goal.returns-in_err-initial_delay-clause-read
 returns-in_err-initial_delay-clause-read c =
@@ -19,7 +19,7 @@ loop-i-preserved c =
     let few : c.loop-i.i < n = (let t = c.loop-i-test.true in let m = c.min-i-end.ensures in omega arith) in
     record {
       rest = c.loop-i.invariant.rest
-          ∙ delays-next hrd n c.loop-i.i c.loop-i.bits.body.bytes c.loop-i.bits.at c.initial_delay.new.bits.at few c.in_ok-initial_delay.ensures.read
+          ∙ delays-next hrd n c.loop-i.i c.loop-i.bits.body.bytes c.loop-i.bits.at c.initial_delay.new.bits.at _ few c.in_ok-initial_delay.ensures.read
           ∙ ap (λ (b : Body). delays_from hrd (n - (c.loop-i.i + 1)) (c.loop-i.i + 1) b.bytes c.initial_delay.new.bits.at) (sym c.in_ok-initial_delay.ensures.body);
       body = c.in_ok-initial_delay.ensures.body ∙ c.loop-i.invariant.body;
     }
