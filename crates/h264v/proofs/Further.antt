@@ -69,6 +69,11 @@ each P all rules.FillerBytes = all 34 rules.FillerBytes (omega arith)
 each P all rules.ZeroByte = all 35 rules.ZeroByte (omega arith)
 each P all rules.DelimiterType = all 36 rules.DelimiterType (omega arith)
 each P all rules.SeiContent = all 37 rules.SeiContent (omega arith)
+each P all rules.BufferUnderflow = all 38 rules.BufferUnderflow (omega arith)
+each P all rules.InitialDelay = all 39 rules.InitialDelay (omega arith)
+each P all rules.BufferOverflow = all 40 rules.BufferOverflow (omega arith)
+each P all rules.MinCompression = all 41 rules.MinCompression (omega arith)
+each P all rules.RemovalRate = all 42 rules.RemovalRate (omega arith)
 
 -- what holds of the first of some rules, with one more
 pub one-rule-more : (P : StrictRule → Type 0) (rules : List StrictRule) (i : ℕ) (d : StrictRule) → i < length rules → All P (take i rules) → P (get_or rules i d) → All P (take (i + 1) rules)
@@ -77,7 +82,7 @@ one-rule-more P rules i d inside all one = subst (All P) (sym (take_more rules i
 -- a judgement with the further rules
 pub judged : {S : Type 0} {took : S → List Call → Type 0} {failures : S → ℕ} {s s' : S} (mode whole : Mode) (target : Target) (left : Option (List ℕ)) (answer : Result Summary Stop) (further : FurtherRules) →
     mode ≡ whole → (bytes : List ℕ) (ended : Bool) → AreFirst left bytes ended → OnOk answer (ended ≡ true) → JudgedOf (terms_of mode target) took failures bytes (λ k. no_frame) [] s s' answer → took s [] →
-    ((calls : List Call) → took s' calls → TookStrict further.strict calls) → TellsOfBytes further.units.extent ended further.units.found bytes → AreJudged (terms_of whole target) left answer further
+    ((calls : List Call) → took s' calls → TookStrict further.strict calls) → TellsOfBytes further.units.extent ended further.units.found further.units.lack bytes → AreJudged (terms_of whole target) left answer further
 judged mode whole target left answer further is bytes ended first all j none strict units =
     let a = accounts j none in
     subst (λ m. AreJudged (terms_of m target) left answer further) is (record { bytes = bytes; ended = ended; first = first; all = all; account = a.0; calls = strict _ a.1; units = units })

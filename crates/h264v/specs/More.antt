@@ -71,6 +71,11 @@ pub record AreExcused (o : Options) (ReadFailed : Type 0) (out' err' : Output) (
   pub write : IsErrOf ending.answer Write → MayHaveFailed o out' err'
   pub unwritten : ending.written ≡ false → MayHaveFailed o out' err'
 
+-- A line was written that says why a file or a device failed: `h264v: NAME`, and after it the system's cause, where there was memory for that.
+pub record TellsCause (old new : Option (List ℕ)) (name : Text) : Type 0 where
+  pub cause : List ℕ
+  pub line : Sends old new ((codes "h264v: " ++ name) ++ ended cause)
+
 -- ---- the files of the words
 
 -- a file's name, and how its judgement ended

@@ -1,7 +1,7 @@
 //! What the words ask for beside the judgement of one file: options, several files, and the tasks that make texts of their own.
 #![tactic(auto)]
 
-ghost use Rattle.std.specs.Prelude.{◌≡◌, ◌≢◌, ℕ, ◌==◌, ◌-◌, ◌<◌, ◌^◌, ◌++◌, ◌⊎◌, true, false, max, map, length, not, nat_le, Err, IsErrOf, IfSome, List, codes};
+ghost use Rattle.std.specs.Prelude.{◌≡◌, ◌≢◌, ℕ, ◌==◌, ◌-◌, ◌<◌, ◌^◌, ◌++◌, ◌⊎◌, true, false, max, map, length, not, nat_le, Err, None, IsErrOf, IsSome, IfSome, List, codes};
 ghost use Rattle.clap.specs.Words.{subcommand_rows_of};
 ghost use Rattle.h264_base.specs.declared.stop.Stop.TheVariants.{Memory, Read, Write};
 ghost use Rattle.h264_report.specs.Sent.{Sends};
@@ -12,7 +12,7 @@ ghost use Rattle.h264_verify.specs.Units.{terms_of};
 ghost use Rattle.h264v.specs.Files.{left_of, IsUnread};
 ghost use Rattle.h264v.specs.Further.{asks_further, BreakOne, IsFound, TellsBroken};
 ghost use Rattle.h264v.specs.Commands.{output_of};
-ghost use Rattle.h264v.specs.More.{one_more, AreDone, IsAnswerOf, IsPutAside, IsStatus, IsToldStatus, TellsWrites};
+ghost use Rattle.h264v.specs.More.{one_more, AreDone, IsAnswerOf, IsPutAside, IsStatus, IsToldStatus, TellsCause, TellsWrites};
 ghost use Rattle.h264v.specs.Options.{refusal_text};
 ghost use Rattle.h264v.specs.Words.{mode_of, system_name};
 
@@ -129,14 +129,28 @@ impl Totals {
     }
 }
 
+/// Writes the line that tells of a name, and of a cause after it.
+#[tactic(auto, using(crate::proofs::Told::taken))]
+fn put_blame<E: Device>(err: &mut E, front: &str, cause: &str)
+    ensures kept { E.has_failed err.old ≡ true → E.has_failed err.new ≡ true }
+    ensures told { E.has_failed err.new ≡ false → Sends (E.contents err.old) (E.contents err.new) (front.now ++ ended cause.now) }
+{
+    let _ = put_line(front, cause, err);
+}
+
 /// Says why a device or a file failed, by the system's cause. Where there is no memory for the cause, the line ends before it.
 pub fn blame<E: Device>(alloc: Global, err: &mut E, name: &str, cause: &io::Error)
-    ensures { E.has_failed err.old ≡ true → E.has_failed err.new ≡ true }
+    ensures kept { E.has_failed err.old ≡ true → E.has_failed err.new ≡ true }
+    ensures told { E.has_failed err.new ≡ false → TellsCause (E.contents err.old) (E.contents err.new) name.now }
 {
-    let _ = match format!(in alloc; "h264v: {name}: {cause}") {
-        Ok(line) => put_line("", line.as_str(), err),
-        Err(_) => put_line("h264v: ", name, err),
+    let Ok(front) = format!(in alloc; "h264v: {name}") else {
+        put_blame(err, "h264v: ", name);
+        return;
     };
+    match format!(in alloc; ": {cause}") {
+        Ok(text) => put_blame(err, front.as_str(), text.as_str()),
+        Err(_) => put_blame(err, front.as_str(), ""),
+    }
 }
 
 /// Refuses the words, with a line on `err` that says why: the exit status.
@@ -311,7 +325,9 @@ pub fn blame_reading<O: Opener + Drop, E: Device>(
     err: &mut E,
     name: &str,
 )
-    ensures { E.has_failed err.old ≡ true → E.has_failed err.new ≡ true }
+    ensures kept { E.has_failed err.old ≡ true → E.has_failed err.new ≡ true }
+    ensures told { IsSome files.now.cause → E.has_failed err.new ≡ false → TellsCause (E.contents err.old) (E.contents err.new) name.now }
+    ensures untold { files.now.cause ≡ None → err.new ≡ err.old }
 {
     if let Some(cause) = &files.cause {
         blame(alloc, err, name, cause);
@@ -324,7 +340,10 @@ pub fn blame_output<W: Write + Drop, E: Device>(
     device: &WriteDevice<W>,
     err: &mut E,
     name: &str,
-) {
+)
+    ensures told { IsSome device.now.cause → E.has_failed err.new ≡ false → TellsCause (E.contents err.old) (E.contents err.new) name.now }
+    ensures untold { device.now.cause ≡ None → err.new ≡ err.old }
+{
     if let Some(cause) = &device.cause {
         blame(alloc, err, name, cause);
     }

@@ -179,6 +179,7 @@ the target main-ip takes 77 with any flags\n",
         stream: MESSAGES,
         out: &[
             "strict: not judged: Sei (",
+            "strict: not judged: Buffer (no HRD parameters are known with times beside them)\n",
             "yes: units 4 pictures 1 frames 1\n",
         ],
         err: "",
