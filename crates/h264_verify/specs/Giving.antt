@@ -1,4 +1,4 @@
--- What a source gives: its bytes, and whether it said its end.
+-- What a source gives: its bytes, and whether it said its end. A working form.
 use Rattle.std.specs.Prelude.{◌≡◌, ℕ, Bool, true, false, List, [], ◌++◌, Option, Some}
 use Rattle.h264_base.specs.Call.{IsQuiet}
 
