@@ -181,6 +181,25 @@ short-none z y none h =
     let nothing = empty-at (part 8 0 run.WORD_LENGTHS) j refl (omega arith) in
     rw (f, ← a, ← b, nothing) refl
 
+-- each value is at most as large as an eighth of its place, from place k on
+unfoldable are_small : ℕ → List ℕ → Bool
+are_small k [] = true
+are_small k (v ∷ values) = nat_lt (8 * v) (k + 1) && are_small (suc k) values
+
+small-at : (k j : ℕ) (values : List ℕ) → are_small k values ≡ true → j < length values → 8 * get_or values j 0 ≤ k + j
+unfolding are_small
+small-at k j [] e h = absurd (omega arith)
+small-at k zero (v ∷ values) e h = let small : 8 * v < k + 1 = ltb-true (8 * v) (k + 1) (and_parts _ _ e).0 in omega arith
+small-at k (suc j) (v ∷ values) e h = let small : 8 * get_or values j 0 ≤ suc k + j = small-at (suc k) j values (and_parts _ _ e).1 (omega arith) in omega arith
+
+-- a run of three bits is within the zeros that are left
+pub short-small : (z y : ℕ) → z ≤ 15 → y < 2 ^ 16 → get_or run.WORD_VALUES (8 * z + y / 2 ^ 13) 0 ≤ z
+unfolding are_small
+short-small z y few h =
+    let long : length run.WORD_VALUES ≡ 128 = refl in
+    let small : 8 * get_or run.WORD_VALUES (8 * z + y / 2 ^ 13) 0 ≤ 0 + (8 * z + y / 2 ^ 13) = small-at 0 (8 * z + y / 2 ^ 13) run.WORD_VALUES refl (omega arith) in
+    omega arith
+
 pub six-found : (t y : ℕ) → 1 < t → t ≤ 15 → y < 2 ^ 16 →
     (get_or total.WORD_LENGTHS (64 * (t - 2) + y / 2 ^ 10) 0, get_or total.WORD_VALUES (64 * (t - 2) + y / 2 ^ 10) 0) ≡ found_of (front_of 16 (rows_of (total_zeros_table 16 t)) y)
 unfolding part all_fit entry_fits agrees total_zeros_table total_zeros_tables total_zeros_2 total_zeros_3 total_zeros_4 total_zeros_5 total_zeros_6 total_zeros_7 total_zeros_8 total_zeros_9 total_zeros_10 total_zeros_11 total_zeros_12 total_zeros_13 total_zeros_14 total_zeros_15

@@ -35,6 +35,7 @@ pub(crate) fn short_run_word(zeros_left: u8, bits: u16) -> (u8, u8)
     ensures none { zeros_left ≡ 0 → result ≡ (0, 0) }
     ensures word { 0 < zeros_left → result.0 ≢ 16 → (0 < result.0) × (result ≡ found_of (front_of 16 (rows_of (run_before_table zeros_left)) bits)) }
     ensures long { result.0 ≡ 16 → 6 < zeros_left }
+    ensures small { result.1 ≤ zeros_left }
 {
     let entry = 8 * usize::from(zeros_left) + usize::from(bits >> 13);
     (WORD_LENGTHS[entry], WORD_VALUES[entry])

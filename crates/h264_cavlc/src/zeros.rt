@@ -190,7 +190,7 @@ fn read_run_before<S: Elements>(bits: &mut Bits, zeros_left: u8, sink: &mut S) -
 {
     if let Some(front) = bits.held(16) {
         let (length, value) = short_run_word(zeros_left, front as u16);
-        if length != LONG && value <= zeros_left {
+        if length != LONG {
             tell_run_before(bits, zeros_left, Entry { length, value }, sink)?;
             bits.pass_by(u32::from(length));
             return Ok(value);

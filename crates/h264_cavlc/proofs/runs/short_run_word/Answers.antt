@@ -1,4 +1,4 @@
-use Rattle.h264_cavlc.proofs.ShortWords.{short-found, short-long, short-none}
+use Rattle.h264_cavlc.proofs.ShortWords.{short-found, short-long, short-none, short-small}
 use Rattle.h264_cavlc.proofs.runs.short_run_word.Goals as goal
 
 pub returns-clause-none : goal.returns-clause-none
@@ -9,3 +9,6 @@ returns-clause-word c some other = rw (c.from.ensures, c.from-2.ensures) (short-
 
 pub returns-clause-long : goal.returns-clause-long
 returns-clause-long c long = short-long c.args.zeros_left c.args.bits c.ranges.bits.fits (rw (c.from.ensures, c.from-2.ensures) at long)
+
+pub returns-clause-small : goal.returns-clause-small
+returns-clause-small c = rw (c.from.ensures, c.from-2.ensures) (short-small c.args.zeros_left c.args.bits c.requires.few c.ranges.bits.fits)
