@@ -32,7 +32,7 @@ use Rattle.h264_deblock.specs.declared.edge_parameters.BoundaryStrength.{Boundar
 use Rattle.h264_deblock.specs.declared.edge_parameters.BoundaryStrength.TheVariants.{Zero, BelowFour, Four}
 use Rattle.h264_deblock.specs.declared.slice_filter.SliceFilter.{SliceFilter}
 use Rattle.h264_deblock.specs.CodedEdges.{named, block_at, strength_at, strengths, plane_qp, edge_of, filters, border, inner, edges_along, coded_edges}
-use Rattle.h264_deblock.specs.Steps.{LiesAlong, block_beside, number_at, inter_strength, inner_lines, alike, are_blank, are_like, are_alike, is_even, is_steady, side_qp, parameters, border_of, border_edge, inner_edge}
+use Rattle.h264_deblock.specs.Steps.{LiesAlong, block_beside, number_at, inter_strength, inner_lines, alike, are_blank, are_like, are_alike, IsEven, is_steady, side_qp, parameters, border_of, border_edge, inner_edge}
 
 -- ---- blocks
 
@@ -177,7 +177,7 @@ same-far a b f p q r s =
     let z : b.x ≡ f.x = (Decides-int_eq b.x f.x).0 r in let w : b.y ≡ f.y = (Decides-int_eq b.y f.y).0 s in
     rw (x, y, z, w) (self-far f)
 
-same-moves : (a b f : Option Motion) → alike a f ≡ true → alike b f ≡ true → moves_apart a b ≡ false
+pub same-moves : (a b f : Option Motion) → alike a f ≡ true → alike b f ≡ true → moves_apart a b ≡ false
 same-moves None b f e g = refl
 same-moves (Some a) None f e g = refl
 same-moves (Some a) (Some b) None e g = absurd (cc)
@@ -207,20 +207,28 @@ same-all xs ys f i j a b = ⊎_elim
     (λ (h : length xs ≤ i). still-left (get_or xs i None) (get_or ys j None) (get_or_past xs i None h))
     (cases_lt i (length xs))
 
-pub no-moves : (xs : List (Option Motion)) (i j : ℕ) → are_alike xs ≡ true → moves_apart (get_or xs i None) (get_or xs j None) ≡ false
-no-moves xs i j a = same-all xs xs (get_or xs 0 None) i j a a
+same-int : (a c : ℤ) → a ≡ c → int_eq a c ≡ true
+same-int a c h = (Decides-int_eq a c).1 h
+
+pub alike-self : (m : Option Motion) → alike m m ≡ true
+alike-self None = refl
+alike-self (Some a) = rw (eq-eqb a.picture a.picture refl, same-int a.vector.x a.vector.x refl, same-int a.vector.y a.vector.y refl) refl
+
+-- one motion does not move apart
+pub none-apart : (a b : Option Motion) → a ≡ b → moves_apart a b ≡ false
+none-apart a b e = rw e (same-moves b b b (alike-self b) (alike-self b))
 
 even-strength : (a b : Bool) (p q : Option Motion) → a ≡ false → b ≡ false → moves_apart p q ≡ false → Zero ≡ inter_strength (a || b) p q
 even-strength a b p q e f g = rw (e, f, g) refl
 
-module _ (v : Bool) (c : Contexts) (m : CodedMacroblock) (s : AreContexts c m) (l : length c.totals ≡ 16) (i : c.intra ≡ false) (even : is_even c ≡ true) where
+module _ (v : Bool) (c : Contexts) (m : CodedMacroblock) (s : AreContexts c m) (l : length c.totals ≡ 16) (i : c.intra ≡ false) (even : IsEven c) where
   even-at : (line k : ℕ) → 0 < line → line < 4 → k < 4 → Zero ≡ strength_at v line m m k
   even-at line k some h g =
-      let y = both (are_blank c.totals) (are_alike c.motions) even in
       let p : number_at v (line - 1) k < 16 = few-at v (line - 1) k (omega arith) g in
       let q : number_at v line k < 16 = few-at v line k h g in
       inner-by v line k c m Zero some h g s i
-      (even-strength (nat_lt 0 (get_or c.totals (number_at v (line - 1) k) 0)) (nat_lt 0 (get_or c.totals (number_at v line k) 0)) (get_or c.motions (number_at v (line - 1) k) None) (get_or c.motions (number_at v line k) None) (blank c.totals (number_at v (line - 1) k) y.0 (omega arith)) (blank c.totals (number_at v line k) y.0 (omega arith)) (no-moves c.motions (number_at v (line - 1) k) (number_at v line k) y.1))
+      (even-strength (nat_lt 0 (get_or c.totals (number_at v (line - 1) k) 0)) (nat_lt 0 (get_or c.totals (number_at v line k) 0)) (get_or c.motions (number_at v (line - 1) k) None) (get_or c.motions (number_at v line k) None) (blank c.totals (number_at v (line - 1) k) even.blank (omega arith)) (blank c.totals (number_at v line k) even.blank (omega arith))
+      (none-apart (get_or c.motions (number_at v (line - 1) k) None) (get_or c.motions (number_at v line k) None) (even.one.each (number_at v (line - 1) k) p ∙ sym (even.one.each (number_at v line k) q))))
 
   even-line : (line : ℕ) → 0 < line → line < 4 → Zero ∷ Zero ∷ Zero ∷ Zero ∷ [] ≡ strengths v line m m
   even-line line some h = four v line m m Zero Zero Zero Zero (even-at line 0 some h (omega arith)) (even-at line 1 some h (omega arith)) (even-at line 2 some h (omega arith)) (even-at line 3 some h (omega arith))
@@ -261,17 +269,16 @@ one-strength : (a b : Bool) (p q r t : Option Motion) → a ≡ false → b ≡ 
 one-strength a b p q r t e f g = rw (e, f, g) refl
 
 module _ (v : Bool) (e : Edge) (c : Contexts) (p q : CodedMacroblock) (beside : LiesAlong v e p) (s : AreContexts c q) (i : e.intra ≡ false) (j : c.intra ≡ false) (k : length e.totals ≡ 4) (l : length c.totals ≡ 16)
-    (m : length e.motions ≡ 4) (n : length c.motions ≡ 16) (even : is_even c ≡ true) (steady : is_steady e ≡ true) (bs : BoundaryStrength) (is : bs ≡ inter_strength false (get_or e.motions 0 None) (get_or c.motions 0 None)) where
+    (m : length e.motions ≡ 4) (n : length c.motions ≡ 16) (even : IsEven c) (steady : is_steady e ≡ true) (bs : BoundaryStrength) (is : bs ≡ inter_strength false (get_or e.motions 0 None) (get_or c.motions 0 None)) where
   on-at : (u : ℕ) → u < 4 → bs ≡ strength_at v 0 p q u
   on-at u h =
       let b : number_at v 0 u < 16 = few-at v 0 u (omega arith) h in
       let x = both (are_blank e.totals) (are_alike e.motions) steady in
-      let y = both (are_blank c.totals) (are_alike c.motions) even in
       let like = at-all (λ o. alike o (get_or e.motions 0 None)) e.motions u None x.1 (omega arith) in
-      let own = at-all (λ o. alike o (get_or c.motions 0 None)) c.motions (number_at v 0 u) None y.1 (omega arith) in
+      let own : alike (get_or c.motions (number_at v 0 u) None) (get_or c.motions 0 None) ≡ true = rw (even.one.each (number_at v 0 u) b) (alike-self (get_or c.motions 0 None)) in
       outer-by v u e c p q bs h beside s i j
       (is ∙ one-strength (nat_lt 0 (get_or e.totals u 0)) (nat_lt 0 (get_or c.totals (number_at v 0 u) 0)) (get_or e.motions 0 None) (get_or c.motions 0 None) (get_or e.motions u None) (get_or c.motions (number_at v 0 u) None)
-      (blank e.totals u x.0 (omega arith)) (blank c.totals (number_at v 0 u) y.0 (omega arith))
+      (blank e.totals u x.0 (omega arith)) (blank c.totals (number_at v 0 u) even.blank (omega arith))
       (sym (left-alike (get_or e.motions u None) (get_or e.motions 0 None) (get_or c.motions (number_at v 0 u) None) like ∙ right-alike (get_or e.motions 0 None) (get_or c.motions (number_at v 0 u) None) (get_or c.motions 0 None) own)))
 
   pub even-border : bs ∷ bs ∷ bs ∷ bs ∷ [] ≡ strengths v 0 p q

@@ -10,26 +10,19 @@ use Rattle.h264_near.specs.declared.motion.Motion.{Motion}
 use Rattle.h264_near.specs.declared.skipped.Skipped.{Skipped}
 use Rattle.h264_near.proofs.Skips.{contexts_of, skipped-contexts}
 use Rattle.h264_deblock.specs.CodedEdges.{strength_at, strengths}
-use Rattle.h264_deblock.specs.Steps.{LiesAlong, number_at, inter_strength, inner_lines, still_line, alike, are_blank, are_like, is_even}
+use Rattle.h264_deblock.specs.Steps.{LiesAlong, number_at, inter_strength, inner_lines, still_line, alike, are_blank, are_like, IsEven}
 use Rattle.h264_deblock.specs.declared.edge_parameters.BoundaryStrength.{BoundaryStrength}
 use Rattle.h264_deblock.specs.declared.edge_parameters.BoundaryStrength.TheVariants.{Zero}
-use Rattle.h264_deblock.proofs.CodedEdges.{four, few-at, outer-by, even-lines, blank, same-all}
-
-alike-self : (m : Motion) → alike (Some m) (Some m) ≡ true
-alike-self m =
-    let p : (m.picture == m.picture) ≡ true = eq-eqb m.picture m.picture refl in
-    let x : int_eq m.vector.x m.vector.x ≡ true = (Decides-int_eq m.vector.x m.vector.x).1 refl in
-    let y : int_eq m.vector.y m.vector.y ≡ true = (Decides-int_eq m.vector.y m.vector.y).1 refl in
-    rw (p, x, y) refl
+use Rattle.h264_deblock.proofs.CodedEdges.{four, few-at, outer-by, even-lines, blank, same-all, alike-self}
 
 like-all : (m : Motion) (n : ℕ) → are_like (Some m) (replicate n (Some m)) ≡ true
 like-all m zero = refl
-like-all m (suc n) = rw (alike-self m) (like-all m n)
+like-all m (suc n) = rw (alike-self (Some m)) (like-all m n)
 
 -- ---- inside
 
-even-skip : (s : Skipped) → is_even (contexts_of s) ≡ true
-even-skip s = like-all s.motion 16
+even-skip : (s : Skipped) → IsEven (contexts_of s)
+even-skip s = record { blank = refl; one = record { each = λ n h. get_or-replicate 16 n (Some s.motion) None h } }
 
 pub skip-lines : (v : Bool) (s : Skipped) (m : CodedMacroblock) → IsSkipped s m → still_line ∷ still_line ∷ still_line ∷ [] ≡ inner_lines v m
 skip-lines v s m i = even-lines v (contexts_of s) m (skipped-contexts s m i) refl refl (even-skip s)

@@ -1,5 +1,5 @@
 -- What the code has of the edges of a macroblock before it knows the plane. A working form.
-use Rattle.std.specs.Prelude.{◌≡◌, ℕ, ◌==◌, ◌&&◌, Bool, true, false, if◌then◌else◌, List, [], ◌∷◌, get_or, nat_lt, Option, Some, None, ℤ}
+use Rattle.std.specs.Prelude.{◌≡◌, ℕ, ◌-◌, ◌<◌, ◌==◌, ◌&&◌, Bool, true, false, if◌then◌else◌, List, [], ◌∷◌, get_or, nat_lt, Option, Some, None, ℤ}
 use Rattle.std.specs.Ordering.{int_eq}
 use Rattle.std.specs.List.{list_all}
 use Rattle.std.specs.Option.{option_map}
@@ -8,6 +8,9 @@ use Rattle.h264_tables.specs.declared.thresholds.Strength.TheVariants.{One, Two}
 use Rattle.h264_near.specs.Coded.{CodedMacroblock, number_of}
 use Rattle.h264_near.specs.Keeps.{Lower, Right, filter_qp_of}
 use Rattle.h264_near.specs.Strength.{moves_apart}
+use Rattle.h264_near.specs.Partition.{MovesByPartition}
+use Rattle.h264_near.specs.declared.partition.Partition.{Partition}
+use Rattle.h264_near.specs.declared.partition.Partition.TheVariants.{P16x16}
 use Rattle.h264_near.specs.declared.context.Contexts.{Contexts}
 use Rattle.h264_near.specs.declared.context.Edge.{Edge}
 use Rattle.h264_near.specs.declared.motion.Motion.{Motion}
@@ -66,9 +69,19 @@ are_like first motions = list_all (λ m. alike m first) motions
 abbrev pub are_alike : List (Option Motion) → Bool
 are_alike motions = are_like (get_or motions 0 None) motions
 
+-- a macroblock moves by its partition, if it is known
+abbrev pub MovesBy : Option Partition → List (Option Motion) → Type 0
+MovesBy None motions = Unit {0}
+MovesBy (Some partition) motions = MovesByPartition partition motions
+
+-- blocks on both sides of an inner edge, before this line of blocks, have one reference and one vector
+pub record AreJoined (vertical : Bool) (line : ℕ) (motions : List (Option Motion)) : Type 0 where
+  pub each : (k : ℕ) → k < 4 → get_or motions (number_at vertical (line - 1) k) None ≡ get_or motions (number_at vertical line k) None
+
 -- nothing tells the blocks of a macroblock apart
-abbrev pub is_even : Contexts → Bool
-is_even c = are_blank c.totals && are_alike c.motions
+pub record IsEven (c : Contexts) : Type 0 where
+  pub blank : are_blank c.totals ≡ true
+  pub one : MovesByPartition P16x16 c.motions
 
 -- nothing tells the blocks along an edge apart
 abbrev pub is_steady : Edge → Bool

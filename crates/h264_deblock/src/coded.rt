@@ -14,7 +14,7 @@ ghost use Rattle.h264_near.specs.Keeps.{Keeps, AreContexts, IsEdge};
 ghost use Rattle.h264_deblock.specs.Filtering.{edges_of, edges_done, is_chroma, AreInside};
 ghost use Rattle.h264_deblock.specs.declared.slice_filter.SliceFilter.{SliceFilter as Filter};
 ghost use Rattle.h264_deblock.specs.CodedEdges.{filters, coded_edges as edges_of_coded};
-ghost use Rattle.h264_deblock.specs.Steps.{LiesAlong, is_even, side_qp, parameters, border_of, border_edge, inner_edge, IsStill, are_alike};
+ghost use Rattle.h264_deblock.specs.Steps.{LiesAlong, IsEven, side_qp, parameters, border_of, border_edge, inner_edge, IsStill, MovesBy};
 ghost use Rattle.h264_deblock.specs.Words.{names, named_border, IsWord};
 
 use crate::by_level::{Marks, filter_by};
@@ -23,8 +23,8 @@ use crate::filtering::{ChromaEdges, Edges, LumaEdges, NO_EDGES};
 use crate::named::{Word, is_zero, names};
 use crate::plane_level::{Border, qp_in};
 use crate::slice_filter::{Deblocking, SliceFilter, is_filtered};
-use crate::strengths::{are_alike, border_strengths, inner_strengths, is_even, is_uniform};
-use h264_near::{Contexts, Edge, Near};
+use crate::strengths::{border_strengths, inner_strengths, is_even, is_uniform};
+use h264_near::{Contexts, Edge, Near, Partition};
 use h264_plane::Frame;
 use h264_tables::chroma_qp;
 
@@ -57,7 +57,7 @@ fn border_of(
     place: usize,
 ) -> Option<Border>
     ensures inside { IsTrue (is_some result) → 0 < place }
-    ensures here { (even ≡ true → is_even own.now ≡ true) → (p : Option CodedMacroblock) (q : CodedMacroblock) →
+    ensures here { (even ≡ true → IsEven own.now) → (p : Option CodedMacroblock) (q : CodedMacroblock) →
         IsEdge (LiesAlong vertical) beside.now p → AreContexts own.now q →
         (place ≡ 0 → p ≡ None) → named_border result ≡ border_of filter.now vertical p q }
     ensures word { (b : Border) → result ≡ Some b → IsWord b.strengths }
@@ -175,8 +175,7 @@ fn edges_by(
         named_border above.now ≡ border_of filter.now false (last_in width picture (length picture % width)) coded → (p : Component) →
         edges_of result p ≡ edges_of_coded slices width picture coded p }
 {
-    let alike = are_alike(&own.motions);
-    let inner = inner_strengths(own, alike, is_even(own, alike));
+    let inner = inner_strengths(own, &None, false);
     let qp = qp_in(true, own.qp, *filter);
     Edges {
         y: LumaEdges {
@@ -210,9 +209,8 @@ pub fn coded_edges(
     if let Deblocking::Off = filter.deblocking {
         return NO_EDGES;
     }
-    let even = is_even(own, are_alike(&own.motions));
-    let left = border_of(near.left_edge(), own, even, true, filter, column);
-    let above = border_of(near.above_edge(), own, even, false, filter, row);
+    let left = border_of(near.left_edge(), own, false, true, filter, column);
+    let above = border_of(near.above_edge(), own, false, false, filter, row);
     edges_by(&left, &above, own, filter)
 }
 
@@ -222,24 +220,10 @@ pub struct Coded<'a> {
     /// What is kept of the macroblocks before it.
     pub near: &'a Near,
     pub own: &'a Contexts,
-    /// Whether one picture and one vector are known to predict all its blocks.
-    pub whole: bool,
+    /// How it is partitioned, if it is an inter macroblock.
+    pub partition: Option<Partition>,
     /// The filter of its slice.
     pub filter: &'a SliceFilter,
-}
-
-/// Whether one picture and one vector predict all blocks of a macroblock that is not intra. Where that is known, it costs no look.
-#[inline]
-fn moves_as_one(coded: &Coded<'_>) -> bool
-    ensures { (coded.now.whole ≡ true → are_alike coded.now.own.now.motions ≡ true) → result ≡ true → are_alike coded.now.own.now.motions ≡ true }
-{
-    if coded.own.intra {
-        return false;
-    }
-    if coded.whole {
-        return true;
-    }
-    are_alike(&coded.own.motions)
 }
 
 /// Filters the edges of a macroblock of the coded picture, which stands at this column and row of macroblocks (8.7), in place and in the order of `macroblock`:
@@ -251,7 +235,7 @@ pub fn filter_coded(frame: &mut Frame, coded: &Coded<'_>, column: usize, row: us
     requires small { (column < 1024) × (row < 1024) }
     ensures size { (p : Component) → IsSized (plane_of p frame.new) (plane_of p frame.old).width (plane_of p frame.old).height }
     ensures filtered { (slices : ℕ → Filter) (width : ℕ) (picture : List CodedMacroblock) (q : CodedMacroblock) →
-        (coded.now.whole ≡ true → are_alike coded.now.own.now.motions ≡ true) → Keeps width picture coded.now.near.now →
+        MovesBy coded.now.partition coded.now.own.now.motions → Keeps width picture coded.now.near.now →
         AreContexts coded.now.own.now q → length picture ≡ row * width + column → column < width →
         slices q.slice ≡ coded.now.filter.now → ((n : ℕ) → (slices n).chroma_qp_index_offset ≡ coded.now.filter.now.chroma_qp_index_offset) →
         (p : Component) → ShowsSamples (plane_of p frame.old) (plane_of p frame.new)
@@ -261,8 +245,7 @@ pub fn filter_coded(frame: &mut Frame, coded: &Coded<'_>, column: usize, row: us
     if let Deblocking::Off = filter.deblocking {
         return;
     }
-    let alike = moves_as_one(coded);
-    let even = is_even(own, alike);
+    let even = is_even(own, &coded.partition);
     let left = border_of(coded.near.left_edge(), own, even, true, filter, column);
     let above = border_of(coded.near.above_edge(), own, even, false, filter, row);
     if is_uniform(own, even) && is_still(&left) && is_still(&above) {
@@ -271,7 +254,7 @@ pub fn filter_coded(frame: &mut Frame, coded: &Coded<'_>, column: usize, row: us
     let marks = Marks {
         left,
         above,
-        inner: inner_strengths(own, alike, even),
+        inner: inner_strengths(own, &coded.partition, even),
     };
     filter_by(frame, &marks, own.qp, filter, column, row);
 }

@@ -1,18 +1,23 @@
 //! The strengths bS of the edges of a macroblock (8.7.2.1).
 #![tactic(auto)]
 
-ghost use Rattle.std.specs.Prelude.{◌≡◌, ◌<◌, nat_le, ◌-ℤ◌, unsigned_abs, true, false};
+ghost use Rattle.std.specs.Prelude.{◌≡◌, ◌<◌, nat_le, ◌-ℤ◌, unsigned_abs, List, Option, true, false};
+ghost use Rattle.h264_near.specs.Partition.{MovesByPartition};
+ghost use Rattle.h264_near.specs.declared.partition.Partition.TheVariants.{P16x16};
 ghost use Rattle.h264_near.specs.Coded.{CodedMacroblock};
 ghost use Rattle.h264_near.specs.Keeps.{AreContexts};
 ghost use Rattle.h264_near.specs.Strength.{moves_apart};
 ghost use Rattle.h264_deblock.specs.CodedEdges.{named, strength_at, strengths};
 ghost use Rattle.h264_deblock.specs.Words.{names, all_names, IsWord, AreWords};
-ghost use Rattle.h264_deblock.specs.Steps.{LiesAlong, inter_strength, number_at, inner_lines, alike, are_blank, are_like, are_alike, is_even, is_steady};
+ghost use Rattle.h264_deblock.specs.Steps.{LiesAlong, inter_strength, number_at, inner_lines, alike, are_blank, are_like, is_steady};
+ghost use Rattle.h264_deblock.specs.Steps.{MovesBy, AreJoined, IsEven};
+ghost use Rattle.h264_near.specs.declared.motion.Motion.{Motion as Motions};
 ghost use Rattle.h264_deblock.specs.Steps.{HasStillLines};
 
+use crate::joined::is_joined;
 use crate::named::Word;
 use h264_near::block::number;
-use h264_near::{Contexts, Edge, Motion};
+use h264_near::{Contexts, Edge, Motion, Partition};
 
 /// The strengths of the inner edges of a macroblock by their line of blocks, from 1 on, and the place along it.
 #[derive(Clone, Copy)]
@@ -136,7 +141,7 @@ fn is_steady(edge: &Edge) -> bool
 /// apart: they have no coefficients, and one picture and one vector predict all of them.
 #[inline(always)]
 pub(crate) fn border_strengths(edge: &Edge, own: &Contexts, even: bool, vertical: bool) -> Word
-    ensures here { (even ≡ true → is_even own.now ≡ true) → (p q : CodedMacroblock) → LiesAlong vertical edge.now p →
+    ensures here { (even ≡ true → IsEven own.now) → (p q : CodedMacroblock) → LiesAlong vertical edge.now p →
         AreContexts own.now q → names result ≡ strengths vertical 0 p q }
     ensures word { IsWord result }
 {
@@ -154,14 +159,14 @@ pub(crate) fn border_strengths(edge: &Edge, own: &Contexts, even: bool, vertical
     outer_line(edge, own, vertical)
 }
 
-/// bS inside a macroblock that is not intra, before this line of blocks. `alike` says that one picture and one vector predict all its blocks.
+/// bS inside a macroblock that is not intra, before this line of blocks. `alike` says that no vector changes there.
 #[inline(always)]
 fn inner(own: &Contexts, alike: bool, vertical: bool, line: usize, k: usize) -> u8
     requires some { 0 < line }
     requires line { line < 4 }
     requires place { k < 4 }
     requires inter { own.now.intra ≡ false }
-    ensures here { (alike ≡ true → are_alike own.now.motions ≡ true) → (coded : CodedMacroblock) →
+    ensures here { (alike ≡ true → AreJoined vertical line own.now.motions) → (coded : CodedMacroblock) →
         AreContexts own.now coded → named result ≡ strength_at vertical line coded coded k }
     ensures small { result < 4 }
 {
@@ -173,11 +178,11 @@ fn inner(own: &Contexts, alike: bool, vertical: bool, line: usize, k: usize) -> 
 
 /// The strengths of the edge before a line of blocks, likewise.
 #[inline(always)]
-fn inner_line(own: &Contexts, alike: bool, vertical: bool, line: usize) -> Word
+fn inner_blocks(own: &Contexts, alike: bool, vertical: bool, line: usize) -> Word
     requires some { 0 < line }
     requires line { line < 4 }
     requires inter { own.now.intra ≡ false }
-    ensures here { (alike ≡ true → are_alike own.now.motions ≡ true) → (coded : CodedMacroblock) →
+    ensures here { (alike ≡ true → AreJoined vertical line own.now.motions) → (coded : CodedMacroblock) →
         AreContexts own.now coded → names result ≡ strengths vertical line coded coded }
     ensures word { IsWord result }
 {
@@ -189,36 +194,51 @@ fn inner_line(own: &Contexts, alike: bool, vertical: bool, line: usize) -> Word
     ]
 }
 
+/// The strengths of the edge before a line of blocks. Within partitions coefficients alone tell its blocks apart.
+#[inline(always)]
+fn inner_line(own: &Contexts, partition: &Option<Partition>, vertical: bool, line: usize) -> Word
+    requires some { 0 < line }
+    requires line { line < 4 }
+    requires inter { own.now.intra ≡ false }
+    ensures here { MovesBy partition.now own.now.motions → (coded : CodedMacroblock) →
+        AreContexts own.now coded → names result ≡ strengths vertical line coded coded }
+    ensures word { IsWord result }
+{
+    if is_joined(partition, vertical, line) {
+        return inner_blocks(own, true, vertical, line);
+    }
+    inner_blocks(own, false, vertical, line)
+}
+
 /// The strengths of the inner edges of one direction.
 #[inline(always)]
-fn inner_lines(own: &Contexts, alike: bool, vertical: bool) -> [Word; 3]
+fn inner_lines(own: &Contexts, partition: &Option<Partition>, vertical: bool) -> [Word; 3]
     requires inter { own.now.intra ≡ false }
-    ensures here { (alike ≡ true → are_alike own.now.motions ≡ true) → (coded : CodedMacroblock) →
+    ensures here { MovesBy partition.now own.now.motions → (coded : CodedMacroblock) →
         AreContexts own.now coded → all_names result ≡ inner_lines vertical coded }
     ensures words { AreWords result }
 {
     [
-        inner_line(own, alike, vertical, 1),
-        inner_line(own, alike, vertical, 2),
-        inner_line(own, alike, vertical, 3),
+        inner_line(own, partition, vertical, 1),
+        inner_line(own, partition, vertical, 2),
+        inner_line(own, partition, vertical, 3),
     ]
 }
 
-/// The strengths in both directions of a macroblock that is not intra; where one picture and one vector predict all its blocks, coefficients alone tell
-/// them apart.
+/// The strengths in both directions of a macroblock that is not intra.
 #[inline(never)]
-fn by_blocks<const ALIKE: bool>(own: &Contexts) -> InnerStrengths
+fn by_blocks(own: &Contexts, partition: &Option<Partition>) -> InnerStrengths
     requires inter { own.now.intra ≡ false }
-    ensures vertical { (ALIKE ≡ true → are_alike own.now.motions ≡ true) → (coded : CodedMacroblock) → AreContexts own.now coded →
+    ensures vertical { MovesBy partition.now own.now.motions → (coded : CodedMacroblock) → AreContexts own.now coded →
         all_names result.vertical ≡ inner_lines true coded }
-    ensures horizontal { (ALIKE ≡ true → are_alike own.now.motions ≡ true) → (coded : CodedMacroblock) → AreContexts own.now coded →
+    ensures horizontal { MovesBy partition.now own.now.motions → (coded : CodedMacroblock) → AreContexts own.now coded →
         all_names result.horizontal ≡ inner_lines false coded }
     ensures vertical_words { AreWords result.vertical }
     ensures horizontal_words { AreWords result.horizontal }
 {
     InnerStrengths {
-        vertical: inner_lines(own, ALIKE, true),
-        horizontal: inner_lines(own, ALIKE, false),
+        vertical: inner_lines(own, partition, true),
+        horizontal: inner_lines(own, partition, false),
     }
 }
 
@@ -267,21 +287,23 @@ pub(crate) fn are_like(motions: &[Option<Motion>; 4], first: &Option<Motion>) ->
     true
 }
 
-/// Whether one picture and one vector predict all blocks of a macroblock.
-#[inline(never)]
-pub(crate) fn are_alike(motions: &[Option<Motion>; 16]) -> bool
-    ensures { result ≡ are_alike motions.now }
+/// Whether a macroblock is known to be one partition: one picture and one vector predict all its blocks.
+#[inline(always)]
+fn is_one_partition(partition: &Option<Partition>) -> bool
+    ensures { result ≡ true → (motions : List (Option Motions)) → MovesBy partition.now motions → MovesByPartition P16x16 motions }
 {
-    let first = &motions[0];
-    motions.iter().all(|motion| is_alike(motion, first))
+    match partition {
+        None => false,
+        Some(partition) => matches!(partition, Partition::P16x16),
+    }
 }
 
-/// Whether nothing tells the blocks of a macroblock apart, of which `alike` says that one picture and one vector predict all: no coefficient.
+/// Whether nothing tells the blocks of a macroblock apart, which is known to be one partition: no coefficient.
 #[inline]
-pub(crate) fn is_even(own: &Contexts, alike: bool) -> bool
-    ensures { (alike ≡ true → are_alike own.now.motions ≡ true) → result ≡ true → is_even own.now ≡ true }
+pub(crate) fn is_even(own: &Contexts, partition: &Option<Partition>) -> bool
+    ensures { MovesBy partition.now own.now.motions → result ≡ true → IsEven own.now }
 {
-    if !alike {
+    if !is_one_partition(partition) {
         return false;
     }
     are_blank(&own.totals)
@@ -290,7 +312,7 @@ pub(crate) fn is_even(own: &Contexts, alike: bool) -> bool
 /// Whether a macroblock is inter and nothing tells its blocks apart, which `even` says: no inner edge has a bS but 0.
 #[inline]
 pub(crate) fn is_uniform(own: &Contexts, even: bool) -> bool
-    ensures { result ≡ true → (even ≡ true → is_even own.now ≡ true) → (coded : CodedMacroblock) → AreContexts own.now coded → HasStillLines coded }
+    ensures { result ≡ true → (even ≡ true → IsEven own.now) → (coded : CodedMacroblock) → AreContexts own.now coded → HasStillLines coded }
 {
     if own.intra {
         return false;
@@ -298,12 +320,15 @@ pub(crate) fn is_uniform(own: &Contexts, even: bool) -> bool
     even
 }
 
-/// The strengths of the inner edges of a macroblock; `alike` says that one picture and one vector predict all its blocks, and `even` that nothing tells
-/// them apart.
-pub(crate) fn inner_strengths(own: &Contexts, alike: bool, even: bool) -> InnerStrengths
-    ensures vertical { (alike ≡ true → are_alike own.now.motions ≡ true) → (even ≡ true → is_even own.now ≡ true) → (coded : CodedMacroblock) →
+/// The strengths of the inner edges of a macroblock, by its partition if it is known; `even` says that nothing tells its blocks apart.
+pub(crate) fn inner_strengths(
+    own: &Contexts,
+    partition: &Option<Partition>,
+    even: bool,
+) -> InnerStrengths
+    ensures vertical { MovesBy partition.now own.now.motions → (even ≡ true → IsEven own.now) → (coded : CodedMacroblock) →
         AreContexts own.now coded → all_names result.vertical ≡ inner_lines true coded }
-    ensures horizontal { (alike ≡ true → are_alike own.now.motions ≡ true) → (even ≡ true → is_even own.now ≡ true) → (coded : CodedMacroblock) →
+    ensures horizontal { MovesBy partition.now own.now.motions → (even ≡ true → IsEven own.now) → (coded : CodedMacroblock) →
         AreContexts own.now coded → all_names result.horizontal ≡ inner_lines false coded }
     ensures vertical_words { AreWords result.vertical }
     ensures horizontal_words { AreWords result.horizontal }
@@ -320,8 +345,5 @@ pub(crate) fn inner_strengths(own: &Contexts, alike: bool, even: bool) -> InnerS
             horizontal: [ZEROS; 3],
         };
     }
-    if alike {
-        return by_blocks::<true>(own);
-    }
-    by_blocks::<false>(own)
+    by_blocks(own, partition)
 }

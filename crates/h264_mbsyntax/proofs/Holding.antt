@@ -32,7 +32,9 @@ use Rattle.h264_mbsyntax.proofs.Loops.{whole}
 use Rattle.std.specs.Option.{is_some, option_map}
 use Rattle.std.proofs.Math.ListN as math
 use Rattle.h264_vectors.specs.Derived.{Derived}
-use Rattle.h264_vectors.specs.Agrees.{Agrees, AreAlike}
+use Rattle.h264_vectors.specs.Agrees.{Agrees}
+use Rattle.h264_near.specs.declared.partition.Partition.{Partition}
+use Rattle.h264_near.specs.Partition.{MovesByPartition}
 
 -- the part that is read last gives the whole
 pub ending : {X A B S : Type 0} {took : S → List Call → Type 0} {failures : S → ℕ} {R : X → A → Type 0} {R' : X → B → Type 0} {g : Grammar A} (f : A → B) {old new : Reader} {s s' : S} (r : Result X Stop) → ((x : X) (v : A) → R x v → R' x (f v)) → Meets took failures R g old new s s' r → Meets took failures R' (g >>= (λ v. Done (f v))) old new s s' r
@@ -43,10 +45,6 @@ ending f (Err e) k m = stop _ m
 pub ending-check : {B S : Type 0} {took : S → List Call → Type 0} {failures : S → ℕ} {R : Unit {0} → B → Type 0} {rule : Rule} {bit : ℕ} {holds : Bool} {old : Reader} {s : S} (v : B) (r : Result (Unit {0}) Stop) → Checks rule bit holds r → (IsTrue holds → R tt v) → Meets took failures R (check rule bit holds >>= (λ x. Done v)) old old s s r
 ending-check v (Ok x) c k = bind _ (checked _ _ _ _ c) (done _ _ _ _ _ _ _ (k c.checks))
 ending-check v (Err e) c k = stop _ (checked _ _ _ _ c)
-
-pub on-ok : {X P : Type 0} (r : Result X Stop) → P → OnOk r P
-on-ok (Ok x) h = h
-on-ok (Err e) h = tt
 
 -- coded_block_pattern and what follows it
 pub with-pattern : {X B S : Type 0} {took : S → List Call → Type 0} {failures : S → ℕ} {R : X → B → Type 0} {old new : Reader} {s s' : S} {r : Result X Stop} (table : Table) (width : ℕ) (picture : List CodedMacroblock) (slice qp : ℕ) (f : Coefficients → Grammar B) → Meets took failures R (patterned table width picture slice qp >>= f) old new s s' r → Meets took failures R (element CodedBlockPattern (Words (code_table table)) >>= (λ e. coefficients width picture slice qp (natural e.value) >>= f)) old new s s' r
@@ -139,9 +137,9 @@ some-at (Some x) e = refl
 pub all-derived : (motions : List (Option Motion)) (n : ℕ) → map is_some motions ≡ replicate 16 true → n < 16 → option_map (λ x. Some x) (get_or motions n None) ≡ Some (get_or motions n None)
 all-derived motions n e h = some-at (get_or motions n None) (sym (math.get_or-map is_some motions n None) ∙ (ap (λ l. get_or l n false) e ∙ get_or-replicate 16 n true false h))
 
-pub holds-inter : (mb : Macroblock) (slice : ℕ) (d : Derived) (within parted : Bool) (c : Coefficients) → mb.kind ≡ kind.Inter parted → (IsTrue parted → AreAlike mb.contexts.motions) → Agrees within mb.contexts.motions (replicate 16 true) d → within ≡ true → mb.contexts.modes ≡ replicate 16 2 → mb.contexts.slice ≡ slice → mb.contexts.intra ≡ false → mb.contexts.qp ≡ mb.qp → mb.residual.luma_dc_total ≡ 0 → length mb.contexts.totals ≡ 16 → length mb.contexts.chroma_totals ≡ 8 → StoredCoefficients mb.qp mb.contexts.totals mb.residual.luma mb.contexts.chroma_totals mb.residual.chroma_ac mb.residual.chroma_dc_totals mb.residual.chroma_dc c → HoldsMacroblock mb (coded slice (Inter d.motions) c)
+pub holds-inter : (mb : Macroblock) (slice : ℕ) (d : Derived) (within : Bool) (partition : Partition) (c : Coefficients) → mb.kind ≡ kind.Inter partition → MovesByPartition partition mb.contexts.motions → Agrees within mb.contexts.motions (replicate 16 true) d → within ≡ true → mb.contexts.modes ≡ replicate 16 2 → mb.contexts.slice ≡ slice → mb.contexts.intra ≡ false → mb.contexts.qp ≡ mb.qp → mb.residual.luma_dc_total ≡ 0 → length mb.contexts.totals ≡ 16 → length mb.contexts.chroma_totals ≡ 8 → StoredCoefficients mb.qp mb.contexts.totals mb.residual.luma mb.contexts.chroma_totals mb.residual.chroma_ac mb.residual.chroma_dc_totals mb.residual.chroma_dc c → HoldsMacroblock mb (coded slice (Inter d.motions) c)
 unfolding coded no_block
-holds-inter mb slice d within parted c ek one a w em es ei eq ed nt nc s = record {
+holds-inter mb slice d within partition c ek parted a w em es ei eq ed nt nc s = record {
   contexts = record {
     slice = sym es;
     intra = sym ei;
@@ -152,7 +150,7 @@ holds-inter mb slice d within parted c ek one a w em es ei eq ed nt nc s = recor
     motions = λ n h. rw (a.same w) (all-derived d.motions n a.derived h);
   };
   qp = s.qp;
-  prediction = rw ek (ap Inter (sym (a.same w)), one);
+  prediction = rw ek (ap Inter (sym (a.same w)), parted);
   luma = rw ek (record { each = s.luma.each }, ap (λ (b : Block). b.by_place) s.luma_dc ∙ rw ed refl);
   chroma = rw ek (record { each = s.chroma.dc.each }, record { each = s.chroma.ac.each });
 }

@@ -17,7 +17,7 @@ use crate::intra::{fits_luma, read_block_modes, read_chroma_mode};
 use crate::residual::{Residual, read_coefficients, read_coefficients16};
 use h264_base::{ElementName, Elements, Rule, SliceType, Stop};
 use h264_bits::{Bits, Found, check, read_align, read_bytes, read_ue};
-use h264_near::{Contexts, Motion, Near};
+use h264_near::{Contexts, Motion, Near, Partition};
 use h264_tables::Table;
 use h264_vectors::{SliceContext, Surroundings, read_motions};
 
@@ -30,8 +30,8 @@ pub enum Kind {
     Intra16x16 { mode: u8 },
     /// I_PCM.
     Pcm,
-    /// P: references and vectors are the contexts'. If `whole`, all blocks have one reference and one vector.
-    Inter { whole: bool },
+    /// P: references and vectors are the contexts'. The blocks of each partition have one reference and one vector.
+    Inter { partition: Partition },
 }
 
 /// What a macroblock says. It is used again for the next one, so that levels and samples that this one does not have are older ones.
@@ -144,16 +144,14 @@ fn begin_intra(mb: &mut Macroblock, kind: Kind, slice: u32, modes: [u8; 16], chr
     mb.contexts = intra_contexts(slice, 0, [0; 16], [0; 8], modes);
 }
 
-/// Makes `mb` an inter macroblock, of which references, vectors and residual are not read yet.
-fn begin_inter(mb: &mut Macroblock, slice: u32, whole: bool)
-    ensures kind { mb.new.kind ≡ kind.Inter whole }
+/// Makes `mb` an inter macroblock, of which partition, references, vectors and residual are not read yet.
+fn begin_inter(mb: &mut Macroblock, slice: u32)
     ensures slice { mb.new.contexts.slice ≡ slice }
     ensures intra { mb.new.contexts.intra ≡ false }
     ensures modes { mb.new.contexts.modes ≡ replicate 16 2 }
     ensures motions { mb.new.contexts.motions ≡ replicate 16 None }
     ensures luma_dc_total { mb.new.residual.luma_dc_total ≡ 0 }
 {
-    mb.kind = Kind::Inter { whole };
     mb.residual.luma_dc_total = 0;
     mb.contexts = inter_contexts(slice, 0, [0; 16], [0; 8], [None; 16]);
 }
@@ -280,8 +278,11 @@ fn read_inter<S: Elements>(
     ensures within { OnOk result (mb.new.qp ≤ 51) }
     ensures same { OnOk result (mb.new.contexts.slice ≡ around.entry.slice.now.number) }
 {
-    begin_inter(mb, around.slice.number, mb_type.value == 0);
-    let fits = read_motions(bits, around, mb_type, &mut mb.contexts.motions, sink)?;
+    begin_inter(mb, around.slice.number);
+    let mut partition = Partition::P16x16;
+    let motions = &mut mb.contexts.motions;
+    let fits = read_motions(bits, around, mb_type, &mut partition, motions, sink)?;
+    mb.kind = Kind::Inter { partition };
     let table = Table::CodedBlockPatternInter;
     read_coefficients(bits, around, qp, table, mb, sink)?;
     check(fits, Rule::VectorRange, mb_type.bit)

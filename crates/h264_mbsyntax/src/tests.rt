@@ -317,7 +317,7 @@ fn parts(rt: &(impl Abort + AllocGlobal)) -> Result<(), Fail> {
     let mut mb = Macroblock::none();
     for (active, text, block, expected) in &PARTS {
         read_text(rt, &slice(SliceType::P, *active), text, &mut mb)?;
-        assert!(rt; matches!(mb.kind, Kind::Inter { whole: _ }), "{text}");
+        assert!(rt; matches!(mb.kind, Kind::Inter { partition: _ }), "{text}");
         assert_eq!(rt;
             motion(&mb, *block),
             Some(*expected),

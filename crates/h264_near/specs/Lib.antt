@@ -7,3 +7,4 @@ pub mod Keeps
 pub mod Along
 pub mod Strength
 pub mod Skips
+pub mod Partition

@@ -11,4 +11,3 @@ pub mod Unique
 pub mod Skipped
 pub mod Made
 pub mod Sources
-pub mod Alike

@@ -18,10 +18,11 @@ use Rattle.h264_recon.specs.Predicted.{Prediction, Intra, Inter, Pcm}
 use Rattle.h264_recon.proofs.Possible.{given-allowed}
 use Rattle.h264_deblock.specs.Filtering.{IsOf}
 use Rattle.h264_picture.specs.declared.sequence.Sequence.{Sequence}
+use Rattle.h264_picture.specs.declared.slice.Slice.{Slice}
 use Rattle.h264_picture.specs.Decoded.{Parameters, given_by}
 use Rattle.h264_picture.specs.Holds.{ServesIn, HoldsIn}
 use Rattle.h264_picture.specs.Making.{Making, MakesSlice, HasSamples, HoldsMade, IsMadeOf, setting_of}
-use Rattle.h264_picture.specs.Sound.{IsPlace}
+use Rattle.h264_picture.specs.Sound.{IsPlace, ArePlaces}
 use Rattle.h264_picture.proofs.Held.{held-none, held-whole}
 use Rattle.h264_picture.proofs.Room.{own-frame, pool-frame}
 
@@ -56,19 +57,19 @@ shown s n h = record {
   samples = λ p x y i j. refl;
 }
 
-pub are-shown : (s : Sequence) (m : Prediction) → PointsInto s.places m → AreShown (setting_of s) s.frames.pool m
-are-shown s (Intra modes) h = tt
-are-shown s (Inter motion) h = λ n i. let p = h n i in subst (IsShown (setting_of s) s.frames.pool) (sym p.2) (shown s (get_or s.places p.0 0) (s.sound.places.each p.0 p.1))
-are-shown s (Pcm bytes) h = tt
+pub are-shown : (s : Sequence) (ps : List ℕ) → ArePlaces s.frames ps → (m : Prediction) → PointsInto ps m → AreShown (setting_of s) s.frames.pool m
+are-shown s ps places (Intra modes) h = tt
+are-shown s ps places (Inter motion) h = λ n i. let p = h n i in subst (IsShown (setting_of s) s.frames.pool) (sym p.2) (shown s (get_or ps p.0 0) (places.each p.0 p.1))
+are-shown s ps places (Pcm bytes) h = tt
 
 -- nothing is decoded
 pub nothing-made : (making : Option Making) (s : Sequence) → HasSamples making [] s
 nothing-made None s = tt
-nothing-made (Some making) s = held-none (setting_of s) making.place making.slices s.lines s.frames.frame s.sound.wide.0 s.sound.lines (own-size s)
+nothing-made (Some making) s = held-none (setting_of s) making.place making.slices s.picture.lines s.frames.frame s.sound.wide.0 s.sound.lines (own-size s)
 
-pub begun-holds : (width size : ℕ) (old new : Sequence) → ServesIn width size old → Keeps (width_of old.near) [] new.near → new.across ≡ old.across → new.size ≡ old.size → new.next ≡ 0 → HoldsIn width size [] new
+pub begun-holds : (width size : ℕ) (old new : Sequence) → ServesIn width size old → Keeps (width_of old.picture.near) [] new.picture.near → new.across ≡ old.across → new.size ≡ old.size → new.picture.next ≡ 0 → HoldsIn width size [] new
 begun-holds width size old new v k a s n = record {
-  keeps = subst (λ w. Keeps w [] new.near) v.row k;
+  keeps = subst (λ w. Keeps w [] new.picture.near) v.row k;
   columns = a ∙ v.columns;
   macroblocks = s ∙ v.macroblocks;
   next = n;
@@ -76,14 +77,14 @@ begun-holds width size old new v k a s n = record {
 }
 
 -- what is given by the slice's parameters
-pub given-by : (across width : ℕ) (picture : List CodedMacroblock) (making : Making) (slice : SliceContext) (s : Sequence) (m : CodedMacroblock) (g : Coded) → across ≡ width → MakesSlice making slice s → m.slice ≡ slice.number →
-    g ≡ given width picture making.place (weights_by s.weights) slice.constrained_intra slice.chroma_qp_index_offset m → g ≡ given_by across picture making.place (making.slices m.slice) m
-given-by across width picture making slice s m g w h e is =
-    let parameters : making.slices m.slice ≡ record { constrained_intra = slice.constrained_intra; filter = s.filter; weights = weights_by s.weights } = ap making.slices e ∙ h.parameters in
+pub given-by : (across width : ℕ) (picture : List CodedMacroblock) (making : Making) (slice : Slice) (m : CodedMacroblock) (g : Coded) → across ≡ width → MakesSlice making slice → m.slice ≡ slice.context.number →
+    g ≡ given width picture making.place (weights_by slice.weights) slice.context.constrained_intra slice.context.chroma_qp_index_offset m → g ≡ given_by across picture making.place (making.slices m.slice) m
+given-by across width picture making slice m g w h e is =
+    let parameters : making.slices m.slice ≡ record { constrained_intra = slice.context.constrained_intra; filter = slice.filter; weights = weights_by slice.weights } = ap making.slices e ∙ h.parameters in
     rw (parameters, h.offset, w) is
 
-pub filter-by : (making : Making) (slice : SliceContext) (s : Sequence) (m : CodedMacroblock) → MakesSlice making slice s → m.slice ≡ slice.number → (making.slices m.slice).filter ≡ s.filter
-filter-by making slice s m h e = ap (λ (p : Parameters). p.filter) (ap making.slices e ∙ h.parameters)
+pub filter-by : (making : Making) (slice : Slice) (m : CodedMacroblock) → MakesSlice making slice → m.slice ≡ slice.context.number → (making.slices m.slice).filter ≡ slice.filter
+filter-by making slice m h e = ap (λ (p : Parameters). p.filter) (ap making.slices e ∙ h.parameters)
 
 -- its modes refer to sides that there are
 pub possible : (width : ℕ) (slice : SliceContext) (picture : List CodedMacroblock) (place : ℕ → ℕ) (weights : List (Option Weights)) (offset : ℤ) (m : CodedMacroblock) (c r : ℕ) (g : Coded) → length picture ≡ r * width + c → c < width → m.slice ≡ slice.number → read.IsPossible width slice picture m.prediction →
@@ -94,4 +95,4 @@ possible width slice picture place weights offset m c r g n i e h is = subst (λ
 pub whole-made : (width size : ℕ) (making : Making) (picture : List CodedMacroblock) (s : Sequence) (f : Option Frame) → HoldsMade width size (Some making) picture s → length picture ≡ size → f ≡ Some s.frames.frame → IsMadeOf (setting_of s) making picture f
 whole-made width size making picture s f h n e =
     let count : length picture ≡ s.down * s.across = n ∙ sym h.holds.macroblocks ∙ s.sound.size ∙ mul_comm s.across s.down in
-    rw e (held-whole (setting_of s) making.place making.slices s.lines s.frames.frame picture s.sound.wide.0 count h.samples)
+    rw e (held-whole (setting_of s) making.place making.slices s.picture.lines s.frames.frame picture s.sound.wide.0 count h.samples)

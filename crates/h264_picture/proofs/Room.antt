@@ -16,9 +16,9 @@ use Rattle.h264_recon.specs.Pool.{HasRoom, AreUsable}
 use Rattle.h264_recon.specs.Predicted.{Prediction, Intra, Inter, Pcm}
 use Rattle.h264_recon.specs.declared.store.Lines.{Lines}
 use Rattle.h264_picture.specs.declared.frames.Frames.{Frames}
+use Rattle.h264_picture.specs.declared.picture.Picture.{Picture}
 use Rattle.h264_picture.specs.Lent.{AreFrames, frame_within}
-use Rattle.h264_picture.specs.Sound.{IsPlace, IsSound}
-use Rattle.h264_picture.proofs.Sound.{same-places}
+use Rattle.h264_picture.specs.Sound.{IsPlace, ArePlaces, IsSound}
 
 -- the frame that was moved out, and those that stand in the pool
 pub own-frame : (w h : ℕ) (f : Frames) → AreFrames w h f → f.place < length f.pool → IsFrame f.frame w h
@@ -70,7 +70,16 @@ has-own w h c r f i j s =
     let rw' = s.cr.columns in let rh = s.cr.rows in
     record { y = (omega arith, omega arith); cb = (omega arith, omega arith); cr = (omega arith, omega arith) }
 
-module _ (across down count address c r : ℕ) (l : Lines) (f : Frames) (ps : List ℕ) (s : IsSound across down count address c r l f ps) (below : address < count) where
+module _ (across down count : ℕ) (picture : Picture) (f : Frames) (s : IsSound across down count picture f) (below : picture.next < count) where
+  abbrev c : ℕ
+  c = picture.position.column
+
+  abbrev r : ℕ
+  r = picture.position.row
+
+  abbrev l : Lines
+  l = picture.lines
+
   pub in-rows : r < down
   in-rows = by (nat_lt r down) refl
     where
@@ -97,10 +106,10 @@ module _ (across down count address c r : ℕ) (l : Lines) (f : Frames) (ps : Li
       let o = has-own across down c r (frame_at f.pool n) s.column in-rows (pool-frame (16 * across) (16 * down) f n s.frames p) in
       record { picture = p.inside; y = o.y; cb = o.cb; cr = o.cr }
 
-  pub are-usable : (m : Prediction) → PointsInto ps m → AreUsable f.pool c r m
-  are-usable (Intra modes) h = tt
-  are-usable (Inter motion) h = λ n i. let p = h n i in subst (HasRoom f.pool c r) (sym p.2) (has-room (get_or ps p.0 0) (s.places.each p.0 p.1))
-  are-usable (Pcm bytes) h = tt
+  pub are-usable : (ps : List ℕ) → ArePlaces f ps → (m : Prediction) → PointsInto ps m → AreUsable f.pool c r m
+  are-usable ps places (Intra modes) h = tt
+  are-usable ps places (Inter motion) h = λ n i. let p = h n i in subst (HasRoom f.pool c r) (sym p.2) (has-room (get_or ps p.0 0) (places.each p.0 p.1))
+  are-usable ps places (Pcm bytes) h = tt
 
   pub y-lines : 16 * c + 16 ≤ vec_len l.y.above
   y-lines = let n = s.lines Y in let i = s.column in omega arith
@@ -116,7 +125,7 @@ module _ (across down count address c r : ℕ) (l : Lines) (f : Frames) (ps : Li
 
   -- lines and a frame of the same size, in their places
   pub made : (l' : Lines) (f' : Frames) → ((p : Component) → vec_len (store_of p l').above ≡ vec_len (store_of p l).above) → f.place < length f.pool → ((p : Component) → IsSized (plane_of p f'.frame) (plane_of p f.frame).width (plane_of p f.frame).height) →
-      f'.pool ≡ f.pool → f'.place ≡ f.place → IsSound across down count address c r l' f' ps
+      f'.pool ≡ f.pool → f'.place ≡ f.place → IsSound across down count (record picture { lines = l' }) f'
   made l' f' h i g p q = record {
     wide = s.wide;
     tall = s.tall;
@@ -126,5 +135,4 @@ module _ (across down count address c r : ℕ) (l : Lines) (f : Frames) (ps : Li
     lines = λ k. h k ∙ s.lines k;
     frames = resized (16 * across) (16 * down) f f' i g p q s.frames;
     some = (let n = s.some in let e = ap length p in omega arith);
-    places = same-places f f' ps (ap length p) q s.places;
   }

@@ -1,6 +1,5 @@
 -- What is always so of the memory of a sequence stays so.
-use Rattle.std.proofs.Common.{◌≡◌, ◌≢◌, ℕ, ◌+◌, ◌*◌, ◌%◌, ◌<◌, ◌≤◌, List, length, replicate, vec_len, Fits, w32, arith, ◌∙◌, refl}
-use Rattle.std.proofs.lemmas.List.{get_or-replicate}
+use Rattle.std.proofs.Common.{◌≡◌, ℕ, ◌+◌, ◌*◌, ◌%◌, ◌<◌, ◌≤◌, List, length, vec_len, Fits, w32, arith, ◌∙◌, refl}
 use Rattle.h264_plane.specs.Places.{side}
 use Rattle.h264_plane.specs.declared.frame.Component.{Component}
 use Rattle.std.proofs.Common.{true}
@@ -10,18 +9,21 @@ use Rattle.h264_sps.specs.declared.sps.FrameSize.{FrameSize}
 use Rattle.h264_plane.specs.declared.frame.Component.TheVariants.{Y, Cb, Cr}
 use Rattle.h264_picture.specs.Holds.{is_frame_size}
 use Rattle.h264_recon.specs.Lines.{store_of}
+use Rattle.h264_near.specs.declared.near.Near.{Near}
+use Rattle.h264_recon.specs.declared.macroblock.Position.{Position}
 use Rattle.h264_recon.specs.declared.store.Lines.{Lines}
 use Rattle.h264_picture.specs.declared.frames.Frames.{Frames}
+use Rattle.h264_picture.specs.declared.picture.Picture.{Picture}
 use Rattle.h264_picture.specs.Lent.{AreFrames}
-use Rattle.h264_picture.specs.Sound.{IsPlace, ArePlaces, IsSound}
+use Rattle.h264_picture.specs.Sound.{ArePlaces, IsSound}
 
 pub same-places : (old new : Frames) (ps : List ℕ) → length new.pool ≡ length old.pool → new.place ≡ old.place → ArePlaces old ps → ArePlaces new ps
 same-places old new ps n p a = record { each = λ k i. let h = a.each k i in record { inside = (let x = h.inside in omega arith); other = λ e. h.other (e ∙ p) } }
 
 -- other frames, of the same size and at the same places
-pub same-frames : (across down count address c r : ℕ) (l : Lines) (old new : Frames) (ps : List ℕ) → AreFrames (16 * across) (16 * down) new → length new.pool ≡ length old.pool → new.place ≡ old.place →
-    IsSound across down count address c r l old ps → IsSound across down count address c r l new ps
-same-frames across down count address c r l old new ps a n p s = record {
+pub same-frames : (across down count : ℕ) (p : Picture) (old new : Frames) → AreFrames (16 * across) (16 * down) new → length new.pool ≡ length old.pool →
+    IsSound across down count p old → IsSound across down count p new
+same-frames across down count p old new a n s = record {
   wide = s.wide;
   tall = s.tall;
   size = s.size;
@@ -30,17 +32,16 @@ same-frames across down count address c r l old new ps a n p s = record {
   lines = s.lines;
   frames = a;
   some = (let x = s.some in omega arith);
-  places = same-places old new ps n p s.places;
 }
 
--- one place sixteen times
-pub one-place : (f : Frames) (x : ℕ) → IsPlace f x → ArePlaces f (replicate 16 x)
-one-place f x h = record { each = λ n i. rw (get_or-replicate 16 n x 0 i) h }
+-- where the first macroblock of a picture stands
+abbrev first : Position
+first = record { column = 0; row = 0 }
 
 -- the first macroblock of a picture
-pub begun : (across down count address c r : ℕ) (l : Lines) (old new : Frames) (ps : List ℕ) (x : ℕ) → AreFrames (16 * across) (16 * down) new → length new.pool ≡ length old.pool → x < 2 → x ≢ new.place →
-    IsSound across down count address c r l old ps → IsSound across down count 0 0 0 l new (replicate 16 x)
-begun across down count address c r l old new ps x a n low other s = record {
+pub begun : (across down count : ℕ) (p : Picture) (n : Near) (old new : Frames) → AreFrames (16 * across) (16 * down) new → length new.pool ≡ length old.pool →
+    IsSound across down count p old → IsSound across down count (record p { near = n; next = 0; position = first }) new
+begun across down count p near old new a n s = record {
   wide = s.wide;
   tall = s.tall;
   size = s.size;
@@ -49,13 +50,12 @@ begun across down count address c r l old new ps x a n low other s = record {
   lines = s.lines;
   frames = a;
   some = (let x = s.some in omega arith);
-  places = one-place new x (record { inside = (let y = s.some in omega arith); other = other });
 }
 
 -- a sequence of which no picture is begun
-pub fresh : (w h : ℕ) (l : Lines) (f : Frames) → ((0 < w) × (w ≤ 543)) → ((0 < h) × (h ≤ 543)) → ((p : Component) → vec_len (store_of p l).above ≡ side p * w) → AreFrames (16 * w) (16 * h) f → 1 < length f.pool → f.place ≡ 0 →
-    IsSound w h (w * h) 0 0 0 l f (replicate 16 1)
-fresh w h l f wide tall lines a n z = record {
+pub fresh : (w h : ℕ) (n : Near) (l : Lines) (f : Frames) → ((0 < w) × (w ≤ 543)) → ((0 < h) × (h ≤ 543)) → ((p : Component) → vec_len (store_of p l).above ≡ side p * w) → AreFrames (16 * w) (16 * h) f → 1 < length f.pool →
+    IsSound w h (w * h) (record { near = n; lines = l; next = 0; position = first }) f
+fresh w h near l f wide tall lines a n = record {
   wide = wide;
   tall = tall;
   size = refl;
@@ -64,7 +64,6 @@ fresh w h l f wide tall lines a n z = record {
   lines = lines;
   frames = a;
   some = n;
-  places = one-place f 1 (record { inside = n; other = λ e. absurd (omega arith) });
 }
 
 -- a frame size that is allowed
@@ -97,9 +96,9 @@ pub one-more : (n : ℕ) → n ≤ 16 → (0 < n + 1) × (n + 1 ≤ 17)
 one-more n h = (omega arith, omega arith)
 
 -- one macroblock more
-pub next-sound : (across down count address c r c' r' : ℕ) (l : Lines) (f : Frames) (ps : List ℕ) → IsSound across down count address c r l f ps → c' < across → r' * across + c' ≡ r * across + c + 1 →
-    IsSound across down count (address + 1) c' r' l f ps
-next-sound across down count address c r c' r' l f ps s i e = record {
+pub next-sound : (across down count : ℕ) (p : Picture) (on : Position) (f : Frames) → IsSound across down count p f → on.column < across →
+    on.row * across + on.column ≡ p.position.row * across + p.position.column + 1 → IsSound across down count (record p { next = p.next + 1; position = on }) f
+next-sound across down count p on f s i e = record {
   wide = s.wide;
   tall = s.tall;
   size = s.size;
@@ -108,5 +107,4 @@ next-sound across down count address c r c' r' l f ps s i e = record {
   lines = s.lines;
   frames = s.frames;
   some = s.some;
-  places = s.places;
 }

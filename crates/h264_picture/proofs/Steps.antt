@@ -26,6 +26,7 @@ use Rattle.std.specs.Prelude.{nat_le}
 use Rattle.std.proofs.lemmas.Bool.Decides.{nat_tests}
 use Rattle.h264_picture.specs.Sound.{IsPlace}
 use Rattle.h264_picture.specs.declared.samples.SliceSamples.{SliceSamples}
+use Rattle.h264_picture.specs.declared.slice.Slice.{Slice}
 
 past-next : (slice : SliceContext) (picture : List CodedMacroblock) (m : CodedMacroblock) → m.slice ≡ slice.number → slice.number ≤ length picture → IsPast (picture ++ m ∷ [])
 past-next slice picture m e f x g =
@@ -35,19 +36,19 @@ past-next slice picture m e f x g =
     rw same (omega arith)
 
 -- one macroblock more
-pub kept-on : (width size : ℕ) (making : Option Making) (slice : SliceContext) (picture : List CodedMacroblock) (m : CodedMacroblock) (old new : Sequence) → HoldsIn width size picture old → new.across ≡ old.across → slice.number ≤ length picture → Keeps width (picture ++ m ∷ []) new.near → m.qp ≡ new.mb.qp → m.slice ≡ slice.number → new.size ≡ old.size → new.next ≡ old.next + 1 → HasSamples making (picture ++ m ∷ []) new → MakesIn making slice new → Reads width size making slice (picture ++ m ∷ []) new
+pub kept-on : (width size : ℕ) (making : Option Making) (slice : Slice) (picture : List CodedMacroblock) (m : CodedMacroblock) (old new : Sequence) → HoldsIn width size picture old → new.across ≡ old.across → slice.context.number ≤ length picture → Keeps width (picture ++ m ∷ []) new.picture.near → m.qp ≡ new.mb.qp → m.slice ≡ slice.context.number → new.size ≡ old.size → new.picture.next ≡ old.picture.next + 1 → HasSamples making (picture ++ m ∷ []) new → MakesIn making slice → Reads width size making slice (picture ++ m ∷ []) new
 kept-on width size making slice picture m old new h w f k q e s n has makes =
     let l = length-append picture (m ∷ []) in
     record {
-      holds = record { keeps = k; columns = w ∙ h.columns; macroblocks = s ∙ h.macroblocks; next = (let x = h.next in omega arith); past = past-next slice picture m e f };
+      holds = record { keeps = k; columns = w ∙ h.columns; macroblocks = s ∙ h.macroblocks; next = (let x = h.next in omega arith); past = past-next slice.context picture m e f };
       first = omega arith;
-      predicted = sym q ∙ predicted-next slice picture m e;
+      predicted = sym q ∙ predicted-next slice.context picture m e;
       samples = has;
       makes = makes;
     }
 
 -- another macroblock in its place changes nothing of that
-pub moved : (width size : ℕ) (picture : List CodedMacroblock) (old new : Sequence) → HoldsIn width size picture old → new.near ≡ old.near → new.across ≡ old.across → new.size ≡ old.size → new.next ≡ old.next → HoldsIn width size picture new
+pub moved : (width size : ℕ) (picture : List CodedMacroblock) (old new : Sequence) → HoldsIn width size picture old → new.picture.near ≡ old.picture.near → new.across ≡ old.across → new.size ≡ old.size → new.picture.next ≡ old.picture.next → HoldsIn width size picture new
 moved width size picture old new h a w b c = record { keeps = subst (Keeps width picture) (sym a) h.keeps; columns = w ∙ h.columns; macroblocks = b ∙ h.macroblocks; next = c ∙ h.next; past = h.past }
 
 pub skipped-slice : (slice : SliceContext) (picture : List CodedMacroblock) (v : Vector) → (skipped_of slice picture v).slice ≡ slice.number
@@ -95,25 +96,16 @@ pub both-places : (a b c : Sequence) → KeepsPlace a b → KeepsPlace b c → K
 both-places a b c h k = record { across = k.across ∙ h.across; down = k.down ∙ h.down; pool = k.pool ∙ h.pool; place = k.place ∙ h.place; begun = k.begun ∙ h.begun }
 
 -- the samples are those of the lines and the frames
-pub same-samples : (making : Option Making) (picture : List CodedMacroblock) (old new : Sequence) → new.across ≡ old.across → new.down ≡ old.down → new.lines ≡ old.lines → new.frames ≡ old.frames → HasSamples making picture old → HasSamples making picture new
+pub same-samples : (making : Option Making) (picture : List CodedMacroblock) (old new : Sequence) → new.across ≡ old.across → new.down ≡ old.down → new.picture.lines ≡ old.picture.lines → new.frames ≡ old.frames → HasSamples making picture old → HasSamples making picture new
 same-samples None picture old new a d l f h = tt
 same-samples (Some making) picture old new a d l f h = rw (a, d, l, f) h
 
-pub same-makes : (making : Option Making) (slice : SliceContext) (old new : Sequence) → new.places ≡ old.places → new.filter ≡ old.filter → new.weights ≡ old.weights → MakesIn making slice old → MakesIn making slice new
-same-makes None slice old new p f w h = tt
-same-makes (Some making) slice old new p f w h = record {
-  parameters = rw (f, w) h.parameters;
-  offset = rw f h.offset;
-  offsets = rw f h.offsets;
-  placed = rw p h.placed;
-}
-
 -- a slice begins, with the places of its reference pictures among the frames
-pub makes-with : (making : Option Making) (slice : SliceContext) (samples : SliceSamples) (base : ℕ) (old new : Sequence) →
-    ((n : ℕ) → n < 16 → base ≤ get_or samples.places n 0 → IsPlace old.frames (get_or samples.places n 0 - base) → get_or new.places n 0 ≡ get_or samples.places n 0 - base) → new.filter ≡ samples.filter → new.weights ≡ samples.weights →
-    MakesWith making slice samples base old → MakesIn making slice new
-makes-with None slice samples base old new values f w h = tt
-makes-with (Some making) slice samples base old new values f w h = record {
+pub makes-with : (making : Option Making) (slice : Slice) (samples : SliceSamples) (base : ℕ) (old : Sequence) →
+    ((n : ℕ) → n < 16 → base ≤ get_or samples.places n 0 → IsPlace old.frames (get_or samples.places n 0 - base) → get_or slice.places n 0 ≡ get_or samples.places n 0 - base) → slice.filter ≡ samples.filter → slice.weights ≡ samples.weights →
+    MakesWith making slice.context samples base old → MakesIn making slice
+makes-with None slice samples base old values f w h = tt
+makes-with (Some making) slice samples base old values f w h = record {
   parameters = rw (f, w) h.parameters;
   offset = rw f h.offset;
   offsets = rw f h.offsets;

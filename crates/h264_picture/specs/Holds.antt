@@ -22,16 +22,16 @@ IsPast picture = (m : CodedMacroblock) → slice_get picture (length picture - 1
 
 -- It has room for pictures that are so many macroblocks wide and have so many macroblocks.
 pub record ServesIn (width size : ℕ) (sequence : Sequence) : Type 0 where
-  pub row : width_of sequence.near ≡ width
+  pub row : width_of sequence.picture.near ≡ width
   pub columns : sequence.across ≡ width
   pub macroblocks : sequence.size ≡ size
 
 -- It holds these macroblocks of a picture.
 pub record HoldsIn (width size : ℕ) (picture : List CodedMacroblock) (sequence : Sequence) : Type 0 where
-  pub keeps : Keeps width picture sequence.near
+  pub keeps : Keeps width picture sequence.picture.near
   pub columns : sequence.across ≡ width
   pub macroblocks : sequence.size ≡ size
-  pub next : sequence.next ≡ length picture
+  pub next : sequence.picture.next ≡ length picture
   pub past : IsPast picture
 
 -- pictures are as wide and high as they were, and the frames stand as they stood
@@ -44,9 +44,9 @@ pub record KeepsPlace (old new : Sequence) : Type 0 where
 
 -- what is known of the macroblocks is what it was
 pub record KeepsSyntax (old new : Sequence) : Type 0 where
-  pub near : new.near ≡ old.near
+  pub near : new.picture.near ≡ old.picture.near
   pub size : new.size ≡ old.size
-  pub next : new.next ≡ old.next
+  pub next : new.picture.next ≡ old.picture.next
   pub mb : new.mb ≡ old.mb
 
 -- ---- the work

@@ -11,6 +11,7 @@ use Rattle.h264_recon.specs.Inter.{Setting}
 use Rattle.h264_recon.specs.Placed.{ArePlaced, weights_by}
 use Rattle.h264_picture.specs.declared.samples.SliceSamples.{SliceSamples}
 use Rattle.h264_picture.specs.declared.sequence.Sequence.{Sequence}
+use Rattle.h264_picture.specs.declared.slice.Slice.{Slice}
 use Rattle.h264_picture.specs.declared.work.Work.{Work}
 use Rattle.h264_picture.specs.Decoded.{Parameters, IsDecoded}
 use Rattle.h264_picture.specs.Held.{IsHeld}
@@ -32,20 +33,24 @@ setting_of s = record { across = s.across; down = s.down; reference = λ n p. at
 -- Its lines and the frame that is written hold the samples of these macroblocks; of nothing, where the samples are not asked for.
 abbrev pub HasSamples : Option Making → List CodedMacroblock → Sequence → Type 0
 HasSamples None picture s = Unit {0}
-HasSamples (Some making) picture s = IsHeld (setting_of s) making.place making.slices s.lines s.frames.frame picture
+HasSamples (Some making) picture s = IsHeld (setting_of s) making.place making.slices s.picture.lines s.frames.frame picture
 
--- it makes the samples of this slice
-pub record MakesSlice (making : Making) (slice : SliceContext) (s : Sequence) : Type 0 where
-  pub parameters : making.slices slice.number ≡ record { constrained_intra = slice.constrained_intra; filter = s.filter; weights = weights_by s.weights }
-  pub offset : s.filter.chroma_qp_index_offset ≡ slice.chroma_qp_index_offset
-  pub offsets : (n : ℕ) → (making.slices n).filter.chroma_qp_index_offset ≡ s.filter.chroma_qp_index_offset
-  pub placed : ArePlaced slice s.places making.place
+-- the samples of this slice are made by that
+pub record MakesSlice (making : Making) (slice : Slice) : Type 0 where
+  pub parameters : making.slices slice.context.number ≡ record {
+    constrained_intra = slice.context.constrained_intra;
+    filter = slice.filter;
+    weights = weights_by slice.weights;
+  }
+  pub offset : slice.filter.chroma_qp_index_offset ≡ slice.context.chroma_qp_index_offset
+  pub offsets : (n : ℕ) → (making.slices n).filter.chroma_qp_index_offset ≡ slice.filter.chroma_qp_index_offset
+  pub placed : ArePlaced slice.context slice.places making.place
 
-abbrev pub MakesIn : Option Making → SliceContext → Sequence → Type 0
-MakesIn None slice s = Unit {0}
-MakesIn (Some making) slice s = MakesSlice making slice s
+abbrev pub MakesIn : Option Making → Slice → Type 0
+MakesIn None slice = Unit {0}
+MakesIn (Some making) slice = MakesSlice making slice
 
--- so it will, with what goes with the slice, where the places of its frames begin with `base`
+-- so it will be, with what goes with the slice, where the places of the sequence's frames begin with `base`
 pub record MakesSliceWith (making : Making) (slice : SliceContext) (samples : SliceSamples) (base : ℕ) (s : Sequence) : Type 0 where
   pub parameters : making.slices slice.number ≡ record {
     constrained_intra = slice.constrained_intra;
@@ -67,12 +72,12 @@ pub record HoldsMade (width size : ℕ) (making : Option Making) (picture : List
   pub samples : HasSamples making picture s
 
 -- So it does between two macroblocks of a slice, and has QP_Y,PRED of the next one.
-pub record Reads (width size : ℕ) (making : Option Making) (slice : SliceContext) (picture : List CodedMacroblock) (s : Sequence) : Type 0 where
+pub record Reads (width size : ℕ) (making : Option Making) (slice : Slice) (picture : List CodedMacroblock) (s : Sequence) : Type 0 where
   pub holds : HoldsIn width size picture s
-  pub first : slice.number ≤ length picture
-  pub predicted : s.mb.qp ≡ predicted_qp slice picture
+  pub first : slice.context.number ≤ length picture
+  pub predicted : s.mb.qp ≡ predicted_qp slice.context picture
   pub samples : HasSamples making picture s
-  pub makes : MakesIn making slice s
+  pub makes : MakesIn making slice
 
 -- a frame is decoded of these macroblocks
 abbrev pub IsMadeOf : Setting → Making → List CodedMacroblock → Option Frame → Type 0

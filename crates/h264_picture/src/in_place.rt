@@ -10,7 +10,7 @@ ghost use Rattle.h264_near.specs.Keeps.{Keeps, AreContexts};
 ghost use Rattle.h264_near.specs.Skips.{IsSkipped};
 ghost use Rattle.h264_scale.specs.Macroblock.{levels_fit};
 ghost use Rattle.h264_scale.specs.declared.levels.Levels.{Levels};
-ghost use Rattle.h264_deblock.specs.Steps.{are_alike};
+ghost use Rattle.h264_deblock.specs.Steps.{MovesBy};
 ghost use Rattle.h264_recon.specs.Inter.{Setting};
 ghost use Rattle.h264_recon.specs.Constructed.{coded as coded_as, IsPossible};
 ghost use Rattle.h264_recon.specs.Lines.{store_of};
@@ -69,7 +69,7 @@ pub fn go_on(
         length picture ≡ position.row * k.across + position.column → position.column < k.across → position.row < k.down →
         AreShown k pool.now (prediction_in m.now.prediction) → IsPossible (prediction_in m.now.prediction) m.now.available →
         coded_as m.now (levels_in finish.now.levels) ≡ given_by k.across picture place (slices q.slice) q →
-        (finish.now.coded.whole ≡ true → are_alike finish.now.coded.own.now.motions ≡ true) →
+        MovesBy finish.now.coded.partition finish.now.coded.own.now.motions →
         Keeps k.across picture finish.now.coded.near.now → AreContexts finish.now.coded.own.now q →
         filters slices q.slice ≡ finish.now.coded.filter.now → ((n : ℕ) → (filters slices
         n).chroma_qp_index_offset ≡ finish.now.coded.filter.now.chroma_qp_index_offset) → IsHeld k place slices lines.old frame.old picture →

@@ -6,6 +6,7 @@
 //! `slice_context` is what macroblocks take from the slice's header, its parameter sets and its reference list.
 //! The samples of each macroblock are made after its levels, in place in a frame of the sequence: after each the equations hold of
 //! the macroblocks so far (`in_place::go_on`).
+//! A `Sequence` has the memory, and in it the `Picture` that is decoded; a `Slice` is made where slice data begin, and lent to each macroblock.
 //! The allocator is lent to `Work::activate` alone; nothing that is kept has one, but for the `Vec`s of planes, lines and contexts.
 #![tactic(auto)]
 
@@ -15,10 +16,12 @@ mod frames;
 pub mod in_place;
 pub mod laws;
 mod making;
+mod picture;
 mod places;
 mod run;
 mod samples;
 mod sequence;
+mod slice;
 mod step;
 pub mod work;
 

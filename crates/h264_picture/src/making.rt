@@ -5,7 +5,7 @@ ghost use Rattle.std.specs.Prelude.{◌≡◌, ℕ, ◌+◌, ◌*◌, ◌<◌, t
 ghost use Rattle.h264_near.specs.Coded.{CodedMacroblock};
 ghost use Rattle.h264_near.specs.Keeps.{Keeps};
 ghost use Rattle.h264_near.specs.Skips.{IsSkipped};
-ghost use Rattle.h264_deblock.specs.Steps.{are_alike};
+ghost use Rattle.h264_deblock.specs.Steps.{MovesBy};
 ghost use Rattle.h264_mbsyntax.specs.Holds.{HoldsMacroblock};
 ghost use Rattle.h264_mbsyntax.specs.Possible.{IsPossible};
 ghost use Rattle.h264_recon.specs.Constructed.{coded as coded_as};
@@ -17,10 +17,13 @@ ghost use Rattle.h264_recon.specs.ReadLevels.{is_pcm, is_of_samples};
 
 use crate::in_place::{Finish, go_on, go_on_skipped};
 use crate::sequence::Sequence;
+use crate::slice::Slice;
 use h264_deblock::{Coded, CodedSkip};
 use h264_mbsyntax::Macroblock as Read;
-use h264_near::{Motion, Near, Skipped};
-use h264_recon::{Available, Macroblock, Position, ReadLevels, SliceReferences, given, is_whole};
+use h264_near::{Near, Partition, Skipped};
+use h264_recon::{
+    Available, Macroblock, Position, ReadLevels, SliceReferences, given, partition_of,
+};
 use h264_vectors::SliceContext;
 
 /// The sides that intra prediction may use, in a row of so many macroblocks: to the right of the last one there is none.
@@ -67,29 +70,12 @@ fn given_within<'a>(
     m
 }
 
-/// How many blocks a macroblock has.
+/// How a macroblock that was read is partitioned, if it is an inter macroblock.
 #[inline(always)]
-fn count(motions: &[Option<Motion>; 16]) -> usize
-    ensures { length motions.now ≡ 16 }
+fn partition(read: &Read) -> Option<Partition>
+    ensures { (coded : CodedMacroblock) → HoldsMacroblock read.now coded → MovesBy result read.now.contexts.motions }
 {
-    motions.len()
-}
-
-/// How many places the list of references of a slice has.
-#[inline(always)]
-fn count_references(references: &[Option<u64>; 16]) -> usize
-    ensures { length references.now ≡ 16 }
-{
-    references.len()
-}
-
-/// Whether the blocks of a macroblock that was read are known to move alike.
-#[inline]
-fn moves_as_one(read: &Read) -> bool
-    ensures { (coded : CodedMacroblock) → HoldsMacroblock read.now coded → result ≡ true → are_alike read.now.contexts.motions ≡ true }
-{
-    let _all = count(&read.contexts.motions);
-    is_whole(read)
+    partition_of(read)
 }
 
 impl Sequence {
@@ -97,71 +83,79 @@ impl Sequence {
     ghost use Rattle.h264_picture.specs.Holds.{KeepsPlace, KeepsSyntax, HoldsIn};
     ghost use Rattle.h264_picture.specs.Making.{Making, HasSamples, MakesIn};
     ghost use Rattle.h264_picture.specs.Levels.{transform_fits, AreNone};
+    ghost use Rattle.h264_picture.specs.Sound.{ArePlaces};
 
     /// Makes the samples of the macroblock that was read in its place, if each value of its transform is in range.
     #[inline(never)]
-    pub(crate) fn make_read(&mut self, slice: &SliceContext) -> bool
-        requires next { self.old.next < self.old.size }
+    pub(crate) fn make_read(&mut self, slice: &Slice) -> bool
+        requires next { self.old.picture.next < self.old.size }
         requires qp { self.old.mb.qp ≤ 51 }
+        requires places { ArePlaces self.old.frames slice.now.places }
         ensures same { KeepsPlace self.old self.new }
         ensures syntax { KeepsSyntax self.old self.new }
-        ensures makes { (making : Option Making) → MakesIn making slice.now self.old → MakesIn making slice.now self.new }
-        ensures range { (coded : CodedMacroblock) → HoldsMacroblock self.old.mb coded → result ≡ transform_fits slice.now coded }
+        ensures range { (coded : CodedMacroblock) → HoldsMacroblock self.old.mb coded → result ≡ transform_fits slice.now.context coded }
         ensures samples { result ≡ true → (width size : ℕ) (making : Option Making) (picture : List CodedMacroblock) (coded : CodedMacroblock) →
-            HoldsIn width size picture self.old → HasSamples making picture self.old → MakesIn making slice.now self.old →
-            HoldsMacroblock self.old.mb coded → coded.slice ≡ slice.now.number → IsPossible width slice.now picture coded.prediction →
+            HoldsIn width size picture self.old → HasSamples making picture self.old → MakesIn making slice.now →
+            HoldsMacroblock self.old.mb coded → coded.slice ≡ slice.now.context.number → IsPossible width slice.now.context picture coded.prediction →
             HasSamples making (picture ++ coded ∷ []) self.new }
     {
-        let (read, near) = (&self.mb, &self.near);
+        let (read, near) = (&self.mb, &self.picture.near);
         let references = SliceReferences {
-            places: &self.places,
-            weights: &self.weights,
+            places: &slice.places,
+            weights: &slice.weights,
         };
-        let position = Position {
-            column: self.column,
-            row: self.row,
-        };
-        let m = given_within(read, near, slice, &references, self.across, position);
+        let position = self.picture.position;
+        let m = given_within(
+            read,
+            near,
+            &slice.context,
+            &references,
+            self.across,
+            position,
+        );
         let coded = Coded {
             near,
             own: &read.contexts,
-            whole: moves_as_one(read),
-            filter: &self.filter,
+            partition: partition(read),
+            filter: &slice.filter,
         };
         let finish = Finish {
-            levels: ReadLevels::new(read, slice.chroma_qp_index_offset),
+            levels: ReadLevels::new(read, slice.context.chroma_qp_index_offset),
             coded,
         };
         let (frame, pool) = (&mut self.frames.frame, &self.frames.pool);
-        go_on(&mut self.lines, frame, &m, &finish, pool, position).is_ok()
+        go_on(&mut self.picture.lines, frame, &m, &finish, pool, position).is_ok()
     }
 
     /// Makes the samples of a skipped macroblock in its place.
-    pub(crate) fn make_skipped(&mut self, slice: &SliceContext, skipped: &Skipped)
-        requires { self.old.next < self.old.size }
+    pub(crate) fn make_skipped(&mut self, slice: &Slice, skipped: &Skipped)
+        requires next { self.old.picture.next < self.old.size }
+        requires places { ArePlaces self.old.frames slice.now.places }
         ensures same { KeepsPlace self.old self.new }
         ensures syntax { KeepsSyntax self.old self.new }
-        ensures makes { (making : Option Making) → MakesIn making slice.now self.old → MakesIn making slice.now self.new }
         ensures samples { (width size : ℕ) (making : Option Making) (picture : List CodedMacroblock) (coded : CodedMacroblock) →
-            HoldsIn width size picture self.old → HasSamples making picture self.old → MakesIn making slice.now self.old →
-            IsSkipped skipped.now coded → coded.slice ≡ slice.now.number → IsPossible width slice.now picture coded.prediction →
-            AreNone (levels_of slice.now.chroma_qp_index_offset coded) → HasSamples making (picture ++ coded ∷ []) self.new }
+            HoldsIn width size picture self.old → HasSamples making picture self.old → MakesIn making slice.now →
+            IsSkipped skipped.now coded → coded.slice ≡ slice.now.context.number → IsPossible width slice.now.context picture coded.prediction →
+            AreNone (levels_of slice.now.context.chroma_qp_index_offset coded) → HasSamples making (picture ++ coded ∷ []) self.new }
     {
-        let _all = count_references(&slice.references);
         let references = SliceReferences {
-            places: &self.places,
-            weights: &self.weights,
+            places: &slice.places,
+            weights: &slice.weights,
         };
-        let position = Position {
-            column: self.column,
-            row: self.row,
-        };
+        let position = self.picture.position;
         let coded = CodedSkip {
-            near: &self.near,
+            near: &self.picture.near,
             own: skipped,
-            filter: &self.filter,
+            filter: &slice.filter,
         };
         let (frame, pool) = (&mut self.frames.frame, &self.frames.pool);
-        go_on_skipped(&mut self.lines, frame, &coded, &references, pool, position);
+        go_on_skipped(
+            &mut self.picture.lines,
+            frame,
+            &coded,
+            &references,
+            pool,
+            position,
+        );
     }
 }

@@ -7,7 +7,7 @@ ghost use Rattle.h264_picture.specs.Sound.{IsPlace, ArePlaces};
 use crate::frames::Frames;
 
 /// A place that is not this one.
-pub(crate) fn another_than(place: usize) -> u8
+fn another_than(place: usize) -> u8
     ensures other { result ≢ place }
     ensures low { result < 2 }
 {

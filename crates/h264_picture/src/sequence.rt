@@ -7,14 +7,15 @@ ghost use Rattle.h264_picture.specs.Sound.{IsSound};
 
 use crate::buffer::buffer_size;
 use crate::frames::Frames;
-use crate::places::{another_than, places_within};
+use crate::picture::Picture;
+use crate::places::places_within;
 use crate::samples::SliceSamples;
+use crate::slice::Slice;
 use h264_base::{Elements, Rule, Stop};
 use h264_bits::{Bits, check, look};
-use h264_deblock::{Deblocking, SliceFilter};
 use h264_mbsyntax::Macroblock;
 use h264_near::Near;
-use h264_recon::{Lines, SliceWeights};
+use h264_recon::{Lines, Position};
 use h264_sps::sps::Sps;
 use h264_vectors::SliceContext;
 use std::alloc::{AllocError, Global};
@@ -22,10 +23,6 @@ use std::alloc::{AllocError, Global};
 /// All memory of a sequence, and the picture that is decoded.
 #[derive(Drop)]
 pub struct Sequence {
-    /// The contexts of the macroblocks above and to the left of the next one.
-    pub(crate) near: Near,
-    /// Their samples, before the deblocking filter.
-    pub(crate) lines: Lines,
     pub(crate) frames: Frames,
     /// How many macroblocks a picture has in a row.
     pub(crate) across: usize,
@@ -33,29 +30,16 @@ pub struct Sequence {
     pub(crate) down: usize,
     /// How many macroblocks a picture has.
     pub(crate) size: u32,
-    /// The address of the next macroblock of the picture.
-    pub(crate) next: u32,
-    /// Its column and its row.
-    pub(crate) column: usize,
-    pub(crate) row: usize,
-    /// The last macroblock, and the place of the next.
+    pub(crate) picture: Picture,
+    /// The last macroblock. The next one is read into the same place, so that none takes or clears some 2 KB of its own.
     pub(crate) mb: Macroblock,
-    /// The places of the reference pictures of the slice.
-    pub(crate) places: [u8; 16],
-    pub(crate) filter: SliceFilter,
-    pub(crate) weights: SliceWeights,
 
-    ghost within: { next ≤ size },
-    ghost sound: { IsSound across down size next column row lines frames places },
+    ghost within: { picture.next ≤ size },
+    ghost sound: { IsSound across down size picture frames },
 }
 
-/// A filter that filters nothing.
-const NO_FILTER: SliceFilter = SliceFilter {
-    deblocking: Deblocking::Off,
-    filter_offset_a: 0,
-    filter_offset_b: 0,
-    chroma_qp_index_offset: 0,
-};
+/// Where the first macroblock of a picture stands.
+const FIRST: Position = Position { column: 0, row: 0 };
 
 impl Sequence {
     ghost use Rattle.std.specs.Prelude.{◌≡◌, ◌≢◌, ℕ, ◌-◌, ◌+◌, ◌*◌, ◌<◌, ◌≤◌, ◌^◌, Option, Some, List, [], length, true, OnOk, IfOk};
@@ -68,7 +52,7 @@ impl Sequence {
     ghost use Rattle.h264_picture.specs.Lent.{KeepsLent, lent_within};
     ghost use Rattle.h264_picture.specs.Places.{IsFrameOf};
     ghost use Rattle.h264_picture.specs.Holds.{is_frame_size, ServesIn, HoldsIn, KeepsPlace};
-    ghost use Rattle.h264_picture.specs.Making.{Making, HoldsMade, MakesIn, MakesWith, IsMadeOf, setting_of};
+    ghost use Rattle.h264_picture.specs.Making.{Making, HoldsMade, MakesWith, IsMadeOf, setting_of};
 
     /// Takes all memory of a sequence.
     pub(crate) fn new(alloc: Global, sps: &Sps) -> Result<Sequence, AllocError>
@@ -83,19 +67,17 @@ impl Sequence {
         let lines = Lines::new(alloc, across)?;
         let frames = Frames::new(alloc, buffer_size(sps) + 1, 16 * across, 16 * down)?;
         Ok(Sequence {
-            near,
-            lines,
             frames,
             across,
             down,
             size: sps.frame_size.width * sps.frame_size.height,
-            next: 0,
-            column: 0,
-            row: 0,
+            picture: Picture {
+                near,
+                lines,
+                next: 0,
+                position: FIRST,
+            },
             mb: Macroblock::none(),
-            places: [1; 16],
-            filter: NO_FILTER,
-            weights: SliceWeights::NONE,
         })
     }
 
@@ -111,11 +93,9 @@ impl Sequence {
         ensures others { (k : ℕ) → k ≢ place → lent_within self.old.frames k ≢ None → lent_within self.new.frames k ≡ lent_within self.old.frames k }
     {
         self.frames.begin(place);
-        self.places = [another_than(place); 16];
-        self.near.clear();
-        self.next = 0;
-        self.column = 0;
-        self.row = 0;
+        self.picture.near.clear();
+        self.picture.next = 0;
+        self.picture.position = FIRST;
     }
 
     /// The picture has ended.
@@ -132,53 +112,36 @@ impl Sequence {
         self.frames.end();
     }
 
-    /// What stands after the header of a slice.
-    fn read_slice_data<S: Elements>(
-        &mut self,
-        bits: &mut Bits,
-        slice: &SliceContext,
-        sink: &mut S,
-    ) -> Result<(), Stop>
-        requires usable { Usable slice.now }
-        requires qp { slice.now.qp ≤ 51 }
-        requires room { HasRoom S.failures sink.old }
-        ensures meets { (width size : ℕ) (making : Option Making) (picture : List CodedMacroblock) → HoldsMade width size making picture self.old →
-            slice.now.number ≡ length picture → MakesIn making slice.now self.old →
-            Meets S.took S.failures (λ _ after. HoldsMade width size making after self.new)
-            (slice_data (transform_fits slice.now) width size slice.now picture) bits.old bits.new sink.old sink.new result }
-        ensures quiet { OnOk result (IsQuiet S.failures sink.old sink.new) }
-        ensures same { KeepsPlace self.old self.new }
-    {
-        let ahead = look(bits, sink);
-        check(ahead.follows, Rule::SliceEmpty, ahead.bit)?;
-        self.mb.qp = slice.qp;
-        let left = self.size - self.next;
-        self.read_macroblocks(bits, slice, left, sink)
-    }
-
     /// Reads the slice data of a slice whose frames' places begin with `base`.
     pub(crate) fn slice<S: Elements>(
         &mut self,
         bits: &mut Bits,
-        slice: &SliceContext,
+        context: &SliceContext,
         samples: &SliceSamples,
         base: usize,
         sink: &mut S,
     ) -> Result<(), Stop>
-        requires usable { Usable slice.now }
-        requires qp { slice.now.qp ≤ 51 }
+        requires usable { Usable context.now }
+        requires qp { context.now.qp ≤ 51 }
         requires room { HasRoom S.failures sink.old }
         ensures meets { (width size : ℕ) (making : Option Making) (picture : List CodedMacroblock) → HoldsMade width size making picture self.old →
-            slice.now.number ≡ length picture → MakesWith making slice.now samples.now base self.old →
+            context.now.number ≡ length picture → MakesWith making context.now samples.now base self.old →
             Meets S.took S.failures (λ _ after. HoldsMade width size making after self.new)
-            (slice_data (transform_fits slice.now) width size slice.now picture) bits.old bits.new sink.old sink.new result }
+            (slice_data (transform_fits context.now) width size context.now picture) bits.old bits.new sink.old sink.new result }
         ensures quiet { OnOk result (IsQuiet S.failures sink.old sink.new) }
         ensures frames { self.old.frames.begun ≡ true → KeepsLent self.old.frames self.new.frames }
         ensures same { KeepsPlace self.old self.new }
     {
-        self.places = places_within(&self.frames, &samples.places, base);
-        self.filter = samples.filter;
-        self.weights = samples.weights;
-        self.read_slice_data(bits, slice, sink)
+        let ahead = look(bits, sink);
+        check(ahead.follows, Rule::SliceEmpty, ahead.bit)?;
+        self.mb.qp = context.qp;
+        let slice = Slice {
+            context: *context,
+            places: places_within(&self.frames, &samples.places, base),
+            filter: samples.filter,
+            weights: samples.weights,
+        };
+        let left = self.size - self.picture.next;
+        self.read_macroblocks(bits, &slice, left, sink)
     }
 }

@@ -166,7 +166,7 @@ impl Work {
     {
         match &self.active {
             None => 0,
-            Some(sequence) => sequence.next,
+            Some(sequence) => sequence.picture.next,
         }
     }
 
@@ -176,7 +176,7 @@ impl Work {
     {
         match &self.active {
             None => false,
-            Some(sequence) => sequence.next == sequence.size,
+            Some(sequence) => sequence.picture.next == sequence.size,
         }
     }
 

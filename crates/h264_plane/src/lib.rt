@@ -15,7 +15,7 @@ mod pool;
 pub use clip::clip1;
 pub use frame::{Component, Frame};
 pub use frame_store::FrameStore;
-pub use plane::{MAX_SIDE, Plane};
+pub use plane::{MAX_SIDE, Plane, put_row, put_rows};
 pub use pool::Pool;
 
 #[cfg(test)]

@@ -28,9 +28,9 @@ impl Model for Plane {
     ghost invariant = { λ p. IsKept p.width p.height (vec_len p.samples) };
 }
 
-/// Writes a row of `W` samples over others. Eight and sixteen are stored as one vector, which the compiler does not make of each copy.
+/// Writes a row of `W` samples over others. Four, eight and sixteen are stored as one vector, which the compiler does not make of each copy.
 #[inline(always)]
-fn put_row<const W: usize>(out: &mut [u8], row: &[u8])
+pub fn put_row<const W: usize>(out: &mut [u8], row: &[u8])
     requires out { length out.old ≡ W }
     requires row { length row.now ≡ W }
     ensures { out.new ≡ row.now }
@@ -39,6 +39,8 @@ fn put_row<const W: usize>(out: &mut [u8], row: &[u8])
         u8x16::from_slice(row).copy_to_slice(out);
     } else if W == 8 {
         u8x8::from_slice(row).copy_to_slice(out);
+    } else if W == 4 {
+        u8x4::from_slice(row).copy_to_slice(out);
     } else {
         out.copy_from_slice(row);
     }
@@ -47,7 +49,7 @@ fn put_row<const W: usize>(out: &mut [u8], row: &[u8])
 /// Writes a block of `W` columns and `H` rows, row by row, into rows of `width` samples: its upper left sample goes to column `x` of row `y`. Goes from
 /// row to row by an addition.
 #[inline(always)]
-fn put_rows<const W: usize, const H: usize>(
+pub fn put_rows<const W: usize, const H: usize>(
     samples: &mut [u8],
     width: usize,
     x: usize,

@@ -153,7 +153,7 @@ unfolding luma_by
 no_luma kind.Intra4x4 mb e = absurd (false≢true e)
 no_luma (kind.Intra16x16 mode) mb e = absurd (false≢true e)
 no_luma kind.Pcm mb e = refl
-no_luma (kind.Inter whole) mb e = absurd (false≢true e)
+no_luma (kind.Inter partition) mb e = absurd (false≢true e)
 
 pub pcm_luma : (r : ReadLevels) → is_pcm r.read.now.kind ≡ true → (levels_in r).luma ≡ luma.NotCoded
 unfolding levels_in

@@ -108,14 +108,14 @@ unfolding luma_by
 luma-is kind.Intra4x4 mb m p l t = luma-4x4 m.prediction m.residual _ _ _ _ _ _ p refl t (all-blocks 16 16 _ _ _ l.0)
 luma-is (kind.Intra16x16 mode) mb m p l t = luma-16x16 m.prediction m.residual _ _ _ _ _ p (sym l.1) (all-blocks 15 16 _ _ _ l.0)
 luma-is kind.Pcm mb m p l t = luma-pcm m.prediction m.residual _ _ p
-luma-is (kind.Inter whole) mb m p l t = luma-inter m.prediction m.residual _ _ _ _ _ p.0 refl t (all-blocks 16 16 _ _ _ l.0)
+luma-is (kind.Inter partition) mb m p l t = luma-inter m.prediction m.residual _ _ _ _ _ p.0 refl t (all-blocks 16 16 _ _ _ l.0)
 
 chroma-is : (k : Kind) (c : ℕ) (mb : Macroblock) (m : CodedMacroblock) → c < 2 → holds.IsPrediction k mb m.prediction → holds.HasChroma k mb m → m.chroma_totals ≡ mb.contexts.chroma_totals → chroma_by (is_pcm k) c mb ≡ chroma_levels c m.prediction m.chroma_totals m.residual
 unfolding chroma_by
 chroma-is kind.Intra4x4 c mb m i p l t = chroma-4x4 c m.prediction m.residual _ _ _ _ _ _ _ p refl t (sym (element m.residual.chroma_dc c _ [] (l.0.each c i))) (blocks 15 (4 * c) 4 8 _ _ _ (omega arith) l.1)
 chroma-is (kind.Intra16x16 mode) c mb m i p l t = chroma-16x16 c m.prediction m.residual _ _ _ _ _ _ _ p refl t (sym (element m.residual.chroma_dc c _ [] (l.0.each c i))) (blocks 15 (4 * c) 4 8 _ _ _ (omega arith) l.1)
 chroma-is kind.Pcm c mb m i p l t = chroma-pcm c m.prediction m.residual _ _ p
-chroma-is (kind.Inter whole) c mb m i p l t = chroma-inter c m.prediction m.residual _ _ _ _ _ _ p.0 refl t (sym (element m.residual.chroma_dc c _ [] (l.0.each c i))) (blocks 15 (4 * c) 4 8 _ _ _ (omega arith) l.1)
+chroma-is (kind.Inter partition) c mb m i p l t = chroma-inter c m.prediction m.residual _ _ _ _ _ _ p.0 refl t (sym (element m.residual.chroma_dc c _ [] (l.0.each c i))) (blocks 15 (4 * c) 4 8 _ _ _ (omega arith) l.1)
 
 pub levels-read : (r : ReadLevels) (m : CodedMacroblock) → holds.HoldsMacroblock r.read.now m → levels_in r ≡ levels_of r.chroma_qp_index_offset m
 unfolding levels_in

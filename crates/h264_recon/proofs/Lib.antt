@@ -8,6 +8,7 @@ pub mod Kernels
 pub mod Step
 pub mod Runs
 pub mod Parts
+pub mod Parted
 pub mod Pool
 pub mod References
 pub mod Existence

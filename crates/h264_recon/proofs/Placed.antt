@@ -1,9 +1,12 @@
 -- Motions by index and by picture.
-use Rattle.std.proofs.Common.{◌≡◌, ℕ, zero, suc, ◌/◌, ◌%◌, ◌<◌, IsTrue, List, [], ◌∷◌, length, get_or, Option, Some, None, refl, ◌∙◌, arith}
+use Rattle.std.proofs.Common.{◌≡◌, ℕ, zero, suc, ◌/◌, ◌%◌, ◌<◌, IsTrue, List, [], ◌∷◌, length, get_or, replicate, Option, Some, None, refl, sym, ap, ◌∙◌, arith}
 use Rattle.std.specs.List.{slice_get, AllByRecursion}
 use Rattle.std.specs.Option.{option_map, option_and_then, is_some}
 use Rattle.h264_near.specs.declared.motion.Motion as derived
 use Rattle.h264_near.specs.Coded as coded
+use Rattle.h264_near.specs.Partition.{first_of, MovesByPartition}
+use Rattle.h264_near.specs.declared.partition.Partition.{Partition}
+use Rattle.h264_near.specs.declared.partition.Partition.TheVariants.{P16x16}
 use Rattle.h264_near.specs.Coded.{CodedMacroblock, number_of, motion_in}
 use Rattle.h264_near.specs.Keeps.{AreContexts}
 use Rattle.h264_near.specs.declared.context.Contexts.{Contexts}
@@ -12,13 +15,31 @@ use Rattle.h264_mbsyntax.specs.Possible.{Refers}
 use Rattle.h264_recon.specs.Given.{motion_of, motions_of}
 use Rattle.h264_recon.specs.Inter.{no_motion}
 use Rattle.h264_recon.specs.Placed.{ArePlaced, IsOneOf}
-use Rattle.h264_recon.specs.Predicted.{placed_motion, placed_at, placed_motions}
+use Rattle.h264_recon.specs.Predicted.{placed_motion, placed_at, placed_motions, parted_at, parted_motions}
 use Rattle.h264_recon.specs.declared.macroblock.Motion.{Motion}
-use Rattle.h264_recon.proofs.Tables.{table-ext, table-at}
+use Rattle.h264_recon.proofs.Tables.{table-ext, table-at, table-replicate}
 
 few : (k : ℕ) → k < 16 → number_of (k % 4) (k / 4) < 16
 unfolding number_of
 few k h = omega arith
+
+-- ---- by partition
+
+-- the motion of a place
+pub parted-place : (partition : Partition) (places : List ℕ) (motions : List (Option derived.Motion)) (n : ℕ) → n < 16 →
+    get_or (parted_motions partition places motions) n no_motion ≡ placed_motion places (get_or motions (first_of partition (number_of (n % 4) (n / 4))) None)
+unfolding parted_motions
+parted-place partition places motions n h = table-at 16 (parted_at partition places motions) n no_motion h
+
+-- of a macroblock that moves by its partition they are those of its blocks
+pub parted-are : (partition : Partition) (places : List ℕ) (motions : List (Option derived.Motion)) → MovesByPartition partition motions → parted_motions partition places motions ≡ placed_motions places motions
+unfolding parted_motions placed_motions
+parted-are partition places motions moves = table-ext 16 (parted_at partition places motions) (placed_at places motions) (λ k h. ap (placed_motion places) (sym (moves.each (number_of (k % 4) (k / 4)) (few k h))))
+
+-- one partition
+pub parted-one : (places : List ℕ) (motions : List (Option derived.Motion)) → parted_motions P16x16 places motions ≡ replicate 16 (placed_motion places (get_or motions 0 None))
+unfolding parted_motions
+parted-one places motions = sym (table-replicate 16 (placed_motion places (get_or motions 0 None)))
 
 -- ---- an index names one of the places
 
@@ -26,11 +47,8 @@ pub points-at : (places : List ℕ) (m : Option derived.Motion) → IsOneOf plac
 points-at places None = (0, omega arith, refl)
 points-at places (Some m) = (m.ref_idx % 16, omega arith, refl)
 
-pub points : (places : List ℕ) (motions : List (Option derived.Motion)) (list : List Motion) → list ≡ placed_motions places motions → (n : ℕ) → n < 16 → IsOneOf places (get_or list n no_motion).picture
-unfolding placed_motions
-points places motions list e n h =
-    let is : get_or list n no_motion ≡ placed_at places motions n = rw e (table-at 16 (placed_at places motions) n no_motion h) in
-    rw is (points-at places (get_or motions (number_of (n % 4) (n / 4)) None))
+pub points : (partition : Partition) (places : List ℕ) (motions : List (Option derived.Motion)) (n : ℕ) → n < 16 → IsOneOf places (get_or (parted_motions partition places motions) n no_motion).picture
+points partition places motions n h = rw (parted-place partition places motions n h) (points-at places (get_or motions (first_of partition (number_of (n % 4) (n / 4))) None))
 
 -- ---- and the one of the picture
 

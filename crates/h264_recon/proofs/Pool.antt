@@ -37,16 +37,6 @@ shown_at Cr k frames m x y shown a b =
 pub motion_room : (frames : List Frame) (c r : ℕ) (motion : List Motion) (n : ℕ) (m : Motion) (i : ℕ) → HaveRoom frames c r motion → n < 16 → m ≡ get_or motion n no_motion → i ≡ m.picture → HasRoom frames c r i
 motion_room frames c r motion n m i room less em ei = rw (ei, em) (room n less)
 
--- p columns, or rows, from number i on are some of the n of a macroblock
-pub part_inside : (n c i p size : ℕ) → i + p ≤ n → n * c + n ≤ size → n * c + i + p ≤ size
-part_inside n c i p size inner room = omega arith
-
--- the room that a chroma plane has
-pub chroma_room : (t : Bool) (frames : List Frame) (c r n : ℕ) (f : Frame) (q : Samples) → HasRoom frames c r n → f ≡ frame_at frames n → q ≡ plane_of (chroma_plane t) f →
-    (8 * c + 8 ≤ q.width) × (8 * r + 8 ≤ q.height)
-chroma_room true frames c r n f q room ef eq = rw (eq, ef) room.cr
-chroma_room false frames c r n f q room ef eq = rw (eq, ef) room.cb
-
 -- ---- the samples
 
 made_inter : (k : Setting) (c r : ℕ) (m : Coded) (p : Component) (s : ℕ → ℕ → ℕ) (x y : ℕ) (motion : List Motion) → m.prediction ≡ Inter motion →

@@ -9,7 +9,7 @@ use Rattle.std.specs.Vec.{with_items, vec_len}
 use borrow.Rule.Slice.PartMut.{mid_of}
 use Rattle.h264_recon.specs.Lines.{IsSaved}
 use Rattle.h264_recon.specs.declared.store.Store.{Store}
-use Rattle.h264_recon.specs.Parts.{place, IsRun}
+use Rattle.h264_recon.specs.Parts.{IsRun}
 
 -- a part of a list
 pub mid_length : (a k : ℕ) (xs : List ℕ) → a + k ≤ length xs → length (mid_of a k xs) ≡ k
@@ -17,70 +17,6 @@ mid_length a k xs p = grind (arith, elements)
 
 pub mid_at : (a k i : ℕ) (xs : List ℕ) → i < k → a + k ≤ length xs → slice_index (mid_of a k xs) i ≡ slice_index xs (a + i)
 mid_at a k i xs p q = grind (arith, elements)
-
--- ---- a row of a part of 8 columns and rows, of 16 to a row
-
-inside16 : (x y j u v i m : ℕ) → x < 2 → u < 2 → i < 8 → m < 8 → j < 8 → 16 * (8 * y + j) + 8 * x ≤ place 16 8 u v i m → place 16 8 u v i m < 16 * (8 * y + j) + 8 * x + 8 →
-    (u ≡ x) × ((v ≡ y) × (m ≡ j))
-inside16 x y j u v i m a b c d e low high = (omega arith, (omega arith, omega arith))
-
-kept16 : (old new run : List ℕ) (x y j u v i m : ℕ) → IsRun old new (16 * (8 * y + j) + 8 * x) run → length run ≡ 8 → x < 2 → u < 2 → i < 8 → m < 8 → j < 8 →
-    ((u ≡ x) × ((v ≡ y) × (m ≡ j)) → ⊥) → slice_index new (place 16 8 u v i m) ≡ slice_index old (place 16 8 u v i m)
-kept16 old new run x y j u v i m put size a b c d e other = ⊎_elim
-    (λ before. put.before _ before)
-    (λ low. ⊎_elim
-    (λ high. absurd (other (inside16 x y j u v i m a b c d e low high)))
-    (λ after. put.after _ (omega arith))
-    (cases_lt (place 16 8 u v i m) (16 * (8 * y + j) + 8 * x + 8)))
-    (cases_lt (place 16 8 u v i m) (16 * (8 * y + j) + 8 * x))
-
-pub row_kept16 : (old new block : List ℕ) (k x y j u v i m : ℕ) → k ≡ 8 → IsRun old new (16 * (8 * y + j) + 8 * x) (mid_of (8 * j) k block) → length block ≡ 8 * 8 → x < 2 → u < 2 → i < 8 → m < 8 → j < 8 →
-    ((u ≢ x) ⊎ (v ≢ y)) → slice_index new (place 16 8 u v i m) ≡ slice_index old (place 16 8 u v i m)
-row_kept16 old new block k x y j u v i m is put size a b c d e other =
-    kept16 old new (mid_of (8 * j) k block) x y j u v i m put (mid_length (8 * j) k block (omega arith) ∙ is) a b c d e
-    (λ same. ⊎_elim (λ f. f same.0) (λ f. f same.1.0) other)
-
-pub row_here16 : (old new block : List ℕ) (k x y j i m : ℕ) → k ≡ 8 → IsRun old new (16 * (8 * y + j) + 8 * x) (mid_of (8 * j) k block) → length block ≡ 8 * 8 → x < 2 → i < 8 → m < j + 1 → j < 8 →
-    (m < j → slice_index old (place 16 8 x y i m) ≡ slice_index block (8 * m + i)) → slice_index new (place 16 8 x y i m) ≡ slice_index block (8 * m + i)
-row_here16 old new block k x y j i m is put size a b c d before = ⊎_elim
-    (λ (earlier : m < j). kept16 old new (mid_of (8 * j) k block) x y j x y i m put (mid_length (8 * j) k block (omega arith) ∙ is) a a b (omega arith) d (λ same. absurd (omega (arith, same.1.1))) ∙ before earlier)
-    (λ (here : j ≤ m).
-    let e : m ≡ j = omega arith in
-    let there : place 16 8 x y i j ≡ 16 * (8 * y + j) + 8 * x + i = omega arith in
-    rw e (ap (λ z. slice_index new z) there ∙ put.here i (omega (arith, mid_length (8 * j) k block (omega arith))) ∙ mid_at (8 * j) k i block (omega arith) (omega arith)))
-    (cases_lt m j)
-
--- ---- a row of a part of 4 columns and rows, of 8 to a row
-
-inside8 : (x y j u v i m : ℕ) → x < 2 → u < 2 → i < 4 → m < 4 → j < 4 → 8 * (4 * y + j) + 4 * x ≤ place 8 4 u v i m → place 8 4 u v i m < 8 * (4 * y + j) + 4 * x + 4 →
-    (u ≡ x) × ((v ≡ y) × (m ≡ j))
-inside8 x y j u v i m a b c d e low high = (omega arith, (omega arith, omega arith))
-
-kept8 : (old new run : List ℕ) (x y j u v i m : ℕ) → IsRun old new (8 * (4 * y + j) + 4 * x) run → length run ≡ 4 → x < 2 → u < 2 → i < 4 → m < 4 → j < 4 →
-    ((u ≡ x) × ((v ≡ y) × (m ≡ j)) → ⊥) → slice_index new (place 8 4 u v i m) ≡ slice_index old (place 8 4 u v i m)
-kept8 old new run x y j u v i m put size a b c d e other = ⊎_elim
-    (λ before. put.before _ before)
-    (λ low. ⊎_elim
-    (λ high. absurd (other (inside8 x y j u v i m a b c d e low high)))
-    (λ after. put.after _ (omega arith))
-    (cases_lt (place 8 4 u v i m) (8 * (4 * y + j) + 4 * x + 4)))
-    (cases_lt (place 8 4 u v i m) (8 * (4 * y + j) + 4 * x))
-
-pub row_kept8 : (old new block : List ℕ) (k x y j u v i m : ℕ) → k ≡ 4 → IsRun old new (8 * (4 * y + j) + 4 * x) (mid_of (4 * j) k block) → length block ≡ 4 * 4 → x < 2 → u < 2 → i < 4 → m < 4 → j < 4 →
-    ((u ≢ x) ⊎ (v ≢ y)) → slice_index new (place 8 4 u v i m) ≡ slice_index old (place 8 4 u v i m)
-row_kept8 old new block k x y j u v i m is put size a b c d e other =
-    kept8 old new (mid_of (4 * j) k block) x y j u v i m put (mid_length (4 * j) k block (omega arith) ∙ is) a b c d e
-    (λ same. ⊎_elim (λ f. f same.0) (λ f. f same.1.0) other)
-
-pub row_here8 : (old new block : List ℕ) (k x y j i m : ℕ) → k ≡ 4 → IsRun old new (8 * (4 * y + j) + 4 * x) (mid_of (4 * j) k block) → length block ≡ 4 * 4 → x < 2 → i < 4 → m < j + 1 → j < 4 →
-    (m < j → slice_index old (place 8 4 x y i m) ≡ slice_index block (4 * m + i)) → slice_index new (place 8 4 x y i m) ≡ slice_index block (4 * m + i)
-row_here8 old new block k x y j i m is put size a b c d before = ⊎_elim
-    (λ (earlier : m < j). kept8 old new (mid_of (4 * j) k block) x y j x y i m put (mid_length (4 * j) k block (omega arith) ∙ is) a a b (omega arith) d (λ same. absurd (omega (arith, same.1.1))) ∙ before earlier)
-    (λ (here : j ≤ m).
-    let e : m ≡ j = omega arith in
-    let there : place 8 4 x y i j ≡ 8 * (4 * y + j) + 4 * x + i = omega arith in
-    rw e (ap (λ z. slice_index new z) there ∙ put.here i (omega (arith, mid_length (4 * j) k block (omega arith))) ∙ mid_at (4 * j) k i block (omega arith) (omega arith)))
-    (cases_lt m j)
 
 -- below the last row of a macroblock of n columns and rows there are no samples
 pub beyond : (n k : ℕ) (own : List ℕ) → length own ≡ n * n → n ≤ k → slice_index own (n * k + (n - 1)) ≡ 0

@@ -2,6 +2,8 @@
 use Rattle.std.proofs.Common.{◌≡◌, ℕ, ◌/◌, ◌%◌, Bool, true, List, length, replicate, Option, Some, None, ℤ, refl, ap, sym, ◌∙◌, arith, subst}
 use Rattle.std.proofs.lemmas.List.{get_or-replicate}
 use Rattle.h264_base.specs.declared.weight.Weights.{Weights}
+use Rattle.h264_near.specs.Partition.{MovesByPartition}
+use Rattle.h264_near.specs.declared.partition.Partition.TheVariants.{P16x16}
 use Rattle.h264_near.specs.declared.motion.Motion.{Motion}
 use Rattle.h264_near.specs.declared.skipped.Skipped.{Skipped}
 use Rattle.h264_near.specs.Coded as coded
@@ -9,7 +11,6 @@ use Rattle.h264_near.specs.Coded.{CodedMacroblock, number_of}
 use Rattle.h264_near.specs.Skips.{IsSkipped}
 use Rattle.h264_near.proofs.Skips.{contexts_of, skipped-contexts}
 use Rattle.h264_vectors.specs.declared.slice.SliceContext.{SliceContext}
-use Rattle.h264_vectors.proofs.Parts.{alike-all}
 use Rattle.h264_mbsyntax.specs.Possible.{IsPossible}
 use Rattle.h264_recon.specs.Constructed.{IsWithin}
 use Rattle.h264_recon.specs.Given.{available, no_sides, used_by, given}
@@ -37,6 +38,9 @@ unfolding placed_motions number_of
 one-placed places m =
     table-replicate 16 (placed_motion places (Some m)) ∙ table-ext 16 (λ k. placed_motion places (Some m)) (placed_at places (replicate 16 (Some m)))
     (λ k i. ap (placed_motion places) (sym (get_or-replicate 16 (number_of (k % 4) (k / 4)) (Some m) None (omega arith))))
+
+alike-all : (m : Option Motion) → MovesByPartition P16x16 (replicate 16 m)
+alike-all m = record { each = λ n h. get_or-replicate 16 n m None h }
 
 no-sides : (p : coded.Prediction) (motions : List (Option Motion)) (w : ℕ) (xs : List CodedMacroblock) (slice : ℕ) (constrained : Bool) → p ≡ coded.Inter motions → no_sides ≡ used_by p (available w xs slice constrained)
 unfolding used_by

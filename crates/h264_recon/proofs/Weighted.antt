@@ -18,7 +18,8 @@ use Rattle.h264_recon.specs.Weights.{AreInRange, index_weights, weighted_if}
 use Rattle.h264_recon.specs.Weighing.{index_of, IsRunWeighted, ArePlacesWeighted, AreAllWeighted}
 use Rattle.h264_plane.specs.Places.{side}
 use Rattle.h264_plane.specs.declared.frame.Component.TheVariants.{Y, Cb, Cr}
-use Rattle.h264_vectors.specs.Agrees.{AreAlike}
+use Rattle.h264_near.specs.Partition.{MovesByPartition}
+use Rattle.h264_near.specs.declared.partition.Partition.TheVariants.{P16x16}
 use Rattle.h264_recon.proofs.Tables.{table-ext, table-at, table-replicate}
 
 pub few : (k : ℕ) → k < 16 → number_of (k % 4) (k / 4) < 16
@@ -75,7 +76,7 @@ range-grown each n o h before own k i = ⊎_elim
     (cases_lt k n)
 
 -- where the first of blocks that are predicted alike stands for all, the weights are those of each
-pub whole-is : (weights : List (Option Weights)) (whole : Bool) (motions : List (Option Motion)) → (IsTrue whole → AreAlike motions) → weights_of_blocks weights whole motions ≡ placed_weights weights motions
+pub whole-is : (weights : List (Option Weights)) (whole : Bool) (motions : List (Option Motion)) → (IsTrue whole → MovesByPartition P16x16 motions) → weights_of_blocks weights whole motions ≡ placed_weights weights motions
 unfolding placed_weights number_of
 whole-is weights false motions same = refl
 whole-is weights true motions same =

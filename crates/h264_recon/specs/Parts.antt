@@ -1,11 +1,11 @@
--- A macroblock of w columns and rows by parts of n columns and rows, row by row. A working form.
-use Rattle.std.specs.Prelude.{◌≡◌, ◌≢◌, ◌⊎◌, ℕ, ◌+◌, ◌*◌, ◌<◌, ◌≤◌, List, length, slice_index, get_or}
-use Rattle.h264_recon.specs.Inter.{no_motion}
+-- A macroblock whose samples are predicted part by part. A working form.
+use Rattle.std.specs.Prelude.{◌≡◌, ℕ, ◌+◌, ◌*◌, ◌/◌, ◌<◌, ◌≤◌, List, length, slice_index}
+use Rattle.h264_plane.specs.declared.frame.Component.TheVariants.{Y, Cb, Cr}
+use Rattle.h264_plane.specs.declared.frame.Frame.{Frame}
+use Rattle.h264_inter.specs.Reference.{HasBlock}
+use Rattle.h264_recon.specs.Pool.{from_pool}
 use Rattle.h264_recon.specs.declared.macroblock.Motion.{Motion}
-
--- the place of a sample of the part at column x and row y of parts
-abbrev pub place : ℕ → ℕ → ℕ → ℕ → ℕ → ℕ → ℕ
-place w n x y i j = w * (n * y + j) + (n * x + i)
+use Rattle.h264_recon.specs.declared.store.Samples.{Samples}
 
 -- samples are written from a place on, and each other one is kept
 pub record IsRun (old new : List ℕ) (start : ℕ) (run : List ℕ) : Type 0 where
@@ -14,19 +14,24 @@ pub record IsRun (old new : List ℕ) (start : ℕ) (run : List ℕ) : Type 0 wh
   pub before : (k : ℕ) → k < start → slice_index new k ≡ slice_index old k
   pub after : (k : ℕ) → start + length run ≤ k → slice_index new k ≡ slice_index old k
 
--- one of four parts is written, and the others are kept
-pub record IsPut (w n : ℕ) (old new : List ℕ) (x y : ℕ) (part : List ℕ) : Type 0 where
-  pub here : (i j : ℕ) → i < n → j < n → slice_index new (place w n x y i j) ≡ slice_index part (n * j + i)
-  pub kept : (u v i j : ℕ) → u < 2 → v < 2 → i < n → j < n → (u ≢ x) ⊎ (v ≢ y) → slice_index new (place w n u v i j) ≡ slice_index old (place w n u v i j)
-
--- the first k of four parts have the samples f
-pub record AreParts (w n k : ℕ) (f : ℕ → ℕ → ℕ) (own : List ℕ) : Type 0 where
-  pub each : (x y i j : ℕ) → x < 2 → y < 2 → i < n → j < n → 2 * y + x < k → slice_index own (place w n x y i j) ≡ f (n * x + i) (n * y + j)
-
 -- a list has the samples f from column x and row y on
 pub record HasPart (n : ℕ) (list : List ℕ) (x y : ℕ) (f : ℕ → ℕ → ℕ) : Type 0 where
   pub each : (i j : ℕ) → i < n → j < n → slice_index list (n * j + i) ≡ f (x + i) (y + j)
 
--- k columns and rows of 4x4 places, from column x and row y on, have the motion of their first one
-pub record AreEqual (k x y : ℕ) (motion : List Motion) : Type 0 where
-  pub each : (i j : ℕ) → i < k → j < k → get_or motion (4 * (y + j) + (x + i)) no_motion ≡ get_or motion (4 * y + x) no_motion
+-- s columns and rows have the samples f in w columns and h rows of them, from column x and row y on, and each other sample is kept
+pub record IsPart (s x y w h : ℕ) (f : ℕ → ℕ → ℕ) (old new : List ℕ) : Type 0 where
+  pub here : (u v : ℕ) → x ≤ u → u < x + w → y ≤ v → v < y + h → slice_index new (s * v + u) ≡ f u v
+  pub kept : (u v : ℕ) → u < s → v < s → (x ≤ u → u < x + w → y ≤ v → v < y + h → ⊥) →
+      slice_index new (s * v + u) ≡ slice_index old (s * v + u)
+
+-- The samples of a macroblock are predicted, as far as its first k 4x4 places go. The index of a place, by its column and row, says which are first.
+pub record AreMade (index : ℕ → ℕ → ℕ) (k : ℕ) (frames : List Frame) (motion : List Motion) (c r : ℕ) (own : Samples) : Type 0 where
+  pub y : (u v : ℕ) → u < 16 → v < 16 → index (u / 4) (v / 4) < k → slice_index own.y (16 * v + u) ≡ from_pool frames motion c r Y u v
+  pub cb : (u v : ℕ) → u < 8 → v < 8 → index (u / 2) (v / 2) < k → slice_index own.cb (8 * v + u) ≡ from_pool frames motion c r Cb u v
+  pub cr : (u v : ℕ) → u < 8 → v < 8 → index (u / 2) (v / 2) < k → slice_index own.cr (8 * v + u) ≡ from_pool frames motion c r Cr u v
+
+-- all are
+pub record ArePredicted (frames : List Frame) (motion : List Motion) (c r : ℕ) (own : Samples) : Type 0 where
+  pub y : HasBlock 16 16 own.y (from_pool frames motion c r Y)
+  pub cb : HasBlock 8 8 own.cb (from_pool frames motion c r Cb)
+  pub cr : HasBlock 8 8 own.cr (from_pool frames motion c r Cr)

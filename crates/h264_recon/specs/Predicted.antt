@@ -1,12 +1,13 @@
 -- How a macroblock is predicted, as its equations have it, and as the code has it. A working form.
-use Rattle.std.specs.Prelude.{ℕ, ◌+◌, ◌%◌, ◌/◌, List, get_or, replicate, Option, Some, None, pos}
+use Rattle.std.specs.Prelude.{ℕ, ◌+◌, ◌%◌, ◌/◌, List, get_or, Option, Some, None, pos}
 use Rattle.h264_near.specs.declared.motion.Motion as derived
 use Rattle.h264_near.specs.Coded.{number_of}
+use Rattle.h264_near.specs.Partition.{first_of}
+use Rattle.h264_near.specs.declared.partition.Partition.{Partition}
 use Rattle.h264_recon.specs.Table.{table}
 use Rattle.h264_recon.specs.declared.macroblock.IntraModes.{IntraModes}
 use Rattle.h264_recon.specs.declared.macroblock.Motion.{Motion}
 use Rattle.h264_recon.specs.declared.macroblock.Motions.{Motions}
-use Rattle.h264_recon.specs.declared.macroblock.Motions.TheVariants.{Whole, Each}
 use Rattle.h264_recon.specs.declared.macroblock.Prediction as code
 use Rattle.h264_recon.specs.declared.macroblock.Prediction.TheVariants as kind
 
@@ -42,11 +43,16 @@ placed_at places motions k = placed_motion places (get_or motions (number_of (k 
 unfoldable pub placed_motions : List ℕ → List (Option derived.Motion) → List Motion
 placed_motions places motions = table 16 (placed_at places motions)
 
--- ---- what the code has stands for this
+-- ---- what the code has stands for this: each place has the motion of the first block of its partition
+
+abbrev pub parted_at : Partition → List ℕ → List (Option derived.Motion) → ℕ → Motion
+parted_at partition places motions k = placed_motion places (get_or motions (first_of partition (number_of (k % 4) (k / 4))) None)
+
+unfoldable pub parted_motions : Partition → List ℕ → List (Option derived.Motion) → List Motion
+parted_motions partition places motions = table 16 (parted_at partition places motions)
 
 abbrev pub motions_in : Motions → List Motion
-motions_in (Whole motion) = replicate 16 motion
-motions_in (Each m) = placed_motions m.places.now m.derived.now
+motions_in m = parted_motions m.partition m.places.now m.derived.now
 
 abbrev pub prediction_in : code.Prediction → Prediction
 prediction_in (kind.Intra modes) = Intra modes

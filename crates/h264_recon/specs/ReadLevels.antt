@@ -35,7 +35,7 @@ unfoldable pub luma_by : Kind → Macroblock → LumaLevels
 luma_by kind.Intra4x4 mb = luma_read mb
 luma_by (kind.Intra16x16 mode) mb = luma16_read mb
 luma_by kind.Pcm mb = luma.NotCoded
-luma_by (kind.Inter whole) mb = luma_read mb
+luma_by (kind.Inter partition) mb = luma_read mb
 
 -- of Cb, 0, or of Cr, 1
 abbrev pub chroma_read : ℕ → Macroblock → ChromaLevels
@@ -47,7 +47,7 @@ abbrev pub is_pcm : Kind → Bool
 is_pcm kind.Intra4x4 = false
 is_pcm (kind.Intra16x16 mode) = false
 is_pcm kind.Pcm = true
-is_pcm (kind.Inter whole) = false
+is_pcm (kind.Inter partition) = false
 
 -- a prediction by the samples of I_PCM
 abbrev pub is_of_samples : Prediction → Bool

@@ -128,7 +128,7 @@ fn make_inter(
         m.prediction ≡ Inter (motions_in motions.now) → m.weights ≡ weights_in weighting.entry → AreShown k pool.now m.prediction →
         m.levels ≡ levels_in levels.now → AreMadeFrom k position.column position.row m lines own.new) }
 {
-    predict(motions, pool, position.column, position.row, own);
+    predict(motions, pool, position, own);
     weigh_all(weighting, own);
     add_residual(levels, own)
 }

@@ -1,29 +1,30 @@
 //! What a macroblock that was read gives to its construction (8.3, 8.4.2).
 #![tactic(auto)]
 
-ghost use Rattle.std.specs.Prelude.{◌≡◌, ℕ, ◌+◌, ◌*◌, ◌<◌, ◌&&◌, List, length, get_or, IsTrue, None};
+ghost use Rattle.std.specs.Prelude.{◌≡◌, ℕ, ◌+◌, ◌*◌, ◌<◌, ◌&&◌, List, length, IsTrue, Some};
 ghost use Rattle.h264_near.specs.Coded.{CodedMacroblock};
 ghost use Rattle.h264_near.specs.Keeps.{Keeps, width_of};
 ghost use Rattle.h264_vectors.specs.declared.slice.SliceContext.{SliceContext as Context};
-ghost use Rattle.h264_vectors.specs.Agrees.{AreAlike};
+ghost use Rattle.h264_near.specs.Partition.{MovesByPartition};
+ghost use Rattle.h264_near.specs.declared.partition.Partition.{Partition as Partitions};
+ghost use Rattle.h264_near.specs.declared.partition.Partition.TheVariants.{P16x16};
 ghost use Rattle.h264_mbsyntax.specs.Holds.{HoldsMacroblock};
 ghost use Rattle.h264_mbsyntax.specs.Possible.{IsPossible};
 ghost use Rattle.h264_recon.specs.ReadLevels.{is_of_samples, is_pcm};
 ghost use Rattle.h264_recon.specs.Constructed.{coded as coded_as, IsWithin};
 ghost use Rattle.h264_recon.specs.Levels.{levels_of};
 ghost use Rattle.h264_recon.specs.Given.{available as available_of, no_sides as no_sides_of, used_by, modes4_of, prediction_of, given as given_of};
-ghost use Rattle.h264_recon.specs.Inter.{no_motion};
-ghost use Rattle.h264_recon.specs.Predicted.{motions_in, prediction_in, placed_motion, placed_motions};
-ghost use Rattle.h264_recon.specs.Placed.{ArePlaced, IsOneOf, PointsInto, weights_by};
+ghost use Rattle.h264_recon.specs.Predicted.{prediction_in, placed_motion};
+ghost use Rattle.h264_recon.specs.Placed.{ArePlaced, PointsInto, weights_by};
 
 use crate::macroblock::{
-    Available, IntraLuma, IntraModes, Macroblock, Motion, Motions, PlacedMotions, Position,
-    Prediction, SliceReferences, Weighting,
+    Available, IntraLuma, IntraModes, Macroblock, Motion, Motions, Position, Prediction,
+    SliceReferences, Weighting,
 };
 use h264_inter::MotionVector;
 use h264_intra::{Intra4x4PredMode, Intra16x16PredMode, IntraChromaPredMode};
 use h264_mbsyntax::{Kind, Macroblock as Read};
-use h264_near::{Motion as Derived, Near};
+use h264_near::{Motion as Derived, Near, Partition};
 use h264_vectors::SliceContext;
 
 /// Whether a macroblock is available and its place lies in the picture.
@@ -86,102 +87,6 @@ pub fn motion(derived: Option<Derived>, places: &[u8; 16]) -> Motion
     }
 }
 
-/// What a block is predicted from, by its number.
-#[inline(always)]
-fn derived_at(derived: &[Option<Derived>; 16], b: usize) -> Option<Derived>
-    requires { b < 16 }
-    ensures { result ≡ get_or derived.now b None }
-{
-    derived[b]
-}
-
-/// Whether two blocks are predicted alike.
-#[inline(always)]
-fn is_alike(a: Option<Derived>, b: Option<Derived>) -> bool
-    ensures { IsTrue result → b ≡ a }
-{
-    match (a, b) {
-        (Some(a), Some(b)) => {
-            if a.ref_idx != b.ref_idx {
-                return false;
-            }
-            if a.picture != b.picture {
-                return false;
-            }
-            if a.vector.x != b.vector.x {
-                return false;
-            }
-            a.vector.y == b.vector.y
-        }
-        (Some(_), None) => false,
-        (None, Some(_)) => false,
-        (None, None) => true,
-    }
-}
-
-/// Whether all blocks are.
-#[inline(always)]
-fn are_alike(derived: &[Option<Derived>; 16]) -> bool
-    ensures { IsTrue result → (k : ℕ) → k < 16 → get_or derived.now k None ≡ get_or derived.now 0 None }
-{
-    let first = derived_at(derived, 0);
-    for n in 1..16 {
-        if !is_alike(first, derived_at(derived, n)) {
-            return false;
-        }
-    }
-    true
-}
-
-/// Motions row by row, of blocks that stand by their number (6.4.3).
-#[inline(never)]
-pub fn placed(derived: &[Option<Derived>; 16], places: &[u8; 16]) -> [Motion; 16]
-    ensures { result ≡ placed_motions places.now derived.now }
-{
-    [
-        motion(derived_at(derived, 0), places),
-        motion(derived_at(derived, 1), places),
-        motion(derived_at(derived, 4), places),
-        motion(derived_at(derived, 5), places),
-        motion(derived_at(derived, 2), places),
-        motion(derived_at(derived, 3), places),
-        motion(derived_at(derived, 6), places),
-        motion(derived_at(derived, 7), places),
-        motion(derived_at(derived, 8), places),
-        motion(derived_at(derived, 9), places),
-        motion(derived_at(derived, 12), places),
-        motion(derived_at(derived, 13), places),
-        motion(derived_at(derived, 10), places),
-        motion(derived_at(derived, 11), places),
-        motion(derived_at(derived, 14), places),
-        motion(derived_at(derived, 15), places),
-    ]
-}
-
-/// The motion of the first block, for all.
-#[inline(always)]
-fn one_motion<'a>(derived: &[Option<Derived>; 16], places: &[u8; 16]) -> Motions<'a>
-    ensures points { (n : ℕ) → n < 16 → IsOneOf places.now (get_or (motions_in result) n no_motion).picture }
-    ensures here { AreAlike derived.now → motions_in result ≡ placed_motions places.now derived.now }
-{
-    Motions::Whole(motion(derived_at(derived, 0), places))
-}
-
-/// The motions of a macroblock, whose blocks are known to be alike or not, and whether they are one.
-#[inline]
-fn motions<'a>(derived: &'a [Option<Derived>; 16], whole: bool, places: &'a [u8; 16]) -> Motions<'a>
-    ensures points { (n : ℕ) → n < 16 → IsOneOf places.now (get_or (motions_in result) n no_motion).picture }
-    ensures here { (IsTrue whole → AreAlike derived.now) → motions_in result ≡ placed_motions places.now derived.now }
-{
-    if whole {
-        return one_motion(derived, places);
-    }
-    if are_alike(derived) {
-        return one_motion(derived, places);
-    }
-    Motions::Each(PlacedMotions { derived, places })
-}
-
 /// How a macroblock is predicted.
 fn prediction<'a>(read: &'a Read, places: &'a [u8; 16]) -> Prediction<'a>
     ensures points { PointsInto places.now (prediction_in result) }
@@ -200,22 +105,36 @@ fn prediction<'a>(read: &'a Read, places: &'a [u8; 16]) -> Prediction<'a>
             chroma: IntraChromaPredMode::of_number(read.chroma_mode),
         }),
         Kind::Pcm => Prediction::Pcm(&read.pcm),
-        Kind::Inter { whole } => {
-            Prediction::Inter(motions(&read.contexts.motions, whole, places))
-        }
+        Kind::Inter { partition } => Prediction::Inter(Motions {
+            partition,
+            derived: &read.contexts.motions,
+            places,
+        }),
+    }
+}
+
+/// How a macroblock that was read is partitioned, if it is an inter macroblock.
+#[inline(always)]
+pub fn partition_of(read: &Read) -> Option<Partition>
+    ensures { (coded : CodedMacroblock) (p : Partitions) → HoldsMacroblock read.now coded → result ≡ Some p →
+        MovesByPartition p read.now.contexts.motions }
+{
+    match read.kind {
+        Kind::Inter { partition } => Some(partition),
+        Kind::Intra4x4 => None,
+        Kind::Intra16x16 { mode: _ } => None,
+        Kind::Pcm => None,
     }
 }
 
 /// Whether the blocks of a macroblock that was read are known to be predicted alike.
 #[inline(always)]
-pub fn is_whole(read: &Read) -> bool
-    ensures { (coded : CodedMacroblock) → HoldsMacroblock read.now coded → IsTrue result → AreAlike read.now.contexts.motions }
+fn is_whole(read: &Read) -> bool
+    ensures { (coded : CodedMacroblock) → HoldsMacroblock read.now coded → IsTrue result → MovesByPartition P16x16 read.now.contexts.motions }
 {
-    match read.kind {
-        Kind::Inter { whole } => whole,
-        Kind::Intra4x4 => false,
-        Kind::Intra16x16 { mode: _ } => false,
-        Kind::Pcm => false,
+    match partition_of(read) {
+        None => false,
+        Some(partition) => matches!(partition, Partition::P16x16),
     }
 }
 
@@ -248,7 +167,7 @@ fn used(read: &Read, near: &Near, slice: &SliceContext, column: usize, row: usiz
             available(near, slice.number, slice.constrained_intra, column, row)
         }
         Kind::Pcm => no_sides(),
-        Kind::Inter { whole: _ } => no_sides(),
+        Kind::Inter { partition: _ } => no_sides(),
     }
 }
 

@@ -1,216 +1,187 @@
-ghost use Rattle.std.specs.Prelude.{◌≡◌, ℕ, ◌+◌, ◌*◌, ◌/◌, ◌%◌, ◌<◌, ◌≤◌, IsTrue, slice_index, get_or, replicate};
+ghost use Rattle.std.specs.Prelude.{◌≡◌, ◌+◌, ◌*◌, ◌<◌, ◌≤◌, get_or, replicate, None};
+ghost use Rattle.h264_near.specs.Coded.{number_of};
+ghost use Rattle.h264_near.specs.declared.partition.Partition.TheVariants.{P16x8, P8x16, P8x8};
+ghost use Rattle.h264_plane.specs.Samples.{at};
 ghost use Rattle.h264_plane.specs.declared.frame.Component.TheVariants.{Y, Cb, Cr};
-ghost use Rattle.h264_plane.specs.Frames.{plane_of as plane_of_frame};
+ghost use Rattle.h264_inter.specs.Luma.{predicted_luma};
+ghost use Rattle.h264_inter.specs.Chroma.{predicted_chroma};
 ghost use Rattle.h264_inter.specs.Reference.{HasBlock};
-ghost use Rattle.h264_recon.specs.Inter.{no_motion};
-ghost use Rattle.h264_recon.specs.Lines.{chroma_plane};
-ghost use Rattle.h264_recon.specs.Parts.{IsPut, AreEqual, HasPart};
-ghost use Rattle.h264_recon.specs.Pool.{HaveRoom, from_pool};
-ghost use Rattle.h264_recon.specs.Predicted.{motions_in, placed_motions};
+ghost use Rattle.h264_recon.specs.Parts.{IsPart, ArePredicted, AreMade};
+ghost use Rattle.h264_recon.specs.Pool.{HasRoom, HaveRoom, of_frames, from_pool};
+ghost use Rattle.h264_recon.specs.Predicted.{motions_in, parted_motions, placed_motion};
 
-use crate::input::placed;
-use crate::macroblock::{Motion, Motions, PlacedMotions};
-use crate::run::put_run;
+use crate::input::motion;
+use crate::macroblock::{Motion, Motions, Position};
 use crate::store::Samples;
-use h264_inter::{chroma, luma};
-use h264_plane::{Frame, Plane, Pool};
+use h264_inter::{MotionVector, chroma, luma};
+use h264_near::{Partition, SubPartition};
+use h264_plane::{Plane, Pool, put_rows};
 
-/// The motion of a place.
+/// The motion of the partition that begins with this block.
 #[inline(always)]
-fn motion_of(motion: &[Motion; 16], n: usize) -> Motion
-    requires { n < 16 }
-    ensures { result ≡ get_or motion.now n no_motion }
+fn motion_of(m: &Motions, b: usize) -> Motion
+    requires { b < 16 }
+    ensures { result ≡ placed_motion m.now.places.now (get_or m.now.derived.now b None) }
 {
-    motion[n]
+    motion(m.derived[b], m.places)
 }
 
-/// Whether two places move alike.
+/// Writes the predicted luma samples of a part of a macroblock, of `W` columns and `H` rows, which begins at column `x` and row `y` of its 4x4 places.
 #[inline(always)]
-fn is_same(a: Motion, b: Motion) -> bool
-    ensures { IsTrue result → b ≡ a }
+fn luma_part<const W: usize, const H: usize>(
+    plane: &Plane,
+    vector: MotionVector,
+    position: Position,
+    x: usize,
+    y: usize,
+    out: &mut [u8; 256],
+)
+    requires width { (0 < W) × (W ≤ 16) }
+    requires height { (0 < H) × (H ≤ 16) }
+    requires area { W * H ≤ 128 }
+    requires inside { (4 * x + W ≤ 16) × (4 * y + H ≤ 16) }
+    requires small { (position.column < 1024) × (position.row < 1024) }
+    requires columns { 16 * position.column + 16 ≤ plane.now.width }
+    requires rows { 16 * position.row + 16 ≤ plane.now.height }
+    ensures { IsPart 16 (4 * x) (4 * y) W H (λ u v. predicted_luma plane.now.width plane.now.height (at plane.now) vector
+        (16 * position.column + u) (16 * position.row + v)) out.old out.new }
 {
-    if a.picture != b.picture {
-        return false;
-    }
-    if a.vector.x != b.vector.x {
-        return false;
-    }
-    a.vector.y == b.vector.y
+    let mut block = [0; 128];
+    let part = &mut block[..W * H];
+    let left = 16 * position.column + 4 * x;
+    let top = 16 * position.row + 4 * y;
+    luma::<W, H>(plane, left, top, vector, part);
+    put_rows::<W, H>(out, 16, 4 * x, 4 * y, part);
 }
 
-/// Whether four places move alike.
+/// Writes the predicted samples of a chroma plane of such a part, of `W` columns and `H` rows of chroma.
 #[inline(always)]
-fn are_same(a: Motion, b: Motion, c: Motion, d: Motion) -> bool
-    ensures { IsTrue result → (b ≡ a) × (c ≡ a) × (d ≡ a) }
-{
-    if !is_same(a, b) {
-        return false;
-    }
-    if !is_same(a, c) {
-        return false;
-    }
-    is_same(a, d)
-}
-
-/// Whether the four places of a quarter of the macroblock move alike.
-#[inline(always)]
-fn is_quarter(motion: &[Motion; 16], x: usize, y: usize) -> bool
-    requires { (x < 2) × (y < 2) }
-    ensures { IsTrue result → AreEqual 2 (2 * x) (2 * y) motion.now }
-{
-    let n = 8 * y + 2 * x;
-    are_same(
-        motion_of(motion, n),
-        motion_of(motion, n + 1),
-        motion_of(motion, n + 4),
-        motion_of(motion, n + 5),
-    )
-}
-
-/// Puts a quarter into a macroblock of luma.
-#[inline(always)]
-fn put8(out: &mut [u8; 256], x: usize, y: usize, block: &[u8; 64])
-    requires { (x < 2) × (y < 2) }
-    ensures { IsPut 16 8 out.old out.new x y block.now }
-{
-    for j in 0..8 {
-        put_run::<8>(out, 16 * (8 * y + j) + 8 * x, &block[8 * j..8 * j + 8]);
-    }
-}
-
-/// Puts a quarter into one of 64 samples.
-#[inline(always)]
-fn put4(out: &mut [u8; 64], x: usize, y: usize, block: &[u8; 16])
-    requires { (x < 2) × (y < 2) }
-    ensures { IsPut 8 4 out.old out.new x y block.now }
-{
-    for j in 0..4 {
-        put_run::<4>(out, 8 * (4 * y + j) + 4 * x, &block[4 * j..4 * j + 4]);
-    }
-}
-
-/// Puts a quarter into one of 16 samples.
-#[inline(always)]
-fn put2(out: &mut [u8; 16], x: usize, y: usize, block: &[u8; 4])
-    requires { (x < 2) × (y < 2) }
-    ensures { IsPut 4 2 out.old out.new x y block.now }
-{
-    for k in 0..4 {
-        out[4 * (2 * y + k / 2) + (2 * x + k % 2)] = block[k];
-    }
-}
-
-/// Writes the predicted luma samples of the quarter of this number, row by row, of the macroblock at this column and row.
-fn luma_quarter(
-    motion: &[Motion; 16],
-    pool: &Pool,
-    column: usize,
-    row: usize,
-    quarter: usize,
+fn chroma_part<const W: usize, const H: usize>(
+    plane: &Plane,
+    vector: MotionVector,
+    position: Position,
+    x: usize,
+    y: usize,
     out: &mut [u8; 64],
 )
-    requires place { quarter < 4 }
-    requires small { (column < 1024) × (row < 1024) }
-    requires room { HaveRoom pool.now column row motion.now }
-    ensures { HasPart 8 out.new (8 * (quarter % 2)) (8 * (quarter / 2)) (from_pool pool.now motion.now column row Y) }
+    requires width { (0 < W) × (W ≤ 16) }
+    requires height { (0 < H) × (H ≤ 16) }
+    requires area { W * H ≤ 32 }
+    requires inside { (2 * x + W ≤ 8) × (2 * y + H ≤ 8) }
+    requires small { (position.column < 1024) × (position.row < 1024) }
+    requires columns { 8 * position.column + 8 ≤ plane.now.width }
+    requires rows { 8 * position.row + 8 ≤ plane.now.height }
+    ensures { IsPart 8 (2 * x) (2 * y) W H (λ u v. predicted_chroma plane.now.width plane.now.height (at plane.now) vector
+        (8 * position.column + u) (8 * position.row + v)) out.old out.new }
 {
-    let (x, y) = (quarter % 2, quarter / 2);
-    if is_quarter(motion, x, y) {
-        let m = motion_of(motion, 8 * y + 2 * x);
-        let plane = &pool.frame(usize::from(m.picture)).y;
-        luma::<8, 8>(plane, 16 * column + 8 * x, 16 * row + 8 * y, m.vector, out);
+    let mut block = [0; 32];
+    let part = &mut block[..W * H];
+    let left = 8 * position.column + 2 * x;
+    let top = 8 * position.row + 2 * y;
+    chroma::<W, H>(plane, left, top, vector, part);
+    put_rows::<W, H>(out, 8, 2 * x, 2 * y, part);
+}
+
+/// Writes the predicted samples of a part of a macroblock, of `W` columns and `H` rows of luma, `C` and `D` of chroma, which begins at column `x` and row
+/// `y` of its 4x4 places.
+#[inline(always)]
+fn predict_part<const W: usize, const H: usize, const C: usize, const D: usize>(
+    motion: Motion,
+    pool: &Pool,
+    position: Position,
+    x: usize,
+    y: usize,
+    own: &mut Samples,
+)
+    requires width { (0 < C) × (W ≡ 2 * C) }
+    requires height { (0 < D) × (H ≡ 2 * D) }
+    requires area { (W * H ≤ 128) × (C * D ≤ 32) }
+    requires inside { (2 * x + C ≤ 8) × (2 * y + D ≤ 8) }
+    requires small { (position.column < 1024) × (position.row < 1024) }
+    requires room { HasRoom pool.now position.column position.row motion.picture }
+    ensures y { IsPart 16 (4 * x) (4 * y) W H (λ u v. of_frames Y pool.now motion (16 * position.column + u) (16 * position.row + v)) own.old.y own.new.y }
+    ensures cb { IsPart 8 (2 * x) (2 * y) C D (λ u v. of_frames Cb pool.now motion (8 * position.column + u) (8 * position.row + v)) own.old.cb own.new.cb }
+    ensures cr { IsPart 8 (2 * x) (2 * y) C D (λ u v. of_frames Cr pool.now motion (8 * position.column + u) (8 * position.row + v)) own.old.cr own.new.cr }
+{
+    let frame = pool.frame(usize::from(motion.picture));
+    let vector = motion.vector;
+    luma_part::<W, H>(&frame.y, vector, position, x, y, &mut own.y);
+    chroma_part::<C, D>(&frame.cb, vector, position, x, y, &mut own.cb);
+    chroma_part::<C, D>(&frame.cr, vector, position, x, y, &mut own.cr);
+}
+
+/// Writes the predicted samples of a macroblock of two parts, the upper and the lower one.
+#[inline(never)]
+fn predict_16x8(m: &Motions, pool: &Pool, position: Position, own: &mut Samples)
+    requires small { (position.column < 1024) × (position.row < 1024) }
+    requires room { HaveRoom pool.now position.column position.row (parted_motions P16x8 m.now.places.now m.now.derived.now) }
+    ensures { ArePredicted pool.now (parted_motions P16x8 m.now.places.now m.now.derived.now) position.column position.row own.new }
+{
+    for k in 0..2 {
+        let motion = motion_of(m, 8 * k);
+        predict_part::<16, 8, 8, 4>(motion, pool, position, 0, 2 * k, own);
+    }
+}
+
+/// Writes the predicted samples of a macroblock of two parts, the left and the right one.
+#[inline(never)]
+fn predict_8x16(m: &Motions, pool: &Pool, position: Position, own: &mut Samples)
+    requires small { (position.column < 1024) × (position.row < 1024) }
+    requires room { HaveRoom pool.now position.column position.row (parted_motions P8x16 m.now.places.now m.now.derived.now) }
+    ensures { ArePredicted pool.now (parted_motions P8x16 m.now.places.now m.now.derived.now) position.column position.row own.new }
+{
+    for k in 0..2 {
+        let motion = motion_of(m, 4 * k);
+        predict_part::<8, 16, 4, 8>(motion, pool, position, 2 * k, 0, own);
+    }
+}
+
+/// Writes the predicted samples of the sub-macroblock of this number, block by block unless it is one partition.
+#[inline(never)]
+fn predict_sub_macroblock(
+    m: &Motions,
+    types: &[SubPartition; 4],
+    pool: &Pool,
+    position: Position,
+    quarter: usize,
+    own: &mut Samples,
+)
+    requires quarter { quarter < 4 }
+    requires small { (position.column < 1024) × (position.row < 1024) }
+    requires room { HaveRoom pool.now position.column position.row (parted_motions (P8x8 types.now) m.now.places.now m.now.derived.now) }
+    requires before { AreMade number_of (4 * quarter) pool.now (parted_motions (P8x8 types.now) m.now.places.now m.now.derived.now)
+        position.column position.row own.old }
+    ensures { AreMade number_of (4 * quarter + 4) pool.now (parted_motions (P8x8 types.now) m.now.places.now m.now.derived.now)
+        position.column position.row own.new }
+{
+    let (x, y) = (2 * (quarter % 2), 2 * (quarter / 2));
+    let sub_partition = types[quarter];
+    if let SubPartition::P8x8 = sub_partition {
+        let motion = motion_of(m, 4 * quarter);
+        predict_part::<8, 8, 4, 4>(motion, pool, position, x, y, own);
         return;
     }
     for k in 0..4 {
-        let m = motion_of(motion, 4 * (2 * y + k / 2) + (2 * x + k % 2));
-        let plane = &pool.frame(usize::from(m.picture)).y;
-        let mut block = [0; 16];
-        luma::<4, 4>(
-            plane,
-            16 * column + (8 * x + 4 * (k % 2)),
-            16 * row + (8 * y + 4 * (k / 2)),
-            m.vector,
-            &mut block,
-        );
-        put4(out, k % 2, k / 2, &block);
+        let motion = motion_of(m, 4 * quarter + sub_partition.first_block(k));
+        predict_part::<4, 4, 2, 2>(motion, pool, position, x + k % 2, y + k / 2, own);
     }
 }
 
-/// Writes the predicted luma samples of the macroblock at this column and row, whose places have motions of their own.
+/// Writes the predicted samples of a macroblock of four sub-macroblocks.
 #[inline(never)]
-fn luma_quarters(motion: &[Motion; 16], pool: &Pool, column: usize, row: usize, out: &mut [u8; 256])
-    requires small { (column < 1024) × (row < 1024) }
-    requires room { HaveRoom pool.now column row motion.now }
-    ensures { HasBlock 16 16 out.new (from_pool pool.now motion.now column row Y) }
-{
-    let mut quarter = [0; 64];
-    for k in 0..4 {
-        luma_quarter(motion, pool, column, row, k, &mut quarter);
-        put8(out, k % 2, k / 2, &quarter);
-    }
-}
-
-/// A chroma plane of a frame.
-#[inline(always)]
-fn plane_of<const CR: bool>(frame: &Frame) -> &Plane
-    ensures { result.now ≡ plane_of_frame (chroma_plane CR) frame.now }
-{
-    if CR { &frame.cr } else { &frame.cb }
-}
-
-/// Writes the predicted samples of the quarter of this number of a chroma plane, likewise.
-fn chroma_quarter<const CR: bool>(
-    motion: &[Motion; 16],
+fn predict_8x8(
+    m: &Motions,
+    types: &[SubPartition; 4],
     pool: &Pool,
-    column: usize,
-    row: usize,
-    quarter: usize,
-    out: &mut [u8; 16],
+    position: Position,
+    own: &mut Samples,
 )
-    requires place { quarter < 4 }
-    requires small { (column < 1024) × (row < 1024) }
-    requires room { HaveRoom pool.now column row motion.now }
-    ensures { HasPart 4 out.new (4 * (quarter % 2)) (4 * (quarter / 2)) (from_pool pool.now motion.now column row (chroma_plane CR)) }
+    requires small { (position.column < 1024) × (position.row < 1024) }
+    requires room { HaveRoom pool.now position.column position.row (parted_motions (P8x8 types.now) m.now.places.now m.now.derived.now) }
+    ensures { ArePredicted pool.now (parted_motions (P8x8 types.now) m.now.places.now m.now.derived.now) position.column position.row own.new }
 {
-    let (x, y) = (quarter % 2, quarter / 2);
-    if is_quarter(motion, x, y) {
-        let m = motion_of(motion, 8 * y + 2 * x);
-        let plane = plane_of::<CR>(pool.frame(usize::from(m.picture)));
-        chroma::<4, 4>(plane, 8 * column + 4 * x, 8 * row + 4 * y, m.vector, out);
-        return;
-    }
-    for k in 0..4 {
-        let m = motion_of(motion, 4 * (2 * y + k / 2) + (2 * x + k % 2));
-        let plane = plane_of::<CR>(pool.frame(usize::from(m.picture)));
-        let mut block = [0; 4];
-        chroma::<2, 2>(
-            plane,
-            8 * column + (4 * x + 2 * (k % 2)),
-            8 * row + (4 * y + 2 * (k / 2)),
-            m.vector,
-            &mut block,
-        );
-        put2(out, k % 2, k / 2, &block);
-    }
-}
-
-/// Writes the predicted samples of a chroma plane of the macroblock at this column and row, whose places have motions of their own.
-#[inline(never)]
-fn chroma_quarters<const CR: bool>(
-    motion: &[Motion; 16],
-    pool: &Pool,
-    column: usize,
-    row: usize,
-    out: &mut [u8; 64],
-)
-    requires small { (column < 1024) × (row < 1024) }
-    requires room { HaveRoom pool.now column row motion.now }
-    ensures { HasBlock 8 8 out.new (from_pool pool.now motion.now column row (chroma_plane CR)) }
-{
-    let mut quarter = [0; 16];
-    for k in 0..4 {
-        chroma_quarter::<CR>(motion, pool, column, row, k, &mut quarter);
-        put4(out, k % 2, k / 2, &quarter);
+    for quarter in 0..4 {
+        predict_sub_macroblock(m, types, pool, position, quarter, own);
     }
 }
 
@@ -230,32 +201,20 @@ pub fn predict_whole(motion: Motion, pool: &Pool, column: usize, row: usize, own
     chroma::<8, 8>(&frame.cr, 8 * column, 8 * row, vector, &mut own.cr);
 }
 
-/// Writes the predicted samples of the macroblock at this column and row, whose places have motions of their own.
-#[inline(never)]
-fn predict_each(m: &PlacedMotions, pool: &Pool, column: usize, row: usize, own: &mut Samples)
-    requires small { (column < 1024) × (row < 1024) }
-    requires room { HaveRoom pool.now column row (placed_motions m.now.places.now m.now.derived.now) }
-    ensures y { HasBlock 16 16 own.new.y (from_pool pool.now (placed_motions m.now.places.now m.now.derived.now) column row Y) }
-    ensures cb { HasBlock 8 8 own.new.cb (from_pool pool.now (placed_motions m.now.places.now m.now.derived.now) column row Cb) }
-    ensures cr { HasBlock 8 8 own.new.cr (from_pool pool.now (placed_motions m.now.places.now m.now.derived.now) column row Cr) }
-{
-    let motion = placed(m.derived, m.places);
-    luma_quarters(&motion, pool, column, row, &mut own.y);
-    chroma_quarters::<false>(&motion, pool, column, row, &mut own.cb);
-    chroma_quarters::<true>(&motion, pool, column, row, &mut own.cr);
-}
-
-/// Writes the predicted samples of the macroblock at this column and row.
+/// Writes the predicted samples of the macroblock at this position.
 #[inline(always)]
-pub fn predict(motions: &Motions, pool: &Pool, column: usize, row: usize, own: &mut Samples)
-    requires small { (column < 1024) × (row < 1024) }
-    requires room { HaveRoom pool.now column row (motions_in motions.now) }
-    ensures y { HasBlock 16 16 own.new.y (from_pool pool.now (motions_in motions.now) column row Y) }
-    ensures cb { HasBlock 8 8 own.new.cb (from_pool pool.now (motions_in motions.now) column row Cb) }
-    ensures cr { HasBlock 8 8 own.new.cr (from_pool pool.now (motions_in motions.now) column row Cr) }
+pub fn predict(motions: &Motions, pool: &Pool, position: Position, own: &mut Samples)
+    requires small { (position.column < 1024) × (position.row < 1024) }
+    requires room { HaveRoom pool.now position.column position.row (motions_in motions.now) }
+    ensures { ArePredicted pool.now (motions_in motions.now) position.column position.row own.new }
 {
-    match motions {
-        Motions::Whole(motion) => predict_whole(*motion, pool, column, row, own),
-        Motions::Each(each) => predict_each(each, pool, column, row, own),
+    match &motions.partition {
+        Partition::P16x16 => {
+            let Position { column, row } = position;
+            predict_whole(motion_of(motions, 0), pool, column, row, own);
+        }
+        Partition::P16x8 => predict_16x8(motions, pool, position, own),
+        Partition::P8x16 => predict_8x16(motions, pool, position, own),
+        Partition::P8x8(types) => predict_8x8(motions, types, pool, position, own),
     }
 }

@@ -26,10 +26,10 @@ mod weighing;
 mod weights;
 
 pub use in_place::{construct, construct_skipped};
-pub use input::{available, given, is_whole};
+pub use input::{available, given, partition_of};
 pub use macroblock::{
-    Available, IntraLuma, IntraModes, Macroblock, Motion, Motions, PlacedMotions, Position,
-    Prediction, SliceReferences, Weighting,
+    Available, IntraLuma, IntraModes, Macroblock, Motion, Motions, Position, Prediction,
+    SliceReferences, Weighting,
 };
 pub use scaled::ReadLevels;
 pub use store::{Lines, Samples, Store};

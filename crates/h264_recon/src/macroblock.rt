@@ -1,7 +1,7 @@
 use crate::weights::SliceWeights;
 use h264_inter::MotionVector;
 use h264_intra::{Intra4x4PredMode, Intra16x16PredMode, IntraChromaPredMode};
-use h264_near::Motion as Derived;
+use h264_near::{Motion as Derived, Partition};
 
 /// Which of the macroblocks beside this one intra prediction may use (6.4.9, 8.3.1.2).
 #[derive(Clone, Copy)]
@@ -52,21 +52,15 @@ pub struct Motion {
     pub vector: MotionVector,
 }
 
-/// What the blocks of a macroblock are predicted from, as it was derived, by their number (6.4.3), and the places of the reference pictures in the pool of
-/// frames, by refIdxL0.
+/// What the partitions of an inter macroblock are predicted from.
 #[derive(Clone, Copy)]
-pub struct PlacedMotions<'a> {
+pub struct Motions<'a> {
+    /// How the macroblock is partitioned. All places of a partition have the motion of its first block.
+    pub partition: Partition,
+    /// What each block is predicted from, as it was derived, by its number (6.4.3).
     pub derived: &'a [Option<Derived>; 16],
+    /// The places of the reference pictures in the pool of frames, by refIdxL0.
     pub places: &'a [u8; 16],
-}
-
-/// The motion of the 4x4 places of a macroblock.
-#[derive(Clone, Copy)]
-pub enum Motions<'a> {
-    /// One motion at all places.
-    Whole(Motion),
-    /// That of each place. They are lent, since a copy of sixteen costs each macroblock that has one.
-    Each(PlacedMotions<'a>),
 }
 
 /// How a macroblock is predicted.

@@ -138,7 +138,7 @@ pub fn luma_of(mb: &Macroblock) -> Result<LumaBlocks<'_>, TransformRange>
         }
         Kind::Pcm => Ok(LumaBlocks::NotCoded),
         Kind::Intra4x4 => Ok(plain_blocks(mb)),
-        Kind::Inter { whole: _ } => Ok(plain_blocks(mb)),
+        Kind::Inter { partition: _ } => Ok(plain_blocks(mb)),
     }
 }
 
@@ -200,6 +200,6 @@ pub fn is_pcm(kind: Kind) -> bool
         Kind::Pcm => true,
         Kind::Intra4x4 => false,
         Kind::Intra16x16 { mode: _ } => false,
-        Kind::Inter { whole: _ } => false,
+        Kind::Inter { partition: _ } => false,
     }
 }

@@ -1,16 +1,16 @@
 ghost use Rattle.std.specs.Prelude.{◌≡◌, ◌<◌, ◌≤◌, vec_len, length};
 
 use crate::added::add_residual;
-use crate::input::placed;
+use crate::input::motion;
 use crate::{
-    Available, IntraLuma, IntraModes, Lines, Macroblock, Motion, Motions, Position, Prediction,
-    ReadLevels, Samples, SliceReferences, SliceWeights, Weighting, available, construct, given,
+    Available, IntraLuma, IntraModes, Lines, Macroblock, Motions, Position, Prediction, ReadLevels,
+    Samples, SliceReferences, SliceWeights, Weighting, available, construct, given,
 };
 use h264_base::{SliceType, Weight, Weights};
 use h264_inter::MotionVector;
 use h264_intra::{Intra4x4PredMode, Intra16x16PredMode, IntraChromaPredMode};
 use h264_mbsyntax::{Kind, Macroblock as Read};
-use h264_near::{Contexts, Motion as Derived, Near, Vector};
+use h264_near::{Contexts, Motion as Derived, Near, Partition, Vector};
 use h264_plane::{Frame, Plane, Pool};
 use h264_vectors::SliceContext;
 use std::alloc::AllocError;
@@ -137,10 +137,21 @@ fn put_inter(
     assert_eq!(rt; reference.cb.height(), 16);
     assert_eq!(rt; reference.cr.width(), 16);
     assert_eq!(rt; reference.cr.height(), 16);
-    let motion = Motion { picture: 1, vector };
+    let motion = Derived {
+        ref_idx: 0,
+        picture: 0,
+        vector: Vector {
+            x: vector.x,
+            y: vector.y,
+        },
+    };
     let m = Macroblock {
         available: NO_SIDE,
-        prediction: Prediction::Inter(Motions::Whole(motion)),
+        prediction: Prediction::Inter(Motions {
+            partition: Partition::P16x16,
+            derived: &[Some(motion); 16],
+            places: &[1; 16],
+        }),
         weighting,
     };
     let none = Read::none();
@@ -386,7 +397,7 @@ const SLICE: SliceContext = SliceContext {
 
 const PLACES: [u8; 16] = [5, 6, 7, 8, 0, 0, 0, 0, 0, 0, 0, 0, 0, 0, 0, 0];
 
-/// An inter macroblock of the first slice, from the picture of index 2, whose block 4 has another vector.
+/// An inter macroblock of the first slice, from the picture of index 2, whose right half has another vector.
 fn moved() -> Read {
     let motion = Derived {
         ref_idx: 2,
@@ -394,12 +405,16 @@ fn moved() -> Read {
         vector: Vector { x: 3, y: -2 },
     };
     let mut motions = [Some(motion); 16];
-    motions[4] = Some(Derived {
-        vector: Vector { x: 9, y: 0 },
-        ..motion
-    });
+    for k in [4, 5, 6, 7, 12, 13, 14, 15] {
+        motions[k] = Some(Derived {
+            vector: Vector { x: 9, y: 0 },
+            ..motion
+        });
+    }
     let mut read = Read::none();
-    read.kind = Kind::Inter { whole: false };
+    read.kind = Kind::Inter {
+        partition: Partition::P8x16,
+    };
     read.contexts = Contexts {
         intra: false,
         motions,
@@ -435,7 +450,7 @@ fn references<'a>(weights: &'a SliceWeights) -> SliceReferences<'a> {
     }
 }
 
-/// The first macroblock, which moves. Block 4 stands in the third column of the first row.
+/// The first macroblock, which moves.
 fn moved_as_read(rt: &(impl Abort + AllocGlobal)) -> Result<(), AllocError> {
     let weights = SliceWeights::NONE;
     let near = Near::new(rt.alloc(), 2)?;
@@ -449,14 +464,12 @@ fn moved_as_read(rt: &(impl Abort + AllocGlobal)) -> Result<(), AllocError> {
     );
     assert!(rt; !first.available.left && !first.available.above && !first.available.above_right);
     match first.prediction {
-        Prediction::Inter(Motions::Each(each)) => {
-            let motion = placed(each.derived, each.places);
-            assert_eq!(rt;
-                (motion[0].picture, motion[0].vector.x, motion[0].vector.y),
-                (7, 3, -2)
-            );
-            assert_eq!(rt; (motion[2].picture, motion[2].vector.x), (7, 9));
-            assert_eq!(rt; (motion[4].picture, motion[4].vector.x), (7, 3));
+        Prediction::Inter(motions) => {
+            assert!(rt; matches!(motions.partition, Partition::P8x16));
+            let left = motion(motions.derived[0], motions.places);
+            assert_eq!(rt; (left.picture, left.vector.x, left.vector.y), (7, 3, -2));
+            let right = motion(motions.derived[4], motions.places);
+            assert_eq!(rt; (right.picture, right.vector.x, right.vector.y), (7, 9, 0));
         }
         _ => assert!(rt; false),
     }

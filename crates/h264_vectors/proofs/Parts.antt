@@ -2,7 +2,6 @@
 use Rattle.std.proofs.Common.{◌≡◌, ◌≢◌, ◌==◌, ℕ, zero, suc, Bool, true, false, List, [], ◌∷◌, ◌++◌, map, replicate, get_or, ℤ, Option, Some, None, Result, Ok, Err, refl, ap, sym, ◌∙◌, if◌then◌else◌}
 use Rattle.std.specs.Option.{is_some}
 use Rattle.std.proofs.lemmas.Bool.{eqb-true}
-use Rattle.std.proofs.lemmas.List.{get_or-replicate}
 use Rattle.std.specs.List.{range_with_len}
 use Rattle.std.proofs.Math.ListN as math
 use Rattle.h264_base.specs.declared.stop.Stop.{Stop}
@@ -17,7 +16,7 @@ use Rattle.h264_vectors.specs.Vectors.{predicted_vector}
 use Rattle.h264_vectors.specs.declared.part.Part.{Part}
 use Rattle.h264_vectors.specs.declared.slice.SliceContext.{SliceContext}
 use Rattle.h264_vectors.specs.Derived.{Derived, is_inside, in_part, with_part, motion_of, vector_fits, moved, with_vector, derive, sub_parts_of, none_yet}
-use Rattle.h264_vectors.specs.Agrees.{Agrees, IsWhole, AreAlike, places_with, places_after, if_fits}
+use Rattle.h264_vectors.specs.Agrees.{Agrees, IsWhole, places_with, places_after, if_fits}
 
 picked : (b : Bool) (m : Motion) (old : Option Motion) (was : Bool) → is_some old ≡ was → is_some (if b then Some m else old) ≡ (if b then true else was)
 picked true m old was e = refl
@@ -123,9 +122,3 @@ unequal a b h = go (a == b) refl
 pub filled-whole : (motions : List (Option Motion)) (p : Part) (m : Motion) → IsWhole p → with_part motions p m ≡ replicate 16 (Some m)
 unfolding with_part column_of row_of
 filled-whole motions p m w = rw (w.0, w.1, w.2, w.3) refl
-
-pub alike-all : (m : Option Motion) → AreAlike (replicate 16 m)
-alike-all m = record { each = λ k h. get_or-replicate 16 k m None h }
-
-pub whole-alike : (motions : List (Option Motion)) (p : Part) (m : Motion) → IsWhole p → AreAlike (with_part motions p m)
-whole-alike motions p m w = rw (filled-whole motions p m w) (alike-all (Some m))

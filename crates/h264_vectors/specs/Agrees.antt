@@ -1,5 +1,5 @@
 -- What the code has of the references and vectors of a macroblock's blocks. A working form.
-use Rattle.std.specs.Prelude.{◌≡◌, ℕ, ◌/◌, ◌%◌, ◌==◌, ◌<◌, ◌≤◌, Bool, true, false, List, [], ◌∷◌, map, Option, Some, None, if◌then◌else◌}
+use Rattle.std.specs.Prelude.{◌≡◌, ℕ, ◌/◌, ◌%◌, ◌==◌, ◌<◌, ◌≤◌, Bool, true, false, not, ◌&&◌, List, [], ◌∷◌, length, map, Option, Some, None, if◌then◌else◌}
 use Rattle.std.specs.Option.{is_some}
 use Rattle.std.specs.List.{range_with_len}
 use Rattle.std.proofs.Common.{get_or}
@@ -39,11 +39,21 @@ IsOfQuarters p = (p.x % 2 ≡ 0) × (p.wide % 2 ≡ 0) × (p.y % 2 ≡ 0) × (p.
 abbrev pub IsQuarterFilled : List (Option Motion) → List (Option Motion) → Part → ℕ → Motion → Type 0
 IsQuarterFilled old new p q m = (k : ℕ) → k < 16 → get_or new k None ≡ (if k / 4 == q then in_part p k m (get_or old k None) else get_or old k None)
 
--- all blocks have one reference and one vector
-pub record AreAlike (motions : List (Option Motion)) : Type 0 where
-  pub each : (k : ℕ) → k < 16 → get_or motions k None ≡ get_or motions 0 None
+-- two blocks stand on one side of a part: both in it, or both outside it
+abbrev pub is_on_one_side : Part → ℕ → ℕ → Bool
+is_on_one_side p i j = if is_inside p i then is_inside p j else not (is_inside p j)
+
+abbrev pub are_on_one_side : List Part → ℕ → ℕ → Bool
+are_on_one_side [] i j = true
+are_on_one_side (p ∷ parts) i j = is_on_one_side p i j && are_on_one_side parts i j
+
+-- blocks that were predicted alike still are, where none of these parts, which were derived, stands between them
+pub record StayAlike (parts : List Part) (old new : List (Option Motion)) : Type 0 where
+  pub each : (i j : ℕ) → i < 16 → j < 16 → are_on_one_side parts i j ≡ true → get_or old i None ≡ get_or old j None →
+      get_or new i None ≡ get_or new j None
 
 -- what a slice of the profile says
 pub record Usable (slice : SliceContext) : Type 0 where
   pub few : slice.active ≤ 16
   pub limit : slice.vector_limit ≤ 8192
+  pub places : length slice.references ≡ 16

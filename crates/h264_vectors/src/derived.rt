@@ -1,12 +1,12 @@
 //! References and vectors of the blocks of a macroblock, part by part (8.4.1).
 #![tactic(auto)]
 
-ghost use Rattle.std.specs.Prelude.{◌≡◌, ℕ, ◌+◌, ◌<◌, ◌≤◌, Bool, true, IsTrue, List};
+ghost use Rattle.std.specs.Prelude.{◌≡◌, ℕ, ◌+◌, ◌<◌, ◌≤◌, Bool, true, IsTrue, List, [], ◌∷◌};
 ghost use Rattle.h264_near.specs.Coded.{CodedMacroblock};
 ghost use Rattle.h264_near.specs.Keeps.{Keeps};
 ghost use Rattle.h264_vectors.specs.Derived as derived;
 ghost use Rattle.h264_vectors.specs.Derived.{Derived};
-ghost use Rattle.h264_vectors.specs.Agrees.{Agrees, Usable, IsWhole, IsOfQuarters, IsQuarterFilled, AreAlike, places_with};
+ghost use Rattle.h264_vectors.specs.Agrees.{Agrees, Usable, IsWhole, IsOfQuarters, IsQuarterFilled, StayAlike, places_with};
 
 use crate::part::{Part, PredictedPart, VectorDifference};
 use crate::predicted::predicted_vector;
@@ -152,7 +152,7 @@ pub fn derive(
     ensures agrees { (width : ℕ) (picture : List CodedMacroblock) (places : List Bool) (d : Derived) → Keeps width picture around.entry.near.now →
         Agrees fits motions.old places d → Agrees result motions.new (places_with places part.place)
         (derived.derive width around.entry.slice.now picture d part.place part.ref_idx mvd.across mvd.down) }
-    ensures alike { IsWhole part.place → AreAlike motions.old → AreAlike motions.new }
+    ensures alike { StayAlike (part.place ∷ []) motions.old motions.new }
 {
     if !fits {
         return false;

@@ -9,7 +9,11 @@ ghost use Rattle.h264_near.specs.Keeps.{Keeps};
 ghost use Rattle.h264_vectors.specs.declared.part.Direction.TheVariants as direction;
 ghost use Rattle.h264_vectors.specs.Derived as derived;
 ghost use Rattle.h264_vectors.specs.Derived.{Derived};
-ghost use Rattle.h264_vectors.specs.Agrees.{Agrees, Usable, IsWhole, AreAlike, places_with, places_after};
+ghost use Rattle.h264_vectors.specs.Agrees.{Agrees, Usable, StayAlike, places_with, places_after};
+ghost use Rattle.h264_vectors.specs.Partitions.{sub_partition_of, IsOfType};
+ghost use Rattle.h264_near.specs.Partition.{MovesByPartition};
+ghost use Rattle.h264_near.specs.declared.partition.SubPartition.TheVariants as sub_partition;
+ghost use Rattle.h264_near.specs.declared.partition.Partition.TheVariants as partitions;
 ghost use Rattle.h264_vectors.specs.Inter as syntax;
 
 use crate::derived::derive;
@@ -18,7 +22,7 @@ use crate::slice::{SliceContext, Surroundings, has_picture};
 use h264_base::{ElementName, Elements, Rule, Stop};
 use h264_bits::forms::ue_up_to;
 use h264_bits::{Bits, Found, check, read_se, read_te};
-use h264_near::Motion;
+use h264_near::{Motion, Partition, SubPartition};
 
 /// Reads ref_idx_l0.
 fn read_ref_idx<S: Elements>(
@@ -81,7 +85,7 @@ fn read_part<S: Elements>(
     ensures meets { (width : ℕ) (picture : List CodedMacroblock) (places : List Bool) (d : Derived) → Keeps width picture around.entry.near.now →
         Agrees fits motions.old places d → Meets S.took S.failures (λ w next. Agrees w motions.new (places_with places part.place) next)
         (syntax.part_motion width around.entry.slice.now picture part.place part.ref_idx d) bits.old bits.new sink.old sink.new result }
-    ensures alike { IsWhole part.place → AreAlike motions.old → OnOk result (AreAlike motions.new) }
+    ensures alike { OnOk result (StayAlike (part.place ∷ []) motions.old motions.new) }
     ensures quiet { OnOk result (IsQuiet S.failures sink.old sink.new) }
 {
     let across = read_se(bits, ElementName::MvdL0, sink)?;
@@ -112,6 +116,7 @@ fn read_four<S: Elements>(
         (λ w next. Agrees w motions.new (places_after places (derived.sub_parts_of sub.x sub.y 3)) next)
         (syntax.part_motions width around.entry.slice.now picture sub.ref_idx (derived.sub_parts_of sub.x sub.y 3) d)
         bits.old bits.new sink.old sink.new result }
+    ensures alike { OnOk result (StayAlike (derived.sub_parts_of sub.x sub.y 3) motions.old motions.new) }
     ensures quiet { OnOk result (IsQuiet S.failures sink.old sink.new) }
 {
     let SubMacroblock { x, y, .. } = sub;
@@ -144,6 +149,7 @@ fn read_sub_macroblock<S: Elements>(
         (λ w next. Agrees w motions.new (places_after places (derived.sub_parts_of sub.x sub.y sub.sub_mb_type)) next)
         (syntax.part_motions width around.entry.slice.now picture sub.ref_idx (derived.sub_parts_of sub.x sub.y sub.sub_mb_type) d)
         bits.old bits.new sink.old sink.new result }
+    ensures alike { OnOk result (StayAlike (derived.sub_parts_of sub.x sub.y sub.sub_mb_type) motions.old motions.new) }
     ensures quiet { OnOk result (IsQuiet S.failures sink.old sink.new) }
 {
     let SubMacroblock {
@@ -189,6 +195,8 @@ fn read_sub_macroblocks<S: Elements>(
         (syntax.quarters width around.entry.slice.now picture
         (slice_index types 0) (slice_index types 1) (slice_index types 2) (slice_index types 3)
         (slice_index indices 0) (slice_index indices 1) (slice_index indices 2) (slice_index indices 3)) bits.old bits.new sink.old sink.new result }
+    ensures alike { OnOk result (MovesByPartition (partitions.P8x8 (sub_partition_of (slice_index types 0) ∷ sub_partition_of (slice_index types 1) ∷
+        sub_partition_of (slice_index types 2) ∷ sub_partition_of (slice_index types 3) ∷ [])) motions.new) }
     ensures quiet { OnOk result (IsQuiet S.failures sink.old sink.new) }
 {
     let first = SubMacroblock::new(0, 0, types[0], indices[0]);
@@ -201,11 +209,24 @@ fn read_sub_macroblocks<S: Elements>(
     read_sub_macroblock(bits, around, fourth, c, motions, sink)
 }
 
+/// How a sub-macroblock of this sub_mb_type is partitioned (Table 7-17).
+fn sub_partition(sub_mb_type: u32) -> SubPartition
+    ensures { result ≡ sub_partition_of sub_mb_type }
+{
+    match sub_mb_type {
+        0 => SubPartition::P8x8,
+        1 => SubPartition::P8x4,
+        2 => SubPartition::P4x8,
+        _ => SubPartition::P4x4,
+    }
+}
+
 /// Reads a macroblock of four sub-macroblocks.
 fn read_split<S: Elements>(
     bits: &mut Bits,
     around: Surroundings,
     inferred: bool,
+    partition: &mut Partition,
     motions: &mut [Option<Motion>; 16],
     sink: &mut S,
 ) -> Result<bool, Stop>
@@ -216,12 +237,20 @@ fn read_split<S: Elements>(
     ensures meets { (width : ℕ) (picture : List CodedMacroblock) → Keeps width picture around.entry.near.now →
         Meets S.took S.failures (λ w next. Agrees w motions.new (replicate 16 true) next)
         (syntax.split_parts width around.entry.slice.now picture inferred) bits.old bits.new sink.old sink.new result }
+    ensures partition { OnOk result (IsOfType 3 partition.new) }
+    ensures alike { OnOk result (MovesByPartition partition.new motions.new) }
     ensures quiet { OnOk result (IsQuiet S.failures sink.old sink.new) }
 {
     let t0 = ue_up_to(bits, ElementName::SubMbType, 3, sink)?;
     let t1 = ue_up_to(bits, ElementName::SubMbType, 3, sink)?;
     let t2 = ue_up_to(bits, ElementName::SubMbType, 3, sink)?;
     let t3 = ue_up_to(bits, ElementName::SubMbType, 3, sink)?;
+    *partition = Partition::P8x8([
+        sub_partition(t0),
+        sub_partition(t1),
+        sub_partition(t2),
+        sub_partition(t3),
+    ]);
     let i0 = read_ref_index(bits, around.slice, inferred, sink)?;
     let i1 = read_ref_index(bits, around.slice, inferred, sink)?;
     let i2 = read_ref_index(bits, around.slice, inferred, sink)?;
@@ -251,7 +280,7 @@ fn read_one_part<S: Elements>(
     ensures meets { (width : ℕ) (picture : List CodedMacroblock) → Keeps width picture around.entry.near.now →
         Meets S.took S.failures (λ w next. Agrees w motions.new (replicate 16 true) next)
         (syntax.one_part width around.entry.slice.now picture inferred (derived.part 0 0 4 4 direction.Median)) bits.old bits.new sink.old sink.new result }
-    ensures alike { OnOk result (AreAlike motions.new) }
+    ensures alike { OnOk result (MovesByPartition partitions.P16x16 motions.new) }
     ensures quiet { OnOk result (IsQuiet S.failures sink.old sink.new) }
 {
     let ref_idx = read_ref_index(bits, around.slice, inferred, sink)?;
@@ -284,6 +313,7 @@ fn read_two_parts<S: Elements>(
     ensures meets { (width : ℕ) (picture : List CodedMacroblock) → Keeps width picture around.entry.near.now →
         Meets S.took S.failures (λ w next. Agrees w motions.new (places_after (replicate 16 false) (halves.first ∷ halves.second ∷ [])) next)
         (syntax.two_parts width around.entry.slice.now picture inferred halves.first halves.second) bits.old bits.new sink.old sink.new result }
+    ensures alike { OnOk result (StayAlike (halves.first ∷ halves.second ∷ []) motions.old motions.new) }
     ensures quiet { OnOk result (IsQuiet S.failures sink.old sink.new) }
 {
     let i = read_ref_index(bits, around.slice, inferred, sink)?;
@@ -304,33 +334,38 @@ fn read_two_parts<S: Elements>(
 fn read_motions_by<S: Elements>(
     bits: &mut Bits,
     around: Surroundings,
-    inferred: bool,
     kind: u32,
+    partition: &mut Partition,
     motions: &mut [Option<Motion>; 16],
     sink: &mut S,
 ) -> Result<bool, Stop>
     requires none { motions.old ≡ replicate 16 None }
-    requires some { inferred ≡ false → 1 < around.slice.now.active }
     requires usable { Usable around.slice.now }
     requires room { HasRoom S.failures sink.old }
     ensures meets { (width : ℕ) (picture : List CodedMacroblock) → Keeps width picture around.entry.near.now →
         Meets S.took S.failures (λ w next. Agrees w motions.new (replicate 16 true) next)
-        (syntax.motions_by width around.entry.slice.now picture inferred kind) bits.old bits.new sink.old sink.new result }
-    ensures alike { kind ≡ 0 → OnOk result (AreAlike motions.new) }
+        (syntax.motions_by width around.entry.slice.now picture (syntax.is_inferred around.entry.slice.now kind) kind)
+        bits.old bits.new sink.old sink.new result }
+    ensures partition { OnOk result (IsOfType kind partition.new) }
+    ensures alike { OnOk result (MovesByPartition partition.new motions.new) }
     ensures quiet { OnOk result (IsQuiet S.failures sink.old sink.new) }
 {
+    let inferred = is_inferred(around.slice, kind);
     if kind == 0 {
+        *partition = Partition::P16x16;
         return read_one_part(bits, around, inferred, motions, sink);
     }
     if kind == 1 {
+        *partition = Partition::P16x8;
         let halves = Halves::UPPER_AND_LOWER;
         return read_two_parts(bits, around, inferred, halves, motions, sink);
     }
     if kind == 2 {
+        *partition = Partition::P8x16;
         let halves = Halves::LEFT_AND_RIGHT;
         return read_two_parts(bits, around, inferred, halves, motions, sink);
     }
-    read_split(bits, around, inferred, motions, sink)
+    read_split(bits, around, inferred, partition, motions, sink)
 }
 
 /// Whether ref_idx_l0 does not stand in the stream.
@@ -357,7 +392,8 @@ fn has_inferred(slice: &SliceContext, inferred: bool) -> bool
 }
 
 /// Reads what the blocks of an inter macroblock are predicted from, by its mb_type, 0 to 4:
-/// whether all its vectors lie in their range. `motions` have the reference and the vector of each block, where they do. With mb_type 0 they are alike.
+/// whether all its vectors lie in their range. `motions` have the reference and the vector of each block, where they do. `partition` is how it is
+/// partitioned; the motions of each partition are alike.
 ///
 /// Ok: the elements that the sink was told are its one derivation, with every rule met but that on the range of vectors.
 /// No: the first rule that it breaks, at its stream bit. Write: the sink failed. After an Err the reader may have moved.
@@ -365,6 +401,7 @@ pub fn read_motions<S: Elements>(
     bits: &mut Bits,
     around: Surroundings,
     mb_type: Found<u32>,
+    partition: &mut Partition,
     motions: &mut [Option<Motion>; 16],
     sink: &mut S,
 ) -> Result<bool, Stop>
@@ -374,11 +411,12 @@ pub fn read_motions<S: Elements>(
     ensures meets { (width : ℕ) (picture : List CodedMacroblock) → Keeps width picture around.entry.near.now →
         Meets S.took S.failures (λ w next. Agrees w motions.new (replicate 16 true) next)
         (syntax.motions width around.entry.slice.now picture mb_type.bit mb_type.value) bits.old bits.new sink.old sink.new result }
-    ensures alike { mb_type.value ≡ 0 → OnOk result (AreAlike motions.new) }
+    ensures partition { OnOk result (IsOfType mb_type.value partition.new) }
+    ensures alike { OnOk result (MovesByPartition partition.new motions.new) }
     ensures quiet { OnOk result (IsQuiet S.failures sink.old sink.new) }
 {
     let inferred = is_inferred(around.slice, mb_type.value);
     let has_reference = has_inferred(around.slice, inferred);
     check(has_reference, Rule::NoReference, mb_type.bit)?;
-    read_motions_by(bits, around, inferred, mb_type.value, motions, sink)
+    read_motions_by(bits, around, mb_type.value, partition, motions, sink)
 }

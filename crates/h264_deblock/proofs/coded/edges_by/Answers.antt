@@ -21,10 +21,8 @@ returns-clause-edges c slices w xs m s is o l a =
       cb = record { vertical = c.chroma_along.result; horizontal = c.chroma_along-2.result };
       cr = None;
     } in
-    let alike = λ (t : c.are_alike-alike.result ≡ true). sym c.are_alike-alike.ensures ∙ t in
-    let even = c.is_even.ensures alike in
-    let v = c.inner_strengths-inner.ensures.vertical alike even m s in
-    let z = c.inner_strengths-inner.ensures.horizontal alike even m s in
+    let v = c.inner_strengths-inner.ensures.vertical tt (λ t. absurd (cc)) m s in
+    let z = c.inner_strengths-inner.ensures.horizontal tt (λ t. absurd (cc)) m s in
     let y = qp-is slices Y m false c.args.own.now.qp f.chroma_qp_index_offset refl s.qp (o m.slice) in
     let cb = qp-is slices Cb m true c.args.own.now.qp f.chroma_qp_index_offset refl s.qp (o m.slice) ∙ sym c.qp_in-qp.ensures in
     let cr = qp-is slices Cr m true c.args.own.now.qp f.chroma_qp_index_offset refl s.qp (o m.slice) ∙ sym c.qp_in-qp.ensures in

@@ -25,7 +25,7 @@ returns-in-Off-clause-filtered c slices w xs q one k s size h is o p =
 pub returns-then-is_still-2-clause-filtered : goal.returns-then-is_still-2-clause-filtered
 returns-then-is_still-2-clause-filtered c slices w xs q one k s size h is o p =
     let f : Frame = c.args.frame.now in
-    let even = c.is_even-even.ensures (c.moves_as_one-alike.ensures one) in
+    let even = c.is_even-even.ensures one in
     let own = c.is_uniform.ensures c.if-is_uniform.true even q s in
     still slices w xs q c.args.coded.now.filter.now (named_border c.border_of-left.result) (named_border c.border_of-above.result) is o
     (c.border_of-left.ensures.here even (last_left w xs) q (c.left_edge.ensures w xs k) s (left-none w xs c.args.column c.args.row size h))
@@ -54,8 +54,7 @@ returns-clause-size c p =
 pub returns-clause-filtered : goal.returns-clause-filtered
 returns-clause-filtered c slices w xs q one k s size h is o p =
     let f = c.args.coded.now.filter.now in
-    let alike = c.moves_as_one-alike.ensures one in
-    let even = c.is_even-even.ensures alike in
+    let even = c.is_even-even.ensures one in
     let old : Frame = c.args.frame.now in
     let new : Frame = c.filter_by.new.frame in
     let left = c.border_of-left.ensures.here even (last_left w xs) q (c.left_edge.ensures w xs k) s (left-none w xs c.args.column c.args.row size h) in
@@ -64,8 +63,8 @@ returns-clause-filtered c slices w xs q one k s size h is o p =
     let inner = c.inner_strengths.result in
     let a = named_border c.border_of-left.result in
     let b = named_border c.border_of-above.result in
-    let v = c.inner_strengths.ensures.vertical alike even q s in
-    let z = c.inner_strengths.ensures.horizontal alike even q s in
+    let v = c.inner_strengths.ensures.vertical one even q s in
+    let z = c.inner_strengths.ensures.horizontal one even q s in
     let qp = side_qp true own.qp f.chroma_qp_index_offset in
     let y = qp-is slices Y q false own.qp f.chroma_qp_index_offset refl s.qp (o q.slice) in
     let cb = qp-is slices Cb q true own.qp f.chroma_qp_index_offset refl s.qp (o q.slice) in

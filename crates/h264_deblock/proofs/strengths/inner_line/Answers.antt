@@ -1,9 +1,7 @@
-use Rattle.h264_deblock.proofs.CodedEdges.{four}
-use Rattle.h264_deblock.proofs.Numbers.{below-word}
 use Rattle.h264_deblock.proofs.strengths.inner_line.Goals as goal
 
-pub returns-clause-here : goal.returns-clause-here
-returns-clause-here c a m s = four c.args.vertical c.args.line m m _ _ _ _ (c.inner.ensures.here a m s) (c.inner-2.ensures.here a m s) (c.inner-3.ensures.here a m s) (c.inner-4.ensures.here a m s)
+pub returns-then-is_joined-clause-here : goal.returns-then-is_joined-clause-here
+returns-then-is_joined-clause-here c moves m s = c.inner_blocks.ensures.here (λ t. c.is_joined.ensures c.if-is_joined.true c.args.own.now.motions moves) m s
 
-pub returns-clause-word : goal.returns-clause-word
-returns-clause-word c = below-word _ _ _ _ c.inner.ensures.small c.inner-2.ensures.small c.inner-3.ensures.small c.inner-4.ensures.small
+pub returns-clause-here : goal.returns-clause-here
+returns-clause-here c moves m s = c.inner_blocks-2.ensures.here (λ t. absurd (cc)) m s

@@ -15,3 +15,9 @@ returns-then-this-eq8 g c =
     let row = c.args.row.now in
     let same : length c.args.out.now ≡ length (chunk 0 8 row) = omega (arith, length-chunk 0 8 row (omega arith)) in
     put_chunk_whole c.args.out.now (chunk 0 8 row) same ∙ chunk_whole 8 row (omega arith)
+
+pub returns-then-this-eq4 : goal.returns-then-this-eq4
+returns-then-this-eq4 g c =
+    let row = c.args.row.now in
+    let same : length c.args.out.now ≡ length (chunk 0 4 row) = omega (arith, length-chunk 0 4 row (omega arith)) in
+    put_chunk_whole c.args.out.now (chunk 0 4 row) same ∙ chunk_whole 4 row (omega arith)

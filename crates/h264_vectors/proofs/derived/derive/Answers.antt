@@ -2,7 +2,8 @@ use Rattle.std.proofs.Common.{rules, sym, ◌∙◌}
 use Rattle.std.proofs.lemmas.Int.{to_z-of_z}
 use Rattle.std.specs.Int.{w32}
 use mir.Val.{SFits}
-use Rattle.h264_vectors.proofs.Parts.{derive-off, derive-out, derive-in, none-of, some-of, whole-alike}
+use Rattle.h264_vectors.proofs.Parts.{derive-off, derive-out, derive-in, none-of, some-of}
+use Rattle.h264_vectors.proofs.Partitions.{stay-same, stay-with}
 use Rattle.h264_vectors.proofs.derived.derive.Goals as goal
 
 pub returns-then-not-fits-clause-agrees : goal.returns-then-not-fits-clause-agrees
@@ -27,5 +28,11 @@ returns-in-Some-clause-agrees c width picture places d k a =
     let s = some-of _ _ _ (sym c.in-Some.is ∙ m) in
     derive-in width c.args.around.slice.now picture _ _ places d c.args.part.place c.args.part.ref_idx c.args.mvd.across c.args.mvd.down _ _ b (c.predicted_vector-predicted.ensures width picture k) s.0 s.1 (rw c.motion_of.ensures at c.fill.ensures)
 
+pub returns-then-not-fits-clause-alike : goal.returns-then-not-fits-clause-alike
+returns-then-not-fits-clause-alike c = stay-same _ _
+
+pub returns-in-None-clause-alike : goal.returns-in-None-clause-alike
+returns-in-None-clause-alike c = stay-same _ _
+
 pub returns-in-Some-clause-alike : goal.returns-in-Some-clause-alike
-returns-in-Some-clause-alike c whole alike = rw c.fill.ensures (whole-alike c.args.motions.now c.args.part.place c.motion_of.result whole)
+returns-in-Some-clause-alike c = rw c.fill.ensures (stay-with c.args.motions.now c.args.part.place c.motion_of.result)

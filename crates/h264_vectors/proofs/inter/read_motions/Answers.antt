@@ -9,4 +9,4 @@ returns-in_err-check-clause-meets g c width picture k = let p = err_from_is_err_
 
 pub returns-clause-meets : goal.returns-clause-meets
 unfolding motions
-returns-clause-meets g c width picture k = bind _ (checked _ _ _ _ (rw (c.has_inferred-has_reference.ensures, c.is_inferred-inferred.ensures.meets) at c.in_ok-check.ensures)) (rw c.is_inferred-inferred.ensures.meets at (c.read_motions_by.ensures.meets width picture k))
+returns-clause-meets g c width picture k = bind _ (checked _ _ _ _ (rw (c.has_inferred-has_reference.ensures, c.is_inferred-inferred.ensures.meets) at c.in_ok-check.ensures)) (c.read_motions_by.ensures.meets width picture k)

@@ -1,8 +1,9 @@
 use Rattle.std.proofs.Common.{false}
-use Rattle.std.proofs.lemmas.Result.{err_from_is_err_and}
+use Rattle.std.proofs.lemmas.Result.{err_from_is_err_and, on_ok_weaker}
 use Rattle.h264_base.proofs.Steps.{bind, stop}
-use Rattle.std.proofs.Common.{replicate, refl, None}
-use Rattle.h264_vectors.proofs.Parts.{starts, alike-all}
+use Rattle.std.proofs.Common.{replicate}
+use Rattle.h264_vectors.proofs.Parts.{starts}
+use Rattle.h264_vectors.proofs.Partitions.{moves16x16}
 use Rattle.h264_near.specs.Coded.{column_of, row_of}
 use Rattle.h264_vectors.specs.Agrees.{places_with}
 use Rattle.h264_vectors.specs.Inter.{one_part}
@@ -18,4 +19,4 @@ unfolding one_part places_with column_of row_of
 returns-clause-meets g c width picture k = bind _ (c.in_ok-ref_idx.ensures.meets) (c.read_part.ensures.meets width picture (replicate 16 false) none_yet k (starts _ c.requires.none))
 
 pub returns-clause-alike : goal.returns-clause-alike
-returns-clause-alike g c = c.read_part.ensures.alike (refl, refl, refl, refl) (rw c.requires.none (alike-all None))
+returns-clause-alike g c = on_ok_weaker c.read_part.result (moves16x16 _ _ c.requires.none) c.read_part.ensures.alike

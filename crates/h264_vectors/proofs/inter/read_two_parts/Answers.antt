@@ -1,11 +1,12 @@
 use Rattle.std.proofs.Common.{false}
-use Rattle.std.proofs.lemmas.Result.{err_from_is_err_and}
+use Rattle.std.proofs.lemmas.Result.{err_from_is_err_and, on_ok_weaker}
 use Rattle.h264_base.proofs.Steps.{bind, bind_as, stop}
 use Rattle.std.proofs.Common.{replicate}
 use Rattle.h264_vectors.proofs.Parts.{starts}
 use Rattle.h264_vectors.specs.Inter.{two_parts}
 use Rattle.h264_vectors.specs.Derived.{none_yet}
 use Rattle.h264_vectors.proofs.inter.read_two_parts.Goals as goal
+use Rattle.h264_vectors.proofs.Partitions.{stay-then}
 
 pub returns-in_err-i-clause-meets : goal.returns-in_err-i-clause-meets
 unfolding two_parts
@@ -22,3 +23,6 @@ returns-in_err-first-clause-meets g c width picture k = let p = err_from_is_err_
 pub returns-clause-meets : goal.returns-clause-meets
 unfolding two_parts
 returns-clause-meets g c width picture k = bind _ (c.in_ok-i.ensures.meets) (bind _ (c.in_ok-j.ensures.meets) (bind_as _ (c.in_ok-first.ensures.meets width picture (replicate 16 false) none_yet k (starts _ c.requires.none)) (λ v2 e2. c.read_part-2.ensures.meets width picture _ v2 k e2)))
+
+pub returns-clause-alike : goal.returns-clause-alike
+returns-clause-alike g c = on_ok_weaker c.read_part-2.result (λ last. stay-then _ _ _ _ _ c.in_ok-first.ensures.alike last) c.read_part-2.ensures.alike

@@ -8,50 +8,50 @@ use Rattle.h264_recon.specs.Placed.{weights_by}
 use Rattle.h264_picture.specs.Making.{setting_of}
 use Rattle.h264_picture.proofs.Made.{alike, if-ok, are-shown, possible, given-by, filter-by}
 use Rattle.h264_picture.proofs.Room.{in-rows, is-small, own-room, are-usable, y-lines, cb-lines, cr-lines, more-lines, made}
-use Rattle.h264_picture.proofs.Steps.{same-makes}
 use Rattle.h264_picture.proofs.sequence.Sequence.make_read.Goals as goal
 
 pub go_on-requires-clause-usable : goal.go_on-requires-clause-usable
-go_on-requires-clause-usable c = are-usable _ _ _ _ _ _ _ _ _ c.args.self.now.sound c.requires.next _ c.given_within-m.ensures.points
+go_on-requires-clause-usable c = are-usable _ _ _ _ _ c.args.self.now.sound c.requires.next _ c.requires.places _ c.given_within-m.ensures.points
 
 pub given_within-m-requires : goal.given_within-m-requires
-given_within-m-requires c = record { small = (is-small _ _ _ _ _ _ _ _ _ c.args.self.now.sound c.requires.next).0 }
+given_within-m-requires c = record { small = (is-small _ _ _ _ _ c.args.self.now.sound c.requires.next).0 }
 
 pub go_on-requires-clause-y : goal.go_on-requires-clause-y
-go_on-requires-clause-y c = (own-room _ _ _ _ _ _ _ _ _ c.args.self.now.sound c.requires.next c.args.self.now.frames.within.0).y
+go_on-requires-clause-y c = (own-room _ _ _ _ _ c.args.self.now.sound c.requires.next c.args.self.now.frames.within.0).y
 
 pub go_on-requires-clause-cb : goal.go_on-requires-clause-cb
-go_on-requires-clause-cb c = (own-room _ _ _ _ _ _ _ _ _ c.args.self.now.sound c.requires.next c.args.self.now.frames.within.0).cb
+go_on-requires-clause-cb c = (own-room _ _ _ _ _ c.args.self.now.sound c.requires.next c.args.self.now.frames.within.0).cb
 
 pub go_on-requires-clause-cr : goal.go_on-requires-clause-cr
-go_on-requires-clause-cr c = (own-room _ _ _ _ _ _ _ _ _ c.args.self.now.sound c.requires.next c.args.self.now.frames.within.0).cr
+go_on-requires-clause-cr c = (own-room _ _ _ _ _ c.args.self.now.sound c.requires.next c.args.self.now.frames.within.0).cr
 
 pub go_on-requires-clause-y_lines : goal.go_on-requires-clause-y_lines
-go_on-requires-clause-y_lines c = y-lines _ _ _ _ _ _ _ _ _ c.args.self.now.sound c.requires.next
+go_on-requires-clause-y_lines c = y-lines _ _ _ _ _ c.args.self.now.sound c.requires.next
 
 pub go_on-requires-clause-cb_lines : goal.go_on-requires-clause-cb_lines
-go_on-requires-clause-cb_lines c = cb-lines _ _ _ _ _ _ _ _ _ c.args.self.now.sound c.requires.next
+go_on-requires-clause-cb_lines c = cb-lines _ _ _ _ _ c.args.self.now.sound c.requires.next
 
 pub go_on-requires-clause-cr_lines : goal.go_on-requires-clause-cr_lines
-go_on-requires-clause-cr_lines c = cr-lines _ _ _ _ _ _ _ _ _ c.args.self.now.sound c.requires.next
+go_on-requires-clause-cr_lines c = cr-lines _ _ _ _ _ c.args.self.now.sound c.requires.next
 
 pub go_on-requires-clause-more : goal.go_on-requires-clause-more
-go_on-requires-clause-more c h = more-lines _ _ _ _ _ _ _ _ _ c.args.self.now.sound c.requires.next (c.given_within-m.ensures.more h)
+go_on-requires-clause-more c h = more-lines _ _ _ _ _ c.args.self.now.sound c.requires.next (c.given_within-m.ensures.more h)
 
 pub go_on-requires-clause-small : goal.go_on-requires-clause-small
-go_on-requires-clause-small c = is-small _ _ _ _ _ _ _ _ _ c.args.self.now.sound c.requires.next
+go_on-requires-clause-small c = is-small _ _ _ _ _ c.args.self.now.sound c.requires.next
 
 pub go_on-requires-clause-qp : goal.go_on-requires-clause-qp
 go_on-requires-clause-qp c = rw c.new.ensures.read c.requires.qp
 
 pub invariant_of-self-2-clause-sound : goal.invariant_of-self-2-clause-sound
-invariant_of-self-2-clause-sound c = made _ _ _ _ _ _ _ _ _ c.args.self.now.sound c.requires.next _ _ c.go_on.ensures.lines c.args.self.now.frames.within.0 c.go_on.ensures.size refl refl
+invariant_of-self-2-clause-sound c = made _ _ _ _ _ c.args.self.now.sound c.requires.next _ _ c.go_on.ensures.lines c.args.self.now.frames.within.0 c.go_on.ensures.size refl refl
 
 pub returns-clause-range : goal.returns-clause-range
 returns-clause-range c coded r =
     let slice = c.args.slice.now in
-    let fits : SFits w32 slice.chroma_qp_index_offset = search rules in
-    let levels = rw (kept32 slice.chroma_qp_index_offset fits) at c.new.ensures.levels coded r in
+    let context = slice.context in
+    let fits : SFits w32 context.chroma_qp_index_offset = search rules in
+    let levels = rw (kept32 context.chroma_qp_index_offset fits) at c.new.ensures.levels coded r in
     let range = c.go_on.ensures.range (c.given_within-m.ensures.kind ∙ ap (λ z. is_pcm z.kind) (sym c.new.ensures.read)) in
     c.is_ok.ensures.value ∙ alike _ _ range.0 range.1 ∙ ap levels_fit levels
 
@@ -59,19 +59,18 @@ pub returns-clause-samples : goal.returns-clause-samples
 returns-clause-samples c t width size None picture coded h s m r e p = tt
 returns-clause-samples c t width size (Some making) picture coded h s m r e p =
     let old = c.args.self.now in
+    let read = old.mb in
     let slice = c.args.slice.now in
+    let context = slice.context in
     let w = h.columns in
-    let n : length picture ≡ old.row * old.across + old.column = sym h.next ∙ old.sound.next in
-    let n' : length picture ≡ old.row * width + old.column = subst (λ x. length picture ≡ old.row * x + old.column) w n in
-    let i : old.column < width = subst (λ x. old.column < x) w old.sound.column in
-    let fits : SFits w32 slice.chroma_qp_index_offset = search rules in
-    let levels = rw (kept32 slice.chroma_qp_index_offset fits) at c.new.ensures.levels coded r in
+    let n : length picture ≡ old.picture.position.row * old.across + old.picture.position.column = sym h.next ∙ old.sound.next in
+    let n' : length picture ≡ old.picture.position.row * width + old.picture.position.column = subst (λ x. length picture ≡ old.picture.position.row * x + old.picture.position.column) w n in
+    let i : old.picture.position.column < width = subst (λ x. old.picture.position.column < x) w old.sound.column in
+    let fits : SFits w32 context.chroma_qp_index_offset = search rules in
+    let levels = rw (kept32 context.chroma_qp_index_offset fits) at c.new.ensures.levels coded r in
     let is = ap (coded_as c.given_within-m.result) levels ∙ c.given_within-m.ensures.given width picture making.place coded w h.keeps n' i r e p m.placed in
     if-ok c.go_on.result (sym c.is_ok.ensures.value ∙ t) c.go_on.ensures.held
-    (setting_of old) making.place making.slices picture coded n old.sound.column (in-rows _ _ _ _ _ _ _ _ _ old.sound c.requires.next) (are-shown old _ c.given_within-m.ensures.points)
-    (possible width slice picture making.place (weights_by old.weights) slice.chroma_qp_index_offset coded old.column old.row _ n' i e p is)
-    (given-by old.across width picture making slice old coded _ w m e is) (c.moves_as_one.ensures coded r)
-    (subst (λ x. Keeps x picture old.near) (sym w) h.keeps) r.contexts (filter-by making slice old coded m e) m.offsets s
-
-pub returns-clause-makes : goal.returns-clause-makes
-returns-clause-makes c making h = same-makes making c.args.slice.now c.args.self.now _ refl refl refl h
+    (setting_of old) making.place making.slices picture coded n old.sound.column (in-rows _ _ _ _ _ old.sound c.requires.next) (are-shown old _ c.requires.places _ c.given_within-m.ensures.points)
+    (possible width context picture making.place (weights_by slice.weights) context.chroma_qp_index_offset coded old.picture.position.column old.picture.position.row _ n' i e p is)
+    (given-by old.across width picture making slice coded _ w m e is) (c.partition.ensures coded r)
+    (subst (λ x. Keeps x picture old.picture.near) (sym w) h.keeps) r.contexts (filter-by making slice coded m e) m.offsets s

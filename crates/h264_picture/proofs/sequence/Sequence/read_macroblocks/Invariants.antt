@@ -6,16 +6,18 @@ use Rattle.h264_mbsyntax.specs.Slice.{macroblocks}
 use Rattle.h264_picture.specs.Levels.{transform_fits}
 use Rattle.h264_picture.specs.Holds.{IsWithin, KeepsPlace, RefersOn}
 use Rattle.h264_picture.specs.Making.{Making, Reads}
+use Rattle.h264_picture.specs.Sound.{ArePlaces}
 use Rattle.h264_picture.proofs.sequence.Sequence.read_macroblocks.Given as goal
 
 abbrev pub invariant-loop-turn : goal.invariant-loop-turn
 invariant-loop-turn g l = record {
-  rest : (width size : ℕ) (making : Option Making) (picture : List CodedMacroblock) → Reads width size making l.slice picture l.fn.self → (now : List CodedMacroblock) × Reads width size making l.slice now l.self × Leads g.S.Elements.took g.S.Elements.failures (macroblocks (transform_fits l.slice) width l.slice l.left Next picture) (macroblocks (transform_fits l.slice) width l.slice (l.left - l.turn) l.standing now) l.fn.bits l.bits l.fn.sink l.sink;
+  rest : (width size : ℕ) (making : Option Making) (picture : List CodedMacroblock) → Reads width size making l.slice picture l.fn.self → (now : List CodedMacroblock) × Reads width size making l.slice now l.self × Leads g.S.Elements.took g.S.Elements.failures (macroblocks (transform_fits l.slice.context) width l.slice.context l.left Next picture) (macroblocks (transform_fits l.slice.context) width l.slice.context (l.left - l.turn) l.standing now) l.fn.bits l.bits l.fn.sink l.sink;
   within : l.self.mb.qp ≤ 51;
-  refers : RefersOn l.slice l.standing;
+  refers : RefersOn l.slice.context l.standing;
   standing_is : IsWithin (l.left - l.turn) l.standing;
-  next_is : l.self.next ≡ l.fn.self.next + l.turn;
+  next_is : l.self.picture.next ≡ l.fn.self.picture.next + l.turn;
   size_is : l.self.size ≡ l.fn.self.size;
   same : KeepsPlace l.fn.self l.self;
+  places : ArePlaces l.self.frames l.slice.places;
   quiet : g.S.Elements.failures l.sink ≡ g.S.Elements.failures l.fn.sink;
 }

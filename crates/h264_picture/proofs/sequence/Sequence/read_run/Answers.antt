@@ -41,7 +41,7 @@ unfolding run_of_skips
 returns g c =
     let e = c.skip.ensures in
     record {
-      meets = λ width size making picture k. bind _ (c.in_ok-run.ensures.meets) (bind _ (checked _ _ _ _ (c.in_ok-check.ensures)) (bind _ (checked _ _ _ _ (rw c.has_reference.ensures at c.in_ok-check-2.ensures)) (rw (after-some (transform_fits c.args.slice.now) width c.args.slice.now c.args.left picture _ _ c.if-run-eq0.false) (c.skip.ensures.meets width size making picture k))));
+      meets = λ width size making picture k. bind _ (c.in_ok-run.ensures.meets) (bind _ (checked _ _ _ _ (c.in_ok-check.ensures)) (bind _ (checked _ _ _ _ (rw c.has_reference.ensures at c.in_ok-check-2.ensures)) (rw (after-some (transform_fits c.args.slice.now.context) width c.args.slice.now.context c.args.left picture _ _ c.if-run-eq0.false) (c.skip.ensures.meets width size making picture k))));
       quiet = on-ok {P = g.S.Elements.failures c.read_ue.new.sink ≡ g.S.Elements.failures c.args.sink.now} c.skip.result c.in_ok-run.ensures.quiet;
       within = e.within;
       moves = e.moves;

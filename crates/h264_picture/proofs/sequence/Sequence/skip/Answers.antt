@@ -14,14 +14,15 @@ pub returns-clause-meets : goal.returns-clause-meets
 unfolding skip
 returns-clause-meets g c width size making picture k =
     let slice = c.args.slice.now in
+    let context = slice.context in
     let vector = c.skip_vector-vector.result in
     let is = c.skip_vector-vector.ensures width picture k.holds.keeps in
-    let own = skipped_of slice picture vector in
+    let own = skipped_of context picture vector in
     let read = c.skip_macroblock-skipped.ensures.holds picture k.predicted in
     let made = c.make_skipped.ensures in
-    let next = c.keep_skipped.ensures.reads width size making slice picture own (moved width size picture _ _ k.holds made.syntax.near made.same.across made.syntax.size made.syntax.next) k.first read (rw made.syntax.mb c.skip_macroblock-skipped.ensures.qp) (skipped-slice slice picture vector)
-    (made.samples width size making picture own k.holds k.samples k.makes read (skipped-slice slice picture vector) (skipped-possible width slice picture vector c.requires.refers) (skipped-none slice.chroma_qp_index_offset slice picture vector))
-    (made.makes making k.makes) in
+    let next = c.keep_skipped.ensures.reads width size making slice picture own (moved width size picture _ _ k.holds made.syntax.near made.same.across made.syntax.size made.syntax.next) k.first read (rw made.syntax.mb c.skip_macroblock-skipped.ensures.qp) (skipped-slice context picture vector)
+    (made.samples width size making picture own k.holds k.samples k.makes read (skipped-slice context picture vector) (skipped-possible width context picture vector c.requires.refers) (skipped-none context.chroma_qp_index_offset context picture vector))
+    k.makes in
     bind _ (checked _ _ _ _ (rw (c.vector_fits-fits.ensures, is) at c.in_ok-check.ensures)) (done _ _ _ _ _ _ _ (refl, rw is at next))
 
 pub returns-clause-within : goal.returns-clause-within

@@ -1,8 +1,28 @@
-use Rattle.std.proofs.Common.{refl}
-use Rattle.h264_picture.proofs.Steps.{moved, same-samples, makes-with}
+use Rattle.std.proofs.Common.{refl, arith}
+use Rattle.std.proofs.lemmas.Result.{err_from_is_err_and}
+use Rattle.h264_base.proofs.Steps.{bind, stop, checked}
+use Rattle.h264_mbsyntax.specs.Slice.{slice_data}
+use Rattle.h264_mbsyntax.specs.declared.slice.Standing.TheVariants.{Next}
+use Rattle.h264_picture.specs.Levels.{transform_fits}
+use Rattle.h264_picture.proofs.Steps.{moved, same-samples, qp-first, left-is, makes-with}
 use Rattle.h264_picture.proofs.sequence.Sequence.slice.Goals as goal
 
+pub returns-in_err-check-clause-meets : goal.returns-in_err-check-clause-meets
+unfolding slice_data
+returns-in_err-check-clause-meets g c width size making picture h n m = let p = err_from_is_err_and c.from_residual.result c.from_residual.ensures.1 in rw (p.1, p.2) (bind _ c.look-ahead.ensures (stop _ (checked _ _ _ _ c.in_err-check.ensures)))
+
 pub returns-clause-meets : goal.returns-clause-meets
+unfolding slice_data
 returns-clause-meets g c width size making picture h n m =
-    c.read_slice_data.ensures.meets width size making picture (record { holds = moved width size picture _ _ h.holds refl refl refl refl; samples = same-samples making picture c.args.self.now _ refl refl refl refl h.samples }) n
-    (makes-with making c.args.slice.now c.args.samples.now c.args.base c.args.self.now _ c.places_within-self.ensures.values refl refl m)
+    let k = h.holds in
+    let context = c.args.context.now in
+    bind _ c.look-ahead.ensures (bind _ (checked _ _ _ _ c.in_ok-check.ensures) (left-is _ _ (transform_fits context) width context Next picture (let a = k.macroblocks in let b = k.next in omega arith) (c.read_macroblocks.ensures.meets width size making picture (record {
+      holds = moved width size picture _ _ k refl refl refl refl;
+      first = omega arith;
+      predicted = qp-first context picture n k.past;
+      samples = same-samples making picture c.args.self.now _ refl refl refl refl h.samples;
+      makes = makes-with making _ c.args.samples.now c.args.base c.args.self.now c.places_within.ensures.values refl refl m;
+    }))))
+
+pub invariant_of-self : goal.invariant_of-self
+invariant_of-self g c = record { within = c.args.self.now.within; sound = c.args.self.now.sound }
