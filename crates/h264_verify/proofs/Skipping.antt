@@ -17,7 +17,7 @@ use Rattle.h264_verify.specs.Outcome.{Outcome, ◌>>=◌, with_calls, gives}
 use Rattle.h264_verify.specs.Steps.{Step}
 use Rattle.h264_verify.specs.Buffering.{told_frames, gaps_turn, gap_on, missing_steps}
 use Rattle.h264_verify.specs.StepOutcome.{steps_outcome}
-use Rattle.h264_verify.specs.Keeping.{KeepsGap, FillsFrames, StaysSteady}
+use Rattle.h264_verify.specs.Keeping.{KeepsGap, FillsFrames, BufferStays}
 use Rattle.h264_verify.proofs.Missing.{Fills, steps-some}
 
 -- the buffer sees the pictures alone
@@ -25,41 +25,41 @@ missing-named : (refs held : References) (b : Buffered Shown) → names held ≡
 unfolding missing_turn
 missing-named refs held b e = ap (λ (held : List (Option ℕ)). turn_of (missing_step (λ (n : Shown). is_held held n.picture) (missing_in held) b) (missing_in held) b.size) e
 
-steady-named : (mode : Mode) (refs held : References) (b : Buffered Shown) → names held ≡ names refs → StaysSteady mode refs b → StaysSteady mode held b
-unfolding StaysSteady
-steady-named modes.Units refs held b e s = tt
-steady-named modes.Headers refs held b e s = tt
-steady-named modes.Full refs held b e s = missing-named refs held b e ∙ s
+stays-named : (mode : Mode) (refs held : References) (b : Buffered Shown) → names held ≡ names refs → BufferStays mode refs b → BufferStays mode held b
+unfolding BufferStays
+stays-named modes.Units refs held b e s = tt
+stays-named modes.Headers refs held b e s = tt
+stays-named modes.Full refs held b e s = missing-named refs held b e ∙ s
 
-none-told : (mode : Mode) (held : References) (b : Buffered Shown) → StaysSteady mode held b → told_frames mode (missing_turn held b).written ≡ []
-unfolding StaysSteady
+none-told : (mode : Mode) (held : References) (b : Buffered Shown) → BufferStays mode held b → told_frames mode (missing_turn held b).written ≡ []
+unfolding BufferStays
 none-told modes.Units held b s = refl
 none-told modes.Headers held b s = refl
 none-told modes.Full held b s = ap (λ (t : Turn). told_frames modes.Full t.written) s
 
-steady-on : (mode : Mode) (held : References) (b : Buffered Shown) → StaysSteady mode held b → StaysSteady mode held (missing_turn held b).buffer
-unfolding StaysSteady
-steady-on modes.Units held b s = tt
-steady-on modes.Headers held b s = tt
-steady-on modes.Full held b s = subst (λ (t : Turn). missing_turn held t.buffer ≡ stays t.buffer) (sym s) s
+stays-on : (mode : Mode) (held : References) (b : Buffered Shown) → BufferStays mode held b → BufferStays mode held (missing_turn held b).buffer
+unfolding BufferStays
+stays-on modes.Units held b s = tt
+stays-on modes.Headers held b s = tt
+stays-on modes.Full held b s = subst (λ (t : Turn). missing_turn held t.buffer ≡ stays t.buffer) (sym s) s
 
-pub full-steady : (held : References) (b : Buffered Shown) (m : Mode) → m ≡ modes.Full → missing_turn held b ≡ stays b → StaysSteady m held b
-unfolding StaysSteady
-full-steady held b modes.Units e s = tt
-full-steady held b modes.Headers e s = tt
-full-steady held b modes.Full e s = s
+pub full-stays : (held : References) (b : Buffered Shown) (m : Mode) → m ≡ modes.Full → missing_turn held b ≡ stays b → BufferStays m held b
+unfolding BufferStays
+full-stays held b modes.Units e s = tt
+full-stays held b modes.Headers e s = tt
+full-stays held b modes.Full e s = s
 
-pub steady-units : (held : References) (b : Buffered Shown) (m : Mode) → m ≡ modes.Units → StaysSteady m held b
-unfolding StaysSteady
-steady-units held b modes.Units e = tt
-steady-units held b modes.Headers e = tt
-steady-units held b modes.Full e = cc
+pub stays-units : (held : References) (b : Buffered Shown) (m : Mode) → m ≡ modes.Units → BufferStays m held b
+unfolding BufferStays
+stays-units held b modes.Units e = tt
+stays-units held b modes.Headers e = tt
+stays-units held b modes.Full e = cc
 
-pub steady-headers : (held : References) (b : Buffered Shown) (m : Mode) → m ≡ modes.Headers → StaysSteady m held b
-unfolding StaysSteady
-steady-headers held b modes.Units e = tt
-steady-headers held b modes.Headers e = tt
-steady-headers held b modes.Full e = cc
+pub stays-headers : (held : References) (b : Buffered Shown) (m : Mode) → m ≡ modes.Headers → BufferStays m held b
+unfolding BufferStays
+stays-headers held b modes.Units e = tt
+stays-headers held b modes.Headers e = tt
+stays-headers held b modes.Full e = cc
 
 nothing-first : (o : Outcome (Unit {0})) → (steps_outcome [] >>= λ _. o) ≡ o
 unfolding ◌>>=◌
@@ -67,19 +67,19 @@ nothing-first o = refl
 
 module _ (n : Numbering) where
   -- each is met, and nothing is told
-  skipped-steps : (mode : Mode) (bit count last : ℕ) (refs : References) (b : Buffered Shown) → IsSteady n last refs.frames → StaysSteady mode refs b →
+  skipped-steps : (mode : Mode) (bit count last : ℕ) (refs : References) (b : Buffered Shown) → IsSteady n last refs.frames → BufferStays mode refs b →
       steps_outcome (missing_steps mode bit n (numbers_from count ((last + 1) % n.max_frame_num) n.max_frame_num) refs b) ≡ gives tt
   skipped-steps mode bit zero last refs b s still = refl
   skipped-steps mode bit (suc count) last refs b s still =
       let number = (last + 1) % n.max_frame_num in
       let numbers = numbers_from count ((number + 1) % n.max_frame_num) n.max_frame_num in
       let next = steady-next n last refs s in
-      let more = steady-named mode refs next.held b next.pictures still in
+      let more = stays-named mode refs next.held b next.pictures still in
       let rest = steps_outcome (missing_steps mode bit n numbers next.held (missing_turn next.held b).buffer) in
       steps-some mode bit n number numbers refs next.held b next.fits
       ∙ ap (λ (steps : List Step). steps_outcome steps >>= λ _. rest) (none-told mode next.held b more)
       ∙ nothing-first rest
-      ∙ skipped-steps mode bit count number next.held (missing_turn next.held b).buffer next.steady (steady-on mode next.held b more)
+      ∙ skipped-steps mode bit count number next.held (missing_turn next.held b).buffer next.steady (stays-on mode next.held b more)
 
   -- the buffer stays as it is
   skipped-turn : (count last : ℕ) (refs : References) (b : Buffered Shown) → IsSteady n last refs.frames → missing_turn refs b ≡ stays b →
@@ -94,9 +94,9 @@ module _ (n : Numbering) where
       ∙ ap (λ (t : Turn). turn_then t (gaps_turn n numbers next.held)) more
       ∙ skipped-turn count number next.held b next.steady more
 
-  skipped-kept : (mode : Mode) (frames : ℕ → Frame) (t : Turn) (next : ℕ) (d : Decoder) (count last : ℕ) (refs : References) → IsSteady n last refs.frames → StaysSteady mode refs t.buffer → KeepsGap mode frames t next d →
+  skipped-kept : (mode : Mode) (frames : ℕ → Frame) (t : Turn) (next : ℕ) (d : Decoder) (count last : ℕ) (refs : References) → IsSteady n last refs.frames → BufferStays mode refs t.buffer → KeepsGap mode frames t next d →
       KeepsGap mode frames (turn_then t (gaps_turn n (numbers_from count ((last + 1) % n.max_frame_num) n.max_frame_num) refs)) next d
-  unfolding StaysSteady KeepsGap
+  unfolding BufferStays KeepsGap
   skipped-kept modes.Units frames t next d count last refs s still k = tt
   skipped-kept modes.Headers frames t next d count last refs s still k = tt
   skipped-kept modes.Full frames t next d count last refs s still k =
@@ -107,7 +107,7 @@ module _ (n : Numbering) where
 
 -- the rest of the missing numbers is skipped
 pub fills-skipped : {S : Type 0} (mode : Mode) (bit : ℕ) (n : Numbering) (count prev : ℕ) (held : References) (took : S → List Call → Type 0) (failures : S → ℕ) (frames : ℕ → Frame) (t : Turn) (next : ℕ) (old : S) (left last then_last : ℕ) (now then_held : References) (new : S) (d : Decoder) →
-    IsSteady n last now.frames → (f : Fills mode bit n count prev held took failures frames t next old left last now new d) → StaysSteady mode now f.turn.buffer → Fills mode bit n count prev held took failures frames t next old 0 then_last then_held new d
+    IsSteady n last now.frames → (f : Fills mode bit n count prev held took failures frames t next old left last now new d) → BufferStays mode now f.turn.buffer → Fills mode bit n count prev held took failures frames t next old 0 then_last then_held new d
 fills-skipped mode bit n count prev held took failures frames t next old left last then_last now then_held new d s f still =
     let all = turn_then f.turn (gaps_turn n (numbers_from left ((last + 1) % n.max_frame_num) n.max_frame_num) now) in
     record {

@@ -351,10 +351,10 @@ KeepsGap modes.Headers frames t next d = Unit {0}
 KeepsGap modes.Full frames t next d = FillsFrames frames t next d
 
 -- where frames are made, the frame of one more missing number, where these frames are held with it, writes nothing and leaves the buffer as it is
-unfoldable pub StaysSteady : Mode → References → Buffered Shown → Type 0
-StaysSteady modes.Units held b = Unit {0}
-StaysSteady modes.Headers held b = Unit {0}
-StaysSteady modes.Full held b = missing_turn held b ≡ stays b
+unfoldable pub BufferStays : Mode → References → Buffered Shown → Type 0
+BufferStays modes.Units held b = Unit {0}
+BufferStays modes.Headers held b = Unit {0}
+BufferStays modes.Full held b = missing_turn held b ≡ stays b
 
 -- where frames are made, the buffer has so many places
 unfoldable pub HasPlaces : Mode → ℕ → Decoder → Type 0

@@ -253,7 +253,7 @@ impl Decoder {
     }
 
     /// Whether the frame of one more missing frame_num, where these frames are held with it, writes nothing and leaves the buffer as it is.
-    pub(crate) fn is_steady(&self, held: &Held) -> bool
+    pub(crate) fn buffer_stays(&self, held: &Held) -> bool
         ensures { result ≡ true → (frames : ℕ → Frame) (t : Turn) (next : ℕ) → FillsFrames frames t next self.now →
             missing_turn held.now t.buffer ≡ stays t.buffer }
     {

@@ -18,7 +18,7 @@ ghost use Rattle.h264_verify.specs.Telling.{took_with};
 ghost use Rattle.h264_verify.specs.Outcome.{Plays};
 ghost use Rattle.h264_verify.specs.Buffering.{told_frames, gaps_turn, missing_steps};
 ghost use Rattle.h264_marking.specs.Steady.{IsSteady};
-ghost use Rattle.h264_verify.specs.Keeping.{KeepsGap, KeepsSomeGap, StaysSteady, HasPlaces, GoesWith, numbers_in};
+ghost use Rattle.h264_verify.specs.Keeping.{KeepsGap, KeepsSomeGap, BufferStays, HasPlaces, GoesWith, numbers_in};
 ghost use Rattle.h264_verify.specs.StepOutcome.{steps_outcome};
 ghost use Rattle.h264_verify.specs.Demands.{judged};
 ghost use Rattle.h264_verify.specs.Pictures.{prev_ref_frame_num_after};
@@ -103,13 +103,14 @@ fn miss<S: FrameSink>(
 }
 
 /// Where frames are made, whether one more of a missing number leaves the buffer as it is.
-fn is_steady(mode: Mode, held: &Held, decoder: &Decoder) -> bool
-    ensures { result ≡ true → (frames : ℕ → Frame) (t : Turn) (next : ℕ) → KeepsGap mode frames t next decoder.now → StaysSteady mode held.now t.buffer }
+fn buffer_stays(mode: Mode, held: &Held, decoder: &Decoder) -> bool
+    ensures { result ≡ true → (frames : ℕ → Frame) (t : Turn) (next : ℕ) → KeepsGap mode frames t next decoder.now →
+        BufferStays mode held.now t.buffer }
 {
     match mode {
         Mode::Units => true,
         Mode::Headers => true,
-        Mode::Full => decoder.is_steady(held),
+        Mode::Full => decoder.buffer_stays(held),
     }
 }
 
@@ -126,7 +127,7 @@ fn may_skip(
     requires { 0 < numbering.now.max_frame_num }
     ensures held { result ≡ true → IsSteady numbering.now last held.now.frames }
     ensures frames { result ≡ true → (frames : ℕ → Frame) (t : Turn) (next : ℕ) → KeepsGap mode frames t next decoder.now →
-        StaysSteady mode held.now t.buffer }
+        BufferStays mode held.now t.buffer }
 {
     if turn != MOST_PLACES {
         return false;
@@ -134,7 +135,7 @@ fn may_skip(
     if !held.is_steady(numbering, last) {
         return false;
     }
-    is_steady(mode, held, decoder)
+    buffer_stays(mode, held, decoder)
 }
 
 /// Fills a gap's numbers one after another (8.2.5.2), and gives the last of them, or PrevRefFrameNum where there is none. It skips those that change
