@@ -1,5 +1,5 @@
 -- What is noted of an access unit that has ended.
-use Rattle.std.proofs.Common.{◌≡◌, ◌++◌, List, Option, Some, sym, ap, ap₂, ◌∙◌}
+use Rattle.std.proofs.Common.{◌≡◌, ◌++◌, Option, Some, sym, ap, ap₂, ◌∙◌}
 use Rattle.h264_report.specs.BufferUnits.{ended_bits}
 use Rattle.h264_report.specs.Strict.{bits_for, with_places}
 use Rattle.h264_report.specs.StrictRules.{broken_if, listed}

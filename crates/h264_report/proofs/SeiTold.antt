@@ -1,5 +1,5 @@
 -- What the messages of a unit say of times, read from the front on.
-use Rattle.std.proofs.Common.{◌≡◌, ℕ, suc, List, Option, None, Some, ap, ◌∙◌}
+use Rattle.std.proofs.Common.{◌≡◌, ℕ, suc, List, None, Some, ap, ◌∙◌}
 use Rattle.h264_report.specs.SeiPayload.{message_at}
 use Rattle.h264_report.specs.SeiTimes.{times_with, times_after, times_from}
 use Rattle.h264_report.specs.declared.sei.payload.Message.{Message}

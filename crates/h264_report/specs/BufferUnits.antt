@@ -1,5 +1,5 @@
 -- Access units as the coded picture buffer sees them (C.1, 7.4.1.2.3), and what each breaks. To be read beside the standard.
-use Rattle.std.specs.Prelude.{ℕ, ◌+◌, ◌-◌, ◌*◌, ◌==◌, ◌&&◌, ◌||◌, Bool, true, false, not, min, nat_lt, nat_le, if◌then◌else◌, List, [], ◌++◌, length, get_or}
+use Rattle.std.specs.Prelude.{ℕ, ◌-◌, ◌*◌, ◌==◌, ◌&&◌, ◌||◌, Bool, false, nat_lt, nat_le, if◌then◌else◌, List, [], ◌++◌, length, get_or}
 use Rattle.std.specs.Prelude.{Option, None, Some}
 use Rattle.h264_sps.specs.Hrd.{no_cpb}
 use Rattle.h264_sps.specs.declared.hrd.Cpb.{Cpb}
@@ -17,13 +17,11 @@ use Rattle.h264_report.specs.StrictBytes.{kind_of}
 use Rattle.h264_report.specs.StrictLevels.{max_mbps, min_cr}
 use Rattle.h264_report.specs.StrictRules.{broken_if, listed}
 use Rattle.h264_report.specs.declared.buffer.Coded.{Coded}
-use Rattle.h264_report.specs.declared.buffer.Findings.{Findings}
 use Rattle.h264_report.specs.declared.buffer.Lack.{Lack}
 use Rattle.h264_report.specs.declared.buffer.Lack.TheVariants.{NoParameters, OtherUnit}
 use Rattle.h264_report.specs.declared.buffer.Pace.{Pace}
 use Rattle.h264_report.specs.declared.buffer.Rates.{Rates}
 use Rattle.h264_report.specs.declared.buffer.Step.{Step}
-use Rattle.h264_report.specs.declared.buffer.Watch.{Watch}
 use Rattle.h264_report.specs.declared.buffer.Watch.TheVariants.{Before, Off}
 use Rattle.h264_report.specs.declared.buffer_units.AccessUnit.{AccessUnit}
 use Rattle.h264_report.specs.declared.buffer_units.Buffer.{Buffer}

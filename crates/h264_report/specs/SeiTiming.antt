@@ -11,6 +11,7 @@ use Rattle.h264_sps.specs.Sps.{sps}
 use Rattle.h264_sps.specs.declared.hrd.Cpb.{Cpb}
 use Rattle.h264_sps.specs.declared.hrd.Hrd.{Hrd}
 use Rattle.h264_sps.specs.declared.sps.Sps.{Sps}
+use Rattle.h264_sps.specs.declared.vui.Timing.{Timing}
 use Rattle.h264_sps.specs.declared.vui.Vui.{Vui}
 use Rattle.h264_report.specs.SeiContent.{any}
 use Rattle.h264_report.specs.SeiPart.{Part, ◌>>=◌, give, must, u, ue, u_to, when, times}
@@ -32,6 +33,15 @@ vcl_of (Some vui) = vui.vcl_hrd
 abbrev pub has_pic_struct : Option Vui → Bool
 has_pic_struct None = false
 has_pic_struct (Some vui) = vui.pic_struct_present_flag
+
+-- fixed_frame_rate_flag; 0 is inferred
+abbrev pub is_fixed : Option Timing → Bool
+is_fixed None = false
+is_fixed (Some timing) = timing.fixed_frame_rate_flag
+
+abbrev pub has_fixed_rate : Option Vui → Bool
+has_fixed_rate None = false
+has_fixed_rate (Some vui) = is_fixed vui.timing
 
 -- NAL HRD parameters, or else those of VCL; their lengths are the same where both are there
 abbrev pub or_else : Option Hrd → Option Hrd → Option Hrd
@@ -177,16 +187,22 @@ clock_timestamp offset = do
 abbrev pub num_clock_ts : ℕ → ℕ
 num_clock_ts pic_struct = if nat_le pic_struct 2 then 1 else (if nat_le pic_struct 4 || (pic_struct == 7) then 2 else 3)
 
-abbrev pub structure : (offset : ℕ) → Part (Unit {0})
-structure offset = do
+-- What table D-1 lets a frame be, and each picture of this profile is one: 1 and 2 show a single field, and 7 and 8, which show a frame two and three times,
+-- ask for a fixed frame rate.
+abbrev pub fits_frame : (has_fixed_rate : Bool) → (pic_struct : ℕ) → Bool
+fits_frame fixed pic_struct = (pic_struct == 0) || nat_le 3 pic_struct && (nat_le pic_struct 6 || fixed)
+
+abbrev pub structure : (has_fixed_rate : Bool) → (offset : ℕ) → Part (Unit {0})
+structure fixed offset = do
   pic_struct ← u_to 4 8
+  _ ← must (fits_frame fixed pic_struct)
   times (num_clock_ts pic_struct) (clock_timestamp offset)
 
 -- It gives cpb_removal_delay.
 abbrev pub pic_timing : Sps → Part (Option ℕ)
 pic_timing set = do
   cpb_removal_delay ← delays (hrd_of set.vui)
-  _ ← when (has_pic_struct set.vui) (structure (offset_length (hrd_of set.vui)))
+  _ ← when (has_pic_struct set.vui) (structure (has_fixed_rate set.vui) (offset_length (hrd_of set.vui)))
   give cpb_removal_delay
 
 -- ---- the set that messages need

@@ -136,6 +136,19 @@ fn has_pic_struct(set: &Sps) -> bool
     }
 }
 
+/// Whether a set has fixed_frame_rate_flag 1; 0 is inferred (E.2.1).
+fn has_fixed_rate(set: &Sps) -> bool
+    ensures { result ≡ say.has_fixed_rate set.now.vui }
+{
+    match set.vui {
+        Some(vui) => match vui.timing {
+            Some(timing) => timing.fixed_frame_rate_flag,
+            None => false,
+        },
+        None => false,
+    }
+}
+
 /// time_offset_length; 24 is inferred.
 fn offset_length(hrd: Option<Hrd>) -> u32
     ensures value { result ≡ say.offset_length hrd }
@@ -370,13 +383,21 @@ fn so_many_timestamps(bits: &mut Bits, offset: u32, count: u32) -> Option<()>
     Some(())
 }
 
+/// Whether a frame may be shown so (table D-1).
+fn fits_frame(has_fixed_rate: bool, pic_struct: u32) -> bool
+    ensures { result ≡ say.fits_frame has_fixed_rate pic_struct }
+{
+    pic_struct == 0 || 3 <= pic_struct && (pic_struct <= 6 || has_fixed_rate)
+}
+
 /// pic_struct, and its timestamps.
-fn structure(bits: &mut Bits, offset: u32) -> Option<()>
+fn structure(bits: &mut Bits, has_fixed_rate: bool, offset: u32) -> Option<()>
     requires { offset ≤ 32 }
-    ensures read { read_so result bits.new.at ≡ say.structure offset bits.old.body.bytes bits.old.at }
+    ensures read { read_so result bits.new.at ≡ say.structure has_fixed_rate offset bits.old.body.bytes bits.old.at }
     ensures body { bits.new.body ≡ bits.old.body }
 {
     let pic_struct = u_to(bits, 4, 8)?;
+    must(fits_frame(has_fixed_rate, pic_struct))?;
     so_many_timestamps(bits, offset, num_clock_ts(pic_struct))
 }
 
@@ -388,7 +409,7 @@ pub(crate) fn pic_timing(bits: &mut Bits, set: &Sps) -> Option<Option<u32>>
     let hrd = hrd_of(set);
     let removal = delays(bits, hrd)?;
     if has_pic_struct(set) {
-        structure(bits, offset_length(hrd))?;
+        structure(bits, has_fixed_rate(set), offset_length(hrd))?;
     }
     Some(removal)
 }

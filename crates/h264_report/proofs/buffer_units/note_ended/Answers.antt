@@ -1,4 +1,4 @@
-use Rattle.std.proofs.Common.{sym, ap, ◌∙◌}
+use Rattle.std.proofs.Common.{sym, ap}
 use Rattle.h264_report.specs.BufferUnits.{ended_bits}
 use Rattle.h264_report.proofs.BufferNotes.{notes-ended}
 use Rattle.h264_report.proofs.Contents.{none-noted}

@@ -1,9 +1,8 @@
-use Rattle.std.proofs.Common.{◌≡◌, ◌==◌, ◌&&◌, Bool, sym, ap, ap₂, ◌∙◌}
+use Rattle.std.proofs.Common.{◌==◌, ◌&&◌, sym, ap, ◌∙◌}
 use Rattle.std.proofs.Math.Bool.{and-false}
-use Rattle.std.proofs.lemmas.Bool.{eq-eqb, ne_eqb}
+use Rattle.std.proofs.lemmas.Bool.{ne_eqb}
 use Rattle.h264_report.specs.SeiMessages.{is_sei}
-use Rattle.h264_report.specs.Strict.{with_places}
-use Rattle.h264_report.proofs.Contents.{content-is, content-not, none-noted}
+use Rattle.h264_report.proofs.Contents.{content-not, none-noted}
 use Rattle.h264_report.proofs.strict_content.note_content.Goals.{else-nal_unit_type-eq-SEI-via-then-nal_unit_type-eq-SEI+else-is_sei, else-nal_unit_type-eq-SEI-via-else-nal_unit_type-eq-SEI}
 use Rattle.h264_report.proofs.strict_content.note_content.Goals as goal
 
