@@ -41,6 +41,10 @@ after_element name v reading = reading
 
 -- ---- which calls are left
 
+-- nothing is chosen, and all is left
+abbrev pub no_choice : Choice
+no_choice = record { picture = None; macroblock = None }
+
 -- the picture of this number in decoding order, from 0; any where there is none
 abbrev pub has_picture : Option ℕ → Reading → Bool
 has_picture None reading = true

@@ -190,7 +190,7 @@ fn run_lines<'a, K: Sheet, R: Source, W: Device>(
     ensures write { IsErrOf result.1 Stop.Write → W.has_failed result.0.out.now ≡ true }
     ensures quiet { result.1 ≢ Err Stop.Write → W.has_failed result.0.out.now ≡ K.was_failed }
 {
-    let mut sink: LineSink<'_, W, K> = LineSink::new(alloc, listing, Form::Lines(""), pen);
+    let mut sink: LineSink<'_, '_, W, K> = LineSink::new(alloc, listing, Form::Lines(""), pen);
     let answer = run(alloc, source, &mut sink, terms.mode, terms.target);
     let broke_off = sink.broke_off();
     (sink.into_pen(), told_answer(answer, broke_off))

@@ -27,11 +27,11 @@ use std::marker::PhantomData;
 /// taken, and the writer holds a part of the line, which is not the whole. Where memory is wanting for a line, its call fails, and nothing is written
 /// of it. Then each call fails, and nothing more is written.
 #[derive(Drop)]
-pub struct LineSink<'a, W: Device, K: Sheet> {
+pub struct LineSink<'a, 'b, W: Device, K: Sheet> {
     alloc: Global,
     pen: Pen<'a, W>,
     sheet: PhantomData<K>,
-    form: Form<'a>,
+    form: Form<'b>,
     listing: Listing,
     /// How many calls failed.
     pub failures: u64,
@@ -43,14 +43,14 @@ pub struct LineSink<'a, W: Device, K: Sheet> {
     line: String,
 }
 
-impl<'a, W: Device, K: Sheet> LineSink<'a, W, K> {
+impl<'a, 'b, W: Device, K: Sheet> LineSink<'a, 'b, W, K> {
     /// A sink that was told nothing, with no failure.
     pub fn new(
         alloc: Global,
         listing: Listing,
-        form: Form<'a>,
+        form: Form<'b>,
         pen: Pen<'a, W>,
-    ) -> LineSink<'a, W, K>
+    ) -> LineSink<'a, 'b, W, K>
         ensures quiet { result.failures ≡ 0 }
         ensures same_reference { result.pen.out.ghost_name ≡ pen.entry.out.ghost_name }
         ensures unwritten { result.pen.out.now ≡ pen.entry.out.now }
@@ -133,7 +133,7 @@ impl<'a, W: Device, K: Sheet> LineSink<'a, W, K> {
     }
 }
 
-impl<'a, W: Device, K: Sheet> LineSink<'a, W, K> {
+impl<'a, 'b, W: Device, K: Sheet> LineSink<'a, 'b, W, K> {
     ghost use Rattle.std.specs.Prelude.{◌≡◌, ℕ, ◌+◌, ◌-◌, ◌<◌, ◌^◌, Bool, false, List, [], ◌∷◌, ◌++◌, Option, IsTrue, OnOk, OnErr};
     ghost use Rattle.h264_base.specs.Call.{Call, OfUnit, OfSlice, OfElement};
     ghost use Rattle.h264_dpb.specs.Shown.{fits, frame_call};
@@ -287,7 +287,7 @@ impl<'a, W: Device, K: Sheet> LineSink<'a, W, K> {
     }
 }
 
-impl<'a, W: Device, K: Sheet> Elements for LineSink<'a, W, K> {
+impl<'a, 'b, W: Device, K: Sheet> Elements for LineSink<'a, 'b, W, K> {
     ghost use Rattle.h264_report.specs.Told.{TookLines};
 
     ghost took = { λ s calls. TookLines K.name K.opening K.listing K.start K.was_failed s.pen.out.ghost_name (opening_of s.form) s.listing s.frames s.broke_off
@@ -309,7 +309,7 @@ impl<'a, W: Device, K: Sheet> Elements for LineSink<'a, W, K> {
     }
 }
 
-impl<'a, W: Device, K: Sheet> FrameOut for LineSink<'a, W, K> {
+impl<'a, 'b, W: Device, K: Sheet> FrameOut for LineSink<'a, 'b, W, K> {
     fn frame(&mut self, count: i32, frame: &Frame, rectangle: Rectangle) -> Result<(), Failed> {
         if self.is_stopped() {
             return self.fail();
@@ -324,7 +324,7 @@ impl<'a, W: Device, K: Sheet> FrameOut for LineSink<'a, W, K> {
     }
 }
 
-impl<'a, W: Device, K: Sheet> FrameSink for LineSink<'a, W, K> {
+impl<'a, 'b, W: Device, K: Sheet> FrameSink for LineSink<'a, 'b, W, K> {
     fn unit(
         &mut self,
         byte: u64,

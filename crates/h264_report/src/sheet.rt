@@ -9,6 +9,7 @@ pub trait Sheet {
     ghost use Rattle.std.specs.Prelude.{ℕ, Bool, List, Option};
     ghost use Rattle.h264_report.specs.Objects.{Opening};
     ghost use Rattle.h264_report.specs.declared.listing.Listing.{Listing};
+    ghost use Rattle.h264_report.specs.declared.survey.narrowed.Choice.{Choice};
 
     /// The reference to the writer.
     ghost name: { ℕ };
@@ -24,10 +25,14 @@ pub trait Sheet {
 
     /// The calls that have lines.
     ghost listing: { Listing };
+
+    /// What is chosen of the stream.
+    ghost choice: { Choice };
 }
 
 impl Sheet for Brand {
     ghost use Rattle.std.specs.Prelude.{None, false};
+    ghost use Rattle.h264_report.specs.Chosen.{no_choice};
     ghost use Rattle.h264_report.specs.Objects.{bare};
     ghost use Rattle.h264_report.specs.declared.listing.Listing.TheVariants as listings;
 
@@ -40,6 +45,8 @@ impl Sheet for Brand {
     ghost opening = { bare };
 
     ghost listing = { listings.Nothing };
+
+    ghost choice = { no_choice };
 }
 
 /// A writer that is lent.

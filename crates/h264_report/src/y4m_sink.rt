@@ -156,6 +156,15 @@ impl<'a, W: Device, K: Sheet> Y4mSink<'a, W, K> {
         self.broke_off || self.other.is_some()
     }
 
+    /// Gives the pen back.
+    pub fn into_pen(self) -> Pen<'a, W>
+        ensures same_reference { result.out.ghost_name ≡ self.entry.pen.out.ghost_name }
+        ensures kept { result.out.now ≡ self.entry.pen.out.now }
+    {
+        let Y4mSink { pen, .. } = self;
+        pen
+    }
+
     /// Whether no more is written.
     fn is_stopped(&self) -> bool
         ensures { result ≡ false → self.now.broke_off ≡ false }

@@ -7,8 +7,12 @@ use Rattle.h264_base.specs.declared.stop.Stop.{Stop}
 use Rattle.h264_base.specs.declared.stop.Stop.TheVariants.{No, Outside, Memory, Read, Write}
 use Rattle.h264_plane.specs.Frames.{no_frame}
 use Rattle.h264_plane.specs.declared.frame.Frame.{Frame}
-use Rattle.h264_report.specs.Written.{OfBytes, told_of}
-use Rattle.h264_report.proofs.Accounts.{of-bytes, of-map}
+use Rattle.h264_report.specs.Chosen.{TookChosen}
+use Rattle.h264_report.specs.Written.{OfBytes, Account, calls_in, told_of}
+use Rattle.h264_report.specs.declared.lines.UnitCall.{UnitCall}
+use Rattle.h264_report.specs.declared.survey.narrowed.Choice.{Choice}
+use Rattle.h264_report.specs.declared.survey.reading.Reading.{Reading}
+use Rattle.h264_report.proofs.Accounts.{accounts, of-bytes, of-map}
 use Rattle.h264_verify.specs.Units.{terms_of}
 use Rattle.h264_verify.specs.Verdict.{Judged}
 use Rattle.h264_verify.specs.declared.state.Summary.{Summary}
@@ -33,6 +37,23 @@ pub answered : {S : Type 0} {took : S → List Call → Type 0} {failures : S �
 answered task target mode left answer is known some judged =
     subst (λ m. OfBytes left (λ bytes. IsAnswer (terms_of m target) bytes answer)) is
     (of-bytes left (λ bytes. IsAnswer (terms_of mode target) bytes answer) (λ bytes h. of-judged answer (known bytes h (λ k. no_frame))) (some, of-judged answer (judged (λ k. no_frame))))
+
+-- the calls that a sink took of what a source gives
+pub took-calls : {S : Type 0} {took : S → List Call → Type 0} {failures : S → ℕ} {s s' : S} (task : Task) (target : Target) (mode : Mode) (left : Option (List ℕ)) (answer : Result Summary Stop) →
+    mode ≡ mode_of task → ((bytes : List ℕ) → left ≡ Some bytes → (frames : ℕ → Frame) → Judged (terms_of mode target) took failures bytes frames [] s s' answer) →
+    (some : List ℕ) → ((frames : ℕ → Frame) → Judged (terms_of mode target) took failures some frames [] s s' answer) → took s [] →
+    OfBytes left (λ bytes. (a : Account (terms_of (mode_of task) target) bytes answer) × took s' (calls_in a))
+took-calls {took = took} {s' = s'} task target mode left answer is known some judged none =
+    subst (λ m. OfBytes left (λ bytes. (a : Account (terms_of m target) bytes answer) × took s' (calls_in a))) is
+    (of-bytes left (λ bytes. (a : Account (terms_of mode target) bytes answer) × took s' (calls_in a)) (λ bytes h. accounts (known bytes h (λ k. no_frame)) none) (some, accounts (judged (λ k. no_frame)) none))
+
+-- and those of which a choice leaves something
+pub chosen-calls : {S : Type 0} (took : S → List Call → Type 0) (terms : Terms) (answer : Result Summary Stop) (left : Option (List ℕ)) (choice k : Choice) (broke_off : Bool) (reading : Reading) (pending : Option UnitCall) (sink : S) →
+    OfBytes left (λ bytes. (a : Account terms bytes answer) × ((choice ≡ k) × TookChosen took choice broke_off reading pending sink (calls_in a))) →
+    OfBytes left (λ bytes. (a : Account terms bytes answer) × TookChosen took k broke_off reading pending sink (calls_in a))
+chosen-calls took terms answer left choice k broke_off reading pending sink h =
+    of-map left (λ bytes. (a : Account terms bytes answer) × ((choice ≡ k) × TookChosen took choice broke_off reading pending sink (calls_in a))) (λ bytes. (a : Account terms bytes answer) × TookChosen took k broke_off reading pending sink (calls_in a))
+    (λ bytes t. (t.0, subst (λ c. TookChosen took c broke_off reading pending sink (calls_in t.0)) t.1.0 t.1.1)) h
 
 told-one : (terms : Terms) (bytes : List ℕ) (broke_off : Bool) (answer : Result Summary Stop) → IsAnswer terms bytes answer → IsAnswer terms bytes (told_of broke_off answer)
 told-one terms bytes true answer h = tt

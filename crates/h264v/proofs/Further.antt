@@ -1,5 +1,5 @@
 -- The further rules of a file, and what is told of them.
-use Rattle.std.proofs.Common.{◌≡◌, ℕ, ◌+◌, ◌<◌, Bool, true, false, ◌⊎◌, inl, inr, ⊎_elim, List, [], length, take, get_or, Option, Some, None, Result, Ok, Err, OnOk, IsErrOf, IfSome, refl, sym, ap, ◌∙◌, subst, arith}
+use Rattle.std.proofs.Common.{◌≡◌, ℕ, ◌+◌, ◌<◌, Bool, true, false, ◌⊎◌, inl, inr, ⊎_elim, List, [], length, take, get_or, Option, Some, None, Result, Ok, Err, OnOk, sym, ap, ◌∙◌, subst, arith}
 use Rattle.std.specs.List.{All}
 use Rattle.std.proofs.lemmas.List.{take_more}
 use Rattle.std.proofs.lemmas.List.Elements.{All-push}
@@ -23,11 +23,8 @@ use Rattle.h264_verify.specs.Verdict.{Judged as JudgedOf}
 use Rattle.h264_verify.specs.declared.state.Summary.{Summary}
 use Rattle.h264_verify.specs.declared.state.Terms.{Terms}
 use Rattle.h264v.specs.Further.{AreJudged, BreakOne, IsFound, IsNoVerdict, IsToldOf, TellsBroken, Judged, Unjudged}
-use Rattle.h264v.specs.declared.command_line.Task.{Task}
 use Rattle.h264v.specs.declared.job.Done.{Done}
-use Rattle.h264v.specs.declared.job.Found.{Found}
 use Rattle.h264v.specs.declared.strictly.FurtherRules.{FurtherRules}
-use Rattle.h264v.specs.More.{IsAnswerOf}
 
 -- what holds of every rule by its place holds of each
 pub each : (P : StrictRule → Type 0) → All P EVERY_STRICT_RULE → (rule : StrictRule) → P rule
@@ -87,22 +84,6 @@ judged mode whole target left answer further is bytes ended first all j none str
     let a = accounts j none in
     subst (λ m. AreJudged (terms_of m target) left answer further) is (record { bytes = bytes; ended = ended; first = first; all = all; account = a.0; calls = strict _ a.1; units = units })
 
-pub found-answer : (found : Option Found) (task : Task) (target : Target) (left : Option (List ℕ)) (answer : Result Summary Stop) → IfSome found (λ f. f.answer ≡ answer) → IsAnswerOf task target left answer →
-    IfSome found (λ f. IsAnswerOf task target left f.answer)
-found-answer None task target left answer is h = tt
-found-answer (Some f) task target left answer is h = subst (IsAnswerOf task target left) (sym is) h
-
--- a read that failed, where it is what was found
-pub found-read : (found : Option Found) (answer : Result Summary Stop) (Failed : Type 0) → IfSome found (λ f. f.answer ≡ answer) → (IsErrOf answer Read → Failed) →
-    IfSome found (λ f. IsErrOf f.answer Read → Failed)
-found-read None answer Failed is h = tt
-found-read (Some f) answer Failed is h = λ e. h (sym is ∙ e)
-
-pub found-further : (found : Option Found) (terms : Terms) (left : Option (List ℕ)) (answer : Result Summary Stop) (further : FurtherRules) → IfSome found (λ f. f.answer ≡ answer) →
-    IfSome found (λ f. f.strict ≡ Some further) → AreJudged terms left answer further → IfSome found (λ f. IsFound true terms left f.answer f.strict)
-found-further None terms left answer further is strict h = tt
-found-further (Some f) terms left answer further is strict h = (further, strict, subst (λ x. AreJudged terms left x further) (sym is) h)
-
 -- what is told of an answer, where a device has failed or not
 pub told-as : (failed : Bool) (raw said : Result Summary Stop) → said ≡ told_of failed raw → IsToldOf raw said
 told-as true raw said is = inr (inr (inr is))
@@ -113,6 +94,10 @@ told-as false (Err Memory) said is = inl is
 told-as false (Err Read) said is = inl is
 told-as false (Err Write) said is = inr (inl is)
 
+-- what is told in the end, where there may have been no memory for it
+pub told-answer : (failed : Bool) (raw said told : Result Summary Stop) → said ≡ told_of failed raw → (told ≡ said) ⊎ (told ≡ Err Memory) → IsToldOf raw told
+told-answer failed raw said told is answer = ⊎_elim (λ e. subst (IsToldOf raw) (sym e) (told-as failed raw said is)) (λ short. inr (inl short)) answer
+
 pub no-verdict : (failed : Bool) (said : Result Summary Stop) → said ≡ told_of failed (Err Memory) → IsNoVerdict said
 no-verdict true said is = inr (inr is)
 no-verdict false said is = inl is
@@ -122,7 +107,7 @@ pub broken-told : (found : Option FurtherRules) (is_asked : Bool) (terms : Terms
     said ≡ told_of failed raw → (done.ending.answer ≡ said) ⊎ (done.ending.answer ≡ Err Memory) → (done.is_broken ≡ true → BreakOne found) → (done.is_broken ≡ false → BreakOne found → ⊥) →
     TellsBroken is_asked terms left done
 broken-told found is_asked terms left failed raw said done h told is broken unbroken =
-    Judged raw found (⊎_elim (λ e. subst (IsToldOf raw) (sym e) (told-as failed raw said told)) (λ short. inr (inl short)) is) h broken unbroken
+    Judged raw found (told-answer failed raw said done.ending.answer told is) h broken unbroken
 
 known-kept : (held left : Option (List ℕ)) → Keeps held left → (known : List ℕ) → held ≡ Some known → left ≡ Some known
 known-kept None left k known e = absurd (let d = e in cc)

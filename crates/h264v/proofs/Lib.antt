@@ -1,6 +1,7 @@
 pub mod Added
 mod Failing
 mod Statuses
+mod Texts
 mod Explained
 pub mod Told
 mod Writing

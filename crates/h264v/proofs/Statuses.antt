@@ -1,5 +1,5 @@
 -- The exit status of one file, and of several.
-use Rattle.std.proofs.Common.{◌≡◌, ℕ, max, List, [], ◌∷◌, ◌++◌, map, length, get_or, Bool, fold, cond, ◌+◌, Option, refl, sym, ap, ◌∙◌, subst, arith}
+use Rattle.std.proofs.Common.{◌≡◌, ℕ, max, List, [], ◌∷◌, ◌++◌, map, length, get_or, Bool, fold, cond, ◌+◌, Option, refl, ap, ◌∙◌, subst, arith}
 use Rattle.std.specs.List.{count_by}
 use Rattle.clap.specs.Words.{Text}
 use Rattle.h264v.specs.Commands.{Output}

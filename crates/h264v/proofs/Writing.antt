@@ -1,20 +1,22 @@
 -- What is said of a failed write.
-use Rattle.std.proofs.Common.{◌≡◌, ◌≢◌, ℕ, max, Bool, true, false, ◌⊎◌, inl, inr, ⊎_elim, List, [], ◌∷◌, Option, Some, IsSome, Result, Ok, Err, OnOk, OnErr, IsErrOf, not, refl, sym, subst, ◌∙◌, map, length, arith, if◌then◌else◌}
+use Rattle.std.proofs.Common.{◌≡◌, ◌≢◌, ℕ, max, Bool, true, false, ◌⊎◌, inl, inr, ⊎_elim, List, [], ◌∷◌, ◌++◌, Option, IsSome, Result, Ok, Err, OnOk, OnErr, IsErrOf, not, ◌==◌, refl, sym, ap, subst, ◌∙◌, map, length, arith, if◌then◌else◌}
 use Rattle.std.specs.List.{All}
-use Rattle.std.proofs.lemmas.Bool.{true≢false}
+use Rattle.std.proofs.lemmas.Bool.{false≢true, ne_eqb, true≢false}
 use Rattle.std.proofs.lemmas.List.Elements.{All-nil, All-push, All-weaker}
 use Rattle.clap.specs.Words.{Text}
-use Rattle.h264_base.specs.declared.mode.Target.{Target}
 use Rattle.h264_base.specs.declared.stop.Stop.{Stop}
 use Rattle.h264_base.specs.declared.stop.Stop.TheVariants.{No, Outside, Memory, Read, Write}
+use Rattle.h264_report.proofs.Known.{sends-is}
+use Rattle.h264_report.specs.Sent.{Sends}
 use Rattle.h264_report.specs.Written.{told_of, status_of}
 use Rattle.h264_report.specs.declared.judging.Ending.{Ending}
 use Rattle.h264_verify.specs.Units.{terms_of}
 use Rattle.h264_verify.specs.declared.state.Summary.{Summary}
-use Rattle.h264v.specs.Commands.{Output, HasFailed, IsHandedOver}
+use Rattle.h264v.specs.Commands.{Output, IsHandedOver}
 use Rattle.h264v.specs.Further.{asks_further, TellsBroken}
-use Rattle.h264v.specs.More.{AreDone, Each, Broke, FileDone, IsAnswerOf, IsJudged, IsPutAside, MayBeUnread, TellsWrites, done_status, worst}
+use Rattle.h264v.specs.More.{AreDone, AreTold, Each, Broke, FileDone, IsAnswerOf, IsJudged, IsPutAside, IsTextOfFile, MayBeUnread, TellsWrites, are_several, done_status, texts_of, worst}
 use Rattle.h264v.specs.Words.{mode_of, system_name}
+use Rattle.h264v.proofs.Texts.{texts-one}
 use Rattle.h264v.specs.declared.command_line.Task.{Task}
 use Rattle.h264v.specs.declared.job.Done.{Done}
 use Rattle.h264v.specs.declared.options.Options.{Options}
@@ -122,11 +124,13 @@ one-worst f = omega arith
 -- one file alone
 pub alone : (task : Task) (o : Options) (file : Text → Option (List ℕ)) (Failed : Type 0) (f : FileDone) (names : List Text) (status : ℕ) (out out' err' : Output) → f.name ∷ [] ≡ names →
     IsAnswerOf task o.target (file (system_name f.name)) f.done.ending.answer → TellsBroken (asks_further task o.strict) (terms_of (mode_of task) o.target) (file (system_name f.name)) f.done →
-    (IsErrOf f.done.ending.answer Read → Failed) → TellsWrites o.y4m f.done.ending out out' err' → status ≡ done_status f.done → AreDone task o file Failed names status out out' err'
-alone task o file Failed f names status out out' err' name answer broken read t is =
+    (IsErrOf f.done.ending.answer Read → Failed) → TellsWrites o.y4m f.done.ending out out' err' → IsTextOfFile task o file false f → (out'.has_failed ≡ false → Sends out.bytes out'.bytes f.text) → status ≡ done_status f.done →
+    AreDone task o file Failed names status out out' err'
+alone task o file Failed f names status out out' err' name answer broken read t text sends is =
     let Judged : FileDone → Type 0 = IsJudged task o file (MayBeUnread names Failed) out' err' in
     let judged : Judged f = record { answer = answer; broken = broken; excused = record { read = λ e. inl (read e); write = λ e. ⊎_elim (λ h. inl (inl h)) (λ y. inr (inr y)) (t.write e); unwritten = λ e. inl (t.unwritten e) } } in
-    Each (f ∷ []) name (All-push Judged [] f (All-nil Judged) judged) (is ∙ sym (one-worst f)) (λ never. let n = no-device f.done status is never in t.told n.0 n.1)
+    let told : AreTold task o file (are_several (f.name ∷ [])) (f ∷ []) out out' = record { texts = All-push (IsTextOfFile task o file false) [] f (All-nil (IsTextOfFile task o file false)) text; last = []; of_one = λ one. refl; sends = λ none. sends-is (texts-one f) (sends none) } in
+    Each (f ∷ []) name (All-push Judged [] f (All-nil Judged) judged) (is ∙ sym (one-worst f)) (λ never. let n = no-device f.done status is never in t.told n.0 n.1) (λ none. subst (λ ns. AreTold task o file (are_several ns) (f ∷ []) out out') name told)
 
 -- one file, whose output is a file that the words name
 pub alone-elsewhere : (task : Task) (o : Options) (file : Text → Option (List ℕ)) (Failed : Type 0) (f : FileDone) (names : List Text) (status : ℕ) (out err' : Output) → f.name ∷ [] ≡ names →
@@ -135,7 +139,7 @@ pub alone-elsewhere : (task : Task) (o : Options) (file : Text → Option (List 
 alone-elsewhere task o file Failed f names status out err' name answer broken read some is =
     let Judged : FileDone → Type 0 = IsJudged task o file (MayBeUnread names Failed) out err' in
     let judged : Judged f = record { answer = answer; broken = broken; excused = record { read = λ e. inl (read e); write = λ e. inr (inl some); unwritten = λ e. inr (inl some) } } in
-    Each (f ∷ []) name (All-push Judged [] f (All-nil Judged) judged) (is ∙ sym (one-worst f)) (λ never. (λ h. h, inr refl))
+    Each (f ∷ []) name (All-push Judged [] f (All-nil Judged) judged) (is ∙ sym (one-worst f)) (λ never. (λ h. h, inr refl)) (λ none. absurd (false≢true (subst IsSome none some)))
 
 -- ---- several files
 
@@ -145,6 +149,7 @@ pub record IsWritten (task : Task) (o : Options) (file : Text → Option (List �
   pub broken : TellsBroken (asks_further task o.strict) (terms_of (mode_of task) o.target) (file (system_name f.name)) f.done
   pub no_write : IsErrOf f.done.ending.answer Write → o.y4m ≡ true
   pub written : f.done.ending.written ≡ true
+  pub text : IsTextOfFile task o file true f
 
 -- it is excused, wherever the devices stand
 excused : (task : Task) (o : Options) (file : Text → Option (List ℕ)) (names : List Text) (Failed : Type 0) (out' err' : Output) (f : FileDone) → length names ≢ 1 → IsWritten task o file f →
@@ -155,17 +160,22 @@ excused task o file names Failed out' err' f several w = record {
   excused = record { read = λ e. inr several; write = λ e. inr (inr (w.no_write e)); unwritten = λ e. absurd (true≢false (sym w.written ∙ e)) };
 }
 
+several : (n : ℕ) → n ≢ 1 → not (n == 1) ≡ true
+several n other = ap not (ne_eqb n 1 other)
+
 -- files of which none failed to be written, and a last text
 pub each-written : (task : Task) (o : Options) (file : Text → Option (List ℕ)) (Failed : Type 0) (files : List FileDone) (names : List Text) (status : ℕ) (out out' err' : Output) → map (λ f. f.name) files ≡ names →
-    length names ≢ 1 → All (IsWritten task o file) files → status ≡ worst files → (out'.has_failed ≡ true → out.has_failed ≡ true) → out'.holds_back ≡ false → AreDone task o file Failed names status out out' err'
-each-written task o file Failed files names status out out' err' name several written is kept over =
-    Each files name (All-weaker (IsWritten task o file) (IsJudged task o file (MayBeUnread names Failed) out' err') (λ f. excused task o file names Failed out' err' f several) files written) is (λ never. (kept, inl over))
+    length names ≢ 1 → All (IsWritten task o file) files → status ≡ worst files → (out'.has_failed ≡ true → out.has_failed ≡ true) → out'.holds_back ≡ false → (last : List ℕ) →
+    (out'.has_failed ≡ false → Sends out.bytes out'.bytes (texts_of files ++ last)) → AreDone task o file Failed names status out out' err'
+each-written task o file Failed files names status out out' err' name other written is kept over last sends =
+    let told : AreTold task o file true files out out' = record { texts = All-weaker (IsWritten task o file) (IsTextOfFile task o file true) (λ f w. w.text) files written; last = last; of_one = λ one. absurd (true≢false one); sends = sends } in
+    Each files name (All-weaker (IsWritten task o file) (IsJudged task o file (MayBeUnread names Failed) out' err') (λ f. excused task o file names Failed out' err' f other) files written) is (λ never. (kept, inl over)) (λ none. subst (λ b. AreTold task o file b files out out') (sym (several (length names) other)) told)
 
 -- for whichever cause of a failed read
 any-read : (task : Task) (o : Options) (file : Text → Option (List ℕ)) (Failed : Type 0) (names : List Text) (status : ℕ) (out out' err' : Output) → AreDone task o file ⊥ names status out out' err' →
     AreDone task o file Failed names status out out' err'
-any-read task o file Failed names status out out' err' (Each files name judged is whole) =
-    Each files name (All-weaker (IsJudged task o file (MayBeUnread names ⊥) out' err') (IsJudged task o file (MayBeUnread names Failed) out' err') (λ f j. record { answer = j.answer; broken = j.broken; excused = record { read = λ e. ⊎_elim (λ no. absurd no) (λ several. inr several) (j.excused.read e); write = j.excused.write; unwritten = j.excused.unwritten } }) files judged) is whole
+any-read task o file Failed names status out out' err' (Each files name judged is whole told) =
+    Each files name (All-weaker (IsJudged task o file (MayBeUnread names ⊥) out' err') (IsJudged task o file (MayBeUnread names Failed) out' err') (λ f j. record { answer = j.answer; broken = j.broken; excused = record { read = λ e. ⊎_elim (λ no. absurd no) (λ several. inr several) (j.excused.read e); write = j.excused.write; unwritten = j.excused.unwritten } }) files judged) is whole told
 any-read task o file Failed names status out out' err' (Broke four failed) = Broke four failed
 
 -- and for these names

@@ -1,7 +1,8 @@
-pub mod Words
-pub mod Files
 pub mod Commands
-pub mod Options
+pub mod Explained
+pub mod Files
 pub mod Further
 pub mod More
-pub mod Explained
+pub mod Options
+pub mod Texts
+pub mod Words

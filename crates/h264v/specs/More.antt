@@ -1,6 +1,6 @@
 -- What the program comes to, whatever its words ask: the exit status, and what it writes to standard output. To be read beside docs/OUTPUT.md.
-use Rattle.std.specs.Prelude.{◌≡◌, ◌≢◌, ◌⊎◌, ℕ, ◌+◌, ◌-◌, ◌^◌, min, max, Bool, true, false, List, [], ◌∷◌, ◌++◌}
-use Rattle.std.specs.Prelude.{map, length, codes, Option, Some, IsSome, Result, Ok, Err, IsErrOf, if◌then◌else◌}
+use Rattle.std.specs.Prelude.{◌≡◌, ◌≢◌, ◌⊎◌, ℕ, ◌+◌, ◌-◌, ◌^◌, ◌==◌, min, max, not, Bool, true, false, List, [], ◌∷◌, ◌++◌}
+use Rattle.std.specs.Prelude.{map, length, codes, Option, None, Some, IsSome, Result, Ok, Err, IsErrOf, if◌then◌else◌}
 use Rattle.std.specs.List.{All}
 use Rattle.h264_base.specs.declared.mode.Mode.TheVariants as modes
 use Rattle.h264_base.specs.declared.mode.Target.{Target}
@@ -16,6 +16,7 @@ use Rattle.h264_verify.specs.Verdict.{Holds, Breaks, MayStop}
 use Rattle.h264_verify.specs.declared.state.Summary.{Summary}
 use Rattle.h264_verify.specs.declared.state.Terms.{Terms}
 use Rattle.h264v.specs.declared.job.Done.{Done}
+use Rattle.h264v.specs.Texts.{IsFileText, opening_in, prefix_of}
 use Rattle.h264v.specs.Words.{program, asks, name_of, Given, values_in, system_name, mode_of}
 use Rattle.h264v.specs.Further.{asks_further, TellsBroken}
 use Rattle.h264v.specs.Options.{AreOptions, AreWellUsed, IsRefused, refusal_text}
@@ -78,10 +79,11 @@ pub record TellsCause (old new : Option (List ℕ)) (name : Text) : Type 0 where
 
 -- ---- the files of the words
 
--- a file's name, and how its judgement ended
+-- a file's name, how its judgement ended, and what was written of it to the output
 pub record FileDone : Type 0 where
   pub name : Text
   pub done : Done
+  pub text : List ℕ
 
 -- It ended with the answer on the bytes that the file of this name holds, tells of the further rules where they are asked for, and of a failed read or write
 -- only where one failed.
@@ -89,6 +91,27 @@ pub record IsJudged (task : Task) (o : Options) (file : Text → Option (List �
   pub answer : IsAnswerOf task o.target (file (system_name f.name)) f.done.ending.answer
   pub broken : TellsBroken (asks_further task o.strict) (terms_of (mode_of task) o.target) (file (system_name f.name)) f.done
   pub excused : AreExcused o ReadFailed out' err' f.done.ending
+
+-- there are several files, so that each line has its file's name before it
+abbrev pub are_several : List Text → Bool
+are_several names = not (length names == 1)
+
+-- What was written of it to the output tells of the file of its name.
+abbrev pub IsTextOfFile : (task : Task) (o : Options) (file : Text → Option (List ℕ)) (several : Bool) → FileDone → Type 0
+IsTextOfFile task o file several f =
+    IsFileText task o (opening_in o.json f.name (prefix_of several f.name)) (file (system_name f.name)) f.done.ending.answer f.text
+
+-- what was written of these files, one after another
+unfoldable pub texts_of : List FileDone → List ℕ
+texts_of [] = []
+texts_of (f ∷ fs) = f.text ++ texts_of fs
+
+-- Standard output took what tells of these files, in their order, and after it, of several, a last text; or it has failed.
+pub record AreTold (task : Task) (o : Options) (file : Text → Option (List ℕ)) (several : Bool) (files : List FileDone) (out out' : Output) : Type 0 where
+  pub texts : All (IsTextOfFile task o file several) files
+  pub last : List ℕ
+  pub of_one : several ≡ false → last ≡ []
+  pub sends : out'.has_failed ≡ false → Sends out.bytes out'.bytes (texts_of files ++ last)
 
 -- the greatest exit status of these files
 abbrev pub worst : List FileDone → ℕ
@@ -124,11 +147,13 @@ IsWhole status out out' = status ≢ 4 → (out'.has_failed ≡ true → out.has
 abbrev pub MayBeUnread : (names : List Text) (ReadFailed : Type 0) → Type 0
 MayBeUnread names ReadFailed = ReadFailed ⊎ (length names ≢ 1)
 
--- Each file of these names was judged, in their order, and this is the status of all; or a device failed.
+-- Each file of these names was judged, in their order, and this is the status of all; or a device failed. Standard output was told of each, where the words
+-- name no file for the output.
 pub data AreDone (task : Task) (o : Options) (file : Text → Option (List ℕ)) (ReadFailed : Type 0) (names : List Text) (status : ℕ)
     (out out' err' : Output) : Type 0 where
   Each : (files : List FileDone) → map (λ f. f.name) files ≡ names → All (IsJudged task o file (MayBeUnread names ReadFailed) out' err') files →
-      status ≡ worst files → IsWhole status out out' → AreDone task o file ReadFailed names status out out' err'
+      status ≡ worst files → IsWhole status out out' → (o.output ≡ None → AreTold task o file (are_several names) files out out') →
+      AreDone task o file ReadFailed names status out out' err'
   Broke : status ≡ 4 → HasFailed out' err' → AreDone task o file ReadFailed names status out out' err'
 
 -- What comes of a task where the words ask for more than a judgement of one FILE: its exit status, and what is known of the devices.

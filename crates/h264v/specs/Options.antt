@@ -6,6 +6,7 @@ use Rattle.std.specs.Str.Parse.{IsNumeral, digits_value, without_leading_plus}
 use Rattle.clap.specs.Words.{Text, one_of}
 use Rattle.h264_base.specs.declared.mode.Target.{Target}
 use Rattle.h264_report.specs.declared.survey.narrowed.Choice.{Choice}
+use Rattle.h264v.specs.Further.{asks_further}
 use Rattle.h264v.specs.Words.{Given, value_in, values_in, is_judging, IsTarget}
 use Rattle.h264v.specs.declared.command_line.Task.{Task}
 use Rattle.h264v.specs.declared.command_line.Task.TheVariants as tasks
@@ -83,7 +84,7 @@ IsBesideExplain given o = (o.quiet ≡ true) ⊎ ((o.progress ≡ true) ⊎ IsSo
 -- This option says nothing to the task.
 abbrev pub IsMisplaced : Task → Given → Options → Misplaced → Type 0
 IsMisplaced task given o misplaced.Y4m = (o.y4m ≡ true) × (task ≢ tasks.Decode)
-IsMisplaced task given o misplaced.Strict = (o.strict ≡ true) × (task ≢ tasks.Check)
+IsMisplaced task given o misplaced.Strict = (o.strict ≡ true) × (asks_further task true ≡ false)
 IsMisplaced task given o misplaced.Output = IsSome o.output × (task ≢ tasks.Decode) × (task ≢ tasks.Report)
 IsMisplaced task given o misplaced.Choice = Chooses o.choice × (task ≢ tasks.Elements)
 IsMisplaced task given o misplaced.Explain = (o.explain ≡ true) × (is_judging task ≡ false)
@@ -146,7 +147,7 @@ unreadable_text unreadables.Target = codes "--target is baseline or main-ip"
 -- the text of an option that says nothing to a task
 abbrev pub misplaced_text : Misplaced → Text
 misplaced_text misplaced.Y4m = codes "--y4m belongs to decode"
-misplaced_text misplaced.Strict = codes "--strict belongs to check"
+misplaced_text misplaced.Strict = codes "--strict belongs to check and report"
 misplaced_text misplaced.Output = codes "--output belongs to decode and report"
 misplaced_text misplaced.Choice = codes "--picture and --mb belong to elements"
 misplaced_text misplaced.Explain = codes "--explain belongs to check, units, headers, frames, decode and elements"

@@ -11,6 +11,7 @@ ghost use Rattle.clap.specs.Words.{app_of, found_of, takes, kind_of, subcommand_
 ghost use Rattle.clap.specs.Walk.{rows_of};
 ghost use Rattle.clap.specs.declared.error.kind.ErrorKind.TheVariants as kinds;
 ghost use Rattle.clap.specs.declared.builder.command.Command.TheViews.{out-Command as fields_of};
+ghost use Rattle.h264v.specs.Further.{asks_further};
 ghost use Rattle.h264v.specs.Words.{files_rule, flag_rule, value_rule, with_flags, with_values, file_app, with_file, bare, program, name_of};
 ghost use Rattle.h264v.specs.Words.{is_judging, found_by, IsRequest, IsTarget, AsksFor, all_in, value_in};
 ghost use Rattle.h264_base.specs.declared.mode.Target.{Target as TargetView};
@@ -58,6 +59,23 @@ impl Task {
             Task::Elements => true,
             Task::Info => false,
             Task::Report => false,
+            Task::Explain => false,
+        }
+    }
+
+    /// Whether it judges by the further rules where that is asked.
+    pub fn has_further_rules(self) -> bool
+        ensures { result ≡ asks_further self true }
+    {
+        match self {
+            Task::Check => true,
+            Task::Report => true,
+            Task::Units => false,
+            Task::Headers => false,
+            Task::Frames => false,
+            Task::Decode => false,
+            Task::Elements => false,
+            Task::Info => false,
             Task::Explain => false,
         }
     }
@@ -231,7 +249,7 @@ fn is_shown(option: &str, name: &str) -> bool {
         return name == "decode";
     }
     if option == "strict" {
-        return name == "check";
+        return name == "check" || name == "report";
     }
     if option == "output" {
         return name == "decode" || name == "report";

@@ -7,6 +7,7 @@
 mod check_tests;
 mod command;
 mod command_line;
+mod decoding;
 #[cfg(test)]
 mod device_tests;
 mod explaining;
@@ -16,6 +17,7 @@ mod frame_tests;
 #[cfg(test)]
 mod header_tests;
 mod job;
+mod listing;
 mod more;
 #[cfg(test)]
 mod more_tests;
@@ -26,11 +28,13 @@ mod pieces_tests;
 mod program;
 mod progress;
 mod refusal;
+mod reporting;
 #[cfg(test)]
 mod set_tests;
 mod strictly;
 #[cfg(test)]
 mod target_tests;
+mod telling;
 #[cfg(test)]
 mod tests;
 mod words;

@@ -1,12 +1,13 @@
 //! What the words ask for beside the judgement of one file: options, several files, and the tasks that make texts of their own.
 #![tactic(auto)]
 
-ghost use Rattle.std.specs.Prelude.{◌≡◌, ◌≢◌, ℕ, ◌==◌, ◌-◌, ◌<◌, ◌^◌, ◌++◌, ◌⊎◌, true, false, max, map, length, not, nat_le, Err, None, IsErrOf, IsSome, IfSome, List, codes};
+ghost use Rattle.std.specs.Prelude.{◌≡◌, ◌≢◌, ℕ, ◌==◌, ◌-◌, ◌<◌, ◌^◌, ◌++◌, ◌⊎◌, true, false, max, map, length, not, nat_le, List, codes};
+ghost use Rattle.std.specs.Prelude.{Err, None, IsErrOf, IsSome, IfSome, IfNone};
 ghost use Rattle.clap.specs.Words.{subcommand_rows_of};
 ghost use Rattle.h264_base.specs.declared.stop.Stop.TheVariants.{Memory, Read, Write};
 ghost use Rattle.h264_report.specs.Sent.{Sends};
 ghost use Rattle.h264_report.specs.Told.{ended};
-ghost use Rattle.h264_report.specs.Written.{told_of};
+ghost use Rattle.h264_report.specs.Written.{OfBytes, told_of};
 ghost use Rattle.h264v.specs.Explained.{IsExplained};
 ghost use Rattle.h264_verify.specs.Units.{terms_of};
 ghost use Rattle.h264v.specs.Files.{left_of, IsUnread};
@@ -14,18 +15,20 @@ ghost use Rattle.h264v.specs.Further.{asks_further, BreakOne, IsFound, TellsBrok
 ghost use Rattle.h264v.specs.Commands.{output_of};
 ghost use Rattle.h264v.specs.More.{one_more, AreDone, IsAnswerOf, IsPutAside, IsStatus, IsToldStatus, TellsCause, TellsWrites};
 ghost use Rattle.h264v.specs.Options.{refusal_text};
+ghost use Rattle.h264v.specs.Texts.{IsEnd, IsFileText, IsTextOf, TakesText, answers_aside, opening_in, prefix_of};
 ghost use Rattle.h264v.specs.Words.{mode_of, system_name};
 
 use crate::command::FAULT;
 use crate::command_line::{Task, Wanted};
+use crate::decoding::decode_file;
 use crate::explaining::{entry_labelled, put_entry};
 use crate::files::{Files, OpenedFiles, Opener};
-use crate::job::{
-    Done, Found, Job, check_file, decode_file, info_file, list_file, put_found, put_unjudged,
-    report_file,
-};
+use crate::job::{Done, Found, Job, check_file, info_file};
+use crate::listing::list_file;
 use crate::options::options_of;
 use crate::refusal::{Clash, Refusal};
+use crate::reporting::report_file;
+use crate::telling::{put_found, put_unjudged};
 use h264_base::Stop;
 use h264_report::pages::Page;
 use h264_report::survey::Meter;
@@ -191,7 +194,8 @@ fn explain_labels<W: Device, E: Device>(
     FAILED
 }
 
-/// Judges the open file as the task says. What the answer is written to is left to the caller.
+/// Judges the open file as the task says. What the answer is written to is left to the caller. None where memory is wanting beside the judgement; then
+/// nothing is written.
 fn find<O: Opener + Drop, W: Device, M: Meter + Drop>(
     job: &Job<'_>,
     files: &mut OpenedFiles<O>,
@@ -203,6 +207,10 @@ fn find<O: Opener + Drop, W: Device, M: Meter + Drop>(
     ensures read { IfSome result (λ found. IsErrOf found.answer Read → IsUnread files.old.failures files.old.reads files.new.failures files.new.reads) }
     ensures further { IfSome result (λ found. IsFound (asks_further job.now.task job.now.options.strict)
         (terms_of (mode_of job.now.task) job.now.options.target) (left_of O.File.Read.remaining files.old.reader) found.answer found.strict) }
+    ensures text { IfSome result (λ found. OfBytes (left_of O.File.Read.remaining files.old.reader) (λ bytes. TakesText (IsTextOf job.now.task
+        job.now.options (opening_in job.now.options.json job.now.file.now job.now.prefix.now) bytes found.answer) (W.contents out.old)
+        (output_of W.contents W.has_failed W.holds_back out.new))) }
+    ensures untouched { IfNone result (out.new ≡ out.old) }
 {
     match job.task {
         Task::Check => check_file(job, files, meter),
@@ -221,8 +229,20 @@ fn system_name(file: &str) -> &str
 }
 
 /// Whether the answer of a task goes to standard error, since its output is something else.
-fn answers_aside(task: Task) -> bool {
-    task == Task::Decode || task == Task::Report
+fn answers_aside(task: Task) -> bool
+    ensures { result ≡ answers_aside task }
+{
+    match task {
+        Task::Decode => true,
+        Task::Report => true,
+        Task::Check => false,
+        Task::Units => false,
+        Task::Headers => false,
+        Task::Frames => false,
+        Task::Elements => false,
+        Task::Info => false,
+        Task::Explain => false,
+    }
 }
 
 /// Opens a file and judges it, and writes its answer to `out`, or to `err` where the task writes something else to `out`.
@@ -240,6 +260,9 @@ fn do_file<O: Opener + Drop, W: Device, E: Device, M: Meter + Drop>(
     ensures read { IsErrOf result.ending.answer Read → IsUnread files.old.failures files.old.reads files.new.failures files.new.reads }
     ensures failures { TellsWrites job.now.options.y4m result.ending (output_of W.contents W.has_failed W.holds_back out.old)
         (output_of W.contents W.has_failed W.holds_back out.new) (output_of E.contents E.has_failed E.holds_back err.new) }
+    ensures text { TakesText (IsFileText job.now.task job.now.options (opening_in job.now.options.json job.now.file.now job.now.prefix.now)
+        (O.holds files.old.opener (system_name job.now.file.now)) result.ending.answer) (W.contents out.old)
+        (output_of W.contents W.has_failed W.holds_back out.new) }
 {
     if files.open(system_name(job.file)).is_err() {
         return put_no_verdict(job, Stop::Read, out, err);
@@ -252,7 +275,7 @@ fn is_cut_off(job: &Job<'_>, found: &Found, failed: bool) -> bool
     ensures cut { result ≡ true → (failed ≡ true) ⊎ (job.now.options.y4m ≡ true) }
     ensures whole { result ≡ false → failed ≡ false }
 {
-    failed || job.options.y4m && found.before.as_str() != ""
+    failed || job.options.y4m && found.change.is_some()
 }
 
 /// Why there is no verdict on a file that was read: an output failed, or else memory was wanting.
@@ -277,6 +300,9 @@ fn judge_opened<O: Opener + Drop, W: Device, E: Device, M: Meter + Drop>(
     ensures read { IsErrOf result.ending.answer Read → IsUnread files.old.failures files.old.reads files.new.failures files.new.reads }
     ensures failures { TellsWrites job.now.options.y4m result.ending (output_of W.contents W.has_failed W.holds_back out.old)
         (output_of W.contents W.has_failed W.holds_back out.new) (output_of E.contents E.has_failed E.holds_back err.new) }
+    ensures text { TakesText (IsFileText job.now.task job.now.options (opening_in job.now.options.json job.now.file.now job.now.prefix.now)
+        (left_of O.File.Read.remaining files.old.reader) result.ending.answer) (W.contents out.old)
+        (output_of W.contents W.has_failed W.holds_back out.new) }
 {
     let found = find(job, files, out, meter);
     // Where this fails, the device tells so.
@@ -298,6 +324,7 @@ fn put_answer<W: Device, E: Device>(job: &Job<'_>, found: &Found, out: &mut W, e
     ensures unbroken { result.is_broken ≡ false → BreakOne found.now.strict → ⊥ }
     ensures devices { IsPutAside result.ending.written (output_of W.contents W.has_failed W.holds_back out.old)
         (output_of W.contents W.has_failed W.holds_back out.new) (output_of E.contents E.has_failed E.holds_back err.new) }
+    ensures text { TakesText (IsEnd job.now.task) (W.contents out.old) (output_of W.contents W.has_failed W.holds_back out.new) }
 {
     if answers_aside(job.task) {
         return put_found(job, err, found);
@@ -311,6 +338,7 @@ fn put_no_verdict<W: Device, E: Device>(job: &Job<'_>, stop: Stop, out: &mut W, 
     ensures broken { result.is_broken ≡ false }
     ensures devices { IsPutAside result.ending.written (output_of W.contents W.has_failed W.holds_back out.old)
         (output_of W.contents W.has_failed W.holds_back out.new) (output_of E.contents E.has_failed E.holds_back err.new) }
+    ensures text { TakesText (IsEnd job.now.task) (W.contents out.old) (output_of W.contents W.has_failed W.holds_back out.new) }
 {
     if answers_aside(job.task) {
         return put_unjudged(job, err, stop);
@@ -363,16 +391,17 @@ fn do_named<O: Opener + Drop, W: Device, E: Device, M: Meter + Drop>(
         (O.holds files.old.opener (system_name job.now.file.now)) result }
     ensures failures { TellsWrites job.now.options.y4m result.ending (output_of W.contents W.has_failed W.holds_back out.old)
         (output_of W.contents W.has_failed W.holds_back out.new) (output_of E.contents E.has_failed E.holds_back err.new) }
+    ensures text { TakesText (IsFileText job.now.task job.now.options (opening_in job.now.options.json job.now.file.now (prefix_of true job.now.file.now))
+        (O.holds files.old.opener (system_name job.now.file.now)) result.ending.answer) (W.contents out.old)
+        (output_of W.contents W.has_failed W.holds_back out.new) }
 {
     if job.options.json {
         return do_file(job, files, out, err, meter);
     }
-    let mut prefix = Page::new(job.alloc);
-    prefix.put(job.file);
-    prefix.put(": ");
-    if prefix.is_short() {
+    let file = job.file;
+    let Ok(prefix) = format!(in job.alloc; "{file}: ") else {
         return put_no_verdict(job, Stop::Memory, out, err);
-    }
+    };
     let named = Job {
         prefix: prefix.as_str(),
         ..*job
@@ -432,6 +461,9 @@ fn do_one<O: Opener + Drop, W: Device, E: Device, M: Meter + Drop>(
     ensures read { IsErrOf result.ending.answer Read → IsUnread files.old.failures files.old.reads files.new.failures files.new.reads }
     ensures failures { TellsWrites job.now.options.y4m result.ending (output_of W.contents W.has_failed W.holds_back out.old)
         (output_of W.contents W.has_failed W.holds_back out.new) (output_of E.contents E.has_failed E.holds_back err.new) }
+    ensures text { TakesText (IsFileText job.now.task job.now.options (opening_in job.now.options.json job.now.file.now job.now.prefix.now)
+        (O.holds files.old.opener (system_name job.now.file.now)) result.ending.answer) (W.contents out.old)
+        (output_of W.contents W.has_failed W.holds_back out.new) }
 {
     let done = do_file(job, files, out, err, meter);
     blame_reading(job.alloc, files, err, job.file);

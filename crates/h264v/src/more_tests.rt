@@ -45,7 +45,7 @@ const WRONG_MESSAGES: &str =
 /// The picture, with a set that has NAL HRD parameters and pic_struct_present_flag, and SEI with its times.
 const TIMES: &str =
     "000000016742c00ada72100000030010000003032d000a007d00a007d17394a50000000168ce38800000000106000d8000028000000300000303800000c0000d912a88000003\
-00044aa200000300c001030308100111030a201013beee983004260c013dfbdd30010c030920c0120930600906093001030309c8010303098401030308908000000001658884\
+00044aa200000300c001030308100111030a201013beee983004260c013dfbdd30010c030920c0120930600906093001030309c8010303098401030308c88000000001658884\
 93c0";
 
 /// That set, and wrong times: each range.
@@ -314,7 +314,7 @@ yes: units 4 pictures 2 frames 2\n",
 ];
 
 /// Several files, frames, pages, and words that are refused.
-const REST: [Asking; 21] = [
+const REST: [Asking; 22] = [
     Asking {
         words: &["h264v", "units", "none"],
         stream: ONE,
@@ -369,6 +369,15 @@ total: files 3 yes 2 no 0 outside 0 memory 0 failed 1\n",
         ],
         err: "yes: units 3 pictures 1 frames 1\n",
         status: 0,
+    },
+    Asking {
+        words: &["h264v", "report", "--strict", "stream"],
+        stream: RESERVED_RATIO,
+        out: &[
+            "<h2>Further rules</h2><pre>strict: bit 80: AspectRatio (clause E.2.1), 1 places\nstrict: not judged: Sei (",
+        ],
+        err: "strict: bit 80: AspectRatio (clause E.2.1), 1 places\nstrict: not judged: Sei (",
+        status: 1,
     },
     Asking {
         words: &["h264v", "explain", "VectorRange"],

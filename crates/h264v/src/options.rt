@@ -97,7 +97,7 @@ fn misplaced(task: Task, options: &Options<'_>, names_target: bool) -> Option<Mi
     if options.y4m && task != Task::Decode {
         return Some(Misplaced::Y4m);
     }
-    if options.strict && task != Task::Check {
+    if options.strict && !task.has_further_rules() {
         return Some(Misplaced::Strict);
     }
     if options.output.is_some() && task != Task::Decode && task != Task::Report {

@@ -48,7 +48,7 @@ impl Misplaced {
     {
         match self {
             Misplaced::Y4m => "--y4m belongs to decode",
-            Misplaced::Strict => "--strict belongs to check",
+            Misplaced::Strict => "--strict belongs to check and report",
             Misplaced::Output => "--output belongs to decode and report",
             Misplaced::Choice => "--picture and --mb belong to elements",
             Misplaced::Explain => {

@@ -36,6 +36,8 @@ pub struct Sheets<'a> {
     pub verdict: &'a str,
     /// The lines that explain it.
     pub explanation: &'a str,
+    /// The lines on the further rules, as `check --strict` writes them; no text where they were not judged, and then the page has no section on them.
+    pub further: &'a str,
     /// A line a frame, with its digest.
     pub digests: &'a str,
 }
@@ -74,6 +76,15 @@ fn put_verdict(page: &mut Page, sheets: &Sheets<'_>) {
     if sheets.explanation != "" {
         page.put("<pre>");
         page.escaped(sheets.explanation);
+        page.put("</pre>");
+    }
+}
+
+/// Adds the lines on the further rules, where they were judged.
+fn put_further(page: &mut Page, sheets: &Sheets<'_>) {
+    if sheets.further != "" {
+        page.put("<h2>Further rules</h2><pre>");
+        page.escaped(sheets.further);
         page.put("</pre>");
     }
 }
@@ -199,6 +210,7 @@ pub fn put_page(
     sheets: &Sheets<'_>,
 ) {
     put_verdict(page, sheets);
+    put_further(page, sheets);
     put_sets(page, survey);
     put_pictures(page, survey, sheets);
     put_macroblocks(page, survey);

@@ -7,12 +7,14 @@ ghost use Rattle.h264_base.specs.Call.{HasRoom, IsQuiet, Tells};
 ghost use Rattle.h264_report.specs.Chosen.{held, is_chosen, has_picture, has_macroblock, TookChosen, after_element};
 
 use crate::lines::UnitCall;
+use crate::sheet::Sheet;
 use crate::survey::notes::Survey;
 use crate::survey::reading::Reading;
 use h264_base::{ElementName, Elements, Failed, SliceType};
 use h264_dpb::{FrameOut, Rectangle};
 use h264_plane::Frame;
 use h264_verify::FrameSink;
+use std::marker::PhantomData;
 
 /// What is chosen of a stream.
 #[derive(Clone, Copy, Default)]
@@ -68,8 +70,9 @@ impl Choice {
 /// Hands to the sink inside what is chosen of the elements, each unit of them before the first, and no frames. Once the sink inside failed, each call fails,
 /// and it is told nothing more.
 #[derive(Drop)]
-pub struct Narrowed<S: FrameSink + Drop> {
+pub struct Narrowed<S: FrameSink + Drop, K: Sheet> {
     pub sink: S,
+    sheet: PhantomData<K>,
     pub survey: Survey,
     pub reading: Reading,
     pub choice: Choice,
@@ -81,9 +84,9 @@ pub struct Narrowed<S: FrameSink + Drop> {
     pub failures: u64,
 }
 
-impl<S: FrameSink + Drop> Narrowed<S> {
+impl<S: FrameSink + Drop, K: Sheet> Narrowed<S, K> {
     /// A sink that was told nothing, round this one.
-    pub fn new(sink: S, survey: Survey, choice: Choice) -> Narrowed<S>
+    pub fn new(sink: S, survey: Survey, choice: Choice) -> Narrowed<S, K>
         ensures quiet { result.failures + S.failures result.sink ≡ S.failures sink }
         ensures sink { result.sink ≡ sink }
         ensures choice { result.choice ≡ choice }
@@ -91,6 +94,7 @@ impl<S: FrameSink + Drop> Narrowed<S> {
     {
         Narrowed {
             sink,
+            sheet: PhantomData,
             survey,
             reading: Reading::new(),
             choice,
@@ -125,8 +129,8 @@ fn put_pending<S: FrameSink>(sink: &mut S, pending: Option<UnitCall>) -> Result<
     }
 }
 
-impl<S: FrameSink + Drop> Elements for Narrowed<S> {
-    ghost took = { λ s calls. TookChosen S.took s.choice s.broke_off s.reading s.pending s.sink calls };
+impl<S: FrameSink + Drop, K: Sheet> Elements for Narrowed<S, K> {
+    ghost took = { λ s calls. (s.choice ≡ K.choice) × TookChosen S.took s.choice s.broke_off s.reading s.pending s.sink calls };
 
     ghost failures = { λ s. s.failures + S.failures s.sink };
 
@@ -157,7 +161,7 @@ impl<S: FrameSink + Drop> Elements for Narrowed<S> {
     }
 }
 
-impl<S: FrameSink + Drop> FrameOut for Narrowed<S> {
+impl<S: FrameSink + Drop, K: Sheet> FrameOut for Narrowed<S, K> {
     fn frame(&mut self, _count: i32, _frame: &Frame, _rectangle: Rectangle) -> Result<(), Failed> {
         if self.broke_off {
             return self.fail();
@@ -167,7 +171,7 @@ impl<S: FrameSink + Drop> FrameOut for Narrowed<S> {
     }
 }
 
-impl<S: FrameSink + Drop> FrameSink for Narrowed<S> {
+impl<S: FrameSink + Drop, K: Sheet> FrameSink for Narrowed<S, K> {
     fn unit(
         &mut self,
         byte: u64,

@@ -7,6 +7,7 @@ use Rattle.h264v.specs.More.{IsAnswer}
 use Rattle.h264v.specs.Words.{mode_of}
 use Rattle.h264v.proofs.Failing.{opened, read-since}
 use Rattle.h264v.proofs.Further.{broken-kept}
+use Rattle.h264v.proofs.Texts.{text-kept}
 use Rattle.h264v.proofs.more.do_file.Goals as goal
 
 pub returns-clause-answer : goal.returns-clause-answer
@@ -26,3 +27,9 @@ returns-clause-read g c e =
     let well = sym c.is_err.ensures.value ∙ c.if-is_err.false in
     read-since (λ n. (n ≤ c.judge_opened.new.files.reads) ⊎ (0 < c.judge_opened.new.files.failures)) (opened c.open.result _ well c.open.ensures.kept) (opened c.open.result _ well c.open.ensures.reads)
     (c.judge_opened.ensures.read e)
+
+pub returns-clause-text : goal.returns-clause-text
+returns-clause-text g c =
+    let k = subst (λ name. Keeps (g.O.Opener.holds c.args.files.now.opener name) (left_of g.O.File.Read.remaining c.open.new.self.reader)) c.system_name.ensures
+    (opened c.open.result _ (sym c.is_err.ensures.value ∙ c.if-is_err.false) c.open.ensures.opened) in
+    text-kept _ _ _ k c.judge_opened.ensures.text

@@ -2,14 +2,17 @@ use Rattle.std.proofs.Common.{◌≡◌, ℕ, List, [], ◌∷◌, ◌++◌, Bor
 use Rattle.std.proofs.lemmas.Bool.{true≢false}
 use Rattle.std.proofs.lemmas.List.{length-map, map-append, take_all}
 use Rattle.std.proofs.lemmas.List.Elements.{All-nil, All-push}
+use Rattle.h264_report.proofs.Known.{sends-is, sends-more, sends-none}
 use Rattle.h264v.specs.More.{FileDone, worst}
 use Rattle.h264v.proofs.Explained.{one-more}
 use Rattle.h264v.proofs.Statuses.{worst-more}
+use Rattle.h264v.proofs.Texts.{none-texts, texts-more}
+use Rattle.h264v.proofs.Told.{taken}
 use Rattle.h264v.proofs.Writing.{IsWritten, each-written, not-false}
 use Rattle.h264v.proofs.more.do_files.Goals as goal
 
 pub loop-name-init : goal.loop-name-init
-loop-name-init g c = ([], refl, All-nil _, c.none-totals.ensures, λ e. e)
+loop-name-init g c = ([], refl, All-nil _, c.none-totals.ensures, λ e. e, sends-is none-texts (sends-none _))
 
 pub loop-name-preserved : goal.loop-name-preserved
 loop-name-preserved g c =
@@ -18,16 +21,17 @@ loop-name-preserved g c =
     let job = c.args.job.now in
     let none : Bor (List ℕ) = record { ref_ptr = (0, 0); now = [] } in
     let name = (slice_index_or c.args.names.now c.loop-name.name-index none).now in
-    let f : FileDone = record { name = name; done = d.result } in
+    let f : FileDone = record { name = name; done = d.result; text = d.ensures.text.text } in
     let whole = sym c.did_fail.ensures ∙ c.if-did_fail.false in
     let written : IsWritten job.task job.options (λ n. g.O.Opener.holds c.args.opener n) f =
     subst (λ o. IsWritten job.task job.options (λ n. g.O.Opener.holds o n) f) c.new-files.ensures.opener
-    (record { answer = d.ensures.answer; broken = d.ensures.broken; no_write = λ e. ⊎_elim (λ f. absurd (true≢false (sym f ∙ whole))) (λ y. y) (d.ensures.failures.write e); written = not-false _ c.if-not-done.false }) in (
+    (record { answer = d.ensures.answer; broken = d.ensures.broken; no_write = λ e. ⊎_elim (λ f. absurd (true≢false (sym f ∙ whole))) (λ y. y) (d.ensures.failures.write e); written = not-false _ c.if-not-done.false; text = d.ensures.text.is_text }) in (
       i.0 ++ f ∷ [],
       map-append (λ (e : FileDone). e.name) i.0 (f ∷ []) ∙ ap (λ l. l ++ name ∷ []) i.1 ∙ sym (one-more (λ (n : Bor (List ℕ)). n.now) c.args.names.now c.loop-name.name-index none c.loop-name-test.true),
       All-push (IsWritten job.task job.options (λ n. g.O.Opener.holds c.args.opener n)) i.0 f i.2 written,
       c.add.ensures.worst ∙ ap (λ w. max w c.status.result) i.3 ∙ ap (max (worst i.0)) c.status.ensures ∙ sym (worst-more i.0 f),
       λ e. absurd (true≢false (sym e ∙ whole)),
+      sends-is (sym (texts-more i.0 f)) (sends-more i.5 (d.ensures.text.sends whole)),
     )
 
 pub returns : goal.returns
@@ -40,3 +44,4 @@ returns g c =
     let texts : List (Bor (List ℕ)) → List (List ℕ) = map (λ (n : Bor (List ℕ)). n.now) in
     each-written job.task job.options (λ n. g.O.Opener.holds c.args.opener n) _ i.0 (texts names) _ _ _ _ (i.1 ∙ ap texts all) (λ e. c.requires.several (sym (length-map names (λ (n : Bor (List ℕ)). n.now)) ∙ e)) i.2 i.3
     (λ e. i.4 (sym (c.put_text.ensures.quiet c.if-not-put_text.false) ∙ e)) (c.put_text.ensures.handed_over c.if-not-put_text.false)
+    c.as_str.result.now (λ none. sends-more i.5 (taken c.put_text.result _ c.put_text.ensures.text c.put_text.ensures.failed none))

@@ -1,6 +1,7 @@
 use Rattle.std.specs.Prelude.{◌≡◌, List, map, take, true}
 use Rattle.std.specs.List.{All}
-use Rattle.h264v.specs.More.{FileDone, worst}
+use Rattle.h264_report.specs.Sent.{Sends}
+use Rattle.h264v.specs.More.{FileDone, texts_of, worst}
 use Rattle.h264v.proofs.Writing.{IsWritten}
 use Rattle.h264v.proofs.more.do_files.Given as goal
 
@@ -9,3 +10,4 @@ invariant-loop-name g l =
     (files : List FileDone) × (map (λ f. f.name) files ≡ map (λ n. n.now) (take l.name-index l.names))
     × All (IsWritten l.job.task l.job.options (λ name. g.O.Opener.holds l.opener name)) files × (l.totals.worst ≡ worst files)
     × (g.W.Device.has_failed l.out ≡ true → g.W.Device.has_failed l.fn.out ≡ true)
+    × Sends (g.W.Device.contents l.fn.out) (g.W.Device.contents l.out) (texts_of files)

@@ -1,4 +1,7 @@
-use Rattle.h264v.proofs.Further.{broken-told}
+use Rattle.std.proofs.Common.{◌∙◌}
+use Rattle.h264v.proofs.Further.{broken-told, no-verdict, told-answer}
+use Rattle.h264v.specs.Commands.{output_of}
+use Rattle.h264v.proofs.Texts.{judged-text, unjudged-text}
 use Rattle.h264v.proofs.Writing.{read-told, rest-sent, writes-told}
 use Rattle.h264v.proofs.more.judge_opened.Goals as goal
 
@@ -15,3 +18,12 @@ pub returns-clause-failures : goal.returns-clause-failures
 returns-clause-failures g c =
     writes-told c.in-Some.found.answer c.is_cut_off-broke_off.ensures.cut c.is_cut_off-broke_off.ensures.whole c.did_fail-failed.ensures c.told_answer-found.ensures c.put_answer.ensures.answer c.put_answer.ensures.write
     (rest-sent c.send_rest.result _ _ c.send_rest.ensures.handed_over c.send_rest.ensures.failed) c.put_answer.ensures.devices
+
+pub returns-in_default-clause-text : goal.returns-in_default-clause-text
+returns-in_default-clause-text g c =
+    unjudged-text _ _ _ (no-verdict c.did_fail-failed.result c.put_no_verdict.result.ending.answer (c.put_no_verdict.ensures.answer ∙ c.stop_of.ensures)) (rw c.in_default.ensures.untouched at c.send_rest.ensures.kept) c.put_no_verdict.ensures.text
+
+pub returns-clause-text : goal.returns-clause-text
+returns-clause-text g c =
+    judged-text _ c.send_rest.result _ (output_of g.W.Device.contents g.W.Device.has_failed g.W.Device.holds_back c.send_rest.new.self) _ (told-answer c.is_cut_off-broke_off.result c.in-Some.found.answer c.told_answer-found.result c.put_answer.result.ending.answer c.told_answer-found.ensures c.put_answer.ensures.answer) c.in-Some.ensures.text c.send_rest.ensures.kept c.send_rest.ensures.quiet
+    c.send_rest.ensures.failed c.put_answer.ensures.devices.kept c.put_answer.ensures.text

@@ -28,8 +28,8 @@ returns-in_default g c =
     let all = c.unwrap_or-names.result.now in
     let one : length all ≡ 1 = let t = c.if-names-ne1.false in omega (arith, t) in
     Judged c.in-Ok.options c.in-Ok.ensures.given c.in-Ok.ensures.used
-    (alone c.args.wanted.now.request.task c.in-Ok.options _ _ (record { name = (slice_index_or all 0 none).now; done = c.do_one.result }) _ c.status.result _ _ _ (single (λ (n : Bor (List ℕ)). n.now) all none one ∙ names)
-    c.do_one.ensures.answer c.do_one.ensures.broken c.do_one.ensures.read c.do_one.ensures.failures c.status.ensures)
+    (alone c.args.wanted.now.request.task c.in-Ok.options _ _ (record { name = (slice_index_or all 0 none).now; done = c.do_one.result; text = c.do_one.ensures.text.text }) _ c.status.result _ _ _ (single (λ (n : Bor (List ℕ)). n.now) all none one ∙ names)
+    c.do_one.ensures.answer c.do_one.ensures.broken c.do_one.ensures.read c.do_one.ensures.failures c.do_one.ensures.text.is_text c.do_one.ensures.text.sends c.status.ensures)
 
 pub returns-then-is_same : goal.returns-then-is_same
 returns-then-is_same g c =
@@ -43,5 +43,5 @@ returns g c =
     let all = c.unwrap_or-names.result.now in
     let one : length all ≡ 1 = let t = c.if-names-ne1.false in omega (arith, t) in
     Judged c.in-Ok.options c.in-Ok.ensures.given c.in-Ok.ensures.used
-    (alone-elsewhere c.args.wanted.now.request.task c.in-Ok.options _ _ (record { name = (slice_index_or all 0 none).now; done = c.do_output.result }) _ c.status-2.result _ _ (single (λ (n : Bor (List ℕ)). n.now) all none one ∙ names)
+    (alone-elsewhere c.args.wanted.now.request.task c.in-Ok.options _ _ (record { name = (slice_index_or all 0 none).now; done = c.do_output.result; text = [] }) _ c.status-2.result _ _ (single (λ (n : Bor (List ℕ)). n.now) all none one ∙ names)
     c.do_output.ensures.answer c.do_output.ensures.broken c.do_output.ensures.read (subst IsSome (sym c.in-Some.is) refl) c.status-2.ensures)

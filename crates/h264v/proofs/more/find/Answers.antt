@@ -1,0 +1,18 @@
+use Rattle.std.proofs.Common.{refl}
+use Rattle.h264v.proofs.Texts.{decode-text, list-text, no-text, report-text}
+use Rattle.h264v.proofs.more.find.Goals as goal
+
+pub returns-in-Check-clause-text : goal.returns-in-Check-clause-text
+returns-in-Check-clause-text g c = no-text c.check_file.result _ _ _ _ c.in-Check.is (λ bytes answer. refl)
+
+pub returns-in-Decode-clause-text : goal.returns-in-Decode-clause-text
+returns-in-Decode-clause-text g c = decode-text c.decode_file.result _ _ _ _ _ _ c.in-Decode.is c.decode_file.ensures.text
+
+pub returns-in-Info-clause-text : goal.returns-in-Info-clause-text
+returns-in-Info-clause-text g c = no-text c.info_file.result _ _ _ _ c.in-Info.is (λ bytes answer. refl)
+
+pub returns-in-Report-clause-text : goal.returns-in-Report-clause-text
+returns-in-Report-clause-text g c = report-text c.report_file.result _ _ _ _ _ _ c.in-Report.is c.report_file.ensures.text
+
+pub returns-in_default-clause-text : goal.returns-in_default-clause-text
+returns-in_default-clause-text g c = list-text c.list_file.result _ _ _ _ _ _ c.in_default.not-Check c.in_default.not-Decode c.in_default.not-Info c.in_default.not-Report c.list_file.ensures.text

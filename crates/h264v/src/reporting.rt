@@ -1,0 +1,225 @@
+//! The HTML page on a stream.
+#![tactic(auto)]
+
+ghost use Rattle.std.specs.Prelude.{◌≡◌, ◌-◌, ◌<◌, ◌^◌, ℕ, List, [], None, IsErrOf, IfSome, IfNone};
+ghost use Rattle.h264_base.specs.Call.{HasRoom};
+ghost use Rattle.h264_base.specs.declared.stop.Stop.TheVariants.{Read};
+ghost use Rattle.h264_report.specs.Objects.{bare};
+ghost use Rattle.h264_report.specs.declared.listing.Listing.TheVariants as listings;
+ghost use Rattle.h264_verify.specs.Units.{terms_of};
+ghost use Rattle.h264v.specs.Commands.{output_of};
+ghost use Rattle.h264v.specs.Files.{left_of, IsUnread};
+ghost use Rattle.h264v.specs.Further.{IsFound};
+ghost use Rattle.h264v.specs.More.{IsAnswerOf};
+ghost use Rattle.h264v.specs.Texts.{TakesText};
+ghost use Rattle.h264v.specs.Words.{mode_of};
+
+use crate::explaining::guide_of;
+use crate::files::{OpenedFiles, Opener};
+use crate::job::{Found, Job, JudgedFurther, Watch, judge, judge_further};
+use crate::strictly::{FurtherRules, put_strict_lines};
+use crate::telling::finding_of;
+use h264_base::Mode;
+use h264_report::pages::{Album, Answer, Page, Sheets, put_explanation, put_page};
+use h264_report::survey::{Meter, Survey, Surveyed};
+use h264_report::{
+    Device, Form, LineSink, Listing, PageSink, Pen, Sheet, WriteDevice, put_text, verdict_line,
+};
+use h264_verify::FrameSink;
+use std::marker::Brand;
+
+/// What is kept of the frames for a page.
+#[derive(Clone, Copy)]
+struct Kept<'a> {
+    album: &'a Album,
+    /// The lines of the frames.
+    digests: &'a str,
+}
+
+/// Adds the page of a file that was judged.
+fn put_report(job: &Job<'_>, page: &mut Page, found: &Found, kept: &Kept<'_>) {
+    let mut explanation = Page::new(job.alloc);
+    put_explanation(
+        job.alloc,
+        &mut explanation,
+        found.answer,
+        &found.survey,
+        finding_of(found),
+        guide_of(found.answer),
+    );
+    let Ok(verdict) = verdict_line(job.alloc, Mode::Full, found.answer) else {
+        page.give_up();
+        return;
+    };
+    let mut further = Page::new(job.alloc);
+    if let Some(strict) = &found.strict {
+        put_strict_lines(&mut further, strict);
+    }
+    if further.is_short() || explanation.is_short() {
+        page.give_up();
+    }
+    if kept.album.is_short() || found.survey.is_short() {
+        page.give_up();
+    }
+    let sheets = Sheets {
+        file: job.file,
+        answer: found.answer,
+        finding: finding_of(found),
+        verdict: verdict.as_str(),
+        explanation: explanation.as_str(),
+        further: further.as_str(),
+        digests: kept.digests,
+    };
+    put_page(job.alloc, page, &found.survey, kept.album, &sheets);
+}
+
+/// What a judgement for a page left.
+#[derive(Drop)]
+struct Paged<S: Drop> {
+    sink: S,
+    survey: Survey,
+    answer: Answer,
+    strict: Option<FurtherRules>,
+}
+
+/// Judges the open file with a sink, and by the further rules where they are asked for.
+fn judge_page<S: FrameSink + Drop, O: Opener + Drop, M: Meter + Drop>(
+    job: &Job<'_>,
+    files: &mut OpenedFiles<O>,
+    sink: S,
+    watch: Watch<M>,
+) -> Paged<S>
+    requires none { S.took sink [] }
+    requires sink { HasRoom S.failures sink }
+    requires source { files.old.failures < 2 ^ 64 - 1 }
+    ensures answer { IsAnswerOf job.now.task job.now.options.target (left_of O.File.Read.remaining files.old.reader) result.answer }
+    ensures read { IsErrOf result.answer Read → IsUnread files.old.failures files.old.reads files.new.failures files.new.reads }
+    ensures further { IsFound job.now.options.strict (terms_of (mode_of job.now.task) job.now.options.target)
+        (left_of O.File.Read.remaining files.old.reader) result.answer result.strict }
+{
+    if job.options.strict {
+        let judged = judge_further(job, files, sink, watch, true);
+        let JudgedFurther {
+            sink,
+            survey,
+            answer,
+            further,
+        } = judged;
+        return Paged {
+            sink,
+            survey,
+            answer,
+            strict: Some(further),
+        };
+    }
+    let (surveyed, answer) = judge(job, files, sink, watch);
+    let Surveyed { sink, survey, .. } = surveyed;
+    Paged {
+        sink,
+        survey,
+        answer,
+        strict: None,
+    }
+}
+
+/// Judges the open file, keeps pictures of its frames, and writes their lines through a pen. None where memory was wanting for a line, or the device failed.
+fn judge_pictures_by_pen<'a, K: Sheet, O: Opener + Drop, W: Device, M: Meter + Drop>(
+    job: &Job<'_>,
+    files: &mut OpenedFiles<O>,
+    pen: Pen<'a, W>,
+    watch: Watch<M>,
+) -> (Pen<'a, W>, Option<(Found, Album)>)
+    requires source { files.old.failures < 2 ^ 64 - 1 }
+    requires name { pen.out.ghost_name ≡ K.name }
+    requires start { W.contents pen.out.now ≡ K.start }
+    requires was_failed { W.has_failed pen.out.now ≡ K.was_failed }
+    requires lines { K.opening ≡ bare }
+    requires listing { K.listing ≡ listings.Frames }
+    ensures answer { IfSome result.1 (λ kept. IsAnswerOf job.now.task job.now.options.target (left_of O.File.Read.remaining files.old.reader) kept.0.answer) }
+    ensures read { IfSome result.1 (λ kept. IsErrOf kept.0.answer Read → IsUnread files.old.failures files.old.reads files.new.failures files.new.reads) }
+    ensures further { IfSome result.1 (λ kept. IsFound job.now.options.strict (terms_of (mode_of job.now.task) job.now.options.target)
+        (left_of O.File.Read.remaining files.old.reader) kept.0.answer kept.0.strict) }
+{
+    let digests: LineSink<'_, '_, W, K> = LineSink::new(
+        job.alloc,
+        Listing::Frames,
+        Form::Lines(""),
+        pen,
+    );
+    let sink = PageSink {
+        sink: digests,
+        album: Album::new(job.alloc),
+    };
+    let Paged {
+        sink,
+        survey,
+        answer,
+        strict,
+    } = judge_page(job, files, sink, watch);
+    let PageSink { sink, album } = sink;
+    let is_whole = !sink.broke_off() && sink.failures == 0;
+    let found = Found {
+        answer,
+        strict,
+        survey,
+        seen: files.seen,
+        before: String::new(job.alloc),
+        change: None,
+    };
+    let kept = if is_whole { Some((found, album)) } else { None };
+    (sink.into_pen(), kept)
+}
+
+/// Judges the open file, keeps pictures of its frames, and writes their lines. None where memory was wanting for a line, or the device failed.
+fn judge_pictures<O: Opener + Drop, W: Device, M: Meter + Drop>(
+    job: &Job<'_>,
+    files: &mut OpenedFiles<O>,
+    lines: &mut W,
+    watch: Watch<M>,
+) -> Option<(Found, Album)>
+    requires source { files.old.failures < 2 ^ 64 - 1 }
+    ensures answer { IfSome result (λ kept. IsAnswerOf job.now.task job.now.options.target (left_of O.File.Read.remaining files.old.reader) kept.0.answer) }
+    ensures read { IfSome result (λ kept. IsErrOf kept.0.answer Read → IsUnread files.old.failures files.old.reads files.new.failures files.new.reads) }
+    ensures further { IfSome result (λ kept. IsFound job.now.options.strict (terms_of (mode_of job.now.task) job.now.options.target)
+        (left_of O.File.Read.remaining files.old.reader) kept.0.answer kept.0.strict) }
+{
+    let pen = Pen { out: lines };
+    let (_, kept) = judge_pictures_by_pen::<Brand, O, W, M>(job, files, pen, watch);
+    kept
+}
+
+/// Judges the open file, and writes a page on it. None where memory is wanting beside the judgement; then nothing is written.
+pub fn report_file<O: Opener + Drop, W: Device, M: Meter + Drop>(
+    job: &Job<'_>,
+    files: &mut OpenedFiles<O>,
+    out: &mut W,
+    meter: M,
+) -> Option<Found>
+    requires { files.old.failures < 2 ^ 64 - 1 }
+    ensures answer { IfSome result (λ found. IsAnswerOf job.now.task job.now.options.target (left_of O.File.Read.remaining files.old.reader) found.answer) }
+    ensures read { IfSome result (λ found. IsErrOf found.answer Read → IsUnread files.old.failures files.old.reads files.new.failures files.new.reads) }
+    ensures further { IfSome result (λ found. IsFound job.now.options.strict (terms_of (mode_of job.now.task) job.now.options.target)
+        (left_of O.File.Read.remaining files.old.reader) found.answer found.strict) }
+    ensures text { IfSome result (λ found. TakesText (λ _. Unit {0}) (W.contents out.old) (output_of W.contents W.has_failed W.holds_back out.new)) }
+    ensures untouched { IfNone result (out.new ≡ out.old) }
+{
+    let Ok(survey) = Survey::new(job.alloc) else {
+        return None;
+    };
+    let mut lines = WriteDevice::new(Vec::new(job.alloc));
+    let watch = Watch { survey, meter };
+    let (found, album) = judge_pictures(job, files, &mut lines, watch)?;
+    let digests = str::from_utf8(lines.writer.as_slice()).ok()?;
+    let mut page = Page::new(job.alloc);
+    let kept = Kept {
+        album: &album,
+        digests,
+    };
+    put_report(job, &mut page, &found, &kept);
+    if page.is_short() {
+        return None;
+    }
+    // Where this fails, the device tells so.
+    let _ = put_text(out, page.as_str());
+    Some(found)
+}

@@ -1,0 +1,195 @@
+//! How the answer on a file is told: lines, or an object of JSON.
+#![tactic(auto)]
+
+ghost use Rattle.std.specs.Prelude.{◌≡◌, ◌⊎◌, ℕ, List, true, false, Err};
+ghost use Rattle.h264_base.specs.declared.stop.Stop.TheVariants.{Memory, Write};
+ghost use Rattle.h264_report.specs.Sent.{Takes};
+ghost use Rattle.h264v.specs.Further.{BreakOne};
+
+use crate::command_line::Task;
+use crate::explaining::guide_of;
+use crate::job::{Done, Found, Job, mode_of};
+use crate::strictly::{put_strict_lines, put_strict_objects};
+use h264_base::Stop;
+use h264_report::head::Head;
+use h264_report::pages::{
+    Answer, Finding, Page, put_answer_fields, put_explanation, put_verdict_fields,
+};
+use h264_report::{Device, Ending, put_line, put_text, verdict_line};
+
+/// Where the answer of a judgement stands.
+pub fn finding_of(found: &Found) -> Option<Finding> {
+    Finding::of(
+        found.answer,
+        &found.survey,
+        &found.seen.start,
+        found.seen.ended,
+    )
+}
+
+/// Adds the last lines: what explains the answer, where that is asked, and the answer.
+fn put_last_lines(job: &Job<'_>, page: &mut Page, found: &Found) {
+    if job.options.explain {
+        put_explanation(
+            job.alloc,
+            page,
+            found.answer,
+            &found.survey,
+            finding_of(found),
+            guide_of(found.answer),
+        );
+    }
+    if let Some(strict) = &found.strict {
+        put_strict_lines(page, strict);
+    }
+    match verdict_line(job.alloc, mode_of(job.task), found.answer) {
+        Ok(line) => page.put(line.as_str()),
+        Err(_) => page.give_up(),
+    }
+    page.put("\n");
+}
+
+/// Adds the object of the answer.
+fn put_verdict_object(job: &Job<'_>, page: &mut Page, found: &Found) {
+    page.open_object(job.file, "verdict");
+    put_verdict_fields(
+        job.alloc,
+        page,
+        found.answer,
+        &found.survey,
+        finding_of(found),
+        guide_of(found.answer),
+    );
+    page.close_object();
+}
+
+/// The last line of an answer of memory or of a device.
+fn unjudged_line(stop: Stop) -> &'static str {
+    match stop {
+        Stop::Read => "read failed",
+        Stop::Write => "write failed",
+        _ => "memory",
+    }
+}
+
+/// What is said of an answer for which there was no memory: that a device failed, where the answer is that; else that memory was wanting.
+fn short_of(answer: Answer) -> Stop
+    ensures stop { (Err result ≡ answer) ⊎ (result ≡ Memory) }
+    ensures write { answer ≡ Err Write → result ≡ Write }
+{
+    match answer {
+        Err(Stop::Read) => Stop::Read,
+        Err(Stop::Write) => Stop::Write,
+        _ => Stop::Memory,
+    }
+}
+
+/// Adds the text that says which sizes follow one another.
+fn put_change(page: &mut Page, first: Head, other: Head) {
+    page.put("size changes from ");
+    page.number(first.width as u64);
+    page.put("x");
+    page.number(first.height as u64);
+    page.put(" to ");
+    page.number(other.width as u64);
+    page.put("x");
+    page.number(other.height as u64);
+    page.put(", and YUV4MPEG2 has no second header");
+}
+
+/// Adds the object that says which sizes follow one another.
+fn put_change_object(job: &Job<'_>, page: &mut Page, first: Head, other: Head) {
+    let mut text = Page::new(job.alloc);
+    put_change(&mut text, first, other);
+    if text.is_short() {
+        page.give_up();
+    }
+    page.open_object(job.file, "change");
+    page.text_field("text", text.as_str());
+    page.close_object();
+}
+
+/// Adds what is written at the end of a judgement.
+fn put_end(job: &Job<'_>, page: &mut Page, found: &Found) {
+    if !job.options.json || job.task == Task::Info {
+        page.put(found.before.as_str());
+    }
+    if !job.options.json {
+        if let Some((first, other)) = found.change {
+            put_change(page, first, other);
+            page.put("\n");
+        }
+        put_last_lines(job, page, found);
+        return;
+    }
+    if let Some((first, other)) = found.change {
+        put_change_object(job, page, first, other);
+    }
+    if let Some(strict) = &found.strict {
+        put_strict_objects(page, job.file, strict);
+    }
+    put_verdict_object(job, page, found);
+}
+
+/// Writes the end of a judgement: lines, or an object of JSON; nothing where quiet is asked.
+pub fn put_found<W: Device>(job: &Job<'_>, out: &mut W, found: &Found) -> Done
+    ensures answer { (result.ending.answer ≡ found.now.answer) ⊎ (result.ending.answer ≡ Err Memory) }
+    ensures write { found.now.answer ≡ Err Write → result.ending.answer ≡ Err Write }
+    ensures text { (end : List ℕ) × Takes result.ending.written (W.contents out.old) (W.contents out.new) end }
+    ensures handed_over { result.ending.written ≡ true → W.holds_back out.new ≡ false }
+    ensures quiet { result.ending.written ≡ true → W.has_failed out.new ≡ W.has_failed out.old }
+    ensures failed { result.ending.written ≡ false → W.has_failed out.new ≡ true }
+    ensures broken { result.is_broken ≡ true → BreakOne found.now.strict }
+    ensures unbroken { result.is_broken ≡ false → BreakOne found.now.strict → ⊥ }
+{
+    let is_broken = found.is_broken();
+    let mut page = Page::new(job.alloc);
+    if !job.options.quiet {
+        put_end(job, &mut page, found);
+    }
+    let mut lines = Page::new(job.alloc);
+    lines.put_lines(job.prefix, page.as_str());
+    if page.is_short() || lines.is_short() {
+        let stop = short_of(found.answer);
+        let ending = Ending {
+            answer: Err(stop),
+            written: put_line(job.prefix, unjudged_line(stop), out),
+        };
+        return Done { ending, is_broken };
+    }
+    let ending = Ending {
+        answer: found.answer,
+        written: put_text(out, lines.as_str()),
+    };
+    Done { ending, is_broken }
+}
+
+/// Writes that a file was not judged, by an answer of memory or of a device.
+pub fn put_unjudged<W: Device>(job: &Job<'_>, out: &mut W, stop: Stop) -> Done
+    ensures answer { result.ending.answer ≡ Err stop }
+    ensures text { (end : List ℕ) × Takes result.ending.written (W.contents out.old) (W.contents out.new) end }
+    ensures handed_over { result.ending.written ≡ true → W.holds_back out.new ≡ false }
+    ensures quiet { result.ending.written ≡ true → W.has_failed out.new ≡ W.has_failed out.old }
+    ensures failed { result.ending.written ≡ false → W.has_failed out.new ≡ true }
+    ensures broken { result.is_broken ≡ false }
+{
+    let mut page = Page::new(job.alloc);
+    page.open_object(job.file, "verdict");
+    put_answer_fields(&mut page, Err(stop));
+    page.close_object();
+    let written = if job.options.quiet {
+        put_text(out, "")
+    } else if job.options.json && !page.is_short() {
+        put_text(out, page.as_str())
+    } else {
+        put_line(job.prefix, unjudged_line(stop), out)
+    };
+    let ending = Ending {
+        answer: Err(stop),
+        written,
+    };
+    Done {
+        ending,
+        is_broken: false,
+    }
+}
