@@ -2,6 +2,8 @@
 and bumping (C.4.4, C.4.5). It knows nothing of `h264v`, and reads no slice data. A stream that is not legal may give anything."""
 import dataclasses
 
+from .bits import Bits
+
 SLICE, IDR, SEQUENCE, PICTURE = 1, 5, 7, 8
 # No header that this reads is longer, in bytes.
 LONGEST_HEADER = 2048
@@ -12,25 +14,9 @@ MOST_FRAMES = 16
 EXTENDED_SAR = 255
 
 
-class Bits:
-    """Bits of a unit after its header, without emulation prevention bytes (7.3.1)."""
-
-    def __init__(self, unit):
-        body = unit[1:LONGEST_HEADER].replace(b"\0\0\3", b"\0\0")
-        self.bits, self.at = "".join(f"{it:08b}" for it in body), 0
-
-    def u(self, n):
-        self.at += n
-        return int(self.bits[self.at - n : self.at] or "0", 2)
-
-    def ue(self):
-        zeros = self.bits.index("1", self.at) - self.at
-        self.at += zeros
-        return self.u(zeros + 1) - 1
-
-    def se(self):
-        number = self.ue()
-        return (number + 1) // 2 if number % 2 else -(number // 2)
+def after_header(unit):
+    """The bits of a unit after its header, without emulation prevention bytes (7.3.1)."""
+    return Bits(unit[1:LONGEST_HEADER].replace(b"\0\0\3", b"\0\0"))
 
 
 @dataclasses.dataclass
@@ -168,7 +154,7 @@ def operations_of(bits):
 
 def slice_of(unit, pictures, sequences):
     """Reads a slice header up to the marking, and its sequence parameter set."""
-    bits, header = Bits(unit), unit[0]
+    bits, header = after_header(unit), unit[0]
     kind, reference = header & 31, header >> 5 & 3
     first, slice_type, pps = bits.ue(), bits.ue() % 5, bits.ue()
     sequence_id, bottom_present, active, weighted = pictures[pps]
@@ -367,10 +353,10 @@ def counts_written(stream):
         unit = unit.rstrip(b"\0")
         kind = unit[0] & 31
         if kind == SEQUENCE:
-            number, found = sequence_of(Bits(unit))
+            number, found = sequence_of(after_header(unit))
             sequences[number] = found
         elif kind == PICTURE:
-            bits = Bits(unit)
+            bits = after_header(unit)
             number, sequence = bits.ue(), bits.ue()
             bits.u(1)
             bottom, _, active = bits.u(1), bits.ue(), bits.ue() + 1

@@ -1,7 +1,8 @@
 """Other HRD parameters, times and delays in a stream that has NAL HRD parameters with one schedule, by chance."""
 import dataclasses
 
-from .schedules import BUFFERING_PERIOD, FILLER, PIC_TIMING, SEI, SET, SLICES, Bits, Set, messages, rbsp, units
+from .bits import Bits
+from .schedules import BUFFERING_PERIOD, FILLER, PIC_TIMING, SEI, SET, SLICES, Set, messages, rbsp, units
 from .words import ue
 
 MOST = 2**32 - 1

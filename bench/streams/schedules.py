@@ -5,6 +5,8 @@ import dataclasses
 from fractions import Fraction
 from math import ceil, floor
 
+from .bits import Bits
+
 SEI, SET, FILLER = 6, 7, 12
 SLICES = (1, 5)
 BUFFERING_PERIOD, PIC_TIMING = 0, 1
@@ -16,22 +18,6 @@ MAX_MBPS = {
     40: 245760, 41: 245760, 42: 522240, 50: 589824, 51: 983040, 52: 2073600,
 }  # fmt: skip
 MIN_CR = {31: 4, 32: 4, 40: 4}
-
-
-class Bits:
-    """Reads elements from bytes; past their end come zeros."""
-
-    def __init__(self, data, at=0):
-        self.text, self.at = "".join(f"{byte:08b}" for byte in data) + "0" * 512, at
-
-    def u(self, size):
-        self.at += size
-        return int(self.text[self.at - size : self.at] or "0", 2)
-
-    def ue(self):
-        zeros = self.text.index("1", self.at) - self.at
-        self.at += zeros
-        return self.u(zeros + 1) - 1
 
 
 def units(stream):
