@@ -28,3 +28,9 @@ pub whole-outcome : (on : Bool) (pictures : List CodedPicture) (picture : Option
 whole-outcome on [] picture o work whole e h k c = absurd (subst (HoldsOpen None) e h)
 whole-outcome false (p ∷ pictures) picture o work whole e h k c = absurd (subst (HoldsOpen None) e h)
 whole-outcome true (p ∷ pictures) picture o work whole e h k c = rw ((subst (HoldsOpen (Some p)) e h).following, c p.first.sps.frame_size.width (picture_size p.first.sps) (last_slice p).macroblocks k) refl
+
+pub none-whole : (on : Bool) (pictures : List CodedPicture) (picture : Option OpenPicture) → picture ≡ None → HoldsOpen (open_of on pictures) picture → answers {A = Unit {0}} (Ok tt) ≡ steps_outcome (if on then whole_picture pictures else [])
+none-whole true [] picture e h = refl
+none-whole false [] picture e h = refl
+none-whole true (p ∷ pictures) picture e h = absurd (subst (HoldsOpen (Some p)) e h)
+none-whole false (p ∷ pictures) picture e h = refl

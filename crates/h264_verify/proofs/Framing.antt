@@ -20,7 +20,7 @@ use Rattle.h264_dpb.specs.Bumping.{is_held}
 use Rattle.h264_dpb.specs.Turns.{names}
 use Rattle.h264_verify.specs.Sound.{AreSound}
 use Rattle.h264_verify.proofs.Sound.{ended-sound-of, after-few, after-among}
-use Rattle.h264_verify.specs.Keeping.{KeepsFrames, KeepsDecoder, KeepsSlices, KeepsSomeEnd, KeepsSomeFrames, HoldsOpen, HoldsEnd, held_by}
+use Rattle.h264_verify.specs.Keeping.{KeepsFrames, WhereMade, KeepsSlices, KeepsSomeEnd, KeepsSomeFrames, HoldsOpen, HoldsEnd, held_by}
 use Rattle.h264_verify.specs.Outcome.{Outcome, answers, gives, Plays}
 use Rattle.h264_verify.specs.Order.{whole_picture}
 use Rattle.h264_base.specs.declared.stop.Stop.TheVariants.{No}
@@ -30,6 +30,7 @@ use Rattle.h264_dpb.specs.Ending.{ended_of}
 use Rattle.h264_verify.specs.StepOutcome.{steps_outcome}
 use Rattle.h264_verify.specs.Framing.{EndsFrames}
 use Rattle.h264_verify.proofs.Playing.{gives-plays}
+use Rattle.h264_verify.proofs.Made.{IsQuiet, some-made, full-made, quiet-made}
 
 -- the picture that may go on, by what is kept of it
 pub record IsOpen (on : Bool) (pictures : List CodedPicture) (o : OpenPicture) : Type 0 where
@@ -75,14 +76,14 @@ ended-among p ps e held is h s r =
     let number : e.picture ≡ length ps = ap (λ (x : Ended). x.picture) is in
     subst (λ (n : ℕ). is_held (names held) n ≡ true) (sym number) (subst (λ (x : References). is_held (names x) (length ps) ≡ true) (sym h) (after-among p ps s (sym reference ∙ r)))
 
-pub some-end : (slices : Slices) (d : Decoder) (o : OpenPicture) → slices.picture ≡ Some o → KeepsSomeFrames modes.Full true slices d → KeepsSomeEnd o.ended slices.held d
-unfolding KeepsDecoder
-some-end slices d o e k =
+pub some-end : (slices : Slices) (decoder : Option Decoder) (d : Decoder) (o : OpenPicture) → decoder ≡ Some d → slices.picture ≡ Some o → KeepsSomeFrames true slices decoder → KeepsSomeEnd o.ended slices.held d
+some-end slices decoder d o is e k =
+    let frames = some-made _ k.mode decoder d is k.keeps in
     let i = is-open (goes_on k.before) (runs_of k.before) slices.picture o e k.slices_are.kept.picture k.slices_are.kept.end in
-    record { frames = k.frames; p = i.p; ps = i.ps; is = i.end; few = end-few k.before slices o i k.slices_are; marked = ended-among i.p i.ps o.ended slices.held i.end (held-end k.before slices o i k.slices_are) (end-sound k.before slices o i k.slices_are); keeps = subst (λ (ps : List CodedPicture). KeepsFrames k.frames true false ps d) i.are (subst (λ (on : Bool). KeepsFrames k.frames on false (runs_of k.before) d) i.goes k.keeps) }
+    record { frames = k.frames; p = i.p; ps = i.ps; is = i.end; few = end-few k.before slices o i k.slices_are; marked = ended-among i.p i.ps o.ended slices.held i.end (held-end k.before slices o i k.slices_are) (end-sound k.before slices o i k.slices_are); keeps = subst (λ (ps : List CodedPicture). KeepsFrames k.frames true false ps d) i.are (subst (λ (on : Bool). KeepsFrames k.frames on false (runs_of k.before) d) i.goes frames.1) }
 
 -- the picture that goes on has ended
-module _ {S : Type 0} (took : S → List Call → Type 0) (failures : S → ℕ) (frames : ℕ → Frame) (new : Decoder) (s s' : S) (r : Result (Unit {0}) Stop) where
+module _ {S : Type 0} (took : S → List Call → Type 0) (failures : S → ℕ) (frames : ℕ → Frame) (new : Option Decoder) (s s' : S) (r : Result (Unit {0}) Stop) where
   pub ends-open : (on : Bool) (pictures : List CodedPicture) (o : OpenPicture) (i : IsOpen on pictures o) →
       EndsFrames modes.Full took failures frames true true (i.p ∷ i.ps) (steps_outcome (end_frames modes.Full (i.p ∷ i.ps))) new s s' r →
       EndsFrames modes.Full took failures frames on true pictures (steps_outcome (if on then end_frames modes.Full pictures else [])) new s s' r
@@ -106,32 +107,26 @@ is-whole on pictures o i e =
     whole-of i.p i.ps (subst (λ (ps : List CodedPicture). answers {A = Unit {0}} (Ok tt) ≡ steps_outcome (whole_picture ps)) i.are (subst (λ (b : Bool). answers {A = Unit {0}} (Ok tt) ≡ steps_outcome (if b then whole_picture pictures else [])) i.goes e))
 
 -- nothing ends
-pub none-ends : {S : Type 0} (took : S → List Call → Type 0) (failures : S → ℕ) (frames : ℕ → Frame) (d : Decoder) (s : S) (on : Bool) (pictures : List CodedPicture) (kept : Option OpenPicture) → kept ≡ None → HoldsOpen (open_of on pictures) kept → KeepsFrames frames on false pictures d → EndsFrames modes.Full took failures frames on true pictures (steps_outcome (if on then end_frames modes.Full pictures else [])) d s s (Ok tt)
-unfolding KeepsDecoder
+pub none-ends : {S : Type 0} (took : S → List Call → Type 0) (failures : S → ℕ) (frames : ℕ → Frame) (d : Decoder) (s : S) (on : Bool) (pictures : List CodedPicture) (kept : Option OpenPicture) → kept ≡ None → HoldsOpen (open_of on pictures) kept → KeepsFrames frames on false pictures d → EndsFrames modes.Full took failures frames on true pictures (steps_outcome (if on then end_frames modes.Full pictures else [])) (Some d) s s (Ok tt)
 none-ends took failures frames d s on pictures kept e h k =
     let n = none-open on pictures kept e h frames d k in
     record {
       made = frames;
       same = λ i j. refl;
       plays = subst (λ (steps : List Step). Plays (took_with frames took) failures (λ (x : Unit {0}). x) (steps_outcome steps) s s (Ok tt)) (sym n.1) (gives-plays (took_with frames took) failures (λ (x : Unit {0}). x) tt s);
-      keeps = n.0;
+      keeps = full-made _ modes.Full d refl n.0;
     }
 
 -- the number of a picture that ends is below that of pictures
-pub few-end : (slices : Slices) (o : OpenPicture) (d : Decoder) → slices.picture ≡ Some o → KeepsSomeFrames modes.Full true slices d → slices.pictures ≤ 2 ^ 42 → o.ended.picture < 2 ^ 62
+pub few-end : (slices : Slices) (o : OpenPicture) (decoder : Option Decoder) → slices.picture ≡ Some o → KeepsSomeFrames true slices decoder → slices.pictures ≤ 2 ^ 42 → o.ended.picture < 2 ^ 62
 unfolding ended_of
-few-end slices o d e k h =
+few-end slices o decoder e k h =
     let i = is-open (goes_on k.before) (runs_of k.before) slices.picture o e k.slices_are.kept.picture k.slices_are.kept.end in
     let number : o.ended.picture ≡ length i.ps = ap (λ (x : Ended). x.picture) i.end in
     let all : slices.pictures ≡ length (i.p ∷ i.ps) = k.slices_are.kept.pictures_are ∙ ap (λ (ps : List CodedPicture). length ps) i.are in
     omega (arith, number, all, h)
 
 -- ---- where no frames are made
-
-abbrev pub IsQuiet : Mode → Type 0
-IsQuiet modes.Units = Unit {0}
-IsQuiet modes.Headers = Unit {0}
-IsQuiet modes.Full = ⊥
 
 quiet-steps : (m : Mode) → IsQuiet m → (on : Bool) (pictures : List CodedPicture) → (if on then end_frames m pictures else []) ≡ []
 quiet-steps modes.Units q true [] = refl
@@ -142,20 +137,14 @@ quiet-steps modes.Headers q true (p ∷ ps) = refl
 quiet-steps modes.Headers q false pictures = refl
 quiet-steps modes.Full q on pictures = absurd q
 
-pub quiet-kept : (m : Mode) → IsQuiet m → (frames : ℕ → Frame) (on ended : Bool) (pictures : List CodedPicture) (d : Decoder) → KeepsDecoder m frames on ended pictures d
-unfolding KeepsDecoder
-quiet-kept modes.Units q frames on ended pictures d = tt
-quiet-kept modes.Headers q frames on ended pictures d = tt
-quiet-kept modes.Full q frames on ended pictures d = absurd q
-
-pub quiet-ends : {S : Type 0} (m mode : Mode) → IsQuiet m → mode ≡ m → (took : S → List Call → Type 0) (failures : S → ℕ) (frames : ℕ → Frame) (d : Decoder) (s : S) (on ends : Bool) (pictures : List CodedPicture) → EndsFrames mode took failures frames on ends pictures (steps_outcome (if ends then (if on then end_frames mode pictures else []) else [])) d s s (Ok tt)
-quiet-ends m mode q e took failures frames d s on ends pictures = subst (λ (x : Mode). EndsFrames x took failures frames on ends pictures (steps_outcome (if ends then (if on then end_frames x pictures else []) else [])) d s s (Ok tt)) (sym e) (record {
+pub quiet-ends : {S : Type 0} (mode : Mode) → IsQuiet mode → (took : S → List Call → Type 0) (failures : S → ℕ) (frames : ℕ → Frame) (decoder : Option Decoder) → decoder ≡ None → (s : S) (on ends : Bool) (pictures : List CodedPicture) → EndsFrames mode took failures frames on ends pictures (steps_outcome (if ends then (if on then end_frames mode pictures else []) else [])) decoder s s (Ok tt)
+quiet-ends mode q took failures frames decoder n s on ends pictures = record {
   made = frames;
   same = λ i j. refl;
   plays = subst (λ (steps : List Step). Plays (took_with frames took) failures (λ (x : Unit {0}). x) (steps_outcome steps) s s (Ok tt)) (sym (none ends)) (gives-plays (took_with frames took) failures (λ (x : Unit {0}). x) tt s);
-  keeps = quiet-kept m q frames on ends pictures d;
-})
+  keeps = quiet-made _ mode decoder n q;
+}
   where
-    none : (b : Bool) → (if b then (if on then end_frames m pictures else []) else []) ≡ []
-    none true = quiet-steps m q on pictures
+    none : (b : Bool) → (if b then (if on then end_frames mode pictures else []) else []) ≡ []
+    none true = quiet-steps mode q on pictures
     none false = refl

@@ -1,43 +1,34 @@
 -- What is kept of the frames, by the mode.
-use Rattle.std.proofs.Common.{◌≡◌, ℕ, true, false, Bool, ◌∷◌, [], List, length}
+use Rattle.std.proofs.Common.{◌≡◌, ℕ, true, false, Bool, ◌∷◌, [], List, Option, length}
 use Rattle.h264_base.specs.declared.mode.Mode.{Mode}
-use Rattle.h264_base.specs.declared.mode.Mode.TheVariants as modes
 use Rattle.h264_plane.specs.declared.frame.Frame.{Frame}
 use Rattle.h264_verify.specs.declared.decoder.Decoder.{Decoder}
 use Rattle.h264_verify.specs.Pictures.{CodedSlice, CodedPicture, open_of, begins_after}
 use Rattle.h264_verify.specs.Buffering.{after_all}
 use Rattle.h264_picture.specs.declared.work.Work.{Work}
-use Rattle.h264_verify.specs.Keeping.{KeepsFrames, KeepsDecoder, FillsFrames, KeepsGap, EntersSome, EntersBy, HoldsCoded, HoldsData, HoldsNewest}
+use Rattle.h264_verify.specs.Keeping.{KeepsFrames, WhereMade, FillsFrames, EntersSome, EntersBy, HoldsCoded, HoldsNewest}
 use Rattle.h264_header.specs.declared.header.Header.{Header}
+use Rattle.h264_verify.proofs.Made.{made-then}
 
 -- there is a picture that begins
 pub enters-some : (frames : ℕ → Frame) (begins : Bool) (s : CodedSlice) (on : Bool) (pictures : List CodedPicture) (d : Decoder) → begins ≡ true → EntersBy frames begins s on pictures d → EntersSome d
 enters-some frames true s on pictures d b k = record { frames = frames; slice = s; pictures = pictures; keeps = k }
 enters-some frames false s on pictures d b k = cc
 
-coded-by : (frames : ℕ → Frame) (on : Bool) (pictures : List CodedPicture) (d : Decoder) → KeepsFrames frames on false pictures d → HoldsCoded (open_of on pictures) d.work
+-- the macroblocks of the picture that may go on
+pub coded-by : (frames : ℕ → Frame) (on : Bool) (pictures : List CodedPicture) (d : Decoder) → KeepsFrames frames on false pictures d → HoldsCoded (open_of on pictures) d.work
 coded-by frames on [] d h = tt
 coded-by frames true (p ∷ ps) d h = h.picture.so_far.holds
 coded-by frames false (p ∷ ps) d h = tt
 
--- the macroblocks of the picture that may go on
-pub data-held : (mode : Mode) (frames : ℕ → Frame) (on : Bool) (pictures : List CodedPicture) (d : Decoder) → KeepsDecoder mode frames on false pictures d → HoldsData mode (open_of on pictures) d.work
-unfolding KeepsDecoder HoldsData
-data-held modes.Units frames on pictures d h = tt
-data-held modes.Headers frames on pictures d h = tt
-data-held modes.Full frames on pictures d h = coded-by frames on pictures d h
-
 -- once the newest picture has ended
-gap-by : (frames : ℕ → Frame) (on : Bool) (pictures : List CodedPicture) (d : Decoder) → KeepsFrames frames on true pictures d → FillsFrames frames (after_all pictures) (length pictures) d
+pub gap-by : (frames : ℕ → Frame) (on : Bool) (pictures : List CodedPicture) (d : Decoder) → KeepsFrames frames on true pictures d → FillsFrames frames (after_all pictures) (length pictures) d
 gap-by frames on [] d h = record { output = h.output; settled = h.picture }
 gap-by frames true (p ∷ ps) d h = record { output = h.output; settled = h.picture }
 gap-by frames false (p ∷ ps) d h = record { output = h.output; settled = h.picture }
 
-pub ended-gap : (mode : Mode) (frames : ℕ → Frame) (on : Bool) (pictures : List CodedPicture) (d : Decoder) → KeepsDecoder mode frames on true pictures d → KeepsGap mode frames (after_all pictures) (length pictures) d
-unfolding KeepsDecoder KeepsGap
-ended-gap modes.Units frames on pictures d h = tt
-ended-gap modes.Headers frames on pictures d h = tt
-ended-gap modes.Full frames on pictures d h = gap-by frames on pictures d h
+pub ended-gap : (mode : Mode) (frames : ℕ → Frame) (on : Bool) (pictures : List CodedPicture) (decoder : Option Decoder) → WhereMade mode (KeepsFrames frames on true pictures) decoder → WhereMade mode (FillsFrames frames (after_all pictures) (length pictures)) decoder
+ended-gap mode frames on pictures decoder h = made-then _ _ mode decoder (gap-by frames on pictures) h
 
 -- what a slice that is no first one finds of its picture's macroblocks
 pub holds-newest : (on : Bool) (pictures : List CodedPicture) (h : Header) (begins : Bool) (work : Work) → begins ≡ begins_after (open_of on pictures) h → HoldsCoded (open_of on pictures) work → HoldsNewest begins pictures work

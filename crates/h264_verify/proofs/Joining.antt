@@ -1,5 +1,5 @@
 -- How a unit joins those before it.
-use Rattle.std.proofs.Common.{◌≡◌, ℕ, ◌+◌, ◌==◌, ◌||◌, ◌&&◌, not, true, false, Bool, ◌∷◌, [], List, Some, Result, Ok, Err, OnOk, refl, ap, sym, subst, ◌∙◌, length}
+use Rattle.std.proofs.Common.{◌≡◌, ℕ, ◌+◌, ◌==◌, ◌||◌, ◌&&◌, not, true, false, Bool, ◌∷◌, [], List, Option, Some, None, Result, Ok, Err, OnOk, refl, ap, sym, subst, ◌∙◌, length}
 use native.Mathlib.Numerals.{unary_clauses}
 use Rattle.h264_base.specs.declared.mode.Mode.{Mode}
 use Rattle.h264_base.specs.declared.mode.Mode.TheVariants as modes
@@ -23,7 +23,7 @@ use Rattle.h264_sps.specs.declared.sps.Sps.{Sps}
 use Rattle.h264_pps.specs.declared.Pps.{Pps}
 use Rattle.h264_header.specs.Layout.{sets_of}
 use Rattle.h264_verify.specs.KeepingUnits.{Keeps, KeepsWithin, KeepsSome}
-use Rattle.h264_verify.specs.Keeping.{KeepsSomeSlice, KeepsFrames, KeepsDecoder, EntersDecoder, EntersBy, IsLeft, KeepsSlices}
+use Rattle.h264_verify.specs.Keeping.{KeepsSomeSlice, KeepsFrames, WhereMade, IsLeft, KeepsSlices}
 use Rattle.h264_header.specs.declared.header.Header.{Header}
 use Rattle.h264_verify.specs.Units.{is_slice}
 use Rattle.h264_verify.specs.Order.{content_steps}
@@ -33,6 +33,7 @@ use Rattle.h264_verify.specs.Turning.{Joins}
 use Rattle.h264_verify.proofs.Playing.{plays-stops, plays-on, plays-then, choice-true, choice-false}
 use Rattle.h264_verify.proofs.Entering.{IsNoSlice, EndsBefore, passed-keeps}
 use Rattle.h264_verify.specs.declared.slices.Slices.{Slices}
+use Rattle.h264_verify.proofs.Made.{made-then, some-made, none-made}
 
 module _ {S : Type 0} (mode : Mode) (frames : ℕ → Frame) (took : S → List Call → Type 0) (failures : S → ℕ) (ended : ℕ) (before : History) (unit : NalUnit) (content : Outcome Content) (new : State) where
   -- what was read is judged, and frames were made
@@ -71,14 +72,11 @@ left-by frames true false (p ∷ ps) d h = record { format = h.format; output = 
 left-by frames false true (p ∷ ps) d h = h
 left-by frames false false (p ∷ ps) d h = h
 
-left-decoder : (mode : Mode) (frames : ℕ → Frame) (ends on : Bool) (pictures : List CodedPicture) (d : Decoder) → KeepsDecoder mode frames on ends pictures d → KeepsDecoder mode frames (not ends && on) false pictures d
-unfolding KeepsDecoder
-left-decoder modes.Units frames ends on pictures d h = tt
-left-decoder modes.Headers frames ends on pictures d h = tt
-left-decoder modes.Full frames ends on pictures d h = left-by frames ends on pictures d h
+left-decoder : (mode : Mode) (frames : ℕ → Frame) (ends on : Bool) (pictures : List CodedPicture) (d : Option Decoder) → WhereMade mode (KeepsFrames frames on ends pictures) d → WhereMade mode (KeepsFrames frames (not ends && on) false pictures) d
+left-decoder mode frames ends on pictures d h = made-then _ _ mode d (left-by frames ends on pictures) h
 
-module _ (mode : Mode) (frames : ℕ → Frame) (before : History) (unit : NalUnit) (d : Decoder) (k : KeepsDecoder mode frames (goes_on before) (ends_picture (nal_unit_type (header_of unit))) (runs_of before) d) where
-  pub passed-decoder : (c : Content) → IsNoSlice c → KeepsDecoder mode frames (goes_on (record { unit = unit; content = c } ∷ before)) false (runs_of (record { unit = unit; content = c } ∷ before)) d
+module _ (mode : Mode) (frames : ℕ → Frame) (before : History) (unit : NalUnit) (d : Option Decoder) (k : WhereMade mode (KeepsFrames frames (goes_on before) (ends_picture (nal_unit_type (header_of unit))) (runs_of before)) d) where
+  pub passed-decoder : (c : Content) → IsNoSlice c → WhereMade mode (KeepsFrames frames (goes_on (record { unit = unit; content = c } ∷ before)) false (runs_of (record { unit = unit; content = c } ∷ before))) d
   passed-decoder (contents.OfSps set) h = left-decoder mode frames (ends_picture (nal_unit_type (header_of unit))) (goes_on before) (runs_of before) d k
   passed-decoder (contents.OfPps set) h = left-decoder mode frames (ends_picture (nal_unit_type (header_of unit))) (goes_on before) (runs_of before) d k
   passed-decoder (contents.OfSlice h ms) n = absurd n
@@ -90,7 +88,7 @@ passed-joins mode frames before unit c kind old new n b k keeps units sets left 
   units = units-with before (record { unit = unit; content = c }) old.units new.units units keeps.units;
   sets = sets;
   slices = passed-keeps before unit kind old.slices new.slices k keeps.slices left due same c n b;
-  decoder = subst (λ d. KeepsDecoder mode frames (goes_on (record { unit = unit; content = c } ∷ before)) false (runs_of (record { unit = unit; content = c } ∷ before)) d) (sym decoder) (passed-decoder mode frames before unit old.decoder (subst (λ (x : ℕ). KeepsDecoder mode frames (goes_on before) (ends_picture x) (runs_of before) old.decoder) k keeps.decoder) c n);
+  decoder = subst (λ d. WhereMade mode (KeepsFrames frames (goes_on (record { unit = unit; content = c } ∷ before)) false (runs_of (record { unit = unit; content = c } ∷ before))) d) (sym decoder) (passed-decoder mode frames before unit old.decoder (subst (λ (x : ℕ). WhereMade mode (KeepsFrames frames (goes_on before) (ends_picture x) (runs_of before)) old.decoder) k keeps.decoder) c n);
 }
 
 pub units-other : (kind : ℕ) (before : History) (unit : NalUnit) → joined_other modes.Units kind before unit ≡ joined modes.Units before unit (gives contents.Passed)
@@ -119,17 +117,15 @@ goes-newest false [] h begins e f = cc
 goes-newest false (p ∷ ps) h begins e f = cc
 
 -- frames by the mode
-pub header-decoder : (frames : ℕ → Frame) (on ended : Bool) (pictures : List CodedPicture) (d : Decoder) → KeepsDecoder modes.Headers frames on ended pictures d
-unfolding KeepsDecoder
-header-decoder frames on ended pictures d = tt
+pub full-decoder : (P : Decoder → Type 0) (o : Option Decoder) (d : Decoder) → o ≡ Some d → WhereMade modes.Full P o → P d
+full-decoder P o d e h = (some-made P modes.Full o d e h).1
 
-pub enters-full : (frames : ℕ → Frame) (begins : Bool) (s : CodedSlice) (on : Bool) (pictures : List CodedPicture) (d : Decoder) → EntersDecoder modes.Full frames begins s on pictures d → EntersBy frames begins s on pictures d
-unfolding EntersDecoder
-enters-full frames begins s on pictures d h = h
+pub no-decoder : (P : Decoder → Type 0) (o : Option Decoder) → o ≡ None → WhereMade modes.Full P o → ⊥
+no-decoder P o e h = none-made P modes.Full o e h
 
 -- there are units of which this is kept, before a slice
-pub some-slice : (mode : Mode) (state : State) → KeepsSome mode false state → KeepsSomeSlice mode state.slices state.sets state.decoder
-some-slice mode state k = record { frames = k.frames; before = k.before; sets_are = k.keeps.sets; slices_are = k.keeps.slices; keeps = k.keeps.decoder }
+pub some-slice : (mode : Mode) (state : State) → KeepsSome mode false state → KeepsSomeSlice state.slices state.sets state.decoder
+some-slice mode state k = record { mode = mode; frames = k.frames; before = k.before; sets_are = k.keeps.sets; slices_are = k.keeps.slices; keeps = k.keeps.decoder }
 
 -- the pictures with one more slice
 pub runs-with : (before : History) (unit : NalUnit) (h : Header) (ms : List CodedMacroblock) (maps : Maps) (begins : Bool) (sets : Pps × Sps) → begins ≡ begins_at before h → maps ≡ maps_of before → sets_of maps h.pic_parameter_set_id.value ≡ Some sets → joined_to begins (with_sets unit h ms sets) (runs_of before) ≡ runs_of (record { unit = unit; content = contents.OfSlice h ms } ∷ before)
@@ -138,5 +134,5 @@ runs-with before unit h ms maps begins sets b maps-are named =
     ∙ ap (λ o. joined_by (option_map (with_sets unit h ms) o) (goes_on before) (runs_of before)) (sym named ∙ ap (λ m. sets_of m h.pic_parameter_set_id.value) maps-are)
 
 -- the rest of what is kept stays
-pub within : {mode : Mode} {frames made : ℕ → Frame} {before : History} {ended : Bool} (state : State) (slices : Slices) (decoder : Decoder) → Keeps mode frames before state → KeepsSlices before ended slices → KeepsDecoder mode made (goes_on before) ended (runs_of before) decoder → KeepsWithin mode made before ended (record state { slices = slices; decoder = decoder })
+pub within : {mode : Mode} {frames made : ℕ → Frame} {before : History} {ended : Bool} (state : State) (slices : Slices) (decoder : Option Decoder) → Keeps mode frames before state → KeepsSlices before ended slices → WhereMade mode (KeepsFrames made (goes_on before) ended (runs_of before)) decoder → KeepsWithin mode made before ended (record state { slices = slices; decoder = decoder })
 within state slices decoder k s d = record { units = k.units; sets = k.sets; slices = s; decoder = d }

@@ -1,7 +1,6 @@
 -- A slice is judged: what comes to pass, one part after another.
 use Rattle.std.proofs.Common.{◌≡◌, ℕ, ◌*◌, Bool, true, false, List, [], ◌++◌, Option, Some, Result, Ok, Err, refl, ap, sym, ◌∙◌, subst, append_assoc, if◌then◌else◌}
 use Rattle.h264_base.specs.declared.mode.Mode.{Mode}
-use Rattle.h264_base.specs.declared.mode.Mode.TheVariants as modes
 use Rattle.h264_base.specs.declared.stop.Stop.{Stop}
 use Rattle.h264_units.specs.Stream.{NalUnit}
 use Rattle.h264_sps.specs.declared.sps.Sps.{Sps}
@@ -25,11 +24,12 @@ use Rattle.h264_verify.specs.Slices.{first_mb_demands, is_idr_due}
 use Rattle.h264_verify.specs.Order.{slice_steps}
 use Rattle.h264_verify.specs.Pictures.{CodedSlice, CodedPicture, with_sets, open_of, begins_after, begins_at, runs_of}
 use Rattle.h264_verify.specs.Order.{closing_demands}
-use Rattle.h264_verify.specs.Keeping.{KeepsDecoder, HoldsData, HoldsBefore, Entered, standing_demands, told_rules, coded_before, close_steps}
+use Rattle.h264_verify.specs.Keeping.{KeepsFrames, WhereMade, HoldsNewest, Entered, standing_demands, told_rules, coded_before, close_steps}
 use Rattle.h264_verify.specs.Steps.{Step, needs}
 use Rattle.h264_verify.proofs.Slicing.{refused, err-named, own_steps, at-standing, at-place, after-place}
 use Rattle.h264_verify.proofs.Stepwise.{steps-stop, steps-on}
-use Rattle.h264_verify.proofs.Holding.{data-held, holds-newest}
+use Rattle.h264_verify.proofs.Holding.{coded-by, holds-newest}
+use Rattle.h264_verify.proofs.Made.{made-then}
 
 module _ {S : Type 0} (took : S → List Told → Type 0) (failures : S → ℕ) (mode : Mode) (before : History) (unit : NalUnit) (h : Header) (begins : Bool) (b : begins ≡ begins_at before h) where
   abbrev PlaysOf : Outcome (Unit {0}) → S → S → Result (Unit {0}) Stop → Type 0
@@ -71,21 +71,12 @@ module _ {S : Type 0} (took : S → List Told → Type 0) (failures : S → ℕ)
         own-then s s' r p = subst (λ (o : Outcome (Unit {0})). PlaysOf o s s' r) (sym (after-place mode before unit h begins b due maps due-is maps-are sets named x stands y placed)) p
 
 -- the macroblocks of its picture before it
-held-on : (mode : Mode) (frames : ℕ → Frame) (on : Bool) (pictures : List CodedPicture) (h : Header) (d : Decoder) → (let begins : Bool = false in begins ≡ begins_after (open_of on pictures) h) → KeepsDecoder mode frames on false pictures d → HoldsBefore mode false pictures d.work
-unfolding KeepsDecoder HoldsBefore HoldsData
-held-on modes.Units frames on pictures h d b k = tt
-held-on modes.Headers frames on pictures h d b k = tt
-held-on modes.Full frames on pictures h d b k = holds-newest on pictures h false d.work b (data-held modes.Full frames on pictures d k)
+held-before : (frames : ℕ → Frame) (on begins : Bool) (pictures : List CodedPicture) (h : Header) → begins ≡ begins_after (open_of on pictures) h → (d : Decoder) → KeepsFrames frames on begins pictures d → HoldsNewest begins pictures d.work
+held-before frames on true pictures h b d k = tt
+held-before frames on false pictures h b d k = holds-newest on pictures h false d.work b (coded-by frames on pictures d k)
 
-held-new : (mode : Mode) (pictures : List CodedPicture) (d : Decoder) → HoldsBefore mode true pictures d.work
-unfolding HoldsBefore
-held-new modes.Units pictures d = tt
-held-new modes.Headers pictures d = tt
-held-new modes.Full pictures d = tt
-
-pub before-held : (mode : Mode) (frames : ℕ → Frame) (on begins : Bool) (pictures : List CodedPicture) (h : Header) (d : Decoder) → begins ≡ begins_after (open_of on pictures) h → KeepsDecoder mode frames on begins pictures d → HoldsBefore mode begins pictures d.work
-before-held mode frames on true pictures h d b k = held-new mode pictures d
-before-held mode frames on false pictures h d b k = held-on mode frames on pictures h d b k
+pub before-held : (mode : Mode) (frames : ℕ → Frame) (on begins : Bool) (pictures : List CodedPicture) (h : Header) (decoder : Option Decoder) → begins ≡ begins_after (open_of on pictures) h → WhereMade mode (KeepsFrames frames on begins pictures) decoder → WhereMade mode (λ d. HoldsNewest begins pictures d.work) decoder
+before-held mode frames on begins pictures h decoder b k = made-then _ _ mode decoder (held-before frames on begins pictures h b) k
 
 -- what the buffer is told of its picture, where it begins one
 pub ended-is : (before : History) (begins : Bool) (slice : CodedSlice) (slices : Slices) → Entered before begins slice slices → begins ≡ true → ended_of slice.sps slice.header slices.pictures (frame_count slices.count) (buffer_size slice.sps) ≡ ended_picture (record { first = slice; later = [] }) (runs_of before)

@@ -37,6 +37,7 @@ pub mod Framing
 pub mod Reading
 pub mod Coded
 pub mod Holding
+pub mod Made
 pub mod Ways
 pub mod Lacking
 pub mod Feeding

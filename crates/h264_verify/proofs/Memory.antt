@@ -26,7 +26,7 @@ use Rattle.h264_verify.specs.Pictures.{CodedPicture, runs_of, begins_at}
 use Rattle.h264_plane.specs.declared.frame.Frame.{Frame}
 use Rattle.h264_verify.specs.declared.decoder.Decoder.{Decoder}
 use Rattle.h264_verify.specs.declared.decoder.Format.{Format}
-use Rattle.h264_verify.specs.Keeping.{KeepsDecoder, format_of}
+use Rattle.h264_verify.specs.Keeping.{KeepsFrames, WhereMade, format_of, format_in}
 use Rattle.h264_verify.specs.declared.state.Terms.{Terms}
 use Rattle.h264_verify.specs.Units.{is_slice, slice_unit, slice_unit_of}
 use Rattle.h264_verify.specs.UnitOutcome.{joined, joined_by, joined_other}
@@ -106,10 +106,14 @@ read-slice mode kind e f g = and-both (is_slice kind) (reads_slices mode) (last-
 -- ---- a picture of another format
 
 -- the decoder has the format of the newest picture
-pub is-another : (frames : ℕ → Frame) (on : Bool) (pictures : List CodedPicture) (old new : Decoder) (sps : Sps) → KeepsDecoder modes.Full frames on false pictures old → new.format ≡ old.format → (new.format ≡ Some (format_of sps) → ⊥) → HasAnotherFormat pictures sps
-unfolding KeepsDecoder
-is-another frames on [] old new sps k e never = tt
-is-another frames on (p ∷ ps) old new sps k e never = λ same. never (e ∙ k.format ∙ ap (λ (f : Format). Some f) (sym same))
+another-by : (frames : ℕ → Frame) (on : Bool) (pictures : List CodedPicture) (old new : Decoder) (sps : Sps) → KeepsFrames frames on false pictures old → new.format ≡ old.format → (new.format ≡ Some (format_of sps) → ⊥) → HasAnotherFormat pictures sps
+another-by frames on [] old new sps k e never = tt
+another-by frames on (p ∷ ps) old new sps k e never = λ same. never (e ∙ k.format ∙ ap (λ (f : Format). Some f) (sym same))
+
+pub is-another : (frames : ℕ → Frame) (on : Bool) (pictures : List CodedPicture) (old : Option Decoder) (new : Decoder) (sps : Sps) → WhereMade modes.Full (KeepsFrames frames on false pictures) old → new.format ≡ format_in old → (new.format ≡ Some (format_of sps) → ⊥) → HasAnotherFormat pictures sps
+unfolding WhereMade
+is-another frames on pictures None new sps k e never = absurd k
+is-another frames on pictures (Some old) new sps k e never = another-by frames on pictures old new sps k e never
 
 -- the slice of this header begins such a picture
 module _ {X S : Type 0} (took : S → List Call → Type 0) (failures : S → ℕ) (before : History) (unit : NalUnit) (maps : Maps) (maps-are : maps ≡ maps_of before) (byte : ℕ) (byte-is : byte ≡ header_of unit) (of : SliceUnit) (of-is : of ≡ slice_unit_of byte) (h : Header) where

@@ -26,7 +26,7 @@ use Rattle.h264_verify.specs.Buffering.{told_frames, gaps_turn, gap_on, missing_
 use Rattle.h264_verify.specs.StepOutcome.{steps_outcome}
 use Rattle.h264_verify.specs.Demands.{judged}
 use Rattle.h264_verify.specs.Slices.{new_num_demand}
-use Rattle.h264_verify.specs.Keeping.{KeepsGap, KeepsSomeGap}
+use Rattle.h264_verify.specs.Keeping.{WhereMade, FillsFrames, KeepsSomeGap}
 use Rattle.h264_verify.proofs.Tellings.{tells-none, tells-both}
 use Rattle.h264_verify.proofs.Playing.{plays-on, plays-stops, gives-plays}
 use Rattle.h264_verify.proofs.Stepping.{steps-append}
@@ -110,15 +110,15 @@ module _ {S : Type 0} (mode : Mode) (bit : ℕ) (n : Numbering) (count prev : �
   all_steps = missing_steps mode bit n (following n count prev) held t.buffer
 
   -- so many numbers after the last one are left: what was told of the others, and what is kept
-  pub record Fills (left last : ℕ) (now : References) (new : S) (d : Decoder) : Type 0 where
+  pub record Fills (left last : ℕ) (now : References) (new : S) (d : Option Decoder) : Type 0 where
     pub turn : Turn
     pub told : List Told
     pub tells : Tells (took_with frames took) old new told
     pub steps : steps_outcome all_steps ≡ with_calls told (steps_outcome (missing_steps mode bit n (following n left last) now turn.buffer))
     pub turns : turn_then t (gaps_turn n (following n count prev) held) ≡ turn_then turn (gaps_turn n (following n left last) now)
-    pub keeps : KeepsGap mode frames turn next d
+    pub keeps : WhereMade mode (FillsFrames frames turn next) d
 
-  first : (left : ℕ) (d : Decoder) → left ≡ count → KeepsGap mode frames t next d → Fills left prev held old d
+  first : (left : ℕ) (d : Option Decoder) → left ≡ count → WhereMade mode (FillsFrames frames t next) d → Fills left prev held old d
   first left d e k = record {
     turn = t;
     told = [];
@@ -128,16 +128,16 @@ module _ {S : Type 0} (mode : Mode) (bit : ℕ) (n : Numbering) (count prev : �
     keeps = k;
   }
 
-  pub fills-first : (d : Decoder) → KeepsGap mode frames t next d → Fills (count - 0) prev held old d
+  pub fills-first : (d : Option Decoder) → WhereMade mode (FillsFrames frames t next) d → Fills (count - 0) prev held old d
   fills-first d k = let e : count - 0 ≡ count = omega arith in first (count - 0) d e k
 
-  pub fills-more : (turn last : ℕ) (now : References) (new : S) (d : Decoder) → turn < count → Fills (count - turn) last now new d → Fills (suc (count - (turn + 1))) last now new d
+  pub fills-more : (turn last : ℕ) (now : References) (new : S) (d : Option Decoder) → turn < count → Fills (count - turn) last now new d → Fills (suc (count - (turn + 1))) last now new d
   fills-more turn last now new d h f = subst (λ (l : ℕ). Fills l last now new d) (left-is count turn h) f
 
-  pub fills-whole : (turn last : ℕ) (now : References) (new : S) (d : Decoder) → turn ≡ count → Fills (count - turn) last now new d → Fills 0 last now new d
+  pub fills-whole : (turn last : ℕ) (now : References) (new : S) (d : Option Decoder) → turn ≡ count → Fills (count - turn) last now new d → Fills 0 last now new d
   fills-whole turn last now new d e f = subst (λ (l : ℕ). Fills l last now new d) (ap (λ (t : ℕ). count - t) e ∙ none-left count) f
 
-  module _ (k last : ℕ) (now : References) (new : S) (d : Decoder) (f : Fills (suc k) last now new d) (quiet : failures new ≡ failures old) where
+  module _ (k last : ℕ) (now : References) (new : S) (d : Option Decoder) (f : Fills (suc k) last now new d) (quiet : failures new ≡ failures old) where
     abbrev number : ℕ
     number = (last + 1) % n.max_frame_num
 
@@ -165,7 +165,7 @@ module _ {S : Type 0} (mode : Mode) (bit : ℕ) (n : Numbering) (count prev : �
           (after-plays (took_with frames took) failures view f.told (frame_steps >>= λ _. rest) old new s (Err e) f.tells quiet (plays-stops (took_with frames took) failures (λ (x : Unit {0}). x) view frame_steps (λ _. rest) new s e p))
 
       -- one more is filled
-      pub fills-next : (s : S) (d' : Decoder) (x : Unit {0}) → Plays {X = Unit {0}} (took_with frames took) failures (λ (x : Unit {0}). x) frame_steps new s (Ok x) → KeepsGap mode frames (turn_then f.turn (missing_turn then_held)) next d' → Fills k number then_held s d'
+      pub fills-next : (s : S) (d' : Option Decoder) (x : Unit {0}) → Plays {X = Unit {0}} (took_with frames took) failures (λ (x : Unit {0}). x) frame_steps new s (Ok x) → WhereMade mode (FillsFrames frames (turn_then f.turn (missing_turn then_held)) next) d' → Fills k number then_held s d'
       fills-next s d' x p kept = record {
         turn = turn_then f.turn (missing_turn then_held);
         told = f.told ++ frame_steps.calls;
@@ -176,18 +176,20 @@ module _ {S : Type 0} (mode : Mode) (bit : ℕ) (n : Numbering) (count prev : �
       }
 
   -- none is left
-  pub fills-last : (last : ℕ) (now : References) (new : S) (d : Decoder) → Fills 0 last now new d → failures new ≡ failures old → Plays (took_with frames took) failures (λ (x : ℕ). tt) (steps_outcome all_steps) old new (Ok last)
+  pub fills-last : (last : ℕ) (now : References) (new : S) (d : Option Decoder) → Fills 0 last now new d → failures new ≡ failures old → Plays (took_with frames took) failures (λ (x : ℕ). tt) (steps_outcome all_steps) old new (Ok last)
   fills-last last now new d f quiet =
       subst (λ (o : Outcome (Unit {0})). Plays (took_with frames took) failures (λ (x : ℕ). tt) o old new (Ok last)) (sym f.steps)
       (after-plays (took_with frames took) failures (λ (x : ℕ). tt) f.told (gives tt) old new new (Ok last) f.tells quiet (gives-plays (took_with frames took) failures (λ (x : ℕ). tt) last new))
 
-  pub fills-kept : (last : ℕ) (now : References) (new : S) (d : Decoder) → Fills 0 last now new d → KeepsGap mode frames (turn_then t (gaps_turn n (following n count prev) held)) next d
-  fills-kept last now new d f = subst (λ (u : Turn). KeepsGap mode frames u next d) (sym (f.turns ∙ ap (λ (l : List _). record { written = l; buffer = f.turn.buffer }) (append-nil f.turn.written))) f.keeps
+  pub fills-kept : (last : ℕ) (now : References) (new : S) (d : Option Decoder) → Fills 0 last now new d → WhereMade mode (FillsFrames frames (turn_then t (gaps_turn n (following n count prev) held)) next) d
+  fills-kept last now new d f = subst (λ (u : Turn). WhereMade mode (FillsFrames frames u next) d) (sym (f.turns ∙ ap (λ (l : List _). record { written = l; buffer = f.turn.buffer }) (append-nil f.turn.written))) f.keeps
 
 -- there are frames of which this is kept still
-pub some-gap : {S : Type 0} (mode : Mode) (bit : ℕ) (n : Numbering) (count prev : ℕ) (held : References) (took : S → List Call → Type 0) (failures : S → ℕ) (old : S) (left last : ℕ) (now : References) (new : S) (before d : Decoder) (k : KeepsSomeGap mode before) →
-    ((frames : ℕ → Frame) (t : Turn) (next : ℕ) → KeepsGap mode frames t next before → Fills mode bit n count prev held took failures frames t next old left last now new d) → KeepsSomeGap mode d
-some-gap mode bit n count prev held took failures old left last now new before d k fills = record { frames = k.frames; turn = (fills k.frames k.turn k.next k.keeps).turn; next = k.next; few = k.few; keeps = (fills k.frames k.turn k.next k.keeps).keeps }
+pub some-gap : {S : Type 0} (bit : ℕ) (n : Numbering) (count prev : ℕ) (held : References) (took : S → List Call → Type 0) (failures : S → ℕ) (old : S) (left last : ℕ) (now : References) (new : S) (before d : Option Decoder) (k : KeepsSomeGap before) →
+    ((mode : Mode) (frames : ℕ → Frame) (t : Turn) (next : ℕ) → WhereMade mode (FillsFrames frames t next) before → Fills mode bit n count prev held took failures frames t next old left last now new d) → KeepsSomeGap d
+some-gap bit n count prev held took failures old left last now new before d k fills =
+    let f = fills k.mode k.frames k.turn k.next k.keeps in
+    record { mode = k.mode; frames = k.frames; turn = f.turn; next = k.next; few = k.few; keeps = f.keeps }
 
 -- the rule on a picture's number, by what is held once the gap is filled
 pub new-filled : (idr reference : Bool) (bit prev : ℕ) (n : Numbering) (refs held : References) → all_filled n (unused_short_term_frame_nums idr prev n) refs ≡ Some held →

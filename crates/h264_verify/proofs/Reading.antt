@@ -1,6 +1,5 @@
 -- Slice data after what is kept before them.
 use Rattle.std.proofs.Common.{◌≡◌, ℕ, Bool, ◌&&◌, true, false, List, [], ◌∷◌, Option, Result, Ok, refl, ap, sym, ◌∙◌, length}
-use Rattle.h264_base.specs.declared.mode.Mode.TheVariants as modes
 use Rattle.h264_base.specs.declared.stop.Stop.{Stop}
 use Rattle.h264_base.specs.Call.{Call}
 use Rattle.h264_plane.specs.declared.frame.Frame.{Frame}
@@ -26,7 +25,7 @@ use Rattle.h264_verify.specs.Decoding.{slices_of}
 use Rattle.h264_verify.proofs.Agreeing.{each-slice}
 use Rattle.h264_verify.specs.declared.decoder.Decoder.{Decoder}
 use Rattle.h264_verify.specs.Buffering.{within_newest}
-use Rattle.h264_verify.specs.Keeping.{HoldsBegun, KeepsOutput, KeepsDecoder, IsRead, BeginsFrames}
+use Rattle.h264_verify.specs.Keeping.{HoldsBegun, KeepsOutput, KeepsFrames, IsRead, BeginsFrames}
 use Rattle.h264_dpb.specs.Turns.{Turn}
 use Rattle.h264_verify.specs.Framing.{ReadsSlice, ReadsData}
 use Rattle.h264_vectors.specs.declared.slice.SliceContext.{SliceContext}
@@ -133,12 +132,10 @@ begun-later frames s p ps ms d h = record {
   };
 }
 
-first-kept : (frames : ℕ → Frame) (s : CodedSlice) (pictures : List CodedPicture) (ms : List CodedMacroblock) (d : Decoder) → HoldsBegun frames (record { first = s; later = [] }) pictures (s ∷ []) ms d × KeepsOutput frames (within_newest (record { first = s; later = [] } ∷ pictures)) (length pictures) d → KeepsDecoder modes.Full frames true false (joined_to true (record s { macroblocks = ms }) pictures) d
-unfolding KeepsDecoder
+first-kept : (frames : ℕ → Frame) (s : CodedSlice) (pictures : List CodedPicture) (ms : List CodedMacroblock) (d : Decoder) → HoldsBegun frames (record { first = s; later = [] }) pictures (s ∷ []) ms d × KeepsOutput frames (within_newest (record { first = s; later = [] } ∷ pictures)) (length pictures) d → KeepsFrames frames true false (joined_to true (record s { macroblocks = ms }) pictures) d
 first-kept frames s pictures ms d h = record { format = h.0.format; output = h.1; picture = begun-first frames s pictures ms d h.0 }
 
-later-kept : (frames : ℕ → Frame) (s : CodedSlice) (p : CodedPicture) (ps : List CodedPicture) (ms : List CodedMacroblock) (d : Decoder) → HoldsBegun frames p ps (s ∷ slices_of p) ms d × KeepsOutput frames (within_newest (p ∷ ps)) (length ps) d → KeepsDecoder modes.Full frames true false (joined_to false (record s { macroblocks = ms }) (p ∷ ps)) d
-unfolding KeepsDecoder
+later-kept : (frames : ℕ → Frame) (s : CodedSlice) (p : CodedPicture) (ps : List CodedPicture) (ms : List CodedMacroblock) (d : Decoder) → HoldsBegun frames p ps (s ∷ slices_of p) ms d × KeepsOutput frames (within_newest (p ∷ ps)) (length ps) d → KeepsFrames frames true false (joined_to false (record s { macroblocks = ms }) (p ∷ ps)) d
 later-kept frames s p ps ms d h = record { format = h.0.format; output = h.1; picture = begun-later frames s p ps ms d h.0 }
 
 module _ {S X : Type 0} (took : S → List Call → Type 0) (failures : S → ℕ) (frames : ℕ → Frame) (new : Decoder) (s s' : S) (r : Result X Stop) (slice : CodedSlice) where

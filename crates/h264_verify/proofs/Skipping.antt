@@ -17,7 +17,8 @@ use Rattle.h264_verify.specs.Outcome.{Outcome, ◌>>=◌, with_calls, gives}
 use Rattle.h264_verify.specs.Steps.{Step}
 use Rattle.h264_verify.specs.Buffering.{told_frames, gaps_turn, gap_on, missing_steps}
 use Rattle.h264_verify.specs.StepOutcome.{steps_outcome}
-use Rattle.h264_verify.specs.Keeping.{KeepsGap, FillsFrames, BufferStays}
+use Rattle.h264_verify.specs.Keeping.{WhereMade, FillsFrames, BufferStays}
+use Rattle.h264_verify.proofs.Made.{IsQuiet, made-then, header-decoder, unit-made}
 use Rattle.h264_verify.proofs.Missing.{Fills, steps-some}
 
 -- the buffer sees the pictures alone
@@ -49,17 +50,11 @@ full-stays held b modes.Units e s = tt
 full-stays held b modes.Headers e s = tt
 full-stays held b modes.Full e s = s
 
-pub stays-units : (held : References) (b : Buffered Shown) (m : Mode) → m ≡ modes.Units → BufferStays m held b
+pub quiet-stays : (held : References) (b : Buffered Shown) (m : Mode) → IsQuiet m → BufferStays m held b
 unfolding BufferStays
-stays-units held b modes.Units e = tt
-stays-units held b modes.Headers e = tt
-stays-units held b modes.Full e = cc
-
-pub stays-headers : (held : References) (b : Buffered Shown) (m : Mode) → m ≡ modes.Headers → BufferStays m held b
-unfolding BufferStays
-stays-headers held b modes.Units e = tt
-stays-headers held b modes.Headers e = tt
-stays-headers held b modes.Full e = cc
+quiet-stays held b modes.Units q = tt
+quiet-stays held b modes.Headers q = tt
+quiet-stays held b modes.Full q = absurd q
 
 nothing-first : (o : Outcome (Unit {0})) → (steps_outcome [] >>= λ _. o) ≡ o
 unfolding ◌>>=◌
@@ -94,19 +89,23 @@ module _ (n : Numbering) where
       ∙ ap (λ (t : Turn). turn_then t (gaps_turn n numbers next.held)) more
       ∙ skipped-turn count number next.held b next.steady more
 
-  skipped-kept : (mode : Mode) (frames : ℕ → Frame) (t : Turn) (next : ℕ) (d : Decoder) (count last : ℕ) (refs : References) → IsSteady n last refs.frames → BufferStays mode refs t.buffer → KeepsGap mode frames t next d →
-      KeepsGap mode frames (turn_then t (gaps_turn n (numbers_from count ((last + 1) % n.max_frame_num) n.max_frame_num) refs)) next d
-  unfolding BufferStays KeepsGap
-  skipped-kept modes.Units frames t next d count last refs s still k = tt
-  skipped-kept modes.Headers frames t next d count last refs s still k = tt
-  skipped-kept modes.Full frames t next d count last refs s still k =
+  skipped-full : (frames : ℕ → Frame) (t : Turn) (next : ℕ) (count last : ℕ) (refs : References) → IsSteady n last refs.frames → missing_turn refs t.buffer ≡ stays t.buffer → (d : Decoder) → FillsFrames frames t next d →
+      FillsFrames frames (turn_then t (gaps_turn n (numbers_from count ((last + 1) % n.max_frame_num) n.max_frame_num) refs)) next d
+  skipped-full frames t next count last refs s still d k =
       let same = skipped-turn count last refs t.buffer s still in
       subst (λ (u : Turn). FillsFrames frames u next d)
       (sym (ap (λ (u : Turn). let v : Turn = record { written = t.written ++ u.written; buffer = u.buffer } in v) same ∙ ap (λ (l : List _). let v : Turn = record { written = l; buffer = t.buffer } in v) (append-nil t.written)))
       k
 
+  skipped-kept : (mode : Mode) (frames : ℕ → Frame) (t : Turn) (next : ℕ) (d : Option Decoder) (count last : ℕ) (refs : References) → IsSteady n last refs.frames → BufferStays mode refs t.buffer → WhereMade mode (FillsFrames frames t next) d →
+      WhereMade mode (FillsFrames frames (turn_then t (gaps_turn n (numbers_from count ((last + 1) % n.max_frame_num) n.max_frame_num) refs)) next) d
+  unfolding BufferStays
+  skipped-kept modes.Units frames t next d count last refs s still k = unit-made _ _ d k
+  skipped-kept modes.Headers frames t next d count last refs s still k = header-decoder _ _ d k
+  skipped-kept modes.Full frames t next d count last refs s still k = made-then _ _ modes.Full d (skipped-full frames t next count last refs s still) k
+
 -- the rest of the missing numbers is skipped
-pub fills-skipped : {S : Type 0} (mode : Mode) (bit : ℕ) (n : Numbering) (count prev : ℕ) (held : References) (took : S → List Call → Type 0) (failures : S → ℕ) (frames : ℕ → Frame) (t : Turn) (next : ℕ) (old : S) (left last then_last : ℕ) (now then_held : References) (new : S) (d : Decoder) →
+pub fills-skipped : {S : Type 0} (mode : Mode) (bit : ℕ) (n : Numbering) (count prev : ℕ) (held : References) (took : S → List Call → Type 0) (failures : S → ℕ) (frames : ℕ → Frame) (t : Turn) (next : ℕ) (old : S) (left last then_last : ℕ) (now then_held : References) (new : S) (d : Option Decoder) →
     IsSteady n last now.frames → (f : Fills mode bit n count prev held took failures frames t next old left last now new d) → BufferStays mode now f.turn.buffer → Fills mode bit n count prev held took failures frames t next old 0 then_last then_held new d
 fills-skipped mode bit n count prev held took failures frames t next old left last then_last now then_held new d s f still =
     let all = turn_then f.turn (gaps_turn n (numbers_from left ((last + 1) % n.max_frame_num) n.max_frame_num) now) in

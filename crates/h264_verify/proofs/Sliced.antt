@@ -1,5 +1,5 @@
 -- A slice has taken its place, and its rules are judged.
-use Rattle.std.proofs.Common.{◌≡◌, ℕ, Bool, true, false, List, [], ◌∷◌, Some, Result, OnOk, sym, subst}
+use Rattle.std.proofs.Common.{◌≡◌, ℕ, Bool, true, false, List, [], ◌∷◌, Option, Some, Result, OnOk, sym, subst}
 use Rattle.h264_base.specs.declared.mode.Mode.{Mode}
 use Rattle.h264_base.specs.declared.stop.Stop.{Stop}
 use Rattle.h264_base.specs.Call.{Call}
@@ -24,7 +24,7 @@ use Rattle.h264_verify.specs.StepOutcome.{steps_outcome}
 use Rattle.h264_verify.specs.Content as contents
 use Rattle.h264_verify.specs.History.{History, maps_of}
 use Rattle.h264_verify.specs.Pictures.{CodedSlice, with_sets, begins_at, joined_to, goes_on, runs_of}
-use Rattle.h264_verify.specs.Keeping.{KeepsSlices, KeepsPictures, EntersDecoder, GoesWith, KeepsSomeRules, told_rules}
+use Rattle.h264_verify.specs.Keeping.{KeepsSlices, KeepsPictures, WhereMade, EntersBy, GoesWith, KeepsSomeRules, told_rules}
 use Rattle.h264_verify.specs.Framing.{JudgesSlice, PlacesSlice}
 use Rattle.h264_verify.specs.Sound.{IsMarked, NamesSet, AreSound}
 use Rattle.h264_verify.proofs.Entering.{slice-keeps}
@@ -34,22 +34,22 @@ use Rattle.h264_verify.proofs.Judged.{closed-on, own-then}
 
 module _ {S : Type 0} (mode : Mode) (took : S → List Call → Type 0) (failures : S → ℕ) (frames : ℕ → Frame) (before : History) (unit : NalUnit) (h : Header) (begins : Bool) (old mid : State) (s s1 : S) (placed : PlacesSlice mode took failures frames before unit h begins old mid s s1) where
   -- there are pictures of which this is kept before its rules
-  pub some-rules : KeepsSomeRules mode begins mid.slices mid.decoder
-  some-rules = record { frames = placed.closes.made; before = before; slices_are = placed.ended; keeps = placed.closes.keeps }
+  pub some-rules : KeepsSomeRules begins mid.slices mid.decoder
+  some-rules = record { mode = mode; frames = placed.closes.made; before = before; slices_are = placed.ended; keeps = placed.closes.keeps }
 
   module _ (pps : Pps) (sps : Sps) (m : old.sets ≡ maps_of before) (sets : sets_of old.sets h.pic_parameter_set_id.value ≡ Some (pps, sps)) where
     abbrev slice : List CodedMacroblock → CodedSlice
     slice ms = with_sets unit h ms (pps, sps)
 
     -- where it begins a picture that is no IDR picture, it goes on with the sequence
-    pub goes-on-with : is_usable sps ≡ true → begins ≡ true → is_idr h ≡ false → GoesWith mode sps mid.slices.held mid.decoder
+    pub goes-on-with : is_usable sps ≡ true → begins ≡ true → is_idr h ≡ false → GoesWith sps mid.slices.held mid.decoder
     goes-on-with usable begun i =
         let set = stands-if begins _ (runs_of before) old.sets sps _ h (before-active before begins _ _ placed.ended m) (placed.stands (pps, sps) sets) begun i in
-        goes-with sps usable mid.decoder mode begins placed.closes.made before mid.slices begun placed.ended placed.closes.keeps set
+        goes-with sps usable mode begins placed.closes.made before mid.slices mid.decoder begun placed.ended placed.closes.keeps set
 
     module _ (b : begins ≡ begins_at before h) where
       -- what comes to pass of it
-      pub judges-rules : (new : Decoder) (s2 : S) (r : Result (Unit {0}) Stop) → Plays (took_with placed.closes.made took) failures (λ (x : Unit {0}). x) (steps_outcome (told_rules mode begins (runs_of before) (slice []))) s1 s2 r → OnOk r (EntersDecoder mode placed.closes.made begins (slice []) (goes_on before) (runs_of before) new) → JudgesSlice mode took failures frames before unit h (pps, sps) begins new s s2 r
+      pub judges-rules : (new : Option Decoder) (s2 : S) (r : Result (Unit {0}) Stop) → Plays (took_with placed.closes.made took) failures (λ (x : Unit {0}). x) (steps_outcome (told_rules mode begins (runs_of before) (slice []))) s1 s2 r → OnOk r (WhereMade mode (EntersBy placed.closes.made begins (slice []) (goes_on before) (runs_of before)) new) → JudgesSlice mode took failures frames before unit h (pps, sps) begins new s s2 r
       judges-rules new s2 r plays enters = record {
         made = placed.closes.made;
         same = placed.closes.same;

@@ -1,6 +1,6 @@
 -- What is kept of the slices so far. A working form: it ties values of the program to the list of units.
-use Rattle.std.specs.Prelude.{◌≡◌, ◌≢◌, ℕ, ◌+◌, ◌-◌, ◌*◌, ◌%◌, ◌<◌, ◌≤◌, ◌^◌, get_or, not, ◌||◌, List, [], ◌∷◌, ◌++◌, map, length, ℤ, Option, Some, None, Bool}
-use Rattle.std.specs.Prelude.{true, false, if◌then◌else◌}
+use Rattle.std.specs.Prelude.{◌≡◌, ◌≢◌, ℕ, ◌+◌, ◌-◌, ◌*◌, ◌%◌, ◌<◌, ◌≤◌, ◌^◌, get_or, not, ◌||◌, List, [], ◌∷◌, ◌++◌, map, length, ℤ, Option, Some, None}
+use Rattle.std.specs.Prelude.{IfSome, Bool, true, false, if◌then◌else◌}
 use Rattle.std.specs.Option.{option_map_or}
 use Rattle.h264_near.specs.Coded.{CodedMacroblock}
 use Rattle.h264_bits.specs.declared.element.Found.{Found}
@@ -31,7 +31,7 @@ use Rattle.h264_picture.specs.declared.frames.TheConstants.{PLACES}
 use Rattle.h264_picture.specs.Places.{lent, first_place, places, is_active_place, IsReleased, HasBegun, HasSize}
 use Rattle.h264_plane.specs.declared.frame.Frame.{Frame}
 use Rattle.h264_dpb.specs.Bumping.{is_held}
-use Rattle.h264_dpb.specs.Turns.{Shown, Turn, stays, no_buffer, names, missing_turn}
+use Rattle.h264_dpb.specs.Turns.{Shown, Turn, stays, no_buffer, names, missing_turn, last_turn}
 use Rattle.h264_dpb.specs.Kept.{KeepsBuffer, HasFrames, IsOrdered, is_occupied, place_of, size_of, IsReady as AreReady}
 use Rattle.h264_dpb.specs.declared.output.Output.{Output}
 use Rattle.h264_dpb.specs.declared.ended.Ended.{Ended}
@@ -281,10 +281,14 @@ pub record KeepsFrames (frames : ℕ → Frame) (on ended : Bool) (pictures : Li
   pub output : KeepsOutput frames (buffer_by on ended pictures) (length (ended_pictures on ended pictures)) d
   pub picture : HoldsFrame frames on ended pictures d
 
-unfoldable pub KeepsDecoder : Mode → (ℕ → Frame) → Bool → Bool → List CodedPicture → Decoder → Type 0
-KeepsDecoder modes.Units frames on ended pictures d = Unit {0}
-KeepsDecoder modes.Headers frames on ended pictures d = Unit {0}
-KeepsDecoder modes.Full frames on ended pictures d = KeepsFrames frames on ended pictures d
+-- Frames are made in one mode. There is a decoder then, of which this is true, and none else.
+unfoldable pub WhereMade : Mode → (Decoder → Type 0) → Option Decoder → Type 0
+WhereMade modes.Units P None = Unit {0}
+WhereMade modes.Units P (Some d) = ⊥
+WhereMade modes.Headers P None = Unit {0}
+WhereMade modes.Headers P (Some d) = ⊥
+WhereMade modes.Full P None = ⊥
+WhereMade modes.Full P (Some d) = P d
 
 -- what is kept of them once the rules of a slice are met: after the gap before a picture that it begins, nothing is decoded yet
 pub record EntersFrames (frames : ℕ → Frame) (slice : CodedSlice) (pictures : List CodedPicture) (d : Decoder) : Type 0 where
@@ -335,20 +339,14 @@ pub record ReadsSome (place : SlicePlace) (kept : Slice) (d : Decoder) : Type 0 
   pub typed : is_typed slice.header ≡ true
   pub keeps : EntersBy frames place.begins slice on pictures d
 
-unfoldable pub EntersDecoder : Mode → (ℕ → Frame) → Bool → CodedSlice → Bool → List CodedPicture → Decoder → Type 0
-EntersDecoder modes.Units frames begins slice on pictures d = Unit {0}
-EntersDecoder modes.Headers frames begins slice on pictures d = Unit {0}
-EntersDecoder modes.Full frames begins slice on pictures d = EntersBy frames begins slice on pictures d
-
 -- what is kept while the missing numbers before a picture are filled, where frames are made
 pub record FillsFrames (frames : ℕ → Frame) (t : Turn) (next : ℕ) (d : Decoder) : Type 0 where
   pub output : KeepsOutput frames t next d
   pub settled : IsSettled d
 
-unfoldable pub KeepsGap : Mode → (ℕ → Frame) → Turn → ℕ → Decoder → Type 0
-KeepsGap modes.Units frames t next d = Unit {0}
-KeepsGap modes.Headers frames t next d = Unit {0}
-KeepsGap modes.Full frames t next d = FillsFrames frames t next d
+-- all frames that waited after this are written
+abbrev pub HasWritten : Turn → Decoder → Type 0
+HasWritten t d = KeepsBuffer (last_turn t.buffer).buffer (length t.written + length (last_turn t.buffer).written) d.output
 
 -- where frames are made, the frame of one more missing number, where these frames are held with it, writes nothing and leaves the buffer as it is
 unfoldable pub BufferStays : Mode → References → Buffered Shown → Type 0
@@ -357,34 +355,44 @@ BufferStays modes.Headers held b = Unit {0}
 BufferStays modes.Full held b = missing_turn held b ≡ stays b
 
 -- where frames are made, the buffer has so many places
-unfoldable pub HasPlaces : Mode → ℕ → Decoder → Type 0
-HasPlaces modes.Units n d = Unit {0}
-HasPlaces modes.Headers n d = Unit {0}
-HasPlaces modes.Full n d = n ≤ size_of d.output
+abbrev pub HasPlaces : ℕ → Option Decoder → Type 0
+HasPlaces n decoder = IfSome decoder (λ d. n ≤ size_of d.output)
 
 -- where they are made, they are of this format
-unfoldable pub IsMadeAs : Mode → Format → Decoder → Type 0
-IsMadeAs modes.Units f d = Unit {0}
-IsMadeAs modes.Headers f d = Unit {0}
-IsMadeAs modes.Full f d = d.format ≡ Some f
+abbrev pub IsMadeAs : Format → Option Decoder → Type 0
+IsMadeAs f decoder = IfSome decoder (λ d. d.format ≡ Some f)
+
+-- the format of frames, where they are made
+abbrev pub format_in : Option Decoder → Option Format
+format_in None = None
+format_in (Some d) = d.format
 
 -- A picture of this sequence parameter set that is no IDR picture goes on with the sequence: as many frames as may be held have places.
-pub record GoesWith (mode : Mode) (sps : Sps) (held : References) (d : Decoder) : Type 0 where
+pub record GoesWith (sps : Sps) (held : References) (decoder : Option Decoder) : Type 0 where
   pub few : length held.frames ≤ frame_places sps.max_num_ref_frames
-  pub places : HasPlaces mode (frame_places sps.max_num_ref_frames) d
-  pub format : IsMadeAs mode (format_of sps) d
+  pub places : HasPlaces (frame_places sps.max_num_ref_frames) decoder
+  pub format : IsMadeAs (format_of sps) decoder
 
 -- the numbers of a gap, one after another (7.4.3)
 abbrev pub numbers_in : Gap → List ℕ
 numbers_in gap = numbers_from gap.count ((gap.prev_ref_frame_num + 1) % gap.numbering.max_frame_num) gap.numbering.max_frame_num
 
 -- there are frames of which this is kept
-pub record KeepsSomeGap (mode : Mode) (d : Decoder) : Type 0 where
+pub record FillsSome (d : Decoder) : Type 0 where
   pub frames : ℕ → Frame
   pub turn : Turn
   pub next : ℕ
   pub few : next < 2 ^ 62
-  pub keeps : KeepsGap mode frames turn next d
+  pub keeps : FillsFrames frames turn next d
+
+-- there are such frames, where frames are made
+pub record KeepsSomeGap (decoder : Option Decoder) : Type 0 where
+  pub mode : Mode
+  pub frames : ℕ → Frame
+  pub turn : Turn
+  pub next : ℕ
+  pub few : next < 2 ^ 62
+  pub keeps : WhereMade mode (FillsFrames frames turn next) decoder
 
 -- there is a picture that is decoded, and of which the buffer is told this, where these frames are held: no more than there are places, and a reference picture
 -- among them
@@ -398,38 +406,29 @@ pub record KeepsSomeEnd (ended : Ended) (held : References) (d : Decoder) : Type
   pub keeps : KeepsFrames frames true false (p ∷ ps) d
 
 -- there are pictures of which this is kept; the newest has been marked, or not
-pub record KeepsSomeFrames (mode : Mode) (ended : Bool) (slices : Slices) (d : Decoder) : Type 0 where
+pub record KeepsSomeFrames (ended : Bool) (slices : Slices) (decoder : Option Decoder) : Type 0 where
+  pub mode : Mode
   pub frames : ℕ → Frame
   pub before : History
   pub slices_are : KeepsSlices before ended slices
-  pub keeps : KeepsDecoder mode frames (goes_on before) false (runs_of before) d
+  pub keeps : WhereMade mode (KeepsFrames frames (goes_on before) false (runs_of before)) decoder
 
 -- there are pictures of which this is kept, the newest of which has ended here, or not
-pub record KeepsSomeRules (mode : Mode) (ended : Bool) (slices : Slices) (d : Decoder) : Type 0 where
+pub record KeepsSomeRules (ended : Bool) (slices : Slices) (decoder : Option Decoder) : Type 0 where
+  pub mode : Mode
   pub frames : ℕ → Frame
   pub before : History
   pub slices_are : KeepsSlices before ended slices
-  pub keeps : KeepsDecoder mode frames (goes_on before) ended (runs_of before) d
+  pub keeps : WhereMade mode (KeepsFrames frames (goes_on before) ended (runs_of before)) decoder
 
 -- there are units of which this is kept
-pub record KeepsSomeSlice (mode : Mode) (slices : Slices) (sets : Maps) (d : Decoder) : Type 0 where
+pub record KeepsSomeSlice (slices : Slices) (sets : Maps) (decoder : Option Decoder) : Type 0 where
+  pub mode : Mode
   pub frames : ℕ → Frame
   pub before : History
   pub sets_are : sets ≡ maps_of before
   pub slices_are : KeepsSlices before false slices
-  pub keeps : KeepsDecoder mode frames (goes_on before) false (runs_of before) d
-
--- the macroblocks of the picture that may go on, where slice data are read
-unfoldable pub HoldsData : Mode → Option CodedPicture → Work → Type 0
-HoldsData modes.Units picture work = Unit {0}
-HoldsData modes.Headers picture work = Unit {0}
-HoldsData modes.Full picture work = HoldsCoded picture work
-
--- those before a slice that goes on with the newest picture
-unfoldable pub HoldsBefore : Mode → Bool → List CodedPicture → Work → Type 0
-HoldsBefore modes.Units begins pictures work = Unit {0}
-HoldsBefore modes.Headers begins pictures work = Unit {0}
-HoldsBefore modes.Full begins pictures work = HoldsNewest begins pictures work
+  pub keeps : WhereMade mode (KeepsFrames frames (goes_on before) false (runs_of before)) decoder
 
 -- The rules of a picture's first slice from its type on, by what is kept of the pictures before it.
 abbrev pub first_by : Mode → Slices → List Picture → Buffered Shown → Pps → Sps → Header → ℕ → List Step

@@ -5,13 +5,13 @@ use Rattle.h264_base.specs.declared.mode.Mode.{Mode}
 use Rattle.h264_plane.specs.declared.frame.Frame.{Frame}
 use Rattle.h264_verify.specs.History.{History, maps_of}
 use Rattle.h264_verify.specs.Pictures.{goes_on, runs_of}
-use Rattle.h264_verify.specs.Keeping.{KeepsSlices, KeepsDecoder}
+use Rattle.h264_verify.specs.Keeping.{KeepsSlices, KeepsFrames, WhereMade}
 
 pub record KeepsWithin (mode : Mode) (frames : ℕ → Frame) (before : History) (ended : Bool) (state : State) : Type 0 where
   pub units : state.units ≡ length before
   pub sets : state.sets ≡ maps_of before
   pub slices : KeepsSlices before ended state.slices
-  pub decoder : KeepsDecoder mode frames (goes_on before) ended (runs_of before) state.decoder
+  pub decoder : WhereMade mode (KeepsFrames frames (goes_on before) ended (runs_of before)) state.decoder
 
 abbrev pub Keeps : Mode → (ℕ → Frame) → History → State → Type 0
 Keeps mode frames before state = KeepsWithin mode frames before false state

@@ -3,11 +3,12 @@
 
 ghost use Rattle.std.specs.Prelude.{◌≡◌, ℕ, ◌-◌, ◌<◌, ◌≤◌, ◌^◌, false, OnOk, IsErrOf, Ok, [], IfErr, if◌then◌else◌};
 ghost use Rattle.h264_base.specs.Call.{HasRoom, IsQuiet};
+ghost use Rattle.h264_base.specs.declared.mode.Mode.{Mode};
 ghost use Rattle.h264_plane.specs.declared.frame.Frame.{Frame};
 ghost use Rattle.h264_verify.specs.History.{History};
-ghost use Rattle.h264_verify.specs.Pictures.{goes_on, runs_of, open_of};
+ghost use Rattle.h264_verify.specs.Pictures.{goes_on, runs_of};
 ghost use Rattle.h264_verify.specs.Order.{closing_demands};
-ghost use Rattle.h264_verify.specs.Keeping.{KeepsSlices, KeepsDecoder, KeepsSomeFrames, close_steps, HoldsData};
+ghost use Rattle.h264_verify.specs.Keeping.{KeepsSlices, KeepsFrames, WhereMade, KeepsSomeFrames, close_steps, format_in};
 ghost use Rattle.h264_verify.specs.StepOutcome.{steps_outcome};
 ghost use Rattle.h264_verify.specs.Framing.{EndsFrames};
 ghost use Rattle.h264_verify.specs.Demands.{judged};
@@ -19,26 +20,25 @@ use crate::decoder::Decoder;
 use crate::rules::check;
 use crate::sink::FrameSink;
 use crate::slices::Slices;
-use h264_base::{Mode, Rule, Stop};
+use h264_base::{Rule, Stop};
 use h264_marking::mark_end;
-use h264_picture::Work;
 
 /// The end of the slice data of the picture that may go on, where they are read and it ends here: all its macroblocks are coded.
-fn end_data_if(mode: Mode, ends: bool, slices: &Slices, work: &Work) -> Result<(), Stop>
-    ensures judged { (before : History) → KeepsSlices before false slices.now → HoldsData mode (open_of (goes_on before) (runs_of before)) work.now →
+fn end_data_if(ends: bool, slices: &Slices, decoder: &Option<Decoder>) -> Result<(), Stop>
+    ensures judged { (mode : Mode) (frames : ℕ → Frame) (before : History) → KeepsSlices before false slices.now →
+        WhereMade mode (KeepsFrames frames (goes_on before) false (runs_of before)) decoder.now →
         answers result ≡ steps_outcome (if ends then whole_steps mode before else []) }
     ensures named { IfErr result IsNamed }
 {
     if !ends {
         return Ok(());
     }
-    match mode {
-        Mode::Units => Ok(()),
-        Mode::Headers => Ok(()),
-        Mode::Full => match &slices.picture {
-            None => Ok(()),
-            Some(picture) => check(work.is_whole(), Rule::Incomplete, picture.following),
-        },
+    let Some(decoder) = decoder else {
+        return Ok(());
+    };
+    match &slices.picture {
+        None => Ok(()),
+        Some(picture) => check(decoder.work.is_whole(), Rule::Incomplete, picture.following),
     }
 }
 
@@ -65,34 +65,32 @@ fn end_if(ends: bool, slices: &mut Slices) -> Result<(), Stop>
 
 /// The frame of the picture that may go on takes its place, where frames are made and it ends here.
 fn end_frame_if<S: FrameSink>(
-    mode: Mode,
     ends: bool,
     slices: &Slices,
-    decoder: &mut Decoder,
+    decoder: &mut Option<Decoder>,
     sink: &mut S,
 ) -> Result<(), Stop>
     requires room { HasRoom S.failures sink.old }
     requires pictures { slices.now.pictures ≤ 2 ^ 42 }
-    requires kept { KeepsSomeFrames mode ends slices.now decoder.old }
-    ensures ends { (frames : ℕ → Frame) (before : History) → KeepsSlices before ends slices.now →
+    requires kept { KeepsSomeFrames ends slices.now decoder.old }
+    ensures ends { (mode : Mode) (frames : ℕ → Frame) (before : History) → KeepsSlices before ends slices.now →
         answers (Ok tt) ≡ steps_outcome (if ends then whole_steps mode before else []) →
-        KeepsDecoder mode frames (goes_on before) false (runs_of before) decoder.old →
+        WhereMade mode (KeepsFrames frames (goes_on before) false (runs_of before)) decoder.old →
         EndsFrames mode S.took S.failures frames (goes_on before) ends (runs_of before)
         (steps_outcome (if ends then closing_frames mode before else [])) decoder.new sink.old sink.new result }
-    ensures format { decoder.new.format ≡ decoder.old.format }
+    ensures format { format_in decoder.new ≡ format_in decoder.old }
     ensures kept { OnOk result (IsQuiet S.failures sink.old sink.new) }
     ensures no_memory { IfErr result (λ e. e ≡ Stop.Write) }
 {
     if !ends {
         return Ok(());
     }
-    match mode {
-        Mode::Units => Ok(()),
-        Mode::Headers => Ok(()),
-        Mode::Full => match &slices.picture {
-            None => Ok(()),
-            Some(picture) => decoder.end(&picture.ended, &slices.held, sink),
-        },
+    let Some(decoder) = decoder else {
+        return Ok(());
+    };
+    match &slices.picture {
+        None => Ok(()),
+        Some(picture) => decoder.end(&picture.ended, &slices.held, sink),
     }
 }
 
@@ -100,26 +98,25 @@ fn end_frame_if<S: FrameSink>(
 /// (8.2.5), and its frame takes its place in the picture buffer (C.4). Err: Incomplete or MarkCommand, with its bit, or Write where the
 /// sink failed.
 pub fn close_if<S: FrameSink>(
-    mode: Mode,
     ends: bool,
     slices: &mut Slices,
-    decoder: &mut Decoder,
+    decoder: &mut Option<Decoder>,
     sink: &mut S,
 ) -> Result<(), Stop>
     requires room { HasRoom S.failures sink.old }
     requires pictures { slices.old.pictures ≤ 2 ^ 42 }
-    requires kept { KeepsSomeFrames mode false slices.old decoder.old }
-    ensures closes { (frames : ℕ → Frame) (before : History) → KeepsSlices before false slices.old →
-        KeepsDecoder mode frames (goes_on before) false (runs_of before) decoder.old →
+    requires kept { KeepsSomeFrames false slices.old decoder.old }
+    ensures closes { (mode : Mode) (frames : ℕ → Frame) (before : History) → KeepsSlices before false slices.old →
+        WhereMade mode (KeepsFrames frames (goes_on before) false (runs_of before)) decoder.old →
         EndsFrames mode S.took S.failures frames (goes_on before) ends (runs_of before)
         (steps_outcome (close_steps mode ends before)) decoder.new sink.old sink.new result }
     ensures ended { (before : History) → KeepsSlices before false slices.old → OnOk result (KeepsSlices before ends slices.new) }
     ensures others { slices.new ≡ record slices.old { held = slices.new.held } }
-    ensures format { decoder.new.format ≡ decoder.old.format }
+    ensures format { format_in decoder.new ≡ format_in decoder.old }
     ensures no_memory { IsErrOf result Stop.Memory → ⊥ }
     ensures kept { OnOk result (IsQuiet S.failures sink.old sink.new) }
 {
-    end_data_if(mode, ends, slices, &decoder.work)?;
+    end_data_if(ends, slices, decoder)?;
     end_if(ends, slices)?;
-    end_frame_if(mode, ends, slices, decoder, sink)
+    end_frame_if(ends, slices, decoder, sink)
 }

@@ -51,7 +51,6 @@ fn format_of(sps: &Sps) -> Format
 
 impl Decoder {
     ghost use Rattle.std.specs.Prelude.{◌≡◌, ℕ, ◌+◌, ◌-◌, ◌<◌, ◌≤◌, ◌^◌, ◌⊎◌, true, false, [], ◌∷◌, List, Some, None, length, get_or, Ok, OnOk, IfErr, IsErrOf};
-    ghost use Rattle.h264_base.specs.declared.mode.Mode.{Mode};
     ghost use Rattle.h264_base.specs.declared.mode.Mode.TheVariants as modes;
     ghost use Rattle.h264_plane.specs.declared.frame.Frame.{Frame};
     ghost use Rattle.h264_sps.specs.Usable.{is_usable};
@@ -73,14 +72,14 @@ impl Decoder {
     ghost use Rattle.h264_verify.specs.Decoding.{number_of};
     ghost use Rattle.h264_verify.specs.Buffering.{ended_picture, told_frames, end_frames};
     ghost use Rattle.h264_verify.specs.Keeping.{format_of, HasFormat, IsSized, AreOlder, EntersSome, IsRoomFor, KeepsOutput, FillsFrames};
-    ghost use Rattle.h264_verify.specs.Keeping.{KeepsFrames, KeepsDecoder, KeepsSomeGap, KeepsSomeEnd, EntersFrames, BegunFrames, HoldsBegun, IsNear};
+    ghost use Rattle.h264_verify.specs.Keeping.{KeepsFrames, FillsSome, KeepsSomeEnd, EntersFrames, BegunFrames, HoldsBegun, IsNear};
     ghost use Rattle.h264_verify.specs.Keeping.{HasPlace, SlicesSome};
     ghost use Rattle.h264_verify.specs.StepOutcome.{steps_outcome, structure_from};
     ghost use Rattle.h264_verify.specs.Framing.{EndsFrames, ReadsSlice};
 
     /// Before the first picture. It takes no memory.
     pub fn new() -> Decoder
-        ensures { (mode : Mode) (frames : ℕ → Frame) → KeepsDecoder mode frames false false [] result }
+        ensures { (frames : ℕ → Frame) → KeepsFrames frames false false [] result }
     {
         Decoder {
             work: Work::new(),
@@ -221,7 +220,7 @@ impl Decoder {
         ensures ends { (frames : ℕ → Frame) (p : CodedPicture) (ps : List CodedPicture) → picture.now ≡ ended_picture p ps →
             held.now ≡ held_after (p ∷ ps) → length (last_slice p).macroblocks ≡ picture_size p.first.sps →
             KeepsFrames frames true false (p ∷ ps) self.old → EndsFrames modes.Full S.took S.failures frames true true (p ∷ ps)
-            (steps_outcome (end_frames modes.Full (p ∷ ps))) self.new sink.old sink.new result }
+            (steps_outcome (end_frames modes.Full (p ∷ ps))) (Some self.new) sink.old sink.new result }
         ensures format { self.new.format ≡ self.old.format }
         ensures kept { OnOk result (IsQuiet S.failures sink.old sink.new) }
         ensures no_memory { IfErr result (λ e. e ≡ Stop.Write) }
@@ -238,7 +237,7 @@ impl Decoder {
         requires room { HasRoom S.failures sink.old }
         requires missing { 0 < missing_in (names held.now) }
         requires few { length held.now.frames ≤ size_of self.old.output }
-        requires kept { KeepsSomeGap modes.Full self.old }
+        requires kept { FillsSome self.old }
         ensures plays { (frames : ℕ → Frame) (t : Turn) (next : ℕ) → FillsFrames frames t next self.old →
             Plays (took_with frames S.took) S.failures (λ x. x) (steps_outcome (told_frames modes.Full (missing_turn held.now t.buffer).written))
             sink.old sink.new result }
@@ -263,7 +262,7 @@ impl Decoder {
     /// The end of the input: all frames that wait are written (C.4.5.3). Write: the sink failed.
     pub fn finish<S: FrameSink>(&mut self, sink: &mut S) -> Result<(), Stop>
         requires room { HasRoom S.failures sink.old }
-        requires kept { KeepsSomeGap modes.Full self.old }
+        requires kept { FillsSome self.old }
         ensures plays { (frames : ℕ → Frame) (t : Turn) (next : ℕ) → FillsFrames frames t next self.old →
             Plays (took_with frames S.took) S.failures (λ x. x) (steps_outcome (told_frames modes.Full (last_turn t.buffer).written)) sink.old
             sink.new result }

@@ -6,9 +6,9 @@ ghost use Rattle.h264_base.specs.Call.{HasRoom, IsQuiet};
 ghost use Rattle.std.specs.Prelude.{OnOk, IfOk, IfErr, IsErrOf, if◌then◌else◌};
 ghost use Rattle.h264_sps.specs.Usable.{has_lengths};
 ghost use Rattle.std.specs.Prelude.{List};
+ghost use Rattle.h264_base.specs.declared.mode.Mode.{Mode};
 ghost use Rattle.h264_plane.specs.declared.frame.Frame.{Frame};
 ghost use Rattle.h264_dpb.specs.Bumping.{missing_in};
-ghost use Rattle.h264_dpb.specs.Kept.{size_of};
 ghost use Rattle.h264_marking.specs.Frames.{frame_places};
 ghost use Rattle.h264_dpb.specs.Turns.{Turn, turn_then, names, missing_turn};
 ghost use Rattle.h264_base.specs.declared.rule.Rule.TheVariants.{FrameNum};
@@ -18,7 +18,7 @@ ghost use Rattle.h264_verify.specs.Telling.{took_with};
 ghost use Rattle.h264_verify.specs.Outcome.{Plays};
 ghost use Rattle.h264_verify.specs.Buffering.{told_frames, gaps_turn, missing_steps};
 ghost use Rattle.h264_marking.specs.Steady.{IsSteady};
-ghost use Rattle.h264_verify.specs.Keeping.{KeepsGap, KeepsSomeGap, BufferStays, HasPlaces, GoesWith, numbers_in};
+ghost use Rattle.h264_verify.specs.Keeping.{WhereMade, FillsFrames, KeepsSomeGap, BufferStays, HasPlaces, GoesWith, numbers_in, format_in};
 ghost use Rattle.h264_verify.specs.StepOutcome.{steps_outcome};
 ghost use Rattle.h264_verify.specs.Demands.{judged};
 ghost use Rattle.h264_verify.specs.Pictures.{prev_ref_frame_num_after};
@@ -31,7 +31,7 @@ use crate::decoder::Decoder;
 use crate::head::SliceHead;
 use crate::rules::check;
 use crate::sink::FrameSink;
-use h264_base::{Mode, Rule, Stop};
+use h264_base::{Rule, Stop};
 use h264_header::Header;
 use h264_marking::gaps::{gap_before, is_new_num, number_after};
 use h264_marking::{Held, Numbering, resets};
@@ -74,43 +74,35 @@ pub(crate) fn check_idr_num(header: &Header) -> Result<(), Stop>
 }
 
 /// The frame of a missing number takes its place, where frames are made.
-#[tactic(auto, unfolding(crate::specs::Keeping::KeepsGap))]
-fn miss<S: FrameSink>(
-    mode: Mode,
-    held: &Held,
-    decoder: &mut Decoder,
-    sink: &mut S,
-) -> Result<(), Stop>
+fn miss<S: FrameSink>(held: &Held, decoder: &mut Option<Decoder>, sink: &mut S) -> Result<(), Stop>
     requires room { HasRoom S.failures sink.old }
     requires missing { 0 < missing_in (names held.now) }
-    requires few { HasPlaces mode (length held.now.frames) decoder.old }
-    requires kept { KeepsSomeGap mode decoder.old }
-    ensures plays { (frames : ℕ → Frame) (t : Turn) (next : ℕ) → KeepsGap mode frames t next decoder.old →
+    requires few { HasPlaces (length held.now.frames) decoder.old }
+    requires kept { KeepsSomeGap decoder.old }
+    ensures plays { (mode : Mode) (frames : ℕ → Frame) (t : Turn) (next : ℕ) → WhereMade mode (FillsFrames frames t next) decoder.old →
         Plays (took_with frames S.took) S.failures (λ x. x) (steps_outcome (told_frames mode (missing_turn held.now t.buffer).written)) sink.old
         sink.new result }
-    ensures keeps { (frames : ℕ → Frame) (t : Turn) (next : ℕ) → KeepsGap mode frames t next decoder.old →
-        OnOk result (KeepsGap mode frames (turn_then t (missing_turn held.now)) next decoder.new) }
+    ensures keeps { (mode : Mode) (frames : ℕ → Frame) (t : Turn) (next : ℕ) → WhereMade mode (FillsFrames frames t next) decoder.old →
+        OnOk result (WhereMade mode (FillsFrames frames (turn_then t (missing_turn held.now)) next) decoder.new) }
     ensures no_memory { IfErr result (λ e. e ≡ Stop.Write) }
-    ensures sized { size_of decoder.new.output ≡ size_of decoder.old.output }
-    ensures format { decoder.new.format ≡ decoder.old.format }
+    ensures sized { (n : ℕ) → HasPlaces n decoder.old → HasPlaces n decoder.new }
+    ensures format { format_in decoder.new ≡ format_in decoder.old }
     ensures kept { OnOk result (IsQuiet S.failures sink.old sink.new) }
 {
-    match mode {
-        Mode::Units => Ok(()),
-        Mode::Headers => Ok(()),
-        Mode::Full => decoder.miss(held, sink),
+    match decoder {
+        None => Ok(()),
+        Some(decoder) => decoder.miss(held, sink),
     }
 }
 
 /// Where frames are made, whether one more of a missing number leaves the buffer as it is.
-fn buffer_stays(mode: Mode, held: &Held, decoder: &Decoder) -> bool
-    ensures { result ≡ true → (frames : ℕ → Frame) (t : Turn) (next : ℕ) → KeepsGap mode frames t next decoder.now →
+fn buffer_stays(held: &Held, decoder: &Option<Decoder>) -> bool
+    ensures { result ≡ true → (mode : Mode) (frames : ℕ → Frame) (t : Turn) (next : ℕ) → WhereMade mode (FillsFrames frames t next) decoder.now →
         BufferStays mode held.now t.buffer }
 {
-    match mode {
-        Mode::Units => true,
-        Mode::Headers => true,
-        Mode::Full => decoder.buffer_stays(held),
+    match decoder {
+        None => true,
+        Some(decoder) => decoder.buffer_stays(held),
     }
 }
 
@@ -118,15 +110,14 @@ fn buffer_stays(mode: Mode, held: &Held, decoder: &Decoder) -> bool
 /// as frames may be held.
 fn may_skip(
     turn: u32,
-    mode: Mode,
     numbering: &Numbering,
     last: u32,
     held: &Held,
-    decoder: &Decoder,
+    decoder: &Option<Decoder>,
 ) -> bool
     requires { 0 < numbering.now.max_frame_num }
     ensures held { result ≡ true → IsSteady numbering.now last held.now.frames }
-    ensures frames { result ≡ true → (frames : ℕ → Frame) (t : Turn) (next : ℕ) → KeepsGap mode frames t next decoder.now →
+    ensures frames { result ≡ true → (mode : Mode) (frames : ℕ → Frame) (t : Turn) (next : ℕ) → WhereMade mode (FillsFrames frames t next) decoder.now →
         BufferStays mode held.now t.buffer }
 {
     if turn != MOST_PLACES {
@@ -135,30 +126,29 @@ fn may_skip(
     if !held.is_steady(numbering, last) {
         return false;
     }
-    buffer_stays(mode, held, decoder)
+    buffer_stays(held, decoder)
 }
 
 /// Fills a gap's numbers one after another (8.2.5.2), and gives the last of them, or PrevRefFrameNum where there is none. It skips those that change
 /// nothing but the numbers of frames.
 fn fill_frames<S: FrameSink>(
-    mode: Mode,
     gap: &Gap,
     held: &mut Held,
-    decoder: &mut Decoder,
+    decoder: &mut Option<Decoder>,
     sink: &mut S,
 ) -> Result<u32, Stop>
     requires room { HasRoom S.failures sink.old }
     requires numbers { 0 < gap.now.numbering.max_frame_num }
     requires few { 0 < gap.now.count → length held.old.frames ≤ frame_places gap.now.numbering.max_num_ref_frames }
-    requires places { 0 < gap.now.count → HasPlaces mode (frame_places gap.now.numbering.max_num_ref_frames) decoder.old }
-    requires kept { KeepsSomeGap mode decoder.old }
-    ensures plays { (frames : ℕ → Frame) (t : Turn) (next : ℕ) → KeepsGap mode frames t next decoder.old →
+    requires places { 0 < gap.now.count → HasPlaces (frame_places gap.now.numbering.max_num_ref_frames) decoder.old }
+    requires kept { KeepsSomeGap decoder.old }
+    ensures plays { (mode : Mode) (frames : ℕ → Frame) (t : Turn) (next : ℕ) → WhereMade mode (FillsFrames frames t next) decoder.old →
         Plays (took_with frames S.took) S.failures (λ _. tt) (steps_outcome
         (missing_steps mode gap.now.bit gap.now.numbering (numbers_in gap.now) held.old t.buffer)) sink.old sink.new result }
-    ensures keeps { (frames : ℕ → Frame) (t : Turn) (next : ℕ) → KeepsGap mode frames t next decoder.old →
-        OnOk result (KeepsGap mode frames (turn_then t (gaps_turn gap.now.numbering (numbers_in gap.now) held.old)) next decoder.new) }
+    ensures keeps { (mode : Mode) (frames : ℕ → Frame) (t : Turn) (next : ℕ) → WhereMade mode (FillsFrames frames t next) decoder.old →
+        OnOk result (WhereMade mode (FillsFrames frames (turn_then t (gaps_turn gap.now.numbering (numbers_in gap.now) held.old)) next) decoder.new) }
     ensures no_memory { IsErrOf result Stop.Memory → ⊥ }
-    ensures format { decoder.new.format ≡ decoder.old.format }
+    ensures format { format_in decoder.new ≡ format_in decoder.old }
     ensures last { IfOk result (λ last. last ≡ last_or gap.now.prev_ref_frame_num (numbers_in gap.now)) }
     ensures held { OnOk result (all_filled gap.now.numbering (numbers_in gap.now) held.old ≡ Some held.new) }
     ensures kept { OnOk result (IsQuiet S.failures sink.old sink.new) }
@@ -167,7 +157,7 @@ fn fill_frames<S: FrameSink>(
     let count = gap.count;
     let mut last = gap.prev_ref_frame_num;
     for turn in 0..count {
-        if may_skip(turn, mode, numbering, last, held, decoder) {
+        if may_skip(turn, numbering, last, held, decoder) {
             held.skip(numbering, last, count - turn);
             return Ok(number_after(last, count - turn, numbering.max_frame_num));
         }
@@ -177,7 +167,7 @@ fn fill_frames<S: FrameSink>(
             max_num_ref_frames: numbering.max_num_ref_frames,
         };
         held.fill_gap(&missing, gap.bit)?;
-        miss(mode, held, decoder, sink)?;
+        miss(held, decoder, sink)?;
         last = missing.frame_num;
     }
     Ok(last)
@@ -208,29 +198,28 @@ fn check_new(
 
 /// The rules on a picture's frame_num, and what the picture leaves of the numbers before it: the gap is filled.
 pub(crate) fn check_gap<S: FrameSink>(
-    mode: Mode,
     head: &SliceHead<'_>,
     prev_ref_frame_num: &mut u32,
     held: &mut Held,
-    decoder: &mut Decoder,
+    decoder: &mut Option<Decoder>,
     sink: &mut S,
 ) -> Result<(), Stop>
     requires lengths { has_lengths head.now.place.sps.now ≡ true }
     requires numbered { head.now.numbering ≡ numbering_of head.now.place.sps.now head.now.header.now }
     requires room { HasRoom S.failures sink.old }
-    requires goes { is_idr head.now.header.now ≡ false → GoesWith mode head.now.place.sps.now held.old decoder.old }
-    requires kept { KeepsSomeGap mode decoder.old }
-    ensures plays { (frames : ℕ → Frame) (t : Turn) (next : ℕ) → KeepsGap mode frames t next decoder.old →
+    requires goes { is_idr head.now.header.now ≡ false → GoesWith head.now.place.sps.now held.old decoder.old }
+    requires kept { KeepsSomeGap decoder.old }
+    ensures plays { (mode : Mode) (frames : ℕ → Frame) (t : Turn) (next : ℕ) → WhereMade mode (FillsFrames frames t next) decoder.old →
         Plays (took_with frames S.took) S.failures (λ x. x) (steps_outcome
         (gap_rules mode (is_idr head.now.header.now) (is_reference head.now.header.now) head.now.place.sps.now.gaps_in_frame_num_value_allowed_flag
         head.now.header.now.frame_num.bit
         prev_ref_frame_num.old (numbering_of head.now.place.sps.now head.now.header.now) held.old t.buffer)) sink.old sink.new result }
-    ensures keeps { (frames : ℕ → Frame) (t : Turn) (next : ℕ) → KeepsGap mode frames t next decoder.old →
-        OnOk result (KeepsGap mode frames (turn_then t (gaps_turn (numbering_of head.now.place.sps.now head.now.header.now)
+    ensures keeps { (mode : Mode) (frames : ℕ → Frame) (t : Turn) (next : ℕ) → WhereMade mode (FillsFrames frames t next) decoder.old →
+        OnOk result (WhereMade mode (FillsFrames frames (turn_then t (gaps_turn (numbering_of head.now.place.sps.now head.now.header.now)
         (unused_short_term_frame_nums (is_idr head.now.header.now) prev_ref_frame_num.old
-        (numbering_of head.now.place.sps.now head.now.header.now)) held.old)) next decoder.new) }
+        (numbering_of head.now.place.sps.now head.now.header.now)) held.old)) next) decoder.new) }
     ensures no_memory { IsErrOf result Stop.Memory → ⊥ }
-    ensures format { decoder.new.format ≡ decoder.old.format }
+    ensures format { format_in decoder.new ≡ format_in decoder.old }
     ensures held { OnOk result (held.new ≡ entered (is_idr head.now.header.now)
         prev_ref_frame_num.old (numbering_of head.now.place.sps.now head.now.header.now) held.old) }
     ensures filled { OnOk result (all_filled (numbering_of head.now.place.sps.now head.now.header.now)
@@ -258,7 +247,7 @@ pub(crate) fn check_gap<S: FrameSink>(
         numbering,
         bit,
     };
-    let last = fill_frames(mode, &gap, held, decoder, sink)?;
+    let last = fill_frames(&gap, held, decoder, sink)?;
     check_new(idr, reference, prev, numbering.frame_num, held, bit)?;
     *prev_ref_frame_num = prev_ref_after(
         reference,

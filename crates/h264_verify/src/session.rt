@@ -53,7 +53,7 @@ fn judge_next<S: FrameSink>(
 {
     match judge_unit(alloc, terms, state, unit, rbsp, sink) {
         Ok(()) => {
-            sink.note_places_taken(state.decoder.output.places_taken());
+            sink.note_places_taken(state.places_taken());
             Ok(())
         }
         Err(stop) => Err(stop),
@@ -197,7 +197,7 @@ impl Session {
         ensures fed { IfOk result (λ s. (frames : ℕ → Frame) → WasFed (terms_of mode target) s [] frames []) }
         ensures err { IfErr result (λ e. e ≡ Stop.Memory) }
     {
-        let state = State::new(alloc)?;
+        let state = State::new(alloc, mode)?;
         Ok(Session {
             alloc,
             terms: Terms { mode, target },
@@ -273,7 +273,7 @@ impl Session {
         ensures { (bytes : List ℕ) (frames : ℕ → Frame) (told : List Told) → (fed : WasFed self.now.terms self.now bytes frames told) →
             self.now.terms.mode ≡ modes.Full → result ≡ taken_after fed.before }
     {
-        self.state.decoder.output.places_taken()
+        self.state.places_taken()
     }
 
     /// Judges the next piece of the input. Err: the stop of the stream; Memory where a growth was refused, for bytes or for a picture

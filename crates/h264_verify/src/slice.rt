@@ -9,18 +9,20 @@ ghost use Rattle.h264_pps.specs.declared.Pps.{Pps};
 ghost use Rattle.h264_sps.specs.declared.sps.Sps.{Sps};
 ghost use Rattle.h264_verify.specs.Demands.{judged};
 ghost use Rattle.h264_verify.specs.History.{History, maps_with, maps_of};
+ghost use Rattle.h264_base.specs.declared.mode.Mode.{Mode};
 ghost use Rattle.h264_plane.specs.declared.frame.Frame.{Frame};
-ghost use Rattle.h264_verify.specs.Keeping.{KeepsSlices, KeepsDecoder, KeepsSomeSlice, begins_by, coded_before, HoldsNewest, HoldsBefore};
+ghost use Rattle.h264_verify.specs.Keeping.{KeepsSlices, KeepsFrames, WhereMade, KeepsSomeSlice, begins_by, coded_before, HoldsNewest, format_in};
 ghost use Rattle.h264_verify.specs.Framing.{JudgesSlice, PlacesSlice};
 ghost use Rattle.h264_verify.specs.Content as contents;
 ghost use Rattle.h264_verify.specs.Pictures.{CodedPicture, runs_of, goes_on};
 ghost use Rattle.h264_verify.specs.Slices.{first_mb_demands};
 
 use crate::close::close_if;
+use crate::decoder::Decoder;
 use crate::rules::{check, check_standing};
 use crate::sink::FrameSink;
 use crate::state::State;
-use h264_base::{Mode, Rule, Stop};
+use h264_base::{Rule, Stop};
 use h264_header::Header;
 use h264_picture::Work;
 use h264_units::NalUnit;
@@ -36,16 +38,15 @@ fn coded_before(begins: bool, work: &Work) -> u32
 }
 
 /// Whether a slice begins where its picture's macroblocks so far end, where slice data are read.
-fn check_first_mb(mode: Mode, begins: bool, work: &Work, header: &Header) -> Result<(), Stop>
-    ensures judged { (pictures : List CodedPicture) → HoldsBefore mode begins pictures work.now →
+fn check_first_mb(begins: bool, decoder: &Option<Decoder>, header: &Header) -> Result<(), Stop>
+    ensures judged { (mode : Mode) (pictures : List CodedPicture) → WhereMade mode (λ d. HoldsNewest begins pictures d.work) decoder.now →
         result ≡ judged (first_mb_demands mode (coded_before begins pictures) header.now) }
     ensures no_memory { IsErrOf result Stop.Memory → ⊥ }
 {
-    match mode {
-        Mode::Units => Ok(()),
-        Mode::Headers => Ok(()),
-        Mode::Full => {
-            let coded = coded_before(begins, work);
+    match decoder {
+        None => Ok(()),
+        Some(decoder) => {
+            let coded = coded_before(begins, &decoder.work);
             let first_mb = header.first_mb_in_slice;
             check(first_mb.value == coded, Rule::FirstMb, first_mb.bit)
         }
@@ -58,7 +59,6 @@ fn check_first_mb(mode: Mode, begins: bool, work: &Work, header: &Header) -> Res
 /// Err: the first rule that is not met, with its bit (of the unit, the header's element, or the end of the picture before), or Write where the
 /// sink failed; what is kept is then of no use.
 pub(crate) fn place_slice<S: FrameSink>(
-    mode: Mode,
     begins: bool,
     state: &mut State,
     unit: &NalUnit,
@@ -69,18 +69,18 @@ pub(crate) fn place_slice<S: FrameSink>(
     requires id { state.old.slice.header.pic_parameter_set_id.value ≤ 255 }
     requires named { is_some (sets_of state.old.sets state.old.slice.header.pic_parameter_set_id.value) ≡ true }
     requires pictures { state.old.slices.pictures < 2 ^ 42 }
-    requires kept { KeepsSomeSlice mode state.old.slices state.old.sets state.old.decoder }
-    ensures refused { (frames : ℕ → Frame) (before : History) (named : Pps × Sps) → KeepsSlices before false state.old.slices →
+    requires kept { KeepsSomeSlice state.old.slices state.old.sets state.old.decoder }
+    ensures refused { (mode : Mode) (frames : ℕ → Frame) (before : History) (named : Pps × Sps) → KeepsSlices before false state.old.slices →
         state.old.sets ≡ maps_of before → sets_of state.old.sets state.old.slice.header.pic_parameter_set_id.value ≡ Some named →
-        KeepsDecoder mode frames (goes_on before) false (runs_of before) state.old.decoder →
+        WhereMade mode (KeepsFrames frames (goes_on before) false (runs_of before)) state.old.decoder →
         OnErr result (JudgesSlice mode S.took S.failures frames before unit.now state.old.slice.header named begins state.new.decoder sink.old sink.new
         result) }
-    ensures placed { (frames : ℕ → Frame) (before : History) → KeepsSlices before false state.old.slices →
-        KeepsDecoder mode frames (goes_on before) false (runs_of before) state.old.decoder →
+    ensures placed { (mode : Mode) (frames : ℕ → Frame) (before : History) → KeepsSlices before false state.old.slices →
+        WhereMade mode (KeepsFrames frames (goes_on before) false (runs_of before)) state.old.decoder →
         OnOk result (PlacesSlice mode S.took S.failures frames before unit.now state.old.slice.header begins state.old state.new sink.old sink.new) }
     ensures sets { OnOk result (state.new.sets ≡ maps_with state.old.sets (contents.OfSlice state.old.slice.header [])) }
     ensures named { OnOk result (is_some (sets_of state.new.sets state.new.slice.header.pic_parameter_set_id.value) ≡ true) }
-    ensures format { state.new.decoder.format ≡ state.old.decoder.format }
+    ensures format { format_in state.new.decoder ≡ format_in state.old.decoder }
     ensures pictures { state.new.slices.pictures ≡ state.old.slices.pictures }
     ensures units { state.new.units ≡ state.old.units }
     ensures slice { state.new.slice ≡ state.old.slice }
@@ -88,7 +88,7 @@ pub(crate) fn place_slice<S: FrameSink>(
     ensures kept { OnOk result (IsQuiet S.failures sink.old sink.new) }
 {
     let bit = 8 * unit.from();
-    close_if(mode, begins, &mut state.slices, &mut state.decoder, sink)?;
+    close_if(begins, &mut state.slices, &mut state.decoder, sink)?;
     check_standing(
         begins,
         state.slices.due,
@@ -96,5 +96,5 @@ pub(crate) fn place_slice<S: FrameSink>(
         bit,
         &state.slice.header,
     )?;
-    check_first_mb(mode, begins, &state.decoder.work, &state.slice.header)
+    check_first_mb(begins, &state.decoder, &state.slice.header)
 }

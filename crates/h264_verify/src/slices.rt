@@ -11,11 +11,13 @@ ghost use Rattle.h264_poc.specs.Counts.{Keeps as KeepsCounts};
 ghost use Rattle.h264_verify.specs.Outcome.{Plays, tells};
 ghost use Rattle.h264_verify.specs.Demands.{judged};
 ghost use Rattle.h264_verify.specs.History.{History};
+ghost use Rattle.h264_base.specs.declared.mode.Mode.{Mode};
 ghost use Rattle.h264_plane.specs.declared.frame.Frame.{Frame};
 ghost use Rattle.h264_dpb.specs.Turns.{Turn, turn_then};
 ghost use Rattle.h264_verify.specs.Telling.{Said, took_with};
 ghost use Rattle.h264_verify.specs.Buffering.{gaps_turn, ended_picture, frame_count, newest_count};
-ghost use Rattle.h264_verify.specs.Keeping.{KeepsSlices, KeepsDecoder, KeepsGap, KeepsSomeGap, GoesWith, KeepsSomeRules, EntersDecoder, HoldsEnd};
+ghost use Rattle.h264_verify.specs.Keeping.{KeepsSlices, KeepsFrames, WhereMade, FillsFrames, EntersBy, KeepsSomeGap, GoesWith, KeepsSomeRules};
+ghost use Rattle.h264_verify.specs.Keeping.{HoldsEnd, format_in};
 ghost use Rattle.h264_verify.specs.Keeping.{HoldsOpen, IsLeft, first_by, later_by, slice_rules, told_rules, KeepsPictures, Entered, is_typed, slice_at};
 ghost use Rattle.h264_verify.specs.StepOutcome.{steps_outcome};
 ghost use Rattle.h264_verify.specs.Pictures.{CodedSlice, CodedPicture, open_of, joined_to, runs_of, goes_on, bit_after};
@@ -36,7 +38,7 @@ use crate::rules::{
 };
 use crate::sink::FrameSink;
 use arrayvec::ArrayVec;
-use h264_base::{Failed, Mode, SliceType, Stop};
+use h264_base::{Failed, SliceType, Stop};
 use h264_dpb::{Ended, ended_of};
 use h264_header::{Header, SliceKind};
 use h264_lists::RefSlot;
@@ -156,29 +158,27 @@ fn check_new_picture(
 
 /// The rules of a picture's first slice from its type on, where the picture before has ended; and what the picture leaves.
 fn check_first_slice<S: FrameSink>(
-    mode: Mode,
     slices: &mut Slices,
     head: &SliceHead<'_>,
     list: &mut ArrayVec<RefSlot, 16>,
-    decoder: &mut Decoder,
+    decoder: &mut Option<Decoder>,
     sink: &mut S,
 ) -> Result<(), Stop>
     requires lengths { has_lengths head.now.place.sps.now ≡ true }
     requires numbered { head.now.numbering ≡ numbering_of head.now.place.sps.now head.now.header.now }
     requires room { HasRoom S.failures sink.old }
-    requires goes { is_idr head.now.header.now ≡ false → GoesWith mode head.now.place.sps.now slices.old.held decoder.old }
-    requires kept { KeepsSomeGap mode decoder.old }
-    ensures plays { (frames : ℕ → Frame) (t : Turn) (next : ℕ) (pictures : List Picture) → KeepsGap mode frames t next decoder.old →
-        KeepsCounts pictures slices.old.counts → Plays (took_with frames S.took) S.failures (λ x. x)
+    requires goes { is_idr head.now.header.now ≡ false → GoesWith head.now.place.sps.now slices.old.held decoder.old }
+    requires kept { KeepsSomeGap decoder.old }
+    ensures plays { (mode : Mode) (frames : ℕ → Frame) (t : Turn) (next : ℕ) (pictures : List Picture) →
+        WhereMade mode (FillsFrames frames t next) decoder.old → KeepsCounts pictures slices.old.counts → Plays (took_with frames S.took) S.failures (λ x. x)
         (steps_outcome (first_by mode slices.old pictures t.buffer head.now.place.pps.now head.now.place.sps.now head.now.header.now
         (8 * head.now.place.unit.now.from))) sink.old sink.new result }
-    ensures gap { (frames : ℕ → Frame) (t : Turn) (next : ℕ) → KeepsGap mode frames t next decoder.old →
-        OnOk result (KeepsGap mode frames (turn_then t (gaps_turn (numbering_of head.now.place.sps.now head.now.header.now)
+    ensures gap { (mode : Mode) (frames : ℕ → Frame) (t : Turn) (next : ℕ) → WhereMade mode (FillsFrames frames t next) decoder.old →
+        OnOk result (WhereMade mode (FillsFrames frames (turn_then t (gaps_turn (numbering_of head.now.place.sps.now head.now.header.now)
         (unused_short_term_frame_nums (is_idr head.now.header.now) slices.old.prev_ref_frame_num
-        (numbering_of head.now.place.sps.now head.now.header.now)) slices.old.held)) next
-        decoder.new) }
+        (numbering_of head.now.place.sps.now head.now.header.now)) slices.old.held)) next) decoder.new) }
     ensures no_memory { IsErrOf result Stop.Memory → ⊥ }
-    ensures format { decoder.new.format ≡ decoder.old.format }
+    ensures format { format_in decoder.new ≡ format_in decoder.old }
     ensures counts { (pictures : List Picture) → KeepsCounts pictures slices.old.counts →
         OnOk result (KeepsCounts (picture_of head.now.place.sps.now head.now.header.now ∷ pictures) slices.new.counts) }
     ensures count { (pictures : List Picture) → KeepsCounts pictures slices.old.counts →
@@ -205,7 +205,6 @@ fn check_first_slice<S: FrameSink>(
     check_type(head.place.sps, head.header)?;
     check_idr_num(head.header)?;
     check_gap(
-        mode,
         head,
         &mut slices.prev_ref_frame_num,
         &mut slices.held,
@@ -239,11 +238,10 @@ fn check_later_slice(
 
 /// The rules of a slice from its type on, its list, and what a picture that begins leaves.
 fn check_rules<S: FrameSink>(
-    mode: Mode,
     slices: &mut Slices,
     head: &SliceHead<'_>,
     list: &mut ArrayVec<RefSlot, 16>,
-    decoder: &mut Decoder,
+    decoder: &mut Option<Decoder>,
     sink: &mut S,
 ) -> Result<(), Stop>
     requires lengths { has_lengths head.now.place.sps.now ≡ true }
@@ -251,34 +249,34 @@ fn check_rules<S: FrameSink>(
     requires room { HasRoom S.failures sink.old }
     requires pictures { slices.old.pictures < 2 ^ 42 }
     requires goes { head.now.place.begins ≡ true → is_idr head.now.header.now ≡ false →
-        GoesWith mode head.now.place.sps.now slices.old.held decoder.old }
-    requires kept { KeepsSomeRules mode head.now.place.begins slices.old decoder.old }
-    ensures plays { (frames : ℕ → Frame) (before : History) → KeepsSlices before head.now.place.begins slices.old →
+        GoesWith head.now.place.sps.now slices.old.held decoder.old }
+    requires kept { KeepsSomeRules head.now.place.begins slices.old decoder.old }
+    ensures plays { (mode : Mode) (frames : ℕ → Frame) (before : History) → KeepsSlices before head.now.place.begins slices.old →
         head.now.place.begins ≡ begins_at before head.now.header.now →
-        KeepsDecoder mode frames (goes_on before) head.now.place.begins (runs_of before) decoder.old →
+        WhereMade mode (KeepsFrames frames (goes_on before) head.now.place.begins (runs_of before)) decoder.old →
         Plays (took_with frames S.took) S.failures (λ x. x) (steps_outcome
         (slice_rules mode head.now.place.begins (runs_of before) (slice_at head.now.place head.now.header.now []))) sink.old sink.new result }
     ensures entered { (before : History) (macroblocks : List CodedMacroblock) → KeepsSlices before head.now.place.begins slices.old →
         head.now.place.begins ≡ begins_at before head.now.header.now →
         OnOk result (Entered before head.now.place.begins (slice_at head.now.place head.now.header.now macroblocks) slices.new) }
-    ensures frames { (frames : ℕ → Frame) (before : History) → KeepsSlices before head.now.place.begins slices.old →
+    ensures frames { (mode : Mode) (frames : ℕ → Frame) (before : History) → KeepsSlices before head.now.place.begins slices.old →
         head.now.place.begins ≡ begins_at before head.now.header.now →
-        KeepsDecoder mode frames (goes_on before) head.now.place.begins (runs_of before) decoder.old →
-        OnOk result (EntersDecoder mode frames head.now.place.begins (slice_at head.now.place head.now.header.now []) (goes_on before) (runs_of before)
-        decoder.new) }
+        WhereMade mode (KeepsFrames frames (goes_on before) head.now.place.begins (runs_of before)) decoder.old →
+        OnOk result (WhereMade mode (EntersBy frames head.now.place.begins (slice_at head.now.place head.now.header.now []) (goes_on before)
+        (runs_of before)) decoder.new) }
     ensures filled { head.now.place.begins ≡ true → OnOk result (all_filled (numbering_of head.now.place.sps.now head.now.header.now)
         (unused_short_term_frame_nums (is_idr head.now.header.now) slices.old.prev_ref_frame_num
         (numbering_of head.now.place.sps.now head.now.header.now)) slices.old.held ≡ Some
         slices.new.held) }
     ensures list { OnOk result (list_of head.now.header.now.kind.value head.now.numbering slices.new.held ≡ Ok list.new.items) }
     ensures typed { OnOk result (is_typed head.now.header.now ≡ true) }
-    ensures format { decoder.new.format ≡ decoder.old.format }
+    ensures format { format_in decoder.new ≡ format_in decoder.old }
     ensures pictures { slices.new.pictures ≡ slices.old.pictures }
     ensures no_memory { IsErrOf result Stop.Memory → ⊥ }
     ensures kept { OnOk result (IsQuiet S.failures sink.old sink.new) }
 {
     if head.place.begins {
-        check_first_slice(mode, slices, head, list, decoder, sink)
+        check_first_slice(slices, head, list, decoder, sink)
     } else {
         check_later_slice(slices, head, list)
     }
@@ -377,30 +375,29 @@ fn enter(
 /// Err: the first that is not met of SliceType, FrameNum, IdrPicId, Count, Qp, ListCommand and MarkDiffers, at its element's bit (Count at the
 /// first of the unit), or Write where the sink failed. What is kept is then of no use.
 pub(crate) fn judge_rules<S: FrameSink>(
-    mode: Mode,
     place: &SlicePlace<'_>,
     slices: &mut Slices,
     slice: &mut Slice,
-    decoder: &mut Decoder,
+    decoder: &mut Option<Decoder>,
     sink: &mut S,
 ) -> Result<(), Stop>
     requires lengths { has_lengths place.now.sps.now ≡ true }
     requires room { HasRoom S.failures sink.old }
     requires pictures { slices.old.pictures < 2 ^ 42 }
-    requires goes { place.now.begins ≡ true → is_idr slice.old.header ≡ false → GoesWith mode place.now.sps.now slices.old.held decoder.old }
-    requires kept { KeepsSomeRules mode place.now.begins slices.old decoder.old }
-    ensures plays { (frames : ℕ → Frame) (before : History) → KeepsSlices before place.now.begins slices.old →
+    requires goes { place.now.begins ≡ true → is_idr slice.old.header ≡ false → GoesWith place.now.sps.now slices.old.held decoder.old }
+    requires kept { KeepsSomeRules place.now.begins slices.old decoder.old }
+    ensures plays { (mode : Mode) (frames : ℕ → Frame) (before : History) → KeepsSlices before place.now.begins slices.old →
         place.now.begins ≡ begins_at before slice.old.header →
-        KeepsDecoder mode frames (goes_on before) place.now.begins (runs_of before) decoder.old →
+        WhereMade mode (KeepsFrames frames (goes_on before) place.now.begins (runs_of before)) decoder.old →
         Plays (took_with frames S.took) S.failures (λ x. x) (steps_outcome
         (told_rules mode place.now.begins (runs_of before) (slice_at place.now slice.old.header []))) sink.old sink.new result }
     ensures entered { (before : History) (macroblocks : List CodedMacroblock) → KeepsSlices before place.now.begins slices.old →
         place.now.begins ≡ begins_at before slice.old.header → OnOk result (KeepsPictures true false
         (joined_to place.now.begins (slice_at place.now slice.old.header macroblocks) (runs_of before)) slices.new) }
-    ensures frames { (frames : ℕ → Frame) (before : History) → KeepsSlices before place.now.begins slices.old →
+    ensures frames { (mode : Mode) (frames : ℕ → Frame) (before : History) → KeepsSlices before place.now.begins slices.old →
         place.now.begins ≡ begins_at before slice.old.header →
-        KeepsDecoder mode frames (goes_on before) place.now.begins (runs_of before) decoder.old →
-        OnOk result (EntersDecoder mode frames place.now.begins (slice_at place.now slice.old.header []) (goes_on before) (runs_of before) decoder.new) }
+        WhereMade mode (KeepsFrames frames (goes_on before) place.now.begins (runs_of before)) decoder.old →
+        OnOk result (WhereMade mode (EntersBy frames place.now.begins (slice_at place.now slice.old.header []) (goes_on before) (runs_of before)) decoder.new) }
     ensures filled { place.now.begins ≡ true → OnOk result (all_filled (numbering_of place.now.sps.now slice.old.header)
         (unused_short_term_frame_nums (is_idr slice.old.header) slices.old.prev_ref_frame_num (numbering_of place.now.sps.now slice.old.header))
         slices.old.held ≡ Some slices.new.held) }
@@ -409,7 +406,7 @@ pub(crate) fn judge_rules<S: FrameSink>(
     ensures due { OnOk result (slices.new.due ≡ false) }
     ensures header { slice.new.header ≡ record slice.old.header { marking = slice.new.header.marking } }
     ensures typed { OnOk result (is_typed slice.old.header ≡ true) }
-    ensures format { decoder.new.format ≡ decoder.old.format }
+    ensures format { format_in decoder.new ≡ format_in decoder.old }
     ensures pictures { slices.new.pictures ≤ slices.old.pictures + 1 }
     ensures no_memory { IsErrOf result Stop.Memory → ⊥ }
     ensures kept { OnOk result (IsQuiet S.failures sink.old sink.new) }
@@ -426,7 +423,7 @@ pub(crate) fn judge_rules<S: FrameSink>(
         header: &slice.header,
         numbering,
     };
-    check_rules(mode, slices, &head, &mut slice.list, decoder, sink)?;
+    check_rules(slices, &head, &mut slice.list, decoder, sink)?;
     tell_slice(unit.from(), &slice.header, slices.count, sink)?;
     let ended = ended_of(
         sps,

@@ -17,12 +17,11 @@ ghost use Rattle.h264_verify.specs.History.{History, maps_of};
 ghost use Rattle.h264_verify.specs.Content as contents;
 ghost use Rattle.h264_plane.specs.declared.frame.Frame.{Frame};
 ghost use Rattle.h264_dpb.specs.Turns.{Turn, last_turn};
-ghost use Rattle.h264_dpb.specs.Kept.{KeepsBuffer};
 ghost use Rattle.h264_verify.specs.Telling.{Said, took_with};
 ghost use Rattle.h264_verify.specs.Buffering.{told_frames, after_all, frames_written};
 ghost use Rattle.h264_verify.specs.Sound.{IsMarked};
 ghost use Rattle.h264_verify.specs.KeepingUnits.{Keeps, KeepsWithin, KeepsSome};
-ghost use Rattle.h264_verify.specs.Keeping.{KeepsGap, KeepsSomeGap, IsLeft, ended_pictures, ended_in};
+ghost use Rattle.h264_verify.specs.Keeping.{WhereMade, FillsFrames, HasWritten, KeepsSomeGap, IsLeft, ended_pictures, ended_in};
 ghost use Rattle.h264_verify.specs.Pictures.{CodedPicture, ends_picture, goes_on, runs_of};
 ghost use Rattle.h264_verify.specs.Turning.{Turns, Joins, EndsAll};
 ghost use Rattle.h264_verify.specs.Units.{unit_call, slice_unit_of, has_pictures};
@@ -247,7 +246,7 @@ fn join_slice<S: FrameSink>(
 {
     read_slice_unit(header, &state.sets, rbsp, &mut state.slice.header, sink)?;
     let begins = begins(&state.slices.picture, &state.slice.header);
-    place_slice(Mode::Headers, begins, state, unit, sink)?;
+    place_slice(begins, state, unit, sink)?;
     let (pps, sps) = sets_named(&state.sets, &state.slice.header);
     let place = SlicePlace {
         unit,
@@ -256,7 +255,6 @@ fn join_slice<S: FrameSink>(
         begins,
     };
     judge_rules(
-        Mode::Headers,
         &place,
         &mut state.slices,
         &mut state.slice,
@@ -295,7 +293,7 @@ fn join_read<S: FrameSink>(
     let slice_unit = slice_unit(header);
     read_header(bits, &state.sets, slice_unit, &mut state.slice.header, sink)?;
     let begins = begins(&state.slices.picture, &state.slice.header);
-    place_slice(Mode::Full, begins, state, unit, sink)?;
+    place_slice(begins, state, unit, sink)?;
     let (pps, sps) = sets_named(&state.sets, &state.slice.header);
     let place = SlicePlace {
         unit,
@@ -304,7 +302,6 @@ fn join_read<S: FrameSink>(
         begins,
     };
     judge_rules(
-        Mode::Full,
         &place,
         &mut state.slices,
         &mut state.slice,
@@ -312,7 +309,10 @@ fn join_read<S: FrameSink>(
         sink,
     )?;
     state.units += 1;
-    read_data(alloc, &place, &state.slice, &mut state.decoder, bits, sink)
+    let Some(decoder) = &mut state.decoder else {
+        unreachable!()
+    };
+    read_data(alloc, &place, &state.slice, decoder, bits, sink)
 }
 
 /// Reads and judges a slice with its slice data, and adds it to the units before it.
@@ -432,13 +432,7 @@ pub fn judge_unit<S: FrameSink>(
     check_header(from, header)?;
     tell_unit(from, header, body.len() as u64, sink)?;
     let ends = ends_picture(header % 32);
-    close_if(
-        terms.mode,
-        ends,
-        &mut state.slices,
-        &mut state.decoder,
-        sink,
-    )?;
+    close_if(ends, &mut state.slices, &mut state.decoder, sink)?;
     let bytes = UnitBytes { unit, header, rbsp };
     join(alloc, terms, state, &bytes, sink)
 }
@@ -455,33 +449,29 @@ fn has_pictures(mode: Mode, pictures: u64) -> bool
 }
 
 /// Writes all frames that wait at the end of the input, where frames are made.
-fn finish_frames<S: FrameSink>(mode: Mode, decoder: &mut Decoder, sink: &mut S) -> Result<(), Stop>
+fn finish_frames<S: FrameSink>(decoder: &mut Option<Decoder>, sink: &mut S) -> Result<(), Stop>
     requires room { HasRoom S.failures sink.old }
-    requires kept { KeepsSomeGap mode decoder.old }
-    ensures plays { (frames : ℕ → Frame) (t : Turn) (next : ℕ) → KeepsGap mode frames t next decoder.old →
+    requires kept { KeepsSomeGap decoder.old }
+    ensures plays { (mode : Mode) (frames : ℕ → Frame) (t : Turn) (next : ℕ) → WhereMade mode (FillsFrames frames t next) decoder.old →
         Plays (took_with frames S.took) S.failures (λ x. x) (steps_outcome (told_frames mode (last_turn t.buffer).written)) sink.old sink.new result }
-    ensures written { (frames : ℕ → Frame) (t : Turn) (next : ℕ) → mode ≡ modes.Full → KeepsGap mode frames t next decoder.old →
-        OnOk result (KeepsBuffer (last_turn t.buffer).buffer (length t.written + length (last_turn t.buffer).written) decoder.new.output) }
+    ensures written { (mode : Mode) (frames : ℕ → Frame) (t : Turn) (next : ℕ) → WhereMade mode (FillsFrames frames t next) decoder.old →
+        OnOk result (WhereMade mode (HasWritten t) decoder.new) }
     ensures no_memory { IfErr result (λ e. e ≡ Stop.Write) }
 {
-    match mode {
-        Mode::Units => Ok(()),
-        Mode::Headers => Ok(()),
-        Mode::Full => decoder.finish(sink),
+    match decoder {
+        None => Ok(()),
+        Some(decoder) => decoder.finish(sink),
     }
 }
 
 /// How many frames were written; 0 where none are made.
-fn frames_told(mode: Mode, decoder: &Decoder) -> u64
-    ensures { (pictures : List CodedPicture) → (mode ≡ modes.Full →
-        KeepsBuffer (last_turn (after_all pictures).buffer).buffer
-        (length (after_all pictures).written + length (last_turn (after_all pictures).buffer).written) decoder.now.output) →
+fn frames_told(decoder: &Option<Decoder>) -> u64
+    ensures { (mode : Mode) (pictures : List CodedPicture) → WhereMade mode (HasWritten (after_all pictures)) decoder.now →
         result ≡ frames_written mode pictures }
 {
-    match mode {
-        Mode::Units => 0,
-        Mode::Headers => 0,
-        Mode::Full => decoder.output.frames(),
+    match decoder {
+        None => 0,
+        Some(decoder) => decoder.output.frames(),
     }
 }
 
@@ -503,13 +493,13 @@ pub fn judge_end<S: FrameSink>(
         EndsAll mode S.took S.failures frames before bit (λ x. x) sink.old sink.new result }
     ensures no_memory { IsErrOf result Stop.Memory → ⊥ }
 {
-    close_if(mode, true, &mut state.slices, &mut state.decoder, sink)?;
+    close_if(true, &mut state.slices, &mut state.decoder, sink)?;
     let pictures = state.slices.pictures;
     check(has_pictures(mode, pictures), Rule::NoPicture, bit)?;
-    finish_frames(mode, &mut state.decoder, sink)?;
+    finish_frames(&mut state.decoder, sink)?;
     Ok(Summary {
         units: state.units,
         pictures,
-        frames: frames_told(mode, &state.decoder),
+        frames: frames_told(&state.decoder),
     })
 }

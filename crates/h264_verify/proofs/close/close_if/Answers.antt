@@ -9,7 +9,6 @@ use Rattle.h264_verify.specs.Buffering.{closing_frames}
 use Rattle.h264_verify.specs.Keeping.{close_steps}
 use Rattle.h264_verify.proofs.Slicing.{refused, err-named}
 use Rattle.h264_verify.proofs.Stepping.{steps-err, closing-stop, closing-then}
-use Rattle.h264_verify.proofs.Holding.{data-held}
 use Rattle.h264_verify.proofs.Playing.{plays-as}
 use Rattle.h264_verify.proofs.Ruling.{ok-any}
 use Rattle.h264_verify.proofs.close.close_if.Goals as goal
@@ -17,44 +16,44 @@ use Rattle.h264_verify.proofs.close.close_if.Goals as goal
 pub end_frame_if-requires-clause-kept : goal.end_frame_if-requires-clause-kept
 end_frame_if-requires-clause-kept g c =
     let k = c.requires.kept in
-    record { frames = k.frames; before = k.before; slices_are = c.in_ok-end_if.ensures.ended k.before k.slices_are; keeps = k.keeps }
+    record { mode = k.mode; frames = k.frames; before = k.before; slices_are = c.in_ok-end_if.ensures.ended k.before k.slices_are; keeps = k.keeps }
 
 pub returns-in_err-end_data_if-clause-closes : goal.returns-in_err-end_data_if-clause-closes
 returns-in_err-end_data_if-clause-closes g c =
     let p = err_from_is_err_and c.from_residual.result c.from_residual.ensures.1 in
-    rw (p.1, p.2) (λ frames before k d.
-    let whole = c.in_err-end_data_if.ensures.judged before k (data-held c.args.mode frames (goes_on before) (runs_of before) c.args.decoder.now d) in
+    rw (p.1, p.2) (λ mode frames before k d.
+    let whole = c.in_err-end_data_if.ensures.judged mode frames before k d in
     record {
       made = frames;
       same = λ n h. refl;
-      plays = refused (took_with frames g.S.Elements.took) g.S.Elements.failures (close_steps c.args.mode c.args.ends before) _ _
-          (steps-err (if c.args.ends then whole_steps c.args.mode before else []) (needs (if c.args.ends then closing_demands before else []) ++ (if c.args.ends then closing_frames c.args.mode before else [])) _ whole) c.in_err-end_data_if.ensures.named;
+      plays = refused (took_with frames g.S.Elements.took) g.S.Elements.failures (close_steps mode c.args.ends before) _ _
+          (steps-err (if c.args.ends then whole_steps mode before else []) (needs (if c.args.ends then closing_demands before else []) ++ (if c.args.ends then closing_frames mode before else [])) _ whole) c.in_err-end_data_if.ensures.named;
       keeps = tt;
     })
 
 pub returns-in_err-end_if-clause-closes : goal.returns-in_err-end_if-clause-closes
 returns-in_err-end_if-clause-closes g c =
     let p = err_from_is_err_and c.from_residual-in_err-end_if.result c.from_residual-in_err-end_if.ensures.1 in
-    rw (p.1, p.2) (λ frames before k d.
-    let whole = c.in_ok-end_data_if.ensures.judged before k (data-held c.args.mode frames (goes_on before) (runs_of before) c.args.decoder.now d) in
+    rw (p.1, p.2) (λ mode frames before k d.
+    let whole = c.in_ok-end_data_if.ensures.judged mode frames before k d in
     let closed = c.in_err-end_if.ensures.judged before k in
     record {
       made = frames;
       same = λ n h. refl;
-      plays = refused (took_with frames g.S.Elements.took) g.S.Elements.failures (close_steps c.args.mode c.args.ends before) _ _
-          (closing-stop (if c.args.ends then whole_steps c.args.mode before else []) (if c.args.ends then closing_demands before else []) (if c.args.ends then closing_frames c.args.mode before else []) _ _ whole closed) (err-named (if c.args.ends then closing_demands before else []) _ (sym closed));
+      plays = refused (took_with frames g.S.Elements.took) g.S.Elements.failures (close_steps mode c.args.ends before) _ _
+          (closing-stop (if c.args.ends then whole_steps mode before else []) (if c.args.ends then closing_demands before else []) (if c.args.ends then closing_frames mode before else []) _ _ whole closed) (err-named (if c.args.ends then closing_demands before else []) _ (sym closed));
       keeps = tt;
     })
 
 pub returns-clause-closes : goal.returns-clause-closes
-returns-clause-closes g c = λ frames before k d.
-    let whole = c.in_ok-end_data_if.ensures.judged before k (data-held c.args.mode frames (goes_on before) (runs_of before) c.args.decoder.now d) in
+returns-clause-closes g c = λ mode frames before k d.
+    let whole = c.in_ok-end_data_if.ensures.judged mode frames before k d in
     let closed = c.in_ok-end_if.ensures.judged before k in
-    let e = c.end_frame_if.ensures.ends frames before (c.in_ok-end_if.ensures.ended before k) whole d in
+    let e = c.end_frame_if.ensures.ends mode frames before (c.in_ok-end_if.ensures.ended before k) whole d in
     record {
       made = e.made;
       same = e.same;
-      plays = plays-as (took_with e.made g.S.Elements.took) g.S.Elements.failures (λ (x : Unit {0}). x) _ _ _ _ _ (closing-then (if c.args.ends then whole_steps c.args.mode before else []) (if c.args.ends then closing_demands before else []) (if c.args.ends then closing_frames c.args.mode before else []) _ _ whole closed) e.plays;
+      plays = plays-as (took_with e.made g.S.Elements.took) g.S.Elements.failures (λ (x : Unit {0}). x) _ _ _ _ _ (closing-then (if c.args.ends then whole_steps mode before else []) (if c.args.ends then closing_demands before else []) (if c.args.ends then closing_frames mode before else []) _ _ whole closed) e.plays;
       keeps = e.keeps;
     }
 

@@ -1,20 +1,22 @@
-use Rattle.std.proofs.Common.{◌≡◌, Option, subst, ◌∙◌}
-use Rattle.h264_base.specs.declared.mode.Mode.{Mode}
-use Rattle.h264_base.specs.declared.mode.Mode.TheVariants as modes
+use Rattle.std.proofs.Common.{◌∙◌}
 use Rattle.h264_base.specs.declared.rule.Rule.TheVariants.{Incomplete}
 use Rattle.h264_base.specs.declared.stop.Stop.TheVariants.{No}
-use Rattle.h264_picture.specs.declared.work.Work.{Work}
-use Rattle.h264_verify.specs.Pictures.{CodedPicture, goes_on, open_of, runs_of}
-use Rattle.h264_verify.specs.Keeping.{HoldsCoded, HoldsData}
-use Rattle.h264_verify.proofs.Coded.{checked-outcome, whole-outcome}
+use Rattle.h264_verify.specs.Pictures.{goes_on, runs_of}
+use Rattle.h264_verify.proofs.Coded.{checked-outcome, whole-outcome, none-whole}
+use Rattle.h264_verify.proofs.Holding.{coded-by}
+use Rattle.h264_verify.proofs.Made.{some-made, none-made, quiet-whole}
 use Rattle.h264_verify.proofs.close.end_data_if.Goals as goal
 
-data-full : (mode : Mode) (picture : Option CodedPicture) (work : Work) → mode ≡ modes.Full → HoldsData mode picture work → HoldsCoded picture work
-unfolding HoldsData
-data-full mode picture work e k = subst (λ (m : Mode). HoldsData m picture work) e k
+pub returns-in_default-clause-judged : goal.returns-in_default-clause-judged
+returns-in_default-clause-judged c = λ mode frames before kept k. quiet-whole mode c.args.ends before (none-made _ mode c.args.decoder.now c.in_default.is k)
 
-pub returns-in-Some-clause-judged : goal.returns-in-Some-clause-judged
-returns-in-Some-clause-judged c = λ before kept holds.
-    let coded = data-full c.args.mode (open_of (goes_on before) (runs_of before)) c.args.work.now c.in-Full.is holds in
-    rw (c.in-Full.is, c.if-not-ends.false) (checked-outcome c.is_whole.result (No c.in-Some.picture.following Incomplete) _ c.check.ensures
-    ∙ whole-outcome (goes_on before) (runs_of before) c.args.slices.now.picture c.in-Some.picture c.args.work.now c.is_whole.result c.in-Some.is kept.kept.picture coded c.is_whole.ensures)
+pub returns-in-None-clause-judged : goal.returns-in-None-clause-judged
+returns-in-None-clause-judged c = λ mode frames before kept k.
+    let made = some-made _ mode c.args.decoder.now _ c.in-Some.is k in
+    rw (made.0, c.if-not-ends.false) (none-whole (goes_on before) (runs_of before) c.args.slices.now.picture c.in-None.is kept.kept.picture)
+
+pub returns-in-Some-picture-clause-judged : goal.returns-in-Some-picture-clause-judged
+returns-in-Some-picture-clause-judged c = λ mode frames before kept k.
+    let made = some-made _ mode c.args.decoder.now _ c.in-Some.is k in
+    rw (made.0, c.if-not-ends.false) (checked-outcome c.is_whole.result (No c.in-Some-picture.picture.following Incomplete) _ c.check.ensures
+    ∙ whole-outcome (goes_on before) (runs_of before) c.args.slices.now.picture c.in-Some-picture.picture c.in-Some.decoder.work c.is_whole.result c.in-Some-picture.is kept.kept.picture (coded-by frames (goes_on before) (runs_of before) c.in-Some.decoder made.1) c.is_whole.ensures)

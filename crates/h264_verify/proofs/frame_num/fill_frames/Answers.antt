@@ -1,7 +1,7 @@
 use Rattle.std.proofs.Common.{◌≡◌, ◌∙◌, ◌-◌, ◌<◌, sym, refl, rules, subst, arith}
 use Rattle.std.proofs.lemmas.Result.{err_from_is_err_and}
 use Rattle.h264_marking.proofs.Filling.{Filled, filled-some, filled-none, filled-first, filled-next, filled-last}
-use Rattle.h264_verify.proofs.Filling.{places-down, places-same}
+use Rattle.h264_verify.proofs.Made.{places-down}
 use Rattle.h264_verify.proofs.Missing.{some-missing, some-gap, fills-first, fills-more, fills-whole, fills-refused, fills-stopped, fills-next, fills-last, fills-kept}
 use Rattle.h264_marking.proofs.Moving.{last-within, last-after}
 use Rattle.h264_verify.proofs.Skipping.{fills-skipped}
@@ -10,7 +10,7 @@ use Rattle.h264_verify.proofs.frame_num.fill_frames.Goals as goal
 pub loop-turn-init : goal.loop-turn-init
 loop-turn-init g c = record {
   filled = filled-first c.args.gap.now.numbering c.args.gap.now.count c.args.gap.now.prev_ref_frame_num c.args.held.now;
-  fills = λ frames t next k. fills-first c.args.mode c.args.gap.now.bit c.args.gap.now.numbering c.args.gap.now.count c.args.gap.now.prev_ref_frame_num c.args.held.now g.S.Elements.took g.S.Elements.failures frames t next c.args.sink.now c.args.decoder.now k;
+  fills = λ mode frames t next k. fills-first mode c.args.gap.now.bit c.args.gap.now.numbering c.args.gap.now.count c.args.gap.now.prev_ref_frame_num c.args.held.now g.S.Elements.took g.S.Elements.failures frames t next c.args.sink.now c.args.decoder.now k;
   few = c.requires.few;
   places = c.requires.places;
   format = refl;
@@ -20,27 +20,27 @@ loop-turn-init g c = record {
 pub miss-requires-clause-few : goal.miss-requires-clause-few
 miss-requires-clause-few g c =
     let some : 0 < c.args.gap.now.count = let t = c.loop-turn-test.true in omega (arith, t) in
-    places-down c.args.mode _ _ c.loop-turn.decoder (c.in_ok-fill_gap.ensures.bounded (c.loop-turn.invariant.few some)) (c.loop-turn.invariant.places some)
+    places-down _ _ c.loop-turn.decoder (c.in_ok-fill_gap.ensures.bounded (c.loop-turn.invariant.few some)) (c.loop-turn.invariant.places some)
 
 pub miss-requires-clause-missing : goal.miss-requires-clause-missing
 miss-requires-clause-missing g c = some-missing _ _ _ (filled-some _ _ _ _ _ c.in_ok-fill_gap.ensures.answer c.in_ok-fill_gap.ensures.held)
 
 pub miss-requires-clause-kept : goal.miss-requires-clause-kept
-miss-requires-clause-kept g c = some-gap c.args.mode c.args.gap.now.bit c.args.gap.now.numbering c.args.gap.now.count c.args.gap.now.prev_ref_frame_num c.args.held.now g.S.Elements.took g.S.Elements.failures c.args.sink.now _ _ _ _ c.args.decoder.now c.loop-turn.decoder c.requires.kept c.loop-turn.invariant.fills
+miss-requires-clause-kept g c = some-gap c.args.gap.now.bit c.args.gap.now.numbering c.args.gap.now.count c.args.gap.now.prev_ref_frame_num c.args.held.now g.S.Elements.took g.S.Elements.failures c.args.sink.now _ _ _ _ c.args.decoder.now c.loop-turn.decoder c.requires.kept c.loop-turn.invariant.fills
 
 pub returns-then-may_skip-clause-plays : goal.returns-then-may_skip-clause-plays
-returns-then-may_skip-clause-plays g c = λ frames t next k.
-    let f = c.loop-turn.invariant.fills frames t next k in
-    let still = c.may_skip.ensures.frames c.if-may_skip.true frames f.turn next f.keeps in
-    let all = fills-skipped c.args.mode c.args.gap.now.bit c.args.gap.now.numbering c.args.gap.now.count c.args.gap.now.prev_ref_frame_num c.args.held.now g.S.Elements.took g.S.Elements.failures frames t next c.args.sink.now _ c.loop-turn.last c.number_after.result c.loop-turn.held c.skip.new.self c.loop-turn.sink c.loop-turn.decoder (c.may_skip.ensures.held c.if-may_skip.true) f still in
-    fills-last c.args.mode c.args.gap.now.bit c.args.gap.now.numbering c.args.gap.now.count c.args.gap.now.prev_ref_frame_num c.args.held.now g.S.Elements.took g.S.Elements.failures frames t next c.args.sink.now c.number_after.result c.skip.new.self c.loop-turn.sink c.loop-turn.decoder all c.loop-turn.invariant.kept
+returns-then-may_skip-clause-plays g c = λ mode frames t next k.
+    let f = c.loop-turn.invariant.fills mode frames t next k in
+    let still = c.may_skip.ensures.frames c.if-may_skip.true mode frames f.turn next f.keeps in
+    let all = fills-skipped mode c.args.gap.now.bit c.args.gap.now.numbering c.args.gap.now.count c.args.gap.now.prev_ref_frame_num c.args.held.now g.S.Elements.took g.S.Elements.failures frames t next c.args.sink.now _ c.loop-turn.last c.number_after.result c.loop-turn.held c.skip.new.self c.loop-turn.sink c.loop-turn.decoder (c.may_skip.ensures.held c.if-may_skip.true) f still in
+    fills-last mode c.args.gap.now.bit c.args.gap.now.numbering c.args.gap.now.count c.args.gap.now.prev_ref_frame_num c.args.held.now g.S.Elements.took g.S.Elements.failures frames t next c.args.sink.now c.number_after.result c.skip.new.self c.loop-turn.sink c.loop-turn.decoder all c.loop-turn.invariant.kept
 
 pub returns-then-may_skip-clause-keeps : goal.returns-then-may_skip-clause-keeps
-returns-then-may_skip-clause-keeps g c = λ frames t next k.
-    let f = c.loop-turn.invariant.fills frames t next k in
-    let still = c.may_skip.ensures.frames c.if-may_skip.true frames f.turn next f.keeps in
-    let all = fills-skipped c.args.mode c.args.gap.now.bit c.args.gap.now.numbering c.args.gap.now.count c.args.gap.now.prev_ref_frame_num c.args.held.now g.S.Elements.took g.S.Elements.failures frames t next c.args.sink.now _ c.loop-turn.last c.number_after.result c.loop-turn.held c.skip.new.self c.loop-turn.sink c.loop-turn.decoder (c.may_skip.ensures.held c.if-may_skip.true) f still in
-    fills-kept c.args.mode c.args.gap.now.bit c.args.gap.now.numbering c.args.gap.now.count c.args.gap.now.prev_ref_frame_num c.args.held.now g.S.Elements.took g.S.Elements.failures frames t next c.args.sink.now c.number_after.result c.skip.new.self c.loop-turn.sink c.loop-turn.decoder all
+returns-then-may_skip-clause-keeps g c = λ mode frames t next k.
+    let f = c.loop-turn.invariant.fills mode frames t next k in
+    let still = c.may_skip.ensures.frames c.if-may_skip.true mode frames f.turn next f.keeps in
+    let all = fills-skipped mode c.args.gap.now.bit c.args.gap.now.numbering c.args.gap.now.count c.args.gap.now.prev_ref_frame_num c.args.held.now g.S.Elements.took g.S.Elements.failures frames t next c.args.sink.now _ c.loop-turn.last c.number_after.result c.loop-turn.held c.skip.new.self c.loop-turn.sink c.loop-turn.decoder (c.may_skip.ensures.held c.if-may_skip.true) f still in
+    fills-kept mode c.args.gap.now.bit c.args.gap.now.numbering c.args.gap.now.count c.args.gap.now.prev_ref_frame_num c.args.held.now g.S.Elements.took g.S.Elements.failures frames t next c.args.sink.now c.number_after.result c.skip.new.self c.loop-turn.sink c.loop-turn.decoder all
 
 pub returns-then-may_skip-clause-last : goal.returns-then-may_skip-clause-last
 returns-then-may_skip-clause-last g c =
@@ -55,18 +55,18 @@ returns-in_err-fill_gap-clause-plays g c =
     let p = err_from_is_err_and c.from_residual.result c.from_residual.ensures.1 in
     let answer = rw c.number_after-in-loop-turn.ensures at c.in_err-fill_gap.ensures.answer in
     let none = filled-none _ _ _ answer in
-    rw (p.1, p.2) (λ frames t next k.
-    let f = fills-more c.args.mode c.args.gap.now.bit c.args.gap.now.numbering c.args.gap.now.count c.args.gap.now.prev_ref_frame_num c.args.held.now g.S.Elements.took g.S.Elements.failures frames t next c.args.sink.now c.loop-turn.turn c.loop-turn.last c.loop-turn.held c.loop-turn.sink c.loop-turn.decoder c.loop-turn-test.true (c.loop-turn.invariant.fills frames t next k) in
-    fills-refused c.args.mode c.args.gap.now.bit c.args.gap.now.numbering c.args.gap.now.count c.args.gap.now.prev_ref_frame_num c.args.held.now g.S.Elements.took g.S.Elements.failures frames t next c.args.sink.now _ c.loop-turn.last c.loop-turn.held c.loop-turn.sink c.loop-turn.decoder f c.loop-turn.invariant.kept (λ _. tt) _ none.0 none.1)
+    rw (p.1, p.2) (λ mode frames t next k.
+    let f = fills-more mode c.args.gap.now.bit c.args.gap.now.numbering c.args.gap.now.count c.args.gap.now.prev_ref_frame_num c.args.held.now g.S.Elements.took g.S.Elements.failures frames t next c.args.sink.now c.loop-turn.turn c.loop-turn.last c.loop-turn.held c.loop-turn.sink c.loop-turn.decoder c.loop-turn-test.true (c.loop-turn.invariant.fills mode frames t next k) in
+    fills-refused mode c.args.gap.now.bit c.args.gap.now.numbering c.args.gap.now.count c.args.gap.now.prev_ref_frame_num c.args.held.now g.S.Elements.took g.S.Elements.failures frames t next c.args.sink.now _ c.loop-turn.last c.loop-turn.held c.loop-turn.sink c.loop-turn.decoder f c.loop-turn.invariant.kept (λ _. tt) _ none.0 none.1)
 
 pub returns-in_err-miss-clause-plays : goal.returns-in_err-miss-clause-plays
 returns-in_err-miss-clause-plays g c =
     let p = err_from_is_err_and c.from_residual-in_err-miss.result c.from_residual-in_err-miss.ensures.1 in
     let answer = rw c.number_after-in-loop-turn.ensures at c.in_ok-fill_gap.ensures.answer in
     let held = rw c.number_after-in-loop-turn.ensures at c.in_ok-fill_gap.ensures.held in
-    rw (p.1, p.2) (λ frames t next k.
-    let f = fills-more c.args.mode c.args.gap.now.bit c.args.gap.now.numbering c.args.gap.now.count c.args.gap.now.prev_ref_frame_num c.args.held.now g.S.Elements.took g.S.Elements.failures frames t next c.args.sink.now c.loop-turn.turn c.loop-turn.last c.loop-turn.held c.loop-turn.sink c.loop-turn.decoder c.loop-turn-test.true (c.loop-turn.invariant.fills frames t next k) in
-    fills-stopped c.args.mode c.args.gap.now.bit c.args.gap.now.numbering c.args.gap.now.count c.args.gap.now.prev_ref_frame_num c.args.held.now g.S.Elements.took g.S.Elements.failures frames t next c.args.sink.now _ c.loop-turn.last c.loop-turn.held c.loop-turn.sink c.loop-turn.decoder f c.loop-turn.invariant.kept c.fill_gap.new.self (filled-some _ _ _ _ _ answer held) (λ _. tt) c.miss.new.sink _ (c.in_err-miss.ensures.plays frames f.turn next f.keeps))
+    rw (p.1, p.2) (λ mode frames t next k.
+    let f = fills-more mode c.args.gap.now.bit c.args.gap.now.numbering c.args.gap.now.count c.args.gap.now.prev_ref_frame_num c.args.held.now g.S.Elements.took g.S.Elements.failures frames t next c.args.sink.now c.loop-turn.turn c.loop-turn.last c.loop-turn.held c.loop-turn.sink c.loop-turn.decoder c.loop-turn-test.true (c.loop-turn.invariant.fills mode frames t next k) in
+    fills-stopped mode c.args.gap.now.bit c.args.gap.now.numbering c.args.gap.now.count c.args.gap.now.prev_ref_frame_num c.args.held.now g.S.Elements.took g.S.Elements.failures frames t next c.args.sink.now _ c.loop-turn.last c.loop-turn.held c.loop-turn.sink c.loop-turn.decoder f c.loop-turn.invariant.kept c.fill_gap.new.self (filled-some _ _ _ _ _ answer held) (λ _. tt) c.miss.new.sink _ (c.in_err-miss.ensures.plays mode frames f.turn next f.keeps))
 
 pub loop-turn-preserved : goal.loop-turn-preserved
 loop-turn-preserved g c =
@@ -74,11 +74,11 @@ loop-turn-preserved g c =
     let held = rw c.number_after-in-loop-turn.ensures at c.in_ok-fill_gap.ensures.held in
     rw c.number_after-in-loop-turn.ensures (record {
       filled = filled-next c.args.gap.now.numbering c.args.gap.now.count c.args.gap.now.prev_ref_frame_num c.args.held.now c.loop-turn.turn c.loop-turn.last c.loop-turn.held c.fill_gap.new.self _ c.args.gap.now.bit c.loop-turn.invariant.filled c.loop-turn-test.true answer held;
-      fills = λ frames t next k.
-          let f = fills-more c.args.mode c.args.gap.now.bit c.args.gap.now.numbering c.args.gap.now.count c.args.gap.now.prev_ref_frame_num c.args.held.now g.S.Elements.took g.S.Elements.failures frames t next c.args.sink.now c.loop-turn.turn c.loop-turn.last c.loop-turn.held c.loop-turn.sink c.loop-turn.decoder c.loop-turn-test.true (c.loop-turn.invariant.fills frames t next k) in
-          fills-next c.args.mode c.args.gap.now.bit c.args.gap.now.numbering c.args.gap.now.count c.args.gap.now.prev_ref_frame_num c.args.held.now g.S.Elements.took g.S.Elements.failures frames t next c.args.sink.now _ c.loop-turn.last c.loop-turn.held c.loop-turn.sink c.loop-turn.decoder f c.loop-turn.invariant.kept c.fill_gap.new.self (filled-some _ _ _ _ _ answer held) c.miss.new.sink c.miss.new.decoder _ (c.in_ok-miss.ensures.plays frames f.turn next f.keeps) (c.in_ok-miss.ensures.keeps frames f.turn next f.keeps);
+      fills = λ mode frames t next k.
+          let f = fills-more mode c.args.gap.now.bit c.args.gap.now.numbering c.args.gap.now.count c.args.gap.now.prev_ref_frame_num c.args.held.now g.S.Elements.took g.S.Elements.failures frames t next c.args.sink.now c.loop-turn.turn c.loop-turn.last c.loop-turn.held c.loop-turn.sink c.loop-turn.decoder c.loop-turn-test.true (c.loop-turn.invariant.fills mode frames t next k) in
+          fills-next mode c.args.gap.now.bit c.args.gap.now.numbering c.args.gap.now.count c.args.gap.now.prev_ref_frame_num c.args.held.now g.S.Elements.took g.S.Elements.failures frames t next c.args.sink.now _ c.loop-turn.last c.loop-turn.held c.loop-turn.sink c.loop-turn.decoder f c.loop-turn.invariant.kept c.fill_gap.new.self (filled-some _ _ _ _ _ answer held) c.miss.new.sink c.miss.new.decoder _ (c.in_ok-miss.ensures.plays mode frames f.turn next f.keeps) (c.in_ok-miss.ensures.keeps mode frames f.turn next f.keeps);
       few = λ some. c.in_ok-fill_gap.ensures.bounded (c.loop-turn.invariant.few some);
-      places = λ some. places-same c.args.mode _ c.loop-turn.decoder c.miss.new.decoder c.in_ok-miss.ensures.sized (c.loop-turn.invariant.places some);
+      places = λ some. c.in_ok-miss.ensures.sized _ (c.loop-turn.invariant.places some);
       format = c.in_ok-miss.ensures.format ∙ c.loop-turn.invariant.format;
       kept = c.in_ok-miss.ensures.kept ∙ c.loop-turn.invariant.kept;
     })
@@ -86,16 +86,16 @@ loop-turn-preserved g c =
 pub returns-clause-plays : goal.returns-clause-plays
 returns-clause-plays g c =
     let e : c.loop-turn.turn ≡ c.args.gap.now.count = search rules in
-    λ frames t next k.
-    let f = fills-whole c.args.mode c.args.gap.now.bit c.args.gap.now.numbering c.args.gap.now.count c.args.gap.now.prev_ref_frame_num c.args.held.now g.S.Elements.took g.S.Elements.failures frames t next c.args.sink.now c.loop-turn.turn c.loop-turn.last c.loop-turn.held c.loop-turn.sink c.loop-turn.decoder e (c.loop-turn.invariant.fills frames t next k) in
-    fills-last c.args.mode c.args.gap.now.bit c.args.gap.now.numbering c.args.gap.now.count c.args.gap.now.prev_ref_frame_num c.args.held.now g.S.Elements.took g.S.Elements.failures frames t next c.args.sink.now c.loop-turn.last c.loop-turn.held c.loop-turn.sink c.loop-turn.decoder f c.loop-turn.invariant.kept
+    λ mode frames t next k.
+    let f = fills-whole mode c.args.gap.now.bit c.args.gap.now.numbering c.args.gap.now.count c.args.gap.now.prev_ref_frame_num c.args.held.now g.S.Elements.took g.S.Elements.failures frames t next c.args.sink.now c.loop-turn.turn c.loop-turn.last c.loop-turn.held c.loop-turn.sink c.loop-turn.decoder e (c.loop-turn.invariant.fills mode frames t next k) in
+    fills-last mode c.args.gap.now.bit c.args.gap.now.numbering c.args.gap.now.count c.args.gap.now.prev_ref_frame_num c.args.held.now g.S.Elements.took g.S.Elements.failures frames t next c.args.sink.now c.loop-turn.last c.loop-turn.held c.loop-turn.sink c.loop-turn.decoder f c.loop-turn.invariant.kept
 
 pub returns-clause-keeps : goal.returns-clause-keeps
 returns-clause-keeps g c =
     let e : c.loop-turn.turn ≡ c.args.gap.now.count = search rules in
-    λ frames t next k.
-    let f = fills-whole c.args.mode c.args.gap.now.bit c.args.gap.now.numbering c.args.gap.now.count c.args.gap.now.prev_ref_frame_num c.args.held.now g.S.Elements.took g.S.Elements.failures frames t next c.args.sink.now c.loop-turn.turn c.loop-turn.last c.loop-turn.held c.loop-turn.sink c.loop-turn.decoder e (c.loop-turn.invariant.fills frames t next k) in
-    fills-kept c.args.mode c.args.gap.now.bit c.args.gap.now.numbering c.args.gap.now.count c.args.gap.now.prev_ref_frame_num c.args.held.now g.S.Elements.took g.S.Elements.failures frames t next c.args.sink.now c.loop-turn.last c.loop-turn.held c.loop-turn.sink c.loop-turn.decoder f
+    λ mode frames t next k.
+    let f = fills-whole mode c.args.gap.now.bit c.args.gap.now.numbering c.args.gap.now.count c.args.gap.now.prev_ref_frame_num c.args.held.now g.S.Elements.took g.S.Elements.failures frames t next c.args.sink.now c.loop-turn.turn c.loop-turn.last c.loop-turn.held c.loop-turn.sink c.loop-turn.decoder e (c.loop-turn.invariant.fills mode frames t next k) in
+    fills-kept mode c.args.gap.now.bit c.args.gap.now.numbering c.args.gap.now.count c.args.gap.now.prev_ref_frame_num c.args.held.now g.S.Elements.took g.S.Elements.failures frames t next c.args.sink.now c.loop-turn.last c.loop-turn.held c.loop-turn.sink c.loop-turn.decoder f
 
 pub returns-clause-last : goal.returns-clause-last
 returns-clause-last g c =

@@ -1,8 +1,24 @@
-use Rattle.h264_verify.proofs.Filling.{full-gap}
+use Rattle.h264_header.proofs.Entries.{where-ok}
+use Rattle.h264_verify.proofs.Made.{some-made, none-made, quiet-made, full-made, quiet-told}
+use Rattle.h264_verify.proofs.Filling.{some-filled}
+use Rattle.h264_verify.proofs.Playing.{gives-plays}
 use Rattle.h264_verify.proofs.unit.finish_frames.Goals as goal
 
-pub returns-in-Full-clause-plays : goal.returns-in-Full-clause-plays
-returns-in-Full-clause-plays g c = λ frames t next k. rw c.in-Full.is (c.finish.ensures.plays frames t next (full-gap frames t next _ c.args.mode c.in-Full.is k))
+pub finish-requires-clause-kept : goal.finish-requires-clause-kept
+finish-requires-clause-kept g c = some-filled _ _ c.in-Some.is c.requires.kept
 
-pub returns-in-Full-clause-written : goal.returns-in-Full-clause-written
-returns-in-Full-clause-written g c = λ frames t next e k. c.finish.ensures.written frames t next (full-gap frames t next _ c.args.mode c.in-Full.is k)
+pub returns-in-None-clause-plays : goal.returns-in-None-clause-plays
+returns-in-None-clause-plays g c = λ mode frames t next k. rw (quiet-told mode _ (none-made _ mode _ c.in-None.is k)) (gives-plays _ _ (λ (x : Unit {0}). x) tt _)
+
+pub returns-in-None-clause-written : goal.returns-in-None-clause-written
+returns-in-None-clause-written g c = λ mode frames t next k. quiet-made _ mode _ c.in-None.is (none-made _ mode _ c.in-None.is k)
+
+pub returns-in-Some-clause-plays : goal.returns-in-Some-clause-plays
+returns-in-Some-clause-plays g c = λ mode frames t next k.
+    let made = some-made _ mode _ _ c.in-Some.is k in
+    rw made.0 (c.finish.ensures.plays frames t next made.1)
+
+pub returns-in-Some-clause-written : goal.returns-in-Some-clause-written
+returns-in-Some-clause-written g c = λ mode frames t next k.
+    let made = some-made _ mode _ _ c.in-Some.is k in
+    where-ok c.finish.result (full-made _ mode _ made.0) (c.finish.ensures.written frames t next made.1)

@@ -12,7 +12,7 @@ use Rattle.h264_verify.specs.History.{maps_with}
 use Rattle.h264_verify.specs.Pictures.{CodedPicture, goes_on, runs_of, with_sets, joined_to, begins_at}
 use Rattle.h264_verify.specs.KeepingUnits.{KeepsWithin}
 use Rattle.h264_near.specs.Coded.{CodedMacroblock}
-use Rattle.h264_verify.specs.Keeping.{KeepsDecoder, KeepsPictures}
+use Rattle.h264_verify.specs.Keeping.{KeepsFrames, KeepsPictures, format_in}
 use Rattle.h264_header.proofs.Entries.{where-ok}
 use Rattle.h264_verify.specs.declared.slices.Slice.{Slice}
 use Rattle.h264_verify.proofs.Slicing.{some-of, sets-after}
@@ -21,7 +21,8 @@ use Rattle.h264_marking.specs.Ended.{numbering_of}
 use Rattle.h264_verify.specs.Lists.{list_of}
 use Rattle.h264_verify.proofs.Reading.{listed}
 use Rattle.h264_verify.proofs.Entering.{begins-as}
-use Rattle.h264_verify.proofs.Joining.{units-with, runs-with, goes-newest, enters-full, some-slice}
+use Rattle.h264_verify.proofs.Joining.{units-with, runs-with, goes-newest, full-decoder, no-decoder, some-slice}
+use Rattle.h264_verify.proofs.Made.{full-made}
 use Rattle.h264_verify.proofs.ReadingUnits.{header-read, slice-stops, slice-broken, slice-reads, placed as placed-first, data-there}
 use Rattle.h264_sets.specs.Sets.{Maps}
 use Rattle.h264_verify.specs.Sound.{NamesSet}
@@ -35,30 +36,40 @@ place_slice-requires-clause-kept g c = some-slice modes.Full c.args.state.now c.
 
 pub judge_rules-requires-clause-kept : goal.judge_rules-requires-clause-kept
 judge_rules-requires-clause-kept g c =
-    let k = some-slice modes.Full c.args.state.now c.requires.kept in
-    some-rules modes.Full _ _ k.frames k.before c.args.unit.now c.read_header.new.header c.begins-begins.result _ _ _ _ (c.in_ok-place_slice.ensures.placed k.frames k.before k.slices_are k.keeps)
+    let k = c.requires.kept in
+    some-rules modes.Full _ _ k.frames k.before c.args.unit.now c.read_header.new.header c.begins-begins.result _ _ _ _ (c.in_ok-place_slice.ensures.placed modes.Full k.frames k.before k.keeps.slices k.keeps.decoder)
 
 pub judge_rules-requires-clause-goes : goal.judge_rules-requires-clause-goes
 judge_rules-requires-clause-goes g c =
     let h = c.read_header.new.header in
     let same = ap (λ (s : Slice). s.header) c.in_ok-place_slice.ensures.slice in
-    let k = some-slice modes.Full c.args.state.now c.requires.kept in
-    let placed = c.in_ok-place_slice.ensures.placed k.frames k.before k.slices_are k.keeps in
+    let k = c.requires.kept in
+    let placed = c.in_ok-place_slice.ensures.placed modes.Full k.frames k.before k.keeps.slices k.keeps.decoder in
     let named = sets-after c.args.state.now.sets _ h _ c.in_ok-place_slice.ensures.sets (rw same at c.sets_named.ensures.sets) in
-    rw same (goes-on-with modes.Full _ _ k.frames k.before c.args.unit.now h c.begins-begins.result _ _ _ _ placed _ _ k.sets_are named c.sets_named.ensures.usable)
+    rw same (goes-on-with modes.Full _ _ k.frames k.before c.args.unit.now h c.begins-begins.result _ _ _ _ placed _ _ k.keeps.sets named c.sets_named.ensures.usable)
+
+pub unreachable-requires : goal.unreachable-requires
+unreachable-requires g c =
+    let h = c.read_header.new.header in
+    let same = ap (λ (s : Slice). s.header) c.in_ok-place_slice.ensures.slice in
+    let k = c.requires.kept in
+    let b = begins-as k.before h c.args.state.now.slices _ k.keeps.slices c.begins-begins.ensures in
+    let begun = subst (λ (x : Header). c.begins-begins.result ≡ begins_at k.before x) (sym same) b in
+    let placed = c.in_ok-place_slice.ensures.placed modes.Full k.frames k.before k.keeps.slices k.keeps.decoder in
+    no-decoder _ _ c.in_default.is (c.in_ok-judge_rules.ensures.frames modes.Full placed.closes.made k.before placed.ended begun placed.closes.keeps)
 
 pub read_data-requires-clause-kept : goal.read_data-requires-clause-kept
 read_data-requires-clause-kept g c =
     let h = c.read_header.new.header in
     let same = ap (λ (s : Slice). s.header) c.in_ok-place_slice.ensures.slice in
-    let k = some-slice modes.Full c.args.state.now c.requires.kept in
-    let b = begins-as k.before h c.args.state.now.slices _ k.slices_are c.begins-begins.ensures in
+    let k = c.requires.kept in
+    let b = begins-as k.before h c.args.state.now.slices _ k.keeps.slices c.begins-begins.ensures in
     let begun = subst (λ (x : Header). c.begins-begins.result ≡ begins_at k.before x) (sym same) b in
-    let placed = c.in_ok-place_slice.ensures.placed k.frames k.before k.slices_are k.keeps in
+    let placed = c.in_ok-place_slice.ensures.placed modes.Full k.frames k.before k.keeps.slices k.keeps.decoder in
     let named = sets-after c.args.state.now.sets _ h _ c.in_ok-place_slice.ensures.sets (rw same at c.sets_named.ensures.sets) in
     let marked = read-marked _ _ _ _ c.args.header _ _ _ _ _ _ c.slice_unit-slice_unit.ensures c.requires.fits c.in_ok-read_header.ensures.meets in
     let entered = rw same at (c.in_ok-judge_rules.ensures.entered k.before [] placed.ended begun) in
-    let enters = rw same at (c.in_ok-judge_rules.ensures.frames placed.closes.made k.before placed.ended begun placed.closes.keeps) in
+    let enters = rw same at (c.in_ok-judge_rules.ensures.frames modes.Full placed.closes.made k.before placed.ended begun placed.closes.keeps) in
     let s = with_sets c.args.unit.now h [] (c.sets_named.result.0.now, c.sets_named.result.1.now) in
     record {
       frames = placed.closes.made;
@@ -68,9 +79,9 @@ read_data-requires-clause-kept g c =
       is = record { pps = refl; sps = refl; header = rw same at c.in_ok-judge_rules.ensures.header; list = listed (joined_to c.begins-begins.result s (runs_of k.before)) s _ _ entered.held (rw same at c.in_ok-judge_rules.ensures.list) };
       next = placed-first c.begins-begins.result (runs_of k.before) h placed.first;
       live = goes-newest (goes_on k.before) (runs_of k.before) h c.begins-begins.result b;
-      sound = sound-slice modes.Full _ _ k.frames k.before c.args.unit.now h c.begins-begins.result _ _ _ _ placed _ _ k.sets_are named b [] c.judge_rules.new.slices marked c.sets_named.ensures.usable (rw same at c.in_ok-judge_rules.ensures.filled);
+      sound = sound-slice modes.Full _ _ k.frames k.before c.args.unit.now h c.begins-begins.result _ _ _ _ placed _ _ k.keeps.sets named b [] c.judge_rules.new.slices marked c.sets_named.ensures.usable (rw same at c.in_ok-judge_rules.ensures.filled);
       typed = rw same at c.in_ok-judge_rules.ensures.typed;
-      keeps = enters-full placed.closes.made c.begins-begins.result s (goes_on k.before) (runs_of k.before) _ enters;
+      keeps = full-decoder _ _ _ c.in-Some.is enters;
     }
 
 pub returns-in_err-read_header : goal.returns-in_err-read_header
@@ -98,7 +109,7 @@ returns-in_err-place_slice g c =
       joins = λ frames before k.
           let kept = subst (λ (b : Bool). KeepsWithin modes.Full frames before b c.args.state.now) c.requires.goes_on k in
           let some = some-of _ c.in_ok-read_header.ensures.named in
-          let j = c.in_err-place_slice.ensures.refused frames before some.0 kept.slices k.sets some.1 kept.decoder in
+          let j = c.in_err-place_slice.ensures.refused modes.Full frames before some.0 kept.slices k.sets some.1 kept.decoder in
           let read = header-read j.made _ _ before c.args.unit.now c.args.header _ _ h _ _ _ _ _ k.sets c.requires.header c.slice_unit-slice_unit.ensures c.requires.first c.in_ok-read_header.ensures.meets c.in_ok-read_header.ensures.answers in
           record {
             made = j.made;
@@ -123,9 +134,9 @@ returns-in_err-judge_rules g c =
           let kept = subst (λ (b : Bool). KeepsWithin modes.Full frames before b c.args.state.now) c.requires.goes_on k in
           let b = begins-as before h c.args.state.now.slices _ kept.slices c.begins-begins.ensures in
           let begun = subst (λ (x : Header). c.begins-begins.result ≡ begins_at before x) (sym same) b in
-          let placed = c.in_ok-place_slice.ensures.placed frames before kept.slices kept.decoder in
+          let placed = c.in_ok-place_slice.ensures.placed modes.Full frames before kept.slices kept.decoder in
           let named = sets-after c.args.state.now.sets _ h _ c.in_ok-place_slice.ensures.sets (rw same at c.sets_named.ensures.sets) in
-          let plays = rw same at (c.in_err-judge_rules.ensures.plays placed.closes.made before placed.ended begun placed.closes.keeps) in
+          let plays = rw same at (c.in_err-judge_rules.ensures.plays modes.Full placed.closes.made before placed.ended begun placed.closes.keeps) in
           let j = judges-rules modes.Full _ _ frames before c.args.unit.now h c.begins-begins.result _ _ _ _ placed _ _ k.sets named b c.judge_rules.new.decoder _ _ plays tt in
           let read = header-read j.made _ _ before c.args.unit.now c.args.header _ _ h _ _ _ _ _ k.sets c.requires.header c.slice_unit-slice_unit.ensures c.requires.first c.in_ok-read_header.ensures.meets c.in_ok-read_header.ensures.answers in
           record {
@@ -151,12 +162,12 @@ returns-clause-joins g c = λ frames before k.
     let kept = subst (λ (b : Bool). KeepsWithin modes.Full frames before b c.args.state.now) c.requires.goes_on k in
     let b = begins-as before h c.args.state.now.slices _ kept.slices c.begins-begins.ensures in
     let begun = subst (λ (x : Header). c.begins-begins.result ≡ begins_at before x) (sym same) b in
-    let placed = c.in_ok-place_slice.ensures.placed frames before kept.slices kept.decoder in
+    let placed = c.in_ok-place_slice.ensures.placed modes.Full frames before kept.slices kept.decoder in
     let named = sets-after c.args.state.now.sets _ h _ c.in_ok-place_slice.ensures.sets (rw same at c.sets_named.ensures.sets) in
     let usable = c.sets_named.ensures.usable in
     let marked = read-marked _ _ _ _ c.args.header _ _ _ _ _ _ c.slice_unit-slice_unit.ensures c.requires.fits c.in_ok-read_header.ensures.meets in
-    let plays = rw same at (c.in_ok-judge_rules.ensures.plays placed.closes.made before placed.ended begun placed.closes.keeps) in
-    let enters = rw same at (c.in_ok-judge_rules.ensures.frames placed.closes.made before placed.ended begun placed.closes.keeps) in
+    let plays = rw same at (c.in_ok-judge_rules.ensures.plays modes.Full placed.closes.made before placed.ended begun placed.closes.keeps) in
+    let enters = rw same at (c.in_ok-judge_rules.ensures.frames modes.Full placed.closes.made before placed.ended begun placed.closes.keeps) in
     let filled = rw same at c.in_ok-judge_rules.ensures.filled in
     let j = judges-rules modes.Full _ _ frames before unit h c.begins-begins.result _ _ _ _ placed _ _ k.sets named b c.judge_rules.new.decoder _ _ plays enters in
     let first = c.requires.first in
@@ -167,7 +178,7 @@ returns-clause-joins g c = λ frames before k.
     let built = subst (λ (x : Header). list_of x.kind.value (numbering_of sets.1 x) c.judge_rules.new.slices.held ≡ Ok new.list.items) same c.in_ok-judge_rules.ensures.list in
     let place = placed-first c.begins-begins.result (runs_of before) h placed.first in
     let set = later-set c.args.state.now.sets s named c.begins-begins.result (goes_on before) (runs_of before) b (subst (λ (m : Maps). NamesSet (goes_on before) (runs_of before) m) (sym k.sets) kept.slices.named) in
-    let d = c.read_data.ensures.reads j.made (goes_on before) (runs_of before) s (record { pps = refl; sps = refl; header = read-header; list = listed (joined_to c.begins-begins.result s (runs_of before)) s _ _ (entered []).held built }) place refl (goes-newest (goes_on before) (runs_of before) h c.begins-begins.result b) set (enters-full j.made c.begins-begins.result s (goes_on before) (runs_of before) _ j.enters) in
+    let d = c.read_data.ensures.reads j.made (goes_on before) (runs_of before) s (record { pps = refl; sps = refl; header = read-header; list = listed (joined_to c.begins-begins.result s (runs_of before)) s _ _ (entered []).held built }) place refl (goes-newest (goes_on before) (runs_of before) h c.begins-begins.result b) set (full-decoder _ _ _ c.in-Some.is j.enters) in
     let there = data-there _ _ _ (runs_of before) s _ _ _ (body_of unit) _ _ _ _ b (c.in_ok-read_header.ensures.meets.same ∙ ap (λ (r : Reader). r.body) first) d.plays in
     record {
       made = j.made;
@@ -178,7 +189,7 @@ returns-clause-joins g c = λ frames before k.
         units = units-with before (record { unit = unit; content = contents.OfSlice h d.macroblocks }) _ _ refl (c.in_ok-place_slice.ensures.units ∙ k.units);
         sets = c.in_ok-place_slice.ensures.sets ∙ ap (λ m. maps_with m (contents.OfSlice h d.macroblocks)) k.sets;
         slices = keeps-slice modes.Full _ _ frames before unit h c.begins-begins.result _ _ _ _ placed _ _ k.sets named b d.macroblocks c.judge_rules.new.slices marked usable (entered d.macroblocks) c.in_ok-judge_rules.ensures.due filled;
-        decoder = subst (λ (ps : List CodedPicture). KeepsDecoder modes.Full j.made true false ps c.read_data.new.decoder) (runs-with before unit h d.macroblocks _ _ sets b k.sets named) kept_on;
+        decoder = full-made _ modes.Full c.read_data.new.decoder refl (subst (λ (ps : List CodedPicture). KeepsFrames j.made true false ps c.read_data.new.decoder) (runs-with before unit h d.macroblocks _ _ sets b k.sets named) kept_on);
       }) d.keeps;
     }
 
@@ -192,4 +203,4 @@ returns-clause-no_memory g c = λ frames before k m.
     let b = begins-as before h c.args.state.now.slices _ kept.slices c.begins-begins.ensures in
     let begun = begun-if _ (λ e. c.read_data.ensures.no_memory e m) in
     begins-another {X = Unit {0}} _ _ before c.args.unit.now _ k.sets c.args.header c.requires.header _ c.slice_unit-slice_unit.ensures h _ _ _ _ _ c.requires.first c.in_ok-read_header.ensures.meets c.in_ok-read_header.ensures.answers sets named (sym b ∙ begun)
-    (is-another frames (goes_on before) (runs_of before) c.args.state.now.decoder c.judge_rules.new.decoder sets.1 kept.decoder (c.in_ok-judge_rules.ensures.format ∙ c.in_ok-place_slice.ensures.format) (λ f. c.read_data.ensures.stands f m))
+    (is-another frames (goes_on before) (runs_of before) c.args.state.now.decoder c.in-Some.decoder sets.1 kept.decoder (ap format_in (sym c.in-Some.is) ∙ c.in_ok-judge_rules.ensures.format ∙ c.in_ok-place_slice.ensures.format) (λ f. c.read_data.ensures.stands f m))

@@ -1,4 +1,4 @@
-use Rattle.std.proofs.Common.{◌≡◌, ℕ, ◌-◌, ◌*◌, ◌<◌, ◌^◌, [], Bool, List, Result, Ok, Err, OnOk, refl, ap, sym, ◌∙◌, subst, length}
+use Rattle.std.proofs.Common.{◌≡◌, Option, ℕ, ◌-◌, ◌*◌, ◌<◌, ◌^◌, [], Bool, List, Result, Ok, Err, OnOk, refl, ap, sym, ◌∙◌, subst, length}
 use Rattle.h264_base.specs.declared.stop.Stop.{Stop}
 use Rattle.h264_base.specs.Call.{Call}
 use Rattle.h264_plane.specs.declared.frame.Frame.{Frame}
@@ -38,7 +38,7 @@ module _ {S : Type 0} (terms : Terms) (took : S → List Call → Type 0) (failu
   abbrev ends : Bool
   ends = ends_picture kind
 
-  turns-by : (mid : Decoder) (new : State) (s0 s1 s2 s3 : S) (x y z w : Unit {0}) (r : Result (Unit {0}) Stop) → (let a : Result (Unit {0}) Stop = Ok x in a ≡ emulation_checked unit.from unit.body) → (let a : Result (Unit {0}) Stop = Ok y in a ≡ judged (header_demands (8 * unit.from) (header_of unit))) → ((made : ℕ → Frame) → Plays (took_with made took) failures (λ (q : Unit {0}). q) (tells (Said (unit_call unit.from (header_of unit) (length unit.body)))) s0 s1 (Ok z)) → (e : EndsFrames terms.mode took failures frames (goes_on before) ends (runs_of before) (steps_outcome (close_steps terms.mode ends before)) mid s1 s2 (Ok w)) → Joins {X = Unit {0}} terms.mode took failures e.made (length (ended_pictures (goes_on before) ends (runs_of before))) (joined_by terms kind before unit) new s2 s3 r → Turns {X = Unit {0}} terms took failures frames before unit new s0 s3 r
+  turns-by : (mid : Option Decoder) (new : State) (s0 s1 s2 s3 : S) (x y z w : Unit {0}) (r : Result (Unit {0}) Stop) → (let a : Result (Unit {0}) Stop = Ok x in a ≡ emulation_checked unit.from unit.body) → (let a : Result (Unit {0}) Stop = Ok y in a ≡ judged (header_demands (8 * unit.from) (header_of unit))) → ((made : ℕ → Frame) → Plays (took_with made took) failures (λ (q : Unit {0}). q) (tells (Said (unit_call unit.from (header_of unit) (length unit.body)))) s0 s1 (Ok z)) → (e : EndsFrames terms.mode took failures frames (goes_on before) ends (runs_of before) (steps_outcome (close_steps terms.mode ends before)) mid s1 s2 (Ok w)) → Joins {X = Unit {0}} terms.mode took failures e.made (length (ended_pictures (goes_on before) ends (runs_of before))) (joined_by terms kind before unit) new s2 s3 r → Turns {X = Unit {0}} terms took failures frames before unit new s0 s3 r
   unfolding unit_by_steps
   turns-by mid new s0 s1 s2 s3 x y z w r sound header told e j =
       let n = length (ended_pictures (goes_on before) ends (runs_of before)) in
@@ -90,7 +90,7 @@ module _ {S : Type 0} (terms : Terms) (took : S → List Call → Type 0) (failu
         keeps = tt;
       }
 
-  stops-closing : (mid : Decoder) (new : State) (s0 s1 s2 : S) (x y z : Unit {0}) (stop : Stop) → (let a : Result (Unit {0}) Stop = Ok x in a ≡ emulation_checked unit.from unit.body) → (let a : Result (Unit {0}) Stop = Ok y in a ≡ judged (header_demands (8 * unit.from) (header_of unit))) → ((made : ℕ → Frame) → Plays (took_with made took) failures (λ (q : Unit {0}). q) (tells (Said (unit_call unit.from (header_of unit) (length unit.body)))) s0 s1 (Ok z)) → EndsFrames terms.mode took failures frames (goes_on before) ends (runs_of before) (steps_outcome (close_steps terms.mode ends before)) mid s1 s2 (Err stop) → Turns {X = Unit {0}} terms took failures frames before unit new s0 s2 (Err stop)
+  stops-closing : (mid : Option Decoder) (new : State) (s0 s1 s2 : S) (x y z : Unit {0}) (stop : Stop) → (let a : Result (Unit {0}) Stop = Ok x in a ≡ emulation_checked unit.from unit.body) → (let a : Result (Unit {0}) Stop = Ok y in a ≡ judged (header_demands (8 * unit.from) (header_of unit))) → ((made : ℕ → Frame) → Plays (took_with made took) failures (λ (q : Unit {0}). q) (tells (Said (unit_call unit.from (header_of unit) (length unit.body)))) s0 s1 (Ok z)) → EndsFrames terms.mode took failures frames (goes_on before) ends (runs_of before) (steps_outcome (close_steps terms.mode ends before)) mid s1 s2 (Err stop) → Turns {X = Unit {0}} terms took failures frames before unit new s0 s2 (Err stop)
   unfolding unit_by_steps
   stops-closing mid new s0 s1 s2 x y z stop sound header told e =
       let view : Unit {0} → History = λ q. [] in
@@ -123,13 +123,13 @@ pub returns-clause-kept : goal.returns-clause-kept
 returns-clause-kept g c = kept-on c.join.result _ _ _ (c.in_ok-close_if.ensures.kept ∙ (c.in_ok-tell_unit.ensures.plays c.requires.kept.frames).plays.2) c.join.ensures.kept
 
 pub close_if-requires-clause-kept : goal.close_if-requires-clause-kept
-close_if-requires-clause-kept g c = let k = c.requires.kept in record { frames = k.frames; before = k.before; slices_are = k.keeps.slices; keeps = k.keeps.decoder }
+close_if-requires-clause-kept g c = let k = c.requires.kept in record { mode = c.args.terms.mode; frames = k.frames; before = k.before; slices_are = k.keeps.slices; keeps = k.keeps.decoder }
 
 pub join-requires-clause-kept : goal.join-requires-clause-kept
 join-requires-clause-kept g c =
     let k = c.requires.kept in
     let ended = c.in_ok-close_if.ensures.ended k.before k.keeps.slices in
-    let e = c.in_ok-close_if.ensures.closes k.frames k.before k.keeps.slices k.keeps.decoder in
+    let e = c.in_ok-close_if.ensures.closes c.args.terms.mode k.frames k.before k.keeps.slices k.keeps.decoder in
     record { frames = e.made; before = k.before; keeps = within {mode = c.args.terms.mode} {frames = k.frames} {made = e.made} {before = k.before} c.args.state.now c.close_if.new.slices c.close_if.new.decoder k.keeps (rw c.ends_picture-ends.ensures at ended) (rw c.ends_picture-ends.ensures at e.keeps) }
 
 pub returns-in_err-check_emulation-clause-turns : goal.returns-in_err-check_emulation-clause-turns
@@ -157,7 +157,7 @@ returns-in_err-close_if-clause-turns g c =
     let header = rw (c.from-from.ensures.value, c.body-body.ensures.value) at c.in_ok-check_header.ensures in
     let says = rw (c.from-from.ensures.value, c.body-body.ensures.value) at c.in_ok-tell_unit.ensures.plays in
     let closes = rw (c.ends_picture-ends.ensures, c.body-body.ensures.value) at c.in_err-close_if.ensures.closes in
-    rw (p.1, p.2) (λ frames before k. stops-closing c.args.terms _ _ frames before c.args.unit.now _ _ _ _ _ _ _ _ _ c.in_ok-check_emulation.ensures.value header says (closes frames before k.slices k.decoder))
+    rw (p.1, p.2) (λ frames before k. stops-closing c.args.terms _ _ frames before c.args.unit.now _ _ _ _ _ _ _ _ _ c.in_ok-check_emulation.ensures.value header says (closes c.args.terms.mode frames before k.slices k.decoder))
 
 pub returns-clause-turns : goal.returns-clause-turns
 returns-clause-turns g c =
@@ -167,7 +167,7 @@ returns-clause-turns g c =
     let joins = rw c.body-body.ensures.value at c.join.ensures.joins in
     λ frames before k.
     let slices = rw (c.ends_picture-ends.ensures, c.body-body.ensures.value) at (c.in_ok-close_if.ensures.ended before k.slices) in
-    let e = closes frames before k.slices k.decoder in
+    let e = closes c.args.terms.mode frames before k.slices k.decoder in
     let j = joins e.made before (within {mode = c.args.terms.mode} {frames = frames} {made = e.made} {before = before} c.args.state.now c.close_if.new.slices c.close_if.new.decoder k slices e.keeps) in
     turns-by c.args.terms _ _ frames before c.args.unit.now _ _ _ _ _ _ _ _ _ _ _ c.in_ok-check_emulation.ensures.value header says e j
 
@@ -199,5 +199,5 @@ returns-clause-no_memory g c =
     let joins = rw c.body-body.ensures.value at c.join.ensures.no_memory in
     λ frames before k m.
     let slices = rw (c.ends_picture-ends.ensures, c.body-body.ensures.value) at (c.in_ok-close_if.ensures.ended before k.slices) in
-    let e = closes frames before k.slices k.decoder in
+    let e = closes c.args.terms.mode frames before k.slices k.decoder in
     joins e.made before (within {mode = c.args.terms.mode} {frames = frames} {made = e.made} {before = before} c.args.state.now c.close_if.new.slices c.close_if.new.decoder k slices e.keeps) m

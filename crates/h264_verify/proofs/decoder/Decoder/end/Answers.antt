@@ -1,3 +1,4 @@
+use Rattle.h264_base.specs.declared.mode.Mode.TheVariants as modes
 use Rattle.std.proofs.Common.{◌≡◌, ◌+◌, ◌∷◌, sym, ap, refl, subst, length}
 use Rattle.h264_dpb.specs.declared.output.Output.{Output}
 use Rattle.h264_dpb.specs.Turns.{way_turn}
@@ -5,7 +6,8 @@ use Rattle.h264_dpb.specs.Kept.{KeepsBuffer}
 use Rattle.h264_verify.specs.declared.decoder.Decoder.{Decoder}
 use Rattle.h264_verify.specs.Buffering.{within_newest}
 use Rattle.h264_verify.specs.Keeping.{format_of}
-use Rattle.h264_verify.proofs.Filling.{full-ok}
+use Rattle.h264_header.proofs.Entries.{where-ok}
+use Rattle.h264_verify.proofs.Made.{full-made}
 use Rattle.std.proofs.lemmas.Result.{err_from_is_err_and}
 use Rattle.h264_verify.proofs.PictureEnding.{with_frame, with-agrees, making, is-making}
 use Rattle.h264_verify.proofs.Showing.{writes-kept, writes-alone}
@@ -104,5 +106,5 @@ returns-clause-ends g c = λ frames p ps is held whole k.
       made = with_frame frames (length ps) e.0;
       same = with-agrees frames (length ps) e.0;
       plays = way-store _ _ _ p ps c.args.picture.now c.args.held.now is held _ d _ _ _ _ _ (c.in_ok-make_way.ensures.writes _ _ _ k.output.buffer ready) (c.store.ensures.writes _ _ _ buffer now at);
-      keeps = full-ok c.store.result _ _ _ (stored-frames frames p ps c.args.self.now c.settle.new.self c.args.picture.now c.args.held.now c.store.new.self c.store.result is held k e.0 (ap (λ (d : Decoder). d.format) c.settle.ensures.others) room gone (c.store.ensures.keeps _ _ buffer) (c.store.ensures.frames _ now at) c.store.ensures.ordered c.store.ensures.ready);
+      keeps = where-ok c.store.result (full-made _ modes.Full _ refl) (stored-frames frames p ps c.args.self.now c.settle.new.self c.args.picture.now c.args.held.now c.store.new.self c.store.result is held k e.0 (ap (λ (d : Decoder). d.format) c.settle.ensures.others) room gone (c.store.ensures.keeps _ _ buffer) (c.store.ensures.frames _ now at) c.store.ensures.ordered c.store.ensures.ready);
     }

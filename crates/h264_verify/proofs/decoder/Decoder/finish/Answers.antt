@@ -1,6 +1,6 @@
 use Rattle.h264_dpb.specs.Turns.{last_turn}
 use Rattle.h264_verify.proofs.Showing.{writes-plays, writes-alone}
-use Rattle.h264_verify.proofs.Filling.{gap-ordered, gap-ready, gap-full}
+use Rattle.h264_verify.proofs.Filling.{gap-ordered, gap-ready}
 use Rattle.h264_verify.proofs.decoder.Decoder.finish.Goals as goal
 
 pub finish-requires-clause-ordered : goal.finish-requires-clause-ordered
@@ -14,5 +14,5 @@ returns-clause-plays g c = λ frames t next k. writes-plays frames _ _ (last_tur
 
 pub returns-clause-no_memory : goal.returns-clause-no_memory
 returns-clause-no_memory g c =
-    let k = gap-full c.args.self.now c.requires.kept in
+    let k = c.requires.kept.keeps in
     writes-alone _ _ _ _ _ _ (c.finish.ensures.writes c.requires.kept.frames c.requires.kept.turn.buffer _ k.output.buffer k.output.frames_are)

@@ -1,6 +1,6 @@
 use Rattle.h264_dpb.specs.Turns.{missing_turn}
 use Rattle.h264_verify.proofs.Showing.{writes-plays, writes-kept, writes-alone}
-use Rattle.h264_verify.proofs.Filling.{gap-ordered, gap-ready, gap-full, gap-filled}
+use Rattle.h264_verify.proofs.Filling.{gap-ordered, gap-ready, gap-filled}
 use Rattle.h264_verify.proofs.decoder.Decoder.miss.Goals as goal
 
 pub miss-requires-clause-ordered : goal.miss-requires-clause-ordered
@@ -17,10 +17,10 @@ returns-clause-keeps g c = λ frames t next k. gap-filled frames t next c.args.h
 
 pub returns-clause-kept : goal.returns-clause-kept
 returns-clause-kept g c =
-    let k = gap-full c.args.self.now c.requires.kept in
+    let k = c.requires.kept.keeps in
     writes-kept _ _ _ _ _ _ (c.miss.ensures.writes c.requires.kept.frames c.requires.kept.turn.buffer _ k.output.buffer k.output.frames_are)
 
 pub returns-clause-no_memory : goal.returns-clause-no_memory
 returns-clause-no_memory g c =
-    let k = gap-full c.args.self.now c.requires.kept in
+    let k = c.requires.kept.keeps in
     writes-alone _ _ _ _ _ _ (c.miss.ensures.writes c.requires.kept.frames c.requires.kept.turn.buffer _ k.output.buffer k.output.frames_are)
